@@ -1,5 +1,5 @@
 -- A message of one segment, read from its bytes.
-use Rattle.std.proofs.Common.{◌≡◌, ℕ, zero, suc, ◌+◌, ◌*◌, ◌/◌, ◌%◌, ◌^◌, ◌<◌, ◌≤◌, List, [], ◌∷◌, length, drop, slice_index, refl, ap, sym, subst, ◌∙◌, arith}
+use Rattle.std.proofs.Common.{◌≡◌, ℕ, zero, suc, ◌*◌, ◌/◌, ◌%◌, ◌^◌, ◌<◌, ◌≤◌, List, [], ◌∷◌, length, drop, slice_index, refl, ap, sym, subst, ◌∙◌, arith}
 use Rattle.capn_words.specs.Limits.{most_words}
 use Rattle.capn_words.specs.Words.{word_number, words_in, bytes, AreBytes, AreWords, IsBare}
 use Rattle.capn_words.specs.Message.{IsMessage, segment_at}

@@ -1,5 +1,5 @@
 -- A word says one pointer, which `pointer_of` reads, and a pointer that fits has one word.
-use Rattle.std.proofs.Common.{◌≡◌, ◌≢◌, ℕ, zero, suc, ◌+◌, ◌-◌, ◌*◌, ◌/◌, ◌%◌, ◌^◌, ◌<◌, ◌≤◌, ◌==◌, Bool, true, false, ◌↔◌, ℤ, refl, ap, sym, subst, ◌∙◌, arith, if◌then◌else◌}
+use Rattle.std.proofs.Common.{◌≡◌, ◌≢◌, ℕ, ◌+◌, ◌*◌, ◌/◌, ◌%◌, ◌^◌, ◌<◌, ◌==◌, Bool, true, false, ◌↔◌, ℤ, refl, ap, sym, ◌∙◌, arith}
 use Rattle.std.specs.Int.{from_bool}
 use Rattle.capn_words.specs.Fields.{Fields, Fits, FitsOffset, offset_field, width_code, word_of}
 use Rattle.capn_words.specs.Pointers.{field, signed, width_of, other_pointer, pointer_of}

@@ -54,9 +54,7 @@ impl<R: Read> Watched<R> {
         ensures failed { has_failed self.new ≡ (has_failed self.old || is_err result) }
     {
         let answer = self.inner.read(buf);
-        if answer.is_err() {
-            self.failed = true;
-        }
+        self.failed |= answer.is_err();
         answer
     }
 }
@@ -70,14 +68,10 @@ impl<W: Write> Watched<W> {
         ensures failed { has_failed self.new ≡ (has_failed self.old || write_fails result buf.now) }
     {
         let answer = self.inner.write(buf);
-        match answer {
-            Ok(taken) => {
-                if taken == 0 && !buf.is_empty() {
-                    self.failed = true;
-                }
-            }
-            Err(_) => self.failed = true,
-        }
+        self.failed |= match answer {
+            Ok(taken) => taken == 0 && !buf.is_empty(),
+            Err(_) => true,
+        };
         answer
     }
 }
