@@ -28,7 +28,8 @@ abbrev pub offset_field : ℤ → ℕ
 offset_field (pos n) = n
 offset_field (negsuc n) = 2 ^ 30 - suc n
 
--- each field of a pointer is in the range of its bits, a struct pointer isn't all zeros, and a reserved word is no capability
+-- each field is in the range of its bits; a struct pointer isn't all zeros, which is null;
+-- a reserved word has bits 0 to 1 equal to 3 and isn't a capability
 abbrev pub Fits : Pointer → Type 0
 Fits Nil = Unit {0}
 Fits (Node o w s) = FitsOffset o × (w < 2 ^ 16) × (s < 2 ^ 16) × (0 < offset_field o + w + s)

@@ -3,7 +3,8 @@ use Rattle.std.specs.Prelude.{ℕ, ◌+◌, ◌*◌, ◌^◌, ◌<◌, ◌≤◌
 use Rattle.std.specs.List.{sum_by}
 use Rattle.capn_words.specs.Limits.{most_segments, most_words}
 use Rattle.capn_words.specs.declared.space.Place.{Place}
-pub use Rattle.capn_words.specs.Words.{word_bytes, bytes}
+pub use Rattle.capn_words.specs.Words.{bytes}
+unfoldable pub use Rattle.capn_words.specs.Words.{word_bytes}
 
 -- the words of a segment; none where there is no such segment
 abbrev pub segment_at : List (List ℕ) → ℕ → List ℕ

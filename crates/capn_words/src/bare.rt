@@ -51,7 +51,9 @@ impl<'a> Model for Bare<'a> {
 
     ghost view = { λ b. words_in (length b.bytes.now / 8) b.bytes.now };
 
-    ghost invariant = { λ b. (length b.bytes.now % 8 ≡ 0) × (length b.bytes.now / 8 ≤ most_words) × AreBytes b.bytes.now };
+    ghost invariant = { λ b.
+        (length b.bytes.now % 8 ≡ 0) × (length b.bytes.now / 8 ≤ most_words)
+        × AreBytes b.bytes.now };
 }
 
 impl<'a> Bare<'a> {

@@ -50,7 +50,8 @@ impl<R: Read> Watched<R> {
     /// An error makes it failed.
     pub fn read(&mut self, buf: &mut [u8]) -> Result<usize>
         ensures bound { ReadsAtMost result buf.new }
-        ensures bytes { ReadConsumes (R.remaining (inner_of self.old)) (R.remaining (inner_of self.new)) result buf.new }
+        ensures bytes { ReadConsumes (R.remaining (inner_of self.old)) (R.remaining (inner_of self.new))
+            result buf.new }
         ensures failed { has_failed self.new ≡ (has_failed self.old || is_err result) }
     {
         let answer = self.inner.read(buf);
@@ -64,7 +65,8 @@ impl<W: Write> Watched<W> {
     /// An error makes it failed, and so does 0 for a `buf` that has bytes.
     pub fn write(&mut self, buf: &[u8]) -> Result<usize>
         ensures bound { WritesAtMost result buf.now }
-        ensures bytes { WriteAppends (W.contents (inner_of self.old)) (W.contents (inner_of self.new)) result buf.now }
+        ensures bytes { WriteAppends (W.contents (inner_of self.old)) (W.contents (inner_of self.new))
+            result buf.now }
         ensures failed { has_failed self.new ≡ (has_failed self.old || write_fails result buf.now) }
     {
         let answer = self.inner.write(buf);
