@@ -1,0 +1,5 @@
+pub mod Words
+pub mod OneSegment
+pub mod FieldBits
+pub mod Pointers
+pub mod PointerRows

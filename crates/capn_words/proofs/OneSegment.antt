@@ -1,0 +1,60 @@
+-- A message of one segment, read from its bytes.
+use Rattle.std.proofs.Common.{◌≡◌, ℕ, zero, suc, ◌*◌, ◌/◌, ◌%◌, ◌^◌, ◌<◌, ◌≤◌, List, [], ◌∷◌, length, drop, slice_index, refl, ap, sym, subst, ◌∙◌, arith}
+use Rattle.capn_words.specs.Limits.{most_words}
+use Rattle.capn_words.specs.Words.{word_number, words_in, bytes, AreBytes, AreWords, IsBare}
+use Rattle.capn_words.specs.Message.{IsMessage, segment_at}
+use Rattle.capn_words.proofs.Words.{length-words_in, word_in, words_below, bytes_of_words, length-bytes, words_of_bytes}
+
+-- whole words that are not too many are a segment
+pub bare_is : (bs : List ℕ) → AreBytes bs → length bs % 8 ≡ 0 → length bs / 8 ≤ most_words → IsBare bs (words_in (length bs / 8) bs)
+bare_is bs h whole room = record {
+  same = sym (bytes_of_words (length bs / 8) bs h (omega arith));
+  each = words_below (length bs / 8) bs h;
+  room = rw (length-words_in (length bs / 8) bs) room;
+}
+
+pub bare_length : (bs ws : List ℕ) → IsBare bs ws → length bs ≡ 8 * length ws
+bare_length bs ws h = ap length h.same ∙ length-bytes ws
+
+-- bytes are those of one list of words at most
+pub bare_only : (bs ws : List ℕ) → IsBare bs ws → words_in (length bs / 8) bs ≡ ws
+bare_only bs ws h =
+    let n : length bs / 8 ≡ length ws = omega (arith, bare_length bs ws h) in
+    rw (n, h.same) (words_of_bytes ws h.each)
+
+only_segment : (ws : List ℕ) → AreWords ws → (s k : ℕ) → slice_index (segment_at (ws ∷ []) s) k < 2 ^ 64
+only_segment ws each zero k = each k
+only_segment ws each (suc s) k = omega arith
+
+-- the one segment is a message
+pub bare_message : (ws : List ℕ) → AreWords ws → length ws ≤ most_words → IsMessage (ws ∷ [])
+bare_message ws each room = record {
+  some = omega arith;
+  few = omega arith;
+  room = omega arith;
+  each = only_segment ws each;
+}
+
+-- a place in range is in the one segment
+pub only_place : (ws : List ℕ) (s k : ℕ) → k < length (segment_at (ws ∷ []) s) → (s ≡ 0) × (k < length ws)
+only_place ws zero k h = (refl, h)
+only_place ws (suc s) k h = absurd (omega arith)
+
+-- a segment that exists is the one
+pub one_segment : (ws : List ℕ) (s : ℕ) → s < length (ws ∷ []) → s ≡ 0
+one_segment ws s h = omega arith
+
+-- what the words that the bytes are seen as have to do with the bytes
+module _ (bs ws : List ℕ) (is : words_in (length bs / 8) bs ≡ ws) where
+  pub seen_length : length ws ≡ length bs / 8
+  seen_length = ap length (sym is) ∙ length-words_in (length bs / 8) bs
+
+  pub seen_word : (k : ℕ) → k < length ws → slice_index ws k ≡ word_number (drop (8 * k) bs)
+  seen_word k h = ap (λ (xs : List ℕ). slice_index xs k) (sym is) ∙ word_in (length bs / 8) k bs (omega (arith, seen_length))
+
+  pub seen_message : AreBytes bs → length bs / 8 ≤ most_words → IsMessage (ws ∷ [])
+  seen_message h room =
+      bare_message ws (subst AreWords is (words_below (length bs / 8) bs h)) (omega (arith, seen_length))
+
+  pub seen_bytes : AreBytes bs → length bs % 8 ≡ 0 → bytes ws ≡ bs
+  seen_bytes h whole = ap bytes (sym is) ∙ bytes_of_words (length bs / 8) bs h (omega arith)

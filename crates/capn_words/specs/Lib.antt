@@ -1,0 +1,6 @@
+pub mod Limits
+pub mod Words
+pub mod Message
+pub mod Fields
+pub mod Pointers
+pub mod Watching

@@ -1,0 +1,108 @@
+//! A message of one segment, read where its bytes lie.
+
+ghost use Rattle.std.specs.Prelude.{◌≡◌, ℕ, ◌<◌, ◌≤◌, ◌*◌, ◌+◌, List, [], ◌∷◌, length, take, drop};
+ghost use Rattle.capn_words.specs.Words.{IsBare, ReadsBare, word_number};
+
+use crate::space::{Place, Space};
+use byteorder::{ByteOrder, LittleEndian};
+use std::marker::Model;
+
+/// Why bytes are not one segment, in the order of the tests.
+#[derive(Clone, Copy, Debug, PartialEq, Eq)]
+pub enum BareFault {
+    /// The number of bytes, which is no multiple of 8.
+    NotWhole(u64),
+    /// The number of words, which is above 2^28 + 1.
+    TooLong(u64),
+}
+
+/// The most words of a message.
+const MOST_WORDS: u64 = 268_435_457;
+
+/// The word that begins at so many times 8 bytes.
+#[tactic(auto, unfolding(crate::specs::Words::word_number))]
+fn word_of(bytes: &[u8], index: usize) -> u64
+    requires { 8 * index + 8 ≤ length bytes.now }
+    ensures { result ≡ word_number (drop (8 * index) bytes.now) }
+{
+    LittleEndian::read_u64(&bytes[8 * index..])
+}
+
+/// So many bytes from a start on.
+fn part(bytes: &[u8], start: usize, len: usize) -> &[u8]
+    requires { start + len ≤ length bytes.now }
+    ensures { result.now ≡ take len (drop start bytes.now) }
+{
+    &bytes[start..start + len]
+}
+
+/// A message of one segment over borrowed bytes. Contracts see it as the list of its words.
+#[derive(Drop)]
+pub struct Bare<'a> {
+    bytes: &'a [u8],
+}
+
+impl<'a> Model for Bare<'a> {
+    ghost use Rattle.std.specs.Prelude.{◌≡◌, ℕ, ◌/◌, ◌%◌, ◌≤◌, List, length};
+    ghost use Rattle.capn_words.specs.Limits.{most_words};
+    ghost use Rattle.capn_words.specs.Words.{AreBytes, words_in};
+
+    ghost Value = { List ℕ };
+
+    ghost view = { λ b. words_in (length b.bytes.now / 8) b.bytes.now };
+
+    ghost invariant = { λ b.
+        (length b.bytes.now % 8 ≡ 0) × (length b.bytes.now / 8 ≤ most_words)
+        × AreBytes b.bytes.now };
+}
+
+impl<'a> Bare<'a> {
+    /// The segment whose words have these bytes. It may be empty. Nothing is copied.
+    ///
+    /// `NotWhole` with the number of bytes where it is no multiple of 8; else `TooLong` with the number of
+    /// words where it is above 2^28 + 1. (Own: the limit.)
+    pub fn new(bytes: &'a [u8]) -> Result<Bare<'a>, BareFault>
+        // What each answer means, and that the words of any bytes that have some are answered.
+        ensures exact { ReadsBare bytes.now result }
+        ensures only { (ws : List ℕ) → IsBare bytes.now ws → result ≡ Ok ws }
+    {
+        let length = bytes.len() as u64;
+        if length % 8 != 0 {
+            return Err(BareFault::NotWhole(length));
+        }
+        let words = length / 8;
+        if words > MOST_WORDS {
+            return Err(BareFault::TooLong(words));
+        }
+        Ok(Bare { bytes })
+    }
+}
+
+impl<'a> Space for Bare<'a> {
+    ghost message = { λ words. words ∷ [] };
+
+    fn segments(&self) -> u32 {
+        // The proof knows the words' number and range once the body has read a field.
+        let _bytes = &self.bytes;
+        1
+    }
+
+    fn words(&self, segment: u32) -> Option<u32> {
+        if segment == 0 {
+            Some((self.bytes.len() / 8) as u32)
+        } else {
+            None
+        }
+    }
+
+    fn word(&self, at: Place) -> u64 {
+        word_of(self.bytes, at.word as usize)
+    }
+
+    fn bytes(&self, at: Place, len: usize) -> &[u8] {
+        part(self.bytes, 8 * at.word as usize, len)
+    }
+}
+
+#[cfg(test)]
+mod tests;

@@ -1,0 +1,77 @@
+//! One segment, read by itself and by a function over any message.
+
+use super::*;
+
+/// A segment's bytes, over any message.
+fn segment_bytes<S: Space>(space: &S, segment: u32) -> Option<&[u8]> {
+    let words = space.words(segment)?;
+    Some(space.bytes(Place { segment, word: 0 }, 8 * words as usize))
+}
+
+/// Whether a message's first segment begins with a zero word.
+fn is_null<S: Space>(space: &S) -> bool {
+    match space.words(0) {
+        None => false,
+        Some(0) => false,
+        Some(_) => space.word(Place {
+            segment: 0,
+            word: 0,
+        }) == 0,
+    }
+}
+
+#[test]
+fn words_and_bytes_of_one_segment(rt: HostRuntime) {
+    let input = [
+        0, 0, 0, 0, 2, 0, 0, 0, 5, 0, 0, 0, 0, 0, 0, 0x80, 1, 2, 3, 4, 5, 6, 7, 8,
+    ];
+    match Bare::new(&input) {
+        Err(_) => assert!(rt; false, "24 bytes are refused"),
+        Ok(bare) => {
+            assert_eq!(rt; bare.segments(), 1);
+            assert_eq!(rt; bare.words(1), None);
+            assert_eq!(rt; bare.words(0), Some(3));
+            assert!(rt; bare.words(0) == Some(3));
+            let second = Place {
+                segment: 0,
+                word: 1,
+            };
+            assert_eq!(rt; bare.word(second), 0x8000_0000_0000_0005);
+            assert_eq!(rt; bare.bytes(second, 3), [5, 0, 0].as_slice());
+            let third = Place {
+                segment: 0,
+                word: 2,
+            };
+            assert_eq!(rt; bare.word(third), 0x0807_0605_0403_0201);
+            assert_eq!(rt; bare.bytes(third, 8), [1, 2, 3, 4, 5, 6, 7, 8].as_slice());
+            let end = Place {
+                segment: 0,
+                word: 3,
+            };
+            assert_eq!(rt; bare.bytes(end, 0).len(), 0);
+            assert_eq!(rt; segment_bytes(&bare, 0), Some(input.as_slice()));
+            assert!(rt; segment_bytes(&bare, 1).is_none());
+            assert!(rt; !is_null(&bare));
+        }
+    }
+}
+
+#[test]
+fn no_bytes_are_a_segment_of_no_words(rt: HostRuntime) {
+    match Bare::new(&[]) {
+        Err(_) => assert!(rt; false, "no bytes are refused"),
+        Ok(bare) => {
+            assert_eq!(rt; bare.segments(), 1);
+            assert_eq!(rt; bare.words(0), Some(0));
+            assert!(rt; !is_null(&bare));
+        }
+    }
+}
+
+#[test]
+fn nine_bytes_are_not_whole_words(rt: HostRuntime) {
+    match Bare::new(&[0; 9]) {
+        Err(fault) => assert_eq!(rt; fault, BareFault::NotWhole(9)),
+        Ok(_) => assert!(rt; false, "nine bytes are taken"),
+    }
+}

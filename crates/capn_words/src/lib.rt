@@ -1,0 +1,27 @@
+//! Words, pointers and segments: what every other crate reads a message by.
+//!
+//! - `split` takes a pointer word apart and `join` puts one together; each is the other's inverse.
+//! - `Space` is a message whose words and bytes can be read at a `Place`; a function over any `Space`
+//!   is written and proved once. `Bare` is the `Space` of one borrowed segment.
+//! - `Watched` is a reader or a writer that remembers whether a call of it has failed.
+//!
+//! No call takes memory. A message has 1 to 512 segments and at most 2^28 + 1 words in all.
+//!
+//! ```text
+//! let bare = Bare::new(input)?;
+//! let root = Place { segment: 0, word: 0 };
+//! if bare.words(0) != Some(0) {
+//!     match split(bare.word(root)) { .. }
+//! }
+//! ```
+#![tactic(auto)]
+
+pub mod bare;
+pub mod pointer;
+pub mod space;
+pub mod watched;
+
+pub use bare::{Bare, BareFault};
+pub use pointer::{Pointer, Width, join, split};
+pub use space::{Place, Space};
+pub use watched::Watched;

@@ -1,0 +1,218 @@
+//! A pointer word and its fields.
+
+ghost use Rattle.std.specs.Prelude.{◌≡◌, ◌↔◌, ℕ, ◌<◌, ◌^◌, ◌/◌, ◌%◌};
+ghost use Rattle.capn_words.specs.declared.pointer.Pointer.{Pointer};
+ghost use Rattle.capn_words.specs.Fields.{Fields, Fits, FitsOffset, offset_field, width_code, word_of};
+ghost use Rattle.capn_words.specs.Pointers.{pointer_of};
+
+/// What the elements of a list are. (Page: lists.)
+#[derive(Clone, Copy, Debug, PartialEq, Eq)]
+pub enum Width {
+    /// Voids, which have no bits.
+    W0,
+    /// One bit each, the least significant first.
+    W1,
+    /// One byte each.
+    W8,
+    /// Two bytes each.
+    W16,
+    /// Four bytes each.
+    W32,
+    /// Eight bytes each, and no pointers.
+    W64,
+    /// One pointer each.
+    Link,
+    /// Structs behind a tag word: a composite list.
+    Rows,
+}
+
+/// What a pointer word says. (Page: structs, lists, inter-segment pointers, capabilities.)
+///
+/// Offsets are in words and counted from the end of the pointer word, so that the content of a pointer at
+/// word `w` begins at word `w + 1 + offset`.
+#[derive(Clone, Copy, Debug, PartialEq, Eq)]
+pub enum Pointer {
+    /// The null pointer: the word 0 alone.
+    Nil,
+    /// A struct.
+    Node {
+        /// Where its data section begins, from -2^29 to 2^29 - 1.
+        offset: i32,
+        /// The words of its data section.
+        words: u16,
+        /// The pointers of its pointer section, which follows the data at once.
+        slots: u16,
+    },
+    /// A list.
+    Many {
+        /// Where its content begins, from -2^29 to 2^29 - 1.
+        offset: i32,
+        /// What its elements are.
+        width: Width,
+        /// The number of its elements, or at `Rows` of its words without the tag; below 2^29.
+        count: u32,
+    },
+    /// A far pointer, to a landing pad in a segment.
+    Far {
+        /// Whether the pad is two words rather than one.
+        double: bool,
+        /// The word of its segment at which the pad begins, below 2^29.
+        word: u32,
+        /// The segment of the pad.
+        segment: u32,
+    },
+    /// A capability: its index in the table of capabilities.
+    Cap(u32),
+    /// A word that no kind of pointer uses, whole: bits 0 to 1 are 3 and one of bits 2 to 31 is set.
+    Reserved(u64),
+}
+
+/// The width whose code is in the three bits.
+fn width_of(code: u64) -> Width
+    requires { code < 8 }
+    ensures { width_code result ≡ code }
+{
+    match code {
+        0 => Width::W0,
+        1 => Width::W1,
+        2 => Width::W8,
+        3 => Width::W16,
+        4 => Width::W32,
+        5 => Width::W64,
+        6 => Width::Link,
+        _ => Width::Rows,
+    }
+}
+
+/// The three bits that stand for a width.
+fn code_of(width: Width) -> u64
+    ensures { result ≡ width_code width }
+{
+    match width {
+        Width::W0 => 0,
+        Width::W1 => 1,
+        Width::W8 => 2,
+        Width::W16 => 3,
+        Width::W32 => 4,
+        Width::W64 => 5,
+        Width::Link => 6,
+        Width::Rows => 7,
+    }
+}
+
+/// The offset in bits 2 to 31, whose highest is its sign.
+fn offset_of(word: u64) -> i32
+    ensures fits { FitsOffset result }
+    ensures field { offset_field result ≡ word / 4 % 2 ^ 30 }
+{
+    let bits = (word >> 2 & 0x3fff_ffff) as i32;
+    if bits < 0x2000_0000 {
+        bits
+    } else {
+        bits - 0x4000_0000
+    }
+}
+
+/// The 30 bits of an offset.
+fn field_of(offset: i32) -> u64
+    requires { FitsOffset offset }
+    ensures { result ≡ offset_field offset }
+{
+    if offset < 0 {
+        (offset + 0x4000_0000) as u64
+    } else {
+        offset as u64
+    }
+}
+
+/// What the word says, by its bits 0 to 1.
+fn fields_of(word: u64) -> Pointer
+    ensures { Fields word result }
+{
+    if word == 0 {
+        return Pointer::Nil;
+    }
+    match word & 3 {
+        0 => Pointer::Node {
+            offset: offset_of(word),
+            words: (word >> 32 & 0xffff) as u16,
+            slots: (word >> 48) as u16,
+        },
+        1 => Pointer::Many {
+            offset: offset_of(word),
+            width: width_of(word >> 32 & 7),
+            count: (word >> 35) as u32,
+        },
+        2 => Pointer::Far {
+            double: word >> 2 & 1 == 1,
+            word: (word >> 3 & 0x1fff_ffff) as u32,
+            segment: (word >> 32) as u32,
+        },
+        _ => if word >> 2 & 0x3fff_ffff == 0 {
+            Pointer::Cap((word >> 32) as u32)
+        } else {
+            Pointer::Reserved(word)
+        },
+    }
+}
+
+/// What a pointer word says: the one pointer whose fields fit and add up to the word.
+///
+/// Every word says something: `Nil` is the word 0 alone, and a word of no kind is `Reserved`. `join` gives
+/// the word back. (Page: structs, lists, inter-segment pointers, capabilities.)
+pub fn split(word: u64) -> Pointer
+    // The pointer is exactly what the word's fields say, in their two forms: as a sum, and by division.
+    ensures fields { (p : Pointer) → Fields word p ↔ (result ≡ p) }
+    ensures read { result ≡ pointer_of word }
+
+    // `join` may be called on it, and answers the word.
+    ensures fits { Fits result }
+    ensures joined { word_of result ≡ word }
+{
+    fields_of(word)
+}
+
+/// The sum of the fields, each shifted to its bits.
+fn sum_of(pointer: Pointer) -> u64
+    requires { Fits pointer }
+    ensures { result ≡ word_of pointer }
+{
+    match pointer {
+        Pointer::Nil => 0,
+        Pointer::Node {
+            offset,
+            words,
+            slots,
+        } => field_of(offset) << 2 | (words as u64) << 32 | (slots as u64) << 48,
+        Pointer::Many {
+            offset,
+            width,
+            count,
+        } => field_of(offset) << 2 | 1 | code_of(width) << 32 | (count as u64) << 35,
+        Pointer::Far {
+            double,
+            word,
+            segment,
+        } => (double as u64) << 2 | 2 | (word as u64) << 3 | (segment as u64) << 32,
+        Pointer::Cap(index) => (index as u64) << 32 | 3,
+        Pointer::Reserved(word) => word,
+    }
+}
+
+/// The word that says this pointer: the sum of its fields, each at its bits.
+///
+/// The fields have to fit their bits, a struct pointer may not be all zeros (that word is null), and a
+/// reserved word has to be one. `split` gives the pointer back. (Page: structs, lists, inter-segment
+/// pointers, capabilities.)
+pub fn join(pointer: Pointer) -> u64
+    requires { Fits pointer }
+    ensures word { result ≡ word_of pointer }
+
+    // `split` of the word answers the pointer.
+    ensures split { pointer_of result ≡ pointer }
+{
+    sum_of(pointer)
+}
+
+#[cfg(test)]
+mod tests;

@@ -1,0 +1,46 @@
+//! A message as its segments.
+
+ghost use Rattle.std.specs.Prelude.{◌≡◌, ℕ, ◌<◌, ◌≤◌, List, length};
+ghost use Rattle.capn_words.specs.Message.{IsMessage, IsPlace, IsRange, bytes_at, word_at, words_of};
+
+/// Where a word stands in a message: a segment, and a word of it, both counted from 0.
+///
+/// A place is in range of a message where the segment exists and the word is below its length.
+#[derive(Clone, Copy, Debug, PartialEq, Eq)]
+pub struct Place {
+    /// The segment.
+    pub segment: u32,
+    /// The word of the segment.
+    pub word: u32,
+}
+
+/// A message whose words and bytes can be read in place. No call takes memory. (Page: messages.)
+///
+/// A function over any `Space` that needs the bounds of the message calls `segments`: it then knows them
+/// for every later call on the same value.
+pub trait Space {
+    /// The segments, each the list of its words.
+    ghost message: { Self → List (List ℕ) };
+
+    /// How many segments there are: 1 to 512, with at most 2^28 + 1 words in all.
+    fn segments(&self) -> u32
+        ensures count { result ≡ length (message self.now) }
+        ensures bounds { IsMessage (message self.now) };
+
+    /// How many words a segment has, or `None` exactly where there is no such segment.
+    fn words(&self, segment: u32) -> Option<u32>
+        ensures { result ≡ words_of (message self.now) segment };
+
+    /// The word at a place, which has to be in range.
+    fn word(&self, at: Place) -> u64
+        requires { IsPlace (message self.now) at }
+        ensures { result ≡ word_at (message self.now) at };
+
+    /// So many bytes from the start of a word on: those of the segment's words, the least significant of
+    /// each first.
+    ///
+    /// The segment has to exist, the word may be its end, and the bytes have to stay within it.
+    fn bytes(&self, at: Place, len: usize) -> &[u8]
+        requires { IsRange (message self.now) at len }
+        ensures { result.now ≡ bytes_at (message self.now) at len };
+}

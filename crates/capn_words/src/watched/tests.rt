@@ -1,0 +1,114 @@
+//! Calls are passed on, and what makes a reader or a writer failed.
+
+ghost use Rattle.std.specs.Prelude.{◌≤◌, IfOk};
+
+use super::*;
+use std::io::{self, Error, ErrorKind};
+use std::test::Fail;
+
+/// What a call is told to answer.
+#[derive(Clone, Copy)]
+enum Answer {
+    Bytes(usize),
+    Fault(ErrorKind),
+}
+
+/// A reader and writer that answers call by call what it is told, and in the end 0.
+#[derive(Drop)]
+struct Told<'a> {
+    answers: &'a [Answer],
+}
+
+impl<'a> Told<'a> {
+    fn answer(&mut self, most: usize) -> io::Result<usize>
+        ensures { IfOk result (λ count. count ≤ most) }
+    {
+        match self.answers.split_first() {
+            None => Ok(0),
+            Some((first, rest)) => {
+                self.answers = rest;
+                match *first {
+                    Answer::Bytes(count) => Ok(count.min(most)),
+                    Answer::Fault(kind) => Err(Error::from(kind)),
+                }
+            }
+        }
+    }
+}
+
+impl<'a> Read for Told<'a> {
+    fn read(&mut self, buf: &mut [u8]) -> io::Result<usize> {
+        self.answer(buf.len())
+    }
+}
+
+impl<'a> Write for Told<'a> {
+    fn write(&mut self, buf: &[u8]) -> io::Result<usize> {
+        self.answer(buf.len())
+    }
+
+    fn flush(&mut self) -> io::Result<()> {
+        Ok(())
+    }
+}
+
+#[test]
+fn passes_bytes_on(rt: HostRuntime) -> std::result::Result<(), Fail> {
+    let mut reader = Watched::new(b"abcde".as_slice());
+    let mut piece = [0; 3];
+    assert_eq!(rt; reader.read(&mut piece)?, 3);
+    assert_eq!(rt; piece, [97, 98, 99]);
+    assert!(rt; !reader.failed());
+    assert_eq!(rt; reader.into_inner(), b"de".as_slice());
+
+    let mut writer = Watched::new(Vec::new(rt.alloc()));
+    assert_eq!(rt; writer.write(b"abc")?, 3);
+    assert!(rt; !writer.failed());
+    assert_eq!(rt; writer.into_inner().as_slice(), b"abc".as_slice());
+    Ok(())
+}
+
+#[test]
+fn fails_at_the_first_error_of_a_read(rt: HostRuntime) {
+    for kind in [ErrorKind::Interrupted, ErrorKind::Other] {
+        let answers = [
+            Answer::Bytes(2),
+            Answer::Bytes(0),
+            Answer::Fault(kind),
+            Answer::Bytes(1),
+        ];
+        let mut reader = Watched::new(Told { answers: &answers });
+        let mut piece = [0; 4];
+        assert!(rt; matches!(reader.read(&mut piece), Ok(2)));
+        assert!(rt; matches!(reader.read(&mut piece), Ok(0)));
+        assert!(rt; !reader.failed());
+        assert!(rt; matches!(reader.read(&mut piece), Err(_)));
+        assert!(rt; reader.failed());
+        assert!(rt; matches!(reader.read(&mut piece), Ok(1)));
+        assert!(rt; reader.failed());
+    }
+}
+
+#[test]
+fn fails_at_the_first_error_of_a_write(rt: HostRuntime) {
+    for kind in [ErrorKind::Interrupted, ErrorKind::Other] {
+        let answers = [Answer::Bytes(2), Answer::Fault(kind), Answer::Bytes(1)];
+        let mut writer = Watched::new(Told { answers: &answers });
+        assert!(rt; matches!(writer.write(b"abc"), Ok(2)));
+        assert!(rt; !writer.failed());
+        assert!(rt; matches!(writer.write(b"abc"), Err(_)));
+        assert!(rt; writer.failed());
+        assert!(rt; matches!(writer.write(b"abc"), Ok(1)));
+        assert!(rt; writer.failed());
+    }
+}
+
+#[test]
+fn fails_at_a_write_that_takes_nothing_of_something(rt: HostRuntime) {
+    let answers = [Answer::Bytes(0), Answer::Bytes(0)];
+    let mut writer = Watched::new(Told { answers: &answers });
+    assert!(rt; matches!(writer.write(b""), Ok(0)));
+    assert!(rt; !writer.failed());
+    assert!(rt; matches!(writer.write(b"abc"), Ok(0)));
+    assert!(rt; writer.failed());
+}
