@@ -1,0 +1,15 @@
+//! Messages in a stream: segment tables, and the segments behind them.
+//!
+//! [`first`] reads the message that stands first in some bytes and copies nothing; [`frame`] writes a
+//! message as such bytes.
+#![tactic(auto)]
+
+mod fault;
+mod reading;
+mod segments;
+mod writing;
+
+pub use fault::{FrameFault, Memory};
+pub use reading::first;
+pub use segments::Framed;
+pub use writing::frame;
