@@ -1,11 +1,11 @@
 -- Words that are cut into segments.
-use Rattle.std.proofs.Common.{◌≡◌, ℕ, zero, suc, ◌+◌, ◌-◌, ◌*◌, ◌^◌, ◌<◌, ◌≤◌, List, [], ◌∷◌, ◌++◌, length, take, drop, sum, map, slice_index, Option, Some, None, refl, ap, sym, subst, ◌∙◌, arith, append_assoc, length-append, length-drop, length-take}
+use Rattle.std.proofs.Common.{◌≡◌, ℕ, zero, suc, ◌+◌, ◌-◌, ◌*◌, ◌^◌, ◌<◌, ◌≤◌, List, [], ◌∷◌, ◌++◌, length, take, drop, sum, map, slice_index, Option, Some, None, refl, ap, sym, subst, inl, inr, ◌∙◌, arith, append_assoc, length-append, length-drop, length-take}
 use Rattle.std.specs.List.{flat_map, sum_by}
 use Rattle.std.proofs.lemmas.Grind.{flat_map-append}
 use Rattle.std.proofs.lemmas.List.{append-nil, drop-drop, drop_at, get_or-drop, get_or-take, length-take-le, take-append-drop, take_at, take_rest}
 use Rattle.std.proofs.lemmas.List.Sums.{sum_by-cons}
 use Rattle.capn_words.specs.Message.{bytes, segment_at, total, words_of, IsMessage}
-use Rattle.std.proofs.lemmas.Bool.{lt-ltb, le-ltb}
+use Rattle.std.proofs.lemmas.Bool.{cases_lt, lt-ltb, le-ltb}
 use Rattle.capn_words.specs.Words.{AreWords}
 use Rattle.capn_stream.specs.Cuts.{AreEnds, AreRising, cut, ends_from}
 use Rattle.capn_stream.specs.Frames.{contents}
@@ -75,6 +75,9 @@ words_of-none message s h = rw (le-ltb s (length message) h) refl
 
 pub words_of-some : (message : List (List ℕ)) (s : ℕ) → s < length message → words_of message s ≡ Some (length (segment_at message s))
 words_of-some message s h = rw (lt-ltb s (length message) h) refl
+
+pub words_of_is : (message : List (List ℕ)) (s n : ℕ) → words_of message s ≡ Some n → n ≡ length (segment_at message s)
+words_of_is message s n h = elim (cases_lt s (length message)) [ inl below ↦ (let e = words_of-some message s below in cc) | inr past ↦ (let e = words_of-none message s past in cc) ]
 
 module _ (ends ws : List ℕ) (is : AreEnds ends ws) (s : ℕ) (here : s < length (cut 0 ends ws)) where
   within : s ≤ length ends

@@ -2,10 +2,10 @@
 use Rattle.std.proofs.Common.{◌≡◌, ℕ, zero, suc, ◌+◌, ◌-◌, ◌*◌, ◌^◌, ◌<◌, ◌≤◌, List, [], ◌∷◌, ◌++◌, length, take, drop, sum, map, replicate, slice_index, refl, ap, sym, subst, ◌∙◌, arith, append_assoc, length-append, length-drop}
 use Rattle.std.specs.List.{flat_map}
 use Rattle.std.proofs.lemmas.Grind.{flat_map-append}
-use Rattle.std.proofs.lemmas.List.{drop-drop, drop_at, length-map, length-replicate, length-take-le, take-append-drop, take_all, take_at}
+use Rattle.std.proofs.lemmas.List.{drop-drop, drop_at, length-map, length-replicate, length-take-le, take-append-drop, take_all, take_at, take_rest}
 use Rattle.std.proofs.lemmas.List.Sums.{sum-map, sum_by-cons}
 use Rattle.capn_words.specs.Message.{bytes, segment_at, total, IsMessage, word_bytes}
-use Rattle.capn_words.specs.Words.{AreBytes, AreWords}
+use Rattle.capn_words.specs.Words.{AreBytes, AreWords, IsBare}
 use Rattle.capn_stream.specs.Cuts.{AreEnds, AreRising, cut, ends_from}
 use Rattle.capn_stream.specs.Frames.{FitsTable, Frames, StandsFirst, contents, entry, frame_text, padding, table}
 use Rattle.capn_stream.specs.Reading.{IsRefused, IsWhole, count_of, entries, entry_number, frame_length, head_length, words_of}
@@ -218,6 +218,41 @@ module _ (bs : List ℕ) (most : ℕ) (ws : List ℕ) (small : most ≤ 2 ^ 28) 
         };
         room = omega (arith, total-cut 0 (ends_from 0 (sizes_before bs)) ws ends_are.rising, words_are, whole.1);
       }
+
+-- the sizes that are read behind the count
+sizes_read : (bs : List ℕ) (segments : ℕ) → segments ≡ count_of bs → entries (segments - 1) (take (length bs - 4) (drop 4 bs)) ≡ sizes_before bs
+sizes_read bs segments count =
+    let less : segments - 1 ≡ entry_number bs = omega (arith, count) in
+    ap (λ (n : ℕ). entries n (take (length bs - 4) (drop 4 bs))) less ∙ ap (λ (xs : List ℕ). entries (entry_number bs) xs) (take_rest bs 4)
+
+pub sum-sizes_read : (bs : List ℕ) (segments : ℕ) → segments ≡ count_of bs → sum (entries (segments - 1) (take (length bs - 4) (drop 4 bs))) ≤ words_of bs
+sum-sizes_read bs segments count = omega (arith, ap sum (sizes_read bs segments count), sum-entries_more (entry_number bs) (drop 4 bs))
+
+-- the segments behind a head that was read
+module _ (bs : List ℕ) (most segments words start : ℕ) (ends ws : List ℕ) (small : most ≤ 2 ^ 28) (below : AreBytes bs) (whole : IsWhole bs most)
+    (count : segments ≡ count_of bs) (all : words ≡ words_of bs) (begins : start ≡ head_length segments)
+    (ends_is : ends ≡ ends_from 0 (entries (segments - 1) (take (length bs - 4) (drop 4 bs))))
+    (bare : IsBare (take (start + 8 * words - start) (drop start bs)) ws) where
+  ends_before : ends ≡ ends_from 0 (sizes_before bs)
+  ends_before = ends_is ∙ ap (λ (ns : List ℕ). ends_from 0 ns) (sizes_read bs segments count)
+
+  start_is : start ≡ head_length (count_of bs)
+  start_is = begins ∙ ap head_length count
+
+  text_is : take (8 * words_of bs) (drop (head_length (count_of bs)) bs) ≡ bytes ws
+  text_is =
+      let size : 8 * words_of bs ≡ start + 8 * words - start = omega (arith, all) in
+      ap (λ (n : ℕ). take n (drop (head_length (count_of bs)) bs)) size ∙ ap (λ (n : ℕ). take (start + 8 * words - start) (drop n bs)) (sym start_is) ∙ bare.same
+
+  pub read_ends : AreEnds ends ws
+  read_ends = let P : List ℕ → Type 0 = λ xs. AreEnds xs ws in subst P (sym ends_before) (ends_are bs most ws small below whole bare.each text_is)
+
+  pub read_stands : StandsFirst bs most (cut 0 ends ws) (start + 8 * words)
+  read_stands =
+      let size : frame_length bs ≡ start + 8 * words = omega (arith, start_is, all) in
+      let P : List ℕ → Type 0 = λ xs. StandsFirst bs most (cut 0 xs ws) (start + 8 * words) in
+      let Q : ℕ → Type 0 = λ n. StandsFirst bs most (cut 0 (ends_from 0 (sizes_before bs)) ws) n in
+      subst P (sym ends_before) (subst Q size (stands bs most ws small below whole bare.each text_is))
 
 -- ---- what is written
 
