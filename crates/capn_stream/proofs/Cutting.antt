@@ -137,5 +137,5 @@ module _ (ends ws : List ℕ) (message : List (List ℕ)) (seen : cut 0 ends ws 
       → take len (drop (8 * (slice_index (0 ∷ ends) s + k)) (bytes ws)) ≡ take len (drop (8 * k) (bytes (segment_at message s)))
   seen_bytes s k len h =
       let P : List (List ℕ) → Type 0 = λ m. s < length m → 8 * k + len ≤ 8 * length (segment_at m s)
-          → take len (drop (8 * (slice_index (0 ∷ ends) s + k)) (bytes ws)) ≡ take len (drop (8 * k) (bytes (segment_at m s))) in
+      → take len (drop (8 * (slice_index (0 ∷ ends) s + k)) (bytes ws)) ≡ take len (drop (8 * k) (bytes (segment_at m s))) in
       subst P seen (λ here. bytes_in ends ws is s here k len) h

@@ -75,23 +75,23 @@ announces_parts : (message : List (List ℕ)) (gap rest bs : List ℕ) → FitsT
 announces_parts message gap rest bs fits room e =
     let all : List ℕ = flat_map entry (map length message) in
     let number : entry_number bs ≡ length message - 1 =
-        ap entry_number e ∙ entry_number-entry (length message - 1) (all ++ (gap ++ (contents message ++ rest))) (omega (arith, fits.few)) in
+    ap entry_number e ∙ entry_number-entry (length message - 1) (all ++ (gap ++ (contents message ++ rest))) (omega (arith, fits.few)) in
     let count : count_of bs ≡ length message = omega (arith, number, fits.some) in
     let behind : drop 4 bs ≡ all ++ (gap ++ (contents message ++ rest)) =
-        ap (λ (xs : List ℕ). drop 4 xs) e ∙ drop_at (entry (length message - 1)) (all ++ (gap ++ (contents message ++ rest))) 4 (length-entry (length message - 1)) in
+    ap (λ (xs : List ℕ). drop 4 xs) e ∙ drop_at (entry (length message - 1)) (all ++ (gap ++ (contents message ++ rest))) 4 (length-entry (length message - 1)) in
     let many : length (map length message) ≡ length message = length-map message length in
     let sizes : entries (count_of bs) (drop 4 bs) ≡ map length message =
-        ap (λ (n : ℕ). entries n (drop 4 bs)) (count ∙ sym many)
-        ∙ ap (λ (xs : List ℕ). entries (length (map length message)) xs) behind
-        ∙ entries-entry (map length message) (gap ++ (contents message ++ rest)) (sizes_below message fits.sizes) in
+    ap (λ (n : ℕ). entries n (drop 4 bs)) (count ∙ sym many)
+    ∙ ap (λ (xs : List ℕ). entries (length (map length message)) xs) behind
+    ∙ entries-entry (map length message) (gap ++ (contents message ++ rest)) (sizes_below message fits.sizes) in
     let words : words_of bs ≡ total message = ap sum sizes ∙ sum-map length message in
     let pad : padding (count_of bs) ≡ length gap = ap padding count ∙ sym room in
     let front : List ℕ = entry (length message - 1) ++ (all ++ gap) in
     let split : bs ≡ front ++ (contents message ++ rest) = e ∙ simp append_assoc in
     let head : length front ≡ head_length (count_of bs) =
-        omega (arith, length-append (entry (length message - 1)) (all ++ gap), length-append all gap, length-entry (length message - 1), length-entry_all (map length message), many, count, pad) in
+    omega (arith, length-append (entry (length message - 1)) (all ++ gap), length-append all gap, length-entry (length message - 1), length-entry_all (map length message), many, count, pad) in
     let after : drop (head_length (count_of bs)) bs ≡ contents message ++ rest =
-        ap (λ (xs : List ℕ). drop (head_length (count_of bs)) xs) split ∙ drop_at front (contents message ++ rest) (head_length (count_of bs)) head in
+    ap (λ (xs : List ℕ). drop (head_length (count_of bs)) xs) split ∙ drop_at front (contents message ++ rest) (head_length (count_of bs)) head in
     let size : length (contents message) ≡ 8 * words_of bs = omega (arith, length-contents message, words) in
     record {
       count = count;
@@ -107,13 +107,13 @@ announces bs most message taken h =
     let f = h.frame in
     let rest : List ℕ = drop taken bs in
     let split : bs ≡ entry (length message - 1) ++ (flat_map entry (map length message) ++ (f.gap ++ (contents message ++ rest))) =
-        sym (take-append-drop taken bs)
-        ∙ ap (λ (xs : List ℕ). xs ++ rest) (f.text ∙ ap (λ (xs : List ℕ). (entry (length message - 1) ++ xs) ++ (f.gap ++ contents message)) (table_sizes message))
-        ∙ simp append_assoc in
+    sym (take-append-drop taken bs)
+    ∙ ap (λ (xs : List ℕ). xs ++ rest) (f.text ∙ ap (λ (xs : List ℕ). (entry (length message - 1) ++ xs) ++ (f.gap ++ contents message)) (table_sizes message))
+    ∙ simp append_assoc in
     let size : taken ≡ 4 + 4 * length message + length f.gap + 8 * total message =
-        sym (length-take-le taken bs h.inside)
-        ∙ ap length (f.text ∙ ap (λ (xs : List ℕ). (entry (length message - 1) ++ xs) ++ (f.gap ++ contents message)) (table_sizes message))
-        ∙ omega (arith, length-append (entry (length message - 1) ++ flat_map entry (map length message)) (f.gap ++ contents message), length-append (entry (length message - 1)) (flat_map entry (map length message)), length-append f.gap (contents message), length-entry (length message - 1), length-entry_all (map length message), length-map message length, length-contents message) in
+    sym (length-take-le taken bs h.inside)
+    ∙ ap length (f.text ∙ ap (λ (xs : List ℕ). (entry (length message - 1) ++ xs) ++ (f.gap ++ contents message)) (table_sizes message))
+    ∙ omega (arith, length-append (entry (length message - 1) ++ flat_map entry (map length message)) (f.gap ++ contents message), length-append (entry (length message - 1)) (flat_map entry (map length message)), length-append f.gap (contents message), length-entry (length message - 1), length-entry_all (map length message), length-map message length, length-contents message) in
     let P : ℕ → Type 0 = λ n. Announces bs message n in
     subst P (sym size) (announces_parts message f.gap rest bs f.fits f.gap_length split)
 
@@ -141,9 +141,10 @@ one_frame bs most limit m n taken length f g =
     let last : ℕ = entry_number (drop (4 * entry_number bs) (drop 4 bs)) in
     let all = entries_more (entry_number bs) (drop 4 bs) in
     let same = bytes-joined m ∙ sym a.contents_are ∙ b.contents_are ∙ sym (bytes-joined n) in
-    let words = same_words (joined m) (joined n) (AreWords-joined m f.frame.fits.each) (AreWords-joined n g.frame.fits.each) same in
-    (sym (cut-joined m sizes last 0 [] (sym a.sizes ∙ all) refl) ∙ ap (λ (ws : List ℕ). cut 0 (ends_from 0 sizes) ws) words ∙ cut-joined n sizes last 0 [] (sym b.sizes ∙ all) refl,
-    a.length_is ∙ sym b.length_is)
+    let words = same_words (joined m) (joined n) (AreWords-joined m f.frame.fits.each) (AreWords-joined n g.frame.fits.each) same in (
+      sym (cut-joined m sizes last 0 [] (sym a.sizes ∙ all) refl) ∙ ap (λ (ws : List ℕ). cut 0 (ends_from 0 sizes) ws) words ∙ cut-joined n sizes last 0 [] (sym b.sizes ∙ all) refl,
+      a.length_is ∙ sym b.length_is,
+    )
 
 -- ---- what is whole is a frame
 
@@ -204,10 +205,10 @@ module _ (bs : List ℕ) (most : ℕ) (ws : List ℕ) (small : most ≤ 2 ^ 28) 
       let pad : padding (length here) ≡ padding (count_of bs) = ap padding count_is in
       let space : padding (count_of bs) ≤ length (drop (4 + 4 * count_of bs) bs) = omega (arith, whole.0.1, length-drop (4 + 4 * count_of bs) bs) in
       let head : table here ++ gap ≡ take (head_length (count_of bs)) bs =
-          ap (λ (xs : List ℕ). xs ++ gap) table_is ∙ take_then (4 + 4 * count_of bs) (padding (count_of bs)) bs in
+      ap (λ (xs : List ℕ). xs ++ gap) table_is ∙ take_then (4 + 4 * count_of bs) (padding (count_of bs)) bs in
       let all : (table here ++ gap) ++ contents here ≡ take (frame_length bs) bs =
-          ap (λ (xs : List ℕ). xs ++ contents here) head ∙ ap (λ (xs : List ℕ). take (head_length (count_of bs)) bs ++ xs) contents_is
-          ∙ take_then (head_length (count_of bs)) (8 * words_of bs) bs in
+      ap (λ (xs : List ℕ). xs ++ contents here) head ∙ ap (λ (xs : List ℕ). take (head_length (count_of bs)) bs ++ xs) contents_is
+      ∙ take_then (head_length (count_of bs)) (8 * words_of bs) bs in
       record {
         inside = whole.2;
         frame = record {

@@ -57,6 +57,6 @@ same_words (x ∷ xs) [] f g e = absurd (omega (arith, ap length e, length-appen
 same_words (x ∷ xs) (y ∷ ys) f g e =
     let first : x ≡ y = sym (word_number-word_bytes x (bytes xs) (f 0)) ∙ ap word_number e ∙ word_number-word_bytes y (bytes ys) (g 0) in
     let rest : bytes xs ≡ bytes ys =
-        sym (drop_at (word_bytes x) (bytes xs) 8 (length-word_bytes x)) ∙ ap (λ (bs : List ℕ). drop 8 bs) e ∙ drop_at (word_bytes y) (bytes ys) 8 (length-word_bytes y) in
+    sym (drop_at (word_bytes x) (bytes xs) 8 (length-word_bytes x)) ∙ ap (λ (bs : List ℕ). drop 8 bs) e ∙ drop_at (word_bytes y) (bytes ys) 8 (length-word_bytes y) in
     let ih = same_words xs ys (λ k. f (suc k)) (λ k. g (suc k)) rest in
     rw (first, ih) refl

@@ -19,7 +19,7 @@ pub enum FrameFault {
     Memory,
     /// There are no bytes.
     Empty,
-    /// So many segments are announced, more than 512. Told once the count is there.
+    /// So many segments are announced, more than a message may have. Told once the count is there.
     TooManySegments(u64),
     /// So many words are announced, more than are allowed. Told once the table and its padding are there.
     TooManyWords(u64),

@@ -7,9 +7,13 @@
 mod fault;
 mod reading;
 mod segments;
+mod table;
 mod writing;
 
 pub use fault::{FrameFault, Memory};
 pub use reading::first;
 pub use segments::Framed;
 pub use writing::frame;
+
+#[cfg(test)]
+mod tests;

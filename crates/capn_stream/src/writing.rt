@@ -6,6 +6,7 @@ ghost use Rattle.capn_words.specs.Message.{bytes, segment_at, total, words_of};
 ghost use Rattle.capn_stream.specs.Frames.{Frames, StandsFirst, contents, entry, frame_text, padding, table};
 
 use crate::fault::Memory;
+use crate::table::head_of;
 use capn_words::space::{Place, Space};
 use std::alloc::{AllocError, Allocator};
 
@@ -88,7 +89,7 @@ pub fn frame<S: Space, A: Allocator + Copy>(alloc: A, space: &S) -> Result<Vec<u
         → IfOk result (λ text. StandsFirst text.items most (S.message space.now) (length text.items)) }
 {
     let segments = space.segments();
-    let head = 8 * (segments as usize / 2 + 1);
+    let head = head_of(segments as usize);
     let mut text = Vec::with_capacity(alloc, head + 8 * words_of_all(space))?;
     put_table(&mut text, space)?;
     put_padding(&mut text, segments)?;

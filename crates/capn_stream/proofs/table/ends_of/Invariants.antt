@@ -1,7 +1,7 @@
 use Rattle.std.proofs.Common.{◌≡◌, sum}
 use Rattle.capn_stream.specs.Cuts.{ends_from}
 use Rattle.capn_stream.specs.Reading.{entries}
-use Rattle.capn_stream.proofs.reading.ends_of.Given as goal
+use Rattle.capn_stream.proofs.table.ends_of.Given as goal
 
 -- where the segments so far end, and the last of them
 abbrev pub invariant-loop-index : goal.invariant-loop-index

@@ -1,6 +1,6 @@
 use Rattle.std.proofs.Common.{arith}
 use Rattle.capn_stream.proofs.Entries.{sum-entries_more}
-use Rattle.capn_stream.proofs.reading.total_of.Goals as goal
+use Rattle.capn_stream.proofs.table.total_of.Goals as goal
 
 pub loop-index-preserved : goal.loop-index-preserved
 loop-index-preserved c = record {
