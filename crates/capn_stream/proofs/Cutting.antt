@@ -1,14 +1,11 @@
 -- Words that are cut into segments.
-use Rattle.std.proofs.Common.{◌≡◌, ℕ, zero, suc, ◌+◌, ◌-◌, ◌*◌, ◌^◌, ◌<◌, ◌≤◌, List, [], ◌∷◌, ◌++◌, length, take, drop, sum, map, slice_index, Option, Some, None, refl, ap, sym, subst, inl, inr, ◌∙◌, arith, append_assoc, length-append, length-drop, length-take}
-use Rattle.std.specs.List.{flat_map, sum_by}
-use Rattle.std.proofs.lemmas.Grind.{flat_map-append}
-use Rattle.std.proofs.lemmas.List.{append-nil, drop-drop, drop_at, get_or-drop, get_or-take, length-take-le, take-append-drop, take_at, take_rest}
+use Rattle.std.proofs.Common.{◌≡◌, ℕ, zero, suc, ◌+◌, ◌-◌, ◌*◌, ◌^◌, ◌<◌, ◌≤◌, List, [], ◌∷◌, ◌++◌, length, take, drop, slice_index, Some, None, refl, ap, sym, subst, inl, inr, ◌∙◌, arith, length-drop, length-take}
+use Rattle.std.proofs.lemmas.List.{get_or-drop, get_or-take, length-take-le, take_rest}
 use Rattle.std.proofs.lemmas.List.Sums.{sum_by-cons}
 use Rattle.capn_words.specs.Message.{bytes, segment_at, total, words_of, IsMessage}
 use Rattle.std.proofs.lemmas.Bool.{cases_lt, lt-ltb, le-ltb}
 use Rattle.capn_words.specs.Words.{AreWords}
-use Rattle.capn_stream.specs.Cuts.{AreEnds, AreRising, cut, ends_from}
-use Rattle.capn_stream.specs.Frames.{contents}
+use Rattle.capn_stream.specs.Cuts.{AreEnds, AreRising, cut}
 use Rattle.capn_stream.proofs.Entries.{below-drop, below-take}
 use Rattle.capn_stream.proofs.SegmentBytes.{bytes_of_part}
 

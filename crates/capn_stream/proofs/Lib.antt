@@ -3,3 +3,4 @@ pub mod SegmentBytes
 pub mod Cutting
 pub mod Ends
 pub mod FrameLaws
+pub mod WholeFrames

@@ -37,7 +37,7 @@ fn start_of(ends: &[u32], segment: usize) -> u32
     if segment == 0 { 0 } else { ends[segment - 1] }
 }
 
-/// Where a segment of so many words in all ends.
+/// Where a segment ends: the last one with the words, of which there are so many in all.
 fn end_of(ends: &[u32], words: u32, segment: usize) -> u32
     requires { segment ≤ length ends.now }
     ensures { result ≡ slice_index (ends.now ++ words ∷ []) segment }

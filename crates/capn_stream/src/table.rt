@@ -3,7 +3,7 @@
 ghost use Rattle.std.specs.Prelude.{◌≡◌, ℕ, ◌+◌, ◌*◌, ◌^◌, ◌<◌, ◌≤◌, length, drop, sum, IfOk, IfErr};
 ghost use Rattle.capn_stream.specs.Cuts.{ends_from};
 ghost use Rattle.capn_stream.specs.Frames.{most_segments};
-ghost use Rattle.capn_stream.specs.Reading.{IsRefused, IsWhole, count_of, entries, entry_number, head_length, words_of};
+ghost use Rattle.capn_stream.specs.Reading.{IsRefused, IsWhole, announced_segments, entries, entry_number, head_length, announced_words};
 
 use crate::fault::FrameFault;
 use byteorder::{ByteOrder, LittleEndian};
@@ -73,8 +73,8 @@ pub struct Head {
 pub fn read_head(bytes: &[u8], max_words: u32) -> Result<Head, FrameFault>
     requires { max_words ≤ 2 ^ 28 }
     ensures whole { IfOk result (λ head. IsWhole bytes.now max_words) }
-    ensures segments { IfOk result (λ head. head.segments ≡ count_of bytes.now) }
-    ensures words { IfOk result (λ head. head.words ≡ words_of bytes.now) }
+    ensures segments { IfOk result (λ head. head.segments ≡ announced_segments bytes.now) }
+    ensures words { IfOk result (λ head. head.words ≡ announced_words bytes.now) }
     ensures refused { IfErr result (λ e. IsRefused bytes.now max_words e) }
 {
     if bytes.is_empty() {
