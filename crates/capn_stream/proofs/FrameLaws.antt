@@ -162,3 +162,7 @@ stands_alone bs most message h room = record {
   frame = (let P : List ℕ → Type 0 = λ xs. Frames xs message in subst P (sym (take_all (length bs) bs (omega arith))) h);
   room = room;
 }
+
+-- what stands first and takes all bytes is their frame
+pub frames_all : (bs : List ℕ) (most : ℕ) (message : List (List ℕ)) → StandsFirst bs most message (length bs) → Frames bs message
+frames_all bs most message h = let P : List ℕ → Type 0 = λ xs. Frames xs message in subst P (take_all (length bs) bs (omega arith)) h.frame

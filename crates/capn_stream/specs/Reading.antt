@@ -50,6 +50,7 @@ IsCut bs most =
     × (4 ≤ length bs → (announced_segments bs ≤ most_segments) × (head_length (announced_segments bs) ≤ length bs → (announced_words bs ≤ most) × (length bs < frame_length bs)))
 
 -- why bytes are refused under a number of words, each test being made once those before it have passed
+-- (want of memory says nothing of the bytes)
 abbrev pub IsRefused : List ℕ → ℕ → FrameFault → Type 0
 IsRefused bs most Memory = Unit {0}
 IsRefused bs most Empty = length bs ≡ 0

@@ -25,8 +25,9 @@ pub fn first<'a, A: Allocator + Copy>(
 ) -> Result<(Framed<'a, A>, usize), FrameFault>
     requires { max_words ≤ 2 ^ 28 }
     ensures found { IfOk result (λ answer. StandsFirst bytes.now max_words answer.0 answer.1) }
-    ensures only { (message : List (List ℕ)) (taken : ℕ) → StandsFirst bytes.now max_words message taken
-        → MatchResult result (λ answer. answer ≡ (message, taken)) (λ e. e ≡ FrameFault.Memory) }
+    ensures only { (message : List (List ℕ)) (taken : ℕ)
+        → StandsFirst bytes.now max_words message taken
+        → MatchResult result (λ answer. (answer.0 ≡ message) × (answer.1 ≡ taken)) (λ e. e ≡ FrameFault.Memory) }
     ensures refused { IfErr result (λ e. IsRefused bytes.now max_words e) }
 {
     let head = read_head(bytes, max_words)?;

@@ -1,4 +1,4 @@
-use Rattle.std.proofs.Common.{refl, arith}
+use Rattle.std.proofs.Common.{◌∙◌, arith}
 use Rattle.std.proofs.lemmas.Result.{err_from_is_err_and}
 use Rattle.capn_stream.proofs.FrameLaws.{one_frame, refused_whole, whole_of}
 use Rattle.capn_stream.proofs.WholeFrames.{read_ends, read_stands, sum-sizes_read}
@@ -31,4 +31,4 @@ returns-clause-only g c message taken h =
     let stands = read_stands c.args.bytes.now c.args.max_words c.in_ok-head.head.segments c.in_ok-head.head.words c.head_of-start.result c.in_ok-ends.ends.items c.in-Ok.words
     c.requires (λ i. omega (arith, c.type_inv.bytes i)) c.in_ok-head.ensures.whole c.in_ok-head.ensures.segments c.in_ok-head.ensures.words c.head_of-start.ensures c.in_ok-ends.ensures c.in-Ok.ensures.exact in
     let same = one_frame c.args.bytes.now c.args.max_words c.args.max_words _ message _ taken stands h in
-    rw (c.new-in-Ok.ensures, same.0, same.1) refl
+    (c.new-in-Ok.ensures ∙ same.0, same.1)
