@@ -131,6 +131,39 @@ refused_whole bs most (TooManyWords n) w r = absurd (omega arith)
 refused_whole bs most Cut w r = absurd (omega (arith, ((r.1 w.0.0.0).1 w.0.1).1))
 refused_whole bs most Failed w r = absurd r
 
+-- ---- one refusal
+
+-- bytes are refused for one reason, but for want of memory
+pub one_refusal : (bs : List ℕ) (most : ℕ) (e f : FrameFault) → IsRefused bs most e → IsRefused bs most f → (e ≡ Memory → ⊥) → (f ≡ Memory → ⊥) → e ≡ f
+one_refusal bs most Memory f r s other also = absurd (other refl)
+one_refusal bs most Failed f r s other also = absurd r
+one_refusal bs most Empty Memory r s other also = absurd (also refl)
+one_refusal bs most Empty Failed r s other also = absurd s
+one_refusal bs most Empty Empty r s other also = refl
+one_refusal bs most Empty (TooManySegments m) r s other also = absurd (omega arith)
+one_refusal bs most Empty (TooManyWords m) r s other also = absurd (omega arith)
+one_refusal bs most Empty Cut r s other also = absurd (omega arith)
+one_refusal bs most (TooManySegments n) Memory r s other also = absurd (also refl)
+one_refusal bs most (TooManySegments n) Failed r s other also = absurd s
+one_refusal bs most (TooManySegments n) Empty r s other also = absurd (omega arith)
+one_refusal bs most (TooManySegments n) (TooManySegments m) r s other also = ap TooManySegments (r.1 ∙ sym s.1)
+one_refusal bs most (TooManySegments n) (TooManyWords m) r s other also = absurd (omega arith)
+one_refusal bs most (TooManySegments n) Cut r s other also = absurd (omega (arith, (s.1 r.0).0, r.1, r.2))
+one_refusal bs most (TooManyWords n) Memory r s other also = absurd (also refl)
+one_refusal bs most (TooManyWords n) Failed r s other also = absurd s
+one_refusal bs most (TooManyWords n) Empty r s other also = absurd (omega arith)
+one_refusal bs most (TooManyWords n) (TooManySegments m) r s other also = absurd (omega arith)
+one_refusal bs most (TooManyWords n) (TooManyWords m) r s other also = ap TooManyWords (r.1 ∙ sym s.1)
+one_refusal bs most (TooManyWords n) Cut r s other also = absurd (omega (arith, ((s.1 r.0.0.0).1 r.0.1).0, r.1, r.2))
+one_refusal bs most Cut Memory r s other also = absurd (also refl)
+one_refusal bs most Cut Failed r s other also = absurd s
+one_refusal bs most Cut Empty r s other also = absurd (omega arith)
+one_refusal bs most Cut (TooManySegments m) r s other also = absurd (omega (arith, (r.1 s.0).0, s.1, s.2))
+one_refusal bs most Cut (TooManyWords m) r s other also = absurd (omega (arith, ((r.1 s.0.0.0).1 s.0.1).0, s.1, s.2))
+one_refusal bs most Cut Cut r s other also = refl
+
+-- ---- one frame
+
 -- two frames at the front of the same bytes are of the same message and the same length
 pub one_frame : (bs : List ℕ) (most limit : ℕ) (m n : List (List ℕ)) (taken length : ℕ) → StandsFirst bs most m taken → StandsFirst bs limit n length → (m ≡ n) × (taken ≡ length)
 one_frame bs most limit m n taken length f g =
