@@ -1,0 +1,29 @@
+use Rattle.std.proofs.Common.{◌≡◌, ℕ, ◌+◌, ◌-◌, ◌*◌, List, [], ◌∷◌, ◌++◌, sum, drop, ap, sym, ◌∙◌, arith}
+use Rattle.capn_stream.specs.Cuts.{ends_from}
+use Rattle.capn_stream.specs.Reading.{entries, entry_number}
+use Rattle.capn_stream.proofs.Entries.{entries_more, sum-entries_le, sum-entries_more}
+use Rattle.capn_stream.proofs.Ends.{ends_from_push}
+use Rattle.capn_stream.proofs.table.ends_of.Goals as goal
+
+pub overflow_add-end : goal.overflow_add-end
+overflow_add-end g c =
+    let left : ℕ = c.args.count - (c.loop-index.index + 1) in
+    let all : c.loop-index.index + 1 + left ≡ c.args.count = omega arith in
+    let within = sum-entries_le (c.loop-index.index + 1) left c.args.sizes.now in
+    let whole = ap (λ (n : ℕ). sum (entries n c.args.sizes.now)) all in
+    omega (arith, within, whole, sum-entries_more c.loop-index.index c.args.sizes.now, c.requires.room)
+
+pub loop-index-preserved : goal.loop-index-preserved
+loop-index-preserved g c =
+    let sizes : List ℕ = entries c.loop-index.index c.args.sizes.now in
+    let size : ℕ = entry_number (drop (4 * c.loop-index.index) c.args.sizes.now) in
+    let end : c.loop-index.end + c.entry_at-end.result ≡ 0 + sum sizes + size = omega (arith, c.loop-index.invariant.end, c.entry_at-end.ensures) in
+    record {
+      ends =
+          c.in_ok-push.ensures.items
+          ∙ ap (λ (ends : List ℕ). ends ++ (c.loop-index.end + c.entry_at-end.result) ∷ []) c.loop-index.invariant.ends
+          ∙ ap (λ (n : ℕ). ends_from 0 sizes ++ n ∷ []) end
+          ∙ sym (ends_from_push 0 sizes size)
+          ∙ ap (λ (ns : List ℕ). ends_from 0 ns) (sym (entries_more c.loop-index.index c.args.sizes.now));
+      end = omega (arith, sum-entries_more c.loop-index.index c.args.sizes.now);
+    }

@@ -1,0 +1,26 @@
+-- Words that are cut into segments.
+use Rattle.std.specs.Prelude.{ℕ, ◌+◌, ◌-◌, ◌^◌, ◌<◌, ◌≤◌, List, [], ◌∷◌, length, take, drop}
+use Rattle.capn_words.specs.Words.{AreWords}
+use Rattle.capn_stream.specs.Frames.{most_segments}
+
+-- the words from a place on, cut: a segment ends at each of the ends, and the last one with the words
+abbrev pub cut : ℕ → List ℕ → List ℕ → List (List ℕ)
+cut from [] ws = drop from ws ∷ []
+cut from (end ∷ ends) ws = take (end - from) (drop from ws) ∷ cut end ends ws
+
+-- the ends rise, and the last is within the length
+abbrev pub AreRising : ℕ → List ℕ → ℕ → Type 0
+AreRising from [] len = from ≤ len
+AreRising from (end ∷ ends) len = (from ≤ end) × AreRising end ends len
+
+-- these ends cut these words into a message
+pub record AreEnds (ends ws : List ℕ) : Type 0 where
+  pub few : length ends < most_segments
+  pub rising : AreRising 0 ends (length ws)
+  pub room : length ws ≤ 2 ^ 28 + 1
+  pub each : AreWords ws
+
+-- where the segments of these sizes end, the first beginning at a place
+abbrev pub ends_from : ℕ → List ℕ → List ℕ
+ends_from from [] = []
+ends_from from (size ∷ sizes) = (from + size) ∷ ends_from (from + size) sizes

@@ -1,0 +1,50 @@
+-- The frame of a message in a stream: the table of its segments, padding up to a whole word, and the
+-- segments. (The encoding page, "Serialization over a stream".)
+use Rattle.std.specs.Prelude.{◌≡◌, ℕ, ◌-◌, ◌%◌, ◌^◌, ◌<◌, ◌≤◌, ◌==◌, if◌then◌else◌, List, ◌++◌, length, take, replicate, slice_index}
+use Rattle.std.specs.List.{flat_map}
+use Rattle.byteorder.specs.Endian.{little_bytes}
+use Rattle.capn_words.specs.Message.{bytes, segment_at, total}
+
+-- the most segments of a message (own)
+abbrev pub most_segments : ℕ
+most_segments = 512
+
+-- a number below 2^32 as its 4 bytes, the least first
+unfoldable pub entry : ℕ → List ℕ
+entry n = little_bytes 4 n
+
+-- the number of segments less one, then the size of each in words
+abbrev pub table : List (List ℕ) → List ℕ
+table message = entry (length message - 1) ++ flat_map (λ ws. entry (length ws)) message
+
+-- how many bytes of padding follow the table: 4 exactly where the number of segments is even
+abbrev pub padding : ℕ → ℕ
+padding count = if count % 2 == 0 then 4 else 0
+
+-- the bytes of the segments, one after another
+abbrev pub contents : List (List ℕ) → List ℕ
+contents message = flat_map bytes message
+
+-- what a table can say: 1 to 512 segments, each of fewer than 2^32 words, which are below 2^64
+pub record FitsTable (message : List (List ℕ)) : Type 0 where
+  pub some : 0 < length message
+  pub few : length message ≤ most_segments
+  pub sizes : (s : ℕ) → length (segment_at message s) < 2 ^ 32
+  pub each : (s k : ℕ) → slice_index (segment_at message s) k < 2 ^ 64
+
+-- the bytes are the message's table, padding of any content, and the message's contents
+pub record Frames (bs : List ℕ) (message : List (List ℕ)) : Type 0 where
+  pub fits : FitsTable message
+  pub gap : List ℕ
+  pub gap_length : length gap ≡ padding (length message)
+  pub text : bs ≡ table message ++ (gap ++ contents message)
+
+-- the frame of the message whose padding is zero (own: what is written)
+abbrev pub frame_text : List (List ℕ) → List ℕ
+frame_text message = table message ++ (replicate (padding (length message)) 0 ++ contents message)
+
+-- the first `taken` bytes are a frame of the message, which has at most `most` words
+pub record StandsFirst (bs : List ℕ) (most : ℕ) (message : List (List ℕ)) (taken : ℕ) : Type 0 where
+  pub inside : taken ≤ length bs
+  pub frame : Frames (take taken bs) message
+  pub room : total message ≤ most

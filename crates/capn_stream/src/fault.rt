@@ -1,0 +1,41 @@
+//! Why a call is refused.
+
+use std::alloc::AllocError;
+
+/// A growth was refused.
+#[derive(Clone, Copy, Debug, PartialEq, Eq)]
+pub struct Memory;
+
+impl From<AllocError> for Memory {
+    fn from(_: AllocError) -> Memory {
+        Memory
+    }
+}
+
+/// Why bytes are no frame, in the order in which the tests are made.
+#[derive(Clone, Copy, Debug, PartialEq, Eq)]
+pub enum FrameFault {
+    /// A growth was refused.
+    Memory,
+    /// There are no bytes.
+    Empty,
+    /// So many segments are announced, more than a message may have. Told once the count is there.
+    TooManySegments(u64),
+    /// So many words are announced, more than are allowed. Told once the table and its padding are there.
+    TooManyWords(u64),
+    /// The bytes end within the count, the table, its padding or the contents.
+    Cut,
+    /// An earlier call was refused. Only a reader that is fed in pieces answers it.
+    Failed,
+}
+
+impl From<AllocError> for FrameFault {
+    ghost use Rattle.std.specs.Prelude.{◌≡◌};
+    ghost use Rattle.capn_stream.specs.declared.fault.FrameFault.TheVariants.{Memory as out_of_memory};
+
+    ghost from_gives = { λ _ e. e ≡ out_of_memory };
+
+    fn from(_: AllocError) -> FrameFault {
+        FrameFault::Memory
+    }
+}

@@ -1,0 +1,28 @@
+//! Messages in a stream: segment tables, and the segments behind them.
+//!
+//! [`first`] reads the message that stands first in some bytes, as a [`Framed`] that borrows them, and
+//! [`frame`] writes a message as such bytes:
+//!
+//! ```text
+//! let (message, taken) = first(alloc, &input, 8_388_608)?;
+//! let text = frame(alloc, &message)?;
+//! ```
+//!
+//! Here `text` is the first `taken` bytes of `input`, but for the padding of its table. Any bytes may be
+//! given: `first` answers exactly where a frame within the limits stands first, and else says why none
+//! does. What a table announces is never allocated.
+#![tactic(auto)]
+
+mod fault;
+mod reading;
+mod segments;
+mod table;
+mod writing;
+
+pub use fault::{FrameFault, Memory};
+pub use reading::first;
+pub use segments::Framed;
+pub use writing::frame;
+
+#[cfg(test)]
+mod tests;

@@ -1,0 +1,96 @@
+//! A message of several segments, borrowed.
+
+ghost use Rattle.std.specs.Prelude.{◌≡◌, ℕ, ◌+◌, ◌<◌, ◌≤◌, ◌∷◌, ◌++◌, [], length, slice_index};
+ghost use Rattle.capn_stream.specs.Cuts.{AreEnds, cut};
+
+use capn_words::bare::Bare;
+use capn_words::space::{Place, Space};
+use std::alloc::{Allocator, Global};
+use std::marker::Model;
+
+/// A message whose segments stand one after another in borrowed bytes.
+///
+/// It copies none of them. Beside the borrow it keeps where each segment but the last ends, so a message
+/// of one segment takes no memory, and every segment is found in constant time.
+#[derive(Drop)]
+pub struct Framed<'a, A: Allocator = Global> {
+    words: Bare<'a>,
+    ends: Vec<u32, A>,
+}
+
+impl<'a, A: Allocator> Model for Framed<'a, A> {
+    ghost use Rattle.std.specs.Prelude.{ℕ, List};
+    ghost use Rattle.capn_stream.specs.Cuts.{AreEnds, cut};
+
+    ghost Value = { List (List ℕ) };
+
+    ghost view = { λ f. cut 0 f.ends.items f.words };
+
+    ghost invariant = { λ f. AreEnds f.ends.items f.words };
+}
+
+/// Where a segment begins.
+fn start_of(ends: &[u32], segment: usize) -> u32
+    requires { segment ≤ length ends.now }
+    ensures { result ≡ slice_index (0 ∷ ends.now) segment }
+{
+    if segment == 0 { 0 } else { ends[segment - 1] }
+}
+
+/// Where a segment ends: the last one with the words, of which there are so many in all.
+fn end_of(ends: &[u32], words: u32, segment: usize) -> u32
+    requires { segment ≤ length ends.now }
+    ensures { result ≡ slice_index (ends.now ++ words ∷ []) segment }
+{
+    if segment == ends.len() {
+        words
+    } else {
+        ends[segment]
+    }
+}
+
+impl<'a, A: Allocator> Framed<'a, A> {
+    /// The words, cut at the ends.
+    pub(crate) fn new(words: Bare<'a>, ends: Vec<u32, A>) -> Framed<'a, A>
+        requires { AreEnds ends.items words }
+        ensures { result ≡ cut 0 ends.items words.entry }
+    {
+        Framed { words, ends }
+    }
+}
+
+impl<'a, A: Allocator> Space for Framed<'a, A> {
+    ghost message = { λ m. m };
+
+    fn segments(&self) -> u32 {
+        self.ends.len() as u32 + 1
+    }
+
+    fn words(&self, segment: u32) -> Option<u32> {
+        let segment = segment as usize;
+        if segment > self.ends.len() {
+            return None;
+        }
+        let all = self.words.words(0).unwrap_or(0);
+        Some(end_of(&self.ends, all, segment) - start_of(&self.ends, segment))
+    }
+
+    fn word(&self, at: Place) -> u64 {
+        let start = start_of(&self.ends, at.segment as usize);
+        self.words.word(Place {
+            segment: 0,
+            word: start + at.word,
+        })
+    }
+
+    fn bytes(&self, at: Place, len: usize) -> &[u8] {
+        let start = start_of(&self.ends, at.segment as usize);
+        self.words.bytes(
+            Place {
+                segment: 0,
+                word: start + at.word,
+            },
+            len,
+        )
+    }
+}

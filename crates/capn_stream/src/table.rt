@@ -1,0 +1,104 @@
+//! The table of segments at the front of a stream.
+
+ghost use Rattle.std.specs.Prelude.{◌≡◌, ℕ, ◌+◌, ◌*◌, ◌^◌, ◌<◌, ◌≤◌, length, drop, sum, IfOk, IfErr};
+ghost use Rattle.capn_stream.specs.Cuts.{ends_from};
+ghost use Rattle.capn_stream.specs.Frames.{most_segments};
+ghost use Rattle.capn_stream.specs.Reading.{IsRefused, IsWhole, announced_segments, entries, entry_number, head_length, announced_words};
+
+use crate::fault::FrameFault;
+use byteorder::{ByteOrder, LittleEndian};
+use std::alloc::{AllocError, Allocator};
+
+/// The most segments of a message.
+const MOST_SEGMENTS: u64 = 512;
+
+/// The number of 4 bytes that begins at byte 4 times the index.
+#[tactic(auto, unfolding(crate::specs::Reading::entry_number))]
+fn entry_at(bytes: &[u8], index: usize) -> u32
+    requires { 4 * index + 4 ≤ length bytes.now }
+    ensures { result ≡ entry_number (drop (4 * index) bytes.now) }
+{
+    LittleEndian::read_u32(&bytes[4 * index..])
+}
+
+/// The sum of the sizes.
+fn total_of(sizes: &[u8], count: usize) -> u64
+    requires few { count ≤ most_segments }
+    requires inside { 4 * count ≤ length sizes.now }
+    ensures { result ≡ sum (entries count sizes.now) }
+{
+    let mut total: u64 = 0;
+    for index in 0..count {
+        total += entry_at(sizes, index) as u64;
+    }
+    total
+}
+
+/// Where the segments of the sizes end, counted in words. Its one growth is by sizes that are there.
+pub fn ends_of<A: Allocator>(
+    alloc: A,
+    sizes: &[u8],
+    count: usize,
+) -> Result<Vec<u32, A>, AllocError>
+    requires few { count ≤ most_segments }
+    requires inside { 4 * count ≤ length sizes.now }
+    requires room { sum (entries count sizes.now) < 2 ^ 32 }
+    ensures { IfOk result (λ v. v.items ≡ ends_from 0 (entries count sizes.now)) }
+{
+    let mut ends = Vec::with_capacity(alloc, count)?;
+    let mut end: u32 = 0;
+    for index in 0..count {
+        end += entry_at(sizes, index);
+        ends.push(end)?;
+    }
+    Ok(ends)
+}
+
+/// How many bytes the table of so many segments and its padding take.
+pub fn head_of(count: usize) -> usize
+    requires { count ≤ most_segments }
+    ensures { result ≡ head_length count }
+{
+    8 * (count / 2 + 1)
+}
+
+/// What a table announces: how many segments, and how many words in all.
+#[derive(Clone, Copy)]
+pub struct Head {
+    pub segments: usize,
+    pub words: usize,
+}
+
+/// What the table announces, where its frame is there whole and has at most `max_words` words.
+pub fn read_head(bytes: &[u8], max_words: u32) -> Result<Head, FrameFault>
+    requires { max_words ≤ 2 ^ 28 }
+    ensures whole { IfOk result (λ head. IsWhole bytes.now max_words) }
+    ensures segments { IfOk result (λ head. head.segments ≡ announced_segments bytes.now) }
+    ensures words { IfOk result (λ head. head.words ≡ announced_words bytes.now) }
+    ensures refused { IfErr result (λ e. IsRefused bytes.now max_words e) }
+{
+    if bytes.is_empty() {
+        return Err(FrameFault::Empty);
+    }
+    if bytes.len() < 4 {
+        return Err(FrameFault::Cut);
+    }
+    let count = entry_at(bytes, 0) as u64 + 1;
+    if count > MOST_SEGMENTS {
+        return Err(FrameFault::TooManySegments(count));
+    }
+    let segments = count as usize;
+    let head = head_of(segments);
+    if bytes.len() < head {
+        return Err(FrameFault::Cut);
+    }
+    let words = total_of(&bytes[4..], segments);
+    if words > max_words as u64 {
+        return Err(FrameFault::TooManyWords(words));
+    }
+    let words = words as usize;
+    if bytes.len() - head < 8 * words {
+        return Err(FrameFault::Cut);
+    }
+    Ok(Head { segments, words })
+}

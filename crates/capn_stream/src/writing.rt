@@ -1,0 +1,98 @@
+//! A message as a frame.
+
+ghost use Rattle.std.specs.Prelude.{◌≡◌, ℕ, ◌+◌, ◌-◌, ◌≤◌, ◌++◌, length, replicate, Some, IfOk, OnOk};
+ghost use Rattle.std.specs.List.{flat_map};
+ghost use Rattle.capn_words.specs.Message.{bytes, segment_at, total, words_of};
+ghost use Rattle.capn_stream.specs.Frames.{Frames, StandsFirst, contents, entry, frame_text, padding, table};
+
+use crate::fault::Memory;
+use crate::table::head_of;
+use capn_words::space::{Place, Space};
+use std::alloc::{AllocError, Allocator};
+
+/// The words of all segments.
+#[tactic(auto, using(std::proofs::lemmas::List::Sums::sum_by_more_le, std::proofs::lemmas::List::Sums::fold_more))]
+fn words_of_all<S: Space>(space: &S) -> usize
+    ensures { result ≡ total (S.message space.now) }
+{
+    let mut total = 0;
+    for segment in 0..space.segments() {
+        if let Some(words) = space.words(segment) {
+            total += words as usize;
+        }
+    }
+    total
+}
+
+/// A number as its 4 bytes.
+#[tactic(auto, unfolding(crate::specs::Frames::entry))]
+fn put_entry<A: Allocator>(text: &mut Vec<u8, A>, number: u32) -> Result<(), AllocError>
+    ensures { OnOk result (text.new.items ≡ text.old.items ++ entry number) }
+{
+    text.extend_from_slice(&number.to_le_bytes())?;
+    Ok(())
+}
+
+/// The table of a message.
+fn put_table<S: Space, A: Allocator>(text: &mut Vec<u8, A>, space: &S) -> Result<(), AllocError>
+    ensures { OnOk result (text.new.items ≡ text.old.items ++ table (S.message space.now)) }
+{
+    let segments = space.segments();
+    put_entry(text, segments - 1)?;
+    for segment in 0..segments {
+        if let Some(words) = space.words(segment) {
+            put_entry(text, words)?;
+        }
+    }
+    Ok(())
+}
+
+/// The padding behind the table of so many segments.
+fn put_padding<A: Allocator>(text: &mut Vec<u8, A>, segments: u32) -> Result<(), AllocError>
+    ensures { OnOk result (text.new.items ≡ text.old.items ++ replicate (padding segments) 0) }
+{
+    if segments % 2 == 0 {
+        text.extend_from_slice(&[0; 4])?;
+    }
+    Ok(())
+}
+
+/// The bytes of a segment of so many words.
+fn bytes_of<S: Space>(space: &S, segment: u32, words: u32) -> &[u8]
+    requires { words_of (S.message space.now) segment ≡ Some words }
+    ensures { result.now ≡ bytes (segment_at (S.message space.now) segment) }
+{
+    space.bytes(Place { segment, word: 0 }, 8 * words as usize)
+}
+
+/// The bytes of the segments of a message.
+fn put_contents<S: Space, A: Allocator>(text: &mut Vec<u8, A>, space: &S) -> Result<(), AllocError>
+    ensures { OnOk result (text.new.items ≡ text.old.items ++ contents (S.message space.now)) }
+{
+    for segment in 0..space.segments() {
+        if let Some(words) = space.words(segment) {
+            text.extend_from_slice(bytes_of(space, segment, words))?;
+        }
+    }
+    Ok(())
+}
+
+/// The frame of a message: its table, padding of zeros, and its contents.
+///
+/// [`first`](crate::first) of these bytes gives the message back. Memory is asked for once, for exactly
+/// the frame; `Memory` comes only where that was refused.
+/// (The encoding page, "Serialization over a stream"; that padding is zero is our own choice.)
+pub fn frame<S: Space, A: Allocator + Copy>(alloc: A, space: &S) -> Result<Vec<u8, A>, Memory>
+    ensures exact { IfOk result (λ text. text.items ≡ frame_text (S.message space.now)) }
+    ensures frames { IfOk result (λ text. Frames text.items (S.message space.now)) }
+    ensures again { (most : ℕ) → total (S.message space.now) ≤ most
+        → IfOk result (λ text. StandsFirst text.items most (S.message space.now) (length text.items)) }
+{
+    let segments = space.segments();
+    let head = head_of(segments as usize);
+    let mut text = Vec::with_capacity(alloc, head + 8 * words_of_all(space))?;
+    put_table(&mut text, space)?;
+    put_padding(&mut text, segments)?;
+    put_contents(&mut text, space)?;
+    Ok(text)
+}
