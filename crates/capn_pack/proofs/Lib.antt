@@ -1,0 +1,11 @@
+mod TagLemmas
+mod SpreadLemmas
+mod GroupLemmas
+mod RunLemmas
+mod PutLemmas
+pub mod GroupLaws
+pub mod StreamLemmas
+pub mod ChosenLaws
+mod WordLemmas
+mod LaneLemmas
+mod RowLemmas

@@ -1,0 +1,37 @@
+-- The word of a tag and the bytes that it names, byte by byte.
+use Rattle.std.proofs.Common.{◌≡◌, ℕ, zero, suc, ◌+◌, ◌*◌, ◌/◌, ◌%◌, ◌^◌, ◌<◌, ◌⊎◌, inl, inr, List, ◌∷◌, refl, sym, ap, ◌∙◌, arith}
+use Rattle.std.proofs.lemmas.Bool.Decides.{nat_tests}
+use Rattle.std.proofs.lemmas.Nat.{ones_cat}
+use Rattle.std.specs.Prelude.{count_ones}
+use Rattle.capn_pack.specs.Tag.{named_bytes}
+
+-- a number has the digits of its half and its last
+pub ones_half : (n : ℕ) → count_ones n ≡ n % 2 + count_ones (n / 2)
+unfolding lib.Count.ones
+ones_half n =
+    let whole : n / 2 * 2 ^ 1 + n % 2 ≡ n = omega arith in
+    let last : (r : ℕ) → r < 2 → count_ones r ≡ r = λ r h. ones_below r h in
+    sym (ap count_ones whole) ∙ ones_cat 1 (n / 2) (n % 2) (omega arith) ∙ (rw (last (n % 2) (omega arith)) (omega arith))
+  where
+    ones_below : (r : ℕ) → r < 2 → count_ones r ≡ r
+    ones_below zero h = refl
+    ones_below (suc zero) h = refl
+    ones_below (suc (suc r)) h = absurd (omega arith)
+
+pub named_one : (left b : ℕ) (ws : List ℕ) → left % 2 ≡ 1 → named_bytes left (b ∷ ws) ≡ b ∷ named_bytes (left / 2) ws
+named_one left b ws e = grind (arith, nat_tests)
+
+pub named_none : (left b : ℕ) (ws : List ℕ) → left % 2 ≡ 0 → named_bytes left (b ∷ ws) ≡ named_bytes (left / 2) ws
+named_none left b ws e = grind (arith, nat_tests)
+
+pub parity : (n : ℕ) → (n % 2 ≡ 0) ⊎ (n % 2 ≡ 1)
+parity n = bit_cases (n % 2) (omega arith)
+  where
+    bit_cases : (r : ℕ) → r < 2 → (r ≡ 0) ⊎ (r ≡ 1)
+    bit_cases zero h = inl refl
+    bit_cases (suc zero) h = inr refl
+    bit_cases (suc (suc r)) h = absurd (omega arith)
+
+pub no_ones : count_ones 0 ≡ 0
+unfolding lib.Count.ones
+no_ones = refl

@@ -1,0 +1,18 @@
+use Rattle.std.proofs.Common.{arith, ap, ◌∙◌, refl, ◌∷◌, ◌++◌, get_or, slice_range, append_assoc, ◌+◌, ◌*◌}
+use Rattle.capn_pack.proofs.GroupLemmas.{take_raw_text, raw_is_group}
+use Rattle.capn_pack.specs.Group.Group.{Raw}
+use Rattle.capn_pack.proofs.taking.take_raw.Goals as goal
+
+pub returns-clause-ok : goal.returns-clause-ok
+returns-clause-ok g c =
+    let rest = c.args.rest.now in
+    let more = get_or rest 9 0 in
+    record {
+      group = Raw (slice_range rest 1 9) more (slice_range rest 10 (10 + 8 * more));
+      is_group = raw_is_group rest more (omega arith) (omega (arith, c.type_inv.rest 9));
+      within = omega arith;
+      text = take_raw_text rest more (omega arith) ∙ ap (λ b. b ∷ slice_range rest 1 9 ++ more ∷ slice_range rest 10 (10 + 8 * more)) c.requires.tag;
+      counted = refl;
+      fits = omega arith;
+      content = c.in_ok-extend_from_slice-2.ensures.items ∙ rw (c.in_ok-extend_from_slice.ensures.items, append_assoc, c.reserve.ensures.items) refl;
+    }

@@ -1,0 +1,41 @@
+-- The one text that this packer writes, of the many that pack the same words (own).
+use Rattle.std.specs.Prelude.{ℕ, ◌≡◌, ◌+◌, ◌<◌, ◌≤◌, ◌==◌, if◌then◌else◌, List, [], ◌∷◌, length, replicate, take, drop, suc, zero}
+use Rattle.capn_pack.specs.Tag.{tag_of}
+use Rattle.capn_pack.specs.Group.{Group, IsGroup}
+use Rattle.capn_pack.specs.Group.Group.{Zeros, Named, Raw}
+use Rattle.capn_pack.specs.Packs.{texts, contents}
+
+-- How many of some bytes are zero.
+abbrev pub zero_count : List ℕ → ℕ
+zero_count [] = 0
+zero_count (x ∷ xs) = (if x == 0 then 1 else 0) + zero_count xs
+
+-- A dense word has at most one zero byte: a tag would save nothing on it.
+abbrev pub IsDense : List ℕ → Type 0
+IsDense word = (length word ≡ 8) × (zero_count word ≤ 1)
+
+-- These bytes are so many words, each of them dense.
+abbrev pub AllDense : ℕ → List ℕ → Type 0
+AllDense zero bs = bs ≡ []
+AllDense (suc n) bs = IsDense (take 8 bs) × AllDense n (drop 8 bs)
+
+-- The packer chooses this group where the words of bs come behind it.
+abbrev pub IsChoice : Group → List ℕ → Type 0
+-- it goes on as far as zero words do, up to 255 more
+IsChoice (Zeros more) bs = more < 255 → take 8 bs ≡ replicate 8 0 → ⊥
+-- it names the bytes that aren't zero, and no zero byte
+IsChoice (Named tag word) bs = tag ≡ tag_of word
+-- its first word has no zero byte, and it goes on as far as dense words do, up to 255 more
+IsChoice (Raw word count more) bs = (tag_of word ≡ 255) × AllDense count more × (count < 255 → IsDense (take 8 bs) → ⊥)
+
+-- Each group of the row is the packer's choice before those behind it.
+abbrev pub IsChosenRow : List Group → Type 0
+IsChosenRow [] = Unit {0}
+IsChosenRow (g ∷ gs) = IsGroup g × IsChoice g (contents gs) × IsChosenRow gs
+
+-- The text b is the packer's for the words whose bytes are bs.
+pub record Chosen (b bs : List ℕ) : Type 0 where
+  pub groups : List Group
+  pub chosen : IsChosenRow groups
+  pub text : b ≡ texts groups
+  pub content : bs ≡ contents groups

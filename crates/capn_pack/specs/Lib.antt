@@ -1,0 +1,10 @@
+pub mod Tag
+pub mod Group
+pub mod Packs
+pub mod Chosen
+pub mod Refusal
+pub mod Words
+pub mod Stream
+pub mod Steps
+pub mod Joins
+pub mod Rows

@@ -1,0 +1,22 @@
+-- Words as numbers (encoding page, "Messages": numbers are little-endian).
+use Rattle.std.specs.Prelude.{ℕ, ◌≡◌, ◌^◌, ◌<◌, List, slice_index}
+use Rattle.std.specs.List.{flat_map, AllByRecursion}
+use Rattle.std.specs.Int.{w64, to_le_bytes}
+
+-- Each word as eight bytes, the least first, joined.
+abbrev pub bytes : List ℕ → List ℕ
+bytes ws = flat_map (to_le_bytes w64) ws
+
+-- Each number fits a word.
+abbrev pub AreWords : List ℕ → Type 0
+AreWords ws = AllByRecursion (λ w. w < 2 ^ 64) ws
+
+-- Each number fits a byte.
+abbrev pub AreBytes : List ℕ → Type 0
+AreBytes bs = (i : ℕ) → slice_index bs i < 2 ^ 8
+
+-- These bytes are those of some words.
+pub record HasWords (bs : List ℕ) : Type 0 where
+  pub words : List ℕ
+  pub each : AreWords words
+  pub bytes : bytes words ≡ bs

@@ -1,0 +1,84 @@
+//! One word and its tag, eight or sixteen lanes at a time.
+ghost use Rattle.std.specs.Prelude.{◌≡◌, ◌+◌, ◌≤◌, ◌∷◌, ◌++◌, length, take, replicate, count_ones, ℕ};
+ghost use Rattle.capn_pack.specs.Tag.{tag_of, named_bytes, IsNamedBy};
+
+use crate::gathers::gather_places;
+use crate::spreads::spread_places;
+use std::simd::prelude::*;
+
+/// The tag of a word: bit i is 1 exactly if byte i isn't zero (encoding page, "Packing").
+///
+/// It takes no memory.
+#[inline(always)]
+pub fn tag(bytes: &[u8; 8]) -> u8
+    ensures { result ≡ tag_of bytes.now }
+{
+    u8x8::from_array(*bytes)
+        .simd_ne(u8x8::splat(0))
+        .to_bitmask() as u8
+}
+
+/// The first sixteen bytes, or as many as there are.
+#[inline(always)]
+fn window(bytes: &[u8]) -> u8x16
+    ensures { (n : ℕ) → n ≤ 16 → n ≤ length bytes.now → take n result ≡ take n bytes.now }
+{
+    if bytes.len() >= 16 {
+        return u8x16::from_slice(bytes);
+    }
+    let mut window = [0; 16];
+    window[..bytes.len()].copy_from_slice(bytes);
+    u8x16::from_array(window)
+}
+
+/// The word of which the tag names the first lanes.
+#[inline(always)]
+fn spread_lanes(tag: u8, lanes: u8x16) -> [u8; 8]
+    ensures named { IsNamedBy tag result }
+    ensures bytes { named_bytes tag result ≡ take (count_ones tag) lanes }
+{
+    let places = spread_places(tag);
+    lanes.swizzle_dyn(places).extract::<0, 8>().to_array()
+}
+
+/// The word of which the tag names the first of these bytes.
+#[inline(always)]
+pub(crate) fn spread(tag: u8, bytes: &[u8]) -> [u8; 8]
+    requires { count_ones tag ≤ length bytes.now }
+    ensures named { IsNamedBy tag result }
+    ensures bytes { named_bytes tag result ≡ take (count_ones tag) bytes.now }
+{
+    spread_lanes(tag, window(bytes))
+}
+
+/// The same where sixteen bytes are there, with no copy of them.
+#[inline(always)]
+pub(crate) fn spread_far(tag: u8, bytes: &[u8]) -> [u8; 8]
+    requires { 16 ≤ length bytes.now }
+    ensures named { IsNamedBy tag result }
+    ensures bytes { named_bytes tag result ≡ take (count_ones tag) bytes.now }
+{
+    spread_lanes(tag, u8x16::from_slice(bytes))
+}
+
+/// The word, then zeros.
+#[inline(always)]
+fn widened(word: [u8; 8]) -> u8x16
+    ensures { result ≡ word ++ replicate 8 0 }
+{
+    u8x8::from_array(word).shuffle(
+        u8x8::splat(0),
+        [0, 1, 2, 3, 4, 5, 6, 7, 8, 9, 10, 11, 12, 13, 14, 15],
+    )
+}
+
+/// The tag, then the bytes of the word that it names, then any.
+#[inline(always)]
+pub(crate) fn gather(word: [u8; 8], tag: u8) -> [u8; 16]
+    ensures { take (1 + count_ones tag) result ≡ tag ∷ named_bytes tag word }
+{
+    let lanes = widened(word);
+    let places = gather_places(tag);
+    let first = u8x16::from_array([tag, 0, 0, 0, 0, 0, 0, 0, 0, 0, 0, 0, 0, 0, 0, 0]);
+    (lanes.swizzle_dyn(places) | first).to_array()
+}

@@ -1,0 +1,37 @@
+//! The packing of Cap'n Proto: words are written as groups that leave out their zero bytes.
+//!
+//! [`pack`] writes the one text of whole words that this packer chooses, and [`unpack`] reads any packed text, under a
+//! maximum of words; [`unpack`] of what [`pack`] gives is the words again. [`Unpacker`] reads a text that comes in
+//! pieces, and [`tag`] is the tag of one word. The format is that of the section "Packing" of the encoding page; what
+//! it leaves open (where a run ends, what an unpacker accepts, the order of refusals) is own.
+//!
+//! ```text
+//! let text = pack(alloc, &[8, 0, 0, 0, 3, 0, 2, 0])?;   // 51 08 03 02 in hexadecimal
+//! let words = unpack(alloc, &text, 1)?;                 // the eight bytes again
+//! ```
+//!
+//! Every refusal is a value of [`PackFault`] or [`UnpackFault`], and the clauses of each call say exactly when it comes.
+#![tactic(auto)]
+
+mod fault;
+mod filling;
+mod gathers;
+mod lanes;
+mod pieces;
+mod putting;
+mod reading;
+mod runs;
+mod spreads;
+mod storing;
+mod stream;
+mod taking;
+mod writing;
+
+pub use fault::{PackFault, UnpackFault};
+pub use lanes::tag;
+pub use reading::unpack;
+pub use stream::Unpacker;
+pub use writing::pack;
+
+#[cfg(test)]
+mod tests;

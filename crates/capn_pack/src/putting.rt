@@ -1,0 +1,87 @@
+//! One group written behind others.
+ghost use Rattle.std.specs.Prelude.{◌≡◌, ◌+◌, ◌<◌, ◌≤◌, ◌∷◌, ◌++◌, length, take, drop, IfOk, OnOk};
+ghost use Rattle.capn_pack.specs.Tag.{tag_of, named_bytes};
+ghost use Rattle.capn_pack.specs.Steps.{Puts};
+
+use crate::lanes::{gather, tag};
+use crate::runs::{raw_run, word_at, zero_run};
+use std::alloc::{AllocError, Allocator};
+
+/// Appends the tag and the bytes that it names.
+#[inline(always)]
+fn push_named<A: Allocator>(word: &[u8; 8], tag: u8, out: &mut Vec<u8, A>) -> Result<(), AllocError>
+    ensures ok { OnOk result (out.new.items ≡ out.old.items ++ tag ∷ named_bytes tag word.now) }
+{
+    let end = out.len() + 1 + tag.count_ones() as usize;
+    out.extend_from_slice(&gather(*word, tag))?;
+    out.truncate(end);
+    Ok(())
+}
+
+/// A zero word, and as many more as come.
+#[inline(always)]
+fn put_zeros<A: Allocator>(
+    bytes: &[u8],
+    at: usize,
+    out: &mut Vec<u8, A>,
+) -> Result<usize, AllocError>
+    requires inside { at + 8 ≤ length bytes.now }
+    requires tag { tag_of (take 8 (drop at bytes.now)) ≡ 0 }
+    ensures { IfOk result (λ next. Puts bytes.now at next out.old.items out.new.items) }
+{
+    let more = zero_run(bytes, at + 8);
+    out.extend_from_slice(&[0, more as u8])?;
+    Ok(at + 8 + 8 * more)
+}
+
+/// A word without a zero byte, and as many dense words as come.
+#[inline(always)]
+fn put_raw<A: Allocator>(bytes: &[u8], at: usize, out: &mut Vec<u8, A>) -> Result<usize, AllocError>
+    requires inside { at + 8 ≤ length bytes.now }
+    requires tag { tag_of (take 8 (drop at bytes.now)) ≡ 255 }
+    ensures { IfOk result (λ next. Puts bytes.now at next out.old.items out.new.items) }
+{
+    let start = at + 8;
+    let more = raw_run(bytes, start);
+    let end = start + 8 * more;
+    out.reserve(10 + 8 * more)?;
+    out.extend_from_slice(&[255])?;
+    out.extend_from_slice(&bytes[at..start])?;
+    out.extend_from_slice(&[more as u8])?;
+    out.extend_from_slice(&bytes[start..end])?;
+    Ok(end)
+}
+
+/// A word of which some bytes are zero.
+#[inline(always)]
+fn put_named<A: Allocator>(
+    bytes: &[u8],
+    at: usize,
+    tag: u8,
+    out: &mut Vec<u8, A>,
+) -> Result<usize, AllocError>
+    requires inside { at + 8 ≤ length bytes.now }
+    requires tag { tag ≡ tag_of (take 8 (drop at bytes.now)) }
+    requires above { 0 < tag }
+    requires below { tag < 255 }
+    ensures { IfOk result (λ next. Puts bytes.now at next out.old.items out.new.items) }
+{
+    push_named(&word_at(bytes, at), tag, out)?;
+    Ok(at + 8)
+}
+
+/// Appends the group that the packer chooses for the words from there on, and answers where the next begins.
+pub(crate) fn put_group<A: Allocator>(
+    bytes: &[u8],
+    at: usize,
+    out: &mut Vec<u8, A>,
+) -> Result<usize, AllocError>
+    requires { at + 8 ≤ length bytes.now }
+    ensures { IfOk result (λ next. Puts bytes.now at next out.old.items out.new.items) }
+{
+    match tag(&word_at(bytes, at)) {
+        0 => put_zeros(bytes, at, out),
+        255 => put_raw(bytes, at, out),
+        tag => put_named(bytes, at, tag, out),
+    }
+}

@@ -1,0 +1,34 @@
+-- What a subcommand and the values of its options order (own).
+use Rattle.std.specs.Prelude.{ℕ, ◌≡◌, List, Option, Some, None, codes}
+use Rattle.std.specs.Str.Parse.{IsNumeral, digits_value, without_leading_plus}
+use Rattle.clap.specs.Words.{Row, Text, first_of, one_of}
+use Rattle.capn_tool.specs.Limits.{Bounds}
+use Rattle.capn_tool.specs.declared.canon.Form.{Form}
+use Rattle.capn_tool.specs.declared.canon.Form.TheVariants as forms
+use Rattle.capn_tool.specs.declared.orders.Command.{Command}
+use Rattle.capn_tool.specs.declared.orders.Command.TheVariants as commands
+
+-- how a form is named on the command line
+abbrev pub form_name : Form → Text
+form_name forms.Bare = codes "bare"
+
+-- the value of --form, given or usual, is the form's name
+abbrev pub FormIs : List Row → Form → Type 0
+FormIs rows form = first_of (codes "form") rows ≡ Some (form_name form)
+
+-- the value of the option, given or usual, is n in decimal digits
+abbrev pub NumberIs : List Row → Text → ℕ → Type 0
+NumberIs rows option n = (text : Text) × (one_of option rows ≡ Some text)
+    × IsNumeral 10 (without_leading_plus text) × (n ≡ digits_value 10 (without_leading_plus text))
+
+-- the values of the three number options are the numbers of the limits
+abbrev pub LimitsAre : List Row → Bounds → Type 0
+LimitsAre rows limits =
+    NumberIs rows (codes "message-words") limits.message_words
+    × NumberIs rows (codes "budget") limits.budget
+    × NumberIs rows (codes "depth") limits.depth
+
+-- the subcommand of this name, with these values, orders this
+abbrev pub Means : Option (Text × List Row) → Command → Type 0
+Means None command = ⊥
+Means (Some s) (commands.Canonical form limits) = (s.0 ≡ codes "canonical") × FormIs s.1 form × LimitsAre s.1 limits

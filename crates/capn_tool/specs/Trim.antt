@@ -1,0 +1,53 @@
+-- Values without trailing zero words and null slots (encoding page, "Canonicalization").
+use Rattle.std.specs.Prelude.{ℕ, ◌+◌, max, List, [], ◌∷◌, take, Bool, cond, ◌&&◌, ◌==◌}
+use Rattle.capn_tool.specs.Tree.{Tree, nil, node, voids, bits, bytes, pairs, quads, octs, links, rows, cap, Trees, no_trees, tree, Bodies, no_bodies, body, front, is_null}
+
+-- one more than what is kept behind, unless this is empty too
+abbrev pub kept_behind : Bool → ℕ → ℕ
+kept_behind empty n = cond (empty && (n == 0)) 0 (n + 1)
+
+-- the least length past which every word is 0
+abbrev pub kept_words : List ℕ → ℕ
+kept_words [] = 0
+kept_words (w ∷ ws) = kept_behind (w == 0) (kept_words ws)
+
+-- the least length past which every slot is null
+abbrev pub kept_slots : Trees → ℕ
+kept_slots no_trees = 0
+kept_slots (tree t ts) = kept_behind (is_null t) (kept_slots ts)
+
+-- the greatest over the rows of a list
+abbrev pub kept_words_of_rows : Bodies → ℕ
+kept_words_of_rows no_bodies = 0
+kept_words_of_rows (body ws ss bs) = max (kept_words ws) (kept_words_of_rows bs)
+
+-- the same of the slots
+abbrev pub kept_slots_of_rows : Bodies → ℕ
+kept_slots_of_rows no_bodies = 0
+kept_slots_of_rows (body ws ss bs) = max (kept_slots ss) (kept_slots_of_rows bs)
+
+-- every body cut to its kept lengths, at every level
+abbrev mutual
+  -- a value
+  pub trimmed : Tree → Tree
+  trimmed nil = nil
+  trimmed (node ws ss) = node (take (kept_words ws) ws) (front (kept_slots ss) (trimmed_each ss))
+  trimmed (voids n) = voids n
+  trimmed (bits xs) = bits xs
+  trimmed (bytes xs) = bytes xs
+  trimmed (pairs xs) = pairs xs
+  trimmed (quads xs) = quads xs
+  trimmed (octs xs) = octs xs
+  trimmed (links ts) = links (trimmed_each ts)
+  trimmed (rows bs) = rows (trimmed_rows (kept_words_of_rows bs) (kept_slots_of_rows bs) bs)
+  trimmed (cap k) = cap k
+
+  -- slots or elements
+  pub trimmed_each : Trees → Trees
+  trimmed_each no_trees = no_trees
+  trimmed_each (tree t ts) = tree (trimmed t) (trimmed_each ts)
+
+  -- rows, each to so many words and slots
+  pub trimmed_rows : ℕ → ℕ → Bodies → Bodies
+  trimmed_rows w s no_bodies = no_bodies
+  trimmed_rows w s (body ws ss bs) = body (take w ws) (front s (trimmed_each ss)) (trimmed_rows w s bs)

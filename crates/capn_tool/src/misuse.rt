@@ -1,0 +1,49 @@
+//! Words of the command line that order nothing.
+
+ghost use Rattle.std.specs.Prelude.{◌≡◌};
+ghost use Rattle.clap.specs.Words.{kind_of};
+ghost use Rattle.capn_tool.specs.Status.{usage_status_of};
+
+use clap::error::ErrorKind;
+use std::alloc::AllocError;
+use std::io::{self, Eprint, Print};
+
+/// Why the words of the command line order nothing: a wish for help, a mistake, or want of memory.
+#[derive(Drop)]
+pub struct Usage {
+    error: clap::Error,
+}
+
+impl Usage {
+    ghost use Rattle.capn_tool.specs.Misuse.{error_of};
+
+    /// The exit status: 3 for want of memory, 0 for a wish for help, 2 for any other.
+    pub fn status(&self) -> u8
+        ensures { result ≡ usage_status_of (kind_of (error_of self.now)) }
+    {
+        match self.error.kind() {
+            ErrorKind::OutOfMemory => 3,
+            ErrorKind::DisplayHelp | ErrorKind::DisplayVersion => 0,
+            _ => 2,
+        }
+    }
+
+    /// Prints the text for the user: help to standard output, any other to standard error.
+    pub fn print<R: Print + Eprint>(&self, rt: &R) -> io::Result<()> {
+        self.error.print(rt)
+    }
+}
+
+impl From<clap::Error> for Usage {
+    fn from(error: clap::Error) -> Usage {
+        Usage { error }
+    }
+}
+
+impl From<AllocError> for Usage {
+    fn from(error: AllocError) -> Usage {
+        Usage {
+            error: error.into(),
+        }
+    }
+}

@@ -1,0 +1,29 @@
+//! All of the output.
+
+ghost use Rattle.std.specs.Prelude.{◌≡◌, ◌↔◌, true, false, OnOk, IsErrOf, IsOkUnless};
+ghost use Rattle.std.specs.Io.KnownBytes.{Appends};
+ghost use Rattle.capn_words.specs.Watching.{inner_of, has_failed};
+ghost use Rattle.capn_tool.specs.Reading.{HasBegun};
+
+use crate::fault::ToolFault;
+use capn_words::watched::Watched;
+use std::io::Write;
+
+/// Writes all of the text, or a beginning of it where the writer fails.
+pub fn write_all<W: Write>(writer: &mut Watched<W>, text: &[u8]) -> Result<(), ToolFault>
+    requires { has_failed writer.old ≡ false }
+    ensures ok { OnOk result (Appends (W.contents (inner_of writer.old)) (W.contents (inner_of writer.new)) text.now) }
+    ensures begun { HasBegun (W.contents (inner_of writer.old)) (W.contents (inner_of writer.new)) text.now }
+    ensures io { IsErrOf result ToolFault.Io ↔ (has_failed writer.new ≡ true) }
+    ensures only { IsOkUnless result ToolFault.Io }
+{
+    let mut at = 0;
+    while at < text.len() {
+        match writer.write(&text[at..]) {
+            Err(_) => return Err(ToolFault::Io),
+            Ok(0) => return Err(ToolFault::Io),
+            Ok(count) => at += count,
+        }
+    }
+    Ok(())
+}

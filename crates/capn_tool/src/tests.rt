@@ -1,0 +1,6 @@
+//! Worked messages, texts and statuses, command lines, and readers and writers that fail.
+
+mod ends;
+mod lines;
+mod texts;
+mod vectors;

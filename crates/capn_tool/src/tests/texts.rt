@@ -1,0 +1,166 @@
+//! The line and the status of each fault.
+
+use crate::*;
+use capn_words::bare::BareFault;
+use capn_words::space::Place;
+use std::alloc::Global;
+use std::process::Abort;
+
+/// Expects the text of a fault and its status.
+fn expect_text(rt: &impl Abort, alloc: Global, fault: ToolFault, text: &str, code: u8) {
+    match fault_text(alloc, &fault) {
+        Ok(got) => assert_eq!(rt; got.as_bytes(), text.as_bytes()),
+        Err(_) => assert!(rt; false, "no memory"),
+    }
+    assert_eq!(rt; status(&Err(fault)), code);
+}
+
+/// Expects the text of a refusal of a walk.
+fn expect_stop(rt: &impl Abort, alloc: Global, fault: Fault, text: &str) {
+    let place = Place {
+        segment: 3,
+        word: 7,
+    };
+    let stopped = Stopped {
+        fault,
+        place,
+        paid: 128,
+        visits: 65,
+    };
+    expect_text(
+        rt,
+        alloc,
+        ToolFault::Refused(Refusal::Walk(stopped)),
+        text,
+        1,
+    );
+}
+
+/// Expects what the derived `Display` shows of a fault.
+fn expect_name(rt: &impl Abort, alloc: Global, fault: ToolFault, name: &str) {
+    match format!(in alloc; "{fault}") {
+        Ok(got) => assert_eq!(rt; got.as_bytes(), name.as_bytes()),
+        Err(_) => assert!(rt; false, "no memory"),
+    }
+}
+
+#[test]
+fn faults_of_a_run(rt: HostRuntime) {
+    assert_eq!(rt; status(&Ok(())), 0);
+    expect_text(&rt, rt.alloc(), ToolFault::Memory, "out of memory", 3);
+    expect_text(&rt, rt.alloc(), ToolFault::Io, "input or output failed", 3);
+    expect_text(
+        &rt,
+        rt.alloc(),
+        ToolFault::InputTooLong,
+        "input too long",
+        3,
+    );
+    expect_text(&rt, rt.alloc(), ToolFault::NotWhole(9), "NotWhole(9)", 1);
+    expect_text(&rt, rt.alloc(), ToolFault::NotYet, "not yet", 1);
+}
+
+#[test]
+fn refusals_of_bytes(rt: HostRuntime) {
+    let not_whole = Refusal::Bare(BareFault::NotWhole(9));
+    expect_text(
+        &rt,
+        rt.alloc(),
+        ToolFault::Refused(not_whole),
+        "bare: NotWhole(9)",
+        1,
+    );
+    let too_long = Refusal::Bare(BareFault::TooLong(268_435_458));
+    expect_text(
+        &rt,
+        rt.alloc(),
+        ToolFault::Refused(too_long),
+        "bare: TooLong(268435458)",
+        1,
+    );
+}
+
+#[test]
+fn refusals_of_a_walk(rt: HostRuntime) {
+    expect_stop(
+        &rt,
+        rt.alloc(),
+        Fault::NoRoot,
+        "NoRoot at 3:7, paid 128, visits 65",
+    );
+    expect_stop(
+        &rt,
+        rt.alloc(),
+        Fault::RootKind,
+        "RootKind at 3:7, paid 128, visits 65",
+    );
+    expect_stop(
+        &rt,
+        rt.alloc(),
+        Fault::Reserved,
+        "Reserved at 3:7, paid 128, visits 65",
+    );
+    expect_stop(
+        &rt,
+        rt.alloc(),
+        Fault::NoSegment,
+        "NoSegment at 3:7, paid 128, visits 65",
+    );
+    expect_stop(
+        &rt,
+        rt.alloc(),
+        Fault::PadRange,
+        "PadRange at 3:7, paid 128, visits 65",
+    );
+    expect_stop(
+        &rt,
+        rt.alloc(),
+        Fault::BadPad,
+        "BadPad at 3:7, paid 128, visits 65",
+    );
+    expect_stop(
+        &rt,
+        rt.alloc(),
+        Fault::Range,
+        "Range at 3:7, paid 128, visits 65",
+    );
+    expect_stop(
+        &rt,
+        rt.alloc(),
+        Fault::BadTag,
+        "BadTag at 3:7, paid 128, visits 65",
+    );
+    expect_stop(
+        &rt,
+        rt.alloc(),
+        Fault::TagOverrun,
+        "TagOverrun at 3:7, paid 128, visits 65",
+    );
+    expect_stop(
+        &rt,
+        rt.alloc(),
+        Fault::TooDeep,
+        "TooDeep at 3:7, paid 128, visits 65",
+    );
+    expect_stop(
+        &rt,
+        rt.alloc(),
+        Fault::OverBudget,
+        "OverBudget at 3:7, paid 128, visits 65",
+    );
+}
+
+#[test]
+fn a_fault_displays_its_name(rt: HostRuntime) {
+    expect_name(&rt, rt.alloc(), ToolFault::Memory, "Memory");
+    expect_name(&rt, rt.alloc(), ToolFault::Io, "Io");
+    expect_name(&rt, rt.alloc(), ToolFault::InputTooLong, "InputTooLong");
+    expect_name(&rt, rt.alloc(), ToolFault::NotWhole(9), "NotWhole");
+    expect_name(
+        &rt,
+        rt.alloc(),
+        ToolFault::Refused(Refusal::Bare(BareFault::NotWhole(9))),
+        "Refused",
+    );
+    expect_name(&rt, rt.alloc(), ToolFault::NotYet, "NotYet");
+}

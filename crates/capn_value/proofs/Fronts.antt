@@ -1,0 +1,65 @@
+-- The first so many trees.
+use Rattle.std.proofs.Common.{◌≡◌, ℕ, zero, suc, ◌+◌, ◌<◌, List, [], ◌∷◌, ◌++◌, length, min, refl, sym, ap, ap₂, ◌∙◌, arith, get_or, add-one}
+use Rattle.capn_value.specs.Tree.{Trees, no_trees, tree, joined, front, count, tree_at}
+use Rattle.capn_value.specs.View.{tree_of, trees_of}
+use Rattle.capn_value.specs.Views.{count-trees_of}
+use Rattle.capn_value.specs.Trim.{trimmed, trimmed_each}
+use Rattle.capn_value.specs.declared.value.Value.{Value}
+use Rattle.capn_value.proofs.Trimmed.{count-trimmed_each}
+
+-- one more
+pub front-suc : (i : ℕ) (ts : Trees) → i < count ts → front (suc i) ts ≡ joined (front i ts) (tree (tree_at ts i) no_trees)
+front-suc i no_trees h = absurd (omega arith)
+front-suc zero (tree t ts) h = refl
+front-suc (suc i) (tree t ts) h = ap (tree t) (front-suc i ts (omega arith))
+
+-- all of them, and no more
+pub front-count : (ts : Trees) → front (count ts) ts ≡ ts
+front-count no_trees = refl
+front-count (tree t ts) = ap (tree t) (front-count ts)
+
+pub front-min : (n : ℕ) (ts : Trees) → front (min n (count ts)) ts ≡ front n ts
+front-min zero ts = let e : min zero (count ts) ≡ zero = omega arith in rw e
+front-min (suc n) no_trees = let e : min (suc n) zero ≡ zero = omega arith in rw e
+front-min (suc n) (tree t ts) =
+    let e : min (suc n) (suc (count ts)) ≡ suc (min n (count ts)) = omega arith in rw e (ap (tree t) (front-min n ts))
+
+pub tree_at-trimmed_each : (i : ℕ) (ts : Trees) → tree_at (trimmed_each ts) i ≡ trimmed (tree_at ts i)
+tree_at-trimmed_each i no_trees = refl
+tree_at-trimmed_each zero (tree t ts) = refl
+tree_at-trimmed_each (suc i) (tree t ts) = tree_at-trimmed_each i ts
+
+module _ {A : Type 0} where
+  pub tree_at-trees_of : (i : ℕ) (vs : List (Value A)) (v : Value A) → i < length vs → v ≡ get_or vs i v → tree_at (trees_of vs) i ≡ tree_of v
+  tree_at-trees_of i [] v h e = absurd (omega arith)
+  tree_at-trees_of zero (w ∷ vs) v h e = ap tree_of (sym e)
+  tree_at-trees_of (suc i) (w ∷ vs) v h e = tree_at-trees_of i vs v (omega arith) e
+
+  pub trees_of-push : (vs : List (Value A)) (v : Value A) → trees_of (vs ++ v ∷ []) ≡ joined (trees_of vs) (tree (tree_of v) no_trees)
+  trees_of-push [] v = refl
+  trees_of-push (w ∷ vs) v = ap (tree (tree_of w)) (trees_of-push vs v)
+
+  pub front-length : (vs : List (Value A)) → front (length vs) (trees_of vs) ≡ trees_of vs
+  front-length vs = ap (λ n. front n (trees_of vs)) (sym (count-trees_of vs)) ∙ front-count (trees_of vs)
+
+  -- as many as there are
+  pub trimmed_front-length : (vs : List (Value A)) → front (length vs) (trimmed_each (trees_of vs)) ≡ trimmed_each (trees_of vs)
+  trimmed_front-length vs =
+      ap (λ n. front n (trimmed_each (trees_of vs))) (sym (count-trimmed_each (trees_of vs) ∙ count-trees_of vs)) ∙ front-count (trimmed_each (trees_of vs))
+
+  pub trimmed_front-min : (n : ℕ) (vs : List (Value A)) → front (min n (length vs)) (trimmed_each (trees_of vs)) ≡ front n (trimmed_each (trees_of vs))
+  trimmed_front-min n vs =
+      ap (λ k. front (min n k) (trimmed_each (trees_of vs))) (sym (count-trimmed_each (trees_of vs) ∙ count-trees_of vs))
+      ∙ front-min n (trimmed_each (trees_of vs))
+
+-- the next one, trimmed and put behind the others
+pub trimmed_front-push : {A B : Type 0} (out : List (Value A)) (items : List (Value B)) (i : ℕ) (v : Value B) (r : Value A) →
+    trees_of out ≡ front i (trimmed_each (trees_of items)) → i < length items → v ≡ get_or items i v → tree_of r ≡ trimmed (tree_of v) →
+    trees_of (out ++ r ∷ []) ≡ front (i + 1) (trimmed_each (trees_of items))
+trimmed_front-push out items i v r so_far within here done =
+    let all = trimmed_each (trees_of items) in
+    let next : tree_of r ≡ tree_at all i =
+    done ∙ ap trimmed (sym (tree_at-trees_of i items v within here)) ∙ sym (tree_at-trimmed_each i (trees_of items)) in
+    rw add-one
+    (trees_of-push out r ∙ ap₂ (λ ts t. joined ts (tree t no_trees)) so_far next
+    ∙ sym (front-suc i all (omega (arith, count-trimmed_each (trees_of items), count-trees_of items))))

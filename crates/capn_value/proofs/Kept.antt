@@ -1,0 +1,39 @@
+-- How many words and slots are kept of a front, one shorter at a time.
+use Rattle.std.proofs.Common.{◌≡◌, ◌≢◌, ℕ, zero, suc, ◌<◌, List, [], ◌∷◌, length, take, arith, ap, ◌∙◌, Bool, true, false}
+use Rattle.std.proofs.lemmas.Bool.Decides.{nat_tests}
+use Rattle.std.specs.Prelude.{◌==◌, slice_index}
+use Rattle.capn_value.specs.Tree.{Trees, no_trees, tree, front, count, tree_at, is_null}
+use Rattle.capn_value.specs.Trim.{kept_behind, kept_words, kept_slots}
+
+behind_none : (b : Bool) → b ≡ true → kept_behind b 0 ≡ 0
+behind_none b e = rw e
+
+behind_one : (b : Bool) → b ≡ false → kept_behind b 0 ≡ 1
+behind_one b e = rw e
+
+behind_more : (b : Bool) (m : ℕ) → kept_behind b (suc m) ≡ suc (suc m)
+behind_more b m = grind (arith, nat_tests)
+
+-- a zero at the end is not kept
+pub kept_words-zero : (m : ℕ) (ws : List ℕ) → m < length ws → slice_index ws m ≡ 0 → kept_words (take (suc m) ws) ≡ kept_words (take m ws)
+kept_words-zero m [] h e = absurd (omega arith)
+kept_words-zero zero (w ∷ ws) h e = behind_none (w == 0) (rw e)
+kept_words-zero (suc m) (w ∷ ws) h e = ap (kept_behind (w == 0)) (kept_words-zero m ws (omega arith) e)
+
+-- and all is kept up to another number
+pub kept_words-some : (m : ℕ) (ws : List ℕ) → m < length ws → slice_index ws m ≢ 0 → kept_words (take (suc m) ws) ≡ suc m
+kept_words-some m [] h n = absurd (omega arith)
+kept_words-some zero (w ∷ ws) h n = grind (arith, nat_tests)
+kept_words-some (suc m) (w ∷ ws) h n = ap (kept_behind (w == 0)) (kept_words-some m ws (omega arith) n) ∙ behind_more (w == 0) m
+
+pub kept_slots-null : (m : ℕ) (ss : Trees) → m < count ss → is_null (tree_at ss m) ≡ true → kept_slots (front (suc m) ss) ≡ kept_slots (front m ss)
+kept_slots-null m no_trees h e = absurd (omega arith)
+kept_slots-null zero (tree s ss) h e = behind_none (is_null s) e
+kept_slots-null (suc m) (tree s ss) h e = ap (kept_behind (is_null s)) (kept_slots-null m ss (omega arith) e)
+
+pub kept_slots-some : (m : ℕ) (ss : Trees) → m < count ss → is_null (tree_at ss m) ≡ false → kept_slots (front (suc m) ss) ≡ suc m
+kept_slots-some m no_trees h e = absurd (omega arith)
+kept_slots-some zero (tree s ss) h e = behind_one (is_null s) e
+kept_slots-some (suc m) (tree s ss) h e = ap (kept_behind (is_null s)) (kept_slots-some m ss (omega arith) e) ∙ behind_more (is_null s) m
+
+pub ruleset kept = (kept_words-zero, kept_words-some, kept_slots-null, kept_slots-some)

@@ -1,0 +1,18 @@
+use Rattle.capn_value.proofs.Fitting.{fit_parts, fit_from}
+use Rattle.capn_value.proofs.OnceTrimmed.{same-trimmed}
+use Rattle.capn_value.proofs.StaysFit.{fits-trimmed}
+use Rattle.capn_value.proofs.Trimmed.{cost-trimmed, height-trimmed}
+use Rattle.capn_value.proofs.SameTrimmed.{same_exactly_trimmed}
+use Rattle.capn_value.proofs.law.laws.Goals as goal
+
+pub returns-clause-same : goal.returns-clause-same
+returns-clause-same c t u p q = same_exactly_trimmed t u (fit_parts t p).even (fit_parts u q).even
+
+pub returns-clause-thrifty : goal.returns-clause-thrifty
+returns-clause-thrifty c t p = (λ each. cost-trimmed each t (fit_parts t p).even, height-trimmed t, fits-trimmed t p)
+
+pub returns-clause-kept : goal.returns-clause-kept
+returns-clause-kept c t = same-trimmed t
+
+pub returns-clause-fitting : goal.returns-clause-fitting
+returns-clause-fitting c t = (fit_parts t, fit_from t)

@@ -1,0 +1,106 @@
+-- Which values fit into a message, and the first reason why one doesn't. The greatest sizes are those that the
+-- pointers of the encoding page ("Structs", "Lists") can count; the bounds on cost and height are own.
+use Rattle.std.specs.Prelude.{ℕ, ◌≡◌, ◌≤◌, ◌^◌, Bool, true, false, cond, ◌||◌, ◌&&◌, not, nat_lt, ◌==◌, length, Option, Some, None, List}
+use Rattle.capn_value.specs.Tree.{Tree, nil, node, voids, bits, bytes, pairs, quads, octs, links, rows, cap, Trees, no_trees, tree, Bodies, no_bodies, body, count, count_rows, row_words}
+use Rattle.capn_value.specs.Sizes.{height, cost}
+use Rattle.capn_value.specs.declared.misfit.Misfit.{Misfit}
+use Rattle.capn_value.specs.declared.misfit.Misfit.TheVariants.{Wide, Long, Ragged, Costly, Tall, BadRoot}
+
+-- whether a test holds of the value, or of one below it
+module _ (test : Tree → Bool) where
+  abbrev mutual
+    pub anywhere : Tree → Bool
+    anywhere (node ws ss) = test (node ws ss) || anywhere_in ss
+    anywhere (links ts) = test (links ts) || anywhere_in ts
+    anywhere (rows bs) = test (rows bs) || anywhere_in_rows bs
+    anywhere nil = test nil
+    anywhere (voids n) = test (voids n)
+    anywhere (bits xs) = test (bits xs)
+    anywhere (bytes xs) = test (bytes xs)
+    anywhere (pairs xs) = test (pairs xs)
+    anywhere (quads xs) = test (quads xs)
+    anywhere (octs xs) = test (octs xs)
+    anywhere (cap k) = test (cap k)
+
+    pub anywhere_in : Trees → Bool
+    anywhere_in no_trees = false
+    anywhere_in (tree t ts) = anywhere t || anywhere_in ts
+
+    pub anywhere_in_rows : Bodies → Bool
+    anywhere_in_rows no_bodies = false
+    anywhere_in_rows (body ws ss bs) = anywhere_in ss || anywhere_in_rows bs
+
+-- a body of more than 65,535 words or slots
+abbrev pub is_wide_body : List ℕ → Trees → Bool
+is_wide_body ws ss = nat_lt 65535 (length ws) || nat_lt 65535 (count ss)
+
+-- one of the rows is such a body
+abbrev pub has_wide_row : Bodies → Bool
+has_wide_row no_bodies = false
+has_wide_row (body ws ss bs) = is_wide_body ws ss || has_wide_row bs
+
+-- a struct that is too wide, or a list of structs with one
+abbrev pub is_wide : Tree → Bool
+is_wide (node ws ss) = is_wide_body ws ss
+is_wide (rows bs) = has_wide_row bs
+is_wide _ = false
+
+-- how many elements a list has
+abbrev pub elements : Tree → ℕ
+elements (voids n) = n
+elements (bits xs) = length xs
+elements (bytes xs) = length xs
+elements (pairs xs) = length xs
+elements (quads xs) = length xs
+elements (octs xs) = length xs
+elements (links ts) = count ts
+elements (rows bs) = count_rows bs
+elements _ = 0
+
+-- how many words the rows of a list have together, data words and slots
+abbrev pub words_in_rows : Tree → ℕ
+words_in_rows (rows bs) = row_words bs
+words_in_rows _ = 0
+
+-- more than 2^29 - 1 elements, or words in rows
+abbrev pub is_long : Tree → Bool
+is_long t = nat_lt 536870911 (elements t) || nat_lt 536870911 (words_in_rows t)
+
+-- every row has w words and s slots
+abbrev pub are_even : ℕ → ℕ → Bodies → Bool
+are_even w s no_bodies = true
+are_even w s (body ws ss bs) = (length ws == w) && (count ss == s) && are_even w s bs
+
+-- two rows of the list differ in words or slots
+abbrev pub is_ragged : Tree → Bool
+is_ragged (rows (body ws ss bs)) = not (are_even (length ws) (count ss) bs)
+is_ragged _ = false
+
+-- a message's root is null or a struct
+abbrev pub is_root : Tree → Bool
+is_root nil = true
+is_root (node ws ss) = true
+is_root _ = false
+
+-- the first of the six that holds, each looked for in the whole value before the next
+unfoldable pub misfit : Tree → Option Misfit
+misfit t =
+    cond (anywhere is_wide t) (Some Wide)
+    (cond (anywhere is_long t) (Some Long)
+    (cond (anywhere is_ragged t) (Some Ragged)
+    (cond (nat_lt 268435456 (cost 1 t)) (Some Costly)
+    (cond (nat_lt 256 (height t)) (Some Tall)
+    (cond (is_root t) None (Some BadRoot))))))
+
+-- none of the six holds
+unfoldable pub Fits : Tree → Type 0
+Fits t = misfit t ≡ None
+
+-- the six facts of a value that fits, in the order of the misfits
+pub record IsFit (t : Tree) : Type 0 where
+  pub narrow : anywhere is_wide t ≡ false
+  pub short : anywhere is_long t ≡ false
+  pub even : anywhere is_ragged t ≡ false
+  pub cheap : cost 1 t ≤ 2 ^ 28
+  pub low : height t ≤ 256
+  pub root : is_root t ≡ true

@@ -1,0 +1,23 @@
+-- What holds of the definitions, whatever the code does (own).
+use Rattle.std.specs.Prelude.{◌≡◌, ◌≤◌, ◌↔◌, ℕ}
+use Rattle.capn_value.specs.Tree.{Tree}
+use Rattle.capn_value.specs.Same.{Same}
+use Rattle.capn_value.specs.Trim.{trimmed}
+use Rattle.capn_value.specs.Fits.{Fits, IsFit}
+use Rattle.capn_value.specs.Sizes.{cost, height}
+
+-- values that fit are the same exactly if they are equal once trimmed
+abbrev pub SameExactlyTrimmed : Type 0
+SameExactlyTrimmed = (t u : Tree) → Fits t → Fits u → Same t u ↔ (trimmed t ≡ trimmed u)
+
+-- a value is the same once trimmed
+abbrev pub SameOnceTrimmed : Type 0
+SameOnceTrimmed = (t : Tree) → Same (trimmed t) t
+
+-- trimming raises neither cost, under either tariff, nor height, and keeps a value fit
+abbrev pub TrimmingIsThrifty : Type 0
+TrimmingIsThrifty = (t : Tree) → Fits t → ((each : ℕ) → cost each (trimmed t) ≤ cost each t) × (height (trimmed t) ≤ height t) × Fits (trimmed t)
+
+-- to have no misfit is to have the six facts
+abbrev pub FittingIsSixFacts : Type 0
+FittingIsSixFacts = (t : Tree) → Fits t ↔ IsFit t

@@ -1,0 +1,14 @@
+pub mod formers
+pub mod Tree
+pub mod View
+pub mod Views
+pub mod Code
+pub mod Sizes
+pub mod Fits
+pub mod Same
+pub mod SameTest
+pub mod Trim
+pub mod Laws
+pub mod Text
+pub mod Caps
+pub mod InRange

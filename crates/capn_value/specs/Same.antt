@@ -1,0 +1,46 @@
+-- When two values are the same, up to trailing zero words and trailing null slots of structs (encoding page: "Canonicalization").
+use Rattle.std.specs.Prelude.{ℕ, ◌≡◌, List, ⊤, slice_index}
+use Rattle.capn_value.specs.Tree.{Tree, nil, node, voids, bits, bytes, pairs, quads, octs, links, rows, cap, Trees, no_trees, tree, Bodies, no_bodies, body}
+
+-- word i is equal, 0 past the end
+abbrev pub SameWords : List ℕ → List ℕ → Type 0
+SameWords ws vs = (i : ℕ) → slice_index ws i ≡ slice_index vs i
+
+-- no slot holds anything
+abbrev pub AllNull : Trees → Type 0
+AllNull no_trees = ⊤
+AllNull (tree t ts) = (t ≡ nil) × AllNull ts
+
+-- of one kind, and equal but for zero words and null slots past a struct's end
+abbrev mutual
+  pub Same : Tree → Tree → Type 0
+  Same nil nil = ⊤
+  Same (node ws ss) (node vs ts) = SameWords ws vs × SameSlots ss ts
+  Same (voids m) (voids n) = m ≡ n
+  Same (bits xs) (bits ys) = xs ≡ ys
+  Same (bytes xs) (bytes ys) = xs ≡ ys
+  Same (pairs xs) (pairs ys) = xs ≡ ys
+  Same (quads xs) (quads ys) = xs ≡ ys
+  Same (octs xs) (octs ys) = xs ≡ ys
+  Same (links ss) (links ts) = SameEach ss ts
+  Same (rows bs) (rows cs) = SameRows bs cs
+  Same (cap j) (cap k) = j ≡ k
+  Same _ _ = ⊥
+
+  -- slot i is the same, null past the end
+  pub SameSlots : Trees → Trees → Type 0
+  SameSlots no_trees ts = AllNull ts
+  SameSlots (tree s ss) no_trees = (s ≡ nil) × SameSlots ss no_trees
+  SameSlots (tree s ss) (tree t ts) = Same s t × SameSlots ss ts
+
+  -- as many, and each the same
+  pub SameEach : Trees → Trees → Type 0
+  SameEach no_trees no_trees = ⊤
+  SameEach (tree s ss) (tree t ts) = Same s t × SameEach ss ts
+  SameEach _ _ = ⊥
+
+  -- as many rows, and each the same whatever its size
+  pub SameRows : Bodies → Bodies → Type 0
+  SameRows no_bodies no_bodies = ⊤
+  SameRows (body ws ss bs) (body vs ts cs) = SameWords ws vs × SameSlots ss ts × SameRows bs cs
+  SameRows _ _ = ⊥

@@ -1,0 +1,56 @@
+-- Height and cost: how deep a reader goes, and what it pays (own, after the encoding page's "Security Considerations").
+use Rattle.std.specs.Prelude.{ℕ, ◌+◌, ◌==◌, max, length, cond}
+use Rattle.std.specs.Int.{div_ceil}
+use Rattle.capn_value.specs.Tree.{Tree, nil, node, voids, bits, bytes, pairs, quads, octs, links, rows, cap, Trees, no_trees, tree, Bodies, no_bodies, body, count, count_rows, row_words}
+
+-- 0 for null and a capability, else 1 plus the greatest height of a slot, a slot of a row, or an element
+abbrev mutual
+  pub height : Tree → ℕ
+  height nil = 0
+  height (cap k) = 0
+  height (node ws slots) = 1 + greatest slots
+  height (links ts) = 1 + greatest ts
+  height (rows bs) = 1 + greatest_in_rows bs
+  height (voids n) = 1
+  height (bits xs) = 1
+  height (bytes xs) = 1
+  height (pairs xs) = 1
+  height (quads xs) = 1
+  height (octs xs) = 1
+
+  pub greatest : Trees → ℕ
+  greatest no_trees = 0
+  greatest (tree t ts) = max (height t) (greatest ts)
+
+  pub greatest_in_rows : Bodies → ℕ
+  greatest_in_rows no_bodies = 0
+  greatest_in_rows (body ws slots bs) = max (greatest slots) (greatest_in_rows bs)
+
+-- what a composite list costs beside its pointer and its tag: its words, or one for each row where rows have none
+unfoldable pub rows_price : Bodies → ℕ
+rows_price bs = cond (row_words bs == 0) (count_rows bs) (row_words bs)
+
+-- The prices of all content of a value. Each content costs `each` beside its size: 1 under the strict tariff,
+-- which is the one that counts, 0 under a plain one.
+module _ (each : ℕ) where
+  abbrev mutual
+    pub cost : Tree → ℕ
+    cost nil = 0
+    cost (cap k) = 0
+    cost (node ws slots) = each + length ws + count slots + costs slots
+    cost (voids n) = each + n
+    cost (bits xs) = each + div_ceil (length xs) 64
+    cost (bytes xs) = each + div_ceil (length xs) 8
+    cost (pairs xs) = each + div_ceil (length xs) 4
+    cost (quads xs) = each + div_ceil (length xs) 2
+    cost (octs xs) = each + length xs
+    cost (links ts) = each + count ts + costs ts
+    cost (rows bs) = each + 1 + rows_price bs + costs_in_rows bs
+
+    pub costs : Trees → ℕ
+    costs no_trees = 0
+    costs (tree t ts) = cost t + costs ts
+
+    pub costs_in_rows : Bodies → ℕ
+    costs_in_rows no_bodies = 0
+    costs_in_rows (body ws slots bs) = costs slots + costs_in_rows bs

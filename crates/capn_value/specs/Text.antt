@@ -1,0 +1,74 @@
+-- The text of a tree (own). Every line is indented by two spaces for each level and ends with a newline.
+use Rattle.std.specs.Prelude.{ℕ, zero, suc, ◌+◌, ◌*◌, List, [], ◌∷◌, ◌++◌, length, codes, replicate, Bool, true, false}
+use Rattle.std.specs.Fmt.{decimal}
+use Rattle.std.specs.Int.{to_be_bytes, w64}
+use Rattle.hex.specs.Hex.{encode_lower}
+use Rattle.capn_value.specs.Tree.{Tree, nil, node, voids, bits, bytes, pairs, quads, octs, links, rows, cap, Trees, no_trees, tree, Bodies, no_bodies, body, count, count_rows}
+
+-- one line
+unfoldable pub line : ℕ → List ℕ → List ℕ
+line level text = replicate (2 * level) 32 ++ (text ++ 10 ∷ [])
+
+-- a word, a space and a number
+abbrev pub named : List ℕ → ℕ → List ℕ
+named name n = name ++ 32 ∷ decimal n
+
+-- 16 lower-case hexadecimal digits
+abbrev pub hex16 : ℕ → List ℕ
+hex16 n = encode_lower (to_be_bytes w64 n)
+
+-- 1 for a bit that is set, else 0
+abbrev pub digit : Bool → ℕ
+digit true = 49
+digit false = 48
+
+-- a digit for each bit, the first element first
+abbrev pub digits_of : List Bool → List ℕ
+digits_of [] = []
+digits_of (b ∷ bs) = digit b ∷ digits_of bs
+
+-- one line, unless the list is empty
+abbrev pub one_line : ℕ → ℕ → List ℕ → List ℕ
+one_line level zero text = []
+one_line level (suc n) text = line level text
+
+-- a line for each data word
+abbrev pub word_lines : ℕ → List ℕ → List ℕ
+word_lines level [] = []
+word_lines level (w ∷ ws) = line level (codes "word " ++ hex16 w) ++ word_lines level ws
+
+-- a line for each number
+abbrev pub number_lines : ℕ → List ℕ → List ℕ
+number_lines level [] = []
+number_lines level (n ∷ ns) = line level (decimal n) ++ number_lines level ns
+
+-- the first line of a struct
+abbrev pub body_line : ℕ → ℕ → ℕ → List ℕ
+body_line level w s = line level (codes "struct " ++ (decimal w ++ 32 ∷ decimal s))
+
+-- a first line that tells kind and size, then what it holds one level deeper
+abbrev mutual
+  pub shown : ℕ → Tree → List ℕ
+  shown level nil = line level (codes "null")
+  shown level (node ws ss) = body_line level (length ws) (count ss) ++ (word_lines (level + 1) ws ++ shown_each (level + 1) ss)
+  shown level (voids n) = line level (named (codes "void") n)
+  shown level (bits xs) = line level (named (codes "bits") (length xs)) ++ one_line (level + 1) (length xs) (digits_of xs)
+  shown level (bytes xs) = line level (named (codes "bytes") (length xs)) ++ one_line (level + 1) (length xs) (encode_lower xs)
+  shown level (pairs xs) = line level (named (codes "u16") (length xs)) ++ number_lines (level + 1) xs
+  shown level (quads xs) = line level (named (codes "u32") (length xs)) ++ number_lines (level + 1) xs
+  shown level (octs xs) = line level (named (codes "u64") (length xs)) ++ number_lines (level + 1) xs
+  shown level (links ts) = line level (named (codes "pointers") (count ts)) ++ shown_each (level + 1) ts
+  shown level (rows bs) = line level (named (codes "rows") (count_rows bs)) ++ shown_rows (level + 1) bs
+  shown level (cap k) = line level (named (codes "capability") k)
+
+  pub shown_each : ℕ → Trees → List ℕ
+  shown_each level no_trees = []
+  shown_each level (tree t ts) = shown level t ++ shown_each level ts
+
+  pub shown_rows : ℕ → Bodies → List ℕ
+  shown_rows level no_bodies = []
+  shown_rows level (body ws ss bs) = body_line level (length ws) (count ss) ++ (word_lines (level + 1) ws ++ (shown_each (level + 1) ss ++ shown_rows level bs))
+
+-- the root has level 0
+abbrev pub show_text : Tree → List ℕ
+show_text t = shown 0 t

@@ -1,0 +1,69 @@
+-- Values as mathematical trees: no capacity, no address, no allocator (encoding page: "Structs", "Lists", "Capabilities").
+use Rattle.std.specs.Prelude.{ℕ, zero, suc, ◌+◌, List, Bool, true, false, length}
+
+-- what a pointer denotes: null, a struct by its data words and slots, a list of one of eight kinds, or a capability by its index
+mutual
+  pub data Tree : Type 0 where
+    nil : Tree
+    node : List ℕ → Trees → Tree
+    voids : ℕ → Tree
+    bits : List Bool → Tree
+    bytes : List ℕ → Tree
+    pairs : List ℕ → Tree
+    quads : List ℕ → Tree
+    octs : List ℕ → Tree
+    links : Trees → Tree
+    rows : Bodies → Tree
+    cap : ℕ → Tree
+
+  -- the slots of a struct, or the elements of a list of pointers
+  pub data Trees : Type 0 where
+    no_trees : Trees
+    tree : Tree → Trees → Trees
+
+  -- the structs of a struct list, each by its words and its slots
+  pub data Bodies : Type 0 where
+    no_bodies : Bodies
+    body : List ℕ → Trees → Bodies → Bodies
+
+-- how many there are
+abbrev pub count : Trees → ℕ
+count no_trees = 0
+count (tree t ts) = suc (count ts)
+
+-- the tree at a place, null past the end
+abbrev pub tree_at : Trees → ℕ → Tree
+tree_at no_trees i = nil
+tree_at (tree t ts) zero = t
+tree_at (tree t ts) (suc i) = tree_at ts i
+
+-- the first n
+abbrev pub front : ℕ → Trees → Trees
+front zero ts = no_trees
+front (suc n) no_trees = no_trees
+front (suc n) (tree t ts) = tree t (front n ts)
+
+-- how many rows there are
+abbrev pub count_rows : Bodies → ℕ
+count_rows no_bodies = 0
+count_rows (body ws ss bs) = suc (count_rows bs)
+
+-- the words of all rows together, data words and slots
+abbrev pub row_words : Bodies → ℕ
+row_words no_bodies = 0
+row_words (body ws ss bs) = length ws + count ss + row_words bs
+
+-- whether it is null
+abbrev pub is_null : Tree → Bool
+is_null nil = true
+is_null _ = false
+
+-- the first, then the second
+abbrev pub joined : Trees → Trees → Trees
+joined no_trees us = us
+joined (tree t ts) us = tree t (joined ts us)
+
+-- the same for rows
+abbrev pub joined_rows : Bodies → Bodies → Bodies
+joined_rows no_bodies cs = cs
+joined_rows (body ws ss bs) cs = body ws ss (joined_rows bs cs)

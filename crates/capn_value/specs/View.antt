@@ -1,0 +1,53 @@
+-- The tree that a `Value` stands for: the bridge from the declared type to the mathematical one.
+use Rattle.std.specs.Prelude.{ℕ, List, [], ◌∷◌, map}
+use Rattle.capn_value.specs.Tree.{Tree, nil, node, voids, bits, bytes, pairs, quads, octs, links, rows, cap, Trees, no_trees, tree, Bodies, no_bodies, body}
+use Rattle.capn_value.specs.declared.value.Value.{Value, fold-Value}
+use Rattle.capn_value.specs.declared.value.Body.{Body}
+use Rattle.capn_value.specs.declared.value.Value.TheOpen.{Value-F, Body-F}
+
+-- a list of trees as `Trees`
+abbrev pub trees : List Tree → Trees
+trees [] = no_trees
+trees (t ∷ ts) = tree t (trees ts)
+
+-- a list of words and slots as `Bodies`
+abbrev pub rows_from : List (List ℕ × Trees) → Bodies
+rows_from [] = no_bodies
+rows_from (b ∷ bs) = body b.0 b.1 (rows_from bs)
+
+module _ {A : Type 0} where
+  -- one level, with each value inside already seen as its tree
+  abbrev pub value_step : Value-F A Tree (List ℕ × Trees) → Tree
+  value_step Value-F.Nil = nil
+  value_step (Value-F.Node b) = node b.0 b.1
+  value_step (Value-F.Voids n) = voids n
+  value_step (Value-F.Bits xs) = bits xs
+  value_step (Value-F.Bytes xs) = bytes xs
+  value_step (Value-F.Pairs xs) = pairs xs
+  value_step (Value-F.Quads xs) = quads xs
+  value_step (Value-F.Octs xs) = octs xs
+  value_step (Value-F.Links ts) = links (trees ts)
+  value_step (Value-F.Rows bs) = rows (rows_from bs)
+  value_step (Value-F.Cap k) = cap k
+
+  -- the same of a body
+  abbrev pub body_step : Body-F A Tree (List ℕ × Trees) → List ℕ × Trees
+  body_step b = (b.words, trees b.slots)
+
+  -- what a value stands for
+  unfoldable pub tree_of : Value A → Tree
+  tree_of = fold-Value A Tree (List ℕ × Trees) value_step body_step
+
+  -- what a body stands for
+  abbrev pub body_of : Body A → List ℕ × Trees
+  body_of b = (b.words, trees (map tree_of b.slots))
+
+  -- what a list of values stands for
+  abbrev pub trees_of : List (Value A) → Trees
+  trees_of [] = no_trees
+  trees_of (v ∷ vs) = tree (tree_of v) (trees_of vs)
+
+  -- what a list of bodies stands for
+  abbrev pub rows_of : List (Body A) → Bodies
+  rows_of [] = no_bodies
+  rows_of (b ∷ bs) = body b.words (trees_of b.slots) (rows_of bs)

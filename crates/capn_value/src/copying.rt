@@ -1,0 +1,87 @@
+//! Copying a value into memory of its own.
+
+ghost use Rattle.std.specs.Prelude.{◌≡◌, IfOk};
+ghost use Rattle.capn_value.specs.View.{tree_of, trees_of, rows_of};
+
+use crate::items::Items;
+use crate::memory::Memory;
+use crate::value::{Body, Value};
+use std::alloc::Allocator;
+
+/// A list of plain elements, copied as a whole.
+pub fn copied<T: Copy, A: Allocator, B: Allocator>(
+    alloc: A,
+    items: &Items<T, B>,
+) -> Result<Items<T, A>, Memory>
+    ensures { IfOk result (λ it. it ≡ items.now) }
+{
+    Ok(Items::from_slice(alloc, items.as_slice())?)
+}
+
+/// The same value, over another allocator.
+#[cycle(copy)]
+#[tactic(auto, using(std::proofs::lemmas::Grind::common_steps, crate::specs::Views::views, crate::proofs::Joined::joins))]
+pub fn copy_of<A: Allocator + Copy, B: Allocator>(
+    alloc: A,
+    v: &Value<B>,
+) -> Result<Value<A>, Memory>
+    ensures { IfOk result (λ r. tree_of r ≡ tree_of v.now) }
+{
+    match v {
+        Value::Nil => Ok(Value::Nil),
+        Value::Node(body) => Ok(Value::Node(copy_of_body(alloc, body)?)),
+        Value::Voids(n) => Ok(Value::Voids(*n)),
+        Value::Bits(xs) => Ok(Value::Bits(copied(alloc, xs)?)),
+        Value::Bytes(xs) => Ok(Value::Bytes(copied(alloc, xs)?)),
+        Value::Pairs(xs) => Ok(Value::Pairs(copied(alloc, xs)?)),
+        Value::Quads(xs) => Ok(Value::Quads(copied(alloc, xs)?)),
+        Value::Octs(xs) => Ok(Value::Octs(copied(alloc, xs)?)),
+        Value::Links(items) => Ok(Value::Links(copy_of_each(alloc, items.as_slice())?)),
+        Value::Rows(rows) => Ok(Value::Rows(copy_of_rows(alloc, rows.as_slice())?)),
+        Value::Cap(k) => Ok(Value::Cap(*k)),
+    }
+}
+
+#[cycle(copy)]
+#[tactic(auto, using(std::proofs::lemmas::Grind::common_steps, crate::specs::Views::views, crate::proofs::Joined::joins))]
+fn copy_of_body<A: Allocator + Copy, B: Allocator>(
+    alloc: A,
+    body: &Body<B>,
+) -> Result<Body<A>, Memory>
+    ensures words { IfOk result (λ r. r.words ≡ body.now.words) }
+    ensures slots { IfOk result (λ r. trees_of r.slots ≡ trees_of body.now.slots) }
+{
+    let words = copied(alloc, &body.words)?;
+    let slots = copy_of_each(alloc, body.slots.as_slice())?;
+    Ok(Body { words, slots })
+}
+
+#[cycle(copy)]
+#[tactic(auto, using(std::proofs::lemmas::Grind::common_steps, crate::specs::Views::views, crate::proofs::Joined::joins))]
+fn copy_of_each<A: Allocator + Copy, B: Allocator>(
+    alloc: A,
+    items: &[Value<B>],
+) -> Result<Items<Value<A>, A>, Memory>
+    ensures { IfOk result (λ r. trees_of r ≡ trees_of items.now) }
+{
+    let mut out = Items::with_capacity(alloc, items.len())?;
+    for v in items {
+        out.push(copy_of(alloc, v)?)?;
+    }
+    Ok(out)
+}
+
+#[cycle(copy)]
+#[tactic(auto, using(std::proofs::lemmas::Grind::common_steps, crate::specs::Views::views, crate::proofs::Joined::joins))]
+fn copy_of_rows<A: Allocator + Copy, B: Allocator>(
+    alloc: A,
+    rows: &[Body<B>],
+) -> Result<Items<Body<A>, A>, Memory>
+    ensures { IfOk result (λ r. rows_of r ≡ rows_of rows.now) }
+{
+    let mut out = Items::with_capacity(alloc, rows.len())?;
+    for row in rows {
+        out.push(copy_of_body(alloc, row)?)?;
+    }
+    Ok(out)
+}

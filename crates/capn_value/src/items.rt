@@ -1,0 +1,100 @@
+//! The field type of a value's lists.
+
+ghost use Rattle.std.specs.Prelude.{◌≡◌, [], ◌∷◌, ◌++◌, ◌↔◌, IsTrue, length, IfOk, OnOk, OnErr};
+
+use std::alloc::{AllocError, Allocator, Global};
+use std::marker::Model;
+
+/// A list of elements, which contracts see as just that: no capacity and no address.
+///
+/// It is made from a `Vec` and gives it back without taking memory.
+#[derive(Drop)]
+pub struct Items<T, A: Allocator = Global> {
+    items: Vec<T, A>,
+}
+
+impl<T, A: Allocator> Model for Items<T, A> {
+    ghost use Rattle.std.specs.Prelude.{List};
+    ghost use Rattle.std.specs.Coded.{coded_list};
+
+    ghost Value = { List T };
+
+    ghost coded = { coded_list T.code };
+
+    ghost view = { λ it. it.items.items };
+}
+
+impl<T, A: Allocator> Items<T, A> {
+    /// No elements. Takes no memory.
+    pub fn new(alloc: A) -> Items<T, A>
+        ensures { result ≡ [] }
+    {
+        Items {
+            items: Vec::new(alloc),
+        }
+    }
+
+    /// No elements, with room for so many.
+    pub fn with_capacity(alloc: A, capacity: usize) -> Result<Items<T, A>, AllocError>
+        ensures { IfOk result (λ it. it ≡ []) }
+    {
+        let items = Vec::with_capacity(alloc, capacity)?;
+        Ok(Items { items })
+    }
+
+    /// The elements of a `Vec`. Takes no memory.
+    pub fn from_vec(items: Vec<T, A>) -> Items<T, A>
+        ensures { result ≡ items.items }
+    {
+        Items { items }
+    }
+
+    /// The `Vec` back. Takes no memory.
+    pub fn into_vec(self) -> Vec<T, A>
+        ensures { result.items ≡ self }
+    {
+        self.items
+    }
+
+    /// The elements in order.
+    pub fn as_slice(&self) -> &[T]
+        ensures { result.now ≡ self.now }
+    {
+        self.items.as_slice()
+    }
+
+    /// How many elements there are.
+    pub fn len(&self) -> usize
+        ensures { result ≡ length self.now }
+    {
+        self.items.len()
+    }
+
+    /// Whether there are none.
+    pub fn is_empty(&self) -> bool
+        ensures { IsTrue result ↔ (self.now ≡ []) }
+    {
+        self.items.is_empty()
+    }
+}
+
+impl<T: Copy, A: Allocator> Items<T, A> {
+    /// A copy of the slice, in memory of just its size.
+    pub fn from_slice(alloc: A, items: &[T]) -> Result<Items<T, A>, AllocError>
+        ensures { IfOk result (λ it. it ≡ items.now) }
+    {
+        let items = Vec::from_slice(alloc, items)?;
+        Ok(Items { items })
+    }
+}
+
+impl<T: Drop, A: Allocator> Items<T, A> {
+    /// Puts the element behind the others. After a refusal the list is as it was.
+    pub fn push(&mut self, item: T) -> Result<(), AllocError>
+        ensures ok { OnOk result (self.new ≡ self.old ++ item ∷ []) }
+        ensures err { OnErr result (self.new ≡ self.old) }
+    {
+        self.items.push(item)?;
+        Ok(())
+    }
+}

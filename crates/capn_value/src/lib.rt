@@ -1,0 +1,48 @@
+//! Values of messages as trees: what a pointer denotes, apart from where it stands in a message.
+//!
+//! A [`Value`] is put together freely. A [`Tree`] is a value that fits into a message: [`Tree::new`] makes
+//! one, or gives the value back with the first [`Misfit`]. Contracts see both as one mathematical tree,
+//! without capacities, addresses or allocators.
+//!
+//! - [`same`] says whether two values are equal up to trailing zero words and trailing null slots of structs.
+//! - [`trim`] cuts these off. Two trees are the same exactly if they are equal once trimmed, and trimming
+//!   raises neither [`cost`] nor [`height`].
+//! - [`first_cap`] finds the first capability, [`copy`] copies a tree, and [`show`] writes its text.
+//! - [`laws`] states what holds of the definitions alone.
+//!
+//! Only `trim`, `copy` and `show` take memory.
+//!
+//! ```rust
+//! let root = Value::Node(Body {
+//!     words: Items::from_vec(vec![in alloc; 5, 0]?),
+//!     slots: Items::new(alloc),
+//! });
+//! if let Ok(tree) = Tree::new(root) {
+//!     let text = show(alloc, &trim(alloc, &tree)?)?; // "struct 1 0", then "  word 0000000000000005"
+//! }
+//! ```
+#![tactic(auto)]
+
+mod copying;
+mod equal;
+mod flaws;
+mod items;
+mod law;
+mod lines;
+mod measure;
+mod memory;
+mod misfit;
+mod parts;
+mod text;
+mod tree;
+mod trimming;
+mod value;
+
+pub use equal::same;
+pub use items::Items;
+pub use law::laws;
+pub use memory::Memory;
+pub use misfit::Misfit;
+pub use tree::{Tree, copy, cost, height, show, trim};
+pub use trimming::{kept_slots, kept_slots_of_rows, kept_words, kept_words_of_rows};
+pub use value::{Body, Value, first_cap};

@@ -1,0 +1,136 @@
+//! The lines of a tree's text, each written straight into the one string.
+
+ghost use Rattle.std.specs.Prelude.{◌≡◌, [], ◌∷◌, ◌++◌, ◌*◌, OnOk, string_bytes, codes, replicate};
+ghost use Rattle.capn_value.specs.Text as text;
+ghost use Rattle.std.specs.Fmt.{decimal};
+ghost use Rattle.hex.specs.Hex.{encode_lower};
+
+use crate::memory::Memory;
+use std::alloc::Allocator;
+
+// Two spaces for each level.
+#[tactic(auto, using(std::proofs::lemmas::Grind::common_steps, crate::proofs::Digits::lines))]
+fn indent<A: Allocator>(out: &mut String<A>, level: u32) -> Result<(), Memory>
+    ensures { OnOk result (string_bytes out.new ≡ string_bytes out.old ++ replicate (2 * level) 32) }
+{
+    for _i in 0..level {
+        out.push_str("  ")?;
+    }
+    Ok(())
+}
+
+/// A line of one word.
+#[tactic(auto, using(std::proofs::lemmas::Grind::common_steps), unfolding(crate::specs::Text::line))]
+pub fn plain_line<A: Allocator>(out: &mut String<A>, level: u32, word: &str) -> Result<(), Memory>
+    ensures { OnOk result (string_bytes out.new ≡ string_bytes out.old ++ text.line level word.now) }
+{
+    indent(out, level)?;
+    writeln!(out, "{word}")?;
+    Ok(())
+}
+
+/// A line of a word and a number.
+#[tactic(auto, using(std::proofs::lemmas::Grind::common_steps), unfolding(crate::specs::Text::line))]
+pub fn named_line<A: Allocator>(
+    out: &mut String<A>,
+    level: u32,
+    name: &str,
+    n: usize,
+) -> Result<(), Memory>
+    ensures { OnOk result (string_bytes out.new ≡ string_bytes out.old ++ text.line level (text.named name.now n)) }
+{
+    indent(out, level)?;
+    writeln!(out, "{name} {n}")?;
+    Ok(())
+}
+
+/// The first line of a struct: how many words and slots it has.
+#[tactic(auto, using(std::proofs::lemmas::Grind::common_steps), unfolding(crate::specs::Text::line))]
+pub fn body_line<A: Allocator>(
+    out: &mut String<A>,
+    level: u32,
+    words: usize,
+    slots: usize,
+) -> Result<(), Memory>
+    ensures { OnOk result (string_bytes out.new ≡ string_bytes out.old ++ text.body_line level words slots) }
+{
+    indent(out, level)?;
+    writeln!(out, "struct {words} {slots}")?;
+    Ok(())
+}
+
+/// A line of one number.
+#[tactic(auto, using(std::proofs::lemmas::Grind::common_steps), unfolding(crate::specs::Text::line))]
+pub fn number_line<A: Allocator>(out: &mut String<A>, level: u32, n: u64) -> Result<(), Memory>
+    ensures { OnOk result (string_bytes out.new ≡ string_bytes out.old ++ text.line level (decimal n)) }
+{
+    indent(out, level)?;
+    writeln!(out, "{n}")?;
+    Ok(())
+}
+
+/// The line of one data word, as a number: its most significant digit comes first.
+#[tactic(auto, using(std::proofs::lemmas::Grind::common_steps), unfolding(crate::specs::Text::line))]
+pub fn word_line<A: Allocator>(out: &mut String<A>, level: u32, word: u64) -> Result<(), Memory>
+    ensures { OnOk result (string_bytes out.new ≡ string_bytes out.old ++ text.line level (codes "word " ++ text.hex16 word)) }
+{
+    indent(out, level)?;
+    out.push_str("word ")?;
+    push_hex(out, &word.to_be_bytes())?;
+    out.push_str("\n")?;
+    Ok(())
+}
+
+/// A line of the bytes' digits.
+#[tactic(auto, using(std::proofs::lemmas::Grind::common_steps), unfolding(crate::specs::Text::line))]
+pub fn bytes_line<A: Allocator>(out: &mut String<A>, level: u32, bytes: &[u8]) -> Result<(), Memory>
+    ensures { OnOk result (string_bytes out.new ≡ string_bytes out.old ++ text.line level (encode_lower bytes.now)) }
+{
+    indent(out, level)?;
+    push_hex(out, bytes)?;
+    out.push_str("\n")?;
+    Ok(())
+}
+
+/// A line of a digit for each bit.
+#[tactic(auto, using(std::proofs::lemmas::Grind::common_steps), unfolding(crate::specs::Text::line))]
+pub fn bits_line<A: Allocator>(out: &mut String<A>, level: u32, bits: &[bool]) -> Result<(), Memory>
+    ensures { OnOk result (string_bytes out.new ≡ string_bytes out.old ++ text.line level (text.digits_of bits.now)) }
+{
+    indent(out, level)?;
+    push_bits(out, bits)?;
+    out.push_str("\n")?;
+    Ok(())
+}
+
+fn push_bits<A: Allocator>(out: &mut String<A>, bits: &[bool]) -> Result<(), Memory>
+    ensures { OnOk result (string_bytes out.new ≡ string_bytes out.old ++ text.digits_of bits.now) }
+{
+    for bit in bits {
+        out.push_str(if *bit { "1" } else { "0" })?;
+    }
+    Ok(())
+}
+
+// Two digits for each byte.
+#[tactic(auto, using(std::proofs::lemmas::Grind::common_steps, crate::proofs::Digits::digits))]
+fn push_hex<A: Allocator>(out: &mut String<A>, bytes: &[u8]) -> Result<(), Memory>
+    ensures { OnOk result (string_bytes out.new ≡ string_bytes out.old ++ encode_lower bytes.now) }
+{
+    for byte in bytes {
+        push_byte(out, *byte)?;
+    }
+    Ok(())
+}
+
+#[tactic(auto, using(std::proofs::lemmas::Grind::common_steps, crate::proofs::Digits::digits))]
+fn push_byte<A: Allocator>(out: &mut String<A>, byte: u8) -> Result<(), Memory>
+    ensures { OnOk result (string_bytes out.new ≡ string_bytes out.old ++ encode_lower (byte ∷ [])) }
+{
+    let mut digits = [0u8; 2];
+    // Two digits have room, so nothing is refused.
+    let _done = hex::encode_to_slice([byte], &mut digits);
+    out.push(char::from(digits[0]))?;
+    out.push(char::from(digits[1]))?;
+    Ok(())
+}

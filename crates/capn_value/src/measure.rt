@@ -1,0 +1,194 @@
+//! What a value costs and how tall it is, capped so that no sum can wrap.
+//!
+//! Cost looks at each list, and what a slice holds is in its type's range. So it is here that a value is
+//! found to be in range, which takes no step of its own.
+
+ghost use Rattle.std.specs.Prelude.{◌≡◌, ◌+◌, ◌||◌, ◌^◌, min, length};
+ghost use Rattle.std.specs.Int.{div_ceil};
+ghost use Rattle.capn_value.specs.View.{tree_of, trees_of, rows_of};
+ghost use Rattle.capn_value.specs.Tree.{row_words};
+ghost use Rattle.capn_value.specs.Sizes as sizes;
+ghost use Rattle.capn_value.specs.InRange.{AllBelow, InRange, EachInRange, RowsInRange};
+
+use crate::value::{Body, Value};
+use std::alloc::Allocator;
+
+/// One more than any value that fits costs.
+const DEAR: usize = 268_435_457;
+
+// The sum, or `DEAR` where it is more.
+fn plus(a: usize, b: usize) -> usize
+    ensures { result ≡ min (a + b) 268435457 }
+{
+    a.saturating_add(b).min(DEAR)
+}
+
+// The words of a list of bytes.
+fn byte_words(xs: &[u8]) -> usize
+    ensures words { result ≡ div_ceil (length xs.now) 8 }
+    ensures in_range { AllBelow (2 ^ 8) xs.now }
+{
+    xs.len().div_ceil(8)
+}
+
+fn pair_words(xs: &[u16]) -> usize
+    ensures words { result ≡ div_ceil (length xs.now) 4 }
+    ensures in_range { AllBelow (2 ^ 16) xs.now }
+{
+    xs.len().div_ceil(4)
+}
+
+fn quad_words(xs: &[u32]) -> usize
+    ensures words { result ≡ div_ceil (length xs.now) 2 }
+    ensures in_range { AllBelow (2 ^ 32) xs.now }
+{
+    xs.len().div_ceil(2)
+}
+
+fn oct_words(xs: &[u64]) -> usize
+    ensures words { result ≡ length xs.now }
+    ensures in_range { AllBelow (2 ^ 64) xs.now }
+{
+    xs.len()
+}
+
+// What the rows of a list cost beside its pointer and tag, where they have so many words together.
+#[tactic(auto, using(std::proofs::lemmas::Grind::common_steps, crate::specs::Views::views, crate::proofs::Prices::prices))]
+fn capped_rows_price<A: Allocator>(bodies: &[Body<A>], words: usize) -> usize
+    requires { words ≡ min (row_words (rows_of bodies.now)) 268435457 }
+    ensures { result ≡ min (sizes.rows_price (rows_of bodies.now)) 268435457 }
+{
+    if words == 0 {
+        bodies.len().min(DEAR)
+    } else {
+        words
+    }
+}
+
+/// What the value costs in words, or `DEAR` where that is more.
+#[cycle(cost)]
+#[tactic(auto, using(std::proofs::lemmas::Grind::common_steps, crate::specs::Views::views))]
+pub fn capped_cost<A: Allocator>(v: &Value<A>) -> usize
+    ensures value { result ≡ min (sizes.cost 1 (tree_of v.now)) 268435457 }
+    ensures in_range { InRange (tree_of v.now) }
+{
+    match v {
+        Value::Nil => 0,
+        Value::Cap(k) => {
+            let _index = *k;
+            0
+        }
+        Value::Node(body) => {
+            let slots = body.slots.as_slice();
+            let words = oct_words(body.words.as_slice());
+            let own = plus(1, plus(words, slots.len()));
+            plus(own, capped_costs(slots))
+        }
+        Value::Voids(n) => plus(1, *n as usize),
+        Value::Bits(xs) => plus(1, xs.len().div_ceil(64)),
+        Value::Bytes(xs) => plus(1, byte_words(xs.as_slice())),
+        Value::Pairs(xs) => plus(1, pair_words(xs.as_slice())),
+        Value::Quads(xs) => plus(1, quad_words(xs.as_slice())),
+        Value::Octs(xs) => plus(1, oct_words(xs.as_slice())),
+        Value::Links(items) => {
+            let items = items.as_slice();
+            plus(plus(1, items.len()), capped_costs(items))
+        }
+        Value::Rows(bodies) => {
+            let bodies = bodies.as_slice();
+            let rows = measured_rows(bodies);
+            let own = plus(2, capped_rows_price(bodies, rows.words));
+            plus(own, rows.costs)
+        }
+    }
+}
+
+#[cycle(cost)]
+#[tactic(auto, using(std::proofs::lemmas::Grind::common_steps, crate::specs::Views::views))]
+fn capped_costs<A: Allocator>(items: &[Value<A>]) -> usize
+    ensures value { result ≡ min (sizes.costs 1 (trees_of items.now)) 268435457 }
+    ensures in_range { EachInRange (trees_of items.now) }
+{
+    let mut sum = 0;
+    for v in items {
+        sum = plus(sum, capped_cost(v));
+    }
+    sum
+}
+
+// The words of all rows together, and what their slots cost.
+#[derive(Drop)]
+struct RowSums {
+    words: usize,
+    costs: usize,
+}
+
+#[cycle(cost)]
+#[tactic(auto, using(std::proofs::lemmas::Grind::common_steps, crate::specs::Views::views))]
+fn measured_rows<A: Allocator>(bodies: &[Body<A>]) -> RowSums
+    ensures words { result.words ≡ min (row_words (rows_of bodies.now)) 268435457 }
+    ensures costs { result.costs ≡ min (sizes.costs_in_rows 1 (rows_of bodies.now)) 268435457 }
+    ensures in_range { RowsInRange (rows_of bodies.now) }
+{
+    let mut words = 0;
+    let mut costs = 0;
+    for body in bodies {
+        let slots = body.slots.as_slice();
+        words = plus(words, plus(oct_words(body.words.as_slice()), slots.len()));
+        costs = plus(costs, capped_costs(slots));
+    }
+    RowSums { words, costs }
+}
+
+/// One more than the height of any value that fits.
+const TALL: u32 = 257;
+
+fn taller(below: u32) -> u32
+    ensures { result ≡ min (1 + below) 257 }
+{
+    below.saturating_add(1).min(TALL)
+}
+
+/// The height, or `TALL` where that is more.
+#[cycle(height)]
+#[tactic(auto, using(std::proofs::lemmas::Grind::common_steps, crate::specs::Views::views))]
+pub fn capped_height<A: Allocator>(v: &Value<A>) -> u32
+    ensures { result ≡ min (sizes.height (tree_of v.now)) 257 }
+{
+    match v {
+        Value::Nil | Value::Cap(_) => 0,
+        Value::Node(body) => taller(capped_greatest(body.slots.as_slice())),
+        Value::Links(items) => taller(capped_greatest(items.as_slice())),
+        Value::Rows(bodies) => taller(capped_greatest_in_rows(bodies.as_slice())),
+        Value::Voids(_)
+        | Value::Bits(_)
+        | Value::Bytes(_)
+        | Value::Pairs(_)
+        | Value::Quads(_)
+        | Value::Octs(_) => 1,
+    }
+}
+
+#[cycle(height)]
+#[tactic(auto, using(std::proofs::lemmas::Grind::common_steps, crate::specs::Views::views))]
+fn capped_greatest<A: Allocator>(items: &[Value<A>]) -> u32
+    ensures { result ≡ min (sizes.greatest (trees_of items.now)) 257 }
+{
+    let mut most = 0;
+    for v in items {
+        most = capped_height(v).max(most);
+    }
+    most
+}
+
+#[cycle(height)]
+#[tactic(auto, using(std::proofs::lemmas::Grind::common_steps, crate::specs::Views::views))]
+fn capped_greatest_in_rows<A: Allocator>(bodies: &[Body<A>]) -> u32
+    ensures { result ≡ min (sizes.greatest_in_rows (rows_of bodies.now)) 257 }
+{
+    let mut most = 0;
+    for body in bodies {
+        most = capped_greatest(body.slots.as_slice()).max(most);
+    }
+    most
+}

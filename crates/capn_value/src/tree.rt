@@ -1,0 +1,137 @@
+//! Values that fit into a message.
+
+ghost use Rattle.std.specs.Prelude.{◌≡◌, ◌↔◌, ◌≤◌, ℕ, IfOk, IfErr, IsOk, string_bytes};
+ghost use Rattle.capn_value.specs.View.{tree_of};
+ghost use Rattle.capn_value.specs.Sizes as sizes;
+ghost use Rattle.capn_value.specs.Trim as cut;
+ghost use Rattle.capn_value.specs.Fits.{Fits, misfit};
+ghost use Rattle.capn_value.specs.Text as text;
+ghost use Rattle.capn_value.specs.Same.{Same};
+ghost use Rattle.capn_value.specs.InRange.{InRange};
+ghost use Rattle.capn_value.specs.Tree as trees;
+
+use crate::copying::copy_of;
+use crate::flaws::misfit;
+use crate::measure::{capped_cost, capped_height};
+use crate::memory::Memory;
+use crate::misfit::Misfit;
+use crate::text::show as show_value;
+use crate::trimming::trimmed;
+use crate::value::Value;
+use std::alloc::{Allocator, Global};
+use std::marker::Model;
+
+/// A value that fits into a message: it has no [`Misfit`]. Its numbers are those of their types.
+#[derive(Drop)]
+pub struct Tree<A: Allocator = Global> {
+    value: Value<A>,
+}
+
+impl<A: Allocator> Model for Tree<A> {
+    ghost use Rattle.capn_value.specs.Tree as trees;
+    ghost use Rattle.capn_value.specs.View.{tree_of};
+    ghost use Rattle.capn_value.specs.Code.{tree_code};
+
+    ghost Value = { trees.Tree };
+
+    ghost coded = { tree_code };
+
+    ghost use Rattle.capn_value.specs.Fits.{Fits};
+    ghost use Rattle.capn_value.specs.InRange.{InRange};
+
+    ghost view = { λ t. tree_of t.value };
+
+    ghost invariant = { λ t. Fits (tree_of t.value) × InRange (tree_of t.value) };
+}
+
+impl<A: Allocator> Tree<A> {
+    /// The tree of a value that fits. Another comes back unchanged, with the first misfit, which may stand
+    /// anywhere in it. Takes no memory, whatever the value's height.
+    #[tactic(auto, unfolding(crate::specs::Fits::Fits))]
+    pub fn new(value: Value<A>) -> Result<Tree<A>, (Value<A>, Misfit)>
+        ensures ok { IfOk result (λ t. t ≡ tree_of value) }
+        ensures err { IfErr result (λ e. (e.0 ≡ value) × (misfit (tree_of value) ≡ Some e.1)) }
+        ensures fits { IsOk result ↔ Fits (tree_of value) }
+        ensures in_range { IfOk result InRange }
+    {
+        match misfit(&value) {
+            None => Ok(Tree { value }),
+            Some(reason) => Err((value, reason)),
+        }
+    }
+
+    /// The value. Takes no memory.
+    pub fn value(&self) -> &Value<A>
+        ensures value { tree_of result.now ≡ self.now }
+        ensures fits { Fits self.now }
+        ensures in_range { InRange self.now }
+    {
+        &self.value
+    }
+
+    /// The value back. Takes no memory.
+    pub fn into_value(self) -> Value<A>
+        ensures value { tree_of result ≡ self }
+        ensures fits { Fits self }
+        ensures in_range { InRange self }
+    {
+        let Tree { value } = self;
+        value
+    }
+}
+
+/// The greatest depth of an object, where the root's is 1 and null and capabilities have none: from 0 to 256
+/// (encoding page: "Security Considerations"; rows have the depth of their list, own). Takes no memory.
+#[tactic(auto, using(crate::proofs::Fitting::fit_parts))]
+pub fn height<A: Allocator>(tree: &Tree<A>) -> u32
+    ensures { result ≡ sizes.height tree.now }
+{
+    capped_height(&tree.value)
+}
+
+/// What following each pointer once costs, in words, by the strict tariff (own, after the encoding page's
+/// "Security Considerations"): from 0 to 2^28. Takes no memory.
+#[tactic(auto, using(crate::proofs::Fitting::fit_parts))]
+pub fn cost<A: Allocator>(tree: &Tree<A>) -> u32
+    ensures { result ≡ sizes.cost 1 tree.now }
+{
+    capped_cost(&tree.value) as u32
+}
+
+/// The tree with trailing zero words and trailing null slots of structs cut off, at every level (encoding
+/// page: "Canonicalization"). The rows of a list are cut alike, and elements of a list are never cut.
+///
+/// Answers `Memory` only where a growth was refused, and takes what the answer holds.
+#[tactic(auto, using(crate::proofs::StaysFit::fits))]
+pub fn trim<A: Allocator + Copy, B: Allocator>(alloc: A, tree: &Tree<B>) -> Result<Tree<A>, Memory>
+    ensures value { IfOk result (λ r. r ≡ cut.trimmed tree.now) }
+    ensures same { IfOk result (λ r. (w : trees.Tree) → Fits w → Same tree.now w ↔ (r ≡ cut.trimmed w)) }
+    ensures cheap { IfOk result (λ r. (each : ℕ) → sizes.cost each r ≤ sizes.cost each tree.now) }
+    ensures low { IfOk result (λ r. sizes.height r ≤ sizes.height tree.now) }
+{
+    let value = trimmed(alloc, &tree.value)?;
+    Ok(Tree { value })
+}
+
+/// The same tree in memory of its own.
+///
+/// Answers `Memory` only where a growth was refused, and takes what the answer holds.
+pub fn copy<A: Allocator + Copy, B: Allocator>(alloc: A, tree: &Tree<B>) -> Result<Tree<A>, Memory>
+    ensures { IfOk result (λ r. r ≡ tree.now) }
+{
+    let value = copy_of(alloc, &tree.value)?;
+    Ok(Tree { value })
+}
+
+/// The text of the tree, as it was read and not trimmed: a line for each value and each data word, indented
+/// by two spaces a level (own).
+///
+/// Answers `Memory` only where a growth was refused, and takes one string.
+#[tactic(auto, using(crate::proofs::Fitting::fit_parts))]
+pub fn show<A: Allocator, B: Allocator>(alloc: A, tree: &Tree<B>) -> Result<String<A>, Memory>
+    ensures { IfOk result (λ t. string_bytes t ≡ text.show_text tree.now) }
+{
+    let mut out = String::new(alloc);
+    show_value(&mut out, 0, &tree.value)?;
+    Ok(out)
+}

@@ -1,0 +1,98 @@
+//! Values, and the first capability in one.
+
+ghost use Rattle.std.specs.Prelude.{◌≡◌};
+ghost use Rattle.capn_value.specs.View.{tree_of, trees_of, rows_of};
+ghost use Rattle.capn_value.specs.Caps as caps;
+
+use crate::items::Items;
+use std::alloc::{Allocator, Global};
+
+/// What a pointer denotes (encoding page: "Structs", "Lists", "Capabilities").
+///
+/// Kinds of list stay apart: an empty list of bytes is no empty list of voids.
+#[cycle(value)]
+#[derive(Drop)]
+pub enum Value<A: Allocator = Global> {
+    /// The null pointer.
+    Nil,
+    /// A struct.
+    Node(Body<A>),
+    /// A list of so many elements of no size.
+    Voids(u32),
+    /// A list of single bits.
+    Bits(Items<bool, A>),
+    /// A list of elements of one byte.
+    Bytes(Items<u8, A>),
+    /// A list of elements of two bytes.
+    Pairs(Items<u16, A>),
+    /// A list of elements of four bytes.
+    Quads(Items<u32, A>),
+    /// A list of elements of eight bytes that are no pointers.
+    Octs(Items<u64, A>),
+    /// A list of pointers, each by what it denotes.
+    Links(Items<Value<A>, A>),
+    /// A composite list: its elements are structs of one size.
+    Rows(Items<Body<A>, A>),
+    /// A capability, by its index.
+    Cap(u32),
+}
+
+/// The content of a struct, or of one element of a composite list (encoding page: "Structs").
+#[cycle(value)]
+#[derive(Drop)]
+pub struct Body<A: Allocator = Global> {
+    /// The data section, word by word.
+    pub words: Items<u64, A>,
+    /// The pointer section, each pointer by what it denotes.
+    pub slots: Items<Value<A>, A>,
+}
+
+/// The index of the first capability in preorder; `None` if there is none.
+///
+/// Preorder: a value, then what its slots, rows or elements hold, in order, each with all below it before the
+/// next (own). Takes no memory.
+#[cycle(first_cap)]
+#[tactic(auto, using(crate::specs::Views::views))]
+pub fn first_cap<A: Allocator>(v: &Value<A>) -> Option<u32>
+    ensures { result ≡ caps.first_cap (tree_of v.now) }
+{
+    match v {
+        Value::Cap(k) => Some(*k),
+        Value::Node(body) => first_in(body.slots.as_slice()),
+        Value::Links(items) => first_in(items.as_slice()),
+        Value::Rows(bodies) => first_in_rows(bodies.as_slice()),
+        Value::Nil
+        | Value::Voids(_)
+        | Value::Bits(_)
+        | Value::Bytes(_)
+        | Value::Pairs(_)
+        | Value::Quads(_)
+        | Value::Octs(_) => None,
+    }
+}
+
+#[cycle(first_cap)]
+#[tactic(auto, using(crate::specs::Views::views))]
+fn first_in<A: Allocator>(items: &[Value<A>]) -> Option<u32>
+    ensures { result ≡ caps.first_in (trees_of items.now) }
+{
+    for v in items {
+        if let Some(k) = first_cap(v) {
+            return Some(k);
+        }
+    }
+    None
+}
+
+#[cycle(first_cap)]
+#[tactic(auto, using(crate::specs::Views::views))]
+fn first_in_rows<A: Allocator>(bodies: &[Body<A>]) -> Option<u32>
+    ensures { result ≡ caps.first_in_rows (rows_of bodies.now) }
+{
+    for body in bodies {
+        if let Some(k) = first_in(body.slots.as_slice()) {
+            return Some(k);
+        }
+    }
+    None
+}

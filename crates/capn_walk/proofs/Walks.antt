@@ -1,0 +1,215 @@
+-- What a walk over slots knows.
+use Rattle.std.proofs.Common.{◌≡◌, ◌⊎◌, inl, inr, ℕ, zero, suc, ◌+◌, ◌-◌, ◌<◌, ◌≤◌, List, [], ◌∷◌, ◌++◌, length, take, Ok, Err, refl, ap, ap₂, sym, ◌∙◌, arith}
+use Rattle.std.proofs.lemmas.List.{append-nil}
+use Rattle.std.specs.List.{flat_map}
+use Rattle.std.proofs.lemmas.Grind.{flat_map-append}
+use Rattle.capn_words.specs.declared.space.Place.{Place}
+use Rattle.capn_words.specs.declared.pointer.Width.TheVariants.{Link}
+use Rattle.capn_value.specs.Tree.{Tree, nil, node, voids, bits, bytes, pairs, quads, octs, links, rows, cap, count, count_rows}
+use Rattle.capn_value.specs.View.{tree_of, trees_of, rows_of}
+use Rattle.capn_value.specs.declared.value.Value.{Value, Node, Links, Rows}
+use Rattle.capn_value.specs.declared.value.Body.{Body, roll-Body}
+use Rattle.capn_value.specs.Views.{tree_of-Node, tree_of-Links, tree_of-Rows}
+use Rattle.capn_walk.specs.declared.target.Target.TheVariants as targets
+use Rattle.capn_walk.specs.declared.target.Shape.{Shape}
+use Rattle.capn_walk.specs.declared.target.Shape.TheVariants as shapes
+use Rattle.capn_walk.specs.declared.target.Fault.{Fault}
+use Rattle.capn_walk.specs.declared.target.Fault.TheVariants as faults
+use Rattle.capn_walk.specs.declared.walked.Stopped.{Stopped}
+use Rattle.capn_walk.specs.Target.{target}
+use Rattle.capn_walk.specs.Visits.{Visit, pays, fails, price, places, slots, visits, visit, last_visit}
+use Rattle.capn_walk.specs.Verdict.{accepted, refused, after, judge}
+use Rattle.capn_walk.specs.At.{IsAt, AreAt, RowsAt, words_from}
+use Rattle.capn_walk.specs.Walked.{Gives, Refuses, IsInside, slot_count}
+use Rattle.capn_walk.proofs.Inside.{inside, slots-price}
+use Rattle.capn_walk.proofs.Judge.{judge-more, judge-stops, judge-pays, judge-over}
+
+abbrev pub slot : ℕ → ℕ → Place
+slot s w = record { segment = s; word = w }
+
+pub places-add : (s w i n : ℕ) → places s w (i + n) ≡ places s w i ++ places s (w + i) n
+places-add s w zero n = let a : 0 + n ≡ n = omega arith in let b : w + 0 ≡ w = omega arith in rw (a, b) refl
+places-add s w (suc i) n =
+    let a : suc i + n ≡ suc (i + n) = omega arith in
+    let b : w + 1 + i ≡ w + suc i = omega arith in
+    rw a (ap (λ (ps : List Place). slot s w ∷ ps) (rw (← b) (places-add s (w + 1) i n)))
+
+pub places-split : (s w i n : ℕ) → i < n → places s w n ≡ places s w i ++ slot s (w + i) ∷ places s (w + i + 1) (n - suc i)
+places-split s w i n h =
+    let a : n ≡ i + suc (n - suc i) = omega arith in
+    ap (places s w) a ∙ places-add s w i (suc (n - suc i))
+
+module _ (f : Place → List Visit) (s w : ℕ) where
+  abbrev pub all : ℕ → List Visit
+  all n = flat_map f (places s w n)
+
+  pub all-split : (i n : ℕ) → i < n → all n ≡ all i ++ (f (slot s (w + i)) ++ flat_map f (places s (w + i + 1) (n - suc i)))
+  all-split i n h = ap (flat_map f) (places-split s w i n h) ∙ flat_map-append f (places s w i) (slot s (w + i) ∷ places s (w + i + 1) (n - suc i))
+
+  pub gives-none : (left : ℕ) → Gives left (all 0) 0 0 0
+  gives-none left = record { is = refl; within = omega arith; few = omega arith }
+
+  all-next : (i : ℕ) → all (i + 1) ≡ all i ++ f (slot s (w + i))
+  all-next i =
+      ap (flat_map f) (places-add s w i 1) ∙ flat_map-append f (places s w i) (slot s (w + i) ∷ [])
+      ∙ ap (λ (vs : List Visit). all i ++ vs) (append-nil (f (slot s (w + i))))
+
+  pub gives-next : (left i p k q j : ℕ) → Gives left (all i) i p k → Gives (left - p) (f (slot s (w + i))) 1 q j → Gives left (all (i + 1)) (i + 1) (p + q) (k + j)
+  gives-next left i p k q j g h = record {
+    is = ap (judge left) (all-next i) ∙ judge-more left (all i) (f (slot s (w + i))) p k g.is ∙ ap (after p k) h.is;
+    within = let a = g.within in let b = h.within in omega arith;
+    few = let a = g.few in let b = h.few in omega arith;
+  }
+
+  -- a refusal behind the first i slots
+  refuses-is : (left i n p k : ℕ) (e : Fault) (at : Place) (q j : ℕ) → i < n → judge left (all i) ≡ accepted p k →
+      judge (left - p) (f (slot s (w + i))) ≡ refused e at q j → judge left (all n) ≡ refused e at (p + q) (k + j)
+  refuses-is left i n p k e at q j h g r =
+      let rest = flat_map f (places s (w + i + 1) (n - suc i)) in
+      ap (judge left) (all-split i n h)
+      ∙ judge-more left (all i) (f (slot s (w + i)) ++ rest) p k g
+      ∙ ap (after p k) (judge-stops (left - p) (f (slot s (w + i))) rest e at q j r)
+
+  pub refuses-next : (left i n p k : ℕ) (t : Stopped) → i < n → Gives left (all i) i p k → Refuses (left - p) (f (slot s (w + i))) 1 t →
+      Refuses left (all n) n (record { fault = t.fault; place = t.place; paid = p + t.paid; visits = k + t.visits })
+  refuses-next left i n p k t h g r = record {
+    is = elim r.is as (λ _. (t.fault ≡ faults.Memory) ⊎ (judge left (all n) ≡ refused t.fault t.place (p + t.paid) (k + t.visits))) [
+      | inl m ↦ inl m
+      | inr is ↦ inr (refuses-is left i n p k t.fault t.place t.paid t.visits h g.is is)
+    ];
+    within = let a = g.within in let b = r.within in omega arith;
+    few = let a = r.few in let b = g.few in omega arith;
+  }
+
+  -- memory ran out behind i + 1 slots
+  pub no_memory : (left i n p k : ℕ) (t : Stopped) → i < n → t.fault ≡ faults.Memory → t.paid ≡ p → t.visits ≡ k →
+      Gives left (all (i + 1)) (i + 1) p k → Refuses left (all n) n t
+  no_memory left i n p k t h f x y g = record { is = inl f; within = let a = g.within in omega arith; few = let a = g.few in omega arith }
+
+-- what is said of the slots of an object, by its shape
+pub of-struct : (P : List Place → ℕ → Type 0) (s start first a b : ℕ) (shape : Shape) → shape ≡ shapes.Node a b → first ≡ start + a →
+    P (places s first b) b → P (slots s start shape) (slot_count shape)
+of-struct P s start first a b shape e f h = rw (e, ← f) h
+
+pub of-links : (P : List Place → ℕ → Type 0) (s start n : ℕ) (shape : Shape) → shape ≡ shapes.Many Link n →
+    P (places s start n) n → P (slots s start shape) (slot_count shape)
+of-links P s start n shape e h = rw e h
+
+module _ (m : List (List ℕ)) where
+  -- one more slot
+  pub at-next : {A : Type 0} (s w : ℕ) (vs : List (Value A)) (v : Value A) → AreAt m s w (trees_of vs) → IsAt m (slot s (w + count (trees_of vs))) (tree_of v) →
+      AreAt m s w (trees_of (vs ++ v ∷ []))
+  at-next s w [] v h i = let e : w + 0 ≡ w = omega arith in let j = rw e at i in (j, tt)
+  at-next s w (u ∷ vs) v h i =
+      let e : w + suc (count (trees_of vs)) ≡ suc w + count (trees_of vs) = omega arith in
+      let j = rw e at i in
+      (h.0, at-next s (suc w) vs v h.1 j)
+
+  pub count-next : {A : Type 0} (vs : List (Value A)) (v : Value A) → count (trees_of (vs ++ v ∷ [])) ≡ count (trees_of vs) + 1
+  count-next [] v = refl
+  count-next (u ∷ vs) v = let e = count-next vs v in omega arith
+
+  -- the visits of a slot by its target
+  module _ (each : ℕ) (at : Place) where
+    pub visits-null : (d : ℕ) → target m at ≡ Ok targets.Nil → visits m each d at ≡ pays at 0 ∷ []
+    unfolding visits
+    visits-null zero e = ap (last_visit m each at) e
+    visits-null (suc d) e = ap (visit m each (visits m each d) at) e
+
+    pub visits-cap : (d k : ℕ) → target m at ≡ Ok (targets.Cap k) → visits m each d at ≡ pays at 0 ∷ []
+    unfolding visits
+    visits-cap zero k e = ap (last_visit m each at) e
+    visits-cap (suc d) k e = ap (visit m each (visits m each d) at) e
+
+    pub visits-fault : (d : ℕ) (f : Fault) → target m at ≡ Err f → visits m each d at ≡ fails at f ∷ []
+    unfolding visits
+    visits-fault zero f e = ap (last_visit m each at) e
+    visits-fault (suc d) f e = ap (visit m each (visits m each d) at) e
+
+    module _ (s start pads : ℕ) (shape : Shape) (e : target m at ≡ Ok (targets.Content s start shape pads)) where
+      pub visits-deep : (d : ℕ) → d ≡ 0 → visits m each d at ≡ fails at faults.TooDeep ∷ []
+      unfolding visits
+      visits-deep zero z = ap (last_visit m each at) e
+      visits-deep (suc d) z = absurd (omega arith)
+
+      pub visits-object : (d : ℕ) → 0 < d → visits m each d at ≡ pays at (price each shape + pads) ∷ flat_map (visits m each (d - 1)) (slots s start shape)
+      unfolding visits
+      visits-object zero z = absurd (omega arith)
+      visits-object (suc d) z = let f : suc d - 1 ≡ d = omega arith in
+          ap (visit m each (visits m each d) at) e ∙ ap (λ (c : ℕ). pays at (price each shape + pads) ∷ flat_map (visits m each c) (slots s start shape)) (sym f)
+
+  -- a slot with an object
+  module _ (at : Place) (s start pads : ℕ) (shape : Shape) (e : target m at ≡ Ok (targets.Content s start shape pads))
+      (left d : ℕ) (deep : 0 < d) (room : price 1 shape + pads ≤ left) where
+    below : List Visit
+    below = flat_map (visits m 1 (d - 1)) (slots s start shape)
+
+    few_slots : slot_count shape ≤ price 1 shape
+    few_slots = slots-price shape (inside m at s start pads shape e).1
+
+    pub gives-object : (p k : ℕ) → Gives (left - (price 1 shape + pads)) (flat_map (visits m 1 (d - 1)) (slots s start shape)) (slot_count shape) p k →
+        Gives left (visits m 1 d at) 1 (price 1 shape + pads + p) (1 + k)
+    gives-object p k g = record {
+      is = ap (judge left) (visits-object 1 at s start pads shape e d deep)
+          ∙ judge-pays left (price 1 shape + pads) at (flat_map (visits m 1 (d - 1)) (slots s start shape)) room ∙ ap (after (price 1 shape + pads) 1) g.is;
+      within = let a = g.within in omega arith;
+      few = let a = g.few in let b = few_slots in omega arith;
+    }
+
+    pub refuses-object : (t : Stopped) → Refuses (left - (price 1 shape + pads)) (flat_map (visits m 1 (d - 1)) (slots s start shape)) (slot_count shape) t →
+        Refuses left (visits m 1 d at) 1 (record { fault = t.fault; place = t.place; paid = price 1 shape + pads + t.paid; visits = 1 + t.visits })
+    refuses-object t r = record {
+      is = elim r.is as (λ _. (t.fault ≡ faults.Memory) ⊎ (judge left (visits m 1 d at) ≡ refused t.fault t.place (price 1 shape + pads + t.paid) (1 + t.visits))) [
+        | inl x ↦ inl x
+        | inr is ↦ inr (ap (judge left) (visits-object 1 at s start pads shape e d deep)
+            ∙ judge-pays left (price 1 shape + pads) at (flat_map (visits m 1 (d - 1)) (slots s start shape)) room ∙ ap (after (price 1 shape + pads) 1) is)
+      ];
+      within = let a = r.within in omega arith;
+      few = let a = r.few in let b = few_slots in omega arith;
+    }
+
+  -- a refusal at the slot itself
+  pub refuses-here : (at : Place) (left d : ℕ) (f : Fault) (t : Stopped) → visits m 1 d at ≡ fails at f ∷ [] →
+      t ≡ record { fault = f; place = at; paid = 0; visits = 1 } → Refuses left (visits m 1 d at) 1 t
+  refuses-here at left d f t e h = rw h (record { is = inr (ap (judge left) e); within = omega arith; few = omega arith })
+
+  pub refuses-price : (at : Place) (s start pads : ℕ) (shape : Shape) (left d : ℕ) (t : Stopped) → target m at ≡ Ok (targets.Content s start shape pads) →
+      0 < d → left < price 1 shape + pads →
+      t ≡ record { fault = faults.OverBudget; place = at; paid = 0; visits = 1 } → Refuses left (visits m 1 d at) 1 t
+  refuses-price at s start pads shape left d t e deep over h = rw h (record {
+    is = inr (ap (judge left) (visits-object 1 at s start pads shape e d deep)
+        ∙ judge-over left (price 1 shape + pads) at (flat_map (visits m 1 (d - 1)) (slots s start shape)) over);
+    within = omega arith;
+    few = omega arith;
+  })
+
+  pub gives-nothing : (at : Place) (left d : ℕ) → visits m 1 d at ≡ pays at 0 ∷ [] → Gives left (visits m 1 d at) 1 0 1
+  gives-nothing at left d e = record { is = ap (judge left) e ∙ judge-pays left 0 at [] (omega arith); within = omega arith; few = omega arith }
+
+  pub is-inside : (at : Place) (s start pads : ℕ) (shape : Shape) (v : Tree) → target m at ≡ Ok (targets.Content s start shape pads) →
+      IsInside m shape s start v → IsAt m at v
+  is-inside at s start pads shape (node ws ss) e h = record { segment = s; start = start; pads = pads; is = e ∙ ap (λ (x : Shape). Ok (targets.Content s start x pads)) h.0; inside = (h.1, h.2) }
+  is-inside at s start pads shape (voids n) e h = record { segment = s; start = start; pads = pads; is = e ∙ ap (λ (x : Shape). Ok (targets.Content s start x pads)) h; inside = tt }
+  is-inside at s start pads shape (links ts) e h = record { segment = s; start = start; pads = pads; is = e ∙ ap (λ (x : Shape). Ok (targets.Content s start x pads)) h.0; inside = h.1 }
+  is-inside at s start pads shape nil e h = absurd h
+  is-inside at s start pads shape (bits xs) e h = record { segment = s; start = start; pads = pads; is = e ∙ ap (λ (x : Shape). Ok (targets.Content s start x pads)) h.0; inside = h.1 }
+  is-inside at s start pads shape (bytes xs) e h = record { segment = s; start = start; pads = pads; is = e ∙ ap (λ (x : Shape). Ok (targets.Content s start x pads)) h.0; inside = h.1 }
+  is-inside at s start pads shape (pairs xs) e h = record { segment = s; start = start; pads = pads; is = e ∙ ap (λ (x : Shape). Ok (targets.Content s start x pads)) h.0; inside = h.1 }
+  is-inside at s start pads shape (quads xs) e h = record { segment = s; start = start; pads = pads; is = e ∙ ap (λ (x : Shape). Ok (targets.Content s start x pads)) h.0; inside = h.1 }
+  is-inside at s start pads shape (octs xs) e h = record { segment = s; start = start; pads = pads; is = e ∙ ap (λ (x : Shape). Ok (targets.Content s start x pads)) h.0; inside = h.1 }
+  is-inside at s start pads shape (rows bs) e h = (h.0, h.1, h.2, record { segment = s; start = start; pads = pads; is = e ∙ ap (λ (x : Shape). Ok (targets.Content s start x pads)) h.3; inside = h.4 })
+  is-inside at s start pads shape (cap k) e h = absurd h
+
+-- what stands inside objects, as values
+module _ {A : Type 0} (m : List (List ℕ)) (s start : ℕ) (shape : Shape) where
+  pub inside-struct : (a b : ℕ) (ws : List ℕ) (vs : List (Value A)) → shape ≡ shapes.Node a b → length ws ≡ a → take a (words_from m s start) ≡ ws →
+      count (trees_of vs) ≡ b → AreAt m s (start + a) (trees_of vs) → IsInside m shape s start (tree_of (Node (roll-Body A (record { words = ws; slots = vs }))))
+  inside-struct a b ws vs e l w n h = rw (tree_of-Node _) (e ∙ ap₂ shapes.Node (sym l) (sym n), rw l w, rw l h)
+
+  pub inside-links : (n : ℕ) (vs : List (Value A)) → shape ≡ shapes.Many Link n → count (trees_of vs) ≡ n → AreAt m s start (trees_of vs) →
+      IsInside m shape s start (tree_of (Links vs))
+  inside-links n vs e l h = rw (tree_of-Links _) (e ∙ ap (shapes.Many Link) (sym l), h)
+
+  pub inside-rows : (n a b span : ℕ) (bs : List (Body A)) → shape ≡ shapes.Rows n a b span → count_rows (rows_of bs) ≡ n → RowsAt m a b s (suc start) (rows_of bs) →
+      IsInside m shape s start (tree_of (Rows bs))
+  inside-rows n a b span bs e l h = rw (tree_of-Rows bs) (a, b, span, e ∙ ap (λ (k : ℕ). shapes.Rows k a b span) (sym l), h)

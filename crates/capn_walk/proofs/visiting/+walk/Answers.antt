@@ -1,0 +1,230 @@
+use Rattle.std.proofs.Common.{rules, ◌≡◌, ℕ, suc, ◌+◌, ◌*◌, ◌^◌, ◌≤◌, Ok, Err, arith, ap, ◌∙◌, inl, refl}
+use Rattle.capn_value.specs.Views.{tree_of-Nil, tree_of-Cap}
+use Rattle.capn_words.specs.declared.pointer.Width.{Width}
+use Rattle.capn_walk.specs.declared.target.Shape.TheVariants as shapes
+use Rattle.capn_walk.specs.Target.{target}
+use Rattle.capn_walk.specs.Visits.{visits}
+use Rattle.capn_walk.specs.Walked.{IsContent, extent, slot_count}
+use Rattle.capn_walk.proofs.Inside.{inside, slots-price}
+use Rattle.capn_walk.proofs.Present.{present}
+use Rattle.capn_walk.proofs.Segments.{segment-room}
+use Rattle.capn_walk.proofs.Walks.{gives-next, refuses-next, at-next, count-next, visits-null, visits-cap, visits-fault, visits-deep, gives-object, refuses-object, refuses-here, refuses-price, gives-nothing, inside-struct, inside-links, inside-rows}
+use Rattle.capn_walk.proofs.RowWalks.{one-more, row-inside, rows-give, rows-refuse, rows_at-step, count_rows-next}
+use Rattle.capn_walk.proofs.visiting.+walk.Goals as goal
+
+-- ---- a slot
+
+pub walk_slot-returns-in-Err-clause-refused : goal.walk_slot-returns-in-Err-clause-refused
+walk_slot-returns-in-Err-clause-refused g t c =
+    let m = g.S.Space.message c.args.space.now in
+    let e : target (g.S.Space.message c.args.space.now) c.args.at ≡ Err c.in-Err.fault = cc in
+    refuses-here m c.args.at c.args.left c.args.depth c.in-Err.fault c.stop.result (visits-fault m 1 c.args.at c.args.depth c.in-Err.fault e) c.stop.ensures
+
+-- ---- a slot whose target is known
+
+pub walk_target-returns-in-Nil-clause-pays : goal.walk_target-returns-in-Nil-clause-pays
+walk_target-returns-in-Nil-clause-pays g t c =
+    let m = g.S.Space.message c.args.space.now in
+    let e = c.requires.target ∙ ap Ok c.in-Nil.is in
+    let none = c.without_content.ensures in
+    rw (none.paid, none.visits) (gives-nothing m c.args.at c.args.left c.args.depth (visits-null m 1 c.args.at c.args.depth e))
+
+pub walk_target-returns-in-Nil-clause-value : goal.walk_target-returns-in-Nil-clause-value
+walk_target-returns-in-Nil-clause-value g t c = rw (c.without_content.ensures.value, tree_of-Nil) (c.requires.target ∙ ap Ok c.in-Nil.is)
+
+pub walk_target-returns-in-Cap-clause-pays : goal.walk_target-returns-in-Cap-clause-pays
+walk_target-returns-in-Cap-clause-pays g t c =
+    let m = g.S.Space.message c.args.space.now in
+    let e = c.requires.target ∙ ap Ok c.in-Cap.is in
+    let none = c.without_content-in-Cap.ensures in
+    rw (none.paid, none.visits) (gives-nothing m c.args.at c.args.left c.args.depth (visits-cap m 1 c.args.at c.args.depth c.in-Cap.index e))
+
+pub walk_target-returns-in-Cap-clause-value : goal.walk_target-returns-in-Cap-clause-value
+walk_target-returns-in-Cap-clause-value g t c = rw (c.without_content-in-Cap.ensures.value, tree_of-Cap) (c.requires.target ∙ ap Ok c.in-Cap.is)
+
+pub walk_target-returns-then-depth-eq0-clause-refused : goal.walk_target-returns-then-depth-eq0-clause-refused
+walk_target-returns-then-depth-eq0-clause-refused g t c =
+    let m = g.S.Space.message c.args.space.now in
+    let x = c.in-Content in
+    let e = c.requires.target ∙ ap Ok x.is in
+    refuses-here m c.args.at c.args.left c.args.depth _ c.stop.result
+    (visits-deep m 1 c.args.at x.segment x.start x.pads x.shape e c.args.depth (omega arith)) c.stop.ensures
+
+pub walk_target-returns-then-price-left-clause-refused : goal.walk_target-returns-then-price-left-clause-refused
+walk_target-returns-then-price-left-clause-refused g t c =
+    let m = g.S.Space.message c.args.space.now in
+    let x = c.in-Content in
+    let e = c.requires.target ∙ ap Ok x.is in
+    let p = c.price_of-price.ensures in
+    refuses-price m c.args.at x.segment x.start x.pads x.shape c.args.left c.args.depth c.stop-then-price-left.result e
+    (omega arith) (omega arith) c.stop-then-price-left.ensures
+
+pub walk_target-object-requires : goal.walk_target-object-requires
+walk_target-object-requires g t c κs within =
+    let m = g.S.Space.message c.args.space.now in
+    let x = c.in-Content in
+    let e = c.requires.target ∙ ap Ok x.is in
+    let i = inside m c.args.at x.segment x.start x.pads x.shape e in
+    let rows = i.1 in
+    let n = slots-price x.shape rows in
+    let p = c.price_of-price.ensures in
+    let small : slot_count x.shape ≤ 2 ^ 28 = omega arith in
+    let content : IsContent m (record { segment = x.segment; word = x.start }) (extent x.shape) =
+    record { exists = present m c.args.at x.segment x.start x.pads x.shape c.requires.place e; within = i.0 } in
+    search rules
+
+pub walk_target-overflow_add-result-in-Ok : goal.walk_target-overflow_add-result-in-Ok
+walk_target-overflow_add-result-in-Ok g t c =
+    let m = g.S.Space.message c.args.space.now in
+    let x = c.in-Content in
+    let i = inside m c.args.at x.segment x.start x.pads x.shape (c.requires.target ∙ ap Ok x.is) in
+    let n = slots-price x.shape i.1 in
+    let p = c.price_of-price.ensures in
+    let r = c.in-Ok.ensures.pays in
+    let a = r.within in
+    let b = r.few in
+    omega arith
+
+pub walk_target-behind-requires-clause-visits : goal.walk_target-behind-requires-clause-visits
+walk_target-behind-requires-clause-visits g t c =
+    let m = g.S.Space.message c.args.space.now in
+    let x = c.in-Content in
+    let i = inside m c.args.at x.segment x.start x.pads x.shape (c.requires.target ∙ ap Ok x.is) in
+    let n = slots-price x.shape i.1 in
+    let p = c.price_of-price.ensures in
+    let r = c.in-Err.ensures.refused in
+    let a = r.within in
+    let b = r.few in
+    omega arith
+
+pub walk_target-returns-in-Ok-clause-pays : goal.walk_target-returns-in-Ok-clause-pays
+walk_target-returns-in-Ok-clause-pays g t c =
+    let m = g.S.Space.message c.args.space.now in
+    let x = c.in-Content in
+    let p = c.price_of-price.ensures in
+    let h = rw p at c.in-Ok.ensures.pays in
+    rw p
+    (gives-object m c.args.at x.segment x.start x.pads x.shape (c.requires.target ∙ ap Ok x.is) c.args.left c.args.depth (omega arith) (omega arith)
+    c.in-Ok.found.paid c.in-Ok.found.visits h)
+
+pub walk_target-returns-in-Err-clause-refused : goal.walk_target-returns-in-Err-clause-refused
+walk_target-returns-in-Err-clause-refused g t c =
+    let m = g.S.Space.message c.args.space.now in
+    let x = c.in-Content in
+    let p = c.price_of-price.ensures in
+    let h = rw p at c.in-Err.ensures.refused in
+    rw (c.behind.ensures, p)
+    (refuses-object m c.args.at x.segment x.start x.pads x.shape (c.requires.target ∙ ap Ok x.is) c.args.left c.args.depth (omega arith) (omega arith)
+    c.in-Err.stopped h)
+
+-- ---- an object
+
+pub object-returns-in_ok-below-in-Node-clause-value : goal.object-returns-in_ok-below-in-Node-clause-value
+object-returns-in_ok-below-in-Node-clause-value g t c =
+    let b = c.in_ok-below-in-Node in
+    inside-struct (g.S.Space.message c.args.space.now) c.args.start.segment c.args.start.word c.args.shape c.in-Node.words c.in-Node.slots c.in-Ok.words b.below.items
+    c.in-Node.is c.in-Ok.ensures.number c.in-Ok.ensures.words b.ensures.number b.ensures.value
+
+pub object-returns-in_ok-below-in-Link-clause-value : goal.object-returns-in_ok-below-in-Link-clause-value
+object-returns-in_ok-below-in-Link-clause-value g t c =
+    let b = c.in_ok-below-in-Link in
+    inside-links (g.S.Space.message c.args.space.now) c.args.start.segment c.args.start.word c.args.shape c.in-Many.count b.below.items
+    (c.in-Many.is ∙ ap (λ (w : Width). shapes.Many w c.in-Many.count) c.in-Link.is) b.ensures.number b.ensures.value
+
+pub object-returns-in_ok-below-in-Rows-clause-value : goal.object-returns-in_ok-below-in-Rows-clause-value
+object-returns-in_ok-below-in-Rows-clause-value g t c =
+    let b = c.in_ok-below-in-Rows in
+    let e : suc c.args.start.word ≡ c.args.start.word + 1 = omega arith in
+    inside-rows (g.S.Space.message c.args.space.now) c.args.start.segment c.args.start.word c.args.shape c.in-Rows.count c.in-Rows.words c.in-Rows.slots c.in-Rows.span b.below.rows
+    c.in-Rows.is b.ensures.number (rw e b.ensures.value)
+
+-- ---- slots
+
+pub walk_slots-returns-in-Err-clause-refused : goal.walk_slots-returns-in-Err-clause-refused
+walk_slots-returns-in-Err-clause-refused g t c =
+    rw c.behind-in-Err.ensures
+    (refuses-next (visits (g.S.Space.message c.args.space.now) 1 c.args.depth) c.args.segment c.args.start c.args.left c.loop-i.i c.args.count c.loop-i.paid c.loop-i.visits
+    c.in-Err.stopped c.loop-i-test.true c.loop-i.invariant.pays c.in-Err.ensures.refused)
+
+pub walk_slots-loop-i-preserved : goal.walk_slots-loop-i-preserved
+walk_slots-loop-i-preserved g t c =
+    let e = c.loop-i.invariant.number in
+    record {
+      pays = gives-next (visits (g.S.Space.message c.args.space.now) 1 c.args.depth) c.args.segment c.args.start c.args.left c.loop-i.i c.loop-i.paid c.loop-i.visits
+          c.in-Ok.found.paid c.in-Ok.found.visits c.loop-i.invariant.pays c.in-Ok.ensures.pays;
+      value = rw c.in-Ok-push.ensures.ok (at-next (g.S.Space.message c.args.space.now) c.args.segment c.args.start c.loop-i.items c.in-Ok.found.value
+          c.loop-i.invariant.value (rw e c.in-Ok.ensures.value));
+      number = rw c.in-Ok-push.ensures.ok (count-next (g.S.Space.message c.args.space.now) c.loop-i.items c.in-Ok.found.value ∙ ap (λ (n : ℕ). n + 1) e);
+    }
+
+-- ---- rows
+
+pub walk_rows-walk_slots-requires : goal.walk_rows-walk_slots-requires
+walk_rows-walk_slots-requires g t c κs within =
+    let inside = c.requires.content.within in
+    let next = c.loop-i.invariant.next in
+    let room = row-inside c.args.start.word c.args.count c.loop-i.i (c.args.words + c.args.slots) c.loop-i.next _ c.loop-i-test.true next inside in
+    search rules
+
+pub walk_rows-overflow_add-visits : goal.walk_rows-overflow_add-visits
+walk_rows-overflow_add-visits g t c =
+    let a = c.loop-i.invariant.pays in
+    let b = c.in-Ok-walk_slots.ensures.pays in
+    let d = a.within in let e = a.few in let f = b.within in let h = b.few in
+    let k = one-more c.loop-i.i c.args.count c.args.slots c.loop-i-test.true in
+    omega arith
+
+pub walk_rows-behind-requires-in_default-push-clause-visits : goal.walk_rows-behind-requires-in_default-push-clause-visits
+walk_rows-behind-requires-in_default-push-clause-visits g t c =
+    let a = c.loop-i.invariant.pays in
+    let b = c.in-Ok-walk_slots.ensures.pays in
+    let d = a.within in let e = a.few in let f = b.within in let h = b.few in
+    let k = one-more c.loop-i.i c.args.count c.args.slots c.loop-i-test.true in
+    let none = c.out_of_memory-in_default-push.ensures in
+    rw none (omega arith)
+
+pub walk_rows-returns-in_default-push-clause-refused : goal.walk_rows-returns-in_default-push-clause-refused
+walk_rows-returns-in_default-push-clause-refused g t c =
+    let a = c.loop-i.invariant.pays in
+    let b = c.in-Ok-walk_slots.ensures.pays in
+    let d = a.within in let e = a.few in let f = b.within in let h = b.few in
+    let k = one-more c.loop-i.i c.args.count c.args.slots c.loop-i-test.true in
+    rw (c.behind-in_default-push.ensures, c.out_of_memory-in_default-push.ensures) (record { is = inl refl; within = omega arith; few = omega arith })
+
+pub walk_rows-behind-requires-in-Err-clause-visits : goal.walk_rows-behind-requires-in-Err-clause-visits
+walk_rows-behind-requires-in-Err-clause-visits g t c =
+    let a = c.loop-i.invariant.pays in
+    let b = c.in-Err.ensures.refused in
+    let d = a.within in let e = a.few in let f = b.within in let h = b.few in
+    let k = one-more c.loop-i.i c.args.count c.args.slots c.loop-i-test.true in
+    omega arith
+
+pub walk_rows-returns-in-Err-clause-refused : goal.walk_rows-returns-in-Err-clause-refused
+walk_rows-returns-in-Err-clause-refused g t c =
+    let e = c.loop-i.invariant.next in
+    let r = rw e at c.in-Err.ensures.refused in
+    rw c.behind-in-Err.ensures
+    (rows-refuse (visits (g.S.Space.message c.args.space.now) 1 c.args.depth) c.args.start.segment c.args.start.word c.args.words c.args.slots c.args.left c.loop-i.i c.args.count c.loop-i.paid c.loop-i.visits
+    c.in-Err.stopped c.loop-i-test.true c.loop-i.invariant.pays r)
+
+pub walk_rows-overflow_add-next : goal.walk_rows-overflow_add-next
+walk_rows-overflow_add-next g t c =
+    let inside = c.requires.content.within in
+    let next = c.loop-i.invariant.next in
+    let room = row-inside c.args.start.word c.args.count c.loop-i.i (c.args.words + c.args.slots) c.loop-i.next _ c.loop-i-test.true next inside in
+    let all = segment-room (g.S.Space.message c.args.space.now) c.args.start.segment c.requires.message c.requires.content.exists in
+    omega arith
+
+pub walk_rows-loop-i-preserved : goal.walk_rows-loop-i-preserved
+walk_rows-loop-i-preserved g t c =
+    let e = c.loop-i.invariant.next in
+    let n = c.loop-i.invariant.number in
+    let x = c.in-Ok-walk_slots in
+    record {
+      pays = rows-give (visits (g.S.Space.message c.args.space.now) 1 c.args.depth) c.args.start.segment c.args.start.word c.args.words c.args.slots c.args.left c.loop-i.i c.loop-i.paid c.loop-i.visits
+          x.below.paid x.below.visits c.loop-i.invariant.pays (rw e at x.ensures.pays);
+      value = rw c.in-Ok-push.ensures.ok (rows_at-step (g.S.Space.message c.args.space.now) c.args.words c.args.slots c.args.start.segment c.args.start.word c.loop-i.next c.loop-i.i c.loop-i.rows _
+          c.loop-i.invariant.value n e c.in-Ok.ensures.number c.in-Ok.ensures.words x.ensures.number x.ensures.value);
+      number = rw c.in-Ok-push.ensures.ok (count_rows-next (g.S.Space.message c.args.space.now) c.loop-i.rows _ ∙ ap (λ (k : ℕ). k + 1) n);
+      next = let k : (c.loop-i.i + 1) * (c.args.words + c.args.slots) ≡ c.loop-i.i * (c.args.words + c.args.slots) + (c.args.words + c.args.slots) = omega arith in omega arith;
+    }

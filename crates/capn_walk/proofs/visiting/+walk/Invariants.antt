@@ -1,0 +1,37 @@
+use Rattle.std.proofs.Common.{◌≡◌, ◌+◌, ◌*◌}
+use Rattle.capn_value.specs.Tree.{count, count_rows}
+use Rattle.capn_value.specs.View.{trees_of, rows_of}
+use Rattle.capn_walk.specs.Visits.{places, row_places, visits_of}
+use Rattle.capn_walk.specs.At.{AreAt, RowsAt}
+use Rattle.capn_walk.specs.Walked.{Gives}
+use Rattle.capn_walk.proofs.visiting.+walk.Given as goal
+
+abbrev pub decreases-walk_target : goal.decreases-walk_target
+decreases-walk_target g l = 5 * l.depth
+
+abbrev pub decreases-walk_slot : goal.decreases-walk_slot
+decreases-walk_slot g l = 5 * l.depth + 1
+
+abbrev pub decreases-walk_slots : goal.decreases-walk_slots
+decreases-walk_slots g l = 5 * l.depth + 2
+
+abbrev pub decreases-walk_rows : goal.decreases-walk_rows
+decreases-walk_rows g l = 5 * l.depth + 3
+
+abbrev pub decreases-object : goal.decreases-object
+decreases-object g l = 5 * l.depth + 4
+
+abbrev pub invariant-walk_slots-loop-i : goal.invariant-walk_slots-loop-i
+invariant-walk_slots-loop-i g l = record {
+  pays : Gives l.left (visits_of (g.S.Space.message l.space) 1 l.depth (places l.segment l.start l.i)) l.i l.paid l.visits;
+  value : AreAt (g.S.Space.message l.space) l.segment l.start (trees_of l.items);
+  number : count (trees_of l.items) ≡ l.i;
+}
+
+abbrev pub invariant-walk_rows-loop-i : goal.invariant-walk_rows-loop-i
+invariant-walk_rows-loop-i g l = record {
+  pays : Gives l.left (visits_of (g.S.Space.message l.space) 1 l.depth (row_places l.segment l.fn.start.word l.words l.slots l.i)) (l.i * l.slots) l.paid l.visits;
+  value : RowsAt (g.S.Space.message l.space) l.words l.slots l.segment l.fn.start.word (rows_of l.rows);
+  number : count_rows (rows_of l.rows) ≡ l.i;
+  next : l.next ≡ l.fn.start.word + l.i * (l.words + l.slots);
+}

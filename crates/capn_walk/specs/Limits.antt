@@ -1,0 +1,16 @@
+-- The limits of a walk. (Page: security considerations; the numbers are our own.)
+use Rattle.std.specs.Prelude.{ℕ, ◌^◌, ◌≤◌}
+
+-- the most words of one framed message, the most words that a walk pays, and how many objects deep it goes
+pub record Bounds : Type 0 where
+  pub message_words : ℕ
+  pub budget : ℕ
+  pub depth : ℕ
+
+-- each is in its range
+pub record AreLimits (words budget depth : ℕ) : Type 0 where
+  pub some_words : 1 ≤ words
+  pub few_words : words ≤ 2 ^ 28
+  pub small_budget : budget ≤ 2 ^ 28
+  pub some_depth : 1 ≤ depth
+  pub small_depth : depth ≤ 256

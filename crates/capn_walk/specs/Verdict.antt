@@ -1,0 +1,31 @@
+-- What a list of visits comes to, computed: the same as `IsWithin` and `IsStop`, for the walk's inner functions.
+use Rattle.std.specs.Prelude.{ℕ, ◌+◌, ◌-◌, ◌==◌, nat_lt, List, [], ◌∷◌, length, if◌then◌else◌}
+use Rattle.capn_words.specs.Message.{segment_at}
+use Rattle.capn_words.specs.declared.space.Place.{Place}
+use Rattle.capn_walk.specs.declared.target.Fault.{Fault}
+use Rattle.capn_walk.specs.declared.target.Fault.TheVariants as faults
+use Rattle.capn_walk.specs.Visits.{Visit, pays, fails}
+use Rattle.capn_walk.specs.Accepted.{root, root_visits}
+
+-- accepted: what was paid, and the number of visits; refused: the fault, the place, what was paid before, and the number of the visit
+pub data Verdict : Type 0 where
+  accepted : ℕ → ℕ → Verdict
+  refused : Fault → Place → ℕ → ℕ → Verdict
+
+-- the same behind k visits that paid p
+abbrev pub after : ℕ → ℕ → Verdict → Verdict
+after p k (accepted q j) = accepted (p + q) (k + j)
+after p k (refused e at q j) = refused e at (p + q) (k + j)
+
+-- visits in order, with so much left to pay
+abbrev pub judge : ℕ → List Visit → Verdict
+judge budget [] = accepted 0 0
+judge budget (fails at e ∷ vs) = refused e at 0 1
+judge budget (pays at n ∷ vs) = if nat_lt budget n then refused faults.OverBudget at 0 1 else after n 1 (judge (budget - n) vs)
+
+-- a whole message, from its root on
+unfoldable pub verdict : List (List ℕ) → ℕ → ℕ → ℕ → Verdict
+verdict message each budget depth =
+    if length (segment_at message 0) == 0
+    then refused faults.NoRoot root 0 0
+    else judge budget (root_visits message each depth)

@@ -1,0 +1,63 @@
+-- The visits of a walk, in preorder.
+use Rattle.std.specs.Prelude.{ℕ, zero, suc, ◌+◌, ◌==◌, List, [], ◌∷◌, ◌++◌, Result, Ok, Err, if◌then◌else◌}
+use Rattle.std.specs.List.{flat_map}
+use Rattle.capn_words.specs.declared.space.Place.{Place}
+use Rattle.capn_words.specs.declared.pointer.Width.TheVariants.{W0, Link}
+use Rattle.capn_walk.specs.declared.target.Target.{Target}
+use Rattle.capn_walk.specs.declared.target.Target.TheVariants as targets
+use Rattle.capn_walk.specs.declared.target.Shape.{Shape}
+use Rattle.capn_walk.specs.declared.target.Shape.TheVariants as shapes
+use Rattle.capn_walk.specs.declared.target.Fault.{Fault}
+use Rattle.capn_walk.specs.declared.target.Fault.TheVariants as faults
+use Rattle.capn_walk.specs.Target.{content_words, target}
+
+-- one visit: the place of the slot, and its price or its fault
+pub data Visit : Type 0 where
+  pays : Place → ℕ → Visit
+  fails : Place → Fault → Visit
+
+-- what an object costs beside its pads, where each costs `each` beside its size
+abbrev pub price : ℕ → Shape → ℕ
+price each (shapes.Node a b) = each + a + b
+price each (shapes.Many W0 n) = each + n
+price each (shapes.Many width n) = each + content_words width n
+price each (shapes.Rows n a b span) = each + 1 + span + (if a + b == 0 then n else 0)
+
+-- n places, one word behind the other
+abbrev pub places : ℕ → ℕ → ℕ → List Place
+places s w zero = []
+places s w (suc n) = (record { segment = s; word = w }) ∷ places s (w + 1) n
+
+-- the slots of n rows, each of a words and b slots
+abbrev pub row_places : ℕ → ℕ → ℕ → ℕ → ℕ → List Place
+row_places s w a b zero = []
+row_places s w a b (suc n) = places s (w + a) b ++ row_places s (w + a + b) a b n
+
+-- where the slots of an object stand, in order
+abbrev pub slots : ℕ → ℕ → Shape → List Place
+slots s start (shapes.Node a b) = places s (start + a) b
+slots s start (shapes.Many Link n) = places s start n
+slots s start (shapes.Many width n) = []
+slots s start (shapes.Rows n a b span) = row_places s (start + 1) a b n
+
+module _ (message : List (List ℕ)) (each : ℕ) where
+  -- a visit of a slot, where none may have content
+  abbrev pub last_visit : Place → Result Target Fault → List Visit
+  last_visit at (Ok targets.Nil) = pays at 0 ∷ []
+  last_visit at (Ok (targets.Cap k)) = pays at 0 ∷ []
+  last_visit at (Ok (targets.Content s start shape pads)) = fails at faults.TooDeep ∷ []
+  last_visit at (Err e) = fails at e ∷ []
+
+  -- a visit of a slot, and of what is below it
+  abbrev pub visit : (Place → List Visit) → Place → Result Target Fault → List Visit
+  visit below at (Ok (targets.Content s start shape pads)) = pays at (price each shape + pads) ∷ flat_map below (slots s start shape)
+  visit below at found = last_visit at found
+
+  -- at most d objects deep
+  unfoldable pub visits : ℕ → Place → List Visit
+  visits zero at = last_visit at (target message at)
+  visits (suc d) at = visit (visits d) at (target message at)
+
+  -- those of several slots, one after the other
+  abbrev pub visits_of : ℕ → List Place → List Visit
+  visits_of d ps = flat_map (visits d) ps

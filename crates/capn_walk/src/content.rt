@@ -1,0 +1,135 @@
+//! Content from a word of a segment on, by the form that a pointer or a tag says.
+
+ghost use Rattle.std.specs.Prelude.{◌≡◌, ℕ, ◌<◌, ◌+◌, ◌^◌, length, slice_index};
+ghost use Rattle.capn_words.specs.Message.{segment_at};
+ghost use Rattle.capn_walk.specs.Target as spec;
+
+use crate::target::{Fault, Shape, Target};
+use capn_words::{Place, Space, Width};
+
+/// The words of a segment, none where there is no such segment.
+#[tactic(auto, using(crate::proofs::Segments::length_of_none, crate::proofs::Segments::length_of_some))]
+pub fn segment_length<S: Space>(space: &S, segment: u32) -> u32
+    ensures { result ≡ length (segment_at (S.message space.now) segment) }
+{
+    space.words(segment).unwrap_or(0)
+}
+
+/// Where an offset leads from the word behind a pointer.
+pub fn start_of(word: u32, offset: i32) -> Result<u64, Fault>
+    ensures { result ≡ spec.moved word offset }
+{
+    let start = word as i64 + 1 + offset as i64;
+    if start < 0 {
+        Err(Fault::Range)
+    } else {
+        Ok(start as u64)
+    }
+}
+
+/// The words that the content of a list takes, with the tag of a composite one.
+pub fn content_words(width: Width, count: u32) -> u64
+    ensures { result ≡ spec.content_words width count }
+{
+    let count = count as u64;
+    match width {
+        Width::W0 => 0,
+        Width::W1 => count.div_ceil(64),
+        Width::W8 => count.div_ceil(8),
+        Width::W16 => count.div_ceil(4),
+        Width::W32 => count.div_ceil(2),
+        Width::W64 | Width::Link => count,
+        Width::Rows => 1 + count,
+    }
+}
+
+/// A struct whose content starts at a word.
+pub fn node_at<S: Space>(
+    space: &S,
+    segment: u32,
+    start: u64,
+    pads: u8,
+    words: u16,
+    slots: u16,
+) -> Result<Target, Fault>
+    requires { start < 2 ^ 34 }
+    ensures { result ≡ spec.struct (S.message space.now) segment start pads words slots }
+{
+    if start + words as u64 + slots as u64 > segment_length(space, segment) as u64 {
+        return Err(Fault::Range);
+    }
+    let shape = Shape::Node { words, slots };
+    Ok(Target::Content {
+        segment,
+        start: start as u32,
+        shape,
+        pads,
+    })
+}
+
+/// A list whose content starts at a word.
+pub fn many_at<S: Space>(
+    space: &S,
+    segment: u32,
+    start: u64,
+    pads: u8,
+    width: Width,
+    count: u32,
+) -> Result<Target, Fault>
+    requires { start < 2 ^ 34 }
+    ensures { result ≡ spec.list (S.message space.now) segment start pads width count }
+{
+    if start + content_words(width, count) > segment_length(space, segment) as u64 {
+        return Err(Fault::Range);
+    }
+    if let Width::Rows = width {
+        return rows_at(space, segment, start as u32, pads, count);
+    }
+    let shape = Shape::Many { width, count };
+    Ok(Target::Content {
+        segment,
+        start: start as u32,
+        shape,
+        pads,
+    })
+}
+
+/// A composite list of so many words behind its tag, which stands at a word.
+#[tactic(auto, using(std::proofs::lemmas::Grind::common_steps))]
+fn rows_at<S: Space>(
+    space: &S,
+    segment: u32,
+    start: u32,
+    pads: u8,
+    span: u32,
+) -> Result<Target, Fault>
+    requires { start < length (segment_at (S.message space.now) segment) }
+    ensures { result ≡ spec.tagged (S.message space.now) segment start pads span
+        (slice_index (segment_at (S.message space.now) segment) start) }
+{
+    let tag = space.word(Place {
+        segment,
+        word: start,
+    });
+    if tag & 3 != 0 {
+        return Err(Fault::BadTag);
+    }
+    let count = tag >> 2 & 0x3fff_ffff;
+    let words = tag >> 32 & 0xffff;
+    let slots = tag >> 48 & 0xffff;
+    if count * (words + slots) > span as u64 {
+        return Err(Fault::TagOverrun);
+    }
+    let shape = Shape::Rows {
+        count: count as u32,
+        words: words as u16,
+        slots: slots as u16,
+        span,
+    };
+    Ok(Target::Content {
+        segment,
+        start,
+        shape,
+        pads,
+    })
+}

@@ -1,0 +1,35 @@
+//! Reading a message from its root: what a pointer names, and what the whole message denotes.
+//!
+//! - [`resolve`] says what the pointer at a place names: null, a capability, or content that lies inside its
+//!   segment, behind landing pads if need be; else the first fault of that slot.
+//! - [`walk`] answers the value that a message denotes within [`Limits`], with what reading it paid, or where
+//!   and why it stopped. Each visit of a slot pays its price before its content is read, so a message that
+//!   leads in circles or shares its objects costs at most the budget.
+//!
+//! Both take any `Space`: a bare segment, a framed message, one that owns its segments.
+//!
+//! ```text
+//! let bare = Bare::new(input)?;
+//! let walked = walk(alloc, &bare, Limits::usual())?;
+//! let text = show(alloc, &walked.tree)?;
+//! ```
+#![tactic(auto)]
+
+mod content;
+mod limits;
+mod lists;
+mod price;
+mod resolving;
+mod target;
+mod visiting;
+mod walked;
+mod walking;
+
+pub use limits::Limits;
+pub use resolving::resolve;
+pub use target::{Fault, Shape, Target};
+pub use walked::{Stopped, Walked};
+pub use walking::walk;
+
+#[cfg(test)]
+mod tests;

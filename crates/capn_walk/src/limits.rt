@@ -1,0 +1,104 @@
+//! The limits of a walk.
+
+ghost use Rattle.std.specs.Prelude.{◌≡◌, ◌↔◌, ◌^◌, ◌≤◌, IsSome, IfSome};
+ghost use Rattle.capn_walk.specs.Limits.{AreLimits};
+
+use std::marker::Model;
+
+/// The most words that one framed message may have.
+const MOST_MESSAGE_WORDS: u32 = 268_435_456;
+
+/// The most words that a walk may pay.
+const MOST_BUDGET: u32 = 268_435_456;
+
+/// The most objects that may stand one below another.
+const MOST_DEPTH: u32 = 256;
+
+/// The usual number of words, of a message and of a budget: 64 MiB.
+const USUAL_WORDS: u32 = 8_388_608;
+
+/// The usual depth.
+const USUAL_DEPTH: u32 = 64;
+
+/// How much a reader takes on: the words of one framed message, from 1 to 2^28; the words that a walk pays,
+/// at most 2^28; and the depth of objects, from 1 to 256, where the root object has depth 1.
+/// (Page: security considerations; the ranges are our own.)
+#[derive(Clone, Copy, Debug, PartialEq, Eq)]
+pub struct Limits {
+    message_words: u32,
+    budget: u32,
+    depth: u32,
+}
+
+impl Model for Limits {
+    ghost use Rattle.capn_walk.specs.Limits.{Bounds, AreLimits};
+
+    ghost Value = { Bounds };
+
+    ghost view = { λ l. record { message_words = l.message_words; budget = l.budget; depth = l.depth } };
+
+    ghost invariant = { λ l. AreLimits l.message_words l.budget l.depth };
+
+    ghost inverse = { λ b. record { message_words = b.message_words; budget = b.budget; depth = b.depth } };
+}
+
+impl Limits {
+    /// Limits of these numbers, or `None` exactly where one is out of its range.
+    pub fn new(message_words: u32, budget: u32, depth: u32) -> Option<Limits>
+        ensures some { IsSome result ↔ AreLimits message_words budget depth }
+        ensures message_words { IfSome result (λ l. l.message_words ≡ message_words) }
+        ensures budget { IfSome result (λ l. l.budget ≡ budget) }
+        ensures depth { IfSome result (λ l. l.depth ≡ depth) }
+    {
+        let words_fit = 1 <= message_words && message_words <= MOST_MESSAGE_WORDS;
+        let depth_fits = 1 <= depth && depth <= MOST_DEPTH;
+        if words_fit && budget <= MOST_BUDGET && depth_fits {
+            Some(Limits {
+                message_words,
+                budget,
+                depth,
+            })
+        } else {
+            None
+        }
+    }
+
+    /// The usual limits: 8,388,608 words of a message and of a budget, and a depth of 64.
+    pub fn usual() -> Limits
+        ensures message_words { result.message_words ≡ 8388608 }
+        ensures budget { result.budget ≡ 8388608 }
+        ensures depth { result.depth ≡ 64 }
+    {
+        Limits {
+            message_words: USUAL_WORDS,
+            budget: USUAL_WORDS,
+            depth: USUAL_DEPTH,
+        }
+    }
+
+    /// The most words of one framed message.
+    pub fn message_words(self) -> u32
+        ensures value { result ≡ self.message_words }
+        ensures some { 1 ≤ result }
+        ensures within { result ≤ 2 ^ 28 }
+    {
+        self.message_words
+    }
+
+    /// The most words that a walk pays.
+    pub fn budget(self) -> u32
+        ensures value { result ≡ self.budget }
+        ensures within { result ≤ 2 ^ 28 }
+    {
+        self.budget
+    }
+
+    /// The greatest depth of an object; that of the root is 1.
+    pub fn depth(self) -> u32
+        ensures value { result ≡ self.depth }
+        ensures some { 1 ≤ result }
+        ensures within { result ≤ 256 }
+    {
+        self.depth
+    }
+}

@@ -1,0 +1,141 @@
+//! Lists of elements without pointers, read from the bytes of their segment in one pass.
+
+ghost use Rattle.std.specs.Prelude.{◌≡◌, ◌+◌, ◌*◌, ◌/◌, ◌%◌, ◌<◌, ◌≤◌, ◌^◌, length, map, take, IfOk};
+ghost use Rattle.std.specs.Int.{from_bool};
+ghost use Rattle.capn_words.specs.Message.{IsMessage, segment_at};
+ghost use Rattle.capn_value.specs.View.{tree_of};
+ghost use Rattle.capn_walk.specs.Target.{content_words};
+ghost use Rattle.capn_walk.specs.At.{AreElements, words_from};
+ghost use Rattle.capn_walk.specs.Walked.{IsInside, IsPlain, IsContent};
+ghost use Rattle.capn_walk.specs.declared.target.Shape.TheVariants.{Many};
+ghost use Rattle.capn_words.specs.declared.pointer.Width.TheVariants.{W1, W8, W16, W32};
+
+use byteorder::{ByteOrder, LittleEndian};
+use capn_value::{Items, Value};
+use capn_words::{Place, Space, Width};
+use std::alloc::{AllocError, Allocator};
+
+/// The list of so many elements whose content starts at a place.
+#[tactic(auto, using(capn_value::specs::Views::views))]
+pub fn list_at<S: Space, A: Allocator + Copy>(
+    alloc: A,
+    space: &S,
+    at: Place,
+    width: Width,
+    count: u32,
+) -> Result<Value<A>, AllocError>
+    requires message { IsMessage (S.message space.now) }
+    requires plain { IsPlain width }
+    requires content { IsContent (S.message space.now) at (content_words width count) }
+    ensures { IfOk result (λ v.
+        IsInside (S.message space.now) (Many width count) at.segment at.word (tree_of v)) }
+{
+    match width {
+        Width::W0 => Ok(Value::Voids(count)),
+        Width::W1 => Ok(Value::Bits(bits_at(alloc, space, at, count)?)),
+        Width::W8 => Ok(Value::Bytes(bytes_at(alloc, space, at, count)?)),
+        Width::W16 => Ok(Value::Pairs(pairs_at(alloc, space, at, count)?)),
+        Width::W32 => Ok(Value::Quads(quads_at(alloc, space, at, count)?)),
+        Width::W64 => Ok(Value::Octs(words_at(alloc, space, at, count)?)),
+        Width::Link | Width::Rows => unreachable!(),
+    }
+}
+
+/// So many words.
+pub fn words_at<S: Space, A: Allocator>(
+    alloc: A,
+    space: &S,
+    at: Place,
+    count: u32,
+) -> Result<Items<u64, A>, AllocError>
+    requires message { IsMessage (S.message space.now) }
+    requires content { IsContent (S.message space.now) at count }
+    ensures number { IfOk result (λ ws. length ws ≡ count) }
+    ensures words { IfOk result (λ ws. take count (words_from (S.message space.now) at.segment at.word) ≡ ws) }
+{
+    let count = count as usize;
+    let mut words = vec![in alloc; 0u64; count]?;
+    LittleEndian::read_u64_into(space.bytes(at, 8 * count), &mut words);
+    Ok(Items::from_vec(words))
+}
+
+/// So many elements of four bytes.
+fn quads_at<S: Space, A: Allocator>(
+    alloc: A,
+    space: &S,
+    at: Place,
+    count: u32,
+) -> Result<Items<u32, A>, AllocError>
+    requires content { IsContent (S.message space.now) at (content_words W32 count) }
+    ensures number { IfOk result (λ xs. length xs ≡ count) }
+    ensures elements { IfOk result (λ xs.
+        AreElements 2 32 (words_from (S.message space.now) at.segment at.word) xs) }
+{
+    let count = count as usize;
+    let mut quads = vec![in alloc; 0u32; count]?;
+    LittleEndian::read_u32_into(space.bytes(at, 4 * count), &mut quads);
+    Ok(Items::from_vec(quads))
+}
+
+/// So many elements of two bytes.
+fn pairs_at<S: Space, A: Allocator>(
+    alloc: A,
+    space: &S,
+    at: Place,
+    count: u32,
+) -> Result<Items<u16, A>, AllocError>
+    requires content { IsContent (S.message space.now) at (content_words W16 count) }
+    ensures number { IfOk result (λ xs. length xs ≡ count) }
+    ensures elements { IfOk result (λ xs.
+        AreElements 4 16 (words_from (S.message space.now) at.segment at.word) xs) }
+{
+    let count = count as usize;
+    let mut pairs = vec![in alloc; 0u16; count]?;
+    LittleEndian::read_u16_into(space.bytes(at, 2 * count), &mut pairs);
+    Ok(Items::from_vec(pairs))
+}
+
+/// So many bytes, by one copy.
+fn bytes_at<S: Space, A: Allocator>(
+    alloc: A,
+    space: &S,
+    at: Place,
+    count: u32,
+) -> Result<Items<u8, A>, AllocError>
+    requires content { IsContent (S.message space.now) at (content_words W8 count) }
+    ensures number { IfOk result (λ xs. length xs ≡ count) }
+    ensures elements { IfOk result (λ xs.
+        AreElements 8 8 (words_from (S.message space.now) at.segment at.word) xs) }
+{
+    Items::from_slice(alloc, space.bytes(at, count as usize))
+}
+
+/// So many bits, the least significant of each byte first.
+fn bits_at<S: Space, A: Allocator>(
+    alloc: A,
+    space: &S,
+    at: Place,
+    count: u32,
+) -> Result<Items<bool, A>, AllocError>
+    requires content { IsContent (S.message space.now) at (content_words W1 count) }
+    ensures number { IfOk result (λ xs. length xs ≡ count) }
+    ensures elements { IfOk result (λ xs.
+        AreElements 64 1 (words_from (S.message space.now) at.segment at.word)
+        (map from_bool xs)) }
+{
+    let count = count as usize;
+    let bytes = space.bytes(at, count.div_ceil(8));
+    let mut bits = Vec::with_capacity(alloc, count)?;
+    for i in 0..count {
+        bits.push(bit_of(bytes[i / 8], i % 8))?;
+    }
+    Ok(Items::from_vec(bits))
+}
+
+/// The bit at a place of a byte, counted from the least significant.
+fn bit_of(byte: u8, place: usize) -> bool
+    requires { place < 8 }
+    ensures { from_bool result ≡ byte / 2 ^ place % 2 }
+{
+    byte >> place & 1 == 1
+}

@@ -1,0 +1,34 @@
+//! What a visit costs.
+
+ghost use Rattle.std.specs.Prelude.{◌≡◌, ◌+◌};
+ghost use Rattle.capn_walk.specs.Visits.{price};
+
+use crate::content::content_words;
+use crate::target::Shape;
+use capn_words::Width;
+
+/// The price of an object behind so many landing pads, in words: 1 for the pointer, its words, and 1 for
+/// each element that has no size. A composite list pays all the words that its pointer says.
+pub fn price_of(shape: Shape, pads: u8) -> u64
+    ensures { result ≡ price 1 shape + pads }
+{
+    let price = match shape {
+        Shape::Node { words, slots } => 1 + words as u64 + slots as u64,
+        Shape::Many {
+            width: Width::W0,
+            count,
+        } => 1 + count as u64,
+        Shape::Many { width, count } => 1 + content_words(width, count),
+        Shape::Rows {
+            count,
+            words,
+            slots,
+            span,
+        } => {
+            let without_size = words == 0 && slots == 0;
+            let rows = if without_size { count } else { 0 };
+            2 + span as u64 + rows as u64
+        }
+    };
+    price + pads as u64
+}

@@ -1,0 +1,74 @@
+//! What a pointer names, and why it names nothing.
+
+use capn_words::Width;
+
+/// The form of the content that a pointer names. (Page: structs, lists.)
+#[derive(Clone, Copy, Debug, PartialEq, Eq)]
+pub enum Shape {
+    /// A struct: so many data words, and so many pointers behind them.
+    Node {
+        words: u16,
+        slots: u16,
+    },
+    /// A list that isn't composite: `count` elements.
+    Many {
+        width: Width,
+        count: u32,
+    },
+    /// A composite list: a tag word, then `count` structs of so many data words and pointers each, all
+    /// within `span` words.
+    Rows {
+        count: u32,
+        words: u16,
+        slots: u16,
+        span: u32,
+    },
+}
+
+/// What the pointer at a place names.
+#[derive(Clone, Copy, Debug, PartialEq, Eq)]
+pub enum Target {
+    /// Null.
+    Nil,
+    /// A capability, by its index.
+    Cap(u32),
+    /// Content, which lies inside its segment. At a composite list `start` is the tag's word.
+    Content {
+        segment: u32,
+        start: u32,
+        shape: Shape,
+        /// The words of its landing pad: 0 for a near pointer, else 1 or 2.
+        pads: u8,
+    },
+}
+
+/// Why a slot is refused. At one slot the tests are made in this order, and the first that fails is the
+/// answer; but at a landing pad of two words the segment of the content is looked up last. (Own.)
+#[derive(Clone, Copy, Debug, PartialEq, Eq)]
+pub enum Fault {
+    /// Segment 0 has no word, so there is no root.
+    NoRoot,
+    /// The root is neither null nor a struct.
+    RootKind,
+    /// The word is no kind of pointer.
+    Reserved,
+    /// There is no segment of the pad, or of the content that a pad of two words names.
+    NoSegment,
+    /// The pad isn't inside its segment.
+    PadRange,
+    /// A pad of one word is no struct or list pointer; or, of a pad of two words, the first is no far pointer
+    /// to a pad of one word, or the second is no word of zeros, struct or list pointer.
+    BadPad,
+    /// The content starts before word 0 or ends past its segment's end.
+    Range,
+    /// The tag of a composite list isn't laid out as a struct pointer.
+    BadTag,
+    /// The structs of a composite list take more words than its pointer says.
+    TagOverrun,
+    /// The object is deeper than the limit.
+    TooDeep,
+    /// The price, added to what was paid, is above the budget.
+    OverBudget,
+    /// A growth of memory was refused.
+    Memory,
+}

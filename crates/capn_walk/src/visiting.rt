@@ -1,0 +1,348 @@
+//! The visits of slots, in preorder: what each denotes, what was paid, and how many there were.
+
+ghost use Rattle.std.specs.Prelude.{◌≡◌, ℕ, ◌<◌, ◌≤◌, ◌+◌, ◌*◌, ◌^◌, Ok, length, IfOk, IfErr};
+ghost use Rattle.capn_words.specs.Message.{segment_at, IsMessage, IsPlace};
+ghost use Rattle.capn_value.specs.View.{tree_of, trees_of, rows_of};
+ghost use Rattle.capn_value.specs.Tree.{count as count_trees, count_rows};
+ghost use Rattle.capn_walk.specs.Target as spec;
+ghost use Rattle.capn_walk.specs.Visits.{places, row_places, slots, visits, visits_of};
+ghost use Rattle.capn_walk.specs.At.{IsAt, AreAt, RowsAt};
+ghost use Rattle.capn_walk.specs.Walked.{Gives, Refuses, IsInside, IsContent, RowsFit, extent, slot_count};
+
+use crate::lists::{list_at, words_at};
+use crate::price::price_of;
+use crate::resolving::resolve;
+use crate::target::{Fault, Shape, Target};
+use crate::walked::{Stopped, out_of_memory, stop};
+use capn_value::{Body, Items, Value};
+use capn_words::{Place, Space, Width};
+use std::alloc::Allocator;
+
+/// The value of a slot, what was paid for it, and how many visits were made.
+#[derive(Drop)]
+pub struct Found<A: Allocator> {
+    pub value: Value<A>,
+    pub paid: u32,
+    pub visits: u32,
+}
+
+/// The values of slots that stand one behind the other.
+#[derive(Drop)]
+struct FoundSlots<A: Allocator> {
+    items: Items<Value<A>, A>,
+    paid: u32,
+    visits: u32,
+}
+
+/// The rows of a composite list.
+#[derive(Drop)]
+struct FoundRows<A: Allocator> {
+    rows: Items<Body<A>, A>,
+    paid: u32,
+    visits: u32,
+}
+
+/// What a slot denotes, at most `depth` objects deep, where `left` words are left to pay.
+#[cycle(walk)]
+#[tactic(auto, using(std::proofs::lemmas::Grind::common_steps))]
+fn walk_slot<S: Space, A: Allocator + Copy>(
+    alloc: A,
+    space: &S,
+    at: Place,
+    depth: u32,
+    left: u32,
+) -> Result<Found<A>, Stopped>
+    requires message { IsMessage (S.message space.now) }
+    requires place { IsPlace (S.message space.now) at }
+    requires left { left ≤ 2 ^ 28 }
+    ensures pays { IfOk result (λ f. Gives left (visits (S.message space.now) 1 depth at) 1 f.paid f.visits) }
+    ensures value { IfOk result (λ f. IsAt (S.message space.now) at (tree_of f.value)) }
+    ensures refused { IfErr result (λ s. Refuses left (visits (S.message space.now) 1 depth at) 1 s) }
+{
+    match resolve(space, at) {
+        Ok(target) => walk_target(alloc, space, at, target, depth, left),
+        Err(fault) => Err(stop(fault, at)),
+    }
+}
+
+/// What a slot denotes whose target is known. Its price is paid before anything of its content is read.
+#[cycle(walk)]
+#[tactic(auto, using(std::proofs::lemmas::Grind::common_steps))]
+pub fn walk_target<S: Space, A: Allocator + Copy>(
+    alloc: A,
+    space: &S,
+    at: Place,
+    target: Target,
+    depth: u32,
+    left: u32,
+) -> Result<Found<A>, Stopped>
+    requires message { IsMessage (S.message space.now) }
+    requires place { IsPlace (S.message space.now) at }
+    requires target { spec.target (S.message space.now) at ≡ Ok target }
+    requires left { left ≤ 2 ^ 28 }
+    ensures pays { IfOk result (λ f. Gives left (visits (S.message space.now) 1 depth at) 1 f.paid f.visits) }
+    ensures value { IfOk result (λ f. IsAt (S.message space.now) at (tree_of f.value)) }
+    ensures refused { IfErr result (λ s. Refuses left (visits (S.message space.now) 1 depth at) 1 s) }
+{
+    match target {
+        Target::Nil => Ok(without_content(Value::Nil)),
+        Target::Cap(index) => Ok(without_content(Value::Cap(index))),
+        Target::Content {
+            segment,
+            start,
+            shape,
+            pads,
+        } => {
+            if depth == 0 {
+                return Err(stop(Fault::TooDeep, at));
+            }
+            let price = price_of(shape, pads);
+            if price > left as u64 {
+                return Err(stop(Fault::OverBudget, at));
+            }
+            let price = price as u32;
+            let start = Place {
+                segment,
+                word: start,
+            };
+            match object(alloc, space, at, start, shape, depth - 1, left - price) {
+                Ok(found) => Ok(Found {
+                    value: found.value,
+                    paid: price + found.paid,
+                    visits: 1 + found.visits,
+                }),
+                Err(stopped) => Err(stopped.behind(price, 1)),
+            }
+        }
+    }
+}
+
+/// The object of the slot at a place, with what is below it. Its own price has been paid.
+#[cycle(walk)]
+#[tactic(auto, using(std::proofs::lemmas::Grind::common_steps))]
+fn object<S: Space, A: Allocator + Copy>(
+    alloc: A,
+    space: &S,
+    at: Place,
+    start: Place,
+    shape: Shape,
+    depth: u32,
+    left: u32,
+) -> Result<Found<A>, Stopped>
+    requires message { IsMessage (S.message space.now) }
+    requires content { IsContent (S.message space.now) start (extent shape) }
+    requires rows { RowsFit shape }
+    requires left { left ≤ 2 ^ 28 }
+    requires count { slot_count shape ≤ 2 ^ 28 }
+    ensures pays { IfOk result (λ f. Gives left
+        (visits_of (S.message space.now) 1 depth (slots start.segment start.word shape))
+        (slot_count shape) f.paid f.visits) }
+    ensures value { IfOk result (λ f.
+        IsInside (S.message space.now) shape start.segment start.word (tree_of f.value)) }
+    ensures refused { IfErr result (λ s. Refuses left
+        (visits_of (S.message space.now) 1 depth (slots start.segment start.word shape))
+        (slot_count shape) s) }
+{
+    match shape {
+        Shape::Node { words, slots } => {
+            let first = start.word + words as u32;
+            let Ok(words) = words_at(alloc, space, start, words as u32) else {
+                return Err(out_of_memory(at));
+            };
+            let below = walk_slots(
+                alloc,
+                space,
+                start.segment,
+                first,
+                slots as u32,
+                depth,
+                left,
+            )?;
+            Ok(Found {
+                value: Value::Node(Body {
+                    words,
+                    slots: below.items,
+                }),
+                paid: below.paid,
+                visits: below.visits,
+            })
+        }
+        Shape::Many { width, count } => match width {
+            Width::Link => {
+                let below = walk_slots(
+                    alloc,
+                    space,
+                    start.segment,
+                    start.word,
+                    count,
+                    depth,
+                    left,
+                )?;
+                Ok(Found {
+                    value: Value::Links(below.items),
+                    paid: below.paid,
+                    visits: below.visits,
+                })
+            }
+            _ => {
+                let Ok(value) = list_at(alloc, space, start, width, count) else {
+                    return Err(out_of_memory(at));
+                };
+                Ok(Found {
+                    value,
+                    paid: 0,
+                    visits: 0,
+                })
+            }
+        },
+        Shape::Rows {
+            count,
+            words,
+            slots,
+            span: _,
+        } => {
+            let first = Place {
+                segment: start.segment,
+                word: start.word + 1,
+            };
+            let below = walk_rows(alloc, space, first, count, words, slots, depth, left)?;
+            Ok(Found {
+                value: Value::Rows(below.rows),
+                paid: below.paid,
+                visits: below.visits,
+            })
+        }
+    }
+}
+
+/// So many slots that stand one behind the other.
+#[cycle(walk)]
+#[tactic(auto, using(std::proofs::lemmas::Grind::common_steps))]
+fn walk_slots<S: Space, A: Allocator + Copy>(
+    alloc: A,
+    space: &S,
+    segment: u32,
+    start: u32,
+    count: u32,
+    depth: u32,
+    left: u32,
+) -> Result<FoundSlots<A>, Stopped>
+    requires message { IsMessage (S.message space.now) }
+    requires inside { start + count ≤ length (segment_at (S.message space.now) segment) }
+    requires left { left ≤ 2 ^ 28 }
+    ensures pays { IfOk result (λ f. Gives left
+        (visits_of (S.message space.now) 1 depth (places segment start count))
+        count f.paid f.visits) }
+    ensures value { IfOk result (λ f. AreAt (S.message space.now) segment start (trees_of f.items)) }
+    ensures number { IfOk result (λ f. count_trees (trees_of f.items) ≡ count) }
+    ensures refused { IfErr result (λ s. Refuses left
+        (visits_of (S.message space.now) 1 depth (places segment start count)) count s) }
+{
+    let mut items = Items::new(alloc);
+    let mut paid = 0;
+    let mut visits = 0;
+    for i in 0..count {
+        let at = Place {
+            segment,
+            word: start + i,
+        };
+        match walk_slot(alloc, space, at, depth, left - paid) {
+            Ok(found) => {
+                paid += found.paid;
+                visits += found.visits;
+                let Ok(()) = items.push(found.value) else {
+                    return Err(out_of_memory(at).behind(paid, visits));
+                };
+            }
+            Err(stopped) => return Err(stopped.behind(paid, visits)),
+        }
+    }
+    Ok(FoundSlots {
+        items,
+        paid,
+        visits,
+    })
+}
+
+/// So many rows of the same sizes that stand one behind the other.
+#[cycle(walk)]
+#[tactic(auto, using(std::proofs::lemmas::Grind::common_steps))]
+fn walk_rows<S: Space, A: Allocator + Copy>(
+    alloc: A,
+    space: &S,
+    start: Place,
+    count: u32,
+    words: u16,
+    slots: u16,
+    depth: u32,
+    left: u32,
+) -> Result<FoundRows<A>, Stopped>
+    requires message { IsMessage (S.message space.now) }
+    requires content { IsContent (S.message space.now) start (count * (words + slots)) }
+    requires left { left ≤ 2 ^ 28 }
+    requires count { count * slots ≤ 2 ^ 28 }
+    ensures pays { IfOk result (λ f. Gives left
+        (visits_of (S.message space.now) 1 depth
+        (row_places start.segment start.word words slots count))
+        (count * slots) f.paid f.visits) }
+    ensures value { IfOk result (λ f.
+        RowsAt (S.message space.now) words slots start.segment start.word (rows_of f.rows)) }
+    ensures number { IfOk result (λ f. count_rows (rows_of f.rows) ≡ count) }
+    ensures refused { IfErr result (λ s. Refuses left
+        (visits_of (S.message space.now) 1 depth
+        (row_places start.segment start.word words slots count))
+        (count * slots) s) }
+{
+    let segment = start.segment;
+    let mut rows = Items::new(alloc);
+    let mut paid = 0;
+    let mut visits = 0;
+    let mut next = start.word;
+    for i in 0..count {
+        let at = Place {
+            segment,
+            word: next,
+        };
+        let Ok(data) = words_at(alloc, space, at, words as u32) else {
+            return Err(out_of_memory(at).behind(paid, visits));
+        };
+        let first = next + words as u32;
+        match walk_slots(
+            alloc,
+            space,
+            segment,
+            first,
+            slots as u32,
+            depth,
+            left - paid,
+        ) {
+            Ok(below) => {
+                paid += below.paid;
+                visits += below.visits;
+                let body = Body {
+                    words: data,
+                    slots: below.items,
+                };
+                let Ok(()) = rows.push(body) else {
+                    return Err(out_of_memory(at).behind(paid, visits));
+                };
+            }
+            Err(stopped) => return Err(stopped.behind(paid, visits)),
+        }
+        next = first + slots as u32;
+    }
+    Ok(FoundRows { rows, paid, visits })
+}
+
+/// A slot that has no content, which costs nothing.
+fn without_content<A: Allocator>(value: Value<A>) -> Found<A>
+    ensures value { result.value ≡ value }
+    ensures paid { result.paid ≡ 0 }
+    ensures visits { result.visits ≡ 1 }
+{
+    Found {
+        value,
+        paid: 0,
+        visits: 1,
+    }
+}

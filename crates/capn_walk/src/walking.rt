@@ -1,0 +1,123 @@
+//! The walk over a whole message, from its root.
+
+ghost use Rattle.std.specs.Prelude.{◌≡◌, ◌⊎◌, ◌↔◌, ℕ, ◌<◌, ◌≤◌, Ok, length, IsTrue, IfOk, IfErr, OnOk, MatchResult};
+ghost use Rattle.capn_words.specs.Message.{segment_at};
+ghost use Rattle.capn_value.specs.Tree as trees;
+ghost use Rattle.capn_value.specs.Sizes.{cost, height};
+ghost use Rattle.capn_walk.specs.Target as spec;
+ghost use Rattle.capn_walk.specs.Accepted.{root};
+ghost use Rattle.capn_walk.specs.Denotes.{IsValueOf, IsRefused, IsBounded, paid, number_of_visits};
+ghost use Rattle.capn_walk.specs.Walked.{IsRootKind};
+ghost use Rattle.capn_walk.specs.declared.target.Fault.TheVariants.{Memory};
+
+use crate::content::segment_length;
+use crate::limits::Limits;
+use crate::resolving::resolve;
+use crate::target::{Fault, Shape, Target};
+use crate::visiting::walk_target;
+use crate::walked::{Stopped, Walked, stop};
+use capn_value::Tree;
+use capn_words::{Place, Space};
+use std::alloc::Allocator;
+
+/// Where the pointer to the root stands.
+const ROOT: Place = Place {
+    segment: 0,
+    word: 0,
+};
+
+/// What a message denotes, read from its root within limits, and what that paid.
+///
+/// Slots are visited in preorder, each as often as a pointer leads to it, and each visit pays its price
+/// before anything of its content is read or memory is taken for it. So a hostile message, with cycles or
+/// shared objects, costs at most the budget.
+///
+/// Refused with `NoRoot` at 0:0, paid 0 and visits 0, where segment 0 has no word. Else with the first visit
+/// that is a fault or brings the sum above the budget: the place of its slot, what was paid before it, and
+/// its number. At one visit the faults of `resolve` come first, then `RootKind`, `TooDeep` and `OverBudget`.
+/// `Memory` comes only where a growth was refused, in place of any later answer; its `paid` is at most the
+/// budget, and its `visits` at most one more than that `paid`.
+///
+/// Memory: the tree's own. The stack holds at most as many objects as the depth limit.
+/// (Page: security considerations; the prices and the order of the faults are our own.)
+pub fn walk<S: Space, A: Allocator + Copy>(
+    alloc: A,
+    space: &S,
+    limits: Limits,
+) -> Result<Walked<A>, Stopped>
+    // An answer is the value at the root of an accepted message, with the sum of the prices.
+    ensures found { IfOk result (λ w. IsValueOf (S.message space.now) 1 limits.budget limits.depth w.tree) }
+    ensures pays { IfOk result (λ w. w.paid ≡ paid (S.message space.now) 1 limits.depth) }
+    ensures counts { IfOk result (λ w. w.visits ≡ number_of_visits (S.message space.now) 1 limits.depth) }
+
+    // Such a value is answered, or a growth was refused; any other refusal is the first stop.
+    ensures only { (v : trees.Tree) → IsValueOf (S.message space.now) 1 limits.budget limits.depth v →
+        MatchResult result (λ w. w.tree ≡ v) (λ s. s.fault ≡ Memory) }
+    ensures refused { IfErr result (λ s.
+        (s.fault ≡ Memory)
+        ⊎ IsRefused (S.message space.now) 1 limits.budget limits.depth s.fault s.place s.paid s.visits) }
+
+    // No walk pays beyond its budget.
+    ensures bounded { MatchResult result (λ w. IsBounded limits.budget w.paid w.visits)
+        (λ s. IsBounded limits.budget s.paid s.visits) }
+
+    // The tree costs no more than what was paid, and is no higher than the limit.
+    ensures thrifty { IfOk result (λ w. cost 1 w.tree ≤ w.paid) }
+    ensures low { IfOk result (λ w. height w.tree ≤ limits.depth) }
+{
+    let _bounds = space.segments();
+    let target = root_target(space)?;
+    let found = walk_target(alloc, space, ROOT, target, limits.depth(), limits.budget())?;
+    let Ok(tree) = Tree::new(found.value) else {
+        unreachable!()
+    };
+    Ok(Walked {
+        tree,
+        paid: found.paid,
+        visits: found.visits,
+    })
+}
+
+/// What the pointer to the root names: null or a struct.
+fn root_target<S: Space>(space: &S) -> Result<Target, Stopped>
+    ensures place { OnOk result (0 < length (segment_at (S.message space.now) 0)) }
+    ensures target { IfOk result (λ t. spec.target (S.message space.now) root ≡ Ok t) }
+    ensures kind { IfOk result IsRootKind }
+    ensures refused { IfErr result (λ s.
+        (budget depth : ℕ) →
+        IsRefused (S.message space.now) 1 budget depth s.fault s.place s.paid s.visits) }
+    ensures bounded { IfErr result (λ s. IsBounded 0 s.paid s.visits) }
+{
+    if segment_length(space, ROOT.segment) == 0 {
+        return Err(Stopped {
+            visits: 0,
+            ..stop(Fault::NoRoot, ROOT)
+        });
+    }
+    match resolve(space, ROOT) {
+        Ok(target) => {
+            if may_be_root(target) {
+                Ok(target)
+            } else {
+                Err(stop(Fault::RootKind, ROOT))
+            }
+        }
+        Err(fault) => Err(stop(fault, ROOT)),
+    }
+}
+
+/// Whether a target may be that of the root.
+fn may_be_root(target: Target) -> bool
+    ensures { IsTrue result ↔ IsRootKind target }
+{
+    match target {
+        Target::Nil => true,
+        Target::Cap(_) => false,
+        Target::Content {
+            segment: _,
+            start: _,
+            shape,
+            pads: _,
+        } => matches!(shape, Shape::Node { .. }),
+    }
+}
