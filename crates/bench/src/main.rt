@@ -88,9 +88,9 @@ fn measure<R: Print + Clock>(rt: &R, alloc: Global, shape: Shape) -> Result<()> 
         len = text.len();
     }
     println!(rt; "{}: sha256 {digest}, packed to {len} bytes", shape.name())?;
-    println!(rt;
-        "  thousandths of a nanosecond a byte: pack {packing}, unpack {unpacking}, copy {copying}"
-    )?;
+    for (step, time) in [("pack", packing), ("unpack", unpacking), ("copy", copying)] {
+        println!(rt; "  {step}: {}.{:03} ns a byte", time / 1000, time % 1000)?;
+    }
     Ok(())
 }
 

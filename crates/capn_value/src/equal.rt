@@ -63,7 +63,7 @@ fn word_or_zero(words: &[u64], i: usize) -> u64
     words.get(i).copied().unwrap_or(0)
 }
 
-#[cycle(test)]
+#[cycle(sameness)]
 #[tactic(auto, using(std::proofs::lemmas::Grind::common_steps, crate::specs::Views::views, crate::proofs::Apart::apart))]
 fn test<A: Allocator, B: Allocator>(v: &Value<A>, w: &Value<B>) -> bool
     ensures { result ≡ test (tree_of v.now) (tree_of w.now) }
@@ -84,7 +84,7 @@ fn test<A: Allocator, B: Allocator>(v: &Value<A>, w: &Value<B>) -> bool
     }
 }
 
-#[cycle(test)]
+#[cycle(sameness)]
 #[tactic(auto, using(std::proofs::lemmas::Grind::common_steps, crate::specs::Views::views, crate::proofs::Apart::apart))]
 fn test_bodies<A: Allocator, B: Allocator>(a: &Body<A>, b: &Body<B>) -> bool
     ensures { result ≡ (test_words a.now.words b.now.words && test_slots (trees_of a.now.slots) (trees_of b.now.slots)) }
@@ -94,7 +94,7 @@ fn test_bodies<A: Allocator, B: Allocator>(a: &Body<A>, b: &Body<B>) -> bool
 }
 
 // Slot i of each is the same, null past the end.
-#[cycle(test)]
+#[cycle(sameness)]
 #[tactic(auto, using(std::proofs::lemmas::Grind::common_steps, crate::specs::Views::views, crate::proofs::Apart::apart))]
 fn test_slots<A: Allocator, B: Allocator>(a: &[Value<A>], b: &[Value<B>]) -> bool
     ensures { result ≡ test_slots (trees_of a.now) (trees_of b.now) }
@@ -108,7 +108,7 @@ fn test_slots<A: Allocator, B: Allocator>(a: &[Value<A>], b: &[Value<B>]) -> boo
     are_null(&a[shared..]) && are_null(&b[shared..])
 }
 
-#[cycle(test)]
+#[cycle(sameness)]
 #[tactic(auto, using(std::proofs::lemmas::Grind::common_steps, crate::specs::Views::views, crate::proofs::Apart::apart))]
 fn test_each<A: Allocator, B: Allocator>(a: &[Value<A>], b: &[Value<B>]) -> bool
     ensures { result ≡ test_each (trees_of a.now) (trees_of b.now) }
@@ -124,7 +124,7 @@ fn test_each<A: Allocator, B: Allocator>(a: &[Value<A>], b: &[Value<B>]) -> bool
     true
 }
 
-#[cycle(test)]
+#[cycle(sameness)]
 #[tactic(auto, using(std::proofs::lemmas::Grind::common_steps, crate::specs::Views::views, crate::proofs::Apart::apart))]
 fn test_rows<A: Allocator, B: Allocator>(a: &[Body<A>], b: &[Body<B>]) -> bool
     ensures { result ≡ test_rows (rows_of a.now) (rows_of b.now) }

@@ -5,7 +5,7 @@ use Rattle.std.specs.List.{flat_map}
 use Rattle.std.proofs.lemmas.Grind.{flat_map-append}
 use Rattle.capn_words.specs.declared.space.Place.{Place}
 use Rattle.capn_words.specs.declared.pointer.Width.TheVariants.{Link}
-use Rattle.capn_value.specs.Tree.{Tree, nil, node, voids, bits, bytes, pairs, quads, octs, links, rows, cap, count, count_rows}
+use Rattle.capn_value.specs.Tree.{Trees, Bodies, Tree, nil, node, voids, bits, bytes, pairs, quads, octs, links, rows, cap, count, count_rows}
 use Rattle.capn_value.specs.View.{tree_of, trees_of, rows_of}
 use Rattle.capn_value.specs.declared.value.Value.{Value, Node, Links, Rows}
 use Rattle.capn_value.specs.declared.value.Body.{Body, roll-Body}
@@ -200,16 +200,15 @@ module _ (m : List (List ℕ)) where
   is-inside at s start pads shape (rows bs) e h = (h.0, h.1, h.2, record { segment = s; start = start; pads = pads; is = e ∙ ap (λ (x : Shape). Ok (targets.Content s start x pads)) h.3; inside = h.4 })
   is-inside at s start pads shape (cap k) e h = absurd h
 
--- what stands inside objects, as values
-module _ {A : Type 0} (m : List (List ℕ)) (s start : ℕ) (shape : Shape) where
-  pub inside-struct : (a b : ℕ) (ws : List ℕ) (vs : List (Value A)) → shape ≡ shapes.Node a b → length ws ≡ a → take a (words_from m s start) ≡ ws →
-      count (trees_of vs) ≡ b → AreAt m s (start + a) (trees_of vs) → IsInside m shape s start (tree_of (Node (roll-Body A (record { words = ws; slots = vs }))))
-  inside-struct a b ws vs e l w n h = rw (tree_of-Node _) (e ∙ ap₂ shapes.Node (sym l) (sym n), rw l w, rw l h)
+-- what stands inside objects
+module _ (m : List (List ℕ)) (s start : ℕ) (shape : Shape) where
+  pub inside-struct : (a b : ℕ) (ws : List ℕ) (ts : Trees) → shape ≡ shapes.Node a b → length ws ≡ a → take a (words_from m s start) ≡ ws →
+      count ts ≡ b → AreAt m s (start + a) ts → IsInside m shape s start (node ws ts)
+  inside-struct a b ws ts e l w n h = (e ∙ ap₂ shapes.Node (sym l) (sym n), rw l w, rw l h)
 
-  pub inside-links : (n : ℕ) (vs : List (Value A)) → shape ≡ shapes.Many Link n → count (trees_of vs) ≡ n → AreAt m s start (trees_of vs) →
-      IsInside m shape s start (tree_of (Links vs))
-  inside-links n vs e l h = rw (tree_of-Links _) (e ∙ ap (shapes.Many Link) (sym l), h)
+  pub inside-links : (n : ℕ) (ts : Trees) → shape ≡ shapes.Many Link n → count ts ≡ n → AreAt m s start ts → IsInside m shape s start (links ts)
+  inside-links n ts e l h = (e ∙ ap (shapes.Many Link) (sym l), h)
 
-  pub inside-rows : (n a b span : ℕ) (bs : List (Body A)) → shape ≡ shapes.Rows n a b span → count_rows (rows_of bs) ≡ n → RowsAt m a b s (suc start) (rows_of bs) →
-      IsInside m shape s start (tree_of (Rows bs))
-  inside-rows n a b span bs e l h = rw (tree_of-Rows bs) (a, b, span, e ∙ ap (λ (k : ℕ). shapes.Rows k a b span) (sym l), h)
+  pub inside-rows : (n a b span : ℕ) (bs : Bodies) → shape ≡ shapes.Rows n a b span → count_rows bs ≡ n → RowsAt m a b s (suc start) bs →
+      IsInside m shape s start (rows bs)
+  inside-rows n a b span bs e l h = (a, b, span, e ∙ ap (λ (k : ℕ). shapes.Rows k a b span) (sym l), h)

@@ -16,6 +16,7 @@
 #![tactic(auto)]
 
 mod content;
+mod found;
 mod limits;
 mod lists;
 mod price;

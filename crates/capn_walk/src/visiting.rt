@@ -9,6 +9,7 @@ ghost use Rattle.capn_walk.specs.Visits.{places, row_places, slots, visits, visi
 ghost use Rattle.capn_walk.specs.At.{IsAt, AreAt, RowsAt};
 ghost use Rattle.capn_walk.specs.Walked.{Gives, Refuses, IsInside, IsContent, RowsFit, extent, slot_count};
 
+use crate::found::{Found, FoundRows, FoundSlots};
 use crate::lists::{list_at, words_at};
 use crate::price::price_of;
 use crate::resolving::resolve;
@@ -17,30 +18,6 @@ use crate::walked::{Stopped, out_of_memory, stop};
 use capn_value::{Body, Items, Value};
 use capn_words::{Place, Space, Width};
 use std::alloc::Allocator;
-
-/// The value of a slot, what was paid for it, and how many visits were made.
-#[derive(Drop)]
-pub struct Found<A: Allocator> {
-    pub value: Value<A>,
-    pub paid: u32,
-    pub visits: u32,
-}
-
-/// The values of slots that stand one behind the other.
-#[derive(Drop)]
-struct FoundSlots<A: Allocator> {
-    items: Items<Value<A>, A>,
-    paid: u32,
-    visits: u32,
-}
-
-/// The rows of a composite list.
-#[derive(Drop)]
-struct FoundRows<A: Allocator> {
-    rows: Items<Body<A>, A>,
-    paid: u32,
-    visits: u32,
-}
 
 /// What a slot denotes, at most `depth` objects deep, where `left` words are left to pay.
 #[cycle(walk)]
@@ -85,8 +62,8 @@ pub fn walk_target<S: Space, A: Allocator + Copy>(
     ensures refused { IfErr result (λ s. Refuses left (visits (S.message space.now) 1 depth at) 1 s) }
 {
     match target {
-        Target::Nil => Ok(without_content(Value::Nil)),
-        Target::Cap(index) => Ok(without_content(Value::Cap(index))),
+        Target::Nil => Ok(Found::without_content(Value::Nil)),
+        Target::Cap(index) => Ok(Found::without_content(Value::Cap(index))),
         Target::Content {
             segment,
             start,
@@ -158,14 +135,7 @@ fn object<S: Space, A: Allocator + Copy>(
                 depth,
                 left,
             )?;
-            Ok(Found {
-                value: Value::Node(Body {
-                    words,
-                    slots: below.items,
-                }),
-                paid: below.paid,
-                visits: below.visits,
-            })
+            Ok(below.into_struct(words))
         }
         Shape::Many { width, count } => match width {
             Width::Link => {
@@ -178,11 +148,7 @@ fn object<S: Space, A: Allocator + Copy>(
                     depth,
                     left,
                 )?;
-                Ok(Found {
-                    value: Value::Links(below.items),
-                    paid: below.paid,
-                    visits: below.visits,
-                })
+                Ok(below.into_list())
             }
             _ => {
                 let Ok(value) = list_at(alloc, space, start, width, count) else {
@@ -206,11 +172,7 @@ fn object<S: Space, A: Allocator + Copy>(
                 word: start.word + 1,
             };
             let below = walk_rows(alloc, space, first, count, words, slots, depth, left)?;
-            Ok(Found {
-                value: Value::Rows(below.rows),
-                paid: below.paid,
-                visits: below.visits,
-            })
+            Ok(below.into_list())
         }
     }
 }
@@ -332,17 +294,4 @@ fn walk_rows<S: Space, A: Allocator + Copy>(
         next = first + slots as u32;
     }
     Ok(FoundRows { rows, paid, visits })
-}
-
-/// A slot that has no content, which costs nothing.
-fn without_content<A: Allocator>(value: Value<A>) -> Found<A>
-    ensures value { result.value ≡ value }
-    ensures paid { result.paid ≡ 0 }
-    ensures visits { result.visits ≡ 1 }
-{
-    Found {
-        value,
-        paid: 0,
-        visits: 1,
-    }
 }

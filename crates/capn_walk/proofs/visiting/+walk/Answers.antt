@@ -1,4 +1,5 @@
 use Rattle.std.proofs.Common.{rules, ◌≡◌, ℕ, suc, ◌+◌, ◌*◌, ◌^◌, ◌≤◌, Ok, Err, arith, ap, ◌∙◌, inl, refl}
+use Rattle.capn_value.specs.View.{trees_of, rows_of}
 use Rattle.capn_value.specs.Views.{tree_of-Nil, tree_of-Cap}
 use Rattle.capn_words.specs.declared.pointer.Width.{Width}
 use Rattle.capn_walk.specs.declared.target.Shape.TheVariants as shapes
@@ -119,24 +120,42 @@ walk_target-returns-in-Err-clause-refused g t c =
 
 -- ---- an object
 
+pub object-returns-in_ok-below-in-Node-clause-pays : goal.object-returns-in_ok-below-in-Node-clause-pays
+object-returns-in_ok-below-in-Node-clause-pays g t c =
+    let made = c.into_struct.ensures in
+    rw (c.in-Node.is, made.paid, made.visits) c.in_ok-below-in-Node.ensures.pays
+
 pub object-returns-in_ok-below-in-Node-clause-value : goal.object-returns-in_ok-below-in-Node-clause-value
 object-returns-in_ok-below-in-Node-clause-value g t c =
     let b = c.in_ok-below-in-Node in
-    inside-struct (g.S.Space.message c.args.space.now) c.args.start.segment c.args.start.word c.args.shape c.in-Node.words c.in-Node.slots c.in-Ok.words b.below.items
-    c.in-Node.is c.in-Ok.ensures.number c.in-Ok.ensures.words b.ensures.number b.ensures.value
+    rw c.into_struct.ensures.value
+    (inside-struct (g.S.Space.message c.args.space.now) c.args.start.segment c.args.start.word c.args.shape c.in-Node.words c.in-Node.slots c.in-Ok.words (trees_of b.below.items)
+    c.in-Node.is c.in-Ok.ensures.number c.in-Ok.ensures.words b.ensures.number b.ensures.value)
+
+pub object-returns-in_ok-below-in-Link-clause-pays : goal.object-returns-in_ok-below-in-Link-clause-pays
+object-returns-in_ok-below-in-Link-clause-pays g t c =
+    let made = c.into_list.ensures in
+    rw (c.in-Many.is, c.in-Link.is, made.paid, made.visits) c.in_ok-below-in-Link.ensures.pays
 
 pub object-returns-in_ok-below-in-Link-clause-value : goal.object-returns-in_ok-below-in-Link-clause-value
 object-returns-in_ok-below-in-Link-clause-value g t c =
     let b = c.in_ok-below-in-Link in
-    inside-links (g.S.Space.message c.args.space.now) c.args.start.segment c.args.start.word c.args.shape c.in-Many.count b.below.items
-    (c.in-Many.is ∙ ap (λ (w : Width). shapes.Many w c.in-Many.count) c.in-Link.is) b.ensures.number b.ensures.value
+    rw c.into_list.ensures.value
+    (inside-links (g.S.Space.message c.args.space.now) c.args.start.segment c.args.start.word c.args.shape c.in-Many.count (trees_of b.below.items)
+    (c.in-Many.is ∙ ap (λ (w : Width). shapes.Many w c.in-Many.count) c.in-Link.is) b.ensures.number b.ensures.value)
+
+pub object-returns-in_ok-below-in-Rows-clause-pays : goal.object-returns-in_ok-below-in-Rows-clause-pays
+object-returns-in_ok-below-in-Rows-clause-pays g t c =
+    let made = c.into_list-in-Rows.ensures in
+    rw (c.in-Rows.is, made.paid, made.visits) c.in_ok-below-in-Rows.ensures.pays
 
 pub object-returns-in_ok-below-in-Rows-clause-value : goal.object-returns-in_ok-below-in-Rows-clause-value
 object-returns-in_ok-below-in-Rows-clause-value g t c =
     let b = c.in_ok-below-in-Rows in
     let e : suc c.args.start.word ≡ c.args.start.word + 1 = omega arith in
-    inside-rows (g.S.Space.message c.args.space.now) c.args.start.segment c.args.start.word c.args.shape c.in-Rows.count c.in-Rows.words c.in-Rows.slots c.in-Rows.span b.below.rows
-    c.in-Rows.is b.ensures.number (rw e b.ensures.value)
+    rw c.into_list-in-Rows.ensures.value
+    (inside-rows (g.S.Space.message c.args.space.now) c.args.start.segment c.args.start.word c.args.shape c.in-Rows.count c.in-Rows.words c.in-Rows.slots c.in-Rows.span (rows_of b.below.rows)
+    c.in-Rows.is b.ensures.number (rw e b.ensures.value))
 
 -- ---- slots
 

@@ -1,7 +1,7 @@
 use Rattle.std.proofs.Common.{arith, sym}
 use Rattle.capn_value.specs.Views.{tree_of-Nil, tree_of-Node, tree_of-Voids, tree_of-Bits, tree_of-Bytes, tree_of-Pairs, tree_of-Quads, tree_of-Octs, tree_of-Links, tree_of-Rows, tree_of-Cap}
 use Rattle.capn_value.proofs.Apart.{not_nil, not_node, not_voids, not_bits, not_bytes, not_pairs, not_quads, not_octs, not_links, not_rows, not_cap, test_slots-past_shared}
-use Rattle.capn_value.proofs.equal.+test.Goals as goal
+use Rattle.capn_value.proofs.equal.+sameness.Goals as goal
 
 pub test-returns-in_default : goal.test-returns-in_default
 test-returns-in_default g t c = rw (c.in_default.is-0, tree_of-Nil) (sym (not_nil _ c.in_default.not-Nil-1))

@@ -1,0 +1,74 @@
+-- Canonical bytes, read bare, denote the trimmed value, and are paid exactly its cost.
+use Rattle.std.proofs.Common.{◌≡◌, ℕ, ◌^◌, ◌≤◌, List, [], ◌∷◌, length, true, refl, ap, sym, ◌∙◌, arith}
+use Rattle.capn_words.proofs.OneSegment.{bare_only}
+use Rattle.capn_value.specs.Tree.{Tree, nil, node, voids, bits, bytes, pairs, quads, octs, links, rows, cap}
+use Rattle.capn_value.specs.InRange.{InRange}
+use Rattle.capn_value.specs.Fits.{Fits, is_root}
+use Rattle.capn_value.specs.Sizes.{cost, height}
+use Rattle.capn_value.specs.Trim.{trimmed}
+use Rattle.capn_value.proofs.Fitting.{fit_parts}
+use Rattle.capn_value.proofs.StaysFit.{fits-trimmed}
+use Rattle.capn_value.proofs.Trimmed.{cost-trimmed, height-trimmed}
+use Rattle.capn_walk.specs.Visits.{visits}
+use Rattle.capn_walk.specs.Accepted.{root, visits_at_root, root_visits}
+use Rattle.capn_walk.specs.At.{IsAt}
+use Rattle.capn_walk.specs.Denotes.{paid}
+use Rattle.capn_walk.specs.Limits.{Bounds}
+use Rattle.capn_canon.specs.declared.form.Form.TheVariants as forms
+use Rattle.capn_canon.specs.Denotes.{Denotes}
+use Rattle.capn_canon.specs.Layout.{words, canon}
+use Rattle.capn_canon.specs.Canonicity.{PaysItsCost}
+use Rattle.capn_canon.proofs.Sound.{sound}
+use Rattle.capn_canon.proofs.Room.{room}
+use Rattle.capn_canon.proofs.Tight.{Pays}
+use Rattle.capn_canon.proofs.ReadBack.{read_back, pays_cost}
+use Rattle.capn_canon.proofs.BareCanon.{canon_is_bare, words_in_canon}
+
+-- the root's visits are those of its slot, where a value that may be a root stands there
+root-alone : (m : List (List ℕ)) (each depth : ℕ) (v : Tree) → is_root v ≡ true → IsAt m root v → root_visits m each depth ≡ visits m each depth root
+unfolding root_visits
+root-alone m each depth nil k h = ap (λ r. visits_at_root m each r (visits m each depth root)) h
+root-alone m each depth (node ws ss) k h = ap (λ r. visits_at_root m each r (visits m each depth root)) h.is
+root-alone m each depth (cap i) k h = absurd cc
+root-alone m each depth (voids n) k h = absurd cc
+root-alone m each depth (bits xs) k h = absurd cc
+root-alone m each depth (bytes xs) k h = absurd cc
+root-alone m each depth (pairs xs) k h = absurd cc
+root-alone m each depth (quads xs) k h = absurd cc
+root-alone m each depth (octs xs) k h = absurd cc
+root-alone m each depth (links ts) k h = absurd cc
+root-alone m each depth (rows bs) k h = absurd cc
+
+module _ (v : Tree) (each : ℕ) (limits : Bounds) (f : Fits v) (r : InRange v) (low : height v ≤ limits.depth) where
+  few : length (words v) ≤ 2 ^ 29
+  few = let l = (room v f r).2 in omega arith
+
+  at-root : IsAt (words v ∷ []) root (trimmed v)
+  at-root = read_back v (sound v f r) few
+
+  alone : root_visits (words v ∷ []) each limits.depth ≡ visits (words v ∷ []) each limits.depth root
+  alone = root-alone (words v ∷ []) each limits.depth (trimmed v) (fit_parts (trimmed v) (fits-trimmed v f)).root at-root
+
+  visited : Pays (words v ∷ []) each (root_visits (words v ∷ []) each limits.depth) (cost each (trimmed v))
+  visited = rw alone (pays_cost v each limits.depth (sound v f r) few (omega (arith, height-trimmed v)))
+
+  -- the walk of canonical bytes, read bare, pays exactly the cost of the trimmed value
+  pub pays_its_cost : PaysItsCost (canon v) each limits v
+  pays_its_cost m (ws, b, e) =
+      let same : ws ≡ words v = sym (bare_only (canon v) ws b) ∙ words_in_canon v f r in
+      ap (λ (n : List (List ℕ)). paid n each limits.depth) e ∙ ap (λ (us : List ℕ). paid (us ∷ []) each limits.depth) same ∙ visited.sum
+
+  -- under limits that hold the value's cost and height, canonical bytes denote the trimmed value
+  pub read_bare : cost each v ≤ limits.budget → Denotes forms.Bare (canon v) each limits (trimmed v)
+  read_bare cheap =
+      let c = cost-trimmed each v (fit_parts v f).even in
+      let s = visited.sum in
+      let n = (room v f r).0 in
+      record {
+        message = words v ∷ [];
+        reads = (words v, canon_is_bare v f r, refl);
+        value = record {
+          accepted = record { some = omega arith; within = record { all = visited.all; paid = omega arith } };
+          is = at-root;
+        };
+      }

@@ -1,0 +1,48 @@
+use Rattle.std.proofs.Common.{◌*◌, ◌∙◌, ap, sym, subst, refl, List, Option, ℕ, ◌++◌, length, replicate, length-append, arith}
+use Rattle.std.proofs.lemmas.List.{length-replicate}
+use Rattle.capn_canon.specs.Layout.{packed, words_for}
+use Rattle.capn_canon.specs.Padded.{pad, padded}
+use Rattle.capn_canon.specs.Patch.{patched, whole, IsPatched}
+use Rattle.capn_canon.proofs.Patched.{patched-same, patched-padded, is-padded, OnErr-always}
+use Rattle.capn_canon.proofs.patch.Patch.extend_bytes.Goals as goal
+
+pub returns-in_err-cover-clause-err : goal.returns-in_err-cover-clause-err
+returns-in_err-cover-clause-err g c =
+    OnErr-always c.from_residual.result (patched-same c.self.inside.holes.items c.cover.new.marks.items c.self.inside.bytes.items c.cover.ensures.same ∙ c.self.view_is)
+
+pub returns-in_err-append_bytes-clause-err : goal.returns-in_err-append_bytes-clause-err
+returns-in_err-append_bytes-clause-err g c =
+    OnErr-always c.from_residual-in_err-append_bytes.result
+    (ap (patched c.cover.new.marks.items) c.in_err-append_bytes.ensures.err
+    ∙ patched-same c.self.inside.holes.items c.cover.new.marks.items c.self.inside.bytes.items c.cover.ensures.same ∙ c.self.view_is)
+
+pub invariant_of-self-2 : goal.invariant_of-self-2
+invariant_of-self-2 g c =
+    let content = c.args.xs.now in
+    let k = words_for (8 * length c.args.xs.now) in
+    let n = length c.args.xs.now in
+    let a = length-append c.self.inside.bytes.items (padded content) in
+    let b = length-append content (replicate (pad (length content)) 0) in
+    let r = length-replicate {A = ℕ} (pad (length content)) 0 in
+    let d = ap length c.in_ok-append_bytes.ensures.ok in
+    let o = c.append_bytes.new.bytes.ok.0 in
+    let o1 = c.append_bytes.new.bytes.ok.1 in
+    let small = c.append_bytes.new.bytes.small in
+    let room = c.in_ok-cover.ensures.room in
+    let s = c.saturating_add.ensures in
+    let e = c.len-words.ensures in
+    let o2 = c.self.inside.bytes.ok.0 in
+    let z = c.div_ceil.ensures in
+    subst (IsPatched c.cover.new.marks.items) (sym c.in_ok-append_bytes.ensures.ok)
+    (is-padded c.self.inside.holes.items c.cover.new.marks.items c.self.inside.bytes.items content k c.self.invariant c.cover.ensures.same
+    (omega arith) (omega arith) (λ i. omega (arith, c.type_inv.xs i)))
+
+pub returns-clause-ok : goal.returns-clause-ok
+returns-clause-ok g c =
+    let content = c.args.xs.now in
+    let k = words_for (8 * length c.args.xs.now) in
+    let n = length c.args.xs.now in
+    ap (patched c.cover.new.marks.items) c.in_ok-append_bytes.ensures.ok
+    ∙ patched-padded c.self.inside.holes.items c.cover.new.marks.items c.self.inside.bytes.items content k c.self.invariant c.cover.ensures.same (omega arith)
+    ∙ ap (λ (ws : List ℕ). patched c.self.inside.holes.items c.self.inside.bytes.items ++ whole ws) (refl)
+    ∙ ap (λ (xs : List (Option ℕ)). xs ++ whole (packed 8 8 (words_for (8 * length c.args.xs.now)) c.args.xs.now)) c.self.view_is

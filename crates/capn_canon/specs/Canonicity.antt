@@ -1,0 +1,39 @@
+-- What makes bytes the canonical form of a value. (Page: canonicalization; what the page leaves open is our own.)
+use Rattle.std.specs.Prelude.{◌≡◌, ◌↔◌, ℕ, List}
+use Rattle.capn_value.specs.Tree.{Tree}
+use Rattle.capn_value.specs.InRange.{InRange}
+use Rattle.capn_value.specs.Fits.{Fits}
+use Rattle.capn_value.specs.Same.{Same}
+use Rattle.capn_value.specs.Sizes.{cost}
+use Rattle.capn_value.specs.Trim.{trimmed}
+use Rattle.capn_walk.specs.Denotes.{paid}
+use Rattle.capn_walk.specs.Limits.{Bounds}
+use Rattle.capn_canon.specs.declared.form.Form.TheVariants as forms
+use Rattle.capn_canon.specs.Reads.{Reads}
+use Rattle.capn_canon.specs.Denotes.{Denotes}
+use Rattle.capn_canon.specs.Layout.{canon}
+
+-- read bare under the limits, the bytes denote the trimmed value, which is the same value
+pub record ReadsBack (bs : List ℕ) (each : ℕ) (limits : Bounds) (v : Tree) : Type 0 where
+  pub denotes : Denotes forms.Bare bs each limits (trimmed v)
+  pub same : Same (trimmed v) v
+
+-- so read, they pay exactly the cost of the trimmed value
+abbrev pub PaysItsCost : List ℕ → ℕ → Bounds → Tree → Type 0
+PaysItsCost bs each limits v =
+    (message : List (List ℕ)) → Reads forms.Bare bs limits.message_words message → paid message each limits.depth ≡ cost each (trimmed v)
+
+-- the canonical bytes of the trimmed value are these bytes again
+abbrev pub IsItsOwnForm : List ℕ → Tree → Type 0
+IsItsOwnForm bs v = canon (trimmed v) ≡ bs
+
+-- a second value has these canonical bytes exactly if it is the same value
+abbrev pub IsFormExactlyOf : List ℕ → Tree → Type 0
+IsFormExactlyOf bs v = (w : Tree) → Fits w → InRange w → (canon w ≡ bs) ↔ Same v w
+
+-- the four together
+pub record IsCanonicalForm (bs : List ℕ) (each : ℕ) (limits : Bounds) (v : Tree) : Type 0 where
+  pub reads_back : ReadsBack bs each limits v
+  pub pays : PaysItsCost bs each limits v
+  pub own : IsItsOwnForm bs v
+  pub exactly : IsFormExactlyOf bs v

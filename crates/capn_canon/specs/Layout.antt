@@ -1,0 +1,134 @@
+-- The canonical layout of a value, by sums of sizes. (Page: canonicalization.)
+use Rattle.std.specs.Prelude.{ℕ, zero, suc, ◌+◌, ◌-◌, ◌*◌, ◌/◌, ◌^◌, ◌==◌, ◌&&◌, List, [], ◌∷◌, ◌++◌, map, length, take, drop, pos, negsuc, if◌then◌else◌}
+use Rattle.std.specs.Int.{from_bool}
+use Rattle.capn_words.specs.Words.{bytes}
+use Rattle.capn_words.specs.Fields.{word_of}
+use Rattle.capn_words.specs.declared.pointer.Pointer.TheVariants.{Node, Many, Cap}
+use Rattle.capn_words.specs.declared.pointer.Width.{Width}
+use Rattle.capn_words.specs.declared.pointer.Width.TheVariants.{W0, W1, W8, W16, W32, W64, Link, Rows}
+use Rattle.capn_value.specs.Tree.{Tree, nil, node, voids, bits, bytes as octets, pairs, quads, octs, links, rows, cap, Trees, no_trees, tree, Bodies, no_bodies, body, count, count_rows}
+use Rattle.capn_value.specs.Trim.{kept_words, kept_slots, kept_words_of_rows, kept_slots_of_rows}
+
+-- the words that so many bits take (page: lists)
+abbrev pub words_for : ℕ → ℕ
+words_for n = (n + 63) / 64
+
+-- the words that a row of a list of structs takes, when all rows are cut jointly (page: canonicalization)
+abbrev pub row_size : Bodies → ℕ
+row_size bs = kept_words_of_rows bs + kept_slots_of_rows bs
+
+-- the words of a value's own content: what is kept of a struct, the elements of a list, a tag before rows (pages: structs, lists)
+abbrev pub own : Tree → ℕ
+own nil = 0
+own (cap k) = 0
+own (node ws ss) = kept_words ws + kept_slots ss
+own (voids n) = 0
+own (bits xs) = words_for (length xs)
+own (octets xs) = words_for (8 * length xs)
+own (pairs xs) = words_for (16 * length xs)
+own (quads xs) = words_for (32 * length xs)
+own (octs xs) = length xs
+own (links ts) = count ts
+own (rows bs) = 1 + count_rows bs * row_size bs
+
+-- the words of a value with all that is below it (own)
+abbrev mutual
+  pub size : Tree → ℕ
+  size (node ws ss) = own (node ws ss) + sizes ss
+  size (links ts) = own (links ts) + sizes ts
+  size (rows bs) = own (rows bs) + sizes_in_rows bs
+  size nil = 0
+  size (cap k) = 0
+  size (voids n) = own (voids n)
+  size (bits xs) = own (bits xs)
+  size (octets xs) = own (octets xs)
+  size (pairs xs) = own (pairs xs)
+  size (quads xs) = own (quads xs)
+  size (octs xs) = own (octs xs)
+
+  pub sizes : Trees → ℕ
+  sizes no_trees = 0
+  sizes (tree t ts) = size t + sizes ts
+
+  pub sizes_in_rows : Bodies → ℕ
+  sizes_in_rows no_bodies = 0
+  sizes_in_rows (body ws ss bs) = sizes ss + sizes_in_rows bs
+
+-- the pointer, at word `from`, to a list whose content starts at word `to`; its offset counts from the next word (page: lists)
+abbrev pub list_to : ℕ → ℕ → Width → ℕ → ℕ
+list_to from to width n = word_of (Many (pos (to - suc from)) width n)
+
+-- the pointer to a struct: offset -1 where it has no words, so that it isn't null (page: canonicalization)
+abbrev pub struct_to : ℕ → ℕ → ℕ → ℕ → ℕ
+struct_to from to a b = word_of (if (a == 0) && (b == 0) then Node (negsuc 0) 0 0 else Node (pos (to - suc from)) a b)
+
+-- the pointer, at word `from`, to the value whose content starts at word `to` (pages: structs, lists, capabilities)
+unfoldable pub point : Tree → ℕ → ℕ → ℕ
+point nil from to = 0
+point (node ws ss) from to = struct_to from to (kept_words ws) (kept_slots ss)
+point (voids n) from to = list_to from to W0 n
+point (bits xs) from to = list_to from to W1 (length xs)
+point (octets xs) from to = list_to from to W8 (length xs)
+point (pairs xs) from to = list_to from to W16 (length xs)
+point (quads xs) from to = list_to from to W32 (length xs)
+point (octs xs) from to = list_to from to W64 (length xs)
+point (links ts) from to = list_to from to Link (count ts)
+point (rows bs) from to = list_to from to Rows (count_rows bs * row_size bs)
+point (cap k) from to = word_of (Cap k)
+
+-- the pointers to values whose content stands one behind the other, each with all below it (page: canonicalization, preorder)
+abbrev pub points : Trees → ℕ → ℕ → List ℕ
+points no_trees from to = []
+points (tree t ts) from to = point t from to ∷ points ts (suc from) (to + size t)
+
+-- numbers below a base as one number, the first lowest (page: lists)
+abbrev pub number : ℕ → List ℕ → ℕ
+number base [] = 0
+number base (x ∷ xs) = x + base * number base xs
+
+-- n words, each of so many elements of so many bits; what is missing in the last one is 0 (own)
+abbrev pub packed : ℕ → ℕ → ℕ → List ℕ → List ℕ
+packed each width zero xs = []
+packed each width (suc n) xs = number (2 ^ width) (take each xs) ∷ packed each width n (drop each xs)
+
+-- the own content of rows, cut to a words and b slots, whose children start at word `to` (page: lists, composite)
+abbrev pub row_contents : ℕ → ℕ → Bodies → ℕ → ℕ → List ℕ
+row_contents a b no_bodies from to = []
+row_contents a b (body ws ss bs) from to =
+    take a ws ++ (take b (points ss (from + a) to) ++ row_contents a b bs (from + a + b) (to + sizes ss))
+
+-- a value's content at word `at`, and behind it the content of what is below (page: canonicalization, preorder)
+abbrev mutual
+  pub lay : Tree → ℕ → List ℕ
+  lay (node ws ss) at =
+      take (kept_words ws) ws
+      ++ (take (kept_slots ss) (points ss (at + kept_words ws) (at + own (node ws ss))) ++ lays ss (at + own (node ws ss)))
+  lay (links ts) at = points ts at (at + count ts) ++ lays ts (at + count ts)
+  lay (rows bs) at =
+      word_of (Node (pos (count_rows bs)) (kept_words_of_rows bs) (kept_slots_of_rows bs))
+      ∷ (row_contents (kept_words_of_rows bs) (kept_slots_of_rows bs) bs (suc at) (at + own (rows bs))
+      ++ lays_in_rows bs (at + own (rows bs)))
+  lay nil at = []
+  lay (cap k) at = []
+  lay (voids n) at = []
+  lay (bits xs) at = packed 64 1 (own (bits xs)) (map from_bool xs)
+  lay (octets xs) at = packed 8 8 (own (octets xs)) xs
+  lay (pairs xs) at = packed 4 16 (own (pairs xs)) xs
+  lay (quads xs) at = packed 2 32 (own (quads xs)) xs
+  lay (octs xs) at = xs
+
+  pub lays : Trees → ℕ → List ℕ
+  lays no_trees at = []
+  lays (tree t ts) at = lay t at ++ lays ts (at + size t)
+
+  pub lays_in_rows : Bodies → ℕ → List ℕ
+  lays_in_rows no_bodies at = []
+  lays_in_rows (body ws ss bs) at = lays ss at ++ lays_in_rows bs (at + sizes ss)
+
+-- the canonical words: the pointer to the root in word 0, its content from word 1 on (page: canonicalization)
+unfoldable pub words : Tree → List ℕ
+words v = point v 0 1 ∷ lay v 1
+
+-- the canonical bytes (page: canonicalization)
+abbrev pub canon : Tree → List ℕ
+canon v = bytes (words v)

@@ -1,0 +1,12 @@
+pub mod Answers
+pub mod Canonicity
+pub mod Denotes
+pub mod Laws
+pub mod Laying
+pub mod Layout
+pub mod LayoutFault
+pub mod Padded
+pub mod Patch
+pub mod Reads
+pub mod Refused
+pub mod Sound

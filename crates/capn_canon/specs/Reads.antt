@@ -1,0 +1,33 @@
+-- Which message bytes are read as, in each form. (Page: messages, serialization over a stream, packing; the limits are our own.)
+use Rattle.std.specs.Prelude.{◌≡◌, ℕ, ◌+◌, ◌*◌, ◌/◌, ◌<◌, ◌≤◌, List, [], ◌∷◌, length}
+use Rattle.capn_words.specs.Limits.{most_segments}
+use Rattle.capn_words.specs.Message.{total}
+use Rattle.capn_words.specs.Words.{IsBare}
+use Rattle.capn_pack.specs.Packs.{Packs}
+use Rattle.capn_stream.specs.Frames.{Frames, StandsFirst}
+use Rattle.capn_canon.specs.declared.form.Form.{Form}
+use Rattle.capn_canon.specs.declared.form.Form.TheVariants as forms
+
+-- the words of the longest table: 4 bytes for the number of segments, 4 for the size of each, and 4 of padding
+abbrev pub most_table_words : ℕ
+most_table_words = (4 + 4 * most_segments + 4) / 8
+
+-- the bytes are one frame of the message, which has at most so many words
+pub record IsFramed (bs : List ℕ) (most : ℕ) (message : List (List ℕ)) : Type 0 where
+  pub frame : Frames bs message
+  pub room : total message ≤ most
+
+-- the bytes pack a text of at most so many words and those of the longest table
+pub record Unpacks (bs : List ℕ) (most : ℕ) (text : List ℕ) : Type 0 where
+  pub packs : Packs bs text
+  pub room : length text ≤ 8 * (most + most_table_words)
+
+-- the bytes, in a form, are those of the message; the limit on message words bounds framed messages alone
+abbrev pub Reads : Form → List ℕ → ℕ → List (List ℕ) → Type 0
+Reads forms.Bare bs most message = (ws : List ℕ) × IsBare bs ws × (message ≡ ws ∷ [])
+Reads forms.Stream bs most message = IsFramed bs most message
+Reads forms.Packed bs most message = (text : List ℕ) × Unpacks bs most text × IsFramed text most message
+
+-- the frame of a message of at most so many words stands first in the bytes, and more bytes follow from an offset on
+abbrev pub Trails : List ℕ → ℕ → ℕ → Type 0
+Trails bs most at = (message : List (List ℕ)) × StandsFirst bs most message at × (at < length bs)

@@ -1,0 +1,51 @@
+-- Why bytes have no canonical bytes, in each form: by their reading, by the walk of the message, by a capability. (Own: the order of the tests.)
+use Rattle.std.specs.Prelude.{◌≡◌, ◌≢◌, ℕ, ◌+◌, List, Some, Err, ⊤}
+use Rattle.capn_words.specs.Words.{ReadsBare}
+use Rattle.capn_pack.specs.Refusal as packs
+use Rattle.capn_pack.specs.declared.fault.UnpackFault.TheVariants as unpack_faults
+use Rattle.capn_stream.specs.Reading as frames
+use Rattle.capn_stream.specs.declared.fault.FrameFault.TheVariants as frame_faults
+use Rattle.capn_value.specs.Tree.{Tree}
+use Rattle.capn_value.specs.Caps.{first_cap}
+use Rattle.capn_walk.specs.Denotes as walks
+use Rattle.capn_walk.specs.Limits.{Bounds}
+use Rattle.capn_canon.specs.declared.form.Form.{Form}
+use Rattle.capn_canon.specs.declared.form.Form.TheVariants as forms
+use Rattle.capn_canon.specs.declared.refusal.Refusal.{Refusal}
+use Rattle.capn_canon.specs.declared.refusal.Refusal.TheVariants as refusals
+use Rattle.capn_canon.specs.Reads.{Reads, Trails, Unpacks, most_table_words}
+
+-- the bytes are no frame of at most so many words, or more than one
+abbrev pub IsMisframed : List ℕ → ℕ → Refusal → Type 0
+IsMisframed bs most (refusals.Frame e) = (e ≢ frame_faults.Memory) × frames.IsRefused bs most e
+IsMisframed bs most (refusals.Trailing at) = Trails bs most at
+IsMisframed bs most _ = ⊥
+
+-- the bytes are not read in the form
+abbrev pub IsMisread : Form → List ℕ → ℕ → Refusal → Type 0
+IsMisread forms.Bare bs most (refusals.Bare e) = ReadsBare bs (Err e)
+IsMisread forms.Bare bs most _ = ⊥
+IsMisread forms.Stream bs most r = IsMisframed bs most r
+IsMisread forms.Packed bs most (refusals.Packed e) = (e ≢ unpack_faults.Memory) × packs.IsRefused bs (most + most_table_words) e
+IsMisread forms.Packed bs most r = (text : List ℕ) × Unpacks bs most text × IsMisframed text most r
+
+-- the message is not accepted, or its value has a capability, the first of which is told; nothing is said of want of memory
+abbrev pub IsRefusedMessage : List (List ℕ) → ℕ → Bounds → Refusal → Type 0
+IsRefusedMessage message each limits (refusals.Walk s) = walks.IsRefused message each limits.budget limits.depth s.fault s.place s.paid s.visits
+IsRefusedMessage message each limits (refusals.Capability k) = (v : Tree) × walks.IsValueOf message each limits.budget limits.depth v × (first_cap v ≡ Some k)
+IsRefusedMessage message each limits refusals.Memory = ⊤
+IsRefusedMessage message each limits _ = ⊥
+
+-- the bytes are not read, or the message that they are read as is refused
+abbrev pub IsRefused : Form → List ℕ → ℕ → Bounds → Refusal → Type 0
+IsRefused form bs each limits (refusals.Walk s) =
+    (message : List (List ℕ)) × Reads form bs limits.message_words message × IsRefusedMessage message each limits (refusals.Walk s)
+IsRefused form bs each limits (refusals.Capability k) =
+    (message : List (List ℕ)) × Reads form bs limits.message_words message × IsRefusedMessage message each limits (refusals.Capability k)
+IsRefused form bs each limits refusals.Memory = ⊤
+IsRefused form bs each limits r = IsMisread form bs limits.message_words r
+
+-- what a refusal tells as paid is within a budget, and the visits are at most one more
+abbrev pub IsPaidWithin : ℕ → Refusal → Type 0
+IsPaidWithin budget (refusals.Walk s) = walks.IsBounded budget s.paid s.visits
+IsPaidWithin budget _ = ⊤

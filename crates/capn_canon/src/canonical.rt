@@ -1,0 +1,73 @@
+//! Canonical bytes of messages.
+
+ghost use Rattle.std.specs.Prelude.{◌≡◌, ◌≢◌, ℕ, ◌*◌, ◌+◌, ◌≤◌, None, length, IfOk, IfErr, MatchResult};
+ghost use Rattle.capn_value.specs.Tree.{Tree as Value};
+ghost use Rattle.capn_value.specs.Caps.{first_cap};
+ghost use Rattle.capn_walk.specs.Denotes.{IsValueOf};
+ghost use Rattle.capn_canon.specs.Layout.{canon};
+ghost use Rattle.capn_canon.specs.Answers.{AnswersMessage};
+ghost use Rattle.capn_canon.specs.Canonicity.{ReadsBack, PaysItsCost, IsItsOwnForm, IsFormExactlyOf};
+ghost use Rattle.capn_canon.specs.Refused.{IsRefusedMessage, IsPaidWithin};
+ghost use Rattle.capn_canon.specs.declared.refusal.Refusal.TheVariants as refusals;
+
+use crate::laying::{LayoutFault, layout};
+use crate::refusal::Refusal;
+use capn_walk::{Fault, Limits, walk};
+use capn_words::Space;
+use std::alloc::{Allocator, Global};
+
+/// Canonical bytes, and the words that the walk of the message paid.
+#[derive(Debug, Drop)]
+pub struct Canonical<A: Allocator = Global> {
+    /// The canonical bytes: at most 8 for each word paid, and 8 more.
+    pub bytes: Vec<u8, A>,
+    /// The words paid, at most the budget.
+    pub paid: u32,
+}
+
+/// The canonical bytes of the value that a message denotes within the limits.
+///
+/// `Walk`: the message is not accepted. `Capability`: its value has capabilities; the index is that of the
+/// first in preorder. `Memory` comes only where a growth was refused; no other refusal comes.
+pub fn canonical_of<A: Allocator + Copy, S: Space>(
+    alloc: A,
+    space: &S,
+    limits: Limits,
+) -> Result<Canonical<A>, Refusal>
+    // The answer: the canonical bytes of the one value that the message denotes, and what its walk pays.
+    ensures found { IfOk result (λ c. AnswersMessage (S.message space.now) 1 limits c.bytes.items c.paid) }
+    // A value without capabilities is answered, unless memory runs out.
+    ensures only { (v : Value) → IsValueOf (S.message space.now) 1 limits.budget limits.depth v → first_cap v ≡ None
+        → MatchResult result (λ c. c.bytes.items ≡ canon v) (λ e. e ≡ refusals.Memory) }
+    // What each refusal means.
+    ensures refused { IfErr result (λ e. IsRefusedMessage (S.message space.now) 1 limits e) }
+    // No walk pays beyond its budget.
+    ensures bounded { MatchResult result (λ c. c.paid ≤ limits.budget) (λ e. IsPaidWithin limits.budget e) }
+    ensures short { IfOk result (λ c. length c.bytes.items ≤ 8 * (c.paid + 1)) }
+    // Read bare under the same limits, the bytes denote the trimmed value, which is the same value,
+    ensures reads_back { IfOk result (λ c. (v : Value) → IsValueOf (S.message space.now) 1 limits.budget limits.depth v → ReadsBack c.bytes.items 1 limits v) }
+    // and pay exactly its cost;
+    ensures pays { IfOk result (λ c. (v : Value) → IsValueOf (S.message space.now) 1 limits.budget limits.depth v → PaysItsCost c.bytes.items 1 limits v) }
+    // its canonical bytes are these again;
+    ensures own { IfOk result (λ c. (v : Value) → IsValueOf (S.message space.now) 1 limits.budget limits.depth v → IsItsOwnForm c.bytes.items v) }
+    // and a second value has these canonical bytes exactly if it is the same value.
+    ensures exactly { IfOk result (λ c. (v : Value) → IsValueOf (S.message space.now) 1 limits.budget limits.depth v → IsFormExactlyOf c.bytes.items v) }
+{
+    let _segments = space.segments();
+    let _budget = limits.budget();
+    let _depth = limits.depth();
+    match walk(alloc, space, limits) {
+        Ok(walked) => match layout(alloc, &walked.tree) {
+            Ok(bytes) => Ok(Canonical {
+                bytes,
+                paid: walked.paid,
+            }),
+            Err(LayoutFault::Capability(index)) => Err(Refusal::Capability(index)),
+            Err(LayoutFault::Memory) => Err(Refusal::Memory),
+        },
+        Err(stopped) => match stopped.fault {
+            Fault::Memory => Err(Refusal::Memory),
+            _ => Err(Refusal::Walk(stopped)),
+        },
+    }
+}

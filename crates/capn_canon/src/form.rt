@@ -1,0 +1,12 @@
+//! How the bytes of a message are written.
+
+/// How the bytes of one message are written.
+#[derive(Clone, Copy, Debug, PartialEq, Eq)]
+pub enum Form {
+    /// A frame: the table of segments, then the segments. (Page: serialization over a stream.)
+    Stream,
+    /// The packed text of a frame. (Page: packing.)
+    Packed,
+    /// The words of one segment, with no table. (Own.)
+    Bare,
+}

@@ -1,0 +1,72 @@
+//! The canonical layout of a tree.
+
+ghost use Rattle.std.specs.Prelude.{◌≡◌, ℕ, ◌+◌, ◌^◌, ◌≤◌, Some, None, IfOk, IfErr, OnOk};
+ghost use Rattle.capn_value.specs.View.{tree_of};
+ghost use Rattle.capn_value.specs.Caps as caps;
+ghost use Rattle.capn_canon.specs.Layout.{size, canon};
+ghost use Rattle.capn_canon.specs.LayoutFault.{IsLayoutFault};
+ghost use Rattle.capn_canon.specs.Sound.{Sound};
+
+use crate::content::lay_value;
+use crate::patch::Patch;
+use crate::pointing::pointer_to;
+use capn_value::{Memory, Tree, Value, first_cap};
+use std::alloc::Allocator;
+
+/// Why a tree has no layout.
+#[derive(Clone, Copy, Debug, PartialEq, Eq)]
+pub enum LayoutFault {
+    /// A growth was refused.
+    Memory,
+    /// The tree has a capability, which canonical bytes can't hold. The index is that of the first in
+    /// preorder.
+    Capability(u32),
+}
+
+/// The canonical bytes of a value: the pointer to it, then its content.
+#[tactic(auto, using(crate::proofs::Holes::hole_below))]
+fn layout_value<A: Allocator + Copy, B: Allocator>(
+    alloc: A,
+    value: &Value<B>,
+) -> Result<Vec<u8, A>, Memory>
+    requires room { 1 + size (tree_of value.now) ≤ 2 ^ 29 }
+    requires sound { Sound (tree_of value.now) }
+    ensures { IfOk result (λ bytes. bytes.items ≡ canon (tree_of value.now)) }
+{
+    let mut patch = Patch::new(alloc);
+    patch.push(pointer_to(value, 0, 1))?;
+    lay_value(&mut patch, value)?;
+    match patch.finish() {
+        Ok(bytes) => Ok(bytes),
+        Err((_patch, memory)) => Err(memory),
+    }
+}
+
+/// The canonical bytes of a tree: one segment, its objects in preorder, every struct cut to what it
+/// keeps.
+///
+/// `Capability` comes exactly where the tree has one, with the index of the first in preorder, before any
+/// memory is taken. `Memory` comes only where a growth was refused. The bytes are written into one buffer,
+/// which is the answer; beside it stands one bit for each word until the end.
+///
+/// Page: canonicalization. Own: bits past a list's last element are 0, and a list without content points
+/// at the next free word.
+pub fn layout<A: Allocator + Copy, B: Allocator>(
+    alloc: A,
+    tree: &Tree<B>,
+) -> Result<Vec<u8, A>, LayoutFault>
+    ensures found { IfOk result (λ bytes. bytes.items ≡ canon tree.now) }
+    ensures free { OnOk result (caps.first_cap tree.now ≡ None) }
+    ensures only { (k : ℕ) → caps.first_cap tree.now ≡ Some k
+        → result ≡ Err (LayoutFault.Capability k) }
+    ensures refused { IfErr result (λ fault. IsLayoutFault tree.now fault) }
+{
+    let value = tree.value();
+    if let Some(index) = first_cap(value) {
+        return Err(LayoutFault::Capability(index));
+    }
+    match layout_value(alloc, value) {
+        Ok(bytes) => Ok(bytes),
+        Err(Memory) => Err(LayoutFault::Memory),
+    }
+}

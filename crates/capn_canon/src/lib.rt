@@ -1,0 +1,48 @@
+//! Canonical bytes: one spelling for each value, so that equal values have equal bytes.
+//!
+//! - [`canonicalise`] answers the canonical bytes of the value that bytes denote, whichever of the three
+//!   forms they are in, and what its walk paid. [`canonical_of`] does so for any message that is a `Space`.
+//! - [`layout`] writes the canonical bytes of a tree: one segment, its objects in preorder, every struct
+//!   cut to what it keeps. A tree with a capability has none, and is refused by the first one's index.
+//! - [`Patch`] is the buffer that it writes: words, and holes for what is not known yet, as a pointer
+//!   whose object has no place so far.
+//!
+//! Two answers of `canonicalise`, from any two forms and limits, are equal bytes exactly if the values
+//! denoted are the same up to trailing zero words and trailing null pointers of structs. Each answer, read
+//! as bare words under the same limits, denotes such a value, and has itself as its canonical bytes.
+//! The clauses `reads_back`, `pays`, `own` and `exactly` say so; [`laws`] has them over the definitions.
+//!
+//! `layout` takes memory for the bytes that it answers, and a bit beside each word. Where a growth is
+//! refused the answer is `Memory`.
+//!
+//! ```rust
+//! let input = [0, 0, 0, 0, 2, 0, 0, 0, 5, 0, 0, 0, 0, 0, 0, 0, 0, 0, 0, 0, 0, 0, 0, 0];
+//! if let Ok(answer) = canonicalise(alloc, Form::Bare, &input, Limits::usual()) {
+//!     // the first 16 bytes, with one word fewer in the pointer: the trailing zero word is cut
+//! }
+//! ```
+#![tactic(auto)]
+
+mod bits;
+mod canonical;
+mod content;
+mod form;
+pub mod laws;
+mod laying;
+mod marks;
+mod packing;
+mod patch;
+mod pointing;
+mod reading;
+mod refusal;
+mod rows;
+
+pub use canonical::{Canonical, canonical_of};
+pub use form::Form;
+pub use laying::{LayoutFault, layout};
+pub use patch::Patch;
+pub use reading::canonicalise;
+pub use refusal::Refusal;
+
+#[cfg(test)]
+mod tests;

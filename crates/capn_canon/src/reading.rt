@@ -1,0 +1,134 @@
+//! Canonical bytes of a message in each form.
+
+ghost use Rattle.std.specs.Prelude.{◌≡◌, ℕ, ◌*◌, ◌+◌, ◌≤◌, None, length, IfOk, IfErr, MatchResult};
+ghost use Rattle.capn_value.specs.Tree.{Tree as Value};
+ghost use Rattle.capn_value.specs.Caps.{first_cap};
+ghost use Rattle.capn_canon.specs.Layout.{canon};
+ghost use Rattle.capn_canon.specs.Denotes.{Denotes};
+ghost use Rattle.capn_canon.specs.Answers.{Answers};
+ghost use Rattle.capn_canon.specs.Canonicity.{ReadsBack, PaysItsCost, IsItsOwnForm, IsFormExactlyOf};
+ghost use Rattle.capn_canon.specs.Refused.{IsRefused, IsPaidWithin};
+ghost use Rattle.capn_canon.specs.declared.form.Form.TheVariants as forms;
+ghost use Rattle.capn_canon.specs.declared.refusal.Refusal.TheVariants as refusals;
+
+use crate::canonical::{Canonical, canonical_of};
+use crate::form::Form;
+use crate::refusal::Refusal;
+use capn_pack::{UnpackFault, unpack};
+use capn_stream::{FrameFault, first};
+use capn_walk::Limits;
+use capn_words::Bare;
+use std::alloc::Allocator;
+
+/// The words of the longest table of segments and its padding.
+const TABLE_WORDS: u32 = 257;
+
+/// Of the words of one segment.
+fn of_bare<A: Allocator + Copy>(
+    alloc: A,
+    bytes: &[u8],
+    limits: Limits,
+) -> Result<Canonical<A>, Refusal>
+    ensures found { IfOk result (λ c. Answers forms.Bare bytes.now 1 limits c.bytes.items c.paid) }
+    ensures refused { IfErr result (λ e. IsRefused forms.Bare bytes.now 1 limits e) }
+    ensures bounded { IfErr result (λ e. IsPaidWithin limits.budget e) }
+{
+    match Bare::new(bytes) {
+        Ok(space) => canonical_of(alloc, &space, limits),
+        Err(fault) => Err(Refusal::Bare(fault)),
+    }
+}
+
+/// Of a frame.
+fn of_frame<A: Allocator + Copy>(
+    alloc: A,
+    bytes: &[u8],
+    limits: Limits,
+) -> Result<Canonical<A>, Refusal>
+    ensures found { IfOk result (λ c. Answers forms.Stream bytes.now 1 limits c.bytes.items c.paid) }
+    ensures refused { IfErr result (λ e. IsRefused forms.Stream bytes.now 1 limits e) }
+    ensures bounded { IfErr result (λ e. IsPaidWithin limits.budget e) }
+{
+    match first(alloc, bytes, limits.message_words()) {
+        Ok((message, taken)) => {
+            if taken < bytes.len() {
+                return Err(Refusal::Trailing(taken as u64));
+            }
+            canonical_of(alloc, &message, limits)
+        }
+        Err(FrameFault::Memory) => Err(Refusal::Memory),
+        Err(fault) => Err(Refusal::Frame(fault)),
+    }
+}
+
+/// Of the packed text of a frame.
+fn of_packed<A: Allocator + Copy>(
+    alloc: A,
+    bytes: &[u8],
+    limits: Limits,
+) -> Result<Canonical<A>, Refusal>
+    ensures found { IfOk result (λ c. Answers forms.Packed bytes.now 1 limits c.bytes.items c.paid) }
+    ensures refused { IfErr result (λ e. IsRefused forms.Packed bytes.now 1 limits e) }
+    ensures bounded { IfErr result (λ e. IsPaidWithin limits.budget e) }
+{
+    match unpack(alloc, bytes, limits.message_words() + TABLE_WORDS) {
+        Ok(text) => of_frame(alloc, text.as_slice(), limits),
+        Err(UnpackFault::Memory) => Err(Refusal::Memory),
+        Err(fault) => Err(Refusal::Packed(fault)),
+    }
+}
+
+/// The canonical bytes in the form that is named.
+fn in_form<A: Allocator + Copy>(
+    alloc: A,
+    form: Form,
+    bytes: &[u8],
+    limits: Limits,
+) -> Result<Canonical<A>, Refusal>
+    ensures found { IfOk result (λ c. Answers form bytes.now 1 limits c.bytes.items c.paid) }
+    ensures refused { IfErr result (λ e. IsRefused form bytes.now 1 limits e) }
+    ensures bounded { IfErr result (λ e. IsPaidWithin limits.budget e) }
+{
+    match form {
+        Form::Stream => of_frame(alloc, bytes, limits),
+        Form::Packed => of_packed(alloc, bytes, limits),
+        Form::Bare => of_bare(alloc, bytes, limits),
+    }
+}
+
+/// The canonical bytes of the value that bytes denote in a form, within the limits.
+///
+/// The refusals are tested in this order. The bytes are read: `Bare` for the form `Bare`; `Packed`, where at
+/// most the message words and those of the longest table are unpacked; then `Frame` and, where bytes follow
+/// the message, `Trailing`. The message is walked: `Walk`, never for want of memory. Its value is laid out:
+/// `Capability`, with the index of the first in preorder. `Memory` comes only where a growth was refused.
+pub fn canonicalise<A: Allocator + Copy>(
+    alloc: A,
+    form: Form,
+    bytes: &[u8],
+    limits: Limits,
+) -> Result<Canonical<A>, Refusal>
+    // The answer: the canonical bytes of the one value that the bytes denote, and what the walk pays.
+    ensures found { IfOk result (λ c. Answers form bytes.now 1 limits c.bytes.items c.paid) }
+    // A value without capabilities is answered, unless memory runs out.
+    ensures only { (v : Value) → Denotes form bytes.now 1 limits v → first_cap v ≡ None
+        → MatchResult result (λ c. c.bytes.items ≡ canon v) (λ e. e ≡ refusals.Memory) }
+    // What each refusal means.
+    ensures refused { IfErr result (λ e. IsRefused form bytes.now 1 limits e) }
+    // No walk pays beyond its budget.
+    ensures bounded { MatchResult result (λ c. c.paid ≤ limits.budget) (λ e. IsPaidWithin limits.budget e) }
+    ensures short { IfOk result (λ c. length c.bytes.items ≤ 8 * (c.paid + 1)) }
+    // Read bare under the same limits, the answer denotes the trimmed value, which is the same value,
+    ensures reads_back { IfOk result (λ c. (v : Value) → Denotes form bytes.now 1 limits v → ReadsBack c.bytes.items 1 limits v) }
+    // and pays exactly its cost;
+    ensures pays { IfOk result (λ c. (v : Value) → Denotes form bytes.now 1 limits v → PaysItsCost c.bytes.items 1 limits v) }
+    // its canonical bytes are the answer again;
+    ensures own { IfOk result (λ c. (v : Value) → Denotes form bytes.now 1 limits v → IsItsOwnForm c.bytes.items v) }
+    // and a second value has these canonical bytes exactly if it is the same value.
+    ensures exactly { IfOk result (λ c. (v : Value) → Denotes form bytes.now 1 limits v → IsFormExactlyOf c.bytes.items v) }
+{
+    let _words = limits.message_words();
+    let _budget = limits.budget();
+    let _depth = limits.depth();
+    in_form(alloc, form, bytes, limits)
+}

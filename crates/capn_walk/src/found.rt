@@ -1,0 +1,93 @@
+//! What the visits of slots found.
+
+ghost use Rattle.std.specs.Prelude.{◌≡◌};
+ghost use Rattle.capn_value.specs.Tree as trees;
+ghost use Rattle.capn_value.specs.View.{tree_of, trees_of, rows_of};
+
+use capn_value::{Body, Items, Value};
+use std::alloc::Allocator;
+
+/// The value of a slot, what was paid for it, and how many visits were made.
+#[derive(Drop)]
+pub struct Found<A: Allocator> {
+    pub value: Value<A>,
+    pub paid: u32,
+    pub visits: u32,
+}
+
+impl<A: Allocator> Found<A> {
+    /// The value of a slot that has no content, which costs nothing.
+    pub fn without_content(value: Value<A>) -> Found<A>
+        ensures value { result.value ≡ value }
+        ensures paid { result.paid ≡ 0 }
+        ensures visits { result.visits ≡ 1 }
+    {
+        Found {
+            value,
+            paid: 0,
+            visits: 1,
+        }
+    }
+}
+
+/// The values of slots that stand one behind the other.
+#[derive(Drop)]
+pub struct FoundSlots<A: Allocator> {
+    pub items: Items<Value<A>, A>,
+    pub paid: u32,
+    pub visits: u32,
+}
+
+#[tactic(auto, using(capn_value::specs::Views::views))]
+impl<A: Allocator> FoundSlots<A> {
+    /// The struct of these slots.
+    pub fn into_struct(self, words: Items<u64, A>) -> Found<A>
+        ensures value { tree_of result.value ≡ trees.node words (trees_of self.items) }
+        ensures paid { result.paid ≡ self.paid }
+        ensures visits { result.visits ≡ self.visits }
+    {
+        let slots = self.items;
+        Found {
+            value: Value::Node(Body { words, slots }),
+            paid: self.paid,
+            visits: self.visits,
+        }
+    }
+
+    /// The list of these pointers.
+    pub fn into_list(self) -> Found<A>
+        ensures value { tree_of result.value ≡ trees.links (trees_of self.items) }
+        ensures paid { result.paid ≡ self.paid }
+        ensures visits { result.visits ≡ self.visits }
+    {
+        Found {
+            value: Value::Links(self.items),
+            paid: self.paid,
+            visits: self.visits,
+        }
+    }
+}
+
+/// The rows of a composite list.
+#[derive(Drop)]
+pub struct FoundRows<A: Allocator> {
+    pub rows: Items<Body<A>, A>,
+    pub paid: u32,
+    pub visits: u32,
+}
+
+#[tactic(auto, using(capn_value::specs::Views::views))]
+impl<A: Allocator> FoundRows<A> {
+    /// The list of these rows.
+    pub fn into_list(self) -> Found<A>
+        ensures value { tree_of result.value ≡ trees.rows (rows_of self.rows) }
+        ensures paid { result.paid ≡ self.paid }
+        ensures visits { result.visits ≡ self.visits }
+    {
+        Found {
+            value: Value::Rows(self.rows),
+            paid: self.paid,
+            visits: self.visits,
+        }
+    }
+}

@@ -1,0 +1,75 @@
+//! The calls of frames.
+
+ghost use Rattle.std.specs.Prelude.{◌≤◌, ◌^◌, IfOk};
+
+use crate::words::{bytes_at, digits_of, number_at};
+use anyhow::{Result, anyhow};
+use capn_stream::{FrameFault, first, frame};
+use capn_words::{Place, Space};
+use std::alloc::Global;
+
+/// The most words that a message may have.
+const MOST_WORDS: u32 = 268_435_456;
+
+/// The limit on message words at a place of the line.
+pub fn limit_at(words: &[&str], at: usize) -> Result<u32>
+    ensures { IfOk result (λ limit. limit ≤ 2 ^ 28) }
+{
+    let limit = number_at(words, at)?;
+    if limit > MOST_WORDS {
+        return Err(anyhow!("a limit above 2^28"));
+    }
+    Ok(limit)
+}
+
+/// A refusal of a frame.
+pub fn frame_text(alloc: Global, fault: FrameFault) -> Result<String> {
+    let text = match fault {
+        FrameFault::Memory | FrameFault::Failed => return Err(anyhow!("out of memory")),
+        FrameFault::Empty => format!(in alloc; "Empty")?,
+        FrameFault::TooManySegments(count) => format!(in alloc; "TooManySegments({count})")?,
+        FrameFault::TooManyWords(count) => format!(in alloc; "TooManyWords({count})")?,
+        FrameFault::Cut => format!(in alloc; "Cut")?,
+    };
+    Ok(text)
+}
+
+/// The bytes of each segment, each behind a space.
+fn segments_text<S: Space>(alloc: Global, space: &S) -> Result<String> {
+    let mut text = String::new(alloc);
+    for segment in 0..space.segments() {
+        let Some(words) = space.words(segment) else {
+            return Err(anyhow!("no segment {segment}"));
+        };
+        let start = Place { segment, word: 0 };
+        let digits = digits_of(alloc, space.bytes(start, words as usize * 8))?;
+        text.push_str(" ")?;
+        text.push_str(digits.as_str())?;
+    }
+    Ok(text)
+}
+
+/// `first MOST_WORDS BYTES`.
+pub fn first_answer(alloc: Global, words: &[&str]) -> Result<String> {
+    let limit = limit_at(words, 1)?;
+    let bytes = bytes_at(alloc, words, 2)?;
+    match first(alloc, bytes.as_slice(), limit) {
+        Ok((message, taken)) => {
+            let segments = segments_text(alloc, &message)?;
+            Ok(format!(in alloc; "taken {taken}:{segments}")?)
+        }
+        Err(fault) => frame_text(alloc, fault),
+    }
+}
+
+/// `frame BYTES`: the frame of the message that stands first in the bytes.
+pub fn frame_answer(alloc: Global, words: &[&str]) -> Result<String> {
+    let bytes = bytes_at(alloc, words, 1)?;
+    match first(alloc, bytes.as_slice(), MOST_WORDS) {
+        Ok((message, _)) => match frame(alloc, &message) {
+            Ok(again) => digits_of(alloc, again.as_slice()),
+            Err(_) => Err(anyhow!("out of memory")),
+        },
+        Err(fault) => frame_text(alloc, fault),
+    }
+}

@@ -1,0 +1,202 @@
+//! The calls on messages.
+
+use crate::frames::frame_text;
+use crate::refusals::{fault_name, refusal_text, stopped_text, unpack_text};
+use crate::words::{bytes_at, digits_of, number_at, word_at};
+use anyhow::{Result, anyhow, bail};
+use capn_canon::{Form, canonicalise};
+use capn_pack::unpack;
+use capn_stream::first;
+use capn_walk::{Limits, Shape, Target, resolve, walk};
+use capn_words::{Bare, Place, Space};
+use std::alloc::Global;
+
+/// The most words that a message may have.
+const MOST_WORDS: u32 = 268_435_456;
+
+/// The form at a place of the line.
+fn form_at(words: &[&str], at: usize) -> Result<Form> {
+    match word_at(words, at)? {
+        "stream" => Ok(Form::Stream),
+        "packed" => Ok(Form::Packed),
+        "bare" => Ok(Form::Bare),
+        form => bail!("no form {form:?}"),
+    }
+}
+
+/// Three numbers from a place of the line on, as limits.
+fn limits_at(words: &[&str], at: usize) -> Result<Option<Limits>> {
+    let message_words = number_at(words, at)?;
+    let budget = number_at(words, at.saturating_add(1))?;
+    let depth = number_at(words, at.saturating_add(2))?;
+    Ok(Limits::new(message_words, budget, depth))
+}
+
+/// The same, where they have to be limits.
+fn true_limits_at(words: &[&str], at: usize) -> Result<Limits> {
+    match limits_at(words, at)? {
+        Some(limits) => Ok(limits),
+        None => Err(anyhow!("no limits")),
+    }
+}
+
+/// `limits MESSAGE_WORDS BUDGET DEPTH`.
+pub fn limits_answer(alloc: Global, words: &[&str]) -> Result<String> {
+    let text = match limits_at(words, 1)? {
+        Some(_) => "limits",
+        None => "none",
+    };
+    Ok(String::from_str(alloc, text)?)
+}
+
+/// `canonicalise FORM MESSAGE_WORDS BUDGET DEPTH BYTES`.
+pub fn canonicalise_answer(alloc: Global, words: &[&str]) -> Result<String> {
+    let form = form_at(words, 1)?;
+    let limits = true_limits_at(words, 2)?;
+    let bytes = bytes_at(alloc, words, 5)?;
+    match canonicalise(alloc, form, bytes.as_slice(), limits) {
+        Ok(canonical) => {
+            let paid = canonical.paid;
+            let digits = digits_of(alloc, canonical.bytes.as_slice())?;
+            Ok(format!(in alloc; "paid {paid}, {digits}")?)
+        }
+        Err(refusal) => refusal_text(alloc, refusal),
+    }
+}
+
+/// `again FORM MESSAGE_WORDS BUDGET DEPTH BYTES`: whether the canonical bytes, read bare, have themselves as canonical
+/// bytes under the same limits; `refused` where there are none.
+pub fn again_answer(alloc: Global, words: &[&str]) -> Result<String> {
+    let form = form_at(words, 1)?;
+    let limits = true_limits_at(words, 2)?;
+    let bytes = bytes_at(alloc, words, 5)?;
+    let Ok(canonical) = canonicalise(alloc, form, bytes.as_slice(), limits) else {
+        return Ok(String::from_str(alloc, "refused")?);
+    };
+    let once = canonical.bytes;
+    let text = match canonicalise(alloc, Form::Bare, once.as_slice(), limits) {
+        Ok(again) => if again.bytes.as_slice() == once.as_slice() {
+            "again"
+        } else {
+            "others"
+        },
+        Err(_) => "refused again",
+    };
+    Ok(String::from_str(alloc, text)?)
+}
+
+/// `equal FORM BYTES FORM BYTES ..`: whether all have the same canonical bytes under the usual limits.
+pub fn equal_answer(alloc: Global, words: &[&str]) -> Result<String> {
+    let mut common: Option<Vec<u8>> = None;
+    let mut text = "equal";
+    for pair in 0..words.len() / 2 {
+        let at = 2 * pair + 1;
+        let form = form_at(words, at)?;
+        let bytes = bytes_at(alloc, words, at + 1)?;
+        let Ok(canonical) = canonicalise(alloc, form, bytes.as_slice(), Limits::usual()) else {
+            bail!("refused");
+        };
+        match &common {
+            Some(bytes) => if bytes.as_slice() != canonical.bytes.as_slice() {
+                text = "different";
+            },
+            None => common = Some(canonical.bytes),
+        }
+    }
+    Ok(String::from_str(alloc, text)?)
+}
+
+/// What a walk answers.
+fn walk_text<S: Space>(alloc: Global, space: &S, limits: Limits) -> Result<String> {
+    match walk(alloc, space, limits) {
+        Ok(walked) => {
+            let paid = walked.paid;
+            let visits = walked.visits;
+            Ok(format!(in alloc; "paid {paid}, visits {visits}")?)
+        }
+        Err(stopped) => stopped_text(alloc, stopped),
+    }
+}
+
+/// What a walk of the message that stands first answers.
+fn walk_frame(alloc: Global, bytes: &[u8], limits: Limits) -> Result<String> {
+    match first(alloc, bytes, MOST_WORDS) {
+        Ok((space, _)) => walk_text(alloc, &space, limits),
+        Err(fault) => frame_text(alloc, fault),
+    }
+}
+
+/// `walk FORM MESSAGE_WORDS BUDGET DEPTH BYTES`.
+pub fn walk_answer(alloc: Global, words: &[&str]) -> Result<String> {
+    let form = form_at(words, 1)?;
+    let limits = true_limits_at(words, 2)?;
+    let bytes = bytes_at(alloc, words, 5)?;
+    match form {
+        Form::Bare => match Bare::new(bytes.as_slice()) {
+            Ok(space) => walk_text(alloc, &space, limits),
+            Err(_) => Err(anyhow!("no segment")),
+        },
+        Form::Stream => walk_frame(alloc, bytes.as_slice(), limits),
+        Form::Packed => match unpack(alloc, bytes.as_slice(), MOST_WORDS) {
+            Ok(text) => walk_frame(alloc, text.as_slice(), limits),
+            Err(fault) => unpack_text(alloc, fault),
+        },
+    }
+}
+
+/// What a slot denotes, as a line.
+fn target_text(alloc: Global, target: Target) -> Result<String> {
+    let Target::Content {
+        segment,
+        start,
+        shape,
+        pads,
+    } = target
+    else {
+        return Ok(String::from_str(alloc, "no content")?);
+    };
+    match shape {
+        Shape::Node { words, slots } => {
+            Ok(format!(in alloc;
+                "segment {segment}, start {start}, Node {words} {slots}, pads {pads}"
+            )?)
+        }
+        Shape::Many { .. } | Shape::Rows { .. } => {
+            Ok(format!(in alloc; "segment {segment}, start {start}, a list, pads {pads}")?)
+        }
+    }
+}
+
+/// What `resolve` answers at a place.
+fn resolve_text<S: Space>(alloc: Global, space: &S, at: Place) -> Result<String> {
+    let Some(length) = space.words(at.segment) else {
+        return Err(anyhow!("no such segment"));
+    };
+    if at.word >= length {
+        return Err(anyhow!("no such word"));
+    }
+    match resolve(space, at) {
+        Ok(target) => target_text(alloc, target),
+        Err(fault) => Ok(String::from_str(alloc, fault_name(fault)?)?),
+    }
+}
+
+/// `resolve FORM SEGMENT WORD BYTES`.
+pub fn resolve_answer(alloc: Global, words: &[&str]) -> Result<String> {
+    let form = form_at(words, 1)?;
+    let segment = number_at(words, 2)?;
+    let word = number_at(words, 3)?;
+    let at = Place { segment, word };
+    let bytes = bytes_at(alloc, words, 4)?;
+    match form {
+        Form::Bare => match Bare::new(bytes.as_slice()) {
+            Ok(space) => resolve_text(alloc, &space, at),
+            Err(_) => Err(anyhow!("no segment")),
+        },
+        Form::Stream => match first(alloc, bytes.as_slice(), MOST_WORDS) {
+            Ok((space, _)) => resolve_text(alloc, &space, at),
+            Err(fault) => frame_text(alloc, fault),
+        },
+        Form::Packed => Err(anyhow!("no message is resolved in packed bytes")),
+    }
+}
