@@ -6,10 +6,8 @@ use Rattle.std.proofs.lemmas.Grind.{flat_map-append}
 use Rattle.capn_words.specs.declared.space.Place.{Place}
 use Rattle.capn_words.specs.declared.pointer.Width.TheVariants.{Link}
 use Rattle.capn_value.specs.Tree.{Trees, Bodies, Tree, nil, node, voids, bits, bytes, pairs, quads, octs, links, rows, cap, count, count_rows}
-use Rattle.capn_value.specs.View.{tree_of, trees_of, rows_of}
-use Rattle.capn_value.specs.declared.value.Value.{Value, Node, Links, Rows}
-use Rattle.capn_value.specs.declared.value.Body.{Body, roll-Body}
-use Rattle.capn_value.specs.Views.{tree_of-Node, tree_of-Links, tree_of-Rows}
+use Rattle.capn_value.specs.View.{tree_of, trees_of}
+use Rattle.capn_value.specs.declared.value.Value.{Value}
 use Rattle.capn_walk.specs.declared.target.Target.TheVariants as targets
 use Rattle.capn_walk.specs.declared.target.Shape.{Shape}
 use Rattle.capn_walk.specs.declared.target.Shape.TheVariants as shapes
