@@ -1,14 +1,17 @@
 PREFIX ?= /usr/local
 PROGRAM := crates/capn
 
-.PHONY: run test bench install
+.PHONY: program run test bench interop install
+
+# The program, proved and built: crates/capn/out/capn.
+program:
+	@cd $(PROGRAM) && rt run -- $$(cat args) < stdin > /dev/null
 
 # Builds the proved program and shows its stored run: the bytes in and the bytes out.
-run:
-	@cd $(PROGRAM) && rt run -- $$(cat args) < stdin > out/answer
+run: program
 	@echo "capn $$(tr '\n' ' ' < $(PROGRAM)/args)"
-	@echo "in"; od -An -v -tx1 -w8 $(PROGRAM)/stdin
-	@echo "out"; od -An -v -tx1 -w8 $(PROGRAM)/out/answer
+	@echo "in:"; od -An -v -tx1 -w8 $(PROGRAM)/stdin
+	@echo "out:"; $(PROGRAM)/out/capn $$(cat $(PROGRAM)/args) < $(PROGRAM)/stdin | od -An -v -tx1 -w8
 
 # The whole gate.
 test:
@@ -16,9 +19,13 @@ test:
 
 # Nanoseconds a byte of packing and unpacking, by shape of input.
 bench:
-	cd crates/bench && rt run -- full
+	cd crates/bench && rt run > /dev/null && ./out/bench full
+
+# Messages that the reference implementation wrote, where its command line tool is installed.
+interop: program
+	./interop/run
 
 # The program and its manual page.
-install:
-	cd $(PROGRAM) && rt run -- --help > out/help
+install: program
 	install -D -m 755 $(PROGRAM)/out/capn $(DESTDIR)$(PREFIX)/bin/capn
+	install -D -m 644 docs/capn.1 $(DESTDIR)$(PREFIX)/share/man/man1/capn.1

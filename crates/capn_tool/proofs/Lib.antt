@@ -1,13 +1,6 @@
-pub mod Pointers
-pub mod Judge
-pub mod Stops
-pub mod Unique
 pub mod ReadMore
 pub mod WriteMore
-pub mod Kept
-pub mod WordBytes
-pub mod Roots
-pub mod Law
-pub mod RunLaw
 pub mod NumberLemmas
-pub mod Rows
+pub mod WholeServed
+pub mod StreamServed
+pub mod RunLaw

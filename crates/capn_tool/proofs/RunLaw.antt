@@ -1,44 +1,71 @@
--- A run ends as its input is due.
-use Rattle.std.proofs.Common.{◌≡◌, inl, inr, ℕ, List, Ok, Err, Result, Option, Some, None, refl, sym, subst, ◌∙◌, arith, IfSome}
+-- A run ends as all that its reader had to give is due.
+use Rattle.std.proofs.Common.{◌≡◌, ◌⊎◌, inl, inr, ◌↔◌, ℕ, ◌+◌, ◌≤◌, ◌^◌, List, [], take, Bool, true, false, Option, None, Some, IfSome, Result, Ok, Err, refl, ap, sym, subst, ◌∙◌, lit≤}
 use Rattle.std.specs.Io.KnownBytes.{Appends}
-use Rattle.capn_tool.specs.Text.{IsAnswer, IsText, EndsAs, EndsBy}
-use Rattle.capn_tool.specs.declared.orders.Command.{Command}
-use Rattle.capn_tool.specs.declared.orders.Command.TheVariants as commands
-use Rattle.capn_tool.specs.declared.canon.Form.TheVariants as forms
+use Rattle.std.proofs.KnownBytes.{Appends-nil, Consumes-nil}
+use Rattle.capn_tool.specs.Streams.{AreParts}
+use Rattle.capn_tool.specs.Text.{taken_of, has_more, HasEnded, HasWritten, IsFront, PlanEndsAs, PlanBegins}
+use Rattle.capn_tool.specs.Reading.{HasRead, Kept}
+use Rattle.capn_tool.specs.Served.{Served}
+use Rattle.capn_tool.specs.declared.plan.Plan.{Plan}
+use Rattle.capn_tool.specs.declared.plan.Plan.TheVariants as plans
 use Rattle.capn_tool.specs.declared.fault.ToolFault.{ToolFault}
 use Rattle.capn_tool.specs.declared.fault.ToolFault.TheVariants as faults
-use Rattle.capn_tool.proofs.Law.{one-outcome}
+use Rattle.capn_tool.proofs.ReadMore.{kept_all}
 
--- a command makes one thing of an input
-one-answer : (command : Command) (input : List ℕ) (r s : Result (List ℕ) ToolFault) → IsAnswer command input r → IsAnswer command input s → r ≡ s
-one-answer (commands.Canonical forms.Bare limits) input r s h k = one-outcome input limits r s h k
+-- each text begins with nothing
+front_none : (plan : Plan) (bytes : List ℕ) (is_longer : Bool) → IsFront plan bytes is_longer []
+front_none (plans.Whole whole) bytes is_longer = inl refl
+front_none (plans.Each piece limits) bytes is_longer = ([], bytes, record { each = tt; is = refl }, refl)
+front_none plans.Later bytes is_longer = refl
 
--- an input has one text
-pub one-text : (command : Command) (input : List ℕ) (r s : Result (List ℕ) ToolFault) → IsText command input r → IsText command input s → r ≡ s
-one-text command input r s (inl h) (inl k) = h.1 ∙ sym k.1
-one-text command input r s (inl h) (inr k) = let a = h.0 in let b = k.0 in absurd (omega arith)
-one-text command input r s (inr h) (inl k) = let a = h.0 in let b = k.0 in absurd (omega arith)
-one-text command input r s (inr h) (inr k) = one-answer command input r s h.1 k.1
+-- nothing was written
+pub begins_none : (plan : Plan) (old new writer : Option (List ℕ)) → HasRead old new (λ n. n ≤ 2 ^ 32 + 1) → PlanBegins plan old new writer writer
+begins_none plan old new writer (bytes, read, bound) = (
+  bytes,
+  record {
+    read = read;
+    bounded = bound;
+    written = ([], 0, front_none plan (taken_of bytes) (has_more bytes), Appends-nil writer);
+  },
+)
 
-module _ (command : Command) (old new : Option (List ℕ)) (input : List ℕ) where
-  -- a run that gave a reason gave the one that is due
-  reason : (e : ToolFault) (due : Result (List ℕ) ToolFault) → IsText command input (Err e) → IsText command input due → EndsBy due old new (Err e)
-  reason e (Ok t) h k = let same = one-text command input (Err e) (Ok t) h k in absurd cc
-  reason e (Err d) h k = let same = one-text command input (Err e) (Err d) h k in inl cc
+-- what was written for the bytes that were kept was written for those that were read,
+pub begins_kept : (plan : Plan) (old new writer written : Option (List ℕ)) (kept : List ℕ) (is_longer : Bool) → (bytes : List ℕ) × Kept old new kept is_longer bytes
+    → HasWritten plan kept is_longer writer written → PlanBegins plan old new writer written
+begins_kept plan old new writer written kept is_longer (bytes, k) h = (
+  bytes,
+  record {
+    read = k.read;
+    bounded = k.bounded;
+    written =
+        subst (λ (b : Bool). HasWritten plan (taken_of bytes) b writer written) (sym k.more)
+        (subst (λ (xs : List ℕ). HasWritten plan xs is_longer writer written) (sym k.are) h);
+  },
+)
 
-  ends-by : (r : Result (Unit {0}) ToolFault) (due : Result (List ℕ) ToolFault) → EndsAs command old new r input → IsText command input due → EndsBy due old new r
-  ends-by (Ok u) (Ok t) h k = let same = one-text command input (Ok h.0) (Ok t) h.1 k in let is : h.0 ≡ t = cc in subst (Appends old new) is h.2
-  ends-by (Ok u) (Err d) h k = let same = one-text command input (Ok h.0) (Err d) h.1 k in absurd cc
-  ends-by (Err faults.Memory) (Ok t) h k = inl refl
-  ends-by (Err faults.Memory) (Err d) h k = inr (inl refl)
-  ends-by (Err faults.Io) (Ok t) h k = inr refl
-  ends-by (Err faults.Io) (Err d) h k = inr (inr refl)
-  ends-by (Err faults.InputTooLong) due h k = reason faults.InputTooLong due h.0 k
-  ends-by (Err (faults.NotWhole n)) due h k = reason (faults.NotWhole n) due h.0 k
-  ends-by (Err (faults.Refused refusal)) due h k = reason (faults.Refused refusal) due h.0 k
-  ends-by (Err faults.NotYet) due h k = reason faults.NotYet due h.0 k
+-- and a run that ended so ended as all that the reader had to give is due
+pub ends_kept : (plan : Plan) (old new writer written : Option (List ℕ)) (kept : List ℕ) (is_longer : Bool) (r : Result (Unit {0}) ToolFault) → (bytes : List ℕ) × Kept old new kept is_longer bytes
+    → HasEnded plan kept is_longer writer written r → IfSome old (PlanEndsAs plan writer written r)
+ends_kept plan None new writer written kept is_longer r k h = tt
+ends_kept plan (Some all) new writer written kept is_longer r (bytes, k) h =
+    let same = kept_all (Some all) new kept bytes is_longer k in
+    subst (λ (b : Bool). HasEnded plan (taken_of all) b writer written r) (sym same.1)
+    (subst (λ (xs : List ℕ). HasEnded plan xs is_longer writer written r) (sym same.0) h)
 
-pub run-only : (command : Command) (known old new : Option (List ℕ)) (r : Result (Unit {0}) ToolFault) → IfSome known (EndsAs command old new r) →
-    IfSome known (λ input. (due : Result (List ℕ) ToolFault) → IsText command input due → EndsBy due old new r)
-run-only command None old new r h = tt
-run-only command (Some input) old new r h = λ due is. ends-by command old new input r due h is
+-- the reader failed, or memory was refused
+pub ends_unread : (plan : Plan) (old writer written : Option (List ℕ)) (fault : ToolFault) → (fault ≡ faults.Memory) ⊎ (fault ≡ faults.Io) → IfSome old (PlanEndsAs plan writer written (Err fault))
+ends_unread plan None writer written fault h = tt
+ends_unread plan (Some all) writer written fault (inl m) = inl (ap (λ (f : ToolFault). Err f) m)
+ends_unread plan (Some all) writer written fault (inr e) = inr (inl (ap (λ (f : ToolFault). Err f) e))
+
+-- the command comes later
+pub ends_later : (plan : Plan) (old writer : Option (List ℕ)) → plans.Later ≡ plan → IfSome old (PlanEndsAs plan writer writer (Err faults.NotYet))
+ends_later plan None writer e = tt
+ends_later plan (Some all) writer e =
+    subst (λ (p : Plan). HasEnded p (taken_of all) (has_more all) writer writer (Err faults.NotYet)) e (inr (inr ([], (refl, refl), Appends-nil writer)))
+
+pub begins_later : (plan : Plan) (old writer : Option (List ℕ)) → PlanBegins plan old old writer writer
+begins_later plan old writer = begins_none plan old old writer ([], Consumes-nil old, short)
+  where
+    short : 0 ≤ 2 ^ 32 + 1
+    short = lit≤ tt

@@ -7,26 +7,57 @@ use Rattle.clap.specs.declared.builder.value_parser.ValueParser.TheVariants as v
 abbrev pub number_rule : Text → Text → ℕ → ℕ → Rule
 number_rule name usual least most = record (new_rule name) {
   long = Some name;
+  value_names = 1;
   defaults = usual ∷ [];
   parser = Some (vp.Signed (pos least) (pos most));
 }
 
--- the form of the input, which has to be given
-abbrev pub form_rule : Rule
-form_rule = record (new_rule (codes "form")) { long = Some (codes "form"); required = true }
+-- the words of a message, from 1 to 2^28
+abbrev pub words_rule : Rule
+words_rule = number_rule (codes "message-words") (codes "8388608") 1 268435456
 
--- `canonical` takes a form and three limits
-abbrev pub canonical_line : App
-canonical_line =
-    with_rule (with_rule (with_rule (with_rule (new_app (codes "canonical")) form_rule)
-    (number_rule (codes "message-words") (codes "8388608") 1 268435456))
-    (number_rule (codes "budget") (codes "8388608") 0 268435456))
-    (number_rule (codes "depth") (codes "64") 1 256)
+-- the words of the budget, from 0 to 2^28
+abbrev pub budget_rule : Rule
+budget_rule = number_rule (codes "budget") (codes "8388608") 0 268435456
+
+-- the depth, from 1 to 256
+abbrev pub depth_rule : Rule
+depth_rule = number_rule (codes "depth") (codes "64") 1 256
+
+-- the form of the input, a stream where none is given
+abbrev pub form_rule : Rule
+form_rule = record (new_rule (codes "form")) {
+  long = Some (codes "form");
+  value_names = 1;
+  defaults = codes "stream" ∷ [];
+}
+
+-- a command over messages takes a form and three limits
+abbrev pub message_line : Text → App
+message_line name =
+    with_rule (with_rule (with_rule (with_rule (new_app name) form_rule) words_rule) budget_rule) depth_rule
+
+-- `pack` takes no option
+abbrev pub pack_line : App
+pack_line = new_app (codes "pack")
+
+-- `unpack` takes the words of a message alone
+abbrev pub unpack_line : App
+unpack_line = with_rule (new_app (codes "unpack")) words_rule
 
 -- the program, which needs a subcommand
 abbrev pub top_line : App
 top_line = let a = new_app (codes "capn") in record a { top = record a.top { subcommand_required = true } }
 
+-- the program with the four commands over messages
+abbrev pub messages_line : App
+messages_line =
+    with_subcommand (with_subcommand (with_subcommand (with_subcommand top_line
+    (message_line (codes "show")).top)
+    (message_line (codes "check")).top)
+    (message_line (codes "canonical")).top)
+    (message_line (codes "hash")).top
+
 -- the whole command line
 abbrev pub tool_line : App
-tool_line = with_subcommand top_line canonical_line.top
+tool_line = with_subcommand (with_subcommand messages_line pack_line.top) unpack_line.top

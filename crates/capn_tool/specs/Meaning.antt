@@ -1,15 +1,20 @@
--- What a subcommand and the values of its options order (own).
-use Rattle.std.specs.Prelude.{ℕ, ◌≡◌, List, Option, Some, None, codes}
+-- What a subcommand and the values of its options order.
+use Rattle.std.specs.Prelude.{ℕ, ◌≡◌, ◌+◌, List, Option, Some, None, codes}
 use Rattle.std.specs.Str.Parse.{IsNumeral, digits_value, without_leading_plus}
 use Rattle.clap.specs.Words.{Row, Text, first_of, one_of}
-use Rattle.capn_tool.specs.Limits.{Bounds}
-use Rattle.capn_tool.specs.declared.canon.Form.{Form}
-use Rattle.capn_tool.specs.declared.canon.Form.TheVariants as forms
+use Rattle.capn_walk.specs.Limits.{Bounds}
+use Rattle.capn_canon.specs.declared.form.Form.{Form}
+use Rattle.capn_canon.specs.declared.form.Form.TheVariants as forms
 use Rattle.capn_tool.specs.declared.orders.Command.{Command}
 use Rattle.capn_tool.specs.declared.orders.Command.TheVariants as commands
 
--- how a form is named on the command line
+-- the words of the longest segment table: the count and the sizes of 512 segments, 4 bytes each, and padding
+abbrev pub longest_table : ℕ
+longest_table = 257
+
 abbrev pub form_name : Form → Text
+form_name forms.Stream = codes "stream"
+form_name forms.Packed = codes "packed"
 form_name forms.Bare = codes "bare"
 
 -- the value of --form, given or usual, is the form's name
@@ -28,7 +33,16 @@ LimitsAre rows limits =
     × NumberIs rows (codes "budget") limits.budget
     × NumberIs rows (codes "depth") limits.depth
 
+-- the words of a message, by their option, and those of the longest table
+abbrev pub UnpackedIs : List Row → ℕ → Type 0
+UnpackedIs rows most = (n : ℕ) × NumberIs rows (codes "message-words") n × (most ≡ n + longest_table)
+
 -- the subcommand of this name, with these values, orders this
 abbrev pub Means : Option (Text × List Row) → Command → Type 0
 Means None command = ⊥
+Means (Some s) (commands.Show form limits) = (s.0 ≡ codes "show") × FormIs s.1 form × LimitsAre s.1 limits
+Means (Some s) (commands.Check form limits) = (s.0 ≡ codes "check") × FormIs s.1 form × LimitsAre s.1 limits
+Means (Some s) commands.Pack = s.0 ≡ codes "pack"
+Means (Some s) (commands.Unpack most) = (s.0 ≡ codes "unpack") × UnpackedIs s.1 most
 Means (Some s) (commands.Canonical form limits) = (s.0 ≡ codes "canonical") × FormIs s.1 form × LimitsAre s.1 limits
+Means (Some s) (commands.Hash form limits) = (s.0 ≡ codes "hash") × FormIs s.1 form × LimitsAre s.1 limits

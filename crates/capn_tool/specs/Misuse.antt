@@ -2,6 +2,5 @@
 use Rattle.clap.specs.declared.error.Error.{Error}
 use Rattle.capn_tool.specs.declared.misuse.Usage.{Usage}
 
--- the error of the command line
 abbrev pub error_of : Usage → Error
 error_of usage = usage.error

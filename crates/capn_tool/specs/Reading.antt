@@ -1,8 +1,9 @@
 -- What a run has read and written.
-use Rattle.std.specs.Prelude.{◌≡◌, ℕ, ◌+◌, ◌≤◌, ◌^◌, List, length, take, Option, Result, Ok, Err, Vec, ⊤}
+use Rattle.std.specs.Prelude.{◌≡◌, ℕ, ◌+◌, ◌≤◌, ◌^◌, List, length, take, Bool, false, Option, Result, Ok, Err, ⊤}
 use Rattle.std.specs.Io.KnownBytes.{Consumes, Appends, IsAtEnd}
+use Rattle.capn_tool.specs.Text.{taken_of, has_more}
+use Rattle.capn_tool.specs.declared.input.Input.{Input}
 use Rattle.capn_tool.specs.declared.fault.ToolFault.{ToolFault}
-use Rattle.capn_tool.specs.declared.fault.ToolFault.TheVariants as faults
 
 -- the bytes that a reader gave, in number as P says
 abbrev pub HasRead : Option (List ℕ) → Option (List ℕ) → (ℕ → Type 0) → Type 0
@@ -12,12 +13,15 @@ HasRead old new P = (bytes : List ℕ) × Consumes old new bytes × P (length by
 abbrev pub HasBegun : Option (List ℕ) → Option (List ℕ) → List ℕ → Type 0
 HasBegun old new text = (count : ℕ) × Appends old new (take count text)
 
--- all that a reader had to give was read, or there was a byte too many
-abbrev pub ReadsAll : {A : Type 0} → Option (List ℕ) → Option (List ℕ) → Result (Vec ℕ A) ToolFault → Type 0
-ReadsAll old new (Ok input) = (length input.items ≤ 2 ^ 32) × Consumes old new input.items × IsAtEnd new
-ReadsAll old new (Err faults.Memory) = ⊤
-ReadsAll old new (Err faults.Io) = ⊤
-ReadsAll old new (Err faults.InputTooLong) = HasRead old new (λ n. n ≡ 2 ^ 32 + 1)
-ReadsAll old new (Err (faults.NotWhole n)) = ⊥
-ReadsAll old new (Err (faults.Refused refusal)) = ⊥
-ReadsAll old new (Err faults.NotYet) = ⊥
+-- a reader gave these bytes, all that it had or one more than 2^32; the first of them were kept, and whether there are more
+pub record Kept (old new : Option (List ℕ)) (kept : List ℕ) (is_longer : Bool) (bytes : List ℕ) : Type 0 where
+  pub read : Consumes old new bytes
+  pub bounded : length bytes ≤ 2 ^ 32 + 1
+  pub are : taken_of bytes ≡ kept
+  pub more : has_more bytes ≡ is_longer
+  pub ended : is_longer ≡ false → IsAtEnd new
+
+-- a call read the input
+abbrev pub ReadsAll : {A : Type 0} → Option (List ℕ) → Option (List ℕ) → Result (Input A) ToolFault → Type 0
+ReadsAll old new (Ok input) = (bytes : List ℕ) × Kept old new input.bytes.items input.is_longer bytes
+ReadsAll old new (Err fault) = ⊤

@@ -1,61 +1,75 @@
--- What a run writes for its input, and how it ends (own).
-use Rattle.std.specs.Prelude.{◌≡◌, ◌⊎◌, ℕ, ◌+◌, ◌≤◌, ◌<◌, ◌^◌, List, length, take, Option, Result, Ok, Err, Vec, ⊤}
-use Rattle.std.specs.Io.KnownBytes.{Consumes, Appends, Keeps}
-use Rattle.capn_tool.specs.Canonical.{Canonicalises}
-use Rattle.capn_tool.specs.declared.canon.Form.TheVariants as forms
+-- What a run writes for its input, and how it ends. (Own.)
+use Rattle.std.specs.Prelude.{◌≡◌, ◌⊎◌, ℕ, ◌+◌, ◌≤◌, ◌^◌, nat_lt, List, [], length, take, Bool, true, false, Option, Result, Ok, Err}
+use Rattle.std.specs.Io.KnownBytes.{Consumes, Appends}
+use Rattle.capn_tool.specs.Planned.{plan_of}
+use Rattle.capn_tool.specs.Wholes.{Makes, MakesNothing}
+use Rattle.capn_tool.specs.Streams.{Part, AreParts, texts_of, IsDueEach}
 use Rattle.capn_tool.specs.declared.orders.Command.{Command}
-use Rattle.capn_tool.specs.declared.orders.Command.TheVariants as commands
+use Rattle.capn_tool.specs.declared.plan.Whole.{Whole}
+use Rattle.capn_tool.specs.declared.plan.Plan.{Plan}
+use Rattle.capn_tool.specs.declared.plan.Plan.TheVariants as plans
 use Rattle.capn_tool.specs.declared.fault.ToolFault.{ToolFault}
 use Rattle.capn_tool.specs.declared.fault.ToolFault.TheVariants as faults
 
--- what a command makes of an input that is not too long: a text, or why there is none
-abbrev pub IsAnswer : Command → List ℕ → Result (List ℕ) ToolFault → Type 0
-IsAnswer (commands.Canonical forms.Bare limits) input outcome = Canonicalises input limits outcome
+-- the bytes of an input that a run takes
+abbrev pub taken_of : List ℕ → List ℕ
+taken_of input = take (2 ^ 32) input
 
--- the text that a run writes for its input, or why it writes none: an input of more than 2^32 bytes is too long
-abbrev pub IsText : Command → List ℕ → Result (List ℕ) ToolFault → Type 0
-IsText command input outcome =
-    ((2 ^ 32 < length input) × (outcome ≡ Err faults.InputTooLong)) ⊎ ((length input ≤ 2 ^ 32) × IsAnswer command input outcome)
+-- whether the input has more
+abbrev pub has_more : List ℕ → Bool
+has_more input = nat_lt (2 ^ 32) (length input)
 
--- a call gave the answer, but for want of memory
-abbrev pub Gives : {A : Type 0} → Command → List ℕ → Result (Vec ℕ A) ToolFault → Type 0
-Gives command input (Ok text) = IsAnswer command input (Ok text.items)
-Gives command input (Err faults.Memory) = ⊤
-Gives command input (Err faults.Io) = ⊥
-Gives command input (Err faults.InputTooLong) = ⊥
-Gives command input (Err (faults.NotWhole n)) = IsAnswer command input (Err (faults.NotWhole n))
-Gives command input (Err (faults.Refused refusal)) = IsAnswer command input (Err (faults.Refused refusal))
-Gives command input (Err faults.NotYet) = IsAnswer command input (Err faults.NotYet)
+-- the text and the ending of an input that is taken whole: none of one that is longer, else what is made of it, else the reason
+abbrev pub IsDueWhole : Whole → List ℕ → Bool → List ℕ → Result (Unit {0}) ToolFault → Type 0
+IsDueWhole whole bytes true text ending = (text ≡ []) × (ending ≡ Err faults.InputTooLong)
+IsDueWhole whole bytes false text (Ok u) = Makes whole bytes text
+IsDueWhole whole bytes false text (Err fault) = (text ≡ []) × MakesNothing whole bytes fault
 
--- A run that ended so wrote the text of its input and nothing else, or nothing for the reason that it gives, but for want
--- of memory and a reader or writer that failed.
+-- the text and the ending that a plan makes of the bytes that are taken
+abbrev pub IsDue : Plan → List ℕ → Bool → List ℕ → Result (Unit {0}) ToolFault → Type 0
+IsDue (plans.Whole whole) bytes is_longer text ending = IsDueWhole whole bytes is_longer text ending
+IsDue (plans.Each piece limits) bytes is_longer text ending = IsDueEach piece limits bytes is_longer text ending
+IsDue plans.Later bytes is_longer text ending = (text ≡ []) × (ending ≡ Err faults.NotYet)
+
+-- the text that a run writes for its input, and how it ends
+abbrev pub IsText : Command → List ℕ → List ℕ → Result (Unit {0}) ToolFault → Type 0
+IsText command input text ending = IsDue (plan_of command) (taken_of input) (has_more input) text ending
+
+-- the tool cannot carry the command out yet
+abbrev pub IsLater : Command → Type 0
+IsLater command = plan_of command ≡ plans.Later
+
+-- a run has written what is due and ended as is due, but for want of memory and a reader or writer that failed
+abbrev pub HasEnded : Plan → List ℕ → Bool → Option (List ℕ) → Option (List ℕ) → Result (Unit {0}) ToolFault → Type 0
+HasEnded plan bytes is_longer old new ending =
+    (ending ≡ Err faults.Memory) ⊎ ((ending ≡ Err faults.Io) ⊎ ((text : List ℕ) × IsDue plan bytes is_longer text ending × Appends old new text))
+
+abbrev pub PlanEndsAs : Plan → Option (List ℕ) → Option (List ℕ) → Result (Unit {0}) ToolFault → List ℕ → Type 0
+PlanEndsAs plan old new ending input = HasEnded plan (taken_of input) (has_more input) old new ending
+
 abbrev pub EndsAs : Command → Option (List ℕ) → Option (List ℕ) → Result (Unit {0}) ToolFault → List ℕ → Type 0
-EndsAs command old new (Ok u) input = (text : List ℕ) × IsText command input (Ok text) × Appends old new text
-EndsAs command old new (Err faults.Memory) input = ⊤
-EndsAs command old new (Err faults.Io) input = ⊤
-EndsAs command old new (Err faults.InputTooLong) input = IsText command input (Err faults.InputTooLong) × Keeps old new
-EndsAs command old new (Err (faults.NotWhole n)) input = IsText command input (Err (faults.NotWhole n)) × Keeps old new
-EndsAs command old new (Err (faults.Refused refusal)) input = IsText command input (Err (faults.Refused refusal)) × Keeps old new
-EndsAs command old new (Err faults.NotYet) input = IsText command input (Err faults.NotYet) × Keeps old new
+EndsAs command old new ending input = PlanEndsAs (plan_of command) old new ending input
 
--- how a run ends where this is due, but for want of memory and a reader or writer that failed
-abbrev pub EndsBy : Result (List ℕ) ToolFault → Option (List ℕ) → Option (List ℕ) → Result (Unit {0}) ToolFault → Type 0
-EndsBy (Ok text) old new (Ok u) = Appends old new text
-EndsBy (Ok text) old new (Err fault) = (fault ≡ faults.Memory) ⊎ (fault ≡ faults.Io)
-EndsBy (Err due) old new (Ok u) = ⊥
-EndsBy (Err due) old new (Err fault) = (fault ≡ due) ⊎ ((fault ≡ faults.Memory) ⊎ (fault ≡ faults.Io))
+-- the text of these bytes begins so: with nothing, with the whole text of an input that is answered, or with the pieces of
+-- the whole messages that stand first in a stream
+abbrev pub IsFront : Plan → List ℕ → Bool → List ℕ → Type 0
+IsFront (plans.Whole whole) bytes is_longer text = (text ≡ []) ⊎ IsDueWhole whole bytes is_longer text (Ok tt)
+IsFront (plans.Each piece limits) bytes is_longer text = (parts : List Part) × (rest : List ℕ) × AreParts piece limits bytes parts rest × (text ≡ texts_of parts)
+IsFront plans.Later bytes is_longer text = text ≡ []
 
--- nothing was written, or a beginning of the text of these bytes
-abbrev pub HasWritten : Command → List ℕ → Option (List ℕ) → Option (List ℕ) → Type 0
-HasWritten command bytes old new =
-    Keeps old new ⊎ ((text : List ℕ) × (count : ℕ) × IsText command bytes (Ok text) × Appends old new (take count text))
+-- a beginning of the text of these bytes was written
+abbrev pub HasWritten : Plan → List ℕ → Bool → Option (List ℕ) → Option (List ℕ) → Type 0
+HasWritten plan bytes is_longer old new =
+    (text : List ℕ) × (count : ℕ) × IsFront plan bytes is_longer text × Appends old new (take count text)
 
 -- a reader gave some bytes, 2^32 + 1 at most, and a writer took a beginning of their text
-pub record Begun (command : Command) (old_reader new_reader old_writer new_writer : Option (List ℕ)) (bytes : List ℕ) : Type 0 where
+pub record Begun (plan : Plan) (old_reader new_reader old_writer new_writer : Option (List ℕ)) (bytes : List ℕ) : Type 0 where
   pub read : Consumes old_reader new_reader bytes
   pub bounded : length bytes ≤ 2 ^ 32 + 1
-  pub written : HasWritten command bytes old_writer new_writer
+  pub written : HasWritten plan (taken_of bytes) (has_more bytes) old_writer new_writer
 
--- some bytes were read and a beginning of their text was written
+abbrev pub PlanBegins : Plan → Option (List ℕ) → Option (List ℕ) → Option (List ℕ) → Option (List ℕ) → Type 0
+PlanBegins plan a b c d = (bytes : List ℕ) × Begun plan a b c d bytes
+
 abbrev pub Begins : Command → Option (List ℕ) → Option (List ℕ) → Option (List ℕ) → Option (List ℕ) → Type 0
-Begins command a b c d = (bytes : List ℕ) × Begun command a b c d bytes
+Begins command a b c d = PlanBegins (plan_of command) a b c d

@@ -3,8 +3,10 @@
 ghost use Rattle.std.specs.Prelude.{◌≡◌};
 ghost use Rattle.capn_tool.specs.Status.{status_of};
 
-use crate::canon::Refusal;
 use crate::fault::{Memory, ToolFault};
+use capn_canon::Refusal;
+use capn_pack::UnpackFault;
+use capn_walk::Stopped;
 use std::alloc::Allocator;
 
 /// The exit status of a run: 0 where it is done, 1 where the input is refused or cannot be taken yet, 3 where memory,
@@ -36,14 +38,34 @@ pub fn fault_text<A: Allocator>(alloc: A, fault: &ToolFault) -> Result<String<A>
 fn refusal_text<A: Allocator>(alloc: A, refusal: &Refusal) -> Result<String<A>, Memory> {
     let text = match refusal {
         Refusal::Bare(fault) => format!(in alloc; "bare: {fault:?}")?,
-        Refusal::Walk(stopped) => {
-            let fault = stopped.fault;
-            let segment = stopped.place.segment;
-            let word = stopped.place.word;
-            let paid = stopped.paid;
-            let visits = stopped.visits;
-            format!(in alloc; "{fault:?} at {segment}:{word}, paid {paid}, visits {visits}")?
-        }
+        Refusal::Packed(fault) => packed_text(alloc, fault)?,
+        Refusal::Frame(fault) => format!(in alloc; "frame: {fault:?}")?,
+        Refusal::Trailing(offset) => format!(in alloc; "trailing bytes at {offset}")?,
+        Refusal::Walk(stopped) => walk_text(alloc, stopped)?,
+        Refusal::Capability(index) => format!(in alloc; "capability {index}")?,
+        Refusal::Memory => String::from_str(alloc, "out of memory")?,
     };
+    Ok(text)
+}
+
+/// The text of the refusal of a packed text: why, and the offset of the group's tag.
+fn packed_text<A: Allocator>(alloc: A, fault: &UnpackFault) -> Result<String<A>, Memory> {
+    let text = match fault {
+        UnpackFault::Cut { at } => format!(in alloc; "packed: Cut at {at}")?,
+        UnpackFault::TooLong { at } => format!(in alloc; "packed: TooLong at {at}")?,
+        UnpackFault::Memory => String::from_str(alloc, "packed: Memory")?,
+        UnpackFault::Failed => String::from_str(alloc, "packed: Failed")?,
+    };
+    Ok(text)
+}
+
+/// The text of the refusal of a walk: the fault, its place, and what was paid and visited.
+fn walk_text<A: Allocator>(alloc: A, stopped: &Stopped) -> Result<String<A>, Memory> {
+    let fault = stopped.fault;
+    let segment = stopped.place.segment;
+    let word = stopped.place.word;
+    let paid = stopped.paid;
+    let visits = stopped.visits;
+    let text = format!(in alloc; "{fault:?} at {segment}:{word}, paid {paid}, visits {visits}")?;
     Ok(text)
 }

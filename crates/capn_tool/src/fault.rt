@@ -1,11 +1,9 @@
 //! Why a run of the tool ends without having done its work.
 
 ghost use Rattle.std.specs.Prelude.{◌≡◌};
-ghost use Rattle.capn_tool.specs.declared.canon.Refusal.TheVariants as refusal;
 ghost use Rattle.capn_tool.specs.declared.fault.ToolFault.TheVariants as fault;
 
-use crate::canon::Refusal;
-use capn_words::bare::BareFault;
+use capn_canon::Refusal;
 use std::alloc::AllocError;
 use thiserror::Error;
 
@@ -50,10 +48,10 @@ impl From<AllocError> for ToolFault {
     }
 }
 
-impl From<BareFault> for ToolFault {
-    ghost from_gives = { λ b e. e ≡ fault.Refused (refusal.Bare b) };
+impl From<capn_value::Memory> for ToolFault {
+    ghost from_gives = { λ _ e. e ≡ fault.Memory };
 
-    fn from(fault: BareFault) -> ToolFault {
-        ToolFault::Refused(Refusal::Bare(fault))
+    fn from(_error: capn_value::Memory) -> ToolFault {
+        ToolFault::Memory
     }
 }

@@ -6,7 +6,7 @@ ghost use Rattle.capn_words.specs.Watching.{inner_of, has_failed};
 ghost use Rattle.capn_tool.specs.Reading.{HasBegun};
 
 use crate::fault::ToolFault;
-use capn_words::watched::Watched;
+use capn_words::Watched;
 use std::io::Write;
 
 /// Writes all of the text, or a beginning of it where the writer fails.

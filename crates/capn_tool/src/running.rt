@@ -1,62 +1,89 @@
 //! From all of the input to all of the output.
 
-ghost use Rattle.std.specs.Prelude.{◌≡◌, ◌↔◌, ◌⊎◌, ℕ, List, Result, ◌≤◌, ◌^◌, length, true, false, IfSome, IsErrOf};
+ghost use Rattle.std.specs.Prelude.{◌≡◌, ◌↔◌, ◌⊎◌, true, false, IfSome, IsErrOf};
 ghost use Rattle.capn_words.specs.Watching.{inner_of, has_failed};
-ghost use Rattle.capn_tool.specs.Text.{Gives, EndsAs, EndsBy, IsText, Begins};
-ghost use Rattle.capn_tool.specs.declared.fault.ToolFault.{ToolFault};
+ghost use Rattle.capn_tool.specs.Planned as spec;
+ghost use Rattle.capn_tool.specs.Served.{Served};
+ghost use Rattle.capn_tool.specs.Text.{EndsAs, Begins, IsLater, PlanEndsAs, PlanBegins};
+ghost use Rattle.capn_tool.specs.declared.plan.Plan.TheVariants as plans;
 
-use crate::canon::Form;
+use crate::each::write_each;
 use crate::fault::ToolFault;
-use crate::input::read_all;
+use crate::input::{Input, read_all};
+use crate::making::make;
 use crate::orders::Command;
 use crate::output::write_all;
-use crate::plain::plain_canonical;
-use capn_words::watched::Watched;
+use crate::plan::{Plan, Whole, plan_of};
+use capn_words::Watched;
 use std::alloc::Allocator;
 use std::io::{Read, Write};
 
-/// What the command makes of an input.
-fn answer<A: Allocator + Copy>(
+/// Writes what is made of the whole input, or nothing where it is too long or refused.
+fn write_whole<W: Write, A: Allocator + Copy>(
     alloc: A,
-    command: Command,
-    input: &[u8],
-) -> Result<Vec<u8, A>, ToolFault>
-    ensures { Gives command input.now result }
+    whole: Whole,
+    input: &Input<A>,
+    writer: &mut Watched<W>,
+) -> Result<(), ToolFault>
+    requires { has_failed writer.old ≡ false }
+    ensures { Served (plans.Whole whole) input.now.bytes.items input.now.is_longer (W.contents (inner_of writer.old))
+        (W.contents (inner_of writer.new)) (has_failed writer.new) result }
 {
-    match command {
-        Command::Canonical(Form::Bare, limits) => {
-            let canonical = plain_canonical(alloc, input, limits)?;
-            Ok(canonical.bytes)
-        }
+    if input.is_longer {
+        return Err(ToolFault::InputTooLong);
+    }
+    let text = make(alloc, whole, &input.bytes)?;
+    write_all(writer, &text)
+}
+
+/// Writes what a plan makes of an input.
+fn serve<W: Write, A: Allocator + Copy>(
+    alloc: A,
+    plan: Plan,
+    input: &Input<A>,
+    writer: &mut Watched<W>,
+) -> Result<(), ToolFault>
+    requires { has_failed writer.old ≡ false }
+    ensures { Served plan input.now.bytes.items input.now.is_longer (W.contents (inner_of writer.old))
+        (W.contents (inner_of writer.new)) (has_failed writer.new) result }
+{
+    match plan {
+        Plan::Whole(whole) => write_whole(alloc, whole, input, writer),
+        Plan::Each(piece, limits) => write_each(alloc, piece, limits, input, writer),
+        Plan::Later => Err(ToolFault::NotYet),
     }
 }
 
-/// Reads all there is, and writes the answer to it and nothing else.
+/// Reads all there is, and writes what the plan makes of it.
 fn perform<R: Read, W: Write, A: Allocator + Copy>(
     alloc: A,
-    command: Command,
+    plan: Plan,
     reader: &mut Watched<R>,
     writer: &mut Watched<W>,
 ) -> Result<(), ToolFault>
     requires reader_fine { has_failed reader.old ≡ false }
     requires writer_fine { has_failed writer.old ≡ false }
     ensures exact { IfSome (R.remaining (inner_of reader.old))
-        (EndsAs command (W.contents (inner_of writer.old)) (W.contents (inner_of writer.new)) result) }
+        (PlanEndsAs plan (W.contents (inner_of writer.old)) (W.contents (inner_of writer.new)) result) }
     ensures io { IsErrOf result ToolFault.Io ↔ ((has_failed reader.new ≡ true) ⊎ (has_failed writer.new ≡ true)) }
-    ensures begun { Begins command (R.remaining (inner_of reader.old)) (R.remaining (inner_of reader.new))
+    ensures begun { PlanBegins plan (R.remaining (inner_of reader.old)) (R.remaining (inner_of reader.new))
         (W.contents (inner_of writer.old)) (W.contents (inner_of writer.new)) }
+    ensures later { IsErrOf result ToolFault.NotYet → plan ≡ plans.Later }
 {
     let input = read_all(alloc, reader)?;
-    let text = answer(alloc, command, &input)?;
-    write_all(writer, &text)
+    serve(alloc, plan, &input, writer)
 }
 
-/// Carries a command out: reads from the reader to its end, then writes the text of the input to the writer, and nothing
-/// where the input is refused.
+/// Carries a command out: reads from the reader to its end, then writes the text of the input to the writer.
+///
+/// `pack`, `unpack`, `canonical` and the form bare take the input whole, and write nothing where it is refused. `show`,
+/// `check` and `hash` of a stream take it message by message, and write the piece of each before the next is looked
+/// at: where a message is refused, the pieces of those before it have been written.
 ///
 /// Refusals: `Memory` where a growth was refused; `Io` exactly where the reader or the writer has failed, and then a
-/// beginning of the text was written; `InputTooLong` for a byte past 2^32; else the command's own. At most 2^32 + 1
-/// bytes are read, at most 65,536 by one call.
+/// beginning of the text was written; `InputTooLong` for a byte past 2^32; `NotYet` exactly for `show`, `check` and
+/// `hash` in the form packed, before anything is read or written; else the command's own. At most 2^32 + 1 bytes are
+/// read, at most 65,536 by one call.
 pub fn run<R: Read, W: Write, A: Allocator + Copy>(
     alloc: A,
     command: Command,
@@ -65,18 +92,20 @@ pub fn run<R: Read, W: Write, A: Allocator + Copy>(
 ) -> Result<(), ToolFault>
     requires reader_fine { has_failed reader.old ≡ false }
     requires writer_fine { has_failed writer.old ≡ false }
-    // It ends as the text of all that the reader had to give says, and has written that text.
+    // It has written the text of all that the reader had to give, and ends as that says.
     ensures exact { IfSome (R.remaining (inner_of reader.old))
         (EndsAs command (W.contents (inner_of writer.old)) (W.contents (inner_of writer.new)) result) }
-    // What the input is due comes, and nothing else.
-    ensures only { IfSome (R.remaining (inner_of reader.old)) (λ input.
-        (due : Result (List ℕ) ToolFault) → IsText command input due →
-        EndsBy due (W.contents (inner_of writer.old)) (W.contents (inner_of writer.new)) result) }
     // It answers Io exactly where one of the two has failed.
     ensures io { IsErrOf result ToolFault.Io ↔ ((has_failed reader.new ≡ true) ⊎ (has_failed writer.new ≡ true)) }
     // Whatever it answers, a beginning of the text of what it read was written, or nothing.
     ensures begun { Begins command (R.remaining (inner_of reader.old)) (R.remaining (inner_of reader.new))
         (W.contents (inner_of writer.old)) (W.contents (inner_of writer.new)) }
+    // A command that the tool cannot carry out yet touches neither of the two, and no other is answered so.
+    ensures later { IsErrOf result ToolFault.NotYet ↔ IsLater command }
+    ensures untouched { IsErrOf result ToolFault.NotYet → (reader.new ≡ reader.old) × (writer.new ≡ writer.old) }
 {
-    perform(alloc, command, reader, writer)
+    match plan_of(command) {
+        Plan::Later => Err(ToolFault::NotYet),
+        plan => perform(alloc, plan, reader, writer),
+    }
 }

@@ -1,6 +1,5 @@
-//! Worked messages, texts and statuses, command lines, and readers and writers that fail.
+//! Texts and statuses, command lines, and readers and writers that fail.
 
 mod ends;
 mod lines;
 mod texts;
-mod vectors;

@@ -6,6 +6,7 @@ mod frames;
 mod messages;
 mod packing;
 mod refusals;
+mod runs;
 mod words;
 
 use anyhow::{Result, bail};
@@ -20,6 +21,8 @@ fn answer(alloc: Global, line: &str) -> Result<String> {
     match word_at(words, 0)? {
         "pack" => packing::pack_answer(alloc, words),
         "unpack" => packing::unpack_answer(alloc, words),
+        "run" => runs::run_answer(alloc, words),
+        "usage" => runs::usage_answer(alloc, words),
         "limits" => messages::limits_answer(alloc, words),
         "resolve" => messages::resolve_answer(alloc, words),
         "walk" => messages::walk_answer(alloc, words),
@@ -47,3 +50,6 @@ fn main(rt: HostRuntime) -> Result<()> {
     }
     Ok(())
 }
+
+#[cfg(test)]
+mod tests;

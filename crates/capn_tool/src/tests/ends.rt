@@ -1,9 +1,12 @@
 //! Runs over readers and writers of one byte a call, which fail at one call.
 
 use crate::*;
-use capn_words::watched::Watched;
+use capn_canon::Form;
+use capn_walk::Limits;
+use capn_words::Watched;
+use std::alloc::Global;
 use std::io::{self, Error, ErrorKind, Read, Write};
-use std::test::Fail;
+use std::process::Abort;
 
 /// A reader of one byte a call, which fails at one call and remembers the most that it was asked for.
 #[derive(Drop)]
@@ -65,35 +68,70 @@ impl Write for Narrow {
     }
 }
 
-/// A struct with a trailing zero word, of 24 bytes.
-const INPUT: [u8; 24] = [
+/// A bare message: a struct with a trailing zero word, of 24 bytes.
+const BARE: [u8; 24] = [
     0, 0, 0, 0, 2, 0, 0, 0, 5, 0, 0, 0, 0, 0, 0, 0, 0, 0, 0, 0, 0, 0, 0, 0,
 ];
 
 /// Its canonical bytes, 16 of them.
-const TEXT: [u8; 16] = [0, 0, 0, 0, 1, 0, 0, 0, 5, 0, 0, 0, 0, 0, 0, 0];
+const CANONICAL: [u8; 16] = [0, 0, 0, 0, 1, 0, 0, 0, 5, 0, 0, 0, 0, 0, 0, 0];
 
-/// What a run ended with, and what it wrote, where the reader fails at one call and the writer at another (at 0: never).
+/// A stream of two messages, of 40 bytes: a struct of one word, then a null root.
+const STREAM: [u8; 40] = [
+    0, 0, 0, 0, 2, 0, 0, 0, 0, 0, 0, 0, 1, 0, 0, 0, 5, 0, 0, 0, 0, 0, 0, 0, 0, 0, 0, 0, 1, 0, 0, 0,
+    0, 0, 0, 0, 0, 0, 0, 0,
+];
+
+/// The lines of their prices, 19 bytes each.
+const PRICES: &[u8] = b"ok paid 2 visits 1\nok paid 0 visits 1\n";
+
+/// A command with its input and what it writes.
+struct Run<'a> {
+    command: Command,
+    input: &'a [u8],
+    text: &'a [u8],
+}
+
+/// The run of `canonical` over the bare message.
+fn canonical() -> Run<'static> {
+    Run {
+        command: Command::Canonical(Form::Bare, Limits::usual()),
+        input: &BARE,
+        text: &CANONICAL,
+    }
+}
+
+/// The run of `check` over the stream.
+fn check() -> Run<'static> {
+    Run {
+        command: Command::Check(Form::Stream, Limits::usual()),
+        input: &STREAM,
+        text: PRICES,
+    }
+}
+
+/// What a run ended with, what it wrote, and the most that it asked its reader for, where the reader fails at one call and
+/// the writer at another (at 0: never).
 fn ended(
-    rt: &HostRuntime,
+    alloc: Global,
+    run_of: &Run,
     read: u64,
     write: u64,
     takes_nothing: bool,
 ) -> (Result<(), ToolFault>, Vec<u8>, usize) {
     let mut reader = Watched::new(Slow {
-        bytes: &INPUT,
+        bytes: run_of.input,
         calls: 0,
         fails_at: read,
         asked: 0,
     });
     let mut writer = Watched::new(Narrow {
-        bytes: Vec::new(rt.alloc()),
+        bytes: Vec::new(alloc),
         calls: 0,
         fails_at: write,
         takes_nothing,
     });
-    let command = Command::Canonical(Form::Bare, Limits::usual());
-    let outcome = run(rt.alloc(), command, &mut reader, &mut writer);
+    let outcome = run(alloc, run_of.command, &mut reader, &mut writer);
     (
         outcome,
         writer.into_inner().bytes,
@@ -101,40 +139,50 @@ fn ended(
     )
 }
 
-#[test]
-fn a_reader_fails_at_each_call(rt: HostRuntime) -> Result<(), Fail> {
-    for call in 0..28u64 {
-        let (outcome, written, asked) = ended(&rt, call, 0, false);
+/// Fails each call of the reader in turn, the one that finds the end among them: nothing is written.
+fn fail_each_read(rt: &impl Abort, alloc: Global, run_of: &Run) {
+    let calls = run_of.input.len() as u64 + 1;
+    for call in 0..50u64 {
+        let (outcome, written, asked) = ended(alloc, run_of, call, 0, false);
         assert_eq!(rt; asked, 65_536, "read {call}");
-        // The end of the input is the 25th call.
-        if 1 <= call && call <= 25 {
+        if 1 <= call && call <= calls {
             assert_eq!(rt; outcome, Err(ToolFault::Io), "read {call}");
             assert!(rt; written.is_empty(), "read {call}");
         } else {
             assert_eq!(rt; outcome, Ok(()), "read {call}");
-            assert_eq!(rt; written.as_slice(), TEXT.as_slice(), "read {call}");
+            assert_eq!(rt; written.as_slice(), run_of.text, "read {call}");
         }
     }
-    Ok(())
+}
+
+/// Fails each call of the writer in turn: what it took before is a beginning of the text.
+fn fail_each_write(rt: &impl Abort, alloc: Global, run_of: &Run, takes_nothing: bool) {
+    for call in 0..50usize {
+        let (outcome, written, _) = ended(alloc, run_of, 0, call as u64, takes_nothing);
+        if 1 <= call && call <= run_of.text.len() {
+            assert_eq!(rt; outcome, Err(ToolFault::Io), "write {call}");
+            assert_eq!(rt;
+                run_of.text.get(..call - 1),
+                Some(written.as_slice()),
+                "write {call}"
+            );
+        } else {
+            assert_eq!(rt; outcome, Ok(()), "write {call}");
+            assert_eq!(rt; written.as_slice(), run_of.text, "write {call}");
+        }
+    }
 }
 
 #[test]
-fn a_writer_fails_at_each_call(rt: HostRuntime) -> Result<(), Fail> {
+fn a_reader_fails_at_each_call(rt: HostRuntime) {
+    fail_each_read(&rt, rt.alloc(), &canonical());
+    fail_each_read(&rt, rt.alloc(), &check());
+}
+
+#[test]
+fn a_writer_fails_at_each_call(rt: HostRuntime) {
     for takes_nothing in [false, true] {
-        for call in 0..20usize {
-            let (outcome, written, _) = ended(&rt, 0, call as u64, takes_nothing);
-            if 1 <= call && call <= 16 {
-                assert_eq!(rt; outcome, Err(ToolFault::Io), "write {call}");
-                assert_eq!(rt;
-                    TEXT.get(..call - 1),
-                    Some(written.as_slice()),
-                    "write {call}"
-                );
-            } else {
-                assert_eq!(rt; outcome, Ok(()), "write {call}");
-                assert_eq!(rt; written.as_slice(), TEXT.as_slice(), "write {call}");
-            }
-        }
+        fail_each_write(&rt, rt.alloc(), &canonical(), takes_nothing);
+        fail_each_write(&rt, rt.alloc(), &check(), takes_nothing);
     }
-    Ok(())
 }

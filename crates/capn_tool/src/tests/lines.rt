@@ -1,5 +1,6 @@
 //! Command lines and what they order.
 
+use crate::subcommands::tool_command;
 use crate::*;
 use std::alloc::Global;
 
@@ -8,98 +9,151 @@ fn ordered(alloc: Global, words: &[&str]) -> Result<Command, u8> {
     command_of(alloc, words).map_err(|usage| usage.status())
 }
 
-/// The same of `canonical --form bare` with one more option.
-fn with_option(alloc: Global, option: &str, value: &str) -> Result<Command, u8> {
-    ordered(
-        alloc,
-        &["capn", "canonical", "--form", "bare", option, value],
-    )
-}
-
-/// What `canonical` with these limits is, where they are in their ranges.
-fn canonical(message_words: u32, budget: u32, depth: u32) -> Result<Command, u8> {
+/// `check` with these limits, where they are in their ranges.
+fn check(message_words: u32, budget: u32, depth: u32) -> Result<Command, u8> {
     match Limits::new(message_words, budget, depth) {
-        Some(limits) => Ok(Command::Canonical(Form::Bare, limits)),
+        Some(limits) => Ok(Command::Check(Form::Stream, limits)),
         None => Err(0),
     }
 }
 
 #[test]
 fn usual_values(rt: HostRuntime) {
-    let usual = canonical(8_388_608, 8_388_608, 64);
-    assert_eq!(rt;
-        ordered(rt.alloc(), &["capn", "canonical", "--form", "bare"]),
-        usual
-    );
-    assert_eq!(rt;
-        ordered(rt.alloc(), &["capn", "canonical", "--form=bare"]),
-        usual
-    );
+    let usual = Limits::usual();
+    for (name, command) in [
+        ("show", Command::Show(Form::Stream, usual)),
+        ("check", Command::Check(Form::Stream, usual)),
+        ("canonical", Command::Canonical(Form::Stream, usual)),
+        ("hash", Command::Hash(Form::Stream, usual)),
+        ("pack", Command::Pack),
+        ("unpack", Command::Unpack(8_388_865)),
+    ] {
+        assert_eq!(rt; ordered(rt.alloc(), &["capn", name]), Ok(command), "{name}");
+    }
 }
 
 #[test]
-fn message_words_has_bounds(rt: HostRuntime) {
-    let least = with_option(rt.alloc(), "--message-words", "1");
-    assert_eq!(rt; least, canonical(1, 8_388_608, 64));
-    let greatest = with_option(rt.alloc(), "--message-words", "268435456");
-    assert_eq!(rt; greatest, canonical(268_435_456, 8_388_608, 64));
-    assert_eq!(rt; with_option(rt.alloc(), "--message-words", "0"), Err(2));
-    assert_eq!(rt;
-        with_option(rt.alloc(), "--message-words", "268435457"),
-        Err(2)
-    );
+fn forms(rt: HostRuntime) {
+    let usual = Limits::usual();
+    for (name, form, order) in [
+        ("show", "stream", Ok(Command::Show(Form::Stream, usual))),
+        ("show", "packed", Err(2)),
+        ("show", "bare", Ok(Command::Show(Form::Bare, usual))),
+        ("check", "packed", Err(2)),
+        ("check", "bare", Ok(Command::Check(Form::Bare, usual))),
+        ("hash", "packed", Err(2)),
+        ("hash", "bare", Ok(Command::Hash(Form::Bare, usual))),
+        (
+            "canonical",
+            "stream",
+            Ok(Command::Canonical(Form::Stream, usual)),
+        ),
+        (
+            "canonical",
+            "packed",
+            Ok(Command::Canonical(Form::Packed, usual)),
+        ),
+        (
+            "canonical",
+            "bare",
+            Ok(Command::Canonical(Form::Bare, usual)),
+        ),
+        ("canonical", "Bare", Err(2)),
+        ("canonical", "", Err(2)),
+        ("pack", "bare", Err(2)),
+        ("unpack", "bare", Err(2)),
+    ] {
+        assert_eq!(rt;
+            ordered(rt.alloc(), &["capn", name, "--form", form]),
+            order,
+            "{name} {form}"
+        );
+    }
 }
 
 #[test]
-fn budget_has_bounds(rt: HostRuntime) {
-    let least = with_option(rt.alloc(), "--budget", "0");
-    assert_eq!(rt; least, canonical(8_388_608, 0, 64));
-    let greatest = with_option(rt.alloc(), "--budget", "268435456");
-    assert_eq!(rt; greatest, canonical(8_388_608, 268_435_456, 64));
-    assert_eq!(rt; with_option(rt.alloc(), "--budget", "-1"), Err(2));
-    assert_eq!(rt; with_option(rt.alloc(), "--budget", "268435457"), Err(2));
-}
-
-#[test]
-fn depth_has_bounds(rt: HostRuntime) {
-    let least = with_option(rt.alloc(), "--depth", "1");
-    assert_eq!(rt; least, canonical(8_388_608, 8_388_608, 1));
-    let greatest = with_option(rt.alloc(), "--depth", "256");
-    assert_eq!(rt; greatest, canonical(8_388_608, 8_388_608, 256));
-    assert_eq!(rt; with_option(rt.alloc(), "--depth", "0"), Err(2));
-    assert_eq!(rt; with_option(rt.alloc(), "--depth", "257"), Err(2));
-    assert_eq!(rt; with_option(rt.alloc(), "--depth", "many"), Err(2));
-    assert_eq!(rt; with_option(rt.alloc(), "--depth", ""), Err(2));
+fn numbers_have_ranges(rt: HostRuntime) {
+    for (name, option, number, order) in [
+        ("check", "--message-words", "0", Err(2)),
+        ("check", "--message-words", "1", check(1, 8_388_608, 64)),
+        (
+            "check",
+            "--message-words",
+            "268435456",
+            check(268_435_456, 8_388_608, 64),
+        ),
+        ("check", "--message-words", "268435457", Err(2)),
+        ("check", "--budget", "-1", Err(2)),
+        ("check", "--budget", "0", check(8_388_608, 0, 64)),
+        (
+            "check",
+            "--budget",
+            "268435456",
+            check(8_388_608, 268_435_456, 64),
+        ),
+        ("check", "--budget", "268435457", Err(2)),
+        ("check", "--depth", "0", Err(2)),
+        ("check", "--depth", "1", check(8_388_608, 8_388_608, 1)),
+        ("check", "--depth", "256", check(8_388_608, 8_388_608, 256)),
+        ("check", "--depth", "257", Err(2)),
+        ("check", "--depth", "deep", Err(2)),
+        ("unpack", "--message-words", "0", Err(2)),
+        ("unpack", "--message-words", "1", Ok(Command::Unpack(258))),
+        (
+            "unpack",
+            "--message-words",
+            "268435456",
+            Ok(Command::Unpack(268_435_713)),
+        ),
+        ("unpack", "--message-words", "268435457", Err(2)),
+        ("unpack", "--budget", "5", Err(2)),
+        ("pack", "--message-words", "5", Err(2)),
+    ] {
+        assert_eq!(rt;
+            ordered(rt.alloc(), &["capn", name, option, number]),
+            order,
+            "{name} {option} {number}"
+        );
+    }
 }
 
 #[test]
 fn other_words_are_mistakes(rt: HostRuntime) {
-    assert_eq!(rt; with_option(rt.alloc(), "--colour", "1"), Err(2));
     assert_eq!(rt; ordered(rt.alloc(), &["capn"]), Err(2));
-    assert_eq!(rt; ordered(rt.alloc(), &["capn", "show"]), Err(2));
-    assert_eq!(rt; ordered(rt.alloc(), &["capn", "canonical"]), Err(2));
-    assert_eq!(rt;
-        ordered(rt.alloc(), &["capn", "canonical", "--form"]),
-        Err(2)
-    );
-    assert_eq!(rt;
-        ordered(rt.alloc(), &["capn", "canonical", "--form", "stream"]),
-        Err(2)
-    );
-    assert_eq!(rt;
-        ordered(rt.alloc(), &["capn", "canonical", "--form", "bare", "more"]),
-        Err(2)
-    );
-    assert_eq!(rt; ordered(rt.alloc(), &["capn", "--version"]), Err(2));
+    for words in [
+        ["capn", "squeeze"],
+        ["capn", "--version"],
+        ["capn", "--form=bare"],
+    ] {
+        assert_eq!(rt; ordered(rt.alloc(), &words), Err(2), "{words:?}");
+    }
+    for words in [
+        ["capn", "show", "message"],
+        ["capn", "show", "--colour"],
+        ["capn", "hash", "--depth"],
+        ["capn", "show", "--tariff=plain"],
+    ] {
+        assert_eq!(rt; ordered(rt.alloc(), &words), Err(2), "{words:?}");
+    }
 }
 
 #[test]
 fn help_is_no_mistake(rt: HostRuntime) {
-    assert_eq!(rt; ordered(rt.alloc(), &["capn", "--help"]), Err(0));
-    assert_eq!(rt; ordered(rt.alloc(), &["capn", "-h"]), Err(0));
-    assert_eq!(rt; ordered(rt.alloc(), &["capn", "help"]), Err(0));
-    assert_eq!(rt;
-        ordered(rt.alloc(), &["capn", "canonical", "--help"]),
-        Err(0)
-    );
+    for word in ["--help", "-h", "help"] {
+        assert_eq!(rt; ordered(rt.alloc(), &["capn", word]), Err(0), "{word}");
+    }
+    for name in ["show", "check", "canonical", "hash", "pack", "unpack"] {
+        assert_eq!(rt;
+            ordered(rt.alloc(), &["capn", name, "--help"]),
+            Err(0),
+            "{name}"
+        );
+    }
+}
+
+#[test]
+fn help_names_the_version_first(rt: HostRuntime) {
+    let mut command = tool_command(rt.alloc()).expect(&rt, "a command line");
+    let help = command.render_help().expect(&rt, "help");
+    assert!(rt; help.as_str().starts_with("capn 0.1.0: "));
 }

@@ -1,8 +1,11 @@
 //! The line and the status of each fault.
 
 use crate::*;
-use capn_words::bare::BareFault;
-use capn_words::space::Place;
+use capn_canon::Refusal;
+use capn_pack::UnpackFault;
+use capn_stream::FrameFault;
+use capn_walk::{Fault, Stopped};
+use capn_words::{BareFault, Place};
 use std::alloc::Global;
 use std::process::Abort;
 
@@ -60,24 +63,51 @@ fn faults_of_a_run(rt: HostRuntime) {
     expect_text(&rt, rt.alloc(), ToolFault::NotYet, "not yet", 1);
 }
 
+/// Expects the text of a refusal.
+fn expect_refusal(rt: &impl Abort, alloc: Global, refusal: Refusal, text: &str) {
+    expect_text(rt, alloc, ToolFault::Refused(refusal), text, 1);
+}
+
+/// Expects the text of a refusal of a frame.
+fn expect_misframed(rt: &impl Abort, alloc: Global, fault: FrameFault, text: &str) {
+    expect_refusal(rt, alloc, Refusal::Frame(fault), text);
+}
+
 #[test]
-fn refusals_of_bytes(rt: HostRuntime) {
+fn refusals_of_bare_and_packed_bytes(rt: HostRuntime) {
     let not_whole = Refusal::Bare(BareFault::NotWhole(9));
-    expect_text(
-        &rt,
-        rt.alloc(),
-        ToolFault::Refused(not_whole),
-        "bare: NotWhole(9)",
-        1,
-    );
+    expect_refusal(&rt, rt.alloc(), not_whole, "bare: NotWhole(9)");
     let too_long = Refusal::Bare(BareFault::TooLong(268_435_458));
-    expect_text(
+    expect_refusal(&rt, rt.alloc(), too_long, "bare: TooLong(268435458)");
+    let cut = Refusal::Packed(UnpackFault::Cut { at: 0 });
+    expect_refusal(&rt, rt.alloc(), cut, "packed: Cut at 0");
+    let too_long = Refusal::Packed(UnpackFault::TooLong { at: 0 });
+    expect_refusal(&rt, rt.alloc(), too_long, "packed: TooLong at 0");
+}
+
+#[test]
+fn refusals_of_frames(rt: HostRuntime) {
+    expect_misframed(&rt, rt.alloc(), FrameFault::Empty, "frame: Empty");
+    expect_misframed(
         &rt,
         rt.alloc(),
-        ToolFault::Refused(too_long),
-        "bare: TooLong(268435458)",
-        1,
+        FrameFault::TooManySegments(513),
+        "frame: TooManySegments(513)",
     );
+    expect_misframed(
+        &rt,
+        rt.alloc(),
+        FrameFault::TooManyWords(4_294_967_295),
+        "frame: TooManyWords(4294967295)",
+    );
+    expect_misframed(&rt, rt.alloc(), FrameFault::Cut, "frame: Cut");
+    expect_refusal(
+        &rt,
+        rt.alloc(),
+        Refusal::Trailing(40),
+        "trailing bytes at 40",
+    );
+    expect_refusal(&rt, rt.alloc(), Refusal::Capability(2), "capability 2");
 }
 
 #[test]

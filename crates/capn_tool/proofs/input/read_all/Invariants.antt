@@ -7,10 +7,10 @@ use Rattle.capn_tool.proofs.input.read_all.Given as goal
 abbrev pub invariant-pieces : goal.invariant-pieces
 invariant-pieces g l = record {
   fine : has_failed l.reader ≡ false;
-  room : length l.input.items ≤ 2 ^ 32;
-  read : Consumes (g.R.Read.remaining (inner_of l.fn.reader)) (g.R.Read.remaining (inner_of l.reader)) l.input.items;
+  room : length l.bytes.items ≤ 2 ^ 32;
+  read : Consumes (g.R.Read.remaining (inner_of l.fn.reader)) (g.R.Read.remaining (inner_of l.reader)) l.bytes.items;
 }
 
 -- what there is room for
 abbrev pub decreases-pieces : goal.decreases-pieces
-decreases-pieces g l = (2 ^ 32 + 1) - length l.input.items
+decreases-pieces g l = (2 ^ 32 + 1) - length l.bytes.items

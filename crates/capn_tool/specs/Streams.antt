@@ -1,0 +1,76 @@
+-- A stream of messages: the whole messages that stand first in it, each with its piece, and what is left. (Page:
+-- serialization over a stream; the order of the faults is own.)
+use Rattle.std.specs.Prelude.{◌≡◌, ◌≢◌, ◌⊎◌, ℕ, ◌≤◌, List, ◌++◌, Bool, true, false, Result, Ok, Err}
+use Rattle.std.specs.List.{flat_map, AllByRecursion}
+use Rattle.capn_words.specs.Message.{total}
+use Rattle.capn_walk.specs.Limits.{Bounds}
+use Rattle.capn_stream.specs.Frames.{Frames, StandsFirst}
+use Rattle.capn_stream.specs.Reading as frames
+use Rattle.capn_stream.specs.declared.fault.FrameFault.{FrameFault}
+use Rattle.capn_stream.specs.declared.fault.FrameFault.TheVariants as frame_faults
+use Rattle.capn_canon.specs.declared.refusal.Refusal.TheVariants as refusals
+use Rattle.capn_tool.specs.Pieces.{IsPiece, IsNoPiece}
+use Rattle.capn_tool.specs.declared.plan.Piece.{Piece}
+use Rattle.capn_tool.specs.declared.fault.ToolFault.{ToolFault}
+use Rattle.capn_tool.specs.declared.fault.ToolFault.TheVariants as faults
+
+-- the bytes of one frame, its message, and what is written of it
+pub record Part : Type 0 where
+  pub frame : List ℕ
+  pub message : List (List ℕ)
+  pub text : List ℕ
+
+abbrev pub frame_of : Part → List ℕ
+frame_of part = part.frame
+
+abbrev pub text_of : Part → List ℕ
+text_of part = part.text
+
+-- the frames joined, and the texts joined
+abbrev pub frames_of : List Part → List ℕ
+frames_of parts = flat_map frame_of parts
+
+abbrev pub texts_of : List Part → List ℕ
+texts_of parts = flat_map text_of parts
+
+-- the frame is that of the message, which has no more words than allowed, and the text is its piece
+pub record IsPart (piece : Piece) (limits : Bounds) (part : Part) : Type 0 where
+  pub frame : Frames part.frame part.message
+  pub room : total part.message ≤ limits.message_words
+  pub text : IsPiece piece part.message limits part.text
+
+-- the bytes are a row of frames, each of a message that has a piece, and what is left behind these
+pub record AreParts (piece : Piece) (limits : Bounds) (bytes : List ℕ) (parts : List Part) (rest : List ℕ) : Type 0 where
+  pub each : AllByRecursion (IsPart piece limits) parts
+  pub is : bytes ≡ frames_of parts ++ rest
+
+-- How a run ends where no whole frame stands first in what is left, by the reason: a count that is too great comes
+-- first, then an input that is longer, then a frame that is cut.
+abbrev pub end_of : FrameFault → Bool → Result (Unit {0}) ToolFault
+end_of frame_faults.Empty true = Err faults.InputTooLong
+end_of frame_faults.Empty false = Ok tt
+end_of frame_faults.Cut true = Err faults.InputTooLong
+end_of frame_faults.Cut false = Err (faults.Refused (refusals.Frame frame_faults.Cut))
+end_of frame_faults.Memory is_longer = Err faults.Memory
+end_of (frame_faults.TooManySegments n) is_longer = Err (faults.Refused (refusals.Frame (frame_faults.TooManySegments n)))
+end_of (frame_faults.TooManyWords n) is_longer = Err (faults.Refused (refusals.Frame (frame_faults.TooManyWords n)))
+end_of frame_faults.Failed is_longer = Err (faults.Refused (refusals.Frame frame_faults.Failed))
+
+-- no whole frame stands first in what is left, and the run ends so
+abbrev pub EndsUnframed : Bounds → List ℕ → Bool → Result (Unit {0}) ToolFault → Type 0
+EndsUnframed limits rest is_longer ending =
+    (e : FrameFault) × (e ≢ frame_faults.Memory) × frames.IsRefused rest limits.message_words e × (ending ≡ end_of e is_longer)
+
+-- a message stands first in what is left that has no piece, and the run ends with that reason
+abbrev pub EndsRefused : Piece → Bounds → List ℕ → Result (Unit {0}) ToolFault → Type 0
+EndsRefused piece limits rest ending =
+    (message : List (List ℕ)) × (taken : ℕ) × (fault : ToolFault) × StandsFirst rest limits.message_words message taken
+    × IsNoPiece piece message limits fault × (ending ≡ Err fault)
+
+-- the text and the ending of a stream of which these bytes are taken: the pieces of its messages, up to the first that has none
+pub record IsDueEach (piece : Piece) (limits : Bounds) (bytes : List ℕ) (is_longer : Bool) (text : List ℕ) (ending : Result (Unit {0}) ToolFault) : Type 0 where
+  pub parts : List Part
+  pub rest : List ℕ
+  pub are : AreParts piece limits bytes parts rest
+  pub joined : text ≡ texts_of parts
+  pub ends : EndsUnframed limits rest is_longer ending ⊎ EndsRefused piece limits rest ending

@@ -1,0 +1,52 @@
+//! Runs of the program, from the words of the command line to what is written.
+
+use crate::words::{bytes_at, digits_of, number_at, word_at};
+use anyhow::{Result, anyhow};
+use capn_tool::{command_of, fault_text, run, status};
+use capn_words::Watched;
+use std::alloc::Global;
+
+/// The command line whose number of words stands in the line, the program's name first.
+fn command_line<'a>(alloc: Global, words: &[&'a str]) -> Result<Vec<&'a str>> {
+    let count = number_at(words, 1)? as usize;
+    let mut line = Vec::new(alloc);
+    line.push("capn")?;
+    for word in 0..count {
+        line.push(word_at(words, word.saturating_add(2))?)?;
+    }
+    Ok(line)
+}
+
+/// `run COUNT WORD .. BYTES`: the status, what is written, and the line on standard error.
+pub fn run_answer(alloc: Global, words: &[&str]) -> Result<String> {
+    let line = command_line(alloc, words)?;
+    let input = bytes_at(alloc, words, line.len().saturating_add(1))?;
+    let Ok(command) = command_of(alloc, line.as_slice()) else {
+        return Err(anyhow!("no command"));
+    };
+    let mut reader = Watched::new(input.as_slice());
+    let mut writer = Watched::new(Vec::new(alloc));
+    let outcome = run(alloc, command, &mut reader, &mut writer);
+    let status = status(&outcome);
+    let written = writer.into_inner();
+    let digits = digits_of(alloc, written.as_slice())?;
+    match outcome {
+        Ok(()) => Ok(format!(in alloc; "status {status}, {digits}")?),
+        Err(fault) => match fault_text(alloc, &fault) {
+            Ok(text) => Ok(format!(in alloc; "status {status}, {digits}, capn: {text}")?),
+            Err(_) => Err(anyhow!("out of memory")),
+        },
+    }
+}
+
+/// `usage COUNT WORD ..`: the status of a command line that orders nothing.
+pub fn usage_answer(alloc: Global, words: &[&str]) -> Result<String> {
+    let line = command_line(alloc, words)?;
+    match command_of(alloc, line.as_slice()) {
+        Ok(_) => Ok(String::from_str(alloc, "a command")?),
+        Err(usage) => {
+            let status = usage.status();
+            Ok(format!(in alloc; "status {status}")?)
+        }
+    }
+}

@@ -1,0 +1,5 @@
+//! Each call of the libraries on values that are put together here.
+
+mod layouts;
+mod values;
+mod walks;

@@ -1,0 +1,153 @@
+//! Following pointers across segments, and walks over messages that would be walked for ever.
+
+use capn_stream::first;
+use capn_value::same;
+use capn_walk::{Fault, Limits, Shape, Stopped, Target, resolve, walk};
+use capn_words::{Bare, Place, Space};
+use std::alloc::Global;
+use std::test::Fail;
+
+const NULL: u64 = 0;
+
+// A struct of one word, whose content starts behind its pointer.
+const ONE_WORD: u64 = 0x1_0000_0000;
+
+fn bytes_of(alloc: Global, words: &[u64]) -> Result<Vec<u8>, Fail> {
+    let mut bytes = Vec::new(alloc);
+    for word in words {
+        bytes.extend_from_slice(&word.to_le_bytes())?;
+    }
+    Ok(bytes)
+}
+
+// The stream of a message of two segments.
+fn stream_of_two(alloc: Global, root: u64, pads: &[u64]) -> Result<Vec<u8>, Fail> {
+    let table = [0x1_0000_0001, pads.len() as u64];
+    let mut bytes = bytes_of(alloc, &table)?;
+    bytes.extend_from_slice(&root.to_le_bytes())?;
+    for pad in pads {
+        bytes.extend_from_slice(&pad.to_le_bytes())?;
+    }
+    Ok(bytes)
+}
+
+fn at(segment: u32, word: u32) -> Place {
+    Place { segment, word }
+}
+
+fn limits(budget: u32) -> Limits {
+    Limits::new(8_388_608, budget, 64).unwrap_or(Limits::usual())
+}
+
+// The pointer at 0:0 of a message of two segments, the first a double far pointer to the second's start.
+#[test]
+fn double_far_pointers(rt: HostRuntime) -> Result<(), Fail> {
+    let alloc = rt.alloc();
+    let content = |start: u32| {
+        Ok(Target::Content {
+            segment: 0,
+            start,
+            shape: Shape::Node { words: 0, slots: 0 },
+            pads: 2,
+        })
+    };
+    for (name, pads, wanted) in [
+        ("pad-of-one-word", [2].as_slice(), Err(Fault::PadRange)),
+        ("first-is-double", [6, NULL].as_slice(), Err(Fault::BadPad)),
+        (
+            "tag-is-a-capability",
+            [0x7_0000_0002, 3].as_slice(),
+            Err(Fault::BadPad),
+        ),
+        (
+            "no-segment",
+            [0x7_0000_0002, NULL].as_slice(),
+            Err(Fault::NoSegment),
+        ),
+        ("tag-of-zeros", [0xa, NULL].as_slice(), content(1)),
+        ("past-the-end", [0x12, NULL].as_slice(), Err(Fault::Range)),
+    ] {
+        let stream = stream_of_two(alloc, 0x1_0000_0006, pads)?;
+        match first(alloc, stream.as_slice(), 64) {
+            Err(_) => return Err(Fail::new("the stream is refused")),
+            Ok((message, _taken)) => {
+                assert!(rt; message.words(0) == Some(1), "{name}");
+                assert_eq!(rt; resolve(&message, at(0, 0)), wanted, "{name}");
+            }
+        }
+    }
+    Ok(())
+}
+
+// A far and a double far pointer to the same struct denote one value, and their pads are paid.
+#[test]
+fn far_pointers_are_walked(rt: HostRuntime) -> Result<(), Fail> {
+    let alloc = rt.alloc();
+    let far = stream_of_two(alloc, 0x1_0000_0002, &[ONE_WORD, 5])?;
+    let double = stream_of_two(alloc, 0x1_0000_0006, &[0x1_0000_0012, ONE_WORD, 5])?;
+    let (Ok((far, _)), Ok((double, _))) = (
+        first(alloc, far.as_slice(), 64),
+        first(alloc, double.as_slice(), 64),
+    ) else {
+        return Err(Fail::new("a stream is refused"));
+    };
+    let (Ok(one), Ok(two)) = (
+        walk(alloc, &far, Limits::usual()),
+        walk(alloc, &double, Limits::usual()),
+    ) else {
+        return Err(Fail::new("a message is refused"));
+    };
+    assert_eq!(rt; (one.paid, one.visits), (3, 1));
+    assert_eq!(rt; (two.paid, two.visits), (4, 1));
+    assert!(rt; same(one.tree.value(), two.tree.value()));
+    Ok(())
+}
+
+// A root of so many levels, each with two slots that lead to the next level's struct.
+fn doubling(alloc: Global, levels: u32) -> Result<Vec<u8>, Fail> {
+    let mut words = Vec::new(alloc);
+    words.push(0x2_0000_0000_0000)?;
+    for _ in 1..levels {
+        words.push(0x2_0000_0000_0004)?;
+        words.push(0x2_0000_0000_0000)?;
+    }
+    words.extend_from_slice(&[0x1_0000_0004, ONE_WORD, 9])?;
+    bytes_of(alloc, words.as_slice())
+}
+
+// Where the walk of so many doubling levels stops under a budget, if it does.
+fn stop_of(alloc: Global, levels: u32, budget: u32) -> Result<Option<Stopped>, Fail> {
+    let bytes = doubling(alloc, levels)?;
+    match Bare::new(bytes.as_slice()) {
+        Err(_) => Err(Fail::new("the message is refused")),
+        Ok(message) => match walk(alloc, &message, limits(budget)) {
+            Ok(_) => Ok(None),
+            Err(stopped) => Ok(Some(stopped)),
+        },
+    }
+}
+
+fn over_budget(word: u32, paid: u32, visits: u32) -> Option<Stopped> {
+    Some(Stopped {
+        fault: Fault::OverBudget,
+        place: at(0, word),
+        paid,
+        visits,
+    })
+}
+
+#[test]
+fn ten_doubling_levels(rt: HostRuntime) -> Result<(), Fail> {
+    let alloc = rt.alloc();
+    assert_eq!(rt; stop_of(alloc, 10, 5117)?, None);
+    assert_eq!(rt; stop_of(alloc, 10, 5116)?, over_budget(20, 5115, 2047));
+    Ok(())
+}
+
+// The whole tree would be of 2^61 - 1 visits: a walk that compared the sum afterwards would never end.
+#[test]
+fn sixty_doubling_levels(rt: HostRuntime) -> Result<(), Fail> {
+    let alloc = rt.alloc();
+    assert_eq!(rt; stop_of(alloc, 60, 181)?, over_budget(119, 180, 61));
+    Ok(())
+}
