@@ -1,13 +1,11 @@
-//! Following pointers across segments, and walks over messages that would be walked for ever.
+//! Walks across segments, and walks over messages that would be walked for ever.
 
 use capn_stream::first;
 use capn_value::same;
-use capn_walk::{Fault, Limits, Shape, Stopped, Target, resolve, walk};
-use capn_words::{Bare, Place, Space};
+use capn_walk::{Fault, Limits, Stopped, walk};
+use capn_words::{Bare, Place};
 use std::alloc::Global;
 use std::test::Fail;
-
-const NULL: u64 = 0;
 
 // A struct of one word, whose content starts behind its pointer.
 const ONE_WORD: u64 = 0x1_0000_0000;
@@ -37,46 +35,6 @@ fn at(segment: u32, word: u32) -> Place {
 
 fn limits(budget: u32) -> Limits {
     Limits::new(8_388_608, budget, 64).unwrap_or(Limits::usual())
-}
-
-// The pointer at 0:0 of a message of two segments, the first a double far pointer to the second's start.
-#[test]
-fn double_far_pointers(rt: HostRuntime) -> Result<(), Fail> {
-    let alloc = rt.alloc();
-    let content = |start: u32| {
-        Ok(Target::Content {
-            segment: 0,
-            start,
-            shape: Shape::Node { words: 0, slots: 0 },
-            pads: 2,
-        })
-    };
-    for (name, pads, wanted) in [
-        ("pad-of-one-word", [2].as_slice(), Err(Fault::PadRange)),
-        ("first-is-double", [6, NULL].as_slice(), Err(Fault::BadPad)),
-        (
-            "tag-is-a-capability",
-            [0x7_0000_0002, 3].as_slice(),
-            Err(Fault::BadPad),
-        ),
-        (
-            "no-segment",
-            [0x7_0000_0002, NULL].as_slice(),
-            Err(Fault::NoSegment),
-        ),
-        ("tag-of-zeros", [0xa, NULL].as_slice(), content(1)),
-        ("past-the-end", [0x12, NULL].as_slice(), Err(Fault::Range)),
-    ] {
-        let stream = stream_of_two(alloc, 0x1_0000_0006, pads)?;
-        match first(alloc, stream.as_slice(), 64) {
-            Err(_) => return Err(Fail::new("the stream is refused")),
-            Ok((message, _taken)) => {
-                assert!(rt; message.words(0) == Some(1), "{name}");
-                assert_eq!(rt; resolve(&message, at(0, 0)), wanted, "{name}");
-            }
-        }
-    }
-    Ok(())
 }
 
 // A far and a double far pointer to the same struct denote one value, and their pads are paid.
