@@ -86,6 +86,7 @@ const STREAM: [u8; 40] = [
 const PRICES: &[u8] = b"ok paid 2 visits 1\nok paid 0 visits 1\n";
 
 /// A command with its input and what it writes.
+#[derive(Clone, Copy)]
 struct Run<'a> {
     command: Command,
     input: &'a [u8],
