@@ -2,6 +2,8 @@
 
 use crate::subcommands::tool_command;
 use crate::*;
+use capn_canon::Form;
+use capn_walk::Limits;
 use std::alloc::Global;
 
 /// What the words order, or the status with which they end the program.
