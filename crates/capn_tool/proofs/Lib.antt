@@ -4,3 +4,5 @@ pub mod NumberLemmas
 pub mod WholeServed
 pub mod StreamServed
 pub mod RunLaw
+pub mod OneRefusal
+pub mod OneText

@@ -69,3 +69,7 @@ begins_later plan old writer = begins_none plan old old writer ([], Consumes-nil
   where
     short : 0 ≤ 2 ^ 32 + 1
     short = lit≤ tt
+
+-- a run of a plan is one of the command whose plan it is
+pub ends_planned : (plan other : Plan) (known old new : Option (List ℕ)) (r : Result (Unit {0}) ToolFault) → plan ≡ other → IfSome known (PlanEndsAs plan old new r) → IfSome known (PlanEndsAs other old new r)
+ends_planned plan other known old new r e h = subst (λ (p : Plan). IfSome known (PlanEndsAs p old new r)) e h

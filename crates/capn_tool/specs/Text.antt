@@ -50,6 +50,11 @@ PlanEndsAs plan old new ending input = HasEnded plan (taken_of input) (has_more 
 abbrev pub EndsAs : Command → Option (List ℕ) → Option (List ℕ) → Result (Unit {0}) ToolFault → List ℕ → Type 0
 EndsAs command old new ending input = PlanEndsAs (plan_of command) old new ending input
 
+-- a run that ended so wrote this text and ended as is due with it, but for want of memory and a reader or writer that failed
+abbrev pub EndsBy : List ℕ → Result (Unit {0}) ToolFault → Option (List ℕ) → Option (List ℕ) → Result (Unit {0}) ToolFault → Type 0
+EndsBy text due old new ending =
+    (ending ≡ Err faults.Memory) ⊎ ((ending ≡ Err faults.Io) ⊎ ((ending ≡ due) × Appends old new text))
+
 -- the text of these bytes begins so: with nothing, with the whole text of an input that is answered, or with the pieces of
 -- the whole messages that stand first in a stream
 abbrev pub IsFront : Plan → List ℕ → Bool → List ℕ → Type 0

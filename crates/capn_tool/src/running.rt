@@ -1,10 +1,11 @@
 //! From all of the input to all of the output.
 
-ghost use Rattle.std.specs.Prelude.{◌≡◌, ◌↔◌, ◌⊎◌, true, false, IfSome, IsErrOf};
+ghost use Rattle.std.specs.Prelude.{◌≡◌, ◌↔◌, ◌⊎◌, ℕ, List, Result, true, false, IfSome, IsErrOf};
 ghost use Rattle.capn_words.specs.Watching.{inner_of, has_failed};
 ghost use Rattle.capn_tool.specs.Planned as spec;
 ghost use Rattle.capn_tool.specs.Served.{Served};
-ghost use Rattle.capn_tool.specs.Text.{EndsAs, Begins, IsLater, PlanEndsAs, PlanBegins};
+ghost use Rattle.capn_tool.specs.Text.{EndsAs, EndsBy, IsText, Begins, IsLater, PlanEndsAs, PlanBegins};
+ghost use Rattle.capn_tool.specs.declared.fault.ToolFault.{ToolFault};
 ghost use Rattle.capn_tool.specs.declared.plan.Plan.TheVariants as plans;
 
 use crate::each::write_each;
@@ -95,6 +96,10 @@ pub fn run<R: Read, W: Write, A: Allocator + Copy>(
     // It has written the text of all that the reader had to give, and ends as that says.
     ensures exact { IfSome (R.remaining (inner_of reader.old))
         (EndsAs command (W.contents (inner_of writer.old)) (W.contents (inner_of writer.new)) result) }
+    // There is one text and one ending for an input: these come, and nothing else.
+    ensures only { IfSome (R.remaining (inner_of reader.old)) (λ input.
+        (text : List ℕ) (due : Result (Unit {0}) ToolFault) → IsText command input text due →
+        EndsBy text due (W.contents (inner_of writer.old)) (W.contents (inner_of writer.new)) result) }
     // It answers Io exactly where one of the two has failed.
     ensures io { IsErrOf result ToolFault.Io ↔ ((has_failed reader.new ≡ true) ⊎ (has_failed writer.new ≡ true)) }
     // Whatever it answers, a beginning of the text of what it read was written, or nothing.
