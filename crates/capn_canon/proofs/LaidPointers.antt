@@ -20,10 +20,10 @@ use Rattle.capn_canon.specs.Sound.{AreBelow}
 use Rattle.capn_canon.proofs.LayLengths.{length-packed}
 
 module _ (all : List ℕ) (small : length all ≤ 2 ^ 29) where
-  abbrev only : List (List ℕ)
+  abbrev pub only : List (List ℕ)
   only = all ∷ []
 
-  struct-names : (from at a b : ℕ) → from < at → at + (a + b) ≤ length all → a < 2 ^ 16 → b < 2 ^ 16 → slice_index all from ≡ struct_to from at a b →
+  pub struct-names : (from at a b : ℕ) → from < at → at + (a + b) ≤ length all → a < 2 ^ 16 → b < 2 ^ 16 → slice_index all from ≡ struct_to from at a b →
       (start : ℕ) × (target only (here from) ≡ Ok (targets.Content 0 start (shapes.Node a b) 0)) × ((start ≡ at) ⊎ ((a ≡ 0) × (b ≡ 0)))
   struct-names from at zero zero lt room ha hb e = (from, names-empty all from e (omega arith), inr (refl, refl))
   struct-names from at (suc a) b lt room ha hb e =

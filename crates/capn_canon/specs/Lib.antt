@@ -10,3 +10,9 @@ pub mod Patch
 pub mod Reads
 pub mod Refused
 pub mod Sound
+pub mod Ready
+pub mod Opened
+pub mod RowWords
+pub mod Bits
+pub mod Stands
+pub mod Checks

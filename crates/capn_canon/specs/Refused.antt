@@ -49,3 +49,9 @@ IsRefused form bs each limits r = IsMisread form bs limits.message_words r
 abbrev pub IsPaidWithin : ℕ → Refusal → Type 0
 IsPaidWithin budget (refusals.Walk s) = walks.IsBounded budget s.paid s.visits
 IsPaidWithin budget _ = ⊤
+
+-- the message is not accepted; nothing is said of want of memory
+abbrev pub IsUnaccepted : List (List ℕ) → ℕ → Bounds → Refusal → Type 0
+IsUnaccepted message each limits (refusals.Walk s) = walks.IsRefused message each limits.budget limits.depth s.fault s.place s.paid s.visits
+IsUnaccepted message each limits refusals.Memory = ⊤
+IsUnaccepted message each limits _ = ⊥

@@ -1,19 +1,25 @@
-//! Canonical bytes of messages.
+//! Canonical bytes of messages, without a tree.
 
-ghost use Rattle.std.specs.Prelude.{◌≡◌, ◌≢◌, ℕ, ◌*◌, ◌+◌, ◌≤◌, None, length, IfOk, IfErr, MatchResult};
+ghost use Rattle.std.specs.Prelude.{◌≡◌, ◌≢◌, ℕ, ◌*◌, ◌+◌, ◌<◌, ◌≤◌, None, length, IfOk, IfErr, MatchResult};
+ghost use Rattle.capn_words.specs.Message.{IsMessage, segment_at};
 ghost use Rattle.capn_value.specs.Tree.{Tree as Value};
 ghost use Rattle.capn_value.specs.Caps.{first_cap};
+ghost use Rattle.capn_walk.specs.Accepted.{root};
+ghost use Rattle.capn_walk.specs.At.{IsAt};
 ghost use Rattle.capn_walk.specs.Denotes.{IsValueOf};
 ghost use Rattle.capn_canon.specs.Layout.{canon};
 ghost use Rattle.capn_canon.specs.Answers.{AnswersMessage};
 ghost use Rattle.capn_canon.specs.Canonicity.{ReadsBack, PaysItsCost, IsItsOwnForm, IsFormExactlyOf};
 ghost use Rattle.capn_canon.specs.Refused.{IsRefusedMessage, IsPaidWithin};
 ghost use Rattle.capn_canon.specs.declared.refusal.Refusal.TheVariants as refusals;
+ghost use Rattle.capn_canon.specs.Ready.{IsReady};
 
-use crate::laying::{LayoutFault, layout};
+use crate::placing::lay_slot;
+use crate::patch::Patch;
 use crate::refusal::Refusal;
-use capn_walk::{Fault, Limits, walk};
-use capn_words::Space;
+use capn_value::Memory;
+use capn_walk::{Fault, Limits, survey};
+use capn_words::{Place, Space};
 use std::alloc::{Allocator, Global};
 
 /// Canonical bytes, and the words that the walk of the message paid.
@@ -23,6 +29,32 @@ pub struct Canonical<A: Allocator = Global> {
     pub bytes: Vec<u8, A>,
     /// The words paid, at most the budget.
     pub paid: u32,
+}
+
+/// Where the pointer to the root stands.
+const ROOT: Place = Place {
+    segment: 0,
+    word: 0,
+};
+
+/// The canonical bytes of the value at the root.
+fn bytes_of<S: Space, A: Allocator + Copy>(
+    alloc: A,
+    space: &S,
+    depth: u32,
+) -> Result<Vec<u8, A>, Memory>
+    requires message { IsMessage (S.message space.now) }
+    requires some { 0 < length (segment_at (S.message space.now) 0) }
+    requires ready { IsReady (S.message space.now) root depth 1 }
+    ensures { IfOk result (λ bytes. (v : Value) → IsAt (S.message space.now) root v → bytes.items ≡ canon v) }
+{
+    let mut patch = Patch::new(alloc);
+    let from = patch.leave(1)?;
+    lay_slot(space, ROOT, from, depth, &mut patch)?;
+    match patch.finish() {
+        Ok(bytes) => Ok(bytes),
+        Err((_patch, memory)) => Err(memory),
+    }
 }
 
 /// The canonical bytes of the value that a message denotes within the limits.
@@ -55,15 +87,17 @@ pub fn canonical_of<A: Allocator + Copy, S: Space>(
 {
     let _segments = space.segments();
     let _budget = limits.budget();
-    let _depth = limits.depth();
-    match walk(alloc, space, limits) {
-        Ok(walked) => match layout(alloc, &walked.tree) {
-            Ok(bytes) => Ok(Canonical {
-                bytes,
-                paid: walked.paid,
-            }),
-            Err(LayoutFault::Capability(index)) => Err(Refusal::Capability(index)),
-            Err(LayoutFault::Memory) => Err(Refusal::Memory),
+    let depth = limits.depth();
+    match survey(alloc, space, limits) {
+        Ok(surveyed) => match surveyed.capability {
+            Some(index) => Err(Refusal::Capability(index)),
+            None => match bytes_of(alloc, space, depth) {
+                Ok(bytes) => Ok(Canonical {
+                    bytes,
+                    paid: surveyed.paid,
+                }),
+                Err(Memory) => Err(Refusal::Memory),
+            },
         },
         Err(stopped) => match stopped.fault {
             Fault::Memory => Err(Refusal::Memory),

@@ -25,17 +25,26 @@
 
 mod bits;
 mod canonical;
+mod checking;
 mod content;
+mod finding;
 mod form;
+mod kept;
 pub mod laws;
 mod laying;
+mod listing;
 mod marks;
+mod opening;
 mod packing;
 mod patch;
+mod placing;
 mod pointing;
 mod reading;
 mod refusal;
 mod rows;
+mod surveying;
+mod testing;
+mod verdict;
 
 pub use canonical::{Canonical, canonical_of};
 pub use form::Form;
@@ -43,6 +52,8 @@ pub use laying::{LayoutFault, layout};
 pub use patch::Patch;
 pub use reading::canonicalise;
 pub use refusal::Refusal;
+pub use surveying::survey;
+pub use verdict::is_canonical;
 
 #[cfg(test)]
 mod tests;

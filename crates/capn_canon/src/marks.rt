@@ -7,6 +7,7 @@ use capn_value::Memory;
 use std::alloc::Allocator;
 
 /// Grows the marks until each of so many words has one. What is added is not set.
+#[inline(always)]
 pub fn cover<A: Allocator>(marks: &mut Vec<u64, A>, words: usize) -> Result<(), Memory>
     ensures same { (i : ℕ) → is_marked marks.new.items i ≡ is_marked marks.old.items i }
     ensures more { length marks.old.items ≤ length marks.new.items }
@@ -20,6 +21,7 @@ pub fn cover<A: Allocator>(marks: &mut Vec<u64, A>, words: usize) -> Result<(), 
 }
 
 /// Sets the mark of a word.
+#[inline(always)]
 pub fn mark<A: Allocator>(marks: &mut Vec<u64, A>, word: usize)
     requires { word < 64 * length marks.old.items }
     ensures here { is_marked marks.new.items word ≡ true }
@@ -31,6 +33,7 @@ pub fn mark<A: Allocator>(marks: &mut Vec<u64, A>, word: usize)
 }
 
 /// Clears the mark of a word.
+#[inline(always)]
 pub fn unmark<A: Allocator>(marks: &mut Vec<u64, A>, word: usize)
     requires { word < 64 * length marks.old.items }
     ensures here { is_marked marks.new.items word ≡ false }

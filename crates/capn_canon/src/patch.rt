@@ -1,6 +1,6 @@
 //! A buffer of words, some of which are still to be written.
 
-ghost use Rattle.std.specs.Prelude.{◌≡◌, ℕ, ◌+◌, ◌*◌, ◌<◌, ◌≤◌, [], ◌∷◌, ◌++◌, length, take, drop, set, replicate, Some, None, IfOk, IfErr, OnOk, OnErr};
+ghost use Rattle.std.specs.Prelude.{◌≡◌, ℕ, ◌+◌, ◌*◌, ◌%◌, ◌<◌, ◌≤◌, [], ◌∷◌, ◌++◌, length, take, drop, set, replicate, Some, None, IfOk, IfErr, OnOk, OnErr};
 ghost use Rattle.capn_words.specs.Message.{word_bytes, bytes as bytes_of_words};
 ghost use Rattle.capn_canon.specs.Patch.{IsHole, IsWhole, filled, whole};
 ghost use Rattle.capn_canon.specs.Layout.{packed, words_for};
@@ -66,13 +66,14 @@ impl<A: Allocator + Copy> Patch<A> {
 
 impl<A: Allocator> Patch<A> {
     /// The number of words and holes.
-    pub(crate) fn len(&self) -> usize
+    pub fn len(&self) -> usize
         ensures { result ≡ length self.now }
     {
         self.bytes.len() / 8
     }
 
     /// Appends words of zeros.
+    #[inline(always)]
     fn append_zeros(&mut self, n: usize) -> Result<(), Memory>
         ensures ok { OnOk result (self.new ≡ self.old ++ replicate n (Some 0)) }
         ensures err { OnErr result (self.new ≡ self.old) }
@@ -85,6 +86,7 @@ impl<A: Allocator> Patch<A> {
     }
 
     /// Makes a word a hole.
+    #[inline(always)]
     fn open(&mut self, at: usize)
         requires { at < length self.old }
         ensures { self.new ≡ set self.old at None }
@@ -109,12 +111,16 @@ impl<A: Allocator> Patch<A> {
     /// Appends n holes, and answers the place of the first, which for n = 0 is the length.
     ///
     /// Answers Memory where a growth was refused, and then nothing has changed.
+    #[inline(always)]
     pub fn leave(&mut self, n: usize) -> Result<usize, Memory>
         ensures ok { IfOk result (λ at. (at ≡ length self.old)
             × (self.new ≡ self.old ++ replicate n None)) }
         ensures err { OnErr result (self.new ≡ self.old) }
     {
         let at = self.len();
+        if n == 0 {
+            return Ok(at);
+        }
         self.append_zeros(n)?;
         let end = self.len();
         for i in at..end {
@@ -124,7 +130,7 @@ impl<A: Allocator> Patch<A> {
     }
 
     /// Appends the words of packed bytes, eight a word. On Memory nothing has changed.
-    pub(crate) fn extend_bytes(&mut self, xs: &[u8]) -> Result<(), Memory>
+    pub fn extend_bytes(&mut self, xs: &[u8]) -> Result<(), Memory>
         ensures ok { OnOk result (self.new
             ≡ self.old ++ whole (packed 8 8 (words_for (8 * length xs.now)) xs.now)) }
         ensures err { OnErr result (self.new ≡ self.old) }
@@ -167,6 +173,20 @@ impl<A: Allocator> Patch<A> {
         let words = self.bytes.len() / 8;
         cover(&mut self.holes, words.saturating_add(xs.len()))?;
         append_octs(&mut self.bytes, xs)?;
+        Ok(())
+    }
+
+    /// Appends whole words, given by their bytes. On Memory nothing has changed.
+    #[inline(always)]
+    pub fn extend_words(&mut self, xs: &[u8]) -> Result<(), Memory>
+        requires { length xs.now % 8 ≡ 0 }
+        ensures ok { OnOk result (self.new
+            ≡ self.old ++ whole (packed 8 8 (words_for (8 * length xs.now)) xs.now)) }
+        ensures err { OnErr result (self.new ≡ self.old) }
+    {
+        let words = self.bytes.len() / 8;
+        cover(&mut self.holes, words + xs.len() / 8)?;
+        self.bytes.extend_from_slice(xs)?;
         Ok(())
     }
 

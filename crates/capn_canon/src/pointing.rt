@@ -10,7 +10,7 @@ use capn_words::{Pointer, Width, join};
 use std::alloc::Allocator;
 
 /// The pointer, at word `from`, to a list whose content starts at word `to`.
-fn list_pointer(from: usize, to: usize, width: Width, count: usize) -> u64
+pub fn list_pointer(from: usize, to: usize, width: Width, count: usize) -> u64
     requires order { from < to }
     requires room { to ≤ 2 ^ 29 }
     requires few { count < 2 ^ 29 }
@@ -26,7 +26,7 @@ fn list_pointer(from: usize, to: usize, width: Width, count: usize) -> u64
 
 /// The pointer, at word `from`, to a struct whose content starts at word `to`. One of no words has
 /// offset -1.
-fn struct_pointer(from: usize, to: usize, words: usize, slots: usize) -> u64
+pub fn struct_pointer(from: usize, to: usize, words: usize, slots: usize) -> u64
     requires order { from < to }
     requires room { to ≤ 2 ^ 29 }
     requires words { words < 2 ^ 16 }

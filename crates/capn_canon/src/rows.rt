@@ -14,7 +14,7 @@ use capn_words::{Pointer, join};
 use std::alloc::Allocator;
 
 /// The tag: how many rows there are, and how many words and slots each has.
-fn tag_word(count: usize, words: usize, slots: usize) -> u64
+pub fn tag_word(count: usize, words: usize, slots: usize) -> u64
     requires few { count < 2 ^ 29 }
     requires words { words < 2 ^ 16 }
     requires slots { slots < 2 ^ 16 }

@@ -9,3 +9,4 @@ pub mod ChosenLaws
 mod WordLemmas
 mod LaneLemmas
 mod RowLemmas
+pub mod SplitLaws

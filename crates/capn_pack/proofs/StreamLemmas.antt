@@ -35,7 +35,7 @@ splits bytes at old out u none = record {
   open_rest = none;
 }
 
-nothing_first : NoGroupFirst []
+pub nothing_first : NoGroupFirst []
 nothing_first g more is e = omega (arith, text_some g, ap length e, length-append (text g) more)
 
 pub splits_cut : (bytes : List ℕ) (at : ℕ) (old out : List ℕ) (room : ℕ) → TakesRow bytes at old out → IsCut room (slice_range bytes at (length bytes)) → Splits bytes (drop at bytes) old out at

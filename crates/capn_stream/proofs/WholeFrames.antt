@@ -86,7 +86,7 @@ module _ (bs : List ℕ) (most : ℕ) (ws : List ℕ) (small : most ≤ 2 ^ 28) 
       }
 
 -- the sizes that are read behind the count
-sizes_read : (bs : List ℕ) (segments : ℕ) → segments ≡ announced_segments bs → entries (segments - 1) (take (length bs - 4) (drop 4 bs)) ≡ sizes_before bs
+pub sizes_read : (bs : List ℕ) (segments : ℕ) → segments ≡ announced_segments bs → entries (segments - 1) (take (length bs - 4) (drop 4 bs)) ≡ sizes_before bs
 sizes_read bs segments count =
     let less : segments - 1 ≡ entry_number bs = omega (arith, count) in
     ap (λ (n : ℕ). entries n (take (length bs - 4) (drop 4 bs))) less ∙ ap (λ (xs : List ℕ). entries (entry_number bs) xs) (take_rest bs 4)

@@ -1,6 +1,7 @@
 //! Why a call is refused.
 
 use std::alloc::AllocError;
+use std::io::Error;
 
 /// A growth was refused.
 #[derive(Clone, Copy, Debug, PartialEq, Eq)]
@@ -37,5 +38,26 @@ impl From<AllocError> for FrameFault {
 
     fn from(_: AllocError) -> FrameFault {
         FrameFault::Memory
+    }
+}
+
+/// Why no message was read.
+#[derive(Clone, Copy, Debug, PartialEq, Eq)]
+pub enum ReadFault {
+    /// A growth was refused.
+    Memory,
+    /// The reader failed.
+    Io,
+    /// The bytes are no frame: `TooManySegments`, `TooManyWords` or `Cut`.
+    Frame(FrameFault),
+}
+
+/// The writer failed.
+#[derive(Clone, Copy, Debug, PartialEq, Eq)]
+pub struct Io;
+
+impl From<Error> for Io {
+    fn from(_: Error) -> Io {
+        Io
     }
 }

@@ -14,14 +14,23 @@
 #![tactic(auto)]
 
 mod fault;
+mod feeding;
+mod owned;
 mod reading;
+mod receiving;
 mod segments;
+mod sending;
+mod stage;
 mod table;
 mod writing;
 
-pub use fault::{FrameFault, Memory};
+pub use fault::{FrameFault, Io, Memory, ReadFault};
+pub use feeding::Framer;
+pub use owned::Stored;
 pub use reading::first;
+pub use receiving::read_message;
 pub use segments::Framed;
+pub use sending::write_message;
 pub use writing::frame;
 
 #[cfg(test)]

@@ -30,7 +30,7 @@ impl<'a, A: Allocator> Model for Framed<'a, A> {
 }
 
 /// Where a segment begins.
-fn start_of(ends: &[u32], segment: usize) -> u32
+pub(crate) fn start_of(ends: &[u32], segment: usize) -> u32
     requires { segment ≤ length ends.now }
     ensures { result ≡ slice_index (0 ∷ ends.now) segment }
 {
@@ -38,7 +38,7 @@ fn start_of(ends: &[u32], segment: usize) -> u32
 }
 
 /// Where a segment ends: the last one with the words, of which there are so many in all.
-fn end_of(ends: &[u32], words: u32, segment: usize) -> u32
+pub(crate) fn end_of(ends: &[u32], words: u32, segment: usize) -> u32
     requires { segment ≤ length ends.now }
     ensures { result ≡ slice_index (ends.now ++ words ∷ []) segment }
 {

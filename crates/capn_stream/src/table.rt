@@ -10,11 +10,11 @@ use byteorder::{ByteOrder, LittleEndian};
 use std::alloc::{AllocError, Allocator};
 
 /// The most segments of a message.
-const MOST_SEGMENTS: u64 = 512;
+pub(crate) const MOST_SEGMENTS: u64 = 512;
 
 /// The number of 4 bytes that begins at byte 4 times the index.
 #[tactic(auto, unfolding(crate::specs::Reading::entry_number))]
-fn entry_at(bytes: &[u8], index: usize) -> u32
+pub(crate) fn entry_at(bytes: &[u8], index: usize) -> u32
     requires { 4 * index + 4 ≤ length bytes.now }
     ensures { result ≡ entry_number (drop (4 * index) bytes.now) }
 {
@@ -22,7 +22,7 @@ fn entry_at(bytes: &[u8], index: usize) -> u32
 }
 
 /// The sum of the sizes.
-fn total_of(sizes: &[u8], count: usize) -> u64
+pub(crate) fn total_of(sizes: &[u8], count: usize) -> u64
     requires few { count ≤ most_segments }
     requires inside { 4 * count ≤ length sizes.now }
     ensures { result ≡ sum (entries count sizes.now) }

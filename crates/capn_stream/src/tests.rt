@@ -4,6 +4,8 @@ use crate::{FrameFault, first, frame};
 use capn_words::bare::Bare;
 use capn_words::space::{Place, Space};
 
+mod pieces;
+
 /// The most words of a message, as usual.
 const MOST: u32 = 8_388_608;
 

@@ -58,7 +58,7 @@ fn put_padding<A: Allocator>(text: &mut Vec<u8, A>, segments: u32) -> Result<(),
 }
 
 /// The bytes of a segment of so many words.
-fn bytes_of<S: Space>(space: &S, segment: u32, words: u32) -> &[u8]
+pub(crate) fn bytes_of<S: Space>(space: &S, segment: u32, words: u32) -> &[u8]
     requires { words_of (S.message space.now) segment ≡ Some words }
     ensures { result.now ≡ bytes (segment_at (S.message space.now) segment) }
 {

@@ -1,8 +1,11 @@
 pub mod ReadMore
-pub mod WriteMore
 pub mod NumberLemmas
 pub mod WholeServed
-pub mod StreamServed
 pub mod RunLaw
 pub mod OneRefusal
 pub mod OneText
+pub mod HeardMore
+pub mod HeardNext
+pub mod HeardRun
+pub mod PackedMore
+pub mod PackedRun

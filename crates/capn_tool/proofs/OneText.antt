@@ -32,7 +32,8 @@ use Rattle.capn_canon.proofs.Answered.{answers_only}
 use Rattle.capn_canon.proofs.NotRefused.{accepted-not_refused, not_refused}
 use Rattle.capn_tool.specs.Pieces.{IsPiece, IsNoPiece, IsStopped, digest_line}
 use Rattle.capn_tool.specs.Wholes.{Makes, MakesNothing}
-use Rattle.capn_tool.specs.Streams.{Part, IsPart, frames_of, texts_of, end_of, EndsUnframed, EndsRefused, IsDueEach}
+use Rattle.capn_tool.specs.Streams.{Part, IsPart, frames_of, texts_of, end_of, EndsUnframed, EndsRefused, IsDueEach, behind_packed, behind_stream}
+use Rattle.capn_pack.proofs.SplitLaws.{one_split}
 use Rattle.capn_tool.specs.Planned.{plan_of}
 use Rattle.capn_tool.specs.Text.{taken_of, has_more, IsDueWhole, IsDue, IsText, EndsAs, EndsBy}
 use Rattle.capn_tool.specs.declared.orders.Command.{Command}
@@ -127,14 +128,14 @@ one_due_whole whole bytes false t u (Err f) (Err g) h k = (h.0 ∙ sym k.0, ap (
 
 -- ---- a stream
 
-module _ (piece : Piece) (limits : Bounds) (is_longer : Bool) where
+module _ (piece : Piece) (limits : Bounds) (last : Option ToolFault) where
   -- how a run ends behind the parts
   abbrev Behind : List ℕ → Result (Unit {0}) ToolFault → Type 0
-  Behind rest ending = EndsUnframed limits rest is_longer ending ⊎ EndsRefused piece limits rest ending
+  Behind rest ending = EndsUnframed limits rest last ending ⊎ EndsRefused piece limits rest ending
 
   one_behind : (rest : List ℕ) (r s : Result (Unit {0}) ToolFault) → Behind rest r → Behind rest s → r ≡ s
   one_behind rest r s (inl (e, n, h, a)) (inl (d, o, k, b)) =
-      a ∙ ap (λ (x : FrameFault). end_of x is_longer) (frame_laws.one_refusal rest limits.message_words e d h k n o) ∙ sym b
+      a ∙ ap (λ (x : FrameFault). end_of x last) (frame_laws.one_refusal rest limits.message_words e d h k n o) ∙ sym b
   one_behind rest r s (inl (e, n, h, a)) (inr (m, taken, fault, stands, why, b)) =
       absurd (n (refused_whole rest limits.message_words e (whole_of rest limits.message_words m taken stands) h))
   one_behind rest r s (inr (m, taken, fault, stands, why, b)) (inl (e, n, h, a)) =
@@ -180,7 +181,7 @@ module _ (piece : Piece) (limits : Bounds) (is_longer : Bool) where
       let more = one_row ps qs rest other r s h.1 k.1 behind a b in
       (λ i. text i ++ more.0 i, more.1)
 
-  one_due_each : (bytes t u : List ℕ) (r s : Result (Unit {0}) ToolFault) → IsDueEach piece limits bytes is_longer t r → IsDueEach piece limits bytes is_longer u s → (t ≡ u) × (r ≡ s)
+  one_due_each : (bytes t u : List ℕ) (r s : Result (Unit {0}) ToolFault) → IsDueEach piece limits bytes last t r → IsDueEach piece limits bytes last u s → (t ≡ u) × (r ≡ s)
   one_due_each bytes t u r s h k =
       let same = one_row h.parts k.parts h.rest k.rest r s h.are.each k.are.each (sym h.are.is ∙ k.are.is) h.ends k.ends in
       (h.joined ∙ same.0 ∙ sym k.joined, same.1)
@@ -189,7 +190,13 @@ module _ (piece : Piece) (limits : Bounds) (is_longer : Bool) where
 
 one_due : (plan : Plan) (bytes : List ℕ) (is_longer : Bool) (t u : List ℕ) (r s : Result (Unit {0}) ToolFault) → IsDue plan bytes is_longer t r → IsDue plan bytes is_longer u s → (t ≡ u) × (r ≡ s)
 one_due (plans.Whole whole) bytes is_longer t u r s h k = one_due_whole whole bytes is_longer t u r s h k
-one_due (plans.Each piece limits) bytes is_longer t u r s h k = one_due_each piece limits is_longer bytes t u r s h k
+one_due (plans.Each piece limits) bytes is_longer t u r s h k = one_due_each piece limits (behind_stream is_longer) bytes t u r s h k
+one_due (plans.Packed piece limits) bytes is_longer t u r s h k =
+    let same = one_split bytes h.group k.group [] h.words k.words h.at k.at h.split k.split in
+    let first = subst (λ (ws : List ℕ). IsDueEach piece limits ws (behind_packed is_longer h.group h.at) t r) same.1.0 h.due in
+    let second = subst (λ (xs : List ℕ). IsDueEach piece limits k.words (behind_packed is_longer xs h.at) t r) same.0 first in
+    let third = subst (λ (n : ℕ). IsDueEach piece limits k.words (behind_packed is_longer k.group n) t r) same.1.1 second in
+    one_due_each piece limits (behind_packed is_longer k.group k.at) k.words t u r s third k.due
 one_due plans.Later bytes is_longer t u r s h k = (h.0 ∙ sym k.0, h.1 ∙ sym k.1)
 
 -- a run that ended as is due ended so, and wrote that text, whichever is due

@@ -16,6 +16,7 @@ use Rattle.capn_tool.proofs.ReadMore.{kept_all}
 front_none : (plan : Plan) (bytes : List ℕ) (is_longer : Bool) → IsFront plan bytes is_longer []
 front_none (plans.Whole whole) bytes is_longer = inl refl
 front_none (plans.Each piece limits) bytes is_longer = ([], bytes, record { each = tt; is = refl }, refl)
+front_none (plans.Packed piece limits) bytes is_longer = ([], [], [], record { groups = []; rest = bytes; each = tt; text = refl; content = refl }, record { each = tt; is = refl }, refl)
 front_none plans.Later bytes is_longer = refl
 
 -- nothing was written

@@ -6,7 +6,7 @@ use Rattle.std.proofs.KnownBytes.{Appends-nil}
 use Rattle.capn_tool.specs.Pieces.{IsNoPiece}
 use Rattle.capn_tool.specs.Wholes.{Makes, MakesNothing}
 use Rattle.capn_tool.specs.Text.{HasEnded, HasWritten, IsFront}
-use Rattle.capn_tool.specs.Reading.{HasBegun}
+use Rattle.capn_words.specs.Watching.{HasBegun}
 use Rattle.capn_tool.specs.Served.{Served}
 use Rattle.capn_tool.specs.declared.plan.Piece.{Piece}
 use Rattle.capn_tool.specs.declared.plan.Piece.TheVariants as kinds
@@ -27,7 +27,7 @@ pub record IsTold (fault : ToolFault) : Type 0 where
 pub told_memory : (fault : ToolFault) → fault ≡ faults.Memory → IsTold fault
 told_memory fault e = record { no_io = λ h. cc; no_later = λ h. cc }
 
-told_refused : (fault : ToolFault) (r : Refusal) → fault ≡ faults.Refused r → IsTold fault
+pub told_refused : (fault : ToolFault) (r : Refusal) → fault ≡ faults.Refused r → IsTold fault
 told_refused fault r e = record { no_io = λ h. cc; no_later = λ h. cc }
 
 told_not_whole : (fault : ToolFault) (n : ℕ) → fault ≡ faults.NotWhole n → IsTold fault

@@ -4,6 +4,8 @@ pub mod Wholes
 pub mod Streams
 pub mod Text
 pub mod Served
+pub mod Heard
+pub mod HeardPacked
 pub mod Reading
 pub mod Status
 pub mod Misuse

@@ -14,7 +14,7 @@ use Rattle.capn_tool.specs.declared.plan.Plan.TheVariants as plans
 abbrev pub pieces_of : Piece → Form → Bounds → Plan
 pieces_of piece forms.Bare limits = plans.Whole (wholes.Bare piece limits)
 pieces_of piece forms.Stream limits = plans.Each piece limits
-pieces_of piece forms.Packed limits = plans.Later
+pieces_of piece forms.Packed limits = plans.Packed piece limits
 
 -- what a command does with its input
 abbrev pub plan_of : Command → Plan

@@ -1,6 +1,6 @@
 -- What a run has read and written.
-use Rattle.std.specs.Prelude.{◌≡◌, ℕ, ◌+◌, ◌≤◌, ◌^◌, List, length, take, Bool, false, Option, Result, Ok, Err, ⊤}
-use Rattle.std.specs.Io.KnownBytes.{Consumes, Appends, IsAtEnd}
+use Rattle.std.specs.Prelude.{◌≡◌, ℕ, ◌+◌, ◌≤◌, ◌^◌, List, length, Bool, false, Option, Result, Ok, Err, ⊤}
+use Rattle.std.specs.Io.KnownBytes.{Consumes, IsAtEnd}
 use Rattle.capn_tool.specs.Text.{taken_of, has_more}
 use Rattle.capn_tool.specs.declared.input.Input.{Input}
 use Rattle.capn_tool.specs.declared.fault.ToolFault.{ToolFault}
@@ -8,10 +8,6 @@ use Rattle.capn_tool.specs.declared.fault.ToolFault.{ToolFault}
 -- the bytes that a reader gave, in number as P says
 abbrev pub HasRead : Option (List ℕ) → Option (List ℕ) → (ℕ → Type 0) → Type 0
 HasRead old new P = (bytes : List ℕ) × Consumes old new bytes × P (length bytes)
-
--- a beginning of the text was written
-abbrev pub HasBegun : Option (List ℕ) → Option (List ℕ) → List ℕ → Type 0
-HasBegun old new text = (count : ℕ) × Appends old new (take count text)
 
 -- a reader gave these bytes, all that it had or one more than 2^32; the first of them were kept, and whether there are more
 pub record Kept (old new : Option (List ℕ)) (kept : List ℕ) (is_longer : Bool) (bytes : List ℕ) : Type 0 where

@@ -1,6 +1,6 @@
 -- A stream of messages: the whole messages that stand first in it, each with its piece, and what is left. (Page:
 -- serialization over a stream; the order of the faults is own.)
-use Rattle.std.specs.Prelude.{◌≡◌, ◌≢◌, ◌⊎◌, ℕ, ◌≤◌, List, ◌++◌, Bool, true, false, Result, Ok, Err}
+use Rattle.std.specs.Prelude.{◌≡◌, ◌≢◌, ◌⊎◌, ℕ, ◌≤◌, List, [], ◌∷◌, ◌++◌, Bool, true, false, Option, Some, None, Result, Ok, Err}
 use Rattle.std.specs.List.{flat_map, AllByRecursion}
 use Rattle.capn_words.specs.Message.{total}
 use Rattle.capn_walk.specs.Limits.{Bounds}
@@ -9,6 +9,8 @@ use Rattle.capn_stream.specs.Reading as frames
 use Rattle.capn_stream.specs.declared.fault.FrameFault.{FrameFault}
 use Rattle.capn_stream.specs.declared.fault.FrameFault.TheVariants as frame_faults
 use Rattle.capn_canon.specs.declared.refusal.Refusal.TheVariants as refusals
+use Rattle.capn_pack.specs.Stream.{Splits}
+use Rattle.capn_pack.specs.declared.fault.UnpackFault.TheVariants as cuts
 use Rattle.capn_tool.specs.Pieces.{IsPiece, IsNoPiece}
 use Rattle.capn_tool.specs.declared.plan.Piece.{Piece}
 use Rattle.capn_tool.specs.declared.fault.ToolFault.{ToolFault}
@@ -45,21 +47,32 @@ pub record AreParts (piece : Piece) (limits : Bounds) (bytes : List ℕ) (parts 
   pub is : bytes ≡ frames_of parts ++ rest
 
 -- How a run ends where no whole frame stands first in what is left, by the reason: a count that is too great comes
--- first, then an input that is longer, then a frame that is cut.
-abbrev pub end_of : FrameFault → Bool → Result (Unit {0}) ToolFault
-end_of frame_faults.Empty true = Err faults.InputTooLong
-end_of frame_faults.Empty false = Ok tt
-end_of frame_faults.Cut true = Err faults.InputTooLong
-end_of frame_faults.Cut false = Err (faults.Refused (refusals.Frame frame_faults.Cut))
-end_of frame_faults.Memory is_longer = Err faults.Memory
-end_of (frame_faults.TooManySegments n) is_longer = Err (faults.Refused (refusals.Frame (frame_faults.TooManySegments n)))
-end_of (frame_faults.TooManyWords n) is_longer = Err (faults.Refused (refusals.Frame (frame_faults.TooManyWords n)))
-end_of frame_faults.Failed is_longer = Err (faults.Refused (refusals.Frame frame_faults.Failed))
+-- first, then why no more bytes can come, if that is a fault, then a frame that is cut.
+abbrev pub end_of : FrameFault → Option ToolFault → Result (Unit {0}) ToolFault
+end_of frame_faults.Empty (Some fault) = Err fault
+end_of frame_faults.Empty None = Ok tt
+end_of frame_faults.Cut (Some fault) = Err fault
+end_of frame_faults.Cut None = Err (faults.Refused (refusals.Frame frame_faults.Cut))
+end_of frame_faults.Memory behind = Err faults.Memory
+end_of (frame_faults.TooManySegments n) behind = Err (faults.Refused (refusals.Frame (frame_faults.TooManySegments n)))
+end_of (frame_faults.TooManyWords n) behind = Err (faults.Refused (refusals.Frame (frame_faults.TooManyWords n)))
+end_of frame_faults.Failed behind = Err (faults.Refused (refusals.Frame frame_faults.Failed))
+
+-- why no more bytes of a stream can come: there are more, and none of them is taken
+abbrev pub behind_stream : Bool → Option ToolFault
+behind_stream true = Some faults.InputTooLong
+behind_stream false = None
+
+-- why no more words of a packed stream can come: so, or else since a group is cut
+abbrev pub behind_packed : Bool → List ℕ → ℕ → Option ToolFault
+behind_packed true rest at = Some faults.InputTooLong
+behind_packed false [] at = None
+behind_packed false (b ∷ rest) at = Some (faults.Refused (refusals.Packed (cuts.Cut at)))
 
 -- no whole frame stands first in what is left, and the run ends so
-abbrev pub EndsUnframed : Bounds → List ℕ → Bool → Result (Unit {0}) ToolFault → Type 0
-EndsUnframed limits rest is_longer ending =
-    (e : FrameFault) × (e ≢ frame_faults.Memory) × frames.IsRefused rest limits.message_words e × (ending ≡ end_of e is_longer)
+abbrev pub EndsUnframed : Bounds → List ℕ → Option ToolFault → Result (Unit {0}) ToolFault → Type 0
+EndsUnframed limits rest behind ending =
+    (e : FrameFault) × (e ≢ frame_faults.Memory) × frames.IsRefused rest limits.message_words e × (ending ≡ end_of e behind)
 
 -- a message stands first in what is left that has no piece, and the run ends with that reason
 abbrev pub EndsRefused : Piece → Bounds → List ℕ → Result (Unit {0}) ToolFault → Type 0
@@ -68,9 +81,17 @@ EndsRefused piece limits rest ending =
     × IsNoPiece piece message limits fault × (ending ≡ Err fault)
 
 -- the text and the ending of a stream of which these bytes are taken: the pieces of its messages, up to the first that has none
-pub record IsDueEach (piece : Piece) (limits : Bounds) (bytes : List ℕ) (is_longer : Bool) (text : List ℕ) (ending : Result (Unit {0}) ToolFault) : Type 0 where
+pub record IsDueEach (piece : Piece) (limits : Bounds) (bytes : List ℕ) (behind : Option ToolFault) (text : List ℕ) (ending : Result (Unit {0}) ToolFault) : Type 0 where
   pub parts : List Part
   pub rest : List ℕ
   pub are : AreParts piece limits bytes parts rest
   pub joined : text ≡ texts_of parts
-  pub ends : EndsUnframed limits rest is_longer ending ⊎ EndsRefused piece limits rest ending
+  pub ends : EndsUnframed limits rest behind ending ⊎ EndsRefused piece limits rest ending
+
+-- the text and the ending of a packed stream of which these bytes are taken: those of the words of its whole groups
+pub record IsDuePacked (piece : Piece) (limits : Bounds) (bytes : List ℕ) (is_longer : Bool) (text : List ℕ) (ending : Result (Unit {0}) ToolFault) : Type 0 where
+  pub words : List ℕ
+  pub group : List ℕ
+  pub at : ℕ
+  pub split : Splits bytes group [] words at
+  pub due : IsDueEach piece limits words (behind_packed is_longer group at) text ending

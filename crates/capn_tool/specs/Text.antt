@@ -3,7 +3,8 @@ use Rattle.std.specs.Prelude.{◌≡◌, ◌⊎◌, ℕ, ◌+◌, ◌≤◌, ◌
 use Rattle.std.specs.Io.KnownBytes.{Consumes, Appends}
 use Rattle.capn_tool.specs.Planned.{plan_of}
 use Rattle.capn_tool.specs.Wholes.{Makes, MakesNothing}
-use Rattle.capn_tool.specs.Streams.{Part, AreParts, texts_of, IsDueEach}
+use Rattle.capn_tool.specs.Streams.{Part, AreParts, texts_of, IsDueEach, IsDuePacked, behind_stream}
+use Rattle.capn_pack.specs.Stream as packs
 use Rattle.capn_tool.specs.declared.orders.Command.{Command}
 use Rattle.capn_tool.specs.declared.plan.Whole.{Whole}
 use Rattle.capn_tool.specs.declared.plan.Plan.{Plan}
@@ -28,7 +29,8 @@ IsDueWhole whole bytes false text (Err fault) = (text ≡ []) × MakesNothing wh
 -- the text and the ending that a plan makes of the bytes that are taken
 abbrev pub IsDue : Plan → List ℕ → Bool → List ℕ → Result (Unit {0}) ToolFault → Type 0
 IsDue (plans.Whole whole) bytes is_longer text ending = IsDueWhole whole bytes is_longer text ending
-IsDue (plans.Each piece limits) bytes is_longer text ending = IsDueEach piece limits bytes is_longer text ending
+IsDue (plans.Each piece limits) bytes is_longer text ending = IsDueEach piece limits bytes (behind_stream is_longer) text ending
+IsDue (plans.Packed piece limits) bytes is_longer text ending = IsDuePacked piece limits bytes is_longer text ending
 IsDue plans.Later bytes is_longer text ending = (text ≡ []) × (ending ≡ Err faults.NotYet)
 
 -- the text that a run writes for its input, and how it ends
@@ -60,6 +62,8 @@ EndsBy text due old new ending =
 abbrev pub IsFront : Plan → List ℕ → Bool → List ℕ → Type 0
 IsFront (plans.Whole whole) bytes is_longer text = (text ≡ []) ⊎ IsDueWhole whole bytes is_longer text (Ok tt)
 IsFront (plans.Each piece limits) bytes is_longer text = (parts : List Part) × (rest : List ℕ) × AreParts piece limits bytes parts rest × (text ≡ texts_of parts)
+IsFront (plans.Packed piece limits) bytes is_longer text =
+    (words : List ℕ) × (parts : List Part) × (rest : List ℕ) × packs.Begins bytes [] words × AreParts piece limits words parts rest × (text ≡ texts_of parts)
 IsFront plans.Later bytes is_longer text = text ≡ []
 
 -- a beginning of the text of these bytes was written

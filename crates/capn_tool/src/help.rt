@@ -152,4 +152,4 @@ pub const DEPTH: &str = "The most objects that may stand one below the other,
 from 1 to 256; the root object has depth 1";
 
 /// What is said where `--form` has a value that the command does not take.
-pub const NO_SUCH_FORM: &str = "--form takes stream or bare, and at canonical also packed";
+pub const NO_SUCH_FORM: &str = "--form takes stream, packed or bare";

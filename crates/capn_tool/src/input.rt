@@ -11,10 +11,10 @@ use std::alloc::{Allocator, Global};
 use std::io::Read;
 
 /// The most bytes of input that one run takes.
-const MOST_BYTES: usize = 4_294_967_296;
+pub(crate) const MOST_BYTES: usize = 4_294_967_296;
 
 /// The most bytes that one call of a reader is asked for.
-const PIECE: usize = 65_536;
+pub(crate) const PIECE: usize = 65_536;
 
 /// The first 2^32 bytes of an input, and whether there are more.
 #[derive(Drop)]

@@ -14,6 +14,7 @@
 mod each;
 mod ending;
 mod fault;
+mod hearing;
 mod help;
 mod input;
 mod line;
@@ -25,6 +26,7 @@ mod piece;
 mod plan;
 mod running;
 mod subcommands;
+mod unpacking;
 
 pub use ending::{fault_text, status};
 pub use fault::{Memory, ToolFault};

@@ -31,16 +31,6 @@ fn form_of(matches: &ArgMatches) -> Option<Form>
     }
 }
 
-/// The same of a command that takes no packed input.
-fn unpacked_form_of(matches: &ArgMatches) -> Option<Form>
-    ensures { IfSome result (λ form. FormIs (rows_of (found_of matches.now)) form) }
-{
-    match form_of(matches)? {
-        Form::Packed => None,
-        form => Some(form),
-    }
-}
-
 /// The number that an option has, given or usual.
 fn number_of(matches: &ArgMatches, id: &str) -> Option<u32>
     ensures { IfSome result (λ n. NumberIs (rows_of (found_of matches.now)) id.now n) }
@@ -72,10 +62,10 @@ fn order_of(name: &str, matches: &ArgMatches) -> Option<Command>
     ensures { IfSome result (λ command. Means (Some (name.now, rows_of (found_of matches.now))) command) }
 {
     match name {
-        "show" => Some(Command::Show(unpacked_form_of(matches)?, limits_of(matches)?)),
-        "check" => Some(Command::Check(unpacked_form_of(matches)?, limits_of(matches)?)),
+        "show" => Some(Command::Show(form_of(matches)?, limits_of(matches)?)),
+        "check" => Some(Command::Check(form_of(matches)?, limits_of(matches)?)),
         "canonical" => Some(Command::Canonical(form_of(matches)?, limits_of(matches)?)),
-        "hash" => Some(Command::Hash(unpacked_form_of(matches)?, limits_of(matches)?)),
+        "hash" => Some(Command::Hash(form_of(matches)?, limits_of(matches)?)),
         "pack" => Some(Command::Pack),
         "unpack" => Some(Command::Unpack(unpacked_words_of(matches)?)),
         _ => None,

@@ -2,8 +2,7 @@
 
 ghost use Rattle.std.specs.Prelude.{◌≡◌, ◌↔◌, true, false, OnOk, IsErrOf, IsOkUnless};
 ghost use Rattle.std.specs.Io.KnownBytes.{Appends};
-ghost use Rattle.capn_words.specs.Watching.{inner_of, has_failed};
-ghost use Rattle.capn_tool.specs.Reading.{HasBegun};
+ghost use Rattle.capn_words.specs.Watching.{HasBegun, inner_of, has_failed};
 
 use crate::fault::ToolFault;
 use capn_words::Watched;
@@ -17,13 +16,8 @@ pub fn write_all<W: Write>(writer: &mut Watched<W>, text: &[u8]) -> Result<(), T
     ensures io { IsErrOf result ToolFault.Io ↔ (has_failed writer.new ≡ true) }
     ensures only { IsOkUnless result ToolFault.Io }
 {
-    let mut at = 0;
-    while at < text.len() {
-        match writer.write(&text[at..]) {
-            Err(_) => return Err(ToolFault::Io),
-            Ok(0) => return Err(ToolFault::Io),
-            Ok(count) => at += count,
-        }
+    match writer.write_all(text) {
+        Ok(()) => Ok(()),
+        Err(_) => Err(ToolFault::Io),
     }
-    Ok(())
 }

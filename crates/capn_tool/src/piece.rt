@@ -4,6 +4,7 @@ ghost use Rattle.std.specs.Prelude.{◌≡◌, ◌⊎◌, ◌∷◌, ◌++◌, [
 ghost use Rattle.sha2.specs.Sha256.{sha256};
 ghost use Rattle.hex.specs.Hex.{encode_lower};
 ghost use Rattle.capn_walk.specs.Denotes.{IsValueOf, paid, number_of_visits};
+ghost use Rattle.capn_walk.specs.Surveyed.{IsSurvey};
 ghost use Rattle.capn_tool.specs.Pieces.{GivesPiece, IsStopped};
 ghost use Rattle.capn_tool.specs.declared.fault.ToolFault.TheVariants as faults;
 ghost use Rattle.capn_tool.specs.declared.plan.Piece.TheVariants as kinds;
@@ -12,7 +13,7 @@ use crate::fault::ToolFault;
 use crate::plan::Piece;
 use capn_canon::{Refusal, canonical_of};
 use capn_value::show;
-use capn_walk::{Fault, Limits, Walked, walk};
+use capn_walk::{Fault, Limits, Surveyed, Walked, survey, walk};
 use capn_words::Space;
 use sha2::{Digest, Sha256};
 use std::alloc::Allocator;
@@ -30,6 +31,24 @@ fn walk_within<S: Space, A: Allocator + Copy>(
 {
     match walk(alloc, space, limits) {
         Ok(walked) => Ok(walked),
+        Err(stopped) => match stopped.fault {
+            Fault::Memory => Err(ToolFault::Memory),
+            _ => Err(ToolFault::Refused(Refusal::Walk(stopped))),
+        },
+    }
+}
+
+/// What the walk of a message pays and visits.
+fn survey_within<S: Space, A: Allocator + Copy>(
+    alloc: A,
+    space: &S,
+    limits: Limits,
+) -> Result<Surveyed, ToolFault>
+    ensures found { IfOk result (λ s. IsSurvey (S.message space.now) 1 limits.budget limits.depth s) }
+    ensures refused { IfErr result (λ e. (e ≡ faults.Memory) ⊎ IsStopped (S.message space.now) limits e) }
+{
+    match survey(alloc, space, limits) {
+        Ok(surveyed) => Ok(surveyed),
         Err(stopped) => match stopped.fault {
             Fault::Memory => Err(ToolFault::Memory),
             _ => Err(ToolFault::Refused(Refusal::Walk(stopped))),
@@ -59,9 +78,9 @@ fn price_of<S: Space, A: Allocator + Copy>(
 ) -> Result<Vec<u8, A>, ToolFault>
     ensures { GivesPiece kinds.Price (S.message space.now) limits result }
 {
-    let walked = walk_within(alloc, space, limits)?;
-    let paid = walked.paid;
-    let visits = walked.visits;
+    let surveyed = survey_within(alloc, space, limits)?;
+    let paid = surveyed.paid;
+    let visits = surveyed.visits;
     let line = format!(in alloc; "ok paid {paid} visits {visits}\n")?;
     Ok(line.into_bytes())
 }

@@ -38,6 +38,8 @@ pub enum Plan {
     Whole(Whole),
     /// Message by message, from a stream.
     Each(Piece, Limits),
+    /// Message by message, from a packed stream.
+    Packed(Piece, Limits),
     /// Not at all: the tool cannot take it yet.
     Later,
 }
@@ -49,7 +51,7 @@ fn pieces(piece: Piece, form: Form, limits: Limits) -> Plan
     match form {
         Form::Bare => Plan::Whole(Whole::Bare(piece, limits)),
         Form::Stream => Plan::Each(piece, limits),
-        Form::Packed => Plan::Later,
+        Form::Packed => Plan::Packed(piece, limits),
     }
 }
 

@@ -3,18 +3,20 @@
 ghost use Rattle.std.specs.Prelude.{◌≡◌, ◌↔◌, ◌⊎◌, ℕ, List, Result, true, false, IfSome, IsErrOf};
 ghost use Rattle.capn_words.specs.Watching.{inner_of, has_failed};
 ghost use Rattle.capn_tool.specs.Planned as spec;
+ghost use Rattle.capn_tool.specs.Heard.{KeepsUp, Runs};
 ghost use Rattle.capn_tool.specs.Served.{Served};
 ghost use Rattle.capn_tool.specs.Text.{EndsAs, EndsBy, IsText, Begins, IsLater, PlanEndsAs, PlanBegins};
 ghost use Rattle.capn_tool.specs.declared.fault.ToolFault.{ToolFault};
 ghost use Rattle.capn_tool.specs.declared.plan.Plan.TheVariants as plans;
 
-use crate::each::write_each;
 use crate::fault::ToolFault;
+use crate::hearing::run_each;
 use crate::input::{Input, read_all};
 use crate::making::make;
 use crate::orders::Command;
 use crate::output::write_all;
 use crate::plan::{Plan, Whole, plan_of};
+use crate::unpacking::run_packed;
 use capn_words::Watched;
 use std::alloc::Allocator;
 use std::io::{Read, Write};
@@ -37,25 +39,27 @@ fn write_whole<W: Write, A: Allocator + Copy>(
     write_all(writer, &text)
 }
 
-/// Writes what a plan makes of an input.
-fn serve<W: Write, A: Allocator + Copy>(
+/// Reads all there is, and writes what is made of it.
+fn run_whole<R: Read, W: Write, A: Allocator + Copy>(
     alloc: A,
-    plan: Plan,
-    input: &Input<A>,
+    whole: Whole,
+    reader: &mut Watched<R>,
     writer: &mut Watched<W>,
 ) -> Result<(), ToolFault>
-    requires { has_failed writer.old ≡ false }
-    ensures { Served plan input.now.bytes.items input.now.is_longer (W.contents (inner_of writer.old))
-        (W.contents (inner_of writer.new)) (has_failed writer.new) result }
+    requires reader_fine { has_failed reader.old ≡ false }
+    requires writer_fine { has_failed writer.old ≡ false }
+    ensures exact { IfSome (R.remaining (inner_of reader.old))
+        (PlanEndsAs (plans.Whole whole) (W.contents (inner_of writer.old)) (W.contents (inner_of writer.new)) result) }
+    ensures io { IsErrOf result ToolFault.Io ↔ ((has_failed reader.new ≡ true) ⊎ (has_failed writer.new ≡ true)) }
+    ensures begun { PlanBegins (plans.Whole whole) (R.remaining (inner_of reader.old)) (R.remaining (inner_of reader.new))
+        (W.contents (inner_of writer.old)) (W.contents (inner_of writer.new)) }
+    ensures later { IsErrOf result ToolFault.NotYet → plans.Whole whole ≡ plans.Later }
 {
-    match plan {
-        Plan::Whole(whole) => write_whole(alloc, whole, input, writer),
-        Plan::Each(piece, limits) => write_each(alloc, piece, limits, input, writer),
-        Plan::Later => Err(ToolFault::NotYet),
-    }
+    let input = read_all(alloc, reader)?;
+    write_whole(alloc, whole, &input, writer)
 }
 
-/// Reads all there is, and writes what the plan makes of it.
+/// Carries a plan out.
 fn perform<R: Read, W: Write, A: Allocator + Copy>(
     alloc: A,
     plan: Plan,
@@ -64,15 +68,15 @@ fn perform<R: Read, W: Write, A: Allocator + Copy>(
 ) -> Result<(), ToolFault>
     requires reader_fine { has_failed reader.old ≡ false }
     requires writer_fine { has_failed writer.old ≡ false }
-    ensures exact { IfSome (R.remaining (inner_of reader.old))
-        (PlanEndsAs plan (W.contents (inner_of writer.old)) (W.contents (inner_of writer.new)) result) }
-    ensures io { IsErrOf result ToolFault.Io ↔ ((has_failed reader.new ≡ true) ⊎ (has_failed writer.new ≡ true)) }
-    ensures begun { PlanBegins plan (R.remaining (inner_of reader.old)) (R.remaining (inner_of reader.new))
-        (W.contents (inner_of writer.old)) (W.contents (inner_of writer.new)) }
-    ensures later { IsErrOf result ToolFault.NotYet → plan ≡ plans.Later }
+    ensures { Runs plan (R.remaining (inner_of reader.old)) (R.remaining (inner_of reader.new))
+        (W.contents (inner_of writer.old)) (W.contents (inner_of writer.new)) (has_failed reader.new) (has_failed writer.new) result }
 {
-    let input = read_all(alloc, reader)?;
-    serve(alloc, plan, &input, writer)
+    match plan {
+        Plan::Whole(whole) => run_whole(alloc, whole, reader, writer),
+        Plan::Each(piece, limits) => run_each(alloc, piece, limits, reader, writer),
+        Plan::Packed(piece, limits) => run_packed(alloc, piece, limits, reader, writer),
+        Plan::Later => Err(ToolFault::NotYet),
+    }
 }
 
 /// Carries a command out: reads from the reader to its end, then writes the text of the input to the writer.
@@ -104,6 +108,9 @@ pub fn run<R: Read, W: Write, A: Allocator + Copy>(
     ensures io { IsErrOf result ToolFault.Io ↔ ((has_failed reader.new ≡ true) ⊎ (has_failed writer.new ≡ true)) }
     // Whatever it answers, a beginning of the text of what it read was written, or nothing.
     ensures begun { Begins command (R.remaining (inner_of reader.old)) (R.remaining (inner_of reader.new))
+        (W.contents (inner_of writer.old)) (W.contents (inner_of writer.new)) }
+    // Where the reader failed, all that is due for what it gave was written, if it is taken message by message.
+    ensures heard { has_failed reader.new ≡ true → KeepsUp command (R.remaining (inner_of reader.old)) (R.remaining (inner_of reader.new))
         (W.contents (inner_of writer.old)) (W.contents (inner_of writer.new)) }
     // A command that the tool cannot carry out yet touches neither of the two, and no other is answered so.
     ensures later { IsErrOf result ToolFault.NotYet ↔ IsLater command }

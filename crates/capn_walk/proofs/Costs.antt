@@ -19,12 +19,12 @@ use Rattle.capn_walk.proofs.Inside.{inside}
 use Rattle.capn_walk.proofs.Walks.{slot, visits-deep, visits-object}
 
 -- of visits, one behind the other
-all-front : (xs ys : List Visit) → AllPay (xs ++ ys) → AllPay xs
+pub all-front : (xs ys : List Visit) → AllPay (xs ++ ys) → AllPay xs
 all-front [] ys h = tt
 all-front (pays at n ∷ xs) ys h = all-front xs ys h
 all-front (fails at e ∷ xs) ys h = absurd h
 
-all-back : (xs ys : List Visit) → AllPay (xs ++ ys) → AllPay ys
+pub all-back : (xs ys : List Visit) → AllPay (xs ++ ys) → AllPay ys
 all-back [] ys h = h
 all-back (pays at n ∷ xs) ys h = all-back xs ys h
 all-back (fails at e ∷ xs) ys h = absurd h

@@ -12,4 +12,13 @@ pub mod Unique
 pub mod Fitting
 pub mod RootWalks
 pub mod WorkedWalks
+pub mod Framing
+pub mod Plain
+pub mod UnderWay
+pub mod CapsMet
+pub mod Exists
+pub mod RootSurveys
+pub mod SeenInside
+pub mod Stepped
+pub mod Showing
 pub mod WorkedValues

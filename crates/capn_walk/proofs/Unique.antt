@@ -232,14 +232,14 @@ module _ (m : List (List ℕ)) where
         let here : AreWords m i.segment i.start ys = subst (λ (x : ℕ). AreWords m x i.start ys) s (subst (λ (x : ℕ). AreWords m k.segment x ys) p k.inside) in
         ap octs (same-words i.segment i.start xs ys (sym l) i.inside here) ∙ sym e
 
-    unique-slots : (ss ts : Trees) (s w : ℕ) → count ss ≡ count ts → AreAt m s w ss → AreAt m s w ts → ss ≡ ts
+    pub unique-slots : (ss ts : Trees) (s w : ℕ) → count ss ≡ count ts → AreAt m s w ss → AreAt m s w ts → ss ≡ ts
     unique-slots no_trees no_trees s w l i j = refl
     unique-slots no_trees (tree t ts) s w l i j = absurd (omega arith)
     unique-slots (tree t ts) no_trees s w l i j = absurd (omega arith)
     unique-slots (tree t ss) (tree u ts) s w l i j =
         ap₂ tree (unique t u (record { segment = s; word = w }) i.0 j.0) (unique-slots ss ts s (suc w) (omega arith) i.1 j.1)
 
-    unique-rows : (bs cs : Bodies) (a b s w : ℕ) → count_rows bs ≡ count_rows cs → RowsAt m a b s w bs → RowsAt m a b s w cs → bs ≡ cs
+    pub unique-rows : (bs cs : Bodies) (a b s w : ℕ) → count_rows bs ≡ count_rows cs → RowsAt m a b s w bs → RowsAt m a b s w cs → bs ≡ cs
     unique-rows no_bodies no_bodies a b s w l i j = refl
     unique-rows no_bodies (body ws ss cs) a b s w l i j = absurd (omega arith)
     unique-rows (body ws ss bs) no_bodies a b s w l i j = absurd (omega arith)

@@ -6,3 +6,8 @@ pub mod Denotes
 pub mod Limits
 pub mod Verdict
 pub mod Walked
+pub mod Frames
+pub mod Surveyed
+pub mod Account
+pub mod Viewed
+pub mod Shown

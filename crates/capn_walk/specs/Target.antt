@@ -28,6 +28,15 @@ content_words W64 n = n
 content_words Link n = n
 content_words Rows n = 1 + n
 
+-- the bits of an element, and of a word of the rows of a composite list
+abbrev pub bits_of : Width → ℕ
+bits_of W0 = 0
+bits_of W1 = 1
+bits_of W8 = 8
+bits_of W16 = 16
+bits_of W32 = 32
+bits_of _ = 64
+
 -- where an offset leads from the word behind a pointer, if not before word 0
 abbrev pub moved : ℕ → ℤ → Result ℕ Fault
 moved w (pos n) = Ok (w + 1 + n)

@@ -1,6 +1,6 @@
 //! Content from a word of a segment on, by the form that a pointer or a tag says.
 
-ghost use Rattle.std.specs.Prelude.{◌≡◌, ℕ, ◌<◌, ◌+◌, ◌^◌, length, slice_index};
+ghost use Rattle.std.specs.Prelude.{◌≡◌, ℕ, ◌<◌, ◌≤◌, ◌+◌, ◌^◌, length, slice_index};
 ghost use Rattle.capn_words.specs.Message.{segment_at};
 ghost use Rattle.capn_walk.specs.Target as spec;
 
@@ -9,6 +9,7 @@ use capn_words::{Place, Space, Width};
 
 /// The words of a segment, none where there is no such segment.
 #[tactic(auto, using(crate::proofs::Segments::length_of_none, crate::proofs::Segments::length_of_some))]
+#[inline(always)]
 pub fn segment_length<S: Space>(space: &S, segment: u32) -> u32
     ensures { result ≡ length (segment_at (S.message space.now) segment) }
 {
@@ -16,6 +17,7 @@ pub fn segment_length<S: Space>(space: &S, segment: u32) -> u32
 }
 
 /// Where an offset leads from the word behind a pointer.
+#[inline(always)]
 pub fn start_of(word: u32, offset: i32) -> Result<u64, Fault>
     ensures { result ≡ spec.moved word offset }
 {
@@ -27,35 +29,50 @@ pub fn start_of(word: u32, offset: i32) -> Result<u64, Fault>
     }
 }
 
-/// The words that the content of a list takes, with the tag of a composite one.
-pub fn content_words(width: Width, count: u32) -> u64
-    ensures { result ≡ spec.content_words width count }
+/// The bits of an element of a list, or of a word of the rows of a composite one.
+#[inline(always)]
+fn bits_of(width: Width) -> u64
+    ensures value { result ≡ spec.bits_of width }
+    ensures within { result ≤ 64 }
 {
-    let count = count as u64;
     match width {
         Width::W0 => 0,
-        Width::W1 => count.div_ceil(64),
-        Width::W8 => count.div_ceil(8),
-        Width::W16 => count.div_ceil(4),
-        Width::W32 => count.div_ceil(2),
-        Width::W64 | Width::Link => count,
-        Width::Rows => 1 + count,
+        Width::W1 => 1,
+        Width::W8 => 8,
+        Width::W16 => 16,
+        Width::W32 => 32,
+        Width::W64 | Width::Link | Width::Rows => 64,
     }
 }
 
+/// The words that the content of a list takes, with the tag of a composite one.
+#[inline(always)]
+pub fn content_words(width: Width, count: u32) -> u64
+    ensures { result ≡ spec.content_words width count }
+{
+    let words = (bits_of(width) * count as u64 + 63) / 64;
+    if let Width::Rows = width {
+        return words + 1;
+    }
+    words
+}
+
 /// A struct whose content starts at a word.
+#[inline(always)]
 pub fn node_at<S: Space>(
     space: &S,
     segment: u32,
+    size: u32,
     start: u64,
     pads: u8,
     words: u16,
     slots: u16,
 ) -> Result<Target, Fault>
-    requires { start < 2 ^ 34 }
+    requires size { size ≡ length (segment_at (S.message space.now) segment) }
+    requires start { start < 2 ^ 34 }
     ensures { result ≡ spec.struct (S.message space.now) segment start pads words slots }
 {
-    if start + words as u64 + slots as u64 > segment_length(space, segment) as u64 {
+    if start + words as u64 + slots as u64 > size as u64 {
         return Err(Fault::Range);
     }
     let shape = Shape::Node { words, slots };
@@ -68,18 +85,21 @@ pub fn node_at<S: Space>(
 }
 
 /// A list whose content starts at a word.
+#[inline(always)]
 pub fn many_at<S: Space>(
     space: &S,
     segment: u32,
+    size: u32,
     start: u64,
     pads: u8,
     width: Width,
     count: u32,
 ) -> Result<Target, Fault>
-    requires { start < 2 ^ 34 }
+    requires size { size ≡ length (segment_at (S.message space.now) segment) }
+    requires start { start < 2 ^ 34 }
     ensures { result ≡ spec.list (S.message space.now) segment start pads width count }
 {
-    if start + content_words(width, count) > segment_length(space, segment) as u64 {
+    if start + content_words(width, count) > size as u64 {
         return Err(Fault::Range);
     }
     if let Width::Rows = width {
@@ -96,6 +116,7 @@ pub fn many_at<S: Space>(
 
 /// A composite list of so many words behind its tag, which stands at a word.
 #[tactic(auto, using(std::proofs::lemmas::Grind::common_steps))]
+#[inline(always)]
 fn rows_at<S: Space>(
     space: &S,
     segment: u32,

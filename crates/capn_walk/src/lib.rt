@@ -17,18 +17,31 @@
 
 mod content;
 mod found;
+mod frame;
+mod kind;
+pub mod laws;
 mod limits;
 mod lists;
+mod meter;
 mod price;
 mod resolving;
+mod step;
+mod surveyed;
+mod surveying;
 mod target;
+mod view;
 mod visiting;
 mod walked;
 mod walking;
 
+pub use kind::Kind;
 pub use limits::Limits;
+pub use meter::Meter;
 pub use resolving::resolve;
+pub use surveyed::Surveyed;
+pub use surveying::survey;
 pub use target::{Fault, Shape, Target};
+pub use view::View;
 pub use walked::{Stopped, Walked};
 pub use walking::walk;
 

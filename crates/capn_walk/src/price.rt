@@ -9,16 +9,16 @@ use capn_words::Width;
 
 /// The price of an object behind so many landing pads, in words: 1 for the pointer, its words, and 1 for
 /// each element that has no size. A composite list pays all the words that its pointer says.
+#[inline(always)]
 pub fn price_of(shape: Shape, pads: u8) -> u64
     ensures { result ≡ price 1 shape + pads }
 {
     let price = match shape {
         Shape::Node { words, slots } => 1 + words as u64 + slots as u64,
-        Shape::Many {
-            width: Width::W0,
-            count,
-        } => 1 + count as u64,
-        Shape::Many { width, count } => 1 + content_words(width, count),
+        Shape::Many { width, count } => {
+            let without_size = if let Width::W0 = width { count } else { 0 };
+            1 + content_words(width, count) + without_size as u64
+        }
         Shape::Rows {
             count,
             words,

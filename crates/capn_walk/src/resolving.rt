@@ -16,6 +16,7 @@ use capn_words::{Place, Pointer, Space, split};
 /// at most four words and takes no memory. (Page: structs, lists, inter-segment pointers, capabilities;
 /// the order of the tests is our own.)
 #[tactic(auto, unfolding(crate::specs::Target::target))]
+#[inline(always)]
 pub fn resolve<S: Space>(space: &S, at: Place) -> Result<Target, Fault>
     requires { IsPlace (S.message space.now) at }
     ensures { result ≡ spec.target (S.message space.now) at }
@@ -25,6 +26,7 @@ pub fn resolve<S: Space>(space: &S, at: Place) -> Result<Target, Fault>
 }
 
 /// What a pointer names that stands at a word of a segment.
+#[inline(always)]
 fn named<S: Space>(space: &S, segment: u32, word: u32, pointer: Pointer) -> Result<Target, Fault>
     ensures { result ≡ spec.named (S.message space.now) segment word pointer }
 {
@@ -43,12 +45,16 @@ fn named<S: Space>(space: &S, segment: u32, word: u32, pointer: Pointer) -> Resu
                 behind_one(space, segment, word)
             }
         }
-        pointer => near(space, segment, word, 0, pointer),
+        pointer => {
+            let size = segment_length(space, segment);
+            near(space, segment, size, word, 0, pointer)
+        }
     }
 }
 
 /// The pointer that stands at a word.
-fn pointer_at<S: Space>(space: &S, segment: u32, word: u32) -> Pointer
+#[inline(always)]
+pub fn pointer_at<S: Space>(space: &S, segment: u32, word: u32) -> Pointer
     requires { word < length (segment_at (S.message space.now) segment) }
     ensures { result ≡ spec.pointer_in (S.message space.now) segment word }
 {
@@ -56,13 +62,16 @@ fn pointer_at<S: Space>(space: &S, segment: u32, word: u32) -> Pointer
 }
 
 /// The content of a struct or list pointer that stands at a word, itself or as a pad of one word.
-fn near<S: Space>(
+#[inline(always)]
+pub fn near<S: Space>(
     space: &S,
     segment: u32,
+    size: u32,
     word: u32,
     pads: u8,
     pointer: Pointer,
 ) -> Result<Target, Fault>
+    requires { size ≡ length (segment_at (S.message space.now) segment) }
     ensures { result ≡ spec.near (S.message space.now) segment word pads pointer }
 {
     match pointer {
@@ -72,7 +81,7 @@ fn near<S: Space>(
             slots,
         } => {
             let start = start_of(word, offset)?;
-            node_at(space, segment, start, pads, words, slots)
+            node_at(space, segment, size, start, pads, words, slots)
         }
         Pointer::Many {
             offset,
@@ -80,23 +89,33 @@ fn near<S: Space>(
             count,
         } => {
             let start = start_of(word, offset)?;
-            many_at(space, segment, start, pads, width, count)
+            many_at(space, segment, size, start, pads, width, count)
         }
         _ => Err(Fault::BadPad),
     }
 }
 
 /// What a far pointer names by a landing pad of one word.
+#[inline(never)]
 fn behind_one<S: Space>(space: &S, segment: u32, word: u32) -> Result<Target, Fault>
     ensures { result ≡ spec.landing (S.message space.now) segment word 1
         (spec.near (S.message space.now) segment word 1
         (spec.pointer_in (S.message space.now) segment word)) }
 {
     landing(space, segment, word, 1)?;
-    near(space, segment, word, 1, pointer_at(space, segment, word))
+    let size = segment_length(space, segment);
+    near(
+        space,
+        segment,
+        size,
+        word,
+        1,
+        pointer_at(space, segment, word),
+    )
 }
 
 /// What a far pointer names by a landing pad of two words.
+#[inline(never)]
 fn behind_two<S: Space>(space: &S, segment: u32, word: u32) -> Result<Target, Fault>
     ensures { result ≡ spec.landing (S.message space.now) segment word 2
         (spec.two_pads (S.message space.now)
@@ -124,7 +143,8 @@ fn named_by_two<S: Space>(space: &S, first: Pointer, second: Pointer) -> Result<
     match second {
         Pointer::Nil => {
             exists(space, segment)?;
-            node_at(space, segment, word as u64, 2, 0, 0)
+            let size = segment_length(space, segment);
+            node_at(space, segment, size, word as u64, 2, 0, 0)
         }
         Pointer::Node {
             offset: _,
@@ -132,7 +152,8 @@ fn named_by_two<S: Space>(space: &S, first: Pointer, second: Pointer) -> Result<
             slots,
         } => {
             exists(space, segment)?;
-            node_at(space, segment, word as u64, 2, words, slots)
+            let size = segment_length(space, segment);
+            node_at(space, segment, size, word as u64, 2, words, slots)
         }
         Pointer::Many {
             offset: _,
@@ -140,7 +161,8 @@ fn named_by_two<S: Space>(space: &S, first: Pointer, second: Pointer) -> Result<
             count,
         } => {
             exists(space, segment)?;
-            many_at(space, segment, word as u64, 2, width, count)
+            let size = segment_length(space, segment);
+            many_at(space, segment, size, word as u64, 2, width, count)
         }
         _ => Err(Fault::BadPad),
     }

@@ -1,6 +1,6 @@
 //! The walk over a whole message, from its root.
 
-ghost use Rattle.std.specs.Prelude.{◌≡◌, ◌⊎◌, ◌↔◌, ℕ, ◌<◌, ◌≤◌, Ok, length, IsTrue, IfOk, IfErr, OnOk, MatchResult};
+ghost use Rattle.std.specs.Prelude.{◌≡◌, ◌≢◌, ◌⊎◌, ◌↔◌, ℕ, ◌<◌, ◌≤◌, Ok, length, IsTrue, IfOk, IfErr, OnOk, MatchResult};
 ghost use Rattle.capn_words.specs.Message.{segment_at};
 ghost use Rattle.capn_value.specs.Tree as trees;
 ghost use Rattle.capn_value.specs.Sizes.{cost, height};
@@ -21,7 +21,7 @@ use capn_words::{Place, Space};
 use std::alloc::Allocator;
 
 /// Where the pointer to the root stands.
-const ROOT: Place = Place {
+pub const ROOT: Place = Place {
     segment: 0,
     word: 0,
 };
@@ -79,13 +79,14 @@ pub fn walk<S: Space, A: Allocator + Copy>(
 }
 
 /// What the pointer to the root names: null or a struct.
-fn root_target<S: Space>(space: &S) -> Result<Target, Stopped>
+pub fn root_target<S: Space>(space: &S) -> Result<Target, Stopped>
     ensures place { OnOk result (0 < length (segment_at (S.message space.now) 0)) }
     ensures target { IfOk result (λ t. spec.target (S.message space.now) root ≡ Ok t) }
     ensures kind { IfOk result IsRootKind }
     ensures refused { IfErr result (λ s.
         (budget depth : ℕ) →
         IsRefused (S.message space.now) 1 budget depth s.fault s.place s.paid s.visits) }
+    ensures memory { IfErr result (λ s. s.fault ≢ Memory) }
     ensures bounded { IfErr result (λ s. IsBounded 0 s.paid s.visits) }
 {
     if segment_length(space, ROOT.segment) == 0 {
@@ -107,7 +108,7 @@ fn root_target<S: Space>(space: &S) -> Result<Target, Stopped>
 }
 
 /// Whether a target may be that of the root.
-fn may_be_root(target: Target) -> bool
+pub fn may_be_root(target: Target) -> bool
     ensures { IsTrue result ↔ IsRootKind target }
 {
     match target {

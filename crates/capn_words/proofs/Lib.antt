@@ -1,4 +1,5 @@
 pub mod Words
+mod Written
 pub mod OneSegment
 pub mod FieldBits
 pub mod Pointers

@@ -1,5 +1,6 @@
 -- What a watched reader or writer is, and when a call of it fails. (Own.)
-use Rattle.std.specs.Prelude.{ℕ, Bool, true, ◌&&◌, ◌==◌, not, List, length, Result, Ok, Err}
+use Rattle.std.specs.Prelude.{ℕ, Bool, true, ◌&&◌, ◌==◌, not, List, length, take, Option, Result, Ok, Err}
+use Rattle.std.specs.Io.KnownBytes.{Appends}
 use Rattle.capn_words.specs.declared.watched.Watched.{Watched}
 
 -- the reader or writer that is watched
@@ -14,3 +15,7 @@ has_failed w = w.failed
 abbrev pub write_fails : {E : Type 0} → Result ℕ E → List ℕ → Bool
 write_fails (Ok n) piece = n == 0 && not (length piece == 0)
 write_fails (Err e) piece = true
+
+-- a beginning of the text was written
+abbrev pub HasBegun : Option (List ℕ) → Option (List ℕ) → List ℕ → Type 0
+HasBegun old new text = (count : ℕ) × Appends old new (take count text)

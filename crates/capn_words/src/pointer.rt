@@ -160,6 +160,7 @@ fn fields_of(word: u64) -> Pointer
 ///
 /// Every word says something: `Nil` is the word 0 alone, and a word of no kind is `Reserved`. `join` gives
 /// the word back. (Page: structs, lists, inter-segment pointers, capabilities.)
+#[inline(always)]
 pub fn split(word: u64) -> Pointer
     // The pointer is exactly what the word's fields say, in their two forms: as a sum, and by division.
     ensures fields { (p : Pointer) → Fields word p ↔ (result ≡ p) }

@@ -1,11 +1,11 @@
 //! A reader or a writer that remembers whether it has failed.
 
-ghost use Rattle.std.specs.Prelude.{◌≡◌, ℕ, ◌<◌, ◌≤◌, Bool, true, false, ◌||◌, is_err};
+ghost use Rattle.std.specs.Prelude.{◌≡◌, ℕ, ◌<◌, ◌≤◌, Bool, true, false, ◌||◌, is_err, OnOk};
 ghost use Rattle.std.specs.Io.{ReadsAtMost, WritesAtMost};
-ghost use Rattle.std.specs.Io.KnownBytes.{ReadConsumes, WriteAppends};
-ghost use Rattle.capn_words.specs.Watching.{has_failed, inner_of, write_fails};
+ghost use Rattle.std.specs.Io.KnownBytes.{Appends, ReadConsumes, WriteAppends};
+ghost use Rattle.capn_words.specs.Watching.{HasBegun, has_failed, inner_of, write_fails};
 
-use std::io::{Read, Result, Write};
+use std::io::{ErrorKind, Read, Result, Write};
 
 /// A reader or a writer, and whether a call of it has failed. (Own.)
 ///
@@ -75,6 +75,25 @@ impl<W: Write> Watched<W> {
             Err(_) => true,
         };
         answer
+    }
+
+    /// Writes all of the text, by as many calls of `write` as that takes.
+    ///
+    /// Fails at the first call that answers an error or takes no byte, and then a beginning of the text was written.
+    pub fn write_all(&mut self, text: &[u8]) -> Result<()>
+        ensures ok { OnOk result (Appends (W.contents (inner_of self.old)) (W.contents (inner_of self.new)) text.now) }
+        ensures begun { HasBegun (W.contents (inner_of self.old)) (W.contents (inner_of self.new)) text.now }
+        ensures failed { has_failed self.new ≡ (has_failed self.old || is_err result) }
+    {
+        let mut at = 0;
+        while at < text.len() {
+            match self.write(&text[at..]) {
+                Err(error) => return Err(error),
+                Ok(0) => return Err(ErrorKind::WriteZero.into()),
+                Ok(count) => at += count,
+            }
+        }
+        Ok(())
     }
 }
 

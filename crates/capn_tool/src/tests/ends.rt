@@ -1,7 +1,9 @@
 //! Runs over readers and writers of one byte a call, which fail at one call.
 
 use crate::*;
-use capn_canon::Form;
+use capn_canon::{Form, Refusal};
+use capn_pack::UnpackFault;
+use capn_stream::FrameFault;
 use capn_walk::Limits;
 use capn_words::Watched;
 use std::alloc::Global;
@@ -140,15 +142,22 @@ fn ended(
     )
 }
 
-/// Fails each call of the reader in turn, the one that finds the end among them: nothing is written.
-fn fail_each_read(rt: &impl Abort, alloc: Global, run_of: &Run) {
+/// Fails each call of the reader in turn, the one that finds the end among them: what is due for the messages that were
+/// whole by then is written, of which each behind so many bytes brings the text to so many.
+fn fail_each_read(rt: &impl Abort, alloc: Global, run_of: &Run, whole: &[(u64, usize)]) {
     let calls = run_of.input.len() as u64 + 1;
     for call in 0..50u64 {
         let (outcome, written, asked) = ended(alloc, run_of, call, 0, false);
         assert_eq!(rt; asked, 65_536, "read {call}");
         if 1 <= call && call <= calls {
+            let mut due = 0;
+            for (bytes, text) in whole {
+                if *bytes < call {
+                    due = *text;
+                }
+            }
             assert_eq!(rt; outcome, Err(ToolFault::Io), "read {call}");
-            assert!(rt; written.is_empty(), "read {call}");
+            assert_eq!(rt; run_of.text.get(..due), Some(written.as_slice()), "read {call}");
         } else {
             assert_eq!(rt; outcome, Ok(()), "read {call}");
             assert_eq!(rt; written.as_slice(), run_of.text, "read {call}");
@@ -176,8 +185,8 @@ fn fail_each_write(rt: &impl Abort, alloc: Global, run_of: &Run, takes_nothing: 
 
 #[test]
 fn a_reader_fails_at_each_call(rt: HostRuntime) {
-    fail_each_read(&rt, rt.alloc(), &canonical());
-    fail_each_read(&rt, rt.alloc(), &check());
+    fail_each_read(&rt, rt.alloc(), &canonical(), &[]);
+    fail_each_read(&rt, rt.alloc(), &check(), &[(24, 19), (40, 38)]);
 }
 
 #[test]
@@ -186,4 +195,49 @@ fn a_writer_fails_at_each_call(rt: HostRuntime) {
         fail_each_write(&rt, rt.alloc(), &canonical(), takes_nothing);
         fail_each_write(&rt, rt.alloc(), &check(), takes_nothing);
     }
+}
+
+/// The run of `check` over packed bytes.
+fn check_packed<'a>(input: &'a [u8], text: &'a [u8]) -> Run<'a> {
+    Run {
+        command: Command::Check(Form::Packed, Limits::usual()),
+        input,
+        text,
+    }
+}
+
+/// The packed text of a struct of one word, framed.
+const PACKED: [u8; 6] = [0x10, 2, 0x10, 1, 1, 5];
+
+#[test]
+fn a_packed_stream_is_served(rt: HostRuntime) {
+    let twice = [0x10, 2, 0x10, 1, 1, 5, 0x10, 2, 0x10, 1, 1, 5];
+    let lines = b"ok paid 2 visits 1\nok paid 2 visits 1\n";
+    let both = check_packed(&twice, lines);
+    fail_each_read(&rt, rt.alloc(), &both, &[(6, 19), (12, 38)]);
+    fail_each_write(&rt, rt.alloc(), &both, true);
+}
+
+/// The run writes its text and is refused so.
+fn ends_refused(rt: &impl Abort, alloc: Global, run_of: &Run, want: Refusal) {
+    let (outcome, written, _) = ended(alloc, run_of, 0, 0, false);
+    assert_eq!(rt; outcome, Err(ToolFault::Refused(want)));
+    assert_eq!(rt; written.as_slice(), run_of.text);
+}
+
+#[test]
+fn packed_streams_end_as_is_due(rt: HostRuntime) {
+    let long = [2, 2, 0xff, 0x8a];
+    let cut = [0x10, 2, 0x10, 1, 1, 5, 0x10, 2, 0x10];
+    let unframed = [0x10, 2, 0x10, 1, 1, 5, 0x10, 2];
+    let line = b"ok paid 2 visits 1\n";
+    let table = Refusal::Frame(FrameFault::TooManySegments(513));
+    ends_refused(&rt, rt.alloc(), &check_packed(&long, b""), table);
+    let group = Refusal::Packed(UnpackFault::Cut { at: 8 });
+    ends_refused(&rt, rt.alloc(), &check_packed(&cut, line), group);
+    let frame = Refusal::Frame(FrameFault::Cut);
+    ends_refused(&rt, rt.alloc(), &check_packed(&unframed, line), frame);
+    let (outcome, written, _) = ended(rt.alloc(), &check_packed(&PACKED, line), 0, 0, false);
+    assert_eq!(rt; outcome, Ok(()));
+    assert_eq!(rt; written.as_slice(), line.as_slice());
 }

@@ -39,11 +39,11 @@ fn forms(rt: HostRuntime) {
     let usual = Limits::usual();
     for (name, form, order) in [
         ("show", "stream", Ok(Command::Show(Form::Stream, usual))),
-        ("show", "packed", Err(2)),
+        ("show", "packed", Ok(Command::Show(Form::Packed, usual))),
         ("show", "bare", Ok(Command::Show(Form::Bare, usual))),
-        ("check", "packed", Err(2)),
+        ("check", "packed", Ok(Command::Check(Form::Packed, usual))),
         ("check", "bare", Ok(Command::Check(Form::Bare, usual))),
-        ("hash", "packed", Err(2)),
+        ("hash", "packed", Ok(Command::Hash(Form::Packed, usual))),
         ("hash", "bare", Ok(Command::Hash(Form::Bare, usual))),
         (
             "canonical",

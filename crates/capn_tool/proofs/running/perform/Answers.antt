@@ -1,11 +1,5 @@
-use Rattle.capn_tool.proofs.RunLaw.{begins_none, begins_kept, ends_kept}
+use Rattle.capn_tool.proofs.HeardRun.{runs_later}
 use Rattle.capn_tool.proofs.running.perform.Goals as goal
 
-pub returns-in_err-input-clause-begun : goal.returns-in_err-input-clause-begun
-returns-in_err-input-clause-begun g c = begins_none c.args.plan _ _ _ c.read_all.ensures.bounded
-
-pub returns-clause-begun : goal.returns-clause-begun
-returns-clause-begun g c = begins_kept c.args.plan _ _ _ _ _ _ c.in_ok-input.ensures.exact c.serve.ensures.written
-
-pub returns-clause-exact : goal.returns-clause-exact
-returns-clause-exact g c = ends_kept c.args.plan _ _ _ _ _ _ c.serve.result c.in_ok-input.ensures.exact c.serve.ensures.ended
+pub returns-in-Later : goal.returns-in-Later
+returns-in-Later g c = runs_later c.args.plan _ _ _ _ c.in-Later.is c.requires.reader_fine c.requires.writer_fine

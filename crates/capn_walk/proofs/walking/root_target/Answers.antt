@@ -3,6 +3,7 @@ use Rattle.capn_words.specs.Message.{segment_at}
 use Rattle.capn_walk.specs.Target.{target}
 use Rattle.capn_walk.specs.Accepted.{root}
 use Rattle.capn_walk.proofs.RootWalks.{refused-kind, refused-fault, no-kind}
+use Rattle.capn_walk.proofs.Plain.{never-memory}
 use Rattle.capn_walk.proofs.walking.root_target.Goals as goal
 
 pub returns-else-may_be_root-clause-refused : goal.returns-else-may_be_root-clause-refused
@@ -19,3 +20,7 @@ returns-in-Err-clause-refused g c budget depth =
     let some : 0 < length (segment_at (g.S.Space.message c.args.space.now) 0) = omega arith in
     let e : target (g.S.Space.message c.args.space.now) root ≡ Err c.in-Err.fault = cc in
     refused-fault m c.stop-in-Err.result c.in-Err.fault budget depth some e c.stop-in-Err.ensures
+
+pub returns-in-Err-clause-memory : goal.returns-in-Err-clause-memory
+returns-in-Err-clause-memory g c f =
+    never-memory (g.S.Space.message c.args.space.now) root c.in-Err.fault (cc) (cc)

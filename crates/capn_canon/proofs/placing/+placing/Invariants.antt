@@ -1,0 +1,44 @@
+use Rattle.std.proofs.Common.{◌≡◌, ◌+◌, ◌-◌, ◌*◌, ◌^◌, ◌≤◌, length}
+use Rattle.capn_value.specs.Tree.{Trees, count}
+use Rattle.capn_walk.specs.At.{AreAt}
+use Rattle.capn_canon.specs.Laying.{laid_slots, AreHoles}
+use Rattle.capn_value.specs.Tree.{Bodies, count_rows}
+use Rattle.capn_walk.specs.At.{RowsAt}
+use Rattle.capn_canon.specs.Laying.{laid_rows}
+use Rattle.capn_canon.specs.Ready.{AreReady}
+use Rattle.capn_canon.specs.RowWords.{RowsReady}
+use Rattle.capn_canon.proofs.placing.+placing.Given as goal
+
+abbrev pub decreases-lay_object : goal.decreases-lay_object
+decreases-lay_object g l = 5 * l.depth + 4
+
+abbrev pub decreases-lay_slots : goal.decreases-lay_slots
+decreases-lay_slots g l = 5 * l.depth + 2
+
+abbrev pub decreases-lay_slot : goal.decreases-lay_slot
+decreases-lay_slot g l = 5 * l.depth + 1
+
+abbrev pub decreases-lay_target : goal.decreases-lay_target
+decreases-lay_target g l = 5 * l.depth
+
+abbrev pub invariant-lay_slots-loop-i : goal.invariant-lay_slots-loop-i
+invariant-lay_slots-loop-i g l = record {
+  rest : (us ts : Trees) → AreAt (g.S.Space.message l.space) l.start.segment (l.start.word + l.i) us → count us ≡ l.count - l.i
+      → AreAt (g.S.Space.message l.space) l.start.segment l.start.word ts → count ts ≡ l.count
+      → laid_slots (l.count - l.i) us (l.first + l.i) l.patch ≡ laid_slots l.count ts l.first l.initial.patch;
+  holes : AreHoles l.patch (l.first + l.i) (l.count - l.i);
+  ready : AreReady (g.S.Space.message l.space) l.start.segment (l.start.word + l.i) (l.count - l.i) l.depth (length l.patch);
+}
+
+abbrev pub decreases-lay_rows : goal.decreases-lay_rows
+decreases-lay_rows g l = 5 * l.depth + 3
+
+abbrev pub invariant-lay_rows-loop-row : goal.invariant-lay_rows-loop-row
+invariant-lay_rows-loop-row g l = record {
+  next : l.next ≡ l.start.word + l.row * (l.words + l.slots);
+  fits : l.hole + (l.count - l.row) * (l.rows.words + l.rows.slots) ≤ 2 ^ 29;
+  ready : RowsReady (g.S.Space.message l.space) l.start.segment l.next l.words l.slots (l.count - l.row) l.depth l.rows.words l.rows.slots l.hole l.patch;
+  rest : (cs bs : Bodies) → RowsAt (g.S.Space.message l.space) l.words l.slots l.start.segment l.next cs → count_rows cs ≡ l.count - l.row
+      → RowsAt (g.S.Space.message l.space) l.words l.slots l.start.segment l.start.word bs → count_rows bs ≡ l.count
+      → laid_rows l.rows.words l.rows.slots cs l.hole l.patch ≡ laid_rows l.rows.words l.rows.slots bs l.rows.first l.initial.patch;
+}

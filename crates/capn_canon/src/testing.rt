@@ -1,0 +1,149 @@
+//! Whether an object's own words are those of its canonical layout.
+
+ghost use Rattle.std.specs.Prelude.{◌≡◌, ℕ, ◌+◌, ◌*◌, ◌/◌, ◌^◌, ◌<◌, ◌≤◌, IsTrue, ◌↔◌, [], ◌∷◌, length, take, drop, slice_index, pos};
+ghost use Rattle.capn_words.specs.Message.{IsMessage};
+ghost use Rattle.capn_words.specs.Fields.{word_of};
+ghost use Rattle.capn_words.specs.declared.pointer.Pointer.TheVariants.{Node};
+ghost use Rattle.capn_words.specs.declared.pointer.Width.TheVariants.{Rows};
+ghost use Rattle.capn_value.specs.Trim.{kept_words};
+ghost use Rattle.capn_walk.specs.At.{words_from};
+ghost use Rattle.capn_walk.specs.Target.{content_words};
+ghost use Rattle.capn_walk.specs.Walked.{IsContent, IsPlain};
+ghost use Rattle.capn_canon.specs.Layout.{struct_to, list_to};
+ghost use Rattle.capn_canon.specs.Bits.{element_bits, first_bits};
+ghost use Rattle.capn_canon.specs.RowWords.{kept_each};
+ghost use Rattle.capn_canon.specs.Stands.{Stand};
+
+use crate::kept::{kept_above, kept_in_rows};
+use crate::listing::bits_of;
+use crate::pointing::{list_pointer, struct_pointer};
+use crate::rows::tag_word;
+use capn_words::{Bare, Place, Space, Width};
+
+/// The number of words.
+pub fn words_of(space: &Bare<'_>) -> u32
+    ensures { result ≡ length space.now }
+{
+    space.words(0).unwrap_or(0)
+}
+
+/// The word at a place of the one segment.
+pub fn word_at(space: &Bare<'_>, word: u32) -> u64
+    requires { word < length space.now }
+    ensures { result ≡ slice_index space.now word }
+{
+    space.word(Place { segment: 0, word })
+}
+
+/// Whether a struct keeps all its words and slots, its pointer is the one to the next free word, and there
+/// is room for it.
+pub fn is_struct_at(
+    space: &Bare<'_>,
+    start: Place,
+    words: u16,
+    slots: u16,
+    from: u32,
+    next: u32,
+) -> bool
+    requires message { IsMessage (space.now ∷ []) }
+    requires content { IsContent (space.now ∷ []) start (words + slots) }
+    requires place { from < length space.now }
+    requires order { from < next }
+    requires room { next ≤ 2 ^ 29 }
+    ensures { IsTrue result ↔ (
+        (kept_words (take words (words_from (space.now ∷ []) start.segment start.word)) ≡ words)
+        × (kept_words (take slots (words_from (space.now ∷ []) start.segment (start.word + words))) ≡ slots)
+        × (slice_index space.now from ≡ struct_to from next words slots)
+        × (next + (words + slots) ≤ length space.now)) }
+{
+    let below = Place {
+        segment: start.segment,
+        word: start.word + words as u32,
+    };
+    let kept = kept_above(space, start, words as u32, 0);
+    let count = kept_above(space, below, slots as u32, 0);
+    let word = struct_pointer(from as usize, next as usize, words as usize, slots as usize);
+    let end = next + words as u32 + slots as u32;
+    kept == words as u32
+        && count == slots as u32
+        && word_at(space, from) == word
+        && end <= words_of(space)
+}
+
+/// Whether the pointer to a list is the one to the next free word, and there is room for so many words.
+pub fn is_list_at(
+    space: &Bare<'_>,
+    width: Width,
+    count: u32,
+    words: u32,
+    from: u32,
+    next: u32,
+) -> bool
+    requires message { IsMessage (space.now ∷ []) }
+    requires few { count < 2 ^ 29 }
+    requires short { words ≤ 2 ^ 30 }
+    requires place { from < length space.now }
+    requires order { from < next }
+    requires room { next ≤ 2 ^ 29 }
+    ensures { IsTrue result ↔ (
+        (slice_index space.now from ≡ list_to from next width count) × (next + words ≤ length space.now)) }
+{
+    let word = list_pointer(from as usize, next as usize, width, count as usize);
+    word_at(space, from) == word && next + words <= words_of(space)
+}
+
+/// Whether the bits past the first of the words from a place on are 0, up to a whole word.
+pub fn are_bits_at(space: &Bare<'_>, bits: u64, next: u32) -> bool
+    requires room { next + (bits + 63) / 64 ≤ length space.now }
+    requires few { bits < 2 ^ 36 }
+    requires place { next ≤ 2 ^ 29 }
+    ensures { IsTrue result ↔ Stand space.now next (first_bits bits (drop next space.now)) }
+{
+    let rest = bits % 64;
+    if rest == 0 {
+        return true;
+    }
+    let last = word_at(space, next + (bits / 64) as u32);
+    last == last % (1 << rest)
+}
+
+/// How many words and slots of each row are kept, where it is all of them, the tag says so, the pointer is
+/// the one to the next free word, and there is room for the rows.
+pub fn are_rows_at(
+    space: &Bare<'_>,
+    start: Place,
+    count: u32,
+    words: u16,
+    slots: u16,
+    from: u32,
+    next: u32,
+) -> bool
+    requires message { IsMessage (space.now ∷ []) }
+    requires content { IsContent (space.now ∷ []) start (count * (words + slots)) }
+    requires few { count < 2 ^ 29 }
+    requires span { count * (words + slots) < 2 ^ 29 }
+    requires place { from < length space.now }
+    requires order { from < next }
+    requires room { next ≤ 2 ^ 29 }
+    ensures { IsTrue result ↔ (
+        (kept_each (space.now ∷ []) start.segment start.word words (words + slots) count ≡ words)
+        × (kept_each (space.now ∷ []) start.segment (start.word + words) slots (words + slots) count ≡ slots)
+        × (slice_index space.now from ≡ list_to from next Rows (count * (words + slots)))
+        × (next + (1 + count * (words + slots)) ≤ length space.now)
+        × (slice_index space.now next ≡ word_of (Node (pos count) words slots))) }
+{
+    let step = words as u32 + slots as u32;
+    let kept = kept_in_rows(space, start, count, step, 0, words as u32);
+    if kept != words as u32 {
+        return false;
+    }
+    let holes = kept_in_rows(space, start, count, step, words as u32, slots as u32);
+    if holes != slots as u32 {
+        return false;
+    }
+    let size = count * step;
+    if !is_list_at(space, Width::Rows, size, 1 + size, from, next) {
+        return false;
+    }
+    word_at(space, next) == tag_word(count as usize, words as usize, slots as usize)
+}

@@ -1,0 +1,15 @@
+use Rattle.std.proofs.Common.{◌≡◌, ◌≤◌, ◌++◌, length, take}
+use Rattle.capn_stream.specs.Stages.{IsStage, parts_left}
+use Rattle.capn_stream.proofs.stage.fill.Given as goal
+
+-- the bytes of the piece so far stand behind those that were there
+abbrev pub invariant-parts : goal.invariant-parts
+invariant-parts g l = record {
+  inside : l.at ≤ length l.piece;
+  text : l.bytes.items ≡ l.fn.bytes.items ++ take l.at l.piece;
+  is : IsStage l.stage l.bytes.items l.most l.ends.items;
+}
+
+-- the parts behind the one that is waited for
+abbrev pub decreases-parts : goal.decreases-parts
+decreases-parts g l = parts_left l.stage

@@ -1,0 +1,88 @@
+-- How far the frame that comes in pieces is known.
+use Rattle.std.specs.Prelude.{◌≡◌, ◌⊎◌, ℕ, ◌<◌, ◌≤◌, List, ◌++◌, length, take, drop}
+use Rattle.capn_words.specs.Words.{AreBytes}
+use Rattle.capn_stream.specs.Cuts.{ends_from}
+use Rattle.capn_stream.specs.Frames.{most_segments}
+use Rattle.capn_stream.specs.Reading.{HasCount, HasHead, IsRefused, announced_segments, announced_words, entries, entry_number, frame_length, head_length}
+use Rattle.capn_stream.specs.declared.fault.FrameFault.{FrameFault}
+use Rattle.capn_stream.specs.declared.fault.FrameFault.TheVariants.{Memory, Empty, TooManySegments, TooManyWords, Cut, Failed}
+use Rattle.capn_stream.specs.declared.stage.Stage.{Stage}
+use Rattle.capn_stream.specs.declared.stage.Stage.TheVariants as stages
+
+-- how many bytes of the frame are there once the part is whole that is waited for
+abbrev pub need : Stage → ℕ
+need stages.Count = 4
+need (stages.Table segments) = head_length segments
+need (stages.Contents start end) = end
+
+-- where the segments but the last end that are announced
+abbrev pub announced_ends : List ℕ → List ℕ
+announced_ends bs = ends_from 0 (entries (entry_number bs) (drop 4 bs))
+
+-- the part that is waited for is told as the bytes announce it, and none before it was refused
+abbrev pub Knows : Stage → List ℕ → ℕ → List ℕ → Type 0
+Knows stages.Count bs most ends = Unit {0}
+Knows (stages.Table segments) bs most ends = HasCount bs × (segments ≡ announced_segments bs)
+Knows (stages.Contents start end) bs most ends =
+    HasHead bs × (announced_words bs ≤ most) × (start ≡ head_length (announced_segments bs)) × (end ≡ frame_length bs) × (ends ≡ announced_ends bs)
+
+-- so many segments may be announced
+abbrev pub FitsStage : Stage → Type 0
+FitsStage stages.Count = Unit {0}
+FitsStage (stages.Table segments) = segments ≤ most_segments
+FitsStage (stages.Contents start end) = Unit {0}
+
+-- and the bytes go no further than that part
+pub record IsStage (stage : Stage) (bs : List ℕ) (most : ℕ) (ends : List ℕ) : Type 0 where
+  pub below : AreBytes bs
+  pub knows : Knows stage bs most ends
+  pub within : length bs ≤ need stage
+
+-- all of the frame is there
+abbrev pub IsDone : Stage → List ℕ → Type 0
+IsDone stages.Count bs = ⊥
+IsDone (stages.Table segments) bs = ⊥
+IsDone (stages.Contents start end) bs = length bs ≡ end
+
+-- the part that is waited for is not there, unless it is the last
+abbrev pub Rests : Stage → List ℕ → Type 0
+Rests stage bs = (length bs < need stage) ⊎ IsDone stage bs
+
+-- bytes of a piece were added, no more than are needed, and fewer only where the piece ends
+pub record Extends (old piece : List ℕ) (end n : ℕ) (new : List ℕ) : Type 0 where
+  pub inside : n ≤ length piece
+  pub text : new ≡ old ++ take n piece
+  pub upto : length new ≤ end
+  pub below : AreBytes new
+  pub stops : length new < end → n ≡ length piece
+
+-- why a frame is refused before its contents are waited for
+abbrev pub IsStop : List ℕ → ℕ → FrameFault → Type 0
+IsStop bs most Memory = Unit {0}
+IsStop bs most Empty = ⊥
+IsStop bs most (TooManySegments n) = IsRefused bs most (TooManySegments n)
+IsStop bs most (TooManyWords n) = IsRefused bs most (TooManyWords n)
+IsStop bs most Cut = ⊥
+IsStop bs most Failed = ⊥
+
+-- the number of parts that are still waited for behind this one
+abbrev pub parts_left : Stage → ℕ
+parts_left stages.Count = 2
+parts_left (stages.Table segments) = 1
+parts_left (stages.Contents start end) = 0
+
+-- the table and its padding are there, and the contents are waited for
+pub record Tabled (bs : List ℕ) (most start end : ℕ) (ends : List ℕ) : Type 0 where
+  pub head : HasHead bs
+  pub room : announced_words bs ≤ most
+  pub begins : start ≡ head_length (announced_segments bs)
+  pub stops : end ≡ frame_length bs
+  pub cuts : ends ≡ announced_ends bs
+
+-- a piece was taken, whole or up to the end of the frame
+pub record Fills (old piece : List ℕ) (most n : ℕ) (new : List ℕ) (stage : Stage) (ends : List ℕ) : Type 0 where
+  pub inside : n ≤ length piece
+  pub text : new ≡ old ++ take n piece
+  pub is : IsStage stage new most ends
+  pub rests : Rests stage new
+  pub stops : (n ≡ length piece) ⊎ IsDone stage new

@@ -1,0 +1,126 @@
+//! Messages from a stream that comes in pieces.
+
+ghost use Rattle.std.specs.Prelude.{◌≡◌, ℕ, ◌+◌, ◌^◌, ◌<◌, ◌≤◌, ◌++◌, List, [], length, false};
+ghost use Rattle.capn_stream.specs.Framing.{FeedGives, FinishGives, IsFrame, IsUnfinished, TakeGives};
+ghost use Rattle.capn_stream.specs.Receiving.{most_bytes};
+
+use crate::fault::FrameFault;
+use crate::owned::Stored;
+use crate::stage::{Stage, fill, part_left};
+use std::alloc::{Allocator, Global};
+use std::marker::Model;
+use std::mem;
+
+/// Takes messages from a stream that comes in pieces, cut anywhere (own).
+///
+/// It keeps the bytes that came since the last message was taken, and beside them what their table has told, so that no
+/// byte is looked at twice. It grows with bytes that came, never by what a table announces. After any refusal each later
+/// `feed` and `finish` answers `Failed`, and `take` answers None.
+#[derive(Drop)]
+pub struct Framer<A: Allocator + Copy = Global> {
+    alloc: A,
+    frame: Vec<u8, A>,
+    ends: Vec<u32, A>,
+    stage: Stage,
+    max_words: u32,
+    failed: bool,
+}
+
+impl<A: Allocator + Copy> Model for Framer<A> {
+    ghost use Rattle.capn_stream.specs.Framing.{Framing, IsFramer};
+
+    ghost Value = { Framing };
+
+    ghost view = { λ f. record { rest = f.frame.items; most = f.max_words; failed = f.failed } };
+
+    ghost invariant = { λ f. IsFramer f.frame.items f.ends.items f.stage f.max_words f.failed };
+}
+
+impl<A: Allocator + Copy> Framer<A> {
+    /// At the beginning of a stream, for messages of at most so many words. It takes no memory.
+    pub fn new(alloc: A, max_words: u32) -> Framer<A>
+        requires { max_words ≤ 2 ^ 28 }
+        ensures { result ≡ record { rest = []; most = max_words; failed = false } }
+    {
+        Framer {
+            alloc,
+            frame: Vec::new(alloc),
+            ends: Vec::new(alloc),
+            stage: Stage::Count,
+            max_words,
+            failed: false,
+        }
+    }
+
+    /// Takes bytes of the piece until a message is whole or the piece ends, and answers how many.
+    ///
+    /// While a message waits it takes none. Refusals: `TooManySegments` once the count is there, `TooManyWords` once the
+    /// table and its padding are there, `Memory` where a growth was refused, `Failed` after an earlier refusal.
+    pub fn feed(&mut self, piece: &[u8]) -> Result<usize, FrameFault>
+        ensures { FeedGives self.old piece.now result self.new }
+    {
+        if self.failed {
+            return Err(FrameFault::Failed);
+        }
+        let fed = fill(
+            self.alloc,
+            &mut self.frame,
+            &mut self.ends,
+            &mut self.stage,
+            piece,
+            self.max_words,
+        );
+        self.failed = fed.is_err();
+        fed
+    }
+
+    /// How many bytes the part needs that is waited for: no message is whole before so many more have come.
+    pub(crate) fn wanted(&self) -> usize
+        requires { self.now.failed ≡ false }
+        ensures least { (more : List ℕ) → IsFrame (self.now.rest ++ more) self.now.most → result ≤ length more }
+        ensures some { IsUnfinished self.now.rest self.now.most → 0 < result }
+        ensures bound { length self.now.rest + result ≤ most_bytes self.now.most }
+    {
+        part_left(self.stage, &self.frame)
+    }
+
+    /// The message that waits, if one does, once. It takes no memory: the bytes are moved.
+    pub fn take(&mut self) -> Option<Stored<A>>
+        ensures { TakeGives self.old result self.new }
+    {
+        if self.failed {
+            return None;
+        }
+        match self.stage {
+            Stage::Contents(start, end) if end == self.frame.len() => {
+                let frame = mem::replace(&mut self.frame, Vec::new(self.alloc));
+                let ends = mem::replace(&mut self.ends, Vec::new(self.alloc));
+                self.stage = Stage::Count;
+                Some(Stored::new(frame, start, ends))
+            }
+            _ => None,
+        }
+    }
+
+    /// The end of the stream.
+    ///
+    /// `Cut` if a message has begun and is not whole, `Failed` after an earlier refusal. After Ok the stream may go on. It
+    /// takes no memory.
+    pub fn finish(&mut self) -> Result<(), FrameFault>
+        ensures { FinishGives self.old result self.new }
+    {
+        if self.failed {
+            return Err(FrameFault::Failed);
+        }
+        match self.stage {
+            Stage::Contents(_, end) if end == self.frame.len() => Ok(()),
+            _ => {
+                if self.frame.is_empty() {
+                    return Ok(());
+                }
+                self.failed = true;
+                Err(FrameFault::Cut)
+            }
+        }
+    }
+}

@@ -1,0 +1,90 @@
+//! The next message of a reader.
+
+ghost use Rattle.std.specs.Prelude.{◌≡◌, ℕ, ◌^◌, ◌≤◌, ◌++◌, List, length, false, IfSome};
+ghost use Rattle.capn_words.specs.Watching.{has_failed, inner_of};
+ghost use Rattle.capn_stream.specs.Framing.{IsFrame, IsUnfinished};
+ghost use Rattle.capn_stream.specs.Receiving.{EndGives, OnlyFirst, ReadGives, ReadsFirst, TakesIn};
+
+use crate::fault::{FrameFault, ReadFault};
+use crate::feeding::Framer;
+use crate::owned::Stored;
+use capn_words::Watched;
+use std::alloc::Allocator;
+use std::io::Read;
+
+/// The most bytes that one call of a reader is asked for.
+const PIECE: usize = 16_384;
+
+/// Takes bytes of which the part that is waited for needs all, and then the message that waits, if one does.
+fn take_in<A: Allocator + Copy>(
+    framer: &mut Framer<A>,
+    piece: &[u8],
+) -> Result<Option<Stored<A>>, ReadFault>
+    requires good { framer.old.failed ≡ false }
+    requires needed { (more : List ℕ) → IsFrame (framer.old.rest ++ more) framer.old.most → length piece.now ≤ length more }
+    ensures { TakesIn framer.old piece.now result framer.new }
+{
+    match framer.feed(piece) {
+        Ok(_) => Ok(framer.take()),
+        Err(FrameFault::Memory) => Err(ReadFault::Memory),
+        Err(fault) => Err(ReadFault::Frame(fault)),
+    }
+}
+
+/// How a read ends that found the end of the input.
+fn end_of<A: Allocator + Copy>(mut framer: Framer<A>) -> Result<Option<Stored<A>>, ReadFault>
+    requires good { framer.failed ≡ false }
+    requires part { IsUnfinished framer.rest framer.most }
+    ensures { EndGives framer.rest framer.most result }
+{
+    match framer.finish() {
+        Ok(()) => Ok(None),
+        Err(fault) => Err(ReadFault::Frame(fault)),
+    }
+}
+
+/// Reads the next message: its bytes and no others, in pieces.
+fn receive<R: Read, A: Allocator + Copy>(
+    alloc: A,
+    reader: &mut Watched<R>,
+    max_words: u32,
+) -> Result<Option<Stored<A>>, ReadFault>
+    requires small { max_words ≤ 2 ^ 28 }
+    requires fine { has_failed reader.old ≡ false }
+    ensures gives { ReadGives (R.remaining (inner_of reader.old)) (R.remaining (inner_of reader.new)) (has_failed reader.new) max_words result }
+{
+    let mut framer = Framer::new(alloc, max_words);
+    let mut piece = [0; PIECE];
+    'pieces: loop {
+        let wanted = framer.wanted().min(PIECE);
+        match reader.read(&mut piece[..wanted]) {
+            Err(_) => return Err(ReadFault::Io),
+            Ok(0) => return end_of(framer),
+            Ok(count) => {
+                if let Some(message) = take_in(&mut framer, &piece[..count])? {
+                    return Ok(Some(message));
+                }
+            }
+        }
+    }
+}
+
+/// The next message of a reader, of at most so many words: its bytes and no others are taken, in pieces of at most 16,384.
+///
+/// None exactly where the input ends between messages. Refusals: `Memory` where a growth was refused; `Io` exactly where
+/// the reader fails; `Frame` with `TooManySegments`, `TooManyWords` or `Cut`, and then the reader stands inside the message.
+pub fn read_message<R: Read, A: Allocator + Copy>(
+    alloc: A,
+    reader: &mut Watched<R>,
+    max_words: u32,
+) -> Result<Option<Stored<A>>, ReadFault>
+    requires small { max_words ≤ 2 ^ 28 }
+    requires fine { has_failed reader.old ≡ false }
+    // What it answers, of all that the reader had to give; and that a message that stands first is answered.
+    ensures exact { IfSome (R.remaining (inner_of reader.old)) (ReadsFirst max_words result) }
+    ensures only { IfSome (R.remaining (inner_of reader.old)) (OnlyFirst max_words result) }
+    // It takes the bytes of that message and no others, and tells a failed reader.
+    ensures gives { ReadGives (R.remaining (inner_of reader.old)) (R.remaining (inner_of reader.new)) (has_failed reader.new) max_words result }
+{
+    receive(alloc, reader, max_words)
+}

@@ -1,0 +1,77 @@
+//! A message to a writer.
+
+ghost use Rattle.std.specs.Prelude.{◌≡◌, ◌↔◌, ◌+◌, ◌-◌, ◌*◌, ◌<◌, ◌≤◌, ◌++◌, length, take, true, false, OnOk, IsErr};
+ghost use Rattle.std.specs.Io.KnownBytes.{Appends};
+ghost use Rattle.capn_words.specs.Watching.{HasBegun, has_failed, inner_of};
+ghost use Rattle.capn_stream.specs.Frames.{entry, frame_text};
+ghost use Rattle.capn_stream.specs.Sending.{head_text};
+
+use crate::fault::Io;
+use crate::table::head_of;
+use crate::writing::bytes_of;
+use capn_words::Watched;
+use capn_words::space::Space;
+use std::io::Write;
+
+/// The most bytes of a table and its padding.
+const HEAD: usize = 2_056;
+
+/// Copies bytes to a place.
+fn put(head: &mut [u8], at: usize, bytes: &[u8])
+    requires { at + length bytes.now ≤ length head.old }
+    ensures front { take at head.new ≡ take at head.old }
+    ensures joined { take (at + length bytes.now) head.new ≡ take at head.old ++ bytes.now }
+{
+    let end = at + bytes.len();
+    head[at..end].copy_from_slice(bytes);
+}
+
+/// Puts a number as its 4 bytes.
+#[tactic(auto, unfolding(crate::specs::Frames::entry))]
+fn put_entry(head: &mut [u8], at: usize, number: u32)
+    requires { at + 4 ≤ length head.old }
+    ensures { take (at + 4) head.new ≡ take at head.old ++ entry number }
+{
+    put(head, at, &number.to_le_bytes());
+}
+
+/// Puts the table of a message, and its padding of zeros, and answers how many bytes they are.
+fn put_head<S: Space>(head: &mut [u8], space: &S) -> usize
+    requires { length head.old ≡ HEAD }
+    ensures inside { result ≤ HEAD }
+    ensures text { take result head.new ≡ head_text (S.message space.now) }
+{
+    let segments = space.segments();
+    put_entry(head, 0, segments - 1);
+    let mut at = 4;
+    for segment in 0..segments {
+        put_entry(head, at, space.words(segment).unwrap_or(0));
+        at += 4;
+    }
+    if segments % 2 == 0 {
+        put(head, at, &[0; 4]);
+        at += 4;
+    }
+    at
+}
+
+/// Writes the frame of a message: its table, padding of zeros, and its contents.
+///
+/// `Io` exactly where the writer fails, and then a beginning of the frame was written. It takes no memory.
+pub fn write_message<W: Write, S: Space>(writer: &mut Watched<W>, space: &S) -> Result<(), Io>
+    requires { has_failed writer.old ≡ false }
+    ensures ok { OnOk result (Appends (W.contents (inner_of writer.old)) (W.contents (inner_of writer.new))
+        (frame_text (S.message space.now))) }
+    ensures begun { HasBegun (W.contents (inner_of writer.old)) (W.contents (inner_of writer.new)) (frame_text (S.message space.now)) }
+    ensures io { IsErr result ↔ (has_failed writer.new ≡ true) }
+{
+    let mut head = [0; HEAD];
+    let len = put_head(&mut head, space);
+    writer.write_all(&head[..len])?;
+    for segment in 0..space.segments() {
+        if let Some(words) = space.words(segment) {
+            writer.write_all(bytes_of(space, segment, words))?;
+        }
+    }
+    Ok(())
+}

@@ -1,0 +1,144 @@
+//! How far the frame that comes in pieces is known.
+
+ghost use Rattle.std.specs.Prelude.{◌≡◌, ℕ, ◌+◌, ◌-◌, ◌*◌, ◌^◌, ◌<◌, ◌≤◌, ◌++◌, length, drop, IfOk, IfErr};
+ghost use Rattle.capn_words.specs.Words.{AreBytes};
+ghost use Rattle.capn_stream.specs.Frames.{most_segments};
+ghost use Rattle.capn_stream.specs.Reading.{HasCount, announced_segments, head_length};
+ghost use Rattle.capn_stream.specs.Stages as spec;
+ghost use Rattle.capn_stream.specs.Stages.{Extends, Fills, FitsStage, IsStage, IsStop, Tabled};
+ghost use Rattle.capn_stream.specs.declared.fault.FrameFault.TheVariants as faults;
+
+use crate::fault::FrameFault;
+use crate::table::{MOST_SEGMENTS, ends_of, entry_at, head_of, total_of};
+use std::alloc::{AllocError, Allocator, Global};
+
+/// Which part of a frame is waited for.
+#[derive(Clone, Copy, Debug)]
+pub(crate) enum Stage {
+    /// The count of segments.
+    Count,
+    /// The table of so many segments, and its padding.
+    Table(usize),
+    /// The contents, which begin at a byte of the frame and end at another, with the frame.
+    Contents(usize, usize),
+}
+
+/// How many bytes of the frame are there once that part is whole.
+fn end_of(stage: Stage) -> usize
+    requires { FitsStage stage }
+    ensures { result ≡ spec.need stage }
+{
+    match stage {
+        Stage::Count => 4,
+        Stage::Table(segments) => head_of(segments),
+        Stage::Contents(_, end) => end,
+    }
+}
+
+/// How many bytes that part still needs.
+pub(crate) fn part_left(stage: Stage, bytes: &[u8]) -> usize
+    requires fits { FitsStage stage }
+    requires within { length bytes.now ≤ spec.need stage }
+    ensures { result ≡ spec.need stage - length bytes.now }
+{
+    end_of(stage) - bytes.len()
+}
+
+/// Adds bytes of the piece until there are so many, and answers how many it took.
+fn fill_to<A: Allocator>(
+    bytes: &mut Vec<u8, A>,
+    piece: &[u8],
+    end: usize,
+) -> Result<usize, AllocError>
+    requires within { length bytes.old.items ≤ end }
+    requires below { AreBytes bytes.old.items }
+    ensures { IfOk result (λ n. Extends bytes.old.items piece.now end n bytes.new.items) }
+{
+    let count = (end - bytes.len()).min(piece.len());
+    bytes.extend_from_slice(&piece[..count])?;
+    Ok(count)
+}
+
+/// How many segments are announced.
+fn read_count(bytes: &[u8]) -> Result<usize, FrameFault>
+    requires { length bytes.now ≡ 4 }
+    ensures counted { IfOk result (λ n. HasCount bytes.now × (n ≡ announced_segments bytes.now)) }
+    ensures refused { IfErr result (λ e. (e ≡ faults.TooManySegments (announced_segments bytes.now))
+        × (most_segments < announced_segments bytes.now)) }
+{
+    let count = entry_at(bytes, 0) as u64 + 1;
+    if count > MOST_SEGMENTS {
+        return Err(FrameFault::TooManySegments(count));
+    }
+    Ok(count as usize)
+}
+
+/// Where the contents begin and end, and where the segments end within them.
+#[derive(Drop)]
+struct Bounds<A: Allocator = Global> {
+    start: usize,
+    end: usize,
+    ends: Vec<u32, A>,
+}
+
+/// What the table announces.
+fn read_table<A: Allocator>(
+    alloc: A,
+    bytes: &[u8],
+    segments: usize,
+    most: u32,
+) -> Result<Bounds<A>, FrameFault>
+    requires small { most ≤ 2 ^ 28 }
+    requires count { HasCount bytes.now × (segments ≡ announced_segments bytes.now) }
+    requires here { length bytes.now ≡ head_length segments }
+    ensures tabled { IfOk result (λ b. Tabled bytes.now most b.start b.end b.ends.items) }
+    ensures refused { IfErr result (λ e. IsStop bytes.now most e) }
+{
+    let words = total_of(&bytes[4..], segments);
+    if words > most as u64 {
+        return Err(FrameFault::TooManyWords(words));
+    }
+    let ends = ends_of(alloc, &bytes[4..], segments - 1)?;
+    let start = head_of(segments);
+    Ok(Bounds {
+        start,
+        end: start + 8 * words as usize,
+        ends,
+    })
+}
+
+/// Takes bytes of a piece until the frame is whole or the piece ends, and answers how many.
+pub(crate) fn fill<A: Allocator + Copy>(
+    alloc: A,
+    bytes: &mut Vec<u8, A>,
+    ends: &mut Vec<u32, A>,
+    stage: &mut Stage,
+    piece: &[u8],
+    most: u32,
+) -> Result<usize, FrameFault>
+    requires small { most ≤ 2 ^ 28 }
+    requires is { IsStage stage.old bytes.old.items most ends.old.items }
+    ensures filled { IfOk result (λ n. Fills bytes.old.items piece.now most n bytes.new.items stage.new ends.new.items) }
+    ensures refused { IfErr result (λ e. IsStop (bytes.old.items ++ piece.now) most e) }
+{
+    let mut at = 0;
+    'parts: loop {
+        let end = end_of(*stage);
+        at += fill_to(bytes, &piece[at..], end)?;
+        if bytes.len() < end {
+            return Ok(at);
+        }
+        match *stage {
+            Stage::Count => {
+                let segments = read_count(bytes)?;
+                *stage = Stage::Table(segments);
+            }
+            Stage::Table(segments) => {
+                let bounds = read_table(alloc, bytes, segments, most)?;
+                *ends = bounds.ends;
+                *stage = Stage::Contents(bounds.start, bounds.end);
+            }
+            Stage::Contents(_, _) => return Ok(at),
+        }
+    }
+}

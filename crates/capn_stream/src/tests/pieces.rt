@@ -1,0 +1,96 @@
+//! Frames that come in pieces, and over readers and writers.
+
+use super::{FAR_POINTER, MOST, segment_of, word_at};
+use crate::{FrameFault, Framer, ReadFault, frame, read_message, write_message};
+use capn_words::Watched;
+use capn_words::space::Space;
+
+#[test]
+fn takes_two_messages_of_one_piece(rt: HostRuntime) {
+    let mut twice = [0; 80];
+    for (index, byte) in FAR_POINTER.iter().enumerate() {
+        twice[index] = *byte;
+        twice[index + 40] = *byte;
+    }
+    let mut framer = Framer::new(rt.alloc(), MOST);
+    assert_eq!(rt; framer.feed(&twice), Ok(40));
+    assert_eq!(rt; framer.feed(&twice[40..]), Ok(0));
+    match framer.take() {
+        None => assert!(rt; false, "no message waits"),
+        Some(message) => {
+            assert_eq!(rt; message.segments(), 2);
+            assert_eq!(rt; word_at(&message, 1, 1), Some(5));
+            assert_eq!(rt; word_at(&message, 1, 2), None);
+            assert_eq!(rt; segment_of(&message, 1), Some(&FAR_POINTER[24..]));
+            match frame(rt.alloc(), &message) {
+                Err(_) => assert!(rt; false, "no memory"),
+                Ok(text) => assert_eq!(rt; text.as_slice(), FAR_POINTER.as_slice()),
+            }
+        }
+    }
+    assert!(rt; framer.take().is_none());
+    assert_eq!(rt; framer.feed(&twice[40..]), Ok(40));
+    assert_eq!(rt; framer.finish(), Ok(()));
+    assert!(rt; framer.take().is_some());
+    assert_eq!(rt; framer.finish(), Ok(()));
+}
+
+#[test]
+fn refuses_at_the_byte_that_tells(rt: HostRuntime) {
+    let many = [0, 2, 0, 0];
+    let long = [0, 0, 0, 0, 0xff, 0xff, 0xff, 0xff];
+    for (bytes, want) in [
+        (&many[..], FrameFault::TooManySegments(513)),
+        (&long[..], FrameFault::TooManyWords(4_294_967_295)),
+    ] {
+        let mut framer = Framer::new(rt.alloc(), MOST);
+        for (index, byte) in bytes.iter().enumerate() {
+            let fed = framer.feed(&[*byte]);
+            if index + 1 < bytes.len() {
+                assert_eq!(rt; fed, Ok(1));
+            } else {
+                assert_eq!(rt; fed, Err(want));
+            }
+        }
+        assert_eq!(rt; framer.feed(&[0]), Err(FrameFault::Failed));
+        assert_eq!(rt; framer.finish(), Err(FrameFault::Failed));
+        assert!(rt; framer.take().is_none());
+    }
+}
+
+#[test]
+fn takes_a_message_byte_by_byte(rt: HostRuntime) {
+    let mut framer = Framer::new(rt.alloc(), MOST);
+    for (index, byte) in FAR_POINTER.iter().enumerate() {
+        assert!(rt; framer.take().is_none(), "at {index} bytes");
+        assert_eq!(rt; framer.feed(&[*byte]), Ok(1));
+    }
+    assert!(rt; framer.take().is_some());
+    assert_eq!(rt; framer.feed(&[1]), Ok(1));
+    assert_eq!(rt; framer.finish(), Err(FrameFault::Cut));
+    assert_eq!(rt; framer.finish(), Err(FrameFault::Failed));
+}
+
+#[test]
+fn reads_and_writes_a_message(rt: HostRuntime) {
+    let mut input = Vec::new(rt.alloc());
+    assert!(rt; input.extend_from_slice(&FAR_POINTER).is_ok());
+    assert!(rt; input.extend_from_slice(&[9]).is_ok());
+    let mut reader = Watched::new(input.as_slice());
+    match read_message(rt.alloc(), &mut reader, MOST) {
+        Ok(Some(message)) => {
+            let mut writer = Watched::new(Vec::new(rt.alloc()));
+            assert_eq!(rt; write_message(&mut writer, &message), Ok(()));
+            assert_eq!(rt; writer.into_inner().as_slice(), FAR_POINTER.as_slice());
+        }
+        _ => assert!(rt; false, "no message"),
+    }
+    match read_message(rt.alloc(), &mut reader, MOST) {
+        Err(fault) => assert_eq!(rt; fault, ReadFault::Frame(FrameFault::Cut)),
+        Ok(_) => assert!(rt; false, "one byte is a message"),
+    }
+    match read_message(rt.alloc(), &mut reader, MOST) {
+        Ok(None) => {}
+        _ => assert!(rt; false, "the end is no end"),
+    }
+}

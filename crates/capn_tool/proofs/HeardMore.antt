@@ -1,0 +1,205 @@
+-- A stream of messages that is read in pieces: more of it, and where a run stops.
+use Rattle.std.proofs.Common.{◌≡◌, ◌≢◌, ◌⊎◌, inl, inr, ◌↔◌, ℕ, ◌+◌, ◌-◌, ◌<◌, ◌≤◌, List, [], ◌∷◌, ◌++◌, length, take, drop, Bool, true, false, Option, None, Some, Result, Ok, Err, refl, ap, sym, subst, ◌∙◌, append-nil, append_assoc, arith, length-append, length-take}
+use Rattle.std.proofs.Math.Seq.{take-append-add}
+use Rattle.std.proofs.lemmas.List.{take_at, take-append-drop}
+use Rattle.std.proofs.lemmas.Grind.{flat_map-append}
+use Rattle.std.specs.List.{AllByRecursion}
+use Rattle.std.specs.Io.KnownBytes.{Appends}
+use Rattle.std.proofs.KnownBytes.{Appends-nil, Appends-trans}
+use Rattle.capn_words.specs.Message.{total}
+use Rattle.capn_walk.specs.Limits.{Bounds}
+use Rattle.capn_stream.specs.Frames.{Frames, StandsFirst}
+use Rattle.capn_stream.specs.Framing.{FeedGives, Feeds, Framing, IsFrame, IsUnfinished, TakeGives}
+use Rattle.capn_stream.specs.Reading as frames
+use Rattle.capn_stream.specs.Stages.{IsStop}
+use Rattle.capn_stream.specs.declared.fault.FrameFault.{FrameFault}
+use Rattle.capn_stream.specs.declared.fault.FrameFault.TheVariants as frame_faults
+use Rattle.capn_stream.proofs.Longer.{IsStop-append}
+use Rattle.capn_stream.proofs.Wanting.{unfinished_frame}
+use Rattle.capn_canon.specs.declared.refusal.Refusal.TheVariants as refusals
+use Rattle.capn_tool.specs.Pieces.{IsPiece, IsNoPiece}
+use Rattle.capn_tool.specs.Streams.{Part, IsPart, AreParts, frame_of, text_of, frames_of, texts_of, end_of, IsDueEach}
+use Rattle.capn_tool.specs.Served.{WritesPiece}
+use Rattle.capn_tool.specs.Heard.{Tells, TellsFront, IsDueSo, Stops, Serves, ServesNext}
+use Rattle.capn_tool.specs.declared.plan.Piece.{Piece}
+use Rattle.capn_tool.specs.declared.fault.ToolFault.{ToolFault}
+use Rattle.capn_tool.specs.declared.fault.ToolFault.TheVariants as faults
+use Rattle.capn_tool.proofs.WholeServed.{IsTold, told_memory, told_piece, told_refused}
+
+pub every_append : {X : Type 0} (P : X → Type 0) (xs ys : List X) → AllByRecursion P xs → AllByRecursion P ys → AllByRecursion P (xs ++ ys)
+every_append P [] ys f g = g
+every_append P (x ∷ xs) ys f g = (f.0, every_append P xs ys f.1 g)
+
+module _ (piece : Piece) (limits : Bounds) where
+  -- parts of a stream, and parts of what was left of it with more behind it
+  pub parts_more : (s mid x rest : List ℕ) (ps qs : List Part) → AreParts piece limits s ps mid → AreParts piece limits (mid ++ x) qs rest → AreParts piece limits (s ++ x) (ps ++ qs) rest
+  parts_more s mid x rest ps qs f g = record {
+    each = every_append (IsPart piece limits) ps qs f.each g.each;
+    is =
+        ap (λ (p : List ℕ). p ++ x) f.is
+        ∙ append_assoc (frames_of ps) mid x
+        ∙ ap (λ (p : List ℕ). frames_of ps ++ p) g.is
+        ∙ sym (append_assoc (frames_of ps) (frames_of qs) rest)
+        ∙ ap (λ (p : List ℕ). p ++ rest) (sym (flat_map-append frame_of ps qs));
+  }
+
+  texts_more : (a b c : Option (List ℕ)) (ps qs : List Part) → Appends a b (texts_of ps) → Appends b c (texts_of qs) → Appends a c (texts_of (ps ++ qs))
+  texts_more a b c ps qs f g = subst (Appends a c) (sym (flat_map-append text_of ps qs)) (Appends-trans a b c (texts_of ps) (texts_of qs) f g)
+
+  -- nothing was written, and all is left
+  pub tells_none : (stream : List ℕ) (a : Option (List ℕ)) → Tells piece limits stream stream a a
+  tells_none stream a = ([], record { each = tt; is = refl }, Appends-nil a)
+
+  pub tells_more : (s mid x rest : List ℕ) (a b c : Option (List ℕ)) → Tells piece limits s mid a b → Tells piece limits (mid ++ x) rest b c → Tells piece limits (s ++ x) rest a c
+  tells_more s mid x rest a b c f g = (f.0 ++ g.0, parts_more s mid x rest f.0 g.0 f.1 g.1, texts_more a b c f.0 g.0 f.2 g.2)
+
+  -- a message and its piece
+  pub tells_one : (frame : List ℕ) (message : List (List ℕ)) (text : List ℕ) (a b : Option (List ℕ)) → Frames frame message → total message ≤ limits.message_words → IsPiece piece message limits text → Appends a b text
+      → Tells piece limits frame [] a b
+  tells_one frame message text a b is room p wrote = (
+    (record { frame = frame; message = message; text = text }) ∷ [],
+    record {
+      each = (record { frame = is; room = room; text = p }, tt);
+      is = sym (append-nil (frame ++ []) ∙ append-nil frame);
+    },
+    subst (Appends a b) (sym (append-nil text)) wrote,
+  )
+
+  -- what is due behind the parts of a stream is due behind them in all of it
+  pub due_behind : (s mid x : List ℕ) (a b c : Option (List ℕ)) (behind : Option ToolFault) (ending : Result (Unit {0}) ToolFault) → Tells piece limits s mid a b
+      → (text : List ℕ) × IsDueEach piece limits (mid ++ x) behind text ending × Appends b c text → (text : List ℕ) × IsDueEach piece limits (s ++ x) behind text ending × Appends a c text
+  due_behind s mid x a b c behind ending told (text, due, wrote) = (
+    texts_of (told.0 ++ due.parts),
+    record {
+      parts = told.0 ++ due.parts;
+      rest = due.rest;
+      are = parts_more s mid x due.rest told.0 due.parts told.1 due.are;
+      joined = refl;
+      ends = due.ends;
+    },
+    texts_more a b c told.0 due.parts told.2 (subst (Appends b c) due.joined wrote),
+  )
+
+  pub front_behind : (s mid x : List ℕ) (a b c : Option (List ℕ)) → Tells piece limits s mid a b → TellsFront piece limits (mid ++ x) b c → TellsFront piece limits (s ++ x) a c
+  front_behind s mid x a b c told (parts, rest, count, are, wrote) =
+      let both = flat_map-append text_of told.0 parts in
+      let front : texts_of told.0 ++ take count (texts_of parts) ≡ take (length (texts_of told.0) + count) (texts_of (told.0 ++ parts)) =
+      sym (take-append-add (texts_of told.0) (texts_of parts) count) ∙ ap (λ (p : List ℕ). take (length (texts_of told.0) + count) p) (sym both) in (
+        told.0 ++ parts,
+        rest,
+        length (texts_of told.0) + count,
+        parts_more s mid x rest told.0 parts told.1 are,
+        subst (Appends a c) front (Appends-trans a b c (texts_of told.0) (take count (texts_of parts)) told.2 wrote),
+      )
+
+  -- where a run stops behind the parts of a stream it stops in all of it
+  pub stops_more : (s mid x : List ℕ) (a b c : Option (List ℕ)) (failed : Bool) (fault : ToolFault) → Tells piece limits s mid a b → Stops piece limits (mid ++ x) b c failed fault → Stops piece limits (s ++ x) a c failed fault
+  stops_more s mid x a b c failed fault told stop = record {
+    written = front_behind s mid x a b c told stop.written;
+    io = stop.io;
+    known = stop.known;
+    due = elim stop.due [ inl m ↦ inl m | inr rest ↦ inr (elim rest [ inl i ↦ inl i | inr so ↦ inr (so_behind so) ]) ];
+  }
+    where
+      so_behind : IsDueSo piece limits (mid ++ x) b c fault → IsDueSo piece limits (s ++ x) a c fault
+      so_behind so more behind =
+          let same = append_assoc mid x more in
+          let part = subst (λ (p : List ℕ). (text : List ℕ) × IsDueEach piece limits p behind text (Err fault) × Appends b c text) same (so more behind) in
+          let all = due_behind s mid (x ++ more) a b c behind (Err fault) told part in
+          subst (λ (p : List ℕ). (text : List ℕ) × IsDueEach piece limits p behind text (Err fault) × Appends a c text) (sym (append_assoc s x more)) all
+
+  front_none : (stream : List ℕ) (a : Option (List ℕ)) → TellsFront piece limits stream a a
+  front_none stream a = ([], stream, 0, record { each = tt; is = refl }, Appends-nil a)
+
+  -- memory was refused
+  pub stops_memory : (stream : List ℕ) (a : Option (List ℕ)) (failed : Bool) → failed ≡ false → Stops piece limits stream a a failed faults.Memory
+  stops_memory stream a failed fine = record {
+    written = front_none stream a;
+    io = (λ h. absurd (cc), λ h. absurd (cc));
+    known = λ h. absurd (cc);
+    due = inl refl;
+  }
+
+  -- no frame can follow
+  pub stops_framed : (stream : List ℕ) (a : Option (List ℕ)) (failed : Bool) (e : FrameFault) → failed ≡ false → e ≢ frame_faults.Memory → IsStop stream limits.message_words e
+      → Stops piece limits stream a a failed (faults.Refused (refusals.Frame e))
+  stops_framed stream a failed e fine other stop = record {
+    written = front_none stream a;
+    io = (λ h. absurd (cc), λ h. absurd (cc));
+    known = λ h. absurd (cc);
+    due = inr (inr (λ more behind. ([], due more behind e other (IsStop-append stream more limits.message_words e stop), Appends-nil a)));
+  }
+    where
+      due : (more : List ℕ) (behind : Option ToolFault) (e : FrameFault) → e ≢ frame_faults.Memory → IsStop (stream ++ more) limits.message_words e
+          → IsDueEach piece limits (stream ++ more) behind [] (Err (faults.Refused (refusals.Frame e)))
+      due more behind frame_faults.Memory other stop = absurd (other refl)
+      due more behind frame_faults.Empty other stop = absurd stop
+      due more behind frame_faults.Cut other stop = absurd stop
+      due more behind frame_faults.Failed other stop = absurd stop
+      due more behind (frame_faults.TooManySegments n) other stop = record {
+        parts = [];
+        rest = stream ++ more;
+        are = record { each = tt; is = refl };
+        joined = refl;
+        ends = inl (frame_faults.TooManySegments n, other, stop, refl);
+      }
+      due more behind (frame_faults.TooManyWords n) other stop = record {
+        parts = [];
+        rest = stream ++ more;
+        are = record { each = tt; is = refl };
+        joined = refl;
+        ends = inl (frame_faults.TooManyWords n, other, stop, refl);
+      }
+
+  -- a frame stands first, whatever follows
+  stands_first : (frame more : List ℕ) (message : List (List ℕ)) → Frames frame message → total message ≤ limits.message_words → StandsFirst (frame ++ more) limits.message_words message (length frame)
+  stands_first frame more message is room = record {
+    inside = omega (arith, length-append frame more);
+    frame = subst (λ (p : List ℕ). Frames p message) (sym (take_at frame more (length frame) refl)) is;
+    room = room;
+  }
+
+  -- a message has no piece, or the writer failed
+  pub stops_piece : (frame x : List ℕ) (message : List (List ℕ)) (a b : Option (List ℕ)) (failed : Bool) (fault : ToolFault) → Frames frame message → total message ≤ limits.message_words
+      → WritesPiece piece message limits a b failed (Err fault) → Stops piece limits (frame ++ x) a b failed fault
+  stops_piece frame x message a b failed fault is room (inl (why, kept, fine)) = record {
+    written = ([], frame ++ x, 0, record { each = tt; is = refl }, kept);
+    io = (λ h. absurd (told.no_io h), λ h. absurd (cc));
+    known = λ h. told.no_later h;
+    due = elim why [ inl m ↦ inl m | inr n ↦ inr (inr (λ more behind. ([], due n more behind, kept))) ];
+  }
+    where
+      told : IsTold fault
+      told = elim why [ inl m ↦ told_memory fault m | inr n ↦ told_piece piece message limits fault n ]
+
+      due : IsNoPiece piece message limits fault → (more : List ℕ) (behind : Option ToolFault) → IsDueEach piece limits ((frame ++ x) ++ more) behind [] (Err fault)
+      due n more behind = record {
+        parts = [];
+        rest = (frame ++ x) ++ more;
+        are = record { each = tt; is = refl };
+        joined = refl;
+        ends =
+            inr (
+              message,
+              length frame,
+              fault,
+              subst (λ (p : List ℕ). StandsFirst p limits.message_words message (length frame)) (sym (append_assoc frame x more)) (stands_first frame (x ++ more) message is room),
+              n,
+              refl,
+            );
+      }
+  stops_piece frame x message a b failed fault is room (inr (text, count, is_io, broken, p, wrote)) = record {
+    written = (
+      (record { frame = frame; message = message; text = text }) ∷ [],
+      x,
+      count,
+      record {
+        each = (record { frame = is; room = room; text = p }, tt);
+        is = ap (λ (q : List ℕ). q ++ x) (sym (append-nil frame));
+      },
+      subst (λ (q : List ℕ). Appends a b (take count q)) (sym (append-nil text)) wrote,
+    );
+    io = (λ h. broken, λ h. is_io);
+    known = λ h. absurd (cc);
+    due = inr (inl is_io);
+  }

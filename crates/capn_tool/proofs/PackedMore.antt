@@ -1,0 +1,148 @@
+-- A packed stream that is read in pieces: more of it.
+use Rattle.std.proofs.Common.{◌≡◌, inl, inr, ℕ, ◌+◌, ◌-◌, ◌<◌, ◌≤◌, ◌^◌, min, List, [], ◌∷◌, ◌++◌, length, take, drop, Bool, true, false, Option, Result, Ok, Err, refl, ap, sym, subst, ◌∙◌, append_assoc, append-nil, arith, length-append}
+use Rattle.std.proofs.lemmas.List.{take-append-drop}
+use Rattle.std.proofs.Math.Seq.{take-add}
+use Rattle.std.proofs.lemmas.Grind.{flat_map-append}
+use Rattle.capn_walk.specs.Limits.{Bounds}
+use Rattle.capn_pack.specs.Group.{IsGroup, text, content}
+use Rattle.capn_pack.specs.Packs.{texts, contents}
+use Rattle.capn_pack.specs.Stream.{Begins, Feeds, Held, NoGroupFirst, Splits, advanced}
+use Rattle.capn_tool.specs.Heard.{Stops, Tells}
+use Rattle.capn_tool.specs.HeardPacked.{StopsPacked, TellsPacked}
+use Rattle.capn_tool.specs.declared.plan.Piece.{Piece}
+use Rattle.capn_tool.specs.declared.fault.ToolFault.{ToolFault}
+use Rattle.capn_tool.specs.declared.fault.ToolFault.TheVariants as faults
+use Rattle.capn_tool.proofs.HeardMore.{every_append, stops_memory, stops_more, tells_more, tells_none}
+
+splits_open : (stream old new : List ℕ) → NoGroupFirst stream → new ≡ old → Splits stream stream old new 0
+splits_open stream old new none e = record { groups = []; each = tt; text = refl; content = e ∙ sym (append-nil old); size = refl; open_rest = none }
+
+-- one piece after another
+splits_then : (stream rest piece after : List ℕ) (old mid new : List ℕ) (len more : ℕ) → Splits stream rest old mid len → Splits (rest ++ piece) after mid new more → Splits (stream ++ piece) after old new (len + more)
+splits_then stream rest piece after old mid new len more s t =
+    let texts_are = flat_map-append text s.groups t.groups in
+    record {
+      groups = s.groups ++ t.groups;
+      each = every_append IsGroup s.groups t.groups s.each t.each;
+      text = ap (λ l. l ++ piece) s.text ∙ append_assoc (texts s.groups) rest piece ∙ ap (λ l. texts s.groups ++ l) t.text ∙ sym (append_assoc (texts s.groups) (texts t.groups) after) ∙ ap (λ l. l ++ after) (sym texts_are);
+      content = t.content ∙ ap (λ l. l ++ contents t.groups) s.content ∙ append_assoc old (contents s.groups) (contents t.groups) ∙ ap (λ l. old ++ l) (sym (flat_map-append content s.groups t.groups));
+      size = omega (arith, s.size, t.size, ap length texts_are, length-append (texts s.groups) (texts t.groups));
+      open_rest = t.open_rest;
+    }
+
+-- the words behind those that were there
+shifted : (stream rest words old : List ℕ) (len : ℕ) → Splits stream rest [] words len → Splits stream rest old (old ++ words) len
+shifted stream rest words old len s = record {
+  groups = s.groups;
+  each = s.each;
+  text = s.text;
+  content = ap (λ (l : List ℕ). old ++ l) s.content;
+  size = s.size;
+  open_rest = s.open_rest;
+}
+
+-- whole groups, and then a beginning of what was left with more behind it
+begins_then : (stream rest more words next : List ℕ) (len : ℕ) → Splits stream rest [] words len → Begins (rest ++ more) [] next → Begins (stream ++ more) [] (words ++ next)
+begins_then stream rest more words next len s b = record {
+  groups = s.groups ++ b.groups;
+  rest = b.rest;
+  each = every_append IsGroup s.groups b.groups s.each b.each;
+  text =
+      ap (λ (l : List ℕ). l ++ more) s.text
+      ∙ append_assoc (texts s.groups) rest more
+      ∙ ap (λ (l : List ℕ). texts s.groups ++ l) b.text
+      ∙ sym (append_assoc (texts s.groups) (texts b.groups) b.rest)
+      ∙ ap (λ (l : List ℕ). l ++ b.rest) (sym (flat_map-append text s.groups b.groups));
+  content =
+      ap (λ (l : List ℕ). l ++ next) s.content
+      ∙ ap (λ (l : List ℕ). contents s.groups ++ l) b.content
+      ∙ sym (flat_map-append content s.groups b.groups);
+}
+
+begins_all : (stream rest words : List ℕ) (len : ℕ) → Splits stream rest [] words len → Begins stream [] words
+begins_all stream rest words len s = record { groups = s.groups; rest = rest; each = s.each; text = s.text; content = s.content }
+
+advanced_more : (offset len more : ℕ) → advanced (advanced offset len) more ≡ advanced offset (len + more)
+advanced_more offset len more = omega arith
+
+module _ (piece : Piece) (limits : Bounds) (held : Held) (rest x : List ℕ) (mid : Held) (left y : List ℕ) (a b : Option (List ℕ)) (told : TellsPacked piece limits held rest x mid left a b) where
+  pub packed_more : (next : Held) (last : List ℕ) (c : Option (List ℕ)) → TellsPacked piece limits mid left y next last b c → TellsPacked piece limits held rest (x ++ y) next last a c
+  packed_more next last c more =
+      let w = told.0 in
+      let v = more.0 in
+      let split = splits_then (held.rest ++ x) mid.rest y next.rest [] w (w ++ v) told.1 more.1 told.2 (shifted (mid.rest ++ y) next.rest v w more.1 more.2) in
+      let told_words = tells_more piece limits (rest ++ w) left v last a b c told.5 more.5 in (
+        w ++ v,
+        told.1 + more.1,
+        subst (λ (l : List ℕ). Splits l next.rest [] (w ++ v) (told.1 + more.1)) (append_assoc held.rest x y) split,
+        more.3 ∙ ap (λ (n : ℕ). advanced n more.1) told.3 ∙ advanced_more held.offset told.1 more.1,
+        more.4,
+        subst (λ (l : List ℕ). Tells piece limits l last a c) (append_assoc rest w v) told_words,
+      )
+
+  pub packed_stop : (c : Option (List ℕ)) (failed : Bool) (fault : ToolFault) → StopsPacked piece limits mid.rest left y b c failed fault → StopsPacked piece limits held.rest rest (x ++ y) a c failed fault
+  packed_stop c failed fault (v, begins, stop) =
+      let w = told.0 in
+      let all = begins_then (held.rest ++ x) mid.rest y w v told.1 told.2 begins in (
+        w ++ v,
+        subst (λ (l : List ℕ). Begins l [] (w ++ v)) (append_assoc held.rest x y) all,
+        subst (λ (l : List ℕ). Stops piece limits l a c failed fault) (append_assoc rest w v) (stops_more piece limits (rest ++ w) left v a b c failed fault told.5 stop),
+      )
+
+module _ (piece : Piece) (limits : Bounds) (held : Held) (rest bytes words : List ℕ) (next : Held) where
+  -- one slice
+  pub packed_one : (left : List ℕ) (a b : Option (List ℕ)) → Feeds held bytes [] words next → Tells piece limits (rest ++ words) left a b → TellsPacked piece limits held rest bytes next left a b
+  packed_one left a b fed told = (words, fed.len, fed.split, fed.offset, fed.is_good, told)
+
+  pub packed_one_stop : (a b : Option (List ℕ)) (failed : Bool) (fault : ToolFault) → Feeds held bytes [] words next → Stops piece limits (rest ++ words) a b failed fault → StopsPacked piece limits held.rest rest bytes a b failed fault
+  packed_one_stop a b failed fault fed stop = (words, begins_all (held.rest ++ bytes) next.rest words fed.len fed.split, stop)
+
+-- memory was refused while a slice was unpacked
+pub packed_memory : (piece : Piece) (limits : Bounds) (group rest bytes : List ℕ) (a : Option (List ℕ)) (failed : Bool) → failed ≡ false → StopsPacked piece limits group rest bytes a a failed faults.Memory
+packed_memory piece limits group rest bytes a failed fine =
+    ([], record { groups = []; rest = group ++ bytes; each = tt; text = refl; content = refl }, stops_memory piece limits (rest ++ []) a failed fine)
+
+-- nothing has come
+pub packed_none : (piece : Piece) (limits : Bounds) (held : Held) (rest : List ℕ) (a : Option (List ℕ)) → NoGroupFirst held.rest → held.offset < 2 ^ 64 → held.failed ≡ false → TellsPacked piece limits held rest [] held rest a a
+packed_none piece limits held rest a none small good =
+    (
+      [],
+      0,
+      subst (λ (l : List ℕ). Splits l held.rest [] [] 0) (sym (append-nil held.rest)) (splits_open held.rest [] [] none refl),
+      omega (arith, small),
+      good,
+      subst (λ (l : List ℕ). Tells piece limits l rest a a) (sym (append-nil rest)) (tells_none piece limits rest a),
+    )
+
+-- what stops over some bytes stops over more of them
+pub packed_longer : (piece : Piece) (limits : Bounds) (group rest x bytes more : List ℕ) (a b : Option (List ℕ)) (failed : Bool) (fault : ToolFault) → x ++ more ≡ bytes → StopsPacked piece limits group rest x a b failed fault
+    → StopsPacked piece limits group rest bytes a b failed fault
+packed_longer piece limits group rest x bytes more a b failed fault whole (words, begins, stop) = (
+  words,
+  record {
+    groups = begins.groups;
+    rest = begins.rest ++ more;
+    each = begins.each;
+    text =
+        ap (λ (l : List ℕ). group ++ l) (sym whole)
+        ∙ sym (append_assoc group x more)
+        ∙ ap (λ (l : List ℕ). l ++ more) begins.text
+        ∙ append_assoc (texts begins.groups) begins.rest more;
+    content = begins.content;
+  },
+  stop,
+)
+
+-- one slice more
+module _ (piece : Piece) (limits : Bounds) (held : Held) (rest bytes : List ℕ) (at end : ℕ) (forward : at ≤ end) (mid : Held) (left : List ℕ) (a b : Option (List ℕ)) (told : TellsPacked piece limits held rest (take at bytes) mid left a b) where
+  joined : take at bytes ++ take (end - at) (drop at bytes) ≡ take end bytes
+  joined = let e : at + (end - at) ≡ end = omega (arith, forward) in sym (take-add at (end - at) bytes) ∙ ap (λ (i : ℕ). take i bytes) e
+
+  pub slice_more : (next : Held) (last : List ℕ) (c : Option (List ℕ)) → TellsPacked piece limits mid left (take (end - at) (drop at bytes)) next last b c → TellsPacked piece limits held rest (take end bytes) next last a c
+  slice_more next last c more =
+      subst (λ (l : List ℕ). TellsPacked piece limits held rest l next last a c) joined (packed_more piece limits held rest (take at bytes) mid left (take (end - at) (drop at bytes)) a b told next last c more)
+
+  pub slice_stop : (c : Option (List ℕ)) (failed : Bool) (fault : ToolFault) → StopsPacked piece limits mid.rest left (take (end - at) (drop at bytes)) b c failed fault → StopsPacked piece limits held.rest rest bytes a c failed fault
+  slice_stop c failed fault stop =
+      let part = packed_stop piece limits held rest (take at bytes) mid left (take (end - at) (drop at bytes)) a b told c failed fault stop in
+      packed_longer piece limits held.rest rest (take at bytes ++ take (end - at) (drop at bytes)) bytes (drop end bytes) a c failed fault (ap (λ (l : List ℕ). l ++ drop end bytes) joined ∙ take-append-drop end bytes) part

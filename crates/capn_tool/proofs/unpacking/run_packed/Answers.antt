@@ -1,0 +1,57 @@
+use Rattle.std.proofs.Common.{◌≡◌, ◌-◌, ◌∙◌, ◌++◌, false, take, drop, length, length-take, List, ℕ, subst, ap, sym, arith, Ok, Err, Result}
+use Rattle.std.proofs.lemmas.Grind.{common_steps}
+use Rattle.std.proofs.lemmas.List.{take-append-le}
+use Rattle.std.proofs.lemmas.Result.{err_from_is_err_and}
+use Rattle.capn_words.specs.Watching.{has_failed}
+use Rattle.capn_stream.specs.Framing.{IsUnfinished}
+use Rattle.capn_tool.specs.HeardPacked.{EndsPacked}
+use Rattle.capn_tool.proofs.PackedRun.{packed_end, packed_hears, packed_long, packed_stopped, packed_unread}
+use Rattle.capn_tool.proofs.unpacking.run_packed.Goals as goal
+
+pub returns-in-Err : goal.returns-in-Err
+returns-in-Err g c =
+    let i = c.pieces.invariant in
+    packed_unread c.args.piece c.args.limits _ _ _ _ _ c.pieces.taken c.pieces.unpacker c.pieces.framer.rest _ _ (grind (arith, common_steps)) i.within i.heard i.part c.in-Err.ensures.bytes
+
+pub returns-in-Ok-eq0 : goal.returns-in-Ok-eq0
+returns-in-Ok-eq0 g c =
+    let i = c.pieces.invariant in
+    let room = length-take c.min-room.result c.pieces.buffer in
+    let ends = subst (λ (m : ℕ). EndsPacked c.pieces.unpacker.rest c.pieces.unpacker.offset c.pieces.framer.rest m c.end_of_packed.result) i.most c.end_of_packed.ensures in
+    packed_end c.args.piece c.args.limits _ _ _ _ _ c.pieces.taken c.pieces.unpacker c.pieces.framer.rest c.read.new.buf c.in-Ok-eq0.field-0 _ _ c.end_of_packed.result (grind (arith, common_steps)) i.writer i.within i.heard c.in-Ok-eq0.field-0-test
+    c.in-Ok-eq0.ensures.bytes (omega arith) ends
+
+pub returns-in_err-serve_packed-in-Ok : goal.returns-in_err-serve_packed-in-Ok
+returns-in_err-serve_packed-in-Ok g c =
+    let i = c.pieces.invariant in
+    let p = err_from_is_err_and c.from_residual.result c.from_residual.ensures.1 in
+    let bound = c.in-Ok.ensures.bound in
+    let room = length-take c.min-room.result c.pieces.buffer in
+    rw (p.1, p.2)
+    (packed_stopped c.args.piece c.args.limits _ _ _ _ _ _ c.pieces.taken c.pieces.unpacker c.pieces.framer.rest c.read.new.buf (drop c.min-room.result c.pieces.buffer) c.min-within.result c.in-Ok.count _ _ c.in_err-serve_packed-in-Ok.field-0.0
+    (grind (arith, common_steps)) i.within c.min-within.ensures (omega arith) i.heard c.in-Ok.ensures.bytes.0 bound.0 c.in_err-serve_packed-in-Ok.ensures)
+
+pub returns-then-within-count : goal.returns-then-within-count
+returns-then-within-count g c =
+    let i = c.pieces.invariant in
+    let bound = c.in-Ok.ensures.bound in
+    let room = length-take c.min-room.result c.pieces.buffer in
+    let served = c.in_ok-serve_packed-in-Ok.ensures in
+    let part = subst (λ (m : ℕ). IsUnfinished c.serve_packed.new.framer.rest m) i.most served.1 in
+    packed_long c.args.piece c.args.limits _ _ _ _ _ _ c.pieces.taken c.pieces.unpacker c.serve_packed.new.unpacker c.pieces.framer.rest c.serve_packed.new.framer.rest c.read.new.buf (drop c.min-room.result c.pieces.buffer) c.min-within.result c.in-Ok.count _ _
+    (grind (arith, common_steps)) served.4 (omega arith) c.if-within-count.true (omega arith) i.heard c.in-Ok.ensures.bytes.0 bound.0 served.0 part
+
+pub pieces-preserved : goal.pieces-preserved
+pieces-preserved g c =
+    let i = c.pieces.invariant in
+    let bound = c.in-Ok.ensures.bound in
+    let served = c.in_ok-serve_packed-in-Ok.ensures in
+    record {
+      reader = grind (arith, common_steps);
+      writer = served.4;
+      good = served.3;
+      most = served.2 ∙ i.most;
+      part = subst (λ (m : ℕ). IsUnfinished c.serve_packed.new.framer.rest m) i.most served.1;
+      within = omega arith;
+      heard = packed_hears c.args.piece c.args.limits _ _ _ _ _ _ c.pieces.taken c.pieces.unpacker c.serve_packed.new.unpacker c.pieces.framer.rest c.serve_packed.new.framer.rest c.read.new.buf (drop c.min-room.result c.pieces.buffer) c.min-within.result c.in-Ok.count (omega arith) i.heard c.in-Ok.ensures.bytes.0 bound.0 served.0;
+    }

@@ -1,0 +1,21 @@
+use Rattle.std.proofs.Common.{◌≡◌, ◌≤◌, ◌-◌, length, take, false}
+use Rattle.capn_words.specs.Watching.{inner_of, has_failed}
+use Rattle.capn_stream.specs.Framing.{IsUnfinished}
+use Rattle.capn_tool.specs.HeardPacked.{TellsPacked}
+use Rattle.capn_tool.proofs.unpacking.serve_packed.Given as goal
+
+-- the pieces of the messages that the bytes so far made whole are written
+abbrev pub invariant-loop-at : goal.invariant-loop-at
+invariant-loop-at g l = record {
+  fine : has_failed l.writer ≡ false;
+  held : l.unpacker.failed ≡ false;
+  good : l.framer.failed ≡ false;
+  most : l.framer.most ≡ l.fn.framer.most;
+  part : IsUnfinished l.framer.rest l.fn.framer.most;
+  within : l.at ≤ length l.bytes;
+  told : TellsPacked l.piece l.limits l.fn.unpacker l.fn.framer.rest (take l.at l.bytes) l.unpacker l.framer.rest (g.W.Write.contents (inner_of l.fn.writer))
+      (g.W.Write.contents (inner_of l.writer));
+}
+
+abbrev pub decreases-loop-at : goal.decreases-loop-at
+decreases-loop-at g l = length l.bytes - l.at

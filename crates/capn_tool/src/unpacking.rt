@@ -1,0 +1,150 @@
+//! A packed stream of messages that is read in pieces.
+
+ghost use Rattle.std.specs.Prelude.{◌≡◌, ◌<◌, ◌≤◌, ◌^◌, length, false};
+ghost use Rattle.capn_words.specs.Watching.{inner_of, has_failed};
+ghost use Rattle.capn_pack.specs.Stream.{NoGroupFirst};
+ghost use Rattle.capn_stream.specs.Framing.{IsUnfinished};
+ghost use Rattle.capn_tool.specs.Heard.{Runs};
+ghost use Rattle.capn_tool.specs.HeardPacked.{EndsPacked, ServesPacked};
+ghost use Rattle.capn_tool.specs.declared.plan.Plan.TheVariants as plans;
+
+use crate::fault::ToolFault;
+use crate::hearing::{end_of_input, serve_bytes};
+use crate::input::{MOST_BYTES, PIECE};
+use crate::plan::Piece;
+use capn_canon::Refusal;
+use capn_pack::Unpacker;
+use capn_stream::Framer;
+use capn_walk::Limits;
+use capn_words::Watched;
+use std::alloc::Allocator;
+use std::io::{Read, Write};
+
+/// The most packed bytes that are unpacked at once, of which come at most 1,024 times as many.
+const SLICE: usize = 512;
+
+/// Unpacks bytes, and writes the pieces of all messages that their words make whole.
+fn serve_slice<W: Write, A: Allocator + Copy>(
+    alloc: A,
+    piece: Piece,
+    limits: Limits,
+    unpacker: &mut Unpacker,
+    words: &mut Vec<u8, A>,
+    framer: &mut Framer<A>,
+    bytes: &[u8],
+    writer: &mut Watched<W>,
+) -> Result<(), ToolFault>
+    requires fine { has_failed writer.old ≡ false }
+    requires held { unpacker.old.failed ≡ false }
+    requires good { framer.old.failed ≡ false }
+    requires part { IsUnfinished framer.old.rest framer.old.most }
+    requires most { framer.old.most ≡ limits.message_words }
+    ensures { ServesPacked piece limits unpacker.old framer.old bytes.now (W.contents (inner_of writer.old)) (W.contents (inner_of writer.new))
+        (has_failed writer.new) result unpacker.new framer.new }
+{
+    words.clear();
+    match unpacker.feed(bytes, words) {
+        Ok(()) => serve_bytes(alloc, piece, limits, framer, words, writer),
+        Err(_) => Err(ToolFault::Memory),
+    }
+}
+
+/// Writes the pieces of all messages that packed bytes make whole. The words of no more than a slice are held at once.
+pub(crate) fn serve_packed<W: Write, A: Allocator + Copy>(
+    alloc: A,
+    piece: Piece,
+    limits: Limits,
+    unpacker: &mut Unpacker,
+    words: &mut Vec<u8, A>,
+    framer: &mut Framer<A>,
+    bytes: &[u8],
+    writer: &mut Watched<W>,
+) -> Result<(), ToolFault>
+    requires fine { has_failed writer.old ≡ false }
+    requires held { unpacker.old.failed ≡ false }
+    requires good { framer.old.failed ≡ false }
+    requires part { IsUnfinished framer.old.rest framer.old.most }
+    requires most { framer.old.most ≡ limits.message_words }
+    requires group { NoGroupFirst unpacker.old.rest }
+    requires offset { unpacker.old.offset < 2 ^ 64 }
+    requires room { length bytes.now ≤ 65536 }
+    ensures { ServesPacked piece limits unpacker.old framer.old bytes.now (W.contents (inner_of writer.old)) (W.contents (inner_of writer.new))
+        (has_failed writer.new) result unpacker.new framer.new }
+{
+    let mut at = 0;
+    while at < bytes.len() {
+        let end = (at + SLICE).min(bytes.len());
+        serve_slice(
+            alloc,
+            piece,
+            limits,
+            unpacker,
+            words,
+            framer,
+            &bytes[at..end],
+            writer,
+        )?;
+        at = end;
+    }
+    Ok(())
+}
+
+/// How a run ends whose packed input has ended.
+fn end_of_packed<A: Allocator + Copy>(
+    mut unpacker: Unpacker,
+    framer: Framer<A>,
+) -> Result<(), ToolFault>
+    requires held { unpacker.failed ≡ false }
+    requires good { framer.failed ≡ false }
+    requires part { IsUnfinished framer.rest framer.most }
+    ensures { EndsPacked unpacker.rest unpacker.offset framer.rest framer.most result }
+{
+    match unpacker.finish() {
+        Ok(()) => end_of_input(framer),
+        Err(fault) => Err(ToolFault::Refused(Refusal::Packed(fault))),
+    }
+}
+
+/// Reads a packed stream piece by piece, and writes the pieces of all messages that are whole before it reads again.
+pub fn run_packed<R: Read, W: Write, A: Allocator + Copy>(
+    alloc: A,
+    piece: Piece,
+    limits: Limits,
+    reader: &mut Watched<R>,
+    writer: &mut Watched<W>,
+) -> Result<(), ToolFault>
+    requires reader_fine { has_failed reader.old ≡ false }
+    requires writer_fine { has_failed writer.old ≡ false }
+    ensures { Runs (plans.Packed piece limits) (R.remaining (inner_of reader.old)) (R.remaining (inner_of reader.new))
+        (W.contents (inner_of writer.old)) (W.contents (inner_of writer.new)) (has_failed reader.new) (has_failed writer.new) result }
+{
+    let mut unpacker = Unpacker::new();
+    let mut words = Vec::new(alloc);
+    let mut framer = Framer::new(alloc, limits.message_words());
+    let mut buffer = [0; PIECE];
+    let mut taken = 0;
+    'pieces: loop {
+        let room = (MOST_BYTES + 1 - taken).min(PIECE);
+        match reader.read(&mut buffer[..room]) {
+            Err(_) => return Err(ToolFault::Io),
+            Ok(0) => return end_of_packed(unpacker, framer),
+            Ok(count) => {
+                let within = count.min(MOST_BYTES - taken);
+                serve_packed(
+                    alloc,
+                    piece,
+                    limits,
+                    &mut unpacker,
+                    &mut words,
+                    &mut framer,
+                    &buffer[..within],
+                    writer,
+                )?;
+                if within < count {
+                    return Err(ToolFault::InputTooLong);
+                }
+                taken += count;
+            }
+        }
+    }
+}

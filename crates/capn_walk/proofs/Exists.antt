@@ -1,0 +1,185 @@
+-- Where no visit is a fault, a value stands at the place.
+use Rattle.std.proofs.Common.{◌≡◌, ℕ, zero, suc, ◌+◌, ◌-◌, ◌*◌, ◌/◌, ◌%◌, ◌^◌, ◌<◌, ◌≤◌, ◌==◌, Bool, true, false, List, [], ◌∷◌, ◌++◌, length, take, drop, slice_index, map, Result, Ok, Err, refl, ap, sym, subst, ◌∙◌, arith, length-drop}
+use Rattle.std.specs.Int.{from_bool}
+use Rattle.std.specs.List.{flat_map}
+use Rattle.std.proofs.lemmas.List.{length-map, length-take-le}
+use Rattle.std.proofs.lemmas.Grind.{flat_map-append}
+use Rattle.capn_words.specs.Message.{segment_at}
+use Rattle.capn_words.specs.declared.space.Place.{Place}
+use Rattle.capn_words.specs.declared.pointer.Width.{Width}
+use Rattle.capn_words.specs.declared.pointer.Width.TheVariants.{W0, W1, W8, W16, W32, W64, Link, Rows}
+use Rattle.capn_value.specs.Tree.{Tree, nil, node, voids, bits, bytes, pairs, quads, octs, links, rows, cap, Trees, no_trees, tree, Bodies, no_bodies, body, count, count_rows}
+use Rattle.capn_walk.specs.declared.target.Target.{Target}
+use Rattle.capn_walk.specs.declared.target.Target.TheVariants as targets
+use Rattle.capn_walk.specs.declared.target.Shape.{Shape}
+use Rattle.capn_walk.specs.declared.target.Shape.TheVariants as shapes
+use Rattle.capn_walk.specs.declared.target.Fault.{Fault}
+use Rattle.capn_walk.specs.Target.{target}
+use Rattle.capn_walk.specs.Visits.{Visit, pays, fails, places, row_places, slots, visits}
+use Rattle.capn_walk.specs.Accepted.{AllPay}
+use Rattle.capn_walk.specs.At.{IsAt, AreAt, RowsAt, AreWords, AreElements, element, words_from, Names}
+use Rattle.capn_walk.specs.Walked.{extent, RowsFit}
+use Rattle.capn_walk.proofs.Costs.{all-front, all-back}
+use Rattle.capn_walk.proofs.Inside.{inside}
+use Rattle.capn_walk.proofs.Walks.{slot, visits-null, visits-cap, visits-fault, visits-deep, visits-object}
+
+-- ---- a list of what each index has
+
+abbrev listed : {A : Type 0} → (ℕ → A) → ℕ → List A
+listed f zero = []
+listed f (suc n) = f 0 ∷ listed (λ i. f (suc i)) n
+
+length-listed : {A : Type 0} → (f : ℕ → A) (n : ℕ) → length (listed f n) ≡ n
+length-listed f zero = refl
+length-listed f (suc n) = ap suc (length-listed (λ i. f (suc i)) n)
+
+listed-at : (f : ℕ → ℕ) (n i : ℕ) → i < n → slice_index (listed f n) i ≡ f i
+listed-at f zero i h = absurd (omega arith)
+listed-at f (suc n) zero h = refl
+listed-at f (suc n) (suc i) h = listed-at (λ j. f (suc j)) n i (omega arith)
+
+map-listed : (f : ℕ → Bool) (n : ℕ) → map from_bool (listed f n) ≡ listed (λ i. from_bool (f i)) n
+map-listed f zero = refl
+map-listed f (suc n) = ap (λ (xs : List ℕ). from_bool (f 0) ∷ xs) (map-listed (λ i. f (suc i)) n)
+
+-- a number below 2 as a bit
+bit-of : (n : ℕ) → n < 2 → from_bool (n == 1) ≡ n
+bit-of zero h = refl
+bit-of (suc zero) h = refl
+bit-of (suc (suc n)) h = absurd (omega arith)
+
+module _ (m : List (List ℕ)) where
+  elements-listed : (each width s w n : ℕ) → AreElements each width (words_from m s w) (listed (element each width (words_from m s w)) n)
+  elements-listed each width s w n i h =
+      let l = length-listed (element each width (words_from m s w)) n in
+      listed-at (element each width (words_from m s w)) n i (omega arith)
+
+  bits-listed : (s w n : ℕ) → AreElements 64 1 (words_from m s w) (map from_bool (listed (λ i. element 64 1 (words_from m s w) i == 1) n))
+  bits-listed s w n i h =
+      let f : ℕ → Bool = λ i. element 64 1 (words_from m s w) i == 1 in
+      let e = map-listed f n in
+      let l = length-listed (λ i. from_bool (f i)) n in
+      let k = ap length e in
+      let at = ap (λ (xs : List ℕ). slice_index xs i) e in
+      at ∙ listed-at (λ i. from_bool (f i)) n i (omega arith) ∙ bit-of (element 64 1 (words_from m s w) i) (omega arith)
+
+  -- so many words that lie inside the segment
+  length-words : (s w n : ℕ) → w + n ≤ length (segment_at m s) → length (take n (words_from m s w)) ≡ n
+  length-words s w n h = let l = length-drop w (segment_at m s) in length-take-le n (words_from m s w) (omega arith)
+
+  are-words : (s w n : ℕ) → w + n ≤ length (segment_at m s) → AreWords m s w (take n (words_from m s w))
+  are-words s w n h = ap (λ (k : ℕ). take k (words_from m s w)) (length-words s w n h)
+
+  -- a list without pointers
+  abbrev HasNoSlots : Width → Type 0
+  HasNoSlots Link = ⊥
+  HasNoSlots _ = Unit {0}
+
+  of-list : (at : Place) (s start pads : ℕ) (width : Width) (n : ℕ) → target m at ≡ Ok (targets.Content s start (shapes.Many width n) pads) →
+      HasNoSlots width → (v : Tree) × IsAt m at v
+  of-list at s start pads W0 n e h = (voids n, record { segment = s; start = start; pads = pads; is = e; inside = tt })
+  of-list at s start pads W1 n e h =
+      let xs = listed (λ i. element 64 1 (words_from m s start) i == 1) n in (
+        bits xs,
+        record {
+          segment = s;
+          start = start;
+          pads = pads;
+          is = rw (length-listed (λ i. element 64 1 (words_from m s start) i == 1) n) e;
+          inside = bits-listed s start n;
+        },
+      )
+  of-list at s start pads W8 n e h =
+      let xs = listed (element 8 8 (words_from m s start)) n in
+      (bytes xs, record { segment = s; start = start; pads = pads; is = rw (length-listed (element 8 8 (words_from m s start)) n) e; inside = elements-listed 8 8 s start n })
+  of-list at s start pads W16 n e h =
+      let xs = listed (element 4 16 (words_from m s start)) n in
+      (pairs xs, record { segment = s; start = start; pads = pads; is = rw (length-listed (element 4 16 (words_from m s start)) n) e; inside = elements-listed 4 16 s start n })
+  of-list at s start pads W32 n e h =
+      let xs = listed (element 2 32 (words_from m s start)) n in
+      (quads xs, record { segment = s; start = start; pads = pads; is = rw (length-listed (element 2 32 (words_from m s start)) n) e; inside = elements-listed 2 32 s start n })
+  of-list at s start pads W64 n e h =
+      let i = (inside m at s start pads (shapes.Many W64 n) e).0 in
+      (octs (take n (words_from m s start)), record { segment = s; start = start; pads = pads; is = rw (length-words s start n i) e; inside = are-words s start n i })
+  of-list at s start pads Link n e h = absurd h
+  of-list at s start pads Rows n e h = absurd (inside m at s start pads (shapes.Many Rows n) e).1
+
+  as-node : (at : Place) (s start pads a b : ℕ) (ws : List ℕ) (ts : Trees) → target m at ≡ Ok (targets.Content s start (shapes.Node a b) pads) →
+      length ws ≡ a → count ts ≡ b → AreWords m s start ws → AreAt m s (start + a) ts → (v : Tree) × IsAt m at v
+  as-node at s start pads a b ws ts e l k words is =
+      (node ws ts, record { segment = s; start = start; pads = pads; is = rw (l, k) e; inside = (words, rw l is) })
+
+  as-links : (at : Place) (s start pads n : ℕ) (ts : Trees) → target m at ≡ Ok (targets.Content s start (shapes.Many Link n) pads) →
+      count ts ≡ n → AreAt m s start ts → (v : Tree) × IsAt m at v
+  as-links at s start pads n ts e k is = (links ts, record { segment = s; start = start; pads = pads; is = rw k e; inside = is })
+
+  as-rows : (at : Place) (s start pads n a b span : ℕ) (bs : Bodies) → target m at ≡ Ok (targets.Content s start (shapes.Rows n a b span) pads) →
+      count_rows bs ≡ n → RowsAt m a b s (start + 1) bs → (v : Tree) × IsAt m at v
+  as-rows at s start pads n a b span bs e k are =
+      let z : suc start ≡ start + 1 = omega arith in
+      (rows bs, (a, b, span, record { segment = s; start = start; pads = pads; is = rw k e; inside = rw z are }))
+
+  module _ (each d : ℕ) (below : (at : Place) → AllPay (visits m each d at) → (v : Tree) × IsAt m at v) where
+    slots-exist : (s w n : ℕ) → AllPay (flat_map (visits m each d) (places s w n)) → (ts : Trees) × (count ts ≡ n) × AreAt m s w ts
+    slots-exist s w zero h = (no_trees, refl, tt)
+    slots-exist s w (suc n) h =
+        let here = visits m each d (slot s w) in
+        let rest = flat_map (visits m each d) (places s (w + 1) n) in
+        let (v, i) = below (slot s w) (all-front here rest h) in
+        let (ts, k, is) = slots-exist s (w + 1) n (all-back here rest h) in
+        let e : w + 1 ≡ suc w = omega arith in
+        let P : ℕ → Type 0 = λ x. AreAt m s x ts in
+        (tree v ts, ap suc k, (i, subst P e is))
+
+    rows-exist : (s w a b n : ℕ) → w + n * (a + b) ≤ length (segment_at m s) → AllPay (flat_map (visits m each d) (row_places s w a b n)) →
+        (bs : Bodies) × (count_rows bs ≡ n) × RowsAt m a b s w bs
+    rows-exist s w a b zero r h = (no_bodies, refl, tt)
+    rows-exist s w a b (suc n) r h =
+        let here = flat_map (visits m each d) (places s (w + a) b) in
+        let rest = flat_map (visits m each d) (row_places s (w + a + b) a b n) in
+        let e = flat_map-append (visits m each d) (places s (w + a) b) (row_places s (w + a + b) a b n) in
+        let h2 = rw e at h in
+        let step : suc n * (a + b) ≡ a + b + n * (a + b) = omega arith in
+        let (ss, k, is) = slots-exist s (w + a) b (all-front here rest h2) in
+        let (bs, j, are) = rows-exist s (w + a + b) a b n (omega arith) (all-back here rest h2) in
+        let ws = take a (words_from m s w) in
+        (body ws ss bs, ap suc j, (length-words s w a (omega arith), k, are-words s w a (omega arith), is, are))
+
+    of-shape : (at : Place) (s start pads : ℕ) (shape : Shape) → target m at ≡ Ok (targets.Content s start shape pads) →
+        AllPay (flat_map (visits m each d) (slots s start shape)) → (v : Tree) × IsAt m at v
+    of-shape at s start pads (shapes.Node a b) e h =
+        let i = (inside m at s start pads (shapes.Node a b) e).0 in
+        let (ts, k, is) = slots-exist s (start + a) b h in
+        let l = length-words s start a (omega arith) in
+        as-node at s start pads a b (take a (words_from m s start)) ts e l k (are-words s start a (omega arith)) is
+    of-shape at s start pads (shapes.Rows n a b span) e h =
+        let i = inside m at s start pads (shapes.Rows n a b span) e in
+        let room = i.0 in
+        let fit = i.1 in
+        let (bs, k, are) = rows-exist s (start + 1) a b n (omega arith) h in
+        as-rows at s start pads n a b span bs e k are
+    of-shape at s start pads (shapes.Many Link n) e h =
+        let (ts, k, is) = slots-exist s start n h in
+        as-links at s start pads n ts e k is
+    of-shape at s start pads (shapes.Many width n) e h = of-list at s start pads width n e tt
+
+    of-target : (at : Place) (r : Result Target Fault) → target m at ≡ r → AllPay (visits m each (suc d) at) → (v : Tree) × IsAt m at v
+    of-target at (Ok targets.Nil) e h = (nil, e)
+    of-target at (Ok (targets.Cap k)) e h = (cap k, e)
+    of-target at (Ok (targets.Content s start shape pads)) e h =
+        let o = visits-object m each at s start pads shape e (suc d) (omega arith) in
+        let z : suc d - 1 ≡ d = omega arith in
+        let k = rw (o, z) at h in
+        of-shape at s start pads shape e k
+    of-target at (Err f) e h = let no_fault = rw (visits-fault m each at (suc d) f e) at h in absurd no_fault
+
+  of-last : (each : ℕ) (at : Place) (r : Result Target Fault) → target m at ≡ r → AllPay (visits m each 0 at) → (v : Tree) × IsAt m at v
+  of-last each at (Ok targets.Nil) e h = (nil, e)
+  of-last each at (Ok (targets.Cap k)) e h = (cap k, e)
+  of-last each at (Ok (targets.Content s start shape pads)) e h = let deep = rw (visits-deep m each at s start pads shape e 0 refl) at h in absurd deep
+  of-last each at (Err f) e h = let no_fault = rw (visits-fault m each at 0 f e) at h in absurd no_fault
+
+  -- a value stands at a place of which no visit is a fault
+  pub exists-at : (each d : ℕ) (at : Place) → AllPay (visits m each d at) → (v : Tree) × IsAt m at v
+  exists-at each zero at h = of-last each at (target m at) refl h
+  exists-at each (suc d) at h = of-target each d (exists-at each d) at (target m at) refl h

@@ -1,0 +1,63 @@
+-- The slots of a frame, one by one.
+use Rattle.std.proofs.Common.{Bool, false, IsTrue, ◌↔◌, ◌≡◌, ℕ, zero, suc, ◌+◌, ◌-◌, ◌*◌, ◌<◌, ◌≤◌, List, [], ◌∷◌, ◌++◌, length, refl, ap, sym, ◌∙◌, arith}
+use Rattle.capn_words.specs.declared.space.Place.{Place}
+use Rattle.capn_walk.specs.Visits.{places, row_places, slots}
+use Rattle.capn_walk.specs.declared.target.Shape.{Shape}
+use Rattle.capn_walk.specs.declared.target.Shape.TheVariants as shapes
+use Rattle.capn_walk.specs.declared.frame.Frame.{Frame}
+use Rattle.capn_walk.specs.Frames.{places_of, owed, end_of, HasRows}
+
+-- one row of n
+pub one-row : (n b : ℕ) → 0 < n → n * b ≡ b + (n - 1) * b
+one-row zero b h = absurd (omega arith)
+one-row (suc n) b h = let e : suc n - 1 ≡ n = omega arith in rw e (omega arith)
+
+-- rows of no slots have none
+pub no-slots : (s w a n : ℕ) → row_places s w a 0 n ≡ []
+no-slots s w a zero = refl
+no-slots s w a (suc n) = no-slots s (w + a + 0) a n
+
+-- n rows with slots, and none of these, are no rows
+pub no-rows : (n b : ℕ) → (0 < n → 0 < b) → n * b ≡ 0 → n ≡ 0
+no-rows zero b h e = refl
+no-rows (suc n) b h e = let k = h (omega arith) in let p : suc n * b ≡ b + n * b = omega arith in absurd (omega arith)
+
+-- the next place of a row
+pub next-place : (s w n : ℕ) → 0 < n → places s w n ≡ record { segment = s; word = w } ∷ places s (w + 1) (n - 1)
+next-place s w zero h = absurd (omega arith)
+next-place s w (suc n) h = let e : suc n - 1 ≡ n = omega arith in rw e refl
+
+-- the next row
+pub next-row : (s w a b n : ℕ) → 0 < n → row_places s w a b n ≡ places s (w + a) b ++ row_places s (w + a + b) a b (n - 1)
+next-row s w a b zero h = absurd (omega arith)
+next-row s w a b (suc n) h = let e : suc n - 1 ≡ n = omega arith in rw e refl
+
+-- of a frame whose row in hand has no slot left, with rows behind it
+pub turned : (f : Frame) → f.left ≡ 0 → 0 < f.rows →
+    places f.segment (f.next + f.words) f.slots ++ row_places f.segment (f.next + f.words + f.slots) f.words f.slots (f.rows - 1) ≡ places_of f
+turned f e h =
+    let z : f.next + 0 ≡ f.next = omega arith in
+    rw (e, z) (sym (next-row f.segment f.next f.words f.slots f.rows h))
+
+-- of a frame whose row in hand has a slot left
+pub taken : (f : Frame) → 0 < f.left →
+    places_of f ≡ record { segment = f.segment; word = f.next } ∷ (places f.segment (f.next + 1) (f.left - 1) ++ row_places f.segment (f.next + 1 + (f.left - 1)) f.words f.slots f.rows)
+taken f h =
+    let e : f.next + 1 + (f.left - 1) ≡ f.next + f.left = omega arith in
+    rw (e, next-place f.segment f.next f.left h) refl
+
+-- rows are left exactly where slots are
+pub done-rows : (l r b : ℕ) → (0 < r → 0 < b) → l ≡ 0 → (r ≡ 0 → l + r * b ≡ 0) × (l + r * b ≡ 0 → r ≡ 0)
+done-rows l r b h e = (λ z. rw (e, z) (omega arith), λ z. no-rows r b h (omega arith))
+
+-- no slot is left where none is owed
+pub nothing-left : (f : Frame) → HasRows f → owed f ≡ 0 → places_of f ≡ []
+nothing-left f h e =
+    let l : f.left ≡ 0 = omega arith in
+    let r : f.rows ≡ 0 = no-rows f.rows f.slots h (omega arith) in
+    rw (l, r) refl
+
+-- a test that isn't met tells of some slot
+pub not-done : (b : Bool) (n : ℕ) → IsTrue b ↔ (n ≡ 0) → b ≡ false → 0 < n
+not-done b zero h e = let t = h.1 refl in absurd cc
+not-done b (suc n) h e = omega arith

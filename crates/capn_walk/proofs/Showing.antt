@@ -1,0 +1,90 @@
+-- A view of a slot shows the value that stands there.
+use Rattle.std.proofs.Common.{◌≡◌, ℕ, zero, suc, ◌+◌, ◌*◌, ◌<◌, ◌≤◌, List, [], ◌∷◌, length, take, drop, map, slice_index, Result, Ok, refl, ap, sym, subst, ◌∙◌, arith}
+use Rattle.std.specs.Int.{from_bool}
+use Rattle.std.proofs.lemmas.List.{get_or-take, length-map}
+use Rattle.capn_words.specs.declared.space.Place.{Place}
+use Rattle.capn_words.specs.declared.pointer.Width.TheVariants.{W0, W1, W8, W16, W32, W64, Link}
+use Rattle.capn_value.specs.Tree.{Tree, nil, node, voids, bits, bytes, pairs, quads, octs, links, rows, cap, Trees, no_trees, tree, Bodies, no_bodies, body, count, count_rows, tree_at}
+use Rattle.capn_walk.specs.declared.target.Target.{Target}
+use Rattle.capn_walk.specs.declared.target.Target.TheVariants as targets
+use Rattle.capn_walk.specs.declared.target.Shape.{Shape}
+use Rattle.capn_walk.specs.declared.target.Shape.TheVariants as shapes
+use Rattle.capn_walk.specs.declared.target.Fault.{Fault}
+use Rattle.capn_walk.specs.declared.kind.Kind.TheVariants as kinds
+use Rattle.capn_walk.specs.Target.{target}
+use Rattle.capn_walk.specs.At.{IsAt, AreAt, RowsAt, AreWords, words_from}
+use Rattle.capn_walk.specs.Viewed.{kind_of, len_of, content_of, number_of, step_place, row_of}
+use Rattle.capn_walk.specs.Shown.{Shows, ShowsStruct, ShowsNumbers, ShowsLinks, ShowsRows, words_of_row, slots_of_row}
+use Rattle.capn_walk.proofs.Walks.{slot}
+
+module _ (m : List (List ℕ)) where
+  -- one of several slots
+  slot-at : (ts : Trees) (s w i : ℕ) → AreAt m s w ts → i < count ts → IsAt m (slot s (w + i)) (tree_at ts i)
+  slot-at no_trees s w i a h = absurd (omega arith)
+  slot-at (tree t ts) s w zero a h = let e : w + 0 ≡ w = omega arith in rw e a.0
+  slot-at (tree t ts) s w (suc i) a h = let e : w + suc i ≡ suc w + i = omega arith in rw e (slot-at ts s (suc w) i a.1 (omega arith))
+
+  -- one of several words
+  word-at : (s w : ℕ) (ws : List ℕ) (i : ℕ) → AreWords m s w ws → i < length ws → slice_index (words_from m s w) i ≡ slice_index ws i
+  word-at s w ws i a h = sym (get_or-take (length ws) (words_from m s w) i 0 h) ∙ ap (λ (xs : List ℕ). slice_index xs i) a
+
+  of-struct : (s start a b pads : ℕ) (ws : List ℕ) (ss : Trees) → length ws ≡ a → count ss ≡ b → AreWords m s start ws → AreAt m s (start + a) ss →
+      ShowsStruct m (targets.Content s start (shapes.Node a b) pads) ws ss
+  of-struct s start a b pads ws ss la lb words are = record {
+    kind = refl;
+    words = sym la;
+    slots = sym lb;
+    word = λ i h. word-at s start ws i words h;
+    slot = λ i h. slot-at ss s (start + a) i are h;
+  }
+
+  row-shown : (bs : Bodies) (a b s w i : ℕ) → RowsAt m a b s w bs → i < count_rows bs →
+      ShowsStruct m (targets.Content s (w + i * (a + b)) (shapes.Node a b) 0) (words_of_row bs i) (slots_of_row bs i)
+  row-shown no_bodies a b s w i r h = absurd (omega arith)
+  row-shown (body ws ss bs) a b s w zero r h =
+      let e : w + 0 * (a + b) ≡ w = omega arith in
+      rw e (of-struct s w a b 0 ws ss r.0 r.1 r.2 r.3)
+  row-shown (body ws ss bs) a b s w (suc i) r h =
+      let e : w + suc i * (a + b) ≡ w + a + b + i * (a + b) = omega arith in
+      rw e (row-shown bs a b s (w + a + b) i r.4 (omega arith))
+
+  -- the target that a fact is about is the one found
+  same-found : (at : Place) (found t : Target) → target m at ≡ Ok found → target m at ≡ Ok t → t ≡ found
+  same-found at found t e f = cc
+
+  pub shows : (at : Place) (found : Target) (v : Tree) → target m at ≡ Ok found → IsAt m at v → Shows m found v
+  shows at found nil e i = sym (same-found at found targets.Nil e i)
+  shows at found (cap k) e i = sym (same-found at found (targets.Cap k) e i)
+  shows at found (node ws ss) e i =
+      rw (← same-found at found (targets.Content i.segment i.start (shapes.Node (length ws) (count ss)) i.pads) e i.is)
+      (of-struct i.segment i.start (length ws) (count ss) i.pads ws ss refl refl i.inside.0 i.inside.1)
+  shows at found (voids n) e i =
+      rw (← same-found at found (targets.Content i.segment i.start (shapes.Many W0 n) i.pads) e i.is) (refl, refl)
+  shows at found (bits xs) e i =
+      rw (← same-found at found (targets.Content i.segment i.start (shapes.Many W1 (length xs)) i.pads) e i.is)
+      (let l = length-map xs from_bool in record { kind = refl; len = sym l; numbers = sym l; number = λ j h. sym (i.inside j h) })
+  shows at found (bytes xs) e i =
+      rw (← same-found at found (targets.Content i.segment i.start (shapes.Many W8 (length xs)) i.pads) e i.is)
+      (record { kind = refl; len = refl; numbers = refl; number = λ j h. sym (i.inside j h) })
+  shows at found (pairs xs) e i =
+      rw (← same-found at found (targets.Content i.segment i.start (shapes.Many W16 (length xs)) i.pads) e i.is)
+      (record { kind = refl; len = refl; numbers = refl; number = λ j h. sym (i.inside j h) })
+  shows at found (quads xs) e i =
+      rw (← same-found at found (targets.Content i.segment i.start (shapes.Many W32 (length xs)) i.pads) e i.is)
+      (record { kind = refl; len = refl; numbers = refl; number = λ j h. sym (i.inside j h) })
+  shows at found (octs xs) e i =
+      rw (← same-found at found (targets.Content i.segment i.start (shapes.Many W64 (length xs)) i.pads) e i.is)
+      (record { kind = refl; len = refl; numbers = refl; number = λ j h. word-at i.segment i.start xs j i.inside h })
+  shows at found (links ts) e i =
+      rw (← same-found at found (targets.Content i.segment i.start (shapes.Many Link (count ts)) i.pads) e i.is)
+      (record { kind = refl; len = refl; links = refl; slot = λ j h. slot-at ts i.segment i.start j i.inside h })
+  shows at found (rows bs) e i =
+      let n = i.3 in
+      rw (← same-found at found (targets.Content n.segment n.start (shapes.Rows (count_rows bs) i.0 i.1 i.2) n.pads) e n.is)
+      (record {
+        kind = refl;
+        len = refl;
+        rows = refl;
+        row = λ j h. let z : suc n.start ≡ n.start + 1 = omega arith in
+            row-shown bs i.0 i.1 n.segment (n.start + 1) j (rw z at n.inside) h;
+      })

@@ -1,0 +1,31 @@
+-- What a survey tells of a list of visits beside its verdict.
+use Rattle.std.specs.Prelude.{◌≡◌, ℕ, List, [], ◌∷◌, Result, Ok, Option, Some, None}
+use Rattle.std.specs.Option.{option_or}
+use Rattle.capn_value.specs.Tree.{Tree}
+use Rattle.capn_value.specs.Caps.{first_cap}
+use Rattle.capn_walk.specs.declared.surveyed.Surveyed.{Surveyed}
+use Rattle.capn_walk.specs.Denotes.{IsValueOf, paid, number_of_visits}
+use Rattle.capn_walk.specs.declared.target.Target.{Target}
+use Rattle.capn_walk.specs.declared.target.Target.TheVariants as targets
+use Rattle.capn_walk.specs.declared.target.Fault.{Fault}
+use Rattle.capn_walk.specs.Target.{target}
+use Rattle.capn_walk.specs.Visits.{Visit, pays, fails}
+
+-- the index of a slot that is a capability
+abbrev pub cap_of : Result Target Fault → Option ℕ
+cap_of (Ok (targets.Cap k)) = Some k
+cap_of _ = None
+
+-- that of the first visit of a capability
+abbrev pub first_cap_of : List (List ℕ) → List Visit → Option ℕ
+first_cap_of message [] = None
+first_cap_of message (pays at n ∷ vs) = option_or (cap_of (target message at)) (first_cap_of message vs)
+first_cap_of message (fails at e ∷ vs) = first_cap_of message vs
+
+-- the message is accepted, and a survey tells what its walk pays, how many visits it makes, and the first capability of its value
+pub record IsSurvey (message : List (List ℕ)) (each budget depth : ℕ) (s : Surveyed) : Type 0 where
+  pub value : Tree
+  pub is : IsValueOf message each budget depth value
+  pub pays : s.paid ≡ paid message each depth
+  pub counts : s.visits ≡ number_of_visits message each depth
+  pub capability : s.capability ≡ first_cap value

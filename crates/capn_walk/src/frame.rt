@@ -1,0 +1,172 @@
+//! The slots of an object that a survey has still to visit.
+
+ghost use Rattle.std.specs.Prelude.{◌≡◌, ℕ, ◌-◌, ◌<◌, ◌≤◌, ◌+◌, ◌*◌, ◌^◌, [], ◌∷◌, ◌↔◌, IsTrue};
+ghost use Rattle.capn_walk.specs.Visits.{slots};
+ghost use Rattle.capn_walk.specs.Walked.{slot_count, extent, RowsFit};
+ghost use Rattle.capn_walk.specs.Frames.{places_of, owed, end_of, HasRows};
+
+use crate::target::Shape;
+use capn_words::{Place, Width};
+
+/// The slots of an object that are still to be visited, in order: those that are left of the row in hand, then
+/// those of the rows behind it. A struct and a list of pointers are one row.
+#[derive(Clone, Copy, Debug, Default)]
+pub struct Frame {
+    /// The segment of the object.
+    pub segment: u32,
+    /// The word of the next slot, or of the next row where none is left of the row in hand.
+    pub next: u32,
+    /// The slots that are left of the row in hand.
+    pub left: u32,
+    /// The rows behind it.
+    pub rows: u32,
+    /// The data words of each of these.
+    pub words: u16,
+    /// The slots of each of these.
+    pub slots: u16,
+}
+
+impl Frame {
+    /// No slots.
+    #[inline(always)]
+    pub fn none() -> Frame
+        ensures places { places_of result ≡ [] }
+        ensures owed { owed result ≡ 0 }
+        ensures end { end_of result ≡ 0 }
+        ensures rows { HasRows result }
+    {
+        Frame {
+            segment: 0,
+            next: 0,
+            left: 0,
+            rows: 0,
+            words: 0,
+            slots: 0,
+        }
+    }
+
+    /// One slot.
+    pub fn of_slot(at: Place) -> Frame
+        requires { at.word < 2 ^ 32 - 1 }
+        ensures places { places_of result ≡ at ∷ [] }
+        ensures owed { owed result ≡ 1 }
+        ensures segment { result.segment ≡ at.segment }
+        ensures end { end_of result ≡ at.word + 1 }
+        ensures rows { HasRows result }
+    {
+        Frame {
+            segment: at.segment,
+            next: at.word,
+            left: 1,
+            rows: 0,
+            words: 0,
+            slots: 0,
+        }
+    }
+
+    /// The slots of an object whose content starts at a place.
+    #[inline(always)]
+    pub fn of_object(start: Place, shape: Shape) -> Frame
+        requires fits { RowsFit shape }
+        requires end { start.word + extent shape < 2 ^ 32 }
+        ensures places { places_of result ≡ slots start.segment start.word shape }
+        ensures owed { owed result ≡ slot_count shape }
+        ensures segment { result.segment ≡ start.segment }
+        ensures end { end_of result ≤ start.word + extent shape }
+        ensures rows { HasRows result }
+    {
+        let (next, left) = match shape {
+            Shape::Node { words, slots } => (start.word + words as u32, slots as u32),
+            Shape::Many {
+                width: Width::Link,
+                count,
+            } => (start.word, count),
+            Shape::Rows {
+                count,
+                words,
+                slots,
+                span: _,
+            } => {
+                return Frame {
+                    segment: start.segment,
+                    next: start.word + 1,
+                    left: 0,
+                    rows: if slots == 0 { 0 } else { count },
+                    words,
+                    slots,
+                };
+            }
+            _ => (start.word, 0),
+        };
+        Frame {
+            segment: start.segment,
+            next,
+            left,
+            rows: 0,
+            words: 0,
+            slots: 0,
+        }
+    }
+
+    /// Whether no slot is left.
+    #[inline(always)]
+    pub fn is_done(&self) -> bool
+        requires { HasRows self.now }
+        ensures { IsTrue result ↔ (owed self.now ≡ 0) }
+    {
+        self.left == 0 && self.rows == 0
+    }
+
+    /// The same slots, of which some are in the row in hand.
+    #[inline(always)]
+    fn in_hand(self) -> Frame
+        requires some { 0 < owed self }
+        requires rows { HasRows self }
+        requires end { end_of self < 2 ^ 32 }
+        ensures places { places_of result ≡ places_of self }
+        ensures owed { owed result ≡ owed self }
+        ensures segment { result.segment ≡ self.segment }
+        ensures end { end_of result ≡ end_of self }
+        ensures rows { HasRows result }
+        ensures some { 0 < result.left }
+    {
+        if self.left > 0 {
+            return self;
+        }
+        Frame {
+            segment: self.segment,
+            next: self.next + self.words as u32,
+            left: self.slots as u32,
+            rows: self.rows - 1,
+            words: self.words,
+            slots: self.slots,
+        }
+    }
+
+    /// The place of the next slot, and what is left behind it.
+    #[inline(always)]
+    pub fn take(self) -> (Place, Frame)
+        requires some { 0 < owed self }
+        requires rows { HasRows self }
+        requires end { end_of self < 2 ^ 32 }
+        ensures places { places_of self ≡ result.0 ∷ places_of result.1 }
+        ensures owed { owed self ≡ owed result.1 + 1 }
+        ensures here { result.0.segment ≡ self.segment }
+        ensures within { result.0.word < end_of self }
+        ensures segment { result.1.segment ≡ self.segment }
+        ensures end { end_of result.1 ≡ end_of self }
+        ensures kept { HasRows result.1 }
+    {
+        let row = self.in_hand();
+        let at = Place {
+            segment: row.segment,
+            word: row.next,
+        };
+        let rest = Frame {
+            next: row.next + 1,
+            left: row.left - 1,
+            ..row
+        };
+        (at, rest)
+    }
+}

@@ -1,0 +1,66 @@
+//! What may still be paid.
+
+ghost use Rattle.std.specs.Prelude.{◌≡◌, ◌+◌, ◌≤◌, ◌^◌};
+ghost use Rattle.capn_walk.specs.Account.{with_paid, left_of};
+
+use std::marker::Model;
+
+/// The words that the steps of views may pay together, and those that they have paid.
+#[derive(Debug, Drop)]
+pub struct Meter {
+    paid: u32,
+    left: u32,
+}
+
+impl Model for Meter {
+    ghost use Rattle.std.specs.Prelude.{◌+◌, ◌≤◌, ◌^◌};
+    ghost use Rattle.capn_walk.specs.Account.{Account};
+
+    ghost Value = { Account };
+
+    ghost view = { λ m. record { budget = m.paid + m.left; paid = m.paid } };
+
+    ghost invariant = { λ m. m.paid + m.left ≤ 2 ^ 28 };
+}
+
+impl Meter {
+    /// One that has paid nothing, of a budget of at most 2^28 words.
+    pub fn new(budget: u32) -> Meter
+        requires { budget ≤ 2 ^ 28 }
+        ensures budget { result.budget ≡ budget }
+        ensures paid { result.paid ≡ 0 }
+    {
+        Meter {
+            paid: 0,
+            left: budget,
+        }
+    }
+
+    /// The words paid.
+    pub fn paid(&self) -> u32
+        ensures value { result ≡ self.now.paid }
+        ensures within { result ≤ self.now.budget }
+    {
+        self.paid
+    }
+
+    /// The words that may still be paid.
+    #[inline(always)]
+    pub fn left(&self) -> u32
+        ensures sum { self.now.paid + result ≡ self.now.budget }
+        ensures value { result ≡ left_of self.now }
+        ensures within { result ≤ 2 ^ 28 }
+    {
+        self.left
+    }
+
+    /// Pays a price, for which enough is left.
+    #[inline(always)]
+    pub(crate) fn pay(&mut self, price: u32)
+        requires { price ≤ left_of self.old }
+        ensures { self.new ≡ with_paid self.old price }
+    {
+        self.paid += price;
+        self.left -= price;
+    }
+}

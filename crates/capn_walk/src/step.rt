@@ -1,0 +1,77 @@
+//! A step to a slot: what it costs, and what is below it.
+
+ghost use Rattle.std.specs.Prelude.{◌≡◌, ◌<◌, ◌≤◌, Ok, Err, IfOk, MatchResult};
+ghost use Rattle.capn_words.specs.Message.{IsMessage};
+ghost use Rattle.capn_walk.specs.Viewed as seen;
+ghost use Rattle.capn_walk.specs.Frames.{places_of, owed, Lies};
+
+use crate::frame::Frame;
+use crate::price::price_of;
+use crate::target::{Fault, Target};
+use capn_words::{Place, Space};
+
+/// The price of a step to a target, at most `depth` objects deep and with `left` words left to pay.
+#[inline(always)]
+pub fn price_within(target: Target, depth: u32, left: u32) -> Result<u32, Fault>
+    ensures found { MatchResult result (λ p. seen.stepped 1 depth left (Ok target) ≡ Ok target)
+        (λ e. seen.stepped 1 depth left (Ok target) ≡ Err e) }
+    ensures price { IfOk result (λ p. p ≡ seen.toll 1 target) }
+    ensures within { IfOk result (λ p. p ≤ left) }
+    ensures deep { IfOk result (λ p. 0 < p → 0 < depth) }
+{
+    match target {
+        Target::Content {
+            segment: _,
+            start: _,
+            shape,
+            pads,
+        } => {
+            if depth == 0 {
+                return Err(Fault::TooDeep);
+            }
+            let price = price_of(shape, pads);
+            if price > left as u64 {
+                return Err(Fault::OverBudget);
+            }
+            Ok(price as u32)
+        }
+        _ => Ok(0),
+    }
+}
+
+/// The index of a capability.
+#[inline(always)]
+pub fn capability_of(target: Target) -> Option<u32>
+    ensures { result ≡ seen.cap_in target }
+{
+    match target {
+        Target::Cap(index) => Some(index),
+        _ => None,
+    }
+}
+
+/// The slots below a target.
+#[inline(always)]
+pub fn frame_below<S: Space>(space: &S, target: Target) -> Frame
+    requires message { IsMessage (S.message space.now) }
+    requires inside { seen.IsInMessage (S.message space.now) target }
+    ensures places { places_of result ≡ seen.slots_below target }
+    ensures lies { Lies (S.message space.now) result }
+    ensures owed { owed result ≤ seen.toll 1 target }
+{
+    match target {
+        Target::Content {
+            segment,
+            start,
+            shape,
+            pads: _,
+        } => {
+            let start = Place {
+                segment,
+                word: start,
+            };
+            Frame::of_object(start, shape)
+        }
+        _ => Frame::none(),
+    }
+}

@@ -1,0 +1,12 @@
+//! What a survey answers.
+
+/// What a walk pays and visits, and the first capability that it meets.
+#[derive(Clone, Copy, Debug)]
+pub struct Surveyed {
+    /// The words paid: the sum of the prices of all visits.
+    pub paid: u32,
+    /// The number of visits.
+    pub visits: u32,
+    /// The index of the first capability in preorder.
+    pub capability: Option<u32>,
+}

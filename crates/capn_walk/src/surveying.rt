@@ -1,0 +1,272 @@
+//! A survey of all that a message holds, without its value.
+
+ghost use Rattle.std.specs.Prelude.{◌≡◌, ◌≢◌, ℕ, ◌<◌, ◌≤◌, ◌+◌, ◌-◌, ◌^◌, ◌∷◌, ◌⊎◌, length, IfOk, IfErr, MatchResult};
+ghost use Rattle.capn_words.specs.Message.{segment_at, IsMessage, IsPlace};
+ghost use Rattle.capn_walk.specs.Target as spec;
+ghost use Rattle.capn_walk.specs.Visits.{pays, visits, visits_of};
+ghost use Rattle.capn_walk.specs.Verdict.{judge, refused};
+ghost use Rattle.capn_walk.specs.Walked.{Gives, Refuses};
+ghost use Rattle.capn_walk.specs.Frames.{places_of, owed, Lies};
+ghost use Rattle.capn_walk.specs.Surveyed as told;
+ghost use Rattle.capn_value.specs.Tree.{Tree};
+ghost use Rattle.capn_value.specs.Caps.{first_cap};
+ghost use Rattle.capn_walk.specs.Denotes.{IsValueOf, IsRefused, IsBounded};
+ghost use Rattle.capn_walk.specs.declared.target.Fault.TheVariants.{Memory};
+
+use crate::content::segment_length;
+use crate::frame::Frame;
+use crate::limits::Limits;
+use crate::resolving::{near, pointer_at, resolve};
+use crate::step::{capability_of, frame_below, price_within};
+use crate::surveyed::Surveyed;
+use crate::target::{Fault, Target};
+use crate::walked::Stopped;
+use crate::walking::{ROOT, root_target};
+use capn_words::{Place, Pointer, Space};
+use smallvec::SmallVec;
+use std::alloc::Allocator;
+
+/// What the walk of a message pays and visits within the limits, and its first capability, without its value.
+///
+/// It visits the slots as [`walk`] does and refuses what that refuses, in the same way. It takes no memory for a
+/// depth of at most 64; `Memory` comes only where a growth was refused.
+pub fn survey<S: Space, A: Allocator + Copy>(
+    alloc: A,
+    space: &S,
+    limits: Limits,
+) -> Result<Surveyed, Stopped>
+    // An answer: the message is accepted, and what its walk pays, its visits, and the first capability of its value.
+    ensures found { IfOk result (λ s. told.IsSurvey (S.message space.now) 1 limits.budget limits.depth s) }
+    // A message that is accepted is answered, or a growth was refused; any other refusal is the first stop.
+    ensures only { (v : Tree) → IsValueOf (S.message space.now) 1 limits.budget limits.depth v →
+        MatchResult result (λ s. s.capability ≡ first_cap v) (λ s. s.fault ≡ Memory) }
+    ensures refused { IfErr result (λ s.
+        (s.fault ≡ Memory)
+        ⊎ IsRefused (S.message space.now) 1 limits.budget limits.depth s.fault s.place s.paid s.visits) }
+    // No growth is wanted for a depth of at most 64.
+    ensures inline { limits.depth ≤ 64 → IfErr result (λ s. s.fault ≢ Memory) }
+    // No walk pays beyond its budget.
+    ensures bounded { MatchResult result (λ s. IsBounded limits.budget s.paid s.visits)
+        (λ s. IsBounded limits.budget s.paid s.visits) }
+{
+    let _bounds = space.segments();
+    let _target = root_target(space)?;
+    let first = Frame::of_slot(ROOT);
+    let told = survey_slots(alloc, space, first, limits.depth(), limits.budget())?;
+    Ok(told)
+}
+
+/// What one visit comes to: its price, the capability that it meets, and the slots below it.
+#[derive(Clone, Copy)]
+struct Visited {
+    price: u32,
+    capability: Option<u32>,
+    below: Frame,
+}
+
+/// One visit of a slot, at most `depth` objects deep, where `left` words are left to pay.
+///
+/// Each of the two arms of a pointer to what stands near has the rest of the visit for itself, so that it is compiled
+/// for that form alone.
+#[inline(always)]
+fn visit_slot<S: Space>(
+    space: &S,
+    at: Place,
+    size: u32,
+    depth: u32,
+    left: u32,
+) -> Result<Visited, Fault>
+    requires message { IsMessage (S.message space.now) }
+    requires size { size ≡ length (segment_at (S.message space.now) at.segment) }
+    requires place { IsPlace (S.message space.now) at }
+    requires left { left ≤ 2 ^ 28 }
+    ensures visits { IfOk result (λ v. visits (S.message space.now) 1 depth at
+        ≡ pays at v.price ∷ visits_of (S.message space.now) 1 (depth - 1) (places_of v.below)) }
+    ensures price { IfOk result (λ v. v.price ≤ left) }
+    ensures capability { IfOk result (λ v. told.cap_of (spec.target (S.message space.now) at) ≡ v.capability) }
+    ensures below { IfOk result (λ v. Lies (S.message space.now) v.below) }
+    ensures owed { IfOk result (λ v. owed v.below ≤ v.price) }
+    ensures deep { IfOk result (λ v. 0 < owed v.below → 0 < depth) }
+    ensures refused { IfErr result (λ e. judge left (visits (S.message space.now) 1 depth at) ≡ refused e at 0 1) }
+    ensures memory { IfErr result (λ e. e ≢ Memory) }
+{
+    let pointer = pointer_at(space, at.segment, at.word);
+    match pointer {
+        Pointer::Node { .. } => {
+            let found = near(space, at.segment, size, at.word, 0, pointer);
+            visit_found(space, at, found, depth, left)
+        }
+        Pointer::Many { .. } => {
+            let found = near(space, at.segment, size, at.word, 0, pointer);
+            visit_found(space, at, found, depth, left)
+        }
+        _ => match visit_elsewhere(space, at, depth, left) {
+            Ok(found) => Ok(Visited {
+                price: found.price,
+                capability: found.capability,
+                below: Frame {
+                    segment: found.below.segment,
+                    next: found.below.next,
+                    left: found.below.left,
+                    rows: found.below.rows,
+                    words: found.below.words,
+                    slots: found.below.slots,
+                },
+            }),
+            Err(fault) => Err(fault),
+        },
+    }
+}
+
+/// The same, whatever the slot names.
+#[inline(never)]
+fn visit_elsewhere<S: Space>(space: &S, at: Place, depth: u32, left: u32) -> Result<Visited, Fault>
+    requires message { IsMessage (S.message space.now) }
+    requires place { IsPlace (S.message space.now) at }
+    requires left { left ≤ 2 ^ 28 }
+    ensures visits { IfOk result (λ v. visits (S.message space.now) 1 depth at
+        ≡ pays at v.price ∷ visits_of (S.message space.now) 1 (depth - 1) (places_of v.below)) }
+    ensures price { IfOk result (λ v. v.price ≤ left) }
+    ensures capability { IfOk result (λ v. told.cap_of (spec.target (S.message space.now) at) ≡ v.capability) }
+    ensures below { IfOk result (λ v. Lies (S.message space.now) v.below) }
+    ensures owed { IfOk result (λ v. owed v.below ≤ v.price) }
+    ensures deep { IfOk result (λ v. 0 < owed v.below → 0 < depth) }
+    ensures refused { IfErr result (λ e. judge left (visits (S.message space.now) 1 depth at) ≡ refused e at 0 1) }
+    ensures memory { IfErr result (λ e. e ≢ Memory) }
+{
+    visit_found(space, at, resolve(space, at), depth, left)
+}
+
+/// The same of a slot whose target is known.
+#[inline(always)]
+fn visit_found<S: Space>(
+    space: &S,
+    at: Place,
+    found: Result<Target, Fault>,
+    depth: u32,
+    left: u32,
+) -> Result<Visited, Fault>
+    requires message { IsMessage (S.message space.now) }
+    requires place { IsPlace (S.message space.now) at }
+    requires found { found ≡ spec.target (S.message space.now) at }
+    requires left { left ≤ 2 ^ 28 }
+    ensures visits { IfOk result (λ v. visits (S.message space.now) 1 depth at
+        ≡ pays at v.price ∷ visits_of (S.message space.now) 1 (depth - 1) (places_of v.below)) }
+    ensures price { IfOk result (λ v. v.price ≤ left) }
+    ensures capability { IfOk result (λ v. told.cap_of (spec.target (S.message space.now) at) ≡ v.capability) }
+    ensures below { IfOk result (λ v. Lies (S.message space.now) v.below) }
+    ensures owed { IfOk result (λ v. owed v.below ≤ v.price) }
+    ensures deep { IfOk result (λ v. 0 < owed v.below → 0 < depth) }
+    ensures refused { IfErr result (λ e. judge left (visits (S.message space.now) 1 depth at) ≡ refused e at 0 1) }
+    ensures memory { IfErr result (λ e. e ≢ Memory) }
+{
+    let target = match found {
+        Ok(target) => target,
+        Err(fault) => return Err(fault),
+    };
+    match price_within(target, depth, left) {
+        Ok(price) => Ok(Visited {
+            price,
+            capability: capability_of(target),
+            below: frame_below(space, target),
+        }),
+        Err(fault) => Err(fault),
+    }
+}
+
+/// The words of a segment, where those of another, or the same, are known.
+#[inline(always)]
+fn size_of<S: Space>(space: &S, segment: u32, known: u32, size: u32) -> u32
+    requires { size ≡ length (segment_at (S.message space.now) known) }
+    ensures { result ≡ length (segment_at (S.message space.now) segment) }
+{
+    if segment == known {
+        size
+    } else {
+        segment_length(space, segment)
+    }
+}
+
+/// The visits of so many slots, with all below them.
+fn survey_slots<S: Space, A: Allocator + Copy>(
+    alloc: A,
+    space: &S,
+    first: Frame,
+    limit: u32,
+    budget: u32,
+) -> Result<Surveyed, Stopped>
+    requires message { IsMessage (S.message space.now) }
+    requires inside { Lies (S.message space.now) first }
+    requires limit { limit ≤ 2 ^ 28 }
+    requires budget { budget ≤ 2 ^ 28 }
+    requires few { owed first ≤ 2 ^ 28 }
+    ensures pays { IfOk result (λ s. Gives budget
+        (visits_of (S.message space.now) 1 limit (places_of first)) (owed first) s.paid s.visits) }
+    ensures capability { IfOk result (λ s.
+        told.first_cap_of (S.message space.now) (visits_of (S.message space.now) 1 limit (places_of first)) ≡ s.capability) }
+    ensures refused { IfErr result (λ s. Refuses budget
+        (visits_of (S.message space.now) 1 limit (places_of first)) (owed first) s) }
+    ensures memory { limit ≤ 64 → IfErr result (λ s. s.fault ≢ Memory) }
+{
+    let mut stack: SmallVec<Frame, 64, &A> = SmallVec::new(&alloc);
+    let mut frame = first;
+    let mut size = segment_length(space, first.segment);
+    let mut depth = limit;
+    let mut paid = 0u32;
+    let mut visits = 0u32;
+    let mut capability = None;
+    'slots: loop {
+        if frame.is_done() {
+            match stack.pop() {
+                Some(above) => {
+                    size = size_of(space, above.segment, frame.segment, size);
+                    frame = above;
+                    depth += 1;
+                    continue;
+                }
+                None => {
+                    return Ok(Surveyed {
+                        paid,
+                        visits,
+                        capability,
+                    });
+                }
+            }
+        }
+        let (at, rest) = frame.take();
+        if space.word(at) == 0 {
+            visits += 1;
+            frame = rest;
+            continue;
+        }
+        let found = match visit_slot(space, at, size, depth, budget - paid) {
+            Ok(found) => found,
+            Err(fault) => {
+                return Err(Stopped {
+                    fault,
+                    place: at,
+                    paid,
+                    visits: visits + 1,
+                });
+            }
+        };
+        paid += found.price;
+        visits += 1;
+        capability = capability.or(found.capability);
+        if found.below.is_done() {
+            frame = rest;
+            continue;
+        }
+        let Ok(()) = stack.push(rest) else {
+            return Err(Stopped {
+                fault: Fault::Memory,
+                place: at,
+                paid,
+                visits,
+            });
+        };
+        size = size_of(space, found.below.segment, at.segment, size);
+        frame = found.below;
+        depth -= 1;
+    }
+}

@@ -1,0 +1,365 @@
+//! A message read in place, step by step.
+
+ghost use Rattle.std.specs.Prelude.{◌≡◌, ◌≢◌, ℕ, ◌<◌, ◌≤◌, ◌+◌, ◌-◌, ◌*◌, ◌/◌, ◌%◌, ◌^◌, Ok, Err, length, slice_index, IfOk, IfErr, IfSome, IsSome, OnErr, MatchResult, ◌↔◌};
+ghost use Rattle.capn_words.specs.Message.{segment_at, IsMessage, IsPlace};
+ghost use Rattle.capn_walk.specs.Account.{with_paid, left_of};
+ghost use Rattle.capn_walk.specs.Target as spec;
+ghost use Rattle.capn_walk.specs.At.{AreElements};
+ghost use Rattle.capn_walk.specs.Viewed as seen;
+ghost use Rattle.capn_walk.specs.declared.kind.Kind.TheVariants as kinds;
+ghost use Rattle.capn_walk.specs.declared.target.Fault.TheVariants.{Memory};
+
+use crate::content::segment_length;
+use crate::kind::Kind;
+use crate::meter::Meter;
+use crate::resolving::resolve;
+use crate::step::{capability_of, price_within};
+use crate::target::{Fault, Shape, Target};
+use crate::walking::{ROOT, may_be_root};
+use capn_words::{Place, Space, Width};
+use std::marker::Model;
+
+/// The kind of a list of elements of that width.
+fn kind_of_list(width: Width) -> Kind
+    ensures { result ≡ seen.kind_of_list width }
+{
+    match width {
+        Width::W0 => Kind::Voids,
+        Width::W1 => Kind::Bits,
+        Width::W8 => Kind::Bytes,
+        Width::W16 => Kind::Pairs,
+        Width::W32 => Kind::Quads,
+        Width::W64 => Kind::Octs,
+        Width::Link => Kind::Links,
+        Width::Rows => Kind::Rows,
+    }
+}
+
+/// How many numbers of that width a word holds.
+fn per_word(width: Width) -> u32
+    ensures value { result ≡ seen.per_word width }
+    ensures some { 0 < result }
+{
+    match width {
+        Width::W1 => 64,
+        Width::W8 => 8,
+        Width::W16 => 4,
+        Width::W32 => 2,
+        _ => 1,
+    }
+}
+
+/// The number of that width at a place of a word, counted from the least significant.
+fn digit(width: Width, word: u64, place: u32) -> u64
+    requires { place < seen.per_word width }
+    ensures { result ≡ seen.digit width word place }
+{
+    match width {
+        Width::W1 => word >> place & 1,
+        Width::W8 => word >> (8 * place) & 0xff,
+        Width::W16 => word >> (16 * place) & 0xffff,
+        Width::W32 => word >> (32 * place) & 0xffff_ffff,
+        _ => word,
+    }
+}
+
+/// What stands in a slot of a message: null, a capability, or an object whose words are read where they lie.
+#[derive(Drop)]
+pub struct View<'s, S: Space> {
+    space: &'s S,
+    target: Target,
+    depth: u32,
+}
+
+impl<'s, S: Space> Model for View<'s, S> {
+    ghost use Rattle.capn_words.specs.Message.{IsMessage};
+    ghost use Rattle.capn_walk.specs.Viewed.{Seen, IsInMessage};
+
+    ghost Value = { Seen };
+
+    ghost view = { λ v. record { message = S.message v.space.now; found = v.target; depth = v.depth } };
+
+    ghost invariant = { λ v. IsMessage (S.message v.space.now) × IsInMessage (S.message v.space.now) v.target };
+}
+
+impl<'s, S: Space> View<'s, S> {
+    /// The root of a message, at most so many objects deep.
+    pub fn root(space: &'s S, meter: &mut Meter, depth: u32) -> Result<View<'s, S>, Fault>
+        ensures found { MatchResult result
+            (λ v. seen.stepped_to_root (S.message space.now) 1 depth (left_of meter.old) ≡ Ok v.found)
+            (λ e. seen.stepped_to_root (S.message space.now) 1 depth (left_of meter.old) ≡ Err e) }
+        ensures message { IfOk result (λ v. v.message ≡ S.message space.now) }
+        ensures depth { IfOk result (λ v. v.depth ≡ depth - 1) }
+        ensures paid { IfOk result (λ v. meter.new ≡ with_paid meter.old (seen.toll 1 v.found)) }
+        ensures kept { OnErr result (meter.new ≡ meter.old) }
+    {
+        let _bounds = space.segments();
+        if segment_length(space, ROOT.segment) == 0 {
+            return Err(Fault::NoRoot);
+        }
+        let target = match resolve(space, ROOT) {
+            Ok(target) => target,
+            Err(fault) => return Err(fault),
+        };
+        if !may_be_root(target) {
+            return Err(Fault::RootKind);
+        }
+        match price_within(target, depth, meter.left()) {
+            Ok(price) => {
+                meter.pay(price);
+                Ok(View {
+                    space,
+                    target,
+                    depth: depth.saturating_sub(1),
+                })
+            }
+            Err(fault) => Err(fault),
+        }
+    }
+
+    /// A slot of a struct, or an element of a list of pointers.
+    pub fn slot(&self, i: u32, meter: &mut Meter) -> Result<View<'s, S>, Fault>
+        requires { i < seen.steps_in self.now.found }
+        ensures found { MatchResult result
+            (λ v. seen.stepped 1 self.now.depth (left_of meter.old)
+            (spec.target self.now.message (seen.step_place self.now.found i)) ≡ Ok v.found)
+            (λ e. seen.stepped 1 self.now.depth (left_of meter.old)
+            (spec.target self.now.message (seen.step_place self.now.found i)) ≡ Err e) }
+        ensures message { IfOk result (λ v. v.message ≡ self.now.message) }
+        ensures depth { IfOk result (λ v. v.depth ≡ self.now.depth - 1) }
+        ensures paid { IfOk result (λ v. meter.new ≡ with_paid meter.old (seen.toll 1 v.found)) }
+        ensures kept { OnErr result (meter.new ≡ meter.old) }
+    {
+        let at = self.slot_place(i);
+        let space = self.space;
+        let target = match resolve(space, at) {
+            Ok(target) => target,
+            Err(fault) => return Err(fault),
+        };
+        match price_within(target, self.depth, meter.left()) {
+            Ok(price) => {
+                meter.pay(price);
+                Ok(View {
+                    space,
+                    target,
+                    depth: self.depth.saturating_sub(1),
+                })
+            }
+            Err(fault) => Err(fault),
+        }
+    }
+
+    /// What it shows.
+    pub fn kind(&self) -> Kind
+        ensures { result ≡ seen.kind_of self.now.found }
+    {
+        match self.target {
+            Target::Nil => Kind::Nil,
+            Target::Cap(_) => Kind::Cap,
+            Target::Content {
+                segment: _,
+                start: _,
+                shape,
+                pads: _,
+            } => match shape {
+                Shape::Node { .. } => Kind::Node,
+                Shape::Rows { .. } => Kind::Rows,
+                Shape::Many { width, count: _ } => kind_of_list(width),
+            },
+        }
+    }
+
+    /// The elements of a list; else 0.
+    pub fn len(&self) -> u32
+        ensures value { result ≡ seen.len_of self.now.found }
+        ensures links { seen.kind_of self.now.found ≡ kinds.Links → result ≡ seen.links_in self.now.found }
+        ensures rows { seen.kind_of self.now.found ≡ kinds.Rows → result ≡ seen.rows_in self.now.found }
+    {
+        match self.target {
+            Target::Content {
+                segment: _,
+                start: _,
+                shape,
+                pads: _,
+            } => match shape {
+                Shape::Node { .. } => 0,
+                Shape::Rows { count, .. } => count,
+                Shape::Many { width: _, count } => count,
+            },
+            _ => 0,
+        }
+    }
+
+    /// The data words of a struct; else 0.
+    pub fn words(&self) -> u16
+        ensures { result ≡ seen.words_in self.now.found }
+    {
+        match self.target {
+            Target::Content {
+                segment: _,
+                start: _,
+                shape: Shape::Node { words, slots: _ },
+                pads: _,
+            } => words,
+            _ => 0,
+        }
+    }
+
+    /// The slots of a struct; else 0.
+    pub fn slots(&self) -> u16
+        ensures { result ≡ seen.slots_in self.now.found }
+    {
+        match self.target {
+            Target::Content {
+                segment: _,
+                start: _,
+                shape: Shape::Node { words: _, slots },
+                pads: _,
+            } => slots,
+            _ => 0,
+        }
+    }
+
+    /// The index of a capability.
+    pub fn cap(&self) -> Option<u32>
+        ensures { result ≡ seen.cap_in self.now.found }
+    {
+        capability_of(self.target)
+    }
+
+    /// Where a struct's slot or an element of a list of pointers stands.
+    pub fn slot_place(&self, i: u32) -> Place
+        requires { i < seen.steps_in self.now.found }
+        ensures place { result ≡ seen.step_place self.now.found i }
+        ensures within { IsPlace self.now.message result }
+    {
+        match self.target {
+            Target::Content {
+                segment,
+                start,
+                shape,
+                pads: _,
+            } => match shape {
+                Shape::Node { words, slots: _ } => Place {
+                    segment,
+                    word: start + words as u32 + i,
+                },
+                _ => Place {
+                    segment,
+                    word: start + i,
+                },
+            },
+            _ => unreachable!(),
+        }
+    }
+
+    /// A data word of a struct.
+    pub fn word(&self, i: u32) -> u64
+        requires { i < seen.words_in self.now.found }
+        ensures { result ≡ slice_index (seen.content_of self.now.message self.now.found) i }
+    {
+        match self.target {
+            Target::Content {
+                segment,
+                start,
+                shape: _,
+                pads: _,
+            } => self.space.word(Place {
+                segment,
+                word: start + i,
+            }),
+            _ => unreachable!(),
+        }
+    }
+
+    /// A row of a list of structs, which the list has paid.
+    pub fn row(&self, i: u32) -> View<'s, S>
+        requires { i < seen.rows_in self.now.found }
+        ensures message { result.message ≡ self.now.message }
+        ensures depth { result.depth ≡ self.now.depth }
+        ensures found { result.found ≡ seen.row_of self.now.found i }
+    {
+        match self.target {
+            Target::Content {
+                segment,
+                start,
+                shape,
+                pads: _,
+            } => match shape {
+                Shape::Rows {
+                    count: _,
+                    words,
+                    slots,
+                    span: _,
+                } => View {
+                    space: self.space,
+                    target: Target::Content {
+                        segment,
+                        start: start + 1 + i * (words as u32 + slots as u32),
+                        shape: Shape::Node { words, slots },
+                        pads: 0,
+                    },
+                    depth: self.depth,
+                },
+                _ => unreachable!(),
+            },
+            _ => unreachable!(),
+        }
+    }
+
+    /// An element of a list of bits, bytes, pairs, quads or octs.
+    pub fn number(&self, i: u32) -> u64
+        requires { i < seen.numbers_in self.now.found }
+        ensures { result ≡ seen.number_of self.now.message self.now.found i }
+    {
+        match self.target {
+            Target::Content {
+                segment,
+                start,
+                shape,
+                pads: _,
+            } => match shape {
+                Shape::Many { width, count: _ } => {
+                    let each = per_word(width);
+                    let word = self.space.word(Place {
+                        segment,
+                        word: start + i / each,
+                    });
+                    digit(width, word, i % each)
+                }
+                _ => unreachable!(),
+            },
+            _ => unreachable!(),
+        }
+    }
+
+    /// The elements of a list of bytes.
+    pub fn bytes(&self) -> Option<&'s [u8]>
+        ensures some { IsSome result ↔ (seen.kind_of self.now.found ≡ kinds.Bytes) }
+        ensures number { IfSome result (λ b. length b.now ≡ seen.len_of self.now.found) }
+        ensures elements { IfSome result (λ b. AreElements 8 8 (seen.content_of self.now.message self.now.found) b.now) }
+    {
+        match self.target {
+            Target::Content {
+                segment,
+                start,
+                shape,
+                pads: _,
+            } => match shape {
+                Shape::Many { width, count } => match width {
+                    Width::W8 => {
+                        let space = self.space;
+                        let at = Place {
+                            segment,
+                            word: start,
+                        };
+                        Some(space.bytes(at, count as usize))
+                    }
+                    _ => None,
+                },
+                _ => None,
+            },
+            _ => None,
+        }
+    }
+}
