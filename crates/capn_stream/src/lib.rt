@@ -15,6 +15,7 @@
 
 mod fault;
 mod feeding;
+pub mod laws;
 mod owned;
 mod reading;
 mod receiving;
