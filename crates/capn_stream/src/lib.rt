@@ -10,7 +10,8 @@
 //!
 //! Here `text` is the first `taken` bytes of `input`, but for the padding of its table. Any bytes may be
 //! given: `first` answers exactly where a frame within the limits stands first, and else says why none
-//! does. What a table announces is never allocated.
+//! does. What a table announces is never allocated. [`laws`] has what holds of frames apart from any call: one frame
+//! stands first at most, and bytes are refused for one reason.
 #![tactic(auto)]
 
 mod fault;
