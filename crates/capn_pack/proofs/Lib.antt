@@ -1,4 +1,5 @@
 mod TagLemmas
+mod WeightLemmas
 mod SpreadLemmas
 mod GroupLemmas
 mod RunLemmas
@@ -9,4 +10,7 @@ pub mod ChosenLaws
 mod WordLemmas
 mod LaneLemmas
 mod RowLemmas
+mod StartLemmas
 pub mod SplitLaws
+pub mod RefusalLaws
+pub mod PackedRows

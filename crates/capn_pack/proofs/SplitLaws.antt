@@ -41,7 +41,7 @@ named_word zero tag xs small room =
     let none : tag ≡ 0 = omega arith in
     record { word = []; size = refl; named = tt; bytes = sym (ap (λ (t : ℕ). take (count_ones t) xs) none ∙ ap (λ (k : ℕ). take k xs) no_ones) }
 named_word (suc n) tag xs small room = elim (parity tag) [
-  inl even ↦
+  | inl even ↦
       (let same : count_ones tag ≡ count_ones (tag / 2) = omega (arith, ones_half tag, even) in
       let ih = named_word n (tag / 2) xs (omega arith) (omega (arith, same, room)) in
       record {
@@ -92,17 +92,17 @@ no_raw bs tag great (Raw _ n further) more is e = absurd (omega (arith, is.0))
 
 zeros_first : (bs : List ℕ) → 0 < length bs → get_or bs 0 0 ≡ 0 → First bs ⊎ NoGroupFirst bs
 zeros_first bs some tag = elim (cases_lt (length bs) 2) [
-  inl short ↦ inr (no_group 0 bs (some, λ head. absurd (grind (arith, nat_tests))))
+  | inl short ↦ inr (no_group 0 bs (some, λ head. absurd (grind (arith, nat_tests))))
   | inr long ↦ elim (cases_lt (get_or bs 1 0) 256) [
-    inl small ↦ inl (first_of bs 2 (Zeros (get_or bs 1 0)) small (take_two bs long ∙ ap (λ (b : ℕ). b ∷ get_or bs 1 0 ∷ []) tag))
+    | inl small ↦ inl (first_of bs 2 (Zeros (get_or bs 1 0)) small (take_two bs long ∙ ap (λ (b : ℕ). b ∷ get_or bs 1 0 ∷ []) tag))
     | inr great ↦ inr (no_zeros bs tag great)
   ]
 ]
 
 raw_first : (bs : List ℕ) → 0 < length bs → get_or bs 0 0 ≡ 255 → First bs ⊎ NoGroupFirst bs
 raw_first bs some tag = elim (cases_lt (get_or bs 9 0) 256) [
-  inl small ↦ elim (cases_lt (length bs) (10 + 8 * get_or bs 9 0)) [
-    inl short ↦ inr (no_group 256 bs (some, λ head. rw tag (omega (arith, small), omega (arith, short))))
+  | inl small ↦ elim (cases_lt (length bs) (10 + 8 * get_or bs 9 0)) [
+    | inl short ↦ inr (no_group 256 bs (some, λ head. rw tag (omega (arith, small), omega (arith, short))))
     | inr long ↦ inl (first_of bs (10 + 8 * get_or bs 9 0) (Raw (slice_range bs 1 9) (get_or bs 9 0) (slice_range bs 10 (10 + 8 * get_or bs 9 0))) (raw_is_group bs (get_or bs 9 0) long small)
         (take_raw_text bs (get_or bs 9 0) long ∙ ap (λ (b : ℕ). b ∷ slice_range bs 1 9 ++ get_or bs 9 0 ∷ slice_range bs 10 (10 + 8 * get_or bs 9 0)) tag))
   ]
@@ -113,7 +113,7 @@ named_first : (bs : List ℕ) → 0 < length bs → 0 < get_or bs 0 0 → get_or
 named_first bs some above below =
     let tag : ℕ = get_or bs 0 0 in
     elim (cases_lt (length bs) (1 + count_ones tag)) [
-      inl short ↦ inr (no_group 0 bs (some, λ head. absurd (grind (arith, nat_tests))))
+      | inl short ↦ inr (no_group 0 bs (some, λ head. absurd (grind (arith, nat_tests))))
       | inr long ↦
           (let w = named_word 8 tag (drop 1 bs) (omega arith) (omega (arith, length-drop 1 bs, long)) in
           inl (first_of bs (1 + count_ones tag) (Named tag w.word) (above, below, w.size, w.named) (take_first (count_ones tag) bs some ∙ ap (λ (l : List ℕ). tag ∷ l) (sym w.bytes))))
@@ -148,8 +148,8 @@ split_open bs old none = record { rest = bs; new = old; len = 0; splits = splits
 
 first_or_none : (bs : List ℕ) → 0 < length bs → First bs ⊎ NoGroupFirst bs
 first_or_none bs some = elim (cases_lt 0 (get_or bs 0 0)) [
-  inl above ↦ elim (cases_lt (get_or bs 0 0) 255) [
-    inl below ↦ named_first bs some above below
+  | inl above ↦ elim (cases_lt (get_or bs 0 0) 255) [
+    | inl below ↦ named_first bs some above below
     | inr top ↦ elim (cases_lt (get_or bs 0 0) 256) [ inl small ↦ raw_first bs some (omega (arith, small, top)) | inr great ↦ inr (no_tag bs great) ]
   ]
   | inr none ↦ zeros_first bs some (omega (arith, none))
@@ -159,7 +159,7 @@ split_all : (n : ℕ) (bs old : List ℕ) → length bs < n → Split bs old
 split_all zero bs old short = absurd (omega arith)
 split_all (suc n) [] old short = split_open [] old nothing_first
 split_all (suc n) (b ∷ bs) old short = elim (first_or_none (b ∷ bs) (omega arith)) [
-  inl f ↦ split_more (b ∷ bs) old f.group f.more f.is f.text_is (split_all n f.more (old ++ content f.group) (omega (arith, short, ap length f.text_is, length-append (text f.group) f.more, text_some f.group)))
+  | inl f ↦ split_more (b ∷ bs) old f.group f.more f.is f.text_is (split_all n f.more (old ++ content f.group) (omega (arith, short, ap length f.text_is, length-append (text f.group) f.more, text_some f.group)))
   | inr none ↦ split_open (b ∷ bs) old none
 ]
 
@@ -181,9 +181,10 @@ one_row (g ∷ gs) (h ∷ hs) r s f k n m e =
 -- a text is split in one way
 pub one_split : (bs r s old new other : List ℕ) (len more : ℕ) → Splits bs r old new len → Splits bs s old other more → (r ≡ s) × ((new ≡ other) × (len ≡ more))
 one_split bs r s old new other len more f g =
-    let same = one_row f.groups g.groups r s f.each g.each f.open_rest g.open_rest (sym f.text ∙ g.text) in
-    (
+    let same = one_row f.groups g.groups r s f.each g.each f.open_rest g.open_rest (sym f.text ∙ g.text) in (
       same.1,
-      (f.content ∙ ap (λ (gs : List Group). old ++ contents gs) same.0 ∙ sym g.content,
-      omega (arith, f.size, g.size, ap (λ (gs : List Group). length (texts gs)) same.0)),
+      (
+        f.content ∙ ap (λ (gs : List Group). old ++ contents gs) same.0 ∙ sym g.content,
+        omega (arith, f.size, g.size, ap (λ (gs : List Group). length (texts gs)) same.0),
+      ),
     )

@@ -8,3 +8,4 @@ pub mod Stream
 pub mod Steps
 pub mod Joins
 pub mod Rows
+pub mod Laws

@@ -3,7 +3,7 @@ use Rattle.std.specs.Prelude.{ℕ, ◌≡◌, ◌+◌, ◌*◌, ◌<◌, ◌≤�
 use Rattle.std.specs.List.{AllByRecursion}
 use Rattle.capn_pack.specs.declared.fault.UnpackFault.{UnpackFault}
 use Rattle.capn_pack.specs.declared.fault.UnpackFault.TheVariants.{Memory, Cut, TooLong, Failed}
-use Rattle.capn_pack.specs.Group.{Group, IsGroup}
+use Rattle.capn_pack.specs.Group.{Group, IsGroup, text, words}
 use Rattle.capn_pack.specs.Packs.{texts, word_count}
 
 -- How long the head of a group with this tag is: the tag, then a count, the named bytes, or a word and a count.
@@ -44,6 +44,14 @@ pub record Stands (Fault : ℕ → List ℕ → Type 0) (b : List ℕ) (max at :
   pub left : ℕ
   pub counted : left + word_count groups ≡ max
   pub fault : Fault left rest
+
+-- A whole group stands first, and has no more words than there is room for.
+pub record StartsWithin (rest : List ℕ) (room : ℕ) : Type 0 where
+  pub group : Group
+  pub more : List ℕ
+  pub is_group : IsGroup group
+  pub text : rest ≡ text group ++ more
+  pub fits : words group ≤ room
 
 -- The text b is so refused under a maximum of words. Nothing is said of want of memory.
 abbrev pub IsRefused : List ℕ → ℕ → UnpackFault → Type 0

@@ -8,14 +8,16 @@ use std::simd::prelude::*;
 
 /// The tag of a word: bit i is 1 exactly if byte i isn't zero (encoding page, "Packing").
 ///
-/// It takes no memory.
+/// It is the sum of the weights of the lanes that aren't zero. It takes no memory.
 #[inline(always)]
 pub fn tag(bytes: &[u8; 8]) -> u8
     ensures { result ≡ tag_of bytes.now }
 {
+    let weights = u8x8::from_array([1, 2, 4, 8, 16, 32, 64, 128]);
     u8x8::from_array(*bytes)
         .simd_ne(u8x8::splat(0))
-        .to_bitmask() as u8
+        .select(weights, u8x8::splat(0))
+        .reduce_sum()
 }
 
 /// The first sixteen bytes, or as many as there are.

@@ -11,16 +11,19 @@
 //! ```
 //!
 //! Every refusal is a value of [`PackFault`] or [`UnpackFault`], and the clauses of each call say exactly when it comes.
+//! [`laws`] has what holds of packed texts apart from any call: one reading, one refusal, one way to split.
 #![tactic(auto)]
 
 mod fault;
 mod filling;
 mod gathers;
 mod lanes;
+pub mod laws;
 mod pieces;
 mod putting;
 mod reading;
 mod runs;
+mod signs;
 mod spreads;
 mod storing;
 mod stream;

@@ -21,6 +21,7 @@ fn take_groups<A: Allocator>(
     ensures ok { IfOk result (λ n. Splits bytes.now (drop n bytes.now) out.old.items out.new.items n) }
     ensures short { IfOk result (λ n. length bytes.now < n + GROUP) }
     ensures err { OnErr result (Begins bytes.now out.old.items out.new.items) }
+    ensures wanted { OnErr result (NoGroupFirst bytes.now → ⊥) }
 {
     let mut at = 0;
     while at < bytes.len() {
@@ -73,6 +74,7 @@ fn join_first<A: Allocator>(
     ensures front { take len held.new ≡ take len held.old }
     ensures joined { IfOk result (λ j. Joins (take len held.old) piece.now held.new out.old.items out.new.items j) }
     ensures err { OnErr result (out.new.items ≡ out.old.items) }
+    ensures wanted { OnErr result (NoGroupFirst (take len held.old ++ piece.now) → ⊥) }
 {
     let more = piece.len().min(GROUP - 1);
     let front = &piece[..more];
@@ -104,6 +106,7 @@ fn feed_fresh<A: Allocator>(
     ensures ok { IfOk result (λ fed. Splits piece.now (take fed.len held.new) out.old.items out.new.items fed.taken) }
     ensures inside { IfOk result (λ fed. fed.taken ≤ length piece.now) }
     ensures err { OnErr result (Begins piece.now out.old.items out.new.items) }
+    ensures wanted { OnErr result (NoGroupFirst piece.now → ⊥) }
 {
     let taken = take_groups(piece, held, out)?;
     let rest = &piece[taken..];
@@ -129,6 +132,7 @@ fn feed_begun<A: Allocator>(
     ensures ok { IfOk result (λ fed. Splits (take len held.old ++ piece.now)
         (take fed.len held.new) out.old.items out.new.items fed.taken) }
     ensures err { OnErr result (Begins (take len held.old ++ piece.now) out.old.items out.new.items) }
+    ensures wanted { OnErr result (NoGroupFirst (take len held.old ++ piece.now) → ⊥) }
 {
     match join_first(held, len, piece, out)? {
         Joined::Open(all) => Ok(Fed { len: all, taken: 0 }),
@@ -158,6 +162,7 @@ pub(crate) fn feed_held<A: Allocator>(
     ensures ok { IfOk result (λ fed. Splits (take len held.old ++ piece.now)
         (take fed.len held.new) out.old.items out.new.items fed.taken) }
     ensures err { OnErr result (Begins (take len held.old ++ piece.now) out.old.items out.new.items) }
+    ensures wanted { OnErr result (NoGroupFirst (take len held.old ++ piece.now) → ⊥) }
 {
     if len == 0 {
         feed_fresh(held, piece, out)

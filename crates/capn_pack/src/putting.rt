@@ -3,8 +3,9 @@ ghost use Rattle.std.specs.Prelude.{◌≡◌, ◌+◌, ◌<◌, ◌≤◌, ◌�
 ghost use Rattle.capn_pack.specs.Tag.{tag_of, named_bytes};
 ghost use Rattle.capn_pack.specs.Steps.{Puts};
 
-use crate::lanes::{gather, tag};
+use crate::lanes::gather;
 use crate::runs::{raw_run, word_at, zero_run};
+use crate::signs::tag;
 use std::alloc::{AllocError, Allocator};
 
 /// Appends the tag and the bytes that it names.

@@ -1,7 +1,7 @@
 //! Unpacking.
-ghost use Rattle.std.specs.Prelude.{◌≡◌, ◌*◌, ◌≤◌, length, IfOk, IfErr, MatchResult, List, ℕ};
+ghost use Rattle.std.specs.Prelude.{◌≡◌, ◌*◌, ◌≤◌, length, IfOk, IfErr, IsErrOf, MatchResult, List, ℕ};
 ghost use Rattle.capn_pack.specs.Packs.{Packs};
-ghost use Rattle.capn_pack.specs.Refusal.{IsRefused};
+ghost use Rattle.capn_pack.specs.Refusal.{IsRefused, StartsWithin};
 ghost use Rattle.capn_pack.specs.Words.{HasWords};
 
 use crate::fault::UnpackFault;
@@ -21,6 +21,7 @@ fn unpack_groups<A: Allocator + Copy>(
     ensures found { IfOk result (λ v. Packs bytes.now v.items) }
     ensures within { IfOk result (λ v. length v.items ≤ 8 * max_words) }
     ensures refused { IfErr result (λ e. IsRefused bytes.now max_words e) }
+    ensures wanted { IsErrOf result UnpackFault.Memory → StartsWithin bytes.now max_words }
 {
     let mut out = Vec::new(alloc);
     let mut room = max_words as usize;
@@ -53,7 +54,7 @@ fn unpack_groups<A: Allocator + Copy>(
 ///
 /// Refusals, with the offset of the group's tag: `Cut` where the group's head is cut, else `TooLong` where its words
 /// would bring their number above `max_words`, else `Cut` where its raw words are; `Memory` where a growth was
-/// refused. `Failed` never comes.
+/// refused, which takes a whole group within the maximum at the front. `Failed` never comes.
 pub fn unpack<A: Allocator + Copy>(
     alloc: A,
     bytes: &[u8],
@@ -69,6 +70,8 @@ pub fn unpack<A: Allocator + Copy>(
         → MatchResult result (λ v. v.items ≡ bs) (λ e. e ≡ UnpackFault.Memory) }
     // What each refusal means, and where.
     ensures refused { IfErr result (λ e. IsRefused bytes.now max_words e) }
+    // Memory is wanted only where a whole group within the maximum stands first.
+    ensures wanted { IsErrOf result UnpackFault.Memory → StartsWithin bytes.now max_words }
 {
     match unpack_groups(alloc, bytes, max_words) {
         Ok(words) => Ok(words),

@@ -2,7 +2,7 @@
 ghost use Rattle.std.specs.Prelude.{◌≡◌, ◌+◌, ◌*◌, ◌<◌, ◌≤◌, ◌++◌, length, take, drop, slice_range, replicate};
 ghost use Rattle.capn_pack.specs.Chosen.{IsDense, AllDense};
 
-use crate::lanes::tag;
+use crate::signs::tag;
 
 /// The word that begins there.
 #[inline(always)]

@@ -3,8 +3,9 @@ ghost use Rattle.std.specs.Prelude.{◌≡◌, ◌+◌, ◌≤◌, ◌∷◌, �
 ghost use Rattle.capn_pack.specs.Tag.{named_bytes};
 ghost use Rattle.capn_pack.specs.Steps.{Puts, PutsRow};
 
-use crate::lanes::{gather, tag};
+use crate::lanes::gather;
 use crate::runs::{word_at, zero_run};
+use crate::signs::tag;
 
 /// How many bytes one group may need of a block: a tag and its bytes are written by one store of so many.
 pub(crate) const LANES: usize = 16;

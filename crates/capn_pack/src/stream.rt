@@ -1,6 +1,6 @@
 //! Unpacking a text that comes in pieces.
 ghost use Rattle.std.specs.Prelude.{◌≡◌, ◌++◌, [], true, false, IfErr, OnOk, IsErrOf, IsOk};
-ghost use Rattle.capn_pack.specs.Stream.{Feeds, Begins};
+ghost use Rattle.capn_pack.specs.Stream.{Feeds, Begins, NoGroupFirst};
 
 use crate::fault::UnpackFault;
 use crate::pieces::{HELD, feed_held};
@@ -49,7 +49,8 @@ impl Unpacker {
     ///
     /// The piece is taken whole: what remains of it is held. There is no maximum of words; the pieces bound them.
     ///
-    /// Refusals: `Memory` where a growth of `out` was refused, and then a beginning of those words was appended;
+    /// Refusals: `Memory` where a growth of `out` was refused, and then a beginning of those words was appended (a piece
+    /// that makes no group whole takes no memory);
     /// `Failed` after an earlier refusal, and then `out` is as it was.
     pub fn feed<A: Allocator>(
         &mut self,
@@ -61,6 +62,8 @@ impl Unpacker {
         // Without memory a beginning of the words was appended, and the text can't be gone on with.
         ensures memory { IsErrOf result UnpackFault.Memory → Begins (self.old.rest ++ piece.now) out.old.items out.new.items
             × (self.new.failed ≡ true) }
+        // Memory is wanted only where a group became whole.
+        ensures wanted { IsErrOf result UnpackFault.Memory → NoGroupFirst (self.old.rest ++ piece.now) → ⊥ }
         // After a refusal nothing changes any more.
         ensures failed { self.old.failed ≡ true → (result ≡ Err UnpackFault.Failed)
             × (out.new.items ≡ out.old.items) × (self.new ≡ self.old) }

@@ -1,6 +1,6 @@
 //! One group read, and its words appended.
 ghost use Rattle.std.specs.Prelude.{◌≡◌, ◌+◌, ◌*◌, ◌<◌, ◌≤◌, length, IfOk, OnErr, IsErrOf, slice_index};
-ghost use Rattle.capn_pack.specs.Refusal.{IsCut, IsTooLong};
+ghost use Rattle.capn_pack.specs.Refusal.{IsCut, IsTooLong, StartsWithin};
 ghost use Rattle.capn_pack.specs.Steps.{Takes};
 
 use crate::lanes::spread;
@@ -51,6 +51,7 @@ fn take_zeros<A: Allocator>(rest: &[u8], room: usize, out: &mut Vec<u8, A>) -> R
     ensures cut { IsErrOf result Stop.Cut → IsCut room rest.now }
     ensures short { IsErrOf result Stop.Cut → length rest.now < GROUP }
     ensures too_long { IsErrOf result Stop.TooLong → IsTooLong room rest.now }
+    ensures wanted { IsErrOf result Stop.Memory → StartsWithin rest.now room }
     ensures err { OnErr result (out.new.items ≡ out.old.items) }
 {
     if rest.len() < 2 {
@@ -74,6 +75,7 @@ fn take_named<A: Allocator>(rest: &[u8], room: usize, out: &mut Vec<u8, A>) -> R
     ensures cut { IsErrOf result Stop.Cut → IsCut room rest.now }
     ensures short { IsErrOf result Stop.Cut → length rest.now < GROUP }
     ensures too_long { IsErrOf result Stop.TooLong → IsTooLong room rest.now }
+    ensures wanted { IsErrOf result Stop.Memory → StartsWithin rest.now room }
     ensures err { OnErr result (out.new.items ≡ out.old.items) }
 {
     let tag = rest[0];
@@ -101,6 +103,7 @@ fn take_raw<A: Allocator>(rest: &[u8], room: usize, out: &mut Vec<u8, A>) -> Res
     ensures cut { IsErrOf result Stop.Cut → IsCut room rest.now }
     ensures short { IsErrOf result Stop.Cut → length rest.now < GROUP }
     ensures too_long { IsErrOf result Stop.TooLong → IsTooLong room rest.now }
+    ensures wanted { IsErrOf result Stop.Memory → StartsWithin rest.now room }
     ensures err { OnErr result (out.new.items ≡ out.old.items) }
 {
     if rest.len() < 10 {
@@ -134,6 +137,7 @@ pub(crate) fn take_group<A: Allocator>(
     ensures cut { IsErrOf result Stop.Cut → IsCut room rest.now }
     ensures short { IsErrOf result Stop.Cut → length rest.now < GROUP }
     ensures too_long { IsErrOf result Stop.TooLong → IsTooLong room rest.now }
+    ensures wanted { IsErrOf result Stop.Memory → StartsWithin rest.now room }
     ensures err { OnErr result (out.new.items ≡ out.old.items) }
 {
     match rest[0] {

@@ -22,6 +22,11 @@ fn the_page_s_example(rt: HostRuntime) -> Result<(), Fail> {
 }
 
 #[test]
+fn the_tag_of_the_page_s_first_word(rt: HostRuntime) {
+    assert_eq!(rt; tag(&[0x08, 0, 0, 0, 0x03, 0, 0x02, 0]), 0x51);
+}
+
+#[test]
 fn a_framed_message(rt: HostRuntime) -> Result<(), Fail> {
     let words = [
         0, 0, 0, 0, 2, 0, 0, 0, 0, 0, 0, 0, 1, 0, 0, 0, 5, 0, 0, 0, 0, 0, 0, 0,
@@ -169,6 +174,17 @@ fn many_words(alloc: Global) -> Result<Vec<u8>, Fail> {
         words.extend_from_slice(&word_of(i / 7 % 256))?;
     }
     Ok(words)
+}
+
+#[test]
+fn a_cut_group_behind_a_whole_one(rt: HostRuntime) -> Result<(), Fail> {
+    let mut unpacker = Unpacker::new();
+    let mut out = Vec::new(rt.alloc());
+    unpacker.feed(&[0x01, 0x05, 0xff], &mut out)?;
+    assert_eq!(rt; out.as_slice(), [5, 0, 0, 0, 0, 0, 0, 0].as_slice());
+    assert_eq!(rt; unpacker.finish(), Err(UnpackFault::Cut { at: 2 }));
+    assert_eq!(rt; out.len(), 8);
+    Ok(())
 }
 
 #[test]

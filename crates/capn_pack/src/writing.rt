@@ -1,5 +1,5 @@
 //! Packing.
-ghost use Rattle.std.specs.Prelude.{◌≡◌, ◌+◌, ◌%◌, ◌≤◌, ◌∷◌, ◌++◌, ◌↔◌, length, take, IfOk, OnErr, MatchResult, ℕ, List};
+ghost use Rattle.std.specs.Prelude.{◌≡◌, ◌+◌, ◌%◌, ◌<◌, ◌≤◌, ◌∷◌, ◌++◌, ◌↔◌, length, take, IfOk, IsErrOf, OnErr, MatchResult, ℕ, List};
 ghost use Rattle.capn_pack.specs.Packs.{Packs};
 ghost use Rattle.capn_pack.specs.Chosen.{Chosen};
 
@@ -14,7 +14,8 @@ const BLOCK: usize = 4096 + LANES;
 /// Packs whole words, named words and zero words by the block.
 fn pack_words<A: Allocator + Copy>(alloc: A, bytes: &[u8]) -> Result<Vec<u8, A>, AllocError>
     requires { length bytes.now % 8 ≡ 0 }
-    ensures { IfOk result (λ v. Chosen v.items bytes.now) }
+    ensures chosen { IfOk result (λ v. Chosen v.items bytes.now) }
+    ensures wanted { OnErr result (0 < length bytes.now) }
 {
     let mut out = Vec::new(alloc);
     let mut at = 0;
@@ -35,7 +36,7 @@ fn pack_words<A: Allocator + Copy>(alloc: A, bytes: &[u8]) -> Result<Vec<u8, A>,
 /// `bytes` are the words' bytes, the least first. The answer grows on `alloc` a logarithmic number of times.
 ///
 /// Refusals: `NotWhole` with the number of bytes where that is no multiple of eight, before any growth; `Memory` where
-/// a growth was refused.
+/// a growth was refused, which takes some bytes.
 pub fn pack<A: Allocator + Copy>(alloc: A, bytes: &[u8]) -> Result<Vec<u8, A>, PackFault>
     // The answer is the packer's text of these words, and so a packed text of them.
     ensures packed { IfOk result (λ v. Chosen v.items bytes.now) }
@@ -46,6 +47,8 @@ pub fn pack<A: Allocator + Copy>(alloc: A, bytes: &[u8]) -> Result<Vec<u8, A>, P
     // Two of the packer's texts are equal exactly if their words are.
     ensures unique { (a b vs ws : List ℕ) → Chosen a vs → Chosen b ws
         → ((a ≡ b) ↔ (vs ≡ ws)) }
+    // Memory is wanted for some bytes only.
+    ensures wanted { IsErrOf result PackFault.Memory → 0 < length bytes.now }
     ensures whole { length bytes.now % 8 ≡ 0 → OnErr result (result ≡ Err PackFault.Memory) }
     ensures not_whole { (length bytes.now % 8 ≡ 0 → ⊥) → result ≡ Err (PackFault.NotWhole (length bytes.now)) }
 {

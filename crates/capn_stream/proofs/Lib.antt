@@ -11,3 +11,4 @@ pub mod Wanting
 pub mod Received
 pub mod Sent
 pub mod ReadFirst
+pub mod FrameRows

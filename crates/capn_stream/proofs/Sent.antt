@@ -24,7 +24,7 @@ begun_front a b front rest text is (count, wrote) =
   where
     take_min : (k : ℕ) (xs : List ℕ) → take (min k (length xs)) xs ≡ take k xs
     take_min k xs = elim (cases_lt k (length xs)) [
-      inl below ↦ (let e : min k (length xs) ≡ k = omega (arith, below) in ap (λ (n : ℕ). take n xs) e)
+      | inl below ↦ (let e : min k (length xs) ≡ k = omega (arith, below) in ap (λ (n : ℕ). take n xs) e)
       | inr past ↦ (let e : min k (length xs) ≡ length xs = omega (arith, past) in ap (λ (n : ℕ). take n xs) e ∙ take-length xs ∙ sym (take_all k xs past))
     ]
 

@@ -54,10 +54,10 @@ pub taken_whole : (before : Framing) (piece : List ℕ) (n : ℕ) (after : Frami
     → after.rest ≡ before.rest ++ piece
 taken_whole before piece n after fed needs =
     let all : length piece ≤ n = elim fed.stops [
-      inl e ↦ omega (arith, e)
+      | inl e ↦ omega (arith, e)
       | inr f ↦ (let P : List ℕ → Type 0 = λ bs. IsFrame bs before.most in
-      let Q : ℕ → Type 0 = λ m. IsFrame after.rest m in
-      let frame = subst P fed.rest (subst Q fed.same f) in
-      omega (arith, needs (take n piece) frame, length-take n piece))
+          let Q : ℕ → Type 0 = λ m. IsFrame after.rest m in
+          let frame = subst P fed.rest (subst Q fed.same f) in
+          omega (arith, needs (take n piece) frame, length-take n piece))
     ] in
     fed.rest ∙ ap (λ (xs : List ℕ). before.rest ++ xs) (take_all n piece all)

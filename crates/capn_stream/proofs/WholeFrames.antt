@@ -9,7 +9,7 @@ use Rattle.capn_stream.specs.Frames.{StandsFirst, contents, entry, padding, tabl
 use Rattle.capn_stream.specs.Reading.{IsWhole, announced_segments, entries, entry_number, frame_length, head_length, announced_words}
 use Rattle.capn_stream.proofs.Cutting.{length-cut, message-cut, total-cut}
 use Rattle.capn_stream.proofs.Ends.{AreRising-ends_from, contents-cut, length-ends_from, lengths-cut}
-use Rattle.capn_stream.proofs.Entries.{entries_more, entry-entries, entry-entry_number, below-drop, length-entries, sum-entries_more, take_then}
+use Rattle.capn_stream.proofs.Entries.{entries_more, entry-entries, entry-entry_number, below-drop, below-take, length-entries, sum-entries_more, take_then}
 use Rattle.capn_stream.proofs.SegmentBytes.{length-bytes}
 use Rattle.capn_stream.proofs.FrameLaws.{FitsTable-message, table_sizes}
 
@@ -79,6 +79,8 @@ module _ (bs : List ℕ) (most : ℕ) (ws : List ℕ) (small : most ≤ 2 ^ 28) 
         frame = record {
           fits = FitsTable-message here (message-cut (ends_from 0 (sizes_before bs)) ws ends_are);
           gap = gap;
+          gap_bytes = below-take 256 (padding (announced_segments bs)) (drop (4 + 4 * announced_segments bs) bs) (omega arith)
+              (below-drop 256 (4 + 4 * announced_segments bs) bs below);
           gap_length = length-take-le (padding (announced_segments bs)) (drop (4 + 4 * announced_segments bs) bs) space ∙ sym pad;
           text = sym all ∙ append_assoc (table here) gap (contents here);
         };

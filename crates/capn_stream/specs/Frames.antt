@@ -4,6 +4,7 @@ use Rattle.std.specs.Prelude.{◌≡◌, ℕ, ◌-◌, ◌%◌, ◌^◌, ◌<◌
 use Rattle.std.specs.List.{flat_map}
 use Rattle.byteorder.specs.Endian.{little_bytes}
 use Rattle.capn_words.specs.Message.{bytes, segment_at, total}
+use Rattle.capn_words.specs.Words.{AreBytes}
 
 -- the most segments of a message (own)
 abbrev pub most_segments : ℕ
@@ -32,10 +33,11 @@ pub record FitsTable (message : List (List ℕ)) : Type 0 where
   pub sizes : (s : ℕ) → length (segment_at message s) < 2 ^ 32
   pub each : (s k : ℕ) → slice_index (segment_at message s) k < 2 ^ 64
 
--- the bytes are the message's table, padding of any content, and the message's contents
+-- the bytes are the message's table, padding of any bytes, and the message's contents
 pub record Frames (bs : List ℕ) (message : List (List ℕ)) : Type 0 where
   pub fits : FitsTable message
   pub gap : List ℕ
+  pub gap_bytes : AreBytes gap
   pub gap_length : length gap ≡ padding (length message)
   pub text : bs ≡ table message ++ (gap ++ contents message)
 

@@ -6,3 +6,4 @@ pub mod Owned
 pub mod Framing
 pub mod Receiving
 pub mod Sending
+pub mod Laws

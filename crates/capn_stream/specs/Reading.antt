@@ -42,6 +42,10 @@ HasHead bs = HasCount bs × (head_length (announced_segments bs) ≤ length bs)
 abbrev pub IsWhole : List ℕ → ℕ → Type 0
 IsWhole bs most = HasHead bs × (announced_words bs ≤ most) × (frame_length bs ≤ length bs)
 
+-- the announced frame is there and allowed, and its table has more than one segment, so that where they end has to be kept
+abbrev pub HasTable : List ℕ → ℕ → Type 0
+HasTable bs most = IsWhole bs most × (2 ≤ announced_segments bs)
+
 -- the count is cut; or so many segments are allowed and the table or its padding is cut; or so many
 -- words are allowed and the contents are cut
 abbrev pub IsCut : List ℕ → ℕ → Type 0

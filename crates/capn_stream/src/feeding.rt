@@ -1,6 +1,6 @@
 //! Messages from a stream that comes in pieces.
 
-ghost use Rattle.std.specs.Prelude.{◌≡◌, ℕ, ◌+◌, ◌^◌, ◌<◌, ◌≤◌, ◌++◌, List, [], length, false};
+ghost use Rattle.std.specs.Prelude.{◌≡◌, ◌↔◌, IsTrue, ℕ, ◌+◌, ◌^◌, ◌<◌, ◌≤◌, ◌++◌, List, [], length, false};
 ghost use Rattle.capn_stream.specs.Framing.{FeedGives, FinishGives, IsFrame, IsUnfinished, TakeGives};
 ghost use Rattle.capn_stream.specs.Receiving.{most_bytes};
 
@@ -14,8 +14,8 @@ use std::mem;
 /// Takes messages from a stream that comes in pieces, cut anywhere (own).
 ///
 /// It keeps the bytes that came since the last message was taken, and beside them what their table has told, so that no
-/// byte is looked at twice. It grows with bytes that came, never by what a table announces. After any refusal each later
-/// `feed` and `finish` answers `Failed`, and `take` answers None.
+/// byte is looked at twice. It grows with bytes that came, by 64 at the first of a message, and never by what a table
+/// announces. After any refusal each later `feed` and `finish` answers `Failed`, and `take` answers None.
 #[derive(Drop)]
 pub struct Framer<A: Allocator + Copy = Global> {
     alloc: A,
@@ -56,6 +56,7 @@ impl<A: Allocator + Copy> Framer<A> {
     ///
     /// While a message waits it takes none. Refusals: `TooManySegments` once the count is there, `TooManyWords` once the
     /// table and its padding are there, `Memory` where a growth was refused, `Failed` after an earlier refusal.
+    #[inline]
     pub fn feed(&mut self, piece: &[u8]) -> Result<usize, FrameFault>
         ensures { FeedGives self.old piece.now result self.new }
     {
@@ -84,7 +85,16 @@ impl<A: Allocator + Copy> Framer<A> {
         part_left(self.stage, &self.frame)
     }
 
+    /// Whether it holds no byte: none has come since the last message was taken.
+    #[inline]
+    pub fn is_empty(&self) -> bool
+        ensures { IsTrue result ↔ (self.now.rest ≡ []) }
+    {
+        self.frame.is_empty()
+    }
+
     /// The message that waits, if one does, once. It takes no memory: the bytes are moved.
+    #[inline]
     pub fn take(&mut self) -> Option<Stored<A>>
         ensures { TakeGives self.old result self.new }
     {

@@ -10,11 +10,13 @@
 //!
 //! Here `text` is the first `taken` bytes of `input`, but for the padding of its table. Any bytes may be
 //! given: `first` answers exactly where a frame within the limits stands first, and else says why none
-//! does. What a table announces is never allocated.
+//! does. What a table announces is never allocated. [`laws`] has what holds of frames apart from any call: one frame
+//! stands first at most, and bytes are refused for one reason.
 #![tactic(auto)]
 
 mod fault;
 mod feeding;
+pub mod laws;
 mod owned;
 mod reading;
 mod receiving;

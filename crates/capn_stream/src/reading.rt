@@ -1,8 +1,8 @@
 //! The message that stands first in a stream.
 
-ghost use Rattle.std.specs.Prelude.{◌≡◌, ℕ, ◌^◌, ◌≤◌, List, IfOk, IfErr, MatchResult};
+ghost use Rattle.std.specs.Prelude.{◌≡◌, ℕ, ◌^◌, ◌≤◌, List, IfOk, IfErr, IsErrOf, MatchResult};
 ghost use Rattle.capn_stream.specs.Frames.{StandsFirst};
-ghost use Rattle.capn_stream.specs.Reading.{IsRefused};
+ghost use Rattle.capn_stream.specs.Reading.{HasTable, IsRefused};
 
 use crate::fault::FrameFault;
 use crate::segments::Framed;
@@ -29,6 +29,8 @@ pub fn first<'a, A: Allocator + Copy>(
         → StandsFirst bytes.now max_words message taken
         → MatchResult result (λ answer. (answer.0 ≡ message) × (answer.1 ≡ taken)) (λ e. e ≡ FrameFault.Memory) }
     ensures refused { IfErr result (λ e. IsRefused bytes.now max_words e) }
+    // Memory is wanted only where a whole frame of two segments or more stands first.
+    ensures memory { IsErrOf result FrameFault.Memory → HasTable bytes.now max_words }
 {
     let head = read_head(bytes, max_words)?;
     let start = head_of(head.segments);

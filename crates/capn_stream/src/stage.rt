@@ -24,6 +24,7 @@ pub(crate) enum Stage {
 }
 
 /// How many bytes of the frame are there once that part is whole.
+#[inline]
 fn end_of(stage: Stage) -> usize
     requires { FitsStage stage }
     ensures { result ≡ spec.need stage }
@@ -44,7 +45,22 @@ pub(crate) fn part_left(stage: Stage, bytes: &[u8]) -> usize
     end_of(stage) - bytes.len()
 }
 
+/// The room for which the first bytes of a frame ask, so that a small one takes memory once.
+const FIRST_ROOM: usize = 64;
+
+/// Room for so many bytes, where they are the first.
+#[inline]
+fn make_room<A: Allocator>(bytes: &mut Vec<u8, A>, count: usize) -> Result<(), AllocError>
+    ensures { bytes.new.items ≡ bytes.old.items }
+{
+    if bytes.is_empty() && count > 0 {
+        bytes.reserve(FIRST_ROOM)?;
+    }
+    Ok(())
+}
+
 /// Adds bytes of the piece until there are so many, and answers how many it took.
+#[inline]
 fn fill_to<A: Allocator>(
     bytes: &mut Vec<u8, A>,
     piece: &[u8],
@@ -55,6 +71,7 @@ fn fill_to<A: Allocator>(
     ensures { IfOk result (λ n. Extends bytes.old.items piece.now end n bytes.new.items) }
 {
     let count = (end - bytes.len()).min(piece.len());
+    make_room(bytes, count)?;
     bytes.extend_from_slice(&piece[..count])?;
     Ok(count)
 }

@@ -1,6 +1,6 @@
 //! The table of segments at the front of a stream.
 
-ghost use Rattle.std.specs.Prelude.{◌≡◌, ℕ, ◌+◌, ◌*◌, ◌^◌, ◌<◌, ◌≤◌, length, drop, sum, IfOk, IfErr};
+ghost use Rattle.std.specs.Prelude.{◌≡◌, ℕ, ◌+◌, ◌*◌, ◌^◌, ◌<◌, ◌≤◌, length, drop, sum, IfOk, IfErr, IsErrOf, OnErr};
 ghost use Rattle.capn_stream.specs.Cuts.{ends_from};
 ghost use Rattle.capn_stream.specs.Frames.{most_segments};
 ghost use Rattle.capn_stream.specs.Reading.{IsRefused, IsWhole, announced_segments, entries, entry_number, head_length, announced_words};
@@ -43,7 +43,8 @@ pub fn ends_of<A: Allocator>(
     requires few { count ≤ most_segments }
     requires inside { 4 * count ≤ length sizes.now }
     requires room { sum (entries count sizes.now) < 2 ^ 32 }
-    ensures { IfOk result (λ v. v.items ≡ ends_from 0 (entries count sizes.now)) }
+    ensures ends { IfOk result (λ v. v.items ≡ ends_from 0 (entries count sizes.now)) }
+    ensures wanted { OnErr result (0 < count) }
 {
     let mut ends = Vec::with_capacity(alloc, count)?;
     let mut end: u32 = 0;
@@ -76,6 +77,7 @@ pub fn read_head(bytes: &[u8], max_words: u32) -> Result<Head, FrameFault>
     ensures segments { IfOk result (λ head. head.segments ≡ announced_segments bytes.now) }
     ensures words { IfOk result (λ head. head.words ≡ announced_words bytes.now) }
     ensures refused { IfErr result (λ e. IsRefused bytes.now max_words e) }
+    ensures no_memory { IsErrOf result FrameFault.Memory → ⊥ }
 {
     if bytes.is_empty() {
         return Err(FrameFault::Empty);

@@ -4,3 +4,4 @@ pub mod Message
 pub mod Fields
 pub mod Pointers
 pub mod Watching
+pub mod Laws

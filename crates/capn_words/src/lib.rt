@@ -4,6 +4,7 @@
 //! - `Space` is a message whose words and bytes can be read at a `Place`; a function over any `Space`
 //!   is written and proved once. `Bare` is the `Space` of one borrowed segment.
 //! - `Watched` is a reader or a writer that remembers whether a call of it has failed.
+//! - `laws` has what holds of one segment's bytes apart from any call: one reading, one refusal.
 //!
 //! No call takes memory. A message has 1 to 512 segments and at most 2^28 + 1 words in all.
 //!
@@ -17,6 +18,7 @@
 #![tactic(auto)]
 
 pub mod bare;
+pub mod laws;
 pub mod pointer;
 pub mod space;
 pub mod watched;

@@ -13,7 +13,9 @@ fn takes_two_messages_of_one_piece(rt: HostRuntime) {
         twice[index + 40] = *byte;
     }
     let mut framer = Framer::new(rt.alloc(), MOST);
+    assert!(rt; framer.is_empty());
     assert_eq!(rt; framer.feed(&twice), Ok(40));
+    assert!(rt; !framer.is_empty());
     assert_eq!(rt; framer.feed(&twice[40..]), Ok(0));
     match framer.take() {
         None => assert!(rt; false, "no message waits"),
@@ -28,6 +30,7 @@ fn takes_two_messages_of_one_piece(rt: HostRuntime) {
             }
         }
     }
+    assert!(rt; framer.is_empty());
     assert!(rt; framer.take().is_none());
     assert_eq!(rt; framer.feed(&twice[40..]), Ok(40));
     assert_eq!(rt; framer.finish(), Ok(()));

@@ -1,4 +1,5 @@
 use Rattle.std.proofs.Common.{arith, ◌≡◌, length, take, length-take}
+use Rattle.capn_pack.proofs.StartLemmas.{whole_started}
 use Rattle.capn_pack.proofs.StreamLemmas.{splits_more, begins_more}
 use Rattle.capn_pack.proofs.pieces.feed_begun.Goals as goal
 
@@ -13,3 +14,8 @@ pub returns-in-Err-clause-err : goal.returns-in-Err-clause-err
 returns-in-Err-clause-err g c =
     let joined = rw c.in-Whole.is at c.in_ok-all.ensures.joined in
     begins_more _ _ c.join_first.new.held _ _ _ _ joined c.in-Err.ensures.err
+
+pub returns-in-Err-clause-wanted : goal.returns-in-Err-clause-wanted
+returns-in-Err-clause-wanted g c none =
+    let joined = rw c.in-Whole.is at c.in_ok-all.ensures.joined in
+    whole_started _ _ c.join_first.new.held _ _ _ joined none

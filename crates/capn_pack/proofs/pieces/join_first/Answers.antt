@@ -1,5 +1,6 @@
 use Rattle.std.proofs.Common.{arith, ap, refl, Err, length, inl, inr}
 use Rattle.std.proofs.lemmas.Bool.{cases_lt}
+use Rattle.capn_pack.proofs.StartLemmas.{joined_started}
 use Rattle.capn_pack.proofs.StreamLemmas.{join_past, join_whole, join_open}
 use Rattle.capn_pack.proofs.pieces.join_first.Goals as goal
 
@@ -14,3 +15,8 @@ returns-in-Err-Cut-clause-joined g c =
     let cut = c.in-Err-Cut.ensures in
     let is = ap Err c.in-Err-Cut.field-0-is in
     join_open c.args.held.now c.args.piece.now _ _ _ c.min-more.result _ _ _ _ (omega arith) (omega arith) (elim (cases_lt 2049 (length c.args.piece.now)) [ inl h ↦ inr (omega arith) | inr h ↦ inl (omega arith) ]) (omega arith) c.fill.ensures.joined refl refl (cut.short is) (cut.cut is) cut.err
+
+pub returns-in-Err-Memory-clause-wanted : goal.returns-in-Err-Memory-clause-wanted
+returns-in-Err-Memory-clause-wanted g c none =
+    joined_started _ c.args.piece.now _ c.min-more.result _ c.fill.ensures.joined
+    (c.in-Err-Memory.ensures.wanted (ap Err c.in-Err-Memory.field-0-is)) none

@@ -1,4 +1,5 @@
 use Rattle.std.proofs.Common.{ap, Err}
+use Rattle.capn_pack.proofs.StartLemmas.{row_started}
 use Rattle.capn_pack.proofs.RowLemmas.{row_more, row_join}
 use Rattle.capn_pack.proofs.StreamLemmas.{begins, splits_cut}
 use Rattle.capn_pack.proofs.pieces.take_groups.Goals as goal
@@ -18,3 +19,11 @@ loop-at-preserved-in-Ok-take_group g c = row_more _ _ _ _ 256 _ _ _ (row_join _ 
 
 pub loop-at-preserved : goal.loop-at-preserved
 loop-at-preserved g c = row_join _ _ _ _ _ _ c.loop-at.invariant c.in-Ok.ensures.row
+
+pub returns-in-Err-clause-wanted : goal.returns-in-Err-clause-wanted
+returns-in-Err-clause-wanted g c none = row_started _ _ _ _ _ c.loop-at.invariant c.in-Err.ensures.wanted none
+
+pub returns-in-Err-Memory-clause-wanted : goal.returns-in-Err-Memory-clause-wanted
+returns-in-Err-Memory-clause-wanted g c none =
+    row_started _ _ _ _ _ (row_join _ _ _ _ _ _ c.loop-at.invariant c.in-Ok.ensures.row)
+    (c.in-Err-Memory.ensures.wanted (ap Err c.in-Err-Memory.field-0-is)) none

@@ -1,4 +1,5 @@
 use Rattle.std.proofs.Common.{ap, Err}
+use Rattle.capn_pack.proofs.StartLemmas.{unpacked_starts}
 use Rattle.capn_pack.proofs.RowLemmas.{unpacked_more, unpacked_row, unpacked_all, stands}
 use Rattle.capn_pack.proofs.reading.unpack_groups.Goals as goal
 
@@ -24,3 +25,12 @@ returns-in-Err-TooLong-clause-refused g c =
 
 pub returns-clause-within : goal.returns-clause-within
 returns-clause-within g c = (unpacked_all _ _ _ _ _ c.loop-at.invariant c.loop-at-test.false).1
+
+pub returns-in_err-row-clause-wanted : goal.returns-in_err-row-clause-wanted
+returns-in_err-row-clause-wanted g c is = unpacked_starts _ _ _ _ _ c.loop-at.invariant c.in_err-row.ensures.wanted
+
+pub returns-in-Err-Memory-clause-wanted : goal.returns-in-Err-Memory-clause-wanted
+returns-in-Err-Memory-clause-wanted g c is =
+    let row = c.in_ok-row.ensures in
+    unpacked_starts _ _ _ _ _ (unpacked_row _ _ _ _ _ _ _ _ c.loop-at.invariant row.row row.counted row.fits)
+    (c.in-Err-Memory.ensures.wanted (ap Err c.in-Err-Memory.field-0-is))

@@ -9,10 +9,10 @@ pub returns-then-bytes-ne0-clause-unique : goal.returns-then-bytes-ne0-clause-un
 returns-then-bytes-ne0-clause-unique g c = texts_same
 
 pub returns-in-Ok-clause-packs : goal.returns-in-Ok-clause-packs
-returns-in-Ok-clause-packs g c = packs_from_chosen _ _ c.in-Ok.ensures
+returns-in-Ok-clause-packs g c = packs_from_chosen _ _ c.in-Ok.ensures.chosen
 
 pub returns-in-Ok-clause-only : goal.returns-in-Ok-clause-only
-returns-in-Ok-clause-only g c b chosen = one_text _ b _ c.in-Ok.ensures chosen
+returns-in-Ok-clause-only g c b chosen = one_text _ b _ c.in-Ok.ensures.chosen chosen
 
 pub returns-in-Ok-clause-unique : goal.returns-in-Ok-clause-unique
 returns-in-Ok-clause-unique g c = texts_same

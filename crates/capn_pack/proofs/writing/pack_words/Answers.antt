@@ -8,5 +8,5 @@ loop-at-preserved-then-at-bytes g c =
 pub loop-at-preserved : goal.loop-at-preserved
 loop-at-preserved g c = puts_join _ _ _ _ _ _ _ _ c.loop-at.invariant c.store_groups-stored.ensures.row c.in_ok-extend_from_slice.ensures.items
 
-pub returns : goal.returns
-returns g c = puts_all _ _ _ c.loop-at.invariant c.loop-at-test.false
+pub returns-clause-chosen : goal.returns-clause-chosen
+returns-clause-chosen g c = puts_all _ _ _ c.loop-at.invariant c.loop-at-test.false

@@ -27,5 +27,5 @@ returns-clause-tabled g c =
       room = omega (arith, all);
       begins = begins;
       stops = omega (arith, begins, all);
-      cuts = c.in_ok-ends.ensures ∙ ap (λ (ns : List ℕ). ends_from 0 ns) (sizes_read bs c.args.segments count);
+      cuts = c.in_ok-ends.ensures.ends ∙ ap (λ (ns : List ℕ). ends_from 0 ns) (sizes_read bs c.args.segments count);
     }

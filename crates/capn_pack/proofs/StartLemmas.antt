@@ -1,0 +1,108 @@
+-- A whole group stands first.
+use Rattle.std.proofs.Common.{◌≡◌, inl, inr, ℕ, ◌+◌, ◌*◌, ◌<◌, ◌≤◌, List, [], ◌∷◌, ◌++◌, length, take, drop, slice_range, refl, sym, ap, subst, ◌∙◌, arith, append_assoc, length-append, length-take, take-append-drop}
+use Rattle.std.proofs.lemmas.Bool.{cases_lt}
+use Rattle.std.specs.List.{AllByRecursion}
+use Rattle.capn_pack.specs.Group.{Group, IsGroup, text, words}
+use Rattle.capn_pack.specs.Group.Group.{Zeros, Named, Raw}
+use Rattle.capn_pack.specs.Joins.{Joins}
+use Rattle.capn_pack.specs.declared.pieces.Joined.TheVariants as joins
+use Rattle.capn_pack.specs.Packs.{texts, contents, word_count}
+use Rattle.capn_pack.specs.Refusal.{StartsWithin}
+use Rattle.capn_pack.specs.Steps.{TakesRow}
+use Rattle.capn_pack.specs.Stream.{NoGroupFirst}
+use Rattle.capn_pack.proofs.GroupLemmas.{length_contents, rest_is}
+use Rattle.capn_pack.proofs.RowLemmas.{Unpacked}
+
+-- the first n bytes are a group's
+pub starts : (rest : List ℕ) (n room : ℕ) (g : Group) → IsGroup g → take n rest ≡ text g → words g ≤ room → StartsWithin rest room
+starts rest n room g is e fits = record {
+  group = g;
+  more = drop n rest;
+  is_group = is;
+  text = sym (take-append-drop n rest) ∙ ap (λ (xs : List ℕ). xs ++ drop n rest) e;
+  fits = fits;
+}
+
+-- the first of some groups
+first_of : (bytes : List ℕ) (at room : ℕ) (gs : List Group) → AllByRecursion IsGroup gs → take at bytes ≡ texts gs
+    → 0 < word_count gs → word_count gs ≤ room → StartsWithin bytes room
+first_of bytes at room [] each e some fits = absurd (omega arith)
+first_of bytes at room (g ∷ gs) each e some fits = record {
+  group = g;
+  more = texts gs ++ drop at bytes;
+  is_group = each.0;
+  text =
+      sym (take-append-drop at bytes)
+      ∙ ap (λ (xs : List ℕ). xs ++ drop at bytes) e
+      ∙ append_assoc (text g) (texts gs) (drop at bytes);
+  fits = omega (arith, fits);
+}
+
+-- a row with words
+pub row_starts : (bytes : List ℕ) (at room : ℕ) (out : List ℕ) → TakesRow bytes at [] out → 0 < length out → length out ≤ 8 * room
+    → StartsWithin bytes room
+row_starts bytes at room out u some fits =
+    let size = length_contents u.groups u.each in
+    first_of bytes at room u.groups u.each u.text (omega (arith, size, ap length u.content)) (omega (arith, size, ap length u.content))
+
+-- groups without words are none
+no_groups : (bytes : List ℕ) (at : ℕ) (gs : List Group) → at ≤ length bytes → take at bytes ≡ texts gs → word_count gs ≡ 0 → at ≡ 0
+no_groups bytes at [] within e none = omega (arith, within, ap length e, length-take at bytes)
+no_groups bytes at (Zeros more ∷ gs) within e none = absurd (omega (arith, none))
+no_groups bytes at (Named tag word ∷ gs) within e none = absurd (omega (arith, none))
+no_groups bytes at (Raw word count more ∷ gs) within e none = absurd (omega (arith, none))
+
+-- what stands behind the groups so far, where there is room for it, or the first of them
+pub unpacked_starts : (bytes : List ℕ) (at : ℕ) (out : List ℕ) (room max : ℕ) → Unpacked bytes at out room max
+    → StartsWithin (slice_range bytes at (length bytes)) room → StartsWithin bytes max
+unpacked_starts bytes at out room max u s = elim (cases_lt 0 (length out)) [
+  | inl some ↦ row_starts bytes at max out u.row some (omega (arith, u.counted))
+  | inr none ↦
+      (let count : word_count u.row.groups ≡ 0 = omega (arith, none, length_contents u.row.groups u.row.each, ap length u.row.content) in
+      let start : at ≡ 0 = no_groups bytes at u.row.groups u.row.within u.row.text count in
+      record {
+        group = s.group;
+        more = s.more;
+        is_group = s.is_group;
+        text = ap (λ (n : ℕ). drop n bytes) (sym start) ∙ sym (rest_is bytes at) ∙ s.text;
+        fits = omega (arith, s.fits, u.counted, none);
+      })
+]
+
+-- ---- and so not none
+
+pub started : (bs : List ℕ) (room : ℕ) → StartsWithin bs room → NoGroupFirst bs → ⊥
+started bs room s none = none s.group s.more s.is_group s.text
+
+row_open : (bytes : List ℕ) (at : ℕ) (gs : List Group) → AllByRecursion IsGroup gs → at ≤ length bytes → take at bytes ≡ texts gs
+    → NoGroupFirst bytes → at ≡ 0
+row_open bytes at [] each within e none = omega (arith, within, ap length e, length-take at bytes)
+row_open bytes at (g ∷ gs) each within e none =
+    absurd (none g (texts gs ++ drop at bytes) each.0
+    (sym (take-append-drop at bytes) ∙ ap (λ (xs : List ℕ). xs ++ drop at bytes) e ∙ append_assoc (text g) (texts gs) (drop at bytes)))
+
+-- behind a row
+pub row_started : (bytes : List ℕ) (at room : ℕ) (old out : List ℕ) → TakesRow bytes at old out
+    → StartsWithin (slice_range bytes at (length bytes)) room → NoGroupFirst bytes → ⊥
+row_started bytes at room old out u s none =
+    let start : at ≡ 0 = row_open bytes at u.groups u.each u.within u.text none in
+    none s.group s.more s.is_group (ap (λ (n : ℕ). drop n bytes) (sym start) ∙ sym (rest_is bytes at) ∙ s.text)
+
+-- among the first bytes of a piece behind a rest
+pub joined_started : (rest piece joined : List ℕ) (more room : ℕ) → joined ≡ rest ++ take more piece → StartsWithin joined room
+    → NoGroupFirst (rest ++ piece) → ⊥
+joined_started rest piece joined more room e s none =
+    none s.group (s.more ++ drop more piece) s.is_group
+    (ap (λ (xs : List ℕ). rest ++ xs) (sym (take-append-drop more piece))
+    ∙ sym (append_assoc rest (take more piece) (drop more piece))
+    ∙ ap (λ (xs : List ℕ). xs ++ drop more piece) (sym e ∙ s.text)
+    ∙ append_assoc (text s.group) s.more (drop more piece))
+
+-- a rest that the front of a piece made whole
+pub whole_started : (rest piece held : List ℕ) (at : ℕ) (old mid : List ℕ) → Joins rest piece held old mid (joins.Whole at)
+    → NoGroupFirst (rest ++ piece) → ⊥
+whole_started rest piece held at old mid j none =
+    none j.1 (drop at piece) j.2
+    (ap (λ (xs : List ℕ). rest ++ xs) (sym (take-append-drop at piece))
+    ∙ sym (append_assoc rest (take at piece) (drop at piece))
+    ∙ ap (λ (xs : List ℕ). xs ++ drop at piece) j.3)

@@ -1,0 +1,18 @@
+//! The tag of a word as the packer takes it.
+ghost use Rattle.std.specs.Prelude.{◌≡◌};
+ghost use Rattle.capn_pack.specs.Tag.{tag_of};
+
+use std::simd::prelude::*;
+
+/// The tag of a word, by the sign bits of its lanes.
+///
+/// It is what [`tag`](crate::tag) answers; but a test of it for zero becomes one comparison of the whole word, so long
+/// runs of zero words are told faster.
+#[inline(always)]
+pub(crate) fn tag(bytes: &[u8; 8]) -> u8
+    ensures { result ≡ tag_of bytes.now }
+{
+    u8x8::from_array(*bytes)
+        .simd_ne(u8x8::splat(0))
+        .to_bitmask() as u8
+}

@@ -1,0 +1,33 @@
+-- Frames as their bytes: the definitions compute to what one reads off the page's layout.
+use Rattle.std.proofs.Common.{◌≡◌, ℕ, List, [], ◌∷◌, ◌++◌, refl}
+use Rattle.capn_words.specs.Words.{word_bytes}
+use Rattle.capn_stream.specs.Frames.{entry, frame_text}
+use Rattle.capn_stream.specs.Reading.{announced_segments, announced_words, entry_number, frame_length, head_length}
+
+-- a struct of one word, which is 5
+struct_of_one_word : List (List ℕ)
+struct_of_one_word = (4294967296 ∷ 5 ∷ []) ∷ []
+
+-- one segment of two words, and no padding
+one_segment : List ℕ
+one_segment =
+    0 ∷ 0 ∷ 0 ∷ 0 ∷ 2 ∷ 0 ∷ 0 ∷ 0 ∷ 0 ∷ 0 ∷ 0 ∷ 0 ∷ 1 ∷ 0 ∷ 0 ∷ 0 ∷ 5 ∷ 0 ∷ 0 ∷ 0 ∷ 0 ∷ 0 ∷ 0 ∷ 0 ∷ []
+
+one_segment_framed : frame_text struct_of_one_word ≡ one_segment
+unfolding struct_of_one_word one_segment entry word_bytes
+one_segment_framed = refl
+
+one_segment_announced : (announced_segments one_segment ≡ 1) × (announced_words one_segment ≡ 2) × (frame_length one_segment ≡ 24)
+unfolding one_segment entry_number
+one_segment_announced = (refl, refl, refl)
+
+-- the same struct behind a far pointer: two segments, of one word and of two, and 4 bytes of padding
+two_segments : frame_text ((4294967298 ∷ []) ∷ (4294967296 ∷ 5 ∷ []) ∷ [])
+    ≡ 1 ∷ 0 ∷ 0 ∷ 0 ∷ 1 ∷ 0 ∷ 0 ∷ 0 ∷ 2 ∷ 0 ∷ 0 ∷ 0 ∷ 0 ∷ 0 ∷ 0 ∷ 0 ∷ 2 ∷ 0 ∷ 0 ∷ 0 ∷ 1 ∷ 0 ∷ 0 ∷ 0
+    ∷ 0 ∷ 0 ∷ 0 ∷ 0 ∷ 1 ∷ 0 ∷ 0 ∷ 0 ∷ 5 ∷ 0 ∷ 0 ∷ 0 ∷ 0 ∷ 0 ∷ 0 ∷ 0 ∷ []
+unfolding entry word_bytes
+two_segments = refl
+
+-- a table with its padding is a whole number of words
+heads : (head_length 1 ≡ 8) × (head_length 2 ≡ 16) × (head_length 3 ≡ 16) × (head_length 512 ≡ 2056)
+heads = (refl, refl, refl, refl)

@@ -1,0 +1,10 @@
+//! The laws of frames, as a function that does nothing.
+
+ghost use Rattle.capn_stream.specs.Laws.{FramedAreNotRefused, OneFrame, OneRefusal};
+
+/// One message stands first in some bytes at most; else they are refused for one reason, and never both.
+pub fn framing()
+    ensures one { OneFrame }
+    ensures refusal { OneRefusal }
+    ensures apart { FramedAreNotRefused }
+{}

@@ -1,0 +1,10 @@
+//! The laws of one segment, as a function that does nothing.
+
+ghost use Rattle.capn_words.specs.Laws.{BareAreNotRefused, OneBareReading, OneBareRefusal};
+
+/// Bytes are those of one list of words at most; else they are refused for one reason, and never both.
+pub fn one_segment()
+    ensures one { OneBareReading }
+    ensures refusal { OneBareRefusal }
+    ensures apart { BareAreNotRefused }
+{}
