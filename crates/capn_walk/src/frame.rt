@@ -54,25 +54,6 @@ impl Frame {
         }
     }
 
-    /// One slot.
-    pub fn of_slot(at: Place) -> Frame
-        requires { at.word < 2 ^ 32 - 1 }
-        ensures places { places_of result ≡ at ∷ [] }
-        ensures owed { owed result ≡ 1 }
-        ensures segment { result.segment ≡ at.segment }
-        ensures end { end_of result ≡ at.word + 1 }
-        ensures rows { HasRows result }
-    {
-        Frame {
-            segment: at.segment,
-            next: at.word,
-            left: 1,
-            rows: 0,
-            words: 0,
-            slots: 0,
-        }
-    }
-
     /// The slots of an object whose content starts at a place.
     #[inline(always)]
     pub fn of_object(start: Place, shape: Shape) -> Frame

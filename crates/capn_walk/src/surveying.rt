@@ -1,8 +1,9 @@
 //! A survey of all that a message holds, without its value.
 
-ghost use Rattle.std.specs.Prelude.{◌≡◌, ◌≢◌, ℕ, ◌<◌, ◌≤◌, ◌+◌, ◌-◌, ◌^◌, ◌∷◌, ◌⊎◌, ◌↔◌, [], length, IsTrue, IfOk, IfErr, MatchResult};
+ghost use Rattle.std.specs.Prelude.{◌≡◌, ◌≢◌, ℕ, ◌<◌, ◌≤◌, ◌+◌, ◌-◌, ◌^◌, ◌∷◌, ◌⊎◌, ◌↔◌, [], length, Ok, IsTrue, IfOk, IfErr, MatchResult};
 ghost use Rattle.capn_words.specs.Message.{segment_at, IsMessage, IsPlace};
 ghost use Rattle.capn_walk.specs.Target as spec;
+ghost use Rattle.capn_walk.specs.Accepted.{root};
 ghost use Rattle.capn_walk.specs.Visits.{pays, visits, visits_of};
 ghost use Rattle.capn_walk.specs.Verdict.{judge, refused};
 ghost use Rattle.capn_walk.specs.Walked.{Gives, Refuses, IsPlain, AreNumbers};
@@ -50,10 +51,52 @@ pub fn survey<S: Space, A: Allocator + Copy>(
         (λ s. IsBounded limits.budget s.paid s.visits) }
 {
     let _bounds = space.segments();
-    let _target = root_target(space)?;
-    let first = Frame::of_slot(ROOT);
-    let told = survey_slots(alloc, space, first, limits.depth(), limits.budget())?;
+    let target = root_target(space)?;
+    let told = survey_root(alloc, space, target, limits.depth(), limits.budget())?;
     Ok(told)
+}
+
+/// The visit of the root's slot, and then those below it, where there are any: only these want a stack.
+#[inline(always)]
+fn survey_root<S: Space, A: Allocator + Copy>(
+    alloc: A,
+    space: &S,
+    target: Target,
+    depth: u32,
+    budget: u32,
+) -> Result<Surveyed, Stopped>
+    requires message { IsMessage (S.message space.now) }
+    requires place { IsPlace (S.message space.now) root }
+    requires target { Ok target ≡ spec.target (S.message space.now) root }
+    requires some { 1 ≤ depth }
+    requires depth { depth ≤ 256 }
+    requires budget { budget ≤ 2 ^ 28 }
+    ensures pays { IfOk result (λ s. Gives budget (visits (S.message space.now) 1 depth root) 1 s.paid s.visits) }
+    ensures capability { IfOk result (λ s.
+        told.first_cap_of (S.message space.now) (visits (S.message space.now) 1 depth root) ≡ s.capability) }
+    ensures refused { IfErr result (λ s. Refuses budget (visits (S.message space.now) 1 depth root) 1 s) }
+    ensures memory { depth ≤ 64 → IfErr result (λ s. s.fault ≢ Memory) }
+{
+    let visited = match visit_found(space, ROOT, Ok(target), depth, budget) {
+        Ok(visited) => visited,
+        Err(fault) => return Err(stopped(fault, ROOT, 0, 1)),
+    };
+    if visited.below.is_done() {
+        return Ok(Surveyed {
+            paid: visited.price,
+            visits: 1,
+            capability: visited.capability,
+        });
+    }
+    let left = budget - visited.price;
+    match survey_slots(alloc, space, visited.below, depth - 1, left) {
+        Ok(below) => Ok(Surveyed {
+            paid: visited.price + below.paid,
+            visits: 1 + below.visits,
+            capability: visited.capability.or(below.capability),
+        }),
+        Err(refusal) => Err(refusal.behind(visited.price, 1)),
+    }
 }
 
 /// What one visit comes to: its price, the capability that it meets, and the slots below it.
