@@ -1,5 +1,5 @@
 -- The slots of a frame, one by one.
-use Rattle.std.proofs.Common.{Bool, false, IsTrue, ◌↔◌, ◌≡◌, ℕ, zero, suc, ◌+◌, ◌-◌, ◌*◌, ◌<◌, ◌≤◌, List, [], ◌∷◌, ◌++◌, length, refl, ap, sym, ◌∙◌, arith}
+use Rattle.std.proofs.Common.{Bool, true, false, IsTrue, ◌↔◌, ◌≡◌, ℕ, zero, suc, ◌+◌, ◌-◌, ◌*◌, ◌<◌, ◌≤◌, List, [], ◌∷◌, ◌++◌, length, refl, ap, sym, ◌∙◌, arith}
 use Rattle.capn_words.specs.declared.space.Place.{Place}
 use Rattle.capn_walk.specs.Visits.{places, row_places, slots}
 use Rattle.capn_walk.specs.declared.target.Shape.{Shape}
@@ -57,7 +57,14 @@ nothing-left f h e =
     let r : f.rows ≡ 0 = no-rows f.rows f.slots h (omega arith) in
     rw (l, r) refl
 
+pub none-owed : (f : Frame) → f.left ≡ 0 → f.rows ≡ 0 → owed f ≡ 0
+none-owed f l r = rw (l, r) (omega arith)
+
 -- a test that isn't met tells of some slot
 pub not-done : (b : Bool) (n : ℕ) → IsTrue b ↔ (n ≡ 0) → b ≡ false → 0 < n
 not-done b zero h e = let t = h.1 refl in absurd cc
 not-done b (suc n) h e = omega arith
+
+-- a test that is met tells of none
+pub done : (b : Bool) (n : ℕ) → IsTrue b ↔ (n ≡ 0) → b ≡ true → n ≡ 0
+done b n h e = h.0 e

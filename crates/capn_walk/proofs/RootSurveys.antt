@@ -1,56 +1,108 @@
 -- A survey of a whole message.
-use Rattle.std.proofs.Common.{◌≡◌, ◌⊎◌, inl, inr, ℕ, ◌+◌, ◌<◌, ◌≤◌, List, [], ◌∷◌, ◌++◌, length, Option, Ok, refl, ap, sym, ◌∙◌, arith}
-use Rattle.std.proofs.lemmas.List.{append-nil}
+use Rattle.std.proofs.Common.{◌≡◌, ◌⊎◌, inl, inr, ℕ, ◌+◌, ◌-◌, ◌<◌, ◌≤◌, List, [], ◌∷◌, ◌++◌, length, Option, None, Ok, refl, ap, ap₂, sym, ◌∙◌, arith}
+use Rattle.std.specs.Option.{option_or}
 use Rattle.capn_words.specs.Message.{segment_at}
+use Rattle.capn_words.specs.declared.space.Place.{Place}
 use Rattle.capn_value.specs.Tree.{Tree}
 use Rattle.capn_value.specs.Caps.{first_cap}
+use Rattle.capn_walk.specs.declared.frame.Frame.{Frame}
+use Rattle.capn_walk.specs.declared.target.Fault.{Fault}
+use Rattle.capn_walk.specs.declared.target.Fault.TheVariants as faults
 use Rattle.capn_walk.specs.declared.target.Target.{Target}
 use Rattle.capn_walk.specs.declared.surveyed.Surveyed.{Surveyed}
 use Rattle.capn_walk.specs.declared.walked.Stopped.{Stopped}
 use Rattle.capn_walk.specs.Target.{target}
-use Rattle.capn_walk.specs.Visits.{Visit, visits, visits_of}
-use Rattle.capn_walk.specs.Verdict.{judge}
+use Rattle.capn_walk.specs.Visits.{Visit, pays, visits, visits_of}
+use Rattle.capn_walk.specs.Verdict.{judge, after, accepted, refused}
 use Rattle.capn_walk.specs.Accepted.{AllPay, root, root_visits}
 use Rattle.capn_walk.specs.At.{IsAt}
 use Rattle.capn_walk.specs.Denotes.{IsValueOf, IsAccepted, IsRefused}
 use Rattle.capn_walk.specs.Walked.{Gives, Refuses, IsRootKind}
-use Rattle.capn_walk.specs.Surveyed.{first_cap_of, IsSurvey}
+use Rattle.capn_walk.specs.Frames.{places_of, owed, HasRows}
+use Rattle.capn_walk.specs.Surveyed.{cap_of, first_cap_of, IsSurvey}
+use Rattle.capn_walk.proofs.Framing.{nothing-left}
+use Rattle.capn_walk.proofs.Judge.{judge-pays}
 use Rattle.capn_walk.proofs.Stops.{accepted-within}
-use Rattle.capn_walk.proofs.RootWalks.{from-root, refused-below}
+use Rattle.capn_walk.proofs.RootWalks.{from-root}
+use Rattle.capn_walk.proofs.UnderWay.{option_or-none}
 use Rattle.capn_walk.proofs.CapsMet.{caps-at}
 use Rattle.capn_walk.proofs.Exists.{exists-at}
 
 module _ (m : List (List ℕ)) where
-  -- the visits of the root's slot alone
-  pub of-root : (d : ℕ) → visits_of m 1 d (root ∷ []) ≡ visits m 1 d root
-  of-root d = append-nil (visits m 1 d root)
+  -- the visit of a slot that is refused at once
+  pub refuses-here : (budget depth : ℕ) (at : Place) (e : Fault) → judge budget (visits m 1 depth at) ≡ refused e at 0 1 →
+      Refuses budget (visits m 1 depth at) 1 (record { fault = e; place = at; paid = 0; visits = 1 })
+  refuses-here budget depth at e h = record { is = inr h; within = omega arith; few = omega arith }
 
-  pub stops-below : (budget depth : ℕ) (s : Stopped) → Refuses budget (visits_of m 1 depth (root ∷ [])) 1 s → Refuses budget (visits m 1 depth root) 1 s
-  stops-below budget depth s r = rw (← of-root depth) r
+  -- that of a slot that pays, with what the visits below it come to
+  module _ (budget depth : ℕ) (at : Place) (p : ℕ) (below : Frame) (k : Option ℕ)
+      (here : visits m 1 depth at ≡ pays at p ∷ visits_of m 1 (depth - 1) (places_of below)) (fits : p ≤ budget)
+      (few : owed below ≤ p) (c : cap_of (target m at) ≡ k) where
+    abbrev others : List Visit
+    others = visits_of m 1 (depth - 1) (places_of below)
+
+    both : judge budget (visits m 1 depth at) ≡ after p 1 (judge (budget - p) others)
+    both = ap (judge budget) here ∙ judge-pays budget p at others fits
+
+    pub gives-below : (q j : ℕ) → Gives (budget - p) others (owed below) q j → Gives budget (visits m 1 depth at) 1 (p + q) (1 + j)
+    gives-below q j g = record {
+      is = both ∙ ap (after p 1) g.is;
+      within = let w = g.within in omega arith;
+      few = let w = g.few in omega arith;
+    }
+
+    pub caps-below : (j : Option ℕ) → first_cap_of m others ≡ j → first_cap_of m (visits m 1 depth at) ≡ option_or k j
+    caps-below j e = ap (first_cap_of m) here ∙ ap₂ option_or c e
+
+    later : (e : Fault) (to : Place) (q j : ℕ) → (e ≡ faults.Memory) ⊎ (judge (budget - p) others ≡ refused e to q j) →
+        (e ≡ faults.Memory) ⊎ (judge budget (visits m 1 depth at) ≡ refused e to (p + q) (1 + j))
+    later e to q j (inl h) = inl h
+    later e to q j (inr h) = inr (both ∙ ap (after p 1) h)
+
+    pub refuses-below : (s : Stopped) → Refuses (budget - p) others (owed below) s →
+        Refuses budget (visits m 1 depth at) 1 (record s { paid = p + s.paid; visits = 1 + s.visits })
+    refuses-below s r = record {
+      is = later s.fault s.place s.paid s.visits r.is;
+      within = let w = r.within in omega arith;
+      few = let w = r.few in omega arith;
+    }
+
+    -- nothing is below it
+    none-below : HasRows below → owed below ≡ 0 → others ≡ []
+    none-below h z = ap (visits_of m 1 (depth - 1)) (nothing-left below h z)
+
+    pub gives-alone : HasRows below → owed below ≡ 0 → Gives budget (visits m 1 depth at) 1 p 1
+    gives-alone h z = record {
+      is =
+          let y : p + 0 ≡ p = omega arith in
+          both ∙ ap (λ (vs : List Visit). after p 1 (judge (budget - p) vs)) (none-below h z) ∙ ap (λ (n : ℕ). accepted n 1) y;
+      within = fits;
+      few = omega arith;
+    }
+
+    pub caps-alone : HasRows below → owed below ≡ 0 → first_cap_of m (visits m 1 depth at) ≡ k
+    caps-alone h z = caps-below None (ap (first_cap_of m) (none-below h z)) ∙ option_or-none k
 
   module _ (budget depth : ℕ) (some : 0 < length (segment_at m 0)) (t : Target) (e : target m root ≡ Ok t) (kind : IsRootKind t) where
-    pub surveyed : (s : Surveyed) → Gives budget (visits_of m 1 depth (root ∷ [])) 1 s.paid s.visits →
-        first_cap_of m (visits_of m 1 depth (root ∷ [])) ≡ s.capability → IsSurvey m 1 budget depth s
+    pub surveyed : (s : Surveyed) → Gives budget (visits m 1 depth root) 1 s.paid s.visits →
+        first_cap_of m (visits m 1 depth root) ≡ s.capability → IsSurvey m 1 budget depth s
     surveyed s g c =
         let same = from-root m 1 depth t e kind in
-        let here = of-root depth in
-        let (w, p, k) = accepted-within budget (root_visits m 1 depth) s.paid s.visits (ap (judge budget) (same ∙ sym here) ∙ g.is) in
+        let (w, p, k) = accepted-within budget (root_visits m 1 depth) s.paid s.visits (ap (judge budget) same ∙ g.is) in
         let all = rw same at w.all in
         let (v, i) = exists-at m 1 depth root all in
-        let met = ap (first_cap_of m) here in
         let first = caps-at m 1 v root depth i all in
         record {
           value = v;
           is = record { accepted = record { some = some; within = w }; is = i };
           pays = p;
           counts = k;
-          capability = sym c ∙ met ∙ first;
+          capability = sym c ∙ first;
         }
 
-    pub one-cap : (k : Option ℕ) (v : Tree) → IsValueOf m 1 budget depth v → first_cap_of m (visits_of m 1 depth (root ∷ [])) ≡ k → k ≡ first_cap v
+    pub one-cap : (k : Option ℕ) (v : Tree) → IsValueOf m 1 budget depth v → first_cap_of m (visits m 1 depth root) ≡ k → k ≡ first_cap v
     one-cap k v is c =
         let same = from-root m 1 depth t e kind in
         let all = rw same at is.accepted.within.all in
-        let met = ap (first_cap_of m) (of-root depth) in
         let first = caps-at m 1 v root depth is.is all in
-        sym c ∙ met ∙ first
+        sym c ∙ first

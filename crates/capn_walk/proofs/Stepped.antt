@@ -1,5 +1,5 @@
 -- A step of a view is one visit of a walk.
-use Rattle.std.proofs.Common.{◌≡◌, ℕ, zero, suc, ◌+◌, ◌-◌, ◌<◌, ◌≤◌, ◌==◌, nat_lt, List, [], ◌∷◌, ◌++◌, length, Result, Ok, Err, refl, ap, sym, ◌∙◌, arith}
+use Rattle.std.proofs.Common.{◌≡◌, ℕ, zero, suc, ◌+◌, ◌-◌, ◌*◌, ◌<◌, ◌≤◌, ◌==◌, nat_lt, List, [], ◌∷◌, ◌++◌, length, Result, Ok, Err, Option, None, refl, ap, sym, ◌∙◌, arith}
 use Rattle.std.proofs.lemmas.Bool.Decides.{nat_tests}
 use Rattle.capn_words.specs.declared.space.Place.{Place}
 use Rattle.capn_words.proofs.FieldBits.{pick}
@@ -8,7 +8,17 @@ use Rattle.capn_walk.specs.declared.target.Target.TheVariants as targets
 use Rattle.capn_walk.specs.declared.target.Shape.{Shape}
 use Rattle.capn_walk.specs.declared.target.Fault.{Fault}
 use Rattle.capn_walk.specs.declared.target.Fault.TheVariants as faults
-use Rattle.capn_walk.specs.Target.{target}
+use Rattle.capn_words.specs.Message.{segment_at}
+use Rattle.capn_words.specs.declared.pointer.Pointer.{Pointer}
+use Rattle.capn_words.specs.declared.pointer.Pointer.TheVariants.{Nil, Node, Many, Far, Cap, Reserved}
+use Rattle.capn_words.specs.declared.pointer.Width.{Width}
+use Rattle.capn_words.specs.declared.pointer.Width.TheVariants.{W0, W1, W8, W16, W32, W64, Link, Rows}
+use Rattle.capn_words.specs.Pointers.{field}
+use Rattle.capn_walk.specs.Target.{moved, tagged, within, list, list_from, struct_from, near, target}
+use Rattle.capn_walk.specs.Walked.{IsPlain, AreNumbers}
+use Rattle.capn_walk.specs.Surveyed.{cap_of}
+use Rattle.std.specs.Bool.{⊤}
+use Rattle.std.specs.Result.{IfOk, IfErr, MatchResult}
 use Rattle.capn_walk.specs.Visits.{Visit, pays, fails, price, slots, visits, visits_of}
 use Rattle.capn_walk.specs.Verdict.{Verdict, judge, refused}
 use Rattle.capn_walk.specs.Viewed.{stepped, toll, slots_below}
@@ -71,3 +81,103 @@ within-front b xs ys w = let p = w.paid in let s = paid-append xs ys in record {
 
 pub within-back : (b : ℕ) (xs ys : List Visit) → IsWithin b (xs ++ ys) → IsWithin (b - paid_of xs) ys
 within-back b xs ys w = let p = w.paid in let s = paid-append xs ys in record { all = all-back xs ys w.all; paid = omega arith }
+
+-- what stands near
+module _ (m : List (List ℕ)) where
+  -- it is no capability
+  abbrev NoCap : Result Target Fault → Type 0
+  NoCap r = cap_of r ≡ None
+
+  capless-within : (s start n : ℕ) (r : Result Target Fault) → NoCap r → NoCap (within m s start n r)
+  capless-within s start n r h = pick NoCap (nat_lt (length (segment_at m s)) (start + n)) _ _ (λ e. refl) (λ e. h)
+
+  capless-tagged : (s start pads span t : ℕ) → NoCap (tagged m s start pads span t)
+  capless-tagged s start pads span t =
+      pick NoCap (field 0 2 t == 0) _ _
+      (λ e. pick NoCap (nat_lt span (field 2 30 t * (field 32 16 t + field 48 16 t))) _ _ (λ e. refl) (λ e. refl))
+      (λ e. refl)
+
+  capless-list : (s start pads : ℕ) (width : Width) (n : ℕ) → NoCap (list m s start pads width n)
+  capless-list s start pads W0 n = capless-within s start _ _ refl
+  capless-list s start pads W1 n = capless-within s start _ _ refl
+  capless-list s start pads W8 n = capless-within s start _ _ refl
+  capless-list s start pads W16 n = capless-within s start _ _ refl
+  capless-list s start pads W32 n = capless-within s start _ _ refl
+  capless-list s start pads W64 n = capless-within s start _ _ refl
+  capless-list s start pads Link n = capless-within s start _ _ refl
+  capless-list s start pads Rows n = capless-within s start _ _ (capless-tagged s start pads n _)
+
+  capless-list_from : (s : ℕ) (r : Result ℕ Fault) (pads : ℕ) (width : Width) (n : ℕ) → NoCap (list_from m s r pads width n)
+  capless-list_from s (Ok start) pads width n = capless-list s start pads width n
+  capless-list_from s (Err e) pads width n = refl
+
+  capless-struct_from : (s : ℕ) (r : Result ℕ Fault) (pads a b : ℕ) → NoCap (struct_from m s r pads a b)
+  capless-struct_from s (Ok start) pads a b = capless-within s start (a + b) _ refl
+  capless-struct_from s (Err e) pads a b = refl
+
+  pub near-capless : (s w pads : ℕ) (p : Pointer) → cap_of (near m s w pads p) ≡ None
+  near-capless s w pads (Many o width n) = capless-list_from s (moved w o) pads width n
+  near-capless s w pads (Node o a b) = capless-struct_from s (moved w o) pads a b
+  near-capless s w pads Nil = refl
+  near-capless s w pads (Far d v t) = refl
+  near-capless s w pads (Cap k) = refl
+  near-capless s w pads (Reserved n) = refl
+
+  pub capless-near : (at : Place) (p : Pointer) → near m at.segment at.word 0 p ≡ target m at → cap_of (target m at) ≡ None
+  capless-near at p h = rw h at (near-capless at.segment at.word 0 p)
+
+  -- a list of numbers has no slots
+  abbrev HasNone : Result Target Fault → Type 0
+  HasNone (Ok t) = slots_below t ≡ []
+  HasNone (Err e) = ⊤
+
+  none-within : (s start n : ℕ) (r : Result Target Fault) → HasNone r → HasNone (within m s start n r)
+  none-within s start n r h = pick HasNone (nat_lt (length (segment_at m s)) (start + n)) _ _ (λ e. tt) (λ e. h)
+
+  none-list : (s start pads : ℕ) (width : Width) (n : ℕ) → IsPlain width → HasNone (list m s start pads width n)
+  none-list s start pads W0 n h = none-within s start _ _ refl
+  none-list s start pads W1 n h = none-within s start _ _ refl
+  none-list s start pads W8 n h = none-within s start _ _ refl
+  none-list s start pads W16 n h = none-within s start _ _ refl
+  none-list s start pads W32 n h = none-within s start _ _ refl
+  none-list s start pads W64 n h = none-within s start _ _ refl
+  none-list s start pads Link n h = absurd h
+  none-list s start pads Rows n h = absurd h
+
+  none-list_from : (s : ℕ) (r : Result ℕ Fault) (pads : ℕ) (width : Width) (n : ℕ) → IsPlain width → HasNone (list_from m s r pads width n)
+  none-list_from s (Ok start) pads width n h = none-list s start pads width n h
+  none-list_from s (Err e) pads width n h = tt
+
+  none-near : (s w pads : ℕ) (p : Pointer) → AreNumbers p → HasNone (near m s w pads p)
+  none-near s w pads (Many o width n) h = none-list_from s (moved w o) pads width n h
+  none-near s w pads Nil h = absurd h
+  none-near s w pads (Node o a b) h = absurd h
+  none-near s w pads (Far d v t) h = absurd h
+  none-near s w pads (Cap k) h = absurd h
+  none-near s w pads (Reserved n) h = absurd h
+
+  pub numbers-below : (s w pads : ℕ) (p : Pointer) (t : Target) → AreNumbers p → near m s w pads p ≡ Ok t → slots_below t ≡ []
+  numbers-below s w pads p t h e = let k = rw e at (none-near s w pads p h) in k
+
+  -- a visit of such a list, where its target is known
+  module _ (at : Place) (depth left : ℕ) (p : Pointer) where
+    pub numbers-paid : (t : Target) → AreNumbers p → near m at.segment at.word 0 p ≡ Ok t → near m at.segment at.word 0 p ≡ target m at →
+        (r : Result ℕ Fault) → MatchResult r (λ n. stepped 1 depth left (Ok t) ≡ Ok t) (λ e. stepped 1 depth left (Ok t) ≡ Err e) →
+        IfOk r (λ n. n ≡ toll 1 t) → IfOk r (λ n. visits m 1 depth at ≡ pays at n ∷ [])
+    numbers-paid t k h e (Ok n) f x =
+        let s = sym e ∙ h in
+        let z = numbers-below at.segment at.word 0 p t k h in
+        let w = (step-pays m 1 at depth left t (ap (stepped 1 depth left) s ∙ f)).is in
+        let empty : visits_of m 1 (depth - 1) (slots_below t) ≡ [] = ap (visits_of m 1 (depth - 1)) z in
+        rw (← x, empty) at w
+    numbers-paid t k h e (Err n) f x = tt
+
+    pub numbers-stop : (t : Target) → near m at.segment at.word 0 p ≡ Ok t → near m at.segment at.word 0 p ≡ target m at →
+        (r : Result ℕ Fault) → MatchResult r (λ n. stepped 1 depth left (Ok t) ≡ Ok t) (λ e. stepped 1 depth left (Ok t) ≡ Err e) →
+        IfErr r (λ e. judge left (visits m 1 depth at) ≡ refused e at 0 1)
+    numbers-stop t h e (Ok n) f = tt
+    numbers-stop t h e (Err n) f = step-stops m 1 at depth left n (ap (stepped 1 depth left) (sym e ∙ h) ∙ f)
+
+    pub numbers-fault : (x : Fault) → near m at.segment at.word 0 p ≡ Err x → near m at.segment at.word 0 p ≡ target m at →
+        judge left (visits m 1 depth at) ≡ refused x at 0 1
+    numbers-fault x h e = ap (judge left) (visits-fault m 1 at depth x (sym e ∙ h))

@@ -12,15 +12,17 @@ use Rattle.capn_walk.specs.declared.target.Shape.{Shape}
 use Rattle.capn_walk.specs.declared.target.Fault.{Fault}
 use Rattle.capn_walk.specs.declared.target.Fault.TheVariants as faults
 use Rattle.capn_walk.specs.declared.frame.Frame.{Frame}
+use Rattle.capn_walk.specs.declared.frame.Waiting.{Waiting}
 use Rattle.capn_words.specs.Message.{word_at}
 use Rattle.capn_words.specs.Pointers.{pointer_of}
+use Rattle.capn_words.specs.declared.pointer.Pointer.{Pointer}
 use Rattle.capn_words.specs.declared.pointer.Pointer.TheVariants.{Nil, Node, Many}
 use Rattle.capn_walk.proofs.Walks.{visits-null}
 use Rattle.capn_walk.specs.Target.{named, near, pointer_in, target}
 use Rattle.capn_words.specs.declared.pointer.Width.{Width}
 use Rattle.capn_walk.specs.Visits.{Visit, pays, fails, price, slots, visits, visits_of}
 use Rattle.capn_walk.specs.Verdict.{accepted, refused, after, judge}
-use Rattle.capn_walk.specs.Frames.{places_of, owed, owed_by, Lies, AllLie, visits_left}
+use Rattle.capn_walk.specs.Frames.{places_of, owed, owed_by, Lies, AllLie, AreShallow, visits_left}
 use Rattle.capn_walk.specs.Surveyed.{cap_of, first_cap_of}
 use Rattle.capn_walk.specs.declared.walked.Stopped.{Stopped}
 use Rattle.capn_walk.specs.Walked.{Gives, Refuses}
@@ -36,29 +38,40 @@ pub option_or-none : (a : Option ℕ) → option_or a None ≡ a
 option_or-none None = refl
 option_or-none (Some k) = refl
 
--- ---- a stack of frames
+-- ---- a stack of objects that wait
 
 module _ (m : List (List ℕ)) where
-  pub all_lie-push : (fs : List Frame) (f : Frame) → AllLie m fs → Lies m f → AllLie m (fs ++ f ∷ [])
-  all_lie-push [] f a h = (h, tt)
-  all_lie-push (g ∷ fs) f a h = (a.0, all_lie-push fs f a.1 h)
+  pub all_lie-push : (ws : List Waiting) (w : Waiting) → AllLie m ws → Lies m w.frame → AllLie m (ws ++ w ∷ [])
+  all_lie-push [] w a h = (h, tt)
+  all_lie-push (g ∷ ws) w a h = (a.0, all_lie-push ws w a.1 h)
 
-  pub all_lie-pop : (fs : List Frame) (f : Frame) → AllLie m (fs ++ f ∷ []) → AllLie m fs × Lies m f
-  all_lie-pop [] f a = (tt, a.0)
-  all_lie-pop (g ∷ fs) f a = let r = all_lie-pop fs f a.1 in ((a.0, r.0), r.1)
+  pub all_lie-pop : (ws : List Waiting) (w : Waiting) → AllLie m (ws ++ w ∷ []) → AllLie m ws × Lies m w.frame
+  all_lie-pop [] w a = (tt, a.0)
+  all_lie-pop (g ∷ ws) w a = let r = all_lie-pop ws w a.1 in ((a.0, r.0), r.1)
 
-  pub owed_by-push : (fs : List Frame) (f : Frame) → owed_by (fs ++ f ∷ []) ≡ owed f + owed_by fs
-  owed_by-push [] f = refl
-  owed_by-push (g ∷ fs) f = let e = owed_by-push fs f in omega arith
+  pub owed_by-push : (ws : List Waiting) (w : Waiting) → owed_by (ws ++ w ∷ []) ≡ owed w.frame + owed_by ws
+  owed_by-push [] w = refl
+  owed_by-push (g ∷ ws) w = let e = owed_by-push ws w in omega arith
 
-  -- what is left of the last frame comes first
-  pub left-push : (each d : ℕ) (fs : List Frame) (f : Frame) →
-      visits_left m each d (fs ++ f ∷ []) ≡ visits_of m each (d - length fs) (places_of f) ++ visits_left m each d fs
-  left-push each d [] f = let e : d - 0 ≡ d = omega arith in rw (e, append-nil) refl
-  left-push each d (g ∷ fs) f =
-      let e : d - 1 - length fs ≡ d - suc (length fs) = omega arith in
-      let h = rw e at (left-push each (d - 1) fs f) in
-      ap (λ (vs : List Visit). vs ++ visits_of m each d (places_of g)) h ∙ rw append_assoc refl
+  pub shallow-push : (limit : ℕ) (ws : List Waiting) (w : Waiting) → AreShallow limit ws → w.depth + length ws ≤ limit →
+      AreShallow limit (ws ++ w ∷ [])
+  shallow-push limit [] w a h = (omega arith, tt)
+  shallow-push limit (g ∷ ws) w a h = (a.0, shallow-push (limit - 1) ws w a.1 (omega arith))
+
+  pub shallow-pop : (limit : ℕ) (ws : List Waiting) (w : Waiting) → AreShallow limit (ws ++ w ∷ []) →
+      AreShallow limit ws × (w.depth ≤ limit - length ws)
+  shallow-pop limit [] w a = (tt, omega arith)
+  shallow-pop limit (g ∷ ws) w a =
+      let r = shallow-pop (limit - 1) ws w a.1 in
+      let h = r.1 in
+      ((a.0, r.0), omega arith)
+
+  -- what is left of the last object comes first
+  pub left-push : (each : ℕ) (ws : List Waiting) (w : Waiting) →
+      visits_left m each (ws ++ w ∷ []) ≡ visits_of m each w.depth (places_of w.frame) ++ visits_left m each ws
+  left-push each [] w = sym (append-nil (visits_of m each w.depth (places_of w.frame)))
+  left-push each (g ∷ ws) w =
+      ap (λ (vs : List Visit). vs ++ visits_of m each g.depth (places_of g.frame)) (left-push each ws w) ∙ rw append_assoc refl
 
   -- the visits of the first of several places
   pub of-first : (each d : ℕ) (at : Place) (ps : List Place) → visits_of m each d (at ∷ ps) ≡ visits m each d at ++ visits_of m each d ps
@@ -115,7 +128,7 @@ module _ (m : List (List ℕ)) (budget : ℕ) (vs : List Visit) (n : ℕ) where
 
 -- ---- a survey with an object in hand and a stack of those above it
 
-abbrev no_frame : Frame
+abbrev pub no_frame : Frame
 no_frame = record { segment = 0; next = 0; left = 0; rows = 0; words = 0; slots = 0 }
 
 null_pointer : pointer_of 0 ≡ Nil
@@ -128,111 +141,151 @@ unfolding target
 null-target m at h = ap (λ (w : ℕ). named m at.segment at.word (pointer_of w)) h ∙ ap (named m at.segment at.word) null_pointer
 
 module _ (m : List (List ℕ)) where
-  -- the visits to come
-  abbrev pub coming : ℕ → ℕ → List Frame → Frame → List Visit
-  coming limit d fs f = visits_of m 1 d (places_of f) ++ visits_left m 1 limit fs
+  -- the visits to come: of the object in hand, then of those that wait
+  abbrev pub coming : ℕ → List Waiting → Frame → List Visit
+  coming d ws f = visits_of m 1 d (places_of f) ++ visits_left m 1 ws
 
-  pub coming-done : (limit d : ℕ) (fs : List Frame) (f : Frame) → HasRows f → owed f ≡ 0 → coming limit d fs f ≡ visits_left m 1 limit fs
-  coming-done limit d fs f h e = ap (λ (ps : List Place). visits_of m 1 d ps ++ visits_left m 1 limit fs) (nothing-left f h e)
+  pub coming-done : (d : ℕ) (ws : List Waiting) (f : Frame) → HasRows f → owed f ≡ 0 → coming d ws f ≡ visits_left m 1 ws
+  coming-done d ws f h e = ap (λ (ps : List Place). visits_of m 1 d ps ++ visits_left m 1 ws) (nothing-left f h e)
 
-  pub coming-pop : (limit d : ℕ) (fs : List Frame) (f : Frame) → d + length (fs ++ f ∷ []) ≡ limit →
-      visits_left m 1 limit (fs ++ f ∷ []) ≡ coming limit (d + 1) fs f
-  coming-pop limit d fs f h =
-      let k = length-append fs (f ∷ []) in
-      let e : limit - length fs ≡ d + 1 = omega arith in
-      rw (← e) (left-push m 1 limit fs f)
-
-  pub coming-take : (limit d : ℕ) (fs : List Frame) (f rest below : Frame) (at : Place) (p : ℕ) → places_of f ≡ at ∷ places_of rest →
+  pub coming-take : (d : ℕ) (ws : List Waiting) (f rest below : Frame) (at : Place) (p : ℕ) → places_of f ≡ at ∷ places_of rest →
       visits m 1 d at ≡ pays at p ∷ visits_of m 1 (d - 1) (places_of below) →
-      coming limit d fs f ≡ pays at p ∷ (visits_of m 1 (d - 1) (places_of below) ++ coming limit d fs rest)
-  coming-take limit d fs f rest below at p h e = rw (h, e) (rw append_assoc refl)
+      coming d ws f ≡ pays at p ∷ (visits_of m 1 (d - 1) (places_of below) ++ coming d ws rest)
+  coming-take d ws f rest below at p h e = rw (h, e) (rw append_assoc refl)
 
   -- the same with a visit that is refused
-  pub coming-stop : (limit d : ℕ) (fs : List Frame) (f rest : Frame) (at : Place) → places_of f ≡ at ∷ places_of rest →
-      coming limit d fs f ≡ visits m 1 d at ++ coming limit d fs rest
-  coming-stop limit d fs f rest at h = rw h (rw append_assoc refl)
+  pub coming-stop : (d : ℕ) (ws : List Waiting) (f rest : Frame) (at : Place) → places_of f ≡ at ∷ places_of rest →
+      coming d ws f ≡ visits m 1 d at ++ coming d ws rest
+  coming-stop d ws f rest at h = rw h (rw append_assoc refl)
 
-  pub coming-push : (limit d : ℕ) (fs : List Frame) (rest below : Frame) → d + length fs ≡ limit →
-      visits_of m 1 (d - 1) (places_of below) ++ coming limit d fs rest ≡ coming limit (d - 1) (fs ++ rest ∷ []) below
-  coming-push limit d fs rest below h =
-      let e : limit - length fs ≡ d = omega arith in
-      ap (λ (vs : List Visit). visits_of m 1 (d - 1) (places_of below) ++ vs) (sym (rw e at (left-push m 1 limit fs rest)))
+  pub coming-leaf : (d : ℕ) (ws : List Waiting) (rest below : Frame) → HasRows below → owed below ≡ 0 →
+      visits_of m 1 (d - 1) (places_of below) ++ coming d ws rest ≡ coming d ws rest
+  coming-leaf d ws rest below h e = ap (λ (ps : List Place). visits_of m 1 (d - 1) ps ++ coming d ws rest) (nothing-left below h e)
 
-  pub coming-leaf : (limit d : ℕ) (fs : List Frame) (rest below : Frame) → HasRows below → owed below ≡ 0 →
-      visits_of m 1 (d - 1) (places_of below) ++ coming limit d fs rest ≡ coming limit d fs rest
-  coming-leaf limit d fs rest below h e = ap (λ (ps : List Place). visits_of m 1 (d - 1) ps ++ coming limit d fs rest) (nothing-left below h e)
+  -- what waits once a slot of the object in hand is gone into: nothing more where no other slot of it is left
+  pub data IsKept (d : ℕ) (ws : List Waiting) (rest : Frame) (new : List Waiting) : Type 0 where
+    dropped : owed rest ≡ 0 → new ≡ ws → IsKept d ws rest new
+    kept : new ≡ ws ++ record { frame = rest; depth = d } ∷ [] → IsKept d ws rest new
+
+  pub coming-kept : (d : ℕ) (ws : List Waiting) (rest below : Frame) (new : List Waiting) → HasRows rest → IsKept d ws rest new →
+      visits_of m 1 (d - 1) (places_of below) ++ coming d ws rest ≡ coming (d - 1) new below
+  coming-kept d ws rest below new h (dropped z e) =
+      ap (λ (vs : List Visit). visits_of m 1 (d - 1) (places_of below) ++ vs) (coming-done d ws rest h z ∙ sym (ap (visits_left m 1) e))
+  coming-kept d ws rest below new h (kept e) =
+      ap (λ (vs : List Visit). visits_of m 1 (d - 1) (places_of below) ++ vs)
+      (sym (left-push m 1 ws (record { frame = rest; depth = d })) ∙ sym (ap (visits_left m 1) e))
+
+  owed-kept : (d : ℕ) (ws : List Waiting) (rest : Frame) (new : List Waiting) → IsKept d ws rest new → owed rest + owed_by ws ≡ owed_by new
+  owed-kept d ws rest new (dropped z e) = let k = ap owed_by e in omega arith
+  owed-kept d ws rest new (kept e) =
+      sym (owed_by-push m ws (record { frame = rest; depth = d })) ∙ sym (ap owed_by e)
+
+  lie-kept : (d : ℕ) (ws : List Waiting) (rest : Frame) (new : List Waiting) → IsKept d ws rest new → AllLie m ws → Lies m rest → AllLie m new
+  lie-kept d ws rest new (dropped z e) a l = rw e a
+  lie-kept d ws rest new (kept e) a l = rw e (all_lie-push m ws (record { frame = rest; depth = d }) a l)
+
+  shallow-kept : (limit d : ℕ) (ws : List Waiting) (rest : Frame) (new : List Waiting) → IsKept d ws rest new → AreShallow limit ws →
+      d + length ws ≤ limit → AreShallow limit new × (length new ≤ length ws + 1)
+  shallow-kept limit d ws rest new (dropped z e) a l = (rw e a, let k = ap length e in omega arith)
+  shallow-kept limit d ws rest new (kept e) a l =
+      let w : Waiting = record { frame = rest; depth = d } in
+      let k = ap length e ∙ length-append ws (w ∷ []) in
+      (rw e (shallow-push m limit ws w a l), omega arith)
 
   module _ (budget : ℕ) (vs : List Visit) (n limit : ℕ) where
-    pub record Surveys (d : ℕ) (fs : List Frame) (f : Frame) (paid visits : ℕ) (cap : Option ℕ) : Type 0 where
-      pub under : IsUnderWay m budget vs n (coming limit d fs f) (owed f + owed_by fs) paid visits cap
+    pub record Surveys (d : ℕ) (ws : List Waiting) (f : Frame) (paid visits : ℕ) (cap : Option ℕ) : Type 0 where
+      pub under : IsUnderWay m budget vs n (coming d ws f) (owed f + owed_by ws) paid visits cap
       pub lies : Lies m f
-      pub all : AllLie m fs
-      pub depth : d + length fs ≡ limit
+      pub all : AllLie m ws
+      pub shallow : AreShallow limit ws
+      pub depth : d + length ws ≤ limit
 
-    -- the object in hand is done, and the one above it is taken from the stack
-    pub popped : (d : ℕ) (old fs : List Frame) (f above : Frame) (paid visits : ℕ) (cap : Option ℕ) → old ≡ fs ++ above ∷ [] → owed f ≡ 0 →
-        Surveys d old f paid visits cap → Surveys (d + 1) fs above paid visits cap
-    popped d old fs f above paid visits cap e z s =
-        let p : Surveys d (fs ++ above ∷ []) f paid visits cap = rw (← e) s in
-        let a = all_lie-pop m fs above p.all in
-        let k = length-append fs (above ∷ []) in
+    -- the object in hand is done, and the one that waits last is taken from the stack
+    pub popped : (d : ℕ) (old ws : List Waiting) (f : Frame) (w : Waiting) (paid visits : ℕ) (cap : Option ℕ) → old ≡ ws ++ w ∷ [] → owed f ≡ 0 →
+        Surveys d old f paid visits cap → Surveys w.depth ws w.frame paid visits cap
+    popped d old ws f w paid visits cap e z s =
+        let p : Surveys d (ws ++ w ∷ []) f paid visits cap = rw (← e) s in
+        let a = all_lie-pop m ws w p.all in
+        let b = shallow-pop m limit ws w p.shallow in
+        let k = length-append ws (w ∷ []) in
         let h = p.depth in
-        let o = owed_by-push m fs above in
-        let c = coming-done limit d (fs ++ above ∷ []) f p.lies.rows z ∙ coming-pop limit d fs above h in
-        let owes : owed f + owed_by (fs ++ above ∷ []) ≡ owed above + owed_by fs = omega arith in
+        let low = b.1 in
+        let o = owed_by-push m ws w in
+        let c = coming-done d (ws ++ w ∷ []) f p.lies.rows z ∙ left-push m 1 ws w in
+        let owes : owed f + owed_by (ws ++ w ∷ []) ≡ owed w.frame + owed_by ws = omega arith in
         record {
           under = rw (← c, ← owes) p.under;
           lies = a.1;
           all = a.0;
+          shallow = b.0;
           depth = omega arith;
         }
 
+    -- the next row of the object is in hand
+    pub next-row : (d : ℕ) (ws : List Waiting) (f row : Frame) (paid visits : ℕ) (cap : Option ℕ) → places_of row ≡ places_of f → owed row ≡ owed f →
+        Lies m row → Surveys d ws f paid visits cap → Surveys d ws row paid visits cap
+    next-row d ws f row paid visits cap p o l s = record {
+      under = rw (p, o) s.under;
+      lies = l;
+      all = s.all;
+      shallow = s.shallow;
+      depth = s.depth;
+    }
+
+    pub fewer-rows : (d : ℕ) (ws : List Waiting) (f row : Frame) → places_of row ≡ places_of f → f.left ≡ 0 → 0 < row.left →
+        3 * length (coming d ws row) + length ws + (1 - row.left) < 3 * length (coming d ws f) + length ws + (1 - f.left)
+    fewer-rows d ws f row p z h =
+        let n = ap (λ (ps : List Place). length (visits_of m 1 d ps ++ visits_left m 1 ws)) p in
+        omega arith
+
     -- nothing is left
-    pub finished : (d : ℕ) (fs : List Frame) (f : Frame) (paid visits : ℕ) (cap : Option ℕ) → length fs ≡ 0 → owed f ≡ 0 →
-        Surveys d fs f paid visits cap → Gives budget vs n paid visits × (first_cap_of m vs ≡ cap)
+    pub finished : (d : ℕ) (ws : List Waiting) (f : Frame) (paid visits : ℕ) (cap : Option ℕ) → length ws ≡ 0 → owed f ≡ 0 →
+        Surveys d ws f paid visits cap → Gives budget vs n paid visits × (first_cap_of m vs ≡ cap)
     finished d [] f paid visits cap l z s =
-        let c = coming-done limit d [] f s.lies.rows z in
+        let c = coming-done d [] f s.lies.rows z in
         let owes : owed f + 0 ≡ 0 = omega arith in
         let u = rw (c, owes) at s.under in
         let e = ends m budget vs n paid visits cap u in
         (record { is = e.0; within = u.within; few = let w = u.few in omega arith }, e.1)
-    finished d (g ∷ fs) f paid visits cap l z s = absurd (omega arith)
+    finished d (g ∷ ws) f paid visits cap l z s = absurd (omega arith)
 
-    module _ (d : ℕ) (fs : List Frame) (f rest : Frame) (at : Place) (paid made : ℕ) (cap : Option ℕ)
-        (s : Surveys d fs f paid made cap) (next : places_of f ≡ at ∷ places_of rest) (less : owed f ≡ owed rest + 1) where
+    module _ (d : ℕ) (ws : List Waiting) (f rest : Frame) (at : Place) (paid made : ℕ) (cap : Option ℕ)
+        (s : Surveys d ws f paid made cap) (next : places_of f ≡ at ∷ places_of rest) (less : owed f ≡ owed rest + 1) where
       module _ (below : Frame) (p : ℕ) (k : Option ℕ) (here : visits m 1 d at ≡ pays at p ∷ visits_of m 1 (d - 1) (places_of below))
           (fits : p ≤ budget - paid) (few : owed below ≤ p) (c : cap_of (target m at) ≡ k) where
-        under-next : IsUnderWay m budget vs n (visits_of m 1 (d - 1) (places_of below) ++ coming limit d fs rest)
-            (owed below + (owed rest + owed_by fs)) (paid + p) (made + 1) (option_or cap k)
+        under-next : IsUnderWay m budget vs n (visits_of m 1 (d - 1) (places_of below) ++ coming d ws rest)
+            (owed below + (owed rest + owed_by ws)) (paid + p) (made + 1) (option_or cap k)
         under-next =
-            let t = coming-take limit d fs f rest below at p next here in
-            let owes : owed f + owed_by fs ≡ owed rest + owed_by fs + 1 = omega arith in
+            let t = coming-take d ws f rest below at p next here in
+            let owes : owed f + owed_by ws ≡ owed rest + owed_by ws + 1 = omega arith in
             let u = rw (t, owes) at s.under in
-            goes-on m budget vs n at p (visits_of m 1 (d - 1) (places_of below)) (coming limit d fs rest) (owed rest + owed_by fs) (owed below) paid made cap k u fits few c
+            goes-on m budget vs n at p (visits_of m 1 (d - 1) (places_of below)) (coming d ws rest) (owed rest + owed_by ws) (owed below) paid made cap k u fits few c
 
         -- the slot has an object with slots, which is now the object in hand
-        pub pushed : (new : List Frame) → new ≡ fs ++ rest ∷ [] → Lies m rest → Lies m below → 0 < d →
+        pub entered : (new : List Waiting) → IsKept d ws rest new → Lies m rest → Lies m below → 0 < d →
             Surveys (d - 1) new below (paid + p) (made + 1) (option_or cap k)
-        pushed new e lr lb deep =
+        entered new e lr lb deep =
             let h = s.depth in
-            let l = length-append fs (rest ∷ []) in
-            let o = owed_by-push m fs rest in
-            let owes : owed below + (owed rest + owed_by fs) ≡ owed below + owed_by (fs ++ rest ∷ []) = omega arith in
-            rw e (record {
-              under = rw (← coming-push limit d fs rest below h, ← owes) under-next;
+            let o = owed-kept d ws rest new e in
+            let b = shallow-kept limit d ws rest new e s.shallow h in
+            let l = b.1 in
+            record {
+              under = rw (← coming-kept d ws rest below new lr.rows e, ← o) under-next;
               lies = lb;
-              all = all_lie-push m fs rest s.all lr;
+              all = lie-kept d ws rest new e s.all lr;
+              shallow = b.0;
               depth = omega arith;
-            })
+            }
 
         -- the slot has none
-        pub passed : Lies m rest → HasRows below → owed below ≡ 0 → Surveys d fs rest (paid + p) (made + 1) (option_or cap k)
+        pub passed : Lies m rest → HasRows below → owed below ≡ 0 → Surveys d ws rest (paid + p) (made + 1) (option_or cap k)
         passed lr hb z =
-            let owes : owed below + (owed rest + owed_by fs) ≡ owed rest + owed_by fs = omega arith in
+            let owes : owed below + (owed rest + owed_by ws) ≡ owed rest + owed_by ws = omega arith in
             record {
-              under = rw (← coming-leaf limit d fs rest below hb z, ← owes) under-next;
+              under = rw (← coming-leaf d ws rest below hb z, ← owes) under-next;
               lies = lr;
               all = s.all;
+              shallow = s.shallow;
               depth = s.depth;
             }
 
@@ -240,64 +293,66 @@ module _ (m : List (List ℕ)) where
       pub refused-here : (e : Fault) → judge (budget - paid) (visits m 1 d at) ≡ refused e at 0 1 →
           Refuses budget vs n (record { fault = e; place = at; paid = paid; visits = made + 1 })
       refused-here e h =
-          let u = rw (coming-stop limit d fs f rest at next) at s.under in
+          let u = rw (coming-stop d ws f rest at next) at s.under in
           record {
-            is = inr (stops m budget vs n (visits m 1 d at) (coming limit d fs rest) (owed f + owed_by fs) paid made cap e at u h);
+            is = inr (stops m budget vs n (visits m 1 d at) (coming d ws rest) (owed f + owed_by ws) paid made cap e at u h);
             within = u.within;
             few = let w = u.few in omega arith;
           }
 
     -- ---- the visits to come grow fewer
 
-    pub as-many : (d : ℕ) (old fs : List Frame) (f above : Frame) (paid made : ℕ) (cap : Option ℕ) → old ≡ fs ++ above ∷ [] → owed f ≡ 0 →
+    pub as-many : (d : ℕ) (old ws : List Waiting) (f : Frame) (w : Waiting) (paid made : ℕ) (cap : Option ℕ) → old ≡ ws ++ w ∷ [] → owed f ≡ 0 → f.left ≡ 0 →
         Surveys d old f paid made cap →
-        2 * length (coming limit (d + 1) fs above) + length fs < 2 * length (coming limit d old f) + length old
-    as-many d old fs f above paid made cap e z s =
-        let h = s.depth in
-        let c = coming-done limit d old f s.lies.rows z in
-        let l : length old ≡ length fs + 1 = ap length e ∙ length-append fs (above ∷ []) in
-        let k : d + length (fs ++ above ∷ []) ≡ limit = rw (← e) s.depth in
-        let same : coming limit d old f ≡ coming limit (d + 1) fs above = c ∙ ap (visits_left m 1 limit) e ∙ coming-pop limit d fs above k in
+        3 * length (coming w.depth ws w.frame) + length ws + (1 - w.frame.left) < 3 * length (coming d old f) + length old + (1 - f.left)
+    as-many d old ws f w paid made cap e z y s =
+        let c = coming-done d old f s.lies.rows z in
+        let l : length old ≡ length ws + 1 = ap length e ∙ length-append ws (w ∷ []) in
+        let same : coming d old f ≡ coming w.depth ws w.frame = c ∙ ap (visits_left m 1) e ∙ left-push m 1 ws w in
         let n = ap length same in
         omega arith
 
-    module _ (d : ℕ) (fs : List Frame) (f rest below : Frame) (at : Place) (p paid made : ℕ) (cap : Option ℕ)
-        (s : Surveys d fs f paid made cap) (next : places_of f ≡ at ∷ places_of rest)
+    module _ (d : ℕ) (ws : List Waiting) (f rest below : Frame) (at : Place) (p paid made : ℕ) (cap : Option ℕ)
+        (s : Surveys d ws f paid made cap) (next : places_of f ≡ at ∷ places_of rest)
         (here : visits m 1 d at ≡ pays at p ∷ visits_of m 1 (d - 1) (places_of below)) where
-      pub fewer-pushed : (new : List Frame) → new ≡ fs ++ rest ∷ [] →
-          2 * length (coming limit (d - 1) new below) + length new < 2 * length (coming limit d fs f) + length fs
-      fewer-pushed new e =
-          let t = ap length (coming-take limit d fs f rest below at p next here) in
-          let same : visits_of m 1 (d - 1) (places_of below) ++ coming limit d fs rest ≡ coming limit (d - 1) new below = rw e (coming-push limit d fs rest below s.depth) in
-          let n = ap length same in
-          let l : length new ≡ length fs + 1 = ap length e ∙ length-append fs (rest ∷ []) in
+      pub fewer-entered : (new : List Waiting) → HasRows rest → IsKept d ws rest new →
+          3 * length (coming (d - 1) new below) + length new + (1 - below.left) < 3 * length (coming d ws f) + length ws + (1 - f.left)
+      fewer-entered new hr e =
+          let t = ap length (coming-take d ws f rest below at p next here) in
+          let n = ap length (coming-kept d ws rest below new hr e) in
+          let b = shallow-kept limit d ws rest new e s.shallow s.depth in
+          let l = b.1 in
           omega arith
 
       pub fewer-passed : HasRows below → owed below ≡ 0 →
-          2 * length (coming limit d fs rest) + length fs < 2 * length (coming limit d fs f) + length fs
+          3 * length (coming d ws rest) + length ws + (1 - rest.left) < 3 * length (coming d ws f) + length ws + (1 - f.left)
       fewer-passed hb z =
-          let t = ap length (coming-take limit d fs f rest below at p next here) in
-          let n = ap length (coming-leaf limit d fs rest below hb z) in
+          let t = ap length (coming-take d ws f rest below at p next here) in
+          let n = ap length (coming-leaf d ws rest below hb z) in
           omega arith
 
     -- a null slot
-    module _ (d : ℕ) (fs : List Frame) (f rest : Frame) (at : Place) (paid made : ℕ) (cap : Option ℕ)
-        (s : Surveys d fs f paid made cap) (next : places_of f ≡ at ∷ places_of rest) (none : target m at ≡ Ok targets.Nil) where
-      pub passed-null : owed f ≡ owed rest + 1 → Lies m rest → Surveys d fs rest paid (made + 1) cap
+    module _ (d : ℕ) (ws : List Waiting) (f rest : Frame) (at : Place) (paid made : ℕ) (cap : Option ℕ)
+        (s : Surveys d ws f paid made cap) (next : places_of f ≡ at ∷ places_of rest) (none : target m at ≡ Ok targets.Nil) where
+      pub passed-null : owed f ≡ owed rest + 1 → Lies m rest → Surveys d ws rest paid (made + 1) cap
       passed-null less lr =
           let z : paid + 0 ≡ paid = omega arith in
           rw (z, option_or-none cap) at
-          (passed d fs f rest at paid made cap s next less no_frame 0 None (visits-null m 1 at d none) (omega arith) (omega arith) (ap cap_of none) lr (λ h. absurd (omega arith)) refl)
+          (passed d ws f rest at paid made cap s next less no_frame 0 None (visits-null m 1 at d none) (omega arith) (omega arith) (ap cap_of none) lr (λ h. absurd (omega arith)) refl)
 
-      pub fewer-null : 2 * length (coming limit d fs rest) + length fs < 2 * length (coming limit d fs f) + length fs
-      fewer-null = fewer-passed d fs f rest no_frame at 0 paid made cap s next (visits-null m 1 at d none) (λ h. absurd (omega arith)) refl
+      pub fewer-null : 3 * length (coming d ws rest) + length ws + (1 - rest.left) < 3 * length (coming d ws f) + length ws + (1 - f.left)
+      fewer-null = fewer-passed d ws f rest no_frame at 0 paid made cap s next (visits-null m 1 at d none) (λ h. absurd (omega arith)) refl
 
 -- a pointer to what stands near
-module _ (m : List (List ℕ)) (at : Place) where
-  pub node-target : (o : ℤ) (a b : ℕ) → pointer_in m at.segment at.word ≡ Node o a b → near m at.segment at.word 0 (Node o a b) ≡ target m at
+module _ (m : List (List ℕ)) (at : Place) (w : ℕ) (p : Pointer) where
+  pub near-struct : (o : ℤ) (a b : ℕ) → w ≡ word_at m at → p ≡ pointer_of w → p ≡ Node o a b → near m at.segment at.word 0 p ≡ target m at
   unfolding target
-  node-target o a b h = sym (ap (named m at.segment at.word) h)
+  near-struct o a b e f h =
+      let r : pointer_in m at.segment at.word ≡ Node o a b = sym (f ∙ ap pointer_of e) ∙ h in
+      ap (near m at.segment at.word 0) h ∙ sym (ap (named m at.segment at.word) r)
 
-  pub many-target : (o : ℤ) (width : Width) (n : ℕ) → pointer_in m at.segment at.word ≡ Many o width n → near m at.segment at.word 0 (Many o width n) ≡ target m at
+  pub near-list : (o : ℤ) (width : Width) (n : ℕ) → w ≡ word_at m at → p ≡ pointer_of w → p ≡ Many o width n → near m at.segment at.word 0 (Many o width n) ≡ target m at
   unfolding target
-  many-target o width n h = sym (ap (named m at.segment at.word) h)
+  near-list o width n e f h =
+      let r : pointer_in m at.segment at.word ≡ Many o width n = sym (f ∙ ap pointer_of e) ∙ h in
+      sym (ap (named m at.segment at.word) r)

@@ -3,6 +3,7 @@ use Rattle.std.specs.Prelude.{◌≡◌, ℕ, zero, suc, ◌+◌, ◌-◌, ◌*�
 use Rattle.capn_words.specs.declared.space.Place.{Place}
 use Rattle.capn_words.specs.Message.{segment_at}
 use Rattle.capn_walk.specs.declared.frame.Frame.{Frame}
+use Rattle.capn_walk.specs.declared.frame.Waiting.{Waiting}
 use Rattle.capn_walk.specs.Visits.{Visit, places, row_places, visits_of}
 
 -- the places of an object's slots that are left, in order
@@ -26,19 +27,25 @@ pub record Lies (message : List (List ℕ)) (f : Frame) : Type 0 where
   pub within : end_of f ≤ length (segment_at message f.segment)
   pub rows : HasRows f
 
--- ---- a stack of objects, the first one lowest
+-- ---- a stack of objects that wait, the first one lowest
 
 -- how many slots are left of all
-abbrev pub owed_by : List Frame → ℕ
+abbrev pub owed_by : List Waiting → ℕ
 owed_by [] = 0
-owed_by (f ∷ fs) = owed f + owed_by fs
+owed_by (w ∷ ws) = owed w.frame + owed_by ws
+
+-- each may have so many objects below it as the limit has left there, if each stands below the one before it
+abbrev pub AreShallow : ℕ → List Waiting → Type 0
+AreShallow limit [] = ⊤
+AreShallow limit (w ∷ ws) = (w.depth ≤ limit) × AreShallow (limit - 1) ws
 
 module _ (message : List (List ℕ)) where
-  abbrev pub AllLie : List Frame → Type 0
+  -- the slots that are left of each lie inside their segment
+  abbrev pub AllLie : List Waiting → Type 0
   AllLie [] = ⊤
-  AllLie (f ∷ fs) = Lies message f × AllLie fs
+  AllLie (w ∷ ws) = Lies message w.frame × AllLie ws
 
-  -- the visits that are left, where the slots of the first object are visited to depth d, those of the next to d - 1
-  abbrev pub visits_left : ℕ → ℕ → List Frame → List Visit
-  visits_left each d [] = []
-  visits_left each d (f ∷ fs) = visits_left each (d - 1) fs ++ visits_of message each d (places_of f)
+  -- the visits that are left, those of the last object first
+  abbrev pub visits_left : ℕ → List Waiting → List Visit
+  visits_left each [] = []
+  visits_left each (w ∷ ws) = visits_left each ws ++ visits_of message each w.depth (places_of w.frame)

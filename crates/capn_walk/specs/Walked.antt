@@ -3,6 +3,8 @@ use Rattle.std.specs.Prelude.{◌≡◌, ◌⊎◌, ℕ, suc, ◌+◌, ◌*◌, 
 use Rattle.std.specs.Int.{from_bool}
 use Rattle.capn_words.specs.Message.{segment_at}
 use Rattle.capn_words.specs.declared.space.Place.{Place}
+use Rattle.capn_words.specs.declared.pointer.Pointer.{Pointer}
+use Rattle.capn_words.specs.declared.pointer.Pointer.TheVariants.{Many}
 use Rattle.capn_words.specs.declared.pointer.Width.{Width}
 use Rattle.capn_words.specs.declared.pointer.Width.TheVariants.{W0, W1, W8, W16, W32, W64, Link, Rows}
 use Rattle.capn_value.specs.Tree.{Tree, node, voids, bits, bytes, pairs, quads, octs, links, rows, count, count_rows}
@@ -59,6 +61,11 @@ abbrev pub IsPlain : Width → Type 0
 IsPlain Link = ⊥
 IsPlain Rows = ⊥
 IsPlain _ = ⊤
+
+-- a pointer to a list of such elements
+abbrev pub AreNumbers : Pointer → Type 0
+AreNumbers (Many o width n) = IsPlain width
+AreNumbers _ = ⊥
 
 -- so many words from a place on are within its segment, which exists
 pub record IsContent (message : List (List ℕ)) (at : Place) (n : ℕ) : Type 0 where

@@ -26,6 +26,15 @@ pub struct Frame {
     pub slots: u16,
 }
 
+/// An object that waits until all below one of its slots is visited.
+#[derive(Clone, Copy, Debug, Default)]
+pub struct Waiting {
+    /// Its slots behind that one.
+    pub frame: Frame,
+    /// How many objects may stand one below another, from each of these on.
+    pub depth: u32,
+}
+
 impl Frame {
     /// No slots.
     #[inline(always)]
@@ -39,25 +48,6 @@ impl Frame {
             segment: 0,
             next: 0,
             left: 0,
-            rows: 0,
-            words: 0,
-            slots: 0,
-        }
-    }
-
-    /// One slot.
-    pub fn of_slot(at: Place) -> Frame
-        requires { at.word < 2 ^ 32 - 1 }
-        ensures places { places_of result ≡ at ∷ [] }
-        ensures owed { owed result ≡ 1 }
-        ensures segment { result.segment ≡ at.segment }
-        ensures end { end_of result ≡ at.word + 1 }
-        ensures rows { HasRows result }
-    {
-        Frame {
-            segment: at.segment,
-            next: at.word,
-            left: 1,
             rows: 0,
             words: 0,
             slots: 0,
@@ -117,10 +107,11 @@ impl Frame {
         self.left == 0 && self.rows == 0
     }
 
-    /// The same slots, of which some are in the row in hand.
+    /// The same slots, of which the next row is in hand.
     #[inline(always)]
-    fn in_hand(self) -> Frame
-        requires some { 0 < owed self }
+    pub fn turned(self) -> Frame
+        requires done { self.left ≡ 0 }
+        requires some { 0 < self.rows }
         requires rows { HasRows self }
         requires end { end_of self < 2 ^ 32 }
         ensures places { places_of result ≡ places_of self }
@@ -130,9 +121,6 @@ impl Frame {
         ensures rows { HasRows result }
         ensures some { 0 < result.left }
     {
-        if self.left > 0 {
-            return self;
-        }
         Frame {
             segment: self.segment,
             next: self.next + self.words as u32,
@@ -146,7 +134,7 @@ impl Frame {
     /// The place of the next slot, and what is left behind it.
     #[inline(always)]
     pub fn take(self) -> (Place, Frame)
-        requires some { 0 < owed self }
+        requires some { 0 < self.left }
         requires rows { HasRows self }
         requires end { end_of self < 2 ^ 32 }
         ensures places { places_of self ≡ result.0 ∷ places_of result.1 }
@@ -157,15 +145,14 @@ impl Frame {
         ensures end { end_of result.1 ≡ end_of self }
         ensures kept { HasRows result.1 }
     {
-        let row = self.in_hand();
         let at = Place {
-            segment: row.segment,
-            word: row.next,
+            segment: self.segment,
+            word: self.next,
         };
         let rest = Frame {
-            next: row.next + 1,
-            left: row.left - 1,
-            ..row
+            next: self.next + 1,
+            left: self.left - 1,
+            ..self
         };
         (at, rest)
     }

@@ -1,11 +1,12 @@
 //! A survey of all that a message holds, without its value.
 
-ghost use Rattle.std.specs.Prelude.{◌≡◌, ◌≢◌, ℕ, ◌<◌, ◌≤◌, ◌+◌, ◌-◌, ◌^◌, ◌∷◌, ◌⊎◌, length, IfOk, IfErr, MatchResult};
+ghost use Rattle.std.specs.Prelude.{◌≡◌, ◌≢◌, ℕ, ◌<◌, ◌≤◌, ◌+◌, ◌-◌, ◌^◌, ◌∷◌, ◌⊎◌, ◌↔◌, [], length, Ok, IsTrue, IfOk, IfErr, MatchResult};
 ghost use Rattle.capn_words.specs.Message.{segment_at, IsMessage, IsPlace};
 ghost use Rattle.capn_walk.specs.Target as spec;
+ghost use Rattle.capn_walk.specs.Accepted.{root};
 ghost use Rattle.capn_walk.specs.Visits.{pays, visits, visits_of};
 ghost use Rattle.capn_walk.specs.Verdict.{judge, refused};
-ghost use Rattle.capn_walk.specs.Walked.{Gives, Refuses};
+ghost use Rattle.capn_walk.specs.Walked.{Gives, Refuses, IsPlain, AreNumbers};
 ghost use Rattle.capn_walk.specs.Frames.{places_of, owed, Lies};
 ghost use Rattle.capn_walk.specs.Surveyed as told;
 ghost use Rattle.capn_value.specs.Tree.{Tree};
@@ -14,7 +15,7 @@ ghost use Rattle.capn_walk.specs.Denotes.{IsValueOf, IsRefused, IsBounded};
 ghost use Rattle.capn_walk.specs.declared.target.Fault.TheVariants.{Memory};
 
 use crate::content::segment_length;
-use crate::frame::Frame;
+use crate::frame::{Frame, Waiting};
 use crate::limits::Limits;
 use crate::resolving::{near, pointer_at, resolve};
 use crate::step::{capability_of, frame_below, price_within};
@@ -22,7 +23,7 @@ use crate::surveyed::Surveyed;
 use crate::target::{Fault, Target};
 use crate::walked::Stopped;
 use crate::walking::{ROOT, root_target};
-use capn_words::{Place, Pointer, Space};
+use capn_words::{Place, Pointer, Space, Width, split};
 use smallvec::SmallVec;
 use std::alloc::Allocator;
 
@@ -50,10 +51,52 @@ pub fn survey<S: Space, A: Allocator + Copy>(
         (λ s. IsBounded limits.budget s.paid s.visits) }
 {
     let _bounds = space.segments();
-    let _target = root_target(space)?;
-    let first = Frame::of_slot(ROOT);
-    let told = survey_slots(alloc, space, first, limits.depth(), limits.budget())?;
+    let target = root_target(space)?;
+    let told = survey_root(alloc, space, target, limits.depth(), limits.budget())?;
     Ok(told)
+}
+
+/// The visit of the root's slot, and then those below it, where there are any: only these want a stack.
+#[inline(always)]
+fn survey_root<S: Space, A: Allocator + Copy>(
+    alloc: A,
+    space: &S,
+    target: Target,
+    depth: u32,
+    budget: u32,
+) -> Result<Surveyed, Stopped>
+    requires message { IsMessage (S.message space.now) }
+    requires place { IsPlace (S.message space.now) root }
+    requires target { Ok target ≡ spec.target (S.message space.now) root }
+    requires some { 1 ≤ depth }
+    requires depth { depth ≤ 256 }
+    requires budget { budget ≤ 2 ^ 28 }
+    ensures pays { IfOk result (λ s. Gives budget (visits (S.message space.now) 1 depth root) 1 s.paid s.visits) }
+    ensures capability { IfOk result (λ s.
+        told.first_cap_of (S.message space.now) (visits (S.message space.now) 1 depth root) ≡ s.capability) }
+    ensures refused { IfErr result (λ s. Refuses budget (visits (S.message space.now) 1 depth root) 1 s) }
+    ensures memory { depth ≤ 64 → IfErr result (λ s. s.fault ≢ Memory) }
+{
+    let visited = match visit_found(space, ROOT, Ok(target), depth, budget) {
+        Ok(visited) => visited,
+        Err(fault) => return Err(stopped(fault, ROOT, 0, 1)),
+    };
+    if visited.below.is_done() {
+        return Ok(Surveyed {
+            paid: visited.price,
+            visits: 1,
+            capability: visited.capability,
+        });
+    }
+    let left = budget - visited.price;
+    match survey_slots(alloc, space, visited.below, depth - 1, left) {
+        Ok(below) => Ok(Surveyed {
+            paid: visited.price + below.paid,
+            visits: 1 + below.visits,
+            capability: visited.capability.or(below.capability),
+        }),
+        Err(refusal) => Err(refusal.behind(visited.price, 1)),
+    }
 }
 
 /// What one visit comes to: its price, the capability that it meets, and the slots below it.
@@ -64,21 +107,21 @@ struct Visited {
     below: Frame,
 }
 
-/// One visit of a slot, at most `depth` objects deep, where `left` words are left to pay.
-///
-/// Each of the two arms of a pointer to what stands near has the rest of the visit for itself, so that it is compiled
-/// for that form alone.
+/// One visit of a slot whose pointer is a struct's that stands near, at most `depth` objects deep, where `left` words
+/// are left to pay.
 #[inline(always)]
-fn visit_slot<S: Space>(
+fn visit_struct<S: Space>(
     space: &S,
     at: Place,
     size: u32,
+    pointer: Pointer,
     depth: u32,
     left: u32,
 ) -> Result<Visited, Fault>
     requires message { IsMessage (S.message space.now) }
     requires size { size ≡ length (segment_at (S.message space.now) at.segment) }
     requires place { IsPlace (S.message space.now) at }
+    requires pointer { spec.near (S.message space.now) at.segment at.word 0 pointer ≡ spec.target (S.message space.now) at }
     requires left { left ≤ 2 ^ 28 }
     ensures visits { IfOk result (λ v. visits (S.message space.now) 1 depth at
         ≡ pays at v.price ∷ visits_of (S.message space.now) 1 (depth - 1) (places_of v.below)) }
@@ -90,31 +133,31 @@ fn visit_slot<S: Space>(
     ensures refused { IfErr result (λ e. judge left (visits (S.message space.now) 1 depth at) ≡ refused e at 0 1) }
     ensures memory { IfErr result (λ e. e ≢ Memory) }
 {
-    let pointer = pointer_at(space, at.segment, at.word);
-    match pointer {
-        Pointer::Node { .. } => {
-            let found = near(space, at.segment, size, at.word, 0, pointer);
-            visit_found(space, at, found, depth, left)
-        }
-        Pointer::Many { .. } => {
-            let found = near(space, at.segment, size, at.word, 0, pointer);
-            visit_found(space, at, found, depth, left)
-        }
-        _ => match visit_elsewhere(space, at, depth, left) {
-            Ok(found) => Ok(Visited {
-                price: found.price,
-                capability: found.capability,
-                below: Frame {
-                    segment: found.below.segment,
-                    next: found.below.next,
-                    left: found.below.left,
-                    rows: found.below.rows,
-                    words: found.below.words,
-                    slots: found.below.slots,
-                },
-            }),
-            Err(fault) => Err(fault),
-        },
+    let found = near(space, at.segment, size, at.word, 0, pointer);
+    visit_found(space, at, found, depth, left)
+}
+
+/// The price of a visit of a slot whose pointer is that of a list of numbers that stands near.
+#[inline(always)]
+fn visit_numbers<S: Space>(
+    space: &S,
+    at: Place,
+    size: u32,
+    pointer: Pointer,
+    depth: u32,
+    left: u32,
+) -> Result<u32, Fault>
+    requires size { size ≡ length (segment_at (S.message space.now) at.segment) }
+    requires pointer { spec.near (S.message space.now) at.segment at.word 0 pointer ≡ spec.target (S.message space.now) at }
+    requires numbers { AreNumbers pointer }
+    ensures visits { IfOk result (λ p. visits (S.message space.now) 1 depth at ≡ pays at p ∷ []) }
+    ensures price { IfOk result (λ p. p ≤ left) }
+    ensures refused { IfErr result (λ e. judge left (visits (S.message space.now) 1 depth at) ≡ refused e at 0 1) }
+    ensures memory { IfErr result (λ e. e ≢ Memory) }
+{
+    match near(space, at.segment, size, at.word, 0, pointer) {
+        Ok(target) => price_within(target, depth, left),
+        Err(fault) => Err(fault),
     }
 }
 
@@ -174,6 +217,30 @@ fn visit_found<S: Space>(
     }
 }
 
+/// Whether the elements of a list are numbers.
+#[inline(always)]
+fn is_plain(width: Width) -> bool
+    ensures { IsTrue result ↔ IsPlain width }
+{
+    match width {
+        Width::Link | Width::Rows => false,
+        _ => true,
+    }
+}
+
+/// A refusal of a slot, with what was paid before it and its number.
+#[inline(always)]
+fn stopped(fault: Fault, place: Place, paid: u32, visits: u32) -> Stopped
+    ensures { result ≡ record { fault = fault; place = place; paid = paid; visits = visits } }
+{
+    Stopped {
+        fault,
+        place,
+        paid,
+        visits,
+    }
+}
+
 /// The words of a segment, where those of another, or the same, are known.
 #[inline(always)]
 fn size_of<S: Space>(space: &S, segment: u32, known: u32, size: u32) -> u32
@@ -208,7 +275,7 @@ fn survey_slots<S: Space, A: Allocator + Copy>(
         (visits_of (S.message space.now) 1 limit (places_of first)) (owed first) s) }
     ensures memory { limit ≤ 64 → IfErr result (λ s. s.fault ≢ Memory) }
 {
-    let mut stack: SmallVec<Frame, 64, &A> = SmallVec::new(&alloc);
+    let mut stack: SmallVec<Waiting, 64, &A> = SmallVec::new(&alloc);
     let mut frame = first;
     let mut size = segment_length(space, first.segment);
     let mut depth = limit;
@@ -216,57 +283,83 @@ fn survey_slots<S: Space, A: Allocator + Copy>(
     let mut visits = 0u32;
     let mut capability = None;
     'slots: loop {
-        if frame.is_done() {
-            match stack.pop() {
-                Some(above) => {
-                    size = size_of(space, above.segment, frame.segment, size);
-                    frame = above;
-                    depth += 1;
-                    continue;
-                }
-                None => {
-                    return Ok(Surveyed {
-                        paid,
-                        visits,
-                        capability,
-                    });
-                }
+        if frame.left == 0 {
+            if frame.rows > 0 {
+                frame = frame.turned();
+                continue;
             }
+            let Some(waiting) = stack.pop() else {
+                return Ok(Surveyed {
+                    paid,
+                    visits,
+                    capability,
+                });
+            };
+            size = size_of(space, waiting.frame.segment, frame.segment, size);
+            frame = waiting.frame;
+            depth = waiting.depth;
+            continue;
         }
         let (at, rest) = frame.take();
-        if space.word(at) == 0 {
+        let word = space.word(at);
+        if word == 0 {
             visits += 1;
             frame = rest;
             continue;
         }
-        let found = match visit_slot(space, at, size, depth, budget - paid) {
-            Ok(found) => found,
-            Err(fault) => {
-                return Err(Stopped {
-                    fault,
-                    place: at,
-                    paid,
-                    visits: visits + 1,
-                });
+        let pointer = split(word);
+        match pointer {
+            Pointer::Node { .. } => {
+                let found = match visit_struct(space, at, size, pointer, depth, budget - paid) {
+                    Ok(found) => found,
+                    Err(fault) => return Err(stopped(fault, at, paid, visits + 1)),
+                };
+                paid += found.price;
+                visits += 1;
+                if found.below.is_done() {
+                    frame = rest;
+                    continue;
+                }
+                if !rest.is_done() {
+                    let Ok(()) = stack.push(Waiting { frame: rest, depth }) else {
+                        return Err(stopped(Fault::Memory, at, paid, visits));
+                    };
+                }
+                size = size_of(space, found.below.segment, at.segment, size);
+                frame = found.below;
+                depth -= 1;
             }
-        };
-        paid += found.price;
-        visits += 1;
-        capability = capability.or(found.capability);
-        if found.below.is_done() {
-            frame = rest;
-            continue;
+            Pointer::Many { width, .. } if is_plain(width) => {
+                match visit_numbers(space, at, size, pointer, depth, budget - paid) {
+                    Ok(price) => {
+                        paid += price;
+                        visits += 1;
+                        frame = rest;
+                    }
+                    Err(fault) => return Err(stopped(fault, at, paid, visits + 1)),
+                }
+            }
+            _ => {
+                let found = match visit_elsewhere(space, at, depth, budget - paid) {
+                    Ok(found) => found,
+                    Err(fault) => return Err(stopped(fault, at, paid, visits + 1)),
+                };
+                paid += found.price;
+                visits += 1;
+                capability = capability.or(found.capability);
+                if found.below.is_done() {
+                    frame = rest;
+                    continue;
+                }
+                if !rest.is_done() {
+                    let Ok(()) = stack.push(Waiting { frame: rest, depth }) else {
+                        return Err(stopped(Fault::Memory, at, paid, visits));
+                    };
+                }
+                size = size_of(space, found.below.segment, at.segment, size);
+                frame = found.below;
+                depth -= 1;
+            }
         }
-        let Ok(()) = stack.push(rest) else {
-            return Err(Stopped {
-                fault: Fault::Memory,
-                place: at,
-                paid,
-                visits,
-            });
-        };
-        size = size_of(space, found.below.segment, at.segment, size);
-        frame = found.below;
-        depth -= 1;
     }
 }

@@ -228,6 +228,7 @@ impl<'s, S: Space> View<'s, S> {
     }
 
     /// Where a struct's slot or an element of a list of pointers stands.
+    #[inline]
     pub fn slot_place(&self, i: u32) -> Place
         requires { i < seen.steps_in self.now.found }
         ensures place { result ≡ seen.step_place self.now.found i }
@@ -254,6 +255,7 @@ impl<'s, S: Space> View<'s, S> {
     }
 
     /// A data word of a struct.
+    #[inline]
     pub fn word(&self, i: u32) -> u64
         requires { i < seen.words_in self.now.found }
         ensures { result ≡ slice_index (seen.content_of self.now.message self.now.found) i }
@@ -273,6 +275,7 @@ impl<'s, S: Space> View<'s, S> {
     }
 
     /// A row of a list of structs, which the list has paid.
+    #[inline]
     pub fn row(&self, i: u32) -> View<'s, S>
         requires { i < seen.rows_in self.now.found }
         ensures message { result.message ≡ self.now.message }
@@ -308,6 +311,7 @@ impl<'s, S: Space> View<'s, S> {
     }
 
     /// An element of a list of bits, bytes, pairs, quads or octs.
+    #[inline]
     pub fn number(&self, i: u32) -> u64
         requires { i < seen.numbers_in self.now.found }
         ensures { result ≡ seen.number_of self.now.message self.now.found i }
@@ -334,6 +338,7 @@ impl<'s, S: Space> View<'s, S> {
     }
 
     /// The elements of a list of bytes.
+    #[inline]
     pub fn bytes(&self) -> Option<&'s [u8]>
         ensures some { IsSome result ↔ (seen.kind_of self.now.found ≡ kinds.Bytes) }
         ensures number { IfSome result (λ b. length b.now ≡ seen.len_of self.now.found) }

@@ -1,4 +1,4 @@
-use Rattle.std.proofs.Common.{◌≡◌, ℕ, ◌+◌, ◌*◌, ◌≤◌, length}
+use Rattle.std.proofs.Common.{◌≡◌, ℕ, ◌+◌, ◌-◌, ◌*◌, ◌≤◌, length}
 use Rattle.capn_words.specs.Message.{segment_at}
 use Rattle.capn_walk.specs.Visits.{visits_of}
 use Rattle.capn_walk.specs.Frames.{places_of, owed}
@@ -6,7 +6,7 @@ use Rattle.capn_walk.proofs.UnderWay.{Surveys, coming}
 use Rattle.capn_walk.proofs.surveying.survey_slots.Given as goal
 
 abbrev pub decreases-slots : goal.decreases-slots
-decreases-slots g l = 2 * length (coming (g.S.Space.message l.space) l.limit l.depth l.stack.items l.frame) + length l.stack.items
+decreases-slots g l = 3 * length (coming (g.S.Space.message l.space) l.depth l.stack.items l.frame) + length l.stack.items + (1 - l.frame.left)
 
 abbrev pub invariant-slots : goal.invariant-slots
 invariant-slots g l =

@@ -1,0 +1,22 @@
+use Rattle.std.proofs.Common.{◌≡◌, arith}
+use Rattle.capn_walk.specs.Accepted.{root}
+use Rattle.capn_walk.specs.Frames.{owed}
+use Rattle.capn_walk.proofs.Framing.{done}
+use Rattle.capn_walk.proofs.RootSurveys.{refuses-here, gives-below, caps-below, refuses-below, gives-alone, caps-alone}
+use Rattle.capn_walk.proofs.surveying.survey_root.Goals as goal
+
+pub returns-then-is_done-clause-pays : goal.returns-then-is_done-clause-pays
+returns-then-is_done-clause-pays g c =
+    let m = g.S.Space.message c.args.space.now in
+    let x = c.in-Ok in
+    let z : owed c.in-Ok.visited.below ≡ 0 = done c.is_done.result _ c.is_done.ensures c.if-is_done.true in
+    gives-alone m c.args.budget c.args.depth root x.visited.price x.visited.below x.visited.capability x.ensures.visits x.ensures.price x.ensures.owed x.ensures.capability
+    x.ensures.below.rows z
+
+pub returns-then-is_done-clause-capability : goal.returns-then-is_done-clause-capability
+returns-then-is_done-clause-capability g c =
+    let m = g.S.Space.message c.args.space.now in
+    let x = c.in-Ok in
+    let z : owed c.in-Ok.visited.below ≡ 0 = done c.is_done.result _ c.is_done.ensures c.if-is_done.true in
+    caps-alone m c.args.budget c.args.depth root x.visited.price x.visited.below x.visited.capability x.ensures.visits x.ensures.price x.ensures.owed x.ensures.capability
+    x.ensures.below.rows z
