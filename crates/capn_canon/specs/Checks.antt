@@ -1,9 +1,12 @@
 -- What the check of canonical bytes answers.
-use Rattle.std.specs.Prelude.{◌≡◌, ◌↔◌, ℕ, List, None, Bool}
+use Rattle.std.specs.Prelude.{◌≡◌, ◌↔◌, ℕ, List, [], ◌∷◌, None, Bool}
 use Rattle.std.specs.Bool.{IsTrue}
+use Rattle.capn_words.specs.Words.{bytes}
 use Rattle.capn_value.specs.Tree.{Tree}
 use Rattle.capn_value.specs.Caps.{first_cap}
+use Rattle.capn_walk.specs.Denotes.{IsValueOf, paid, number_of_visits}
 use Rattle.capn_walk.specs.Limits.{Bounds}
+use Rattle.capn_canon.specs.declared.checked.Checked.{Checked}
 use Rattle.capn_canon.specs.declared.form.Form.TheVariants as forms
 use Rattle.capn_canon.specs.Denotes.{Denotes}
 use Rattle.capn_canon.specs.Layout.{canon}
@@ -14,3 +17,13 @@ pub record Checks (bs : List ℕ) (each : ℕ) (limits : Bounds) (yes : Bool) : 
   pub is : Denotes forms.Bare bs each limits value
   pub free : first_cap value ≡ None
   pub answer : IsTrue yes ↔ (canon value ≡ bs)
+
+-- the words are an accepted message; the check tells what its walk pays, how many visits it makes and the first capability of its value,
+-- and says yes exactly if the value has none and the bytes of the words are its canonical bytes
+pub record IsCheck (words : List ℕ) (each budget depth : ℕ) (c : Checked) : Type 0 where
+  pub value : Tree
+  pub is : IsValueOf (words ∷ []) each budget depth value
+  pub pays : c.paid ≡ paid (words ∷ []) each depth
+  pub counts : c.visits ≡ number_of_visits (words ∷ []) each depth
+  pub capability : c.capability ≡ first_cap value
+  pub answer : IsTrue c.is_canonical ↔ ((first_cap value ≡ None) × (canon value ≡ bytes words))

@@ -14,8 +14,8 @@ ghost use Rattle.capn_canon.specs.Refused.{IsRefusedMessage, IsPaidWithin};
 ghost use Rattle.capn_canon.specs.declared.refusal.Refusal.TheVariants as refusals;
 ghost use Rattle.capn_canon.specs.Ready.{IsReady};
 
-use crate::placing::lay_slot;
 use crate::patch::Patch;
+use crate::placing::lay_slot;
 use crate::refusal::Refusal;
 use capn_value::Memory;
 use capn_walk::{Fault, Limits, survey};

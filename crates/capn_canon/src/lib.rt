@@ -25,6 +25,7 @@
 
 mod bits;
 mod canonical;
+mod checked;
 mod checking;
 mod content;
 mod finding;
@@ -47,13 +48,14 @@ mod testing;
 mod verdict;
 
 pub use canonical::{Canonical, canonical_of};
+pub use checked::Checked;
 pub use form::Form;
 pub use laying::{LayoutFault, layout};
 pub use patch::Patch;
 pub use reading::canonicalise;
 pub use refusal::Refusal;
 pub use surveying::survey;
-pub use verdict::is_canonical;
+pub use verdict::{check, is_canonical};
 
 #[cfg(test)]
 mod tests;

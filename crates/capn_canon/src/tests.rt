@@ -121,3 +121,30 @@ fn answers_for_a_message(rt: HostRuntime) {
         },
     }
 }
+
+/// Bytes that are canonical, bytes that are not, and a capability, which has no canonical bytes.
+#[test]
+fn tells_canonical_bytes(rt: HostRuntime) {
+    let capability = [0, 0, 0, 0, 0, 0, 1, 0, 3, 0, 0, 0, 2, 0, 0, 0];
+    for (input, paid, index, yes) in [
+        (ONE_WORD.as_slice(), 2, None, true),
+        (TRAILING_ZERO_WORD.as_slice(), 3, None, false),
+        (capability.as_slice(), 2, Some(2), false),
+    ] {
+        match Bare::new(input) {
+            Err(_) => assert!(rt; false, "whole words are refused"),
+            Ok(bare) => match check(rt.alloc(), &bare, Limits::usual()) {
+                Err(_) => assert!(rt; false, "the message is refused"),
+                Ok(checked) => {
+                    assert_eq!(rt; checked.paid, paid);
+                    assert_eq!(rt; checked.capability, index);
+                    assert_eq!(rt; checked.is_canonical, yes);
+                }
+            },
+        }
+    }
+    assert_eq!(rt;
+        is_canonical(rt.alloc(), &ONE_WORD, Limits::usual()),
+        Ok(true)
+    );
+}

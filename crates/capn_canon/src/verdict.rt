@@ -1,24 +1,26 @@
 //! Whether bytes are canonical, without a buffer.
 
-ghost use Rattle.std.specs.Prelude.{◌≡◌, ◌↔◌, ◌≢◌, ℕ, ◌+◌, ◌<◌, ◌≤◌, [], ◌∷◌, None, length, IsTrue, IfOk, IfErr, MatchResult};
+ghost use Rattle.std.specs.Prelude.{◌≡◌, ◌↔◌, ◌≢◌, ℕ, ◌+◌, ◌<◌, ◌≤◌, [], ◌∷◌, ◌⊎◌, None, length, IsTrue, IfOk, IfErr, MatchResult};
 ghost use Rattle.capn_words.specs.Message.{IsMessage};
 ghost use Rattle.capn_value.specs.Tree.{Tree as Value};
 ghost use Rattle.capn_value.specs.Caps.{first_cap};
 ghost use Rattle.capn_walk.specs.Accepted.{root};
 ghost use Rattle.capn_walk.specs.At.{IsAt};
-ghost use Rattle.capn_walk.specs.Denotes.{IsValueOf};
+ghost use Rattle.capn_walk.specs.Denotes.{IsValueOf, IsRefused as IsStopped, IsBounded};
+ghost use Rattle.capn_walk.specs.declared.target.Fault.TheVariants as faults;
 ghost use Rattle.capn_canon.specs.Denotes.{Denotes};
 ghost use Rattle.capn_canon.specs.Layout.{canon, words};
-ghost use Rattle.capn_canon.specs.Refused.{IsRefused, IsRefusedMessage, IsPaidWithin};
+ghost use Rattle.capn_canon.specs.Refused.{IsRefused, IsPaidWithin};
 ghost use Rattle.capn_canon.specs.declared.form.Form.TheVariants as forms;
 ghost use Rattle.capn_canon.specs.declared.refusal.Refusal.TheVariants as refusals;
 ghost use Rattle.capn_canon.specs.Ready.{IsReady};
-ghost use Rattle.capn_canon.specs.Checks.{Checks};
+ghost use Rattle.capn_canon.specs.Checks.{Checks, IsCheck};
 
+use crate::checked::Checked;
 use crate::checking::check_slot;
-use crate::testing::words_of;
 use crate::refusal::Refusal;
-use capn_walk::{Fault, Limits, survey};
+use crate::testing::words_of;
+use capn_walk::{Fault, Limits, Stopped, survey};
 use capn_words::{Bare, Space};
 use std::alloc::Allocator;
 
@@ -33,6 +35,46 @@ pub fn are_canonical(space: &Bare<'_>, depth: u32) -> bool
         Some(end) => end == words_of(space),
         None => false,
     }
+}
+
+/// What the walk of a bare message pays and visits within the limits, its first capability, and whether its
+/// bytes are canonical. The message is surveyed once.
+///
+/// It refuses what the walk refuses, in the same way. It takes no memory for a depth of at most 64; `Memory`
+/// comes only where a growth was refused.
+pub fn check<A: Allocator + Copy>(
+    alloc: A,
+    space: &Bare<'_>,
+    limits: Limits,
+) -> Result<Checked, Stopped>
+    // An answer: the message is accepted, what its walk pays, and whether its bytes are those of its value.
+    ensures found { IfOk result (λ c. IsCheck space.now 1 limits.budget limits.depth c) }
+    // A message that is accepted is answered, or a growth was refused;
+    ensures only { (v : Value) → IsValueOf (space.now ∷ []) 1 limits.budget limits.depth v
+        → MatchResult result (λ c. c.capability ≡ first_cap v) (λ s. s.fault ≡ faults.Memory) }
+    // any other refusal is the first stop.
+    ensures refused { IfErr result (λ s. (s.fault ≡ faults.Memory)
+        ⊎ IsStopped (space.now ∷ []) 1 limits.budget limits.depth s.fault s.place s.paid s.visits) }
+    // No growth is wanted for a depth of at most 64.
+    ensures inline { limits.depth ≤ 64 → IfErr result (λ s. s.fault ≢ faults.Memory) }
+    // No walk pays beyond its budget.
+    ensures bounded { MatchResult result (λ c. IsBounded limits.budget c.paid c.visits)
+        (λ s. IsBounded limits.budget s.paid s.visits) }
+{
+    let _segments = space.segments();
+    let _budget = limits.budget();
+    let depth = limits.depth();
+    let told = survey(alloc, space, limits)?;
+    let is_canonical = match told.capability {
+        Some(_) => false,
+        None => are_canonical(space, depth),
+    };
+    Ok(Checked {
+        paid: told.paid,
+        visits: told.visits,
+        capability: told.capability,
+        is_canonical,
+    })
 }
 
 /// Whether bytes, read bare within the limits, are the canonical bytes of the value that they denote.
@@ -52,22 +94,17 @@ pub fn is_canonical<A: Allocator + Copy>(
     // No memory is wanted for a depth of at most 64.
     ensures inline { limits.depth ≤ 64 → IfErr result (λ e. e ≢ refusals.Memory) }
 {
-    let _budget = limits.budget();
-    let depth = limits.depth();
     match Bare::new(bytes) {
-        Ok(space) => {
-            let _segments = space.segments();
-            match survey(alloc, &space, limits) {
-                Ok(surveyed) => match surveyed.capability {
-                    Some(index) => Err(Refusal::Capability(index)),
-                    None => Ok(are_canonical(&space, depth)),
-                },
-                Err(stopped) => match stopped.fault {
-                    Fault::Memory => Err(Refusal::Memory),
-                    _ => Err(Refusal::Walk(stopped)),
-                },
-            }
-        }
+        Ok(space) => match check(alloc, &space, limits) {
+            Ok(checked) => match checked.capability {
+                Some(index) => Err(Refusal::Capability(index)),
+                None => Ok(checked.is_canonical),
+            },
+            Err(stopped) => match stopped.fault {
+                Fault::Memory => Err(Refusal::Memory),
+                _ => Err(Refusal::Walk(stopped)),
+            },
+        },
         Err(fault) => Err(Refusal::Bare(fault)),
     }
 }

@@ -1,0 +1,14 @@
+//! What the check of a bare message answers.
+
+/// What the walk of a bare message pays, and whether its bytes are canonical.
+#[derive(Clone, Copy, Debug, PartialEq, Eq)]
+pub struct Checked {
+    /// The words paid, at most the budget.
+    pub paid: u32,
+    /// The number of visits.
+    pub visits: u32,
+    /// The index of the first capability in preorder. A value that has one has no canonical bytes.
+    pub capability: Option<u32>,
+    /// Whether the value has no capability and the bytes are its canonical bytes.
+    pub is_canonical: bool,
+}
