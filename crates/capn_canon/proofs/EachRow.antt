@@ -1,15 +1,15 @@
 -- Rows of equal sizes, one after the other.
-use Rattle.std.proofs.Common.{◌≡◌, ℕ, zero, suc, ◌+◌, ◌-◌, ◌*◌, ◌^◌, ◌<◌, ◌≤◌, max, List, [], ◌++◌, length, take, replicate, refl, ap, ap₂, sym, subst, ◌∙◌, arith, append_assoc, append-nil, Option, None}
+use Rattle.std.proofs.Common.{◌≡◌, ℕ, zero, suc, ◌+◌, ◌-◌, ◌*◌, ◌^◌, ◌<◌, ◌≤◌, max, List, [], ◌++◌, length, take, refl, ap, ap₂, sym, subst, ◌∙◌, arith, append_assoc, append-nil, length-drop, Option}
 use Rattle.capn_words.specs.Message.{IsMessage, segment_at}
 use Rattle.capn_value.specs.Tree.{Trees, Bodies, no_bodies, body, count, count_rows}
 use Rattle.capn_value.specs.Trim.{kept_words, kept_words_of_rows, kept_slots_of_rows}
 use Rattle.capn_walk.specs.At.{RowsAt, words_from}
 use Rattle.capn_canon.specs.Patch.{whole}
-use Rattle.capn_canon.specs.Laying.{row_holes}
+use Rattle.capn_canon.specs.Laying.{AreRowsOver}
 use Rattle.capn_canon.specs.RowWords.{kept_each, row_cells}
 use Rattle.capn_canon.proofs.Cut.{part-le, take-less}
-use Rattle.std.proofs.lemmas.List.{drop-drop}
-use Rattle.capn_canon.proofs.Holes.{whole-append}
+use Rattle.std.proofs.lemmas.List.{drop-drop, length-take-le}
+use Rattle.capn_canon.proofs.Holes.{length-whole, whole-append}
 use Rattle.capn_canon.proofs.Nulls.{kept-slots}
 use Rattle.capn_canon.proofs.Standing.{take-plus}
 
@@ -48,23 +48,25 @@ module _ (m : List (List ℕ)) where
       omega arith
 
   -- the cells of rows, from the front
-  pub cells-begin : (s w step a b n : ℕ) (p : List (Option ℕ)) → p ++ row_cells m s w step a b (n - 0) ≡ p ++ row_cells m s w step a b n
-  cells-begin s w step a b n p = let z : n - 0 ≡ n = omega arith in ap (λ (x : ℕ). p ++ row_cells m s w step a b x) z
+  pub cells-begin : (s w step inset a b n : ℕ) (p : List (Option ℕ)) → p ++ row_cells m s w step inset a b (n - 0) ≡ p ++ row_cells m s w step inset a b n
+  cells-begin s w step inset a b n p = let z : n - 0 ≡ n = omega arith in ap (λ (x : ℕ). p ++ row_cells m s w step inset a b x) z
 
-  pub cells-more : (s w step a b n i : ℕ) (p q r : List (Option ℕ)) (xs : List ℕ) → i < n → q ≡ p ++ whole xs → r ≡ q ++ replicate b None → xs ≡ take a (words_from m s w) →
-      r ++ row_cells m s (w + step) step a b (n - (i + 1)) ≡ p ++ row_cells m s w step a b (n - i)
-  cells-more s w step a b n i p q r xs lt eq er ex =
+  pub cells-more : (s w step inset a b n i : ℕ) (p q : List (Option ℕ)) → i < n → q ≡ (p ++ whole (take a (words_from m s w))) ++ whole (take b (words_from m s (w + inset))) →
+      q ++ row_cells m s (w + step) step inset a b (n - (i + 1)) ≡ p ++ row_cells m s w step inset a b (n - i)
+  cells-more s w step inset a b n i p q lt eq =
       let k : suc (n - (i + 1)) ≡ n - i = omega arith in
-      let rest = row_cells m s (w + step) step a b (n - (i + 1)) in
-      ap (λ (x : List (Option ℕ)). x ++ rest) (er ∙ ap (λ (x : List (Option ℕ)). x ++ replicate b None) (eq ∙ ap (λ (x : List ℕ). p ++ whole x) ex))
-      ∙ append_assoc (p ++ whole (take a (words_from m s w))) (replicate b None) rest
-      ∙ append_assoc p (whole (take a (words_from m s w))) (replicate b None ++ rest)
-      ∙ ap (λ (x : ℕ). p ++ row_cells m s w step a b x) k
+      let rest = row_cells m s (w + step) step inset a b (n - (i + 1)) in
+      let own = whole (take a (words_from m s w)) in
+      let slots = whole (take b (words_from m s (w + inset))) in
+      ap (λ (x : List (Option ℕ)). x ++ rest) eq
+      ∙ append_assoc (p ++ own) slots rest
+      ∙ append_assoc p own (slots ++ rest)
+      ∙ ap (λ (x : ℕ). p ++ row_cells m s w step inset a b x) k
 
-  pub cells-end : (s w step a b n i : ℕ) (p q : List (Option ℕ)) → n ≤ i → p ++ row_cells m s w step a b (n - i) ≡ q → p ≡ q
-  cells-end s w step a b n i p q le h =
+  pub cells-end : (s w step inset a b n i : ℕ) (p q : List (Option ℕ)) → n ≤ i → p ++ row_cells m s w step inset a b (n - i) ≡ q → p ≡ q
+  cells-end s w step inset a b n i p q le h =
       let z : n - i ≡ 0 = omega arith in
-      sym (append-nil p) ∙ ap (λ (x : ℕ). p ++ row_cells m s w step a b x) (sym z) ∙ h
+      sym (append-nil p) ∙ ap (λ (x : ℕ). p ++ row_cells m s w step inset a b x) (sym z) ∙ h
 
   -- the same of the rows that stand there
   pub kept-rows-words : (bs : Bodies) (a b s w n : ℕ) → RowsAt m a b s w bs → count_rows bs ≡ n → kept_words_of_rows bs ≡ kept_each m s w a (a + b) n
@@ -87,16 +89,27 @@ module _ (m : List (List ℕ)) where
       ap₂ max (kept-slots m ss s (w + a) h.3 (omega arith) ∙ ap (λ (x : ℕ). kept_words (take x (words_from m s (w + a)))) l)
       (kept-rows-slots bs a b s (w + a + b) n h.4 (omega arith) (omega arith) ∙ ap (λ (x : ℕ). kept_each m s x b (a + b) n) z)
 
-  pub cells-rows : (bs : Bodies) (a b s w n x y : ℕ) → RowsAt m a b s w bs → count_rows bs ≡ n → x ≤ a → row_cells m s w (a + b) x y n ≡ row_holes x y bs
-  cells-rows no_bodies a b s w zero x y h e le = refl
-  cells-rows no_bodies a b s w (suc n) x y h e le = absurd (omega arith)
-  cells-rows (body ws ss bs) a b s w zero x y h e le = absurd (omega arith)
-  cells-rows (body ws ss bs) a b s w (suc n) x y h e le =
+  -- behind the kept words of each row stand as many words as it keeps slots
+  pub cells-over : (bs : Bodies) (a b s w n x y : ℕ) → RowsAt m a b s w bs → count_rows bs ≡ n → x ≤ a → y ≤ b → w + n * (a + b) ≤ length (segment_at m s) → AreRowsOver x y bs (row_cells m s w (a + b) a x y n)
+  cells-over no_bodies a b s w zero x y h e le ly i = refl
+  cells-over no_bodies a b s w (suc n) x y h e le ly i = absurd (omega arith)
+  cells-over (body ws ss bs) a b s w zero x y h e le ly i = absurd (omega arith)
+  cells-over (body ws ss bs) a b s w (suc n) x y h e le ly i =
       let z : w + (a + b) ≡ w + a + b = omega arith in
+      let d : suc n * (a + b) ≡ a + b + n * (a + b) = omega arith in
       let own : take a (words_from m s w) ≡ ws = subst (λ (k : ℕ). take k (words_from m s w) ≡ ws) h.0 h.2 in
       let cut : take x (words_from m s w) ≡ take x ws = sym (take-less x a (words_from m s w) le) ∙ ap (take x) own in
-      ap₂ (λ (u : List ℕ) (v : List (Option ℕ)). whole u ++ (replicate y None ++ v)) cut
-      (ap (λ (k : ℕ). row_cells m s k (a + b) x y n) z ∙ cells-rows bs a b s (w + a + b) n x y h.4 (omega arith) le)
+      let hs = whole (take y (words_from m s (w + a))) in
+      let rest = row_cells m s (w + (a + b)) (a + b) a x y n in
+      let below = length-drop (w + a) (segment_at m s) in
+      let long : length hs ≡ y = length-whole (take y (words_from m s (w + a))) ∙ length-take-le y (words_from m s (w + a)) (omega arith) in
+      let after : RowsAt m a b s (w + (a + b)) bs = subst (λ (k : ℕ). RowsAt m a b s k bs) (sym z) h.4 in (
+        hs,
+        rest,
+        ap (λ (u : List ℕ). whole u ++ (hs ++ rest)) cut,
+        long,
+        cells-over bs a b s (w + (a + b)) n x y after (omega arith) le ly (omega arith),
+      )
 
 pub less-times : (n x y most : ℕ) → x ≤ y → n * y < most → n * x < most
 less-times zero x y most le h = omega arith
@@ -121,17 +134,27 @@ one-more-fits hole x y n i most lt h =
     let b : suc (n - (i + 1)) * (x + y) ≡ x + y + (n - (i + 1)) * (x + y) = omega arith in
     omega arith
 
--- rows without slots that are kept whole are one piece
-pub cells-whole : (m : List (List ℕ)) (s w step n : ℕ) → row_cells m s w step step 0 n ≡ whole (take (n * step) (words_from m s w))
-cells-whole m s w step zero = let z : 0 * step ≡ 0 = omega arith in ap (λ (k : ℕ). whole (take k (words_from m s w))) (sym z)
-cells-whole m s w step (suc n) =
-    let z : step + n * step ≡ suc n * step = omega arith in
-    ap (λ (x : List (Option ℕ)). whole (take step (words_from m s w)) ++ x) (cells-whole m s (w + step) step n)
-    ∙ sym (whole-append (take step (words_from m s w)) (take (n * step) (words_from m s (w + step))))
+-- rows that are kept whole are one piece
+pub cells-whole : (m : List (List ℕ)) (s w a b n : ℕ) → row_cells m s w (a + b) a a b n ≡ whole (take (n * (a + b)) (words_from m s w))
+cells-whole m s w a b zero = let z : 0 * (a + b) ≡ 0 = omega arith in ap (λ (k : ℕ). whole (take k (words_from m s w))) (sym z)
+cells-whole m s w a b (suc n) =
+    let z : a + b + n * (a + b) ≡ suc n * (a + b) = omega arith in
+    let own = take a (words_from m s w) in
+    let slots = take b (words_from m s (w + a)) in
+    let step = a + b in
+    let both : own ++ slots ≡ take step (words_from m s w) =
+    ap (λ (xs : List ℕ). own ++ take b xs) (sym (drop-drop a w (segment_at m s))) ∙ sym (take-plus a b (words_from m s w)) in
+    ap (λ (x : List (Option ℕ)). whole own ++ (whole slots ++ x)) (cells-whole m s (w + step) a b n)
+    ∙ ap (λ (x : List (Option ℕ)). whole own ++ x) (sym (whole-append slots (take (n * step) (words_from m s (w + step)))))
+    ∙ sym (whole-append own (slots ++ take (n * step) (words_from m s (w + step))))
+    ∙ ap whole (sym (append_assoc own slots (take (n * step) (words_from m s (w + step)))))
+    ∙ ap (λ (xs : List ℕ). whole (xs ++ take (n * step) (words_from m s (w + step)))) both
     ∙ ap (λ (xs : List ℕ). whole (take step (words_from m s w) ++ take (n * step) xs)) (sym (drop-drop step w (segment_at m s)))
     ∙ ap whole (sym (take-plus step (n * step) (words_from m s w)))
     ∙ ap (λ (k : ℕ). whole (take k (words_from m s w))) z
 
-pub cells-piece : (m : List (List ℕ)) (s w step a b n : ℕ) (p q : List (Option ℕ)) → b ≡ 0 → a ≡ step → q ≡ p ++ whole (take (n * step) (words_from m s w)) → q ≡ p ++ row_cells m s w step a b n
-cells-piece m s w step a b n p q eb ea e =
-    e ∙ ap (λ (x : List (Option ℕ)). p ++ x) (sym (cells-whole m s w step n)) ∙ ap₂ (λ (x y : ℕ). p ++ row_cells m s w step x y n) (sym ea) (sym eb)
+pub cells-piece : (m : List (List ℕ)) (s w step inset a b n : ℕ) (p q : List (Option ℕ)) → a ≡ inset → a + b ≡ step → q ≡ p ++ whole (take (n * step) (words_from m s w)) →
+    q ≡ p ++ row_cells m s w step inset a b n
+cells-piece m s w step inset a b n p q ei es e =
+    e ∙ ap (λ (k : ℕ). p ++ whole (take (n * k) (words_from m s w))) (sym es) ∙ ap (λ (x : List (Option ℕ)). p ++ x) (sym (cells-whole m s w a b n))
+    ∙ ap₂ (λ (x y : ℕ). p ++ row_cells m s w x y a b n) es ei

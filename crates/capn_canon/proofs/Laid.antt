@@ -67,33 +67,34 @@ laid-past (tree t ts) first p h =
     ∙ append_assoc p (whole (lay t (length p))) (whole (lays ts (length p + size t)))
     ∙ ap (λ (xs : List (Option ℕ)). p ++ xs) (sym (whole-append (lay t (length p)) (lays ts (length p + size t))))
 
--- the first n slots have holes, which stand behind q
-pub laid-slots-is : (n : ℕ) (ts : Trees) (q r : List (Option ℕ)) (m to : ℕ) → Sounds ts → n ≤ count ts → length q ≡ m → length q + n + length r ≡ to
-    → laid_slots n ts m (q ++ (replicate n None ++ r)) ≡ q ++ (whole (take n (points ts m to)) ++ (r ++ whole (lays ts to)))
-laid-slots-is zero ts q r m to h le em et =
+-- the first n slots have words or holes, which stand behind q
+pub laid-slots-is : (n : ℕ) (ts : Trees) (q hs r : List (Option ℕ)) (m to : ℕ) → Sounds ts → length hs ≡ n → n ≤ count ts → length q ≡ m → length q + n + length r ≡ to
+    → laid_slots n ts m (q ++ (hs ++ r)) ≡ q ++ (whole (take n (points ts m to)) ++ (r ++ whole (lays ts to)))
+laid-slots-is zero ts q [] r m to h eh le em et =
     let e : length (q ++ r) ≡ to = length-append q r ∙ omega arith in
     laid-past ts m (q ++ r) h ∙ ap (λ (k : ℕ). (q ++ r) ++ whole (lays ts k)) e ∙ append_assoc q r (whole (lays ts to))
-laid-slots-is (suc n) no_trees q r m to h le em et = absurd (omega arith)
-laid-slots-is (suc n) (tree t ts) q r m to h le em et =
-    let p = q ++ (None ∷ (replicate n None ++ r)) in
+laid-slots-is zero ts q (x ∷ hs) r m to h eh le em et = absurd (omega arith)
+laid-slots-is (suc n) ts q [] r m to h eh le em et = absurd (omega arith)
+laid-slots-is (suc n) no_trees q (x ∷ hs) r m to h eh le em et = absurd (omega arith)
+laid-slots-is (suc n) (tree t ts) q (x ∷ hs) r m to h eh le em et =
+    let p = q ++ (x ∷ (hs ++ r)) in
     let w = point t m to in
-    let p1 = q ++ (Some w ∷ (replicate n None ++ r)) in
-    let lr = length-replicate {A = Option ℕ} n None in
-    let la = length-append (replicate {A = Option ℕ} n None) r in
-    let lp : length p ≡ to = length-append q (None ∷ (replicate n None ++ r)) ∙ omega arith in
-    let lp1 : length p1 ≡ to = length-append q (Some w ∷ (replicate n None ++ r)) ∙ omega arith in
+    let p1 = q ++ (Some w ∷ (hs ++ r)) in
+    let la = length-append hs r in
+    let lp : length p ≡ to = length-append q (x ∷ (hs ++ r)) ∙ omega arith in
+    let lp1 : length p1 ≡ to = length-append q (Some w ∷ (hs ++ r)) ∙ omega arith in
     let q1 = q ++ (Some w ∷ []) in
     let r1 = r ++ whole (lay t to) in
     let lq1 : length q1 ≡ suc m = length-append q (Some w ∷ []) ∙ omega arith in
     let lr1 : length r1 ≡ length r + size t = length-append r (whole (lay t to)) ∙ (let a = length-whole (lay t to) in let b = length-lay t to h.0 in omega arith) in
     let set_is : set p m (Some (point t m (length p))) ≡ p1 =
-    ap (λ (k : ℕ). set p m (Some (point t m k))) lp ∙ ap (λ (k : ℕ). set p k (Some w)) (sym em) ∙ set-front q (replicate n None ++ r) None (Some w) in
-    let moved : laid t p1 ≡ q1 ++ (replicate n None ++ r1) =
+    ap (λ (k : ℕ). set p m (Some (point t m k))) lp ∙ ap (λ (k : ℕ). set p k (Some w)) (sym em) ∙ set-front q (hs ++ r) x (Some w) in
+    let moved : laid t p1 ≡ q1 ++ (hs ++ r1) =
     laid-is t p1 ∙ ap (λ (k : ℕ). p1 ++ whole (lay t k)) lp1
-    ∙ append_assoc q (Some w ∷ (replicate n None ++ r)) (whole (lay t to))
-    ∙ ap (λ (xs : List (Option ℕ)). q ++ (Some w ∷ xs)) (append_assoc (replicate n None) r (whole (lay t to)))
-    ∙ sym (append_assoc q (Some w ∷ []) (replicate n None ++ r1)) in
-    let ih = laid-slots-is n ts q1 r1 (suc m) (to + size t) h.1 (omega arith) lq1 (omega arith) in
+    ∙ append_assoc q (Some w ∷ (hs ++ r)) (whole (lay t to))
+    ∙ ap (λ (xs : List (Option ℕ)). q ++ (Some w ∷ xs)) (append_assoc hs r (whole (lay t to)))
+    ∙ sym (append_assoc q (Some w ∷ []) (hs ++ r1)) in
+    let ih = laid-slots-is n ts q1 hs r1 (suc m) (to + size t) h.1 (omega arith) (omega arith) lq1 (omega arith) in
     slots-next n t ts m p
     ∙ ap (λ (xs : List (Option ℕ)). laid_slots n ts (suc m) (laid t xs)) set_is
     ∙ ap (laid_slots n ts (suc m)) moved
@@ -103,34 +104,34 @@ laid-slots-is (suc n) (tree t ts) q r m to h le em et =
     (append_assoc r (whole (lay t to)) (whole (lays ts (to + size t)))
     ∙ ap (λ (xs : List (Option ℕ)). r ++ xs) (sym (whole-append (lay t to) (lays ts (to + size t)))))
 
--- n holes are left behind p1, and the slots laid
-pub laid-left : (n : ℕ) (ts : Trees) (p1 : List (Option ℕ)) → Sounds ts → n ≤ count ts
-    → laid_slots n ts (length p1) (p1 ++ replicate n None) ≡ p1 ++ whole (take n (points ts (length p1) (length p1 + n)) ++ lays ts (length p1 + n))
-laid-left n ts p1 h le =
-    ap (λ (xs : List (Option ℕ)). laid_slots n ts (length p1) (p1 ++ xs)) (sym (append-nil (replicate n None)))
-    ∙ laid-slots-is n ts p1 [] (length p1) (length p1 + n) h le refl (omega arith)
+-- n words or holes are left behind p1, and the slots laid
+pub laid-left : (n : ℕ) (ts : Trees) (p1 hs : List (Option ℕ)) → Sounds ts → length hs ≡ n → n ≤ count ts
+    → laid_slots n ts (length p1) (p1 ++ hs) ≡ p1 ++ whole (take n (points ts (length p1) (length p1 + n)) ++ lays ts (length p1 + n))
+laid-left n ts p1 hs h eh le =
+    ap (λ (xs : List (Option ℕ)). laid_slots n ts (length p1) (p1 ++ xs)) (sym (append-nil hs))
+    ∙ laid-slots-is n ts p1 hs [] (length p1) (length p1 + n) h eh le refl (omega arith)
     ∙ ap (λ (xs : List (Option ℕ)). p1 ++ xs) (sym (whole-append (take n (points ts (length p1) (length p1 + n))) (lays ts (length p1 + n))))
 
-pub laid-node : (ws : List ℕ) (ss : Trees) (p : List (Option ℕ)) → Sound (node ws ss)
-    → laid_slots (kept_slots ss) ss (length (p ++ whole (take (kept_words ws) ws))) ((p ++ whole (take (kept_words ws) ws)) ++ replicate (kept_slots ss) None) ≡ laid (node ws ss) p
-laid-node ws ss p h =
+pub laid-node : (ws : List ℕ) (ss : Trees) (p hs : List (Option ℕ)) → Sound (node ws ss) → length hs ≡ kept_slots ss
+    → laid_slots (kept_slots ss) ss (length (p ++ whole (take (kept_words ws) ws))) ((p ++ whole (take (kept_words ws) ws)) ++ hs) ≡ laid (node ws ss) p
+laid-node ws ss p hs h eh =
     let p1 = p ++ whole (take (kept_words ws) ws) in
     let l : length p1 ≡ length p + kept_words ws =
     length-append p (whole (take (kept_words ws) ws)) ∙ (let a = length-whole (take (kept_words ws) ws) in let b = length-take-le (kept_words ws) ws (kept_words-le ws) in omega arith) in
     let to : length p1 + kept_slots ss ≡ length p + (kept_words ws + kept_slots ss) = omega arith in
     let at = length p + kept_words ws in
     let end = length p + (kept_words ws + kept_slots ss) in
-    laid-left (kept_slots ss) ss p1 h.2 (kept_slots-le ss)
+    laid-left (kept_slots ss) ss p1 hs h.2 eh (kept_slots-le ss)
     ∙ ap₂ (λ (j k : ℕ). p1 ++ whole (take (kept_slots ss) (points ss j k) ++ lays ss k)) l to
     ∙ append_assoc p (whole (take (kept_words ws) ws)) (whole (take (kept_slots ss) (points ss at end) ++ lays ss end))
     ∙ ap (λ (xs : List (Option ℕ)). p ++ xs) (sym (whole-append (take (kept_words ws) ws) (take (kept_slots ss) (points ss at end) ++ lays ss end)))
     ∙ sym (laid-is (node ws ss) p)
 
-pub laid-links : (ts : Trees) (p : List (Option ℕ)) → Sound (links ts) → laid_slots (count ts) ts (length p) (p ++ replicate (count ts) None) ≡ laid (links ts) p
-laid-links ts p h =
+pub laid-links : (ts : Trees) (p hs : List (Option ℕ)) → Sound (links ts) → length hs ≡ count ts → laid_slots (count ts) ts (length p) (p ++ hs) ≡ laid (links ts) p
+laid-links ts p hs h eh =
     let e : take (count ts) (points ts (length p) (length p + count ts)) ≡ points ts (length p) (length p + count ts) =
     ap (λ (k : ℕ). take k (points ts (length p) (length p + count ts))) (sym (length-points ts (length p) (length p + count ts))) ∙ take-length (points ts (length p) (length p + count ts)) in
-    laid-left (count ts) ts p h.1 (omega arith)
+    laid-left (count ts) ts p hs h.1 eh (omega arith)
     ∙ ap (λ (xs : List ℕ). p ++ whole (xs ++ lays ts (length p + count ts))) e
     ∙ sym (laid-is (links ts) p)
 
@@ -142,13 +143,15 @@ laid-plain t u p q ws e is h =
 pub laid-empty : (t u : Tree) (p : List (Option ℕ)) → t ≡ u → lay u (length p) ≡ [] → p ≡ laid t p
 laid-empty t u p e is = laid-plain t u p p [] e is (sym (append-nil p))
 
--- the own words are appended and holes left, so the slots can be laid
-module _ (v : Tree) (p p1 p2 : List (Option ℕ)) (n first : ℕ) (sound : Sound v) (room : length p + size v ≤ 2 ^ 29) (ef : first ≡ length p1) (e2 : p2 ≡ p1 ++ replicate n None) where
-  pub ready-holes : AreHoles p2 first n
-  ready-holes = subst (λ (q : List (Option ℕ)). AreHoles q first n) (sym e2) (subst (λ (k : ℕ). AreHoles (p1 ++ replicate n None) k n) (sym ef) (holes-left p1 n))
+-- holes are left behind the own words
+pub ready-holes : (p1 p2 : List (Option ℕ)) (n first : ℕ) → first ≡ length p1 → p2 ≡ p1 ++ replicate n None → AreHoles p2 first n
+ready-holes p1 p2 n first ef e2 =
+    subst (λ (q : List (Option ℕ)). AreHoles q first n) (sym e2) (subst (λ (k : ℕ). AreHoles (p1 ++ replicate n None) k n) (sym ef) (holes-left p1 n))
 
-  left-length : length p2 ≡ length p1 + n
-  left-length = ap length e2 ∙ length-append p1 (replicate n None) ∙ (let r = length-replicate {A = Option ℕ} n None in omega arith)
+-- the own words are appended and words or holes behind them, so the slots can be laid
+module _ (v : Tree) (p p1 p2 hs : List (Option ℕ)) (n first : ℕ) (sound : Sound v) (room : length p + size v ≤ 2 ^ 29) (ef : first ≡ length p1) (eh : length hs ≡ n) (e2 : p2 ≡ p1 ++ hs) where
+  pub left-length : length p2 ≡ length p1 + n
+  left-length = ap length e2 ∙ length-append p1 hs ∙ omega arith
 
   module _ (ws : List ℕ) (ss : Trees) (ev : v ≡ node ws ss) (e1 : p1 ≡ p ++ whole (take (kept_words ws) ws)) (en : n ≡ kept_slots ss) where
     pub node-room : length p2 + sizes ss ≤ 2 ^ 29
@@ -164,7 +167,7 @@ module _ (v : Tree) (p p1 p2 : List (Option ℕ)) (n first : ℕ) (sound : Sound
     node-sound = (subst Sound ev sound).2
 
     pub node-done : laid v p ≡ laid_slots n ss first p2
-    node-done = rw (e2, ef, en, e1, ev) (sym (laid-node ws ss p (subst Sound ev sound)))
+    node-done = rw (e2, ef, en, e1, ev) (sym (laid-node ws ss p hs (subst Sound ev sound) (eh ∙ en)))
 
   module _ (ts : Trees) (ev : v ≡ links ts) (e1 : p1 ≡ p) (en : n ≡ count ts) where
     pub links-room : length p2 + sizes ts ≤ 2 ^ 29
@@ -178,7 +181,7 @@ module _ (v : Tree) (p p1 p2 : List (Option ℕ)) (n first : ℕ) (sound : Sound
     links-sound = (subst Sound ev sound).1
 
     pub links-done : laid v p ≡ laid_slots n ts first p2
-    links-done = rw (e2, ef, en, e1, ev) (sym (laid-links ts p (subst Sound ev sound)))
+    links-done = rw (e2, ef, en, e1, ev) (sym (laid-links ts p hs (subst Sound ev sound) (eh ∙ en)))
 
 -- a slot is laid
 module _ (t : Tree) (ts : Trees) (n first i : ℕ) (p : List (Option ℕ)) (sound : Sounds (tree t ts)) (room : length p + sizes (tree t ts) ≤ 2 ^ 29) where

@@ -8,7 +8,7 @@ use Rattle.capn_value.specs.Tree.{Tree, rows, Trees, no_trees, tree, Bodies, no_
 use Rattle.capn_value.specs.Trim.{kept_words_of_rows, kept_slots_of_rows}
 use Rattle.capn_canon.specs.Patch.{whole, IsHole}
 use Rattle.capn_canon.specs.Layout.{own, size, sizes, sizes_in_rows, row_size, point, points, row_contents, lays, lays_in_rows}
-use Rattle.capn_canon.specs.Laying.{laid, laid_slots, laid_rows, row_holes, AreHoles, AreRowHoles}
+use Rattle.capn_canon.specs.Laying.{laid, laid_slots, laid_rows, row_holes, AreRowsOver, AreHoles, AreRowHoles}
 use Rattle.capn_canon.specs.Sound.{AreWide, Sound, Sounds, SoundRows}
 use Rattle.capn_canon.proofs.LayLengths.{length-cut, length-lays}
 use Rattle.capn_canon.proofs.Holes.{hole-append, hole-set, hole-behind, hole-each, length-whole, whole-append}
@@ -53,17 +53,21 @@ row-holes-slots a b (body ws ss bs) at n ts first p le h =
 
 -- ---- rows with holes
 
-pub length-row_holes : (a b : ℕ) (bs : Bodies) → AreWide a b bs → length (row_holes a b bs) ≡ count_rows bs * (a + b)
-length-row_holes a b no_bodies h = omega arith
-length-row_holes a b (body ws ss bs) h =
+pub holes-over : (a b : ℕ) (bs : Bodies) → AreRowsOver a b bs (row_holes a b bs)
+holes-over a b no_bodies = refl
+holes-over a b (body ws ss bs) = (replicate b None, row_holes a b bs, refl, length-replicate {A = Option ℕ} b None, holes-over a b bs)
+
+pub length-over : (a b : ℕ) (bs : Bodies) (cs : List (Option ℕ)) → AreWide a b bs → AreRowsOver a b bs cs → length cs ≡ count_rows bs * (a + b)
+length-over a b no_bodies cs h o = ap length o ∙ omega arith
+length-over a b (body ws ss bs) cs h o =
     let x = length-take-le a ws h.0 in
     let w = length-whole (take a ws) in
-    let y = length-replicate {A = Option ℕ} b None in
-    let z = length-row_holes a b bs h.2 in
-    let u = length-append (whole (take a ws)) (replicate b None ++ row_holes a b bs) in
-    let v = length-append (replicate {A = Option ℕ} b None) (row_holes a b bs) in
+    let y = o.3 in
+    let z = length-over a b bs o.1 h.2 o.4 in
+    let u = length-append (whole (take a ws)) (o.0 ++ o.1) in
+    let v = length-append o.0 o.1 in
     let m : suc (count_rows bs) * (a + b) ≡ a + b + count_rows bs * (a + b) = omega arith in
-    u ∙ omega arith
+    ap length o.2 ∙ u ∙ omega arith
 
 -- a row in front of the others
 row-front : (q w h rh r : List (Option ℕ)) → q ++ ((w ++ (h ++ rh)) ++ r) ≡ (q ++ w) ++ (h ++ (rh ++ r))
@@ -113,14 +117,15 @@ whole-three q xs ys zs r =
     ∙ sym (append_assoc (whole xs) (whole (ys ++ zs)) r)
     ∙ ap (λ (x : List (Option ℕ)). x ++ r) (sym (whole-append xs (ys ++ zs))))
 
--- the rows have holes, which stand behind q
-pub laid-rows-is : (a b : ℕ) (bs : Bodies) (q r : List (Option ℕ)) (m to : ℕ) → SoundRows bs → AreWide a b bs → length q ≡ m → length q + length (row_holes a b bs) + length r ≡ to
-    → laid_rows a b bs m (q ++ (row_holes a b bs ++ r)) ≡ q ++ (whole (row_contents a b bs m to) ++ (r ++ whole (lays_in_rows bs to)))
-laid-rows-is a b no_bodies q r m to s h em et =
-    rows-none a b m (q ++ r) ∙ ap (λ (x : List (Option ℕ)). q ++ x) (sym (append-nil r))
-laid-rows-is a b (body ws ss bs) q r m to s h em et =
+-- the rows have words or holes for their slots, and stand behind q
+pub laid-rows-is : (a b : ℕ) (bs : Bodies) (q cs r : List (Option ℕ)) (m to : ℕ) → SoundRows bs → AreWide a b bs → AreRowsOver a b bs cs → length q ≡ m → length q + length cs + length r ≡ to
+    → laid_rows a b bs m (q ++ (cs ++ r)) ≡ q ++ (whole (row_contents a b bs m to) ++ (r ++ whole (lays_in_rows bs to)))
+laid-rows-is a b no_bodies q cs r m to s h o em et =
+    rows-none a b m (q ++ (cs ++ r)) ∙ ap (λ (x : List (Option ℕ)). q ++ (x ++ r)) o ∙ ap (λ (x : List (Option ℕ)). q ++ x) (sym (append-nil r))
+laid-rows-is a b (body ws ss bs) q cs r m to s h o em et =
     let w = take a ws in
-    let rh = row_holes a b bs in
+    let hs = o.0 in
+    let rh = o.1 in
     let q1 = q ++ whole w in
     let r1 = rh ++ r in
     let ps = take b (points ss (m + a) to) in
@@ -128,9 +133,10 @@ laid-rows-is a b (body ws ss bs) q r m to s h em et =
     let r2 = r ++ whole (lays ss to) in
     let lw : length (whole w) ≡ a = length-whole w ∙ length-take-le a ws h.0 in
     let l1 : length q1 ≡ m + a = length-append q (whole w) ∙ omega arith in
-    let lb = length-replicate {A = Option ℕ} b None in
-    let lh = length-append (whole w) (replicate b None ++ rh) in
-    let lh2 = length-append {A = Option ℕ} (replicate b None) rh in
+    let lb = o.3 in
+    let lc = ap length o.2 in
+    let lh = length-append (whole w) (hs ++ rh) in
+    let lh2 = length-append hs rh in
     let lr1 = length-append rh r in
     let et1 : length q1 + b + length r1 ≡ to = omega arith in
     let lp : length (whole ps) ≡ b = length-whole ps ∙ length-cut b ss (m + a) to h.1 in
@@ -139,12 +145,13 @@ laid-rows-is a b (body ws ss bs) q r m to s h em et =
     let y = length-lays ss to s.0 in
     let lr2 = length-append r (whole (lays ss to)) in
     let et2 : length q2 + length rh + length r2 ≡ to + sizes ss = omega arith in
-    let slots = laid-slots-is b ss q1 r1 (m + a) to s.0 h.1 l1 et1 in
+    let slots = laid-slots-is b ss q1 hs r1 (m + a) to s.0 lb h.1 l1 et1 in
     let moved : q1 ++ (whole ps ++ (r1 ++ whole (lays ss to))) ≡ q2 ++ (rh ++ r2) =
     sym (append_assoc q1 (whole ps) (r1 ++ whole (lays ss to))) ∙ ap (λ (x : List (Option ℕ)). q2 ++ x) (append_assoc rh r (whole (lays ss to))) in
-    let ih = laid-rows-is a b bs q2 r2 (m + a + b) (to + sizes ss) s.1 h.2 l2 et2 in
-    rows-next a b ws ss bs m (q ++ (row_holes a b (body ws ss bs) ++ r))
-    ∙ ap (λ (x : List (Option ℕ)). laid_rows a b bs (m + a + b) (laid_slots b ss (m + a) x)) (row-front q (whole w) (replicate b None) rh r)
+    let ih = laid-rows-is a b bs q2 rh r2 (m + a + b) (to + sizes ss) s.1 h.2 o.4 l2 et2 in
+    rows-next a b ws ss bs m (q ++ (cs ++ r))
+    ∙ ap (λ (x : List (Option ℕ)). laid_rows a b bs (m + a + b) (laid_slots b ss (m + a) (q ++ (x ++ r)))) o.2
+    ∙ ap (λ (x : List (Option ℕ)). laid_rows a b bs (m + a + b) (laid_slots b ss (m + a) x)) (row-front q (whole w) hs rh r)
     ∙ ap (laid_rows a b bs (m + a + b)) (slots ∙ moved)
     ∙ ih
     ∙ whole-three q w ps (row_contents a b bs (m + a + b) (to + sizes ss)) (r2 ++ whole (lays_in_rows bs (to + sizes ss)))
@@ -155,8 +162,7 @@ laid-rows-is a b (body ws ss bs) q r m to s h em et =
 -- ---- the tag and the rows are appended, so the slots can be laid
 
 module _ (bs : Bodies) (p p1 : List (Option ℕ)) (n a b start : ℕ) (sound : Sound (rows bs)) (room : length p + size (rows bs) ≤ 2 ^ 29)
-    (en : n ≡ count_rows bs) (ea : a ≡ kept_words_of_rows bs) (eb : b ≡ kept_slots_of_rows bs) (es : start ≡ length p + 1)
-    (e1 : p1 ≡ (p ++ Some (word_of (Node (pos n) a b)) ∷ []) ++ row_holes a b bs) where
+    (en : n ≡ count_rows bs) (ea : a ≡ kept_words_of_rows bs) (eb : b ≡ kept_slots_of_rows bs) (es : start ≡ length p + 1) where
   abbrev tag-word : ℕ
   tag-word = word_of (Node (pos (count_rows bs)) (kept_words_of_rows bs) (kept_slots_of_rows bs))
 
@@ -169,44 +175,45 @@ module _ (bs : Bodies) (p p1 : List (Option ℕ)) (n a b start : ℕ) (sound : S
   tagged-length : length tagged ≡ start
   tagged-length = length-append p (Some (word_of (Node (pos n) a b)) ∷ []) ∙ omega arith
 
-  pub begun-holes : AreRowHoles a b bs start p1
-  begun-holes =
-      subst (λ (x : List (Option ℕ)). AreRowHoles a b bs start x) (ap (λ (x : List (Option ℕ)). tagged ++ x) (append-nil (row_holes a b bs)) ∙ sym e1)
-      (row-holes-left a b bs tagged [] start wide tagged-length)
-
   begun-size : count_rows bs * (a + b) ≡ count_rows bs * row_size bs
   begun-size = ap₂ (λ (x y : ℕ). count_rows bs * (x + y)) ea eb
 
-  begun-length : length p1 ≡ start + count_rows bs * (a + b)
-  begun-length =
-      ap length e1 ∙ length-append tagged (row_holes a b bs)
-      ∙ (let l = tagged-length in let h = length-row_holes a b bs wide in omega arith)
+  pub begun-holes : p1 ≡ tagged ++ row_holes a b bs → AreRowHoles a b bs start p1
+  begun-holes e1 =
+      subst (λ (x : List (Option ℕ)). AreRowHoles a b bs start x) (ap (λ (x : List (Option ℕ)). tagged ++ x) (append-nil (row_holes a b bs)) ∙ sym e1)
+      (row-holes-left a b bs tagged [] start wide tagged-length)
 
-  pub begun-room : length p1 + sizes_in_rows bs ≤ 2 ^ 29
-  begun-room = let l = begun-length in let s = begun-size in omega arith
+  module _ (cs : List (Option ℕ)) (over : AreRowsOver a b bs cs) (e1 : p1 ≡ tagged ++ cs) where
+    pub begun-length : length p1 ≡ start + count_rows bs * (a + b)
+    begun-length =
+        ap length e1 ∙ length-append tagged cs
+        ∙ (let l = tagged-length in let h = length-over a b bs cs wide over in omega arith)
 
-  pub begun-fits : start + count_rows bs * (a + b) ≤ 2 ^ 29
-  begun-fits = let s = begun-size in omega arith
+    pub begun-room : length p1 + sizes_in_rows bs ≤ 2 ^ 29
+    begun-room = let l = begun-length in let s = begun-size in omega arith
 
-  pub begun-rest : laid_rows a b bs start p1 ≡ laid (rows bs) p
-  begun-rest =
-      let to = start + count_rows bs * (a + b) in
-      let at = length p in
-      let t1 : suc at ≡ start = omega arith in
-      let t2 : to ≡ at + own (rows bs) = let s = begun-size in omega arith in
-      let lh = length-row_holes a b bs wide in
-      let lt = tagged-length in
-      let is = laid-rows-is a b bs tagged [] start to sound.5 wide tagged-length (omega arith) in
-      ap (laid_rows a b bs start) (e1 ∙ ap (λ (x : List (Option ℕ)). tagged ++ x) (sym (append-nil (row_holes a b bs))))
-      ∙ is
-      ∙ append_assoc p (Some (word_of (Node (pos n) a b)) ∷ []) (whole (row_contents a b bs start to) ++ whole (lays_in_rows bs to))
-      ∙ ap (λ (x : ℕ). p ++ (Some (word_of (Node (pos x) a b)) ∷ (whole (row_contents a b bs start to) ++ whole (lays_in_rows bs to)))) en
-      ∙ ap (λ (x : ℕ). p ++ (Some (word_of (Node (pos (count_rows bs)) x b)) ∷ (whole (row_contents x b bs start to) ++ whole (lays_in_rows bs to)))) ea
-      ∙ ap (λ (x : ℕ). p ++ (Some (word_of (Node (pos (count_rows bs)) (kept_words_of_rows bs) x)) ∷ (whole (row_contents (kept_words_of_rows bs) x bs start to) ++ whole (lays_in_rows bs to)))) eb
-      ∙ ap₂ (λ (x y : ℕ). p ++ (Some tag-word ∷ (whole (row_contents (kept_words_of_rows bs) (kept_slots_of_rows bs) bs x y) ++ whole (lays_in_rows bs y)))) (sym t1) t2
-      ∙ ap (λ (x : List (Option ℕ)). p ++ (Some tag-word ∷ x))
-      (sym (whole-append (row_contents (kept_words_of_rows bs) (kept_slots_of_rows bs) bs (suc at) (at + own (rows bs))) (lays_in_rows bs (at + own (rows bs)))))
-      ∙ sym (laid-is (rows bs) p)
+    pub begun-fits : start + count_rows bs * (a + b) ≤ 2 ^ 29
+    begun-fits = let s = begun-size in omega arith
+
+    pub begun-rest : laid_rows a b bs start p1 ≡ laid (rows bs) p
+    begun-rest =
+        let to = start + count_rows bs * (a + b) in
+        let at = length p in
+        let t1 : suc at ≡ start = omega arith in
+        let t2 : to ≡ at + own (rows bs) = let s = begun-size in omega arith in
+        let lh = length-over a b bs cs wide over in
+        let lt = tagged-length in
+        let is = laid-rows-is a b bs tagged cs [] start to sound.5 wide over tagged-length (omega arith) in
+        ap (laid_rows a b bs start) (e1 ∙ ap (λ (x : List (Option ℕ)). tagged ++ x) (sym (append-nil cs)))
+        ∙ is
+        ∙ append_assoc p (Some (word_of (Node (pos n) a b)) ∷ []) (whole (row_contents a b bs start to) ++ whole (lays_in_rows bs to))
+        ∙ ap (λ (x : ℕ). p ++ (Some (word_of (Node (pos x) a b)) ∷ (whole (row_contents a b bs start to) ++ whole (lays_in_rows bs to)))) en
+        ∙ ap (λ (x : ℕ). p ++ (Some (word_of (Node (pos (count_rows bs)) x b)) ∷ (whole (row_contents x b bs start to) ++ whole (lays_in_rows bs to)))) ea
+        ∙ ap (λ (x : ℕ). p ++ (Some (word_of (Node (pos (count_rows bs)) (kept_words_of_rows bs) x)) ∷ (whole (row_contents (kept_words_of_rows bs) x bs start to) ++ whole (lays_in_rows bs to)))) eb
+        ∙ ap₂ (λ (x y : ℕ). p ++ (Some tag-word ∷ (whole (row_contents (kept_words_of_rows bs) (kept_slots_of_rows bs) bs x y) ++ whole (lays_in_rows bs y)))) (sym t1) t2
+        ∙ ap (λ (x : List (Option ℕ)). p ++ (Some tag-word ∷ x))
+        (sym (whole-append (row_contents (kept_words_of_rows bs) (kept_slots_of_rows bs) bs (suc at) (at + own (rows bs))) (lays_in_rows bs (at + own (rows bs)))))
+        ∙ sym (laid-is (rows bs) p)
 
 -- ---- one row is laid
 

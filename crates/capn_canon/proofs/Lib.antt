@@ -3,6 +3,7 @@ pub mod BareCanon
 pub mod Bytes
 pub mod CanonOfTrimmed
 pub mod Cells
+pub mod Drafted
 pub mod EqualExactlySame
 pub mod Flags
 pub mod Headline
@@ -15,6 +16,7 @@ pub mod LaidPointers
 pub mod LaidRows
 pub mod LayLengths
 pub mod NotRefused
+pub mod OneBare
 pub mod OneReading
 pub mod OneSegment
 pub mod PackedBits

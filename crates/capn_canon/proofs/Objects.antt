@@ -1,6 +1,6 @@
 -- What is below an object is laid behind its own words.
-use Rattle.std.proofs.Common.{◌≡◌, ℕ, zero, suc, ◌+◌, ◌-◌, ◌*◌, ◌^◌, ◌<◌, ◌≤◌, List, ◌++◌, length, take, set, replicate, Option, Some, None, Ok, refl, ap, ap₂, sym, subst, ◌∙◌, arith, length-append, append-nil}
-use Rattle.std.proofs.lemmas.List.{length-set, length-take-le, length-replicate}
+use Rattle.std.proofs.Common.{◌≡◌, ℕ, zero, suc, ◌+◌, ◌-◌, ◌*◌, ◌^◌, ◌<◌, ◌≤◌, List, ◌++◌, length, take, set, Option, Some, Ok, refl, ap, ap₂, sym, subst, ◌∙◌, arith, length-append, length-drop, append-nil}
+use Rattle.std.proofs.lemmas.List.{length-set, length-take-le}
 use Rattle.capn_words.specs.Message.{segment_at}
 use Rattle.capn_words.specs.declared.pointer.Width.TheVariants.{Link}
 use Rattle.capn_value.specs.Tree.{Tree, node, links, Trees, count, front}
@@ -10,12 +10,12 @@ use Rattle.capn_walk.specs.declared.target.Shape.TheVariants as shapes
 use Rattle.capn_walk.specs.At.{AreAt, words_from}
 use Rattle.capn_walk.specs.Walked.{IsInside}
 use Rattle.capn_canon.specs.Layout.{size, sizes, point, struct_to, list_to}
-use Rattle.capn_canon.specs.Laying.{laid, laid_slots, AreHoles}
-use Rattle.capn_canon.specs.Patch.{whole, IsHole}
+use Rattle.capn_canon.specs.Laying.{laid, laid_slots}
+use Rattle.capn_canon.specs.Patch.{whole}
 use Rattle.capn_canon.specs.Sound.{Sound, Sounds}
 use Rattle.capn_canon.proofs.KeptLengths.{kept_words-le, kept_slots-le}
 use Rattle.capn_canon.proofs.Holes.{length-whole}
-use Rattle.capn_canon.proofs.Laid.{ready-holes, node-room, node-done, links-room, links-done}
+use Rattle.capn_canon.proofs.Laid.{left-length, node-room, node-done, links-room, links-done}
 use Rattle.capn_canon.specs.Ready.{IsReadyInside, AreReady, IsLaidInside, AreLaid}
 use Rattle.capn_canon.specs.Opened.{IsOpened}
 use Rattle.capn_canon.proofs.Shaped.{IsNode, as-node, IsLinks, as-links}
@@ -50,9 +50,21 @@ module _ (m : List (List ℕ)) (a b s w depth from : ℕ) (p q : List (Option �
   with-words : List (Option ℕ)
   with-words = set p from (Some (struct_to from (length p) (kept_words this.words) number)) ++ whole (take (kept_words this.words) this.words)
 
-  is-q : q ≡ with-words ++ replicate number None
+  abbrev kept : List (Option ℕ)
+  kept = whole (take number (take b (words_from m s (w + a))))
+
+  length-kept : length kept ≡ number
+  length-kept =
+      let ss = take b (words_from m s (w + a)) in
+      let l = kept_words-le ss in
+      let e = o.count in
+      length-whole (take number ss) ∙ length-take-le number ss (omega arith)
+
+  is-q : q ≡ with-words ++ kept
   unfolding with-words
-  is-q = o.own ∙ ap₂ (λ (xs : List ℕ) (j : ℕ). (set p from (Some (struct_to from (length p) (kept_words xs) j)) ++ whole (take (kept_words xs) xs)) ++ replicate j None) this.own (sym o.count)
+  is-q =
+      o.own
+      ∙ ap₂ (λ (xs : List ℕ) (j : ℕ). (set p from (Some (struct_to from (length p) (kept_words xs) j)) ++ whole (take (kept_words xs) xs)) ++ whole (take j (take b (words_from m s (w + a))))) this.own (sym o.count)
 
   length-pointed : length pointed ≡ length p
   unfolding pointed
@@ -74,12 +86,12 @@ module _ (m : List (List ℕ)) (a b s w depth from : ℕ) (p q : List (Option �
   room : length pointed + size (node this.words this.slots) ≤ 2 ^ 29
   room = let l = length-pointed in let r = ready.room in let e = ap size this.is in omega arith
 
-  pub node-holes : AreHoles q first number
-  node-holes = ready-holes (node this.words this.slots) pointed with-words q number first sound room is-first is-q
+  pub node-inside : first + number ≤ length q
+  node-inside = let l = left-length (node this.words this.slots) pointed with-words q kept number first sound room is-first length-kept is-q in let f = is-first in omega arith
 
   all-room : length q + sizes this.slots ≤ 2 ^ 29
   unfolding pointed with-words
-  all-room = node-room (node this.words this.slots) pointed with-words q number first sound room is-first is-q this.words this.slots refl refl node-count
+  all-room = node-room (node this.words this.slots) pointed with-words q kept number first sound room is-first length-kept is-q this.words this.slots refl refl node-count
 
   pub node-ready : AreReady m s (w + a) number depth (length q)
   node-ready = record {
@@ -100,7 +112,7 @@ module _ (m : List (List ℕ)) (a b s w depth from : ℕ) (p q : List (Option �
       let k = kept_slots-le this.slots in
       l (front number x) (front-at m number s (w + a) x this.below) (front-count number x (omega arith))
       ∙ front-laid number x first q (omega arith)
-      ∙ sym (node-done (node this.words x) pointed with-words q number first sound room is-first is-q this.words x refl refl node-count)
+      ∙ sym (node-done (node this.words x) pointed with-words q kept number first sound room is-first length-kept is-q this.words x refl refl node-count)
       ∙ ap (λ (j : ℕ). laid (node this.words x) (set p from (Some j))) (ap (struct_to from (length p) (kept_words this.words)) c ∙ sym (point-node this.words x from (length p)))
       ∙ ap (λ (y : Tree). laid y (set p from (Some (point y from (length p))))) (sym e)
 
@@ -115,7 +127,13 @@ module _ (m : List (List ℕ)) (n s w depth from : ℕ) (p q : List (Option ℕ)
   pub links-few : n < 2 ^ 29
   links-few = let c = that.count in let s = sound-links.0 in omega arith
 
-  module _ (ef : first ≡ length p) (o : q ≡ set p from (Some (list_to from (length p) Link n)) ++ replicate n None) where
+  module _ (inside : w + n ≤ length (segment_at m s)) (ef : first ≡ length p) (o : q ≡ set p from (Some (list_to from (length p) Link n)) ++ whole (take n (words_from m s w))) where
+    abbrev slots : List (Option ℕ)
+    slots = whole (take n (words_from m s w))
+
+    length-slots : length slots ≡ n
+    length-slots = let d = length-drop w (segment_at m s) in length-whole (take n (words_from m s w)) ∙ length-take-le n (words_from m s w) (omega arith)
+
     aimed : List (Option ℕ)
     aimed = set p from (Some (list_to from (length p) Link n))
 
@@ -123,7 +141,7 @@ module _ (m : List (List ℕ)) (n s w depth from : ℕ) (p q : List (Option ℕ)
     unfolding aimed
     length-aimed = length-set p from _
 
-    is-aimed : q ≡ aimed ++ replicate n None
+    is-aimed : q ≡ aimed ++ slots
     unfolding aimed
     is-aimed = o
 
@@ -133,8 +151,8 @@ module _ (m : List (List ℕ)) (n s w depth from : ℕ) (p q : List (Option ℕ)
     room-links : length aimed + size (links that.slots) ≤ 2 ^ 29
     room-links = let l = length-aimed in let r = ready.room in let e = ap size that.is in omega arith
 
-    pub links-holes : AreHoles q first n
-    links-holes = ready-holes (links that.slots) aimed aimed q n first sound-links room-links starts is-aimed
+    pub links-inside : first + n ≤ length q
+    links-inside = let l = left-length (links that.slots) aimed aimed q slots n first sound-links room-links starts length-slots is-aimed in let f = starts in omega arith
 
     pub links-ready : AreReady m s w n depth (length q)
     links-ready = record {
@@ -143,7 +161,7 @@ module _ (m : List (List ℕ)) (n s w depth from : ℕ) (p q : List (Option ℕ)
       count = that.count;
       sound = sound-links.1;
       low = let l = ready.low in let e = ap height that.is in omega arith;
-      room = links-room (links that.slots) aimed aimed q n first sound-links room-links starts is-aimed that.slots refl refl (sym that.count);
+      room = links-room (links that.slots) aimed aimed q slots n first sound-links room-links starts length-slots is-aimed that.slots refl refl (sym that.count);
     }
 
     pub links-laid : (r : List (Option ℕ)) → AreLaid m s w n first q r → IsLaidInside m (shapes.Many Link n) s w from p r
@@ -152,6 +170,6 @@ module _ (m : List (List ℕ)) (n s w depth from : ℕ) (p q : List (Option ℕ)
         let x = that.slots in
         let e = ready.only v h ∙ that.is in
         l x that.below that.count
-        ∙ sym (links-done (links x) aimed aimed q n first sound-links room-links starts is-aimed x refl refl (sym that.count))
+        ∙ sym (links-done (links x) aimed aimed q slots n first sound-links room-links starts length-slots is-aimed x refl refl (sym that.count))
         ∙ ap (λ (j : ℕ). laid (links x) (set p from (Some j))) (ap (list_to from (length p) Link) (sym that.count) ∙ sym (point-links x from (length p)))
         ∙ ap (λ (y : Tree). laid y (set p from (Some (point y from (length p))))) (sym e)

@@ -1,5 +1,5 @@
 -- One row after the other is laid.
-use Rattle.std.proofs.Common.{◌≡◌, ℕ, zero, suc, ◌+◌, ◌-◌, ◌*◌, ◌^◌, ◌<◌, ◌≤◌, ◌∷◌, [], List, ◌++◌, length, take, set, replicate, Option, Some, None, refl, ap, ap₂, sym, subst, ◌∙◌, arith}
+use Rattle.std.proofs.Common.{◌≡◌, ℕ, zero, suc, ◌+◌, ◌-◌, ◌*◌, ◌^◌, ◌<◌, ◌≤◌, ◌∷◌, [], List, ◌++◌, length, take, set, Option, Some, refl, ap, ap₂, sym, subst, ◌∙◌, arith}
 use Rattle.std.specs.Prelude.{pos}
 use Rattle.std.proofs.lemmas.List.{length-set}
 use Rattle.capn_words.specs.Message.{segment_at}
@@ -13,16 +13,16 @@ use Rattle.capn_walk.specs.declared.target.Shape.TheVariants as shapes
 use Rattle.capn_walk.specs.At.{AreAt, AreWords, RowsAt, words_from}
 use Rattle.capn_walk.proofs.Unique.{unique-rows}
 use Rattle.capn_canon.specs.Layout.{size, sizes, sizes_in_rows, row_size, point, list_to}
-use Rattle.capn_canon.specs.Laying.{laid, laid_slots, laid_rows, row_holes, AreHoles, AreRowHoles}
-use Rattle.capn_canon.specs.Patch.{whole, IsHole}
+use Rattle.capn_canon.specs.Laying.{laid, laid_slots, laid_rows, AreRowsOver}
+use Rattle.capn_canon.specs.Patch.{whole}
 use Rattle.capn_canon.specs.Sound.{Sound, Sounds, SoundRows}
 use Rattle.capn_canon.proofs.KeptLengths.{kept_slots-le}
 use Rattle.capn_canon.proofs.Laid.{slots-none}
-use Rattle.capn_canon.proofs.LaidRows.{begun-rest, begun-holes, begun-fits, begun-room, row-holes-slots, rows-next, rows-none, length-slots}
+use Rattle.capn_canon.proofs.LaidRows.{begun-rest, begun-fits, begun-room, begun-length, rows-next, rows-none, length-slots}
 use Rattle.capn_canon.specs.Ready.{IsReadyInside, AreReady, IsLaidInside, AreLaid}
 use Rattle.capn_canon.specs.RowWords.{AreOpened, RowsReady, RowsLaid, kept_each, row_cells}
 use Rattle.capn_canon.proofs.Shaped.{IsRows, as-rows}
-use Rattle.capn_canon.proofs.EachRow.{kept_each-le, kept-rows-words, kept-rows-slots, cells-rows}
+use Rattle.capn_canon.proofs.EachRow.{kept_each-le, kept-rows-words, kept-rows-slots, cells-over, one-more-fits}
 use Rattle.capn_canon.proofs.Front.{front-count, front-sizes, front-greatest, front-sound, front-at, front-laid}
 
 -- the first of some rows, and those behind it
@@ -43,13 +43,11 @@ pub record IsRow (m : List (List ℕ)) (s w a b number depth x y at : ℕ) (p : 
   pub kept : kept_slots slots ≤ y
   pub kepts : kept_slots_of_rows others ≤ y
   pub room : length p + sizes slots + sizes_in_rows others ≤ 2 ^ 29
-  pub holes : AreHoles p (at + x) y
-  pub others_holes : AreRowHoles x y others (at + x + y) p
 
 row-of : (m : List (List ℕ)) (s w a b number depth x y at : ℕ) (p : List (Option ℕ)) (bs : Bodies) → RowsAt m a b s w bs → count_rows bs ≡ number → 0 < number →
-    SoundRows bs → greatest_in_rows bs ≤ depth → kept_slots_of_rows bs ≤ y → length p + sizes_in_rows bs ≤ 2 ^ 29 → AreRowHoles x y bs at p → IsRow m s w a b number depth x y at p
-row-of m s w a b number depth x y at p no_bodies h e lt o g k r f = absurd (omega arith)
-row-of m s w a b number depth x y at p (body ws ss bs) h e lt o g k r f = record {
+    SoundRows bs → greatest_in_rows bs ≤ depth → kept_slots_of_rows bs ≤ y → length p + sizes_in_rows bs ≤ 2 ^ 29 → IsRow m s w a b number depth x y at p
+row-of m s w a b number depth x y at p no_bodies h e lt o g k r = absurd (omega arith)
+row-of m s w a b number depth x y at p (body ws ss bs) h e lt o g k r = record {
   words = ws;
   slots = ss;
   others = bs;
@@ -66,12 +64,10 @@ row-of m s w a b number depth x y at p (body ws ss bs) h e lt o g k r f = record
   kept = omega arith;
   kepts = omega arith;
   room = omega arith;
-  holes = f.0;
-  others_holes = f.1;
 }
 
 pub next-row : (m : List (List ℕ)) (s w a b number depth x y at : ℕ) (p : List (Option ℕ)) → RowsReady m s w a b number depth x y at p → 0 < number → IsRow m s w a b number depth x y at p
-next-row m s w a b number depth x y at p r lt = row-of m s w a b number depth x y at p r.values r.are r.count lt r.sound r.low r.kept r.room r.holes
+next-row m s w a b number depth x y at p r lt = row-of m s w a b number depth x y at p r.values r.are r.count lt r.sound r.low r.kept r.room
 
 -- the slots of a row that are kept
 pub row-ready : (m : List (List ℕ)) (s w a b number depth x y at : ℕ) (p : List (Option ℕ)) → y ≤ b → IsRow m s w a b number depth x y at p → AreReady m s (w + a) y depth (length p)
@@ -121,8 +117,10 @@ module _ (m : List (List ℕ)) (s w a b n depth x y at i : ℕ) (p q : List (Opt
     low = this.lows;
     kept = this.kepts;
     room = let l = ap length grown ∙ length-slots y this.slots (at + x) p this.sound in let r = this.room in omega arith;
-    holes = subst (λ (z : List (Option ℕ)). AreRowHoles x y this.others (at + x + y) z) (sym grown)
-        (row-holes-slots x y this.others (at + x + y) y this.slots (at + x) p (omega arith) this.others_holes);
+    inside =
+        let l = ap length grown ∙ length-slots y this.slots (at + x) p this.sound in
+        let f = one-more-fits at x y n i (length p) lt ready.inside in
+        omega arith;
   }
 
 -- all rows have been laid
@@ -163,13 +161,18 @@ module _ (m : List (List ℕ)) (n a b span s w depth from : ℕ) (p : List (Opti
     unfolding pointed
     length-pointed = length-set p from _
 
-    is-q : q ≡ (pointed ++ Some (word_of (Node (pos n) x y)) ∷ []) ++ row_holes x y here.bodies
-    unfolding pointed
-    is-q =
+    abbrev cells : List (Option ℕ)
+    cells = row_cells m s (w + 1) (a + b) a x y n
+
+    over : AreRowsOver x y here.bodies cells
+    over =
         let l = kept_each-le m s (w + 1) a (a + b) n in
         let e = o.kept in
-        o.own ∙ ap (λ (z : List (Option ℕ)). (set p from (Some (list_to from (length p) Rows (n * (x + y)))) ++ Some (word_of (Node (pos n) x y)) ∷ []) ++ z)
-        (cells-rows m here.bodies a b s (w + 1) n x y here.below here.count (omega arith))
+        cells-over m here.bodies a b s (w + 1) n x y here.below here.count (omega arith) rows-part inside
+
+    is-q : q ≡ (pointed ++ Some (word_of (Node (pos n) x y)) ∷ []) ++ cells
+    unfolding pointed
+    is-q = o.own
 
     room : length pointed + size (rows here.bodies) ≤ 2 ^ 29
     room = let l = length-pointed in let r = ready.room in let e = ap size here.is in omega arith
@@ -180,7 +183,7 @@ module _ (m : List (List ℕ)) (n a b span s w depth from : ℕ) (p : List (Opti
     pub rows-fits : first + n * (x + y) ≤ 2 ^ 29
     rows-fits =
         let c = here.count in
-        let f = begun-fits here.bodies pointed q n x y first sound room (sym here.count) ex ey start-is is-q in
+        let f = begun-fits here.bodies pointed q n x y first sound room (sym here.count) ex ey start-is cells over is-q in
         subst (λ (k : ℕ). first + k * (x + y) ≤ 2 ^ 29) c f
 
     pub rows-ready : RowsReady m s (w + 1) a b n depth x y first q
@@ -191,8 +194,11 @@ module _ (m : List (List ℕ)) (n a b span s w depth from : ℕ) (p : List (Opti
       sound = sound.5;
       low = let l = ready.low in let e = ap height here.is in omega arith;
       kept = let e = ey in omega arith;
-      room = begun-room here.bodies pointed q n x y first sound room (sym here.count) ex ey start-is is-q;
-      holes = begun-holes here.bodies pointed q n x y first sound room (sym here.count) ex ey start-is is-q;
+      room = begun-room here.bodies pointed q n x y first sound room (sym here.count) ex ey start-is cells over is-q;
+      inside =
+          let l = begun-length here.bodies pointed q n x y first sound room (sym here.count) ex ey start-is cells over is-q in
+          let k : count_rows here.bodies * (x + y) ≡ n * (x + y) = ap (λ (j : ℕ). j * (x + y)) here.count in
+          omega arith;
     }
 
     pub rows-laid : (r : List (Option ℕ)) → RowsLaid m s (w + 1) a b n x y first q r → IsLaidInside m (shapes.Rows n a b span) s w from p r
@@ -202,7 +208,7 @@ module _ (m : List (List ℕ)) (n a b span s w depth from : ℕ) (p : List (Opti
         let e = ready.only v h ∙ here.is in
         let k : n * (x + y) ≡ count_rows bs * row_size bs = ap₂ ◌*◌ (sym here.count) (ap₂ ◌+◌ ex ey) in
         l bs here.below here.count
-        ∙ begun-rest bs pointed q n x y first sound room (sym here.count) ex ey start-is is-q
+        ∙ begun-rest bs pointed q n x y first sound room (sym here.count) ex ey start-is cells over is-q
         ∙ ap (λ (j : ℕ). laid (rows bs) (set p from (Some j))) (ap (list_to from (length p) Rows) k ∙ sym (point-rows bs from (length p)))
         ∙ ap (λ (t : Tree). laid t (set p from (Some (point t from (length p))))) (sym e)
 

@@ -1,5 +1,5 @@
 -- One slot after the other is laid.
-use Rattle.std.proofs.Common.{◌≡◌, ℕ, zero, suc, ◌+◌, ◌-◌, ◌^◌, ◌<◌, ◌≤◌, List, ◌++◌, length, set, replicate, Option, Some, None, Ok, refl, ap, ap₂, sym, subst, ◌∙◌, arith, append-nil}
+use Rattle.std.proofs.Common.{◌≡◌, ℕ, zero, suc, ◌+◌, ◌-◌, ◌^◌, ◌<◌, ◌≤◌, List, ◌++◌, length, set, Option, Some, Ok, refl, ap, ap₂, sym, subst, ◌∙◌, arith, append-nil}
 use Rattle.std.proofs.lemmas.List.{length-set}
 use Rattle.capn_words.specs.declared.space.Place.{Place}
 use Rattle.capn_words.specs.Fields.{word_of}
@@ -9,10 +9,10 @@ use Rattle.capn_value.specs.Sizes.{height, greatest}
 use Rattle.capn_walk.specs.At.{IsAt, AreAt}
 use Rattle.capn_walk.proofs.Unique.{unique-slots}
 use Rattle.capn_canon.specs.Layout.{size, sizes, point}
-use Rattle.capn_canon.specs.Laying.{laid, laid_slots, AreHoles}
-use Rattle.capn_canon.specs.Patch.{whole, IsHole}
+use Rattle.capn_canon.specs.Laying.{laid, laid_slots}
+use Rattle.capn_canon.specs.Patch.{whole}
 use Rattle.capn_canon.specs.Sound.{Sound, Sounds}
-use Rattle.capn_canon.proofs.Laid.{laid-is, length-laid, slots-none, slots-next, holes-next, rest-starts}
+use Rattle.capn_canon.proofs.Laid.{laid-is, length-laid, slots-none, slots-next, rest-starts}
 use Rattle.capn_canon.specs.Ready.{IsReady, AreReady, IsLaid, AreLaid}
 
 abbrev pub slot : ℕ → ℕ → Place
@@ -81,7 +81,7 @@ module _ (m : List (List ℕ)) (s w n first depth : ℕ) (p : List (Option ℕ))
 
 -- one slot has been laid
 module _ (m : List (List ℕ)) (s w n first depth i : ℕ) (p q : List (Option ℕ)) (lt : i < n) (ready : AreReady m s (w + i) (n - i) depth (length p))
-    (holes : AreHoles p (first + i) (n - i)) (h : IsLaid m (slot s (w + i)) (first + i) p q) where
+    (h : IsLaid m (slot s (w + i)) (first + i) p q) where
   this : IsNext m s (w + i) (n - i) depth (length p)
   this = next m s (w + i) (n - i) depth (length p) ready (omega arith)
 
@@ -103,15 +103,13 @@ module _ (m : List (List ℕ)) (s w n first depth i : ℕ) (p q : List (Option �
       ∙ ap (λ (x : ℕ). laid_slots x (tree t us) (first + i) p) (sym a)
       ∙ full
 
-  pub then-holes : AreHoles q (first + (i + 1)) (n - (i + 1))
-  then-holes =
+  pub then-inside : (most : ℕ) → most ≤ length p → most ≤ length q
+  then-inside most le =
       let t = this.value in
       let x : Option ℕ = Some (point t (first + i) (length p)) in
-      let a : n - i ≡ suc (n - (i + 1)) = omega arith in
-      let c : suc (first + i) ≡ first + (i + 1) = omega arith in
-      subst (λ (y : List (Option ℕ)). AreHoles y (first + (i + 1)) (n - (i + 1))) (sym grown)
-      (subst (λ (j : ℕ). AreHoles (laid t (set p (first + i) x)) j (n - (i + 1))) c
-      (holes-next t p (first + i) (n - (i + 1)) x (subst (λ (j : ℕ). AreHoles p (first + i) j) a holes)))
+      let l = ap length grown ∙ length-laid t (set p (first + i) x) this.sound in
+      let k = length-set p (first + i) x in
+      omega arith
 
   pub then-ready : AreReady m s (w + (i + 1)) (n - (i + 1)) depth (length q)
   then-ready =

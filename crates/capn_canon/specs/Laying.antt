@@ -1,5 +1,5 @@
 -- How a buffer of words and holes grows to a layout.
-use Rattle.std.specs.Prelude.{ℕ, zero, suc, ◌+◌, ◌<◌, List, [], ◌++◌, length, take, set, replicate, Option, Some, None, ⊤}
+use Rattle.std.specs.Prelude.{◌≡◌, ℕ, zero, suc, ◌+◌, ◌<◌, List, [], ◌++◌, length, take, set, replicate, Option, Some, None, ⊤}
 use Rattle.capn_value.specs.Tree.{Tree, Trees, no_trees, tree, Bodies, no_bodies, body}
 use Rattle.capn_canon.specs.Patch.{whole, IsHole}
 use Rattle.capn_canon.specs.Layout.{point, lay}
@@ -23,6 +23,11 @@ laid_rows a b (body ws ss bs) at p = laid_rows a b bs (at + a + b) (laid_slots b
 abbrev pub row_holes : ℕ → ℕ → Bodies → List (Option ℕ)
 row_holes a b no_bodies = []
 row_holes a b (body ws ss bs) = whole (take a ws) ++ (replicate b None ++ row_holes a b bs)
+
+-- the first words of each row, with b words or holes behind them (own)
+abbrev pub AreRowsOver : ℕ → ℕ → Bodies → List (Option ℕ) → Type 0
+AreRowsOver a b no_bodies cs = cs ≡ []
+AreRowsOver a b (body ws ss bs) cs = (hs : List (Option ℕ)) × (rest : List (Option ℕ)) × (cs ≡ whole (take a ws) ++ (hs ++ rest)) × (length hs ≡ b) × AreRowsOver a b bs rest
 
 -- so many holes stand from a place on (own)
 abbrev pub AreHoles : List (Option ℕ) → ℕ → ℕ → Type 0

@@ -16,3 +16,4 @@ pub mod RowWords
 pub mod Bits
 pub mod Stands
 pub mod Checks
+pub mod Draft

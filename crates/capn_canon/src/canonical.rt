@@ -14,12 +14,12 @@ ghost use Rattle.capn_canon.specs.Refused.{IsRefusedMessage, IsPaidWithin};
 ghost use Rattle.capn_canon.specs.declared.refusal.Refusal.TheVariants as refusals;
 ghost use Rattle.capn_canon.specs.Ready.{IsReady};
 
-use crate::patch::Patch;
+use crate::draft::Draft;
 use crate::placing::lay_slot;
 use crate::refusal::Refusal;
 use capn_value::Memory;
 use capn_walk::{Fault, Limits, survey};
-use capn_words::{Place, Space};
+use capn_words::{Bare, Place, Space};
 use std::alloc::{Allocator, Global};
 
 /// Canonical bytes, and the words that the walk of the message paid.
@@ -37,23 +37,62 @@ const ROOT: Place = Place {
     word: 0,
 };
 
-/// The canonical bytes of the value at the root.
-fn bytes_of<S: Space, A: Allocator + Copy>(
+/// The canonical bytes of the value at the root, where the walk paid so many words. There is room at first for as many
+/// words and one more, and for no more than the first segment has.
+fn bytes_of<S: Space, A: Allocator>(
     alloc: A,
     space: &S,
     depth: u32,
+    paid: u32,
 ) -> Result<Vec<u8, A>, Memory>
     requires message { IsMessage (S.message space.now) }
     requires some { 0 < length (segment_at (S.message space.now) 0) }
     requires ready { IsReady (S.message space.now) root depth 1 }
     ensures { IfOk result (λ bytes. (v : Value) → IsAt (S.message space.now) root v → bytes.items ≡ canon v) }
 {
-    let mut patch = Patch::new(alloc);
-    let from = patch.leave(1)?;
-    lay_slot(space, ROOT, from, depth, &mut patch)?;
-    match patch.finish() {
-        Ok(bytes) => Ok(bytes),
-        Err((_patch, memory)) => Err(memory),
+    let words = space.words(0).unwrap_or(0);
+    let room = words.min(paid.saturating_add(1));
+    let mut draft = Draft::with_room(alloc, room as usize)?;
+    draft.push(0)?;
+    lay_slot(space, ROOT, 0, depth, &mut draft)?;
+    Ok(draft.finish())
+}
+
+/// The canonical bytes of a message, whichever way it is read: the same as `canonical_of`.
+fn canonical_in<A: Allocator + Copy, S: Space>(
+    alloc: A,
+    space: &S,
+    limits: Limits,
+) -> Result<Canonical<A>, Refusal>
+    ensures found { IfOk result (λ c. AnswersMessage (S.message space.now) 1 limits c.bytes.items c.paid) }
+    ensures only { (v : Value) → IsValueOf (S.message space.now) 1 limits.budget limits.depth v → first_cap v ≡ None
+        → MatchResult result (λ c. c.bytes.items ≡ canon v) (λ e. e ≡ refusals.Memory) }
+    ensures refused { IfErr result (λ e. IsRefusedMessage (S.message space.now) 1 limits e) }
+    ensures bounded { MatchResult result (λ c. c.paid ≤ limits.budget) (λ e. IsPaidWithin limits.budget e) }
+    ensures short { IfOk result (λ c. length c.bytes.items ≤ 8 * (c.paid + 1)) }
+    ensures reads_back { IfOk result (λ c. (v : Value) → IsValueOf (S.message space.now) 1 limits.budget limits.depth v → ReadsBack c.bytes.items 1 limits v) }
+    ensures pays { IfOk result (λ c. (v : Value) → IsValueOf (S.message space.now) 1 limits.budget limits.depth v → PaysItsCost c.bytes.items 1 limits v) }
+    ensures own { IfOk result (λ c. (v : Value) → IsValueOf (S.message space.now) 1 limits.budget limits.depth v → IsItsOwnForm c.bytes.items v) }
+    ensures exactly { IfOk result (λ c. (v : Value) → IsValueOf (S.message space.now) 1 limits.budget limits.depth v → IsFormExactlyOf c.bytes.items v) }
+{
+    let _segments = space.segments();
+    let _budget = limits.budget();
+    let depth = limits.depth();
+    match survey(alloc, space, limits) {
+        Ok(surveyed) => match surveyed.capability {
+            Some(index) => Err(Refusal::Capability(index)),
+            None => match bytes_of(alloc, space, depth, surveyed.paid) {
+                Ok(bytes) => Ok(Canonical {
+                    bytes,
+                    paid: surveyed.paid,
+                }),
+                Err(Memory) => Err(Refusal::Memory),
+            },
+        },
+        Err(stopped) => match stopped.fault {
+            Fault::Memory => Err(Refusal::Memory),
+            _ => Err(Refusal::Walk(stopped)),
+        },
     }
 }
 
@@ -85,23 +124,12 @@ pub fn canonical_of<A: Allocator + Copy, S: Space>(
     // and a second value has these canonical bytes exactly if it is the same value.
     ensures exactly { IfOk result (λ c. (v : Value) → IsValueOf (S.message space.now) 1 limits.budget limits.depth v → IsFormExactlyOf c.bytes.items v) }
 {
-    let _segments = space.segments();
-    let _budget = limits.budget();
-    let depth = limits.depth();
-    match survey(alloc, space, limits) {
-        Ok(surveyed) => match surveyed.capability {
-            Some(index) => Err(Refusal::Capability(index)),
-            None => match bytes_of(alloc, space, depth) {
-                Ok(bytes) => Ok(Canonical {
-                    bytes,
-                    paid: surveyed.paid,
-                }),
-                Err(Memory) => Err(Refusal::Memory),
-            },
-        },
-        Err(stopped) => match stopped.fault {
-            Fault::Memory => Err(Refusal::Memory),
-            _ => Err(Refusal::Walk(stopped)),
-        },
+    let words = space.words(0).unwrap_or(0);
+    // A message of one segment is read as its bytes alone, which is faster.
+    if space.segments() == 1 {
+        if let Ok(bare) = Bare::new(space.bytes(ROOT, 8 * words as usize)) {
+            return canonical_in(alloc, &bare, limits);
+        }
     }
+    canonical_in(alloc, space, limits)
 }

@@ -10,6 +10,7 @@ ghost use Rattle.capn_walk.specs.Walked.{IsContent};
 use capn_words::{Place, Space};
 
 /// How many of so many words are left when the zeros at their end are cut, but no fewer than `least`.
+#[inline(always)]
 pub fn kept_above<S: Space>(space: &S, at: Place, count: u32, least: u32) -> u32
     requires message { IsMessage (S.message space.now) }
     requires content { IsContent (S.message space.now) at count }

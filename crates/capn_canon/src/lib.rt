@@ -28,6 +28,7 @@ mod canonical;
 mod checked;
 mod checking;
 mod content;
+mod draft;
 mod finding;
 mod form;
 mod kept;

@@ -6,11 +6,11 @@ ghost use Rattle.capn_walk.specs.At.{words_from};
 ghost use Rattle.capn_walk.specs.Target.{content_words, words_for};
 ghost use Rattle.capn_walk.specs.Walked.{IsContent, IsPlain};
 ghost use Rattle.capn_walk.specs.declared.target.Shape.TheVariants.{Many};
-ghost use Rattle.capn_canon.specs.Patch.{IsHole, whole};
+ghost use Rattle.capn_canon.specs.Patch.{whole};
 ghost use Rattle.capn_canon.specs.Bits.{element_bits, first_bits};
 ghost use Rattle.capn_canon.specs.Ready.{IsLaidInside};
 
-use crate::patch::Patch;
+use crate::draft::Draft;
 use crate::pointing::list_pointer;
 use capn_value::Memory;
 use capn_words::{Place, Space, Width};
@@ -37,45 +37,45 @@ fn append_bits<S: Space, A: Allocator>(
     space: &S,
     start: Place,
     bits: u64,
-    patch: &mut Patch<A>,
+    draft: &mut Draft<A>,
 ) -> Result<(), Memory>
     requires message { IsMessage (S.message space.now) }
     requires content { IsContent (S.message space.now) start (words_for bits) }
     requires few { bits < 2 ^ 36 }
-    ensures { OnOk result (patch.new ≡ patch.old
+    ensures { OnOk result (draft.new ≡ draft.old
         ++ whole (first_bits bits (words_from (S.message space.now) start.segment start.word))) }
 {
     let full = (bits / 64) as u32;
     let rest = bits % 64;
-    patch.extend_words(space.bytes(start, 8 * full as usize))?;
+    draft.extend(space.bytes(start, 8 * full as usize))?;
     if rest != 0 {
         let last = Place {
             segment: start.segment,
             word: start.word + full,
         };
-        patch.push(space.word(last) % (1 << rest))?;
+        draft.push(space.word(last) % (1 << rest))?;
     }
     Ok(())
 }
 
-/// Puts the pointer to a list into a hole, and appends its elements.
+/// Puts the pointer to a list, and appends its elements.
 pub fn lay_list<S: Space, A: Allocator>(
     space: &S,
     start: Place,
     width: Width,
     count: u32,
     from: usize,
-    patch: &mut Patch<A>,
+    draft: &mut Draft<A>,
 ) -> Result<(), Memory>
     requires message { IsMessage (S.message space.now) }
     requires plain { IsPlain width }
     requires content { IsContent (S.message space.now) start (content_words width count) }
     requires few { count < 2 ^ 29 }
-    requires hole { IsHole patch.old from }
-    requires room { length patch.old ≤ 2 ^ 29 }
-    ensures { OnOk result (IsLaidInside (S.message space.now) (Many width count) start.segment start.word from patch.old patch.new) }
+    requires order { from < length draft.old }
+    requires room { length draft.old ≤ 2 ^ 29 }
+    ensures { OnOk result (IsLaidInside (S.message space.now) (Many width count) start.segment start.word from draft.old draft.new) }
 {
-    let word = list_pointer(from, patch.len(), width, count as usize);
-    patch.fill(from, word);
-    append_bits(space, start, bits_of(width) * count as u64, patch)
+    let word = list_pointer(from, draft.len(), width, count as usize);
+    draft.put(from, word);
+    append_bits(space, start, bits_of(width) * count as u64, draft)
 }

@@ -34,7 +34,7 @@ impl<A: Allocator> Model for Patch<A> {
 
 /// The 8 bytes of a word.
 #[tactic(auto, unfolding(capn_words::specs::Message::word_bytes))]
-fn bytes_of(word: u64) -> [u8; 8]
+pub(crate) fn bytes_of(word: u64) -> [u8; 8]
     ensures { result ≡ word_bytes word }
 {
     let mut bytes = [0; 8];
@@ -43,7 +43,7 @@ fn bytes_of(word: u64) -> [u8; 8]
 }
 
 /// Writes a word over the 8 bytes from a start on.
-fn write_at<A: Allocator>(bytes: &mut Vec<u8, A>, start: usize, word: u64)
+pub(crate) fn write_at<A: Allocator>(bytes: &mut Vec<u8, A>, start: usize, word: u64)
     requires { start + 8 ≤ length bytes.old.items }
     ensures { bytes.new.items
         ≡ take start bytes.old.items ++ (word_bytes word ++ drop (start + 8) bytes.old.items) }

@@ -10,6 +10,7 @@ use capn_words::{Pointer, Width, join};
 use std::alloc::Allocator;
 
 /// The pointer, at word `from`, to a list whose content starts at word `to`.
+#[inline(always)]
 pub fn list_pointer(from: usize, to: usize, width: Width, count: usize) -> u64
     requires order { from < to }
     requires room { to ≤ 2 ^ 29 }
@@ -26,6 +27,7 @@ pub fn list_pointer(from: usize, to: usize, width: Width, count: usize) -> u64
 
 /// The pointer, at word `from`, to a struct whose content starts at word `to`. One of no words has
 /// offset -1.
+#[inline(always)]
 pub fn struct_pointer(from: usize, to: usize, words: usize, slots: usize) -> u64
     requires order { from < to }
     requires room { to ≤ 2 ^ 29 }
@@ -40,12 +42,8 @@ pub fn struct_pointer(from: usize, to: usize, words: usize, slots: usize) -> u64
             slots: 0,
         });
     }
-    let offset = (to - from - 1) as i32;
-    join(Pointer::Node {
-        offset,
-        words: words as u16,
-        slots: slots as u16,
-    })
+    let offset = (to - from - 1) as u64;
+    4 * offset + 4_294_967_296 * words as u64 + 281_474_976_710_656 * slots as u64
 }
 
 /// The pointer, at word `from`, to the value whose content starts at word `to`.

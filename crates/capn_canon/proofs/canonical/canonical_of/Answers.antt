@@ -1,45 +1,76 @@
-use Rattle.std.proofs.Common.{◌∙◌, sym, arith, subst, ℕ}
+use Rattle.std.proofs.Common.{◌≡◌, ℕ, [], ◌∷◌, ◌*◌, List, None, length, ap, subst, sym, ◌∙◌, arith, IfOk, IfErr, MatchResult}
+use Rattle.capn_words.specs.Message.{bytes_at, segment_at}
+use Rattle.capn_value.specs.Caps.{first_cap}
+use Rattle.capn_value.specs.Tree.{Tree}
 use Rattle.capn_walk.specs.Accepted.{root}
-use Rattle.capn_canon.proofs.Headline.{form_of_any}
-use Rattle.capn_canon.proofs.Answered.{answer_length}
-use Rattle.capn_canon.specs.Ready.{IsReady}
-use Rattle.capn_canon.proofs.AtRoot.{root-ready}
+use Rattle.capn_walk.specs.Denotes.{IsValueOf}
+use Rattle.capn_canon.specs.Answers.{AnswersMessage}
+use Rattle.capn_canon.specs.Canonicity.{ReadsBack, PaysItsCost, IsItsOwnForm, IsFormExactlyOf}
+use Rattle.capn_canon.specs.Layout.{canon}
+use Rattle.capn_canon.specs.Refused.{IsRefusedMessage}
+use Rattle.capn_canon.specs.declared.refusal.Refusal.TheVariants as refusals
+use Rattle.capn_canon.proofs.OneBare.{one-bare, first-words}
 use Rattle.capn_canon.proofs.canonical.canonical_of.Goals as goal
 
-pub bytes_of-requires-clause-ready : goal.bytes_of-requires-clause-ready
-bytes_of-requires-clause-ready g c =
+pub returns-in-Ok-clause-found : goal.returns-in-Ok-clause-found
+returns-in-Ok-clause-found g c =
     let m = g.S.Space.message c.args.space.now in
-    let f = c.in-Ok.ensures.found in
-    subst (λ (d : ℕ). IsReady m root d 1) (sym c.depth-depth.ensures.value)
-    (root-ready m c.args.limits f.value c.segments-segments.ensures.bounds (omega arith) (omega arith) f.is)
+    let n = first-words m c.words.result c.unwrap_or-words.result c.words.ensures c.unwrap_or-words.ensures in
+    let k = c.if-segments-eq1.true in
+    let l = c.segments.ensures.count in
+    let e = one-bare m c.bytes.result.now c.in-Ok.bare c.segments.ensures.bounds (omega arith) (c.bytes.ensures ∙ ap (λ (j : ℕ). bytes_at m root (8 * j)) n) c.in-Ok.ensures.exact in
+    subst (λ (x : List (List ℕ)). IfOk c.canonical_in.result (λ a. AnswersMessage x 1 c.args.limits a.bytes.items a.paid)) (sym e) c.canonical_in.ensures.found
 
-pub returns-in-Ok-bytes_of-clause-short : goal.returns-in-Ok-bytes_of-clause-short
-returns-in-Ok-bytes_of-clause-short g c =
-    let f = c.in-Ok.ensures.found in
-    answer_length (g.S.Space.message c.args.space.now) c.args.limits c.in-Ok-bytes_of.bytes.items c.in-Ok.surveyed.paid
-    (record { value = f.value; is = f.is; free = sym f.capability ∙ c.in-None.is; canonical = c.in-Ok-bytes_of.ensures f.value f.is.is; priced = f.pays })
-    c.segments-segments.ensures.bounds (omega arith) (omega arith)
+pub returns-in-Ok-clause-only : goal.returns-in-Ok-clause-only
+returns-in-Ok-clause-only g c =
+    let m = g.S.Space.message c.args.space.now in
+    let n = first-words m c.words.result c.unwrap_or-words.result c.words.ensures c.unwrap_or-words.ensures in
+    let k = c.if-segments-eq1.true in
+    let l = c.segments.ensures.count in
+    let e = one-bare m c.bytes.result.now c.in-Ok.bare c.segments.ensures.bounds (omega arith) (c.bytes.ensures ∙ ap (λ (j : ℕ). bytes_at m root (8 * j)) n) c.in-Ok.ensures.exact in
+    subst (λ (x : List (List ℕ)). (v : Tree) → IsValueOf x 1 c.args.limits.budget c.args.limits.depth v → first_cap v ≡ None → MatchResult c.canonical_in.result (λ a. a.bytes.items ≡ canon v) (λ e. e ≡ refusals.Memory)) (sym e) c.canonical_in.ensures.only
 
-pub returns-in-Ok-bytes_of-clause-reads_back : goal.returns-in-Ok-bytes_of-clause-reads_back
-returns-in-Ok-bytes_of-clause-reads_back g c v k =
-    let f = c.in-Ok.ensures.found in
-    (form_of_any (g.S.Space.message c.args.space.now) c.args.limits f.value c.segments-segments.ensures.bounds (omega arith) (omega arith)
-    f.is c.in-Ok-bytes_of.bytes.items v (c.in-Ok-bytes_of.ensures f.value f.is.is) k).reads_back
+pub returns-in-Ok-clause-refused : goal.returns-in-Ok-clause-refused
+returns-in-Ok-clause-refused g c =
+    let m = g.S.Space.message c.args.space.now in
+    let n = first-words m c.words.result c.unwrap_or-words.result c.words.ensures c.unwrap_or-words.ensures in
+    let k = c.if-segments-eq1.true in
+    let l = c.segments.ensures.count in
+    let e = one-bare m c.bytes.result.now c.in-Ok.bare c.segments.ensures.bounds (omega arith) (c.bytes.ensures ∙ ap (λ (j : ℕ). bytes_at m root (8 * j)) n) c.in-Ok.ensures.exact in
+    subst (λ (x : List (List ℕ)). IfErr c.canonical_in.result (λ e. IsRefusedMessage x 1 c.args.limits e)) (sym e) c.canonical_in.ensures.refused
 
-pub returns-in-Ok-bytes_of-clause-pays : goal.returns-in-Ok-bytes_of-clause-pays
-returns-in-Ok-bytes_of-clause-pays g c v k =
-    let f = c.in-Ok.ensures.found in
-    (form_of_any (g.S.Space.message c.args.space.now) c.args.limits f.value c.segments-segments.ensures.bounds (omega arith) (omega arith)
-    f.is c.in-Ok-bytes_of.bytes.items v (c.in-Ok-bytes_of.ensures f.value f.is.is) k).pays
+pub returns-in-Ok-clause-reads_back : goal.returns-in-Ok-clause-reads_back
+returns-in-Ok-clause-reads_back g c =
+    let m = g.S.Space.message c.args.space.now in
+    let n = first-words m c.words.result c.unwrap_or-words.result c.words.ensures c.unwrap_or-words.ensures in
+    let k = c.if-segments-eq1.true in
+    let l = c.segments.ensures.count in
+    let e = one-bare m c.bytes.result.now c.in-Ok.bare c.segments.ensures.bounds (omega arith) (c.bytes.ensures ∙ ap (λ (j : ℕ). bytes_at m root (8 * j)) n) c.in-Ok.ensures.exact in
+    subst (λ (x : List (List ℕ)). IfOk c.canonical_in.result (λ a. (v : Tree) → IsValueOf x 1 c.args.limits.budget c.args.limits.depth v → ReadsBack a.bytes.items 1 c.args.limits v)) (sym e) c.canonical_in.ensures.reads_back
 
-pub returns-in-Ok-bytes_of-clause-own : goal.returns-in-Ok-bytes_of-clause-own
-returns-in-Ok-bytes_of-clause-own g c v k =
-    let f = c.in-Ok.ensures.found in
-    (form_of_any (g.S.Space.message c.args.space.now) c.args.limits f.value c.segments-segments.ensures.bounds (omega arith) (omega arith)
-    f.is c.in-Ok-bytes_of.bytes.items v (c.in-Ok-bytes_of.ensures f.value f.is.is) k).own
+pub returns-in-Ok-clause-pays : goal.returns-in-Ok-clause-pays
+returns-in-Ok-clause-pays g c =
+    let m = g.S.Space.message c.args.space.now in
+    let n = first-words m c.words.result c.unwrap_or-words.result c.words.ensures c.unwrap_or-words.ensures in
+    let k = c.if-segments-eq1.true in
+    let l = c.segments.ensures.count in
+    let e = one-bare m c.bytes.result.now c.in-Ok.bare c.segments.ensures.bounds (omega arith) (c.bytes.ensures ∙ ap (λ (j : ℕ). bytes_at m root (8 * j)) n) c.in-Ok.ensures.exact in
+    subst (λ (x : List (List ℕ)). IfOk c.canonical_in.result (λ a. (v : Tree) → IsValueOf x 1 c.args.limits.budget c.args.limits.depth v → PaysItsCost a.bytes.items 1 c.args.limits v)) (sym e) c.canonical_in.ensures.pays
 
-pub returns-in-Ok-bytes_of-clause-exactly : goal.returns-in-Ok-bytes_of-clause-exactly
-returns-in-Ok-bytes_of-clause-exactly g c v k =
-    let f = c.in-Ok.ensures.found in
-    (form_of_any (g.S.Space.message c.args.space.now) c.args.limits f.value c.segments-segments.ensures.bounds (omega arith) (omega arith)
-    f.is c.in-Ok-bytes_of.bytes.items v (c.in-Ok-bytes_of.ensures f.value f.is.is) k).exactly
+pub returns-in-Ok-clause-own : goal.returns-in-Ok-clause-own
+returns-in-Ok-clause-own g c =
+    let m = g.S.Space.message c.args.space.now in
+    let n = first-words m c.words.result c.unwrap_or-words.result c.words.ensures c.unwrap_or-words.ensures in
+    let k = c.if-segments-eq1.true in
+    let l = c.segments.ensures.count in
+    let e = one-bare m c.bytes.result.now c.in-Ok.bare c.segments.ensures.bounds (omega arith) (c.bytes.ensures ∙ ap (λ (j : ℕ). bytes_at m root (8 * j)) n) c.in-Ok.ensures.exact in
+    subst (λ (x : List (List ℕ)). IfOk c.canonical_in.result (λ a. (v : Tree) → IsValueOf x 1 c.args.limits.budget c.args.limits.depth v → IsItsOwnForm a.bytes.items v)) (sym e) c.canonical_in.ensures.own
+
+pub returns-in-Ok-clause-exactly : goal.returns-in-Ok-clause-exactly
+returns-in-Ok-clause-exactly g c =
+    let m = g.S.Space.message c.args.space.now in
+    let n = first-words m c.words.result c.unwrap_or-words.result c.words.ensures c.unwrap_or-words.ensures in
+    let k = c.if-segments-eq1.true in
+    let l = c.segments.ensures.count in
+    let e = one-bare m c.bytes.result.now c.in-Ok.bare c.segments.ensures.bounds (omega arith) (c.bytes.ensures ∙ ap (λ (j : ℕ). bytes_at m root (8 * j)) n) c.in-Ok.ensures.exact in
+    subst (λ (x : List (List ℕ)). IfOk c.canonical_in.result (λ a. (v : Tree) → IsValueOf x 1 c.args.limits.budget c.args.limits.depth v → IsFormExactlyOf a.bytes.items v)) (sym e) c.canonical_in.ensures.exactly

@@ -1,4 +1,4 @@
-use Rattle.std.proofs.Common.{rules, ◌≡◌, ◌+◌, ◌-◌, ◌*◌, ◌≤◌, ◌^◌, ◌∷◌, ◌++◌, length, take, drop, set, Some, sym, ap, subst, ◌∙◌, arith, refl}
+use Rattle.std.proofs.Common.{rules, ◌≡◌, ◌+◌, ◌-◌, ◌*◌, ◌≤◌, ◌^◌, ◌∷◌, ◌++◌, length, take, drop, set, replicate, Some, None, sym, ap, subst, ◌∙◌, arith, refl}
 use Rattle.std.proofs.lemmas.Result.{on_ok_weaker}
 use Rattle.capn_value.specs.View.{tree_of, trees_of, rows_of}
 use Rattle.capn_value.specs.Views.{count-trees_of, count_rows-rows_of}
@@ -7,13 +7,13 @@ use Rattle.capn_value.specs.Tree.{nil, node, voids, bits, bytes, pairs, quads, o
 use Rattle.capn_value.specs.declared.value.Value.{the_lemmas}
 use Rattle.capn_canon.specs.Patch.{whole}
 use Rattle.capn_canon.specs.Layout.{size, sizes, sizes_in_rows, lay, point}
-use Rattle.capn_canon.specs.Laying.{laid, laid_slots, laid_rows, AreHoles, AreRowHoles}
+use Rattle.capn_canon.specs.Laying.{laid, laid_slots, laid_rows, row_holes, AreHoles, AreRowHoles}
 use Rattle.capn_canon.specs.Sound.{Sound, Sounds, SoundRows}
 use Rattle.capn_canon.proofs.Seen.{seen-Nil, seen-Node, seen-Voids, seen-Bits, seen-Bytes, seen-Pairs, seen-Quads, seen-Octs, seen-Links, seen-Rows, seen-Cap}
 use Rattle.capn_canon.proofs.Laid.{ready-holes, node-room, node-sound, node-done, links-room, links-sound, links-done, laid-empty, laid-plain, slots-none, drop-all, drop-cons, next-rest, next-room, next-holes, past-rest, past-room, past-holes, rest-starts}
 use Rattle.capn_canon.proofs.Holes.{hole_below, first-hole, loop-starts}
-use Rattle.std.proofs.lemmas.List.{length-set}
-use Rattle.capn_canon.proofs.LaidRows.{begun-rest, begun-holes, begun-fits, begun-room, row-holes-slots, rows-next, rows-none, one-row-less, one-row-laid}
+use Rattle.std.proofs.lemmas.List.{length-set, length-replicate}
+use Rattle.capn_canon.proofs.LaidRows.{holes-over, begun-rest, begun-holes, begun-fits, begun-room, row-holes-slots, rows-next, rows-none, one-row-less, one-row-laid}
 use Rattle.capn_canon.proofs.content.+content.Goals.{lay_slots-then-i-count, lay_slots-else-i-count}
 use Rattle.capn_canon.proofs.content.+content.Goals as goal
 
@@ -97,11 +97,11 @@ lay_node-lay_slots-requires g t c κs live =
         (
           live.1,
           (
-            ready-holes v c.args.patch.now c.extend.new.self c.leave.new.self c.kept_slots-count.result c.in_ok-first.first c.requires.sound c.requires.room f.0 f.1,
+            ready-holes c.extend.new.self c.leave.new.self c.kept_slots-count.result c.in_ok-first.first f.0 f.1,
             (
-              node-room v c.args.patch.now c.extend.new.self c.leave.new.self c.kept_slots-count.result c.in_ok-first.first c.requires.sound c.requires.room f.0 f.1
+              node-room v c.args.patch.now c.extend.new.self c.leave.new.self (replicate c.kept_slots-count.result None) c.kept_slots-count.result c.in_ok-first.first c.requires.sound c.requires.room f.0 (length-replicate c.kept_slots-count.result None) f.1
                   c.args.body.now.words (trees_of slots) ev e1 c.kept_slots-count.ensures,
-              node-sound v c.args.patch.now c.extend.new.self c.leave.new.self c.kept_slots-count.result c.in_ok-first.first c.requires.sound c.requires.room f.0 f.1
+              node-sound v c.args.patch.now c.extend.new.self c.leave.new.self (replicate c.kept_slots-count.result None) c.kept_slots-count.result c.in_ok-first.first c.requires.sound c.requires.room f.0 (length-replicate c.kept_slots-count.result None) f.1
                   c.args.body.now.words (trees_of slots) ev e1 c.kept_slots-count.ensures,
             ),
           ),
@@ -117,7 +117,7 @@ lay_node-returns g t c =
     let e1 = c.in_ok-extend.ensures.ok ∙ ap (λ x. c.args.patch.now ++ whole x) c.front_words.ensures
     ∙ ap (λ x. c.args.patch.now ++ whole (take (kept_words x) x)) c.as_slice.ensures in
     let f = c.in_ok-first.ensures.ok in
-    let d = node-done v c.args.patch.now c.extend.new.self c.leave.new.self c.kept_slots-count.result c.in_ok-first.first c.requires.sound c.requires.room f.0 f.1
+    let d = node-done v c.args.patch.now c.extend.new.self c.leave.new.self (replicate c.kept_slots-count.result None) c.kept_slots-count.result c.in_ok-first.first c.requires.sound c.requires.room f.0 (length-replicate c.kept_slots-count.result None) f.1
     c.args.body.now.words (trees_of slots) ev e1 c.kept_slots-count.ensures in
     on_ok_weaker c.lay_slots.result (λ e. e ∙ sym d) c.lay_slots.ensures
 
@@ -133,11 +133,11 @@ lay_value-lay_slots-requires g t c κs live =
         (
           live.1,
           (
-            ready-holes (tree_of c.args.value.now) c.args.patch.now c.args.patch.now c.leave.new.self (length slots) c.in_ok-first-in-Links.first c.requires.sound c.requires.room f.0 f.1,
+            ready-holes c.args.patch.now c.leave.new.self (length slots) c.in_ok-first-in-Links.first f.0 f.1,
             (
-              links-room (tree_of c.args.value.now) c.args.patch.now c.args.patch.now c.leave.new.self (length slots) c.in_ok-first-in-Links.first c.requires.sound c.requires.room f.0 f.1
+              links-room (tree_of c.args.value.now) c.args.patch.now c.args.patch.now c.leave.new.self (replicate (length slots) None) (length slots) c.in_ok-first-in-Links.first c.requires.sound c.requires.room f.0 (length-replicate (length slots) None) f.1
                   (trees_of slots) ev refl en,
-              links-sound (tree_of c.args.value.now) c.args.patch.now c.args.patch.now c.leave.new.self (length slots) c.in_ok-first-in-Links.first c.requires.sound c.requires.room f.0 f.1
+              links-sound (tree_of c.args.value.now) c.args.patch.now c.args.patch.now c.leave.new.self (replicate (length slots) None) (length slots) c.in_ok-first-in-Links.first c.requires.sound c.requires.room f.0 (length-replicate (length slots) None) f.1
                   (trees_of slots) ev refl en,
             ),
           ),
@@ -150,7 +150,7 @@ lay_value-returns-in_ok-first-in-Links g t c =
     let ev = seen-Links c.args.value.now c.in-Links.items c.as_slice-slots.result.now c.in-Links.is c.as_slice-slots.ensures in
     let en = sym (count-trees_of c.as_slice-slots.result.now) in
     let f = c.in_ok-first-in-Links.ensures.ok in
-    let d = links-done (tree_of c.args.value.now) c.args.patch.now c.args.patch.now c.leave.new.self (length c.as_slice-slots.result.now) c.in_ok-first-in-Links.first c.requires.sound c.requires.room f.0 f.1
+    let d = links-done (tree_of c.args.value.now) c.args.patch.now c.args.patch.now c.leave.new.self (replicate (length c.as_slice-slots.result.now) None) (length c.as_slice-slots.result.now) c.in_ok-first-in-Links.first c.requires.sound c.requires.room f.0 (length-replicate (length c.as_slice-slots.result.now) None) f.1
     (trees_of c.as_slice-slots.result.now) ev refl en in
     rw d c.lay_slots.ensures
 
@@ -241,13 +241,13 @@ lay_value-returns-in-Rows g t c =
 pub lay_rows-loop-row-init : goal.lay_rows-loop-row-init
 lay_rows-loop-row-init g t c = record {
   rest = begun-rest (rows_of c.args.rows.now) c.args.patch.now c.push_rows.new.patch (length c.args.rows.now) c.kept_words_of_rows-words.result c.kept_slots_of_rows-slots.result c.in_ok-at.at
-      c.requires.sound c.requires.room (sym (count_rows-rows_of c.args.rows.now)) c.kept_words_of_rows-words.ensures c.kept_slots_of_rows-slots.ensures c.in_ok-at.ensures.start c.in_ok-at.ensures.pushed;
+      c.requires.sound c.requires.room (sym (count_rows-rows_of c.args.rows.now)) c.kept_words_of_rows-words.ensures c.kept_slots_of_rows-slots.ensures c.in_ok-at.ensures.start (row_holes c.kept_words_of_rows-words.result c.kept_slots_of_rows-slots.result (rows_of c.args.rows.now)) (holes-over c.kept_words_of_rows-words.result c.kept_slots_of_rows-slots.result (rows_of c.args.rows.now)) c.in_ok-at.ensures.pushed;
   holes = begun-holes (rows_of c.args.rows.now) c.args.patch.now c.push_rows.new.patch (length c.args.rows.now) c.kept_words_of_rows-words.result c.kept_slots_of_rows-slots.result c.in_ok-at.at
       c.requires.sound c.requires.room (sym (count_rows-rows_of c.args.rows.now)) c.kept_words_of_rows-words.ensures c.kept_slots_of_rows-slots.ensures c.in_ok-at.ensures.start c.in_ok-at.ensures.pushed;
   fits = begun-fits (rows_of c.args.rows.now) c.args.patch.now c.push_rows.new.patch (length c.args.rows.now) c.kept_words_of_rows-words.result c.kept_slots_of_rows-slots.result c.in_ok-at.at
-      c.requires.sound c.requires.room (sym (count_rows-rows_of c.args.rows.now)) c.kept_words_of_rows-words.ensures c.kept_slots_of_rows-slots.ensures c.in_ok-at.ensures.start c.in_ok-at.ensures.pushed;
+      c.requires.sound c.requires.room (sym (count_rows-rows_of c.args.rows.now)) c.kept_words_of_rows-words.ensures c.kept_slots_of_rows-slots.ensures c.in_ok-at.ensures.start (row_holes c.kept_words_of_rows-words.result c.kept_slots_of_rows-slots.result (rows_of c.args.rows.now)) (holes-over c.kept_words_of_rows-words.result c.kept_slots_of_rows-slots.result (rows_of c.args.rows.now)) c.in_ok-at.ensures.pushed;
   room = begun-room (rows_of c.args.rows.now) c.args.patch.now c.push_rows.new.patch (length c.args.rows.now) c.kept_words_of_rows-words.result c.kept_slots_of_rows-slots.result c.in_ok-at.at
-      c.requires.sound c.requires.room (sym (count_rows-rows_of c.args.rows.now)) c.kept_words_of_rows-words.ensures c.kept_slots_of_rows-slots.ensures c.in_ok-at.ensures.start c.in_ok-at.ensures.pushed;
+      c.requires.sound c.requires.room (sym (count_rows-rows_of c.args.rows.now)) c.kept_words_of_rows-words.ensures c.kept_slots_of_rows-slots.ensures c.in_ok-at.ensures.start (row_holes c.kept_words_of_rows-words.result c.kept_slots_of_rows-slots.result (rows_of c.args.rows.now)) (holes-over c.kept_words_of_rows-words.result c.kept_slots_of_rows-slots.result (rows_of c.args.rows.now)) c.in_ok-at.ensures.pushed;
   sound = c.requires.sound.5;
 }
 

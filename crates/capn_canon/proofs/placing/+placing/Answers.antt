@@ -14,12 +14,11 @@ use Rattle.capn_walk.proofs.Inside.{inside}
 use Rattle.capn_walk.proofs.Present.{present}
 use Rattle.capn_walk.proofs.Walks.{is-inside}
 use Rattle.capn_walk.proofs.Unique.{unique}
-use Rattle.capn_canon.proofs.Holes.{hole_below, first-hole, loop-starts}
 use Rattle.capn_words.specs.declared.pointer.Width.{Width}
 use Rattle.capn_canon.specs.Ready.{IsReadyInside, IsLaidInside}
 use Rattle.capn_canon.proofs.Shaped.{found, null-of, cap-at, inside-of, inside-height}
-use Rattle.capn_canon.proofs.Slots.{laid-null, laid-cap, next, next-ready, begins-rest, begins-ready, then-rest, then-holes, then-ready, ends-rest}
-use Rattle.capn_canon.proofs.Objects.{node-few, node-holes, node-ready, node-laid, links-few, links-holes, links-ready, links-laid}
+use Rattle.capn_canon.proofs.Slots.{laid-null, laid-cap, next, next-ready, begins-rest, begins-ready, then-rest, then-inside, then-ready, ends-rest}
+use Rattle.capn_canon.proofs.Objects.{node-few, node-inside, node-ready, node-laid, links-few, links-inside, links-ready, links-laid}
 use Rattle.capn_canon.proofs.EachRow.{one-more-fits}
 use Rattle.capn_canon.proofs.RowByRow.{next-row, row-ready, rows-begin, rows-begin-ready, rows-then, rows-then-ready, rows-end, rows-few, rows-part, rows-fits, rows-ready, rows-laid, rows-nothing}
 use Rattle.capn_canon.proofs.placing.+placing.Goals as goal
@@ -45,7 +44,7 @@ lay_target-lay_object-requires g t c κs live =
     let r = c.requires.ready in
     let here = inside-of m c.args.at x.segment x.start x.pads x.shape e r.value r.is in
     let h = inside-height m x.shape x.segment x.start r.value here in
-    let ready : IsReadyInside m x.shape x.segment x.start (c.args.depth - 1) (length c.args.patch.now) =
+    let ready : IsReadyInside m x.shape x.segment x.start (c.args.depth - 1) (length c.args.draft.now) =
     record {
       value = r.value;
       is = here;
@@ -56,30 +55,30 @@ lay_target-lay_object-requires g t c κs live =
     } in
     let content : IsContent m (record { segment = x.segment; word = x.start }) (extent x.shape) =
     record { exists = present m c.args.at x.segment x.start x.pads x.shape c.requires.place e; within = i.0 } in
-    (omega arith, (live.0, (live.1, (c.requires.message, (content, (i.1, (ready, c.requires.hole)))))))
+    (omega arith, (live.0, (live.1, (c.requires.message, (content, (i.1, (ready, c.requires.inside)))))))
 
 pub lay_target-returns-in-Nil : goal.lay_target-returns-in-Nil
 lay_target-returns-in-Nil g t c v h =
-    c.fill.ensures ∙ laid-null v c.args.patch.now c.args.from (null-of (g.S.Space.message c.args.space.now) c.args.at v (c.requires.target ∙ ap Ok c.in-Nil.is) h)
+    c.put.ensures ∙ laid-null v c.args.draft.now c.args.from (null-of (g.S.Space.message c.args.space.now) c.args.at v (c.requires.target ∙ ap Ok c.in-Nil.is) h)
 
 pub lay_target-returns-in-Cap : goal.lay_target-returns-in-Cap
 lay_target-returns-in-Cap g t c v h =
-    c.fill-in-Cap.ensures ∙ ap (λ x. set c.args.patch.now c.args.from (Some x)) c.join.ensures.word
-    ∙ laid-cap v c.in-Cap.index c.args.patch.now c.args.from (cap-at (g.S.Space.message c.args.space.now) c.args.at v c.in-Cap.index (c.requires.target ∙ ap Ok c.in-Cap.is) h)
+    c.put-in-Cap.ensures ∙ ap (λ x. set c.args.draft.now c.args.from (Some x)) c.join.ensures.word
+    ∙ laid-cap v c.in-Cap.index c.args.draft.now c.args.from (cap-at (g.S.Space.message c.args.space.now) c.args.at v c.in-Cap.index (c.requires.target ∙ ap Ok c.in-Cap.is) h)
 
 pub lay_slots-loop-i-init : goal.lay_slots-loop-i-init
 lay_slots-loop-i-init g t c =
     let m = g.S.Space.message c.args.space.now in
     record {
-      rest = begins-rest m c.args.start.segment c.args.start.word c.args.count c.args.first c.args.depth c.args.patch.now;
-      holes = loop-starts c.args.patch.now c.args.first c.args.count c.requires.holes;
-      ready = begins-ready m c.args.start.segment c.args.start.word c.args.count c.args.first c.args.depth c.args.patch.now c.requires.ready;
+      rest = begins-rest m c.args.start.segment c.args.start.word c.args.count c.args.first c.args.depth c.args.draft.now;
+      inside = c.requires.inside;
+      ready = begins-ready m c.args.start.segment c.args.start.word c.args.count c.args.first c.args.depth c.args.draft.now c.requires.ready;
     }
 
 pub lay_slots-overflow_add-first : goal.lay_slots-overflow_add-first
 lay_slots-overflow_add-first g t c =
     let n = c.loop-i-test.true in
-    let h = hole_below c.loop-i.patch (c.args.first + c.loop-i.i) (first-hole c.loop-i.patch (c.args.first + c.loop-i.i) (c.args.count - c.loop-i.i) (omega arith) c.loop-i.invariant.holes) in
+    let h = c.loop-i.invariant.inside in
     let r = c.loop-i.invariant.ready.room in
     omega arith
 
@@ -90,28 +89,28 @@ lay_slots-lay_slot-requires g t c κs live =
     let lt = c.loop-i-test.true in
     let i = c.loop-i.i in
     let within = c.requires.content.within in
-    let x = next m s (c.args.start.word + i) (c.args.count - i) c.args.depth (length c.loop-i.patch) c.loop-i.invariant.ready (omega arith) in
-    let ready = next-ready m s (c.args.start.word + i) (c.args.count - i) c.args.depth (length c.loop-i.patch) x in
-    let hole = first-hole c.loop-i.patch (c.args.first + i) (c.args.count - i) (omega arith) c.loop-i.invariant.holes in
-    (omega arith, (live.0, (live.1, (c.requires.message, (omega arith, (ready, hole))))))
+    let x = next m s (c.args.start.word + i) (c.args.count - i) c.args.depth (length c.loop-i.draft) c.loop-i.invariant.ready (omega arith) in
+    let ready = next-ready m s (c.args.start.word + i) (c.args.count - i) c.args.depth (length c.loop-i.draft) x in
+    let inside = c.loop-i.invariant.inside in
+    (omega arith, (live.0, (live.1, (c.requires.message, (omega arith, (ready, omega arith))))))
 
 pub lay_slots-loop-i-preserved : goal.lay_slots-loop-i-preserved
 lay_slots-loop-i-preserved g t c =
     let m = g.S.Space.message c.args.space.now in
     let s = c.args.start.segment in
     let w = c.args.start.word in
-    let p = c.loop-i.patch in
-    let q = c.lay_slot.new.patch in
+    let p = c.loop-i.draft in
+    let q = c.lay_slot.new.draft in
     let v = c.loop-i.invariant in
     record {
-      rest = then-rest m s w c.args.count c.args.first c.args.depth c.loop-i.i p q c.loop-i-test.true v.ready v.holes c.in_ok-lay_slot.ensures c.args.patch.now v.rest;
-      holes = then-holes m s w c.args.count c.args.first c.args.depth c.loop-i.i p q c.loop-i-test.true v.ready v.holes c.in_ok-lay_slot.ensures;
-      ready = then-ready m s w c.args.count c.args.first c.args.depth c.loop-i.i p q c.loop-i-test.true v.ready v.holes c.in_ok-lay_slot.ensures;
+      rest = then-rest m s w c.args.count c.args.first c.args.depth c.loop-i.i p q c.loop-i-test.true v.ready c.in_ok-lay_slot.ensures c.args.draft.now v.rest;
+      inside = then-inside m s w c.args.count c.args.first c.args.depth c.loop-i.i p q c.loop-i-test.true v.ready c.in_ok-lay_slot.ensures (c.args.first + c.args.count) v.inside;
+      ready = then-ready m s w c.args.count c.args.first c.args.depth c.loop-i.i p q c.loop-i-test.true v.ready c.in_ok-lay_slot.ensures;
     }
 
 pub lay_slots-returns : goal.lay_slots-returns
 lay_slots-returns g t c =
-    ends-rest (g.S.Space.message c.args.space.now) c.args.start.segment c.args.start.word c.args.count c.args.first c.loop-i.i c.loop-i.patch c.args.patch.now
+    ends-rest (g.S.Space.message c.args.space.now) c.args.start.segment c.args.start.word c.args.count c.args.first c.loop-i.i c.loop-i.draft c.args.draft.now
     c.loop-i-test.false c.loop-i.invariant.rest
 
 -- ---- an object
@@ -122,12 +121,12 @@ lay_object-lay_slots-requires g t c κs live =
     let s = c.args.start.segment in
     let w = c.args.start.word in
     let x = c.in-Node in
-    let ready = subst (λ (sh : Shape). IsReadyInside m sh s w c.args.depth (length c.args.patch.now)) x.is c.requires.ready in
+    let ready = subst (λ (sh : Shape). IsReadyInside m sh s w c.args.depth (length c.args.draft.now)) x.is c.requires.ready in
     let inside = subst (λ (sh : Shape). w + extent sh ≤ length (segment_at m s)) x.is c.requires.content.within in
-    let o = c.in_ok-holes-in-Node.ensures in
-    let holes = c.in_ok-holes-in-Node.holes in
-    let few = node-few m x.words x.slots s w c.args.depth c.args.from c.args.patch.now c.open_struct.new.patch holes.first holes.count ready inside o in
-    let content : IsContent m (record { segment = s; word = w + x.words }) holes.count = record { exists = c.requires.content.exists; within = omega arith } in (
+    let o = c.in_ok-opened-in-Node.ensures in
+    let run = c.in_ok-opened-in-Node.opened in
+    let few = node-few m x.words x.slots s w c.args.depth c.args.from c.args.draft.now c.open_struct.new.draft run.first run.count ready inside o in
+    let content : IsContent m (record { segment = s; word = w + x.words }) run.count = record { exists = c.requires.content.exists; within = omega arith } in (
       omega arith,
       (
         live.0,
@@ -138,8 +137,8 @@ lay_object-lay_slots-requires g t c κs live =
             (
               content,
               (
-                node-ready m x.words x.slots s w c.args.depth c.args.from c.args.patch.now c.open_struct.new.patch holes.first holes.count ready inside o,
-                node-holes m x.words x.slots s w c.args.depth c.args.from c.args.patch.now c.open_struct.new.patch holes.first holes.count ready inside o,
+                node-ready m x.words x.slots s w c.args.depth c.args.from c.args.draft.now c.open_struct.new.draft run.first run.count ready inside o,
+                node-inside m x.words x.slots s w c.args.depth c.args.from c.args.draft.now c.open_struct.new.draft run.first run.count ready inside o,
               ),
             ),
           ),
@@ -147,19 +146,19 @@ lay_object-lay_slots-requires g t c κs live =
       ),
     )
 
-pub lay_object-returns-in_ok-holes-in-Node : goal.lay_object-returns-in_ok-holes-in-Node
-lay_object-returns-in_ok-holes-in-Node g t c =
+pub lay_object-returns-in_ok-opened-in-Node : goal.lay_object-returns-in_ok-opened-in-Node
+lay_object-returns-in_ok-opened-in-Node g t c =
     let m = g.S.Space.message c.args.space.now in
     let s = c.args.start.segment in
     let w = c.args.start.word in
     let x = c.in-Node in
-    let ready = subst (λ (sh : Shape). IsReadyInside m sh s w c.args.depth (length c.args.patch.now)) x.is c.requires.ready in
+    let ready = subst (λ (sh : Shape). IsReadyInside m sh s w c.args.depth (length c.args.draft.now)) x.is c.requires.ready in
     let inside = subst (λ (sh : Shape). w + extent sh ≤ length (segment_at m s)) x.is c.requires.content.within in
-    let o = c.in_ok-holes-in-Node.ensures in
-    let holes = c.in_ok-holes-in-Node.holes in
+    let o = c.in_ok-opened-in-Node.ensures in
+    let run = c.in_ok-opened-in-Node.opened in
     on_ok_weaker c.lay_slots.result
-    (λ l. subst (λ (sh : Shape). IsLaidInside m sh s w c.args.from c.args.patch.now c.lay_slots.new.patch) (sym x.is)
-    (node-laid m x.words x.slots s w c.args.depth c.args.from c.args.patch.now c.open_struct.new.patch holes.first holes.count ready inside o c.lay_slots.new.patch l))
+    (λ l. subst (λ (sh : Shape). IsLaidInside m sh s w c.args.from c.args.draft.now c.lay_slots.new.draft) (sym x.is)
+    (node-laid m x.words x.slots s w c.args.depth c.args.from c.args.draft.now c.open_struct.new.draft run.first run.count ready inside o c.lay_slots.new.draft l))
     c.lay_slots.ensures
 
 pub lay_object-lay_slots-requires-in-Link : goal.lay_object-lay_slots-requires-in-Link
@@ -169,7 +168,7 @@ lay_object-lay_slots-requires-in-Link g t c κs live =
     let w = c.args.start.word in
     let n = c.in-Many.count in
     let is = c.in-Many.is ∙ ap (λ (k : Width). shapes.Many k n) c.in-Link.is in
-    let ready = subst (λ (sh : Shape). IsReadyInside m sh s w c.args.depth (length c.args.patch.now)) is c.requires.ready in
+    let ready = subst (λ (sh : Shape). IsReadyInside m sh s w c.args.depth (length c.args.draft.now)) is c.requires.ready in
     let inside = subst (λ (sh : Shape). w + extent sh ≤ length (segment_at m s)) is c.requires.content.within in
     let o = c.in_ok-first-in-Link.ensures in
     let first = c.in_ok-first-in-Link.first in
@@ -184,8 +183,8 @@ lay_object-lay_slots-requires-in-Link g t c κs live =
             (
               content,
               (
-                links-ready m n s w c.args.depth c.args.from c.args.patch.now c.open_links.new.patch first ready o.first o.holes,
-                links-holes m n s w c.args.depth c.args.from c.args.patch.now c.open_links.new.patch first ready o.first o.holes,
+                links-ready m n s w c.args.depth c.args.from c.args.draft.now c.open_links.new.draft first ready inside o.first o.slots,
+                links-inside m n s w c.args.depth c.args.from c.args.draft.now c.open_links.new.draft first ready inside o.first o.slots,
               ),
             ),
           ),
@@ -200,12 +199,13 @@ lay_object-returns-in_ok-first-in-Link g t c =
     let w = c.args.start.word in
     let n = c.in-Many.count in
     let is = c.in-Many.is ∙ ap (λ (k : Width). shapes.Many k n) c.in-Link.is in
-    let ready = subst (λ (sh : Shape). IsReadyInside m sh s w c.args.depth (length c.args.patch.now)) is c.requires.ready in
+    let ready = subst (λ (sh : Shape). IsReadyInside m sh s w c.args.depth (length c.args.draft.now)) is c.requires.ready in
+    let inside = subst (λ (sh : Shape). w + extent sh ≤ length (segment_at m s)) is c.requires.content.within in
     let o = c.in_ok-first-in-Link.ensures in
     let first = c.in_ok-first-in-Link.first in
     on_ok_weaker c.lay_slots-in-Link.result
-    (λ l. subst (λ (sh : Shape). IsLaidInside m sh s w c.args.from c.args.patch.now c.lay_slots-in-Link.new.patch) (sym is)
-    (links-laid m n s w c.args.depth c.args.from c.args.patch.now c.open_links.new.patch first ready o.first o.holes c.lay_slots-in-Link.new.patch l))
+    (λ l. subst (λ (sh : Shape). IsLaidInside m sh s w c.args.from c.args.draft.now c.lay_slots-in-Link.new.draft) (sym is)
+    (links-laid m n s w c.args.depth c.args.from c.args.draft.now c.open_links.new.draft first ready inside o.first o.slots c.lay_slots-in-Link.new.draft l))
     c.lay_slots-in-Link.ensures
 
 -- ---- rows
@@ -217,8 +217,8 @@ lay_rows-loop-row-init g t c =
     record {
       next = omega arith;
       fits = let f = c.requires.fits in let z : c.args.count - 0 ≡ c.args.count = omega arith in rw z f;
-      ready = rows-begin-ready m s c.args.start.word c.args.words c.args.slots c.args.count c.args.depth c.args.rows.words c.args.rows.slots c.args.rows.first c.args.patch.now c.requires.ready;
-      rest = rows-begin m s c.args.start.word c.args.words c.args.slots c.args.count c.args.depth c.args.rows.words c.args.rows.slots c.args.rows.first c.args.patch.now;
+      ready = rows-begin-ready m s c.args.start.word c.args.words c.args.slots c.args.count c.args.depth c.args.rows.words c.args.rows.slots c.args.rows.first c.args.draft.now c.requires.ready;
+      rest = rows-begin m s c.args.start.word c.args.words c.args.slots c.args.count c.args.depth c.args.rows.words c.args.rows.slots c.args.rows.first c.args.draft.now;
     }
 
 pub lay_rows-overflow_add-below : goal.lay_rows-overflow_add-below
@@ -237,12 +237,12 @@ lay_rows-overflow_add-next g t c =
 
 pub lay_rows-overflow_add-first : goal.lay_rows-overflow_add-first
 lay_rows-overflow_add-first g t c =
-    let f = one-more-fits c.loop-row.hole c.args.rows.words c.args.rows.slots c.args.count c.loop-row.row (2 ^ 29) c.loop-row-test.true c.loop-row.invariant.fits in
+    let f = one-more-fits c.loop-row.own c.args.rows.words c.args.rows.slots c.args.count c.loop-row.row (2 ^ 29) c.loop-row-test.true c.loop-row.invariant.fits in
     omega arith
 
-pub lay_rows-overflow_add-hole : goal.lay_rows-overflow_add-hole
-lay_rows-overflow_add-hole g t c =
-    let f = one-more-fits c.loop-row.hole c.args.rows.words c.args.rows.slots c.args.count c.loop-row.row (2 ^ 29) c.loop-row-test.true c.loop-row.invariant.fits in
+pub lay_rows-overflow_add-own : goal.lay_rows-overflow_add-own
+lay_rows-overflow_add-own g t c =
+    let f = one-more-fits c.loop-row.own c.args.rows.words c.args.rows.slots c.args.count c.loop-row.row (2 ^ 29) c.loop-row-test.true c.loop-row.invariant.fits in
     omega arith
 
 pub lay_rows-lay_slots-requires : goal.lay_rows-lay_slots-requires
@@ -254,7 +254,8 @@ lay_rows-lay_slots-requires g t c κs live =
     let lt = c.loop-row-test.true in
     let part = c.requires.part in
     let room = row-inside c.args.start.word c.args.count c.loop-row.row (c.args.words + c.args.slots) c.loop-row.next _ c.loop-row-test.true c.loop-row.invariant.next c.requires.content.within in
-    let x = next-row m s c.loop-row.next c.args.words c.args.slots (c.args.count - i) c.args.depth c.args.rows.words c.args.rows.slots c.loop-row.hole c.loop-row.patch v.ready (omega arith) in
+    let x = next-row m s c.loop-row.next c.args.words c.args.slots (c.args.count - i) c.args.depth c.args.rows.words c.args.rows.slots c.loop-row.own c.loop-row.draft v.ready (omega arith) in
+    let more = one-more-fits c.loop-row.own c.args.rows.words c.args.rows.slots c.args.count i (length c.loop-row.draft) lt v.ready.inside in
     let content : IsContent m (record { segment = s; word = c.loop-row.next + c.args.words }) c.args.rows.slots = record { exists = c.requires.content.exists; within = omega arith } in (
       omega arith,
       (
@@ -266,8 +267,8 @@ lay_rows-lay_slots-requires g t c κs live =
             (
               content,
               (
-                row-ready m s c.loop-row.next c.args.words c.args.slots (c.args.count - i) c.args.depth c.args.rows.words c.args.rows.slots c.loop-row.hole c.loop-row.patch part x,
-                x.holes,
+                row-ready m s c.loop-row.next c.args.words c.args.slots (c.args.count - i) c.args.depth c.args.rows.words c.args.rows.slots c.loop-row.own c.loop-row.draft part x,
+                omega arith,
               ),
             ),
           ),
@@ -284,17 +285,17 @@ lay_rows-loop-row-preserved g t c =
     let k = c.args.words + c.args.slots in
     record {
       next = let d : (c.loop-row.row + 1) * (c.args.words + c.args.slots) ≡ c.loop-row.row * (c.args.words + c.args.slots) + (c.args.words + c.args.slots) = omega arith in omega arith;
-      fits = one-more-fits c.loop-row.hole c.args.rows.words c.args.rows.slots c.args.count c.loop-row.row (2 ^ 29) c.loop-row-test.true v.fits;
-      ready = rows-then-ready m s c.loop-row.next c.args.words c.args.slots c.args.count c.args.depth c.args.rows.words c.args.rows.slots c.loop-row.hole c.loop-row.row c.loop-row.patch c.lay_slots.new.patch
+      fits = one-more-fits c.loop-row.own c.args.rows.words c.args.rows.slots c.args.count c.loop-row.row (2 ^ 29) c.loop-row-test.true v.fits;
+      ready = rows-then-ready m s c.loop-row.next c.args.words c.args.slots c.args.count c.args.depth c.args.rows.words c.args.rows.slots c.loop-row.own c.loop-row.row c.loop-row.draft c.lay_slots.new.draft
           c.loop-row-test.true c.requires.part v.ready c.in_ok-lay_slots.ensures;
-      rest = rows-then m s c.loop-row.next c.args.words c.args.slots c.args.count c.args.depth c.args.rows.words c.args.rows.slots c.loop-row.hole c.loop-row.row c.loop-row.patch c.lay_slots.new.patch
-          c.loop-row-test.true c.requires.part v.ready c.in_ok-lay_slots.ensures c.args.start.word c.args.rows.first c.args.patch.now v.rest;
+      rest = rows-then m s c.loop-row.next c.args.words c.args.slots c.args.count c.args.depth c.args.rows.words c.args.rows.slots c.loop-row.own c.loop-row.row c.loop-row.draft c.lay_slots.new.draft
+          c.loop-row-test.true c.requires.part v.ready c.in_ok-lay_slots.ensures c.args.start.word c.args.rows.first c.args.draft.now v.rest;
     }
 
 pub lay_rows-returns : goal.lay_rows-returns
 lay_rows-returns g t c =
-    rows-end (g.S.Space.message c.args.space.now) c.args.start.segment c.loop-row.next c.args.start.word c.args.words c.args.slots c.args.count c.args.rows.words c.args.rows.slots c.loop-row.hole c.args.rows.first
-    c.loop-row.row c.loop-row.patch c.args.patch.now c.loop-row-test.false c.loop-row.invariant.rest
+    rows-end (g.S.Space.message c.args.space.now) c.args.start.segment c.loop-row.next c.args.start.word c.args.words c.args.slots c.args.count c.args.rows.words c.args.rows.slots c.loop-row.own c.args.rows.first
+    c.loop-row.row c.loop-row.draft c.args.draft.now c.loop-row-test.false c.loop-row.invariant.rest
 
 pub lay_object-open_rows-requires-clause-few : goal.lay_object-open_rows-requires-clause-few
 lay_object-open_rows-requires-clause-few g t c =
@@ -302,8 +303,8 @@ lay_object-open_rows-requires-clause-few g t c =
     let s = c.args.start.segment in
     let w = c.args.start.word in
     let x = c.in-Rows in
-    let ready = subst (λ (sh : Shape). IsReadyInside m sh s w c.args.depth (length c.args.patch.now)) x.is c.requires.ready in
-    rows-few m x.count x.words x.slots x.span s w c.args.depth c.args.from c.args.patch.now ready
+    let ready = subst (λ (sh : Shape). IsReadyInside m sh s w c.args.depth (length c.args.draft.now)) x.is c.requires.ready in
+    rows-few m x.count x.words x.slots x.span s w c.args.depth c.args.from c.args.draft.now ready
 
 pub lay_object-open_rows-requires-clause-span : goal.lay_object-open_rows-requires-clause-span
 lay_object-open_rows-requires-clause-span g t c =
@@ -335,7 +336,7 @@ lay_object-lay_rows-requires g t c κs live =
     let r = c.in_ok-rows-in-Rows.rows in
     let o = c.in_ok-rows-in-Rows.ensures in
     let rows = subst RowsFit x.is c.requires.rows in
-    let ready = subst (λ (sh : Shape). IsReadyInside m sh s w c.args.depth (length c.args.patch.now)) x.is c.requires.ready in
+    let ready = subst (λ (sh : Shape). IsReadyInside m sh s w c.args.depth (length c.args.draft.now)) x.is c.requires.ready in
     let inside = subst (λ (sh : Shape). w + extent sh ≤ length (segment_at m s)) x.is c.requires.content.within in
     let within : w + 1 + x.count * (x.words + x.slots) ≤ length (segment_at m s) = omega arith in
     let content : IsContent m (record { segment = s; word = w + 1 }) (x.count * (x.words + x.slots)) = record { exists = c.requires.content.exists; within = within } in (
@@ -349,10 +350,10 @@ lay_object-lay_rows-requires g t c κs live =
             (
               content,
               (
-                rows-part m x.count x.words x.slots x.span s w c.args.depth c.args.from c.args.patch.now ready c.open_rows.new.patch r.first r.words r.slots within o,
+                rows-part m x.count x.words x.slots x.span s w c.args.depth c.args.from c.args.draft.now ready c.open_rows.new.draft r.first r.words r.slots within o,
                 (
-                  rows-fits m x.count x.words x.slots x.span s w c.args.depth c.args.from c.args.patch.now ready c.open_rows.new.patch r.first r.words r.slots within o,
-                  rows-ready m x.count x.words x.slots x.span s w c.args.depth c.args.from c.args.patch.now ready c.open_rows.new.patch r.first r.words r.slots within o,
+                  rows-fits m x.count x.words x.slots x.span s w c.args.depth c.args.from c.args.draft.now ready c.open_rows.new.draft r.first r.words r.slots within o,
+                  rows-ready m x.count x.words x.slots x.span s w c.args.depth c.args.from c.args.draft.now ready c.open_rows.new.draft r.first r.words r.slots within o,
                 ),
               ),
             ),
@@ -370,15 +371,15 @@ lay_object-returns-in_ok-rows-in-Rows g t c =
     let r = c.in_ok-rows-in-Rows.rows in
     let o = c.in_ok-rows-in-Rows.ensures in
     let rows = subst RowsFit x.is c.requires.rows in
-    let ready = subst (λ (sh : Shape). IsReadyInside m sh s w c.args.depth (length c.args.patch.now)) x.is c.requires.ready in
+    let ready = subst (λ (sh : Shape). IsReadyInside m sh s w c.args.depth (length c.args.draft.now)) x.is c.requires.ready in
     let inside = subst (λ (sh : Shape). w + extent sh ≤ length (segment_at m s)) x.is c.requires.content.within in
     let within : w + 1 + x.count * (x.words + x.slots) ≤ length (segment_at m s) = omega arith in
     on_ok_weaker c.lay_rows.result
-    (λ l. subst (λ (sh : Shape). IsLaidInside m sh s w c.args.from c.args.patch.now c.lay_rows.new.patch) (sym x.is)
-    (rows-laid m x.count x.words x.slots x.span s w c.args.depth c.args.from c.args.patch.now ready c.open_rows.new.patch r.first r.words r.slots within o c.lay_rows.new.patch l))
+    (λ l. subst (λ (sh : Shape). IsLaidInside m sh s w c.args.from c.args.draft.now c.lay_rows.new.draft) (sym x.is)
+    (rows-laid m x.count x.words x.slots x.span s w c.args.depth c.args.from c.args.draft.now ready c.open_rows.new.draft r.first r.words r.slots within o c.lay_rows.new.draft l))
     c.lay_rows.ensures
 
 pub lay_rows-returns-then-rows-eq0 : goal.lay_rows-returns-then-rows-eq0
 lay_rows-returns-then-rows-eq0 g t c =
-    rows-nothing (g.S.Space.message c.args.space.now) c.args.start.segment c.args.start.word c.args.words c.args.slots c.args.count c.args.depth c.args.rows.words c.args.rows.slots c.args.rows.first c.args.patch.now
+    rows-nothing (g.S.Space.message c.args.space.now) c.args.start.segment c.args.start.word c.args.words c.args.slots c.args.count c.args.depth c.args.rows.words c.args.rows.slots c.args.rows.first c.args.draft.now
     c.if-rows-eq0.true c.requires.ready

@@ -1,0 +1,86 @@
+//! A buffer of words, each of which can be written again.
+
+ghost use Rattle.std.specs.Prelude.{◌≡◌, ◌*◌, ◌%◌, ◌<◌, [], ◌∷◌, ◌++◌, length, set, Some, OnOk, OnErr, IfOk};
+ghost use Rattle.capn_words.specs.Message.{bytes as bytes_of_words};
+ghost use Rattle.capn_canon.specs.Patch.{filled, whole};
+ghost use Rattle.capn_canon.specs.Layout.{packed, words_for};
+
+use crate::patch::{bytes_of, write_at};
+use capn_value::Memory;
+use std::alloc::Allocator;
+use std::marker::Model;
+
+/// A list of words, kept as their bytes. A word that isn't known yet is any word: it is put over later.
+#[derive(Drop)]
+pub struct Draft<A: Allocator> {
+    bytes: Vec<u8, A>,
+}
+
+impl<A: Allocator> Model for Draft<A> {
+    ghost use Rattle.std.specs.Prelude.{ℕ, List, Option};
+    ghost use Rattle.capn_canon.specs.Draft.{drafted, IsDrafted};
+
+    ghost Value = { List (Option ℕ) };
+
+    ghost view = { λ d. drafted d.bytes.items };
+
+    ghost invariant = { λ d. IsDrafted d.bytes.items };
+}
+
+impl<A: Allocator> Draft<A> {
+    /// An empty buffer with room for so many words.
+    pub fn with_room(alloc: A, words: usize) -> Result<Draft<A>, Memory>
+        ensures { IfOk result (λ d. d ≡ []) }
+    {
+        Ok(Draft {
+            bytes: Vec::with_capacity(alloc, words.saturating_mul(8))?,
+        })
+    }
+
+    /// The number of words.
+    #[inline(always)]
+    pub fn len(&self) -> usize
+        ensures { result ≡ length self.now }
+    {
+        self.bytes.len() / 8
+    }
+
+    /// Appends a word.
+    #[inline(always)]
+    pub fn push(&mut self, word: u64) -> Result<(), Memory>
+        ensures ok { OnOk result (self.new ≡ self.old ++ Some word ∷ []) }
+        ensures err { OnErr result (self.new ≡ self.old) }
+    {
+        let word = bytes_of(word);
+        self.bytes.extend_from_slice(&word)?;
+        Ok(())
+    }
+
+    /// Appends whole words, given by their bytes.
+    #[inline(always)]
+    pub fn extend(&mut self, xs: &[u8]) -> Result<(), Memory>
+        requires { length xs.now % 8 ≡ 0 }
+        ensures ok { OnOk result (self.new
+            ≡ self.old ++ whole (packed 8 8 (words_for (8 * length xs.now)) xs.now)) }
+        ensures err { OnErr result (self.new ≡ self.old) }
+    {
+        self.bytes.extend_from_slice(xs)?;
+        Ok(())
+    }
+
+    /// Puts a word over the one at a place.
+    #[inline(always)]
+    pub fn put(&mut self, at: usize, word: u64)
+        requires { at < length self.old }
+        ensures { self.new ≡ set self.old at (Some word) }
+    {
+        write_at(&mut self.bytes, 8 * at, word);
+    }
+
+    /// The bytes of the words. The buffer is moved, so nothing is copied.
+    pub fn finish(self) -> Vec<u8, A>
+        ensures { result.items ≡ bytes_of_words (filled self) }
+    {
+        self.bytes
+    }
+}
