@@ -1,11 +1,8 @@
 -- A stream of messages that is read in pieces: more of it, and where a run stops.
 use Rattle.std.proofs.Common.{◌≡◌, ◌≢◌, ◌⊎◌, inl, inr, ◌↔◌, ℕ, ◌+◌, ◌-◌, ◌<◌, ◌≤◌, List, [], ◌∷◌, ◌++◌, length, take, drop, Bool, true, false, Option, None, Some, Result, Ok, Err, refl, ap, sym, subst, ◌∙◌, append-nil, append_assoc, arith, length-append, length-take}
-use Rattle.std.proofs.Math.Seq.{take-append-add}
 use Rattle.std.proofs.lemmas.List.{take_at, take-append-drop}
 use Rattle.std.proofs.lemmas.Grind.{flat_map-append}
 use Rattle.std.specs.List.{AllByRecursion}
-use Rattle.std.specs.Io.KnownBytes.{Appends}
-use Rattle.std.proofs.KnownBytes.{Appends-nil, Appends-trans}
 use Rattle.capn_words.specs.Message.{total}
 use Rattle.capn_walk.specs.Limits.{Bounds}
 use Rattle.capn_stream.specs.Frames.{Frames, StandsFirst}
@@ -19,11 +16,13 @@ use Rattle.capn_stream.proofs.Wanting.{unfinished_frame}
 use Rattle.capn_canon.specs.declared.refusal.Refusal.TheVariants as refusals
 use Rattle.capn_tool.specs.Pieces.{IsPiece, IsNoPiece}
 use Rattle.capn_tool.specs.Streams.{Part, IsPart, AreParts, frame_of, text_of, frames_of, texts_of, end_of, IsDueEach}
-use Rattle.capn_tool.specs.Served.{WritesPiece}
+use Rattle.capn_tool.specs.Served.{AddsPiece}
+use Rattle.capn_tool.specs.Sending.{Outgoing, Adds, Breaks}
 use Rattle.capn_tool.specs.Heard.{Tells, TellsFront, IsDueSo, Stops, Serves, ServesNext}
 use Rattle.capn_tool.specs.declared.plan.Piece.{Piece}
 use Rattle.capn_tool.specs.declared.fault.ToolFault.{ToolFault}
 use Rattle.capn_tool.specs.declared.fault.ToolFault.TheVariants as faults
+use Rattle.capn_tool.proofs.Sends.{adds_more, adds_none, breaks_behind}
 use Rattle.capn_tool.proofs.WholeServed.{IsTold, told_memory, told_piece, told_refused}
 
 pub every_append : {X : Type 0} (P : X → Type 0) (xs ys : List X) → AllByRecursion P xs → AllByRecursion P ys → AllByRecursion P (xs ++ ys)
@@ -43,18 +42,18 @@ module _ (piece : Piece) (limits : Bounds) where
         ∙ ap (λ (p : List ℕ). p ++ rest) (sym (flat_map-append frame_of ps qs));
   }
 
-  texts_more : (a b c : Option (List ℕ)) (ps qs : List Part) → Appends a b (texts_of ps) → Appends b c (texts_of qs) → Appends a c (texts_of (ps ++ qs))
-  texts_more a b c ps qs f g = subst (Appends a c) (sym (flat_map-append text_of ps qs)) (Appends-trans a b c (texts_of ps) (texts_of qs) f g)
+  texts_more : (a b c : Outgoing) (ps qs : List Part) → Adds a b (texts_of ps) → Adds b c (texts_of qs) → Adds a c (texts_of (ps ++ qs))
+  texts_more a b c ps qs f g = subst (Adds a c) (sym (flat_map-append text_of ps qs)) (adds_more a b c (texts_of ps) (texts_of qs) f g)
 
-  -- nothing was written, and all is left
-  pub tells_none : (stream : List ℕ) (a : Option (List ℕ)) → Tells piece limits stream stream a a
-  tells_none stream a = ([], record { each = tt; is = refl }, Appends-nil a)
+  -- nothing was added, and all is left
+  pub tells_none : (stream : List ℕ) (a : Outgoing) → Tells piece limits stream stream a a
+  tells_none stream a = ([], record { each = tt; is = refl }, adds_none a)
 
-  pub tells_more : (s mid x rest : List ℕ) (a b c : Option (List ℕ)) → Tells piece limits s mid a b → Tells piece limits (mid ++ x) rest b c → Tells piece limits (s ++ x) rest a c
+  pub tells_more : (s mid x rest : List ℕ) (a b c : Outgoing) → Tells piece limits s mid a b → Tells piece limits (mid ++ x) rest b c → Tells piece limits (s ++ x) rest a c
   tells_more s mid x rest a b c f g = (f.0 ++ g.0, parts_more s mid x rest f.0 g.0 f.1 g.1, texts_more a b c f.0 g.0 f.2 g.2)
 
   -- a message and its piece
-  pub tells_one : (frame : List ℕ) (message : List (List ℕ)) (text : List ℕ) (a b : Option (List ℕ)) → Frames frame message → total message ≤ limits.message_words → IsPiece piece message limits text → Appends a b text
+  pub tells_one : (frame : List ℕ) (message : List (List ℕ)) (text : List ℕ) (a b : Outgoing) → Frames frame message → total message ≤ limits.message_words → IsPiece piece message limits text → Adds a b text
       → Tells piece limits frame [] a b
   tells_one frame message text a b is room p wrote = (
     (record { frame = frame; message = message; text = text }) ∷ [],
@@ -62,12 +61,12 @@ module _ (piece : Piece) (limits : Bounds) where
       each = (record { frame = is; room = room; text = p }, tt);
       is = sym (append-nil (frame ++ []) ∙ append-nil frame);
     },
-    subst (Appends a b) (sym (append-nil text)) wrote,
+    subst (Adds a b) (sym (append-nil text)) wrote,
   )
 
   -- what is due behind the parts of a stream is due behind them in all of it
-  pub due_behind : (s mid x : List ℕ) (a b c : Option (List ℕ)) (behind : Option ToolFault) (ending : Result (Unit {0}) ToolFault) → Tells piece limits s mid a b
-      → (text : List ℕ) × IsDueEach piece limits (mid ++ x) behind text ending × Appends b c text → (text : List ℕ) × IsDueEach piece limits (s ++ x) behind text ending × Appends a c text
+  pub due_behind : (s mid x : List ℕ) (a b c : Outgoing) (behind : Option ToolFault) (ending : Result (Unit {0}) ToolFault) → Tells piece limits s mid a b
+      → (text : List ℕ) × IsDueEach piece limits (mid ++ x) behind text ending × Adds b c text → (text : List ℕ) × IsDueEach piece limits (s ++ x) behind text ending × Adds a c text
   due_behind s mid x a b c behind ending told (text, due, wrote) = (
     texts_of (told.0 ++ due.parts),
     record {
@@ -77,57 +76,52 @@ module _ (piece : Piece) (limits : Bounds) where
       joined = refl;
       ends = due.ends;
     },
-    texts_more a b c told.0 due.parts told.2 (subst (Appends b c) due.joined wrote),
+    texts_more a b c told.0 due.parts told.2 (subst (Adds b c) due.joined wrote),
   )
 
-  pub front_behind : (s mid x : List ℕ) (a b c : Option (List ℕ)) → Tells piece limits s mid a b → TellsFront piece limits (mid ++ x) b c → TellsFront piece limits (s ++ x) a c
+  pub front_behind : (s mid x : List ℕ) (a b c : Outgoing) → Tells piece limits s mid a b → TellsFront piece limits (mid ++ x) b c → TellsFront piece limits (s ++ x) a c
   front_behind s mid x a b c told (parts, rest, count, are, wrote) =
-      let both = flat_map-append text_of told.0 parts in
-      let front : texts_of told.0 ++ take count (texts_of parts) ≡ take (length (texts_of told.0) + count) (texts_of (told.0 ++ parts)) =
-      sym (take-append-add (texts_of told.0) (texts_of parts) count) ∙ ap (λ (p : List ℕ). take (length (texts_of told.0) + count) p) (sym both) in (
+      let behind = breaks_behind a b c (texts_of told.0) (texts_of parts) count told.2 wrote in (
         told.0 ++ parts,
         rest,
-        length (texts_of told.0) + count,
+        behind.0,
         parts_more s mid x rest told.0 parts told.1 are,
-        subst (Appends a c) front (Appends-trans a b c (texts_of told.0) (take count (texts_of parts)) told.2 wrote),
+        subst (Breaks a c behind.0) (sym (flat_map-append text_of told.0 parts)) behind.1,
       )
 
   -- where a run stops behind the parts of a stream it stops in all of it
-  pub stops_more : (s mid x : List ℕ) (a b c : Option (List ℕ)) (failed : Bool) (fault : ToolFault) → Tells piece limits s mid a b → Stops piece limits (mid ++ x) b c failed fault → Stops piece limits (s ++ x) a c failed fault
+  pub stops_more : (s mid x : List ℕ) (a b c : Outgoing) (failed : Bool) (fault : ToolFault) → Tells piece limits s mid a b → Stops piece limits (mid ++ x) b c failed fault → Stops piece limits (s ++ x) a c failed fault
   stops_more s mid x a b c failed fault told stop = record {
-    written = front_behind s mid x a b c told stop.written;
+    told = λ h. (let next = stop.told h in (next.0, tells_more s mid x next.0 a b c told next.1));
+    front = λ h. front_behind s mid x a b c told (stop.front h);
     io = stop.io;
-    known = stop.known;
     due = elim stop.due [ inl m ↦ inl m | inr rest ↦ inr (elim rest [ inl i ↦ inl i | inr so ↦ inr (so_behind so) ]) ];
   }
     where
       so_behind : IsDueSo piece limits (mid ++ x) b c fault → IsDueSo piece limits (s ++ x) a c fault
       so_behind so more behind =
           let same = append_assoc mid x more in
-          let part = subst (λ (p : List ℕ). (text : List ℕ) × IsDueEach piece limits p behind text (Err fault) × Appends b c text) same (so more behind) in
+          let part = subst (λ (p : List ℕ). (text : List ℕ) × IsDueEach piece limits p behind text (Err fault) × Adds b c text) same (so more behind) in
           let all = due_behind s mid (x ++ more) a b c behind (Err fault) told part in
-          subst (λ (p : List ℕ). (text : List ℕ) × IsDueEach piece limits p behind text (Err fault) × Appends a c text) (sym (append_assoc s x more)) all
-
-  front_none : (stream : List ℕ) (a : Option (List ℕ)) → TellsFront piece limits stream a a
-  front_none stream a = ([], stream, 0, record { each = tt; is = refl }, Appends-nil a)
+          subst (λ (p : List ℕ). (text : List ℕ) × IsDueEach piece limits p behind text (Err fault) × Adds a c text) (sym (append_assoc s x more)) all
 
   -- memory was refused
-  pub stops_memory : (stream : List ℕ) (a : Option (List ℕ)) (failed : Bool) → failed ≡ false → Stops piece limits stream a a failed faults.Memory
+  pub stops_memory : (stream : List ℕ) (a : Outgoing) (failed : Bool) → failed ≡ false → Stops piece limits stream a a failed faults.Memory
   stops_memory stream a failed fine = record {
-    written = front_none stream a;
+    told = λ h. (stream, tells_none stream a);
+    front = λ h. absurd (let broken : true ≡ false = sym h ∙ fine in cc);
     io = (λ h. absurd (cc), λ h. absurd (cc));
-    known = λ h. absurd (cc);
     due = inl refl;
   }
 
   -- no frame can follow
-  pub stops_framed : (stream : List ℕ) (a : Option (List ℕ)) (failed : Bool) (e : FrameFault) → failed ≡ false → e ≢ frame_faults.Memory → IsStop stream limits.message_words e
+  pub stops_framed : (stream : List ℕ) (a : Outgoing) (failed : Bool) (e : FrameFault) → failed ≡ false → e ≢ frame_faults.Memory → IsStop stream limits.message_words e
       → Stops piece limits stream a a failed (faults.Refused (refusals.Frame e))
   stops_framed stream a failed e fine other stop = record {
-    written = front_none stream a;
+    told = λ h. (stream, tells_none stream a);
+    front = λ h. absurd (let broken : true ≡ false = sym h ∙ fine in cc);
     io = (λ h. absurd (cc), λ h. absurd (cc));
-    known = λ h. absurd (cc);
-    due = inr (inr (λ more behind. ([], due more behind e other (IsStop-append stream more limits.message_words e stop), Appends-nil a)));
+    due = inr (inr (λ more behind. ([], due more behind e other (IsStop-append stream more limits.message_words e stop), adds_none a)));
   }
     where
       due : (more : List ℕ) (behind : Option ToolFault) (e : FrameFault) → e ≢ frame_faults.Memory → IsStop (stream ++ more) limits.message_words e
@@ -160,12 +154,12 @@ module _ (piece : Piece) (limits : Bounds) where
   }
 
   -- a message has no piece, or the writer failed
-  pub stops_piece : (frame x : List ℕ) (message : List (List ℕ)) (a b : Option (List ℕ)) (failed : Bool) (fault : ToolFault) → Frames frame message → total message ≤ limits.message_words
-      → WritesPiece piece message limits a b failed (Err fault) → Stops piece limits (frame ++ x) a b failed fault
+  pub stops_piece : (frame x : List ℕ) (message : List (List ℕ)) (a b : Outgoing) (failed : Bool) (fault : ToolFault) → Frames frame message → total message ≤ limits.message_words
+      → AddsPiece piece message limits a b failed (Err fault) → Stops piece limits (frame ++ x) a b failed fault
   stops_piece frame x message a b failed fault is room (inl (why, kept, fine)) = record {
-    written = ([], frame ++ x, 0, record { each = tt; is = refl }, kept);
+    told = λ h. (frame ++ x, ([], record { each = tt; is = refl }, kept));
+    front = λ h. absurd (let bad : true ≡ false = sym h ∙ fine in cc);
     io = (λ h. absurd (told.no_io h), λ h. absurd (cc));
-    known = λ h. told.no_later h;
     due = elim why [ inl m ↦ inl m | inr n ↦ inr (inr (λ more behind. ([], due n more behind, kept))) ];
   }
     where
@@ -189,7 +183,8 @@ module _ (piece : Piece) (limits : Bounds) where
             );
       }
   stops_piece frame x message a b failed fault is room (inr (text, count, is_io, broken, p, wrote)) = record {
-    written = (
+    told = λ h. absurd (let bad : true ≡ false = sym broken ∙ h in cc);
+    front = λ h. (
       (record { frame = frame; message = message; text = text }) ∷ [],
       x,
       count,
@@ -197,9 +192,8 @@ module _ (piece : Piece) (limits : Bounds) where
         each = (record { frame = is; room = room; text = p }, tt);
         is = ap (λ (q : List ℕ). q ++ x) (sym (append-nil frame));
       },
-      subst (λ (q : List ℕ). Appends a b (take count q)) (sym (append-nil text)) wrote,
+      subst (Breaks a b count) (sym (append-nil text)) wrote,
     );
     io = (λ h. broken, λ h. is_io);
-    known = λ h. absurd (cc);
     due = inr (inl is_io);
   }

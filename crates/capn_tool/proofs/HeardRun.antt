@@ -14,6 +14,7 @@ use Rattle.capn_canon.specs.declared.refusal.Refusal.TheVariants as refusals
 use Rattle.capn_tool.specs.Streams.{Part, AreParts, texts_of, behind_stream, end_of, IsDueEach}
 use Rattle.capn_tool.specs.Text.{HasEnded, HasWritten, IsDue, IsFront, PlanBegins, PlanEndsAs, taken_of, has_more}
 use Rattle.capn_tool.specs.Reading.{Kept}
+use Rattle.capn_tool.specs.Sending.{sent}
 use Rattle.capn_tool.specs.Heard.{EndsInput, Hears, IsDueSo, Runs, Serves, Stops, Tells, TellsFront}
 use Rattle.capn_tool.specs.declared.plan.Piece.{Piece}
 use Rattle.capn_tool.specs.declared.plan.Whole.{Whole}
@@ -22,12 +23,13 @@ use Rattle.capn_tool.specs.declared.plan.Plan.TheVariants as plans
 use Rattle.capn_tool.specs.declared.fault.ToolFault.{ToolFault}
 use Rattle.capn_tool.specs.declared.fault.ToolFault.TheVariants as faults
 use Rattle.capn_tool.proofs.HeardMore.{stops_more, tells_more}
+use Rattle.capn_tool.proofs.Sends.{adds_sent}
 use Rattle.capn_tool.proofs.ReadMore.{read_end, read_past}
-use Rattle.capn_tool.proofs.RunLaw.{begins_kept, begins_later, ends_kept, ends_later, ends_unread}
+use Rattle.capn_tool.proofs.RunLaw.{begins_kept, ends_kept, ends_unread}
 
 cut_front : (buf : List ℕ) (m k w : ℕ) → k ≤ length buf → w ≡ min k m → take m (take k buf) ≡ take w buf
 cut_front buf m k w within least = elim (cases_lt m k) [
-  inl below ↦ (let e : m ≡ w = omega (arith, below, least) in take-take m k buf (omega (arith, below)) ∙ ap (λ (i : ℕ). take i buf) e)
+  | inl below ↦ (let e : m ≡ w = omega (arith, below, least) in take-take m k buf (omega (arith, below)) ∙ ap (λ (i : ℕ). take i buf) e)
   | inr past ↦ (let e : k ≡ w = omega (arith, past, least) in take_all m (take k buf) (omega (arith, past, length-take-le k buf within)) ∙ ap (λ (i : ℕ). take i buf) e)
 ]
 
@@ -42,13 +44,13 @@ taken_front bs buf n w k count short least within =
 -- what is taken goes on with what is taken of more
 pub taken_more : (all more : List ℕ) → (tail : List ℕ) × (taken_of (all ++ more) ≡ taken_of all ++ tail)
 taken_more all more = elim (cases_lt (2 ^ 32) (length all)) [
-  inl past ↦ ([], take-append-le (2 ^ 32) all more (omega (arith, past)) ∙ sym (append-nil (taken_of all)))
+  | inl past ↦ ([], take-append-le (2 ^ 32) all more (omega (arith, past)) ∙ sym (append-nil (taken_of all)))
   | inr short ↦ (
     take (2 ^ 32 - length all) more,
     (let e : 2 ^ 32 ≡ length all + (2 ^ 32 - length all) = omega (arith, short) in
-    ap (λ (i : ℕ). take i (all ++ more)) e
-    ∙ take-append-add all more (2 ^ 32 - length all)
-    ∙ ap (λ (p : List ℕ). p ++ take (2 ^ 32 - length all) more) (sym (take_all (2 ^ 32) all short)))
+        ap (λ (i : ℕ). take i (all ++ more)) e
+        ∙ take-append-add all more (2 ^ 32 - length all)
+        ∙ ap (λ (p : List ℕ). p ++ take (2 ^ 32 - length all) more) (sym (take_all (2 ^ 32) all short))),
   )
 ]
 
@@ -63,11 +65,18 @@ writer_only r w fine (inr h) = h
 
 module _ (piece : Piece) (limits : Bounds) where
   -- all of the pieces is a front of them
-  tells_front : (stream rest : List ℕ) (a b : Option (List ℕ)) → Tells piece limits stream rest a b → TellsFront piece limits stream a b
-  tells_front stream rest a b (parts, are, wrote) = (parts, rest, length (texts_of parts), are, subst (Appends a b) (sym (take-length (texts_of parts))) wrote)
+  pub tells_front : (stream rest : List ℕ) (c d : Option (List ℕ)) → Tells piece limits stream rest (sent c) (sent d) → TellsFront piece limits stream (sent c) (sent d)
+  tells_front stream rest c d (parts, are, adds) =
+      let wrote = adds_sent c d (texts_of parts) adds in
+      (parts, rest, length (texts_of parts), are, subst (Appends c d) (sym (take-length (texts_of parts))) wrote)
+
+  -- whatever stopped a run, a beginning of the pieces was written
+  pub stops_front : (stream : List ℕ) (c d : Option (List ℕ)) (failed : Bool) (fault : ToolFault) → Stops piece limits stream (sent c) (sent d) failed fault → TellsFront piece limits stream (sent c) (sent d)
+  stops_front stream c d true fault stop = stop.front refl
+  stops_front stream c d false fault stop = let all = stop.told refl in tells_front stream all.0 c d all.1
 
   -- a beginning of what is due was written
-  begins_front : (a b c d : Option (List ℕ)) (all s : List ℕ) → Consumes a b all → length all ≤ 2 ^ 32 + 1 → taken_of all ≡ s → TellsFront piece limits s c d → PlanBegins (plans.Each piece limits) a b c d
+  begins_front : (a b c d : Option (List ℕ)) (all s : List ℕ) → Consumes a b all → length all ≤ 2 ^ 32 + 1 → taken_of all ≡ s → TellsFront piece limits s (sent c) (sent d) → PlanBegins (plans.Each piece limits) a b c d
   begins_front a b c d all s read bound is (parts, rest, count, are, wrote) = (
     all,
     record {
@@ -83,7 +92,7 @@ module _ (piece : Piece) (limits : Bounds) where
   )
 
   -- what is left is no whole frame
-  pub due_open : (stream rest : List ℕ) (behind : Option ToolFault) (ending : Result (Unit {0}) ToolFault) (e : FrameFault) (c d : Option (List ℕ)) → Tells piece limits stream rest c d → e ≢ frames.Memory → frame_rules.IsRefused rest limits.message_words e → ending ≡ end_of e behind
+  pub due_open : (stream rest : List ℕ) (behind : Option ToolFault) (ending : Result (Unit {0}) ToolFault) (e : FrameFault) (c d : Option (List ℕ)) → Tells piece limits stream rest (sent c) (sent d) → e ≢ frames.Memory → frame_rules.IsRefused rest limits.message_words e → ending ≡ end_of e behind
       → (text : List ℕ) × IsDueEach piece limits stream behind text ending × Appends c d text
   due_open stream rest behind ending e c d (parts, are, wrote) other refused is = (
     texts_of parts,
@@ -94,10 +103,10 @@ module _ (piece : Piece) (limits : Bounds) where
       joined = refl;
       ends = inl (e, other, refused, is);
     },
-    wrote,
+    adds_sent c d (texts_of parts) wrote,
   )
 
-  pub due_unfinished : (stream rest : List ℕ) (behind : Option ToolFault) (c d : Option (List ℕ)) → Tells piece limits stream rest c d → IsUnfinished rest limits.message_words
+  pub due_unfinished : (stream rest : List ℕ) (behind : Option ToolFault) (c d : Option (List ℕ)) → Tells piece limits stream rest (sent c) (sent d) → IsUnfinished rest limits.message_words
       → (ending : Result (Unit {0}) ToolFault) × (text : List ℕ) × IsDueEach piece limits stream behind text ending × Appends c d text
   due_unfinished stream rest behind c d told (inl none) =
       let due = due_open stream rest behind (end_of frames.Empty behind) frames.Empty c d told (λ h. cc) none refl in
@@ -119,22 +128,21 @@ module _ (piece : Piece) (limits : Bounds) where
         exact = ends_unread (plans.Each piece limits) a c d faults.Io (inr refl);
         io = (λ h. inl broken, λ h. refl);
         begun = begins_front a b2 c d bytes bytes here (omega (arith, count, short)) all (tells_front bytes rest c d told);
-        later = λ h. absurd (cc);
         heard = λ h. (bytes, due.1, due.0, here, subst (λ (p : List ℕ). IsDueEach piece limits p (behind_stream (has_more bytes)) due.1 due.0) (sym all) due.2, due.3);
       }
 
-  written_front : (s rest : List ℕ) (is_longer : Bool) (c d : Option (List ℕ)) → Tells piece limits s rest c d → HasWritten (plans.Each piece limits) s is_longer c d
-  written_front s rest is_longer c d (parts, are, wrote) = (texts_of parts, length (texts_of parts), (parts, rest, are, refl), subst (Appends c d) (sym (take-length (texts_of parts))) wrote)
+  written_front : (s rest : List ℕ) (is_longer : Bool) (c d : Option (List ℕ)) → Tells piece limits s rest (sent c) (sent d) → HasWritten (plans.Each piece limits) s is_longer c d
+  written_front s rest is_longer c d (parts, are, wrote) = (texts_of parts, length (texts_of parts), (parts, rest, are, refl), subst (Appends c d) (sym (take-length (texts_of parts))) (adds_sent c d (texts_of parts) wrote))
 
   -- the input ended
-  pub due_end : (stream rest : List ℕ) (c d : Option (List ℕ)) (r : Result (Unit {0}) ToolFault) → Tells piece limits stream rest c d → EndsInput rest limits.message_words r
+  pub due_end : (stream rest : List ℕ) (c d : Option (List ℕ)) (r : Result (Unit {0}) ToolFault) → Tells piece limits stream rest (sent c) (sent d) → EndsInput rest limits.message_words r
       → (text : List ℕ) × IsDueEach piece limits stream None text r × Appends c d text
   due_end stream rest c d (Ok u) told none = due_open stream rest None (Ok u) frames.Empty c d told (λ h. cc) none refl
   due_end stream rest c d (Err fault) told (cut, is) = due_open stream rest None (Err fault) frames.Cut c d told (λ h. cc) cut (ap (λ (f : ToolFault). Err f) is)
 
-  pub end_known : (rest : List ℕ) (r : Result (Unit {0}) ToolFault) → EndsInput rest limits.message_words r → (r ≢ Err faults.Io) × (r ≢ Err faults.NotYet)
-  end_known rest (Ok u) ends = (λ h. cc, λ h. cc)
-  end_known rest (Err fault) ends = let is = ends.1 in (λ h. cc, λ h. cc)
+  pub end_known : (rest : List ℕ) (r : Result (Unit {0}) ToolFault) → EndsInput rest limits.message_words r → r ≢ Err faults.Io
+  end_known rest (Ok u) ends = λ h. cc
+  end_known rest (Err fault) ends = let is = ends.1 in λ h. cc
 
   pub runs_end : (a b b2 c d : Option (List ℕ)) (taken : ℕ) (rest buf : List ℕ) (n : ℕ) (reader_failed writer_failed : Bool) (r : Result (Unit {0}) ToolFault) → reader_failed ≡ false → writer_failed ≡ false → taken ≤ 2 ^ 32
       → Hears piece limits a b taken rest c d → n ≡ 0 → Consumes b b2 (take n buf) × (n ≡ 0 → 0 < length buf → IsAtEnd b2) → 0 < length buf → EndsInput rest limits.message_words r
@@ -145,89 +153,76 @@ module _ (piece : Piece) (limits : Bounds) where
       let known = end_known rest r ends in
       record {
         exact = ends_kept (plans.Each piece limits) a b2 c d bytes false r kept (inr (inr due));
-        io = (λ h. absurd (known.0 h), λ h. absurd (not_failed reader_failed writer_failed reader_fine writer_fine h));
+        io = (λ h. absurd (known h), λ h. absurd (not_failed reader_failed writer_failed reader_fine writer_fine h));
         begun = begins_kept (plans.Each piece limits) a b2 c d bytes false kept (written_front bytes rest false c d told);
-        later = λ h. absurd (known.1 h);
         heard = λ h. absurd (not_failed reader_failed writer_failed reader_fine writer_fine (inl h));
       }
 
   -- a byte past 2^32 was read, behind messages that were served
-  pub due_long : (stream rest : List ℕ) (c d : Option (List ℕ)) → Tells piece limits stream rest c d → IsUnfinished rest limits.message_words → (text : List ℕ) × IsDueEach piece limits stream (Some faults.InputTooLong) text (Err faults.InputTooLong) × Appends c d text
+  pub due_long : (stream rest : List ℕ) (c d : Option (List ℕ)) → Tells piece limits stream rest (sent c) (sent d) → IsUnfinished rest limits.message_words → (text : List ℕ) × IsDueEach piece limits stream (Some faults.InputTooLong) text (Err faults.InputTooLong) × Appends c d text
   due_long stream rest c d told (inl none) = due_open stream rest (Some faults.InputTooLong) (Err faults.InputTooLong) frames.Empty c d told (λ h. cc) none refl
   due_long stream rest c d told (inr cut) = due_open stream rest (Some faults.InputTooLong) (Err faults.InputTooLong) frames.Cut c d told (λ h. cc) cut refl
 
   pub runs_long : (a b b2 c d e : Option (List ℕ)) (taken : ℕ) (rest new buf tail : List ℕ) (w k : ℕ) (reader_failed writer_failed : Bool) → reader_failed ≡ false → writer_failed ≡ false → taken + w ≡ 2 ^ 32 → w < k → taken + k ≤ 2 ^ 32 + 1
-      → Hears piece limits a b taken rest c d → Consumes b b2 (take k buf) → k ≤ length buf → Tells piece limits (rest ++ take w (buf ++ tail)) new d e → IsUnfinished new limits.message_words
+      → Hears piece limits a b taken rest c d → Consumes b b2 (take k buf) → k ≤ length buf → Tells piece limits (rest ++ take w (buf ++ tail)) new (sent d) (sent e) → IsUnfinished new limits.message_words
       → Runs (plans.Each piece limits) a b2 c e reader_failed writer_failed (Err faults.InputTooLong)
   runs_long a b b2 c d e taken rest new buf tail w k reader_failed writer_failed reader_fine writer_fine full past bound (bytes, read, count, told) more within next part =
       let kept = read_past a b b2 bytes buf k w read more within (omega (arith, count, full)) past (omega (arith, count, bound)) in
-      let part_told = subst (λ (p : List ℕ). Tells piece limits (rest ++ p) new d e) (take-append-le w buf tail (omega (arith, past, within))) next in
-      let all = tells_more piece limits bytes rest (take w buf) new c d e told part_told in
+      let part_told = subst (λ (p : List ℕ). Tells piece limits (rest ++ p) new (sent d) (sent e)) (take-append-le w buf tail (omega (arith, past, within))) next in
+      let all = tells_more piece limits bytes rest (take w buf) new (sent c) (sent d) (sent e) told part_told in
       record {
         exact = ends_kept (plans.Each piece limits) a b2 c e (bytes ++ take w buf) true (Err faults.InputTooLong) kept (inr (inr (due_long (bytes ++ take w buf) new c e all part)));
         io = (λ h. absurd (cc), λ h. absurd (not_failed reader_failed writer_failed reader_fine writer_fine h));
         begun = begins_kept (plans.Each piece limits) a b2 c e (bytes ++ take w buf) true kept (written_front (bytes ++ take w buf) new true c e all);
-        later = λ h. absurd (cc);
         heard = λ h. absurd (not_failed reader_failed writer_failed reader_fine writer_fine (inl h));
       }
 
   -- the run stopped within a piece
-  stopped_due : (a b2 c e : Option (List ℕ)) (all s : List ℕ) (failed : Bool) (fault : ToolFault) → Consumes a b2 all → taken_of all ≡ s → Stops piece limits s c e failed fault → IfSome a (PlanEndsAs (plans.Each piece limits) c e (Err fault))
+  stopped_due : (a b2 c e : Option (List ℕ)) (all s : List ℕ) (failed : Bool) (fault : ToolFault) → Consumes a b2 all → taken_of all ≡ s → Stops piece limits s (sent c) (sent e) failed fault → IfSome a (PlanEndsAs (plans.Each piece limits) c e (Err fault))
   stopped_due None b2 c e all s failed fault read is stop = tt
   stopped_due (Some input) None c e all s failed fault read is stop = absurd read
   stopped_due (Some input) (Some left) c e all s failed fault read is stop =
       elim stop.due [
-        inl m ↦ inl (ap (λ (f : ToolFault). Err f) m)
+        | inl m ↦ inl (ap (λ (f : ToolFault). Err f) m)
         | inr rest ↦ elim rest [ inl i ↦ inr (inl (ap (λ (f : ToolFault). Err f) i)) | inr so ↦ inr (inr (due so)) ]
       ]
     where
-      due : IsDueSo piece limits s c e fault → (text : List ℕ) × IsDueEach piece limits (taken_of input) (behind_stream (has_more input)) text (Err fault) × Appends c e text
+      due : IsDueSo piece limits s (sent c) (sent e) fault → (text : List ℕ) × IsDueEach piece limits (taken_of input) (behind_stream (has_more input)) text (Err fault) × Appends c e text
       due so =
           let tail = taken_more all left in
           let front : taken_of input ≡ s ++ tail.0 = ap taken_of read ∙ tail.1 ∙ ap (λ (p : List ℕ). p ++ tail.0) is in
-          subst (λ (p : List ℕ). (text : List ℕ) × IsDueEach piece limits p (behind_stream (has_more input)) text (Err fault) × Appends c e text) (sym front) (so tail.0 (behind_stream (has_more input)))
+          let part = so tail.0 (behind_stream (has_more input)) in
+          (part.0, subst (λ (p : List ℕ). IsDueEach piece limits p (behind_stream (has_more input)) part.0 (Err fault)) (sym front) part.1, adds_sent c e part.0 part.2)
 
   pub runs_stopped : (a b b2 c d e : Option (List ℕ)) (taken : ℕ) (rest buf tail : List ℕ) (w k : ℕ) (reader_failed writer_failed : Bool) (fault : ToolFault) → reader_failed ≡ false → taken ≤ 2 ^ 32 → w ≡ min k (2 ^ 32 - taken) → taken + k ≤ 2 ^ 32 + 1
-      → Hears piece limits a b taken rest c d → Consumes b b2 (take k buf) → k ≤ length buf → Stops piece limits (rest ++ take w (buf ++ tail)) d e writer_failed fault
+      → Hears piece limits a b taken rest c d → Consumes b b2 (take k buf) → k ≤ length buf → Stops piece limits (rest ++ take w (buf ++ tail)) (sent d) (sent e) writer_failed fault
       → Runs (plans.Each piece limits) a b2 c e reader_failed writer_failed (Err fault)
   runs_stopped a b b2 c d e taken rest buf tail w k reader_failed writer_failed fault reader_fine short least bound (bytes, read, count, told) more within stop =
       let all = Consumes-trans a b b2 bytes (take k buf) read more in
       let front = taken_front bytes buf taken w k count short least within in
-      let part = subst (λ (p : List ℕ). Stops piece limits (rest ++ p) d e writer_failed fault) (take-append-le w buf tail (omega (arith, least, within))) stop in
-      let whole = stops_more piece limits bytes rest (take w buf) c d e writer_failed fault told part in
+      let part = subst (λ (p : List ℕ). Stops piece limits (rest ++ p) (sent d) (sent e) writer_failed fault) (take-append-le w buf tail (omega (arith, least, within))) stop in
+      let whole = stops_more piece limits bytes rest (take w buf) (sent c) (sent d) (sent e) writer_failed fault told part in
       record {
         exact = stopped_due a b2 c e (bytes ++ take k buf) (bytes ++ take w buf) writer_failed fault all front whole;
         io = (λ h. inr (whole.io.0 (cc)), λ h. ap (λ (f : ToolFault). Err f) (whole.io.1 (writer_only reader_failed writer_failed reader_fine h)));
-        begun = begins_front a b2 c e (bytes ++ take k buf) (bytes ++ take w buf) all (omega (arith, count, bound, length-append bytes (take k buf), length-take-le k buf within)) front whole.written;
-        later = λ h. absurd (whole.known (cc));
+        begun = begins_front a b2 c e (bytes ++ take k buf) (bytes ++ take w buf) all (omega (arith, count, bound, length-append bytes (take k buf), length-take-le k buf within)) front (stops_front (bytes ++ take w buf) c e writer_failed fault whole);
         heard = λ h. absurd (let f : true ≡ false = sym h ∙ reader_fine in cc);
       }
 
   -- a piece was served
-  pub hears_more : (a b b2 c d e : Option (List ℕ)) (taken : ℕ) (rest new buf tail : List ℕ) (w k : ℕ) → w ≡ k → Hears piece limits a b taken rest c d → Consumes b b2 (take k buf) → k ≤ length buf → Tells piece limits (rest ++ take w (buf ++ tail)) new d e
+  pub hears_more : (a b b2 c d e : Option (List ℕ)) (taken : ℕ) (rest new buf tail : List ℕ) (w k : ℕ) → w ≡ k → Hears piece limits a b taken rest c d → Consumes b b2 (take k buf) → k ≤ length buf → Tells piece limits (rest ++ take w (buf ++ tail)) new (sent d) (sent e)
       → Hears piece limits a b2 (taken + k) new c e
   hears_more a b b2 c d e taken rest new buf tail w k same (bytes, read, count, told) more within next =
-      let front = subst (λ (p : List ℕ). Tells piece limits (rest ++ p) new d e) (take-append-le w buf tail (omega (arith, same, within))) next in
-      let part = subst (λ (i : ℕ). Tells piece limits (rest ++ take i buf) new d e) same front in
-      (bytes ++ take k buf, Consumes-trans a b b2 bytes (take k buf) read more, omega (arith, count, length-append bytes (take k buf), length-take-le k buf within), tells_more piece limits bytes rest (take k buf) new c d e told part)
-
--- a plan that the tool cannot carry out yet
-pub runs_later : (plan : Plan) (a c : Option (List ℕ)) (reader_failed writer_failed : Bool) → plan ≡ plans.Later → reader_failed ≡ false → writer_failed ≡ false → Runs plan a a c c reader_failed writer_failed (Err faults.NotYet)
-runs_later plan a c reader_failed writer_failed is reader_fine writer_fine = rw is (record {
-  exact = ends_later plans.Later a c refl;
-  io = (λ h. absurd (cc), λ h. absurd (not_failed reader_failed writer_failed reader_fine writer_fine h));
-  begun = begins_later plans.Later a c;
-  later = λ h. refl;
-  heard = λ h. tt;
-})
+      let front = subst (λ (p : List ℕ). Tells piece limits (rest ++ p) new (sent d) (sent e)) (take-append-le w buf tail (omega (arith, same, within))) next in
+      let part = subst (λ (i : ℕ). Tells piece limits (rest ++ take i buf) new (sent d) (sent e)) same front in
+      (bytes ++ take k buf, Consumes-trans a b b2 bytes (take k buf) read more, omega (arith, count, length-append bytes (take k buf), length-take-le k buf within), tells_more piece limits bytes rest (take k buf) new (sent c) (sent d) (sent e) told part)
 
 -- a plan that takes its input whole
 pub runs_whole : (plan : Plan) (whole : Whole) (a b c d : Option (List ℕ)) (reader_failed writer_failed : Bool) (r : Result (Unit {0}) ToolFault) → plan ≡ plans.Whole whole → IfSome a (PlanEndsAs (plans.Whole whole) c d r)
-    → (r ≡ Err faults.Io) ↔ ((reader_failed ≡ true) ⊎ (writer_failed ≡ true)) → PlanBegins (plans.Whole whole) a b c d → (r ≡ Err faults.NotYet → plans.Whole whole ≡ plans.Later) → Runs plan a b c d reader_failed writer_failed r
-runs_whole plan whole a b c d reader_failed writer_failed r is exact io begun later = rw is (record {
+    → (r ≡ Err faults.Io) ↔ ((reader_failed ≡ true) ⊎ (writer_failed ≡ true)) → PlanBegins (plans.Whole whole) a b c d → Runs plan a b c d reader_failed writer_failed r
+runs_whole plan whole a b c d reader_failed writer_failed r is exact io begun = rw is (record {
   exact = exact;
   io = io;
   begun = begun;
-  later = later;
   heard = λ h. tt;
 })

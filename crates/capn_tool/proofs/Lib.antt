@@ -4,6 +4,8 @@ pub mod WholeServed
 pub mod RunLaw
 pub mod OneRefusal
 pub mod OneText
+pub mod Sends
+pub mod Verdicts
 pub mod HeardMore
 pub mod HeardNext
 pub mod HeardRun

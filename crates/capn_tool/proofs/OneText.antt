@@ -30,7 +30,7 @@ use Rattle.capn_canon.specs.declared.refusal.Refusal.{Refusal}
 use Rattle.capn_canon.specs.declared.refusal.Refusal.TheVariants as refusals
 use Rattle.capn_canon.proofs.Answered.{answers_only}
 use Rattle.capn_canon.proofs.NotRefused.{accepted-not_refused, not_refused}
-use Rattle.capn_tool.specs.Pieces.{IsPiece, IsNoPiece, IsStopped, digest_line}
+use Rattle.capn_tool.specs.Pieces.{AreCanonical, IsPiece, IsBarePiece, IsNoPiece, IsStopped, digest_line}
 use Rattle.capn_tool.specs.Wholes.{Makes, MakesNothing}
 use Rattle.capn_tool.specs.Streams.{Part, IsPart, frames_of, texts_of, end_of, EndsUnframed, EndsRefused, IsDueEach, behind_packed, behind_stream}
 use Rattle.capn_pack.proofs.SplitLaws.{one_split}
@@ -81,6 +81,22 @@ module _ (message : List (List ℕ)) (limits : Bounds) where
   one_no_piece kinds.Price f g h k = stops_same f g h k
   one_no_piece kinds.Digest f g (r, e, n, h) (s, i, o, k) = e ∙ ap (λ (x : Refusal). faults.Refused x) (one_message_refusal message 1 limits r s n o h k) ∙ sym i
 
+module _ (words : List ℕ) (limits : Bounds) where
+  one_bare_piece : (piece : Piece) (t u : List ℕ) → IsBarePiece piece words limits t → IsBarePiece piece words limits u → t ≡ u
+  one_bare_piece kinds.Text t u h k = one_piece (words ∷ []) limits kinds.Text t u h k
+  one_bare_piece kinds.Price t u (v, is, inl (so, e)) (w, also, inl (also_so, f)) = e ∙ sym f
+  one_bare_piece kinds.Price t u (v, is, inl (so, e)) (w, also, inr (never, f)) =
+      absurd (never (subst (λ (x : Tree). AreCanonical x words) (unique (words ∷ []) v w root is.is also.is) so))
+  one_bare_piece kinds.Price t u (v, is, inr (never, e)) (w, also, inl (so, f)) =
+      absurd (never (subst (λ (x : Tree). AreCanonical x words) (unique (words ∷ []) w v root also.is is.is) so))
+  one_bare_piece kinds.Price t u (v, is, inr (never, e)) (w, also, inr (neither, f)) = e ∙ sym f
+  one_bare_piece kinds.Digest t u h k = one_piece (words ∷ []) limits kinds.Digest t u h k
+
+  bare_or_none : (piece : Piece) (t : List ℕ) (fault : ToolFault) → IsBarePiece piece words limits t → IsNoPiece piece (words ∷ []) limits fault → ⊥
+  bare_or_none kinds.Text t fault h k = piece_or_none (words ∷ []) limits kinds.Text t fault h k
+  bare_or_none kinds.Price t fault (v, is, line) k = no_stop (words ∷ []) limits v fault is k
+  bare_or_none kinds.Digest t fault h k = piece_or_none (words ∷ []) limits kinds.Digest t fault h k
+
 -- ---- an input that is taken whole
 
 same_words : (bytes ws vs : List ℕ) → IsBare bytes ws → IsBare bytes vs → ws ≡ vs
@@ -95,7 +111,7 @@ one_made (wholes.Unpacked most) bytes t u h k = one_reading bytes t u h.0 k.0
 one_made (wholes.Canonical form limits) bytes t u (p, a) (q, b) =
     answers_only form bytes limits t p a b.answer.value (denoted form bytes limits u q b) ∙ sym b.answer.canonical
 one_made (wholes.Bare piece limits) bytes t u (ws, h, i) (vs, k, j) =
-    one_piece (vs ∷ []) limits piece t u (subst (λ (x : List ℕ). IsPiece piece (x ∷ []) limits t) (same_words bytes ws vs h k) i) j
+    one_bare_piece vs limits piece t u (subst (λ (x : List ℕ). IsBarePiece piece x limits t) (same_words bytes ws vs h k) i) j
 
 made_or_none : (whole : Whole) (bytes t : List ℕ) (fault : ToolFault) → Makes whole bytes t → MakesNothing whole bytes fault → ⊥
 made_or_none wholes.Packed bytes t fault h k = k.0 (chosen_whole t bytes h)
@@ -104,7 +120,7 @@ made_or_none (wholes.Canonical form limits) bytes t fault (p, a) (r, f, n, k) =
     n (not_refused form bytes 1 limits a.answer.value r (denoted form bytes limits t p a) a.answer.free k)
 made_or_none (wholes.Bare piece limits) bytes t fault (ws, h, i) (inl (e, f, k)) = bare_not_misread bytes ws e h k
 made_or_none (wholes.Bare piece limits) bytes t fault (ws, h, i) (inr (vs, k, j)) =
-    piece_or_none (vs ∷ []) limits piece t fault (subst (λ (x : List ℕ). IsPiece piece (x ∷ []) limits t) (same_words bytes ws vs h k) i) j
+    bare_or_none vs limits piece t fault (subst (λ (x : List ℕ). IsBarePiece piece x limits t) (same_words bytes ws vs h k) i) j
 
 one_nothing : (whole : Whole) (bytes : List ℕ) (f g : ToolFault) → MakesNothing whole bytes f → MakesNothing whole bytes g → f ≡ g
 one_nothing wholes.Packed bytes f g h k = h.1 ∙ sym k.1
@@ -197,7 +213,6 @@ one_due (plans.Packed piece limits) bytes is_longer t u r s h k =
     let second = subst (λ (xs : List ℕ). IsDueEach piece limits k.words (behind_packed is_longer xs h.at) t r) same.0 first in
     let third = subst (λ (n : ℕ). IsDueEach piece limits k.words (behind_packed is_longer k.group n) t r) same.1.1 second in
     one_due_each piece limits (behind_packed is_longer k.group k.at) k.words t u r s third k.due
-one_due plans.Later bytes is_longer t u r s h k = (h.0 ∙ sym k.0, h.1 ∙ sym k.1)
 
 -- a run that ended as is due ended so, and wrote that text, whichever is due
 ends_by : (command : Command) (old new : Option (List ℕ)) (r : Result (Unit {0}) ToolFault) (input t : List ℕ) (s : Result (Unit {0}) ToolFault) → EndsAs command old new r input → IsText command input t s → EndsBy t s old new r

@@ -17,7 +17,6 @@ front_none : (plan : Plan) (bytes : List ℕ) (is_longer : Bool) → IsFront pla
 front_none (plans.Whole whole) bytes is_longer = inl refl
 front_none (plans.Each piece limits) bytes is_longer = ([], bytes, record { each = tt; is = refl }, refl)
 front_none (plans.Packed piece limits) bytes is_longer = ([], [], [], record { groups = []; rest = bytes; each = tt; text = refl; content = refl }, record { each = tt; is = refl }, refl)
-front_none plans.Later bytes is_longer = refl
 
 -- nothing was written
 pub begins_none : (plan : Plan) (old new writer : Option (List ℕ)) → HasRead old new (λ n. n ≤ 2 ^ 32 + 1) → PlanBegins plan old new writer writer
@@ -58,18 +57,6 @@ pub ends_unread : (plan : Plan) (old writer written : Option (List ℕ)) (fault 
 ends_unread plan None writer written fault h = tt
 ends_unread plan (Some all) writer written fault (inl m) = inl (ap (λ (f : ToolFault). Err f) m)
 ends_unread plan (Some all) writer written fault (inr e) = inr (inl (ap (λ (f : ToolFault). Err f) e))
-
--- the command comes later
-pub ends_later : (plan : Plan) (old writer : Option (List ℕ)) → plans.Later ≡ plan → IfSome old (PlanEndsAs plan writer writer (Err faults.NotYet))
-ends_later plan None writer e = tt
-ends_later plan (Some all) writer e =
-    subst (λ (p : Plan). HasEnded p (taken_of all) (has_more all) writer writer (Err faults.NotYet)) e (inr (inr ([], (refl, refl), Appends-nil writer)))
-
-pub begins_later : (plan : Plan) (old writer : Option (List ℕ)) → PlanBegins plan old old writer writer
-begins_later plan old writer = begins_none plan old old writer ([], Consumes-nil old, short)
-  where
-    short : 0 ≤ 2 ^ 32 + 1
-    short = lit≤ tt
 
 -- a run of a plan is one of the command whose plan it is
 pub ends_planned : (plan other : Plan) (known old new : Option (List ℕ)) (r : Result (Unit {0}) ToolFault) → plan ≡ other → IfSome known (PlanEndsAs plan old new r) → IfSome known (PlanEndsAs other old new r)

@@ -19,19 +19,18 @@ use Rattle.capn_canon.specs.declared.refusal.Refusal.{Refusal}
 use Rattle.capn_tool.specs.declared.fault.ToolFault.{ToolFault}
 use Rattle.capn_tool.specs.declared.fault.ToolFault.TheVariants as faults
 
--- a fault that a lower call told is neither of the reader's and writer's nor that of a command that comes later
+-- a fault that a lower call told is none of the reader's and writer's
 pub record IsTold (fault : ToolFault) : Type 0 where
   pub no_io : fault ≡ faults.Io → ⊥
-  pub no_later : fault ≡ faults.NotYet → ⊥
 
 pub told_memory : (fault : ToolFault) → fault ≡ faults.Memory → IsTold fault
-told_memory fault e = record { no_io = λ h. cc; no_later = λ h. cc }
+told_memory fault e = record { no_io = λ h. cc }
 
 pub told_refused : (fault : ToolFault) (r : Refusal) → fault ≡ faults.Refused r → IsTold fault
-told_refused fault r e = record { no_io = λ h. cc; no_later = λ h. cc }
+told_refused fault r e = record { no_io = λ h. cc }
 
 told_not_whole : (fault : ToolFault) (n : ℕ) → fault ≡ faults.NotWhole n → IsTold fault
-told_not_whole fault n e = record { no_io = λ h. cc; no_later = λ h. cc }
+told_not_whole fault n e = record { no_io = λ h. cc }
 
 -- why a message has no piece is told,
 pub told_piece : (piece : Piece) (message : List (List ℕ)) (limits : Bounds) (fault : ToolFault) → IsNoPiece piece message limits fault → IsTold fault
@@ -62,13 +61,11 @@ served_wrote whole bytes text old new failed (Ok u) makes wrote begun io only = 
   ended = inr (inr (text, makes, wrote));
   written = (text, begun.0, inr makes, begun.1);
   io = io;
-  later = λ e. absurd (cc);
 }
 served_wrote whole bytes text old new failed (Err fault) makes wrote begun io only = record {
   ended = inr (inl (ap (λ (f : ToolFault). Err f) only));
   written = (text, begun.0, inr makes, begun.1);
   io = io;
-  later = λ e. absurd (cc);
 }
 
 -- nothing is made of the input
@@ -78,7 +75,6 @@ served_nothing whole bytes old failed fault fine h = record {
   ended = ended h;
   written = ([], 0, inl refl, Appends-nil old);
   io = (λ e. absurd (told.no_io (cc)), λ e. absurd (cc));
-  later = λ e. absurd (told.no_later (cc));
 }
   where
     told : IsTold fault
@@ -101,15 +97,4 @@ served_longer whole bytes true old failed e fine = record {
   ended = inr (inr ([], (refl, refl), Appends-nil old));
   written = ([], 0, inl refl, Appends-nil old);
   io = (λ h. absurd (cc), λ h. absurd (cc));
-  later = λ h. absurd (cc);
-}
-
--- a plan that the tool cannot carry out yet
-pub served_later : (bytes : List ℕ) (is_longer : Bool) (old : Option (List ℕ)) (failed : Bool) → failed ≡ false
-    → Served plans.Later bytes is_longer old old failed (Err faults.NotYet)
-served_later bytes is_longer old failed fine = record {
-  ended = inr (inr ([], (refl, refl), Appends-nil old));
-  written = ([], 0, refl, Appends-nil old);
-  io = (λ h. absurd (cc), λ h. absurd (cc));
-  later = λ h. refl;
 }

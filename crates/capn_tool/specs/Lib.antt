@@ -3,6 +3,7 @@ pub mod Pieces
 pub mod Wholes
 pub mod Streams
 pub mod Text
+pub mod Sending
 pub mod Served
 pub mod Heard
 pub mod HeardPacked

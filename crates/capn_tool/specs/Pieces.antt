@@ -1,14 +1,17 @@
 -- What is written of one message, and why nothing is. (Own.)
-use Rattle.std.specs.Prelude.{◌≡◌, ◌≢◌, ◌⊎◌, ℕ, List, [], ◌∷◌, ◌++◌, codes, Result, Ok, Err, Vec}
+use Rattle.std.specs.Prelude.{◌≡◌, ◌≢◌, ◌⊎◌, ℕ, List, [], ◌∷◌, ◌++◌, codes, Option, None, Result, Ok, Err}
 use Rattle.std.specs.Fmt.{decimal}
 use Rattle.sha2.specs.Sha256.{sha256}
 use Rattle.hex.specs.Hex.{encode_lower}
 use Rattle.capn_value.specs.Tree.{Tree}
+use Rattle.capn_words.specs.Words.{bytes}
 use Rattle.capn_value.specs.Text.{show_text}
+use Rattle.capn_value.specs.Caps.{first_cap}
 use Rattle.capn_walk.specs.Limits.{Bounds}
 use Rattle.capn_walk.specs.Denotes.{IsValueOf, paid, number_of_visits}
 use Rattle.capn_walk.specs.Denotes as walks
 use Rattle.capn_walk.specs.declared.walked.Stopped.{Stopped}
+use Rattle.capn_canon.specs.Layout.{canon}
 use Rattle.capn_canon.specs.Answers.{AnswersMessage}
 use Rattle.capn_canon.specs.Refused.{IsRefusedMessage}
 use Rattle.capn_canon.specs.declared.refusal.Refusal.{Refusal}
@@ -18,13 +21,17 @@ use Rattle.capn_tool.specs.declared.plan.Piece.TheVariants as kinds
 use Rattle.capn_tool.specs.declared.fault.ToolFault.{ToolFault}
 use Rattle.capn_tool.specs.declared.fault.ToolFault.TheVariants as faults
 
+-- a price and a number of visits, and what ends their line
+abbrev pub priced : ℕ → ℕ → List ℕ → List ℕ
+priced price visits behind = codes "ok paid " ++ decimal price ++ codes " visits " ++ decimal visits ++ behind
+
 -- the line of a price and a number of visits
 abbrev pub price_line : ℕ → ℕ → List ℕ
-price_line price visits = codes "ok paid " ++ decimal price ++ codes " visits " ++ decimal visits ++ 10 ∷ []
+price_line price visits = priced price visits (10 ∷ [])
 
 -- the line of a digest: 64 lower-case hexadecimal digits
 abbrev pub digest_line : List ℕ → List ℕ
-digest_line bytes = encode_lower (sha256 bytes) ++ 10 ∷ []
+digest_line text = encode_lower (sha256 text) ++ 10 ∷ []
 
 -- What is written of a message that is accepted within the limits: the text of its value, and a line `end`; the line of
 -- its price; or the line of the digest of its canonical bytes.
@@ -34,7 +41,7 @@ IsPiece kinds.Text message limits text =
 IsPiece kinds.Price message limits text =
     (v : Tree) × IsValueOf message 1 limits.budget limits.depth v × (text ≡ price_line (paid message 1 limits.depth) (number_of_visits message 1 limits.depth))
 IsPiece kinds.Digest message limits text =
-    (bytes : List ℕ) × (price : ℕ) × AnswersMessage message 1 limits bytes price × (text ≡ digest_line bytes)
+    (answer : List ℕ) × (price : ℕ) × AnswersMessage message 1 limits answer price × (text ≡ digest_line answer)
 
 -- the walk of the message is refused so
 abbrev pub IsStopped : List (List ℕ) → Bounds → ToolFault → Type 0
@@ -48,7 +55,38 @@ IsNoPiece kinds.Price message limits fault = IsStopped message limits fault
 IsNoPiece kinds.Digest message limits fault =
     (r : Refusal) × (fault ≡ faults.Refused r) × (r ≢ refusals.Memory) × IsRefusedMessage message 1 limits r
 
--- a call gave the piece, or told why there is none, but for want of memory
-abbrev pub GivesPiece : {A : Type 0} → Piece → List (List ℕ) → Bounds → Result (Vec ℕ A) ToolFault → Type 0
-GivesPiece piece message limits (Ok text) = IsPiece piece message limits text.items
-GivesPiece piece message limits (Err fault) = (fault ≡ faults.Memory) ⊎ IsNoPiece piece message limits fault
+-- the bytes of the words are the canonical bytes of the value, which has no capability
+abbrev pub AreCanonical : Tree → List ℕ → Type 0
+AreCanonical v words = (first_cap v ≡ None) × (canon v ≡ bytes words)
+
+-- What is written of the one bare message of these words: as of any message, but the line of its price has one word more,
+-- which tells whether the words are canonical.
+abbrev pub IsBarePiece : Piece → List ℕ → Bounds → List ℕ → Type 0
+IsBarePiece kinds.Text words limits text = IsPiece kinds.Text (words ∷ []) limits text
+IsBarePiece kinds.Price words limits text =
+    (v : Tree) × IsValueOf (words ∷ []) 1 limits.budget limits.depth v
+    × ((AreCanonical v words × (text ≡ priced (paid (words ∷ []) 1 limits.depth) (number_of_visits (words ∷ []) 1 limits.depth) (codes " canonical" ++ 10 ∷ [])))
+    ⊎ ((AreCanonical v words → ⊥) × (text ≡ priced (paid (words ∷ []) 1 limits.depth) (number_of_visits (words ∷ []) 1 limits.depth) (codes " not-canonical" ++ 10 ∷ []))))
+IsBarePiece kinds.Digest words limits text = IsPiece kinds.Digest (words ∷ []) limits text
+
+-- a call appended the piece to a text; or it told why there is none, but for want of memory, and left the text as it was
+abbrev pub PutsPiece : Piece → List (List ℕ) → Bounds → List ℕ → List ℕ → Result (Unit {0}) ToolFault → Type 0
+PutsPiece piece message limits old new (Ok u) = (text : List ℕ) × IsPiece piece message limits text × (new ≡ old ++ text)
+PutsPiece piece message limits old new (Err fault) =
+    ((fault ≡ faults.Memory) ⊎ IsNoPiece piece message limits fault) × (new ≡ old)
+
+-- the same of the one bare message
+abbrev pub PutsBarePiece : Piece → List ℕ → Bounds → List ℕ → List ℕ → Result (Unit {0}) ToolFault → Type 0
+PutsBarePiece piece words limits old new (Ok u) = (text : List ℕ) × IsBarePiece piece words limits text × (new ≡ old ++ text)
+PutsBarePiece piece words limits old new (Err fault) =
+    ((fault ≡ faults.Memory) ⊎ IsNoPiece piece (words ∷ []) limits fault) × (new ≡ old)
+
+-- a line was appended to a text, or, for want of memory, nothing
+abbrev pub PutsLine : List ℕ → List ℕ → List ℕ → Result (Unit {0}) ToolFault → Type 0
+PutsLine line old new (Ok u) = new ≡ old ++ line
+PutsLine line old new (Err fault) = (fault ≡ faults.Memory) × (new ≡ old)
+
+-- a line was appended to a text, or, for want of memory, something
+abbrev pub PutsFront : {E : Type 0} → List ℕ → List ℕ → List ℕ → Result (Unit {0}) E → Type 0
+PutsFront line old new (Ok u) = new ≡ old ++ line
+PutsFront line old new (Err e) = (some : List ℕ) × (new ≡ old ++ some)

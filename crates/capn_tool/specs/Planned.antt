@@ -10,7 +10,7 @@ use Rattle.capn_tool.specs.declared.plan.Whole.TheVariants as wholes
 use Rattle.capn_tool.specs.declared.plan.Plan.{Plan}
 use Rattle.capn_tool.specs.declared.plan.Plan.TheVariants as plans
 
--- a piece of each message: the one bare message that the input is, or the messages of a stream; packed ones come later
+-- a piece of each message: the one bare message that the input is, or the messages of a stream, packed or not
 abbrev pub pieces_of : Piece → Form → Bounds → Plan
 pieces_of piece forms.Bare limits = plans.Whole (wholes.Bare piece limits)
 pieces_of piece forms.Stream limits = plans.Each piece limits

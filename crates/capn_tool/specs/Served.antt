@@ -1,9 +1,9 @@
 -- What was written for bytes that have been read.
-use Rattle.std.specs.Prelude.{◌≡◌, ◌⊎◌, ◌↔◌, ℕ, List, [], take, Bool, true, false, Option, Result, Ok, Err}
-use Rattle.std.specs.Io.KnownBytes.{Appends}
+use Rattle.std.specs.Prelude.{◌≡◌, ◌⊎◌, ◌↔◌, ℕ, List, [], Bool, true, false, Option, Result, Ok, Err}
 use Rattle.capn_walk.specs.Limits.{Bounds}
 use Rattle.capn_tool.specs.Pieces.{IsPiece, IsNoPiece}
 use Rattle.capn_tool.specs.Text.{HasEnded, HasWritten}
+use Rattle.capn_tool.specs.Sending.{Outgoing, Adds, Breaks}
 use Rattle.capn_tool.specs.declared.plan.Piece.{Piece}
 use Rattle.capn_tool.specs.declared.plan.Plan.{Plan}
 use Rattle.capn_tool.specs.declared.plan.Plan.TheVariants as plans
@@ -15,13 +15,11 @@ pub record Served (plan : Plan) (bytes : List ℕ) (is_longer : Bool) (old new :
   pub ended : HasEnded plan bytes is_longer old new ending
   pub written : HasWritten plan bytes is_longer old new
   pub io : (ending ≡ Err faults.Io) ↔ (failed ≡ true)
-  pub later : ending ≡ Err faults.NotYet → plan ≡ plans.Later
 
--- the piece of a message was written; or nothing, since there is none or memory was refused; or a beginning of it, since
--- the writer failed
-abbrev pub WritesPiece : Piece → List (List ℕ) → Bounds → Option (List ℕ) → Option (List ℕ) → Bool → Result (Unit {0}) ToolFault → Type 0
-WritesPiece piece message limits old new failed (Ok u) =
-    (text : List ℕ) × IsPiece piece message limits text × Appends old new text × (failed ≡ false)
-WritesPiece piece message limits old new failed (Err fault) =
-    (((fault ≡ faults.Memory) ⊎ IsNoPiece piece message limits fault) × Appends old new [] × (failed ≡ false))
-    ⊎ ((text : List ℕ) × (count : ℕ) × (fault ≡ faults.Io) × (failed ≡ true) × IsPiece piece message limits text × Appends old new (take count text))
+-- the piece of a message was added; or nothing, since there is none or memory was refused; or the writer failed within it
+abbrev pub AddsPiece : Piece → List (List ℕ) → Bounds → Outgoing → Outgoing → Bool → Result (Unit {0}) ToolFault → Type 0
+AddsPiece piece message limits old new failed (Ok u) =
+    (text : List ℕ) × IsPiece piece message limits text × Adds old new text × (failed ≡ false)
+AddsPiece piece message limits old new failed (Err fault) =
+    (((fault ≡ faults.Memory) ⊎ IsNoPiece piece message limits fault) × Adds old new [] × (failed ≡ false))
+    ⊎ ((text : List ℕ) × (count : ℕ) × (fault ≡ faults.Io) × (failed ≡ true) × IsPiece piece message limits text × Breaks old new count text)

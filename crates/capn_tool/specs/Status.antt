@@ -13,7 +13,6 @@ status_of (Err faults.Io) = 3
 status_of (Err faults.InputTooLong) = 3
 status_of (Err (faults.NotWhole n)) = 1
 status_of (Err (faults.Refused refusal)) = 1
-status_of (Err faults.NotYet) = 1
 
 -- where the words of the command line order nothing: 3 for want of memory, 0 for a wish for help, 2 for any other (own)
 abbrev pub usage_status_of : ErrorKind → ℕ

@@ -31,15 +31,10 @@ abbrev pub IsDue : Plan → List ℕ → Bool → List ℕ → Result (Unit {0})
 IsDue (plans.Whole whole) bytes is_longer text ending = IsDueWhole whole bytes is_longer text ending
 IsDue (plans.Each piece limits) bytes is_longer text ending = IsDueEach piece limits bytes (behind_stream is_longer) text ending
 IsDue (plans.Packed piece limits) bytes is_longer text ending = IsDuePacked piece limits bytes is_longer text ending
-IsDue plans.Later bytes is_longer text ending = (text ≡ []) × (ending ≡ Err faults.NotYet)
 
 -- the text that a run writes for its input, and how it ends
 abbrev pub IsText : Command → List ℕ → List ℕ → Result (Unit {0}) ToolFault → Type 0
 IsText command input text ending = IsDue (plan_of command) (taken_of input) (has_more input) text ending
-
--- the tool cannot carry the command out yet
-abbrev pub IsLater : Command → Type 0
-IsLater command = plan_of command ≡ plans.Later
 
 -- a run has written what is due and ended as is due, but for want of memory and a reader or writer that failed
 abbrev pub HasEnded : Plan → List ℕ → Bool → Option (List ℕ) → Option (List ℕ) → Result (Unit {0}) ToolFault → Type 0
@@ -64,7 +59,6 @@ IsFront (plans.Whole whole) bytes is_longer text = (text ≡ []) ⊎ IsDueWhole 
 IsFront (plans.Each piece limits) bytes is_longer text = (parts : List Part) × (rest : List ℕ) × AreParts piece limits bytes parts rest × (text ≡ texts_of parts)
 IsFront (plans.Packed piece limits) bytes is_longer text =
     (words : List ℕ) × (parts : List Part) × (rest : List ℕ) × packs.Begins bytes [] words × AreParts piece limits words parts rest × (text ≡ texts_of parts)
-IsFront plans.Later bytes is_longer text = text ≡ []
 
 -- a beginning of the text of these bytes was written
 abbrev pub HasWritten : Plan → List ℕ → Bool → Option (List ℕ) → Option (List ℕ) → Type 0

@@ -11,7 +11,7 @@ use Rattle.capn_canon.specs.Answers.{Answers}
 use Rattle.capn_canon.specs.Refused.{IsRefused}
 use Rattle.capn_canon.specs.declared.refusal.Refusal.{Refusal}
 use Rattle.capn_canon.specs.declared.refusal.Refusal.TheVariants as refusals
-use Rattle.capn_tool.specs.Pieces.{IsPiece, IsNoPiece}
+use Rattle.capn_tool.specs.Pieces.{IsBarePiece, IsNoPiece}
 use Rattle.capn_tool.specs.declared.plan.Whole.{Whole}
 use Rattle.capn_tool.specs.declared.plan.Whole.TheVariants as wholes
 use Rattle.capn_tool.specs.declared.fault.ToolFault.{ToolFault}
@@ -23,7 +23,7 @@ abbrev pub Makes : Whole → List ℕ → List ℕ → Type 0
 Makes wholes.Packed bytes text = Chosen text bytes
 Makes (wholes.Unpacked most) bytes text = Packs bytes text × (length text ≤ 8 * most)
 Makes (wholes.Canonical form limits) bytes text = (price : ℕ) × Answers form bytes 1 limits text price
-Makes (wholes.Bare piece limits) bytes text = (words : List ℕ) × IsBare bytes words × IsPiece piece (words ∷ []) limits text
+Makes (wholes.Bare piece limits) bytes text = (words : List ℕ) × IsBare bytes words × IsBarePiece piece words limits text
 
 -- Why nothing is: the bytes are no whole words; they pack no words, or more; they have no canonical bytes in the form; or
 -- they are no bare message, or one that has no piece.

@@ -9,14 +9,14 @@ use capn_pack::UnpackFault;
 use capn_walk::Stopped;
 use std::alloc::Allocator;
 
-/// The exit status of a run: 0 where it is done, 1 where the input is refused or cannot be taken yet, 3 where memory,
-/// the reader or the writer failed or the input is too long.
+/// The exit status of a run: 0 where it is done, 1 where the input is refused, 3 where memory, the reader or the
+/// writer failed or the input is too long.
 pub fn status(outcome: &Result<(), ToolFault>) -> u8
     ensures { result ≡ status_of outcome.now }
 {
     match outcome {
         Ok(()) => 0,
-        Err(ToolFault::NotWhole(_) | ToolFault::Refused(_) | ToolFault::NotYet) => 1,
+        Err(ToolFault::NotWhole(_) | ToolFault::Refused(_)) => 1,
         Err(ToolFault::Memory | ToolFault::Io | ToolFault::InputTooLong) => 3,
     }
 }
@@ -29,7 +29,6 @@ pub fn fault_text<A: Allocator>(alloc: A, fault: &ToolFault) -> Result<String<A>
         ToolFault::InputTooLong => String::from_str(alloc, "input too long")?,
         ToolFault::NotWhole(length) => format!(in alloc; "NotWhole({length})")?,
         ToolFault::Refused(refusal) => refusal_text(alloc, refusal)?,
-        ToolFault::NotYet => String::from_str(alloc, "not yet")?,
     };
     Ok(text)
 }

@@ -35,9 +35,6 @@ pub enum ToolFault {
     /// The input has no answer.
     #[error("Refused")]
     Refused(Refusal),
-    /// The input is of a kind that the tool cannot take yet.
-    #[error("NotYet")]
-    NotYet,
 }
 
 impl From<AllocError> for ToolFault {

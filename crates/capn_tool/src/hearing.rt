@@ -1,18 +1,21 @@
-//! A stream of messages that is read in pieces, of each of which the messages are served before the next is read.
+//! A stream of messages that is read in pieces: what is due for the messages of one is written at once, before the next
+//! is read.
 
-ghost use Rattle.std.specs.Prelude.{◌≡◌, ◌≤◌, ◌^◌, false};
+ghost use Rattle.std.specs.Prelude.{◌≡◌, ◌⊎◌, ◌≤◌, ◌^◌, [], length, false, IfOk};
 ghost use Rattle.capn_words.specs.Watching.{inner_of, has_failed};
 ghost use Rattle.capn_stream.specs.Framing.{IsUnfinished};
 ghost use Rattle.capn_tool.specs.Heard as spec;
-ghost use Rattle.capn_tool.specs.Heard.{EndsInput, Runs, Serves, ServesNext};
+ghost use Rattle.capn_tool.specs.Heard.{EndsInput, Runs, Serves, ServesNext, ServesWhole};
+ghost use Rattle.capn_tool.specs.Sending.{outgoing, sent};
 ghost use Rattle.capn_tool.specs.declared.plan.Plan.TheVariants as plans;
 
-use crate::each::write_piece;
+use crate::each::add_piece;
 use crate::fault::ToolFault;
 use crate::input::{MOST_BYTES, PIECE};
+use crate::output::send_rest;
 use crate::plan::Piece;
 use capn_canon::Refusal;
-use capn_stream::{FrameFault, Framer};
+use capn_stream::{FrameFault, Framer, first};
 use capn_walk::Limits;
 use capn_words::Watched;
 use std::alloc::Allocator;
@@ -28,26 +31,29 @@ fn fault_of(fault: FrameFault) -> ToolFault
     }
 }
 
-/// Takes bytes up to the end of a message, and writes its piece. Answers how many bytes it took.
+/// Takes bytes up to the end of a message, and adds its piece. Answers how many bytes it took: all of them, or none is held
+/// any more.
 fn serve_next<W: Write, A: Allocator + Copy>(
     alloc: A,
     piece: Piece,
     limits: Limits,
     framer: &mut Framer<A>,
     bytes: &[u8],
+    text: &mut Vec<u8, A>,
     writer: &mut Watched<W>,
 ) -> Result<usize, ToolFault>
     requires fine { has_failed writer.old ≡ false }
     requires good { framer.old.failed ≡ false }
     requires part { IsUnfinished framer.old.rest framer.old.most }
     requires most { framer.old.most ≡ limits.message_words }
-    ensures { ServesNext piece limits framer.old bytes.now (W.contents (inner_of writer.old)) (W.contents (inner_of writer.new))
-        (has_failed writer.new) result framer.new }
+    ensures serves { ServesNext piece limits framer.old bytes.now (outgoing (W.contents (inner_of writer.old)) text.old.items)
+        (outgoing (W.contents (inner_of writer.new)) text.new.items) (has_failed writer.new) result framer.new }
+    ensures whole { IfOk result (λ n. (n ≡ length bytes.now) ⊎ (framer.new.rest ≡ [])) }
 {
     match framer.feed(bytes) {
         Ok(taken) => {
             if let Some(message) = framer.take() {
-                write_piece(alloc, piece, &message, limits, writer)?;
+                add_piece(alloc, piece, &message, limits, text, writer)?;
             }
             Ok(taken)
         }
@@ -55,27 +61,102 @@ fn serve_next<W: Write, A: Allocator + Copy>(
     }
 }
 
-/// Writes the pieces of all messages that these bytes make whole.
+/// Adds the pieces of the messages that lie whole in these bytes, of which no byte is copied. Answers how many bytes they
+/// take. Why no other follows is for the framer to say.
+fn serve_whole<W: Write, A: Allocator + Copy>(
+    alloc: A,
+    piece: Piece,
+    limits: Limits,
+    bytes: &[u8],
+    text: &mut Vec<u8, A>,
+    writer: &mut Watched<W>,
+) -> Result<usize, ToolFault>
+    requires fine { has_failed writer.old ≡ false }
+    ensures { ServesWhole piece limits bytes.now (outgoing (W.contents (inner_of writer.old)) text.old.items)
+        (outgoing (W.contents (inner_of writer.new)) text.new.items) (has_failed writer.new) result }
+{
+    let mut at = 0;
+    while at < bytes.len() {
+        match first(alloc, &bytes[at..], limits.message_words()) {
+            Ok((message, taken)) => {
+                add_piece(alloc, piece, &message, limits, text, writer)?;
+                at += taken;
+            }
+            Err(_) => return Ok(at),
+        }
+    }
+    Ok(at)
+}
+
+/// Adds the pieces of the message that has begun and of those that follow it whole. Answers how many bytes it took.
+fn serve_some<W: Write, A: Allocator + Copy>(
+    alloc: A,
+    piece: Piece,
+    limits: Limits,
+    framer: &mut Framer<A>,
+    bytes: &[u8],
+    text: &mut Vec<u8, A>,
+    writer: &mut Watched<W>,
+) -> Result<usize, ToolFault>
+    requires fine { has_failed writer.old ≡ false }
+    requires good { framer.old.failed ≡ false }
+    requires part { IsUnfinished framer.old.rest framer.old.most }
+    requires most { framer.old.most ≡ limits.message_words }
+    ensures { ServesNext piece limits framer.old bytes.now (outgoing (W.contents (inner_of writer.old)) text.old.items)
+        (outgoing (W.contents (inner_of writer.new)) text.new.items) (has_failed writer.new) result framer.new }
+{
+    let taken = serve_next(alloc, piece, limits, framer, bytes, text, writer)?;
+    if taken == bytes.len() {
+        return Ok(taken);
+    }
+    let more = serve_whole(alloc, piece, limits, &bytes[taken..], text, writer)?;
+    Ok(taken + more)
+}
+
+/// Adds the pieces of all messages that these bytes make whole.
 pub(crate) fn serve_bytes<W: Write, A: Allocator + Copy>(
     alloc: A,
     piece: Piece,
     limits: Limits,
     framer: &mut Framer<A>,
     bytes: &[u8],
+    text: &mut Vec<u8, A>,
     writer: &mut Watched<W>,
 ) -> Result<(), ToolFault>
     requires fine { has_failed writer.old ≡ false }
     requires good { framer.old.failed ≡ false }
     requires part { IsUnfinished framer.old.rest framer.old.most }
     requires most { framer.old.most ≡ limits.message_words }
-    ensures { Serves piece limits framer.old bytes.now (W.contents (inner_of writer.old)) (W.contents (inner_of writer.new))
-        (has_failed writer.new) result framer.new }
+    ensures { Serves piece limits framer.old bytes.now (outgoing (W.contents (inner_of writer.old)) text.old.items)
+        (outgoing (W.contents (inner_of writer.new)) text.new.items) (has_failed writer.new) result framer.new }
 {
     let mut at = 0;
     while at < bytes.len() {
-        at += serve_next(alloc, piece, limits, framer, &bytes[at..], writer)?;
+        at += serve_some(alloc, piece, limits, framer, &bytes[at..], text, writer)?;
     }
     Ok(())
+}
+
+/// Writes the pieces of all messages that these bytes make whole. The text is room for them.
+fn serve_piece<W: Write, A: Allocator + Copy>(
+    alloc: A,
+    piece: Piece,
+    limits: Limits,
+    framer: &mut Framer<A>,
+    bytes: &[u8],
+    text: &mut Vec<u8, A>,
+    writer: &mut Watched<W>,
+) -> Result<(), ToolFault>
+    requires fine { has_failed writer.old ≡ false }
+    requires good { framer.old.failed ≡ false }
+    requires part { IsUnfinished framer.old.rest framer.old.most }
+    requires most { framer.old.most ≡ limits.message_words }
+    ensures { Serves piece limits framer.old bytes.now (sent (W.contents (inner_of writer.old))) (sent (W.contents (inner_of writer.new)))
+        (has_failed writer.new) result framer.new }
+{
+    text.clear();
+    let served = serve_bytes(alloc, piece, limits, framer, bytes, text, writer);
+    send_rest(served, text, writer)
 }
 
 /// How a run ends whose input has ended.
@@ -104,6 +185,7 @@ pub fn run_each<R: Read, W: Write, A: Allocator + Copy>(
         (W.contents (inner_of writer.old)) (W.contents (inner_of writer.new)) (has_failed reader.new) (has_failed writer.new) result }
 {
     let mut framer = Framer::new(alloc, limits.message_words());
+    let mut text = Vec::new(alloc);
     let mut buffer = [0; PIECE];
     let mut taken = 0;
     'pieces: loop {
@@ -113,7 +195,15 @@ pub fn run_each<R: Read, W: Write, A: Allocator + Copy>(
             Ok(0) => return end_of_input(framer),
             Ok(count) => {
                 let within = count.min(MOST_BYTES - taken);
-                serve_bytes(alloc, piece, limits, &mut framer, &buffer[..within], writer)?;
+                serve_piece(
+                    alloc,
+                    piece,
+                    limits,
+                    &mut framer,
+                    &buffer[..within],
+                    &mut text,
+                    writer,
+                )?;
                 if within < count {
                     return Err(ToolFault::InputTooLong);
                 }

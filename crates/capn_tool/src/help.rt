@@ -33,7 +33,7 @@ Example:
 /// `show`.
 pub const SHOW: Page = Page {
     about: "Writes the value of each message as an indented text, and then the line `end`",
-    more: "It takes every message of the input. Each is served before the next is looked at.
+    more: "Messages come out as they come in: before more input is awaited, all that is whole is served.
 
 Exit status:
   0  Done
@@ -50,7 +50,9 @@ Example:
 pub const CHECK: Page = Page {
     about: "Writes `ok paid P visits V` for each message: what reading it costs",
     more: "P is the price in words, and V the number of slots that were visited, the root's among them.
-It takes every message of the input. Each is served before the next is looked at.
+With `--form bare` the line ends with one word more: `canonical` where the input is the canonical
+bytes of its message, and else `not-canonical`.
+Messages come out as they come in: before more input is awaited, all that is whole is served.
 
 Exit status:
   0  Done
@@ -84,8 +86,8 @@ Example:
 /// `hash`.
 pub const HASH: Page = Page {
     about: "Writes the SHA-256 of each message's canonical bytes, 64 hexadecimal digits a line",
-    more: "It takes every message of the input. Each is served before the next is looked at. A message with a
-capability has no canonical bytes and is refused.
+    more: "Messages come out as they come in: before more input is awaited, all that is whole is served.
+A message with a capability has no canonical bytes and is refused.
 
 Exit status:
   0  Done
@@ -127,11 +129,12 @@ Example:
 };
 
 /// `--form` of the commands that take every message.
-pub const TWO_FORMS: &str = "How the input holds its messages: `stream`, each behind its segment
-table, or `bare`, where it is one segment's words";
+pub const FORMS_OF_MESSAGES: &str =
+    "How the input holds its messages: `stream`, each behind its segment
+table, `packed`, the same packed, or `bare`, where it is one segment's words";
 
 /// `--form` of `canonical`.
-pub const THREE_FORMS: &str = "How the input holds its message: `stream`, behind its segment table,
+pub const FORMS_OF_ONE: &str = "How the input holds its message: `stream`, behind its segment table,
 `packed`, the same packed, or `bare`, where it is one segment's words";
 
 /// `--message-words` of the commands over messages.

@@ -2,8 +2,8 @@
 //!
 //! [`command_of`] reads the words of the command line, and [`run`] carries the command out over any reader and writer:
 //! it writes exactly the text that its input is due and ends as is due, and says so by its outcome, of which [`status`]
-//! and [`fault_text`] are the exit status and the line for the user. `show`, `check` and `hash` take bare messages and
-//! streams of messages, and answer [`ToolFault::NotYet`] for packed ones; `canonical` takes all three forms.
+//! and [`fault_text`] are the exit status and the line for the user. `show`, `check` and `hash` take one bare message, or
+//! the messages of a stream, packed or not, as they come in; `canonical` takes one message in any of the three forms.
 //!
 //! ```text
 //! let command = command_of(alloc, &["capn", "canonical", "--form", "bare"])?;

@@ -4,7 +4,7 @@ ghost use Rattle.capn_tool.specs.Wholes.{Gives};
 ghost use Rattle.capn_tool.specs.declared.plan.Whole.TheVariants as wholes;
 
 use crate::fault::ToolFault;
-use crate::piece::piece_of;
+use crate::piece::put_bare_piece;
 use crate::plan::{Piece, Whole};
 use capn_canon::{Form, Refusal, canonicalise};
 use capn_pack::{PackFault, UnpackFault, pack, unpack};
@@ -60,7 +60,11 @@ fn bare_piece<A: Allocator + Copy>(
     ensures { Gives (wholes.Bare piece limits) bytes.now result }
 {
     match Bare::new(bytes) {
-        Ok(space) => piece_of(alloc, piece, &space, limits),
+        Ok(space) => {
+            let mut text = Vec::new(alloc);
+            put_bare_piece(alloc, piece, &space, limits, &mut text)?;
+            Ok(text)
+        }
         Err(fault) => Err(ToolFault::Refused(Refusal::Bare(fault))),
     }
 }

@@ -5,18 +5,19 @@ ghost use Rattle.sha2.specs.Sha256.{sha256};
 ghost use Rattle.hex.specs.Hex.{encode_lower};
 ghost use Rattle.capn_walk.specs.Denotes.{IsValueOf, paid, number_of_visits};
 ghost use Rattle.capn_walk.specs.Surveyed.{IsSurvey};
-ghost use Rattle.capn_tool.specs.Pieces.{GivesPiece, IsStopped};
+ghost use Rattle.capn_canon.specs.Checks.{IsCheck};
+ghost use Rattle.capn_tool.specs.Pieces.{PutsPiece, PutsBarePiece, PutsLine, PutsFront, IsStopped, priced};
 ghost use Rattle.capn_tool.specs.declared.fault.ToolFault.TheVariants as faults;
 ghost use Rattle.capn_tool.specs.declared.plan.Piece.TheVariants as kinds;
 
 use crate::fault::ToolFault;
 use crate::plan::Piece;
-use capn_canon::{Refusal, canonical_of};
+use capn_canon::{Checked, Refusal, canonical_of, check};
 use capn_value::show;
 use capn_walk::{Fault, Limits, Surveyed, Walked, survey, walk};
-use capn_words::Space;
+use capn_words::{Bare, Space};
 use sha2::{Digest, Sha256};
-use std::alloc::Allocator;
+use std::alloc::{AllocError, Allocator};
 
 /// The value of a message, with what its walk paid.
 fn walk_within<S: Space, A: Allocator + Copy>(
@@ -56,33 +57,102 @@ fn survey_within<S: Space, A: Allocator + Copy>(
     }
 }
 
-/// The text of a message, and the line `end`.
-fn text_of<S: Space, A: Allocator + Copy>(
+/// Appends the text of a message, and the line `end`.
+fn put_text<S: Space, A: Allocator + Copy>(
     alloc: A,
     space: &S,
     limits: Limits,
-) -> Result<Vec<u8, A>, ToolFault>
-    ensures { GivesPiece kinds.Text (S.message space.now) limits result }
+    text: &mut Vec<u8, A>,
+) -> Result<(), ToolFault>
+    ensures { PutsPiece kinds.Text (S.message space.now) limits text.old.items text.new.items result }
 {
     let walked = walk_within(alloc, space, limits)?;
-    let mut text = show(alloc, &walked.tree)?;
-    text.push_str("end\n")?;
-    Ok(text.into_bytes())
+    let mut shown = show(alloc, &walked.tree)?;
+    shown.push_str("end\n")?;
+    text.extend_from_slice(shown.as_bytes())?;
+    Ok(())
 }
 
-/// The line of what the walk of a message paid, in words, and how many visits it made.
-fn price_of<S: Space, A: Allocator + Copy>(
+/// Appends a price, a number of visits and what ends their line. Where memory is refused, a beginning may stand there.
+fn push_priced<A: Allocator>(
+    text: &mut Vec<u8, A>,
+    paid: u32,
+    visits: u32,
+    behind: &[u8],
+) -> Result<(), AllocError>
+    ensures { PutsFront (priced paid visits behind.now) text.old.items text.new.items result }
+{
+    let mut digits = itoa::Buffer::new();
+    text.extend_from_slice(b"ok paid ")?;
+    text.extend_from_slice(digits.format(paid).as_bytes())?;
+    text.extend_from_slice(b" visits ")?;
+    text.extend_from_slice(digits.format(visits).as_bytes())?;
+    text.extend_from_slice(behind)
+}
+
+/// Appends them, or nothing where memory is refused.
+fn put_priced<A: Allocator>(
+    text: &mut Vec<u8, A>,
+    paid: u32,
+    visits: u32,
+    behind: &[u8],
+) -> Result<(), ToolFault>
+    ensures { PutsLine (priced paid visits behind.now) text.old.items text.new.items result }
+{
+    let kept = text.len();
+    if push_priced(text, paid, visits, behind).is_err() {
+        text.truncate(kept);
+        return Err(ToolFault::Memory);
+    }
+    Ok(())
+}
+
+/// Appends the line of what the walk of a message paid, in words, and how many visits it made.
+fn put_price<S: Space, A: Allocator + Copy>(
     alloc: A,
     space: &S,
     limits: Limits,
-) -> Result<Vec<u8, A>, ToolFault>
-    ensures { GivesPiece kinds.Price (S.message space.now) limits result }
+    text: &mut Vec<u8, A>,
+) -> Result<(), ToolFault>
+    ensures { PutsPiece kinds.Price (S.message space.now) limits text.old.items text.new.items result }
 {
     let surveyed = survey_within(alloc, space, limits)?;
-    let paid = surveyed.paid;
-    let visits = surveyed.visits;
-    let line = format!(in alloc; "ok paid {paid} visits {visits}\n")?;
-    Ok(line.into_bytes())
+    put_priced(text, surveyed.paid, surveyed.visits, b"\n")
+}
+
+/// What the check of a bare message tells.
+fn check_within<A: Allocator + Copy>(
+    alloc: A,
+    space: &Bare<'_>,
+    limits: Limits,
+) -> Result<Checked, ToolFault>
+    ensures found { IfOk result (λ c. IsCheck space.now 1 limits.budget limits.depth c) }
+    ensures refused { IfErr result (λ e. (e ≡ faults.Memory) ⊎ IsStopped (space.now ∷ []) limits e) }
+{
+    match check(alloc, space, limits) {
+        Ok(checked) => Ok(checked),
+        Err(stopped) => match stopped.fault {
+            Fault::Memory => Err(ToolFault::Memory),
+            _ => Err(ToolFault::Refused(Refusal::Walk(stopped))),
+        },
+    }
+}
+
+/// Appends the line of a bare message's price and number of visits, which tells whether its bytes are canonical. It takes
+/// no memory but the line's.
+fn put_verdict<A: Allocator + Copy>(
+    alloc: A,
+    space: &Bare<'_>,
+    limits: Limits,
+    text: &mut Vec<u8, A>,
+) -> Result<(), ToolFault>
+    ensures { PutsBarePiece kinds.Price space.now limits text.old.items text.new.items result }
+{
+    let checked = check_within(alloc, space, limits)?;
+    if checked.is_canonical {
+        return put_priced(text, checked.paid, checked.visits, b" canonical\n");
+    }
+    put_priced(text, checked.paid, checked.visits, b" not-canonical\n")
 }
 
 /// The 64 hexadecimal digits of the SHA-256 of some bytes, and the end of a line.
@@ -95,38 +165,56 @@ fn digest_line(bytes: &[u8]) -> [u8; 65]
     line
 }
 
-/// The line of the digest of a message's canonical bytes.
-fn digest_of<S: Space, A: Allocator + Copy>(
+/// Appends the line of the digest of a message's canonical bytes.
+fn put_digest<S: Space, A: Allocator + Copy>(
     alloc: A,
     space: &S,
     limits: Limits,
-) -> Result<Vec<u8, A>, ToolFault>
-    ensures { GivesPiece kinds.Digest (S.message space.now) limits result }
+    text: &mut Vec<u8, A>,
+) -> Result<(), ToolFault>
+    ensures { PutsPiece kinds.Digest (S.message space.now) limits text.old.items text.new.items result }
 {
     match canonical_of(alloc, space, limits) {
         Ok(canonical) => {
-            let digest = digest_line(&canonical.bytes);
-            let mut line = Vec::new(alloc);
-            line.extend_from_slice(&digest)?;
-            Ok(line)
+            let line = digest_line(&canonical.bytes);
+            text.extend_from_slice(&line)?;
+            Ok(())
         }
         Err(Refusal::Memory) => Err(ToolFault::Memory),
         Err(refusal) => Err(ToolFault::Refused(refusal)),
     }
 }
 
-/// The piece of a message, in one growing buffer that is complete before any of it is written.
-pub fn piece_of<S: Space, A: Allocator + Copy>(
+/// Appends the piece of a message to a text. After a refusal the text is as it was.
+pub fn put_piece<S: Space, A: Allocator + Copy>(
     alloc: A,
     piece: Piece,
     space: &S,
     limits: Limits,
-) -> Result<Vec<u8, A>, ToolFault>
-    ensures { GivesPiece piece (S.message space.now) limits result }
+    text: &mut Vec<u8, A>,
+) -> Result<(), ToolFault>
+    ensures { PutsPiece piece (S.message space.now) limits text.old.items text.new.items result }
 {
     match piece {
-        Piece::Text => text_of(alloc, space, limits),
-        Piece::Price => price_of(alloc, space, limits),
-        Piece::Digest => digest_of(alloc, space, limits),
+        Piece::Text => put_text(alloc, space, limits, text),
+        Piece::Price => put_price(alloc, space, limits, text),
+        Piece::Digest => put_digest(alloc, space, limits, text),
+    }
+}
+
+/// Appends the piece of the one bare message that an input is. After a refusal the text is as it was.
+pub fn put_bare_piece<A: Allocator + Copy>(
+    alloc: A,
+    piece: Piece,
+    space: &Bare<'_>,
+    limits: Limits,
+    text: &mut Vec<u8, A>,
+) -> Result<(), ToolFault>
+    ensures { PutsBarePiece piece space.now limits text.old.items text.new.items result }
+{
+    match piece {
+        Piece::Text => put_text(alloc, space, limits, text),
+        Piece::Price => put_verdict(alloc, space, limits, text),
+        Piece::Digest => put_digest(alloc, space, limits, text),
     }
 }

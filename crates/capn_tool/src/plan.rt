@@ -40,8 +40,6 @@ pub enum Plan {
     Each(Piece, Limits),
     /// Message by message, from a packed stream.
     Packed(Piece, Limits),
-    /// Not at all: the tool cannot take it yet.
-    Later,
 }
 
 /// How a piece is written of each message of an input in a form.

@@ -5,7 +5,7 @@ ghost use Rattle.capn_words.specs.Watching.{inner_of, has_failed};
 ghost use Rattle.capn_tool.specs.Planned as spec;
 ghost use Rattle.capn_tool.specs.Heard.{KeepsUp, Runs};
 ghost use Rattle.capn_tool.specs.Served.{Served};
-ghost use Rattle.capn_tool.specs.Text.{EndsAs, EndsBy, IsText, Begins, IsLater, PlanEndsAs, PlanBegins};
+ghost use Rattle.capn_tool.specs.Text.{EndsAs, EndsBy, IsText, Begins, PlanEndsAs, PlanBegins};
 ghost use Rattle.capn_tool.specs.declared.fault.ToolFault.{ToolFault};
 ghost use Rattle.capn_tool.specs.declared.plan.Plan.TheVariants as plans;
 
@@ -53,7 +53,6 @@ fn run_whole<R: Read, W: Write, A: Allocator + Copy>(
     ensures io { IsErrOf result ToolFault.Io ↔ ((has_failed reader.new ≡ true) ⊎ (has_failed writer.new ≡ true)) }
     ensures begun { PlanBegins (plans.Whole whole) (R.remaining (inner_of reader.old)) (R.remaining (inner_of reader.new))
         (W.contents (inner_of writer.old)) (W.contents (inner_of writer.new)) }
-    ensures later { IsErrOf result ToolFault.NotYet → plans.Whole whole ≡ plans.Later }
 {
     let input = read_all(alloc, reader)?;
     write_whole(alloc, whole, &input, writer)
@@ -75,20 +74,20 @@ fn perform<R: Read, W: Write, A: Allocator + Copy>(
         Plan::Whole(whole) => run_whole(alloc, whole, reader, writer),
         Plan::Each(piece, limits) => run_each(alloc, piece, limits, reader, writer),
         Plan::Packed(piece, limits) => run_packed(alloc, piece, limits, reader, writer),
-        Plan::Later => Err(ToolFault::NotYet),
     }
 }
 
 /// Carries a command out: reads from the reader to its end, then writes the text of the input to the writer.
 ///
 /// `pack`, `unpack`, `canonical` and the form bare take the input whole, and write nothing where it is refused. `show`,
-/// `check` and `hash` of a stream take it message by message, and write the piece of each before the next is looked
-/// at: where a message is refused, the pieces of those before it have been written.
+/// `check` and `hash` of a stream, packed or not, take it message by message: before the reader is asked again, the text
+/// of all messages that are whole by then has been written, mostly by one call. Where a message is refused, the text of
+/// those before it has been written.
 ///
 /// Refusals: `Memory` where a growth was refused; `Io` exactly where the reader or the writer has failed, and then a
-/// beginning of the text was written; `InputTooLong` for a byte past 2^32; `NotYet` exactly for `show`, `check` and
-/// `hash` in the form packed, before anything is read or written; else the command's own. At most 2^32 + 1 bytes are
-/// read, at most 65,536 by one call.
+/// beginning of the text was written; `InputTooLong` for a byte past 2^32; else the command's own. At most 2^32 + 1 bytes
+/// are read, at most 65,536 by one call. Over a stream the memory does not grow with the input: 128 KiB, the texts of
+/// what one call read, at most 1 MiB for unpacked words, and what the longest message takes.
 pub fn run<R: Read, W: Write, A: Allocator + Copy>(
     alloc: A,
     command: Command,
@@ -112,12 +111,6 @@ pub fn run<R: Read, W: Write, A: Allocator + Copy>(
     // Where the reader failed, all that is due for what it gave was written, if it is taken message by message.
     ensures heard { has_failed reader.new ≡ true → KeepsUp command (R.remaining (inner_of reader.old)) (R.remaining (inner_of reader.new))
         (W.contents (inner_of writer.old)) (W.contents (inner_of writer.new)) }
-    // A command that the tool cannot carry out yet touches neither of the two, and no other is answered so.
-    ensures later { IsErrOf result ToolFault.NotYet ↔ IsLater command }
-    ensures untouched { IsErrOf result ToolFault.NotYet → (reader.new ≡ reader.old) × (writer.new ≡ writer.old) }
 {
-    match plan_of(command) {
-        Plan::Later => Err(ToolFault::NotYet),
-        plan => perform(alloc, plan, reader, writer),
-    }
+    perform(alloc, plan_of(command), reader, writer)
 }

@@ -102,10 +102,10 @@ fn unpack_command<'a>(alloc: Global) -> Result<Command<'a>, AllocError>
 fn messages_command<'a>(alloc: Global) -> Result<Command<'a>, AllocError>
     ensures { IfOk result (λ c. app_of c ≡ messages_line) }
 {
-    let show = message_command(alloc, "show", help::SHOW, help::TWO_FORMS)?;
-    let check = message_command(alloc, "check", help::CHECK, help::TWO_FORMS)?;
-    let canonical = message_command(alloc, "canonical", help::CANONICAL, help::THREE_FORMS)?;
-    let hash = message_command(alloc, "hash", help::HASH, help::TWO_FORMS)?;
+    let show = message_command(alloc, "show", help::SHOW, help::FORMS_OF_MESSAGES)?;
+    let check = message_command(alloc, "check", help::CHECK, help::FORMS_OF_MESSAGES)?;
+    let canonical = message_command(alloc, "canonical", help::CANONICAL, help::FORMS_OF_ONE)?;
+    let hash = message_command(alloc, "hash", help::HASH, help::FORMS_OF_MESSAGES)?;
     let top = plain_command(alloc, "capn", help::PROGRAM).subcommand_required(true);
     let with_show = top.subcommand(show)?;
     let with_check = with_show.subcommand(check)?;

@@ -2,4 +2,5 @@
 
 mod ends;
 mod lines;
+mod runs;
 mod texts;

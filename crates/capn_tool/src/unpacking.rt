@@ -6,11 +6,13 @@ ghost use Rattle.capn_pack.specs.Stream.{NoGroupFirst};
 ghost use Rattle.capn_stream.specs.Framing.{IsUnfinished};
 ghost use Rattle.capn_tool.specs.Heard.{Runs};
 ghost use Rattle.capn_tool.specs.HeardPacked.{EndsPacked, ServesPacked};
+ghost use Rattle.capn_tool.specs.Sending.{outgoing, sent};
 ghost use Rattle.capn_tool.specs.declared.plan.Plan.TheVariants as plans;
 
 use crate::fault::ToolFault;
 use crate::hearing::{end_of_input, serve_bytes};
 use crate::input::{MOST_BYTES, PIECE};
+use crate::output::send_rest;
 use crate::plan::Piece;
 use capn_canon::Refusal;
 use capn_pack::Unpacker;
@@ -23,7 +25,7 @@ use std::io::{Read, Write};
 /// The most packed bytes that are unpacked at once, of which come at most 1,024 times as many.
 const SLICE: usize = 512;
 
-/// Unpacks bytes, and writes the pieces of all messages that their words make whole.
+/// Unpacks bytes, and adds the pieces of all messages that their words make whole.
 fn serve_slice<W: Write, A: Allocator + Copy>(
     alloc: A,
     piece: Piece,
@@ -32,6 +34,7 @@ fn serve_slice<W: Write, A: Allocator + Copy>(
     words: &mut Vec<u8, A>,
     framer: &mut Framer<A>,
     bytes: &[u8],
+    text: &mut Vec<u8, A>,
     writer: &mut Watched<W>,
 ) -> Result<(), ToolFault>
     requires fine { has_failed writer.old ≡ false }
@@ -39,18 +42,18 @@ fn serve_slice<W: Write, A: Allocator + Copy>(
     requires good { framer.old.failed ≡ false }
     requires part { IsUnfinished framer.old.rest framer.old.most }
     requires most { framer.old.most ≡ limits.message_words }
-    ensures { ServesPacked piece limits unpacker.old framer.old bytes.now (W.contents (inner_of writer.old)) (W.contents (inner_of writer.new))
-        (has_failed writer.new) result unpacker.new framer.new }
+    ensures { ServesPacked piece limits unpacker.old framer.old bytes.now (outgoing (W.contents (inner_of writer.old)) text.old.items)
+        (outgoing (W.contents (inner_of writer.new)) text.new.items) (has_failed writer.new) result unpacker.new framer.new }
 {
     words.clear();
     match unpacker.feed(bytes, words) {
-        Ok(()) => serve_bytes(alloc, piece, limits, framer, words, writer),
+        Ok(()) => serve_bytes(alloc, piece, limits, framer, words, text, writer),
         Err(_) => Err(ToolFault::Memory),
     }
 }
 
-/// Writes the pieces of all messages that packed bytes make whole. The words of no more than a slice are held at once.
-pub(crate) fn serve_packed<W: Write, A: Allocator + Copy>(
+/// Adds the pieces of all messages that packed bytes make whole. The words of no more than a slice are held at once.
+fn serve_slices<W: Write, A: Allocator + Copy>(
     alloc: A,
     piece: Piece,
     limits: Limits,
@@ -58,6 +61,7 @@ pub(crate) fn serve_packed<W: Write, A: Allocator + Copy>(
     words: &mut Vec<u8, A>,
     framer: &mut Framer<A>,
     bytes: &[u8],
+    text: &mut Vec<u8, A>,
     writer: &mut Watched<W>,
 ) -> Result<(), ToolFault>
     requires fine { has_failed writer.old ≡ false }
@@ -68,8 +72,8 @@ pub(crate) fn serve_packed<W: Write, A: Allocator + Copy>(
     requires group { NoGroupFirst unpacker.old.rest }
     requires offset { unpacker.old.offset < 2 ^ 64 }
     requires room { length bytes.now ≤ 65536 }
-    ensures { ServesPacked piece limits unpacker.old framer.old bytes.now (W.contents (inner_of writer.old)) (W.contents (inner_of writer.new))
-        (has_failed writer.new) result unpacker.new framer.new }
+    ensures { ServesPacked piece limits unpacker.old framer.old bytes.now (outgoing (W.contents (inner_of writer.old)) text.old.items)
+        (outgoing (W.contents (inner_of writer.new)) text.new.items) (has_failed writer.new) result unpacker.new framer.new }
 {
     let mut at = 0;
     while at < bytes.len() {
@@ -82,11 +86,42 @@ pub(crate) fn serve_packed<W: Write, A: Allocator + Copy>(
             words,
             framer,
             &bytes[at..end],
+            text,
             writer,
         )?;
         at = end;
     }
     Ok(())
+}
+
+/// Writes the pieces of all messages that packed bytes make whole. The text is room for them.
+fn serve_packed<W: Write, A: Allocator + Copy>(
+    alloc: A,
+    piece: Piece,
+    limits: Limits,
+    unpacker: &mut Unpacker,
+    words: &mut Vec<u8, A>,
+    framer: &mut Framer<A>,
+    bytes: &[u8],
+    text: &mut Vec<u8, A>,
+    writer: &mut Watched<W>,
+) -> Result<(), ToolFault>
+    requires fine { has_failed writer.old ≡ false }
+    requires held { unpacker.old.failed ≡ false }
+    requires good { framer.old.failed ≡ false }
+    requires part { IsUnfinished framer.old.rest framer.old.most }
+    requires most { framer.old.most ≡ limits.message_words }
+    requires group { NoGroupFirst unpacker.old.rest }
+    requires offset { unpacker.old.offset < 2 ^ 64 }
+    requires room { length bytes.now ≤ 65536 }
+    ensures { ServesPacked piece limits unpacker.old framer.old bytes.now (sent (W.contents (inner_of writer.old)))
+        (sent (W.contents (inner_of writer.new))) (has_failed writer.new) result unpacker.new framer.new }
+{
+    text.clear();
+    let served = serve_slices(
+        alloc, piece, limits, unpacker, words, framer, bytes, text, writer,
+    );
+    send_rest(served, text, writer)
 }
 
 /// How a run ends whose packed input has ended.
@@ -121,6 +156,7 @@ pub fn run_packed<R: Read, W: Write, A: Allocator + Copy>(
     let mut unpacker = Unpacker::new();
     let mut words = Vec::new(alloc);
     let mut framer = Framer::new(alloc, limits.message_words());
+    let mut text = Vec::new(alloc);
     let mut buffer = [0; PIECE];
     let mut taken = 0;
     'pieces: loop {
@@ -138,6 +174,7 @@ pub fn run_packed<R: Read, W: Write, A: Allocator + Copy>(
                     &mut words,
                     &mut framer,
                     &buffer[..within],
+                    &mut text,
                     writer,
                 )?;
                 if within < count {

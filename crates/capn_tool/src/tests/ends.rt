@@ -157,7 +157,11 @@ fn fail_each_read(rt: &impl Abort, alloc: Global, run_of: &Run, whole: &[(u64, u
                 }
             }
             assert_eq!(rt; outcome, Err(ToolFault::Io), "read {call}");
-            assert_eq!(rt; run_of.text.get(..due), Some(written.as_slice()), "read {call}");
+            assert_eq!(rt;
+                run_of.text.get(..due),
+                Some(written.as_slice()),
+                "read {call}"
+            );
         } else {
             assert_eq!(rt; outcome, Ok(()), "read {call}");
             assert_eq!(rt; written.as_slice(), run_of.text, "read {call}");

@@ -60,7 +60,6 @@ fn faults_of_a_run(rt: HostRuntime) {
         3,
     );
     expect_text(&rt, rt.alloc(), ToolFault::NotWhole(9), "NotWhole(9)", 1);
-    expect_text(&rt, rt.alloc(), ToolFault::NotYet, "not yet", 1);
 }
 
 /// Expects the text of a refusal.
@@ -192,5 +191,4 @@ fn a_fault_displays_its_name(rt: HostRuntime) {
         ToolFault::Refused(Refusal::Bare(BareFault::NotWhole(9))),
         "Refused",
     );
-    expect_name(&rt, rt.alloc(), ToolFault::NotYet, "NotYet");
 }

@@ -21,37 +21,37 @@ returns-in-Ok-eq0 g c =
     runs_end c.args.piece c.args.limits _ _ _ _ _ c.pieces.taken c.pieces.framer.rest c.read.new.buf c.in-Ok-eq0.field-0 _ _ c.end_of_input.result (grind (arith, common_steps)) i.writer i.within i.heard c.in-Ok-eq0.field-0-test
     c.in-Ok-eq0.ensures.bytes (omega arith) ends
 
-pub returns-in_err-serve_bytes-in-Ok : goal.returns-in_err-serve_bytes-in-Ok
-returns-in_err-serve_bytes-in-Ok g c =
+pub returns-in_err-serve_piece-in-Ok : goal.returns-in_err-serve_piece-in-Ok
+returns-in_err-serve_piece-in-Ok g c =
     let i = c.pieces.invariant in
     let p = err_from_is_err_and c.from_residual.result c.from_residual.ensures.1 in
     let bound = c.in-Ok.ensures.bound in
     let room = length-take c.min-room.result c.pieces.buffer in
     rw (p.1, p.2)
-    (runs_stopped c.args.piece c.args.limits _ _ _ _ _ _ c.pieces.taken c.pieces.framer.rest c.read.new.buf (drop c.min-room.result c.pieces.buffer) c.min-within.result c.in-Ok.count _ _ c.in_err-serve_bytes-in-Ok.field-0.0
-    (grind (arith, common_steps)) i.within c.min-within.ensures (omega arith) i.heard c.in-Ok.ensures.bytes.0 bound.0 c.in_err-serve_bytes-in-Ok.ensures)
+    (runs_stopped c.args.piece c.args.limits _ _ _ _ _ _ c.pieces.taken c.pieces.framer.rest c.read.new.buf (drop c.min-room.result c.pieces.buffer) c.min-within.result c.in-Ok.count _ _ c.in_err-serve_piece-in-Ok.field-0.0
+    (grind (arith, common_steps)) i.within c.min-within.ensures (omega arith) i.heard c.in-Ok.ensures.bytes.0 bound.0 c.in_err-serve_piece-in-Ok.ensures)
 
 pub returns-then-within-count : goal.returns-then-within-count
 returns-then-within-count g c =
     let i = c.pieces.invariant in
     let bound = c.in-Ok.ensures.bound in
     let room = length-take c.min-room.result c.pieces.buffer in
-    let served = c.in_ok-serve_bytes-in-Ok.ensures in
-    let part = subst (λ (m : ℕ). IsUnfinished c.serve_bytes.new.framer.rest m) i.most served.1 in
-    runs_long c.args.piece c.args.limits _ _ _ _ _ _ c.pieces.taken c.pieces.framer.rest c.serve_bytes.new.framer.rest c.read.new.buf (drop c.min-room.result c.pieces.buffer) c.min-within.result c.in-Ok.count _ _
+    let served = c.in_ok-serve_piece-in-Ok.ensures in
+    let part = subst (λ (m : ℕ). IsUnfinished c.serve_piece.new.framer.rest m) i.most served.1 in
+    runs_long c.args.piece c.args.limits _ _ _ _ _ _ c.pieces.taken c.pieces.framer.rest c.serve_piece.new.framer.rest c.read.new.buf (drop c.min-room.result c.pieces.buffer) c.min-within.result c.in-Ok.count _ _
     (grind (arith, common_steps)) served.4 (omega arith) c.if-within-count.true (omega arith) i.heard c.in-Ok.ensures.bytes.0 bound.0 served.0 part
 
 pub pieces-preserved : goal.pieces-preserved
 pieces-preserved g c =
     let i = c.pieces.invariant in
     let bound = c.in-Ok.ensures.bound in
-    let served = c.in_ok-serve_bytes-in-Ok.ensures in
+    let served = c.in_ok-serve_piece-in-Ok.ensures in
     record {
       reader = grind (arith, common_steps);
       writer = served.4;
       good = served.3;
       most = served.2 ∙ i.most;
-      part = subst (λ (m : ℕ). IsUnfinished c.serve_bytes.new.framer.rest m) i.most served.1;
+      part = subst (λ (m : ℕ). IsUnfinished c.serve_piece.new.framer.rest m) i.most served.1;
       within = omega arith;
-      heard = hears_more c.args.piece c.args.limits _ _ _ _ _ _ c.pieces.taken c.pieces.framer.rest c.serve_bytes.new.framer.rest c.read.new.buf (drop c.min-room.result c.pieces.buffer) c.min-within.result c.in-Ok.count (omega arith) i.heard c.in-Ok.ensures.bytes.0 bound.0 served.0;
+      heard = hears_more c.args.piece c.args.limits _ _ _ _ _ _ c.pieces.taken c.pieces.framer.rest c.serve_piece.new.framer.rest c.read.new.buf (drop c.min-room.result c.pieces.buffer) c.min-within.result c.in-Ok.count (omega arith) i.heard c.in-Ok.ensures.bytes.0 bound.0 served.0;
     }

@@ -19,7 +19,7 @@ loop-at-preserved g c =
       fine = next.2.4;
       good = next.2.3;
       most = next.2.2 ∙ i.most;
-      part = subst (λ (m : ℕ). IsUnfinished c.serve_next.new.framer.rest m) i.most next.2.1;
+      part = subst (λ (m : ℕ). IsUnfinished c.serve_some.new.framer.rest m) i.most next.2.1;
       within = omega (arith, next.0, rest, i.within, length-drop c.loop-at.at c.args.bytes.now);
-      told = served_more c.args.piece c.args.limits c.args.framer.now c.loop-at.framer c.args.bytes.now c.loop-at.at _ _ _ i.told c.in_ok-at.field-0 c.serve_next.new.framer.rest next.2.0;
+      told = served_more c.args.piece c.args.limits c.args.framer.now c.loop-at.framer c.args.bytes.now c.loop-at.at _ _ _ i.told c.in_ok-at.field-0 c.serve_some.new.framer.rest next.2.0;
     }

@@ -1,12 +1,24 @@
-use Rattle.std.proofs.Common.{◌≡◌, ◌-◌, ◌∙◌, ◌++◌, false, take, drop, length, length-take, List, ℕ, subst, ap, sym, arith, Ok, Err, Result}
+use Rattle.std.proofs.Common.{inl, refl, ◌≡◌, ◌-◌, ◌∙◌, ◌++◌, false, take, drop, length, length-take, List, ℕ, subst, ap, sym, arith, Ok, Err, Result}
 use Rattle.std.proofs.lemmas.Grind.{common_steps}
 use Rattle.std.proofs.lemmas.List.{take-append-le}
 use Rattle.std.proofs.lemmas.Result.{err_from_is_err_and}
-use Rattle.capn_words.specs.Watching.{has_failed}
-use Rattle.capn_stream.specs.Framing.{IsUnfinished}
+use Rattle.capn_words.specs.Watching.{has_failed, inner_of}
+use Rattle.capn_stream.specs.Framing.{Framing, IsUnfinished}
 use Rattle.capn_tool.specs.HeardPacked.{EndsPacked}
-use Rattle.capn_tool.proofs.PackedRun.{packed_end, packed_hears, packed_long, packed_stopped, packed_unread}
+use Rattle.capn_tool.proofs.PackedRun.{packed_begin, packed_end, packed_hears, packed_long, packed_stopped, packed_unread}
 use Rattle.capn_tool.proofs.unpacking.run_packed.Goals as goal
+
+pub pieces-init : goal.pieces-init
+pieces-init g c = record {
+  reader = c.requires.reader_fine;
+  writer = c.requires.writer_fine;
+  good = ap (λ (f : Framing). f.failed) c.new-framer.ensures;
+  most = ap (λ (f : Framing). f.most) c.new-framer.ensures ∙ c.message_words.ensures.value;
+  part = subst (λ (l : List ℕ). IsUnfinished l c.args.limits.message_words) (sym (ap (λ (f : Framing). f.rest) c.new-framer.ensures)) (inl refl);
+  within = omega arith;
+  heard = packed_begin c.args.piece c.args.limits (g.R.Read.remaining (inner_of c.args.reader.now)) (g.W.Write.contents (inner_of c.args.writer.now)) c.new-unpacker.result c.new-framer.result.rest c.new-unpacker.ensures
+      (ap (λ (f : Framing). f.rest) c.new-framer.ensures);
+}
 
 pub returns-in-Err : goal.returns-in-Err
 returns-in-Err g c =

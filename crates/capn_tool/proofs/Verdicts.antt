@@ -1,0 +1,27 @@
+-- The line of a bare message's price.
+use Rattle.std.proofs.Common.{◌≡◌, ◌⊎◌, inl, inr, ◌↔◌, ℕ, List, [], ◌∷◌, ◌++◌, codes, Bool, true, false, Result, Ok, Err, refl, ap, sym, subst, ◌∙◌}
+use Rattle.capn_walk.specs.Limits.{Bounds}
+use Rattle.capn_walk.specs.Denotes.{paid, number_of_visits}
+use Rattle.capn_canon.specs.Checks.{IsCheck}
+use Rattle.capn_canon.specs.declared.checked.Checked.{Checked}
+use Rattle.capn_tool.specs.Pieces.{AreCanonical, IsBarePiece, PutsBarePiece, PutsLine, priced}
+use Rattle.capn_tool.specs.declared.plan.Piece.TheVariants as kinds
+use Rattle.capn_tool.specs.declared.fault.ToolFault.{ToolFault}
+
+module _ (words : List ℕ) (limits : Bounds) (c : Checked) (told : IsCheck words 1 limits.budget limits.depth c) where
+  same_line : (behind : List ℕ) → priced c.paid c.visits behind ≡ priced (paid (words ∷ []) 1 limits.depth) (number_of_visits (words ∷ []) 1 limits.depth) behind
+  same_line behind = ap (λ (n : ℕ). priced n c.visits behind) told.pays ∙ ap (λ (n : ℕ). priced (paid (words ∷ []) 1 limits.depth) n behind) told.counts
+
+  yes : c.is_canonical ≡ true → AreCanonical told.value words
+  yes e = told.answer.0 e
+
+  no : c.is_canonical ≡ false → AreCanonical told.value words → ⊥
+  no e is = let bad : true ≡ false = sym (told.answer.1 is) ∙ e in cc
+
+  pub verdict_yes : (old new : List ℕ) (r : Result (Unit {0}) ToolFault) → c.is_canonical ≡ true → PutsLine (priced c.paid c.visits (codes " canonical" ++ 10 ∷ [])) old new r → PutsBarePiece kinds.Price words limits old new r
+  verdict_yes old new (Ok u) e put = (priced c.paid c.visits (codes " canonical" ++ 10 ∷ []), (told.value, told.is, inl (yes e, same_line (codes " canonical" ++ 10 ∷ []))), put)
+  verdict_yes old new (Err fault) e put = (inl put.0, put.1)
+
+  pub verdict_no : (old new : List ℕ) (r : Result (Unit {0}) ToolFault) → c.is_canonical ≡ false → PutsLine (priced c.paid c.visits (codes " not-canonical" ++ 10 ∷ [])) old new r → PutsBarePiece kinds.Price words limits old new r
+  verdict_no old new (Ok u) e put = (priced c.paid c.visits (codes " not-canonical" ++ 10 ∷ []), (told.value, told.is, inr (no e, same_line (codes " not-canonical" ++ 10 ∷ []))), put)
+  verdict_no old new (Err fault) e put = (inl put.0, put.1)

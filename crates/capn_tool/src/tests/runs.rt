@@ -1,0 +1,202 @@
+//! Runs over a reader that gives pieces and a writer that takes all, both of which count their calls.
+
+use crate::*;
+use capn_canon::Form;
+use capn_walk::Limits;
+use capn_words::Watched;
+use std::alloc::Global;
+use std::cell::Cell;
+use std::io::{self, Read, Write};
+use std::process::Abort;
+
+/// How often the reader and the writer of a run were called, and the reader before the writer was first.
+#[derive(Drop)]
+struct Calls {
+    reads: Cell<u64>,
+    writes: Cell<u64>,
+    reads_before: Cell<u64>,
+}
+
+/// No calls.
+fn no_calls() -> Calls {
+    Calls {
+        reads: Cell::new(0),
+        writes: Cell::new(0),
+        reads_before: Cell::new(0),
+    }
+}
+
+/// A reader of at most so many bytes a call.
+#[derive(Drop)]
+struct Source<'a> {
+    bytes: &'a [u8],
+    piece: usize,
+    calls: &'a Calls,
+}
+
+impl Read for Source<'_> {
+    fn read(&mut self, buf: &mut [u8]) -> io::Result<usize> {
+        self.calls
+            .reads
+            .set(self.calls.reads.get().saturating_add(1));
+        let count = self.piece.min(buf.len()).min(self.bytes.len());
+        let (given, rest) = self.bytes.split_at(count);
+        buf[..count].copy_from_slice(given);
+        self.bytes = rest;
+        Ok(count)
+    }
+}
+
+/// A writer of all that it is given.
+#[derive(Drop)]
+struct Sink<'a> {
+    bytes: Vec<u8>,
+    calls: &'a Calls,
+}
+
+impl Write for Sink<'_> {
+    fn write(&mut self, buf: &[u8]) -> io::Result<usize> {
+        if self.calls.writes.get() == 0 {
+            self.calls.reads_before.set(self.calls.reads.get());
+        }
+        self.calls
+            .writes
+            .set(self.calls.writes.get().saturating_add(1));
+        self.bytes.extend_from_slice(buf)?;
+        Ok(buf.len())
+    }
+
+    fn flush(&mut self) -> io::Result<()> {
+        Ok(())
+    }
+}
+
+/// What a run over pieces of so many bytes ended with, and what it wrote.
+fn ended(
+    alloc: Global,
+    command: Command,
+    input: &[u8],
+    piece: usize,
+    calls: &Calls,
+) -> (Result<(), ToolFault>, Vec<u8>) {
+    let mut reader = Watched::new(Source {
+        bytes: input,
+        piece,
+        calls,
+    });
+    let mut writer = Watched::new(Sink {
+        bytes: Vec::new(alloc),
+        calls,
+    });
+    let outcome = run(alloc, command, &mut reader, &mut writer);
+    (outcome, writer.into_inner().bytes)
+}
+
+/// A struct of two words, framed: 32 bytes.
+const FRAMED: [u8; 32] = [
+    0, 0, 0, 0, 3, 0, 0, 0, 0, 0, 0, 0, 2, 0, 0, 0, 5, 0, 0, 0, 0, 0, 0, 0, 6, 0, 0, 0, 0, 0, 0, 0,
+];
+
+/// The line of its price.
+const LINE: &[u8] = b"ok paid 3 visits 1\n";
+
+/// So many copies of some bytes.
+fn repeated(alloc: Global, bytes: &[u8], count: u32) -> Option<Vec<u8>> {
+    let mut all = Vec::new(alloc);
+    for _ in 0..count {
+        all.extend_from_slice(bytes).ok()?;
+    }
+    Some(all)
+}
+
+/// `check` of a stream.
+fn check_stream() -> Command {
+    Command::Check(Form::Stream, Limits::usual())
+}
+
+#[test]
+fn a_message_is_written_before_the_next_piece_is_read(rt: HostRuntime) {
+    let calls = no_calls();
+    let Some(twice) = repeated(rt.alloc(), &FRAMED, 2) else {
+        return;
+    };
+    let Some(lines) = repeated(rt.alloc(), LINE, 2) else {
+        return;
+    };
+    let (outcome, written) = ended(rt.alloc(), check_stream(), &twice, 32, &calls);
+    assert_eq!(rt; outcome, Ok(()));
+    assert_eq!(rt; written.as_slice(), lines.as_slice());
+    assert_eq!(rt; calls.reads_before.get(), 1);
+    assert_eq!(rt; calls.writes.get(), 2);
+}
+
+#[test]
+fn ten_thousand_messages_are_written_at_once(rt: HostRuntime) {
+    let calls = no_calls();
+    let Some(input) = repeated(rt.alloc(), &FRAMED, 10_000) else {
+        return;
+    };
+    let Some(lines) = repeated(rt.alloc(), LINE, 10_000) else {
+        return;
+    };
+    let (outcome, written) = ended(rt.alloc(), check_stream(), &input, 65_536, &calls);
+    assert_eq!(rt; outcome, Ok(()));
+    assert!(rt; written.as_slice() == lines.as_slice());
+    assert_eq!(rt; calls.reads.get(), 6);
+    assert_eq!(rt; calls.writes.get(), 5);
+}
+
+/// `check` of a bare input writes this line.
+fn expect_line(rt: &impl Abort, alloc: Global, limits: Limits, input: &[u8], line: &str) {
+    let command = Command::Check(Form::Bare, limits);
+    let (outcome, written) = ended(alloc, command, input, 65_536, &no_calls());
+    assert_eq!(rt; outcome, Ok(()), "{line}");
+    assert_eq!(rt; written.as_slice(), line.as_bytes());
+}
+
+#[test]
+fn the_line_of_a_bare_message_has_one_word_more(rt: HostRuntime) {
+    for (input, line) in [
+        (
+            [0, 0, 0, 0, 1, 0, 0, 0, 5, 0, 0, 0, 0, 0, 0, 0].as_slice(),
+            "ok paid 2 visits 1 canonical\n",
+        ),
+        (
+            [
+                0, 0, 0, 0, 2, 0, 0, 0, 5, 0, 0, 0, 0, 0, 0, 0, 0, 0, 0, 0, 0, 0, 0, 0,
+            ]
+            .as_slice(),
+            "ok paid 3 visits 1 not-canonical\n",
+        ),
+        (
+            [0, 0, 0, 0, 0, 0, 1, 0, 3, 0, 0, 0, 2, 0, 0, 0].as_slice(),
+            "ok paid 2 visits 2 not-canonical\n",
+        ),
+    ] {
+        expect_line(&rt, rt.alloc(), Limits::usual(), input, line);
+    }
+}
+
+/// So many objects, each the only slot of the one before, the last of which is empty.
+fn chain(alloc: Global, above: u32) -> Option<Vec<u8>> {
+    let mut input = repeated(alloc, &[0, 0, 0, 0, 0, 0, 1, 0], above)?;
+    input
+        .extend_from_slice(&[0xfc, 0xff, 0xff, 0xff, 0, 0, 0, 0])
+        .ok()?;
+    Some(input)
+}
+
+#[test]
+fn chains_as_deep_as_may_be(rt: HostRuntime) {
+    for (above, depth, line) in [
+        (63, 64, "ok paid 127 visits 64 canonical\n"),
+        (64, 65, "ok paid 129 visits 65 canonical\n"),
+    ] {
+        if let (Some(input), Some(limits)) = (
+            chain(rt.alloc(), above),
+            Limits::new(8_388_608, 8_388_608, depth),
+        ) {
+            expect_line(&rt, rt.alloc(), limits, &input, line);
+        }
+    }
+}
