@@ -127,14 +127,22 @@ impl Draft {
         Ok(Route::Near)
     }
 
-    /// Writes the pointer to the object that is next behind a pad of two words, one time in four in a segment behind the pad's.
+    /// Whether seven eighths of the words that the last segment may have are there.
+    fn is_nearly_full(&self) -> bool {
+        match self.most {
+            Some(most) => self.len() >= most - most / 8,
+            None => false,
+        }
+    }
+
+    /// Writes the pointer to the object that is next behind a pad of two words, which ends a segment that is nearly full.
     fn place_double_far(&mut self, slot: Slot, pointer: u64) -> Result<(), AllocError> {
         let far = self.far();
         self.point(slot, far | 4);
         let pad = self.here();
         self.words.push(0)?;
         self.words.push(pointer)?;
-        if self.below(4) == 0 {
+        if self.is_nearly_full() {
             self.cut()?;
         }
         let far = self.far();
