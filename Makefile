@@ -17,9 +17,9 @@ run: program
 test:
 	rt ci
 
-# Nanoseconds a byte of packing and unpacking, by shape of input.
+# The shortest times of each operation on each shape of message, in nanoseconds a byte.
 bench:
-	cd crates/bench && rt run > /dev/null && ./out/bench full
+	cd crates/bench && rt run > /dev/null && ./out/bench times
 
 # Messages that the reference implementation wrote, where its command line tool is installed.
 interop: program

@@ -1,104 +1,88 @@
-//! Inputs of a few shapes, the same in every run.
+//! Messages of eight shapes, and a stream of small ones, the same in every run.
+
+mod draft;
+mod flat;
+mod mixed;
+mod nested;
+mod random;
+mod small;
+
 use std::alloc::{AllocError, Global};
 
-/// What the words of an input are like.
-#[derive(Debug, Drop, Clone, Copy, PartialEq, Eq)]
+/// What a message is like.
+#[derive(Debug, Clone, Copy, PartialEq, Eq)]
 pub enum Shape {
-    /// All zero.
+    /// Structs of many data words.
+    Wide,
+    /// Nests of small structs, each in a slot of the one above.
+    Deep,
+    /// Structs with two short texts each.
+    Texts,
+    /// One list of 64-bit numbers.
+    Numbers,
+    /// Structs whose data words are mostly zero, and lists of zeros.
     Zeros,
-    /// Random bytes, which no packing shortens.
-    Incompressible,
-    /// Numbers of one to three bytes.
-    Small,
-    /// Each byte zero or not, at random.
+    /// One list of random bytes.
+    Noise,
+    /// As `Mixed`, in many segments.
+    Segments,
+    /// Structs, lists of structs with slots, texts, lists of pointers and null slots.
     Mixed,
-    /// A zero word, then a mixed one, and so on.
-    Alternating,
-    /// Some words of one of these shapes, then some of another, as in messages.
-    Mixture,
+    /// A stream of messages of 32 bytes each, in place of one message.
+    Small,
 }
 
 impl Shape {
-    /// All of them.
-    pub const ALL: [Shape; 6] = [
+    /// Those of one message.
+    pub const MESSAGES: [Shape; 8] = [
+        Shape::Wide,
+        Shape::Deep,
+        Shape::Texts,
+        Shape::Numbers,
         Shape::Zeros,
-        Shape::Incompressible,
-        Shape::Small,
+        Shape::Noise,
+        Shape::Segments,
         Shape::Mixed,
-        Shape::Alternating,
-        Shape::Mixture,
     ];
 
     /// What it is called.
     pub fn name(self) -> &'static str {
         match self {
+            Shape::Wide => "wide",
+            Shape::Deep => "deep",
+            Shape::Texts => "texts",
+            Shape::Numbers => "u64",
             Shape::Zeros => "zeros",
-            Shape::Incompressible => "incompressible",
-            Shape::Small => "small",
+            Shape::Noise => "noise",
+            Shape::Segments => "segs",
             Shape::Mixed => "mixed",
-            Shape::Alternating => "alternating",
-            Shape::Mixture => "mixture",
+            Shape::Small => "small",
         }
     }
-}
 
-/// Numbers without order, by shifts and exclusive ors.
-#[derive(Debug, Drop)]
-struct Random {
-    state: u64,
-}
-
-impl Random {
-    fn next(&mut self) -> u64 {
-        self.state ^= self.state << 13;
-        self.state ^= self.state >> 7;
-        self.state ^= self.state << 17;
-        self.state
-    }
-}
-
-/// A mask of the bytes whose bit is 1.
-fn mask(bits: u64) -> u64 {
-    let mut mask = 0u64;
-    for i in 0..8u32 {
-        if bits >> i & 1 == 1 {
-            mask |= 255 << (8 * i);
+    /// The shape of that name.
+    pub fn named(name: &str) -> Option<Shape> {
+        if name == Shape::Small.name() {
+            return Some(Shape::Small);
         }
+        Shape::MESSAGES
+            .iter()
+            .copied()
+            .find(|shape| shape.name() == name)
     }
-    mask
 }
 
-/// One word of a shape; `i` counts the words before it.
-fn word_of(random: &mut Random, shape: Shape, i: usize) -> u64 {
-    let word = random.next();
-    let choice = random.next() >> 32;
+/// A framed message of some so many bytes, or a stream of small ones.
+pub fn framed(alloc: Global, shape: Shape, bytes: u32) -> Result<Vec<u8>, AllocError> {
     match shape {
-        Shape::Zeros => 0,
-        Shape::Incompressible | Shape::Mixture => word,
-        Shape::Small => word >> (40 + 8 * (choice % 3)),
-        Shape::Mixed => word & mask(choice),
-        Shape::Alternating => { if i % 2 == 0 { 0 } else { word & mask(choice) } }
+        Shape::Wide => flat::wide(alloc, bytes),
+        Shape::Deep => nested::deep(alloc, bytes),
+        Shape::Texts => nested::texts(alloc, bytes),
+        Shape::Numbers => flat::numbers(alloc, bytes),
+        Shape::Zeros => flat::zeros(alloc, bytes),
+        Shape::Noise => flat::noise(alloc, bytes),
+        Shape::Segments => mixed::segments(alloc, bytes),
+        Shape::Mixed => mixed::mixed(alloc, bytes),
+        Shape::Small => small::stream(alloc, bytes),
     }
-}
-
-/// So many bytes of a shape, in whole words.
-pub fn made(alloc: Global, shape: Shape, len: usize) -> Result<Vec<u8>, AllocError> {
-    let mut bytes = Vec::new(alloc);
-    let mut random = Random {
-        state: 88_172_645_463_325_252,
-    };
-    let mut part = shape;
-    for i in 0..len / 8 {
-        if shape == Shape::Mixture && random.next() >> 32 & 7 == 0 {
-            part = match random.next() >> 32 & 3 {
-                0 => Shape::Zeros,
-                1 => Shape::Incompressible,
-                2 => Shape::Small,
-                _ => Shape::Mixed,
-            };
-        }
-        let word = word_of(&mut random, part, i);
-        bytes.extend_from_slice(&word.to_le_bytes())?;
-    }
-    Ok(bytes)
 }

@@ -1,0 +1,246 @@
+//! What is measured.
+
+use anyhow::{Result, anyhow};
+use capn_canon::{Form, canonical_of, is_canonical};
+use capn_pack::{pack, unpack};
+use capn_stream::{Framed, Framer, first};
+use capn_tool::{Command, run};
+use capn_value::{Tree, show};
+use capn_walk::{Limits, Walked, survey, walk};
+use capn_words::{Space, Watched};
+use sha2::{Digest, Sha256};
+use std::alloc::Global;
+
+/// More words than any input here has.
+const MOST_WORDS: u32 = 1 << 28;
+
+/// The bytes of a piece.
+const PIECE: usize = 65_536;
+
+/// An operation on a message, a tree, canonical bytes or packed bytes.
+#[derive(Debug, Clone, Copy, PartialEq, Eq)]
+pub enum Operation {
+    /// A copy of the framed message's bytes, to compare with.
+    Copy,
+    /// What the frame says.
+    First,
+    /// The message out of pieces of 64 KiB.
+    Framer,
+    /// What reading the message costs.
+    Survey,
+    /// The message as a tree, which is freed.
+    Walk,
+    /// The canonical bytes of the message.
+    Canonical,
+    /// Whether canonical bytes are canonical.
+    IsCanonical,
+    /// The SHA-256 of the message's canonical bytes.
+    Hash,
+    /// The text of a tree.
+    Show,
+    /// The packed text of the framed message's words.
+    Pack,
+    /// The words of the packed text.
+    Unpack,
+    /// The program's run of `check` over a stream.
+    Check,
+}
+
+impl Operation {
+    /// Those of one message.
+    pub const ALL: [Operation; 11] = [
+        Operation::Copy,
+        Operation::First,
+        Operation::Framer,
+        Operation::Survey,
+        Operation::Walk,
+        Operation::Canonical,
+        Operation::IsCanonical,
+        Operation::Hash,
+        Operation::Show,
+        Operation::Pack,
+        Operation::Unpack,
+    ];
+
+    /// What it is called.
+    pub fn name(self) -> &'static str {
+        match self {
+            Operation::Copy => "copy",
+            Operation::First => "first",
+            Operation::Framer => "framer",
+            Operation::Survey => "survey",
+            Operation::Walk => "walk",
+            Operation::Canonical => "canonical",
+            Operation::IsCanonical => "is_canonical",
+            Operation::Hash => "hash",
+            Operation::Show => "show",
+            Operation::Pack => "pack",
+            Operation::Unpack => "unpack",
+            Operation::Check => "check",
+        }
+    }
+
+    /// The operation of that name.
+    pub fn named(name: &str) -> Option<Operation> {
+        if name == Operation::Check.name() {
+            return Some(Operation::Check);
+        }
+        Operation::ALL
+            .iter()
+            .copied()
+            .find(|operation| operation.name() == name)
+    }
+}
+
+/// What an operation takes.
+#[derive(Drop)]
+pub struct Input {
+    /// The framed message, its canonical bytes, its packed text, or a stream.
+    bytes: Vec<u8>,
+    /// The tree of the message.
+    tree: Option<Tree>,
+    /// The bytes by which its cost is told: those of canonical bytes, else of the framed message or the stream.
+    pub size: usize,
+}
+
+/// The message that stands first in the bytes.
+pub fn message(alloc: Global, framed: &[u8]) -> Result<Framed<'_>> {
+    match first(alloc, framed, MOST_WORDS) {
+        Ok((message, _)) => Ok(message),
+        Err(_) => Err(anyhow!("no frame")),
+    }
+}
+
+/// The tree of a framed message, with what its walk paid.
+pub fn walked(alloc: Global, framed: &[u8]) -> Result<Walked> {
+    match walk(alloc, &message(alloc, framed)?, Limits::usual()) {
+        Ok(walked) => Ok(walked),
+        Err(_) => Err(anyhow!("not walked")),
+    }
+}
+
+/// The canonical bytes of a framed message.
+pub fn canonical(alloc: Global, framed: &[u8]) -> Result<Vec<u8>> {
+    match canonical_of(alloc, &message(alloc, framed)?, Limits::usual()) {
+        Ok(canonical) => Ok(canonical.bytes),
+        Err(_) => Err(anyhow!("no canonical bytes")),
+    }
+}
+
+/// Whether bytes are canonical.
+pub fn test(alloc: Global, bytes: &[u8]) -> Result<bool> {
+    is_canonical(alloc, bytes, Limits::usual()).map_err(|_| anyhow!("not read"))
+}
+
+/// The packed text of some words.
+pub fn packed(alloc: Global, words: &[u8]) -> Result<Vec<u8>> {
+    pack(alloc, words).map_err(|_| anyhow!("not packed"))
+}
+
+/// The words of a packed text.
+pub fn unpacked(alloc: Global, text: &[u8]) -> Result<Vec<u8>> {
+    unpack(alloc, text, MOST_WORDS).map_err(|_| anyhow!("not unpacked"))
+}
+
+/// The words that reading a message pays.
+pub fn paid(alloc: Global, framed: &[u8]) -> Result<u32> {
+    match survey(alloc, &message(alloc, framed)?, Limits::usual()) {
+        Ok(surveyed) => Ok(surveyed.paid),
+        Err(_) => Err(anyhow!("not surveyed")),
+    }
+}
+
+/// The contents of the message that comes in pieces, in words.
+pub fn received(alloc: Global, framed: &[u8]) -> Result<u32> {
+    let mut framer = Framer::new(alloc, MOST_WORDS);
+    for piece in framed.chunks(PIECE) {
+        match framer.feed(piece) {
+            Ok(taken) => if taken < piece.len() {
+                return Err(anyhow!("a message ended early"));
+            },
+            Err(_) => return Err(anyhow!("not fed")),
+        }
+    }
+    match framer.take() {
+        Some(message) => Ok(words_of(&message)),
+        None => Err(anyhow!("no message")),
+    }
+}
+
+/// The words of a message.
+pub fn words_of<S: Space>(message: &S) -> u32 {
+    let mut words = 0u32;
+    for segment in 0..message.segments() {
+        words = words.saturating_add(message.words(segment).unwrap_or(0));
+    }
+    words
+}
+
+/// What the program writes for `check` of a stream.
+fn checked(alloc: Global, stream: &[u8]) -> Result<Vec<u8>> {
+    let mut reader = Watched::new(stream);
+    let mut writer = Watched::new(Vec::new(alloc));
+    let command = Command::Check(Form::Stream, Limits::usual());
+    match run(alloc, command, &mut reader, &mut writer) {
+        Ok(()) => Ok(writer.into_inner()),
+        Err(_) => Err(anyhow!("not checked")),
+    }
+}
+
+impl Input {
+    /// What an operation takes, for a framed message or a stream.
+    pub fn new(alloc: Global, operation: Operation, framed: Vec<u8>) -> Result<Input> {
+        let mut size = framed.len();
+        let mut tree = None;
+        let bytes = match operation {
+            Operation::IsCanonical => {
+                let bytes = canonical(alloc, &framed)?;
+                size = bytes.len();
+                bytes
+            }
+            Operation::Unpack => packed(alloc, &framed)?,
+            Operation::Show => {
+                tree = Some(walked(alloc, &framed)?.tree);
+                framed
+            }
+            _ => framed,
+        };
+        Ok(Input { bytes, tree, size })
+    }
+
+    /// The text of the tree.
+    fn text(&self, alloc: Global) -> Result<usize> {
+        match &self.tree {
+            Some(tree) => match show(alloc, tree) {
+                Ok(text) => Ok(text.len()),
+                Err(_) => Err(anyhow!("not shown")),
+            },
+            None => Err(anyhow!("no tree")),
+        }
+    }
+
+    /// Does the operation once. The answer is some number of what came out.
+    #[inline(never)]
+    pub fn perform(&self, alloc: Global, operation: Operation) -> Result<usize> {
+        let bytes = self.bytes.as_slice();
+        match operation {
+            Operation::Copy => Ok(Vec::from_slice(alloc, bytes)?.len()),
+            Operation::First => Ok(message(alloc, bytes)?.segments() as usize),
+            Operation::Framer => Ok(received(alloc, bytes)? as usize),
+            Operation::Survey => Ok(paid(alloc, bytes)? as usize),
+            Operation::Walk => Ok(walked(alloc, bytes)?.paid as usize),
+            Operation::Canonical => Ok(canonical(alloc, bytes)?.len()),
+            Operation::IsCanonical => Ok(usize::from(test(alloc, bytes)?)),
+            Operation::Hash => Ok(usize::from(digest(alloc, bytes)?[0])),
+            Operation::Show => self.text(alloc),
+            Operation::Pack => Ok(packed(alloc, bytes)?.len()),
+            Operation::Unpack => Ok(unpacked(alloc, bytes)?.len()),
+            Operation::Check => Ok(checked(alloc, bytes)?.len()),
+        }
+    }
+}
+
+/// The SHA-256 of a message's canonical bytes.
+pub fn digest(alloc: Global, framed: &[u8]) -> Result<[u8; 32]> {
+    Ok(Sha256::digest(canonical(alloc, framed)?.as_slice()))
+}

@@ -1,0 +1,281 @@
+//! A message in the making: words that are appended, and pointers that are written once their object has a place.
+
+ghost use Rattle.std.specs.Prelude.{◌<◌};
+
+use crate::shapes::random::{Content, Random};
+use std::alloc::{AllocError, Global};
+
+/// The pointer to a struct without words and slots, which is not null.
+const EMPTY: u64 = 0xffff_fffc;
+
+/// A word of a draft.
+#[derive(Debug, Clone, Copy)]
+pub struct Slot {
+    /// The segments before its own.
+    segment: usize,
+    /// The words before it, in all segments.
+    at: usize,
+}
+
+impl Slot {
+    /// Where the pointer to the root stands.
+    pub const ROOT: Slot = Slot { segment: 0, at: 0 };
+
+    /// The word so many words behind it.
+    pub fn after(self, words: u32) -> Slot {
+        Slot {
+            segment: self.segment,
+            at: self.at.saturating_add(words as usize),
+        }
+    }
+}
+
+/// How a pointer leads to its object.
+enum Route {
+    /// By an offset.
+    Near,
+    /// By a pad of one word.
+    Far,
+    /// By a pad of two words.
+    DoubleFar,
+}
+
+/// A message in the making. Objects stand in the order in which they are made.
+#[derive(Debug, Drop)]
+pub struct Draft {
+    words: Vec<u64>,
+    sizes: Vec<u32>,
+    start: usize,
+    most: Option<usize>,
+    random: Random,
+}
+
+/// The number, as far as it fits.
+fn narrow(number: usize) -> u32 {
+    u32::try_from(number).unwrap_or(u32::MAX)
+}
+
+impl Draft {
+    /// With the pointer to the root alone, in one segment, or in segments of some so many words.
+    pub fn new(alloc: Global, most: Option<usize>) -> Result<Draft, AllocError> {
+        let mut words = Vec::new(alloc);
+        words.push(0)?;
+        Ok(Draft {
+            words,
+            sizes: Vec::new(alloc),
+            start: 0,
+            most,
+            random: Random::new(),
+        })
+    }
+
+    /// A number below another.
+    pub fn below(&mut self, bound: u32) -> u32
+        requires { 0 < bound }
+        ensures { result < bound }
+    {
+        self.random.below(bound)
+    }
+
+    /// The word that is next.
+    fn here(&self) -> Slot {
+        Slot {
+            segment: self.sizes.len(),
+            at: self.words.len(),
+        }
+    }
+
+    /// The words of the last segment.
+    fn len(&self) -> usize {
+        self.words.len().saturating_sub(self.start)
+    }
+
+    /// Ends the last segment.
+    fn cut(&mut self) -> Result<(), AllocError> {
+        let size = narrow(self.len());
+        self.sizes.push(size)?;
+        self.start = self.words.len();
+        Ok(())
+    }
+
+    /// Writes a pointer.
+    fn point(&mut self, slot: Slot, pointer: u64) {
+        if let Some(word) = self.words.get_mut(slot.at) {
+            *word = pointer;
+        }
+    }
+
+    /// The far pointer to the word that is next.
+    fn far(&self) -> u64 {
+        2 | (self.len() as u64) << 3 | (self.sizes.len() as u64) << 32
+    }
+
+    /// How the pointer of a slot leads to the object that is next.
+    fn route(&mut self, slot: Slot) -> Result<Route, AllocError> {
+        let Some(most) = self.most else {
+            return Ok(Route::Near);
+        };
+        if self.len() >= most {
+            self.cut()?;
+        }
+        if self.below(16) == 0 {
+            return Ok(Route::DoubleFar);
+        }
+        if slot.segment != self.sizes.len() || self.below(8) == 0 {
+            return Ok(Route::Far);
+        }
+        Ok(Route::Near)
+    }
+
+    /// Whether seven eighths of the words that the last segment may have are there.
+    fn is_nearly_full(&self) -> bool {
+        match self.most {
+            Some(most) => self.len() >= most - most / 8,
+            None => false,
+        }
+    }
+
+    /// Writes the pointer to the object that is next behind a pad of two words, which ends a segment that is nearly full.
+    fn place_double_far(&mut self, slot: Slot, pointer: u64) -> Result<(), AllocError> {
+        let far = self.far();
+        self.point(slot, far | 4);
+        let pad = self.here();
+        self.words.push(0)?;
+        self.words.push(pointer)?;
+        if self.is_nearly_full() {
+            self.cut()?;
+        }
+        let far = self.far();
+        self.point(pad, far);
+        Ok(())
+    }
+
+    /// Writes the pointer of these fields, all but the offset, to the object that is next.
+    fn place(&mut self, slot: Slot, pointer: u64) -> Result<(), AllocError> {
+        match self.route(slot)? {
+            Route::Near => {
+                let offset = self.words.len().saturating_sub(slot.at).saturating_sub(1) as u64;
+                let near = if pointer == 0 {
+                    EMPTY
+                } else {
+                    pointer | offset << 2
+                };
+                self.point(slot, near);
+            }
+            Route::Far => {
+                let far = self.far();
+                self.point(slot, far);
+                self.words.push(if pointer == 0 { EMPTY } else { pointer })?;
+            }
+            Route::DoubleFar => self.place_double_far(slot, pointer)?,
+        }
+        Ok(())
+    }
+
+    /// So many words.
+    pub fn fill(&mut self, content: Content, words: u32) -> Result<(), AllocError> {
+        for _ in 0..words {
+            let word = self.random.word(content);
+            self.words.push(word)?;
+        }
+        Ok(())
+    }
+
+    /// A struct, whose slots are null so far. Answers the first slot.
+    pub fn node(
+        &mut self,
+        slot: Slot,
+        content: Content,
+        words: u32,
+        slots: u32,
+    ) -> Result<Slot, AllocError> {
+        self.place(slot, u64::from(words) << 32 | u64::from(slots) << 48)?;
+        self.fill(content, words)?;
+        let first = self.here();
+        self.fill(Content::Zeros, slots)?;
+        Ok(first)
+    }
+
+    /// A list of bytes.
+    pub fn bytes(&mut self, slot: Slot, content: Content, count: u32) -> Result<(), AllocError> {
+        self.place(slot, 1 | 2 << 32 | u64::from(count) << 35)?;
+        self.fill(content, count / 8)?;
+        let rest = count % 8;
+        if rest > 0 {
+            let word = self.random.word(content) & u64::MAX >> (64 - 8 * rest);
+            self.words.push(word)?;
+        }
+        Ok(())
+    }
+
+    /// A list of 32-bit numbers, so many pairs of them.
+    pub fn pairs(&mut self, slot: Slot, content: Content, pairs: u32) -> Result<(), AllocError> {
+        self.place(slot, 1 | 4 << 32 | u64::from(pairs) << 36)?;
+        self.fill(content, pairs)
+    }
+
+    /// A list of 64-bit numbers.
+    pub fn numbers(&mut self, slot: Slot, content: Content, count: u32) -> Result<(), AllocError> {
+        self.place(slot, 1 | 5 << 32 | u64::from(count) << 35)?;
+        self.fill(content, count)
+    }
+
+    /// A list of pointers, which are null so far. Answers the first.
+    pub fn pointers(&mut self, slot: Slot, count: u32) -> Result<Slot, AllocError> {
+        self.place(slot, 1 | 6 << 32 | u64::from(count) << 35)?;
+        let first = self.here();
+        self.fill(Content::Zeros, count)?;
+        Ok(first)
+    }
+
+    /// A list of structs, whose slots are null so far. Answers the first word of the first.
+    pub fn rows(
+        &mut self,
+        slot: Slot,
+        content: Content,
+        count: u32,
+        words: u32,
+        slots: u32,
+    ) -> Result<Slot, AllocError> {
+        let size = u64::from(words).saturating_add(u64::from(slots));
+        let all = u64::from(count).saturating_mul(size);
+        self.place(slot, 1 | 7 << 32 | all << 35)?;
+        let sizes = u64::from(words) << 32 | u64::from(slots) << 48;
+        self.words.push(u64::from(count) << 2 | sizes)?;
+        let first = self.here();
+        for _ in 0..count {
+            self.fill(content, words)?;
+            self.fill(Content::Zeros, slots)?;
+        }
+        Ok(first)
+    }
+
+    /// A root with a list of pointers, as many as there are groups of so many words each in so many bytes. Answers the
+    /// first pointer and their number.
+    pub fn groups(&mut self, bytes: u32, words: u32) -> Result<(Slot, u32), AllocError>
+        requires { 0 < words }
+    {
+        let root = self.node(Slot::ROOT, Content::Numbers, 1, 1)?;
+        let count = (bytes / 8 / words).max(1);
+        let first = self.pointers(root, count)?;
+        Ok((first, count))
+    }
+
+    /// The framed message.
+    pub fn into_frame(mut self, alloc: Global) -> Result<Vec<u8>, AllocError> {
+        self.cut()?;
+        let mut bytes = Vec::new(alloc);
+        let last = narrow(self.sizes.len().saturating_sub(1));
+        bytes.extend_from_slice(&last.to_le_bytes())?;
+        for size in &self.sizes {
+            bytes.extend_from_slice(&size.to_le_bytes())?;
+        }
+        if self.sizes.len() % 2 == 0 {
+            bytes.extend_from_slice(&[0; 4])?;
+        }
+        for word in &self.words {
+            bytes.extend_from_slice(&word.to_le_bytes())?;
+        }
+        Ok(bytes)
+    }
+}

@@ -1,0 +1,108 @@
+//! A bit of everything.
+
+use crate::shapes::draft::{Draft, Slot};
+use crate::shapes::random::Content;
+use std::alloc::{AllocError, Global};
+
+/// Null, a text, a small struct or a list of numbers.
+fn field(draft: &mut Draft, slot: Slot) -> Result<(), AllocError> {
+    match draft.below(4) {
+        0 => Ok(()),
+        1 => {
+            let len = draft.below(41);
+            draft.bytes(slot, Content::Letters, len)
+        }
+        2 => {
+            let words = draft.below(4);
+            draft.node(slot, Content::Fields, words, 0)?;
+            Ok(())
+        }
+        _ => {
+            let pairs = draft.below(9);
+            draft.pairs(slot, Content::Noise, pairs)
+        }
+    }
+}
+
+/// A struct with fields in its slots.
+fn record(draft: &mut Draft, slot: Slot) -> Result<(), AllocError> {
+    let words = draft.below(9);
+    let slots = draft.below(5);
+    let first = draft.node(slot, Content::Fields, words, slots)?;
+    for i in 0..slots {
+        field(draft, first.after(i))?;
+    }
+    Ok(())
+}
+
+/// Texts in most of the slots.
+fn texts(draft: &mut Draft, first: Slot, slots: u32) -> Result<(), AllocError> {
+    for i in 0..slots {
+        if draft.below(10) < 7 {
+            let len = 1 + draft.below(30);
+            draft.bytes(first.after(i), Content::Letters, len)?;
+        }
+    }
+    Ok(())
+}
+
+/// A list of structs with texts in their slots.
+fn table(draft: &mut Draft, slot: Slot) -> Result<(), AllocError> {
+    let count = draft.below(9);
+    let words = draft.below(4);
+    let slots = draft.below(3);
+    let mut row = draft.rows(slot, Content::Fields, count, words, slots)?;
+    for _ in 0..count {
+        let first = row.after(words);
+        texts(draft, first, slots)?;
+        row = first.after(slots);
+    }
+    Ok(())
+}
+
+/// A list of pointers, most of them to structs with a null slot.
+fn list(draft: &mut Draft, slot: Slot) -> Result<(), AllocError> {
+    let count = 1 + draft.below(8);
+    let first = draft.pointers(slot, count)?;
+    for i in 0..count {
+        if draft.below(10) < 7 {
+            draft.node(first.after(i), Content::Fields, 2, 1)?;
+        }
+    }
+    Ok(())
+}
+
+/// One of these, a long text or null.
+fn group(draft: &mut Draft, slot: Slot) -> Result<(), AllocError> {
+    match draft.below(8) {
+        0 | 1 | 2 => record(draft, slot),
+        3 | 4 => table(draft, slot),
+        5 => {
+            let len = 1 + draft.below(200);
+            draft.bytes(slot, Content::Letters, len)
+        }
+        6 => list(draft, slot),
+        _ => Ok(()),
+    }
+}
+
+/// All of these in one segment.
+pub fn mixed(alloc: Global, bytes: u32) -> Result<Vec<u8>, AllocError> {
+    let mut draft = Draft::new(alloc, None)?;
+    let (first, count) = draft.groups(bytes, 12)?;
+    for i in 0..count {
+        group(&mut draft, first.after(i))?;
+    }
+    draft.into_frame(alloc)
+}
+
+/// All of these in some 400 segments, or in segments of 16 words.
+pub fn segments(alloc: Global, bytes: u32) -> Result<Vec<u8>, AllocError> {
+    let most = (bytes / 8 / 400).max(16) as usize;
+    let mut draft = Draft::new(alloc, Some(most))?;
+    let (first, count) = draft.groups(bytes, 14)?;
+    for i in 0..count {
+        group(&mut draft, first.after(i))?;
+    }
+    draft.into_frame(alloc)
+}

@@ -1,0 +1,75 @@
+//! Words without order.
+
+ghost use Rattle.std.specs.Prelude.{◌<◌};
+
+/// What stands in words that are no pointers.
+#[derive(Debug, Clone, Copy)]
+pub enum Content {
+    /// Zero words.
+    Zeros,
+    /// Numbers of one to eight bytes, none of them zero.
+    Numbers,
+    /// Numbers, three in ten of them zero.
+    Fields,
+    /// Numbers, eleven in twelve of them zero.
+    Sparse,
+    /// Letters.
+    Letters,
+    /// Random bits.
+    Noise,
+}
+
+/// Numbers without order, by shifts and exclusive ors; the same ones from each beginning.
+#[derive(Debug, Drop)]
+pub struct Random {
+    state: u64,
+}
+
+impl Random {
+    /// At the beginning.
+    pub fn new() -> Random {
+        Random {
+            state: 88_172_645_463_325_252,
+        }
+    }
+
+    /// A random word.
+    fn next(&mut self) -> u64 {
+        self.state ^= self.state << 13;
+        self.state ^= self.state >> 7;
+        self.state ^= self.state << 17;
+        self.state
+    }
+
+    /// A number below another.
+    pub fn below(&mut self, bound: u32) -> u32
+        requires { 0 < bound }
+        ensures { result < bound }
+    {
+        (self.next() >> 32) as u32 % bound
+    }
+
+    /// A number of one to eight bytes that is not zero.
+    fn number(&mut self) -> u64 {
+        let bytes = match self.below(6) {
+            0 => 8,
+            1 => 4,
+            2 => 3,
+            3 => 2,
+            _ => 1,
+        };
+        self.next() >> (64 - 8 * bytes) | 1
+    }
+
+    /// A word of some content.
+    pub fn word(&mut self, content: Content) -> u64 {
+        match content {
+            Content::Zeros => 0,
+            Content::Numbers => self.number(),
+            Content::Fields => { if self.below(10) < 3 { 0 } else { self.number() } }
+            Content::Sparse => { if self.below(12) > 0 { 0 } else { self.number() } }
+            Content::Letters => self.next() & 0x1f1f_1f1f_1f1f_1f1f | 0x6060_6060_6060_6060,
+            Content::Noise => self.next(),
+        }
+    }
+}

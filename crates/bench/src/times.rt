@@ -1,0 +1,104 @@
+//! The shortest times of each operation.
+
+use crate::operations::{Input, Operation};
+use crate::shapes::{Shape, framed};
+use anyhow::Result;
+use std::alloc::Global;
+use std::time::{Clock, Instant};
+
+/// The sizes of message.
+const SIZES: [u32; 4] = [1 << 10, 1 << 16, 1 << 20, 1 << 24];
+
+/// The messages of the stream of small ones.
+const MESSAGES: u32 = 1 << 20;
+
+/// The thousandths of a nanosecond a unit, of which there are so many.
+fn per_unit(nanoseconds: u128, units: usize) -> u64 {
+    let thousandths = nanoseconds.saturating_mul(1000) / (units.max(1) as u128);
+    u64::try_from(thousandths).unwrap_or(u64::MAX)
+}
+
+/// The time of so many steps of an operation, in thousandths of a nanosecond a byte.
+fn timed<R: Clock>(
+    rt: &R,
+    alloc: Global,
+    operation: Operation,
+    input: &Input,
+    steps: usize,
+) -> Result<u64> {
+    let start = Instant::now(rt)?;
+    for _ in 0..steps {
+        input.perform(alloc, operation)?;
+    }
+    let units = input.size.saturating_mul(steps);
+    Ok(per_unit(start.elapsed(rt)?.as_nanos(), units))
+}
+
+/// The shortest of some times of an operation. A small message is taken many times over, so that the clock's own time
+/// counts for little.
+fn shortest<R: Clock>(
+    rt: &R,
+    alloc: Global,
+    operation: Operation,
+    shape: Shape,
+    bytes: u32,
+) -> Result<u64> {
+    let input = Input::new(alloc, operation, framed(alloc, shape, bytes)?)?;
+    let steps = ((1 << 17) / bytes.max(1)).max(1) as usize;
+    let rounds = if bytes > 1 << 22 { 2 } else { 8 };
+    let mut least = u64::MAX;
+    for _ in 0..rounds {
+        least = least.min(timed(rt, alloc, operation, &input, steps)?);
+    }
+    Ok(least)
+}
+
+/// The line of the operations' names.
+fn print_names(rt: &impl Print) -> Result<()> {
+    for operation in Operation::ALL {
+        print!(rt; " {:>12}", operation.name())?;
+    }
+    println!(rt; "")?;
+    Ok(())
+}
+
+/// The times of one shape at one size.
+fn print_shape<R: Print + Clock>(rt: &R, alloc: Global, shape: Shape, bytes: u32) -> Result<()> {
+    print!(rt; "{:>8}", shape.name())?;
+    for operation in Operation::ALL {
+        let time = shortest(rt, alloc, operation, shape, bytes)?;
+        print!(rt; " {:>8}.{:03}", time / 1000, time % 1000)?;
+    }
+    println!(rt; "")?;
+    Ok(())
+}
+
+/// The table of one size.
+fn print_size<R: Print + Clock>(rt: &R, alloc: Global, bytes: u32) -> Result<()> {
+    print!(rt; "{:>8}", bytes)?;
+    print_names(rt)?;
+    for shape in Shape::MESSAGES {
+        print_shape(rt, alloc, shape, bytes)?;
+    }
+    Ok(())
+}
+
+/// The time of a message in a stream of small ones.
+fn print_small<R: Print + Clock>(rt: &R, alloc: Global) -> Result<()> {
+    let bytes = MESSAGES * 32;
+    let time = shortest(rt, alloc, Operation::Check, Shape::Small, bytes)?.saturating_mul(32);
+    println!(rt;
+        "check of messages of 32 bytes: {}.{:03} ns a message",
+        time / 1000,
+        time % 1000
+    )?;
+    Ok(())
+}
+
+/// Prints the shortest times, in nanoseconds a byte, of each operation on each shape at each size.
+pub fn measure<R: Print + Clock>(rt: &R, alloc: Global) -> Result<()> {
+    for bytes in SIZES {
+        print_size(rt, alloc, bytes)?;
+    }
+    print_small(rt, alloc)
+}
