@@ -2,14 +2,12 @@
 
 ghost use Rattle.std.specs.Prelude.{◌≤◌, ◌^◌, IfOk};
 
+use crate::messages::MOST_WORDS;
 use crate::words::{bytes_at, digits_of, number_at};
 use anyhow::{Result, anyhow};
 use capn_stream::{FrameFault, first, frame};
 use capn_words::{Place, Space};
 use std::alloc::Global;
-
-/// The most words that a message may have.
-const MOST_WORDS: u32 = 268_435_456;
 
 /// The limit on message words at a place of the line.
 pub fn limit_at(words: &[&str], at: usize) -> Result<u32>
@@ -25,7 +23,8 @@ pub fn limit_at(words: &[&str], at: usize) -> Result<u32>
 /// A refusal of a frame.
 pub fn frame_text(alloc: Global, fault: FrameFault) -> Result<String> {
     let text = match fault {
-        FrameFault::Memory | FrameFault::Failed => return Err(anyhow!("out of memory")),
+        FrameFault::Memory => return Err(anyhow!("out of memory")),
+        FrameFault::Failed => format!(in alloc; "Failed")?,
         FrameFault::Empty => format!(in alloc; "Empty")?,
         FrameFault::TooManySegments(count) => format!(in alloc; "TooManySegments({count})")?,
         FrameFault::TooManyWords(count) => format!(in alloc; "TooManyWords({count})")?,
@@ -35,7 +34,7 @@ pub fn frame_text(alloc: Global, fault: FrameFault) -> Result<String> {
 }
 
 /// The bytes of each segment, each behind a space.
-fn segments_text<S: Space>(alloc: Global, space: &S) -> Result<String> {
+pub fn segments_text<S: Space>(alloc: Global, space: &S) -> Result<String> {
     let mut text = String::new(alloc);
     for segment in 0..space.segments() {
         let Some(words) = space.words(segment) else {

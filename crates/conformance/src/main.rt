@@ -5,8 +5,11 @@
 mod frames;
 mod messages;
 mod packing;
+mod pieces;
 mod refusals;
 mod runs;
+mod surveys;
+mod views;
 mod words;
 
 use anyhow::{Result, bail};
@@ -32,6 +35,14 @@ fn answer(alloc: Global, line: &str) -> Result<String> {
         "first" => frames::first_answer(alloc, words),
         "frame" => frames::frame_answer(alloc, words),
         "tag" => packing::tag_answer(alloc, words),
+        "framer" => pieces::framer_answer(alloc, words),
+        "pieces" => pieces::pieces_answer(alloc, words),
+        "unpacker" => pieces::unpacker_answer(alloc, words),
+        "read" => pieces::read_answer(alloc, words),
+        "write" => pieces::write_answer(alloc, words),
+        "survey" => surveys::survey_answer(alloc, words),
+        "is_canonical" => surveys::is_canonical_answer(alloc, words),
+        "view" => views::view_answer(alloc, words),
         call => bail!("no call {call:?}"),
     }
 }

@@ -12,10 +12,10 @@ use capn_words::{Bare, Place, Space};
 use std::alloc::Global;
 
 /// The most words that a message may have.
-const MOST_WORDS: u32 = 268_435_456;
+pub const MOST_WORDS: u32 = 268_435_456;
 
 /// The form at a place of the line.
-fn form_at(words: &[&str], at: usize) -> Result<Form> {
+pub fn form_at(words: &[&str], at: usize) -> Result<Form> {
     match word_at(words, at)? {
         "stream" => Ok(Form::Stream),
         "packed" => Ok(Form::Packed),
@@ -33,7 +33,7 @@ fn limits_at(words: &[&str], at: usize) -> Result<Option<Limits>> {
 }
 
 /// The same, where they have to be limits.
-fn true_limits_at(words: &[&str], at: usize) -> Result<Limits> {
+pub fn true_limits_at(words: &[&str], at: usize) -> Result<Limits> {
     match limits_at(words, at)? {
         Some(limits) => Ok(limits),
         None => Err(anyhow!("no limits")),

@@ -39,7 +39,8 @@ pub fn stopped_text(alloc: Global, stopped: Stopped) -> Result<String> {
 /// A refusal of packed text.
 pub fn unpack_text(alloc: Global, fault: UnpackFault) -> Result<String> {
     match fault {
-        UnpackFault::Memory | UnpackFault::Failed => Err(anyhow!("out of memory")),
+        UnpackFault::Memory => Err(anyhow!("out of memory")),
+        UnpackFault::Failed => Ok(format!(in alloc; "Failed")?),
         UnpackFault::Cut { at } => Ok(format!(in alloc; "Cut at {at}")?),
         UnpackFault::TooLong { at } => Ok(format!(in alloc; "TooLong at {at}")?),
     }

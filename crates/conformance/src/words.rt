@@ -32,3 +32,12 @@ pub fn digits_of(alloc: Global, bytes: &[u8]) -> Result<String> {
     }
     Ok(hex::encode(alloc, bytes)?)
 }
+
+/// Appends what one step of a case told.
+pub fn push_told(text: &mut String, told: &str) -> Result<()> {
+    if !text.is_empty() {
+        text.push_str(", ")?;
+    }
+    text.push_str(told)?;
+    Ok(())
+}

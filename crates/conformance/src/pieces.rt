@@ -1,0 +1,192 @@
+//! The calls on streams and packed texts that come in pieces, and over a reader and a writer.
+
+use crate::frames::{frame_text, limit_at, segments_text};
+use crate::messages::MOST_WORDS;
+use crate::refusals::unpack_text;
+use crate::words::{bytes_at, digits_of, number_at, push_told, word_at};
+use anyhow::{Result, anyhow, bail};
+use capn_pack::Unpacker;
+use capn_stream::{FrameFault, Framer, ReadFault, Stored, read_message, write_message};
+use capn_words::Watched;
+use std::alloc::Global;
+
+/// A message, by the bytes of its segments.
+fn message_text(alloc: Global, message: &Stored) -> Result<String> {
+    let segments = segments_text(alloc, message)?;
+    Ok(format!(in alloc; "message{segments}")?)
+}
+
+/// What the end of a stream is told.
+fn ending_text(alloc: Global, ending: Result<(), FrameFault>) -> Result<String> {
+    match ending {
+        Ok(()) => Ok(String::from_str(alloc, "Ok")?),
+        Err(fault) => frame_text(alloc, fault),
+    }
+}
+
+/// What a framer is told, in a word of the line, and what it answers; bytes are those of the next word.
+fn framer_text(framer: &mut Framer, alloc: Global, words: &[&str], at: usize) -> Result<String> {
+    match word_at(words, at)? {
+        "feed" => {
+            let piece = bytes_at(alloc, words, at.saturating_add(1))?;
+            match framer.feed(piece.as_slice()) {
+                Ok(taken) => Ok(format!(in alloc; "{taken}")?),
+                Err(fault) => frame_text(alloc, fault),
+            }
+        }
+        "take" => match framer.take() {
+            Some(message) => message_text(alloc, &message),
+            None => Ok(String::from_str(alloc, "none")?),
+        },
+        "finish" => ending_text(alloc, framer.finish()),
+        step => bail!("no step {step:?}"),
+    }
+}
+
+/// `framer MOST_WORDS STEP ..`: each step is `feed BYTES`, `take` or `finish`.
+pub fn framer_answer(alloc: Global, words: &[&str]) -> Result<String> {
+    let mut framer = Framer::new(alloc, limit_at(words, 1)?);
+    let mut text = String::new(alloc);
+    let mut is_piece = false;
+    for at in 2..words.len() {
+        if is_piece {
+            is_piece = false;
+            continue;
+        }
+        let told = framer_text(&mut framer, alloc, words, at)?;
+        push_told(&mut text, told.as_str())?;
+        is_piece = word_at(words, at)? == "feed";
+    }
+    Ok(text)
+}
+
+/// What an unpacker is told, in a word of the line, and what it answers; bytes are those of the next word.
+fn unpacker_text(
+    unpacker: &mut Unpacker,
+    alloc: Global,
+    words: &[&str],
+    at: usize,
+) -> Result<String> {
+    match word_at(words, at)? {
+        "feed" => {
+            let piece = bytes_at(alloc, words, at.saturating_add(1))?;
+            let mut unpacked = Vec::new(alloc);
+            match unpacker.feed(piece.as_slice(), &mut unpacked) {
+                Ok(()) => digits_of(alloc, unpacked.as_slice()),
+                Err(fault) => unpack_text(alloc, fault),
+            }
+        }
+        "finish" => match unpacker.finish() {
+            Ok(()) => Ok(String::from_str(alloc, "Ok")?),
+            Err(fault) => unpack_text(alloc, fault),
+        },
+        step => bail!("no step {step:?}"),
+    }
+}
+
+/// `unpacker STEP ..`: each step is `feed BYTES` or `finish`.
+pub fn unpacker_answer(alloc: Global, words: &[&str]) -> Result<String> {
+    let mut unpacker = Unpacker::new();
+    let mut text = String::new(alloc);
+    let mut is_piece = false;
+    for at in 1..words.len() {
+        if is_piece {
+            is_piece = false;
+            continue;
+        }
+        let told = unpacker_text(&mut unpacker, alloc, words, at)?;
+        push_told(&mut text, told.as_str())?;
+        is_piece = word_at(words, at)? == "feed";
+    }
+    Ok(text)
+}
+
+/// The bytes from an offset on.
+fn rest_of(bytes: &[u8], at: usize) -> &[u8] {
+    if at <= bytes.len() { &bytes[at..] } else { &[] }
+}
+
+/// Feeds a piece, and appends each message that it makes whole.
+fn feed_all(
+    framer: &mut Framer,
+    alloc: Global,
+    piece: &[u8],
+    text: &mut String,
+) -> Result<Result<(), FrameFault>> {
+    let mut at = 0usize;
+    for _ in 0..piece.len() {
+        match framer.feed(rest_of(piece, at)) {
+            Ok(taken) => at = at.saturating_add(taken),
+            Err(fault) => return Ok(Err(fault)),
+        }
+        if let Some(message) = framer.take() {
+            let told = message_text(alloc, &message)?;
+            push_told(text, told.as_str())?;
+        }
+        if at >= piece.len() {
+            break;
+        }
+    }
+    Ok(Ok(()))
+}
+
+/// `pieces SIZE MOST_WORDS BYTES`: the messages of the bytes, fed so many at a time, and the ending.
+pub fn pieces_answer(alloc: Global, words: &[&str]) -> Result<String> {
+    let size = number_at(words, 1)? as usize;
+    let mut framer = Framer::new(alloc, limit_at(words, 2)?);
+    let bytes = bytes_at(alloc, words, 3)?;
+    if size == 0 {
+        bail!("pieces of no bytes");
+    }
+    let mut text = String::new(alloc);
+    for piece in bytes.as_slice().chunks(size) {
+        if let Err(fault) = feed_all(&mut framer, alloc, piece, &mut text)? {
+            let told = frame_text(alloc, fault)?;
+            push_told(&mut text, told.as_str())?;
+            return Ok(text);
+        }
+    }
+    let told = ending_text(alloc, framer.finish())?;
+    push_told(&mut text, told.as_str())?;
+    Ok(text)
+}
+
+/// `read MOST_WORDS BYTES`: the messages of a reader that has the bytes to give, and the ending.
+pub fn read_answer(alloc: Global, words: &[&str]) -> Result<String> {
+    let limit = limit_at(words, 1)?;
+    let bytes = bytes_at(alloc, words, 2)?;
+    let mut reader = Watched::new(bytes.as_slice());
+    let mut text = String::new(alloc);
+    for _ in 0..=bytes.len() {
+        if reader.failed() {
+            bail!("no input");
+        }
+        let told = match read_message(alloc, &mut reader, limit) {
+            Ok(Some(message)) => {
+                let told = message_text(alloc, &message)?;
+                push_told(&mut text, told.as_str())?;
+                continue;
+            }
+            Ok(None) => ending_text(alloc, Ok(()))?,
+            Err(ReadFault::Frame(fault)) => frame_text(alloc, fault)?,
+            Err(_) => bail!("no input"),
+        };
+        push_told(&mut text, told.as_str())?;
+        return Ok(text);
+    }
+    Err(anyhow!("a reader without end"))
+}
+
+/// `write BYTES`: what is written of the message that a reader of the bytes gives first.
+pub fn write_answer(alloc: Global, words: &[&str]) -> Result<String> {
+    let bytes = bytes_at(alloc, words, 1)?;
+    let mut reader = Watched::new(bytes.as_slice());
+    let Ok(Some(message)) = read_message(alloc, &mut reader, MOST_WORDS) else {
+        bail!("no message");
+    };
+    let mut writer = Watched::new(Vec::new(alloc));
+    match write_message(&mut writer, &message) {
+        Ok(()) => digits_of(alloc, writer.into_inner().as_slice()),
+        Err(_) => Err(anyhow!("no output")),
+    }
+}
