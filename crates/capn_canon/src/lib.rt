@@ -57,6 +57,3 @@ pub use reading::canonicalise;
 pub use refusal::Refusal;
 pub use surveying::survey;
 pub use verdict::{check, is_canonical};
-
-#[cfg(test)]
-mod tests;

@@ -34,6 +34,4 @@ pub use line::command_of;
 pub use misuse::Usage;
 pub use orders::Command;
 pub use running::run;
-
-#[cfg(test)]
-mod tests;
+pub use subcommands::tool_command;

@@ -44,6 +44,3 @@ pub use target::{Fault, Shape, Target};
 pub use view::View;
 pub use walked::{Stopped, Walked};
 pub use walking::walk;
-
-#[cfg(test)]
-mod tests;

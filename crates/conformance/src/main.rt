@@ -61,6 +61,3 @@ fn main(rt: HostRuntime) -> Result<()> {
     }
     Ok(())
 }
-
-#[cfg(test)]
-mod tests;

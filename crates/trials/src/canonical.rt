@@ -1,4 +1,6 @@
-use super::*;
+//! Canonical bytes in each form, and their check.
+
+use capn_canon::*;
 use capn_pack::UnpackFault;
 use capn_stream::FrameFault;
 use capn_walk::{Fault, Limits, Stopped};

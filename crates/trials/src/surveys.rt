@@ -1,5 +1,7 @@
-use super::*;
+//! Messages read, stepped through and surveyed.
+
 use capn_value::Value;
+use capn_walk::*;
 use capn_words::{Bare, Place, Space};
 
 const ROOT: Place = Place {

@@ -1,9 +1,9 @@
 //! Runs over readers and writers of one byte a call, which fail at one call.
 
-use crate::*;
 use capn_canon::{Form, Refusal};
 use capn_pack::UnpackFault;
 use capn_stream::FrameFault;
+use capn_tool::*;
 use capn_walk::Limits;
 use capn_words::Watched;
 use std::alloc::Global;

@@ -1,9 +1,9 @@
 //! The line and the status of each fault.
 
-use crate::*;
 use capn_canon::Refusal;
 use capn_pack::UnpackFault;
 use capn_stream::FrameFault;
+use capn_tool::*;
 use capn_walk::{Fault, Stopped};
 use capn_words::{BareFault, Place};
 use std::alloc::Global;

@@ -1,7 +1,7 @@
 //! Runs over a reader that gives pieces and a writer that takes all, both of which count their calls.
 
-use crate::*;
 use capn_canon::Form;
+use capn_tool::*;
 use capn_walk::Limits;
 use capn_words::Watched;
 use std::alloc::Global;

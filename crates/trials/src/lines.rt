@@ -1,8 +1,7 @@
 //! Command lines and what they order.
 
-use crate::subcommands::tool_command;
-use crate::*;
 use capn_canon::Form;
+use capn_tool::*;
 use capn_walk::Limits;
 use std::alloc::Global;
 

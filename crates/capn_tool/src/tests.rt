@@ -1,6 +1,0 @@
-//! Texts and statuses, command lines, and readers and writers that fail.
-
-mod ends;
-mod lines;
-mod runs;
-mod texts;
