@@ -22,3 +22,5 @@ pub mod SeenInside
 pub mod Stepped
 pub mod Showing
 pub mod WorkedValues
+pub mod InRangeAt
+pub mod Answering

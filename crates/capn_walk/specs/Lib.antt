@@ -11,3 +11,4 @@ pub mod Surveyed
 pub mod Account
 pub mod Viewed
 pub mod Shown
+pub mod Laws

@@ -4,9 +4,36 @@ ghost use Rattle.std.specs.Prelude.{ℕ, List};
 ghost use Rattle.capn_words.specs.declared.space.Place.{Place};
 ghost use Rattle.capn_value.specs.Tree.{Tree};
 ghost use Rattle.capn_walk.specs.declared.target.Target.{Target};
+ghost use Rattle.capn_walk.specs.Laws as laws;
 ghost use Rattle.capn_walk.specs.Shown.{ViewsShow};
 
 /// A view of a slot shows the value that stands there.
 pub fn views_show_values()
     ensures { (message : List (List ℕ)) (at : Place) (found : Target) (v : Tree) → ViewsShow message at found v }
+{}
+
+/// A message that is accepted has a value at its root. One value at most stands at a place, at so many slots, and in
+/// so many rows; its numbers are in range. Where the message is accepted, it fits, and costs at most what was paid.
+pub fn values()
+    ensures readable { laws.AcceptedAreReadable }
+    ensures one { laws.PlacesHaveOneValue }
+    ensures slots { laws.SlotsHaveOneValue }
+    ensures rows { laws.RowsHaveOneValue }
+    ensures in_range { laws.ValuesAreInRange }
+    ensures fit { laws.ValuesFit }
+    ensures cheap { laws.ValuesAreCheap }
+{}
+
+/// What the pointer at a place of a message names lies inside its segment, which exists; a value whose content stands
+/// there is the value at that place.
+pub fn targets()
+    ensures inside { laws.TargetsLieInside }
+    ensures content { laws.ContentIsValue }
+{}
+
+/// No message is both accepted and refused. Visits are within a budget, or have a first one that isn't, which is one.
+pub fn verdicts()
+    ensures apart { laws.Apart }
+    ensures decided { laws.Decided }
+    ensures one { laws.StopsAreOne }
 {}

@@ -1,0 +1,9 @@
+use Rattle.capn_walk.proofs.SeenInside.{found-inside}
+use Rattle.capn_walk.proofs.Walks.{is-inside}
+use Rattle.capn_walk.proofs.laws.targets.Goals as goal
+
+pub returns-clause-inside : goal.returns-clause-inside
+returns-clause-inside c m at t h e = found-inside m at t h e
+
+pub returns-clause-content : goal.returns-clause-content
+returns-clause-content c m at s start pads shape v e i = is-inside m at s start pads shape v e i

@@ -1,0 +1,78 @@
+-- The laws of walks, for the crates above.
+use Rattle.std.specs.Prelude.{◌≡◌, ◌⊎◌, ℕ, ◌^◌, ◌≤◌, List, length, Ok}
+use Rattle.capn_words.specs.Message.{IsMessage, IsPlace, segment_at}
+use Rattle.capn_words.specs.declared.space.Place.{Place}
+use Rattle.capn_value.specs.Tree.{Tree, Trees, Bodies, count, count_rows}
+use Rattle.capn_value.specs.Fits.{Fits}
+use Rattle.capn_value.specs.InRange.{InRange}
+use Rattle.capn_value.specs.Sizes.{cost, height}
+use Rattle.capn_walk.specs.declared.target.Target.{Target}
+use Rattle.capn_walk.specs.declared.target.Target.TheVariants as targets
+use Rattle.capn_walk.specs.declared.target.Shape.{Shape}
+use Rattle.capn_walk.specs.declared.target.Fault.{Fault}
+use Rattle.capn_walk.specs.Target.{target}
+use Rattle.capn_walk.specs.Visits.{Visit}
+use Rattle.capn_walk.specs.Accepted.{IsWithin, IsStop}
+use Rattle.capn_walk.specs.At.{IsAt, AreAt, RowsAt}
+use Rattle.capn_walk.specs.Denotes.{IsAccepted, IsValueOf, IsRefused, paid}
+use Rattle.capn_walk.specs.Walked.{IsInside}
+use Rattle.capn_walk.specs.Viewed.{IsInMessage}
+
+-- ---- values
+
+-- an accepted message has a value
+abbrev pub AcceptedAreReadable : Type 0
+AcceptedAreReadable = (message : List (List ℕ)) (each budget depth : ℕ) → IsAccepted message each budget depth
+    → (v : Tree) × IsValueOf message each budget depth v
+
+-- one value at most stands at a place
+abbrev pub PlacesHaveOneValue : Type 0
+PlacesHaveOneValue = (message : List (List ℕ)) (at : Place) (v w : Tree) → IsAt message at v → IsAt message at w → v ≡ w
+
+-- and at so many slots, and in so many rows, of an object
+abbrev pub SlotsHaveOneValue : Type 0
+SlotsHaveOneValue = (message : List (List ℕ)) (vs ws : Trees) (segment word : ℕ) → count vs ≡ count ws
+    → AreAt message segment word vs → AreAt message segment word ws → vs ≡ ws
+
+abbrev pub RowsHaveOneValue : Type 0
+RowsHaveOneValue = (message : List (List ℕ)) (bs cs : Bodies) (words slots segment word : ℕ) → count_rows bs ≡ count_rows cs
+    → RowsAt message words slots segment word bs → RowsAt message words slots segment word cs → bs ≡ cs
+
+-- the numbers of a value at a place of a message are in their ranges
+abbrev pub ValuesAreInRange : Type 0
+ValuesAreInRange = (message : List (List ℕ)) (at : Place) (v : Tree) → IsMessage message → IsAt message at v → InRange v
+
+-- the value of a message that is accepted fits, costs at most what its walk pays, and is no higher than the limit
+abbrev pub ValuesFit : Type 0
+ValuesFit = (message : List (List ℕ)) (budget depth : ℕ) (v : Tree) → budget ≤ 2 ^ 28 → depth ≤ 256 → IsValueOf message 1 budget depth v → Fits v
+
+abbrev pub ValuesAreCheap : Type 0
+ValuesAreCheap = (message : List (List ℕ)) (each budget depth : ℕ) (v : Tree) → IsValueOf message each budget depth v
+    → (cost each v ≤ paid message each depth) × (height v ≤ depth)
+
+-- ---- targets
+
+-- what the pointer at a place names lies inside its segment, which exists
+abbrev pub TargetsLieInside : Type 0
+TargetsLieInside = (message : List (List ℕ)) (at : Place) (found : Target) → IsPlace message at → target message at ≡ Ok found → IsInMessage message found
+
+-- a value whose content stands where the pointer at a place leads is the value at that place
+abbrev pub ContentIsValue : Type 0
+ContentIsValue = (message : List (List ℕ)) (at : Place) (segment start pads : ℕ) (shape : Shape) (v : Tree)
+    → target message at ≡ Ok (targets.Content segment start shape pads) → IsInside message shape segment start v → IsAt message at v
+
+-- ---- verdicts
+
+-- no message is both accepted and refused
+abbrev pub Apart : Type 0
+Apart = (message : List (List ℕ)) (each budget depth : ℕ) (fault : Fault) (at : Place) (paid visits : ℕ)
+    → IsAccepted message each budget depth → IsRefused message each budget depth fault at paid visits → ⊥
+
+-- visits are within a budget, or there is a first one that isn't
+abbrev pub Decided : Type 0
+Decided = (budget : ℕ) (vs : List Visit) → IsWithin budget vs ⊎ ((fault : Fault) × (at : Place) × (paid visits : ℕ) × IsStop budget vs fault at paid visits)
+
+-- there is one such at most
+abbrev pub StopsAreOne : Type 0
+StopsAreOne = (budget : ℕ) (vs : List Visit) (e f : Fault) (at to : Place) (p q k j : ℕ)
+    → IsStop budget vs e at p k → IsStop budget vs f to q j → (e ≡ f) × (at ≡ to) × (p ≡ q) × (k ≡ j)
