@@ -135,7 +135,7 @@ impl Draft {
         }
     }
 
-    /// Writes the pointer to the object that is next behind a pad of two words, which ends a segment that is nearly full.
+    /// Writes the pointer to the object that is next behind a pad of two words, which ends a nearly full segment.
     fn place_double_far(&mut self, slot: Slot, pointer: u64) -> Result<(), AllocError> {
         let far = self.far();
         self.point(slot, far | 4);
