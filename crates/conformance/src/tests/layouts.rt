@@ -128,6 +128,17 @@ fn trailing_pointer_to_an_empty_struct(rt: HostRuntime) -> Result<(), Fail> {
 }
 
 #[test]
+fn trailing_null_pointer(rt: HostRuntime) -> Result<(), Fail> {
+    let alloc = rt.alloc();
+    let bytes = bytes_of(holder(Value::Nil, alloc)?, alloc)?;
+    assert_eq!(rt;
+        bytes.as_slice(),
+        [0xfc, 0xff, 0xff, 0xff, 0, 0, 0, 0].as_slice()
+    );
+    Ok(())
+}
+
+#[test]
 fn empty_composite_list(rt: HostRuntime) -> Result<(), Fail> {
     let alloc = rt.alloc();
     let bytes = bytes_of(holder(Value::Rows(Items::new(alloc)), alloc)?, alloc)?;
