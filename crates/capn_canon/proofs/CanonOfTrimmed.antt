@@ -8,7 +8,7 @@ use Rattle.std.specs.Prelude.{pos}
 use Rattle.capn_value.specs.Tree.{Tree, nil, node, voids, bits, bytes, pairs, quads, octs, links, rows, cap, Trees, no_trees, tree, Bodies, no_bodies, body, count, count_rows, front, is_null}
 use Rattle.capn_value.specs.Trim.{kept_behind, kept_words, kept_slots, kept_words_of_rows, kept_slots_of_rows, trimmed, trimmed_each, trimmed_rows}
 use Rattle.capn_canon.specs.Layout.{own, size, sizes, sizes_in_rows, struct_to, list_to, point, points, row_contents, lay, lays, lays_in_rows, words}
-use Rattle.capn_value.proofs.Trimmed.{count-trimmed_each, count-trimmed_rows}
+use Rattle.capn_value.specs.Laws.Trimmed.{count-trimmed_each, count-trimmed_rows}
 
 take-again : (n : ℕ) (xs : List ℕ) → take n (take n xs) ≡ take n xs
 take-again zero xs = refl

@@ -4,7 +4,7 @@ use Rattle.std.specs.Bool.{IsTrue}
 use Rattle.std.proofs.Math.Seq.{take-length}
 use Rattle.std.proofs.lemmas.List.{take_all}
 use Rattle.capn_words.specs.Words.{bytes, IsBare}
-use Rattle.capn_words.proofs.Words.{bytes-injective}
+use Rattle.capn_words.specs.Laws.Words.{bytes-injective}
 use Rattle.capn_value.specs.Tree.{Tree}
 use Rattle.capn_value.specs.Fits.{Fits}
 use Rattle.capn_value.specs.InRange.{InRange}

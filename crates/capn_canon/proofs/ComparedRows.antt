@@ -15,7 +15,7 @@ use Rattle.capn_walk.specs.declared.target.Shape.TheVariants as shapes
 use Rattle.capn_walk.specs.Target.{target}
 use Rattle.capn_walk.specs.At.{AreAt, AreWords, RowsAt, words_from}
 use Rattle.capn_walk.specs.Walked.{IsInside}
-use Rattle.capn_walk.proofs.Unique.{unique-rows}
+use Rattle.capn_walk.specs.Laws.Unique.{unique-rows}
 use Rattle.capn_canon.specs.Layout.{own, size, sizes, sizes_in_rows, row_size, point, points, lay, lays, row_contents, lays_in_rows, list_to}
 use Rattle.capn_canon.specs.Sound.{Sound, Sounds, SoundRows, AreWide}
 use Rattle.capn_canon.proofs.LaidPointers.{rows-names}

@@ -1,5 +1,5 @@
 -- Bytes of a message that are copied as words.
-use Rattle.capn_walk.proofs.Elements.{length-bytes_at}
+use Rattle.capn_walk.specs.Laws.Elements.{length-bytes_at}
 use Rattle.std.proofs.Common.{◌≡◌, ℕ, zero, suc, ◌+◌, ◌*◌, ◌%◌, ◌^◌, ◌<◌, ◌≤◌, List, [], ◌∷◌, ◌++◌, length, take, drop, slice_index, refl, ap, ap₂, sym, subst, ◌∙◌, arith, length-drop, Option}
 use Rattle.std.proofs.lemmas.List.{length-take-le, get_or-drop, get_or-take}
 use Rattle.std.specs.List.{flat_map}
@@ -7,7 +7,7 @@ use Rattle.byteorder.specs.Endian.{little_bytes}
 use Rattle.capn_words.specs.Message.{IsMessage, segment_at, bytes_at}
 use Rattle.capn_words.specs.Words.{word_bytes, bytes, AreWords}
 use Rattle.capn_words.specs.declared.space.Place.{Place}
-use Rattle.capn_words.proofs.Words.{bytes-drop, bytes-take, length-bytes}
+use Rattle.capn_words.specs.Laws.Words.{bytes-drop, bytes-take, length-bytes}
 use Rattle.capn_walk.specs.At.{words_from}
 use Rattle.capn_canon.specs.Layout.{packed, words_for}
 use Rattle.capn_canon.specs.Patch.{whole}

@@ -3,7 +3,7 @@ use Rattle.std.proofs.Common.{◌≡◌, ℕ, zero, suc, ◌+◌, ◌*◌, ◌/�
 use Rattle.std.proofs.lemmas.List.{length-replicate, replicate-append-replicate}
 use Rattle.capn_words.specs.Words.{AreBytes}
 use Rattle.capn_words.specs.Message.{word_bytes, bytes}
-use Rattle.capn_words.proofs.Words.{AreBytes-append, length-word_bytes}
+use Rattle.capn_words.specs.Laws.Words.{AreBytes-append, length-word_bytes}
 use Rattle.capn_canon.specs.Draft.{drafted, IsDrafted}
 use Rattle.capn_canon.specs.Layout.{packed, words_for}
 use Rattle.capn_canon.specs.Patch.{cells, whole, filled, IsWhole}

@@ -6,12 +6,12 @@ use Rattle.capn_value.specs.InRange.{InRange}
 use Rattle.capn_value.specs.Fits.{Fits}
 use Rattle.capn_value.specs.Same.{Same}
 use Rattle.capn_value.specs.Trim.{trimmed}
-use Rattle.capn_value.proofs.Fitting.{fit_parts}
-use Rattle.capn_value.proofs.Ranges.{in_range-trimmed}
-use Rattle.capn_value.proofs.StaysFit.{fits-trimmed}
-use Rattle.capn_value.proofs.SameTrimmed.{same_exactly_trimmed}
+use Rattle.capn_value.specs.Laws.Fitting.{fit_parts}
+use Rattle.capn_value.specs.Laws.Ranges.{in_range-trimmed}
+use Rattle.capn_value.specs.Laws.StaysFit.{fits-trimmed}
+use Rattle.capn_value.specs.Laws.SameTrimmed.{same_exactly_trimmed}
 use Rattle.capn_walk.specs.At.{IsAt}
-use Rattle.capn_walk.proofs.Unique.{unique}
+use Rattle.capn_walk.specs.Laws.Unique.{unique}
 use Rattle.capn_canon.specs.Layout.{words, canon}
 use Rattle.capn_canon.proofs.OneSegment.{here}
 use Rattle.capn_canon.specs.Sound.{Sound}

@@ -17,7 +17,7 @@ use Rattle.capn_canon.specs.Refused.{IsRefused}
 use Rattle.capn_canon.specs.Canonicity.{IsCanonicalForm}
 use Rattle.capn_canon.specs.Answers.{Answers}
 use Rattle.capn_canon.proofs.Answered.{answers_only, answers_length, answers_form}
-use Rattle.capn_canon.proofs.NotRefused.{not_refused}
+use Rattle.capn_canon.specs.Laws.NotRefused.{not_refused}
 
 -- the words of bare bytes are read
 pub bare_reads : (bs ws : List ℕ) (most : ℕ) → IsBare bs ws → Reads forms.Bare bs most (ws ∷ [])

@@ -15,9 +15,7 @@ pub mod Laid
 pub mod LaidPointers
 pub mod LaidRows
 pub mod LayLengths
-pub mod NotRefused
 pub mod OneBare
-pub mod OneReading
 pub mod OneSegment
 pub mod PackedBits
 pub mod PackedBytes

@@ -5,7 +5,7 @@ use Rattle.std.specs.Prelude.{Result, Ok, Err, OnErr}
 use Rattle.capn_words.specs.Words.{word_number, AreBytes}
 use Rattle.capn_words.specs.Message.{word_bytes, bytes}
 use Rattle.capn_canon.specs.Patch.{cells, flags, is_marked, patched, IsPatched, whole, filled, IsWhole}
-use Rattle.capn_words.proofs.Words.{AreBytes-append, length-word_bytes}
+use Rattle.capn_words.specs.Laws.Words.{AreBytes-append, length-word_bytes}
 use Rattle.capn_canon.proofs.Bytes.{AreBytes-word}
 use Rattle.capn_canon.proofs.Cells.{length-cells, cells-none, cells-append, cells-one, cells-fill, cells-open, cells-whole, written-bytes, written-length}
 use Rattle.capn_canon.specs.Layout.{packed}

@@ -5,7 +5,7 @@ use Rattle.capn_value.specs.Tree.{Tree, nil, node, voids, bits, bytes, pairs, qu
 use Rattle.capn_value.specs.Sizes.{cost, costs, costs_in_rows, rows_price}
 use Rattle.capn_value.specs.Trim.{kept_words_of_rows, kept_slots_of_rows}
 use Rattle.capn_value.specs.Fits.{Fits}
-use Rattle.capn_value.proofs.Fitting.{fit_parts}
+use Rattle.capn_value.specs.Laws.Fitting.{fit_parts}
 use Rattle.capn_value.specs.InRange.{InRange}
 use Rattle.capn_canon.specs.Layout.{size, sizes, sizes_in_rows, point, lay, words}
 use Rattle.capn_canon.specs.Sound.{Sound, Sounds, SoundRows}

@@ -11,7 +11,7 @@ use Rattle.capn_value.specs.Trim.{kept_slots, kept_words_of_rows, kept_slots_of_
 use Rattle.capn_value.specs.Sizes.{height, greatest, greatest_in_rows}
 use Rattle.capn_walk.specs.declared.target.Shape.TheVariants as shapes
 use Rattle.capn_walk.specs.At.{AreAt, AreWords, RowsAt, words_from}
-use Rattle.capn_walk.proofs.Unique.{unique-rows}
+use Rattle.capn_walk.specs.Laws.Unique.{unique-rows}
 use Rattle.capn_canon.specs.Layout.{size, sizes, sizes_in_rows, row_size, point, list_to}
 use Rattle.capn_canon.specs.Laying.{laid, laid_slots, laid_rows, AreRowsOver}
 use Rattle.capn_canon.specs.Patch.{whole}

@@ -7,7 +7,7 @@ use Rattle.capn_words.specs.declared.pointer.Pointer.TheVariants.{Cap}
 use Rattle.capn_value.specs.Tree.{Tree, nil, cap, Trees, no_trees, tree, count}
 use Rattle.capn_value.specs.Sizes.{height, greatest}
 use Rattle.capn_walk.specs.At.{IsAt, AreAt}
-use Rattle.capn_walk.proofs.Unique.{unique-slots}
+use Rattle.capn_walk.specs.Laws.Unique.{unique-slots}
 use Rattle.capn_canon.specs.Layout.{size, sizes, point}
 use Rattle.capn_canon.specs.Laying.{laid, laid_slots}
 use Rattle.capn_canon.specs.Patch.{whole}

@@ -1,4 +1,6 @@
 -- The laws of canonical bytes.
+pub mod OneReading
+pub mod NotRefused
 use Rattle.std.specs.Prelude.{◌≡◌, ◌↔◌, ℕ, ◌*◌, ◌+◌, ◌≤◌, List, None, length}
 use Rattle.capn_value.specs.Tree.{Tree}
 use Rattle.capn_value.specs.Caps.{first_cap}

@@ -6,7 +6,7 @@ use Rattle.capn_pack.specs.Packs.{texts, word_count}
 use Rattle.capn_pack.specs.Refusal.{words_at, IsCut, IsRefused, IsTooLong, Stands}
 use Rattle.capn_pack.specs.declared.fault.UnpackFault.{UnpackFault}
 use Rattle.capn_pack.specs.declared.fault.UnpackFault.TheVariants as fault
-use Rattle.capn_pack.proofs.GroupLaws.{no_group, head_of, group_same}
+use Rattle.capn_pack.specs.Laws.GroupLaws.{no_group, head_of, group_same}
 
 -- a rest with this fault begins with no whole group for which there is room
 abbrev NoneFits : (ℕ → List ℕ → Type 0) → Type 0

@@ -6,7 +6,7 @@ use Rattle.capn_pack.specs.Group.{text, content}
 use Rattle.capn_pack.specs.Packs.{Packs, texts, contents, word_count}
 use Rattle.capn_pack.specs.Refusal.{Stands}
 use Rattle.capn_pack.specs.Steps.{Takes, TakesRow}
-use Rattle.capn_pack.proofs.GroupLemmas.{texts_more, contents_more, each_more, rest_is, length_content, length_contents, each_append}
+use Rattle.capn_pack.specs.Laws.GroupLemmas.{texts_more, contents_more, each_more, rest_is, length_content, length_contents, each_append}
 
 pub row_start : (bytes old : List ℕ) → TakesRow bytes 0 old old
 row_start bytes old = record { groups = []; each = tt; within = omega arith; text = refl; content = sym (append-nil old) }

@@ -10,7 +10,7 @@ use Rattle.capn_pack.specs.Packs.{texts, contents, word_count}
 use Rattle.capn_pack.specs.Refusal.{StartsWithin}
 use Rattle.capn_pack.specs.Steps.{TakesRow}
 use Rattle.capn_pack.specs.Stream.{NoGroupFirst}
-use Rattle.capn_pack.proofs.GroupLemmas.{length_contents, rest_is}
+use Rattle.capn_pack.specs.Laws.GroupLemmas.{length_contents, rest_is}
 use Rattle.capn_pack.proofs.RowLemmas.{Unpacked}
 
 -- the first n bytes are a group's

@@ -9,7 +9,7 @@ use Rattle.capn_stream.specs.declared.fault.FrameFault.{FrameFault}
 use Rattle.capn_stream.specs.declared.fault.FrameFault.TheVariants.{TooManySegments}
 use Rattle.capn_stream.specs.declared.stage.Stage.{Stage}
 use Rattle.capn_stream.specs.declared.stage.Stage.TheVariants as stages
-use Rattle.capn_stream.proofs.Longer.{IsStage-extends, IsStop-append}
+use Rattle.capn_stream.specs.Laws.Longer.{IsStage-extends, IsStop-append}
 
 -- the bytes behind so many of a piece and some of those that were left
 pub record Filled (stage : Stage) (old piece : List ℕ) (most at : ℕ) (new ends : List ℕ) : Type 0 where

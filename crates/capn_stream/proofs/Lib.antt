@@ -1,13 +1,7 @@
-pub mod Entries
-pub mod SegmentBytes
 pub mod Cutting
-pub mod Ends
-pub mod FrameLaws
 pub mod WholeFrames
-pub mod Longer
 pub mod Filling
 pub mod Waiting
-pub mod Wanting
 pub mod Received
 pub mod Sent
 pub mod ReadFirst

@@ -10,7 +10,7 @@ use Rattle.capn_stream.specs.Receiving.{EndGives, ReadGives, TakesIn, most_bytes
 use Rattle.capn_stream.specs.declared.fault.FrameFault.TheVariants as frames
 use Rattle.capn_stream.specs.declared.fault.ReadFault.{ReadFault}
 use Rattle.capn_stream.specs.declared.fault.ReadFault.TheVariants as faults
-use Rattle.capn_stream.proofs.Wanting.{taken_whole}
+use Rattle.capn_stream.specs.Laws.Wanting.{taken_whole}
 
 -- bytes that were all needed were all taken
 pub takes_in : (before : Framing) (piece : List ℕ) (n : ℕ) (mid : Framing) (r : Option (List (List ℕ))) (after : Framing) → Feeds before piece n mid → ((more : List ℕ) → IsFrame (before.rest ++ more) before.most → length piece ≤ length more)

@@ -3,7 +3,7 @@ use Rattle.std.proofs.Common.{◌≡◌, ◌⊎◌, inl, inr, ℕ, ◌+◌, ◌-
 use Rattle.std.proofs.lemmas.List.{take_all}
 use Rattle.capn_words.specs.Message.{bytes, total}
 use Rattle.capn_words.specs.Words.{AreBytes, AreWords, words_in}
-use Rattle.capn_words.proofs.Words.{AreBytes-drop, bytes_of_words, words_below}
+use Rattle.capn_words.specs.Laws.Words.{AreBytes-drop, bytes_of_words, words_below}
 use Rattle.capn_stream.specs.Cuts.{AreEnds, cut}
 use Rattle.capn_stream.specs.Frames.{Frames, StandsFirst}
 use Rattle.capn_stream.specs.Framing.{FeedGives, Framing, IsFrame, IsUnfinished, Stops, TakeGives}
@@ -13,7 +13,7 @@ use Rattle.capn_stream.specs.declared.fault.FrameFault.{FrameFault}
 use Rattle.capn_stream.specs.declared.fault.FrameFault.TheVariants.{Memory, Empty, TooManySegments, TooManyWords, Cut, Failed}
 use Rattle.capn_stream.specs.declared.stage.Stage.{Stage}
 use Rattle.capn_stream.specs.declared.stage.Stage.TheVariants as stages
-use Rattle.capn_stream.proofs.FrameLaws.{frames_all}
+use Rattle.capn_stream.specs.Laws.FrameLaws.{frames_all}
 use Rattle.capn_stream.proofs.WholeFrames.{ends_are, stands}
 
 -- the words behind the head

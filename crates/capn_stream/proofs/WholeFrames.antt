@@ -8,10 +8,10 @@ use Rattle.capn_stream.specs.Cuts.{AreEnds, cut, ends_from}
 use Rattle.capn_stream.specs.Frames.{StandsFirst, contents, entry, padding, table}
 use Rattle.capn_stream.specs.Reading.{IsWhole, announced_segments, entries, entry_number, frame_length, head_length, announced_words}
 use Rattle.capn_stream.proofs.Cutting.{length-cut, message-cut, total-cut}
-use Rattle.capn_stream.proofs.Ends.{AreRising-ends_from, contents-cut, length-ends_from, lengths-cut}
-use Rattle.capn_stream.proofs.Entries.{entries_more, entry-entries, entry-entry_number, below-drop, below-take, length-entries, sum-entries_more, take_then}
-use Rattle.capn_stream.proofs.SegmentBytes.{length-bytes}
-use Rattle.capn_stream.proofs.FrameLaws.{FitsTable-message, table_sizes}
+use Rattle.capn_stream.specs.Laws.Ends.{AreRising-ends_from, contents-cut, length-ends_from, lengths-cut}
+use Rattle.capn_stream.specs.Laws.Entries.{entries_more, entry-entries, entry-entry_number, below-drop, below-take, length-entries, sum-entries_more, take_then}
+use Rattle.capn_stream.specs.Laws.SegmentBytes.{length-bytes}
+use Rattle.capn_stream.specs.Laws.FrameLaws.{FitsTable-message, table_sizes}
 
 -- the sizes of all segments but the last
 abbrev pub sizes_before : List ℕ → List ℕ

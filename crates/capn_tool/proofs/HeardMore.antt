@@ -11,8 +11,8 @@ use Rattle.capn_stream.specs.Reading as frames
 use Rattle.capn_stream.specs.Stages.{IsStop}
 use Rattle.capn_stream.specs.declared.fault.FrameFault.{FrameFault}
 use Rattle.capn_stream.specs.declared.fault.FrameFault.TheVariants as frame_faults
-use Rattle.capn_stream.proofs.Longer.{IsStop-append}
-use Rattle.capn_stream.proofs.Wanting.{unfinished_frame}
+use Rattle.capn_stream.specs.Laws.Longer.{IsStop-append}
+use Rattle.capn_stream.specs.Laws.Wanting.{unfinished_frame}
 use Rattle.capn_canon.specs.declared.refusal.Refusal.TheVariants as refusals
 use Rattle.capn_tool.specs.Pieces.{IsPiece, IsNoPiece}
 use Rattle.capn_tool.specs.Streams.{Part, IsPart, AreParts, frame_of, text_of, frames_of, texts_of, end_of, IsDueEach}

@@ -11,7 +11,7 @@ use Rattle.capn_stream.specs.Frames.{Frames, StandsFirst}
 use Rattle.capn_stream.specs.Framing.{FeedGives, Feeds, Framing, IsFrame, IsUnfinished, TakeGives}
 use Rattle.capn_stream.specs.declared.fault.FrameFault.{FrameFault}
 use Rattle.capn_stream.specs.declared.fault.FrameFault.TheVariants as frame_faults
-use Rattle.capn_stream.proofs.Wanting.{unfinished_frame}
+use Rattle.capn_stream.specs.Laws.Wanting.{unfinished_frame}
 use Rattle.capn_canon.specs.declared.refusal.Refusal.TheVariants as refusals
 use Rattle.capn_tool.specs.Served.{AddsPiece}
 use Rattle.capn_tool.specs.Sending.{Outgoing, Adds, SendsRest, outgoing, sent}

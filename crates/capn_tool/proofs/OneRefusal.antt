@@ -4,19 +4,19 @@ use Rattle.std.specs.List.{AllByRecursion}
 use Rattle.capn_words.specs.Words.{IsBare, ReadsBare}
 use Rattle.capn_words.specs.declared.bare.BareFault.{BareFault}
 use Rattle.capn_words.specs.declared.bare.BareFault.TheVariants.{NotWhole, TooLong}
-use Rattle.capn_words.proofs.OneSegment.{bare_length}
+use Rattle.capn_words.specs.Laws.OneSegment.{bare_length}
 use Rattle.capn_pack.specs.Group.{Group, IsGroup, text, words}
 use Rattle.capn_pack.specs.Packs.{texts, word_count}
 use Rattle.capn_pack.specs.Refusal.{words_at, IsCut, IsTooLong, Stands}
 use Rattle.capn_pack.specs.Refusal as packs
 use Rattle.capn_pack.specs.declared.fault.UnpackFault.{UnpackFault}
 use Rattle.capn_pack.specs.declared.fault.UnpackFault.TheVariants as unpack_faults
-use Rattle.capn_pack.proofs.GroupLaws.{no_group, head_of, group_same, one_reading, refused_only}
+use Rattle.capn_pack.specs.Laws.GroupLaws.{no_group, head_of, group_same, one_reading, refused_only}
 use Rattle.capn_stream.specs.Reading as frames
 use Rattle.capn_stream.specs.declared.fault.FrameFault.{FrameFault}
 use Rattle.capn_stream.specs.declared.fault.FrameFault.TheVariants as frame_faults
-use Rattle.capn_stream.proofs.FrameLaws.{one_frame, stands_alone, whole_of, refused_whole}
-use Rattle.capn_stream.proofs.FrameLaws as frame_laws
+use Rattle.capn_stream.specs.Laws.FrameLaws.{one_frame, stands_alone, whole_of, refused_whole}
+use Rattle.capn_stream.specs.Laws.FrameLaws as frame_laws
 use Rattle.capn_value.specs.Tree.{Tree}
 use Rattle.capn_value.specs.Caps.{first_cap}
 use Rattle.capn_walk.specs.declared.walked.Stopped.{Stopped}
@@ -24,16 +24,16 @@ use Rattle.capn_walk.specs.Accepted.{root, root_visits}
 use Rattle.capn_walk.specs.Verdict.{refused}
 use Rattle.capn_walk.specs.Denotes as walks
 use Rattle.capn_walk.specs.Limits.{Bounds}
-use Rattle.capn_walk.proofs.Stops.{stop-refused}
-use Rattle.capn_walk.proofs.Unique.{unique}
+use Rattle.capn_walk.specs.Laws.Stops.{stop-refused}
+use Rattle.capn_walk.specs.Laws.Unique.{unique}
 use Rattle.capn_canon.specs.declared.form.Form.{Form}
 use Rattle.capn_canon.specs.declared.form.Form.TheVariants as forms
 use Rattle.capn_canon.specs.declared.refusal.Refusal.{Refusal}
 use Rattle.capn_canon.specs.declared.refusal.Refusal.TheVariants as refusals
 use Rattle.capn_canon.specs.Reads.{IsFramed, Unpacks, Reads, Trails, most_table_words}
 use Rattle.capn_canon.specs.Refused.{IsMisframed, IsMisread, IsRefusedMessage, IsRefused}
-use Rattle.capn_canon.proofs.OneReading.{one_message}
-use Rattle.capn_canon.proofs.NotRefused.{accepted-not_refused}
+use Rattle.capn_canon.specs.Laws.OneReading.{one_message}
+use Rattle.capn_canon.specs.Laws.NotRefused.{accepted-not_refused}
 
 -- ---- packed texts
 

@@ -5,15 +5,15 @@ use Rattle.std.specs.List.{AllByRecursion}
 use Rattle.std.specs.Io.KnownBytes.{Appends}
 use Rattle.capn_words.specs.Words.{IsBare, ReadsBare}
 use Rattle.capn_words.specs.declared.bare.BareFault.{BareFault}
-use Rattle.capn_words.proofs.OneSegment.{bare_only}
-use Rattle.capn_pack.proofs.GroupLaws.{append_same, one_reading, refused_only}
-use Rattle.capn_pack.proofs.ChosenLaws.{chosen_whole}
-use Rattle.capn_pack.proofs.ChosenLaws as chosen
+use Rattle.capn_words.specs.Laws.OneSegment.{bare_only}
+use Rattle.capn_pack.specs.Laws.GroupLaws.{append_same, one_reading, refused_only}
+use Rattle.capn_pack.specs.Laws.ChosenLaws.{chosen_whole}
+use Rattle.capn_pack.specs.Laws.ChosenLaws as chosen
 use Rattle.capn_pack.specs.declared.fault.UnpackFault.{UnpackFault}
 use Rattle.capn_stream.specs.Frames.{Frames, StandsFirst}
 use Rattle.capn_stream.specs.declared.fault.FrameFault.{FrameFault}
-use Rattle.capn_stream.proofs.FrameLaws.{one_frame, whole_of, refused_whole}
-use Rattle.capn_stream.proofs.FrameLaws as frame_laws
+use Rattle.capn_stream.specs.Laws.FrameLaws.{one_frame, whole_of, refused_whole}
+use Rattle.capn_stream.specs.Laws.FrameLaws as frame_laws
 use Rattle.capn_value.specs.Text.{show_text}
 use Rattle.capn_value.specs.Tree.{Tree}
 use Rattle.capn_value.specs.Caps.{first_cap}
@@ -21,19 +21,19 @@ use Rattle.capn_walk.specs.Accepted.{root}
 use Rattle.capn_walk.specs.declared.walked.Stopped.{Stopped}
 use Rattle.capn_walk.specs.Limits.{Bounds}
 use Rattle.capn_walk.specs.Denotes.{IsValueOf}
-use Rattle.capn_walk.proofs.Unique.{unique}
+use Rattle.capn_walk.specs.Laws.Unique.{unique}
 use Rattle.capn_canon.specs.Layout.{canon}
 use Rattle.capn_canon.specs.Answers.{Answers}
 use Rattle.capn_canon.specs.Denotes.{Denotes}
 use Rattle.capn_canon.specs.declared.form.Form.{Form}
 use Rattle.capn_canon.specs.declared.refusal.Refusal.{Refusal}
 use Rattle.capn_canon.specs.declared.refusal.Refusal.TheVariants as refusals
-use Rattle.capn_canon.proofs.Answered.{answers_only}
-use Rattle.capn_canon.proofs.NotRefused.{accepted-not_refused, not_refused}
+use Rattle.capn_canon.specs.Laws.OneReading.{answers_only}
+use Rattle.capn_canon.specs.Laws.NotRefused.{accepted-not_refused, not_refused}
 use Rattle.capn_tool.specs.Pieces.{AreCanonical, IsPiece, IsBarePiece, IsNoPiece, IsStopped, digest_line}
 use Rattle.capn_tool.specs.Wholes.{Makes, MakesNothing}
 use Rattle.capn_tool.specs.Streams.{Part, IsPart, frames_of, texts_of, end_of, EndsUnframed, EndsRefused, IsDueEach, behind_packed, behind_stream}
-use Rattle.capn_pack.proofs.SplitLaws.{one_split}
+use Rattle.capn_pack.specs.Laws.SplitLaws.{one_split}
 use Rattle.capn_tool.specs.Planned.{plan_of}
 use Rattle.capn_tool.specs.Text.{taken_of, has_more, IsDueWhole, IsDue, IsText, EndsAs, EndsBy}
 use Rattle.capn_tool.specs.declared.orders.Command.{Command}
@@ -109,7 +109,7 @@ one_made : (whole : Whole) (bytes t u : List ℕ) → Makes whole bytes t → Ma
 one_made wholes.Packed bytes t u h k = chosen.one_text t u bytes h k
 one_made (wholes.Unpacked most) bytes t u h k = one_reading bytes t u h.0 k.0
 one_made (wholes.Canonical form limits) bytes t u (p, a) (q, b) =
-    answers_only form bytes limits t p a b.answer.value (denoted form bytes limits u q b) ∙ sym b.answer.canonical
+    answers_only form bytes 1 limits t p a b.answer.value (denoted form bytes limits u q b) ∙ sym b.answer.canonical
 one_made (wholes.Bare piece limits) bytes t u (ws, h, i) (vs, k, j) =
     one_bare_piece vs limits piece t u (subst (λ (x : List ℕ). IsBarePiece piece x limits t) (same_words bytes ws vs h k) i) j
 

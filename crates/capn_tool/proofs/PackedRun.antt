@@ -9,8 +9,8 @@ use Rattle.capn_walk.specs.Limits.{Bounds}
 use Rattle.capn_pack.specs.Group.{IsGroup, text, content}
 use Rattle.capn_pack.specs.Packs.{texts, contents}
 use Rattle.capn_pack.specs.Stream.{Begins, Held, Splits, advanced}
-use Rattle.capn_pack.proofs.SplitLaws.{splits_all}
-use Rattle.capn_pack.proofs.StreamLemmas.{nothing_first}
+use Rattle.capn_pack.specs.Laws.SplitLaws.{splits_all}
+use Rattle.capn_pack.specs.Laws.StreamLemmas.{nothing_first}
 use Rattle.capn_stream.specs.Framing.{IsUnfinished}
 use Rattle.capn_tool.specs.Streams.{Part, AreParts, texts_of, behind_packed, end_of, IsDueEach, IsDuePacked}
 use Rattle.capn_tool.specs.Text.{HasWritten, PlanBegins, PlanEndsAs, taken_of, has_more}

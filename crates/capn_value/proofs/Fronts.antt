@@ -5,7 +5,7 @@ use Rattle.capn_value.specs.View.{tree_of, trees_of}
 use Rattle.capn_value.specs.Views.{count-trees_of}
 use Rattle.capn_value.specs.Trim.{trimmed, trimmed_each}
 use Rattle.capn_value.specs.declared.value.Value.{Value}
-use Rattle.capn_value.proofs.Trimmed.{count-trimmed_each}
+use Rattle.capn_value.specs.Laws.Trimmed.{count-trimmed_each}
 
 -- one more
 pub front-suc : (i : ℕ) (ts : Trees) → i < count ts → front (suc i) ts ≡ joined (front i ts) (tree (tree_at ts i) no_trees)

@@ -1,15 +1,8 @@
 pub mod Apart
-pub mod Cuts
 pub mod Decided
-pub mod Fitting
 pub mod Fronts
 pub mod Inverse
 pub mod Joined
 pub mod Kept
 pub mod Digits
 pub mod OnceTrimmed
-pub mod Prices
-pub mod Ranges
-pub mod SameTrimmed
-pub mod StaysFit
-pub mod Trimmed

@@ -3,7 +3,7 @@ use Rattle.std.proofs.Common.{◌≡◌, ℕ, zero, suc, ◌≤◌, refl, arith}
 use Rattle.capn_value.specs.Tree.{Tree, nil, node, voids, bits, bytes, pairs, quads, octs, links, rows, cap, Trees, no_trees, tree, Bodies, no_bodies, body, front, tree_at, is_null}
 use Rattle.capn_value.specs.Same.{AllNull, Same, SameSlots, SameEach, SameRows}
 use Rattle.capn_value.specs.Trim.{kept_words, kept_slots, kept_words_of_rows, kept_slots_of_rows, trimmed, trimmed_each, trimmed_rows}
-use Rattle.capn_value.proofs.Cuts.{behind_le, cut_words, none_kept_slots}
+use Rattle.capn_value.specs.Laws.Cuts.{behind_le, cut_words, none_kept_slots}
 
 all_null_from : (ts : Trees) → ((i : ℕ) → tree_at ts i ≡ nil) → AllNull ts
 all_null_from no_trees h = tt

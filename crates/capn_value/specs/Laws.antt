@@ -1,4 +1,11 @@
 -- What holds of the definitions, whatever the code does (own).
+pub mod Cuts
+pub mod Fitting
+pub mod Prices
+pub mod Ranges
+pub mod SameTrimmed
+pub mod StaysFit
+pub mod Trimmed
 use Rattle.std.specs.Prelude.{◌≡◌, ◌≤◌, ◌↔◌, ℕ}
 use Rattle.capn_value.specs.Tree.{Tree}
 use Rattle.capn_value.specs.Same.{Same}

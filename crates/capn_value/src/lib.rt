@@ -27,7 +27,7 @@ mod copying;
 mod equal;
 mod flaws;
 mod items;
-mod law;
+pub mod laws;
 mod lines;
 mod measure;
 mod memory;
@@ -40,7 +40,6 @@ mod value;
 
 pub use equal::same;
 pub use items::Items;
-pub use law::laws;
 pub use memory::Memory;
 pub use misfit::Misfit;
 pub use tree::{Tree, copy, cost, height, show, trim};

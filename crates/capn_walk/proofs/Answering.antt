@@ -16,8 +16,8 @@ use Rattle.capn_walk.specs.At.{IsAt}
 use Rattle.capn_walk.specs.Denotes.{IsAccepted, IsValueOf, IsRefused, paid}
 use Rattle.capn_walk.specs.Laws.{AcceptedAreReadable, ValuesFit, ValuesAreCheap, Apart, StopsAreOne}
 use Rattle.capn_walk.proofs.Exists.{exists-at}
-use Rattle.capn_walk.proofs.Fitting.{fits-root, root-costs}
-use Rattle.capn_walk.proofs.Stops.{never-both, stop-refused}
+use Rattle.capn_walk.specs.Laws.Fitting.{fits-root, root-costs}
+use Rattle.capn_walk.specs.Laws.Stops.{never-both, stop-refused}
 
 module _ (m : List (List ℕ)) (each : ℕ) where
   all-below : (r : Result Target Fault) (vs : List Visit) → AllPay (visits_at_root m each r vs) → AllPay vs

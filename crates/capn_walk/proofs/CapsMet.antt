@@ -15,8 +15,8 @@ use Rattle.capn_walk.specs.Visits.{Visit, pays, fails, price, places, row_places
 use Rattle.capn_walk.specs.Accepted.{AllPay}
 use Rattle.capn_walk.specs.At.{IsAt, AreAt, RowsAt}
 use Rattle.capn_walk.specs.Surveyed.{cap_of, first_cap_of}
-use Rattle.capn_walk.proofs.Costs.{all-front, all-back}
-use Rattle.capn_walk.proofs.Walks.{slot, visits-null, visits-cap, visits-deep, visits-object}
+use Rattle.capn_walk.specs.Laws.Costs.{all-front, all-back}
+use Rattle.capn_walk.specs.Laws.Walks.{slot, visits-null, visits-cap, visits-deep, visits-object}
 
 option_or-assoc : (a b c : Option ℕ) → option_or a (option_or b c) ≡ option_or (option_or a b) c
 option_or-assoc None b c = refl

@@ -19,9 +19,9 @@ use Rattle.capn_walk.specs.Visits.{Visit, pays, fails, places, row_places, slots
 use Rattle.capn_walk.specs.Accepted.{AllPay}
 use Rattle.capn_walk.specs.At.{IsAt, AreAt, RowsAt, AreWords, AreElements, element, words_from, Names}
 use Rattle.capn_walk.specs.Walked.{extent, RowsFit}
-use Rattle.capn_walk.proofs.Costs.{all-front, all-back}
-use Rattle.capn_walk.proofs.Inside.{inside}
-use Rattle.capn_walk.proofs.Walks.{slot, visits-null, visits-cap, visits-fault, visits-deep, visits-object}
+use Rattle.capn_walk.specs.Laws.Costs.{all-front, all-back}
+use Rattle.capn_walk.specs.Laws.Inside.{inside}
+use Rattle.capn_walk.specs.Laws.Walks.{slot, visits-null, visits-cap, visits-fault, visits-deep, visits-object}
 
 -- ---- a list of what each index has
 

@@ -1,15 +1,3 @@
-pub mod Segments
-pub mod Inside
-pub mod Present
-pub mod Ranges
-pub mod Elements
-pub mod Judge
-pub mod Stops
-pub mod Walks
-pub mod RowWalks
-pub mod Costs
-pub mod Unique
-pub mod Fitting
 pub mod RootWalks
 pub mod WorkedWalks
 pub mod Framing

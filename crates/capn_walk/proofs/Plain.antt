@@ -16,7 +16,7 @@ use Rattle.capn_walk.specs.declared.target.Fault.{Fault}
 use Rattle.capn_walk.specs.declared.target.Fault.TheVariants as faults
 use Rattle.capn_words.specs.Pointers.{field}
 use Rattle.capn_walk.specs.Target.{moved, tagged, within, list, struct, struct_from, list_from, near, second_pad, is_second_pad, two_pads, pointer_in, landing, named, target}
-use Rattle.capn_words.proofs.FieldBits.{pick}
+use Rattle.capn_words.specs.Laws.FieldBits.{pick}
 
 -- a refusal that isn't for want of memory
 abbrev pub IsPlain : {A : Type 0} → Result A Fault → Type 0

@@ -21,8 +21,8 @@ use Rattle.capn_walk.specs.Walked.{Gives, Refuses, IsRootKind}
 use Rattle.capn_walk.specs.Frames.{places_of, owed, HasRows}
 use Rattle.capn_walk.specs.Surveyed.{cap_of, first_cap_of, IsSurvey}
 use Rattle.capn_walk.proofs.Framing.{nothing-left}
-use Rattle.capn_walk.proofs.Judge.{judge-pays}
-use Rattle.capn_walk.proofs.Stops.{accepted-within}
+use Rattle.capn_walk.specs.Laws.Judge.{judge-pays}
+use Rattle.capn_walk.specs.Laws.Stops.{accepted-within}
 use Rattle.capn_walk.proofs.RootWalks.{from-root}
 use Rattle.capn_walk.proofs.UnderWay.{option_or-none}
 use Rattle.capn_walk.proofs.CapsMet.{caps-at}

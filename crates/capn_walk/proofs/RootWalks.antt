@@ -18,10 +18,10 @@ use Rattle.capn_walk.specs.At.{IsAt}
 use Rattle.capn_walk.specs.Denotes.{IsAccepted, IsValueOf, IsRefused, paid, number_of_visits}
 use Rattle.capn_walk.specs.Verdict.{refused, judge}
 use Rattle.capn_walk.specs.Walked.{Gives, Refuses, IsRootKind}
-use Rattle.capn_walk.proofs.Stops.{accepted-within, refused-stop, never-both}
-use Rattle.capn_walk.proofs.Walks.{visits-fault}
-use Rattle.capn_walk.proofs.Unique.{unique}
-use Rattle.capn_walk.proofs.Fitting.{root-costs, fits-root}
+use Rattle.capn_walk.specs.Laws.Stops.{accepted-within, refused-stop, never-both}
+use Rattle.capn_walk.specs.Laws.Walks.{visits-fault}
+use Rattle.capn_walk.specs.Laws.Unique.{unique}
+use Rattle.capn_walk.specs.Laws.Fitting.{root-costs, fits-root}
 
 -- a walk that stops at its first visit
 pub stops-at-once : (b : ℕ) (at : Place) (e : Fault) (vs : List Visit) → vs ≡ fails at e ∷ [] → IsStop b vs e at 0 1

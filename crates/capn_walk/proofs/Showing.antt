@@ -15,7 +15,7 @@ use Rattle.capn_walk.specs.Target.{target}
 use Rattle.capn_walk.specs.At.{IsAt, AreAt, RowsAt, AreWords, words_from}
 use Rattle.capn_walk.specs.Viewed.{kind_of, len_of, content_of, number_of, step_place, row_of}
 use Rattle.capn_walk.specs.Shown.{Shows, ShowsStruct, ShowsNumbers, ShowsLinks, ShowsRows, words_of_row, slots_of_row}
-use Rattle.capn_walk.proofs.Walks.{slot}
+use Rattle.capn_walk.specs.Laws.Walks.{slot}
 
 module _ (m : List (List ℕ)) where
   -- one of several slots

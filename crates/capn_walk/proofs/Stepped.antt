@@ -2,7 +2,7 @@
 use Rattle.std.proofs.Common.{◌≡◌, ℕ, zero, suc, ◌+◌, ◌-◌, ◌*◌, ◌<◌, ◌≤◌, ◌==◌, nat_lt, List, [], ◌∷◌, ◌++◌, length, Result, Ok, Err, Option, None, refl, ap, sym, ◌∙◌, arith}
 use Rattle.std.proofs.lemmas.Bool.Decides.{nat_tests}
 use Rattle.capn_words.specs.declared.space.Place.{Place}
-use Rattle.capn_words.proofs.FieldBits.{pick}
+use Rattle.capn_words.specs.Laws.FieldBits.{pick}
 use Rattle.capn_walk.specs.declared.target.Target.{Target}
 use Rattle.capn_walk.specs.declared.target.Target.TheVariants as targets
 use Rattle.capn_walk.specs.declared.target.Shape.{Shape}
@@ -23,10 +23,10 @@ use Rattle.capn_walk.specs.Visits.{Visit, pays, fails, price, slots, visits, vis
 use Rattle.capn_walk.specs.Verdict.{Verdict, judge, refused}
 use Rattle.capn_walk.specs.Viewed.{stepped, toll, slots_below}
 use Rattle.capn_walk.specs.Accepted.{IsWithin, paid_of}
-use Rattle.capn_walk.proofs.Costs.{paid-append, all-front, all-back}
-use Rattle.capn_walk.proofs.Stops.{within-accepted}
-use Rattle.capn_walk.proofs.Judge.{judge-over}
-use Rattle.capn_walk.proofs.Walks.{visits-null, visits-cap, visits-fault, visits-deep, visits-object}
+use Rattle.capn_walk.specs.Laws.Costs.{paid-append, all-front, all-back}
+use Rattle.capn_walk.specs.Laws.Stops.{within-accepted}
+use Rattle.capn_walk.specs.Laws.Judge.{judge-over}
+use Rattle.capn_walk.specs.Laws.Walks.{visits-null, visits-cap, visits-fault, visits-deep, visits-object}
 
 module _ (m : List (List ℕ)) (each : ℕ) (at : Place) (depth budget : ℕ) where
   -- what a step that answers a target says of the visits of its slot

@@ -17,7 +17,7 @@ use Rattle.capn_words.specs.Message.{word_at}
 use Rattle.capn_words.specs.Pointers.{pointer_of}
 use Rattle.capn_words.specs.declared.pointer.Pointer.{Pointer}
 use Rattle.capn_words.specs.declared.pointer.Pointer.TheVariants.{Nil, Node, Many}
-use Rattle.capn_walk.proofs.Walks.{visits-null}
+use Rattle.capn_walk.specs.Laws.Walks.{visits-null}
 use Rattle.capn_walk.specs.Target.{named, near, pointer_in, target}
 use Rattle.capn_words.specs.declared.pointer.Width.{Width}
 use Rattle.capn_walk.specs.Visits.{Visit, pays, fails, price, slots, visits, visits_of}
@@ -28,7 +28,7 @@ use Rattle.capn_walk.specs.declared.walked.Stopped.{Stopped}
 use Rattle.capn_walk.specs.Walked.{Gives, Refuses}
 use Rattle.capn_walk.specs.Frames.{HasRows}
 use Rattle.capn_walk.proofs.Framing.{nothing-left}
-use Rattle.capn_walk.proofs.Judge.{judge-stops, judge-pays, judge-over, after-after, after-none}
+use Rattle.capn_walk.specs.Laws.Judge.{judge-stops, judge-pays, judge-over, after-after, after-none}
 
 option_or-assoc : (a b c : Option ℕ) → option_or a (option_or b c) ≡ option_or (option_or a b) c
 option_or-assoc None b c = refl

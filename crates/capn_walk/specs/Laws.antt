@@ -1,4 +1,16 @@
 -- The laws of walks, for the crates above.
+pub mod Costs
+pub mod Elements
+pub mod Fitting
+pub mod Inside
+pub mod Judge
+pub mod Present
+pub mod Ranges
+pub mod RowWalks
+pub mod Segments
+pub mod Stops
+pub mod Unique
+pub mod Walks
 use Rattle.std.specs.Prelude.{◌≡◌, ◌⊎◌, ℕ, ◌^◌, ◌≤◌, List, length, Ok}
 use Rattle.capn_words.specs.Message.{IsMessage, IsPlace, segment_at}
 use Rattle.capn_words.specs.declared.space.Place.{Place}

@@ -3,7 +3,7 @@ use Rattle.std.proofs.Common.{◌≡◌, ℕ, ◌*◌, List, length, Err, ap, sy
 use Rattle.capn_words.specs.Words.{IsBare, ReadsBare}
 use Rattle.capn_words.specs.declared.bare.BareFault.{BareFault}
 use Rattle.capn_words.specs.declared.bare.BareFault.TheVariants.{NotWhole, TooLong}
-use Rattle.capn_words.proofs.OneSegment.{bare_length, bare_only}
+use Rattle.capn_words.specs.Laws.OneSegment.{bare_length, bare_only}
 
 pub one_bare : (bs vs ws : List ℕ) → IsBare bs vs → IsBare bs ws → vs ≡ ws
 one_bare bs vs ws h k = sym (bare_only bs vs h) ∙ bare_only bs ws k

@@ -5,11 +5,11 @@ use Rattle.capn_walk.specs.declared.target.Shape.{Shape}
 use Rattle.capn_walk.specs.declared.target.Shape.TheVariants as shapes
 use Rattle.capn_walk.specs.declared.target.Target.TheVariants as targets
 use Rattle.capn_walk.specs.Walked.{IsContent, IsInside, RowsFit, extent}
-use Rattle.capn_walk.proofs.Inside.{inside}
-use Rattle.capn_walk.proofs.Present.{present}
-use Rattle.capn_walk.proofs.Segments.{segment-room}
-use Rattle.capn_walk.proofs.Walks.{is-inside}
-use Rattle.capn_walk.proofs.Unique.{unique}
+use Rattle.capn_walk.specs.Laws.Inside.{inside}
+use Rattle.capn_walk.specs.Laws.Present.{present}
+use Rattle.capn_walk.specs.Laws.Segments.{segment-room}
+use Rattle.capn_walk.specs.Laws.Walks.{is-inside}
+use Rattle.capn_walk.specs.Laws.Unique.{unique}
 use Rattle.capn_words.specs.declared.pointer.Width.{Width}
 use Rattle.capn_value.specs.Tree.{Tree}
 use Rattle.capn_canon.specs.Sound.{Sound}
@@ -19,7 +19,7 @@ use Rattle.capn_canon.proofs.Nulls.{other-than-nil}
 use Rattle.capn_canon.proofs.Shaped.{found, null-of, cap-at, inside-of, inside-height}
 use Rattle.capn_canon.proofs.Slots.{next, next-ready, begins-ready}
 use Rattle.capn_canon.proofs.Compared.{not-true, laid-room, null-told, cap-told, cap-pointer, same-begins, this, same-then, ready-then, same-fails, same-ends, struct-passes, struct-told, struct-ready, links-passes, links-told, links-check, links-few}
-use Rattle.capn_walk.proofs.RowWalks.{row-inside}
+use Rattle.capn_walk.specs.Laws.RowWalks.{row-inside}
 use Rattle.capn_canon.proofs.ComparedRows.{rows-same-begins, row-check, rows-fail, rows-grown, rows-within, rows-ready-then, rows-same-then, rows-same-ends, rows-passes, rows-check, rows-told}
 use Rattle.capn_canon.proofs.checking.+checking.Goals as goal
 

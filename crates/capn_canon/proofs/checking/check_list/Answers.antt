@@ -1,6 +1,6 @@
 use Rattle.std.proofs.Common.{◌≡◌, ℕ, ◌+◌, ◌*◌, ◌/◌, ◌^◌, ◌≤◌, [], ◌∷◌, drop, length, ap, sym, subst, ◌∙◌, arith, refl}
-use Rattle.capn_walk.proofs.Segments.{segment-room}
-use Rattle.capn_walk.proofs.Ranges.{room-of}
+use Rattle.capn_walk.specs.Laws.Segments.{segment-room}
+use Rattle.capn_walk.specs.Laws.Ranges.{room-of}
 use Rattle.capn_canon.specs.Bits.{element_bits, first_bits}
 use Rattle.capn_canon.specs.Stands.{Stand}
 use Rattle.capn_canon.proofs.Copied.{part-below}

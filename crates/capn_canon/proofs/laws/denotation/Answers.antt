@@ -1,6 +1,6 @@
 use Rattle.capn_canon.proofs.Headline.{denoted_has_form}
-use Rattle.capn_canon.proofs.NotRefused.{not_refused}
-use Rattle.capn_canon.proofs.OneReading.{one_value}
+use Rattle.capn_canon.specs.Laws.NotRefused.{not_refused}
+use Rattle.capn_canon.specs.Laws.OneReading.{one_value}
 use Rattle.capn_canon.proofs.laws.denotation.Goals as goal
 
 pub returns-clause-form : goal.returns-clause-form

@@ -1,6 +1,6 @@
 use Rattle.std.proofs.Common.{◌≡◌, ℕ, ◌+◌, ◌-◌, ◌*◌, ◌<◌, ◌≤◌, List, length, ◌∙◌, arith}
-use Rattle.capn_walk.proofs.RowWalks.{row-inside}
-use Rattle.capn_walk.proofs.Segments.{segment-room}
+use Rattle.capn_walk.specs.Laws.RowWalks.{row-inside}
+use Rattle.capn_walk.specs.Laws.Segments.{segment-room}
 use Rattle.capn_canon.proofs.EachRow.{cells-begin, cells-more, cells-end}
 use Rattle.capn_canon.proofs.opening.push_each.Goals as goal
 

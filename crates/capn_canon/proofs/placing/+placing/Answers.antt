@@ -8,12 +8,12 @@ use Rattle.capn_walk.specs.Target.{target}
 use Rattle.capn_walk.specs.declared.target.Shape.{Shape}
 use Rattle.capn_walk.specs.declared.target.Shape.TheVariants as shapes
 use Rattle.capn_walk.specs.Walked.{IsContent, RowsFit, extent}
-use Rattle.capn_walk.proofs.RowWalks.{row-inside}
-use Rattle.capn_walk.proofs.Segments.{segment-room}
-use Rattle.capn_walk.proofs.Inside.{inside}
-use Rattle.capn_walk.proofs.Present.{present}
-use Rattle.capn_walk.proofs.Walks.{is-inside}
-use Rattle.capn_walk.proofs.Unique.{unique}
+use Rattle.capn_walk.specs.Laws.RowWalks.{row-inside}
+use Rattle.capn_walk.specs.Laws.Segments.{segment-room}
+use Rattle.capn_walk.specs.Laws.Inside.{inside}
+use Rattle.capn_walk.specs.Laws.Present.{present}
+use Rattle.capn_walk.specs.Laws.Walks.{is-inside}
+use Rattle.capn_walk.specs.Laws.Unique.{unique}
 use Rattle.capn_words.specs.declared.pointer.Width.{Width}
 use Rattle.capn_canon.specs.Ready.{IsReadyInside, IsLaidInside}
 use Rattle.capn_canon.proofs.Shaped.{found, null-of, cap-at, inside-of, inside-height}

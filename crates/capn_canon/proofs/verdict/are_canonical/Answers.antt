@@ -1,7 +1,7 @@
 use Rattle.std.proofs.Common.{◌≡◌, ℕ, ◌+◌, [], ◌∷◌, length, sym, subst, arith, eq-eqb}
 use Rattle.std.proofs.lemmas.Bool.{eqb-true}
 use Rattle.capn_walk.specs.Accepted.{root}
-use Rattle.capn_walk.proofs.Unique.{unique}
+use Rattle.capn_walk.specs.Laws.Unique.{unique}
 use Rattle.capn_canon.specs.Sound.{Sound}
 use Rattle.capn_canon.proofs.Compared.{not-true}
 use Rattle.capn_canon.proofs.CanonicalWords.{words-stand, stand-words}

@@ -1,4 +1,4 @@
-use Rattle.capn_pack.proofs.GroupLaws.{one_reading, refused_only}
+use Rattle.capn_pack.specs.Laws.GroupLaws.{one_reading, refused_only}
 use Rattle.capn_pack.proofs.RefusalLaws.{one_unpack_fault}
 use Rattle.capn_pack.proofs.laws.reading.Goals as goal
 

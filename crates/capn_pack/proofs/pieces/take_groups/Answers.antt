@@ -1,7 +1,7 @@
 use Rattle.std.proofs.Common.{ap, Err}
 use Rattle.capn_pack.proofs.StartLemmas.{row_started}
 use Rattle.capn_pack.proofs.RowLemmas.{row_more, row_join}
-use Rattle.capn_pack.proofs.StreamLemmas.{begins, splits_cut}
+use Rattle.capn_pack.specs.Laws.StreamLemmas.{begins, splits_cut}
 use Rattle.capn_pack.proofs.pieces.take_groups.Goals as goal
 
 pub returns-in-Err-Memory-clause-err : goal.returns-in-Err-Memory-clause-err

@@ -1,5 +1,5 @@
 use Rattle.capn_walk.proofs.SeenInside.{found-inside}
-use Rattle.capn_walk.proofs.Walks.{is-inside}
+use Rattle.capn_walk.specs.Laws.Walks.{is-inside}
 use Rattle.capn_walk.proofs.laws.targets.Goals as goal
 
 pub returns-clause-inside : goal.returns-clause-inside

@@ -1,5 +1,5 @@
 use Rattle.capn_walk.proofs.Answering.{apart, one-stop}
-use Rattle.capn_walk.proofs.Stops.{decided}
+use Rattle.capn_walk.specs.Laws.Stops.{decided}
 use Rattle.capn_walk.proofs.laws.verdicts.Goals as goal
 
 pub returns-clause-apart : goal.returns-clause-apart

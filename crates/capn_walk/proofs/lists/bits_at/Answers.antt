@@ -1,6 +1,6 @@
 use Rattle.std.proofs.Common.{◌∙◌, arith}
 use Rattle.capn_walk.specs.At.{words_from}
-use Rattle.capn_walk.proofs.Elements.{length-read, is-bit, bits-more}
+use Rattle.capn_walk.specs.Laws.Elements.{length-read, is-bit, bits-more}
 use Rattle.capn_walk.proofs.lists.bits_at.Goals as goal
 
 pub bounds-bytes-i : goal.bounds-bytes-i

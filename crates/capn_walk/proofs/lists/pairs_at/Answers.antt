@@ -1,6 +1,6 @@
 use Rattle.std.proofs.Common.{◌*◌, ◌∙◌, arith}
 use Rattle.std.proofs.lemmas.List.{take_at}
-use Rattle.capn_walk.proofs.Elements.{length-read, are-pairs}
+use Rattle.capn_walk.specs.Laws.Elements.{length-read, are-pairs}
 use Rattle.capn_walk.proofs.lists.pairs_at.Goals as goal
 
 pub read_u16_into-requires : goal.read_u16_into-requires

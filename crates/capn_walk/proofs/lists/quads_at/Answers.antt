@@ -1,6 +1,6 @@
 use Rattle.std.proofs.Common.{◌*◌, ◌∙◌, arith}
 use Rattle.std.proofs.lemmas.List.{take_at}
-use Rattle.capn_walk.proofs.Elements.{length-read, are-quads}
+use Rattle.capn_walk.specs.Laws.Elements.{length-read, are-quads}
 use Rattle.capn_walk.proofs.lists.quads_at.Goals as goal
 
 pub read_u32_into-requires : goal.read_u32_into-requires

@@ -1,6 +1,6 @@
 use Rattle.std.proofs.Common.{◌≡◌, ◌*◌, ◌∙◌, arith, length}
 use Rattle.std.proofs.lemmas.List.{take_at}
-use Rattle.capn_walk.proofs.Elements.{length-read, are-words}
+use Rattle.capn_walk.specs.Laws.Elements.{length-read, are-words}
 use Rattle.capn_walk.proofs.lists.words_at.Goals as goal
 
 pub read_u64_into-requires : goal.read_u64_into-requires

@@ -4,7 +4,7 @@ use Rattle.capn_walk.specs.Viewed.{stepped}
 use Rattle.capn_walk.proofs.Plain.{never-memory}
 use Rattle.capn_walk.proofs.SeenInside.{found-inside}
 use Rattle.capn_walk.proofs.Stepped.{step-pays, step-stops}
-use Rattle.capn_walk.proofs.Walks.{visits-fault}
+use Rattle.capn_walk.specs.Laws.Walks.{visits-fault}
 use Rattle.capn_walk.proofs.surveying.visit_found.Goals as goal
 
 pub returns-in-Err-clause-refused : goal.returns-in-Err-clause-refused

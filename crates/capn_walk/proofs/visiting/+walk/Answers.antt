@@ -6,11 +6,11 @@ use Rattle.capn_walk.specs.declared.target.Shape.TheVariants as shapes
 use Rattle.capn_walk.specs.Target.{target}
 use Rattle.capn_walk.specs.Visits.{visits}
 use Rattle.capn_walk.specs.Walked.{IsContent, extent, slot_count}
-use Rattle.capn_walk.proofs.Inside.{inside, slots-price}
-use Rattle.capn_walk.proofs.Present.{present}
-use Rattle.capn_walk.proofs.Segments.{segment-room}
-use Rattle.capn_walk.proofs.Walks.{gives-next, refuses-next, at-next, count-next, visits-null, visits-cap, visits-fault, visits-deep, gives-object, refuses-object, refuses-here, refuses-price, gives-nothing, inside-struct, inside-links, inside-rows}
-use Rattle.capn_walk.proofs.RowWalks.{one-more, row-inside, rows-give, rows-refuse, rows_at-step, count_rows-next}
+use Rattle.capn_walk.specs.Laws.Inside.{inside, slots-price}
+use Rattle.capn_walk.specs.Laws.Present.{present}
+use Rattle.capn_walk.specs.Laws.Segments.{segment-room}
+use Rattle.capn_walk.specs.Laws.Walks.{gives-next, refuses-next, at-next, count-next, visits-null, visits-cap, visits-fault, visits-deep, gives-object, refuses-object, refuses-here, refuses-price, gives-nothing, inside-struct, inside-links, inside-rows}
+use Rattle.capn_walk.specs.Laws.RowWalks.{one-more, row-inside, rows-give, rows-refuse, rows_at-step, count_rows-next}
 use Rattle.capn_walk.proofs.visiting.+walk.Goals as goal
 
 -- ---- a slot

@@ -6,17 +6,17 @@ use Rattle.capn_words.specs.declared.pointer.Width.TheVariants.{W0, W1, W8, W16,
 use Rattle.capn_value.specs.Tree.{Tree, nil, node, voids, bits, bytes, pairs, quads, octs, links, rows, cap, Trees, no_trees, tree, Bodies, no_bodies, body, count, count_rows, row_words}
 use Rattle.capn_value.specs.Sizes.{cost, costs, costs_in_rows, rows_price, height}
 use Rattle.capn_value.specs.Fits.{Fits, anywhere, anywhere_in, anywhere_in_rows, is_wide, is_wide_body, has_wide_row, is_long, is_ragged, are_even, is_root, elements, words_in_rows}
-use Rattle.capn_value.proofs.Fitting.{fit_from}
-use Rattle.capn_value.proofs.Trimmed.{words-or_none}
-use Rattle.capn_value.proofs.Prices.{rows_price-none}
+use Rattle.capn_value.specs.Laws.Fitting.{fit_from}
+use Rattle.capn_value.specs.Laws.Trimmed.{words-or_none}
+use Rattle.capn_value.specs.Laws.Prices.{rows_price-none}
 use Rattle.capn_walk.specs.declared.target.Shape.TheVariants as shapes
 use Rattle.capn_walk.specs.declared.target.Fault.TheVariants as faults
 use Rattle.capn_walk.specs.Visits.{fails, visits}
 use Rattle.capn_walk.specs.Accepted.{AllPay, IsWithin, paid_of, root, visits_at_root, root_visits}
 use Rattle.capn_walk.specs.At.{IsAt, AreAt, RowsAt}
-use Rattle.capn_walk.proofs.Inside.{inside}
-use Rattle.capn_walk.proofs.Ranges.{room-of}
-use Rattle.capn_walk.proofs.Costs.{cost-paid}
+use Rattle.capn_walk.specs.Laws.Inside.{inside}
+use Rattle.capn_walk.specs.Laws.Ranges.{room-of}
+use Rattle.capn_walk.specs.Laws.Costs.{cost-paid}
 
 -- ---- the tests of one part
 

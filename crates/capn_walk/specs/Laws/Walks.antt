@@ -19,8 +19,8 @@ use Rattle.capn_walk.specs.Visits.{Visit, pays, fails, price, places, slots, vis
 use Rattle.capn_walk.specs.Verdict.{accepted, refused, after, judge}
 use Rattle.capn_walk.specs.At.{IsAt, AreAt, RowsAt, words_from}
 use Rattle.capn_walk.specs.Walked.{Gives, Refuses, IsInside, slot_count}
-use Rattle.capn_walk.proofs.Inside.{inside, slots-price}
-use Rattle.capn_walk.proofs.Judge.{judge-more, judge-stops, judge-pays, judge-over}
+use Rattle.capn_walk.specs.Laws.Inside.{inside, slots-price}
+use Rattle.capn_walk.specs.Laws.Judge.{judge-more, judge-stops, judge-pays, judge-over}
 
 abbrev pub slot : ℕ → ℕ → Place
 slot s w = record { segment = s; word = w }

@@ -1,9 +1,9 @@
-use Rattle.capn_value.proofs.Fitting.{fit_parts, fit_from}
+use Rattle.capn_value.specs.Laws.Fitting.{fit_parts, fit_from}
 use Rattle.capn_value.proofs.OnceTrimmed.{same-trimmed}
-use Rattle.capn_value.proofs.StaysFit.{fits-trimmed}
-use Rattle.capn_value.proofs.Trimmed.{cost-trimmed, height-trimmed}
-use Rattle.capn_value.proofs.SameTrimmed.{same_exactly_trimmed}
-use Rattle.capn_value.proofs.law.laws.Goals as goal
+use Rattle.capn_value.specs.Laws.StaysFit.{fits-trimmed}
+use Rattle.capn_value.specs.Laws.Trimmed.{cost-trimmed, height-trimmed}
+use Rattle.capn_value.specs.Laws.SameTrimmed.{same_exactly_trimmed}
+use Rattle.capn_value.proofs.laws.trimming.Goals as goal
 
 pub returns-clause-same : goal.returns-clause-same
 returns-clause-same c t u p q = same_exactly_trimmed t u (fit_parts t p).even (fit_parts u q).even

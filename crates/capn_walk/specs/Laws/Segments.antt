@@ -4,7 +4,7 @@ use Rattle.std.proofs.lemmas.Bool.Decides.{nat_tests}
 use Rattle.std.proofs.Math.ListN.{get_or-eq_default}
 use Rattle.std.proofs.lemmas.List.Sums.{get_or-le-sum_by}
 use Rattle.capn_words.specs.Message.{segment_at, words_of, IsMessage}
-use Rattle.capn_words.proofs.FieldBits.{pick}
+use Rattle.capn_words.specs.Laws.FieldBits.{pick}
 
 pub length_of_none : (m : List (List ℕ)) (s : ℕ) → words_of m s ≡ None → length (segment_at m s) ≡ 0
 length_of_none m s h =

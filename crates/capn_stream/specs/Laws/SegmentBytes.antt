@@ -4,7 +4,7 @@ use Rattle.std.proofs.lemmas.List.{drop-drop, drop-take, drop_all, drop_at, take
 use Rattle.byteorder.specs.Numbers.{little_number-reads_back}
 use Rattle.capn_words.specs.Message.{bytes, word_bytes}
 use Rattle.capn_words.specs.Words.{AreWords, word_number}
-use Rattle.capn_stream.proofs.Entries.{take_then}
+use Rattle.capn_stream.specs.Laws.Entries.{take_then}
 
 length-word_bytes : (w : ℕ) → length (word_bytes w) ≡ 8
 unfolding word_bytes

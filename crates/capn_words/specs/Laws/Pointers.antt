@@ -6,7 +6,7 @@ use Rattle.capn_words.specs.Pointers.{field, signed, width_of, other_pointer, po
 use Rattle.capn_words.specs.declared.pointer.Pointer.{Pointer}
 use Rattle.capn_words.specs.declared.pointer.Pointer.TheVariants.{Nil, Node, Many, Far, Cap, Reserved}
 use Rattle.capn_words.specs.declared.pointer.Width.{Width}
-use Rattle.capn_words.proofs.FieldBits.{pick, if-yes, if-no, test-true, test-false, same-yes, same-no, signed-fits, signed-field, offset_field-lt, signed-again, width_code-width_of, width_code-lt, width_of-width_code, from_bool-le, bool-again}
+use Rattle.capn_words.specs.Laws.FieldBits.{pick, if-yes, if-no, test-true, test-false, same-yes, same-no, signed-fits, signed-field, offset_field-lt, signed-again, width_code-width_of, width_code-lt, width_of-width_code, from_bool-le, bool-again}
 
 -- ---- what `pointer_of` answers has the word's fields
 

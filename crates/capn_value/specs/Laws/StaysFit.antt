@@ -5,8 +5,8 @@ use Rattle.std.proofs.lemmas.Bool.{or_parts, or_from, and_parts, and_from, eqb-t
 use Rattle.capn_value.specs.Tree.{Tree, nil, node, voids, bits, bytes, pairs, quads, octs, links, rows, cap, Trees, no_trees, tree, Bodies, no_bodies, body, front, count, count_rows, row_words}
 use Rattle.capn_value.specs.Trim.{kept_words, kept_slots, kept_words_of_rows, kept_slots_of_rows, trimmed, trimmed_each, trimmed_rows}
 use Rattle.capn_value.specs.Fits.{anywhere, anywhere_in, anywhere_in_rows, is_wide, is_wide_body, has_wide_row, is_long, is_ragged, are_even, is_root, Fits}
-use Rattle.capn_value.proofs.Fitting.{fit_parts, fit_from}
-use Rattle.capn_value.proofs.Trimmed.{height-trimmed, cost-trimmed, count-front, count-trimmed_each, count-trimmed_rows, row_words-trimmed}
+use Rattle.capn_value.specs.Laws.Fitting.{fit_parts, fit_from}
+use Rattle.capn_value.specs.Laws.Trimmed.{height-trimmed, cost-trimmed, count-front, count-trimmed_each, count-trimmed_rows, row_words-trimmed}
 
 module _ (test : Tree → Bool) (keeps : (t : Tree) → test t ≡ false → test (trimmed t) ≡ false) where
   anywhere_in-front : (n : ℕ) (ts : Trees) → anywhere_in test ts ≡ false → anywhere_in test (front n ts) ≡ false

@@ -6,7 +6,7 @@ use Rattle.std.proofs.lemmas.Bool.Decides.{nat_tests}
 use Rattle.capn_value.specs.Tree.{Tree, nil, node, voids, bits, bytes, pairs, quads, octs, links, rows, cap, Trees, no_trees, tree, Bodies, no_bodies, body, front, count, tree_at, is_null}
 use Rattle.capn_value.specs.Same.{SameWords, AllNull, Same, SameSlots, SameEach, SameRows}
 use Rattle.capn_value.specs.Trim.{kept_behind, kept_words, kept_slots, kept_words_of_rows, kept_slots_of_rows, trimmed, trimmed_each, trimmed_rows}
-use Rattle.capn_value.proofs.Cuts.{cut_words, cut_slots}
+use Rattle.capn_value.specs.Laws.Cuts.{cut_words, cut_slots}
 use Rattle.capn_value.specs.Fits.{anywhere, anywhere_in, anywhere_in_rows, is_ragged, are_even}
 
 words_back : (n m : ℕ) (ws vs : List ℕ) → kept_words ws ≤ n → kept_words vs ≤ m → take n ws ≡ take m vs → SameWords ws vs

@@ -11,9 +11,9 @@ use Rattle.capn_stream.specs.Frames.{FitsTable, Frames, StandsFirst, contents, e
 use Rattle.capn_stream.specs.Reading.{IsRefused, IsWhole, announced_segments, entries, entry_number, frame_length, head_length, announced_words}
 use Rattle.capn_stream.specs.declared.fault.FrameFault.{FrameFault}
 use Rattle.capn_stream.specs.declared.fault.FrameFault.TheVariants.{Memory, Empty, TooManySegments, TooManyWords, Cut, Failed}
-use Rattle.capn_stream.proofs.Ends.{cut-joined, joined}
-use Rattle.capn_stream.proofs.Entries.{entries-entry, entries_more, entry_number-entry, length-entry, length-entry_all}
-use Rattle.capn_stream.proofs.SegmentBytes.{length-bytes, same_words}
+use Rattle.capn_stream.specs.Laws.Ends.{cut-joined, joined}
+use Rattle.capn_stream.specs.Laws.Entries.{entries-entry, entries_more, entry_number-entry, length-entry, length-entry_all}
+use Rattle.capn_stream.specs.Laws.SegmentBytes.{length-bytes, same_words}
 
 -- ---- the parts of a frame
 

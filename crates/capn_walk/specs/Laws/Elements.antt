@@ -10,7 +10,7 @@ use Rattle.byteorder.specs.Endian.{little_number, IsRead}
 use Rattle.capn_words.specs.Message.{segment_at, bytes_at}
 use Rattle.capn_words.specs.Words.{word_bytes, bytes}
 use Rattle.capn_words.specs.declared.space.Place.{Place}
-use Rattle.capn_words.proofs.Words.{length-bytes, bytes-drop}
+use Rattle.capn_words.specs.Laws.Words.{length-bytes, bytes-drop}
 use Rattle.capn_walk.specs.At.{element, AreElements, words_from}
 
 -- a byte of a word

@@ -1,18 +1,20 @@
 -- Bytes in a form are read as one message at most, and it is a message.
 use Rattle.std.proofs.Common.{◌≡◌, ℕ, ◌^◌, ◌≤◌, List, [], ◌∷◌, length, ap, sym, subst, ◌∙◌, arith}
 use Rattle.capn_words.specs.Message.{IsMessage}
-use Rattle.capn_words.proofs.OneSegment.{bare_only, bare_message}
-use Rattle.capn_pack.proofs.GroupLaws.{one_reading}
-use Rattle.capn_stream.proofs.FrameLaws.{one_frame, stands_alone}
+use Rattle.capn_words.specs.Laws.OneSegment.{bare_only, bare_message}
+use Rattle.capn_pack.specs.Laws.GroupLaws.{one_reading}
+use Rattle.capn_stream.specs.Laws.FrameLaws.{one_frame, stands_alone}
 use Rattle.capn_value.specs.Tree.{Tree}
 use Rattle.capn_walk.specs.Accepted.{root}
 use Rattle.capn_walk.specs.At.{IsAt}
 use Rattle.capn_walk.specs.Limits.{Bounds}
-use Rattle.capn_walk.proofs.Unique.{unique}
+use Rattle.capn_walk.specs.Laws.Unique.{unique}
 use Rattle.capn_canon.specs.declared.form.Form.{Form}
 use Rattle.capn_canon.specs.declared.form.Form.TheVariants as forms
 use Rattle.capn_canon.specs.Reads.{IsFramed, Reads}
 use Rattle.capn_canon.specs.Denotes.{Denotes}
+use Rattle.capn_canon.specs.Layout.{canon}
+use Rattle.capn_canon.specs.Answers.{Answers}
 
 one-framed : (bs : List ℕ) (most : ℕ) (m n : List (List ℕ)) → IsFramed bs most m → IsFramed bs most n → m ≡ n
 one-framed bs most m n h k =
@@ -45,3 +47,10 @@ pub one_value : (form : Form) (bs : List ℕ) (each : ℕ) (limits : Bounds) (v 
 one_value form bs each limits v w h k =
     let e = one_message form bs limits.message_words k.message h.message k.reads h.reads in
     unique h.message v w root h.value.is (subst (λ (m : List (List ℕ)). IsAt m root w) e k.value.is)
+
+-- what is answered for bytes is canonical for whatever they denote
+pub answers_only : (form : Form) (bs : List ℕ) (each : ℕ) (limits : Bounds) (out : List ℕ) (n : ℕ) → Answers form bs each limits out n
+    → (v : Tree) → Denotes form bs each limits v → out ≡ canon v
+answers_only form bs each limits out n h v k =
+    h.answer.canonical
+    ∙ ap canon (one_value form bs each limits h.answer.value v (record { message = h.message; reads = h.reads; value = h.answer.is }) k)

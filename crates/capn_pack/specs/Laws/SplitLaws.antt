@@ -11,10 +11,10 @@ use Rattle.capn_pack.specs.Packs.{texts, contents}
 use Rattle.capn_pack.specs.Refusal.{IsCut, HasHead, head_len, len_at, words_at}
 use Rattle.capn_pack.specs.Stream.{Splits, NoGroupFirst}
 use Rattle.capn_pack.specs.Tag.{named_bytes, IsNamedBy}
-use Rattle.capn_pack.proofs.GroupLaws.{group_same, no_group}
-use Rattle.capn_pack.proofs.GroupLemmas.{raw_is_group, take_first, take_raw_text, take_tail, take_two, text_some}
-use Rattle.capn_pack.proofs.SpreadLemmas.{named_none, named_one, no_ones, ones_half, parity}
-use Rattle.capn_pack.proofs.StreamLemmas.{nothing_first, splits_open}
+use Rattle.capn_pack.specs.Laws.GroupLaws.{group_same, no_group}
+use Rattle.capn_pack.specs.Laws.GroupLemmas.{raw_is_group, take_first, take_raw_text, take_tail, take_two, text_some}
+use Rattle.capn_pack.specs.Laws.SpreadLemmas.{named_none, named_one, no_ones, ones_half, parity}
+use Rattle.capn_pack.specs.Laws.StreamLemmas.{nothing_first, splits_open}
 
 -- ---- a word of which a tag names these bytes
 

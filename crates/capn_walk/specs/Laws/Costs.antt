@@ -14,9 +14,9 @@ use Rattle.capn_walk.specs.Target.{target}
 use Rattle.capn_walk.specs.Visits.{Visit, pays, fails, price, places, row_places, slots, visits}
 use Rattle.capn_walk.specs.Accepted.{paid_of, AllPay}
 use Rattle.capn_walk.specs.At.{IsAt, AreAt, RowsAt}
-use Rattle.capn_words.proofs.FieldBits.{pick}
-use Rattle.capn_walk.proofs.Inside.{inside}
-use Rattle.capn_walk.proofs.Walks.{slot, visits-deep, visits-object}
+use Rattle.capn_words.specs.Laws.FieldBits.{pick}
+use Rattle.capn_walk.specs.Laws.Inside.{inside}
+use Rattle.capn_walk.specs.Laws.Walks.{slot, visits-deep, visits-object}
 
 -- of visits, one behind the other
 pub all-front : (xs ys : List Visit) → AllPay (xs ++ ys) → AllPay xs

@@ -12,8 +12,8 @@ use Rattle.capn_pack.specs.Group.Group.{Zeros, Named, Raw}
 use Rattle.capn_pack.specs.Refusal.{IsRefused}
 use Rattle.capn_pack.specs.declared.fault.UnpackFault.{UnpackFault}
 use Rattle.capn_pack.specs.declared.fault.UnpackFault.TheVariants as fault
-use Rattle.capn_pack.proofs.GroupLemmas.{length_contents, count_append, text_some}
-use Rattle.capn_pack.proofs.SpreadLemmas.{ones_half, no_ones, parity, named_one, named_none}
+use Rattle.capn_pack.specs.Laws.GroupLemmas.{length_contents, count_append, text_some}
+use Rattle.capn_pack.specs.Laws.SpreadLemmas.{ones_half, no_ones, parity, named_one, named_none}
 
 -- a tag names as many bytes as it has bits
 length_named : (n tag : ℕ) (word : List ℕ) → length word ≡ n → tag < 2 ^ n → length (named_bytes tag word) ≡ count_ones tag

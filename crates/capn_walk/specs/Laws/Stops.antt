@@ -7,7 +7,7 @@ use Rattle.capn_walk.specs.declared.target.Fault.TheVariants as faults
 use Rattle.capn_walk.specs.Visits.{Visit, pays, fails}
 use Rattle.capn_walk.specs.Accepted.{paid_of, AllPay, IsWithin, IsStop, Ends}
 use Rattle.capn_walk.specs.Verdict.{accepted, refused, after, judge}
-use Rattle.capn_walk.proofs.Judge.{judge-pays, judge-over, judge-more}
+use Rattle.capn_walk.specs.Laws.Judge.{judge-pays, judge-over, judge-more}
 
 -- visits within the budget are accepted, with their sum and their number
 pub within-accepted : (b : ℕ) (vs : List Visit) → AllPay vs → paid_of vs ≤ b → judge b vs ≡ accepted (paid_of vs) (length vs)

@@ -3,7 +3,7 @@ use Rattle.std.proofs.Common.{◌≡◌, ℕ, zero, suc, ◌*◌, ◌/◌, ◌%�
 use Rattle.capn_words.specs.Limits.{most_words}
 use Rattle.capn_words.specs.Words.{word_number, words_in, bytes, AreBytes, AreWords, IsBare}
 use Rattle.capn_words.specs.Message.{IsMessage, segment_at}
-use Rattle.capn_words.proofs.Words.{length-words_in, word_in, words_below, bytes_of_words, length-bytes, words_of_bytes}
+use Rattle.capn_words.specs.Laws.Words.{length-words_in, word_in, words_below, bytes_of_words, length-bytes, words_of_bytes}
 
 -- whole words that are not too many are a segment
 pub bare_is : (bs : List ℕ) → AreBytes bs → length bs % 8 ≡ 0 → length bs / 8 ≤ most_words → IsBare bs (words_in (length bs / 8) bs)

@@ -6,7 +6,7 @@ use Rattle.capn_walk.specs.declared.target.Fault.{Fault}
 use Rattle.capn_walk.specs.declared.target.Fault.TheVariants as faults
 use Rattle.capn_walk.specs.Visits.{Visit, pays, fails}
 use Rattle.capn_walk.specs.Verdict.{Verdict, accepted, refused, after, judge}
-use Rattle.capn_words.proofs.FieldBits.{pick}
+use Rattle.capn_words.specs.Laws.FieldBits.{pick}
 
 pub after-after : (p k q j : ℕ) (r : Verdict) → after p k (after q j r) ≡ after (p + q) (k + j) r
 after-after p k q j (accepted x y) = let a : p + (q + x) ≡ p + q + x = omega arith in let b : k + (j + y) ≡ k + j + y = omega arith in cc

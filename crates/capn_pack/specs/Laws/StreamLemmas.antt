@@ -13,8 +13,8 @@ use Rattle.capn_pack.specs.Stream.{Splits, Begins, NoGroupFirst}
 use Rattle.capn_pack.specs.Refusal.{IsCut, head_len, len_at}
 use Rattle.capn_pack.specs.Joins.{Joins}
 use Rattle.capn_pack.specs.declared.pieces.Joined.TheVariants as joins
-use Rattle.capn_pack.proofs.GroupLemmas.{rest_is, each_append, text_some}
-use Rattle.capn_pack.proofs.GroupLaws.{no_group}
+use Rattle.capn_pack.specs.Laws.GroupLemmas.{rest_is, each_append, text_some}
+use Rattle.capn_pack.specs.Laws.GroupLaws.{no_group}
 
 pub begins : (bytes : List ℕ) (at : ℕ) (old out : List ℕ) → TakesRow bytes at old out → Begins bytes old out
 begins bytes at old out u = record {

@@ -10,8 +10,8 @@ use Rattle.capn_stream.specs.Stages.{IsStage, Knows, need}
 use Rattle.capn_stream.specs.declared.stage.Stage.{Stage}
 use Rattle.capn_stream.specs.declared.stage.Stage.TheVariants as stages
 use Rattle.capn_stream.specs.declared.fault.FrameFault.TheVariants.{Empty, Cut}
-use Rattle.capn_stream.proofs.FrameLaws.{refused_whole, stands_alone, whole_of}
-use Rattle.capn_stream.proofs.Longer.{segments-append, words-append}
+use Rattle.capn_stream.specs.Laws.FrameLaws.{refused_whole, stands_alone, whole_of}
+use Rattle.capn_stream.specs.Laws.Longer.{segments-append, words-append}
 
 padding_le : (count : ℕ) → padding count ≤ 4
 padding_le count = grind (arith, nat_tests)

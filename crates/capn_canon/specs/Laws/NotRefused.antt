@@ -3,9 +3,9 @@ use Rattle.std.proofs.Common.{◌≡◌, inl, inr, ℕ, ◌+◌, List, length, S
 use Rattle.capn_words.specs.Words.{IsBare, ReadsBare}
 use Rattle.capn_words.specs.declared.bare.BareFault.{BareFault}
 use Rattle.capn_words.specs.declared.bare.BareFault.TheVariants.{NotWhole, TooLong}
-use Rattle.capn_words.proofs.OneSegment.{bare_length}
-use Rattle.capn_pack.proofs.GroupLaws.{refused_only, one_reading}
-use Rattle.capn_stream.proofs.FrameLaws.{one_frame, stands_alone, whole_of, refused_whole}
+use Rattle.capn_words.specs.Laws.OneSegment.{bare_length}
+use Rattle.capn_pack.specs.Laws.GroupLaws.{refused_only, one_reading}
+use Rattle.capn_stream.specs.Laws.FrameLaws.{one_frame, stands_alone, whole_of, refused_whole}
 use Rattle.capn_value.specs.Tree.{Tree}
 use Rattle.capn_value.specs.Caps.{first_cap}
 use Rattle.capn_walk.specs.declared.walked.Stopped.{Stopped}
@@ -14,7 +14,7 @@ use Rattle.capn_walk.specs.Verdict.{accepted, refused}
 use Rattle.capn_walk.specs.Denotes.{IsAccepted}
 use Rattle.capn_walk.specs.Denotes as walks
 use Rattle.capn_walk.specs.Limits.{Bounds}
-use Rattle.capn_walk.proofs.Stops.{within-accepted, stop-refused}
+use Rattle.capn_walk.specs.Laws.Stops.{within-accepted, stop-refused}
 use Rattle.capn_canon.specs.declared.form.Form.{Form}
 use Rattle.capn_canon.specs.declared.form.Form.TheVariants as forms
 use Rattle.capn_canon.specs.declared.refusal.Refusal.{Refusal}
@@ -22,7 +22,7 @@ use Rattle.capn_canon.specs.declared.refusal.Refusal.TheVariants as refusals
 use Rattle.capn_canon.specs.Reads.{IsFramed, Unpacks, Reads, most_table_words}
 use Rattle.capn_canon.specs.Denotes.{Denotes}
 use Rattle.capn_canon.specs.Refused.{IsMisframed, IsMisread, IsRefusedMessage, IsRefused}
-use Rattle.capn_canon.proofs.OneReading.{one_message, one_value}
+use Rattle.capn_canon.specs.Laws.OneReading.{one_message, one_value}
 
 bare-read : (bs ws : List ℕ) (e : BareFault) → IsBare bs ws → ReadsBare bs (Err e) → ⊥
 bare-read bs ws (NotWhole n) h r = let l = bare_length bs ws h in r.1 (omega arith)

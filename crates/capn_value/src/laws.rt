@@ -1,0 +1,12 @@
+//! The laws of trimming and of the limits of a value, as a function that does nothing.
+
+ghost use Rattle.capn_value.specs.Laws.{SameExactlyTrimmed, SameOnceTrimmed, TrimmingIsThrifty, FittingIsSixFacts};
+
+/// Values are the same exactly if their trimmed ones are equal; a value is the same as its trimmed one, which costs no
+/// more, is no higher, and fits; and a value fits exactly if none of the six misfits holds of it.
+pub fn trimming()
+    ensures same { SameExactlyTrimmed }
+    ensures kept { SameOnceTrimmed }
+    ensures thrifty { TrimmingIsThrifty }
+    ensures fitting { FittingIsSixFacts }
+{}
