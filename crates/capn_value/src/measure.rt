@@ -53,7 +53,7 @@ fn oct_words(xs: &[u64]) -> usize
 }
 
 // What the rows of a list cost beside its pointer and tag, where they have so many words together.
-#[tactic(auto, using(std::proofs::lemmas::Grind::common_steps, crate::specs::Views::views, crate::proofs::Prices::prices))]
+#[tactic(auto, using(std::proofs::lemmas::Grind::common_steps, crate::specs::Views::views, crate::specs::Laws::Prices::prices))]
 fn capped_rows_price<A: Allocator>(bodies: &[Body<A>], words: usize) -> usize
     requires { words ≡ min (row_words (rows_of bodies.now)) 268435457 }
     ensures { result ≡ min (sizes.rows_price (rows_of bodies.now)) 268435457 }

@@ -82,7 +82,7 @@ impl<A: Allocator> Tree<A> {
 
 /// The greatest depth of an object, where the root's is 1 and null and capabilities have none: from 0 to 256
 /// (encoding page: "Security Considerations"; rows have the depth of their list, own). Takes no memory.
-#[tactic(auto, using(crate::proofs::Fitting::fit_parts))]
+#[tactic(auto, using(crate::specs::Laws::Fitting::fit_parts))]
 pub fn height<A: Allocator>(tree: &Tree<A>) -> u32
     ensures { result ≡ sizes.height tree.now }
 {
@@ -91,7 +91,7 @@ pub fn height<A: Allocator>(tree: &Tree<A>) -> u32
 
 /// What following each pointer once costs, in words, by the strict tariff (own, after the encoding page's
 /// "Security Considerations"): from 0 to 2^28. Takes no memory.
-#[tactic(auto, using(crate::proofs::Fitting::fit_parts))]
+#[tactic(auto, using(crate::specs::Laws::Fitting::fit_parts))]
 pub fn cost<A: Allocator>(tree: &Tree<A>) -> u32
     ensures { result ≡ sizes.cost 1 tree.now }
 {
@@ -102,7 +102,7 @@ pub fn cost<A: Allocator>(tree: &Tree<A>) -> u32
 /// page: "Canonicalization"). The rows of a list are cut alike, and elements of a list are never cut.
 ///
 /// Answers `Memory` only where a growth was refused, and takes what the answer holds.
-#[tactic(auto, using(crate::proofs::StaysFit::fits))]
+#[tactic(auto, using(crate::specs::Laws::StaysFit::fits))]
 pub fn trim<A: Allocator + Copy, B: Allocator>(alloc: A, tree: &Tree<B>) -> Result<Tree<A>, Memory>
     ensures value { IfOk result (λ r. r ≡ cut.trimmed tree.now) }
     ensures same { IfOk result (λ r. (w : trees.Tree) → Fits w → Same tree.now w ↔ (r ≡ cut.trimmed w)) }
@@ -127,7 +127,7 @@ pub fn copy<A: Allocator + Copy, B: Allocator>(alloc: A, tree: &Tree<B>) -> Resu
 /// by two spaces a level (own).
 ///
 /// Answers `Memory` only where a growth was refused, and takes one string.
-#[tactic(auto, using(crate::proofs::Fitting::fit_parts))]
+#[tactic(auto, using(crate::specs::Laws::Fitting::fit_parts))]
 pub fn show<A: Allocator, B: Allocator>(alloc: A, tree: &Tree<B>) -> Result<String<A>, Memory>
     ensures { IfOk result (λ t. string_bytes t ≡ text.show_text tree.now) }
 {
