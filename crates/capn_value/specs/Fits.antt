@@ -2,7 +2,8 @@
 -- pointers of the encoding page ("Structs", "Lists") can count; the bounds on cost and height are own.
 use Rattle.std.specs.Prelude.{ℕ, ◌≡◌, ◌≤◌, ◌^◌, Bool, true, false, cond, ◌||◌, ◌&&◌, not, nat_lt, ◌==◌, length, Option, Some, None, List}
 use Rattle.capn_value.specs.Tree.{Tree, nil, node, voids, bits, bytes, pairs, quads, octs, links, rows, cap, Trees, no_trees, tree, Bodies, no_bodies, body, count, count_rows, row_words}
-use Rattle.capn_value.specs.Sizes.{height, cost}
+use Rattle.capn_value.specs.declared.tariff.Tariff.TheVariants.{Plain}
+use Rattle.capn_value.specs.Sizes.{height, base, cost, most_cost}
 use Rattle.capn_value.specs.declared.misfit.Misfit.{Misfit}
 use Rattle.capn_value.specs.declared.misfit.Misfit.TheVariants.{Wide, Long, Ragged, Costly, Tall, BadRoot}
 
@@ -82,13 +83,14 @@ is_root nil = true
 is_root (node ws ss) = true
 is_root _ = false
 
--- the first of the six that holds, each looked for in the whole value before the next
+-- the first of the six that holds, each looked for in the whole value before the next; cost is counted by the plain
+-- tariff, so that a value that costs no more by any tariff fits too
 unfoldable pub misfit : Tree → Option Misfit
 misfit t =
     cond (anywhere is_wide t) (Some Wide)
     (cond (anywhere is_long t) (Some Long)
     (cond (anywhere is_ragged t) (Some Ragged)
-    (cond (nat_lt 268435456 (cost 1 t)) (Some Costly)
+    (cond (nat_lt most_cost (cost (base Plain) t)) (Some Costly)
     (cond (nat_lt 256 (height t)) (Some Tall)
     (cond (is_root t) None (Some BadRoot))))))
 
@@ -101,6 +103,6 @@ pub record IsFit (t : Tree) : Type 0 where
   pub narrow : anywhere is_wide t ≡ false
   pub short : anywhere is_long t ≡ false
   pub even : anywhere is_ragged t ≡ false
-  pub cheap : cost 1 t ≤ 2 ^ 28
+  pub cheap : cost (base Plain) t ≤ most_cost
   pub low : height t ≤ 256
   pub root : is_root t ≡ true

@@ -5,13 +5,15 @@ pub mod Prices
 pub mod Ranges
 pub mod SameTrimmed
 pub mod StaysFit
+pub mod Tariffs
 pub mod Trimmed
-use Rattle.std.specs.Prelude.{◌≡◌, ◌≤◌, ◌↔◌, ℕ}
+use Rattle.std.specs.Prelude.{◌≡◌, ◌≤◌, ◌↔◌}
 use Rattle.capn_value.specs.Tree.{Tree}
 use Rattle.capn_value.specs.Same.{Same}
 use Rattle.capn_value.specs.Trim.{trimmed}
 use Rattle.capn_value.specs.Fits.{Fits, IsFit}
-use Rattle.capn_value.specs.Sizes.{cost, height}
+use Rattle.capn_value.specs.Sizes.{base, cost, height}
+use Rattle.capn_value.specs.declared.tariff.Tariff.{Tariff}
 
 -- values that fit are the same exactly if they are equal once trimmed
 abbrev pub SameExactlyTrimmed : Type 0
@@ -21,9 +23,10 @@ SameExactlyTrimmed = (t u : Tree) → Fits t → Fits u → Same t u ↔ (trimme
 abbrev pub SameOnceTrimmed : Type 0
 SameOnceTrimmed = (t : Tree) → Same (trimmed t) t
 
--- trimming raises neither cost, under either tariff, nor height, and keeps a value fit
+-- trimming raises neither cost, by either tariff, nor height, and keeps a value fit
 abbrev pub TrimmingIsThrifty : Type 0
-TrimmingIsThrifty = (t : Tree) → Fits t → ((each : ℕ) → cost each (trimmed t) ≤ cost each t) × (height (trimmed t) ≤ height t) × Fits (trimmed t)
+TrimmingIsThrifty = (t : Tree) → Fits t
+    → ((tariff : Tariff) → cost (base tariff) (trimmed t) ≤ cost (base tariff) t) × (height (trimmed t) ≤ height t) × Fits (trimmed t)
 
 -- to have no misfit is to have the six facts
 abbrev pub FittingIsSixFacts : Type 0

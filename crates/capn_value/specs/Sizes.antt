@@ -1,6 +1,8 @@
 -- Height and cost: how deep a reader goes, and what it pays (own, after the encoding page's "Security Considerations").
 use Rattle.std.specs.Prelude.{ℕ, ◌+◌, ◌==◌, max, length, cond}
 use Rattle.std.specs.Int.{div_ceil}
+use Rattle.capn_value.specs.declared.tariff.Tariff.{Tariff}
+use Rattle.capn_value.specs.declared.tariff.Tariff.TheVariants.{Strict, Plain}
 use Rattle.capn_value.specs.Tree.{Tree, nil, node, voids, bits, bytes, pairs, quads, octs, links, rows, cap, Trees, no_trees, tree, Bodies, no_bodies, body, count, count_rows, row_words}
 
 -- 0 for null and a capability, else 1 plus the greatest height of a slot, a slot of a row, or an element
@@ -30,22 +32,34 @@ abbrev mutual
 unfoldable pub rows_price : Bodies → ℕ
 rows_price bs = cond (row_words bs == 0) (count_rows bs) (row_words bs)
 
--- The prices of all content of a value. Each content costs `each` beside its size: 1 under the strict tariff,
--- which is the one that counts, 0 under a plain one.
-module _ (each : ℕ) where
+-- what each content costs beside its size
+abbrev pub base : Tariff → ℕ
+base Strict = 1
+base Plain = 0
+
+-- the greatest cost of a value that fits, by the plain tariff
+abbrev pub most_cost : ℕ
+most_cost = 268435456
+
+-- one more than a value that fits costs by any tariff; no sum of costs is counted further
+abbrev pub dear : ℕ
+dear = 536870914
+
+-- the prices of all content of a value, where each content costs `base` beside its size
+module _ (base : ℕ) where
   abbrev mutual
     pub cost : Tree → ℕ
     cost nil = 0
     cost (cap k) = 0
-    cost (node ws slots) = each + length ws + count slots + costs slots
-    cost (voids n) = each + n
-    cost (bits xs) = each + div_ceil (length xs) 64
-    cost (bytes xs) = each + div_ceil (length xs) 8
-    cost (pairs xs) = each + div_ceil (length xs) 4
-    cost (quads xs) = each + div_ceil (length xs) 2
-    cost (octs xs) = each + length xs
-    cost (links ts) = each + count ts + costs ts
-    cost (rows bs) = each + 1 + rows_price bs + costs_in_rows bs
+    cost (node ws slots) = base + length ws + count slots + costs slots
+    cost (voids n) = base + n
+    cost (bits xs) = base + div_ceil (length xs) 64
+    cost (bytes xs) = base + div_ceil (length xs) 8
+    cost (pairs xs) = base + div_ceil (length xs) 4
+    cost (quads xs) = base + div_ceil (length xs) 2
+    cost (octs xs) = base + length xs
+    cost (links ts) = base + count ts + costs ts
+    cost (rows bs) = base + 1 + rows_price bs + costs_in_rows bs
 
     pub costs : Trees → ℕ
     costs no_trees = 0

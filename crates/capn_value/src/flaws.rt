@@ -5,9 +5,10 @@ ghost use Rattle.capn_value.specs.View.{tree_of, trees_of, rows_of};
 ghost use Rattle.capn_value.specs.Fits as fits;
 ghost use Rattle.capn_value.specs.InRange.{InRange};
 
-use crate::measure::{capped_cost, capped_height};
+use crate::measure::{MOST_COST, capped_cost, capped_height};
 use crate::misfit::Misfit;
 use crate::parts::{is_long, is_ragged, is_wide};
+use crate::tariff::Tariff;
 use crate::value::{Body, Value};
 use std::alloc::Allocator;
 
@@ -47,7 +48,7 @@ pub fn misfit<A: Allocator>(v: &Value<A>) -> Option<Misfit>
         Some(Misfit::Long)
     } else if found.ragged {
         Some(Misfit::Ragged)
-    } else if capped_cost(v) > 268_435_456 {
+    } else if capped_cost(v, Tariff::Plain.base() as usize) > MOST_COST {
         Some(Misfit::Costly)
     } else if capped_height(v) > 256 {
         Some(Misfit::Tall)

@@ -13,12 +13,15 @@ ghost use Rattle.capn_value.specs.InRange.{AllBelow, InRange, EachInRange, RowsI
 use crate::value::{Body, Value};
 use std::alloc::Allocator;
 
-/// One more than any value that fits costs.
-const DEAR: usize = 268_435_457;
+/// The greatest cost of a value that fits, in words by the plain tariff.
+pub const MOST_COST: usize = 268_435_456;
+
+/// One more than any value that fits costs, by either tariff.
+const DEAR: usize = 536_870_914;
 
 // The sum, or `DEAR` where it is more.
 fn plus(a: usize, b: usize) -> usize
-    ensures { result ≡ min (a + b) 268435457 }
+    ensures { result ≡ min (a + b) sizes.dear }
 {
     a.saturating_add(b).min(DEAR)
 }
@@ -55,8 +58,8 @@ fn oct_words(xs: &[u64]) -> usize
 // What the rows of a list cost beside its pointer and tag, where they have so many words together.
 #[tactic(auto, using(std::proofs::lemmas::Grind::common_steps, crate::specs::Views::views, crate::specs::Laws::Prices::prices))]
 fn capped_rows_price<A: Allocator>(bodies: &[Body<A>], words: usize) -> usize
-    requires { words ≡ min (row_words (rows_of bodies.now)) 268435457 }
-    ensures { result ≡ min (sizes.rows_price (rows_of bodies.now)) 268435457 }
+    requires { words ≡ min (row_words (rows_of bodies.now)) sizes.dear }
+    ensures { result ≡ min (sizes.rows_price (rows_of bodies.now)) sizes.dear }
 {
     if words == 0 {
         bodies.len().min(DEAR)
@@ -65,11 +68,11 @@ fn capped_rows_price<A: Allocator>(bodies: &[Body<A>], words: usize) -> usize
     }
 }
 
-/// What the value costs in words, or `DEAR` where that is more.
+/// What the value costs in words, where each content costs `base` beside its size, or `DEAR` where that is more.
 #[cycle(cost)]
 #[tactic(auto, using(std::proofs::lemmas::Grind::common_steps, crate::specs::Views::views))]
-pub fn capped_cost<A: Allocator>(v: &Value<A>) -> usize
-    ensures value { result ≡ min (sizes.cost 1 (tree_of v.now)) 268435457 }
+pub fn capped_cost<A: Allocator>(v: &Value<A>, base: usize) -> usize
+    ensures value { result ≡ min (sizes.cost base (tree_of v.now)) sizes.dear }
     ensures in_range { InRange (tree_of v.now) }
 {
     match v {
@@ -81,23 +84,23 @@ pub fn capped_cost<A: Allocator>(v: &Value<A>) -> usize
         Value::Node(body) => {
             let slots = body.slots.as_slice();
             let words = oct_words(body.words.as_slice());
-            let own = plus(1, plus(words, slots.len()));
-            plus(own, capped_costs(slots))
+            let own = plus(base, plus(words, slots.len()));
+            plus(own, capped_costs(slots, base))
         }
-        Value::Voids(n) => plus(1, *n as usize),
-        Value::Bits(xs) => plus(1, xs.len().div_ceil(64)),
-        Value::Bytes(xs) => plus(1, byte_words(xs.as_slice())),
-        Value::Pairs(xs) => plus(1, pair_words(xs.as_slice())),
-        Value::Quads(xs) => plus(1, quad_words(xs.as_slice())),
-        Value::Octs(xs) => plus(1, oct_words(xs.as_slice())),
+        Value::Voids(n) => plus(base, *n as usize),
+        Value::Bits(xs) => plus(base, xs.len().div_ceil(64)),
+        Value::Bytes(xs) => plus(base, byte_words(xs.as_slice())),
+        Value::Pairs(xs) => plus(base, pair_words(xs.as_slice())),
+        Value::Quads(xs) => plus(base, quad_words(xs.as_slice())),
+        Value::Octs(xs) => plus(base, oct_words(xs.as_slice())),
         Value::Links(items) => {
             let items = items.as_slice();
-            plus(plus(1, items.len()), capped_costs(items))
+            plus(plus(base, items.len()), capped_costs(items, base))
         }
         Value::Rows(bodies) => {
             let bodies = bodies.as_slice();
-            let rows = measured_rows(bodies);
-            let own = plus(2, capped_rows_price(bodies, rows.words));
+            let rows = measured_rows(bodies, base);
+            let own = plus(plus(base, 1), capped_rows_price(bodies, rows.words));
             plus(own, rows.costs)
         }
     }
@@ -105,13 +108,13 @@ pub fn capped_cost<A: Allocator>(v: &Value<A>) -> usize
 
 #[cycle(cost)]
 #[tactic(auto, using(std::proofs::lemmas::Grind::common_steps, crate::specs::Views::views))]
-fn capped_costs<A: Allocator>(items: &[Value<A>]) -> usize
-    ensures value { result ≡ min (sizes.costs 1 (trees_of items.now)) 268435457 }
+fn capped_costs<A: Allocator>(items: &[Value<A>], base: usize) -> usize
+    ensures value { result ≡ min (sizes.costs base (trees_of items.now)) sizes.dear }
     ensures in_range { EachInRange (trees_of items.now) }
 {
     let mut sum = 0;
     for v in items {
-        sum = plus(sum, capped_cost(v));
+        sum = plus(sum, capped_cost(v, base));
     }
     sum
 }
@@ -125,9 +128,9 @@ struct RowSums {
 
 #[cycle(cost)]
 #[tactic(auto, using(std::proofs::lemmas::Grind::common_steps, crate::specs::Views::views))]
-fn measured_rows<A: Allocator>(bodies: &[Body<A>]) -> RowSums
-    ensures words { result.words ≡ min (row_words (rows_of bodies.now)) 268435457 }
-    ensures costs { result.costs ≡ min (sizes.costs_in_rows 1 (rows_of bodies.now)) 268435457 }
+fn measured_rows<A: Allocator>(bodies: &[Body<A>], base: usize) -> RowSums
+    ensures words { result.words ≡ min (row_words (rows_of bodies.now)) sizes.dear }
+    ensures costs { result.costs ≡ min (sizes.costs_in_rows base (rows_of bodies.now)) sizes.dear }
     ensures in_range { RowsInRange (rows_of bodies.now) }
 {
     let mut words = 0;
@@ -135,7 +138,7 @@ fn measured_rows<A: Allocator>(bodies: &[Body<A>]) -> RowSums
     for body in bodies {
         let slots = body.slots.as_slice();
         words = plus(words, plus(oct_words(body.words.as_slice()), slots.len()));
-        costs = plus(costs, capped_costs(slots));
+        costs = plus(costs, capped_costs(slots, base));
     }
     RowSums { words, costs }
 }

@@ -8,7 +8,7 @@ pub enum Misfit {
     Long,
     /// Two rows of one list differ in their number of data words or of slots.
     Ragged,
-    /// The cost is above 2^28 words.
+    /// The cost by the plain tariff is above 2^28 words.
     Costly,
     /// The height is above 256.
     Tall,

@@ -1,8 +1,9 @@
 //! Values that fit into a message.
 
-ghost use Rattle.std.specs.Prelude.{◌≡◌, ◌↔◌, ◌≤◌, ℕ, IfOk, IfErr, IsOk, string_bytes};
+ghost use Rattle.std.specs.Prelude.{◌≡◌, ◌↔◌, ◌≤◌, IfOk, IfErr, IsOk, string_bytes};
 ghost use Rattle.capn_value.specs.View.{tree_of};
 ghost use Rattle.capn_value.specs.Sizes as sizes;
+ghost use Rattle.capn_value.specs.declared.tariff.Tariff.{Tariff};
 ghost use Rattle.capn_value.specs.Trim as cut;
 ghost use Rattle.capn_value.specs.Fits.{Fits, misfit};
 ghost use Rattle.capn_value.specs.Text as text;
@@ -15,6 +16,7 @@ use crate::flaws::misfit;
 use crate::measure::{capped_cost, capped_height};
 use crate::memory::Memory;
 use crate::misfit::Misfit;
+use crate::tariff::Tariff;
 use crate::text::show as show_value;
 use crate::trimming::trimmed;
 use crate::value::Value;
@@ -89,13 +91,13 @@ pub fn height<A: Allocator>(tree: &Tree<A>) -> u32
     capped_height(&tree.value)
 }
 
-/// What following each pointer once costs, in words, by the strict tariff (own, after the encoding page's
-/// "Security Considerations"): from 0 to 2^28. Takes no memory.
-#[tactic(auto, using(crate::specs::Laws::Fitting::fit_parts))]
-pub fn cost<A: Allocator>(tree: &Tree<A>) -> u32
-    ensures { result ≡ sizes.cost 1 tree.now }
+/// What following each pointer once costs, in words, by a tariff (own, after the encoding page's "Security
+/// Considerations"): from 0 to 2^28 by the plain one, to 2^29 + 1 by the strict one. Takes no memory.
+#[tactic(auto, using(crate::specs::Laws::Tariffs::affordable))]
+pub fn cost<A: Allocator>(tree: &Tree<A>, tariff: Tariff) -> u32
+    ensures { result ≡ sizes.cost (sizes.base tariff) tree.now }
 {
-    capped_cost(&tree.value) as u32
+    capped_cost(&tree.value, tariff.base() as usize) as u32
 }
 
 /// The tree with trailing zero words and trailing null slots of structs cut off, at every level (encoding
@@ -106,7 +108,7 @@ pub fn cost<A: Allocator>(tree: &Tree<A>) -> u32
 pub fn trim<A: Allocator + Copy, B: Allocator>(alloc: A, tree: &Tree<B>) -> Result<Tree<A>, Memory>
     ensures value { IfOk result (λ r. r ≡ cut.trimmed tree.now) }
     ensures same { IfOk result (λ r. (w : trees.Tree) → Fits w → Same tree.now w ↔ (r ≡ cut.trimmed w)) }
-    ensures cheap { IfOk result (λ r. (each : ℕ) → sizes.cost each r ≤ sizes.cost each tree.now) }
+    ensures cheap { IfOk result (λ r. (by : Tariff) → sizes.cost (sizes.base by) r ≤ sizes.cost (sizes.base by) tree.now) }
     ensures low { IfOk result (λ r. sizes.height r ≤ sizes.height tree.now) }
 {
     let value = trimmed(alloc, &tree.value)?;

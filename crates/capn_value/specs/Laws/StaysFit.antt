@@ -2,6 +2,8 @@
 use Rattle.std.proofs.Common.{◌≡◌, ℕ, zero, suc, ◌≤◌, min, List, take, length, Bool, true, false, ◌||◌, ◌&&◌, nat_lt, refl, ap, ◌∙◌, arith, length-take}
 use Rattle.std.specs.Prelude.{◌==◌}
 use Rattle.std.proofs.lemmas.Bool.{or_parts, or_from, and_parts, and_from, eqb-true, eq-eqb, ltb-false, le-ltb, not-false, not_from_true}
+use Rattle.capn_value.specs.declared.tariff.Tariff.TheVariants.{Plain}
+use Rattle.capn_value.specs.Sizes.{base}
 use Rattle.capn_value.specs.Tree.{Tree, nil, node, voids, bits, bytes, pairs, quads, octs, links, rows, cap, Trees, no_trees, tree, Bodies, no_bodies, body, front, count, count_rows, row_words}
 use Rattle.capn_value.specs.Trim.{kept_words, kept_slots, kept_words_of_rows, kept_slots_of_rows, trimmed, trimmed_each, trimmed_rows}
 use Rattle.capn_value.specs.Fits.{anywhere, anywhere_in, anywhere_in_rows, is_wide, is_wide_body, has_wide_row, is_long, is_ragged, are_even, is_root, Fits}
@@ -142,7 +144,7 @@ fits-trimmed t h =
       narrow = anywhere-trimmed is_wide keeps_narrow t p.narrow;
       short = anywhere-trimmed is_long keeps_short t p.short;
       even = anywhere-trimmed is_ragged keeps_even t p.even;
-      cheap = omega (arith, cost-trimmed 1 t p.even, p.cheap);
+      cheap = omega (arith, cost-trimmed (base Plain) t p.even, p.cheap);
       low = omega (arith, height-trimmed t, p.low);
       root = same_root t ∙ p.root;
     })

@@ -1,3 +1,4 @@
+use Rattle.capn_value.specs.Sizes.{base}
 use Rattle.capn_value.specs.Laws.Fitting.{fit_parts, fit_from}
 use Rattle.capn_value.proofs.OnceTrimmed.{same-trimmed}
 use Rattle.capn_value.specs.Laws.StaysFit.{fits-trimmed}
@@ -9,7 +10,7 @@ pub returns-clause-same : goal.returns-clause-same
 returns-clause-same c t u p q = same_exactly_trimmed t u (fit_parts t p).even (fit_parts u q).even
 
 pub returns-clause-thrifty : goal.returns-clause-thrifty
-returns-clause-thrifty c t p = (λ each. cost-trimmed each t (fit_parts t p).even, height-trimmed t, fits-trimmed t p)
+returns-clause-thrifty c t p = (λ by. cost-trimmed (base by) t (fit_parts t p).even, height-trimmed t, fits-trimmed t p)
 
 pub returns-clause-kept : goal.returns-clause-kept
 returns-clause-kept c t = same-trimmed t

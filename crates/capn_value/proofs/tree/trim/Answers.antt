@@ -1,6 +1,6 @@
 use Rattle.std.proofs.Common.{◌≡◌, ◌≤◌, sym, ap, subst, ◌∙◌}
 use Rattle.capn_value.specs.View.{tree_of}
-use Rattle.capn_value.specs.Sizes.{cost, height}
+use Rattle.capn_value.specs.Sizes.{base, cost, height}
 use Rattle.capn_value.specs.Trim.{trimmed}
 use Rattle.capn_value.specs.Fits.{Fits}
 use Rattle.capn_value.specs.InRange.{InRange}
@@ -28,7 +28,7 @@ pub returns-clause-cheap : goal.returns-clause-cheap
 returns-clause-cheap g c =
     let fit : Fits c.args.tree.now = subst Fits c.tree.view_is c.tree.invariant.0 in
     let done : tree_of c.in_ok-value.value ≡ trimmed c.args.tree.now = c.in_ok-value.ensures ∙ ap trimmed c.tree.view_is in
-    λ each. subst (λ t. cost each t ≤ cost each c.args.tree.now) (sym done) (cost-trimmed each c.args.tree.now (fit_parts _ fit).even)
+    λ tariff. subst (λ t. cost (base tariff) t ≤ cost (base tariff) c.args.tree.now) (sym done) (cost-trimmed (base tariff) c.args.tree.now (fit_parts _ fit).even)
 
 pub returns-clause-low : goal.returns-clause-low
 returns-clause-low g c =

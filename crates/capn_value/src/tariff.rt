@@ -1,0 +1,28 @@
+//! How the contents of a message are priced.
+
+ghost use Rattle.std.specs.Prelude.{◌≡◌, ◌≤◌};
+ghost use Rattle.capn_value.specs.Sizes as sizes;
+
+/// How visits are priced (own, after the encoding page's "Security Considerations"): each pays the words of the
+/// content that its slot leads to, and one for each element that has no size.
+#[derive(Clone, Copy, Debug, PartialEq, Eq)]
+pub enum Tariff {
+    /// Each content costs 1 beside its size.
+    Strict,
+    /// A content costs nothing beside its size.
+    Plain,
+}
+
+impl Tariff {
+    /// What each content costs beside its size, in words.
+    #[inline(always)]
+    pub fn base(self) -> u32
+        ensures value { result ≡ sizes.base self }
+        ensures small { result ≤ 1 }
+    {
+        match self {
+            Tariff::Strict => 1,
+            Tariff::Plain => 0,
+        }
+    }
+}
