@@ -2,6 +2,7 @@
 use Rattle.std.proofs.Common.{◌≡◌, ◌⊎◌, inl, inr, ℕ, ◌^◌, ◌+◌, ◌<◌, ◌≤◌, List, length, Result, Ok, Err, refl, ap, sym, ◌∙◌, arith}
 use Rattle.capn_words.specs.Message.{segment_at}
 use Rattle.capn_words.specs.declared.space.Place.{Place}
+use Rattle.capn_value.specs.Sizes.{base}
 use Rattle.capn_value.specs.Tree.{Tree}
 use Rattle.capn_walk.specs.declared.target.Fault.{Fault}
 use Rattle.capn_walk.specs.declared.target.Fault.TheVariants as faults
@@ -13,14 +14,14 @@ use Rattle.capn_walk.specs.Visits.{Visit, visits}
 use Rattle.capn_walk.specs.Verdict.{Verdict, accepted, refused, judge}
 use Rattle.capn_walk.specs.Accepted.{AllPay, IsStop, root, root_visits, visits_at_root}
 use Rattle.capn_walk.specs.At.{IsAt}
-use Rattle.capn_walk.specs.Denotes.{IsAccepted, IsValueOf, IsRefused, paid}
+use Rattle.capn_walk.specs.Denotes.{IsAccepted, IsValueOf, IsRefused, paid, visits_within}
 use Rattle.capn_walk.specs.Laws.{AcceptedAreReadable, ValuesFit, ValuesAreCheap, Apart, StopsAreOne}
 use Rattle.capn_walk.proofs.Exists.{exists-at}
 use Rattle.capn_walk.specs.Laws.Fitting.{fits-root, root-costs}
 use Rattle.capn_walk.specs.Laws.Stops.{never-both, stop-refused}
 
-module _ (m : List (List ℕ)) (each : ℕ) where
-  all-below : (r : Result Target Fault) (vs : List Visit) → AllPay (visits_at_root m each r vs) → AllPay vs
+module _ (m : List (List ℕ)) (base : ℕ) where
+  all-below : (r : Result Target Fault) (vs : List Visit) → AllPay (visits_at_root m base r vs) → AllPay vs
   all-below (Ok targets.Nil) vs h = h
   all-below (Ok (targets.Cap k)) vs h = absurd h
   all-below (Ok (targets.Content s start (shapes.Node a b) pads)) vs h = h
@@ -28,24 +29,24 @@ module _ (m : List (List ℕ)) (each : ℕ) where
   all-below (Ok (targets.Content s start (shapes.Rows n a b span) pads)) vs h = absurd h
   all-below (Err e) vs h = h
 
-  all-at_root : (depth : ℕ) → AllPay (root_visits m each depth) → AllPay (visits m each depth root)
+  all-at_root : (depth : ℕ) → AllPay (root_visits m base depth) → AllPay (visits m base depth root)
   unfolding root_visits
-  all-at_root depth h = all-below (target m root) (visits m each depth root) h
+  all-at_root depth h = all-below (target m root) (visits m base depth root) h
 
 pub readable : AcceptedAreReadable
-readable m each budget depth h =
-    let (v, is) = exists-at m each depth root (all-at_root m each depth h.within.all) in
+readable m limits h =
+    let (v, is) = exists-at m (base limits.tariff) limits.depth root (all-at_root m (base limits.tariff) limits.depth h.within.all) in
     (v, record { accepted = h; is = is })
 
 pub fits : ValuesFit
-fits m budget depth v b d h = fits-root m budget depth v b d h.accepted.within h.is
+fits m limits v b d h = fits-root m (base limits.tariff) limits.budget limits.depth v b d h.accepted.within h.is
 
 pub cheap : ValuesAreCheap
-cheap m each budget depth v h = root-costs m each depth v h.is h.accepted.within.all
+cheap m limits v h = root-costs m (base limits.tariff) limits.depth v h.is h.accepted.within.all
 
 pub apart : Apart
-apart m each budget depth e at p k h (inl r) = let s = h.some in let z = r.0 in absurd (omega arith)
-apart m each budget depth e at p k h (inr r) = never-both budget (root_visits m each depth) e at p k h.within r.1
+apart m limits e at p k h (inl r) = let s = h.some in let z = r.0 in absurd (omega arith)
+apart m limits e at p k h (inr r) = never-both limits.budget (visits_within m limits) e at p k h.within r.1
 
 abbrev fault_of : Verdict → Fault
 fault_of (accepted p k) = faults.NoRoot

@@ -119,25 +119,25 @@ module _ (m : List (List ℕ)) where
       let z : suc start ≡ start + 1 = omega arith in
       (rows bs, (a, b, span, record { segment = s; start = start; pads = pads; is = rw k e; inside = rw z are }))
 
-  module _ (each d : ℕ) (below : (at : Place) → AllPay (visits m each d at) → (v : Tree) × IsAt m at v) where
-    slots-exist : (s w n : ℕ) → AllPay (flat_map (visits m each d) (places s w n)) → (ts : Trees) × (count ts ≡ n) × AreAt m s w ts
+  module _ (base d : ℕ) (below : (at : Place) → AllPay (visits m base d at) → (v : Tree) × IsAt m at v) where
+    slots-exist : (s w n : ℕ) → AllPay (flat_map (visits m base d) (places s w n)) → (ts : Trees) × (count ts ≡ n) × AreAt m s w ts
     slots-exist s w zero h = (no_trees, refl, tt)
     slots-exist s w (suc n) h =
-        let here = visits m each d (slot s w) in
-        let rest = flat_map (visits m each d) (places s (w + 1) n) in
+        let here = visits m base d (slot s w) in
+        let rest = flat_map (visits m base d) (places s (w + 1) n) in
         let (v, i) = below (slot s w) (all-front here rest h) in
         let (ts, k, is) = slots-exist s (w + 1) n (all-back here rest h) in
         let e : w + 1 ≡ suc w = omega arith in
         let P : ℕ → Type 0 = λ x. AreAt m s x ts in
         (tree v ts, ap suc k, (i, subst P e is))
 
-    rows-exist : (s w a b n : ℕ) → w + n * (a + b) ≤ length (segment_at m s) → AllPay (flat_map (visits m each d) (row_places s w a b n)) →
+    rows-exist : (s w a b n : ℕ) → w + n * (a + b) ≤ length (segment_at m s) → AllPay (flat_map (visits m base d) (row_places s w a b n)) →
         (bs : Bodies) × (count_rows bs ≡ n) × RowsAt m a b s w bs
     rows-exist s w a b zero r h = (no_bodies, refl, tt)
     rows-exist s w a b (suc n) r h =
-        let here = flat_map (visits m each d) (places s (w + a) b) in
-        let rest = flat_map (visits m each d) (row_places s (w + a + b) a b n) in
-        let e = flat_map-append (visits m each d) (places s (w + a) b) (row_places s (w + a + b) a b n) in
+        let here = flat_map (visits m base d) (places s (w + a) b) in
+        let rest = flat_map (visits m base d) (row_places s (w + a + b) a b n) in
+        let e = flat_map-append (visits m base d) (places s (w + a) b) (row_places s (w + a + b) a b n) in
         let h2 = rw e at h in
         let step : suc n * (a + b) ≡ a + b + n * (a + b) = omega arith in
         let (ss, k, is) = slots-exist s (w + a) b (all-front here rest h2) in
@@ -146,7 +146,7 @@ module _ (m : List (List ℕ)) where
         (body ws ss bs, ap suc j, (length-words s w a (omega arith), k, are-words s w a (omega arith), is, are))
 
     of-shape : (at : Place) (s start pads : ℕ) (shape : Shape) → target m at ≡ Ok (targets.Content s start shape pads) →
-        AllPay (flat_map (visits m each d) (slots s start shape)) → (v : Tree) × IsAt m at v
+        AllPay (flat_map (visits m base d) (slots s start shape)) → (v : Tree) × IsAt m at v
     of-shape at s start pads (shapes.Node a b) e h =
         let i = (inside m at s start pads (shapes.Node a b) e).0 in
         let (ts, k, is) = slots-exist s (start + a) b h in
@@ -163,23 +163,23 @@ module _ (m : List (List ℕ)) where
         as-links at s start pads n ts e k is
     of-shape at s start pads (shapes.Many width n) e h = of-list at s start pads width n e tt
 
-    of-target : (at : Place) (r : Result Target Fault) → target m at ≡ r → AllPay (visits m each (suc d) at) → (v : Tree) × IsAt m at v
+    of-target : (at : Place) (r : Result Target Fault) → target m at ≡ r → AllPay (visits m base (suc d) at) → (v : Tree) × IsAt m at v
     of-target at (Ok targets.Nil) e h = (nil, e)
     of-target at (Ok (targets.Cap k)) e h = (cap k, e)
     of-target at (Ok (targets.Content s start shape pads)) e h =
-        let o = visits-object m each at s start pads shape e (suc d) (omega arith) in
+        let o = visits-object m base at s start pads shape e (suc d) (omega arith) in
         let z : suc d - 1 ≡ d = omega arith in
         let k = rw (o, z) at h in
         of-shape at s start pads shape e k
-    of-target at (Err f) e h = let no_fault = rw (visits-fault m each at (suc d) f e) at h in absurd no_fault
+    of-target at (Err f) e h = let no_fault = rw (visits-fault m base at (suc d) f e) at h in absurd no_fault
 
-  of-last : (each : ℕ) (at : Place) (r : Result Target Fault) → target m at ≡ r → AllPay (visits m each 0 at) → (v : Tree) × IsAt m at v
-  of-last each at (Ok targets.Nil) e h = (nil, e)
-  of-last each at (Ok (targets.Cap k)) e h = (cap k, e)
-  of-last each at (Ok (targets.Content s start shape pads)) e h = let deep = rw (visits-deep m each at s start pads shape e 0 refl) at h in absurd deep
-  of-last each at (Err f) e h = let no_fault = rw (visits-fault m each at 0 f e) at h in absurd no_fault
+  of-last : (base : ℕ) (at : Place) (r : Result Target Fault) → target m at ≡ r → AllPay (visits m base 0 at) → (v : Tree) × IsAt m at v
+  of-last base at (Ok targets.Nil) e h = (nil, e)
+  of-last base at (Ok (targets.Cap k)) e h = (cap k, e)
+  of-last base at (Ok (targets.Content s start shape pads)) e h = let deep = rw (visits-deep m base at s start pads shape e 0 refl) at h in absurd deep
+  of-last base at (Err f) e h = let no_fault = rw (visits-fault m base at 0 f e) at h in absurd no_fault
 
   -- a value stands at a place of which no visit is a fault
-  pub exists-at : (each d : ℕ) (at : Place) → AllPay (visits m each d at) → (v : Tree) × IsAt m at v
-  exists-at each zero at h = of-last each at (target m at) refl h
-  exists-at each (suc d) at h = of-target each d (exists-at each d) at (target m at) refl h
+  pub exists-at : (base d : ℕ) (at : Place) → AllPay (visits m base d at) → (v : Tree) × IsAt m at v
+  exists-at base zero at h = of-last base at (target m at) refl h
+  exists-at base (suc d) at h = of-target base d (exists-at base d) at (target m at) refl h

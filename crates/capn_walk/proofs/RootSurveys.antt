@@ -1,8 +1,9 @@
 -- A survey of a whole message.
-use Rattle.std.proofs.Common.{◌≡◌, ◌⊎◌, inl, inr, ℕ, ◌+◌, ◌-◌, ◌<◌, ◌≤◌, List, [], ◌∷◌, ◌++◌, length, Option, None, Ok, refl, ap, ap₂, sym, ◌∙◌, arith}
+use Rattle.std.proofs.Common.{◌≡◌, ◌⊎◌, true, inl, inr, ℕ, ◌+◌, ◌-◌, ◌<◌, ◌≤◌, List, [], ◌∷◌, ◌++◌, length, Option, None, Ok, refl, ap, ap₂, sym, ◌∙◌, arith}
 use Rattle.std.specs.Option.{option_or}
 use Rattle.capn_words.specs.Message.{segment_at}
 use Rattle.capn_words.specs.declared.space.Place.{Place}
+use Rattle.capn_value.specs.Sizes.{base}
 use Rattle.capn_value.specs.Tree.{Tree}
 use Rattle.capn_value.specs.Caps.{first_cap}
 use Rattle.capn_walk.specs.declared.frame.Frame.{Frame}
@@ -14,10 +15,11 @@ use Rattle.capn_walk.specs.declared.walked.Stopped.{Stopped}
 use Rattle.capn_walk.specs.Target.{target}
 use Rattle.capn_walk.specs.Visits.{Visit, pays, visits, visits_of}
 use Rattle.capn_walk.specs.Verdict.{judge, after, accepted, refused}
-use Rattle.capn_walk.specs.Accepted.{AllPay, root, root_visits}
+use Rattle.capn_walk.specs.Accepted.{AllPay, root, may_be_root}
 use Rattle.capn_walk.specs.At.{IsAt}
-use Rattle.capn_walk.specs.Denotes.{IsValueOf, IsAccepted, IsRefused}
-use Rattle.capn_walk.specs.Walked.{Gives, Refuses, IsRootKind}
+use Rattle.capn_walk.specs.Denotes.{IsValueOf, visits_within}
+use Rattle.capn_walk.specs.Limits.{Bounds}
+use Rattle.capn_walk.specs.Walked.{Gives, Refuses}
 use Rattle.capn_walk.specs.Frames.{places_of, owed, HasRows}
 use Rattle.capn_walk.specs.Surveyed.{cap_of, first_cap_of, IsSurvey}
 use Rattle.capn_walk.proofs.Framing.{nothing-left}
@@ -28,39 +30,39 @@ use Rattle.capn_walk.proofs.UnderWay.{option_or-none}
 use Rattle.capn_walk.proofs.CapsMet.{caps-at}
 use Rattle.capn_walk.proofs.Exists.{exists-at}
 
-module _ (m : List (List ℕ)) where
+module _ (m : List (List ℕ)) (base : ℕ) where
   -- the visit of a slot that is refused at once
-  pub refuses-here : (budget depth : ℕ) (at : Place) (e : Fault) → judge budget (visits m 1 depth at) ≡ refused e at 0 1 →
-      Refuses budget (visits m 1 depth at) 1 (record { fault = e; place = at; paid = 0; visits = 1 })
+  pub refuses-here : (budget depth : ℕ) (at : Place) (e : Fault) → judge budget (visits m base depth at) ≡ refused e at 0 1 →
+      Refuses budget (visits m base depth at) 1 (record { fault = e; place = at; paid = 0; visits = 1 })
   refuses-here budget depth at e h = record { is = inr h; within = omega arith; few = omega arith }
 
   -- that of a slot that pays, with what the visits below it come to
   module _ (budget depth : ℕ) (at : Place) (p : ℕ) (below : Frame) (k : Option ℕ)
-      (here : visits m 1 depth at ≡ pays at p ∷ visits_of m 1 (depth - 1) (places_of below)) (fits : p ≤ budget)
+      (here : visits m base depth at ≡ pays at p ∷ visits_of m base (depth - 1) (places_of below)) (fits : p ≤ budget)
       (few : owed below ≤ p) (c : cap_of (target m at) ≡ k) where
     abbrev others : List Visit
-    others = visits_of m 1 (depth - 1) (places_of below)
+    others = visits_of m base (depth - 1) (places_of below)
 
-    both : judge budget (visits m 1 depth at) ≡ after p 1 (judge (budget - p) others)
+    both : judge budget (visits m base depth at) ≡ after p 1 (judge (budget - p) others)
     both = ap (judge budget) here ∙ judge-pays budget p at others fits
 
-    pub gives-below : (q j : ℕ) → Gives (budget - p) others (owed below) q j → Gives budget (visits m 1 depth at) 1 (p + q) (1 + j)
+    pub gives-below : (q j : ℕ) → Gives (budget - p) others (owed below) q j → Gives budget (visits m base depth at) 1 (p + q) (1 + j)
     gives-below q j g = record {
       is = both ∙ ap (after p 1) g.is;
       within = let w = g.within in omega arith;
       few = let w = g.few in omega arith;
     }
 
-    pub caps-below : (j : Option ℕ) → first_cap_of m others ≡ j → first_cap_of m (visits m 1 depth at) ≡ option_or k j
+    pub caps-below : (j : Option ℕ) → first_cap_of m others ≡ j → first_cap_of m (visits m base depth at) ≡ option_or k j
     caps-below j e = ap (first_cap_of m) here ∙ ap₂ option_or c e
 
     later : (e : Fault) (to : Place) (q j : ℕ) → (e ≡ faults.Memory) ⊎ (judge (budget - p) others ≡ refused e to q j) →
-        (e ≡ faults.Memory) ⊎ (judge budget (visits m 1 depth at) ≡ refused e to (p + q) (1 + j))
+        (e ≡ faults.Memory) ⊎ (judge budget (visits m base depth at) ≡ refused e to (p + q) (1 + j))
     later e to q j (inl h) = inl h
     later e to q j (inr h) = inr (both ∙ ap (after p 1) h)
 
     pub refuses-below : (s : Stopped) → Refuses (budget - p) others (owed below) s →
-        Refuses budget (visits m 1 depth at) 1 (record s { paid = p + s.paid; visits = 1 + s.visits })
+        Refuses budget (visits m base depth at) 1 (record s { paid = p + s.paid; visits = 1 + s.visits })
     refuses-below s r = record {
       is = later s.fault s.place s.paid s.visits r.is;
       within = let w = r.within in omega arith;
@@ -69,9 +71,9 @@ module _ (m : List (List ℕ)) where
 
     -- nothing is below it
     none-below : HasRows below → owed below ≡ 0 → others ≡ []
-    none-below h z = ap (visits_of m 1 (depth - 1)) (nothing-left below h z)
+    none-below h z = ap (visits_of m base (depth - 1)) (nothing-left below h z)
 
-    pub gives-alone : HasRows below → owed below ≡ 0 → Gives budget (visits m 1 depth at) 1 p 1
+    pub gives-alone : HasRows below → owed below ≡ 0 → Gives budget (visits m base depth at) 1 p 1
     gives-alone h z = record {
       is =
           let y : p + 0 ≡ p = omega arith in
@@ -80,29 +82,30 @@ module _ (m : List (List ℕ)) where
       few = omega arith;
     }
 
-    pub caps-alone : HasRows below → owed below ≡ 0 → first_cap_of m (visits m 1 depth at) ≡ k
+    pub caps-alone : HasRows below → owed below ≡ 0 → first_cap_of m (visits m base depth at) ≡ k
     caps-alone h z = caps-below None (ap (first_cap_of m) (none-below h z)) ∙ option_or-none k
 
-  module _ (budget depth : ℕ) (some : 0 < length (segment_at m 0)) (t : Target) (e : target m root ≡ Ok t) (kind : IsRootKind t) where
-    pub surveyed : (s : Surveyed) → Gives budget (visits m 1 depth root) 1 s.paid s.visits →
-        first_cap_of m (visits m 1 depth root) ≡ s.capability → IsSurvey m 1 budget depth s
-    surveyed s g c =
-        let same = from-root m 1 depth t e kind in
-        let (w, p, k) = accepted-within budget (root_visits m 1 depth) s.paid s.visits (ap (judge budget) same ∙ g.is) in
-        let all = rw same at w.all in
-        let (v, i) = exists-at m 1 depth root all in
-        let first = caps-at m 1 v root depth i all in
-        record {
-          value = v;
-          is = record { accepted = record { some = some; within = w }; is = i };
-          pays = p;
-          counts = k;
-          capability = sym c ∙ first;
-        }
+module _ (m : List (List ℕ)) (limits : Bounds) (some : 0 < length (segment_at m 0)) (t : Target) (e : target m root ≡ Ok t)
+    (kind : may_be_root t ≡ true) where
+  pub surveyed : (s : Surveyed) → Gives limits.budget (visits m (base limits.tariff) limits.depth root) 1 s.paid s.visits →
+      first_cap_of m (visits m (base limits.tariff) limits.depth root) ≡ s.capability → IsSurvey m limits s
+  surveyed s g c =
+      let same = from-root m (base limits.tariff) limits.depth t e kind in
+      let (w, p, k) = accepted-within limits.budget (visits_within m limits) s.paid s.visits (ap (judge limits.budget) same ∙ g.is) in
+      let all = rw same at w.all in
+      let (v, i) = exists-at m (base limits.tariff) limits.depth root all in
+      let first = caps-at m (base limits.tariff) v root limits.depth i all in
+      record {
+        value = v;
+        is = record { accepted = record { some = some; within = w }; is = i };
+        pays = p;
+        counts = k;
+        capability = sym c ∙ first;
+      }
 
-    pub one-cap : (k : Option ℕ) (v : Tree) → IsValueOf m 1 budget depth v → first_cap_of m (visits m 1 depth root) ≡ k → k ≡ first_cap v
-    one-cap k v is c =
-        let same = from-root m 1 depth t e kind in
-        let all = rw same at is.accepted.within.all in
-        let first = caps-at m 1 v root depth is.is all in
-        sym c ∙ first
+  pub one-cap : (k : Option ℕ) (v : Tree) → IsValueOf m limits v → first_cap_of m (visits m (base limits.tariff) limits.depth root) ≡ k → k ≡ first_cap v
+  one-cap k v is c =
+      let same = from-root m (base limits.tariff) limits.depth t e kind in
+      let all = rw same at is.accepted.within.all in
+      let first = caps-at m (base limits.tariff) v root limits.depth is.is all in
+      sym c ∙ first

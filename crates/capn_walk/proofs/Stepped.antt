@@ -28,47 +28,47 @@ use Rattle.capn_walk.specs.Laws.Stops.{within-accepted}
 use Rattle.capn_walk.specs.Laws.Judge.{judge-over}
 use Rattle.capn_walk.specs.Laws.Walks.{visits-null, visits-cap, visits-fault, visits-deep, visits-object}
 
-module _ (m : List (List ℕ)) (each : ℕ) (at : Place) (depth budget : ℕ) where
+module _ (m : List (List ℕ)) (base : ℕ) (at : Place) (depth budget : ℕ) where
   -- what a step that answers a target says of the visits of its slot
   pub record IsPaid (t : Target) : Type 0 where
-    pub is : visits m each depth at ≡ pays at (toll each t) ∷ visits_of m each (depth - 1) (slots_below t)
-    pub within : toll each t ≤ budget
+    pub is : visits m base depth at ≡ pays at (toll base t) ∷ visits_of m base (depth - 1) (slots_below t)
+    pub within : toll base t ≤ budget
 
   abbrev Told : Result Target Fault → Type 0
   Told (Ok t) = IsPaid t
-  Told (Err e) = judge budget (visits m each depth at) ≡ refused e at 0 1
+  Told (Err e) = judge budget (visits m base depth at) ≡ refused e at 0 1
 
-  told : (r : Result Target Fault) → target m at ≡ r → Told (stepped each depth budget r)
-  told (Ok targets.Nil) e = record { is = visits-null m each at depth e; within = omega arith }
-  told (Ok (targets.Cap k)) e = record { is = visits-cap m each at depth k e; within = omega arith }
-  told (Err f) e = ap (judge budget) (visits-fault m each at depth f e)
+  told : (r : Result Target Fault) → target m at ≡ r → Told (stepped base depth budget r)
+  told (Ok targets.Nil) e = record { is = visits-null m base at depth e; within = omega arith }
+  told (Ok (targets.Cap k)) e = record { is = visits-cap m base at depth k e; within = omega arith }
+  told (Err f) e = ap (judge budget) (visits-fault m base at depth f e)
   told (Ok (targets.Content s start shape pads)) e =
       pick Told (depth == 0) _ _
-      (λ z. ap (judge budget) (visits-deep m each at s start pads shape e depth (grind (arith, nat_tests))))
+      (λ z. ap (judge budget) (visits-deep m base at s start pads shape e depth (grind (arith, nat_tests))))
       (λ z.
       let deep : 0 < depth = grind (arith, nat_tests) in
-      let o = visits-object m each at s start pads shape e depth deep in
-      pick Told (nat_lt budget (price each shape + pads)) _ _
-      (λ t. ap (judge budget) o ∙ judge-over budget (price each shape + pads) at _ (grind (arith, nat_tests)))
+      let o = visits-object m base at s start pads shape e depth deep in
+      pick Told (nat_lt budget (price base shape + pads)) _ _
+      (λ t. ap (judge budget) o ∙ judge-over budget (price base shape + pads) at _ (grind (arith, nat_tests)))
       (λ t. record { is = o; within = grind (arith, nat_tests) }))
 
-  pub step-pays : (t : Target) → stepped each depth budget (target m at) ≡ Ok t → IsPaid t
+  pub step-pays : (t : Target) → stepped base depth budget (target m at) ≡ Ok t → IsPaid t
   step-pays t h = let k = rw h at (told (target m at) refl) in k
 
-  pub step-stops : (e : Fault) → stepped each depth budget (target m at) ≡ Err e → judge budget (visits m each depth at) ≡ refused e at 0 1
+  pub step-stops : (e : Fault) → stepped base depth budget (target m at) ≡ Err e → judge budget (visits m base depth at) ≡ refused e at 0 1
   step-stops e h = let k = rw h at (told (target m at) refl) in k
 
   -- ---- where the visits of a slot are within what is left, a step to it answers
 
-  pub step-answers : (e : Fault) → IsWithin budget (visits m each depth at) → stepped each depth budget (target m at) ≡ Err e → ⊥
+  pub step-answers : (e : Fault) → IsWithin budget (visits m base depth at) → stepped base depth budget (target m at) ≡ Err e → ⊥
   step-answers e w h =
-      let a = within-accepted budget (visits m each depth at) w.all w.paid in
+      let a = within-accepted budget (visits m base depth at) w.all w.paid in
       let r = step-stops e h in
       absurd cc
 
   -- and what is left behind it is enough for all below
-  pub left-for-below : (t : Target) → IsWithin budget (visits m each depth at) → stepped each depth budget (target m at) ≡ Ok t →
-      IsWithin (budget - toll each t) (visits_of m each (depth - 1) (slots_below t))
+  pub left-for-below : (t : Target) → IsWithin budget (visits m base depth at) → stepped base depth budget (target m at) ≡ Ok t →
+      IsWithin (budget - toll base t) (visits_of m base (depth - 1) (slots_below t))
   left-for-below t w h =
       let is = (step-pays t h).is in
       let v = rw is at w in
@@ -160,24 +160,24 @@ module _ (m : List (List ℕ)) where
   numbers-below s w pads p t h e = let k = rw e at (none-near s w pads p h) in k
 
   -- a visit of such a list, where its target is known
-  module _ (at : Place) (depth left : ℕ) (p : Pointer) where
+  module _ (base : ℕ) (at : Place) (depth left : ℕ) (p : Pointer) where
     pub numbers-paid : (t : Target) → AreNumbers p → near m at.segment at.word 0 p ≡ Ok t → near m at.segment at.word 0 p ≡ target m at →
-        (r : Result ℕ Fault) → MatchResult r (λ n. stepped 1 depth left (Ok t) ≡ Ok t) (λ e. stepped 1 depth left (Ok t) ≡ Err e) →
-        IfOk r (λ n. n ≡ toll 1 t) → IfOk r (λ n. visits m 1 depth at ≡ pays at n ∷ [])
+        (r : Result ℕ Fault) → MatchResult r (λ n. stepped base depth left (Ok t) ≡ Ok t) (λ e. stepped base depth left (Ok t) ≡ Err e) →
+        IfOk r (λ n. n ≡ toll base t) → IfOk r (λ n. visits m base depth at ≡ pays at n ∷ [])
     numbers-paid t k h e (Ok n) f x =
         let s = sym e ∙ h in
         let z = numbers-below at.segment at.word 0 p t k h in
-        let w = (step-pays m 1 at depth left t (ap (stepped 1 depth left) s ∙ f)).is in
-        let empty : visits_of m 1 (depth - 1) (slots_below t) ≡ [] = ap (visits_of m 1 (depth - 1)) z in
+        let w = (step-pays m base at depth left t (ap (stepped base depth left) s ∙ f)).is in
+        let empty : visits_of m base (depth - 1) (slots_below t) ≡ [] = ap (visits_of m base (depth - 1)) z in
         rw (← x, empty) at w
     numbers-paid t k h e (Err n) f x = tt
 
     pub numbers-stop : (t : Target) → near m at.segment at.word 0 p ≡ Ok t → near m at.segment at.word 0 p ≡ target m at →
-        (r : Result ℕ Fault) → MatchResult r (λ n. stepped 1 depth left (Ok t) ≡ Ok t) (λ e. stepped 1 depth left (Ok t) ≡ Err e) →
-        IfErr r (λ e. judge left (visits m 1 depth at) ≡ refused e at 0 1)
+        (r : Result ℕ Fault) → MatchResult r (λ n. stepped base depth left (Ok t) ≡ Ok t) (λ e. stepped base depth left (Ok t) ≡ Err e) →
+        IfErr r (λ e. judge left (visits m base depth at) ≡ refused e at 0 1)
     numbers-stop t h e (Ok n) f = tt
-    numbers-stop t h e (Err n) f = step-stops m 1 at depth left n (ap (stepped 1 depth left) (sym e ∙ h) ∙ f)
+    numbers-stop t h e (Err n) f = step-stops m base at depth left n (ap (stepped base depth left) (sym e ∙ h) ∙ f)
 
     pub numbers-fault : (x : Fault) → near m at.segment at.word 0 p ≡ Err x → near m at.segment at.word 0 p ≡ target m at →
-        judge left (visits m 1 depth at) ≡ refused x at 0 1
-    numbers-fault x h e = ap (judge left) (visits-fault m 1 at depth x (sym e ∙ h))
+        judge left (visits m base depth at) ≡ refused x at 0 1
+    numbers-fault x h e = ap (judge left) (visits-fault m base at depth x (sym e ∙ h))

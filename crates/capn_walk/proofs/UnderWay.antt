@@ -67,15 +67,15 @@ module _ (m : List (List ℕ)) where
       ((a.0, r.0), omega arith)
 
   -- what is left of the last object comes first
-  pub left-push : (each : ℕ) (ws : List Waiting) (w : Waiting) →
-      visits_left m each (ws ++ w ∷ []) ≡ visits_of m each w.depth (places_of w.frame) ++ visits_left m each ws
-  left-push each [] w = sym (append-nil (visits_of m each w.depth (places_of w.frame)))
-  left-push each (g ∷ ws) w =
-      ap (λ (vs : List Visit). vs ++ visits_of m each g.depth (places_of g.frame)) (left-push each ws w) ∙ rw append_assoc refl
+  pub left-push : (base : ℕ) (ws : List Waiting) (w : Waiting) →
+      visits_left m base (ws ++ w ∷ []) ≡ visits_of m base w.depth (places_of w.frame) ++ visits_left m base ws
+  left-push base [] w = sym (append-nil (visits_of m base w.depth (places_of w.frame)))
+  left-push base (g ∷ ws) w =
+      ap (λ (vs : List Visit). vs ++ visits_of m base g.depth (places_of g.frame)) (left-push base ws w) ∙ rw append_assoc refl
 
   -- the visits of the first of several places
-  pub of-first : (each d : ℕ) (at : Place) (ps : List Place) → visits_of m each d (at ∷ ps) ≡ visits m each d at ++ visits_of m each d ps
-  of-first each d at ps = refl
+  pub of-first : (base d : ℕ) (at : Place) (ps : List Place) → visits_of m base d (at ∷ ps) ≡ visits m base d at ++ visits_of m base d ps
+  of-first base d at ps = refl
 
 -- ---- a survey under way: of a list of visits, some are made, and the others are to come
 
@@ -140,27 +140,27 @@ pub null-target : (m : List (List ℕ)) (at : Place) → word_at m at ≡ 0 → 
 unfolding target
 null-target m at h = ap (λ (w : ℕ). named m at.segment at.word (pointer_of w)) h ∙ ap (named m at.segment at.word) null_pointer
 
-module _ (m : List (List ℕ)) where
+module _ (m : List (List ℕ)) (base : ℕ) where
   -- the visits to come: of the object in hand, then of those that wait
   abbrev pub coming : ℕ → List Waiting → Frame → List Visit
-  coming d ws f = visits_of m 1 d (places_of f) ++ visits_left m 1 ws
+  coming d ws f = visits_of m base d (places_of f) ++ visits_left m base ws
 
-  pub coming-done : (d : ℕ) (ws : List Waiting) (f : Frame) → HasRows f → owed f ≡ 0 → coming d ws f ≡ visits_left m 1 ws
-  coming-done d ws f h e = ap (λ (ps : List Place). visits_of m 1 d ps ++ visits_left m 1 ws) (nothing-left f h e)
+  pub coming-done : (d : ℕ) (ws : List Waiting) (f : Frame) → HasRows f → owed f ≡ 0 → coming d ws f ≡ visits_left m base ws
+  coming-done d ws f h e = ap (λ (ps : List Place). visits_of m base d ps ++ visits_left m base ws) (nothing-left f h e)
 
   pub coming-take : (d : ℕ) (ws : List Waiting) (f rest below : Frame) (at : Place) (p : ℕ) → places_of f ≡ at ∷ places_of rest →
-      visits m 1 d at ≡ pays at p ∷ visits_of m 1 (d - 1) (places_of below) →
-      coming d ws f ≡ pays at p ∷ (visits_of m 1 (d - 1) (places_of below) ++ coming d ws rest)
+      visits m base d at ≡ pays at p ∷ visits_of m base (d - 1) (places_of below) →
+      coming d ws f ≡ pays at p ∷ (visits_of m base (d - 1) (places_of below) ++ coming d ws rest)
   coming-take d ws f rest below at p h e = rw (h, e) (rw append_assoc refl)
 
   -- the same with a visit that is refused
   pub coming-stop : (d : ℕ) (ws : List Waiting) (f rest : Frame) (at : Place) → places_of f ≡ at ∷ places_of rest →
-      coming d ws f ≡ visits m 1 d at ++ coming d ws rest
+      coming d ws f ≡ visits m base d at ++ coming d ws rest
   coming-stop d ws f rest at h = rw h (rw append_assoc refl)
 
   pub coming-leaf : (d : ℕ) (ws : List Waiting) (rest below : Frame) → HasRows below → owed below ≡ 0 →
-      visits_of m 1 (d - 1) (places_of below) ++ coming d ws rest ≡ coming d ws rest
-  coming-leaf d ws rest below h e = ap (λ (ps : List Place). visits_of m 1 (d - 1) ps ++ coming d ws rest) (nothing-left below h e)
+      visits_of m base (d - 1) (places_of below) ++ coming d ws rest ≡ coming d ws rest
+  coming-leaf d ws rest below h e = ap (λ (ps : List Place). visits_of m base (d - 1) ps ++ coming d ws rest) (nothing-left below h e)
 
   -- what waits once a slot of the object in hand is gone into: nothing more where no other slot of it is left
   pub data IsKept (d : ℕ) (ws : List Waiting) (rest : Frame) (new : List Waiting) : Type 0 where
@@ -168,12 +168,12 @@ module _ (m : List (List ℕ)) where
     kept : new ≡ ws ++ record { frame = rest; depth = d } ∷ [] → IsKept d ws rest new
 
   pub coming-kept : (d : ℕ) (ws : List Waiting) (rest below : Frame) (new : List Waiting) → HasRows rest → IsKept d ws rest new →
-      visits_of m 1 (d - 1) (places_of below) ++ coming d ws rest ≡ coming (d - 1) new below
+      visits_of m base (d - 1) (places_of below) ++ coming d ws rest ≡ coming (d - 1) new below
   coming-kept d ws rest below new h (dropped z e) =
-      ap (λ (vs : List Visit). visits_of m 1 (d - 1) (places_of below) ++ vs) (coming-done d ws rest h z ∙ sym (ap (visits_left m 1) e))
+      ap (λ (vs : List Visit). visits_of m base (d - 1) (places_of below) ++ vs) (coming-done d ws rest h z ∙ sym (ap (visits_left m base) e))
   coming-kept d ws rest below new h (kept e) =
-      ap (λ (vs : List Visit). visits_of m 1 (d - 1) (places_of below) ++ vs)
-      (sym (left-push m 1 ws (record { frame = rest; depth = d })) ∙ sym (ap (visits_left m 1) e))
+      ap (λ (vs : List Visit). visits_of m base (d - 1) (places_of below) ++ vs)
+      (sym (left-push m base ws (record { frame = rest; depth = d })) ∙ sym (ap (visits_left m base) e))
 
   owed-kept : (d : ℕ) (ws : List Waiting) (rest : Frame) (new : List Waiting) → IsKept d ws rest new → owed rest + owed_by ws ≡ owed_by new
   owed-kept d ws rest new (dropped z e) = let k = ap owed_by e in omega arith
@@ -211,7 +211,7 @@ module _ (m : List (List ℕ)) where
         let h = p.depth in
         let low = b.1 in
         let o = owed_by-push m ws w in
-        let c = coming-done d (ws ++ w ∷ []) f p.lies.rows z ∙ left-push m 1 ws w in
+        let c = coming-done d (ws ++ w ∷ []) f p.lies.rows z ∙ left-push m base ws w in
         let owes : owed f + owed_by (ws ++ w ∷ []) ≡ owed w.frame + owed_by ws = omega arith in
         record {
           under = rw (← c, ← owes) p.under;
@@ -235,7 +235,7 @@ module _ (m : List (List ℕ)) where
     pub fewer-rows : (d : ℕ) (ws : List Waiting) (f row : Frame) → places_of row ≡ places_of f → f.left ≡ 0 → 0 < row.left →
         3 * length (coming d ws row) + length ws + (1 - row.left) < 3 * length (coming d ws f) + length ws + (1 - f.left)
     fewer-rows d ws f row p z h =
-        let n = ap (λ (ps : List Place). length (visits_of m 1 d ps ++ visits_left m 1 ws)) p in
+        let n = ap (λ (ps : List Place). length (visits_of m base d ps ++ visits_left m base ws)) p in
         omega arith
 
     -- nothing is left
@@ -251,15 +251,15 @@ module _ (m : List (List ℕ)) where
 
     module _ (d : ℕ) (ws : List Waiting) (f rest : Frame) (at : Place) (paid made : ℕ) (cap : Option ℕ)
         (s : Surveys d ws f paid made cap) (next : places_of f ≡ at ∷ places_of rest) (less : owed f ≡ owed rest + 1) where
-      module _ (below : Frame) (p : ℕ) (k : Option ℕ) (here : visits m 1 d at ≡ pays at p ∷ visits_of m 1 (d - 1) (places_of below))
+      module _ (below : Frame) (p : ℕ) (k : Option ℕ) (here : visits m base d at ≡ pays at p ∷ visits_of m base (d - 1) (places_of below))
           (fits : p ≤ budget - paid) (few : owed below ≤ p) (c : cap_of (target m at) ≡ k) where
-        under-next : IsUnderWay m budget vs n (visits_of m 1 (d - 1) (places_of below) ++ coming d ws rest)
+        under-next : IsUnderWay m budget vs n (visits_of m base (d - 1) (places_of below) ++ coming d ws rest)
             (owed below + (owed rest + owed_by ws)) (paid + p) (made + 1) (option_or cap k)
         under-next =
             let t = coming-take d ws f rest below at p next here in
             let owes : owed f + owed_by ws ≡ owed rest + owed_by ws + 1 = omega arith in
             let u = rw (t, owes) at s.under in
-            goes-on m budget vs n at p (visits_of m 1 (d - 1) (places_of below)) (coming d ws rest) (owed rest + owed_by ws) (owed below) paid made cap k u fits few c
+            goes-on m budget vs n at p (visits_of m base (d - 1) (places_of below)) (coming d ws rest) (owed rest + owed_by ws) (owed below) paid made cap k u fits few c
 
         -- the slot has an object with slots, which is now the object in hand
         pub entered : (new : List Waiting) → IsKept d ws rest new → Lies m rest → Lies m below → 0 < d →
@@ -290,12 +290,12 @@ module _ (m : List (List ℕ)) where
             }
 
       -- the slot is refused
-      pub refused-here : (e : Fault) → judge (budget - paid) (visits m 1 d at) ≡ refused e at 0 1 →
+      pub refused-here : (e : Fault) → judge (budget - paid) (visits m base d at) ≡ refused e at 0 1 →
           Refuses budget vs n (record { fault = e; place = at; paid = paid; visits = made + 1 })
       refused-here e h =
           let u = rw (coming-stop d ws f rest at next) at s.under in
           record {
-            is = inr (stops m budget vs n (visits m 1 d at) (coming d ws rest) (owed f + owed_by ws) paid made cap e at u h);
+            is = inr (stops m budget vs n (visits m base d at) (coming d ws rest) (owed f + owed_by ws) paid made cap e at u h);
             within = u.within;
             few = let w = u.few in omega arith;
           }
@@ -308,13 +308,13 @@ module _ (m : List (List ℕ)) where
     as-many d old ws f w paid made cap e z y s =
         let c = coming-done d old f s.lies.rows z in
         let l : length old ≡ length ws + 1 = ap length e ∙ length-append ws (w ∷ []) in
-        let same : coming d old f ≡ coming w.depth ws w.frame = c ∙ ap (visits_left m 1) e ∙ left-push m 1 ws w in
+        let same : coming d old f ≡ coming w.depth ws w.frame = c ∙ ap (visits_left m base) e ∙ left-push m base ws w in
         let n = ap length same in
         omega arith
 
     module _ (d : ℕ) (ws : List Waiting) (f rest below : Frame) (at : Place) (p paid made : ℕ) (cap : Option ℕ)
         (s : Surveys d ws f paid made cap) (next : places_of f ≡ at ∷ places_of rest)
-        (here : visits m 1 d at ≡ pays at p ∷ visits_of m 1 (d - 1) (places_of below)) where
+        (here : visits m base d at ≡ pays at p ∷ visits_of m base (d - 1) (places_of below)) where
       pub fewer-entered : (new : List Waiting) → HasRows rest → IsKept d ws rest new →
           3 * length (coming (d - 1) new below) + length new + (1 - below.left) < 3 * length (coming d ws f) + length ws + (1 - f.left)
       fewer-entered new hr e =
@@ -338,10 +338,10 @@ module _ (m : List (List ℕ)) where
       passed-null less lr =
           let z : paid + 0 ≡ paid = omega arith in
           rw (z, option_or-none cap) at
-          (passed d ws f rest at paid made cap s next less no_frame 0 None (visits-null m 1 at d none) (omega arith) (omega arith) (ap cap_of none) lr (λ h. absurd (omega arith)) refl)
+          (passed d ws f rest at paid made cap s next less no_frame 0 None (visits-null m base at d none) (omega arith) (omega arith) (ap cap_of none) lr (λ h. absurd (omega arith)) refl)
 
       pub fewer-null : 3 * length (coming d ws rest) + length ws + (1 - rest.left) < 3 * length (coming d ws f) + length ws + (1 - f.left)
-      fewer-null = fewer-passed d ws f rest no_frame at 0 paid made cap s next (visits-null m 1 at d none) (λ h. absurd (omega arith)) refl
+      fewer-null = fewer-passed d ws f rest no_frame at 0 paid made cap s next (visits-null m base at d none) (λ h. absurd (omega arith)) refl
 
 -- a pointer to what stands near
 module _ (m : List (List ℕ)) (at : Place) (w : ℕ) (p : Pointer) where

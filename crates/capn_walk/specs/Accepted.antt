@@ -1,5 +1,5 @@
 -- Which visits are accepted within a budget, and which visit ends a walk. (Page: security considerations; own.)
-use Rattle.std.specs.Prelude.{◌≡◌, ℕ, ◌+◌, ◌<◌, ◌≤◌, List, [], ◌∷◌, ◌++◌, length, Result, Ok, ⊤}
+use Rattle.std.specs.Prelude.{◌≡◌, ℕ, ◌+◌, ◌<◌, ◌≤◌, List, [], ◌∷◌, ◌++◌, length, Bool, true, false, Result, Ok, Err, if◌then◌else◌, ⊤}
 use Rattle.capn_words.specs.declared.space.Place.{Place}
 use Rattle.capn_walk.specs.declared.target.Target.{Target}
 use Rattle.capn_walk.specs.declared.target.Target.TheVariants as targets
@@ -46,14 +46,18 @@ pub record IsStop (budget : ℕ) (vs : List Visit) (fault : Fault) (at : Place) 
 abbrev pub root : Place
 root = record { segment = 0; word = 0 }
 
-module _ (message : List (List ℕ)) (each : ℕ) where
-  -- the root has to be null or a struct, which is tested once its target is known
+-- what the root of a message may be: null or a struct
+abbrev pub may_be_root : Target → Bool
+may_be_root targets.Nil = true
+may_be_root (targets.Content s start (shapes.Node a b) pads) = true
+may_be_root _ = false
+
+module _ (message : List (List ℕ)) (base : ℕ) where
+  -- whether the root may be what it is, is tested once its target is known
   abbrev pub visits_at_root : Result Target Fault → List Visit → List Visit
-  visits_at_root (Ok (targets.Cap k)) vs = fails root faults.RootKind ∷ []
-  visits_at_root (Ok (targets.Content s start (shapes.Many width n) pads)) vs = fails root faults.RootKind ∷ []
-  visits_at_root (Ok (targets.Content s start (shapes.Rows n a b span) pads)) vs = fails root faults.RootKind ∷ []
-  visits_at_root found vs = vs
+  visits_at_root (Ok found) vs = if may_be_root found then vs else fails root faults.RootKind ∷ []
+  visits_at_root (Err e) vs = vs
 
   -- the visits of the root, at most so many objects deep
   unfoldable pub root_visits : ℕ → List Visit
-  root_visits depth = visits_at_root (target message root) (visits message each depth root)
+  root_visits depth = visits_at_root (target message root) (visits message base depth root)

@@ -1,9 +1,11 @@
--- What may be paid, and what was paid of it.
+-- What may be paid, what was paid of it, and by which tariff.
 use Rattle.std.specs.Prelude.{ℕ, ◌+◌, ◌-◌}
+use Rattle.capn_value.specs.declared.tariff.Tariff.{Tariff}
 
 pub record Account : Type 0 where
   pub budget : ℕ
   pub paid : ℕ
+  pub tariff : Tariff
 
 -- what is left to pay
 abbrev pub left_of : Account → ℕ
@@ -11,4 +13,4 @@ left_of a = a.budget - a.paid
 
 -- the same with so much more paid
 abbrev pub with_paid : Account → ℕ → Account
-with_paid a n = record { budget = a.budget; paid = a.paid + n }
+with_paid a n = record { budget = a.budget; paid = a.paid + n; tariff = a.tariff }

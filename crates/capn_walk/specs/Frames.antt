@@ -47,5 +47,5 @@ module _ (message : List (List ℕ)) where
 
   -- the visits that are left, those of the last object first
   abbrev pub visits_left : ℕ → List Waiting → List Visit
-  visits_left each [] = []
-  visits_left each (w ∷ ws) = visits_left each ws ++ visits_of message each w.depth (places_of w.frame)
+  visits_left base [] = []
+  visits_left base (w ∷ ws) = visits_left base ws ++ visits_of message base w.depth (places_of w.frame)

@@ -17,7 +17,7 @@ use Rattle.capn_words.specs.declared.space.Place.{Place}
 use Rattle.capn_value.specs.Tree.{Tree, Trees, Bodies, count, count_rows}
 use Rattle.capn_value.specs.Fits.{Fits}
 use Rattle.capn_value.specs.InRange.{InRange}
-use Rattle.capn_value.specs.Sizes.{cost, height}
+use Rattle.capn_value.specs.Sizes.{base, cost, height}
 use Rattle.capn_walk.specs.declared.target.Target.{Target}
 use Rattle.capn_walk.specs.declared.target.Target.TheVariants as targets
 use Rattle.capn_walk.specs.declared.target.Shape.{Shape}
@@ -26,6 +26,7 @@ use Rattle.capn_walk.specs.Target.{target}
 use Rattle.capn_walk.specs.Visits.{Visit}
 use Rattle.capn_walk.specs.Accepted.{IsWithin, IsStop}
 use Rattle.capn_walk.specs.At.{IsAt, AreAt, RowsAt}
+use Rattle.capn_walk.specs.Limits.{Bounds}
 use Rattle.capn_walk.specs.Denotes.{IsAccepted, IsValueOf, IsRefused, paid}
 use Rattle.capn_walk.specs.Walked.{IsInside}
 use Rattle.capn_walk.specs.Viewed.{IsInMessage}
@@ -34,8 +35,7 @@ use Rattle.capn_walk.specs.Viewed.{IsInMessage}
 
 -- an accepted message has a value
 abbrev pub AcceptedAreReadable : Type 0
-AcceptedAreReadable = (message : List (List ℕ)) (each budget depth : ℕ) → IsAccepted message each budget depth
-    → (v : Tree) × IsValueOf message each budget depth v
+AcceptedAreReadable = (message : List (List ℕ)) (limits : Bounds) → IsAccepted message limits → (v : Tree) × IsValueOf message limits v
 
 -- one value at most stands at a place
 abbrev pub PlacesHaveOneValue : Type 0
@@ -56,11 +56,11 @@ ValuesAreInRange = (message : List (List ℕ)) (at : Place) (v : Tree) → IsMes
 
 -- the value of a message that is accepted fits, costs at most what its walk pays, and is no higher than the limit
 abbrev pub ValuesFit : Type 0
-ValuesFit = (message : List (List ℕ)) (budget depth : ℕ) (v : Tree) → budget ≤ 2 ^ 28 → depth ≤ 256 → IsValueOf message 1 budget depth v → Fits v
+ValuesFit = (message : List (List ℕ)) (limits : Bounds) (v : Tree) → limits.budget ≤ 2 ^ 28 → limits.depth ≤ 256 → IsValueOf message limits v → Fits v
 
 abbrev pub ValuesAreCheap : Type 0
-ValuesAreCheap = (message : List (List ℕ)) (each budget depth : ℕ) (v : Tree) → IsValueOf message each budget depth v
-    → (cost each v ≤ paid message each depth) × (height v ≤ depth)
+ValuesAreCheap = (message : List (List ℕ)) (limits : Bounds) (v : Tree) → IsValueOf message limits v
+    → (cost (base limits.tariff) v ≤ paid message limits) × (height v ≤ limits.depth)
 
 -- ---- targets
 
@@ -77,8 +77,8 @@ ContentIsValue = (message : List (List ℕ)) (at : Place) (segment start pads : 
 
 -- no message is both accepted and refused
 abbrev pub Apart : Type 0
-Apart = (message : List (List ℕ)) (each budget depth : ℕ) (fault : Fault) (at : Place) (paid visits : ℕ)
-    → IsAccepted message each budget depth → IsRefused message each budget depth fault at paid visits → ⊥
+Apart = (message : List (List ℕ)) (limits : Bounds) (fault : Fault) (at : Place) (paid visits : ℕ)
+    → IsAccepted message limits → IsRefused message limits fault at paid visits → ⊥
 
 -- visits are within a budget, or there is a first one that isn't
 abbrev pub Decided : Type 0

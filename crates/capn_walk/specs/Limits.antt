@@ -1,13 +1,16 @@
 -- The limits of a walk. (Page: security considerations; the numbers are our own.)
 use Rattle.std.specs.Prelude.{ℕ, ◌^◌, ◌≤◌}
+use Rattle.capn_value.specs.declared.tariff.Tariff.{Tariff}
 
--- the most words of one framed message, the most words that a walk pays, and how many objects deep it goes
+-- the most words of one framed message, the most words that a walk pays, how many objects deep it goes, and how it
+-- prices a visit
 pub record Bounds : Type 0 where
   pub message_words : ℕ
   pub budget : ℕ
   pub depth : ℕ
+  pub tariff : Tariff
 
--- each is in its range
+-- each of the numbers is in its range
 pub record AreLimits (words budget depth : ℕ) : Type 0 where
   pub some_words : 1 ≤ words
   pub few_words : words ≤ 2 ^ 28

@@ -4,6 +4,7 @@ use Rattle.std.specs.Option.{option_or}
 use Rattle.capn_value.specs.Tree.{Tree}
 use Rattle.capn_value.specs.Caps.{first_cap}
 use Rattle.capn_walk.specs.declared.surveyed.Surveyed.{Surveyed}
+use Rattle.capn_walk.specs.Limits.{Bounds}
 use Rattle.capn_walk.specs.Denotes.{IsValueOf, paid, number_of_visits}
 use Rattle.capn_walk.specs.declared.target.Target.{Target}
 use Rattle.capn_walk.specs.declared.target.Target.TheVariants as targets
@@ -23,9 +24,9 @@ first_cap_of message (pays at n ∷ vs) = option_or (cap_of (target message at))
 first_cap_of message (fails at e ∷ vs) = first_cap_of message vs
 
 -- the message is accepted, and a survey tells what its walk pays, how many visits it makes, and the first capability of its value
-pub record IsSurvey (message : List (List ℕ)) (each budget depth : ℕ) (s : Surveyed) : Type 0 where
+pub record IsSurvey (message : List (List ℕ)) (limits : Bounds) (s : Surveyed) : Type 0 where
   pub value : Tree
-  pub is : IsValueOf message each budget depth value
-  pub pays : s.paid ≡ paid message each depth
-  pub counts : s.visits ≡ number_of_visits message each depth
+  pub is : IsValueOf message limits value
+  pub pays : s.paid ≡ paid message limits
+  pub counts : s.visits ≡ number_of_visits message limits
   pub capability : s.capability ≡ first_cap value

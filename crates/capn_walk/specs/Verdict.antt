@@ -25,7 +25,7 @@ judge budget (pays at n ∷ vs) = if nat_lt budget n then refused faults.OverBud
 
 -- a whole message, from its root on
 unfoldable pub verdict : List (List ℕ) → ℕ → ℕ → ℕ → Verdict
-verdict message each budget depth =
+verdict message base budget depth =
     if length (segment_at message 0) == 0
     then refused faults.NoRoot root 0 0
-    else judge budget (root_visits message each depth)
+    else judge budget (root_visits message base depth)

@@ -13,7 +13,7 @@ use Rattle.capn_walk.specs.declared.kind.Kind.{Kind}
 use Rattle.capn_walk.specs.declared.kind.Kind.TheVariants as kinds
 use Rattle.capn_walk.specs.Target.{target}
 use Rattle.capn_walk.specs.Visits.{price, slots}
-use Rattle.capn_walk.specs.Accepted.{root}
+use Rattle.capn_walk.specs.Accepted.{root, may_be_root}
 use Rattle.capn_walk.specs.At.{element, words_from}
 use Rattle.capn_walk.specs.Walked.{IsContent, RowsFit, extent}
 
@@ -27,28 +27,26 @@ pub record Seen : Type 0 where
 
 -- the price of a step to a target
 abbrev pub toll : ℕ → Target → ℕ
-toll each (targets.Content s start shape pads) = price each shape + pads
-toll each _ = 0
+toll base (targets.Content s start shape pads) = price base shape + pads
+toll base _ = 0
 
 -- a step to a slot with that target, at most so many objects deep, and with so much left to pay
 abbrev pub stepped : ℕ → ℕ → ℕ → Result Target Fault → Result Target Fault
-stepped each depth budget (Ok (targets.Content s start shape pads)) =
+stepped base depth budget (Ok (targets.Content s start shape pads)) =
     if depth == 0 then Err faults.TooDeep
-    else if nat_lt budget (price each shape + pads) then Err faults.OverBudget
+    else if nat_lt budget (price base shape + pads) then Err faults.OverBudget
     else Ok (targets.Content s start shape pads)
-stepped each depth budget found = found
+stepped base depth budget found = found
 
--- the target of the root, which has to be null or a struct
+-- the target of the root, where the root may be that
 abbrev pub rooted : Result Target Fault → Result Target Fault
-rooted (Ok (targets.Cap k)) = Err faults.RootKind
-rooted (Ok (targets.Content s start (shapes.Many width n) pads)) = Err faults.RootKind
-rooted (Ok (targets.Content s start (shapes.Rows n a b span) pads)) = Err faults.RootKind
-rooted found = found
+rooted (Ok found) = if may_be_root found then Ok found else Err faults.RootKind
+rooted (Err e) = Err e
 
 -- a step to the root
 abbrev pub stepped_to_root : List (List ℕ) → ℕ → ℕ → ℕ → Result Target Fault
-stepped_to_root message each depth budget =
-    if length (segment_at message 0) == 0 then Err faults.NoRoot else stepped each depth budget (rooted (target message root))
+stepped_to_root message base depth budget =
+    if length (segment_at message 0) == 0 then Err faults.NoRoot else stepped base depth budget (rooted (target message root))
 
 -- content of a message lies inside its segment
 abbrev pub IsInMessage : List (List ℕ) → Target → Type 0

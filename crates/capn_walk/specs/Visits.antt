@@ -16,12 +16,12 @@ pub data Visit : Type 0 where
   pays : Place → ℕ → Visit
   fails : Place → Fault → Visit
 
--- what an object costs beside its pads, where each costs `each` beside its size
+-- what an object costs beside its pads, where each costs `base` beside its size
 abbrev pub price : ℕ → Shape → ℕ
-price each (shapes.Node a b) = each + a + b
-price each (shapes.Many W0 n) = each + n
-price each (shapes.Many width n) = each + content_words width n
-price each (shapes.Rows n a b span) = each + 1 + span + (if a + b == 0 then n else 0)
+price base (shapes.Node a b) = base + a + b
+price base (shapes.Many W0 n) = base + n
+price base (shapes.Many width n) = base + content_words width n
+price base (shapes.Rows n a b span) = base + 1 + span + (if a + b == 0 then n else 0)
 
 -- n places, one word behind the other
 abbrev pub places : ℕ → ℕ → ℕ → List Place
@@ -40,7 +40,7 @@ slots s start (shapes.Many Link n) = places s start n
 slots s start (shapes.Many width n) = []
 slots s start (shapes.Rows n a b span) = row_places s (start + 1) a b n
 
-module _ (message : List (List ℕ)) (each : ℕ) where
+module _ (message : List (List ℕ)) (base : ℕ) where
   -- a visit of a slot, where none may have content
   abbrev pub last_visit : Place → Result Target Fault → List Visit
   last_visit at (Ok targets.Nil) = pays at 0 ∷ []
@@ -50,7 +50,7 @@ module _ (message : List (List ℕ)) (each : ℕ) where
 
   -- a visit of a slot, and of what is below it
   abbrev pub visit : (Place → List Visit) → Place → Result Target Fault → List Visit
-  visit below at (Ok (targets.Content s start shape pads)) = pays at (price each shape + pads) ∷ flat_map below (slots s start shape)
+  visit below at (Ok (targets.Content s start shape pads)) = pays at (price base shape + pads) ∷ flat_map below (slots s start shape)
   visit below at found = last_visit at found
 
   -- at most d objects deep

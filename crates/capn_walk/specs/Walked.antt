@@ -8,8 +8,6 @@ use Rattle.capn_words.specs.declared.pointer.Pointer.TheVariants.{Many}
 use Rattle.capn_words.specs.declared.pointer.Width.{Width}
 use Rattle.capn_words.specs.declared.pointer.Width.TheVariants.{W0, W1, W8, W16, W32, W64, Link, Rows}
 use Rattle.capn_value.specs.Tree.{Tree, node, voids, bits, bytes, pairs, quads, octs, links, rows, count, count_rows}
-use Rattle.capn_walk.specs.declared.target.Target.{Target}
-use Rattle.capn_walk.specs.declared.target.Target.TheVariants as targets
 use Rattle.capn_walk.specs.declared.target.Shape.{Shape}
 use Rattle.capn_walk.specs.declared.target.Shape.TheVariants as shapes
 use Rattle.capn_walk.specs.Target.{content_words}
@@ -49,12 +47,6 @@ abbrev pub RowsFit : Shape → Type 0
 RowsFit (shapes.Rows n a b span) = n * (a + b) ≤ span
 RowsFit (shapes.Many Rows n) = ⊥
 RowsFit _ = ⊤
-
--- what the root may be: null or a struct
-abbrev pub IsRootKind : Target → Type 0
-IsRootKind targets.Nil = ⊤
-IsRootKind (targets.Content s start (shapes.Node a b) pads) = ⊤
-IsRootKind _ = ⊥
 
 -- elements that are neither pointers nor structs
 abbrev pub IsPlain : Width → Type 0

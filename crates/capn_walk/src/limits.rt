@@ -1,8 +1,10 @@
 //! The limits of a walk.
 
 ghost use Rattle.std.specs.Prelude.{◌≡◌, ◌↔◌, ◌^◌, ◌≤◌, IsSome, IfSome};
+ghost use Rattle.capn_value.specs.declared.tariff.Tariff.TheVariants as tariffs;
 ghost use Rattle.capn_walk.specs.Limits.{AreLimits};
 
+use capn_value::Tariff;
 use std::marker::Model;
 
 /// The most words that one framed message may have.
@@ -21,13 +23,15 @@ const USUAL_WORDS: u32 = 8_388_608;
 const USUAL_DEPTH: u32 = 64;
 
 /// How much a reader takes on: the words of one framed message, from 1 to 2^28; the words that a walk pays,
-/// at most 2^28; and the depth of objects, from 1 to 256, where the root object has depth 1.
+/// at most 2^28; the depth of objects, from 1 to 256, where the root object has depth 1; and the tariff by which visits
+/// are priced.
 /// (Page: security considerations; the ranges are our own.)
 #[derive(Clone, Copy, Debug, PartialEq, Eq)]
 pub struct Limits {
     message_words: u32,
     budget: u32,
     depth: u32,
+    tariff: Tariff,
 }
 
 impl Model for Limits {
@@ -35,20 +39,21 @@ impl Model for Limits {
 
     ghost Value = { Bounds };
 
-    ghost view = { λ l. record { message_words = l.message_words; budget = l.budget; depth = l.depth } };
+    ghost view = { λ l. record { message_words = l.message_words; budget = l.budget; depth = l.depth; tariff = l.tariff } };
 
     ghost invariant = { λ l. AreLimits l.message_words l.budget l.depth };
 
-    ghost inverse = { λ b. record { message_words = b.message_words; budget = b.budget; depth = b.depth } };
+    ghost inverse = { λ b. record { message_words = b.message_words; budget = b.budget; depth = b.depth; tariff = b.tariff } };
 }
 
 impl Limits {
-    /// Limits of these numbers, or `None` exactly where one is out of its range.
+    /// Limits of these numbers, with the strict prices, or `None` exactly where one is out of its range.
     pub fn new(message_words: u32, budget: u32, depth: u32) -> Option<Limits>
         ensures some { IsSome result ↔ AreLimits message_words budget depth }
         ensures message_words { IfSome result (λ l. l.message_words ≡ message_words) }
         ensures budget { IfSome result (λ l. l.budget ≡ budget) }
         ensures depth { IfSome result (λ l. l.depth ≡ depth) }
+        ensures tariff { IfSome result (λ l. l.tariff ≡ tariffs.Strict) }
     {
         let words_fit = 1 <= message_words && message_words <= MOST_MESSAGE_WORDS;
         let depth_fits = 1 <= depth && depth <= MOST_DEPTH;
@@ -57,23 +62,45 @@ impl Limits {
                 message_words,
                 budget,
                 depth,
+                tariff: Tariff::Strict,
             })
         } else {
             None
         }
     }
 
-    /// The usual limits: 8,388,608 words of a message and of a budget, and a depth of 64.
+    /// The usual limits: 8,388,608 words of a message and of a budget, a depth of 64, and the strict
+    /// prices.
     pub fn usual() -> Limits
         ensures message_words { result.message_words ≡ 8388608 }
         ensures budget { result.budget ≡ 8388608 }
         ensures depth { result.depth ≡ 64 }
+        ensures tariff { result.tariff ≡ tariffs.Strict }
     {
         Limits {
             message_words: USUAL_WORDS,
             budget: USUAL_WORDS,
             depth: USUAL_DEPTH,
+            tariff: Tariff::Strict,
         }
+    }
+
+    /// The same limits with the prices of a tariff.
+    pub fn with_tariff(self, tariff: Tariff) -> Limits
+        ensures tariff { result.tariff ≡ tariff }
+        ensures message_words { result.message_words ≡ self.message_words }
+        ensures budget { result.budget ≡ self.budget }
+        ensures depth { result.depth ≡ self.depth }
+    {
+        Limits { tariff, ..self }
+    }
+
+    /// The tariff by which visits are priced.
+    #[inline(always)]
+    pub fn tariff(self) -> Tariff
+        ensures { result ≡ self.tariff }
+    {
+        self.tariff
     }
 
     /// The most words of one framed message.

@@ -1,15 +1,18 @@
 //! What may still be paid.
 
 ghost use Rattle.std.specs.Prelude.{◌≡◌, ◌+◌, ◌≤◌, ◌^◌};
+ghost use Rattle.capn_value.specs.declared.tariff.Tariff.TheVariants as tariffs;
 ghost use Rattle.capn_walk.specs.Account.{with_paid, left_of};
 
+use capn_value::Tariff;
 use std::marker::Model;
 
-/// The words that the steps of views may pay together, and those that they have paid.
+/// The words that the steps of views may pay together, those that they have paid, and the tariff of their prices.
 #[derive(Debug, Drop)]
 pub struct Meter {
     paid: u32,
     left: u32,
+    tariff: Tariff,
 }
 
 impl Model for Meter {
@@ -18,22 +21,42 @@ impl Model for Meter {
 
     ghost Value = { Account };
 
-    ghost view = { λ m. record { budget = m.paid + m.left; paid = m.paid } };
+    ghost view = { λ m. record { budget = m.paid + m.left; paid = m.paid; tariff = m.tariff } };
 
     ghost invariant = { λ m. m.paid + m.left ≤ 2 ^ 28 };
 }
 
 impl Meter {
-    /// One that has paid nothing, of a budget of at most 2^28 words.
+    /// One that has paid nothing, of a budget of at most 2^28 words, with the strict prices.
     pub fn new(budget: u32) -> Meter
         requires { budget ≤ 2 ^ 28 }
         ensures budget { result.budget ≡ budget }
         ensures paid { result.paid ≡ 0 }
+        ensures tariff { result.tariff ≡ tariffs.Strict }
+    {
+        Meter::with_tariff(budget, Tariff::Strict)
+    }
+
+    /// One that has paid nothing, of a budget of at most 2^28 words, with the prices of a tariff.
+    pub fn with_tariff(budget: u32, tariff: Tariff) -> Meter
+        requires { budget ≤ 2 ^ 28 }
+        ensures budget { result.budget ≡ budget }
+        ensures paid { result.paid ≡ 0 }
+        ensures tariff { result.tariff ≡ tariff }
     {
         Meter {
             paid: 0,
             left: budget,
+            tariff,
         }
+    }
+
+    /// The tariff by which its steps pay.
+    #[inline(always)]
+    pub fn tariff(&self) -> Tariff
+        ensures { result ≡ self.now.tariff }
+    {
+        self.tariff
     }
 
     /// The words paid.

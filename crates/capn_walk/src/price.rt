@@ -7,17 +7,17 @@ use crate::content::content_words;
 use crate::target::Shape;
 use capn_words::Width;
 
-/// The price of an object behind so many landing pads, in words: 1 for the pointer, its words, and 1 for
+/// The price of an object behind so many landing pads, in words: `base`, its words, and 1 for
 /// each element that has no size. A composite list pays all the words that its pointer says.
 #[inline(always)]
-pub fn price_of(shape: Shape, pads: u8) -> u64
-    ensures { result ≡ price 1 shape + pads }
+pub fn price_of(shape: Shape, pads: u8, base: u32) -> u64
+    ensures { result ≡ price base shape + pads }
 {
-    let price = match shape {
-        Shape::Node { words, slots } => 1 + words as u64 + slots as u64,
+    let size = match shape {
+        Shape::Node { words, slots } => words as u64 + slots as u64,
         Shape::Many { width, count } => {
             let without_size = if let Width::W0 = width { count } else { 0 };
-            1 + content_words(width, count) + without_size as u64
+            content_words(width, count) + without_size as u64
         }
         Shape::Rows {
             count,
@@ -27,8 +27,8 @@ pub fn price_of(shape: Shape, pads: u8) -> u64
         } => {
             let without_size = words == 0 && slots == 0;
             let rows = if without_size { count } else { 0 };
-            2 + span as u64 + rows as u64
+            1 + span as u64 + rows as u64
         }
     };
-    price + pads as u64
+    base as u64 + size + pads as u64
 }

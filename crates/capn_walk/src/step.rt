@@ -1,6 +1,6 @@
 //! A step to a slot: what it costs, and what is below it.
 
-ghost use Rattle.std.specs.Prelude.{◌≡◌, ◌<◌, ◌≤◌, Ok, Err, IfOk, MatchResult};
+ghost use Rattle.std.specs.Prelude.{◌≡◌, ◌<◌, ◌≤◌, ℕ, Ok, Err, IfOk, MatchResult};
 ghost use Rattle.capn_words.specs.Message.{IsMessage};
 ghost use Rattle.capn_walk.specs.Viewed as seen;
 ghost use Rattle.capn_walk.specs.Frames.{places_of, owed, Lies};
@@ -10,12 +10,13 @@ use crate::price::price_of;
 use crate::target::{Fault, Target};
 use capn_words::{Place, Space};
 
-/// The price of a step to a target, at most `depth` objects deep and with `left` words left to pay.
+/// The price of a step to a target, at most `depth` objects deep and with `left` words left to pay, where each content
+/// costs `base` beside its size.
 #[inline(always)]
-pub fn price_within(target: Target, depth: u32, left: u32) -> Result<u32, Fault>
-    ensures found { MatchResult result (λ p. seen.stepped 1 depth left (Ok target) ≡ Ok target)
-        (λ e. seen.stepped 1 depth left (Ok target) ≡ Err e) }
-    ensures price { IfOk result (λ p. p ≡ seen.toll 1 target) }
+pub fn price_within(target: Target, depth: u32, left: u32, base: u32) -> Result<u32, Fault>
+    ensures found { MatchResult result (λ p. seen.stepped base depth left (Ok target) ≡ Ok target)
+        (λ e. seen.stepped base depth left (Ok target) ≡ Err e) }
+    ensures price { IfOk result (λ p. p ≡ seen.toll base target) }
     ensures within { IfOk result (λ p. p ≤ left) }
     ensures deep { IfOk result (λ p. 0 < p → 0 < depth) }
 {
@@ -29,7 +30,7 @@ pub fn price_within(target: Target, depth: u32, left: u32) -> Result<u32, Fault>
             if depth == 0 {
                 return Err(Fault::TooDeep);
             }
-            let price = price_of(shape, pads);
+            let price = price_of(shape, pads, base);
             if price > left as u64 {
                 return Err(Fault::OverBudget);
             }
@@ -57,7 +58,7 @@ pub fn frame_below<S: Space>(space: &S, target: Target) -> Frame
     requires inside { seen.IsInMessage (S.message space.now) target }
     ensures places { places_of result ≡ seen.slots_below target }
     ensures lies { Lies (S.message space.now) result }
-    ensures owed { owed result ≤ seen.toll 1 target }
+    ensures owed { (base : ℕ) → owed result ≤ seen.toll base target }
 {
     match target {
         Target::Content {

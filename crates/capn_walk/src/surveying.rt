@@ -37,13 +37,13 @@ pub fn survey<S: Space, A: Allocator + Copy>(
     limits: Limits,
 ) -> Result<Surveyed, Stopped>
     // An answer: the message is accepted, and what its walk pays, its visits, and the first capability of its value.
-    ensures found { IfOk result (λ s. told.IsSurvey (S.message space.now) 1 limits.budget limits.depth s) }
+    ensures found { IfOk result (λ s. told.IsSurvey (S.message space.now) limits s) }
     // A message that is accepted is answered, or a growth was refused; any other refusal is the first stop.
-    ensures only { (v : Tree) → IsValueOf (S.message space.now) 1 limits.budget limits.depth v →
+    ensures only { (v : Tree) → IsValueOf (S.message space.now) limits v →
         MatchResult result (λ s. s.capability ≡ first_cap v) (λ s. s.fault ≡ Memory) }
     ensures refused { IfErr result (λ s.
         (s.fault ≡ Memory)
-        ⊎ IsRefused (S.message space.now) 1 limits.budget limits.depth s.fault s.place s.paid s.visits) }
+        ⊎ IsRefused (S.message space.now) limits s.fault s.place s.paid s.visits) }
     // No growth is wanted for a depth of at most 64.
     ensures inline { limits.depth ≤ 64 → IfErr result (λ s. s.fault ≢ Memory) }
     // No walk pays beyond its budget.
@@ -52,7 +52,14 @@ pub fn survey<S: Space, A: Allocator + Copy>(
 {
     let _bounds = space.segments();
     let target = root_target(space)?;
-    let told = survey_root(alloc, space, target, limits.depth(), limits.budget())?;
+    let told = survey_root(
+        alloc,
+        space,
+        target,
+        limits.depth(),
+        limits.budget(),
+        limits.tariff().base(),
+    )?;
     Ok(told)
 }
 
@@ -64,6 +71,7 @@ fn survey_root<S: Space, A: Allocator + Copy>(
     target: Target,
     depth: u32,
     budget: u32,
+    base: u32,
 ) -> Result<Surveyed, Stopped>
     requires message { IsMessage (S.message space.now) }
     requires place { IsPlace (S.message space.now) root }
@@ -71,13 +79,13 @@ fn survey_root<S: Space, A: Allocator + Copy>(
     requires some { 1 ≤ depth }
     requires depth { depth ≤ 256 }
     requires budget { budget ≤ 2 ^ 28 }
-    ensures pays { IfOk result (λ s. Gives budget (visits (S.message space.now) 1 depth root) 1 s.paid s.visits) }
+    ensures pays { IfOk result (λ s. Gives budget (visits (S.message space.now) base depth root) 1 s.paid s.visits) }
     ensures capability { IfOk result (λ s.
-        told.first_cap_of (S.message space.now) (visits (S.message space.now) 1 depth root) ≡ s.capability) }
-    ensures refused { IfErr result (λ s. Refuses budget (visits (S.message space.now) 1 depth root) 1 s) }
+        told.first_cap_of (S.message space.now) (visits (S.message space.now) base depth root) ≡ s.capability) }
+    ensures refused { IfErr result (λ s. Refuses budget (visits (S.message space.now) base depth root) 1 s) }
     ensures memory { depth ≤ 64 → IfErr result (λ s. s.fault ≢ Memory) }
 {
-    let visited = match visit_found(space, ROOT, Ok(target), depth, budget) {
+    let visited = match visit_found(space, ROOT, Ok(target), depth, budget, base) {
         Ok(visited) => visited,
         Err(fault) => return Err(stopped(fault, ROOT, 0, 1)),
     };
@@ -89,7 +97,7 @@ fn survey_root<S: Space, A: Allocator + Copy>(
         });
     }
     let left = budget - visited.price;
-    match survey_slots(alloc, space, visited.below, depth - 1, left) {
+    match survey_slots(alloc, space, visited.below, depth - 1, left, base) {
         Ok(below) => Ok(Surveyed {
             paid: visited.price + below.paid,
             visits: 1 + below.visits,
@@ -108,7 +116,7 @@ struct Visited {
 }
 
 /// One visit of a slot whose pointer is a struct's that stands near, at most `depth` objects deep, where `left` words
-/// are left to pay.
+/// are left to pay and each content costs `base` beside its size.
 #[inline(always)]
 fn visit_struct<S: Space>(
     space: &S,
@@ -117,24 +125,25 @@ fn visit_struct<S: Space>(
     pointer: Pointer,
     depth: u32,
     left: u32,
+    base: u32,
 ) -> Result<Visited, Fault>
     requires message { IsMessage (S.message space.now) }
     requires size { size ≡ length (segment_at (S.message space.now) at.segment) }
     requires place { IsPlace (S.message space.now) at }
     requires pointer { spec.near (S.message space.now) at.segment at.word 0 pointer ≡ spec.target (S.message space.now) at }
     requires left { left ≤ 2 ^ 28 }
-    ensures visits { IfOk result (λ v. visits (S.message space.now) 1 depth at
-        ≡ pays at v.price ∷ visits_of (S.message space.now) 1 (depth - 1) (places_of v.below)) }
+    ensures visits { IfOk result (λ v. visits (S.message space.now) base depth at
+        ≡ pays at v.price ∷ visits_of (S.message space.now) base (depth - 1) (places_of v.below)) }
     ensures price { IfOk result (λ v. v.price ≤ left) }
     ensures capability { IfOk result (λ v. told.cap_of (spec.target (S.message space.now) at) ≡ v.capability) }
     ensures below { IfOk result (λ v. Lies (S.message space.now) v.below) }
     ensures owed { IfOk result (λ v. owed v.below ≤ v.price) }
     ensures deep { IfOk result (λ v. 0 < owed v.below → 0 < depth) }
-    ensures refused { IfErr result (λ e. judge left (visits (S.message space.now) 1 depth at) ≡ refused e at 0 1) }
+    ensures refused { IfErr result (λ e. judge left (visits (S.message space.now) base depth at) ≡ refused e at 0 1) }
     ensures memory { IfErr result (λ e. e ≢ Memory) }
 {
     let found = near(space, at.segment, size, at.word, 0, pointer);
-    visit_found(space, at, found, depth, left)
+    visit_found(space, at, found, depth, left, base)
 }
 
 /// The price of a visit of a slot whose pointer is that of a list of numbers that stands near.
@@ -146,38 +155,45 @@ fn visit_numbers<S: Space>(
     pointer: Pointer,
     depth: u32,
     left: u32,
+    base: u32,
 ) -> Result<u32, Fault>
     requires size { size ≡ length (segment_at (S.message space.now) at.segment) }
     requires pointer { spec.near (S.message space.now) at.segment at.word 0 pointer ≡ spec.target (S.message space.now) at }
     requires numbers { AreNumbers pointer }
-    ensures visits { IfOk result (λ p. visits (S.message space.now) 1 depth at ≡ pays at p ∷ []) }
+    ensures visits { IfOk result (λ p. visits (S.message space.now) base depth at ≡ pays at p ∷ []) }
     ensures price { IfOk result (λ p. p ≤ left) }
-    ensures refused { IfErr result (λ e. judge left (visits (S.message space.now) 1 depth at) ≡ refused e at 0 1) }
+    ensures refused { IfErr result (λ e. judge left (visits (S.message space.now) base depth at) ≡ refused e at 0 1) }
     ensures memory { IfErr result (λ e. e ≢ Memory) }
 {
     match near(space, at.segment, size, at.word, 0, pointer) {
-        Ok(target) => price_within(target, depth, left),
+        Ok(target) => price_within(target, depth, left, base),
         Err(fault) => Err(fault),
     }
 }
 
 /// The same, whatever the slot names.
 #[inline(never)]
-fn visit_elsewhere<S: Space>(space: &S, at: Place, depth: u32, left: u32) -> Result<Visited, Fault>
+fn visit_elsewhere<S: Space>(
+    space: &S,
+    at: Place,
+    depth: u32,
+    left: u32,
+    base: u32,
+) -> Result<Visited, Fault>
     requires message { IsMessage (S.message space.now) }
     requires place { IsPlace (S.message space.now) at }
     requires left { left ≤ 2 ^ 28 }
-    ensures visits { IfOk result (λ v. visits (S.message space.now) 1 depth at
-        ≡ pays at v.price ∷ visits_of (S.message space.now) 1 (depth - 1) (places_of v.below)) }
+    ensures visits { IfOk result (λ v. visits (S.message space.now) base depth at
+        ≡ pays at v.price ∷ visits_of (S.message space.now) base (depth - 1) (places_of v.below)) }
     ensures price { IfOk result (λ v. v.price ≤ left) }
     ensures capability { IfOk result (λ v. told.cap_of (spec.target (S.message space.now) at) ≡ v.capability) }
     ensures below { IfOk result (λ v. Lies (S.message space.now) v.below) }
     ensures owed { IfOk result (λ v. owed v.below ≤ v.price) }
     ensures deep { IfOk result (λ v. 0 < owed v.below → 0 < depth) }
-    ensures refused { IfErr result (λ e. judge left (visits (S.message space.now) 1 depth at) ≡ refused e at 0 1) }
+    ensures refused { IfErr result (λ e. judge left (visits (S.message space.now) base depth at) ≡ refused e at 0 1) }
     ensures memory { IfErr result (λ e. e ≢ Memory) }
 {
-    visit_found(space, at, resolve(space, at), depth, left)
+    visit_found(space, at, resolve(space, at), depth, left, base)
 }
 
 /// The same of a slot whose target is known.
@@ -188,26 +204,27 @@ fn visit_found<S: Space>(
     found: Result<Target, Fault>,
     depth: u32,
     left: u32,
+    base: u32,
 ) -> Result<Visited, Fault>
     requires message { IsMessage (S.message space.now) }
     requires place { IsPlace (S.message space.now) at }
     requires found { found ≡ spec.target (S.message space.now) at }
     requires left { left ≤ 2 ^ 28 }
-    ensures visits { IfOk result (λ v. visits (S.message space.now) 1 depth at
-        ≡ pays at v.price ∷ visits_of (S.message space.now) 1 (depth - 1) (places_of v.below)) }
+    ensures visits { IfOk result (λ v. visits (S.message space.now) base depth at
+        ≡ pays at v.price ∷ visits_of (S.message space.now) base (depth - 1) (places_of v.below)) }
     ensures price { IfOk result (λ v. v.price ≤ left) }
     ensures capability { IfOk result (λ v. told.cap_of (spec.target (S.message space.now) at) ≡ v.capability) }
     ensures below { IfOk result (λ v. Lies (S.message space.now) v.below) }
     ensures owed { IfOk result (λ v. owed v.below ≤ v.price) }
     ensures deep { IfOk result (λ v. 0 < owed v.below → 0 < depth) }
-    ensures refused { IfErr result (λ e. judge left (visits (S.message space.now) 1 depth at) ≡ refused e at 0 1) }
+    ensures refused { IfErr result (λ e. judge left (visits (S.message space.now) base depth at) ≡ refused e at 0 1) }
     ensures memory { IfErr result (λ e. e ≢ Memory) }
 {
     let target = match found {
         Ok(target) => target,
         Err(fault) => return Err(fault),
     };
-    match price_within(target, depth, left) {
+    match price_within(target, depth, left, base) {
         Ok(price) => Ok(Visited {
             price,
             capability: capability_of(target),
@@ -261,6 +278,7 @@ fn survey_slots<S: Space, A: Allocator + Copy>(
     first: Frame,
     limit: u32,
     budget: u32,
+    base: u32,
 ) -> Result<Surveyed, Stopped>
     requires message { IsMessage (S.message space.now) }
     requires inside { Lies (S.message space.now) first }
@@ -268,11 +286,11 @@ fn survey_slots<S: Space, A: Allocator + Copy>(
     requires budget { budget ≤ 2 ^ 28 }
     requires few { owed first ≤ 2 ^ 28 }
     ensures pays { IfOk result (λ s. Gives budget
-        (visits_of (S.message space.now) 1 limit (places_of first)) (owed first) s.paid s.visits) }
+        (visits_of (S.message space.now) base limit (places_of first)) (owed first) s.paid s.visits) }
     ensures capability { IfOk result (λ s.
-        told.first_cap_of (S.message space.now) (visits_of (S.message space.now) 1 limit (places_of first)) ≡ s.capability) }
+        told.first_cap_of (S.message space.now) (visits_of (S.message space.now) base limit (places_of first)) ≡ s.capability) }
     ensures refused { IfErr result (λ s. Refuses budget
-        (visits_of (S.message space.now) 1 limit (places_of first)) (owed first) s) }
+        (visits_of (S.message space.now) base limit (places_of first)) (owed first) s) }
     ensures memory { limit ≤ 64 → IfErr result (λ s. s.fault ≢ Memory) }
 {
     let mut stack: SmallVec<Waiting, 64, &A> = SmallVec::new(&alloc);
@@ -310,7 +328,15 @@ fn survey_slots<S: Space, A: Allocator + Copy>(
         let pointer = split(word);
         match pointer {
             Pointer::Node { .. } => {
-                let found = match visit_struct(space, at, size, pointer, depth, budget - paid) {
+                let found = match visit_struct(
+                    space,
+                    at,
+                    size,
+                    pointer,
+                    depth,
+                    budget - paid,
+                    base,
+                ) {
                     Ok(found) => found,
                     Err(fault) => return Err(stopped(fault, at, paid, visits + 1)),
                 };
@@ -330,7 +356,7 @@ fn survey_slots<S: Space, A: Allocator + Copy>(
                 depth -= 1;
             }
             Pointer::Many { width, .. } if is_plain(width) => {
-                match visit_numbers(space, at, size, pointer, depth, budget - paid) {
+                match visit_numbers(space, at, size, pointer, depth, budget - paid, base) {
                     Ok(price) => {
                         paid += price;
                         visits += 1;
@@ -340,7 +366,7 @@ fn survey_slots<S: Space, A: Allocator + Copy>(
                 }
             }
             _ => {
-                let found = match visit_elsewhere(space, at, depth, budget - paid) {
+                let found = match visit_elsewhere(space, at, depth, budget - paid, base) {
                     Ok(found) => found,
                     Err(fault) => return Err(stopped(fault, at, paid, visits + 1)),
                 };

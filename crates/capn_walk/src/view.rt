@@ -2,6 +2,7 @@
 
 ghost use Rattle.std.specs.Prelude.{◌≡◌, ◌≢◌, ℕ, ◌<◌, ◌≤◌, ◌+◌, ◌-◌, ◌*◌, ◌/◌, ◌%◌, ◌^◌, Ok, Err, length, slice_index, IfOk, IfErr, IfSome, IsSome, OnErr, MatchResult, ◌↔◌};
 ghost use Rattle.capn_words.specs.Message.{segment_at, IsMessage, IsPlace};
+ghost use Rattle.capn_value.specs.Sizes.{base};
 ghost use Rattle.capn_walk.specs.Account.{with_paid, left_of};
 ghost use Rattle.capn_walk.specs.Target as spec;
 ghost use Rattle.capn_walk.specs.At.{AreElements};
@@ -83,14 +84,14 @@ impl<'s, S: Space> Model for View<'s, S> {
 }
 
 impl<'s, S: Space> View<'s, S> {
-    /// The root of a message, at most so many objects deep.
+    /// The root of a message, at most so many objects deep. The step pays by the tariff of the meter.
     pub fn root(space: &'s S, meter: &mut Meter, depth: u32) -> Result<View<'s, S>, Fault>
         ensures found { MatchResult result
-            (λ v. seen.stepped_to_root (S.message space.now) 1 depth (left_of meter.old) ≡ Ok v.found)
-            (λ e. seen.stepped_to_root (S.message space.now) 1 depth (left_of meter.old) ≡ Err e) }
+            (λ v. seen.stepped_to_root (S.message space.now) (base meter.old.tariff) depth (left_of meter.old) ≡ Ok v.found)
+            (λ e. seen.stepped_to_root (S.message space.now) (base meter.old.tariff) depth (left_of meter.old) ≡ Err e) }
         ensures message { IfOk result (λ v. v.message ≡ S.message space.now) }
         ensures depth { IfOk result (λ v. v.depth ≡ depth - 1) }
-        ensures paid { IfOk result (λ v. meter.new ≡ with_paid meter.old (seen.toll 1 v.found)) }
+        ensures paid { IfOk result (λ v. meter.new ≡ with_paid meter.old (seen.toll (base meter.old.tariff) v.found)) }
         ensures kept { OnErr result (meter.new ≡ meter.old) }
     {
         let _bounds = space.segments();
@@ -104,7 +105,7 @@ impl<'s, S: Space> View<'s, S> {
         if !may_be_root(target) {
             return Err(Fault::RootKind);
         }
-        match price_within(target, depth, meter.left()) {
+        match price_within(target, depth, meter.left(), meter.tariff().base()) {
             Ok(price) => {
                 meter.pay(price);
                 Ok(View {
@@ -117,17 +118,17 @@ impl<'s, S: Space> View<'s, S> {
         }
     }
 
-    /// A slot of a struct, or an element of a list of pointers.
+    /// A slot of a struct, or an element of a list of pointers. The step pays by the tariff of the meter.
     pub fn slot(&self, i: u32, meter: &mut Meter) -> Result<View<'s, S>, Fault>
         requires { i < seen.steps_in self.now.found }
         ensures found { MatchResult result
-            (λ v. seen.stepped 1 self.now.depth (left_of meter.old)
+            (λ v. seen.stepped (base meter.old.tariff) self.now.depth (left_of meter.old)
             (spec.target self.now.message (seen.step_place self.now.found i)) ≡ Ok v.found)
-            (λ e. seen.stepped 1 self.now.depth (left_of meter.old)
+            (λ e. seen.stepped (base meter.old.tariff) self.now.depth (left_of meter.old)
             (spec.target self.now.message (seen.step_place self.now.found i)) ≡ Err e) }
         ensures message { IfOk result (λ v. v.message ≡ self.now.message) }
         ensures depth { IfOk result (λ v. v.depth ≡ self.now.depth - 1) }
-        ensures paid { IfOk result (λ v. meter.new ≡ with_paid meter.old (seen.toll 1 v.found)) }
+        ensures paid { IfOk result (λ v. meter.new ≡ with_paid meter.old (seen.toll (base meter.old.tariff) v.found)) }
         ensures kept { OnErr result (meter.new ≡ meter.old) }
     {
         let at = self.slot_place(i);
@@ -136,7 +137,7 @@ impl<'s, S: Space> View<'s, S> {
             Ok(target) => target,
             Err(fault) => return Err(fault),
         };
-        match price_within(target, self.depth, meter.left()) {
+        match price_within(target, self.depth, meter.left(), meter.tariff().base()) {
             Ok(price) => {
                 meter.pay(price);
                 Ok(View {

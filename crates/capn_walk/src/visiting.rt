@@ -19,7 +19,8 @@ use capn_value::{Body, Items, Value};
 use capn_words::{Place, Space, Width};
 use std::alloc::Allocator;
 
-/// What a slot denotes, at most `depth` objects deep, where `left` words are left to pay.
+/// What a slot denotes, at most `depth` objects deep, where `left` words are left to pay and each content costs `base`
+/// beside its size.
 #[cycle(walk)]
 #[tactic(auto, using(std::proofs::lemmas::Grind::common_steps))]
 fn walk_slot<S: Space, A: Allocator + Copy>(
@@ -28,16 +29,17 @@ fn walk_slot<S: Space, A: Allocator + Copy>(
     at: Place,
     depth: u32,
     left: u32,
+    base: u32,
 ) -> Result<Found<A>, Stopped>
     requires message { IsMessage (S.message space.now) }
     requires place { IsPlace (S.message space.now) at }
     requires left { left ≤ 2 ^ 28 }
-    ensures pays { IfOk result (λ f. Gives left (visits (S.message space.now) 1 depth at) 1 f.paid f.visits) }
+    ensures pays { IfOk result (λ f. Gives left (visits (S.message space.now) base depth at) 1 f.paid f.visits) }
     ensures value { IfOk result (λ f. IsAt (S.message space.now) at (tree_of f.value)) }
-    ensures refused { IfErr result (λ s. Refuses left (visits (S.message space.now) 1 depth at) 1 s) }
+    ensures refused { IfErr result (λ s. Refuses left (visits (S.message space.now) base depth at) 1 s) }
 {
     match resolve(space, at) {
-        Ok(target) => walk_target(alloc, space, at, target, depth, left),
+        Ok(target) => walk_target(alloc, space, at, target, depth, left, base),
         Err(fault) => Err(stop(fault, at)),
     }
 }
@@ -52,14 +54,15 @@ pub fn walk_target<S: Space, A: Allocator + Copy>(
     target: Target,
     depth: u32,
     left: u32,
+    base: u32,
 ) -> Result<Found<A>, Stopped>
     requires message { IsMessage (S.message space.now) }
     requires place { IsPlace (S.message space.now) at }
     requires target { spec.target (S.message space.now) at ≡ Ok target }
     requires left { left ≤ 2 ^ 28 }
-    ensures pays { IfOk result (λ f. Gives left (visits (S.message space.now) 1 depth at) 1 f.paid f.visits) }
+    ensures pays { IfOk result (λ f. Gives left (visits (S.message space.now) base depth at) 1 f.paid f.visits) }
     ensures value { IfOk result (λ f. IsAt (S.message space.now) at (tree_of f.value)) }
-    ensures refused { IfErr result (λ s. Refuses left (visits (S.message space.now) 1 depth at) 1 s) }
+    ensures refused { IfErr result (λ s. Refuses left (visits (S.message space.now) base depth at) 1 s) }
 {
     match target {
         Target::Nil => Ok(Found::without_content(Value::Nil)),
@@ -73,7 +76,7 @@ pub fn walk_target<S: Space, A: Allocator + Copy>(
             if depth == 0 {
                 return Err(stop(Fault::TooDeep, at));
             }
-            let price = price_of(shape, pads);
+            let price = price_of(shape, pads, base);
             if price > left as u64 {
                 return Err(stop(Fault::OverBudget, at));
             }
@@ -82,7 +85,16 @@ pub fn walk_target<S: Space, A: Allocator + Copy>(
                 segment,
                 word: start,
             };
-            match object(alloc, space, at, start, shape, depth - 1, left - price) {
+            match object(
+                alloc,
+                space,
+                at,
+                start,
+                shape,
+                depth - 1,
+                left - price,
+                base,
+            ) {
                 Ok(found) => Ok(Found {
                     value: found.value,
                     paid: price + found.paid,
@@ -105,6 +117,7 @@ fn object<S: Space, A: Allocator + Copy>(
     shape: Shape,
     depth: u32,
     left: u32,
+    base: u32,
 ) -> Result<Found<A>, Stopped>
     requires message { IsMessage (S.message space.now) }
     requires content { IsContent (S.message space.now) start (extent shape) }
@@ -112,12 +125,12 @@ fn object<S: Space, A: Allocator + Copy>(
     requires left { left ≤ 2 ^ 28 }
     requires count { slot_count shape ≤ 2 ^ 28 }
     ensures pays { IfOk result (λ f. Gives left
-        (visits_of (S.message space.now) 1 depth (slots start.segment start.word shape))
+        (visits_of (S.message space.now) base depth (slots start.segment start.word shape))
         (slot_count shape) f.paid f.visits) }
     ensures value { IfOk result (λ f.
         IsInside (S.message space.now) shape start.segment start.word (tree_of f.value)) }
     ensures refused { IfErr result (λ s. Refuses left
-        (visits_of (S.message space.now) 1 depth (slots start.segment start.word shape))
+        (visits_of (S.message space.now) base depth (slots start.segment start.word shape))
         (slot_count shape) s) }
 {
     match shape {
@@ -134,6 +147,7 @@ fn object<S: Space, A: Allocator + Copy>(
                 slots as u32,
                 depth,
                 left,
+                base,
             )?;
             Ok(below.into_struct(words))
         }
@@ -147,6 +161,7 @@ fn object<S: Space, A: Allocator + Copy>(
                     count,
                     depth,
                     left,
+                    base,
                 )?;
                 Ok(below.into_list())
             }
@@ -171,7 +186,7 @@ fn object<S: Space, A: Allocator + Copy>(
                 segment: start.segment,
                 word: start.word + 1,
             };
-            let below = walk_rows(alloc, space, first, count, words, slots, depth, left)?;
+            let below = walk_rows(alloc, space, first, count, words, slots, depth, left, base)?;
             Ok(below.into_list())
         }
     }
@@ -188,17 +203,18 @@ fn walk_slots<S: Space, A: Allocator + Copy>(
     count: u32,
     depth: u32,
     left: u32,
+    base: u32,
 ) -> Result<FoundSlots<A>, Stopped>
     requires message { IsMessage (S.message space.now) }
     requires inside { start + count ≤ length (segment_at (S.message space.now) segment) }
     requires left { left ≤ 2 ^ 28 }
     ensures pays { IfOk result (λ f. Gives left
-        (visits_of (S.message space.now) 1 depth (places segment start count))
+        (visits_of (S.message space.now) base depth (places segment start count))
         count f.paid f.visits) }
     ensures value { IfOk result (λ f. AreAt (S.message space.now) segment start (trees_of f.items)) }
     ensures number { IfOk result (λ f. count_trees (trees_of f.items) ≡ count) }
     ensures refused { IfErr result (λ s. Refuses left
-        (visits_of (S.message space.now) 1 depth (places segment start count)) count s) }
+        (visits_of (S.message space.now) base depth (places segment start count)) count s) }
 {
     let mut items = Items::new(alloc);
     let mut paid = 0;
@@ -208,7 +224,7 @@ fn walk_slots<S: Space, A: Allocator + Copy>(
             segment,
             word: start + i,
         };
-        match walk_slot(alloc, space, at, depth, left - paid) {
+        match walk_slot(alloc, space, at, depth, left - paid, base) {
             Ok(found) => {
                 paid += found.paid;
                 visits += found.visits;
@@ -238,20 +254,21 @@ fn walk_rows<S: Space, A: Allocator + Copy>(
     slots: u16,
     depth: u32,
     left: u32,
+    base: u32,
 ) -> Result<FoundRows<A>, Stopped>
     requires message { IsMessage (S.message space.now) }
     requires content { IsContent (S.message space.now) start (count * (words + slots)) }
     requires left { left ≤ 2 ^ 28 }
     requires count { count * slots ≤ 2 ^ 28 }
     ensures pays { IfOk result (λ f. Gives left
-        (visits_of (S.message space.now) 1 depth
+        (visits_of (S.message space.now) base depth
         (row_places start.segment start.word words slots count))
         (count * slots) f.paid f.visits) }
     ensures value { IfOk result (λ f.
         RowsAt (S.message space.now) words slots start.segment start.word (rows_of f.rows)) }
     ensures number { IfOk result (λ f. count_rows (rows_of f.rows) ≡ count) }
     ensures refused { IfErr result (λ s. Refuses left
-        (visits_of (S.message space.now) 1 depth
+        (visits_of (S.message space.now) base depth
         (row_places start.segment start.word words slots count))
         (count * slots) s) }
 {
@@ -277,6 +294,7 @@ fn walk_rows<S: Space, A: Allocator + Copy>(
             slots as u32,
             depth,
             left - paid,
+            base,
         ) {
             Ok(below) => {
                 paid += below.paid;

@@ -1,13 +1,14 @@
 //! The walk over a whole message, from its root.
 
-ghost use Rattle.std.specs.Prelude.{◌≡◌, ◌≢◌, ◌⊎◌, ◌↔◌, ℕ, ◌<◌, ◌≤◌, Ok, length, IsTrue, IfOk, IfErr, OnOk, MatchResult};
+ghost use Rattle.std.specs.Prelude.{◌≡◌, ◌≢◌, ◌⊎◌, ◌<◌, ◌≤◌, Ok, length, true, IfOk, IfErr, OnOk, MatchResult};
 ghost use Rattle.capn_words.specs.Message.{segment_at};
 ghost use Rattle.capn_value.specs.Tree as trees;
-ghost use Rattle.capn_value.specs.Sizes.{cost, height};
+ghost use Rattle.capn_value.specs.Sizes.{base, cost, height};
 ghost use Rattle.capn_walk.specs.Target as spec;
 ghost use Rattle.capn_walk.specs.Accepted.{root};
+ghost use Rattle.capn_walk.specs.Accepted as accepted;
 ghost use Rattle.capn_walk.specs.Denotes.{IsValueOf, IsRefused, IsBounded, paid, number_of_visits};
-ghost use Rattle.capn_walk.specs.Walked.{IsRootKind};
+ghost use Rattle.capn_walk.specs.Limits.{Bounds};
 ghost use Rattle.capn_walk.specs.declared.target.Fault.TheVariants.{Memory};
 
 use crate::content::segment_length;
@@ -39,35 +40,43 @@ pub const ROOT: Place = Place {
 /// budget, and its `visits` at most one more than that `paid`.
 ///
 /// Memory: the tree's own. The stack holds at most as many objects as the depth limit.
-/// (Page: security considerations; the prices and the order of the faults are our own.)
+/// (Page: security considerations; the tariffs and the order of the faults are our own.)
 pub fn walk<S: Space, A: Allocator + Copy>(
     alloc: A,
     space: &S,
     limits: Limits,
 ) -> Result<Walked<A>, Stopped>
     // An answer is the value at the root of an accepted message, with the sum of the prices.
-    ensures found { IfOk result (λ w. IsValueOf (S.message space.now) 1 limits.budget limits.depth w.tree) }
-    ensures pays { IfOk result (λ w. w.paid ≡ paid (S.message space.now) 1 limits.depth) }
-    ensures counts { IfOk result (λ w. w.visits ≡ number_of_visits (S.message space.now) 1 limits.depth) }
+    ensures found { IfOk result (λ w. IsValueOf (S.message space.now) limits w.tree) }
+    ensures pays { IfOk result (λ w. w.paid ≡ paid (S.message space.now) limits) }
+    ensures counts { IfOk result (λ w. w.visits ≡ number_of_visits (S.message space.now) limits) }
 
     // Such a value is answered, or a growth was refused; any other refusal is the first stop.
-    ensures only { (v : trees.Tree) → IsValueOf (S.message space.now) 1 limits.budget limits.depth v →
+    ensures only { (v : trees.Tree) → IsValueOf (S.message space.now) limits v →
         MatchResult result (λ w. w.tree ≡ v) (λ s. s.fault ≡ Memory) }
     ensures refused { IfErr result (λ s.
         (s.fault ≡ Memory)
-        ⊎ IsRefused (S.message space.now) 1 limits.budget limits.depth s.fault s.place s.paid s.visits) }
+        ⊎ IsRefused (S.message space.now) limits s.fault s.place s.paid s.visits) }
 
     // No walk pays beyond its budget.
     ensures bounded { MatchResult result (λ w. IsBounded limits.budget w.paid w.visits)
         (λ s. IsBounded limits.budget s.paid s.visits) }
 
     // The tree costs no more than what was paid, and is no higher than the limit.
-    ensures thrifty { IfOk result (λ w. cost 1 w.tree ≤ w.paid) }
+    ensures thrifty { IfOk result (λ w. cost (base limits.tariff) w.tree ≤ w.paid) }
     ensures low { IfOk result (λ w. height w.tree ≤ limits.depth) }
 {
     let _bounds = space.segments();
     let target = root_target(space)?;
-    let found = walk_target(alloc, space, ROOT, target, limits.depth(), limits.budget())?;
+    let found = walk_target(
+        alloc,
+        space,
+        ROOT,
+        target,
+        limits.depth(),
+        limits.budget(),
+        limits.tariff().base(),
+    )?;
     let Ok(tree) = Tree::new(found.value) else {
         unreachable!()
     };
@@ -82,10 +91,10 @@ pub fn walk<S: Space, A: Allocator + Copy>(
 pub fn root_target<S: Space>(space: &S) -> Result<Target, Stopped>
     ensures place { OnOk result (0 < length (segment_at (S.message space.now) 0)) }
     ensures target { IfOk result (λ t. spec.target (S.message space.now) root ≡ Ok t) }
-    ensures kind { IfOk result IsRootKind }
+    ensures kind { IfOk result (λ t. accepted.may_be_root t ≡ true) }
     ensures refused { IfErr result (λ s.
-        (budget depth : ℕ) →
-        IsRefused (S.message space.now) 1 budget depth s.fault s.place s.paid s.visits) }
+        (limits : Bounds) →
+        IsRefused (S.message space.now) limits s.fault s.place s.paid s.visits) }
     ensures memory { IfErr result (λ s. s.fault ≢ Memory) }
     ensures bounded { IfErr result (λ s. IsBounded 0 s.paid s.visits) }
 {
@@ -109,7 +118,7 @@ pub fn root_target<S: Space>(space: &S) -> Result<Target, Stopped>
 
 /// Whether a target may be that of the root.
 pub fn may_be_root(target: Target) -> bool
-    ensures { IsTrue result ↔ IsRootKind target }
+    ensures { result ≡ accepted.may_be_root target }
 {
     match target {
         Target::Nil => true,

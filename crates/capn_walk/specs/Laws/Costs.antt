@@ -50,17 +50,17 @@ rows-price bs a b span e f =
     priced r (suc n) zero span e f z = absurd (z refl)
     priced r (suc n) (suc k) span e f z = let p : suc n * suc k ≡ suc (n * suc k + k) = omega arith in let q : r ≢ 0 = omega arith in grind (arith, nat_tests)
 
-module _ (m : List (List ℕ)) (each : ℕ) where
+module _ (m : List (List ℕ)) (base : ℕ) where
   -- an object's visits: its price, and those of its slots
   record Object (at : Place) (d s start pads : ℕ) (shape : Shape) : Type 0 where
     deep : 0 < d
-    below : AllPay (flat_map (visits m each (d - 1)) (slots s start shape))
-    sum : paid_of (visits m each d at) ≡ price each shape + pads + paid_of (flat_map (visits m each (d - 1)) (slots s start shape))
+    below : AllPay (flat_map (visits m base (d - 1)) (slots s start shape))
+    sum : paid_of (visits m base d at) ≡ price base shape + pads + paid_of (flat_map (visits m base (d - 1)) (slots s start shape))
 
-  object : (at : Place) (d s start pads : ℕ) (shape : Shape) → target m at ≡ Ok (targets.Content s start shape pads) → AllPay (visits m each d at) → Object at d s start pads shape
-  object at zero s start pads shape e h = let f = rw (visits-deep m each at s start pads shape e 0 refl) at h in absurd f
+  object : (at : Place) (d s start pads : ℕ) (shape : Shape) → target m at ≡ Ok (targets.Content s start shape pads) → AllPay (visits m base d at) → Object at d s start pads shape
+  object at zero s start pads shape e h = let f = rw (visits-deep m base at s start pads shape e 0 refl) at h in absurd f
   object at (suc d) s start pads shape e h =
-      let o = visits-object m each at s start pads shape e (suc d) (omega arith) in
+      let o = visits-object m base at s start pads shape e (suc d) (omega arith) in
       let f = rw o at h in
       record { deep = omega arith; below = f; sum = ap paid_of o }
 
@@ -68,7 +68,7 @@ module _ (m : List (List ℕ)) (each : ℕ) where
   slots-behind f p ps h = (all-front (f p) (flat_map f ps) h, all-back (f p) (flat_map f ps) h)
 
   mutual
-    pub cost-paid : (v : Tree) (at : Place) (d : ℕ) → IsAt m at v → AllPay (visits m each d at) → (cost each v ≤ paid_of (visits m each d at)) × (height v ≤ d)
+    pub cost-paid : (v : Tree) (at : Place) (d : ℕ) → IsAt m at v → AllPay (visits m base d at) → (cost base v ≤ paid_of (visits m base d at)) × (height v ≤ d)
     cost-paid nil at d i h = (omega arith, omega arith)
     cost-paid (cap k) at d i h = (omega arith, omega arith)
     cost-paid (node ws ss) at d i h =
@@ -123,26 +123,26 @@ module _ (m : List (List ℕ)) (each : ℕ) where
         let sum = o.sum in
         (omega arith, omega arith)
 
-    costs-paid : (ts : Trees) (s w d : ℕ) → AreAt m s w ts → AllPay (flat_map (visits m each d) (places s w (count ts))) →
-        (costs each ts ≤ paid_of (flat_map (visits m each d) (places s w (count ts)))) × (greatest ts ≤ d)
+    costs-paid : (ts : Trees) (s w d : ℕ) → AreAt m s w ts → AllPay (flat_map (visits m base d) (places s w (count ts))) →
+        (costs base ts ≤ paid_of (flat_map (visits m base d) (places s w (count ts)))) × (greatest ts ≤ d)
     costs-paid no_trees s w d i h = (omega arith, omega arith)
     costs-paid (tree t ts) s w d i h =
-        let rest = flat_map (visits m each d) (places s (w + 1) (count ts)) in
+        let rest = flat_map (visits m base d) (places s (w + 1) (count ts)) in
         let e : suc w ≡ w + 1 = omega arith in
-        let one = cost-paid t (slot s w) d i.0 (all-front (visits m each d (slot s w)) rest h) in
-        let two = costs-paid ts s (w + 1) d (rw e at i.1) (all-back (visits m each d (slot s w)) rest h) in
-        let sum = paid-append (visits m each d (slot s w)) rest in
+        let one = cost-paid t (slot s w) d i.0 (all-front (visits m base d (slot s w)) rest h) in
+        let two = costs-paid ts s (w + 1) d (rw e at i.1) (all-back (visits m base d (slot s w)) rest h) in
+        let sum = paid-append (visits m base d (slot s w)) rest in
         let a = one.0 in let b = one.1 in let c = two.0 in let f = two.1 in
-        (sums (cost each t) (costs each ts) (paid_of (visits m each d (slot s w))) (paid_of rest) _ a c sum, omega arith)
+        (sums (cost base t) (costs base ts) (paid_of (visits m base d (slot s w))) (paid_of rest) _ a c sum, omega arith)
 
-    costs-rows : (bs : Bodies) (a b s w d : ℕ) → RowsAt m a b s w bs → AllPay (flat_map (visits m each d) (row_places s w a b (count_rows bs))) →
-        (costs_in_rows each bs ≤ paid_of (flat_map (visits m each d) (row_places s w a b (count_rows bs)))) × (greatest_in_rows bs ≤ d)
+    costs-rows : (bs : Bodies) (a b s w d : ℕ) → RowsAt m a b s w bs → AllPay (flat_map (visits m base d) (row_places s w a b (count_rows bs))) →
+        (costs_in_rows base bs ≤ paid_of (flat_map (visits m base d) (row_places s w a b (count_rows bs)))) × (greatest_in_rows bs ≤ d)
         × ((row_words bs ≡ count_rows bs * (a + b)))
     costs-rows no_bodies a b s w d i h = (omega arith, omega arith, omega arith)
     costs-rows (body ws ss bs) a b s w d i h =
-        let here = flat_map (visits m each d) (places s (w + a) b) in
-        let rest = flat_map (visits m each d) (row_places s (w + a + b) a b (count_rows bs)) in
-        let e = flat_map-append (visits m each d) (places s (w + a) b) (row_places s (w + a + b) a b (count_rows bs)) in
+        let here = flat_map (visits m base d) (places s (w + a) b) in
+        let rest = flat_map (visits m base d) (row_places s (w + a + b) a b (count_rows bs)) in
+        let e = flat_map-append (visits m base d) (places s (w + a) b) (row_places s (w + a + b) a b (count_rows bs)) in
         let h2 = rw e at h in
         let lb = i.1 in
         let la = i.0 in
@@ -152,4 +152,4 @@ module _ (m : List (List ℕ)) (each : ℕ) where
         let x = rw lb at one.0 in
         let y = one.1 in let z = two.0 in let v = two.1 in let u = two.2 in
         let k : suc (count_rows bs) * (a + b) ≡ a + b + count_rows bs * (a + b) = omega arith in
-        (sums (costs each ss) (costs_in_rows each bs) (paid_of here) (paid_of rest) _ x z sum, omega arith, omega arith)
+        (sums (costs base ss) (costs_in_rows base bs) (paid_of here) (paid_of rest) _ x z sum, omega arith, omega arith)

@@ -7,6 +7,7 @@ use Rattle.capn_value.specs.Tree.{Tree, nil, node, voids, bits, bytes, pairs, qu
 use Rattle.capn_value.specs.Sizes.{cost, costs, costs_in_rows, rows_price, height}
 use Rattle.capn_value.specs.Fits.{Fits, anywhere, anywhere_in, anywhere_in_rows, is_wide, is_wide_body, has_wide_row, is_long, is_ragged, are_even, is_root, elements, words_in_rows}
 use Rattle.capn_value.specs.Laws.Fitting.{fit_from}
+use Rattle.capn_value.specs.Laws.Tariffs.{cost-raised}
 use Rattle.capn_value.specs.Laws.Trimmed.{words-or_none}
 use Rattle.capn_value.specs.Laws.Prices.{rows_price-none}
 use Rattle.capn_walk.specs.declared.target.Shape.TheVariants as shapes
@@ -74,9 +75,9 @@ module _ (m : List (List ℕ)) where
   joined : (a b c d e f : Bool) → a ≡ false → b ≡ false → c ≡ false → Parts d e f → Parts (a || d) (b || e) (c || f)
   joined a b c d e f x y z p = record { narrow = or_from _ _ x p.narrow; short = or_from _ _ y p.short; even = or_from _ _ z p.even }
 
-  module _ (each : ℕ) where
+  module _ (base : ℕ) where
     mutual
-      parts : (v : Tree) (at : Place) → cost each v < 2 ^ 29 → IsAt m at v → Parts (anywhere is_wide v) (anywhere is_long v) (anywhere is_ragged v)
+      parts : (v : Tree) (at : Place) → cost base v < 2 ^ 29 → IsAt m at v → Parts (anywhere is_wide v) (anywhere is_long v) (anywhere is_ragged v)
       parts nil at l h = record { narrow = refl; short = refl; even = refl }
       parts (cap k) at l h = record { narrow = refl; short = refl; even = refl }
       parts (node ws ss) at l h =
@@ -118,14 +119,14 @@ module _ (m : List (List ℕ)) where
           let c : count_rows bs < 2 ^ 29 = few-rows bs e w (omega arith) in
           joined _ _ _ _ _ _ rs.narrow (not-long (rows bs) c w) e (parts-rows bs a b n.segment (suc n.start) (omega arith) n.inside)
 
-      parts-slots : (ts : Trees) (s w : ℕ) → costs each ts < 2 ^ 29 → AreAt m s w ts →
+      parts-slots : (ts : Trees) (s w : ℕ) → costs base ts < 2 ^ 29 → AreAt m s w ts →
           Parts (anywhere_in is_wide ts) (anywhere_in is_long ts) (anywhere_in is_ragged ts)
       parts-slots no_trees s w l h = record { narrow = refl; short = refl; even = refl }
       parts-slots (tree t ts) s w l h =
           let p = parts t (record { segment = s; word = w }) (omega arith) h.0 in
           joined _ _ _ _ _ _ p.narrow p.short p.even (parts-slots ts s (suc w) (omega arith) h.1)
 
-      parts-rows : (bs : Bodies) (a b s w : ℕ) → costs_in_rows each bs < 2 ^ 29 → RowsAt m a b s w bs →
+      parts-rows : (bs : Bodies) (a b s w : ℕ) → costs_in_rows base bs < 2 ^ 29 → RowsAt m a b s w bs →
           Parts (anywhere_in_rows is_wide bs) (anywhere_in_rows is_long bs) (anywhere_in_rows is_ragged bs)
       parts-rows no_bodies a b s w l h = record { narrow = refl; short = refl; even = refl }
       parts-rows (body ws ss bs) a b s w l h =
@@ -137,47 +138,48 @@ module _ (m : List (List ℕ)) where
     -- a value at the root, where no visit is a fault, is null or a struct, and the root's visits are those of its slot
     pub record Root (depth : ℕ) (v : Tree) : Type 0 where
       pub kind : is_root v ≡ true
-      pub all : AllPay (visits m each depth root)
-      pub same : root_visits m each depth ≡ visits m each depth root
+      pub all : AllPay (visits m base depth root)
+      pub same : root_visits m base depth ≡ visits m base depth root
 
     module _ (depth : ℕ) where
-      as-it-is : (v : Tree) → is_root v ≡ true → root_visits m each depth ≡ visits m each depth root → AllPay (root_visits m each depth) → Root depth v
+      as-it-is : (v : Tree) → is_root v ≡ true → root_visits m base depth ≡ visits m base depth root → AllPay (root_visits m base depth) → Root depth v
       as-it-is v k e h = record { kind = k; all = rw e at h; same = e }
 
-      refused-root : (v : Tree) → root_visits m each depth ≡ fails root faults.RootKind ∷ [] → AllPay (root_visits m each depth) → Root depth v
+      refused-root : (v : Tree) → root_visits m base depth ≡ fails root faults.RootKind ∷ [] → AllPay (root_visits m base depth) → Root depth v
       refused-root v e h = let f = rw e at h in absurd f
 
-      pub root-of : (v : Tree) → IsAt m root v → AllPay (root_visits m each depth) → Root depth v
+      pub root-of : (v : Tree) → IsAt m root v → AllPay (root_visits m base depth) → Root depth v
       unfolding root_visits
-      root-of nil h = as-it-is nil refl (ap (λ r. visits_at_root m each r (visits m each depth root)) h)
-      root-of (node ws ss) h = as-it-is (node ws ss) refl (ap (λ r. visits_at_root m each r (visits m each depth root)) h.is)
-      root-of (cap k) h = refused-root (cap k) (ap (λ r. visits_at_root m each r (visits m each depth root)) h)
-      root-of (voids n) h = refused-root (voids n) (ap (λ r. visits_at_root m each r (visits m each depth root)) h.is)
-      root-of (bits xs) h = refused-root (bits xs) (ap (λ r. visits_at_root m each r (visits m each depth root)) h.is)
-      root-of (bytes xs) h = refused-root (bytes xs) (ap (λ r. visits_at_root m each r (visits m each depth root)) h.is)
-      root-of (pairs xs) h = refused-root (pairs xs) (ap (λ r. visits_at_root m each r (visits m each depth root)) h.is)
-      root-of (quads xs) h = refused-root (quads xs) (ap (λ r. visits_at_root m each r (visits m each depth root)) h.is)
-      root-of (octs xs) h = refused-root (octs xs) (ap (λ r. visits_at_root m each r (visits m each depth root)) h.is)
-      root-of (links ts) h = refused-root (links ts) (ap (λ r. visits_at_root m each r (visits m each depth root)) h.is)
-      root-of (rows bs) h = refused-root (rows bs) (ap (λ r. visits_at_root m each r (visits m each depth root)) h.3.is)
+      root-of nil h = as-it-is nil refl (ap (λ r. visits_at_root m base r (visits m base depth root)) h)
+      root-of (node ws ss) h = as-it-is (node ws ss) refl (ap (λ r. visits_at_root m base r (visits m base depth root)) h.is)
+      root-of (cap k) h = refused-root (cap k) (ap (λ r. visits_at_root m base r (visits m base depth root)) h)
+      root-of (voids n) h = refused-root (voids n) (ap (λ r. visits_at_root m base r (visits m base depth root)) h.is)
+      root-of (bits xs) h = refused-root (bits xs) (ap (λ r. visits_at_root m base r (visits m base depth root)) h.is)
+      root-of (bytes xs) h = refused-root (bytes xs) (ap (λ r. visits_at_root m base r (visits m base depth root)) h.is)
+      root-of (pairs xs) h = refused-root (pairs xs) (ap (λ r. visits_at_root m base r (visits m base depth root)) h.is)
+      root-of (quads xs) h = refused-root (quads xs) (ap (λ r. visits_at_root m base r (visits m base depth root)) h.is)
+      root-of (octs xs) h = refused-root (octs xs) (ap (λ r. visits_at_root m base r (visits m base depth root)) h.is)
+      root-of (links ts) h = refused-root (links ts) (ap (λ r. visits_at_root m base r (visits m base depth root)) h.is)
+      root-of (rows bs) h = refused-root (rows bs) (ap (λ r. visits_at_root m base r (visits m base depth root)) h.3.is)
 
       -- the cost of the value at the root is at most what its visits pay, its height at most the depth limit
-      pub root-costs : (v : Tree) → IsAt m root v → AllPay (root_visits m each depth) → (cost each v ≤ paid_of (root_visits m each depth)) × (height v ≤ depth)
+      pub root-costs : (v : Tree) → IsAt m root v → AllPay (root_visits m base depth) → (cost base v ≤ paid_of (root_visits m base depth)) × (height v ≤ depth)
       root-costs v h a =
           let r = root-of v h a in
-          let c = cost-paid m each v root depth h r.all in
+          let c = cost-paid m base v root depth h r.all in
           let e = ap paid_of r.same in
           let x = c.0 in
           let y = c.1 in
           (omega arith, y)
 
   -- the value at the root of a message accepted under limits of a budget of at most 2^28 words and a depth of at most 256 fits
-  pub fits-root : (budget depth : ℕ) (v : Tree) → budget ≤ 2 ^ 28 → depth ≤ 256 → IsWithin budget (root_visits m 1 depth) → IsAt m root v → Fits v
-  fits-root budget depth v lb ld w h =
-      let r = root-of 1 depth v h w.all in
-      let c = root-costs 1 depth v h w.all in
+  pub fits-root : (base budget depth : ℕ) (v : Tree) → budget ≤ 2 ^ 28 → depth ≤ 256 → IsWithin budget (root_visits m base depth) → IsAt m root v → Fits v
+  fits-root base budget depth v lb ld w h =
+      let r = root-of base depth v h w.all in
+      let c = root-costs base depth v h w.all in
+      let plain : cost 0 v ≤ cost base v = cost-raised 0 base (omega arith) v in
       let x = c.0 in
       let y = c.1 in
       let z = w.paid in
-      let p = parts 1 v root (omega arith) h in
+      let p = parts base v root (omega arith) h in
       fit_from v (record { narrow = p.narrow; short = p.short; even = p.even; cheap = omega arith; low = omega arith; root = r.kind })

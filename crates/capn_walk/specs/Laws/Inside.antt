@@ -109,17 +109,17 @@ module _ (m : List (List ℕ)) where
       (start + extent shape ≤ length (segment_at m s)) × RowsFit shape
   inside at s start pads shape e = let h = rw e at (fine-target at) in h
 
--- an object has at most as many slots as it costs
-pub slots-price : (shape : Shape) → RowsFit shape → slot_count shape ≤ price 1 shape
-slots-price (shapes.Node a b) h = omega arith
-slots-price (shapes.Many W0 n) h = omega arith
-slots-price (shapes.Many W1 n) h = omega arith
-slots-price (shapes.Many W8 n) h = omega arith
-slots-price (shapes.Many W16 n) h = omega arith
-slots-price (shapes.Many W32 n) h = omega arith
-slots-price (shapes.Many W64 n) h = omega arith
-slots-price (shapes.Many Link n) h = omega arith
-slots-price (shapes.Many Rows n) h = omega arith
-slots-price (shapes.Rows n a b span) h =
+-- an object has at most as many slots as it costs, also where nothing is paid beside its size
+pub slots-price : (base : ℕ) (shape : Shape) → RowsFit shape → slot_count shape ≤ price base shape
+slots-price base (shapes.Node a b) h = omega arith
+slots-price base (shapes.Many W0 n) h = omega arith
+slots-price base (shapes.Many W1 n) h = omega arith
+slots-price base (shapes.Many W8 n) h = omega arith
+slots-price base (shapes.Many W16 n) h = omega arith
+slots-price base (shapes.Many W32 n) h = omega arith
+slots-price base (shapes.Many W64 n) h = omega arith
+slots-price base (shapes.Many Link n) h = omega arith
+slots-price base (shapes.Many Rows n) h = omega arith
+slots-price base (shapes.Rows n a b span) h =
     let d : n * (a + b) ≡ n * a + n * b = omega arith in
-    pick (λ (x : ℕ). n * b ≤ 1 + 1 + span + x) (a + b == 0) n 0 (λ _. omega arith) (λ _. omega arith)
+    pick (λ (x : ℕ). n * b ≤ base + 1 + span + x) (a + b == 0) n 0 (λ _. omega arith) (λ _. omega arith)

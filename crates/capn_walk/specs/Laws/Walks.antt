@@ -108,81 +108,81 @@ module _ (m : List (List ℕ)) where
   count-next (u ∷ vs) v = let e = count-next vs v in omega arith
 
   -- the visits of a slot by its target
-  module _ (each : ℕ) (at : Place) where
-    pub visits-null : (d : ℕ) → target m at ≡ Ok targets.Nil → visits m each d at ≡ pays at 0 ∷ []
+  module _ (base : ℕ) (at : Place) where
+    pub visits-null : (d : ℕ) → target m at ≡ Ok targets.Nil → visits m base d at ≡ pays at 0 ∷ []
     unfolding visits
-    visits-null zero e = ap (last_visit m each at) e
-    visits-null (suc d) e = ap (visit m each (visits m each d) at) e
+    visits-null zero e = ap (last_visit m base at) e
+    visits-null (suc d) e = ap (visit m base (visits m base d) at) e
 
-    pub visits-cap : (d k : ℕ) → target m at ≡ Ok (targets.Cap k) → visits m each d at ≡ pays at 0 ∷ []
+    pub visits-cap : (d k : ℕ) → target m at ≡ Ok (targets.Cap k) → visits m base d at ≡ pays at 0 ∷ []
     unfolding visits
-    visits-cap zero k e = ap (last_visit m each at) e
-    visits-cap (suc d) k e = ap (visit m each (visits m each d) at) e
+    visits-cap zero k e = ap (last_visit m base at) e
+    visits-cap (suc d) k e = ap (visit m base (visits m base d) at) e
 
-    pub visits-fault : (d : ℕ) (f : Fault) → target m at ≡ Err f → visits m each d at ≡ fails at f ∷ []
+    pub visits-fault : (d : ℕ) (f : Fault) → target m at ≡ Err f → visits m base d at ≡ fails at f ∷ []
     unfolding visits
-    visits-fault zero f e = ap (last_visit m each at) e
-    visits-fault (suc d) f e = ap (visit m each (visits m each d) at) e
+    visits-fault zero f e = ap (last_visit m base at) e
+    visits-fault (suc d) f e = ap (visit m base (visits m base d) at) e
 
     module _ (s start pads : ℕ) (shape : Shape) (e : target m at ≡ Ok (targets.Content s start shape pads)) where
-      pub visits-deep : (d : ℕ) → d ≡ 0 → visits m each d at ≡ fails at faults.TooDeep ∷ []
+      pub visits-deep : (d : ℕ) → d ≡ 0 → visits m base d at ≡ fails at faults.TooDeep ∷ []
       unfolding visits
-      visits-deep zero z = ap (last_visit m each at) e
+      visits-deep zero z = ap (last_visit m base at) e
       visits-deep (suc d) z = absurd (omega arith)
 
-      pub visits-object : (d : ℕ) → 0 < d → visits m each d at ≡ pays at (price each shape + pads) ∷ flat_map (visits m each (d - 1)) (slots s start shape)
+      pub visits-object : (d : ℕ) → 0 < d → visits m base d at ≡ pays at (price base shape + pads) ∷ flat_map (visits m base (d - 1)) (slots s start shape)
       unfolding visits
       visits-object zero z = absurd (omega arith)
       visits-object (suc d) z = let f : suc d - 1 ≡ d = omega arith in
-          ap (visit m each (visits m each d) at) e ∙ ap (λ (c : ℕ). pays at (price each shape + pads) ∷ flat_map (visits m each c) (slots s start shape)) (sym f)
+          ap (visit m base (visits m base d) at) e ∙ ap (λ (c : ℕ). pays at (price base shape + pads) ∷ flat_map (visits m base c) (slots s start shape)) (sym f)
 
   -- a slot with an object
-  module _ (at : Place) (s start pads : ℕ) (shape : Shape) (e : target m at ≡ Ok (targets.Content s start shape pads))
-      (left d : ℕ) (deep : 0 < d) (room : price 1 shape + pads ≤ left) where
+  module _ (base : ℕ) (at : Place) (s start pads : ℕ) (shape : Shape) (e : target m at ≡ Ok (targets.Content s start shape pads))
+      (left d : ℕ) (deep : 0 < d) (room : price base shape + pads ≤ left) where
     below : List Visit
-    below = flat_map (visits m 1 (d - 1)) (slots s start shape)
+    below = flat_map (visits m base (d - 1)) (slots s start shape)
 
-    few_slots : slot_count shape ≤ price 1 shape
-    few_slots = slots-price shape (inside m at s start pads shape e).1
+    few_slots : slot_count shape ≤ price base shape
+    few_slots = slots-price base shape (inside m at s start pads shape e).1
 
-    pub gives-object : (p k : ℕ) → Gives (left - (price 1 shape + pads)) (flat_map (visits m 1 (d - 1)) (slots s start shape)) (slot_count shape) p k →
-        Gives left (visits m 1 d at) 1 (price 1 shape + pads + p) (1 + k)
+    pub gives-object : (p k : ℕ) → Gives (left - (price base shape + pads)) (flat_map (visits m base (d - 1)) (slots s start shape)) (slot_count shape) p k →
+        Gives left (visits m base d at) 1 (price base shape + pads + p) (1 + k)
     gives-object p k g = record {
-      is = ap (judge left) (visits-object 1 at s start pads shape e d deep)
-          ∙ judge-pays left (price 1 shape + pads) at (flat_map (visits m 1 (d - 1)) (slots s start shape)) room ∙ ap (after (price 1 shape + pads) 1) g.is;
+      is = ap (judge left) (visits-object base at s start pads shape e d deep)
+          ∙ judge-pays left (price base shape + pads) at (flat_map (visits m base (d - 1)) (slots s start shape)) room ∙ ap (after (price base shape + pads) 1) g.is;
       within = let a = g.within in omega arith;
       few = let a = g.few in let b = few_slots in omega arith;
     }
 
-    pub refuses-object : (t : Stopped) → Refuses (left - (price 1 shape + pads)) (flat_map (visits m 1 (d - 1)) (slots s start shape)) (slot_count shape) t →
-        Refuses left (visits m 1 d at) 1 (record { fault = t.fault; place = t.place; paid = price 1 shape + pads + t.paid; visits = 1 + t.visits })
+    pub refuses-object : (t : Stopped) → Refuses (left - (price base shape + pads)) (flat_map (visits m base (d - 1)) (slots s start shape)) (slot_count shape) t →
+        Refuses left (visits m base d at) 1 (record { fault = t.fault; place = t.place; paid = price base shape + pads + t.paid; visits = 1 + t.visits })
     refuses-object t r = record {
-      is = elim r.is as (λ _. (t.fault ≡ faults.Memory) ⊎ (judge left (visits m 1 d at) ≡ refused t.fault t.place (price 1 shape + pads + t.paid) (1 + t.visits))) [
+      is = elim r.is as (λ _. (t.fault ≡ faults.Memory) ⊎ (judge left (visits m base d at) ≡ refused t.fault t.place (price base shape + pads + t.paid) (1 + t.visits))) [
         | inl x ↦ inl x
-        | inr is ↦ inr (ap (judge left) (visits-object 1 at s start pads shape e d deep)
-            ∙ judge-pays left (price 1 shape + pads) at (flat_map (visits m 1 (d - 1)) (slots s start shape)) room ∙ ap (after (price 1 shape + pads) 1) is)
+        | inr is ↦ inr (ap (judge left) (visits-object base at s start pads shape e d deep)
+            ∙ judge-pays left (price base shape + pads) at (flat_map (visits m base (d - 1)) (slots s start shape)) room ∙ ap (after (price base shape + pads) 1) is)
       ];
       within = let a = r.within in omega arith;
       few = let a = r.few in let b = few_slots in omega arith;
     }
 
   -- a refusal at the slot itself
-  pub refuses-here : (at : Place) (left d : ℕ) (f : Fault) (t : Stopped) → visits m 1 d at ≡ fails at f ∷ [] →
-      t ≡ record { fault = f; place = at; paid = 0; visits = 1 } → Refuses left (visits m 1 d at) 1 t
-  refuses-here at left d f t e h = rw h (record { is = inr (ap (judge left) e); within = omega arith; few = omega arith })
+  pub refuses-here : (base : ℕ) (at : Place) (left d : ℕ) (f : Fault) (t : Stopped) → visits m base d at ≡ fails at f ∷ [] →
+      t ≡ record { fault = f; place = at; paid = 0; visits = 1 } → Refuses left (visits m base d at) 1 t
+  refuses-here base at left d f t e h = rw h (record { is = inr (ap (judge left) e); within = omega arith; few = omega arith })
 
-  pub refuses-price : (at : Place) (s start pads : ℕ) (shape : Shape) (left d : ℕ) (t : Stopped) → target m at ≡ Ok (targets.Content s start shape pads) →
-      0 < d → left < price 1 shape + pads →
-      t ≡ record { fault = faults.OverBudget; place = at; paid = 0; visits = 1 } → Refuses left (visits m 1 d at) 1 t
-  refuses-price at s start pads shape left d t e deep over h = rw h (record {
-    is = inr (ap (judge left) (visits-object 1 at s start pads shape e d deep)
-        ∙ judge-over left (price 1 shape + pads) at (flat_map (visits m 1 (d - 1)) (slots s start shape)) over);
+  pub refuses-price : (base : ℕ) (at : Place) (s start pads : ℕ) (shape : Shape) (left d : ℕ) (t : Stopped) → target m at ≡ Ok (targets.Content s start shape pads) →
+      0 < d → left < price base shape + pads →
+      t ≡ record { fault = faults.OverBudget; place = at; paid = 0; visits = 1 } → Refuses left (visits m base d at) 1 t
+  refuses-price base at s start pads shape left d t e deep over h = rw h (record {
+    is = inr (ap (judge left) (visits-object base at s start pads shape e d deep)
+        ∙ judge-over left (price base shape + pads) at (flat_map (visits m base (d - 1)) (slots s start shape)) over);
     within = omega arith;
     few = omega arith;
   })
 
-  pub gives-nothing : (at : Place) (left d : ℕ) → visits m 1 d at ≡ pays at 0 ∷ [] → Gives left (visits m 1 d at) 1 0 1
-  gives-nothing at left d e = record { is = ap (judge left) e ∙ judge-pays left 0 at [] (omega arith); within = omega arith; few = omega arith }
+  pub gives-nothing : (base : ℕ) (at : Place) (left d : ℕ) → visits m base d at ≡ pays at 0 ∷ [] → Gives left (visits m base d at) 1 0 1
+  gives-nothing base at left d e = record { is = ap (judge left) e ∙ judge-pays left 0 at [] (omega arith); within = omega arith; few = omega arith }
 
   pub is-inside : (at : Place) (s start pads : ℕ) (shape : Shape) (v : Tree) → target m at ≡ Ok (targets.Content s start shape pads) →
       IsInside m shape s start v → IsAt m at v

@@ -14,7 +14,7 @@ slots-smaller-then-frame-gt0 g c =
     let m = g.S.Space.message c.args.space.now in
     let w = c.slots in
     let t = c.turned-frame in
-    fewer-rows m c.args.budget [] (owed c.args.first) c.args.limit w.depth w.stack.items w.frame t.result t.ensures.places c.if-frame-eq0.true t.ensures.some
+    fewer-rows m c.args.base c.args.budget [] (owed c.args.first) c.args.limit w.depth w.stack.items w.frame t.result t.ensures.places c.if-frame-eq0.true t.ensures.some
 
 pub slots-preserved-then-frame-gt0 : goal.slots-preserved-then-frame-gt0
 slots-preserved-then-frame-gt0 g c =
@@ -23,7 +23,7 @@ slots-preserved-then-frame-gt0 g c =
     let t = c.turned-frame in
     let lies : Lies (g.S.Space.message c.args.space.now) c.turned-frame.result = search rules in
     record {
-      surveys = next-row m c.args.budget _ (owed c.args.first) c.args.limit w.depth w.stack.items w.frame t.result w.paid w.visits w.capability
+      surveys = next-row m c.args.base c.args.budget _ (owed c.args.first) c.args.limit w.depth w.stack.items w.frame t.result w.paid w.visits w.capability
           t.ensures.places t.ensures.owed lies w.invariant.surveys;
       room = w.invariant.room;
       size = rw t.ensures.segment w.invariant.size;
@@ -36,7 +36,7 @@ slots-preserved-then-frame-eq0 g c =
     let r : c.slots.frame.rows ≡ 0 = omega arith in
     let z = none-owed c.slots.frame c.if-frame-eq0.true r in
     record {
-      surveys = popped m c.args.budget _ (owed c.args.first) c.args.limit w.depth w.stack.items c.pop.new.self.items w.frame c.in-Some.waiting w.paid w.visits w.capability c.in-Some.ensures.items z w.invariant.surveys;
+      surveys = popped m c.args.base c.args.budget _ (owed c.args.first) c.args.limit w.depth w.stack.items c.pop.new.self.items w.frame c.in-Some.waiting w.paid w.visits w.capability c.in-Some.ensures.items z w.invariant.surveys;
       room = omega arith;
       size = search rules;
     }
@@ -47,7 +47,7 @@ slots-smaller-then-frame-eq0 g c =
     let w = c.slots in
     let r : c.slots.frame.rows ≡ 0 = omega arith in
     let z = none-owed c.slots.frame c.if-frame-eq0.true r in
-    as-many m c.args.budget _ (owed c.args.first) c.args.limit w.depth w.stack.items c.pop.new.self.items w.frame c.in-Some.waiting w.paid w.visits w.capability c.in-Some.ensures.items z c.if-frame-eq0.true w.invariant.surveys
+    as-many m c.args.base c.args.budget _ (owed c.args.first) c.args.limit w.depth w.stack.items c.pop.new.self.items w.frame c.in-Some.waiting w.paid w.visits w.capability c.in-Some.ensures.items z c.if-frame-eq0.true w.invariant.surveys
 
 pub slots-preserved-then-word-eq0 : goal.slots-preserved-then-word-eq0
 slots-preserved-then-word-eq0 g c =
@@ -56,7 +56,7 @@ slots-preserved-then-word-eq0 g c =
     let t = c.take in
     let lies : Lies (g.S.Space.message c.args.space.now) c.take.result.1 = search rules in
     record {
-      surveys = passed-null m c.args.budget _ (owed c.args.first) c.args.limit w.depth w.stack.items w.frame t.result.1 t.result.0 w.paid w.visits w.capability
+      surveys = passed-null m c.args.base c.args.budget _ (owed c.args.first) c.args.limit w.depth w.stack.items w.frame t.result.1 t.result.0 w.paid w.visits w.capability
           w.invariant.surveys t.ensures.places (null-target m t.result.0 (cc)) t.ensures.owed lies;
       room = w.invariant.room;
       size = rw t.ensures.segment w.invariant.size;
@@ -67,7 +67,7 @@ slots-smaller-then-word-eq0 g c =
     let m = g.S.Space.message c.args.space.now in
     let w = c.slots in
     let t = c.take in
-    fewer-null m c.args.budget _ (owed c.args.first) c.args.limit w.depth w.stack.items w.frame t.result.1 t.result.0 w.paid w.visits w.capability
+    fewer-null m c.args.base c.args.budget _ (owed c.args.first) c.args.limit w.depth w.stack.items w.frame t.result.1 t.result.0 w.paid w.visits w.capability
     w.invariant.surveys t.ensures.places (null-target m t.result.0 cc)
 
 pub visit_struct-requires-clause-pointer : goal.visit_struct-requires-clause-pointer
@@ -87,7 +87,7 @@ returns-in-Err-clause-refused g c =
     let m = g.S.Space.message c.args.space.now in
     let w = c.slots in
     let t = c.take in
-    rw c.stopped.ensures (refused-here m c.args.budget _ (owed c.args.first) c.args.limit w.depth w.stack.items w.frame t.result.1 t.result.0 w.paid w.visits w.capability
+    rw c.stopped.ensures (refused-here m c.args.base c.args.budget _ (owed c.args.first) c.args.limit w.depth w.stack.items w.frame t.result.1 t.result.0 w.paid w.visits w.capability
     w.invariant.surveys t.ensures.places t.ensures.owed c.in-Err.fault c.in-Err.ensures.refused)
 
 pub slots-preserved-then-is_done : goal.slots-preserved-then-is_done
@@ -101,7 +101,7 @@ slots-preserved-then-is_done g c =
     let lies : Lies (g.S.Space.message c.args.space.now) c.take.result.1 = search rules in
     let z : owed c.in-Ok.found.below ≡ 0 = done c.is_done.result _ c.is_done.ensures c.if-is_done.true in
     record {
-      surveys = rw option_or-none at (passed m c.args.budget _ (owed c.args.first) c.args.limit w.depth w.stack.items w.frame t.result.1 t.result.0 w.paid w.visits w.capability
+      surveys = rw option_or-none at (passed m c.args.base c.args.budget _ (owed c.args.first) c.args.limit w.depth w.stack.items w.frame t.result.1 t.result.0 w.paid w.visits w.capability
           w.invariant.surveys t.ensures.places t.ensures.owed x.found.below x.found.price None x.ensures.visits x.ensures.price x.ensures.owed none
           lies x.ensures.below.rows z);
       room = w.invariant.room;
@@ -115,7 +115,7 @@ slots-smaller-then-is_done g c =
     let t = c.take in
     let x = c.in-Ok in
     let z : owed c.in-Ok.found.below ≡ 0 = done c.is_done.result _ c.is_done.ensures c.if-is_done.true in
-    fewer-passed m c.args.budget _ (owed c.args.first) c.args.limit w.depth w.stack.items w.frame t.result.1 x.found.below t.result.0 x.found.price w.paid w.visits w.capability
+    fewer-passed m c.args.base c.args.budget _ (owed c.args.first) c.args.limit w.depth w.stack.items w.frame t.result.1 x.found.below t.result.0 x.found.price w.paid w.visits w.capability
     w.invariant.surveys t.ensures.places x.ensures.visits x.ensures.below.rows z
 
 pub slots-preserved-in-Node-1 : goal.slots-preserved-in-Node-1
@@ -129,14 +129,14 @@ slots-preserved-in-Node-1 g c =
     let lies : Lies (g.S.Space.message c.args.space.now) c.take.result.1 = search rules in
     let some = not-done _ (owed c.in-Ok.found.below) c.is_done.ensures c.if-is_done.false in
     let deep = x.ensures.deep some in
-    let k : IsKept (g.S.Space.message c.args.space.now) c.slots.depth c.slots.stack.items c.take.result.1 c.if-not-is_done.stack.items =
+    let k : IsKept (g.S.Space.message c.args.space.now) c.args.base c.slots.depth c.slots.stack.items c.take.result.1 c.if-not-is_done.stack.items =
     elim c.if-not-is_done.branch [
       | then-not-is_done+in-Ok-push w ↦ kept (rw w.stack-is w.in-Ok-push.ensures.ok)
       | else-not-is_done w ↦ dropped (done c.is_done-in-Node.result (owed c.take.result.1) c.is_done-in-Node.ensures w.if-not-is_done.false) (rw w.stack-is refl)
     ]
     in
     record {
-      surveys = rw option_or-none at (entered m c.args.budget _ (owed c.args.first) c.args.limit w.depth w.stack.items w.frame t.result.1 t.result.0 w.paid w.visits w.capability
+      surveys = rw option_or-none at (entered m c.args.base c.args.budget _ (owed c.args.first) c.args.limit w.depth w.stack.items w.frame t.result.1 t.result.0 w.paid w.visits w.capability
           w.invariant.surveys t.ensures.places t.ensures.owed x.found.below x.found.price None x.ensures.visits x.ensures.price x.ensures.owed none
           c.if-not-is_done.stack.items k lies x.ensures.below deep);
       room = elim c.if-not-is_done.branch [ then-not-is_done+in-Ok-push w ↦ search rules | else-not-is_done w ↦ search rules ];
@@ -149,13 +149,13 @@ slots-smaller-in-Node-1 g c =
     let w = c.slots in
     let t = c.take in
     let x = c.in-Ok in
-    let k : IsKept (g.S.Space.message c.args.space.now) c.slots.depth c.slots.stack.items c.take.result.1 c.if-not-is_done.stack.items =
+    let k : IsKept (g.S.Space.message c.args.space.now) c.args.base c.slots.depth c.slots.stack.items c.take.result.1 c.if-not-is_done.stack.items =
     elim c.if-not-is_done.branch [
       | then-not-is_done+in-Ok-push w ↦ kept (rw w.stack-is w.in-Ok-push.ensures.ok)
       | else-not-is_done w ↦ dropped (done c.is_done-in-Node.result (owed c.take.result.1) c.is_done-in-Node.ensures w.if-not-is_done.false) (rw w.stack-is refl)
     ]
     in
-    fewer-entered m c.args.budget _ (owed c.args.first) c.args.limit w.depth w.stack.items w.frame t.result.1 x.found.below t.result.0 x.found.price w.paid w.visits w.capability
+    fewer-entered m c.args.base c.args.budget _ (owed c.args.first) c.args.limit w.depth w.stack.items w.frame t.result.1 x.found.below t.result.0 x.found.price w.paid w.visits w.capability
     w.invariant.surveys t.ensures.places x.ensures.visits c.if-not-is_done.stack.items t.ensures.kept k
 
 pub slots-preserved-then-is_done-2 : goal.slots-preserved-then-is_done-2
@@ -167,7 +167,7 @@ slots-preserved-then-is_done-2 g c =
     let lies : Lies (g.S.Space.message c.args.space.now) c.take.result.1 = search rules in
     let z : owed c.in-Ok-visit_elsewhere.found.below ≡ 0 = done c.is_done-in_default-pointer.result _ c.is_done-in_default-pointer.ensures c.if-is_done-2.true in
     record {
-      surveys = rw c.or-capability.ensures (passed m c.args.budget _ (owed c.args.first) c.args.limit w.depth w.stack.items w.frame t.result.1 t.result.0 w.paid w.visits w.capability
+      surveys = rw c.or-capability.ensures (passed m c.args.base c.args.budget _ (owed c.args.first) c.args.limit w.depth w.stack.items w.frame t.result.1 t.result.0 w.paid w.visits w.capability
           w.invariant.surveys t.ensures.places t.ensures.owed x.found.below x.found.price x.found.capability x.ensures.visits x.ensures.price x.ensures.owed x.ensures.capability
           lies x.ensures.below.rows z);
       room = w.invariant.room;
@@ -181,7 +181,7 @@ slots-smaller-then-is_done-2 g c =
     let t = c.take in
     let x = c.in-Ok-visit_elsewhere in
     let z : owed c.in-Ok-visit_elsewhere.found.below ≡ 0 = done c.is_done-in_default-pointer.result _ c.is_done-in_default-pointer.ensures c.if-is_done-2.true in
-    fewer-passed m c.args.budget _ (owed c.args.first) c.args.limit w.depth w.stack.items w.frame t.result.1 x.found.below t.result.0 x.found.price w.paid w.visits w.capability
+    fewer-passed m c.args.base c.args.budget _ (owed c.args.first) c.args.limit w.depth w.stack.items w.frame t.result.1 x.found.below t.result.0 x.found.price w.paid w.visits w.capability
     w.invariant.surveys t.ensures.places x.ensures.visits x.ensures.below.rows z
 
 pub slots-preserved : goal.slots-preserved
@@ -193,14 +193,14 @@ slots-preserved g c =
     let lies : Lies (g.S.Space.message c.args.space.now) c.take.result.1 = search rules in
     let some = not-done _ (owed c.in-Ok-visit_elsewhere.found.below) c.is_done-in_default-pointer.ensures c.if-is_done-2.false in
     let deep = x.ensures.deep some in
-    let k : IsKept (g.S.Space.message c.args.space.now) c.slots.depth c.slots.stack.items c.take.result.1 c.if-not-is_done-2.stack.items =
+    let k : IsKept (g.S.Space.message c.args.space.now) c.args.base c.slots.depth c.slots.stack.items c.take.result.1 c.if-not-is_done-2.stack.items =
     elim c.if-not-is_done-2.branch [
       | then-not-is_done-2+in-Ok-push-2 w ↦ kept (rw w.stack-is w.in-Ok-push-2.ensures.ok)
       | else-not-is_done-2 w ↦ dropped (done c.is_done-in_default-pointer-2.result (owed c.take.result.1) c.is_done-in_default-pointer-2.ensures w.if-not-is_done-2.false) (rw w.stack-is refl)
     ]
     in
     record {
-      surveys = rw c.or-capability.ensures (entered m c.args.budget _ (owed c.args.first) c.args.limit w.depth w.stack.items w.frame t.result.1 t.result.0 w.paid w.visits w.capability
+      surveys = rw c.or-capability.ensures (entered m c.args.base c.args.budget _ (owed c.args.first) c.args.limit w.depth w.stack.items w.frame t.result.1 t.result.0 w.paid w.visits w.capability
           w.invariant.surveys t.ensures.places t.ensures.owed x.found.below x.found.price x.found.capability x.ensures.visits x.ensures.price x.ensures.owed x.ensures.capability
           c.if-not-is_done-2.stack.items k lies x.ensures.below deep);
       room = elim c.if-not-is_done-2.branch [ then-not-is_done-2+in-Ok-push-2 w ↦ search rules | else-not-is_done-2 w ↦ search rules ];
@@ -213,13 +213,13 @@ slots-smaller g c =
     let w = c.slots in
     let t = c.take in
     let x = c.in-Ok-visit_elsewhere in
-    let k : IsKept (g.S.Space.message c.args.space.now) c.slots.depth c.slots.stack.items c.take.result.1 c.if-not-is_done-2.stack.items =
+    let k : IsKept (g.S.Space.message c.args.space.now) c.args.base c.slots.depth c.slots.stack.items c.take.result.1 c.if-not-is_done-2.stack.items =
     elim c.if-not-is_done-2.branch [
       | then-not-is_done-2+in-Ok-push-2 w ↦ kept (rw w.stack-is w.in-Ok-push-2.ensures.ok)
       | else-not-is_done-2 w ↦ dropped (done c.is_done-in_default-pointer-2.result (owed c.take.result.1) c.is_done-in_default-pointer-2.ensures w.if-not-is_done-2.false) (rw w.stack-is refl)
     ]
     in
-    fewer-entered m c.args.budget _ (owed c.args.first) c.args.limit w.depth w.stack.items w.frame t.result.1 x.found.below t.result.0 x.found.price w.paid w.visits w.capability
+    fewer-entered m c.args.base c.args.budget _ (owed c.args.first) c.args.limit w.depth w.stack.items w.frame t.result.1 x.found.below t.result.0 x.found.price w.paid w.visits w.capability
     w.invariant.surveys t.ensures.places x.ensures.visits c.if-not-is_done-2.stack.items t.ensures.kept k
 
 pub returns-in-Err-visit_numbers-clause-refused : goal.returns-in-Err-visit_numbers-clause-refused
@@ -227,7 +227,7 @@ returns-in-Err-visit_numbers-clause-refused g c =
     let m = g.S.Space.message c.args.space.now in
     let w = c.slots in
     let t = c.take in
-    rw c.stopped-in-Err-visit_numbers.ensures (refused-here m c.args.budget _ (owed c.args.first) c.args.limit w.depth w.stack.items w.frame t.result.1 t.result.0 w.paid w.visits w.capability
+    rw c.stopped-in-Err-visit_numbers.ensures (refused-here m c.args.base c.args.budget _ (owed c.args.first) c.args.limit w.depth w.stack.items w.frame t.result.1 t.result.0 w.paid w.visits w.capability
     w.invariant.surveys t.ensures.places t.ensures.owed c.in-Err-visit_numbers.fault c.in-Err-visit_numbers.ensures.refused)
 
 pub returns-in-Err-visit_elsewhere-clause-refused : goal.returns-in-Err-visit_elsewhere-clause-refused
@@ -235,7 +235,7 @@ returns-in-Err-visit_elsewhere-clause-refused g c =
     let m = g.S.Space.message c.args.space.now in
     let w = c.slots in
     let t = c.take in
-    rw c.stopped-in-Err-visit_elsewhere.ensures (refused-here m c.args.budget _ (owed c.args.first) c.args.limit w.depth w.stack.items w.frame t.result.1 t.result.0 w.paid w.visits w.capability
+    rw c.stopped-in-Err-visit_elsewhere.ensures (refused-here m c.args.base c.args.budget _ (owed c.args.first) c.args.limit w.depth w.stack.items w.frame t.result.1 t.result.0 w.paid w.visits w.capability
     w.invariant.surveys t.ensures.places t.ensures.owed c.in-Err-visit_elsewhere.fault c.in-Err-visit_elsewhere.ensures.refused)
 
 pub slots-preserved-then-is_plain : goal.slots-preserved-then-is_plain
@@ -247,7 +247,7 @@ slots-preserved-then-is_plain g c =
     let none = capless-near m t.result.0 (Many c.in-Many.offset c.in-Many.width c.in-Many.count) (near-list m t.result.0 c.word-word.result c.split-pointer.result c.in-Many.offset c.in-Many.width c.in-Many.count c.word-word.ensures c.split-pointer.ensures.read c.in-Many.is) in
     let lies : Lies (g.S.Space.message c.args.space.now) c.take.result.1 = search rules in
     record {
-      surveys = rw option_or-none at (passed m c.args.budget _ (owed c.args.first) c.args.limit w.depth w.stack.items w.frame t.result.1 t.result.0 w.paid w.visits w.capability
+      surveys = rw option_or-none at (passed m c.args.base c.args.budget _ (owed c.args.first) c.args.limit w.depth w.stack.items w.frame t.result.1 t.result.0 w.paid w.visits w.capability
           w.invariant.surveys t.ensures.places t.ensures.owed no_frame x.price None x.ensures.visits x.ensures.price (omega arith) none
           lies (λ h. absurd (omega arith)) refl);
       room = w.invariant.room;
@@ -260,5 +260,5 @@ slots-smaller-then-is_plain g c =
     let w = c.slots in
     let t = c.take in
     let x = c.in-Ok-visit_numbers in
-    fewer-passed m c.args.budget _ (owed c.args.first) c.args.limit w.depth w.stack.items w.frame t.result.1 no_frame t.result.0 x.price w.paid w.visits w.capability
+    fewer-passed m c.args.base c.args.budget _ (owed c.args.first) c.args.limit w.depth w.stack.items w.frame t.result.1 no_frame t.result.0 x.price w.paid w.visits w.capability
     w.invariant.surveys t.ensures.places x.ensures.visits (λ h. absurd (omega arith)) refl

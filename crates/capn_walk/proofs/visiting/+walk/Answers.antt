@@ -19,7 +19,7 @@ pub walk_slot-returns-in-Err-clause-refused : goal.walk_slot-returns-in-Err-clau
 walk_slot-returns-in-Err-clause-refused g t c =
     let m = g.S.Space.message c.args.space.now in
     let e : target (g.S.Space.message c.args.space.now) c.args.at ≡ Err c.in-Err.fault = cc in
-    refuses-here m c.args.at c.args.left c.args.depth c.in-Err.fault c.stop.result (visits-fault m 1 c.args.at c.args.depth c.in-Err.fault e) c.stop.ensures
+    refuses-here m c.args.base c.args.at c.args.left c.args.depth c.in-Err.fault c.stop.result (visits-fault m c.args.base c.args.at c.args.depth c.in-Err.fault e) c.stop.ensures
 
 -- ---- a slot whose target is known
 
@@ -28,7 +28,7 @@ walk_target-returns-in-Nil-clause-pays g t c =
     let m = g.S.Space.message c.args.space.now in
     let e = c.requires.target ∙ ap Ok c.in-Nil.is in
     let none = c.without_content.ensures in
-    rw (none.paid, none.visits) (gives-nothing m c.args.at c.args.left c.args.depth (visits-null m 1 c.args.at c.args.depth e))
+    rw (none.paid, none.visits) (gives-nothing m c.args.base c.args.at c.args.left c.args.depth (visits-null m c.args.base c.args.at c.args.depth e))
 
 pub walk_target-returns-in-Nil-clause-value : goal.walk_target-returns-in-Nil-clause-value
 walk_target-returns-in-Nil-clause-value g t c = rw (c.without_content.ensures.value, tree_of-Nil) (c.requires.target ∙ ap Ok c.in-Nil.is)
@@ -38,7 +38,7 @@ walk_target-returns-in-Cap-clause-pays g t c =
     let m = g.S.Space.message c.args.space.now in
     let e = c.requires.target ∙ ap Ok c.in-Cap.is in
     let none = c.without_content-in-Cap.ensures in
-    rw (none.paid, none.visits) (gives-nothing m c.args.at c.args.left c.args.depth (visits-cap m 1 c.args.at c.args.depth c.in-Cap.index e))
+    rw (none.paid, none.visits) (gives-nothing m c.args.base c.args.at c.args.left c.args.depth (visits-cap m c.args.base c.args.at c.args.depth c.in-Cap.index e))
 
 pub walk_target-returns-in-Cap-clause-value : goal.walk_target-returns-in-Cap-clause-value
 walk_target-returns-in-Cap-clause-value g t c = rw (c.without_content-in-Cap.ensures.value, tree_of-Cap) (c.requires.target ∙ ap Ok c.in-Cap.is)
@@ -48,8 +48,8 @@ walk_target-returns-then-depth-eq0-clause-refused g t c =
     let m = g.S.Space.message c.args.space.now in
     let x = c.in-Content in
     let e = c.requires.target ∙ ap Ok x.is in
-    refuses-here m c.args.at c.args.left c.args.depth _ c.stop.result
-    (visits-deep m 1 c.args.at x.segment x.start x.pads x.shape e c.args.depth (omega arith)) c.stop.ensures
+    refuses-here m c.args.base c.args.at c.args.left c.args.depth _ c.stop.result
+    (visits-deep m c.args.base c.args.at x.segment x.start x.pads x.shape e c.args.depth (omega arith)) c.stop.ensures
 
 pub walk_target-returns-then-price-left-clause-refused : goal.walk_target-returns-then-price-left-clause-refused
 walk_target-returns-then-price-left-clause-refused g t c =
@@ -57,7 +57,7 @@ walk_target-returns-then-price-left-clause-refused g t c =
     let x = c.in-Content in
     let e = c.requires.target ∙ ap Ok x.is in
     let p = c.price_of-price.ensures in
-    refuses-price m c.args.at x.segment x.start x.pads x.shape c.args.left c.args.depth c.stop-then-price-left.result e
+    refuses-price m c.args.base c.args.at x.segment x.start x.pads x.shape c.args.left c.args.depth c.stop-then-price-left.result e
     (omega arith) (omega arith) c.stop-then-price-left.ensures
 
 pub walk_target-object-requires : goal.walk_target-object-requires
@@ -67,7 +67,7 @@ walk_target-object-requires g t c κs within =
     let e = c.requires.target ∙ ap Ok x.is in
     let i = inside m c.args.at x.segment x.start x.pads x.shape e in
     let rows = i.1 in
-    let n = slots-price x.shape rows in
+    let n = slots-price c.args.base x.shape rows in
     let p = c.price_of-price.ensures in
     let small : slot_count x.shape ≤ 2 ^ 28 = omega arith in
     let content : IsContent m (record { segment = x.segment; word = x.start }) (extent x.shape) =
@@ -79,7 +79,7 @@ walk_target-overflow_add-result-in-Ok g t c =
     let m = g.S.Space.message c.args.space.now in
     let x = c.in-Content in
     let i = inside m c.args.at x.segment x.start x.pads x.shape (c.requires.target ∙ ap Ok x.is) in
-    let n = slots-price x.shape i.1 in
+    let n = slots-price c.args.base x.shape i.1 in
     let p = c.price_of-price.ensures in
     let r = c.in-Ok.ensures.pays in
     let a = r.within in
@@ -91,7 +91,7 @@ walk_target-behind-requires-clause-visits g t c =
     let m = g.S.Space.message c.args.space.now in
     let x = c.in-Content in
     let i = inside m c.args.at x.segment x.start x.pads x.shape (c.requires.target ∙ ap Ok x.is) in
-    let n = slots-price x.shape i.1 in
+    let n = slots-price c.args.base x.shape i.1 in
     let p = c.price_of-price.ensures in
     let r = c.in-Err.ensures.refused in
     let a = r.within in
@@ -105,7 +105,7 @@ walk_target-returns-in-Ok-clause-pays g t c =
     let p = c.price_of-price.ensures in
     let h = rw p at c.in-Ok.ensures.pays in
     rw p
-    (gives-object m c.args.at x.segment x.start x.pads x.shape (c.requires.target ∙ ap Ok x.is) c.args.left c.args.depth (omega arith) (omega arith)
+    (gives-object m c.args.base c.args.at x.segment x.start x.pads x.shape (c.requires.target ∙ ap Ok x.is) c.args.left c.args.depth (omega arith) (omega arith)
     c.in-Ok.found.paid c.in-Ok.found.visits h)
 
 pub walk_target-returns-in-Err-clause-refused : goal.walk_target-returns-in-Err-clause-refused
@@ -115,7 +115,7 @@ walk_target-returns-in-Err-clause-refused g t c =
     let p = c.price_of-price.ensures in
     let h = rw p at c.in-Err.ensures.refused in
     rw (c.behind.ensures, p)
-    (refuses-object m c.args.at x.segment x.start x.pads x.shape (c.requires.target ∙ ap Ok x.is) c.args.left c.args.depth (omega arith) (omega arith)
+    (refuses-object m c.args.base c.args.at x.segment x.start x.pads x.shape (c.requires.target ∙ ap Ok x.is) c.args.left c.args.depth (omega arith) (omega arith)
     c.in-Err.stopped h)
 
 -- ---- an object
@@ -162,14 +162,14 @@ object-returns-in_ok-below-in-Rows-clause-value g t c =
 pub walk_slots-returns-in-Err-clause-refused : goal.walk_slots-returns-in-Err-clause-refused
 walk_slots-returns-in-Err-clause-refused g t c =
     rw c.behind-in-Err.ensures
-    (refuses-next (visits (g.S.Space.message c.args.space.now) 1 c.args.depth) c.args.segment c.args.start c.args.left c.loop-i.i c.args.count c.loop-i.paid c.loop-i.visits
+    (refuses-next (visits (g.S.Space.message c.args.space.now) c.args.base c.args.depth) c.args.segment c.args.start c.args.left c.loop-i.i c.args.count c.loop-i.paid c.loop-i.visits
     c.in-Err.stopped c.loop-i-test.true c.loop-i.invariant.pays c.in-Err.ensures.refused)
 
 pub walk_slots-loop-i-preserved : goal.walk_slots-loop-i-preserved
 walk_slots-loop-i-preserved g t c =
     let e = c.loop-i.invariant.number in
     record {
-      pays = gives-next (visits (g.S.Space.message c.args.space.now) 1 c.args.depth) c.args.segment c.args.start c.args.left c.loop-i.i c.loop-i.paid c.loop-i.visits
+      pays = gives-next (visits (g.S.Space.message c.args.space.now) c.args.base c.args.depth) c.args.segment c.args.start c.args.left c.loop-i.i c.loop-i.paid c.loop-i.visits
           c.in-Ok.found.paid c.in-Ok.found.visits c.loop-i.invariant.pays c.in-Ok.ensures.pays;
       value = rw c.in-Ok-push.ensures.ok (at-next (g.S.Space.message c.args.space.now) c.args.segment c.args.start c.loop-i.items c.in-Ok.found.value
           c.loop-i.invariant.value (rw e c.in-Ok.ensures.value));
@@ -223,7 +223,7 @@ walk_rows-returns-in-Err-clause-refused g t c =
     let e = c.loop-i.invariant.next in
     let r = rw e at c.in-Err.ensures.refused in
     rw c.behind-in-Err.ensures
-    (rows-refuse (visits (g.S.Space.message c.args.space.now) 1 c.args.depth) c.args.start.segment c.args.start.word c.args.words c.args.slots c.args.left c.loop-i.i c.args.count c.loop-i.paid c.loop-i.visits
+    (rows-refuse (visits (g.S.Space.message c.args.space.now) c.args.base c.args.depth) c.args.start.segment c.args.start.word c.args.words c.args.slots c.args.left c.loop-i.i c.args.count c.loop-i.paid c.loop-i.visits
     c.in-Err.stopped c.loop-i-test.true c.loop-i.invariant.pays r)
 
 pub walk_rows-overflow_add-next : goal.walk_rows-overflow_add-next
@@ -240,7 +240,7 @@ walk_rows-loop-i-preserved g t c =
     let n = c.loop-i.invariant.number in
     let x = c.in-Ok-walk_slots in
     record {
-      pays = rows-give (visits (g.S.Space.message c.args.space.now) 1 c.args.depth) c.args.start.segment c.args.start.word c.args.words c.args.slots c.args.left c.loop-i.i c.loop-i.paid c.loop-i.visits
+      pays = rows-give (visits (g.S.Space.message c.args.space.now) c.args.base c.args.depth) c.args.start.segment c.args.start.word c.args.words c.args.slots c.args.left c.loop-i.i c.loop-i.paid c.loop-i.visits
           x.below.paid x.below.visits c.loop-i.invariant.pays (rw e at x.ensures.pays);
       value = rw c.in-Ok-push.ensures.ok (rows_at-step (g.S.Space.message c.args.space.now) c.args.words c.args.slots c.args.start.segment c.args.start.word c.loop-i.next c.loop-i.i c.loop-i.rows _
           c.loop-i.invariant.value n e c.in-Ok.ensures.number c.in-Ok.ensures.words x.ensures.number x.ensures.value);

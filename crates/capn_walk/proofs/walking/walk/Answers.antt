@@ -8,22 +8,22 @@ pub returns-in_err-target-clause-only : goal.returns-in_err-target-clause-only
 returns-in_err-target-clause-only g c v is =
     let p = err_from_is_err_and c.from_residual.result c.from_residual.ensures.1 in
     rw (p.1, p.2)
-    (only-memory (g.S.Space.message c.args.space.now) c.args.limits.budget c.args.limits.depth c.in_err-target.field-0.0 v is
-    (inr (c.in_err-target.ensures.refused c.args.limits.budget c.args.limits.depth)))
+    (only-memory (g.S.Space.message c.args.space.now) c.args.limits c.in_err-target.field-0.0 v is
+    (inr (c.in_err-target.ensures.refused c.args.limits)))
 
 pub returns-in_err-found-clause-only : goal.returns-in_err-found-clause-only
 returns-in_err-found-clause-only g c v is =
     let t = c.in_ok-target.ensures in
-    let r = rw (c.budget.ensures.value, c.depth.ensures.value) at c.in_err-found.ensures.refused in
-    let e = refused-below (g.S.Space.message c.args.space.now) c.args.limits.budget c.args.limits.depth t.place c.in_ok-target.target t.target t.kind c.in_err-found.field-0.0 r in
+    let r = rw (c.budget.ensures.value, c.depth.ensures.value, c.base.ensures.value, c.tariff.ensures) at c.in_err-found.ensures.refused in
+    let e = refused-below (g.S.Space.message c.args.space.now) c.args.limits t.place c.in_ok-target.target t.target t.kind c.in_err-found.field-0.0 r in
     let p = err_from_is_err_and c.from_residual-in_err-found.result c.from_residual-in_err-found.ensures.1 in
-    rw (p.1, p.2) (only-memory (g.S.Space.message c.args.space.now) c.args.limits.budget c.args.limits.depth c.in_err-found.field-0.0 v is e)
+    rw (p.1, p.2) (only-memory (g.S.Space.message c.args.space.now) c.args.limits c.in_err-found.field-0.0 v is e)
 
 pub returns-in_err-found-clause-refused : goal.returns-in_err-found-clause-refused
 returns-in_err-found-clause-refused g c =
     let t = c.in_ok-target.ensures in
-    let r = rw (c.budget.ensures.value, c.depth.ensures.value) at c.in_err-found.ensures.refused in
-    let e = refused-below (g.S.Space.message c.args.space.now) c.args.limits.budget c.args.limits.depth t.place c.in_ok-target.target t.target t.kind c.in_err-found.field-0.0 r in
+    let r = rw (c.budget.ensures.value, c.depth.ensures.value, c.base.ensures.value, c.tariff.ensures) at c.in_err-found.ensures.refused in
+    let e = refused-below (g.S.Space.message c.args.space.now) c.args.limits t.place c.in_ok-target.target t.target t.kind c.in_err-found.field-0.0 r in
     let p = err_from_is_err_and c.from_residual-in_err-found.result c.from_residual-in_err-found.ensures.1 in
     rw (p.1, p.2) e
 
@@ -31,8 +31,8 @@ pub unreachable-requires : goal.unreachable-requires
 unreachable-requires g c =
     let m = g.S.Space.message c.args.space.now in
     let t = c.in_ok-target.ensures in
-    let pays = rw (c.budget.ensures.value, c.depth.ensures.value) at c.in_ok-found.ensures.pays in
-    let a = answered m c.args.limits.budget c.args.limits.depth t.place c.in_ok-target.target t.target t.kind
+    let pays = rw (c.budget.ensures.value, c.depth.ensures.value, c.base.ensures.value, c.tariff.ensures) at c.in_ok-found.ensures.pays in
+    let a = answered m c.args.limits t.place c.in_ok-target.target t.target t.kind
     (tree_of c.in_ok-found.found.value) c.in_ok-found.found.paid c.in_ok-found.found.visits pays c.in_ok-found.ensures.value in
     let budget = c.budget.ensures in
     let depth = c.depth.ensures in
@@ -46,8 +46,8 @@ pub returns-clause-found : goal.returns-clause-found
 returns-clause-found g c =
     let m = g.S.Space.message c.args.space.now in
     let t = c.in_ok-target.ensures in
-    let pays = rw (c.budget.ensures.value, c.depth.ensures.value) at c.in_ok-found.ensures.pays in
-    let a = answered m c.args.limits.budget c.args.limits.depth t.place c.in_ok-target.target t.target t.kind
+    let pays = rw (c.budget.ensures.value, c.depth.ensures.value, c.base.ensures.value, c.tariff.ensures) at c.in_ok-found.ensures.pays in
+    let a = answered m c.args.limits t.place c.in_ok-target.target t.target t.kind
     (tree_of c.in_ok-found.found.value) c.in_ok-found.found.paid c.in_ok-found.found.visits pays c.in_ok-found.ensures.value in
     rw c.in-Ok.ensures.ok a.value
 
@@ -55,8 +55,8 @@ pub returns-clause-pays : goal.returns-clause-pays
 returns-clause-pays g c =
     let m = g.S.Space.message c.args.space.now in
     let t = c.in_ok-target.ensures in
-    let pays = rw (c.budget.ensures.value, c.depth.ensures.value) at c.in_ok-found.ensures.pays in
-    let a = answered m c.args.limits.budget c.args.limits.depth t.place c.in_ok-target.target t.target t.kind
+    let pays = rw (c.budget.ensures.value, c.depth.ensures.value, c.base.ensures.value, c.tariff.ensures) at c.in_ok-found.ensures.pays in
+    let a = answered m c.args.limits t.place c.in_ok-target.target t.target t.kind
     (tree_of c.in_ok-found.found.value) c.in_ok-found.found.paid c.in_ok-found.found.visits pays c.in_ok-found.ensures.value in
     a.sum
 
@@ -64,8 +64,8 @@ pub returns-clause-counts : goal.returns-clause-counts
 returns-clause-counts g c =
     let m = g.S.Space.message c.args.space.now in
     let t = c.in_ok-target.ensures in
-    let pays = rw (c.budget.ensures.value, c.depth.ensures.value) at c.in_ok-found.ensures.pays in
-    let a = answered m c.args.limits.budget c.args.limits.depth t.place c.in_ok-target.target t.target t.kind
+    let pays = rw (c.budget.ensures.value, c.depth.ensures.value, c.base.ensures.value, c.tariff.ensures) at c.in_ok-found.ensures.pays in
+    let a = answered m c.args.limits t.place c.in_ok-target.target t.target t.kind
     (tree_of c.in_ok-found.found.value) c.in_ok-found.found.paid c.in_ok-found.found.visits pays c.in_ok-found.ensures.value in
     a.number
 
@@ -73,8 +73,8 @@ pub returns-clause-thrifty : goal.returns-clause-thrifty
 returns-clause-thrifty g c =
     let m = g.S.Space.message c.args.space.now in
     let t = c.in_ok-target.ensures in
-    let pays = rw (c.budget.ensures.value, c.depth.ensures.value) at c.in_ok-found.ensures.pays in
-    let a = answered m c.args.limits.budget c.args.limits.depth t.place c.in_ok-target.target t.target t.kind
+    let pays = rw (c.budget.ensures.value, c.depth.ensures.value, c.base.ensures.value, c.tariff.ensures) at c.in_ok-found.ensures.pays in
+    let a = answered m c.args.limits t.place c.in_ok-target.target t.target t.kind
     (tree_of c.in_ok-found.found.value) c.in_ok-found.found.paid c.in_ok-found.found.visits pays c.in_ok-found.ensures.value in
     rw c.in-Ok.ensures.ok a.thrifty
 
@@ -82,12 +82,12 @@ pub returns-clause-low : goal.returns-clause-low
 returns-clause-low g c =
     let m = g.S.Space.message c.args.space.now in
     let t = c.in_ok-target.ensures in
-    let pays = rw (c.budget.ensures.value, c.depth.ensures.value) at c.in_ok-found.ensures.pays in
-    let a = answered m c.args.limits.budget c.args.limits.depth t.place c.in_ok-target.target t.target t.kind
+    let pays = rw (c.budget.ensures.value, c.depth.ensures.value, c.base.ensures.value, c.tariff.ensures) at c.in_ok-found.ensures.pays in
+    let a = answered m c.args.limits t.place c.in_ok-target.target t.target t.kind
     (tree_of c.in_ok-found.found.value) c.in_ok-found.found.paid c.in_ok-found.found.visits pays c.in_ok-found.ensures.value in
     rw c.in-Ok.ensures.ok a.low
 
 pub returns-clause-only : goal.returns-clause-only
 returns-clause-only g c v is =
     let here = c.in_ok-found.ensures.value in
-    c.in-Ok.ensures.ok ∙ one-value (g.S.Space.message c.args.space.now) c.args.limits.budget c.args.limits.depth v (tree_of c.in_ok-found.found.value) here is
+    c.in-Ok.ensures.ok ∙ one-value (g.S.Space.message c.args.space.now) c.args.limits v (tree_of c.in_ok-found.found.value) here is
