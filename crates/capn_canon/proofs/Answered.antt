@@ -16,9 +16,9 @@ use Rattle.capn_canon.proofs.Headline.{denoted_length, form_of_any}
 use Rattle.capn_canon.specs.Laws.OneReading.{is_message, one_message}
 
 -- an answer for a message
-module _ (m : List (List ℕ)) (limits : Bounds) (bs : List ℕ) (n : ℕ) (h : AnswersMessage m 1 limits bs n) where
+module _ (m : List (List ℕ)) (limits : Bounds) (bs : List ℕ) (n : ℕ) (h : AnswersMessage m limits bs n) where
   -- has the canonical bytes of whichever value the message has,
-  pub answer_only : (v : Tree) → IsValueOf m 1 limits.budget limits.depth v → bs ≡ canon v
+  pub answer_only : (v : Tree) → IsValueOf m limits v → bs ≡ canon v
   answer_only v k = h.canonical ∙ ap canon (unique m h.value v root h.is.is k.is)
 
   -- and a price within the budget;
@@ -35,19 +35,19 @@ module _ (m : List (List ℕ)) (limits : Bounds) (bs : List ℕ) (n : ℕ) (h : 
         omega arith
 
     -- and they are the canonical form of whichever value the message has
-    pub answer_form : (v : Tree) → IsValueOf m 1 limits.budget limits.depth v → IsCanonicalForm bs 1 limits v
+    pub answer_form : (v : Tree) → IsValueOf m limits v → IsCanonicalForm bs limits v
     answer_form v k = form_of_any m limits h.value is small shallow h.is bs v h.canonical k
 
 -- what bytes denote that are read as a message is the message's value
-pub denoted_here : (form : Form) (bs : List ℕ) (limits : Bounds) (m : List (List ℕ)) (v : Tree) → Reads form bs limits.message_words m → Denotes form bs 1 limits v →
-    IsValueOf m 1 limits.budget limits.depth v
+pub denoted_here : (form : Form) (bs : List ℕ) (limits : Bounds) (m : List (List ℕ)) (v : Tree) → Reads form bs limits.message_words m → Denotes form bs limits v →
+    IsValueOf m limits v
 denoted_here form bs limits m v r h =
-    subst (λ (x : List (List ℕ)). IsValueOf x 1 limits.budget limits.depth v) (one_message form bs limits.message_words h.message m h.reads r) h.value
+    subst (λ (x : List (List ℕ)). IsValueOf x limits v) (one_message form bs limits.message_words h.message m h.reads r) h.value
 
 -- an answer for bytes in a form
-module _ (form : Form) (bs : List ℕ) (limits : Bounds) (out : List ℕ) (n : ℕ) (h : Answers form bs 1 limits out n) where
+module _ (form : Form) (bs : List ℕ) (limits : Bounds) (out : List ℕ) (n : ℕ) (h : Answers form bs limits out n) where
   -- has the canonical bytes of whichever value the bytes denote,
-  pub answers_only : (v : Tree) → Denotes form bs 1 limits v → out ≡ canon v
+  pub answers_only : (v : Tree) → Denotes form bs limits v → out ≡ canon v
   answers_only v k = answer_only h.message limits out n h.answer v (denoted_here form bs limits h.message v h.reads k)
 
   -- and a price within the budget;
@@ -60,7 +60,7 @@ module _ (form : Form) (bs : List ℕ) (limits : Bounds) (out : List ℕ) (n : �
     answers_length = answer_length h.message limits out n h.answer (is_message form bs limits.message_words h.message few h.reads) small shallow
 
     -- and they are the canonical form of whichever value the bytes denote
-    pub answers_form : (v : Tree) → Denotes form bs 1 limits v → IsCanonicalForm out 1 limits v
+    pub answers_form : (v : Tree) → Denotes form bs limits v → IsCanonicalForm out limits v
     answers_form v k =
         answer_form h.message limits out n h.answer (is_message form bs limits.message_words h.message few h.reads) small shallow v
         (denoted_here form bs limits h.message v h.reads k)

@@ -17,7 +17,7 @@ use Rattle.capn_canon.proofs.Room.{room}
 use Rattle.capn_canon.proofs.Sound.{sound}
 use Rattle.capn_canon.specs.Ready.{IsReady, IsLaid}
 
-pub root-ready : (m : List (List ℕ)) (limits : Bounds) (v : Tree) → IsMessage m → limits.budget ≤ 2 ^ 28 → limits.depth ≤ 256 → IsValueOf m 1 limits.budget limits.depth v → IsReady m root limits.depth 1
+pub root-ready : (m : List (List ℕ)) (limits : Bounds) (v : Tree) → IsMessage m → limits.budget ≤ 2 ^ 28 → limits.depth ≤ 256 → IsValueOf m limits v → IsReady m root limits.depth 1
 root-ready m limits v is small shallow h =
     let f = denoted_fits m limits v is small shallow h in
     let r = denoted_in_range m limits v is small shallow h in

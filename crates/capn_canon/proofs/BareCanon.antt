@@ -158,10 +158,10 @@ pub words_in_canon : (v : Tree) → Fits v → InRange v → words_in (length (c
 words_in_canon v f r = bare_only (canon v) (words v) (canon_is_bare v f r)
 
 -- there are 8 canonical bytes for the root's pointer, and at most 8 for each word of the cost, under either tariff
-pub canon_length : (v : Tree) (each : ℕ) → Fits v → InRange v → (length (canon v) ≡ 8 * (1 + size v)) × (length (canon v) ≤ 8 * (cost each v + 1))
-canon_length v each f r =
+pub canon_length : (v : Tree) (base : ℕ) → Fits v → InRange v → (length (canon v) ≡ 8 * (1 + size v)) × (length (canon v) ≤ 8 * (cost base v + 1))
+canon_length v base f r =
     let l = bare_length (canon v) (words v) (canon_is_bare v f r) in
     let m = room v f r in
     let n = m.0 in
-    let k = m.1 each in
+    let k = m.1 base in
     (omega arith, omega arith)

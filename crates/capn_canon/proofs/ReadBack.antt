@@ -180,6 +180,6 @@ pub read_back : (v : Tree) → Sound v → length (words v) ≤ 2 ^ 29 → IsAt 
 read_back v h small = loosen (words v ∷ []) (trimmed v) (here 0) (reads_tight v h small)
 
 -- its visits have no fault and pay exactly the cost of the trimmed value
-pub pays_cost : (v : Tree) (each d : ℕ) → Sound v → length (words v) ≤ 2 ^ 29 → height (trimmed v) ≤ d →
-    Pays (words v ∷ []) each (visits (words v ∷ []) each d (here 0)) (cost each (trimmed v))
-pays_cost v each d h small tall = exact (words v ∷ []) each (trimmed v) (here 0) d tall (reads_tight v h small)
+pub pays_cost : (v : Tree) (base d : ℕ) → Sound v → length (words v) ≤ 2 ^ 29 → height (trimmed v) ≤ d →
+    Pays (words v ∷ []) base (visits (words v ∷ []) base d (here 0)) (cost base (trimmed v))
+pays_cost v base d h small tall = exact (words v ∷ []) base (trimmed v) (here 0) d tall (reads_tight v h small)

@@ -4,7 +4,7 @@ use Rattle.capn_words.specs.Laws.OneSegment.{bare_only}
 use Rattle.capn_value.specs.Tree.{Tree, nil, node, voids, bits, bytes, pairs, quads, octs, links, rows, cap}
 use Rattle.capn_value.specs.InRange.{InRange}
 use Rattle.capn_value.specs.Fits.{Fits, is_root}
-use Rattle.capn_value.specs.Sizes.{cost, height}
+use Rattle.capn_value.specs.Sizes.{base, cost, height}
 use Rattle.capn_value.specs.Trim.{trimmed}
 use Rattle.capn_value.specs.Laws.Fitting.{fit_parts}
 use Rattle.capn_value.specs.Laws.StaysFit.{fits-trimmed}
@@ -25,43 +25,43 @@ use Rattle.capn_canon.proofs.ReadBack.{read_back, pays_cost}
 use Rattle.capn_canon.proofs.BareCanon.{canon_is_bare, words_in_canon}
 
 -- the root's visits are those of its slot, where a value that may be a root stands there
-root-alone : (m : List (List ℕ)) (each depth : ℕ) (v : Tree) → is_root v ≡ true → IsAt m root v → root_visits m each depth ≡ visits m each depth root
+root-alone : (m : List (List ℕ)) (base depth : ℕ) (v : Tree) → is_root v ≡ true → IsAt m root v → root_visits m base depth ≡ visits m base depth root
 unfolding root_visits
-root-alone m each depth nil k h = ap (λ r. visits_at_root m each r (visits m each depth root)) h
-root-alone m each depth (node ws ss) k h = ap (λ r. visits_at_root m each r (visits m each depth root)) h.is
-root-alone m each depth (cap i) k h = absurd cc
-root-alone m each depth (voids n) k h = absurd cc
-root-alone m each depth (bits xs) k h = absurd cc
-root-alone m each depth (bytes xs) k h = absurd cc
-root-alone m each depth (pairs xs) k h = absurd cc
-root-alone m each depth (quads xs) k h = absurd cc
-root-alone m each depth (octs xs) k h = absurd cc
-root-alone m each depth (links ts) k h = absurd cc
-root-alone m each depth (rows bs) k h = absurd cc
+root-alone m base depth nil k h = ap (λ r. visits_at_root m base r (visits m base depth root)) h
+root-alone m base depth (node ws ss) k h = ap (λ r. visits_at_root m base r (visits m base depth root)) h.is
+root-alone m base depth (cap i) k h = absurd cc
+root-alone m base depth (voids n) k h = absurd cc
+root-alone m base depth (bits xs) k h = absurd cc
+root-alone m base depth (bytes xs) k h = absurd cc
+root-alone m base depth (pairs xs) k h = absurd cc
+root-alone m base depth (quads xs) k h = absurd cc
+root-alone m base depth (octs xs) k h = absurd cc
+root-alone m base depth (links ts) k h = absurd cc
+root-alone m base depth (rows bs) k h = absurd cc
 
-module _ (v : Tree) (each : ℕ) (limits : Bounds) (f : Fits v) (r : InRange v) (low : height v ≤ limits.depth) where
+module _ (v : Tree) (limits : Bounds) (f : Fits v) (r : InRange v) (low : height v ≤ limits.depth) where
   few : length (words v) ≤ 2 ^ 29
   few = let l = (room v f r).2 in omega arith
 
   at-root : IsAt (words v ∷ []) root (trimmed v)
   at-root = read_back v (sound v f r) few
 
-  alone : root_visits (words v ∷ []) each limits.depth ≡ visits (words v ∷ []) each limits.depth root
-  alone = root-alone (words v ∷ []) each limits.depth (trimmed v) (fit_parts (trimmed v) (fits-trimmed v f)).root at-root
+  alone : root_visits (words v ∷ []) (base limits.tariff) limits.depth ≡ visits (words v ∷ []) (base limits.tariff) limits.depth root
+  alone = root-alone (words v ∷ []) (base limits.tariff) limits.depth (trimmed v) (fit_parts (trimmed v) (fits-trimmed v f)).root at-root
 
-  visited : Pays (words v ∷ []) each (root_visits (words v ∷ []) each limits.depth) (cost each (trimmed v))
-  visited = rw alone (pays_cost v each limits.depth (sound v f r) few (omega (arith, height-trimmed v)))
+  visited : Pays (words v ∷ []) (base limits.tariff) (root_visits (words v ∷ []) (base limits.tariff) limits.depth) (cost (base limits.tariff) (trimmed v))
+  visited = rw alone (pays_cost v (base limits.tariff) limits.depth (sound v f r) few (omega (arith, height-trimmed v)))
 
   -- the walk of canonical bytes, read bare, pays exactly the cost of the trimmed value
-  pub pays_its_cost : PaysItsCost (canon v) each limits v
+  pub pays_its_cost : PaysItsCost (canon v) limits v
   pays_its_cost m (ws, b, e) =
       let same : ws ≡ words v = sym (bare_only (canon v) ws b) ∙ words_in_canon v f r in
-      ap (λ (n : List (List ℕ)). paid n each limits.depth) e ∙ ap (λ (us : List ℕ). paid (us ∷ []) each limits.depth) same ∙ visited.sum
+      ap (λ (n : List (List ℕ)). paid n limits) e ∙ ap (λ (us : List ℕ). paid (us ∷ []) limits) same ∙ visited.sum
 
   -- under limits that hold the value's cost and height, canonical bytes denote the trimmed value
-  pub read_bare : cost each v ≤ limits.budget → Denotes forms.Bare (canon v) each limits (trimmed v)
+  pub read_bare : cost (base limits.tariff) v ≤ limits.budget → Denotes forms.Bare (canon v) limits (trimmed v)
   read_bare cheap =
-      let c = cost-trimmed each v (fit_parts v f).even in
+      let c = cost-trimmed (base limits.tariff) v (fit_parts v f).even in
       let s = visited.sum in
       let n = (room v f r).0 in
       record {

@@ -19,30 +19,30 @@ priced bs = grind (arith, nat_tests)
 
 mutual
   -- the words of a layout are at most the cost of the value, under either tariff
-  pub size-cost : (each : ℕ) (v : Tree) → Sound v → size v ≤ cost each v
-  size-cost each nil h = omega arith
-  size-cost each (cap k) h = omega arith
-  size-cost each (node ws ss) h = let x = kept_words-le ws in let y = kept_slots-le ss in let z = sizes-cost each ss h.2 in omega arith
-  size-cost each (voids n) h = omega arith
-  size-cost each (bits xs) h = omega arith
-  size-cost each (bytes xs) h = omega arith
-  size-cost each (pairs xs) h = omega arith
-  size-cost each (quads xs) h = omega arith
-  size-cost each (octs xs) h = omega arith
-  size-cost each (links ts) h = let z = sizes-cost each ts h.1 in omega arith
-  size-cost each (rows bs) h =
+  pub size-cost : (base : ℕ) (v : Tree) → Sound v → size v ≤ cost base v
+  size-cost base nil h = omega arith
+  size-cost base (cap k) h = omega arith
+  size-cost base (node ws ss) h = let x = kept_words-le ws in let y = kept_slots-le ss in let z = sizes-cost base ss h.2 in omega arith
+  size-cost base (voids n) h = omega arith
+  size-cost base (bits xs) h = omega arith
+  size-cost base (bytes xs) h = omega arith
+  size-cost base (pairs xs) h = omega arith
+  size-cost base (quads xs) h = omega arith
+  size-cost base (octs xs) h = omega arith
+  size-cost base (links ts) h = let z = sizes-cost base ts h.1 in omega arith
+  size-cost base (rows bs) h =
       let x = wide-words (kept_words_of_rows bs) (kept_slots_of_rows bs) bs h.4 in
       let y = priced bs in
-      let z = sizes-rows-cost each bs h.5 in
+      let z = sizes-rows-cost base bs h.5 in
       omega arith
 
-  sizes-cost : (each : ℕ) (ts : Trees) → Sounds ts → sizes ts ≤ costs each ts
-  sizes-cost each no_trees h = omega arith
-  sizes-cost each (tree t ts) h = let x = size-cost each t h.0 in let y = sizes-cost each ts h.1 in omega arith
+  sizes-cost : (base : ℕ) (ts : Trees) → Sounds ts → sizes ts ≤ costs base ts
+  sizes-cost base no_trees h = omega arith
+  sizes-cost base (tree t ts) h = let x = size-cost base t h.0 in let y = sizes-cost base ts h.1 in omega arith
 
-  sizes-rows-cost : (each : ℕ) (bs : Bodies) → SoundRows bs → sizes_in_rows bs ≤ costs_in_rows each bs
-  sizes-rows-cost each no_bodies h = omega arith
-  sizes-rows-cost each (body ws ss bs) h = let x = sizes-cost each ss h.0 in let y = sizes-rows-cost each bs h.1 in omega arith
+  sizes-rows-cost : (base : ℕ) (bs : Bodies) → SoundRows bs → sizes_in_rows bs ≤ costs_in_rows base bs
+  sizes-rows-cost base no_bodies h = omega arith
+  sizes-rows-cost base (body ws ss bs) h = let x = sizes-cost base ss h.0 in let y = sizes-rows-cost base bs h.1 in omega arith
 
 -- the canonical words are the pointer to the root and the layout
 pub length_words : (v : Tree) → Sound v → length (words v) ≡ 1 + size v
@@ -50,10 +50,10 @@ unfolding words
 length_words v h = let a = length-lay v 1 h in let c : length (point v 0 1 ∷ lay v 1) ≡ suc (length (lay v 1)) = refl in omega arith
 
 -- The canonical words of a value that fits are at most one more than its cost, under either tariff, and so 2^28 + 1 at most.
-pub room : (v : Tree) → Fits v → InRange v → (length (words v) ≡ 1 + size v) × ((each : ℕ) → size v ≤ cost each v) × (length (words v) ≤ 2 ^ 28 + 1)
+pub room : (v : Tree) → Fits v → InRange v → (length (words v) ≡ 1 + size v) × ((base : ℕ) → size v ≤ cost base v) × (length (words v) ≤ 2 ^ 28 + 1)
 room v f r =
     let s = sound v f r in
     let a = length_words v s in
-    let b = size-cost 1 v s in
+    let b = size-cost 0 v s in
     let d = (fit_parts v f).cheap in
-    (a, (λ each. size-cost each v s), omega arith)
+    (a, (λ base. size-cost base v s), omega arith)

@@ -106,16 +106,16 @@ rows-price bs a b e =
     priced r (suc n) zero e z = absurd (z refl)
     priced r (suc n) (suc k) e z = let p : suc n * suc k ≡ suc (n * suc k + k) = omega arith in let q : r ≢ 0 = omega arith in grind (arith, nat_tests)
 
-module _ (m : List (List ℕ)) (each : ℕ) where
+module _ (m : List (List ℕ)) (base : ℕ) where
   -- no fault, and a sum
   pub record Pays (vs : List Visit) (n : ℕ) : Type 0 where
     pub all : AllPay vs
     pub sum : paid_of vs ≡ n
 
   object : (at : Place) (d s start n : ℕ) (shape : Shape) → target m at ≡ Ok (targets.Content s start shape 0) → 0 < d →
-      Pays (flat_map (visits m each (d - 1)) (slots s start shape)) n → Pays (visits m each d at) (price each shape + n)
+      Pays (flat_map (visits m base (d - 1)) (slots s start shape)) n → Pays (visits m base d at) (price base shape + n)
   object at d s start n shape e deep h =
-      let o = visits-object m each at s start 0 shape e d deep in
+      let o = visits-object m base at s start 0 shape e d deep in
       let a = h.sum in
       record { all = rw o h.all; sum = ap paid_of o ∙ omega arith }
 
@@ -127,11 +127,11 @@ module _ (m : List (List ℕ)) (each : ℕ) where
 
   mutual
     -- the visits of a value that stands so have no fault and pay exactly its cost
-    pub exact : (v : Tree) (at : Place) (d : ℕ) → height v ≤ d → TightAt m at v → Pays (visits m each d at) (cost each v)
-    exact nil at d l h = let e = visits-null m each at d h in record { all = rw e tt; sum = ap paid_of e ∙ omega arith }
-    exact (cap k) at d l h = let e = visits-cap m each at d k h in record { all = rw e tt; sum = ap paid_of e ∙ omega arith }
+    pub exact : (v : Tree) (at : Place) (d : ℕ) → height v ≤ d → TightAt m at v → Pays (visits m base d at) (cost base v)
+    exact nil at d l h = let e = visits-null m base at d h in record { all = rw e tt; sum = ap paid_of e ∙ omega arith }
+    exact (cap k) at d l h = let e = visits-cap m base at d k h in record { all = rw e tt; sum = ap paid_of e ∙ omega arith }
     exact (node ws ss) at d l h =
-        so _ _ _ (omega arith) (object at d h.segment h.start (costs each ss) (shapes.Node (length ws) (count ss)) h.is (omega arith)
+        so _ _ _ (omega arith) (object at d h.segment h.start (costs base ss) (shapes.Node (length ws) (count ss)) h.is (omega arith)
         (exact-slots ss h.segment (h.start + length ws) (d - 1) (omega arith) h.inside.1))
     exact (voids n) at d l h = so _ _ _ (omega arith) (object at d h.segment h.start 0 (shapes.Many W0 n) h.is (omega arith) none)
     exact (bits xs) at d l h = so _ _ _ (omega arith) (object at d h.segment h.start 0 (shapes.Many W1 (length xs)) h.is (omega arith) none)
@@ -140,34 +140,34 @@ module _ (m : List (List ℕ)) (each : ℕ) where
     exact (quads xs) at d l h = so _ _ _ (omega arith) (object at d h.segment h.start 0 (shapes.Many W32 (length xs)) h.is (omega arith) none)
     exact (octs xs) at d l h = so _ _ _ (omega arith) (object at d h.segment h.start 0 (shapes.Many W64 (length xs)) h.is (omega arith) none)
     exact (links ts) at d l h =
-        so _ _ _ (omega arith) (object at d h.segment h.start (costs each ts) (shapes.Many Link (count ts)) h.is (omega arith)
+        so _ _ _ (omega arith) (object at d h.segment h.start (costs base ts) (shapes.Many Link (count ts)) h.is (omega arith)
         (exact-slots ts h.segment h.start (d - 1) (omega arith) h.inside))
     exact (rows bs) at d l h =
         let o = h.2 in
         let e : suc o.start ≡ o.start + 1 = omega arith in
         let below = exact-rows bs h.0 h.1 o.segment (o.start + 1) (d - 1) (omega arith) (rw e at o.inside) in
         let p = rows-price bs h.0 h.1 below.1 in
-        so _ _ _ (omega arith) (object at d o.segment o.start (costs_in_rows each bs) (shapes.Rows (count_rows bs) h.0 h.1 (count_rows bs * (h.0 + h.1))) o.is (omega arith) below.0)
+        so _ _ _ (omega arith) (object at d o.segment o.start (costs_in_rows base bs) (shapes.Rows (count_rows bs) h.0 h.1 (count_rows bs * (h.0 + h.1))) o.is (omega arith) below.0)
 
-    exact-slots : (ts : Trees) (s w d : ℕ) → greatest ts ≤ d → AreTight m s w ts → Pays (flat_map (visits m each d) (places s w (count ts))) (costs each ts)
+    exact-slots : (ts : Trees) (s w d : ℕ) → greatest ts ≤ d → AreTight m s w ts → Pays (flat_map (visits m base d) (places s w (count ts))) (costs base ts)
     exact-slots no_trees s w d l h = none
     exact-slots (tree t ts) s w d l h =
-        let rest = flat_map (visits m each d) (places s (w + 1) (count ts)) in
+        let rest = flat_map (visits m base d) (places s (w + 1) (count ts)) in
         let e : suc w ≡ w + 1 = omega arith in
         let one = exact t (slot s w) d (omega arith) h.0 in
         let two = exact-slots ts s (w + 1) d (omega arith) (rw e at h.1) in
         record {
-          all = both (visits m each d (slot s w)) rest one.all two.all;
-          sum = sums (cost each t) (costs each ts) _ _ _ one.sum two.sum (paid-append (visits m each d (slot s w)) rest);
+          all = both (visits m base d (slot s w)) rest one.all two.all;
+          sum = sums (cost base t) (costs base ts) _ _ _ one.sum two.sum (paid-append (visits m base d (slot s w)) rest);
         }
 
     exact-rows : (bs : Bodies) (a b s w d : ℕ) → greatest_in_rows bs ≤ d → TightRows m a b s w bs →
-        Pays (flat_map (visits m each d) (row_places s w a b (count_rows bs))) (costs_in_rows each bs) × (row_words bs ≡ count_rows bs * (a + b))
+        Pays (flat_map (visits m base d) (row_places s w a b (count_rows bs))) (costs_in_rows base bs) × (row_words bs ≡ count_rows bs * (a + b))
     exact-rows no_bodies a b s w d l h = (none, omega arith)
     exact-rows (body ws ss bs) a b s w d l h =
-        let here = flat_map (visits m each d) (places s (w + a) b) in
-        let rest = flat_map (visits m each d) (row_places s (w + a + b) a b (count_rows bs)) in
-        let e = flat_map-append (visits m each d) (places s (w + a) b) (row_places s (w + a + b) a b (count_rows bs)) in
+        let here = flat_map (visits m base d) (places s (w + a) b) in
+        let rest = flat_map (visits m base d) (row_places s (w + a + b) a b (count_rows bs)) in
+        let e = flat_map-append (visits m base d) (places s (w + a) b) (row_places s (w + a + b) a b (count_rows bs)) in
         let la = h.0 in
         let lb = h.1 in
         let one = rw lb at (exact-slots ss s (w + a) d (omega arith) h.3) in
@@ -176,7 +176,7 @@ module _ (m : List (List ℕ)) (each : ℕ) where
         let k : suc (count_rows bs) * (a + b) ≡ a + b + count_rows bs * (a + b) = omega arith in (
           record {
             all = rw e (both here rest one.all two.0.all);
-            sum = sums (costs each ss) (costs_in_rows each bs) _ _ _ one.sum two.0.sum (ap paid_of e ∙ paid-append here rest);
+            sum = sums (costs base ss) (costs_in_rows base bs) _ _ _ one.sum two.0.sum (ap paid_of e ∙ paid-append here rest);
           },
           omega arith,
         )

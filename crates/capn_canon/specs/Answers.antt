@@ -9,15 +9,15 @@ use Rattle.capn_canon.specs.Layout.{canon}
 use Rattle.capn_canon.specs.Reads.{Reads}
 
 -- the message is accepted, its value has no capability, these are its canonical bytes, and its walk pays the price
-pub record AnswersMessage (message : List (List ℕ)) (each : ℕ) (limits : Bounds) (bytes : List ℕ) (price : ℕ) : Type 0 where
+pub record AnswersMessage (message : List (List ℕ)) (limits : Bounds) (bytes : List ℕ) (price : ℕ) : Type 0 where
   pub value : Tree
-  pub is : IsValueOf message each limits.budget limits.depth value
+  pub is : IsValueOf message limits value
   pub free : first_cap value ≡ None
   pub canonical : bytes ≡ canon value
-  pub priced : price ≡ paid message each limits.depth
+  pub priced : price ≡ paid message limits
 
 -- the bytes are read as a message with that answer
-pub record Answers (form : Form) (bs : List ℕ) (each : ℕ) (limits : Bounds) (bytes : List ℕ) (price : ℕ) : Type 0 where
+pub record Answers (form : Form) (bs : List ℕ) (limits : Bounds) (bytes : List ℕ) (price : ℕ) : Type 0 where
   pub message : List (List ℕ)
   pub reads : Reads form bs limits.message_words message
-  pub answer : AnswersMessage message each limits bytes price
+  pub answer : AnswersMessage message limits bytes price

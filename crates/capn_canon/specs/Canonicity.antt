@@ -4,7 +4,7 @@ use Rattle.capn_value.specs.Tree.{Tree}
 use Rattle.capn_value.specs.InRange.{InRange}
 use Rattle.capn_value.specs.Fits.{Fits}
 use Rattle.capn_value.specs.Same.{Same}
-use Rattle.capn_value.specs.Sizes.{cost}
+use Rattle.capn_value.specs.Sizes.{base, cost}
 use Rattle.capn_value.specs.Trim.{trimmed}
 use Rattle.capn_walk.specs.Denotes.{paid}
 use Rattle.capn_walk.specs.Limits.{Bounds}
@@ -14,14 +14,14 @@ use Rattle.capn_canon.specs.Denotes.{Denotes}
 use Rattle.capn_canon.specs.Layout.{canon}
 
 -- read bare under the limits, the bytes denote the trimmed value, which is the same value
-pub record ReadsBack (bs : List ℕ) (each : ℕ) (limits : Bounds) (v : Tree) : Type 0 where
-  pub denotes : Denotes forms.Bare bs each limits (trimmed v)
+pub record ReadsBack (bs : List ℕ) (limits : Bounds) (v : Tree) : Type 0 where
+  pub denotes : Denotes forms.Bare bs limits (trimmed v)
   pub same : Same (trimmed v) v
 
 -- so read, they pay exactly the cost of the trimmed value
-abbrev pub PaysItsCost : List ℕ → ℕ → Bounds → Tree → Type 0
-PaysItsCost bs each limits v =
-    (message : List (List ℕ)) → Reads forms.Bare bs limits.message_words message → paid message each limits.depth ≡ cost each (trimmed v)
+abbrev pub PaysItsCost : List ℕ → Bounds → Tree → Type 0
+PaysItsCost bs limits v =
+    (message : List (List ℕ)) → Reads forms.Bare bs limits.message_words message → paid message limits ≡ cost (base limits.tariff) (trimmed v)
 
 -- the canonical bytes of the trimmed value are these bytes again
 abbrev pub IsItsOwnForm : List ℕ → Tree → Type 0
@@ -32,8 +32,8 @@ abbrev pub IsFormExactlyOf : List ℕ → Tree → Type 0
 IsFormExactlyOf bs v = (w : Tree) → Fits w → InRange w → (canon w ≡ bs) ↔ Same v w
 
 -- the four together
-pub record IsCanonicalForm (bs : List ℕ) (each : ℕ) (limits : Bounds) (v : Tree) : Type 0 where
-  pub reads_back : ReadsBack bs each limits v
-  pub pays : PaysItsCost bs each limits v
+pub record IsCanonicalForm (bs : List ℕ) (limits : Bounds) (v : Tree) : Type 0 where
+  pub reads_back : ReadsBack bs limits v
+  pub pays : PaysItsCost bs limits v
   pub own : IsItsOwnForm bs v
   pub exactly : IsFormExactlyOf bs v

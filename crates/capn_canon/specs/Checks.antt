@@ -12,18 +12,18 @@ use Rattle.capn_canon.specs.Denotes.{Denotes}
 use Rattle.capn_canon.specs.Layout.{canon}
 
 -- the bytes denote a value without capabilities, and the answer is yes exactly if they are its canonical bytes
-pub record Checks (bs : List ℕ) (each : ℕ) (limits : Bounds) (yes : Bool) : Type 0 where
+pub record Checks (bs : List ℕ) (limits : Bounds) (yes : Bool) : Type 0 where
   pub value : Tree
-  pub is : Denotes forms.Bare bs each limits value
+  pub is : Denotes forms.Bare bs limits value
   pub free : first_cap value ≡ None
   pub answer : IsTrue yes ↔ (canon value ≡ bs)
 
 -- the words are an accepted message; the check tells what its walk pays, how many visits it makes and the first capability of its value,
 -- and says yes exactly if the value has none and the bytes of the words are its canonical bytes
-pub record IsCheck (words : List ℕ) (each budget depth : ℕ) (c : Checked) : Type 0 where
+pub record IsCheck (words : List ℕ) (limits : Bounds) (c : Checked) : Type 0 where
   pub value : Tree
-  pub is : IsValueOf (words ∷ []) each budget depth value
-  pub pays : c.paid ≡ paid (words ∷ []) each depth
-  pub counts : c.visits ≡ number_of_visits (words ∷ []) each depth
+  pub is : IsValueOf (words ∷ []) limits value
+  pub pays : c.paid ≡ paid (words ∷ []) limits
+  pub counts : c.visits ≡ number_of_visits (words ∷ []) limits
   pub capability : c.capability ≡ first_cap value
   pub answer : IsTrue c.is_canonical ↔ ((first_cap value ≡ None) × (canon value ≡ bytes words))

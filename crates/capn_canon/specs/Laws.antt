@@ -7,7 +7,7 @@ use Rattle.capn_value.specs.Caps.{first_cap}
 use Rattle.capn_value.specs.InRange.{InRange}
 use Rattle.capn_value.specs.Fits.{Fits}
 use Rattle.capn_value.specs.Same.{Same}
-use Rattle.capn_value.specs.Sizes.{cost, height}
+use Rattle.capn_value.specs.Sizes.{base, cost, height}
 use Rattle.capn_walk.specs.Denotes.{paid}
 use Rattle.capn_walk.specs.Limits.{Bounds, AreLimits}
 use Rattle.capn_canon.specs.declared.form.Form.{Form}
@@ -20,33 +20,33 @@ use Rattle.capn_canon.specs.Canonicity.{IsCanonicalForm}
 
 -- the canonical bytes of a value that fits and is in range are its canonical form, under all limits that hold its cost and height
 abbrev pub CanonIsForm : Type 0
-CanonIsForm = (v : Tree) (each : ℕ) (limits : Bounds) → Fits v → InRange v → cost each v ≤ limits.budget → height v ≤ limits.depth
-    → IsCanonicalForm (canon v) each limits v
+CanonIsForm = (v : Tree) (limits : Bounds) → Fits v → InRange v → cost (base limits.tariff) v ≤ limits.budget → height v ≤ limits.depth
+    → IsCanonicalForm (canon v) limits v
 
 -- two values that fit and are in range have equal canonical bytes exactly if they are the same
 abbrev pub EqualExactlySame : Type 0
 EqualExactlySame = (v w : Tree) → Fits v → InRange v → Fits w → InRange w → (canon v ≡ canon w) ↔ Same v w
 
 -- what holds of a value that bytes denote within limits: its fitness, its price and its canonical form
-pub record HasCanonicalForm (form : Form) (bs : List ℕ) (limits : Bounds) (v : Tree) (h : Denotes form bs 1 limits v) : Type 0 where
+pub record HasCanonicalForm (form : Form) (bs : List ℕ) (limits : Bounds) (v : Tree) (h : Denotes form bs limits v) : Type 0 where
   pub fits : Fits v
   pub in_range : InRange v
-  pub cheap : cost 1 v ≤ paid h.message 1 limits.depth
-  pub within : paid h.message 1 limits.depth ≤ limits.budget
+  pub cheap : cost (base limits.tariff) v ≤ paid h.message limits
+  pub within : paid h.message limits ≤ limits.budget
   pub low : height v ≤ limits.depth
-  pub short : length (canon v) ≤ 8 * (paid h.message 1 limits.depth + 1)
-  pub canonical : IsCanonicalForm (canon v) 1 limits v
+  pub short : length (canon v) ≤ 8 * (paid h.message limits + 1)
+  pub canonical : IsCanonicalForm (canon v) limits v
 
 -- each value that bytes denote within limits has
 abbrev pub DenotedHaveForms : Type 0
 DenotedHaveForms = (form : Form) (bs : List ℕ) (limits : Bounds) (v : Tree) → AreLimits limits.message_words limits.budget limits.depth
-    → (h : Denotes form bs 1 limits v) → HasCanonicalForm form bs limits v h
+    → (h : Denotes form bs limits v) → HasCanonicalForm form bs limits v h
 
 -- bytes denote one value at most
 abbrev pub DenoteOne : Type 0
-DenoteOne = (form : Form) (bs : List ℕ) (each : ℕ) (limits : Bounds) (v w : Tree) → Denotes form bs each limits v → Denotes form bs each limits w → v ≡ w
+DenoteOne = (form : Form) (bs : List ℕ) (limits : Bounds) (v w : Tree) → Denotes form bs limits v → Denotes form bs limits w → v ≡ w
 
 -- bytes that denote a value without capabilities meet no refusal but want of memory
 abbrev pub DenotedAreNotRefused : Type 0
-DenotedAreNotRefused = (form : Form) (bs : List ℕ) (each : ℕ) (limits : Bounds) (v : Tree) (r : Refusal)
-    → Denotes form bs each limits v → first_cap v ≡ None → IsRefused form bs each limits r → r ≡ refusals.Memory
+DenotedAreNotRefused = (form : Form) (bs : List ℕ) (limits : Bounds) (v : Tree) (r : Refusal)
+    → Denotes form bs limits v → first_cap v ≡ None → IsRefused form bs limits r → r ≡ refusals.Memory

@@ -30,20 +30,20 @@ IsMisread forms.Packed bs most (refusals.Packed e) = (e ≢ unpack_faults.Memory
 IsMisread forms.Packed bs most r = (text : List ℕ) × Unpacks bs most text × IsMisframed text most r
 
 -- the message is not accepted, or its value has a capability, the first of which is told; nothing is said of want of memory
-abbrev pub IsRefusedMessage : List (List ℕ) → ℕ → Bounds → Refusal → Type 0
-IsRefusedMessage message each limits (refusals.Walk s) = walks.IsRefused message each limits.budget limits.depth s.fault s.place s.paid s.visits
-IsRefusedMessage message each limits (refusals.Capability k) = (v : Tree) × walks.IsValueOf message each limits.budget limits.depth v × (first_cap v ≡ Some k)
-IsRefusedMessage message each limits refusals.Memory = ⊤
-IsRefusedMessage message each limits _ = ⊥
+abbrev pub IsRefusedMessage : List (List ℕ) → Bounds → Refusal → Type 0
+IsRefusedMessage message limits (refusals.Walk s) = walks.IsRefused message limits s.fault s.place s.paid s.visits
+IsRefusedMessage message limits (refusals.Capability k) = (v : Tree) × walks.IsValueOf message limits v × (first_cap v ≡ Some k)
+IsRefusedMessage message limits refusals.Memory = ⊤
+IsRefusedMessage message limits _ = ⊥
 
 -- the bytes are not read, or the message that they are read as is refused
-abbrev pub IsRefused : Form → List ℕ → ℕ → Bounds → Refusal → Type 0
-IsRefused form bs each limits (refusals.Walk s) =
-    (message : List (List ℕ)) × Reads form bs limits.message_words message × IsRefusedMessage message each limits (refusals.Walk s)
-IsRefused form bs each limits (refusals.Capability k) =
-    (message : List (List ℕ)) × Reads form bs limits.message_words message × IsRefusedMessage message each limits (refusals.Capability k)
-IsRefused form bs each limits refusals.Memory = ⊤
-IsRefused form bs each limits r = IsMisread form bs limits.message_words r
+abbrev pub IsRefused : Form → List ℕ → Bounds → Refusal → Type 0
+IsRefused form bs limits (refusals.Walk s) =
+    (message : List (List ℕ)) × Reads form bs limits.message_words message × IsRefusedMessage message limits (refusals.Walk s)
+IsRefused form bs limits (refusals.Capability k) =
+    (message : List (List ℕ)) × Reads form bs limits.message_words message × IsRefusedMessage message limits (refusals.Capability k)
+IsRefused form bs limits refusals.Memory = ⊤
+IsRefused form bs limits r = IsMisread form bs limits.message_words r
 
 -- what a refusal tells as paid is within a budget, and the visits are at most one more
 abbrev pub IsPaidWithin : ℕ → Refusal → Type 0
@@ -51,7 +51,7 @@ IsPaidWithin budget (refusals.Walk s) = walks.IsBounded budget s.paid s.visits
 IsPaidWithin budget _ = ⊤
 
 -- the message is not accepted; nothing is said of want of memory
-abbrev pub IsUnaccepted : List (List ℕ) → ℕ → Bounds → Refusal → Type 0
-IsUnaccepted message each limits (refusals.Walk s) = walks.IsRefused message each limits.budget limits.depth s.fault s.place s.paid s.visits
-IsUnaccepted message each limits refusals.Memory = ⊤
-IsUnaccepted message each limits _ = ⊥
+abbrev pub IsUnaccepted : List (List ℕ) → Bounds → Refusal → Type 0
+IsUnaccepted message limits (refusals.Walk s) = walks.IsRefused message limits s.fault s.place s.paid s.visits
+IsUnaccepted message limits refusals.Memory = ⊤
+IsUnaccepted message limits _ = ⊥

@@ -64,16 +64,16 @@ fn canonical_in<A: Allocator + Copy, S: Space>(
     space: &S,
     limits: Limits,
 ) -> Result<Canonical<A>, Refusal>
-    ensures found { IfOk result (λ c. AnswersMessage (S.message space.now) 1 limits c.bytes.items c.paid) }
-    ensures only { (v : Value) → IsValueOf (S.message space.now) 1 limits.budget limits.depth v → first_cap v ≡ None
+    ensures found { IfOk result (λ c. AnswersMessage (S.message space.now) limits c.bytes.items c.paid) }
+    ensures only { (v : Value) → IsValueOf (S.message space.now) limits v → first_cap v ≡ None
         → MatchResult result (λ c. c.bytes.items ≡ canon v) (λ e. e ≡ refusals.Memory) }
-    ensures refused { IfErr result (λ e. IsRefusedMessage (S.message space.now) 1 limits e) }
+    ensures refused { IfErr result (λ e. IsRefusedMessage (S.message space.now) limits e) }
     ensures bounded { MatchResult result (λ c. c.paid ≤ limits.budget) (λ e. IsPaidWithin limits.budget e) }
     ensures short { IfOk result (λ c. length c.bytes.items ≤ 8 * (c.paid + 1)) }
-    ensures reads_back { IfOk result (λ c. (v : Value) → IsValueOf (S.message space.now) 1 limits.budget limits.depth v → ReadsBack c.bytes.items 1 limits v) }
-    ensures pays { IfOk result (λ c. (v : Value) → IsValueOf (S.message space.now) 1 limits.budget limits.depth v → PaysItsCost c.bytes.items 1 limits v) }
-    ensures own { IfOk result (λ c. (v : Value) → IsValueOf (S.message space.now) 1 limits.budget limits.depth v → IsItsOwnForm c.bytes.items v) }
-    ensures exactly { IfOk result (λ c. (v : Value) → IsValueOf (S.message space.now) 1 limits.budget limits.depth v → IsFormExactlyOf c.bytes.items v) }
+    ensures reads_back { IfOk result (λ c. (v : Value) → IsValueOf (S.message space.now) limits v → ReadsBack c.bytes.items limits v) }
+    ensures pays { IfOk result (λ c. (v : Value) → IsValueOf (S.message space.now) limits v → PaysItsCost c.bytes.items limits v) }
+    ensures own { IfOk result (λ c. (v : Value) → IsValueOf (S.message space.now) limits v → IsItsOwnForm c.bytes.items v) }
+    ensures exactly { IfOk result (λ c. (v : Value) → IsValueOf (S.message space.now) limits v → IsFormExactlyOf c.bytes.items v) }
 {
     let _segments = space.segments();
     let _budget = limits.budget();
@@ -106,23 +106,23 @@ pub fn canonical_of<A: Allocator + Copy, S: Space>(
     limits: Limits,
 ) -> Result<Canonical<A>, Refusal>
     // The answer: the canonical bytes of the one value that the message denotes, and what its walk pays.
-    ensures found { IfOk result (λ c. AnswersMessage (S.message space.now) 1 limits c.bytes.items c.paid) }
+    ensures found { IfOk result (λ c. AnswersMessage (S.message space.now) limits c.bytes.items c.paid) }
     // A value without capabilities is answered, unless memory runs out.
-    ensures only { (v : Value) → IsValueOf (S.message space.now) 1 limits.budget limits.depth v → first_cap v ≡ None
+    ensures only { (v : Value) → IsValueOf (S.message space.now) limits v → first_cap v ≡ None
         → MatchResult result (λ c. c.bytes.items ≡ canon v) (λ e. e ≡ refusals.Memory) }
     // What each refusal means.
-    ensures refused { IfErr result (λ e. IsRefusedMessage (S.message space.now) 1 limits e) }
+    ensures refused { IfErr result (λ e. IsRefusedMessage (S.message space.now) limits e) }
     // No walk pays beyond its budget.
     ensures bounded { MatchResult result (λ c. c.paid ≤ limits.budget) (λ e. IsPaidWithin limits.budget e) }
     ensures short { IfOk result (λ c. length c.bytes.items ≤ 8 * (c.paid + 1)) }
     // Read bare under the same limits, the bytes denote the trimmed value, which is the same value,
-    ensures reads_back { IfOk result (λ c. (v : Value) → IsValueOf (S.message space.now) 1 limits.budget limits.depth v → ReadsBack c.bytes.items 1 limits v) }
+    ensures reads_back { IfOk result (λ c. (v : Value) → IsValueOf (S.message space.now) limits v → ReadsBack c.bytes.items limits v) }
     // and pay exactly its cost;
-    ensures pays { IfOk result (λ c. (v : Value) → IsValueOf (S.message space.now) 1 limits.budget limits.depth v → PaysItsCost c.bytes.items 1 limits v) }
+    ensures pays { IfOk result (λ c. (v : Value) → IsValueOf (S.message space.now) limits v → PaysItsCost c.bytes.items limits v) }
     // its canonical bytes are these again;
-    ensures own { IfOk result (λ c. (v : Value) → IsValueOf (S.message space.now) 1 limits.budget limits.depth v → IsItsOwnForm c.bytes.items v) }
+    ensures own { IfOk result (λ c. (v : Value) → IsValueOf (S.message space.now) limits v → IsItsOwnForm c.bytes.items v) }
     // and a second value has these canonical bytes exactly if it is the same value.
-    ensures exactly { IfOk result (λ c. (v : Value) → IsValueOf (S.message space.now) 1 limits.budget limits.depth v → IsFormExactlyOf c.bytes.items v) }
+    ensures exactly { IfOk result (λ c. (v : Value) → IsValueOf (S.message space.now) limits v → IsFormExactlyOf c.bytes.items v) }
 {
     let words = space.words(0).unwrap_or(0);
     // A message of one segment is read as its bytes alone, which is faster.

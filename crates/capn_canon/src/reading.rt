@@ -21,7 +21,7 @@ use capn_words::Bare;
 use std::alloc::Allocator;
 
 /// The words of the longest table of segments and its padding.
-const TABLE_WORDS: u32 = 257;
+pub const MOST_TABLE_WORDS: u32 = 257;
 
 /// Of the words of one segment.
 fn of_bare<A: Allocator + Copy>(
@@ -29,8 +29,8 @@ fn of_bare<A: Allocator + Copy>(
     bytes: &[u8],
     limits: Limits,
 ) -> Result<Canonical<A>, Refusal>
-    ensures found { IfOk result (λ c. Answers forms.Bare bytes.now 1 limits c.bytes.items c.paid) }
-    ensures refused { IfErr result (λ e. IsRefused forms.Bare bytes.now 1 limits e) }
+    ensures found { IfOk result (λ c. Answers forms.Bare bytes.now limits c.bytes.items c.paid) }
+    ensures refused { IfErr result (λ e. IsRefused forms.Bare bytes.now limits e) }
     ensures bounded { IfErr result (λ e. IsPaidWithin limits.budget e) }
 {
     match Bare::new(bytes) {
@@ -45,8 +45,8 @@ fn of_frame<A: Allocator + Copy>(
     bytes: &[u8],
     limits: Limits,
 ) -> Result<Canonical<A>, Refusal>
-    ensures found { IfOk result (λ c. Answers forms.Stream bytes.now 1 limits c.bytes.items c.paid) }
-    ensures refused { IfErr result (λ e. IsRefused forms.Stream bytes.now 1 limits e) }
+    ensures found { IfOk result (λ c. Answers forms.Stream bytes.now limits c.bytes.items c.paid) }
+    ensures refused { IfErr result (λ e. IsRefused forms.Stream bytes.now limits e) }
     ensures bounded { IfErr result (λ e. IsPaidWithin limits.budget e) }
 {
     match first(alloc, bytes, limits.message_words()) {
@@ -67,11 +67,11 @@ fn of_packed<A: Allocator + Copy>(
     bytes: &[u8],
     limits: Limits,
 ) -> Result<Canonical<A>, Refusal>
-    ensures found { IfOk result (λ c. Answers forms.Packed bytes.now 1 limits c.bytes.items c.paid) }
-    ensures refused { IfErr result (λ e. IsRefused forms.Packed bytes.now 1 limits e) }
+    ensures found { IfOk result (λ c. Answers forms.Packed bytes.now limits c.bytes.items c.paid) }
+    ensures refused { IfErr result (λ e. IsRefused forms.Packed bytes.now limits e) }
     ensures bounded { IfErr result (λ e. IsPaidWithin limits.budget e) }
 {
-    match unpack(alloc, bytes, limits.message_words() + TABLE_WORDS) {
+    match unpack(alloc, bytes, limits.message_words() + MOST_TABLE_WORDS) {
         Ok(text) => of_frame(alloc, text.as_slice(), limits),
         Err(UnpackFault::Memory) => Err(Refusal::Memory),
         Err(fault) => Err(Refusal::Packed(fault)),
@@ -85,8 +85,8 @@ fn in_form<A: Allocator + Copy>(
     bytes: &[u8],
     limits: Limits,
 ) -> Result<Canonical<A>, Refusal>
-    ensures found { IfOk result (λ c. Answers form bytes.now 1 limits c.bytes.items c.paid) }
-    ensures refused { IfErr result (λ e. IsRefused form bytes.now 1 limits e) }
+    ensures found { IfOk result (λ c. Answers form bytes.now limits c.bytes.items c.paid) }
+    ensures refused { IfErr result (λ e. IsRefused form bytes.now limits e) }
     ensures bounded { IfErr result (λ e. IsPaidWithin limits.budget e) }
 {
     match form {
@@ -109,23 +109,23 @@ pub fn canonicalise<A: Allocator + Copy>(
     limits: Limits,
 ) -> Result<Canonical<A>, Refusal>
     // The answer: the canonical bytes of the one value that the bytes denote, and what the walk pays.
-    ensures found { IfOk result (λ c. Answers form bytes.now 1 limits c.bytes.items c.paid) }
+    ensures found { IfOk result (λ c. Answers form bytes.now limits c.bytes.items c.paid) }
     // A value without capabilities is answered, unless memory runs out.
-    ensures only { (v : Value) → Denotes form bytes.now 1 limits v → first_cap v ≡ None
+    ensures only { (v : Value) → Denotes form bytes.now limits v → first_cap v ≡ None
         → MatchResult result (λ c. c.bytes.items ≡ canon v) (λ e. e ≡ refusals.Memory) }
     // What each refusal means.
-    ensures refused { IfErr result (λ e. IsRefused form bytes.now 1 limits e) }
+    ensures refused { IfErr result (λ e. IsRefused form bytes.now limits e) }
     // No walk pays beyond its budget.
     ensures bounded { MatchResult result (λ c. c.paid ≤ limits.budget) (λ e. IsPaidWithin limits.budget e) }
     ensures short { IfOk result (λ c. length c.bytes.items ≤ 8 * (c.paid + 1)) }
     // Read bare under the same limits, the answer denotes the trimmed value, which is the same value,
-    ensures reads_back { IfOk result (λ c. (v : Value) → Denotes form bytes.now 1 limits v → ReadsBack c.bytes.items 1 limits v) }
+    ensures reads_back { IfOk result (λ c. (v : Value) → Denotes form bytes.now limits v → ReadsBack c.bytes.items limits v) }
     // and pays exactly its cost;
-    ensures pays { IfOk result (λ c. (v : Value) → Denotes form bytes.now 1 limits v → PaysItsCost c.bytes.items 1 limits v) }
+    ensures pays { IfOk result (λ c. (v : Value) → Denotes form bytes.now limits v → PaysItsCost c.bytes.items limits v) }
     // its canonical bytes are the answer again;
-    ensures own { IfOk result (λ c. (v : Value) → Denotes form bytes.now 1 limits v → IsItsOwnForm c.bytes.items v) }
+    ensures own { IfOk result (λ c. (v : Value) → Denotes form bytes.now limits v → IsItsOwnForm c.bytes.items v) }
     // and a second value has these canonical bytes exactly if it is the same value.
-    ensures exactly { IfOk result (λ c. (v : Value) → Denotes form bytes.now 1 limits v → IsFormExactlyOf c.bytes.items v) }
+    ensures exactly { IfOk result (λ c. (v : Value) → Denotes form bytes.now limits v → IsFormExactlyOf c.bytes.items v) }
 {
     let _words = limits.message_words();
     let _budget = limits.budget();

@@ -23,12 +23,12 @@ pub fn survey<A: Allocator + Copy, S: Space>(
     limits: Limits,
 ) -> Result<Surveyed, Refusal>
     // The answer: what the walk of the accepted message pays, its visits, and the first capability of its value.
-    ensures found { IfOk result (λ s. IsSurvey (S.message space.now) 1 limits.budget limits.depth s) }
+    ensures found { IfOk result (λ s. IsSurvey (S.message space.now) limits s) }
     // An accepted message is answered, unless memory runs out.
-    ensures only { (v : Value) → IsValueOf (S.message space.now) 1 limits.budget limits.depth v
+    ensures only { (v : Value) → IsValueOf (S.message space.now) limits v
         → MatchResult result (λ s. s.capability ≡ first_cap v) (λ e. e ≡ refusals.Memory) }
     // What each refusal means.
-    ensures refused { IfErr result (λ e. IsUnaccepted (S.message space.now) 1 limits e) }
+    ensures refused { IfErr result (λ e. IsUnaccepted (S.message space.now) limits e) }
     // Memory is wanted only for a depth above 64.
     ensures inline { limits.depth ≤ 64 → IfErr result (λ e. e ≢ refusals.Memory) }
     // No walk pays beyond its budget.

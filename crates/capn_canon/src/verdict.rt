@@ -48,13 +48,13 @@ pub fn check<A: Allocator + Copy>(
     limits: Limits,
 ) -> Result<Checked, Stopped>
     // An answer: the message is accepted, what its walk pays, and whether its bytes are those of its value.
-    ensures found { IfOk result (λ c. IsCheck space.now 1 limits.budget limits.depth c) }
+    ensures found { IfOk result (λ c. IsCheck space.now limits c) }
     // A message that is accepted is answered, or a growth was refused;
-    ensures only { (v : Value) → IsValueOf (space.now ∷ []) 1 limits.budget limits.depth v
+    ensures only { (v : Value) → IsValueOf (space.now ∷ []) limits v
         → MatchResult result (λ c. c.capability ≡ first_cap v) (λ s. s.fault ≡ faults.Memory) }
     // any other refusal is the first stop.
     ensures refused { IfErr result (λ s. (s.fault ≡ faults.Memory)
-        ⊎ IsStopped (space.now ∷ []) 1 limits.budget limits.depth s.fault s.place s.paid s.visits) }
+        ⊎ IsStopped (space.now ∷ []) limits s.fault s.place s.paid s.visits) }
     // No growth is wanted for a depth of at most 64.
     ensures inline { limits.depth ≤ 64 → IfErr result (λ s. s.fault ≢ faults.Memory) }
     // No walk pays beyond its budget.
@@ -84,12 +84,12 @@ pub fn is_canonical<A: Allocator + Copy>(
     limits: Limits,
 ) -> Result<bool, Refusal>
     // The answer is on the one value that the bytes denote, which has no capability.
-    ensures found { IfOk result (λ yes. Checks bytes.now 1 limits yes) }
+    ensures found { IfOk result (λ yes. Checks bytes.now limits yes) }
     // Bytes that denote such a value are answered, unless memory runs out.
-    ensures only { (v : Value) → Denotes forms.Bare bytes.now 1 limits v → first_cap v ≡ None
+    ensures only { (v : Value) → Denotes forms.Bare bytes.now limits v → first_cap v ≡ None
         → MatchResult result (λ yes. IsTrue yes ↔ (canon v ≡ bytes.now)) (λ e. e ≡ refusals.Memory) }
     // What each refusal means.
-    ensures refused { IfErr result (λ e. IsRefused forms.Bare bytes.now 1 limits e) }
+    ensures refused { IfErr result (λ e. IsRefused forms.Bare bytes.now limits e) }
     ensures bounded { IfErr result (λ e. IsPaidWithin limits.budget e) }
     // No memory is wanted for a depth of at most 64.
     ensures inline { limits.depth ≤ 64 → IfErr result (λ e. e ≢ refusals.Memory) }

@@ -9,7 +9,6 @@ use Rattle.capn_stream.specs.Laws.FrameLaws.{one_frame, stands_alone, whole_of, 
 use Rattle.capn_value.specs.Tree.{Tree}
 use Rattle.capn_value.specs.Caps.{first_cap}
 use Rattle.capn_walk.specs.declared.walked.Stopped.{Stopped}
-use Rattle.capn_walk.specs.Accepted.{paid_of, root_visits}
 use Rattle.capn_walk.specs.Verdict.{accepted, refused}
 use Rattle.capn_walk.specs.Denotes.{IsAccepted}
 use Rattle.capn_walk.specs.Denotes as walks
@@ -63,36 +62,36 @@ read-not_misread forms.Packed bs most m (refusals.Capability k) h r = unpacked-r
 read-not_misread forms.Packed bs most m refusals.Memory h r = unpacked-read bs most m refusals.Memory h r
 
 -- a message that is accepted isn't refused
-pub accepted-not_refused : (m : List (List ℕ)) (each budget depth : ℕ) (s : Stopped) → IsAccepted m each budget depth →
-    walks.IsRefused m each budget depth s.fault s.place s.paid s.visits → ⊥
-accepted-not_refused m each budget depth s h (inl r) = let a = h.some in let b = r.0 in absurd (omega arith)
-accepted-not_refused m each budget depth s h (inr r) =
-    let a = within-accepted budget (root_visits m each depth) h.within.all h.within.paid in
-    let b = stop-refused budget (root_visits m each depth) s.fault s.place s.paid s.visits r.1 in
-    let e : accepted (paid_of (root_visits m each depth)) (length (root_visits m each depth)) ≡ refused s.fault s.place s.paid s.visits = sym a ∙ b in
+pub accepted-not_refused : (m : List (List ℕ)) (limits : Bounds) (s : Stopped) → IsAccepted m limits →
+    walks.IsRefused m limits s.fault s.place s.paid s.visits → ⊥
+accepted-not_refused m limits s h (inl r) = let a = h.some in let b = r.0 in absurd (omega arith)
+accepted-not_refused m limits s h (inr r) =
+    let a = within-accepted limits.budget (walks.visits_within m limits) h.within.all h.within.paid in
+    let b = stop-refused limits.budget (walks.visits_within m limits) s.fault s.place s.paid s.visits r.1 in
+    let e : accepted (walks.paid m limits) (walks.number_of_visits m limits) ≡ refused s.fault s.place s.paid s.visits = sym a ∙ b in
     absurd cc
 
 -- bytes that denote a value without capabilities meet no refusal but want of memory
-pub not_refused : (form : Form) (bs : List ℕ) (each : ℕ) (limits : Bounds) (v : Tree) (r : Refusal) → Denotes form bs each limits v → first_cap v ≡ None → IsRefused form bs each limits r → r ≡ refusals.Memory
-not_refused form bs each limits v refusals.Memory h n r = refl
-not_refused form bs each limits v (refusals.Capability k) h n (m, i, (w, j, e)) =
-    let same = one_value form bs each limits v w h (record { message = m; reads = i; value = j }) in
+pub not_refused : (form : Form) (bs : List ℕ) (limits : Bounds) (v : Tree) (r : Refusal) → Denotes form bs limits v → first_cap v ≡ None → IsRefused form bs limits r → r ≡ refusals.Memory
+not_refused form bs limits v refusals.Memory h n r = refl
+not_refused form bs limits v (refusals.Capability k) h n (m, i, (w, j, e)) =
+    let same = one_value form bs limits v w h (record { message = m; reads = i; value = j }) in
     let f : Some k ≡ None = sym e ∙ ap first_cap (sym same) ∙ n in
     absurd cc
-not_refused form bs each limits v (refusals.Walk s) h n (m, i, r) =
+not_refused form bs limits v (refusals.Walk s) h n (m, i, r) =
     let same = one_message form bs limits.message_words h.message m h.reads i in
-    absurd (accepted-not_refused m each limits.budget limits.depth s (subst (λ (x : List (List ℕ)). IsAccepted x each limits.budget limits.depth) same h.value.accepted) r)
-not_refused form bs each limits v (refusals.Bare e) h n r = absurd (read-not_misread form bs limits.message_words h.message (refusals.Bare e) h.reads r)
-not_refused form bs each limits v (refusals.Packed e) h n r = absurd (read-not_misread form bs limits.message_words h.message (refusals.Packed e) h.reads r)
-not_refused form bs each limits v (refusals.Frame e) h n r = absurd (read-not_misread form bs limits.message_words h.message (refusals.Frame e) h.reads r)
-not_refused form bs each limits v (refusals.Trailing at) h n r = absurd (read-not_misread form bs limits.message_words h.message (refusals.Trailing at) h.reads r)
+    absurd (accepted-not_refused m limits s (subst (λ (x : List (List ℕ)). IsAccepted x limits) same h.value.accepted) r)
+not_refused form bs limits v (refusals.Bare e) h n r = absurd (read-not_misread form bs limits.message_words h.message (refusals.Bare e) h.reads r)
+not_refused form bs limits v (refusals.Packed e) h n r = absurd (read-not_misread form bs limits.message_words h.message (refusals.Packed e) h.reads r)
+not_refused form bs limits v (refusals.Frame e) h n r = absurd (read-not_misread form bs limits.message_words h.message (refusals.Frame e) h.reads r)
+not_refused form bs limits v (refusals.Trailing at) h n r = absurd (read-not_misread form bs limits.message_words h.message (refusals.Trailing at) h.reads r)
 
 -- a message that is read and refused is a refusal of the bytes
-pub refused_message : (form : Form) (bs : List ℕ) (each : ℕ) (limits : Bounds) (m : List (List ℕ)) (r : Refusal) → Reads form bs limits.message_words m → IsRefusedMessage m each limits r → IsRefused form bs each limits r
-refused_message form bs each limits m (refusals.Walk s) h r = (m, h, r)
-refused_message form bs each limits m (refusals.Capability k) h r = (m, h, r)
-refused_message form bs each limits m refusals.Memory h r = tt
-refused_message form bs each limits m (refusals.Bare e) h r = absurd r
-refused_message form bs each limits m (refusals.Packed e) h r = absurd r
-refused_message form bs each limits m (refusals.Frame e) h r = absurd r
-refused_message form bs each limits m (refusals.Trailing at) h r = absurd r
+pub refused_message : (form : Form) (bs : List ℕ) (limits : Bounds) (m : List (List ℕ)) (r : Refusal) → Reads form bs limits.message_words m → IsRefusedMessage m limits r → IsRefused form bs limits r
+refused_message form bs limits m (refusals.Walk s) h r = (m, h, r)
+refused_message form bs limits m (refusals.Capability k) h r = (m, h, r)
+refused_message form bs limits m refusals.Memory h r = tt
+refused_message form bs limits m (refusals.Bare e) h r = absurd r
+refused_message form bs limits m (refusals.Packed e) h r = absurd r
+refused_message form bs limits m (refusals.Frame e) h r = absurd r
+refused_message form bs limits m (refusals.Trailing at) h r = absurd r

@@ -43,14 +43,14 @@ is_message forms.Stream bs most m l h = framed-message bs most m l h
 is_message forms.Packed bs most m l (t, h, k) = framed-message t most m l k
 
 -- bytes denote one value at most
-pub one_value : (form : Form) (bs : List ℕ) (each : ℕ) (limits : Bounds) (v w : Tree) → Denotes form bs each limits v → Denotes form bs each limits w → v ≡ w
-one_value form bs each limits v w h k =
+pub one_value : (form : Form) (bs : List ℕ) (limits : Bounds) (v w : Tree) → Denotes form bs limits v → Denotes form bs limits w → v ≡ w
+one_value form bs limits v w h k =
     let e = one_message form bs limits.message_words k.message h.message k.reads h.reads in
     unique h.message v w root h.value.is (subst (λ (m : List (List ℕ)). IsAt m root w) e k.value.is)
 
 -- what is answered for bytes is canonical for whatever they denote
-pub answers_only : (form : Form) (bs : List ℕ) (each : ℕ) (limits : Bounds) (out : List ℕ) (n : ℕ) → Answers form bs each limits out n
-    → (v : Tree) → Denotes form bs each limits v → out ≡ canon v
-answers_only form bs each limits out n h v k =
+pub answers_only : (form : Form) (bs : List ℕ) (limits : Bounds) (out : List ℕ) (n : ℕ) → Answers form bs limits out n
+    → (v : Tree) → Denotes form bs limits v → out ≡ canon v
+answers_only form bs limits out n h v k =
     h.answer.canonical
-    ∙ ap canon (one_value form bs each limits h.answer.value v (record { message = h.message; reads = h.reads; value = h.answer.is }) k)
+    ∙ ap canon (one_value form bs limits h.answer.value v (record { message = h.message; reads = h.reads; value = h.answer.is }) k)

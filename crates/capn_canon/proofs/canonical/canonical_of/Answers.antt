@@ -19,7 +19,7 @@ returns-in-Ok-clause-found g c =
     let k = c.if-segments-eq1.true in
     let l = c.segments.ensures.count in
     let e = one-bare m c.bytes.result.now c.in-Ok.bare c.segments.ensures.bounds (omega arith) (c.bytes.ensures ∙ ap (λ (j : ℕ). bytes_at m root (8 * j)) n) c.in-Ok.ensures.exact in
-    subst (λ (x : List (List ℕ)). IfOk c.canonical_in.result (λ a. AnswersMessage x 1 c.args.limits a.bytes.items a.paid)) (sym e) c.canonical_in.ensures.found
+    subst (λ (x : List (List ℕ)). IfOk c.canonical_in.result (λ a. AnswersMessage x c.args.limits a.bytes.items a.paid)) (sym e) c.canonical_in.ensures.found
 
 pub returns-in-Ok-clause-only : goal.returns-in-Ok-clause-only
 returns-in-Ok-clause-only g c =
@@ -28,7 +28,7 @@ returns-in-Ok-clause-only g c =
     let k = c.if-segments-eq1.true in
     let l = c.segments.ensures.count in
     let e = one-bare m c.bytes.result.now c.in-Ok.bare c.segments.ensures.bounds (omega arith) (c.bytes.ensures ∙ ap (λ (j : ℕ). bytes_at m root (8 * j)) n) c.in-Ok.ensures.exact in
-    subst (λ (x : List (List ℕ)). (v : Tree) → IsValueOf x 1 c.args.limits.budget c.args.limits.depth v → first_cap v ≡ None → MatchResult c.canonical_in.result (λ a. a.bytes.items ≡ canon v) (λ e. e ≡ refusals.Memory)) (sym e) c.canonical_in.ensures.only
+    subst (λ (x : List (List ℕ)). (v : Tree) → IsValueOf x c.args.limits v → first_cap v ≡ None → MatchResult c.canonical_in.result (λ a. a.bytes.items ≡ canon v) (λ e. e ≡ refusals.Memory)) (sym e) c.canonical_in.ensures.only
 
 pub returns-in-Ok-clause-refused : goal.returns-in-Ok-clause-refused
 returns-in-Ok-clause-refused g c =
@@ -37,7 +37,7 @@ returns-in-Ok-clause-refused g c =
     let k = c.if-segments-eq1.true in
     let l = c.segments.ensures.count in
     let e = one-bare m c.bytes.result.now c.in-Ok.bare c.segments.ensures.bounds (omega arith) (c.bytes.ensures ∙ ap (λ (j : ℕ). bytes_at m root (8 * j)) n) c.in-Ok.ensures.exact in
-    subst (λ (x : List (List ℕ)). IfErr c.canonical_in.result (λ e. IsRefusedMessage x 1 c.args.limits e)) (sym e) c.canonical_in.ensures.refused
+    subst (λ (x : List (List ℕ)). IfErr c.canonical_in.result (λ e. IsRefusedMessage x c.args.limits e)) (sym e) c.canonical_in.ensures.refused
 
 pub returns-in-Ok-clause-reads_back : goal.returns-in-Ok-clause-reads_back
 returns-in-Ok-clause-reads_back g c =
@@ -46,7 +46,7 @@ returns-in-Ok-clause-reads_back g c =
     let k = c.if-segments-eq1.true in
     let l = c.segments.ensures.count in
     let e = one-bare m c.bytes.result.now c.in-Ok.bare c.segments.ensures.bounds (omega arith) (c.bytes.ensures ∙ ap (λ (j : ℕ). bytes_at m root (8 * j)) n) c.in-Ok.ensures.exact in
-    subst (λ (x : List (List ℕ)). IfOk c.canonical_in.result (λ a. (v : Tree) → IsValueOf x 1 c.args.limits.budget c.args.limits.depth v → ReadsBack a.bytes.items 1 c.args.limits v)) (sym e) c.canonical_in.ensures.reads_back
+    subst (λ (x : List (List ℕ)). IfOk c.canonical_in.result (λ a. (v : Tree) → IsValueOf x c.args.limits v → ReadsBack a.bytes.items c.args.limits v)) (sym e) c.canonical_in.ensures.reads_back
 
 pub returns-in-Ok-clause-pays : goal.returns-in-Ok-clause-pays
 returns-in-Ok-clause-pays g c =
@@ -55,7 +55,7 @@ returns-in-Ok-clause-pays g c =
     let k = c.if-segments-eq1.true in
     let l = c.segments.ensures.count in
     let e = one-bare m c.bytes.result.now c.in-Ok.bare c.segments.ensures.bounds (omega arith) (c.bytes.ensures ∙ ap (λ (j : ℕ). bytes_at m root (8 * j)) n) c.in-Ok.ensures.exact in
-    subst (λ (x : List (List ℕ)). IfOk c.canonical_in.result (λ a. (v : Tree) → IsValueOf x 1 c.args.limits.budget c.args.limits.depth v → PaysItsCost a.bytes.items 1 c.args.limits v)) (sym e) c.canonical_in.ensures.pays
+    subst (λ (x : List (List ℕ)). IfOk c.canonical_in.result (λ a. (v : Tree) → IsValueOf x c.args.limits v → PaysItsCost a.bytes.items c.args.limits v)) (sym e) c.canonical_in.ensures.pays
 
 pub returns-in-Ok-clause-own : goal.returns-in-Ok-clause-own
 returns-in-Ok-clause-own g c =
@@ -64,7 +64,7 @@ returns-in-Ok-clause-own g c =
     let k = c.if-segments-eq1.true in
     let l = c.segments.ensures.count in
     let e = one-bare m c.bytes.result.now c.in-Ok.bare c.segments.ensures.bounds (omega arith) (c.bytes.ensures ∙ ap (λ (j : ℕ). bytes_at m root (8 * j)) n) c.in-Ok.ensures.exact in
-    subst (λ (x : List (List ℕ)). IfOk c.canonical_in.result (λ a. (v : Tree) → IsValueOf x 1 c.args.limits.budget c.args.limits.depth v → IsItsOwnForm a.bytes.items v)) (sym e) c.canonical_in.ensures.own
+    subst (λ (x : List (List ℕ)). IfOk c.canonical_in.result (λ a. (v : Tree) → IsValueOf x c.args.limits v → IsItsOwnForm a.bytes.items v)) (sym e) c.canonical_in.ensures.own
 
 pub returns-in-Ok-clause-exactly : goal.returns-in-Ok-clause-exactly
 returns-in-Ok-clause-exactly g c =
@@ -73,4 +73,4 @@ returns-in-Ok-clause-exactly g c =
     let k = c.if-segments-eq1.true in
     let l = c.segments.ensures.count in
     let e = one-bare m c.bytes.result.now c.in-Ok.bare c.segments.ensures.bounds (omega arith) (c.bytes.ensures ∙ ap (λ (j : ℕ). bytes_at m root (8 * j)) n) c.in-Ok.ensures.exact in
-    subst (λ (x : List (List ℕ)). IfOk c.canonical_in.result (λ a. (v : Tree) → IsValueOf x 1 c.args.limits.budget c.args.limits.depth v → IsFormExactlyOf a.bytes.items v)) (sym e) c.canonical_in.ensures.exactly
+    subst (λ (x : List (List ℕ)). IfOk c.canonical_in.result (λ a. (v : Tree) → IsValueOf x c.args.limits v → IsFormExactlyOf a.bytes.items v)) (sym e) c.canonical_in.ensures.exactly
