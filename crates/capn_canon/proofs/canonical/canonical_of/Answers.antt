@@ -1,76 +1,28 @@
-use Rattle.std.proofs.Common.{◌≡◌, ℕ, [], ◌∷◌, ◌*◌, List, None, length, ap, subst, sym, ◌∙◌, arith, IfOk, IfErr, MatchResult}
-use Rattle.capn_words.specs.Message.{bytes_at, segment_at}
-use Rattle.capn_value.specs.Caps.{first_cap}
-use Rattle.capn_value.specs.Tree.{Tree}
-use Rattle.capn_walk.specs.Accepted.{root}
-use Rattle.capn_walk.specs.Denotes.{IsValueOf}
-use Rattle.capn_canon.specs.Answers.{AnswersMessage}
-use Rattle.capn_canon.specs.Canonicity.{ReadsBack, PaysItsCost, IsItsOwnForm, IsFormExactlyOf}
-use Rattle.capn_canon.specs.Layout.{canon}
-use Rattle.capn_canon.specs.Refused.{IsRefusedMessage}
-use Rattle.capn_canon.specs.declared.refusal.Refusal.TheVariants as refusals
-use Rattle.capn_canon.proofs.OneBare.{one-bare, first-words}
+use Rattle.std.proofs.Common.{arith}
+use Rattle.capn_canon.proofs.OfMessages.{answered_short, answered_form}
 use Rattle.capn_canon.proofs.canonical.canonical_of.Goals as goal
 
-pub returns-in-Ok-clause-found : goal.returns-in-Ok-clause-found
-returns-in-Ok-clause-found g c =
-    let m = g.S.Space.message c.args.space.now in
-    let n = first-words m c.words.result c.unwrap_or-words.result c.words.ensures c.unwrap_or-words.ensures in
-    let k = c.if-segments-eq1.true in
-    let l = c.segments.ensures.count in
-    let e = one-bare m c.bytes.result.now c.in-Ok.bare c.segments.ensures.bounds (omega arith) (c.bytes.ensures ∙ ap (λ (j : ℕ). bytes_at m root (8 * j)) n) c.in-Ok.ensures.exact in
-    subst (λ (x : List (List ℕ)). IfOk c.canonical_in.result (λ a. AnswersMessage x c.args.limits a.bytes.items a.paid)) (sym e) c.canonical_in.ensures.found
+pub returns-clause-short : goal.returns-clause-short
+returns-clause-short g c =
+    answered_short c.canonical_here.result (λ a. a.bytes.items) (λ a. a.paid) (g.S.Space.message c.args.space.now) c.args.limits
+    c.segments-segments.ensures.bounds (omega arith) (omega arith) c.canonical_here.ensures.found
 
-pub returns-in-Ok-clause-only : goal.returns-in-Ok-clause-only
-returns-in-Ok-clause-only g c =
-    let m = g.S.Space.message c.args.space.now in
-    let n = first-words m c.words.result c.unwrap_or-words.result c.words.ensures c.unwrap_or-words.ensures in
-    let k = c.if-segments-eq1.true in
-    let l = c.segments.ensures.count in
-    let e = one-bare m c.bytes.result.now c.in-Ok.bare c.segments.ensures.bounds (omega arith) (c.bytes.ensures ∙ ap (λ (j : ℕ). bytes_at m root (8 * j)) n) c.in-Ok.ensures.exact in
-    subst (λ (x : List (List ℕ)). (v : Tree) → IsValueOf x c.args.limits v → first_cap v ≡ None → MatchResult c.canonical_in.result (λ a. a.bytes.items ≡ canon v) (λ e. e ≡ refusals.Memory)) (sym e) c.canonical_in.ensures.only
+pub returns-clause-reads_back : goal.returns-clause-reads_back
+returns-clause-reads_back g c =
+    answered_form c.canonical_here.result (λ a. a.bytes.items) (λ a. a.paid) (g.S.Space.message c.args.space.now) c.args.limits _
+    (λ a v h. h.reads_back) c.segments-segments.ensures.bounds (omega arith) (omega arith) c.canonical_here.ensures.found
 
-pub returns-in-Ok-clause-refused : goal.returns-in-Ok-clause-refused
-returns-in-Ok-clause-refused g c =
-    let m = g.S.Space.message c.args.space.now in
-    let n = first-words m c.words.result c.unwrap_or-words.result c.words.ensures c.unwrap_or-words.ensures in
-    let k = c.if-segments-eq1.true in
-    let l = c.segments.ensures.count in
-    let e = one-bare m c.bytes.result.now c.in-Ok.bare c.segments.ensures.bounds (omega arith) (c.bytes.ensures ∙ ap (λ (j : ℕ). bytes_at m root (8 * j)) n) c.in-Ok.ensures.exact in
-    subst (λ (x : List (List ℕ)). IfErr c.canonical_in.result (λ e. IsRefusedMessage x c.args.limits e)) (sym e) c.canonical_in.ensures.refused
+pub returns-clause-pays : goal.returns-clause-pays
+returns-clause-pays g c =
+    answered_form c.canonical_here.result (λ a. a.bytes.items) (λ a. a.paid) (g.S.Space.message c.args.space.now) c.args.limits _
+    (λ a v h. h.pays) c.segments-segments.ensures.bounds (omega arith) (omega arith) c.canonical_here.ensures.found
 
-pub returns-in-Ok-clause-reads_back : goal.returns-in-Ok-clause-reads_back
-returns-in-Ok-clause-reads_back g c =
-    let m = g.S.Space.message c.args.space.now in
-    let n = first-words m c.words.result c.unwrap_or-words.result c.words.ensures c.unwrap_or-words.ensures in
-    let k = c.if-segments-eq1.true in
-    let l = c.segments.ensures.count in
-    let e = one-bare m c.bytes.result.now c.in-Ok.bare c.segments.ensures.bounds (omega arith) (c.bytes.ensures ∙ ap (λ (j : ℕ). bytes_at m root (8 * j)) n) c.in-Ok.ensures.exact in
-    subst (λ (x : List (List ℕ)). IfOk c.canonical_in.result (λ a. (v : Tree) → IsValueOf x c.args.limits v → ReadsBack a.bytes.items c.args.limits v)) (sym e) c.canonical_in.ensures.reads_back
+pub returns-clause-own : goal.returns-clause-own
+returns-clause-own g c =
+    answered_form c.canonical_here.result (λ a. a.bytes.items) (λ a. a.paid) (g.S.Space.message c.args.space.now) c.args.limits _
+    (λ a v h. h.own) c.segments-segments.ensures.bounds (omega arith) (omega arith) c.canonical_here.ensures.found
 
-pub returns-in-Ok-clause-pays : goal.returns-in-Ok-clause-pays
-returns-in-Ok-clause-pays g c =
-    let m = g.S.Space.message c.args.space.now in
-    let n = first-words m c.words.result c.unwrap_or-words.result c.words.ensures c.unwrap_or-words.ensures in
-    let k = c.if-segments-eq1.true in
-    let l = c.segments.ensures.count in
-    let e = one-bare m c.bytes.result.now c.in-Ok.bare c.segments.ensures.bounds (omega arith) (c.bytes.ensures ∙ ap (λ (j : ℕ). bytes_at m root (8 * j)) n) c.in-Ok.ensures.exact in
-    subst (λ (x : List (List ℕ)). IfOk c.canonical_in.result (λ a. (v : Tree) → IsValueOf x c.args.limits v → PaysItsCost a.bytes.items c.args.limits v)) (sym e) c.canonical_in.ensures.pays
-
-pub returns-in-Ok-clause-own : goal.returns-in-Ok-clause-own
-returns-in-Ok-clause-own g c =
-    let m = g.S.Space.message c.args.space.now in
-    let n = first-words m c.words.result c.unwrap_or-words.result c.words.ensures c.unwrap_or-words.ensures in
-    let k = c.if-segments-eq1.true in
-    let l = c.segments.ensures.count in
-    let e = one-bare m c.bytes.result.now c.in-Ok.bare c.segments.ensures.bounds (omega arith) (c.bytes.ensures ∙ ap (λ (j : ℕ). bytes_at m root (8 * j)) n) c.in-Ok.ensures.exact in
-    subst (λ (x : List (List ℕ)). IfOk c.canonical_in.result (λ a. (v : Tree) → IsValueOf x c.args.limits v → IsItsOwnForm a.bytes.items v)) (sym e) c.canonical_in.ensures.own
-
-pub returns-in-Ok-clause-exactly : goal.returns-in-Ok-clause-exactly
-returns-in-Ok-clause-exactly g c =
-    let m = g.S.Space.message c.args.space.now in
-    let n = first-words m c.words.result c.unwrap_or-words.result c.words.ensures c.unwrap_or-words.ensures in
-    let k = c.if-segments-eq1.true in
-    let l = c.segments.ensures.count in
-    let e = one-bare m c.bytes.result.now c.in-Ok.bare c.segments.ensures.bounds (omega arith) (c.bytes.ensures ∙ ap (λ (j : ℕ). bytes_at m root (8 * j)) n) c.in-Ok.ensures.exact in
-    subst (λ (x : List (List ℕ)). IfOk c.canonical_in.result (λ a. (v : Tree) → IsValueOf x c.args.limits v → IsFormExactlyOf a.bytes.items v)) (sym e) c.canonical_in.ensures.exactly
+pub returns-clause-exactly : goal.returns-clause-exactly
+returns-clause-exactly g c =
+    answered_form c.canonical_here.result (λ a. a.bytes.items) (λ a. a.paid) (g.S.Space.message c.args.space.now) c.args.limits _
+    (λ a v h. h.exactly) c.segments-segments.ensures.bounds (omega arith) (omega arith) c.canonical_here.ensures.found
