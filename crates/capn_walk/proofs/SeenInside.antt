@@ -1,5 +1,5 @@
 -- What a view shows lies inside its message.
-use Rattle.std.proofs.Common.{◌≡◌, ℕ, zero, suc, ◌+◌, ◌*◌, ◌/◌, ◌%◌, ◌^◌, ◌<◌, ◌≤◌, List, length, Result, Ok, refl, ap, sym, ◌∙◌, arith, ◌-◌}
+use Rattle.std.proofs.Common.{◌≡◌, ℕ, zero, suc, ◌+◌, ◌*◌, ◌/◌, ◌%◌, ◌^◌, ◌<◌, ◌≤◌, List, length, Result, Ok, Err, IfOk, refl, ap, sym, ◌∙◌, arith, ◌-◌}
 use Rattle.std.specs.Int.Bits.{bit_and}
 use Rattle.std.proofs.lemmas.Nat.{and_mask, pow-add}
 use Rattle.std.proofs.Math.Nat.{pow-suc}
@@ -8,6 +8,7 @@ use Rattle.capn_words.specs.Message.{segment_at}
 use Rattle.capn_words.specs.declared.space.Place.{Place}
 use Rattle.capn_walk.specs.declared.target.Target.{Target}
 use Rattle.capn_walk.specs.declared.target.Target.TheVariants as targets
+use Rattle.capn_walk.specs.declared.target.Fault.{Fault}
 use Rattle.capn_walk.specs.Target.{target}
 use Rattle.capn_walk.specs.Viewed.{IsInMessage}
 use Rattle.capn_walk.specs.Laws.Inside.{inside}
@@ -19,6 +20,12 @@ found-inside m at (targets.Cap k) h e = tt
 found-inside m at (targets.Content s start shape pads) h e =
     let i = inside m at s start pads shape e in
     (record { exists = present m at s start pads shape h e; within = i.0 }, i.1)
+
+-- what a call found that is the target of a place
+pub answer-inside : (m : List (List ℕ)) (at : Place) (r : Result Target Fault) → at.word < length (segment_at m at.segment) → target m at ≡ r
+    → IfOk r (IsInMessage m)
+answer-inside m at (Ok t) h e = found-inside m at t h e
+answer-inside m at (Err f) h e = tt
 
 pow-times : (k p : ℕ) → 2 ^ (k * p) ≡ (2 ^ k) ^ p
 pow-times k zero = let e : k * 0 ≡ 0 = omega arith in rw e (simp unary_clauses refl)

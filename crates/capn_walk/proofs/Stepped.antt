@@ -1,5 +1,5 @@
 -- A step of a view is one visit of a walk.
-use Rattle.std.proofs.Common.{◌≡◌, ℕ, zero, suc, ◌+◌, ◌-◌, ◌*◌, ◌<◌, ◌≤◌, ◌==◌, nat_lt, List, [], ◌∷◌, ◌++◌, length, Result, Ok, Err, Option, None, refl, ap, sym, ◌∙◌, arith}
+use Rattle.std.proofs.Common.{◌≡◌, ℕ, zero, suc, ◌+◌, ◌-◌, ◌*◌, ◌<◌, ◌≤◌, ◌==◌, nat_lt, List, [], ◌∷◌, ◌++◌, length, Result, Ok, Err, Option, None, refl, ap, sym, subst, ◌∙◌, arith, inr, true}
 use Rattle.std.proofs.lemmas.Bool.Decides.{nat_tests}
 use Rattle.capn_words.specs.declared.space.Place.{Place}
 use Rattle.capn_words.specs.Laws.FieldBits.{pick}
@@ -21,8 +21,10 @@ use Rattle.std.specs.Bool.{⊤}
 use Rattle.std.specs.Result.{IfOk, IfErr, MatchResult}
 use Rattle.capn_walk.specs.Visits.{Visit, pays, fails, price, slots, visits, visits_of}
 use Rattle.capn_walk.specs.Verdict.{Verdict, judge, refused}
-use Rattle.capn_walk.specs.Viewed.{stepped, toll, slots_below}
-use Rattle.capn_walk.specs.Accepted.{IsWithin, paid_of}
+use Rattle.capn_walk.specs.Viewed.{stepped, rooted, stepped_to_root, IsEntered, toll, slots_below}
+use Rattle.capn_walk.specs.Walked.{Refuses}
+use Rattle.capn_walk.specs.declared.walked.Stopped.{Stopped}
+use Rattle.capn_walk.specs.Accepted.{IsWithin, paid_of, root, may_be_root}
 use Rattle.capn_walk.specs.Laws.Costs.{paid-append, all-front, all-back}
 use Rattle.capn_walk.specs.Laws.Stops.{within-accepted}
 use Rattle.capn_walk.specs.Laws.Judge.{judge-over}
@@ -74,6 +76,57 @@ module _ (m : List (List ℕ)) (base : ℕ) (at : Place) (depth budget : ℕ) wh
       let v = rw is at w in
       let p = v.paid in
       record { all = v.all; paid = omega arith }
+
+-- a step is never refused for want of memory
+pub stepped-memory : (base depth budget : ℕ) (t : Target) → stepped base depth budget (Ok t) ≡ Err faults.Memory → ⊥
+stepped-memory base depth budget targets.Nil e = absurd cc
+stepped-memory base depth budget (targets.Cap k) e = absurd cc
+stepped-memory base depth budget (targets.Content s start shape pads) e =
+    pick (λ (r : Result Target Fault). r ≡ Err faults.Memory → ⊥) (depth == 0) _ _
+    (λ z f. absurd cc)
+    (λ z. pick (λ (r : Result Target Fault). r ≡ Err faults.Memory → ⊥) (nat_lt budget (price base shape + pads)) _ _
+    (λ over f. absurd cc)
+    (λ within f. absurd cc)) e
+
+-- a step to content is taken where the content isn't too deep and its price is within what is left
+pub content-taken : (base depth budget s start pads : ℕ) (shape : Shape) →
+    stepped base depth budget (Ok (targets.Content s start shape pads)) ≡ Ok (targets.Content s start shape pads) →
+    (0 < depth) × (price base shape + pads ≤ budget)
+content-taken base depth budget s start pads shape =
+    pick (λ (r : Result Target Fault). r ≡ Ok (targets.Content s start shape pads) → (0 < depth) × (price base shape + pads ≤ budget)) (depth == 0) _ _
+    (λ z e. absurd cc)
+    (λ z. pick (λ (r : Result Target Fault). r ≡ Ok (targets.Content s start shape pads) → (0 < depth) × (price base shape + pads ≤ budget))
+    (nat_lt budget (price base shape + pads)) _ _
+    (λ over e. absurd cc)
+    (λ within e. (grind (arith, nat_tests), grind (arith, nat_tests))))
+
+-- what a refused step says of the visits of its slot
+pub step-refuses : (m : List (List ℕ)) (base : ℕ) (at : Place) (depth budget : ℕ) (t : Target) (e : Fault) (s : Stopped) → target m at ≡ Ok t
+    → stepped base depth budget (Ok t) ≡ Err e → s ≡ record { fault = e; place = at; paid = 0; visits = 1 } → Refuses budget (visits m base depth at) 1 s
+step-refuses m base at depth budget t e s is h k = rw k (record {
+  is = inr (step-stops m base at depth budget e (ap (stepped base depth budget) is ∙ h));
+  within = omega arith;
+  few = omega arith;
+})
+
+-- the step to a root that may be one is the step to what it names
+pub step-to-root : (m : List (List ℕ)) (base depth budget : ℕ) (t : Target) → 0 < length (segment_at m 0) → target m root ≡ Ok t → may_be_root t ≡ true
+    → stepped base depth budget (Ok t) ≡ stepped_to_root m base depth budget
+step-to-root m base depth budget t some is kind =
+    let r : rooted (target m root) ≡ Ok t = rw (is, kind) refl in
+    pick (λ (r : Result Target Fault). stepped base depth budget (Ok t) ≡ r) (length (segment_at m 0) == 0) _ _
+    (λ z. absurd (grind (arith, nat_tests)))
+    (λ z. ap (stepped base depth budget) (sym r))
+
+-- so one is taken that leads to content, if the other is
+pub entered-root : (m : List (List ℕ)) (b d l base depth budget : ℕ) (t : Target) → b ≡ base → d ≡ depth → l ≡ budget
+    → 0 < length (segment_at m 0) → target m root ≡ Ok t → may_be_root t ≡ true
+    → IsEntered (stepped b d l (Ok t)) → IsEntered (stepped_to_root m base depth budget)
+entered-root m b d l base depth budget t e f g some is kind h =
+    subst IsEntered (step-to-root m base depth budget t some is kind)
+    (subst (λ (x : ℕ). IsEntered (stepped base depth x (Ok t))) g
+    (subst (λ (x : ℕ). IsEntered (stepped base x l (Ok t))) f
+    (subst (λ (x : ℕ). IsEntered (stepped x d l (Ok t))) e h)))
 
 -- several slots, one after the other
 pub within-front : (b : ℕ) (xs ys : List Visit) → IsWithin b (xs ++ ys) → IsWithin b xs

@@ -38,6 +38,11 @@ stepped base depth budget (Ok (targets.Content s start shape pads)) =
     else Ok (targets.Content s start shape pads)
 stepped base depth budget found = found
 
+-- a step is taken, and leads to content
+abbrev pub IsEntered : Result Target Fault → Type 0
+IsEntered (Ok (targets.Content s start shape pads)) = ⊤
+IsEntered _ = ⊥
+
 -- the target of the root, where the root may be that
 abbrev pub rooted : Result Target Fault → Result Target Fault
 rooted (Ok found) = if may_be_root found then Ok found else Err faults.RootKind

@@ -1,8 +1,9 @@
 //! What the pointer at a place names, behind landing pads if need be.
 
-ghost use Rattle.std.specs.Prelude.{◌≡◌, ℕ, ◌<◌, ◌≤◌, ◌+◌, ◌^◌, length, Ok, Err, OnOk, nat_lt, if◌then◌else◌};
+ghost use Rattle.std.specs.Prelude.{◌≡◌, ℕ, ◌<◌, ◌≤◌, ◌+◌, ◌^◌, length, Ok, Err, IfOk, OnOk, nat_lt, if◌then◌else◌};
 ghost use Rattle.capn_words.specs.Message.{segment_at, IsPlace};
 ghost use Rattle.capn_walk.specs.Target as spec;
+ghost use Rattle.capn_walk.specs.Viewed.{IsInMessage};
 ghost use Rattle.capn_walk.specs.declared.target.Fault.TheVariants.{NoSegment};
 
 use crate::content::{many_at, node_at, segment_length, start_of};
@@ -19,7 +20,9 @@ use capn_words::{Place, Pointer, Space, split};
 #[inline(always)]
 pub fn resolve<S: Space>(space: &S, at: Place) -> Result<Target, Fault>
     requires { IsPlace (S.message space.now) at }
-    ensures { result ≡ spec.target (S.message space.now) at }
+    ensures exact { result ≡ spec.target (S.message space.now) at }
+    // Content lies inside its segment, which exists, and rows within what their list's pointer says.
+    ensures inside { IfOk result (λ t. IsInMessage (S.message space.now) t) }
 {
     let pointer = pointer_at(space, at.segment, at.word);
     named(space, at.segment, at.word, pointer)

@@ -7,12 +7,14 @@ ghost use Rattle.capn_value.specs.Tree.{count as count_trees, count_rows};
 ghost use Rattle.capn_walk.specs.Target as spec;
 ghost use Rattle.capn_walk.specs.Visits.{places, row_places, slots, visits, visits_of};
 ghost use Rattle.capn_walk.specs.At.{IsAt, AreAt, RowsAt};
+ghost use Rattle.capn_walk.specs.declared.target.Fault.TheVariants.{Memory};
+ghost use Rattle.capn_walk.specs.Viewed.{IsEntered, stepped};
 ghost use Rattle.capn_walk.specs.Walked.{Gives, Refuses, IsInside, IsContent, RowsFit, extent, slot_count};
 
 use crate::found::{Found, FoundRows, FoundSlots};
 use crate::lists::{list_at, words_at};
-use crate::price::price_of;
 use crate::resolving::resolve;
+use crate::step::price_within;
 use crate::target::{Fault, Shape, Target};
 use crate::walked::{Stopped, out_of_memory, stop};
 use capn_value::{Body, Items, Value};
@@ -63,6 +65,8 @@ pub fn walk_target<S: Space, A: Allocator + Copy>(
     ensures pays { IfOk result (λ f. Gives left (visits (S.message space.now) base depth at) 1 f.paid f.visits) }
     ensures value { IfOk result (λ f. IsAt (S.message space.now) at (tree_of f.value)) }
     ensures refused { IfErr result (λ s. Refuses left (visits (S.message space.now) base depth at) 1 s) }
+    // Memory is wanted for content only, and only once its price is paid.
+    ensures wanted { IfErr result (λ s. s.fault ≡ Memory → IsEntered (stepped base depth left (Ok target))) }
 {
     match target {
         Target::Nil => Ok(Found::without_content(Value::Nil)),
@@ -71,16 +75,12 @@ pub fn walk_target<S: Space, A: Allocator + Copy>(
             segment,
             start,
             shape,
-            pads,
+            pads: _,
         } => {
-            if depth == 0 {
-                return Err(stop(Fault::TooDeep, at));
-            }
-            let price = price_of(shape, pads, base);
-            if price > left as u64 {
-                return Err(stop(Fault::OverBudget, at));
-            }
-            let price = price as u32;
+            let price = match price_within(target, depth, left, base) {
+                Ok(price) => price,
+                Err(fault) => return Err(stop(fault, at)),
+            };
             let start = Place {
                 segment,
                 word: start,

@@ -9,6 +9,7 @@ ghost use Rattle.capn_walk.specs.Accepted.{root};
 ghost use Rattle.capn_walk.specs.Accepted as accepted;
 ghost use Rattle.capn_walk.specs.Denotes.{IsValueOf, IsRefused, IsBounded, paid, number_of_visits};
 ghost use Rattle.capn_walk.specs.Limits.{Bounds};
+ghost use Rattle.capn_walk.specs.Viewed.{IsEntered, stepped_to_root};
 ghost use Rattle.capn_walk.specs.declared.target.Fault.TheVariants.{Memory};
 
 use crate::content::segment_length;
@@ -57,6 +58,10 @@ pub fn walk<S: Space, A: Allocator + Copy>(
     ensures refused { IfErr result (λ s.
         (s.fault ≡ Memory)
         ⊎ IsRefused (S.message space.now) limits s.fault s.place s.paid s.visits) }
+
+    // Memory is wanted only where the root leads to content whose price is within the budget.
+    ensures wanted { IfErr result (λ s. s.fault ≡ Memory →
+        IsEntered (stepped_to_root (S.message space.now) (base limits.tariff) limits.depth limits.budget)) }
 
     // No walk pays beyond its budget.
     ensures bounded { MatchResult result (λ w. IsBounded limits.budget w.paid w.visits)

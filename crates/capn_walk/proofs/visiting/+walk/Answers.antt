@@ -1,16 +1,21 @@
-use Rattle.std.proofs.Common.{rules, ◌≡◌, ℕ, suc, ◌+◌, ◌*◌, ◌^◌, ◌≤◌, Ok, Err, arith, ap, ◌∙◌, inl, refl}
+use Rattle.std.proofs.Common.{rules, ◌≡◌, ℕ, suc, ◌+◌, ◌*◌, ◌^◌, ◌≤◌, Ok, Err, arith, ap, sym, subst, ◌∙◌, inl, refl}
 use Rattle.capn_value.specs.View.{trees_of, rows_of}
 use Rattle.capn_value.specs.Views.{tree_of-Nil, tree_of-Cap}
 use Rattle.capn_words.specs.declared.pointer.Width.{Width}
 use Rattle.capn_walk.specs.declared.target.Shape.TheVariants as shapes
 use Rattle.capn_walk.specs.Target.{target}
 use Rattle.capn_walk.specs.Visits.{visits}
+use Rattle.capn_walk.specs.Viewed.{stepped, IsEntered}
+use Rattle.capn_walk.specs.declared.target.Target.{Target}
+use Rattle.capn_walk.specs.declared.target.Target.TheVariants as targets
+use Rattle.capn_walk.specs.declared.walked.Stopped.{Stopped}
 use Rattle.capn_walk.specs.Walked.{IsContent, extent, slot_count}
 use Rattle.capn_walk.specs.Laws.Inside.{inside, slots-price}
 use Rattle.capn_walk.specs.Laws.Present.{present}
 use Rattle.capn_walk.specs.Laws.Segments.{segment-room}
-use Rattle.capn_walk.specs.Laws.Walks.{gives-next, refuses-next, at-next, count-next, visits-null, visits-cap, visits-fault, visits-deep, gives-object, refuses-object, refuses-here, refuses-price, gives-nothing, inside-struct, inside-links, inside-rows}
+use Rattle.capn_walk.specs.Laws.Walks.{gives-next, refuses-next, at-next, count-next, visits-null, visits-cap, visits-fault, gives-object, refuses-object, refuses-here, gives-nothing, inside-struct, inside-links, inside-rows}
 use Rattle.capn_walk.specs.Laws.RowWalks.{one-more, row-inside, rows-give, rows-refuse, rows_at-step, count_rows-next}
+use Rattle.capn_walk.proofs.Stepped.{stepped-memory, step-refuses, content-taken}
 use Rattle.capn_walk.proofs.visiting.+walk.Goals as goal
 
 -- ---- a slot
@@ -43,22 +48,18 @@ walk_target-returns-in-Cap-clause-pays g t c =
 pub walk_target-returns-in-Cap-clause-value : goal.walk_target-returns-in-Cap-clause-value
 walk_target-returns-in-Cap-clause-value g t c = rw (c.without_content-in-Cap.ensures.value, tree_of-Cap) (c.requires.target ∙ ap Ok c.in-Cap.is)
 
-pub walk_target-returns-then-depth-eq0-clause-refused : goal.walk_target-returns-then-depth-eq0-clause-refused
-walk_target-returns-then-depth-eq0-clause-refused g t c =
-    let m = g.S.Space.message c.args.space.now in
+pub walk_target-returns-in-Err-clause-refused : goal.walk_target-returns-in-Err-clause-refused
+walk_target-returns-in-Err-clause-refused g t c =
     let x = c.in-Content in
-    let e = c.requires.target ∙ ap Ok x.is in
-    refuses-here m c.args.base c.args.at c.args.left c.args.depth _ c.stop.result
-    (visits-deep m c.args.base c.args.at x.segment x.start x.pads x.shape e c.args.depth (omega arith)) c.stop.ensures
+    step-refuses (g.S.Space.message c.args.space.now) c.args.base c.args.at c.args.depth c.args.left
+    (targets.Content x.segment x.start x.shape x.pads) c.in-Err.fault c.stop.result
+    (c.requires.target ∙ ap Ok x.is) c.in-Err.ensures.found c.stop.ensures
 
-pub walk_target-returns-then-price-left-clause-refused : goal.walk_target-returns-then-price-left-clause-refused
-walk_target-returns-then-price-left-clause-refused g t c =
-    let m = g.S.Space.message c.args.space.now in
+pub walk_target-returns-in-Err-clause-wanted : goal.walk_target-returns-in-Err-clause-wanted
+walk_target-returns-in-Err-clause-wanted g t c m =
     let x = c.in-Content in
-    let e = c.requires.target ∙ ap Ok x.is in
-    let p = c.price_of-price.ensures in
-    refuses-price m c.args.base c.args.at x.segment x.start x.pads x.shape c.args.left c.args.depth c.stop-then-price-left.result e
-    (omega arith) (omega arith) c.stop-then-price-left.ensures
+    let e = ap (λ (s : Stopped). s.fault) (sym c.stop.ensures) ∙ m in
+    absurd (stepped-memory c.args.base c.args.depth c.args.left (targets.Content x.segment x.start x.shape x.pads) (c.in-Err.ensures.found ∙ ap Err e))
 
 pub walk_target-object-requires : goal.walk_target-object-requires
 walk_target-object-requires g t c κs within =
@@ -68,20 +69,25 @@ walk_target-object-requires g t c κs within =
     let i = inside m c.args.at x.segment x.start x.pads x.shape e in
     let rows = i.1 in
     let n = slots-price c.args.base x.shape rows in
-    let p = c.price_of-price.ensures in
+    let p = c.in-Ok.ensures.price in
+    let k = content-taken c.args.base c.args.depth c.args.left x.segment x.start x.pads x.shape c.in-Ok.ensures.found in
+    let deep = k.0 in
+    let room = k.1 in
     let small : slot_count x.shape ≤ 2 ^ 28 = omega arith in
     let content : IsContent m (record { segment = x.segment; word = x.start }) (extent x.shape) =
     record { exists = present m c.args.at x.segment x.start x.pads x.shape c.requires.place e; within = i.0 } in
     search rules
 
-pub walk_target-overflow_add-result-in-Ok : goal.walk_target-overflow_add-result-in-Ok
-walk_target-overflow_add-result-in-Ok g t c =
+pub walk_target-overflow_add-result-in-Ok-object : goal.walk_target-overflow_add-result-in-Ok-object
+walk_target-overflow_add-result-in-Ok-object g t c =
     let m = g.S.Space.message c.args.space.now in
     let x = c.in-Content in
     let i = inside m c.args.at x.segment x.start x.pads x.shape (c.requires.target ∙ ap Ok x.is) in
     let n = slots-price c.args.base x.shape i.1 in
-    let p = c.price_of-price.ensures in
-    let r = c.in-Ok.ensures.pays in
+    let p = c.in-Ok.ensures.price in
+    let k = content-taken c.args.base c.args.depth c.args.left x.segment x.start x.pads x.shape c.in-Ok.ensures.found in
+    let room = k.1 in
+    let r = c.in-Ok-object.ensures.pays in
     let a = r.within in
     let b = r.few in
     omega arith
@@ -92,31 +98,40 @@ walk_target-behind-requires-clause-visits g t c =
     let x = c.in-Content in
     let i = inside m c.args.at x.segment x.start x.pads x.shape (c.requires.target ∙ ap Ok x.is) in
     let n = slots-price c.args.base x.shape i.1 in
-    let p = c.price_of-price.ensures in
-    let r = c.in-Err.ensures.refused in
+    let p = c.in-Ok.ensures.price in
+    let k = content-taken c.args.base c.args.depth c.args.left x.segment x.start x.pads x.shape c.in-Ok.ensures.found in
+    let room = k.1 in
+    let r = c.in-Err-object.ensures.refused in
     let a = r.within in
     let b = r.few in
     omega arith
 
-pub walk_target-returns-in-Ok-clause-pays : goal.walk_target-returns-in-Ok-clause-pays
-walk_target-returns-in-Ok-clause-pays g t c =
+pub walk_target-returns-in-Ok-object-clause-pays : goal.walk_target-returns-in-Ok-object-clause-pays
+walk_target-returns-in-Ok-object-clause-pays g t c =
     let m = g.S.Space.message c.args.space.now in
     let x = c.in-Content in
-    let p = c.price_of-price.ensures in
-    let h = rw p at c.in-Ok.ensures.pays in
+    let p = c.in-Ok.ensures.price in
+    let k = content-taken c.args.base c.args.depth c.args.left x.segment x.start x.pads x.shape c.in-Ok.ensures.found in
+    let h = rw p at c.in-Ok-object.ensures.pays in
     rw p
-    (gives-object m c.args.base c.args.at x.segment x.start x.pads x.shape (c.requires.target ∙ ap Ok x.is) c.args.left c.args.depth (omega arith) (omega arith)
-    c.in-Ok.found.paid c.in-Ok.found.visits h)
+    (gives-object m c.args.base c.args.at x.segment x.start x.pads x.shape (c.requires.target ∙ ap Ok x.is) c.args.left c.args.depth k.0 k.1
+    c.in-Ok-object.found.paid c.in-Ok-object.found.visits h)
 
-pub walk_target-returns-in-Err-clause-refused : goal.walk_target-returns-in-Err-clause-refused
-walk_target-returns-in-Err-clause-refused g t c =
+pub walk_target-returns-in-Err-object-clause-refused : goal.walk_target-returns-in-Err-object-clause-refused
+walk_target-returns-in-Err-object-clause-refused g t c =
     let m = g.S.Space.message c.args.space.now in
     let x = c.in-Content in
-    let p = c.price_of-price.ensures in
-    let h = rw p at c.in-Err.ensures.refused in
+    let p = c.in-Ok.ensures.price in
+    let k = content-taken c.args.base c.args.depth c.args.left x.segment x.start x.pads x.shape c.in-Ok.ensures.found in
+    let h = rw p at c.in-Err-object.ensures.refused in
     rw (c.behind.ensures, p)
-    (refuses-object m c.args.base c.args.at x.segment x.start x.pads x.shape (c.requires.target ∙ ap Ok x.is) c.args.left c.args.depth (omega arith) (omega arith)
-    c.in-Err.stopped h)
+    (refuses-object m c.args.base c.args.at x.segment x.start x.pads x.shape (c.requires.target ∙ ap Ok x.is) c.args.left c.args.depth k.0 k.1
+    c.in-Err-object.stopped h)
+
+pub walk_target-returns-in-Err-object-clause-wanted : goal.walk_target-returns-in-Err-object-clause-wanted
+walk_target-returns-in-Err-object-clause-wanted g t c m =
+    let h = ap (λ (r : Target). stepped c.args.base c.args.depth c.args.left (Ok r)) c.in-Content.is ∙ c.in-Ok.ensures.found in
+    subst IsEntered (sym h) tt
 
 -- ---- an object
 

@@ -1,6 +1,8 @@
-use Rattle.std.proofs.Common.{inr, ◌∙◌, arith}
+use Rattle.std.proofs.Common.{inr, ◌∙◌, ap, arith}
 use Rattle.std.proofs.lemmas.Result.{err_from_is_err_and}
 use Rattle.capn_value.specs.View.{tree_of}
+use Rattle.capn_value.specs.Sizes.{base}
+use Rattle.capn_walk.proofs.Stepped.{entered-root}
 use Rattle.capn_walk.proofs.RootWalks.{answered, refused-below, only-memory, one-value}
 use Rattle.capn_walk.proofs.walking.walk.Goals as goal
 
@@ -91,3 +93,18 @@ pub returns-clause-only : goal.returns-clause-only
 returns-clause-only g c v is =
     let here = c.in_ok-found.ensures.value in
     c.in-Ok.ensures.ok ∙ one-value (g.S.Space.message c.args.space.now) c.args.limits v (tree_of c.in_ok-found.found.value) here is
+
+pub returns-in_err-target-clause-wanted : goal.returns-in_err-target-clause-wanted
+returns-in_err-target-clause-wanted g c =
+    let p = err_from_is_err_and c.from_residual.result c.from_residual.ensures.1 in
+    rw (p.1, p.2) (λ m. absurd (c.in_err-target.ensures.memory m))
+
+pub returns-in_err-found-clause-wanted : goal.returns-in_err-found-clause-wanted
+returns-in_err-found-clause-wanted g c =
+    let t = c.in_ok-target.ensures in
+    let limits = c.args.limits in
+    let p = err_from_is_err_and c.from_residual-in_err-found.result c.from_residual-in_err-found.ensures.1 in
+    rw (p.1, p.2) (λ m. entered-root (g.S.Space.message c.args.space.now) c.base.result c.depth.result c.budget.result
+    (base limits.tariff) limits.depth limits.budget c.in_ok-target.target
+    (c.base.ensures.value ∙ ap base c.tariff.ensures) c.depth.ensures.value c.budget.ensures.value t.place t.target t.kind
+    (c.in_err-found.ensures.wanted m))
