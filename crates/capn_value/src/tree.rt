@@ -1,9 +1,10 @@
 //! Values that fit into a message.
 
-ghost use Rattle.std.specs.Prelude.{◌≡◌, ◌↔◌, ◌≤◌, IfOk, IfErr, IsOk, string_bytes};
+ghost use Rattle.std.specs.Prelude.{◌≡◌, ◌↔◌, ◌+◌, ◌*◌, ◌≤◌, IfOk, IfErr, IsOk, string_bytes};
 ghost use Rattle.capn_value.specs.View.{tree_of};
 ghost use Rattle.capn_value.specs.Sizes as sizes;
 ghost use Rattle.capn_value.specs.declared.tariff.Tariff.{Tariff};
+ghost use Rattle.capn_value.specs.declared.tariff.Tariff.TheVariants.{Plain};
 ghost use Rattle.capn_value.specs.Trim as cut;
 ghost use Rattle.capn_value.specs.Fits.{Fits, misfit};
 ghost use Rattle.capn_value.specs.Text as text;
@@ -86,7 +87,8 @@ impl<A: Allocator> Tree<A> {
 /// (encoding page: "Security Considerations"; rows have the depth of their list, own). Takes no memory.
 #[tactic(auto, using(crate::specs::Laws::Fitting::fit_parts))]
 pub fn height<A: Allocator>(tree: &Tree<A>) -> u32
-    ensures { result ≡ sizes.height tree.now }
+    ensures exact { result ≡ sizes.height tree.now }
+    ensures within { result ≤ 256 }
 {
     capped_height(&tree.value)
 }
@@ -95,7 +97,9 @@ pub fn height<A: Allocator>(tree: &Tree<A>) -> u32
 /// Considerations"): from 0 to 2^28 by the plain one, to 2^29 + 1 by the strict one. Takes no memory.
 #[tactic(auto, using(crate::specs::Laws::Tariffs::affordable))]
 pub fn cost<A: Allocator>(tree: &Tree<A>, tariff: Tariff) -> u32
-    ensures { result ≡ sizes.cost (sizes.base tariff) tree.now }
+    ensures exact { result ≡ sizes.cost (sizes.base tariff) tree.now }
+    ensures within { result ≤ 2 * sizes.most_cost + 1 }
+    ensures plain { tariff ≡ Plain → result ≤ sizes.most_cost }
 {
     capped_cost(&tree.value, tariff.base() as usize) as u32
 }

@@ -1,5 +1,5 @@
 -- What a value costs by one tariff and by the other.
-use Rattle.std.proofs.Common.{ℕ, ◌+◌, ◌*◌, ◌≤◌, arith}
+use Rattle.std.proofs.Common.{◌≡◌, ℕ, ◌+◌, ◌*◌, ◌≤◌, arith}
 use Rattle.capn_value.specs.declared.tariff.Tariff.{Tariff}
 use Rattle.capn_value.specs.declared.tariff.Tariff.TheVariants.{Strict, Plain}
 use Rattle.capn_value.specs.Tree.{Tree, nil, node, voids, bits, bytes, pairs, quads, octs, links, rows, cap, Trees, no_trees, tree, Bodies, no_bodies, body, count, row_words}
@@ -59,3 +59,8 @@ mutual
 pub affordable : (tariff : Tariff) (t : Tree) → Fits t → cost (base tariff) t + 1 ≤ dear
 affordable Strict t h = let cheap = (fit_parts t h).cheap in omega (arith, cost-doubled t)
 affordable Plain t h = let cheap = (fit_parts t h).cheap in omega arith
+
+-- by the plain one it costs at most what a value may
+pub plainly_cheap : (tariff : Tariff) (t : Tree) → Fits t → tariff ≡ Plain → cost (base tariff) t ≤ most_cost
+plainly_cheap Plain t h e = (fit_parts t h).cheap
+plainly_cheap Strict t h e = absurd cc

@@ -1,0 +1,14 @@
+use Rattle.std.proofs.Common.{◌≤◌, ◌∙◌, ap, min, ℕ, arith}
+use Rattle.std.proofs.lemmas.Grind.{common_steps}
+use Rattle.capn_value.specs.View.{tree_of}
+use Rattle.capn_value.specs.Sizes.{base, cost, most_cost, dear}
+use Rattle.capn_value.specs.Laws.Tariffs.{affordable, plainly_cheap}
+use Rattle.capn_value.proofs.tree.cost.Goals as goal
+
+pub returns-clause-plain : goal.returns-clause-plain
+returns-clause-plain g c e =
+    let t = tree_of c.tree.inside.value in
+    let fits = c.tree.invariant.0 in
+    let cheap = plainly_cheap c.args.tariff t fits e in
+    let same = c.capped_cost.ensures.value ∙ ap (λ (b : ℕ). min (cost b t) dear) c.base.ensures.value in
+    omega (arith, cheap, same)
