@@ -6,6 +6,7 @@ pub mod OneRefusal
 pub mod OneText
 pub mod Sends
 pub mod Verdicts
+pub mod Entered
 pub mod HeardMore
 pub mod HeardNext
 pub mod HeardRun

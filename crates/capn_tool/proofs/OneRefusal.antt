@@ -20,7 +20,7 @@ use Rattle.capn_stream.specs.Laws.FrameLaws as frame_laws
 use Rattle.capn_value.specs.Tree.{Tree}
 use Rattle.capn_value.specs.Caps.{first_cap}
 use Rattle.capn_walk.specs.declared.walked.Stopped.{Stopped}
-use Rattle.capn_walk.specs.Accepted.{root, root_visits}
+use Rattle.capn_walk.specs.Accepted.{root}
 use Rattle.capn_walk.specs.Verdict.{refused}
 use Rattle.capn_walk.specs.Denotes as walks
 use Rattle.capn_walk.specs.Limits.{Bounds}
@@ -211,70 +211,70 @@ not_misread forms.Packed bs most m r h k = packed_read bs most m r h (packed_par
 same_stopped : (s t : Stopped) → s.fault ≡ t.fault → s.place ≡ t.place → s.paid ≡ t.paid → s.visits ≡ t.visits → s ≡ t
 same_stopped s t a b c d = λ i. record { fault = a i; place = b i; paid = c i; visits = d i }
 
-module _ (m : List (List ℕ)) (each budget depth : ℕ) where
+module _ (m : List (List ℕ)) (limits : Bounds) where
   -- a walk stops at one place
-  pub one_stop : (s t : Stopped) → walks.IsRefused m each budget depth s.fault s.place s.paid s.visits → walks.IsRefused m each budget depth t.fault t.place t.paid t.visits → s ≡ t
+  pub one_stop : (s t : Stopped) → walks.IsRefused m limits s.fault s.place s.paid s.visits → walks.IsRefused m limits t.fault t.place t.paid t.visits → s ≡ t
   one_stop s t (inl h) (inl k) = same_stopped s t (h.1 ∙ sym k.1) (h.2 ∙ sym k.2) (h.3 ∙ sym k.3) (h.4 ∙ sym k.4)
   one_stop s t (inl h) (inr k) = let a = h.0 in let b = k.0 in absurd (omega arith)
   one_stop s t (inr h) (inl k) = let a = h.0 in let b = k.0 in absurd (omega arith)
   one_stop s t (inr h) (inr k) =
-      let visits = root_visits m each depth in
+      let visits = walks.visits_within m limits in
       let e : refused s.fault s.place s.paid s.visits ≡ refused t.fault t.place t.paid t.visits =
-      sym (stop-refused budget visits s.fault s.place s.paid s.visits h.1) ∙ stop-refused budget visits t.fault t.place t.paid t.visits k.1 in
+      sym (stop-refused limits.budget visits s.fault s.place s.paid s.visits h.1) ∙ stop-refused limits.budget visits t.fault t.place t.paid t.visits k.1 in
       same_stopped s t (cc) (cc) (cc) (cc)
 
-abbrev WalkPart : List (List ℕ) → ℕ → Bounds → Refusal → Type 0
-WalkPart m each limits r = (s : Stopped) × (r ≡ refusals.Walk s) × walks.IsRefused m each limits.budget limits.depth s.fault s.place s.paid s.visits
+abbrev WalkPart : List (List ℕ) → Bounds → Refusal → Type 0
+WalkPart m limits r = (s : Stopped) × (r ≡ refusals.Walk s) × walks.IsRefused m limits s.fault s.place s.paid s.visits
 
-abbrev CapPart : List (List ℕ) → ℕ → Bounds → Refusal → Type 0
-CapPart m each limits r = (k : ℕ) × (r ≡ refusals.Capability k) × ((v : Tree) × walks.IsValueOf m each limits.budget limits.depth v × (first_cap v ≡ Some k))
+abbrev CapPart : List (List ℕ) → Bounds → Refusal → Type 0
+CapPart m limits r = (k : ℕ) × (r ≡ refusals.Capability k) × ((v : Tree) × walks.IsValueOf m limits v × (first_cap v ≡ Some k))
 
-pub message_part : (m : List (List ℕ)) (each : ℕ) (limits : Bounds) (r : Refusal) → (r ≡ refusals.Memory → ⊥) → IsRefusedMessage m each limits r → WalkPart m each limits r ⊎ CapPart m each limits r
-message_part m each limits (refusals.Walk s) n h = inl (s, refl, h)
-message_part m each limits (refusals.Capability k) n h = inr (k, refl, h)
-message_part m each limits refusals.Memory n h = absurd (n refl)
-message_part m each limits (refusals.Bare e) n h = absurd h
-message_part m each limits (refusals.Packed e) n h = absurd h
-message_part m each limits (refusals.Frame e) n h = absurd h
-message_part m each limits (refusals.Trailing at) n h = absurd h
+pub message_part : (m : List (List ℕ)) (limits : Bounds) (r : Refusal) → (r ≡ refusals.Memory → ⊥) → IsRefusedMessage m limits r → WalkPart m limits r ⊎ CapPart m limits r
+message_part m limits (refusals.Walk s) n h = inl (s, refl, h)
+message_part m limits (refusals.Capability k) n h = inr (k, refl, h)
+message_part m limits refusals.Memory n h = absurd (n refl)
+message_part m limits (refusals.Bare e) n h = absurd h
+message_part m limits (refusals.Packed e) n h = absurd h
+message_part m limits (refusals.Frame e) n h = absurd h
+message_part m limits (refusals.Trailing at) n h = absurd h
 
-messages_same : (m : List (List ℕ)) (each : ℕ) (limits : Bounds) (r s : Refusal) → WalkPart m each limits r ⊎ CapPart m each limits r → WalkPart m each limits s ⊎ CapPart m each limits s → r ≡ s
-messages_same m each limits r s (inl (p, a, h)) (inl (q, b, k)) = a ∙ ap (λ (x : Stopped). refusals.Walk x) (one_stop m each limits.budget limits.depth p q h k) ∙ sym b
-messages_same m each limits r s (inl (p, a, h)) (inr (n, b, (v, is, c))) = absurd (accepted-not_refused m each limits.budget limits.depth p is.accepted h)
-messages_same m each limits r s (inr (n, b, (v, is, c))) (inl (p, a, h)) = absurd (accepted-not_refused m each limits.budget limits.depth p is.accepted h)
-messages_same m each limits r s (inr (j, a, (v, is, c))) (inr (k, b, (w, also, d))) =
+messages_same : (m : List (List ℕ)) (limits : Bounds) (r s : Refusal) → WalkPart m limits r ⊎ CapPart m limits r → WalkPart m limits s ⊎ CapPart m limits s → r ≡ s
+messages_same m limits r s (inl (p, a, h)) (inl (q, b, k)) = a ∙ ap (λ (x : Stopped). refusals.Walk x) (one_stop m limits p q h k) ∙ sym b
+messages_same m limits r s (inl (p, a, h)) (inr (n, b, (v, is, c))) = absurd (accepted-not_refused m limits p is.accepted h)
+messages_same m limits r s (inr (n, b, (v, is, c))) (inl (p, a, h)) = absurd (accepted-not_refused m limits p is.accepted h)
+messages_same m limits r s (inr (j, a, (v, is, c))) (inr (k, b, (w, also, d))) =
     let e : Some j ≡ Some k = sym c ∙ ap first_cap (unique m v w root is.is also.is) ∙ d in
     let same : j ≡ k = cc in
     a ∙ ap (λ (x : ℕ). refusals.Capability x) same ∙ sym b
 
-pub one_message_refusal : (m : List (List ℕ)) (each : ℕ) (limits : Bounds) (r s : Refusal) → (r ≡ refusals.Memory → ⊥) → (s ≡ refusals.Memory → ⊥)
-    → IsRefusedMessage m each limits r → IsRefusedMessage m each limits s → r ≡ s
-one_message_refusal m each limits r s nr ns h k = messages_same m each limits r s (message_part m each limits r nr h) (message_part m each limits s ns k)
+pub one_message_refusal : (m : List (List ℕ)) (limits : Bounds) (r s : Refusal) → (r ≡ refusals.Memory → ⊥) → (s ≡ refusals.Memory → ⊥)
+    → IsRefusedMessage m limits r → IsRefusedMessage m limits s → r ≡ s
+one_message_refusal m limits r s nr ns h k = messages_same m limits r s (message_part m limits r nr h) (message_part m limits s ns k)
 
 -- ---- bytes in a form
 
-abbrev MessagePart : Form → List ℕ → ℕ → Bounds → Refusal → Type 0
-MessagePart form bs each limits r = (m : List (List ℕ)) × Reads form bs limits.message_words m × IsRefusedMessage m each limits r
+abbrev MessagePart : Form → List ℕ → Bounds → Refusal → Type 0
+MessagePart form bs limits r = (m : List (List ℕ)) × Reads form bs limits.message_words m × IsRefusedMessage m limits r
 
-refusal_part : (form : Form) (bs : List ℕ) (each : ℕ) (limits : Bounds) (r : Refusal) → (r ≡ refusals.Memory → ⊥) → IsRefused form bs each limits r → MessagePart form bs each limits r ⊎ IsMisread form bs limits.message_words r
-refusal_part form bs each limits (refusals.Walk s) n h = inl h
-refusal_part form bs each limits (refusals.Capability k) n h = inl h
-refusal_part form bs each limits refusals.Memory n h = absurd (n refl)
-refusal_part form bs each limits (refusals.Bare e) n h = inr h
-refusal_part form bs each limits (refusals.Packed e) n h = inr h
-refusal_part form bs each limits (refusals.Frame e) n h = inr h
-refusal_part form bs each limits (refusals.Trailing at) n h = inr h
+refusal_part : (form : Form) (bs : List ℕ) (limits : Bounds) (r : Refusal) → (r ≡ refusals.Memory → ⊥) → IsRefused form bs limits r → MessagePart form bs limits r ⊎ IsMisread form bs limits.message_words r
+refusal_part form bs limits (refusals.Walk s) n h = inl h
+refusal_part form bs limits (refusals.Capability k) n h = inl h
+refusal_part form bs limits refusals.Memory n h = absurd (n refl)
+refusal_part form bs limits (refusals.Bare e) n h = inr h
+refusal_part form bs limits (refusals.Packed e) n h = inr h
+refusal_part form bs limits (refusals.Frame e) n h = inr h
+refusal_part form bs limits (refusals.Trailing at) n h = inr h
 
-refusals_same : (form : Form) (bs : List ℕ) (each : ℕ) (limits : Bounds) (r s : Refusal) → (r ≡ refusals.Memory → ⊥) → (s ≡ refusals.Memory → ⊥)
-    → MessagePart form bs each limits r ⊎ IsMisread form bs limits.message_words r → MessagePart form bs each limits s ⊎ IsMisread form bs limits.message_words s → r ≡ s
-refusals_same form bs each limits r s nr ns (inl (m, h, i)) (inl (n, k, j)) =
+refusals_same : (form : Form) (bs : List ℕ) (limits : Bounds) (r s : Refusal) → (r ≡ refusals.Memory → ⊥) → (s ≡ refusals.Memory → ⊥)
+    → MessagePart form bs limits r ⊎ IsMisread form bs limits.message_words r → MessagePart form bs limits s ⊎ IsMisread form bs limits.message_words s → r ≡ s
+refusals_same form bs limits r s nr ns (inl (m, h, i)) (inl (n, k, j)) =
     let same = one_message form bs limits.message_words n m k h in
-    one_message_refusal m each limits r s nr ns i (subst (λ (x : List (List ℕ)). IsRefusedMessage x each limits s) same j)
-refusals_same form bs each limits r s nr ns (inl (m, h, i)) (inr k) = absurd (not_misread form bs limits.message_words m s h k)
-refusals_same form bs each limits r s nr ns (inr h) (inl (m, k, j)) = absurd (not_misread form bs limits.message_words m r k h)
-refusals_same form bs each limits r s nr ns (inr h) (inr k) = one_misread form bs limits.message_words r s h k
+    one_message_refusal m limits r s nr ns i (subst (λ (x : List (List ℕ)). IsRefusedMessage x limits s) same j)
+refusals_same form bs limits r s nr ns (inl (m, h, i)) (inr k) = absurd (not_misread form bs limits.message_words m s h k)
+refusals_same form bs limits r s nr ns (inr h) (inl (m, k, j)) = absurd (not_misread form bs limits.message_words m r k h)
+refusals_same form bs limits r s nr ns (inr h) (inr k) = one_misread form bs limits.message_words r s h k
 
 -- bytes are refused for one reason, but for want of memory
-pub one_refusal : (form : Form) (bs : List ℕ) (each : ℕ) (limits : Bounds) (r s : Refusal) → (r ≡ refusals.Memory → ⊥) → (s ≡ refusals.Memory → ⊥)
-    → IsRefused form bs each limits r → IsRefused form bs each limits s → r ≡ s
-one_refusal form bs each limits r s nr ns h k = refusals_same form bs each limits r s nr ns (refusal_part form bs each limits r nr h) (refusal_part form bs each limits s ns k)
+pub one_refusal : (form : Form) (bs : List ℕ) (limits : Bounds) (r s : Refusal) → (r ≡ refusals.Memory → ⊥) → (s ≡ refusals.Memory → ⊥)
+    → IsRefused form bs limits r → IsRefused form bs limits s → r ≡ s
+one_refusal form bs limits r s nr ns h k = refusals_same form bs limits r s nr ns (refusal_part form bs limits r nr h) (refusal_part form bs limits s ns k)

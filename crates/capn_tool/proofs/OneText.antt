@@ -59,27 +59,27 @@ module _ (message : List (List ℕ)) (limits : Bounds) where
       let same : bytes ≡ other = a.canonical ∙ ap canon (unique message a.value b.value root a.is.is b.is.is) ∙ sym b.canonical in
       e ∙ ap digest_line same ∙ sym f
 
-  no_stop : (v : Tree) (fault : ToolFault) → IsValueOf message 1 limits.budget limits.depth v → IsStopped message limits fault → ⊥
-  no_stop v fault is (s, e, h) = accepted-not_refused message 1 limits.budget limits.depth s is.accepted h
+  no_stop : (v : Tree) (fault : ToolFault) → IsValueOf message limits v → IsStopped message limits fault → ⊥
+  no_stop v fault is (s, e, h) = accepted-not_refused message limits s is.accepted h
 
   pub piece_or_none : (piece : Piece) (t : List ℕ) (fault : ToolFault) → IsPiece piece message limits t → IsNoPiece piece message limits fault → ⊥
   piece_or_none kinds.Text t fault (v, is, e) h = no_stop v fault is h
   piece_or_none kinds.Price t fault (v, is, e) h = no_stop v fault is h
   piece_or_none kinds.Digest t fault (bytes, price, a, e) (r, f, n, h) =
-      elim (message_part message 1 limits r n h) [
-        | inl p ↦ accepted-not_refused message 1 limits.budget limits.depth p.0 a.is.accepted p.2
+      elim (message_part message limits r n h) [
+        | inl p ↦ accepted-not_refused message limits p.0 a.is.accepted p.2
         | inr p ↦
             let bad : Some p.0 ≡ None = sym p.2.2 ∙ ap first_cap (unique message p.2.0 a.value root p.2.1.is a.is.is) ∙ a.free in
             absurd (cc)
       ]
 
   stops_same : (f g : ToolFault) → IsStopped message limits f → IsStopped message limits g → f ≡ g
-  stops_same f g (s, e, h) (t, i, k) = e ∙ ap (λ (x : Stopped). faults.Refused (refusals.Walk x)) (one_stop message 1 limits.budget limits.depth s t h k) ∙ sym i
+  stops_same f g (s, e, h) (t, i, k) = e ∙ ap (λ (x : Stopped). faults.Refused (refusals.Walk x)) (one_stop message limits s t h k) ∙ sym i
 
   pub one_no_piece : (piece : Piece) (f g : ToolFault) → IsNoPiece piece message limits f → IsNoPiece piece message limits g → f ≡ g
   one_no_piece kinds.Text f g h k = stops_same f g h k
   one_no_piece kinds.Price f g h k = stops_same f g h k
-  one_no_piece kinds.Digest f g (r, e, n, h) (s, i, o, k) = e ∙ ap (λ (x : Refusal). faults.Refused x) (one_message_refusal message 1 limits r s n o h k) ∙ sym i
+  one_no_piece kinds.Digest f g (r, e, n, h) (s, i, o, k) = e ∙ ap (λ (x : Refusal). faults.Refused x) (one_message_refusal message limits r s n o h k) ∙ sym i
 
 module _ (words : List ℕ) (limits : Bounds) where
   one_bare_piece : (piece : Piece) (t u : List ℕ) → IsBarePiece piece words limits t → IsBarePiece piece words limits u → t ≡ u
@@ -102,14 +102,14 @@ module _ (words : List ℕ) (limits : Bounds) where
 same_words : (bytes ws vs : List ℕ) → IsBare bytes ws → IsBare bytes vs → ws ≡ vs
 same_words bytes ws vs h k = sym (bare_only bytes ws h) ∙ bare_only bytes vs k
 
-denoted : (form : Form) (bytes : List ℕ) (limits : Bounds) (t : List ℕ) (price : ℕ) (a : Answers form bytes 1 limits t price) → Denotes form bytes 1 limits a.answer.value
+denoted : (form : Form) (bytes : List ℕ) (limits : Bounds) (t : List ℕ) (price : ℕ) (a : Answers form bytes limits t price) → Denotes form bytes limits a.answer.value
 denoted form bytes limits t price a = record { message = a.message; reads = a.reads; value = a.answer.is }
 
 one_made : (whole : Whole) (bytes t u : List ℕ) → Makes whole bytes t → Makes whole bytes u → t ≡ u
 one_made wholes.Packed bytes t u h k = chosen.one_text t u bytes h k
 one_made (wholes.Unpacked most) bytes t u h k = one_reading bytes t u h.0 k.0
 one_made (wholes.Canonical form limits) bytes t u (p, a) (q, b) =
-    answers_only form bytes 1 limits t p a b.answer.value (denoted form bytes limits u q b) ∙ sym b.answer.canonical
+    answers_only form bytes limits t p a b.answer.value (denoted form bytes limits u q b) ∙ sym b.answer.canonical
 one_made (wholes.Bare piece limits) bytes t u (ws, h, i) (vs, k, j) =
     one_bare_piece vs limits piece t u (subst (λ (x : List ℕ). IsBarePiece piece x limits t) (same_words bytes ws vs h k) i) j
 
@@ -117,7 +117,7 @@ made_or_none : (whole : Whole) (bytes t : List ℕ) (fault : ToolFault) → Make
 made_or_none wholes.Packed bytes t fault h k = k.0 (chosen_whole t bytes h)
 made_or_none (wholes.Unpacked most) bytes t fault h (e, f, n, k) = n (refused_only e bytes t most k h.0 h.1)
 made_or_none (wholes.Canonical form limits) bytes t fault (p, a) (r, f, n, k) =
-    n (not_refused form bytes 1 limits a.answer.value r (denoted form bytes limits t p a) a.answer.free k)
+    n (not_refused form bytes limits a.answer.value r (denoted form bytes limits t p a) a.answer.free k)
 made_or_none (wholes.Bare piece limits) bytes t fault (ws, h, i) (inl (e, f, k)) = bare_not_misread bytes ws e h k
 made_or_none (wholes.Bare piece limits) bytes t fault (ws, h, i) (inr (vs, k, j)) =
     bare_or_none vs limits piece t fault (subst (λ (x : List ℕ). IsBarePiece piece x limits t) (same_words bytes ws vs h k) i) j
@@ -127,7 +127,7 @@ one_nothing wholes.Packed bytes f g h k = h.1 ∙ sym k.1
 one_nothing (wholes.Unpacked most) bytes f g (e, a, n, h) (d, b, o, k) =
     a ∙ ap (λ (x : UnpackFault). faults.Refused (refusals.Packed x)) (one_unpack_fault bytes most e d h k n o) ∙ sym b
 one_nothing (wholes.Canonical form limits) bytes f g (r, a, n, h) (s, b, o, k) =
-    a ∙ ap (λ (x : Refusal). faults.Refused x) (one_refusal form bytes 1 limits r s n o h k) ∙ sym b
+    a ∙ ap (λ (x : Refusal). faults.Refused x) (one_refusal form bytes limits r s n o h k) ∙ sym b
 one_nothing (wholes.Bare piece limits) bytes f g (inl (e, a, h)) (inl (d, b, k)) =
     a ∙ ap (λ (x : BareFault). faults.Refused (refusals.Bare x)) (one_bare_fault bytes e d h k) ∙ sym b
 one_nothing (wholes.Bare piece limits) bytes f g (inl (e, a, h)) (inr (vs, k, j)) = absurd (bare_not_misread bytes vs e k h)

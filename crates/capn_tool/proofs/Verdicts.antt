@@ -8,9 +8,9 @@ use Rattle.capn_tool.specs.Pieces.{AreCanonical, IsBarePiece, PutsBarePiece, Put
 use Rattle.capn_tool.specs.declared.plan.Piece.TheVariants as kinds
 use Rattle.capn_tool.specs.declared.fault.ToolFault.{ToolFault}
 
-module _ (words : List ℕ) (limits : Bounds) (c : Checked) (told : IsCheck words 1 limits.budget limits.depth c) where
-  same_line : (behind : List ℕ) → priced c.paid c.visits behind ≡ priced (paid (words ∷ []) 1 limits.depth) (number_of_visits (words ∷ []) 1 limits.depth) behind
-  same_line behind = ap (λ (n : ℕ). priced n c.visits behind) told.pays ∙ ap (λ (n : ℕ). priced (paid (words ∷ []) 1 limits.depth) n behind) told.counts
+module _ (words : List ℕ) (limits : Bounds) (c : Checked) (told : IsCheck words limits c) where
+  same_line : (behind : List ℕ) → priced c.paid c.visits behind ≡ priced (paid (words ∷ []) limits) (number_of_visits (words ∷ []) limits) behind
+  same_line behind = ap (λ (n : ℕ). priced n c.visits behind) told.pays ∙ ap (λ (n : ℕ). priced (paid (words ∷ []) limits) n behind) told.counts
 
   yes : c.is_canonical ≡ true → AreCanonical told.value words
   yes e = told.answer.0 e

@@ -32,10 +32,18 @@ form_rule = record (new_rule (codes "form")) {
   defaults = codes "stream" ∷ [];
 }
 
--- a command over messages takes a form and three limits
+-- the tariff of the prices, the strict one where none is given
+abbrev pub tariff_rule : Rule
+tariff_rule = record (new_rule (codes "tariff")) {
+  long = Some (codes "tariff");
+  value_names = 1;
+  defaults = codes "strict" ∷ [];
+}
+
+-- a command over messages takes a form, three limits and a tariff
 abbrev pub message_line : Text → App
 message_line name =
-    with_rule (with_rule (with_rule (with_rule (new_app name) form_rule) words_rule) budget_rule) depth_rule
+    with_rule (with_rule (with_rule (with_rule (with_rule (new_app name) form_rule) words_rule) budget_rule) depth_rule) tariff_rule
 
 -- `pack` takes no option
 abbrev pub pack_line : App

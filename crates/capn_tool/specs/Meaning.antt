@@ -2,15 +2,14 @@
 use Rattle.std.specs.Prelude.{ℕ, ◌≡◌, ◌+◌, List, Option, Some, None, codes}
 use Rattle.std.specs.Str.Parse.{IsNumeral, digits_value, without_leading_plus}
 use Rattle.clap.specs.Words.{Row, Text, first_of, one_of}
+use Rattle.capn_value.specs.declared.tariff.Tariff.{Tariff}
+use Rattle.capn_value.specs.declared.tariff.Tariff.TheVariants as tariffs
 use Rattle.capn_walk.specs.Limits.{Bounds}
+use Rattle.capn_canon.specs.Reads.{most_table_words}
 use Rattle.capn_canon.specs.declared.form.Form.{Form}
 use Rattle.capn_canon.specs.declared.form.Form.TheVariants as forms
 use Rattle.capn_tool.specs.declared.orders.Command.{Command}
 use Rattle.capn_tool.specs.declared.orders.Command.TheVariants as commands
-
--- the words of the longest segment table: the count and the sizes of 512 segments, 4 bytes each, and padding
-abbrev pub longest_table : ℕ
-longest_table = 257
 
 abbrev pub form_name : Form → Text
 form_name forms.Stream = codes "stream"
@@ -21,21 +20,30 @@ form_name forms.Bare = codes "bare"
 abbrev pub FormIs : List Row → Form → Type 0
 FormIs rows form = first_of (codes "form") rows ≡ Some (form_name form)
 
+abbrev pub tariff_name : Tariff → Text
+tariff_name tariffs.Strict = codes "strict"
+tariff_name tariffs.Plain = codes "plain"
+
+-- the value of --tariff, given or usual, is the tariff's name
+abbrev pub TariffIs : List Row → Tariff → Type 0
+TariffIs rows tariff = first_of (codes "tariff") rows ≡ Some (tariff_name tariff)
+
 -- the value of the option, given or usual, is n in decimal digits
 abbrev pub NumberIs : List Row → Text → ℕ → Type 0
 NumberIs rows option n = (text : Text) × (one_of option rows ≡ Some text)
     × IsNumeral 10 (without_leading_plus text) × (n ≡ digits_value 10 (without_leading_plus text))
 
--- the values of the three number options are the numbers of the limits
+-- the values of the three number options are the numbers of the limits, and that of --tariff names their tariff
 abbrev pub LimitsAre : List Row → Bounds → Type 0
 LimitsAre rows limits =
     NumberIs rows (codes "message-words") limits.message_words
     × NumberIs rows (codes "budget") limits.budget
     × NumberIs rows (codes "depth") limits.depth
+    × TariffIs rows limits.tariff
 
 -- the words of a message, by their option, and those of the longest table
 abbrev pub UnpackedIs : List Row → ℕ → Type 0
-UnpackedIs rows most = (n : ℕ) × NumberIs rows (codes "message-words") n × (most ≡ n + longest_table)
+UnpackedIs rows most = (n : ℕ) × NumberIs rows (codes "message-words") n × (most ≡ n + most_table_words)
 
 -- the subcommand of this name, with these values, orders this
 abbrev pub Means : Option (Text × List Row) → Command → Type 0

@@ -37,23 +37,23 @@ digest_line text = encode_lower (sha256 text) ++ 10 ∷ []
 -- its price; or the line of the digest of its canonical bytes.
 abbrev pub IsPiece : Piece → List (List ℕ) → Bounds → List ℕ → Type 0
 IsPiece kinds.Text message limits text =
-    (v : Tree) × IsValueOf message 1 limits.budget limits.depth v × (text ≡ show_text v ++ (codes "end" ++ 10 ∷ []))
+    (v : Tree) × IsValueOf message limits v × (text ≡ show_text v ++ (codes "end" ++ 10 ∷ []))
 IsPiece kinds.Price message limits text =
-    (v : Tree) × IsValueOf message 1 limits.budget limits.depth v × (text ≡ price_line (paid message 1 limits.depth) (number_of_visits message 1 limits.depth))
+    (v : Tree) × IsValueOf message limits v × (text ≡ price_line (paid message limits) (number_of_visits message limits))
 IsPiece kinds.Digest message limits text =
-    (answer : List ℕ) × (price : ℕ) × AnswersMessage message 1 limits answer price × (text ≡ digest_line answer)
+    (answer : List ℕ) × (price : ℕ) × AnswersMessage message limits answer price × (text ≡ digest_line answer)
 
 -- the walk of the message is refused so
 abbrev pub IsStopped : List (List ℕ) → Bounds → ToolFault → Type 0
 IsStopped message limits fault =
-    (s : Stopped) × (fault ≡ faults.Refused (refusals.Walk s)) × walks.IsRefused message 1 limits.budget limits.depth s.fault s.place s.paid s.visits
+    (s : Stopped) × (fault ≡ faults.Refused (refusals.Walk s)) × walks.IsRefused message limits s.fault s.place s.paid s.visits
 
 -- why a message has no piece: its walk is refused; for the digest also that its value has a capability
 abbrev pub IsNoPiece : Piece → List (List ℕ) → Bounds → ToolFault → Type 0
 IsNoPiece kinds.Text message limits fault = IsStopped message limits fault
 IsNoPiece kinds.Price message limits fault = IsStopped message limits fault
 IsNoPiece kinds.Digest message limits fault =
-    (r : Refusal) × (fault ≡ faults.Refused r) × (r ≢ refusals.Memory) × IsRefusedMessage message 1 limits r
+    (r : Refusal) × (fault ≡ faults.Refused r) × (r ≢ refusals.Memory) × IsRefusedMessage message limits r
 
 -- the bytes of the words are the canonical bytes of the value, which has no capability
 abbrev pub AreCanonical : Tree → List ℕ → Type 0
@@ -64,9 +64,9 @@ AreCanonical v words = (first_cap v ≡ None) × (canon v ≡ bytes words)
 abbrev pub IsBarePiece : Piece → List ℕ → Bounds → List ℕ → Type 0
 IsBarePiece kinds.Text words limits text = IsPiece kinds.Text (words ∷ []) limits text
 IsBarePiece kinds.Price words limits text =
-    (v : Tree) × IsValueOf (words ∷ []) 1 limits.budget limits.depth v
-    × ((AreCanonical v words × (text ≡ priced (paid (words ∷ []) 1 limits.depth) (number_of_visits (words ∷ []) 1 limits.depth) (codes " canonical" ++ 10 ∷ [])))
-    ⊎ ((AreCanonical v words → ⊥) × (text ≡ priced (paid (words ∷ []) 1 limits.depth) (number_of_visits (words ∷ []) 1 limits.depth) (codes " not-canonical" ++ 10 ∷ []))))
+    (v : Tree) × IsValueOf (words ∷ []) limits v
+    × ((AreCanonical v words × (text ≡ priced (paid (words ∷ []) limits) (number_of_visits (words ∷ []) limits) (codes " canonical" ++ 10 ∷ [])))
+    ⊎ ((AreCanonical v words → ⊥) × (text ≡ priced (paid (words ∷ []) limits) (number_of_visits (words ∷ []) limits) (codes " not-canonical" ++ 10 ∷ []))))
 IsBarePiece kinds.Digest words limits text = IsPiece kinds.Digest (words ∷ []) limits text
 
 -- a call appended the piece to a text; or it told why there is none, but for want of memory, and left the text as it was

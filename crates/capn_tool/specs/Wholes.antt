@@ -22,7 +22,7 @@ use Rattle.capn_tool.specs.declared.fault.ToolFault.TheVariants as faults
 abbrev pub Makes : Whole → List ℕ → List ℕ → Type 0
 Makes wholes.Packed bytes text = Chosen text bytes
 Makes (wholes.Unpacked most) bytes text = Packs bytes text × (length text ≤ 8 * most)
-Makes (wholes.Canonical form limits) bytes text = (price : ℕ) × Answers form bytes 1 limits text price
+Makes (wholes.Canonical form limits) bytes text = (price : ℕ) × Answers form bytes limits text price
 Makes (wholes.Bare piece limits) bytes text = (words : List ℕ) × IsBare bytes words × IsBarePiece piece words limits text
 
 -- Why nothing is: the bytes are no whole words; they pack no words, or more; they have no canonical bytes in the form; or
@@ -32,7 +32,7 @@ MakesNothing wholes.Packed bytes fault = (length bytes % 8 ≢ 0) × (fault ≡ 
 MakesNothing (wholes.Unpacked most) bytes fault =
     (e : UnpackFault) × (fault ≡ faults.Refused (refusals.Packed e)) × (e ≢ unpack_faults.Memory) × packs.IsRefused bytes most e
 MakesNothing (wholes.Canonical form limits) bytes fault =
-    (r : Refusal) × (fault ≡ faults.Refused r) × (r ≢ refusals.Memory) × IsRefused form bytes 1 limits r
+    (r : Refusal) × (fault ≡ faults.Refused r) × (r ≢ refusals.Memory) × IsRefused form bytes limits r
 MakesNothing (wholes.Bare piece limits) bytes fault =
     ((e : BareFault) × (fault ≡ faults.Refused (refusals.Bare e)) × ReadsBare bytes (Err e))
     ⊎ ((words : List ℕ) × IsBare bytes words × IsNoPiece piece (words ∷ []) limits fault)

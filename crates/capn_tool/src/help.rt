@@ -154,5 +154,12 @@ from 0 to 268435456";
 pub const DEPTH: &str = "The most objects that may stand one below the other,
 from 1 to 256; the root object has depth 1";
 
+/// `--tariff`.
+pub const TARIFF: &str = "How a visit is priced, beside the words that it leads to: `strict` adds 1
+for each struct and list, and `plain` nothing";
+
+/// What is said where `--tariff` has a value that the command does not take.
+pub const NO_SUCH_TARIFF: &str = "--tariff takes strict or plain";
+
 /// What is said where `--form` has a value that the command does not take.
 pub const NO_SUCH_FORM: &str = "--form takes stream, packed or bare";

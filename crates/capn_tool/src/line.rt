@@ -3,21 +3,19 @@
 ghost use Rattle.std.specs.Prelude.{IfOk, IfSome, Some, map};
 ghost use Rattle.clap.specs.Words.{found_of, rows_of, subcommand_of};
 ghost use Rattle.capn_tool.specs.Line.{tool_line};
-ghost use Rattle.capn_tool.specs.Meaning.{Means, FormIs, LimitsAre, NumberIs, UnpackedIs};
+ghost use Rattle.capn_tool.specs.Meaning.{Means, FormIs, TariffIs, LimitsAre, NumberIs, UnpackedIs};
 
 use crate::help;
 use crate::misuse::Usage;
 use crate::orders::Command;
 use crate::subcommands::tool_command;
-use capn_canon::Form;
+use capn_canon::{Form, MOST_TABLE_WORDS};
+use capn_value::Tariff;
 use capn_walk::Limits;
 use clap::ArgMatches;
 use clap::error::ErrorKind;
 use std::alloc::Global;
 use std::convert::AsStr;
-
-/// The words of the longest segment table: 512 segments have 4 bytes each, and their count and the padding 8.
-const LONGEST_TABLE: u32 = 257;
 
 /// The form that `--form` names, if it names one.
 fn form_of(matches: &ArgMatches) -> Option<Form>
@@ -31,6 +29,17 @@ fn form_of(matches: &ArgMatches) -> Option<Form>
     }
 }
 
+/// The tariff that `--tariff` names, if it names one.
+fn tariff_of(matches: &ArgMatches) -> Option<Tariff>
+    ensures { IfSome result (λ tariff. TariffIs (rows_of (found_of matches.now)) tariff) }
+{
+    match matches.get_str("tariff")? {
+        "strict" => Some(Tariff::Strict),
+        "plain" => Some(Tariff::Plain),
+        _ => None,
+    }
+}
+
 /// The number that an option has, given or usual.
 fn number_of(matches: &ArgMatches, id: &str) -> Option<u32>
     ensures { IfSome result (λ n. NumberIs (rows_of (found_of matches.now)) id.now n) }
@@ -39,14 +48,15 @@ fn number_of(matches: &ArgMatches, id: &str) -> Option<u32>
     Some(number)
 }
 
-/// The limits that the three number options have.
+/// The limits that the three number options and `--tariff` have.
 fn limits_of(matches: &ArgMatches) -> Option<Limits>
     ensures { IfSome result (λ limits. LimitsAre (rows_of (found_of matches.now)) limits) }
 {
     let message_words = number_of(matches, "message-words")?;
     let budget = number_of(matches, "budget")?;
     let depth = number_of(matches, "depth")?;
-    Limits::new(message_words, budget, depth)
+    let limits = Limits::new(message_words, budget, depth)?;
+    Some(limits.with_tariff(tariff_of(matches)?))
 }
 
 /// The most words that may be unpacked: those of a message, and of the longest segment table.
@@ -54,7 +64,7 @@ fn unpacked_words_of(matches: &ArgMatches) -> Option<u32>
     ensures { IfSome result (λ most. UnpackedIs (rows_of (found_of matches.now)) most) }
 {
     let message_words = number_of(matches, "message-words")?;
-    message_words.checked_add(LONGEST_TABLE)
+    message_words.checked_add(MOST_TABLE_WORDS)
 }
 
 /// The command of this name with these options.
@@ -72,22 +82,33 @@ fn order_of(name: &str, matches: &ArgMatches) -> Option<Command>
     }
 }
 
-/// What is answered where `--form` has a value that the command does not take.
-fn no_such_form(alloc: Global) -> Usage {
+/// What is said of the value that a command over messages does not take: that of `--form`, or else that of `--tariff`.
+fn mistake_of(matches: &ArgMatches) -> &'static str {
+    match matches.subcommand() {
+        Some((_, found)) => match form_of(found) {
+            Some(_) => help::NO_SUCH_TARIFF,
+            None => help::NO_SUCH_FORM,
+        },
+        None => help::NO_SUCH_FORM,
+    }
+}
+
+/// What is answered where an option has a value that the command does not take.
+fn no_such_value(alloc: Global, text: &str) -> Usage {
     let mut command = match tool_command(alloc) {
         Ok(command) => command,
         Err(error) => return error.into(),
     };
-    match command.error(ErrorKind::InvalidValue, help::NO_SUCH_FORM) {
+    match command.error(ErrorKind::InvalidValue, text) {
         Ok(error) => error.into(),
         Err(error) => error.into(),
     }
 }
 
-/// The command that the words order, the first of them being the program's name: the subcommand's, with the form and the
-/// limits that its options have, given or usual. A wish for help, a word, an option or a value that is not known, a
-/// number out of its range, a form that the command does not take and want of memory are answered as `Usage`, with the
-/// text for the user.
+/// The command that the words order, the first of them being the program's name: the subcommand's, with the form, the
+/// limits and the tariff that its options have, given or usual. A wish for help, a word, an option or a value that is not
+/// known, a number out of its range, a form or a tariff that the command does not take and want of memory are answered as
+/// `Usage`, with the text for the user.
 pub fn command_of<'a, S: AsStr>(alloc: Global, words: &'a [S]) -> Result<Command, Usage>
     ensures { IfOk result (λ command. Means (subcommand_of tool_line (map S.text words.now)) command) }
 {
@@ -98,6 +119,6 @@ pub fn command_of<'a, S: AsStr>(alloc: Global, words: &'a [S]) -> Result<Command
     };
     match order {
         Some(command) => Ok(command),
-        None => Err(no_such_form(alloc)),
+        None => Err(no_such_value(alloc, mistake_of(&matches))),
     }
 }

@@ -25,9 +25,9 @@ fn walk_within<S: Space, A: Allocator + Copy>(
     space: &S,
     limits: Limits,
 ) -> Result<Walked<A>, ToolFault>
-    ensures found { IfOk result (λ w. IsValueOf (S.message space.now) 1 limits.budget limits.depth w.tree) }
-    ensures pays { IfOk result (λ w. w.paid ≡ paid (S.message space.now) 1 limits.depth) }
-    ensures counts { IfOk result (λ w. w.visits ≡ number_of_visits (S.message space.now) 1 limits.depth) }
+    ensures found { IfOk result (λ w. IsValueOf (S.message space.now) limits w.tree) }
+    ensures pays { IfOk result (λ w. w.paid ≡ paid (S.message space.now) limits) }
+    ensures counts { IfOk result (λ w. w.visits ≡ number_of_visits (S.message space.now) limits) }
     ensures refused { IfErr result (λ e. (e ≡ faults.Memory) ⊎ IsStopped (S.message space.now) limits e) }
 {
     match walk(alloc, space, limits) {
@@ -45,7 +45,7 @@ fn survey_within<S: Space, A: Allocator + Copy>(
     space: &S,
     limits: Limits,
 ) -> Result<Surveyed, ToolFault>
-    ensures found { IfOk result (λ s. IsSurvey (S.message space.now) 1 limits.budget limits.depth s) }
+    ensures found { IfOk result (λ s. IsSurvey (S.message space.now) limits s) }
     ensures refused { IfErr result (λ e. (e ≡ faults.Memory) ⊎ IsStopped (S.message space.now) limits e) }
 {
     match survey(alloc, space, limits) {
@@ -126,7 +126,7 @@ fn check_within<A: Allocator + Copy>(
     space: &Bare<'_>,
     limits: Limits,
 ) -> Result<Checked, ToolFault>
-    ensures found { IfOk result (λ c. IsCheck space.now 1 limits.budget limits.depth c) }
+    ensures found { IfOk result (λ c. IsCheck space.now limits c) }
     ensures refused { IfErr result (λ e. (e ≡ faults.Memory) ⊎ IsStopped (space.now ∷ []) limits e) }
 {
     match check(alloc, space, limits) {

@@ -3,7 +3,7 @@
 ghost use Rattle.std.specs.Prelude.{◌≡◌, IfOk, codes, false};
 ghost use Rattle.clap.specs.Words.{app_of, rule_of, new_app};
 ghost use Rattle.clap.specs.declared.builder.command.Command.TheViews.{out-Command};
-ghost use Rattle.capn_tool.specs.Line.{form_rule, words_rule, budget_rule, depth_rule, message_line, unpack_line, messages_line, tool_line};
+ghost use Rattle.capn_tool.specs.Line.{form_rule, words_rule, budget_rule, depth_rule, tariff_rule, message_line, unpack_line, messages_line, tool_line};
 
 use crate::help::{self, Page};
 use clap::{Arg, Command};
@@ -61,6 +61,18 @@ fn depth_option<'a>(alloc: Global) -> Arg<'a>
         .value_parser(clap::value_parser!(u32).range(1..=256))
 }
 
+/// `--tariff`. It takes any text here, as `--form` does.
+fn tariff_option<'a>(alloc: Global) -> Arg<'a>
+    ensures rule { rule_of result ≡ tariff_rule }
+    ensures local { result.global ≡ false }
+{
+    Arg::new(alloc, "tariff")
+        .long("tariff")
+        .value_name("TARIFF")
+        .help(help::TARIFF)
+        .default_value("strict")
+}
+
 /// A command of this name without options, with its page of help.
 fn plain_command<'a>(alloc: Global, name: &'a str, page: Page) -> Command<'a>
     ensures app { app_of result ≡ new_app name.now }
@@ -72,7 +84,7 @@ fn plain_command<'a>(alloc: Global, name: &'a str, page: Page) -> Command<'a>
         .after_help(page.more)
 }
 
-/// A command over messages: with `--form`, which has this help, and the three limits.
+/// A command over messages: with `--form`, which has this help, the three limits and the tariff.
 fn message_command<'a>(
     alloc: Global,
     name: &'a str,
@@ -86,6 +98,7 @@ fn message_command<'a>(
     let command = command.arg(words_option(alloc, help::MESSAGE_WORDS))?;
     let command = command.arg(budget_option(alloc))?;
     let command = command.arg(depth_option(alloc))?;
+    let command = command.arg(tariff_option(alloc))?;
     Ok(command)
 }
 
