@@ -22,8 +22,9 @@ test:
 bench:
 	cd crates/bench && rt run > /dev/null && ./out/bench times
 
-# Messages that the reference implementation wrote, where its command line tool is installed.
+# The guide's recipes, and messages that the reference implementation wrote, where its command line tool is installed.
 interop: program
+	./interop/recipes
 	./interop/run
 
 # The program and its manual page.
