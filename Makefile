@@ -13,16 +13,18 @@ run: program
 	@echo "in:"; od -An -v -tx1 -w8 $(PROGRAM)/stdin
 	@echo "out:"; $(PROGRAM)/out/capn $$(cat $(PROGRAM)/args) < $(PROGRAM)/stdin | od -An -v -tx1 -w8
 
-# The whole gate.
+# The whole gate: no crate reaches into another one's proofs, and what `rt ci` tries.
 test:
+	.ci/borders
 	rt ci
 
 # The shortest times of each operation on each shape of message, in nanoseconds a byte.
 bench:
 	cd crates/bench && rt run > /dev/null && ./out/bench times
 
-# Messages that the reference implementation wrote, where its command line tool is installed.
+# The guide's recipes, and messages that the reference implementation wrote, where its command line tool is installed.
 interop: program
+	./interop/recipes
 	./interop/run
 
 # The program and its manual page.

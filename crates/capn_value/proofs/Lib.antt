@@ -6,3 +6,4 @@ pub mod Joined
 pub mod Kept
 pub mod Digits
 pub mod OnceTrimmed
+mod WorkedTrees

@@ -1,0 +1,62 @@
+-- Worked values: what they are trimmed to, cost, and show as.
+use Rattle.std.proofs.Common.{◌≡◌, ℕ, ◌*◌, ◌+◌, ◌^◌, List, [], ◌∷◌, codes, true, false, refl, arith}
+use Rattle.std.specs.Fmt.{digits}
+use Rattle.hex.specs.Hex.{encode_with}
+use Rattle.capn_value.specs.Tree.{Tree, nil, node, voids, bits, bytes, links, rows, cap, no_trees, tree, no_bodies, body}
+use Rattle.capn_value.specs.Trim.{trimmed}
+use Rattle.capn_value.specs.Sizes.{cost, height, rows_price}
+use Rattle.capn_value.specs.Same.{Same}
+use Rattle.capn_value.specs.Text.{show_text, line}
+
+-- a struct loses its last word, which is zero, and its last slot, which is null
+struct_trimmed : trimmed (node (5 ∷ 0 ∷ []) (tree (cap 3) (tree nil no_trees))) ≡ node (5 ∷ []) (tree (cap 3) no_trees)
+struct_trimmed = refl
+
+-- an empty struct in a slot stays
+empty_struct_stays : trimmed (node [] (tree (node (0 ∷ []) no_trees) no_trees)) ≡ node [] (tree (node [] no_trees) no_trees)
+empty_struct_stays = refl
+
+-- rows are cut together: the second word stays where one row has it
+rows_trimmed : trimmed (rows (body (1 ∷ 2 ∷ []) no_trees (body (3 ∷ 0 ∷ []) no_trees no_bodies)))
+    ≡ rows (body (1 ∷ 2 ∷ []) no_trees (body (3 ∷ 0 ∷ []) no_trees no_bodies))
+rows_trimmed = refl
+
+-- and they keep their number where nothing is left of them
+rows_left_empty : trimmed (rows (body (0 ∷ []) no_trees (body (0 ∷ []) no_trees no_bodies)))
+    ≡ rows (body [] no_trees (body [] no_trees no_bodies))
+rows_left_empty = refl
+
+-- null elements of a list of pointers stay
+links_stay : trimmed (links (tree nil (tree nil no_trees))) ≡ links (tree nil (tree nil no_trees))
+links_stay = refl
+
+-- a struct of one word and a slot with three bytes: 1 and 2 for itself, 1 and 1 for the bytes
+struct_costs : cost 1 (node (5 ∷ []) (tree (bytes (1 ∷ 2 ∷ 3 ∷ [])) no_trees)) ≡ 5
+struct_costs = refl
+
+-- each element without size costs a word
+voids_cost : cost 1 (voids 7) ≡ 8
+voids_cost = refl
+
+-- rows without words cost one each, beside the list and its tag
+rows_cost : cost 1 (rows (body [] no_trees (body [] no_trees no_bodies))) ≡ 4
+unfolding rows_price
+rows_cost = refl
+
+-- the root of a chain of two is two high
+chain_height : height (node [] (tree (node [] no_trees) no_trees)) ≡ 2
+chain_height = refl
+
+-- the text of null, of a capability, and of a struct with a word and a list of two bits
+null_text : show_text nil ≡ codes "null\n"
+unfolding line
+null_text = refl
+
+capability_text : show_text (cap 12) ≡ codes "capability 12\n"
+unfolding line digits
+capability_text = refl
+
+struct_text : show_text (node (255 ∷ []) (tree (bits (true ∷ false ∷ [])) no_trees))
+    ≡ codes "struct 1 1\n  word 00000000000000ff\n  bits 2\n    10\n"
+unfolding line digits encode_with
+struct_text = refl
