@@ -1,4 +1,5 @@
 pub mod Apart
+pub mod Copies
 pub mod Decided
 pub mod Fronts
 pub mod Inverse
