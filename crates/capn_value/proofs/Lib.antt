@@ -1,4 +1,6 @@
+pub mod Anywhere
 pub mod Apart
+pub mod Cases
 pub mod Copies
 pub mod Decided
 pub mod Fronts
