@@ -1,4 +1,7 @@
+pub mod Anywhere
 pub mod Apart
+pub mod Cases
+pub mod Copies
 pub mod Decided
 pub mod Fronts
 pub mod Inverse

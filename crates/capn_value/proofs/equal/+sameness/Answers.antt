@@ -1,7 +1,71 @@
-use Rattle.std.proofs.Common.{arith, sym}
+use Rattle.std.proofs.Common.{arith, refl, sym, ap₂, ◌∙◌}
 use Rattle.capn_value.specs.Views.{tree_of-Nil, tree_of-Node, tree_of-Voids, tree_of-Bits, tree_of-Bytes, tree_of-Pairs, tree_of-Quads, tree_of-Octs, tree_of-Links, tree_of-Rows, tree_of-Cap}
 use Rattle.capn_value.proofs.Apart.{not_nil, not_node, not_voids, not_bits, not_bytes, not_pairs, not_quads, not_octs, not_links, not_rows, not_cap, test_slots-past_shared}
+use Rattle.capn_value.specs.View.{trees_of, rows_of}
+use Rattle.capn_value.specs.SameTest.{test_each, test_rows}
 use Rattle.capn_value.proofs.equal.+sameness.Goals as goal
+
+pub test-returns-in-Nil-Nil : goal.test-returns-in-Nil-Nil
+test-returns-in-Nil-Nil g t c =
+    rw (c.in-Nil-Nil.is-0, c.in-Nil-Nil.is-1, tree_of-Nil g.row.A.Denot, tree_of-Nil g.row.B.Denot)
+    refl
+
+pub test-returns-in-Node-Node : goal.test-returns-in-Node-Node
+test-returns-in-Node-Node g t c =
+    rw (c.in-Node-Node.is-0, c.in-Node-Node.is-1, tree_of-Node c.in-Node-Node.a, tree_of-Node c.in-Node-Node.b)
+    c.test_bodies.ensures
+
+pub test-returns-in-Voids-Voids : goal.test-returns-in-Voids-Voids
+test-returns-in-Voids-Voids g t c =
+    rw (c.in-Voids-Voids.is-0, c.in-Voids-Voids.is-1,
+    tree_of-Voids _ c.in-Voids-Voids.m, tree_of-Voids _ c.in-Voids-Voids.n)
+    refl
+
+pub test-returns-in-Bits-Bits : goal.test-returns-in-Bits-Bits
+test-returns-in-Bits-Bits g t c =
+    rw (c.in-Bits-Bits.is-0, c.in-Bits-Bits.is-1,
+    tree_of-Bits _ c.in-Bits-Bits.xs, tree_of-Bits _ c.in-Bits-Bits.ys)
+    (rw (c.as_slice.ensures, c.as_slice-in-Bits-Bits.ensures) at c.eq.ensures)
+
+pub test-returns-in-Bytes-Bytes : goal.test-returns-in-Bytes-Bytes
+test-returns-in-Bytes-Bytes g t c =
+    rw (c.in-Bytes-Bytes.is-0, c.in-Bytes-Bytes.is-1,
+    tree_of-Bytes _ c.in-Bytes-Bytes.xs, tree_of-Bytes _ c.in-Bytes-Bytes.ys)
+    (rw (c.as_slice-in-Bytes-Bytes.ensures, c.as_slice-in-Bytes-Bytes-2.ensures) at c.eq-in-Bytes-Bytes.ensures)
+
+pub test-returns-in-Pairs-Pairs : goal.test-returns-in-Pairs-Pairs
+test-returns-in-Pairs-Pairs g t c =
+    rw (c.in-Pairs-Pairs.is-0, c.in-Pairs-Pairs.is-1,
+    tree_of-Pairs _ c.in-Pairs-Pairs.xs, tree_of-Pairs _ c.in-Pairs-Pairs.ys)
+    (rw (c.as_slice-in-Pairs-Pairs.ensures, c.as_slice-in-Pairs-Pairs-2.ensures) at c.eq-in-Pairs-Pairs.ensures)
+
+pub test-returns-in-Quads-Quads : goal.test-returns-in-Quads-Quads
+test-returns-in-Quads-Quads g t c =
+    rw (c.in-Quads-Quads.is-0, c.in-Quads-Quads.is-1,
+    tree_of-Quads _ c.in-Quads-Quads.xs, tree_of-Quads _ c.in-Quads-Quads.ys)
+    (rw (c.as_slice-in-Quads-Quads.ensures, c.as_slice-in-Quads-Quads-2.ensures) at c.eq-in-Quads-Quads.ensures)
+
+pub test-returns-in-Octs-Octs : goal.test-returns-in-Octs-Octs
+test-returns-in-Octs-Octs g t c =
+    rw (c.in-Octs-Octs.is-0, c.in-Octs-Octs.is-1,
+    tree_of-Octs _ c.in-Octs-Octs.xs, tree_of-Octs _ c.in-Octs-Octs.ys)
+    (rw (c.as_slice-in-Octs-Octs.ensures, c.as_slice-in-Octs-Octs-2.ensures) at c.eq-in-Octs-Octs.ensures)
+
+pub test-returns-in-Links-Links : goal.test-returns-in-Links-Links
+test-returns-in-Links-Links g t c =
+    rw (c.in-Links-Links.is-0, c.in-Links-Links.is-1,
+    tree_of-Links c.in-Links-Links.xs, tree_of-Links c.in-Links-Links.ys)
+    (c.test_each.ensures ∙ ap₂ (λ xs ys. test_each (trees_of xs) (trees_of ys)) c.as_slice-in-Links-Links.ensures c.as_slice-in-Links-Links-2.ensures)
+
+pub test-returns-in-Rows-Rows : goal.test-returns-in-Rows-Rows
+test-returns-in-Rows-Rows g t c =
+    rw (c.in-Rows-Rows.is-0, c.in-Rows-Rows.is-1, tree_of-Rows c.in-Rows-Rows.xs, tree_of-Rows c.in-Rows-Rows.ys)
+    (c.test_rows.ensures ∙ ap₂ (λ xs ys. test_rows (rows_of xs) (rows_of ys)) c.as_slice-in-Rows-Rows.ensures c.as_slice-in-Rows-Rows-2.ensures)
+
+pub test-returns-in-Cap-Cap : goal.test-returns-in-Cap-Cap
+test-returns-in-Cap-Cap g t c =
+    rw (c.in-Cap-Cap.is-0, c.in-Cap-Cap.is-1, tree_of-Cap _ c.in-Cap-Cap.j, tree_of-Cap _ c.in-Cap-Cap.k)
+    refl
 
 pub test-returns-in_default : goal.test-returns-in_default
 test-returns-in_default g t c = rw (c.in_default.is-0, tree_of-Nil) (sym (not_nil _ c.in_default.not-Nil-1))

@@ -1,10 +1,46 @@
-use Rattle.std.proofs.Common.{◌≡◌, arith, sym, ap, ap₂, ◌∙◌, min, length}
-use Rattle.capn_value.specs.Tree.{links, front}
+use Rattle.std.proofs.Common.{◌≡◌, arith, refl, sym, ap, ap₂, ◌∙◌, min, length}
+use Rattle.capn_value.specs.Tree.{bits, bytes, pairs, quads, octs, links, front}
 use Rattle.capn_value.specs.View.{tree_of, trees_of}
-use Rattle.capn_value.specs.Views.{tree_of-Links}
+use Rattle.capn_value.specs.Views.{tree_of-Nil, tree_of-Voids, tree_of-Bits, tree_of-Bytes, tree_of-Pairs, tree_of-Quads, tree_of-Octs, tree_of-Links, tree_of-Cap}
 use Rattle.capn_value.specs.Trim.{trimmed, trimmed_each}
 use Rattle.capn_value.proofs.Fronts.{trimmed_front-length, trimmed_front-min, trimmed_front-push}
 use Rattle.capn_value.proofs.trimming.+trim.Goals as goal
+
+pub trimmed-returns-in-Nil : goal.trimmed-returns-in-Nil
+trimmed-returns-in-Nil g t c = rw (c.in-Nil.is, tree_of-Nil g.row.A.Denot, tree_of-Nil g.row.B.Denot) refl
+
+pub trimmed-returns-in-Voids : goal.trimmed-returns-in-Voids
+trimmed-returns-in-Voids g t c =
+    rw (c.in-Voids.is, tree_of-Voids g.row.A.Denot c.in-Voids.n, tree_of-Voids g.row.B.Denot c.in-Voids.n) refl
+
+pub trimmed-returns-in-Cap : goal.trimmed-returns-in-Cap
+trimmed-returns-in-Cap g t c =
+    rw (c.in-Cap.is, tree_of-Cap g.row.A.Denot c.in-Cap.k, tree_of-Cap g.row.B.Denot c.in-Cap.k) refl
+
+pub trimmed-returns-in_ok-copied-in-Bits : goal.trimmed-returns-in_ok-copied-in-Bits
+trimmed-returns-in_ok-copied-in-Bits g t c =
+    rw (c.in-Bits.is, tree_of-Bits _ c.in_ok-copied-in-Bits.field-0, tree_of-Bits _ c.in-Bits.xs)
+    (ap bits c.in_ok-copied-in-Bits.ensures)
+
+pub trimmed-returns-in_ok-copied-in-Bytes : goal.trimmed-returns-in_ok-copied-in-Bytes
+trimmed-returns-in_ok-copied-in-Bytes g t c =
+    rw (c.in-Bytes.is, tree_of-Bytes _ c.in_ok-copied-in-Bytes.field-0, tree_of-Bytes _ c.in-Bytes.xs)
+    (ap bytes c.in_ok-copied-in-Bytes.ensures)
+
+pub trimmed-returns-in_ok-copied-in-Pairs : goal.trimmed-returns-in_ok-copied-in-Pairs
+trimmed-returns-in_ok-copied-in-Pairs g t c =
+    rw (c.in-Pairs.is, tree_of-Pairs _ c.in_ok-copied-in-Pairs.field-0, tree_of-Pairs _ c.in-Pairs.xs)
+    (ap pairs c.in_ok-copied-in-Pairs.ensures)
+
+pub trimmed-returns-in_ok-copied-in-Quads : goal.trimmed-returns-in_ok-copied-in-Quads
+trimmed-returns-in_ok-copied-in-Quads g t c =
+    rw (c.in-Quads.is, tree_of-Quads _ c.in_ok-copied-in-Quads.field-0, tree_of-Quads _ c.in-Quads.xs)
+    (ap quads c.in_ok-copied-in-Quads.ensures)
+
+pub trimmed-returns-in_ok-copied-in-Octs : goal.trimmed-returns-in_ok-copied-in-Octs
+trimmed-returns-in_ok-copied-in-Octs g t c =
+    rw (c.in-Octs.is, tree_of-Octs _ c.in_ok-copied-in-Octs.field-0, tree_of-Octs _ c.in-Octs.xs)
+    (ap octs c.in_ok-copied-in-Octs.ensures)
 
 pub trimmed-returns-in_ok-trimmed_front-in-Links : goal.trimmed-returns-in_ok-trimmed_front-in-Links
 trimmed-returns-in_ok-trimmed_front-in-Links g t c =

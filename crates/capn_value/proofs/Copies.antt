@@ -1,0 +1,42 @@
+-- A value of a known kind, over another allocator: its tree is the same if its content is.
+use Rattle.std.proofs.Common.{◌≡◌, ℕ, List, Bool, refl, sym, ap, ap₂, ◌∙◌}
+use Rattle.capn_value.specs.Tree.{node, bits, bytes, pairs, quads, octs, links, rows}
+use Rattle.capn_value.specs.View.{tree_of, trees_of, rows_of}
+use Rattle.capn_value.specs.Views.{tree_of-Nil, tree_of-Node, tree_of-Voids, tree_of-Bits, tree_of-Bytes, tree_of-Pairs, tree_of-Quads, tree_of-Octs, tree_of-Links, tree_of-Rows, tree_of-Cap}
+use Rattle.capn_value.specs.declared.value.Value.{Value, Nil, Node, Voids, Bits, Bytes, Pairs, Quads, Octs, Links, Rows, Cap}
+use Rattle.capn_value.specs.declared.value.Body.{Body}
+
+module _ (A : Type 0) {B : Type 0} (v : Value B) where
+  pub nil_kept : v ≡ Nil → tree_of {A = A} Nil ≡ tree_of v
+  nil_kept e = tree_of-Nil A ∙ sym (ap tree_of e ∙ tree_of-Nil B)
+
+  pub voids_kept : {n : ℕ} → v ≡ Voids n → tree_of {A = A} (Voids n) ≡ tree_of v
+  voids_kept {n} e = tree_of-Voids A n ∙ sym (ap tree_of e ∙ tree_of-Voids B n)
+
+  pub bits_kept : {xs ys : List Bool} → v ≡ Bits xs → ys ≡ xs → tree_of {A = A} (Bits ys) ≡ tree_of v
+  bits_kept {xs} {ys} e f = tree_of-Bits A ys ∙ ap bits f ∙ sym (ap tree_of e ∙ tree_of-Bits B xs)
+
+  pub bytes_kept : {xs ys : List ℕ} → v ≡ Bytes xs → ys ≡ xs → tree_of {A = A} (Bytes ys) ≡ tree_of v
+  bytes_kept {xs} {ys} e f = tree_of-Bytes A ys ∙ ap bytes f ∙ sym (ap tree_of e ∙ tree_of-Bytes B xs)
+
+  pub pairs_kept : {xs ys : List ℕ} → v ≡ Pairs xs → ys ≡ xs → tree_of {A = A} (Pairs ys) ≡ tree_of v
+  pairs_kept {xs} {ys} e f = tree_of-Pairs A ys ∙ ap pairs f ∙ sym (ap tree_of e ∙ tree_of-Pairs B xs)
+
+  pub quads_kept : {xs ys : List ℕ} → v ≡ Quads xs → ys ≡ xs → tree_of {A = A} (Quads ys) ≡ tree_of v
+  quads_kept {xs} {ys} e f = tree_of-Quads A ys ∙ ap quads f ∙ sym (ap tree_of e ∙ tree_of-Quads B xs)
+
+  pub octs_kept : {xs ys : List ℕ} → v ≡ Octs xs → ys ≡ xs → tree_of {A = A} (Octs ys) ≡ tree_of v
+  octs_kept {xs} {ys} e f = tree_of-Octs A ys ∙ ap octs f ∙ sym (ap tree_of e ∙ tree_of-Octs B xs)
+
+  pub cap_kept : {k : ℕ} → v ≡ Cap k → tree_of {A = A} (Cap k) ≡ tree_of v
+  cap_kept {k} e = tree_of-Cap A k ∙ sym (ap tree_of e ∙ tree_of-Cap B k)
+
+  pub node_kept : (b : Body B) (r : Body A) → v ≡ Node b → r.words ≡ b.words → trees_of r.slots ≡ trees_of b.slots → tree_of (Node r) ≡ tree_of v
+  node_kept b r e f h = tree_of-Node r ∙ ap₂ node f h ∙ sym (ap tree_of e ∙ tree_of-Node b)
+
+  -- the parameter `s` is the slice of the elements
+  pub links_kept : (vs s : List (Value B)) (us : List (Value A)) → v ≡ Links vs → s ≡ vs → trees_of us ≡ trees_of s → tree_of (Links us) ≡ tree_of v
+  links_kept vs s us e f h = tree_of-Links us ∙ ap links (h ∙ ap trees_of f) ∙ sym (ap tree_of e ∙ tree_of-Links vs)
+
+  pub rows_kept : (bs s : List (Body B)) (cs : List (Body A)) → v ≡ Rows bs → s ≡ bs → rows_of cs ≡ rows_of s → tree_of (Rows cs) ≡ tree_of v
+  rows_kept bs s cs e f h = tree_of-Rows cs ∙ ap rows (h ∙ ap rows_of f) ∙ sym (ap tree_of e ∙ tree_of-Rows bs)
