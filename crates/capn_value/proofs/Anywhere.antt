@@ -13,7 +13,7 @@ pub drop-next : {X : Type 0} (xs : List X) (i : ℕ) (x : X) → i < length xs �
 drop-next xs i x h e = rw add-one (drop-cons xs i x h ∙ ap (λ y. y ∷ drop (suc i) xs) (sym e))
 
 -- nothing is left at the end
-drop-past : {X : Type 0} (xs : List X) (i : ℕ) → i ≡ length xs → drop i xs ≡ []
+pub drop-past : {X : Type 0} (xs : List X) (i : ℕ) → i ≡ length xs → drop i xs ≡ []
 drop-past xs i e = ap (λ n. drop n xs) e ∙ drop-length xs
 
 or_moved : (f r x : Bool) → ((f || r) || x) ≡ (f || (r || x))

@@ -74,3 +74,10 @@ module _ {A : Type 0} where
   low v (inr (inr (inr (inl p)))) = rw (p.1, tree_of-Pairs) refl
   low v (inr (inr (inr (inr (inl p))))) = rw (p.1, tree_of-Quads) refl
   low v (inr (inr (inr (inr (inr p))))) = rw (p.1, tree_of-Octs) refl
+
+  abbrev IsNoObject : Value A → Type 0
+  IsNoObject v = (v ≡ Nil) ⊎ ((k : ℕ) × (v ≡ Cap k))
+
+  pub no_object : (v : Value A) → IsNoObject v → height (tree_of v) ≡ 0
+  no_object v (inl e) = rw (e, tree_of-Nil) refl
+  no_object v (inr p) = rw (p.1, tree_of-Cap) refl

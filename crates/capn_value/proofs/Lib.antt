@@ -3,7 +3,9 @@ pub mod Apart
 pub mod Cases
 pub mod Copies
 pub mod Decided
+pub mod FirstCaps
 pub mod Fronts
+pub mod Heights
 pub mod Inverse
 pub mod Joined
 pub mod Kept

@@ -20,7 +20,6 @@ pub fn copied<T: Copy, A: Allocator, B: Allocator>(
 
 /// The same value, over another allocator.
 #[cycle(copy)]
-#[tactic(auto, using(std::proofs::lemmas::Grind::common_steps, crate::specs::Views::views, crate::proofs::Joined::joins))]
 pub fn copy_of<A: Allocator + Copy, B: Allocator>(
     alloc: A,
     v: &Value<B>,
@@ -43,7 +42,6 @@ pub fn copy_of<A: Allocator + Copy, B: Allocator>(
 }
 
 #[cycle(copy)]
-#[tactic(auto, using(std::proofs::lemmas::Grind::common_steps, crate::specs::Views::views, crate::proofs::Joined::joins))]
 fn copy_of_body<A: Allocator + Copy, B: Allocator>(
     alloc: A,
     body: &Body<B>,
@@ -57,7 +55,6 @@ fn copy_of_body<A: Allocator + Copy, B: Allocator>(
 }
 
 #[cycle(copy)]
-#[tactic(auto, using(std::proofs::lemmas::Grind::common_steps, crate::specs::Views::views, crate::proofs::Joined::joins))]
 fn copy_of_each<A: Allocator + Copy, B: Allocator>(
     alloc: A,
     items: &[Value<B>],
@@ -72,7 +69,6 @@ fn copy_of_each<A: Allocator + Copy, B: Allocator>(
 }
 
 #[cycle(copy)]
-#[tactic(auto, using(std::proofs::lemmas::Grind::common_steps, crate::specs::Views::views, crate::proofs::Joined::joins))]
 fn copy_of_rows<A: Allocator + Copy, B: Allocator>(
     alloc: A,
     rows: &[Body<B>],

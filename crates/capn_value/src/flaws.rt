@@ -79,7 +79,6 @@ fn is_root<A: Allocator>(v: &Value<A>) -> bool
 
 // The flaws of the value and of all below it.
 #[cycle(flaws_of)]
-#[tactic(auto, using(std::proofs::lemmas::Grind::common_steps, crate::specs::Views::views))]
 fn flaws_of<A: Allocator>(v: &Value<A>) -> Flaws
     ensures wide { result.wide ≡ fits.anywhere fits.is_wide (tree_of v.now) }
     ensures long { result.long ≡ fits.anywhere fits.is_long (tree_of v.now) }
@@ -102,7 +101,6 @@ fn flaws_of<A: Allocator>(v: &Value<A>) -> Flaws
 }
 
 #[cycle(flaws_of)]
-#[tactic(auto, using(std::proofs::lemmas::Grind::common_steps, crate::specs::Views::views))]
 fn flaws_of_each<A: Allocator>(items: &[Value<A>]) -> Flaws
     ensures wide { result.wide ≡ fits.anywhere_in fits.is_wide (trees_of items.now) }
     ensures long { result.long ≡ fits.anywhere_in fits.is_long (trees_of items.now) }
@@ -120,7 +118,6 @@ fn flaws_of_each<A: Allocator>(items: &[Value<A>]) -> Flaws
 }
 
 #[cycle(flaws_of)]
-#[tactic(auto, using(std::proofs::lemmas::Grind::common_steps, crate::specs::Views::views))]
 fn flaws_of_rows<A: Allocator>(bodies: &[Body<A>]) -> Flaws
     ensures wide { result.wide ≡ fits.anywhere_in_rows fits.is_wide (rows_of bodies.now) }
     ensures long { result.long ≡ fits.anywhere_in_rows fits.is_long (rows_of bodies.now) }

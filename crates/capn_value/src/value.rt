@@ -52,7 +52,6 @@ pub struct Body<A: Allocator = Global> {
 /// Preorder: a value, then what its slots, rows or elements hold, in order, each with all below it before the
 /// next (own). Takes no memory.
 #[cycle(first_cap)]
-#[tactic(auto, using(crate::specs::Views::views))]
 pub fn first_cap<A: Allocator>(v: &Value<A>) -> Option<u32>
     ensures { result ≡ caps.first_cap (tree_of v.now) }
 {
@@ -72,7 +71,6 @@ pub fn first_cap<A: Allocator>(v: &Value<A>) -> Option<u32>
 }
 
 #[cycle(first_cap)]
-#[tactic(auto, using(crate::specs::Views::views))]
 fn first_in<A: Allocator>(items: &[Value<A>]) -> Option<u32>
     ensures { result ≡ caps.first_in (trees_of items.now) }
 {
@@ -85,7 +83,6 @@ fn first_in<A: Allocator>(items: &[Value<A>]) -> Option<u32>
 }
 
 #[cycle(first_cap)]
-#[tactic(auto, using(crate::specs::Views::views))]
 fn first_in_rows<A: Allocator>(bodies: &[Body<A>]) -> Option<u32>
     ensures { result ≡ caps.first_in_rows (rows_of bodies.now) }
 {

@@ -1,4 +1,7 @@
-use Rattle.capn_value.proofs.Copies.{nil_kept, node_kept, voids_kept, bits_kept, bytes_kept, pairs_kept, quads_kept, octs_kept, links_kept, rows_kept, cap_kept}
+use Rattle.std.proofs.Common.{arith, ap, ◌∙◌}
+use Rattle.capn_value.specs.Tree.{joined, joined_rows}
+use Rattle.capn_value.specs.View.{trees_of, rows_of}
+use Rattle.capn_value.proofs.Copies.{nil_kept, node_kept, voids_kept, bits_kept, bytes_kept, pairs_kept, quads_kept, octs_kept, links_kept, rows_kept, cap_kept, each_copied, all_copied, row_copied, rows_copied}
 use Rattle.capn_value.proofs.copying.+copy.Goals as goal
 
 pub copy_of-returns-in-Nil : goal.copy_of-returns-in-Nil
@@ -39,3 +42,31 @@ copy_of-returns-in_ok-copy_of_rows-in-Rows g t c =
 
 pub copy_of-returns-in-Cap : goal.copy_of-returns-in-Cap
 copy_of-returns-in-Cap g t c = cap_kept _ _ c.in-Cap.is
+
+pub copy_of_each-loop-v-init : goal.copy_of_each-loop-v-init
+copy_of_each-loop-v-init g t c = ap (λ o. joined (trees_of o) (trees_of c.args.items.now)) c.in_ok-out.ensures
+
+pub copy_of_each-loop-v-preserved : goal.copy_of_each-loop-v-preserved
+copy_of_each-loop-v-preserved g t c =
+    each_copied c.loop-v.out c.args.items.now _ c.loop-v.invariant c.v-item.result c.in_ok-copy_of.field-0
+    (omega arith) c.v-item.is c.in_ok-copy_of.ensures c.in_ok-push.ensures.ok
+
+pub copy_of_each-returns : goal.copy_of_each-returns
+copy_of_each-returns g t c = all_copied c.loop-v.out c.args.items.now _ c.loop-v.invariant (omega arith)
+
+pub copy_of_rows-loop-row-init : goal.copy_of_rows-loop-row-init
+copy_of_rows-loop-row-init g t c = ap (λ o. joined_rows (rows_of o) (rows_of c.args.rows.now)) c.in_ok-out.ensures
+
+pub copy_of_rows-loop-row-preserved : goal.copy_of_rows-loop-row-preserved
+copy_of_rows-loop-row-preserved g t c =
+    row_copied c.loop-row.out c.args.rows.now _ c.loop-row.invariant c.row-item.result c.in_ok-copy_of_body.field-0
+    (omega arith) c.row-item.is c.in_ok-copy_of_body.ensures.words c.in_ok-copy_of_body.ensures.slots c.in_ok-push.ensures.ok
+
+pub copy_of_rows-returns : goal.copy_of_rows-returns
+copy_of_rows-returns g t c = rows_copied c.loop-row.out c.args.rows.now _ c.loop-row.invariant (omega arith)
+
+pub copy_of_body-returns-clause-words : goal.copy_of_body-returns-clause-words
+copy_of_body-returns-clause-words g t c = c.in_ok-words.ensures
+
+pub copy_of_body-returns-clause-slots : goal.copy_of_body-returns-clause-slots
+copy_of_body-returns-clause-slots g t c = c.in_ok-slots.ensures ∙ ap trees_of c.as_slice.ensures

@@ -1,5 +1,6 @@
-use Rattle.std.proofs.Common.{refl}
-use Rattle.capn_value.proofs.Cases.{low}
+use Rattle.std.proofs.Common.{arith, refl}
+use Rattle.capn_value.proofs.Cases.{low, no_object}
+use Rattle.capn_value.proofs.Heights.{node_high, links_high, rows_high, each_high, highest, row_high, highest_row, still_capped}
 use Rattle.capn_value.proofs.measure.+height.Goals as goal
 
 pub capped_height-returns-in-Voids : goal.capped_height-returns-in-Voids
@@ -19,3 +20,36 @@ capped_height-returns-in-Voids-5 g t c = rw (low _ c.in-Voids.is) refl
 
 pub capped_height-returns-in-Voids-6 : goal.capped_height-returns-in-Voids-6
 capped_height-returns-in-Voids-6 g t c = rw (low _ c.in-Voids.is) refl
+
+pub capped_height-returns-in-Nil : goal.capped_height-returns-in-Nil
+capped_height-returns-in-Nil g t c = rw (no_object _ c.in-Nil.is) refl
+
+pub capped_height-returns-in-Nil-2 : goal.capped_height-returns-in-Nil-2
+capped_height-returns-in-Nil-2 g t c = rw (no_object _ c.in-Nil.is) refl
+
+pub capped_height-returns-in-Node : goal.capped_height-returns-in-Node
+capped_height-returns-in-Node g t c = node_high _ _ c.taller.ensures c.in-Node.is c.as_slice.ensures c.capped_greatest.ensures
+
+pub capped_height-returns-in-Links : goal.capped_height-returns-in-Links
+capped_height-returns-in-Links g t c = links_high _ _ c.taller-in-Links.ensures c.in-Links.is c.as_slice-in-Links.ensures c.capped_greatest-in-Links.ensures
+
+pub capped_height-returns-in-Rows : goal.capped_height-returns-in-Rows
+capped_height-returns-in-Rows g t c = rows_high _ _ c.taller-in-Rows.ensures c.in-Rows.is c.as_slice-in-Rows.ensures c.capped_greatest_in_rows.ensures
+
+pub capped_greatest-loop-v-preserved : goal.capped_greatest-loop-v-preserved
+capped_greatest-loop-v-preserved g t c = record {
+  capped = still_capped _ _ _ _ _ c.loop-v.invariant.capped c.capped_height.ensures c.max-most.ensures;
+  so_far = each_high _ _ _ c.args.items.now _ c.loop-v.invariant.so_far c.v-item.result (omega arith) c.v-item.is c.capped_height.ensures c.max-most.ensures;
+}
+
+pub capped_greatest-returns : goal.capped_greatest-returns
+capped_greatest-returns g t c = highest _ _ _ c.args.items.now _ c.loop-v.invariant.so_far c.loop-v.invariant.capped (omega arith)
+
+pub capped_greatest_in_rows-loop-body-preserved : goal.capped_greatest_in_rows-loop-body-preserved
+capped_greatest_in_rows-loop-body-preserved g t c = record {
+  capped = still_capped _ _ _ _ _ c.loop-body.invariant.capped c.capped_greatest.ensures c.max-most.ensures;
+  so_far = row_high _ _ _ c.args.bodies.now _ c.loop-body.invariant.so_far c.body-item.result (omega arith) c.body-item.is c.as_slice.ensures c.capped_greatest.ensures c.max-most.ensures;
+}
+
+pub capped_greatest_in_rows-returns : goal.capped_greatest_in_rows-returns
+capped_greatest_in_rows-returns g t c = highest_row _ _ _ c.args.bodies.now _ c.loop-body.invariant.so_far c.loop-body.invariant.capped (omega arith)

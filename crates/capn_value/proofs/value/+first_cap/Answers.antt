@@ -1,5 +1,8 @@
 use Rattle.capn_value.proofs.Cases.{no_cap}
-use Rattle.std.proofs.Common.{refl}
+use Rattle.std.proofs.Common.{◌≡◌, Some, None, arith, refl}
+use Rattle.capn_value.specs.View.{tree_of, trees_of}
+use Rattle.capn_value.specs.Caps.{first_cap, first_in}
+use Rattle.capn_value.proofs.FirstCaps.{cap_here, cap_later, cap_nowhere, cap_in_row, cap_below, cap_in_no_row}
 use Rattle.capn_value.specs.Views.{tree_of-Node, tree_of-Links, tree_of-Rows, tree_of-Cap}
 use Rattle.capn_value.proofs.value.+first_cap.Goals as goal
 
@@ -35,3 +38,29 @@ first_cap-returns-in-Nil-6 g t c = no_cap _ c.in-Nil.is
 
 pub first_cap-returns-in-Nil-7 : goal.first_cap-returns-in-Nil-7
 first_cap-returns-in-Nil-7 g t c = no_cap _ c.in-Nil.is
+
+pub first_in-returns-in-Some : goal.first_in-returns-in-Some
+first_in-returns-in-Some g t c =
+    let found : first_cap (tree_of c.v-item.result) ≡ Some c.in-Some.k = cc in
+    cap_here c.args.items.now _ c.loop-v.invariant c.v-item.result _ (omega arith) c.v-item.is found
+
+pub first_in-loop-v-preserved : goal.first_in-loop-v-preserved
+first_in-loop-v-preserved g t c =
+    let none : first_cap (tree_of c.v-item.result) ≡ None = cc in
+    cap_later c.args.items.now _ c.loop-v.invariant c.v-item.result (omega arith) c.v-item.is none
+
+pub first_in-returns : goal.first_in-returns
+first_in-returns g t c = cap_nowhere c.args.items.now _ c.loop-v.invariant (omega arith)
+
+pub first_in_rows-returns-in-Some : goal.first_in_rows-returns-in-Some
+first_in_rows-returns-in-Some g t c =
+    let found : first_in (trees_of c.body-item.result.slots) ≡ Some c.in-Some.k = cc in
+    cap_in_row c.args.bodies.now _ c.loop-body.invariant c.body-item.result _ (omega arith) c.body-item.is found
+
+pub first_in_rows-loop-body-preserved : goal.first_in_rows-loop-body-preserved
+first_in_rows-loop-body-preserved g t c =
+    let none : first_in (trees_of c.body-item.result.slots) ≡ None = cc in
+    cap_below c.args.bodies.now _ c.loop-body.invariant c.body-item.result (omega arith) c.body-item.is none
+
+pub first_in_rows-returns : goal.first_in_rows-returns
+first_in_rows-returns g t c = cap_in_no_row c.args.bodies.now _ c.loop-body.invariant (omega arith)
