@@ -34,7 +34,7 @@ impl<T, A: Allocator> Items<T, A> {
         }
     }
 
-    /// No elements, with room for so many.
+    /// No elements. Room for so many is asked for at once.
     pub fn with_capacity(alloc: A, capacity: usize) -> Result<Items<T, A>, AllocError>
         ensures { IfOk result (λ it. it ≡ []) }
     {
