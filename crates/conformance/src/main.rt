@@ -1,5 +1,6 @@
 //! Answers each case of standard input: a line that names it and a line that says a call, each word parted by a space.
-//! Bytes are hexadecimal, and `-` stands for none. What must come out is the stored output, which no run of ours wrote.
+//! Bytes are hexadecimal, and `-` stands for none. A call behind the word `plain` pays by the plain tariff, another by the
+//! strict one. What must come out is the stored output, which no run of ours wrote.
 #![tactic(auto)]
 
 mod frames;
@@ -13,14 +14,23 @@ mod views;
 mod words;
 
 use anyhow::{Result, bail};
+use capn_value::Tariff;
 use std::alloc::Global;
 use std::io::BufRead;
 use words::word_at;
 
+/// The tariff by which a call pays, and the words of the call.
+fn tariff_and_call<'w, 'a>(words: &'w [&'a str]) -> (Tariff, &'w [&'a str]) {
+    match words {
+        [first, call @ ..] if *first == "plain" => (Tariff::Plain, call),
+        _ => (Tariff::Strict, words),
+    }
+}
+
 /// What a call answers, as a line.
 fn answer(alloc: Global, line: &str) -> Result<String> {
     let words: Vec<&str> = line.split(' ').collect(alloc)?;
-    let words = words.as_slice();
+    let (tariff, words) = tariff_and_call(words.as_slice());
     match word_at(words, 0)? {
         "pack" => packing::pack_answer(alloc, words),
         "unpack" => packing::unpack_answer(alloc, words),
@@ -28,9 +38,9 @@ fn answer(alloc: Global, line: &str) -> Result<String> {
         "usage" => runs::usage_answer(alloc, words),
         "limits" => messages::limits_answer(alloc, words),
         "resolve" => messages::resolve_answer(alloc, words),
-        "walk" => messages::walk_answer(alloc, words),
-        "canonicalise" => messages::canonicalise_answer(alloc, words),
-        "again" => messages::again_answer(alloc, words),
+        "walk" => messages::walk_answer(alloc, words, tariff),
+        "canonicalise" => messages::canonicalise_answer(alloc, words, tariff),
+        "again" => messages::again_answer(alloc, words, tariff),
         "equal" => messages::equal_answer(alloc, words),
         "first" => frames::first_answer(alloc, words),
         "frame" => frames::frame_answer(alloc, words),
@@ -40,9 +50,9 @@ fn answer(alloc: Global, line: &str) -> Result<String> {
         "unpacker" => pieces::unpacker_answer(alloc, words),
         "read" => pieces::read_answer(alloc, words),
         "write" => pieces::write_answer(alloc, words),
-        "survey" => surveys::survey_answer(alloc, words),
-        "is_canonical" => surveys::is_canonical_answer(alloc, words),
-        "view" => views::view_answer(alloc, words),
+        "survey" => surveys::survey_answer(alloc, words, tariff),
+        "is_canonical" => surveys::is_canonical_answer(alloc, words, tariff),
+        "view" => views::view_answer(alloc, words, tariff),
         call => bail!("no call {call:?}"),
     }
 }

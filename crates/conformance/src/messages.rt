@@ -7,6 +7,7 @@ use anyhow::{Result, anyhow, bail};
 use capn_canon::{Form, canonicalise};
 use capn_pack::unpack;
 use capn_stream::first;
+use capn_value::Tariff;
 use capn_walk::{Limits, Shape, Target, resolve, walk};
 use capn_words::{Bare, Place, Space};
 use std::alloc::Global;
@@ -32,10 +33,10 @@ fn limits_at(words: &[&str], at: usize) -> Result<Option<Limits>> {
     Ok(Limits::new(message_words, budget, depth))
 }
 
-/// The same, where they have to be limits.
-pub fn true_limits_at(words: &[&str], at: usize) -> Result<Limits> {
+/// The same, where they have to be limits, with the prices of a tariff.
+pub fn true_limits_at(words: &[&str], at: usize, tariff: Tariff) -> Result<Limits> {
     match limits_at(words, at)? {
-        Some(limits) => Ok(limits),
+        Some(limits) => Ok(limits.with_tariff(tariff)),
         None => Err(anyhow!("no limits")),
     }
 }
@@ -50,9 +51,9 @@ pub fn limits_answer(alloc: Global, words: &[&str]) -> Result<String> {
 }
 
 /// `canonicalise FORM MESSAGE_WORDS BUDGET DEPTH BYTES`.
-pub fn canonicalise_answer(alloc: Global, words: &[&str]) -> Result<String> {
+pub fn canonicalise_answer(alloc: Global, words: &[&str], tariff: Tariff) -> Result<String> {
     let form = form_at(words, 1)?;
-    let limits = true_limits_at(words, 2)?;
+    let limits = true_limits_at(words, 2, tariff)?;
     let bytes = bytes_at(alloc, words, 5)?;
     match canonicalise(alloc, form, bytes.as_slice(), limits) {
         Ok(canonical) => {
@@ -66,9 +67,9 @@ pub fn canonicalise_answer(alloc: Global, words: &[&str]) -> Result<String> {
 
 /// `again FORM MESSAGE_WORDS BUDGET DEPTH BYTES`: whether the canonical bytes, read bare, have themselves as canonical
 /// bytes under the same limits; `refused` where there are none.
-pub fn again_answer(alloc: Global, words: &[&str]) -> Result<String> {
+pub fn again_answer(alloc: Global, words: &[&str], tariff: Tariff) -> Result<String> {
     let form = form_at(words, 1)?;
-    let limits = true_limits_at(words, 2)?;
+    let limits = true_limits_at(words, 2, tariff)?;
     let bytes = bytes_at(alloc, words, 5)?;
     let Ok(canonical) = canonicalise(alloc, form, bytes.as_slice(), limits) else {
         return Ok(String::from_str(alloc, "refused")?);
@@ -127,9 +128,9 @@ fn walk_frame(alloc: Global, bytes: &[u8], limits: Limits) -> Result<String> {
 }
 
 /// `walk FORM MESSAGE_WORDS BUDGET DEPTH BYTES`.
-pub fn walk_answer(alloc: Global, words: &[&str]) -> Result<String> {
+pub fn walk_answer(alloc: Global, words: &[&str], tariff: Tariff) -> Result<String> {
     let form = form_at(words, 1)?;
-    let limits = true_limits_at(words, 2)?;
+    let limits = true_limits_at(words, 2, tariff)?;
     let bytes = bytes_at(alloc, words, 5)?;
     match form {
         Form::Bare => match Bare::new(bytes.as_slice()) {

@@ -8,6 +8,7 @@ use anyhow::{Result, anyhow};
 use capn_canon::{Form, is_canonical};
 use capn_pack::unpack;
 use capn_stream::first;
+use capn_value::Tariff;
 use capn_walk::{Limits, survey};
 use capn_words::{Bare, Space};
 use std::alloc::Global;
@@ -38,9 +39,9 @@ fn survey_frame(alloc: Global, bytes: &[u8], limits: Limits) -> Result<String> {
 }
 
 /// `survey FORM MESSAGE_WORDS BUDGET DEPTH BYTES`.
-pub fn survey_answer(alloc: Global, words: &[&str]) -> Result<String> {
+pub fn survey_answer(alloc: Global, words: &[&str], tariff: Tariff) -> Result<String> {
     let form = form_at(words, 1)?;
-    let limits = true_limits_at(words, 2)?;
+    let limits = true_limits_at(words, 2, tariff)?;
     let bytes = bytes_at(alloc, words, 5)?;
     match form {
         Form::Bare => match Bare::new(bytes.as_slice()) {
@@ -56,8 +57,8 @@ pub fn survey_answer(alloc: Global, words: &[&str]) -> Result<String> {
 }
 
 /// `is_canonical MESSAGE_WORDS BUDGET DEPTH BYTES`.
-pub fn is_canonical_answer(alloc: Global, words: &[&str]) -> Result<String> {
-    let limits = true_limits_at(words, 1)?;
+pub fn is_canonical_answer(alloc: Global, words: &[&str], tariff: Tariff) -> Result<String> {
+    let limits = true_limits_at(words, 1, tariff)?;
     let bytes = bytes_at(alloc, words, 4)?;
     match is_canonical(alloc, bytes.as_slice(), limits) {
         Ok(answer) => Ok(format!(in alloc; "{answer}")?),

@@ -9,6 +9,7 @@ use crate::words::{bytes_at, digits_of, number_at, push_told, word_at};
 use anyhow::{Result, anyhow, bail};
 use capn_canon::Form;
 use capn_stream::first;
+use capn_value::Tariff;
 use capn_walk::{Fault, Kind, Meter, View};
 use capn_words::{Bare, Space};
 use std::alloc::Global;
@@ -184,9 +185,9 @@ fn steps_text<S: Space>(
 
 /// `view FORM BUDGET DEPTH BYTES STEP ..`: each step is `root`, `slot VIEW INDEX`, `row VIEW INDEX`, `word VIEW INDEX`,
 /// `number VIEW INDEX`, `bytes VIEW` or `shape VIEW`.
-pub fn view_answer(alloc: Global, words: &[&str]) -> Result<String> {
+pub fn view_answer(alloc: Global, words: &[&str], tariff: Tariff) -> Result<String> {
     let form = form_at(words, 1)?;
-    let mut meter = Meter::new(limit_at(words, 2)?);
+    let mut meter = Meter::with_tariff(limit_at(words, 2)?, tariff);
     let depth = number_at(words, 3)?;
     let bytes = bytes_at(alloc, words, 4)?;
     match form {
