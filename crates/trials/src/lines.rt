@@ -2,6 +2,7 @@
 
 use capn_canon::Form;
 use capn_tool::*;
+use capn_value::Tariff;
 use capn_walk::Limits;
 use std::alloc::Global;
 
@@ -119,6 +120,30 @@ fn numbers_have_ranges(rt: HostRuntime) {
 }
 
 #[test]
+fn tariffs(rt: HostRuntime) {
+    let usual = Limits::usual();
+    let plain = usual.with_tariff(Tariff::Plain);
+    for (name, tariff, order) in [
+        ("show", "strict", Ok(Command::Show(Form::Stream, usual))),
+        ("show", "plain", Ok(Command::Show(Form::Stream, plain))),
+        ("check", "plain", Ok(Command::Check(Form::Stream, plain))),
+        (
+            "canonical",
+            "plain",
+            Ok(Command::Canonical(Form::Stream, plain)),
+        ),
+        ("hash", "plain", Ok(Command::Hash(Form::Stream, plain))),
+        ("hash", "Plain", Err(2)),
+    ] {
+        assert_eq!(rt;
+            ordered(rt.alloc(), &["capn", name, "--tariff", tariff]),
+            order,
+            "{name} --tariff {tariff}"
+        );
+    }
+}
+
+#[test]
 fn other_words_are_mistakes(rt: HostRuntime) {
     assert_eq!(rt; ordered(rt.alloc(), &["capn"]), Err(2));
     for words in [
@@ -132,7 +157,8 @@ fn other_words_are_mistakes(rt: HostRuntime) {
         ["capn", "show", "message"],
         ["capn", "show", "--colour"],
         ["capn", "hash", "--depth"],
-        ["capn", "show", "--tariff=plain"],
+        ["capn", "show", "--tariff=cheap"],
+        ["capn", "pack", "--tariff=plain"],
     ] {
         assert_eq!(rt; ordered(rt.alloc(), &words), Err(2), "{words:?}");
     }

@@ -1,7 +1,7 @@
 //! Values: the table of misfits, the table of sameness, and the text of a tree.
 
 use capn_value::{
-    Body, Items, Misfit, Tree, Value, copy, cost, first_cap, height, kept_slots,
+    Body, Items, Misfit, Tariff, Tree, Value, copy, cost, first_cap, height, kept_slots,
     kept_slots_of_rows, kept_words, kept_words_of_rows, same, show, trim,
 };
 use std::alloc::Global;
@@ -98,14 +98,21 @@ fn long_and_costly_lists(rt: HostRuntime) -> Result<(), Fail> {
     for (count, misfit) in [
         (536870912, Misfit::Long),
         (536870911, Misfit::Costly),
-        (268435454, Misfit::Costly),
+        (268435456, Misfit::Costly),
     ] {
         let value = with_slot(alloc, Value::Voids(count))?;
         assert_eq!(rt; misfit_of(value), Some(misfit));
     }
-    let tree = tree(with_slot(alloc, Value::Voids(268435453))?)?;
-    assert_eq!(rt; cost(&tree), 268435456);
-    assert_eq!(rt; height(&tree), 2);
+    for (count, strict) in [
+        (268435453, 268435456),
+        (268435454, 268435457),
+        (268435455, 268435458),
+    ] {
+        let tree = tree(with_slot(alloc, Value::Voids(count))?)?;
+        assert_eq!(rt; cost(&tree, Tariff::Plain), count + 1);
+        assert_eq!(rt; cost(&tree, Tariff::Strict), strict);
+        assert_eq!(rt; height(&tree), 2);
+    }
     Ok(())
 }
 
@@ -131,7 +138,7 @@ fn nested_structs(rt: HostRuntime) -> Result<(), Fail> {
     let tree = tree(nested(alloc, 256)?)?;
     assert_eq!(rt; height(&tree), 256);
     // 256 structs, of which 255 have a slot.
-    assert_eq!(rt; cost(&tree), 511);
+    assert_eq!(rt; cost(&tree, Tariff::Strict), 511);
     Ok(())
 }
 
@@ -141,7 +148,7 @@ fn bad_roots_and_null(rt: HostRuntime) -> Result<(), Fail> {
     assert_eq!(rt; misfit_of(Value::Cap(0)), Some(Misfit::BadRoot));
     let null = tree(Value::Nil)?;
     assert_eq!(rt; height(&null), 0);
-    assert_eq!(rt; cost(&null), 0);
+    assert_eq!(rt; cost(&null, Tariff::Strict), 0);
     assert!(rt; matches!(null.into_value(), Value::Nil));
     let voids: Value = Value::Voids(7);
     match Tree::new(voids) {
@@ -195,10 +202,10 @@ fn rows_all_zero(rt: HostRuntime) -> Result<(), Fail> {
     let alloc = rt.alloc();
     let rows = two_rows(alloc, vec![in alloc; 0]?, vec![in alloc; 0]?)?;
     let tree = tree(with_slot(alloc, rows)?)?;
-    assert_eq!(rt; cost(&tree), 6);
+    assert_eq!(rt; cost(&tree, Tariff::Strict), 6);
     let cut = trim(alloc, &tree)?;
     // Two rows of no words cost a word each.
-    assert_eq!(rt; cost(&cut), 6);
+    assert_eq!(rt; cost(&cut, Tariff::Strict), 6);
     assert!(rt; same(tree.value(), cut.value()));
     assert_eq!(rt;
         show(alloc, &cut)?.as_str(),
@@ -283,7 +290,7 @@ fn text_of_each_kind(rt: HostRuntime) -> Result<(), Fail> {
     assert!(rt; same(tree.value(), copied.value()));
     // 1 + 1 + 12 for the struct; 4, 2, 1, 2, 1, 2, 2 and 2 for the plain lists, 2 for the pointers,
     // 2 for the rows and 1 for the empty struct.
-    assert_eq!(rt; cost(&tree), 35);
+    assert_eq!(rt; cost(&tree, Tariff::Strict), 35);
     assert_eq!(rt; first_cap(tree.value()), Some(2));
     Ok(())
 }
