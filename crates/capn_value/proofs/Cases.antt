@@ -1,5 +1,5 @@
 -- What holds of a value of one of several kinds, as the arms of a match tell it.
-use Rattle.std.proofs.Common.{◌≡◌, ℕ, List, Bool, true, false, None, ◌⊎◌, inl, inr, refl}
+use Rattle.std.proofs.Common.{◌≡◌, ℕ, List, Bool, false, None, ◌⊎◌, inl, inr, refl}
 use Rattle.capn_value.specs.View.{tree_of}
 use Rattle.capn_value.specs.Views.{tree_of-Nil, tree_of-Node, tree_of-Voids, tree_of-Bits, tree_of-Bytes, tree_of-Pairs, tree_of-Quads, tree_of-Octs, tree_of-Links, tree_of-Rows, tree_of-Cap}
 use Rattle.capn_value.specs.Caps.{first_cap}

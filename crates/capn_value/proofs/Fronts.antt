@@ -1,10 +1,13 @@
 -- The first so many trees.
-use Rattle.std.proofs.Common.{◌≡◌, ℕ, zero, suc, ◌+◌, ◌<◌, List, [], ◌∷◌, ◌++◌, length, min, refl, sym, ap, ap₂, ◌∙◌, arith, get_or, add-one}
-use Rattle.capn_value.specs.Tree.{Trees, no_trees, tree, joined, front, count, tree_at}
-use Rattle.capn_value.specs.View.{tree_of, trees_of}
+use Rattle.std.proofs.Common.{◌≡◌, ℕ, zero, suc, ◌+◌, ◌<◌, List, [], ◌∷◌, ◌++◌, length, min, take, drop, refl, sym, ap, ap₂, ◌∙◌, arith, get_or, add-one}
+use Rattle.capn_value.specs.Tree.{Trees, no_trees, tree, Bodies, body, joined, joined_rows, front, count, tree_at}
+use Rattle.capn_value.specs.View.{tree_of, trees_of, rows_of}
 use Rattle.capn_value.specs.Views.{count-trees_of}
-use Rattle.capn_value.specs.Trim.{trimmed, trimmed_each}
+use Rattle.capn_value.specs.Trim.{trimmed, trimmed_each, trimmed_rows}
 use Rattle.capn_value.specs.declared.value.Value.{Value}
+use Rattle.capn_value.specs.declared.value.Body.{Body}
+use Rattle.capn_value.proofs.Anywhere.{drop-next, drop-past}
+use Rattle.capn_value.proofs.Joined.{joined_rows-push, joined_rows-none}
 use Rattle.capn_value.specs.Laws.Trimmed.{count-trimmed_each}
 
 -- one more
@@ -63,3 +66,18 @@ trimmed_front-push out items i v r so_far within here done =
     rw add-one
     (trees_of-push out r ∙ ap₂ (λ ts t. joined ts (tree t no_trees)) so_far next
     ∙ sym (front-suc i all (omega (arith, count-trimmed_each (trees_of items), count-trees_of items))))
+
+-- the next row, cut and put behind the others, and all of them
+module _ {A B : Type 0} (out : List (Body A)) (rows : List (Body B)) (i w s : ℕ) {all : Bodies}
+    (so_far : joined_rows (rows_of out) (trimmed_rows w s (rows_of (drop i rows))) ≡ all) where
+  pub row_trimmed : (b : Body B) (r : Body A) {more : List (Body A)} → i < length rows → b ≡ get_or rows i b → r.words ≡ take w b.words →
+      trees_of r.slots ≡ front s (trimmed_each (trees_of b.slots)) → more ≡ out ++ r ∷ [] →
+      joined_rows (rows_of more) (trimmed_rows w s (rows_of (drop (i + 1) rows))) ≡ all
+  row_trimmed b r h at e f p =
+      let rest = trimmed_rows w s (rows_of (drop (i + 1) rows)) in
+      ap (λ o. joined_rows (rows_of o) rest) p ∙ joined_rows-push out r rest ∙ ap₂ (λ ws ss. joined_rows (rows_of out) (body ws ss rest)) e f
+      ∙ sym (ap (λ bs. joined_rows (rows_of out) (trimmed_rows w s (rows_of bs))) (drop-next rows i b h at)) ∙ so_far
+
+  pub rows_trimmed : i ≡ length rows → rows_of out ≡ all
+  rows_trimmed e =
+      sym (joined_rows-none (rows_of out)) ∙ sym (ap (λ bs. joined_rows (rows_of out) (trimmed_rows w s (rows_of bs))) (drop-past rows i e)) ∙ so_far

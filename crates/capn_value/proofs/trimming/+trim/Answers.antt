@@ -1,9 +1,9 @@
 use Rattle.std.proofs.Common.{◌≡◌, arith, refl, sym, ap, ap₂, ◌∙◌, min, length}
-use Rattle.capn_value.specs.Tree.{bits, bytes, pairs, quads, octs, links, front}
-use Rattle.capn_value.specs.View.{tree_of, trees_of}
-use Rattle.capn_value.specs.Views.{tree_of-Nil, tree_of-Voids, tree_of-Bits, tree_of-Bytes, tree_of-Pairs, tree_of-Quads, tree_of-Octs, tree_of-Links, tree_of-Cap}
-use Rattle.capn_value.specs.Trim.{trimmed, trimmed_each}
-use Rattle.capn_value.proofs.Fronts.{trimmed_front-length, trimmed_front-min, trimmed_front-push}
+use Rattle.capn_value.specs.Tree.{bits, bytes, pairs, quads, octs, links, front, joined_rows}
+use Rattle.capn_value.specs.View.{tree_of, trees_of, rows_of}
+use Rattle.capn_value.specs.Views.{tree_of-Nil, tree_of-Voids, tree_of-Bits, tree_of-Bytes, tree_of-Pairs, tree_of-Quads, tree_of-Octs, tree_of-Links, tree_of-Cap, tree_of-Node, tree_of-Rows}
+use Rattle.capn_value.specs.Trim.{trimmed, trimmed_each, trimmed_rows}
+use Rattle.capn_value.proofs.Fronts.{trimmed_front-length, trimmed_front-min, trimmed_front-push, row_trimmed, rows_trimmed}
 use Rattle.capn_value.proofs.trimming.+trim.Goals as goal
 
 pub trimmed-returns-in-Nil : goal.trimmed-returns-in-Nil
@@ -59,3 +59,27 @@ pub trimmed_front-returns : goal.trimmed_front-returns
 trimmed_front-returns g t c =
     let reached : c.loop-i.i ≡ min c.args.most (length c.args.items.now) = omega (arith, c.min-len.ensures) in
     c.loop-i.invariant ∙ ap (λ n. front n (trimmed_each (trees_of c.args.items.now))) reached ∙ trimmed_front-min c.args.most c.args.items.now
+
+pub trimmed-returns-in_ok-trimmed_body-in-Node : goal.trimmed-returns-in_ok-trimmed_body-in-Node
+trimmed-returns-in_ok-trimmed_body-in-Node g t c =
+    let made = c.in_ok-trimmed_body-in-Node in
+    rw (c.in-Node.is, tree_of-Node made.field-0, tree_of-Node c.in-Node.body) (cc (made.ensures.words, made.ensures.slots))
+
+pub trimmed-returns-in_ok-trimmed_rows-in-Rows : goal.trimmed-returns-in_ok-trimmed_rows-in-Rows
+trimmed-returns-in_ok-trimmed_rows-in-Rows g t c =
+    let made = c.in_ok-trimmed_rows-in-Rows in
+    rw (c.in-Rows.is, tree_of-Rows made.field-0, tree_of-Rows c.in-Rows.rows) (cc made.ensures)
+
+pub trimmed_rows-loop-row-init : goal.trimmed_rows-loop-row-init
+trimmed_rows-loop-row-init g t c =
+    ap (λ o. joined_rows (rows_of o) (trimmed_rows c.args.words c.args.slots (rows_of c.args.rows.now))) c.in_ok-out.ensures
+
+pub trimmed_rows-loop-row-preserved : goal.trimmed_rows-loop-row-preserved
+trimmed_rows-loop-row-preserved g t c =
+    row_trimmed c.loop-row.out c.args.rows.now _ c.args.words c.args.slots c.loop-row.invariant c.row-item.result
+    c.in_ok-trimmed_body.field-0 (omega arith) c.row-item.is c.in_ok-trimmed_body.ensures.words
+    c.in_ok-trimmed_body.ensures.slots c.in_ok-push.ensures.ok
+
+pub trimmed_rows-returns : goal.trimmed_rows-returns
+trimmed_rows-returns g t c =
+    rows_trimmed c.loop-row.out c.args.rows.now _ c.args.words c.args.slots c.loop-row.invariant (omega arith)
