@@ -1,48 +1,122 @@
 //! Canonical bytes in each form, and their check.
 
+use crate::words::bytes_of;
 use capn_canon::*;
 use capn_pack::UnpackFault;
 use capn_stream::FrameFault;
 use capn_walk::{Fault, Limits, Stopped};
 use capn_words::{Bare, BareFault, Place};
+use std::alloc::Global;
+use std::process::Abort;
 
 /// A struct of one word, in canonical form.
-const ONE_WORD: [u8; 16] = [0, 0, 0, 0, 1, 0, 0, 0, 5, 0, 0, 0, 0, 0, 0, 0];
+const ONE_WORD: [u64; 2] = [0x1_0000_0000, 5];
 
 /// The same value with a zero word behind.
-const TRAILING_ZERO_WORD: [u8; 24] = [
-    0, 0, 0, 0, 2, 0, 0, 0, 5, 0, 0, 0, 0, 0, 0, 0, 0, 0, 0, 0, 0, 0, 0, 0,
-];
+const TRAILING_ZERO_WORD: [u64; 3] = [0x2_0000_0000, 5, 0];
 
 /// Its frame.
-const FRAMED: [u8; 24] = [
-    0, 0, 0, 0, 2, 0, 0, 0, 0, 0, 0, 0, 1, 0, 0, 0, 5, 0, 0, 0, 0, 0, 0, 0,
-];
+const FRAMED: [u64; 3] = [0x2_0000_0000, 0x1_0000_0000, 5];
 
 /// The packed text of its frame.
 const PACKED: [u8; 6] = [0x10, 0x02, 0x10, 0x01, 0x01, 0x05];
 
-#[test]
-fn answers_in_each_form(rt: HostRuntime) {
-    for (form, input, paid) in [
-        (Form::Bare, ONE_WORD.as_slice(), 2),
-        (Form::Bare, TRAILING_ZERO_WORD.as_slice(), 3),
-        (Form::Stream, FRAMED.as_slice(), 2),
-        (Form::Packed, PACKED.as_slice(), 2),
-    ] {
-        match canonicalise(rt.alloc(), form, input, Limits::usual()) {
-            Err(_) => assert!(rt; false, "the message is refused"),
-            Ok(answer) => {
-                assert_eq!(rt; answer.bytes.as_slice(), ONE_WORD.as_slice());
-                assert_eq!(rt; answer.paid, paid);
-            }
+/// A struct with a capability.
+const CAPABILITY: [u64; 2] = [0x1_0000_0000_0000, 0x2_0000_0003];
+
+/// The answer has these words, at this price.
+fn expect_words(
+    rt: &impl Abort,
+    alloc: Global,
+    answer: Result<Canonical, Refusal>,
+    want: &[u64],
+    paid: u32,
+) {
+    match (answer, bytes_of(alloc, want)) {
+        (Ok(answer), Ok(want)) => assert!(rt;
+            answer.paid == paid && answer.bytes.as_slice() == want.as_slice()
+        ),
+        _ => assert!(rt; false, "the message is refused"),
+    }
+}
+
+/// The bytes are canonicalised to these words, at this price.
+fn expect(rt: &impl Abort, alloc: Global, form: Form, bytes: &[u8], want: &[u64], paid: u32) {
+    let answer = canonicalise(alloc, form, bytes, Limits::usual());
+    expect_words(rt, alloc, answer, want, paid);
+}
+
+/// The words are canonicalised, in this form and within these limits, to these words at this price.
+fn expect_of_words(
+    rt: &impl Abort,
+    alloc: Global,
+    form: Form,
+    limits: Limits,
+    words: &[u64],
+    want: &[u64],
+    paid: u32,
+) {
+    match bytes_of(alloc, words) {
+        Ok(bytes) => {
+            let answer = canonicalise(alloc, form, bytes.as_slice(), limits);
+            expect_words(rt, alloc, answer, want, paid);
         }
+        Err(_) => assert!(rt; false, "out of memory"),
+    }
+}
+
+/// The words of a bare message are answered with these words at this price.
+fn expect_of_message(rt: &impl Abort, alloc: Global, words: &[u64], want: &[u64], paid: u32) {
+    match bytes_of(alloc, words) {
+        Ok(bytes) => match Bare::new(bytes.as_slice()) {
+            Ok(bare) => {
+                let answer = canonical_of(alloc, &bare, Limits::usual());
+                expect_words(rt, alloc, answer, want, paid);
+            }
+            Err(_) => assert!(rt; false, "whole words are refused"),
+        },
+        Err(_) => assert!(rt; false, "out of memory"),
     }
 }
 
 #[test]
-fn refuses_in_order(rt: HostRuntime) {
-    let no_segment = Stopped {
+fn answers_in_each_form(rt: HostRuntime) {
+    let alloc = rt.alloc();
+    let usual = Limits::usual();
+    expect_of_words(&rt, alloc, Form::Bare, usual, &ONE_WORD, &ONE_WORD, 2);
+    let trailing = &TRAILING_ZERO_WORD;
+    expect_of_words(&rt, alloc, Form::Bare, usual, trailing, &ONE_WORD, 3);
+    expect_of_words(&rt, alloc, Form::Stream, usual, &FRAMED, &ONE_WORD, 2);
+    expect(&rt, alloc, Form::Packed, &PACKED, &ONE_WORD, 2);
+    expect_of_message(&rt, alloc, trailing, &ONE_WORD, 3);
+}
+
+/// The words and a beginning of four more bytes are refused so.
+fn expect_refusal(
+    rt: &impl Abort,
+    alloc: Global,
+    form: Form,
+    words: &[u64],
+    more: &[u8],
+    want: Refusal,
+) {
+    match bytes_of(alloc, words) {
+        Ok(mut bytes) => {
+            if bytes.extend_from_slice(more).is_err() {
+                assert!(rt; false, "out of memory");
+            }
+            match canonicalise(alloc, form, bytes.as_slice(), Limits::usual()) {
+                Err(refusal) => assert!(rt; refusal == want),
+                Ok(_) => assert!(rt; false, "the bytes are taken"),
+            }
+        }
+        Err(_) => assert!(rt; false, "out of memory"),
+    }
+}
+
+/// The first slot leads to a segment that isn't there.
+fn no_segment() -> Refusal {
+    Refusal::Walk(Stopped {
         fault: Fault::NoSegment,
         place: Place {
             segment: 0,
@@ -50,103 +124,86 @@ fn refuses_in_order(rt: HostRuntime) {
         },
         paid: 0,
         visits: 1,
-    };
-    let trailing = [
-        0, 0, 0, 0, 2, 0, 0, 0, 0, 0, 0, 0, 1, 0, 0, 0, 5, 0, 0, 0, 0, 0, 0, 0, 0,
-    ];
-    let capability = [0, 0, 0, 0, 0, 0, 1, 0, 3, 0, 0, 0, 2, 0, 0, 0];
-    let far = [2, 0, 0, 0, 1, 0, 0, 0];
-    for (form, input, wanted) in [
-        (
-            Form::Bare,
-            &ONE_WORD[..9],
-            Refusal::Bare(BareFault::NotWhole(9)),
-        ),
-        (
-            Form::Packed,
-            &PACKED[..1],
-            Refusal::Packed(UnpackFault::Cut { at: 0 }),
-        ),
-        (Form::Packed, &PACKED[..2], Refusal::Frame(FrameFault::Cut)),
-        (
-            Form::Stream,
-            &PACKED[..0],
-            Refusal::Frame(FrameFault::Empty),
-        ),
-        (Form::Stream, trailing.as_slice(), Refusal::Trailing(24)),
-        (Form::Bare, far.as_slice(), Refusal::Walk(no_segment)),
-        (Form::Bare, capability.as_slice(), Refusal::Capability(2)),
-    ] {
-        match canonicalise(rt.alloc(), form, input, Limits::usual()) {
-            Err(refusal) => assert_eq!(rt; refusal, wanted),
-            Ok(_) => assert!(rt; false, "the bytes are taken"),
+    })
+}
+
+#[test]
+fn refuses_in_order(rt: HostRuntime) {
+    let alloc = rt.alloc();
+    let not_whole = Refusal::Bare(BareFault::NotWhole(9));
+    expect_refusal(&rt, alloc, Form::Bare, &ONE_WORD[..1], &[5], not_whole);
+    let cut = Refusal::Packed(UnpackFault::Cut { at: 0 });
+    expect_refusal(&rt, alloc, Form::Packed, &[], &PACKED[..1], cut);
+    let cut = Refusal::Frame(FrameFault::Cut);
+    expect_refusal(&rt, alloc, Form::Packed, &[], &PACKED[..2], cut);
+    let empty = Refusal::Frame(FrameFault::Empty);
+    expect_refusal(&rt, alloc, Form::Stream, &[], &[], empty);
+    let trailing = Refusal::Trailing(24);
+    expect_refusal(&rt, alloc, Form::Stream, &FRAMED, &[0], trailing);
+    let far = [0x1_0000_0002];
+    expect_refusal(&rt, alloc, Form::Bare, &far, &[], no_segment());
+    let capability = Refusal::Capability(2);
+    expect_refusal(&rt, alloc, Form::Bare, &CAPABILITY, &[], capability);
+}
+
+/// Two slots that name one struct, framed.
+const SHARED: [u64; 5] = [
+    0x4_0000_0000,
+    0x2_0000_0000_0000,
+    0x1_0000_0004,
+    0x1_0000_0000,
+    9,
+];
+
+/// Its canonical form, with the struct twice.
+const TWICE: [u64; 5] = [0x2_0000_0000_0000, 0x1_0000_0004, 0x1_0000_0004, 9, 9];
+
+/// The canonical form has more words than a framed message may have under the same limits, and is answered unchanged.
+#[test]
+fn answers_its_own_form_under_the_same_limits(rt: HostRuntime) {
+    match Limits::new(4, 7, 2) {
+        None => assert!(rt; false, "the limits are out of range"),
+        Some(limits) => {
+            expect_of_words(&rt, rt.alloc(), Form::Stream, limits, &SHARED, &TWICE, 7);
+            expect_of_words(&rt, rt.alloc(), Form::Bare, limits, &TWICE, &TWICE, 7);
         }
     }
 }
 
-/// Two slots that name one struct, framed: the canonical form has more words than a framed message may have
-/// under the same limits, and is answered unchanged.
-#[test]
-fn answers_its_own_form_under_the_same_limits(rt: HostRuntime) {
-    let framed = [
-        0, 0, 0, 0, 4, 0, 0, 0, 0, 0, 0, 0, 0, 0, 2, 0, 4, 0, 0, 0, 1, 0, 0, 0, 0, 0, 0, 0, 1, 0,
-        0, 0, 9, 0, 0, 0, 0, 0, 0, 0,
-    ];
-    let own = [
-        0, 0, 0, 0, 0, 0, 2, 0, 4, 0, 0, 0, 1, 0, 0, 0, 4, 0, 0, 0, 1, 0, 0, 0, 9, 0, 0, 0, 0, 0,
-        0, 0, 9, 0, 0, 0, 0, 0, 0, 0,
-    ];
-    match Limits::new(4, 7, 2) {
-        None => assert!(rt; false, "the limits are out of range"),
-        Some(limits) => for (form, input) in [(Form::Stream, framed), (Form::Bare, own)] {
-            match canonicalise(rt.alloc(), form, input.as_slice(), limits) {
+/// A bare message is told to be canonical or not, at this price and with this first capability.
+fn expect_check(
+    rt: &impl Abort,
+    alloc: Global,
+    words: &[u64],
+    paid: u32,
+    index: Option<u32>,
+    yes: bool,
+) {
+    match bytes_of(alloc, words) {
+        Ok(bytes) => match Bare::new(bytes.as_slice()) {
+            Ok(bare) => match check(alloc, &bare, Limits::usual()) {
+                Ok(told) => assert!(rt;
+                    told.paid == paid && told.capability == index && told.is_canonical == yes
+                ),
                 Err(_) => assert!(rt; false, "the message is refused"),
-                Ok(answer) => {
-                    assert_eq!(rt; answer.bytes.as_slice(), own.as_slice());
-                    assert_eq!(rt; answer.paid, 7);
-                }
-            }
+            },
+            Err(_) => assert!(rt; false, "whole words are refused"),
         },
-    }
-}
-
-#[test]
-fn answers_for_a_message(rt: HostRuntime) {
-    match Bare::new(&TRAILING_ZERO_WORD) {
-        Err(_) => assert!(rt; false, "three words are refused"),
-        Ok(bare) => match canonical_of(rt.alloc(), &bare, Limits::usual()) {
-            Err(_) => assert!(rt; false, "the message is refused"),
-            Ok(answer) => {
-                assert_eq!(rt; answer.bytes.as_slice(), ONE_WORD.as_slice());
-                assert_eq!(rt; answer.paid, 3);
-            }
-        },
+        Err(_) => assert!(rt; false, "out of memory"),
     }
 }
 
 /// Bytes that are canonical, bytes that are not, and a capability, which has no canonical bytes.
 #[test]
 fn tells_canonical_bytes(rt: HostRuntime) {
-    let capability = [0, 0, 0, 0, 0, 0, 1, 0, 3, 0, 0, 0, 2, 0, 0, 0];
-    for (input, paid, index, yes) in [
-        (ONE_WORD.as_slice(), 2, None, true),
-        (TRAILING_ZERO_WORD.as_slice(), 3, None, false),
-        (capability.as_slice(), 2, Some(2), false),
-    ] {
-        match Bare::new(input) {
-            Err(_) => assert!(rt; false, "whole words are refused"),
-            Ok(bare) => match check(rt.alloc(), &bare, Limits::usual()) {
-                Err(_) => assert!(rt; false, "the message is refused"),
-                Ok(checked) => {
-                    assert_eq!(rt; checked.paid, paid);
-                    assert_eq!(rt; checked.capability, index);
-                    assert_eq!(rt; checked.is_canonical, yes);
-                }
-            },
-        }
+    let alloc = rt.alloc();
+    expect_check(&rt, alloc, &ONE_WORD, 2, None, true);
+    expect_check(&rt, alloc, &TRAILING_ZERO_WORD, 3, None, false);
+    expect_check(&rt, alloc, &CAPABILITY, 2, Some(2), false);
+    match bytes_of(alloc, &ONE_WORD) {
+        Ok(bytes) => assert!(rt;
+            is_canonical(alloc, bytes.as_slice(), Limits::usual()) == Ok(true)
+        ),
+        Err(_) => assert!(rt; false, "out of memory"),
     }
-    assert_eq!(rt;
-        is_canonical(rt.alloc(), &ONE_WORD, Limits::usual()),
-        Ok(true)
-    );
 }

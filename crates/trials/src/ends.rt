@@ -113,8 +113,8 @@ fn check() -> Run<'static> {
     }
 }
 
-/// What a run ended with, what it wrote, and the most that it asked its reader for, where the reader fails at one call and
-/// the writer at another (at 0: never).
+/// What a run ended with, what it wrote, and the most that it asked its reader for, where the reader fails at one call
+/// and the writer at another (at 0: never).
 fn ended(
     alloc: Global,
     run_of: &Run,

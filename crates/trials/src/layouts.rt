@@ -1,232 +1,135 @@
 //! Canonical bytes of values that are put together here, and a buffer of words and holes.
 
+use crate::making::*;
+use crate::words::bytes_of;
 use capn_canon::{LayoutFault, Patch, layout};
-use capn_value::{Body, Items, Tree, Value};
+use capn_value::{Items, Memory, Value};
 use std::alloc::Global;
-use std::test::Fail;
+use std::process::Abort;
 
-fn body(words: Vec<u64>, slots: Vec<Value>) -> Body {
-    Body {
-        words: Items::from_vec(words),
-        slots: Items::from_vec(slots),
+/// The layout of a value has these words.
+fn expect(rt: &impl Abort, alloc: Global, made: Made, want: &[u64]) {
+    match (tree(made), bytes_of(alloc, want)) {
+        (Ok(tree), Ok(want)) => match layout(alloc, &tree) {
+            Ok(bytes) => assert!(rt; bytes.as_slice() == want.as_slice()),
+            Err(_) => assert!(rt; false, "the tree has no layout"),
+        },
+        _ => assert!(rt; false, "the value doesn't fit"),
     }
 }
 
-// A struct of data words alone.
-fn data(words: Vec<u64>, alloc: Global) -> Value {
-    Value::Node(body(words, Vec::new(alloc)))
-}
-
-// A struct of one slot.
-fn holder(slot: Value, alloc: Global) -> Result<Value, Fail> {
-    let mut slots = Vec::new(alloc);
-    slots.push(slot)?;
-    Ok(Value::Node(body(Vec::new(alloc), slots)))
-}
-
-// A struct of two slots.
-fn pair(first: Value, second: Value, alloc: Global) -> Result<Value, Fail> {
-    let mut slots = Vec::new(alloc);
-    slots.push(first)?;
-    slots.push(second)?;
-    Ok(Value::Node(body(Vec::new(alloc), slots)))
-}
-
-// A list of two structs of one data word each.
-fn two_rows(first: u64, second: u64, alloc: Global) -> Result<Value, Fail> {
-    let mut rows = Items::new(alloc);
-    rows.push(body(vec![in alloc; first]?, Vec::new(alloc)))?;
-    rows.push(body(vec![in alloc; second]?, Vec::new(alloc)))?;
-    Ok(Value::Rows(rows))
-}
-
-fn tree(value: Value) -> Result<Tree, Fail> {
-    Tree::new(value).map_err(|_| Fail::new("the value doesn't fit"))
-}
-
-fn bytes_of(value: Value, alloc: Global) -> Result<Vec<u8>, Fail> {
-    let tree = tree(value)?;
-    layout(alloc, &tree).map_err(|_| Fail::new("the tree has no layout"))
-}
-
 #[test]
-fn empty_struct_root(rt: HostRuntime) -> Result<(), Fail> {
-    let bytes = bytes_of(data(Vec::new(rt.alloc()), rt.alloc()), rt.alloc())?;
-    assert_eq!(rt;
-        bytes.as_slice(),
-        [0xfc, 0xff, 0xff, 0xff, 0, 0, 0, 0].as_slice()
+fn structs(rt: HostRuntime) {
+    let alloc = rt.alloc();
+    // An empty root, and a root of one word.
+    expect(&rt, alloc, data(alloc, &[]), &[0xffff_fffc]);
+    expect(&rt, alloc, data(alloc, &[5]), &[0x1_0000_0000, 5]);
+    // A slot that leads to an empty struct is kept, and one that is null is cut.
+    let empty = holder(alloc, data(alloc, &[]));
+    expect(&rt, alloc, empty, &[0x1_0000_0000_0000, 0xffff_fffc]);
+    expect(&rt, alloc, holder(alloc, Ok(Value::Nil)), &[0xffff_fffc]);
+    // A struct that two slots share is laid out twice.
+    let shared = pair(alloc, data(alloc, &[9]), data(alloc, &[9]));
+    expect(
+        &rt,
+        alloc,
+        shared,
+        &[0x2_0000_0000_0000, 0x1_0000_0004, 0x1_0000_0004, 9, 9],
     );
-    Ok(())
 }
 
 #[test]
-fn struct_of_one_word(rt: HostRuntime) -> Result<(), Fail> {
-    let bytes = bytes_of(data(vec![in rt.alloc(); 5]?, rt.alloc()), rt.alloc())?;
-    assert_eq!(rt;
-        bytes.as_slice(),
-        [0, 0, 0, 0, 1, 0, 0, 0, 5, 0, 0, 0, 0, 0, 0, 0].as_slice()
+fn rows(rt: HostRuntime) {
+    let alloc = rt.alloc();
+    // Rows of which the last is zero, rows that are all zero, and none.
+    let some = holder(alloc, two_rows(alloc, &[7], &[0]));
+    expect(
+        &rt,
+        alloc,
+        some,
+        &[0x1_0000_0000_0000, 0x17_0000_0001, 0x1_0000_0008, 7, 0],
     );
-    Ok(())
+    let zero = holder(alloc, two_rows(alloc, &[0], &[0]));
+    expect(&rt, alloc, zero, &[0x1_0000_0000_0000, 0x7_0000_0001, 8]);
+    let none = holder(alloc, Ok(Value::Rows(Items::new(alloc))));
+    expect(&rt, alloc, none, &[0x1_0000_0000_0000, 0x7_0000_0001, 0]);
+}
+
+/// The words of a struct with a slot of each kind, of which the list of pointers has two nulls.
+const ONE_OF_EACH: [u64; 23] = [
+    0xc_0001_0000_0000,
+    0xab_cdef,
+    0,
+    0x18_0000_0029,
+    0x51_0000_0025,
+    0x1_0000_0025,
+    0x1a_0000_0021,
+    0x2_0000_0021,
+    0x1b_0000_001d,
+    0x14_0000_001d,
+    0x15_0000_001d,
+    0x16_0000_0021,
+    0x7_0000_0025,
+    0xffff_fffc,
+    0x3fd,
+    0x63_6261,
+    0x102_0000_ffff,
+    0x102_0304_ffff_ffff,
+    0xffff_ffff_ffff_ffff,
+    0x102_0304_0506_0708,
+    0,
+    0,
+    0,
+];
+
+#[test]
+fn each_kind(rt: HostRuntime) {
+    let alloc = rt.alloc();
+    expect(&rt, alloc, one_of_each(alloc, Value::Nil), &ONE_OF_EACH);
+}
+
+/// An empty list of bytes points to where the next object stands.
+#[test]
+fn empty_bytes_before_a_struct(rt: HostRuntime) {
+    let alloc = rt.alloc();
+    let made = pair(alloc, text(alloc, &[]), data(alloc, &[9]));
+    expect(
+        &rt,
+        alloc,
+        made,
+        &[0x2_0000_0000_0000, 0x2_0000_0005, 0x1_0000_0000, 9],
+    );
 }
 
 #[test]
-fn rows_of_which_the_last_is_zero(rt: HostRuntime) -> Result<(), Fail> {
+fn first_capability_in_preorder(rt: HostRuntime) {
     let alloc = rt.alloc();
-    let bytes = bytes_of(holder(two_rows(7, 0, alloc)?, alloc)?, alloc)?;
-    let want = [
-        0, 0, 0, 0, 0, 0, 1, 0, 1, 0, 0, 0, 0x17, 0, 0, 0, 8, 0, 0, 0, 1, 0, 0, 0, 7, 0, 0, 0, 0,
-        0, 0, 0, 0, 0, 0, 0, 0, 0, 0, 0,
-    ];
-    assert_eq!(rt; bytes.as_slice(), want.as_slice());
-    Ok(())
-}
-
-#[test]
-fn rows_all_zero(rt: HostRuntime) -> Result<(), Fail> {
-    let alloc = rt.alloc();
-    let bytes = bytes_of(holder(two_rows(0, 0, alloc)?, alloc)?, alloc)?;
-    let want = [
-        0, 0, 0, 0, 0, 0, 1, 0, 1, 0, 0, 0, 7, 0, 0, 0, 8, 0, 0, 0, 0, 0, 0, 0,
-    ];
-    assert_eq!(rt; bytes.as_slice(), want.as_slice());
-    Ok(())
-}
-
-#[test]
-fn three_bytes(rt: HostRuntime) -> Result<(), Fail> {
-    let alloc = rt.alloc();
-    let list = Value::Bytes(Items::from_vec(vec![in alloc; 0x61, 0x62, 0x63]?));
-    let bytes = bytes_of(holder(list, alloc)?, alloc)?;
-    let want = [
-        0, 0, 0, 0, 0, 0, 1, 0, 1, 0, 0, 0, 0x1a, 0, 0, 0, 0x61, 0x62, 0x63, 0, 0, 0, 0, 0,
-    ];
-    assert_eq!(rt; bytes.as_slice(), want.as_slice());
-    Ok(())
-}
-
-#[test]
-fn shared_struct(rt: HostRuntime) -> Result<(), Fail> {
-    let alloc = rt.alloc();
-    let first = data(vec![in alloc; 9]?, alloc);
-    let second = data(vec![in alloc; 9]?, alloc);
-    let bytes = bytes_of(pair(first, second, alloc)?, alloc)?;
-    let want = [
-        0, 0, 0, 0, 0, 0, 2, 0, 4, 0, 0, 0, 1, 0, 0, 0, 4, 0, 0, 0, 1, 0, 0, 0, 9, 0, 0, 0, 0, 0,
-        0, 0, 9, 0, 0, 0, 0, 0, 0, 0,
-    ];
-    assert_eq!(rt; bytes.as_slice(), want.as_slice());
-    Ok(())
-}
-
-#[test]
-fn trailing_pointer_to_an_empty_struct(rt: HostRuntime) -> Result<(), Fail> {
-    let alloc = rt.alloc();
-    let bytes = bytes_of(holder(data(Vec::new(alloc), alloc), alloc)?, alloc)?;
-    let want = [0, 0, 0, 0, 0, 0, 1, 0, 0xfc, 0xff, 0xff, 0xff, 0, 0, 0, 0];
-    assert_eq!(rt; bytes.as_slice(), want.as_slice());
-    Ok(())
-}
-
-#[test]
-fn empty_composite_list(rt: HostRuntime) -> Result<(), Fail> {
-    let alloc = rt.alloc();
-    let bytes = bytes_of(holder(Value::Rows(Items::new(alloc)), alloc)?, alloc)?;
-    let want = [
-        0, 0, 0, 0, 0, 0, 1, 0, 1, 0, 0, 0, 7, 0, 0, 0, 0, 0, 0, 0, 0, 0, 0, 0,
-    ];
-    assert_eq!(rt; bytes.as_slice(), want.as_slice());
-    Ok(())
-}
-
-#[test]
-fn ten_bits(rt: HostRuntime) -> Result<(), Fail> {
-    let alloc = rt.alloc();
-    let bits = Items::from_slice(alloc, &[true; 10])?;
-    let bytes = bytes_of(holder(Value::Bits(bits), alloc)?, alloc)?;
-    let want = [
-        0, 0, 0, 0, 0, 0, 1, 0, 1, 0, 0, 0, 0x51, 0, 0, 0, 0xff, 3, 0, 0, 0, 0, 0, 0,
-    ];
-    assert_eq!(rt; bytes.as_slice(), want.as_slice());
-    Ok(())
-}
-
-#[test]
-fn numbers_of_each_width(rt: HostRuntime) -> Result<(), Fail> {
-    let alloc = rt.alloc();
-    let pairs = Value::Pairs(Items::from_slice(alloc, &[0x102, 0x304])?);
-    let quads = Value::Quads(Items::from_slice(alloc, &[0x1020304])?);
-    let bytes = bytes_of(pair(pairs, quads, alloc)?, alloc)?;
-    let want = [
-        0, 0, 0, 0, 0, 0, 2, 0, 5, 0, 0, 0, 0x13, 0, 0, 0, 5, 0, 0, 0, 0xc, 0, 0, 0, 2, 1, 4, 3, 0,
-        0, 0, 0, 4, 3, 2, 1, 0, 0, 0, 0,
-    ];
-    assert_eq!(rt; bytes.as_slice(), want.as_slice());
-    let octs = Value::Octs(Items::from_slice(alloc, &[0x102030405060708])?);
-    let bytes = bytes_of(pair(octs, Value::Voids(3), alloc)?, alloc)?;
-    let want = [
-        0, 0, 0, 0, 0, 0, 2, 0, 5, 0, 0, 0, 0xd, 0, 0, 0, 5, 0, 0, 0, 0x18, 0, 0, 0, 8, 7, 6, 5, 4,
-        3, 2, 1,
-    ];
-    assert_eq!(rt; bytes.as_slice(), want.as_slice());
-    Ok(())
-}
-
-#[test]
-fn list_of_two_null_pointers(rt: HostRuntime) -> Result<(), Fail> {
-    let alloc = rt.alloc();
-    let mut items = Items::new(alloc);
-    items.push(Value::Nil)?;
-    items.push(Value::Nil)?;
-    let bytes = bytes_of(holder(Value::Links(items), alloc)?, alloc)?;
-    let want = [
-        0, 0, 0, 0, 0, 0, 1, 0, 1, 0, 0, 0, 0x16, 0, 0, 0, 0, 0, 0, 0, 0, 0, 0, 0, 0, 0, 0, 0, 0,
-        0, 0, 0,
-    ];
-    assert_eq!(rt; bytes.as_slice(), want.as_slice());
-    Ok(())
-}
-
-#[test]
-fn empty_byte_list_before_a_struct(rt: HostRuntime) -> Result<(), Fail> {
-    let alloc = rt.alloc();
-    let none = Value::Bytes(Items::new(alloc));
-    let bytes = bytes_of(pair(none, data(vec![in alloc; 9]?, alloc), alloc)?, alloc)?;
-    let want = [
-        0, 0, 0, 0, 0, 0, 2, 0, 5, 0, 0, 0, 2, 0, 0, 0, 0, 0, 0, 0, 1, 0, 0, 0, 9, 0, 0, 0, 0, 0,
-        0, 0,
-    ];
-    assert_eq!(rt; bytes.as_slice(), want.as_slice());
-    Ok(())
-}
-
-#[test]
-fn first_capability_in_preorder(rt: HostRuntime) -> Result<(), Fail> {
-    let alloc = rt.alloc();
-    let mut items = Items::new(alloc);
-    items.push(Value::Cap(7))?;
-    let tree = tree(pair(Value::Links(items), Value::Cap(2), alloc)?)?;
-    match layout(alloc, &tree) {
-        Ok(_) => assert!(rt; false, "a capability has a layout"),
-        Err(fault) => assert_eq!(rt; fault, LayoutFault::Capability(7)),
+    let links = link(alloc, Ok(Value::Cap(7)));
+    match tree(pair(alloc, links, Ok(Value::Cap(2)))) {
+        Ok(tree) => assert!(rt; matches!(layout(alloc, &tree), Err(LayoutFault::Capability(7)))),
+        Err(_) => assert!(rt; false, "the value doesn't fit"),
     }
-    Ok(())
 }
 
-#[test]
-fn words_and_holes(rt: HostRuntime) -> Result<(), Fail> {
-    let mut patch = Patch::new(rt.alloc());
+/// A word, a hole that is filled, and none.
+fn patched(alloc: Global) -> Result<(Vec<u8>, usize, usize), Memory> {
+    let mut patch = Patch::new(alloc);
     patch.push(0x102)?;
     let first = patch.leave(1)?;
-    assert_eq!(rt; first, 1);
     patch.fill(first, 7);
     let none = patch.leave(0)?;
-    assert_eq!(rt; none, 2);
     match patch.finish() {
-        Ok(bytes) => assert_eq!(rt;
-            bytes.as_slice(),
-            [2, 1, 0, 0, 0, 0, 0, 0, 7, 0, 0, 0, 0, 0, 0, 0].as_slice()
-        ),
-        Err(_) => assert!(rt; false, "out of memory"),
+        Ok(bytes) => Ok((bytes, first, none)),
+        Err((_, fault)) => Err(fault),
     }
-    Ok(())
+}
+
+#[test]
+fn words_and_holes(rt: HostRuntime) {
+    match (patched(rt.alloc()), bytes_of(rt.alloc(), &[0x102, 7])) {
+        (Ok((bytes, first, none)), Ok(want)) => assert!(rt;
+            first == 1 && none == 2 && bytes.as_slice() == want.as_slice()
+        ),
+        _ => assert!(rt; false, "out of memory"),
+    }
 }

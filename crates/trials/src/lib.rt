@@ -1,5 +1,5 @@
-//! Trials of the libraries' public calls: what no clause can say, as that they succeed where there is memory, and the texts
-//! that are printed.
+//! Trials of the libraries' public calls: what no clause can say, as that they succeed where there is memory, and the
+//! texts that are printed.
 //!
 //! They stand apart from the crates that they try, since a crate with tests is proved twice.
 #![tactic(auto)]
@@ -7,13 +7,31 @@
 #[cfg(test)]
 mod canonical;
 #[cfg(test)]
+mod cuts;
+#[cfg(test)]
 mod ends;
+#[cfg(test)]
+mod framers;
 #[cfg(test)]
 mod layouts;
 #[cfg(test)]
 mod lines;
 #[cfg(test)]
+mod making;
+#[cfg(test)]
 mod pieces;
+#[cfg(test)]
+mod refused;
+#[cfg(test)]
+mod refusing;
+#[cfg(test)]
+mod short_runs;
+#[cfg(test)]
+mod short_streams;
+#[cfg(test)]
+mod short_values;
+#[cfg(test)]
+mod subject;
 #[cfg(test)]
 mod surveys;
 #[cfg(test)]
@@ -22,3 +40,5 @@ mod texts;
 mod values;
 #[cfg(test)]
 mod walks;
+#[cfg(test)]
+mod words;

@@ -5,13 +5,18 @@ use capn_tool::*;
 use capn_value::Tariff;
 use capn_walk::Limits;
 use std::alloc::Global;
+use std::process::Abort;
 
-/// What the words order, or the status with which they end the program.
-fn ordered(alloc: Global, words: &[&str]) -> Result<Command, u8> {
-    command_of(alloc, words).map_err(|usage| usage.status())
+/// The words order this, or end the program with this status.
+fn expect(rt: &impl Abort, alloc: Global, words: &[&str], want: Result<Command, u8>) {
+    match (command_of(alloc, words), want) {
+        (Ok(command), Ok(want)) => assert!(rt; command == want, "{words:?}"),
+        (Err(usage), Err(want)) => assert!(rt; usage.status() == want, "{words:?}"),
+        _ => assert!(rt; false, "{words:?}"),
+    }
 }
 
-/// `check` with these limits, where they are in their ranges.
+/// `check` of a stream with these limits, where they are in their ranges.
 fn check(message_words: u32, budget: u32, depth: u32) -> Result<Command, u8> {
     match Limits::new(message_words, budget, depth) {
         Some(limits) => Ok(Command::Check(Form::Stream, limits)),
@@ -21,161 +26,185 @@ fn check(message_words: u32, budget: u32, depth: u32) -> Result<Command, u8> {
 
 #[test]
 fn usual_values(rt: HostRuntime) {
+    let (alloc, usual) = (rt.alloc(), Limits::usual());
+    let show = Command::Show(Form::Stream, usual);
+    expect(&rt, alloc, &["capn", "show"], Ok(show));
+    let check = Command::Check(Form::Stream, usual);
+    expect(&rt, alloc, &["capn", "check"], Ok(check));
+    let canonical = Command::Canonical(Form::Stream, usual);
+    expect(&rt, alloc, &["capn", "canonical"], Ok(canonical));
+    let hash = Command::Hash(Form::Stream, usual);
+    expect(&rt, alloc, &["capn", "hash"], Ok(hash));
+    expect(&rt, alloc, &["capn", "pack"], Ok(Command::Pack));
+    let unpack = Command::Unpack(8_388_865);
+    expect(&rt, alloc, &["capn", "unpack"], Ok(unpack));
+}
+
+/// A command with a form orders this, or is a mistake.
+fn expect_form(rt: &impl Abort, alloc: Global, name: &str, form: &str, want: Result<Command, u8>) {
+    expect(rt, alloc, &["capn", name, "--form", form], want);
+}
+
+/// Each command in one of the forms.
+fn expect_each(rt: &impl Abort, alloc: Global, name: &str, form: Form) {
     let usual = Limits::usual();
-    for (name, command) in [
-        ("show", Command::Show(Form::Stream, usual)),
-        ("check", Command::Check(Form::Stream, usual)),
-        ("canonical", Command::Canonical(Form::Stream, usual)),
-        ("hash", Command::Hash(Form::Stream, usual)),
-        ("pack", Command::Pack),
-        ("unpack", Command::Unpack(8_388_865)),
-    ] {
-        assert_eq!(rt; ordered(rt.alloc(), &["capn", name]), Ok(command), "{name}");
-    }
+    expect_form(rt, alloc, "show", name, Ok(Command::Show(form, usual)));
+    expect_form(rt, alloc, "check", name, Ok(Command::Check(form, usual)));
+    expect_form(rt, alloc, "hash", name, Ok(Command::Hash(form, usual)));
+    let canonical = Command::Canonical(form, usual);
+    expect_form(rt, alloc, "canonical", name, Ok(canonical));
 }
 
 #[test]
 fn forms(rt: HostRuntime) {
-    let usual = Limits::usual();
-    for (name, form, order) in [
-        ("show", "stream", Ok(Command::Show(Form::Stream, usual))),
-        ("show", "packed", Ok(Command::Show(Form::Packed, usual))),
-        ("show", "bare", Ok(Command::Show(Form::Bare, usual))),
-        ("check", "packed", Ok(Command::Check(Form::Packed, usual))),
-        ("check", "bare", Ok(Command::Check(Form::Bare, usual))),
-        ("hash", "packed", Ok(Command::Hash(Form::Packed, usual))),
-        ("hash", "bare", Ok(Command::Hash(Form::Bare, usual))),
-        (
-            "canonical",
-            "stream",
-            Ok(Command::Canonical(Form::Stream, usual)),
-        ),
-        (
-            "canonical",
-            "packed",
-            Ok(Command::Canonical(Form::Packed, usual)),
-        ),
-        (
-            "canonical",
-            "bare",
-            Ok(Command::Canonical(Form::Bare, usual)),
-        ),
-        ("canonical", "Bare", Err(2)),
-        ("canonical", "", Err(2)),
-        ("pack", "bare", Err(2)),
-        ("unpack", "bare", Err(2)),
-    ] {
-        assert_eq!(rt;
-            ordered(rt.alloc(), &["capn", name, "--form", form]),
-            order,
-            "{name} {form}"
-        );
-    }
+    expect_each(&rt, rt.alloc(), "stream", Form::Stream);
+    expect_each(&rt, rt.alloc(), "packed", Form::Packed);
+    expect_each(&rt, rt.alloc(), "bare", Form::Bare);
+    expect_form(&rt, rt.alloc(), "canonical", "Bare", Err(2));
+    expect_form(&rt, rt.alloc(), "canonical", "", Err(2));
+    expect_form(&rt, rt.alloc(), "pack", "bare", Err(2));
+    expect_form(&rt, rt.alloc(), "unpack", "bare", Err(2));
+}
+
+/// `check` with a number for an option orders this, or is a mistake.
+fn expect_check(
+    rt: &impl Abort,
+    alloc: Global,
+    option: &str,
+    number: &str,
+    want: Result<Command, u8>,
+) {
+    expect(rt, alloc, &["capn", "check", option, number], want);
 }
 
 #[test]
-fn numbers_have_ranges(rt: HostRuntime) {
-    for (name, option, number, order) in [
-        ("check", "--message-words", "0", Err(2)),
-        ("check", "--message-words", "1", check(1, 8_388_608, 64)),
-        (
-            "check",
-            "--message-words",
-            "268435456",
-            check(268_435_456, 8_388_608, 64),
-        ),
-        ("check", "--message-words", "268435457", Err(2)),
-        ("check", "--budget", "-1", Err(2)),
-        ("check", "--budget", "0", check(8_388_608, 0, 64)),
-        (
-            "check",
-            "--budget",
-            "268435456",
-            check(8_388_608, 268_435_456, 64),
-        ),
-        ("check", "--budget", "268435457", Err(2)),
-        ("check", "--depth", "0", Err(2)),
-        ("check", "--depth", "1", check(8_388_608, 8_388_608, 1)),
-        ("check", "--depth", "256", check(8_388_608, 8_388_608, 256)),
-        ("check", "--depth", "257", Err(2)),
-        ("check", "--depth", "deep", Err(2)),
-        ("unpack", "--message-words", "0", Err(2)),
-        ("unpack", "--message-words", "1", Ok(Command::Unpack(258))),
-        (
-            "unpack",
-            "--message-words",
-            "268435456",
-            Ok(Command::Unpack(268_435_713)),
-        ),
-        ("unpack", "--message-words", "268435457", Err(2)),
-        ("unpack", "--budget", "5", Err(2)),
-        ("pack", "--message-words", "5", Err(2)),
-    ] {
-        assert_eq!(rt;
-            ordered(rt.alloc(), &["capn", name, option, number]),
-            order,
-            "{name} {option} {number}"
-        );
-    }
+fn limits_have_ranges(rt: HostRuntime) {
+    let alloc = rt.alloc();
+    let (usual, most) = (8_388_608, 268_435_456);
+    let words = "--message-words";
+    expect_check(&rt, alloc, words, "0", Err(2));
+    expect_check(&rt, alloc, words, "1", check(1, usual, 64));
+    expect_check(&rt, alloc, words, "268435456", check(most, usual, 64));
+    expect_check(&rt, alloc, words, "268435457", Err(2));
+    expect_check(&rt, alloc, "--budget", "-1", Err(2));
+    expect_check(&rt, alloc, "--budget", "0", check(usual, 0, 64));
+    expect_check(&rt, alloc, "--budget", "268435456", check(usual, most, 64));
+    expect_check(&rt, alloc, "--budget", "268435457", Err(2));
+    expect_check(&rt, alloc, "--depth", "0", Err(2));
+    expect_check(&rt, alloc, "--depth", "1", check(usual, usual, 1));
+    expect_check(&rt, alloc, "--depth", "256", check(usual, usual, 256));
+    expect_check(&rt, alloc, "--depth", "257", Err(2));
+    expect_check(&rt, alloc, "--depth", "deep", Err(2));
+}
+
+/// `unpack` of at most so many words orders this, or is a mistake.
+fn expect_unpack(rt: &impl Abort, alloc: Global, number: &str, want: Result<Command, u8>) {
+    expect(
+        rt,
+        alloc,
+        &["capn", "unpack", "--message-words", number],
+        want,
+    );
+}
+
+#[test]
+fn unpacked_words_have_a_range(rt: HostRuntime) {
+    let alloc = rt.alloc();
+    expect_unpack(&rt, alloc, "0", Err(2));
+    expect_unpack(&rt, alloc, "1", Ok(Command::Unpack(258)));
+    let most = Ok(Command::Unpack(268_435_713));
+    expect_unpack(&rt, alloc, "268435456", most);
+    expect_unpack(&rt, alloc, "268435457", Err(2));
+    expect(&rt, alloc, &["capn", "unpack", "--budget", "5"], Err(2));
+    expect(
+        &rt,
+        alloc,
+        &["capn", "pack", "--message-words", "5"],
+        Err(2),
+    );
+}
+
+/// A command over messages with `--tariff` orders this, or ends the program with this status.
+fn expect_tariff(
+    rt: &impl Abort,
+    alloc: Global,
+    name: &str,
+    tariff: &str,
+    want: Result<Command, u8>,
+) {
+    expect(rt, alloc, &["capn", name, "--tariff", tariff], want);
 }
 
 #[test]
 fn tariffs(rt: HostRuntime) {
+    let alloc = rt.alloc();
+    let stream = Form::Stream;
     let usual = Limits::usual();
     let plain = usual.with_tariff(Tariff::Plain);
-    for (name, tariff, order) in [
-        ("show", "strict", Ok(Command::Show(Form::Stream, usual))),
-        ("show", "plain", Ok(Command::Show(Form::Stream, plain))),
-        ("check", "plain", Ok(Command::Check(Form::Stream, plain))),
-        (
-            "canonical",
-            "plain",
-            Ok(Command::Canonical(Form::Stream, plain)),
-        ),
-        ("hash", "plain", Ok(Command::Hash(Form::Stream, plain))),
-        ("hash", "Plain", Err(2)),
-    ] {
-        assert_eq!(rt;
-            ordered(rt.alloc(), &["capn", name, "--tariff", tariff]),
-            order,
-            "{name} --tariff {tariff}"
-        );
-    }
+    expect_tariff(
+        &rt,
+        alloc,
+        "show",
+        "strict",
+        Ok(Command::Show(stream, usual)),
+    );
+    expect_tariff(
+        &rt,
+        alloc,
+        "show",
+        "plain",
+        Ok(Command::Show(stream, plain)),
+    );
+    expect_tariff(
+        &rt,
+        alloc,
+        "check",
+        "plain",
+        Ok(Command::Check(stream, plain)),
+    );
+    expect_tariff(
+        &rt,
+        alloc,
+        "canonical",
+        "plain",
+        Ok(Command::Canonical(stream, plain)),
+    );
+    expect_tariff(
+        &rt,
+        alloc,
+        "hash",
+        "plain",
+        Ok(Command::Hash(stream, plain)),
+    );
+    expect_tariff(&rt, alloc, "hash", "Plain", Err(2));
 }
 
 #[test]
 fn other_words_are_mistakes(rt: HostRuntime) {
-    assert_eq!(rt; ordered(rt.alloc(), &["capn"]), Err(2));
-    for words in [
-        ["capn", "squeeze"],
-        ["capn", "--version"],
-        ["capn", "--form=bare"],
-    ] {
-        assert_eq!(rt; ordered(rt.alloc(), &words), Err(2), "{words:?}");
-    }
-    for words in [
-        ["capn", "show", "message"],
-        ["capn", "show", "--colour"],
-        ["capn", "hash", "--depth"],
-        ["capn", "show", "--tariff=cheap"],
-        ["capn", "pack", "--tariff=plain"],
-    ] {
-        assert_eq!(rt; ordered(rt.alloc(), &words), Err(2), "{words:?}");
-    }
+    let alloc = rt.alloc();
+    expect(&rt, alloc, &["capn"], Err(2));
+    expect(&rt, alloc, &["capn", "squeeze"], Err(2));
+    expect(&rt, alloc, &["capn", "--version"], Err(2));
+    expect(&rt, alloc, &["capn", "--form=bare"], Err(2));
+    expect(&rt, alloc, &["capn", "show", "message"], Err(2));
+    expect(&rt, alloc, &["capn", "show", "--colour"], Err(2));
+    expect(&rt, alloc, &["capn", "hash", "--depth"], Err(2));
+    expect(&rt, alloc, &["capn", "show", "--tariff=cheap"], Err(2));
+    expect(&rt, alloc, &["capn", "pack", "--tariff=plain"], Err(2));
 }
 
 #[test]
 fn help_is_no_mistake(rt: HostRuntime) {
-    for word in ["--help", "-h", "help"] {
-        assert_eq!(rt; ordered(rt.alloc(), &["capn", word]), Err(0), "{word}");
-    }
-    for name in ["show", "check", "canonical", "hash", "pack", "unpack"] {
-        assert_eq!(rt;
-            ordered(rt.alloc(), &["capn", name, "--help"]),
-            Err(0),
-            "{name}"
-        );
-    }
+    let alloc = rt.alloc();
+    expect(&rt, alloc, &["capn", "--help"], Err(0));
+    expect(&rt, alloc, &["capn", "-h"], Err(0));
+    expect(&rt, alloc, &["capn", "help"], Err(0));
+    expect(&rt, alloc, &["capn", "show", "--help"], Err(0));
+    expect(&rt, alloc, &["capn", "check", "--help"], Err(0));
+    expect(&rt, alloc, &["capn", "canonical", "--help"], Err(0));
+    expect(&rt, alloc, &["capn", "hash", "--help"], Err(0));
+    expect(&rt, alloc, &["capn", "pack", "--help"], Err(0));
+    expect(&rt, alloc, &["capn", "unpack", "--help"], Err(0));
 }
 
 #[test]

@@ -1,5 +1,6 @@
 //! Walks across segments, and walks over messages that would be walked for ever.
 
+use crate::words::bytes_of;
 use capn_stream::first;
 use capn_value::same;
 use capn_walk::{Fault, Limits, Stopped, walk};
@@ -9,14 +10,6 @@ use std::test::Fail;
 
 // A struct of one word, whose content starts behind its pointer.
 const ONE_WORD: u64 = 0x1_0000_0000;
-
-fn bytes_of(alloc: Global, words: &[u64]) -> Result<Vec<u8>, Fail> {
-    let mut bytes = Vec::new(alloc);
-    for word in words {
-        bytes.extend_from_slice(&word.to_le_bytes())?;
-    }
-    Ok(bytes)
-}
 
 // The stream of a message of two segments.
 fn stream_of_two(alloc: Global, root: u64, pads: &[u64]) -> Result<Vec<u8>, Fail> {
@@ -70,7 +63,7 @@ fn doubling(alloc: Global, levels: u32) -> Result<Vec<u8>, Fail> {
         words.push(0x2_0000_0000_0000)?;
     }
     words.extend_from_slice(&[0x1_0000_0004, ONE_WORD, 9])?;
-    bytes_of(alloc, words.as_slice())
+    Ok(bytes_of(alloc, words.as_slice())?)
 }
 
 // Where the walk of so many doubling levels stops under a budget, if it does.

@@ -1,0 +1,107 @@
+//! What all calls say of one message, compared.
+
+use capn_canon::{
+    Canonical, Form, LayoutFault, Refusal, canonical_of, canonicalise, is_canonical, layout,
+};
+use capn_stream::first;
+use capn_value::first_cap;
+use capn_walk::{Limits, Stopped, Surveyed, Walked, survey, walk};
+use capn_words::{Place, Space};
+use std::alloc::Global;
+
+/// Canonical bytes, or why there are none.
+pub type Answer = Result<Canonical, Refusal>;
+
+/// The answer of all calls on a stream's message, or the call that says something else than its walk.
+pub fn agreed(alloc: Global, stream: &[u8], limits: Limits) -> Result<Answer, &'static str> {
+    let Ok((space, _)) = first(alloc, stream, 268_435_456) else {
+        return Err("first");
+    };
+    let walked = walk(alloc, &space, limits);
+    if !is_surveyed(&survey(alloc, &space, limits), &walked) {
+        return Err("survey");
+    }
+    let answer = answer_of(alloc, walked);
+    if !is_same(&canonical_of(alloc, &space, limits), &answer) {
+        return Err("canonical_of");
+    }
+    if !is_same(&canonicalise(alloc, Form::Stream, stream, limits), &answer) {
+        return Err("canonicalise");
+    }
+    if !is_own(alloc, &answer, limits) {
+        return Err("canonicalise of canonical bytes");
+    }
+    if !is_told(alloc, segment_of(&space), limits) {
+        return Err("is_canonical");
+    }
+    Ok(answer)
+}
+
+// Whether a survey tells what a walk paid, visited and met, or where and why it stopped.
+fn is_surveyed(surveyed: &Result<Surveyed, Stopped>, walked: &Result<Walked, Stopped>) -> bool {
+    match (surveyed, walked) {
+        (Ok(told), Ok(walked)) => {
+            told.paid == walked.paid
+                && told.visits == walked.visits
+                && told.capability == first_cap(walked.tree.value())
+        }
+        (Err(told), Err(stopped)) => told == stopped,
+        _ => false,
+    }
+}
+
+// The answer that follows from a walk: the layout of its value.
+fn answer_of(alloc: Global, walked: Result<Walked, Stopped>) -> Answer {
+    match walked {
+        Err(stopped) => Err(Refusal::Walk(stopped)),
+        Ok(walked) => match layout(alloc, &walked.tree) {
+            Ok(bytes) => Ok(Canonical {
+                bytes,
+                paid: walked.paid,
+            }),
+            Err(LayoutFault::Capability(index)) => Err(Refusal::Capability(index)),
+            Err(LayoutFault::Memory) => Err(Refusal::Memory),
+        },
+    }
+}
+
+// Whether two answers are equal.
+fn is_same(one: &Answer, other: &Answer) -> bool {
+    match (one, other) {
+        (Ok(one), Ok(other)) => {
+            one.paid == other.paid && one.bytes.as_slice() == other.bytes.as_slice()
+        }
+        (Err(one), Err(other)) => one == other,
+        _ => false,
+    }
+}
+
+// Whether canonical bytes, read bare under the same limits, are canonical and have themselves as their canonical bytes.
+fn is_own(alloc: Global, answer: &Answer, limits: Limits) -> bool {
+    let Ok(canonical) = answer else {
+        return true;
+    };
+    let bytes = canonical.bytes.as_slice();
+    is_canonical(alloc, bytes, limits) == Ok(true) && is_told(alloc, bytes, limits)
+}
+
+// The bytes of the first segment.
+fn segment_of<S: Space>(space: &S) -> &[u8] {
+    let start = Place {
+        segment: 0,
+        word: 0,
+    };
+    match space.words(0) {
+        Some(words) => space.bytes(start, 8 * words as usize),
+        None => &[],
+    }
+}
+
+/// Whether `is_canonical` answers of bytes what comparing them with their canonical bytes does.
+pub fn is_told(alloc: Global, bytes: &[u8], limits: Limits) -> bool {
+    let told = is_canonical(alloc, bytes, limits);
+    match canonicalise(alloc, Form::Bare, bytes, limits) {
+        Ok(canonical) => told == Ok(canonical.bytes.as_slice() == bytes),
+        Err(refusal) => told == Err(refusal),
+    }
+}

@@ -1,0 +1,180 @@
+//! Messages that nobody writes by mistake: words of pointers that lead anywhere.
+
+use crate::agreement::{Answer, agreed};
+use crate::random::Random;
+use crate::segments::{At, Segments, capability, far, list, node, offset_to, tag};
+use capn_canon::Refusal;
+use capn_walk::{Fault, Limits};
+use std::alloc::{AllocError, Global};
+use std::process::Abort;
+use std::test::Fail;
+
+// One of a segment's words, the word behind them, or the greatest number.
+fn any_index(random: &mut Random, count: u64, greatest: u64) -> u64 {
+    match random.below(24) {
+        0 => count,
+        1 => greatest,
+        _ => random.below(count),
+    }
+}
+
+// A place of a message: mostly one that is there.
+fn any_place(random: &mut Random, segments: u64, words: u64) -> At {
+    let segment = any_index(random, segments, 0xffff_ffff);
+    let word = any_index(random, words, 0x1fff_ffff);
+    At { segment, word }
+}
+
+// The offset's field of a pointer: to any place of the segment, or at an end of its range.
+fn any_offset(random: &mut Random, words: u64, pointer: u64) -> u64 {
+    match random.below(24) {
+        0 => offset_to(0x1fff_ffff, 0),
+        1 => offset_to(0x2000_0001, 0),
+        2 => offset_to(pointer, pointer),
+        _ => offset_to(random.below(words.saturating_add(1)), pointer),
+    }
+}
+
+// A small number, or one at an end of its range.
+fn any_size(random: &mut Random, greatest: u64) -> u64 {
+    match random.below(16) {
+        0 => greatest,
+        1 => greatest.saturating_sub(1),
+        _ => random.below(4),
+    }
+}
+
+// A composite list's count: small, or such that its rows are many or negative as an offset.
+fn any_tag(random: &mut Random) -> u64 {
+    let count = any_size(random, 0x3fff_ffff);
+    let words = any_size(random, 0xffff);
+    let slots = any_size(random, 0xffff);
+    tag(count, words, slots)
+}
+
+fn any_list(random: &mut Random) -> u64 {
+    let code = random.below(8);
+    let size = any_size(random, 0x1fff_ffff);
+    let count = match code {
+        7 => size.saturating_add(random.below(4)),
+        _ => size.saturating_mul(random.below(6)),
+    };
+    list(code, count)
+}
+
+// A word at a place of a message of so many segments with so many words each.
+fn any_word(random: &mut Random, segments: u64, words: u64, at: u64) -> u64 {
+    match random.below(32) {
+        0..=12 => {
+            let sizes = node(any_size(random, 0xffff) / 2, any_size(random, 0xffff));
+            sizes | any_offset(random, words, at)
+        }
+        13..=19 => any_list(random) | any_offset(random, words, at),
+        20..=23 => far(any_place(random, segments, words), false),
+        24..=26 => far(any_place(random, segments, words), true),
+        27..=29 => any_tag(random),
+        30 => capability(random.below(4)),
+        _ => random.word() >> random.below(63),
+    }
+}
+
+// The root: a pointer to a struct, or a far pointer.
+fn any_root(random: &mut Random, segments: u64, words: u64) -> u64 {
+    if random.below(6) == 0 {
+        let is_double = random.below(3) == 0;
+        return far(any_place(random, segments, words), is_double);
+    }
+    let sizes = node(random.below(3), random.below(4).saturating_add(1));
+    sizes | offset_to(random.below(words), 0)
+}
+
+// A message of one to three segments, of which one in a hundred has no words.
+fn message(alloc: Global, random: &mut Random) -> Result<Vec<u8>, AllocError> {
+    let count = random.below(3).saturating_add(1);
+    let words = match random.below(100) {
+        0 => 0,
+        _ => random.below(12).saturating_add(2),
+    };
+    let zeros = random.below(30);
+    let mut segments = Segments::new(alloc, count)?;
+    for segment in 0..count {
+        for at in 0..words {
+            let word = any_word(random, count, words, at);
+            let is_zero = random.below(32) < zeros;
+            segments.push(segment, if is_zero { 0 } else { word })?;
+        }
+    }
+    let root = At {
+        segment: 0,
+        word: 0,
+    };
+    segments.set(root, any_root(random, count, words));
+    segments.stream(alloc)
+}
+
+// Limits of a small budget, and a depth of mostly few objects.
+fn any_limits(random: &mut Random) -> Limits {
+    let budget = match random.below(8) {
+        0 => 0,
+        1 => 200,
+        _ => random.below(64) as u32,
+    };
+    let depth = match random.below(4) {
+        0 => 64,
+        1 => 70,
+        _ => random.below(6).saturating_add(1) as u32,
+    };
+    Limits::new(1_000, budget, depth).unwrap_or(Limits::usual())
+}
+
+// A bit for each way in which a message can end: the first where it has a value, else that of its fault.
+fn ending_of(answer: &Answer) -> u32 {
+    let Err(Refusal::Walk(stopped)) = answer else {
+        return 1;
+    };
+    match stopped.fault {
+        Fault::NoRoot => 2,
+        Fault::RootKind => 4,
+        Fault::Reserved => 8,
+        Fault::NoSegment => 16,
+        Fault::PadRange => 32,
+        Fault::BadPad => 64,
+        Fault::Range => 128,
+        Fault::BadTag => 256,
+        Fault::TagOverrun => 512,
+        Fault::TooDeep => 1_024,
+        Fault::OverBudget => 2_048,
+        Fault::Memory => 4_096,
+    }
+}
+
+// How a seed's message ends, by what all calls say of it.
+fn ending(rt: &impl Abort, alloc: Global, seed: u64) -> Result<u32, AllocError> {
+    let mut random = Random::new(seed);
+    let stream = message(alloc, &mut random)?;
+    let limits = any_limits(&mut random);
+    let answer = agreed(alloc, stream.as_slice(), limits);
+    match &answer {
+        Ok(answer) => return Ok(ending_of(answer)),
+        Err(call) => assert!(rt; false, "{call} at seed {seed}"),
+    }
+    Ok(0)
+}
+
+// All calls agree on messages with cycles, near and far, overlaps, shared rows, tags and offsets at the ends of their
+// ranges, and pads that name pads: in each answer and in each refusal, its place, what was paid and its visits. Each
+// ending is met but want of memory.
+#[test]
+fn a_hundred_thousand_messages(rt: HostRuntime) -> Result<(), Fail> {
+    let mut met = 0;
+    let mut accepted = 0u64;
+    for seed in 0..100_000u64 {
+        let ending = ending(&rt, rt.alloc(), seed)?;
+        met |= ending;
+        if ending == 1 {
+            accepted = accepted.saturating_add(1);
+        }
+    }
+    assert!(rt; met == 4_095 && 10_000 < accepted, "{met} {accepted}");
+    Ok(())
+}

@@ -1,0 +1,19 @@
+//! Trials of the libraries' calls on messages that are made from fixed seeds: all calls have to say the same of each.
+//!
+//! They stand apart from the crates that they try, since a crate with tests is proved twice.
+#![tactic(auto)]
+
+#[cfg(test)]
+mod accepted;
+#[cfg(test)]
+mod agreement;
+#[cfg(test)]
+mod changed;
+#[cfg(test)]
+mod hostile;
+#[cfg(test)]
+mod random;
+#[cfg(test)]
+mod segments;
+#[cfg(test)]
+mod writing;

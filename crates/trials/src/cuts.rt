@@ -1,0 +1,211 @@
+//! Streams that are cut at every byte, and fed in pieces of several sizes.
+
+use capn_stream::{FrameFault, Framer, first, frame};
+use capn_words::Space;
+use std::alloc::Global;
+use std::process::Abort;
+use std::test::Fail;
+
+/// The most words of a message, as usual.
+const MOST: u32 = 8_388_608;
+
+/// Whole messages, messages that are followed by others, and streams that are refused. None begins another, since each
+/// is cut at every byte.
+const STREAMS: [&str; 33] = [
+    "00100000",
+    "0002000000",
+    "0000000000000000",
+    "00000000ffffffff00",
+    "01000000ffffffff00000000",
+    "00000000010000000200000000000000",
+    "00000000010000000200000001000000",
+    "00000000010000000a00000000000000",
+    "01000000ffffffffffffffff00000000",
+    "00000000010000000700000000000000ffffffff",
+    "000000000200000000000000000001000300000002000000",
+    "000000000200000000000000010000000500000000000000ffff",
+    "0000000002000000000000000100000005000000000000000000000000000000",
+    "0000000003000000000000000000010001000000070000000100000000000000",
+    "0000000003000000000000000200000005000000000000000000000000000000",
+    "0100000001000000010000000000000002000000010000000000000000000000",
+    "0100000001000000010000000000000002000000010000000200000000000000",
+    "0100000001000000010000000000000006000000010000000200000000000000",
+    "00000000040000000000000000000200040000000100000000000000010000000900000000000000",
+    "01000000010000000200000000000000020000000100000000000000000001000200000001000000",
+    "01000000010000000200000000000000060000000100000002000000000000000000000000000000",
+    "01000000010000000200000000000000060000000100000002000000070000000000000000000000",
+    "01000000010000000200000000000000060000000100000002000000070000000300000000000000",
+    "01000000010000000200000000000000060000000100000006000000000000000000000000000000",
+    "0100000001000000020000000000000006000000010000000a000000000000000000000000000000",
+    "01000000010000000200000000000000060000000100000012000000000000000000000000000000",
+    "010000000100000002000000aabbccdd020000000100000000000000010000000500000000000000",
+    "0100000001000000020000000000000002000000010000000000000001000000050000000000000000",
+    "0000000005000000000000000000010001000000170000000c0000000100000007000000000000000000000000000000",
+    "020000000100000002000000010000000600000001000000020000000200000000000000010000000500000000000000",
+    "0200000001000000020000000100000006000000010000000200000002000000fcffff7f010000000500000000000000",
+    "000000000200000000000000010000000500000000000000000000000200000000000000010000000500000000000000ffffffff",
+    "0000000002000000000000000100000005000000000000000000000003000000000000000200000005000000000000000000000000000000",
+];
+
+/// What is told of a stream: its messages, framed again, and how it ends.
+#[derive(Drop)]
+struct Told {
+    frames: Vec<u8>,
+    ending: Result<(), FrameFault>,
+}
+
+/// The bytes from an offset on.
+fn rest_of(bytes: &[u8], at: usize) -> &[u8] {
+    if at <= bytes.len() { &bytes[at..] } else { &[] }
+}
+
+/// The first bytes, at most so many.
+fn start_of(bytes: &[u8], len: usize) -> &[u8] {
+    if len <= bytes.len() {
+        &bytes[..len]
+    } else {
+        bytes
+    }
+}
+
+/// Appends the frame of a message.
+fn push_frame<S: Space>(
+    frames: &mut Vec<u8>,
+    alloc: Global,
+    message: &S,
+) -> Result<(), FrameFault> {
+    match frame(alloc, message) {
+        Ok(text) => Ok(frames.extend_from_slice(text.as_slice())?),
+        Err(_) => Err(FrameFault::Memory),
+    }
+}
+
+/// Takes the messages by `first`, one by one, and answers how the stream ends.
+fn take_each(alloc: Global, bytes: &[u8], frames: &mut Vec<u8>) -> Result<(), FrameFault> {
+    let mut at = 0usize;
+    for _ in 0..=bytes.len() {
+        match first(alloc, rest_of(bytes, at), MOST) {
+            Ok((message, taken)) => {
+                push_frame(frames, alloc, &message)?;
+                at = at.saturating_add(taken);
+            }
+            Err(FrameFault::Empty) => return Ok(()),
+            Err(fault) => return Err(fault),
+        }
+    }
+    Err(FrameFault::Memory)
+}
+
+/// Feeds one piece, and takes each message that it makes whole.
+fn feed_piece(
+    framer: &mut Framer,
+    alloc: Global,
+    piece: &[u8],
+    frames: &mut Vec<u8>,
+) -> Result<(), FrameFault> {
+    let mut at = 0usize;
+    for _ in 0..piece.len() {
+        let taken = framer.feed(rest_of(piece, at))?;
+        at = at.saturating_add(taken);
+        if let Some(message) = framer.take() {
+            push_frame(frames, alloc, &message)?;
+        }
+        if at >= piece.len() {
+            break;
+        }
+    }
+    Ok(())
+}
+
+/// Takes the messages by a framer that is fed so many bytes at a time, and answers how the stream ends.
+fn feed_each(
+    alloc: Global,
+    bytes: &[u8],
+    size: usize,
+    frames: &mut Vec<u8>,
+) -> Result<(), FrameFault> {
+    let mut framer = Framer::new(alloc, MOST);
+    let mut at = 0usize;
+    for _ in 0..bytes.len() {
+        let piece = start_of(rest_of(bytes, at), size);
+        feed_piece(&mut framer, alloc, piece, frames)?;
+        at = at.saturating_add(size);
+        if at >= bytes.len() {
+            break;
+        }
+    }
+    framer.finish()
+}
+
+/// By `first`.
+fn told_at_once(alloc: Global, bytes: &[u8]) -> Told {
+    let mut frames = Vec::new(alloc);
+    let ending = take_each(alloc, bytes, &mut frames);
+    Told { frames, ending }
+}
+
+/// By a framer.
+fn told_in_pieces(alloc: Global, bytes: &[u8], size: usize) -> Told {
+    let mut frames = Vec::new(alloc);
+    let ending = feed_each(alloc, bytes, size, &mut frames);
+    Told { frames, ending }
+}
+
+/// Whether a framer that is fed so many bytes at a time tells the same of some bytes.
+fn is_told(alloc: Global, bytes: &[u8], want: &Told, size: usize) -> bool {
+    let told = told_in_pieces(alloc, bytes, size);
+    told.ending == want.ending && told.frames.as_slice() == want.frames.as_slice()
+}
+
+/// Whether each beginning of a stream is told of as `first` does, in pieces of each size.
+fn are_told(alloc: Global, stream: &[u8]) -> bool {
+    for len in 0..=stream.len() {
+        let bytes = start_of(stream, len);
+        let want = told_at_once(alloc, bytes);
+        for size in [1, 3, 7, stream.len()] {
+            if !is_told(alloc, bytes, &want, size) {
+                return false;
+            }
+        }
+    }
+    true
+}
+
+/// A stream that stands twice.
+fn twice(alloc: Global, digits: &str) -> Result<Vec<u8>, Fail> {
+    let Ok(mut bytes) = hex::decode(alloc, digits) else {
+        return Err(Fail::new("no digits"));
+    };
+    bytes.extend_from_within(..)?;
+    Ok(bytes)
+}
+
+/// A stream is cut alone and behind itself: each beginning of it is one of the two.
+#[test]
+fn streams_cut_at_every_byte(rt: HostRuntime) -> Result<(), Fail> {
+    for digits in &STREAMS {
+        let bytes = twice(rt.alloc(), digits)?;
+        assert!(rt; are_told(rt.alloc(), bytes.as_slice()), "{digits}");
+    }
+    Ok(())
+}
+
+/// A table of so many segments and one more, of which the first alone has a word, and its null.
+fn long_table(alloc: Global, count: u32) -> Result<Vec<u8>, Fail> {
+    let mut bytes = Vec::new(alloc);
+    bytes.extend_from_slice(&count.to_le_bytes())?;
+    bytes.extend_from_slice(&[1, 0, 0, 0])?;
+    let words = count.div_ceil(2).saturating_add(1) as usize;
+    bytes.resize(words.saturating_mul(8).saturating_add(8), 0)?;
+    Ok(bytes)
+}
+
+/// The longest table that may be, and one that is too long, which is refused at its fourth byte.
+#[test]
+fn longest_table_cut_at_every_byte(rt: HostRuntime) -> Result<(), Fail> {
+    let longest = long_table(rt.alloc(), 511)?;
+    assert!(rt; longest.len() == 2_064 && are_told(rt.alloc(), longest.as_slice()));
+    let too_long = long_table(rt.alloc(), 512)?;
+    assert!(rt; are_told(rt.alloc(), start_of(too_long.as_slice(), 64)));
+    Ok(())
+}

@@ -1,0 +1,123 @@
+//! Values that are put together by hand. Each call takes what others gave, so that want of memory is told at the end.
+
+use capn_value::{Body, Items, Misfit, Tree, Value};
+use std::alloc::{AllocError, Global};
+
+/// A value, unless memory ran out.
+pub type Made = Result<Value, AllocError>;
+
+/// A body of these data words and slots.
+pub fn body(alloc: Global, words: &[u64], slots: Vec<Value>) -> Result<Body, AllocError> {
+    Ok(Body {
+        words: Items::from_slice(alloc, words)?,
+        slots: Items::from_vec(slots),
+    })
+}
+
+/// A struct of data words alone.
+pub fn data(alloc: Global, words: &[u64]) -> Made {
+    Ok(Value::Node(body(alloc, words, Vec::new(alloc))?))
+}
+
+/// A struct of one slot.
+pub fn holder(alloc: Global, slot: Made) -> Made {
+    let slots = with(Ok(Vec::new(alloc)), slot)?;
+    Ok(Value::Node(body(alloc, &[], slots)?))
+}
+
+/// A struct of two slots.
+pub fn pair(alloc: Global, first: Made, second: Made) -> Made {
+    let slots = with(with(Ok(Vec::new(alloc)), first), second)?;
+    Ok(Value::Node(body(alloc, &[], slots)?))
+}
+
+/// A list of one element.
+pub fn link(alloc: Global, element: Made) -> Made {
+    let elements = with(Ok(Vec::new(alloc)), element)?;
+    Ok(Value::Links(Items::from_vec(elements)))
+}
+
+/// A list of two elements.
+pub fn links(alloc: Global, first: Made, second: Made) -> Made {
+    let elements = with(with(Ok(Vec::new(alloc)), first), second)?;
+    Ok(Value::Links(Items::from_vec(elements)))
+}
+
+/// Two rows with these data words and no slots.
+pub fn two_rows(alloc: Global, first: &[u64], second: &[u64]) -> Made {
+    let mut rows = Items::new(alloc);
+    rows.push(body(alloc, first, Vec::new(alloc))?)?;
+    rows.push(body(alloc, second, Vec::new(alloc))?)?;
+    Ok(Value::Rows(rows))
+}
+
+/// Bytes.
+pub fn text(alloc: Global, bytes: &[u8]) -> Made {
+    Ok(Value::Bytes(Items::from_slice(alloc, bytes)?))
+}
+
+/// Slots with one more behind them. Lists of slots are made by such calls: a function with many `?` is dear to prove.
+pub fn with(slots: Result<Vec<Value>, AllocError>, slot: Made) -> Result<Vec<Value>, AllocError> {
+    let mut slots = slots?;
+    slots.push(slot?)?;
+    Ok(slots)
+}
+
+/// A list of bits.
+fn bits(alloc: Global, bits: &[bool]) -> Made {
+    Ok(Value::Bits(Items::from_slice(alloc, bits)?))
+}
+
+/// A list of numbers of 16 bits.
+fn pairs(alloc: Global, numbers: &[u16]) -> Made {
+    Ok(Value::Pairs(Items::from_slice(alloc, numbers)?))
+}
+
+/// A list of numbers of 32 bits.
+fn quads(alloc: Global, numbers: &[u32]) -> Made {
+    Ok(Value::Quads(Items::from_slice(alloc, numbers)?))
+}
+
+/// A list of numbers of 64 bits.
+fn octs(alloc: Global, numbers: &[u64]) -> Made {
+    Ok(Value::Octs(Items::from_slice(alloc, numbers)?))
+}
+
+/// Ten bits, of which the second is 0.
+const BITS: [bool; 10] = [true, false, true, true, true, true, true, true, true, true];
+
+/// Slots of null and of lists of plain elements.
+fn plain_slots(alloc: Global) -> Result<Vec<Value>, AllocError> {
+    let slots = with(Ok(Vec::new(alloc)), Ok(Value::Nil));
+    let slots = with(slots, Ok(Value::Voids(3)));
+    let slots = with(slots, bits(alloc, &BITS));
+    let slots = with(slots, bits(alloc, &[]));
+    let slots = with(slots, text(alloc, b"abc".as_slice()));
+    let slots = with(slots, text(alloc, &[]));
+    let slots = with(slots, pairs(alloc, &[0xffff, 0, 0x102]));
+    let slots = with(slots, quads(alloc, &[0xffff_ffff, 0x102_0304]));
+    with(
+        slots,
+        octs(alloc, &[0xffff_ffff_ffff_ffff, 0x102_0304_0506_0708]),
+    )
+}
+
+/// A struct with a slot of each kind, of which the list of pointers has this element and null.
+pub fn one_of_each(alloc: Global, element: Value) -> Made {
+    let slots = plain_slots(alloc);
+    let slots = with(slots, links(alloc, Ok(element), Ok(Value::Nil)));
+    let slots = with(slots, Ok(Value::Rows(Items::new(alloc))));
+    let slots = with(slots, data(alloc, &[]))?;
+    Ok(Value::Node(body(alloc, &[0xab_cdef], slots)?))
+}
+
+/// A tree, unless the value is a misfit.
+pub fn tree(made: Made) -> Result<Tree, Option<Misfit>> {
+    match made {
+        Ok(value) => match Tree::new(value) {
+            Ok(tree) => Ok(tree),
+            Err((_, misfit)) => Err(Some(misfit)),
+        },
+        Err(_) => Err(None),
+    }
+}

@@ -1,0 +1,74 @@
+//! Canonical bytes, texts of faults and runs, with an allocator that may refuse a growth.
+
+use crate::refusing::Refusing;
+use crate::subject::{Answer, Subject, judged, limits, wanting};
+use capn_canon::{Canonical, Form, Refusal, canonical_of, canonicalise, is_canonical, layout};
+use capn_tool::{Command, ToolFault, fault_text, run};
+use capn_words::Watched;
+use std::alloc::{Allocator, Global};
+
+/// The canonical bytes of the message.
+pub fn canonical_answer(of: &Subject, short: &Refusing<Global>) -> Answer {
+    judged_canonical(of, canonical_of(short, &of.message, limits(64)))
+}
+
+/// The canonical bytes of the packed stream.
+pub fn canonicalise_answer(of: &Subject, short: &Refusing<Global>) -> Answer {
+    let packed = of.packed.as_slice();
+    judged_canonical(of, canonicalise(short, Form::Packed, packed, limits(64)))
+}
+
+/// Right exactly if these are the canonical bytes of the value.
+pub fn judged_canonical(
+    of: &Subject,
+    canonical: Result<Canonical<&Refusing<Global>>, Refusal>,
+) -> Answer {
+    match (canonical, layout(of.alloc, &of.walked.tree)) {
+        (Ok(canonical), Ok(want)) => judged(canonical.bytes.as_slice() == want.as_slice()),
+        (Err(refusal), _) => wanting(matches!(refusal, Refusal::Memory)),
+        _ => Answer::Wrong,
+    }
+}
+
+/// That the chain is canonical.
+pub fn check_answer(of: &Subject, short: &Refusing<Global>) -> Answer {
+    match is_canonical(short, of.chain.as_slice(), limits(256)) {
+        Ok(is_canonical) => judged(is_canonical),
+        Err(refusal) => wanting(matches!(refusal, Refusal::Memory)),
+    }
+}
+
+/// The text of a fault.
+pub fn text_answer(short: &Refusing<Global>) -> Answer {
+    match fault_text(short, &ToolFault::NotWhole(9)) {
+        Ok(text) => judged(text.as_bytes() == b"NotWhole(9)".as_slice()),
+        Err(_) => Answer::Memory,
+    }
+}
+
+/// What a command writes of an input.
+pub fn written<A: Allocator + Copy>(
+    of: &Subject,
+    alloc: A,
+    command: Command,
+) -> (Result<(), ToolFault>, Vec<u8>) {
+    let input = match command {
+        Command::Unpack(_) | Command::Check(Form::Packed, _) => of.packed.as_slice(),
+        _ => of.stream,
+    };
+    let mut reader = Watched::new(input);
+    let mut writer = Watched::new(Vec::new(of.alloc));
+    let outcome = run(alloc, command, &mut reader, &mut writer);
+    (outcome, writer.into_inner())
+}
+
+/// The text of a run, of which a refusal leaves a beginning.
+pub fn run_answer(of: &Subject, short: &Refusing<Global>, command: Command) -> Answer {
+    let (_, want) = written(of, of.alloc, command);
+    let (outcome, text) = written(of, short, command);
+    match outcome {
+        Ok(()) => judged(!text.is_empty() && text.as_slice() == want.as_slice()),
+        Err(ToolFault::Memory) => wanting(want.as_slice().starts_with(text.as_slice())),
+        Err(_) => Answer::Wrong,
+    }
+}

@@ -1,0 +1,82 @@
+//! Calls on streams and packed texts, with an allocator that may refuse a growth.
+
+use crate::refusing::Refusing;
+use crate::subject::{Answer, MOST, Subject, judged, judged_message, wanting};
+use capn_pack::{PackFault, UnpackFault, Unpacker, pack, unpack};
+use capn_stream::{FrameFault, Framer, ReadFault, first, frame, read_message};
+use capn_words::Watched;
+use std::alloc::Global;
+
+/// The first message of the stream.
+pub fn first_answer(of: &Subject, short: &Refusing<Global>) -> Answer {
+    match first(short, of.stream, MOST) {
+        Ok((message, _)) => judged_message(of, &message),
+        Err(FrameFault::Memory) => Answer::Memory,
+        Err(_) => Answer::Wrong,
+    }
+}
+
+/// The stream of the message.
+pub fn frame_answer(of: &Subject, short: &Refusing<Global>) -> Answer {
+    match frame(short, &of.message) {
+        Ok(text) => judged(text.as_slice() == of.stream),
+        Err(_) => Answer::Memory,
+    }
+}
+
+/// The message that a framer takes, which fails from its refusal on.
+pub fn feed_answer(of: &Subject, short: &Refusing<Global>) -> Answer {
+    let mut framer = Framer::new(short, MOST);
+    match framer.feed(of.stream) {
+        Ok(_) => match framer.take() {
+            Some(message) => judged_message(of, &message),
+            None => Answer::Wrong,
+        },
+        Err(FrameFault::Memory) => wanting(
+            framer.take().is_none() && matches!(framer.feed(of.stream), Err(FrameFault::Failed)),
+        ),
+        Err(_) => Answer::Wrong,
+    }
+}
+
+/// The message that a reader gives.
+pub fn read_answer(of: &Subject, short: &Refusing<Global>) -> Answer {
+    let mut reader = Watched::new(of.stream);
+    match read_message(short, &mut reader, MOST) {
+        Ok(Some(message)) => judged_message(of, &message),
+        Err(ReadFault::Memory) => Answer::Memory,
+        _ => Answer::Wrong,
+    }
+}
+
+/// The packed text of the stream.
+pub fn pack_answer(of: &Subject, short: &Refusing<Global>) -> Answer {
+    match pack(short, of.stream) {
+        Ok(text) => judged(text.as_slice() == of.packed.as_slice()),
+        Err(PackFault::Memory) => Answer::Memory,
+        Err(_) => Answer::Wrong,
+    }
+}
+
+/// The stream of its packed text.
+pub fn unpack_answer(of: &Subject, short: &Refusing<Global>) -> Answer {
+    match unpack(short, of.packed.as_slice(), 1_000) {
+        Ok(bytes) => judged(bytes.as_slice() == of.stream),
+        Err(UnpackFault::Memory) => Answer::Memory,
+        Err(_) => Answer::Wrong,
+    }
+}
+
+/// The stream that an unpacker appends, of which a refusal leaves a beginning, and from which on it fails.
+pub fn feed_packed_answer(of: &Subject, short: &Refusing<Global>) -> Answer {
+    let mut unpacker = Unpacker::new();
+    let mut bytes = Vec::new(short);
+    match unpacker.feed(of.packed.as_slice(), &mut bytes) {
+        Ok(()) => judged(bytes.as_slice() == of.stream),
+        Err(UnpackFault::Memory) => wanting(
+            of.stream.starts_with(bytes.as_slice())
+                && matches!(unpacker.finish(), Err(UnpackFault::Failed)),
+        ),
+        Err(_) => Answer::Wrong,
+    }
+}

@@ -1,0 +1,94 @@
+//! Calls on messages and their values, with an allocator that may refuse a growth.
+
+use crate::refusing::Refusing;
+use crate::subject::{Answer, Subject, judged, limits, wanting};
+use capn_canon::{LayoutFault, Patch, layout};
+use capn_value::{Items, Memory, Tree, same, show};
+use capn_walk::{Fault, survey, walk};
+use capn_words::Bare;
+use std::alloc::{AllocError, Global};
+
+/// The value of the message.
+pub fn walk_answer(of: &Subject, short: &Refusing<Global>) -> Answer {
+    match walk(short, &of.message, limits(64)) {
+        Ok(walked) => judged(same(walked.tree.value(), of.walked.tree.value())),
+        Err(stopped) => wanting(matches!(stopped.fault, Fault::Memory)),
+    }
+}
+
+/// What a walk of the chain visits.
+pub fn survey_answer(of: &Subject, short: &Refusing<Global>) -> Answer {
+    let Ok(bare) = Bare::new(of.chain.as_slice()) else {
+        return Answer::Wrong;
+    };
+    match survey(short, &bare, limits(256)) {
+        Ok(told) => judged(told.visits == 141),
+        Err(stopped) => wanting(matches!(stopped.fault, Fault::Memory)),
+    }
+}
+
+/// The text of the value.
+pub fn show_answer(of: &Subject, short: &Refusing<Global>) -> Answer {
+    match (
+        show(short, &of.walked.tree),
+        show(of.alloc, &of.walked.tree),
+    ) {
+        (Ok(text), Ok(want)) => judged(text.as_str() == want.as_str()),
+        (_, want) => wanting(want.is_ok()),
+    }
+}
+
+/// Right exactly if this is the value of the message.
+pub fn judged_tree(of: &Subject, tree: Result<Tree<&Refusing<Global>>, Memory>) -> Answer {
+    match tree {
+        Ok(tree) => judged(same(tree.value(), of.walked.tree.value())),
+        Err(_) => Answer::Memory,
+    }
+}
+
+/// Two items.
+pub fn items(short: &Refusing<Global>) -> Result<Items<u16, &Refusing<Global>>, AllocError> {
+    let mut items = Items::from_slice(short, &[7u16])?;
+    items.push(8)?;
+    Ok(items)
+}
+
+/// Right exactly if these are the items.
+pub fn items_answer(short: &Refusing<Global>) -> Answer {
+    match items(short) {
+        Ok(items) => judged(items.as_slice() == [7, 8].as_slice()),
+        Err(_) => Answer::Memory,
+    }
+}
+
+/// The layout of the value.
+pub fn layout_answer(of: &Subject, short: &Refusing<Global>) -> Answer {
+    match (
+        layout(short, &of.walked.tree),
+        layout(of.alloc, &of.walked.tree),
+    ) {
+        (Ok(bytes), Ok(want)) => judged(bytes.as_slice() == want.as_slice()),
+        (Err(fault), _) => wanting(matches!(fault, LayoutFault::Memory)),
+        _ => Answer::Wrong,
+    }
+}
+
+/// A word and a hole that is filled.
+pub fn patched(short: &Refusing<Global>) -> Result<Vec<u8, &Refusing<Global>>, Memory> {
+    let mut patch = Patch::new(short);
+    patch.push(1)?;
+    let at = patch.leave(1)?;
+    patch.fill(at, 2);
+    match patch.finish() {
+        Ok(bytes) => Ok(bytes),
+        Err((_, fault)) => Err(fault),
+    }
+}
+
+/// Right exactly if these are the words.
+pub fn patch_answer(short: &Refusing<Global>) -> Answer {
+    match patched(short) {
+        Ok(bytes) => judged(bytes.as_slice() == b"\x01\0\0\0\0\0\0\0\x02\0\0\0\0\0\0\0".as_slice()),
+        Err(_) => Answer::Memory,
+    }
+}

@@ -1,0 +1,93 @@
+//! What calls that take memory are tried on, and how their answers are judged.
+
+use crate::refusing::Refusing;
+use crate::words::bytes_of;
+use capn_pack::pack;
+use capn_stream::{Framed, first, frame};
+use capn_walk::{Limits, Walked, walk};
+use capn_words::Space;
+use std::alloc::{AllocError, Global};
+use std::test::Fail;
+
+/// The most words of a message.
+pub const MOST: u32 = 268_435_456;
+
+/// What a call answered.
+#[derive(Clone, Copy)]
+pub enum Answer {
+    Right,
+    Wrong,
+    Memory,
+}
+
+/// What the calls are tried on: a message, as a stream and packed, its walk, and a chain of 70 structs.
+#[derive(Drop)]
+pub struct Subject<'a> {
+    pub alloc: Global,
+    pub stream: &'a [u8],
+    pub message: Framed<'a>,
+    pub packed: Vec<u8>,
+    pub walked: Walked,
+    pub chain: Vec<u8>,
+}
+
+/// The limits of a walk to so many objects below one another.
+pub fn limits(depth: u32) -> Limits {
+    Limits::new(8_388_608, 8_388_608, depth).unwrap_or(Limits::usual())
+}
+
+/// So many structs of two slots, each in the first slot of the one before, with empty structs in the slots that are
+/// left.
+pub fn chain(alloc: Global, levels: u32) -> Result<Vec<u8>, AllocError> {
+    let mut words = Vec::new(alloc);
+    words.push(0x2_0000_0000_0000)?;
+    for _ in 1..levels {
+        words.extend_from_slice(&[0x2_0000_0000_0004, 0xffff_fffc])?;
+    }
+    words.extend_from_slice(&[0xffff_fffc, 0xffff_fffc])?;
+    bytes_of(alloc, words.as_slice())
+}
+
+/// What the calls are tried on, of a stream.
+pub fn subject_of(alloc: Global, stream: &[u8]) -> Result<Subject<'_>, Fail> {
+    let (Ok((message, _)), Ok(packed)) = (first(alloc, stream, MOST), pack(alloc, stream)) else {
+        return Err(Fail::new("no stream"));
+    };
+    let Ok(walked) = walk(alloc, &message, limits(64)) else {
+        return Err(Fail::new("no message"));
+    };
+    Ok(Subject {
+        alloc,
+        stream,
+        message,
+        packed,
+        walked,
+        chain: chain(alloc, 70)?,
+    })
+}
+
+/// Right exactly if this holds.
+pub fn judged(is_right: bool) -> Answer {
+    if is_right {
+        Answer::Right
+    } else {
+        Answer::Wrong
+    }
+}
+
+/// What was wanted is memory, exactly if this holds.
+pub fn wanting(is_right: bool) -> Answer {
+    if is_right {
+        Answer::Memory
+    } else {
+        Answer::Wrong
+    }
+}
+
+/// Right exactly if this is the message of the stream.
+pub fn judged_message<S: Space>(of: &Subject, message: &S) -> Answer {
+    match frame(of.alloc, message) {
+        Ok(text) => judged(text.as_slice() == of.stream),
+        Err(_) => Answer::Wrong,
+    }
+}
