@@ -7,11 +7,7 @@
 #[cfg(test)]
 mod canonical;
 #[cfg(test)]
-mod cuts;
-#[cfg(test)]
 mod ends;
-#[cfg(test)]
-mod framers;
 #[cfg(test)]
 mod layouts;
 #[cfg(test)]
@@ -20,18 +16,6 @@ mod lines;
 mod making;
 #[cfg(test)]
 mod pieces;
-#[cfg(test)]
-mod refused;
-#[cfg(test)]
-mod refusing;
-#[cfg(test)]
-mod short_runs;
-#[cfg(test)]
-mod short_streams;
-#[cfg(test)]
-mod short_values;
-#[cfg(test)]
-mod subject;
 #[cfg(test)]
 mod surveys;
 #[cfg(test)]

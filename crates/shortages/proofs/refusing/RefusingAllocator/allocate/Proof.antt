@@ -39,14 +39,14 @@ use denote.Triple.Call.{calls_at}
 use Rattle.std.proofs.alloc.Calls.{Al, α, seen, Answer, answer_val, Answer-typed, Answer-Ok, Answer-err, takes_key, Takes, at_takes, Answered, Takes-goes, Takes-gives, answers}
 use Rattle.std.proofs.alloc.Shapes.{after}
 use Rattle.std.specs.contracts.cell.Cell as cells
-use Rattle.trials.specs.contracts.refusing.is_refused as counting
-use Rattle.trials.proofs.refusing.is_refused.Symbol as c_sym
-use Rattle.trials.proofs.refusing.is_refused.Met as c_met
-use Rattle.trials.specs.contracts.refusing.Refusing as wrapper
-use Rattle.trials.specs.contracts.refusing.RefusingAllocator.allocate as F
-use Rattle.trials.specs.contracts.refusing.RefusingAllocator.allocate.Key as key
-use Rattle.trials.proofs.refusing.RefusingAllocator.allocate.Statement as stated
-use Rattle.trials.proofs.refusing.RefusingAllocator.allocate.Code as code
+use Rattle.shortages.specs.contracts.refusing.is_refused as counting
+use Rattle.shortages.proofs.refusing.is_refused.Symbol as c_sym
+use Rattle.shortages.proofs.refusing.is_refused.Met as c_met
+use Rattle.shortages.specs.contracts.refusing.Refusing as wrapper
+use Rattle.shortages.specs.contracts.refusing.RefusingAllocator.allocate as F
+use Rattle.shortages.specs.contracts.refusing.RefusingAllocator.allocate.Key as key
+use Rattle.shortages.proofs.refusing.RefusingAllocator.allocate.Statement as stated
+use Rattle.shortages.proofs.refusing.RefusingAllocator.allocate.Code as code
 
 abbrev Count : RattleType
 Count = cells.the_row u64

@@ -1,0 +1,24 @@
+//! Trials of the libraries' calls where something is short: memory that is refused at each growth in turn, and input that is
+//! cut at each byte.
+//!
+//! They stand apart from the crates that they try, since a crate with tests is proved twice.
+#![tactic(auto)]
+
+#[cfg(test)]
+mod cuts;
+#[cfg(test)]
+mod framers;
+#[cfg(test)]
+mod refused;
+#[cfg(test)]
+mod refusing;
+#[cfg(test)]
+mod short_runs;
+#[cfg(test)]
+mod short_streams;
+#[cfg(test)]
+mod short_values;
+#[cfg(test)]
+mod subject;
+#[cfg(test)]
+mod words;
