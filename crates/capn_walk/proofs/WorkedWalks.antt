@@ -2,6 +2,8 @@
 use Rattle.std.proofs.Common.{◌≡◌, ℕ, List, [], ◌∷◌, refl}
 use Rattle.capn_words.specs.declared.space.Place.{Place}
 use Rattle.capn_words.specs.Pointers.{pointer_of}
+use Rattle.capn_value.specs.Sizes.{base}
+use Rattle.capn_value.specs.declared.tariff.Tariff.TheVariants.{Strict, Plain}
 use Rattle.capn_walk.specs.declared.target.Fault.TheVariants as faults
 use Rattle.capn_walk.specs.Target.{target}
 use Rattle.capn_walk.specs.Visits.{visits}
@@ -13,7 +15,11 @@ at s w = record { segment = s; word = w }
 
 -- under the strict tariff and the usual limits
 abbrev usual : List (List ℕ) → Verdict
-usual message = verdict message 1 8388608 64
+usual message = verdict message (base Strict) 8388608 64
+
+-- under the plain tariff and the usual limits
+abbrev plain : List (List ℕ) → Verdict
+plain message = verdict message (base Plain) 8388608 64
 
 null_root : usual ((0 ∷ []) ∷ []) ≡ accepted 0 1
 unfolding verdict root_visits visits target pointer_of
@@ -158,3 +164,53 @@ two_words_of_slack = refl
 no_slack : usual ((0x1000000000000 ∷ 0xf00000001 ∷ 0x100000004 ∷ 7 ∷ []) ∷ []) ≡ accepted 5 2
 unfolding verdict root_visits visits target pointer_of
 no_slack = refl
+
+-- ---- the same messages by the plain tariff
+
+plain-null_root : plain ((0 ∷ []) ∷ []) ≡ accepted 0 1
+unfolding verdict root_visits visits target pointer_of
+plain-null_root = refl
+
+plain-empty_struct_root : plain ((0xfffffffc ∷ []) ∷ []) ≡ accepted 0 1
+unfolding verdict root_visits visits target pointer_of
+plain-empty_struct_root = refl
+
+plain-struct_of_one_word : plain ((0x100000000 ∷ 5 ∷ []) ∷ []) ≡ accepted 1 1
+unfolding verdict root_visits visits target pointer_of
+plain-struct_of_one_word = refl
+
+plain-struct_that_is_its_own_slot : plain ((0x10000fffffffc ∷ []) ∷ []) ≡ refused faults.TooDeep (at 0 0) 64 65
+unfolding verdict root_visits visits target pointer_of
+plain-struct_that_is_its_own_slot = refl
+
+plain-far_pointer : plain ((0x100000002 ∷ []) ∷ (0x100000000 ∷ 5 ∷ []) ∷ []) ≡ accepted 2 1
+unfolding verdict root_visits visits target pointer_of
+plain-far_pointer = refl
+
+plain-list_of_536870911_voids : plain ((0x1000000000000 ∷ 0xfffffff800000001 ∷ []) ∷ []) ≡ refused faults.OverBudget (at 0 1) 1 2
+unfolding verdict root_visits visits target pointer_of
+plain-list_of_536870911_voids = refl
+
+plain-double_far_pointer : plain ((0x100000006 ∷ []) ∷ (0x200000002 ∷ 0x100000000 ∷ []) ∷ (5 ∷ []) ∷ []) ≡ accepted 3 1
+unfolding verdict root_visits visits target pointer_of
+plain-double_far_pointer = refl
+
+plain-rows_of_which_the_last_is_zero : plain ((0x1000000000000 ∷ 0x1700000001 ∷ 0x100000008 ∷ 7 ∷ 0 ∷ []) ∷ []) ≡ accepted 4 2
+unfolding verdict root_visits visits target pointer_of
+plain-rows_of_which_the_last_is_zero = refl
+
+plain-rows_of_no_words : plain ((0x1000000000000 ∷ 0x700000001 ∷ 8 ∷ []) ∷ []) ≡ accepted 4 2
+unfolding verdict root_visits visits target pointer_of
+plain-rows_of_no_words = refl
+
+plain-shared_struct : plain ((0x2000000000000 ∷ 0x100000004 ∷ 0x100000000 ∷ 9 ∷ []) ∷ []) ≡ accepted 4 3
+unfolding verdict root_visits visits target pointer_of
+plain-shared_struct = refl
+
+plain-list_of_two_null_pointers : plain ((0x1000000000000 ∷ 0x1600000001 ∷ 0 ∷ 0 ∷ []) ∷ []) ≡ accepted 3 4
+unfolding verdict root_visits visits target pointer_of
+plain-list_of_two_null_pointers = refl
+
+plain-struct_that_is_its_own_slot_with_budget_9 : verdict ((0x10000fffffffc ∷ []) ∷ []) (base Plain) 9 64 ≡ refused faults.OverBudget (at 0 0) 9 10
+unfolding verdict root_visits visits target pointer_of
+plain-struct_that_is_its_own_slot_with_budget_9 = refl
