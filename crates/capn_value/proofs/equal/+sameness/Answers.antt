@@ -17,44 +17,72 @@ test-returns-in-Node-Node g t c =
 
 pub test-returns-in-Voids-Voids : goal.test-returns-in-Voids-Voids
 test-returns-in-Voids-Voids g t c =
-    rw (c.in-Voids-Voids.is-0, c.in-Voids-Voids.is-1,
-    tree_of-Voids _ c.in-Voids-Voids.m, tree_of-Voids _ c.in-Voids-Voids.n)
+    rw (
+      c.in-Voids-Voids.is-0,
+      c.in-Voids-Voids.is-1,
+      tree_of-Voids _ c.in-Voids-Voids.m,
+      tree_of-Voids _ c.in-Voids-Voids.n,
+    )
     refl
 
 pub test-returns-in-Bits-Bits : goal.test-returns-in-Bits-Bits
 test-returns-in-Bits-Bits g t c =
-    rw (c.in-Bits-Bits.is-0, c.in-Bits-Bits.is-1,
-    tree_of-Bits _ c.in-Bits-Bits.xs, tree_of-Bits _ c.in-Bits-Bits.ys)
+    rw (
+      c.in-Bits-Bits.is-0,
+      c.in-Bits-Bits.is-1,
+      tree_of-Bits _ c.in-Bits-Bits.xs,
+      tree_of-Bits _ c.in-Bits-Bits.ys,
+    )
     (rw (c.as_slice.ensures, c.as_slice-in-Bits-Bits.ensures) at c.eq.ensures)
 
 pub test-returns-in-Bytes-Bytes : goal.test-returns-in-Bytes-Bytes
 test-returns-in-Bytes-Bytes g t c =
-    rw (c.in-Bytes-Bytes.is-0, c.in-Bytes-Bytes.is-1,
-    tree_of-Bytes _ c.in-Bytes-Bytes.xs, tree_of-Bytes _ c.in-Bytes-Bytes.ys)
+    rw (
+      c.in-Bytes-Bytes.is-0,
+      c.in-Bytes-Bytes.is-1,
+      tree_of-Bytes _ c.in-Bytes-Bytes.xs,
+      tree_of-Bytes _ c.in-Bytes-Bytes.ys,
+    )
     (rw (c.as_slice-in-Bytes-Bytes.ensures, c.as_slice-in-Bytes-Bytes-2.ensures) at c.eq-in-Bytes-Bytes.ensures)
 
 pub test-returns-in-Pairs-Pairs : goal.test-returns-in-Pairs-Pairs
 test-returns-in-Pairs-Pairs g t c =
-    rw (c.in-Pairs-Pairs.is-0, c.in-Pairs-Pairs.is-1,
-    tree_of-Pairs _ c.in-Pairs-Pairs.xs, tree_of-Pairs _ c.in-Pairs-Pairs.ys)
+    rw (
+      c.in-Pairs-Pairs.is-0,
+      c.in-Pairs-Pairs.is-1,
+      tree_of-Pairs _ c.in-Pairs-Pairs.xs,
+      tree_of-Pairs _ c.in-Pairs-Pairs.ys,
+    )
     (rw (c.as_slice-in-Pairs-Pairs.ensures, c.as_slice-in-Pairs-Pairs-2.ensures) at c.eq-in-Pairs-Pairs.ensures)
 
 pub test-returns-in-Quads-Quads : goal.test-returns-in-Quads-Quads
 test-returns-in-Quads-Quads g t c =
-    rw (c.in-Quads-Quads.is-0, c.in-Quads-Quads.is-1,
-    tree_of-Quads _ c.in-Quads-Quads.xs, tree_of-Quads _ c.in-Quads-Quads.ys)
+    rw (
+      c.in-Quads-Quads.is-0,
+      c.in-Quads-Quads.is-1,
+      tree_of-Quads _ c.in-Quads-Quads.xs,
+      tree_of-Quads _ c.in-Quads-Quads.ys,
+    )
     (rw (c.as_slice-in-Quads-Quads.ensures, c.as_slice-in-Quads-Quads-2.ensures) at c.eq-in-Quads-Quads.ensures)
 
 pub test-returns-in-Octs-Octs : goal.test-returns-in-Octs-Octs
 test-returns-in-Octs-Octs g t c =
-    rw (c.in-Octs-Octs.is-0, c.in-Octs-Octs.is-1,
-    tree_of-Octs _ c.in-Octs-Octs.xs, tree_of-Octs _ c.in-Octs-Octs.ys)
+    rw (
+      c.in-Octs-Octs.is-0,
+      c.in-Octs-Octs.is-1,
+      tree_of-Octs _ c.in-Octs-Octs.xs,
+      tree_of-Octs _ c.in-Octs-Octs.ys,
+    )
     (rw (c.as_slice-in-Octs-Octs.ensures, c.as_slice-in-Octs-Octs-2.ensures) at c.eq-in-Octs-Octs.ensures)
 
 pub test-returns-in-Links-Links : goal.test-returns-in-Links-Links
 test-returns-in-Links-Links g t c =
-    rw (c.in-Links-Links.is-0, c.in-Links-Links.is-1,
-    tree_of-Links c.in-Links-Links.xs, tree_of-Links c.in-Links-Links.ys)
+    rw (
+      c.in-Links-Links.is-0,
+      c.in-Links-Links.is-1,
+      tree_of-Links c.in-Links-Links.xs,
+      tree_of-Links c.in-Links-Links.ys,
+    )
     (c.test_each.ensures ∙ ap₂ (λ xs ys. test_each (trees_of xs) (trees_of ys)) c.as_slice-in-Links-Links.ensures c.as_slice-in-Links-Links-2.ensures)
 
 pub test-returns-in-Rows-Rows : goal.test-returns-in-Rows-Rows
