@@ -4,7 +4,7 @@ use crate::frames::frame_text;
 use crate::refusals::{fault_name, refusal_text, stopped_text, unpack_text};
 use crate::words::{bytes_at, digits_of, number_at, word_at};
 use anyhow::{Result, anyhow, bail};
-use capn_canon::{Form, canonicalise};
+use capn_canon::{Form, canonicalise, layout};
 use capn_pack::unpack;
 use capn_stream::first;
 use capn_value::Tariff;
@@ -50,7 +50,41 @@ pub fn limits_answer(alloc: Global, words: &[&str]) -> Result<String> {
     Ok(String::from_str(alloc, text)?)
 }
 
-/// `canonicalise FORM MESSAGE_WORDS BUDGET DEPTH BYTES`.
+/// The layout of the tree that a walk of the message makes.
+fn layout_of<S: Space>(alloc: Global, space: &S, limits: Limits) -> Result<Vec<u8>> {
+    let Ok(walked) = walk(alloc, space, limits) else {
+        bail!("no tree");
+    };
+    let Ok(bytes) = layout(alloc, &walked.tree) else {
+        bail!("no layout");
+    };
+    Ok(bytes)
+}
+
+/// The same of the message that stands first.
+fn layout_of_frame(alloc: Global, bytes: &[u8], limits: Limits) -> Result<Vec<u8>> {
+    let Ok((space, _)) = first(alloc, bytes, MOST_WORDS) else {
+        bail!("no frame");
+    };
+    layout_of(alloc, &space, limits)
+}
+
+/// The same of the message that bytes are in a form.
+fn layout_in_form(alloc: Global, form: Form, bytes: &[u8], limits: Limits) -> Result<Vec<u8>> {
+    match form {
+        Form::Bare => match Bare::new(bytes) {
+            Ok(space) => layout_of(alloc, &space, limits),
+            Err(_) => Err(anyhow!("no segment")),
+        },
+        Form::Stream => layout_of_frame(alloc, bytes, limits),
+        Form::Packed => match unpack(alloc, bytes, MOST_WORDS) {
+            Ok(text) => layout_of_frame(alloc, text.as_slice(), limits),
+            Err(_) => Err(anyhow!("no text")),
+        },
+    }
+}
+
+/// `canonicalise FORM MESSAGE_WORDS BUDGET DEPTH BYTES`. The bytes have to be the layout of the tree that a walk makes.
 pub fn canonicalise_answer(alloc: Global, words: &[&str], tariff: Tariff) -> Result<String> {
     let form = form_at(words, 1)?;
     let limits = true_limits_at(words, 2, tariff)?;
@@ -58,6 +92,10 @@ pub fn canonicalise_answer(alloc: Global, words: &[&str], tariff: Tariff) -> Res
     match canonicalise(alloc, form, bytes.as_slice(), limits) {
         Ok(canonical) => {
             let paid = canonical.paid;
+            let laid = layout_in_form(alloc, form, bytes.as_slice(), limits)?;
+            if laid.as_slice() != canonical.bytes.as_slice() {
+                bail!("the layout of the tree is another one");
+            }
             let digits = digits_of(alloc, canonical.bytes.as_slice())?;
             Ok(format!(in alloc; "paid {paid}, {digits}")?)
         }
