@@ -12,3 +12,4 @@ pub mod Kept
 pub mod Digits
 pub mod OnceTrimmed
 mod WorkedTrees
+mod Nulls

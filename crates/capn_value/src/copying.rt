@@ -1,8 +1,10 @@
 //! Copying a value into memory of its own.
 
-ghost use Rattle.std.specs.Prelude.{◌≡◌, IfOk};
+ghost use Rattle.std.specs.Prelude.{◌≡◌, ◌≢◌, IfOk, OnErr};
+ghost use Rattle.capn_value.specs.Tree.{nil};
 ghost use Rattle.capn_value.specs.View.{tree_of, trees_of, rows_of};
 
+use crate::equal::is_null;
 use crate::items::Items;
 use crate::memory::Memory;
 use crate::value::{Body, Value};
@@ -18,12 +20,23 @@ pub fn copied<T: Copy, A: Allocator, B: Allocator>(
     Ok(Items::from_slice(alloc, items.as_slice())?)
 }
 
-/// The same value, over another allocator.
-#[cycle(copy)]
-pub fn copy_of<A: Allocator + Copy, B: Allocator>(
+/// The same value, over another allocator. Null takes no memory.
+pub fn copy_value<A: Allocator + Copy, B: Allocator>(
     alloc: A,
     v: &Value<B>,
 ) -> Result<Value<A>, Memory>
+    ensures value { IfOk result (λ r. tree_of r ≡ tree_of v.now) }
+    ensures wanted { OnErr result (tree_of v.now ≢ nil) }
+{
+    if is_null(v) {
+        return Ok(Value::Nil);
+    }
+    copy_of(alloc, v)
+}
+
+// The same value, over another allocator.
+#[cycle(copy)]
+fn copy_of<A: Allocator + Copy, B: Allocator>(alloc: A, v: &Value<B>) -> Result<Value<A>, Memory>
     ensures { IfOk result (λ r. tree_of r ≡ tree_of v.now) }
 {
     match v {

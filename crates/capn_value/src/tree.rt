@@ -1,6 +1,6 @@
 //! Values that fit into a message.
 
-ghost use Rattle.std.specs.Prelude.{◌≡◌, ◌↔◌, ◌+◌, ◌*◌, ◌≤◌, IfOk, IfErr, IsOk, string_bytes};
+ghost use Rattle.std.specs.Prelude.{◌≡◌, ◌↔◌, ◌≢◌, ◌+◌, ◌*◌, ◌≤◌, IfOk, IfErr, OnErr, IsOk, string_bytes};
 ghost use Rattle.capn_value.specs.View.{tree_of};
 ghost use Rattle.capn_value.specs.Sizes as sizes;
 ghost use Rattle.capn_value.specs.declared.tariff.Tariff.{Tariff};
@@ -12,14 +12,14 @@ ghost use Rattle.capn_value.specs.Same.{Same};
 ghost use Rattle.capn_value.specs.InRange.{InRange};
 ghost use Rattle.capn_value.specs.Tree as trees;
 
-use crate::copying::copy_of;
+use crate::copying::copy_value;
 use crate::flaws::misfit;
 use crate::measure::{capped_cost, capped_height};
 use crate::memory::Memory;
 use crate::misfit::Misfit;
 use crate::tariff::Tariff;
 use crate::text::show as show_value;
-use crate::trimming::trimmed;
+use crate::trimming::trim_value;
 use crate::value::Value;
 use std::alloc::{Allocator, Global};
 use std::marker::Model;
@@ -114,8 +114,10 @@ pub fn trim<A: Allocator + Copy, B: Allocator>(alloc: A, tree: &Tree<B>) -> Resu
     ensures same { IfOk result (λ r. (w : trees.Tree) → Fits w → Same tree.now w ↔ (r ≡ cut.trimmed w)) }
     ensures cheap { IfOk result (λ r. (by : Tariff) → sizes.cost (sizes.base by) r ≤ sizes.cost (sizes.base by) tree.now) }
     ensures low { IfOk result (λ r. sizes.height r ≤ sizes.height tree.now) }
+    // Null takes no memory.
+    ensures wanted { OnErr result (tree.now ≢ trees.nil) }
 {
-    let value = trimmed(alloc, &tree.value)?;
+    let value = trim_value(alloc, &tree.value)?;
     Ok(Tree { value })
 }
 
@@ -123,9 +125,11 @@ pub fn trim<A: Allocator + Copy, B: Allocator>(alloc: A, tree: &Tree<B>) -> Resu
 ///
 /// Answers `Memory` only where a growth was refused, and takes what the answer holds.
 pub fn copy<A: Allocator + Copy, B: Allocator>(alloc: A, tree: &Tree<B>) -> Result<Tree<A>, Memory>
-    ensures { IfOk result (λ r. r ≡ tree.now) }
+    ensures exact { IfOk result (λ r. r ≡ tree.now) }
+    // Null takes no memory.
+    ensures wanted { OnErr result (tree.now ≢ trees.nil) }
 {
-    let value = copy_of(alloc, &tree.value)?;
+    let value = copy_value(alloc, &tree.value)?;
     Ok(Tree { value })
 }
 

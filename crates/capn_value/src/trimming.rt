@@ -1,8 +1,8 @@
 //! Cutting bodies to what they keep.
 
-ghost use Rattle.std.specs.Prelude.{◌≡◌, IfOk, take};
+ghost use Rattle.std.specs.Prelude.{◌≡◌, ◌≢◌, IfOk, OnErr, take};
 ghost use Rattle.capn_value.specs.View.{tree_of, trees_of, rows_of};
-ghost use Rattle.capn_value.specs.Tree.{front};
+ghost use Rattle.capn_value.specs.Tree.{nil, front};
 ghost use Rattle.capn_value.specs.Trim as cut;
 
 use crate::copying::copied;
@@ -60,13 +60,24 @@ pub fn kept_slots_of_rows<A: Allocator>(rows: &[Body<A>]) -> usize
     most
 }
 
-/// The value with every body cut to what it keeps, at every level.
-#[cycle(trim)]
-#[tactic(auto, using(std::proofs::lemmas::Grind::common_steps, crate::specs::Views::views, crate::proofs::Joined::joins))]
-pub fn trimmed<A: Allocator + Copy, B: Allocator>(
+/// The value with every body cut to what it keeps, at every level. Null takes no memory.
+pub fn trim_value<A: Allocator + Copy, B: Allocator>(
     alloc: A,
     v: &Value<B>,
 ) -> Result<Value<A>, Memory>
+    ensures value { IfOk result (λ r. tree_of r ≡ cut.trimmed (tree_of v.now)) }
+    ensures wanted { OnErr result (tree_of v.now ≢ nil) }
+{
+    if is_null(v) {
+        return Ok(Value::Nil);
+    }
+    trimmed(alloc, v)
+}
+
+// The same, where null is a value as any other.
+#[cycle(trim)]
+#[tactic(auto, using(std::proofs::lemmas::Grind::common_steps, crate::specs::Views::views, crate::proofs::Joined::joins))]
+fn trimmed<A: Allocator + Copy, B: Allocator>(alloc: A, v: &Value<B>) -> Result<Value<A>, Memory>
     ensures { IfOk result (λ r. tree_of r ≡ cut.trimmed (tree_of v.now)) }
 {
     match v {
