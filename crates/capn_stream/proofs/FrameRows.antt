@@ -29,5 +29,5 @@ unfolding entry word_bytes
 two_segments = refl
 
 -- a table with its padding is a whole number of words
-heads : (head_length 1 ≡ 8) × (head_length 2 ≡ 16) × (head_length 3 ≡ 16) × (head_length 512 ≡ 2056)
+heads : (head_length 1 ≡ 8) × (head_length 2 ≡ 16) × (head_length 3 ≡ 16) × (head_length 4096 ≡ 16392)
 heads = (refl, refl, refl, refl)

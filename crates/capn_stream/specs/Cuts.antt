@@ -1,7 +1,7 @@
 -- Words that are cut into segments.
-use Rattle.std.specs.Prelude.{ℕ, ◌+◌, ◌-◌, ◌^◌, ◌<◌, ◌≤◌, List, [], ◌∷◌, length, take, drop}
+use Rattle.std.specs.Prelude.{ℕ, ◌+◌, ◌-◌, ◌<◌, ◌≤◌, List, [], ◌∷◌, length, take, drop}
 use Rattle.capn_words.specs.Words.{AreWords}
-use Rattle.capn_stream.specs.Frames.{most_segments}
+use Rattle.capn_words.specs.Limits.{most_segments, most_words}
 
 -- the words from a place on, cut: a segment ends at each of the ends, and the last one with the words
 abbrev pub cut : ℕ → List ℕ → List ℕ → List (List ℕ)
@@ -17,7 +17,7 @@ AreRising from (end ∷ ends) len = (from ≤ end) × AreRising end ends len
 pub record AreEnds (ends ws : List ℕ) : Type 0 where
   pub few : length ends < most_segments
   pub rising : AreRising 0 ends (length ws)
-  pub room : length ws ≤ 2 ^ 28 + 1
+  pub room : length ws ≤ most_words
   pub each : AreWords ws
 
 -- where the segments of these sizes end, the first beginning at a place

@@ -1,14 +1,15 @@
 -- The frame of a message in a stream: the table of its segments, padding up to a whole word, and the
 -- segments. (The encoding page, "Serialization over a stream".)
-use Rattle.std.specs.Prelude.{◌≡◌, ℕ, ◌-◌, ◌%◌, ◌^◌, ◌<◌, ◌≤◌, ◌==◌, if◌then◌else◌, List, ◌++◌, length, take, replicate, slice_index}
+use Rattle.std.specs.Prelude.{◌≡◌, ℕ, ◌+◌, ◌-◌, ◌/◌, ◌%◌, ◌^◌, ◌<◌, ◌≤◌, ◌==◌, if◌then◌else◌, List, ◌++◌, length, take, replicate, slice_index}
 use Rattle.std.specs.List.{flat_map}
 use Rattle.byteorder.specs.Endian.{little_bytes}
+use Rattle.capn_words.specs.Limits.{most_segments}
 use Rattle.capn_words.specs.Message.{bytes, segment_at, total}
 use Rattle.capn_words.specs.Words.{AreBytes}
 
--- the most segments of a message (own)
-abbrev pub most_segments : ℕ
-most_segments = 512
+-- the words of the longest table and its padding (own)
+abbrev pub most_table_words : ℕ
+most_table_words = most_segments / 2 + 1
 
 -- a number below 2^32 as its 4 bytes, the least first
 unfoldable pub entry : ℕ → List ℕ
@@ -26,7 +27,7 @@ padding count = if count % 2 == 0 then 4 else 0
 abbrev pub contents : List (List ℕ) → List ℕ
 contents message = flat_map bytes message
 
--- what a table can say: 1 to 512 segments, each of fewer than 2^32 words, which are below 2^64
+-- what a table can say: 1 to 4,096 segments, each of fewer than 2^32 words, which are below 2^64
 pub record FitsTable (message : List (List ℕ)) : Type 0 where
   pub some : 0 < length message
   pub few : length message ≤ most_segments

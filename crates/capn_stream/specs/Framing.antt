@@ -1,5 +1,6 @@
 -- A stream of messages that comes in pieces (own).
-use Rattle.std.specs.Prelude.{◌≡◌, ◌⊎◌, ℕ, ◌^◌, ◌≤◌, List, [], ◌++◌, length, take, Bool, true, false, Result, Ok, Err, Option, Some, None}
+use Rattle.std.specs.Prelude.{◌≡◌, ◌⊎◌, ℕ, ◌≤◌, List, [], ◌++◌, length, take, Bool, true, false, Result, Ok, Err, Option, Some, None}
+use Rattle.capn_words.specs.Limits.{most_message_words}
 use Rattle.capn_words.specs.Message.{total}
 use Rattle.capn_stream.specs.Frames.{Frames}
 use Rattle.capn_stream.specs.Reading.{IsRefused}
@@ -68,6 +69,6 @@ FinishGives before (Err Failed) after = (before.failed ≡ true) × (after ≡ b
 
 -- the fields of a framer tell how far its frame has come, until a call has refused
 pub record IsFramer (frame : List ℕ) (ends : List ℕ) (stage : Stage) (most : ℕ) (failed : Bool) : Type 0 where
-  pub small : most ≤ 2 ^ 28
+  pub small : most ≤ most_message_words
   pub is : failed ≡ false → IsStage stage frame most ends
   pub rests : failed ≡ false → Rests stage frame

@@ -1,7 +1,8 @@
 -- What the beginning of a stream announces, and why it is refused (own: the order of the tests).
 use Rattle.std.specs.Prelude.{◌≡◌, ℕ, zero, suc, ◌+◌, ◌*◌, ◌<◌, ◌≤◌, List, [], ◌∷◌, length, drop, sum}
 use Rattle.byteorder.specs.Endian.{little_number}
-use Rattle.capn_stream.specs.Frames.{most_segments, padding}
+use Rattle.capn_words.specs.Limits.{most_segments}
+use Rattle.capn_stream.specs.Frames.{padding}
 use Rattle.capn_stream.specs.declared.fault.FrameFault.{FrameFault}
 use Rattle.capn_stream.specs.declared.fault.FrameFault.TheVariants.{Memory, Empty, TooManySegments, TooManyWords, Cut, Failed}
 

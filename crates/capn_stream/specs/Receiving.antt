@@ -2,7 +2,7 @@
 use Rattle.std.specs.Prelude.{◌≡◌, ◌≢◌, ◌⊎◌, ⊤, ℕ, ◌+◌, ◌*◌, ◌≤◌, List, [], ◌++◌, length, Bool, true, false, Result, Ok, Err, Option, Some, None}
 use Rattle.std.specs.Io.KnownBytes.{Consumes, IsAtEnd}
 use Rattle.capn_words.specs.Message.{total}
-use Rattle.capn_stream.specs.Frames.{Frames, StandsFirst}
+use Rattle.capn_stream.specs.Frames.{Frames, StandsFirst, most_table_words}
 use Rattle.capn_stream.specs.Framing.{Framing, IsUnfinished}
 use Rattle.capn_stream.specs.Reading.{IsRefused}
 use Rattle.capn_stream.specs.declared.fault.FrameFault.{FrameFault}
@@ -12,7 +12,7 @@ use Rattle.capn_stream.specs.declared.fault.ReadFault.TheVariants as faults
 
 -- the most bytes of a frame of so many words: those of the longest table, and of the words
 abbrev pub most_bytes : ℕ → ℕ
-most_bytes most = 8 * (257 + most)
+most_bytes most = 8 * (most_table_words + most)
 
 -- the bytes that a reader gave are no frame, and no more of them are read
 abbrev pub IsUnread : List ℕ → ℕ → Option (List ℕ) → FrameFault → Type 0

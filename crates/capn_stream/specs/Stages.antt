@@ -1,8 +1,8 @@
 -- How far the frame that comes in pieces is known.
 use Rattle.std.specs.Prelude.{◌≡◌, ◌⊎◌, ℕ, ◌<◌, ◌≤◌, List, ◌++◌, length, take, drop}
+use Rattle.capn_words.specs.Limits.{most_segments}
 use Rattle.capn_words.specs.Words.{AreBytes}
 use Rattle.capn_stream.specs.Cuts.{ends_from}
-use Rattle.capn_stream.specs.Frames.{most_segments}
 use Rattle.capn_stream.specs.Reading.{HasCount, HasHead, IsRefused, announced_segments, announced_words, entries, entry_number, frame_length, head_length}
 use Rattle.capn_stream.specs.declared.fault.FrameFault.{FrameFault}
 use Rattle.capn_stream.specs.declared.fault.FrameFault.TheVariants.{Memory, Empty, TooManySegments, TooManyWords, Cut, Failed}

@@ -1,6 +1,7 @@
 //! Messages from a stream that comes in pieces.
 
-ghost use Rattle.std.specs.Prelude.{◌≡◌, ◌↔◌, IsTrue, ℕ, ◌+◌, ◌^◌, ◌<◌, ◌≤◌, ◌++◌, List, [], length, false};
+ghost use Rattle.std.specs.Prelude.{◌≡◌, ◌↔◌, IsTrue, ℕ, ◌+◌, ◌<◌, ◌≤◌, ◌++◌, List, [], length, false};
+ghost use Rattle.capn_words.specs.Limits.{most_message_words};
 ghost use Rattle.capn_stream.specs.Framing.{FeedGives, FinishGives, IsFrame, IsUnfinished, TakeGives};
 ghost use Rattle.capn_stream.specs.Receiving.{most_bytes};
 
@@ -39,7 +40,7 @@ impl<A: Allocator + Copy> Model for Framer<A> {
 impl<A: Allocator + Copy> Framer<A> {
     /// At the beginning of a stream, for messages of at most so many words. It takes no memory.
     pub fn new(alloc: A, max_words: u32) -> Framer<A>
-        requires { max_words ≤ 2 ^ 28 }
+        requires { max_words ≤ most_message_words }
         ensures { result ≡ record { rest = []; most = max_words; failed = false } }
     {
         Framer {

@@ -33,6 +33,7 @@ pub use reading::first;
 pub use receiving::read_message;
 pub use segments::Framed;
 pub use sending::write_message;
+pub use table::MOST_TABLE_WORDS;
 pub use writing::frame;
 
 #[cfg(test)]

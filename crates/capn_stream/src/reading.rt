@@ -1,6 +1,7 @@
 //! The message that stands first in a stream.
 
-ghost use Rattle.std.specs.Prelude.{◌≡◌, ℕ, ◌^◌, ◌≤◌, List, IfOk, IfErr, IsErrOf, MatchResult};
+ghost use Rattle.std.specs.Prelude.{◌≡◌, ℕ, ◌≤◌, List, IfOk, IfErr, IsErrOf, MatchResult};
+ghost use Rattle.capn_words.specs.Limits.{most_message_words};
 ghost use Rattle.capn_stream.specs.Frames.{StandsFirst};
 ghost use Rattle.capn_stream.specs.Reading.{HasTable, IsRefused};
 
@@ -23,7 +24,7 @@ pub fn first<'a, A: Allocator + Copy>(
     bytes: &'a [u8],
     max_words: u32,
 ) -> Result<(Framed<'a, A>, usize), FrameFault>
-    requires { max_words ≤ 2 ^ 28 }
+    requires { max_words ≤ most_message_words }
     ensures found { IfOk result (λ answer. StandsFirst bytes.now max_words answer.0 answer.1) }
     ensures only { (message : List (List ℕ)) (taken : ℕ)
         → StandsFirst bytes.now max_words message taken

@@ -1,6 +1,7 @@
 //! The next message of a reader.
 
-ghost use Rattle.std.specs.Prelude.{◌≡◌, ℕ, ◌^◌, ◌≤◌, ◌++◌, List, length, false, IfSome};
+ghost use Rattle.std.specs.Prelude.{◌≡◌, ℕ, ◌≤◌, ◌++◌, List, length, false, IfSome};
+ghost use Rattle.capn_words.specs.Limits.{most_message_words};
 ghost use Rattle.capn_words.specs.Watching.{has_failed, inner_of};
 ghost use Rattle.capn_stream.specs.Framing.{IsFrame, IsUnfinished};
 ghost use Rattle.capn_stream.specs.Receiving.{EndGives, OnlyFirst, ReadGives, ReadsFirst, TakesIn};
@@ -49,7 +50,7 @@ fn receive<R: Read, A: Allocator + Copy>(
     reader: &mut Watched<R>,
     max_words: u32,
 ) -> Result<Option<Stored<A>>, ReadFault>
-    requires small { max_words ≤ 2 ^ 28 }
+    requires small { max_words ≤ most_message_words }
     requires fine { has_failed reader.old ≡ false }
     ensures gives { ReadGives (R.remaining (inner_of reader.old)) (R.remaining (inner_of reader.new)) (has_failed reader.new) max_words result }
 {
@@ -78,7 +79,7 @@ pub fn read_message<R: Read, A: Allocator + Copy>(
     reader: &mut Watched<R>,
     max_words: u32,
 ) -> Result<Option<Stored<A>>, ReadFault>
-    requires small { max_words ≤ 2 ^ 28 }
+    requires small { max_words ≤ most_message_words }
     requires fine { has_failed reader.old ≡ false }
     // What it answers, of all that the reader had to give; and that a message that stands first is answered.
     ensures exact { IfSome (R.remaining (inner_of reader.old)) (ReadsFirst max_words result) }

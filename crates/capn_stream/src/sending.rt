@@ -7,14 +7,20 @@ ghost use Rattle.capn_stream.specs.Frames.{entry, frame_text};
 ghost use Rattle.capn_stream.specs.Sending.{head_text};
 
 use crate::fault::Io;
-use crate::table::head_of;
+use crate::table::MOST_TABLE_WORDS;
 use crate::writing::bytes_of;
 use capn_words::Watched;
 use capn_words::space::Space;
 use std::io::Write;
 
-/// The most bytes of a table and its padding.
-const HEAD: usize = 2_056;
+/// The most segments whose table is put together in the small buffer.
+const FEW_SEGMENTS: u32 = 62;
+
+/// The bytes of the small buffer.
+const SMALL_HEAD: usize = 256;
+
+/// The bytes of the longest table and its padding.
+const MOST_HEAD: usize = 8 * MOST_TABLE_WORDS as usize;
 
 /// Copies bytes to a place.
 fn put(head: &mut [u8], at: usize, bytes: &[u8])
@@ -37,8 +43,8 @@ fn put_entry(head: &mut [u8], at: usize, number: u32)
 
 /// Puts the table of a message, and its padding of zeros, and answers how many bytes they are.
 fn put_head<S: Space>(head: &mut [u8], space: &S) -> usize
-    requires { length head.old ≡ HEAD }
-    ensures inside { result ≤ HEAD }
+    requires { 8 + 4 * length (S.message space.now) ≤ length head.old }
+    ensures inside { result ≤ length head.old }
     ensures text { take result head.new ≡ head_text (S.message space.now) }
 {
     let segments = space.segments();
@@ -55,6 +61,39 @@ fn put_head<S: Space>(head: &mut [u8], space: &S) -> usize
     at
 }
 
+/// Writes the table of a message and its padding, put together in a buffer that has room for them.
+fn write_head<W: Write, S: Space>(
+    writer: &mut Watched<W>,
+    space: &S,
+    head: &mut [u8],
+) -> Result<(), Io>
+    requires fine { has_failed writer.old ≡ false }
+    requires room { 8 + 4 * length (S.message space.now) ≤ length head.old }
+    ensures ok { OnOk result (Appends (W.contents (inner_of writer.old)) (W.contents (inner_of writer.new))
+        (head_text (S.message space.now))) }
+    ensures begun { HasBegun (W.contents (inner_of writer.old)) (W.contents (inner_of writer.new)) (head_text (S.message space.now)) }
+    ensures io { IsErr result ↔ (has_failed writer.new ≡ true) }
+{
+    let len = put_head(head, space);
+    writer.write_all(&head[..len])?;
+    Ok(())
+}
+
+/// Writes the table of a message and its padding. Most tables are short, and a small buffer is soon cleared.
+fn write_table<W: Write, S: Space>(writer: &mut Watched<W>, space: &S) -> Result<(), Io>
+    requires { has_failed writer.old ≡ false }
+    ensures ok { OnOk result (Appends (W.contents (inner_of writer.old)) (W.contents (inner_of writer.new))
+        (head_text (S.message space.now))) }
+    ensures begun { HasBegun (W.contents (inner_of writer.old)) (W.contents (inner_of writer.new)) (head_text (S.message space.now)) }
+    ensures io { IsErr result ↔ (has_failed writer.new ≡ true) }
+{
+    if space.segments() <= FEW_SEGMENTS {
+        write_head(writer, space, &mut [0; SMALL_HEAD])
+    } else {
+        write_head(writer, space, &mut [0; MOST_HEAD])
+    }
+}
+
 /// Writes the frame of a message: its table, padding of zeros, and its contents.
 ///
 /// `Io` exactly where the writer fails, and then a beginning of the frame was written. It takes no memory.
@@ -65,9 +104,7 @@ pub fn write_message<W: Write, S: Space>(writer: &mut Watched<W>, space: &S) -> 
     ensures begun { HasBegun (W.contents (inner_of writer.old)) (W.contents (inner_of writer.new)) (frame_text (S.message space.now)) }
     ensures io { IsErr result ↔ (has_failed writer.new ≡ true) }
 {
-    let mut head = [0; HEAD];
-    let len = put_head(&mut head, space);
-    writer.write_all(&head[..len])?;
+    write_table(writer, space)?;
     for segment in 0..space.segments() {
         if let Some(words) = space.words(segment) {
             writer.write_all(bytes_of(space, segment, words))?;

@@ -1,15 +1,16 @@
 //! How far the frame that comes in pieces is known.
 
-ghost use Rattle.std.specs.Prelude.{◌≡◌, ℕ, ◌+◌, ◌-◌, ◌*◌, ◌^◌, ◌<◌, ◌≤◌, ◌++◌, length, drop, IfOk, IfErr};
+ghost use Rattle.std.specs.Prelude.{◌≡◌, ℕ, ◌+◌, ◌-◌, ◌*◌, ◌<◌, ◌≤◌, ◌++◌, length, drop, IfOk, IfErr};
 ghost use Rattle.capn_words.specs.Words.{AreBytes};
-ghost use Rattle.capn_stream.specs.Frames.{most_segments};
+ghost use Rattle.capn_words.specs.Limits.{most_segments, most_message_words};
 ghost use Rattle.capn_stream.specs.Reading.{HasCount, announced_segments, head_length};
 ghost use Rattle.capn_stream.specs.Stages as spec;
 ghost use Rattle.capn_stream.specs.Stages.{Extends, Fills, FitsStage, IsStage, IsStop, Tabled};
 ghost use Rattle.capn_stream.specs.declared.fault.FrameFault.TheVariants as faults;
 
 use crate::fault::FrameFault;
-use crate::table::{MOST_SEGMENTS, ends_of, entry_at, head_of, total_of};
+use crate::table::{ends_of, entry_at, head_of, total_of};
+use capn_words::MOST_SEGMENTS;
 use std::alloc::{AllocError, Allocator, Global};
 
 /// Which part of a frame is waited for.
@@ -84,7 +85,7 @@ fn read_count(bytes: &[u8]) -> Result<usize, FrameFault>
         × (most_segments < announced_segments bytes.now)) }
 {
     let count = entry_at(bytes, 0) as u64 + 1;
-    if count > MOST_SEGMENTS {
+    if count > MOST_SEGMENTS as u64 {
         return Err(FrameFault::TooManySegments(count));
     }
     Ok(count as usize)
@@ -105,7 +106,7 @@ fn read_table<A: Allocator>(
     segments: usize,
     most: u32,
 ) -> Result<Bounds<A>, FrameFault>
-    requires small { most ≤ 2 ^ 28 }
+    requires small { most ≤ most_message_words }
     requires count { HasCount bytes.now × (segments ≡ announced_segments bytes.now) }
     requires here { length bytes.now ≡ head_length segments }
     ensures tabled { IfOk result (λ b. Tabled bytes.now most b.start b.end b.ends.items) }
@@ -133,7 +134,7 @@ pub(crate) fn fill<A: Allocator + Copy>(
     piece: &[u8],
     most: u32,
 ) -> Result<usize, FrameFault>
-    requires small { most ≤ 2 ^ 28 }
+    requires small { most ≤ most_message_words }
     requires is { IsStage stage.old bytes.old.items most ends.old.items }
     ensures filled { IfOk result (λ n. Fills bytes.old.items piece.now most n bytes.new.items stage.new ends.new.items) }
     ensures refused { IfErr result (λ e. IsStop (bytes.old.items ++ piece.now) most e) }

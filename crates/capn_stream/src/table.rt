@@ -2,15 +2,16 @@
 
 ghost use Rattle.std.specs.Prelude.{◌≡◌, ℕ, ◌+◌, ◌*◌, ◌^◌, ◌<◌, ◌≤◌, length, drop, sum, IfOk, IfErr, IsErrOf, OnErr};
 ghost use Rattle.capn_stream.specs.Cuts.{ends_from};
-ghost use Rattle.capn_stream.specs.Frames.{most_segments};
+ghost use Rattle.capn_words.specs.Limits.{most_segments, most_message_words};
 ghost use Rattle.capn_stream.specs.Reading.{IsRefused, IsWhole, announced_segments, entries, entry_number, head_length, announced_words};
 
 use crate::fault::FrameFault;
 use byteorder::{ByteOrder, LittleEndian};
+use capn_words::MOST_SEGMENTS;
 use std::alloc::{AllocError, Allocator};
 
-/// The most segments of a message.
-pub(crate) const MOST_SEGMENTS: u64 = 512;
+/// The words of the longest table of segments and its padding.
+pub const MOST_TABLE_WORDS: u32 = MOST_SEGMENTS / 2 + 1;
 
 /// The number of 4 bytes that begins at byte 4 times the index.
 #[tactic(auto, unfolding(crate::specs::Reading::entry_number))]
@@ -72,7 +73,7 @@ pub struct Head {
 
 /// What the table announces, where its frame is there whole and has at most `max_words` words.
 pub fn read_head(bytes: &[u8], max_words: u32) -> Result<Head, FrameFault>
-    requires { max_words ≤ 2 ^ 28 }
+    requires { max_words ≤ most_message_words }
     ensures whole { IfOk result (λ head. IsWhole bytes.now max_words) }
     ensures segments { IfOk result (λ head. head.segments ≡ announced_segments bytes.now) }
     ensures words { IfOk result (λ head. head.words ≡ announced_words bytes.now) }
@@ -86,7 +87,7 @@ pub fn read_head(bytes: &[u8], max_words: u32) -> Result<Head, FrameFault>
         return Err(FrameFault::Cut);
     }
     let count = entry_at(bytes, 0) as u64 + 1;
-    if count > MOST_SEGMENTS {
+    if count > MOST_SEGMENTS as u64 {
         return Err(FrameFault::TooManySegments(count));
     }
     let segments = count as usize;

@@ -4,7 +4,7 @@ use Rattle.capn_value.specs.View.{tree_of}
 use Rattle.capn_value.specs.Views.{tree_of-Nil, tree_of-Node, tree_of-Voids, tree_of-Bits, tree_of-Bytes, tree_of-Pairs, tree_of-Quads, tree_of-Octs, tree_of-Links, tree_of-Rows, tree_of-Cap}
 use Rattle.capn_value.specs.Caps.{first_cap}
 use Rattle.capn_value.specs.Sizes.{height}
-use Rattle.capn_value.specs.Fits.{is_wide, is_ragged, is_root}
+use Rattle.capn_value.specs.Fits.{is_wide, is_ragged}
 use Rattle.capn_value.specs.declared.value.Value.{Value, Nil, Node, Voids, Bits, Bytes, Pairs, Quads, Octs, Links, Rows, Cap}
 use Rattle.capn_value.specs.declared.value.Body.{Body}
 
@@ -49,20 +49,6 @@ module _ {A : Type 0} where
   even v (inr (inr (inr (inr (inr (inr (inr (inl p)))))))) = rw (p.1, tree_of-Octs) refl
   even v (inr (inr (inr (inr (inr (inr (inr (inr (inl p))))))))) = rw (p.1, tree_of-Links) refl
   even v (inr (inr (inr (inr (inr (inr (inr (inr (inr p))))))))) = rw (p.1, tree_of-Cap) refl
-
-  abbrev IsNoRoot : Value A → Type 0
-  IsNoRoot v = ((n : ℕ) × (v ≡ Voids n)) ⊎ (((xs : List Bool) × (v ≡ Bits xs)) ⊎ (((xs : List ℕ) × (v ≡ Bytes xs)) ⊎ (((xs : List ℕ) × (v ≡ Pairs xs)) ⊎ (((xs : List ℕ) × (v ≡ Quads xs)) ⊎ (((xs : List ℕ) × (v ≡ Octs xs)) ⊎ (((vs : List (Value A)) × (v ≡ Links vs)) ⊎ (((bs : List (Body A)) × (v ≡ Rows bs)) ⊎ ((k : ℕ) × (v ≡ Cap k)))))))))
-
-  pub no_root : (v : Value A) → IsNoRoot v → false ≡ is_root (tree_of v)
-  no_root v (inl p) = rw (p.1, tree_of-Voids) refl
-  no_root v (inr (inl p)) = rw (p.1, tree_of-Bits) refl
-  no_root v (inr (inr (inl p))) = rw (p.1, tree_of-Bytes) refl
-  no_root v (inr (inr (inr (inl p)))) = rw (p.1, tree_of-Pairs) refl
-  no_root v (inr (inr (inr (inr (inl p))))) = rw (p.1, tree_of-Quads) refl
-  no_root v (inr (inr (inr (inr (inr (inl p)))))) = rw (p.1, tree_of-Octs) refl
-  no_root v (inr (inr (inr (inr (inr (inr (inl p))))))) = rw (p.1, tree_of-Links) refl
-  no_root v (inr (inr (inr (inr (inr (inr (inr (inl p)))))))) = rw (p.1, tree_of-Rows) refl
-  no_root v (inr (inr (inr (inr (inr (inr (inr (inr p)))))))) = rw (p.1, tree_of-Cap) refl
 
   abbrev IsLow : Value A → Type 0
   IsLow v = ((n : ℕ) × (v ≡ Voids n)) ⊎ (((xs : List Bool) × (v ≡ Bits xs)) ⊎ (((xs : List ℕ) × (v ≡ Bytes xs)) ⊎ (((xs : List ℕ) × (v ≡ Pairs xs)) ⊎ (((xs : List ℕ) × (v ≡ Quads xs)) ⊎ ((xs : List ℕ) × (v ≡ Octs xs))))))

@@ -3,7 +3,7 @@
 use Rattle.std.specs.Prelude.{ℕ, ◌≡◌, ◌≤◌, ◌^◌, Bool, true, false, cond, ◌||◌, ◌&&◌, not, nat_lt, ◌==◌, length, Option, Some, None, List}
 use Rattle.capn_value.specs.Tree.{Tree, nil, node, voids, bits, bytes, pairs, quads, octs, links, rows, cap, Trees, no_trees, tree, Bodies, no_bodies, body, count, count_rows, row_words}
 use Rattle.capn_value.specs.declared.tariff.Tariff.TheVariants.{Plain}
-use Rattle.capn_value.specs.Sizes.{height, base, cost, most_cost}
+use Rattle.capn_value.specs.Sizes.{height, base, cost, most_cost, most_height}
 use Rattle.capn_value.specs.declared.misfit.Misfit.{Misfit}
 use Rattle.capn_value.specs.declared.misfit.Misfit.TheVariants.{Wide, Long, Ragged, Costly, Tall, BadRoot}
 
@@ -77,11 +77,10 @@ abbrev pub is_ragged : Tree → Bool
 is_ragged (rows (body ws ss bs)) = not (are_even (length ws) (count ss) bs)
 is_ragged _ = false
 
--- a message's root is null or a struct
+-- a message's root is anything but a capability (own)
 abbrev pub is_root : Tree → Bool
-is_root nil = true
-is_root (node ws ss) = true
-is_root _ = false
+is_root (cap k) = false
+is_root _ = true
 
 -- the first of the six that holds, each looked for in the whole value before the next; cost is counted by the plain
 -- tariff, so that a value that costs no more by any tariff fits too
@@ -91,7 +90,7 @@ misfit t =
     (cond (anywhere is_long t) (Some Long)
     (cond (anywhere is_ragged t) (Some Ragged)
     (cond (nat_lt most_cost (cost (base Plain) t)) (Some Costly)
-    (cond (nat_lt 256 (height t)) (Some Tall)
+    (cond (nat_lt most_height (height t)) (Some Tall)
     (cond (is_root t) None (Some BadRoot))))))
 
 -- none of the six holds
@@ -104,5 +103,5 @@ pub record IsFit (t : Tree) : Type 0 where
   pub short : anywhere is_long t ≡ false
   pub even : anywhere is_ragged t ≡ false
   pub cheap : cost (base Plain) t ≤ most_cost
-  pub low : height t ≤ 256
+  pub low : height t ≤ most_height
   pub root : is_root t ≡ true

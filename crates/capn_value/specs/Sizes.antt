@@ -1,5 +1,5 @@
 -- Height and cost: how deep a reader goes, and what it pays (own, after the encoding page's "Security Considerations").
-use Rattle.std.specs.Prelude.{ℕ, ◌+◌, ◌==◌, max, length, cond}
+use Rattle.std.specs.Prelude.{ℕ, ◌+◌, ◌*◌, ◌^◌, ◌==◌, max, length, cond}
 use Rattle.std.specs.Int.{div_ceil}
 use Rattle.capn_value.specs.declared.tariff.Tariff.{Tariff}
 use Rattle.capn_value.specs.declared.tariff.Tariff.TheVariants.{Strict, Plain}
@@ -39,11 +39,15 @@ base Plain = 0
 
 -- the greatest cost of a value that fits, by the plain tariff
 abbrev pub most_cost : ℕ
-most_cost = 268435456
+most_cost = 2 ^ 28
+
+-- the greatest height of a value that fits
+abbrev pub most_height : ℕ
+most_height = 256
 
 -- one more than a value that fits costs by any tariff; no sum of costs is counted further
 abbrev pub dear : ℕ
-dear = 536870914
+dear = 2 * most_cost + 2
 
 -- the prices of all content of a value, where each content costs `base` beside its size
 module _ (base : ℕ) where

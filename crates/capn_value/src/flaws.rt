@@ -5,7 +5,7 @@ ghost use Rattle.capn_value.specs.View.{tree_of, trees_of, rows_of};
 ghost use Rattle.capn_value.specs.Fits as fits;
 ghost use Rattle.capn_value.specs.InRange.{InRange};
 
-use crate::measure::{MOST_COST, capped_cost, capped_height};
+use crate::measure::{MOST_COST, MOST_HEIGHT, capped_cost, capped_height};
 use crate::misfit::Misfit;
 use crate::parts::{is_long, is_ragged, is_wide};
 use crate::tariff::Tariff;
@@ -48,9 +48,9 @@ pub fn misfit<A: Allocator>(v: &Value<A>) -> Option<Misfit>
         Some(Misfit::Long)
     } else if found.ragged {
         Some(Misfit::Ragged)
-    } else if capped_cost(v, Tariff::Plain.base() as usize) > MOST_COST {
+    } else if capped_cost(v, Tariff::Plain.base() as usize) > MOST_COST as usize {
         Some(Misfit::Costly)
-    } else if capped_height(v) > 256 {
+    } else if capped_height(v) > MOST_HEIGHT {
         Some(Misfit::Tall)
     } else if !is_root(v) {
         Some(Misfit::BadRoot)
@@ -64,16 +64,17 @@ fn is_root<A: Allocator>(v: &Value<A>) -> bool
     ensures { result ≡ fits.is_root (tree_of v.now) }
 {
     match v {
-        Value::Nil | Value::Node(_) => true,
-        Value::Voids(_)
+        Value::Cap(_) => false,
+        Value::Nil
+        | Value::Node(_)
+        | Value::Voids(_)
         | Value::Bits(_)
         | Value::Bytes(_)
         | Value::Pairs(_)
         | Value::Quads(_)
         | Value::Octs(_)
         | Value::Links(_)
-        | Value::Rows(_)
-        | Value::Cap(_) => false,
+        | Value::Rows(_) => true,
     }
 }
 

@@ -41,6 +41,7 @@ mod value;
 
 pub use equal::same;
 pub use items::Items;
+pub use measure::{MOST_COST, MOST_HEIGHT};
 pub use memory::Memory;
 pub use misfit::Misfit;
 pub use tariff::Tariff;

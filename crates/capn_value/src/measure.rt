@@ -14,10 +14,13 @@ use crate::value::{Body, Value};
 use std::alloc::Allocator;
 
 /// The greatest cost of a value that fits, in words by the plain tariff.
-pub const MOST_COST: usize = 268_435_456;
+pub const MOST_COST: u32 = 1 << 28;
+
+/// The greatest height of a value that fits.
+pub const MOST_HEIGHT: u32 = 256;
 
 /// One more than any value that fits costs, by either tariff.
-const DEAR: usize = 536_870_914;
+const DEAR: usize = 2 * MOST_COST as usize + 2;
 
 // The sum, or `DEAR` where it is more.
 fn plus(a: usize, b: usize) -> usize
@@ -144,10 +147,10 @@ fn measured_rows<A: Allocator>(bodies: &[Body<A>], base: usize) -> RowSums
 }
 
 /// One more than the height of any value that fits.
-const TALL: u32 = 257;
+const TALL: u32 = MOST_HEIGHT + 1;
 
 fn taller(below: u32) -> u32
-    ensures { result ≡ min (1 + below) 257 }
+    ensures { result ≡ min (1 + below) (sizes.most_height + 1) }
 {
     below.saturating_add(1).min(TALL)
 }
@@ -156,7 +159,7 @@ fn taller(below: u32) -> u32
 #[cycle(height)]
 #[tactic(auto, using(std::proofs::lemmas::Grind::common_steps, crate::specs::Views::views))]
 pub fn capped_height<A: Allocator>(v: &Value<A>) -> u32
-    ensures { result ≡ min (sizes.height (tree_of v.now)) 257 }
+    ensures { result ≡ min (sizes.height (tree_of v.now)) (sizes.most_height + 1) }
 {
     match v {
         Value::Nil | Value::Cap(_) => 0,
@@ -175,7 +178,7 @@ pub fn capped_height<A: Allocator>(v: &Value<A>) -> u32
 #[cycle(height)]
 #[tactic(auto, using(std::proofs::lemmas::Grind::common_steps, crate::specs::Views::views))]
 fn capped_greatest<A: Allocator>(items: &[Value<A>]) -> u32
-    ensures { result ≡ min (sizes.greatest (trees_of items.now)) 257 }
+    ensures { result ≡ min (sizes.greatest (trees_of items.now)) (sizes.most_height + 1) }
 {
     let mut most = 0;
     for v in items {
@@ -187,7 +190,7 @@ fn capped_greatest<A: Allocator>(items: &[Value<A>]) -> u32
 #[cycle(height)]
 #[tactic(auto, using(std::proofs::lemmas::Grind::common_steps, crate::specs::Views::views))]
 fn capped_greatest_in_rows<A: Allocator>(bodies: &[Body<A>]) -> u32
-    ensures { result ≡ min (sizes.greatest_in_rows (rows_of bodies.now)) 257 }
+    ensures { result ≡ min (sizes.greatest_in_rows (rows_of bodies.now)) (sizes.most_height + 1) }
 {
     let mut most = 0;
     for body in bodies {

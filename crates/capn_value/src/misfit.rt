@@ -12,6 +12,6 @@ pub enum Misfit {
     Costly,
     /// The height is above 256.
     Tall,
-    /// The root is neither null nor a struct.
+    /// The root is a capability.
     BadRoot,
 }

@@ -88,7 +88,7 @@ impl<A: Allocator> Tree<A> {
 #[tactic(auto, using(crate::specs::Laws::Fitting::fit_parts))]
 pub fn height<A: Allocator>(tree: &Tree<A>) -> u32
     ensures exact { result ≡ sizes.height tree.now }
-    ensures within { result ≤ 256 }
+    ensures within { result ≤ sizes.most_height }
 {
     capped_height(&tree.value)
 }

@@ -46,11 +46,10 @@ pub record IsStop (budget : ℕ) (vs : List Visit) (fault : Fault) (at : Place) 
 abbrev pub root : Place
 root = record { segment = 0; word = 0 }
 
--- what the root of a message may be: null or a struct
+-- what the root of a message may be: anything but a capability (own)
 abbrev pub may_be_root : Target → Bool
-may_be_root targets.Nil = true
-may_be_root (targets.Content s start (shapes.Node a b) pads) = true
-may_be_root _ = false
+may_be_root (targets.Cap index) = false
+may_be_root _ = true
 
 module _ (message : List (List ℕ)) (base : ℕ) where
   -- whether the root may be what it is, is tested once its target is known

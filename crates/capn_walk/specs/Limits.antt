@@ -1,5 +1,7 @@
 -- The limits of a walk. (Page: security considerations; the numbers are our own.)
-use Rattle.std.specs.Prelude.{ℕ, ◌^◌, ◌≤◌}
+use Rattle.std.specs.Prelude.{ℕ, ◌≤◌}
+use Rattle.capn_words.specs.Limits.{most_message_words}
+use Rattle.capn_value.specs.Sizes.{most_cost, most_height}
 use Rattle.capn_value.specs.declared.tariff.Tariff.{Tariff}
 
 -- the most words of one framed message, the most words that a walk pays, how many objects deep it goes, and how it
@@ -13,7 +15,7 @@ pub record Bounds : Type 0 where
 -- each of the numbers is in its range
 pub record AreLimits (words budget depth : ℕ) : Type 0 where
   pub some_words : 1 ≤ words
-  pub few_words : words ≤ 2 ^ 28
-  pub small_budget : budget ≤ 2 ^ 28
+  pub few_words : words ≤ most_message_words
+  pub small_budget : budget ≤ most_cost
   pub some_depth : 1 ≤ depth
-  pub small_depth : depth ≤ 256
+  pub small_depth : depth ≤ most_height

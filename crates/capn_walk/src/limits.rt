@@ -1,20 +1,14 @@
 //! The limits of a walk.
 
-ghost use Rattle.std.specs.Prelude.{◌≡◌, ◌↔◌, ◌^◌, ◌≤◌, IsSome, IfSome};
+ghost use Rattle.std.specs.Prelude.{◌≡◌, ◌↔◌, ◌≤◌, IsSome, IfSome};
+ghost use Rattle.capn_words.specs.Limits.{most_message_words};
+ghost use Rattle.capn_value.specs.Sizes.{most_cost, most_height};
 ghost use Rattle.capn_value.specs.declared.tariff.Tariff.TheVariants as tariffs;
 ghost use Rattle.capn_walk.specs.Limits.{AreLimits};
 
-use capn_value::Tariff;
+use capn_value::{MOST_COST, MOST_HEIGHT, Tariff};
+use capn_words::MOST_MESSAGE_WORDS;
 use std::marker::Model;
-
-/// The most words that one framed message may have.
-const MOST_MESSAGE_WORDS: u32 = 268_435_456;
-
-/// The most words that a walk may pay.
-const MOST_BUDGET: u32 = 268_435_456;
-
-/// The most objects that may stand one below another.
-const MOST_DEPTH: u32 = 256;
 
 /// The usual number of words, of a message and of a budget: 64 MiB.
 const USUAL_WORDS: u32 = 8_388_608;
@@ -56,8 +50,8 @@ impl Limits {
         ensures tariff { IfSome result (λ l. l.tariff ≡ tariffs.Strict) }
     {
         let words_fit = 1 <= message_words && message_words <= MOST_MESSAGE_WORDS;
-        let depth_fits = 1 <= depth && depth <= MOST_DEPTH;
-        if words_fit && budget <= MOST_BUDGET && depth_fits {
+        let depth_fits = 1 <= depth && depth <= MOST_HEIGHT;
+        if words_fit && budget <= MOST_COST && depth_fits {
             Some(Limits {
                 message_words,
                 budget,
@@ -107,7 +101,7 @@ impl Limits {
     pub fn message_words(self) -> u32
         ensures value { result ≡ self.message_words }
         ensures some { 1 ≤ result }
-        ensures within { result ≤ 2 ^ 28 }
+        ensures within { result ≤ most_message_words }
     {
         self.message_words
     }
@@ -115,7 +109,7 @@ impl Limits {
     /// The most words that a walk pays.
     pub fn budget(self) -> u32
         ensures value { result ≡ self.budget }
-        ensures within { result ≤ 2 ^ 28 }
+        ensures within { result ≤ most_cost }
     {
         self.budget
     }
@@ -124,7 +118,7 @@ impl Limits {
     pub fn depth(self) -> u32
         ensures value { result ≡ self.depth }
         ensures some { 1 ≤ result }
-        ensures within { result ≤ 256 }
+        ensures within { result ≤ most_height }
     {
         self.depth
     }

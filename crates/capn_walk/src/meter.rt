@@ -1,6 +1,7 @@
 //! What may still be paid.
 
-ghost use Rattle.std.specs.Prelude.{◌≡◌, ◌+◌, ◌≤◌, ◌^◌};
+ghost use Rattle.std.specs.Prelude.{◌≡◌, ◌+◌, ◌≤◌};
+ghost use Rattle.capn_value.specs.Sizes.{most_cost};
 ghost use Rattle.capn_value.specs.declared.tariff.Tariff.TheVariants as tariffs;
 ghost use Rattle.capn_walk.specs.Account.{with_paid, left_of};
 
@@ -16,20 +17,21 @@ pub struct Meter {
 }
 
 impl Model for Meter {
-    ghost use Rattle.std.specs.Prelude.{◌+◌, ◌≤◌, ◌^◌};
+    ghost use Rattle.std.specs.Prelude.{◌+◌, ◌≤◌};
+    ghost use Rattle.capn_value.specs.Sizes.{most_cost};
     ghost use Rattle.capn_walk.specs.Account.{Account};
 
     ghost Value = { Account };
 
     ghost view = { λ m. record { budget = m.paid + m.left; paid = m.paid; tariff = m.tariff } };
 
-    ghost invariant = { λ m. m.paid + m.left ≤ 2 ^ 28 };
+    ghost invariant = { λ m. m.paid + m.left ≤ most_cost };
 }
 
 impl Meter {
     /// One that has paid nothing, of a budget of at most 2^28 words, with the strict prices.
     pub fn new(budget: u32) -> Meter
-        requires { budget ≤ 2 ^ 28 }
+        requires { budget ≤ most_cost }
         ensures budget { result.budget ≡ budget }
         ensures paid { result.paid ≡ 0 }
         ensures tariff { result.tariff ≡ tariffs.Strict }
@@ -39,7 +41,7 @@ impl Meter {
 
     /// One that has paid nothing, of a budget of at most 2^28 words, with the prices of a tariff.
     pub fn with_tariff(budget: u32, tariff: Tariff) -> Meter
-        requires { budget ≤ 2 ^ 28 }
+        requires { budget ≤ most_cost }
         ensures budget { result.budget ≡ budget }
         ensures paid { result.paid ≡ 0 }
         ensures tariff { result.tariff ≡ tariff }
@@ -72,7 +74,7 @@ impl Meter {
     pub fn left(&self) -> u32
         ensures sum { self.now.paid + result ≡ self.now.budget }
         ensures value { result ≡ left_of self.now }
-        ensures within { result ≤ 2 ^ 28 }
+        ensures within { result ≤ most_cost }
     {
         self.left
     }

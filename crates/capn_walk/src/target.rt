@@ -48,7 +48,7 @@ pub enum Target {
 pub enum Fault {
     /// Segment 0 has no word, so there is no root.
     NoRoot,
-    /// The root is neither null nor a struct.
+    /// The root is a capability.
     RootKind,
     /// The word is no kind of pointer.
     Reserved,

@@ -92,7 +92,7 @@ pub fn walk<S: Space, A: Allocator + Copy>(
     })
 }
 
-/// What the pointer to the root names: null or a struct.
+/// What the pointer to the root names: anything but a capability.
 pub fn root_target<S: Space>(space: &S) -> Result<Target, Stopped>
     ensures place { OnOk result (0 < length (segment_at (S.message space.now) 0)) }
     ensures target { IfOk result (λ t. spec.target (S.message space.now) root ≡ Ok t) }
@@ -125,14 +125,5 @@ pub fn root_target<S: Space>(space: &S) -> Result<Target, Stopped>
 pub fn may_be_root(target: Target) -> bool
     ensures { result ≡ accepted.may_be_root target }
 {
-    match target {
-        Target::Nil => true,
-        Target::Cap(_) => false,
-        Target::Content {
-            segment: _,
-            start: _,
-            shape,
-            pads: _,
-        } => matches!(shape, Shape::Node { .. }),
-    }
+    !matches!(target, Target::Cap(_))
 }

@@ -3,6 +3,7 @@
 ghost use Rattle.std.specs.Prelude.{◌≡◌, ℕ, ◌<◌, ◌≤◌, ◌*◌, ◌+◌, List, [], ◌∷◌, length, take, drop};
 ghost use Rattle.capn_words.specs.Words.{IsBare, ReadsBare, word_number};
 
+use crate::limits::MOST_WORDS;
 use crate::space::{Place, Space};
 use byteorder::{ByteOrder, LittleEndian};
 use std::marker::Model;
@@ -15,9 +16,6 @@ pub enum BareFault {
     /// The number of words, which is above 2^28 + 1.
     TooLong(u64),
 }
-
-/// The most words of a message.
-const MOST_WORDS: u64 = 268_435_457;
 
 /// The word that begins at so many times 8 bytes.
 #[tactic(auto, unfolding(crate::specs::Words::word_number))]
@@ -71,7 +69,7 @@ impl<'a> Bare<'a> {
             return Err(BareFault::NotWhole(length));
         }
         let words = length / 8;
-        if words > MOST_WORDS {
+        if words > MOST_WORDS as u64 {
             return Err(BareFault::TooLong(words));
         }
         Ok(Bare { bytes })

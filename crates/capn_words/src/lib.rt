@@ -6,7 +6,7 @@
 //! - `Watched` is a reader or a writer that remembers whether a call of it has failed.
 //! - `laws` has what holds of one segment's bytes apart from any call: one reading, one refusal.
 //!
-//! No call takes memory. A message has 1 to 512 segments and at most 2^28 + 1 words in all.
+//! No call takes memory. A message has 1 to 4,096 segments and at most 2^28 + 1 words in all.
 //!
 //! ```text
 //! let bare = Bare::new(input)?;
@@ -19,11 +19,13 @@
 
 pub mod bare;
 pub mod laws;
+pub mod limits;
 pub mod pointer;
 pub mod space;
 pub mod watched;
 
 pub use bare::{Bare, BareFault};
+pub use limits::{MOST_MESSAGE_WORDS, MOST_SEGMENTS, MOST_WORDS};
 pub use pointer::{Pointer, Width, join, split};
 pub use space::{Place, Space};
 pub use watched::Watched;

@@ -22,7 +22,7 @@ pub trait Space {
     /// The segments, each the list of its words.
     ghost message: { Self → List (List ℕ) };
 
-    /// How many segments there are: 1 to 512, with at most 2^28 + 1 words in all.
+    /// How many segments there are: 1 to 4,096, with at most 2^28 + 1 words in all.
     fn segments(&self) -> u32
         ensures count { result ≡ length (message self.now) }
         ensures bounds { IsMessage (message self.now) };

@@ -2,7 +2,8 @@
 use Rattle.std.proofs.Common.{◌≡◌, ◌⊎◌, inl, inr, ℕ, ◌+◌, ◌-◌, ◌*◌, ◌%◌, ◌^◌, ◌<◌, ◌≤◌, List, [], ◌∷◌, ◌++◌, length, take, drop, Bool, true, false, Option, Some, None, Result, Ok, Err, refl, ap, sym, subst, ◌∙◌, arith, length-append, length-take, nat_eq}
 use Rattle.std.proofs.lemmas.List.{take_all}
 use Rattle.std.proofs.lemmas.Bool.Decides.{nat_tests}
-use Rattle.capn_stream.specs.Frames.{Frames, most_segments, padding}
+use Rattle.capn_words.specs.Limits.{most_segments}
+use Rattle.capn_stream.specs.Frames.{Frames, padding}
 use Rattle.capn_stream.specs.Framing.{FeedGives, Feeds, Framing, IsFrame, IsUnfinished, TakeGives}
 use Rattle.capn_stream.specs.Reading.{HasCount, HasHead, IsWhole, announced_segments, announced_words, frame_length, head_length}
 use Rattle.capn_stream.specs.Receiving.{most_bytes}

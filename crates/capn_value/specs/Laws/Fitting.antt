@@ -3,7 +3,7 @@ use Rattle.std.proofs.Common.{◌≡◌, Bool, true, false, cond, nat_lt, refl, 
 use Rattle.std.proofs.lemmas.Bool.{ltb-false, le-ltb}
 use Rattle.capn_value.specs.Tree.{Tree}
 use Rattle.capn_value.specs.declared.tariff.Tariff.TheVariants.{Plain}
-use Rattle.capn_value.specs.Sizes.{height, base, cost, most_cost}
+use Rattle.capn_value.specs.Sizes.{height, base, cost, most_cost, most_height}
 use Rattle.capn_value.specs.Fits.{anywhere, is_wide, is_long, is_ragged, is_root, misfit, Fits, IsFit}
 use Rattle.capn_value.specs.declared.misfit.Misfit.{Misfit}
 use Rattle.capn_value.specs.declared.misfit.Misfit.TheVariants.{Wide, Long, Ragged, Costly, Tall, BadRoot}
@@ -23,12 +23,12 @@ fit_parts t h =
     let b = passed (anywhere is_long t) Long _ a.1 in
     let c = passed (anywhere is_ragged t) Ragged _ b.1 in
     let d = passed (nat_lt most_cost (cost (base Plain) t)) Costly _ c.1 in
-    let e = passed (nat_lt 256 (height t)) Tall _ d.1 in
+    let e = passed (nat_lt most_height (height t)) Tall _ d.1 in
     record { narrow = a.0; short = b.0; even = c.0; cheap = ltb-false _ _ d.0; low = ltb-false _ _ e.0; root = rooted (is_root t) e.1 }
 
 pub fit_from : (t : Tree) → IsFit t → Fits t
 unfolding Fits misfit
 fit_from t p =
     let d : nat_lt most_cost (cost (base Plain) t) ≡ false = le-ltb _ _ p.cheap in
-    let e : nat_lt 256 (height t) ≡ false = le-ltb _ _ p.low in
+    let e : nat_lt most_height (height t) ≡ false = le-ltb _ _ p.low in
     rw (p.narrow, p.short, p.even, d, e, p.root)

@@ -19,18 +19,17 @@ in_three message s =
     ∙ ap (λ (xs : List ℕ). head_text message ++ xs) (contents_split message s)
     ∙ sym (append_assoc (head_text message) (contents (take s message)) (contents (drop s message)))
 
+pub returns-in_err-write_table-clause-begun : goal.returns-in_err-write_table-clause-begun
+returns-in_err-write_table-clause-begun g c =
+    let message = g.S.Space.message c.args.space.now in
+    begun_front _ _ (head_text message) (contents message) (frame_text message) (in_two message) c.in_err-write_table.ensures.begun
+
 pub returns-in_err-write_all-clause-begun : goal.returns-in_err-write_all-clause-begun
 returns-in_err-write_all-clause-begun g c =
     let message = g.S.Space.message c.args.space.now in
-    let begun = rw c.put_head-len.ensures.text at c.in_err-write_all.ensures.begun in
-    begun_front _ _ (head_text message) (contents message) (frame_text message) (in_two message) begun
-
-pub returns-in_err-write_all-2-clause-begun : goal.returns-in_err-write_all-2-clause-begun
-returns-in_err-write_all-2-clause-begun g c =
-    let message = g.S.Space.message c.args.space.now in
     let s = c.loop-segment.segment in
     let here : s < length message = omega arith in
-    let part = rw c.bytes_of.ensures at c.in_err-write_all-2.ensures.begun in
+    let part = rw c.bytes_of.ensures at c.in_err-write_all.ensures.begun in
     let begun = begun_more _ _ _ (head_text message ++ contents (take s message)) (bytes (segment_at message s)) c.loop-segment.invariant.written part in
     let same : head_text message ++ contents (take (s + 1) message) ≡ (head_text message ++ contents (take s message)) ++ bytes (segment_at message s) =
     ap (λ (xs : List ℕ). head_text message ++ xs) (contents_more message s here) ∙ sym (append_assoc (head_text message) (contents (take s message)) (bytes (segment_at message s))) in

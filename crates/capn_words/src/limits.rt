@@ -1,0 +1,10 @@
+//! The limits on the size of a message. (Own.)
+
+/// The most segments of a message.
+pub const MOST_SEGMENTS: u32 = 4096;
+
+/// The most words that a limit on framed messages may allow.
+pub const MOST_MESSAGE_WORDS: u32 = 1 << 28;
+
+/// The most words of any message, all segments together.
+pub const MOST_WORDS: u32 = MOST_MESSAGE_WORDS + 1;
