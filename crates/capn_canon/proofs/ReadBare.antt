@@ -30,14 +30,14 @@ unfolding root_visits
 root-alone m base depth nil k h = ap (λ r. visits_at_root m base r (visits m base depth root)) h
 root-alone m base depth (node ws ss) k h = ap (λ r. visits_at_root m base r (visits m base depth root)) h.is
 root-alone m base depth (cap i) k h = absurd cc
-root-alone m base depth (voids n) k h = absurd cc
-root-alone m base depth (bits xs) k h = absurd cc
-root-alone m base depth (bytes xs) k h = absurd cc
-root-alone m base depth (pairs xs) k h = absurd cc
-root-alone m base depth (quads xs) k h = absurd cc
-root-alone m base depth (octs xs) k h = absurd cc
-root-alone m base depth (links ts) k h = absurd cc
-root-alone m base depth (rows bs) k h = absurd cc
+root-alone m base depth (voids n) k h = ap (λ r. visits_at_root m base r (visits m base depth root)) h.is
+root-alone m base depth (bits xs) k h = ap (λ r. visits_at_root m base r (visits m base depth root)) h.is
+root-alone m base depth (bytes xs) k h = ap (λ r. visits_at_root m base r (visits m base depth root)) h.is
+root-alone m base depth (pairs xs) k h = ap (λ r. visits_at_root m base r (visits m base depth root)) h.is
+root-alone m base depth (quads xs) k h = ap (λ r. visits_at_root m base r (visits m base depth root)) h.is
+root-alone m base depth (octs xs) k h = ap (λ r. visits_at_root m base r (visits m base depth root)) h.is
+root-alone m base depth (links ts) k h = ap (λ r. visits_at_root m base r (visits m base depth root)) h.is
+root-alone m base depth (rows bs) k h = ap (λ r. visits_at_root m base r (visits m base depth root)) h.3.is
 
 module _ (v : Tree) (limits : Bounds) (f : Fits v) (r : InRange v) (low : height v ≤ limits.depth) where
   few : length (words v) ≤ 2 ^ 29

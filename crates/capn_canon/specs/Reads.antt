@@ -1,16 +1,11 @@
 -- Which message bytes are read as, in each form. (Page: messages, serialization over a stream, packing; the limits are our own.)
-use Rattle.std.specs.Prelude.{◌≡◌, ℕ, ◌+◌, ◌*◌, ◌/◌, ◌<◌, ◌≤◌, List, [], ◌∷◌, length}
-use Rattle.capn_words.specs.Limits.{most_segments}
+use Rattle.std.specs.Prelude.{◌≡◌, ℕ, ◌+◌, ◌*◌, ◌<◌, ◌≤◌, List, [], ◌∷◌, length}
 use Rattle.capn_words.specs.Message.{total}
 use Rattle.capn_words.specs.Words.{IsBare}
 use Rattle.capn_pack.specs.Packs.{Packs}
-use Rattle.capn_stream.specs.Frames.{Frames, StandsFirst}
+use Rattle.capn_stream.specs.Frames.{Frames, StandsFirst, most_table_words}
 use Rattle.capn_canon.specs.declared.form.Form.{Form}
 use Rattle.capn_canon.specs.declared.form.Form.TheVariants as forms
-
--- the words of the longest table: 4 bytes for the number of segments, 4 for the size of each, and 4 of padding
-abbrev pub most_table_words : ℕ
-most_table_words = (4 + 4 * most_segments + 4) / 8
 
 -- the bytes are one frame of the message, which has at most so many words
 pub record IsFramed (bs : List ℕ) (most : ℕ) (message : List (List ℕ)) : Type 0 where

@@ -3,6 +3,7 @@ use Rattle.std.specs.Prelude.{◌≡◌, ◌≢◌, ℕ, ◌+◌, List, Some, Er
 use Rattle.capn_words.specs.Words.{ReadsBare}
 use Rattle.capn_pack.specs.Refusal as packs
 use Rattle.capn_pack.specs.declared.fault.UnpackFault.TheVariants as unpack_faults
+use Rattle.capn_stream.specs.Frames.{most_table_words}
 use Rattle.capn_stream.specs.Reading as frames
 use Rattle.capn_stream.specs.declared.fault.FrameFault.TheVariants as frame_faults
 use Rattle.capn_value.specs.Tree.{Tree}
@@ -13,7 +14,7 @@ use Rattle.capn_canon.specs.declared.form.Form.{Form}
 use Rattle.capn_canon.specs.declared.form.Form.TheVariants as forms
 use Rattle.capn_canon.specs.declared.refusal.Refusal.{Refusal}
 use Rattle.capn_canon.specs.declared.refusal.Refusal.TheVariants as refusals
-use Rattle.capn_canon.specs.Reads.{Reads, Trails, Unpacks, most_table_words}
+use Rattle.capn_canon.specs.Reads.{Reads, Trails, Unpacks}
 
 -- the bytes are no frame of at most so many words, or more than one
 abbrev pub IsMisframed : List ℕ → ℕ → Refusal → Type 0

@@ -53,7 +53,7 @@ pub use checked::Checked;
 pub use form::Form;
 pub use laying::{LayoutFault, layout};
 pub use patch::Patch;
-pub use reading::{MOST_TABLE_WORDS, canonicalise};
+pub use reading::canonicalise;
 pub use refusal::Refusal;
 pub use surveying::survey;
 pub use verdict::{check, is_canonical};

@@ -15,13 +15,10 @@ use crate::canonical::{Canonical, canonical_of};
 use crate::form::Form;
 use crate::refusal::Refusal;
 use capn_pack::{UnpackFault, unpack};
-use capn_stream::{FrameFault, first};
+use capn_stream::{FrameFault, MOST_TABLE_WORDS, first};
 use capn_walk::Limits;
 use capn_words::Bare;
 use std::alloc::Allocator;
-
-/// The words of the longest table of segments and its padding.
-pub const MOST_TABLE_WORDS: u32 = 257;
 
 /// Of the words of one segment.
 fn of_bare<A: Allocator + Copy>(

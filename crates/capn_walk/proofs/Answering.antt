@@ -24,9 +24,7 @@ module _ (m : List (List ℕ)) (base : ℕ) where
   all-below : (r : Result Target Fault) (vs : List Visit) → AllPay (visits_at_root m base r vs) → AllPay vs
   all-below (Ok targets.Nil) vs h = h
   all-below (Ok (targets.Cap k)) vs h = absurd h
-  all-below (Ok (targets.Content s start (shapes.Node a b) pads)) vs h = h
-  all-below (Ok (targets.Content s start (shapes.Many width n) pads)) vs h = absurd h
-  all-below (Ok (targets.Content s start (shapes.Rows n a b span) pads)) vs h = absurd h
+  all-below (Ok (targets.Content s start shape pads)) vs h = h
   all-below (Err e) vs h = h
 
   all-at_root : (depth : ℕ) → AllPay (root_visits m base depth) → AllPay (visits m base depth root)

@@ -109,9 +109,21 @@ struct_past_the_segments_end : usual ((0x100000004 ∷ 5 ∷ []) ∷ []) ≡ ref
 unfolding verdict root_visits visits target pointer_of
 struct_past_the_segments_end = refl
 
-list_as_root : usual ((0x200000001 ∷ []) ∷ []) ≡ refused faults.RootKind (at 0 0) 0 1
+list_as_root : usual ((0x200000001 ∷ []) ∷ []) ≡ accepted 1 1
 unfolding verdict root_visits visits target pointer_of
 list_as_root = refl
+
+rows_as_root : usual ((0xf00000001 ∷ 0x100000004 ∷ 0 ∷ []) ∷ []) ≡ accepted 3 1
+unfolding verdict root_visits visits target pointer_of
+rows_as_root = refl
+
+list_of_slots_as_root : verdict ((0xe00000001 ∷ 0xfffffffc ∷ []) ∷ []) 1 8388608 1 ≡ refused faults.TooDeep (at 0 1) 2 2
+unfolding verdict root_visits visits target pointer_of
+list_of_slots_as_root = refl
+
+capability_as_root : usual ((0x200000003 ∷ []) ∷ []) ≡ refused faults.RootKind (at 0 0) 0 1
+unfolding verdict root_visits visits target pointer_of
+capability_as_root = refl
 
 reserved_root : usual ((7 ∷ []) ∷ []) ≡ refused faults.Reserved (at 0 0) 0 1
 unfolding verdict root_visits visits target pointer_of

@@ -17,7 +17,7 @@ use Rattle.capn_words.specs.declared.space.Place.{Place}
 use Rattle.capn_value.specs.Tree.{Tree, Trees, Bodies, count, count_rows}
 use Rattle.capn_value.specs.Fits.{Fits}
 use Rattle.capn_value.specs.InRange.{InRange}
-use Rattle.capn_value.specs.Sizes.{base, cost, height}
+use Rattle.capn_value.specs.Sizes.{base, cost, height, most_cost, most_height}
 use Rattle.capn_walk.specs.declared.target.Target.{Target}
 use Rattle.capn_walk.specs.declared.target.Target.TheVariants as targets
 use Rattle.capn_walk.specs.declared.target.Shape.{Shape}
@@ -56,7 +56,7 @@ ValuesAreInRange = (message : List (List ℕ)) (at : Place) (v : Tree) → IsMes
 
 -- the value of a message that is accepted fits, costs at most what its walk pays, and is no higher than the limit
 abbrev pub ValuesFit : Type 0
-ValuesFit = (message : List (List ℕ)) (limits : Bounds) (v : Tree) → limits.budget ≤ 2 ^ 28 → limits.depth ≤ 256 → IsValueOf message limits v → Fits v
+ValuesFit = (message : List (List ℕ)) (limits : Bounds) (v : Tree) → limits.budget ≤ most_cost → limits.depth ≤ most_height → IsValueOf message limits v → Fits v
 
 abbrev pub ValuesAreCheap : Type 0
 ValuesAreCheap = (message : List (List ℕ)) (limits : Bounds) (v : Tree) → IsValueOf message limits v

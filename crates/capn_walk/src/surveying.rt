@@ -1,7 +1,8 @@
 //! A survey of all that a message holds, without its value.
 
-ghost use Rattle.std.specs.Prelude.{◌≡◌, ◌≢◌, ℕ, ◌<◌, ◌≤◌, ◌+◌, ◌-◌, ◌^◌, ◌∷◌, ◌⊎◌, ◌↔◌, [], length, Ok, IsTrue, IfOk, IfErr, MatchResult};
+ghost use Rattle.std.specs.Prelude.{◌≡◌, ◌≢◌, ℕ, ◌<◌, ◌≤◌, ◌+◌, ◌-◌, ◌∷◌, ◌⊎◌, ◌↔◌, [], length, Ok, IsTrue, IfOk, IfErr, MatchResult};
 ghost use Rattle.capn_words.specs.Message.{segment_at, IsMessage, IsPlace};
+ghost use Rattle.capn_value.specs.Sizes.{most_cost, most_height};
 ghost use Rattle.capn_walk.specs.Target as spec;
 ghost use Rattle.capn_walk.specs.Accepted.{root};
 ghost use Rattle.capn_walk.specs.Visits.{pays, visits, visits_of};
@@ -77,8 +78,8 @@ fn survey_root<S: Space, A: Allocator + Copy>(
     requires place { IsPlace (S.message space.now) root }
     requires target { Ok target ≡ spec.target (S.message space.now) root }
     requires some { 1 ≤ depth }
-    requires depth { depth ≤ 256 }
-    requires budget { budget ≤ 2 ^ 28 }
+    requires depth { depth ≤ most_height }
+    requires budget { budget ≤ most_cost }
     ensures pays { IfOk result (λ s. Gives budget (visits (S.message space.now) base depth root) 1 s.paid s.visits) }
     ensures capability { IfOk result (λ s.
         told.first_cap_of (S.message space.now) (visits (S.message space.now) base depth root) ≡ s.capability) }
@@ -131,7 +132,7 @@ fn visit_struct<S: Space>(
     requires size { size ≡ length (segment_at (S.message space.now) at.segment) }
     requires place { IsPlace (S.message space.now) at }
     requires pointer { spec.near (S.message space.now) at.segment at.word 0 pointer ≡ spec.target (S.message space.now) at }
-    requires left { left ≤ 2 ^ 28 }
+    requires left { left ≤ most_cost }
     ensures visits { IfOk result (λ v. visits (S.message space.now) base depth at
         ≡ pays at v.price ∷ visits_of (S.message space.now) base (depth - 1) (places_of v.below)) }
     ensures price { IfOk result (λ v. v.price ≤ left) }
@@ -182,7 +183,7 @@ fn visit_elsewhere<S: Space>(
 ) -> Result<Visited, Fault>
     requires message { IsMessage (S.message space.now) }
     requires place { IsPlace (S.message space.now) at }
-    requires left { left ≤ 2 ^ 28 }
+    requires left { left ≤ most_cost }
     ensures visits { IfOk result (λ v. visits (S.message space.now) base depth at
         ≡ pays at v.price ∷ visits_of (S.message space.now) base (depth - 1) (places_of v.below)) }
     ensures price { IfOk result (λ v. v.price ≤ left) }
@@ -209,7 +210,7 @@ fn visit_found<S: Space>(
     requires message { IsMessage (S.message space.now) }
     requires place { IsPlace (S.message space.now) at }
     requires found { found ≡ spec.target (S.message space.now) at }
-    requires left { left ≤ 2 ^ 28 }
+    requires left { left ≤ most_cost }
     ensures visits { IfOk result (λ v. visits (S.message space.now) base depth at
         ≡ pays at v.price ∷ visits_of (S.message space.now) base (depth - 1) (places_of v.below)) }
     ensures price { IfOk result (λ v. v.price ≤ left) }
@@ -282,9 +283,9 @@ fn survey_slots<S: Space, A: Allocator + Copy>(
 ) -> Result<Surveyed, Stopped>
     requires message { IsMessage (S.message space.now) }
     requires inside { Lies (S.message space.now) first }
-    requires limit { limit ≤ 2 ^ 28 }
-    requires budget { budget ≤ 2 ^ 28 }
-    requires few { owed first ≤ 2 ^ 28 }
+    requires limit { limit ≤ most_cost }
+    requires budget { budget ≤ most_cost }
+    requires few { owed first ≤ most_cost }
     ensures pays { IfOk result (λ s. Gives budget
         (visits_of (S.message space.now) base limit (places_of first)) (owed first) s.paid s.visits) }
     ensures capability { IfOk result (λ s.

@@ -1,9 +1,10 @@
 //! The visits of slots, in preorder: what each denotes, what was paid, and how many there were.
 
-ghost use Rattle.std.specs.Prelude.{◌≡◌, ℕ, ◌<◌, ◌≤◌, ◌+◌, ◌*◌, ◌^◌, Ok, length, IfOk, IfErr};
+ghost use Rattle.std.specs.Prelude.{◌≡◌, ℕ, ◌<◌, ◌≤◌, ◌+◌, ◌*◌, Ok, length, IfOk, IfErr};
 ghost use Rattle.capn_words.specs.Message.{segment_at, IsMessage, IsPlace};
 ghost use Rattle.capn_value.specs.View.{tree_of, trees_of, rows_of};
 ghost use Rattle.capn_value.specs.Tree.{count as count_trees, count_rows};
+ghost use Rattle.capn_value.specs.Sizes.{most_cost};
 ghost use Rattle.capn_walk.specs.Target as spec;
 ghost use Rattle.capn_walk.specs.Visits.{places, row_places, slots, visits, visits_of};
 ghost use Rattle.capn_walk.specs.At.{IsAt, AreAt, RowsAt};
@@ -35,7 +36,7 @@ fn walk_slot<S: Space, A: Allocator + Copy>(
 ) -> Result<Found<A>, Stopped>
     requires message { IsMessage (S.message space.now) }
     requires place { IsPlace (S.message space.now) at }
-    requires left { left ≤ 2 ^ 28 }
+    requires left { left ≤ most_cost }
     ensures pays { IfOk result (λ f. Gives left (visits (S.message space.now) base depth at) 1 f.paid f.visits) }
     ensures value { IfOk result (λ f. IsAt (S.message space.now) at (tree_of f.value)) }
     ensures refused { IfErr result (λ s. Refuses left (visits (S.message space.now) base depth at) 1 s) }
@@ -61,7 +62,7 @@ pub fn walk_target<S: Space, A: Allocator + Copy>(
     requires message { IsMessage (S.message space.now) }
     requires place { IsPlace (S.message space.now) at }
     requires target { spec.target (S.message space.now) at ≡ Ok target }
-    requires left { left ≤ 2 ^ 28 }
+    requires left { left ≤ most_cost }
     ensures pays { IfOk result (λ f. Gives left (visits (S.message space.now) base depth at) 1 f.paid f.visits) }
     ensures value { IfOk result (λ f. IsAt (S.message space.now) at (tree_of f.value)) }
     ensures refused { IfErr result (λ s. Refuses left (visits (S.message space.now) base depth at) 1 s) }
@@ -122,8 +123,8 @@ fn object<S: Space, A: Allocator + Copy>(
     requires message { IsMessage (S.message space.now) }
     requires content { IsContent (S.message space.now) start (extent shape) }
     requires rows { RowsFit shape }
-    requires left { left ≤ 2 ^ 28 }
-    requires count { slot_count shape ≤ 2 ^ 28 }
+    requires left { left ≤ most_cost }
+    requires count { slot_count shape ≤ most_cost }
     ensures pays { IfOk result (λ f. Gives left
         (visits_of (S.message space.now) base depth (slots start.segment start.word shape))
         (slot_count shape) f.paid f.visits) }
@@ -207,7 +208,7 @@ fn walk_slots<S: Space, A: Allocator + Copy>(
 ) -> Result<FoundSlots<A>, Stopped>
     requires message { IsMessage (S.message space.now) }
     requires inside { start + count ≤ length (segment_at (S.message space.now) segment) }
-    requires left { left ≤ 2 ^ 28 }
+    requires left { left ≤ most_cost }
     ensures pays { IfOk result (λ f. Gives left
         (visits_of (S.message space.now) base depth (places segment start count))
         count f.paid f.visits) }
@@ -258,8 +259,8 @@ fn walk_rows<S: Space, A: Allocator + Copy>(
 ) -> Result<FoundRows<A>, Stopped>
     requires message { IsMessage (S.message space.now) }
     requires content { IsContent (S.message space.now) start (count * (words + slots)) }
-    requires left { left ≤ 2 ^ 28 }
-    requires count { count * slots ≤ 2 ^ 28 }
+    requires left { left ≤ most_cost }
+    requires count { count * slots ≤ most_cost }
     ensures pays { IfOk result (λ f. Gives left
         (visits_of (S.message space.now) base depth
         (row_places start.segment start.word words slots count))

@@ -5,6 +5,7 @@ use Rattle.capn_words.specs.declared.bare.BareFault.{BareFault}
 use Rattle.capn_words.specs.declared.bare.BareFault.TheVariants.{NotWhole, TooLong}
 use Rattle.capn_words.specs.Laws.OneSegment.{bare_length}
 use Rattle.capn_pack.specs.Laws.GroupLaws.{refused_only, one_reading}
+use Rattle.capn_stream.specs.Frames.{most_table_words}
 use Rattle.capn_stream.specs.Laws.FrameLaws.{one_frame, stands_alone, whole_of, refused_whole}
 use Rattle.capn_value.specs.Tree.{Tree}
 use Rattle.capn_value.specs.Caps.{first_cap}
@@ -18,7 +19,7 @@ use Rattle.capn_canon.specs.declared.form.Form.{Form}
 use Rattle.capn_canon.specs.declared.form.Form.TheVariants as forms
 use Rattle.capn_canon.specs.declared.refusal.Refusal.{Refusal}
 use Rattle.capn_canon.specs.declared.refusal.Refusal.TheVariants as refusals
-use Rattle.capn_canon.specs.Reads.{IsFramed, Unpacks, Reads, most_table_words}
+use Rattle.capn_canon.specs.Reads.{IsFramed, Unpacks, Reads}
 use Rattle.capn_canon.specs.Denotes.{Denotes}
 use Rattle.capn_canon.specs.Refused.{IsMisframed, IsMisread, IsRefusedMessage, IsRefused}
 use Rattle.capn_canon.specs.Laws.OneReading.{one_message, one_value}

@@ -4,7 +4,7 @@ use Rattle.std.proofs.lemmas.Bool.{or_from, and_from, and_parts, eqb-true, eq-eq
 use Rattle.capn_words.specs.declared.space.Place.{Place}
 use Rattle.capn_words.specs.declared.pointer.Width.TheVariants.{W0, W1, W8, W16, W32, W64, Link}
 use Rattle.capn_value.specs.Tree.{Tree, nil, node, voids, bits, bytes, pairs, quads, octs, links, rows, cap, Trees, no_trees, tree, Bodies, no_bodies, body, count, count_rows, row_words}
-use Rattle.capn_value.specs.Sizes.{cost, costs, costs_in_rows, rows_price, height}
+use Rattle.capn_value.specs.Sizes.{cost, costs, costs_in_rows, rows_price, height, most_cost, most_height}
 use Rattle.capn_value.specs.Fits.{Fits, anywhere, anywhere_in, anywhere_in_rows, is_wide, is_wide_body, has_wide_row, is_long, is_ragged, are_even, is_root, elements, words_in_rows}
 use Rattle.capn_value.specs.Laws.Fitting.{fit_from}
 use Rattle.capn_value.specs.Laws.Tariffs.{cost-raised}
@@ -135,7 +135,7 @@ module _ (m : List (List ℕ)) where
 
     -- ---- the root
 
-    -- a value at the root, where no visit is a fault, is null or a struct, and the root's visits are those of its slot
+    -- a value at the root, where no visit is a fault, is no capability, and the root's visits are those of its slot
     pub record Root (depth : ℕ) (v : Tree) : Type 0 where
       pub kind : is_root v ≡ true
       pub all : AllPay (visits m base depth root)
@@ -153,14 +153,14 @@ module _ (m : List (List ℕ)) where
       root-of nil h = as-it-is nil refl (ap (λ r. visits_at_root m base r (visits m base depth root)) h)
       root-of (node ws ss) h = as-it-is (node ws ss) refl (ap (λ r. visits_at_root m base r (visits m base depth root)) h.is)
       root-of (cap k) h = refused-root (cap k) (ap (λ r. visits_at_root m base r (visits m base depth root)) h)
-      root-of (voids n) h = refused-root (voids n) (ap (λ r. visits_at_root m base r (visits m base depth root)) h.is)
-      root-of (bits xs) h = refused-root (bits xs) (ap (λ r. visits_at_root m base r (visits m base depth root)) h.is)
-      root-of (bytes xs) h = refused-root (bytes xs) (ap (λ r. visits_at_root m base r (visits m base depth root)) h.is)
-      root-of (pairs xs) h = refused-root (pairs xs) (ap (λ r. visits_at_root m base r (visits m base depth root)) h.is)
-      root-of (quads xs) h = refused-root (quads xs) (ap (λ r. visits_at_root m base r (visits m base depth root)) h.is)
-      root-of (octs xs) h = refused-root (octs xs) (ap (λ r. visits_at_root m base r (visits m base depth root)) h.is)
-      root-of (links ts) h = refused-root (links ts) (ap (λ r. visits_at_root m base r (visits m base depth root)) h.is)
-      root-of (rows bs) h = refused-root (rows bs) (ap (λ r. visits_at_root m base r (visits m base depth root)) h.3.is)
+      root-of (voids n) h = as-it-is (voids n) refl (ap (λ r. visits_at_root m base r (visits m base depth root)) h.is)
+      root-of (bits xs) h = as-it-is (bits xs) refl (ap (λ r. visits_at_root m base r (visits m base depth root)) h.is)
+      root-of (bytes xs) h = as-it-is (bytes xs) refl (ap (λ r. visits_at_root m base r (visits m base depth root)) h.is)
+      root-of (pairs xs) h = as-it-is (pairs xs) refl (ap (λ r. visits_at_root m base r (visits m base depth root)) h.is)
+      root-of (quads xs) h = as-it-is (quads xs) refl (ap (λ r. visits_at_root m base r (visits m base depth root)) h.is)
+      root-of (octs xs) h = as-it-is (octs xs) refl (ap (λ r. visits_at_root m base r (visits m base depth root)) h.is)
+      root-of (links ts) h = as-it-is (links ts) refl (ap (λ r. visits_at_root m base r (visits m base depth root)) h.is)
+      root-of (rows bs) h = as-it-is (rows bs) refl (ap (λ r. visits_at_root m base r (visits m base depth root)) h.3.is)
 
       -- the cost of the value at the root is at most what its visits pay, its height at most the depth limit
       pub root-costs : (v : Tree) → IsAt m root v → AllPay (root_visits m base depth) → (cost base v ≤ paid_of (root_visits m base depth)) × (height v ≤ depth)
@@ -172,8 +172,8 @@ module _ (m : List (List ℕ)) where
           let y = c.1 in
           (omega arith, y)
 
-  -- the value at the root of a message accepted under limits of a budget of at most 2^28 words and a depth of at most 256 fits
-  pub fits-root : (base budget depth : ℕ) (v : Tree) → budget ≤ 2 ^ 28 → depth ≤ 256 → IsWithin budget (root_visits m base depth) → IsAt m root v → Fits v
+  -- the value at the root of a message accepted under limits in their ranges fits
+  pub fits-root : (base budget depth : ℕ) (v : Tree) → budget ≤ most_cost → depth ≤ most_height → IsWithin budget (root_visits m base depth) → IsAt m root v → Fits v
   fits-root base budget depth v lb ld w h =
       let r = root-of base depth v h w.all in
       let c = root-costs base depth v h w.all in
