@@ -15,6 +15,7 @@ use Rattle.capn_pack.specs.Laws.GroupLaws.{no_group, head_of, group_same, one_re
 use Rattle.capn_stream.specs.Reading as frames
 use Rattle.capn_stream.specs.declared.fault.FrameFault.{FrameFault}
 use Rattle.capn_stream.specs.declared.fault.FrameFault.TheVariants as frame_faults
+use Rattle.capn_stream.specs.Frames.{most_table_words}
 use Rattle.capn_stream.specs.Laws.FrameLaws.{one_frame, stands_alone, whole_of, refused_whole}
 use Rattle.capn_stream.specs.Laws.FrameLaws as frame_laws
 use Rattle.capn_value.specs.Tree.{Tree}
@@ -30,7 +31,7 @@ use Rattle.capn_canon.specs.declared.form.Form.{Form}
 use Rattle.capn_canon.specs.declared.form.Form.TheVariants as forms
 use Rattle.capn_canon.specs.declared.refusal.Refusal.{Refusal}
 use Rattle.capn_canon.specs.declared.refusal.Refusal.TheVariants as refusals
-use Rattle.capn_canon.specs.Reads.{IsFramed, Unpacks, Reads, Trails, most_table_words}
+use Rattle.capn_canon.specs.Reads.{IsFramed, Unpacks, Reads, Trails}
 use Rattle.capn_canon.specs.Refused.{IsMisframed, IsMisread, IsRefusedMessage, IsRefused}
 use Rattle.capn_canon.specs.Laws.OneReading.{one_message}
 use Rattle.capn_canon.specs.Laws.NotRefused.{accepted-not_refused}

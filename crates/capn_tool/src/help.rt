@@ -144,7 +144,7 @@ is not bounded by it";
 /// `--message-words` of `unpack`.
 pub const UNPACKED_WORDS: &str =
     "The most words of a message, from 1 to 268435456; the input may hold
-257 more, those of the longest segment table";
+2049 more, those of the longest segment table";
 
 /// `--budget`.
 pub const BUDGET: &str = "The most words that reading one message may cost,
