@@ -4,6 +4,7 @@ pub mod Cases
 pub mod Copies
 pub mod Decided
 pub mod FirstCaps
+pub mod FirstMisfit
 pub mod Fronts
 pub mod Heights
 pub mod Inverse

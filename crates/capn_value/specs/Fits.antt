@@ -93,6 +93,21 @@ misfit t =
     (cond (nat_lt most_height (height t)) (Some Tall)
     (cond (is_root t) None (Some BadRoot))))))
 
+-- the misfit holds of the value, and none before it does
+abbrev pub IsFirst : Misfit → Tree → Type 0
+IsFirst Wide t = anywhere is_wide t ≡ true
+IsFirst Long t = (anywhere is_wide t ≡ false) × (anywhere is_long t ≡ true)
+IsFirst Ragged t = (anywhere is_wide t ≡ false) × (anywhere is_long t ≡ false) × (anywhere is_ragged t ≡ true)
+IsFirst Costly t =
+    (anywhere is_wide t ≡ false) × (anywhere is_long t ≡ false) × (anywhere is_ragged t ≡ false)
+    × (nat_lt most_cost (cost (base Plain) t) ≡ true)
+IsFirst Tall t =
+    (anywhere is_wide t ≡ false) × (anywhere is_long t ≡ false) × (anywhere is_ragged t ≡ false)
+    × (nat_lt most_cost (cost (base Plain) t) ≡ false) × (nat_lt most_height (height t) ≡ true)
+IsFirst BadRoot t =
+    (anywhere is_wide t ≡ false) × (anywhere is_long t ≡ false) × (anywhere is_ragged t ≡ false)
+    × (nat_lt most_cost (cost (base Plain) t) ≡ false) × (nat_lt most_height (height t) ≡ false) × (is_root t ≡ false)
+
 -- none of the six holds
 unfoldable pub Fits : Tree → Type 0
 Fits t = misfit t ≡ None

@@ -7,12 +7,13 @@ pub mod SameTrimmed
 pub mod StaysFit
 pub mod Tariffs
 pub mod Trimmed
-use Rattle.std.specs.Prelude.{◌≡◌, ◌≤◌, ◌↔◌}
+use Rattle.std.specs.Prelude.{◌≡◌, ◌≤◌, ◌↔◌, Some}
 use Rattle.capn_value.specs.Tree.{Tree}
 use Rattle.capn_value.specs.Same.{Same}
 use Rattle.capn_value.specs.Trim.{trimmed}
-use Rattle.capn_value.specs.Fits.{Fits, IsFit}
+use Rattle.capn_value.specs.Fits.{Fits, IsFirst, IsFit, misfit}
 use Rattle.capn_value.specs.Sizes.{base, cost, height}
+use Rattle.capn_value.specs.declared.misfit.Misfit.{Misfit}
 use Rattle.capn_value.specs.declared.tariff.Tariff.{Tariff}
 
 -- values that fit are the same exactly if they are equal once trimmed
@@ -31,3 +32,7 @@ TrimmingIsThrifty = (t : Tree) → Fits t
 -- to have no misfit is to have the six facts
 abbrev pub FittingIsSixFacts : Type 0
 FittingIsSixFacts = (t : Tree) → Fits t ↔ IsFit t
+
+-- the misfit of a value is the one that holds while none before it does
+abbrev pub MisfitIsFirst : Type 0
+MisfitIsFirst = (t : Tree) (k : Misfit) → (misfit t ≡ Some k) ↔ IsFirst k t

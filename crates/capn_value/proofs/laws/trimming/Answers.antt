@@ -1,5 +1,6 @@
 use Rattle.capn_value.specs.Sizes.{base}
 use Rattle.capn_value.specs.Laws.Fitting.{fit_parts, fit_from}
+use Rattle.capn_value.proofs.FirstMisfit.{first_misfit}
 use Rattle.capn_value.proofs.OnceTrimmed.{same-trimmed}
 use Rattle.capn_value.specs.Laws.StaysFit.{fits-trimmed}
 use Rattle.capn_value.specs.Laws.Trimmed.{cost-trimmed, height-trimmed}
@@ -17,3 +18,6 @@ returns-clause-kept c t = same-trimmed t
 
 pub returns-clause-fitting : goal.returns-clause-fitting
 returns-clause-fitting c t = (fit_parts t, fit_from t)
+
+pub returns-clause-first : goal.returns-clause-first
+returns-clause-first c t k = first_misfit t k
