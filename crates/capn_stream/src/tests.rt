@@ -95,7 +95,8 @@ fn refuses_in_the_stated_order(rt: HostRuntime) {
     let cut = [0, 0, 0, 0, 0xff, 0xff, 0xff, 0xff];
     for (input, want) in [
         (&all[..0], FrameFault::Empty),
-        (&[0, 2, 0, 0], FrameFault::TooManySegments(513)),
+        (&[0, 16, 0, 0], FrameFault::TooManySegments(4_097)),
+        (&[0, 2, 0, 0], FrameFault::Cut),
         (&all[..3], FrameFault::Cut),
         (&all[..4], FrameFault::TooManySegments(4_294_967_296)),
         (&table[..12], FrameFault::Cut),

@@ -40,10 +40,10 @@ fn takes_two_messages_of_one_piece(rt: HostRuntime) {
 
 #[test]
 fn refuses_at_the_byte_that_tells(rt: HostRuntime) {
-    let many = [0, 2, 0, 0];
+    let many = [0, 16, 0, 0];
     let long = [0, 0, 0, 0, 0xff, 0xff, 0xff, 0xff];
     for (bytes, want) in [
-        (&many[..], FrameFault::TooManySegments(513)),
+        (&many[..], FrameFault::TooManySegments(4_097)),
         (&long[..], FrameFault::TooManyWords(4_294_967_295)),
     ] {
         let mut framer = Framer::new(rt.alloc(), MOST);
