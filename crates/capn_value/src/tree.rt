@@ -63,6 +63,15 @@ impl<A: Allocator> Tree<A> {
         }
     }
 
+    /// The tree of a value that is known to fit, of which nothing is looked at. Takes no memory.
+    pub fn of_fit(value: Value<A>) -> Tree<A>
+        requires fits { Fits (tree_of value) }
+        requires in_range { InRange (tree_of value) }
+        ensures { result ≡ tree_of value }
+    {
+        Tree { value }
+    }
+
     /// The value. Takes no memory.
     pub fn value(&self) -> &Value<A>
         ensures value { tree_of result.now ≡ self.now }

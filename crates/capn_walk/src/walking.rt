@@ -82,11 +82,8 @@ pub fn walk<S: Space, A: Allocator + Copy>(
         limits.budget(),
         limits.tariff().base(),
     )?;
-    let Ok(tree) = Tree::new(found.value) else {
-        unreachable!()
-    };
     Ok(Walked {
-        tree,
+        tree: Tree::of_fit(found.value),
         paid: found.paid,
         visits: found.visits,
     })

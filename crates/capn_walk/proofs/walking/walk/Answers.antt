@@ -2,6 +2,8 @@ use Rattle.std.proofs.Common.{inr, ◌∙◌, ap, arith}
 use Rattle.std.proofs.lemmas.Result.{err_from_is_err_and}
 use Rattle.capn_value.specs.View.{tree_of}
 use Rattle.capn_value.specs.Sizes.{base}
+use Rattle.capn_walk.specs.Accepted.{root}
+use Rattle.capn_walk.proofs.InRangeAt.{in_range-at}
 use Rattle.capn_walk.proofs.Stepped.{entered-root}
 use Rattle.capn_walk.proofs.RootWalks.{answered, refused-below, only-memory, one-value}
 use Rattle.capn_walk.proofs.walking.walk.Goals as goal
@@ -29,8 +31,8 @@ returns-in_err-found-clause-refused g c =
     let p = err_from_is_err_and c.from_residual-in_err-found.result c.from_residual-in_err-found.ensures.1 in
     rw (p.1, p.2) e
 
-pub unreachable-requires : goal.unreachable-requires
-unreachable-requires g c =
+pub of_fit-requires-clause-fits : goal.of_fit-requires-clause-fits
+of_fit-requires-clause-fits g c =
     let m = g.S.Space.message c.args.space.now in
     let t = c.in_ok-target.ensures in
     let pays = rw (c.budget.ensures.value, c.depth.ensures.value, c.base.ensures.value, c.tariff.ensures) at c.in_ok-found.ensures.pays in
@@ -38,11 +40,11 @@ unreachable-requires g c =
     (tree_of c.in_ok-found.found.value) c.in_ok-found.found.paid c.in_ok-found.found.visits pays c.in_ok-found.ensures.value in
     let budget = c.budget.ensures in
     let depth = c.depth.ensures in
-    let fits = a.fits (omega arith) (omega arith) in
-    let ok = c.new.ensures.fits.1 fits in
-    let is = c.in_default.is in
-    let no = rw is at ok in
-    cc
+    a.fits (omega arith) (omega arith)
+
+pub of_fit-requires-clause-in_range : goal.of_fit-requires-clause-in_range
+of_fit-requires-clause-in_range g c =
+    in_range-at (g.S.Space.message c.args.space.now) c.segments-bounds.ensures.bounds.each (tree_of c.in_ok-found.found.value) root c.in_ok-found.ensures.value
 
 pub returns-clause-found : goal.returns-clause-found
 returns-clause-found g c =
@@ -51,7 +53,7 @@ returns-clause-found g c =
     let pays = rw (c.budget.ensures.value, c.depth.ensures.value, c.base.ensures.value, c.tariff.ensures) at c.in_ok-found.ensures.pays in
     let a = answered m c.args.limits t.place c.in_ok-target.target t.target t.kind
     (tree_of c.in_ok-found.found.value) c.in_ok-found.found.paid c.in_ok-found.found.visits pays c.in_ok-found.ensures.value in
-    rw c.in-Ok.ensures.ok a.value
+    rw c.of_fit.ensures a.value
 
 pub returns-clause-pays : goal.returns-clause-pays
 returns-clause-pays g c =
@@ -78,7 +80,7 @@ returns-clause-thrifty g c =
     let pays = rw (c.budget.ensures.value, c.depth.ensures.value, c.base.ensures.value, c.tariff.ensures) at c.in_ok-found.ensures.pays in
     let a = answered m c.args.limits t.place c.in_ok-target.target t.target t.kind
     (tree_of c.in_ok-found.found.value) c.in_ok-found.found.paid c.in_ok-found.found.visits pays c.in_ok-found.ensures.value in
-    rw c.in-Ok.ensures.ok a.thrifty
+    rw c.of_fit.ensures a.thrifty
 
 pub returns-clause-low : goal.returns-clause-low
 returns-clause-low g c =
@@ -87,12 +89,12 @@ returns-clause-low g c =
     let pays = rw (c.budget.ensures.value, c.depth.ensures.value, c.base.ensures.value, c.tariff.ensures) at c.in_ok-found.ensures.pays in
     let a = answered m c.args.limits t.place c.in_ok-target.target t.target t.kind
     (tree_of c.in_ok-found.found.value) c.in_ok-found.found.paid c.in_ok-found.found.visits pays c.in_ok-found.ensures.value in
-    rw c.in-Ok.ensures.ok a.low
+    rw c.of_fit.ensures a.low
 
 pub returns-clause-only : goal.returns-clause-only
 returns-clause-only g c v is =
     let here = c.in_ok-found.ensures.value in
-    c.in-Ok.ensures.ok ∙ one-value (g.S.Space.message c.args.space.now) c.args.limits v (tree_of c.in_ok-found.found.value) here is
+    c.of_fit.ensures ∙ one-value (g.S.Space.message c.args.space.now) c.args.limits v (tree_of c.in_ok-found.found.value) here is
 
 pub returns-in_err-target-clause-wanted : goal.returns-in_err-target-clause-wanted
 returns-in_err-target-clause-wanted g c =
