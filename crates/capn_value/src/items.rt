@@ -1,6 +1,6 @@
 //! The field type of a value's lists.
 
-ghost use Rattle.std.specs.Prelude.{◌≡◌, [], ◌∷◌, ◌++◌, ◌↔◌, IsTrue, length, IfOk, OnOk, OnErr};
+ghost use Rattle.std.specs.Prelude.{◌≡◌, ◌<◌, [], ◌∷◌, ◌++◌, ◌↔◌, IsTrue, length, IfOk, OnOk, OnErr};
 
 use std::alloc::{AllocError, Allocator, Global};
 use std::marker::Model;
@@ -34,9 +34,11 @@ impl<T, A: Allocator> Items<T, A> {
         }
     }
 
-    /// No elements. Room for so many is asked for at once.
+    /// No elements. Room for so many is asked for at once, so that as many are put in without taking more; for none,
+    /// nothing is.
     pub fn with_capacity(alloc: A, capacity: usize) -> Result<Items<T, A>, AllocError>
-        ensures { IfOk result (λ it. it ≡ []) }
+        ensures ok { IfOk result (λ it. it ≡ []) }
+        ensures wanted { OnErr result (0 < capacity) }
     {
         let items = Vec::with_capacity(alloc, capacity)?;
         Ok(Items { items })

@@ -217,7 +217,12 @@ fn walk_slots<S: Space, A: Allocator + Copy>(
     ensures refused { IfErr result (λ s. Refuses left
         (visits_of (S.message space.now) base depth (places segment start count)) count s) }
 {
-    let mut items = Items::new(alloc);
+    let Ok(mut items) = Items::with_capacity(alloc, count as usize) else {
+        return Err(out_of_memory(Place {
+            segment,
+            word: start,
+        }));
+    };
     let mut paid = 0;
     let mut visits = 0;
     for i in 0..count {
@@ -274,7 +279,9 @@ fn walk_rows<S: Space, A: Allocator + Copy>(
         (count * slots) s) }
 {
     let segment = start.segment;
-    let mut rows = Items::new(alloc);
+    let Ok(mut rows) = Items::with_capacity(alloc, count as usize) else {
+        return Err(out_of_memory(start));
+    };
     let mut paid = 0;
     let mut visits = 0;
     let mut next = start.word;

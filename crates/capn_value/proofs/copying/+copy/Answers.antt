@@ -44,7 +44,7 @@ pub copy_of-returns-in-Cap : goal.copy_of-returns-in-Cap
 copy_of-returns-in-Cap g t c = cap_kept _ _ c.in-Cap.is
 
 pub copy_of_each-loop-v-init : goal.copy_of_each-loop-v-init
-copy_of_each-loop-v-init g t c = ap (λ o. joined (trees_of o) (trees_of c.args.items.now)) c.in_ok-out.ensures
+copy_of_each-loop-v-init g t c = ap (λ o. joined (trees_of o) (trees_of c.args.items.now)) c.in_ok-out.ensures.ok
 
 pub copy_of_each-loop-v-preserved : goal.copy_of_each-loop-v-preserved
 copy_of_each-loop-v-preserved g t c =
@@ -55,7 +55,7 @@ pub copy_of_each-returns : goal.copy_of_each-returns
 copy_of_each-returns g t c = all_copied c.loop-v.out c.args.items.now _ c.loop-v.invariant (omega arith)
 
 pub copy_of_rows-loop-row-init : goal.copy_of_rows-loop-row-init
-copy_of_rows-loop-row-init g t c = ap (λ o. joined_rows (rows_of o) (rows_of c.args.rows.now)) c.in_ok-out.ensures
+copy_of_rows-loop-row-init g t c = ap (λ o. joined_rows (rows_of o) (rows_of c.args.rows.now)) c.in_ok-out.ensures.ok
 
 pub copy_of_rows-loop-row-preserved : goal.copy_of_rows-loop-row-preserved
 copy_of_rows-loop-row-preserved g t c =

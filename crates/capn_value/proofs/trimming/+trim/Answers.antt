@@ -72,7 +72,7 @@ trimmed-returns-in_ok-trimmed_rows-in-Rows g t c =
 
 pub trimmed_rows-loop-row-init : goal.trimmed_rows-loop-row-init
 trimmed_rows-loop-row-init g t c =
-    ap (λ o. joined_rows (rows_of o) (trimmed_rows c.args.words c.args.slots (rows_of c.args.rows.now))) c.in_ok-out.ensures
+    ap (λ o. joined_rows (rows_of o) (trimmed_rows c.args.words c.args.slots (rows_of c.args.rows.now))) c.in_ok-out.ensures.ok
 
 pub trimmed_rows-loop-row-preserved : goal.trimmed_rows-loop-row-preserved
 trimmed_rows-loop-row-preserved g t c =

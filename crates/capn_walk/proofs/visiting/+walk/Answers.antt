@@ -185,10 +185,10 @@ walk_slots-loop-i-preserved g t c =
     let e = c.loop-i.invariant.number in
     record {
       pays = gives-next (visits (g.S.Space.message c.args.space.now) c.args.base c.args.depth) c.args.segment c.args.start c.args.left c.loop-i.i c.loop-i.paid c.loop-i.visits
-          c.in-Ok.found.paid c.in-Ok.found.visits c.loop-i.invariant.pays c.in-Ok.ensures.pays;
-      value = rw c.in-Ok-push.ensures.ok (at-next (g.S.Space.message c.args.space.now) c.args.segment c.args.start c.loop-i.items c.in-Ok.found.value
-          c.loop-i.invariant.value (rw e c.in-Ok.ensures.value));
-      number = rw c.in-Ok-push.ensures.ok (count-next (g.S.Space.message c.args.space.now) c.loop-i.items c.in-Ok.found.value ∙ ap (λ (n : ℕ). n + 1) e);
+          c.in-Ok-walk_slot.found.paid c.in-Ok-walk_slot.found.visits c.loop-i.invariant.pays c.in-Ok-walk_slot.ensures.pays;
+      value = rw c.in-Ok-push.ensures.ok (at-next (g.S.Space.message c.args.space.now) c.args.segment c.args.start c.loop-i.items c.in-Ok-walk_slot.found.value
+          c.loop-i.invariant.value (rw e c.in-Ok-walk_slot.ensures.value));
+      number = rw c.in-Ok-push.ensures.ok (count-next (g.S.Space.message c.args.space.now) c.loop-i.items c.in-Ok-walk_slot.found.value ∙ ap (λ (n : ℕ). n + 1) e);
     }
 
 -- ---- rows
@@ -258,7 +258,7 @@ walk_rows-loop-i-preserved g t c =
       pays = rows-give (visits (g.S.Space.message c.args.space.now) c.args.base c.args.depth) c.args.start.segment c.args.start.word c.args.words c.args.slots c.args.left c.loop-i.i c.loop-i.paid c.loop-i.visits
           x.below.paid x.below.visits c.loop-i.invariant.pays (rw e at x.ensures.pays);
       value = rw c.in-Ok-push.ensures.ok (rows_at-step (g.S.Space.message c.args.space.now) c.args.words c.args.slots c.args.start.segment c.args.start.word c.loop-i.next c.loop-i.i c.loop-i.rows _
-          c.loop-i.invariant.value n e c.in-Ok.ensures.number c.in-Ok.ensures.words x.ensures.number x.ensures.value);
+          c.loop-i.invariant.value n e c.in-Ok-words_at.ensures.number c.in-Ok-words_at.ensures.words x.ensures.number x.ensures.value);
       number = rw c.in-Ok-push.ensures.ok (count_rows-next (g.S.Space.message c.args.space.now) c.loop-i.rows _ ∙ ap (λ (k : ℕ). k + 1) n);
       next = let k : (c.loop-i.i + 1) * (c.args.words + c.args.slots) ≡ c.loop-i.i * (c.args.words + c.args.slots) + (c.args.words + c.args.slots) = omega arith in omega arith;
     }
