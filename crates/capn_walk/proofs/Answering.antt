@@ -1,20 +1,16 @@
 -- The laws of walks.
-use Rattle.std.proofs.Common.{◌≡◌, ◌⊎◌, inl, inr, ℕ, ◌^◌, ◌+◌, ◌<◌, ◌≤◌, List, length, Result, Ok, Err, refl, ap, sym, ◌∙◌, arith}
-use Rattle.capn_words.specs.Message.{segment_at}
+use Rattle.std.proofs.Common.{◌≡◌, inl, inr, ℕ, List, Result, Ok, Err, ap, sym, ◌∙◌, arith}
 use Rattle.capn_words.specs.declared.space.Place.{Place}
 use Rattle.capn_value.specs.Sizes.{base}
-use Rattle.capn_value.specs.Tree.{Tree}
 use Rattle.capn_walk.specs.declared.target.Fault.{Fault}
 use Rattle.capn_walk.specs.declared.target.Fault.TheVariants as faults
 use Rattle.capn_walk.specs.declared.target.Target.{Target}
 use Rattle.capn_walk.specs.declared.target.Target.TheVariants as targets
-use Rattle.capn_walk.specs.declared.target.Shape.TheVariants as shapes
 use Rattle.capn_walk.specs.Target.{target}
 use Rattle.capn_walk.specs.Visits.{Visit, visits}
-use Rattle.capn_walk.specs.Verdict.{Verdict, accepted, refused, judge}
-use Rattle.capn_walk.specs.Accepted.{AllPay, IsStop, root, root_visits, visits_at_root}
-use Rattle.capn_walk.specs.At.{IsAt}
-use Rattle.capn_walk.specs.Denotes.{IsAccepted, IsValueOf, IsRefused, paid, visits_within}
+use Rattle.capn_walk.specs.Verdict.{Verdict, accepted, refused}
+use Rattle.capn_walk.specs.Accepted.{AllPay, root, root_visits, visits_at_root}
+use Rattle.capn_walk.specs.Denotes.{visits_within}
 use Rattle.capn_walk.specs.Laws.{AcceptedAreReadable, ValuesFit, ValuesAreCheap, Apart, StopsAreOne}
 use Rattle.capn_walk.proofs.Exists.{exists-at}
 use Rattle.capn_walk.specs.Laws.Fitting.{fits-root, root-costs}

@@ -1,8 +1,8 @@
 -- Where no visit is a fault, a value stands at the place.
-use Rattle.std.proofs.Common.{◌≡◌, ℕ, zero, suc, ◌+◌, ◌-◌, ◌*◌, ◌/◌, ◌%◌, ◌^◌, ◌<◌, ◌≤◌, ◌==◌, Bool, true, false, List, [], ◌∷◌, ◌++◌, length, take, drop, slice_index, map, Result, Ok, Err, refl, ap, sym, subst, ◌∙◌, arith, length-drop}
+use Rattle.std.proofs.Common.{◌≡◌, ℕ, zero, suc, ◌+◌, ◌-◌, ◌*◌, ◌<◌, ◌≤◌, ◌==◌, Bool, List, [], ◌∷◌, length, take, slice_index, map, Result, Ok, Err, refl, ap, subst, ◌∙◌, arith, length-drop}
 use Rattle.std.specs.Int.{from_bool}
 use Rattle.std.specs.List.{flat_map}
-use Rattle.std.proofs.lemmas.List.{length-map, length-take-le}
+use Rattle.std.proofs.lemmas.List.{length-take-le}
 use Rattle.std.proofs.lemmas.Grind.{flat_map-append}
 use Rattle.capn_words.specs.Message.{segment_at}
 use Rattle.capn_words.specs.declared.space.Place.{Place}
@@ -15,13 +15,12 @@ use Rattle.capn_walk.specs.declared.target.Shape.{Shape}
 use Rattle.capn_walk.specs.declared.target.Shape.TheVariants as shapes
 use Rattle.capn_walk.specs.declared.target.Fault.{Fault}
 use Rattle.capn_walk.specs.Target.{target}
-use Rattle.capn_walk.specs.Visits.{Visit, pays, fails, places, row_places, slots, visits}
+use Rattle.capn_walk.specs.Visits.{places, row_places, slots, visits}
 use Rattle.capn_walk.specs.Accepted.{AllPay}
-use Rattle.capn_walk.specs.At.{IsAt, AreAt, RowsAt, AreWords, AreElements, element, words_from, Names}
-use Rattle.capn_walk.specs.Walked.{extent, RowsFit}
+use Rattle.capn_walk.specs.At.{IsAt, AreAt, RowsAt, AreWords, AreElements, element, words_from}
 use Rattle.capn_walk.specs.Laws.Costs.{all-front, all-back}
 use Rattle.capn_walk.specs.Laws.Inside.{inside}
-use Rattle.capn_walk.specs.Laws.Walks.{slot, visits-null, visits-cap, visits-fault, visits-deep, visits-object}
+use Rattle.capn_walk.specs.Laws.Walks.{slot, visits-fault, visits-deep, visits-object}
 
 -- ---- a list of what each index has
 

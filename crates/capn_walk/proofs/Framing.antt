@@ -1,11 +1,8 @@
 -- The slots of a frame, one by one.
-use Rattle.std.proofs.Common.{Bool, true, false, IsTrue, ◌↔◌, ◌≡◌, ℕ, zero, suc, ◌+◌, ◌-◌, ◌*◌, ◌<◌, ◌≤◌, List, [], ◌∷◌, ◌++◌, length, refl, ap, sym, ◌∙◌, arith}
-use Rattle.capn_words.specs.declared.space.Place.{Place}
-use Rattle.capn_walk.specs.Visits.{places, row_places, slots}
-use Rattle.capn_walk.specs.declared.target.Shape.{Shape}
-use Rattle.capn_walk.specs.declared.target.Shape.TheVariants as shapes
+use Rattle.std.proofs.Common.{Bool, true, false, IsTrue, ◌↔◌, ◌≡◌, ℕ, zero, suc, ◌+◌, ◌-◌, ◌*◌, ◌<◌, [], ◌∷◌, ◌++◌, refl, sym, arith}
+use Rattle.capn_walk.specs.Visits.{places, row_places}
 use Rattle.capn_walk.specs.declared.frame.Frame.{Frame}
-use Rattle.capn_walk.specs.Frames.{places_of, owed, end_of, HasRows}
+use Rattle.capn_walk.specs.Frames.{places_of, owed, HasRows}
 
 -- one row of n
 pub one-row : (n b : ℕ) → 0 < n → n * b ≡ b + (n - 1) * b

@@ -1,4 +1,5 @@
 pub mod RootWalks
+pub mod ThreeWays
 pub mod WorkedWalks
 pub mod Framing
 pub mod Plain

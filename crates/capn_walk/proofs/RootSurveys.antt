@@ -1,5 +1,5 @@
 -- A survey of a whole message.
-use Rattle.std.proofs.Common.{◌≡◌, ◌⊎◌, true, inl, inr, ℕ, ◌+◌, ◌-◌, ◌<◌, ◌≤◌, List, [], ◌∷◌, ◌++◌, length, Option, None, Ok, refl, ap, ap₂, sym, ◌∙◌, arith}
+use Rattle.std.proofs.Common.{◌≡◌, ◌⊎◌, true, inl, inr, ℕ, ◌+◌, ◌-◌, ◌<◌, ◌≤◌, List, [], ◌∷◌, length, Option, None, Ok, ap, ap₂, sym, ◌∙◌, arith}
 use Rattle.std.specs.Option.{option_or}
 use Rattle.capn_words.specs.Message.{segment_at}
 use Rattle.capn_words.specs.declared.space.Place.{Place}
@@ -15,8 +15,7 @@ use Rattle.capn_walk.specs.declared.walked.Stopped.{Stopped}
 use Rattle.capn_walk.specs.Target.{target}
 use Rattle.capn_walk.specs.Visits.{Visit, pays, visits, visits_of}
 use Rattle.capn_walk.specs.Verdict.{judge, after, accepted, refused}
-use Rattle.capn_walk.specs.Accepted.{AllPay, root, may_be_root}
-use Rattle.capn_walk.specs.At.{IsAt}
+use Rattle.capn_walk.specs.Accepted.{root, may_be_root}
 use Rattle.capn_walk.specs.Denotes.{IsValueOf, visits_within}
 use Rattle.capn_walk.specs.Limits.{Bounds}
 use Rattle.capn_walk.specs.Walked.{Gives, Refuses}

@@ -1,5 +1,5 @@
 -- A view of a slot shows the value that stands there.
-use Rattle.std.proofs.Common.{◌≡◌, ℕ, zero, suc, ◌+◌, ◌*◌, ◌<◌, ◌≤◌, List, [], ◌∷◌, length, take, drop, map, slice_index, Result, Ok, refl, ap, sym, subst, ◌∙◌, arith}
+use Rattle.std.proofs.Common.{◌≡◌, ℕ, zero, suc, ◌+◌, ◌*◌, ◌<◌, List, length, slice_index, Ok, refl, ap, sym, ◌∙◌, arith}
 use Rattle.std.specs.Int.{from_bool}
 use Rattle.std.proofs.lemmas.List.{get_or-take, length-map}
 use Rattle.capn_words.specs.declared.space.Place.{Place}
@@ -7,14 +7,10 @@ use Rattle.capn_words.specs.declared.pointer.Width.TheVariants.{W0, W1, W8, W16,
 use Rattle.capn_value.specs.Tree.{Tree, nil, node, voids, bits, bytes, pairs, quads, octs, links, rows, cap, Trees, no_trees, tree, Bodies, no_bodies, body, count, count_rows, tree_at}
 use Rattle.capn_walk.specs.declared.target.Target.{Target}
 use Rattle.capn_walk.specs.declared.target.Target.TheVariants as targets
-use Rattle.capn_walk.specs.declared.target.Shape.{Shape}
 use Rattle.capn_walk.specs.declared.target.Shape.TheVariants as shapes
-use Rattle.capn_walk.specs.declared.target.Fault.{Fault}
-use Rattle.capn_walk.specs.declared.kind.Kind.TheVariants as kinds
 use Rattle.capn_walk.specs.Target.{target}
 use Rattle.capn_walk.specs.At.{IsAt, AreAt, RowsAt, AreWords, words_from}
-use Rattle.capn_walk.specs.Viewed.{kind_of, len_of, content_of, number_of, step_place, row_of}
-use Rattle.capn_walk.specs.Shown.{Shows, ShowsStruct, ShowsNumbers, ShowsLinks, ShowsRows, words_of_row, slots_of_row}
+use Rattle.capn_walk.specs.Shown.{Shows, ShowsStruct, words_of_row, slots_of_row}
 use Rattle.capn_walk.specs.Laws.Walks.{slot}
 
 module _ (m : List (List ℕ)) where

@@ -1,5 +1,5 @@
 -- A step of a view is one visit of a walk.
-use Rattle.std.proofs.Common.{◌≡◌, ℕ, zero, suc, ◌+◌, ◌-◌, ◌*◌, ◌<◌, ◌≤◌, ◌==◌, nat_lt, List, [], ◌∷◌, ◌++◌, length, Result, Ok, Err, Option, None, refl, ap, sym, subst, ◌∙◌, arith, inr, true}
+use Rattle.std.proofs.Common.{◌≡◌, ℕ, ◌+◌, ◌-◌, ◌*◌, ◌<◌, ◌≤◌, ◌==◌, nat_lt, List, [], ◌∷◌, ◌++◌, length, Result, Ok, Err, None, refl, ap, sym, subst, ◌∙◌, arith, inr, true}
 use Rattle.std.proofs.lemmas.Bool.Decides.{nat_tests}
 use Rattle.capn_words.specs.declared.space.Place.{Place}
 use Rattle.capn_words.specs.Laws.FieldBits.{pick}
@@ -19,8 +19,8 @@ use Rattle.capn_walk.specs.Walked.{IsPlain, AreNumbers}
 use Rattle.capn_walk.specs.Surveyed.{cap_of}
 use Rattle.std.specs.Bool.{⊤}
 use Rattle.std.specs.Result.{IfOk, IfErr, MatchResult}
-use Rattle.capn_walk.specs.Visits.{Visit, pays, fails, price, slots, visits, visits_of}
-use Rattle.capn_walk.specs.Verdict.{Verdict, judge, refused}
+use Rattle.capn_walk.specs.Visits.{Visit, pays, price, visits, visits_of}
+use Rattle.capn_walk.specs.Verdict.{judge, refused}
 use Rattle.capn_walk.specs.Viewed.{stepped, rooted, stepped_to_root, IsEntered, toll, slots_below}
 use Rattle.capn_walk.specs.Walked.{Refuses}
 use Rattle.capn_walk.specs.declared.walked.Stopped.{Stopped}

@@ -1,16 +1,11 @@
 -- What a survey knows while it is under way.
-use Rattle.std.proofs.Common.{ℤ, ◌*◌, ◌≡◌, ◌⊎◌, inl, inr, ℕ, zero, suc, ◌+◌, ◌-◌, ◌<◌, ◌≤◌, List, [], ◌∷◌, ◌++◌, length, Option, Some, None, Ok, Err, Result, refl, ap, sym, ◌∙◌, arith}
+use Rattle.std.proofs.Common.{ℤ, ◌*◌, ◌≡◌, inr, ℕ, ◌+◌, ◌-◌, ◌<◌, ◌≤◌, List, [], ◌∷◌, ◌++◌, length, Option, Some, None, Ok, refl, ap, sym, ◌∙◌, arith}
 use Rattle.std.proofs.lemmas.List.{append-nil}
 use Rattle.std.proofs.Common.{append_assoc, length-append}
-use Rattle.std.specs.List.{flat_map}
 use Rattle.std.specs.Option.{option_or}
-use Rattle.std.proofs.lemmas.Grind.{flat_map-append}
 use Rattle.capn_words.specs.declared.space.Place.{Place}
-use Rattle.capn_walk.specs.declared.target.Target.{Target}
 use Rattle.capn_walk.specs.declared.target.Target.TheVariants as targets
-use Rattle.capn_walk.specs.declared.target.Shape.{Shape}
 use Rattle.capn_walk.specs.declared.target.Fault.{Fault}
-use Rattle.capn_walk.specs.declared.target.Fault.TheVariants as faults
 use Rattle.capn_walk.specs.declared.frame.Frame.{Frame}
 use Rattle.capn_walk.specs.declared.frame.Waiting.{Waiting}
 use Rattle.capn_words.specs.Message.{word_at}
@@ -20,15 +15,14 @@ use Rattle.capn_words.specs.declared.pointer.Pointer.TheVariants.{Nil, Node, Man
 use Rattle.capn_walk.specs.Laws.Walks.{visits-null}
 use Rattle.capn_walk.specs.Target.{named, near, pointer_in, target}
 use Rattle.capn_words.specs.declared.pointer.Width.{Width}
-use Rattle.capn_walk.specs.Visits.{Visit, pays, fails, price, slots, visits, visits_of}
+use Rattle.capn_walk.specs.Visits.{Visit, pays, visits, visits_of}
 use Rattle.capn_walk.specs.Verdict.{accepted, refused, after, judge}
 use Rattle.capn_walk.specs.Frames.{places_of, owed, owed_by, Lies, AllLie, AreShallow, visits_left}
 use Rattle.capn_walk.specs.Surveyed.{cap_of, first_cap_of}
-use Rattle.capn_walk.specs.declared.walked.Stopped.{Stopped}
 use Rattle.capn_walk.specs.Walked.{Gives, Refuses}
 use Rattle.capn_walk.specs.Frames.{HasRows}
 use Rattle.capn_walk.proofs.Framing.{nothing-left}
-use Rattle.capn_walk.specs.Laws.Judge.{judge-stops, judge-pays, judge-over, after-after, after-none}
+use Rattle.capn_walk.specs.Laws.Judge.{judge-stops, judge-pays, after-after, after-none}
 
 option_or-assoc : (a b c : Option ℕ) → option_or a (option_or b c) ≡ option_or (option_or a b) c
 option_or-assoc None b c = refl

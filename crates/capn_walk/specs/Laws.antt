@@ -11,7 +11,7 @@ pub mod Segments
 pub mod Stops
 pub mod Unique
 pub mod Walks
-use Rattle.std.specs.Prelude.{◌≡◌, ◌⊎◌, ℕ, ◌^◌, ◌≤◌, List, length, Ok}
+use Rattle.std.specs.Prelude.{◌≡◌, ◌↔◌, ◌⊎◌, ℕ, ◌≤◌, List, length, Ok}
 use Rattle.capn_words.specs.Message.{IsMessage, IsPlace, segment_at}
 use Rattle.capn_words.specs.declared.space.Place.{Place}
 use Rattle.capn_value.specs.Tree.{Tree, Trees, Bodies, count, count_rows}
@@ -30,6 +30,7 @@ use Rattle.capn_walk.specs.Limits.{Bounds}
 use Rattle.capn_walk.specs.Denotes.{IsAccepted, IsValueOf, IsRefused, paid}
 use Rattle.capn_walk.specs.Walked.{IsInside}
 use Rattle.capn_walk.specs.Viewed.{IsInMessage}
+use Rattle.capn_walk.specs.Ways.{OneOfThree}
 
 -- ---- values
 
@@ -88,3 +89,8 @@ Decided = (budget : ℕ) (vs : List Visit) → IsWithin budget vs ⊎ ((fault : 
 abbrev pub StopsAreOne : Type 0
 StopsAreOne = (budget : ℕ) (vs : List Visit) (e f : Fault) (at to : Place) (p q k j : ℕ)
     → IsStop budget vs e at p k → IsStop budget vs f to q j → (e ≡ f) × (at ≡ to) × (p ≡ q) × (k ≡ j)
+
+-- the pointer at a place names content exactly by one of three ways: near, by a pad of one word, by a pad of two
+abbrev pub ContentByThreeWays : Type 0
+ContentByThreeWays = (message : List (List ℕ)) (at : Place) (segment start pads : ℕ) (shape : Shape)
+    → (target message at ≡ Ok (targets.Content segment start shape pads)) ↔ OneOfThree message at segment start shape pads

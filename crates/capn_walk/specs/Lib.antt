@@ -11,4 +11,5 @@ pub mod Surveyed
 pub mod Account
 pub mod Viewed
 pub mod Shown
+pub mod Ways
 pub mod Laws

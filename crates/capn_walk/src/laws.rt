@@ -25,10 +25,12 @@ pub fn values()
 {}
 
 /// What the pointer at a place of a message names lies inside its segment, which exists; a value whose content stands
-/// there is the value at that place.
+/// there is the value at that place. It names content exactly by one of three ways: near, by a landing pad of one word,
+/// by one of two.
 pub fn targets()
     ensures inside { laws.TargetsLieInside }
     ensures content { laws.ContentIsValue }
+    ensures ways { laws.ContentByThreeWays }
 {}
 
 /// No message is both accepted and refused. Visits are within a budget, or have a first one that isn't, which is one.

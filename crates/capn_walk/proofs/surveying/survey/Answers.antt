@@ -1,4 +1,4 @@
-use Rattle.std.proofs.Common.{inr, ◌∙◌, arith}
+use Rattle.std.proofs.Common.{inr}
 use Rattle.std.proofs.lemmas.Result.{err_from_is_err_and}
 use Rattle.capn_walk.proofs.RootWalks.{refused-below, only-memory}
 use Rattle.capn_walk.proofs.RootSurveys.{surveyed, one-cap}

@@ -1,8 +1,8 @@
-use Rattle.std.proofs.Common.{◌≡◌, arith}
+use Rattle.std.proofs.Common.{◌≡◌}
 use Rattle.capn_walk.specs.Accepted.{root}
 use Rattle.capn_walk.specs.Frames.{owed}
 use Rattle.capn_walk.proofs.Framing.{done}
-use Rattle.capn_walk.proofs.RootSurveys.{refuses-here, gives-below, caps-below, refuses-below, gives-alone, caps-alone}
+use Rattle.capn_walk.proofs.RootSurveys.{gives-alone, caps-alone}
 use Rattle.capn_walk.proofs.surveying.survey_root.Goals as goal
 
 pub returns-then-is_done-clause-pays : goal.returns-then-is_done-clause-pays

@@ -1,4 +1,4 @@
-use Rattle.std.proofs.Common.{◌≡◌, ℕ, ◌+◌, ◌-◌, ◌*◌, ◌≤◌, length}
+use Rattle.std.proofs.Common.{◌≡◌, ◌+◌, ◌-◌, ◌*◌, ◌≤◌, length}
 use Rattle.capn_words.specs.Message.{segment_at}
 use Rattle.capn_walk.specs.Visits.{visits_of}
 use Rattle.capn_walk.specs.Frames.{places_of, owed}

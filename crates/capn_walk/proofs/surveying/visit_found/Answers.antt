@@ -1,4 +1,4 @@
-use Rattle.std.proofs.Common.{◌≡◌, ◌∙◌, Ok, Err, ap, sym, arith}
+use Rattle.std.proofs.Common.{◌∙◌, ap, sym}
 use Rattle.capn_walk.specs.Verdict.{judge}
 use Rattle.capn_walk.specs.Viewed.{stepped}
 use Rattle.capn_walk.proofs.Plain.{never-memory}

@@ -1,9 +1,4 @@
-use Rattle.std.proofs.Common.{◌≡◌, ◌∙◌, ℕ, ◌∷◌, ◌-◌, List, Ok, Err, ap, sym}
-use Rattle.capn_words.specs.declared.space.Place.{Place}
-use Rattle.capn_walk.specs.Visits.{pays, visits_of}
-use Rattle.capn_walk.specs.Verdict.{judge}
-use Rattle.capn_walk.specs.Viewed.{stepped}
-use Rattle.capn_walk.proofs.Plain.{never-memory}
+use Rattle.std.proofs.Common.{◌∙◌, sym}
 use Rattle.capn_walk.proofs.Stepped.{numbers-paid, numbers-stop, numbers-fault}
 use Rattle.capn_walk.proofs.surveying.visit_numbers.Goals as goal
 

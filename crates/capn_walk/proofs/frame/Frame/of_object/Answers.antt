@@ -1,4 +1,4 @@
-use Rattle.std.proofs.Common.{◌≡◌, ◌+◌, sym, arith}
+use Rattle.std.proofs.Common.{◌+◌, sym}
 use Rattle.capn_walk.proofs.Framing.{no-slots}
 use Rattle.capn_walk.proofs.frame.Frame.of_object.Goals as goal
 

@@ -1,4 +1,3 @@
-use Rattle.std.proofs.Common.{◌≡◌, ◌+◌, arith}
 use Rattle.capn_walk.proofs.Framing.{taken}
 use Rattle.capn_walk.proofs.frame.Frame.take.Goals as goal
 

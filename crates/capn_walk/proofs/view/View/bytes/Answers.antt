@@ -1,5 +1,5 @@
-use Rattle.std.proofs.Common.{◌≡◌, ℕ, ◌+◌, ◌*◌, ◌≤◌, List, length, ap, sym, subst, ◌∙◌, arith}
-use Rattle.capn_words.specs.Message.{segment_at, bytes_at}
+use Rattle.std.proofs.Common.{◌≡◌, ℕ, List, length, ap, subst, ◌∙◌, arith}
+use Rattle.capn_words.specs.Message.{bytes_at}
 use Rattle.capn_words.specs.declared.pointer.Width.TheVariants.{W8}
 use Rattle.capn_words.specs.declared.space.Place.{Place}
 use Rattle.capn_walk.specs.declared.target.Target.{Target}

@@ -1,4 +1,4 @@
-use Rattle.std.proofs.Common.{◌<◌, length, List, ℕ, ap, sym, subst, arith}
+use Rattle.std.proofs.Common.{◌<◌, length, List, ℕ, ap, sym, subst}
 use Rattle.capn_words.specs.Message.{segment_at}
 use Rattle.capn_walk.specs.Viewed.{Seen}
 use Rattle.capn_walk.proofs.SeenInside.{found-inside}
