@@ -1,6 +1,7 @@
 -- The laws of canonical bytes.
 pub mod OneReading
 pub mod NotRefused
+pub mod OneRefusal
 use Rattle.std.specs.Prelude.{◌≡◌, ◌↔◌, ℕ, ◌*◌, ◌+◌, ◌≤◌, List, None, length}
 use Rattle.capn_value.specs.Tree.{Tree}
 use Rattle.capn_value.specs.Caps.{first_cap}
@@ -50,3 +51,8 @@ DenoteOne = (form : Form) (bs : List ℕ) (limits : Bounds) (v w : Tree) → Den
 abbrev pub DenotedAreNotRefused : Type 0
 DenotedAreNotRefused = (form : Form) (bs : List ℕ) (limits : Bounds) (v : Tree) (r : Refusal)
     → Denotes form bs limits v → first_cap v ≡ None → IsRefused form bs limits r → r ≡ refusals.Memory
+
+-- bytes are refused for one reason, but for want of memory
+abbrev pub RefusedForOneReason : Type 0
+RefusedForOneReason = (form : Form) (bs : List ℕ) (limits : Bounds) (r s : Refusal) → (r ≡ refusals.Memory → ⊥) → (s ≡ refusals.Memory → ⊥)
+    → IsRefused form bs limits r → IsRefused form bs limits s → r ≡ s

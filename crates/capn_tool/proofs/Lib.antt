@@ -2,7 +2,6 @@ pub mod ReadMore
 pub mod NumberLemmas
 pub mod WholeServed
 pub mod RunLaw
-pub mod OneRefusal
 pub mod OneText
 pub mod Sends
 pub mod Verdicts

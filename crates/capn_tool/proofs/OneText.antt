@@ -45,7 +45,7 @@ use Rattle.capn_tool.specs.declared.plan.Plan.{Plan}
 use Rattle.capn_tool.specs.declared.plan.Plan.TheVariants as plans
 use Rattle.capn_tool.specs.declared.fault.ToolFault.{ToolFault}
 use Rattle.capn_tool.specs.declared.fault.ToolFault.TheVariants as faults
-use Rattle.capn_tool.proofs.OneRefusal.{one_unpack_fault, one_bare_fault, bare_not_misread, one_stop, message_part, one_message_refusal, one_refusal}
+use Rattle.capn_canon.specs.Laws.OneRefusal.{one_unpack_fault, one_bare_fault, bare_not_misread, one_stop, message_part, one_message_refusal, one_refusal}
 
 -- ---- a message has one piece, or none for one reason
 

@@ -1,6 +1,7 @@
 use Rattle.capn_canon.proofs.Headline.{denoted_has_form}
 use Rattle.capn_canon.specs.Laws.NotRefused.{not_refused}
 use Rattle.capn_canon.specs.Laws.OneReading.{one_value}
+use Rattle.capn_canon.specs.Laws.OneRefusal.{one_refusal}
 use Rattle.capn_canon.proofs.laws.denotation.Goals as goal
 
 pub returns-clause-form : goal.returns-clause-form
@@ -11,3 +12,6 @@ returns-clause-one c = one_value
 
 pub returns-clause-answered : goal.returns-clause-answered
 returns-clause-answered c = not_refused
+
+pub returns-clause-refused : goal.returns-clause-refused
+returns-clause-refused c = one_refusal
