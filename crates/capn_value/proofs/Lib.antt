@@ -2,6 +2,7 @@ pub mod Anywhere
 pub mod Apart
 pub mod Cases
 pub mod Copies
+pub mod Costs
 pub mod Decided
 pub mod FirstCaps
 pub mod FirstMisfit
@@ -10,7 +11,10 @@ pub mod Heights
 pub mod Inverse
 pub mod Joined
 pub mod Kept
+pub mod Depths
 pub mod Digits
 pub mod OnceTrimmed
+pub mod Pairwise
+pub mod Shown
 mod WorkedTrees
 mod Nulls
