@@ -12,3 +12,5 @@ pub mod HeardNext
 pub mod HeardRun
 pub mod PackedMore
 pub mod PackedRun
+pub mod OneMeaning
+pub mod WorkedLines

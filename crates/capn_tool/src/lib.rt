@@ -17,6 +17,7 @@ mod fault;
 mod hearing;
 mod help;
 mod input;
+pub mod laws;
 mod line;
 mod making;
 mod misuse;

@@ -1,6 +1,6 @@
 //! Words of the command line that order nothing.
 
-ghost use Rattle.std.specs.Prelude.{◌≡◌};
+ghost use Rattle.std.specs.Prelude.{◌≡◌, ◌↔◌, IsTrue};
 ghost use Rattle.clap.specs.Words.{kind_of};
 ghost use Rattle.capn_tool.specs.Status.{usage_status_of};
 
@@ -15,7 +15,7 @@ pub struct Usage {
 }
 
 impl Usage {
-    ghost use Rattle.capn_tool.specs.Misuse.{error_of};
+    ghost use Rattle.capn_tool.specs.Misuse.{WantsMemory, error_of};
 
     /// The exit status: 3 for want of memory, 0 for a wish for help, 2 for any other.
     pub fn status(&self) -> u8
@@ -28,6 +28,13 @@ impl Usage {
         }
     }
 
+    /// Whether nothing is wrong with the words, and memory was refused.
+    pub fn is_memory(&self) -> bool
+        ensures { IsTrue result ↔ WantsMemory self.now }
+    {
+        matches!(self.error.kind(), ErrorKind::OutOfMemory)
+    }
+
     /// Prints the text for the user: help to standard output, any other to standard error.
     pub fn print<R: Print + Eprint>(&self, rt: &R) -> io::Result<()> {
         self.error.print(rt)
@@ -35,12 +42,21 @@ impl Usage {
 }
 
 impl From<clap::Error> for Usage {
+    ghost use Rattle.std.specs.Prelude.{◌≡◌};
+    ghost use Rattle.capn_tool.specs.Misuse.{error_of};
+
+    ghost from_gives = { λ error usage. error_of usage ≡ error };
+
     fn from(error: clap::Error) -> Usage {
         Usage { error }
     }
 }
 
 impl From<AllocError> for Usage {
+    ghost use Rattle.capn_tool.specs.Misuse.{WantsMemory};
+
+    ghost from_gives = { λ _ usage. WantsMemory usage };
+
     fn from(error: AllocError) -> Usage {
         Usage {
             error: error.into(),

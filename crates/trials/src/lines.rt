@@ -11,7 +11,9 @@ use std::process::Abort;
 fn expect(rt: &impl Abort, alloc: Global, words: &[&str], want: Result<Command, u8>) {
     match (command_of(alloc, words), want) {
         (Ok(command), Ok(want)) => assert!(rt; command == want, "{words:?}"),
-        (Err(usage), Err(want)) => assert!(rt; usage.status() == want, "{words:?}"),
+        (Err(usage), Err(want)) => {
+            assert!(rt; usage.status() == want && !usage.is_memory(), "{words:?}")
+        }
         _ => assert!(rt; false, "{words:?}"),
     }
 }
@@ -90,6 +92,9 @@ fn limits_have_ranges(rt: HostRuntime) {
     expect_check(&rt, alloc, "--budget", "0", check(usual, 0, 64));
     expect_check(&rt, alloc, "--budget", "268435456", check(usual, most, 64));
     expect_check(&rt, alloc, "--budget", "268435457", Err(2));
+    expect_check(&rt, alloc, words, "1000", check(1_000, usual, 64));
+    expect_check(&rt, alloc, "--budget", "1000", check(usual, 1_000, 64));
+    expect_check(&rt, alloc, "--depth", "100", check(usual, usual, 100));
     expect_check(&rt, alloc, "--depth", "0", Err(2));
     expect_check(&rt, alloc, "--depth", "1", check(usual, usual, 1));
     expect_check(&rt, alloc, "--depth", "256", check(usual, usual, 256));
