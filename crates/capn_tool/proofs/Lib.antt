@@ -14,3 +14,4 @@ pub mod PackedMore
 pub mod PackedRun
 pub mod OneMeaning
 pub mod WorkedLines
+pub mod Carried

@@ -1,5 +1,5 @@
 -- A subcommand with the values of its options means one command at most.
-use Rattle.std.proofs.Common.{◌≡◌, ◌⊎◌, inl, inr, ℕ, ◌+◌, List, Option, Some, None, refl, sym, ap, ap₂, ◌∙◌, codes, slice_index, unwrap_or, arith}
+use Rattle.std.proofs.Common.{◌≡◌, ℕ, ◌+◌, List, Option, Some, None, refl, sym, ap, ap₂, ◌∙◌, codes, slice_index, unwrap_or, arith}
 use Rattle.std.specs.Str.Parse.{digits_value, without_leading_plus}
 use Rattle.clap.specs.Words.{Row, Text}
 use Rattle.capn_stream.specs.Frames.{most_table_words}
@@ -10,7 +10,7 @@ use Rattle.capn_canon.specs.declared.form.Form.{Form}
 use Rattle.capn_canon.specs.declared.form.Form.TheVariants as forms
 use Rattle.capn_tool.specs.declared.orders.Command.{Command}
 use Rattle.capn_tool.specs.declared.orders.Command.TheVariants as commands
-use Rattle.capn_tool.specs.Meaning.{Means, FormIs, TariffIs, NumberIs, LimitsAre, UnpackedIs, MeansOne, form_name, tariff_name}
+use Rattle.capn_tool.specs.Meaning.{Means, NumberIs, LimitsAre, UnpackedIs, MeansOne, form_name, tariff_name}
 
 -- two characters of a text, which tell the names apart
 abbrev mark : Text → ℕ

@@ -14,6 +14,10 @@ error_of usage = usage.error
 abbrev pub WantsMemory : Usage → Type 0
 WantsMemory usage = kind_of (error_of usage) ≡ kinds.OutOfMemory
 
+-- nothing is wrong with the words: they wish for help
+abbrev pub WishesHelp : Usage → Type 0
+WishesHelp usage = kind_of (error_of usage) ≡ kinds.DisplayHelp
+
 -- a call gave the command, or told want of memory
 abbrev pub Orders : Command → Result Command Usage → Type 0
 Orders command (Ok given) = given ≡ command

@@ -26,13 +26,15 @@ mod output;
 mod piece;
 mod plan;
 mod running;
+mod start;
 mod subcommands;
 mod unpacking;
 
-pub use ending::{fault_text, status};
+pub use ending::{end, fault_text, status};
 pub use fault::{Memory, ToolFault};
 pub use line::command_of;
 pub use misuse::Usage;
 pub use orders::Command;
 pub use running::run;
+pub use start::program;
 pub use subcommands::tool_command;

@@ -5,8 +5,7 @@ ghost use Rattle.clap.specs.Words.{kind_of};
 ghost use Rattle.capn_tool.specs.Status.{usage_status_of};
 
 use clap::error::ErrorKind;
-use std::alloc::AllocError;
-use std::io::{self, Eprint, Print};
+use std::alloc::{AllocError, Allocator};
 
 /// Why the words of the command line order nothing: a wish for help, a mistake, or want of memory.
 #[derive(Drop)]
@@ -15,7 +14,7 @@ pub struct Usage {
 }
 
 impl Usage {
-    ghost use Rattle.capn_tool.specs.Misuse.{WantsMemory, error_of};
+    ghost use Rattle.capn_tool.specs.Misuse.{WantsMemory, WishesHelp, error_of};
 
     /// The exit status: 3 for want of memory, 0 for a wish for help, 2 for any other.
     pub fn status(&self) -> u8
@@ -23,7 +22,7 @@ impl Usage {
     {
         match self.error.kind() {
             ErrorKind::OutOfMemory => 3,
-            ErrorKind::DisplayHelp | ErrorKind::DisplayVersion => 0,
+            ErrorKind::DisplayHelp => 0,
             _ => 2,
         }
     }
@@ -35,9 +34,16 @@ impl Usage {
         matches!(self.error.kind(), ErrorKind::OutOfMemory)
     }
 
-    /// Prints the text for the user: help to standard output, any other to standard error.
-    pub fn print<R: Print + Eprint>(&self, rt: &R) -> io::Result<()> {
-        self.error.print(rt)
+    /// Whether help is wished for.
+    pub fn is_help(&self) -> bool
+        ensures { IsTrue result ↔ WishesHelp self.now }
+    {
+        matches!(self.error.kind(), ErrorKind::DisplayHelp)
+    }
+
+    /// The text for the user: help, or what is said of a mistake.
+    pub fn text<A: Allocator>(&self, alloc: A) -> Result<String<A>, AllocError> {
+        format!(in alloc; "{}", &self.error)
     }
 }
 

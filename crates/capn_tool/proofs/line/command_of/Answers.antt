@@ -1,11 +1,10 @@
-use Rattle.std.proofs.Common.{◌≡◌, map, List, ℕ, Option, Some, None, IsSome, Result, Ok, Err, IsErr, IsErrAnd, sym, ap, subst, ◌∙◌}
+use Rattle.std.proofs.Common.{◌≡◌, map, List, Option, Some, None, IsSome, Result, Ok, Err, IsErr, IsErrAnd, sym, ap, subst, ◌∙◌}
 use Rattle.clap.specs.Words.{App, Row, Text, is_simple, subcommand_of, takes}
 use Rattle.clap.specs.Words.{kind_of}
 use Rattle.clap.specs.declared.error.Error.{Error}
 use Rattle.clap.specs.declared.error.ErrorKind.TheVariants as kinds
 use Rattle.capn_tool.specs.declared.misuse.Usage.{Usage}
 use Rattle.capn_tool.specs.declared.orders.Command.{Command}
-use Rattle.capn_tool.specs.Line.{tool_line}
 use Rattle.capn_tool.specs.Meaning.{Means}
 use Rattle.capn_tool.specs.Misuse.{Orders, error_of}
 use Rattle.capn_tool.proofs.OneMeaning.{means_one}

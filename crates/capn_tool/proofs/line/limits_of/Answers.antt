@@ -1,4 +1,4 @@
-use Rattle.std.proofs.Common.{◌≡◌, ℕ, ◌≤◌, ◌<◌, ◌^◌, true, false, arith}
+use Rattle.std.proofs.Common.{◌≡◌, ◌≤◌, ◌^◌, true, false, arith}
 use Rattle.capn_tool.proofs.line.limits_of.Goals as goal
 
 pub returns-in_err-message_words-clause-served : goal.returns-in_err-message_words-clause-served

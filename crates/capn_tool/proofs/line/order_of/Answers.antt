@@ -1,4 +1,4 @@
-use Rattle.std.proofs.Common.{◌≡◌, ◌∙◌, sym, true, false}
+use Rattle.std.proofs.Common.{◌≡◌, true, false}
 use Rattle.clap.specs.Words.{found_of, rows_of}
 use Rattle.capn_tool.proofs.OneMeaning.{means_unpack}
 use Rattle.capn_tool.proofs.line.order_of.Goals as goal
