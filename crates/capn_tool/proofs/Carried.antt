@@ -25,15 +25,16 @@ Ending = Result (Unit {0}) ToolFault
 abbrev Flushed : Ending → Ending → Type 0
 Flushed r s = (s ≡ r) ⊎ (s ≡ Err faults.Io)
 
-pub flushed : (r s : Ending) (is_flushed : Bool) → IfErr r (λ reason. s ≡ Err reason) → (IsOk r → is_flushed ≡ false → s ≡ Err faults.Io)
+pub flushed : (r s : Ending) (is_flushed : Bool) → IfErr r (λ reason. s ≡ Err reason)
+    → (IsOk r → is_flushed ≡ false → s ≡ Err faults.Io)
     → (IsOk r → is_flushed ≡ true → IsOk s) → Flushed r s
 flushed (Err e) s is_flushed k f d = inl k
 flushed (Ok u) s false k f d = inr (f refl refl)
 flushed (Ok u) (Ok v) true k f d = inl refl
 flushed (Ok u) (Err e) true k f d = absurd (let bad : false ≡ true = d refl refl in cc)
 
-ended : (plan : Plan) (bytes : List ℕ) (is_longer : Bool) (c m d : Option (List ℕ)) (r s : Ending) → Keeps m d → Flushed r s
-    → HasEnded plan bytes is_longer c m r → HasEnded plan bytes is_longer c d s
+ended : (plan : Plan) (bytes : List ℕ) (is_longer : Bool) (c m d : Option (List ℕ)) (r s : Ending)
+    → Keeps m d → Flushed r s → HasEnded plan bytes is_longer c m r → HasEnded plan bytes is_longer c d s
 ended plan bytes is_longer c m d r s k (inr io) h = inr (inl io)
 ended plan bytes is_longer c m d r s k (inl e) (inl memory) = inl (e ∙ memory)
 ended plan bytes is_longer c m d r s k (inl e) (inr (inl io)) = inr (inl (e ∙ io))
@@ -69,15 +70,18 @@ begun command a b c m d k (bytes, h) = (
 
 keeps_up : (plan : Plan) (a b c m d : Option (List ℕ)) → Keeps m d → PlanKeepsUp plan a b c m → PlanKeepsUp plan a b c d
 keeps_up (plans.Whole whole) a b c m d k h = tt
-keeps_up (plans.Each piece limits) a b c m d k (bytes, text, due, read, is, written) = (bytes, text, due, read, is, kept c m d text k written)
-keeps_up (plans.Packed piece limits) a b c m d k (bytes, text, due, read, is, written) = (bytes, text, due, read, is, kept c m d text k written)
+keeps_up (plans.Each piece limits) a b c m d k (bytes, text, due, read, is, written) =
+    (bytes, text, due, read, is, kept c m d text k written)
+keeps_up (plans.Packed piece limits) a b c m d k (bytes, text, due, read, is, written) =
+    (bytes, text, due, read, is, kept c m d text k written)
 
 failed_so : (r s : Ending) → Flushed r s → r ≡ Err faults.Io → s ≡ Err faults.Io
 failed_so r s (inl e) is = e ∙ is
 failed_so r s (inr io) is = io
 
-pub carried : (command : Command) (a b c m m' d c' : Option (List ℕ)) (unread unwritten : Bool) (r s : Ending) → c ≡ c' → m' ≡ m
-    → IfSome a (EndsAs command c m r) → IfSome a (EndsOnly command c m r) → (IsErrOf r faults.Io ↔ ((unread ≡ true) ⊎ (unwritten ≡ true)))
+pub carried : (command : Command) (a b c m m' d c' : Option (List ℕ)) (unread unwritten : Bool) (r s : Ending)
+    → c ≡ c' → m' ≡ m → IfSome a (EndsAs command c m r) → IfSome a (EndsOnly command c m r)
+    → (IsErrOf r faults.Io ↔ ((unread ≡ true) ⊎ (unwritten ≡ true)))
     → Begins command a b c m → (unread ≡ true → KeepsUp command a b c m) → Keeps m' d → Flushed r s
     → CarriesOut command a b unread c' d s
 carried command a b c m m' d c' unread unwritten r s ec em e o io g h k f =

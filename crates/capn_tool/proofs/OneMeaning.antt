@@ -44,7 +44,8 @@ number_one rows option m n (s, a, i, x) (t, b, j, y) =
     let e : s ≡ t = ap text_in (sym a ∙ b) in
     x ∙ ap (λ (text : Text). digits_value 10 (without_leading_plus text)) e ∙ sym y
 
-bounds_one : (l k : Bounds) → l.message_words ≡ k.message_words → l.budget ≡ k.budget → l.depth ≡ k.depth → l.tariff ≡ k.tariff → l ≡ k
+bounds_one : (l k : Bounds) → l.message_words ≡ k.message_words → l.budget ≡ k.budget → l.depth ≡ k.depth
+    → l.tariff ≡ k.tariff → l ≡ k
 bounds_one l k a b c d =
     ap (λ (n : ℕ). record { message_words = n; budget = l.budget; depth = l.depth; tariff = l.tariff }) a
     ∙ ap (λ (n : ℕ). record { message_words = k.message_words; budget = n; depth = l.depth; tariff = l.tariff }) b
@@ -53,10 +54,12 @@ bounds_one l k a b c d =
 
 pub limits_one : (rows : List Row) (l k : Bounds) → LimitsAre rows l → LimitsAre rows k → l ≡ k
 limits_one rows l k (a, b, c, d, i) (x, y, z, w, j) =
-    bounds_one l k (number_one rows _ _ _ a x) (number_one rows _ _ _ b y) (number_one rows _ _ _ c z) (tariff_one l.tariff k.tariff (sym d ∙ w))
+    bounds_one l k (number_one rows _ _ _ a x) (number_one rows _ _ _ b y) (number_one rows _ _ _ c z)
+    (tariff_one l.tariff k.tariff (sym d ∙ w))
 
 pub unpacked_one : (rows : List Row) (m n : ℕ) → UnpackedIs rows m → UnpackedIs rows n → m ≡ n
-unpacked_one rows m n (k, a, i, x) (l, b, j, y) = let e = number_one rows _ k l a b in x ∙ ap (λ (n : ℕ). n + most_table_words) e ∙ sym y
+unpacked_one rows m n (k, a, i, x) (l, b, j, y) =
+    let e = number_one rows _ k l a b in x ∙ ap (λ (n : ℕ). n + most_table_words) e ∙ sym y
 
 abbrev mark_of : Command → ℕ
 mark_of (commands.Show f l) = 219
@@ -75,15 +78,20 @@ marked said (commands.Unpack f) m = ap mark m.0
 marked said (commands.Canonical f l) m = ap mark m.0
 marked said (commands.Hash f l) m = ap mark m.0
 
-same : (said : Text × List Row) (c d : Command) → mark_of c ≡ mark_of d → Means (Some said) c → Means (Some said) d → c ≡ d
-same said (commands.Show f l) (commands.Show g k) e (a, b, i) (x, y, j) = ap₂ (λ (form : Form) (limits : Bounds). commands.Show form limits) (form_one f g (sym b ∙ y)) (limits_one said.1 l k i j)
+same : (said : Text × List Row) (c d : Command) → mark_of c ≡ mark_of d → Means (Some said) c → Means (Some said) d
+    → c ≡ d
+same said (commands.Show f l) (commands.Show g k) e (a, b, i) (x, y, j) =
+    ap₂ (λ (form : Form) (limits : Bounds). commands.Show form limits) (form_one f g (sym b ∙ y))
+    (limits_one said.1 l k i j)
 same said (commands.Show f l) (commands.Check g k) e m n = absurd (omega arith)
 same said (commands.Show f l) commands.Pack e m n = absurd (omega arith)
 same said (commands.Show f l) (commands.Unpack g) e m n = absurd (omega arith)
 same said (commands.Show f l) (commands.Canonical g k) e m n = absurd (omega arith)
 same said (commands.Show f l) (commands.Hash g k) e m n = absurd (omega arith)
 same said (commands.Check f l) (commands.Show g k) e m n = absurd (omega arith)
-same said (commands.Check f l) (commands.Check g k) e (a, b, i) (x, y, j) = ap₂ (λ (form : Form) (limits : Bounds). commands.Check form limits) (form_one f g (sym b ∙ y)) (limits_one said.1 l k i j)
+same said (commands.Check f l) (commands.Check g k) e (a, b, i) (x, y, j) =
+    ap₂ (λ (form : Form) (limits : Bounds). commands.Check form limits) (form_one f g (sym b ∙ y))
+    (limits_one said.1 l k i j)
 same said (commands.Check f l) commands.Pack e m n = absurd (omega arith)
 same said (commands.Check f l) (commands.Unpack g) e m n = absurd (omega arith)
 same said (commands.Check f l) (commands.Canonical g k) e m n = absurd (omega arith)
@@ -97,31 +105,41 @@ same said commands.Pack (commands.Hash g k) e m n = absurd (omega arith)
 same said (commands.Unpack f) (commands.Show g k) e m n = absurd (omega arith)
 same said (commands.Unpack f) (commands.Check g k) e m n = absurd (omega arith)
 same said (commands.Unpack f) commands.Pack e m n = absurd (omega arith)
-same said (commands.Unpack f) (commands.Unpack g) e m n = ap (λ (most : ℕ). commands.Unpack most) (unpacked_one said.1 f g m.1 n.1)
+same said (commands.Unpack f) (commands.Unpack g) e m n =
+    ap (λ (most : ℕ). commands.Unpack most) (unpacked_one said.1 f g m.1 n.1)
 same said (commands.Unpack f) (commands.Canonical g k) e m n = absurd (omega arith)
 same said (commands.Unpack f) (commands.Hash g k) e m n = absurd (omega arith)
 same said (commands.Canonical f l) (commands.Show g k) e m n = absurd (omega arith)
 same said (commands.Canonical f l) (commands.Check g k) e m n = absurd (omega arith)
 same said (commands.Canonical f l) commands.Pack e m n = absurd (omega arith)
 same said (commands.Canonical f l) (commands.Unpack g) e m n = absurd (omega arith)
-same said (commands.Canonical f l) (commands.Canonical g k) e (a, b, i) (x, y, j) = ap₂ (λ (form : Form) (limits : Bounds). commands.Canonical form limits) (form_one f g (sym b ∙ y)) (limits_one said.1 l k i j)
+same said (commands.Canonical f l) (commands.Canonical g k) e (a, b, i) (x, y, j) =
+    ap₂ (λ (form : Form) (limits : Bounds). commands.Canonical form limits) (form_one f g (sym b ∙ y))
+    (limits_one said.1 l k i j)
 same said (commands.Canonical f l) (commands.Hash g k) e m n = absurd (omega arith)
 same said (commands.Hash f l) (commands.Show g k) e m n = absurd (omega arith)
 same said (commands.Hash f l) (commands.Check g k) e m n = absurd (omega arith)
 same said (commands.Hash f l) commands.Pack e m n = absurd (omega arith)
 same said (commands.Hash f l) (commands.Unpack g) e m n = absurd (omega arith)
 same said (commands.Hash f l) (commands.Canonical g k) e m n = absurd (omega arith)
-same said (commands.Hash f l) (commands.Hash g k) e (a, b, i) (x, y, j) = ap₂ (λ (form : Form) (limits : Bounds). commands.Hash form limits) (form_one f g (sym b ∙ y)) (limits_one said.1 l k i j)
+same said (commands.Hash f l) (commands.Hash g k) e (a, b, i) (x, y, j) =
+    ap₂ (λ (form : Form) (limits : Bounds). commands.Hash form limits) (form_one f g (sym b ∙ y))
+    (limits_one said.1 l k i j)
 
 pub means_one : MeansOne
 means_one None c d m n = absurd m
 means_one (Some said) c d m n = same said c d (sym (marked said c m) ∙ marked said d n) m n
 
 -- what is named unpack means that, of so many words
-pub means_unpack : (name : Text) (rows : List Row) (c : Command) → name ≡ codes "unpack" → Means (Some (name, rows)) c → (most : ℕ) × UnpackedIs rows most
+pub means_unpack : (name : Text) (rows : List Row) (c : Command) → name ≡ codes "unpack" → Means (Some (name, rows)) c
+    → (most : ℕ) × UnpackedIs rows most
 means_unpack name rows (commands.Unpack most) is m = (most, m.1)
-means_unpack name rows (commands.Show f l) is m = absurd (let bad : 227 ≡ 219 = ap mark (sym is ∙ m.0) in omega arith)
-means_unpack name rows (commands.Check f l) is m = absurd (let bad : 227 ≡ 203 = ap mark (sym is ∙ m.0) in omega arith)
-means_unpack name rows (commands.Canonical f l) is m = absurd (let bad : 227 ≡ 196 = ap mark (sym is ∙ m.0) in omega arith)
-means_unpack name rows (commands.Hash f l) is m = absurd (let bad : 227 ≡ 201 = ap mark (sym is ∙ m.0) in omega arith)
+means_unpack name rows (commands.Show f l) is m =
+    absurd (let bad : 227 ≡ 219 = ap mark (sym is ∙ m.0) in omega arith)
+means_unpack name rows (commands.Check f l) is m =
+    absurd (let bad : 227 ≡ 203 = ap mark (sym is ∙ m.0) in omega arith)
+means_unpack name rows (commands.Canonical f l) is m =
+    absurd (let bad : 227 ≡ 196 = ap mark (sym is ∙ m.0) in omega arith)
+means_unpack name rows (commands.Hash f l) is m =
+    absurd (let bad : 227 ≡ 201 = ap mark (sym is ∙ m.0) in omega arith)
 means_unpack name rows commands.Pack is m = absurd (let bad : 227 ≡ 209 = ap mark (sym is ∙ m) in omega arith)

@@ -18,19 +18,21 @@ abbrev pub EndsOnly : Command → Option (List ℕ) → Option (List ℕ) → Re
 EndsOnly command c d outcome input =
     (text : List ℕ) (due : Result (Unit {0}) ToolFault) → IsText command input text due → EndsBy text due c d outcome
 
--- a command was carried out, over the input (from a to b, where that has failed or not) and the output (from c to d), and
--- ended so
-pub record CarriesOut (command : Command) (a b : Option (List ℕ)) (unread : Bool) (c d : Option (List ℕ)) (outcome : Result (Unit {0}) ToolFault) : Type 0 where
+-- a command was carried out, over the input (from a to b, where that has failed or not) and the output (from c to d),
+-- and ended so
+pub record CarriesOut (command : Command) (a b : Option (List ℕ)) (unread : Bool) (c d : Option (List ℕ))
+    (outcome : Result (Unit {0}) ToolFault) : Type 0 where
   pub exact : IfSome a (EndsAs command c d outcome)
   pub only : IfSome a (EndsOnly command c d outcome)
   pub io : unread ≡ true → outcome ≡ Err faults.Io
   pub begun : Begins command a b c d
   pub heard : unread ≡ true → KeepsUp command a b c d
 
--- The words order a command. It was carried out, over the input (from a to b, where that has failed or not), the output
--- (from c to d) and the place of errors (from e to f, where that has failed or not). The status is that of how it ended,
--- and so is what was told.
-pub record EndsOrdered (words : List Text) (a b : Option (List ℕ)) (unread : Bool) (c d e f : Option (List ℕ)) (untold : Bool) (status : ℕ) : Type 0 where
+-- The words order a command. It was carried out, over the input (from a to b, where that has failed or not) and the
+-- output (from c to d). The status is that of how it ended, and so is what was told (from e to f, where the writer of
+-- that has failed or not).
+pub record EndsOrdered (words : List Text) (a b : Option (List ℕ)) (unread : Bool) (c d e f : Option (List ℕ))
+    (untold : Bool) (status : ℕ) : Type 0 where
   pub command : Command
   pub outcome : Result (Unit {0}) ToolFault
   pub means : Means (subcommand_of tool_line words) command
@@ -41,7 +43,8 @@ pub record EndsOrdered (words : List Text) (a b : Option (List ℕ)) (unread : B
 -- The words order nothing, for a reason of this kind: memory was refused, help is wished for, or they are a mistake.
 pub record EndsUnordered (kind : ErrorKind) (c d e f : Option (List ℕ)) (untold : Bool) (status : ℕ) : Type 0 where
   pub memory : kind ≡ kinds.OutOfMemory → (d ≡ c) × Tells (Err faults.Memory) e f untold × (status ≡ 3)
-  pub help : kind ≡ kinds.DisplayHelp → (outcome : Result (Unit {0}) ToolFault) × Tells outcome e f untold × (status ≡ status_of outcome)
+  pub help : kind ≡ kinds.DisplayHelp
+      → (outcome : Result (Unit {0}) ToolFault) × Tells outcome e f untold × (status ≡ status_of outcome)
   pub mistake : kind ≢ kinds.OutOfMemory → kind ≢ kinds.DisplayHelp → (d ≡ c) × (status ≡ 2)
 
 -- the words are not taken or mean no command, or memory was refused; and nothing was read
@@ -53,7 +56,7 @@ pub record Unordered (words : List Text) (a b c d e f : Option (List ℕ)) (unto
   pub ended : EndsUnordered kind c d e f untold status
 
 -- what the program did that was started with these words, by its status
-abbrev pub Ends : List Text → Option (List ℕ) → Option (List ℕ) → Bool → Option (List ℕ) → Option (List ℕ) → Option (List ℕ)
-    → Option (List ℕ) → Bool → ℕ → Type 0
+abbrev pub Ends : List Text → Option (List ℕ) → Option (List ℕ) → Bool → Option (List ℕ) → Option (List ℕ)
+    → Option (List ℕ) → Option (List ℕ) → Bool → ℕ → Type 0
 Ends words a b unread c d e f untold status =
     EndsOrdered words a b unread c d e f untold status ⊎ Unordered words a b c d e f untold status

@@ -150,7 +150,8 @@ fn fault_line<A: Allocator + Copy>(alloc: A, fault: &ToolFault) -> Result<String
 /// Writes the line of a fault, or that of want of memory where the line finds none.
 fn tell<E: Write, A: Allocator + Copy>(alloc: A, fault: &ToolFault, errors: &mut Watched<E>)
     requires { has_failed errors.old ≡ false }
-    ensures { TellsFault fault.now (E.contents (inner_of errors.old)) (E.contents (inner_of errors.new)) (has_failed errors.new) }
+    ensures { TellsFault fault.now (E.contents (inner_of errors.old)) (E.contents (inner_of errors.new))
+        (has_failed errors.new) }
 {
     let _told = match fault_line(alloc, fault) {
         Ok(line) => errors.write_all(line.as_bytes()),
@@ -158,8 +159,8 @@ fn tell<E: Write, A: Allocator + Copy>(alloc: A, fault: &ToolFault, errors: &mut
     };
 }
 
-/// Writes the line that tells why a run ended so, if it is not done, and answers its exit status. Where the line finds no
-/// memory, that of want of memory is written, and the status stays.
+/// Writes the line that tells why a run ended so, if it is not done, and answers its exit status. Where the line finds
+/// no memory, that of want of memory is written, and the status stays.
 pub fn end<E: Write, A: Allocator + Copy>(
     alloc: A,
     outcome: &Result<(), ToolFault>,
@@ -167,7 +168,8 @@ pub fn end<E: Write, A: Allocator + Copy>(
 ) -> u8
     requires { has_failed errors.old ≡ false }
     ensures status { result ≡ status_of outcome.now }
-    ensures told { Tells outcome.now (E.contents (inner_of errors.old)) (E.contents (inner_of errors.new)) (has_failed errors.new) }
+    ensures told { Tells outcome.now (E.contents (inner_of errors.old)) (E.contents (inner_of errors.new))
+        (has_failed errors.new) }
 {
     if let Err(fault) = outcome {
         tell(alloc, fault, errors);

@@ -83,7 +83,8 @@ fn unpacked_words_of(matches: &ArgMatches) -> Option<u32>
 /// The command of this name with these options.
 fn order_of(name: &str, matches: &ArgMatches) -> Option<Command>
     ensures means { IfSome result (λ command. Means (Some (name.now, rows_of (found_of matches.now))) command) }
-    ensures served { (command : Command) → Means (Some (name.now, rows_of (found_of matches.now))) command → IsSome result }
+    ensures served { (command : Command) → Means (Some (name.now, rows_of (found_of matches.now))) command
+        → IsSome result }
 {
     match name {
         "show" => Some(Command::Show(form_of(matches)?, limits_of(matches)?)),
@@ -120,9 +121,9 @@ fn no_such_value(alloc: Global, text: &str) -> Usage {
 }
 
 /// The command that the words order, the first of them being the program's name: the subcommand's, with the form, the
-/// limits and the tariff that its options have, given or usual. A wish for help, a word, an option or a value that is not
-/// known, a number out of its range, a form or a tariff that the command does not take and want of memory are answered as
-/// `Usage`, with the text for the user.
+/// limits and the tariff that its options have, given or usual. A wish for help, a word, an option or a value that is
+/// not known, a number out of its range, a form or a tariff that the command does not take and want of memory are
+/// answered as `Usage`, with the text for the user.
 pub fn command_of<'a, S: AsStr>(alloc: Global, words: &'a [S]) -> Result<Command, Usage>
     // A command that is given is what the words mean.
     ensures means { IfOk result (λ command. Means (subcommand_of tool_line (map S.text words.now)) command) }

@@ -42,8 +42,8 @@ fn carry_out<R: Read, W: Write>(
     writer: W,
 ) -> (Result<(), ToolFault>, W)
     requires { has_failed reader.old ≡ false }
-    ensures { CarriesOut command (R.remaining (inner_of reader.old)) (R.remaining (inner_of reader.new)) (has_failed reader.new)
-        (W.contents writer) (W.contents result.1) result.0 }
+    ensures { CarriesOut command (R.remaining (inner_of reader.old)) (R.remaining (inner_of reader.new))
+        (has_failed reader.new) (W.contents writer) (W.contents result.1) result.0 }
 {
     let mut output = Watched::new(writer);
     let outcome = run(alloc, command, reader, &mut output);
@@ -90,14 +90,14 @@ fn end_unordered<W: Write, E: Write>(
     MISTAKE
 }
 
-/// The whole program, from the words of the command line, the first of them its name, to the exit status. Gives the writer
-/// back.
+/// The whole program, from the words of the command line, the first of them its name, to the exit status. Gives the
+/// writer back.
 ///
 /// It carries out the command that the words order, from the reader to the writer, as [`run`] promises, and flushes the
-/// writer. The status is 0 where that is done, 1 where the input is refused, and 3 where memory, the input or the output
-/// failed or the input is too long; with 1 and 3 one line on `errors` tells why, `capn: ` and the text of the fault, or
-/// where that text finds no memory `capn: out of memory`. Words that order nothing end with 2 and are told on `errors`; a
-/// wish for help is served on the writer, and ends with 0.
+/// writer. The status is 0 where that is done, 1 where the input is refused, and 3 where memory, the input or the
+/// output failed or the input is too long; with 1 and 3 one line on `errors` tells why, `capn: ` and the text of the
+/// fault, or where that text finds no memory `capn: out of memory`. Words that order nothing end with 2 and are told on `errors`;
+/// a wish for help is served on the writer, and ends with 0, or with 3 where that fails.
 pub fn program<'a, S: AsStr, R: Read, W: Write, E: Write>(
     alloc: Global,
     words: &'a [S],
@@ -107,9 +107,9 @@ pub fn program<'a, S: AsStr, R: Read, W: Write, E: Write>(
 ) -> (u8, W)
     requires reader_fine { has_failed reader.old ≡ false }
     requires errors_fine { has_failed errors.old ≡ false }
-    ensures { Ends (map S.text words.now) (R.remaining (inner_of reader.old)) (R.remaining (inner_of reader.new)) (has_failed reader.new)
-        (W.contents writer) (W.contents result.1) (E.contents (inner_of errors.old)) (E.contents (inner_of errors.new))
-        (has_failed errors.new) result.0 }
+    ensures { Ends (map S.text words.now) (R.remaining (inner_of reader.old)) (R.remaining (inner_of reader.new))
+        (has_failed reader.new) (W.contents writer) (W.contents result.1) (E.contents (inner_of errors.old))
+        (E.contents (inner_of errors.new)) (has_failed errors.new) result.0 }
 {
     match command_of(alloc, words) {
         Ok(command) => {
