@@ -1,29 +1,26 @@
 -- A stream of messages that is read in pieces: more of it, and where a run stops.
-use Rattle.std.proofs.Common.{◌≡◌, ◌≢◌, ◌⊎◌, inl, inr, ◌↔◌, ℕ, ◌+◌, ◌-◌, ◌<◌, ◌≤◌, List, [], ◌∷◌, ◌++◌, length, take, drop, Bool, true, false, Option, None, Some, Result, Ok, Err, refl, ap, sym, subst, ◌∙◌, append-nil, append_assoc, arith, length-append, length-take}
-use Rattle.std.proofs.lemmas.List.{take_at, take-append-drop}
+use Rattle.std.proofs.Common.{◌≡◌, ◌≢◌, inl, inr, ℕ, ◌≤◌, List, [], ◌∷◌, ◌++◌, length, Bool, true, false, Option, Result, Err, refl, ap, sym, subst, ◌∙◌, append-nil, append_assoc, arith, length-append}
+use Rattle.std.proofs.lemmas.List.{take_at}
 use Rattle.std.proofs.lemmas.Grind.{flat_map-append}
 use Rattle.std.specs.List.{AllByRecursion}
 use Rattle.capn_words.specs.Message.{total}
 use Rattle.capn_walk.specs.Limits.{Bounds}
 use Rattle.capn_stream.specs.Frames.{Frames, StandsFirst}
-use Rattle.capn_stream.specs.Framing.{FeedGives, Feeds, Framing, IsFrame, IsUnfinished, TakeGives}
-use Rattle.capn_stream.specs.Reading as frames
 use Rattle.capn_stream.specs.Stages.{IsStop}
 use Rattle.capn_stream.specs.declared.fault.FrameFault.{FrameFault}
 use Rattle.capn_stream.specs.declared.fault.FrameFault.TheVariants as frame_faults
 use Rattle.capn_stream.specs.Laws.Longer.{IsStop-append}
-use Rattle.capn_stream.specs.Laws.Wanting.{unfinished_frame}
 use Rattle.capn_canon.specs.declared.refusal.Refusal.TheVariants as refusals
 use Rattle.capn_tool.specs.Pieces.{IsPiece, IsNoPiece}
-use Rattle.capn_tool.specs.Streams.{Part, IsPart, AreParts, frame_of, text_of, frames_of, texts_of, end_of, IsDueEach}
+use Rattle.capn_tool.specs.Streams.{Part, IsPart, AreParts, frame_of, text_of, frames_of, texts_of, IsDueEach}
 use Rattle.capn_tool.specs.Served.{AddsPiece}
 use Rattle.capn_tool.specs.Sending.{Outgoing, Adds, Breaks}
-use Rattle.capn_tool.specs.Heard.{Tells, TellsFront, IsDueSo, Stops, Serves, ServesNext}
+use Rattle.capn_tool.specs.Heard.{Tells, TellsFront, IsDueSo, Stops}
 use Rattle.capn_tool.specs.declared.plan.Piece.{Piece}
 use Rattle.capn_tool.specs.declared.fault.ToolFault.{ToolFault}
 use Rattle.capn_tool.specs.declared.fault.ToolFault.TheVariants as faults
 use Rattle.capn_tool.proofs.Sends.{adds_more, adds_none, breaks_behind}
-use Rattle.capn_tool.proofs.WholeServed.{IsTold, told_memory, told_piece, told_refused}
+use Rattle.capn_tool.proofs.WholeServed.{IsTold, told_memory, told_piece}
 
 pub every_append : {X : Type 0} (P : X → Type 0) (xs ys : List X) → AllByRecursion P xs → AllByRecursion P ys → AllByRecursion P (xs ++ ys)
 every_append P [] ys f g = g

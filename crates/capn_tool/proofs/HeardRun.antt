@@ -1,21 +1,19 @@
 -- A run over a stream that is read in pieces.
-use Rattle.std.proofs.Common.{◌≡◌, ◌≢◌, ◌⊎◌, inl, inr, ◌↔◌, ℕ, ◌+◌, ◌-◌, ◌<◌, ◌≤◌, ◌^◌, min, List, [], ◌∷◌, ◌++◌, length, take, drop, Bool, true, false, Option, None, Some, IfSome, Result, Ok, Err, refl, ap, sym, subst, ◌∙◌, append-nil, append_assoc, arith, length-append, length-take-le, nat_lt}
+use Rattle.std.proofs.Common.{◌≡◌, ◌≢◌, ◌⊎◌, inl, inr, ◌↔◌, ℕ, ◌+◌, ◌-◌, ◌<◌, ◌≤◌, ◌^◌, min, List, [], ◌++◌, length, take, Bool, true, false, Option, None, Some, IfSome, Result, Ok, Err, refl, ap, sym, subst, ◌∙◌, append-nil, arith, length-append, length-take-le}
 use Rattle.std.proofs.Math.Seq.{take-append-add, take-length}
 use Rattle.std.proofs.lemmas.List.{take_all, take-take, take-append-le}
 use Rattle.std.proofs.lemmas.Bool.{cases_lt}
 use Rattle.std.specs.Io.KnownBytes.{Appends, Consumes, IsAtEnd, Keeps}
-use Rattle.std.proofs.KnownBytes.{Appends-nil, Appends-trans, Consumes-nil, Consumes-trans, Consumes-kept}
+use Rattle.std.proofs.KnownBytes.{Consumes-trans, Consumes-kept}
 use Rattle.capn_walk.specs.Limits.{Bounds}
-use Rattle.capn_stream.specs.Framing.{Framing, IsUnfinished}
+use Rattle.capn_stream.specs.Framing.{IsUnfinished}
 use Rattle.capn_stream.specs.Reading as frame_rules
 use Rattle.capn_stream.specs.declared.fault.FrameFault.{FrameFault}
 use Rattle.capn_stream.specs.declared.fault.FrameFault.TheVariants as frames
-use Rattle.capn_canon.specs.declared.refusal.Refusal.TheVariants as refusals
-use Rattle.capn_tool.specs.Streams.{Part, AreParts, texts_of, behind_stream, end_of, IsDueEach}
-use Rattle.capn_tool.specs.Text.{HasEnded, HasWritten, IsDue, IsFront, PlanBegins, PlanEndsAs, taken_of, has_more}
-use Rattle.capn_tool.specs.Reading.{Kept}
+use Rattle.capn_tool.specs.Streams.{AreParts, texts_of, behind_stream, end_of, IsDueEach}
+use Rattle.capn_tool.specs.Text.{HasWritten, PlanBegins, PlanEndsAs, taken_of, has_more}
 use Rattle.capn_tool.specs.Sending.{sent}
-use Rattle.capn_tool.specs.Heard.{EndsInput, Hears, IsDueSo, Runs, Serves, Stops, Tells, TellsFront}
+use Rattle.capn_tool.specs.Heard.{EndsInput, Hears, IsDueSo, Runs, Stops, Tells, TellsFront}
 use Rattle.capn_tool.specs.declared.plan.Piece.{Piece}
 use Rattle.capn_tool.specs.declared.plan.Whole.{Whole}
 use Rattle.capn_tool.specs.declared.plan.Plan.{Plan}

@@ -11,3 +11,6 @@ pub mod HeardNext
 pub mod HeardRun
 pub mod PackedMore
 pub mod PackedRun
+pub mod OneMeaning
+pub mod WorkedLines
+pub mod Carried

@@ -1,6 +1,5 @@
 -- A run over a packed stream that is read in pieces.
-use Rattle.std.proofs.Common.{◌≡◌, ◌≢◌, ◌⊎◌, inl, inr, ◌↔◌, ℕ, ◌+◌, ◌-◌, ◌<◌, ◌≤◌, ◌^◌, min, List, [], ◌∷◌, ◌++◌, length, take, drop, Bool, true, false, Option, None, Some, IfSome, Result, Ok, Err, refl, ap, sym, subst, ◌∙◌, append-nil, append_assoc, arith, length-append, length-take-le}
-use Rattle.std.proofs.Math.Seq.{take-length}
+use Rattle.std.proofs.Common.{◌≡◌, inl, inr, ℕ, ◌+◌, ◌-◌, ◌<◌, ◌≤◌, ◌^◌, min, List, [], ◌++◌, length, take, Bool, true, false, Option, None, Some, IfSome, Result, Err, refl, ap, sym, subst, ◌∙◌, append_assoc, arith, length-append, length-take-le}
 use Rattle.std.proofs.lemmas.List.{take_all, take-append-le}
 use Rattle.std.proofs.lemmas.Grind.{flat_map-append}
 use Rattle.std.specs.Io.KnownBytes.{Appends, Consumes, IsAtEnd, Keeps}
@@ -8,13 +7,13 @@ use Rattle.std.proofs.KnownBytes.{Consumes-nil, Consumes-trans, Consumes-kept}
 use Rattle.capn_walk.specs.Limits.{Bounds}
 use Rattle.capn_pack.specs.Group.{IsGroup, text, content}
 use Rattle.capn_pack.specs.Packs.{texts, contents}
-use Rattle.capn_pack.specs.Stream.{Begins, Held, Splits, advanced}
+use Rattle.capn_pack.specs.Stream.{Begins, Held, Splits}
 use Rattle.capn_pack.specs.Laws.SplitLaws.{splits_all}
 use Rattle.capn_pack.specs.Laws.StreamLemmas.{nothing_first}
 use Rattle.capn_stream.specs.Framing.{IsUnfinished}
-use Rattle.capn_tool.specs.Streams.{Part, AreParts, texts_of, behind_packed, end_of, IsDueEach, IsDuePacked}
+use Rattle.capn_tool.specs.Streams.{texts_of, behind_packed, end_of, IsDueEach, IsDuePacked}
 use Rattle.capn_tool.specs.Text.{HasWritten, PlanBegins, PlanEndsAs, taken_of, has_more}
-use Rattle.capn_tool.specs.Heard.{IsDueSo, Runs, Stops, Tells, TellsFront}
+use Rattle.capn_tool.specs.Heard.{IsDueSo, Runs, TellsFront}
 use Rattle.capn_tool.specs.Sending.{sent}
 use Rattle.capn_tool.specs.HeardPacked.{EndsPacked, HearsPacked, StopsPacked, TellsPacked, fresh}
 use Rattle.capn_tool.specs.declared.plan.Piece.{Piece}

@@ -1,11 +1,8 @@
 -- A run ends as all that its reader had to give is due.
-use Rattle.std.proofs.Common.{◌≡◌, ◌⊎◌, inl, inr, ◌↔◌, ℕ, ◌+◌, ◌≤◌, ◌^◌, List, [], take, Bool, true, false, Option, None, Some, IfSome, Result, Ok, Err, refl, ap, sym, subst, ◌∙◌, lit≤}
-use Rattle.std.specs.Io.KnownBytes.{Appends}
-use Rattle.std.proofs.KnownBytes.{Appends-nil, Consumes-nil}
-use Rattle.capn_tool.specs.Streams.{AreParts}
+use Rattle.std.proofs.Common.{◌≡◌, ◌⊎◌, inl, inr, ℕ, ◌+◌, ◌≤◌, ◌^◌, List, [], Bool, Option, None, Some, IfSome, Result, Err, refl, ap, sym, subst}
+use Rattle.std.proofs.KnownBytes.{Appends-nil}
 use Rattle.capn_tool.specs.Text.{taken_of, has_more, HasEnded, HasWritten, IsFront, PlanEndsAs, PlanBegins}
 use Rattle.capn_tool.specs.Reading.{HasRead, Kept}
-use Rattle.capn_tool.specs.Served.{Served}
 use Rattle.capn_tool.specs.declared.plan.Plan.{Plan}
 use Rattle.capn_tool.specs.declared.plan.Plan.TheVariants as plans
 use Rattle.capn_tool.specs.declared.fault.ToolFault.{ToolFault}

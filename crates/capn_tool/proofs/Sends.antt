@@ -1,6 +1,6 @@
 -- Text that is added, and written once it is long or a piece of the input has ended.
-use Rattle.std.proofs.Common.{◌≡◌, ◌≢◌, ◌⊎◌, inl, inr, ◌↔◌, ℕ, ◌+◌, List, [], ◌++◌, length, take, Bool, true, false, Option, Result, Ok, Err, refl, ap, sym, subst, ◌∙◌, append-nil, append_assoc}
-use Rattle.std.proofs.Math.Seq.{take-append-add, take-length}
+use Rattle.std.proofs.Common.{◌≡◌, ℕ, ◌+◌, List, [], ◌++◌, length, take, Option, ap, sym, subst, ◌∙◌, append-nil, append_assoc}
+use Rattle.std.proofs.Math.Seq.{take-append-add}
 use Rattle.std.specs.Io.KnownBytes.{Appends}
 use Rattle.std.proofs.KnownBytes.{Appends-nil, Appends-trans}
 use Rattle.capn_tool.specs.Sending.{Outgoing, Adds, Breaks, outgoing, sent}

@@ -1,18 +1,16 @@
 -- An input that is taken whole, and how a run over it ends.
-use Rattle.std.proofs.Common.{◌≡◌, ◌⊎◌, inl, inr, ◌↔◌, ℕ, List, [], ◌++◌, length, take, Bool, true, false, Option, Result, Ok, Err, OnOk, IsOkUnless, refl, ap, sym, subst, ◌∙◌}
-use Rattle.std.proofs.Math.Seq.{take-length}
+use Rattle.std.proofs.Common.{◌≡◌, ◌⊎◌, inl, inr, ◌↔◌, ℕ, List, [], Bool, true, false, Option, Result, Ok, Err, OnOk, IsOkUnless, refl, ap}
 use Rattle.std.specs.Io.KnownBytes.{Appends}
 use Rattle.std.proofs.KnownBytes.{Appends-nil}
 use Rattle.capn_tool.specs.Pieces.{IsNoPiece}
 use Rattle.capn_tool.specs.Wholes.{Makes, MakesNothing}
-use Rattle.capn_tool.specs.Text.{HasEnded, HasWritten, IsFront}
+use Rattle.capn_tool.specs.Text.{HasEnded}
 use Rattle.capn_words.specs.Watching.{HasBegun}
 use Rattle.capn_tool.specs.Served.{Served}
 use Rattle.capn_tool.specs.declared.plan.Piece.{Piece}
 use Rattle.capn_tool.specs.declared.plan.Piece.TheVariants as kinds
 use Rattle.capn_tool.specs.declared.plan.Whole.{Whole}
 use Rattle.capn_tool.specs.declared.plan.Whole.TheVariants as wholes
-use Rattle.capn_tool.specs.declared.plan.Plan.{Plan}
 use Rattle.capn_tool.specs.declared.plan.Plan.TheVariants as plans
 use Rattle.capn_walk.specs.Limits.{Bounds}
 use Rattle.capn_canon.specs.declared.refusal.Refusal.{Refusal}

@@ -12,3 +12,5 @@ pub mod Status
 pub mod Misuse
 pub mod Line
 pub mod Meaning
+pub mod Told
+pub mod Ends

@@ -1,5 +1,7 @@
 -- The command line: each subcommand with its options, their ranges and their usual values (own).
 use Rattle.std.specs.Prelude.{ℕ, pos, Some, codes, [], ◌∷◌, true}
+use Rattle.capn_words.specs.Limits.{most_message_words}
+use Rattle.capn_value.specs.Sizes.{most_cost, most_height}
 use Rattle.clap.specs.Words.{App, Rule, Text, new_app, new_rule, with_rule, with_subcommand}
 use Rattle.clap.specs.declared.builder.value_parser.ValueParser.TheVariants as vp
 
@@ -12,17 +14,17 @@ number_rule name usual least most = record (new_rule name) {
   parser = Some (vp.Signed (pos least) (pos most));
 }
 
--- the words of a message, from 1 to 2^28
+-- the words of a message
 abbrev pub words_rule : Rule
-words_rule = number_rule (codes "message-words") (codes "8388608") 1 268435456
+words_rule = number_rule (codes "message-words") (codes "8388608") 1 most_message_words
 
--- the words of the budget, from 0 to 2^28
+-- the words of the budget
 abbrev pub budget_rule : Rule
-budget_rule = number_rule (codes "budget") (codes "8388608") 0 268435456
+budget_rule = number_rule (codes "budget") (codes "8388608") 0 most_cost
 
--- the depth, from 1 to 256
+-- the depth
 abbrev pub depth_rule : Rule
-depth_rule = number_rule (codes "depth") (codes "64") 1 256
+depth_rule = number_rule (codes "depth") (codes "64") 1 most_height
 
 -- the form of the input, a stream where none is given
 abbrev pub form_rule : Rule

@@ -6,7 +6,6 @@ use Rattle.capn_tool.specs.Text.{HasEnded, HasWritten}
 use Rattle.capn_tool.specs.Sending.{Outgoing, Adds, Breaks}
 use Rattle.capn_tool.specs.declared.plan.Piece.{Piece}
 use Rattle.capn_tool.specs.declared.plan.Plan.{Plan}
-use Rattle.capn_tool.specs.declared.plan.Plan.TheVariants as plans
 use Rattle.capn_tool.specs.declared.fault.ToolFault.{ToolFault}
 use Rattle.capn_tool.specs.declared.fault.ToolFault.TheVariants as faults
 

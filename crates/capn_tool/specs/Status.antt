@@ -18,5 +18,4 @@ status_of (Err (faults.Refused refusal)) = 1
 abbrev pub usage_status_of : ErrorKind → ℕ
 usage_status_of kinds.OutOfMemory = 3
 usage_status_of kinds.DisplayHelp = 0
-usage_status_of kinds.DisplayVersion = 0
 usage_status_of _ = 2

@@ -1,9 +1,10 @@
 //! The work of the program `capn`: what it is told to do, and each run from all of the input to all of the output.
 //!
-//! [`command_of`] reads the words of the command line, and [`run`] carries the command out over any reader and writer:
-//! it writes exactly the text that its input is due and ends as is due, and says so by its outcome, of which [`status`]
-//! and [`fault_text`] are the exit status and the line for the user. `show`, `check` and `hash` take one bare message, or
-//! the messages of a stream, packed or not, as they come in; `canonical` takes one message in any of the three forms.
+//! [`program`] is all of it, from the words of the command line to the exit status, over any reader and writers.
+//! [`command_of`] reads the words, and [`run`] carries the command out: it writes exactly the text that its input is due
+//! and ends as is due, and says so by its outcome, of which [`status`] and [`fault_text`] are the exit status and the
+//! text for the user, and [`end`] writes that. `show`, `check` and `hash` take one bare message, or the messages of a
+//! stream, packed or not, as they come in; `canonical` takes one message in any of the three forms.
 //!
 //! ```text
 //! let command = command_of(alloc, &["capn", "canonical", "--form", "bare"])?;
@@ -17,6 +18,7 @@ mod fault;
 mod hearing;
 mod help;
 mod input;
+pub mod laws;
 mod line;
 mod making;
 mod misuse;
@@ -25,13 +27,15 @@ mod output;
 mod piece;
 mod plan;
 mod running;
+mod start;
 mod subcommands;
 mod unpacking;
 
-pub use ending::{fault_text, status};
+pub use ending::{end, fault_text, status};
 pub use fault::{Memory, ToolFault};
 pub use line::command_of;
 pub use misuse::Usage;
 pub use orders::Command;
 pub use running::run;
+pub use start::program;
 pub use subcommands::tool_command;

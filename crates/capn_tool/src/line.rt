@@ -1,9 +1,11 @@
 //! What the words of the command line tell the tool to do.
 
-ghost use Rattle.std.specs.Prelude.{IfOk, IfSome, Some, map};
-ghost use Rattle.clap.specs.Words.{found_of, rows_of, subcommand_of};
+ghost use Rattle.std.specs.Prelude.{◌≡◌, ℕ, ◌<◌, ◌^◌, true, IfOk, IfSome, IsSome, Some, map};
+ghost use Rattle.clap.specs.Words.{found_of, rows_of, subcommand_of, takes};
+ghost use Rattle.capn_walk.specs.Limits.{Bounds};
 ghost use Rattle.capn_tool.specs.Line.{tool_line};
 ghost use Rattle.capn_tool.specs.Meaning.{Means, FormIs, TariffIs, LimitsAre, NumberIs, UnpackedIs};
+ghost use Rattle.capn_tool.specs.Misuse.{Orders};
 
 use crate::help;
 use crate::misuse::Usage;
@@ -13,6 +15,7 @@ use capn_canon::Form;
 use capn_stream::MOST_TABLE_WORDS;
 use capn_value::Tariff;
 use capn_walk::Limits;
+use capn_words::MOST_MESSAGE_WORDS;
 use clap::ArgMatches;
 use clap::error::ErrorKind;
 use std::alloc::Global;
@@ -20,7 +23,8 @@ use std::convert::AsStr;
 
 /// The form that `--form` names, if it names one.
 fn form_of(matches: &ArgMatches) -> Option<Form>
-    ensures { IfSome result (λ form. FormIs (rows_of (found_of matches.now)) form) }
+    ensures named { IfSome result (λ form. FormIs (rows_of (found_of matches.now)) form) }
+    ensures served { (form : Form) → FormIs (rows_of (found_of matches.now)) form → IsSome result }
 {
     match matches.get_str("form")? {
         "stream" => Some(Form::Stream),
@@ -32,7 +36,8 @@ fn form_of(matches: &ArgMatches) -> Option<Form>
 
 /// The tariff that `--tariff` names, if it names one.
 fn tariff_of(matches: &ArgMatches) -> Option<Tariff>
-    ensures { IfSome result (λ tariff. TariffIs (rows_of (found_of matches.now)) tariff) }
+    ensures named { IfSome result (λ tariff. TariffIs (rows_of (found_of matches.now)) tariff) }
+    ensures served { (tariff : Tariff) → TariffIs (rows_of (found_of matches.now)) tariff → IsSome result }
 {
     match matches.get_str("tariff")? {
         "strict" => Some(Tariff::Strict),
@@ -43,7 +48,8 @@ fn tariff_of(matches: &ArgMatches) -> Option<Tariff>
 
 /// The number that an option has, given or usual.
 fn number_of(matches: &ArgMatches, id: &str) -> Option<u32>
-    ensures { IfSome result (λ n. NumberIs (rows_of (found_of matches.now)) id.now n) }
+    ensures read { IfSome result (λ n. NumberIs (rows_of (found_of matches.now)) id.now n) }
+    ensures served { (n : ℕ) → NumberIs (rows_of (found_of matches.now)) id.now n → n < 2 ^ 32 → IsSome result }
 {
     let number = matches.get_one::<u32>(id)?;
     Some(number)
@@ -51,7 +57,8 @@ fn number_of(matches: &ArgMatches, id: &str) -> Option<u32>
 
 /// The limits that the three number options and `--tariff` have.
 fn limits_of(matches: &ArgMatches) -> Option<Limits>
-    ensures { IfSome result (λ limits. LimitsAre (rows_of (found_of matches.now)) limits) }
+    ensures are { IfSome result (λ limits. LimitsAre (rows_of (found_of matches.now)) limits) }
+    ensures served { (limits : Bounds) → LimitsAre (rows_of (found_of matches.now)) limits → IsSome result }
 {
     let message_words = number_of(matches, "message-words")?;
     let budget = number_of(matches, "budget")?;
@@ -62,15 +69,22 @@ fn limits_of(matches: &ArgMatches) -> Option<Limits>
 
 /// The most words that may be unpacked: those of a message, and of the longest segment table.
 fn unpacked_words_of(matches: &ArgMatches) -> Option<u32>
-    ensures { IfSome result (λ most. UnpackedIs (rows_of (found_of matches.now)) most) }
+    ensures are { IfSome result (λ most. UnpackedIs (rows_of (found_of matches.now)) most) }
+    ensures served { (most : ℕ) → UnpackedIs (rows_of (found_of matches.now)) most → IsSome result }
 {
     let message_words = number_of(matches, "message-words")?;
-    message_words.checked_add(MOST_TABLE_WORDS)
+    if message_words <= MOST_MESSAGE_WORDS {
+        Some(message_words + MOST_TABLE_WORDS)
+    } else {
+        None
+    }
 }
 
 /// The command of this name with these options.
 fn order_of(name: &str, matches: &ArgMatches) -> Option<Command>
-    ensures { IfSome result (λ command. Means (Some (name.now, rows_of (found_of matches.now))) command) }
+    ensures means { IfSome result (λ command. Means (Some (name.now, rows_of (found_of matches.now))) command) }
+    ensures served { (command : Command) → Means (Some (name.now, rows_of (found_of matches.now))) command
+        → IsSome result }
 {
     match name {
         "show" => Some(Command::Show(form_of(matches)?, limits_of(matches)?)),
@@ -107,11 +121,15 @@ fn no_such_value(alloc: Global, text: &str) -> Usage {
 }
 
 /// The command that the words order, the first of them being the program's name: the subcommand's, with the form, the
-/// limits and the tariff that its options have, given or usual. A wish for help, a word, an option or a value that is not
-/// known, a number out of its range, a form or a tariff that the command does not take and want of memory are answered as
-/// `Usage`, with the text for the user.
+/// limits and the tariff that its options have, given or usual. A wish for help, a word, an option or a value that is
+/// not known, a number out of its range, a form or a tariff that the command does not take and want of memory are
+/// answered as `Usage`, with the text for the user.
 pub fn command_of<'a, S: AsStr>(alloc: Global, words: &'a [S]) -> Result<Command, Usage>
-    ensures { IfOk result (λ command. Means (subcommand_of tool_line (map S.text words.now)) command) }
+    // A command that is given is what the words mean.
+    ensures means { IfOk result (λ command. Means (subcommand_of tool_line (map S.text words.now)) command) }
+    // Where the words are taken and mean a command, that very command is given, unless memory is refused.
+    ensures only { takes tool_line (map S.text words.now) ≡ true → (command : Command)
+        → Means (subcommand_of tool_line (map S.text words.now)) command → Orders command result }
 {
     let matches = tool_command(alloc)?.try_get_matches_from(words)?;
     let order = match matches.subcommand() {

@@ -1,12 +1,11 @@
 //! Words of the command line that order nothing.
 
-ghost use Rattle.std.specs.Prelude.{◌≡◌};
+ghost use Rattle.std.specs.Prelude.{◌≡◌, ◌↔◌, IsTrue};
 ghost use Rattle.clap.specs.Words.{kind_of};
 ghost use Rattle.capn_tool.specs.Status.{usage_status_of};
 
 use clap::error::ErrorKind;
-use std::alloc::AllocError;
-use std::io::{self, Eprint, Print};
+use std::alloc::{AllocError, Allocator};
 
 /// Why the words of the command line order nothing: a wish for help, a mistake, or want of memory.
 #[derive(Drop)]
@@ -15,7 +14,7 @@ pub struct Usage {
 }
 
 impl Usage {
-    ghost use Rattle.capn_tool.specs.Misuse.{error_of};
+    ghost use Rattle.capn_tool.specs.Misuse.{WantsMemory, WishesHelp, error_of};
 
     /// The exit status: 3 for want of memory, 0 for a wish for help, 2 for any other.
     pub fn status(&self) -> u8
@@ -23,24 +22,47 @@ impl Usage {
     {
         match self.error.kind() {
             ErrorKind::OutOfMemory => 3,
-            ErrorKind::DisplayHelp | ErrorKind::DisplayVersion => 0,
+            ErrorKind::DisplayHelp => 0,
             _ => 2,
         }
     }
 
-    /// Prints the text for the user: help to standard output, any other to standard error.
-    pub fn print<R: Print + Eprint>(&self, rt: &R) -> io::Result<()> {
-        self.error.print(rt)
+    /// Whether nothing is wrong with the words, and memory was refused.
+    pub fn is_memory(&self) -> bool
+        ensures { IsTrue result ↔ WantsMemory self.now }
+    {
+        matches!(self.error.kind(), ErrorKind::OutOfMemory)
+    }
+
+    /// Whether help is wished for.
+    pub fn is_help(&self) -> bool
+        ensures { IsTrue result ↔ WishesHelp self.now }
+    {
+        matches!(self.error.kind(), ErrorKind::DisplayHelp)
+    }
+
+    /// The text for the user: help, or what is said of a mistake.
+    pub fn text<A: Allocator>(&self, alloc: A) -> Result<String<A>, AllocError> {
+        format!(in alloc; "{}", &self.error)
     }
 }
 
 impl From<clap::Error> for Usage {
+    ghost use Rattle.std.specs.Prelude.{◌≡◌};
+    ghost use Rattle.capn_tool.specs.Misuse.{error_of};
+
+    ghost from_gives = { λ error usage. error_of usage ≡ error };
+
     fn from(error: clap::Error) -> Usage {
         Usage { error }
     }
 }
 
 impl From<AllocError> for Usage {
+    ghost use Rattle.capn_tool.specs.Misuse.{WantsMemory};
+
+    ghost from_gives = { λ _ usage. WantsMemory usage };
+
     fn from(error: AllocError) -> Usage {
         Usage {
             error: error.into(),

@@ -6,6 +6,8 @@ ghost use Rattle.clap.specs.declared.builder.command.Command.TheViews.{out-Comma
 ghost use Rattle.capn_tool.specs.Line.{form_rule, words_rule, budget_rule, depth_rule, tariff_rule, message_line, unpack_line, messages_line, tool_line};
 
 use crate::help::{self, Page};
+use capn_value::{MOST_COST, MOST_HEIGHT};
+use capn_words::MOST_MESSAGE_WORDS;
 use clap::{Arg, Command};
 use std::alloc::{AllocError, Global};
 
@@ -32,7 +34,7 @@ fn words_option<'a>(alloc: Global, text: &'a str) -> Arg<'a>
         .value_name("N")
         .help(text)
         .default_value("8388608")
-        .value_parser(clap::value_parser!(u32).range(1..=268435456))
+        .value_parser(clap::value_parser!(u32).range(1..=MOST_MESSAGE_WORDS as i64))
 }
 
 /// `--budget`.
@@ -45,7 +47,7 @@ fn budget_option<'a>(alloc: Global) -> Arg<'a>
         .value_name("N")
         .help(help::BUDGET)
         .default_value("8388608")
-        .value_parser(clap::value_parser!(u32).range(0..=268435456))
+        .value_parser(clap::value_parser!(u32).range(0..=MOST_COST as i64))
 }
 
 /// `--depth`.
@@ -58,7 +60,7 @@ fn depth_option<'a>(alloc: Global) -> Arg<'a>
         .value_name("N")
         .help(help::DEPTH)
         .default_value("64")
-        .value_parser(clap::value_parser!(u32).range(1..=256))
+        .value_parser(clap::value_parser!(u32).range(1..=MOST_HEIGHT as i64))
 }
 
 /// `--tariff`. It takes any text here, as `--form` does.

@@ -17,6 +17,8 @@ mod making;
 #[cfg(test)]
 mod pieces;
 #[cfg(test)]
+mod programs;
+#[cfg(test)]
 mod surveys;
 #[cfg(test)]
 mod texts;

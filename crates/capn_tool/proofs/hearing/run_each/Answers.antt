@@ -1,10 +1,8 @@
-use Rattle.std.proofs.Common.{◌≡◌, ◌-◌, ◌∙◌, ◌++◌, false, take, drop, length, length-take, List, ℕ, subst, ap, sym, arith, Ok, Err, Result}
+use Rattle.std.proofs.Common.{◌∙◌, drop, length-take, ℕ, subst, arith}
 use Rattle.std.proofs.lemmas.Grind.{common_steps}
-use Rattle.std.proofs.lemmas.List.{take-append-le}
 use Rattle.std.proofs.lemmas.Result.{err_from_is_err_and}
-use Rattle.capn_words.specs.Watching.{has_failed}
 use Rattle.capn_stream.specs.Framing.{IsUnfinished}
-use Rattle.capn_tool.specs.Heard.{EndsInput, Stops}
+use Rattle.capn_tool.specs.Heard.{EndsInput}
 use Rattle.capn_tool.proofs.HeardRun.{hears_more, runs_end, runs_long, runs_stopped, runs_unread}
 use Rattle.capn_tool.proofs.hearing.run_each.Goals as goal
 

@@ -1,4 +1,4 @@
-use Rattle.std.proofs.Common.{◌≡◌, ◌-◌, length, take, drop, ℕ, subst, ◌∙◌, arith, length-drop, length-take}
+use Rattle.std.proofs.Common.{◌-◌, length, drop, ℕ, subst, ◌∙◌, arith, length-drop, length-take}
 use Rattle.std.proofs.lemmas.Result.{err_from_is_err_and}
 use Rattle.capn_stream.specs.Framing.{IsUnfinished}
 use Rattle.capn_tool.proofs.HeardNext.{served_more, served_stop}

@@ -1,4 +1,4 @@
-use Rattle.std.proofs.Common.{◌≡◌, Err, inl}
+use Rattle.std.proofs.Common.{inl}
 use Rattle.std.proofs.lemmas.Result.{err_from_is_err_and}
 use Rattle.capn_tool.proofs.HeardNext.{next_none, next_refused, next_some, next_stopped, next_whole}
 use Rattle.capn_tool.proofs.hearing.serve_next.Goals as goal

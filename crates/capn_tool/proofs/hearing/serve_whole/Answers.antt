@@ -1,4 +1,4 @@
-use Rattle.std.proofs.Common.{◌≡◌, ◌-◌, ◌+◌, length, take, drop, ℕ, arith, length-drop, length-take}
+use Rattle.std.proofs.Common.{◌-◌, length, drop, arith, length-drop, length-take}
 use Rattle.std.proofs.lemmas.Result.{err_from_is_err_and}
 use Rattle.capn_tool.proofs.HeardNext.{whole_more, whole_moves, whole_stop}
 use Rattle.capn_tool.proofs.hearing.serve_whole.Goals as goal

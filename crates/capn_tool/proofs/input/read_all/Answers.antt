@@ -1,4 +1,4 @@
-use Rattle.std.proofs.Common.{◌≡◌, ◌≤◌, ◌<◌, ◌^◌, ◌+◌, length, length-take, arith, is_ok, true}
+use Rattle.std.proofs.Common.{◌≡◌, ◌≤◌, ◌^◌, ◌+◌, length-take, arith, is_ok, true}
 use Rattle.capn_tool.proofs.ReadMore.{read_more, read_end, read_past_kept, is_ok_from}
 use Rattle.capn_tool.proofs.input.read_all.Goals as goal
 

@@ -1,22 +1,67 @@
-use Rattle.std.proofs.Common.{◌≡◌, map, List, ℕ, Option, Some, sym, ap, subst, ◌∙◌}
-use Rattle.clap.specs.Words.{App, Row, Text, is_simple, subcommand_of}
-use Rattle.capn_tool.specs.Line.{tool_line}
+use Rattle.std.proofs.Common.{◌≡◌, map, List, Option, Some, None, IsSome, Result, Ok, Err, IsErr, IsErrAnd, sym, ap, subst, ◌∙◌}
+use Rattle.clap.specs.Words.{App, Row, Text, is_simple, subcommand_of, takes}
+use Rattle.clap.specs.Words.{kind_of}
+use Rattle.clap.specs.declared.error.Error.{Error}
+use Rattle.clap.specs.declared.error.ErrorKind.TheVariants as kinds
+use Rattle.capn_tool.specs.declared.misuse.Usage.{Usage}
+use Rattle.capn_tool.specs.declared.orders.Command.{Command}
 use Rattle.capn_tool.specs.Meaning.{Means}
-use Rattle.capn_tool.proofs.Entered.{entered}
+use Rattle.capn_tool.specs.Misuse.{Orders, error_of}
+use Rattle.capn_tool.proofs.OneMeaning.{means_one}
+use Rattle.capn_tool.proofs.Entered.{entered, not_entered}
 use Rattle.capn_tool.proofs.line.command_of.Goals.{in-Some, in-None}
 use Rattle.capn_tool.proofs.line.command_of.Goals as goal
 
-pub returns-in-Some-order : goal.returns-in-Some-order
-returns-in-Some-order g c =
+pub returns-in-Some-order-clause-means : goal.returns-in-Some-order-clause-means
+returns-in-Some-order-clause-means g c =
     let words = map g.S.AsStr.text c.args.words.now in
     let line = c.in_ok-tool_command.ensures in
     let rows = (c.in_ok-matches.ensures.matches (ap is_simple line)).1 in
     elim c.match-subcommand.branch [
       | in-Some w ↦
           let o = sym w.order-is ∙ c.in-Some-order.is in
-          let means = rw o at w.order_of-order.ensures in
+          let means = rw o at w.order_of-order.ensures.means in
           let of_line = sym (ap (λ (a : App). subcommand_of a words) line) ∙ sym rows in
           let is = entered _ _ _ _ c.subcommand.result _ _ w.in-Some.is c.subcommand.ensures.name c.subcommand.ensures.rows in
           subst (λ (s : Option (Text × List Row)). Means s c.in-Some-order.command) (sym (of_line ∙ is)) means
       | in-None w ↦ absurd (let o = sym w.order-is ∙ c.in-Some-order.is in cc)
+    ]
+
+pub returns-in-Some-order-clause-only : goal.returns-in-Some-order-clause-only
+returns-in-Some-order-clause-only g c taken command means =
+    means_one _ c.in-Some-order.command command (returns-in-Some-order-clause-means g c) means
+
+-- an error of clap that is want of memory is told as that
+told_memory : (command : Command) (e : Error) (r : Result Command Usage) → kind_of e ≡ kinds.OutOfMemory
+    → IsErr r × IsErrAnd r (λ usage. error_of usage ≡ e) → Orders command r
+told_memory command e (Ok given) memory (is_err, is) = absurd cc
+told_memory command e (Err usage) memory (is_err, is) = ap kind_of is ∙ memory
+
+pub returns-in_err-matches-clause-only : goal.returns-in_err-matches-clause-only
+returns-in_err-matches-clause-only g c taken command means =
+    let line = c.in_ok-tool_command.ensures in
+    let words = map g.S.AsStr.text c.args.words.now in
+    told_memory command c.in_err-matches.field-0.0 _ (c.in_err-matches.ensures.passes (ap (λ (a : App). takes a words) line ∙ taken))
+    c.from_residual-in_err-matches.ensures
+
+-- a command that is there is not missing
+not_missing : {A : Type 0} (order result : Option A) → order ≡ None → order ≡ result → IsSome result → ⊥
+not_missing order None none is some = cc
+not_missing order (Some x) none is some = cc
+
+pub returns-clause-only : goal.returns-clause-only
+returns-clause-only g c taken command means =
+    let words = map g.S.AsStr.text c.args.words.now in
+    let line = c.in_ok-tool_command.ensures in
+    let rows = (c.in_ok-matches.ensures.matches (ap is_simple line)).1 in
+    let of_line = ap (λ (a : App). subcommand_of a words) (sym line) in
+    elim c.match-subcommand.branch [
+      | in-Some w ↦
+          let is = entered _ _ _ _ c.subcommand.result _ _ w.in-Some.is c.subcommand.ensures.name c.subcommand.ensures.rows in
+          let said = subst (λ (s : Option (Text × List Row)). Means s command) (of_line ∙ (sym rows ∙ is)) means in
+          absurd (not_missing _ _ c.in-None-order.is w.order-is (w.order_of-order.ensures.served command said))
+      | in-None w ↦
+          let is = not_entered _ _ _ c.subcommand.result _ w.in-None.is c.subcommand.ensures.rows in
+          let said = subst (λ (s : Option (Text × List Row)). Means s command) (of_line ∙ (sym rows ∙ is)) means in
+          absurd said
     ]

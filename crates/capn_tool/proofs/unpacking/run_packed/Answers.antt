@@ -1,8 +1,7 @@
-use Rattle.std.proofs.Common.{inl, refl, ◌≡◌, ◌-◌, ◌∙◌, ◌++◌, false, take, drop, length, length-take, List, ℕ, subst, ap, sym, arith, Ok, Err, Result}
+use Rattle.std.proofs.Common.{inl, refl, ◌∙◌, drop, length-take, List, ℕ, subst, ap, sym, arith}
 use Rattle.std.proofs.lemmas.Grind.{common_steps}
-use Rattle.std.proofs.lemmas.List.{take-append-le}
 use Rattle.std.proofs.lemmas.Result.{err_from_is_err_and}
-use Rattle.capn_words.specs.Watching.{has_failed, inner_of}
+use Rattle.capn_words.specs.Watching.{inner_of}
 use Rattle.capn_stream.specs.Framing.{Framing, IsUnfinished}
 use Rattle.capn_tool.specs.HeardPacked.{EndsPacked}
 use Rattle.capn_tool.proofs.PackedRun.{packed_begin, packed_end, packed_hears, packed_long, packed_stopped, packed_unread}

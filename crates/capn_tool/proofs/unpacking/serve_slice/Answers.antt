@@ -1,4 +1,3 @@
-use Rattle.std.proofs.Common.{◌++◌}
 use Rattle.capn_tool.proofs.PackedMore.{packed_memory}
 use Rattle.capn_tool.proofs.unpacking.serve_slice.Goals as goal
 

@@ -1,4 +1,4 @@
-use Rattle.std.proofs.Common.{◌≡◌, ℕ, subst, refl, ◌∙◌, arith}
+use Rattle.std.proofs.Common.{ℕ, subst, refl, ◌∙◌, arith}
 use Rattle.std.proofs.lemmas.Result.{err_from_is_err_and}
 use Rattle.capn_stream.specs.Framing.{IsUnfinished}
 use Rattle.capn_tool.proofs.PackedMore.{packed_none, slice_more, slice_stop}

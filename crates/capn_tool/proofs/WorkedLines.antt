@@ -1,0 +1,26 @@
+-- Worked examples: words that are taken, and what they mean.
+use Rattle.std.proofs.Common.{◌≡◌, List, ℕ, refl, true, codes, [], ◌∷◌}
+use Rattle.clap.specs.Words.{subcommand_of, takes}
+use Rattle.clap.specs.Takes.{walk_passes}
+use Rattle.clap.specs.Walk.{walked}
+use Rattle.capn_tool.specs.Line.{tool_line}
+use Rattle.capn_tool.specs.Meaning.{Means}
+use Rattle.capn_tool.specs.declared.orders.Command.TheVariants as commands
+
+abbrev pack_words : List (List ℕ)
+pack_words = codes "capn" ∷ codes "pack" ∷ []
+
+pack_taken : takes tool_line pack_words ≡ true
+unfolding walk_passes walked
+pack_taken = refl
+
+pack_means : Means (subcommand_of tool_line pack_words) commands.Pack
+unfolding walked
+pack_means = refl
+
+abbrev check_words : List (List ℕ)
+check_words = codes "capn" ∷ codes "check" ∷ codes "--form" ∷ codes "bare" ∷ codes "--depth=2" ∷ []
+
+check_taken : takes tool_line check_words ≡ true
+unfolding walk_passes walked
+check_taken = refl

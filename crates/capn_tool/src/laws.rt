@@ -1,0 +1,8 @@
+//! The laws of the command line, as functions that do nothing.
+
+ghost use Rattle.capn_tool.specs.Meaning.{MeansOne};
+
+/// A subcommand with the values of its options means one command at most.
+pub fn meaning()
+    ensures { MeansOne }
+{}

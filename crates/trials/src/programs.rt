@@ -1,0 +1,144 @@
+//! The program over readers and writers in memory: its status, and what it writes where.
+
+use capn_tool::program;
+use capn_words::Watched;
+use std::alloc::Global;
+use std::io::{self, Error, ErrorKind, Write};
+use std::process::Abort;
+
+/// A writer that takes every byte, or fails at the first, or fails at the flush.
+#[derive(Drop)]
+struct Page {
+    bytes: Vec<u8>,
+    takes: bool,
+    flushes: bool,
+}
+
+impl Write for Page {
+    fn write(&mut self, buf: &[u8]) -> io::Result<usize> {
+        if !self.takes {
+            return Err(Error::from(ErrorKind::Other));
+        }
+        self.bytes.extend_from_slice(buf)?;
+        Ok(buf.len())
+    }
+
+    fn flush(&mut self) -> io::Result<()> {
+        if !self.flushes {
+            return Err(Error::from(ErrorKind::Other));
+        }
+        Ok(())
+    }
+}
+
+/// A page that has nothing on it.
+fn blank(alloc: Global, takes: bool, flushes: bool) -> Page {
+    Page {
+        bytes: Vec::new(alloc),
+        takes,
+        flushes,
+    }
+}
+
+/// What the program ends with, writes and tells of errors, for these words and this input, over such an output.
+fn ended(alloc: Global, words: &[&str], input: &[u8], output: Page) -> (u8, Vec<u8>, Vec<u8>) {
+    let mut reader = Watched::new(input);
+    let mut errors = Watched::new(blank(alloc, true, true));
+    let (code, written) = program(alloc, words, &mut reader, output, &mut errors);
+    (code, written.bytes, errors.into_inner().bytes)
+}
+
+/// A stream of one message: a struct of one word.
+const STREAM: [u8; 24] = [
+    0, 0, 0, 0, 2, 0, 0, 0, 0, 0, 0, 0, 1, 0, 0, 0, 5, 0, 0, 0, 0, 0, 0, 0,
+];
+
+/// The line of its price.
+const PRICE: &[u8] = b"ok paid 2 visits 1\n";
+
+/// The line of an output that failed.
+const FAILED: &[u8] = b"capn: input or output failed\n";
+
+/// `check` of an input ends with this status, writes this and tells this.
+fn expect_check(
+    rt: &impl Abort,
+    alloc: Global,
+    input: &[u8],
+    output: Page,
+    want: (u8, &[u8], &[u8]),
+) {
+    let (code, written, told) = ended(alloc, &["capn", "check"], input, output);
+    assert_eq!(rt; code, want.0);
+    assert_eq!(rt; written.as_slice(), want.1);
+    assert_eq!(rt; told.as_slice(), want.2);
+}
+
+#[test]
+fn each_status_of_a_run(rt: HostRuntime) {
+    let alloc = rt.alloc();
+    expect_check(
+        &rt,
+        alloc,
+        &STREAM,
+        blank(alloc, true, true),
+        (0, PRICE, b""),
+    );
+    let cut = b"capn: frame: Cut\n";
+    expect_check(
+        &rt,
+        alloc,
+        &STREAM[..9],
+        blank(alloc, true, true),
+        (1, b"", cut),
+    );
+    expect_check(
+        &rt,
+        alloc,
+        &STREAM,
+        blank(alloc, false, true),
+        (3, b"", FAILED),
+    );
+    expect_check(
+        &rt,
+        alloc,
+        &STREAM,
+        blank(alloc, true, false),
+        (3, PRICE, FAILED),
+    );
+    expect_check(
+        &rt,
+        alloc,
+        &STREAM[..9],
+        blank(alloc, true, false),
+        (1, b"", cut),
+    );
+}
+
+#[test]
+fn mistakes_are_told_as_errors(rt: HostRuntime) {
+    let alloc = rt.alloc();
+    let words = ["capn", "hash", "--tariff", "cheap"];
+    let (code, written, told) = ended(alloc, &words, &STREAM, blank(alloc, true, true));
+    assert_eq!(rt; code, 2);
+    assert!(rt; written.is_empty());
+    assert!(rt;
+        told.as_slice()
+            .starts_with(b"error: --tariff takes strict or plain\n")
+    );
+}
+
+#[test]
+fn help_is_output(rt: HostRuntime) {
+    let alloc = rt.alloc();
+    let words = ["capn", "pack", "--help"];
+    let (code, written, told) = ended(alloc, &words, &STREAM, blank(alloc, true, true));
+    assert_eq!(rt; code, 0);
+    assert!(rt; written.as_slice().starts_with(b"capn 0.1.0: "));
+    assert!(rt; told.is_empty());
+    let (unwritten, _, line) = ended(alloc, &words, &STREAM, blank(alloc, false, true));
+    assert_eq!(rt; unwritten, 3);
+    assert_eq!(rt; line.as_slice(), FAILED);
+    let (unflushed, _, again) = ended(alloc, &words, &STREAM, blank(alloc, true, false));
+    assert_eq!(rt; unflushed, 3);
+    assert_eq!(rt; again.as_slice(), FAILED);
+}
