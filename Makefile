@@ -18,7 +18,8 @@ run: program
 	@echo "in:"; od -An -v -tx1 -w8 $(PROGRAM)/stdin
 	@echo "out:"; $(PROGRAM)/out/capn $$(cat $(PROGRAM)/args) < $(PROGRAM)/stdin | od -An -v -tx1 -w8
 
-# The whole gate: no crate reaches into another one's proofs, what `rt ci` tries, and the library for C with its examples.
+# The whole gate: no crate reaches into another one's proofs, what `rt ci` tries, and the library for C with its
+# examples.
 test:
 	.ci/borders
 	rt ci

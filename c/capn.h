@@ -97,15 +97,15 @@ enum {
     CAPN_CAPABILITY = 80 /* at: the index of the first in preorder */
 };
 
-/* The canonical bytes of one message. With a room of 0 it lays nothing, and answers CAPN_NO_ROOM with a `length` that is
- * enough, 8 * (paid + 1), or the refusal: the cost of a check. With any other room that is too small it answers
- * CAPN_NO_ROOM with the exact length. A buffer as long as the unpacked message is mostly enough; always, where no two
- * pointers lead to one object. CAPN_TRAILING tells where the first of several messages ends: call again with that size. */
+/* The canonical bytes of one message. With a room of 0 it lays nothing, and answers CAPN_NO_ROOM with a `length` that
+ * is enough, 8 * (paid + 1), or else the refusal: it costs what capn_check costs. With any other room that is too small
+ * it answers CAPN_NO_ROOM with the exact length. CAPN_TRAILING tells where the first of several messages ends: call
+ * again with that size. */
 capn_status capn_canonical(uint32_t form, const uint8_t *bytes, size_t size, const capn_limits *limits, uint8_t *out,
                            size_t room, capn_report *report);
 
-/* Whether bytes, read bare, are the canonical bytes of their value: CAPN_OK, CAPN_NOT_CANONICAL, or a refusal. Takes memory
- * only for a depth above 64. */
+/* Whether bytes, read bare, are the canonical bytes of their value: CAPN_OK, CAPN_NOT_CANONICAL, or a refusal. It takes
+ * memory only for a depth above 64. */
 capn_status capn_is_canonical(const uint8_t *bytes, size_t size, const capn_limits *limits, capn_report *report);
 
 /* The SHA-256 of the canonical bytes of one message. */

@@ -1,6 +1,7 @@
 """Cap'n Proto messages by the proved library, over ctypes: canonical, is_canonical, digest, check, pack, unpack, each.
 
-Run as a program, it writes the canonical bytes of the message on standard input. CAPN_LIBRARY names the shared library."""
+Run as a program, it writes the canonical bytes of the message on standard input. CAPN_LIBRARY names the shared
+library."""
 import ctypes
 import os
 import sys

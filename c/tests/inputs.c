@@ -36,7 +36,8 @@ static void nothing(void) {
 }
 
 static void ranges(void) {
-    const capn_limits bad[] = {{0, 1, 1, 0}, {(1u << 28) + 1, 1, 1, 0}, {1, (1u << 28) + 1, 1, 0}, {1, 1, 0, 0}, {1, 1, 257, 9}};
+    const capn_limits bad[] = {
+        {0, 1, 1, 0}, {(1u << 28) + 1, 1, 1, 0}, {1, (1u << 28) + 1, 1, 0}, {1, 1, 0, 0}, {1, 1, 257, 9}};
     const capn_limits good[] = {{1, 0, 1, 1}, {1u << 28, 1u << 28, 256, 0}};
     const uint32_t forms[] = {0, 1, 2, 3, 4, UINT32_MAX}, tariffs[] = {2, 3, UINT32_MAX};
     capn_report r;
@@ -50,7 +51,8 @@ static void ranges(void) {
             want("hash, bad limits", capn_hash(forms[f], message, 32, &bad[l], digest, &r), status);
             want("check, bad limits", capn_check(forms[f], message, 32, &bad[l], &r), status);
         }
-    for (size_t l = 0; l < 5; l++) want("is_canonical, bad limits", capn_is_canonical(message, 32, &bad[l], &r), CAPN_BAD_LIMITS);
+    for (size_t l = 0; l < 5; l++)
+        want("is_canonical, bad limits", capn_is_canonical(message, 32, &bad[l], &r), CAPN_BAD_LIMITS);
     for (size_t t = 0; t < 3; t++) {
         capn_limits limits = usual;
         limits.tariff = tariffs[t];
@@ -82,7 +84,8 @@ static void rooms(void) {
 
 static void announced(void) {
     /* One segment of 2^28 words announced in 8 bytes; 2^32 segments; as many segments as are allowed, and one more. */
-    const uint8_t words[8] = {0, 0, 0, 0, 0, 0, 0, 0x10}, more[8] = {0, 0, 0, 0, 1, 0, 0, 0x10}, all[8] = {255, 255, 255, 255};
+    const uint8_t words[8] = {0, 0, 0, 0, 0, 0, 0, 0x10}, more[8] = {0, 0, 0, 0, 1, 0, 0, 0x10};
+    const uint8_t all[8] = {255, 255, 255, 255};
     const uint8_t most[8] = {0xff, 0x0f, 0, 0}, above[8] = {0, 0x10, 0, 0};
     const capn_limits greatest = {1u << 28, 1u << 28, 256, CAPN_PLAIN};
     capn_report r;
@@ -102,9 +105,10 @@ static void announced(void) {
 }
 
 static void hostile(void) {
-    /* A struct whose one pointer leads to itself, and lists of two pointers to themselves: depth and budget end both. */
+    /* A struct whose one pointer leads to itself, and a list of two pointers to itself: depth and budget end both. */
     const uint8_t self[8] = {0xfc, 0xff, 0xff, 0xff, 0, 0, 1, 0};
-    const uint8_t twice[24] = {1, 0, 0, 0, 22, 0, 0, 0, 0xfd, 0xff, 0xff, 0xff, 22, 0, 0, 0, 0xf9, 0xff, 0xff, 0xff, 22, 0, 0, 0};
+    const uint8_t twice[24] = {1,    0,    0,  0, 0x16, 0,    0,    0,    0xfd, 0xff, 0xff, 0xff,
+                               0x16, 0, 0, 0, 0xf9, 0xff, 0xff, 0xff, 0x16, 0,    0,    0};
     capn_report r;
     uint8_t digest[32];
     memset(digest, 0xAA, 32);
@@ -126,7 +130,8 @@ static void hostile(void) {
             for (uint32_t form = 0; form < 3; form++) {
                 uint32_t room = capn_canonical(form, bytes, size, &usual, out, 8, &r);
                 uint32_t check = capn_check(form, bytes, size, &usual, &r);
-                uint32_t agree = room == check || (check == CAPN_OK && (room == CAPN_NO_ROOM || room == CAPN_CAPABILITY));
+                uint32_t accepted = room == CAPN_NO_ROOM || room == CAPN_CAPABILITY;
+                uint32_t agree = room == check || (check == CAPN_OK && accepted);
                 want("canonical and check", agree, 1);
             }
             capn_is_canonical(bytes, size, &usual, &r);

@@ -1,5 +1,5 @@
-/* Each allocation of each call refused in turn: CAPN_MEMORY, the buffer untouched, every other field of the report 0, and
- * nothing left. Link with -Wl,--wrap=malloc,--wrap=realloc,--wrap=free. */
+/* Each allocation of each call refused in turn: CAPN_MEMORY, the buffer untouched, no number in the report but what was
+ * paid, and nothing left. Link with -Wl,--wrap=malloc,--wrap=realloc,--wrap=free. */
 #include "capn.h"
 #include <stdio.h>
 #include <stdlib.h>
@@ -40,8 +40,8 @@ static uint8_t deep[8 * (2 * DEPTH)], framed[sizeof deep + 16], text[ROOM], out[
 int main(void) {
     capn_report report;
     capn_limits limits = {1u << 20, 1u << 20, 256, CAPN_STRICT};
-    /* Structs of two pointers, the second one null, 200 deep, with a number at the end; the same framed in two segments,
-     * the second one empty; and packed. */
+    /* Structs of two pointers, the second one null, 200 deep, with a number at the end; the same framed in two
+     * segments, the second one empty; and packed. */
     deep[6] = 2;
     for (size_t i = 0; i + 1 < DEPTH; i++) {
         deep[8 * (1 + 2 * i)] = 4;
@@ -80,9 +80,15 @@ int main(void) {
             count++;
             for (size_t i = 0; i < ROOM; i++)
                 if (out[i] != 0xAA) { failed++; printf("memory: call %d writes\n", call); break; }
-            if (report.length | report.at | report.segment | report.word) { failed++; printf("memory: call %d tells\n", call); }
+            if (report.length | report.at | report.segment | report.word) {
+                failed++;
+                printf("memory: call %d tells\n", call);
+            }
         }
-        if (status != CAPN_OK && status != CAPN_NO_ROOM && status != CAPN_NOT_CANONICAL) { failed++; printf("memory: call %d ends with status %u\n", call, status); }
+        if (status != CAPN_OK && status != CAPN_NO_ROOM && status != CAPN_NOT_CANONICAL) {
+            failed++;
+            printf("memory: call %d ends with status %u\n", call, status);
+        }
         printf("memory: call %d: refused %d times\n", call, count);
     }
     return failed != 0;

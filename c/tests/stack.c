@@ -70,11 +70,19 @@ int main(void) {
                 pthread_join(thread, NULL);
                 size_t used = ROOM;
                 for (size_t i = 0; i < ROOM && stack[i] == 0x5a; i++) used--;
-                if (status != CAPN_OK && status != CAPN_NOT_CANONICAL) { printf("call %d depth %u: status %u\n", call, depth, status); return 4; }
+                if (status != CAPN_OK && status != CAPN_NOT_CANONICAL) {
+                    printf("stack: call %d at depth %u: status %u\n", call, depth, status);
+                    return 4;
+                }
                 if (used > most[d]) most[d] = used;
                 free(stack);
             }
         }
-    for (int d = 0; d < 4; d++) printf("depth %u: at most %zu bytes of stack\n", depths[d], most[d]);
-    return 0;
+    int failed = 0;
+    for (int d = 0; d < 4; d++) {
+        size_t stated = 16384 + 256 * (size_t)depths[d];
+        printf("stack: at most %zu bytes at depth %u, of %zu that are stated\n", most[d], depths[d], stated);
+        failed |= most[d] > stated;
+    }
+    return failed;
 }

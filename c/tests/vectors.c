@@ -32,7 +32,8 @@ static void refusal(capn_status status, const capn_report *r, int of_packing) {
     else if (status == CAPN_BARE_TOO_LONG) printf("bare: TooLong(%llu)", at);
     else if (status == CAPN_PACKED_CUT) printf("%sCut at %llu", packed, at);
     else if (status == CAPN_PACKED_TOO_LONG) printf("%sTooLong at %llu", packed, at);
-    else if (status == CAPN_TOO_MANY_SEGMENTS || status == CAPN_TOO_MANY_WORDS) printf("frame: %s(%llu)", frames[status - 48], at);
+    else if (status == CAPN_TOO_MANY_SEGMENTS || status == CAPN_TOO_MANY_WORDS)
+        printf("frame: %s(%llu)", frames[status - 48], at);
     else if (status == CAPN_FRAME_EMPTY || status == CAPN_FRAME_CUT) printf("frame: %s", frames[status - 48]);
     else if (status == CAPN_TRAILING) printf("trailing bytes at %llu", at);
     else if (status >= CAPN_NO_ROOT && status <= CAPN_OVER_BUDGET)
@@ -110,9 +111,10 @@ static void hashed(const struct call *call) {
     capn_status status = CAPN_OK;
     capn_report report;
     uint8_t digest[32];
-    for (size_t from = 0; status == CAPN_OK && (from < call->size || (call->form == CAPN_BARE && !lines_length)); from += taken) {
+    int is_bare = call->form == CAPN_BARE;
+    for (size_t from = 0; from < call->size || (is_bare && !lines_length); from += taken) {
         taken = call->size;
-        if (call->form == CAPN_BARE) status = capn_hash(CAPN_BARE, call->bytes, call->size, &call->limits, digest, &report);
+        if (is_bare) status = capn_hash(CAPN_BARE, call->bytes, call->size, &call->limits, digest, &report);
         else status = first_digest(call->bytes + from, call->size - from, &call->limits, digest, &taken, &report);
         if (status != CAPN_OK) break;
         for (int i = 0; i < 32; i++) lines_length += (size_t)sprintf(lines + lines_length, "%02x", digest[i]);
