@@ -29,7 +29,8 @@ IsTariff n = n ≤ 1
 
 -- the limits that numbers give
 abbrev pub bounds_of : CapnLimits → Bounds
-bounds_of c = record { message_words = c.message_words; budget = c.budget; depth = c.depth; tariff = tariff_named c.tariff }
+bounds_of c =
+    record { message_words = c.message_words; budget = c.budget; depth = c.depth; tariff = tariff_named c.tariff }
 
 -- numbers give limits, whatever the tariff
 abbrev pub GiveLimits : CapnLimits → Type 0
@@ -48,8 +49,9 @@ pub record Delivers (answer : List ℕ) (status told : ℕ) (old new : List ℕ)
   pub length_is : told ≡ length answer
   pub either : ((status ≡ 0) × IsWritten answer old new) ⊎ ((status ≡ 1) × HasNoRoom answer old new)
 
--- into a buffer of no bytes nothing is laid: the length that is told is 8 for each word paid and 8 more, which is enough;
--- into any other the answer is delivered
+-- into a buffer of no bytes nothing is laid: the length that is told is 8 for each word paid and 8 more, which is
+-- enough; into any other the answer is delivered
 pub record Serves (answer : List ℕ) (status : ℕ) (report : CapnReport) (old new : List ℕ) : Type 0 where
-  pub measured : length old ≡ 0 → (status ≡ 1) × (report.length ≡ 8 * (report.paid + 1)) × (length answer ≤ report.length)
+  pub measured : length old ≡ 0
+      → (status ≡ 1) × (report.length ≡ 8 * (report.paid + 1)) × (length answer ≤ report.length)
   pub delivered : 0 < length old → Delivers answer status report.length old new

@@ -80,9 +80,9 @@ fn lay(
 
 /// The canonical bytes of a message, into a buffer.
 ///
-/// 0: the answer stands at the start of the buffer. 1: the buffer has no room for it, and is as it was; `length` is what
-/// it needs, exactly, or where the buffer has no bytes at all, at most: the message is surveyed then, and nothing laid.
-/// 2, 3 and 4: the form, a limit or the tariff is out of its range. 8: memory was refused. Others: the refusal.
+/// 0: the answer stands at the start of the buffer. 1: the buffer has no room for it, and is as it was; `length` is
+/// what it needs, exactly; where the buffer has no bytes at all, at most: the message is surveyed then, and nothing is
+/// laid. 2, 3 and 4: the form, a limit or the tariff is out of its range. 8: memory was refused. Others: the refusal.
 #[unsafe(no_mangle)]
 pub extern "C" fn capn_canonical(
     alloc: Global,
@@ -97,7 +97,8 @@ pub extern "C" fn capn_canonical(
     ensures limits { (result ≡ 3) ↔ (IsForm form × (GiveLimits limits.now → ⊥)) }
     ensures tariff { (result ≡ 4) ↔ (IsForm form × GiveLimits limits.now × (IsTariff limits.now.tariff → ⊥)) }
     // The answer: the canonical bytes of the one value that the bytes denote, and what the walk pays.
-    ensures found { result ≤ 1 → (text : List ℕ) × Answers (form_named form) bytes.now (bounds_of limits.now) text report.new.paid
+    ensures found { result ≤ 1 → (text : List ℕ)
+        × Answers (form_named form) bytes.now (bounds_of limits.now) text report.new.paid
         × Serves text result report.new out.old out.new }
     // A value without capabilities is answered, unless memory runs out.
     ensures only { IsForm form → GiveLimits limits.now → IsTariff limits.now.tariff → (v : Value)
@@ -115,8 +116,8 @@ pub extern "C" fn capn_canonical(
     ensures short { result ≤ 1 → report.new.length ≤ 8 * (report.new.paid + 1) }
     // Where nothing is answered, the buffer is as it was.
     ensures kept { result ≢ 0 → out.new ≡ out.old }
-    // Read bare under the same limits, the answer denotes the trimmed value, which is the same value, and pays exactly its
-    // cost; its canonical bytes are the answer again; and a second value has these exactly if it is the same value.
+    // Read bare under the same limits, the answer denotes the trimmed value, which is the same value, and pays exactly
+    // its cost; its canonical bytes are the answer again; and a second value has these exactly if it is the same value.
     ensures canonical { result ≡ 0 → (v : Value) → Denotes (form_named form) bytes.now (bounds_of limits.now) v
         → IsCanonicalForm (take report.new.length out.new) (bounds_of limits.now) v }
 {

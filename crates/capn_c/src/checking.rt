@@ -3,7 +3,7 @@
 ghost use Rattle.std.specs.Prelude.{IsTrue, ◌≡◌, ◌⊎◌, ◌↔◌, ◌≤◌};
 ghost use Rattle.capn_value.specs.Tree.{Tree as Value};
 ghost use Rattle.capn_walk.specs.Denotes.{IsBounded};
-ghost use Rattle.capn_walk.specs.declared.surveyed.Surveyed.{Surveyed as Surveys_told};
+ghost use Rattle.capn_walk.specs.declared.surveyed.Surveyed.{Surveyed as Survey};
 ghost use Rattle.capn_canon.specs.Denotes.{Denotes};
 ghost use Rattle.capn_canon.specs.Refused.{IsUnacceptedIn};
 ghost use Rattle.capn_canon.specs.Surveys.{Surveys};
@@ -21,7 +21,7 @@ use std::alloc::Global;
 /// What the walk of a message pays and visits.
 fn check(alloc: Global, form: Form, bytes: &[u8], limits: Limits, report: &mut CapnReport) -> u32
     ensures told { (result ≡ 0) ⊎ (8 ≤ result) }
-    ensures found { result ≡ 0 → (s : Surveys_told) × Surveys form bytes.now limits s
+    ensures found { result ≡ 0 → (s : Survey) × Surveys form bytes.now limits s
         × (report.new ≡ answered 0 s.paid s.visits) }
     ensures only { (v : Value) → Denotes form bytes.now limits v → (result ≡ 0) ⊎ (result ≡ 8) }
     ensures listed { IsTrue (is_status result) }
@@ -39,8 +39,8 @@ fn check(alloc: Global, form: Form, bytes: &[u8], limits: Limits, report: &mut C
 
 /// Whether a message is accepted within limits, and what reading it pays.
 ///
-/// 0: it is; `paid` and `visits` are those of its walk. 2, 3 and 4: the form, a limit or the tariff is out of its range.
-/// 8: memory was refused. Others: the refusal, which is never that of a capability.
+/// 0: it is; `paid` and `visits` are those of its walk. 2, 3 and 4: the form, a limit or the tariff is out of its
+/// range. 8: memory was refused. Others: the refusal, which is never that of a capability.
 #[unsafe(no_mangle)]
 pub extern "C" fn capn_check(
     alloc: Global,
@@ -53,8 +53,8 @@ pub extern "C" fn capn_check(
     ensures form { (result ≡ 2) ↔ (IsForm form → ⊥) }
     ensures limits { (result ≡ 3) ↔ (IsForm form × (GiveLimits limits.now → ⊥)) }
     ensures tariff { (result ≡ 4) ↔ (IsForm form × GiveLimits limits.now × (IsTariff limits.now.tariff → ⊥)) }
-    // The bytes are an accepted message; the report tells what its walk pays and how many visits it makes, and nothing else.
-    ensures found { result ≡ 0 → (s : Surveys_told) × Surveys (form_named form) bytes.now (bounds_of limits.now) s
+    // The bytes are an accepted message; the report tells what its walk pays, how many visits it makes, and no more.
+    ensures found { result ≡ 0 → (s : Survey) × Surveys (form_named form) bytes.now (bounds_of limits.now) s
         × (report.new ≡ answered 0 s.paid s.visits) }
     // A message that is accepted has that told, unless memory runs out.
     ensures only { IsForm form → GiveLimits limits.now → IsTariff limits.now.tariff → (v : Value)

@@ -69,7 +69,8 @@ pub extern "C" fn capn_hash(
     ensures limits { (result ≡ 3) ↔ (IsForm form × (GiveLimits limits.now → ⊥)) }
     ensures tariff { (result ≡ 4) ↔ (IsForm form × GiveLimits limits.now × (IsTariff limits.now.tariff → ⊥)) }
     // The digest is that of the canonical bytes of the one value that the bytes denote.
-    ensures found { result ≡ 0 → (text : List ℕ) × Answers (form_named form) bytes.now (bounds_of limits.now) text report.new.paid
+    ensures found { result ≡ 0 → (text : List ℕ)
+        × Answers (form_named form) bytes.now (bounds_of limits.now) text report.new.paid
         × (digest.new ≡ sha256 text) }
     // A value without capabilities has its digest answered, unless memory runs out.
     ensures only { IsForm form → GiveLimits limits.now → IsTariff limits.now.tariff → (v : Value)

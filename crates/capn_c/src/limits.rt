@@ -51,7 +51,8 @@ pub fn form_of(number: u32) -> Option<Form>
 pub fn limits_of(limits: &CapnLimits) -> Result<Limits, u32>
     ensures value { IfOk result (λ l. l ≡ bounds_of limits.now) }
     ensures ok { IfOk result (λ l. GiveLimits limits.now × IsTariff limits.now.tariff) }
-    ensures bad { IfErr result (λ s. ((s ≡ 3) × (GiveLimits limits.now → ⊥)) ⊎ ((s ≡ 4) × GiveLimits limits.now × (IsTariff limits.now.tariff → ⊥))) }
+    ensures bad { IfErr result (λ s. ((s ≡ 3) × (GiveLimits limits.now → ⊥))
+        ⊎ ((s ≡ 4) × GiveLimits limits.now × (IsTariff limits.now.tariff → ⊥))) }
 {
     let Some(strict) = Limits::new(limits.message_words, limits.budget, limits.depth) else {
         return Err(BAD_LIMITS);

@@ -17,8 +17,8 @@ use std::alloc::Global;
 
 /// The packed text of whole words, into a buffer.
 ///
-/// 0: the text stands at the start of the buffer. 1: the buffer has no room for it, and is as it was; `length` is what it
-/// needs. 8: memory was refused. 16: the bytes are not whole words; `at` is how many there are.
+/// 0: the text stands at the start of the buffer. 1: the buffer has no room for it, and is as it was; `length` is what
+/// it needs. 8: memory was refused. 16: the bytes are not whole words; `at` is how many there are.
 #[unsafe(no_mangle)]
 pub extern "C" fn capn_pack(
     alloc: Global,
@@ -61,8 +61,9 @@ pub extern "C" fn capn_pack(
 
 /// The words that a packed text packs, at most so many, into a buffer.
 ///
-/// 0: the words stand at the start of the buffer. 1: the buffer has no room for them, and is as it was; `length` is what
-/// they need. 8: memory was refused. 32 and 33: the group whose tag stands at `at` is cut, or goes over the maximum.
+/// 0: the words stand at the start of the buffer. 1: the buffer has no room for them, and is as it was; `length` is
+/// what they need. 8: memory was refused. 32 and 33: the group whose tag stands at `at` is cut, or goes over the
+/// maximum.
 #[unsafe(no_mangle)]
 pub extern "C" fn capn_unpack(
     alloc: Global,
@@ -72,7 +73,8 @@ pub extern "C" fn capn_unpack(
     report: &mut CapnReport,
 ) -> u32
     // What is answered is what the bytes pack, within the maximum: the bytes of words.
-    ensures found { result ≤ 1 → (words : List ℕ) × Packs bytes.now words × (length words ≤ 8 * max_words) × HasWords words
+    ensures found { result ≤ 1 → (words : List ℕ)
+        × Packs bytes.now words × (length words ≤ 8 * max_words) × HasWords words
         × Delivers words result report.new.length out.old out.new }
     // What they pack within the maximum is answered, unless memory runs out.
     ensures only { (words : List ℕ) → Packs bytes.now words → length words ≤ 8 * max_words
