@@ -3,6 +3,7 @@
 #include <stdio.h>
 #include <stdlib.h>
 #include <string.h>
+#include <sys/mman.h>
 
 static int failed;
 
@@ -104,6 +105,22 @@ static void announced(void) {
     want("its offset", r.at, 2);
 }
 
+/* More words than a bare message may have: refused by their number, so none is read. */
+static void too_long(void) {
+    size_t words = (1u << 28) + 2;
+    capn_report r;
+    uint8_t *bytes = mmap(NULL, 8 * words, PROT_NONE, MAP_PRIVATE | MAP_ANONYMOUS | MAP_NORESERVE, -1, 0);
+    if (bytes == MAP_FAILED) {
+        printf("inputs: without 2^28 + 2 words, which the system refuses\n");
+        return;
+    }
+    want("2^28 + 2 bare words", capn_check(CAPN_BARE, bytes, 8 * words, &usual, &r), CAPN_BARE_TOO_LONG);
+    want("their number", r.at, words);
+    want("2^28 + 2 bare words", capn_is_canonical(bytes, 8 * words, &usual, &r), CAPN_BARE_TOO_LONG);
+    want("half a word more", capn_canonical(CAPN_BARE, bytes, 8 * words - 4, &usual, NULL, 0, &r), CAPN_NOT_WHOLE);
+    munmap(bytes, 8 * words);
+}
+
 static void hostile(void) {
     /* A struct whose one pointer leads to itself, and a list of two pointers to itself: depth and budget end both. */
     const uint8_t self[8] = {0xfc, 0xff, 0xff, 0xff, 0, 0, 1, 0};
@@ -144,6 +161,7 @@ int main(void) {
     ranges();
     rooms();
     announced();
+    too_long();
     hostile();
     if (!failed) printf("inputs: as they should be\n");
     return failed != 0;
