@@ -1,7 +1,12 @@
 PREFIX ?= /usr/local
+VERSION ?= 0.1.0
 PROGRAM := crates/capn
+# The kit's folder, in whose c/liblibc_c.a the allocator's code in C stands: malloc, realloc, free.
+KIT ?= $(dir $(shell rt doc))
+# The library for C. No symbolic link may stand in it, since the gate refuses one anywhere.
+BUILD := build
 
-.PHONY: program run test bench interop install
+.PHONY: program run test bench interop library install
 
 # The program, proved and built: crates/capn/out/capn.
 program:
@@ -13,23 +18,40 @@ run: program
 	@echo "in:"; od -An -v -tx1 -w8 $(PROGRAM)/stdin
 	@echo "out:"; $(PROGRAM)/out/capn $$(cat $(PROGRAM)/args) < $(PROGRAM)/stdin | od -An -v -tx1 -w8
 
-# The whole gate: no crate reaches into another one's proofs, what `rt ci` tries, and the program that it built, once or
-# more for each exit status.
+# The whole gate: no crate reaches into another one's proofs, what `rt ci` tries, the program that it built, once or more
+# for each exit status, and the library for C with its examples.
 test:
 	.ci/borders
 	rt ci
 	.ci/statuses
+	$(MAKE) library
+	c/tests/run
 
 # The shortest times of each operation on each shape of message, in nanoseconds a byte.
 bench:
 	cd crates/bench && rt run > /dev/null && ./out/bench times
 
 # The guide's recipes, and messages that the reference implementation wrote, where its command line tool is installed.
-interop: program
+interop: program library
 	./interop/recipes
 	./interop/run
 
-# The program and its manual page.
-install: program
+# The library for C, proved: the archive and the allocator as one object, of which the names capn_* alone are visible.
+library:
+	cd crates/capn_c && rt lib > /dev/null
+	rm -rf $(BUILD) && mkdir $(BUILD)
+	cd $(BUILD) && ar x ../crates/capn_c/out/libcapn_c.a && ar x $(KIT)c/liblibc_c.a heap.pic.o
+	cd $(BUILD) && ld -r -o capn.o capn_c.o heap.pic.o && objcopy --wildcard --keep-global-symbol='capn_*' capn.o
+	cd $(BUILD) && ar rcsD libcapn.a capn.o
+	cd $(BUILD) && $(CC) -shared -o libcapn.so.1 -Wl,-soname,libcapn.so.1 -Wl,-z,defs,-z,now capn.o
+	sed 's,@PREFIX@,$(PREFIX),; s,@VERSION@,$(VERSION),' c/capn.pc.in > $(BUILD)/capn.pc
+
+# The program and its manual page; the library, its header and its pkg-config file.
+install: program library
 	install -D -m 755 $(PROGRAM)/out/capn $(DESTDIR)$(PREFIX)/bin/capn
 	install -D -m 644 docs/capn.1 $(DESTDIR)$(PREFIX)/share/man/man1/capn.1
+	install -D -m 644 c/capn.h $(DESTDIR)$(PREFIX)/include/capn.h
+	install -D -m 644 $(BUILD)/libcapn.a $(DESTDIR)$(PREFIX)/lib/libcapn.a
+	install -D -m 755 $(BUILD)/libcapn.so.1 $(DESTDIR)$(PREFIX)/lib/libcapn.so.1
+	ln -sf libcapn.so.1 $(DESTDIR)$(PREFIX)/lib/libcapn.so
+	install -D -m 644 $(BUILD)/capn.pc $(DESTDIR)$(PREFIX)/lib/pkgconfig/capn.pc

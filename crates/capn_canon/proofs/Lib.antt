@@ -1,3 +1,4 @@
+pub mod Accounted
 pub mod Answered
 pub mod OfMessages
 pub mod BareCanon

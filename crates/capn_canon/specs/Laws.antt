@@ -1,6 +1,7 @@
 -- The laws of canonical bytes.
 pub mod OneReading
 pub mod NotRefused
+pub mod NotUnaccepted
 pub mod OneRefusal
 use Rattle.std.specs.Prelude.{◌≡◌, ◌↔◌, ℕ, ◌*◌, ◌+◌, ◌≤◌, List, None, length}
 use Rattle.capn_value.specs.Tree.{Tree}

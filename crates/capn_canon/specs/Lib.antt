@@ -17,3 +17,4 @@ pub mod Bits
 pub mod Stands
 pub mod Checks
 pub mod Draft
+pub mod Surveys

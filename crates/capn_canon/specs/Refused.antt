@@ -56,3 +56,8 @@ abbrev pub IsUnaccepted : List (List ℕ) → Bounds → Refusal → Type 0
 IsUnaccepted message limits (refusals.Walk s) = walks.IsRefused message limits s.fault s.place s.paid s.visits
 IsUnaccepted message limits refusals.Memory = ⊤
 IsUnaccepted message limits _ = ⊥
+
+-- the bytes are not read, or the message that they are read as is not accepted; nothing is said of want of memory
+abbrev pub IsUnacceptedIn : Form → List ℕ → Bounds → Refusal → Type 0
+IsUnacceptedIn form bs limits (refusals.Capability k) = ⊥
+IsUnacceptedIn form bs limits r = IsRefused form bs limits r

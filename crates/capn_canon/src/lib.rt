@@ -23,6 +23,7 @@
 //! ```
 #![tactic(auto)]
 
+mod accounting;
 mod bits;
 mod canonical;
 mod checked;
@@ -48,6 +49,7 @@ mod surveying;
 mod testing;
 mod verdict;
 
+pub use accounting::account;
 pub use canonical::{Canonical, canonical_of};
 pub use checked::Checked;
 pub use form::Form;

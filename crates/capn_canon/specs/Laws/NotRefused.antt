@@ -45,7 +45,7 @@ unpacked-read bs most m r (t, h, k) (u, i, j) =
     framed-read t most m r k (subst (λ (x : List ℕ). IsMisframed x most r) same j)
 
 -- what is read isn't misread
-read-not_misread : (form : Form) (bs : List ℕ) (most : ℕ) (m : List (List ℕ)) (r : Refusal) → Reads form bs most m → IsMisread form bs most r → ⊥
+pub read-not_misread : (form : Form) (bs : List ℕ) (most : ℕ) (m : List (List ℕ)) (r : Refusal) → Reads form bs most m → IsMisread form bs most r → ⊥
 read-not_misread forms.Bare bs most m (refusals.Bare e) (ws, h, i) r = bare-read bs ws e h r
 read-not_misread forms.Bare bs most m (refusals.Packed e) h r = r
 read-not_misread forms.Bare bs most m (refusals.Frame e) h r = r

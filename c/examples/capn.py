@@ -1,0 +1,118 @@
+"""Cap'n Proto messages by the proved library, over ctypes: canonical, is_canonical, digest, check, pack, unpack, each.
+
+Run as a program, it writes the canonical bytes of the message on standard input. CAPN_LIBRARY names the shared
+library."""
+import ctypes
+import os
+import sys
+
+_lib = ctypes.CDLL(os.environ.get("CAPN_LIBRARY", "libcapn.so.1"))
+
+STREAM, PACKED, BARE = range(3)
+STRICT, PLAIN = range(2)
+OK, NO_ROOM, BAD_FORM, BAD_LIMITS, BAD_TARIFF, NOT_CANONICAL, MEMORY, TRAILING = 0, 1, 2, 3, 4, 5, 8, 52
+
+
+class Limits(ctypes.Structure):
+    _fields_ = [(name, ctypes.c_uint32) for name in ("message_words", "budget", "depth", "tariff")]
+
+
+class Report(ctypes.Structure):
+    _fields_ = [("length", ctypes.c_uint64), ("at", ctypes.c_uint64), ("paid", ctypes.c_uint32),
+                ("visits", ctypes.c_uint32), ("segment", ctypes.c_uint32), ("word", ctypes.c_uint32)]
+
+
+class Refused(ValueError):
+    """A call was refused: the status and the report of capn.h."""
+
+    def __init__(self, status, report):
+        super().__init__(f"status {status} at {report.at}, slot {report.segment}:{report.word}, paid {report.paid}")
+        self.status, self.report = status, report
+
+
+USUAL = Limits(8388608, 8388608, 64, STRICT)
+_u32, _in, _out = ctypes.c_uint32, [ctypes.c_char_p, ctypes.c_size_t], [ctypes.c_void_p, ctypes.c_size_t]
+_limits, _report = ctypes.POINTER(Limits), ctypes.POINTER(Report)
+for _name, _takes in {
+    "canonical": [_u32, *_in, _limits, *_out, _report],
+    "is_canonical": [*_in, _limits, _report],
+    "hash": [_u32, *_in, _limits, ctypes.c_void_p, _report],
+    "check": [_u32, *_in, _limits, _report],
+    "pack": [*_in, *_out, _report],
+    "unpack": [*_in, _u32, *_out, _report],
+}.items():
+    _call = getattr(_lib, "capn_" + _name)
+    _call.argtypes, _call.restype = _takes, _u32
+
+
+def _answer(call):
+    """Calls with no room, and then with the length that is told: the answer and its price."""
+    report = Report()
+    status = call(None, 0, report)
+    out = None
+    if status == NO_ROOM:
+        room = report.length
+        out = ctypes.create_string_buffer(room)
+        status = call(out, room, report)
+    if status != OK:
+        raise Refused(status, report)
+    return (ctypes.string_at(out, report.length) if out else b""), report.paid
+
+
+def canonical(message, form=STREAM, limits=USUAL):
+    """The canonical bytes of one message, and what its walk paid."""
+    return _answer(lambda out, room, report: _lib.capn_canonical(
+        form, message, len(message), limits, out, room, report))
+
+
+def is_canonical(message, limits=USUAL):
+    """Whether bytes, read bare, are the canonical bytes of their value."""
+    report = Report()
+    status = _lib.capn_is_canonical(message, len(message), limits, report)
+    if status not in (OK, NOT_CANONICAL):
+        raise Refused(status, report)
+    return status == OK
+
+
+def digest(message, form=STREAM, limits=USUAL):
+    """The SHA-256 of the canonical bytes of one message."""
+    report, out = Report(), ctypes.create_string_buffer(32)
+    status = _lib.capn_hash(form, message, len(message), limits, out, report)
+    if status != OK:
+        raise Refused(status, report)
+    return out.raw
+
+
+def check(message, form=STREAM, limits=USUAL):
+    """What the walk of one message pays, and how many visits it makes."""
+    report = Report()
+    status = _lib.capn_check(form, message, len(message), limits, report)
+    if status != OK:
+        raise Refused(status, report)
+    return report.paid, report.visits
+
+
+def pack(words):
+    """The packed text of whole words."""
+    return _answer(lambda out, room, report: _lib.capn_pack(words, len(words), out, room, report))[0]
+
+
+def unpack(text, max_words=8388608 + 2049):
+    """The words of a packed text, at most so many."""
+    return _answer(lambda out, room, report: _lib.capn_unpack(text, len(text), max_words, out, room, report))[0]
+
+
+def each(stream, limits=USUAL):
+    """Each message of a stream, as its bytes: TRAILING tells where the first one ends."""
+    while stream:
+        try:
+            check(stream, STREAM, limits)
+            end = len(stream)
+        except Refused as refused:
+            end = refused.report.at if refused.status == TRAILING else len(stream)
+        yield stream[:end]
+        stream = stream[end:]
+
+
+if __name__ == "__main__":
+    sys.stdout.buffer.write(canonical(sys.stdin.buffer.read())[0])

@@ -1,0 +1,88 @@
+/* How much stack each call takes at most: painted stacks of threads, over chains of objects as deep as a limit. */
+#include "capn.h"
+#include <pthread.h>
+#include <stdio.h>
+#include <stdlib.h>
+#include <string.h>
+
+enum { ROOM = 1 << 20 };
+static uint8_t in[8 * 4096], framed[8 * 4096 + 8], text[ROOM], out[ROOM];
+static size_t size, packed_size;
+static uint32_t depth;
+static int call;
+
+static void put(size_t at, uint32_t low, uint32_t high) {
+    for (int i = 0; i < 4; i++) {
+        in[8 * at + i] = (uint8_t)(low >> 8 * i);
+        in[8 * at + 4 + i] = (uint8_t)(high >> 8 * i);
+    }
+}
+
+static void *run(void *status) {
+    capn_limits limits = {1u << 28, 1u << 28, depth, CAPN_STRICT};
+    capn_report report;
+    uint8_t digest[32];
+    uint32_t *told = status;
+    switch (call) {
+    case 0: *told = capn_canonical(CAPN_BARE, in, size, &limits, out, ROOM, &report); break;
+    case 1: *told = capn_canonical(CAPN_PACKED, text, packed_size, &limits, out, ROOM, &report); break;
+    case 2: *told = capn_hash(CAPN_PACKED, text, packed_size, &limits, digest, &report); break;
+    case 3: *told = capn_check(CAPN_PACKED, text, packed_size, &limits, &report); break;
+    case 4: *told = capn_is_canonical(in, size, &limits, &report); break;
+    case 5: *told = capn_pack(in, size, out, ROOM, &report); break;
+    default: *told = capn_unpack(text, packed_size, 1u << 20, out, ROOM, &report); break;
+    }
+    return NULL;
+}
+
+int main(void) {
+    static const uint32_t depths[] = {1, 64, 65, 256};
+    size_t most[4] = {0};
+    for (int d = 0; d < 4; d++)
+        for (int kind = 0; kind < 3; kind++) {
+            depth = depths[d];
+            size_t at = 0;
+            put(at++, 0, 0x10000); /* a struct of one pointer */
+            for (uint32_t i = 1; i < depth; i++) {
+                if (kind == 0) put(at++, 0, 0x10000);
+                else if (kind == 1) put(at++, 1, 14); /* a list of one pointer */
+                else { put(at++, 1, 15); put(at++, 4, 0x10000); } /* a composite list of one such struct */
+            }
+            put(at++, 0, 0);
+            size = 8 * at;
+            memset(framed, 0, 8);
+            framed[4] = (uint8_t)at;
+            framed[5] = (uint8_t)(at >> 8);
+            memcpy(framed + 8, in, size);
+            capn_report report;
+            if (capn_pack(framed, size + 8, text, ROOM, &report) != CAPN_OK) return 1;
+            packed_size = report.length;
+            for (call = 0; call < 7; call++) {
+                char *stack = aligned_alloc(4096, ROOM);
+                if (!stack) return 2;
+                memset(stack, 0x5a, ROOM);
+                pthread_attr_t attributes;
+                pthread_attr_init(&attributes);
+                pthread_attr_setstack(&attributes, stack, ROOM);
+                pthread_t thread;
+                uint32_t status = 99;
+                if (pthread_create(&thread, &attributes, run, &status)) return 3;
+                pthread_join(thread, NULL);
+                size_t used = ROOM;
+                for (size_t i = 0; i < ROOM && stack[i] == 0x5a; i++) used--;
+                if (status != CAPN_OK && status != CAPN_NOT_CANONICAL) {
+                    printf("stack: call %d at depth %u: status %u\n", call, depth, status);
+                    return 4;
+                }
+                if (used > most[d]) most[d] = used;
+                free(stack);
+            }
+        }
+    int failed = 0;
+    for (int d = 0; d < 4; d++) {
+        size_t stated = 16384 + 256 * (size_t)depths[d];
+        printf("stack: at most %zu bytes at depth %u, of %zu that are stated\n", most[d], depths[d], stated);
+        failed |= most[d] > stated;
+    }
+    return failed;
+}

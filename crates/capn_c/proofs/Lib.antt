@@ -1,0 +1,3 @@
+pub mod Delivered
+pub mod Listed
+pub mod Named

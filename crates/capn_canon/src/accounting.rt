@@ -1,0 +1,119 @@
+//! A survey of a message in each form.
+
+ghost use Rattle.std.specs.Prelude.{◌≡◌, ◌≤◌, ◌+◌, ◌*◌, length, IfOk, IfErr, MatchResult};
+ghost use Rattle.capn_value.specs.Tree.{Tree as Value};
+ghost use Rattle.capn_value.specs.Caps.{first_cap};
+ghost use Rattle.capn_walk.specs.Denotes.{IsBounded};
+ghost use Rattle.capn_canon.specs.Denotes.{Denotes};
+ghost use Rattle.capn_canon.specs.Layout.{canon};
+ghost use Rattle.capn_canon.specs.Refused.{IsUnacceptedIn, IsPaidWithin};
+ghost use Rattle.capn_canon.specs.Surveys.{Surveys};
+ghost use Rattle.capn_canon.specs.declared.form.Form.TheVariants as forms;
+ghost use Rattle.capn_canon.specs.declared.refusal.Refusal.TheVariants as refusals;
+
+use crate::form::Form;
+use crate::refusal::Refusal;
+use crate::surveying::survey;
+use capn_pack::{UnpackFault, unpack};
+use capn_stream::{FrameFault, MOST_TABLE_WORDS, first};
+use capn_walk::{Limits, Surveyed};
+use capn_words::Bare;
+use std::alloc::Allocator;
+
+/// Of the words of one segment.
+fn of_bare<A: Allocator + Copy>(alloc: A, bytes: &[u8], limits: Limits) -> Result<Surveyed, Refusal>
+    ensures found { IfOk result (λ s. Surveys forms.Bare bytes.now limits s) }
+    ensures refused { IfErr result (λ e. IsUnacceptedIn forms.Bare bytes.now limits e) }
+    ensures bounded { MatchResult result (λ s. IsBounded limits.budget s.paid s.visits) (λ e. IsPaidWithin limits.budget e) }
+{
+    match Bare::new(bytes) {
+        Ok(space) => survey(alloc, &space, limits),
+        Err(fault) => Err(Refusal::Bare(fault)),
+    }
+}
+
+/// Of a frame.
+fn of_frame<A: Allocator + Copy>(
+    alloc: A,
+    bytes: &[u8],
+    limits: Limits,
+) -> Result<Surveyed, Refusal>
+    ensures found { IfOk result (λ s. Surveys forms.Stream bytes.now limits s) }
+    ensures refused { IfErr result (λ e. IsUnacceptedIn forms.Stream bytes.now limits e) }
+    ensures bounded { MatchResult result (λ s. IsBounded limits.budget s.paid s.visits) (λ e. IsPaidWithin limits.budget e) }
+{
+    match first(alloc, bytes, limits.message_words()) {
+        Ok((message, taken)) => {
+            if taken < bytes.len() {
+                return Err(Refusal::Trailing(taken as u64));
+            }
+            survey(alloc, &message, limits)
+        }
+        Err(FrameFault::Memory) => Err(Refusal::Memory),
+        Err(fault) => Err(Refusal::Frame(fault)),
+    }
+}
+
+/// Of the packed text of a frame.
+fn of_packed<A: Allocator + Copy>(
+    alloc: A,
+    bytes: &[u8],
+    limits: Limits,
+) -> Result<Surveyed, Refusal>
+    ensures found { IfOk result (λ s. Surveys forms.Packed bytes.now limits s) }
+    ensures refused { IfErr result (λ e. IsUnacceptedIn forms.Packed bytes.now limits e) }
+    ensures bounded { MatchResult result (λ s. IsBounded limits.budget s.paid s.visits) (λ e. IsPaidWithin limits.budget e) }
+{
+    match unpack(alloc, bytes, limits.message_words() + MOST_TABLE_WORDS) {
+        Ok(text) => of_frame(alloc, text.as_slice(), limits),
+        Err(UnpackFault::Memory) => Err(Refusal::Memory),
+        Err(fault) => Err(Refusal::Packed(fault)),
+    }
+}
+
+/// In the form that is named.
+fn in_form<A: Allocator + Copy>(
+    alloc: A,
+    form: Form,
+    bytes: &[u8],
+    limits: Limits,
+) -> Result<Surveyed, Refusal>
+    ensures found { IfOk result (λ s. Surveys form bytes.now limits s) }
+    ensures refused { IfErr result (λ e. IsUnacceptedIn form bytes.now limits e) }
+    ensures bounded { MatchResult result (λ s. IsBounded limits.budget s.paid s.visits) (λ e. IsPaidWithin limits.budget e) }
+{
+    match form {
+        Form::Stream => of_frame(alloc, bytes, limits),
+        Form::Packed => of_packed(alloc, bytes, limits),
+        Form::Bare => of_bare(alloc, bytes, limits),
+    }
+}
+
+/// What the walk of the message pays and visits that bytes are in a form, and its first capability, within the limits.
+///
+/// It refuses as [`crate::canonicalise`] does, but never for a capability. `Memory` comes only where a growth was
+/// refused: for the table of segments, for what is unpacked, or for a depth above 64.
+pub fn account<A: Allocator + Copy>(
+    alloc: A,
+    form: Form,
+    bytes: &[u8],
+    limits: Limits,
+) -> Result<Surveyed, Refusal>
+    // The answer: the bytes are an accepted message, of which price, visits and first capability are told.
+    ensures found { IfOk result (λ s. Surveys form bytes.now limits s) }
+    // Bytes that denote a value are answered, unless memory runs out.
+    ensures only { (v : Value) → Denotes form bytes.now limits v
+        → MatchResult result (λ s. s.capability ≡ first_cap v) (λ e. e ≡ refusals.Memory) }
+    // What each refusal means.
+    ensures refused { IfErr result (λ e. IsUnacceptedIn form bytes.now limits e) }
+    // No walk pays beyond its budget.
+    ensures bounded { MatchResult result (λ s. IsBounded limits.budget s.paid s.visits) (λ e. IsPaidWithin limits.budget e) }
+    // The canonical bytes of the value are at most 8 for each word paid, and 8 more.
+    ensures short { IfOk result (λ s. (v : Value) → Denotes form bytes.now limits v → length (canon v) ≤ 8 * (s.paid + 1)) }
+{
+    // What they promise of limits is wanted by the clause on the length.
+    let _words = limits.message_words();
+    let _budget = limits.budget();
+    let _depth = limits.depth();
+    in_form(alloc, form, bytes, limits)
+}
