@@ -19,11 +19,12 @@ run: program
 	@echo "out:"; $(PROGRAM)/out/capn $$(cat $(PROGRAM)/args) < $(PROGRAM)/stdin | od -An -v -tx1 -w8
 
 # The whole gate: no crate reaches into another one's proofs, what `rt ci` tries, the program that it built, once or more
-# for each exit status, and the library for C with its examples.
+# for each exit status and with too little memory, and the library for C with its examples.
 test:
 	.ci/borders
 	rt ci
 	.ci/statuses
+	.ci/failures
 	$(MAKE) library
 	c/tests/run
 

@@ -11,13 +11,13 @@ mod framers;
 #[cfg(test)]
 mod refused;
 #[cfg(test)]
-mod refusing;
-#[cfg(test)]
 mod short_runs;
 #[cfg(test)]
 mod short_streams;
 #[cfg(test)]
 mod short_values;
+#[cfg(test)]
+mod sizes;
 #[cfg(test)]
 mod subject;
 #[cfg(test)]

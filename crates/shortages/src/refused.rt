@@ -1,6 +1,5 @@
 //! Calls of which each growth is refused in turn.
 
-use crate::refusing::Refusing;
 use crate::short_runs::*;
 use crate::short_streams::*;
 use crate::short_values::*;
@@ -10,6 +9,7 @@ use capn_canon::{Form, Refusal, is_canonical};
 use capn_tool::Command;
 use capn_value::{copy, trim};
 use capn_walk::Fault;
+use refusing::Refusing;
 use std::alloc::Global;
 use std::process::Abort;
 use std::test::Fail;
@@ -41,7 +41,7 @@ const STREAM: [u64; 20] = [
 
 /// A call that takes memory.
 #[derive(Clone, Copy)]
-enum Call {
+pub enum Call {
     First,
     Frame,
     Feed,
@@ -65,7 +65,7 @@ enum Call {
 }
 
 /// What a call answers with an allocator.
-fn answer(of: &Subject, short: &Refusing<Global>, call: Call) -> Answer {
+pub fn answer(of: &Subject, short: &Refusing<Global>, call: Call) -> Answer {
     match call {
         Call::First => first_answer(of, short),
         Call::Frame => frame_answer(of, short),

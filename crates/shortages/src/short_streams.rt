@@ -1,10 +1,10 @@
 //! Calls on streams and packed texts, with an allocator that may refuse a growth.
 
-use crate::refusing::Refusing;
 use crate::subject::{Answer, MOST, Subject, judged, judged_message, wanting};
 use capn_pack::{PackFault, UnpackFault, Unpacker, pack, unpack};
 use capn_stream::{FrameFault, Framer, ReadFault, first, frame, read_message};
 use capn_words::Watched;
+use refusing::Refusing;
 use std::alloc::Global;
 
 /// The first message of the stream.
@@ -60,7 +60,7 @@ pub fn pack_answer(of: &Subject, short: &Refusing<Global>) -> Answer {
 
 /// The stream of its packed text.
 pub fn unpack_answer(of: &Subject, short: &Refusing<Global>) -> Answer {
-    match unpack(short, of.packed.as_slice(), 1_000) {
+    match unpack(short, of.packed.as_slice(), MOST) {
         Ok(bytes) => judged(bytes.as_slice() == of.stream),
         Err(UnpackFault::Memory) => Answer::Memory,
         Err(_) => Answer::Wrong,

@@ -1,16 +1,16 @@
 //! Calls on messages and their values, with an allocator that may refuse a growth.
 
-use crate::refusing::Refusing;
 use crate::subject::{Answer, Subject, judged, limits, wanting};
 use capn_canon::{LayoutFault, Patch, layout};
 use capn_value::{Items, Memory, Tree, same, show};
 use capn_walk::{Fault, survey, walk};
 use capn_words::Bare;
+use refusing::Refusing;
 use std::alloc::{AllocError, Global};
 
 /// The value of the message.
 pub fn walk_answer(of: &Subject, short: &Refusing<Global>) -> Answer {
-    match walk(short, &of.message, limits(64)) {
+    match walk(short, &of.message, limits(256)) {
         Ok(walked) => judged(same(walked.tree.value(), of.walked.tree.value())),
         Err(stopped) => wanting(matches!(stopped.fault, Fault::Memory)),
     }

@@ -1,11 +1,11 @@
 //! What calls that take memory are tried on, and how their answers are judged.
 
-use crate::refusing::Refusing;
 use crate::words::bytes_of;
 use capn_pack::pack;
 use capn_stream::{Framed, first, frame};
 use capn_walk::{Limits, Walked, walk};
 use capn_words::Space;
+use refusing::Refusing;
 use std::alloc::{AllocError, Global};
 use std::test::Fail;
 
@@ -53,7 +53,7 @@ pub fn subject_of(alloc: Global, stream: &[u8]) -> Result<Subject<'_>, Fail> {
     let (Ok((message, _)), Ok(packed)) = (first(alloc, stream, MOST), pack(alloc, stream)) else {
         return Err(Fail::new("no stream"));
     };
-    let Ok(walked) = walk(alloc, &message, limits(64)) else {
+    let Ok(walked) = walk(alloc, &message, limits(256)) else {
         return Err(Fail::new("no message"));
     };
     Ok(Subject {

@@ -1,0 +1,58 @@
+//! Each case with ample memory, then with each growth of its calls refused in turn, and then with its message cut.
+
+use crate::answer;
+use crate::cuts::cut_each;
+use anyhow::{Result, bail};
+use refusing::Refusing;
+use std::alloc::Global;
+
+/// Where the calls of a case take their memory. What a case itself takes, as for its text, is never refused.
+pub type Heap = Refusing<Global>;
+
+/// How the answer of a case ends whose call answered that memory is wanted. Before it stands what was told or written
+/// by then.
+pub const MEMORY: &str = "Memory";
+
+/// An answer behind its status, if it has one.
+fn behind_status(text: &str) -> &str {
+    match text.strip_prefix("status 0, ") {
+        Some(rest) => rest,
+        None => text.strip_prefix("status 1, ").unwrap_or(text),
+    }
+}
+
+/// Whether a case with a refused growth told a beginning of the answer, and then that memory is wanted.
+fn is_cut_short(told: &str, want: &str) -> bool {
+    match told.strip_suffix(MEMORY) {
+        Some(begun) => want.starts_with(begun) || behind_status(want).starts_with(begun),
+        None => false,
+    }
+}
+
+/// Refuses a growth of a call: it must be answered that memory is wanted and nothing else, and the same call afterwards,
+/// which meets no refusal, must give the answer.
+fn refuse(alloc: Global, words: &[&str], number: u64, want: &str) -> Result<()> {
+    let heap = Heap::nth(alloc, number);
+    let told = answer(alloc, &heap, words)?;
+    if !is_cut_short(told.as_str(), want) {
+        bail!("growth {number}: {told}");
+    }
+    let again = answer(alloc, &heap, words)?;
+    if again.as_str() != want {
+        bail!("after growth {number}: {again}");
+    }
+    Ok(())
+}
+
+/// What a call answers, as a line. Each of its growths is refused once, and where its message is cut it answers what is
+/// due.
+pub fn answer_each(alloc: Global, line: &str) -> Result<String> {
+    let words: Vec<&str> = line.split(' ').collect(alloc)?;
+    let ample = Heap::nth(alloc, 0);
+    let want = answer(alloc, &ample, words.as_slice())?;
+    for number in 1..=ample.count() {
+        refuse(alloc, words.as_slice(), number, want.as_str())?;
+    }
+    cut_each(alloc, words.as_slice(), want.as_str())?;
+    Ok(want)
+}
