@@ -1,7 +1,7 @@
 -- The laws of canonical bytes.
+pub mod NotUnaccepted
 pub mod OneReading
 pub mod NotRefused
-pub mod NotUnaccepted
 use Rattle.std.specs.Prelude.{◌≡◌, ◌↔◌, ℕ, ◌*◌, ◌+◌, ◌≤◌, List, None, length}
 use Rattle.capn_value.specs.Tree.{Tree}
 use Rattle.capn_value.specs.Caps.{first_cap}
