@@ -1,4 +1,5 @@
 -- The laws of canonical bytes.
+pub mod NotUnaccepted
 pub mod OneReading
 pub mod NotRefused
 pub mod NotUnaccepted
