@@ -2,6 +2,7 @@ pub mod Anywhere
 pub mod Apart
 pub mod Cases
 pub mod Copies
+pub mod Costs
 pub mod Decided
 pub mod FirstCaps
 pub mod FirstMisfit

@@ -137,3 +137,39 @@ pub test_slots-returns-else-are_null : goal.test_slots-returns-else-are_null
 test_slots-returns-else-are_null g t c =
     let h = test_slots-past_shared c.args.a.now c.args.b.now c.loop-i.i c.min-shared.result c.min-shared.ensures (omega arith) c.loop-i.invariant in
     grind (arith, h)
+
+pub test_bodies-returns-then-test_words : goal.test_bodies-returns-then-test_words
+test_bodies-returns-then-test_words g t c = ?
+
+pub test_bodies-returns-else-test_words : goal.test_bodies-returns-else-test_words
+test_bodies-returns-else-test_words g t c = ?
+
+pub test_each-returns-then-a-b : goal.test_each-returns-then-a-b
+test_each-returns-then-a-b g t c = ?
+
+pub test_each-returns-then-not-test : goal.test_each-returns-then-not-test
+test_each-returns-then-not-test g t c = ?
+
+pub test_each-loop-i-preserved : goal.test_each-loop-i-preserved
+test_each-loop-i-preserved g t c = ?
+
+pub test_each-returns : goal.test_each-returns
+test_each-returns g t c = ?
+
+pub test_rows-returns-then-a-b : goal.test_rows-returns-then-a-b
+test_rows-returns-then-a-b g t c = ?
+
+pub test_rows-returns-then-not-test_bodies : goal.test_rows-returns-then-not-test_bodies
+test_rows-returns-then-not-test_bodies g t c = ?
+
+pub test_rows-loop-i-preserved : goal.test_rows-loop-i-preserved
+test_rows-loop-i-preserved g t c = ?
+
+pub test_rows-returns : goal.test_rows-returns
+test_rows-returns g t c = ?
+
+pub test_slots-returns-then-not-test : goal.test_slots-returns-then-not-test
+test_slots-returns-then-not-test g t c = ?
+
+pub test_slots-loop-i-preserved : goal.test_slots-loop-i-preserved
+test_slots-loop-i-preserved g t c = ?
