@@ -1,5 +1,6 @@
 -- The first so many trees.
 use Rattle.std.proofs.Common.{◌≡◌, ℕ, zero, suc, ◌+◌, ◌<◌, List, [], ◌∷◌, ◌++◌, length, min, take, drop, refl, sym, ap, ap₂, ◌∙◌, arith, get_or, add-one}
+use Rattle.std.proofs.lemmas.List.{take_min, length-take-le}
 use Rattle.capn_value.specs.Tree.{Trees, no_trees, tree, Bodies, body, joined, joined_rows, front, count, tree_at}
 use Rattle.capn_value.specs.View.{tree_of, trees_of, rows_of}
 use Rattle.capn_value.specs.Views.{count-trees_of}
@@ -81,3 +82,11 @@ module _ {A B : Type 0} (out : List (Body A)) (rows : List (Body B)) (i w s : �
   pub rows_trimmed : i ≡ length rows → rows_of out ≡ all
   rows_trimmed e =
       sym (joined_rows-none (rows_of out)) ∙ sym (ap (λ bs. joined_rows (rows_of out) (trimmed_rows w s (rows_of bs))) (drop-past rows i e)) ∙ so_far
+
+-- a slice of at most so many numbers
+module _ (k : ℕ) {xs s : List ℕ} {l m : ℕ} (whole : s ≡ xs) (e : l ≡ length xs) (f : m ≡ min k l) where
+  pub cut_length : m ≡ length (take m s)
+  cut_length = let same : length s ≡ length xs = ap length whole in sym (length-take-le m s (omega arith))
+
+  pub cut_words : {w : List ℕ} → w ≡ take m s → w ≡ take k xs
+  cut_words h = h ∙ ap₂ take (f ∙ ap (min k) e) whole ∙ take_min k xs

@@ -13,5 +13,6 @@ pub mod Joined
 pub mod Kept
 pub mod Digits
 pub mod OnceTrimmed
+pub mod Pairwise
 mod WorkedTrees
 mod Nulls

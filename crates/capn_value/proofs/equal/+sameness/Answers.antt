@@ -1,8 +1,9 @@
 use Rattle.std.proofs.Common.{arith, refl, sym, ap₂, ◌∙◌}
-use Rattle.capn_value.specs.Views.{tree_of-Nil, tree_of-Node, tree_of-Voids, tree_of-Bits, tree_of-Bytes, tree_of-Pairs, tree_of-Quads, tree_of-Octs, tree_of-Links, tree_of-Rows, tree_of-Cap}
-use Rattle.capn_value.proofs.Apart.{not_nil, not_node, not_voids, not_bits, not_bytes, not_pairs, not_quads, not_octs, not_links, not_rows, not_cap, test_slots-past_shared}
+use Rattle.capn_value.specs.Views.{tree_of-Nil, tree_of-Node, tree_of-Voids, tree_of-Bits, tree_of-Bytes, tree_of-Pairs, tree_of-Quads, tree_of-Octs, tree_of-Links, tree_of-Rows, tree_of-Cap, count-trees_of, count_rows-rows_of}
+use Rattle.capn_value.proofs.Apart.{not_nil, not_node, not_voids, not_bits, not_bytes, not_pairs, not_quads, not_octs, not_links, not_rows, not_cap, test_slots-past_shared, test_each-uneven, test_rows-uneven}
+use Rattle.capn_value.proofs.Pairwise.{words_differ, words_agree, each_differs, each_agrees, each_tested, slots_differ, slots_agree, row_differs, row_agrees, rows_tested}
 use Rattle.capn_value.specs.View.{trees_of, rows_of}
-use Rattle.capn_value.specs.SameTest.{test_each, test_rows}
+use Rattle.capn_value.specs.SameTest.{test_slots, test_each, test_rows}
 use Rattle.capn_value.proofs.equal.+sameness.Goals as goal
 
 pub test-returns-in-Nil-Nil : goal.test-returns-in-Nil-Nil
@@ -138,38 +139,56 @@ test_slots-returns-else-are_null g t c =
     let h = test_slots-past_shared c.args.a.now c.args.b.now c.loop-i.i c.min-shared.result c.min-shared.ensures (omega arith) c.loop-i.invariant in
     grind (arith, h)
 
-pub test_bodies-returns-then-test_words : goal.test_bodies-returns-then-test_words
-test_bodies-returns-then-test_words g t c = ?
-
 pub test_bodies-returns-else-test_words : goal.test_bodies-returns-else-test_words
-test_bodies-returns-else-test_words g t c = ?
+test_bodies-returns-else-test_words g t c =
+    words_differ c.as_slice.ensures c.as_slice-2.ensures c.test_words.ensures (test_slots (trees_of c.args.a.now.slots) (trees_of c.args.b.now.slots))
+    c.if-test_words.false
+
+pub test_bodies-returns-then-test_words : goal.test_bodies-returns-then-test_words
+test_bodies-returns-then-test_words g t c =
+    words_agree c.as_slice.ensures c.as_slice-2.ensures c.test_words.ensures c.if-test_words.true
+    c.as_slice-then-test_words.ensures c.as_slice-then-test_words-2.ensures c.test_slots.ensures
 
 pub test_each-returns-then-a-b : goal.test_each-returns-then-a-b
-test_each-returns-then-a-b g t c = ?
+test_each-returns-then-a-b g t c =
+    sym (test_each-uneven _ _ (λ e. c.if-a-b.true (sym (count-trees_of c.args.a.now) ∙ e ∙ count-trees_of c.args.b.now)))
 
 pub test_each-returns-then-not-test : goal.test_each-returns-then-not-test
-test_each-returns-then-not-test g t c = ?
+test_each-returns-then-not-test g t c =
+    each_differs c.args.a.now c.args.b.now _ c.loop-i.invariant c.index-a-i.result c.index-b-i.result (omega arith) (omega arith)
+    c.index-a-i.is c.index-b-i.is c.test.ensures c.if-not-test.true
 
 pub test_each-loop-i-preserved : goal.test_each-loop-i-preserved
-test_each-loop-i-preserved g t c = ?
+test_each-loop-i-preserved g t c =
+    each_agrees c.args.a.now c.args.b.now _ c.loop-i.invariant c.index-a-i.result c.index-b-i.result (omega arith) (omega arith)
+    c.index-a-i.is c.index-b-i.is c.test.ensures c.if-not-test.false
 
 pub test_each-returns : goal.test_each-returns
-test_each-returns g t c = ?
+test_each-returns g t c = each_tested c.args.a.now c.args.b.now _ c.loop-i.invariant (omega arith) (omega arith)
 
 pub test_rows-returns-then-a-b : goal.test_rows-returns-then-a-b
-test_rows-returns-then-a-b g t c = ?
+test_rows-returns-then-a-b g t c =
+    sym (test_rows-uneven _ _ (λ e. c.if-a-b.true (sym (count_rows-rows_of c.args.a.now) ∙ e ∙ count_rows-rows_of c.args.b.now)))
 
 pub test_rows-returns-then-not-test_bodies : goal.test_rows-returns-then-not-test_bodies
-test_rows-returns-then-not-test_bodies g t c = ?
+test_rows-returns-then-not-test_bodies g t c =
+    row_differs c.args.a.now c.args.b.now _ c.loop-i.invariant c.index-a-i.result c.index-b-i.result (omega arith) (omega arith)
+    c.index-a-i.is c.index-b-i.is c.test_bodies.ensures c.if-not-test_bodies.true
 
 pub test_rows-loop-i-preserved : goal.test_rows-loop-i-preserved
-test_rows-loop-i-preserved g t c = ?
+test_rows-loop-i-preserved g t c =
+    row_agrees c.args.a.now c.args.b.now _ c.loop-i.invariant c.index-a-i.result c.index-b-i.result (omega arith) (omega arith)
+    c.index-a-i.is c.index-b-i.is c.test_bodies.ensures c.if-not-test_bodies.false
 
 pub test_rows-returns : goal.test_rows-returns
-test_rows-returns g t c = ?
+test_rows-returns g t c = rows_tested c.args.a.now c.args.b.now _ c.loop-i.invariant (omega arith) (omega arith)
 
 pub test_slots-returns-then-not-test : goal.test_slots-returns-then-not-test
-test_slots-returns-then-not-test g t c = ?
+test_slots-returns-then-not-test g t c =
+    slots_differ c.args.a.now c.args.b.now _ c.loop-i.invariant c.index-a-i.result c.index-b-i.result
+    (omega (arith, c.min-shared.ensures)) (omega (arith, c.min-shared.ensures)) c.index-a-i.is c.index-b-i.is c.test.ensures c.if-not-test.true
 
 pub test_slots-loop-i-preserved : goal.test_slots-loop-i-preserved
-test_slots-loop-i-preserved g t c = ?
+test_slots-loop-i-preserved g t c =
+    slots_agree c.args.a.now c.args.b.now _ c.loop-i.invariant c.index-a-i.result c.index-b-i.result
+    (omega (arith, c.min-shared.ensures)) (omega (arith, c.min-shared.ensures)) c.index-a-i.is c.index-b-i.is c.test.ensures c.if-not-test.false

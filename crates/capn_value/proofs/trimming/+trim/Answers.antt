@@ -3,7 +3,7 @@ use Rattle.capn_value.specs.Tree.{bits, bytes, pairs, quads, octs, links, front,
 use Rattle.capn_value.specs.View.{tree_of, trees_of, rows_of}
 use Rattle.capn_value.specs.Views.{tree_of-Nil, tree_of-Voids, tree_of-Bits, tree_of-Bytes, tree_of-Pairs, tree_of-Quads, tree_of-Octs, tree_of-Links, tree_of-Cap, tree_of-Node, tree_of-Rows}
 use Rattle.capn_value.specs.Trim.{trimmed, trimmed_each, trimmed_rows}
-use Rattle.capn_value.proofs.Fronts.{trimmed_front-length, trimmed_front-min, trimmed_front-push, row_trimmed, rows_trimmed}
+use Rattle.capn_value.proofs.Fronts.{trimmed_front-length, trimmed_front-min, trimmed_front-push, row_trimmed, rows_trimmed, cut_length, cut_words}
 use Rattle.capn_value.proofs.trimming.+trim.Goals as goal
 
 pub trimmed-returns-in-Nil : goal.trimmed-returns-in-Nil
@@ -83,3 +83,16 @@ trimmed_rows-loop-row-preserved g t c =
 pub trimmed_rows-returns : goal.trimmed_rows-returns
 trimmed_rows-returns g t c =
     rows_trimmed c.loop-row.out c.args.rows.now _ c.args.words c.args.slots c.loop-row.invariant (omega arith)
+
+pub trimmed_body-slice_bounds-from_slice-end : goal.trimmed_body-slice_bounds-from_slice-end
+trimmed_body-slice_bounds-from_slice-end g t c = cut_length _ c.as_slice.ensures c.len.ensures c.min-len.ensures
+
+pub trimmed_body-returns-clause-words : goal.trimmed_body-returns-clause-words
+trimmed_body-returns-clause-words g t c = cut_words _ c.as_slice.ensures c.len.ensures c.min-len.ensures c.in_ok-words.ensures
+
+pub trimmed_body-returns-clause-slots : goal.trimmed_body-returns-clause-slots
+trimmed_body-returns-clause-slots g t c =
+    c.in_ok-slots.ensures ∙ ap (λ vs. front c.args.slots (trimmed_each (trees_of vs))) c.as_slice-2.ensures
+
+pub trimmed_front-loop-i-init : goal.trimmed_front-loop-i-init
+trimmed_front-loop-i-init g t c = ap trees_of c.in_ok-out.ensures
