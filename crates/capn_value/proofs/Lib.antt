@@ -14,5 +14,6 @@ pub mod Kept
 pub mod Digits
 pub mod OnceTrimmed
 pub mod Pairwise
+pub mod Shown
 mod WorkedTrees
 mod Nulls
