@@ -1,10 +1,10 @@
 -- What holds of a value of one of several kinds, as the arms of a match tell it.
-use Rattle.std.proofs.Common.{◌≡◌, ℕ, List, Bool, false, None, ◌⊎◌, inl, inr, refl}
+use Rattle.std.proofs.Common.{◌≡◌, ℕ, List, Bool, true, false, None, ◌⊎◌, inl, inr, refl}
 use Rattle.capn_value.specs.View.{tree_of}
 use Rattle.capn_value.specs.Views.{tree_of-Nil, tree_of-Node, tree_of-Voids, tree_of-Bits, tree_of-Bytes, tree_of-Pairs, tree_of-Quads, tree_of-Octs, tree_of-Links, tree_of-Rows, tree_of-Cap}
 use Rattle.capn_value.specs.Caps.{first_cap}
 use Rattle.capn_value.specs.Sizes.{height}
-use Rattle.capn_value.specs.Fits.{is_wide, is_ragged}
+use Rattle.capn_value.specs.Fits.{is_wide, is_ragged, is_root}
 use Rattle.capn_value.specs.declared.value.Value.{Value, Nil, Node, Voids, Bits, Bytes, Pairs, Quads, Octs, Links, Rows, Cap}
 use Rattle.capn_value.specs.declared.value.Body.{Body}
 
@@ -67,3 +67,18 @@ module _ {A : Type 0} where
   pub no_object : (v : Value A) → IsNoObject v → height (tree_of v) ≡ 0
   no_object v (inl e) = rw (e, tree_of-Nil) refl
   no_object v (inr p) = rw (p.1, tree_of-Cap) refl
+
+  abbrev IsRooted : Value A → Type 0
+  IsRooted v = (v ≡ Nil) ⊎ (((b : Body A) × (v ≡ Node b)) ⊎ (((n : ℕ) × (v ≡ Voids n)) ⊎ (((xs : List Bool) × (v ≡ Bits xs)) ⊎ (((xs : List ℕ) × (v ≡ Bytes xs)) ⊎ (((xs : List ℕ) × (v ≡ Pairs xs)) ⊎ (((xs : List ℕ) × (v ≡ Quads xs)) ⊎ (((xs : List ℕ) × (v ≡ Octs xs)) ⊎ (((vs : List (Value A)) × (v ≡ Links vs)) ⊎ ((bs : List (Body A)) × (v ≡ Rows bs))))))))))
+
+  pub rooted : (v : Value A) → IsRooted v → true ≡ is_root (tree_of v)
+  rooted v (inl e) = rw (e, tree_of-Nil) refl
+  rooted v (inr (inl p)) = rw (p.1, tree_of-Node) refl
+  rooted v (inr (inr (inl p))) = rw (p.1, tree_of-Voids) refl
+  rooted v (inr (inr (inr (inl p)))) = rw (p.1, tree_of-Bits) refl
+  rooted v (inr (inr (inr (inr (inl p))))) = rw (p.1, tree_of-Bytes) refl
+  rooted v (inr (inr (inr (inr (inr (inl p)))))) = rw (p.1, tree_of-Pairs) refl
+  rooted v (inr (inr (inr (inr (inr (inr (inl p))))))) = rw (p.1, tree_of-Quads) refl
+  rooted v (inr (inr (inr (inr (inr (inr (inr (inl p)))))))) = rw (p.1, tree_of-Octs) refl
+  rooted v (inr (inr (inr (inr (inr (inr (inr (inr (inl p))))))))) = rw (p.1, tree_of-Links) refl
+  rooted v (inr (inr (inr (inr (inr (inr (inr (inr (inr p))))))))) = rw (p.1, tree_of-Rows) refl

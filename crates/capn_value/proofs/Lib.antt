@@ -11,6 +11,7 @@ pub mod Heights
 pub mod Inverse
 pub mod Joined
 pub mod Kept
+pub mod Depths
 pub mod Digits
 pub mod OnceTrimmed
 pub mod Pairwise

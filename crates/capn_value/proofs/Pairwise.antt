@@ -1,7 +1,8 @@
--- A test of two lists, one pair after another.
+-- A test of two lists, one pair after another, and a test of one.
 use Rattle.std.proofs.Common.{◌≡◌, ℕ, ◌+◌, ◌<◌, List, Bool, true, false, ◌&&◌, length, get_or, drop, sym, ap, ap₂, ◌∙◌}
 use Rattle.capn_value.specs.View.{tree_of, trees_of, rows_of}
-use Rattle.capn_value.specs.SameTest.{test, test_words, test_slots, test_each, test_rows}
+use Rattle.capn_value.specs.Tree.{is_null}
+use Rattle.capn_value.specs.SameTest.{are_null, test, test_words, test_slots, test_each, test_rows}
 use Rattle.capn_value.specs.declared.value.Value.{Value}
 use Rattle.capn_value.specs.declared.value.Body.{Body}
 use Rattle.capn_value.proofs.Anywhere.{drop-next, drop-past}
@@ -70,3 +71,18 @@ module _ {A B : Type 0} (a : List (Body A)) (b : List (Body B)) (i : ℕ) {all :
 
   pub rows_tested : i ≡ length a → i ≡ length b → true ≡ all
   rows_tested e f = sym (ap₂ (λ us vs. test_rows (rows_of us) (rows_of vs)) (drop-past a i e) (drop-past b i f)) ∙ so_far
+
+-- of one list: whether each element is null
+module _ {A : Type 0} (items : List (Value A)) (i : ℕ) {all : Bool} (so_far : are_null (trees_of (drop i items)) ≡ all) where
+  module _ (v : Value A) (h : i < length items) (e : v ≡ get_or items i v) {r : Bool} (tested : r ≡ is_null (tree_of v)) where
+    null_next : (is_null (tree_of v) && are_null (trees_of (drop (i + 1) items))) ≡ all
+    null_next = sym (ap (λ vs. are_null (trees_of vs)) (drop-next items i v h e)) ∙ so_far
+
+    pub some_left : r ≡ false → false ≡ all
+    some_left q = fails _ (are_null (trees_of (drop (i + 1) items))) tested q null_next
+
+    pub none_yet : r ≡ true → are_null (trees_of (drop (i + 1) items)) ≡ all
+    none_yet q = holds (is_null (tree_of v)) _ tested q null_next
+
+  pub none_left : i ≡ length items → true ≡ all
+  none_left e = sym (ap (λ vs. are_null (trees_of vs)) (drop-past items i e)) ∙ so_far

@@ -160,3 +160,9 @@ module _ {A : Type 0} {all : ℕ} where
   pub row_low : (bodies : List (Body A)) (i : ℕ) → greatest_in_rows (rows_of (drop i bodies)) ≤ all → (b : Body A) → i < length bodies → b ≡ get_or bodies i b →
       (greatest (trees_of b.slots) ≤ all) × (greatest_in_rows (rows_of (drop (i + 1) bodies)) ≤ all)
   row_low bodies i so_far b h at = lower _ _ _ all (ap (λ bs. greatest_in_rows (rows_of bs)) (drop-next bodies i b h at)) so_far
+
+pub same_room : {A : Type 0} (level top : ℕ) {ss s : List (Value A)} → s ≡ ss → level + 2 * greatest (trees_of ss) < top → level + 2 * greatest (trees_of s) < top
+same_room level top e h = let same = ap (λ vs. greatest (trees_of vs)) e in omega arith
+
+pub narrower : (level part all top : ℕ) → part ≤ all → level + 2 * all < top → level + 2 * part < top
+narrower level part all top h room = omega arith

@@ -2,6 +2,7 @@ use Rattle.std.proofs.Common.{arith, ap, ◌∙◌}
 use Rattle.capn_value.specs.Tree.{joined, joined_rows}
 use Rattle.capn_value.specs.View.{trees_of, rows_of}
 use Rattle.capn_value.proofs.Copies.{nil_kept, node_kept, voids_kept, bits_kept, bytes_kept, pairs_kept, quads_kept, octs_kept, links_kept, rows_kept, cap_kept, each_copied, all_copied, row_copied, rows_copied}
+use Rattle.capn_value.proofs.Depths.{falls, falls_above, steps_down, in_body, in_links, in_rows, in_node, item_below, row_below}
 use Rattle.capn_value.proofs.copying.+copy.Goals as goal
 
 pub copy_of-returns-in-Nil : goal.copy_of-returns-in-Nil
@@ -70,3 +71,23 @@ copy_of_body-returns-clause-words g t c = c.in_ok-words.ensures
 
 pub copy_of_body-returns-clause-slots : goal.copy_of_body-returns-clause-slots
 copy_of_body-returns-clause-slots g t c = c.in_ok-slots.ensures ∙ ap trees_of c.as_slice.ensures
+
+pub copy_of-copy_of_body-requires : goal.copy_of-copy_of_body-requires
+copy_of-copy_of_body-requires g t c κs within = (falls _ _ _ t c.decreases (in_node c.args.v.now _ c.in-Node.is), within)
+
+pub copy_of-copy_of_each-requires : goal.copy_of-copy_of_each-requires
+copy_of-copy_of_each-requires g t c κs within = (falls_above _ _ _ t c.decreases (in_links c.args.v.now c.in-Links.is c.as_slice.ensures), within)
+
+pub copy_of-copy_of_rows-requires : goal.copy_of-copy_of_rows-requires
+copy_of-copy_of_rows-requires g t c κs within = (falls_above _ _ _ t c.decreases (in_rows c.args.v.now c.in-Rows.is c.as_slice-in-Rows.ensures), within)
+
+pub copy_of_body-copy_of_each-requires : goal.copy_of_body-copy_of_each-requires
+copy_of_body-copy_of_each-requires g t c κs within = (falls_above _ _ _ t c.decreases (in_body c.args.body.now c.as_slice.ensures), within)
+
+pub copy_of_each-copy_of-requires : goal.copy_of_each-copy_of-requires
+copy_of_each-copy_of-requires g t c κs within =
+    (steps_down _ _ t c.decreases (item_below c.args.items.now _ c.v-item.result (omega arith) c.v-item.is), within)
+
+pub copy_of_rows-copy_of_body-requires : goal.copy_of_rows-copy_of_body-requires
+copy_of_rows-copy_of_body-requires g t c κs within =
+    (steps_down _ _ t c.decreases (row_below c.args.rows.now _ c.row-item.result (omega arith) c.row-item.is), within)

@@ -4,6 +4,7 @@ use Rattle.capn_value.proofs.Apart.{not_nil, not_node, not_voids, not_bits, not_
 use Rattle.capn_value.proofs.Pairwise.{words_differ, words_agree, each_differs, each_agrees, each_tested, slots_differ, slots_agree, row_differs, row_agrees, rows_tested}
 use Rattle.capn_value.specs.View.{trees_of, rows_of}
 use Rattle.capn_value.specs.SameTest.{test_slots, test_each, test_rows}
+use Rattle.capn_value.proofs.Depths.{falls, falls_above, steps_down, in_body, in_links, in_rows, in_node, item_below, row_below}
 use Rattle.capn_value.proofs.equal.+sameness.Goals as goal
 
 pub test-returns-in-Nil-Nil : goal.test-returns-in-Nil-Nil
@@ -192,3 +193,27 @@ pub test_slots-loop-i-preserved : goal.test_slots-loop-i-preserved
 test_slots-loop-i-preserved g t c =
     slots_agree c.args.a.now c.args.b.now _ c.loop-i.invariant c.index-a-i.result c.index-b-i.result
     (omega (arith, c.min-shared.ensures)) (omega (arith, c.min-shared.ensures)) c.index-a-i.is c.index-b-i.is c.test.ensures c.if-not-test.false
+
+pub test-test_bodies-requires : goal.test-test_bodies-requires
+test-test_bodies-requires g t c κs within = (falls _ _ _ t c.decreases (in_node c.args.v.now _ c.in-Node-Node.is-0), within)
+
+pub test-test_each-requires : goal.test-test_each-requires
+test-test_each-requires g t c κs within = (falls_above _ _ _ t c.decreases (in_links c.args.v.now c.in-Links-Links.is-0 c.as_slice-in-Links-Links.ensures), within)
+
+pub test-test_rows-requires : goal.test-test_rows-requires
+test-test_rows-requires g t c κs within = (falls_above _ _ _ t c.decreases (in_rows c.args.v.now c.in-Rows-Rows.is-0 c.as_slice-in-Rows-Rows.ensures), within)
+
+pub test_bodies-test_slots-requires : goal.test_bodies-test_slots-requires
+test_bodies-test_slots-requires g t c κs within = (falls_above _ _ _ t c.decreases (in_body c.args.a.now c.as_slice-then-test_words.ensures), within)
+
+pub test_each-test-requires : goal.test_each-test-requires
+test_each-test-requires g t c κs within =
+    (steps_down _ _ t c.decreases (item_below c.args.a.now _ c.index-a-i.result (omega arith) c.index-a-i.is), within)
+
+pub test_rows-test_bodies-requires : goal.test_rows-test_bodies-requires
+test_rows-test_bodies-requires g t c κs within =
+    (steps_down _ _ t c.decreases (row_below c.args.a.now _ c.index-a-i.result (omega arith) c.index-a-i.is), within)
+
+pub test_slots-test-requires : goal.test_slots-test-requires
+test_slots-test-requires g t c κs within =
+    (steps_down _ _ t c.decreases (item_below c.args.a.now _ c.index-a-i.result (omega (arith, c.min-shared.ensures)) c.index-a-i.is), within)

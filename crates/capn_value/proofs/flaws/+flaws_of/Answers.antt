@@ -1,6 +1,7 @@
 use Rattle.std.proofs.Common.{◌∙◌, arith}
 use Rattle.capn_value.specs.Fits.{is_wide, is_long, is_ragged}
 use Rattle.capn_value.proofs.Anywhere.{alone, node_joins, links_join, rows_join, each_joins, each_joined, row_joins, rows_joined}
+use Rattle.capn_value.proofs.Depths.{falls, falls_above, steps_down, in_links, in_rows, in_slots, item_below, row_slots_below}
 use Rattle.capn_value.proofs.flaws.+flaws_of.Goals as goal
 
 pub flaws_of-returns-in-Nil : goal.flaws_of-returns-in-Nil
@@ -107,3 +108,20 @@ flaws_of_rows-returns g t c = record {
   long = rows_joined is_long c.args.bodies.now _ _ c.loop-body.invariant.long (omega arith);
   ragged = rows_joined is_ragged c.args.bodies.now _ _ c.loop-body.invariant.ragged (omega arith);
 }
+
+pub flaws_of-flaws_of_each-requires : goal.flaws_of-flaws_of_each-requires
+flaws_of-flaws_of_each-requires g t c κs within = (falls_above _ _ _ t c.decreases (in_slots c.args.v.now _ c.in-Node.is c.as_slice.ensures), within)
+
+pub flaws_of-flaws_of_each-requires-in-Links : goal.flaws_of-flaws_of_each-requires-in-Links
+flaws_of-flaws_of_each-requires-in-Links g t c κs within = (falls_above _ _ _ t c.decreases (in_links c.args.v.now c.in-Links.is c.as_slice-in-Links.ensures), within)
+
+pub flaws_of-flaws_of_rows-requires : goal.flaws_of-flaws_of_rows-requires
+flaws_of-flaws_of_rows-requires g t c κs within = (falls _ _ _ t c.decreases (in_rows c.args.v.now c.in-Rows.is c.as_slice-in-Rows.ensures), within)
+
+pub flaws_of_each-flaws_of-requires : goal.flaws_of_each-flaws_of-requires
+flaws_of_each-flaws_of-requires g t c κs within =
+    (steps_down _ _ t c.decreases (item_below c.args.items.now _ c.v-item.result (omega arith) c.v-item.is), within)
+
+pub flaws_of_rows-flaws_of_each-requires : goal.flaws_of_rows-flaws_of_each-requires
+flaws_of_rows-flaws_of_each-requires g t c κs within =
+    (falls_above _ _ _ t c.decreases (row_slots_below c.args.bodies.now _ c.body-item.result (omega arith) c.body-item.is c.as_slice.ensures), within)

@@ -2,6 +2,7 @@ use Rattle.std.proofs.Common.{arith, refl}
 use Rattle.capn_value.specs.Sizes.{dear}
 use Rattle.capn_value.specs.Views.{tree_of-Nil, tree_of-Cap}
 use Rattle.capn_value.proofs.Costs.{voids_cost, bits_cost, bytes_cost, pairs_cost, quads_cost, octs_cost, node_costs, links_cost, rows_cost, bytes_ranged, pairs_ranged, quads_ranged, octs_ranged, node_ranged, links_ranged, rows_ranged, still_capped, each_cost, all_cost, row_cost, all_rows_cost, row_sized, all_sized, each_ranged, all_ranged, row_ranged, all_rows_ranged}
+use Rattle.capn_value.proofs.Depths.{falls, falls_above, steps_down, in_links, in_rows, in_slots, item_below, row_slots_below}
 use Rattle.capn_value.proofs.measure.+cost.Goals as goal
 
 pub capped_cost-returns-in-Nil-clause-value : goal.capped_cost-returns-in-Nil-clause-value
@@ -97,3 +98,20 @@ measured_rows-returns-clause-costs g t c = all_rows_cost _ dear _ _ c.args.bodie
 
 pub measured_rows-returns-clause-in_range : goal.measured_rows-returns-clause-in_range
 measured_rows-returns-clause-in_range g t c = all_rows_ranged c.args.bodies.now _ c.loop-body.invariant.in_range (omega arith)
+
+pub capped_cost-capped_costs-requires : goal.capped_cost-capped_costs-requires
+capped_cost-capped_costs-requires g t c κs within = (falls_above _ _ _ t c.decreases (in_slots c.args.v.now _ c.in-Node.is c.as_slice-slots.ensures), within)
+
+pub capped_cost-capped_costs-requires-in-Links : goal.capped_cost-capped_costs-requires-in-Links
+capped_cost-capped_costs-requires-in-Links g t c κs within = (falls_above _ _ _ t c.decreases (in_links c.args.v.now c.in-Links.is c.as_slice-items.ensures), within)
+
+pub capped_cost-measured_rows-rows-requires : goal.capped_cost-measured_rows-rows-requires
+capped_cost-measured_rows-rows-requires g t c κs within = (falls _ _ _ t c.decreases (in_rows c.args.v.now c.in-Rows.is c.as_slice-bodies.ensures), within)
+
+pub capped_costs-capped_cost-requires : goal.capped_costs-capped_cost-requires
+capped_costs-capped_cost-requires g t c κs within =
+    (steps_down _ _ t c.decreases (item_below c.args.items.now _ c.v-item.result (omega arith) c.v-item.is), within)
+
+pub measured_rows-capped_costs-requires : goal.measured_rows-capped_costs-requires
+measured_rows-capped_costs-requires g t c κs within =
+    (falls_above _ _ _ t c.decreases (row_slots_below c.args.bodies.now _ c.body-item.result (omega arith) c.body-item.is c.as_slice-slots.ensures), within)

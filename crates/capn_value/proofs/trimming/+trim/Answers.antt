@@ -4,6 +4,7 @@ use Rattle.capn_value.specs.View.{tree_of, trees_of, rows_of}
 use Rattle.capn_value.specs.Views.{tree_of-Nil, tree_of-Voids, tree_of-Bits, tree_of-Bytes, tree_of-Pairs, tree_of-Quads, tree_of-Octs, tree_of-Links, tree_of-Cap, tree_of-Node, tree_of-Rows}
 use Rattle.capn_value.specs.Trim.{trimmed, trimmed_each, trimmed_rows}
 use Rattle.capn_value.proofs.Fronts.{trimmed_front-length, trimmed_front-min, trimmed_front-push, row_trimmed, rows_trimmed, cut_length, cut_words}
+use Rattle.capn_value.proofs.Depths.{falls, falls_above, steps_down, in_body, in_links, in_rows, in_node, item_below, row_below}
 use Rattle.capn_value.proofs.trimming.+trim.Goals as goal
 
 pub trimmed-returns-in-Nil : goal.trimmed-returns-in-Nil
@@ -96,3 +97,23 @@ trimmed_body-returns-clause-slots g t c =
 
 pub trimmed_front-loop-i-init : goal.trimmed_front-loop-i-init
 trimmed_front-loop-i-init g t c = ap trees_of c.in_ok-out.ensures
+
+pub trimmed-trimmed_body-requires : goal.trimmed-trimmed_body-requires
+trimmed-trimmed_body-requires g t c κs within = (falls _ _ _ t c.decreases (in_node c.args.v.now _ c.in-Node.is), within)
+
+pub trimmed-trimmed_front-requires : goal.trimmed-trimmed_front-requires
+trimmed-trimmed_front-requires g t c κs within = (falls_above _ _ _ t c.decreases (in_links c.args.v.now c.in-Links.is c.as_slice-in-Links.ensures), within)
+
+pub trimmed-trimmed_rows-requires : goal.trimmed-trimmed_rows-requires
+trimmed-trimmed_rows-requires g t c κs within = (falls_above _ _ _ t c.decreases (in_rows c.args.v.now c.in-Rows.is c.as_slice-rows.ensures), within)
+
+pub trimmed_body-trimmed_front-requires : goal.trimmed_body-trimmed_front-requires
+trimmed_body-trimmed_front-requires g t c κs within = (falls_above _ _ _ t c.decreases (in_body c.args.body.now c.as_slice-2.ensures), within)
+
+pub trimmed_front-trimmed-requires : goal.trimmed_front-trimmed-requires
+trimmed_front-trimmed-requires g t c κs within =
+    (steps_down _ _ t c.decreases (item_below c.args.items.now _ c.index-items-i.result (omega (arith, c.min-len.ensures)) c.index-items-i.is), within)
+
+pub trimmed_rows-trimmed_body-requires : goal.trimmed_rows-trimmed_body-requires
+trimmed_rows-trimmed_body-requires g t c κs within =
+    (steps_down _ _ t c.decreases (row_below c.args.rows.now _ c.row-item.result (omega arith) c.row-item.is), within)
