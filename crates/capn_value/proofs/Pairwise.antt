@@ -1,5 +1,5 @@
 -- A test of two lists, one pair after another, and a test of one.
-use Rattle.std.proofs.Common.{◌≡◌, ℕ, ◌+◌, ◌<◌, List, Bool, true, false, ◌&&◌, length, get_or, drop, sym, ap, ap₂, ◌∙◌}
+use Rattle.std.proofs.Common.{◌≡◌, ℕ, ◌+◌, ◌<◌, ◌≤◌, List, Bool, true, false, ◌&&◌, length, get_or, drop, min, arith, sym, ap, ap₂, ◌∙◌}
 use Rattle.capn_value.specs.View.{tree_of, trees_of, rows_of}
 use Rattle.capn_value.specs.Tree.{is_null}
 use Rattle.capn_value.specs.SameTest.{are_null, test, test_words, test_slots, test_each, test_rows}
@@ -7,11 +7,21 @@ use Rattle.capn_value.specs.declared.value.Value.{Value}
 use Rattle.capn_value.specs.declared.value.Body.{Body}
 use Rattle.capn_value.proofs.Anywhere.{drop-next, drop-past}
 
+-- where a loop stands
+pub ended : (i n : ℕ) → i ≤ n → n ≤ i → i ≡ n
+ended i n h k = omega arith
+
+pub in_left : (s i m n : ℕ) → s ≡ min m n → i < s → i < m
+in_left s i m n e h = omega arith
+
+pub in_right : (s i m n : ℕ) → s ≡ min m n → i < s → i < n
+in_right s i m n e h = omega arith
+
 -- the first of two tests fails, or holds
-fails : (b rest : Bool) {r all : Bool} → r ≡ b → r ≡ false → (b && rest) ≡ all → false ≡ all
+pub fails : (b rest : Bool) {r all : Bool} → r ≡ b → r ≡ false → (b && rest) ≡ all → false ≡ all
 fails b rest e f so_far = ap (λ x. x && rest) (sym f ∙ e) ∙ so_far
 
-holds : (b rest : Bool) {r all : Bool} → r ≡ b → r ≡ true → (b && rest) ≡ all → rest ≡ all
+pub holds : (b rest : Bool) {r all : Bool} → r ≡ b → r ≡ true → (b && rest) ≡ all → rest ≡ all
 holds b rest e f so_far = ap (λ x. x && rest) (sym f ∙ e) ∙ so_far
 
 -- of two bodies: their words, and then their slots

@@ -1,7 +1,7 @@
 use Rattle.std.proofs.Common.{arith, refl, sym, ap₂, ◌∙◌}
 use Rattle.capn_value.specs.Views.{tree_of-Nil, tree_of-Node, tree_of-Voids, tree_of-Bits, tree_of-Bytes, tree_of-Pairs, tree_of-Quads, tree_of-Octs, tree_of-Links, tree_of-Rows, tree_of-Cap, count-trees_of, count_rows-rows_of}
 use Rattle.capn_value.proofs.Apart.{not_nil, not_node, not_voids, not_bits, not_bytes, not_pairs, not_quads, not_octs, not_links, not_rows, not_cap, test_slots-past_shared, test_each-uneven, test_rows-uneven}
-use Rattle.capn_value.proofs.Pairwise.{words_differ, words_agree, each_differs, each_agrees, each_tested, slots_differ, slots_agree, row_differs, row_agrees, rows_tested}
+use Rattle.capn_value.proofs.Pairwise.{ended, in_left, in_right, fails, holds, words_differ, words_agree, each_differs, each_agrees, each_tested, slots_differ, slots_agree, row_differs, row_agrees, rows_tested}
 use Rattle.capn_value.specs.View.{trees_of, rows_of}
 use Rattle.capn_value.specs.SameTest.{test_slots, test_each, test_rows}
 use Rattle.capn_value.proofs.Depths.{falls, falls_above, steps_down, in_body, in_links, in_rows, in_node, item_below, row_below}
@@ -132,13 +132,17 @@ test-returns-in_default-11 g t c = rw (c.in_default.is-0, tree_of-Cap) (sym (not
 
 pub test_slots-returns-then-are_null : goal.test_slots-returns-then-are_null
 test_slots-returns-then-are_null g t c =
-    let h = test_slots-past_shared c.args.a.now c.args.b.now c.loop-i.i c.min-shared.result c.min-shared.ensures (omega arith) c.loop-i.invariant in
-    grind (arith, h)
+    c.are_null-then-are_null.ensures
+    ∙ holds _ _ c.are_null.ensures c.if-are_null.true
+    (test_slots-past_shared c.args.a.now c.args.b.now c.loop-i.i c.min-shared.result c.min-shared.ensures
+    (ended _ _ c.loop-i.auto.i-end c.loop-i-test.false) c.loop-i.invariant)
 
 pub test_slots-returns-else-are_null : goal.test_slots-returns-else-are_null
 test_slots-returns-else-are_null g t c =
-    let h = test_slots-past_shared c.args.a.now c.args.b.now c.loop-i.i c.min-shared.result c.min-shared.ensures (omega arith) c.loop-i.invariant in
-    grind (arith, h)
+    c.if-are_null.false
+    ∙ fails _ _ c.are_null.ensures c.if-are_null.false
+    (test_slots-past_shared c.args.a.now c.args.b.now c.loop-i.i c.min-shared.result c.min-shared.ensures
+    (ended _ _ c.loop-i.auto.i-end c.loop-i-test.false) c.loop-i.invariant)
 
 pub test_bodies-returns-else-test_words : goal.test_bodies-returns-else-test_words
 test_bodies-returns-else-test_words g t c =
@@ -187,12 +191,12 @@ test_rows-returns g t c = rows_tested c.args.a.now c.args.b.now _ c.loop-i.invar
 pub test_slots-returns-then-not-test : goal.test_slots-returns-then-not-test
 test_slots-returns-then-not-test g t c =
     slots_differ c.args.a.now c.args.b.now _ c.loop-i.invariant c.index-a-i.result c.index-b-i.result
-    (omega (arith, c.min-shared.ensures)) (omega (arith, c.min-shared.ensures)) c.index-a-i.is c.index-b-i.is c.test.ensures c.if-not-test.true
+    (in_left _ _ _ _ c.min-shared.ensures c.loop-i-test.true) (in_right _ _ _ _ c.min-shared.ensures c.loop-i-test.true) c.index-a-i.is c.index-b-i.is c.test.ensures c.if-not-test.true
 
 pub test_slots-loop-i-preserved : goal.test_slots-loop-i-preserved
 test_slots-loop-i-preserved g t c =
     slots_agree c.args.a.now c.args.b.now _ c.loop-i.invariant c.index-a-i.result c.index-b-i.result
-    (omega (arith, c.min-shared.ensures)) (omega (arith, c.min-shared.ensures)) c.index-a-i.is c.index-b-i.is c.test.ensures c.if-not-test.false
+    (in_left _ _ _ _ c.min-shared.ensures c.loop-i-test.true) (in_right _ _ _ _ c.min-shared.ensures c.loop-i-test.true) c.index-a-i.is c.index-b-i.is c.test.ensures c.if-not-test.false
 
 pub test-test_bodies-requires : goal.test-test_bodies-requires
 test-test_bodies-requires g t c κs within = (falls _ _ _ t c.decreases (in_node c.args.v.now _ c.in-Node-Node.is-0), within)
@@ -216,4 +220,4 @@ test_rows-test_bodies-requires g t c κs within =
 
 pub test_slots-test-requires : goal.test_slots-test-requires
 test_slots-test-requires g t c κs within =
-    (steps_down _ _ t c.decreases (item_below c.args.a.now _ c.index-a-i.result (omega (arith, c.min-shared.ensures)) c.index-a-i.is), within)
+    (steps_down _ _ t c.decreases (item_below c.args.a.now _ c.index-a-i.result (in_left _ _ _ _ c.min-shared.ensures c.loop-i-test.true) c.index-a-i.is), within)
