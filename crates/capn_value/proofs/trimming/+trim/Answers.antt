@@ -96,7 +96,7 @@ trimmed_body-returns-clause-slots g t c =
     c.in_ok-slots.ensures ∙ ap (λ vs. front c.args.slots (trimmed_each (trees_of vs))) c.as_slice-2.ensures
 
 pub trimmed_front-loop-i-init : goal.trimmed_front-loop-i-init
-trimmed_front-loop-i-init g t c = ap trees_of c.in_ok-out.ensures
+trimmed_front-loop-i-init g t c = ap trees_of c.in_ok-out.ensures.ok
 
 pub trimmed-trimmed_body-requires : goal.trimmed-trimmed_body-requires
 trimmed-trimmed_body-requires g t c κs within = (falls _ _ _ t c.decreases (in_node c.args.v.now _ c.in-Node.is), within)
