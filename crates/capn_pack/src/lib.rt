@@ -35,6 +35,3 @@ pub use lanes::tag;
 pub use reading::unpack;
 pub use stream::Unpacker;
 pub use writing::pack;
-
-#[cfg(test)]
-mod tests;

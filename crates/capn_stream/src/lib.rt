@@ -35,6 +35,3 @@ pub use segments::Framed;
 pub use sending::write_message;
 pub use table::MOST_TABLE_WORDS;
 pub use writing::frame;
-
-#[cfg(test)]
-mod tests;

@@ -101,6 +101,3 @@ impl<'a> Space for Bare<'a> {
         part(self.bytes, 8 * at.word as usize, len)
     }
 }
-
-#[cfg(test)]
-mod tests;

@@ -214,6 +214,3 @@ pub fn join(pointer: Pointer) -> u64
 {
     sum_of(pointer)
 }
-
-#[cfg(test)]
-mod tests;

@@ -96,6 +96,3 @@ impl<W: Write> Watched<W> {
         Ok(())
     }
 }
-
-#[cfg(test)]
-mod tests;

@@ -2,8 +2,8 @@
 
 ghost use Rattle.std.specs.Prelude.{◌≤◌, IfOk};
 
-use super::*;
-use std::io::{self, Error, ErrorKind};
+use capn_words::Watched;
+use std::io::{self, Error, ErrorKind, Read, Write};
 use std::test::Fail;
 
 /// What a call is told to answer.

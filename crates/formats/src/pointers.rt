@@ -3,7 +3,7 @@
 ghost use Rattle.std.specs.Prelude.{◌≡◌};
 ghost use Rattle.capn_words.specs.Fields.{Fits};
 
-use super::*;
+use capn_words::{Pointer, Width, join, split};
 
 /// A word is the word of what it says.
 fn joined_again(word: u64) -> u64

@@ -1,9 +1,8 @@
 //! Frames that come in pieces, and over readers and writers.
 
 use super::{FAR_POINTER, MOST, segment_of, word_at};
-use crate::{FrameFault, Framer, ReadFault, frame, read_message, write_message};
-use capn_words::Watched;
-use capn_words::space::Space;
+use capn_stream::{FrameFault, Framer, ReadFault, frame, read_message, write_message};
+use capn_words::{Space, Watched};
 
 #[test]
 fn takes_two_messages_of_one_piece(rt: HostRuntime) {

@@ -1,5 +1,5 @@
 //! Words and their packed texts, from the encoding page and from the rules by hand.
-use crate::{PackFault, UnpackFault, Unpacker, pack, tag, unpack};
+use capn_pack::{PackFault, UnpackFault, Unpacker, pack, tag, unpack};
 use std::alloc::Global;
 use std::test::Fail;
 

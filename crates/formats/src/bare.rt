@@ -1,6 +1,6 @@
 //! One segment, read by itself and by a function over any message.
 
-use super::*;
+use capn_words::{Bare, BareFault, Place, Space};
 
 /// A segment's bytes, over any message.
 fn segment_bytes<S: Space>(space: &S, segment: u32) -> Option<&[u8]> {

@@ -1,8 +1,7 @@
 //! Frames whose bytes are known.
 
-use crate::{FrameFault, first, frame};
-use capn_words::bare::Bare;
-use capn_words::space::{Place, Space};
+use capn_stream::{FrameFault, first, frame};
+use capn_words::{Bare, Place, Space};
 
 mod pieces;
 
