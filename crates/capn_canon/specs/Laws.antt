@@ -1,5 +1,4 @@
 -- The laws of canonical bytes.
-pub mod NotUnaccepted
 pub mod OneReading
 pub mod NotRefused
 pub mod NotUnaccepted

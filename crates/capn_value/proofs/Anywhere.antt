@@ -20,7 +20,7 @@ or_moved : (f r x : Bool) → ((f || r) || x) ≡ (f || (r || x))
 or_moved true r x = refl
 or_moved false r x = refl
 
-or_no_more : (f : Bool) → f ≡ (f || false)
+pub or_no_more : (f : Bool) → f ≡ (f || false)
 or_no_more true = refl
 or_no_more false = refl
 

@@ -1,12 +1,14 @@
 -- What holds of a value of one of several kinds, as the arms of a match tell it.
-use Rattle.std.proofs.Common.{◌≡◌, ℕ, List, Bool, true, false, None, ◌⊎◌, inl, inr, refl}
-use Rattle.capn_value.specs.View.{tree_of}
-use Rattle.capn_value.specs.Views.{tree_of-Nil, tree_of-Node, tree_of-Voids, tree_of-Bits, tree_of-Bytes, tree_of-Pairs, tree_of-Quads, tree_of-Octs, tree_of-Links, tree_of-Rows, tree_of-Cap}
+use Rattle.std.proofs.Common.{◌≡◌, ℕ, List, Bool, true, false, ◌||◌, None, ◌⊎◌, inl, inr, refl, length, ap, ap₂, sym, ◌∙◌, nat_lt}
+use Rattle.capn_value.specs.Tree.{Tree, voids, bits, bytes, pairs, quads, octs, links}
+use Rattle.capn_value.specs.View.{tree_of, trees_of}
+use Rattle.capn_value.specs.Views.{tree_of-Nil, tree_of-Node, tree_of-Voids, tree_of-Bits, tree_of-Bytes, tree_of-Pairs, tree_of-Quads, tree_of-Octs, tree_of-Links, tree_of-Rows, tree_of-Cap, count-trees_of}
 use Rattle.capn_value.specs.Caps.{first_cap}
 use Rattle.capn_value.specs.Sizes.{height}
-use Rattle.capn_value.specs.Fits.{is_wide, is_ragged, is_root}
+use Rattle.capn_value.specs.Fits.{is_wide, is_long, is_ragged, is_root, elements, words_in_rows}
 use Rattle.capn_value.specs.declared.value.Value.{Value, Nil, Node, Voids, Bits, Bytes, Pairs, Quads, Octs, Links, Rows, Cap}
 use Rattle.capn_value.specs.declared.value.Body.{Body}
+use Rattle.capn_value.proofs.Anywhere.{or_no_more}
 
 module _ {A : Type 0} where
   abbrev IsNoCap : Value A → Type 0
@@ -82,3 +84,38 @@ module _ {A : Type 0} where
   rooted v (inr (inr (inr (inr (inr (inr (inr (inl p)))))))) = rw (p.1, tree_of-Octs) refl
   rooted v (inr (inr (inr (inr (inr (inr (inr (inr (inl p))))))))) = rw (p.1, tree_of-Links) refl
   rooted v (inr (inr (inr (inr (inr (inr (inr (inr (inr p))))))))) = rw (p.1, tree_of-Rows) refl
+
+  abbrev IsShort : Value A → Type 0
+  IsShort v = (v ≡ Nil) ⊎ (((b : Body A) × (v ≡ Node b)) ⊎ ((k : ℕ) × (v ≡ Cap k)))
+
+  pub short : (v : Value A) → IsShort v → false ≡ is_long (tree_of v)
+  short v (inl e) = rw (e, tree_of-Nil) refl
+  short v (inr (inl p)) = rw (p.1, tree_of-Node) refl
+  short v (inr (inr p)) = rw (p.1, tree_of-Cap) refl
+
+  -- a list that is no list of structs, by the number of its elements
+  counted : (v : Value A) (t : Tree) {n : ℕ} → tree_of v ≡ t → words_in_rows t ≡ 0 → n ≡ elements t → nat_lt 536870911 n ≡ is_long (tree_of v)
+  counted v t {n} e f g =
+      or_no_more (nat_lt 536870911 n) ∙ ap₂ (λ m w. nat_lt 536870911 m || nat_lt 536870911 w) g (sym f) ∙ sym (ap is_long e)
+
+  module _ (v : Value A) {n : ℕ} where
+    pub voids_long : {m : ℕ} → v ≡ Voids m → n ≡ m → nat_lt 536870911 n ≡ is_long (tree_of v)
+    voids_long {m} e g = counted v (voids m) (ap tree_of e ∙ tree_of-Voids A m) refl g
+
+    pub bits_long : {xs : List Bool} → v ≡ Bits xs → n ≡ length xs → nat_lt 536870911 n ≡ is_long (tree_of v)
+    bits_long {xs} e g = counted v (bits xs) (ap tree_of e ∙ tree_of-Bits A xs) refl g
+
+    pub bytes_long : {xs : List ℕ} → v ≡ Bytes xs → n ≡ length xs → nat_lt 536870911 n ≡ is_long (tree_of v)
+    bytes_long {xs} e g = counted v (bytes xs) (ap tree_of e ∙ tree_of-Bytes A xs) refl g
+
+    pub pairs_long : {xs : List ℕ} → v ≡ Pairs xs → n ≡ length xs → nat_lt 536870911 n ≡ is_long (tree_of v)
+    pairs_long {xs} e g = counted v (pairs xs) (ap tree_of e ∙ tree_of-Pairs A xs) refl g
+
+    pub quads_long : {xs : List ℕ} → v ≡ Quads xs → n ≡ length xs → nat_lt 536870911 n ≡ is_long (tree_of v)
+    quads_long {xs} e g = counted v (quads xs) (ap tree_of e ∙ tree_of-Quads A xs) refl g
+
+    pub octs_long : {xs : List ℕ} → v ≡ Octs xs → n ≡ length xs → nat_lt 536870911 n ≡ is_long (tree_of v)
+    octs_long {xs} e g = counted v (octs xs) (ap tree_of e ∙ tree_of-Octs A xs) refl g
+
+    pub links_long : (vs : List (Value A)) → v ≡ Links vs → n ≡ length vs → nat_lt 536870911 n ≡ is_long (tree_of v)
+    links_long vs e g = counted v (links (trees_of vs)) (ap tree_of e ∙ tree_of-Links vs) refl (g ∙ sym (count-trees_of vs))
