@@ -78,8 +78,14 @@ fn any_word(random: &mut Random, segments: u64, words: u64, at: u64) -> u64 {
     }
 }
 
-// The root: a pointer to a struct, or a far pointer.
+// The root: a pointer to a struct or a list, a far pointer, or a capability.
 fn any_root(random: &mut Random, segments: u64, words: u64) -> u64 {
+    match random.below(16) {
+        0 => return any_list(random) | any_offset(random, words, 0),
+        1 => return list(6, random.below(4)) | offset_to(random.below(words), 0),
+        2 => return capability(random.below(4)),
+        _ => {}
+    }
     if random.below(6) == 0 {
         let is_double = random.below(3) == 0;
         return far(any_place(random, segments, words), is_double);

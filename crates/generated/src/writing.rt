@@ -146,6 +146,16 @@ impl Writing {
         Ok(())
     }
 
+    // The object at the root: a struct mostly, else a list of any kind.
+    fn push_root(&mut self) -> Result<Object, AllocError> {
+        match self.value.below(12) {
+            0 => self.push_numbers(),
+            1 => self.push_links(),
+            2 => self.push_rows(),
+            _ => self.push_struct(),
+        }
+    }
+
     // Fills a slot, or leaves it null.
     fn fill(&mut self, slot: At) -> Result<(), AllocError> {
         let object = match self.value.below(40) {
@@ -164,8 +174,8 @@ impl Writing {
     }
 }
 
-/// The stream of a seed's message, in so many segments: the same value in however many. Below the struct at its root
-/// stand fewer than 40 objects.
+/// The stream of a seed's message, in so many segments: the same value in however many. Below the struct or the
+/// list at its root stand fewer than 40 objects.
 pub fn message(alloc: Global, seed: u64, count: u64) -> Result<Vec<u8>, AllocError> {
     let mut writing = Writing {
         value: Random::new(seed),
@@ -178,7 +188,7 @@ pub fn message(alloc: Global, seed: u64, count: u64) -> Result<Vec<u8>, AllocErr
         word: 0,
     };
     writing.segments.push(0, 0)?;
-    let object = writing.push_struct()?;
+    let object = writing.push_root()?;
     writing.point(root, object)?;
     for _ in 0..writing.value.below(40) {
         let Some(slot) = writing.slots.pop() else {

@@ -159,7 +159,12 @@ fn is_told(alloc: Global, bytes: &[u8], want: &Told, size: usize) -> bool {
 
 /// Whether each beginning of a stream is told of as `first` does, in pieces of each size.
 fn are_told(alloc: Global, stream: &[u8]) -> bool {
-    for len in 0..=stream.len() {
+    are_told_from(alloc, stream, 0)
+}
+
+/// The same of the beginnings that are at least so long.
+fn are_told_from(alloc: Global, stream: &[u8], least: usize) -> bool {
+    for len in least..=stream.len() {
         let bytes = start_of(stream, len);
         let want = told_at_once(alloc, bytes);
         for size in [1, 3, 7, stream.len()] {
@@ -200,12 +205,16 @@ fn long_table(alloc: Global, count: u32) -> Result<Vec<u8>, Fail> {
     Ok(bytes)
 }
 
-/// The longest table that may be, and one that is too long, which is refused at its fourth byte.
+/// A long table; the longest that may be, cut in its first words and its last; and one that is too long, which is
+/// refused at its fourth byte.
 #[test]
-fn longest_table_cut_at_every_byte(rt: HostRuntime) -> Result<(), Fail> {
-    let longest = long_table(rt.alloc(), 511)?;
-    assert!(rt; longest.len() == 2_064 && are_told(rt.alloc(), longest.as_slice()));
-    let too_long = long_table(rt.alloc(), 512)?;
+fn long_tables_cut_at_every_byte(rt: HostRuntime) -> Result<(), Fail> {
+    let long = long_table(rt.alloc(), 512)?;
+    assert!(rt; long.len() == 2_064 && are_told(rt.alloc(), long.as_slice()));
+    let longest = long_table(rt.alloc(), 4_095)?;
+    assert!(rt; are_told(rt.alloc(), start_of(longest.as_slice(), 64)));
+    assert!(rt; longest.len() == 16_400 && are_told_from(rt.alloc(), longest.as_slice(), 16_370));
+    let too_long = long_table(rt.alloc(), 4_096)?;
     assert!(rt; are_told(rt.alloc(), start_of(too_long.as_slice(), 64)));
     Ok(())
 }

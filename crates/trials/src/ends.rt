@@ -231,11 +231,11 @@ fn ends_refused(rt: &impl Abort, alloc: Global, run_of: &Run, want: Refusal) {
 
 #[test]
 fn packed_streams_end_as_is_due(rt: HostRuntime) {
-    let long = [2, 2, 0xff, 0x8a];
+    let long = [2, 0x10, 0xff, 0x8a];
     let cut = [0x10, 2, 0x10, 1, 1, 5, 0x10, 2, 0x10];
     let unframed = [0x10, 2, 0x10, 1, 1, 5, 0x10, 2];
     let line = b"ok paid 2 visits 1\n";
-    let table = Refusal::Frame(FrameFault::TooManySegments(513));
+    let table = Refusal::Frame(FrameFault::TooManySegments(4097));
     ends_refused(&rt, rt.alloc(), &check_packed(&long, b""), table);
     let group = Refusal::Packed(UnpackFault::Cut { at: 8 });
     ends_refused(&rt, rt.alloc(), &check_packed(&cut, line), group);

@@ -90,8 +90,8 @@ fn refusals_of_frames(rt: HostRuntime) {
     expect_misframed(
         &rt,
         rt.alloc(),
-        FrameFault::TooManySegments(513),
-        "frame: TooManySegments(513)",
+        FrameFault::TooManySegments(4097),
+        "frame: TooManySegments(4097)",
     );
     expect_misframed(
         &rt,

@@ -117,17 +117,17 @@ fn long_costly_and_tall(rt: HostRuntime) {
 
 #[test]
 fn roots(rt: HostRuntime) {
-    expect(&rt, Ok(Value::Voids(1)), Some(Misfit::BadRoot));
+    expect_sizes(&rt, Ok(Value::Voids(1)), 1, 2);
     expect(&rt, Ok(Value::Cap(0)), Some(Misfit::BadRoot));
     expect_sizes(&rt, Ok(Value::Nil), 0, 0);
     match tree(Ok(Value::Nil)) {
         Ok(null) => assert!(rt; matches!(null.into_value(), Value::Nil)),
         Err(_) => assert!(rt; false, "null doesn't fit"),
     }
-    let voids: Value = Value::Voids(7);
-    match Tree::new(voids) {
-        Err((value, _)) => assert!(rt; matches!(value, Value::Voids(7))),
-        Ok(_) => assert!(rt; false, "a list fits as a root"),
+    let capability: Value = Value::Cap(7);
+    match Tree::new(capability) {
+        Err((value, _)) => assert!(rt; matches!(value, Value::Cap(7))),
+        Ok(_) => assert!(rt; false, "a capability fits as a root"),
     }
 }
 
