@@ -113,15 +113,36 @@ fn check() -> Run<'static> {
     }
 }
 
-/// What a run ended with, what it wrote, and the most that it asked its reader for, where the reader fails at one call
-/// and the writer at another (at 0: never).
-fn ended(
-    alloc: Global,
-    run_of: &Run,
-    read: u64,
-    write: u64,
-    takes_nothing: bool,
-) -> (Result<(), ToolFault>, Vec<u8>, usize) {
+/// A message of which each command's text is a line: a stream of a struct of one word, twice.
+const TWICE: [u8; 48] = [
+    0, 0, 0, 0, 2, 0, 0, 0, 0, 0, 0, 0, 1, 0, 0, 0, 5, 0, 0, 0, 0, 0, 0, 0, 0, 0, 0, 0, 2, 0, 0, 0,
+    0, 0, 0, 0, 1, 0, 0, 0, 5, 0, 0, 0, 0, 0, 0, 0,
+];
+
+/// The line of its digest, of 65 bytes, twice.
+const DIGESTS: &[u8] = b"6a3efd90ef3aebf0decabee51bbe92707bee76bb8f2830efd1bf615b14f61ac2\n\
+    6a3efd90ef3aebf0decabee51bbe92707bee76bb8f2830efd1bf615b14f61ac2\n";
+
+/// The run of `hash` over it.
+fn hash() -> Run<'static> {
+    Run {
+        command: Command::Hash(Form::Stream, Limits::usual()),
+        input: &TWICE,
+        text: DIGESTS,
+    }
+}
+
+/// How a run ended: its outcome, what it wrote, how often it called its reader, and the most that it asked it for.
+#[derive(Drop)]
+struct Ending {
+    outcome: Result<(), ToolFault>,
+    written: Vec<u8>,
+    reads: u64,
+    asked: usize,
+}
+
+/// How a run ended whose reader fails at one call and its writer at another (at 0: never).
+fn ended(alloc: Global, run_of: &Run, read: u64, write: u64, takes_nothing: bool) -> Ending {
     let mut reader = Watched::new(Slow {
         bytes: run_of.input,
         calls: 0,
@@ -135,69 +156,106 @@ fn ended(
         takes_nothing,
     });
     let outcome = run(alloc, run_of.command, &mut reader, &mut writer);
-    (
+    let reader = reader.into_inner();
+    Ending {
         outcome,
-        writer.into_inner().bytes,
-        reader.into_inner().asked,
-    )
+        written: writer.into_inner().bytes,
+        reads: reader.calls,
+        asked: reader.asked,
+    }
 }
 
-/// Fails each call of the reader in turn, the one that finds the end among them: what is due for the messages that were
-/// whole by then is written, of which each behind so many bytes brings the text to so many.
+/// How much of the text is due before a call of the reader, of the messages that were whole by then: each that ends
+/// behind so many bytes brings the text to so many.
+fn due(whole: &[(u64, usize)], call: u64) -> usize {
+    let mut due = 0;
+    for (bytes, text) in whole {
+        if *bytes < call {
+            due = *text;
+        }
+    }
+    due
+}
+
+/// How often the reader was called when a byte of the text is written: as often as the message has bytes that it belongs
+/// to, or to the end of the input.
+fn reads_before(whole: &[(u64, usize)], byte: usize, all: u64) -> u64 {
+    for (bytes, text) in whole {
+        if byte <= *text {
+            return *bytes;
+        }
+    }
+    all
+}
+
+/// Fails each call of the reader in turn, the one that finds the end among them: what is due is written.
 fn fail_each_read(rt: &impl Abort, alloc: Global, run_of: &Run, whole: &[(u64, usize)]) {
     let calls = run_of.input.len() as u64 + 1;
-    for call in 0..50u64 {
-        let (outcome, written, asked) = ended(alloc, run_of, call, 0, false);
-        assert_eq!(rt; asked, 65_536, "read {call}");
+    for call in 0..=calls + 1 {
+        let end = ended(alloc, run_of, call, 0, false);
+        assert_eq!(rt; end.asked, 65_536, "read {call}");
         if 1 <= call && call <= calls {
-            let mut due = 0;
-            for (bytes, text) in whole {
-                if *bytes < call {
-                    due = *text;
-                }
-            }
-            assert_eq!(rt; outcome, Err(ToolFault::Io), "read {call}");
+            assert_eq!(rt; end.outcome, Err(ToolFault::Io), "read {call}");
             assert_eq!(rt;
-                run_of.text.get(..due),
-                Some(written.as_slice()),
+                run_of.text.get(..due(whole, call)),
+                Some(end.written.as_slice()),
                 "read {call}"
             );
         } else {
-            assert_eq!(rt; outcome, Ok(()), "read {call}");
-            assert_eq!(rt; written.as_slice(), run_of.text, "read {call}");
+            assert_eq!(rt; end.outcome, Ok(()), "read {call}");
+            assert_eq!(rt; end.written.as_slice(), run_of.text, "read {call}");
         }
     }
 }
 
-/// Fails each call of the writer in turn: what it took before is a beginning of the text.
-fn fail_each_write(rt: &impl Abort, alloc: Global, run_of: &Run, takes_nothing: bool) {
-    for call in 0..50usize {
-        let (outcome, written, _) = ended(alloc, run_of, 0, call as u64, takes_nothing);
+/// Fails each call of the writer in turn: what it took before is a beginning of the text, and the reader wasn't called
+/// any more.
+fn fail_each_write(
+    rt: &impl Abort,
+    alloc: Global,
+    run_of: &Run,
+    whole: &[(u64, usize)],
+    takes_nothing: bool,
+) {
+    let calls = run_of.input.len() as u64 + 1;
+    for call in 0..200usize {
+        let end = ended(alloc, run_of, 0, call as u64, takes_nothing);
         if 1 <= call && call <= run_of.text.len() {
-            assert_eq!(rt; outcome, Err(ToolFault::Io), "write {call}");
+            assert_eq!(rt; end.outcome, Err(ToolFault::Io), "write {call}");
             assert_eq!(rt;
                 run_of.text.get(..call - 1),
-                Some(written.as_slice()),
+                Some(end.written.as_slice()),
+                "write {call}"
+            );
+            assert!(rt;
+                end.reads == reads_before(whole, call, calls),
                 "write {call}"
             );
         } else {
-            assert_eq!(rt; outcome, Ok(()), "write {call}");
-            assert_eq!(rt; written.as_slice(), run_of.text, "write {call}");
+            assert_eq!(rt; end.outcome, Ok(()), "write {call}");
+            assert_eq!(rt; end.written.as_slice(), run_of.text, "write {call}");
         }
     }
 }
+
+/// The messages of `check`'s stream, and of the one that stands twice.
+const CHECKED: [(u64, usize); 2] = [(24, 19), (40, 38)];
+
+const HASHED: [(u64, usize); 2] = [(24, 65), (48, 130)];
 
 #[test]
 fn a_reader_fails_at_each_call(rt: HostRuntime) {
     fail_each_read(&rt, rt.alloc(), &canonical(), &[]);
-    fail_each_read(&rt, rt.alloc(), &check(), &[(24, 19), (40, 38)]);
+    fail_each_read(&rt, rt.alloc(), &check(), &CHECKED);
+    fail_each_read(&rt, rt.alloc(), &hash(), &HASHED);
 }
 
 #[test]
 fn a_writer_fails_at_each_call(rt: HostRuntime) {
     for takes_nothing in [false, true] {
-        fail_each_write(&rt, rt.alloc(), &canonical(), takes_nothing);
-        fail_each_write(&rt, rt.alloc(), &check(), takes_nothing);
+        fail_each_write(&rt, rt.alloc(), &canonical(), &[], takes_nothing);
+        fail_each_write(&rt, rt.alloc(), &check(), &CHECKED, takes_nothing);
+        fail_each_write(&rt, rt.alloc(), &hash(), &HASHED, takes_nothing);
     }
 }
 
@@ -218,15 +276,16 @@ fn a_packed_stream_is_served(rt: HostRuntime) {
     let twice = [0x10, 2, 0x10, 1, 1, 5, 0x10, 2, 0x10, 1, 1, 5];
     let lines = b"ok paid 2 visits 1\nok paid 2 visits 1\n";
     let both = check_packed(&twice, lines);
-    fail_each_read(&rt, rt.alloc(), &both, &[(6, 19), (12, 38)]);
-    fail_each_write(&rt, rt.alloc(), &both, true);
+    let whole = [(6, 19), (12, 38)];
+    fail_each_read(&rt, rt.alloc(), &both, &whole);
+    fail_each_write(&rt, rt.alloc(), &both, &whole, true);
 }
 
 /// The run writes its text and is refused so.
 fn ends_refused(rt: &impl Abort, alloc: Global, run_of: &Run, want: Refusal) {
-    let (outcome, written, _) = ended(alloc, run_of, 0, 0, false);
-    assert_eq!(rt; outcome, Err(ToolFault::Refused(want)));
-    assert_eq!(rt; written.as_slice(), run_of.text);
+    let end = ended(alloc, run_of, 0, 0, false);
+    assert_eq!(rt; end.outcome, Err(ToolFault::Refused(want)));
+    assert_eq!(rt; end.written.as_slice(), run_of.text);
 }
 
 #[test]
@@ -241,7 +300,7 @@ fn packed_streams_end_as_is_due(rt: HostRuntime) {
     ends_refused(&rt, rt.alloc(), &check_packed(&cut, line), group);
     let frame = Refusal::Frame(FrameFault::Cut);
     ends_refused(&rt, rt.alloc(), &check_packed(&unframed, line), frame);
-    let (outcome, written, _) = ended(rt.alloc(), &check_packed(&PACKED, line), 0, 0, false);
-    assert_eq!(rt; outcome, Ok(()));
-    assert_eq!(rt; written.as_slice(), line.as_slice());
+    let end = ended(rt.alloc(), &check_packed(&PACKED, line), 0, 0, false);
+    assert_eq!(rt; end.outcome, Ok(()));
+    assert_eq!(rt; end.written.as_slice(), line.as_slice());
 }

@@ -36,7 +36,7 @@ fn usual_values(rt: HostRuntime) {
     let hash = Command::Hash(Form::Stream, usual);
     expect(&rt, alloc, &["capn", "hash"], Ok(hash));
     expect(&rt, alloc, &["capn", "pack"], Ok(Command::Pack));
-    let unpack = Command::Unpack(8_388_865);
+    let unpack = Command::Unpack(8_390_657);
     expect(&rt, alloc, &["capn", "unpack"], Ok(unpack));
 }
 
@@ -111,8 +111,8 @@ fn expect_unpack(rt: &impl Abort, alloc: Global, number: &str, want: Result<Comm
 fn unpacked_words_have_a_range(rt: HostRuntime) {
     let alloc = rt.alloc();
     expect_unpack(&rt, alloc, "0", Err(2));
-    expect_unpack(&rt, alloc, "1", Ok(Command::Unpack(258)));
-    let most = Ok(Command::Unpack(268_435_713));
+    expect_unpack(&rt, alloc, "1", Ok(Command::Unpack(2_050)));
+    let most = Ok(Command::Unpack(268_437_505));
     expect_unpack(&rt, alloc, "268435456", most);
     expect_unpack(&rt, alloc, "268435457", Err(2));
     expect(&rt, alloc, &["capn", "unpack", "--budget", "5"], Err(2));
