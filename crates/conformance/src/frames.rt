@@ -2,6 +2,7 @@
 
 ghost use Rattle.std.specs.Prelude.{◌≤◌, ◌^◌, IfOk};
 
+use crate::growths::{Heap, MEMORY};
 use crate::messages::MOST_WORDS;
 use crate::words::{bytes_at, digits_of, number_at};
 use anyhow::{Result, anyhow};
@@ -23,7 +24,7 @@ pub fn limit_at(words: &[&str], at: usize) -> Result<u32>
 /// A refusal of a frame.
 pub fn frame_text(alloc: Global, fault: FrameFault) -> Result<String> {
     let text = match fault {
-        FrameFault::Memory => return Err(anyhow!("out of memory")),
+        FrameFault::Memory => format!(in alloc; "{MEMORY}")?,
         FrameFault::Failed => format!(in alloc; "Failed")?,
         FrameFault::Empty => format!(in alloc; "Empty")?,
         FrameFault::TooManySegments(count) => format!(in alloc; "TooManySegments({count})")?,
@@ -49,10 +50,10 @@ pub fn segments_text<S: Space>(alloc: Global, space: &S) -> Result<String> {
 }
 
 /// `first MOST_WORDS BYTES`.
-pub fn first_answer(alloc: Global, words: &[&str]) -> Result<String> {
+pub fn first_answer(alloc: Global, heap: &Heap, words: &[&str]) -> Result<String> {
     let limit = limit_at(words, 1)?;
     let bytes = bytes_at(alloc, words, 2)?;
-    match first(alloc, bytes.as_slice(), limit) {
+    match first(heap, bytes.as_slice(), limit) {
         Ok((message, taken)) => {
             let segments = segments_text(alloc, &message)?;
             Ok(format!(in alloc; "taken {taken}:{segments}")?)
@@ -62,12 +63,12 @@ pub fn first_answer(alloc: Global, words: &[&str]) -> Result<String> {
 }
 
 /// `frame BYTES`: the frame of the message that stands first in the bytes.
-pub fn frame_answer(alloc: Global, words: &[&str]) -> Result<String> {
+pub fn frame_answer(alloc: Global, heap: &Heap, words: &[&str]) -> Result<String> {
     let bytes = bytes_at(alloc, words, 1)?;
-    match first(alloc, bytes.as_slice(), MOST_WORDS) {
-        Ok((message, _)) => match frame(alloc, &message) {
+    match first(heap, bytes.as_slice(), MOST_WORDS) {
+        Ok((message, _)) => match frame(heap, &message) {
             Ok(again) => digits_of(alloc, again.as_slice()),
-            Err(_) => Err(anyhow!("out of memory")),
+            Err(_) => Ok(String::from_str(alloc, MEMORY)?),
         },
         Err(fault) => frame_text(alloc, fault),
     }

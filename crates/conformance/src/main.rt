@@ -1,9 +1,12 @@
 //! Answers each case of standard input: a line that names it and a line that says a call, each word parted by a space.
 //! Bytes are hexadecimal, and `-` stands for none. A call behind the word `plain` pays by the plain tariff, another by the
-//! strict one. What must come out is the stored output, which no run of ours wrote.
+//! strict one. What must come out is the stored output, which no run of ours wrote. Each call is made once with ample
+//! memory, and then as often as it grows with one growth refused: its line is printed only where it answered that memory
+//! is wanted each time, and its answer afterwards.
 #![tactic(auto)]
 
 mod frames;
+mod growths;
 mod messages;
 mod packing;
 mod pieces;
@@ -15,6 +18,7 @@ mod words;
 
 use anyhow::{Result, bail};
 use capn_value::Tariff;
+use growths::{Heap, answer_each};
 use std::alloc::Global;
 use std::io::BufRead;
 use words::word_at;
@@ -27,32 +31,31 @@ fn tariff_and_call<'w, 'a>(words: &'w [&'a str]) -> (Tariff, &'w [&'a str]) {
     }
 }
 
-/// What a call answers, as a line.
-fn answer(alloc: Global, line: &str) -> Result<String> {
-    let words: Vec<&str> = line.split(' ').collect(alloc)?;
-    let (tariff, words) = tariff_and_call(words.as_slice());
+/// What a call answers, as a line, where it takes its memory from a heap.
+fn answer(alloc: Global, heap: &Heap, words: &[&str]) -> Result<String> {
+    let (tariff, words) = tariff_and_call(words);
     match word_at(words, 0)? {
-        "pack" => packing::pack_answer(alloc, words),
-        "unpack" => packing::unpack_answer(alloc, words),
-        "run" => runs::run_answer(alloc, words),
+        "pack" => packing::pack_answer(alloc, heap, words),
+        "unpack" => packing::unpack_answer(alloc, heap, words),
+        "run" => runs::run_answer(alloc, heap, words),
         "usage" => runs::usage_answer(alloc, words),
         "limits" => messages::limits_answer(alloc, words),
-        "resolve" => messages::resolve_answer(alloc, words),
-        "walk" => messages::walk_answer(alloc, words, tariff),
-        "canonicalise" => messages::canonicalise_answer(alloc, words, tariff),
-        "again" => messages::again_answer(alloc, words, tariff),
-        "equal" => messages::equal_answer(alloc, words),
-        "first" => frames::first_answer(alloc, words),
-        "frame" => frames::frame_answer(alloc, words),
+        "resolve" => messages::resolve_answer(alloc, heap, words),
+        "walk" => messages::walk_answer(alloc, heap, words, tariff),
+        "canonicalise" => messages::canonicalise_answer(alloc, heap, words, tariff),
+        "again" => messages::again_answer(alloc, heap, words, tariff),
+        "equal" => messages::equal_answer(alloc, heap, words),
+        "first" => frames::first_answer(alloc, heap, words),
+        "frame" => frames::frame_answer(alloc, heap, words),
         "tag" => packing::tag_answer(alloc, words),
-        "framer" => pieces::framer_answer(alloc, words),
-        "pieces" => pieces::pieces_answer(alloc, words),
-        "unpacker" => pieces::unpacker_answer(alloc, words),
-        "read" => pieces::read_answer(alloc, words),
-        "write" => pieces::write_answer(alloc, words),
-        "survey" => surveys::survey_answer(alloc, words, tariff),
-        "is_canonical" => surveys::is_canonical_answer(alloc, words, tariff),
-        "view" => views::view_answer(alloc, words, tariff),
+        "framer" => pieces::framer_answer(alloc, heap, words),
+        "pieces" => pieces::pieces_answer(alloc, heap, words),
+        "unpacker" => pieces::unpacker_answer(alloc, heap, words),
+        "read" => pieces::read_answer(alloc, heap, words),
+        "write" => pieces::write_answer(alloc, heap, words),
+        "survey" => surveys::survey_answer(alloc, heap, words, tariff),
+        "is_canonical" => surveys::is_canonical_answer(alloc, heap, words, tariff),
+        "view" => views::view_answer(alloc, heap, words, tariff),
         call => bail!("no call {call:?}"),
     }
 }
@@ -64,7 +67,7 @@ fn main(rt: HostRuntime) -> Result<()> {
         if is_name {
             println!(rt; "{line}")?;
         } else {
-            let answer = answer(rt.alloc(), line.as_str())?;
+            let answer = answer_each(rt.alloc(), line.as_str())?;
             println!(rt; "{answer}")?;
         }
         is_name = !is_name;

@@ -1,14 +1,15 @@
 //! The calls on messages.
 
 use crate::frames::frame_text;
-use crate::refusals::{fault_name, refusal_text, stopped_text, unpack_text};
+use crate::growths::{Heap, MEMORY};
+use crate::refusals::{fault_name, refusal_text, unpack_text, walk_stopped_text};
 use crate::words::{bytes_at, digits_of, number_at, word_at};
 use anyhow::{Result, anyhow, bail};
-use capn_canon::{Form, canonicalise, layout};
-use capn_pack::unpack;
-use capn_stream::first;
-use capn_value::Tariff;
-use capn_walk::{Limits, Shape, Target, resolve, walk};
+use capn_canon::{Form, LayoutFault, Refusal, canonicalise, layout};
+use capn_pack::{UnpackFault, unpack};
+use capn_stream::{FrameFault, first};
+use capn_value::{Tariff, copy, trim};
+use capn_walk::{Fault, Limits, Shape, Target, resolve, walk};
 use capn_words::{Bare, Place, Space};
 use std::alloc::Global;
 
@@ -50,134 +51,168 @@ pub fn limits_answer(alloc: Global, words: &[&str]) -> Result<String> {
     Ok(String::from_str(alloc, text)?)
 }
 
-/// The layout of the tree that a walk of the message makes.
-fn layout_of<S: Space>(alloc: Global, space: &S, limits: Limits) -> Result<Vec<u8>> {
-    let Ok(walked) = walk(alloc, space, limits) else {
-        bail!("no tree");
+/// The layout of the tree that a walk of the message makes, trimmed and copied; None where memory is wanted.
+fn layout_of<'h, S: Space>(
+    heap: &'h Heap,
+    space: &S,
+    limits: Limits,
+) -> Result<Option<Vec<u8, &'h Heap>>> {
+    let tree = match walk(heap, space, limits) {
+        Ok(walked) => walked.tree,
+        Err(stopped) if matches!(stopped.fault, Fault::Memory) => return Ok(None),
+        Err(_) => bail!("no tree"),
     };
-    let Ok(bytes) = layout(alloc, &walked.tree) else {
-        bail!("no layout");
+    let Ok(trimmed) = trim(heap, &tree) else {
+        return Ok(None);
     };
-    Ok(bytes)
+    let Ok(copied) = copy(heap, &trimmed) else {
+        return Ok(None);
+    };
+    match layout(heap, &copied) {
+        Ok(bytes) => Ok(Some(bytes)),
+        Err(LayoutFault::Memory) => Ok(None),
+        Err(_) => Err(anyhow!("no layout")),
+    }
 }
 
 /// The same of the message that stands first.
-fn layout_of_frame(alloc: Global, bytes: &[u8], limits: Limits) -> Result<Vec<u8>> {
-    let Ok((space, _)) = first(alloc, bytes, MOST_WORDS) else {
-        bail!("no frame");
-    };
-    layout_of(alloc, &space, limits)
+fn layout_of_frame<'h>(
+    heap: &'h Heap,
+    bytes: &[u8],
+    limits: Limits,
+) -> Result<Option<Vec<u8, &'h Heap>>> {
+    match first(heap, bytes, MOST_WORDS) {
+        Ok((space, _)) => layout_of(heap, &space, limits),
+        Err(FrameFault::Memory) => Ok(None),
+        Err(_) => Err(anyhow!("no frame")),
+    }
 }
 
 /// The same of the message that bytes are in a form.
-fn layout_in_form(alloc: Global, form: Form, bytes: &[u8], limits: Limits) -> Result<Vec<u8>> {
+fn layout_in_form<'h>(
+    heap: &'h Heap,
+    form: Form,
+    bytes: &[u8],
+    limits: Limits,
+) -> Result<Option<Vec<u8, &'h Heap>>> {
     match form {
         Form::Bare => match Bare::new(bytes) {
-            Ok(space) => layout_of(alloc, &space, limits),
+            Ok(space) => layout_of(heap, &space, limits),
             Err(_) => Err(anyhow!("no segment")),
         },
-        Form::Stream => layout_of_frame(alloc, bytes, limits),
-        Form::Packed => match unpack(alloc, bytes, MOST_WORDS) {
-            Ok(text) => layout_of_frame(alloc, text.as_slice(), limits),
+        Form::Stream => layout_of_frame(heap, bytes, limits),
+        Form::Packed => match unpack(heap, bytes, MOST_WORDS) {
+            Ok(text) => layout_of_frame(heap, text.as_slice(), limits),
+            Err(UnpackFault::Memory) => Ok(None),
             Err(_) => Err(anyhow!("no text")),
         },
     }
 }
 
 /// `canonicalise FORM MESSAGE_WORDS BUDGET DEPTH BYTES`. The bytes have to be the layout of the tree that a walk makes.
-pub fn canonicalise_answer(alloc: Global, words: &[&str], tariff: Tariff) -> Result<String> {
+pub fn canonicalise_answer(
+    alloc: Global,
+    heap: &Heap,
+    words: &[&str],
+    tariff: Tariff,
+) -> Result<String> {
     let form = form_at(words, 1)?;
     let limits = true_limits_at(words, 2, tariff)?;
     let bytes = bytes_at(alloc, words, 5)?;
-    match canonicalise(alloc, form, bytes.as_slice(), limits) {
-        Ok(canonical) => {
-            let paid = canonical.paid;
-            let laid = layout_in_form(alloc, form, bytes.as_slice(), limits)?;
-            if laid.as_slice() != canonical.bytes.as_slice() {
-                bail!("the layout of the tree is another one");
-            }
-            let digits = digits_of(alloc, canonical.bytes.as_slice())?;
-            Ok(format!(in alloc; "paid {paid}, {digits}")?)
-        }
-        Err(refusal) => refusal_text(alloc, refusal),
+    let canonical = match canonicalise(heap, form, bytes.as_slice(), limits) {
+        Ok(canonical) => canonical,
+        Err(refusal) => return refusal_text(alloc, refusal),
+    };
+    match layout_in_form(heap, form, bytes.as_slice(), limits)? {
+        Some(laid) => if laid.as_slice() != canonical.bytes.as_slice() {
+            bail!("the layout of the tree is another one");
+        },
+        None => return Ok(String::from_str(alloc, MEMORY)?),
     }
+    let paid = canonical.paid;
+    let digits = digits_of(alloc, canonical.bytes.as_slice())?;
+    Ok(format!(in alloc; "paid {paid}, {digits}")?)
 }
 
 /// `again FORM MESSAGE_WORDS BUDGET DEPTH BYTES`: whether the canonical bytes, read bare, have themselves as canonical
 /// bytes under the same limits; `refused` where there are none.
-pub fn again_answer(alloc: Global, words: &[&str], tariff: Tariff) -> Result<String> {
+pub fn again_answer(alloc: Global, heap: &Heap, words: &[&str], tariff: Tariff) -> Result<String> {
     let form = form_at(words, 1)?;
     let limits = true_limits_at(words, 2, tariff)?;
     let bytes = bytes_at(alloc, words, 5)?;
-    let Ok(canonical) = canonicalise(alloc, form, bytes.as_slice(), limits) else {
-        return Ok(String::from_str(alloc, "refused")?);
+    let once = match canonicalise(heap, form, bytes.as_slice(), limits) {
+        Ok(canonical) => canonical.bytes,
+        Err(Refusal::Memory) => return Ok(String::from_str(alloc, MEMORY)?),
+        Err(_) => return Ok(String::from_str(alloc, "refused")?),
     };
-    let once = canonical.bytes;
-    let text = match canonicalise(alloc, Form::Bare, once.as_slice(), limits) {
+    let text = match canonicalise(heap, Form::Bare, once.as_slice(), limits) {
         Ok(again) => if again.bytes.as_slice() == once.as_slice() {
             "again"
         } else {
             "others"
         },
+        Err(Refusal::Memory) => MEMORY,
         Err(_) => "refused again",
     };
     Ok(String::from_str(alloc, text)?)
 }
 
 /// `equal FORM BYTES FORM BYTES ..`: whether all have the same canonical bytes under the usual limits.
-pub fn equal_answer(alloc: Global, words: &[&str]) -> Result<String> {
-    let mut common: Option<Vec<u8>> = None;
+pub fn equal_answer(alloc: Global, heap: &Heap, words: &[&str]) -> Result<String> {
+    let mut common: Option<Vec<u8, &Heap>> = None;
     let mut text = "equal";
     for pair in 0..words.len() / 2 {
         let at = 2 * pair + 1;
         let form = form_at(words, at)?;
         let bytes = bytes_at(alloc, words, at + 1)?;
-        let Ok(canonical) = canonicalise(alloc, form, bytes.as_slice(), Limits::usual()) else {
-            bail!("refused");
+        let found = match canonicalise(heap, form, bytes.as_slice(), Limits::usual()) {
+            Ok(canonical) => canonical.bytes,
+            Err(Refusal::Memory) => return Ok(String::from_str(alloc, MEMORY)?),
+            Err(_) => bail!("refused"),
         };
         match &common {
-            Some(bytes) => if bytes.as_slice() != canonical.bytes.as_slice() {
+            Some(bytes) => if bytes.as_slice() != found.as_slice() {
                 text = "different";
             },
-            None => common = Some(canonical.bytes),
+            None => common = Some(found),
         }
     }
     Ok(String::from_str(alloc, text)?)
 }
 
 /// What a walk answers.
-fn walk_text<S: Space>(alloc: Global, space: &S, limits: Limits) -> Result<String> {
-    match walk(alloc, space, limits) {
+fn walk_text<S: Space>(alloc: Global, heap: &Heap, space: &S, limits: Limits) -> Result<String> {
+    match walk(heap, space, limits) {
         Ok(walked) => {
             let paid = walked.paid;
             let visits = walked.visits;
             Ok(format!(in alloc; "paid {paid}, visits {visits}")?)
         }
-        Err(stopped) => stopped_text(alloc, stopped),
+        Err(stopped) => walk_stopped_text(alloc, stopped),
     }
 }
 
 /// What a walk of the message that stands first answers.
-fn walk_frame(alloc: Global, bytes: &[u8], limits: Limits) -> Result<String> {
-    match first(alloc, bytes, MOST_WORDS) {
-        Ok((space, _)) => walk_text(alloc, &space, limits),
+fn walk_frame(alloc: Global, heap: &Heap, bytes: &[u8], limits: Limits) -> Result<String> {
+    match first(heap, bytes, MOST_WORDS) {
+        Ok((space, _)) => walk_text(alloc, heap, &space, limits),
         Err(fault) => frame_text(alloc, fault),
     }
 }
 
 /// `walk FORM MESSAGE_WORDS BUDGET DEPTH BYTES`.
-pub fn walk_answer(alloc: Global, words: &[&str], tariff: Tariff) -> Result<String> {
+pub fn walk_answer(alloc: Global, heap: &Heap, words: &[&str], tariff: Tariff) -> Result<String> {
     let form = form_at(words, 1)?;
     let limits = true_limits_at(words, 2, tariff)?;
     let bytes = bytes_at(alloc, words, 5)?;
     match form {
         Form::Bare => match Bare::new(bytes.as_slice()) {
-            Ok(space) => walk_text(alloc, &space, limits),
+            Ok(space) => walk_text(alloc, heap, &space, limits),
             Err(_) => Err(anyhow!("no segment")),
         },
-        Form::Stream => walk_frame(alloc, bytes.as_slice(), limits),
-        Form::Packed => match unpack(alloc, bytes.as_slice(), MOST_WORDS) {
-            Ok(text) => walk_frame(alloc, text.as_slice(), limits),
+        Form::Stream => walk_frame(alloc, heap, bytes.as_slice(), limits),
+        Form::Packed => match unpack(heap, bytes.as_slice(), MOST_WORDS) {
+            Ok(text) => walk_frame(alloc, heap, text.as_slice(), limits),
             Err(fault) => unpack_text(alloc, fault),
         },
     }
@@ -216,12 +251,12 @@ fn resolve_text<S: Space>(alloc: Global, space: &S, at: Place) -> Result<String>
     }
     match resolve(space, at) {
         Ok(target) => target_text(alloc, target),
-        Err(fault) => Ok(String::from_str(alloc, fault_name(fault)?)?),
+        Err(fault) => Ok(String::from_str(alloc, fault_name(fault))?),
     }
 }
 
 /// `resolve FORM SEGMENT WORD BYTES`.
-pub fn resolve_answer(alloc: Global, words: &[&str]) -> Result<String> {
+pub fn resolve_answer(alloc: Global, heap: &Heap, words: &[&str]) -> Result<String> {
     let form = form_at(words, 1)?;
     let segment = number_at(words, 2)?;
     let word = number_at(words, 3)?;
@@ -232,7 +267,7 @@ pub fn resolve_answer(alloc: Global, words: &[&str]) -> Result<String> {
             Ok(space) => resolve_text(alloc, &space, at),
             Err(_) => Err(anyhow!("no segment")),
         },
-        Form::Stream => match first(alloc, bytes.as_slice(), MOST_WORDS) {
+        Form::Stream => match first(heap, bytes.as_slice(), MOST_WORDS) {
             Ok((space, _)) => resolve_text(alloc, &space, at),
             Err(fault) => frame_text(alloc, fault),
         },

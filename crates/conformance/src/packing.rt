@@ -1,5 +1,6 @@
 //! The calls of packing.
 
+use crate::growths::{Heap, MEMORY};
 use crate::refusals::unpack_text;
 use crate::words::{bytes_at, digits_of, number_at};
 use anyhow::{Result, anyhow};
@@ -7,20 +8,20 @@ use capn_pack::{PackFault, pack, tag, unpack};
 use std::alloc::Global;
 
 /// `pack BYTES`.
-pub fn pack_answer(alloc: Global, words: &[&str]) -> Result<String> {
+pub fn pack_answer(alloc: Global, heap: &Heap, words: &[&str]) -> Result<String> {
     let bytes = bytes_at(alloc, words, 1)?;
-    match pack(alloc, bytes.as_slice()) {
+    match pack(heap, bytes.as_slice()) {
         Ok(text) => digits_of(alloc, text.as_slice()),
-        Err(PackFault::Memory) => Err(anyhow!("out of memory")),
+        Err(PackFault::Memory) => Ok(String::from_str(alloc, MEMORY)?),
         Err(PackFault::NotWhole(length)) => Ok(format!(in alloc; "NotWhole({length})")?),
     }
 }
 
 /// `unpack MOST_WORDS BYTES`.
-pub fn unpack_answer(alloc: Global, words: &[&str]) -> Result<String> {
+pub fn unpack_answer(alloc: Global, heap: &Heap, words: &[&str]) -> Result<String> {
     let most = number_at(words, 1)?;
     let text = bytes_at(alloc, words, 2)?;
-    match unpack(alloc, text.as_slice(), most) {
+    match unpack(heap, text.as_slice(), most) {
         Ok(bytes) => digits_of(alloc, bytes.as_slice()),
         Err(fault) => unpack_text(alloc, fault),
     }

@@ -1,17 +1,18 @@
 //! The calls on streams and packed texts that come in pieces, and over a reader and a writer.
 
 use crate::frames::{frame_text, limit_at, segments_text};
+use crate::growths::{Heap, MEMORY};
 use crate::messages::MOST_WORDS;
 use crate::refusals::unpack_text;
 use crate::words::{bytes_at, digits_of, number_at, push_told, word_at};
 use anyhow::{Result, anyhow, bail};
-use capn_pack::Unpacker;
+use capn_pack::{UnpackFault, Unpacker};
 use capn_stream::{FrameFault, Framer, ReadFault, Stored, read_message, write_message};
 use capn_words::Watched;
 use std::alloc::Global;
 
 /// A message, by the bytes of its segments.
-fn message_text(alloc: Global, message: &Stored) -> Result<String> {
+fn message_text(alloc: Global, message: &Stored<&Heap>) -> Result<String> {
     let segments = segments_text(alloc, message)?;
     Ok(format!(in alloc; "message{segments}")?)
 }
@@ -25,7 +26,12 @@ fn ending_text(alloc: Global, ending: Result<(), FrameFault>) -> Result<String> 
 }
 
 /// What a framer is told, in a word of the line, and what it answers; bytes are those of the next word.
-fn framer_text(framer: &mut Framer, alloc: Global, words: &[&str], at: usize) -> Result<String> {
+fn framer_text(
+    framer: &mut Framer<&Heap>,
+    alloc: Global,
+    words: &[&str],
+    at: usize,
+) -> Result<String> {
     match word_at(words, at)? {
         "feed" => {
             let piece = bytes_at(alloc, words, at.saturating_add(1))?;
@@ -43,9 +49,17 @@ fn framer_text(framer: &mut Framer, alloc: Global, words: &[&str], at: usize) ->
     }
 }
 
+/// Where memory was wanted, a framer has to fail from then on.
+fn has_to_fail(framer: &mut Framer<&Heap>) -> Result<()> {
+    match (framer.feed(&[0]), framer.finish(), framer.take()) {
+        (Err(FrameFault::Failed), Err(FrameFault::Failed), None) => Ok(()),
+        _ => Err(anyhow!("a framer goes on without memory")),
+    }
+}
+
 /// `framer MOST_WORDS STEP ..`: each step is `feed BYTES`, `take` or `finish`.
-pub fn framer_answer(alloc: Global, words: &[&str]) -> Result<String> {
-    let mut framer = Framer::new(alloc, limit_at(words, 1)?);
+pub fn framer_answer(alloc: Global, heap: &Heap, words: &[&str]) -> Result<String> {
+    let mut framer = Framer::new(heap, limit_at(words, 1)?);
     let mut text = String::new(alloc);
     let mut is_piece = false;
     for at in 2..words.len() {
@@ -55,24 +69,45 @@ pub fn framer_answer(alloc: Global, words: &[&str]) -> Result<String> {
         }
         let told = framer_text(&mut framer, alloc, words, at)?;
         push_told(&mut text, told.as_str())?;
+        if told.as_str() == MEMORY {
+            has_to_fail(&mut framer)?;
+            return Ok(text);
+        }
         is_piece = word_at(words, at)? == "feed";
     }
     Ok(text)
+}
+
+/// What was unpacked before memory was wanted, and that it was.
+fn cut_short(alloc: Global, unpacked: &[u8]) -> Result<String> {
+    let digits = hex::encode(alloc, unpacked)?;
+    Ok(format!(in alloc; "{digits}{MEMORY}")?)
+}
+
+/// Where memory was wanted, an unpacker has to fail from then on.
+fn unpacker_has_to_fail(unpacker: &mut Unpacker, alloc: Global) -> Result<()> {
+    let mut unpacked = Vec::new(alloc);
+    match (unpacker.feed(&[0, 0], &mut unpacked), unpacker.finish()) {
+        (Err(UnpackFault::Failed), Err(UnpackFault::Failed)) if unpacked.is_empty() => Ok(()),
+        _ => Err(anyhow!("an unpacker goes on without memory")),
+    }
 }
 
 /// What an unpacker is told, in a word of the line, and what it answers; bytes are those of the next word.
 fn unpacker_text(
     unpacker: &mut Unpacker,
     alloc: Global,
+    heap: &Heap,
     words: &[&str],
     at: usize,
 ) -> Result<String> {
     match word_at(words, at)? {
         "feed" => {
             let piece = bytes_at(alloc, words, at.saturating_add(1))?;
-            let mut unpacked = Vec::new(alloc);
+            let mut unpacked = Vec::new(heap);
             match unpacker.feed(piece.as_slice(), &mut unpacked) {
                 Ok(()) => digits_of(alloc, unpacked.as_slice()),
+                Err(UnpackFault::Memory) => cut_short(alloc, unpacked.as_slice()),
                 Err(fault) => unpack_text(alloc, fault),
             }
         }
@@ -85,7 +120,7 @@ fn unpacker_text(
 }
 
 /// `unpacker STEP ..`: each step is `feed BYTES` or `finish`.
-pub fn unpacker_answer(alloc: Global, words: &[&str]) -> Result<String> {
+pub fn unpacker_answer(alloc: Global, heap: &Heap, words: &[&str]) -> Result<String> {
     let mut unpacker = Unpacker::new();
     let mut text = String::new(alloc);
     let mut is_piece = false;
@@ -94,8 +129,12 @@ pub fn unpacker_answer(alloc: Global, words: &[&str]) -> Result<String> {
             is_piece = false;
             continue;
         }
-        let told = unpacker_text(&mut unpacker, alloc, words, at)?;
+        let told = unpacker_text(&mut unpacker, alloc, heap, words, at)?;
         push_told(&mut text, told.as_str())?;
+        if told.as_str().ends_with(MEMORY) {
+            unpacker_has_to_fail(&mut unpacker, alloc)?;
+            return Ok(text);
+        }
         is_piece = word_at(words, at)? == "feed";
     }
     Ok(text)
@@ -108,7 +147,7 @@ fn rest_of(bytes: &[u8], at: usize) -> &[u8] {
 
 /// Feeds a piece, and appends each message that it makes whole.
 fn feed_all(
-    framer: &mut Framer,
+    framer: &mut Framer<&Heap>,
     alloc: Global,
     piece: &[u8],
     text: &mut String,
@@ -131,9 +170,9 @@ fn feed_all(
 }
 
 /// `pieces SIZE MOST_WORDS BYTES`: the messages of the bytes, fed so many at a time, and the ending.
-pub fn pieces_answer(alloc: Global, words: &[&str]) -> Result<String> {
+pub fn pieces_answer(alloc: Global, heap: &Heap, words: &[&str]) -> Result<String> {
     let size = number_at(words, 1)? as usize;
-    let mut framer = Framer::new(alloc, limit_at(words, 2)?);
+    let mut framer = Framer::new(heap, limit_at(words, 2)?);
     let bytes = bytes_at(alloc, words, 3)?;
     if size == 0 {
         bail!("pieces of no bytes");
@@ -143,6 +182,9 @@ pub fn pieces_answer(alloc: Global, words: &[&str]) -> Result<String> {
         if let Err(fault) = feed_all(&mut framer, alloc, piece, &mut text)? {
             let told = frame_text(alloc, fault)?;
             push_told(&mut text, told.as_str())?;
+            if told.as_str() == MEMORY {
+                has_to_fail(&mut framer)?;
+            }
             return Ok(text);
         }
     }
@@ -152,7 +194,7 @@ pub fn pieces_answer(alloc: Global, words: &[&str]) -> Result<String> {
 }
 
 /// `read MOST_WORDS BYTES`: the messages of a reader that has the bytes to give, and the ending.
-pub fn read_answer(alloc: Global, words: &[&str]) -> Result<String> {
+pub fn read_answer(alloc: Global, heap: &Heap, words: &[&str]) -> Result<String> {
     let limit = limit_at(words, 1)?;
     let bytes = bytes_at(alloc, words, 2)?;
     let mut reader = Watched::new(bytes.as_slice());
@@ -161,7 +203,7 @@ pub fn read_answer(alloc: Global, words: &[&str]) -> Result<String> {
         if reader.failed() {
             bail!("no input");
         }
-        let told = match read_message(alloc, &mut reader, limit) {
+        let told = match read_message(heap, &mut reader, limit) {
             Ok(Some(message)) => {
                 let told = message_text(alloc, &message)?;
                 push_told(&mut text, told.as_str())?;
@@ -169,6 +211,7 @@ pub fn read_answer(alloc: Global, words: &[&str]) -> Result<String> {
             }
             Ok(None) => ending_text(alloc, Ok(()))?,
             Err(ReadFault::Frame(fault)) => frame_text(alloc, fault)?,
+            Err(ReadFault::Memory) => String::from_str(alloc, MEMORY)?,
             Err(_) => bail!("no input"),
         };
         push_told(&mut text, told.as_str())?;
@@ -178,11 +221,13 @@ pub fn read_answer(alloc: Global, words: &[&str]) -> Result<String> {
 }
 
 /// `write BYTES`: what is written of the message that a reader of the bytes gives first.
-pub fn write_answer(alloc: Global, words: &[&str]) -> Result<String> {
+pub fn write_answer(alloc: Global, heap: &Heap, words: &[&str]) -> Result<String> {
     let bytes = bytes_at(alloc, words, 1)?;
     let mut reader = Watched::new(bytes.as_slice());
-    let Ok(Some(message)) = read_message(alloc, &mut reader, MOST_WORDS) else {
-        bail!("no message");
+    let message = match read_message(heap, &mut reader, MOST_WORDS) {
+        Ok(Some(message)) => message,
+        Err(ReadFault::Memory) => return Ok(String::from_str(alloc, MEMORY)?),
+        _ => bail!("no message"),
     };
     let mut writer = Watched::new(Vec::new(alloc));
     match write_message(&mut writer, &message) {

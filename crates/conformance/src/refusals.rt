@@ -1,7 +1,8 @@
 //! Refusals as lines.
 
 use crate::frames::frame_text;
-use anyhow::{Result, anyhow};
+use crate::growths::MEMORY;
+use anyhow::Result;
 use capn_canon::Refusal;
 use capn_pack::UnpackFault;
 use capn_walk::{Fault, Stopped};
@@ -9,26 +10,26 @@ use capn_words::BareFault;
 use std::alloc::Global;
 
 /// The name of a fault.
-pub fn fault_name(fault: Fault) -> Result<&'static str> {
+pub fn fault_name(fault: Fault) -> &'static str {
     match fault {
-        Fault::NoRoot => Ok("NoRoot"),
-        Fault::RootKind => Ok("RootKind"),
-        Fault::Reserved => Ok("Reserved"),
-        Fault::NoSegment => Ok("NoSegment"),
-        Fault::PadRange => Ok("PadRange"),
-        Fault::BadPad => Ok("BadPad"),
-        Fault::Range => Ok("Range"),
-        Fault::BadTag => Ok("BadTag"),
-        Fault::TagOverrun => Ok("TagOverrun"),
-        Fault::TooDeep => Ok("TooDeep"),
-        Fault::OverBudget => Ok("OverBudget"),
-        Fault::Memory => Err(anyhow!("out of memory")),
+        Fault::NoRoot => "NoRoot",
+        Fault::RootKind => "RootKind",
+        Fault::Reserved => "Reserved",
+        Fault::NoSegment => "NoSegment",
+        Fault::PadRange => "PadRange",
+        Fault::BadPad => "BadPad",
+        Fault::Range => "Range",
+        Fault::BadTag => "BadTag",
+        Fault::TagOverrun => "TagOverrun",
+        Fault::TooDeep => "TooDeep",
+        Fault::OverBudget => "OverBudget",
+        Fault::Memory => MEMORY,
     }
 }
 
 /// Where a walk stopped, and why.
 pub fn stopped_text(alloc: Global, stopped: Stopped) -> Result<String> {
-    let name = fault_name(stopped.fault)?;
+    let name = fault_name(stopped.fault);
     let segment = stopped.place.segment;
     let word = stopped.place.word;
     let paid = stopped.paid;
@@ -39,7 +40,7 @@ pub fn stopped_text(alloc: Global, stopped: Stopped) -> Result<String> {
 /// A refusal of packed text.
 pub fn unpack_text(alloc: Global, fault: UnpackFault) -> Result<String> {
     match fault {
-        UnpackFault::Memory => Err(anyhow!("out of memory")),
+        UnpackFault::Memory => Ok(String::from_str(alloc, MEMORY)?),
         UnpackFault::Failed => Ok(format!(in alloc; "Failed")?),
         UnpackFault::Cut { at } => Ok(format!(in alloc; "Cut at {at}")?),
         UnpackFault::TooLong { at } => Ok(format!(in alloc; "TooLong at {at}")?),
@@ -51,6 +52,14 @@ fn bare_text(alloc: Global, fault: BareFault) -> Result<String> {
     match fault {
         BareFault::NotWhole(length) => Ok(format!(in alloc; "bare: NotWhole({length})")?),
         BareFault::TooLong(words) => Ok(format!(in alloc; "bare: TooLong({words})")?),
+    }
+}
+
+/// Why a walk by itself gave no answer.
+pub fn walk_stopped_text(alloc: Global, stopped: Stopped) -> Result<String> {
+    match stopped.fault {
+        Fault::Memory => Ok(String::from_str(alloc, MEMORY)?),
+        _ => stopped_text(alloc, stopped),
     }
 }
 
@@ -69,6 +78,6 @@ pub fn refusal_text(alloc: Global, refusal: Refusal) -> Result<String> {
         Refusal::Trailing(at) => Ok(format!(in alloc; "trailing bytes at {at}")?),
         Refusal::Walk(stopped) => stopped_text(alloc, stopped),
         Refusal::Capability(index) => Ok(format!(in alloc; "capability {index}")?),
-        Refusal::Memory => Err(anyhow!("out of memory")),
+        Refusal::Memory => Ok(String::from_str(alloc, MEMORY)?),
     }
 }

@@ -1,8 +1,9 @@
 //! Runs of the program, from the words of the command line to what is written.
 
+use crate::growths::{Heap, MEMORY};
 use crate::words::{bytes_at, digits_of, number_at, word_at};
 use anyhow::{Result, anyhow};
-use capn_tool::{command_of, fault_text, run, status};
+use capn_tool::{ToolFault, command_of, fault_text, run, status};
 use capn_words::Watched;
 use std::alloc::Global;
 
@@ -17,8 +18,14 @@ fn command_line<'a>(alloc: Global, words: &[&'a str]) -> Result<Vec<&'a str>> {
     Ok(line)
 }
 
+/// What was written before memory was wanted, and that it was.
+fn cut_short(alloc: Global, written: &[u8]) -> Result<String> {
+    let digits = hex::encode(alloc, written)?;
+    Ok(format!(in alloc; "{digits}{MEMORY}")?)
+}
+
 /// `run COUNT WORD .. BYTES`: the status, what is written, and the line on standard error.
-pub fn run_answer(alloc: Global, words: &[&str]) -> Result<String> {
+pub fn run_answer(alloc: Global, heap: &Heap, words: &[&str]) -> Result<String> {
     let line = command_line(alloc, words)?;
     let input = bytes_at(alloc, words, line.len().saturating_add(1))?;
     let Ok(command) = command_of(alloc, line.as_slice()) else {
@@ -26,15 +33,16 @@ pub fn run_answer(alloc: Global, words: &[&str]) -> Result<String> {
     };
     let mut reader = Watched::new(input.as_slice());
     let mut writer = Watched::new(Vec::new(alloc));
-    let outcome = run(alloc, command, &mut reader, &mut writer);
+    let outcome = run(heap, command, &mut reader, &mut writer);
     let status = status(&outcome);
     let written = writer.into_inner();
     let digits = digits_of(alloc, written.as_slice())?;
     match outcome {
         Ok(()) => Ok(format!(in alloc; "status {status}, {digits}")?),
-        Err(fault) => match fault_text(alloc, &fault) {
+        Err(ToolFault::Memory) if status == 3 => cut_short(alloc, written.as_slice()),
+        Err(fault) => match fault_text(heap, &fault) {
             Ok(text) => Ok(format!(in alloc; "status {status}, {digits}, capn: {text}")?),
-            Err(_) => Err(anyhow!("out of memory")),
+            Err(_) => cut_short(alloc, written.as_slice()),
         },
     }
 }

@@ -3,6 +3,7 @@
 ghost use Rattle.std.specs.Prelude.{◌≡◌, ◌<◌, ◌≤◌, ◌^◌, IfOk};
 
 use crate::frames::{frame_text, limit_at};
+use crate::growths::Heap;
 use crate::messages::{MOST_WORDS, form_at};
 use crate::refusals::fault_name;
 use crate::words::{bytes_at, digits_of, number_at, push_told, word_at};
@@ -85,7 +86,7 @@ fn step_text<'s, S: Space>(
             Ok(format!(in alloc; "{paid} paid")?)
         }
         Err(fault) => {
-            let name = fault_name(fault)?;
+            let name = fault_name(fault);
             Ok(format!(in alloc; "{name} with {paid} paid")?)
         }
     }
@@ -185,7 +186,7 @@ fn steps_text<S: Space>(
 
 /// `view FORM BUDGET DEPTH BYTES STEP ..`: each step is `root`, `slot VIEW INDEX`, `row VIEW INDEX`, `word VIEW INDEX`,
 /// `number VIEW INDEX`, `bytes VIEW` or `shape VIEW`.
-pub fn view_answer(alloc: Global, words: &[&str], tariff: Tariff) -> Result<String> {
+pub fn view_answer(alloc: Global, heap: &Heap, words: &[&str], tariff: Tariff) -> Result<String> {
     let form = form_at(words, 1)?;
     let mut meter = Meter::with_tariff(limit_at(words, 2)?, tariff);
     let depth = number_at(words, 3)?;
@@ -195,7 +196,7 @@ pub fn view_answer(alloc: Global, words: &[&str], tariff: Tariff) -> Result<Stri
             Ok(space) => steps_text(alloc, &space, &mut meter, depth, words),
             Err(_) => Err(anyhow!("no segment")),
         },
-        Form::Stream => match first(alloc, bytes.as_slice(), MOST_WORDS) {
+        Form::Stream => match first(heap, bytes.as_slice(), MOST_WORDS) {
             Ok((space, _)) => steps_text(alloc, &space, &mut meter, depth, words),
             Err(fault) => frame_text(alloc, fault),
         },

@@ -1,7 +1,7 @@
 //! Many framers that wait for the greatest message.
 
-use crate::refusing::Refusing;
 use capn_stream::{FrameFault, Framer};
+use refusing::Refusing;
 use std::alloc::Global;
 use std::process::Abort;
 use std::test::Fail;

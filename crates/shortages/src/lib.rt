@@ -11,8 +11,6 @@ mod framers;
 #[cfg(test)]
 mod refused;
 #[cfg(test)]
-mod refusing;
-#[cfg(test)]
 mod short_runs;
 #[cfg(test)]
 mod short_streams;

@@ -1,6 +1,5 @@
 //! Calls of which each growth is refused in turn.
 
-use crate::refusing::Refusing;
 use crate::short_runs::*;
 use crate::short_streams::*;
 use crate::short_values::*;
@@ -10,6 +9,7 @@ use capn_canon::{Form, Refusal, is_canonical};
 use capn_tool::Command;
 use capn_value::{copy, trim};
 use capn_walk::Fault;
+use refusing::Refusing;
 use std::alloc::Global;
 use std::process::Abort;
 use std::test::Fail;

@@ -1,10 +1,10 @@
 //! Canonical bytes, texts of faults and runs, with an allocator that may refuse a growth.
 
-use crate::refusing::Refusing;
 use crate::subject::{Answer, Subject, judged, limits, wanting};
 use capn_canon::{Canonical, Form, Refusal, canonical_of, canonicalise, is_canonical, layout};
 use capn_tool::{Command, ToolFault, fault_text, run};
 use capn_words::Watched;
+use refusing::Refusing;
 use std::alloc::{Allocator, Global};
 
 /// The canonical bytes of the message.

@@ -1,10 +1,10 @@
 //! Calls on streams and packed texts, with an allocator that may refuse a growth.
 
-use crate::refusing::Refusing;
 use crate::subject::{Answer, MOST, Subject, judged, judged_message, wanting};
 use capn_pack::{PackFault, UnpackFault, Unpacker, pack, unpack};
 use capn_stream::{FrameFault, Framer, ReadFault, first, frame, read_message};
 use capn_words::Watched;
+use refusing::Refusing;
 use std::alloc::Global;
 
 /// The first message of the stream.

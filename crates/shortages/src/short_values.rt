@@ -1,11 +1,11 @@
 //! Calls on messages and their values, with an allocator that may refuse a growth.
 
-use crate::refusing::Refusing;
 use crate::subject::{Answer, Subject, judged, limits, wanting};
 use capn_canon::{LayoutFault, Patch, layout};
 use capn_value::{Items, Memory, Tree, same, show};
 use capn_walk::{Fault, survey, walk};
 use capn_words::Bare;
+use refusing::Refusing;
 use std::alloc::{AllocError, Global};
 
 /// The value of the message.

@@ -1,11 +1,11 @@
 //! What calls that take memory are tried on, and how their answers are judged.
 
-use crate::refusing::Refusing;
 use crate::words::bytes_of;
 use capn_pack::pack;
 use capn_stream::{Framed, first, frame};
 use capn_walk::{Limits, Walked, walk};
 use capn_words::Space;
+use refusing::Refusing;
 use std::alloc::{AllocError, Global};
 use std::test::Fail;
 

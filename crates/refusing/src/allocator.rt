@@ -1,0 +1,100 @@
+//! An allocator that refuses growths, and remembers what was asked of it.
+
+use std::alloc::{AllocError, Allocator};
+use std::cell::Cell;
+
+/// Which growths are refused, and what was asked so far.
+#[derive(Clone, Copy)]
+struct Account {
+    /// The number of the growth that is refused, counted from 1 for the next one; 0 where none is.
+    left: u64,
+    /// The most bytes of a growth that is let through.
+    most: usize,
+    /// The most bytes that a growth asked for.
+    greatest: usize,
+    /// How many growths came.
+    count: u64,
+}
+
+/// Passes each call on, but for the growths that it refuses.
+pub struct Refusing<B: Allocator> {
+    inner: B,
+    account: Cell<Account>,
+}
+
+impl<B: Allocator> Refusing<B> {
+    /// Refuses the growth of this number, counted from 1, and no other; none where it is 0.
+    pub fn nth(inner: B, number: u64) -> Refusing<B> {
+        Refusing {
+            inner,
+            account: Cell::new(Account {
+                left: number,
+                most: usize::MAX,
+                greatest: 0,
+                count: 0,
+            }),
+        }
+    }
+
+    /// Refuses each growth of more bytes than these, from now on.
+    pub fn refuse_above(&self, most: usize) {
+        let account = self.account.get();
+        self.account.set(Account { most, ..account });
+    }
+
+    /// Refuses each growth from now on.
+    pub fn refuse_each(&self) {
+        self.refuse_above(0);
+    }
+
+    /// Whether fewer growths came than the number, so that it was refused none.
+    pub fn has_spared(&self) -> bool {
+        self.account.get().left != 0
+    }
+
+    /// The most bytes that a growth asked for, a refused one too.
+    pub fn greatest(&self) -> usize {
+        self.account.get().greatest
+    }
+
+    /// How many growths came, refused ones too.
+    pub fn count(&self) -> u64 {
+        self.account.get().count
+    }
+}
+
+impl<B: Allocator> Drop for Refusing<B> {
+    fn drop(self) {
+        let Self {
+            inner: _,
+            account: _,
+        } = self;
+    }
+}
+
+// Counts a growth of so many bytes, and says whether it is to be refused.
+fn is_refused(account: &Cell<Account>, size: usize) -> bool {
+    let told = account.get();
+    account.set(Account {
+        left: told.left.saturating_sub(1),
+        most: told.most,
+        greatest: told.greatest.max(size),
+        count: told.count.saturating_add(1),
+    });
+    told.left == 1 || told.most < size
+}
+
+unsafe impl<B: Allocator> Allocator for Refusing<B> {
+    ghost dealloc_token = { λ heap ty ptr. B.dealloc_token heap.inner ty ptr };
+
+    fn allocate(&self, size: usize, align: usize) -> Result<*mut u8, AllocError> {
+        if is_refused(&self.account, size) {
+            return Err(AllocError);
+        }
+        self.inner.allocate(size, align)
+    }
+
+    unsafe fn deallocate(&self, ptr: *mut u8, size: usize, align: usize) {
+        self.inner.deallocate(ptr, size, align);
+    }
+}

@@ -1,0 +1,6 @@
+//! An allocator for trials: it refuses growths by their number or by their size, and counts them.
+#![tactic(auto)]
+
+mod allocator;
+
+pub use allocator::Refusing;
