@@ -1,6 +1,7 @@
-//! Each case with ample memory, and then with each growth of its calls refused in turn.
+//! Each case with ample memory, then with each growth of its calls refused in turn, and then with its message cut.
 
 use crate::answer;
+use crate::cuts::cut_each;
 use anyhow::{Result, bail};
 use refusing::Refusing;
 use std::alloc::Global;
@@ -28,15 +29,6 @@ fn is_cut_short(told: &str, want: &str) -> bool {
     }
 }
 
-/// How many growths of a call are refused each, before only each so many-th is.
-const EACH_OF: u64 = 256;
-
-/// The growth to refuse after this one.
-fn next_growth(number: u64) -> u64 {
-    let step = if number < EACH_OF { 1 } else { EACH_OF };
-    number.saturating_add(step)
-}
-
 /// Refuses a growth of a call: it must be answered that memory is wanted and nothing else, and the same call afterwards,
 /// which meets no refusal, must give the answer.
 fn refuse(alloc: Global, words: &[&str], number: u64, want: &str) -> Result<()> {
@@ -52,18 +44,15 @@ fn refuse(alloc: Global, words: &[&str], number: u64, want: &str) -> Result<()> 
     Ok(())
 }
 
-/// What a call answers, as a line. Each of its growths is refused once, but of more than 256 each 256th.
+/// What a call answers, as a line. Each of its growths is refused once, and where its message is cut it answers what is
+/// due.
 pub fn answer_each(alloc: Global, line: &str) -> Result<String> {
     let words: Vec<&str> = line.split(' ').collect(alloc)?;
     let ample = Heap::nth(alloc, 0);
     let want = answer(alloc, &ample, words.as_slice())?;
-    let mut number = 1u64;
-    for _ in 0..ample.count() {
-        if number > ample.count() {
-            break;
-        }
+    for number in 1..=ample.count() {
         refuse(alloc, words.as_slice(), number, want.as_str())?;
-        number = next_growth(number);
     }
+    cut_each(alloc, words.as_slice(), want.as_str())?;
     Ok(want)
 }

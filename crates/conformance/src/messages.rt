@@ -109,6 +109,20 @@ fn layout_in_form<'h>(
     }
 }
 
+/// Canonical bytes, and what was paid for them.
+pub fn paid_text(alloc: Global, paid: u32, bytes: &[u8]) -> Result<String> {
+    let digits = digits_of(alloc, bytes)?;
+    Ok(format!(in alloc; "paid {paid}, {digits}")?)
+}
+
+/// What the canonical bytes of a message are, or why it has none.
+pub fn canonical_text(alloc: Global, form: Form, bytes: &[u8], limits: Limits) -> Result<String> {
+    match canonicalise(alloc, form, bytes, limits) {
+        Ok(canonical) => paid_text(alloc, canonical.paid, canonical.bytes.as_slice()),
+        Err(refusal) => refusal_text(alloc, refusal),
+    }
+}
+
 /// `canonicalise FORM MESSAGE_WORDS BUDGET DEPTH BYTES`. The bytes have to be the layout of the tree that a walk makes.
 pub fn canonicalise_answer(
     alloc: Global,
@@ -129,9 +143,7 @@ pub fn canonicalise_answer(
         },
         None => return Ok(String::from_str(alloc, MEMORY)?),
     }
-    let paid = canonical.paid;
-    let digits = digits_of(alloc, canonical.bytes.as_slice())?;
-    Ok(format!(in alloc; "paid {paid}, {digits}")?)
+    paid_text(alloc, canonical.paid, canonical.bytes.as_slice())
 }
 
 /// `again FORM MESSAGE_WORDS BUDGET DEPTH BYTES`: whether the canonical bytes, read bare, have themselves as canonical
