@@ -13,10 +13,11 @@ run: program
 	@echo "in:"; od -An -v -tx1 -w8 $(PROGRAM)/stdin
 	@echo "out:"; $(PROGRAM)/out/capn $$(cat $(PROGRAM)/args) < $(PROGRAM)/stdin | od -An -v -tx1 -w8
 
-# The whole gate: no crate reaches into another one's proofs, and what `rt ci` tries.
+# The whole gate: no crate reaches into another one's proofs, what `rt ci` tries, and runs with too little memory.
 test:
 	.ci/borders
 	rt ci
+	.ci/failures
 
 # The shortest times of each operation on each shape of message, in nanoseconds a byte.
 bench:
