@@ -17,6 +17,8 @@ mod short_streams;
 #[cfg(test)]
 mod short_values;
 #[cfg(test)]
+mod sizes;
+#[cfg(test)]
 mod subject;
 #[cfg(test)]
 mod words;

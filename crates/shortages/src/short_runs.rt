@@ -9,13 +9,13 @@ use std::alloc::{Allocator, Global};
 
 /// The canonical bytes of the message.
 pub fn canonical_answer(of: &Subject, short: &Refusing<Global>) -> Answer {
-    judged_canonical(of, canonical_of(short, &of.message, limits(64)))
+    judged_canonical(of, canonical_of(short, &of.message, limits(256)))
 }
 
 /// The canonical bytes of the packed stream.
 pub fn canonicalise_answer(of: &Subject, short: &Refusing<Global>) -> Answer {
     let packed = of.packed.as_slice();
-    judged_canonical(of, canonicalise(short, Form::Packed, packed, limits(64)))
+    judged_canonical(of, canonicalise(short, Form::Packed, packed, limits(256)))
 }
 
 /// Right exactly if these are the canonical bytes of the value.

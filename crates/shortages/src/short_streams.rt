@@ -60,7 +60,7 @@ pub fn pack_answer(of: &Subject, short: &Refusing<Global>) -> Answer {
 
 /// The stream of its packed text.
 pub fn unpack_answer(of: &Subject, short: &Refusing<Global>) -> Answer {
-    match unpack(short, of.packed.as_slice(), 1_000) {
+    match unpack(short, of.packed.as_slice(), MOST) {
         Ok(bytes) => judged(bytes.as_slice() == of.stream),
         Err(UnpackFault::Memory) => Answer::Memory,
         Err(_) => Answer::Wrong,

@@ -10,7 +10,7 @@ use std::alloc::{AllocError, Global};
 
 /// The value of the message.
 pub fn walk_answer(of: &Subject, short: &Refusing<Global>) -> Answer {
-    match walk(short, &of.message, limits(64)) {
+    match walk(short, &of.message, limits(256)) {
         Ok(walked) => judged(same(walked.tree.value(), of.walked.tree.value())),
         Err(stopped) => wanting(matches!(stopped.fault, Fault::Memory)),
     }

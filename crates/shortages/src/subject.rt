@@ -53,7 +53,7 @@ pub fn subject_of(alloc: Global, stream: &[u8]) -> Result<Subject<'_>, Fail> {
     let (Ok((message, _)), Ok(packed)) = (first(alloc, stream, MOST), pack(alloc, stream)) else {
         return Err(Fail::new("no stream"));
     };
-    let Ok(walked) = walk(alloc, &message, limits(64)) else {
+    let Ok(walked) = walk(alloc, &message, limits(256)) else {
         return Err(Fail::new("no message"));
     };
     Ok(Subject {
