@@ -42,9 +42,9 @@ module _ (m : List (List ℕ)) where
     told-list s start pads Rows n o h =
         let t : ℕ = slice_index (segment_at m s) start in
         told-within s start _ _ (λ l.
-          pick Told (field 0 2 t == 0) _ _
-          (λ e. pick Told (nat_lt n (field 2 30 t * (field 32 16 t + field 48 16 t))) _ _ (λ f. tt) (λ f. h _ (l, (grind (arith, nat_tests), refl, grind (arith, nat_tests)))))
-          (λ e. tt))
+        pick Told (field 0 2 t == 0) _ _
+        (λ e. pick Told (nat_lt n (field 2 30 t * (field 32 16 t + field 48 16 t))) _ _ (λ f. tt) (λ f. h _ (l, (grind (arith, nat_tests), refl, grind (arith, nat_tests)))))
+        (λ e. tt))
 
     told-struct_from : (s : ℕ) (r : Result ℕ Fault) (pads a b : ℕ) → ((start : ℕ) → r ≡ Ok start → Told (struct m s start pads a b)) → Told (struct_from m s r pads a b)
     told-struct_from s (Ok start) pads a b h = h start refl
@@ -94,10 +94,10 @@ module _ (m : List (List ℕ)) where
   told-named at (Reserved n) is = tt
   told-named at (Far false v t) is =
       told-landing (OneOfThree m at) t v 1 _ (λ pad. told-near (OneOfThree m at) t v 1 (pointer_in m t v) (λ start shape l d.
-        inr (inl (record { word = v; far = is; pad = pad; offset = l; content = d; one = refl }))))
+      inr (inl (record { word = v; far = is; pad = pad; offset = l; content = d; one = refl }))))
   told-named at (Far true v t) is =
       told-landing (OneOfThree m at) t v 2 _ (λ pad. told-two_pads (OneOfThree m at) (pointer_in m t v) (pointer_in m t (v + 1)) (λ s start shape e f d.
-        inr (inr (record { segment = t; word = v; far = is; pad = pad; first = e; there = f; content = d; two = refl }))))
+      inr (inr (record { segment = t; word = v; far = is; pad = pad; first = e; there = f; content = d; two = refl }))))
   told-named at (Node o a b) is =
       told-near (OneOfThree m at) at.segment at.word 0 (Node o a b) (λ start shape l d. inl (record { offset = rw is l; content = rw is d; here = refl; none = refl }))
   told-named at (Many o width n) is =
