@@ -6,6 +6,15 @@ use capn_words::Watched;
 use std::io::{self, Error, ErrorKind, Read, Write};
 use std::test::Fail;
 
+/// Kinds of error, among them those after which another would try again.
+const KINDS: [ErrorKind; 5] = [
+    ErrorKind::Interrupted,
+    ErrorKind::WouldBlock,
+    ErrorKind::BrokenPipe,
+    ErrorKind::OutOfMemory,
+    ErrorKind::Other,
+];
+
 /// What a call is told to answer.
 #[derive(Clone, Copy)]
 enum Answer {
@@ -70,7 +79,7 @@ fn passes_bytes_on(rt: HostRuntime) -> std::result::Result<(), Fail> {
 
 #[test]
 fn fails_at_the_first_error_of_a_read(rt: HostRuntime) {
-    for kind in [ErrorKind::Interrupted, ErrorKind::Other] {
+    for kind in KINDS {
         let answers = [
             Answer::Bytes(2),
             Answer::Bytes(0),
@@ -91,7 +100,7 @@ fn fails_at_the_first_error_of_a_read(rt: HostRuntime) {
 
 #[test]
 fn fails_at_the_first_error_of_a_write(rt: HostRuntime) {
-    for kind in [ErrorKind::Interrupted, ErrorKind::Other] {
+    for kind in KINDS {
         let answers = [Answer::Bytes(2), Answer::Fault(kind), Answer::Bytes(1)];
         let mut writer = Watched::new(Told { answers: &answers });
         assert!(rt; matches!(writer.write(b"abc"), Ok(2)));
