@@ -25,8 +25,7 @@ test:
 	rt ci
 	.ci/statuses
 	.ci/failures
-	$(MAKE) library
-	c/tests/run
+	.ci/library
 
 # The shortest times of each operation on each shape of message, in nanoseconds a byte.
 bench:
