@@ -1,5 +1,5 @@
 -- A command that was carried out: what a run did, and the flush behind it.
-use Rattle.std.proofs.Common.{◌≡◌, ◌⊎◌, ◌↔◌, inl, inr, ℕ, List, Bool, true, false, Option, Some, None, Result, Ok, Err, IfSome, IfErr, IsErrOf, IsOk, refl, sym, subst, ◌∙◌}
+use Rattle.std.proofs.Common.{◌≡◌, ◌⊎◌, ◌↔◌, inl, inr, ℕ, List, [], Bool, true, false, Option, Some, None, Result, Ok, Err, IfSome, IfErr, IsErrOf, IsOk, refl, sym, subst, ◌∙◌}
 use Rattle.std.specs.Io.KnownBytes.{Appends, Keeps}
 use Rattle.capn_tool.specs.Ends.{CarriesOut, EndsOnly}
 use Rattle.capn_tool.specs.Heard.{KeepsUp, PlanKeepsUp}
@@ -69,7 +69,7 @@ begun command a b c m d k (bytes, h) = (
 )
 
 keeps_up : (plan : Plan) (a b c m d : Option (List ℕ)) → Keeps m d → PlanKeepsUp plan a b c m → PlanKeepsUp plan a b c d
-keeps_up (plans.Whole whole) a b c m d k h = tt
+keeps_up (plans.Whole whole) a b c m d k h = kept c m d [] k h
 keeps_up (plans.Each piece limits) a b c m d k (bytes, text, due, read, is, written) =
     (bytes, text, due, read, is, kept c m d text k written)
 keeps_up (plans.Packed piece limits) a b c m d k (bytes, text, due, read, is, written) =

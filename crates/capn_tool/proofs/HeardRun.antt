@@ -217,10 +217,11 @@ module _ (piece : Piece) (limits : Bounds) where
 
 -- a plan that takes its input whole
 pub runs_whole : (plan : Plan) (whole : Whole) (a b c d : Option (List ℕ)) (reader_failed writer_failed : Bool) (r : Result (Unit {0}) ToolFault) → plan ≡ plans.Whole whole → IfSome a (PlanEndsAs (plans.Whole whole) c d r)
-    → (r ≡ Err faults.Io) ↔ ((reader_failed ≡ true) ⊎ (writer_failed ≡ true)) → PlanBegins (plans.Whole whole) a b c d → Runs plan a b c d reader_failed writer_failed r
-runs_whole plan whole a b c d reader_failed writer_failed r is exact io begun = rw is (record {
+    → (r ≡ Err faults.Io) ↔ ((reader_failed ≡ true) ⊎ (writer_failed ≡ true)) → PlanBegins (plans.Whole whole) a b c d
+    → (reader_failed ≡ true → Appends c d []) → Runs plan a b c d reader_failed writer_failed r
+runs_whole plan whole a b c d reader_failed writer_failed r is exact io begun unread = rw is (record {
   exact = exact;
   io = io;
   begun = begun;
-  heard = λ h. tt;
+  heard = unread;
 })

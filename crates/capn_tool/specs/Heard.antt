@@ -72,9 +72,10 @@ HasKeptUp plan a b c d =
     (bytes : List ℕ) × (text : List ℕ) × (due : Result (Unit {0}) ToolFault) × Consumes a b bytes × IsDue plan (taken_of bytes) (has_more bytes) text due
     × Appends c d text
 
--- all that is due for the bytes that a reader gave was written, where they are taken message by message
+-- all that is due for the bytes that a reader gave was written, where they are taken message by message, and nothing
+-- where they are taken whole
 abbrev pub PlanKeepsUp : Plan → Option (List ℕ) → Option (List ℕ) → Option (List ℕ) → Option (List ℕ) → Type 0
-PlanKeepsUp (plans.Whole whole) a b c d = ⊤
+PlanKeepsUp (plans.Whole whole) a b c d = Appends c d []
 PlanKeepsUp (plans.Each piece limits) a b c d = HasKeptUp (plans.Each piece limits) a b c d
 PlanKeepsUp (plans.Packed piece limits) a b c d = HasKeptUp (plans.Packed piece limits) a b c d
 

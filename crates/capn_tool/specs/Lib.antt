@@ -1,3 +1,4 @@
+pub mod Limits
 pub mod Planned
 pub mod Pieces
 pub mod Wholes

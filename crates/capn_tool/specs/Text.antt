@@ -1,6 +1,7 @@
 -- What a run writes for its input, and how it ends. (Own.)
-use Rattle.std.specs.Prelude.{◌≡◌, ◌⊎◌, ℕ, ◌+◌, ◌≤◌, ◌^◌, nat_lt, List, [], length, take, Bool, true, false, Option, Result, Ok, Err}
+use Rattle.std.specs.Prelude.{◌≡◌, ◌⊎◌, ℕ, ◌+◌, ◌≤◌, nat_lt, List, [], length, take, Bool, true, false, Option, Result, Ok, Err}
 use Rattle.std.specs.Io.KnownBytes.{Consumes, Appends}
+use Rattle.capn_tool.specs.Limits.{most_input}
 use Rattle.capn_tool.specs.Planned.{plan_of}
 use Rattle.capn_tool.specs.Wholes.{Makes, MakesNothing}
 use Rattle.capn_tool.specs.Streams.{Part, AreParts, texts_of, IsDueEach, IsDuePacked, behind_stream}
@@ -14,11 +15,11 @@ use Rattle.capn_tool.specs.declared.fault.ToolFault.TheVariants as faults
 
 -- the bytes of an input that a run takes
 abbrev pub taken_of : List ℕ → List ℕ
-taken_of input = take (2 ^ 32) input
+taken_of input = take most_input input
 
 -- whether the input has more
 abbrev pub has_more : List ℕ → Bool
-has_more input = nat_lt (2 ^ 32) (length input)
+has_more input = nat_lt most_input (length input)
 
 -- the text and the ending of an input that is taken whole: none of one that is longer, else what is made of it, else the reason
 abbrev pub IsDueWhole : Whole → List ℕ → Bool → List ℕ → Result (Unit {0}) ToolFault → Type 0
@@ -68,7 +69,7 @@ HasWritten plan bytes is_longer old new =
 -- a reader gave some bytes, 2^32 + 1 at most, and a writer took a beginning of their text
 pub record Begun (plan : Plan) (old_reader new_reader old_writer new_writer : Option (List ℕ)) (bytes : List ℕ) : Type 0 where
   pub read : Consumes old_reader new_reader bytes
-  pub bounded : length bytes ≤ 2 ^ 32 + 1
+  pub bounded : length bytes ≤ most_input + 1
   pub written : HasWritten plan (taken_of bytes) (has_more bytes) old_writer new_writer
 
 abbrev pub PlanBegins : Plan → Option (List ℕ) → Option (List ℕ) → Option (List ℕ) → Option (List ℕ) → Type 0

@@ -1,7 +1,8 @@
 //! All of the input that a run takes.
 
-ghost use Rattle.std.specs.Prelude.{◌≡◌, ◌⊎◌, ◌↔◌, ◌≤◌, ◌^◌, ◌+◌, true, false, IsErrOf, IfErr};
+ghost use Rattle.std.specs.Prelude.{◌≡◌, ◌⊎◌, ◌↔◌, ◌≤◌, ◌+◌, true, false, IsErrOf, IfErr};
 ghost use Rattle.capn_words.specs.Watching.{inner_of, has_failed};
+ghost use Rattle.capn_tool.specs.Limits.{most_input};
 ghost use Rattle.capn_tool.specs.Reading.{HasRead, ReadsAll};
 ghost use Rattle.capn_tool.specs.declared.fault.ToolFault.TheVariants as faults;
 
@@ -11,7 +12,7 @@ use std::alloc::{Allocator, Global};
 use std::io::Read;
 
 /// The most bytes of input that one run takes.
-pub(crate) const MOST_BYTES: usize = 4_294_967_296;
+pub(crate) const MOST_BYTES: usize = 1 << 32;
 
 /// The most bytes that one call of a reader is asked for.
 pub(crate) const PIECE: usize = 65_536;
@@ -31,7 +32,7 @@ pub fn read_all<R: Read, A: Allocator>(
 ) -> Result<Input<A>, ToolFault>
     requires { has_failed reader.old ≡ false }
     ensures exact { ReadsAll (R.remaining (inner_of reader.old)) (R.remaining (inner_of reader.new)) result }
-    ensures bounded { HasRead (R.remaining (inner_of reader.old)) (R.remaining (inner_of reader.new)) (λ n. n ≤ 2 ^ 32 + 1) }
+    ensures bounded { HasRead (R.remaining (inner_of reader.old)) (R.remaining (inner_of reader.new)) (λ n. n ≤ most_input + 1) }
     ensures io { IsErrOf result ToolFault.Io ↔ (has_failed reader.new ≡ true) }
     ensures only { IfErr result (λ e. (e ≡ faults.Memory) ⊎ (e ≡ faults.Io)) }
 {

@@ -1,6 +1,7 @@
 //! From all of the input to all of the output.
 
-ghost use Rattle.std.specs.Prelude.{◌≡◌, ◌↔◌, ◌⊎◌, ℕ, List, Result, true, false, IfSome, IsErrOf};
+ghost use Rattle.std.specs.Prelude.{◌≡◌, ◌↔◌, ◌⊎◌, ℕ, List, [], Result, true, false, IfSome, IsErrOf};
+ghost use Rattle.std.specs.Io.KnownBytes.{Appends};
 ghost use Rattle.capn_words.specs.Watching.{inner_of, has_failed};
 ghost use Rattle.capn_tool.specs.Planned as spec;
 ghost use Rattle.capn_tool.specs.Heard.{KeepsUp, Runs};
@@ -53,6 +54,7 @@ fn run_whole<R: Read, W: Write, A: Allocator + Copy>(
     ensures io { IsErrOf result ToolFault.Io ↔ ((has_failed reader.new ≡ true) ⊎ (has_failed writer.new ≡ true)) }
     ensures begun { PlanBegins (plans.Whole whole) (R.remaining (inner_of reader.old)) (R.remaining (inner_of reader.new))
         (W.contents (inner_of writer.old)) (W.contents (inner_of writer.new)) }
+    ensures unread { has_failed reader.new ≡ true → Appends (W.contents (inner_of writer.old)) (W.contents (inner_of writer.new)) [] }
 {
     let input = read_all(alloc, reader)?;
     write_whole(alloc, whole, &input, writer)
@@ -108,7 +110,8 @@ pub fn run<R: Read, W: Write, A: Allocator + Copy>(
     // Whatever it answers, a beginning of the text of what it read was written, or nothing.
     ensures begun { Begins command (R.remaining (inner_of reader.old)) (R.remaining (inner_of reader.new))
         (W.contents (inner_of writer.old)) (W.contents (inner_of writer.new)) }
-    // Where the reader failed, all that is due for what it gave was written, if it is taken message by message.
+    // Where the reader failed, all that is due for what it gave was written, if it is taken message by message; if it is
+    // taken whole, nothing was.
     ensures heard { has_failed reader.new ≡ true → KeepsUp command (R.remaining (inner_of reader.old)) (R.remaining (inner_of reader.new))
         (W.contents (inner_of writer.old)) (W.contents (inner_of writer.new)) }
 {
