@@ -31,10 +31,12 @@ test:
 bench:
 	cd crates/bench && rt run > /dev/null && ./out/bench times
 
-# The guide's recipes, and messages that the reference implementation wrote, where its command line tool is installed.
-interop: program library
+# The guide's recipes, and messages that the reference implementation wrote, where its command line tool is installed,
+# with the program that the gate builds, or with an installed one: make interop CAPN=/usr/local/bin/capn.
+interop: $(if $(CAPN),,program library)
 	./interop/recipes
 	./interop/run
+	./interop/differences
 
 # The library for C, proved: the archive and the allocator as one object, of which the names capn_* alone are visible.
 library:

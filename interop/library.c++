@@ -1,0 +1,42 @@
+// What the reference implementation's library says of the message on standard input, whatever its root is; its command
+// line tool takes structs alone. The words: `canonical` (of a stream's first message) or `is-canonical` (of the words
+// of one segment), then the traversal limit in words and the nesting limit, if they are not the library's usual ones.
+// Ends with 1 where the library refuses, and prints why.
+#include <capnp/any.h>
+#include <capnp/message.h>
+#include <capnp/serialize.h>
+#include <kj/io.h>
+#include <stdio.h>
+#include <stdlib.h>
+#include <string.h>
+#include <unistd.h>
+
+static void canonical(capnp::ReaderOptions options) {
+  capnp::StreamFdMessageReader in(STDIN_FILENO, options);
+  capnp::MallocMessageBuilder out(1u << 16);
+  out.getRoot<capnp::AnyPointer>().setCanonical(in.getRoot<capnp::AnyPointer>());
+  auto bytes = out.getSegmentsForOutput()[0].asBytes();
+  kj::FdOutputStream(STDOUT_FILENO).write(bytes.begin(), bytes.size());
+}
+
+static void isCanonical(capnp::ReaderOptions options) {
+  auto bytes = kj::FdInputStream(STDIN_FILENO).readAllBytes();
+  auto words = kj::heapArray<capnp::word>(bytes.size() / sizeof(capnp::word));
+  memcpy(words.begin(), bytes.begin(), words.size() * sizeof(capnp::word));
+  kj::ArrayPtr<const capnp::word> segments[] = {words};
+  puts(capnp::SegmentArrayMessageReader(segments, options).isCanonical() ? "canonical" : "not-canonical");
+}
+
+int main(int count, char** words) {
+  capnp::ReaderOptions options;
+  if (count > 2) options.traversalLimitInWords = strtoull(words[2], nullptr, 10);
+  if (count > 3) options.nestingLimit = atoi(words[3]);
+  auto failure = kj::runCatchingExceptions([&]() {
+    strcmp(words[1], "canonical") == 0 ? canonical(options) : isCanonical(options);
+  });
+  KJ_IF_MAYBE(exception, failure) {
+    fprintf(stderr, "%s\n", exception->getDescription().cStr());
+    return 1;
+  }
+  return 0;
+}
