@@ -7,11 +7,10 @@
 #![tactic(auto)]
 
 use anyhow::Result;
-use capn_canon::{Fault, Form, Limits, Refusal, canonicalise};
-use capn_stream::first;
+use capn_canon::{Fault, Limits, Refusal, canonical_of};
+use capn_stream::read_message;
+use capn_words::Watched;
 use sha2::{Digest, Sha256};
-use std::alloc::Global;
-use std::io::Read;
 
 /// What a refusal means, for somebody who does not know the format.
 fn in_words(refusal: &Refusal) -> &'static str {
@@ -28,25 +27,24 @@ fn in_words(refusal: &Refusal) -> &'static str {
     }
 }
 
-/// The bytes of the message that stands first, and those behind it; all of them where none stands first.
-fn split(alloc: Global, bytes: &[u8], limits: Limits) -> (&[u8], &[u8]) {
-    match first(alloc, bytes, limits.message_words()) {
-        Ok((_, taken)) => bytes.split_at(taken),
-        Err(_) => (bytes, &[]),
-    }
-}
-
 fn main(rt: HostRuntime) -> Result<()> {
     let alloc = rt.alloc();
     let limits = Limits::usual();
-    let mut input = Vec::new(alloc);
-    rt.stdin().read_to_end(&mut input)?;
-    let mut rest = input.as_slice();
+    let mut reader = Watched::new(rt.stdin());
     let mut before: Option<Vec<u8>> = None;
-    while !rest.is_empty() {
-        let (message, behind) = split(alloc, rest, limits);
-        rest = behind;
-        match canonicalise(alloc, Form::Stream, message, limits) {
+    for _ in 0..u64::MAX {
+        if reader.failed() {
+            break;
+        }
+        let message = match read_message(alloc, &mut reader, limits.message_words()) {
+            Ok(Some(message)) => message,
+            Ok(None) => break,
+            Err(fault) => {
+                println!(rt; "no more messages: {fault}")?;
+                break;
+            }
+        };
+        match canonical_of(alloc, &message, limits) {
             Ok(canonical) => {
                 let digest = hex::encode(alloc, Sha256::digest(&canonical.bytes).as_slice())?;
                 let same = match &before {
