@@ -134,9 +134,11 @@ pub fn canonical_of<A: Allocator + Copy, S: Space>(
     // Read bare under the same limits, the bytes denote the trimmed value, which is the same value,
     ensures reads_back { IfOk result (λ c. (v : Value) → IsValueOf (S.message space.now) limits v → ReadsBack c.bytes.items limits v) }
     // and pay exactly its cost;
-    ensures pays { IfOk result (λ c. (v : Value) → IsValueOf (S.message space.now) limits v → PaysItsCost c.bytes.items limits v) }
+    ensures pays { IfOk result (λ c. (v : Value) → IsValueOf (S.message space.now) limits v
+        → PaysItsCost c.bytes.items limits v) }
     // its canonical bytes are these again;
-    ensures own { IfOk result (λ c. (v : Value) → IsValueOf (S.message space.now) limits v → IsItsOwnForm c.bytes.items v) }
+    ensures own { IfOk result (λ c. (v : Value) → IsValueOf (S.message space.now) limits v
+        → IsItsOwnForm c.bytes.items v) }
     // and a second value has these canonical bytes exactly if it is the same value.
     ensures exactly { IfOk result (λ c. (v : Value) → IsValueOf (S.message space.now) limits v → IsFormExactlyOf c.bytes.items v) }
 {

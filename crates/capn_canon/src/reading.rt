@@ -118,7 +118,8 @@ pub fn canonicalise<A: Allocator + Copy>(
     // Read bare under the same limits, the answer denotes the trimmed value, which is the same value,
     ensures reads_back { IfOk result (λ c. (v : Value) → Denotes form bytes.now limits v → ReadsBack c.bytes.items limits v) }
     // and pays exactly its cost;
-    ensures pays { IfOk result (λ c. (v : Value) → Denotes form bytes.now limits v → PaysItsCost c.bytes.items limits v) }
+    ensures pays { IfOk result (λ c. (v : Value) → Denotes form bytes.now limits v
+        → PaysItsCost c.bytes.items limits v) }
     // its canonical bytes are the answer again;
     ensures own { IfOk result (λ c. (v : Value) → Denotes form bytes.now limits v → IsItsOwnForm c.bytes.items v) }
     // and a second value has these canonical bytes exactly if it is the same value.

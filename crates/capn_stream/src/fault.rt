@@ -2,8 +2,7 @@
 
 use std::alloc::AllocError;
 use std::error::Error;
-use std::fmt;
-use std::io;
+use std::{fmt, io};
 
 /// A growth was refused.
 #[derive(Clone, Copy, Debug, PartialEq, Eq)]

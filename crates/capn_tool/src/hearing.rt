@@ -151,7 +151,8 @@ fn serve_piece<W: Write, A: Allocator + Copy>(
     requires good { framer.old.failed ≡ false }
     requires part { IsUnfinished framer.old.rest framer.old.most }
     requires most { framer.old.most ≡ limits.message_words }
-    ensures { Serves piece limits framer.old bytes.now (sent (W.contents (inner_of writer.old))) (sent (W.contents (inner_of writer.new)))
+    ensures { Serves piece limits framer.old bytes.now (sent (W.contents (inner_of writer.old)))
+        (sent (W.contents (inner_of writer.new)))
         (has_failed writer.new) result framer.new }
 {
     text.clear();

@@ -65,7 +65,8 @@ fn text_of<S: Space, A: Allocator + Copy>(
     space: &S,
     limits: Limits,
 ) -> Result<String<A>, ToolFault>
-    ensures found { IfOk result (λ text. (v : Tree) × IsValueOf (S.message space.now) limits v × (string_bytes text ≡ show_text v)) }
+    ensures found { IfOk result (λ text. (v : Tree) × IsValueOf (S.message space.now) limits v
+        × (string_bytes text ≡ show_text v)) }
     ensures refused { IfErr result (λ e. (e ≡ faults.Memory) ⊎ IsStopped (S.message space.now) limits e) }
 {
     let walked = walk_within(alloc, space, limits)?;

@@ -54,7 +54,8 @@ fn run_whole<R: Read, W: Write, A: Allocator + Copy>(
     ensures io { IsErrOf result ToolFault.Io ↔ ((has_failed reader.new ≡ true) ⊎ (has_failed writer.new ≡ true)) }
     ensures begun { PlanBegins (plans.Whole whole) (R.remaining (inner_of reader.old)) (R.remaining (inner_of reader.new))
         (W.contents (inner_of writer.old)) (W.contents (inner_of writer.new)) }
-    ensures unread { has_failed reader.new ≡ true → Appends (W.contents (inner_of writer.old)) (W.contents (inner_of writer.new)) [] }
+    ensures unread { has_failed reader.new ≡ true
+        → Appends (W.contents (inner_of writer.old)) (W.contents (inner_of writer.new)) [] }
 {
     let input = read_all(alloc, reader)?;
     write_whole(alloc, whole, &input, writer)
@@ -112,7 +113,8 @@ pub fn run<R: Read, W: Write, A: Allocator + Copy>(
         (W.contents (inner_of writer.old)) (W.contents (inner_of writer.new)) }
     // Where the reader failed, all that is due for what it gave was written, if it is taken message by message; if it is
     // taken whole, nothing was.
-    ensures heard { has_failed reader.new ≡ true → KeepsUp command (R.remaining (inner_of reader.old)) (R.remaining (inner_of reader.new))
+    ensures heard { has_failed reader.new ≡ true
+        → KeepsUp command (R.remaining (inner_of reader.old)) (R.remaining (inner_of reader.new))
         (W.contents (inner_of writer.old)) (W.contents (inner_of writer.new)) }
 {
     perform(alloc, plan_of(command), reader, writer)

@@ -3,7 +3,8 @@
 ghost use Rattle.std.specs.Prelude.{◌≡◌, IfOk, codes, false};
 ghost use Rattle.clap.specs.Words.{app_of, rule_of, new_app, with_subcommand};
 ghost use Rattle.clap.specs.declared.builder.command.Command.TheViews.{out-Command};
-ghost use Rattle.capn_tool.specs.Line.{form_rule, words_rule, budget_rule, depth_rule, tariff_rule, message_line, unpack_line, messages_line, tool_line};
+ghost use Rattle.capn_tool.specs.Line.{form_rule, words_rule, budget_rule, depth_rule, tariff_rule, message_line};
+ghost use Rattle.capn_tool.specs.Line.{unpack_line, messages_line, tool_line};
 
 use crate::help::{self, Page};
 use capn_value::{MOST_COST, MOST_HEIGHT};

@@ -23,5 +23,6 @@ fault_name walks.Memory = codes "Memory"
 -- why and where a walk stopped, with what was paid and visited
 abbrev pub stopped_text : Stopped → List ℕ
 stopped_text stopped =
-    fault_name stopped.fault ++ (codes " at " ++ (decimal stopped.place.segment ++ (codes ":" ++ (decimal stopped.place.word
+    fault_name stopped.fault
+    ++ (codes " at " ++ (decimal stopped.place.segment ++ (codes ":" ++ (decimal stopped.place.word
     ++ (codes ", paid " ++ (decimal stopped.paid ++ (codes ", visits " ++ decimal stopped.visits)))))))

@@ -1,6 +1,7 @@
 //! A survey of all that a message holds, without its value.
 
-ghost use Rattle.std.specs.Prelude.{◌≡◌, ◌≢◌, ℕ, ◌<◌, ◌≤◌, ◌+◌, ◌-◌, ◌∷◌, ◌⊎◌, ◌↔◌, [], length, Ok, IsTrue, IfOk, IfErr, MatchResult};
+ghost use Rattle.std.specs.Prelude.{◌≡◌, ◌≢◌, ℕ, ◌<◌, ◌≤◌, ◌+◌, ◌-◌, ◌∷◌, ◌⊎◌, ◌↔◌, [], length, Ok, IsTrue, IfOk};
+ghost use Rattle.std.specs.Prelude.{IfErr, MatchResult};
 ghost use Rattle.capn_words.specs.Message.{segment_at, IsMessage, IsPlace};
 ghost use Rattle.capn_value.specs.Sizes.{most_cost, most_height};
 ghost use Rattle.capn_walk.specs.Target as spec;
@@ -289,7 +290,8 @@ fn survey_slots<S: Space, A: Allocator + Copy>(
     ensures pays { IfOk result (λ s. Gives budget
         (visits_of (S.message space.now) base limit (places_of first)) (owed first) s.paid s.visits) }
     ensures capability { IfOk result (λ s.
-        told.first_cap_of (S.message space.now) (visits_of (S.message space.now) base limit (places_of first)) ≡ s.capability) }
+        told.first_cap_of (S.message space.now) (visits_of (S.message space.now) base limit (places_of first))
+        ≡ s.capability) }
     ensures refused { IfErr result (λ s. Refuses budget
         (visits_of (S.message space.now) base limit (places_of first)) (owed first) s) }
     ensures memory { limit ≤ 64 → IfErr result (λ s. s.fault ≢ Memory) }

@@ -61,7 +61,10 @@ impl fmt::Display for Stopped {
         let word = self.place.word;
         let paid = self.paid;
         let visits = self.visits;
-        write!(f, "{fault} at {segment}:{word}, paid {paid}, visits {visits}")
+        write!(
+            f,
+            "{fault} at {segment}:{word}, paid {paid}, visits {visits}"
+        )
     }
 }
 

@@ -8,5 +8,6 @@ top_of a = a.top
 
 pub returns : goal.returns
 returns c =
-    let packed = c.in_ok-with_pack.ensures.shape c.plain_command.ensures.local ∙ ap₂ with_subcommand c.in_ok-messages.ensures (ap top_of c.plain_command.ensures.app) in
+    let packed = c.in_ok-with_pack.ensures.shape c.plain_command.ensures.local
+    ∙ ap₂ with_subcommand c.in_ok-messages.ensures (ap top_of c.plain_command.ensures.app) in
     c.in_ok-whole.ensures ∙ ap (λ (a : App). with_subcommand a unpack_line.top) packed

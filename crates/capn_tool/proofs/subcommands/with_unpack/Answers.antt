@@ -6,4 +6,5 @@ abbrev top_of : App → Shape
 top_of a = a.top
 
 pub returns : goal.returns
-returns c = c.in_ok-whole.ensures.shape c.in_ok-command.ensures.1 ∙ ap (λ (s : Shape). with_subcommand (app_of c.args.program) s) (ap top_of c.in_ok-command.ensures.0)
+returns c = c.in_ok-whole.ensures.shape c.in_ok-command.ensures.1
+    ∙ ap (λ (s : Shape). with_subcommand (app_of c.args.program) s) (ap top_of c.in_ok-command.ensures.0)
