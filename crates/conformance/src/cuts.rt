@@ -1,7 +1,7 @@
 //! Each message cut at each byte: its beginnings have the answer that the definitions give for them.
 
 use crate::messages::{MOST_WORDS, canonical_text, form_at, paid_text, true_limits_at};
-use crate::refusals::stopped_text;
+use crate::refusals::told;
 use crate::tariff_and_call;
 use crate::words::{bytes_at, word_at};
 use anyhow::{Result, anyhow, bail};
@@ -28,7 +28,7 @@ fn bare_text(alloc: Global, bytes: &[u8], limits: Limits) -> Result<String> {
     };
     let walked = match walk(alloc, &space, limits) {
         Ok(walked) => walked,
-        Err(stopped) => return stopped_text(alloc, stopped),
+        Err(stopped) => return told(alloc, stopped),
     };
     match layout(alloc, &walked.tree) {
         Ok(laid) => paid_text(alloc, walked.paid, laid.as_slice()),
