@@ -49,9 +49,9 @@ impl Unpacker {
     ///
     /// The piece is taken whole: what remains of it is held. There is no maximum of words; the pieces bound them.
     ///
-    /// Refusals: `Memory` where a growth of `out` was refused, and then a beginning of those words was appended (a piece
-    /// that makes no group whole takes no memory);
-    /// `Failed` after an earlier refusal, and then `out` is as it was.
+    /// Refusals: `Memory` where a growth of `out` was refused, and then a beginning of those words was appended (a
+    /// piece that makes no group whole takes no memory); `Failed` after an earlier refusal, and then `out` is as it
+    /// was.
     pub fn feed<A: Allocator>(
         &mut self,
         piece: &[u8],

@@ -72,10 +72,12 @@ fn receive<R: Read, A: Allocator + Copy>(
     }
 }
 
-/// The next message of a reader, of at most so many words: its bytes and no others are taken, in pieces of at most 16,384.
+/// The next message of a reader, of at most so many words: its bytes and no others are taken, in pieces of at most
+/// 16,384.
 ///
-/// None exactly where the input ends between messages. Refusals: `Memory` where a growth was refused; `Io` exactly where
-/// the reader fails; `Frame` with `TooManySegments`, `TooManyWords` or `Cut`, and then the reader stands inside the message.
+/// None exactly where the input ends between messages. Refusals: `Memory` where a growth was refused; `Io` exactly
+/// where the reader fails; `Frame` with `TooManySegments`, `TooManyWords` or `Cut`, and then the reader stands inside
+/// the message.
 pub fn read_message<R: Read, A: Allocator + Copy>(
     alloc: A,
     reader: &mut Watched<R>,

@@ -31,8 +31,8 @@ fn fault_of(fault: FrameFault) -> ToolFault
     }
 }
 
-/// Takes bytes up to the end of a message, and adds its piece. Answers how many bytes it took: all of them, or none is held
-/// any more.
+/// Takes bytes up to the end of a message, and adds its piece. Answers how many bytes it took: all of them, or none is
+/// held any more.
 fn serve_next<W: Write, A: Allocator + Copy>(
     alloc: A,
     piece: Piece,
@@ -61,8 +61,8 @@ fn serve_next<W: Write, A: Allocator + Copy>(
     }
 }
 
-/// Adds the pieces of the messages that lie whole in these bytes, of which no byte is copied. Answers how many bytes they
-/// take. Why no other follows is for the framer to say.
+/// Adds the pieces of the messages that lie whole in these bytes, of which no byte is copied. Answers how many bytes
+/// they take. Why no other follows is for the framer to say.
 fn serve_whole<W: Write, A: Allocator + Copy>(
     alloc: A,
     piece: Piece,

@@ -154,8 +154,8 @@ fn check_within<A: Allocator + Copy>(
     }
 }
 
-/// Appends the line of a bare message's price and number of visits, which tells whether its bytes are canonical. It takes
-/// no memory but the line's.
+/// Appends the line of a bare message's price and number of visits, which tells whether its bytes are canonical. It
+/// takes no memory but the line's.
 fn put_verdict<A: Allocator + Copy>(
     alloc: A,
     space: &Bare<'_>,
