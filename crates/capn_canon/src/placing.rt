@@ -169,7 +169,8 @@ fn lay_rows<S: Space, A: Allocator>(
     requires content { IsContent (S.message space.now) start (count * (words + slots)) }
     requires part { rows.slots ≤ slots }
     requires fits { rows.first + count * (rows.words + rows.slots) ≤ 2 ^ 29 }
-    requires ready { RowsReady (S.message space.now) start.segment start.word words slots count depth rows.words rows.slots
+    requires ready { RowsReady (S.message space.now) start.segment start.word words slots count depth rows.words
+        rows.slots
         rows.first draft.old }
     ensures { OnOk result
         (RowsLaid (S.message space.now) start.segment start.word words slots count rows.words rows.slots rows.first

@@ -53,7 +53,8 @@ fn receive<R: Read, A: Allocator + Copy>(
 ) -> Result<Option<Stored<A>>, ReadFault>
     requires small { max_words ≤ most_message_words }
     requires fine { has_failed reader.old ≡ false }
-    ensures gives { ReadGives (R.remaining (inner_of reader.old)) (R.remaining (inner_of reader.new)) (has_failed reader.new)
+    ensures gives { ReadGives (R.remaining (inner_of reader.old)) (R.remaining (inner_of reader.new))
+        (has_failed reader.new)
         max_words result }
 {
     let mut framer = Framer::new(alloc, max_words);
@@ -89,7 +90,8 @@ pub fn read_message<R: Read, A: Allocator + Copy>(
     ensures exact { IfSome (R.remaining (inner_of reader.old)) (ReadsFirst max_words result) }
     ensures only { IfSome (R.remaining (inner_of reader.old)) (OnlyFirst max_words result) }
     // It takes the bytes of that message and no others, and tells a failed reader.
-    ensures gives { ReadGives (R.remaining (inner_of reader.old)) (R.remaining (inner_of reader.new)) (has_failed reader.new)
+    ensures gives { ReadGives (R.remaining (inner_of reader.old)) (R.remaining (inner_of reader.new))
+        (has_failed reader.new)
         max_words result }
 {
     receive(alloc, reader, max_words)

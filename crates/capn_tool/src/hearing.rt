@@ -46,7 +46,8 @@ fn serve_next<W: Write, A: Allocator + Copy>(
     requires good { framer.old.failed ≡ false }
     requires part { IsUnfinished framer.old.rest framer.old.most }
     requires most { framer.old.most ≡ limits.message_words }
-    ensures serves { ServesNext piece limits framer.old bytes.now (outgoing (W.contents (inner_of writer.old)) text.old.items)
+    ensures serves { ServesNext piece limits framer.old bytes.now
+        (outgoing (W.contents (inner_of writer.old)) text.old.items)
         (outgoing (W.contents (inner_of writer.new)) text.new.items) (has_failed writer.new) result framer.new }
     ensures whole { IfOk result (λ n. (n ≡ length bytes.now) ⊎ (framer.new.rest ≡ [])) }
 {

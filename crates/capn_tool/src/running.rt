@@ -52,7 +52,8 @@ fn run_whole<R: Read, W: Write, A: Allocator + Copy>(
     ensures exact { IfSome (R.remaining (inner_of reader.old))
         (PlanEndsAs (plans.Whole whole) (W.contents (inner_of writer.old)) (W.contents (inner_of writer.new)) result) }
     ensures io { IsErrOf result ToolFault.Io ↔ ((has_failed reader.new ≡ true) ⊎ (has_failed writer.new ≡ true)) }
-    ensures begun { PlanBegins (plans.Whole whole) (R.remaining (inner_of reader.old)) (R.remaining (inner_of reader.new))
+    ensures begun { PlanBegins (plans.Whole whole) (R.remaining (inner_of reader.old))
+        (R.remaining (inner_of reader.new))
         (W.contents (inner_of writer.old)) (W.contents (inner_of writer.new)) }
     ensures unread { has_failed reader.new ≡ true
         → Appends (W.contents (inner_of writer.old)) (W.contents (inner_of writer.new)) [] }

@@ -45,7 +45,8 @@ all_taken most rest cap all h e so_far = omega arith
 module _ {A : Type 0} (cap most all : ℕ) where
   module _ (items : List (Value A)) (i : ℕ) (so_far : min (max most (greatest (trees_of (drop i items)))) cap ≡ all)
     where
-      pub each_high : (v : Value A) {k n : ℕ} → i < length items → v ≡ get_or items i v → k ≡ min (height (tree_of v)) cap
+      pub each_high : (v : Value A) {k n : ℕ} → i < length items → v ≡ get_or items i v
+          → k ≡ min (height (tree_of v)) cap
           → n ≡ max k most →
           min (max n (greatest (trees_of (drop (i + 1) items)))) cap ≡ all
       each_high v {k} {n} h at e f =
@@ -66,4 +67,5 @@ module _ {A : Type 0} (cap most all : ℕ) where
           ∙ ap (λ vs. min (greatest (trees_of vs)) cap) same) f
 
       pub highest_row : most ≤ cap → i ≡ length rows → most ≡ all
-      highest_row h e = all_taken most _ cap all h (ap (λ bs. greatest_in_rows (rows_of bs)) (drop-past rows i e)) so_far
+      highest_row h e =
+          all_taken most _ cap all h (ap (λ bs. greatest_in_rows (rows_of bs)) (drop-past rows i e)) so_far

@@ -97,7 +97,8 @@ module _ {A B : Type 0} (a : List (Body A)) (b : List (Body B)) (i : ℕ) {all :
 -- of one list: whether each element is null
 module _ {A : Type 0} (items : List (Value A)) (i : ℕ) {all : Bool} (so_far : are_null (trees_of (drop i items)) ≡ all)
   where
-    module _ (v : Value A) (h : i < length items) (e : v ≡ get_or items i v) {r : Bool} (tested : r ≡ is_null (tree_of v))
+    module _ (v : Value A) (h : i < length items) (e : v ≡ get_or items i v) {r : Bool}
+        (tested : r ≡ is_null (tree_of v))
       where
         null_next : (is_null (tree_of v) && are_null (trees_of (drop (i + 1) items))) ≡ all
         null_next = sym (ap (λ vs. are_null (trees_of vs)) (drop-next items i v h e)) ∙ so_far

@@ -316,7 +316,8 @@ module _ (m : List (List ℕ)) (base : ℕ) where
         refused-here e h =
             let u = rw (coming-stop d ws f rest at next) at s.under in
             record {
-              is = inr (stops m budget vs n (visits m base d at) (coming d ws rest) (owed f + owed_by ws) paid made cap e
+              is = inr (stops m budget vs n (visits m base d at) (coming d ws rest) (owed f + owed_by ws) paid made cap
+                  e
                   at u h);
               within = u.within;
               few = let w = u.few in omega arith;

@@ -132,7 +132,8 @@ fn visit_struct<S: Space>(
     requires message { IsMessage (S.message space.now) }
     requires size { size ≡ length (segment_at (S.message space.now) at.segment) }
     requires place { IsPlace (S.message space.now) at }
-    requires pointer { spec.near (S.message space.now) at.segment at.word 0 pointer ≡ spec.target (S.message space.now) at }
+    requires pointer { spec.near (S.message space.now) at.segment at.word 0 pointer
+        ≡ spec.target (S.message space.now) at }
     requires left { left ≤ most_cost }
     ensures visits { IfOk result (λ v. visits (S.message space.now) base depth at
         ≡ pays at v.price ∷ visits_of (S.message space.now) base (depth - 1) (places_of v.below)) }
@@ -160,7 +161,8 @@ fn visit_numbers<S: Space>(
     base: u32,
 ) -> Result<u32, Fault>
     requires size { size ≡ length (segment_at (S.message space.now) at.segment) }
-    requires pointer { spec.near (S.message space.now) at.segment at.word 0 pointer ≡ spec.target (S.message space.now) at }
+    requires pointer { spec.near (S.message space.now) at.segment at.word 0 pointer
+        ≡ spec.target (S.message space.now) at }
     requires numbers { AreNumbers pointer }
     ensures visits { IfOk result (λ p. visits (S.message space.now) base depth at ≡ pays at p ∷ []) }
     ensures price { IfOk result (λ p. p ≤ left) }

@@ -346,7 +346,8 @@ impl<'s, S: Space> View<'s, S> {
     pub fn bytes(&self) -> Option<&'s [u8]>
         ensures some { IsSome result ↔ (seen.kind_of self.now.found ≡ kinds.Bytes) }
         ensures number { IfSome result (λ b. length b.now ≡ seen.len_of self.now.found) }
-        ensures elements { IfSome result (λ b. AreElements 8 8 (seen.content_of self.now.message self.now.found) b.now) }
+        ensures elements { IfSome result
+            (λ b. AreElements 8 8 (seen.content_of self.now.message self.now.found) b.now) }
     {
         match self.target {
             Target::Content {

@@ -191,7 +191,8 @@ module _ (m : List (List ℕ)) where
           ≡ refused t.fault t.place (price base shape + pads + t.paid) (1 + t.visits))) [
             | inl x ↦ inl x
             | inr is ↦ inr (ap (judge left) (visits-object base at s start pads shape e d deep)
-                ∙ judge-pays left (price base shape + pads) at (flat_map (visits m base (d - 1)) (slots s start shape)) room
+                ∙ judge-pays left (price base shape + pads) at (flat_map (visits m base (d - 1)) (slots s start shape))
+                room
                 ∙ ap (after (price base shape + pads) 1) is)
           ];
       within = let a = r.within in omega arith;

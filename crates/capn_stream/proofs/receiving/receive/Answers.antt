@@ -52,7 +52,8 @@ returns-in-Some g c =
     let fine : has_failed c.read.new.self ≡ false = grind (arith, common_steps) in
     record {
       gives =
-          received_some _ _ _ c.pieces.framer c.read.new.buf c.in-Ok.count c.take_in.new.framer c.args.max_words _ i.most
+          received_some _ _ _ c.pieces.framer c.read.new.buf c.in-Ok.count c.take_in.new.framer c.args.max_words _
+          i.most
           i.read c.in-Ok.ensures.bytes.0 bound.0 (omega (arith, c.wanted.ensures.bound, i.most, room, bound.0)) fine
           c.in-Some.message took;
     }
