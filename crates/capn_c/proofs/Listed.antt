@@ -36,13 +36,15 @@ walk_listed walk.TooDeep = refl
 walk_listed walk.OverBudget = refl
 walk_listed walk.Memory = refl
 
-pub packed_listed : (bs : List ℕ) (most : ℕ) (e : UnpackFault) → packs.IsRefused bs most e → IsTrue (is_status (packed_code e))
+pub packed_listed : (bs : List ℕ) (most : ℕ) (e : UnpackFault) → packs.IsRefused bs most e
+    → IsTrue (is_status (packed_code e))
 packed_listed bs most packed.Memory h = refl
 packed_listed bs most (packed.Cut at) h = refl
 packed_listed bs most (packed.TooLong at) h = refl
 packed_listed bs most packed.Failed h = absurd h
 
-pub frame_listed : (bs : List ℕ) (most : ℕ) (e : FrameFault) → frames.IsRefused bs most e → IsTrue (is_status (frame_code e))
+pub frame_listed : (bs : List ℕ) (most : ℕ) (e : FrameFault) → frames.IsRefused bs most e
+    → IsTrue (is_status (frame_code e))
 frame_listed bs most frame.Memory h = refl
 frame_listed bs most frame.Empty h = refl
 frame_listed bs most (frame.TooManySegments n) h = refl
@@ -59,7 +61,8 @@ misframed_listed bs most (refusals.Walk s) h = absurd h
 misframed_listed bs most (refusals.Capability k) h = absurd h
 misframed_listed bs most refusals.Memory h = absurd h
 
-pub refused_listed : (form : Form) (bs : List ℕ) (l : Bounds) (r : Refusal) → IsRefused form bs l r → IsTrue (is_status (code r))
+pub refused_listed : (form : Form) (bs : List ℕ) (l : Bounds) (r : Refusal) → IsRefused form bs l r
+    → IsTrue (is_status (code r))
 refused_listed form bs l (refusals.Walk s) h = walk_listed s.fault
 refused_listed form bs l (refusals.Capability k) h = refl
 refused_listed form bs l refusals.Memory h = refl

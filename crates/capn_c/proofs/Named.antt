@@ -43,14 +43,22 @@ refusal_of n r =
     if n == 255 then refusals.Frame frame.Failed else (
     if n == 52 then refusals.Trailing r.at else (
     if n == 80 then refusals.Capability r.at else (
-    refusals.Walk (record { fault = fault_of n; place = record { segment = r.segment; word = r.word }; paid = r.paid; visits = r.visits })))))))))))))
+    refusals.Walk
+    (record {
+      fault = fault_of n;
+      place = record { segment = r.segment; word = r.word };
+      paid = r.paid;
+      visits =
+          r.visits;
+    })))))))))))))
 
 -- the report of a walk that stopped
 report_of_walk : Place → ℕ → ℕ → CapnReport
 report_of_walk p n k = record { length = 0; at = 0; segment = p.segment; word = p.word; paid = n; visits = k }
 
 walk_told : (f : Fault) (p : Place) (n k : ℕ) → walk_code f ≢ 8
-    → refusal_of (walk_code f) (report_of_walk p n k) ≡ refusals.Walk (record { fault = f; place = p; paid = n; visits = k })
+    → refusal_of (walk_code f) (report_of_walk p n k)
+    ≡ refusals.Walk (record { fault = f; place = p; paid = n; visits = k })
 unfolding refusal_of fault_of report_of_walk
 walk_told walk.NoRoot p n k h = refl
 walk_told walk.RootKind p n k h = refl
@@ -85,11 +93,14 @@ told refusals.Memory h = absurd (h refl)
 told (refusals.Walk s) h = walk_told s.fault s.place s.paid s.visits h
 
 -- two refusals with one status and one report are one
-pub one_refusal : (status : ℕ) (report : CapnReport) (e f : Refusal) → status ≢ 8 → status ≡ code e → report ≡ report_of e
+pub one_refusal : (status : ℕ) (report : CapnReport) (e f : Refusal) → status ≢ 8 → status ≡ code e
+    → report ≡ report_of e
     → status ≡ code f → report ≡ report_of f → f ≡ e
 one_refusal status report e f h c r d s =
-    let a : refusal_of status report ≡ e = ap (λ (n : ℕ). refusal_of n report) c ∙ ap (refusal_of (code e)) r ∙ told e (λ x. h (c ∙ x)) in
-    let b : refusal_of status report ≡ f = ap (λ (n : ℕ). refusal_of n report) d ∙ ap (refusal_of (code f)) s ∙ told f (λ x. h (d ∙ x)) in
+    let a : refusal_of status report ≡ e = ap (λ (n : ℕ). refusal_of n report) c ∙ ap (refusal_of (code e)) r
+    ∙ told e (λ x. h (c ∙ x)) in
+    let b : refusal_of status report ≡ f = ap (λ (n : ℕ). refusal_of n report) d ∙ ap (refusal_of (code f)) s
+    ∙ told f (λ x. h (d ∙ x)) in
     sym b ∙ a
 
 -- the refusal of packed bytes that a status and a report tell
@@ -104,9 +115,12 @@ packed_told (packed.TooLong at) h = refl
 packed_told packed.Failed h = refl
 
 -- so are two of those
-pub one_packed : (status : ℕ) (report : CapnReport) (e f : UnpackFault) → status ≢ 8 → status ≡ packed_code e → report ≡ at_number (packed_number e)
+pub one_packed : (status : ℕ) (report : CapnReport) (e f : UnpackFault) → status ≢ 8 → status ≡ packed_code e
+    → report ≡ at_number (packed_number e)
     → status ≡ packed_code f → report ≡ at_number (packed_number f) → f ≡ e
 one_packed status report e f h c r d s =
-    let a : packed_of status report ≡ e = ap (λ (n : ℕ). packed_of n report) c ∙ ap (packed_of (packed_code e)) r ∙ packed_told e (λ x. h (c ∙ x)) in
-    let b : packed_of status report ≡ f = ap (λ (n : ℕ). packed_of n report) d ∙ ap (packed_of (packed_code f)) s ∙ packed_told f (λ x. h (d ∙ x)) in
+    let a : packed_of status report ≡ e = ap (λ (n : ℕ). packed_of n report) c ∙ ap (packed_of (packed_code e)) r
+    ∙ packed_told e (λ x. h (c ∙ x)) in
+    let b : packed_of status report ≡ f = ap (λ (n : ℕ). packed_of n report) d ∙ ap (packed_of (packed_code f)) s
+    ∙ packed_told f (λ x. h (d ∙ x)) in
     sym b ∙ a

@@ -1,7 +1,8 @@
 //! The status of each refusal.
 
 ghost use Rattle.std.specs.Prelude.{◌≡◌};
-ghost use Rattle.capn_c.specs.Codes.{bare_code, bare_number, packed_code, packed_number, frame_code, frame_number, walk_code, code, report_of, Tells, TellsPacked};
+ghost use Rattle.capn_c.specs.Codes.{bare_code, bare_number, packed_code, packed_number, frame_code, frame_number};
+ghost use Rattle.capn_c.specs.Codes.{walk_code, code, report_of, Tells, TellsPacked};
 
 use crate::report::{CapnReport, report_at};
 use capn_canon::Refusal;

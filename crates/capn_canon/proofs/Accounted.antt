@@ -1,5 +1,6 @@
 -- What a survey of bytes tells is so of their packed text, and of any value that the bytes denote.
-use Rattle.std.proofs.Common.{◌≡◌, ℕ, ◌+◌, ◌*◌, ◌^◌, ◌≤◌, List, length, ap, arith, ◌∙◌, Result, Ok, Err, MatchResult, IfOk, IfErr}
+use Rattle.std.proofs.Common.{◌≡◌, ℕ, ◌+◌, ◌*◌, ◌^◌, ◌≤◌, List, length, ap, arith, ◌∙◌, Result, Ok, Err, MatchResult}
+use Rattle.std.proofs.Common.{IfOk, IfErr}
 use Rattle.capn_value.specs.Tree.{Tree}
 use Rattle.capn_value.specs.Caps.{first_cap}
 use Rattle.capn_walk.specs.declared.surveyed.Surveyed.{Surveyed}
@@ -20,12 +21,14 @@ use Rattle.capn_canon.proofs.Headline.{denoted_length}
 use Rattle.capn_canon.proofs.InEachForm.{packed_refused}
 
 -- what is told of an unpacked frame is told of its packed text,
-pub packed_surveys : (r : Result Surveyed Refusal) (bs text : List ℕ) (limits : Bounds) → Unpacks bs limits.message_words text →
+pub packed_surveys : (r : Result Surveyed Refusal) (bs text : List ℕ) (limits : Bounds)
+    → Unpacks bs limits.message_words text →
     IfOk r (λ s. Surveys forms.Stream text limits s) → IfOk r (λ s. Surveys forms.Packed bs limits s)
 packed_surveys (Ok s) bs text limits u h = record { message = h.message; reads = (text, u, h.reads); survey = h.survey }
 packed_surveys (Err e) bs text limits u h = tt
 
-packed_unaccepted : (bs text : List ℕ) (limits : Bounds) (r : Refusal) → Unpacks bs limits.message_words text → IsUnacceptedIn forms.Stream text limits r → IsUnacceptedIn forms.Packed bs limits r
+packed_unaccepted : (bs text : List ℕ) (limits : Bounds) (r : Refusal) → Unpacks bs limits.message_words text
+    → IsUnacceptedIn forms.Stream text limits r → IsUnacceptedIn forms.Packed bs limits r
 packed_unaccepted bs text limits (refusals.Walk s) u h = packed_refused bs text limits (refusals.Walk s) u h
 packed_unaccepted bs text limits (refusals.Capability k) u h = h
 packed_unaccepted bs text limits refusals.Memory u h = tt
@@ -35,7 +38,8 @@ packed_unaccepted bs text limits (refusals.Bare e) u h = packed_refused bs text 
 packed_unaccepted bs text limits (refusals.Packed e) u h = packed_refused bs text limits (refusals.Packed e) u h
 
 -- and so is what is refused
-pub packed_unaccepted_err : (r : Result Surveyed Refusal) (bs text : List ℕ) (limits : Bounds) → Unpacks bs limits.message_words text →
+pub packed_unaccepted_err : (r : Result Surveyed Refusal) (bs text : List ℕ) (limits : Bounds)
+    → Unpacks bs limits.message_words text →
     IfErr r (λ e. IsUnacceptedIn forms.Stream text limits e) → IfErr r (λ e. IsUnacceptedIn forms.Packed bs limits e)
 packed_unaccepted_err (Ok s) bs text limits u h = tt
 packed_unaccepted_err (Err e) bs text limits u h = packed_unaccepted bs text limits e u h
@@ -45,13 +49,17 @@ pub surveyed_only : (r : Result Surveyed Refusal) (form : Form) (bs : List ℕ) 
     IfOk r (λ s. Surveys form bs limits s) → IfErr r (λ e. IsUnacceptedIn form bs limits e) →
     (v : Tree) → Denotes form bs limits v → MatchResult r (λ s. s.capability ≡ first_cap v) (λ e. e ≡ refusals.Memory)
 surveyed_only (Ok s) form bs limits h g v d =
-    h.survey.capability ∙ ap first_cap (one_value form bs limits h.survey.value v (record { message = h.message; reads = h.reads; value = h.survey.is }) d)
+    h.survey.capability
+    ∙ ap first_cap
+    (one_value form bs limits h.survey.value v
+    (record { message = h.message; reads = h.reads; value = h.survey.is }) d)
 surveyed_only (Err e) form bs limits h g v d = not_unaccepted form bs limits v e d g
 
 -- and bounds the length of its canonical bytes
 pub surveyed_short : (r : Result Surveyed Refusal) (form : Form) (bs : List ℕ) (limits : Bounds) →
     limits.message_words ≤ 2 ^ 28 → limits.budget ≤ 2 ^ 28 → limits.depth ≤ 256 →
-    IfOk r (λ s. Surveys form bs limits s) → IfOk r (λ s. (v : Tree) → Denotes form bs limits v → length (canon v) ≤ 8 * (s.paid + 1))
+    IfOk r (λ s. Surveys form bs limits s)
+    → IfOk r (λ s. (v : Tree) → Denotes form bs limits v → length (canon v) ≤ 8 * (s.paid + 1))
 surveyed_short (Ok s) form bs limits few small shallow h = λ v d.
     let m = is_message form bs limits.message_words h.message few h.reads in
     let l = denoted_length h.message limits v m small shallow (denoted_here form bs limits h.message v h.reads d) in

@@ -39,10 +39,12 @@ module _ (m : List (List ℕ)) (limits : Bounds) (bs : List ℕ) (n : ℕ) (h : 
     answer_form v k = form_of_any m limits h.value is small shallow h.is bs v h.canonical k
 
 -- what bytes denote that are read as a message is the message's value
-pub denoted_here : (form : Form) (bs : List ℕ) (limits : Bounds) (m : List (List ℕ)) (v : Tree) → Reads form bs limits.message_words m → Denotes form bs limits v →
+pub denoted_here : (form : Form) (bs : List ℕ) (limits : Bounds) (m : List (List ℕ)) (v : Tree)
+    → Reads form bs limits.message_words m → Denotes form bs limits v →
     IsValueOf m limits v
 denoted_here form bs limits m v r h =
-    subst (λ (x : List (List ℕ)). IsValueOf x limits v) (one_message form bs limits.message_words h.message m h.reads r) h.value
+    subst (λ (x : List (List ℕ)). IsValueOf x limits v) (one_message form bs limits.message_words h.message m h.reads r)
+    h.value
 
 -- an answer for bytes in a form
 module _ (form : Form) (bs : List ℕ) (limits : Bounds) (out : List ℕ) (n : ℕ) (h : Answers form bs limits out n) where
@@ -57,10 +59,13 @@ module _ (form : Form) (bs : List ℕ) (limits : Bounds) (out : List ℕ) (n : �
   module _ (few : limits.message_words ≤ 2 ^ 28) (small : limits.budget ≤ 2 ^ 28) (shallow : limits.depth ≤ 256) where
     -- there are at most 8 bytes for each word paid and 8 more,
     pub answers_length : length out ≤ 8 * (n + 1)
-    answers_length = answer_length h.message limits out n h.answer (is_message form bs limits.message_words h.message few h.reads) small shallow
+    answers_length =
+        answer_length h.message limits out n h.answer (is_message form bs limits.message_words h.message few h.reads)
+        small shallow
 
     -- and they are the canonical form of whichever value the bytes denote
     pub answers_form : (v : Tree) → Denotes form bs limits v → IsCanonicalForm out limits v
     answers_form v k =
-        answer_form h.message limits out n h.answer (is_message form bs limits.message_words h.message few h.reads) small shallow v
+        answer_form h.message limits out n h.answer (is_message form bs limits.message_words h.message few h.reads)
+        small shallow v
         (denoted_here form bs limits h.message v h.reads k)

@@ -1,5 +1,6 @@
 -- The value at the root is ready to be laid, and what is laid are its canonical words.
-use Rattle.std.proofs.Common.{◌≡◌, ℕ, ◌+◌, ◌^◌, ◌≤◌, List, [], ◌∷◌, ◌++◌, length, set, ap, sym, subst, ◌∙◌, arith, refl, Option, Some}
+use Rattle.std.proofs.Common.{◌≡◌, ℕ, ◌+◌, ◌^◌, ◌≤◌, List, [], ◌∷◌, ◌++◌, length, set, ap, sym, subst, ◌∙◌, arith, refl}
+use Rattle.std.proofs.Common.{Option, Some}
 use Rattle.capn_words.specs.Message.{IsMessage}
 use Rattle.capn_words.specs.Words.{bytes}
 use Rattle.capn_value.specs.Tree.{Tree}
@@ -17,7 +18,8 @@ use Rattle.capn_canon.proofs.Room.{room}
 use Rattle.capn_canon.proofs.Sound.{sound}
 use Rattle.capn_canon.specs.Ready.{IsReady, IsLaid}
 
-pub root-ready : (m : List (List ℕ)) (limits : Bounds) (v : Tree) → IsMessage m → limits.budget ≤ 2 ^ 28 → limits.depth ≤ 256 → IsValueOf m limits v → IsReady m root limits.depth 1
+pub root-ready : (m : List (List ℕ)) (limits : Bounds) (v : Tree) → IsMessage m → limits.budget ≤ 2 ^ 28
+    → limits.depth ≤ 256 → IsValueOf m limits v → IsReady m root limits.depth 1
 root-ready m limits v is small shallow h =
     let f = denoted_fits m limits v is small shallow h in
     let r = denoted_in_range m limits v is small shallow h in
@@ -25,7 +27,8 @@ root-ready m limits v is small shallow h =
     let k = room v f r in
     record { value = v; is = h.is; sound = sound v f r; low = c.2; room = let a = k.0 in let b = k.2 in omega arith }
 
-pub root-bytes : (m : List (List ℕ)) (p q : List (Option ℕ)) → p ≡ [] ++ Some 0 ∷ [] → IsLaid m root 0 p q → (v : Tree) → IsAt m root v → bytes (filled q) ≡ canon v
+pub root-bytes : (m : List (List ℕ)) (p q : List (Option ℕ)) → p ≡ [] ++ Some 0 ∷ [] → IsLaid m root 0 p q → (v : Tree)
+    → IsAt m root v → bytes (filled q) ≡ canon v
 root-bytes m p q ep h v is =
     let laid_words : q ≡ whole (words v) =
     h v is

@@ -1,5 +1,6 @@
 -- The canonical bytes of a value are a bare message: its words are below 2^64 and few enough.
-use Rattle.std.proofs.Common.{◌≡◌, ℕ, zero, suc, ◌+◌, ◌-◌, ◌*◌, ◌/◌, ◌^◌, ◌<◌, ◌≤◌, ◌==◌, ◌&&◌, Bool, true, false, List, [], ◌∷◌, ◌++◌, length, take, drop, map, pos, refl, arith}
+use Rattle.std.proofs.Common.{◌≡◌, ℕ, zero, suc, ◌+◌, ◌-◌, ◌*◌, ◌/◌, ◌^◌, ◌<◌, ◌≤◌, ◌==◌, ◌&&◌, Bool, true, false, List}
+use Rattle.std.proofs.Common.{[], ◌∷◌, ◌++◌, length, take, drop, map, pos, refl, arith}
 use Rattle.std.specs.Int.{from_bool}
 use Rattle.std.proofs.Math.Nat.{pow-succ', pow-zero, one-le-pow, mul-le-mul_left}
 use Rattle.capn_words.specs.Fields.{word_of}
@@ -9,13 +10,15 @@ use Rattle.capn_words.specs.declared.pointer.Pointer.TheVariants.{Many, Cap}
 use Rattle.capn_words.specs.declared.pointer.Width.{Width}
 use Rattle.capn_words.specs.declared.pointer.Width.TheVariants.{W0, W1, W8, W16, W32, W64, Link, Rows}
 use Rattle.capn_words.specs.Laws.OneSegment.{bare_length, bare_only}
-use Rattle.capn_value.specs.Tree.{Tree, nil, node, voids, bits, bytes, pairs, quads, octs, links, rows, cap, Trees, no_trees, tree, Bodies, no_bodies, body, count, count_rows}
+use Rattle.capn_value.specs.Tree.{Tree, nil, node, voids, bits, bytes, pairs, quads, octs, links, rows, cap, Trees}
+use Rattle.capn_value.specs.Tree.{no_trees, tree, Bodies, no_bodies, body, count, count_rows}
 use Rattle.capn_value.specs.Trim.{kept_words, kept_slots, kept_words_of_rows, kept_slots_of_rows}
 use Rattle.capn_value.specs.Sizes.{cost}
 use Rattle.capn_value.specs.Fits.{Fits}
 use Rattle.capn_value.specs.InRange.{AllBelow, InRange, EachInRange, RowsInRange}
 use Rattle.capn_value.specs.Laws.Ranges.{below-take}
-use Rattle.capn_canon.specs.Layout.{own, size, sizes, sizes_in_rows, row_size, list_to, struct_to, point, points, number, packed, row_contents, lay, lays, lays_in_rows, words, canon}
+use Rattle.capn_canon.specs.Layout.{own, size, sizes, sizes_in_rows, row_size, list_to, struct_to, point, points}
+use Rattle.capn_canon.specs.Layout.{number, packed, row_contents, lay, lays, lays_in_rows, words, canon}
 use Rattle.capn_words.specs.Laws.FieldBits.{pick}
 use Rattle.capn_words.specs.Laws.Pointers.{word_of-lt}
 use Rattle.capn_canon.specs.Sound.{Sound, Sounds, SoundRows}
@@ -49,10 +52,13 @@ digits-below base (suc n) (x ∷ xs) p h =
     let l = h.0 in
     omega arith
 
-packed-below : (each width n : ℕ) (xs : List ℕ) → 0 < 2 ^ width → (2 ^ width) ^ each ≤ 2 ^ 64 → AllBelow (2 ^ width) xs → AllBelow (2 ^ 64) (packed each width n xs)
+packed-below : (each width n : ℕ) (xs : List ℕ) → 0 < 2 ^ width → (2 ^ width) ^ each ≤ 2 ^ 64 → AllBelow (2 ^ width) xs
+    → AllBelow (2 ^ 64) (packed each width n xs)
 packed-below each width zero xs p e h = tt
-packed-below each width (suc n) xs p e h =
-    (omega (arith, digits-below (2 ^ width) each xs p h), packed-below each width n (drop each xs) p e (below-drop (2 ^ width) each xs h))
+packed-below each width (suc n) xs p e h = (
+  omega (arith, digits-below (2 ^ width) each xs p h),
+  packed-below each width n (drop each xs) p e (below-drop (2 ^ width) each xs h),
+)
 
 bits-below : (xs : List Bool) → AllBelow 2 (map from_bool xs)
 bits-below [] = tt
@@ -72,7 +78,9 @@ struct-below from to a b ht ha hb =
 point-below : (v : Tree) (from to : ℕ) → Sound v → to ≤ 2 ^ 29 → point v from to < 2 ^ 64
 unfolding point
 point-below nil from to h l = omega arith
-point-below (node ws ss) from to h l = struct-below from to (kept_words ws) (kept_slots ss) l (omega (arith, kept_words-le ws, h.0)) (omega (arith, kept_slots-le ss, h.1))
+point-below (node ws ss) from to h l =
+    struct-below from to (kept_words ws) (kept_slots ss) l (omega (arith, kept_words-le ws, h.0))
+    (omega (arith, kept_slots-le ss, h.1))
 point-below (voids n) from to h l = list-below from to n W0 l h
 point-below (bits xs) from to h l = list-below from to (length xs) W1 l h
 point-below (bytes xs) from to h l = list-below from to (length xs) W8 l h.0
@@ -85,12 +93,16 @@ point-below (cap k) from to h l = word_of-lt (Cap k) h
 
 points-below : (ts : Trees) (from to : ℕ) → Sounds ts → to + sizes ts ≤ 2 ^ 29 → AllBelow (2 ^ 64) (points ts from to)
 points-below no_trees from to h l = tt
-points-below (tree t ts) from to h l = (point-below t from to h.0 (omega arith), points-below ts (suc from) (to + size t) h.1 (omega arith))
+points-below (tree t ts) from to h l =
+    (point-below t from to h.0 (omega arith), points-below ts (suc from) (to + size t) h.1 (omega arith))
 
-row_contents-below : (a b : ℕ) (bs : Bodies) (from to : ℕ) → SoundRows bs → RowsInRange bs → to + sizes_in_rows bs ≤ 2 ^ 29 → AllBelow (2 ^ 64) (row_contents a b bs from to)
+row_contents-below : (a b : ℕ) (bs : Bodies) (from to : ℕ) → SoundRows bs → RowsInRange bs
+    → to + sizes_in_rows bs ≤ 2 ^ 29 → AllBelow (2 ^ 64) (row_contents a b bs from to)
 row_contents-below a b no_bodies from to h r l = tt
 row_contents-below a b (body ws ss bs) from to h r l =
-    below-append (2 ^ 64) (take a ws) (take b (points ss (from + a) to) ++ row_contents a b bs (from + a + b) (to + sizes ss)) (below-take (2 ^ 64) a ws r.0)
+    below-append (2 ^ 64) (take a ws)
+    (take b (points ss (from + a) to) ++ row_contents a b bs (from + a + b) (to + sizes ss))
+    (below-take (2 ^ 64) a ws r.0)
     (below-append (2 ^ 64) (take b (points ss (from + a) to)) (row_contents a b bs (from + a + b) (to + sizes ss))
     (below-take (2 ^ 64) b (points ss (from + a) to) (points-below ss (from + a) to h.0 (omega arith)))
     (row_contents-below a b bs (from + a + b) (to + sizes ss) h.1 r.2 (omega arith)))
@@ -104,18 +116,23 @@ mutual
   lay-below (cap k) at h r l = tt
   lay-below (node ws ss) at h r l =
       let to = at + own (node ws ss) in
-      below-append (2 ^ 64) (take (kept_words ws) ws) (take (kept_slots ss) (points ss (at + kept_words ws) to) ++ lays ss to) (below-take (2 ^ 64) (kept_words ws) ws r.0)
+      below-append (2 ^ 64) (take (kept_words ws) ws)
+      (take (kept_slots ss) (points ss (at + kept_words ws) to) ++ lays ss to)
+      (below-take (2 ^ 64) (kept_words ws) ws r.0)
       (below-append (2 ^ 64) (take (kept_slots ss) (points ss (at + kept_words ws) to)) (lays ss to)
-      (below-take (2 ^ 64) (kept_slots ss) (points ss (at + kept_words ws) to) (points-below ss (at + kept_words ws) to h.2 (omega arith)))
+      (below-take (2 ^ 64) (kept_slots ss) (points ss (at + kept_words ws) to)
+      (points-below ss (at + kept_words ws) to h.2 (omega arith)))
       (lays-below ss to h.2 r.1 (omega arith)))
   lay-below (voids n) at h r l = tt
-  lay-below (bits xs) at h r l = packed-below 64 1 (own (bits xs)) (map from_bool xs) (omega arith) (omega arith) (bits-below xs)
+  lay-below (bits xs) at h r l =
+      packed-below 64 1 (own (bits xs)) (map from_bool xs) (omega arith) (omega arith) (bits-below xs)
   lay-below (bytes xs) at h r l = packed-below 8 8 (own (bytes xs)) xs (omega arith) (omega arith) r
   lay-below (pairs xs) at h r l = packed-below 4 16 (own (pairs xs)) xs (omega arith) (omega arith) r
   lay-below (quads xs) at h r l = packed-below 2 32 (own (quads xs)) xs (omega arith) (omega arith) r
   lay-below (octs xs) at h r l = r
   lay-below (links ts) at h r l =
-      below-append (2 ^ 64) (points ts at (at + count ts)) (lays ts (at + count ts)) (points-below ts at (at + count ts) h.1 (omega arith)) (lays-below ts (at + count ts) h.1 r (omega arith))
+      below-append (2 ^ 64) (points ts at (at + count ts)) (lays ts (at + count ts))
+      (points-below ts at (at + count ts) h.1 (omega arith)) (lays-below ts (at + count ts) h.1 r (omega arith))
   lay-below (rows bs) at h r l =
       let a = kept_words_of_rows bs in
       let b = kept_slots_of_rows bs in
@@ -124,18 +141,23 @@ mutual
       let hb = h.2 in
       let hc = h.0 in (
         omega arith,
-        below-append (2 ^ 64) (row_contents a b bs (suc at) to) (lays_in_rows bs to) (row_contents-below a b bs (suc at) to h.5 r (omega arith)) (lays_in_rows-below bs to h.5 r (omega arith)),
+        below-append (2 ^ 64) (row_contents a b bs (suc at) to) (lays_in_rows bs to)
+            (row_contents-below a b bs (suc at) to h.5 r (omega arith)) (lays_in_rows-below bs to h.5 r (omega arith)),
       )
 
-  lays-below : (ts : Trees) (at : ℕ) → Sounds ts → EachInRange ts → at + sizes ts ≤ 2 ^ 29 → AllBelow (2 ^ 64) (lays ts at)
+  lays-below : (ts : Trees) (at : ℕ) → Sounds ts → EachInRange ts → at + sizes ts ≤ 2 ^ 29
+      → AllBelow (2 ^ 64) (lays ts at)
   lays-below no_trees at h r l = tt
   lays-below (tree t ts) at h r l =
-      below-append (2 ^ 64) (lay t at) (lays ts (at + size t)) (lay-below t at h.0 r.0 (omega arith)) (lays-below ts (at + size t) h.1 r.1 (omega arith))
+      below-append (2 ^ 64) (lay t at) (lays ts (at + size t)) (lay-below t at h.0 r.0 (omega arith))
+      (lays-below ts (at + size t) h.1 r.1 (omega arith))
 
-  lays_in_rows-below : (bs : Bodies) (at : ℕ) → SoundRows bs → RowsInRange bs → at + sizes_in_rows bs ≤ 2 ^ 29 → AllBelow (2 ^ 64) (lays_in_rows bs at)
+  lays_in_rows-below : (bs : Bodies) (at : ℕ) → SoundRows bs → RowsInRange bs → at + sizes_in_rows bs ≤ 2 ^ 29
+      → AllBelow (2 ^ 64) (lays_in_rows bs at)
   lays_in_rows-below no_bodies at h r l = tt
   lays_in_rows-below (body ws ss bs) at h r l =
-      below-append (2 ^ 64) (lays ss at) (lays_in_rows bs (at + sizes ss)) (lays-below ss at h.0 r.1 (omega arith)) (lays_in_rows-below bs (at + sizes ss) h.1 r.2 (omega arith))
+      below-append (2 ^ 64) (lays ss at) (lays_in_rows bs (at + sizes ss)) (lays-below ss at h.0 r.1 (omega arith))
+      (lays_in_rows-below bs (at + sizes ss) h.1 r.2 (omega arith))
 
 -- ---- the laws
 
@@ -147,7 +169,10 @@ words_are_words v f r =
     let m = room v f r in
     let n = m.0 in
     let k = m.2 in
-    below (2 ^ 64) (omega arith) (point v 0 1 ∷ lay v 1) (point-below v 0 1 s (omega arith), lay-below v 1 s r (omega arith))
+    below (2 ^ 64) (omega arith) (point v 0 1 ∷ lay v 1) (
+      point-below v 0 1 s (omega arith),
+      lay-below v 1 s r (omega arith),
+    )
 
 -- its canonical bytes are those of a bare message, whose words are the canonical words
 pub canon_is_bare : (v : Tree) → Fits v → InRange v → IsBare (canon v) (words v)
@@ -158,7 +183,8 @@ pub words_in_canon : (v : Tree) → Fits v → InRange v → words_in (length (c
 words_in_canon v f r = bare_only (canon v) (words v) (canon_is_bare v f r)
 
 -- there are 8 canonical bytes for the root's pointer, and at most 8 for each word of the cost, under either tariff
-pub canon_length : (v : Tree) (base : ℕ) → Fits v → InRange v → (length (canon v) ≡ 8 * (1 + size v)) × (length (canon v) ≤ 8 * (cost base v + 1))
+pub canon_length : (v : Tree) (base : ℕ) → Fits v → InRange v → (length (canon v) ≡ 8 * (1 + size v))
+    × (length (canon v) ≤ 8 * (cost base v + 1))
 canon_length v base f r =
     let l = bare_length (canon v) (words v) (canon_is_bare v f r) in
     let m = room v f r in

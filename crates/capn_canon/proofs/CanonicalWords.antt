@@ -1,5 +1,6 @@
 -- Words are canonical exactly if the value at their root stands as its layout, and no word is left.
-use Rattle.std.proofs.Common.{◌≡◌, ◌↔◌, ℕ, suc, ◌+◌, ◌^◌, ◌<◌, ◌≤◌, List, [], ◌∷◌, length, take, drop, slice_index, refl, ap, sym, subst, ◌∙◌, arith, Bool, true, false, Option, Some, None}
+use Rattle.std.proofs.Common.{◌≡◌, ◌↔◌, ℕ, suc, ◌+◌, ◌^◌, ◌<◌, ◌≤◌, List, [], ◌∷◌, length, take, drop, slice_index}
+use Rattle.std.proofs.Common.{refl, ap, sym, subst, ◌∙◌, arith, Bool, true, false, Option, Some, None}
 use Rattle.std.specs.Bool.{IsTrue}
 use Rattle.std.proofs.Math.Seq.{take-length}
 use Rattle.std.proofs.lemmas.List.{take_all}
@@ -30,11 +31,17 @@ module _ (all : List ℕ) (v : Tree) (o : Sound v) (some : 0 < length all) where
   pub stand-words : words v ≡ all → IsLaidAt all v 0 1 × (1 + size v ≡ length all)
   unfolding words
   stand-words e =
-      let x : Stand all 0 (point v 0 1 ∷ lay v 1) = subst (λ (xs : List ℕ). Stand xs 0 (point v 0 1 ∷ lay v 1)) e (take-length (point v 0 1 ∷ lay v 1)) in (
-        record { pointer = stand-head all 0 (point v 0 1) (lay v 1) some x; content = stand-tail all 0 (point v 0 1) (lay v 1) some x },
+      let x : Stand all 0 (point v 0 1 ∷ lay v 1) =
+      subst (λ (xs : List ℕ). Stand xs 0 (point v 0 1 ∷ lay v 1)) e (take-length (point v 0 1 ∷ lay v 1)) in (
+        record {
+          pointer = stand-head all 0 (point v 0 1) (lay v 1) some x;
+          content =
+              stand-tail all 0 (point v 0 1) (lay v 1) some x;
+        },
         sym (length_words v o) ∙ ap length e,
       )
 
 -- bytes are canonical exactly if their words are
 pub bytes-words : (bs ws : List ℕ) (v : Tree) → IsBare bs ws → Fits v → InRange v → (words v ≡ ws) ↔ (canon v ≡ bs)
-bytes-words bs ws v b f r = ((λ e. ap bytes e ∙ sym b.same), (λ e. bytes-injective (words v) ws (words_are_words v f r) b.each (e ∙ b.same)))
+bytes-words bs ws v b f r =
+    ((λ e. ap bytes e ∙ sym b.same), (λ e. bytes-injective (words v) ws (words_are_words v f r) b.each (e ∙ b.same)))

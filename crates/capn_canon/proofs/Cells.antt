@@ -1,6 +1,9 @@
 -- A buffer of words and holes, as the list that its bytes and marks stand for.
-use Rattle.std.proofs.Common.{◌≡◌, ℕ, zero, suc, ◌+◌, ◌*◌, ◌^◌, ◌<◌, ◌≤◌, List, [], ◌∷◌, ◌++◌, length, take, drop, set, refl, ap, sym, ◌∙◌, arith, append_assoc, append-nil, length-append, length-drop, Bool, true, false, Option, Some, None}
-use Rattle.std.proofs.lemmas.List.{drop-drop, drop_at, take_at, take-append-drop, nil_from_length, length-take-le, take-take, drop-take}
+use Rattle.std.proofs.Common.{◌≡◌, ℕ, zero, suc, ◌+◌, ◌*◌, ◌^◌, ◌<◌, ◌≤◌, List, [], ◌∷◌, ◌++◌, length, take, drop, set}
+use Rattle.std.proofs.Common.{refl, ap, sym, ◌∙◌, arith, append_assoc, append-nil, length-append, length-drop, Bool}
+use Rattle.std.proofs.Common.{true, false, Option, Some, None}
+use Rattle.std.proofs.lemmas.List.{drop-drop, drop_at, take_at, take-append-drop, nil_from_length, length-take-le}
+use Rattle.std.proofs.lemmas.List.{take-take, drop-take}
 use Rattle.capn_words.specs.Words.{word_number, AreBytes}
 use Rattle.capn_words.specs.Message.{word_bytes, bytes}
 use Rattle.capn_canon.specs.Patch.{cell, cells, filled, IsWhole}
@@ -13,11 +16,13 @@ length-cells [] bs = refl
 length-cells (h ∷ hs) bs = ap suc (length-cells hs (drop 8 bs))
 
 -- one more in front
-cells-cons : (h : Bool) (hs : List Bool) (xs ys : List ℕ) → length xs ≡ 8 → cells (h ∷ hs) (xs ++ ys) ≡ cell h (word_number xs) ∷ cells hs ys
+cells-cons : (h : Bool) (hs : List Bool) (xs ys : List ℕ) → length xs ≡ 8
+    → cells (h ∷ hs) (xs ++ ys) ≡ cell h (word_number xs) ∷ cells hs ys
 unfolding cells
 cells-cons h hs xs ys l = rw (take_at xs ys 8 l, drop_at xs ys 8 l) refl
 
-cells-step : (h : Bool) (hs : List Bool) (bs : List ℕ) → cells (h ∷ hs) bs ≡ cell h (word_number (take 8 bs)) ∷ cells hs (drop 8 bs)
+cells-step : (h : Bool) (hs : List Bool) (bs : List ℕ)
+    → cells (h ∷ hs) bs ≡ cell h (word_number (take 8 bs)) ∷ cells hs (drop 8 bs)
 unfolding cells
 cells-step h hs bs = refl
 
@@ -28,13 +33,15 @@ cells-none bs = refl
 parted : (bs zs : List ℕ) → bs ++ zs ≡ take 8 bs ++ (drop 8 bs ++ zs)
 parted bs zs = ap (λ (xs : List ℕ). xs ++ zs) (sym (take-append-drop 8 bs)) ∙ append_assoc (take 8 bs) (drop 8 bs) zs
 
-rest_length : (h : Bool) (hs : List Bool) (bs : List ℕ) → length bs ≡ 8 * length (h ∷ hs) → length (drop 8 bs) ≡ 8 * length hs
+rest_length : (h : Bool) (hs : List Bool) (bs : List ℕ) → length bs ≡ 8 * length (h ∷ hs)
+    → length (drop 8 bs) ≡ 8 * length hs
 rest_length h hs bs l = omega (arith, length-drop 8 bs)
 
 first_length : (h : Bool) (hs : List Bool) (bs : List ℕ) → length bs ≡ 8 * length (h ∷ hs) → length (take 8 bs) ≡ 8
 first_length h hs bs l = length-take-le 8 bs (omega arith)
 
-pub cells-append : (hs gs : List Bool) (bs cs : List ℕ) → length bs ≡ 8 * length hs → cells (hs ++ gs) (bs ++ cs) ≡ cells hs bs ++ cells gs cs
+pub cells-append : (hs gs : List Bool) (bs cs : List ℕ) → length bs ≡ 8 * length hs
+    → cells (hs ++ gs) (bs ++ cs) ≡ cells hs bs ++ cells gs cs
 cells-append [] gs bs cs l = rw (nil_from_length bs (omega arith), cells-none []) refl
 cells-append (h ∷ hs) gs bs cs l =
     let ih = cells-append hs gs (drop 8 bs) cs (rest_length h hs bs l) in
@@ -65,18 +72,21 @@ cells-take (suc n) (h ∷ hs) bs l le =
     let ih = cells-take n hs (drop 8 bs) (rest_length h hs bs l) (omega arith) in
     ap (λ (k : ℕ). cells (h ∷ take n hs) (take k bs)) e
     ∙ cells-step h (take n hs) (take (8 + 8 * n) bs)
-    ∙ ap (λ (xs : List ℕ). cell h (word_number xs) ∷ cells (take n hs) (drop 8 (take (8 + 8 * n) bs))) (take-take 8 (8 + 8 * n) bs (omega arith))
+    ∙ ap (λ (xs : List ℕ). cell h (word_number xs) ∷ cells (take n hs) (drop 8 (take (8 + 8 * n) bs)))
+    (take-take 8 (8 + 8 * n) bs (omega arith))
     ∙ ap (λ (xs : List ℕ). cell h (word_number (take 8 bs)) ∷ cells (take n hs) xs) (drop-take 8 (8 * n) bs)
     ∙ ap (λ (xs : List (Option ℕ)). cell h (word_number (take 8 bs)) ∷ xs) ih
     ∙ ap (λ (xs : List (Option ℕ)). take (suc n) xs) (sym (cells-step h hs bs))
 
 -- the bytes of a word are written over 8 bytes
-pub written-bytes : (start w : ℕ) (bs : List ℕ) → AreBytes bs → AreBytes (take start bs ++ (word_bytes w ++ drop (start + 8) bs))
+pub written-bytes : (start w : ℕ) (bs : List ℕ) → AreBytes bs
+    → AreBytes (take start bs ++ (word_bytes w ++ drop (start + 8) bs))
 written-bytes start w bs h =
     AreBytes-append (take start bs) (word_bytes w ++ drop (start + 8) bs) (AreBytes-take start bs h)
     (AreBytes-append (word_bytes w) (drop (start + 8) bs) (AreBytes-word w) (AreBytes-drop (start + 8) bs h))
 
-pub written-length : (start w : ℕ) (bs : List ℕ) → start + 8 ≤ length bs → length (take start bs ++ (word_bytes w ++ drop (start + 8) bs)) ≡ length bs
+pub written-length : (start w : ℕ) (bs : List ℕ) → start + 8 ≤ length bs
+    → length (take start bs ++ (word_bytes w ++ drop (start + 8) bs)) ≡ length bs
 written-length start w bs h =
     let a = length-append (take start bs) (word_bytes w ++ drop (start + 8) bs) in
     let b = length-append (word_bytes w) (drop (start + 8) bs) in
@@ -85,7 +95,9 @@ written-length start w bs h =
     let e = length-word_bytes w in
     omega arith
 
-written-later : (k w : ℕ) (bs : List ℕ) → take (8 + k) bs ++ (word_bytes w ++ drop (8 + k + 8) bs) ≡ take 8 bs ++ (take k (drop 8 bs) ++ (word_bytes w ++ drop (k + 8) (drop 8 bs)))
+written-later : (k w : ℕ) (bs : List ℕ)
+    → take (8 + k) bs ++ (word_bytes w ++ drop (8 + k + 8) bs) ≡ take 8 bs
+    ++ (take k (drop 8 bs) ++ (word_bytes w ++ drop (k + 8) (drop 8 bs)))
 written-later k w bs =
     let e : 8 + (k + 8) ≡ 8 + k + 8 = omega arith in
     let d : drop (k + 8) (drop 8 bs) ≡ drop (8 + k + 8) bs = drop-drop (k + 8) 8 bs ∙ ap (λ (j : ℕ). drop j bs) e in
@@ -98,8 +110,10 @@ written-later k w bs =
     ∙ ap (λ (xs : List ℕ). take 8 bs ++ (take k (drop 8 bs) ++ (word_bytes w ++ xs))) (sym d)
 
 -- a hole is filled
-pub cells-fill : (at : ℕ) (hs : List Bool) (bs : List ℕ) (w : ℕ) → length bs ≡ 8 * length hs → at < length hs → w < 2 ^ 64
-    → cells (set hs at false) (take (8 * at) bs ++ (word_bytes w ++ drop (8 * at + 8) bs)) ≡ set (cells hs bs) at (Some w)
+pub cells-fill : (at : ℕ) (hs : List Bool) (bs : List ℕ) (w : ℕ) → length bs ≡ 8 * length hs → at < length hs
+    → w < 2 ^ 64
+    → cells (set hs at false) (take (8 * at) bs ++ (word_bytes w ++ drop (8 * at + 8) bs))
+    ≡ set (cells hs bs) at (Some w)
 cells-fill at [] bs w l lt k = absurd (omega arith)
 cells-fill zero (h ∷ hs) bs w l lt k =
     cells-cons false hs (word_bytes w) (drop 8 bs) (length-word_bytes w)
@@ -110,12 +124,14 @@ cells-fill (suc at) (h ∷ hs) bs w l lt k =
     let ih = cells-fill at hs (drop 8 bs) w (rest_length h hs bs l) (omega arith) k in
     ap (λ (j : ℕ). cells (h ∷ set hs at false) (take j bs ++ (word_bytes w ++ drop (j + 8) bs))) e
     ∙ ap (cells (h ∷ set hs at false)) (written-later (8 * at) w bs)
-    ∙ cells-cons h (set hs at false) (take 8 bs) (take (8 * at) (drop 8 bs) ++ (word_bytes w ++ drop (8 * at + 8) (drop 8 bs))) (first_length h hs bs l)
+    ∙ cells-cons h (set hs at false) (take 8 bs)
+    (take (8 * at) (drop 8 bs) ++ (word_bytes w ++ drop (8 * at + 8) (drop 8 bs))) (first_length h hs bs l)
     ∙ ap (λ (xs : List (Option ℕ)). cell h (word_number (take 8 bs)) ∷ xs) ih
     ∙ ap (λ (xs : List (Option ℕ)). set xs (suc at) (Some w)) (sym (cells-step h hs bs))
 
 -- without holes the bytes are those of the words
-pub cells-whole : (hs : List Bool) (bs : List ℕ) → AreBytes bs → length bs ≡ 8 * length hs → IsWhole (cells hs bs) → bs ≡ bytes (filled (cells hs bs))
+pub cells-whole : (hs : List Bool) (bs : List ℕ) → AreBytes bs → length bs ≡ 8 * length hs → IsWhole (cells hs bs)
+    → bs ≡ bytes (filled (cells hs bs))
 unfolding cells
 cells-whole [] bs are l h = nil_from_length bs (omega arith)
 cells-whole (true ∷ hs) bs are l h = absurd h
@@ -133,4 +149,5 @@ pub cells-open : (at : ℕ) (hs : List Bool) (bs : List ℕ) → cells (set hs a
 unfolding cells
 cells-open at [] bs = refl
 cells-open zero (h ∷ hs) bs = refl
-cells-open (suc at) (h ∷ hs) bs = ap (λ (xs : List (Option ℕ)). cell h (word_number (take 8 bs)) ∷ xs) (cells-open at hs (drop 8 bs))
+cells-open (suc at) (h ∷ hs) bs =
+    ap (λ (xs : List (Option ℕ)). cell h (word_number (take 8 bs)) ∷ xs) (cells-open at hs (drop 8 bs))

@@ -1,5 +1,8 @@
--- An object's own words are those of its layout exactly if the pointer is the one to the next free word, and so on below it.
-use Rattle.std.proofs.Common.{◌≡◌, ◌↔◌, ◌⊎◌, inl, inr, ℕ, zero, suc, ◌+◌, ◌-◌, ◌*◌, ◌^◌, ◌<◌, ◌≤◌, List, [], ◌∷◌, ◌++◌, length, take, drop, slice_index, Ok, refl, ap, ap₂, sym, subst, ◌∙◌, arith, length-append, Option, Some, None, false}
+-- An object's own words are those of its layout exactly if the pointer is the one to the next free word, and so on
+-- below it.
+use Rattle.std.proofs.Common.{◌≡◌, ◌↔◌, ◌⊎◌, inl, inr, ℕ, zero, suc, ◌+◌, ◌-◌, ◌*◌, ◌^◌, ◌<◌, ◌≤◌, List, [], ◌∷◌, ◌++◌}
+use Rattle.std.proofs.Common.{length, take, drop, slice_index, Ok, refl, ap, ap₂, sym, subst, ◌∙◌, arith, length-append}
+use Rattle.std.proofs.Common.{Option, Some, None, false}
 use Rattle.std.specs.Bool.{IsTrue}
 use Rattle.std.proofs.lemmas.List.{take_all}
 use Rattle.capn_words.specs.Message.{IsMessage, segment_at}
@@ -27,9 +30,11 @@ use Rattle.capn_canon.specs.Stands.{Stand, IsLaidAt, AreLaidAt, Tells}
 use Rattle.capn_canon.proofs.Nulls.{kept-slots, other-than-nil}
 use Rattle.capn_canon.proofs.Shaped.{IsNode, as-node, IsLinks, as-links}
 use Rattle.capn_canon.proofs.Slots.{IsNext, next}
-use Rattle.capn_canon.proofs.Standing.{stand-none, stand-join, stand-front, stand-back, stand-room, stand-cons, stand-head, stand-tail, told}
+use Rattle.capn_canon.proofs.Standing.{stand-none, stand-join, stand-front, stand-back, stand-room, stand-cons}
+use Rattle.capn_canon.proofs.Standing.{stand-head, stand-tail, told}
 
-point-node : (ws : List ℕ) (ss : Trees) (from to : ℕ) → point (node ws ss) from to ≡ struct_to from to (kept_words ws) (kept_slots ss)
+point-node : (ws : List ℕ) (ss : Trees) (from to : ℕ)
+    → point (node ws ss) from to ≡ struct_to from to (kept_words ws) (kept_slots ss)
 unfolding point
 point-node ws ss from to = refl
 
@@ -41,7 +46,8 @@ pub not-true : IsTrue false → ⊥
 not-true e = cc
 
 -- what stands is within the words, where its start is
-pub laid-room : (all : List ℕ) (v : Tree) (from to : ℕ) → Sound v → to ≤ length all → IsLaidAt all v from to → to + size v ≤ length all
+pub laid-room : (all : List ℕ) (v : Tree) (from to : ℕ) → Sound v → to ≤ length all → IsLaidAt all v from to
+    → to + size v ≤ length all
 laid-room all v from to o le h = from_size (size v) (length-lay v to o)
   where
     from_size : (n : ℕ) → length (lay v to) ≡ n → to + n ≤ length all
@@ -50,19 +56,22 @@ laid-room all v from to o le h = from_size (size v) (length-lay v to o)
 
 -- ---- values with nothing below
 
-pub null-told : (all : List ℕ) (v : Tree) (from to : ℕ) → v ≡ nil → slice_index all from ≡ 0 → IsLaidAt all v from to × (to ≡ to + size v)
+pub null-told : (all : List ℕ) (v : Tree) (from to : ℕ) → v ≡ nil → slice_index all from ≡ 0 → IsLaidAt all v from to
+    × (to ≡ to + size v)
 unfolding point
 null-told all v from to e z =
     subst (λ (x : Tree). IsLaidAt all x from to × (to ≡ to + size x)) (sym e)
     (record { pointer = z; content = stand-none all to }, omega arith)
 
-pub cap-told : (all : List ℕ) (v : Tree) (k from to : ℕ) → v ≡ cap k → slice_index all from ≡ word_of (Cap k) → IsLaidAt all v from to × (to ≡ to + size v)
+pub cap-told : (all : List ℕ) (v : Tree) (k from to : ℕ) → v ≡ cap k → slice_index all from ≡ word_of (Cap k)
+    → IsLaidAt all v from to × (to ≡ to + size v)
 unfolding point
 cap-told all v k from to e z =
     subst (λ (x : Tree). IsLaidAt all x from to × (to ≡ to + size x)) (sym e)
     (record { pointer = z; content = stand-none all to }, omega arith)
 
-pub cap-pointer : (all : List ℕ) (v : Tree) (k from to : ℕ) → v ≡ cap k → IsLaidAt all v from to → slice_index all from ≡ word_of (Cap k)
+pub cap-pointer : (all : List ℕ) (v : Tree) (k from to : ℕ) → v ≡ cap k → IsLaidAt all v from to
+    → slice_index all from ≡ word_of (Cap k)
 unfolding point
 cap-pointer all v k from to e h = (subst (λ (x : Tree). IsLaidAt all x from to) e h).pointer
 
@@ -78,13 +87,16 @@ module _ (all : List ℕ) (t : Tree) (ts : Trees) (from to : ℕ) (inside : from
   pub slots-others : AreLaidAt all (tree t ts) from to → AreLaidAt all ts (suc from) (to + size t)
   slots-others h = record {
     pointers = stand-tail all from (point t from to) (points ts (suc from) (to + size t)) inside h.pointers;
-    contents = subst (λ (k : ℕ). Stand all (to + k) (lays ts (to + size t))) (length-lay t to o) (stand-back all to (lay t to) (lays ts (to + size t)) h.contents);
+    contents = subst (λ (k : ℕ). Stand all (to + k) (lays ts (to + size t))) (length-lay t to o)
+        (stand-back all to (lay t to) (lays ts (to + size t)) h.contents);
   }
 
-  pub slots-both : IsLaidAt all t from to → AreLaidAt all ts (suc from) (to + size t) → AreLaidAt all (tree t ts) from to
+  pub slots-both : IsLaidAt all t from to → AreLaidAt all ts (suc from) (to + size t)
+      → AreLaidAt all (tree t ts) from to
   slots-both h k = record {
     pointers = stand-cons all from (point t from to) (points ts (suc from) (to + size t)) inside h.pointer k.pointers;
-    contents = stand-join all to (lay t to) (lays ts (to + size t)) h.content (subst (λ (j : ℕ). Stand all (to + j) (lays ts (to + size t))) (sym (length-lay t to o)) k.contents);
+    contents = stand-join all to (lay t to) (lays ts (to + size t)) h.content
+        (subst (λ (j : ℕ). Stand all (to + j) (lays ts (to + size t))) (sym (length-lay t to o)) k.contents);
   }
 
 -- what the loop over slots keeps
@@ -96,15 +108,18 @@ Same all n first end i at =
 pub same-begins : (all : List ℕ) (n first end : ℕ) → Same all n first end 0 end
 same-begins all n first end us ts hu cu ht ct =
     let z : first + 0 ≡ first = omega arith in
-    let e : us ≡ ts = unique-slots (all ∷ []) us ts 0 first (omega arith) (subst (λ (k : ℕ). AreAt (all ∷ []) 0 k us) z hu) ht in (
+    let e : us ≡ ts =
+    unique-slots (all ∷ []) us ts 0 first (omega arith) (subst (λ (k : ℕ). AreAt (all ∷ []) 0 k us) z hu) ht in (
       (
-        (λ h. subst (λ (k : ℕ). AreLaidAt all us k end) (sym z) (subst (λ (x : Trees). AreLaidAt all x first end) (sym e) h)),
+        (λ h. subst (λ (k : ℕ). AreLaidAt all us k end) (sym z)
+            (subst (λ (x : Trees). AreLaidAt all x first end) (sym e) h)),
         (λ h. subst (λ (x : Trees). AreLaidAt all x first end) e (subst (λ (k : ℕ). AreLaidAt all us k end) z h)),
       ),
       ap (λ (x : Trees). end + sizes x) e,
     )
 
-module _ (all : List ℕ) (n first end depth i at : ℕ) (lt : i < n) (inside : first + n ≤ length all) (ready : AreReady (all ∷ []) 0 (first + i) (n - i) depth at) (same : Same all n first end i at) where
+module _ (all : List ℕ) (n first end depth i at : ℕ) (lt : i < n) (inside : first + n ≤ length all)
+    (ready : AreReady (all ∷ []) 0 (first + i) (n - i) depth at) (same : Same all n first end i at) where
   pub this : IsNext (all ∷ []) 0 (first + i) (n - i) depth at
   this = next (all ∷ []) 0 (first + i) (n - i) depth at ready (omega arith)
 
@@ -112,13 +127,18 @@ module _ (all : List ℕ) (n first end depth i at : ℕ) (lt : i < n) (inside : 
     pub same-then : Same all n first end (i + 1) k
     same-then us ts hu cu ht ct =
         let d : first + (i + 1) ≡ suc (first + i) = omega arith in
-        let au : AreAt (all ∷ []) 0 (first + i) (tree this.value us) = (this.is, subst (λ (x : ℕ). AreAt (all ∷ []) 0 x us) d hu) in
+        let au : AreAt (all ∷ []) 0 (first + i) (tree this.value us) =
+        (this.is, subst (λ (x : ℕ). AreAt (all ∷ []) 0 x us) d hu) in
         let s = same (tree this.value us) ts au (omega arith) ht ct in
         let lt2 : first + i < length all = omega arith in
         let f = s.1 in (
           (
-            (λ (x : AreLaidAt all ts first end). rw (d, e) (slots-others all this.value us (first + i) at lt2 this.sound (s.0.0 x))),
-            (λ (x : AreLaidAt all us (first + (i + 1)) k). s.0.1 (slots-both all this.value us (first + i) at lt2 this.sound h (subst (λ (y : ℕ). AreLaidAt all us (suc (first + i)) y) e (subst (λ (y : ℕ). AreLaidAt all us y k) d x)))),
+            (λ (x : AreLaidAt all ts first end). rw (d, e)
+                (slots-others all this.value us (first + i) at lt2 this.sound (s.0.0 x))),
+            (λ (x : AreLaidAt all us (first + (i + 1)) k). s.0.1
+                (slots-both all this.value us (first + i) at lt2 this.sound h
+                (subst (λ (y : ℕ). AreLaidAt all us (suc (first + i)) y) e
+                (subst (λ (y : ℕ). AreLaidAt all us y k) d x)))),
           ),
           omega arith,
         )
@@ -126,21 +146,24 @@ module _ (all : List ℕ) (n first end depth i at : ℕ) (lt : i < n) (inside : 
     pub ready-then : AreReady (all ∷ []) 0 (first + (i + 1)) (n - (i + 1)) depth k
     ready-then = record {
       values = this.others;
-      are = let d : suc (first + i) ≡ first + (i + 1) = omega arith in subst (λ (x : ℕ). AreAt (all ∷ []) 0 x this.others) d this.are;
+      are = let d : suc (first + i) ≡ first + (i + 1) = omega arith in
+          subst (λ (x : ℕ). AreAt (all ∷ []) 0 x this.others) d this.are;
       count = let c = this.count in omega arith;
       sound = this.sounds;
       low = this.lows;
       room = let r = this.room in omega arith;
     }
 
-  pub same-fails : (IsLaidAt all this.value (first + i) at → ⊥) → (ts : Trees) → AreAt (all ∷ []) 0 first ts → count ts ≡ n → AreLaidAt all ts first end → ⊥
+  pub same-fails : (IsLaidAt all this.value (first + i) at → ⊥) → (ts : Trees) → AreAt (all ∷ []) 0 first ts
+      → count ts ≡ n → AreLaidAt all ts first end → ⊥
   same-fails f ts ht ct x =
       let au : AreAt (all ∷ []) 0 (first + i) (tree this.value this.others) = (this.is, this.are) in
       let c = this.count in
       let s = same (tree this.value this.others) ts au (omega arith) ht ct in
       f (slots-first all this.value this.others (first + i) at (omega arith) this.sound (s.0.0 x))
 
-pub same-ends : (all : List ℕ) (n first end i at : ℕ) → n ≤ i → Same all n first end i at → (ts : Trees) → AreAt (all ∷ []) 0 first ts → count ts ≡ n → AreLaidAt all ts first end × (at ≡ end + sizes ts)
+pub same-ends : (all : List ℕ) (n first end i at : ℕ) → n ≤ i → Same all n first end i at → (ts : Trees)
+    → AreAt (all ∷ []) 0 first ts → count ts ≡ n → AreLaidAt all ts first end × (at ≡ end + sizes ts)
 same-ends all n first end i at le same ts ht ct =
     let s = same no_trees ts tt (omega arith) ht ct in
     let e = s.1 in
@@ -148,8 +171,10 @@ same-ends all n first end i at le same ts ht ct =
 
 -- ---- a struct
 
-module _ (all : List ℕ) (a b s w from to pads : ℕ) (e : target (all ∷ []) (record { segment = 0; word = from }) ≡ Ok (targets.Content s w (shapes.Node a b) pads))
-    (small : length all ≤ 2 ^ 29) (inside : w + (a + b) ≤ length (segment_at (all ∷ []) s)) (order : from < to) (v : Tree) (i : IsInside (all ∷ []) (shapes.Node a b) s w v) (o : Sound v) (fits : to ≤ length all) where
+module _ (all : List ℕ) (a b s w from to pads : ℕ)
+    (e : target (all ∷ []) (record { segment = 0; word = from }) ≡ Ok (targets.Content s w (shapes.Node a b) pads))
+    (small : length all ≤ 2 ^ 29) (inside : w + (a + b) ≤ length (segment_at (all ∷ []) s)) (order : from < to)
+    (v : Tree) (i : IsInside (all ∷ []) (shapes.Node a b) s w v) (o : Sound v) (fits : to ≤ length all) where
   pub struct-is : IsNode (all ∷ []) a b s w v
   struct-is = as-node (all ∷ []) a b s w v i
 
@@ -159,26 +184,32 @@ module _ (all : List ℕ) (a b s w from to pads : ℕ) (e : target (all ∷ []) 
   kept-below : kept_words (take b (words_from (all ∷ []) s (w + a))) ≡ kept_slots struct-is.slots
   kept-below =
       let c = struct-is.count in
-      sym (kept-slots (all ∷ []) struct-is.slots s (w + a) struct-is.below (omega arith) ∙ ap (λ (j : ℕ). kept_words (take j (words_from (all ∷ []) s (w + a)))) c)
+      sym (kept-slots (all ∷ []) struct-is.slots s (w + a) struct-is.below (omega arith)
+      ∙ ap (λ (j : ℕ). kept_words (take j (words_from (all ∷ []) s (w + a)))) c)
 
   pub struct-sound : Sound (node struct-is.words struct-is.slots)
   struct-sound = subst Sound struct-is.is o
 
   narrow : (a < 2 ^ 16) × (b < 2 ^ 16)
-  narrow = let x = struct-sound.0 in let y = struct-sound.1 in let c = struct-is.count in let d = struct-is.number in (omega arith, omega arith)
+  narrow = let x = struct-sound.0 in let y = struct-sound.1 in let c = struct-is.count in let d = struct-is.number in
+      (omega arith, omega arith)
 
   -- where the words are those of the layout, the test is passed
   pub struct-passes : IsLaidAt all v from to →
-      (kept_words (take a (words_from (all ∷ []) s w)) ≡ a) × (kept_words (take b (words_from (all ∷ []) s (w + a))) ≡ b) × (slice_index all from ≡ struct_to from to a b) × (to + (a + b) ≤ length all)
+      (kept_words (take a (words_from (all ∷ []) s w)) ≡ a)
+      × (kept_words (take b (words_from (all ∷ []) s (w + a))) ≡ b) × (slice_index all from ≡ struct_to from to a b)
+      × (to + (a + b) ≤ length all)
   struct-passes h =
       let ws = struct-is.words in
       let ss = struct-is.slots in
       let r = laid-room all v from to o fits h in
       let z : size v ≡ kept_words ws + kept_slots ss + sizes ss = ap size struct-is.is in
-      let p : slice_index all from ≡ struct_to from to (kept_words ws) (kept_slots ss) = h.pointer ∙ ap (λ (x : Tree). point x from to) struct-is.is ∙ point-node ws ss from to in
+      let p : slice_index all from ≡ struct_to from to (kept_words ws) (kept_slots ss) = h.pointer
+      ∙ ap (λ (x : Tree). point x from to) struct-is.is ∙ point-node ws ss from to in
       let ka = kept_own_le in
       let kb = kept_below_le in
-      let f = struct-names all small from to (kept_words ws) (kept_slots ss) order (omega arith) (let x = narrow.0 in omega arith) (let x = narrow.1 in omega arith) p in
+      let f = struct-names all small from to (kept_words ws) (kept_slots ss) order (omega arith) (let x = narrow.0 in
+      omega arith) (let x = narrow.1 in omega arith) p in
       let ea : a ≡ kept_words ws = same-a f.0 (kept_words ws) (kept_slots ss) f.1 in
       let eb : b ≡ kept_slots ss = same-b f.0 (kept_words ws) (kept_slots ss) f.1 in
       (kept-own ∙ sym ea, kept-below ∙ sym eb, p ∙ ap₂ (struct_to from to) (sym ea) (sym eb), omega arith)
@@ -189,21 +220,33 @@ module _ (all : List ℕ) (a b s w from to pads : ℕ) (e : target (all ∷ []) 
       kept_below_le : kept_slots struct-is.slots ≤ b
       kept_below_le = let k = kept_slots-le struct-is.slots in let c = struct-is.count in omega arith
 
-      same-a : (start x y : ℕ) → target (all ∷ []) (record { segment = 0; word = from }) ≡ Ok (targets.Content 0 start (shapes.Node x y) 0) → a ≡ x
+      same-a : (start x y : ℕ)
+          → target (all ∷ []) (record { segment = 0; word = from }) ≡ Ok (targets.Content 0 start (shapes.Node x y) 0)
+          → a ≡ x
       same-a start x y f = cc
 
-      same-b : (start x y : ℕ) → target (all ∷ []) (record { segment = 0; word = from }) ≡ Ok (targets.Content 0 start (shapes.Node x y) 0) → b ≡ y
+      same-b : (start x y : ℕ)
+          → target (all ∷ []) (record { segment = 0; word = from }) ≡ Ok (targets.Content 0 start (shapes.Node x y) 0)
+          → b ≡ y
       same-b start x y f = cc
 
   -- where it is passed, the object stands at the next free word, if it has words
-  module _ (ka : kept_words (take a (words_from (all ∷ []) s w)) ≡ a) (kb : kept_words (take b (words_from (all ∷ []) s (w + a))) ≡ b) (p : slice_index all from ≡ struct_to from to a b) (room : to + (a + b) ≤ length all) where
-    located : (start : ℕ) × (target (all ∷ []) (record { segment = 0; word = from }) ≡ Ok (targets.Content 0 start (shapes.Node a b) 0)) × ((start ≡ to) ⊎ ((a ≡ 0) × (b ≡ 0)))
+  module _ (ka : kept_words (take a (words_from (all ∷ []) s w)) ≡ a)
+      (kb : kept_words (take b (words_from (all ∷ []) s (w + a))) ≡ b)
+      (p : slice_index all from ≡ struct_to from to a b) (room : to + (a + b) ≤ length all) where
+    located : (start : ℕ)
+        × (target (all ∷ []) (record { segment = 0; word = from }) ≡ Ok (targets.Content 0 start (shapes.Node a b) 0))
+        × ((start ≡ to) ⊎ ((a ≡ 0) × (b ≡ 0)))
     located = struct-names all small from to a b order room narrow.0 narrow.1 p
 
-    same-segment : (start : ℕ) → target (all ∷ []) (record { segment = 0; word = from }) ≡ Ok (targets.Content 0 start (shapes.Node a b) 0) → s ≡ 0
+    same-segment : (start : ℕ)
+        → target (all ∷ []) (record { segment = 0; word = from }) ≡ Ok (targets.Content 0 start (shapes.Node a b) 0)
+        → s ≡ 0
     same-segment start f = cc
 
-    same-start : (start : ℕ) → target (all ∷ []) (record { segment = 0; word = from }) ≡ Ok (targets.Content 0 start (shapes.Node a b) 0) → w ≡ start
+    same-start : (start : ℕ)
+        → target (all ∷ []) (record { segment = 0; word = from }) ≡ Ok (targets.Content 0 start (shapes.Node a b) 0)
+        → w ≡ start
     same-start start f = cc
 
     in-place : (w ≡ to) ⊎ ((a ≡ 0) × (b ≡ 0))
@@ -217,7 +260,9 @@ module _ (all : List ℕ) (a b s w from to pads : ℕ) (e : target (all ∷ []) 
     words-here : Stand all to struct-is.words
     words-here =
         let h : AreWords (all ∷ []) 0 w struct-is.words =
-        subst (λ (k : ℕ). AreWords (all ∷ []) k w struct-is.words) first-segment (subst (λ (k : ℕ). take k (words_from (all ∷ []) s w) ≡ struct-is.words) (sym struct-is.number) struct-is.own) in
+        subst (λ (k : ℕ). AreWords (all ∷ []) k w struct-is.words) first-segment
+        (subst (λ (k : ℕ). take k (words_from (all ∷ []) s w) ≡ struct-is.words) (sym struct-is.number)
+        struct-is.own) in
         elim in-place as (λ _. Stand all to struct-is.words) [
           | inl x ↦ subst (λ (k : ℕ). Stand all k struct-is.words) x h
           | inr y ↦ none struct-is.words (struct-is.number ∙ y.0)
@@ -229,7 +274,8 @@ module _ (all : List ℕ) (a b s w from to pads : ℕ) (e : target (all ∷ []) 
 
     pub slots-here : AreAt (all ∷ []) 0 (to + a) struct-is.slots
     slots-here =
-        let h : AreAt (all ∷ []) 0 (w + a) struct-is.slots = subst (λ (k : ℕ). AreAt (all ∷ []) k (w + a) struct-is.slots) first-segment struct-is.below in
+        let h : AreAt (all ∷ []) 0 (w + a) struct-is.slots =
+        subst (λ (k : ℕ). AreAt (all ∷ []) k (w + a) struct-is.slots) first-segment struct-is.below in
         elim in-place as (λ _. AreAt (all ∷ []) 0 (to + a) struct-is.slots) [
           | inl x ↦ subst (λ (k : ℕ). AreAt (all ∷ []) 0 (k + a) struct-is.slots) x h
           | inr y ↦ none struct-is.slots (struct-is.count ∙ y.1)
@@ -246,27 +292,32 @@ module _ (all : List ℕ) (a b s w from to pads : ℕ) (e : target (all ∷ []) 
     ks = sym kept-below ∙ kb
 
     -- the layout: all words, all pointers, and what is below
-    lay-is : lay (node struct-is.words struct-is.slots) to ≡ struct-is.words ++ (points struct-is.slots (to + a) (to + a + b) ++ lays struct-is.slots (to + a + b))
+    lay-is : lay (node struct-is.words struct-is.slots) to ≡ struct-is.words
+        ++ (points struct-is.slots (to + a) (to + a + b) ++ lays struct-is.slots (to + a + b))
     lay-is =
         let ws = struct-is.words in
         let ss = struct-is.slots in
         let c : to + (a + b) ≡ to + a + b = omega arith in
         let lw : length ws ≤ a = let n = struct-is.number in omega arith in
-        let lp : length (points ss (to + a) (to + a + b)) ≤ b = let n = struct-is.count in let l = length-points ss (to + a) (to + a + b) in omega arith in
+        let lp : length (points ss (to + a) (to + a + b)) ≤ b = let n = struct-is.count in let l =
+        length-points ss (to + a) (to + a + b) in omega arith in
         ap₂ (λ (x y : ℕ). take x ws ++ (take y (points ss (to + x) (to + (x + y))) ++ lays ss (to + (x + y)))) kw ks
         ∙ ap (λ (x : ℕ). take a ws ++ (take b (points ss (to + a) x) ++ lays ss x)) c
-        ∙ ap₂ (λ (x y : List ℕ). x ++ (y ++ lays ss (to + a + b))) (take_all a ws lw) (take_all b (points ss (to + a) (to + a + b)) lp)
+        ∙ ap₂ (λ (x y : List ℕ). x ++ (y ++ lays ss (to + a + b))) (take_all a ws lw)
+        (take_all b (points ss (to + a) (to + a + b)) lp)
 
     pub struct-to-slots : IsLaidAt all v from to → AreLaidAt all struct-is.slots (to + a) (to + a + b)
     struct-to-slots h =
         let ws = struct-is.words in
         let ss = struct-is.slots in
         let x = subst (Stand all to) (ap (λ (t : Tree). lay t to) struct-is.is ∙ lay-is) h.content in
-        let y = subst (λ (k : ℕ). Stand all (to + k) (points ss (to + a) (to + a + b) ++ lays ss (to + a + b))) struct-is.number (stand-back all to ws (points ss (to + a) (to + a + b) ++ lays ss (to + a + b)) x) in
+        let y = subst (λ (k : ℕ). Stand all (to + k) (points ss (to + a) (to + a + b) ++ lays ss (to + a + b)))
+        struct-is.number (stand-back all to ws (points ss (to + a) (to + a + b) ++ lays ss (to + a + b)) x) in
         let l = length-points ss (to + a) (to + a + b) ∙ struct-is.count in
         record {
           pointers = stand-front all (to + a) (points ss (to + a) (to + a + b)) (lays ss (to + a + b)) y;
-          contents = subst (λ (k : ℕ). Stand all (to + a + k) (lays ss (to + a + b))) l (stand-back all (to + a) (points ss (to + a) (to + a + b)) (lays ss (to + a + b)) y);
+          contents = subst (λ (k : ℕ). Stand all (to + a + k) (lays ss (to + a + b))) l
+              (stand-back all (to + a) (points ss (to + a) (to + a + b)) (lays ss (to + a + b)) y);
         }
 
     pub struct-from-slots : AreLaidAt all struct-is.slots (to + a) (to + a + b) → IsLaidAt all v from to
@@ -274,24 +325,32 @@ module _ (all : List ℕ) (a b s w from to pads : ℕ) (e : target (all ∷ []) 
         let ws = struct-is.words in
         let ss = struct-is.slots in
         let l = length-points ss (to + a) (to + a + b) ∙ struct-is.count in
-        let y = stand-join all (to + a) (points ss (to + a) (to + a + b)) (lays ss (to + a + b)) h.pointers (subst (λ (k : ℕ). Stand all (to + a + k) (lays ss (to + a + b))) (sym l) h.contents) in
+        let y = stand-join all (to + a) (points ss (to + a) (to + a + b)) (lays ss (to + a + b)) h.pointers
+        (subst (λ (k : ℕ). Stand all (to + a + k) (lays ss (to + a + b))) (sym l) h.contents) in
         let x = stand-join all to ws (points ss (to + a) (to + a + b) ++ lays ss (to + a + b)) words-here
-        (subst (λ (k : ℕ). Stand all (to + k) (points ss (to + a) (to + a + b) ++ lays ss (to + a + b))) (sym struct-is.number) y) in
+        (subst (λ (k : ℕ). Stand all (to + k) (points ss (to + a) (to + a + b) ++ lays ss (to + a + b)))
+        (sym struct-is.number) y) in
         record {
-          pointer = p ∙ sym (ap (λ (t : Tree). point t from to) struct-is.is ∙ point-node ws ss from to ∙ ap₂ (struct_to from to) kw ks);
+          pointer = p ∙ sym (ap (λ (t : Tree). point t from to) struct-is.is ∙ point-node ws ss from to
+              ∙ ap₂ (struct_to from to) kw ks);
           content = subst (Stand all to) (sym (ap (λ (t : Tree). lay t to) struct-is.is ∙ lay-is)) x;
         }
 
     pub struct-size : to + a + b + sizes struct-is.slots ≡ to + size v
-    struct-size = let z : size v ≡ kept_words struct-is.words + kept_slots struct-is.slots + sizes struct-is.slots = ap size struct-is.is in let x = kw in let y = ks in omega arith
+    struct-size = let z : size v ≡ kept_words struct-is.words + kept_slots struct-is.slots + sizes struct-is.slots =
+        ap size struct-is.is in let x = kw in let y = ks in omega arith
 
-    pub struct-told : (r : Option ℕ) → ((ts : Trees) → AreAt (all ∷ []) 0 (to + a) ts → count ts ≡ b → Tells (AreLaidAt all ts (to + a) (to + a + b)) (to + a + b + sizes ts) r) →
+    pub struct-told : (r : Option ℕ)
+        → ((ts : Trees) → AreAt (all ∷ []) 0 (to + a) ts → count ts ≡ b
+        → Tells (AreLaidAt all ts (to + a) (to + a + b)) (to + a + b + sizes ts) r) →
         Tells (IsLaidAt all v from to) (to + size v) r
     struct-told r h =
-        told (AreLaidAt all struct-is.slots (to + a) (to + a + b)) (IsLaidAt all v from to) (to + a + b + sizes struct-is.slots) (to + size v) r
+        told (AreLaidAt all struct-is.slots (to + a) (to + a + b)) (IsLaidAt all v from to)
+        (to + a + b + sizes struct-is.slots) (to + size v) r
         struct-from-slots struct-to-slots struct-size (h struct-is.slots slots-here struct-is.count)
 
-    pub struct-ready : (depth : ℕ) → height v ≤ suc depth → to + size v ≤ 2 ^ 29 → AreReady (all ∷ []) 0 (to + a) b depth (to + a + b)
+    pub struct-ready : (depth : ℕ) → height v ≤ suc depth → to + size v ≤ 2 ^ 29
+        → AreReady (all ∷ []) 0 (to + a) b depth (to + a + b)
     struct-ready depth low r = record {
       values = struct-is.slots;
       are = slots-here;
@@ -303,8 +362,10 @@ module _ (all : List ℕ) (a b s w from to pads : ℕ) (e : target (all ∷ []) 
 
 -- ---- a list of pointers
 
-module _ (all : List ℕ) (n s w from to pads : ℕ) (e : target (all ∷ []) (record { segment = 0; word = from }) ≡ Ok (targets.Content s w (shapes.Many Link n) pads))
-    (small : length all ≤ 2 ^ 29) (order : from < to) (v : Tree) (i : IsInside (all ∷ []) (shapes.Many Link n) s w v) (o : Sound v) (fits : to ≤ length all) where
+module _ (all : List ℕ) (n s w from to pads : ℕ)
+    (e : target (all ∷ []) (record { segment = 0; word = from }) ≡ Ok (targets.Content s w (shapes.Many Link n) pads))
+    (small : length all ≤ 2 ^ 29) (order : from < to) (v : Tree) (i : IsInside (all ∷ []) (shapes.Many Link n) s w v)
+    (o : Sound v) (fits : to ≤ length all) where
   pub links-is : IsLinks (all ∷ []) n s w v
   links-is = as-links (all ∷ []) n s w v i
 
@@ -318,13 +379,16 @@ module _ (all : List ℕ) (n s w from to pads : ℕ) (e : target (all ∷ []) (r
   size-is = ap size links-is.is ∙ ap (λ (k : ℕ). k + sizes links-is.slots) links-is.count
 
   pointer-is : point v from to ≡ list_to from to Link n
-  pointer-is = ap (λ (x : Tree). point x from to) links-is.is ∙ point-links links-is.slots from to ∙ ap (list_to from to Link) links-is.count
+  pointer-is = ap (λ (x : Tree). point x from to) links-is.is ∙ point-links links-is.slots from to
+      ∙ ap (list_to from to Link) links-is.count
 
   pub links-passes : IsLaidAt all v from to → (slice_index all from ≡ list_to from to Link n) × (to + n ≤ length all)
-  links-passes h = (h.pointer ∙ pointer-is, (let r = laid-room all v from to o fits h in let z = size-is in omega arith))
+  links-passes h =
+      (h.pointer ∙ pointer-is, (let r = laid-room all v from to o fits h in let z = size-is in omega arith))
 
   module _ (p : slice_index all from ≡ list_to from to Link n) (room : to + n ≤ length all) where
-    named-here : target (all ∷ []) (record { segment = 0; word = from }) ≡ Ok (targets.Content 0 to (shapes.Many Link n) 0)
+    named-here : target (all ∷ []) (record { segment = 0; word = from })
+        ≡ Ok (targets.Content 0 to (shapes.Many Link n) 0)
     named-here = list-names all small from to n Link tt order room links-few p
 
     at-segment : s ≡ 0
@@ -334,10 +398,12 @@ module _ (all : List ℕ) (n s w from to pads : ℕ) (e : target (all ∷ []) (r
     at-start = let f = named-here in cc
 
     pub links-here : AreAt (all ∷ []) 0 to links-is.slots
-    links-here = subst (λ (k : ℕ). AreAt (all ∷ []) 0 k links-is.slots) at-start (subst (λ (k : ℕ). AreAt (all ∷ []) k w links-is.slots) at-segment links-is.below)
+    links-here = subst (λ (k : ℕ). AreAt (all ∷ []) 0 k links-is.slots) at-start
+        (subst (λ (k : ℕ). AreAt (all ∷ []) k w links-is.slots) at-segment links-is.below)
 
     links-lay : lay v to ≡ points links-is.slots to (to + n) ++ lays links-is.slots (to + n)
-    links-lay = ap (λ (x : Tree). lay x to) links-is.is ∙ ap (λ (k : ℕ). points links-is.slots to (to + k) ++ lays links-is.slots (to + k)) links-is.count
+    links-lay = ap (λ (x : Tree). lay x to) links-is.is
+        ∙ ap (λ (k : ℕ). points links-is.slots to (to + k) ++ lays links-is.slots (to + k)) links-is.count
 
     links-length : length (points links-is.slots to (to + n)) ≡ n
     links-length = length-points links-is.slots to (to + n) ∙ links-is.count
@@ -347,23 +413,29 @@ module _ (all : List ℕ) (n s w from to pads : ℕ) (e : target (all ∷ []) (r
         let x = subst (Stand all to) links-lay h.content in
         record {
           pointers = stand-front all to (points links-is.slots to (to + n)) (lays links-is.slots (to + n)) x;
-          contents = subst (λ (k : ℕ). Stand all (to + k) (lays links-is.slots (to + n))) links-length (stand-back all to (points links-is.slots to (to + n)) (lays links-is.slots (to + n)) x);
+          contents = subst (λ (k : ℕ). Stand all (to + k) (lays links-is.slots (to + n))) links-length
+              (stand-back all to (points links-is.slots to (to + n)) (lays links-is.slots (to + n)) x);
         }
 
     pub links-from-slots : AreLaidAt all links-is.slots to (to + n) → IsLaidAt all v from to
     links-from-slots h = record {
       pointer = p ∙ sym pointer-is;
       content = subst (Stand all to) (sym links-lay)
-          (stand-join all to (points links-is.slots to (to + n)) (lays links-is.slots (to + n)) h.pointers (subst (λ (k : ℕ). Stand all (to + k) (lays links-is.slots (to + n))) (sym links-length) h.contents));
+          (stand-join all to (points links-is.slots to (to + n)) (lays links-is.slots (to + n)) h.pointers
+          (subst (λ (k : ℕ). Stand all (to + k) (lays links-is.slots (to + n))) (sym links-length) h.contents));
     }
 
-    pub links-told : (r : Option ℕ) → ((ts : Trees) → AreAt (all ∷ []) 0 to ts → count ts ≡ n → Tells (AreLaidAt all ts to (to + n)) (to + n + sizes ts) r) →
+    pub links-told : (r : Option ℕ)
+        → ((ts : Trees) → AreAt (all ∷ []) 0 to ts → count ts ≡ n
+        → Tells (AreLaidAt all ts to (to + n)) (to + n + sizes ts) r) →
         Tells (IsLaidAt all v from to) (to + size v) r
     links-told r h =
-        told (AreLaidAt all links-is.slots to (to + n)) (IsLaidAt all v from to) (to + n + sizes links-is.slots) (to + size v) r
+        told (AreLaidAt all links-is.slots to (to + n)) (IsLaidAt all v from to) (to + n + sizes links-is.slots)
+        (to + size v) r
         links-from-slots links-to-slots (let z = size-is in omega arith) (h links-is.slots links-here links-is.count)
 
-    pub links-check : (depth : ℕ) → height v ≤ suc depth → to + size v ≤ 2 ^ 29 → AreReady (all ∷ []) 0 to n depth (to + n)
+    pub links-check : (depth : ℕ) → height v ≤ suc depth → to + size v ≤ 2 ^ 29
+        → AreReady (all ∷ []) 0 to n depth (to + n)
     links-check depth low r = record {
       values = links-is.slots;
       are = links-here;

@@ -1,5 +1,8 @@
--- A list without pointers stands as its layout exactly if its pointer is the one to the next free word and no bit is set past its end.
-use Rattle.std.proofs.Common.{◌≡◌, ◌⊎◌, inl, inr, ℕ, zero, suc, ◌+◌, ◌-◌, ◌*◌, ◌/◌, ◌%◌, ◌^◌, ◌<◌, ◌≤◌, List, [], ◌∷◌, ◌++◌, length, take, drop, slice_index, Ok, refl, ap, ap₂, sym, subst, ◌∙◌, arith, length-append, length-drop, Option, Some, None}
+-- A list without pointers stands as its layout exactly if its pointer is the one to the next free word and no bit is
+-- set past its end.
+use Rattle.std.proofs.Common.{◌≡◌, ◌⊎◌, inl, inr, ℕ, zero, suc, ◌+◌, ◌-◌, ◌*◌, ◌/◌, ◌%◌, ◌^◌, ◌<◌, ◌≤◌, List, [], ◌∷◌}
+use Rattle.std.proofs.Common.{◌++◌, length, take, drop, slice_index, Ok, refl, ap, ap₂, sym, subst, ◌∙◌, arith}
+use Rattle.std.proofs.Common.{length-append, length-drop, Option, Some, None}
 use Rattle.std.proofs.lemmas.List.{length-take-le}
 use Rattle.capn_words.specs.Message.{segment_at}
 use Rattle.capn_words.specs.declared.pointer.Width.{Width}
@@ -41,24 +44,34 @@ plain-too W64 h = tt
 plain-too Link h = absurd h
 plain-too Rows h = absurd h
 
-module _ (all : List ℕ) (width : Width) (n s w from to pads : ℕ) (e : target (all ∷ []) (record { segment = 0; word = from }) ≡ Ok (targets.Content s w (shapes.Many width n) pads))
-    (plain : IsPlain width) (few : n < 2 ^ 29) (small : length all ≤ 2 ^ 29) (below : (i : ℕ) → slice_index (words_from (all ∷ []) s w) i < 2 ^ 64)
-    (inside : w + content_words width n ≤ length (segment_at (all ∷ []) s)) (order : from < to) (v : Tree) (i : IsInside (all ∷ []) (shapes.Many width n) s w v) (o : Sound v) (fits : to ≤ length all) where
+module _ (all : List ℕ) (width : Width) (n s w from to pads : ℕ)
+    (e : target (all ∷ []) (record { segment = 0; word = from }) ≡ Ok (targets.Content s w (shapes.Many width n) pads))
+    (plain : IsPlain width) (few : n < 2 ^ 29) (small : length all ≤ 2 ^ 29) (below : (i : ℕ)
+    → slice_index (words_from (all ∷ []) s w) i < 2 ^ 64)
+    (inside : w + content_words width n ≤ length (segment_at (all ∷ []) s)) (order : from < to) (v : Tree)
+    (i : IsInside (all ∷ []) (shapes.Many width n) s w v) (o : Sound v) (fits : to ≤ length all) where
   words-inside : words_for (element_bits width * n) ≤ length (words_from (all ∷ []) s w)
   words-inside = let d = length-drop w (segment_at (all ∷ []) s) in let k = plain-words width n plain in omega arith
 
-  is-list : ((at : ℕ) → lay v at ≡ first_bits (element_bits width * n) (words_from (all ∷ []) s w)) × ((from to : ℕ) → point v from to ≡ list_to from to width n)
+  is-list : ((at : ℕ) → lay v at ≡ first_bits (element_bits width * n) (words_from (all ∷ []) s w))
+      × ((from to : ℕ) → point v from to ≡ list_to from to width n)
   is-list = list-of (all ∷ []) width n s w plain below words-inside v i
 
   pub list-size : size v ≡ (element_bits width * n + 63) / 64
-  list-size = sym (length-lay v to o) ∙ ap length (is-list.0 to) ∙ length-first (element_bits width * n) (words_from (all ∷ []) s w) words-inside
+  list-size = sym (length-lay v to o) ∙ ap length (is-list.0 to)
+      ∙ length-first (element_bits width * n) (words_from (all ∷ []) s w) words-inside
 
-  pub list-passes : IsLaidAt all v from to → (slice_index all from ≡ list_to from to width n) × (to + (element_bits width * n + 63) / 64 ≤ length all)
-  list-passes h = (h.pointer ∙ is-list.1 from to, (let r = laid-room all v from to o fits h in let z = list-size in omega arith))
+  pub list-passes : IsLaidAt all v from to → (slice_index all from ≡ list_to from to width n)
+      × (to + (element_bits width * n + 63) / 64 ≤ length all)
+  list-passes h =
+      (h.pointer ∙ is-list.1 from to, (let r = laid-room all v from to o fits h in let z = list-size in omega arith))
 
-  module _ (p : slice_index all from ≡ list_to from to width n) (room : to + (element_bits width * n + 63) / 64 ≤ length all) where
-    named-here : target (all ∷ []) (record { segment = 0; word = from }) ≡ Ok (targets.Content 0 to (shapes.Many width n) 0)
-    named-here = let k = plain-words width n plain in list-names all small from to n width (plain-too width plain) order (omega arith) few p
+  module _ (p : slice_index all from ≡ list_to from to width n)
+      (room : to + (element_bits width * n + 63) / 64 ≤ length all) where
+    named-here : target (all ∷ []) (record { segment = 0; word = from })
+        ≡ Ok (targets.Content 0 to (shapes.Many width n) 0)
+    named-here = let k = plain-words width n plain in
+        list-names all small from to n width (plain-too width plain) order (omega arith) few p
 
     at-segment : s ≡ 0
     at-segment = let f = named-here in cc
@@ -67,7 +80,8 @@ module _ (all : List ℕ) (width : Width) (n s w from to pads : ℕ) (e : target
     at-start = let f = named-here in cc
 
     content-is : lay v to ≡ first_bits (element_bits width * n) (drop to all)
-    content-is = is-list.0 to ∙ ap₂ (λ (x y : ℕ). first_bits (element_bits width * n) (words_from (all ∷ []) x y)) at-segment at-start
+    content-is = is-list.0 to
+        ∙ ap₂ (λ (x y : ℕ). first_bits (element_bits width * n) (words_from (all ∷ []) x y)) at-segment at-start
 
     pub list-stands : Stand all to (first_bits (element_bits width * n) (drop to all)) → IsLaidAt all v from to
     list-stands h = record { pointer = p ∙ sym (is-list.1 from to); content = subst (Stand all to) (sym content-is) h }

@@ -1,5 +1,8 @@
--- Rows stand as their layout exactly if they keep all their words and slots, at the next free word, and so on below them.
-use Rattle.std.proofs.Common.{◌≡◌, ◌↔◌, ◌⊎◌, inl, inr, ℕ, zero, suc, ◌+◌, ◌-◌, ◌*◌, ◌^◌, ◌<◌, ◌≤◌, List, [], ◌∷◌, ◌++◌, length, take, drop, slice_index, Ok, refl, ap, ap₂, sym, subst, ◌∙◌, arith, length-append, Option, Some, None}
+-- Rows stand as their layout exactly if they keep all their words and slots, at the next free word, and so on below
+-- them.
+use Rattle.std.proofs.Common.{◌≡◌, ◌↔◌, ◌⊎◌, inl, inr, ℕ, zero, suc, ◌+◌, ◌-◌, ◌*◌, ◌^◌, ◌<◌, ◌≤◌, List, [], ◌∷◌, ◌++◌}
+use Rattle.std.proofs.Common.{length, take, drop, slice_index, Ok, refl, ap, ap₂, sym, subst, ◌∙◌, arith, length-append}
+use Rattle.std.proofs.Common.{Option, Some, None}
 use Rattle.std.specs.Prelude.{pos}
 use Rattle.std.proofs.lemmas.List.{take_all}
 use Rattle.capn_words.specs.Message.{segment_at}
@@ -16,7 +19,8 @@ use Rattle.capn_walk.specs.Target.{target}
 use Rattle.capn_walk.specs.At.{AreAt, AreWords, RowsAt, words_from}
 use Rattle.capn_walk.specs.Walked.{IsInside}
 use Rattle.capn_walk.specs.Laws.Unique.{unique-rows}
-use Rattle.capn_canon.specs.Layout.{own, size, sizes, sizes_in_rows, row_size, point, points, lay, lays, row_contents, lays_in_rows, list_to}
+use Rattle.capn_canon.specs.Layout.{own, size, sizes, sizes_in_rows, row_size, point, points, lay, lays, row_contents}
+use Rattle.capn_canon.specs.Layout.{lays_in_rows, list_to}
 use Rattle.capn_canon.specs.Sound.{Sound, Sounds, SoundRows, AreWide}
 use Rattle.capn_canon.proofs.LaidPointers.{rows-names}
 use Rattle.capn_canon.proofs.LayLengths.{length-lays, length-points, length-row_contents}
@@ -26,25 +30,32 @@ use Rattle.capn_canon.specs.Stands.{Stand, IsLaidAt, AreLaidAt, RowsLaidAt, Tell
 use Rattle.capn_canon.proofs.EachRow.{kept-rows-words, kept-rows-slots, kept_each-le}
 use Rattle.capn_canon.proofs.Shaped.{IsRows, as-rows}
 use Rattle.capn_canon.proofs.Compared.{laid-room}
-use Rattle.capn_canon.proofs.Standing.{stand-none, stand-join, stand-front, stand-back, stand-room, stand-cons, stand-head, stand-tail, told}
+use Rattle.capn_canon.proofs.Standing.{stand-none, stand-join, stand-front, stand-back, stand-room, stand-cons}
+use Rattle.capn_canon.proofs.Standing.{stand-head, stand-tail, told}
 
 -- ---- a row before the others
 
-module _ (all : List ℕ) (a b : ℕ) (ws : List ℕ) (ss : Trees) (bs : Bodies) (from to : ℕ) (la : length ws ≡ a) (lb : count ss ≡ b) (here : Stand all from ws) (o : Sounds ss) where
-  contents-is : row_contents a b (body ws ss bs) from to ≡ ws ++ (points ss (from + a) to ++ row_contents a b bs (from + a + b) (to + sizes ss))
+module _ (all : List ℕ) (a b : ℕ) (ws : List ℕ) (ss : Trees) (bs : Bodies) (from to : ℕ) (la : length ws ≡ a)
+    (lb : count ss ≡ b) (here : Stand all from ws) (o : Sounds ss) where
+  contents-is : row_contents a b (body ws ss bs) from to ≡ ws
+      ++ (points ss (from + a) to ++ row_contents a b bs (from + a + b) (to + sizes ss))
   contents-is =
       let l = length-points ss (from + a) to in
-      ap₂ (λ (x y : List ℕ). x ++ (y ++ row_contents a b bs (from + a + b) (to + sizes ss))) (take_all a ws (omega arith)) (take_all b (points ss (from + a) to) (omega arith))
+      ap₂ (λ (x y : List ℕ). x ++ (y ++ row_contents a b bs (from + a + b) (to + sizes ss)))
+      (take_all a ws (omega arith)) (take_all b (points ss (from + a) to) (omega arith))
 
-  behind : RowsLaidAt all a b (body ws ss bs) from to → Stand all (from + a) (points ss (from + a) to ++ row_contents a b bs (from + a + b) (to + sizes ss))
+  behind : RowsLaidAt all a b (body ws ss bs) from to
+      → Stand all (from + a) (points ss (from + a) to ++ row_contents a b bs (from + a + b) (to + sizes ss))
   behind h =
       let x = subst (Stand all from) contents-is h.rows in
-      subst (λ (k : ℕ). Stand all (from + k) (points ss (from + a) to ++ row_contents a b bs (from + a + b) (to + sizes ss))) la
+      subst (λ (k : ℕ). Stand all (from + k)
+      (points ss (from + a) to ++ row_contents a b bs (from + a + b) (to + sizes ss))) la
       (stand-back all from ws (points ss (from + a) to ++ row_contents a b bs (from + a + b) (to + sizes ss)) x)
 
   pub row-first : RowsLaidAt all a b (body ws ss bs) from to → AreLaidAt all ss (from + a) to
   row-first h = record {
-    pointers = stand-front all (from + a) (points ss (from + a) to) (row_contents a b bs (from + a + b) (to + sizes ss)) (behind h);
+    pointers = stand-front all (from + a) (points ss (from + a) to) (row_contents a b bs (from + a + b) (to + sizes ss))
+        (behind h);
     contents = stand-front all to (lays ss to) (lays_in_rows bs (to + sizes ss)) h.contents;
   }
 
@@ -53,32 +64,45 @@ module _ (all : List ℕ) (a b : ℕ) (ws : List ℕ) (ss : Trees) (bs : Bodies)
 
   pub row-others : RowsLaidAt all a b (body ws ss bs) from to → RowsLaidAt all a b bs (from + a + b) (to + sizes ss)
   row-others h = record {
-    rows = subst (λ (k : ℕ). Stand all (from + a + k) (row_contents a b bs (from + a + b) (to + sizes ss))) points-length
-        (stand-back all (from + a) (points ss (from + a) to) (row_contents a b bs (from + a + b) (to + sizes ss)) (behind h));
-    contents = subst (λ (k : ℕ). Stand all (to + k) (lays_in_rows bs (to + sizes ss))) (length-lays ss to o) (stand-back all to (lays ss to) (lays_in_rows bs (to + sizes ss)) h.contents);
+    rows = subst (λ (k : ℕ). Stand all (from + a + k) (row_contents a b bs (from + a + b) (to + sizes ss)))
+        points-length
+        (stand-back all (from + a) (points ss (from + a) to) (row_contents a b bs (from + a + b) (to + sizes ss))
+        (behind h));
+    contents = subst (λ (k : ℕ). Stand all (to + k) (lays_in_rows bs (to + sizes ss))) (length-lays ss to o)
+        (stand-back all to (lays ss to) (lays_in_rows bs (to + sizes ss)) h.contents);
   }
 
-  pub row-both : AreLaidAt all ss (from + a) to → RowsLaidAt all a b bs (from + a + b) (to + sizes ss) → RowsLaidAt all a b (body ws ss bs) from to
+  pub row-both : AreLaidAt all ss (from + a) to → RowsLaidAt all a b bs (from + a + b) (to + sizes ss)
+      → RowsLaidAt all a b (body ws ss bs) from to
   row-both h k =
       let rest = row_contents a b bs (from + a + b) (to + sizes ss) in
-      let y = stand-join all (from + a) (points ss (from + a) to) rest h.pointers (subst (λ (j : ℕ). Stand all (from + a + j) rest) (sym points-length) k.rows) in
-      let x = stand-join all from ws (points ss (from + a) to ++ rest) here (subst (λ (j : ℕ). Stand all (from + j) (points ss (from + a) to ++ rest)) (sym la) y) in
+      let y = stand-join all (from + a) (points ss (from + a) to) rest h.pointers
+      (subst (λ (j : ℕ). Stand all (from + a + j) rest) (sym points-length) k.rows) in
+      let x = stand-join all from ws (points ss (from + a) to ++ rest) here
+      (subst (λ (j : ℕ). Stand all (from + j) (points ss (from + a) to ++ rest)) (sym la) y) in
       record {
         rows = subst (Stand all from) (sym contents-is) x;
-        contents = stand-join all to (lays ss to) (lays_in_rows bs (to + sizes ss)) h.contents (subst (λ (j : ℕ). Stand all (to + j) (lays_in_rows bs (to + sizes ss))) (sym (length-lays ss to o)) k.contents);
+        contents = stand-join all to (lays ss to) (lays_in_rows bs (to + sizes ss)) h.contents
+            (subst (λ (j : ℕ). Stand all (to + j) (lays_in_rows bs (to + sizes ss))) (sym (length-lays ss to o))
+            k.contents);
       }
 
 -- ---- the loop over rows
 
 abbrev pub SameRows : List ℕ → ℕ → ℕ → ℕ → ℕ → ℕ → ℕ → ℕ → ℕ → Type 0
 SameRows all a b n first end i row at =
-    (cs bs : Bodies) → RowsAt (all ∷ []) a b 0 row cs → count_rows cs ≡ n - i → RowsAt (all ∷ []) a b 0 first bs → count_rows bs ≡ n
-    → (RowsLaidAt all a b bs first end ↔ RowsLaidAt all a b cs row at) × (at + sizes_in_rows cs ≡ end + sizes_in_rows bs)
+    (cs bs : Bodies) → RowsAt (all ∷ []) a b 0 row cs → count_rows cs ≡ n - i → RowsAt (all ∷ []) a b 0 first bs
+    → count_rows bs ≡ n
+    → (RowsLaidAt all a b bs first end ↔ RowsLaidAt all a b cs row at)
+    × (at + sizes_in_rows cs ≡ end + sizes_in_rows bs)
 
 pub rows-same-begins : (all : List ℕ) (a b n first end : ℕ) → SameRows all a b n first end 0 first end
 rows-same-begins all a b n first end cs bs hc ec hb eb =
     let e : cs ≡ bs = unique-rows (all ∷ []) cs bs a b 0 first (omega arith) hc hb in (
-      ((λ h. subst (λ (x : Bodies). RowsLaidAt all a b x first end) (sym e) h), (λ h. subst (λ (x : Bodies). RowsLaidAt all a b x first end) e h)),
+      (
+        (λ h. subst (λ (x : Bodies). RowsLaidAt all a b x first end) (sym e) h),
+        (λ h. subst (λ (x : Bodies). RowsLaidAt all a b x first end) e h),
+      ),
       ap (λ (x : Bodies). end + sizes_in_rows x) e,
     )
 
@@ -98,7 +122,8 @@ pub record IsThis (all : List ℕ) (a b row number depth at : ℕ) : Type 0 wher
   pub lows : greatest_in_rows others ≤ depth
   pub room : at + sizes slots + sizes_in_rows others ≤ 2 ^ 29
 
-this-of : (all : List ℕ) (a b row number depth at : ℕ) (bs : Bodies) → RowsAt (all ∷ []) a b 0 row bs → count_rows bs ≡ number → 0 < number → SoundRows bs → greatest_in_rows bs ≤ depth →
+this-of : (all : List ℕ) (a b row number depth at : ℕ) (bs : Bodies) → RowsAt (all ∷ []) a b 0 row bs
+    → count_rows bs ≡ number → 0 < number → SoundRows bs → greatest_in_rows bs ≤ depth →
     at + sizes_in_rows bs ≤ 2 ^ 29 → IsThis all a b row number depth at
 this-of all a b row number depth at no_bodies h e lt o g r = absurd (omega arith)
 this-of all a b row number depth at (body ws ss bs) h e lt o g r = record {
@@ -118,21 +143,36 @@ this-of all a b row number depth at (body ws ss bs) h e lt o g r = record {
   room = omega arith;
 }
 
-module _ (all : List ℕ) (a b n first end depth i row at : ℕ) (lt : i < n) (ready : AreReadyRows (all ∷ []) 0 row a b (n - i) depth at) (same : SameRows all a b n first end i row at) where
+module _ (all : List ℕ) (a b n first end depth i row at : ℕ) (lt : i < n)
+    (ready : AreReadyRows (all ∷ []) 0 row a b (n - i) depth at) (same : SameRows all a b n first end i row at) where
   pub this : IsThis all a b row (n - i) depth at
-  this = this-of all a b row (n - i) depth at ready.values ready.are ready.count (omega arith) ready.sound ready.low ready.room
+  this = this-of all a b row (n - i) depth at ready.values ready.are ready.count (omega arith) ready.sound ready.low
+      ready.room
 
   pub row-check : AreReady (all ∷ []) 0 (row + a) b depth at
-  row-check = record { values = this.slots; are = this.below; count = this.long; sound = this.sound; low = this.low; room = let r = this.room in omega arith }
+  row-check = record {
+    values = this.slots;
+    are = this.below;
+    count = this.long;
+    sound = this.sound;
+    low =
+        this.low;
+    room = let r = this.room in omega arith;
+  }
 
   module _ (h : (ts : Trees) → AreAt (all ∷ []) 0 (row + a) ts → count ts ≡ b → AreLaidAt all ts (row + a) at → ⊥) where
-    pub rows-fail : (bs : Bodies) → RowsAt (all ∷ []) a b 0 first bs → count_rows bs ≡ n → RowsLaidAt all a b bs first end → ⊥
+    pub rows-fail : (bs : Bodies) → RowsAt (all ∷ []) a b 0 first bs → count_rows bs ≡ n
+        → RowsLaidAt all a b bs first end → ⊥
     rows-fail bs hb eb x =
         let c = this.count in
-        let s = same (body this.words this.slots this.others) bs (this.wide, this.long, this.own, this.below, this.are) (omega arith) hb eb in
-        h this.slots this.below this.long (row-first all a b this.words this.slots this.others row at this.wide this.long this.own this.sound (s.0.0 x))
+        let s = same (body this.words this.slots this.others) bs (this.wide, this.long, this.own, this.below, this.are)
+        (omega arith) hb eb in
+        h this.slots this.below this.long
+        (row-first all a b this.words this.slots this.others row at this.wide this.long this.own this.sound
+        (s.0.0 x))
 
-  module _ (k : ℕ) (h : (ts : Trees) → AreAt (all ∷ []) 0 (row + a) ts → count ts ≡ b → AreLaidAt all ts (row + a) at × (k ≡ at + sizes ts)) where
+  module _ (k : ℕ) (h : (ts : Trees) → AreAt (all ∷ []) 0 (row + a) ts → count ts ≡ b → AreLaidAt all ts (row + a) at
+      × (k ≡ at + sizes ts)) where
     laid-this : AreLaidAt all this.slots (row + a) at × (k ≡ at + sizes this.slots)
     laid-this = h this.slots this.below this.long
 
@@ -146,16 +186,19 @@ module _ (all : List ℕ) (a b n first end depth i row at : ℕ) (lt : i < n) (r
     rows-within le = inside (sizes this.slots) (length-lays this.slots at this.sound)
       where
         inside : (n : ℕ) → length (lays this.slots at) ≡ n → k ≤ length all
-        inside n e = let f = laid-this.1 in let g = length-lays this.slots at this.sound in bounded (length (lays this.slots at)) refl
+        inside n e = let f = laid-this.1 in let g = length-lays this.slots at this.sound in
+            bounded (length (lays this.slots at)) refl
           where
             bounded : (j : ℕ) → length (lays this.slots at) ≡ j → k ≤ length all
             bounded zero z = let f = laid-this.1 in let g = length-lays this.slots at this.sound in omega arith
-            bounded (suc j) z = let f = laid-this.1 in let g = length-lays this.slots at this.sound in let r = stand-room all at (lays this.slots at) (omega arith) laid-this.0.contents in omega arith
+            bounded (suc j) z = let f = laid-this.1 in let g = length-lays this.slots at this.sound in let r =
+                stand-room all at (lays this.slots at) (omega arith) laid-this.0.contents in omega arith
 
     pub rows-ready-then : AreReadyRows (all ∷ []) 0 (row + (a + b)) a b (n - (i + 1)) depth k
     rows-ready-then = record {
       values = this.others;
-      are = let d : row + a + b ≡ row + (a + b) = omega arith in subst (λ (x : ℕ). RowsAt (all ∷ []) a b 0 x this.others) d this.are;
+      are = let d : row + a + b ≡ row + (a + b) = omega arith in
+          subst (λ (x : ℕ). RowsAt (all ∷ []) a b 0 x this.others) d this.are;
       count = let c = this.count in omega arith;
       sound = this.sounds;
       low = this.lows;
@@ -165,19 +208,24 @@ module _ (all : List ℕ) (a b n first end depth i row at : ℕ) (lt : i < n) (r
     pub rows-same-then : SameRows all a b n first end (i + 1) (row + (a + b)) k
     rows-same-then cs bs hc ec hb eb =
         let d : row + (a + b) ≡ row + a + b = omega arith in
-        let full : RowsAt (all ∷ []) a b 0 row (body this.words this.slots cs) = (this.wide, this.long, this.own, this.below, subst (λ (x : ℕ). RowsAt (all ∷ []) a b 0 x cs) d hc) in
+        let full : RowsAt (all ∷ []) a b 0 row (body this.words this.slots cs) =
+        (this.wide, this.long, this.own, this.below, subst (λ (x : ℕ). RowsAt (all ∷ []) a b 0 x cs) d hc) in
         let s = same (body this.words this.slots cs) bs full (omega arith) hb eb in
         let e = laid-this.1 in
         let f = s.1 in (
           (
-            (λ (x : RowsLaidAt all a b bs first end). rw (d, e) (row-others all a b this.words this.slots cs row at this.wide this.long this.own this.sound (s.0.0 x))),
-            (λ (x : RowsLaidAt all a b cs (row + (a + b)) k). s.0.1 (row-both all a b this.words this.slots cs row at this.wide this.long this.own this.sound laid-this.0
-                (subst (λ (y : ℕ). RowsLaidAt all a b cs (row + a + b) y) e (subst (λ (y : ℕ). RowsLaidAt all a b cs y k) d x)))),
+            (λ (x : RowsLaidAt all a b bs first end). rw (d, e)
+                (row-others all a b this.words this.slots cs row at this.wide this.long this.own this.sound (s.0.0 x))),
+            (λ (x : RowsLaidAt all a b cs (row + (a + b)) k). s.0.1
+                (row-both all a b this.words this.slots cs row at this.wide this.long this.own this.sound laid-this.0
+                (subst (λ (y : ℕ). RowsLaidAt all a b cs (row + a + b) y) e
+                (subst (λ (y : ℕ). RowsLaidAt all a b cs y k) d x)))),
           ),
           omega arith,
         )
 
-pub rows-same-ends : (all : List ℕ) (a b n first end i row at : ℕ) → n ≤ i → SameRows all a b n first end i row at → (bs : Bodies) → RowsAt (all ∷ []) a b 0 first bs → count_rows bs ≡ n →
+pub rows-same-ends : (all : List ℕ) (a b n first end i row at : ℕ) → n ≤ i → SameRows all a b n first end i row at
+    → (bs : Bodies) → RowsAt (all ∷ []) a b 0 first bs → count_rows bs ≡ n →
     RowsLaidAt all a b bs first end × (at ≡ end + sizes_in_rows bs)
 rows-same-ends all a b n first end i row at le same bs hb eb =
     let s = same no_bodies bs tt (omega arith) hb eb in
@@ -190,8 +238,11 @@ point-rows : (bs : Bodies) (from to : ℕ) → point (rows bs) from to ≡ list_
 unfolding point
 point-rows bs from to = refl
 
-module _ (all : List ℕ) (n a b span s w from to pads : ℕ) (e : target (all ∷ []) (record { segment = 0; word = from }) ≡ Ok (targets.Content s w (shapes.Rows n a b span) pads))
-    (small : length all ≤ 2 ^ 29) (inside : w + 1 + n * (a + b) ≤ length (segment_at (all ∷ []) s)) (order : from < to) (v : Tree) (i : IsInside (all ∷ []) (shapes.Rows n a b span) s w v) (o : Sound v) (fits : to ≤ length all) where
+module _ (all : List ℕ) (n a b span s w from to pads : ℕ)
+    (e : target (all ∷ []) (record { segment = 0; word = from })
+    ≡ Ok (targets.Content s w (shapes.Rows n a b span) pads))
+    (small : length all ≤ 2 ^ 29) (inside : w + 1 + n * (a + b) ≤ length (segment_at (all ∷ []) s)) (order : from < to)
+    (v : Tree) (i : IsInside (all ∷ []) (shapes.Rows n a b span) s w v) (o : Sound v) (fits : to ≤ length all) where
   pub rows-is : IsRows (all ∷ []) n a b s w v
   rows-is = as-rows (all ∷ []) n a b span s w v i
 
@@ -208,7 +259,8 @@ module _ (all : List ℕ) (n a b span s w from to pads : ℕ) (e : target (all �
   ey = kept-rows-slots (all ∷ []) rows-is.bodies a b s (w + 1) n rows-is.below rows-is.count inside
 
   pub rows-passes : IsLaidAt all v from to →
-      (kept_each (all ∷ []) s (w + 1) a (a + b) n ≡ a) × (kept_each (all ∷ []) s (w + 1 + a) b (a + b) n ≡ b) × (slice_index all from ≡ list_to from to Rows (n * (a + b)))
+      (kept_each (all ∷ []) s (w + 1) a (a + b) n ≡ a) × (kept_each (all ∷ []) s (w + 1 + a) b (a + b) n ≡ b)
+      × (slice_index all from ≡ list_to from to Rows (n * (a + b)))
       × (to + (1 + n * (a + b)) ≤ length all) × (slice_index all to ≡ word_of (Node (pos n) a b))
   rows-passes h =
       let bs = rows-is.bodies in
@@ -217,13 +269,17 @@ module _ (all : List ℕ) (n a b span s w from to pads : ℕ) (e : target (all �
       let r = laid-room all v from to o fits h in
       let z : size v ≡ 1 + count_rows bs * (x + y) + sizes_in_rows bs = ap size rows-is.is in
       let c : count_rows bs * (x + y) ≡ n * (x + y) = ap (λ (k : ℕ). k * (x + y)) rows-is.count in
-      let p : slice_index all from ≡ list_to from to Rows (n * (x + y)) = h.pointer ∙ ap (λ (t : Tree). point t from to) rows-is.is ∙ point-rows bs from to ∙ ap (list_to from to Rows) c in
+      let p : slice_index all from ≡ list_to from to Rows (n * (x + y)) = h.pointer
+      ∙ ap (λ (t : Tree). point t from to) rows-is.is ∙ point-rows bs from to ∙ ap (list_to from to Rows) c in
       let body_is = subst (Stand all to) (ap (λ (t : Tree). lay t to) rows-is.is) h.content in
       let t : slice_index all to ≡ word_of (Node (pos n) x y) =
-      stand-head all to (word_of (Node (pos (count_rows bs)) x y)) (row_contents x y bs (suc to) (to + own (rows bs)) ++ lays_in_rows bs (to + own (rows bs))) (omega arith) body_is
+      stand-head all to (word_of (Node (pos (count_rows bs)) x y))
+      (row_contents x y bs (suc to) (to + own (rows bs)) ++ lays_in_rows bs (to + own (rows bs))) (omega arith)
+      body_is
       ∙ ap (λ (k : ℕ). word_of (Node (pos k) x y)) rows-is.count in
       let d = rows-sound.3 in
-      let f = rows-names all small from to n x y order (omega arith) rows-few rows-sound.1 rows-sound.2 (omega arith) p t in
+      let f = rows-names all small from to n x y order (omega arith) rows-few rows-sound.1 rows-sound.2 (omega arith) p
+      t in
       let ea = same-a n x y (n * (x + y)) f in
       let eb = same-b n x y (n * (x + y)) f in (
         sym ex ∙ sym ea,
@@ -233,13 +289,19 @@ module _ (all : List ℕ) (n a b span s w from to pads : ℕ) (e : target (all �
         t ∙ ap₂ (λ (j k : ℕ). word_of (Node (pos n) j k)) (sym ea) (sym eb),
       )
     where
-      same-a : (c x y d : ℕ) → target (all ∷ []) (record { segment = 0; word = from }) ≡ Ok (targets.Content 0 to (shapes.Rows c x y d) 0) → a ≡ x
+      same-a : (c x y d : ℕ)
+          → target (all ∷ []) (record { segment = 0; word = from }) ≡ Ok (targets.Content 0 to (shapes.Rows c x y d) 0)
+          → a ≡ x
       same-a c x y d f = cc
 
-      same-b : (c x y d : ℕ) → target (all ∷ []) (record { segment = 0; word = from }) ≡ Ok (targets.Content 0 to (shapes.Rows c x y d) 0) → b ≡ y
+      same-b : (c x y d : ℕ)
+          → target (all ∷ []) (record { segment = 0; word = from }) ≡ Ok (targets.Content 0 to (shapes.Rows c x y d) 0)
+          → b ≡ y
       same-b c x y d f = cc
 
-  module _ (ka : kept_each (all ∷ []) s (w + 1) a (a + b) n ≡ a) (kb : kept_each (all ∷ []) s (w + 1 + a) b (a + b) n ≡ b) (p : slice_index all from ≡ list_to from to Rows (n * (a + b)))
+  module _ (ka : kept_each (all ∷ []) s (w + 1) a (a + b) n ≡ a)
+      (kb : kept_each (all ∷ []) s (w + 1 + a) b (a + b) n ≡ b)
+      (p : slice_index all from ≡ list_to from to Rows (n * (a + b)))
       (room : to + (1 + n * (a + b)) ≤ length all) (t : slice_index all to ≡ word_of (Node (pos n) a b)) where
     kw : kept_words_of_rows rows-is.bodies ≡ a
     kw = ex ∙ ka
@@ -250,9 +312,11 @@ module _ (all : List ℕ) (n a b span s w from to pads : ℕ) (e : target (all �
     total : count_rows rows-is.bodies * row_size rows-is.bodies ≡ n * (a + b)
     total = ap₂ ◌*◌ rows-is.count (ap₂ ◌+◌ kw ks)
 
-    named-here : target (all ∷ []) (record { segment = 0; word = from }) ≡ Ok (targets.Content 0 to (shapes.Rows n a b (n * (a + b))) 0)
+    named-here : target (all ∷ []) (record { segment = 0; word = from })
+        ≡ Ok (targets.Content 0 to (shapes.Rows n a b (n * (a + b))) 0)
     named-here =
-        let x = rows-sound.1 in let y = rows-sound.2 in let d = rows-sound.3 in let q = total in let u = kw in let z = ks in
+        let x = rows-sound.1 in let y = rows-sound.2 in let d = rows-sound.3 in let q = total in let u = kw in let z =
+        ks in
         rows-names all small from to n a b order (omega arith) rows-few (omega arith) (omega arith) (omega arith) p t
 
     at-segment : s ≡ 0
@@ -262,25 +326,34 @@ module _ (all : List ℕ) (n a b span s w from to pads : ℕ) (e : target (all �
     at-start = let f = named-here in cc
 
     pub rows-here : RowsAt (all ∷ []) a b 0 (to + 1) rows-is.bodies
-    rows-here = subst (λ (k : ℕ). RowsAt (all ∷ []) a b 0 (k + 1) rows-is.bodies) at-start (subst (λ (k : ℕ). RowsAt (all ∷ []) a b k (w + 1) rows-is.bodies) at-segment rows-is.below)
+    rows-here = subst (λ (k : ℕ). RowsAt (all ∷ []) a b 0 (k + 1) rows-is.bodies) at-start
+        (subst (λ (k : ℕ). RowsAt (all ∷ []) a b k (w + 1) rows-is.bodies) at-segment rows-is.below)
 
     wide : AreWide a b rows-is.bodies
-    wide = subst (λ (x : ℕ). AreWide x b rows-is.bodies) kw (subst (λ (x : ℕ). AreWide (kept_words_of_rows rows-is.bodies) x rows-is.bodies) ks rows-sound.4)
+    wide = subst (λ (x : ℕ). AreWide x b rows-is.bodies) kw
+        (subst (λ (x : ℕ). AreWide (kept_words_of_rows rows-is.bodies) x rows-is.bodies) ks rows-sound.4)
 
     end : ℕ
     end = to + 1 + n * (a + b)
 
     rows-length : length (row_contents a b rows-is.bodies (to + 1) (to + 1 + n * (a + b))) ≡ n * (a + b)
-    rows-length = length-row_contents a b rows-is.bodies (to + 1) (to + 1 + n * (a + b)) wide ∙ ap (λ (k : ℕ). k * (a + b)) rows-is.count
+    rows-length = length-row_contents a b rows-is.bodies (to + 1) (to + 1 + n * (a + b)) wide
+        ∙ ap (λ (k : ℕ). k * (a + b)) rows-is.count
 
-    rows-lay : lay v to ≡ word_of (Node (pos n) a b) ∷ (row_contents a b rows-is.bodies (to + 1) (to + 1 + n * (a + b)) ++ lays_in_rows rows-is.bodies (to + 1 + n * (a + b)))
+    rows-lay : lay v to
+        ≡ word_of (Node (pos n) a b) ∷
+        (row_contents a b rows-is.bodies (to + 1) (to + 1 + n * (a + b))
+        ++ lays_in_rows rows-is.bodies (to + 1 + n * (a + b)))
     rows-lay =
         let bs = rows-is.bodies in
         let u : suc to ≡ to + 1 = omega arith in
         let z : to + own (rows bs) ≡ to + 1 + n * (a + b) = let q = total in omega arith in
         ap (λ (x : Tree). lay x to) rows-is.is
-        ∙ ap (λ (k : ℕ). word_of (Node (pos k) (kept_words_of_rows bs) (kept_slots_of_rows bs)) ∷ (row_contents (kept_words_of_rows bs) (kept_slots_of_rows bs) bs (suc to) (to + own (rows bs)) ++ lays_in_rows bs (to + own (rows bs)))) rows-is.count
-        ∙ ap₂ (λ (x y : ℕ). word_of (Node (pos n) x y) ∷ (row_contents x y bs (suc to) (to + own (rows bs)) ++ lays_in_rows bs (to + own (rows bs)))) kw ks
+        ∙ ap (λ (k : ℕ). word_of (Node (pos k) (kept_words_of_rows bs) (kept_slots_of_rows bs)) ∷
+        (row_contents (kept_words_of_rows bs) (kept_slots_of_rows bs) bs (suc to) (to + own (rows bs))
+        ++ lays_in_rows bs (to + own (rows bs)))) rows-is.count
+        ∙ ap₂ (λ (x y : ℕ). word_of (Node (pos n) x y) ∷
+        (row_contents x y bs (suc to) (to + own (rows bs)) ++ lays_in_rows bs (to + own (rows bs)))) kw ks
         ∙ ap₂ (λ (x y : ℕ). word_of (Node (pos n) a b) ∷ (row_contents a b bs x y ++ lays_in_rows bs y)) u z
 
     pub rows-to-slots : IsLaidAt all v from to → RowsLaidAt all a b rows-is.bodies (to + 1) (to + 1 + n * (a + b))
@@ -289,7 +362,9 @@ module _ (all : List ℕ) (n a b span s w from to pads : ℕ) (e : target (all �
         let rc = row_contents a b bs (to + 1) (to + 1 + n * (a + b)) in
         let lr = lays_in_rows bs (to + 1 + n * (a + b)) in
         let u : suc to ≡ to + 1 = omega arith in
-        let x = subst (λ (k : ℕ). Stand all k (rc ++ lr)) u (stand-tail all to (word_of (Node (pos n) a b)) (rc ++ lr) (omega arith) (subst (Stand all to) rows-lay h.content)) in
+        let x = subst (λ (k : ℕ). Stand all k (rc ++ lr)) u
+        (stand-tail all to (word_of (Node (pos n) a b)) (rc ++ lr) (omega arith)
+        (subst (Stand all to) rows-lay h.content)) in
         record {
           rows = stand-front all (to + 1) rc lr x;
           contents = subst (λ (k : ℕ). Stand all (to + 1 + k) lr) rows-length (stand-back all (to + 1) rc lr x);
@@ -301,22 +376,31 @@ module _ (all : List ℕ) (n a b span s w from to pads : ℕ) (e : target (all �
         let rc = row_contents a b bs (to + 1) (to + 1 + n * (a + b)) in
         let lr = lays_in_rows bs (to + 1 + n * (a + b)) in
         let u : to + 1 ≡ suc to = omega arith in
-        let x = stand-join all (to + 1) rc lr h.rows (subst (λ (k : ℕ). Stand all (to + 1 + k) lr) (sym rows-length) h.contents) in
+        let x = stand-join all (to + 1) rc lr h.rows
+        (subst (λ (k : ℕ). Stand all (to + 1 + k) lr) (sym rows-length) h.contents) in
         record {
-          pointer = p ∙ sym (ap (λ (x : Tree). point x from to) rows-is.is ∙ point-rows bs from to ∙ ap (list_to from to Rows) total);
-          content = subst (Stand all to) (sym rows-lay) (stand-cons all to (word_of (Node (pos n) a b)) (rc ++ lr) (omega arith) t (subst (λ (k : ℕ). Stand all k (rc ++ lr)) u x));
+          pointer = p ∙ sym (ap (λ (x : Tree). point x from to) rows-is.is ∙ point-rows bs from to
+              ∙ ap (list_to from to Rows) total);
+          content = subst (Stand all to) (sym rows-lay)
+              (stand-cons all to (word_of (Node (pos n) a b)) (rc ++ lr) (omega arith) t
+              (subst (λ (k : ℕ). Stand all k (rc ++ lr)) u x));
         }
 
     rows-size : to + 1 + n * (a + b) + sizes_in_rows rows-is.bodies ≡ to + size v
-    rows-size = let z : size v ≡ 1 + count_rows rows-is.bodies * row_size rows-is.bodies + sizes_in_rows rows-is.bodies = ap size rows-is.is in let q = total in omega arith
+    rows-size = let z : size v ≡ 1 + count_rows rows-is.bodies * row_size rows-is.bodies
+        + sizes_in_rows rows-is.bodies = ap size rows-is.is in let q = total in omega arith
 
-    pub rows-told : (r : Option ℕ) → ((bs : Bodies) → RowsAt (all ∷ []) a b 0 (to + 1) bs → count_rows bs ≡ n → Tells (RowsLaidAt all a b bs (to + 1) (to + 1 + n * (a + b))) (to + 1 + n * (a + b) + sizes_in_rows bs) r) →
+    pub rows-told : (r : Option ℕ)
+        → ((bs : Bodies) → RowsAt (all ∷ []) a b 0 (to + 1) bs → count_rows bs ≡ n
+        → Tells (RowsLaidAt all a b bs (to + 1) (to + 1 + n * (a + b))) (to + 1 + n * (a + b) + sizes_in_rows bs) r) →
         Tells (IsLaidAt all v from to) (to + size v) r
     rows-told r h =
-        told (RowsLaidAt all a b rows-is.bodies (to + 1) (to + 1 + n * (a + b))) (IsLaidAt all v from to) (to + 1 + n * (a + b) + sizes_in_rows rows-is.bodies) (to + size v) r
+        told (RowsLaidAt all a b rows-is.bodies (to + 1) (to + 1 + n * (a + b))) (IsLaidAt all v from to)
+        (to + 1 + n * (a + b) + sizes_in_rows rows-is.bodies) (to + size v) r
         rows-from-slots rows-to-slots rows-size (h rows-is.bodies rows-here rows-is.count)
 
-    pub rows-check : (depth : ℕ) → height v ≤ suc depth → to + size v ≤ 2 ^ 29 → AreReadyRows (all ∷ []) 0 (to + 1) a b n depth (to + 1 + n * (a + b))
+    pub rows-check : (depth : ℕ) → height v ≤ suc depth → to + size v ≤ 2 ^ 29
+        → AreReadyRows (all ∷ []) 0 (to + 1) a b n depth (to + 1 + n * (a + b))
     rows-check depth low r = record {
       values = rows-is.bodies;
       are = rows-here;

@@ -1,5 +1,6 @@
 -- The length up to the last number that is not zero.
-use Rattle.std.proofs.Common.{◌≡◌, ◌≢◌, ◌⊎◌, inl, inr, ℕ, zero, suc, ◌+◌, ◌-◌, ◌<◌, ◌≤◌, ◌==◌, max, Bool, List, [], ◌∷◌, length, take, drop, slice_index, refl, ap, sym, subst, ◌∙◌, arith, length-drop}
+use Rattle.std.proofs.Common.{◌≡◌, ◌≢◌, ◌⊎◌, inl, inr, ℕ, zero, suc, ◌+◌, ◌-◌, ◌<◌, ◌≤◌, ◌==◌, max, Bool, List, [], ◌∷◌}
+use Rattle.std.proofs.Common.{length, take, drop, slice_index, refl, ap, sym, subst, ◌∙◌, arith, length-drop}
 use Rattle.std.proofs.lemmas.Bool.Decides.{nat_tests}
 use Rattle.std.proofs.lemmas.List.{get_or-drop, get_or-take, length-take-le}
 use Rattle.capn_value.specs.Trim.{kept_behind, kept_words}
@@ -20,7 +21,8 @@ behind-above b n k h = grind (arith, nat_tests)
 -- zeros from a place on are not kept
 pub zeros-cut : (xs : List ℕ) (n : ℕ) → ((k : ℕ) → n ≤ k → slice_index xs k ≡ 0) → kept_words xs ≤ n
 zeros-cut [] n h = omega arith
-zeros-cut (x ∷ xs) zero h = behind-zero x (kept_words xs) 0 (h 0 (omega arith)) (zeros-cut xs 0 (λ k l. h (suc k) (omega arith)))
+zeros-cut (x ∷ xs) zero h =
+    behind-zero x (kept_words xs) 0 (h 0 (omega arith)) (zeros-cut xs 0 (λ k l. h (suc k) (omega arith)))
 zeros-cut (x ∷ xs) (suc n) h = behind-more (x == 0) (kept_words xs) n (zeros-cut xs n (λ k l. h (suc k) (omega arith)))
 
 -- what is not zero is kept
@@ -61,7 +63,8 @@ module _ (seg : List ℕ) (w count : ℕ) where
           from (inr b) = past-part (drop w seg) count k b
 
   -- the words from the n-th on are zero, and the one before isn't
-  pub kept-found : (least n : ℕ) → least < n → n ≤ count → AreZeros n → slice_index seg (w + (n - 1)) ≢ 0 → n ≡ max least (kept_words part)
+  pub kept-found : (least n : ℕ) → least < n → n ≤ count → AreZeros n → slice_index seg (w + (n - 1)) ≢ 0
+      → n ≡ max least (kept_words part)
   kept-found least n l le h ne =
       let a = cut n h in
       let e = at-part (n - 1) (omega arith) in

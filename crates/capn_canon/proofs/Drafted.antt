@@ -1,5 +1,7 @@
 -- What the bytes of a buffer without holes stand for, as they change.
-use Rattle.std.proofs.Common.{◌≡◌, ℕ, zero, suc, ◌+◌, ◌*◌, ◌/◌, ◌%◌, ◌^◌, ◌<◌, List, [], ◌∷◌, ◌++◌, length, take, drop, set, replicate, refl, ap, ap₂, sym, subst, ◌∙◌, arith, length-append, Bool, false, Option, Some}
+use Rattle.std.proofs.Common.{◌≡◌, ℕ, zero, suc, ◌+◌, ◌*◌, ◌/◌, ◌%◌, ◌^◌, ◌<◌, List, [], ◌∷◌, ◌++◌, length, take, drop}
+use Rattle.std.proofs.Common.{set, replicate, refl, ap, ap₂, sym, subst, ◌∙◌, arith, length-append, Bool, false, Option}
+use Rattle.std.proofs.Common.{Some}
 use Rattle.std.proofs.lemmas.List.{length-replicate, replicate-append-replicate}
 use Rattle.capn_words.specs.Words.{AreBytes}
 use Rattle.capn_words.specs.Message.{word_bytes, bytes}
@@ -8,12 +10,14 @@ use Rattle.capn_canon.specs.Draft.{drafted, IsDrafted}
 use Rattle.capn_canon.specs.Layout.{packed, words_for}
 use Rattle.capn_canon.specs.Patch.{cells, whole, filled, IsWhole}
 use Rattle.capn_canon.proofs.Bytes.{AreBytes-word}
-use Rattle.capn_canon.proofs.Cells.{length-cells, cells-none, cells-append, cells-one, cells-fill, cells-whole, written-bytes, written-length}
+use Rattle.capn_canon.proofs.Cells.{length-cells, cells-none, cells-append, cells-one, cells-fill, cells-whole}
+use Rattle.capn_canon.proofs.Cells.{written-bytes, written-length}
 use Rattle.capn_canon.proofs.Holes.{whole-is}
 use Rattle.capn_canon.proofs.PackedBytes.{cells-words}
 
 pub length-drafted : (bs : List ℕ) → length (drafted bs) ≡ length bs / 8
-length-drafted bs = length-cells (replicate (length bs / 8) false) bs ∙ length-replicate {A = Bool} (length bs / 8) false
+length-drafted bs = length-cells (replicate (length bs / 8) false) bs
+    ∙ length-replicate {A = Bool} (length bs / 8) false
 
 pub drafted-none : drafted [] ≡ []
 drafted-none = cells-none []
@@ -29,7 +33,8 @@ module _ (bs tail : List ℕ) (k : ℕ) (is : IsDrafted bs) (l : length tail ≡
   drafted-append =
       let n = length bs / 8 in
       let w : length (bs ++ tail) / 8 ≡ n + k = let e = is.even in let a = length-append bs tail in omega arith in
-      let f : length bs ≡ 8 * length (replicate n false) = let e = is.even in let r = length-replicate {A = Bool} n false in omega arith in
+      let f : length bs ≡ 8 * length (replicate n false) = let e = is.even in let r =
+      length-replicate {A = Bool} n false in omega arith in
       ap (λ (j : ℕ). cells (replicate j false) (bs ++ tail)) w
       ∙ ap (λ (hs : List Bool). cells hs (bs ++ tail)) (sym (replicate-append-replicate n k false))
       ∙ cells-append (replicate n false) (replicate k false) bs tail f
@@ -40,7 +45,8 @@ module _ (bs tail : List ℕ) (k : ℕ) (is : IsDrafted bs) (l : length tail ≡
     bytes = AreBytes-append bs tail is.bytes are;
   }
 
-pub drafted-push : (bs : List ℕ) (w : ℕ) → IsDrafted bs → w < 2 ^ 64 → drafted (bs ++ word_bytes w) ≡ drafted bs ++ Some w ∷ []
+pub drafted-push : (bs : List ℕ) (w : ℕ) → IsDrafted bs → w < 2 ^ 64
+    → drafted (bs ++ word_bytes w) ≡ drafted bs ++ Some w ∷ []
 drafted-push bs w is lt =
     drafted-append bs (word_bytes w) 1 is (length-word_bytes w)
     ∙ ap (λ (xs : List (Option ℕ)). drafted bs ++ xs) (cells-one false w lt)
@@ -48,7 +54,8 @@ drafted-push bs w is lt =
 pub is-pushed : (bs : List ℕ) (w : ℕ) → IsDrafted bs → IsDrafted (bs ++ word_bytes w)
 is-pushed bs w is = is-longer bs (word_bytes w) 1 is (length-word_bytes w) (AreBytes-word w)
 
-pub drafted-words : (bs xs : List ℕ) → IsDrafted bs → length xs % 8 ≡ 0 → drafted (bs ++ xs) ≡ drafted bs ++ whole (packed 8 8 (words_for (8 * length xs)) xs)
+pub drafted-words : (bs xs : List ℕ) → IsDrafted bs → length xs % 8 ≡ 0
+    → drafted (bs ++ xs) ≡ drafted bs ++ whole (packed 8 8 (words_for (8 * length xs)) xs)
 drafted-words bs xs is e =
     let k = words_for (8 * length xs) in
     drafted-append bs xs k is (omega arith) ∙ ap (λ (ys : List (Option ℕ)). drafted bs ++ ys) (cells-words k xs)
@@ -82,4 +89,5 @@ pub drafted-bytes : (bs : List ℕ) → IsDrafted bs → bs ≡ bytes (filled (d
 drafted-bytes bs is =
     let n = length bs / 8 in
     let r = length-replicate {A = Bool} n false in
-    cells-whole (replicate n false) bs is.bytes (let e = is.even in omega arith) (subst IsWhole (sym (cells-words n bs)) (whole-is (packed 8 8 n bs)))
+    cells-whole (replicate n false) bs is.bytes (let e = is.even in
+    omega arith) (subst IsWhole (sym (cells-words n bs)) (whole-is (packed 8 8 n bs)))

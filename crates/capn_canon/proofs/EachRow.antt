@@ -1,5 +1,6 @@
 -- Rows of equal sizes, one after the other.
-use Rattle.std.proofs.Common.{◌≡◌, ℕ, zero, suc, ◌+◌, ◌-◌, ◌*◌, ◌^◌, ◌<◌, ◌≤◌, max, List, [], ◌++◌, length, take, refl, ap, ap₂, sym, subst, ◌∙◌, arith, append_assoc, append-nil, length-drop, Option}
+use Rattle.std.proofs.Common.{◌≡◌, ℕ, zero, suc, ◌+◌, ◌-◌, ◌*◌, ◌^◌, ◌<◌, ◌≤◌, max, List, [], ◌++◌, length, take, refl}
+use Rattle.std.proofs.Common.{ap, ap₂, sym, subst, ◌∙◌, arith, append_assoc, append-nil, length-drop, Option}
 use Rattle.capn_words.specs.Message.{IsMessage, segment_at}
 use Rattle.capn_value.specs.Tree.{Trees, Bodies, no_bodies, body, count, count_rows}
 use Rattle.capn_value.specs.Trim.{kept_words, kept_words_of_rows, kept_slots_of_rows}
@@ -22,36 +23,45 @@ max-more k w e j h = omega arith
 module _ (m : List (List ℕ)) where
   pub kept_each-le : (s w size step n : ℕ) → kept_each m s w size step n ≤ size
   kept_each-le s w size step zero = omega arith
-  kept_each-le s w size step (suc n) = let a = part-le size (words_from m s w) in let b = kept_each-le s (w + step) size step n in omega arith
+  kept_each-le s w size step (suc n) = let a = part-le size (words_from m s w) in let b =
+      kept_each-le s (w + step) size step n in omega arith
 
   pub kept-begins : (s w size step n : ℕ) → max 0 (kept_each m s w size step (n - 0)) ≡ kept_each m s w size step n
   kept-begins s w size step n =
       let z : n - 0 ≡ n = omega arith in
-      max-zero (kept_each m s w size step (n - 0)) (kept_each m s w size step n) (kept_each m s w size step (n - 0)) refl (sym (ap (kept_each m s w size step) z))
+      max-zero (kept_each m s w size step (n - 0)) (kept_each m s w size step n) (kept_each m s w size step (n - 0))
+      refl (sym (ap (kept_each m s w size step) z))
 
-  pub kept-more : (s next inset size step n i k j : ℕ) → i < n → j ≡ max k (kept_words (take size (words_from m s (next + inset)))) →
-      max j (kept_each m s (next + step + inset) size step (n - (i + 1))) ≡ max k (kept_each m s (next + inset) size step (n - i))
+  pub kept-more : (s next inset size step n i k j : ℕ) → i < n
+      → j ≡ max k (kept_words (take size (words_from m s (next + inset)))) →
+      max j (kept_each m s (next + step + inset) size step (n - (i + 1)))
+      ≡ max k (kept_each m s (next + inset) size step (n - i))
   kept-more s next inset size step n i k j lt e =
       let a : suc (n - (i + 1)) ≡ n - i = omega arith in
       let b : next + step + inset ≡ next + inset + step = omega arith in
       ap (λ (x : ℕ). max j (kept_each m s x size step (n - (i + 1)))) b
-      ∙ max-more k (kept_words (take size (words_from m s (next + inset)))) (kept_each m s (next + inset + step) size step (n - (i + 1))) j e
+      ∙ max-more k (kept_words (take size (words_from m s (next + inset))))
+      (kept_each m s (next + inset + step) size step (n - (i + 1))) j e
       ∙ ap (λ (x : ℕ). max k (kept_each m s (next + inset) size step x)) a
 
   pub kept-full : (s w size step n k total : ℕ) → k ≡ size → max k (kept_each m s w size step n) ≡ total → k ≡ total
   kept-full s w size step n k total e h = let l = kept_each-le s w size step n in omega arith
 
-  pub kept-ends : (s w size step n i k total : ℕ) → n ≤ i → max k (kept_each m s w size step (n - i)) ≡ total → k ≡ total
+  pub kept-ends : (s w size step n i k total : ℕ) → n ≤ i → max k (kept_each m s w size step (n - i)) ≡ total
+      → k ≡ total
   kept-ends s w size step n i k total le h =
       let z : n - i ≡ 0 = omega arith in
       let e = ap (kept_each m s w size step) z in
       omega arith
 
   -- the cells of rows, from the front
-  pub cells-begin : (s w step inset a b n : ℕ) (p : List (Option ℕ)) → p ++ row_cells m s w step inset a b (n - 0) ≡ p ++ row_cells m s w step inset a b n
-  cells-begin s w step inset a b n p = let z : n - 0 ≡ n = omega arith in ap (λ (x : ℕ). p ++ row_cells m s w step inset a b x) z
+  pub cells-begin : (s w step inset a b n : ℕ) (p : List (Option ℕ))
+      → p ++ row_cells m s w step inset a b (n - 0) ≡ p ++ row_cells m s w step inset a b n
+  cells-begin s w step inset a b n p = let z : n - 0 ≡ n = omega arith in
+      ap (λ (x : ℕ). p ++ row_cells m s w step inset a b x) z
 
-  pub cells-more : (s w step inset a b n i : ℕ) (p q : List (Option ℕ)) → i < n → q ≡ (p ++ whole (take a (words_from m s w))) ++ whole (take b (words_from m s (w + inset))) →
+  pub cells-more : (s w step inset a b n i : ℕ) (p q : List (Option ℕ)) → i < n
+      → q ≡ (p ++ whole (take a (words_from m s w))) ++ whole (take b (words_from m s (w + inset))) →
       q ++ row_cells m s (w + step) step inset a b (n - (i + 1)) ≡ p ++ row_cells m s w step inset a b (n - i)
   cells-more s w step inset a b n i p q lt eq =
       let k : suc (n - (i + 1)) ≡ n - i = omega arith in
@@ -63,22 +73,26 @@ module _ (m : List (List ℕ)) where
       ∙ append_assoc p own (slots ++ rest)
       ∙ ap (λ (x : ℕ). p ++ row_cells m s w step inset a b x) k
 
-  pub cells-end : (s w step inset a b n i : ℕ) (p q : List (Option ℕ)) → n ≤ i → p ++ row_cells m s w step inset a b (n - i) ≡ q → p ≡ q
+  pub cells-end : (s w step inset a b n i : ℕ) (p q : List (Option ℕ)) → n ≤ i
+      → p ++ row_cells m s w step inset a b (n - i) ≡ q → p ≡ q
   cells-end s w step inset a b n i p q le h =
       let z : n - i ≡ 0 = omega arith in
       sym (append-nil p) ∙ ap (λ (x : ℕ). p ++ row_cells m s w step inset a b x) (sym z) ∙ h
 
   -- the same of the rows that stand there
-  pub kept-rows-words : (bs : Bodies) (a b s w n : ℕ) → RowsAt m a b s w bs → count_rows bs ≡ n → kept_words_of_rows bs ≡ kept_each m s w a (a + b) n
+  pub kept-rows-words : (bs : Bodies) (a b s w n : ℕ) → RowsAt m a b s w bs → count_rows bs ≡ n
+      → kept_words_of_rows bs ≡ kept_each m s w a (a + b) n
   kept-rows-words no_bodies a b s w zero h e = refl
   kept-rows-words no_bodies a b s w (suc n) h e = absurd (omega arith)
   kept-rows-words (body ws ss bs) a b s w zero h e = absurd (omega arith)
   kept-rows-words (body ws ss bs) a b s w (suc n) h e =
       let z : w + a + b ≡ w + (a + b) = omega arith in
       let own : take a (words_from m s w) ≡ ws = subst (λ (x : ℕ). take x (words_from m s w) ≡ ws) h.0 h.2 in
-      ap₂ max (ap kept_words (sym own)) (kept-rows-words bs a b s (w + a + b) n h.4 (omega arith) ∙ ap (λ (x : ℕ). kept_each m s x a (a + b) n) z)
+      ap₂ max (ap kept_words (sym own)) (kept-rows-words bs a b s (w + a + b) n h.4 (omega arith)
+      ∙ ap (λ (x : ℕ). kept_each m s x a (a + b) n) z)
 
-  pub kept-rows-slots : (bs : Bodies) (a b s w n : ℕ) → RowsAt m a b s w bs → count_rows bs ≡ n → w + n * (a + b) ≤ length (segment_at m s) → kept_slots_of_rows bs ≡ kept_each m s (w + a) b (a + b) n
+  pub kept-rows-slots : (bs : Bodies) (a b s w n : ℕ) → RowsAt m a b s w bs → count_rows bs ≡ n
+      → w + n * (a + b) ≤ length (segment_at m s) → kept_slots_of_rows bs ≡ kept_each m s (w + a) b (a + b) n
   kept-rows-slots no_bodies a b s w zero h e le = refl
   kept-rows-slots no_bodies a b s w (suc n) h e le = absurd (omega arith)
   kept-rows-slots (body ws ss bs) a b s w zero h e le = absurd (omega arith)
@@ -86,11 +100,14 @@ module _ (m : List (List ℕ)) where
       let z : w + a + b + a ≡ w + a + (a + b) = omega arith in
       let d : suc n * (a + b) ≡ a + b + n * (a + b) = omega arith in
       let l = h.1 in
-      ap₂ max (kept-slots m ss s (w + a) h.3 (omega arith) ∙ ap (λ (x : ℕ). kept_words (take x (words_from m s (w + a)))) l)
-      (kept-rows-slots bs a b s (w + a + b) n h.4 (omega arith) (omega arith) ∙ ap (λ (x : ℕ). kept_each m s x b (a + b) n) z)
+      ap₂ max (kept-slots m ss s (w + a) h.3 (omega arith)
+      ∙ ap (λ (x : ℕ). kept_words (take x (words_from m s (w + a)))) l)
+      (kept-rows-slots bs a b s (w + a + b) n h.4 (omega arith) (omega arith)
+      ∙ ap (λ (x : ℕ). kept_each m s x b (a + b) n) z)
 
   -- behind the kept words of each row stand as many words as it keeps slots
-  pub cells-over : (bs : Bodies) (a b s w n x y : ℕ) → RowsAt m a b s w bs → count_rows bs ≡ n → x ≤ a → y ≤ b → w + n * (a + b) ≤ length (segment_at m s) → AreRowsOver x y bs (row_cells m s w (a + b) a x y n)
+  pub cells-over : (bs : Bodies) (a b s w n x y : ℕ) → RowsAt m a b s w bs → count_rows bs ≡ n → x ≤ a → y ≤ b
+      → w + n * (a + b) ≤ length (segment_at m s) → AreRowsOver x y bs (row_cells m s w (a + b) a x y n)
   cells-over no_bodies a b s w zero x y h e le ly i = refl
   cells-over no_bodies a b s w (suc n) x y h e le ly i = absurd (omega arith)
   cells-over (body ws ss bs) a b s w zero x y h e le ly i = absurd (omega arith)
@@ -102,7 +119,8 @@ module _ (m : List (List ℕ)) where
       let hs = whole (take y (words_from m s (w + a))) in
       let rest = row_cells m s (w + (a + b)) (a + b) a x y n in
       let below = length-drop (w + a) (segment_at m s) in
-      let long : length hs ≡ y = length-whole (take y (words_from m s (w + a))) ∙ length-take-le y (words_from m s (w + a)) (omega arith) in
+      let long : length hs ≡ y = length-whole (take y (words_from m s (w + a)))
+      ∙ length-take-le y (words_from m s (w + a)) (omega arith) in
       let after : RowsAt m a b s (w + (a + b)) bs = subst (λ (k : ℕ). RowsAt m a b s k bs) (sym z) h.4 in (
         hs,
         rest,
@@ -127,7 +145,8 @@ less-times (suc n) x y most le h =
         let c = times-le n x y le in
         omega arith
 
-pub one-more-fits : (hole x y n i most : ℕ) → i < n → hole + (n - i) * (x + y) ≤ most → hole + x + y + (n - (i + 1)) * (x + y) ≤ most
+pub one-more-fits : (hole x y n i most : ℕ) → i < n → hole + (n - i) * (x + y) ≤ most
+    → hole + x + y + (n - (i + 1)) * (x + y) ≤ most
 one-more-fits hole x y n i most lt h =
     let a : n - i ≡ suc (n - (i + 1)) = omega arith in
     let e : (n - i) * (x + y) ≡ suc (n - (i + 1)) * (x + y) = ap (λ (k : ℕ). k * (x + y)) a in
@@ -135,26 +154,33 @@ one-more-fits hole x y n i most lt h =
     omega arith
 
 -- rows that are kept whole are one piece
-pub cells-whole : (m : List (List ℕ)) (s w a b n : ℕ) → row_cells m s w (a + b) a a b n ≡ whole (take (n * (a + b)) (words_from m s w))
-cells-whole m s w a b zero = let z : 0 * (a + b) ≡ 0 = omega arith in ap (λ (k : ℕ). whole (take k (words_from m s w))) (sym z)
+pub cells-whole : (m : List (List ℕ)) (s w a b n : ℕ)
+    → row_cells m s w (a + b) a a b n ≡ whole (take (n * (a + b)) (words_from m s w))
+cells-whole m s w a b zero = let z : 0 * (a + b) ≡ 0 = omega arith in
+    ap (λ (k : ℕ). whole (take k (words_from m s w))) (sym z)
 cells-whole m s w a b (suc n) =
     let z : a + b + n * (a + b) ≡ suc n * (a + b) = omega arith in
     let own = take a (words_from m s w) in
     let slots = take b (words_from m s (w + a)) in
     let step = a + b in
     let both : own ++ slots ≡ take step (words_from m s w) =
-    ap (λ (xs : List ℕ). own ++ take b xs) (sym (drop-drop a w (segment_at m s))) ∙ sym (take-plus a b (words_from m s w)) in
+    ap (λ (xs : List ℕ). own ++ take b xs) (sym (drop-drop a w (segment_at m s)))
+    ∙ sym (take-plus a b (words_from m s w)) in
     ap (λ (x : List (Option ℕ)). whole own ++ (whole slots ++ x)) (cells-whole m s (w + step) a b n)
-    ∙ ap (λ (x : List (Option ℕ)). whole own ++ x) (sym (whole-append slots (take (n * step) (words_from m s (w + step)))))
+    ∙ ap (λ (x : List (Option ℕ)). whole own ++ x)
+    (sym (whole-append slots (take (n * step) (words_from m s (w + step)))))
     ∙ sym (whole-append own (slots ++ take (n * step) (words_from m s (w + step))))
     ∙ ap whole (sym (append_assoc own slots (take (n * step) (words_from m s (w + step)))))
     ∙ ap (λ (xs : List ℕ). whole (xs ++ take (n * step) (words_from m s (w + step)))) both
-    ∙ ap (λ (xs : List ℕ). whole (take step (words_from m s w) ++ take (n * step) xs)) (sym (drop-drop step w (segment_at m s)))
+    ∙ ap (λ (xs : List ℕ). whole (take step (words_from m s w) ++ take (n * step) xs))
+    (sym (drop-drop step w (segment_at m s)))
     ∙ ap whole (sym (take-plus step (n * step) (words_from m s w)))
     ∙ ap (λ (k : ℕ). whole (take k (words_from m s w))) z
 
-pub cells-piece : (m : List (List ℕ)) (s w step inset a b n : ℕ) (p q : List (Option ℕ)) → a ≡ inset → a + b ≡ step → q ≡ p ++ whole (take (n * step) (words_from m s w)) →
+pub cells-piece : (m : List (List ℕ)) (s w step inset a b n : ℕ) (p q : List (Option ℕ)) → a ≡ inset → a + b ≡ step
+    → q ≡ p ++ whole (take (n * step) (words_from m s w)) →
     q ≡ p ++ row_cells m s w step inset a b n
 cells-piece m s w step inset a b n p q ei es e =
-    e ∙ ap (λ (k : ℕ). p ++ whole (take (n * k) (words_from m s w))) (sym es) ∙ ap (λ (x : List (Option ℕ)). p ++ x) (sym (cells-whole m s w a b n))
+    e ∙ ap (λ (k : ℕ). p ++ whole (take (n * k) (words_from m s w))) (sym es)
+    ∙ ap (λ (x : List (Option ℕ)). p ++ x) (sym (cells-whole m s w a b n))
     ∙ ap₂ (λ (x y : ℕ). p ++ row_cells m s w x y a b n) es ei

@@ -22,9 +22,11 @@ use Rattle.capn_canon.proofs.BareCanon.{words_in_canon}
 use Rattle.capn_canon.proofs.CanonOfTrimmed.{words-trimmed}
 
 -- canonical words are equal exactly if the trimmed values are: each is what is read at the root of the words
-pub same_words : (v w : Tree) → Sound v → Sound w → length (words v) ≤ 2 ^ 29 → length (words w) ≤ 2 ^ 29 → words v ≡ words w ↔ trimmed v ≡ trimmed w
+pub same_words : (v w : Tree) → Sound v → Sound w → length (words v) ≤ 2 ^ 29 → length (words w) ≤ 2 ^ 29
+    → words v ≡ words w ↔ trimmed v ≡ trimmed w
 same_words v w hv hw sv sw = (
-  (λ e. unique (words v ∷ []) (trimmed v) (trimmed w) (here 0) (read_back v hv sv) (subst (λ (r : List ℕ). IsAt (r ∷ []) (here 0) (trimmed w)) (sym e) (read_back w hw sw))),
+  (λ e. unique (words v ∷ []) (trimmed v) (trimmed w) (here 0) (read_back v hv sv)
+      (subst (λ (r : List ℕ). IsAt (r ∷ []) (here 0) (trimmed w)) (sym e) (read_back w hw sw))),
   (λ e. sym (words-trimmed v) ∙ ap words e ∙ words-trimmed w),
 )
 
@@ -51,4 +53,5 @@ module _ (v w : Tree) (fv : Fits v) (rv : InRange v) (fw : Fits w) (rw : InRange
 
 -- a trimmed value is the same value
 pub trimmed_is_same : (v : Tree) → Fits v → InRange v → Same (trimmed v) v
-trimmed_is_same v f r = (equal_exactly_same (trimmed v) v (fits-trimmed v f) (in_range-trimmed v r) f r).0 (canon-trimmed v)
+trimmed_is_same v f r =
+    (equal_exactly_same (trimmed v) v (fits-trimmed v f) (in_range-trimmed v r) f r).0 (canon-trimmed v)

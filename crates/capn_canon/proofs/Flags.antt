@@ -1,5 +1,6 @@
 -- The marks of words, one bit each.
-use Rattle.std.proofs.Common.{◌≡◌, ◌≢◌, ℕ, zero, suc, ◌+◌, ◌*◌, ◌/◌, ◌%◌, ◌<◌, ◌≤◌, List, [], ◌∷◌, ◌++◌, length, set, replicate, refl, ap, ap₂, sym, ◌∙◌, arith, Bool, false, ⊎_elim}
+use Rattle.std.proofs.Common.{◌≡◌, ◌≢◌, ℕ, zero, suc, ◌+◌, ◌*◌, ◌/◌, ◌%◌, ◌<◌, ◌≤◌, List, [], ◌∷◌, ◌++◌, length, set}
+use Rattle.std.proofs.Common.{replicate, refl, ap, ap₂, sym, ◌∙◌, arith, Bool, false, ⊎_elim}
 use Rattle.std.proofs.lemmas.List.{get_or-set_same, get_or-set_other}
 use Rattle.std.proofs.lemmas.Bool.{cases_eq}
 use Rattle.std.specs.Prelude.{slice_index, ◌==◌}
@@ -40,25 +41,31 @@ flags-append i (suc n) k ms =
     ∙ ap (λ (bs : List Bool). is_marked ms i ∷ bs) (flags-append (suc i) n k ms)
     ∙ ap (λ (j : ℕ). is_marked ms i ∷ (flags (suc i) n ms ++ flags j k ms)) (sym b)
 
-pub flags-clean : (i k : ℕ) (ms : List ℕ) → ((j : ℕ) → i ≤ j → is_marked ms j ≡ false) → flags i k ms ≡ replicate k false
+pub flags-clean : (i k : ℕ) (ms : List ℕ) → ((j : ℕ) → i ≤ j → is_marked ms j ≡ false)
+    → flags i k ms ≡ replicate k false
 unfolding flags
 flags-clean i zero ms h = refl
-flags-clean i (suc k) ms h = ap₂ (λ (b : Bool) (bs : List Bool). b ∷ bs) (h i (omega arith)) (flags-clean (suc i) k ms (λ j le. h j (omega arith)))
+flags-clean i (suc k) ms h =
+    ap₂ (λ (b : Bool) (bs : List Bool). b ∷ bs) (h i (omega arith))
+    (flags-clean (suc i) k ms (λ j le. h j (omega arith)))
 
-flags-apart : (i n at : ℕ) (ms ns : List ℕ) → at < i → ((k : ℕ) → k ≢ at → is_marked ns k ≡ is_marked ms k) → flags i n ns ≡ flags i n ms
+flags-apart : (i n at : ℕ) (ms ns : List ℕ) → at < i → ((k : ℕ) → k ≢ at → is_marked ns k ≡ is_marked ms k)
+    → flags i n ns ≡ flags i n ms
 unfolding flags
 flags-apart i zero at ms ns lt h = refl
 flags-apart i (suc n) at ms ns lt h =
     ap₂ (λ (b : Bool) (bs : List Bool). b ∷ bs) (h i (omega arith)) (flags-apart (suc i) n at ms ns (omega arith) h)
 
 -- one mark changes
-pub flags-set : (i n j : ℕ) (b : Bool) (ms ns : List ℕ) → is_marked ns (i + j) ≡ b → ((k : ℕ) → k ≢ i + j → is_marked ns k ≡ is_marked ms k)
+pub flags-set : (i n j : ℕ) (b : Bool) (ms ns : List ℕ) → is_marked ns (i + j) ≡ b
+    → ((k : ℕ) → k ≢ i + j → is_marked ns k ≡ is_marked ms k)
     → flags i n ns ≡ set (flags i n ms) j b
 unfolding flags
 flags-set i zero j b ms ns e h = refl
 flags-set i (suc n) zero b ms ns e h =
     let z : i + 0 ≡ i = omega arith in
-    ap₂ (λ (c : Bool) (bs : List Bool). c ∷ bs) (ap (λ (k : ℕ). is_marked ns k) (sym z) ∙ e) (flags-apart (suc i) n (i + 0) ms ns (omega arith) h)
+    ap₂ (λ (c : Bool) (bs : List Bool). c ∷ bs) (ap (λ (k : ℕ). is_marked ns k) (sym z)
+    ∙ e) (flags-apart (suc i) n (i + 0) ms ns (omega arith) h)
 flags-set i (suc n) (suc j) b ms ns e h =
     let z : suc i + j ≡ i + suc j = omega arith in
     ap₂ (λ (c : Bool) (bs : List Bool). c ∷ bs) (h i (omega arith))
@@ -72,13 +79,16 @@ module _ (ms : List ℕ) (at new : ℕ) (lt : at < 64 * length ms) where
   marked-apart : (i : ℕ) → i / 64 ≢ at / 64 → is_marked (set ms (at / 64) new) i ≡ is_marked ms i
   marked-apart i ne = ap (λ (m : ℕ). bit_at m (i % 64) == 1) (get_or-set_other ms (at / 64) (i / 64) new 0 ne)
 
-  marked-beside : (i : ℕ) → i / 64 ≡ at / 64 → bit_at new (i % 64) ≡ bit_at (slice_index ms (at / 64)) (i % 64) → is_marked (set ms (at / 64) new) i ≡ is_marked ms i
+  marked-beside : (i : ℕ) → i / 64 ≡ at / 64 → bit_at new (i % 64) ≡ bit_at (slice_index ms (at / 64)) (i % 64)
+      → is_marked (set ms (at / 64) new) i ≡ is_marked ms i
   marked-beside i e same =
-      ap (λ (m : ℕ). bit_at m (i % 64) == 1) (ap (slice_index (set ms (at / 64) new)) e ∙ get_or-set_same ms (at / 64) new 0 (omega arith))
+      ap (λ (m : ℕ). bit_at m (i % 64) == 1) (ap (slice_index (set ms (at / 64) new)) e
+      ∙ get_or-set_same ms (at / 64) new 0 (omega arith))
       ∙ ap (λ (b : ℕ). b == 1) same
       ∙ ap (λ (q : ℕ). bit_at (slice_index ms q) (i % 64) == 1) (sym e)
 
   pub marked-others : ((r : ℕ) → r < 64 → r ≢ at % 64 → bit_at new r ≡ bit_at (slice_index ms (at / 64)) r)
       → (i : ℕ) → i ≢ at → is_marked (set ms (at / 64) new) i ≡ is_marked ms i
   marked-others same i ne =
-      ⊎_elim (λ e. marked-beside i e (same (i % 64) (omega arith) (λ q. ne (omega (arith, e, q))))) (λ d. marked-apart i d) (cases_eq (i / 64) (at / 64))
+      ⊎_elim (λ e. marked-beside i e (same (i % 64) (omega arith) (λ q. ne (omega (arith, e, q)))))
+      (λ d. marked-apart i d) (cases_eq (i / 64) (at / 64))

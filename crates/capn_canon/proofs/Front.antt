@@ -1,7 +1,9 @@
 -- The first slots, behind which all are null.
-use Rattle.std.proofs.Common.{◌≡◌, ℕ, zero, suc, ◌+◌, ◌≤◌, ◌==◌, Bool, true, false, List, ◌++◌, length, set, Option, Some, refl, ap, sym, subst, ◌∙◌, arith, append-nil}
+use Rattle.std.proofs.Common.{◌≡◌, ℕ, zero, suc, ◌+◌, ◌≤◌, ◌==◌, Bool, true, false, List, ◌++◌, length, set, Option}
+use Rattle.std.proofs.Common.{Some, refl, ap, sym, subst, ◌∙◌, arith, append-nil}
 use Rattle.std.proofs.lemmas.Bool.Decides.{nat_tests}
-use Rattle.capn_value.specs.Tree.{Tree, nil, node, voids, bits, bytes, pairs, quads, octs, links, rows, cap, Trees, no_trees, tree, count, front, is_null}
+use Rattle.capn_value.specs.Tree.{Tree, nil, node, voids, bits, bytes, pairs, quads, octs, links, rows, cap, Trees}
+use Rattle.capn_value.specs.Tree.{no_trees, tree, count, front, is_null}
 use Rattle.capn_value.specs.Trim.{kept_behind, kept_slots}
 use Rattle.capn_value.specs.Sizes.{height, greatest}
 use Rattle.capn_walk.specs.At.{AreAt}
@@ -69,7 +71,8 @@ all-null (tree t ts) first p h =
     ∙ all-null ts (suc first) p k.1
 
 -- slots past the kept ones lay nothing
-pub front-laid : (n : ℕ) (ts : Trees) (first : ℕ) (p : List (Option ℕ)) → kept_slots ts ≤ n → laid_slots n (front n ts) first p ≡ laid_slots n ts first p
+pub front-laid : (n : ℕ) (ts : Trees) (first : ℕ) (p : List (Option ℕ)) → kept_slots ts ≤ n
+    → laid_slots n (front n ts) first p ≡ laid_slots n ts first p
 front-laid zero ts first p h = slots-none 0 first p ∙ sym (all-null ts first p h)
 front-laid (suc n) no_trees first p h = refl
 front-laid (suc n) (tree t ts) first p h =

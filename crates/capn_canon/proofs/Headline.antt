@@ -28,7 +28,8 @@ form_exactly_of v f r w g s =
     ((λ p. e.0 (sym p)), (λ p. sym (e.1 p)))
 
 -- the canonical bytes of a value that fits and is in range, under limits that hold its cost and height
-pub canonical_form : (v : Tree) (limits : Bounds) → Fits v → InRange v → cost (base limits.tariff) v ≤ limits.budget → height v ≤ limits.depth → IsCanonicalForm (canon v) limits v
+pub canonical_form : (v : Tree) (limits : Bounds) → Fits v → InRange v → cost (base limits.tariff) v ≤ limits.budget
+    → height v ≤ limits.depth → IsCanonicalForm (canon v) limits v
 canonical_form v limits f r c l = record {
   reads_back = record { denotes = read_bare v limits f r l c; same = trimmed_is_same v f r };
   pays = pays_its_cost v limits f r l;
@@ -37,7 +38,8 @@ canonical_form v limits f r c l = record {
 }
 
 -- the value at the root of a message that is accepted within limits
-module _ (m : List (List ℕ)) (limits : Bounds) (v : Tree) (is : IsMessage m) (small : limits.budget ≤ 2 ^ 28) (shallow : limits.depth ≤ 256) (h : IsValueOf m limits v) where
+module _ (m : List (List ℕ)) (limits : Bounds) (v : Tree) (is : IsMessage m) (small : limits.budget ≤ 2 ^ 28)
+    (shallow : limits.depth ≤ 256) (h : IsValueOf m limits v) where
   -- fits,
   pub denoted_fits : Fits v
   denoted_fits = fits-root m (base limits.tariff) limits.budget limits.depth v small shallow h.accepted.within h.is
@@ -47,8 +49,10 @@ module _ (m : List (List ℕ)) (limits : Bounds) (v : Tree) (is : IsMessage m) (
   denoted_in_range = in_range-at m is.each v root h.is
 
   -- costs at most what was paid, which is at most the budget, and is no higher than the depth limit;
-  pub denoted_cost : (cost (base limits.tariff) v ≤ paid m limits) × (paid m limits ≤ limits.budget) × (height v ≤ limits.depth)
-  denoted_cost = let c = root-costs m (base limits.tariff) limits.depth v h.is h.accepted.within.all in (c.0, h.accepted.within.paid, c.1)
+  pub denoted_cost : (cost (base limits.tariff) v ≤ paid m limits) × (paid m limits ≤ limits.budget)
+      × (height v ≤ limits.depth)
+  denoted_cost = let c = root-costs m (base limits.tariff) limits.depth v h.is h.accepted.within.all in
+      (c.0, h.accepted.within.paid, c.1)
 
   -- its canonical bytes are its canonical form under the same limits,
   pub denoted_form : IsCanonicalForm (canon v) limits v
@@ -69,10 +73,12 @@ module _ (m : List (List ℕ)) (limits : Bounds) (v : Tree) (is : IsMessage m) (
   pub form_of_any : (bs : List ℕ) (w : Tree) → bs ≡ canon v → IsValueOf m limits w → IsCanonicalForm bs limits w
   form_of_any bs w e k =
       let s = unique m v w root h.is k.is in
-      subst (λ (b : List ℕ). IsCanonicalForm b limits w) (sym e) (subst (λ (u : Tree). IsCanonicalForm (canon v) limits u) s denoted_form)
+      subst (λ (b : List ℕ). IsCanonicalForm b limits w) (sym e)
+      (subst (λ (u : Tree). IsCanonicalForm (canon v) limits u) s denoted_form)
 
 -- the value that bytes denote within limits
-pub denoted_has_form : (form : Form) (bs : List ℕ) (limits : Bounds) (v : Tree) → AreLimits limits.message_words limits.budget limits.depth →
+pub denoted_has_form : (form : Form) (bs : List ℕ) (limits : Bounds) (v : Tree)
+    → AreLimits limits.message_words limits.budget limits.depth →
     (h : Denotes form bs limits v) → HasCanonicalForm form bs limits v h
 denoted_has_form form bs limits v are h =
     let m = is_message form bs limits.message_words h.message are.few_words h.reads in

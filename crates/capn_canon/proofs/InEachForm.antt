@@ -1,5 +1,6 @@
 -- What is answered or refused for a message is so for bytes that are read as it.
-use Rattle.std.proofs.Common.{◌≡◌, ℕ, ◌+◌, ◌*◌, ◌^◌, ◌≤◌, List, [], ◌∷◌, length, take, ap, subst, ◌∙◌, arith, Result, Ok, Err, MatchResult, IfOk, IfErr, None}
+use Rattle.std.proofs.Common.{◌≡◌, ℕ, ◌+◌, ◌*◌, ◌^◌, ◌≤◌, List, [], ◌∷◌, length, take, ap, subst, ◌∙◌, arith, Result}
+use Rattle.std.proofs.Common.{Ok, Err, MatchResult, IfOk, IfErr, None}
 use Rattle.std.proofs.Math.Seq.{take-length}
 use Rattle.capn_words.specs.Words.{IsBare}
 use Rattle.capn_stream.specs.Frames.{Frames, StandsFirst}
@@ -24,18 +25,21 @@ pub bare_reads : (bs ws : List ℕ) (most : ℕ) → IsBare bs ws → Reads form
 bare_reads bs ws most h = (ws, h, λ i. ws ∷ [])
 
 -- a frame that stands first and takes all bytes is read
-pub frame_reads : (bs : List ℕ) (most : ℕ) (m : List (List ℕ)) (taken : ℕ) → StandsFirst bs most m taken → length bs ≤ taken → IsFramed bs most m
+pub frame_reads : (bs : List ℕ) (most : ℕ) (m : List (List ℕ)) (taken : ℕ) → StandsFirst bs most m taken
+    → length bs ≤ taken → IsFramed bs most m
 frame_reads bs most m taken h l =
     let e : taken ≡ length bs = let i = h.inside in omega arith in
     let all : take taken bs ≡ bs = ap (λ (n : ℕ). take n bs) e ∙ take-length bs in
     record { frame = subst (λ (xs : List ℕ). Frames xs m) all h.frame; room = h.room }
 
 -- what is answered for an unpacked frame is answered for its packed text,
-pub packed_answers : (bs text : List ℕ) (limits : Bounds) (out : List ℕ) (n : ℕ) → Unpacks bs limits.message_words text → Answers forms.Stream text limits out n → Answers forms.Packed bs limits out n
+pub packed_answers : (bs text : List ℕ) (limits : Bounds) (out : List ℕ) (n : ℕ) → Unpacks bs limits.message_words text
+    → Answers forms.Stream text limits out n → Answers forms.Packed bs limits out n
 packed_answers bs text limits out n u h = record { message = h.message; reads = (text, u, h.reads); answer = h.answer }
 
 -- and so is what is refused
-pub packed_refused : (bs text : List ℕ) (limits : Bounds) (r : Refusal) → Unpacks bs limits.message_words text → IsRefused forms.Stream text limits r → IsRefused forms.Packed bs limits r
+pub packed_refused : (bs text : List ℕ) (limits : Bounds) (r : Refusal) → Unpacks bs limits.message_words text
+    → IsRefused forms.Stream text limits r → IsRefused forms.Packed bs limits r
 packed_refused bs text limits (refusals.Walk s) u (m, i, h) = (m, (text, u, i), h)
 packed_refused bs text limits (refusals.Capability k) u (m, i, h) = (m, (text, u, i), h)
 packed_refused bs text limits refusals.Memory u h = tt
@@ -47,35 +51,48 @@ packed_refused bs text limits (refusals.Packed e) u h = absurd h
 -- ---- results of calls
 
 -- what a call answers for an unpacked frame is answered for its packed text,
-pub packed_found : {T : Type 0} (r : Result T Refusal) (bytes_of : T → List ℕ) (price_of : T → ℕ) (bs text : List ℕ) (limits : Bounds) → Unpacks bs limits.message_words text →
-    IfOk r (λ c. Answers forms.Stream text limits (bytes_of c) (price_of c)) → IfOk r (λ c. Answers forms.Packed bs limits (bytes_of c) (price_of c))
+pub packed_found : {T : Type 0} (r : Result T Refusal) (bytes_of : T → List ℕ) (price_of : T
+    → ℕ) (bs text : List ℕ) (limits : Bounds) → Unpacks bs limits.message_words text →
+    IfOk r (λ c. Answers forms.Stream text limits (bytes_of c) (price_of c))
+    → IfOk r (λ c. Answers forms.Packed bs limits (bytes_of c) (price_of c))
 packed_found (Ok c) bytes_of price_of bs text limits u h = packed_answers bs text limits (bytes_of c) (price_of c) u h
 packed_found (Err e) bytes_of price_of bs text limits u h = tt
 
 -- and so is what it refuses
-pub packed_err : {T : Type 0} (r : Result T Refusal) (bs text : List ℕ) (limits : Bounds) → Unpacks bs limits.message_words text →
+pub packed_err : {T : Type 0} (r : Result T Refusal) (bs text : List ℕ) (limits : Bounds)
+    → Unpacks bs limits.message_words text →
     IfErr r (λ e. IsRefused forms.Stream text limits e) → IfErr r (λ e. IsRefused forms.Packed bs limits e)
 packed_err (Ok c) bs text limits u h = tt
 packed_err (Err e) bs text limits u h = packed_refused bs text limits e u h
 
--- a call that answers and refuses so answers the canonical bytes of any value without capabilities that the bytes denote
-pub found_only : {T : Type 0} (r : Result T Refusal) (bytes_of : T → List ℕ) (price_of : T → ℕ) (form : Form) (bs : List ℕ) (limits : Bounds) →
+-- a call that answers and refuses so answers the canonical bytes of any value without capabilities that the bytes
+-- denote
+pub found_only : {T : Type 0} (r : Result T Refusal) (bytes_of : T → List ℕ) (price_of : T
+    → ℕ) (form : Form) (bs : List ℕ) (limits : Bounds) →
     IfOk r (λ c. Answers form bs limits (bytes_of c) (price_of c)) → IfErr r (λ e. IsRefused form bs limits e) →
-    (v : Tree) → Denotes form bs limits v → first_cap v ≡ None → MatchResult r (λ c. bytes_of c ≡ canon v) (λ e. e ≡ refusals.Memory)
-found_only (Ok c) bytes_of price_of form bs limits h g v d n = answers_only form bs limits (bytes_of c) (price_of c) h v d
+    (v : Tree) → Denotes form bs limits v → first_cap v ≡ None
+    → MatchResult r (λ c. bytes_of c ≡ canon v) (λ e. e ≡ refusals.Memory)
+found_only (Ok c) bytes_of price_of form bs limits h g v d n =
+    answers_only form bs limits (bytes_of c) (price_of c) h v d
 found_only (Err e) bytes_of price_of form bs limits h g v d n = not_refused form bs limits v e d n g
 
 -- its answer is at most 8 bytes for each word paid and 8 more,
-pub found_short : {T : Type 0} (r : Result T Refusal) (bytes_of : T → List ℕ) (price_of : T → ℕ) (form : Form) (bs : List ℕ) (limits : Bounds) →
+pub found_short : {T : Type 0} (r : Result T Refusal) (bytes_of : T → List ℕ) (price_of : T
+    → ℕ) (form : Form) (bs : List ℕ) (limits : Bounds) →
     limits.message_words ≤ 2 ^ 28 → limits.budget ≤ 2 ^ 28 → limits.depth ≤ 256 →
-    IfOk r (λ c. Answers form bs limits (bytes_of c) (price_of c)) → IfOk r (λ c. length (bytes_of c) ≤ 8 * (price_of c + 1))
-found_short (Ok c) bytes_of price_of form bs limits few small shallow h = answers_length form bs limits (bytes_of c) (price_of c) h few small shallow
+    IfOk r (λ c. Answers form bs limits (bytes_of c) (price_of c))
+    → IfOk r (λ c. length (bytes_of c) ≤ 8 * (price_of c + 1))
+found_short (Ok c) bytes_of price_of form bs limits few small shallow h =
+    answers_length form bs limits (bytes_of c) (price_of c) h few small shallow
 found_short (Err e) bytes_of price_of form bs limits few small shallow h = tt
 
 -- and has all that a canonical form has
-pub found_form : {T : Type 0} (r : Result T Refusal) (bytes_of : T → List ℕ) (price_of : T → ℕ) (form : Form) (bs : List ℕ) (limits : Bounds) (Q : T → Tree → Type 0) →
+pub found_form : {T : Type 0} (r : Result T Refusal) (bytes_of : T → List ℕ) (price_of : T
+    → ℕ) (form : Form) (bs : List ℕ) (limits : Bounds) (Q : T → Tree → Type 0) →
     ((c : T) (v : Tree) → IsCanonicalForm (bytes_of c) limits v → Q c v) →
     limits.message_words ≤ 2 ^ 28 → limits.budget ≤ 2 ^ 28 → limits.depth ≤ 256 →
-    IfOk r (λ c. Answers form bs limits (bytes_of c) (price_of c)) → IfOk r (λ c. (v : Tree) → Denotes form bs limits v → Q c v)
-found_form (Ok c) bytes_of price_of form bs limits Q part few small shallow h = λ v d. part c v (answers_form form bs limits (bytes_of c) (price_of c) h few small shallow v d)
+    IfOk r (λ c. Answers form bs limits (bytes_of c) (price_of c))
+    → IfOk r (λ c. (v : Tree) → Denotes form bs limits v → Q c v)
+found_form (Ok c) bytes_of price_of form bs limits Q part few small shallow h =
+    λ v d. part c v (answers_form form bs limits (bytes_of c) (price_of c) h few small shallow v d)
 found_form (Err e) bytes_of price_of form bs limits Q part few small shallow h = tt

@@ -1,5 +1,7 @@
 -- How a buffer of words and holes grows to the layout of rows.
-use Rattle.std.proofs.Common.{◌≡◌, ℕ, zero, suc, ◌+◌, ◌*◌, ◌^◌, ◌<◌, ◌≤◌, List, [], ◌∷◌, ◌++◌, length, take, set, replicate, refl, ap, ap₂, sym, subst, ◌∙◌, arith, append_assoc, append-nil, length-append, Option, Some, None}
+use Rattle.std.proofs.Common.{◌≡◌, ℕ, zero, suc, ◌+◌, ◌*◌, ◌^◌, ◌<◌, ◌≤◌, List, [], ◌∷◌, ◌++◌, length, take, set}
+use Rattle.std.proofs.Common.{replicate, refl, ap, ap₂, sym, subst, ◌∙◌, arith, append_assoc, append-nil, length-append}
+use Rattle.std.proofs.Common.{Option, Some, None}
 use Rattle.std.specs.Prelude.{pos}
 use Rattle.std.proofs.lemmas.List.{length-take-le, length-set, length-replicate}
 use Rattle.capn_words.specs.Fields.{word_of}
@@ -7,7 +9,8 @@ use Rattle.capn_words.specs.declared.pointer.Pointer.TheVariants.{Node}
 use Rattle.capn_value.specs.Tree.{Tree, rows, Trees, no_trees, tree, Bodies, no_bodies, body, count_rows}
 use Rattle.capn_value.specs.Trim.{kept_words_of_rows, kept_slots_of_rows}
 use Rattle.capn_canon.specs.Patch.{whole, IsHole}
-use Rattle.capn_canon.specs.Layout.{own, size, sizes, sizes_in_rows, row_size, point, points, row_contents, lays, lays_in_rows}
+use Rattle.capn_canon.specs.Layout.{own, size, sizes, sizes_in_rows, row_size, point, points, row_contents, lays}
+use Rattle.capn_canon.specs.Layout.{lays_in_rows}
 use Rattle.capn_canon.specs.Laying.{laid, laid_slots, laid_rows, row_holes, AreRowsOver, AreHoles, AreRowHoles}
 use Rattle.capn_canon.specs.Sound.{AreWide, Sound, Sounds, SoundRows}
 use Rattle.capn_canon.proofs.LayLengths.{length-cut, length-lays}
@@ -16,26 +19,31 @@ use Rattle.capn_canon.proofs.Laid.{length-laid, laid-is, slots-none, slots-past,
 
 -- ---- slots that are laid leave other holes as they are
 
-pub length-slots : (n : ℕ) (ts : Trees) (first : ℕ) (p : List (Option ℕ)) → Sounds ts → length (laid_slots n ts first p) ≡ length p + sizes ts
+pub length-slots : (n : ℕ) (ts : Trees) (first : ℕ) (p : List (Option ℕ)) → Sounds ts
+    → length (laid_slots n ts first p) ≡ length p + sizes ts
 length-slots n no_trees first p h = ap length (slots-none n first p) ∙ omega arith
 length-slots zero (tree t ts) first p h =
-    ap length (slots-past t ts first p) ∙ length-slots zero ts (suc first) (laid t p) h.1 ∙ (let l = length-laid t p h.0 in omega arith)
+    ap length (slots-past t ts first p) ∙ length-slots zero ts (suc first) (laid t p) h.1
+    ∙ (let l = length-laid t p h.0 in omega arith)
 length-slots (suc n) (tree t ts) first p h =
     let q = set p first (Some (point t first (length p))) in
     ap length (slots-next n t ts first p) ∙ length-slots n ts (suc first) (laid t q) h.1
     ∙ (let l = length-laid t q h.0 in let k = length-set p first (Some (point t first (length p))) in omega arith)
 
-holes-beside : (t : Tree) (p : List (Option ℕ)) (at f n : ℕ) (x : Option ℕ) → at < f → AreHoles p f n → AreHoles (laid t (set p at x)) f n
+holes-beside : (t : Tree) (p : List (Option ℕ)) (at f n : ℕ) (x : Option ℕ) → at < f → AreHoles p f n
+    → AreHoles (laid t (set p at x)) f n
 holes-beside t p at f n x lt h =
     holes-past t (set p at x) f n (λ k l. hole-set p at (f + k) x (omega arith) (h k l))
 
-holes-zero : (ts : Trees) (first f k : ℕ) (p : List (Option ℕ)) → AreHoles p f k → AreHoles (laid_slots 0 ts first p) f k
+holes-zero : (ts : Trees) (first f k : ℕ) (p : List (Option ℕ)) → AreHoles p f k
+    → AreHoles (laid_slots 0 ts first p) f k
 holes-zero no_trees first f k p h = subst (λ (q : List (Option ℕ)). AreHoles q f k) (sym (slots-none 0 first p)) h
 holes-zero (tree t ts) first f k p h =
     subst (λ (q : List (Option ℕ)). AreHoles q f k) (sym (slots-past t ts first p))
     (holes-zero ts (suc first) f k (laid t p) (holes-past t p f k h))
 
-pub holes-slots : (n : ℕ) (ts : Trees) (first f k : ℕ) (p : List (Option ℕ)) → first + n ≤ f → AreHoles p f k → AreHoles (laid_slots n ts first p) f k
+pub holes-slots : (n : ℕ) (ts : Trees) (first f k : ℕ) (p : List (Option ℕ)) → first + n ≤ f → AreHoles p f k
+    → AreHoles (laid_slots n ts first p) f k
 holes-slots n no_trees first f k p le h = subst (λ (q : List (Option ℕ)). AreHoles q f k) (sym (slots-none n first p)) h
 holes-slots zero (tree t ts) first f k p le h =
     subst (λ (q : List (Option ℕ)). AreHoles q f k) (sym (slots-past t ts first p))
@@ -48,16 +56,20 @@ holes-slots (suc n) (tree t ts) first f k p le h =
 pub row-holes-slots : (a b : ℕ) (bs : Bodies) (at n : ℕ) (ts : Trees) (first : ℕ) (p : List (Option ℕ)) → first + n ≤ at
     → AreRowHoles a b bs at p → AreRowHoles a b bs at (laid_slots n ts first p)
 row-holes-slots a b no_bodies at n ts first p le h = tt
-row-holes-slots a b (body ws ss bs) at n ts first p le h =
-    (holes-slots n ts first (at + a) b p (omega arith) h.0, row-holes-slots a b bs (at + a + b) n ts first p (omega arith) h.1)
+row-holes-slots a b (body ws ss bs) at n ts first p le h = (
+  holes-slots n ts first (at + a) b p (omega arith) h.0,
+  row-holes-slots a b bs (at + a + b) n ts first p (omega arith) h.1,
+)
 
 -- ---- rows with holes
 
 pub holes-over : (a b : ℕ) (bs : Bodies) → AreRowsOver a b bs (row_holes a b bs)
 holes-over a b no_bodies = refl
-holes-over a b (body ws ss bs) = (replicate b None, row_holes a b bs, refl, length-replicate {A = Option ℕ} b None, holes-over a b bs)
+holes-over a b (body ws ss bs) =
+    (replicate b None, row_holes a b bs, refl, length-replicate {A = Option ℕ} b None, holes-over a b bs)
 
-pub length-over : (a b : ℕ) (bs : Bodies) (cs : List (Option ℕ)) → AreWide a b bs → AreRowsOver a b bs cs → length cs ≡ count_rows bs * (a + b)
+pub length-over : (a b : ℕ) (bs : Bodies) (cs : List (Option ℕ)) → AreWide a b bs → AreRowsOver a b bs cs
+    → length cs ≡ count_rows bs * (a + b)
 length-over a b no_bodies cs h o = ap length o ∙ omega arith
 length-over a b (body ws ss bs) cs h o =
     let x = length-take-le a ws h.0 in
@@ -72,14 +84,17 @@ length-over a b (body ws ss bs) cs h o =
 -- a row in front of the others
 row-front : (q w h rh r : List (Option ℕ)) → q ++ ((w ++ (h ++ rh)) ++ r) ≡ (q ++ w) ++ (h ++ (rh ++ r))
 row-front q w h rh r =
-    ap (λ (x : List (Option ℕ)). q ++ x) (append_assoc w (h ++ rh) r ∙ ap (λ (x : List (Option ℕ)). w ++ x) (append_assoc h rh r))
+    ap (λ (x : List (Option ℕ)). q ++ x) (append_assoc w (h ++ rh) r
+    ∙ ap (λ (x : List (Option ℕ)). w ++ x) (append_assoc h rh r))
     ∙ sym (append_assoc q w (h ++ (rh ++ r)))
 
 holes-between : (q r : List (Option ℕ)) (n m : ℕ) → length q ≡ m → AreHoles (q ++ (replicate n None ++ r)) m n
 holes-between q r n m l k lt =
-    subst (λ (j : ℕ). IsHole (q ++ (replicate n None ++ r)) (j + k)) l (hole-behind q (replicate n None ++ r) k (hole-append (replicate n None) r k (hole-each n k lt)))
+    subst (λ (j : ℕ). IsHole (q ++ (replicate n None ++ r)) (j + k)) l
+    (hole-behind q (replicate n None ++ r) k (hole-append (replicate n None) r k (hole-each n k lt)))
 
-pub row-holes-left : (a b : ℕ) (bs : Bodies) (q r : List (Option ℕ)) (m : ℕ) → AreWide a b bs → length q ≡ m → AreRowHoles a b bs m (q ++ (row_holes a b bs ++ r))
+pub row-holes-left : (a b : ℕ) (bs : Bodies) (q r : List (Option ℕ)) (m : ℕ) → AreWide a b bs → length q ≡ m
+    → AreRowHoles a b bs m (q ++ (row_holes a b bs ++ r))
 row-holes-left a b no_bodies q r m h l = tt
 row-holes-left a b (body ws ss bs) q r m h l =
     let w = whole (take a ws) in
@@ -90,7 +105,8 @@ row-holes-left a b (body ws ss bs) q r m h l =
     let lb = length-replicate {A = Option ℕ} b None in
     let q2 = (q ++ w) ++ replicate b None in
     let l2 : length q2 ≡ m + a + b = length-append (q ++ w) (replicate b None) ∙ omega arith in
-    let e2 : (q ++ w) ++ (replicate b None ++ (rh ++ r)) ≡ q2 ++ (rh ++ r) = sym (append_assoc (q ++ w) (replicate b None) (rh ++ r)) in
+    let e2 : (q ++ w) ++ (replicate b None ++ (rh ++ r)) ≡ q2 ++ (rh ++ r) =
+    sym (append_assoc (q ++ w) (replicate b None) (rh ++ r)) in
     let ih = row-holes-left a b bs q2 r (m + a + b) h.2 l2 in (
       subst (λ (p : List (Option ℕ)). AreHoles p (m + a) b) (sym f) (holes-between (q ++ w) (rh ++ r) b (m + a) l1),
       subst (λ (p : List (Option ℕ)). AreRowHoles a b bs (m + a + b) p) (sym (f ∙ e2)) ih,
@@ -113,15 +129,18 @@ whole-three q xs ys zs r =
     append_assoc (q ++ whole xs) (whole ys) (whole zs ++ r)
     ∙ append_assoc q (whole xs) (whole ys ++ (whole zs ++ r))
     ∙ ap (λ (x : List (Option ℕ)). q ++ x)
-    (ap (λ (x : List (Option ℕ)). whole xs ++ x) (sym (append_assoc (whole ys) (whole zs) r) ∙ ap (λ (x : List (Option ℕ)). x ++ r) (sym (whole-append ys zs)))
+    (ap (λ (x : List (Option ℕ)). whole xs ++ x) (sym (append_assoc (whole ys) (whole zs) r)
+    ∙ ap (λ (x : List (Option ℕ)). x ++ r) (sym (whole-append ys zs)))
     ∙ sym (append_assoc (whole xs) (whole (ys ++ zs)) r)
     ∙ ap (λ (x : List (Option ℕ)). x ++ r) (sym (whole-append xs (ys ++ zs))))
 
 -- the rows have words or holes for their slots, and stand behind q
-pub laid-rows-is : (a b : ℕ) (bs : Bodies) (q cs r : List (Option ℕ)) (m to : ℕ) → SoundRows bs → AreWide a b bs → AreRowsOver a b bs cs → length q ≡ m → length q + length cs + length r ≡ to
+pub laid-rows-is : (a b : ℕ) (bs : Bodies) (q cs r : List (Option ℕ)) (m to : ℕ) → SoundRows bs → AreWide a b bs
+    → AreRowsOver a b bs cs → length q ≡ m → length q + length cs + length r ≡ to
     → laid_rows a b bs m (q ++ (cs ++ r)) ≡ q ++ (whole (row_contents a b bs m to) ++ (r ++ whole (lays_in_rows bs to)))
 laid-rows-is a b no_bodies q cs r m to s h o em et =
-    rows-none a b m (q ++ (cs ++ r)) ∙ ap (λ (x : List (Option ℕ)). q ++ (x ++ r)) o ∙ ap (λ (x : List (Option ℕ)). q ++ x) (sym (append-nil r))
+    rows-none a b m (q ++ (cs ++ r)) ∙ ap (λ (x : List (Option ℕ)). q ++ (x ++ r)) o
+    ∙ ap (λ (x : List (Option ℕ)). q ++ x) (sym (append-nil r))
 laid-rows-is a b (body ws ss bs) q cs r m to s h o em et =
     let w = take a ws in
     let hs = o.0 in
@@ -147,27 +166,33 @@ laid-rows-is a b (body ws ss bs) q cs r m to s h o em et =
     let et2 : length q2 + length rh + length r2 ≡ to + sizes ss = omega arith in
     let slots = laid-slots-is b ss q1 hs r1 (m + a) to s.0 lb h.1 l1 et1 in
     let moved : q1 ++ (whole ps ++ (r1 ++ whole (lays ss to))) ≡ q2 ++ (rh ++ r2) =
-    sym (append_assoc q1 (whole ps) (r1 ++ whole (lays ss to))) ∙ ap (λ (x : List (Option ℕ)). q2 ++ x) (append_assoc rh r (whole (lays ss to))) in
+    sym (append_assoc q1 (whole ps) (r1 ++ whole (lays ss to)))
+    ∙ ap (λ (x : List (Option ℕ)). q2 ++ x) (append_assoc rh r (whole (lays ss to))) in
     let ih = laid-rows-is a b bs q2 rh r2 (m + a + b) (to + sizes ss) s.1 h.2 o.4 l2 et2 in
     rows-next a b ws ss bs m (q ++ (cs ++ r))
     ∙ ap (λ (x : List (Option ℕ)). laid_rows a b bs (m + a + b) (laid_slots b ss (m + a) (q ++ (x ++ r)))) o.2
-    ∙ ap (λ (x : List (Option ℕ)). laid_rows a b bs (m + a + b) (laid_slots b ss (m + a) x)) (row-front q (whole w) hs rh r)
+    ∙ ap (λ (x : List (Option ℕ)). laid_rows a b bs (m + a + b) (laid_slots b ss (m + a) x))
+    (row-front q (whole w) hs rh r)
     ∙ ap (laid_rows a b bs (m + a + b)) (slots ∙ moved)
     ∙ ih
-    ∙ whole-three q w ps (row_contents a b bs (m + a + b) (to + sizes ss)) (r2 ++ whole (lays_in_rows bs (to + sizes ss)))
+    ∙ whole-three q w ps (row_contents a b bs (m + a + b) (to + sizes ss))
+    (r2 ++ whole (lays_in_rows bs (to + sizes ss)))
     ∙ ap (λ (x : List (Option ℕ)). q ++ (whole (row_contents a b (body ws ss bs) m to) ++ x))
     (append_assoc r (whole (lays ss to)) (whole (lays_in_rows bs (to + sizes ss)))
     ∙ ap (λ (x : List (Option ℕ)). r ++ x) (sym (whole-append (lays ss to) (lays_in_rows bs (to + sizes ss)))))
 
 -- ---- the tag and the rows are appended, so the slots can be laid
 
-module _ (bs : Bodies) (p p1 : List (Option ℕ)) (n a b start : ℕ) (sound : Sound (rows bs)) (room : length p + size (rows bs) ≤ 2 ^ 29)
-    (en : n ≡ count_rows bs) (ea : a ≡ kept_words_of_rows bs) (eb : b ≡ kept_slots_of_rows bs) (es : start ≡ length p + 1) where
+module _ (bs : Bodies) (p p1 : List (Option ℕ)) (n a b start : ℕ) (sound : Sound (rows bs))
+    (room : length p + size (rows bs) ≤ 2 ^ 29)
+    (en : n ≡ count_rows bs) (ea : a ≡ kept_words_of_rows bs) (eb : b ≡ kept_slots_of_rows bs)
+    (es : start ≡ length p + 1) where
   abbrev tag-word : ℕ
   tag-word = word_of (Node (pos (count_rows bs)) (kept_words_of_rows bs) (kept_slots_of_rows bs))
 
   wide : AreWide a b bs
-  wide = subst (λ (x : ℕ). AreWide x b bs) (sym ea) (subst (λ (x : ℕ). AreWide (kept_words_of_rows bs) x bs) (sym eb) sound.4)
+  wide = subst (λ (x : ℕ). AreWide x b bs) (sym ea)
+      (subst (λ (x : ℕ). AreWide (kept_words_of_rows bs) x bs) (sym eb) sound.4)
 
   abbrev tagged : List (Option ℕ)
   tagged = p ++ Some (word_of (Node (pos n) a b)) ∷ []
@@ -180,7 +205,8 @@ module _ (bs : Bodies) (p p1 : List (Option ℕ)) (n a b start : ℕ) (sound : S
 
   pub begun-holes : p1 ≡ tagged ++ row_holes a b bs → AreRowHoles a b bs start p1
   begun-holes e1 =
-      subst (λ (x : List (Option ℕ)). AreRowHoles a b bs start x) (ap (λ (x : List (Option ℕ)). tagged ++ x) (append-nil (row_holes a b bs)) ∙ sym e1)
+      subst (λ (x : List (Option ℕ)). AreRowHoles a b bs start x)
+      (ap (λ (x : List (Option ℕ)). tagged ++ x) (append-nil (row_holes a b bs)) ∙ sym e1)
       (row-holes-left a b bs tagged [] start wide tagged-length)
 
   module _ (cs : List (Option ℕ)) (over : AreRowsOver a b bs cs) (e1 : p1 ≡ tagged ++ cs) where
@@ -206,13 +232,25 @@ module _ (bs : Bodies) (p p1 : List (Option ℕ)) (n a b start : ℕ) (sound : S
         let is = laid-rows-is a b bs tagged cs [] start to sound.5 wide over tagged-length (omega arith) in
         ap (laid_rows a b bs start) (e1 ∙ ap (λ (x : List (Option ℕ)). tagged ++ x) (sym (append-nil cs)))
         ∙ is
-        ∙ append_assoc p (Some (word_of (Node (pos n) a b)) ∷ []) (whole (row_contents a b bs start to) ++ whole (lays_in_rows bs to))
-        ∙ ap (λ (x : ℕ). p ++ (Some (word_of (Node (pos x) a b)) ∷ (whole (row_contents a b bs start to) ++ whole (lays_in_rows bs to)))) en
-        ∙ ap (λ (x : ℕ). p ++ (Some (word_of (Node (pos (count_rows bs)) x b)) ∷ (whole (row_contents x b bs start to) ++ whole (lays_in_rows bs to)))) ea
-        ∙ ap (λ (x : ℕ). p ++ (Some (word_of (Node (pos (count_rows bs)) (kept_words_of_rows bs) x)) ∷ (whole (row_contents (kept_words_of_rows bs) x bs start to) ++ whole (lays_in_rows bs to)))) eb
-        ∙ ap₂ (λ (x y : ℕ). p ++ (Some tag-word ∷ (whole (row_contents (kept_words_of_rows bs) (kept_slots_of_rows bs) bs x y) ++ whole (lays_in_rows bs y)))) (sym t1) t2
+        ∙ append_assoc p (Some (word_of (Node (pos n) a b)) ∷ [])
+        (whole (row_contents a b bs start to) ++ whole (lays_in_rows bs to))
+        ∙ ap (λ (x : ℕ). p
+        ++ (Some (word_of (Node (pos x) a b)) ∷
+        (whole (row_contents a b bs start to) ++ whole (lays_in_rows bs to)))) en
+        ∙ ap (λ (x : ℕ). p
+        ++ (Some (word_of (Node (pos (count_rows bs)) x b)) ∷
+        (whole (row_contents x b bs start to) ++ whole (lays_in_rows bs to)))) ea
+        ∙ ap (λ (x : ℕ). p
+        ++ (Some (word_of (Node (pos (count_rows bs)) (kept_words_of_rows bs) x)) ∷
+        (whole (row_contents (kept_words_of_rows bs) x bs start to) ++ whole (lays_in_rows bs to)))) eb
+        ∙ ap₂ (λ (x y : ℕ). p
+        ++ (Some tag-word ∷
+        (whole (row_contents (kept_words_of_rows bs) (kept_slots_of_rows bs) bs x y) ++ whole (lays_in_rows bs y))))
+        (sym t1) t2
         ∙ ap (λ (x : List (Option ℕ)). p ++ (Some tag-word ∷ x))
-        (sym (whole-append (row_contents (kept_words_of_rows bs) (kept_slots_of_rows bs) bs (suc at) (at + own (rows bs))) (lays_in_rows bs (at + own (rows bs)))))
+        (sym (whole-append
+        (row_contents (kept_words_of_rows bs) (kept_slots_of_rows bs) bs (suc at) (at + own (rows bs)))
+        (lays_in_rows bs (at + own (rows bs)))))
         ∙ sym (laid-is (rows bs) p)
 
 -- ---- one row is laid
@@ -222,6 +260,7 @@ one-row-less at a b n most h =
     let m : suc n * (a + b) ≡ a + b + n * (a + b) = omega arith in
     omega arith
 
-pub one-row-laid : (b : ℕ) (ss : Trees) (bs : Bodies) (first : ℕ) (p : List (Option ℕ)) → Sounds ss → length p + (sizes ss + sizes_in_rows bs) ≤ 2 ^ 29
+pub one-row-laid : (b : ℕ) (ss : Trees) (bs : Bodies) (first : ℕ) (p : List (Option ℕ)) → Sounds ss
+    → length p + (sizes ss + sizes_in_rows bs) ≤ 2 ^ 29
     → length (laid_slots b ss first p) + sizes_in_rows bs ≤ 2 ^ 29
 one-row-laid b ss bs first p so ro = let l = length-slots b ss first p so in omega arith

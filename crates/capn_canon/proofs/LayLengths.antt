@@ -1,10 +1,13 @@
 -- How many words a layout has.
-use Rattle.std.proofs.Common.{◌≡◌, ℕ, zero, suc, ◌+◌, ◌*◌, ◌≤◌, List, ◌++◌, length, take, drop, map, refl, ap, ◌∙◌, arith, length-append}
+use Rattle.std.proofs.Common.{◌≡◌, ℕ, zero, suc, ◌+◌, ◌*◌, ◌≤◌, List, ◌++◌, length, take, drop, map, refl, ap, ◌∙◌}
+use Rattle.std.proofs.Common.{arith, length-append}
 use Rattle.std.specs.Int.{from_bool}
 use Rattle.std.proofs.lemmas.List.{length-take-le}
-use Rattle.capn_value.specs.Tree.{Tree, nil, node, voids, bits, bytes, pairs, quads, octs, links, rows, cap, Trees, no_trees, tree, Bodies, no_bodies, body, count, count_rows}
+use Rattle.capn_value.specs.Tree.{Tree, nil, node, voids, bits, bytes, pairs, quads, octs, links, rows, cap, Trees}
+use Rattle.capn_value.specs.Tree.{no_trees, tree, Bodies, no_bodies, body, count, count_rows}
 use Rattle.capn_value.specs.Trim.{kept_words, kept_slots, kept_words_of_rows, kept_slots_of_rows}
-use Rattle.capn_canon.specs.Layout.{own, size, sizes, sizes_in_rows, points, row_contents, lay, lays, lays_in_rows, packed}
+use Rattle.capn_canon.specs.Layout.{own, size, sizes, sizes_in_rows, points, row_contents, lay, lays, lays_in_rows}
+use Rattle.capn_canon.specs.Layout.{packed}
 use Rattle.capn_canon.specs.Sound.{AreWide, Sound, Sounds, SoundRows}
 use Rattle.capn_canon.proofs.KeptLengths.{kept_words-le, kept_slots-le}
 
@@ -19,13 +22,15 @@ length-points (tree t ts) from to = ap suc (length-points ts (suc from) (to + si
 pub length-cut : (k : ℕ) (ts : Trees) (from to : ℕ) → k ≤ count ts → length (take k (points ts from to)) ≡ k
 length-cut k ts from to h = length-take-le k (points ts from to) (let e = length-points ts from to in omega arith)
 
-pub length-row_contents : (a b : ℕ) (bs : Bodies) (from to : ℕ) → AreWide a b bs → length (row_contents a b bs from to) ≡ count_rows bs * (a + b)
+pub length-row_contents : (a b : ℕ) (bs : Bodies) (from to : ℕ) → AreWide a b bs
+    → length (row_contents a b bs from to) ≡ count_rows bs * (a + b)
 length-row_contents a b no_bodies from to h = omega arith
 length-row_contents a b (body ws ss bs) from to h =
     let x = length-take-le a ws h.0 in
     let y = length-cut b ss (from + a) to h.1 in
     let z = length-row_contents a b bs (from + a + b) (to + sizes ss) h.2 in
-    let u = length-append (take a ws) (take b (points ss (from + a) to) ++ row_contents a b bs (from + a + b) (to + sizes ss)) in
+    let u = length-append (take a ws)
+    (take b (points ss (from + a) to) ++ row_contents a b bs (from + a + b) (to + sizes ss)) in
     let v = length-append (take b (points ss (from + a) to)) (row_contents a b bs (from + a + b) (to + sizes ss)) in
     u ∙ omega arith
 
@@ -37,8 +42,11 @@ mutual
       let x = length-take-le (kept_words ws) ws (kept_words-le ws) in
       let y = length-cut (kept_slots ss) ss (at + kept_words ws) (at + own (node ws ss)) (kept_slots-le ss) in
       let z = length-lays ss (at + own (node ws ss)) h.2 in
-      let u = length-append (take (kept_words ws) ws) (take (kept_slots ss) (points ss (at + kept_words ws) (at + own (node ws ss))) ++ lays ss (at + own (node ws ss))) in
-      let v = length-append (take (kept_slots ss) (points ss (at + kept_words ws) (at + own (node ws ss)))) (lays ss (at + own (node ws ss))) in
+      let u = length-append (take (kept_words ws) ws)
+      (take (kept_slots ss) (points ss (at + kept_words ws) (at + own (node ws ss)))
+      ++ lays ss (at + own (node ws ss))) in
+      let v = length-append (take (kept_slots ss) (points ss (at + kept_words ws) (at + own (node ws ss))))
+      (lays ss (at + own (node ws ss))) in
       u ∙ omega arith
   length-lay (voids n) at h = refl
   length-lay (octs xs) at h = refl
@@ -52,9 +60,12 @@ mutual
       let z = length-append (points ts at (at + count ts)) (lays ts (at + count ts)) in
       z ∙ omega arith
   length-lay (rows bs) at h =
-      let x = length-row_contents (kept_words_of_rows bs) (kept_slots_of_rows bs) bs (suc at) (at + own (rows bs)) h.4 in
+      let x = length-row_contents (kept_words_of_rows bs) (kept_slots_of_rows bs) bs (suc at) (at + own (rows bs))
+      h.4 in
       let y = length-lays_in_rows bs (at + own (rows bs)) h.5 in
-      let z = length-append (row_contents (kept_words_of_rows bs) (kept_slots_of_rows bs) bs (suc at) (at + own (rows bs))) (lays_in_rows bs (at + own (rows bs))) in
+      let z = length-append
+      (row_contents (kept_words_of_rows bs) (kept_slots_of_rows bs) bs (suc at) (at + own (rows bs)))
+      (lays_in_rows bs (at + own (rows bs))) in
       omega arith
 
   pub length-lays : (ts : Trees) (at : ℕ) → Sounds ts → length (lays ts at) ≡ sizes ts

@@ -1,5 +1,7 @@
 -- A slot is null exactly where its word is zero.
-use Rattle.std.proofs.Common.{◌≡◌, ◌≢◌, ◌⊎◌, inl, inr, ℕ, suc, ◌+◌, ◌*◌, ◌%◌, ◌^◌, ◌≤◌, ◌<◌, ◌==◌, nat_lt, true, false, List, ◌∷◌, length, take, drop, slice_index, Result, Ok, Err, refl, ap, ap₂, sym, subst, ◌∙◌, arith}
+use Rattle.std.proofs.Common.{◌≡◌, ◌≢◌, ◌⊎◌, inl, inr, ℕ, suc, ◌+◌, ◌*◌, ◌%◌, ◌^◌, ◌≤◌, ◌<◌, ◌==◌, nat_lt, true, false}
+use Rattle.std.proofs.Common.{List, ◌∷◌, length, take, drop, slice_index, Result, Ok, Err, refl, ap, ap₂, sym, subst}
+use Rattle.std.proofs.Common.{◌∙◌, arith}
 use Rattle.std.specs.Bool.{⊤}
 use Rattle.std.proofs.Math.Seq.{drop-cons}
 use Rattle.std.proofs.lemmas.Bool.Decides.{nat_tests}
@@ -11,12 +13,14 @@ use Rattle.capn_words.specs.declared.pointer.Width.{Width}
 use Rattle.capn_words.specs.declared.pointer.Width.TheVariants.{W0, W1, W8, W16, W32, W64, Link, Rows}
 use Rattle.capn_words.specs.Pointers.{field, pointer_of}
 use Rattle.capn_words.specs.Laws.FieldBits.{pick}
-use Rattle.capn_value.specs.Tree.{Tree, nil, node, voids, bits, bytes, pairs, quads, octs, links, rows, cap, Trees, no_trees, tree, count, is_null}
+use Rattle.capn_value.specs.Tree.{Tree, nil, node, voids, bits, bytes, pairs, quads, octs, links, rows, cap, Trees}
+use Rattle.capn_value.specs.Tree.{no_trees, tree, count, is_null}
 use Rattle.capn_value.specs.Trim.{kept_behind, kept_words, kept_slots}
 use Rattle.capn_walk.specs.declared.target.Target.{Target}
 use Rattle.capn_walk.specs.declared.target.Target.TheVariants as targets
 use Rattle.capn_walk.specs.declared.target.Fault.{Fault}
-use Rattle.capn_walk.specs.Target.{moved, tagged, within, list, struct, struct_from, list_from, near, second_pad, is_second_pad, two_pads, pointer_in, landing, named, target}
+use Rattle.capn_walk.specs.Target.{moved, tagged, within, list, struct, struct_from, list_from, near, second_pad}
+use Rattle.capn_walk.specs.Target.{is_second_pad, two_pads, pointer_in, landing, named, target}
 use Rattle.capn_walk.specs.At.{IsAt, AreAt, words_from}
 
 pointer-other : (w : ℕ) → w ≢ 0 → pointer_of w ≢ Nil
@@ -65,7 +69,8 @@ module _ (m : List (List ℕ)) where
   not-struct_from s (Ok start) pads a b = not-struct s start pads a b
   not-struct_from s (Err e) pads a b = tt
 
-  not-list_from : (s : ℕ) (r : Result ℕ Fault) (pads : ℕ) (width : Width) (n : ℕ) → NotNil (list_from m s r pads width n)
+  not-list_from : (s : ℕ) (r : Result ℕ Fault) (pads : ℕ) (width : Width) (n : ℕ)
+      → NotNil (list_from m s r pads width n)
   not-list_from s (Ok start) pads width n = not-list s start pads width n
   not-list_from s (Err e) pads width n = tt
 
@@ -152,7 +157,8 @@ module _ (m : List (List ℕ)) where
   null-word at (rows bs) h = is-other (word_at m at) (λ z. let e = zero-target at z in let f = h.3.is in cc)
 
   -- what is kept of slots is what is kept of their words
-  pub kept-slots : (ss : Trees) (s w : ℕ) → AreAt m s w ss → w + count ss ≤ length (segment_at m s) → kept_slots ss ≡ kept_words (take (count ss) (words_from m s w))
+  pub kept-slots : (ss : Trees) (s w : ℕ) → AreAt m s w ss → w + count ss ≤ length (segment_at m s)
+      → kept_slots ss ≡ kept_words (take (count ss) (words_from m s w))
   kept-slots no_trees s w h le = refl
   kept-slots (tree t ts) s w h le =
       let d = drop-cons (segment_at m s) w 0 (omega arith) in

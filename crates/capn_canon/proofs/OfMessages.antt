@@ -10,16 +10,22 @@ use Rattle.capn_canon.specs.Canonicity.{IsCanonicalForm}
 use Rattle.capn_canon.proofs.Answered.{answer_length, answer_form}
 
 -- an answer is at most 8 bytes for each word paid and 8 more,
-pub answered_short : {T : Type 0} (r : Result T Refusal) (bytes_of : T → List ℕ) (price_of : T → ℕ) (m : List (List ℕ)) (limits : Bounds)
+pub answered_short : {T : Type 0} (r : Result T Refusal) (bytes_of : T → List ℕ) (price_of : T
+    → ℕ) (m : List (List ℕ)) (limits : Bounds)
     → IsMessage m → limits.budget ≤ 2 ^ 28 → limits.depth ≤ 256
-    → IfOk r (λ c. AnswersMessage m limits (bytes_of c) (price_of c)) → IfOk r (λ c. length (bytes_of c) ≤ 8 * (price_of c + 1))
-answered_short (Ok c) bytes_of price_of m limits is small shallow h = answer_length m limits (bytes_of c) (price_of c) h is small shallow
+    → IfOk r (λ c. AnswersMessage m limits (bytes_of c) (price_of c))
+    → IfOk r (λ c. length (bytes_of c) ≤ 8 * (price_of c + 1))
+answered_short (Ok c) bytes_of price_of m limits is small shallow h =
+    answer_length m limits (bytes_of c) (price_of c) h is small shallow
 answered_short (Err e) bytes_of price_of m limits is small shallow h = tt
 
 -- and has all that a canonical form has
-pub answered_form : {T : Type 0} (r : Result T Refusal) (bytes_of : T → List ℕ) (price_of : T → ℕ) (m : List (List ℕ)) (limits : Bounds)
+pub answered_form : {T : Type 0} (r : Result T Refusal) (bytes_of : T → List ℕ) (price_of : T
+    → ℕ) (m : List (List ℕ)) (limits : Bounds)
     (Q : T → Tree → Type 0) → ((c : T) (v : Tree) → IsCanonicalForm (bytes_of c) limits v → Q c v)
     → IsMessage m → limits.budget ≤ 2 ^ 28 → limits.depth ≤ 256
-    → IfOk r (λ c. AnswersMessage m limits (bytes_of c) (price_of c)) → IfOk r (λ c. (v : Tree) → IsValueOf m limits v → Q c v)
-answered_form (Ok c) bytes_of price_of m limits Q part is small shallow h = λ v k. part c v (answer_form m limits (bytes_of c) (price_of c) h is small shallow v k)
+    → IfOk r (λ c. AnswersMessage m limits (bytes_of c) (price_of c))
+    → IfOk r (λ c. (v : Tree) → IsValueOf m limits v → Q c v)
+answered_form (Ok c) bytes_of price_of m limits Q part is small shallow h =
+    λ v k. part c v (answer_form m limits (bytes_of c) (price_of c) h is small shallow v k)
 answered_form (Err e) bytes_of price_of m limits Q part is small shallow h = tt

@@ -1,5 +1,6 @@
 -- What pointers of a message of one segment name.
-use Rattle.std.proofs.Common.{◌≡◌, ℕ, ◌+◌, ◌-◌, ◌*◌, ◌^◌, ◌<◌, ◌≤◌, ◌==◌, nat_lt, List, [], ◌∷◌, length, slice_index, Ok, Result, pos, negsuc, refl, ap, ◌∙◌, arith}
+use Rattle.std.proofs.Common.{◌≡◌, ℕ, ◌+◌, ◌-◌, ◌*◌, ◌^◌, ◌<◌, ◌≤◌, ◌==◌, nat_lt, List, [], ◌∷◌, length, slice_index}
+use Rattle.std.proofs.Common.{Ok, Result, pos, negsuc, refl, ap, ◌∙◌, arith}
 use Rattle.capn_words.specs.Fields.{word_of}
 use Rattle.capn_words.specs.declared.space.Place.{Place}
 use Rattle.capn_words.specs.declared.pointer.Pointer.{Pointer}
@@ -27,7 +28,8 @@ IsPlain k = Unit {0}
 
 module _ (ws : List ℕ) where
   -- what the pointer at a word names, by what is read there
-  names : (from : ℕ) (p : Pointer) → pointer_of (slice_index ws from) ≡ p → target (ws ∷ []) (here from) ≡ named (ws ∷ []) 0 from p
+  names : (from : ℕ) (p : Pointer) → pointer_of (slice_index ws from) ≡ p
+      → target (ws ∷ []) (here from) ≡ named (ws ∷ []) 0 from p
   unfolding target
   names from p e = ap (named (ws ∷ []) 0 from) e
 
@@ -40,7 +42,8 @@ module _ (ws : List ℕ) where
   names-null from e = names from Nil (ap pointer_of e)
 
   -- the word of a capability names it
-  pub names-cap : (from k : ℕ) → slice_index ws from ≡ word_of (Cap k) → k < 2 ^ 32 → target (ws ∷ []) (here from) ≡ Ok (targets.Cap k)
+  pub names-cap : (from k : ℕ) → slice_index ws from ≡ word_of (Cap k) → k < 2 ^ 32
+      → target (ws ∷ []) (here from) ≡ Ok (targets.Cap k)
   names-cap from k e h = names from (Cap k) (ap pointer_of e ∙ pointer_of-word_of (Cap k) h)
 
   -- the word of a struct of no words at offset -1 names one at the word itself
@@ -50,14 +53,18 @@ module _ (ws : List ℕ) where
   names-empty from e h =
       let z : from - 0 ≡ from = omega arith in
       names from (Node (negsuc 0) 0 0) (ap pointer_of e)
-      ∙ ap (λ (r : Result ℕ Fault). Rattle.capn_walk.specs.Target.struct_from (ws ∷ []) 0 r 0 0 0) (if-no (nat_lt from 0) _ _ (le-ltb from 0 (omega arith)) ∙ ap Ok z)
+      ∙ ap (λ (r : Result ℕ Fault). Rattle.capn_walk.specs.Target.struct_from (ws ∷ []) 0 r 0 0 0)
+      (if-no (nat_lt from 0) _ _ (le-ltb from 0 (omega arith)) ∙ ap Ok z)
       ∙ in-reach from 0 _ (omega arith)
 
   -- the word of a struct names it, at so many words behind the next one
-  pub names-struct : (from n a b : ℕ) → slice_index ws from ≡ word_of (Node (pos n) a b) → n < 2 ^ 29 → a < 2 ^ 16 → b < 2 ^ 16 → 0 < a + b →
-      from + 1 + n + (a + b) ≤ length ws → target (ws ∷ []) (here from) ≡ Ok (targets.Content 0 (from + 1 + n) (shapes.Node a b) 0)
+  pub names-struct : (from n a b : ℕ) → slice_index ws from ≡ word_of (Node (pos n) a b) → n < 2 ^ 29 → a < 2 ^ 16
+      → b < 2 ^ 16 → 0 < a + b →
+      from + 1 + n + (a + b) ≤ length ws
+      → target (ws ∷ []) (here from) ≡ Ok (targets.Content 0 (from + 1 + n) (shapes.Node a b) 0)
   names-struct from n a b e hn ha hb some h =
-      names from (Node (pos n) a b) (ap pointer_of e ∙ pointer_of-word_of (Node (pos n) a b) (hn, ha, hb, omega arith)) ∙ in-reach (from + 1 + n) (a + b) _ h
+      names from (Node (pos n) a b) (ap pointer_of e ∙ pointer_of-word_of (Node (pos n) a b) (hn, ha, hb, omega arith))
+      ∙ in-reach (from + 1 + n) (a + b) _ h
 
   list-plain : (start n : ℕ) (k : Width) → IsPlain k → start + content_words k n ≤ length ws →
       list (ws ∷ []) 0 start 0 k n ≡ Ok (targets.Content 0 start (shapes.Many k n) 0)
@@ -71,27 +78,35 @@ module _ (ws : List ℕ) where
   list-plain start n Rows p h = absurd p
 
   -- and so does that of a list
-  pub names-list : (from n c : ℕ) (k : Width) → IsPlain k → slice_index ws from ≡ word_of (Many (pos n) k c) → n < 2 ^ 29 → c < 2 ^ 29 →
-      from + 1 + n + content_words k c ≤ length ws → target (ws ∷ []) (here from) ≡ Ok (targets.Content 0 (from + 1 + n) (shapes.Many k c) 0)
+  pub names-list : (from n c : ℕ) (k : Width) → IsPlain k → slice_index ws from ≡ word_of (Many (pos n) k c)
+      → n < 2 ^ 29 → c < 2 ^ 29 →
+      from + 1 + n + content_words k c ≤ length ws
+      → target (ws ∷ []) (here from) ≡ Ok (targets.Content 0 (from + 1 + n) (shapes.Many k c) 0)
   names-list from n c k p e hn hc h =
-      names from (Many (pos n) k c) (ap pointer_of e ∙ pointer_of-word_of (Many (pos n) k c) (hn, hc)) ∙ list-plain (from + 1 + n) c k p h
+      names from (Many (pos n) k c) (ap pointer_of e ∙ pointer_of-word_of (Many (pos n) k c) (hn, hc))
+      ∙ list-plain (from + 1 + n) c k p h
 
   -- a composite list, whose tag is the word of a struct with the count for an offset
-  pub names-rows : (from n c a b d : ℕ) → slice_index ws from ≡ word_of (Many (pos n) Rows d) → n < 2 ^ 29 → d < 2 ^ 29 →
-      slice_index ws (from + 1 + n) ≡ word_of (Node (pos c) a b) → c < 2 ^ 30 → a < 2 ^ 16 → b < 2 ^ 16 → c * (a + b) ≤ d →
-      from + 1 + n + (1 + d) ≤ length ws → target (ws ∷ []) (here from) ≡ Ok (targets.Content 0 (from + 1 + n) (shapes.Rows c a b d) 0)
+  pub names-rows : (from n c a b d : ℕ) → slice_index ws from ≡ word_of (Many (pos n) Rows d) → n < 2 ^ 29 → d < 2 ^ 29
+      →
+      slice_index ws (from + 1 + n) ≡ word_of (Node (pos c) a b) → c < 2 ^ 30 → a < 2 ^ 16 → b < 2 ^ 16
+      → c * (a + b) ≤ d →
+      from + 1 + n + (1 + d) ≤ length ws
+      → target (ws ∷ []) (here from) ≡ Ok (targets.Content 0 (from + 1 + n) (shapes.Rows c a b d) 0)
   names-rows from n c a b d e hn hd t hc ha hb fit h =
       names from (Many (pos n) Rows d) (ap pointer_of e ∙ pointer_of-word_of (Many (pos n) Rows d) (hn, hd))
       ∙ in-reach (from + 1 + n) (1 + d) _ h
       ∙ ap (tagged (ws ∷ []) 0 (from + 1 + n) 0 d) t
       ∙ tag (from + 1 + n) (word_of (Node (pos c) a b)) refl
     where
-      tag : (start w : ℕ) → w ≡ word_of (Node (pos c) a b) → tagged (ws ∷ []) 0 start 0 d w ≡ Ok (targets.Content 0 start (shapes.Rows c a b d) 0)
+      tag : (start w : ℕ) → w ≡ word_of (Node (pos c) a b)
+          → tagged (ws ∷ []) 0 start 0 d w ≡ Ok (targets.Content 0 start (shapes.Rows c a b d) 0)
       tag start w i =
           let z : field 0 2 w ≡ 0 = omega arith in
           let x : field 2 30 w ≡ c = omega arith in
           let y : field 32 16 w ≡ a = omega arith in
           let v : field 48 16 w ≡ b = omega arith in
           if-yes (field 0 2 w == 0) _ _ (same-yes (field 0 2 w) 0 z)
-          ∙ if-no (nat_lt d (field 2 30 w * (field 32 16 w + field 48 16 w))) _ _ (rw (x, y, v) (le-ltb d (c * (a + b)) fit))
+          ∙ if-no (nat_lt d (field 2 30 w * (field 32 16 w + field 48 16 w))) _ _
+          (rw (x, y, v) (le-ltb d (c * (a + b)) fit))
           ∙ cc

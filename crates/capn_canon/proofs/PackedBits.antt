@@ -1,5 +1,7 @@
 -- Packed lists of bits.
-use Rattle.std.proofs.Common.{◌≡◌, ℕ, suc, ◌+◌, ◌-◌, ◌*◌, ◌^◌, ◌<◌, ◌≤◌, min, List, [], ◌∷◌, ◌++◌, length, take, drop, map, get_or, ap, sym, ◌∙◌, arith, append_assoc, length-drop, Bool, true, false, Option, Some}
+use Rattle.std.proofs.Common.{◌≡◌, ℕ, suc, ◌+◌, ◌-◌, ◌*◌, ◌^◌, ◌<◌, ◌≤◌, min, List, [], ◌∷◌, ◌++◌, length, take, drop}
+use Rattle.std.proofs.Common.{map, get_or, ap, sym, ◌∙◌, arith, append_assoc, length-drop, Bool, true, false, Option}
+use Rattle.std.proofs.Common.{Some}
 use Rattle.std.proofs.Math.Nat.{pow-succ', pow-le-pow_right}
 use Rattle.std.proofs.lemmas.List.{drop_more, drop-map, drop-drop, take-map, take_min}
 use Rattle.std.specs.Int.{from_bool}
@@ -8,7 +10,8 @@ use Rattle.capn_canon.specs.Patch.{whole}
 
 -- the number of the bits from the one before on
 pub bits-next : (bits : List Bool) (i : ℕ) → i < length bits
-    → number 2 (map from_bool (drop (length bits - (i + 1)) bits)) ≡ from_bool (get_or bits (length bits - 1 - i) false) + 2 * number 2 (map from_bool (drop (length bits - i) bits))
+    → number 2 (map from_bool (drop (length bits - (i + 1)) bits)) ≡ from_bool (get_or bits (length bits - 1 - i) false)
+    + 2 * number 2 (map from_bool (drop (length bits - i) bits))
 bits-next bits i lt =
     let j = length bits - 1 - i in
     let a : length bits - (i + 1) ≡ j = omega arith in
@@ -33,13 +36,16 @@ fits-word w i lt le = let p = pow-le-pow_right {n = 2} (omega arith) {i = i} {j 
 
 -- the next word of a list of bits
 pub packed-next : (bits : List Bool) (n i : ℕ) → i < n
-    → packed 64 1 (n - i) (map from_bool (drop (64 * i) bits)) ≡ number 2 (take 64 (map from_bool (drop (64 * i) bits))) ∷ packed 64 1 (n - (i + 1)) (map from_bool (drop (64 * (i + 1)) bits))
+    → packed 64 1 (n - i) (map from_bool (drop (64 * i) bits))
+    ≡ number 2 (take 64 (map from_bool (drop (64 * i) bits))) ∷ packed 64 1 (n - (i + 1))
+    (map from_bool (drop (64 * (i + 1)) bits))
 packed-next bits n i lt =
     let a : n - i ≡ suc (n - (i + 1)) = omega arith in
     let b : 64 * i + 64 ≡ 64 * (i + 1) = omega arith in
     ap (λ (k : ℕ). packed 64 1 k (map from_bool (drop (64 * i) bits))) a
     ∙ ap (λ (xs : List ℕ). number 2 (take 64 (map from_bool (drop (64 * i) bits))) ∷ packed 64 1 (n - (i + 1)) xs)
-    (drop-map from_bool 64 (drop (64 * i) bits) ∙ ap (map from_bool) (drop-drop 64 (64 * i) bits ∙ ap (λ (k : ℕ). drop k bits) b))
+    (drop-map from_bool 64 (drop (64 * i) bits)
+    ∙ ap (map from_bool) (drop-drop 64 (64 * i) bits ∙ ap (λ (k : ℕ). drop k bits) b))
 
 -- 64 bits, or those that are left
 pub chunk-is : (bits : List Bool) (start end : ℕ) → end ≡ min (length bits) (start + 64)

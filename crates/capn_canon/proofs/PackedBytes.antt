@@ -1,7 +1,10 @@
 -- Packed lists by their bytes.
-use Rattle.std.proofs.Common.{◌≡◌, ℕ, zero, suc, ◌+◌, ◌-◌, ◌*◌, ◌^◌, ◌<◌, List, [], ◌∷◌, ◌++◌, length, take, drop, replicate, slice_index, refl, ap, ap₂, sym, ◌∙◌, arith, append-nil, length-append, false, Option, Some}
+use Rattle.std.proofs.Common.{◌≡◌, ℕ, zero, suc, ◌+◌, ◌-◌, ◌*◌, ◌^◌, ◌<◌, List, [], ◌∷◌, ◌++◌, length, take, drop}
+use Rattle.std.proofs.Common.{replicate, slice_index, refl, ap, ap₂, sym, ◌∙◌, arith, append-nil, length-append, false}
+use Rattle.std.proofs.Common.{Option, Some}
 use Rattle.std.proofs.Math.Nat.{mul_assoc, mul-add, pow-succ', pow-zero}
-use Rattle.std.proofs.lemmas.List.{take-take, take_at, drop_at, drop-drop, take_all, drop_all, drop-take, drop-replicate, get_or-drop, length-replicate, take-append-drop}
+use Rattle.std.proofs.lemmas.List.{take-take, take_at, drop_at, drop-drop, take_all, drop_all, drop-take}
+use Rattle.std.proofs.lemmas.List.{drop-replicate, get_or-drop, length-replicate, take-append-drop}
 use Rattle.std.specs.List.{flat_map}
 use Rattle.byteorder.specs.Endian.{little_from, little_bytes}
 use Rattle.byteorder.specs.Numbers.{little_from-cons, little_number-reads_back, length-bytes_low_first}
@@ -30,7 +33,8 @@ word-number bs = little_from-number 8 (take 8 bs) ∙ ap (number 256) (take-take
 pub cells-words : (k : ℕ) (bs : List ℕ) → cells (replicate k false) bs ≡ whole (packed 8 8 k bs)
 unfolding cells
 cells-words zero bs = refl
-cells-words (suc k) bs = ap₂ (λ (w : ℕ) (xs : List (Option ℕ)). Some w ∷ xs) (word-number bs) (cells-words k (drop 8 bs))
+cells-words (suc k) bs =
+    ap₂ (λ (w : ℕ) (xs : List (Option ℕ)). Some w ∷ xs) (word-number bs) (cells-words k (drop 8 bs))
 
 -- ---- zeros behind change no word
 
@@ -54,7 +58,8 @@ drop-padded zero p cs = (p, refl)
 drop-padded (suc n) p [] = drop-zeros (suc n) p
 drop-padded (suc n) p (c ∷ cs) = drop-padded n p cs
 
-pub packed-padded : (each width k p : ℕ) (cs : List ℕ) → packed each width k (cs ++ replicate p 0) ≡ packed each width k cs
+pub packed-padded : (each width k p : ℕ) (cs : List ℕ)
+    → packed each width k (cs ++ replicate p 0) ≡ packed each width k cs
 packed-padded each width zero p cs = refl
 packed-padded each width (suc k) p cs =
     let d = drop-padded each p cs in
@@ -66,15 +71,18 @@ packed-padded each width (suc k) p cs =
 take-behind : (xs ys : List ℕ) (n m : ℕ) → length xs ≡ n → take (n + m) (xs ++ ys) ≡ xs ++ take m ys
 take-behind xs ys n m l =
     sym (take-append-drop n (take (n + m) (xs ++ ys)))
-    ∙ ap₂ (λ (p q : List ℕ). p ++ q) (take-take n (n + m) (xs ++ ys) (omega arith) ∙ take_at xs ys n l) (drop-take n m (xs ++ ys) ∙ ap (take m) (drop_at xs ys n l))
+    ∙ ap₂ (λ (p q : List ℕ). p ++ q) (take-take n (n + m) (xs ++ ys) (omega arith)
+    ∙ take_at xs ys n l) (drop-take n m (xs ++ ys) ∙ ap (take m) (drop_at xs ys n l))
 
-number-append : (base : ℕ) (xs ys : List ℕ) → number base (xs ++ ys) ≡ number base xs + base ^ length xs * number base ys
+number-append : (base : ℕ) (xs ys : List ℕ)
+    → number base (xs ++ ys) ≡ number base xs + base ^ length xs * number base ys
 number-append base [] ys = sym (ap (λ (q : ℕ). 0 + q * number base ys) (pow-zero base) ∙ omega arith)
 number-append base (x ∷ xs) ys =
     let n = number base ys in
     let e : base * (number base xs + base ^ length xs * n) ≡ base * number base xs + base ^ suc (length xs) * n =
     mul-add base (number base xs) (base ^ length xs * n)
-    ∙ ap (λ (y : ℕ). base * number base xs + y) (sym (mul_assoc base (base ^ length xs) n) ∙ ap (λ (y : ℕ). y * n) (sym (pow-succ' base (length xs)))) in
+    ∙ ap (λ (y : ℕ). base * number base xs + y) (sym (mul_assoc base (base ^ length xs) n)
+    ∙ ap (λ (y : ℕ). y * n) (sym (pow-succ' base (length xs)))) in
     ap (λ (y : ℕ). x + base * y) (number-append base xs ys) ∙ ap (λ (y : ℕ). x + y) e ∙ omega arith
 
 number-low : (w x : ℕ) → x < 256 ^ w → number 256 (little_bytes w x) ≡ x
@@ -94,20 +102,24 @@ length-numbers w (x ∷ xs) =
 
 pub AreBytes-numbers : (w : ℕ) (xs : List ℕ) → AreBytes (flat_map (little_bytes w) xs)
 AreBytes-numbers w [] i = omega arith
-AreBytes-numbers w (x ∷ xs) i = AreBytes-append (little_bytes w x) (flat_map (little_bytes w) xs) (low_first-bytes 0 w x) (AreBytes-numbers w xs) i
+AreBytes-numbers w (x ∷ xs) i =
+    AreBytes-append (little_bytes w x) (flat_map (little_bytes w) xs) (low_first-bytes 0 w x) (AreBytes-numbers w xs) i
 
 -- each number is below the base
 abbrev pub AreAllBelow : ℕ → List ℕ → Type 0
 AreAllBelow base xs = (i : ℕ) → slice_index xs i < base
 
-number-numbers : (w : ℕ) (xs : List ℕ) → AreAllBelow (256 ^ w) xs → number 256 (flat_map (little_bytes w) xs) ≡ number (256 ^ w) xs
+number-numbers : (w : ℕ) (xs : List ℕ) → AreAllBelow (256 ^ w) xs
+    → number 256 (flat_map (little_bytes w) xs) ≡ number (256 ^ w) xs
 number-numbers w [] h = refl
 number-numbers w (x ∷ xs) h =
     number-append 256 (little_bytes w x) (flat_map (little_bytes w) xs)
-    ∙ ap₂ (λ (y z : ℕ). y + 256 ^ z * number 256 (flat_map (little_bytes w) xs)) (number-low w x (h 0)) (length-bytes_low_first 0 w x)
+    ∙ ap₂ (λ (y z : ℕ). y + 256 ^ z * number 256 (flat_map (little_bytes w) xs)) (number-low w x (h 0))
+    (length-bytes_low_first 0 w x)
     ∙ ap (λ (y : ℕ). x + 256 ^ w * y) (number-numbers w xs (λ i. h (suc i)))
 
-take-numbers : (w each n : ℕ) (xs : List ℕ) → n ≡ each * w → take n (flat_map (little_bytes w) xs) ≡ flat_map (little_bytes w) (take each xs)
+take-numbers : (w each n : ℕ) (xs : List ℕ) → n ≡ each * w
+    → take n (flat_map (little_bytes w) xs) ≡ flat_map (little_bytes w) (take each xs)
 take-numbers w zero n xs e = let z : n ≡ 0 = omega arith in ap (λ (j : ℕ). take j (flat_map (little_bytes w) xs)) z
 take-numbers w (suc each) n [] e = take_all n [] (omega arith)
 take-numbers w (suc each) n (x ∷ xs) e =
@@ -117,7 +129,8 @@ take-numbers w (suc each) n (x ∷ xs) e =
     ∙ take-behind (little_bytes w x) (flat_map (little_bytes w) xs) w (each * w) l
     ∙ ap (λ (ys : List ℕ). little_bytes w x ++ ys) (take-numbers w each (each * w) xs refl)
 
-drop-numbers : (w each n : ℕ) (xs : List ℕ) → n ≡ each * w → drop n (flat_map (little_bytes w) xs) ≡ flat_map (little_bytes w) (drop each xs)
+drop-numbers : (w each n : ℕ) (xs : List ℕ) → n ≡ each * w
+    → drop n (flat_map (little_bytes w) xs) ≡ flat_map (little_bytes w) (drop each xs)
 drop-numbers w zero n xs e = let z : n ≡ 0 = omega arith in ap (λ (j : ℕ). drop j (flat_map (little_bytes w) xs)) z
 drop-numbers w (suc each) n [] e = drop_all n [] (omega arith)
 drop-numbers w (suc each) n (x ∷ xs) e =
@@ -147,7 +160,8 @@ packed-numbers w each width (suc k) xs e b h =
     ∙ number-numbers w (take each xs) (AreAllBelow-take (256 ^ w) each xs h)
     ∙ ap (λ (base : ℕ). number base (take each xs)) b in
     ap₂ (λ (x : ℕ) (ys : List ℕ). x ∷ ys) first
-    (ap (packed 8 8 k) (drop-numbers w each 8 xs e) ∙ packed-numbers w each width k (drop each xs) e b (AreAllBelow-drop (256 ^ w) each xs h))
+    (ap (packed 8 8 k) (drop-numbers w each 8 xs e)
+    ∙ packed-numbers w each width k (drop each xs) e b (AreAllBelow-drop (256 ^ w) each xs h))
 
 -- a word alone is itself
 pub packed-words : (xs : List ℕ) → packed 1 64 (length xs) xs ≡ xs
@@ -156,8 +170,10 @@ packed-words (x ∷ xs) = ap₂ (λ (y : ℕ) (ys : List ℕ). y ∷ ys) (omega 
 
 -- ---- zeros that are written over
 
-pub written_over : (old items held ys : List ℕ) (start size p n : ℕ) → items ≡ old ++ replicate (size + p) 0 → held ≡ items → start ≡ length old → length ys ≡ size → n ≡ length items
-    → take n ((take start held ++ (ys ++ drop (start + size - start) (drop start held))) ++ drop (length (take start held ++ (ys ++ drop (start + size - start) (drop start held)))) items)
+pub written_over : (old items held ys : List ℕ) (start size p n : ℕ) → items ≡ old ++ replicate (size + p) 0
+    → held ≡ items → start ≡ length old → length ys ≡ size → n ≡ length items
+    → take n ((take start held ++ (ys ++ drop (start + size - start) (drop start held)))
+    ++ drop (length (take start held ++ (ys ++ drop (start + size - start) (drop start held)))) items)
     ≡ old ++ (ys ++ replicate p 0)
 written_over old items held ys start size p n ei eh es ly en =
     let r = old ++ (ys ++ replicate p 0) in
@@ -165,7 +181,9 @@ written_over old items held ys start size p n ei eh es ly en =
     let d : size + p - size ≡ p = omega arith in
     let whole_of : take start held ++ (ys ++ drop (start + size - start) (drop start held)) ≡ r =
     ap₂ (λ (s : ℕ) (q : List ℕ). take s q ++ (ys ++ drop (s + size - s) (drop s q))) es (eh ∙ ei)
-    ∙ ap₂ (λ (x y : List ℕ). x ++ (ys ++ drop (length old + size - length old) y)) (take_at old (replicate (size + p) 0) (length old) refl) (drop_at old (replicate (size + p) 0) (length old) refl)
+    ∙ ap₂ (λ (x y : List ℕ). x ++ (ys ++ drop (length old + size - length old) y))
+    (take_at old (replicate (size + p) 0) (length old) refl)
+    (drop_at old (replicate (size + p) 0) (length old) refl)
     ∙ ap (λ (j : ℕ). old ++ (ys ++ drop j (replicate (size + p) 0))) z
     ∙ ap (λ (x : List ℕ). old ++ (ys ++ x)) (drop-replicate size (size + p) 0 ∙ ap (λ (j : ℕ). replicate j 0) d) in
     let a = ap length ei in

@@ -1,6 +1,8 @@
 -- Elements that were packed into words, read again.
-use Rattle.std.proofs.Common.{◌≡◌, ℕ, zero, suc, ◌+◌, ◌*◌, ◌/◌, ◌%◌, ◌^◌, ◌<◌, List, [], ◌∷◌, ◌++◌, length, take, drop, slice_index, ap, sym, subst, ◌∙◌, arith}
-use Rattle.std.proofs.Math.Nat.{div-div-eq-div-mul, pow-succ', pow-zero, zero-div, zero-mod, div-add-mod, mod-lt, mod-eq_of_lt, div-eq_of_lt, add-mul-div_left, add-mul-mod_self_left}
+use Rattle.std.proofs.Common.{◌≡◌, ℕ, zero, suc, ◌+◌, ◌*◌, ◌/◌, ◌%◌, ◌^◌, ◌<◌, List, [], ◌∷◌, ◌++◌, length, take, drop}
+use Rattle.std.proofs.Common.{slice_index, ap, sym, subst, ◌∙◌, arith}
+use Rattle.std.proofs.Math.Nat.{div-div-eq-div-mul, pow-succ', pow-zero, zero-div, zero-mod, div-add-mod, mod-lt}
+use Rattle.std.proofs.Math.Nat.{mod-eq_of_lt, div-eq_of_lt, add-mul-div_left, add-mul-mod_self_left}
 use Rattle.std.proofs.Math.ListN.{get_or-append}
 use Rattle.std.proofs.lemmas.List.{drop-drop, get_or-drop, get_or-take}
 use Rattle.capn_walk.specs.At.{element, AreElements}
@@ -9,7 +11,8 @@ use Rattle.capn_canon.specs.Sound.{AreBelow}
 use Rattle.capn_canon.proofs.LayLengths.{length-packed}
 
 -- digit k of the number of a list is its element k
-digit : (base : ℕ) → 0 < base → (ys : List ℕ) (k : ℕ) → AreBelow base ys → number base ys / base ^ k % base ≡ slice_index ys k
+digit : (base : ℕ) → 0 < base → (ys : List ℕ) (k : ℕ) → AreBelow base ys
+    → number base ys / base ^ k % base ≡ slice_index ys k
 digit base p [] k h = ap (λ (x : ℕ). x % base) (zero-div (base ^ k)) ∙ zero-mod base
 digit base p (y ∷ ys) zero h =
     let b = h 0 in
@@ -18,15 +21,18 @@ digit base p (y ∷ ys) zero h =
 digit base p (y ∷ ys) (suc k) h =
     let b = h 0 in
     let x = y + base * number base ys in
-    let e : x / base ≡ number base ys = add-mul-div_left y (number base ys) p ∙ ap (λ (q : ℕ). q + number base ys) (div-eq_of_lt b) ∙ omega arith in
+    let e : x / base ≡ number base ys = add-mul-div_left y (number base ys) p
+    ∙ ap (λ (q : ℕ). q + number base ys) (div-eq_of_lt b) ∙ omega arith in
     ap (λ (q : ℕ). x / q % base) (pow-succ' base k)
     ∙ ap (λ (q : ℕ). q % base) (sym (div-div-eq-div-mul x base (base ^ k)))
     ∙ ap (λ (q : ℕ). q / base ^ k % base) e
     ∙ digit base p ys k (λ i. h (suc i))
 
-packed-at : (each width n : ℕ) (xs : List ℕ) (j : ℕ) → j < n → slice_index (packed each width n xs) j ≡ number (2 ^ width) (take each (drop (each * j) xs))
+packed-at : (each width n : ℕ) (xs : List ℕ) (j : ℕ) → j < n
+    → slice_index (packed each width n xs) j ≡ number (2 ^ width) (take each (drop (each * j) xs))
 packed-at each width zero xs j h = absurd (omega arith)
-packed-at each width (suc n) xs zero h = let e : 0 ≡ each * 0 = omega arith in ap (λ (q : ℕ). number (2 ^ width) (take each (drop q xs))) e
+packed-at each width (suc n) xs zero h = let e : 0 ≡ each * 0 = omega arith in
+    ap (λ (q : ℕ). number (2 ^ width) (take each (drop q xs))) e
 packed-at each width (suc n) xs (suc j) h =
     let e : each + each * j ≡ each * suc j = omega arith in
     packed-at each width n (drop each xs) j (omega arith)
@@ -41,20 +47,24 @@ below-take base p (suc n) [] h i = p
 below-take base p (suc n) (x ∷ xs) h zero = h 0
 below-take base p (suc n) (x ∷ xs) h (suc i) = below-take base p n xs (λ j. h (suc j)) i
 
-module _ (each width n : ℕ) (xs rest : List ℕ) (some : 0 < each) (base : 0 < 2 ^ width) (below : AreBelow (2 ^ width) xs) where
+module _ (each width n : ℕ) (xs rest : List ℕ) (some : 0 < each) (base : 0 < 2 ^ width)
+    (below : AreBelow (2 ^ width) xs) where
   one-element : (i : ℕ) → i / each < n → element each width (packed each width n xs ++ rest) i ≡ slice_index xs i
   one-element i h =
       let j = i / each in
       let k = i % each in
-      let front : j < length (packed each width n xs) = subst (λ (q : ℕ). j < q) (sym (length-packed each width n xs)) h in
+      let front : j < length (packed each width n xs) =
+      subst (λ (q : ℕ). j < q) (sym (length-packed each width n xs)) h in
       let a = get_or-append (packed each width n xs) rest 0 j front ∙ packed-at each width n xs j h in
       let chunk = take each (drop (each * j) xs) in
-      let d = digit (2 ^ width) base chunk k (below-take (2 ^ width) base each (drop (each * j) xs) (below-drop (2 ^ width) (each * j) xs below)) in
+      let d = digit (2 ^ width) base chunk k
+      (below-take (2 ^ width) base each (drop (each * j) xs) (below-drop (2 ^ width) (each * j) xs below)) in
       ap (λ (w : ℕ). w / (2 ^ width) ^ k % 2 ^ width) a ∙ d
       ∙ get_or-take each (drop (each * j) xs) k 0 (mod-lt i some)
       ∙ get_or-drop (each * j) xs k 0
       ∙ ap (slice_index xs) (div-add-mod i each)
 
   -- the elements of packed words are those that were packed
-  pub packed-elements : ((i : ℕ) → i < length xs → i / each < n) → AreElements each width (packed each width n xs ++ rest) xs
+  pub packed-elements : ((i : ℕ) → i < length xs → i / each < n)
+      → AreElements each width (packed each width n xs ++ rest) xs
   packed-elements room i h = sym (one-element i (room i h))

@@ -1,5 +1,7 @@
 -- What a buffer's marks and bytes stand for, as they change.
-use Rattle.std.proofs.Common.{◌≡◌, ◌≢◌, ℕ, zero, suc, ◌+◌, ◌*◌, ◌/◌, ◌^◌, ◌<◌, ◌≤◌, List, [], ◌∷◌, ◌++◌, length, take, drop, set, replicate, refl, ap, ap₂, sym, subst, ◌∙◌, ◌-◌, arith, append_assoc, length-append, Bool, true, false, Option, Some, None}
+use Rattle.std.proofs.Common.{◌≡◌, ◌≢◌, ℕ, zero, suc, ◌+◌, ◌*◌, ◌/◌, ◌^◌, ◌<◌, ◌≤◌, List, [], ◌∷◌, ◌++◌, length, take}
+use Rattle.std.proofs.Common.{drop, set, replicate, refl, ap, ap₂, sym, subst, ◌∙◌, ◌-◌, arith, append_assoc}
+use Rattle.std.proofs.Common.{length-append, Bool, true, false, Option, Some, None}
 use Rattle.std.proofs.lemmas.List.{length-replicate, take_all, set_at, replicate_more}
 use Rattle.std.specs.Prelude.{Result, Ok, Err, OnErr}
 use Rattle.capn_words.specs.Words.{word_number, AreBytes}
@@ -7,7 +9,8 @@ use Rattle.capn_words.specs.Message.{word_bytes, bytes}
 use Rattle.capn_canon.specs.Patch.{cells, flags, is_marked, patched, IsPatched, whole, filled, IsWhole}
 use Rattle.capn_words.specs.Laws.Words.{AreBytes-append, length-word_bytes}
 use Rattle.capn_canon.proofs.Bytes.{AreBytes-word}
-use Rattle.capn_canon.proofs.Cells.{length-cells, cells-none, cells-append, cells-one, cells-fill, cells-open, cells-whole, written-bytes, written-length}
+use Rattle.capn_canon.proofs.Cells.{length-cells, cells-none, cells-append, cells-one, cells-fill, cells-open}
+use Rattle.capn_canon.proofs.Cells.{cells-whole, written-bytes, written-length}
 use Rattle.capn_canon.specs.Layout.{packed}
 use Rattle.capn_canon.specs.Padded.{pad, padded}
 use Rattle.capn_canon.proofs.PackedBytes.{cells-words, packed-padded}
@@ -24,7 +27,8 @@ unfolding flags
 patched-none ms = cells-none []
 
 -- a buffer whose words are appended, each without a mark
-module _ (ms ns bs tail : List ℕ) (k : ℕ) (is : IsPatched ms bs) (l : length tail ≡ 8 * k) (same : (i : ℕ) → is_marked ns i ≡ is_marked ms i) where
+module _ (ms ns bs tail : List ℕ) (k : ℕ) (is : IsPatched ms bs) (l : length tail ≡ 8 * k) (same : (i : ℕ)
+    → is_marked ns i ≡ is_marked ms i) where
   pub appended-words : length (bs ++ tail) / 8 ≡ length bs / 8 + k
   appended-words = let e = is.even in let a = length-append bs tail in omega arith
 
@@ -33,9 +37,11 @@ module _ (ms ns bs tail : List ℕ) (k : ℕ) (is : IsPatched ms bs) (l : length
       let n = length bs / 8 in
       let e : length bs ≡ 8 * n = let z = is.even in omega arith in
       let f : length bs ≡ 8 * length (flags 0 n ms) = e ∙ ap (λ (j : ℕ). 8 * j) (sym (length-flags 0 n ms)) in
-      let clean : flags (0 + n) k ms ≡ replicate k false = flags-clean (0 + n) k ms (λ i le. is.clean i (omega arith)) in
+      let clean : flags (0 + n) k ms ≡ replicate k false =
+      flags-clean (0 + n) k ms (λ i le. is.clean i (omega arith)) in
       ap (λ (j : ℕ). cells (flags 0 j ns) (bs ++ tail)) appended-words
-      ∙ ap (λ (fs : List Bool). cells fs (bs ++ tail)) (flags-same 0 (n + k) ms ns same ∙ flags-append 0 n k ms ∙ ap (λ (fs : List Bool). flags 0 n ms ++ fs) clean)
+      ∙ ap (λ (fs : List Bool). cells fs (bs ++ tail)) (flags-same 0 (n + k) ms ns same ∙ flags-append 0 n k ms
+      ∙ ap (λ (fs : List Bool). flags 0 n ms ++ fs) clean)
       ∙ cells-append (flags 0 n ms) (replicate k false) bs tail f
 
   pub is-appended : length bs / 8 + k ≤ 64 * length ns → AreBytes tail → IsPatched ns (bs ++ tail)
@@ -83,7 +89,8 @@ module _ (ms ns bs : List ℕ) (w : ℕ) (is : IsPatched ms bs) (same : (i : ℕ
   is-push room = is-appended ms ns bs (word_bytes w) 1 is (length-word_bytes w) same room (AreBytes-word w)
 
 -- one mark changes
-module _ (ms ns bs : List ℕ) (at : ℕ) (b : Bool) (is : IsPatched ms bs) (lt : at < length bs / 8) (len : length ns ≡ length ms)
+module _ (ms ns bs : List ℕ) (at : ℕ) (b : Bool) (is : IsPatched ms bs) (lt : at < length bs / 8)
+    (len : length ns ≡ length ms)
     (here : is_marked ns at ≡ b) (others : (i : ℕ) → i ≢ at → is_marked ns i ≡ is_marked ms i) where
   flags-changed : flags 0 (length bs / 8) ns ≡ set (flags 0 (length bs / 8) ms) at b
   flags-changed =
@@ -98,15 +105,19 @@ module _ (ms ns bs : List ℕ) (at : ℕ) (b : Bool) (is : IsPatched ms bs) (lt 
     bytes = is.bytes;
   }
 
-pub patched-open : (ms ns bs : List ℕ) (at : ℕ) → ((i : ℕ) → i ≢ at → is_marked ns i ≡ is_marked ms i) → is_marked ns at ≡ true
+pub patched-open : (ms ns bs : List ℕ) (at : ℕ) → ((i : ℕ) → i ≢ at → is_marked ns i ≡ is_marked ms i)
+    → is_marked ns at ≡ true
     → patched ns bs ≡ set (patched ms bs) at None
 patched-open ms ns bs at others here =
     let z : 0 + at ≡ at = omega arith in
-    ap (λ (fs : List Bool). cells fs bs) (flags-set 0 (length bs / 8) at true ms ns (ap (is_marked ns) z ∙ here) (λ k ne. others k (λ e. ne (e ∙ sym z))))
+    ap (λ (fs : List Bool). cells fs bs)
+    (flags-set 0 (length bs / 8) at true ms ns (ap (is_marked ns) z
+    ∙ here) (λ k ne. others k (λ e. ne (e ∙ sym z))))
     ∙ cells-open at (flags 0 (length bs / 8) ms) bs
 
 -- the bytes of a word are written, and its mark is cleared
-module _ (ms ns bs cs : List ℕ) (at w : ℕ) (is : IsPatched ms bs) (lt : at < length bs / 8) (fits : w < 2 ^ 64) (len : length ns ≡ length ms)
+module _ (ms ns bs cs : List ℕ) (at w : ℕ) (is : IsPatched ms bs) (lt : at < length bs / 8) (fits : w < 2 ^ 64)
+    (len : length ns ≡ length ms)
     (written : cs ≡ take (8 * at) bs ++ (word_bytes w ++ drop (8 * at + 8) bs))
     (here : is_marked ns at ≡ false) (others : (i : ℕ) → i ≢ at → is_marked ns i ≡ is_marked ms i) where
   same-length : length cs ≡ length bs
@@ -127,7 +138,8 @@ module _ (ms ns bs cs : List ℕ) (at w : ℕ) (is : IsPatched ms bs) (lt : at <
       let lf = length-flags 0 n ms in
       let e : length bs ≡ 8 * length (flags 0 n ms) = let v = is.even in omega arith in
       ap (λ (l : ℕ). cells (flags 0 (l / 8) ns) cs) same-length
-      ∙ ap₂ cells (flags-set 0 n at false ms ns (ap (is_marked ns) z ∙ here) (λ k ne. others k (λ q. ne (q ∙ sym z)))) written
+      ∙ ap₂ cells (flags-set 0 n at false ms ns (ap (is_marked ns) z ∙ here) (λ k ne. others k (λ q. ne (q ∙ sym z))))
+      written
       ∙ cells-fill at (flags 0 n ms) bs w e (omega arith) fits
 
 -- without holes the bytes are those of the words
@@ -142,21 +154,24 @@ OnErr-always (Ok x) p = tt
 OnErr-always (Err e) p = p
 
 -- bytes that are filled up with zeros
-pub filled_up : (bs : List ℕ) (to k : ℕ) → to ≡ length bs + k → take to bs ++ replicate (to - length bs) 0 ≡ bs ++ replicate k 0
+pub filled_up : (bs : List ℕ) (to k : ℕ) → to ≡ length bs + k
+    → take to bs ++ replicate (to - length bs) 0 ≡ bs ++ replicate k 0
 filled_up bs to k e =
     let d : to - length bs ≡ k = omega arith in
     ap₂ (λ (xs : List ℕ) (j : ℕ). xs ++ replicate j 0) (take_all to bs (omega arith)) d
 
 -- the next of some words is made a hole
 pub next_hole : (p : List (Option ℕ)) (n i at : ℕ) → i < n → at ≡ length p + i
-    → set (p ++ (replicate i None ++ replicate (n - i) (Some 0))) at None ≡ p ++ (replicate (i + 1) None ++ replicate (n - (i + 1)) (Some 0))
+    → set (p ++ (replicate i None ++ replicate (n - i) (Some 0))) at None ≡ p
+    ++ (replicate (i + 1) None ++ replicate (n - (i + 1)) (Some 0))
 next_hole p n i at lt e =
     let d : n - i ≡ suc (n - (i + 1)) = omega arith in
     let r = length-replicate {A = Option ℕ} i None in
     let q = p ++ replicate i None in
     let l : length q ≡ at = length-append p (replicate i None) ∙ omega arith in
     ap (λ (j : ℕ). set (p ++ (replicate i None ++ replicate j (Some 0))) at None) d
-    ∙ ap (λ (xs : List (Option ℕ)). set xs at None) (sym (append_assoc p (replicate i None) (Some 0 ∷ replicate (n - (i + 1)) (Some 0))))
+    ∙ ap (λ (xs : List (Option ℕ)). set xs at None)
+    (sym (append_assoc p (replicate i None) (Some 0 ∷ replicate (n - (i + 1)) (Some 0))))
     ∙ set_at q (Some 0) (replicate (n - (i + 1)) (Some 0)) None at l
     ∙ append_assoc p (replicate i None) (None ∷ replicate (n - (i + 1)) (Some 0))
     ∙ ap (λ (xs : List (Option ℕ)). p ++ xs)
@@ -164,7 +179,8 @@ next_hole p n i at lt e =
     ∙ ap (λ (xs : List (Option ℕ)). xs ++ replicate (n - (i + 1)) (Some 0)) (replicate_more i None))
 
 -- bytes that are filled up to whole words are appended
-module _ (ms ns bs content : List ℕ) (k : ℕ) (is : IsPatched ms bs) (same : (i : ℕ) → is_marked ns i ≡ is_marked ms i) (l : 8 * k ≡ length content + pad (length content)) where
+module _ (ms ns bs content : List ℕ) (k : ℕ) (is : IsPatched ms bs) (same : (i : ℕ)
+    → is_marked ns i ≡ is_marked ms i) (l : 8 * k ≡ length content + pad (length content)) where
   padded-length : length (padded content) ≡ 8 * k
   padded-length =
       length-append content (replicate (pad (length content)) 0)

@@ -25,7 +25,8 @@ use Rattle.capn_canon.proofs.ReadBack.{read_back, pays_cost}
 use Rattle.capn_canon.proofs.BareCanon.{canon_is_bare, words_in_canon}
 
 -- the root's visits are those of its slot, where a value that may be a root stands there
-root-alone : (m : List (List ℕ)) (base depth : ℕ) (v : Tree) → is_root v ≡ true → IsAt m root v → root_visits m base depth ≡ visits m base depth root
+root-alone : (m : List (List ℕ)) (base depth : ℕ) (v : Tree) → is_root v ≡ true → IsAt m root v
+    → root_visits m base depth ≡ visits m base depth root
 unfolding root_visits
 root-alone m base depth nil k h = ap (λ r. visits_at_root m base r (visits m base depth root)) h
 root-alone m base depth (node ws ss) k h = ap (λ r. visits_at_root m base r (visits m base depth root)) h.is
@@ -46,10 +47,13 @@ module _ (v : Tree) (limits : Bounds) (f : Fits v) (r : InRange v) (low : height
   at-root : IsAt (words v ∷ []) root (trimmed v)
   at-root = read_back v (sound v f r) few
 
-  alone : root_visits (words v ∷ []) (base limits.tariff) limits.depth ≡ visits (words v ∷ []) (base limits.tariff) limits.depth root
-  alone = root-alone (words v ∷ []) (base limits.tariff) limits.depth (trimmed v) (fit_parts (trimmed v) (fits-trimmed v f)).root at-root
+  alone : root_visits (words v ∷ []) (base limits.tariff) limits.depth
+      ≡ visits (words v ∷ []) (base limits.tariff) limits.depth root
+  alone = root-alone (words v ∷ []) (base limits.tariff) limits.depth (trimmed v)
+      (fit_parts (trimmed v) (fits-trimmed v f)).root at-root
 
-  visited : Pays (words v ∷ []) (base limits.tariff) (root_visits (words v ∷ []) (base limits.tariff) limits.depth) (cost (base limits.tariff) (trimmed v))
+  visited : Pays (words v ∷ []) (base limits.tariff) (root_visits (words v ∷ []) (base limits.tariff) limits.depth)
+      (cost (base limits.tariff) (trimmed v))
   visited = rw alone (pays_cost v (base limits.tariff) limits.depth (sound v f r) few (omega (arith, height-trimmed v)))
 
   -- the walk of canonical bytes, read bare, pays exactly the cost of the trimmed value

@@ -1,7 +1,8 @@
 -- How many words the canonical layout of a value takes.
 use Rattle.std.proofs.Common.{◌≡◌, ℕ, suc, ◌+◌, ◌^◌, ◌≤◌, ◌∷◌, length, refl, arith}
 use Rattle.std.proofs.lemmas.Bool.Decides.{nat_tests}
-use Rattle.capn_value.specs.Tree.{Tree, nil, node, voids, bits, bytes, pairs, quads, octs, links, rows, cap, Trees, no_trees, tree, Bodies, no_bodies, body, row_words}
+use Rattle.capn_value.specs.Tree.{Tree, nil, node, voids, bits, bytes, pairs, quads, octs, links, rows, cap, Trees}
+use Rattle.capn_value.specs.Tree.{no_trees, tree, Bodies, no_bodies, body, row_words}
 use Rattle.capn_value.specs.Sizes.{cost, costs, costs_in_rows, rows_price}
 use Rattle.capn_value.specs.Trim.{kept_words_of_rows, kept_slots_of_rows}
 use Rattle.capn_value.specs.Fits.{Fits}
@@ -22,7 +23,8 @@ mutual
   pub size-cost : (base : ℕ) (v : Tree) → Sound v → size v ≤ cost base v
   size-cost base nil h = omega arith
   size-cost base (cap k) h = omega arith
-  size-cost base (node ws ss) h = let x = kept_words-le ws in let y = kept_slots-le ss in let z = sizes-cost base ss h.2 in omega arith
+  size-cost base (node ws ss) h = let x = kept_words-le ws in let y = kept_slots-le ss in let z =
+      sizes-cost base ss h.2 in omega arith
   size-cost base (voids n) h = omega arith
   size-cost base (bits xs) h = omega arith
   size-cost base (bytes xs) h = omega arith
@@ -42,15 +44,19 @@ mutual
 
   sizes-rows-cost : (base : ℕ) (bs : Bodies) → SoundRows bs → sizes_in_rows bs ≤ costs_in_rows base bs
   sizes-rows-cost base no_bodies h = omega arith
-  sizes-rows-cost base (body ws ss bs) h = let x = sizes-cost base ss h.0 in let y = sizes-rows-cost base bs h.1 in omega arith
+  sizes-rows-cost base (body ws ss bs) h = let x = sizes-cost base ss h.0 in let y = sizes-rows-cost base bs h.1 in
+      omega arith
 
 -- the canonical words are the pointer to the root and the layout
 pub length_words : (v : Tree) → Sound v → length (words v) ≡ 1 + size v
 unfolding words
-length_words v h = let a = length-lay v 1 h in let c : length (point v 0 1 ∷ lay v 1) ≡ suc (length (lay v 1)) = refl in omega arith
+length_words v h = let a = length-lay v 1 h in let c : length (point v 0 1 ∷ lay v 1) ≡ suc (length (lay v 1)) = refl in
+    omega arith
 
--- The canonical words of a value that fits are at most one more than its cost, under either tariff, and so 2^28 + 1 at most.
-pub room : (v : Tree) → Fits v → InRange v → (length (words v) ≡ 1 + size v) × ((base : ℕ) → size v ≤ cost base v) × (length (words v) ≤ 2 ^ 28 + 1)
+-- The canonical words of a value that fits are at most one more than its cost, under either tariff, and so 2^28 + 1
+-- at most.
+pub room : (v : Tree) → Fits v → InRange v → (length (words v) ≡ 1 + size v) × ((base : ℕ) → size v ≤ cost base v)
+    × (length (words v) ≤ 2 ^ 28 + 1)
 room v f r =
     let s = sound v f r in
     let a = length_words v s in

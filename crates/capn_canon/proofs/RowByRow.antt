@@ -1,5 +1,6 @@
 -- One row after the other is laid.
-use Rattle.std.proofs.Common.{◌≡◌, ℕ, zero, suc, ◌+◌, ◌-◌, ◌*◌, ◌^◌, ◌<◌, ◌≤◌, ◌∷◌, [], List, ◌++◌, length, take, set, Option, Some, refl, ap, ap₂, sym, subst, ◌∙◌, arith}
+use Rattle.std.proofs.Common.{◌≡◌, ℕ, zero, suc, ◌+◌, ◌-◌, ◌*◌, ◌^◌, ◌<◌, ◌≤◌, ◌∷◌, [], List, ◌++◌, length, take, set}
+use Rattle.std.proofs.Common.{Option, Some, refl, ap, ap₂, sym, subst, ◌∙◌, arith}
 use Rattle.std.specs.Prelude.{pos}
 use Rattle.std.proofs.lemmas.List.{length-set}
 use Rattle.capn_words.specs.Message.{segment_at}
@@ -18,7 +19,8 @@ use Rattle.capn_canon.specs.Patch.{whole}
 use Rattle.capn_canon.specs.Sound.{Sound, Sounds, SoundRows}
 use Rattle.capn_canon.proofs.KeptLengths.{kept_slots-le}
 use Rattle.capn_canon.proofs.Laid.{slots-none}
-use Rattle.capn_canon.proofs.LaidRows.{begun-rest, begun-fits, begun-room, begun-length, rows-next, rows-none, length-slots}
+use Rattle.capn_canon.proofs.LaidRows.{begun-rest, begun-fits, begun-room, begun-length, rows-next, rows-none}
+use Rattle.capn_canon.proofs.LaidRows.{length-slots}
 use Rattle.capn_canon.specs.Ready.{IsReadyInside, AreReady, IsLaidInside, AreLaid}
 use Rattle.capn_canon.specs.RowWords.{AreOpened, RowsReady, RowsLaid, kept_each, row_cells}
 use Rattle.capn_canon.proofs.Shaped.{IsRows, as-rows}
@@ -44,8 +46,10 @@ pub record IsRow (m : List (List ℕ)) (s w a b number depth x y at : ℕ) (p : 
   pub kepts : kept_slots_of_rows others ≤ y
   pub room : length p + sizes slots + sizes_in_rows others ≤ 2 ^ 29
 
-row-of : (m : List (List ℕ)) (s w a b number depth x y at : ℕ) (p : List (Option ℕ)) (bs : Bodies) → RowsAt m a b s w bs → count_rows bs ≡ number → 0 < number →
-    SoundRows bs → greatest_in_rows bs ≤ depth → kept_slots_of_rows bs ≤ y → length p + sizes_in_rows bs ≤ 2 ^ 29 → IsRow m s w a b number depth x y at p
+row-of : (m : List (List ℕ)) (s w a b number depth x y at : ℕ) (p : List (Option ℕ)) (bs : Bodies) → RowsAt m a b s w bs
+    → count_rows bs ≡ number → 0 < number →
+    SoundRows bs → greatest_in_rows bs ≤ depth → kept_slots_of_rows bs ≤ y → length p + sizes_in_rows bs ≤ 2 ^ 29
+    → IsRow m s w a b number depth x y at p
 row-of m s w a b number depth x y at p no_bodies h e lt o g k r = absurd (omega arith)
 row-of m s w a b number depth x y at p (body ws ss bs) h e lt o g k r = record {
   words = ws;
@@ -66,11 +70,14 @@ row-of m s w a b number depth x y at p (body ws ss bs) h e lt o g k r = record {
   room = omega arith;
 }
 
-pub next-row : (m : List (List ℕ)) (s w a b number depth x y at : ℕ) (p : List (Option ℕ)) → RowsReady m s w a b number depth x y at p → 0 < number → IsRow m s w a b number depth x y at p
-next-row m s w a b number depth x y at p r lt = row-of m s w a b number depth x y at p r.values r.are r.count lt r.sound r.low r.kept r.room
+pub next-row : (m : List (List ℕ)) (s w a b number depth x y at : ℕ) (p : List (Option ℕ))
+    → RowsReady m s w a b number depth x y at p → 0 < number → IsRow m s w a b number depth x y at p
+next-row m s w a b number depth x y at p r lt =
+    row-of m s w a b number depth x y at p r.values r.are r.count lt r.sound r.low r.kept r.room
 
 -- the slots of a row that are kept
-pub row-ready : (m : List (List ℕ)) (s w a b number depth x y at : ℕ) (p : List (Option ℕ)) → y ≤ b → IsRow m s w a b number depth x y at p → AreReady m s (w + a) y depth (length p)
+pub row-ready : (m : List (List ℕ)) (s w a b number depth x y at : ℕ) (p : List (Option ℕ)) → y ≤ b
+    → IsRow m s w a b number depth x y at p → AreReady m s (w + a) y depth (length p)
 row-ready m s w a b number depth x y at p le r = record {
   values = front y r.slots;
   are = front-at m y s (w + a) r.slots r.below;
@@ -82,8 +89,10 @@ row-ready m s w a b number depth x y at p le r = record {
 
 -- the loop begins
 module _ (m : List (List ℕ)) (s w a b n depth x y at : ℕ) (p : List (Option ℕ)) where
-  pub rows-begin : (cs bs : Bodies) → RowsAt m a b s w cs → count_rows cs ≡ n - 0 → RowsAt m a b s w bs → count_rows bs ≡ n → laid_rows x y cs at p ≡ laid_rows x y bs at p
-  rows-begin cs bs hc ec hb eb = ap (λ (z : Bodies). laid_rows x y z at p) (unique-rows m cs bs a b s w (omega arith) hc hb)
+  pub rows-begin : (cs bs : Bodies) → RowsAt m a b s w cs → count_rows cs ≡ n - 0 → RowsAt m a b s w bs
+      → count_rows bs ≡ n → laid_rows x y cs at p ≡ laid_rows x y bs at p
+  rows-begin cs bs hc ec hb eb =
+      ap (λ (z : Bodies). laid_rows x y z at p) (unique-rows m cs bs a b s w (omega arith) hc hb)
 
   pub rows-begin-ready : RowsReady m s w a b n depth x y at p → RowsReady m s w a b (n - 0) depth x y at p
   rows-begin-ready r = let z : n ≡ n - 0 = omega arith in subst (λ (k : ℕ). RowsReady m s w a b k depth x y at p) z r
@@ -96,14 +105,19 @@ module _ (m : List (List ℕ)) (s w a b n depth x y at i : ℕ) (p q : List (Opt
 
   grown : q ≡ laid_slots y this.slots (at + x) p
   grown =
-      h (front y this.slots) (front-at m y s (w + a) this.slots this.below) (front-count y this.slots (let l = this.long in omega arith))
+      h (front y this.slots) (front-at m y s (w + a) this.slots this.below)
+      (front-count y this.slots (let l = this.long in omega arith))
       ∙ front-laid y this.slots (at + x) p this.kept
 
-  pub rows-then : (w0 at0 : ℕ) (z : List (Option ℕ)) → ((cs bs : Bodies) → RowsAt m a b s w cs → count_rows cs ≡ n - i → RowsAt m a b s w0 bs → count_rows bs ≡ n → laid_rows x y cs at p ≡ laid_rows x y bs at0 z)
-      → (cs bs : Bodies) → RowsAt m a b s (w + (a + b)) cs → count_rows cs ≡ n - (i + 1) → RowsAt m a b s w0 bs → count_rows bs ≡ n → laid_rows x y cs (at + x + y) q ≡ laid_rows x y bs at0 z
+  pub rows-then : (w0 at0 : ℕ) (z : List (Option ℕ))
+      → ((cs bs : Bodies) → RowsAt m a b s w cs → count_rows cs ≡ n - i → RowsAt m a b s w0 bs → count_rows bs ≡ n
+      → laid_rows x y cs at p ≡ laid_rows x y bs at0 z)
+      → (cs bs : Bodies) → RowsAt m a b s (w + (a + b)) cs → count_rows cs ≡ n - (i + 1) → RowsAt m a b s w0 bs
+      → count_rows bs ≡ n → laid_rows x y cs (at + x + y) q ≡ laid_rows x y bs at0 z
   rows-then w0 at0 z inv cs bs hc ec hb eb =
       let d : w + (a + b) ≡ w + a + b = omega arith in
-      let full : RowsAt m a b s w (body this.words this.slots cs) = (this.wide, this.long, this.own, this.below, subst (λ (k : ℕ). RowsAt m a b s k cs) d hc) in
+      let full : RowsAt m a b s w (body this.words this.slots cs) =
+      (this.wide, this.long, this.own, this.below, subst (λ (k : ℕ). RowsAt m a b s k cs) d hc) in
       ap (laid_rows x y cs (at + x + y)) grown
       ∙ sym (rows-next x y this.words this.slots cs at p)
       ∙ inv (body this.words this.slots cs) bs full (omega arith) hb eb
@@ -116,7 +130,8 @@ module _ (m : List (List ℕ)) (s w a b n depth x y at i : ℕ) (p q : List (Opt
     sound = this.sounds;
     low = this.lows;
     kept = this.kepts;
-    room = let l = ap length grown ∙ length-slots y this.slots (at + x) p this.sound in let r = this.room in omega arith;
+    room = let l = ap length grown ∙ length-slots y this.slots (at + x) p this.sound in let r = this.room in
+        omega arith;
     inside =
         let l = ap length grown ∙ length-slots y this.slots (at + x) p this.sound in
         let f = one-more-fits at x y n i (length p) lt ready.inside in
@@ -125,16 +140,19 @@ module _ (m : List (List ℕ)) (s w a b n depth x y at i : ℕ) (p q : List (Opt
 
 -- all rows have been laid
 pub rows-end : (m : List (List ℕ)) (s w w0 a b n x y at at0 i : ℕ) (p z : List (Option ℕ)) → n ≤ i
-    → ((cs bs : Bodies) → RowsAt m a b s w cs → count_rows cs ≡ n - i → RowsAt m a b s w0 bs → count_rows bs ≡ n → laid_rows x y cs at p ≡ laid_rows x y bs at0 z)
+    → ((cs bs : Bodies) → RowsAt m a b s w cs → count_rows cs ≡ n - i → RowsAt m a b s w0 bs → count_rows bs ≡ n
+    → laid_rows x y cs at p ≡ laid_rows x y bs at0 z)
     → RowsLaid m s w0 a b n x y at0 z p
-rows-end m s w w0 a b n x y at at0 i p z le inv bs hb eb = sym (rows-none x y at p) ∙ inv no_bodies bs tt (omega arith) hb eb
+rows-end m s w w0 a b n x y at at0 i p z le inv bs hb eb = sym (rows-none x y at p)
+    ∙ inv no_bodies bs tt (omega arith) hb eb
 
 point-rows : (bs : Bodies) (from to : ℕ) → point (rows bs) from to ≡ list_to from to Rows (count_rows bs * row_size bs)
 unfolding point
 point-rows bs from to = refl
 
 -- the tag and the rows are appended, so the slots can be laid
-module _ (m : List (List ℕ)) (n a b span s w depth from : ℕ) (p : List (Option ℕ)) (ready : IsReadyInside m (shapes.Rows n a b span) s w depth (length p)) where
+module _ (m : List (List ℕ)) (n a b span s w depth from : ℕ) (p : List (Option ℕ))
+    (ready : IsReadyInside m (shapes.Rows n a b span) s w depth (length p)) where
   pub here : IsRows m n a b s w ready.value
   here = as-rows m n a b span s w ready.value ready.is
 
@@ -144,7 +162,8 @@ module _ (m : List (List ℕ)) (n a b span s w depth from : ℕ) (p : List (Opti
   pub rows-few : n < 2 ^ 29
   rows-few = let c = here.count in let o = sound.0 in omega arith
 
-  module _ (q : List (Option ℕ)) (first x y : ℕ) (inside : w + 1 + n * (a + b) ≤ length (segment_at m s)) (o : AreOpened m s (w + 1) n a b from p q first x y) where
+  module _ (q : List (Option ℕ)) (first x y : ℕ) (inside : w + 1 + n * (a + b) ≤ length (segment_at m s))
+      (o : AreOpened m s (w + 1) n a b from p q first x y) where
     ex : x ≡ kept_words_of_rows here.bodies
     ex = o.kept ∙ sym (kept-rows-words m here.bodies a b s (w + 1) n here.below here.count)
 
@@ -183,7 +202,8 @@ module _ (m : List (List ℕ)) (n a b span s w depth from : ℕ) (p : List (Opti
     pub rows-fits : first + n * (x + y) ≤ 2 ^ 29
     rows-fits =
         let c = here.count in
-        let f = begun-fits here.bodies pointed q n x y first sound room (sym here.count) ex ey start-is cells over is-q in
+        let f = begun-fits here.bodies pointed q n x y first sound room (sym here.count) ex ey start-is cells over
+        is-q in
         subst (λ (k : ℕ). first + k * (x + y) ≤ 2 ^ 29) c f
 
     pub rows-ready : RowsReady m s (w + 1) a b n depth x y first q
@@ -196,12 +216,14 @@ module _ (m : List (List ℕ)) (n a b span s w depth from : ℕ) (p : List (Opti
       kept = let e = ey in omega arith;
       room = begun-room here.bodies pointed q n x y first sound room (sym here.count) ex ey start-is cells over is-q;
       inside =
-          let l = begun-length here.bodies pointed q n x y first sound room (sym here.count) ex ey start-is cells over is-q in
+          let l = begun-length here.bodies pointed q n x y first sound room (sym here.count) ex ey start-is cells over
+          is-q in
           let k : count_rows here.bodies * (x + y) ≡ n * (x + y) = ap (λ (j : ℕ). j * (x + y)) here.count in
           omega arith;
     }
 
-    pub rows-laid : (r : List (Option ℕ)) → RowsLaid m s (w + 1) a b n x y first q r → IsLaidInside m (shapes.Rows n a b span) s w from p r
+    pub rows-laid : (r : List (Option ℕ)) → RowsLaid m s (w + 1) a b n x y first q r
+        → IsLaidInside m (shapes.Rows n a b span) s w from p r
     unfolding pointed
     rows-laid r l v h =
         let bs = here.bodies in
@@ -209,7 +231,8 @@ module _ (m : List (List ℕ)) (n a b span s w depth from : ℕ) (p : List (Opti
         let k : n * (x + y) ≡ count_rows bs * row_size bs = ap₂ ◌*◌ (sym here.count) (ap₂ ◌+◌ ex ey) in
         l bs here.below here.count
         ∙ begun-rest bs pointed q n x y first sound room (sym here.count) ex ey start-is cells over is-q
-        ∙ ap (λ (j : ℕ). laid (rows bs) (set p from (Some j))) (ap (list_to from (length p) Rows) k ∙ sym (point-rows bs from (length p)))
+        ∙ ap (λ (j : ℕ). laid (rows bs) (set p from (Some j))) (ap (list_to from (length p) Rows) k
+        ∙ sym (point-rows bs from (length p)))
         ∙ ap (λ (t : Tree). laid t (set p from (Some (point t from (length p))))) (sym e)
 
 -- rows that keep no slot have nothing below them
@@ -220,7 +243,8 @@ rows-null (body ws ss bs) x at p h =
     ∙ ap (laid_rows x 0 bs (at + x + 0)) (sym (front-laid 0 ss (at + x) p (omega arith)) ∙ slots-none 0 (at + x) p)
     ∙ rows-null bs x (at + x + 0) p (omega arith)
 
-pub rows-nothing : (m : List (List ℕ)) (s w a b n depth x y at : ℕ) (p : List (Option ℕ)) → y ≡ 0 → RowsReady m s w a b n depth x y at p → RowsLaid m s w a b n x y at p p
+pub rows-nothing : (m : List (List ℕ)) (s w a b n depth x y at : ℕ) (p : List (Option ℕ)) → y ≡ 0
+    → RowsReady m s w a b n depth x y at p → RowsLaid m s w a b n x y at p p
 rows-nothing m s w a b n depth x y at p e r bs hb eb =
     let c = r.count in
     let k = r.kept in

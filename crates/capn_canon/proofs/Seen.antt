@@ -2,12 +2,15 @@
 use Rattle.std.proofs.Common.{◌≡◌, ℕ, List, Bool, ap, sym, ◌∙◌}
 use Rattle.capn_value.specs.Tree.{nil, node, voids, bits, bytes, pairs, quads, octs, links, rows, cap}
 use Rattle.capn_value.specs.View.{tree_of, trees_of, rows_of}
-use Rattle.capn_value.specs.Views.{tree_of-Nil, tree_of-Node, tree_of-Voids, tree_of-Bits, tree_of-Bytes, tree_of-Pairs, tree_of-Quads, tree_of-Octs, tree_of-Links, tree_of-Rows, tree_of-Cap}
-use Rattle.capn_value.specs.declared.value.Value.{Value, Nil, Node, Voids, Bits, Bytes, Pairs, Quads, Octs, Links, Rows, Cap}
+use Rattle.capn_value.specs.Views.{tree_of-Nil, tree_of-Node, tree_of-Voids, tree_of-Bits, tree_of-Bytes, tree_of-Pairs}
+use Rattle.capn_value.specs.Views.{tree_of-Quads, tree_of-Octs, tree_of-Links, tree_of-Rows, tree_of-Cap}
+use Rattle.capn_value.specs.declared.value.Value.{Value, Nil, Node, Voids, Bits, Bytes, Pairs, Quads, Octs, Links, Rows}
+use Rattle.capn_value.specs.declared.value.Value.{Cap}
 use Rattle.capn_value.specs.declared.value.Body.{Body}
 
 module _ {A : Type 0} (v : Value A) where
-  pub seen-Node : (b : Body A) (slots : List (Value A)) → v ≡ Node b → slots ≡ b.slots → tree_of v ≡ node b.words (trees_of slots)
+  pub seen-Node : (b : Body A) (slots : List (Value A)) → v ≡ Node b → slots ≡ b.slots
+      → tree_of v ≡ node b.words (trees_of slots)
   seen-Node b slots e s = ap tree_of e ∙ tree_of-Node b ∙ ap (λ (x : List (Value A)). node b.words (trees_of x)) (sym s)
 
   pub seen-Links : (xs slots : List (Value A)) → v ≡ Links xs → slots ≡ xs → tree_of v ≡ links (trees_of slots)

@@ -4,7 +4,8 @@ use Rattle.std.specs.Int.{from_bool}
 use Rattle.capn_words.specs.declared.space.Place.{Place}
 use Rattle.capn_words.specs.declared.pointer.Width.{Width}
 use Rattle.capn_words.specs.declared.pointer.Width.TheVariants.{W0, W1, W8, W16, W32, W64, Link, Rows}
-use Rattle.capn_value.specs.Tree.{Tree, nil, node, voids, bits, bytes, pairs, quads, octs, links, rows, cap, Trees, no_trees, tree, Bodies, no_bodies, body, count, count_rows}
+use Rattle.capn_value.specs.Tree.{Tree, nil, node, voids, bits, bytes, pairs, quads, octs, links, rows, cap, Trees}
+use Rattle.capn_value.specs.Tree.{no_trees, tree, Bodies, no_bodies, body, count, count_rows}
 use Rattle.capn_value.specs.Sizes.{height}
 use Rattle.capn_walk.specs.declared.target.Target.{Target}
 use Rattle.capn_walk.specs.declared.target.Target.TheVariants as targets
@@ -60,57 +61,67 @@ module _ (m : List (List ℕ)) where
   cap-at at (links ts) k e h = let f = h.is in cc
   cap-at at (rows bs) k e h = let f = h.3.is in cc
 
-  module _ (at : Place) (s start pads : ℕ) (shape : Shape) (e : target m at ≡ Ok (targets.Content s start shape pads)) where
-    same-shape : (t u p : ℕ) (x : Shape) → target m at ≡ Ok (targets.Content t u x p) → shape ≡ x
-    same-shape t u p x f = cc
+  module _ (at : Place) (s start pads : ℕ) (shape : Shape) (e : target m at ≡ Ok (targets.Content s start shape pads))
+    where
+      same-shape : (t u p : ℕ) (x : Shape) → target m at ≡ Ok (targets.Content t u x p) → shape ≡ x
+      same-shape t u p x f = cc
 
-    same-segment : (t u p : ℕ) (x : Shape) → target m at ≡ Ok (targets.Content t u x p) → t ≡ s
-    same-segment t u p x f = cc
+      same-segment : (t u p : ℕ) (x : Shape) → target m at ≡ Ok (targets.Content t u x p) → t ≡ s
+      same-segment t u p x f = cc
 
-    same-start : (t u p : ℕ) (x : Shape) → target m at ≡ Ok (targets.Content t u x p) → u ≡ start
-    same-start t u p x f = cc
+      same-start : (t u p : ℕ) (x : Shape) → target m at ≡ Ok (targets.Content t u x p) → u ≡ start
+      same-start t u p x f = cc
 
-    -- where the target is content, the value stands inside it
-    pub inside-of : (v : Tree) → IsAt m at v → IsInside m shape s start v
-    inside-of nil h = cc
-    inside-of (cap k) h = cc
-    inside-of (node ws ss) h = (
-      same-shape h.segment h.start h.pads (shapes.Node (length ws) (count ss)) h.is,
-      both (λ (t u : ℕ). AreWords m t u ws) h.segment s h.start start (same-segment h.segment h.start h.pads _ h.is) (same-start h.segment h.start h.pads _ h.is) h.inside.0,
-      both (λ (t u : ℕ). AreAt m t (u + length ws) ss) h.segment s h.start start (same-segment h.segment h.start h.pads _ h.is) (same-start h.segment h.start h.pads _ h.is) h.inside.1,
-    )
-    inside-of (voids n) h = same-shape h.segment h.start h.pads (shapes.Many W0 n) h.is
-    inside-of (bits xs) h = (
-      same-shape h.segment h.start h.pads (shapes.Many W1 (length xs)) h.is,
-      both (λ (t u : ℕ). AreElements 64 1 (words_from m t u) (map from_bool xs)) h.segment s h.start start (same-segment h.segment h.start h.pads _ h.is) (same-start h.segment h.start h.pads _ h.is) h.inside,
-    )
-    inside-of (bytes xs) h = (
-      same-shape h.segment h.start h.pads (shapes.Many W8 (length xs)) h.is,
-      both (λ (t u : ℕ). AreElements 8 8 (words_from m t u) xs) h.segment s h.start start (same-segment h.segment h.start h.pads _ h.is) (same-start h.segment h.start h.pads _ h.is) h.inside,
-    )
-    inside-of (pairs xs) h = (
-      same-shape h.segment h.start h.pads (shapes.Many W16 (length xs)) h.is,
-      both (λ (t u : ℕ). AreElements 4 16 (words_from m t u) xs) h.segment s h.start start (same-segment h.segment h.start h.pads _ h.is) (same-start h.segment h.start h.pads _ h.is) h.inside,
-    )
-    inside-of (quads xs) h = (
-      same-shape h.segment h.start h.pads (shapes.Many W32 (length xs)) h.is,
-      both (λ (t u : ℕ). AreElements 2 32 (words_from m t u) xs) h.segment s h.start start (same-segment h.segment h.start h.pads _ h.is) (same-start h.segment h.start h.pads _ h.is) h.inside,
-    )
-    inside-of (octs xs) h = (
-      same-shape h.segment h.start h.pads (shapes.Many W64 (length xs)) h.is,
-      both (λ (t u : ℕ). AreWords m t u xs) h.segment s h.start start (same-segment h.segment h.start h.pads _ h.is) (same-start h.segment h.start h.pads _ h.is) h.inside,
-    )
-    inside-of (links ts) h = (
-      same-shape h.segment h.start h.pads (shapes.Many Link (count ts)) h.is,
-      both (λ (t u : ℕ). AreAt m t u ts) h.segment s h.start start (same-segment h.segment h.start h.pads _ h.is) (same-start h.segment h.start h.pads _ h.is) h.inside,
-    )
-    inside-of (rows bs) h = let n = h.3 in (
-      h.0,
-      h.1,
-      h.2,
-      same-shape n.segment n.start n.pads (shapes.Rows (count_rows bs) h.0 h.1 h.2) n.is,
-      both (λ (t u : ℕ). RowsAt m h.0 h.1 t (suc u) bs) n.segment s n.start start (same-segment n.segment n.start n.pads _ n.is) (same-start n.segment n.start n.pads _ n.is) n.inside,
-    )
+      -- where the target is content, the value stands inside it
+      pub inside-of : (v : Tree) → IsAt m at v → IsInside m shape s start v
+      inside-of nil h = cc
+      inside-of (cap k) h = cc
+      inside-of (node ws ss) h = (
+        same-shape h.segment h.start h.pads (shapes.Node (length ws) (count ss)) h.is,
+        both (λ (t u : ℕ). AreWords m t u ws) h.segment s h.start start (same-segment h.segment h.start h.pads _ h.is)
+            (same-start h.segment h.start h.pads _ h.is) h.inside.0,
+        both (λ (t u : ℕ). AreAt m t (u + length ws) ss) h.segment s h.start start
+            (same-segment h.segment h.start h.pads _ h.is) (same-start h.segment h.start h.pads _ h.is) h.inside.1,
+      )
+      inside-of (voids n) h = same-shape h.segment h.start h.pads (shapes.Many W0 n) h.is
+      inside-of (bits xs) h = (
+        same-shape h.segment h.start h.pads (shapes.Many W1 (length xs)) h.is,
+        both (λ (t u : ℕ). AreElements 64 1 (words_from m t u) (map from_bool xs)) h.segment s h.start start
+            (same-segment h.segment h.start h.pads _ h.is) (same-start h.segment h.start h.pads _ h.is) h.inside,
+      )
+      inside-of (bytes xs) h = (
+        same-shape h.segment h.start h.pads (shapes.Many W8 (length xs)) h.is,
+        both (λ (t u : ℕ). AreElements 8 8 (words_from m t u) xs) h.segment s h.start start
+            (same-segment h.segment h.start h.pads _ h.is) (same-start h.segment h.start h.pads _ h.is) h.inside,
+      )
+      inside-of (pairs xs) h = (
+        same-shape h.segment h.start h.pads (shapes.Many W16 (length xs)) h.is,
+        both (λ (t u : ℕ). AreElements 4 16 (words_from m t u) xs) h.segment s h.start start
+            (same-segment h.segment h.start h.pads _ h.is) (same-start h.segment h.start h.pads _ h.is) h.inside,
+      )
+      inside-of (quads xs) h = (
+        same-shape h.segment h.start h.pads (shapes.Many W32 (length xs)) h.is,
+        both (λ (t u : ℕ). AreElements 2 32 (words_from m t u) xs) h.segment s h.start start
+            (same-segment h.segment h.start h.pads _ h.is) (same-start h.segment h.start h.pads _ h.is) h.inside,
+      )
+      inside-of (octs xs) h = (
+        same-shape h.segment h.start h.pads (shapes.Many W64 (length xs)) h.is,
+        both (λ (t u : ℕ). AreWords m t u xs) h.segment s h.start start (same-segment h.segment h.start h.pads _ h.is)
+            (same-start h.segment h.start h.pads _ h.is) h.inside,
+      )
+      inside-of (links ts) h = (
+        same-shape h.segment h.start h.pads (shapes.Many Link (count ts)) h.is,
+        both (λ (t u : ℕ). AreAt m t u ts) h.segment s h.start start (same-segment h.segment h.start h.pads _ h.is)
+            (same-start h.segment h.start h.pads _ h.is) h.inside,
+      )
+      inside-of (rows bs) h = let n = h.3 in (
+        h.0,
+        h.1,
+        h.2,
+        same-shape n.segment n.start n.pads (shapes.Rows (count_rows bs) h.0 h.1 h.2) n.is,
+        both (λ (t u : ℕ). RowsAt m h.0 h.1 t (suc u) bs) n.segment s n.start start
+            (same-segment n.segment n.start n.pads _ n.is) (same-start n.segment n.start n.pads _ n.is) n.inside,
+      )
 
 -- content has a height
 pub inside-height : (m : List (List ℕ)) (shape : Shape) (s w : ℕ) (v : Tree) → IsInside m shape s w v → 1 ≤ height v
@@ -190,7 +201,8 @@ pub record IsRows (m : List (List ℕ)) (n a b s w : ℕ) (v : Tree) : Type 0 wh
   pub count : count_rows bodies ≡ n
   pub below : RowsAt m a b s (w + 1) bodies
 
-pub as-rows : (m : List (List ℕ)) (n a b span s w : ℕ) (v : Tree) → IsInside m (shapes.Rows n a b span) s w v → IsRows m n a b s w v
+pub as-rows : (m : List (List ℕ)) (n a b span s w : ℕ) (v : Tree) → IsInside m (shapes.Rows n a b span) s w v
+    → IsRows m n a b s w v
 as-rows m n a b span s w (rows bs) h =
     let f = h.3 in
     let ea : h.0 ≡ a = cc in
@@ -200,7 +212,8 @@ as-rows m n a b span s w (rows bs) h =
       bodies = bs;
       is = refl;
       count = cc;
-      below = subst (λ (x : ℕ). RowsAt m a b s x bs) z (both (λ (x y : ℕ). RowsAt m x y s (suc w) bs) h.0 a h.1 b ea eb h.4);
+      below = subst (λ (x : ℕ). RowsAt m a b s x bs) z
+          (both (λ (x y : ℕ). RowsAt m x y s (suc w) bs) h.0 a h.1 b ea eb h.4);
     }
 as-rows m n a b span s w nil h = absurd h
 as-rows m n a b span s w (cap k) h = absurd h

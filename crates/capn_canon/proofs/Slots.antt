@@ -1,5 +1,6 @@
 -- One slot after the other is laid.
-use Rattle.std.proofs.Common.{◌≡◌, ℕ, zero, suc, ◌+◌, ◌-◌, ◌^◌, ◌<◌, ◌≤◌, List, ◌++◌, length, set, Option, Some, Ok, refl, ap, ap₂, sym, subst, ◌∙◌, arith, append-nil}
+use Rattle.std.proofs.Common.{◌≡◌, ℕ, zero, suc, ◌+◌, ◌-◌, ◌^◌, ◌<◌, ◌≤◌, List, ◌++◌, length, set, Option, Some, Ok}
+use Rattle.std.proofs.Common.{refl, ap, ap₂, sym, subst, ◌∙◌, arith, append-nil}
 use Rattle.std.proofs.lemmas.List.{length-set}
 use Rattle.capn_words.specs.declared.space.Place.{Place}
 use Rattle.capn_words.specs.Fields.{word_of}
@@ -19,11 +20,13 @@ abbrev pub slot : ℕ → ℕ → Place
 slot s w = record { segment = s; word = w }
 
 -- values that have nothing below them
-pub laid-null : (v : Tree) (p : List (Option ℕ)) (from : ℕ) → v ≡ nil → set p from (Some 0) ≡ laid v (set p from (Some (point v from (length p))))
+pub laid-null : (v : Tree) (p : List (Option ℕ)) (from : ℕ) → v ≡ nil
+    → set p from (Some 0) ≡ laid v (set p from (Some (point v from (length p))))
 unfolding laid point
 laid-null v p from e = rw e (sym (append-nil (set p from (Some 0))))
 
-pub laid-cap : (v : Tree) (k : ℕ) (p : List (Option ℕ)) (from : ℕ) → v ≡ cap k → set p from (Some (word_of (Cap k))) ≡ laid v (set p from (Some (point v from (length p))))
+pub laid-cap : (v : Tree) (k : ℕ) (p : List (Option ℕ)) (from : ℕ) → v ≡ cap k
+    → set p from (Some (word_of (Cap k))) ≡ laid v (set p from (Some (point v from (length p))))
 unfolding laid point
 laid-cap v k p from e = rw e (sym (append-nil (set p from (Some (word_of (Cap k))))))
 
@@ -40,7 +43,8 @@ pub record IsNext (m : List (List ℕ)) (s w number depth n : ℕ) : Type 0 wher
   pub lows : greatest others ≤ depth
   pub room : n + size value + sizes others ≤ 2 ^ 29
 
-next-of : (m : List (List ℕ)) (s w number depth n : ℕ) (ts : Trees) → AreAt m s w ts → count ts ≡ number → 0 < number → Sounds ts → greatest ts ≤ depth → n + sizes ts ≤ 2 ^ 29 → IsNext m s w number depth n
+next-of : (m : List (List ℕ)) (s w number depth n : ℕ) (ts : Trees) → AreAt m s w ts → count ts ≡ number → 0 < number
+    → Sounds ts → greatest ts ≤ depth → n + sizes ts ≤ 2 ^ 29 → IsNext m s w number depth n
 next-of m s w number depth n no_trees a e lt o g r = absurd (omega arith)
 next-of m s w number depth n (tree t ts) a e lt o g r = record {
   value = t;
@@ -55,15 +59,19 @@ next-of m s w number depth n (tree t ts) a e lt o g r = record {
   room = omega arith;
 }
 
-pub next : (m : List (List ℕ)) (s w number depth n : ℕ) → AreReady m s w number depth n → 0 < number → IsNext m s w number depth n
+pub next : (m : List (List ℕ)) (s w number depth n : ℕ) → AreReady m s w number depth n → 0 < number
+    → IsNext m s w number depth n
 next m s w number depth n r lt = next-of m s w number depth n r.values r.are r.count lt r.sound r.low r.room
 
-pub next-ready : (m : List (List ℕ)) (s w number depth n : ℕ) → IsNext m s w number depth n → IsReady m (slot s w) depth n
-next-ready m s w number depth n x = record { value = x.value; is = x.is; sound = x.sound; low = x.low; room = let r = x.room in omega arith }
+pub next-ready : (m : List (List ℕ)) (s w number depth n : ℕ) → IsNext m s w number depth n
+    → IsReady m (slot s w) depth n
+next-ready m s w number depth n x =
+    record { value = x.value; is = x.is; sound = x.sound; low = x.low; room = let r = x.room in omega arith }
 
 -- the loop begins
 module _ (m : List (List ℕ)) (s w n first depth : ℕ) (p : List (Option ℕ)) where
-  pub begins-rest : (us ts : Trees) → AreAt m s (w + 0) us → count us ≡ n - 0 → AreAt m s w ts → count ts ≡ n → laid_slots (n - 0) us (first + 0) p ≡ laid_slots n ts first p
+  pub begins-rest : (us ts : Trees) → AreAt m s (w + 0) us → count us ≡ n - 0 → AreAt m s w ts → count ts ≡ n
+      → laid_slots (n - 0) us (first + 0) p ≡ laid_slots n ts first p
   begins-rest us ts hu cu ht ct =
       let z : w + 0 ≡ w = omega arith in
       let e : us ≡ ts = unique-slots m us ts s w (omega arith) (subst (λ (x : ℕ). AreAt m s x us) z hu) ht in
@@ -80,7 +88,8 @@ module _ (m : List (List ℕ)) (s w n first depth : ℕ) (p : List (Option ℕ))
   }
 
 -- one slot has been laid
-module _ (m : List (List ℕ)) (s w n first depth i : ℕ) (p q : List (Option ℕ)) (lt : i < n) (ready : AreReady m s (w + i) (n - i) depth (length p))
+module _ (m : List (List ℕ)) (s w n first depth i : ℕ) (p q : List (Option ℕ)) (lt : i < n)
+    (ready : AreReady m s (w + i) (n - i) depth (length p))
     (h : IsLaid m (slot s (w + i)) (first + i) p q) where
   this : IsNext m s (w + i) (n - i) depth (length p)
   this = next m s (w + i) (n - i) depth (length p) ready (omega arith)
@@ -88,8 +97,11 @@ module _ (m : List (List ℕ)) (s w n first depth i : ℕ) (p q : List (Option �
   grown : q ≡ laid this.value (set p (first + i) (Some (point this.value (first + i) (length p))))
   grown = h this.value this.is
 
-  pub then-rest : (z : List (Option ℕ)) → ((us ts : Trees) → AreAt m s (w + i) us → count us ≡ n - i → AreAt m s w ts → count ts ≡ n → laid_slots (n - i) us (first + i) p ≡ laid_slots n ts first z)
-      → (us ts : Trees) → AreAt m s (w + (i + 1)) us → count us ≡ n - (i + 1) → AreAt m s w ts → count ts ≡ n → laid_slots (n - (i + 1)) us (first + (i + 1)) q ≡ laid_slots n ts first z
+  pub then-rest : (z : List (Option ℕ))
+      → ((us ts : Trees) → AreAt m s (w + i) us → count us ≡ n - i → AreAt m s w ts → count ts ≡ n
+      → laid_slots (n - i) us (first + i) p ≡ laid_slots n ts first z)
+      → (us ts : Trees) → AreAt m s (w + (i + 1)) us → count us ≡ n - (i + 1) → AreAt m s w ts → count ts ≡ n
+      → laid_slots (n - (i + 1)) us (first + (i + 1)) q ≡ laid_slots n ts first z
   then-rest z inv us ts hu cu ht ct =
       let t = this.value in
       let a : n - i ≡ suc (n - (i + 1)) = omega arith in
@@ -98,7 +110,8 @@ module _ (m : List (List ℕ)) (s w n first depth i : ℕ) (p q : List (Option �
       let au : AreAt m s (w + i) (tree t us) = (this.is, subst (λ (x : ℕ). AreAt m s x us) d hu) in
       let full = inv (tree t us) ts au (omega arith) ht ct in
       ap (laid_slots (n - (i + 1)) us (first + (i + 1))) grown
-      ∙ ap (λ (x : ℕ). laid_slots (n - (i + 1)) us x (laid t (set p (first + i) (Some (point t (first + i) (length p)))))) c
+      ∙ ap (λ (x : ℕ). laid_slots (n - (i + 1)) us x
+      (laid t (set p (first + i) (Some (point t (first + i) (length p)))))) c
       ∙ sym (slots-next (n - (i + 1)) t us (first + i) p)
       ∙ ap (λ (x : ℕ). laid_slots x (tree t us) (first + i) p) (sym a)
       ∙ full
@@ -130,6 +143,8 @@ module _ (m : List (List ℕ)) (s w n first depth i : ℕ) (p q : List (Option �
 
 -- all slots have been laid
 pub ends-rest : (m : List (List ℕ)) (s w n first i : ℕ) (p z : List (Option ℕ)) → n ≤ i
-    → ((us ts : Trees) → AreAt m s (w + i) us → count us ≡ n - i → AreAt m s w ts → count ts ≡ n → laid_slots (n - i) us (first + i) p ≡ laid_slots n ts first z)
+    → ((us ts : Trees) → AreAt m s (w + i) us → count us ≡ n - i → AreAt m s w ts → count ts ≡ n
+    → laid_slots (n - i) us (first + i) p ≡ laid_slots n ts first z)
     → AreLaid m s w n first z p
-ends-rest m s w n first i p z le inv ts ht ct = sym (slots-none (n - i) (first + i) p) ∙ inv no_trees ts tt (omega arith) ht ct
+ends-rest m s w n first i p z le inv ts ht ct = sym (slots-none (n - i) (first + i) p)
+    ∙ inv no_trees ts tt (omega arith) ht ct

@@ -1,5 +1,7 @@
 -- Words that stand in others, cut and joined.
-use Rattle.std.proofs.Common.{◌≡◌, ◌↔◌, ℕ, zero, suc, ◌+◌, ◌*◌, ◌/◌, ◌%◌, ◌^◌, ◌<◌, ◌≤◌, List, [], ◌∷◌, ◌++◌, length, take, drop, slice_index, refl, ap, ap₂, sym, subst, ◌∙◌, arith, append-nil, length-append, length-drop, Option, Some, None}
+use Rattle.std.proofs.Common.{◌≡◌, ◌↔◌, ℕ, zero, suc, ◌+◌, ◌*◌, ◌/◌, ◌%◌, ◌^◌, ◌<◌, ◌≤◌, List, [], ◌∷◌, ◌++◌, length}
+use Rattle.std.proofs.Common.{take, drop, slice_index, refl, ap, ap₂, sym, subst, ◌∙◌, arith, append-nil, length-append}
+use Rattle.std.proofs.Common.{length-drop, Option, Some, None}
 use Rattle.std.proofs.Math.Seq.{drop-cons}
 use Rattle.std.proofs.lemmas.List.{drop-drop, length-take-le, get_or-drop}
 use Rattle.capn_canon.specs.Bits.{first_bits, last_bits}
@@ -13,13 +15,16 @@ take-plus (suc m) n [] = let e : suc m + n ≡ suc (m + n) = omega arith in ap (
     none : (n : ℕ) → [] ≡ take {A = ℕ} n []
     none zero = refl
     none (suc n) = refl
-take-plus (suc m) n (x ∷ xs) = let e : suc m + n ≡ suc (m + n) = omega arith in ap (λ (k : ℕ). take k (x ∷ xs)) e ∙ ap (λ (ys : List ℕ). x ∷ ys) (take-plus m n xs)
+take-plus (suc m) n (x ∷ xs) = let e : suc m + n ≡ suc (m + n) = omega arith in ap (λ (k : ℕ). take k (x ∷ xs)) e
+    ∙ ap (λ (ys : List ℕ). x ∷ ys) (take-plus m n xs)
 
 module _ (all : List ℕ) (at : ℕ) where
   pub stand-none : Stand all at []
   stand-none = refl
 
-  seam : (xs ys : List ℕ) → take (length (xs ++ ys)) (drop at all) ≡ take (length xs) (drop at all) ++ take (length ys) (drop (at + length xs) all)
+  seam : (xs ys : List ℕ)
+      → take (length (xs ++ ys)) (drop at all) ≡ take (length xs) (drop at all)
+      ++ take (length ys) (drop (at + length xs) all)
   seam xs ys =
       ap (λ (k : ℕ). take k (drop at all)) (length-append xs ys) ∙ take-plus (length xs) (length ys) (drop at all)
       ∙ ap (λ (zs : List ℕ). take (length xs) (drop at all) ++ take (length ys) zs) (drop-drop (length xs) at all)
@@ -55,7 +60,8 @@ module _ (all : List ℕ) (at : ℕ) where
       let r = same-front a b c d f (omega arith) in
       (ap₂ (λ (u : ℕ) (us : List ℕ). u ∷ us) g r.0, r.1)
 
-  both : (xs ys : List ℕ) → Stand all at (xs ++ ys) → (take (length xs) (drop at all) ≡ xs) × (take (length ys) (drop (at + length xs) all) ≡ ys)
+  both : (xs ys : List ℕ) → Stand all at (xs ++ ys) → (take (length xs) (drop at all) ≡ xs)
+      × (take (length ys) (drop (at + length xs) all) ≡ ys)
   both xs ys h =
       let e = sym (seam xs ys) ∙ h in
       let l = ap length e in
@@ -72,8 +78,10 @@ module _ (all : List ℕ) (at : ℕ) where
   stand-back xs ys h = (both xs ys h).1
 
   -- one word, and those behind it
-  pub stand-cons : (x : ℕ) (xs : List ℕ) → at < length all → slice_index all at ≡ x → Stand all (suc at) xs → Stand all at (x ∷ xs)
-  stand-cons x xs lt e h = ap (λ (zs : List ℕ). take (suc (length xs)) zs) (drop-cons all at 0 lt) ∙ ap₂ (λ (u : ℕ) (us : List ℕ). u ∷ us) e h
+  pub stand-cons : (x : ℕ) (xs : List ℕ) → at < length all → slice_index all at ≡ x → Stand all (suc at) xs
+      → Stand all at (x ∷ xs)
+  stand-cons x xs lt e h = ap (λ (zs : List ℕ). take (suc (length xs)) zs) (drop-cons all at 0 lt)
+      ∙ ap₂ (λ (u : ℕ) (us : List ℕ). u ∷ us) e h
 
   pub stand-head : (x : ℕ) (xs : List ℕ) → at < length all → Stand all at (x ∷ xs) → slice_index all at ≡ x
   stand-head x xs lt h = let e = sym (ap (λ (zs : List ℕ). take (suc (length xs)) zs) (drop-cons all at 0 lt)) ∙ h in cc
@@ -89,11 +97,13 @@ told P Q m n None f g e h = λ q. h (g q)
 -- the first bits of the words that stand there stand there exactly if the others of the last word are zero
 module _ (all : List ℕ) (at n : ℕ) (room : at + (n + 63) / 64 ≤ length all) where
   whole-part : Stand all at (take (n / 64) (drop at all))
-  whole-part = let d = length-drop at all in let l = length-take-le (n / 64) (drop at all) (omega arith) in ap (λ (k : ℕ). take k (drop at all)) l
+  whole-part = let d = length-drop at all in let l = length-take-le (n / 64) (drop at all) (omega arith) in
+      ap (λ (k : ℕ). take k (drop at all)) l
 
   pub bits-whole : n % 64 ≡ 0 → Stand all at (first_bits n (drop at all))
   bits-whole e =
-      subst (Stand all at) (sym (append-nil (take (n / 64) (drop at all))) ∙ ap (λ (r : ℕ). take (n / 64) (drop at all) ++ last_bits r (drop (n / 64) (drop at all))) (sym e)) whole-part
+      subst (Stand all at) (sym (append-nil (take (n / 64) (drop at all)))
+      ∙ ap (λ (r : ℕ). take (n / 64) (drop at all) ++ last_bits r (drop (n / 64) (drop at all))) (sym e)) whole-part
 
   module _ (some : 0 < n % 64) where
     pub last-word : ℕ
@@ -104,20 +114,24 @@ module _ (all : List ℕ) (at n : ℕ) (room : at + (n + 63) / 64 ≤ length all
     is-last =
         let z : at + (n / 64 + 0) ≡ at + n / 64 = omega arith in
         some-last (n % 64) (drop (n / 64) (drop at all)) some
-        ∙ ap (λ (x : ℕ). x % 2 ^ (n % 64) ∷ []) (get_or-drop (n / 64) (drop at all) 0 0 ∙ get_or-drop at all (n / 64 + 0) 0 ∙ ap (slice_index all) z)
+        ∙ ap (λ (x : ℕ). x % 2 ^ (n % 64) ∷ []) (get_or-drop (n / 64) (drop at all) 0 0
+        ∙ get_or-drop at all (n / 64 + 0) 0 ∙ ap (slice_index all) z)
 
     long : length (take (n / 64) (drop at all)) ≡ n / 64
     long = let d = length-drop at all in length-take-le (n / 64) (drop at all) (omega arith)
 
-    pub bits-cut : slice_index all (at + n / 64) ≡ slice_index all (at + n / 64) % 2 ^ (n % 64) → Stand all at (first_bits n (drop at all))
+    pub bits-cut : slice_index all (at + n / 64) ≡ slice_index all (at + n / 64) % 2 ^ (n % 64)
+        → Stand all at (first_bits n (drop at all))
     unfolding last-word
     bits-cut e =
         stand-join all at (take (n / 64) (drop at all)) (last_bits (n % 64) (drop (n / 64) (drop at all))) whole-part
         (subst (Stand all (at + length (take (n / 64) (drop at all)))) (sym is-last)
         (subst (λ (k : ℕ). Stand all (at + k) (last-word % 2 ^ (n % 64) ∷ [])) (sym long)
-        (stand-cons all (at + n / 64) (last-word % 2 ^ (n % 64)) [] (omega arith) e (stand-none all (suc (at + n / 64))))))
+        (stand-cons all (at + n / 64) (last-word % 2 ^ (n % 64)) [] (omega arith) e
+        (stand-none all (suc (at + n / 64))))))
 
-    pub bits-are-cut : Stand all at (first_bits n (drop at all)) → slice_index all (at + n / 64) ≡ slice_index all (at + n / 64) % 2 ^ (n % 64)
+    pub bits-are-cut : Stand all at (first_bits n (drop at all))
+        → slice_index all (at + n / 64) ≡ slice_index all (at + n / 64) % 2 ^ (n % 64)
     unfolding last-word
     bits-are-cut h =
         let b = stand-back all at (take (n / 64) (drop at all)) (last_bits (n % 64) (drop (n / 64) (drop at all))) h in

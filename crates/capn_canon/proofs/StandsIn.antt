@@ -1,5 +1,6 @@
 -- Words that stand inside a longer list of words.
-use Rattle.std.proofs.Common.{◌≡◌, ℕ, ◌+◌, ◌≤◌, List, ◌∷◌, ◌++◌, length, take, drop, slice_index, ap, sym, ◌∙◌, arith, length-append, append_assoc}
+use Rattle.std.proofs.Common.{◌≡◌, ℕ, ◌+◌, ◌≤◌, List, ◌∷◌, ◌++◌, length, take, drop, slice_index, ap, sym, ◌∙◌, arith}
+use Rattle.std.proofs.Common.{length-append, append_assoc}
 use Rattle.std.proofs.lemmas.List.{drop_at, get_or-drop}
 use Rattle.std.proofs.Math.Seq.{take-append_seam}
 
@@ -25,7 +26,8 @@ module _ (ws : List ℕ) (at : ℕ) where
   has-back xs ys h = record {
     before = h.before ++ xs;
     behind = h.behind;
-    is = h.is ∙ ap (λ (r : List ℕ). h.before ++ r) (append_assoc xs ys h.behind) ∙ sym (append_assoc h.before xs (ys ++ h.behind));
+    is = h.is ∙ ap (λ (r : List ℕ). h.before ++ r) (append_assoc xs ys h.behind)
+        ∙ sym (append_assoc h.before xs (ys ++ h.behind));
     where_at = let e = length-append h.before xs in let f = h.where_at in omega arith;
   }
 

@@ -1,5 +1,6 @@
 -- Values that stand with no landing pads and no slack: what they are paid.
-use Rattle.std.proofs.Common.{◌≡◌, ◌≢◌, ℕ, zero, suc, ◌+◌, ◌-◌, ◌*◌, ◌<◌, ◌≤◌, ◌==◌, List, [], ◌∷◌, ◌++◌, length, map, Ok, refl, ap, ◌∙◌, arith, cond, if◌then◌else◌}
+use Rattle.std.proofs.Common.{◌≡◌, ◌≢◌, ℕ, zero, suc, ◌+◌, ◌-◌, ◌*◌, ◌<◌, ◌≤◌, ◌==◌, List, [], ◌∷◌, ◌++◌, length, map}
+use Rattle.std.proofs.Common.{Ok, refl, ap, ◌∙◌, arith, cond, if◌then◌else◌}
 use Rattle.std.specs.Bool.{⊤}
 use Rattle.std.specs.List.{flat_map}
 use Rattle.std.specs.Int.{from_bool}
@@ -7,7 +8,8 @@ use Rattle.std.proofs.lemmas.Grind.{flat_map-append}
 use Rattle.std.proofs.lemmas.Bool.Decides.{nat_tests}
 use Rattle.capn_words.specs.declared.space.Place.{Place}
 use Rattle.capn_words.specs.declared.pointer.Width.TheVariants.{W0, W1, W8, W16, W32, W64, Link}
-use Rattle.capn_value.specs.Tree.{Tree, nil, node, voids, bits, bytes, pairs, quads, octs, links, rows, cap, Trees, no_trees, tree, Bodies, no_bodies, body, count, count_rows, row_words}
+use Rattle.capn_value.specs.Tree.{Tree, nil, node, voids, bits, bytes, pairs, quads, octs, links, rows, cap, Trees}
+use Rattle.capn_value.specs.Tree.{no_trees, tree, Bodies, no_bodies, body, count, count_rows, row_words}
 use Rattle.capn_value.specs.Sizes.{height, greatest, greatest_in_rows, cost, costs, costs_in_rows, rows_price}
 use Rattle.capn_walk.specs.declared.target.Target.TheVariants as targets
 use Rattle.capn_walk.specs.declared.target.Shape.{Shape}
@@ -28,20 +30,24 @@ module _ (m : List (List ℕ)) where
     pub is : target m at ≡ Ok (targets.Content segment start shape 0)
     pub inside : Inside segment start
 
-  -- the value stands at the place, each of its parts behind a near pointer and the words of struct lists being those of the rows
+  -- the value stands at the place, each of its parts behind a near pointer and the words of struct lists being
+  -- those of the rows
   abbrev mutual
     pub TightAt : Place → Tree → Type 0
     TightAt at nil = target m at ≡ Ok targets.Nil
     TightAt at (cap k) = target m at ≡ Ok (targets.Cap k)
-    TightAt at (node ws ss) = Close at (shapes.Node (length ws) (count ss)) (λ s w. AreWords m s w ws × AreTight s (w + length ws) ss)
+    TightAt at (node ws ss) =
+        Close at (shapes.Node (length ws) (count ss)) (λ s w. AreWords m s w ws × AreTight s (w + length ws) ss)
     TightAt at (voids n) = Close at (shapes.Many W0 n) (λ s w. ⊤)
-    TightAt at (bits xs) = Close at (shapes.Many W1 (length xs)) (λ s w. AreElements 64 1 (words_from m s w) (map from_bool xs))
+    TightAt at (bits xs) =
+        Close at (shapes.Many W1 (length xs)) (λ s w. AreElements 64 1 (words_from m s w) (map from_bool xs))
     TightAt at (bytes xs) = Close at (shapes.Many W8 (length xs)) (λ s w. AreElements 8 8 (words_from m s w) xs)
     TightAt at (pairs xs) = Close at (shapes.Many W16 (length xs)) (λ s w. AreElements 4 16 (words_from m s w) xs)
     TightAt at (quads xs) = Close at (shapes.Many W32 (length xs)) (λ s w. AreElements 2 32 (words_from m s w) xs)
     TightAt at (octs xs) = Close at (shapes.Many W64 (length xs)) (λ s w. AreWords m s w xs)
     TightAt at (links ts) = Close at (shapes.Many Link (count ts)) (λ s w. AreTight s w ts)
-    TightAt at (rows bs) = (a b : ℕ) × Close at (shapes.Rows (count_rows bs) a b (count_rows bs * (a + b))) (λ s w. TightRows a b s (suc w) bs)
+    TightAt at (rows bs) = (a b : ℕ)
+        × Close at (shapes.Rows (count_rows bs) a b (count_rows bs * (a + b))) (λ s w. TightRows a b s (suc w) bs)
 
     pub AreTight : ℕ → ℕ → Trees → Type 0
     AreTight s w no_trees = ⊤
@@ -57,14 +63,30 @@ module _ (m : List (List ℕ)) where
     pub loosen : (v : Tree) (at : Place) → TightAt at v → IsAt m at v
     loosen nil at h = h
     loosen (cap k) at h = h
-    loosen (node ws ss) at h = record { segment = h.segment; start = h.start; pads = 0; is = h.is; inside = (h.inside.0, loosen-slots ss h.segment (h.start + length ws) h.inside.1) }
+    loosen (node ws ss) at h =
+        record {
+          segment = h.segment;
+          start = h.start;
+          pads = 0;
+          is = h.is;
+          inside =
+              (h.inside.0, loosen-slots ss h.segment (h.start + length ws) h.inside.1);
+        }
     loosen (voids n) at h = record { segment = h.segment; start = h.start; pads = 0; is = h.is; inside = tt }
     loosen (bits xs) at h = record { segment = h.segment; start = h.start; pads = 0; is = h.is; inside = h.inside }
     loosen (bytes xs) at h = record { segment = h.segment; start = h.start; pads = 0; is = h.is; inside = h.inside }
     loosen (pairs xs) at h = record { segment = h.segment; start = h.start; pads = 0; is = h.is; inside = h.inside }
     loosen (quads xs) at h = record { segment = h.segment; start = h.start; pads = 0; is = h.is; inside = h.inside }
     loosen (octs xs) at h = record { segment = h.segment; start = h.start; pads = 0; is = h.is; inside = h.inside }
-    loosen (links ts) at h = record { segment = h.segment; start = h.start; pads = 0; is = h.is; inside = loosen-slots ts h.segment h.start h.inside }
+    loosen (links ts) at h =
+        record {
+          segment = h.segment;
+          start = h.start;
+          pads = 0;
+          is = h.is;
+          inside =
+              loosen-slots ts h.segment h.start h.inside;
+        }
     loosen (rows bs) at h = (
       h.0,
       h.1,
@@ -84,7 +106,8 @@ module _ (m : List (List ℕ)) where
 
     loosen-rows : (bs : Bodies) (a b s w : ℕ) → TightRows a b s w bs → RowsAt m a b s w bs
     loosen-rows no_bodies a b s w h = tt
-    loosen-rows (body ws ss bs) a b s w h = (h.0, h.1, h.2, loosen-slots ss s (w + a) h.3, loosen-rows bs a b s (w + a + b) h.4)
+    loosen-rows (body ws ss bs) a b s w h =
+        (h.0, h.1, h.2, loosen-slots ss s (w + a) h.3, loosen-rows bs a b s (w + a + b) h.4)
 
 both : (xs ys : List Visit) → AllPay xs → AllPay ys → AllPay (xs ++ ys)
 both [] ys h k = k
@@ -94,17 +117,20 @@ both (fails at e ∷ xs) ys h k = absurd h
 sums : (a b x y z : ℕ) → x ≡ a → y ≡ b → z ≡ x + y → z ≡ a + b
 sums a b x y z h k e = omega arith
 
-rows-price : (bs : Bodies) (a b : ℕ) → row_words bs ≡ count_rows bs * (a + b) → count_rows bs * (a + b) + (if a + b == 0 then count_rows bs else 0) ≡ rows_price bs
+rows-price : (bs : Bodies) (a b : ℕ) → row_words bs ≡ count_rows bs * (a + b)
+    → count_rows bs * (a + b) + (if a + b == 0 then count_rows bs else 0) ≡ rows_price bs
 unfolding rows_price
 rows-price bs a b e =
     pick (λ (x : ℕ). count_rows bs * (a + b) + x ≡ rows_price bs) (a + b == 0) (count_rows bs) 0
-    (λ t. let z : a + b ≡ 0 = grind (arith, nat_tests) in let y : row_words bs ≡ 0 = rw (e, z) (omega arith) in let k : count_rows bs * (a + b) ≡ 0 = rw z (omega arith) in grind (arith, nat_tests))
+    (λ t. let z : a + b ≡ 0 = grind (arith, nat_tests) in let y : row_words bs ≡ 0 = rw (e, z) (omega arith) in
+    let k : count_rows bs * (a + b) ≡ 0 = rw z (omega arith) in grind (arith, nat_tests))
     (λ t. let z : a + b ≢ 0 = grind (arith, nat_tests) in priced (row_words bs) (count_rows bs) (a + b) e z)
   where
     priced : (r n k : ℕ) → r ≡ n * k → k ≢ 0 → n * k + 0 ≡ cond (r == 0) n r
     priced r zero k e z = grind (arith, nat_tests)
     priced r (suc n) zero e z = absurd (z refl)
-    priced r (suc n) (suc k) e z = let p : suc n * suc k ≡ suc (n * suc k + k) = omega arith in let q : r ≢ 0 = omega arith in grind (arith, nat_tests)
+    priced r (suc n) (suc k) e z = let p : suc n * suc k ≡ suc (n * suc k + k) = omega arith in let q : r ≢ 0 =
+        omega arith in grind (arith, nat_tests)
 
 module _ (m : List (List ℕ)) (base : ℕ) where
   -- no fault, and a sum
@@ -127,29 +153,42 @@ module _ (m : List (List ℕ)) (base : ℕ) where
 
   mutual
     -- the visits of a value that stands so have no fault and pay exactly its cost
-    pub exact : (v : Tree) (at : Place) (d : ℕ) → height v ≤ d → TightAt m at v → Pays (visits m base d at) (cost base v)
+    pub exact : (v : Tree) (at : Place) (d : ℕ) → height v ≤ d → TightAt m at v
+        → Pays (visits m base d at) (cost base v)
     exact nil at d l h = let e = visits-null m base at d h in record { all = rw e tt; sum = ap paid_of e ∙ omega arith }
-    exact (cap k) at d l h = let e = visits-cap m base at d k h in record { all = rw e tt; sum = ap paid_of e ∙ omega arith }
+    exact (cap k) at d l h = let e = visits-cap m base at d k h in
+        record { all = rw e tt; sum = ap paid_of e ∙ omega arith }
     exact (node ws ss) at d l h =
-        so _ _ _ (omega arith) (object at d h.segment h.start (costs base ss) (shapes.Node (length ws) (count ss)) h.is (omega arith)
+        so _ _ _ (omega arith)
+        (object at d h.segment h.start (costs base ss) (shapes.Node (length ws) (count ss)) h.is (omega arith)
         (exact-slots ss h.segment (h.start + length ws) (d - 1) (omega arith) h.inside.1))
-    exact (voids n) at d l h = so _ _ _ (omega arith) (object at d h.segment h.start 0 (shapes.Many W0 n) h.is (omega arith) none)
-    exact (bits xs) at d l h = so _ _ _ (omega arith) (object at d h.segment h.start 0 (shapes.Many W1 (length xs)) h.is (omega arith) none)
-    exact (bytes xs) at d l h = so _ _ _ (omega arith) (object at d h.segment h.start 0 (shapes.Many W8 (length xs)) h.is (omega arith) none)
-    exact (pairs xs) at d l h = so _ _ _ (omega arith) (object at d h.segment h.start 0 (shapes.Many W16 (length xs)) h.is (omega arith) none)
-    exact (quads xs) at d l h = so _ _ _ (omega arith) (object at d h.segment h.start 0 (shapes.Many W32 (length xs)) h.is (omega arith) none)
-    exact (octs xs) at d l h = so _ _ _ (omega arith) (object at d h.segment h.start 0 (shapes.Many W64 (length xs)) h.is (omega arith) none)
+    exact (voids n) at d l h =
+        so _ _ _ (omega arith) (object at d h.segment h.start 0 (shapes.Many W0 n) h.is (omega arith) none)
+    exact (bits xs) at d l h =
+        so _ _ _ (omega arith) (object at d h.segment h.start 0 (shapes.Many W1 (length xs)) h.is (omega arith) none)
+    exact (bytes xs) at d l h =
+        so _ _ _ (omega arith) (object at d h.segment h.start 0 (shapes.Many W8 (length xs)) h.is (omega arith) none)
+    exact (pairs xs) at d l h =
+        so _ _ _ (omega arith) (object at d h.segment h.start 0 (shapes.Many W16 (length xs)) h.is (omega arith) none)
+    exact (quads xs) at d l h =
+        so _ _ _ (omega arith) (object at d h.segment h.start 0 (shapes.Many W32 (length xs)) h.is (omega arith) none)
+    exact (octs xs) at d l h =
+        so _ _ _ (omega arith) (object at d h.segment h.start 0 (shapes.Many W64 (length xs)) h.is (omega arith) none)
     exact (links ts) at d l h =
-        so _ _ _ (omega arith) (object at d h.segment h.start (costs base ts) (shapes.Many Link (count ts)) h.is (omega arith)
+        so _ _ _ (omega arith)
+        (object at d h.segment h.start (costs base ts) (shapes.Many Link (count ts)) h.is (omega arith)
         (exact-slots ts h.segment h.start (d - 1) (omega arith) h.inside))
     exact (rows bs) at d l h =
         let o = h.2 in
         let e : suc o.start ≡ o.start + 1 = omega arith in
         let below = exact-rows bs h.0 h.1 o.segment (o.start + 1) (d - 1) (omega arith) (rw e at o.inside) in
         let p = rows-price bs h.0 h.1 below.1 in
-        so _ _ _ (omega arith) (object at d o.segment o.start (costs_in_rows base bs) (shapes.Rows (count_rows bs) h.0 h.1 (count_rows bs * (h.0 + h.1))) o.is (omega arith) below.0)
+        so _ _ _ (omega arith)
+        (object at d o.segment o.start (costs_in_rows base bs)
+        (shapes.Rows (count_rows bs) h.0 h.1 (count_rows bs * (h.0 + h.1))) o.is (omega arith) below.0)
 
-    exact-slots : (ts : Trees) (s w d : ℕ) → greatest ts ≤ d → AreTight m s w ts → Pays (flat_map (visits m base d) (places s w (count ts))) (costs base ts)
+    exact-slots : (ts : Trees) (s w d : ℕ) → greatest ts ≤ d → AreTight m s w ts
+        → Pays (flat_map (visits m base d) (places s w (count ts))) (costs base ts)
     exact-slots no_trees s w d l h = none
     exact-slots (tree t ts) s w d l h =
         let rest = flat_map (visits m base d) (places s (w + 1) (count ts)) in
@@ -158,11 +197,13 @@ module _ (m : List (List ℕ)) (base : ℕ) where
         let two = exact-slots ts s (w + 1) d (omega arith) (rw e at h.1) in
         record {
           all = both (visits m base d (slot s w)) rest one.all two.all;
-          sum = sums (cost base t) (costs base ts) _ _ _ one.sum two.sum (paid-append (visits m base d (slot s w)) rest);
+          sum = sums (cost base t) (costs base ts) _ _ _ one.sum two.sum
+              (paid-append (visits m base d (slot s w)) rest);
         }
 
     exact-rows : (bs : Bodies) (a b s w d : ℕ) → greatest_in_rows bs ≤ d → TightRows m a b s w bs →
-        Pays (flat_map (visits m base d) (row_places s w a b (count_rows bs))) (costs_in_rows base bs) × (row_words bs ≡ count_rows bs * (a + b))
+        Pays (flat_map (visits m base d) (row_places s w a b (count_rows bs))) (costs_in_rows base bs)
+        × (row_words bs ≡ count_rows bs * (a + b))
     exact-rows no_bodies a b s w d l h = (none, omega arith)
     exact-rows (body ws ss bs) a b s w d l h =
         let here = flat_map (visits m base d) (places s (w + a) b) in
@@ -176,7 +217,8 @@ module _ (m : List (List ℕ)) (base : ℕ) where
         let k : suc (count_rows bs) * (a + b) ≡ a + b + count_rows bs * (a + b) = omega arith in (
           record {
             all = rw e (both here rest one.all two.0.all);
-            sum = sums (costs base ss) (costs_in_rows base bs) _ _ _ one.sum two.0.sum (ap paid_of e ∙ paid-append here rest);
+            sum = sums (costs base ss) (costs_in_rows base bs) _ _ _ one.sum two.0.sum (ap paid_of e
+                ∙ paid-append here rest);
           },
           omega arith,
         )

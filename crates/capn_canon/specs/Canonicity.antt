@@ -21,7 +21,8 @@ pub record ReadsBack (bs : List ℕ) (limits : Bounds) (v : Tree) : Type 0 where
 -- so read, they pay exactly the cost of the trimmed value
 abbrev pub PaysItsCost : List ℕ → Bounds → Tree → Type 0
 PaysItsCost bs limits v =
-    (message : List (List ℕ)) → Reads forms.Bare bs limits.message_words message → paid message limits ≡ cost (base limits.tariff) (trimmed v)
+    (message : List (List ℕ)) → Reads forms.Bare bs limits.message_words message
+    → paid message limits ≡ cost (base limits.tariff) (trimmed v)
 
 -- the canonical bytes of the trimmed value are these bytes again
 abbrev pub IsItsOwnForm : List ℕ → Tree → Type 0

@@ -20,9 +20,11 @@ use Rattle.capn_canon.specs.Denotes.{Denotes}
 use Rattle.capn_canon.specs.Refused.{IsRefused}
 use Rattle.capn_canon.specs.Canonicity.{IsCanonicalForm}
 
--- the canonical bytes of a value that fits and is in range are its canonical form, under all limits that hold its cost and height
+-- the canonical bytes of a value that fits and is in range are its canonical form, under all limits that hold its
+-- cost and height
 abbrev pub CanonIsForm : Type 0
-CanonIsForm = (v : Tree) (limits : Bounds) → Fits v → InRange v → cost (base limits.tariff) v ≤ limits.budget → height v ≤ limits.depth
+CanonIsForm = (v : Tree) (limits : Bounds) → Fits v → InRange v → cost (base limits.tariff) v ≤ limits.budget
+    → height v ≤ limits.depth
     → IsCanonicalForm (canon v) limits v
 
 -- two values that fit and are in range have equal canonical bytes exactly if they are the same
@@ -30,7 +32,8 @@ abbrev pub EqualExactlySame : Type 0
 EqualExactlySame = (v w : Tree) → Fits v → InRange v → Fits w → InRange w → (canon v ≡ canon w) ↔ Same v w
 
 -- what holds of a value that bytes denote within limits: its fitness, its price and its canonical form
-pub record HasCanonicalForm (form : Form) (bs : List ℕ) (limits : Bounds) (v : Tree) (h : Denotes form bs limits v) : Type 0 where
+pub record HasCanonicalForm (form : Form) (bs : List ℕ) (limits : Bounds) (v : Tree)
+    (h : Denotes form bs limits v) : Type 0 where
   pub fits : Fits v
   pub in_range : InRange v
   pub cheap : cost (base limits.tariff) v ≤ paid h.message limits
@@ -41,12 +44,14 @@ pub record HasCanonicalForm (form : Form) (bs : List ℕ) (limits : Bounds) (v :
 
 -- each value that bytes denote within limits has
 abbrev pub DenotedHaveForms : Type 0
-DenotedHaveForms = (form : Form) (bs : List ℕ) (limits : Bounds) (v : Tree) → AreLimits limits.message_words limits.budget limits.depth
+DenotedHaveForms = (form : Form) (bs : List ℕ) (limits : Bounds) (v : Tree)
+    → AreLimits limits.message_words limits.budget limits.depth
     → (h : Denotes form bs limits v) → HasCanonicalForm form bs limits v h
 
 -- bytes denote one value at most
 abbrev pub DenoteOne : Type 0
-DenoteOne = (form : Form) (bs : List ℕ) (limits : Bounds) (v w : Tree) → Denotes form bs limits v → Denotes form bs limits w → v ≡ w
+DenoteOne = (form : Form) (bs : List ℕ) (limits : Bounds) (v w : Tree) → Denotes form bs limits v
+    → Denotes form bs limits w → v ≡ w
 
 -- bytes that denote a value without capabilities meet no refusal but want of memory
 abbrev pub DenotedAreNotRefused : Type 0
@@ -55,5 +60,6 @@ DenotedAreNotRefused = (form : Form) (bs : List ℕ) (limits : Bounds) (v : Tree
 
 -- bytes are refused for one reason, but for want of memory
 abbrev pub RefusedForOneReason : Type 0
-RefusedForOneReason = (form : Form) (bs : List ℕ) (limits : Bounds) (r s : Refusal) → (r ≡ refusals.Memory → ⊥) → (s ≡ refusals.Memory → ⊥)
+RefusedForOneReason = (form : Form) (bs : List ℕ) (limits : Bounds) (r s : Refusal) → (r ≡ refusals.Memory → ⊥)
+    → (s ≡ refusals.Memory → ⊥)
     → IsRefused form bs limits r → IsRefused form bs limits s → r ≡ s

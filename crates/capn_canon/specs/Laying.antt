@@ -1,5 +1,6 @@
 -- How a buffer of words and holes grows to a layout.
-use Rattle.std.specs.Prelude.{◌≡◌, ℕ, zero, suc, ◌+◌, ◌<◌, List, [], ◌++◌, length, take, set, replicate, Option, Some, None, ⊤}
+use Rattle.std.specs.Prelude.{◌≡◌, ℕ, zero, suc, ◌+◌, ◌<◌, List, [], ◌++◌, length, take, set, replicate, Option, Some}
+use Rattle.std.specs.Prelude.{None, ⊤}
 use Rattle.capn_value.specs.Tree.{Tree, Trees, no_trees, tree, Bodies, no_bodies, body}
 use Rattle.capn_canon.specs.Patch.{whole, IsHole}
 use Rattle.capn_canon.specs.Layout.{point, lay}
@@ -12,7 +13,8 @@ laid t p = p ++ whole (lay t (length p))
 unfoldable pub laid_slots : ℕ → Trees → ℕ → List (Option ℕ) → List (Option ℕ)
 laid_slots n no_trees first p = p
 laid_slots zero (tree t ts) first p = laid_slots zero ts (suc first) (laid t p)
-laid_slots (suc n) (tree t ts) first p = laid_slots n ts (suc first) (laid t (set p first (Some (point t first (length p)))))
+laid_slots (suc n) (tree t ts) first p =
+    laid_slots n ts (suc first) (laid t (set p first (Some (point t first (length p)))))
 
 -- the slots of each row, of a words and b slots, are laid; the first row stands at a place (own)
 unfoldable pub laid_rows : ℕ → ℕ → Bodies → ℕ → List (Option ℕ) → List (Option ℕ)
@@ -27,7 +29,8 @@ row_holes a b (body ws ss bs) = whole (take a ws) ++ (replicate b None ++ row_ho
 -- the first words of each row, with b words or holes behind them (own)
 abbrev pub AreRowsOver : ℕ → ℕ → Bodies → List (Option ℕ) → Type 0
 AreRowsOver a b no_bodies cs = cs ≡ []
-AreRowsOver a b (body ws ss bs) cs = (hs : List (Option ℕ)) × (rest : List (Option ℕ)) × (cs ≡ whole (take a ws) ++ (hs ++ rest)) × (length hs ≡ b) × AreRowsOver a b bs rest
+AreRowsOver a b (body ws ss bs) cs = (hs : List (Option ℕ)) × (rest : List (Option ℕ))
+    × (cs ≡ whole (take a ws) ++ (hs ++ rest)) × (length hs ≡ b) × AreRowsOver a b bs rest
 
 -- so many holes stand from a place on (own)
 abbrev pub AreHoles : List (Option ℕ) → ℕ → ℕ → Type 0

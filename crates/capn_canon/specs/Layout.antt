@@ -1,12 +1,14 @@
 -- The canonical layout of a value, by sums of sizes. (Page: canonicalization.)
-use Rattle.std.specs.Prelude.{ℕ, zero, suc, ◌+◌, ◌-◌, ◌*◌, ◌/◌, ◌^◌, ◌==◌, ◌&&◌, List, [], ◌∷◌, ◌++◌, map, length, take, drop, pos, negsuc, if◌then◌else◌}
+use Rattle.std.specs.Prelude.{ℕ, zero, suc, ◌+◌, ◌-◌, ◌*◌, ◌/◌, ◌^◌, ◌==◌, ◌&&◌, List, [], ◌∷◌, ◌++◌, map, length, take}
+use Rattle.std.specs.Prelude.{drop, pos, negsuc, if◌then◌else◌}
 use Rattle.std.specs.Int.{from_bool}
 use Rattle.capn_words.specs.Words.{bytes}
 use Rattle.capn_words.specs.Fields.{word_of}
 use Rattle.capn_words.specs.declared.pointer.Pointer.TheVariants.{Node, Many, Cap}
 use Rattle.capn_words.specs.declared.pointer.Width.{Width}
 use Rattle.capn_words.specs.declared.pointer.Width.TheVariants.{W0, W1, W8, W16, W32, W64, Link, Rows}
-use Rattle.capn_value.specs.Tree.{Tree, nil, node, voids, bits, bytes as octets, pairs, quads, octs, links, rows, cap, Trees, no_trees, tree, Bodies, no_bodies, body, count, count_rows}
+use Rattle.capn_value.specs.Tree.{Tree, nil, node, voids, bits, bytes as octets, pairs, quads, octs, links, rows, cap}
+use Rattle.capn_value.specs.Tree.{Trees, no_trees, tree, Bodies, no_bodies, body, count, count_rows}
 use Rattle.capn_value.specs.Trim.{kept_words, kept_slots, kept_words_of_rows, kept_slots_of_rows}
 
 -- the words that so many bits take (page: lists)
@@ -17,7 +19,8 @@ words_for n = (n + 63) / 64
 abbrev pub row_size : Bodies → ℕ
 row_size bs = kept_words_of_rows bs + kept_slots_of_rows bs
 
--- the words of a value's own content: what is kept of a struct, the elements of a list, a tag before rows (pages: structs, lists)
+-- the words of a value's own content: what is kept of a struct, the elements of a list, a tag before rows (pages:
+-- structs, lists)
 abbrev pub own : Tree → ℕ
 own nil = 0
 own (cap k) = 0
@@ -54,7 +57,8 @@ abbrev mutual
   sizes_in_rows no_bodies = 0
   sizes_in_rows (body ws ss bs) = sizes ss + sizes_in_rows bs
 
--- the pointer, at word `from`, to a list whose content starts at word `to`; its offset counts from the next word (page: lists)
+-- the pointer, at word `from`, to a list whose content starts at word `to`; its offset counts from the next word
+-- (page: lists)
 abbrev pub list_to : ℕ → ℕ → Width → ℕ → ℕ
 list_to from to width n = word_of (Many (pos (to - suc from)) width n)
 
@@ -76,7 +80,8 @@ point (links ts) from to = list_to from to Link (count ts)
 point (rows bs) from to = list_to from to Rows (count_rows bs * row_size bs)
 point (cap k) from to = word_of (Cap k)
 
--- the pointers to values whose content stands one behind the other, each with all below it (page: canonicalization, preorder)
+-- the pointers to values whose content stands one behind the other, each with all below it (page: canonicalization,
+-- preorder)
 abbrev pub points : Trees → ℕ → ℕ → List ℕ
 points no_trees from to = []
 points (tree t ts) from to = point t from to ∷ points ts (suc from) (to + size t)
@@ -102,7 +107,8 @@ abbrev mutual
   pub lay : Tree → ℕ → List ℕ
   lay (node ws ss) at =
       take (kept_words ws) ws
-      ++ (take (kept_slots ss) (points ss (at + kept_words ws) (at + own (node ws ss))) ++ lays ss (at + own (node ws ss)))
+      ++ (take (kept_slots ss) (points ss (at + kept_words ws) (at + own (node ws ss)))
+      ++ lays ss (at + own (node ws ss)))
   lay (links ts) at = points ts at (at + count ts) ++ lays ts (at + count ts)
   lay (rows bs) at =
       word_of (Node (pos (count_rows bs)) (kept_words_of_rows bs) (kept_slots_of_rows bs))

@@ -18,3 +18,4 @@ pub mod Stands
 pub mod Checks
 pub mod Draft
 pub mod Surveys
+pub mod Told

@@ -4,8 +4,10 @@ use Rattle.capn_value.specs.Trim.{kept_words}
 use Rattle.capn_canon.specs.Patch.{whole}
 use Rattle.capn_canon.specs.Layout.{struct_to}
 
--- the pointer to a struct of these words and slot words was put at a place; what is kept of the words was appended, and the kept slots as they stand (own)
+-- the pointer to a struct of these words and slot words was put at a place; what is kept of the words was appended,
+-- and the kept slots as they stand (own)
 pub record IsOpened (ws ss : List ℕ) (from : ℕ) (p q : List (Option ℕ)) (first number : ℕ) : Type 0 where
   pub count : number ≡ kept_words ss
   pub at : first ≡ length p + kept_words ws
-  pub own : q ≡ (set p from (Some (struct_to from (length p) (kept_words ws) (kept_words ss))) ++ whole (take (kept_words ws) ws)) ++ whole (take (kept_words ss) ss)
+  pub own : q ≡ (set p from (Some (struct_to from (length p) (kept_words ws) (kept_words ss)))
+      ++ whole (take (kept_words ws) ws)) ++ whole (take (kept_words ss) ss)

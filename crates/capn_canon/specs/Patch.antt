@@ -1,5 +1,6 @@
 -- A buffer of words and holes is a list: `None` is a hole.
-use Rattle.std.specs.Prelude.{◌≡◌, ℕ, zero, suc, ◌*◌, ◌/◌, ◌%◌, ◌≤◌, ◌==◌, List, [], ◌∷◌, length, take, drop, map, ⊤, slice_get, slice_index, Bool, true, false, Option, Some, None}
+use Rattle.std.specs.Prelude.{◌≡◌, ℕ, zero, suc, ◌*◌, ◌/◌, ◌%◌, ◌≤◌, ◌==◌, List, [], ◌∷◌, length, take, drop, map, ⊤}
+use Rattle.std.specs.Prelude.{slice_get, slice_index, Bool, true, false, Option, Some, None}
 use Rattle.std.specs.Int.{bit_at}
 use Rattle.capn_words.specs.Words.{word_number, AreBytes}
 

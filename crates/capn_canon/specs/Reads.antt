@@ -1,4 +1,5 @@
--- Which message bytes are read as, in each form. (Page: messages, serialization over a stream, packing; the limits are our own.)
+-- Which message bytes are read as, in each form. (Page: messages, serialization over a stream, packing; the limits
+-- are our own.)
 use Rattle.std.specs.Prelude.{◌≡◌, ℕ, ◌+◌, ◌*◌, ◌<◌, ◌≤◌, List, [], ◌∷◌, length}
 use Rattle.capn_words.specs.Message.{total}
 use Rattle.capn_words.specs.Words.{IsBare}

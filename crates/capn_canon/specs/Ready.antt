@@ -19,7 +19,8 @@ module _ (m : List (List ℕ)) where
     pub low : height value ≤ depth
     pub room : n + size value ≤ 2 ^ 29
 
-  -- one value alone stands inside the content that starts at a word, with all below it at most so many objects high (own)
+  -- one value alone stands inside the content that starts at a word, with all below it at most so many objects
+  -- high (own)
   pub record IsReadyInside (shape : Shape) (s w depth n : ℕ) : Type 0 where
     pub value : Tree
     pub is : IsInside m shape s w value
@@ -43,7 +44,8 @@ module _ (m : List (List ℕ)) where
 
   -- the same of the value inside content (own)
   abbrev pub IsLaidInside : Shape → ℕ → ℕ → ℕ → List (Option ℕ) → List (Option ℕ) → Type 0
-  IsLaidInside shape s w from p q = (v : Tree) → IsInside m shape s w v → q ≡ laid v (set p from (Some (point v from (length p))))
+  IsLaidInside shape s w from p q = (v : Tree) → IsInside m shape s w v
+      → q ≡ laid v (set p from (Some (point v from (length p))))
 
   -- the same of so many slots, whose holes stand from a word on (own)
   abbrev pub AreLaid : ℕ → ℕ → ℕ → ℕ → List (Option ℕ) → List (Option ℕ) → Type 0

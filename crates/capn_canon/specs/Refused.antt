@@ -1,4 +1,5 @@
--- Why bytes have no canonical bytes, in each form: by their reading, by the walk of the message, by a capability. (Own: the order of the tests.)
+-- Why bytes have no canonical bytes, in each form: by their reading, by the walk of the message, by a capability.
+-- (Own: the order of the tests.)
 use Rattle.std.specs.Prelude.{◌≡◌, ◌≢◌, ℕ, ◌+◌, List, Some, Err, ⊤}
 use Rattle.capn_words.specs.Words.{ReadsBare}
 use Rattle.capn_pack.specs.Refusal as packs
@@ -27,22 +28,27 @@ abbrev pub IsMisread : Form → List ℕ → ℕ → Refusal → Type 0
 IsMisread forms.Bare bs most (refusals.Bare e) = ReadsBare bs (Err e)
 IsMisread forms.Bare bs most _ = ⊥
 IsMisread forms.Stream bs most r = IsMisframed bs most r
-IsMisread forms.Packed bs most (refusals.Packed e) = (e ≢ unpack_faults.Memory) × packs.IsRefused bs (most + most_table_words) e
+IsMisread forms.Packed bs most (refusals.Packed e) = (e ≢ unpack_faults.Memory)
+    × packs.IsRefused bs (most + most_table_words) e
 IsMisread forms.Packed bs most r = (text : List ℕ) × Unpacks bs most text × IsMisframed text most r
 
--- the message is not accepted, or its value has a capability, the first of which is told; nothing is said of want of memory
+-- the message is not accepted, or its value has a capability, the first of which is told; nothing is said of want of
+-- memory
 abbrev pub IsRefusedMessage : List (List ℕ) → Bounds → Refusal → Type 0
 IsRefusedMessage message limits (refusals.Walk s) = walks.IsRefused message limits s.fault s.place s.paid s.visits
-IsRefusedMessage message limits (refusals.Capability k) = (v : Tree) × walks.IsValueOf message limits v × (first_cap v ≡ Some k)
+IsRefusedMessage message limits (refusals.Capability k) = (v : Tree) × walks.IsValueOf message limits v
+    × (first_cap v ≡ Some k)
 IsRefusedMessage message limits refusals.Memory = ⊤
 IsRefusedMessage message limits _ = ⊥
 
 -- the bytes are not read, or the message that they are read as is refused
 abbrev pub IsRefused : Form → List ℕ → Bounds → Refusal → Type 0
 IsRefused form bs limits (refusals.Walk s) =
-    (message : List (List ℕ)) × Reads form bs limits.message_words message × IsRefusedMessage message limits (refusals.Walk s)
+    (message : List (List ℕ)) × Reads form bs limits.message_words message
+    × IsRefusedMessage message limits (refusals.Walk s)
 IsRefused form bs limits (refusals.Capability k) =
-    (message : List (List ℕ)) × Reads form bs limits.message_words message × IsRefusedMessage message limits (refusals.Capability k)
+    (message : List (List ℕ)) × Reads form bs limits.message_words message
+    × IsRefusedMessage message limits (refusals.Capability k)
 IsRefused form bs limits refusals.Memory = ⊤
 IsRefused form bs limits r = IsMisread form bs limits.message_words r
 

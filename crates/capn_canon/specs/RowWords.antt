@@ -1,5 +1,6 @@
 -- Rows of equal sizes, as the words of a segment have them.
-use Rattle.std.specs.Prelude.{◌≡◌, ℕ, zero, suc, ◌+◌, ◌*◌, ◌^◌, ◌≤◌, max, pos, List, [], ◌∷◌, ◌++◌, length, take, set, Option, Some}
+use Rattle.std.specs.Prelude.{◌≡◌, ℕ, zero, suc, ◌+◌, ◌*◌, ◌^◌, ◌≤◌, max, pos, List, [], ◌∷◌, ◌++◌, length, take, set}
+use Rattle.std.specs.Prelude.{Option, Some}
 use Rattle.capn_words.specs.Fields.{word_of}
 use Rattle.capn_words.specs.declared.pointer.Pointer.TheVariants.{Node}
 use Rattle.capn_words.specs.declared.pointer.Width.TheVariants.{Rows}
@@ -18,17 +19,22 @@ module _ (m : List (List ℕ)) where
   kept_each s w size step zero = 0
   kept_each s w size step (suc n) = max (kept_words (take size (words_from m s w))) (kept_each s (w + step) size step n)
 
-  -- the first words of each of n rows, and behind them the first words of a part that stands so many words further in (own)
+  -- the first words of each of n rows, and behind them the first words of a part that stands so many words further
+  -- in (own)
   abbrev pub row_cells : ℕ → ℕ → ℕ → ℕ → ℕ → ℕ → ℕ → List (Option ℕ)
   row_cells s w step inset a b zero = []
-  row_cells s w step inset a b (suc n) = whole (take a (words_from m s w)) ++ (whole (take b (words_from m s (w + inset))) ++ row_cells s (w + step) step inset a b n)
+  row_cells s w step inset a b (suc n) =
+      whole (take a (words_from m s w))
+      ++ (whole (take b (words_from m s (w + inset))) ++ row_cells s (w + step) step inset a b n)
 
-  -- the pointer to rows was put at a place; the tag was appended, what is kept of the words of each row, and its kept slots as they stand (own)
+  -- the pointer to rows was put at a place; the tag was appended, what is kept of the words of each row, and its
+  -- kept slots as they stand (own)
   pub record AreOpened (s w number a b from : ℕ) (p q : List (Option ℕ)) (first words slots : ℕ) : Type 0 where
     pub kept : words ≡ kept_each s w a (a + b) number
     pub count : slots ≡ kept_each s (w + a) b (a + b) number
     pub at : first ≡ length p + 1
-    pub own : q ≡ (set p from (Some (list_to from (length p) Rows (number * (words + slots)))) ++ Some (word_of (Node (pos number) words slots)) ∷ []) ++ row_cells s w (a + b) a words slots number
+    pub own : q ≡ (set p from (Some (list_to from (length p) Rows (number * (words + slots))))
+        ++ Some (word_of (Node (pos number) words slots)) ∷ []) ++ row_cells s w (a + b) a words slots number
 
   -- so many rows stand one behind the other, and there is room for their slots in a buffer (own)
   pub record RowsReady (s w a b number depth words slots at : ℕ) (p : List (Option ℕ)) : Type 0 where
@@ -43,4 +49,5 @@ module _ (m : List (List ℕ)) where
 
   -- their slots have been laid (own)
   abbrev pub RowsLaid : ℕ → ℕ → ℕ → ℕ → ℕ → ℕ → ℕ → ℕ → List (Option ℕ) → List (Option ℕ) → Type 0
-  RowsLaid s w a b number words slots at p q = (bs : Bodies) → RowsAt m a b s w bs → count_rows bs ≡ number → q ≡ laid_rows words slots bs at p
+  RowsLaid s w a b number words slots at p q = (bs : Bodies) → RowsAt m a b s w bs → count_rows bs ≡ number
+      → q ≡ laid_rows words slots bs at p

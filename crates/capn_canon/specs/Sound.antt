@@ -1,6 +1,7 @@
 -- Values whose counts, sizes and indices have room in pointers.
 use Rattle.std.specs.Prelude.{ℕ, ◌*◌, ◌^◌, ◌<◌, ◌≤◌, List, length, slice_index, ⊤}
-use Rattle.capn_value.specs.Tree.{Tree, nil, node, voids, bits, bytes, pairs, quads, octs, links, rows, cap, Trees, no_trees, tree, Bodies, no_bodies, body, count, count_rows}
+use Rattle.capn_value.specs.Tree.{Tree, nil, node, voids, bits, bytes, pairs, quads, octs, links, rows, cap, Trees}
+use Rattle.capn_value.specs.Tree.{no_trees, tree, Bodies, no_bodies, body, count, count_rows}
 use Rattle.capn_value.specs.Trim.{kept_words_of_rows, kept_slots_of_rows}
 use Rattle.capn_canon.specs.Layout.{row_size}
 
@@ -13,7 +14,8 @@ AreWide a b (body ws ss bs) = (a ≤ length ws) × (b ≤ count ss) × AreWide a
 abbrev pub AreBelow : ℕ → List ℕ → Type 0
 AreBelow bound xs = (i : ℕ) → slice_index xs i < bound
 
--- each count, size and index has room in a pointer's fields, each element in its bits, and each row has the kept lengths (own)
+-- each count, size and index has room in a pointer's fields, each element in its bits, and each row has the kept
+-- lengths (own)
 abbrev mutual
   pub Sound : Tree → Type 0
   Sound nil = ⊤
@@ -27,7 +29,8 @@ abbrev mutual
   Sound (octs xs) = length xs < 2 ^ 29
   Sound (links ts) = (count ts < 2 ^ 29) × Sounds ts
   Sound (rows bs) = (count_rows bs < 2 ^ 29) × (kept_words_of_rows bs < 2 ^ 16) × (kept_slots_of_rows bs < 2 ^ 16)
-      × (count_rows bs * row_size bs < 2 ^ 29) × AreWide (kept_words_of_rows bs) (kept_slots_of_rows bs) bs × SoundRows bs
+      × (count_rows bs * row_size bs < 2 ^ 29) × AreWide (kept_words_of_rows bs) (kept_slots_of_rows bs) bs
+      × SoundRows bs
 
   pub Sounds : Trees → Type 0
   Sounds no_trees = ⊤

@@ -24,7 +24,8 @@ use std::alloc::Allocator;
 fn of_bare<A: Allocator + Copy>(alloc: A, bytes: &[u8], limits: Limits) -> Result<Surveyed, Refusal>
     ensures found { IfOk result (λ s. Surveys forms.Bare bytes.now limits s) }
     ensures refused { IfErr result (λ e. IsUnacceptedIn forms.Bare bytes.now limits e) }
-    ensures bounded { MatchResult result (λ s. IsBounded limits.budget s.paid s.visits) (λ e. IsPaidWithin limits.budget e) }
+    ensures bounded { MatchResult result (λ s. IsBounded limits.budget s.paid s.visits)
+        (λ e. IsPaidWithin limits.budget e) }
 {
     match Bare::new(bytes) {
         Ok(space) => survey(alloc, &space, limits),
@@ -40,7 +41,8 @@ fn of_frame<A: Allocator + Copy>(
 ) -> Result<Surveyed, Refusal>
     ensures found { IfOk result (λ s. Surveys forms.Stream bytes.now limits s) }
     ensures refused { IfErr result (λ e. IsUnacceptedIn forms.Stream bytes.now limits e) }
-    ensures bounded { MatchResult result (λ s. IsBounded limits.budget s.paid s.visits) (λ e. IsPaidWithin limits.budget e) }
+    ensures bounded { MatchResult result (λ s. IsBounded limits.budget s.paid s.visits)
+        (λ e. IsPaidWithin limits.budget e) }
 {
     match first(alloc, bytes, limits.message_words()) {
         Ok((message, taken)) => {
@@ -62,7 +64,8 @@ fn of_packed<A: Allocator + Copy>(
 ) -> Result<Surveyed, Refusal>
     ensures found { IfOk result (λ s. Surveys forms.Packed bytes.now limits s) }
     ensures refused { IfErr result (λ e. IsUnacceptedIn forms.Packed bytes.now limits e) }
-    ensures bounded { MatchResult result (λ s. IsBounded limits.budget s.paid s.visits) (λ e. IsPaidWithin limits.budget e) }
+    ensures bounded { MatchResult result (λ s. IsBounded limits.budget s.paid s.visits)
+        (λ e. IsPaidWithin limits.budget e) }
 {
     match unpack(alloc, bytes, limits.message_words() + MOST_TABLE_WORDS) {
         Ok(text) => of_frame(alloc, text.as_slice(), limits),
@@ -80,7 +83,8 @@ fn in_form<A: Allocator + Copy>(
 ) -> Result<Surveyed, Refusal>
     ensures found { IfOk result (λ s. Surveys form bytes.now limits s) }
     ensures refused { IfErr result (λ e. IsUnacceptedIn form bytes.now limits e) }
-    ensures bounded { MatchResult result (λ s. IsBounded limits.budget s.paid s.visits) (λ e. IsPaidWithin limits.budget e) }
+    ensures bounded { MatchResult result (λ s. IsBounded limits.budget s.paid s.visits)
+        (λ e. IsPaidWithin limits.budget e) }
 {
     match form {
         Form::Stream => of_frame(alloc, bytes, limits),
@@ -107,9 +111,11 @@ pub fn account<A: Allocator + Copy>(
     // What each refusal means.
     ensures refused { IfErr result (λ e. IsUnacceptedIn form bytes.now limits e) }
     // No walk pays beyond its budget.
-    ensures bounded { MatchResult result (λ s. IsBounded limits.budget s.paid s.visits) (λ e. IsPaidWithin limits.budget e) }
+    ensures bounded { MatchResult result (λ s. IsBounded limits.budget s.paid s.visits)
+        (λ e. IsPaidWithin limits.budget e) }
     // The canonical bytes of the value are at most 8 for each word paid, and 8 more.
-    ensures short { IfOk result (λ s. (v : Value) → Denotes form bytes.now limits v → length (canon v) ≤ 8 * (s.paid + 1)) }
+    ensures short { IfOk result (λ s. (v : Value) → Denotes form bytes.now limits v
+        → length (canon v) ≤ 8 * (s.paid + 1)) }
 {
     // What they promise of limits is wanted by the clause on the length.
     let _words = limits.message_words();

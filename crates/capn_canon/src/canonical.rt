@@ -132,13 +132,17 @@ pub fn canonical_of<A: Allocator + Copy, S: Space>(
     ensures bounded { MatchResult result (λ c. c.paid ≤ limits.budget) (λ e. IsPaidWithin limits.budget e) }
     ensures short { IfOk result (λ c. length c.bytes.items ≤ 8 * (c.paid + 1)) }
     // Read bare under the same limits, the bytes denote the trimmed value, which is the same value,
-    ensures reads_back { IfOk result (λ c. (v : Value) → IsValueOf (S.message space.now) limits v → ReadsBack c.bytes.items limits v) }
+    ensures reads_back { IfOk result (λ c. (v : Value) → IsValueOf (S.message space.now) limits v
+        → ReadsBack c.bytes.items limits v) }
     // and pay exactly its cost;
-    ensures pays { IfOk result (λ c. (v : Value) → IsValueOf (S.message space.now) limits v → PaysItsCost c.bytes.items limits v) }
+    ensures pays { IfOk result (λ c. (v : Value) → IsValueOf (S.message space.now) limits v
+        → PaysItsCost c.bytes.items limits v) }
     // its canonical bytes are these again;
-    ensures own { IfOk result (λ c. (v : Value) → IsValueOf (S.message space.now) limits v → IsItsOwnForm c.bytes.items v) }
+    ensures own { IfOk result (λ c. (v : Value) → IsValueOf (S.message space.now) limits v
+        → IsItsOwnForm c.bytes.items v) }
     // and a second value has these canonical bytes exactly if it is the same value.
-    ensures exactly { IfOk result (λ c. (v : Value) → IsValueOf (S.message space.now) limits v → IsFormExactlyOf c.bytes.items v) }
+    ensures exactly { IfOk result (λ c. (v : Value) → IsValueOf (S.message space.now) limits v
+        → IsFormExactlyOf c.bytes.items v) }
 {
     // What they promise of a message and of limits is wanted by the clauses.
     let _segments = space.segments();

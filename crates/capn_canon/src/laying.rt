@@ -12,6 +12,8 @@ use crate::patch::Patch;
 use crate::pointing::pointer_to;
 use capn_value::{Memory, Tree, Value, first_cap};
 use std::alloc::Allocator;
+use std::error::Error;
+use std::fmt;
 
 /// Why a tree has no layout.
 #[derive(Clone, Copy, Debug, PartialEq, Eq)]
@@ -22,6 +24,22 @@ pub enum LayoutFault {
     /// preorder.
     Capability(u32),
 }
+
+impl fmt::Display for LayoutFault {
+    ghost use Rattle.std.specs.Prelude.{Some};
+    ghost use Rattle.capn_canon.specs.Told.{layout_text};
+
+    ghost output = { λ fault. Some (layout_text fault) };
+
+    fn fmt<W: fmt::Write>(&self, f: &mut fmt::Formatter<W>) -> fmt::Result {
+        match self {
+            LayoutFault::Memory => write!(f, "out of memory"),
+            LayoutFault::Capability(index) => write!(f, "capability {index}"),
+        }
+    }
+}
+
+impl Error for LayoutFault {}
 
 /// The canonical bytes of a value: the pointer to it, then its content.
 #[tactic(auto, using(crate::proofs::Holes::hole_below))]

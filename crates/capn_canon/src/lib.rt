@@ -59,3 +59,10 @@ pub use reading::canonicalise;
 pub use refusal::Refusal;
 pub use surveying::survey;
 pub use verdict::{check, is_canonical};
+
+// What the signatures above name.
+pub use capn_pack::UnpackFault;
+pub use capn_stream::FrameFault;
+pub use capn_value::{Tariff, Tree};
+pub use capn_walk::{Fault, Limits, Stopped, Surveyed};
+pub use capn_words::{BareFault, Place, Space};

@@ -73,7 +73,8 @@ pub fn lay_list<S: Space, A: Allocator>(
     requires few { count < 2 ^ 29 }
     requires order { from < length draft.old }
     requires room { length draft.old ≤ 2 ^ 29 }
-    ensures { OnOk result (IsLaidInside (S.message space.now) (Many width count) start.segment start.word from draft.old draft.new) }
+    ensures { OnOk result
+        (IsLaidInside (S.message space.now) (Many width count) start.segment start.word from draft.old draft.new) }
 {
     let word = list_pointer(from, draft.len(), width, count as usize);
     draft.put(from, word);

@@ -1,6 +1,7 @@
 //! A buffer of words, some of which are still to be written.
 
-ghost use Rattle.std.specs.Prelude.{◌≡◌, ℕ, ◌+◌, ◌*◌, ◌%◌, ◌<◌, ◌≤◌, [], ◌∷◌, ◌++◌, length, take, drop, set, replicate, Some, None, IfOk, IfErr, OnOk, OnErr};
+ghost use Rattle.std.specs.Prelude.{◌≡◌, ℕ, ◌+◌, ◌*◌, ◌%◌, ◌<◌, ◌≤◌, [], ◌∷◌, ◌++◌, length, take, drop, set, replicate};
+ghost use Rattle.std.specs.Prelude.{Some, None, IfOk, IfErr, OnOk, OnErr};
 ghost use Rattle.capn_words.specs.Message.{word_bytes, bytes as bytes_of_words};
 ghost use Rattle.capn_canon.specs.Patch.{IsHole, IsWhole, filled, whole};
 ghost use Rattle.capn_canon.specs.Layout.{packed, words_for};

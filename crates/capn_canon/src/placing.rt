@@ -169,8 +169,12 @@ fn lay_rows<S: Space, A: Allocator>(
     requires content { IsContent (S.message space.now) start (count * (words + slots)) }
     requires part { rows.slots ≤ slots }
     requires fits { rows.first + count * (rows.words + rows.slots) ≤ 2 ^ 29 }
-    requires ready { RowsReady (S.message space.now) start.segment start.word words slots count depth rows.words rows.slots rows.first draft.old }
-    ensures { OnOk result (RowsLaid (S.message space.now) start.segment start.word words slots count rows.words rows.slots rows.first draft.old draft.new) }
+    requires ready { RowsReady (S.message space.now) start.segment start.word words slots count depth rows.words
+        rows.slots
+        rows.first draft.old }
+    ensures { OnOk result
+        (RowsLaid (S.message space.now) start.segment start.word words slots count rows.words rows.slots rows.first
+        draft.old draft.new) }
 {
     if rows.slots == 0 {
         return Ok(());

@@ -116,13 +116,16 @@ pub fn canonicalise<A: Allocator + Copy>(
     ensures bounded { MatchResult result (λ c. c.paid ≤ limits.budget) (λ e. IsPaidWithin limits.budget e) }
     ensures short { IfOk result (λ c. length c.bytes.items ≤ 8 * (c.paid + 1)) }
     // Read bare under the same limits, the answer denotes the trimmed value, which is the same value,
-    ensures reads_back { IfOk result (λ c. (v : Value) → Denotes form bytes.now limits v → ReadsBack c.bytes.items limits v) }
+    ensures reads_back { IfOk result (λ c. (v : Value) → Denotes form bytes.now limits v
+        → ReadsBack c.bytes.items limits v) }
     // and pays exactly its cost;
-    ensures pays { IfOk result (λ c. (v : Value) → Denotes form bytes.now limits v → PaysItsCost c.bytes.items limits v) }
+    ensures pays { IfOk result (λ c. (v : Value) → Denotes form bytes.now limits v
+        → PaysItsCost c.bytes.items limits v) }
     // its canonical bytes are the answer again;
     ensures own { IfOk result (λ c. (v : Value) → Denotes form bytes.now limits v → IsItsOwnForm c.bytes.items v) }
     // and a second value has these canonical bytes exactly if it is the same value.
-    ensures exactly { IfOk result (λ c. (v : Value) → Denotes form bytes.now limits v → IsFormExactlyOf c.bytes.items v) }
+    ensures exactly { IfOk result (λ c. (v : Value) → Denotes form bytes.now limits v
+        → IsFormExactlyOf c.bytes.items v) }
 {
     let _words = limits.message_words();
     let _budget = limits.budget();

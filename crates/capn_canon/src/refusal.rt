@@ -4,6 +4,8 @@ use capn_pack::UnpackFault;
 use capn_stream::FrameFault;
 use capn_walk::Stopped;
 use capn_words::BareFault;
+use std::error::Error;
+use std::fmt;
 
 /// Why no canonical bytes are answered, in the order in which the tests are made: the bytes are read in
 /// their form, the message is walked, and its value is looked through for a capability. (Own.)
@@ -25,3 +27,24 @@ pub enum Refusal {
     /// A growth was refused.
     Memory,
 }
+
+impl fmt::Display for Refusal {
+    ghost use Rattle.std.specs.Prelude.{Some};
+    ghost use Rattle.capn_canon.specs.Told.{refusal_text};
+
+    ghost output = { λ fault. Some (refusal_text fault) };
+
+    fn fmt<W: fmt::Write>(&self, f: &mut fmt::Formatter<W>) -> fmt::Result {
+        match self {
+            Refusal::Bare(fault) => write!(f, "bare: {fault}"),
+            Refusal::Packed(fault) => write!(f, "packed: {fault}"),
+            Refusal::Frame(fault) => write!(f, "frame: {fault}"),
+            Refusal::Trailing(offset) => write!(f, "trailing bytes at {offset}"),
+            Refusal::Walk(stopped) => write!(f, "{stopped}"),
+            Refusal::Capability(index) => write!(f, "capability {index}"),
+            Refusal::Memory => write!(f, "out of memory"),
+        }
+    }
+}
+
+impl Error for Refusal {}

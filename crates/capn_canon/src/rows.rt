@@ -1,6 +1,7 @@
 //! The words of a list of structs, in which the pointers are still holes.
 
-ghost use Rattle.std.specs.Prelude.{◌≡◌, ◌+◌, ◌^◌, ◌<◌, ◌≤◌, [], ◌∷◌, ◌++◌, length, take, replicate, pos, Some, None, IfOk, OnOk};
+ghost use Rattle.std.specs.Prelude.{◌≡◌, ◌+◌, ◌^◌, ◌<◌, ◌≤◌, [], ◌∷◌, ◌++◌, length, take, replicate, pos, Some, None};
+ghost use Rattle.std.specs.Prelude.{IfOk, OnOk};
 ghost use Rattle.capn_words.specs.Fields.{word_of};
 ghost use Rattle.capn_words.specs.declared.pointer.Pointer.TheVariants.{Node};
 ghost use Rattle.capn_value.specs.View.{rows_of};

@@ -32,7 +32,8 @@ pub fn survey<A: Allocator + Copy, S: Space>(
     // Memory is wanted only for a depth above 64.
     ensures inline { limits.depth ≤ 64 → IfErr result (λ e. e ≢ refusals.Memory) }
     // No walk pays beyond its budget.
-    ensures bounded { MatchResult result (λ s. IsBounded limits.budget s.paid s.visits) (λ e. IsPaidWithin limits.budget e) }
+    ensures bounded { MatchResult result (λ s. IsBounded limits.budget s.paid s.visits)
+        (λ e. IsPaidWithin limits.budget e) }
 {
     match capn_walk::survey(alloc, space, limits) {
         Ok(told) => Ok(told),

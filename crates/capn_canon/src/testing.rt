@@ -1,6 +1,7 @@
 //! Whether an object's own words are those of its canonical layout.
 
-ghost use Rattle.std.specs.Prelude.{◌≡◌, ℕ, ◌+◌, ◌*◌, ◌/◌, ◌^◌, ◌<◌, ◌≤◌, IsTrue, ◌↔◌, [], ◌∷◌, length, take, drop, slice_index, pos};
+ghost use Rattle.std.specs.Prelude.{◌≡◌, ℕ, ◌+◌, ◌*◌, ◌/◌, ◌^◌, ◌<◌, ◌≤◌, IsTrue, ◌↔◌, [], ◌∷◌, length, take, drop};
+ghost use Rattle.std.specs.Prelude.{slice_index, pos};
 ghost use Rattle.capn_words.specs.Message.{IsMessage};
 ghost use Rattle.capn_words.specs.Fields.{word_of};
 ghost use Rattle.capn_words.specs.declared.pointer.Pointer.TheVariants.{Node};

@@ -1,5 +1,6 @@
 -- A packed text is refused for one reason.
-use Rattle.std.proofs.Common.{◌≡◌, ℕ, ◌+◌, ◌≤◌, List, [], ◌∷◌, ◌++◌, length, refl, ap, sym, subst, ◌∙◌, append_assoc, arith}
+use Rattle.std.proofs.Common.{◌≡◌, ℕ, ◌+◌, ◌≤◌, List, [], ◌∷◌, ◌++◌, length, refl, ap, sym, subst, ◌∙◌, append_assoc}
+use Rattle.std.proofs.Common.{arith}
 use Rattle.std.specs.List.{AllByRecursion}
 use Rattle.capn_pack.specs.Group.{Group, IsGroup, text, words}
 use Rattle.capn_pack.specs.Packs.{texts, word_count}
@@ -26,10 +27,12 @@ record SameRow (gs hs : List Group) (rest other : List ℕ) (left right : ℕ) :
   left_is : left ≡ right
 
 same_row : (P Q : ℕ → List ℕ → Type 0) → NoneFits P → NoneFits Q
-    → (gs hs : List Group) (rest other : List ℕ) (left right : ℕ) → AllByRecursion IsGroup gs → AllByRecursion IsGroup hs
+    → (gs hs : List Group) (rest other : List ℕ) (left right : ℕ) → AllByRecursion IsGroup gs
+    → AllByRecursion IsGroup hs
     → texts gs ++ rest ≡ texts hs ++ other → left + word_count gs ≡ right + word_count hs → P left rest → Q right other
     → SameRow gs hs rest other left right
-same_row P Q first also [] [] rest other left right p q e n f h = record { texts_are = refl; rest_is = e; left_is = omega arith }
+same_row P Q first also [] [] rest other left right p q e n f h =
+    record { texts_are = refl; rest_is = e; left_is = omega arith }
 same_row P Q first also [] (k ∷ ks) rest other left right p q e n f h =
     absurd (first left rest (texts ks ++ other) k q.0 (e ∙ append_assoc (text k) (texts ks) other) (omega arith) f)
 same_row P Q first also (g ∷ gs) [] rest other left right p q e n f h =
@@ -70,7 +73,8 @@ module _ (b : List ℕ) (max : ℕ) where
   one_packed fault.Failed f r s ne nf = absurd r
   one_packed (fault.Cut at) fault.Memory r s ne nf = absurd (nf refl)
   one_packed (fault.Cut at) fault.Failed r s ne nf = absurd s
-  one_packed (fault.Cut at) (fault.Cut to) r s ne nf = ap (λ (n : ℕ). fault.Cut n) (same_at IsCut cut-no_group at to r s)
+  one_packed (fault.Cut at) (fault.Cut to) r s ne nf =
+      ap (λ (n : ℕ). fault.Cut n) (same_at IsCut cut-no_group at to r s)
   one_packed (fault.Cut at) (fault.TooLong to) r s ne nf = absurd (never_both at to r s)
   one_packed (fault.TooLong at) fault.Memory r s ne nf = absurd (nf refl)
   one_packed (fault.TooLong at) fault.Failed r s ne nf = absurd s

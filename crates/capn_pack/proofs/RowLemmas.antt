@@ -1,52 +1,78 @@
 -- Groups one behind another at the front of some bytes.
-use Rattle.std.proofs.Common.{◌≡◌, ℕ, ◌+◌, ◌-◌, ◌*◌, ◌≤◌, List, [], ◌∷◌, ◌++◌, length, take, drop, slice_range, refl, sym, ap, ◌∙◌, subst, arith, append_assoc, length-append, take-add, take-append-drop, length-take, length-drop, take_all}
+use Rattle.std.proofs.Common.{◌≡◌, ℕ, ◌+◌, ◌-◌, ◌*◌, ◌≤◌, List, [], ◌∷◌, ◌++◌, length, take, drop, slice_range, refl}
+use Rattle.std.proofs.Common.{sym, ap, ◌∙◌, subst, arith, append_assoc, length-append, take-add, take-append-drop}
+use Rattle.std.proofs.Common.{length-take, length-drop, take_all}
 use Rattle.std.proofs.lemmas.List.{append-nil}
 use Rattle.std.proofs.lemmas.Grind.{flat_map-append}
 use Rattle.capn_pack.specs.Group.{text, content}
 use Rattle.capn_pack.specs.Packs.{Packs, texts, contents, word_count}
 use Rattle.capn_pack.specs.Refusal.{Stands}
 use Rattle.capn_pack.specs.Steps.{Takes, TakesRow}
-use Rattle.capn_pack.specs.Laws.GroupLemmas.{texts_more, contents_more, each_more, rest_is, length_content, length_contents, each_append}
+use Rattle.capn_pack.specs.Laws.GroupLemmas.{texts_more, contents_more, each_more, rest_is, length_content}
+use Rattle.capn_pack.specs.Laws.GroupLemmas.{length_contents, each_append}
 
 pub row_start : (bytes old : List ℕ) → TakesRow bytes 0 old old
-row_start bytes old = record { groups = []; each = tt; within = omega arith; text = refl; content = sym (append-nil old) }
+row_start bytes old =
+    record { groups = []; each = tt; within = omega arith; text = refl; content = sym (append-nil old) }
 
 -- one group more
-pub row_more : (bytes : List ℕ) (at : ℕ) (old out : List ℕ) (room taken count : ℕ) (new : List ℕ) → TakesRow bytes at old out → Takes (slice_range bytes at (length bytes)) room taken count out new → TakesRow bytes (at + taken) old new
+pub row_more : (bytes : List ℕ) (at : ℕ) (old out : List ℕ) (room taken count : ℕ) (new : List ℕ)
+    → TakesRow bytes at old out → Takes (slice_range bytes at (length bytes)) room taken count out new
+    → TakesRow bytes (at + taken) old new
 row_more bytes at old out room taken count new u t =
     let rest = rest_is bytes at in
     record {
       groups = u.groups ++ t.group ∷ [];
       each = each_more u.groups t.group u.each t.is_group;
       within = omega (arith, t.within, ap length rest, length-drop at bytes, u.within);
-      text = take-add at taken bytes ∙ ap (λ l. l ++ take taken (drop at bytes)) u.text ∙ ap (λ l. texts u.groups ++ l) (ap (take taken) (sym rest) ∙ t.text) ∙ sym (texts_more u.groups t.group);
-      content = t.content ∙ ap (λ l. l ++ content t.group) u.content ∙ append_assoc old (contents u.groups) (content t.group) ∙ ap (λ l. old ++ l) (sym (contents_more u.groups t.group));
+      text = take-add at taken bytes ∙ ap (λ l. l ++ take taken (drop at bytes)) u.text
+          ∙ ap (λ l. texts u.groups ++ l) (ap (take taken) (sym rest) ∙ t.text) ∙ sym (texts_more u.groups t.group);
+      content = t.content ∙ ap (λ l. l ++ content t.group) u.content
+          ∙ append_assoc old (contents u.groups) (content t.group)
+          ∙ ap (λ l. old ++ l) (sym (contents_more u.groups t.group));
     }
 
 -- one group more, up to an offset
-pub row_next : (bytes : List ℕ) (at next : ℕ) (old out : List ℕ) (room count : ℕ) (new : List ℕ) → at ≤ next → TakesRow bytes at old out → Takes (slice_range bytes at (length bytes)) room (next - at) count out new → TakesRow bytes next old new
+pub row_next : (bytes : List ℕ) (at next : ℕ) (old out : List ℕ) (room count : ℕ) (new : List ℕ) → at ≤ next
+    → TakesRow bytes at old out → Takes (slice_range bytes at (length bytes)) room (next - at) count out new
+    → TakesRow bytes next old new
 row_next bytes at next old out room count new forward u t =
     let sum : at + (next - at) ≡ next = omega arith in
     subst (λ n. TakesRow bytes n old new) sum (row_more bytes at old out room (next - at) count new u t)
 
 -- one row behind another
-pub row_join : (bytes : List ℕ) (at : ℕ) (old out : List ℕ) (taken : ℕ) (new : List ℕ) → TakesRow bytes at old out → TakesRow (slice_range bytes at (length bytes)) taken out new → TakesRow bytes (at + taken) old new
+pub row_join : (bytes : List ℕ) (at : ℕ) (old out : List ℕ) (taken : ℕ) (new : List ℕ) → TakesRow bytes at old out
+    → TakesRow (slice_range bytes at (length bytes)) taken out new → TakesRow bytes (at + taken) old new
 row_join bytes at old out taken new u t =
     let rest = rest_is bytes at in
     record {
       groups = u.groups ++ t.groups;
       each = each_append u.groups t.groups u.each t.each;
       within = omega (arith, t.within, ap length rest, length-drop at bytes, u.within);
-      text = take-add at taken bytes ∙ ap (λ l. l ++ take taken (drop at bytes)) u.text ∙ ap (λ l. texts u.groups ++ l) (ap (take taken) (sym rest) ∙ t.text) ∙ sym (flat_map-append text u.groups t.groups);
-      content = t.content ∙ ap (λ l. l ++ contents t.groups) u.content ∙ append_assoc old (contents u.groups) (contents t.groups) ∙ ap (λ l. old ++ l) (sym (flat_map-append content u.groups t.groups));
+      text = take-add at taken bytes ∙ ap (λ l. l ++ take taken (drop at bytes)) u.text
+          ∙ ap (λ l. texts u.groups ++ l) (ap (take taken) (sym rest) ∙ t.text)
+          ∙ sym (flat_map-append text u.groups t.groups);
+      content = t.content ∙ ap (λ l. l ++ contents t.groups) u.content
+          ∙ append_assoc old (contents u.groups) (contents t.groups)
+          ∙ ap (λ l. old ++ l) (sym (flat_map-append content u.groups t.groups));
     }
 
 -- a row whose words were gathered apart and then appended
-pub row_behind : (bytes : List ℕ) (taken : ℕ) (block old new : List ℕ) → TakesRow bytes taken [] block → new ≡ old ++ block → TakesRow bytes taken old new
-row_behind bytes taken block old new u e = record { groups = u.groups; each = u.each; within = u.within; text = u.text; content = e ∙ ap (λ l. old ++ l) u.content }
+pub row_behind : (bytes : List ℕ) (taken : ℕ) (block old new : List ℕ) → TakesRow bytes taken [] block
+    → new ≡ old ++ block → TakesRow bytes taken old new
+row_behind bytes taken block old new u e =
+    record {
+      groups = u.groups;
+      each = u.each;
+      within = u.within;
+      text = u.text;
+      content = e
+          ∙ ap (λ l. old ++ l) u.content;
+    }
 
 -- the words of a row are whole
-pub row_whole : (bytes : List ℕ) (taken : ℕ) (block : List ℕ) → TakesRow bytes taken [] block → (n : ℕ) × (length block ≡ 8 * n)
+pub row_whole : (bytes : List ℕ) (taken : ℕ) (block : List ℕ) → TakesRow bytes taken [] block → (n : ℕ)
+    × (length block ≡ 8 * n)
 row_whole bytes taken block u = (word_count u.groups, ap length u.content ∙ length_contents u.groups u.each)
 
 -- up to `at` the bytes are groups, their words are `out`, and this room is left of the maximum
@@ -54,27 +80,47 @@ pub record Unpacked (bytes : List ℕ) (at : ℕ) (out : List ℕ) (room max : �
   pub row : TakesRow bytes at [] out
   pub counted : length out + 8 * room ≡ 8 * max
 
-pub unpacked_more : (bytes : List ℕ) (at : ℕ) (out : List ℕ) (room max taken count : ℕ) (new : List ℕ) → Unpacked bytes at out room max → Takes (slice_range bytes at (length bytes)) room taken count out new → Unpacked bytes (at + taken) new (room - count) max
+pub unpacked_more : (bytes : List ℕ) (at : ℕ) (out : List ℕ) (room max taken count : ℕ) (new : List ℕ)
+    → Unpacked bytes at out room max → Takes (slice_range bytes at (length bytes)) room taken count out new
+    → Unpacked bytes (at + taken) new (room - count) max
 unpacked_more bytes at out room max taken count new u t = record {
   row = row_more bytes at [] out room taken count new u.row t;
-  counted = omega (arith, u.counted, t.counted, t.fits, ap length t.content, length-append out (content t.group), length_content t.group t.is_group);
+  counted = omega (
+    arith,
+    u.counted,
+    t.counted,
+    t.fits,
+    ap length t.content,
+    length-append out (content t.group),
+    length_content t.group t.is_group,
+  );
 }
 
-pub unpacked_row : (bytes : List ℕ) (at : ℕ) (out : List ℕ) (room max taken count : ℕ) (new : List ℕ) → Unpacked bytes at out room max → TakesRow (slice_range bytes at (length bytes)) taken out new → length new ≡ length out + 8 * count → count ≤ room → Unpacked bytes (at + taken) new (room - count) max
+pub unpacked_row : (bytes : List ℕ) (at : ℕ) (out : List ℕ) (room max taken count : ℕ) (new : List ℕ)
+    → Unpacked bytes at out room max → TakesRow (slice_range bytes at (length bytes)) taken out new
+    → length new ≡ length out + 8 * count → count ≤ room → Unpacked bytes (at + taken) new (room - count) max
 unpacked_row bytes at out room max taken count new u t size fits = record {
   row = row_join bytes at [] out taken new u.row t;
   counted = omega (arith, u.counted);
 }
 
 -- all of the bytes
-pub unpacked_all : (bytes : List ℕ) (at : ℕ) (out : List ℕ) (room max : ℕ) → Unpacked bytes at out room max → length bytes ≤ at → Packs bytes out × (length out ≤ 8 * max)
+pub unpacked_all : (bytes : List ℕ) (at : ℕ) (out : List ℕ) (room max : ℕ) → Unpacked bytes at out room max
+    → length bytes ≤ at → Packs bytes out × (length out ≤ 8 * max)
 unpacked_all bytes at out room max u end = (
-  record { groups = u.row.groups; each = u.row.each; text = sym (take_all at bytes end) ∙ u.row.text; content = u.row.content },
+  record {
+    groups = u.row.groups;
+    each = u.row.each;
+    text = sym (take_all at bytes end) ∙ u.row.text;
+    content =
+        u.row.content;
+  },
   omega (arith, u.counted),
 )
 
 -- a fault at the group that comes
-pub stands : (Q : ℕ → List ℕ → Type 0) (bytes : List ℕ) (at : ℕ) (out : List ℕ) (room max : ℕ) → Unpacked bytes at out room max → Q room (slice_range bytes at (length bytes)) → Stands Q bytes max at
+pub stands : (Q : ℕ → List ℕ → Type 0) (bytes : List ℕ) (at : ℕ) (out : List ℕ) (room max : ℕ)
+    → Unpacked bytes at out room max → Q room (slice_range bytes at (length bytes)) → Stands Q bytes max at
 stands Q bytes at out room max u q = record {
   groups = u.row.groups;
   rest = drop at bytes;

@@ -1,5 +1,8 @@
 -- Runs of words, and the bytes that a tag names.
-use Rattle.std.proofs.Common.{◌≡◌, ℕ, zero, suc, ◌+◌, ◌-◌, ◌*◌, ◌/◌, ◌%◌, ◌<◌, ◌≤◌, true, false, eqb, ltb, List, [], ◌∷◌, ◌++◌, length, take, drop, slice_range, replicate, filter, refl, sym, ap, ◌∙◌, subst, arith, append_assoc, take-add, take-append-drop, drop-drop, length-take, length-drop, take_all}
+use Rattle.std.proofs.Common.{◌≡◌, ℕ, zero, suc, ◌+◌, ◌-◌, ◌*◌, ◌/◌, ◌%◌, ◌<◌, ◌≤◌, true, false, eqb, ltb, List, []}
+use Rattle.std.proofs.Common.{◌∷◌, ◌++◌, length, take, drop, slice_range, replicate, filter, refl, sym, ap, ◌∙◌, subst}
+use Rattle.std.proofs.Common.{arith, append_assoc, take-add, take-append-drop, drop-drop, length-take, length-drop}
+use Rattle.std.proofs.Common.{take_all}
 use Rattle.std.proofs.lemmas.Bool.{ne_eqb, lt-ltb}
 use Rattle.std.proofs.lemmas.List.{replicate-append-replicate, take-append-le, drop-append-le, drop_all}
 use Rattle.std.specs.Prelude.{count_ones}
@@ -50,7 +53,10 @@ named_exact (zero ∷ xs) =
 named_exact (suc x ∷ xs) =
     let odd : (1 + 2 * tag_of xs) % 2 ≡ 1 = omega arith in
     let low : (1 + 2 * tag_of xs) / 2 ≡ tag_of xs = omega arith in
-    rw ((nonzero x).0, (nonzero x).1, odd, low) (ap (λ l. suc x ∷ l) (named_exact xs).0, ((λ e. absurd (omega arith)), (named_exact xs).1))
+    rw ((nonzero x).0, (nonzero x).1, odd, low) (
+      ap (λ l. suc x ∷ l) (named_exact xs).0,
+      ((λ e. absurd (omega arith)), (named_exact xs).1),
+    )
 
 -- ---- zero words
 
@@ -59,7 +65,9 @@ pub record ZeroTo (bytes : List ℕ) (start count : ℕ) : Type 0 where
   pub inside : start + 8 * count ≤ length bytes
   pub zeros : drop start bytes ≡ replicate (8 * count) 0 ++ drop (start + 8 * count) bytes
 
-pub zero_more : (bytes : List ℕ) (start count : ℕ) → ZeroTo bytes start count → count < 255 → start + 8 * count + 8 ≤ length bytes → tag_of (take 8 (drop (start + 8 * count) bytes)) ≡ 0 → ZeroTo bytes start (count + 1)
+pub zero_more : (bytes : List ℕ) (start count : ℕ) → ZeroTo bytes start count → count < 255
+    → start + 8 * count + 8 ≤ length bytes → tag_of (take 8 (drop (start + 8 * count) bytes)) ≡ 0
+    → ZeroTo bytes start (count + 1)
 zero_more bytes start count z less room h =
     let p = start + 8 * count in
     let word = take 8 (drop p bytes) in
@@ -67,11 +75,16 @@ zero_more bytes start count z less room h =
     let next : p + 8 ≡ start + 8 * (count + 1) = omega arith in
     let size : 8 * count + 8 ≡ 8 * (count + 1) = omega arith in
     let is : word ≡ replicate 8 0 = tag_zero word h ∙ ap (λ n. replicate n 0) long in
-    let split : drop p bytes ≡ replicate 8 0 ++ drop (start + 8 * (count + 1)) bytes = sym (take-append-drop 8 (drop p bytes)) ∙ (λ i. is i ++ (drop-drop 8 p bytes ∙ ap (λ n. drop n bytes) next) i) in
+    let split : drop p bytes ≡ replicate 8 0 ++ drop (start + 8 * (count + 1)) bytes =
+    sym (take-append-drop 8 (drop p bytes))
+    ∙ (λ i. is i ++ (drop-drop 8 p bytes ∙ ap (λ n. drop n bytes) next) i) in
     record {
       most = omega arith;
       inside = omega arith;
-      zeros = z.zeros ∙ ap (λ l. replicate (8 * count) 0 ++ l) split ∙ sym (append_assoc (replicate (8 * count) 0) (replicate 8 0) (drop (start + 8 * (count + 1)) bytes)) ∙ ap (λ l. l ++ drop (start + 8 * (count + 1)) bytes) (replicate-append-replicate (8 * count) 8 0 ∙ ap (λ n. replicate n 0) size);
+      zeros = z.zeros ∙ ap (λ l. replicate (8 * count) 0 ++ l) split
+          ∙ sym (append_assoc (replicate (8 * count) 0) (replicate 8 0) (drop (start + 8 * (count + 1)) bytes))
+          ∙ ap (λ l. l ++ drop (start + 8 * (count + 1)) bytes) (replicate-append-replicate (8 * count) 8 0
+          ∙ ap (λ n. replicate n 0) size);
     }
 
 -- ---- dense words
@@ -85,14 +98,19 @@ dense_append (suc n) bs w h long d =
     let le : 8 ≤ length bs = omega arith in
     let rest : length (drop 8 bs) ≡ 8 * n = length-drop 8 bs ∙ omega arith in
     let on : suc n + 1 ≡ suc (n + 1) = omega arith in
-    subst (λ k. AllDense k (bs ++ w)) (sym on) (subst IsDense (sym (take-append-le 8 bs w le)) h.0, subst (AllDense (n + 1)) (sym (drop-append-le 8 bs w le)) (dense_append n (drop 8 bs) w h.1 rest d))
+    subst (λ k. AllDense k (bs ++ w)) (sym on) (
+      subst IsDense (sym (take-append-le 8 bs w le)) h.0,
+      subst (AllDense (n + 1)) (sym (drop-append-le 8 bs w le)) (dense_append n (drop 8 bs) w h.1 rest d),
+    )
 
 pub record DenseTo (bytes : List ℕ) (start count : ℕ) : Type 0 where
   pub most : count ≤ 255
   pub inside : start + 8 * count ≤ length bytes
   pub dense : AllDense count (slice_range bytes start (start + 8 * count))
 
-pub dense_more : (bytes : List ℕ) (start count : ℕ) → DenseTo bytes start count → count < 255 → start + 8 * count + 8 ≤ length bytes → 7 ≤ count_ones (tag_of (take 8 (drop (start + 8 * count) bytes))) → DenseTo bytes start (count + 1)
+pub dense_more : (bytes : List ℕ) (start count : ℕ) → DenseTo bytes start count → count < 255
+    → start + 8 * count + 8 ≤ length bytes → 7 ≤ count_ones (tag_of (take 8 (drop (start + 8 * count) bytes)))
+    → DenseTo bytes start (count + 1)
 dense_more bytes start count d less room h =
     let p = start + 8 * count in
     let word = take 8 (drop p bytes) in
@@ -102,7 +120,10 @@ dense_more bytes start count d less room h =
     let dense : IsDense word = (long, omega (arith, ones_tag word)) in
     let end : start + 8 * (count + 1) - start ≡ 8 * count + 8 = omega arith in
     let here : p - start ≡ 8 * count = omega arith in
-    let grown : slice_range bytes start (start + 8 * (count + 1)) ≡ bs ++ word = ap (λ n. take n (drop start bytes)) end ∙ take-add (8 * count) 8 (drop start bytes) ∙ ap (λ l. take (8 * count) (drop start bytes) ++ take 8 l) (drop-drop (8 * count) start bytes) ∙ ap (λ n. take n (drop start bytes) ++ word) (sym here) in
+    let grown : slice_range bytes start (start + 8 * (count + 1)) ≡ bs ++ word = ap (λ n. take n (drop start bytes)) end
+    ∙ take-add (8 * count) 8 (drop start bytes)
+    ∙ ap (λ l. take (8 * count) (drop start bytes) ++ take 8 l) (drop-drop (8 * count) start bytes)
+    ∙ ap (λ n. take n (drop start bytes) ++ word) (sym here) in
     record {
       most = omega arith;
       inside = omega arith;

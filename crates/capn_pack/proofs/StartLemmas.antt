@@ -1,5 +1,7 @@
 -- A whole group stands first.
-use Rattle.std.proofs.Common.{◌≡◌, inl, inr, ℕ, ◌+◌, ◌*◌, ◌<◌, ◌≤◌, List, [], ◌∷◌, ◌++◌, length, take, drop, slice_range, refl, sym, ap, subst, ◌∙◌, arith, append_assoc, length-append, length-take, take-append-drop}
+use Rattle.std.proofs.Common.{◌≡◌, inl, inr, ℕ, ◌+◌, ◌*◌, ◌<◌, ◌≤◌, List, [], ◌∷◌, ◌++◌, length, take, drop}
+use Rattle.std.proofs.Common.{slice_range, refl, sym, ap, subst, ◌∙◌, arith, append_assoc, length-append, length-take}
+use Rattle.std.proofs.Common.{take-append-drop}
 use Rattle.std.proofs.lemmas.Bool.{cases_lt}
 use Rattle.std.specs.List.{AllByRecursion}
 use Rattle.capn_pack.specs.Group.{Group, IsGroup, text, words}
@@ -14,7 +16,8 @@ use Rattle.capn_pack.specs.Laws.GroupLemmas.{length_contents, rest_is}
 use Rattle.capn_pack.proofs.RowLemmas.{Unpacked}
 
 -- the first n bytes are a group's
-pub starts : (rest : List ℕ) (n room : ℕ) (g : Group) → IsGroup g → take n rest ≡ text g → words g ≤ room → StartsWithin rest room
+pub starts : (rest : List ℕ) (n room : ℕ) (g : Group) → IsGroup g → take n rest ≡ text g → words g ≤ room
+    → StartsWithin rest room
 starts rest n room g is e fits = record {
   group = g;
   more = drop n rest;
@@ -39,14 +42,17 @@ first_of bytes at room (g ∷ gs) each e some fits = record {
 }
 
 -- a row with words
-pub row_starts : (bytes : List ℕ) (at room : ℕ) (out : List ℕ) → TakesRow bytes at [] out → 0 < length out → length out ≤ 8 * room
+pub row_starts : (bytes : List ℕ) (at room : ℕ) (out : List ℕ) → TakesRow bytes at [] out → 0 < length out
+    → length out ≤ 8 * room
     → StartsWithin bytes room
 row_starts bytes at room out u some fits =
     let size = length_contents u.groups u.each in
-    first_of bytes at room u.groups u.each u.text (omega (arith, size, ap length u.content)) (omega (arith, size, ap length u.content))
+    first_of bytes at room u.groups u.each u.text (omega (arith, size, ap length u.content))
+    (omega (arith, size, ap length u.content))
 
 -- groups without words are none
-no_groups : (bytes : List ℕ) (at : ℕ) (gs : List Group) → at ≤ length bytes → take at bytes ≡ texts gs → word_count gs ≡ 0 → at ≡ 0
+no_groups : (bytes : List ℕ) (at : ℕ) (gs : List Group) → at ≤ length bytes → take at bytes ≡ texts gs
+    → word_count gs ≡ 0 → at ≡ 0
 no_groups bytes at [] within e none = omega (arith, within, ap length e, length-take at bytes)
 no_groups bytes at (Zeros more ∷ gs) within e none = absurd (omega (arith, none))
 no_groups bytes at (Named tag word ∷ gs) within e none = absurd (omega (arith, none))
@@ -58,7 +64,8 @@ pub unpacked_starts : (bytes : List ℕ) (at : ℕ) (out : List ℕ) (room max :
 unpacked_starts bytes at out room max u s = elim (cases_lt 0 (length out)) [
   | inl some ↦ row_starts bytes at max out u.row some (omega (arith, u.counted))
   | inr none ↦
-      (let count : word_count u.row.groups ≡ 0 = omega (arith, none, length_contents u.row.groups u.row.each, ap length u.row.content) in
+      (let count : word_count u.row.groups ≡ 0 =
+      omega (arith, none, length_contents u.row.groups u.row.each, ap length u.row.content) in
       let start : at ≡ 0 = no_groups bytes at u.row.groups u.row.within u.row.text count in
       record {
         group = s.group;
@@ -74,12 +81,14 @@ unpacked_starts bytes at out room max u s = elim (cases_lt 0 (length out)) [
 pub started : (bs : List ℕ) (room : ℕ) → StartsWithin bs room → NoGroupFirst bs → ⊥
 started bs room s none = none s.group s.more s.is_group s.text
 
-row_open : (bytes : List ℕ) (at : ℕ) (gs : List Group) → AllByRecursion IsGroup gs → at ≤ length bytes → take at bytes ≡ texts gs
+row_open : (bytes : List ℕ) (at : ℕ) (gs : List Group) → AllByRecursion IsGroup gs → at ≤ length bytes
+    → take at bytes ≡ texts gs
     → NoGroupFirst bytes → at ≡ 0
 row_open bytes at [] each within e none = omega (arith, within, ap length e, length-take at bytes)
 row_open bytes at (g ∷ gs) each within e none =
     absurd (none g (texts gs ++ drop at bytes) each.0
-    (sym (take-append-drop at bytes) ∙ ap (λ (xs : List ℕ). xs ++ drop at bytes) e ∙ append_assoc (text g) (texts gs) (drop at bytes)))
+    (sym (take-append-drop at bytes) ∙ ap (λ (xs : List ℕ). xs ++ drop at bytes) e
+    ∙ append_assoc (text g) (texts gs) (drop at bytes)))
 
 -- behind a row
 pub row_started : (bytes : List ℕ) (at room : ℕ) (old out : List ℕ) → TakesRow bytes at old out
@@ -89,7 +98,8 @@ row_started bytes at room old out u s none =
     none s.group s.more s.is_group (ap (λ (n : ℕ). drop n bytes) (sym start) ∙ sym (rest_is bytes at) ∙ s.text)
 
 -- among the first bytes of a piece behind a rest
-pub joined_started : (rest piece joined : List ℕ) (more room : ℕ) → joined ≡ rest ++ take more piece → StartsWithin joined room
+pub joined_started : (rest piece joined : List ℕ) (more room : ℕ) → joined ≡ rest ++ take more piece
+    → StartsWithin joined room
     → NoGroupFirst (rest ++ piece) → ⊥
 joined_started rest piece joined more room e s none =
     none s.group (s.more ++ drop more piece) s.is_group
@@ -99,7 +109,8 @@ joined_started rest piece joined more room e s none =
     ∙ append_assoc (text s.group) s.more (drop more piece))
 
 -- a rest that the front of a piece made whole
-pub whole_started : (rest piece held : List ℕ) (at : ℕ) (old mid : List ℕ) → Joins rest piece held old mid (joins.Whole at)
+pub whole_started : (rest piece held : List ℕ) (at : ℕ) (old mid : List ℕ)
+    → Joins rest piece held old mid (joins.Whole at)
     → NoGroupFirst (rest ++ piece) → ⊥
 whole_started rest piece held at old mid j none =
     none j.1 (drop at piece) j.2

@@ -1,5 +1,6 @@
 -- The tag of a word by lanes.
-use Rattle.std.proofs.Common.{◌≡◌, ℕ, ◌+◌, ◌*◌, ◌%◌, ◌^◌, ◌<◌, Bool, true, false, not, cond, eqb, List, [], ◌∷◌, map, length, refl, ◌∙◌, arith, w8, replicate}
+use Rattle.std.proofs.Common.{◌≡◌, ℕ, ◌+◌, ◌*◌, ◌%◌, ◌^◌, ◌<◌, Bool, true, false, not, cond, eqb, List, [], ◌∷◌, map}
+use Rattle.std.proofs.Common.{length, refl, ◌∙◌, arith, w8, replicate}
 use Rattle.std.proofs.lemmas.Simd.{bitmask_splat, mask_l-lt}
 use Rattle.std.proofs.lemmas.List.{length-map}
 use lib.Lanes.{mask_l, top, zip2}
@@ -17,8 +18,11 @@ mask_is [] = refl
 mask_is (x ∷ xs) = λ i. turned (eqb x 0) i + 2 * mask_is xs i
 
 -- the mask of the lanes that aren't zero
-pub mask_tag : (xs : List ℕ) → length xs ≡ 8 → mask_l (map (top 7) (zip2 (λ a b. cond (differs a b) 255 0) xs (replicate 8 0))) % 2 ^ 64 ≡ tag_of xs
+pub mask_tag : (xs : List ℕ) → length xs ≡ 8
+    → mask_l (map (top 7) (zip2 (λ a b. cond (differs a b) 255 0) xs (replicate 8 0))) % 2 ^ 64 ≡ tag_of xs
 mask_tag xs long = bitmask_splat w8 differs xs 8 0 long (omega arith) ∙ mask_is xs
 
 pub tag_lt : (xs : List ℕ) → length xs ≡ 8 → tag_of xs < 256
-tag_lt xs long = rw (← mask_is xs) (let n : length (map (λ x. differs x 0) xs) ≡ 8 = length-map xs (λ x. differs x 0) ∙ long in rw n at (mask_l-lt (map (λ x. differs x 0) xs)))
+tag_lt xs long =
+    rw (← mask_is xs) (let n : length (map (λ x. differs x 0) xs) ≡ 8 = length-map xs (λ x. differs x 0) ∙ long in
+    rw n at (mask_l-lt (map (λ x. differs x 0) xs)))

@@ -1,5 +1,6 @@
 -- The tag of a word as the sum of the weights of its lanes.
-use Rattle.std.proofs.Common.{◌≡◌, ℕ, zero, suc, ◌+◌, ◌*◌, ◌%◌, ◌<◌, ◌≤◌, Bool, true, false, not, cond, eqb, List, [], ◌∷◌, map, length, refl, ap, ◌∙◌, arith, replicate}
+use Rattle.std.proofs.Common.{◌≡◌, ℕ, zero, suc, ◌+◌, ◌*◌, ◌%◌, ◌<◌, ◌≤◌, Bool, true, false, not, cond, eqb, List, []}
+use Rattle.std.proofs.Common.{◌∷◌, map, length, refl, ap, ◌∙◌, arith, replicate}
 use lib.Lanes.{fold_l, sel_l, top, zip2}
 use Rattle.capn_pack.specs.Tag.{tag_of}
 
@@ -20,7 +21,8 @@ weighed w (x ∷ xs) = cond (eqb x 0) 0 w + weighed (2 * w) xs
 
 -- the lanes that are selected
 abbrev selected : ℕ → ℕ → List ℕ → List ℕ
-selected n w xs = sel_l (map (top 7) (zip2 (λ a b. cond (not (eqb a b)) 255 0) xs (replicate n 0))) (weights n w) (replicate n 0)
+selected n w xs =
+    sel_l (map (top 7) (zip2 (λ a b. cond (not (eqb a b)) 255 0) xs (replicate n 0))) (weights n w) (replicate n 0)
 
 lane_is : (b : Bool) (w : ℕ) → cond (top 7 (cond (not b) 255 0)) w 0 ≡ cond b 0 w
 lane_is true w = refl

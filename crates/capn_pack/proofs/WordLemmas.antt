@@ -1,5 +1,7 @@
 -- Whole words of bytes are numbers.
-use Rattle.std.proofs.Common.{sym, subst, replicate, ◌/◌, ◌≡◌, ℕ, zero, suc, ◌+◌, ◌*◌, ◌^◌, ◌<◌, ◌≤◌, List, [], ◌∷◌, ◌++◌, length, take, drop, get_or, refl, ap, ◌∙◌, arith, take-append-drop, length-take, length-drop, get_or-drop, get_or-take, inl, inr}
+use Rattle.std.proofs.Common.{sym, subst, replicate, ◌/◌, ◌≡◌, ℕ, zero, suc, ◌+◌, ◌*◌, ◌^◌, ◌<◌, ◌≤◌, List, [], ◌∷◌}
+use Rattle.std.proofs.Common.{◌++◌, length, take, drop, get_or, refl, ap, ◌∙◌, arith, take-append-drop, length-take}
+use Rattle.std.proofs.Common.{length-drop, get_or-drop, get_or-take, inl, inr}
 use Rattle.std.proofs.lemmas.Bool.{cases_lt}
 use Rattle.std.proofs.lemmas.Nat.{le_bytes_8}
 use Rattle.std.specs.Int.{w64, to_le_bytes, from_le_bytes}
@@ -13,7 +15,8 @@ use Rattle.capn_pack.specs.Laws.GroupLemmas.{length_contents}
 use Rattle.capn_pack.specs.Words.{AreBytes, HasWords}
 
 word_lt : (w : List ℕ) → length w ≡ 8 → ((i : ℕ) → get_or w i 0 < 256) → from_le_bytes w64 w < 2 ^ 64
-word_lt (a ∷ b ∷ c ∷ d ∷ e ∷ f ∷ g ∷ h ∷ []) long fits = omega (arith, fits 0, fits 1, fits 2, fits 3, fits 4, fits 5, fits 6, fits 7)
+word_lt (a ∷ b ∷ c ∷ d ∷ e ∷ f ∷ g ∷ h ∷ []) long fits =
+    omega (arith, fits 0, fits 1, fits 2, fits 3, fits 4, fits 5, fits 6, fits 7)
 word_lt _ long fits = absurd (omega arith)
 
 front_fits : (bs : List ℕ) → AreBytes bs → (i : ℕ) → get_or (take 8 bs) i 0 < 256
@@ -75,14 +78,16 @@ small_named : (tag : ℕ) (word : List ℕ) → IsNamedBy tag word → Small (na
 small_named tag [] by h = tt
 small_named tag (x ∷ xs) by h =
     elim (parity tag) [
-      | inl even ↦ let zero_byte = by.0 even in (omega arith, small_named (tag / 2) xs by.1 (rw (named_none tag x xs even) at h))
+      | inl even ↦ let zero_byte = by.0 even in
+          (omega arith, small_named (tag / 2) xs by.1 (rw (named_none tag x xs even) at h))
       | inr odd ↦ let named = rw (named_one tag x xs odd) at h in (named.0, small_named (tag / 2) xs by.1 named.1)
     ]
 
 small_content : (g : Group) → IsGroup g → Small (text g) → Small (content g)
 small_content (Zeros more) is h = small_zeros (8 * (1 + more))
 small_content (Named tag word) is h = small_named tag word is.3 h.1
-small_content (Raw word count more) is h = let parts = small_split word (count ∷ more) h.1 in small_join word more parts.0 parts.1.1
+small_content (Raw word count more) is h = let parts = small_split word (count ∷ more) h.1 in
+    small_join word more parts.0 parts.1.1
 
 small_contents : (gs : List Group) → AllByRecursion IsGroup gs → Small (texts gs) → Small (contents gs)
 small_contents [] each h = tt
@@ -93,5 +98,6 @@ small_contents (g ∷ gs) each h =
 -- what bytes pack is whole words
 pub packs_words : (b bs : List ℕ) → Packs b bs → AreBytes b → HasWords bs
 packs_words b bs p fits =
-    let small : Small bs = subst Small (sym p.content) (small_contents p.groups p.each (subst Small p.text (small_bytes b fits))) in
+    let small : Small bs =
+    subst Small (sym p.content) (small_contents p.groups p.each (subst Small p.text (small_bytes b fits))) in
     has_words (word_count p.groups) bs (ap length p.content ∙ length_contents p.groups p.each) (are_bytes bs small)

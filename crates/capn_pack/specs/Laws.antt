@@ -18,11 +18,13 @@ OneReading = (b vs ws : List ℕ) → Packs b vs → Packs b ws → vs ≡ ws
 
 -- A text is refused for one reason, but for want of memory.
 abbrev pub OneRefusal : Type 0
-OneRefusal = (b : List ℕ) (max : ℕ) (e f : UnpackFault) → IsRefused b max e → IsRefused b max f → e ≢ Memory → f ≢ Memory → e ≡ f
+OneRefusal = (b : List ℕ) (max : ℕ) (e f : UnpackFault) → IsRefused b max e → IsRefused b max f → e ≢ Memory
+    → f ≢ Memory → e ≡ f
 
 -- A text that packs words within the maximum is refused for want of memory alone.
 abbrev pub PackedAreNotRefused : Type 0
-PackedAreNotRefused = (b ws : List ℕ) (max : ℕ) (e : UnpackFault) → Packs b ws → length ws ≤ 8 * max → IsRefused b max e → e ≡ Memory
+PackedAreNotRefused = (b ws : List ℕ) (max : ℕ) (e : UnpackFault) → Packs b ws → length ws ≤ 8 * max → IsRefused b max e
+    → e ≡ Memory
 
 -- A text is whole groups and a rest that no group begins.
 abbrev pub EachSplits : Type 0
@@ -30,5 +32,6 @@ EachSplits = (b old : List ℕ) → (rest new : List ℕ) × (len : ℕ) × Spli
 
 -- It is in one way.
 abbrev pub OneSplit : Type 0
-OneSplit = (b rest other old new also : List ℕ) (len more : ℕ) → Splits b rest old new len → Splits b other old also more
+OneSplit = (b rest other old new also : List ℕ) (len more : ℕ) → Splits b rest old new len
+    → Splits b other old also more
     → (rest ≡ other) × (new ≡ also) × (len ≡ more)

@@ -25,7 +25,8 @@ pub record Begins (stream old new : List ℕ) : Type 0 where
   pub text : stream ≡ texts groups ++ rest
   pub content : new ≡ old ++ contents groups
 
--- What an unpacker holds: the bytes of the unfinished group, where in the stream it begins, and whether a call has refused.
+-- What an unpacker holds: the bytes of the unfinished group, where in the stream it begins, and whether a call has
+-- refused.
 pub record Held : Type 0 where
   pub rest : List ℕ
   pub offset : ℕ

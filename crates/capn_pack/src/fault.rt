@@ -2,6 +2,8 @@
 ghost use Rattle.std.specs.Prelude.{◌≡◌};
 
 use std::alloc::AllocError;
+use std::error::Error;
+use std::fmt;
 
 /// Why bytes aren't packed.
 #[derive(Debug, Drop, Clone, Copy, PartialEq, Eq)]
@@ -21,6 +23,22 @@ impl From<AllocError> for PackFault {
         PackFault::Memory
     }
 }
+
+impl fmt::Display for PackFault {
+    ghost use Rattle.std.specs.Prelude.{Some};
+    ghost use Rattle.capn_pack.specs.Told.{pack_text};
+
+    ghost output = { λ fault. Some (pack_text fault) };
+
+    fn fmt<W: fmt::Write>(&self, f: &mut fmt::Formatter<W>) -> fmt::Result {
+        match self {
+            PackFault::Memory => write!(f, "out of memory"),
+            PackFault::NotWhole(bytes) => write!(f, "NotWhole({bytes})"),
+        }
+    }
+}
+
+impl Error for PackFault {}
 
 /// Why a packed text isn't unpacked. Offsets are in bytes of the text, and are those of a group's tag.
 #[derive(Debug, Drop, Clone, Copy, PartialEq, Eq)]
@@ -50,3 +68,21 @@ impl From<AllocError> for UnpackFault {
         UnpackFault::Memory
     }
 }
+
+impl fmt::Display for UnpackFault {
+    ghost use Rattle.std.specs.Prelude.{Some};
+    ghost use Rattle.capn_pack.specs.Told.{unpack_text};
+
+    ghost output = { λ fault. Some (unpack_text fault) };
+
+    fn fmt<W: fmt::Write>(&self, f: &mut fmt::Formatter<W>) -> fmt::Result {
+        match self {
+            UnpackFault::Memory => write!(f, "out of memory"),
+            UnpackFault::Cut { at } => write!(f, "Cut at {at}"),
+            UnpackFault::TooLong { at } => write!(f, "TooLong at {at}"),
+            UnpackFault::Failed => write!(f, "Failed"),
+        }
+    }
+}
+
+impl Error for UnpackFault {}

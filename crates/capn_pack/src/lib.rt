@@ -10,8 +10,8 @@
 //! let words = unpack(alloc, &text, 1)?;                 // the eight bytes again
 //! ```
 //!
-//! Every refusal is a value of [`PackFault`] or [`UnpackFault`], and the clauses of each call say exactly when it comes.
-//! [`laws`] has what holds of packed texts apart from any call: one reading, one refusal, one way to split.
+//! Every refusal is a value of [`PackFault`] or [`UnpackFault`], and the clauses of each call say exactly when it
+//! comes. [`laws`] has what holds of packed texts apart from any call: one reading, one refusal, one way to split.
 #![tactic(auto)]
 
 mod fault;

@@ -49,9 +49,9 @@ impl Unpacker {
     ///
     /// The piece is taken whole: what remains of it is held. There is no maximum of words; the pieces bound them.
     ///
-    /// Refusals: `Memory` where a growth of `out` was refused, and then a beginning of those words was appended (a piece
-    /// that makes no group whole takes no memory);
-    /// `Failed` after an earlier refusal, and then `out` is as it was.
+    /// Refusals: `Memory` where a growth of `out` was refused, and then a beginning of those words was appended (a
+    /// piece that makes no group whole takes no memory); `Failed` after an earlier refusal, and then `out` is as it
+    /// was.
     pub fn feed<A: Allocator>(
         &mut self,
         piece: &[u8],
@@ -60,7 +60,8 @@ impl Unpacker {
         // What was held and the piece are whole groups, whose words were appended, and what is held now.
         ensures fed { OnOk result (Feeds self.old piece.now out.old.items out.new.items self.new) }
         // Without memory a beginning of the words was appended, and the text can't be gone on with.
-        ensures memory { IsErrOf result UnpackFault.Memory → Begins (self.old.rest ++ piece.now) out.old.items out.new.items
+        ensures memory { IsErrOf result UnpackFault.Memory
+            → Begins (self.old.rest ++ piece.now) out.old.items out.new.items
             × (self.new.failed ≡ true) }
         // Memory is wanted only where a group became whole.
         ensures wanted { IsErrOf result UnpackFault.Memory → NoGroupFirst (self.old.rest ++ piece.now) → ⊥ }

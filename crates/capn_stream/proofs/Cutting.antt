@@ -1,5 +1,7 @@
 -- Words that are cut into segments.
-use Rattle.std.proofs.Common.{◌≡◌, ℕ, zero, suc, ◌+◌, ◌-◌, ◌*◌, ◌^◌, ◌<◌, ◌≤◌, List, [], ◌∷◌, ◌++◌, length, take, drop, slice_index, Some, None, refl, ap, sym, subst, inl, inr, ◌∙◌, arith, length-drop, length-take}
+use Rattle.std.proofs.Common.{◌≡◌, ℕ, zero, suc, ◌+◌, ◌-◌, ◌*◌, ◌^◌, ◌<◌, ◌≤◌, List, [], ◌∷◌, ◌++◌, length, take, drop}
+use Rattle.std.proofs.Common.{slice_index, Some, None, refl, ap, sym, subst, inl, inr, ◌∙◌, arith, length-drop}
+use Rattle.std.proofs.Common.{length-take}
 use Rattle.std.proofs.lemmas.List.{get_or-drop, get_or-take, length-take-le, take_rest}
 use Rattle.std.proofs.lemmas.List.Sums.{sum_by-cons}
 use Rattle.capn_words.specs.Message.{bytes, segment_at, total, words_of, IsMessage}
@@ -17,7 +19,9 @@ length-cut from (end ∷ ends) ws = let e = length-cut end ends ws in omega (ari
 
 -- segment s goes from where it begins to where it ends
 pub segment-cut : (from : ℕ) (ends ws : List ℕ) (s : ℕ) → s ≤ length ends
-    → segment_at (cut from ends ws) s ≡ take (slice_index (ends ++ length ws ∷ []) s - slice_index (from ∷ ends) s) (drop (slice_index (from ∷ ends) s) ws)
+    → segment_at (cut from ends ws) s
+    ≡ take (slice_index (ends ++ length ws ∷ []) s - slice_index (from ∷ ends) s)
+    (drop (slice_index (from ∷ ends) s) ws)
 segment-cut from [] ws zero h = sym (take_rest ws from)
 segment-cut from [] ws (suc s) h = absurd (omega arith)
 segment-cut from (end ∷ ends) ws zero h = refl
@@ -37,14 +41,17 @@ rising from (end ∷ ends) len (suc s) h r = rising end ends len s (omega arith)
 
 -- ---- the message
 
-each-cut : (from : ℕ) (ends ws : List ℕ) → AreWords ws → (s k : ℕ) → slice_index (segment_at (cut from ends ws) s) k < 2 ^ 64
+each-cut : (from : ℕ) (ends ws : List ℕ) → AreWords ws → (s k : ℕ)
+    → slice_index (segment_at (cut from ends ws) s) k < 2 ^ 64
 each-cut from [] ws each zero k = below-drop (2 ^ 64) from ws each k
 each-cut from [] ws each (suc s) k = omega arith
-each-cut from (end ∷ ends) ws each zero k = below-take (2 ^ 64) (end - from) (drop from ws) (omega arith) (below-drop (2 ^ 64) from ws each) k
+each-cut from (end ∷ ends) ws each zero k =
+    below-take (2 ^ 64) (end - from) (drop from ws) (omega arith) (below-drop (2 ^ 64) from ws each) k
 each-cut from (end ∷ ends) ws each (suc s) k = each-cut end ends ws each s k
 
 -- the segments have all the words from the first one on
-pub total-cut : (from : ℕ) (ends ws : List ℕ) → AreRising from ends (length ws) → total (cut from ends ws) + from ≡ length ws
+pub total-cut : (from : ℕ) (ends ws : List ℕ) → AreRising from ends (length ws)
+    → total (cut from ends ws) + from ≡ length ws
 total-cut from [] ws r = omega (arith, length-drop from ws)
 total-cut from (end ∷ ends) ws r =
     let cons = sum_by-cons length (take (end - from) (drop from ws)) (cut end ends ws) in
@@ -70,11 +77,17 @@ place_segment (ws ∷ message) (suc s) k h = let e = place_segment message s k h
 pub words_of-none : (message : List (List ℕ)) (s : ℕ) → length message ≤ s → words_of message s ≡ None
 words_of-none message s h = rw (le-ltb s (length message) h) refl
 
-pub words_of-some : (message : List (List ℕ)) (s : ℕ) → s < length message → words_of message s ≡ Some (length (segment_at message s))
+pub words_of-some : (message : List (List ℕ)) (s : ℕ) → s < length message
+    → words_of message s ≡ Some (length (segment_at message s))
 words_of-some message s h = rw (lt-ltb s (length message) h) refl
 
 pub words_of_is : (message : List (List ℕ)) (s n : ℕ) → words_of message s ≡ Some n → n ≡ length (segment_at message s)
-words_of_is message s n h = elim (cases_lt s (length message)) [ inl below ↦ (let e = words_of-some message s below in cc) | inr past ↦ (let e = words_of-none message s past in cc) ]
+words_of_is message s n h =
+    elim (cases_lt s (length message)) [
+      | inl below ↦ (let e = words_of-some message s below in cc)
+      | inr past ↦ (let e = words_of-none message s past in
+          cc)
+    ]
 
 module _ (ends ws : List ℕ) (is : AreEnds ends ws) (s : ℕ) (here : s < length (cut 0 ends ws)) where
   within : s ≤ length ends
@@ -84,25 +97,30 @@ module _ (ends ws : List ℕ) (is : AreEnds ends ws) (s : ℕ) (here : s < lengt
   size_of =
       let r = rising 0 ends (length ws) s within is.rising in
       ap length (segment-cut 0 ends ws s within)
-      ∙ length-take-le (slice_index (ends ++ length ws ∷ []) s - slice_index (0 ∷ ends) s) (drop (slice_index (0 ∷ ends) s) ws) (omega (arith, r.0, r.1, length-drop (slice_index (0 ∷ ends) s) ws))
+      ∙ length-take-le (slice_index (ends ++ length ws ∷ []) s - slice_index (0 ∷ ends) s)
+      (drop (slice_index (0 ∷ ends) s) ws) (omega (arith, r.0, r.1, length-drop (slice_index (0 ∷ ends) s) ws))
 
   inside : slice_index (0 ∷ ends) s + length (segment_at (cut 0 ends ws) s) ≤ length ws
   inside = let r = rising 0 ends (length ws) s within is.rising in omega (arith, size_of, r.0, r.1)
 
-  word_in : (k : ℕ) → k < length (segment_at (cut 0 ends ws) s) → slice_index ws (slice_index (0 ∷ ends) s + k) ≡ slice_index (segment_at (cut 0 ends ws) s) k
+  word_in : (k : ℕ) → k < length (segment_at (cut 0 ends ws) s)
+      → slice_index ws (slice_index (0 ∷ ends) s + k) ≡ slice_index (segment_at (cut 0 ends ws) s) k
   word_in k h =
       let start : ℕ = slice_index (0 ∷ ends) s in
       let size : ℕ = slice_index (ends ++ length ws ∷ []) s - start in
       let small : k < size = omega (arith, size_of) in
-      sym (ap (λ (xs : List ℕ). slice_index xs k) (segment-cut 0 ends ws s within) ∙ get_or-take size (drop start ws) k 0 small ∙ get_or-drop start ws k 0)
+      sym (ap (λ (xs : List ℕ). slice_index xs k) (segment-cut 0 ends ws s within)
+      ∙ get_or-take size (drop start ws) k 0 small ∙ get_or-drop start ws k 0)
 
   bytes_in : (k len : ℕ) → 8 * k + len ≤ 8 * length (segment_at (cut 0 ends ws) s)
-      → take len (drop (8 * (slice_index (0 ∷ ends) s + k)) (bytes ws)) ≡ take len (drop (8 * k) (bytes (segment_at (cut 0 ends ws) s)))
+      → take len (drop (8 * (slice_index (0 ∷ ends) s + k)) (bytes ws))
+      ≡ take len (drop (8 * k) (bytes (segment_at (cut 0 ends ws) s)))
   bytes_in k len h =
       let start : ℕ = slice_index (0 ∷ ends) s in
       let size : ℕ = slice_index (ends ++ length ws ∷ []) s - start in
       let room : 8 * k + len ≤ 8 * size = omega (arith, size_of) in
-      sym (ap (λ (xs : List ℕ). take len (drop (8 * k) (bytes xs))) (segment-cut 0 ends ws s within) ∙ bytes_of_part start size k len ws room)
+      sym (ap (λ (xs : List ℕ). take len (drop (8 * k) (bytes xs))) (segment-cut 0 ends ws s within)
+      ∙ bytes_of_part start size k len ws room)
 
 -- the same of the message that is seen
 module _ (ends ws : List ℕ) (message : List (List ℕ)) (seen : cut 0 ends ws ≡ message) (is : AreEnds ends ws) where
@@ -115,24 +133,31 @@ module _ (ends ws : List ℕ) (message : List (List ℕ)) (seen : cut 0 ends ws 
   pub seen_order : (s : ℕ) → s < length message → slice_index (0 ∷ ends) s ≤ slice_index (ends ++ length ws ∷ []) s
   seen_order s h = (rising 0 ends (length ws) s (omega (arith, seen_count)) is.rising).0
 
-  pub seen_size : (s : ℕ) → s < length message → length (segment_at message s) ≡ slice_index (ends ++ length ws ∷ []) s - slice_index (0 ∷ ends) s
+  pub seen_size : (s : ℕ) → s < length message
+      → length (segment_at message s) ≡ slice_index (ends ++ length ws ∷ []) s - slice_index (0 ∷ ends) s
   seen_size s h =
-      let P : List (List ℕ) → Type 0 = λ m. s < length m → length (segment_at m s) ≡ slice_index (ends ++ length ws ∷ []) s - slice_index (0 ∷ ends) s in
+      let P : List (List ℕ) → Type 0 = λ m. s < length m
+      → length (segment_at m s) ≡ slice_index (ends ++ length ws ∷ []) s - slice_index (0 ∷ ends) s in
       subst P seen (size_of ends ws is s) h
 
   pub seen_inside : (s : ℕ) → s < length message → slice_index (0 ∷ ends) s + length (segment_at message s) ≤ length ws
   seen_inside s h =
-      let P : List (List ℕ) → Type 0 = λ m. s < length m → slice_index (0 ∷ ends) s + length (segment_at m s) ≤ length ws in
+      let P : List (List ℕ) → Type 0 = λ m. s < length m
+      → slice_index (0 ∷ ends) s + length (segment_at m s) ≤ length ws in
       subst P seen (inside ends ws is s) h
 
-  pub seen_word : (s k : ℕ) → s < length message → k < length (segment_at message s) → slice_index ws (slice_index (0 ∷ ends) s + k) ≡ slice_index (segment_at message s) k
+  pub seen_word : (s k : ℕ) → s < length message → k < length (segment_at message s)
+      → slice_index ws (slice_index (0 ∷ ends) s + k) ≡ slice_index (segment_at message s) k
   seen_word s k h =
-      let P : List (List ℕ) → Type 0 = λ m. s < length m → k < length (segment_at m s) → slice_index ws (slice_index (0 ∷ ends) s + k) ≡ slice_index (segment_at m s) k in
+      let P : List (List ℕ) → Type 0 = λ m. s < length m → k < length (segment_at m s)
+      → slice_index ws (slice_index (0 ∷ ends) s + k) ≡ slice_index (segment_at m s) k in
       subst P seen (λ here. word_in ends ws is s here k) h
 
   pub seen_bytes : (s k len : ℕ) → s < length message → 8 * k + len ≤ 8 * length (segment_at message s)
-      → take len (drop (8 * (slice_index (0 ∷ ends) s + k)) (bytes ws)) ≡ take len (drop (8 * k) (bytes (segment_at message s)))
+      → take len (drop (8 * (slice_index (0 ∷ ends) s + k)) (bytes ws))
+      ≡ take len (drop (8 * k) (bytes (segment_at message s)))
   seen_bytes s k len h =
       let P : List (List ℕ) → Type 0 = λ m. s < length m → 8 * k + len ≤ 8 * length (segment_at m s)
-      → take len (drop (8 * (slice_index (0 ∷ ends) s + k)) (bytes ws)) ≡ take len (drop (8 * k) (bytes (segment_at m s))) in
+      → take len (drop (8 * (slice_index (0 ∷ ends) s + k)) (bytes ws))
+      ≡ take len (drop (8 * k) (bytes (segment_at m s))) in
       subst P seen (λ here. bytes_in ends ws is s here k len) h

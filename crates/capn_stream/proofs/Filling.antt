@@ -1,5 +1,6 @@
 -- One more part of a frame that comes in pieces.
-use Rattle.std.proofs.Common.{◌≡◌, ◌⊎◌, inl, inr, ℕ, ◌+◌, ◌-◌, ◌*◌, ◌<◌, ◌≤◌, List, [], ◌∷◌, ◌++◌, length, take, drop, refl, ap, sym, subst, ◌∙◌, arith, append_assoc, length-drop}
+use Rattle.std.proofs.Common.{◌≡◌, ◌⊎◌, inl, inr, ℕ, ◌+◌, ◌-◌, ◌*◌, ◌<◌, ◌≤◌, List, [], ◌∷◌, ◌++◌, length, take, drop}
+use Rattle.std.proofs.Common.{refl, ap, sym, subst, ◌∙◌, arith, append_assoc, length-drop}
 use Rattle.std.proofs.Math.Seq.{take-add}
 use Rattle.std.proofs.lemmas.List.{take_rest, take-append-drop}
 use Rattle.capn_words.specs.Limits.{most_segments}
@@ -18,11 +19,13 @@ pub record Filled (stage : Stage) (old piece : List ℕ) (most at : ℕ) (new en
   pub is : IsStage stage new most ends
 
 -- too many segments are announced
-pub stop_count : (bs : List ℕ) (most : ℕ) (e : FrameFault) → length bs ≡ 4 → (e ≡ TooManySegments (announced_segments bs)) × (most_segments < announced_segments bs) → IsStop bs most e
+pub stop_count : (bs : List ℕ) (most : ℕ) (e : FrameFault) → length bs ≡ 4
+    → (e ≡ TooManySegments (announced_segments bs)) × (most_segments < announced_segments bs) → IsStop bs most e
 stop_count bs most e here h = rw h.0 (omega arith, refl, h.1)
 
 -- the table is waited for behind the count
-pub is_table : (stage : Stage) (old piece : List ℕ) (most at segments : ℕ) (new ends : List ℕ) → Filled stage old piece most at new ends → HasCount new × (segments ≡ announced_segments new) → length new ≡ 4
+pub is_table : (stage : Stage) (old piece : List ℕ) (most at segments : ℕ) (new ends : List ℕ)
+    → Filled stage old piece most at new ends → HasCount new × (segments ≡ announced_segments new) → length new ≡ 4
     → Filled (stages.Table segments) old piece most at new ends
 is_table stage old piece most at segments new ends f counted here = record {
   inside = f.inside;
@@ -35,7 +38,8 @@ is_table stage old piece most at segments new ends f counted here = record {
 }
 
 -- the contents are waited for behind the table
-pub is_contents : (segments : ℕ) (old piece : List ℕ) (most at start end : ℕ) (new ends cuts : List ℕ) → Filled (stages.Table segments) old piece most at new ends → Tabled new most start end cuts
+pub is_contents : (segments : ℕ) (old piece : List ℕ) (most at start end : ℕ) (new ends cuts : List ℕ)
+    → Filled (stages.Table segments) old piece most at new ends → Tabled new most start end cuts
     → Filled (stages.Contents start end) old piece most at new cuts
 is_contents segments old piece most at start end new ends cuts f t = record {
   inside = f.inside;
@@ -47,7 +51,8 @@ is_contents segments old piece most at start end new ends cuts f t = record {
   };
 }
 
-module _ (stage : Stage) (old piece : List ℕ) (most at n end : ℕ) (mid new ends : List ℕ) (end_is : end ≡ need stage) (inside : at ≤ length piece) (text : mid ≡ old ++ take at piece) (is : IsStage stage mid most ends)
+module _ (stage : Stage) (old piece : List ℕ) (most at n end : ℕ) (mid new ends : List ℕ) (end_is : end ≡ need stage)
+    (inside : at ≤ length piece) (text : mid ≡ old ++ take at piece) (is : IsStage stage mid most ends)
     (more : Extends mid (take (length piece - at) (drop at piece)) end n new) where
   pub filled : Filled stage old piece most (at + n) new ends
   filled =
@@ -71,7 +76,8 @@ module _ (stage : Stage) (old piece : List ℕ) (most at n end : ℕ) (mid new e
 
   -- what is refused by what is there is refused by the whole piece
   pub filled_stop : (e : FrameFault) → IsStop new most e → IsStop (old ++ piece) most e
-  filled_stop e h = subst (λ (bs : List ℕ). IsStop bs most e) (sym filled_all) (IsStop-append new (drop (at + n) piece) most e h)
+  filled_stop e h =
+      subst (λ (bs : List ℕ). IsStop bs most e) (sym filled_all) (IsStop-append new (drop (at + n) piece) most e h)
 
   -- the piece ended
   pub filled_short : length new < end → Fills old piece most (at + n) new stage ends

@@ -17,7 +17,8 @@ one_segment_framed : frame_text struct_of_one_word ≡ one_segment
 unfolding struct_of_one_word one_segment entry word_bytes
 one_segment_framed = refl
 
-one_segment_announced : (announced_segments one_segment ≡ 1) × (announced_words one_segment ≡ 2) × (frame_length one_segment ≡ 24)
+one_segment_announced : (announced_segments one_segment ≡ 1) × (announced_words one_segment ≡ 2)
+    × (frame_length one_segment ≡ 24)
 unfolding one_segment entry_number
 one_segment_announced = (refl, refl, refl)
 

@@ -1,5 +1,6 @@
 -- What was written.
-use Rattle.std.proofs.Common.{◌≡◌, ℕ, ◌+◌, ◌-◌, ◌<◌, ◌≤◌, inl, inr, min, List, [], ◌∷◌, ◌++◌, length, take, drop, Option, refl, ap, sym, subst, ◌∙◌, arith}
+use Rattle.std.proofs.Common.{◌≡◌, ℕ, ◌+◌, ◌-◌, ◌<◌, ◌≤◌, inl, inr, min, List, [], ◌∷◌, ◌++◌, length, take, drop}
+use Rattle.std.proofs.Common.{Option, refl, ap, sym, subst, ◌∙◌, arith}
 use Rattle.std.specs.List.{flat_map}
 use Rattle.std.proofs.lemmas.Grind.{flat_map-append}
 use Rattle.capn_words.specs.Message.{bytes, segment_at}
@@ -16,34 +17,46 @@ pub begun_all : (a b : Option (List ℕ)) (text : List ℕ) → Appends a b text
 begun_all a b text wrote = (length text, subst (Appends a b) (sym (take-length text)) wrote)
 
 -- a beginning of a front is one of the whole
-pub begun_front : (a b : Option (List ℕ)) (front rest text : List ℕ) → text ≡ front ++ rest → HasBegun a b front → HasBegun a b text
+pub begun_front : (a b : Option (List ℕ)) (front rest text : List ℕ) → text ≡ front ++ rest → HasBegun a b front
+    → HasBegun a b text
 begun_front a b front rest text is (count, wrote) =
     let n : ℕ = min count (length front) in
-    let same : take n text ≡ take count front = ap (λ (xs : List ℕ). take n xs) is ∙ take-append-le n front rest (omega arith) ∙ take_min count front in
+    let same : take n text ≡ take count front = ap (λ (xs : List ℕ). take n xs) is
+    ∙ take-append-le n front rest (omega arith) ∙ take_min count front in
     (n, subst (Appends a b) (sym same) wrote)
   where
     take_min : (k : ℕ) (xs : List ℕ) → take (min k (length xs)) xs ≡ take k xs
     take_min k xs = elim (cases_lt k (length xs)) [
       | inl below ↦ (let e : min k (length xs) ≡ k = omega (arith, below) in ap (λ (n : ℕ). take n xs) e)
-      | inr past ↦ (let e : min k (length xs) ≡ length xs = omega (arith, past) in ap (λ (n : ℕ). take n xs) e ∙ take-length xs ∙ sym (take_all k xs past))
+      | inr past ↦ (let e : min k (length xs) ≡ length xs = omega (arith, past) in ap (λ (n : ℕ). take n xs) e
+          ∙ take-length xs ∙ sym (take_all k xs past))
     ]
 
 -- a front and a beginning of what follows it
-pub begun_more : (a b c : Option (List ℕ)) (front more : List ℕ) → Appends a b front → HasBegun b c more → HasBegun a c (front ++ more)
-begun_more a b c front more first (count, wrote) =
-    (length front + count, subst (Appends a c) (sym (take-append-add front more count)) (Appends-trans a b c front (take count more) first wrote))
+pub begun_more : (a b c : Option (List ℕ)) (front more : List ℕ) → Appends a b front → HasBegun b c more
+    → HasBegun a c (front ++ more)
+begun_more a b c front more first (count, wrote) = (
+  length front + count,
+  subst (Appends a c) (sym (take-append-add front more count))
+      (Appends-trans a b c front (take count more) first wrote),
+)
 
 -- the sizes of one segment more
 pub sizes_more : (message : List (List ℕ)) (s size : ℕ) → s < length message → size ≡ length (segment_at message s)
-    → flat_map (λ ws. entry (length ws)) (take (s + 1) message) ≡ flat_map (λ ws. entry (length ws)) (take s message) ++ entry size
+    → flat_map (λ ws. entry (length ws)) (take (s + 1) message) ≡ flat_map (λ ws. entry (length ws)) (take s message)
+    ++ entry size
 sizes_more message s size here is =
     ap (λ (m : List (List ℕ)). flat_map (λ ws. entry (length ws)) m) (take_more message s [] here)
     ∙ sym (flat_map_more (λ ws. entry (length ws)) [] (take s message) (segment_at message s))
     ∙ ap (λ (n : ℕ). flat_map (λ ws. entry (length ws)) (take s message) ++ entry n) (sym is)
 
 -- the bytes of one segment more, and those behind it
-pub contents_more : (message : List (List ℕ)) (s : ℕ) → s < length message → contents (take (s + 1) message) ≡ contents (take s message) ++ bytes (segment_at message s)
-contents_more message s here = ap contents (take_more message s [] here) ∙ sym (flat_map_more bytes [] (take s message) (segment_at message s))
+pub contents_more : (message : List (List ℕ)) (s : ℕ) → s < length message
+    → contents (take (s + 1) message) ≡ contents (take s message) ++ bytes (segment_at message s)
+contents_more message s here = ap contents (take_more message s [] here)
+    ∙ sym (flat_map_more bytes [] (take s message) (segment_at message s))
 
-pub contents_split : (message : List (List ℕ)) (s : ℕ) → contents message ≡ contents (take s message) ++ contents (drop s message)
-contents_split message s = ap contents (sym (take-append-drop s message)) ∙ flat_map-append bytes (take s message) (drop s message)
+pub contents_split : (message : List (List ℕ)) (s : ℕ)
+    → contents message ≡ contents (take s message) ++ contents (drop s message)
+contents_split message s = ap contents (sym (take-append-drop s message))
+    ∙ flat_map-append bytes (take s message) (drop s message)

@@ -1,5 +1,7 @@
 -- A frame that came in pieces is whole.
-use Rattle.std.proofs.Common.{◌≡◌, ◌⊎◌, inl, inr, ℕ, ◌+◌, ◌-◌, ◌*◌, ◌/◌, ◌%◌, ◌^◌, ◌<◌, ◌≤◌, List, [], ◌∷◌, ◌++◌, length, take, drop, Bool, true, false, Option, Some, Result, Ok, Err, IfOk, IfErr, is_err, refl, ap, sym, subst, ◌∙◌, arith, length-drop}
+use Rattle.std.proofs.Common.{◌≡◌, ◌⊎◌, inl, inr, ℕ, ◌+◌, ◌-◌, ◌*◌, ◌/◌, ◌%◌, ◌^◌, ◌<◌, ◌≤◌, List, [], ◌∷◌, ◌++◌}
+use Rattle.std.proofs.Common.{length, take, drop, Bool, true, false, Option, Some, Result, Ok, Err, IfOk, IfErr, is_err}
+use Rattle.std.proofs.Common.{refl, ap, sym, subst, ◌∙◌, arith, length-drop}
 use Rattle.std.proofs.lemmas.List.{take_all}
 use Rattle.capn_words.specs.Message.{bytes, total}
 use Rattle.capn_words.specs.Words.{AreBytes, AreWords, words_in}
@@ -10,7 +12,8 @@ use Rattle.capn_stream.specs.Framing.{FeedGives, Framing, IsFrame, IsUnfinished,
 use Rattle.capn_stream.specs.Reading.{HasHead, IsWhole, announced_segments, announced_words, frame_length, head_length}
 use Rattle.capn_stream.specs.Stages.{Fills, IsDone, IsStage, IsStop, Knows, Rests, announced_ends}
 use Rattle.capn_stream.specs.declared.fault.FrameFault.{FrameFault}
-use Rattle.capn_stream.specs.declared.fault.FrameFault.TheVariants.{Memory, Empty, TooManySegments, TooManyWords, Cut, Failed}
+use Rattle.capn_stream.specs.declared.fault.FrameFault.TheVariants.{Memory, Empty, TooManySegments, TooManyWords, Cut}
+use Rattle.capn_stream.specs.declared.fault.FrameFault.TheVariants.{Failed}
 use Rattle.capn_stream.specs.declared.stage.Stage.{Stage}
 use Rattle.capn_stream.specs.declared.stage.Stage.TheVariants as stages
 use Rattle.capn_stream.specs.Laws.FrameLaws.{frames_all}
@@ -20,7 +23,8 @@ use Rattle.capn_stream.proofs.WholeFrames.{ends_are, stands}
 abbrev pub tail : ℕ → List ℕ → List ℕ
 tail start bs = words_in (length (drop start bs) / 8) (drop start bs)
 
-module _ (bs : List ℕ) (most start end : ℕ) (ends : List ℕ) (small : most ≤ 2 ^ 28) (is : IsStage (stages.Contents start end) bs most ends) (done : length bs ≡ end) where
+module _ (bs : List ℕ) (most start end : ℕ) (ends : List ℕ) (small : most ≤ 2 ^ 28)
+    (is : IsStage (stages.Contents start end) bs most ends) (done : length bs ≡ end) where
   whole : IsWhole bs most
   whole = (is.knows.0, is.knows.1, omega (arith, is.knows.3, done))
 
@@ -28,7 +32,8 @@ module _ (bs : List ℕ) (most start end : ℕ) (ends : List ℕ) (small : most 
   size = omega (arith, length-drop start bs, is.knows.3, is.knows.2, done)
 
   tail_bytes : bytes (tail start bs) ≡ drop start bs
-  tail_bytes = bytes_of_words (length (drop start bs) / 8) (drop start bs) (AreBytes-drop start bs is.below) (omega (arith, size))
+  tail_bytes = bytes_of_words (length (drop start bs) / 8) (drop start bs) (AreBytes-drop start bs is.below)
+      (omega (arith, size))
 
   tail_is : take (8 * announced_words bs) (drop (head_length (announced_segments bs)) bs) ≡ bytes (tail start bs)
   tail_is =
@@ -40,7 +45,8 @@ module _ (bs : List ℕ) (most start end : ℕ) (ends : List ℕ) (small : most 
   each = words_below (length (drop start bs) / 8) (drop start bs) (AreBytes-drop start bs is.below)
 
   pub waiting_ends : AreEnds ends (tail start bs)
-  waiting_ends = let P : List ℕ → Type 0 = λ xs. AreEnds xs (tail start bs) in subst P (sym is.knows.4) (ends_are bs most (tail start bs) small is.below whole each tail_is)
+  waiting_ends = let P : List ℕ → Type 0 = λ xs. AreEnds xs (tail start bs) in
+      subst P (sym is.knows.4) (ends_are bs most (tail start bs) small is.below whole each tail_is)
 
   waiting_stands : StandsFirst bs most (cut 0 ends (tail start bs)) (length bs)
   waiting_stands =
@@ -56,19 +62,25 @@ module _ (bs : List ℕ) (most start end : ℕ) (ends : List ℕ) (small : most 
   waiting_room = waiting_stands.room
 
 -- all of a frame is there,
-pub frame_done : (stage : Stage) (bs : List ℕ) (most : ℕ) (ends : List ℕ) → most ≤ 2 ^ 28 → IsStage stage bs most ends → IsDone stage bs → IsFrame bs most
+pub frame_done : (stage : Stage) (bs : List ℕ) (most : ℕ) (ends : List ℕ) → most ≤ 2 ^ 28 → IsStage stage bs most ends
+    → IsDone stage bs → IsFrame bs most
 frame_done stages.Count bs most ends small is done = absurd done
 frame_done (stages.Table segments) bs most ends small is done = absurd done
-frame_done (stages.Contents start end) bs most ends small is done =
-    (cut 0 ends (tail start bs), waiting_frames bs most start end ends small is done, waiting_room bs most start end ends small is done)
+frame_done (stages.Contents start end) bs most ends small is done = (
+  cut 0 ends (tail start bs),
+  waiting_frames bs most start end ends small is done,
+  waiting_room bs most start end ends small is done,
+)
 
 -- or none has begun, or one is cut
 cut_or_empty : (bs : List ℕ) (most : ℕ) → (0 < length bs → IsUnfinished bs most) → IsUnfinished bs most
 cut_or_empty [] most h = inl refl
 cut_or_empty (b ∷ bs) most h = h (omega arith)
 
-unfinished : (stage : Stage) (bs : List ℕ) (most : ℕ) (ends : List ℕ) → Knows stage bs most ends → Rests stage bs → (IsDone stage bs → ⊥) → IsUnfinished bs most
-unfinished stages.Count bs most ends knows (inl short) never = cut_or_empty bs most (λ some. inr (some, λ four. absurd (omega (arith, four, short))))
+unfinished : (stage : Stage) (bs : List ℕ) (most : ℕ) (ends : List ℕ) → Knows stage bs most ends → Rests stage bs
+    → (IsDone stage bs → ⊥) → IsUnfinished bs most
+unfinished stages.Count bs most ends knows (inl short) never =
+    cut_or_empty bs most (λ some. inr (some, λ four. absurd (omega (arith, four, short))))
 unfinished (stages.Table segments) bs most ends knows (inl short) never =
     let same = ap head_length knows.1 in
     inr (omega (arith, knows.0.0), λ four. (knows.0.1, λ head. absurd (omega (arith, head, short, same))))
@@ -76,17 +88,23 @@ unfinished (stages.Contents start end) bs most ends knows (inl short) never =
     inr (omega (arith, knows.0.0.0), λ four. (knows.0.0.1, λ head. (knows.1, omega (arith, short, knows.3))))
 unfinished stage bs most ends knows (inr done) never = absurd (never done)
 
-pub frame_held : (stage : Stage) (bs : List ℕ) (most : ℕ) (ends : List ℕ) → most ≤ 2 ^ 28 → IsStage stage bs most ends → Rests stage bs → IsFrame bs most ⊎ IsUnfinished bs most
+pub frame_held : (stage : Stage) (bs : List ℕ) (most : ℕ) (ends : List ℕ) → most ≤ 2 ^ 28 → IsStage stage bs most ends
+    → Rests stage bs → IsFrame bs most ⊎ IsUnfinished bs most
 frame_held stage bs most ends small is (inr done) = inl (frame_done stage bs most ends small is done)
-frame_held stages.Count bs most ends small is (inl short) = inr (unfinished stages.Count bs most ends is.knows (inl short) (λ d. d))
-frame_held (stages.Table segments) bs most ends small is (inl short) = inr (unfinished (stages.Table segments) bs most ends is.knows (inl short) (λ d. d))
+frame_held stages.Count bs most ends small is (inl short) =
+    inr (unfinished stages.Count bs most ends is.knows (inl short) (λ d. d))
+frame_held (stages.Table segments) bs most ends small is (inl short) =
+    inr (unfinished (stages.Table segments) bs most ends is.knows (inl short) (λ d. d))
 frame_held (stages.Contents start end) bs most ends small is (inl short) =
-    inr (unfinished (stages.Contents start end) bs most ends is.knows (inl short) (λ d. absurd (omega (arith, short, d))))
+    inr (unfinished (stages.Contents start end) bs most ends is.knows (inl short)
+    (λ d. absurd (omega (arith, short, d))))
 
 -- what a feed gives, by what became of the fields
-pub feed_gives : (rest piece : List ℕ) (most : ℕ) (r : Result ℕ FrameFault) (stage : Stage) (new ends : List ℕ) (before after : Bool) → most ≤ 2 ^ 28 → before ≡ false → after ≡ is_err r
+pub feed_gives : (rest piece : List ℕ) (most : ℕ) (r : Result ℕ FrameFault) (stage : Stage) (new ends : List ℕ)
+    (before after : Bool) → most ≤ 2 ^ 28 → before ≡ false → after ≡ is_err r
     → IfOk r (λ n. Fills rest piece most n new stage ends) → IfErr r (λ e. IsStop (rest ++ piece) most e)
-    → FeedGives (record { rest = rest; most = most; failed = before }) piece r (record { rest = new; most = most; failed = after })
+    → FeedGives (record { rest = rest; most = most; failed = before }) piece r
+    (record { rest = new; most = most; failed = after })
 feed_gives rest piece most (Ok n) stage new ends before after small fine is_failed fills stop = record {
   inside = fills.inside;
   rest = fills.text;
@@ -96,16 +114,22 @@ feed_gives rest piece most (Ok n) stage new ends before after small fine is_fail
   was_good = fine;
   is_good = is_failed;
 }
-feed_gives rest piece most (Err Memory) stage new ends before after small fine is_failed fills stop = record { was_good = fine; is_failed = is_failed }
+feed_gives rest piece most (Err Memory) stage new ends before after small fine is_failed fills stop =
+    record { was_good = fine; is_failed = is_failed }
 feed_gives rest piece most (Err Empty) stage new ends before after small fine is_failed fills stop = stop
-feed_gives rest piece most (Err (TooManySegments n)) stage new ends before after small fine is_failed fills stop = (record { was_good = fine; is_failed = is_failed }, stop)
-feed_gives rest piece most (Err (TooManyWords n)) stage new ends before after small fine is_failed fills stop = (record { was_good = fine; is_failed = is_failed }, stop)
+feed_gives rest piece most (Err (TooManySegments n)) stage new ends before after small fine is_failed fills stop =
+    (record { was_good = fine; is_failed = is_failed }, stop)
+feed_gives rest piece most (Err (TooManyWords n)) stage new ends before after small fine is_failed fills stop =
+    (record { was_good = fine; is_failed = is_failed }, stop)
 feed_gives rest piece most (Err Cut) stage new ends before after small fine is_failed fills stop = stop
 feed_gives rest piece most (Err Failed) stage new ends before after small fine is_failed fills stop = absurd stop
 
 -- what a take gives where a frame is whole
-pub take_gives : (bs : List ℕ) (most start end : ℕ) (ends : List ℕ) (failed : Bool) (message : List (List ℕ)) → most ≤ 2 ^ 28 → IsStage (stages.Contents start end) bs most ends → length bs ≡ end → failed ≡ false
-    → message ≡ cut 0 ends (tail start bs) → TakeGives (record { rest = bs; most = most; failed = failed }) (Some message) (record { rest = []; most = most; failed = failed })
+pub take_gives : (bs : List ℕ) (most start end : ℕ) (ends : List ℕ) (failed : Bool) (message : List (List ℕ))
+    → most ≤ 2 ^ 28 → IsStage (stages.Contents start end) bs most ends → length bs ≡ end → failed ≡ false
+    → message ≡ cut 0 ends (tail start bs)
+    → TakeGives (record { rest = bs; most = most; failed = failed }) (Some message)
+    (record { rest = []; most = most; failed = failed })
 take_gives bs most start end ends failed message small is done fine e =
     let frames = waiting_frames bs most start end ends small is done in
     let room = waiting_room bs most start end ends small is done in

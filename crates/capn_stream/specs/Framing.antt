@@ -1,15 +1,18 @@
 -- A stream of messages that comes in pieces (own).
-use Rattle.std.specs.Prelude.{◌≡◌, ◌⊎◌, ℕ, ◌≤◌, List, [], ◌++◌, length, take, Bool, true, false, Result, Ok, Err, Option, Some, None}
+use Rattle.std.specs.Prelude.{◌≡◌, ◌⊎◌, ℕ, ◌≤◌, List, [], ◌++◌, length, take, Bool, true, false, Result, Ok, Err}
+use Rattle.std.specs.Prelude.{Option, Some, None}
 use Rattle.capn_words.specs.Limits.{most_message_words}
 use Rattle.capn_words.specs.Message.{total}
 use Rattle.capn_stream.specs.Frames.{Frames}
 use Rattle.capn_stream.specs.Reading.{IsRefused}
 use Rattle.capn_stream.specs.Stages.{IsStage, IsStop, Rests}
 use Rattle.capn_stream.specs.declared.fault.FrameFault.{FrameFault}
-use Rattle.capn_stream.specs.declared.fault.FrameFault.TheVariants.{Memory, Empty, TooManySegments, TooManyWords, Cut, Failed}
+use Rattle.capn_stream.specs.declared.fault.FrameFault.TheVariants.{Memory, Empty, TooManySegments, TooManyWords, Cut}
+use Rattle.capn_stream.specs.declared.fault.FrameFault.TheVariants.{Failed}
 use Rattle.capn_stream.specs.declared.stage.Stage.{Stage}
 
--- what a framer holds: the bytes since the last message that was taken, how many words a message may have, and whether a
+-- what a framer holds: the bytes since the last message that was taken, how many words a message may have, and
+-- whether a
 -- call has refused
 pub record Framing : Type 0 where
   pub rest : List ℕ
@@ -39,27 +42,32 @@ pub record Stops (before after : Framing) : Type 0 where
   pub was_good : before.failed ≡ false
   pub is_failed : after.failed ≡ true
 
--- What a feed answers: how many bytes it took; a refusal of the bytes with the piece, which comes once; or that an earlier
+-- What a feed answers: how many bytes it took; a refusal of the bytes with the piece, which comes once; or that an
+-- earlier
 -- call has refused.
 abbrev pub FeedGives : Framing → List ℕ → Result ℕ FrameFault → Framing → Type 0
 FeedGives before piece (Ok n) after = Feeds before piece n after
 FeedGives before piece (Err Memory) after = Stops before after
 FeedGives before piece (Err Empty) after = ⊥
-FeedGives before piece (Err (TooManySegments n)) after = Stops before after × IsRefused (before.rest ++ piece) before.most (TooManySegments n)
-FeedGives before piece (Err (TooManyWords n)) after = Stops before after × IsRefused (before.rest ++ piece) before.most (TooManyWords n)
+FeedGives before piece (Err (TooManySegments n)) after = Stops before after
+    × IsRefused (before.rest ++ piece) before.most (TooManySegments n)
+FeedGives before piece (Err (TooManyWords n)) after = Stops before after
+    × IsRefused (before.rest ++ piece) before.most (TooManyWords n)
 FeedGives before piece (Err Cut) after = ⊥
 FeedGives before piece (Err Failed) after = (before.failed ≡ true) × (after ≡ before)
 
 -- what is taken: the message that the bytes are a frame of, and then no bytes are left; or none, and nothing changes
 abbrev pub TakeGives : Framing → Option (List (List ℕ)) → Framing → Type 0
 TakeGives before (Some message) after =
-    Frames before.rest message × (total message ≤ before.most) × (before.failed ≡ false) × (after ≡ record { rest = []; most = before.most; failed = false })
+    Frames before.rest message × (total message ≤ before.most) × (before.failed ≡ false)
+    × (after ≡ record { rest = []; most = before.most; failed = false })
 TakeGives before None after = ((before.failed ≡ true) ⊎ IsUnfinished before.rest before.most) × (after ≡ before)
 
 -- what the end of the stream answers: that none or a whole message is left, or that one is cut, or that an earlier call
 -- has refused
 abbrev pub FinishGives : Framing → Result (Unit {0}) FrameFault → Framing → Type 0
-FinishGives before (Ok u) after = (before.failed ≡ false) × ((before.rest ≡ []) ⊎ IsFrame before.rest before.most) × (after ≡ before)
+FinishGives before (Ok u) after = (before.failed ≡ false) × ((before.rest ≡ []) ⊎ IsFrame before.rest before.most)
+    × (after ≡ before)
 FinishGives before (Err Memory) after = ⊥
 FinishGives before (Err Empty) after = ⊥
 FinishGives before (Err (TooManySegments n)) after = ⊥

@@ -11,7 +11,8 @@ use Rattle.capn_stream.specs.Reading.{IsRefused}
 use Rattle.capn_stream.specs.declared.fault.FrameFault.{FrameFault}
 use Rattle.capn_stream.specs.declared.fault.FrameFault.TheVariants.{Memory}
 
--- one message stands first in some bytes at most, and it takes so many of them at most, whatever number of words is allowed
+-- one message stands first in some bytes at most, and it takes so many of them at most, whatever number of words is
+-- allowed
 abbrev pub OneFrame : Type 0
 OneFrame = (bs : List ℕ) (most limit : ℕ) (m n : List (List ℕ)) (taken len : ℕ)
     → StandsFirst bs most m taken → StandsFirst bs limit n len → (m ≡ n) × (taken ≡ len)

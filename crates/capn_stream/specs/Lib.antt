@@ -7,3 +7,4 @@ pub mod Framing
 pub mod Receiving
 pub mod Sending
 pub mod Laws
+pub mod Told

@@ -4,7 +4,8 @@ use Rattle.byteorder.specs.Endian.{little_number}
 use Rattle.capn_words.specs.Limits.{most_segments}
 use Rattle.capn_stream.specs.Frames.{padding}
 use Rattle.capn_stream.specs.declared.fault.FrameFault.{FrameFault}
-use Rattle.capn_stream.specs.declared.fault.FrameFault.TheVariants.{Memory, Empty, TooManySegments, TooManyWords, Cut, Failed}
+use Rattle.capn_stream.specs.declared.fault.FrameFault.TheVariants.{Memory, Empty, TooManySegments, TooManyWords, Cut}
+use Rattle.capn_stream.specs.declared.fault.FrameFault.TheVariants.{Failed}
 
 -- the number in the first 4 bytes, the least first
 unfoldable pub entry_number : List ℕ → ℕ
@@ -43,7 +44,8 @@ HasHead bs = HasCount bs × (head_length (announced_segments bs) ≤ length bs)
 abbrev pub IsWhole : List ℕ → ℕ → Type 0
 IsWhole bs most = HasHead bs × (announced_words bs ≤ most) × (frame_length bs ≤ length bs)
 
--- the announced frame is there and allowed, and its table has more than one segment, so that where they end has to be kept
+-- the announced frame is there and allowed, and its table has more than one segment, so that where they end has to
+-- be kept
 abbrev pub HasTable : List ℕ → ℕ → Type 0
 HasTable bs most = IsWhole bs most × (2 ≤ announced_segments bs)
 
@@ -52,7 +54,9 @@ HasTable bs most = IsWhole bs most × (2 ≤ announced_segments bs)
 abbrev pub IsCut : List ℕ → ℕ → Type 0
 IsCut bs most =
     (0 < length bs)
-    × (4 ≤ length bs → (announced_segments bs ≤ most_segments) × (head_length (announced_segments bs) ≤ length bs → (announced_words bs ≤ most) × (length bs < frame_length bs)))
+    × (4 ≤ length bs → (announced_segments bs ≤ most_segments)
+    × (head_length (announced_segments bs) ≤ length bs → (announced_words bs ≤ most)
+    × (length bs < frame_length bs)))
 
 -- why bytes are refused under a number of words, each test being made once those before it have passed
 -- (want of memory says nothing of the bytes)

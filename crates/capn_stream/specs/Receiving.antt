@@ -1,5 +1,6 @@
 -- The next message of a reader (own).
-use Rattle.std.specs.Prelude.{◌≡◌, ◌≢◌, ◌⊎◌, ⊤, ℕ, ◌+◌, ◌*◌, ◌≤◌, List, [], ◌++◌, length, Bool, true, false, Result, Ok, Err, Option, Some, None}
+use Rattle.std.specs.Prelude.{◌≡◌, ◌≢◌, ◌⊎◌, ⊤, ℕ, ◌+◌, ◌*◌, ◌≤◌, List, [], ◌++◌, length, Bool, true, false, Result, Ok}
+use Rattle.std.specs.Prelude.{Err, Option, Some, None}
 use Rattle.std.specs.Io.KnownBytes.{Consumes, IsAtEnd}
 use Rattle.capn_words.specs.Message.{total}
 use Rattle.capn_stream.specs.Frames.{Frames, StandsFirst, most_table_words}
@@ -32,7 +33,8 @@ Answers bs most new failed (Err faults.Io) = IsUnfinished bs most × (failed ≡
 Answers bs most new failed (Err (faults.Frame e)) = IsUnread bs most new e × (failed ≡ false)
 
 -- a reader gave these bytes, and no more than a frame can have
-pub record Received (old new : Option (List ℕ)) (failed : Bool) (most : ℕ) (result : Result (Option (List (List ℕ))) ReadFault) (bytes : List ℕ) : Type 0 where
+pub record Received (old new : Option (List ℕ)) (failed : Bool) (most : ℕ)
+    (result : Result (Option (List (List ℕ))) ReadFault) (bytes : List ℕ) : Type 0 where
   pub read : Consumes old new bytes
   pub bounded : length bytes ≤ most_bytes most
   pub answer : Answers bytes most new failed result
@@ -44,13 +46,16 @@ ReadGives old new failed most result = (bytes : List ℕ) × Received old new fa
 abbrev pub TakesIn : Framing → List ℕ → Result (Option (List (List ℕ))) ReadFault → Framing → Type 0
 TakesIn before piece (Ok (Some message)) after = Frames (before.rest ++ piece) message × (total message ≤ before.most)
 TakesIn before piece (Ok None) after =
-    (after.rest ≡ before.rest ++ piece) × (after.most ≡ before.most) × (after.failed ≡ false) × IsUnfinished after.rest before.most
+    (after.rest ≡ before.rest ++ piece) × (after.most ≡ before.most) × (after.failed ≡ false)
+    × IsUnfinished after.rest before.most
 TakesIn before piece (Err faults.Memory) after = Unit {0}
 TakesIn before piece (Err faults.Io) after = ⊥
 TakesIn before piece (Err (faults.Frame frames.Memory)) after = ⊥
 TakesIn before piece (Err (faults.Frame frames.Empty)) after = ⊥
-TakesIn before piece (Err (faults.Frame (frames.TooManySegments n))) after = IsRefused (before.rest ++ piece) before.most (frames.TooManySegments n)
-TakesIn before piece (Err (faults.Frame (frames.TooManyWords n))) after = IsRefused (before.rest ++ piece) before.most (frames.TooManyWords n)
+TakesIn before piece (Err (faults.Frame (frames.TooManySegments n))) after =
+    IsRefused (before.rest ++ piece) before.most (frames.TooManySegments n)
+TakesIn before piece (Err (faults.Frame (frames.TooManyWords n))) after =
+    IsRefused (before.rest ++ piece) before.most (frames.TooManyWords n)
 TakesIn before piece (Err (faults.Frame frames.Cut)) after = ⊥
 TakesIn before piece (Err (faults.Frame frames.Failed)) after = ⊥
 
@@ -79,4 +84,5 @@ ReadsFirst most (Err (faults.Frame e)) input = IsRefused input most e × (e ≢ 
 -- a message that stands first is answered, but for want of memory and a reader that failed
 abbrev pub OnlyFirst : ℕ → Result (Option (List (List ℕ))) ReadFault → List ℕ → Type 0
 OnlyFirst most result input =
-    (message : List (List ℕ)) (taken : ℕ) → StandsFirst input most message taken → (result ≡ Ok (Some message)) ⊎ ((result ≡ Err faults.Memory) ⊎ (result ≡ Err faults.Io))
+    (message : List (List ℕ)) (taken : ℕ) → StandsFirst input most message taken → (result ≡ Ok (Some message))
+    ⊎ ((result ≡ Err faults.Memory) ⊎ (result ≡ Err faults.Io))

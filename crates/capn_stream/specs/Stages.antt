@@ -3,9 +3,11 @@ use Rattle.std.specs.Prelude.{◌≡◌, ◌⊎◌, ℕ, ◌<◌, ◌≤◌, Lis
 use Rattle.capn_words.specs.Limits.{most_segments}
 use Rattle.capn_words.specs.Words.{AreBytes}
 use Rattle.capn_stream.specs.Cuts.{ends_from}
-use Rattle.capn_stream.specs.Reading.{HasCount, HasHead, IsRefused, announced_segments, announced_words, entries, entry_number, frame_length, head_length}
+use Rattle.capn_stream.specs.Reading.{HasCount, HasHead, IsRefused, announced_segments, announced_words, entries}
+use Rattle.capn_stream.specs.Reading.{entry_number, frame_length, head_length}
 use Rattle.capn_stream.specs.declared.fault.FrameFault.{FrameFault}
-use Rattle.capn_stream.specs.declared.fault.FrameFault.TheVariants.{Memory, Empty, TooManySegments, TooManyWords, Cut, Failed}
+use Rattle.capn_stream.specs.declared.fault.FrameFault.TheVariants.{Memory, Empty, TooManySegments, TooManyWords, Cut}
+use Rattle.capn_stream.specs.declared.fault.FrameFault.TheVariants.{Failed}
 use Rattle.capn_stream.specs.declared.stage.Stage.{Stage}
 use Rattle.capn_stream.specs.declared.stage.Stage.TheVariants as stages
 
@@ -24,7 +26,8 @@ abbrev pub Knows : Stage → List ℕ → ℕ → List ℕ → Type 0
 Knows stages.Count bs most ends = Unit {0}
 Knows (stages.Table segments) bs most ends = HasCount bs × (segments ≡ announced_segments bs)
 Knows (stages.Contents start end) bs most ends =
-    HasHead bs × (announced_words bs ≤ most) × (start ≡ head_length (announced_segments bs)) × (end ≡ frame_length bs) × (ends ≡ announced_ends bs)
+    HasHead bs × (announced_words bs ≤ most) × (start ≡ head_length (announced_segments bs)) × (end ≡ frame_length bs)
+    × (ends ≡ announced_ends bs)
 
 -- so many segments may be announced
 abbrev pub FitsStage : Stage → Type 0

@@ -1,7 +1,8 @@
 //! Why a call is refused.
 
 use std::alloc::AllocError;
-use std::io::Error;
+use std::error::Error;
+use std::{fmt, io};
 
 /// A growth was refused.
 #[derive(Clone, Copy, Debug, PartialEq, Eq)]
@@ -56,8 +57,69 @@ pub enum ReadFault {
 #[derive(Clone, Copy, Debug, PartialEq, Eq)]
 pub struct Io;
 
-impl From<Error> for Io {
-    fn from(_: Error) -> Io {
+impl From<io::Error> for Io {
+    fn from(_: io::Error) -> Io {
         Io
     }
 }
+
+impl fmt::Display for FrameFault {
+    ghost use Rattle.std.specs.Prelude.{Some};
+    ghost use Rattle.capn_stream.specs.Told.{frame_text};
+
+    ghost output = { λ fault. Some (frame_text fault) };
+
+    fn fmt<W: fmt::Write>(&self, f: &mut fmt::Formatter<W>) -> fmt::Result {
+        match self {
+            FrameFault::Memory => write!(f, "out of memory"),
+            FrameFault::Empty => write!(f, "Empty"),
+            FrameFault::TooManySegments(count) => write!(f, "TooManySegments({count})"),
+            FrameFault::TooManyWords(words) => write!(f, "TooManyWords({words})"),
+            FrameFault::Cut => write!(f, "Cut"),
+            FrameFault::Failed => write!(f, "Failed"),
+        }
+    }
+}
+
+impl Error for FrameFault {}
+
+impl fmt::Display for ReadFault {
+    ghost use Rattle.std.specs.Prelude.{Some};
+    ghost use Rattle.capn_stream.specs.Told.{read_text};
+
+    ghost output = { λ fault. Some (read_text fault) };
+
+    fn fmt<W: fmt::Write>(&self, f: &mut fmt::Formatter<W>) -> fmt::Result {
+        match self {
+            ReadFault::Memory => write!(f, "out of memory"),
+            ReadFault::Io => write!(f, "input or output failed"),
+            ReadFault::Frame(fault) => write!(f, "frame: {fault}"),
+        }
+    }
+}
+
+impl Error for ReadFault {}
+
+impl fmt::Display for Memory {
+    ghost use Rattle.std.specs.Prelude.{Some, codes};
+
+    ghost output = { λ _. Some (codes "out of memory") };
+
+    fn fmt<W: fmt::Write>(&self, f: &mut fmt::Formatter<W>) -> fmt::Result {
+        f.write_str("out of memory")
+    }
+}
+
+impl Error for Memory {}
+
+impl fmt::Display for Io {
+    ghost use Rattle.std.specs.Prelude.{Some, codes};
+
+    ghost output = { λ _. Some (codes "input or output failed") };
+
+    fn fmt<W: fmt::Write>(&self, f: &mut fmt::Formatter<W>) -> fmt::Result {
+        f.write_str("input or output failed")
+    }
+}
+
+impl Error for Io {}

@@ -55,8 +55,8 @@ impl<A: Allocator + Copy> Framer<A> {
 
     /// Takes bytes of the piece until a message is whole or the piece ends, and answers how many.
     ///
-    /// While a message waits it takes none. Refusals: `TooManySegments` once the count is there, `TooManyWords` once the
-    /// table and its padding are there, `Memory` where a growth was refused, `Failed` after an earlier refusal.
+    /// While a message waits it takes none. Refusals: `TooManySegments` once the count is there, `TooManyWords` once
+    /// the table and its padding are there, `Memory` where a growth was refused, `Failed` after an earlier refusal.
     #[inline]
     pub fn feed(&mut self, piece: &[u8]) -> Result<usize, FrameFault>
         ensures { FeedGives self.old piece.now result self.new }
@@ -115,8 +115,8 @@ impl<A: Allocator + Copy> Framer<A> {
 
     /// The end of the stream.
     ///
-    /// `Cut` if a message has begun and is not whole, `Failed` after an earlier refusal. After Ok the stream may go on. It
-    /// takes no memory.
+    /// `Cut` if a message has begun and is not whole, `Failed` after an earlier refusal. After Ok the stream may go on.
+    /// It takes no memory.
     pub fn finish(&mut self) -> Result<(), FrameFault>
         ensures { FinishGives self.old result self.new }
     {

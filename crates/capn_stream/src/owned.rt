@@ -84,8 +84,8 @@ impl<A: Allocator> Words<A> {
 
 /// A message that owns its segments.
 ///
-/// It is made by [`Framer`](crate::Framer) and [`read_message`](crate::read_message): the frame as it came, in one buffer,
-/// and where its segments end, so that every segment is found in constant time.
+/// It is made by [`Framer`](crate::Framer) and [`read_message`](crate::read_message): the frame as it came, in one
+/// buffer, and where its segments end, so that every segment is found in constant time.
 #[derive(Drop)]
 pub struct Stored<A: Allocator = Global> {
     words: Words<A>,

@@ -22,7 +22,8 @@ fn take_in<A: Allocator + Copy>(
     piece: &[u8],
 ) -> Result<Option<Stored<A>>, ReadFault>
     requires good { framer.old.failed ≡ false }
-    requires needed { (more : List ℕ) → IsFrame (framer.old.rest ++ more) framer.old.most → length piece.now ≤ length more }
+    requires needed { (more : List ℕ) → IsFrame (framer.old.rest ++ more) framer.old.most
+        → length piece.now ≤ length more }
     ensures { TakesIn framer.old piece.now result framer.new }
 {
     match framer.feed(piece) {
@@ -52,7 +53,9 @@ fn receive<R: Read, A: Allocator + Copy>(
 ) -> Result<Option<Stored<A>>, ReadFault>
     requires small { max_words ≤ most_message_words }
     requires fine { has_failed reader.old ≡ false }
-    ensures gives { ReadGives (R.remaining (inner_of reader.old)) (R.remaining (inner_of reader.new)) (has_failed reader.new) max_words result }
+    ensures gives { ReadGives (R.remaining (inner_of reader.old)) (R.remaining (inner_of reader.new))
+        (has_failed reader.new)
+        max_words result }
 {
     let mut framer = Framer::new(alloc, max_words);
     let mut piece = [0; PIECE];
@@ -70,10 +73,12 @@ fn receive<R: Read, A: Allocator + Copy>(
     }
 }
 
-/// The next message of a reader, of at most so many words: its bytes and no others are taken, in pieces of at most 16,384.
+/// The next message of a reader, of at most so many words: its bytes and no others are taken, in pieces of at most
+/// 16,384.
 ///
-/// None exactly where the input ends between messages. Refusals: `Memory` where a growth was refused; `Io` exactly where
-/// the reader fails; `Frame` with `TooManySegments`, `TooManyWords` or `Cut`, and then the reader stands inside the message.
+/// None exactly where the input ends between messages. Refusals: `Memory` where a growth was refused; `Io` exactly
+/// where the reader fails; `Frame` with `TooManySegments`, `TooManyWords` or `Cut`, and then the reader stands inside
+/// the message.
 pub fn read_message<R: Read, A: Allocator + Copy>(
     alloc: A,
     reader: &mut Watched<R>,
@@ -85,7 +90,9 @@ pub fn read_message<R: Read, A: Allocator + Copy>(
     ensures exact { IfSome (R.remaining (inner_of reader.old)) (ReadsFirst max_words result) }
     ensures only { IfSome (R.remaining (inner_of reader.old)) (OnlyFirst max_words result) }
     // It takes the bytes of that message and no others, and tells a failed reader.
-    ensures gives { ReadGives (R.remaining (inner_of reader.old)) (R.remaining (inner_of reader.new)) (has_failed reader.new) max_words result }
+    ensures gives { ReadGives (R.remaining (inner_of reader.old)) (R.remaining (inner_of reader.new))
+        (has_failed reader.new)
+        max_words result }
 {
     receive(alloc, reader, max_words)
 }

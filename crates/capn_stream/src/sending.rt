@@ -71,7 +71,8 @@ fn write_head<W: Write, S: Space>(
     requires room { 8 + 4 * length (S.message space.now) ≤ length head.old }
     ensures ok { OnOk result (Appends (W.contents (inner_of writer.old)) (W.contents (inner_of writer.new))
         (head_text (S.message space.now))) }
-    ensures begun { HasBegun (W.contents (inner_of writer.old)) (W.contents (inner_of writer.new)) (head_text (S.message space.now)) }
+    ensures begun { HasBegun (W.contents (inner_of writer.old)) (W.contents (inner_of writer.new))
+        (head_text (S.message space.now)) }
     ensures io { IsErr result ↔ (has_failed writer.new ≡ true) }
 {
     let len = put_head(head, space);
@@ -84,7 +85,8 @@ fn write_table<W: Write, S: Space>(writer: &mut Watched<W>, space: &S) -> Result
     requires { has_failed writer.old ≡ false }
     ensures ok { OnOk result (Appends (W.contents (inner_of writer.old)) (W.contents (inner_of writer.new))
         (head_text (S.message space.now))) }
-    ensures begun { HasBegun (W.contents (inner_of writer.old)) (W.contents (inner_of writer.new)) (head_text (S.message space.now)) }
+    ensures begun { HasBegun (W.contents (inner_of writer.old)) (W.contents (inner_of writer.new))
+        (head_text (S.message space.now)) }
     ensures io { IsErr result ↔ (has_failed writer.new ≡ true) }
 {
     if space.segments() <= FEW_SEGMENTS {
@@ -101,7 +103,8 @@ pub fn write_message<W: Write, S: Space>(writer: &mut Watched<W>, space: &S) -> 
     requires { has_failed writer.old ≡ false }
     ensures ok { OnOk result (Appends (W.contents (inner_of writer.old)) (W.contents (inner_of writer.new))
         (frame_text (S.message space.now))) }
-    ensures begun { HasBegun (W.contents (inner_of writer.old)) (W.contents (inner_of writer.new)) (frame_text (S.message space.now)) }
+    ensures begun { HasBegun (W.contents (inner_of writer.old)) (W.contents (inner_of writer.new))
+        (frame_text (S.message space.now)) }
     ensures io { IsErr result ↔ (has_failed writer.new ≡ true) }
 {
     write_table(writer, space)?;

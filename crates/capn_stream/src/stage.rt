@@ -136,7 +136,8 @@ pub(crate) fn fill<A: Allocator + Copy>(
 ) -> Result<usize, FrameFault>
     requires small { most ≤ most_message_words }
     requires is { IsStage stage.old bytes.old.items most ends.old.items }
-    ensures filled { IfOk result (λ n. Fills bytes.old.items piece.now most n bytes.new.items stage.new ends.new.items) }
+    ensures filled { IfOk result
+        (λ n. Fills bytes.old.items piece.now most n bytes.new.items stage.new ends.new.items) }
     ensures refused { IfErr result (λ e. IsStop (bytes.old.items ++ piece.now) most e) }
 {
     let mut at = 0;

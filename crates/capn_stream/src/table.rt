@@ -3,7 +3,8 @@
 ghost use Rattle.std.specs.Prelude.{◌≡◌, ℕ, ◌+◌, ◌*◌, ◌^◌, ◌<◌, ◌≤◌, length, drop, sum, IfOk, IfErr, IsErrOf, OnErr};
 ghost use Rattle.capn_stream.specs.Cuts.{ends_from};
 ghost use Rattle.capn_words.specs.Limits.{most_segments, most_message_words};
-ghost use Rattle.capn_stream.specs.Reading.{IsRefused, IsWhole, announced_segments, entries, entry_number, head_length, announced_words};
+ghost use Rattle.capn_stream.specs.Reading.{IsRefused, IsWhole, announced_segments, entries, entry_number, head_length};
+ghost use Rattle.capn_stream.specs.Reading.{announced_words};
 
 use crate::fault::FrameFault;
 use byteorder::{ByteOrder, LittleEndian};

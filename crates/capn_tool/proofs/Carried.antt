@@ -1,5 +1,6 @@
 -- A command that was carried out: what a run did, and the flush behind it.
-use Rattle.std.proofs.Common.{◌≡◌, ◌⊎◌, ◌↔◌, inl, inr, ℕ, List, [], Bool, true, false, Option, Some, None, Result, Ok, Err, IfSome, IfErr, IsErrOf, IsOk, refl, sym, subst, ◌∙◌}
+use Rattle.std.proofs.Common.{◌≡◌, ◌⊎◌, ◌↔◌, inl, inr, ℕ, List, [], Bool, true, false, Option, Some, None, Result, Ok}
+use Rattle.std.proofs.Common.{Err, IfSome, IfErr, IsErrOf, IsOk, refl, sym, subst, ◌∙◌}
 use Rattle.std.specs.Io.KnownBytes.{Appends, Keeps}
 use Rattle.capn_tool.specs.Ends.{CarriesOut, EndsOnly}
 use Rattle.capn_tool.specs.Heard.{KeepsUp, PlanKeepsUp}

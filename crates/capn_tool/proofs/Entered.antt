@@ -1,8 +1,10 @@
 -- The subcommand that a parse entered, by its name and by its rows.
 use Rattle.std.proofs.Common.{◌≡◌, Option, Some, None, option_map, refl, sym, ap, ap₂, ◌∙◌}
 
-pub entered : {A B N R : Type 0} (f : A → N) (g : A → R) (h : B → N) (k : B → R) (r : Option A) (s : Option B) (a : A) → r ≡ Some a
-    → option_map f r ≡ option_map h s → option_map g r ≡ option_map (λ (p : N × R). p.1) (option_map {U = N × R} (λ (b : B). (h b, k b)) s)
+pub entered : {A B N R : Type 0} (f : A → N) (g : A → R) (h : B → N) (k : B → R) (r : Option A) (s : Option B) (a : A)
+    → r ≡ Some a
+    → option_map f r ≡ option_map h s
+    → option_map g r ≡ option_map (λ (p : N × R). p.1) (option_map {U = N × R} (λ (b : B). (h b, k b)) s)
     → option_map {U = N × R} (λ (b : B). (h b, k b)) s ≡ Some (f a, g a)
 entered f g h k None s a is e i = absurd cc
 entered f g h k (Some x) None a is e i = absurd cc

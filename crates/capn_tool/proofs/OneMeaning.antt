@@ -1,5 +1,6 @@
 -- A subcommand with the values of its options means one command at most.
-use Rattle.std.proofs.Common.{◌≡◌, ℕ, ◌+◌, List, Option, Some, None, refl, sym, ap, ap₂, ◌∙◌, codes, slice_index, unwrap_or, arith}
+use Rattle.std.proofs.Common.{◌≡◌, ℕ, ◌+◌, List, Option, Some, None, refl, sym, ap, ap₂, ◌∙◌, codes, slice_index}
+use Rattle.std.proofs.Common.{unwrap_or, arith}
 use Rattle.std.specs.Str.Parse.{digits_value, without_leading_plus}
 use Rattle.clap.specs.Words.{Row, Text}
 use Rattle.capn_stream.specs.Frames.{most_table_words}

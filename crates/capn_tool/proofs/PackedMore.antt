@@ -1,5 +1,7 @@
 -- A packed stream that is read in pieces: more of it.
-use Rattle.std.proofs.Common.{◌≡◌, ℕ, ◌+◌, ◌-◌, ◌<◌, ◌≤◌, ◌^◌, List, [], ◌++◌, length, take, drop, Bool, true, false, Option, Result, Ok, Err, refl, ap, sym, subst, ◌∙◌, append_assoc, append-nil, arith, length-append}
+use Rattle.std.proofs.Common.{◌≡◌, ℕ, ◌+◌, ◌-◌, ◌<◌, ◌≤◌, ◌^◌, List, [], ◌++◌, length, take, drop, Bool, true, false}
+use Rattle.std.proofs.Common.{Option, Result, Ok, Err, refl, ap, sym, subst, ◌∙◌, append_assoc, append-nil, arith}
+use Rattle.std.proofs.Common.{length-append}
 use Rattle.std.proofs.lemmas.List.{take-append-drop}
 use Rattle.std.proofs.Math.Seq.{take-add}
 use Rattle.std.proofs.lemmas.Grind.{flat_map-append}
@@ -18,23 +20,30 @@ use Rattle.capn_tool.proofs.HeardMore.{every_append, stops_memory, stops_more, t
 use Rattle.capn_tool.proofs.HeardNext.{stops_broken, stops_kept, stops_sent, tells_broken, tells_sent}
 
 splits_open : (stream old new : List ℕ) → NoGroupFirst stream → new ≡ old → Splits stream stream old new 0
-splits_open stream old new none e = record { groups = []; each = tt; text = refl; content = e ∙ sym (append-nil old); size = refl; open_rest = none }
+splits_open stream old new none e =
+    record { groups = []; each = tt; text = refl; content = e ∙ sym (append-nil old); size = refl; open_rest = none }
 
 -- one piece after another
-splits_then : (stream rest piece after : List ℕ) (old mid new : List ℕ) (len more : ℕ) → Splits stream rest old mid len → Splits (rest ++ piece) after mid new more → Splits (stream ++ piece) after old new (len + more)
+splits_then : (stream rest piece after : List ℕ) (old mid new : List ℕ) (len more : ℕ) → Splits stream rest old mid len
+    → Splits (rest ++ piece) after mid new more → Splits (stream ++ piece) after old new (len + more)
 splits_then stream rest piece after old mid new len more s t =
     let texts_are = flat_map-append text s.groups t.groups in
     record {
       groups = s.groups ++ t.groups;
       each = every_append IsGroup s.groups t.groups s.each t.each;
-      text = ap (λ l. l ++ piece) s.text ∙ append_assoc (texts s.groups) rest piece ∙ ap (λ l. texts s.groups ++ l) t.text ∙ sym (append_assoc (texts s.groups) (texts t.groups) after) ∙ ap (λ l. l ++ after) (sym texts_are);
-      content = t.content ∙ ap (λ l. l ++ contents t.groups) s.content ∙ append_assoc old (contents s.groups) (contents t.groups) ∙ ap (λ l. old ++ l) (sym (flat_map-append content s.groups t.groups));
+      text = ap (λ l. l ++ piece) s.text ∙ append_assoc (texts s.groups) rest piece
+          ∙ ap (λ l. texts s.groups ++ l) t.text ∙ sym (append_assoc (texts s.groups) (texts t.groups) after)
+          ∙ ap (λ l. l ++ after) (sym texts_are);
+      content = t.content ∙ ap (λ l. l ++ contents t.groups) s.content
+          ∙ append_assoc old (contents s.groups) (contents t.groups)
+          ∙ ap (λ l. old ++ l) (sym (flat_map-append content s.groups t.groups));
       size = omega (arith, s.size, t.size, ap length texts_are, length-append (texts s.groups) (texts t.groups));
       open_rest = t.open_rest;
     }
 
 -- the words behind those that were there
-shifted : (stream rest words old : List ℕ) (len : ℕ) → Splits stream rest [] words len → Splits stream rest old (old ++ words) len
+shifted : (stream rest words old : List ℕ) (len : ℕ) → Splits stream rest [] words len
+    → Splits stream rest old (old ++ words) len
 shifted stream rest words old len s = record {
   groups = s.groups;
   each = s.each;
@@ -45,7 +54,8 @@ shifted stream rest words old len s = record {
 }
 
 -- whole groups, and then a beginning of what was left with more behind it
-begins_then : (stream rest more words next : List ℕ) (len : ℕ) → Splits stream rest [] words len → Begins (rest ++ more) [] next → Begins (stream ++ more) [] (words ++ next)
+begins_then : (stream rest more words next : List ℕ) (len : ℕ) → Splits stream rest [] words len
+    → Begins (rest ++ more) [] next → Begins (stream ++ more) [] (words ++ next)
 begins_then stream rest more words next len s b = record {
   groups = s.groups ++ b.groups;
   rest = b.rest;
@@ -63,17 +73,21 @@ begins_then stream rest more words next len s b = record {
 }
 
 begins_all : (stream rest words : List ℕ) (len : ℕ) → Splits stream rest [] words len → Begins stream [] words
-begins_all stream rest words len s = record { groups = s.groups; rest = rest; each = s.each; text = s.text; content = s.content }
+begins_all stream rest words len s =
+    record { groups = s.groups; rest = rest; each = s.each; text = s.text; content = s.content }
 
 advanced_more : (offset len more : ℕ) → advanced (advanced offset len) more ≡ advanced offset (len + more)
 advanced_more offset len more = omega arith
 
-module _ (piece : Piece) (limits : Bounds) (held : Held) (rest x : List ℕ) (mid : Held) (left y : List ℕ) (a b : Outgoing) (told : TellsPacked piece limits held rest x mid left a b) where
-  pub packed_more : (next : Held) (last : List ℕ) (c : Outgoing) → TellsPacked piece limits mid left y next last b c → TellsPacked piece limits held rest (x ++ y) next last a c
+module _ (piece : Piece) (limits : Bounds) (held : Held) (rest x : List ℕ) (mid : Held) (left y : List ℕ)
+    (a b : Outgoing) (told : TellsPacked piece limits held rest x mid left a b) where
+  pub packed_more : (next : Held) (last : List ℕ) (c : Outgoing) → TellsPacked piece limits mid left y next last b c
+      → TellsPacked piece limits held rest (x ++ y) next last a c
   packed_more next last c more =
       let w = told.0 in
       let v = more.0 in
-      let split = splits_then (held.rest ++ x) mid.rest y next.rest [] w (w ++ v) told.1 more.1 told.2 (shifted (mid.rest ++ y) next.rest v w more.1 more.2) in
+      let split = splits_then (held.rest ++ x) mid.rest y next.rest [] w (w ++ v) told.1 more.1 told.2
+      (shifted (mid.rest ++ y) next.rest v w more.1 more.2) in
       let told_words = tells_more piece limits (rest ++ w) left v last a b c told.5 more.5 in (
         w ++ v,
         told.1 + more.1,
@@ -83,41 +97,56 @@ module _ (piece : Piece) (limits : Bounds) (held : Held) (rest x : List ℕ) (mi
         subst (λ (l : List ℕ). Tells piece limits l last a c) (append_assoc rest w v) told_words,
       )
 
-  pub packed_stop : (c : Outgoing) (failed : Bool) (fault : ToolFault) → StopsPacked piece limits mid.rest left y b c failed fault → StopsPacked piece limits held.rest rest (x ++ y) a c failed fault
+  pub packed_stop : (c : Outgoing) (failed : Bool) (fault : ToolFault)
+      → StopsPacked piece limits mid.rest left y b c failed fault
+      → StopsPacked piece limits held.rest rest (x ++ y) a c failed fault
   packed_stop c failed fault (v, begins, stop) =
       let w = told.0 in
       let all = begins_then (held.rest ++ x) mid.rest y w v told.1 told.2 begins in (
         w ++ v,
         subst (λ (l : List ℕ). Begins l [] (w ++ v)) (append_assoc held.rest x y) all,
-        subst (λ (l : List ℕ). Stops piece limits l a c failed fault) (append_assoc rest w v) (stops_more piece limits (rest ++ w) left v a b c failed fault told.5 stop),
+        subst (λ (l : List ℕ). Stops piece limits l a c failed fault) (append_assoc rest w v)
+            (stops_more piece limits (rest ++ w) left v a b c failed fault told.5 stop),
       )
 
 module _ (piece : Piece) (limits : Bounds) (held : Held) (rest bytes words : List ℕ) (next : Held) where
   -- one slice
-  pub packed_one : (left : List ℕ) (a b : Outgoing) → Feeds held bytes [] words next → Tells piece limits (rest ++ words) left a b → TellsPacked piece limits held rest bytes next left a b
+  pub packed_one : (left : List ℕ) (a b : Outgoing) → Feeds held bytes [] words next
+      → Tells piece limits (rest ++ words) left a b → TellsPacked piece limits held rest bytes next left a b
   packed_one left a b fed told = (words, fed.len, fed.split, fed.offset, fed.is_good, told)
 
-  pub packed_one_stop : (a b : Outgoing) (failed : Bool) (fault : ToolFault) → Feeds held bytes [] words next → Stops piece limits (rest ++ words) a b failed fault → StopsPacked piece limits held.rest rest bytes a b failed fault
-  packed_one_stop a b failed fault fed stop = (words, begins_all (held.rest ++ bytes) next.rest words fed.len fed.split, stop)
+  pub packed_one_stop : (a b : Outgoing) (failed : Bool) (fault : ToolFault) → Feeds held bytes [] words next
+      → Stops piece limits (rest ++ words) a b failed fault
+      → StopsPacked piece limits held.rest rest bytes a b failed fault
+  packed_one_stop a b failed fault fed stop =
+      (words, begins_all (held.rest ++ bytes) next.rest words fed.len fed.split, stop)
 
 -- memory was refused while a slice was unpacked
-pub packed_memory : (piece : Piece) (limits : Bounds) (group rest bytes : List ℕ) (a : Outgoing) (failed : Bool) → failed ≡ false → StopsPacked piece limits group rest bytes a a failed faults.Memory
-packed_memory piece limits group rest bytes a failed fine =
-    ([], record { groups = []; rest = group ++ bytes; each = tt; text = refl; content = refl }, stops_memory piece limits (rest ++ []) a failed fine)
+pub packed_memory : (piece : Piece) (limits : Bounds) (group rest bytes : List ℕ) (a : Outgoing) (failed : Bool)
+    → failed ≡ false → StopsPacked piece limits group rest bytes a a failed faults.Memory
+packed_memory piece limits group rest bytes a failed fine = (
+  [],
+  record { groups = []; rest = group ++ bytes; each = tt; text = refl; content = refl },
+  stops_memory piece limits (rest ++ []) a failed fine,
+)
 
 -- nothing has come
-pub packed_none : (piece : Piece) (limits : Bounds) (held : Held) (rest : List ℕ) (a : Outgoing) → NoGroupFirst held.rest → held.offset < 2 ^ 64 → held.failed ≡ false → TellsPacked piece limits held rest [] held rest a a
+pub packed_none : (piece : Piece) (limits : Bounds) (held : Held) (rest : List ℕ) (a : Outgoing)
+    → NoGroupFirst held.rest → held.offset < 2 ^ 64 → held.failed ≡ false
+    → TellsPacked piece limits held rest [] held rest a a
 packed_none piece limits held rest a none small good = (
   [],
   0,
-  subst (λ (l : List ℕ). Splits l held.rest [] [] 0) (sym (append-nil held.rest)) (splits_open held.rest [] [] none refl),
+  subst (λ (l : List ℕ). Splits l held.rest [] [] 0) (sym (append-nil held.rest))
+      (splits_open held.rest [] [] none refl),
   omega (arith, small),
   good,
   subst (λ (l : List ℕ). Tells piece limits l rest a a) (sym (append-nil rest)) (tells_none piece limits rest a),
 )
 
 -- what stops over some bytes stops over more of them
-pub packed_longer : (piece : Piece) (limits : Bounds) (group rest x bytes more : List ℕ) (a b : Outgoing) (failed : Bool) (fault : ToolFault) → x ++ more ≡ bytes → StopsPacked piece limits group rest x a b failed fault
+pub packed_longer : (piece : Piece) (limits : Bounds) (group rest x bytes more : List ℕ) (a b : Outgoing)
+    (failed : Bool) (fault : ToolFault) → x ++ more ≡ bytes → StopsPacked piece limits group rest x a b failed fault
     → StopsPacked piece limits group rest bytes a b failed fault
 packed_longer piece limits group rest x bytes more a b failed fault whole (words, begins, stop) = (
   words,
@@ -136,44 +165,79 @@ packed_longer piece limits group rest x bytes more a b failed fault whole (words
 )
 
 -- one slice more
-module _ (piece : Piece) (limits : Bounds) (held : Held) (rest bytes : List ℕ) (at end : ℕ) (forward : at ≤ end) (mid : Held) (left : List ℕ) (a b : Outgoing) (told : TellsPacked piece limits held rest (take at bytes) mid left a b) where
+module _ (piece : Piece) (limits : Bounds) (held : Held) (rest bytes : List ℕ) (at end : ℕ) (forward : at ≤ end)
+    (mid : Held) (left : List ℕ) (a b : Outgoing)
+    (told : TellsPacked piece limits held rest (take at bytes) mid left a b) where
   joined : take at bytes ++ take (end - at) (drop at bytes) ≡ take end bytes
-  joined = let e : at + (end - at) ≡ end = omega (arith, forward) in sym (take-add at (end - at) bytes) ∙ ap (λ (i : ℕ). take i bytes) e
+  joined = let e : at + (end - at) ≡ end = omega (arith, forward) in sym (take-add at (end - at) bytes)
+      ∙ ap (λ (i : ℕ). take i bytes) e
 
-  pub slice_more : (next : Held) (last : List ℕ) (c : Outgoing) → TellsPacked piece limits mid left (take (end - at) (drop at bytes)) next last b c → TellsPacked piece limits held rest (take end bytes) next last a c
+  pub slice_more : (next : Held) (last : List ℕ) (c : Outgoing)
+      → TellsPacked piece limits mid left (take (end - at) (drop at bytes)) next last b c
+      → TellsPacked piece limits held rest (take end bytes) next last a c
   slice_more next last c more =
-      subst (λ (l : List ℕ). TellsPacked piece limits held rest l next last a c) joined (packed_more piece limits held rest (take at bytes) mid left (take (end - at) (drop at bytes)) a b told next last c more)
+      subst (λ (l : List ℕ). TellsPacked piece limits held rest l next last a c) joined
+      (packed_more piece limits held rest (take at bytes) mid left (take (end - at) (drop at bytes)) a b told next
+      last c more)
 
-  pub slice_stop : (c : Outgoing) (failed : Bool) (fault : ToolFault) → StopsPacked piece limits mid.rest left (take (end - at) (drop at bytes)) b c failed fault → StopsPacked piece limits held.rest rest bytes a c failed fault
+  pub slice_stop : (c : Outgoing) (failed : Bool) (fault : ToolFault)
+      → StopsPacked piece limits mid.rest left (take (end - at) (drop at bytes)) b c failed fault
+      → StopsPacked piece limits held.rest rest bytes a c failed fault
   slice_stop c failed fault stop =
-      let part = packed_stop piece limits held rest (take at bytes) mid left (take (end - at) (drop at bytes)) a b told c failed fault stop in
-      packed_longer piece limits held.rest rest (take at bytes ++ take (end - at) (drop at bytes)) bytes (drop end bytes) a c failed fault (ap (λ (l : List ℕ). l ++ drop end bytes) joined ∙ take-append-drop end bytes) part
+      let part = packed_stop piece limits held rest (take at bytes) mid left (take (end - at) (drop at bytes)) a b told
+      c failed fault stop in
+      packed_longer piece limits held.rest rest (take at bytes ++ take (end - at) (drop at bytes)) bytes
+      (drop end bytes) a c failed fault (ap (λ (l : List ℕ). l ++ drop end bytes) joined
+      ∙ take-append-drop end bytes) part
 
 -- packed bytes were served, and then what was kept was written
-module _ (piece : Piece) (limits : Bounds) (held next : Held) (before after : Framing) (bytes : List ℕ) (c d e : Option (List ℕ)) (text : List ℕ) where
+module _ (piece : Piece) (limits : Bounds) (held next : Held) (before after : Framing) (bytes : List ℕ)
+    (c d e : Option (List ℕ)) (text : List ℕ) where
   abbrev Served : Outgoing → Bool → Result (Unit {0}) ToolFault → Type 0
   Served new failed r = ServesPacked piece limits held before bytes (sent c) new failed r next after
 
-  packed_sent : (broken failed : Bool) (served result : Result (Unit {0}) ToolFault) → Served (outgoing d text) broken served → SendsRest served text d e broken failed result → Served (sent e) failed result
+  packed_sent : (broken failed : Bool) (served result : Result (Unit {0}) ToolFault)
+      → Served (outgoing d text) broken served → SendsRest served text d e broken failed result
+      → Served (sent e) failed result
   packed_sent true failed (Ok u) result s r = absurd (let bad : true ≡ false = s.4 in cc)
   packed_sent true failed (Err fault) result (words, begins, stop) (same, broken, is) =
       subst (λ (x : Result (Unit {0}) ToolFault). Served (sent e) failed x) (sym is)
-      (subst (λ (x : Bool). StopsPacked piece limits held.rest before.rest bytes (sent c) (sent e) x fault) (sym broken) (words, begins, stops_kept piece limits c d e text (before.rest ++ words) fault same stop))
+      (subst (λ (x : Bool). StopsPacked piece limits held.rest before.rest bytes (sent c) (sent e) x fault) (sym broken)
+      (words, begins, stops_kept piece limits c d e text (before.rest ++ words) fault same stop))
   packed_sent false false (Ok u) result ((words, len, split, offset, good, told), part, most, fine, ok) (wrote, is) =
-      subst (λ (x : Result (Unit {0}) ToolFault). Served (sent e) false x) (sym is)
-      ((words, len, split, offset, good, tells_sent piece limits c d e text (before.rest ++ words) after.rest told wrote), part, most, fine, refl)
+      subst (λ (x : Result (Unit {0}) ToolFault). Served (sent e) false x) (sym is) (
+        (
+          words,
+          len,
+          split,
+          offset,
+          good,
+          tells_sent piece limits c d e text (before.rest ++ words) after.rest told wrote,
+        ),
+        part,
+        most,
+        fine,
+        refl,
+      )
   packed_sent false false (Err fault) result (words, begins, stop) (wrote, is) =
       subst (λ (x : Result (Unit {0}) ToolFault). Served (sent e) false x) (sym is)
       (words, begins, stops_sent piece limits c d e text (before.rest ++ words) fault stop wrote)
   packed_sent false true (Ok u) result ((words, len, split, offset, good, told), part, most, fine, ok) (wrote, is) =
-      subst (λ (x : Result (Unit {0}) ToolFault). Served (sent e) true x) (sym is)
-      (words, begins_all (held.rest ++ bytes) next.rest words len split, tells_broken piece limits c d e text (before.rest ++ words) after.rest told wrote)
+      subst (λ (x : Result (Unit {0}) ToolFault). Served (sent e) true x) (sym is) (
+        words,
+        begins_all (held.rest ++ bytes) next.rest words len split,
+        tells_broken piece limits c d e text (before.rest ++ words) after.rest told wrote,
+      )
   packed_sent false true (Err fault) result (words, begins, stop) (wrote, is) =
       subst (λ (x : Result (Unit {0}) ToolFault). Served (sent e) true x) (sym is)
       (words, begins, stops_broken piece limits c d e text (before.rest ++ words) fault stop wrote)
 
-  pub packed_piece : (start kept : List ℕ) (broken failed : Bool) (served result : Result (Unit {0}) ToolFault) → start ≡ [] → kept ≡ text
-      → ServesPacked piece limits held before bytes (outgoing c start) (outgoing d text) broken served next after → SendsRest served kept d e broken failed result → Served (sent e) failed result
+  pub packed_piece : (start kept : List ℕ) (broken failed : Bool) (served result : Result (Unit {0}) ToolFault)
+      → start ≡ [] → kept ≡ text
+      → ServesPacked piece limits held before bytes (outgoing c start) (outgoing d text) broken served next after
+      → SendsRest served kept d e broken failed result → Served (sent e) failed result
   packed_piece start kept broken failed served result none is s r =
-      packed_sent broken failed served result (subst (λ (p : List ℕ). ServesPacked piece limits held before bytes (outgoing c p) (outgoing d text) broken served next after) none s)
+      packed_sent broken failed served result
+      (subst (λ (p : List ℕ). ServesPacked piece limits held before bytes (outgoing c p) (outgoing d text) broken
+      served next after) none s)
       (subst (λ (p : List ℕ). SendsRest served p d e broken failed result) is r)

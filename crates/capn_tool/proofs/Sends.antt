@@ -1,5 +1,6 @@
 -- Text that is added, and written once it is long or a piece of the input has ended.
-use Rattle.std.proofs.Common.{◌≡◌, ℕ, ◌+◌, List, [], ◌++◌, length, take, Option, ap, sym, subst, ◌∙◌, append-nil, append_assoc}
+use Rattle.std.proofs.Common.{◌≡◌, ℕ, ◌+◌, List, [], ◌++◌, length, take, Option, ap, sym, subst, ◌∙◌, append-nil}
+use Rattle.std.proofs.Common.{append_assoc}
 use Rattle.std.proofs.Math.Seq.{take-append-add}
 use Rattle.std.specs.Io.KnownBytes.{Appends}
 use Rattle.std.proofs.KnownBytes.{Appends-nil, Appends-trans}
@@ -19,22 +20,30 @@ adds_more a b c t u (w, f, e) (v, g, d) = (
 )
 
 -- the writer failed behind what was added
-pub breaks_behind : (a b c : Outgoing) (t u : List ℕ) (count : ℕ) → Adds a b t → Breaks b c count u → (n : ℕ) × Breaks a c n (t ++ u)
+pub breaks_behind : (a b c : Outgoing) (t u : List ℕ) (count : ℕ) → Adds a b t → Breaks b c count u → (n : ℕ)
+    × Breaks a c n (t ++ u)
 breaks_behind a b c t u count (w, f, e) broken =
     let front : w ++ take count (b.kept ++ u) ≡ take (length w + count) (a.kept ++ (t ++ u)) =
-    sym (take-append-add w (b.kept ++ u) count) ∙ ap (λ (p : List ℕ). take (length w + count) p) (both_kept a b w t u e) in
-    (length w + count, subst (Appends a.taken c.taken) front (Appends-trans a.taken b.taken c.taken w (take count (b.kept ++ u)) f broken))
+    sym (take-append-add w (b.kept ++ u) count)
+    ∙ ap (λ (p : List ℕ). take (length w + count) p) (both_kept a b w t u e) in (
+      length w + count,
+      subst (Appends a.taken c.taken) front
+          (Appends-trans a.taken b.taken c.taken w (take count (b.kept ++ u)) f broken),
+    )
 
 -- nothing is kept: what was added was written
 pub adds_sent : (c d : Option (List ℕ)) (text : List ℕ) → Adds (sent c) (sent d) text → Appends c d text
 adds_sent c d text (w, f, e) = subst (Appends c d) (sym (append-nil w) ∙ e) f
 
 -- what was kept was written
-pub adds_all : (a : Outgoing) (d e : Option (List ℕ)) (kept text : List ℕ) → Adds a (outgoing d kept) text → Appends d e kept → Adds a (sent e) text
-adds_all a d e kept text (w, f, is) wrote = (w ++ kept, Appends-trans a.taken d e w kept f wrote, append-nil (w ++ kept) ∙ is)
+pub adds_all : (a : Outgoing) (d e : Option (List ℕ)) (kept text : List ℕ) → Adds a (outgoing d kept) text
+    → Appends d e kept → Adds a (sent e) text
+adds_all a d e kept text (w, f, is) wrote =
+    (w ++ kept, Appends-trans a.taken d e w kept f wrote, append-nil (w ++ kept) ∙ is)
 
 -- a beginning of it was
-pub breaks_rest : (a : Outgoing) (d e : Option (List ℕ)) (kept text : List ℕ) (count : ℕ) → Adds a (outgoing d kept) text → Appends d e (take count kept) → (n : ℕ) × Breaks a (sent e) n text
+pub breaks_rest : (a : Outgoing) (d e : Option (List ℕ)) (kept text : List ℕ) (count : ℕ)
+    → Adds a (outgoing d kept) text → Appends d e (take count kept) → (n : ℕ) × Breaks a (sent e) n text
 breaks_rest a d e kept text count (w, f, is) wrote =
     let front : w ++ take count kept ≡ take (length w + count) (a.kept ++ text) =
     sym (take-append-add w kept count) ∙ ap (λ (p : List ℕ). take (length w + count) p) is in

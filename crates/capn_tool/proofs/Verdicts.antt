@@ -9,8 +9,10 @@ use Rattle.capn_tool.specs.declared.plan.Piece.TheVariants as kinds
 use Rattle.capn_tool.specs.declared.fault.ToolFault.{ToolFault}
 
 module _ (words : List ℕ) (limits : Bounds) (c : Checked) (told : IsCheck words limits c) where
-  same_line : (behind : List ℕ) → priced c.paid c.visits behind ≡ priced (paid (words ∷ []) limits) (number_of_visits (words ∷ []) limits) behind
-  same_line behind = ap (λ (n : ℕ). priced n c.visits behind) told.pays ∙ ap (λ (n : ℕ). priced (paid (words ∷ []) limits) n behind) told.counts
+  same_line : (behind : List ℕ)
+      → priced c.paid c.visits behind ≡ priced (paid (words ∷ []) limits) (number_of_visits (words ∷ []) limits) behind
+  same_line behind = ap (λ (n : ℕ). priced n c.visits behind) told.pays
+      ∙ ap (λ (n : ℕ). priced (paid (words ∷ []) limits) n behind) told.counts
 
   yes : c.is_canonical ≡ true → AreCanonical told.value words
   yes e = told.answer.0 e
@@ -18,10 +20,22 @@ module _ (words : List ℕ) (limits : Bounds) (c : Checked) (told : IsCheck word
   no : c.is_canonical ≡ false → AreCanonical told.value words → ⊥
   no e is = let bad : true ≡ false = sym (told.answer.1 is) ∙ e in cc
 
-  pub verdict_yes : (old new : List ℕ) (r : Result (Unit {0}) ToolFault) → c.is_canonical ≡ true → PutsLine (priced c.paid c.visits (codes " canonical" ++ 10 ∷ [])) old new r → PutsBarePiece kinds.Price words limits old new r
-  verdict_yes old new (Ok u) e put = (priced c.paid c.visits (codes " canonical" ++ 10 ∷ []), (told.value, told.is, inl (yes e, same_line (codes " canonical" ++ 10 ∷ []))), put)
+  pub verdict_yes : (old new : List ℕ) (r : Result (Unit {0}) ToolFault) → c.is_canonical ≡ true
+      → PutsLine (priced c.paid c.visits (codes " canonical" ++ 10 ∷ [])) old new r
+      → PutsBarePiece kinds.Price words limits old new r
+  verdict_yes old new (Ok u) e put = (
+    priced c.paid c.visits (codes " canonical" ++ 10 ∷ []),
+    (told.value, told.is, inl (yes e, same_line (codes " canonical" ++ 10 ∷ []))),
+    put,
+  )
   verdict_yes old new (Err fault) e put = (inl put.0, put.1)
 
-  pub verdict_no : (old new : List ℕ) (r : Result (Unit {0}) ToolFault) → c.is_canonical ≡ false → PutsLine (priced c.paid c.visits (codes " not-canonical" ++ 10 ∷ [])) old new r → PutsBarePiece kinds.Price words limits old new r
-  verdict_no old new (Ok u) e put = (priced c.paid c.visits (codes " not-canonical" ++ 10 ∷ []), (told.value, told.is, inr (no e, same_line (codes " not-canonical" ++ 10 ∷ []))), put)
+  pub verdict_no : (old new : List ℕ) (r : Result (Unit {0}) ToolFault) → c.is_canonical ≡ false
+      → PutsLine (priced c.paid c.visits (codes " not-canonical" ++ 10 ∷ [])) old new r
+      → PutsBarePiece kinds.Price words limits old new r
+  verdict_no old new (Ok u) e put = (
+    priced c.paid c.visits (codes " not-canonical" ++ 10 ∷ []),
+    (told.value, told.is, inr (no e, same_line (codes " not-canonical" ++ 10 ∷ []))),
+    put,
+  )
   verdict_no old new (Err fault) e put = (inl put.0, put.1)

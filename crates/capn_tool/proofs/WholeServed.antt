@@ -1,5 +1,6 @@
 -- An input that is taken whole, and how a run over it ends.
-use Rattle.std.proofs.Common.{◌≡◌, ◌⊎◌, inl, inr, ◌↔◌, ℕ, List, [], Bool, true, false, Option, Result, Ok, Err, OnOk, IsOkUnless, refl, ap}
+use Rattle.std.proofs.Common.{◌≡◌, ◌⊎◌, inl, inr, ◌↔◌, ℕ, List, [], Bool, true, false, Option, Result, Ok, Err, OnOk}
+use Rattle.std.proofs.Common.{IsOkUnless, refl, ap}
 use Rattle.std.specs.Io.KnownBytes.{Appends}
 use Rattle.std.proofs.KnownBytes.{Appends-nil}
 use Rattle.capn_tool.specs.Pieces.{IsNoPiece}
@@ -31,7 +32,8 @@ told_not_whole : (fault : ToolFault) (n : ℕ) → fault ≡ faults.NotWhole n �
 told_not_whole fault n e = record { no_io = λ h. cc }
 
 -- why a message has no piece is told,
-pub told_piece : (piece : Piece) (message : List (List ℕ)) (limits : Bounds) (fault : ToolFault) → IsNoPiece piece message limits fault → IsTold fault
+pub told_piece : (piece : Piece) (message : List (List ℕ)) (limits : Bounds) (fault : ToolFault)
+    → IsNoPiece piece message limits fault → IsTold fault
 told_piece kinds.Text message limits fault h = told_refused fault _ h.1
 told_piece kinds.Price message limits fault h = told_refused fault _ h.1
 told_piece kinds.Digest message limits fault h = told_refused fault _ h.1
@@ -52,8 +54,10 @@ not_true false h = refl
 -- ---- how a run ends
 
 -- the writer took the text, or a beginning of it
-pub served_wrote : (whole : Whole) (bytes text : List ℕ) (old new : Option (List ℕ)) (failed : Bool) (r : Result (Unit {0}) ToolFault) → Makes whole bytes text
-    → OnOk r (Appends old new text) → HasBegun old new text → (r ≡ Err faults.Io) ↔ (failed ≡ true) → IsOkUnless r faults.Io
+pub served_wrote : (whole : Whole) (bytes text : List ℕ) (old new : Option (List ℕ)) (failed : Bool)
+    (r : Result (Unit {0}) ToolFault) → Makes whole bytes text
+    → OnOk r (Appends old new text) → HasBegun old new text → (r ≡ Err faults.Io) ↔ (failed ≡ true)
+    → IsOkUnless r faults.Io
     → Served (plans.Whole whole) bytes false old new failed r
 served_wrote whole bytes text old new failed (Ok u) makes wrote begun io only = record {
   ended = inr (inr (text, makes, wrote));
@@ -67,8 +71,10 @@ served_wrote whole bytes text old new failed (Err fault) makes wrote begun io on
 }
 
 -- nothing is made of the input
-served_nothing : (whole : Whole) (bytes : List ℕ) (old : Option (List ℕ)) (failed : Bool) (fault : ToolFault) → failed ≡ false
-    → (fault ≡ faults.Memory) ⊎ MakesNothing whole bytes fault → Served (plans.Whole whole) bytes false old old failed (Err fault)
+served_nothing : (whole : Whole) (bytes : List ℕ) (old : Option (List ℕ)) (failed : Bool) (fault : ToolFault)
+    → failed ≡ false
+    → (fault ≡ faults.Memory) ⊎ MakesNothing whole bytes fault
+    → Served (plans.Whole whole) bytes false old old failed (Err fault)
 served_nothing whole bytes old failed fault fine h = record {
   ended = ended h;
   written = ([], 0, inl refl, Appends-nil old);
@@ -78,17 +84,21 @@ served_nothing whole bytes old failed fault fine h = record {
     told : IsTold fault
     told = elim h [ inl m ↦ told_memory fault m | inr n ↦ told_whole whole bytes fault n ]
 
-    ended : (fault ≡ faults.Memory) ⊎ MakesNothing whole bytes fault → HasEnded (plans.Whole whole) bytes false old old (Err fault)
+    ended : (fault ≡ faults.Memory) ⊎ MakesNothing whole bytes fault
+        → HasEnded (plans.Whole whole) bytes false old old (Err fault)
     ended (inl m) = inl (ap (λ (f : ToolFault). Err f) m)
     ended (inr n) = inr (inr ([], (refl, n), Appends-nil old))
 
-pub served_refused : (whole : Whole) (bytes : List ℕ) (is_longer : Bool) (old : Option (List ℕ)) (failed : Bool) (fault : ToolFault) → is_longer ≡ false → failed ≡ false
-    → (fault ≡ faults.Memory) ⊎ MakesNothing whole bytes fault → Served (plans.Whole whole) bytes is_longer old old failed (Err fault)
+pub served_refused : (whole : Whole) (bytes : List ℕ) (is_longer : Bool) (old : Option (List ℕ)) (failed : Bool)
+    (fault : ToolFault) → is_longer ≡ false → failed ≡ false
+    → (fault ≡ faults.Memory) ⊎ MakesNothing whole bytes fault
+    → Served (plans.Whole whole) bytes is_longer old old failed (Err fault)
 served_refused whole bytes true old failed fault e fine h = absurd (cc)
 served_refused whole bytes false old failed fault e fine h = served_nothing whole bytes old failed fault fine h
 
 -- the input is longer than a run takes
-pub served_longer : (whole : Whole) (bytes : List ℕ) (is_longer : Bool) (old : Option (List ℕ)) (failed : Bool) → is_longer ≡ true → failed ≡ false
+pub served_longer : (whole : Whole) (bytes : List ℕ) (is_longer : Bool) (old : Option (List ℕ)) (failed : Bool)
+    → is_longer ≡ true → failed ≡ false
     → Served (plans.Whole whole) bytes is_longer old old failed (Err faults.InputTooLong)
 served_longer whole bytes false old failed e fine = absurd (cc)
 served_longer whole bytes true old failed e fine = record {

@@ -1,5 +1,6 @@
 -- A stream of messages that is read in pieces: what has been told of the bytes that came. (Own.)
-use Rattle.std.specs.Prelude.{◌≡◌, ◌⊎◌, ◌↔◌, ℕ, ◌<◌, ◌≤◌, List, [], ◌++◌, length, take, Bool, true, false, Option, IfSome, Result, Ok, Err, ⊤}
+use Rattle.std.specs.Prelude.{◌≡◌, ◌⊎◌, ◌↔◌, ℕ, ◌<◌, ◌≤◌, List, [], ◌++◌, length, take, Bool, true, false, Option}
+use Rattle.std.specs.Prelude.{IfSome, Result, Ok, Err, ⊤}
 use Rattle.std.specs.Io.KnownBytes.{Consumes, Appends}
 use Rattle.capn_walk.specs.Limits.{Bounds}
 use Rattle.capn_stream.specs.Framing.{Framing, IsUnfinished}
@@ -20,20 +21,24 @@ use Rattle.capn_tool.specs.declared.fault.ToolFault.TheVariants as faults
 
 -- the pieces of the whole messages of a stream were added, and so much of it is left
 abbrev pub Tells : Piece → Bounds → List ℕ → List ℕ → Outgoing → Outgoing → Type 0
-Tells piece limits stream rest old new = (parts : List Part) × AreParts piece limits stream parts rest × Adds old new (texts_of parts)
+Tells piece limits stream rest old new = (parts : List Part) × AreParts piece limits stream parts rest
+    × Adds old new (texts_of parts)
 
 -- the writer failed within the pieces of a stream
 abbrev pub TellsFront : Piece → Bounds → List ℕ → Outgoing → Outgoing → Type 0
 TellsFront piece limits stream old new =
-    (parts : List Part) × (rest : List ℕ) × (count : ℕ) × AreParts piece limits stream parts rest × Breaks old new count (texts_of parts)
+    (parts : List Part) × (rest : List ℕ) × (count : ℕ) × AreParts piece limits stream parts rest
+    × Breaks old new count (texts_of parts)
 
 -- a stream that begins so, however it goes on, is due the text that was added and this ending
 abbrev pub IsDueSo : Piece → Bounds → List ℕ → Outgoing → Outgoing → ToolFault → Type 0
 IsDueSo piece limits stream old new fault =
-    (more : List ℕ) (behind : Option ToolFault) → (text : List ℕ) × IsDueEach piece limits (stream ++ more) behind text (Err fault) × Adds old new text
+    (more : List ℕ) (behind : Option ToolFault) → (text : List ℕ)
+    × IsDueEach piece limits (stream ++ more) behind text (Err fault) × Adds old new text
 
 -- a run over a stream that begins so stopped: memory was refused, the writer failed, or nothing else is due
-pub record Stops (piece : Piece) (limits : Bounds) (stream : List ℕ) (old new : Outgoing) (failed : Bool) (fault : ToolFault) : Type 0 where
+pub record Stops (piece : Piece) (limits : Bounds) (stream : List ℕ) (old new : Outgoing) (failed : Bool)
+    (fault : ToolFault) : Type 0 where
   pub told : failed ≡ false → (rest : List ℕ) × Tells piece limits stream rest old new
   pub front : failed ≡ true → TellsFront piece limits stream old new
   pub io : (fault ≡ faults.Io) ↔ (failed ≡ true)
@@ -49,27 +54,35 @@ fault_of frames.Cut = faults.Refused (refusals.Frame frames.Cut)
 fault_of frames.Failed = faults.Refused (refusals.Frame frames.Failed)
 
 -- bytes behind what a framer holds were served: all that they made whole, or up to where the run stopped
-abbrev pub Serves : Piece → Bounds → Framing → List ℕ → Outgoing → Outgoing → Bool → Result (Unit {0}) ToolFault → Framing → Type 0
+abbrev pub Serves : Piece → Bounds → Framing → List ℕ → Outgoing → Outgoing → Bool → Result (Unit {0}) ToolFault
+    → Framing → Type 0
 Serves piece limits before bytes old new failed (Ok u) after =
-    Tells piece limits (before.rest ++ bytes) after.rest old new × IsUnfinished after.rest before.most × (after.most ≡ before.most) × (after.failed ≡ false)
+    Tells piece limits (before.rest ++ bytes) after.rest old new × IsUnfinished after.rest before.most
+    × (after.most ≡ before.most) × (after.failed ≡ false)
     × (failed ≡ false)
-Serves piece limits before bytes old new failed (Err fault) after = Stops piece limits (before.rest ++ bytes) old new failed fault
+Serves piece limits before bytes old new failed (Err fault) after =
+    Stops piece limits (before.rest ++ bytes) old new failed fault
 
 -- so many bytes were served, up to a whole message or to their end
-abbrev pub ServesNext : Piece → Bounds → Framing → List ℕ → Outgoing → Outgoing → Bool → Result ℕ ToolFault → Framing → Type 0
+abbrev pub ServesNext : Piece → Bounds → Framing → List ℕ → Outgoing → Outgoing → Bool → Result ℕ ToolFault → Framing
+    → Type 0
 ServesNext piece limits before bytes old new failed (Ok n) after =
-    (n ≤ length bytes) × (0 < length bytes → 0 < n) × Serves piece limits before (take n bytes) old new failed (Ok tt) after
-ServesNext piece limits before bytes old new failed (Err fault) after = Stops piece limits (before.rest ++ bytes) old new failed fault
+    (n ≤ length bytes) × (0 < length bytes → 0 < n)
+    × Serves piece limits before (take n bytes) old new failed (Ok tt) after
+ServesNext piece limits before bytes old new failed (Err fault) after =
+    Stops piece limits (before.rest ++ bytes) old new failed fault
 
 -- so many bytes that stand first are whole messages, and were served, or the run stopped among them
 abbrev pub ServesWhole : Piece → Bounds → List ℕ → Outgoing → Outgoing → Bool → Result ℕ ToolFault → Type 0
-ServesWhole piece limits bytes old new failed (Ok n) = (n ≤ length bytes) × Tells piece limits (take n bytes) [] old new × (failed ≡ false)
+ServesWhole piece limits bytes old new failed (Ok n) = (n ≤ length bytes) × Tells piece limits (take n bytes) [] old new
+    × (failed ≡ false)
 ServesWhole piece limits bytes old new failed (Err fault) = Stops piece limits bytes old new failed fault
 
 -- all that is due for the bytes that a reader gave was written
 abbrev pub HasKeptUp : Plan → Option (List ℕ) → Option (List ℕ) → Option (List ℕ) → Option (List ℕ) → Type 0
 HasKeptUp plan a b c d =
-    (bytes : List ℕ) × (text : List ℕ) × (due : Result (Unit {0}) ToolFault) × Consumes a b bytes × IsDue plan (taken_of bytes) (has_more bytes) text due
+    (bytes : List ℕ) × (text : List ℕ) × (due : Result (Unit {0}) ToolFault) × Consumes a b bytes
+    × IsDue plan (taken_of bytes) (has_more bytes) text due
     × Appends c d text
 
 -- all that is due for the bytes that a reader gave was written, where they are taken message by message, and nothing
@@ -83,7 +96,8 @@ abbrev pub KeepsUp : Command → Option (List ℕ) → Option (List ℕ) → Opt
 KeepsUp command a b c d = PlanKeepsUp (plan_of command) a b c d
 
 -- what a run by a plan did, over a reader (from a to b) and a writer (from c to d)
-pub record Runs (plan : Plan) (a b c d : Option (List ℕ)) (reader_failed writer_failed : Bool) (r : Result (Unit {0}) ToolFault) : Type 0 where
+pub record Runs (plan : Plan) (a b c d : Option (List ℕ)) (reader_failed writer_failed : Bool)
+    (r : Result (Unit {0}) ToolFault) : Type 0 where
   pub exact : IfSome a (PlanEndsAs plan c d r)
   pub io : (r ≡ Err faults.Io) ↔ ((reader_failed ≡ true) ⊎ (writer_failed ≡ true))
   pub begun : PlanBegins plan a b c d
@@ -92,8 +106,11 @@ pub record Runs (plan : Plan) (a b c d : Option (List ℕ)) (reader_failed write
 -- the input ended, and no message is cut, or one is
 abbrev pub EndsInput : List ℕ → ℕ → Result (Unit {0}) ToolFault → Type 0
 EndsInput rest most (Ok u) = frame_rules.IsRefused rest most frames.Empty
-EndsInput rest most (Err fault) = frame_rules.IsRefused rest most frames.Cut × (fault ≡ faults.Refused (refusals.Frame frames.Cut))
+EndsInput rest most (Err fault) = frame_rules.IsRefused rest most frames.Cut
+    × (fault ≡ faults.Refused (refusals.Frame frames.Cut))
 
 -- a reader gave bytes, so many, and the pieces of the whole messages in them were written
-abbrev pub Hears : Piece → Bounds → Option (List ℕ) → Option (List ℕ) → ℕ → List ℕ → Option (List ℕ) → Option (List ℕ) → Type 0
-Hears piece limits a b taken rest c d = (bytes : List ℕ) × Consumes a b bytes × (length bytes ≡ taken) × Tells piece limits bytes rest (sent c) (sent d)
+abbrev pub Hears : Piece → Bounds → Option (List ℕ) → Option (List ℕ) → ℕ → List ℕ → Option (List ℕ) → Option (List ℕ)
+    → Type 0
+Hears piece limits a b taken rest c d = (bytes : List ℕ) × Consumes a b bytes × (length bytes ≡ taken)
+    × Tells piece limits bytes rest (sent c) (sent d)

@@ -14,11 +14,13 @@ use Rattle.capn_tool.specs.Sending.{Outgoing, sent}
 use Rattle.capn_tool.specs.declared.plan.Piece.{Piece}
 use Rattle.capn_tool.specs.declared.fault.ToolFault.{ToolFault}
 
--- bytes behind an unfinished group and an unfinished message: their whole groups have words, of whose whole messages the
+-- bytes behind an unfinished group and an unfinished message: their whole groups have words, of whose whole messages
+-- the
 -- pieces were added; this is held of the group, and so much of the message, then
 abbrev pub TellsPacked : Piece → Bounds → Held → List ℕ → List ℕ → Held → List ℕ → Outgoing → Outgoing → Type 0
 TellsPacked piece limits held rest bytes next left old new =
-    (words : List ℕ) × (len : ℕ) × Splits (held.rest ++ bytes) next.rest [] words len × (next.offset ≡ advanced held.offset len) × (next.failed ≡ false)
+    (words : List ℕ) × (len : ℕ) × Splits (held.rest ++ bytes) next.rest [] words len
+    × (next.offset ≡ advanced held.offset len) × (next.failed ≡ false)
     × Tells piece limits (rest ++ words) left old new
 
 -- the run stopped over the words of some of the groups
@@ -27,22 +29,28 @@ StopsPacked piece limits group rest bytes old new failed fault =
     (words : List ℕ) × Begins (group ++ bytes) [] words × Stops piece limits (rest ++ words) old new failed fault
 
 -- packed bytes were served: all messages that they made whole, or up to where the run stopped
-abbrev pub ServesPacked : Piece → Bounds → Held → Framing → List ℕ → Outgoing → Outgoing → Bool → Result (Unit {0}) ToolFault → Held → Framing → Type 0
+abbrev pub ServesPacked : Piece → Bounds → Held → Framing → List ℕ → Outgoing → Outgoing → Bool
+    → Result (Unit {0}) ToolFault → Held → Framing → Type 0
 ServesPacked piece limits held before bytes old new failed (Ok u) next after =
-    TellsPacked piece limits held before.rest bytes next after.rest old new × IsUnfinished after.rest before.most × (after.most ≡ before.most)
+    TellsPacked piece limits held before.rest bytes next after.rest old new × IsUnfinished after.rest before.most
+    × (after.most ≡ before.most)
     × (after.failed ≡ false) × (failed ≡ false)
-ServesPacked piece limits held before bytes old new failed (Err fault) next after = StopsPacked piece limits held.rest before.rest bytes old new failed fault
+ServesPacked piece limits held before bytes old new failed (Err fault) next after =
+    StopsPacked piece limits held.rest before.rest bytes old new failed fault
 
 -- where a packed stream begins
 abbrev pub fresh : Held
 fresh = record { rest = []; offset = 0; failed = false }
 
 -- a reader gave bytes, so many, and the pieces of the whole messages in the words of their whole groups were written
-abbrev pub HearsPacked : Piece → Bounds → Option (List ℕ) → Option (List ℕ) → ℕ → Held → List ℕ → Option (List ℕ) → Option (List ℕ) → Type 0
+abbrev pub HearsPacked : Piece → Bounds → Option (List ℕ) → Option (List ℕ) → ℕ → Held → List ℕ → Option (List ℕ)
+    → Option (List ℕ) → Type 0
 HearsPacked piece limits a b taken held rest c d =
-    (bytes : List ℕ) × Consumes a b bytes × (length bytes ≡ taken) × TellsPacked piece limits fresh [] bytes held rest (sent c) (sent d)
+    (bytes : List ℕ) × Consumes a b bytes × (length bytes ≡ taken)
+    × TellsPacked piece limits fresh [] bytes held rest (sent c) (sent d)
 
 -- the input ended: what is left is no whole frame, and the run ends so
 abbrev pub EndsPacked : List ℕ → ℕ → List ℕ → ℕ → Result (Unit {0}) ToolFault → Type 0
 EndsPacked group at rest most ending =
-    (e : FrameFault) × (e ≢ frames.Memory) × frame_rules.IsRefused rest most e × (ending ≡ end_of e (behind_packed false group at)) × (ending ≢ Err faults.Io)
+    (e : FrameFault) × (e ≢ frames.Memory) × frame_rules.IsRefused rest most e
+    × (ending ≡ end_of e (behind_packed false group at)) × (ending ≢ Err faults.Io)

@@ -45,7 +45,8 @@ tariff_rule = record (new_rule (codes "tariff")) {
 -- a command over messages takes a form, three limits and a tariff
 abbrev pub message_line : Text → App
 message_line name =
-    with_rule (with_rule (with_rule (with_rule (with_rule (new_app name) form_rule) words_rule) budget_rule) depth_rule) tariff_rule
+    with_rule (with_rule (with_rule (with_rule (with_rule (new_app name) form_rule) words_rule) budget_rule) depth_rule)
+    tariff_rule
 
 -- `pack` takes no option
 abbrev pub pack_line : App

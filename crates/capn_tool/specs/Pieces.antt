@@ -39,14 +39,16 @@ abbrev pub IsPiece : Piece → List (List ℕ) → Bounds → List ℕ → Type 
 IsPiece kinds.Text message limits text =
     (v : Tree) × IsValueOf message limits v × (text ≡ show_text v ++ (codes "end" ++ 10 ∷ []))
 IsPiece kinds.Price message limits text =
-    (v : Tree) × IsValueOf message limits v × (text ≡ price_line (paid message limits) (number_of_visits message limits))
+    (v : Tree) × IsValueOf message limits v
+    × (text ≡ price_line (paid message limits) (number_of_visits message limits))
 IsPiece kinds.Digest message limits text =
     (answer : List ℕ) × (price : ℕ) × AnswersMessage message limits answer price × (text ≡ digest_line answer)
 
 -- the walk of the message is refused so
 abbrev pub IsStopped : List (List ℕ) → Bounds → ToolFault → Type 0
 IsStopped message limits fault =
-    (s : Stopped) × (fault ≡ faults.Refused (refusals.Walk s)) × walks.IsRefused message limits s.fault s.place s.paid s.visits
+    (s : Stopped) × (fault ≡ faults.Refused (refusals.Walk s))
+    × walks.IsRefused message limits s.fault s.place s.paid s.visits
 
 -- why a message has no piece: its walk is refused; for the digest also that its value has a capability
 abbrev pub IsNoPiece : Piece → List (List ℕ) → Bounds → ToolFault → Type 0
@@ -59,25 +61,33 @@ IsNoPiece kinds.Digest message limits fault =
 abbrev pub AreCanonical : Tree → List ℕ → Type 0
 AreCanonical v words = (first_cap v ≡ None) × (canon v ≡ bytes words)
 
--- What is written of the one bare message of these words: as of any message, but the line of its price has one word more,
+-- What is written of the one bare message of these words: as of any message, but the line of its price has one word
+-- more,
 -- which tells whether the words are canonical.
 abbrev pub IsBarePiece : Piece → List ℕ → Bounds → List ℕ → Type 0
 IsBarePiece kinds.Text words limits text = IsPiece kinds.Text (words ∷ []) limits text
 IsBarePiece kinds.Price words limits text =
     (v : Tree) × IsValueOf (words ∷ []) limits v
-    × ((AreCanonical v words × (text ≡ priced (paid (words ∷ []) limits) (number_of_visits (words ∷ []) limits) (codes " canonical" ++ 10 ∷ [])))
-    ⊎ ((AreCanonical v words → ⊥) × (text ≡ priced (paid (words ∷ []) limits) (number_of_visits (words ∷ []) limits) (codes " not-canonical" ++ 10 ∷ []))))
+    × ((AreCanonical v words
+    × (text ≡ priced (paid (words ∷ []) limits) (number_of_visits (words ∷ []) limits)
+    (codes " canonical" ++ 10 ∷ [])))
+    ⊎ ((AreCanonical v words → ⊥)
+    × (text ≡ priced (paid (words ∷ []) limits) (number_of_visits (words ∷ []) limits)
+    (codes " not-canonical" ++ 10 ∷ []))))
 IsBarePiece kinds.Digest words limits text = IsPiece kinds.Digest (words ∷ []) limits text
 
--- a call appended the piece to a text; or it told why there is none, but for want of memory, and left the text as it was
+-- a call appended the piece to a text; or it told why there is none, but for want of memory, and left the text as it
+-- was
 abbrev pub PutsPiece : Piece → List (List ℕ) → Bounds → List ℕ → List ℕ → Result (Unit {0}) ToolFault → Type 0
-PutsPiece piece message limits old new (Ok u) = (text : List ℕ) × IsPiece piece message limits text × (new ≡ old ++ text)
+PutsPiece piece message limits old new (Ok u) = (text : List ℕ) × IsPiece piece message limits text
+    × (new ≡ old ++ text)
 PutsPiece piece message limits old new (Err fault) =
     ((fault ≡ faults.Memory) ⊎ IsNoPiece piece message limits fault) × (new ≡ old)
 
 -- the same of the one bare message
 abbrev pub PutsBarePiece : Piece → List ℕ → Bounds → List ℕ → List ℕ → Result (Unit {0}) ToolFault → Type 0
-PutsBarePiece piece words limits old new (Ok u) = (text : List ℕ) × IsBarePiece piece words limits text × (new ≡ old ++ text)
+PutsBarePiece piece words limits old new (Ok u) = (text : List ℕ) × IsBarePiece piece words limits text
+    × (new ≡ old ++ text)
 PutsBarePiece piece words limits old new (Err fault) =
     ((fault ≡ faults.Memory) ⊎ IsNoPiece piece (words ∷ []) limits fault) × (new ≡ old)
 

@@ -10,7 +10,8 @@ use Rattle.capn_tool.specs.declared.fault.ToolFault.{ToolFault}
 abbrev pub HasRead : Option (List ℕ) → Option (List ℕ) → (ℕ → Type 0) → Type 0
 HasRead old new P = (bytes : List ℕ) × Consumes old new bytes × P (length bytes)
 
--- a reader gave these bytes, all that it had or one more than 2^32; the first of them were kept, and whether there are more
+-- a reader gave these bytes, all that it had or one more than 2^32; the first of them were kept, and whether there
+-- are more
 pub record Kept (old new : Option (List ℕ)) (kept : List ℕ) (is_longer : Bool) (bytes : List ℕ) : Type 0 where
   pub read : Consumes old new bytes
   pub bounded : length bytes ≤ most_input + 1

@@ -27,7 +27,8 @@ Breaks old new count text = Appends old.taken new.taken (take count (old.kept ++
 
 -- A run that ended so wrote what it kept, and ends so: not where its writer had failed before, and with Io where that
 -- failed now.
-abbrev pub SendsRest : Result (Unit {0}) ToolFault → List ℕ → Option (List ℕ) → Option (List ℕ) → Bool → Bool → Result (Unit {0}) ToolFault → Type 0
+abbrev pub SendsRest : Result (Unit {0}) ToolFault → List ℕ → Option (List ℕ) → Option (List ℕ) → Bool → Bool
+    → Result (Unit {0}) ToolFault → Type 0
 SendsRest served text old new true failed result = (new ≡ old) × (failed ≡ true) × (result ≡ served)
 SendsRest served text old new false false result = Appends old new text × (result ≡ served)
 SendsRest served text old new false true result = HasBegun old new text × (result ≡ Err faults.Io)

@@ -10,15 +10,19 @@ use Rattle.capn_tool.specs.declared.fault.ToolFault.{ToolFault}
 use Rattle.capn_tool.specs.declared.fault.ToolFault.TheVariants as faults
 
 -- a writer took what a plan makes of the bytes, or a beginning of it; whether it has failed decides on Io
-pub record Served (plan : Plan) (bytes : List ℕ) (is_longer : Bool) (old new : Option (List ℕ)) (failed : Bool) (ending : Result (Unit {0}) ToolFault) : Type 0 where
+pub record Served (plan : Plan) (bytes : List ℕ) (is_longer : Bool) (old new : Option (List ℕ)) (failed : Bool)
+    (ending : Result (Unit {0}) ToolFault) : Type 0 where
   pub ended : HasEnded plan bytes is_longer old new ending
   pub written : HasWritten plan bytes is_longer old new
   pub io : (ending ≡ Err faults.Io) ↔ (failed ≡ true)
 
--- the piece of a message was added; or nothing, since there is none or memory was refused; or the writer failed within it
-abbrev pub AddsPiece : Piece → List (List ℕ) → Bounds → Outgoing → Outgoing → Bool → Result (Unit {0}) ToolFault → Type 0
+-- the piece of a message was added; or nothing, since there is none or memory was refused; or the writer failed
+-- within it
+abbrev pub AddsPiece : Piece → List (List ℕ) → Bounds → Outgoing → Outgoing → Bool → Result (Unit {0}) ToolFault
+    → Type 0
 AddsPiece piece message limits old new failed (Ok u) =
     (text : List ℕ) × IsPiece piece message limits text × Adds old new text × (failed ≡ false)
 AddsPiece piece message limits old new failed (Err fault) =
     (((fault ≡ faults.Memory) ⊎ IsNoPiece piece message limits fault) × Adds old new [] × (failed ≡ false))
-    ⊎ ((text : List ℕ) × (count : ℕ) × (fault ≡ faults.Io) × (failed ≡ true) × IsPiece piece message limits text × Breaks old new count text)
+    ⊎ ((text : List ℕ) × (count : ℕ) × (fault ≡ faults.Io) × (failed ≡ true) × IsPiece piece message limits text
+    × Breaks old new count text)

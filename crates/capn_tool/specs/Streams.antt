@@ -1,6 +1,7 @@
 -- A stream of messages: the whole messages that stand first in it, each with its piece, and what is left. (Page:
 -- serialization over a stream; the order of the faults is own.)
-use Rattle.std.specs.Prelude.{◌≡◌, ◌≢◌, ◌⊎◌, ℕ, ◌≤◌, List, [], ◌∷◌, ◌++◌, Bool, true, false, Option, Some, None, Result, Ok, Err}
+use Rattle.std.specs.Prelude.{◌≡◌, ◌≢◌, ◌⊎◌, ℕ, ◌≤◌, List, [], ◌∷◌, ◌++◌, Bool, true, false, Option, Some, None, Result}
+use Rattle.std.specs.Prelude.{Ok, Err}
 use Rattle.std.specs.List.{flat_map, AllByRecursion}
 use Rattle.capn_words.specs.Message.{total}
 use Rattle.capn_walk.specs.Limits.{Bounds}
@@ -42,9 +43,10 @@ pub record IsPart (piece : Piece) (limits : Bounds) (part : Part) : Type 0 where
   pub text : IsPiece piece part.message limits part.text
 
 -- the bytes are a row of frames, each of a message that has a piece, and what is left behind these
-pub record AreParts (piece : Piece) (limits : Bounds) (bytes : List ℕ) (parts : List Part) (rest : List ℕ) : Type 0 where
-  pub each : AllByRecursion (IsPart piece limits) parts
-  pub is : bytes ≡ frames_of parts ++ rest
+pub record AreParts (piece : Piece) (limits : Bounds) (bytes : List ℕ) (parts : List Part) (rest : List ℕ) : Type 0
+  where
+    pub each : AllByRecursion (IsPart piece limits) parts
+    pub is : bytes ≡ frames_of parts ++ rest
 
 -- How a run ends where no whole frame stands first in what is left, by the reason: a count that is too great comes
 -- first, then why no more bytes can come, if that is a fault, then a frame that is cut.
@@ -72,7 +74,8 @@ behind_packed false (b ∷ rest) at = Some (faults.Refused (refusals.Packed (cut
 -- no whole frame stands first in what is left, and the run ends so
 abbrev pub EndsUnframed : Bounds → List ℕ → Option ToolFault → Result (Unit {0}) ToolFault → Type 0
 EndsUnframed limits rest behind ending =
-    (e : FrameFault) × (e ≢ frame_faults.Memory) × frames.IsRefused rest limits.message_words e × (ending ≡ end_of e behind)
+    (e : FrameFault) × (e ≢ frame_faults.Memory) × frames.IsRefused rest limits.message_words e
+    × (ending ≡ end_of e behind)
 
 -- a message stands first in what is left that has no piece, and the run ends with that reason
 abbrev pub EndsRefused : Piece → Bounds → List ℕ → Result (Unit {0}) ToolFault → Type 0
@@ -80,8 +83,10 @@ EndsRefused piece limits rest ending =
     (message : List (List ℕ)) × (taken : ℕ) × (fault : ToolFault) × StandsFirst rest limits.message_words message taken
     × IsNoPiece piece message limits fault × (ending ≡ Err fault)
 
--- the text and the ending of a stream of which these bytes are taken: the pieces of its messages, up to the first that has none
-pub record IsDueEach (piece : Piece) (limits : Bounds) (bytes : List ℕ) (behind : Option ToolFault) (text : List ℕ) (ending : Result (Unit {0}) ToolFault) : Type 0 where
+-- the text and the ending of a stream of which these bytes are taken: the pieces of its messages, up to the first
+-- that has none
+pub record IsDueEach (piece : Piece) (limits : Bounds) (bytes : List ℕ) (behind : Option ToolFault) (text : List ℕ)
+    (ending : Result (Unit {0}) ToolFault) : Type 0 where
   pub parts : List Part
   pub rest : List ℕ
   pub are : AreParts piece limits bytes parts rest
@@ -89,7 +94,8 @@ pub record IsDueEach (piece : Piece) (limits : Bounds) (bytes : List ℕ) (behin
   pub ends : EndsUnframed limits rest behind ending ⊎ EndsRefused piece limits rest ending
 
 -- the text and the ending of a packed stream of which these bytes are taken: those of the words of its whole groups
-pub record IsDuePacked (piece : Piece) (limits : Bounds) (bytes : List ℕ) (is_longer : Bool) (text : List ℕ) (ending : Result (Unit {0}) ToolFault) : Type 0 where
+pub record IsDuePacked (piece : Piece) (limits : Bounds) (bytes : List ℕ) (is_longer : Bool) (text : List ℕ)
+    (ending : Result (Unit {0}) ToolFault) : Type 0 where
   pub words : List ℕ
   pub group : List ℕ
   pub at : ℕ

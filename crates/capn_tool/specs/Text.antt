@@ -1,5 +1,6 @@
 -- What a run writes for its input, and how it ends. (Own.)
-use Rattle.std.specs.Prelude.{◌≡◌, ◌⊎◌, ℕ, ◌+◌, ◌≤◌, nat_lt, List, [], length, take, Bool, true, false, Option, Result, Ok, Err}
+use Rattle.std.specs.Prelude.{◌≡◌, ◌⊎◌, ℕ, ◌+◌, ◌≤◌, nat_lt, List, [], length, take, Bool, true, false, Option, Result}
+use Rattle.std.specs.Prelude.{Ok, Err}
 use Rattle.std.specs.Io.KnownBytes.{Consumes, Appends}
 use Rattle.capn_tool.specs.Limits.{most_input}
 use Rattle.capn_tool.specs.Planned.{plan_of}
@@ -21,7 +22,8 @@ taken_of input = take most_input input
 abbrev pub has_more : List ℕ → Bool
 has_more input = nat_lt most_input (length input)
 
--- the text and the ending of an input that is taken whole: none of one that is longer, else what is made of it, else the reason
+-- the text and the ending of an input that is taken whole: none of one that is longer, else what is made of it, else
+-- the reason
 abbrev pub IsDueWhole : Whole → List ℕ → Bool → List ℕ → Result (Unit {0}) ToolFault → Type 0
 IsDueWhole whole bytes true text ending = (text ≡ []) × (ending ≡ Err faults.InputTooLong)
 IsDueWhole whole bytes false text (Ok u) = Makes whole bytes text
@@ -30,7 +32,8 @@ IsDueWhole whole bytes false text (Err fault) = (text ≡ []) × MakesNothing wh
 -- the text and the ending that a plan makes of the bytes that are taken
 abbrev pub IsDue : Plan → List ℕ → Bool → List ℕ → Result (Unit {0}) ToolFault → Type 0
 IsDue (plans.Whole whole) bytes is_longer text ending = IsDueWhole whole bytes is_longer text ending
-IsDue (plans.Each piece limits) bytes is_longer text ending = IsDueEach piece limits bytes (behind_stream is_longer) text ending
+IsDue (plans.Each piece limits) bytes is_longer text ending =
+    IsDueEach piece limits bytes (behind_stream is_longer) text ending
 IsDue (plans.Packed piece limits) bytes is_longer text ending = IsDuePacked piece limits bytes is_longer text ending
 
 -- the text that a run writes for its input, and how it ends
@@ -40,7 +43,8 @@ IsText command input text ending = IsDue (plan_of command) (taken_of input) (has
 -- a run has written what is due and ended as is due, but for want of memory and a reader or writer that failed
 abbrev pub HasEnded : Plan → List ℕ → Bool → Option (List ℕ) → Option (List ℕ) → Result (Unit {0}) ToolFault → Type 0
 HasEnded plan bytes is_longer old new ending =
-    (ending ≡ Err faults.Memory) ⊎ ((ending ≡ Err faults.Io) ⊎ ((text : List ℕ) × IsDue plan bytes is_longer text ending × Appends old new text))
+    (ending ≡ Err faults.Memory)
+    ⊎ ((ending ≡ Err faults.Io) ⊎ ((text : List ℕ) × IsDue plan bytes is_longer text ending × Appends old new text))
 
 abbrev pub PlanEndsAs : Plan → Option (List ℕ) → Option (List ℕ) → Result (Unit {0}) ToolFault → List ℕ → Type 0
 PlanEndsAs plan old new ending input = HasEnded plan (taken_of input) (has_more input) old new ending
@@ -48,18 +52,23 @@ PlanEndsAs plan old new ending input = HasEnded plan (taken_of input) (has_more 
 abbrev pub EndsAs : Command → Option (List ℕ) → Option (List ℕ) → Result (Unit {0}) ToolFault → List ℕ → Type 0
 EndsAs command old new ending input = PlanEndsAs (plan_of command) old new ending input
 
--- a run that ended so wrote this text and ended as is due with it, but for want of memory and a reader or writer that failed
-abbrev pub EndsBy : List ℕ → Result (Unit {0}) ToolFault → Option (List ℕ) → Option (List ℕ) → Result (Unit {0}) ToolFault → Type 0
+-- a run that ended so wrote this text and ended as is due with it, but for want of memory and a reader or writer
+-- that failed
+abbrev pub EndsBy : List ℕ → Result (Unit {0}) ToolFault → Option (List ℕ) → Option (List ℕ)
+    → Result (Unit {0}) ToolFault → Type 0
 EndsBy text due old new ending =
     (ending ≡ Err faults.Memory) ⊎ ((ending ≡ Err faults.Io) ⊎ ((ending ≡ due) × Appends old new text))
 
--- the text of these bytes begins so: with nothing, with the whole text of an input that is answered, or with the pieces of
+-- the text of these bytes begins so: with nothing, with the whole text of an input that is answered, or with the
+-- pieces of
 -- the whole messages that stand first in a stream
 abbrev pub IsFront : Plan → List ℕ → Bool → List ℕ → Type 0
 IsFront (plans.Whole whole) bytes is_longer text = (text ≡ []) ⊎ IsDueWhole whole bytes is_longer text (Ok tt)
-IsFront (plans.Each piece limits) bytes is_longer text = (parts : List Part) × (rest : List ℕ) × AreParts piece limits bytes parts rest × (text ≡ texts_of parts)
+IsFront (plans.Each piece limits) bytes is_longer text = (parts : List Part) × (rest : List ℕ)
+    × AreParts piece limits bytes parts rest × (text ≡ texts_of parts)
 IsFront (plans.Packed piece limits) bytes is_longer text =
-    (words : List ℕ) × (parts : List Part) × (rest : List ℕ) × packs.Begins bytes [] words × AreParts piece limits words parts rest × (text ≡ texts_of parts)
+    (words : List ℕ) × (parts : List Part) × (rest : List ℕ) × packs.Begins bytes [] words
+    × AreParts piece limits words parts rest × (text ≡ texts_of parts)
 
 -- a beginning of the text of these bytes was written
 abbrev pub HasWritten : Plan → List ℕ → Bool → Option (List ℕ) → Option (List ℕ) → Type 0
@@ -67,10 +76,11 @@ HasWritten plan bytes is_longer old new =
     (text : List ℕ) × (count : ℕ) × IsFront plan bytes is_longer text × Appends old new (take count text)
 
 -- a reader gave some bytes, 2^32 + 1 at most, and a writer took a beginning of their text
-pub record Begun (plan : Plan) (old_reader new_reader old_writer new_writer : Option (List ℕ)) (bytes : List ℕ) : Type 0 where
-  pub read : Consumes old_reader new_reader bytes
-  pub bounded : length bytes ≤ most_input + 1
-  pub written : HasWritten plan (taken_of bytes) (has_more bytes) old_writer new_writer
+pub record Begun (plan : Plan) (old_reader new_reader old_writer new_writer : Option (List ℕ)) (bytes : List ℕ) : Type 0
+  where
+    pub read : Consumes old_reader new_reader bytes
+    pub bounded : length bytes ≤ most_input + 1
+    pub written : HasWritten plan (taken_of bytes) (has_more bytes) old_writer new_writer
 
 abbrev pub PlanBegins : Plan → Option (List ℕ) → Option (List ℕ) → Option (List ℕ) → Option (List ℕ) → Type 0
 PlanBegins plan a b c d = (bytes : List ℕ) × Begun plan a b c d bytes

@@ -5,7 +5,8 @@ ghost use Rattle.capn_tool.specs.declared.fault.ToolFault.TheVariants as fault;
 
 use capn_canon::Refusal;
 use std::alloc::AllocError;
-use thiserror::Error;
+use std::error::Error;
+use std::fmt;
 
 /// Memory was refused.
 #[derive(Clone, Copy, Debug, PartialEq, Eq)]
@@ -18,24 +19,38 @@ impl From<AllocError> for Memory {
 }
 
 /// Why a run stops.
-#[derive(Clone, Copy, Debug, PartialEq, Eq, Error)]
+#[derive(Clone, Copy, Debug, PartialEq, Eq)]
 pub enum ToolFault {
     /// Memory was refused.
-    #[error("Memory")]
     Memory,
     /// The reader or the writer failed.
-    #[error("Io")]
     Io,
     /// The input has a byte past the 2^32 that one run takes.
-    #[error("InputTooLong")]
     InputTooLong,
     /// The input, of this many bytes, is not whole words.
-    #[error("NotWhole")]
     NotWhole(u64),
     /// The input has no answer.
-    #[error("Refused")]
     Refused(Refusal),
 }
+
+impl fmt::Display for ToolFault {
+    ghost use Rattle.std.specs.Prelude.{Some};
+    ghost use Rattle.capn_tool.specs.Told.{fault_text};
+
+    ghost output = { λ fault. Some (fault_text fault) };
+
+    fn fmt<W: fmt::Write>(&self, f: &mut fmt::Formatter<W>) -> fmt::Result {
+        match self {
+            ToolFault::Memory => write!(f, "out of memory"),
+            ToolFault::Io => write!(f, "input or output failed"),
+            ToolFault::InputTooLong => write!(f, "input too long"),
+            ToolFault::NotWhole(length) => write!(f, "NotWhole({length})"),
+            ToolFault::Refused(refusal) => write!(f, "{refusal}"),
+        }
+    }
+}
+
+impl Error for ToolFault {}
 
 impl From<AllocError> for ToolFault {
     ghost from_gives = { λ _ e. e ≡ fault.Memory };

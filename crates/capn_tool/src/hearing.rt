@@ -31,8 +31,8 @@ fn fault_of(fault: FrameFault) -> ToolFault
     }
 }
 
-/// Takes bytes up to the end of a message, and adds its piece. Answers how many bytes it took: all of them, or none is held
-/// any more.
+/// Takes bytes up to the end of a message, and adds its piece. Answers how many bytes it took: all of them, or none is
+/// held any more.
 fn serve_next<W: Write, A: Allocator + Copy>(
     alloc: A,
     piece: Piece,
@@ -46,7 +46,8 @@ fn serve_next<W: Write, A: Allocator + Copy>(
     requires good { framer.old.failed ≡ false }
     requires part { IsUnfinished framer.old.rest framer.old.most }
     requires most { framer.old.most ≡ limits.message_words }
-    ensures serves { ServesNext piece limits framer.old bytes.now (outgoing (W.contents (inner_of writer.old)) text.old.items)
+    ensures serves { ServesNext piece limits framer.old bytes.now
+        (outgoing (W.contents (inner_of writer.old)) text.old.items)
         (outgoing (W.contents (inner_of writer.new)) text.new.items) (has_failed writer.new) result framer.new }
     ensures whole { IfOk result (λ n. (n ≡ length bytes.now) ⊎ (framer.new.rest ≡ [])) }
 {
@@ -61,8 +62,8 @@ fn serve_next<W: Write, A: Allocator + Copy>(
     }
 }
 
-/// Adds the pieces of the messages that lie whole in these bytes, of which no byte is copied. Answers how many bytes they
-/// take. Why no other follows is for the framer to say.
+/// Adds the pieces of the messages that lie whole in these bytes, of which no byte is copied. Answers how many bytes
+/// they take. Why no other follows is for the framer to say.
 fn serve_whole<W: Write, A: Allocator + Copy>(
     alloc: A,
     piece: Piece,
@@ -151,7 +152,8 @@ fn serve_piece<W: Write, A: Allocator + Copy>(
     requires good { framer.old.failed ≡ false }
     requires part { IsUnfinished framer.old.rest framer.old.most }
     requires most { framer.old.most ≡ limits.message_words }
-    ensures { Serves piece limits framer.old bytes.now (sent (W.contents (inner_of writer.old))) (sent (W.contents (inner_of writer.new)))
+    ensures { Serves piece limits framer.old bytes.now (sent (W.contents (inner_of writer.old)))
+        (sent (W.contents (inner_of writer.new)))
         (has_failed writer.new) result framer.new }
 {
     text.clear();

@@ -32,7 +32,8 @@ pub fn read_all<R: Read, A: Allocator>(
 ) -> Result<Input<A>, ToolFault>
     requires { has_failed reader.old ≡ false }
     ensures exact { ReadsAll (R.remaining (inner_of reader.old)) (R.remaining (inner_of reader.new)) result }
-    ensures bounded { HasRead (R.remaining (inner_of reader.old)) (R.remaining (inner_of reader.new)) (λ n. n ≤ most_input + 1) }
+    ensures bounded { HasRead (R.remaining (inner_of reader.old)) (R.remaining (inner_of reader.new))
+        (λ n. n ≤ most_input + 1) }
     ensures io { IsErrOf result ToolFault.Io ↔ (has_failed reader.new ≡ true) }
     ensures only { IfErr result (λ e. (e ≡ faults.Memory) ⊎ (e ≡ faults.Io)) }
 {

@@ -30,7 +30,8 @@ pub(crate) fn send_rest<W: Write>(
     text: &[u8],
     writer: &mut Watched<W>,
 ) -> Result<(), ToolFault>
-    ensures { SendsRest served text.now (W.contents (inner_of writer.old)) (W.contents (inner_of writer.new)) (has_failed writer.old)
+    ensures { SendsRest served text.now (W.contents (inner_of writer.old)) (W.contents (inner_of writer.new))
+        (has_failed writer.old)
         (has_failed writer.new) result }
 {
     if writer.failed() {

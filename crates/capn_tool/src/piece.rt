@@ -1,8 +1,10 @@
 //! What is written of one message.
 
-ghost use Rattle.std.specs.Prelude.{◌≡◌, ◌⊎◌, ◌∷◌, ◌++◌, [], IfOk, IfErr};
+ghost use Rattle.std.specs.Prelude.{◌≡◌, ◌⊎◌, ◌∷◌, ◌++◌, [], string_bytes, IfOk, IfErr};
 ghost use Rattle.sha2.specs.Sha256.{sha256};
 ghost use Rattle.hex.specs.Hex.{encode_lower};
+ghost use Rattle.capn_value.specs.Text.{show_text};
+ghost use Rattle.capn_value.specs.Tree.{Tree};
 ghost use Rattle.capn_walk.specs.Denotes.{IsValueOf, paid, number_of_visits};
 ghost use Rattle.capn_walk.specs.Surveyed.{IsSurvey};
 ghost use Rattle.capn_canon.specs.Checks.{IsCheck};
@@ -57,6 +59,21 @@ fn survey_within<S: Space, A: Allocator + Copy>(
     }
 }
 
+/// The text of a message's value.
+fn text_of<S: Space, A: Allocator + Copy>(
+    alloc: A,
+    space: &S,
+    limits: Limits,
+) -> Result<String<A>, ToolFault>
+    ensures found { IfOk result (λ text. (v : Tree) × IsValueOf (S.message space.now) limits v
+        × (string_bytes text ≡ show_text v)) }
+    ensures refused { IfErr result (λ e. (e ≡ faults.Memory) ⊎ IsStopped (S.message space.now) limits e) }
+{
+    let walked = walk_within(alloc, space, limits)?;
+    let text = show(alloc, &walked.tree)?;
+    Ok(text)
+}
+
 /// Appends the text of a message, and the line `end`.
 fn put_text<S: Space, A: Allocator + Copy>(
     alloc: A,
@@ -66,8 +83,7 @@ fn put_text<S: Space, A: Allocator + Copy>(
 ) -> Result<(), ToolFault>
     ensures { PutsPiece kinds.Text (S.message space.now) limits text.old.items text.new.items result }
 {
-    let walked = walk_within(alloc, space, limits)?;
-    let mut shown = show(alloc, &walked.tree)?;
+    let mut shown = text_of(alloc, space, limits)?;
     shown.push_str("end\n")?;
     text.extend_from_slice(shown.as_bytes())?;
     Ok(())
@@ -138,8 +154,8 @@ fn check_within<A: Allocator + Copy>(
     }
 }
 
-/// Appends the line of a bare message's price and number of visits, which tells whether its bytes are canonical. It takes
-/// no memory but the line's.
+/// Appends the line of a bare message's price and number of visits, which tells whether its bytes are canonical. It
+/// takes no memory but the line's.
 fn put_verdict<A: Allocator + Copy>(
     alloc: A,
     space: &Bare<'_>,

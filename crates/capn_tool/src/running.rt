@@ -52,9 +52,11 @@ fn run_whole<R: Read, W: Write, A: Allocator + Copy>(
     ensures exact { IfSome (R.remaining (inner_of reader.old))
         (PlanEndsAs (plans.Whole whole) (W.contents (inner_of writer.old)) (W.contents (inner_of writer.new)) result) }
     ensures io { IsErrOf result ToolFault.Io ↔ ((has_failed reader.new ≡ true) ⊎ (has_failed writer.new ≡ true)) }
-    ensures begun { PlanBegins (plans.Whole whole) (R.remaining (inner_of reader.old)) (R.remaining (inner_of reader.new))
+    ensures begun { PlanBegins (plans.Whole whole) (R.remaining (inner_of reader.old))
+        (R.remaining (inner_of reader.new))
         (W.contents (inner_of writer.old)) (W.contents (inner_of writer.new)) }
-    ensures unread { has_failed reader.new ≡ true → Appends (W.contents (inner_of writer.old)) (W.contents (inner_of writer.new)) [] }
+    ensures unread { has_failed reader.new ≡ true
+        → Appends (W.contents (inner_of writer.old)) (W.contents (inner_of writer.new)) [] }
 {
     let input = read_all(alloc, reader)?;
     write_whole(alloc, whole, &input, writer)
@@ -82,14 +84,14 @@ fn perform<R: Read, W: Write, A: Allocator + Copy>(
 /// Carries a command out: reads from the reader to its end, then writes the text of the input to the writer.
 ///
 /// `pack`, `unpack`, `canonical` and the form bare take the input whole, and write nothing where it is refused. `show`,
-/// `check` and `hash` of a stream, packed or not, take it message by message: before the reader is asked again, the text
-/// of all messages that are whole by then has been written, mostly by one call. Where a message is refused, the text of
-/// those before it has been written.
+/// `check` and `hash` of a stream, packed or not, take it message by message: before the reader is asked again, the
+/// text of all messages that are whole by then has been written, mostly by one call. Where a message is refused, the
+/// text of those before it has been written.
 ///
 /// Refusals: `Memory` where a growth was refused; `Io` exactly where the reader or the writer has failed, and then a
-/// beginning of the text was written; `InputTooLong` for a byte past 2^32; else the command's own. At most 2^32 + 1 bytes
-/// are read, at most 65,536 by one call. Over a stream the memory does not grow with the input: 128 KiB, the texts of
-/// what one call read, at most 1 MiB for unpacked words, and what the longest message takes.
+/// beginning of the text was written; `InputTooLong` for a byte past 2^32; else the command's own. At most 2^32 + 1
+/// bytes are read, at most 65,536 by one call. Over a stream the memory does not grow with the input: 128 KiB, the
+/// texts of what one call read, at most 1 MiB for unpacked words, and what the longest message takes.
 pub fn run<R: Read, W: Write, A: Allocator + Copy>(
     alloc: A,
     command: Command,
@@ -110,9 +112,10 @@ pub fn run<R: Read, W: Write, A: Allocator + Copy>(
     // Whatever it answers, a beginning of the text of what it read was written, or nothing.
     ensures begun { Begins command (R.remaining (inner_of reader.old)) (R.remaining (inner_of reader.new))
         (W.contents (inner_of writer.old)) (W.contents (inner_of writer.new)) }
-    // Where the reader failed, all that is due for what it gave was written, if it is taken message by message; if it is
-    // taken whole, nothing was.
-    ensures heard { has_failed reader.new ≡ true → KeepsUp command (R.remaining (inner_of reader.old)) (R.remaining (inner_of reader.new))
+    // Where the reader failed, all that is due for what it gave was written, if it is taken message by message; if it
+    // is taken whole, nothing was.
+    ensures heard { has_failed reader.new ≡ true
+        → KeepsUp command (R.remaining (inner_of reader.old)) (R.remaining (inner_of reader.new))
         (W.contents (inner_of writer.old)) (W.contents (inner_of writer.new)) }
 {
     perform(alloc, plan_of(command), reader, writer)

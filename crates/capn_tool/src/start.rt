@@ -96,8 +96,8 @@ fn end_unordered<W: Write, E: Write>(
 /// It carries out the command that the words order, from the reader to the writer, as [`run`] promises, and flushes the
 /// writer. The status is 0 where that is done, 1 where the input is refused, and 3 where memory, the input or the
 /// output failed or the input is too long; with 1 and 3 one line on `errors` tells why, `capn: ` and the text of the
-/// fault, or where that text finds no memory `capn: out of memory`. Words that order nothing end with 2 and are told on `errors`;
-/// a wish for help is served on the writer, and ends with 0, or with 3 where that fails.
+/// fault, or where that text finds no memory `capn: out of memory`. Words that order nothing end with 2 and are told on
+/// `errors`; a wish for help is served on the writer, and ends with 0, or with 3 where that fails.
 pub fn program<'a, S: AsStr, R: Read, W: Write, E: Write>(
     alloc: Global,
     words: &'a [S],

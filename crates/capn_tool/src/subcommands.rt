@@ -1,9 +1,10 @@
 //! The command line: the subcommands, their options, and what help says of each.
 
 ghost use Rattle.std.specs.Prelude.{◌≡◌, IfOk, codes, false};
-ghost use Rattle.clap.specs.Words.{app_of, rule_of, new_app};
+ghost use Rattle.clap.specs.Words.{app_of, rule_of, new_app, with_subcommand};
 ghost use Rattle.clap.specs.declared.builder.command.Command.TheViews.{out-Command};
-ghost use Rattle.capn_tool.specs.Line.{form_rule, words_rule, budget_rule, depth_rule, tariff_rule, message_line, unpack_line, messages_line, tool_line};
+ghost use Rattle.capn_tool.specs.Line.{form_rule, words_rule, budget_rule, depth_rule, tariff_rule, message_line};
+ghost use Rattle.capn_tool.specs.Line.{unpack_line, messages_line, tool_line};
 
 use crate::help::{self, Page};
 use capn_value::{MOST_COST, MOST_HEIGHT};
@@ -113,19 +114,41 @@ fn unpack_command<'a>(alloc: Global) -> Result<Command<'a>, AllocError>
     Ok(command)
 }
 
+/// A program with a command over messages beside those that it has.
+fn with_messages<'a>(
+    alloc: Global,
+    program: Command<'a>,
+    name: &'a str,
+    page: Page,
+    forms: &'a str,
+) -> Result<Command<'a>, AllocError>
+    ensures { IfOk result (λ c. app_of c ≡ with_subcommand (app_of program.entry) (message_line name.now).top) }
+{
+    let command = message_command(alloc, name, page, forms)?;
+    let whole = program.subcommand(command)?;
+    Ok(whole)
+}
+
+/// A program with `unpack` beside the commands that it has.
+fn with_unpack<'a>(alloc: Global, program: Command<'a>) -> Result<Command<'a>, AllocError>
+    ensures { IfOk result (λ c. app_of c ≡ with_subcommand (app_of program.entry) unpack_line.top) }
+{
+    let command = unpack_command(alloc)?;
+    let whole = program.subcommand(command)?;
+    Ok(whole)
+}
+
 /// The program with the four commands over messages.
 fn messages_command<'a>(alloc: Global) -> Result<Command<'a>, AllocError>
     ensures { IfOk result (λ c. app_of c ≡ messages_line) }
 {
-    let show = message_command(alloc, "show", help::SHOW, help::FORMS_OF_MESSAGES)?;
-    let check = message_command(alloc, "check", help::CHECK, help::FORMS_OF_MESSAGES)?;
-    let canonical = message_command(alloc, "canonical", help::CANONICAL, help::FORMS_OF_ONE)?;
-    let hash = message_command(alloc, "hash", help::HASH, help::FORMS_OF_MESSAGES)?;
+    let forms = help::FORMS_OF_MESSAGES;
     let top = plain_command(alloc, "capn", help::PROGRAM).subcommand_required(true);
-    let with_show = top.subcommand(show)?;
-    let with_check = with_show.subcommand(check)?;
-    let with_canonical = with_check.subcommand(canonical)?;
-    let with_hash = with_canonical.subcommand(hash)?;
+    let with_show = with_messages(alloc, top, "show", help::SHOW, forms)?;
+    let with_check = with_messages(alloc, with_show, "check", help::CHECK, forms)?;
+    let one = help::FORMS_OF_ONE;
+    let with_canonical = with_messages(alloc, with_check, "canonical", help::CANONICAL, one)?;
+    let with_hash = with_messages(alloc, with_canonical, "hash", help::HASH, forms)?;
     Ok(with_hash)
 }
 
@@ -134,9 +157,7 @@ pub fn tool_command<'a>(alloc: Global) -> Result<Command<'a>, AllocError>
     ensures { IfOk result (λ c. app_of c ≡ tool_line) }
 {
     let messages = messages_command(alloc)?;
-    let pack = plain_command(alloc, "pack", help::PACK);
-    let unpack = unpack_command(alloc)?;
-    let with_pack = messages.subcommand(pack)?;
-    let whole = with_pack.subcommand(unpack)?;
+    let with_pack = messages.subcommand(plain_command(alloc, "pack", help::PACK))?;
+    let whole = with_unpack(alloc, with_pack)?;
     Ok(whole)
 }

@@ -42,7 +42,8 @@ fn serve_slice<W: Write, A: Allocator + Copy>(
     requires good { framer.old.failed ≡ false }
     requires part { IsUnfinished framer.old.rest framer.old.most }
     requires most { framer.old.most ≡ limits.message_words }
-    ensures { ServesPacked piece limits unpacker.old framer.old bytes.now (outgoing (W.contents (inner_of writer.old)) text.old.items)
+    ensures { ServesPacked piece limits unpacker.old framer.old bytes.now
+        (outgoing (W.contents (inner_of writer.old)) text.old.items)
         (outgoing (W.contents (inner_of writer.new)) text.new.items) (has_failed writer.new) result unpacker.new framer.new }
 {
     words.clear();
@@ -72,7 +73,8 @@ fn serve_slices<W: Write, A: Allocator + Copy>(
     requires group { NoGroupFirst unpacker.old.rest }
     requires offset { unpacker.old.offset < 2 ^ 64 }
     requires room { length bytes.now ≤ 65536 }
-    ensures { ServesPacked piece limits unpacker.old framer.old bytes.now (outgoing (W.contents (inner_of writer.old)) text.old.items)
+    ensures { ServesPacked piece limits unpacker.old framer.old bytes.now
+        (outgoing (W.contents (inner_of writer.old)) text.old.items)
         (outgoing (W.contents (inner_of writer.new)) text.new.items) (has_failed writer.new) result unpacker.new framer.new }
 {
     let mut at = 0;

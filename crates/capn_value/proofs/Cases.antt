@@ -1,18 +1,26 @@
 -- What holds of a value of one of several kinds, as the arms of a match tell it.
-use Rattle.std.proofs.Common.{◌≡◌, ℕ, List, Bool, true, false, ◌||◌, None, ◌⊎◌, inl, inr, refl, length, ap, ap₂, sym, ◌∙◌, nat_lt}
+use Rattle.std.proofs.Common.{◌≡◌, ℕ, List, Bool, true, false, ◌||◌, None, ◌⊎◌, inl, inr, refl, length, ap, ap₂, sym}
+use Rattle.std.proofs.Common.{◌∙◌, nat_lt}
 use Rattle.capn_value.specs.Tree.{Tree, voids, bits, bytes, pairs, quads, octs, links}
 use Rattle.capn_value.specs.View.{tree_of, trees_of}
-use Rattle.capn_value.specs.Views.{tree_of-Nil, tree_of-Node, tree_of-Voids, tree_of-Bits, tree_of-Bytes, tree_of-Pairs, tree_of-Quads, tree_of-Octs, tree_of-Links, tree_of-Rows, tree_of-Cap, count-trees_of}
+use Rattle.capn_value.specs.Views.{tree_of-Nil, tree_of-Node, tree_of-Voids, tree_of-Bits, tree_of-Bytes, tree_of-Pairs}
+use Rattle.capn_value.specs.Views.{tree_of-Quads, tree_of-Octs, tree_of-Links, tree_of-Rows, tree_of-Cap}
+use Rattle.capn_value.specs.Views.{count-trees_of}
 use Rattle.capn_value.specs.Caps.{first_cap}
 use Rattle.capn_value.specs.Sizes.{height}
 use Rattle.capn_value.specs.Fits.{is_wide, is_long, is_ragged, is_root, elements, words_in_rows}
-use Rattle.capn_value.specs.declared.value.Value.{Value, Nil, Node, Voids, Bits, Bytes, Pairs, Quads, Octs, Links, Rows, Cap}
+use Rattle.capn_value.specs.declared.value.Value.{Value, Nil, Node, Voids, Bits, Bytes, Pairs, Quads, Octs, Links, Rows}
+use Rattle.capn_value.specs.declared.value.Value.{Cap}
 use Rattle.capn_value.specs.declared.value.Body.{Body}
 use Rattle.capn_value.proofs.Anywhere.{or_no_more}
 
 module _ {A : Type 0} where
   abbrev IsNoCap : Value A → Type 0
-  IsNoCap v = (v ≡ Nil) ⊎ (((n : ℕ) × (v ≡ Voids n)) ⊎ (((xs : List Bool) × (v ≡ Bits xs)) ⊎ (((xs : List ℕ) × (v ≡ Bytes xs)) ⊎ (((xs : List ℕ) × (v ≡ Pairs xs)) ⊎ (((xs : List ℕ) × (v ≡ Quads xs)) ⊎ ((xs : List ℕ) × (v ≡ Octs xs)))))))
+  IsNoCap v = (v ≡ Nil)
+      ⊎ (((n : ℕ) × (v ≡ Voids n))
+      ⊎ (((xs : List Bool) × (v ≡ Bits xs))
+      ⊎ (((xs : List ℕ) × (v ≡ Bytes xs))
+      ⊎ (((xs : List ℕ) × (v ≡ Pairs xs)) ⊎ (((xs : List ℕ) × (v ≡ Quads xs)) ⊎ ((xs : List ℕ) × (v ≡ Octs xs)))))))
 
   pub no_cap : (v : Value A) → IsNoCap v → None ≡ first_cap (tree_of v)
   no_cap v (inl e) = rw (e, tree_of-Nil) refl
@@ -24,7 +32,13 @@ module _ {A : Type 0} where
   no_cap v (inr (inr (inr (inr (inr (inr p)))))) = rw (p.1, tree_of-Octs) refl
 
   abbrev IsNarrow : Value A → Type 0
-  IsNarrow v = (v ≡ Nil) ⊎ (((n : ℕ) × (v ≡ Voids n)) ⊎ (((xs : List Bool) × (v ≡ Bits xs)) ⊎ (((xs : List ℕ) × (v ≡ Bytes xs)) ⊎ (((xs : List ℕ) × (v ≡ Pairs xs)) ⊎ (((xs : List ℕ) × (v ≡ Quads xs)) ⊎ (((xs : List ℕ) × (v ≡ Octs xs)) ⊎ (((vs : List (Value A)) × (v ≡ Links vs)) ⊎ ((k : ℕ) × (v ≡ Cap k)))))))))
+  IsNarrow v = (v ≡ Nil)
+      ⊎ (((n : ℕ) × (v ≡ Voids n))
+      ⊎ (((xs : List Bool) × (v ≡ Bits xs))
+      ⊎ (((xs : List ℕ) × (v ≡ Bytes xs))
+      ⊎ (((xs : List ℕ) × (v ≡ Pairs xs))
+      ⊎ (((xs : List ℕ) × (v ≡ Quads xs))
+      ⊎ (((xs : List ℕ) × (v ≡ Octs xs)) ⊎ (((vs : List (Value A)) × (v ≡ Links vs)) ⊎ ((k : ℕ) × (v ≡ Cap k)))))))))
 
   pub narrow : (v : Value A) → IsNarrow v → false ≡ is_wide (tree_of v)
   narrow v (inl e) = rw (e, tree_of-Nil) refl
@@ -38,7 +52,14 @@ module _ {A : Type 0} where
   narrow v (inr (inr (inr (inr (inr (inr (inr (inr p)))))))) = rw (p.1, tree_of-Cap) refl
 
   abbrev IsEven : Value A → Type 0
-  IsEven v = (v ≡ Nil) ⊎ (((b : Body A) × (v ≡ Node b)) ⊎ (((n : ℕ) × (v ≡ Voids n)) ⊎ (((xs : List Bool) × (v ≡ Bits xs)) ⊎ (((xs : List ℕ) × (v ≡ Bytes xs)) ⊎ (((xs : List ℕ) × (v ≡ Pairs xs)) ⊎ (((xs : List ℕ) × (v ≡ Quads xs)) ⊎ (((xs : List ℕ) × (v ≡ Octs xs)) ⊎ (((vs : List (Value A)) × (v ≡ Links vs)) ⊎ ((k : ℕ) × (v ≡ Cap k))))))))))
+  IsEven v = (v ≡ Nil)
+      ⊎ (((b : Body A) × (v ≡ Node b))
+      ⊎ (((n : ℕ) × (v ≡ Voids n))
+      ⊎ (((xs : List Bool) × (v ≡ Bits xs))
+      ⊎ (((xs : List ℕ) × (v ≡ Bytes xs))
+      ⊎ (((xs : List ℕ) × (v ≡ Pairs xs))
+      ⊎ (((xs : List ℕ) × (v ≡ Quads xs))
+      ⊎ (((xs : List ℕ) × (v ≡ Octs xs)) ⊎ (((vs : List (Value A)) × (v ≡ Links vs)) ⊎ ((k : ℕ) × (v ≡ Cap k))))))))))
 
   pub even : (v : Value A) → IsEven v → false ≡ is_ragged (tree_of v)
   even v (inl e) = rw (e, tree_of-Nil) refl
@@ -53,7 +74,10 @@ module _ {A : Type 0} where
   even v (inr (inr (inr (inr (inr (inr (inr (inr (inr p))))))))) = rw (p.1, tree_of-Cap) refl
 
   abbrev IsLow : Value A → Type 0
-  IsLow v = ((n : ℕ) × (v ≡ Voids n)) ⊎ (((xs : List Bool) × (v ≡ Bits xs)) ⊎ (((xs : List ℕ) × (v ≡ Bytes xs)) ⊎ (((xs : List ℕ) × (v ≡ Pairs xs)) ⊎ (((xs : List ℕ) × (v ≡ Quads xs)) ⊎ ((xs : List ℕ) × (v ≡ Octs xs))))))
+  IsLow v = ((n : ℕ) × (v ≡ Voids n))
+      ⊎ (((xs : List Bool) × (v ≡ Bits xs))
+      ⊎ (((xs : List ℕ) × (v ≡ Bytes xs))
+      ⊎ (((xs : List ℕ) × (v ≡ Pairs xs)) ⊎ (((xs : List ℕ) × (v ≡ Quads xs)) ⊎ ((xs : List ℕ) × (v ≡ Octs xs))))))
 
   pub low : (v : Value A) → IsLow v → height (tree_of v) ≡ 1
   low v (inl p) = rw (p.1, tree_of-Voids) refl
@@ -71,7 +95,15 @@ module _ {A : Type 0} where
   no_object v (inr p) = rw (p.1, tree_of-Cap) refl
 
   abbrev IsRooted : Value A → Type 0
-  IsRooted v = (v ≡ Nil) ⊎ (((b : Body A) × (v ≡ Node b)) ⊎ (((n : ℕ) × (v ≡ Voids n)) ⊎ (((xs : List Bool) × (v ≡ Bits xs)) ⊎ (((xs : List ℕ) × (v ≡ Bytes xs)) ⊎ (((xs : List ℕ) × (v ≡ Pairs xs)) ⊎ (((xs : List ℕ) × (v ≡ Quads xs)) ⊎ (((xs : List ℕ) × (v ≡ Octs xs)) ⊎ (((vs : List (Value A)) × (v ≡ Links vs)) ⊎ ((bs : List (Body A)) × (v ≡ Rows bs))))))))))
+  IsRooted v = (v ≡ Nil)
+      ⊎ (((b : Body A) × (v ≡ Node b))
+      ⊎ (((n : ℕ) × (v ≡ Voids n))
+      ⊎ (((xs : List Bool) × (v ≡ Bits xs))
+      ⊎ (((xs : List ℕ) × (v ≡ Bytes xs))
+      ⊎ (((xs : List ℕ) × (v ≡ Pairs xs))
+      ⊎ (((xs : List ℕ) × (v ≡ Quads xs))
+      ⊎ (((xs : List ℕ) × (v ≡ Octs xs))
+      ⊎ (((vs : List (Value A)) × (v ≡ Links vs)) ⊎ ((bs : List (Body A)) × (v ≡ Rows bs))))))))))
 
   pub rooted : (v : Value A) → IsRooted v → true ≡ is_root (tree_of v)
   rooted v (inl e) = rw (e, tree_of-Nil) refl
@@ -94,9 +126,11 @@ module _ {A : Type 0} where
   short v (inr (inr p)) = rw (p.1, tree_of-Cap) refl
 
   -- a list that is no list of structs, by the number of its elements
-  counted : (v : Value A) (t : Tree) {n : ℕ} → tree_of v ≡ t → words_in_rows t ≡ 0 → n ≡ elements t → nat_lt 536870911 n ≡ is_long (tree_of v)
+  counted : (v : Value A) (t : Tree) {n : ℕ} → tree_of v ≡ t → words_in_rows t ≡ 0 → n ≡ elements t
+      → nat_lt 536870911 n ≡ is_long (tree_of v)
   counted v t {n} e f g =
-      or_no_more (nat_lt 536870911 n) ∙ ap₂ (λ m w. nat_lt 536870911 m || nat_lt 536870911 w) g (sym f) ∙ sym (ap is_long e)
+      or_no_more (nat_lt 536870911 n) ∙ ap₂ (λ m w. nat_lt 536870911 m || nat_lt 536870911 w) g (sym f)
+      ∙ sym (ap is_long e)
 
   module _ (v : Value A) {n : ℕ} where
     pub voids_long : {m : ℕ} → v ≡ Voids m → n ≡ m → nat_lt 536870911 n ≡ is_long (tree_of v)
@@ -118,4 +152,5 @@ module _ {A : Type 0} where
     octs_long {xs} e g = counted v (octs xs) (ap tree_of e ∙ tree_of-Octs A xs) refl g
 
     pub links_long : (vs : List (Value A)) → v ≡ Links vs → n ≡ length vs → nat_lt 536870911 n ≡ is_long (tree_of v)
-    links_long vs e g = counted v (links (trees_of vs)) (ap tree_of e ∙ tree_of-Links vs) refl (g ∙ sym (count-trees_of vs))
+    links_long vs e g =
+        counted v (links (trees_of vs)) (ap tree_of e ∙ tree_of-Links vs) refl (g ∙ sym (count-trees_of vs))

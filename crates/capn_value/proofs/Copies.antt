@@ -1,9 +1,12 @@
 -- A value of a known kind, over another allocator: its tree is the same if its content is.
 use Rattle.std.proofs.Common.{◌≡◌, ℕ, ◌+◌, ◌<◌, List, [], ◌∷◌, ◌++◌, length, get_or, drop, Bool, sym, ap, ap₂, ◌∙◌}
-use Rattle.capn_value.specs.Tree.{Trees, tree, Bodies, body, joined, joined_rows, node, bits, bytes, pairs, quads, octs, links, rows}
+use Rattle.capn_value.specs.Tree.{Trees, tree, Bodies, body, joined, joined_rows, node, bits, bytes, pairs, quads, octs}
+use Rattle.capn_value.specs.Tree.{links, rows}
 use Rattle.capn_value.specs.View.{tree_of, trees_of, rows_of}
-use Rattle.capn_value.specs.Views.{tree_of-Nil, tree_of-Node, tree_of-Voids, tree_of-Bits, tree_of-Bytes, tree_of-Pairs, tree_of-Quads, tree_of-Octs, tree_of-Links, tree_of-Rows, tree_of-Cap}
-use Rattle.capn_value.specs.declared.value.Value.{Value, Nil, Node, Voids, Bits, Bytes, Pairs, Quads, Octs, Links, Rows, Cap}
+use Rattle.capn_value.specs.Views.{tree_of-Nil, tree_of-Node, tree_of-Voids, tree_of-Bits, tree_of-Bytes, tree_of-Pairs}
+use Rattle.capn_value.specs.Views.{tree_of-Quads, tree_of-Octs, tree_of-Links, tree_of-Rows, tree_of-Cap}
+use Rattle.capn_value.specs.declared.value.Value.{Value, Nil, Node, Voids, Bits, Bytes, Pairs, Quads, Octs, Links, Rows}
+use Rattle.capn_value.specs.declared.value.Value.{Cap}
 use Rattle.capn_value.specs.declared.value.Body.{Body}
 use Rattle.capn_value.proofs.Anywhere.{drop-next, drop-past}
 use Rattle.capn_value.proofs.Joined.{joined-push, joined_rows-push, joined-none, joined_rows-none}
@@ -33,19 +36,24 @@ module _ (A : Type 0) {B : Type 0} (v : Value B) where
   pub cap_kept : {k : ℕ} → v ≡ Cap k → tree_of {A = A} (Cap k) ≡ tree_of v
   cap_kept {k} e = tree_of-Cap A k ∙ sym (ap tree_of e ∙ tree_of-Cap B k)
 
-  pub node_kept : (b : Body B) (r : Body A) → v ≡ Node b → r.words ≡ b.words → trees_of r.slots ≡ trees_of b.slots → tree_of (Node r) ≡ tree_of v
+  pub node_kept : (b : Body B) (r : Body A) → v ≡ Node b → r.words ≡ b.words → trees_of r.slots ≡ trees_of b.slots
+      → tree_of (Node r) ≡ tree_of v
   node_kept b r e f h = tree_of-Node r ∙ ap₂ node f h ∙ sym (ap tree_of e ∙ tree_of-Node b)
 
   -- the parameter `s` is the slice of the elements
-  pub links_kept : (vs s : List (Value B)) (us : List (Value A)) → v ≡ Links vs → s ≡ vs → trees_of us ≡ trees_of s → tree_of (Links us) ≡ tree_of v
+  pub links_kept : (vs s : List (Value B)) (us : List (Value A)) → v ≡ Links vs → s ≡ vs → trees_of us ≡ trees_of s
+      → tree_of (Links us) ≡ tree_of v
   links_kept vs s us e f h = tree_of-Links us ∙ ap links (h ∙ ap trees_of f) ∙ sym (ap tree_of e ∙ tree_of-Links vs)
 
-  pub rows_kept : (bs s : List (Body B)) (cs : List (Body A)) → v ≡ Rows bs → s ≡ bs → rows_of cs ≡ rows_of s → tree_of (Rows cs) ≡ tree_of v
+  pub rows_kept : (bs s : List (Body B)) (cs : List (Body A)) → v ≡ Rows bs → s ≡ bs → rows_of cs ≡ rows_of s
+      → tree_of (Rows cs) ≡ tree_of v
   rows_kept bs s cs e f h = tree_of-Rows cs ∙ ap rows (h ∙ ap rows_of f) ∙ sym (ap tree_of e ∙ tree_of-Rows bs)
 
 -- a loop that copies one element after another: one more, and all of them
-module _ {A B : Type 0} (out : List (Value A)) (items : List (Value B)) (i : ℕ) {all : Trees} (so_far : joined (trees_of out) (trees_of (drop i items)) ≡ all) where
-  pub each_copied : (v : Value B) (r : Value A) {more : List (Value A)} → i < length items → v ≡ get_or items i v → tree_of r ≡ tree_of v →
+module _ {A B : Type 0} (out : List (Value A)) (items : List (Value B)) (i : ℕ) {all : Trees}
+    (so_far : joined (trees_of out) (trees_of (drop i items)) ≡ all) where
+  pub each_copied : (v : Value B) (r : Value A) {more : List (Value A)} → i < length items → v ≡ get_or items i v
+      → tree_of r ≡ tree_of v →
       more ≡ out ++ r ∷ [] → joined (trees_of more) (trees_of (drop (i + 1) items)) ≡ all
   each_copied v r h at e p =
       let rest = trees_of (drop (i + 1) items) in
@@ -53,15 +61,21 @@ module _ {A B : Type 0} (out : List (Value A)) (items : List (Value B)) (i : ℕ
       ∙ sym (ap (λ vs. joined (trees_of out) (trees_of vs)) (drop-next items i v h at)) ∙ so_far
 
   pub all_copied : i ≡ length items → trees_of out ≡ all
-  all_copied e = sym (joined-none (trees_of out)) ∙ sym (ap (λ vs. joined (trees_of out) (trees_of vs)) (drop-past items i e)) ∙ so_far
+  all_copied e = sym (joined-none (trees_of out))
+      ∙ sym (ap (λ vs. joined (trees_of out) (trees_of vs)) (drop-past items i e)) ∙ so_far
 
-module _ {A B : Type 0} (out : List (Body A)) (rows : List (Body B)) (i : ℕ) {all : Bodies} (so_far : joined_rows (rows_of out) (rows_of (drop i rows)) ≡ all) where
-  pub row_copied : (b : Body B) (r : Body A) {more : List (Body A)} → i < length rows → b ≡ get_or rows i b → r.words ≡ b.words →
-      trees_of r.slots ≡ trees_of b.slots → more ≡ out ++ r ∷ [] → joined_rows (rows_of more) (rows_of (drop (i + 1) rows)) ≡ all
+module _ {A B : Type 0} (out : List (Body A)) (rows : List (Body B)) (i : ℕ) {all : Bodies}
+    (so_far : joined_rows (rows_of out) (rows_of (drop i rows)) ≡ all) where
+  pub row_copied : (b : Body B) (r : Body A) {more : List (Body A)} → i < length rows → b ≡ get_or rows i b
+      → r.words ≡ b.words →
+      trees_of r.slots ≡ trees_of b.slots → more ≡ out ++ r ∷ []
+      → joined_rows (rows_of more) (rows_of (drop (i + 1) rows)) ≡ all
   row_copied b r h at e f p =
       let rest = rows_of (drop (i + 1) rows) in
-      ap (λ o. joined_rows (rows_of o) rest) p ∙ joined_rows-push out r rest ∙ ap₂ (λ ws ss. joined_rows (rows_of out) (body ws ss rest)) e f
+      ap (λ o. joined_rows (rows_of o) rest) p ∙ joined_rows-push out r rest
+      ∙ ap₂ (λ ws ss. joined_rows (rows_of out) (body ws ss rest)) e f
       ∙ sym (ap (λ bs. joined_rows (rows_of out) (rows_of bs)) (drop-next rows i b h at)) ∙ so_far
 
   pub rows_copied : i ≡ length rows → rows_of out ≡ all
-  rows_copied e = sym (joined_rows-none (rows_of out)) ∙ sym (ap (λ bs. joined_rows (rows_of out) (rows_of bs)) (drop-past rows i e)) ∙ so_far
+  rows_copied e = sym (joined_rows-none (rows_of out))
+      ∙ sym (ap (λ bs. joined_rows (rows_of out) (rows_of bs)) (drop-past rows i e)) ∙ so_far

@@ -43,12 +43,17 @@ module _ {A : Type 0} where
     pub in_slots : (b : Body A) {s : List (Value A)} → v ≡ Node b → s ≡ b.slots → most (size-Value A) s < size-Value A v
     in_slots b e f = let outer = in_node b e in let inner = in_body b f in omega arith
 
-  pub item_below : (items : List (Value A)) (i : ℕ) (v : Value A) → i < length items → v ≡ get_or items i v → size-Value A v ≤ most (size-Value A) items
-  item_below items i v h e = let within = at_most (size-Value A) items i v h in let same = ap (size-Value A) e in omega arith
+  pub item_below : (items : List (Value A)) (i : ℕ) (v : Value A) → i < length items → v ≡ get_or items i v
+      → size-Value A v ≤ most (size-Value A) items
+  item_below items i v h e = let within = at_most (size-Value A) items i v h in let same = ap (size-Value A) e in
+      omega arith
 
-  pub row_below : (bodies : List (Body A)) (i : ℕ) (b : Body A) → i < length bodies → b ≡ get_or bodies i b → size-Body A b ≤ most (size-Body A) bodies
-  row_below bodies i b h e = let within = at_most (size-Body A) bodies i b h in let same = ap (size-Body A) e in omega arith
+  pub row_below : (bodies : List (Body A)) (i : ℕ) (b : Body A) → i < length bodies → b ≡ get_or bodies i b
+      → size-Body A b ≤ most (size-Body A) bodies
+  row_below bodies i b h e = let within = at_most (size-Body A) bodies i b h in let same = ap (size-Body A) e in
+      omega arith
 
-  pub row_slots_below : (bodies : List (Body A)) (i : ℕ) (b : Body A) {s : List (Value A)} → i < length bodies → b ≡ get_or bodies i b → s ≡ b.slots →
+  pub row_slots_below : (bodies : List (Body A)) (i : ℕ) (b : Body A) {s : List (Value A)} → i < length bodies
+      → b ≡ get_or bodies i b → s ≡ b.slots →
       most (size-Value A) s < most (size-Body A) bodies
   row_slots_below bodies i b h e f = let within = row_below bodies i b h e in let inner = in_body b f in omega arith

@@ -17,7 +17,8 @@ pub encode_lower-cons : (b : ℕ) (bs : List ℕ) → encode_lower (b ∷ bs) �
 unfolding encode_with
 encode_lower-cons b bs = refl
 
-pub encode_lower-one : (b : ℕ) → encode_lower (b ∷ []) ≡ slice_index lower_digits (b / 16) ∷ slice_index lower_digits (b % 16) ∷ []
+pub encode_lower-one : (b : ℕ)
+    → encode_lower (b ∷ []) ≡ slice_index lower_digits (b / 16) ∷ slice_index lower_digits (b % 16) ∷ []
 unfolding encode_with
 encode_lower-one b = refl
 

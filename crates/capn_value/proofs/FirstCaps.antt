@@ -15,10 +15,12 @@ module _ {A : Type 0} {all : Option ℕ} where
     next : (v : Value A) → i < length items → v ≡ get_or items i v → option_or (first_cap (tree_of v)) later ≡ all
     next v h at = sym (ap (λ vs. first_in (trees_of vs)) (drop-next items i v h at)) ∙ so_far
 
-    pub cap_here : (v : Value A) (k : ℕ) → i < length items → v ≡ get_or items i v → first_cap (tree_of v) ≡ Some k → Some k ≡ all
+    pub cap_here : (v : Value A) (k : ℕ) → i < length items → v ≡ get_or items i v → first_cap (tree_of v) ≡ Some k
+        → Some k ≡ all
     cap_here v k h at e = ap (λ o. option_or o later) (sym e) ∙ next v h at
 
-    pub cap_later : (v : Value A) → i < length items → v ≡ get_or items i v → first_cap (tree_of v) ≡ None → first_in (trees_of (drop (i + 1) items)) ≡ all
+    pub cap_later : (v : Value A) → i < length items → v ≡ get_or items i v → first_cap (tree_of v) ≡ None
+        → first_in (trees_of (drop (i + 1) items)) ≡ all
     cap_later v h at e = ap (λ o. option_or o later) (sym e) ∙ next v h at
 
     pub cap_nowhere : i ≡ length items → None ≡ all
@@ -28,10 +30,12 @@ module _ {A : Type 0} {all : Option ℕ} where
     abbrev below : Option ℕ
     below = first_in_rows (rows_of (drop (i + 1) rows))
 
-    next_row : (b : Body A) → i < length rows → b ≡ get_or rows i b → option_or (first_in (trees_of b.slots)) below ≡ all
+    next_row : (b : Body A) → i < length rows → b ≡ get_or rows i b
+        → option_or (first_in (trees_of b.slots)) below ≡ all
     next_row b h at = sym (ap (λ bs. first_in_rows (rows_of bs)) (drop-next rows i b h at)) ∙ so_far
 
-    pub cap_in_row : (b : Body A) (k : ℕ) → i < length rows → b ≡ get_or rows i b → first_in (trees_of b.slots) ≡ Some k → Some k ≡ all
+    pub cap_in_row : (b : Body A) (k : ℕ) → i < length rows → b ≡ get_or rows i b → first_in (trees_of b.slots) ≡ Some k
+        → Some k ≡ all
     cap_in_row b k h at e = ap (λ o. option_or o below) (sym e) ∙ next_row b h at
 
     pub cap_below : (b : Body A) → i < length rows → b ≡ get_or rows i b → first_in (trees_of b.slots) ≡ None →

@@ -10,7 +10,9 @@ use Rattle.capn_value.specs.declared.misfit.Misfit.TheVariants.{Wide, Long, Ragg
 -- the first of six tests that holds
 abbrev choice : (a b c d e f : Bool) → Option Misfit
 choice a b c d e f =
-    cond a (Some Wide) (cond b (Some Long) (cond c (Some Ragged) (cond d (Some Costly) (cond e (Some Tall) (cond f None (Some BadRoot))))))
+    cond a (Some Wide)
+    (cond b (Some Long)
+    (cond c (Some Ragged) (cond d (Some Costly) (cond e (Some Tall) (cond f None (Some BadRoot))))))
 
 abbrev IsChoice : Misfit → (a b c d e f : Bool) → Type 0
 IsChoice Wide a b c d e f = a ≡ true
@@ -78,9 +80,21 @@ both a b c d e f k = (chosen a b c d e f k, choosing a b c d e f k)
 -- a value's misfit is chosen by its six tests
 pub first_misfit : (t : Tree) (k : Misfit) → (misfit t ≡ Some k) ↔ IsFirst k t
 unfolding misfit
-first_misfit t Wide = both (anywhere is_wide t) (anywhere is_long t) (anywhere is_ragged t) (nat_lt most_cost (cost (base Plain) t)) (nat_lt most_height (height t)) (is_root t) Wide
-first_misfit t Long = both (anywhere is_wide t) (anywhere is_long t) (anywhere is_ragged t) (nat_lt most_cost (cost (base Plain) t)) (nat_lt most_height (height t)) (is_root t) Long
-first_misfit t Ragged = both (anywhere is_wide t) (anywhere is_long t) (anywhere is_ragged t) (nat_lt most_cost (cost (base Plain) t)) (nat_lt most_height (height t)) (is_root t) Ragged
-first_misfit t Costly = both (anywhere is_wide t) (anywhere is_long t) (anywhere is_ragged t) (nat_lt most_cost (cost (base Plain) t)) (nat_lt most_height (height t)) (is_root t) Costly
-first_misfit t Tall = both (anywhere is_wide t) (anywhere is_long t) (anywhere is_ragged t) (nat_lt most_cost (cost (base Plain) t)) (nat_lt most_height (height t)) (is_root t) Tall
-first_misfit t BadRoot = both (anywhere is_wide t) (anywhere is_long t) (anywhere is_ragged t) (nat_lt most_cost (cost (base Plain) t)) (nat_lt most_height (height t)) (is_root t) BadRoot
+first_misfit t Wide =
+    both (anywhere is_wide t) (anywhere is_long t) (anywhere is_ragged t) (nat_lt most_cost (cost (base Plain) t))
+    (nat_lt most_height (height t)) (is_root t) Wide
+first_misfit t Long =
+    both (anywhere is_wide t) (anywhere is_long t) (anywhere is_ragged t) (nat_lt most_cost (cost (base Plain) t))
+    (nat_lt most_height (height t)) (is_root t) Long
+first_misfit t Ragged =
+    both (anywhere is_wide t) (anywhere is_long t) (anywhere is_ragged t) (nat_lt most_cost (cost (base Plain) t))
+    (nat_lt most_height (height t)) (is_root t) Ragged
+first_misfit t Costly =
+    both (anywhere is_wide t) (anywhere is_long t) (anywhere is_ragged t) (nat_lt most_cost (cost (base Plain) t))
+    (nat_lt most_height (height t)) (is_root t) Costly
+first_misfit t Tall =
+    both (anywhere is_wide t) (anywhere is_long t) (anywhere is_ragged t) (nat_lt most_cost (cost (base Plain) t))
+    (nat_lt most_height (height t)) (is_root t) Tall
+first_misfit t BadRoot =
+    both (anywhere is_wide t) (anywhere is_long t) (anywhere is_ragged t) (nat_lt most_cost (cost (base Plain) t))
+    (nat_lt most_height (height t)) (is_root t) BadRoot

@@ -1,11 +1,14 @@
 -- A value is given back by its tree.
 use Rattle.std.proofs.Common.{◌≡◌, List, [], ◌∷◌, map, refl, sym, ap, ap₂, ◌∙◌, subst}
 use Rattle.capn_value.specs.View.{tree_of, trees_of, rows_of}
-use Rattle.capn_value.specs.Views.{tree_of-Nil, tree_of-Node, tree_of-Voids, tree_of-Bits, tree_of-Bytes, tree_of-Pairs, tree_of-Quads, tree_of-Octs, tree_of-Links, tree_of-Rows, tree_of-Cap}
+use Rattle.capn_value.specs.Views.{tree_of-Nil, tree_of-Node, tree_of-Voids, tree_of-Bits, tree_of-Bytes, tree_of-Pairs}
+use Rattle.capn_value.specs.Views.{tree_of-Quads, tree_of-Octs, tree_of-Links, tree_of-Rows, tree_of-Cap}
 use Rattle.capn_value.specs.Code.{value_of, values_of, bodies_of}
 use Rattle.capn_value.specs.declared.value.Value.{Value, Node, Links, Rows, ind-Value, map-Value, roll-Value}
 use Rattle.capn_value.specs.declared.value.Value.TheOpen.{Value-F}
-use Rattle.capn_value.specs.declared.value.Value.TheVariants.{rolls-Nil, rolls-Node, rolls-Voids, rolls-Bits, rolls-Bytes, rolls-Pairs, rolls-Quads, rolls-Octs, rolls-Links, rolls-Rows, rolls-Cap}
+use Rattle.capn_value.specs.declared.value.Value.TheVariants.{rolls-Nil, rolls-Node, rolls-Voids, rolls-Bits}
+use Rattle.capn_value.specs.declared.value.Value.TheVariants.{rolls-Bytes, rolls-Pairs, rolls-Quads, rolls-Octs}
+use Rattle.capn_value.specs.declared.value.Value.TheVariants.{rolls-Links, rolls-Rows, rolls-Cap}
 use Rattle.capn_value.specs.declared.value.Body.{Body}
 
 module _ (A : Type 0) where
@@ -19,10 +22,12 @@ module _ (A : Type 0) where
   values_back [] = refl
   values_back (e ∷ es) = ap₂ (λ x xs. x ∷ xs) e.1 (values_back es)
 
-  body_back : (b : Body A) → IsBodyBack b → (let made : Body A = record { words = b.words; slots = values_of A (trees_of b.slots) } in made) ≡ b
+  body_back : (b : Body A) → IsBodyBack b
+      → (let made : Body A = record { words = b.words; slots = values_of A (trees_of b.slots) } in made) ≡ b
   body_back b e = λ i. record { words = b.words; slots = e i }
 
-  bodies_back : (es : List ((b : Body A) × IsBodyBack b)) → bodies_of A (rows_of (map (λ e. e.0) es)) ≡ map (λ e. e.0) es
+  bodies_back : (es : List ((b : Body A) × IsBodyBack b))
+      → bodies_of A (rows_of (map (λ e. e.0) es)) ≡ map (λ e. e.0) es
   bodies_back [] = refl
   bodies_back (e ∷ es) = ap₂ (λ x xs. x ∷ xs) (body_back e.0 e.1) (bodies_back es)
 
@@ -32,17 +37,23 @@ module _ (A : Type 0) where
   abbrev BodyChild : Type 0
   BodyChild = (b : Body A) × IsBodyBack b
 
-  level : (y : Value-F A Child BodyChild) → IsBack (roll-Value A (map-Value A Child BodyChild (Value A) (Body A) (λ e. e.0) (λ e. e.0) y))
+  level : (y : Value-F A Child BodyChild)
+      → IsBack (roll-Value A (map-Value A Child BodyChild (Value A) (Body A) (λ e. e.0) (λ e. e.0) y))
   level Value-F.Nil = subst IsBack (sym rolls-Nil) (ap (value_of A) (tree_of-Nil A))
-  level (Value-F.Node e) = subst IsBack (sym (rolls-Node e.0)) (ap (value_of A) (tree_of-Node e.0) ∙ ap Node (body_back e.0 e.1))
+  level (Value-F.Node e) =
+      subst IsBack (sym (rolls-Node e.0)) (ap (value_of A) (tree_of-Node e.0) ∙ ap Node (body_back e.0 e.1))
   level (Value-F.Voids n) = subst IsBack (sym (rolls-Voids n)) (ap (value_of A) (tree_of-Voids A n))
   level (Value-F.Bits xs) = subst IsBack (sym (rolls-Bits xs)) (ap (value_of A) (tree_of-Bits A xs))
   level (Value-F.Bytes xs) = subst IsBack (sym (rolls-Bytes xs)) (ap (value_of A) (tree_of-Bytes A xs))
   level (Value-F.Pairs xs) = subst IsBack (sym (rolls-Pairs xs)) (ap (value_of A) (tree_of-Pairs A xs))
   level (Value-F.Quads xs) = subst IsBack (sym (rolls-Quads xs)) (ap (value_of A) (tree_of-Quads A xs))
   level (Value-F.Octs xs) = subst IsBack (sym (rolls-Octs xs)) (ap (value_of A) (tree_of-Octs A xs))
-  level (Value-F.Links es) = subst IsBack (sym (rolls-Links (map (λ e. e.0) es))) (ap (value_of A) (tree_of-Links (map (λ e. e.0) es)) ∙ ap Links (values_back es))
-  level (Value-F.Rows es) = subst IsBack (sym (rolls-Rows (map (λ e. e.0) es))) (ap (value_of A) (tree_of-Rows (map (λ e. e.0) es)) ∙ ap Rows (bodies_back es))
+  level (Value-F.Links es) =
+      subst IsBack (sym (rolls-Links (map (λ e. e.0) es))) (ap (value_of A) (tree_of-Links (map (λ e. e.0) es))
+      ∙ ap Links (values_back es))
+  level (Value-F.Rows es) =
+      subst IsBack (sym (rolls-Rows (map (λ e. e.0) es))) (ap (value_of A) (tree_of-Rows (map (λ e. e.0) es))
+      ∙ ap Rows (bodies_back es))
   level (Value-F.Cap k) = subst IsBack (sym (rolls-Cap k)) (ap (value_of A) (tree_of-Cap A k))
 
   pub value_of-tree_of : (v : Value A) → value_of A (tree_of v) ≡ v

@@ -8,7 +8,8 @@ use Rattle.capn_value.specs.Trim.{trimmed, trimmed_each}
 use Rattle.capn_value.specs.declared.value.Value.{Value}
 use Rattle.capn_value.specs.declared.value.Body.{Body}
 
-pub joined-push : {A : Type 0} (vs : List (Value A)) (v : Value A) (ts : Trees) → joined (trees_of (vs ++ v ∷ [])) ts ≡ joined (trees_of vs) (tree (tree_of v) ts)
+pub joined-push : {A : Type 0} (vs : List (Value A)) (v : Value A) (ts : Trees)
+    → joined (trees_of (vs ++ v ∷ [])) ts ≡ joined (trees_of vs) (tree (tree_of v) ts)
 joined-push [] v ts = refl
 joined-push (w ∷ vs) v ts = ap (tree (tree_of w)) (joined-push vs v ts)
 
@@ -35,7 +36,8 @@ trimmed_each-front zero ts = refl
 trimmed_each-front (suc n) no_trees = refl
 trimmed_each-front (suc n) (tree t ts) = ap (tree (trimmed t)) (trimmed_each-front n ts)
 
-pub ruleset joins = (joined-push, joined_rows-push, joined-none, joined_rows-none, trees_of-take, trimmed_each-front, take_min)
+pub ruleset joins =
+    (joined-push, joined_rows-push, joined-none, joined_rows-none, trees_of-take, trimmed_each-front, take_min)
 
 pub most-take : {X : Type 0} (size : X → ℕ) (n : ℕ) (xs : List X) → most size (take n xs) ≤ most size xs
 most-take size zero xs = omega arith

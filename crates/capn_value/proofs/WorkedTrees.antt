@@ -2,7 +2,8 @@
 use Rattle.std.proofs.Common.{◌≡◌, ℕ, ◌*◌, ◌+◌, ◌^◌, List, [], ◌∷◌, codes, true, false, refl, arith}
 use Rattle.std.specs.Fmt.{digits}
 use Rattle.hex.specs.Hex.{encode_with}
-use Rattle.capn_value.specs.Tree.{Tree, nil, node, voids, bits, bytes, links, rows, cap, no_trees, tree, no_bodies, body}
+use Rattle.capn_value.specs.Tree.{Tree, nil, node, voids, bits, bytes, links, rows, cap, no_trees, tree, no_bodies}
+use Rattle.capn_value.specs.Tree.{body}
 use Rattle.capn_value.specs.Trim.{trimmed}
 use Rattle.capn_value.specs.Sizes.{cost, height, rows_price}
 use Rattle.capn_value.specs.Same.{Same}
@@ -13,7 +14,8 @@ struct_trimmed : trimmed (node (5 ∷ 0 ∷ []) (tree (cap 3) (tree nil no_trees
 struct_trimmed = refl
 
 -- an empty struct in a slot stays
-empty_struct_stays : trimmed (node [] (tree (node (0 ∷ []) no_trees) no_trees)) ≡ node [] (tree (node [] no_trees) no_trees)
+empty_struct_stays : trimmed (node [] (tree (node (0 ∷ []) no_trees) no_trees))
+    ≡ node [] (tree (node [] no_trees) no_trees)
 empty_struct_stays = refl
 
 -- rows are cut together: the second word stays where one row has it

@@ -1,13 +1,15 @@
 -- Every number of a value is one that its type can hold (a natural number is never below 0).
 use Rattle.std.specs.Prelude.{ℕ, ◌<◌, ◌^◌, List, ⊤}
 use Rattle.std.specs.List.{AllByRecursion}
-use Rattle.capn_value.specs.Tree.{Tree, nil, node, voids, bits, bytes, pairs, quads, octs, links, rows, cap, Trees, no_trees, tree, Bodies, no_bodies, body}
+use Rattle.capn_value.specs.Tree.{Tree, nil, node, voids, bits, bytes, pairs, quads, octs, links, rows, cap, Trees}
+use Rattle.capn_value.specs.Tree.{no_trees, tree, Bodies, no_bodies, body}
 
 -- each number of the list is below the bound
 abbrev pub AllBelow : ℕ → List ℕ → Type 0
 AllBelow most xs = AllByRecursion (λ x. x < most) xs
 
--- words and the elements of `Octs` are below 2^64, those of `Quads`, counts of `Voids` and indices below 2^32, those of `Pairs` below 2^16, `Bytes` below 2^8
+-- words and the elements of `Octs` are below 2^64, those of `Quads`, counts of `Voids` and indices below 2^32, those
+-- of `Pairs` below 2^16, `Bytes` below 2^8
 abbrev mutual
   pub InRange : Tree → Type 0
   InRange nil = ⊤

@@ -27,7 +27,8 @@ SameOnceTrimmed = (t : Tree) → Same (trimmed t) t
 -- trimming raises neither cost, by either tariff, nor height, and keeps a value fit
 abbrev pub TrimmingIsThrifty : Type 0
 TrimmingIsThrifty = (t : Tree) → Fits t
-    → ((tariff : Tariff) → cost (base tariff) (trimmed t) ≤ cost (base tariff) t) × (height (trimmed t) ≤ height t) × Fits (trimmed t)
+    → ((tariff : Tariff) → cost (base tariff) (trimmed t) ≤ cost (base tariff) t) × (height (trimmed t) ≤ height t)
+    × Fits (trimmed t)
 
 -- to have no misfit is to have the six facts
 abbrev pub FittingIsSixFacts : Type 0

@@ -12,3 +12,4 @@ pub mod Laws
 pub mod Text
 pub mod Caps
 pub mod InRange
+pub mod Told

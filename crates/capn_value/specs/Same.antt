@@ -1,6 +1,8 @@
--- When two values are the same, up to trailing zero words and trailing null slots of structs (encoding page: "Canonicalization").
+-- When two values are the same, up to trailing zero words and trailing null slots of structs (encoding page:
+-- "Canonicalization").
 use Rattle.std.specs.Prelude.{ℕ, ◌≡◌, List, ⊤, slice_index}
-use Rattle.capn_value.specs.Tree.{Tree, nil, node, voids, bits, bytes, pairs, quads, octs, links, rows, cap, Trees, no_trees, tree, Bodies, no_bodies, body}
+use Rattle.capn_value.specs.Tree.{Tree, nil, node, voids, bits, bytes, pairs, quads, octs, links, rows, cap, Trees}
+use Rattle.capn_value.specs.Tree.{no_trees, tree, Bodies, no_bodies, body}
 
 -- word i is equal, 0 past the end
 abbrev pub SameWords : List ℕ → List ℕ → Type 0

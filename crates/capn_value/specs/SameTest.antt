@@ -1,8 +1,10 @@
--- The test that decides `Same`, which no public clause names: the functions compute it, and `proofs/Decided.antt` shows that the two agree.
+-- The test that decides `Same`, which no public clause names: the functions compute it, and `proofs/Decided.antt`
+-- shows that the two agree.
 use Rattle.std.specs.Prelude.{ℕ, ◌==◌, ◌&&◌, Bool, true, false, List, [], ◌∷◌}
 use Rattle.std.specs.Cmp.Lexicographic.{pointwise}
 use mathlib.Core.Bool.{beq}
-use Rattle.capn_value.specs.Tree.{Tree, nil, node, voids, bits, bytes, pairs, quads, octs, links, rows, cap, Trees, no_trees, tree, Bodies, no_bodies, body, is_null}
+use Rattle.capn_value.specs.Tree.{Tree, nil, node, voids, bits, bytes, pairs, quads, octs, links, rows, cap, Trees}
+use Rattle.capn_value.specs.Tree.{no_trees, tree, Bodies, no_bodies, body, is_null}
 
 -- word by word, with zeros past the shorter one's end
 abbrev pub test_words : List ℕ → List ℕ → Bool

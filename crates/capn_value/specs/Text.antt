@@ -3,7 +3,8 @@ use Rattle.std.specs.Prelude.{ℕ, zero, suc, ◌+◌, ◌*◌, List, [], ◌∷
 use Rattle.std.specs.Fmt.{decimal}
 use Rattle.std.specs.Int.{to_be_bytes, w64}
 use Rattle.hex.specs.Hex.{encode_lower}
-use Rattle.capn_value.specs.Tree.{Tree, nil, node, voids, bits, bytes, pairs, quads, octs, links, rows, cap, Trees, no_trees, tree, Bodies, no_bodies, body, count, count_rows}
+use Rattle.capn_value.specs.Tree.{Tree, nil, node, voids, bits, bytes, pairs, quads, octs, links, rows, cap, Trees}
+use Rattle.capn_value.specs.Tree.{no_trees, tree, Bodies, no_bodies, body, count, count_rows}
 
 -- one line
 unfoldable pub line : ℕ → List ℕ → List ℕ
@@ -50,10 +51,13 @@ body_line level w s = line level (codes "struct " ++ (decimal w ++ 32 ∷ decima
 abbrev mutual
   pub shown : ℕ → Tree → List ℕ
   shown level nil = line level (codes "null")
-  shown level (node ws ss) = body_line level (length ws) (count ss) ++ (word_lines (level + 1) ws ++ shown_each (level + 1) ss)
+  shown level (node ws ss) =
+      body_line level (length ws) (count ss) ++ (word_lines (level + 1) ws ++ shown_each (level + 1) ss)
   shown level (voids n) = line level (named (codes "void") n)
-  shown level (bits xs) = line level (named (codes "bits") (length xs)) ++ one_line (level + 1) (length xs) (digits_of xs)
-  shown level (bytes xs) = line level (named (codes "bytes") (length xs)) ++ one_line (level + 1) (length xs) (encode_lower xs)
+  shown level (bits xs) =
+      line level (named (codes "bits") (length xs)) ++ one_line (level + 1) (length xs) (digits_of xs)
+  shown level (bytes xs) =
+      line level (named (codes "bytes") (length xs)) ++ one_line (level + 1) (length xs) (encode_lower xs)
   shown level (pairs xs) = line level (named (codes "u16") (length xs)) ++ number_lines (level + 1) xs
   shown level (quads xs) = line level (named (codes "u32") (length xs)) ++ number_lines (level + 1) xs
   shown level (octs xs) = line level (named (codes "u64") (length xs)) ++ number_lines (level + 1) xs
@@ -67,7 +71,9 @@ abbrev mutual
 
   pub shown_rows : ℕ → Bodies → List ℕ
   shown_rows level no_bodies = []
-  shown_rows level (body ws ss bs) = body_line level (length ws) (count ss) ++ (word_lines (level + 1) ws ++ (shown_each (level + 1) ss ++ shown_rows level bs))
+  shown_rows level (body ws ss bs) =
+      body_line level (length ws) (count ss)
+      ++ (word_lines (level + 1) ws ++ (shown_each (level + 1) ss ++ shown_rows level bs))
 
 -- the root has level 0
 abbrev pub show_text : Tree → List ℕ

@@ -1,7 +1,9 @@
--- Values as mathematical trees: no capacity, no address, no allocator (encoding page: "Structs", "Lists", "Capabilities").
+-- Values as mathematical trees: no capacity, no address, no allocator (encoding page: "Structs", "Lists",
+-- "Capabilities").
 use Rattle.std.specs.Prelude.{ℕ, zero, suc, ◌+◌, List, Bool, true, false, length}
 
--- what a pointer denotes: null, a struct by its data words and slots, a list of one of eight kinds, or a capability by its index
+-- what a pointer denotes: null, a struct by its data words and slots, a list of one of eight kinds, or a capability
+-- by its index
 mutual
   pub data Tree : Type 0 where
     nil : Tree

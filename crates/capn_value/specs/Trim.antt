@@ -1,6 +1,7 @@
 -- Values without trailing zero words and null slots of structs (encoding page: "Canonicalization").
 use Rattle.std.specs.Prelude.{ℕ, ◌+◌, max, List, [], ◌∷◌, take, Bool, cond, ◌&&◌, ◌==◌}
-use Rattle.capn_value.specs.Tree.{Tree, nil, node, voids, bits, bytes, pairs, quads, octs, links, rows, cap, Trees, no_trees, tree, Bodies, no_bodies, body, front, is_null}
+use Rattle.capn_value.specs.Tree.{Tree, nil, node, voids, bits, bytes, pairs, quads, octs, links, rows, cap, Trees}
+use Rattle.capn_value.specs.Tree.{no_trees, tree, Bodies, no_bodies, body, front, is_null}
 
 -- one more than what is kept behind, unless this is empty too
 abbrev pub kept_behind : Bool → ℕ → ℕ

@@ -1,6 +1,7 @@
 -- The tree that a `Value` stands for: the bridge from the declared type to the mathematical one.
 use Rattle.std.specs.Prelude.{ℕ, List, [], ◌∷◌, map}
-use Rattle.capn_value.specs.Tree.{Tree, nil, node, voids, bits, bytes, pairs, quads, octs, links, rows, cap, Trees, no_trees, tree, Bodies, no_bodies, body}
+use Rattle.capn_value.specs.Tree.{Tree, nil, node, voids, bits, bytes, pairs, quads, octs, links, rows, cap, Trees}
+use Rattle.capn_value.specs.Tree.{no_trees, tree, Bodies, no_bodies, body}
 use Rattle.capn_value.specs.declared.value.Value.{Value, fold-Value}
 use Rattle.capn_value.specs.declared.value.Body.{Body}
 use Rattle.capn_value.specs.declared.value.Value.TheOpen.{Value-F, Body-F}

@@ -1,8 +1,10 @@
 -- The equations of `tree_of`, one for each kind.
 use Rattle.std.proofs.Common.{◌≡◌, ℕ, List, [], ◌∷◌, map, refl, ap, ap₂, ◌∙◌, rules, Bool, length, suc}
-use Rattle.capn_value.specs.Tree.{nil, node, voids, bits, bytes, pairs, quads, octs, links, rows, cap, tree, body, count, count_rows}
+use Rattle.capn_value.specs.Tree.{nil, node, voids, bits, bytes, pairs, quads, octs, links, rows, cap, tree, body}
+use Rattle.capn_value.specs.Tree.{count, count_rows}
 use Rattle.capn_value.specs.View.{trees, rows_from, tree_of, body_of, trees_of, rows_of}
-use Rattle.capn_value.specs.declared.value.Value.{Value, Nil, Node, Voids, Bits, Bytes, Pairs, Quads, Octs, Links, Rows, Cap, the_lemmas}
+use Rattle.capn_value.specs.declared.value.Value.{Value, Nil, Node, Voids, Bits, Bytes, Pairs, Quads, Octs, Links, Rows}
+use Rattle.capn_value.specs.declared.value.Value.{Cap, the_lemmas}
 use Rattle.capn_value.specs.declared.value.Body.{Body}
 
 pub tree_of-Nil : (A : Type 0) → tree_of {A = A} Nil ≡ nil
@@ -75,4 +77,18 @@ module _ {A : Type 0} where
   count_rows-rows_of [] = refl
   count_rows-rows_of (b ∷ bs) = ap suc (count_rows-rows_of bs)
 
-pub ruleset views = (count-trees_of, count_rows-rows_of, tree_of-Nil, tree_of-Node, tree_of-Voids, tree_of-Bits, tree_of-Bytes, tree_of-Pairs, tree_of-Quads, tree_of-Octs, tree_of-Links, tree_of-Rows, tree_of-Cap)
+pub ruleset views = (
+  count-trees_of,
+  count_rows-rows_of,
+  tree_of-Nil,
+  tree_of-Node,
+  tree_of-Voids,
+  tree_of-Bits,
+  tree_of-Bytes,
+  tree_of-Pairs,
+  tree_of-Quads,
+  tree_of-Octs,
+  tree_of-Links,
+  tree_of-Rows,
+  tree_of-Cap,
+)

@@ -87,7 +87,8 @@ fn test<A: Allocator, B: Allocator>(v: &Value<A>, w: &Value<B>) -> bool
 #[cycle(sameness)]
 #[tactic(auto, using(std::proofs::lemmas::Grind::common_steps, crate::specs::Views::views, crate::proofs::Apart::apart))]
 fn test_bodies<A: Allocator, B: Allocator>(a: &Body<A>, b: &Body<B>) -> bool
-    ensures { result ≡ (test_words a.now.words b.now.words && test_slots (trees_of a.now.slots) (trees_of b.now.slots)) }
+    ensures { result
+        ≡ (test_words a.now.words b.now.words && test_slots (trees_of a.now.slots) (trees_of b.now.slots)) }
 {
     test_words(a.words.as_slice(), b.words.as_slice())
         && test_slots(a.slots.as_slice(), b.slots.as_slice())

@@ -1,9 +1,13 @@
 //! The field type of a value's lists.
 
-ghost use Rattle.std.specs.Prelude.{◌≡◌, ◌<◌, [], ◌∷◌, ◌++◌, ◌↔◌, IsTrue, length, IfOk, OnOk, OnErr};
+ghost use Rattle.std.specs.Prelude.{◌≡◌, ◌^◌, ◌<◌, [], ◌∷◌, ◌++◌, ◌↔◌, IsTrue, length, IfOk, OnOk, OnErr};
+ghost use Rattle.std.specs.Iterator.Runs.{EveryRun, ItemsMapTo};
+ghost use Rattle.std.specs.Slice.Iter.{iter_rest, iter_steps};
 
 use std::alloc::{AllocError, Allocator, Global};
 use std::marker::Model;
+use std::ops::DerefSlice;
+use std::slice;
 
 /// A list of elements, which contracts see as just that: no capacity and no address.
 ///
@@ -98,5 +102,28 @@ impl<T: Drop, A: Allocator> Items<T, A> {
     {
         self.items.push(item)?;
         Ok(())
+    }
+}
+
+impl<T, A: Allocator> DerefSlice for Items<T, A> {
+    type Elem = T;
+
+    ghost deref_gives = { λ v xs. xs ≡ v };
+
+    fn deref(&self) -> &[T] {
+        self.items.as_slice()
+    }
+}
+
+impl<'a, T, A: Allocator> IntoIterator for &'a Items<T, A> {
+    type Item = &'a T;
+
+    type IntoIter = slice::Iter<'a, T>;
+
+    ghost into_iter_gives = { λ v it. (iter_rest it ≡ v.now) × (length (iter_rest it) < 2 ^ 64)
+        × EveryRun (iter_steps {A = T}) (λ p. ItemsMapTo p (λ x. x.now) (iter_rest p.from)) };
+
+    fn into_iter(self) -> slice::Iter<'a, T> {
+        self.items.as_slice().iter()
     }
 }

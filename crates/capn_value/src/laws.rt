@@ -1,10 +1,11 @@
 //! The laws of trimming and of the limits of a value, as a function that does nothing.
 
-ghost use Rattle.capn_value.specs.Laws.{SameExactlyTrimmed, SameOnceTrimmed, TrimmingIsThrifty, FittingIsSixFacts, MisfitIsFirst};
+ghost use Rattle.capn_value.specs.Laws.{SameExactlyTrimmed, SameOnceTrimmed, TrimmingIsThrifty, FittingIsSixFacts};
+ghost use Rattle.capn_value.specs.Laws.{MisfitIsFirst};
 
 /// Values are the same exactly if their trimmed ones are equal; a value is the same as its trimmed one, which costs no
-/// more, is no higher, and fits. A value fits exactly if none of the six misfits holds of it, and its misfit is the first
-/// that does.
+/// more, is no higher, and fits. A value fits exactly if none of the six misfits holds of it, and its misfit is the
+/// first that does.
 pub fn trimming()
     ensures same { SameExactlyTrimmed }
     ensures kept { SameOnceTrimmed }

@@ -72,7 +72,8 @@ pub fn number_line<A: Allocator>(out: &mut String<A>, level: u32, n: u64) -> Res
 /// The line of one data word, as a number: its most significant digit comes first.
 #[tactic(auto, using(std::proofs::lemmas::Grind::common_steps), unfolding(crate::specs::Text::line))]
 pub fn word_line<A: Allocator>(out: &mut String<A>, level: u32, word: u64) -> Result<(), Memory>
-    ensures { OnOk result (string_bytes out.new ≡ string_bytes out.old ++ text.line level (codes "word " ++ text.hex16 word)) }
+    ensures { OnOk result
+        (string_bytes out.new ≡ string_bytes out.old ++ text.line level (codes "word " ++ text.hex16 word)) }
 {
     indent(out, level)?;
     out.push_str("word ")?;

@@ -19,3 +19,5 @@ impl std::fmt::Display for Memory {
         f.write_str("out of memory")
     }
 }
+
+impl std::error::Error for Memory {}

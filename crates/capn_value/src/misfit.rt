@@ -1,3 +1,8 @@
+//! Why a value fits into no message.
+
+use std::error::Error;
+use std::fmt;
+
 /// Why a value fits into no message (own). The reasons stand in the order in which they are tested, and each
 /// is looked for in the whole value before the next.
 #[derive(Debug, Clone, Copy, PartialEq, Eq)]
@@ -15,3 +20,23 @@ pub enum Misfit {
     /// The root is a capability.
     BadRoot,
 }
+
+impl fmt::Display for Misfit {
+    ghost use Rattle.std.specs.Prelude.{Some};
+    ghost use Rattle.capn_value.specs.Told.{misfit_name};
+
+    ghost output = { λ fault. Some (misfit_name fault) };
+
+    fn fmt<W: fmt::Write>(&self, f: &mut fmt::Formatter<W>) -> fmt::Result {
+        match self {
+            Misfit::Wide => f.write_str("Wide"),
+            Misfit::Long => f.write_str("Long"),
+            Misfit::Ragged => f.write_str("Ragged"),
+            Misfit::Costly => f.write_str("Costly"),
+            Misfit::Tall => f.write_str("Tall"),
+            Misfit::BadRoot => f.write_str("BadRoot"),
+        }
+    }
+}
+
+impl Error for Misfit {}

@@ -58,7 +58,9 @@ fn word_lines<A: Allocator>(out: &mut String<A>, level: u32, words: &[u64]) -> R
 
 fn show_pairs<A: Allocator>(out: &mut String<A>, level: u32, xs: &[u16]) -> Result<(), Memory>
     requires { level + 1 < 2 ^ 32 }
-    ensures { OnOk result (string_bytes out.new ≡ string_bytes out.old ++ (text.line level (text.named (codes "u16") (length xs.now)) ++ text.number_lines (level + 1) xs.now)) }
+    ensures { OnOk result
+        (string_bytes out.new ≡ string_bytes out.old
+        ++ (text.line level (text.named (codes "u16") (length xs.now)) ++ text.number_lines (level + 1) xs.now)) }
 {
     named_line(out, level, "u16", xs.len())?;
     for x in xs {
@@ -69,7 +71,9 @@ fn show_pairs<A: Allocator>(out: &mut String<A>, level: u32, xs: &[u16]) -> Resu
 
 fn show_quads<A: Allocator>(out: &mut String<A>, level: u32, xs: &[u32]) -> Result<(), Memory>
     requires { level + 1 < 2 ^ 32 }
-    ensures { OnOk result (string_bytes out.new ≡ string_bytes out.old ++ (text.line level (text.named (codes "u32") (length xs.now)) ++ text.number_lines (level + 1) xs.now)) }
+    ensures { OnOk result
+        (string_bytes out.new ≡ string_bytes out.old
+        ++ (text.line level (text.named (codes "u32") (length xs.now)) ++ text.number_lines (level + 1) xs.now)) }
 {
     named_line(out, level, "u32", xs.len())?;
     for x in xs {
@@ -80,7 +84,9 @@ fn show_quads<A: Allocator>(out: &mut String<A>, level: u32, xs: &[u32]) -> Resu
 
 fn show_octs<A: Allocator>(out: &mut String<A>, level: u32, xs: &[u64]) -> Result<(), Memory>
     requires { level + 1 < 2 ^ 32 }
-    ensures { OnOk result (string_bytes out.new ≡ string_bytes out.old ++ (text.line level (text.named (codes "u64") (length xs.now)) ++ text.number_lines (level + 1) xs.now)) }
+    ensures { OnOk result
+        (string_bytes out.new ≡ string_bytes out.old
+        ++ (text.line level (text.named (codes "u64") (length xs.now)) ++ text.number_lines (level + 1) xs.now)) }
 {
     named_line(out, level, "u64", xs.len())?;
     for x in xs {
@@ -91,7 +97,10 @@ fn show_octs<A: Allocator>(out: &mut String<A>, level: u32, xs: &[u64]) -> Resul
 
 fn show_bytes<A: Allocator>(out: &mut String<A>, level: u32, xs: &[u8]) -> Result<(), Memory>
     requires { level + 1 < 2 ^ 32 }
-    ensures { OnOk result (string_bytes out.new ≡ string_bytes out.old ++ (text.line level (text.named (codes "bytes") (length xs.now)) ++ text.one_line (level + 1) (length xs.now) (encode_lower xs.now))) }
+    ensures { OnOk result
+        (string_bytes out.new ≡ string_bytes out.old
+        ++ (text.line level (text.named (codes "bytes") (length xs.now))
+        ++ text.one_line (level + 1) (length xs.now) (encode_lower xs.now))) }
 {
     named_line(out, level, "bytes", xs.len())?;
     if xs.len() == 0 {
@@ -102,7 +111,10 @@ fn show_bytes<A: Allocator>(out: &mut String<A>, level: u32, xs: &[u8]) -> Resul
 
 fn show_bits<A: Allocator>(out: &mut String<A>, level: u32, xs: &[bool]) -> Result<(), Memory>
     requires { level + 1 < 2 ^ 32 }
-    ensures { OnOk result (string_bytes out.new ≡ string_bytes out.old ++ (text.line level (text.named (codes "bits") (length xs.now)) ++ text.one_line (level + 1) (length xs.now) (text.digits_of xs.now))) }
+    ensures { OnOk result
+        (string_bytes out.new ≡ string_bytes out.old
+        ++ (text.line level (text.named (codes "bits") (length xs.now))
+        ++ text.one_line (level + 1) (length xs.now) (text.digits_of xs.now))) }
 {
     named_line(out, level, "bits", xs.len())?;
     if xs.len() == 0 {
@@ -119,7 +131,9 @@ fn show_body<A: Allocator, B: Allocator>(
     body: &Body<B>,
 ) -> Result<(), Memory>
     requires { level + 1 + 2 * sizes.greatest (trees_of body.now.slots) < 2 ^ 32 }
-    ensures { OnOk result (string_bytes out.new ≡ string_bytes out.old ++ (text.body_line level (length body.now.words) (length body.now.slots)
+    ensures { OnOk result
+        (string_bytes out.new ≡ string_bytes out.old
+        ++ (text.body_line level (length body.now.words) (length body.now.slots)
         ++ (text.word_lines (level + 1) body.now.words ++ text.shown_each (level + 1) (trees_of body.now.slots)))) }
 {
     let slots = body.slots.as_slice();

@@ -121,7 +121,8 @@ pub fn cost<A: Allocator>(tree: &Tree<A>, tariff: Tariff) -> u32
 pub fn trim<A: Allocator + Copy, B: Allocator>(alloc: A, tree: &Tree<B>) -> Result<Tree<A>, Memory>
     ensures value { IfOk result (λ r. r ≡ cut.trimmed tree.now) }
     ensures same { IfOk result (λ r. (w : trees.Tree) → Fits w → Same tree.now w ↔ (r ≡ cut.trimmed w)) }
-    ensures cheap { IfOk result (λ r. (by : Tariff) → sizes.cost (sizes.base by) r ≤ sizes.cost (sizes.base by) tree.now) }
+    ensures cheap { IfOk result (λ r. (by : Tariff)
+        → sizes.cost (sizes.base by) r ≤ sizes.cost (sizes.base by) tree.now) }
     ensures low { IfOk result (λ r. sizes.height r ≤ sizes.height tree.now) }
     // Null takes no memory.
     ensures wanted { OnErr result (tree.now ≢ trees.nil) }

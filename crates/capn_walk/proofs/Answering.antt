@@ -29,7 +29,9 @@ module _ (m : List (List ℕ)) (base : ℕ) where
 
 pub readable : AcceptedAreReadable
 readable m limits h =
-    let (v, is) = exists-at m (base limits.tariff) limits.depth root (all-at_root m (base limits.tariff) limits.depth h.within.all) in
+    let (v, is) =
+    exists-at m (base limits.tariff) limits.depth root
+    (all-at_root m (base limits.tariff) limits.depth h.within.all) in
     (v, record { accepted = h; is = is })
 
 pub fits : ValuesFit
@@ -60,5 +62,6 @@ visits_by (refused e at p k) = k
 
 pub one-stop : StopsAreOne
 one-stop b vs e f at to p q k j h i =
-    let same : refused e at p k ≡ refused f to q j = sym (stop-refused b vs e at p k h) ∙ stop-refused b vs f to q j i in
+    let same : refused e at p k ≡ refused f to q j = sym (stop-refused b vs e at p k h)
+    ∙ stop-refused b vs f to q j i in
     (ap fault_of same, ap place_of same, ap paid_by same, ap visits_by same)

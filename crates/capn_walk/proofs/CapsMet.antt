@@ -1,10 +1,12 @@
 -- The first capability of a value is that of the first visit of one, where no visit is a fault.
-use Rattle.std.proofs.Common.{◌≡◌, ℕ, zero, suc, ◌+◌, ◌-◌, List, [], ◌∷◌, ◌++◌, length, Option, Some, None, Ok, refl, ap, ap₂, ◌∙◌, arith}
+use Rattle.std.proofs.Common.{◌≡◌, ℕ, zero, suc, ◌+◌, ◌-◌, List, [], ◌∷◌, ◌++◌, length, Option, Some, None, Ok, refl}
+use Rattle.std.proofs.Common.{ap, ap₂, ◌∙◌, arith}
 use Rattle.std.specs.List.{flat_map}
 use Rattle.std.specs.Option.{option_or}
 use Rattle.std.proofs.lemmas.Grind.{flat_map-append}
 use Rattle.capn_words.specs.declared.space.Place.{Place}
-use Rattle.capn_value.specs.Tree.{Tree, nil, node, voids, bits, bytes, pairs, quads, octs, links, rows, cap, Trees, no_trees, tree, Bodies, no_bodies, body, count, count_rows}
+use Rattle.capn_value.specs.Tree.{Tree, nil, node, voids, bits, bytes, pairs, quads, octs, links, rows, cap, Trees}
+use Rattle.capn_value.specs.Tree.{no_trees, tree, Bodies, no_bodies, body, count, count_rows}
 use Rattle.capn_value.specs.Caps.{first_cap, first_in, first_in_rows}
 use Rattle.capn_words.specs.declared.pointer.Width.TheVariants.{W0, W1, W8, W16, W32, W64, Link}
 use Rattle.capn_walk.specs.declared.target.Target.TheVariants as targets
@@ -26,29 +28,38 @@ module _ (m : List (List ℕ)) where
   caps-append : (xs ys : List Visit) → first_cap_of m (xs ++ ys) ≡ option_or (first_cap_of m xs) (first_cap_of m ys)
   caps-append [] ys = refl
   caps-append (pays at n ∷ xs) ys =
-      ap (option_or (cap_of (target m at))) (caps-append xs ys) ∙ option_or-assoc (cap_of (target m at)) (first_cap_of m xs) (first_cap_of m ys)
+      ap (option_or (cap_of (target m at))) (caps-append xs ys)
+      ∙ option_or-assoc (cap_of (target m at)) (first_cap_of m xs) (first_cap_of m ys)
   caps-append (fails at e ∷ xs) ys = caps-append xs ys
 
   module _ (base : ℕ) where
     -- an object's visits, and the capabilities below it
     record Object (at : Place) (d s start : ℕ) (shape : Shape) : Type 0 where
       below : AllPay (flat_map (visits m base (d - 1)) (slots s start shape))
-      caps : first_cap_of m (visits m base d at) ≡ first_cap_of m (flat_map (visits m base (d - 1)) (slots s start shape))
+      caps : first_cap_of m (visits m base d at)
+          ≡ first_cap_of m (flat_map (visits m base (d - 1)) (slots s start shape))
 
-    object : (at : Place) (d s start pads : ℕ) (shape : Shape) → target m at ≡ Ok (targets.Content s start shape pads) → AllPay (visits m base d at) → Object at d s start shape
-    object at zero s start pads shape e h = let f = rw (visits-deep m base at s start pads shape e 0 refl) at h in absurd f
+    object : (at : Place) (d s start pads : ℕ) (shape : Shape) → target m at ≡ Ok (targets.Content s start shape pads)
+        → AllPay (visits m base d at) → Object at d s start shape
+    object at zero s start pads shape e h = let f = rw (visits-deep m base at s start pads shape e 0 refl) at h in
+        absurd f
     object at (suc d) s start pads shape e h =
         let o = visits-object m base at s start pads shape e (suc d) (omega arith) in
         let f = rw o at h in
         record {
           below = f;
-          caps = ap (first_cap_of m) o ∙ ap (λ (k : Option ℕ). option_or k (first_cap_of m (flat_map (visits m base (suc d - 1)) (slots s start shape)))) (ap cap_of e);
+          caps = ap (first_cap_of m) o
+              ∙ ap (λ (k : Option ℕ). option_or k
+              (first_cap_of m (flat_map (visits m base (suc d - 1)) (slots s start shape)))) (ap cap_of e);
         }
 
     mutual
-      pub caps-at : (v : Tree) (at : Place) (d : ℕ) → IsAt m at v → AllPay (visits m base d at) → first_cap_of m (visits m base d at) ≡ first_cap v
-      caps-at nil at d i h = ap (first_cap_of m) (visits-null m base at d i) ∙ ap (λ (k : Option ℕ). option_or k None) (ap cap_of i)
-      caps-at (cap k) at d i h = ap (first_cap_of m) (visits-cap m base at d k i) ∙ ap (λ (k : Option ℕ). option_or k None) (ap cap_of i)
+      pub caps-at : (v : Tree) (at : Place) (d : ℕ) → IsAt m at v → AllPay (visits m base d at)
+          → first_cap_of m (visits m base d at) ≡ first_cap v
+      caps-at nil at d i h = ap (first_cap_of m) (visits-null m base at d i)
+          ∙ ap (λ (k : Option ℕ). option_or k None) (ap cap_of i)
+      caps-at (cap k) at d i h = ap (first_cap_of m) (visits-cap m base at d k i)
+          ∙ ap (λ (k : Option ℕ). option_or k None) (ap cap_of i)
       caps-at (node ws ss) at d i h =
           let o = object at d i.segment i.start i.pads (shapes.Node (length ws) (count ss)) i.is h in
           o.caps ∙ caps-in ss i.segment (i.start + length ws) (d - 1) i.inside.1 o.below
@@ -58,7 +69,8 @@ module _ (m : List (List ℕ)) where
       caps-at (rows bs) at d i h =
           let n = i.3 in
           let o = object at d n.segment n.start n.pads (shapes.Rows (count_rows bs) i.0 i.1 i.2) n.is h in
-          o.caps ∙ caps-in_rows bs i.0 i.1 n.segment (n.start + 1) (d - 1) (let e : suc n.start ≡ n.start + 1 = omega arith in rw e at n.inside) o.below
+          o.caps ∙ caps-in_rows bs i.0 i.1 n.segment (n.start + 1) (d - 1) (let e : suc n.start ≡ n.start + 1 =
+          omega arith in rw e at n.inside) o.below
       caps-at (voids n) at d i h = (object at d i.segment i.start i.pads (shapes.Many W0 n) i.is h).caps
       caps-at (bits xs) at d i h = (object at d i.segment i.start i.pads (shapes.Many W1 (length xs)) i.is h).caps
       caps-at (bytes xs) at d i h = (object at d i.segment i.start i.pads (shapes.Many W8 (length xs)) i.is h).caps
@@ -66,7 +78,8 @@ module _ (m : List (List ℕ)) where
       caps-at (quads xs) at d i h = (object at d i.segment i.start i.pads (shapes.Many W32 (length xs)) i.is h).caps
       caps-at (octs xs) at d i h = (object at d i.segment i.start i.pads (shapes.Many W64 (length xs)) i.is h).caps
 
-      caps-in : (ts : Trees) (s w d : ℕ) → AreAt m s w ts → AllPay (flat_map (visits m base d) (places s w (count ts))) →
+      caps-in : (ts : Trees) (s w d : ℕ) → AreAt m s w ts → AllPay (flat_map (visits m base d) (places s w (count ts)))
+          →
           first_cap_of m (flat_map (visits m base d) (places s w (count ts))) ≡ first_in ts
       caps-in no_trees s w d i h = refl
       caps-in (tree t ts) s w d i h =
@@ -77,13 +90,15 @@ module _ (m : List (List ℕ)) where
           let two = caps-in ts s (w + 1) d (rw e at i.1) (all-back here rest h) in
           caps-append here rest ∙ ap₂ option_or one two
 
-      caps-in_rows : (bs : Bodies) (a b s w d : ℕ) → RowsAt m a b s w bs → AllPay (flat_map (visits m base d) (row_places s w a b (count_rows bs))) →
+      caps-in_rows : (bs : Bodies) (a b s w d : ℕ) → RowsAt m a b s w bs
+          → AllPay (flat_map (visits m base d) (row_places s w a b (count_rows bs))) →
           first_cap_of m (flat_map (visits m base d) (row_places s w a b (count_rows bs))) ≡ first_in_rows bs
       caps-in_rows no_bodies a b s w d i h = refl
       caps-in_rows (body ws ss bs) a b s w d i h =
           let here = flat_map (visits m base d) (places s (w + a) b) in
           let rest = flat_map (visits m base d) (row_places s (w + a + b) a b (count_rows bs)) in
-          let e = flat_map-append (visits m base d) (places s (w + a) b) (row_places s (w + a + b) a b (count_rows bs)) in
+          let e = flat_map-append (visits m base d) (places s (w + a) b)
+          (row_places s (w + a + b) a b (count_rows bs)) in
           let h2 = rw e at h in
           let lb = i.1 in
           let one = caps-in ss s (w + a) d i.3 (rw (← lb) at (all-front here rest h2)) in

@@ -1,5 +1,6 @@
 -- Where no visit is a fault, a value stands at the place.
-use Rattle.std.proofs.Common.{◌≡◌, ℕ, zero, suc, ◌+◌, ◌-◌, ◌*◌, ◌<◌, ◌≤◌, ◌==◌, Bool, List, [], ◌∷◌, length, take, slice_index, map, Result, Ok, Err, refl, ap, subst, ◌∙◌, arith, length-drop}
+use Rattle.std.proofs.Common.{◌≡◌, ℕ, zero, suc, ◌+◌, ◌-◌, ◌*◌, ◌<◌, ◌≤◌, ◌==◌, Bool, List, [], ◌∷◌, length, take}
+use Rattle.std.proofs.Common.{slice_index, map, Result, Ok, Err, refl, ap, subst, ◌∙◌, arith, length-drop}
 use Rattle.std.specs.Int.{from_bool}
 use Rattle.std.specs.List.{flat_map}
 use Rattle.std.proofs.lemmas.List.{length-take-le}
@@ -8,7 +9,8 @@ use Rattle.capn_words.specs.Message.{segment_at}
 use Rattle.capn_words.specs.declared.space.Place.{Place}
 use Rattle.capn_words.specs.declared.pointer.Width.{Width}
 use Rattle.capn_words.specs.declared.pointer.Width.TheVariants.{W0, W1, W8, W16, W32, W64, Link, Rows}
-use Rattle.capn_value.specs.Tree.{Tree, nil, node, voids, bits, bytes, pairs, quads, octs, links, rows, cap, Trees, no_trees, tree, Bodies, no_bodies, body, count, count_rows}
+use Rattle.capn_value.specs.Tree.{Tree, nil, node, voids, bits, bytes, pairs, quads, octs, links, rows, cap, Trees}
+use Rattle.capn_value.specs.Tree.{no_trees, tree, Bodies, no_bodies, body, count, count_rows}
 use Rattle.capn_walk.specs.declared.target.Target.{Target}
 use Rattle.capn_walk.specs.declared.target.Target.TheVariants as targets
 use Rattle.capn_walk.specs.declared.target.Shape.{Shape}
@@ -48,12 +50,14 @@ bit-of (suc zero) h = refl
 bit-of (suc (suc n)) h = absurd (omega arith)
 
 module _ (m : List (List ℕ)) where
-  elements-listed : (each width s w n : ℕ) → AreElements each width (words_from m s w) (listed (element each width (words_from m s w)) n)
+  elements-listed : (each width s w n : ℕ)
+      → AreElements each width (words_from m s w) (listed (element each width (words_from m s w)) n)
   elements-listed each width s w n i h =
       let l = length-listed (element each width (words_from m s w)) n in
       listed-at (element each width (words_from m s w)) n i (omega arith)
 
-  bits-listed : (s w n : ℕ) → AreElements 64 1 (words_from m s w) (map from_bool (listed (λ i. element 64 1 (words_from m s w) i == 1) n))
+  bits-listed : (s w n : ℕ)
+      → AreElements 64 1 (words_from m s w) (map from_bool (listed (λ i. element 64 1 (words_from m s w) i == 1) n))
   bits-listed s w n i h =
       let f : ℕ → Bool = λ i. element 64 1 (words_from m s w) i == 1 in
       let e = map-listed f n in
@@ -74,7 +78,8 @@ module _ (m : List (List ℕ)) where
   HasNoSlots Link = ⊥
   HasNoSlots _ = Unit {0}
 
-  of-list : (at : Place) (s start pads : ℕ) (width : Width) (n : ℕ) → target m at ≡ Ok (targets.Content s start (shapes.Many width n) pads) →
+  of-list : (at : Place) (s start pads : ℕ) (width : Width) (n : ℕ)
+      → target m at ≡ Ok (targets.Content s start (shapes.Many width n) pads) →
       HasNoSlots width → (v : Tree) × IsAt m at v
   of-list at s start pads W0 n e h = (voids n, record { segment = s; start = start; pads = pads; is = e; inside = tt })
   of-list at s start pads W1 n e h =
@@ -89,37 +94,78 @@ module _ (m : List (List ℕ)) where
         },
       )
   of-list at s start pads W8 n e h =
-      let xs = listed (element 8 8 (words_from m s start)) n in
-      (bytes xs, record { segment = s; start = start; pads = pads; is = rw (length-listed (element 8 8 (words_from m s start)) n) e; inside = elements-listed 8 8 s start n })
+      let xs = listed (element 8 8 (words_from m s start)) n in (
+        bytes xs,
+        record {
+          segment = s;
+          start = start;
+          pads = pads;
+          is =
+              rw (length-listed (element 8 8 (words_from m s start)) n) e;
+          inside = elements-listed 8 8 s start n;
+        },
+      )
   of-list at s start pads W16 n e h =
-      let xs = listed (element 4 16 (words_from m s start)) n in
-      (pairs xs, record { segment = s; start = start; pads = pads; is = rw (length-listed (element 4 16 (words_from m s start)) n) e; inside = elements-listed 4 16 s start n })
+      let xs = listed (element 4 16 (words_from m s start)) n in (
+        pairs xs,
+        record {
+          segment = s;
+          start = start;
+          pads = pads;
+          is =
+              rw (length-listed (element 4 16 (words_from m s start)) n) e;
+          inside = elements-listed 4 16 s start n;
+        },
+      )
   of-list at s start pads W32 n e h =
-      let xs = listed (element 2 32 (words_from m s start)) n in
-      (quads xs, record { segment = s; start = start; pads = pads; is = rw (length-listed (element 2 32 (words_from m s start)) n) e; inside = elements-listed 2 32 s start n })
+      let xs = listed (element 2 32 (words_from m s start)) n in (
+        quads xs,
+        record {
+          segment = s;
+          start = start;
+          pads = pads;
+          is =
+              rw (length-listed (element 2 32 (words_from m s start)) n) e;
+          inside = elements-listed 2 32 s start n;
+        },
+      )
   of-list at s start pads W64 n e h =
-      let i = (inside m at s start pads (shapes.Many W64 n) e).0 in
-      (octs (take n (words_from m s start)), record { segment = s; start = start; pads = pads; is = rw (length-words s start n i) e; inside = are-words s start n i })
+      let i = (inside m at s start pads (shapes.Many W64 n) e).0 in (
+        octs (take n (words_from m s start)),
+        record {
+          segment = s;
+          start = start;
+          pads = pads;
+          is = rw (length-words s start n i) e;
+          inside =
+              are-words s start n i;
+        },
+      )
   of-list at s start pads Link n e h = absurd h
   of-list at s start pads Rows n e h = absurd (inside m at s start pads (shapes.Many Rows n) e).1
 
-  as-node : (at : Place) (s start pads a b : ℕ) (ws : List ℕ) (ts : Trees) → target m at ≡ Ok (targets.Content s start (shapes.Node a b) pads) →
+  as-node : (at : Place) (s start pads a b : ℕ) (ws : List ℕ) (ts : Trees)
+      → target m at ≡ Ok (targets.Content s start (shapes.Node a b) pads) →
       length ws ≡ a → count ts ≡ b → AreWords m s start ws → AreAt m s (start + a) ts → (v : Tree) × IsAt m at v
   as-node at s start pads a b ws ts e l k words is =
       (node ws ts, record { segment = s; start = start; pads = pads; is = rw (l, k) e; inside = (words, rw l is) })
 
-  as-links : (at : Place) (s start pads n : ℕ) (ts : Trees) → target m at ≡ Ok (targets.Content s start (shapes.Many Link n) pads) →
+  as-links : (at : Place) (s start pads n : ℕ) (ts : Trees)
+      → target m at ≡ Ok (targets.Content s start (shapes.Many Link n) pads) →
       count ts ≡ n → AreAt m s start ts → (v : Tree) × IsAt m at v
-  as-links at s start pads n ts e k is = (links ts, record { segment = s; start = start; pads = pads; is = rw k e; inside = is })
+  as-links at s start pads n ts e k is =
+      (links ts, record { segment = s; start = start; pads = pads; is = rw k e; inside = is })
 
-  as-rows : (at : Place) (s start pads n a b span : ℕ) (bs : Bodies) → target m at ≡ Ok (targets.Content s start (shapes.Rows n a b span) pads) →
+  as-rows : (at : Place) (s start pads n a b span : ℕ) (bs : Bodies)
+      → target m at ≡ Ok (targets.Content s start (shapes.Rows n a b span) pads) →
       count_rows bs ≡ n → RowsAt m a b s (start + 1) bs → (v : Tree) × IsAt m at v
   as-rows at s start pads n a b span bs e k are =
       let z : suc start ≡ start + 1 = omega arith in
       (rows bs, (a, b, span, record { segment = s; start = start; pads = pads; is = rw k e; inside = rw z are }))
 
   module _ (base d : ℕ) (below : (at : Place) → AllPay (visits m base d at) → (v : Tree) × IsAt m at v) where
-    slots-exist : (s w n : ℕ) → AllPay (flat_map (visits m base d) (places s w n)) → (ts : Trees) × (count ts ≡ n) × AreAt m s w ts
+    slots-exist : (s w n : ℕ) → AllPay (flat_map (visits m base d) (places s w n)) → (ts : Trees) × (count ts ≡ n)
+        × AreAt m s w ts
     slots-exist s w zero h = (no_trees, refl, tt)
     slots-exist s w (suc n) h =
         let here = visits m base d (slot s w) in
@@ -130,7 +176,8 @@ module _ (m : List (List ℕ)) where
         let P : ℕ → Type 0 = λ x. AreAt m s x ts in
         (tree v ts, ap suc k, (i, subst P e is))
 
-    rows-exist : (s w a b n : ℕ) → w + n * (a + b) ≤ length (segment_at m s) → AllPay (flat_map (visits m base d) (row_places s w a b n)) →
+    rows-exist : (s w a b n : ℕ) → w + n * (a + b) ≤ length (segment_at m s)
+        → AllPay (flat_map (visits m base d) (row_places s w a b n)) →
         (bs : Bodies) × (count_rows bs ≡ n) × RowsAt m a b s w bs
     rows-exist s w a b zero r h = (no_bodies, refl, tt)
     rows-exist s w a b (suc n) r h =
@@ -162,7 +209,8 @@ module _ (m : List (List ℕ)) where
         as-links at s start pads n ts e k is
     of-shape at s start pads (shapes.Many width n) e h = of-list at s start pads width n e tt
 
-    of-target : (at : Place) (r : Result Target Fault) → target m at ≡ r → AllPay (visits m base (suc d) at) → (v : Tree) × IsAt m at v
+    of-target : (at : Place) (r : Result Target Fault) → target m at ≡ r → AllPay (visits m base (suc d) at)
+        → (v : Tree) × IsAt m at v
     of-target at (Ok targets.Nil) e h = (nil, e)
     of-target at (Ok (targets.Cap k)) e h = (cap k, e)
     of-target at (Ok (targets.Content s start shape pads)) e h =
@@ -172,10 +220,12 @@ module _ (m : List (List ℕ)) where
         of-shape at s start pads shape e k
     of-target at (Err f) e h = let no_fault = rw (visits-fault m base at (suc d) f e) at h in absurd no_fault
 
-  of-last : (base : ℕ) (at : Place) (r : Result Target Fault) → target m at ≡ r → AllPay (visits m base 0 at) → (v : Tree) × IsAt m at v
+  of-last : (base : ℕ) (at : Place) (r : Result Target Fault) → target m at ≡ r → AllPay (visits m base 0 at)
+      → (v : Tree) × IsAt m at v
   of-last base at (Ok targets.Nil) e h = (nil, e)
   of-last base at (Ok (targets.Cap k)) e h = (cap k, e)
-  of-last base at (Ok (targets.Content s start shape pads)) e h = let deep = rw (visits-deep m base at s start pads shape e 0 refl) at h in absurd deep
+  of-last base at (Ok (targets.Content s start shape pads)) e h = let deep =
+      rw (visits-deep m base at s start pads shape e 0 refl) at h in absurd deep
   of-last base at (Err f) e h = let no_fault = rw (visits-fault m base at 0 f e) at h in absurd no_fault
 
   -- a value stands at a place of which no visit is a fault

@@ -1,5 +1,6 @@
 -- The slots of a frame, one by one.
-use Rattle.std.proofs.Common.{Bool, true, false, IsTrue, ◌↔◌, ◌≡◌, ℕ, zero, suc, ◌+◌, ◌-◌, ◌*◌, ◌<◌, [], ◌∷◌, ◌++◌, refl, sym, arith}
+use Rattle.std.proofs.Common.{Bool, true, false, IsTrue, ◌↔◌, ◌≡◌, ℕ, zero, suc, ◌+◌, ◌-◌, ◌*◌, ◌<◌, [], ◌∷◌, ◌++◌}
+use Rattle.std.proofs.Common.{refl, sym, arith}
 use Rattle.capn_walk.specs.Visits.{places, row_places}
 use Rattle.capn_walk.specs.declared.frame.Frame.{Frame}
 use Rattle.capn_walk.specs.Frames.{places_of, owed, HasRows}
@@ -25,20 +26,27 @@ next-place s w zero h = absurd (omega arith)
 next-place s w (suc n) h = let e : suc n - 1 ≡ n = omega arith in rw e refl
 
 -- the next row
-pub next-row : (s w a b n : ℕ) → 0 < n → row_places s w a b n ≡ places s (w + a) b ++ row_places s (w + a + b) a b (n - 1)
+pub next-row : (s w a b n : ℕ) → 0 < n
+    → row_places s w a b n ≡ places s (w + a) b ++ row_places s (w + a + b) a b (n - 1)
 next-row s w a b zero h = absurd (omega arith)
 next-row s w a b (suc n) h = let e : suc n - 1 ≡ n = omega arith in rw e refl
 
 -- of a frame whose row in hand has no slot left, with rows behind it
 pub turned : (f : Frame) → f.left ≡ 0 → 0 < f.rows →
-    places f.segment (f.next + f.words) f.slots ++ row_places f.segment (f.next + f.words + f.slots) f.words f.slots (f.rows - 1) ≡ places_of f
+    places f.segment (f.next + f.words) f.slots
+    ++ row_places f.segment (f.next + f.words + f.slots) f.words f.slots (f.rows - 1) ≡ places_of f
 turned f e h =
     let z : f.next + 0 ≡ f.next = omega arith in
     rw (e, z) (sym (next-row f.segment f.next f.words f.slots f.rows h))
 
 -- of a frame whose row in hand has a slot left
 pub taken : (f : Frame) → 0 < f.left →
-    places_of f ≡ record { segment = f.segment; word = f.next } ∷ (places f.segment (f.next + 1) (f.left - 1) ++ row_places f.segment (f.next + 1 + (f.left - 1)) f.words f.slots f.rows)
+    places_of f ≡ record {
+      segment = f.segment;
+      word =
+          f.next;
+    } ∷ (places f.segment (f.next + 1) (f.left - 1)
+    ++ row_places f.segment (f.next + 1 + (f.left - 1)) f.words f.slots f.rows)
 taken f h =
     let e : f.next + 1 + (f.left - 1) ≡ f.next + f.left = omega arith in
     rw (e, next-place f.segment f.next f.left h) refl

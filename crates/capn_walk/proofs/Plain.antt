@@ -1,5 +1,6 @@
 -- No pointer is refused for want of memory.
-use Rattle.std.proofs.Common.{ℤ, pos, negsuc, ◌≡◌, ℕ, ◌+◌, ◌*◌, ◌==◌, nat_lt, true, false, List, length, Result, Ok, Err}
+use Rattle.std.proofs.Common.{ℤ, pos, negsuc, ◌≡◌, ℕ, ◌+◌, ◌*◌, ◌==◌, nat_lt, true, false, List, length, Result, Ok}
+use Rattle.std.proofs.Common.{Err}
 use Rattle.std.specs.Bool.{⊤}
 use Rattle.capn_words.specs.Message.{segment_at}
 use Rattle.capn_words.specs.declared.space.Place.{Place}
@@ -11,7 +12,8 @@ use Rattle.capn_walk.specs.declared.target.Target.{Target}
 use Rattle.capn_walk.specs.declared.target.Fault.{Fault}
 use Rattle.capn_walk.specs.declared.target.Fault.TheVariants as faults
 use Rattle.capn_words.specs.Pointers.{field}
-use Rattle.capn_walk.specs.Target.{moved, tagged, within, list, struct, struct_from, list_from, near, second_pad, is_second_pad, two_pads, pointer_in, landing, named, target}
+use Rattle.capn_walk.specs.Target.{moved, tagged, within, list, struct, struct_from, list_from, near, second_pad}
+use Rattle.capn_walk.specs.Target.{is_second_pad, two_pads, pointer_in, landing, named, target}
 use Rattle.capn_words.specs.Laws.FieldBits.{pick}
 
 -- a refusal that isn't for want of memory
@@ -50,7 +52,8 @@ module _ (m : List (List ℕ)) where
   plain-struct_from s (Ok start) pads a b h = plain-struct s start pads a b
   plain-struct_from s (Err e) pads a b h = h
 
-  plain-list_from : (s : ℕ) (r : Result ℕ Fault) (pads : ℕ) (width : Width) (n : ℕ) → IsPlain r → IsPlain (list_from m s r pads width n)
+  plain-list_from : (s : ℕ) (r : Result ℕ Fault) (pads : ℕ) (width : Width) (n : ℕ) → IsPlain r
+      → IsPlain (list_from m s r pads width n)
   plain-list_from s (Ok start) pads width n h = plain-list s start pads width n
   plain-list_from s (Err e) pads width n h = h
 

@@ -1,5 +1,6 @@
 -- A survey of a whole message.
-use Rattle.std.proofs.Common.{◌≡◌, ◌⊎◌, true, inl, inr, ℕ, ◌+◌, ◌-◌, ◌<◌, ◌≤◌, List, [], ◌∷◌, length, Option, None, Ok, ap, ap₂, sym, ◌∙◌, arith}
+use Rattle.std.proofs.Common.{◌≡◌, ◌⊎◌, true, inl, inr, ℕ, ◌+◌, ◌-◌, ◌<◌, ◌≤◌, List, [], ◌∷◌, length, Option, None, Ok}
+use Rattle.std.proofs.Common.{ap, ap₂, sym, ◌∙◌, arith}
 use Rattle.std.specs.Option.{option_or}
 use Rattle.capn_words.specs.Message.{segment_at}
 use Rattle.capn_words.specs.declared.space.Place.{Place}
@@ -31,7 +32,8 @@ use Rattle.capn_walk.proofs.Exists.{exists-at}
 
 module _ (m : List (List ℕ)) (base : ℕ) where
   -- the visit of a slot that is refused at once
-  pub refuses-here : (budget depth : ℕ) (at : Place) (e : Fault) → judge budget (visits m base depth at) ≡ refused e at 0 1 →
+  pub refuses-here : (budget depth : ℕ) (at : Place) (e : Fault)
+      → judge budget (visits m base depth at) ≡ refused e at 0 1 →
       Refuses budget (visits m base depth at) 1 (record { fault = e; place = at; paid = 0; visits = 1 })
   refuses-here budget depth at e h = record { is = inr h; within = omega arith; few = omega arith }
 
@@ -45,14 +47,16 @@ module _ (m : List (List ℕ)) (base : ℕ) where
     both : judge budget (visits m base depth at) ≡ after p 1 (judge (budget - p) others)
     both = ap (judge budget) here ∙ judge-pays budget p at others fits
 
-    pub gives-below : (q j : ℕ) → Gives (budget - p) others (owed below) q j → Gives budget (visits m base depth at) 1 (p + q) (1 + j)
+    pub gives-below : (q j : ℕ) → Gives (budget - p) others (owed below) q j
+        → Gives budget (visits m base depth at) 1 (p + q) (1 + j)
     gives-below q j g = record {
       is = both ∙ ap (after p 1) g.is;
       within = let w = g.within in omega arith;
       few = let w = g.few in omega arith;
     }
 
-    pub caps-below : (j : Option ℕ) → first_cap_of m others ≡ j → first_cap_of m (visits m base depth at) ≡ option_or k j
+    pub caps-below : (j : Option ℕ) → first_cap_of m others ≡ j
+        → first_cap_of m (visits m base depth at) ≡ option_or k j
     caps-below j e = ap (first_cap_of m) here ∙ ap₂ option_or c e
 
     later : (e : Fault) (to : Place) (q j : ℕ) → (e ≡ faults.Memory) ⊎ (judge (budget - p) others ≡ refused e to q j) →
@@ -76,7 +80,8 @@ module _ (m : List (List ℕ)) (base : ℕ) where
     gives-alone h z = record {
       is =
           let y : p + 0 ≡ p = omega arith in
-          both ∙ ap (λ (vs : List Visit). after p 1 (judge (budget - p) vs)) (none-below h z) ∙ ap (λ (n : ℕ). accepted n 1) y;
+          both ∙ ap (λ (vs : List Visit). after p 1 (judge (budget - p) vs)) (none-below h z)
+          ∙ ap (λ (n : ℕ). accepted n 1) y;
       within = fits;
       few = omega arith;
     }
@@ -84,13 +89,17 @@ module _ (m : List (List ℕ)) (base : ℕ) where
     pub caps-alone : HasRows below → owed below ≡ 0 → first_cap_of m (visits m base depth at) ≡ k
     caps-alone h z = caps-below None (ap (first_cap_of m) (none-below h z)) ∙ option_or-none k
 
-module _ (m : List (List ℕ)) (limits : Bounds) (some : 0 < length (segment_at m 0)) (t : Target) (e : target m root ≡ Ok t)
+module _ (m : List (List ℕ)) (limits : Bounds) (some : 0 < length (segment_at m 0)) (t : Target)
+    (e : target m root ≡ Ok t)
     (kind : may_be_root t ≡ true) where
-  pub surveyed : (s : Surveyed) → Gives limits.budget (visits m (base limits.tariff) limits.depth root) 1 s.paid s.visits →
+  pub surveyed : (s : Surveyed)
+      → Gives limits.budget (visits m (base limits.tariff) limits.depth root) 1 s.paid s.visits →
       first_cap_of m (visits m (base limits.tariff) limits.depth root) ≡ s.capability → IsSurvey m limits s
   surveyed s g c =
       let same = from-root m (base limits.tariff) limits.depth t e kind in
-      let (w, p, k) = accepted-within limits.budget (visits_within m limits) s.paid s.visits (ap (judge limits.budget) same ∙ g.is) in
+      let (w, p, k) =
+      accepted-within limits.budget (visits_within m limits) s.paid s.visits (ap (judge limits.budget) same
+      ∙ g.is) in
       let all = rw same at w.all in
       let (v, i) = exists-at m (base limits.tariff) limits.depth root all in
       let first = caps-at m (base limits.tariff) v root limits.depth i all in
@@ -102,7 +111,8 @@ module _ (m : List (List ℕ)) (limits : Bounds) (some : 0 < length (segment_at 
         capability = sym c ∙ first;
       }
 
-  pub one-cap : (k : Option ℕ) (v : Tree) → IsValueOf m limits v → first_cap_of m (visits m (base limits.tariff) limits.depth root) ≡ k → k ≡ first_cap v
+  pub one-cap : (k : Option ℕ) (v : Tree) → IsValueOf m limits v
+      → first_cap_of m (visits m (base limits.tariff) limits.depth root) ≡ k → k ≡ first_cap v
   one-cap k v is c =
       let same = from-root m (base limits.tariff) limits.depth t e kind in
       let all = rw same at is.accepted.within.all in

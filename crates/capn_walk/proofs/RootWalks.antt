@@ -1,5 +1,6 @@
 -- What a walk from the root knows.
-use Rattle.std.proofs.Common.{◌≡◌, ◌⊎◌, inl, inr, Bool, true, false, if◌then◌else◌, ℕ, ◌^◌, ◌<◌, ◌≤◌, List, [], ◌∷◌, length, Ok, Err, refl, ap, ◌∙◌, arith}
+use Rattle.std.proofs.Common.{◌≡◌, ◌⊎◌, inl, inr, Bool, true, false, if◌then◌else◌, ℕ, ◌^◌, ◌<◌, ◌≤◌, List, [], ◌∷◌}
+use Rattle.std.proofs.Common.{length, Ok, Err, refl, ap, ◌∙◌, arith}
 use Rattle.capn_words.specs.Message.{segment_at}
 use Rattle.capn_words.specs.declared.space.Place.{Place}
 use Rattle.capn_value.specs.Tree.{Tree}
@@ -37,13 +38,15 @@ stops-at-once b at e vs h = record {
 
 module _ (m : List (List ℕ)) where
   -- the root's visits are those of its slot, where it may be the root
-  pub from-root : (base d : ℕ) (t : Target) → target m root ≡ Ok t → may_be_root t ≡ true → root_visits m base d ≡ visits m base d root
+  pub from-root : (base d : ℕ) (t : Target) → target m root ≡ Ok t → may_be_root t ≡ true
+      → root_visits m base d ≡ visits m base d root
   unfolding root_visits
   from-root base d t e h =
       ap (λ r. visits_at_root m base r (visits m base d root)) e
       ∙ ap (λ (b : Bool). if b then visits m base d root else fails root faults.RootKind ∷ []) h
 
-  wrong-root : (base d : ℕ) (t : Target) → target m root ≡ Ok t → may_be_root t ≡ false → root_visits m base d ≡ fails root faults.RootKind ∷ []
+  wrong-root : (base d : ℕ) (t : Target) → target m root ≡ Ok t → may_be_root t ≡ false
+      → root_visits m base d ≡ fails root faults.RootKind ∷ []
   unfolding root_visits
   wrong-root base d t e h =
       ap (λ r. visits_at_root m base r (visits m base d root)) e
@@ -55,25 +58,32 @@ module _ (m : List (List ℕ)) where
 
   -- ---- refusals before the root's price
 
-  pub no-root : (t : Stopped) (limits : Bounds) → length (segment_at m 0) ≡ 0 → t ≡ record { fault = faults.NoRoot; place = root; paid = 0; visits = 0 } →
+  pub no-root : (t : Stopped) (limits : Bounds) → length (segment_at m 0) ≡ 0
+      → t ≡ record { fault = faults.NoRoot; place = root; paid = 0; visits = 0 } →
       IsRefused m limits t.fault t.place t.paid t.visits
   no-root t limits none e = rw e (inl (none, refl, refl, refl, refl))
 
-  at-once : (t : Stopped) (f : Fault) (limits : Bounds) → 0 < length (segment_at m 0) → visits_within m limits ≡ fails root f ∷ [] →
+  at-once : (t : Stopped) (f : Fault) (limits : Bounds) → 0 < length (segment_at m 0)
+      → visits_within m limits ≡ fails root f ∷ [] →
       t ≡ record { fault = f; place = root; paid = 0; visits = 1 } → IsRefused m limits t.fault t.place t.paid t.visits
   at-once t f limits some v e = rw e (inr (some, stops-at-once limits.budget root f (visits_within m limits) v))
 
-  pub refused-kind : (t : Stopped) (found : Target) (limits : Bounds) → 0 < length (segment_at m 0) → target m root ≡ Ok found → may_be_root found ≡ false →
-      t ≡ record { fault = faults.RootKind; place = root; paid = 0; visits = 1 } → IsRefused m limits t.fault t.place t.paid t.visits
-  refused-kind t found limits some e h = at-once t faults.RootKind limits some (wrong-root (base limits.tariff) limits.depth found e h)
+  pub refused-kind : (t : Stopped) (found : Target) (limits : Bounds) → 0 < length (segment_at m 0)
+      → target m root ≡ Ok found → may_be_root found ≡ false →
+      t ≡ record { fault = faults.RootKind; place = root; paid = 0; visits = 1 }
+      → IsRefused m limits t.fault t.place t.paid t.visits
+  refused-kind t found limits some e h =
+      at-once t faults.RootKind limits some (wrong-root (base limits.tariff) limits.depth found e h)
 
-  pub refused-fault : (t : Stopped) (f : Fault) (limits : Bounds) → 0 < length (segment_at m 0) → target m root ≡ Err f →
+  pub refused-fault : (t : Stopped) (f : Fault) (limits : Bounds) → 0 < length (segment_at m 0) → target m root ≡ Err f
+      →
       t ≡ record { fault = f; place = root; paid = 0; visits = 1 } → IsRefused m limits t.fault t.place t.paid t.visits
   refused-fault t f limits some e = at-once t f limits some (faulty-root (base limits.tariff) limits.depth f e)
 
   -- ---- the whole walk
 
-  module _ (limits : Bounds) (some : 0 < length (segment_at m 0)) (t : Target) (e : target m root ≡ Ok t) (kind : may_be_root t ≡ true) where
+  module _ (limits : Bounds) (some : 0 < length (segment_at m 0)) (t : Target) (e : target m root ≡ Ok t)
+      (kind : may_be_root t ≡ true) where
     -- what a value that was found at the root is
     pub record IsAnswer (v : Tree) (p k : ℕ) : Type 0 where
       pub value : IsValueOf m limits v
@@ -83,10 +93,12 @@ module _ (m : List (List ℕ)) where
       pub low : height v ≤ limits.depth
       pub fits : limits.budget ≤ 2 ^ 28 → limits.depth ≤ 256 → Fits v
 
-    pub answered : (v : Tree) (p k : ℕ) → Gives limits.budget (visits m (base limits.tariff) limits.depth root) 1 p k → IsAt m root v → IsAnswer v p k
+    pub answered : (v : Tree) (p k : ℕ) → Gives limits.budget (visits m (base limits.tariff) limits.depth root) 1 p k
+        → IsAt m root v → IsAnswer v p k
     answered v p k g here =
         let same = from-root (base limits.tariff) limits.depth t e kind in
-        let (w, s, n) = accepted-within limits.budget (visits_within m limits) p k (ap (judge limits.budget) same ∙ g.is) in
+        let (w, s, n) =
+        accepted-within limits.budget (visits_within m limits) p k (ap (judge limits.budget) same ∙ g.is) in
         let c = root-costs m (base limits.tariff) limits.depth v here w.all in
         let most = c.0 in
         record {
@@ -102,16 +114,20 @@ module _ (m : List (List ℕ)) where
         (t.fault ≡ faults.Memory) ⊎ IsRefused m limits t.fault t.place t.paid t.visits
     refused-below t r = from r.is
       where
-        from : (t.fault ≡ faults.Memory) ⊎ (judge limits.budget (visits m (base limits.tariff) limits.depth root) ≡ refused t.fault t.place t.paid t.visits) →
+        from : (t.fault ≡ faults.Memory)
+            ⊎ (judge limits.budget (visits m (base limits.tariff) limits.depth root)
+            ≡ refused t.fault t.place t.paid t.visits) →
             (t.fault ≡ faults.Memory) ⊎ IsRefused m limits t.fault t.place t.paid t.visits
         from (inl x) = inl x
         from (inr x) = inr (inr (
           some,
-          refused-stop limits.budget (visits_within m limits) t.fault t.place t.paid t.visits (ap (judge limits.budget) (from-root (base limits.tariff) limits.depth _ e kind) ∙ x),
+          refused-stop limits.budget (visits_within m limits) t.fault t.place t.paid t.visits
+              (ap (judge limits.budget) (from-root (base limits.tariff) limits.depth _ e kind) ∙ x),
         ))
 
   -- an accepted message isn't refused
-  pub not-refused : (limits : Bounds) (f : Fault) (at : Place) (p k : ℕ) → IsAccepted m limits → IsRefused m limits f at p k → ⊥
+  pub not-refused : (limits : Bounds) (f : Fault) (at : Place) (p k : ℕ) → IsAccepted m limits
+      → IsRefused m limits f at p k → ⊥
   not-refused limits f at p k a (inl r) = let some = a.some in let none = r.0 in omega arith
   not-refused limits f at p k a (inr r) = never-both limits.budget (visits_within m limits) f at p k a.within r.1
 

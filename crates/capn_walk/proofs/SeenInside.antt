@@ -1,5 +1,6 @@
 -- What a view shows lies inside its message.
-use Rattle.std.proofs.Common.{◌≡◌, ℕ, zero, suc, ◌+◌, ◌*◌, ◌/◌, ◌%◌, ◌^◌, ◌<◌, List, length, Result, Ok, Err, IfOk, refl, ap, sym, ◌∙◌, arith, ◌-◌}
+use Rattle.std.proofs.Common.{◌≡◌, ℕ, zero, suc, ◌+◌, ◌*◌, ◌/◌, ◌%◌, ◌^◌, ◌<◌, List, length, Result, Ok, Err, IfOk}
+use Rattle.std.proofs.Common.{refl, ap, sym, ◌∙◌, arith, ◌-◌}
 use Rattle.std.specs.Int.Bits.{bit_and}
 use Rattle.std.proofs.lemmas.Nat.{and_mask, pow-add}
 use Rattle.std.proofs.Math.Nat.{pow-suc}
@@ -14,7 +15,8 @@ use Rattle.capn_walk.specs.Viewed.{IsInMessage}
 use Rattle.capn_walk.specs.Laws.Inside.{inside}
 use Rattle.capn_walk.specs.Laws.Present.{present}
 
-pub found-inside : (m : List (List ℕ)) (at : Place) (t : Target) → at.word < length (segment_at m at.segment) → target m at ≡ Ok t → IsInMessage m t
+pub found-inside : (m : List (List ℕ)) (at : Place) (t : Target) → at.word < length (segment_at m at.segment)
+    → target m at ≡ Ok t → IsInMessage m t
 found-inside m at targets.Nil h e = tt
 found-inside m at (targets.Cap k) h e = tt
 found-inside m at (targets.Content s start shape pads) h e =
@@ -22,7 +24,8 @@ found-inside m at (targets.Content s start shape pads) h e =
     (record { exists = present m at s start pads shape h e; within = i.0 }, i.1)
 
 -- what a call found that is the target of a place
-pub answer-inside : (m : List (List ℕ)) (at : Place) (r : Result Target Fault) → at.word < length (segment_at m at.segment) → target m at ≡ r
+pub answer-inside : (m : List (List ℕ)) (at : Place) (r : Result Target Fault)
+    → at.word < length (segment_at m at.segment) → target m at ≡ r
     → IfOk r (IsInMessage m)
 answer-inside m at (Ok t) h e = found-inside m at t h e
 answer-inside m at (Err f) h e = tt

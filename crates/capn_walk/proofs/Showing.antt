@@ -1,10 +1,12 @@
 -- A view of a slot shows the value that stands there.
-use Rattle.std.proofs.Common.{◌≡◌, ℕ, zero, suc, ◌+◌, ◌*◌, ◌<◌, List, length, slice_index, Ok, refl, ap, sym, ◌∙◌, arith}
+use Rattle.std.proofs.Common.{◌≡◌, ℕ, zero, suc, ◌+◌, ◌*◌, ◌<◌, List, length, slice_index, Ok, refl, ap, sym, ◌∙◌}
+use Rattle.std.proofs.Common.{arith}
 use Rattle.std.specs.Int.{from_bool}
 use Rattle.std.proofs.lemmas.List.{get_or-take, length-map}
 use Rattle.capn_words.specs.declared.space.Place.{Place}
 use Rattle.capn_words.specs.declared.pointer.Width.TheVariants.{W0, W1, W8, W16, W32, W64, Link}
-use Rattle.capn_value.specs.Tree.{Tree, nil, node, voids, bits, bytes, pairs, quads, octs, links, rows, cap, Trees, no_trees, tree, Bodies, no_bodies, body, count, count_rows, tree_at}
+use Rattle.capn_value.specs.Tree.{Tree, nil, node, voids, bits, bytes, pairs, quads, octs, links, rows, cap, Trees}
+use Rattle.capn_value.specs.Tree.{no_trees, tree, Bodies, no_bodies, body, count, count_rows, tree_at}
 use Rattle.capn_walk.specs.declared.target.Target.{Target}
 use Rattle.capn_walk.specs.declared.target.Target.TheVariants as targets
 use Rattle.capn_walk.specs.declared.target.Shape.TheVariants as shapes
@@ -18,13 +20,17 @@ module _ (m : List (List ℕ)) where
   slot-at : (ts : Trees) (s w i : ℕ) → AreAt m s w ts → i < count ts → IsAt m (slot s (w + i)) (tree_at ts i)
   slot-at no_trees s w i a h = absurd (omega arith)
   slot-at (tree t ts) s w zero a h = let e : w + 0 ≡ w = omega arith in rw e a.0
-  slot-at (tree t ts) s w (suc i) a h = let e : w + suc i ≡ suc w + i = omega arith in rw e (slot-at ts s (suc w) i a.1 (omega arith))
+  slot-at (tree t ts) s w (suc i) a h = let e : w + suc i ≡ suc w + i = omega arith in
+      rw e (slot-at ts s (suc w) i a.1 (omega arith))
 
   -- one of several words
-  word-at : (s w : ℕ) (ws : List ℕ) (i : ℕ) → AreWords m s w ws → i < length ws → slice_index (words_from m s w) i ≡ slice_index ws i
-  word-at s w ws i a h = sym (get_or-take (length ws) (words_from m s w) i 0 h) ∙ ap (λ (xs : List ℕ). slice_index xs i) a
+  word-at : (s w : ℕ) (ws : List ℕ) (i : ℕ) → AreWords m s w ws → i < length ws
+      → slice_index (words_from m s w) i ≡ slice_index ws i
+  word-at s w ws i a h = sym (get_or-take (length ws) (words_from m s w) i 0 h)
+      ∙ ap (λ (xs : List ℕ). slice_index xs i) a
 
-  of-struct : (s start a b pads : ℕ) (ws : List ℕ) (ss : Trees) → length ws ≡ a → count ss ≡ b → AreWords m s start ws → AreAt m s (start + a) ss →
+  of-struct : (s start a b pads : ℕ) (ws : List ℕ) (ss : Trees) → length ws ≡ a → count ss ≡ b → AreWords m s start ws
+      → AreAt m s (start + a) ss →
       ShowsStruct m (targets.Content s start (shapes.Node a b) pads) ws ss
   of-struct s start a b pads ws ss la lb words are = record {
     kind = refl;
@@ -58,7 +64,8 @@ module _ (m : List (List ℕ)) where
       rw (← same-found at found (targets.Content i.segment i.start (shapes.Many W0 n) i.pads) e i.is) (refl, refl)
   shows at found (bits xs) e i =
       rw (← same-found at found (targets.Content i.segment i.start (shapes.Many W1 (length xs)) i.pads) e i.is)
-      (let l = length-map xs from_bool in record { kind = refl; len = sym l; numbers = sym l; number = λ j h. sym (i.inside j h) })
+      (let l = length-map xs from_bool in
+      record { kind = refl; len = sym l; numbers = sym l; number = λ j h. sym (i.inside j h) })
   shows at found (bytes xs) e i =
       rw (← same-found at found (targets.Content i.segment i.start (shapes.Many W8 (length xs)) i.pads) e i.is)
       (record { kind = refl; len = refl; numbers = refl; number = λ j h. sym (i.inside j h) })
@@ -76,7 +83,8 @@ module _ (m : List (List ℕ)) where
       (record { kind = refl; len = refl; links = refl; slot = λ j h. slot-at ts i.segment i.start j i.inside h })
   shows at found (rows bs) e i =
       let n = i.3 in
-      rw (← same-found at found (targets.Content n.segment n.start (shapes.Rows (count_rows bs) i.0 i.1 i.2) n.pads) e n.is)
+      rw (← same-found at found (targets.Content n.segment n.start (shapes.Rows (count_rows bs) i.0 i.1 i.2) n.pads) e
+      n.is)
       (record {
         kind = refl;
         len = refl;

@@ -1,5 +1,6 @@
 -- A step of a view is one visit of a walk.
-use Rattle.std.proofs.Common.{◌≡◌, ℕ, ◌+◌, ◌-◌, ◌*◌, ◌<◌, ◌≤◌, ◌==◌, nat_lt, List, [], ◌∷◌, ◌++◌, length, Result, Ok, Err, None, refl, ap, sym, subst, ◌∙◌, arith, inr, true}
+use Rattle.std.proofs.Common.{◌≡◌, ℕ, ◌+◌, ◌-◌, ◌*◌, ◌<◌, ◌≤◌, ◌==◌, nat_lt, List, [], ◌∷◌, ◌++◌, length, Result, Ok}
+use Rattle.std.proofs.Common.{Err, None, refl, ap, sym, subst, ◌∙◌, arith, inr, true}
 use Rattle.std.proofs.lemmas.Bool.Decides.{nat_tests}
 use Rattle.capn_words.specs.declared.space.Place.{Place}
 use Rattle.capn_words.specs.Laws.FieldBits.{pick}
@@ -57,19 +58,22 @@ module _ (m : List (List ℕ)) (base : ℕ) (at : Place) (depth budget : ℕ) wh
   pub step-pays : (t : Target) → stepped base depth budget (target m at) ≡ Ok t → IsPaid t
   step-pays t h = let k = rw h at (told (target m at) refl) in k
 
-  pub step-stops : (e : Fault) → stepped base depth budget (target m at) ≡ Err e → judge budget (visits m base depth at) ≡ refused e at 0 1
+  pub step-stops : (e : Fault) → stepped base depth budget (target m at) ≡ Err e
+      → judge budget (visits m base depth at) ≡ refused e at 0 1
   step-stops e h = let k = rw h at (told (target m at) refl) in k
 
   -- ---- where the visits of a slot are within what is left, a step to it answers
 
-  pub step-answers : (e : Fault) → IsWithin budget (visits m base depth at) → stepped base depth budget (target m at) ≡ Err e → ⊥
+  pub step-answers : (e : Fault) → IsWithin budget (visits m base depth at)
+      → stepped base depth budget (target m at) ≡ Err e → ⊥
   step-answers e w h =
       let a = within-accepted budget (visits m base depth at) w.all w.paid in
       let r = step-stops e h in
       absurd cc
 
   -- and what is left behind it is enough for all below
-  pub left-for-below : (t : Target) → IsWithin budget (visits m base depth at) → stepped base depth budget (target m at) ≡ Ok t →
+  pub left-for-below : (t : Target) → IsWithin budget (visits m base depth at)
+      → stepped base depth budget (target m at) ≡ Ok t →
       IsWithin (budget - toll base t) (visits_of m base (depth - 1) (slots_below t))
   left-for-below t w h =
       let is = (step-pays t h).is in
@@ -93,16 +97,20 @@ pub content-taken : (base depth budget s start pads : ℕ) (shape : Shape) →
     stepped base depth budget (Ok (targets.Content s start shape pads)) ≡ Ok (targets.Content s start shape pads) →
     (0 < depth) × (price base shape + pads ≤ budget)
 content-taken base depth budget s start pads shape =
-    pick (λ (r : Result Target Fault). r ≡ Ok (targets.Content s start shape pads) → (0 < depth) × (price base shape + pads ≤ budget)) (depth == 0) _ _
+    pick (λ (r : Result Target Fault). r ≡ Ok (targets.Content s start shape pads) → (0 < depth)
+    × (price base shape + pads ≤ budget)) (depth == 0) _ _
     (λ z e. absurd cc)
-    (λ z. pick (λ (r : Result Target Fault). r ≡ Ok (targets.Content s start shape pads) → (0 < depth) × (price base shape + pads ≤ budget))
+    (λ z. pick (λ (r : Result Target Fault). r ≡ Ok (targets.Content s start shape pads) → (0 < depth)
+    × (price base shape + pads ≤ budget))
     (nat_lt budget (price base shape + pads)) _ _
     (λ over e. absurd cc)
     (λ within e. (grind (arith, nat_tests), grind (arith, nat_tests))))
 
 -- what a refused step says of the visits of its slot
-pub step-refuses : (m : List (List ℕ)) (base : ℕ) (at : Place) (depth budget : ℕ) (t : Target) (e : Fault) (s : Stopped) → target m at ≡ Ok t
-    → stepped base depth budget (Ok t) ≡ Err e → s ≡ record { fault = e; place = at; paid = 0; visits = 1 } → Refuses budget (visits m base depth at) 1 s
+pub step-refuses : (m : List (List ℕ)) (base : ℕ) (at : Place) (depth budget : ℕ) (t : Target) (e : Fault) (s : Stopped)
+    → target m at ≡ Ok t
+    → stepped base depth budget (Ok t) ≡ Err e → s ≡ record { fault = e; place = at; paid = 0; visits = 1 }
+    → Refuses budget (visits m base depth at) 1 s
 step-refuses m base at depth budget t e s is h k = rw k (record {
   is = inr (step-stops m base at depth budget e (ap (stepped base depth budget) is ∙ h));
   within = omega arith;
@@ -110,7 +118,8 @@ step-refuses m base at depth budget t e s is h k = rw k (record {
 })
 
 -- the step to a root that may be one is the step to what it names
-pub step-to-root : (m : List (List ℕ)) (base depth budget : ℕ) (t : Target) → 0 < length (segment_at m 0) → target m root ≡ Ok t → may_be_root t ≡ true
+pub step-to-root : (m : List (List ℕ)) (base depth budget : ℕ) (t : Target) → 0 < length (segment_at m 0)
+    → target m root ≡ Ok t → may_be_root t ≡ true
     → stepped base depth budget (Ok t) ≡ stepped_to_root m base depth budget
 step-to-root m base depth budget t some is kind =
     let r : rooted (target m root) ≡ Ok t = rw (is, kind) refl in
@@ -130,10 +139,12 @@ entered-root m b d l base depth budget t e f g some is kind h =
 
 -- several slots, one after the other
 pub within-front : (b : ℕ) (xs ys : List Visit) → IsWithin b (xs ++ ys) → IsWithin b xs
-within-front b xs ys w = let p = w.paid in let s = paid-append xs ys in record { all = all-front xs ys w.all; paid = omega arith }
+within-front b xs ys w = let p = w.paid in let s = paid-append xs ys in
+    record { all = all-front xs ys w.all; paid = omega arith }
 
 pub within-back : (b : ℕ) (xs ys : List Visit) → IsWithin b (xs ++ ys) → IsWithin (b - paid_of xs) ys
-within-back b xs ys w = let p = w.paid in let s = paid-append xs ys in record { all = all-back xs ys w.all; paid = omega arith }
+within-back b xs ys w = let p = w.paid in let s = paid-append xs ys in
+    record { all = all-back xs ys w.all; paid = omega arith }
 
 -- what stands near
 module _ (m : List (List ℕ)) where
@@ -160,7 +171,8 @@ module _ (m : List (List ℕ)) where
   capless-list s start pads Link n = capless-within s start _ _ refl
   capless-list s start pads Rows n = capless-within s start _ _ (capless-tagged s start pads n _)
 
-  capless-list_from : (s : ℕ) (r : Result ℕ Fault) (pads : ℕ) (width : Width) (n : ℕ) → NoCap (list_from m s r pads width n)
+  capless-list_from : (s : ℕ) (r : Result ℕ Fault) (pads : ℕ) (width : Width) (n : ℕ)
+      → NoCap (list_from m s r pads width n)
   capless-list_from s (Ok start) pads width n = capless-list s start pads width n
   capless-list_from s (Err e) pads width n = refl
 
@@ -176,7 +188,8 @@ module _ (m : List (List ℕ)) where
   near-capless s w pads (Cap k) = refl
   near-capless s w pads (Reserved n) = refl
 
-  pub capless-near : (at : Place) (p : Pointer) → near m at.segment at.word 0 p ≡ target m at → cap_of (target m at) ≡ None
+  pub capless-near : (at : Place) (p : Pointer) → near m at.segment at.word 0 p ≡ target m at
+      → cap_of (target m at) ≡ None
   capless-near at p h = rw h at (near-capless at.segment at.word 0 p)
 
   -- a list of numbers has no slots
@@ -197,7 +210,8 @@ module _ (m : List (List ℕ)) where
   none-list s start pads Link n h = absurd h
   none-list s start pads Rows n h = absurd h
 
-  none-list_from : (s : ℕ) (r : Result ℕ Fault) (pads : ℕ) (width : Width) (n : ℕ) → IsPlain width → HasNone (list_from m s r pads width n)
+  none-list_from : (s : ℕ) (r : Result ℕ Fault) (pads : ℕ) (width : Width) (n : ℕ) → IsPlain width
+      → HasNone (list_from m s r pads width n)
   none-list_from s (Ok start) pads width n h = none-list s start pads width n h
   none-list_from s (Err e) pads width n h = tt
 
@@ -209,13 +223,16 @@ module _ (m : List (List ℕ)) where
   none-near s w pads (Cap k) h = absurd h
   none-near s w pads (Reserved n) h = absurd h
 
-  pub numbers-below : (s w pads : ℕ) (p : Pointer) (t : Target) → AreNumbers p → near m s w pads p ≡ Ok t → slots_below t ≡ []
+  pub numbers-below : (s w pads : ℕ) (p : Pointer) (t : Target) → AreNumbers p → near m s w pads p ≡ Ok t
+      → slots_below t ≡ []
   numbers-below s w pads p t h e = let k = rw e at (none-near s w pads p h) in k
 
   -- a visit of such a list, where its target is known
   module _ (base : ℕ) (at : Place) (depth left : ℕ) (p : Pointer) where
-    pub numbers-paid : (t : Target) → AreNumbers p → near m at.segment at.word 0 p ≡ Ok t → near m at.segment at.word 0 p ≡ target m at →
-        (r : Result ℕ Fault) → MatchResult r (λ n. stepped base depth left (Ok t) ≡ Ok t) (λ e. stepped base depth left (Ok t) ≡ Err e) →
+    pub numbers-paid : (t : Target) → AreNumbers p → near m at.segment at.word 0 p ≡ Ok t
+        → near m at.segment at.word 0 p ≡ target m at →
+        (r : Result ℕ Fault)
+        → MatchResult r (λ n. stepped base depth left (Ok t) ≡ Ok t) (λ e. stepped base depth left (Ok t) ≡ Err e) →
         IfOk r (λ n. n ≡ toll base t) → IfOk r (λ n. visits m base depth at ≡ pays at n ∷ [])
     numbers-paid t k h e (Ok n) f x =
         let s = sym e ∙ h in
@@ -225,12 +242,15 @@ module _ (m : List (List ℕ)) where
         rw (← x, empty) at w
     numbers-paid t k h e (Err n) f x = tt
 
-    pub numbers-stop : (t : Target) → near m at.segment at.word 0 p ≡ Ok t → near m at.segment at.word 0 p ≡ target m at →
-        (r : Result ℕ Fault) → MatchResult r (λ n. stepped base depth left (Ok t) ≡ Ok t) (λ e. stepped base depth left (Ok t) ≡ Err e) →
+    pub numbers-stop : (t : Target) → near m at.segment at.word 0 p ≡ Ok t → near m at.segment at.word 0 p ≡ target m at
+        →
+        (r : Result ℕ Fault)
+        → MatchResult r (λ n. stepped base depth left (Ok t) ≡ Ok t) (λ e. stepped base depth left (Ok t) ≡ Err e) →
         IfErr r (λ e. judge left (visits m base depth at) ≡ refused e at 0 1)
     numbers-stop t h e (Ok n) f = tt
     numbers-stop t h e (Err n) f = step-stops m base at depth left n (ap (stepped base depth left) (sym e ∙ h) ∙ f)
 
-    pub numbers-fault : (x : Fault) → near m at.segment at.word 0 p ≡ Err x → near m at.segment at.word 0 p ≡ target m at →
+    pub numbers-fault : (x : Fault) → near m at.segment at.word 0 p ≡ Err x
+        → near m at.segment at.word 0 p ≡ target m at →
         judge left (visits m base depth at) ≡ refused x at 0 1
     numbers-fault x h e = ap (judge left) (visits-fault m base at depth x (sym e ∙ h))

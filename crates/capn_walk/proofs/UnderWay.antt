@@ -1,5 +1,6 @@
 -- What a survey knows while it is under way.
-use Rattle.std.proofs.Common.{ℤ, ◌*◌, ◌≡◌, inr, ℕ, ◌+◌, ◌-◌, ◌<◌, ◌≤◌, List, [], ◌∷◌, ◌++◌, length, Option, Some, None, Ok, refl, ap, sym, ◌∙◌, arith}
+use Rattle.std.proofs.Common.{ℤ, ◌*◌, ◌≡◌, inr, ℕ, ◌+◌, ◌-◌, ◌<◌, ◌≤◌, List, [], ◌∷◌, ◌++◌, length, Option, Some, None}
+use Rattle.std.proofs.Common.{Ok, refl, ap, sym, ◌∙◌, arith}
 use Rattle.std.proofs.lemmas.List.{append-nil}
 use Rattle.std.proofs.Common.{append_assoc, length-append}
 use Rattle.std.specs.Option.{option_or}
@@ -65,10 +66,12 @@ module _ (m : List (List ℕ)) where
       visits_left m base (ws ++ w ∷ []) ≡ visits_of m base w.depth (places_of w.frame) ++ visits_left m base ws
   left-push base [] w = sym (append-nil (visits_of m base w.depth (places_of w.frame)))
   left-push base (g ∷ ws) w =
-      ap (λ (vs : List Visit). vs ++ visits_of m base g.depth (places_of g.frame)) (left-push base ws w) ∙ rw append_assoc refl
+      ap (λ (vs : List Visit). vs ++ visits_of m base g.depth (places_of g.frame)) (left-push base ws w)
+      ∙ rw append_assoc refl
 
   -- the visits of the first of several places
-  pub of-first : (base d : ℕ) (at : Place) (ps : List Place) → visits_of m base d (at ∷ ps) ≡ visits m base d at ++ visits_of m base d ps
+  pub of-first : (base d : ℕ) (at : Place) (ps : List Place)
+      → visits_of m base d (at ∷ ps) ≡ visits m base d at ++ visits_of m base d ps
   of-first base d at ps = refl
 
 -- ---- a survey under way: of a list of visits, some are made, and the others are to come
@@ -90,14 +93,16 @@ module _ (m : List (List ℕ)) (budget : ℕ) (vs : List Visit) (n : ℕ) where
 
   -- a visit that pays, with so many slots below it
   pub goes-on : (at : Place) (p : ℕ) (below rest : List Visit) (o b paid visits : ℕ) (cap k : Option ℕ) →
-      IsUnderWay (pays at p ∷ (below ++ rest)) (o + 1) paid visits cap → p ≤ budget - paid → b ≤ p → cap_of (target m at) ≡ k →
+      IsUnderWay (pays at p ∷ (below ++ rest)) (o + 1) paid visits cap → p ≤ budget - paid → b ≤ p
+      → cap_of (target m at) ≡ k →
       IsUnderWay (below ++ rest) (b + o) (paid + p) (visits + 1) (option_or cap k)
   goes-on at p below rest o b paid visits cap k u fits few e = record {
     is =
         let one = judge-pays (budget - paid) p at (below ++ rest) fits in
         let two = after-after paid visits p 1 (judge (budget - paid - p) (below ++ rest)) in
         let z : budget - paid - p ≡ budget - (paid + p) = omega arith in
-        u.is ∙ ap (after paid visits) one ∙ two ∙ ap (λ (c : ℕ). after (paid + p) (visits + 1) (judge c (below ++ rest))) z;
+        u.is ∙ ap (after paid visits) one ∙ two
+        ∙ ap (λ (c : ℕ). after (paid + p) (visits + 1) (judge c (below ++ rest))) z;
     within = let a = u.within in omega arith;
     few = let a = u.few in omega arith;
     first = u.first ∙ ap (λ (x : Option ℕ). option_or cap (option_or x (first_cap_of m (below ++ rest)))) e
@@ -110,15 +115,19 @@ module _ (m : List (List ℕ)) (budget : ℕ) (vs : List Visit) (n : ℕ) where
       judge budget vs ≡ refused e at paid (visits + 1)
   stops here rest o paid visits cap e at u h =
       let z : paid + 0 ≡ paid = omega arith in
-      u.is ∙ ap (after paid visits) (judge-stops (budget - paid) here rest e at 0 1 h) ∙ ap (λ (c : ℕ). refused e at c (visits + 1)) z
+      u.is ∙ ap (after paid visits) (judge-stops (budget - paid) here rest e at 0 1 h)
+      ∙ ap (λ (c : ℕ). refused e at c (visits + 1)) z
 
   -- no visit is to come
   pub ends : (paid visits : ℕ) (cap : Option ℕ) → IsUnderWay [] 0 paid visits cap →
       (judge budget vs ≡ accepted paid visits) × (first_cap_of m vs ≡ cap)
   ends paid visits cap u =
       let z : paid + 0 ≡ paid = omega arith in
-      let y : visits + 0 ≡ visits = omega arith in
-      (u.is ∙ ap (λ (c : ℕ). accepted c (visits + 0)) z ∙ ap (λ (c : ℕ). accepted paid c) y, u.first ∙ option_or-none cap)
+      let y : visits + 0 ≡ visits = omega arith in (
+        u.is ∙ ap (λ (c : ℕ). accepted c (visits + 0)) z ∙ ap (λ (c : ℕ). accepted paid c) y,
+        u.first
+            ∙ option_or-none cap,
+      )
 
 -- ---- a survey with an object in hand and a stack of those above it
 
@@ -132,17 +141,20 @@ null_pointer = refl
 -- the word 0 is null
 pub null-target : (m : List (List ℕ)) (at : Place) → word_at m at ≡ 0 → target m at ≡ Ok targets.Nil
 unfolding target
-null-target m at h = ap (λ (w : ℕ). named m at.segment at.word (pointer_of w)) h ∙ ap (named m at.segment at.word) null_pointer
+null-target m at h = ap (λ (w : ℕ). named m at.segment at.word (pointer_of w)) h
+    ∙ ap (named m at.segment at.word) null_pointer
 
 module _ (m : List (List ℕ)) (base : ℕ) where
   -- the visits to come: of the object in hand, then of those that wait
   abbrev pub coming : ℕ → List Waiting → Frame → List Visit
   coming d ws f = visits_of m base d (places_of f) ++ visits_left m base ws
 
-  pub coming-done : (d : ℕ) (ws : List Waiting) (f : Frame) → HasRows f → owed f ≡ 0 → coming d ws f ≡ visits_left m base ws
+  pub coming-done : (d : ℕ) (ws : List Waiting) (f : Frame) → HasRows f → owed f ≡ 0
+      → coming d ws f ≡ visits_left m base ws
   coming-done d ws f h e = ap (λ (ps : List Place). visits_of m base d ps ++ visits_left m base ws) (nothing-left f h e)
 
-  pub coming-take : (d : ℕ) (ws : List Waiting) (f rest below : Frame) (at : Place) (p : ℕ) → places_of f ≡ at ∷ places_of rest →
+  pub coming-take : (d : ℕ) (ws : List Waiting) (f rest below : Frame) (at : Place) (p : ℕ)
+      → places_of f ≡ at ∷ places_of rest →
       visits m base d at ≡ pays at p ∷ visits_of m base (d - 1) (places_of below) →
       coming d ws f ≡ pays at p ∷ (visits_of m base (d - 1) (places_of below) ++ coming d ws rest)
   coming-take d ws f rest below at p h e = rw (h, e) (rw append_assoc refl)
@@ -154,31 +166,37 @@ module _ (m : List (List ℕ)) (base : ℕ) where
 
   pub coming-leaf : (d : ℕ) (ws : List Waiting) (rest below : Frame) → HasRows below → owed below ≡ 0 →
       visits_of m base (d - 1) (places_of below) ++ coming d ws rest ≡ coming d ws rest
-  coming-leaf d ws rest below h e = ap (λ (ps : List Place). visits_of m base (d - 1) ps ++ coming d ws rest) (nothing-left below h e)
+  coming-leaf d ws rest below h e =
+      ap (λ (ps : List Place). visits_of m base (d - 1) ps ++ coming d ws rest) (nothing-left below h e)
 
   -- what waits once a slot of the object in hand is gone into: nothing more where no other slot of it is left
   pub data IsKept (d : ℕ) (ws : List Waiting) (rest : Frame) (new : List Waiting) : Type 0 where
     dropped : owed rest ≡ 0 → new ≡ ws → IsKept d ws rest new
     kept : new ≡ ws ++ record { frame = rest; depth = d } ∷ [] → IsKept d ws rest new
 
-  pub coming-kept : (d : ℕ) (ws : List Waiting) (rest below : Frame) (new : List Waiting) → HasRows rest → IsKept d ws rest new →
+  pub coming-kept : (d : ℕ) (ws : List Waiting) (rest below : Frame) (new : List Waiting) → HasRows rest
+      → IsKept d ws rest new →
       visits_of m base (d - 1) (places_of below) ++ coming d ws rest ≡ coming (d - 1) new below
   coming-kept d ws rest below new h (dropped z e) =
-      ap (λ (vs : List Visit). visits_of m base (d - 1) (places_of below) ++ vs) (coming-done d ws rest h z ∙ sym (ap (visits_left m base) e))
+      ap (λ (vs : List Visit). visits_of m base (d - 1) (places_of below) ++ vs) (coming-done d ws rest h z
+      ∙ sym (ap (visits_left m base) e))
   coming-kept d ws rest below new h (kept e) =
       ap (λ (vs : List Visit). visits_of m base (d - 1) (places_of below) ++ vs)
       (sym (left-push m base ws (record { frame = rest; depth = d })) ∙ sym (ap (visits_left m base) e))
 
-  owed-kept : (d : ℕ) (ws : List Waiting) (rest : Frame) (new : List Waiting) → IsKept d ws rest new → owed rest + owed_by ws ≡ owed_by new
+  owed-kept : (d : ℕ) (ws : List Waiting) (rest : Frame) (new : List Waiting) → IsKept d ws rest new
+      → owed rest + owed_by ws ≡ owed_by new
   owed-kept d ws rest new (dropped z e) = let k = ap owed_by e in omega arith
   owed-kept d ws rest new (kept e) =
       sym (owed_by-push m ws (record { frame = rest; depth = d })) ∙ sym (ap owed_by e)
 
-  lie-kept : (d : ℕ) (ws : List Waiting) (rest : Frame) (new : List Waiting) → IsKept d ws rest new → AllLie m ws → Lies m rest → AllLie m new
+  lie-kept : (d : ℕ) (ws : List Waiting) (rest : Frame) (new : List Waiting) → IsKept d ws rest new → AllLie m ws
+      → Lies m rest → AllLie m new
   lie-kept d ws rest new (dropped z e) a l = rw e a
   lie-kept d ws rest new (kept e) a l = rw e (all_lie-push m ws (record { frame = rest; depth = d }) a l)
 
-  shallow-kept : (limit d : ℕ) (ws : List Waiting) (rest : Frame) (new : List Waiting) → IsKept d ws rest new → AreShallow limit ws →
+  shallow-kept : (limit d : ℕ) (ws : List Waiting) (rest : Frame) (new : List Waiting) → IsKept d ws rest new
+      → AreShallow limit ws →
       d + length ws ≤ limit → AreShallow limit new × (length new ≤ length ws + 1)
   shallow-kept limit d ws rest new (dropped z e) a l = (rw e a, let k = ap length e in omega arith)
   shallow-kept limit d ws rest new (kept e) a l =
@@ -195,7 +213,8 @@ module _ (m : List (List ℕ)) (base : ℕ) where
       pub depth : d + length ws ≤ limit
 
     -- the object in hand is done, and the one that waits last is taken from the stack
-    pub popped : (d : ℕ) (old ws : List Waiting) (f : Frame) (w : Waiting) (paid visits : ℕ) (cap : Option ℕ) → old ≡ ws ++ w ∷ [] → owed f ≡ 0 →
+    pub popped : (d : ℕ) (old ws : List Waiting) (f : Frame) (w : Waiting) (paid visits : ℕ) (cap : Option ℕ)
+        → old ≡ ws ++ w ∷ [] → owed f ≡ 0 →
         Surveys d old f paid visits cap → Surveys w.depth ws w.frame paid visits cap
     popped d old ws f w paid visits cap e z s =
         let p : Surveys d (ws ++ w ∷ []) f paid visits cap = rw (← e) s in
@@ -216,7 +235,8 @@ module _ (m : List (List ℕ)) (base : ℕ) where
         }
 
     -- the next row of the object is in hand
-    pub next-row : (d : ℕ) (ws : List Waiting) (f row : Frame) (paid visits : ℕ) (cap : Option ℕ) → places_of row ≡ places_of f → owed row ≡ owed f →
+    pub next-row : (d : ℕ) (ws : List Waiting) (f row : Frame) (paid visits : ℕ) (cap : Option ℕ)
+        → places_of row ≡ places_of f → owed row ≡ owed f →
         Lies m row → Surveys d ws f paid visits cap → Surveys d ws row paid visits cap
     next-row d ws f row paid visits cap p o l s = record {
       under = rw (p, o) s.under;
@@ -226,14 +246,17 @@ module _ (m : List (List ℕ)) (base : ℕ) where
       depth = s.depth;
     }
 
-    pub fewer-rows : (d : ℕ) (ws : List Waiting) (f row : Frame) → places_of row ≡ places_of f → f.left ≡ 0 → 0 < row.left →
-        3 * length (coming d ws row) + length ws + (1 - row.left) < 3 * length (coming d ws f) + length ws + (1 - f.left)
+    pub fewer-rows : (d : ℕ) (ws : List Waiting) (f row : Frame) → places_of row ≡ places_of f → f.left ≡ 0
+        → 0 < row.left →
+        3 * length (coming d ws row) + length ws + (1 - row.left) < 3 * length (coming d ws f) + length ws
+        + (1 - f.left)
     fewer-rows d ws f row p z h =
         let n = ap (λ (ps : List Place). length (visits_of m base d ps ++ visits_left m base ws)) p in
         omega arith
 
     -- nothing is left
-    pub finished : (d : ℕ) (ws : List Waiting) (f : Frame) (paid visits : ℕ) (cap : Option ℕ) → length ws ≡ 0 → owed f ≡ 0 →
+    pub finished : (d : ℕ) (ws : List Waiting) (f : Frame) (paid visits : ℕ) (cap : Option ℕ) → length ws ≡ 0
+        → owed f ≡ 0 →
         Surveys d ws f paid visits cap → Gives budget vs n paid visits × (first_cap_of m vs ≡ cap)
     finished d [] f paid visits cap l z s =
         let c = coming-done d [] f s.lies.rows z in
@@ -244,61 +267,69 @@ module _ (m : List (List ℕ)) (base : ℕ) where
     finished d (g ∷ ws) f paid visits cap l z s = absurd (omega arith)
 
     module _ (d : ℕ) (ws : List Waiting) (f rest : Frame) (at : Place) (paid made : ℕ) (cap : Option ℕ)
-        (s : Surveys d ws f paid made cap) (next : places_of f ≡ at ∷ places_of rest) (less : owed f ≡ owed rest + 1) where
-      module _ (below : Frame) (p : ℕ) (k : Option ℕ) (here : visits m base d at ≡ pays at p ∷ visits_of m base (d - 1) (places_of below))
-          (fits : p ≤ budget - paid) (few : owed below ≤ p) (c : cap_of (target m at) ≡ k) where
-        under-next : IsUnderWay m budget vs n (visits_of m base (d - 1) (places_of below) ++ coming d ws rest)
-            (owed below + (owed rest + owed_by ws)) (paid + p) (made + 1) (option_or cap k)
-        under-next =
-            let t = coming-take d ws f rest below at p next here in
-            let owes : owed f + owed_by ws ≡ owed rest + owed_by ws + 1 = omega arith in
-            let u = rw (t, owes) at s.under in
-            goes-on m budget vs n at p (visits_of m base (d - 1) (places_of below)) (coming d ws rest) (owed rest + owed_by ws) (owed below) paid made cap k u fits few c
+        (s : Surveys d ws f paid made cap) (next : places_of f ≡ at ∷ places_of rest) (less : owed f ≡ owed rest + 1)
+      where
+        module _ (below : Frame) (p : ℕ) (k : Option ℕ)
+            (here : visits m base d at ≡ pays at p ∷ visits_of m base (d - 1) (places_of below))
+            (fits : p ≤ budget - paid) (few : owed below ≤ p) (c : cap_of (target m at) ≡ k) where
+          under-next : IsUnderWay m budget vs n (visits_of m base (d - 1) (places_of below) ++ coming d ws rest)
+              (owed below + (owed rest + owed_by ws)) (paid + p) (made + 1) (option_or cap k)
+          under-next =
+              let t = coming-take d ws f rest below at p next here in
+              let owes : owed f + owed_by ws ≡ owed rest + owed_by ws + 1 = omega arith in
+              let u = rw (t, owes) at s.under in
+              goes-on m budget vs n at p (visits_of m base (d - 1) (places_of below)) (coming d ws rest)
+              (owed rest + owed_by ws) (owed below) paid made cap k u fits few c
 
-        -- the slot has an object with slots, which is now the object in hand
-        pub entered : (new : List Waiting) → IsKept d ws rest new → Lies m rest → Lies m below → 0 < d →
-            Surveys (d - 1) new below (paid + p) (made + 1) (option_or cap k)
-        entered new e lr lb deep =
-            let h = s.depth in
-            let o = owed-kept d ws rest new e in
-            let b = shallow-kept limit d ws rest new e s.shallow h in
-            let l = b.1 in
+          -- the slot has an object with slots, which is now the object in hand
+          pub entered : (new : List Waiting) → IsKept d ws rest new → Lies m rest → Lies m below → 0 < d →
+              Surveys (d - 1) new below (paid + p) (made + 1) (option_or cap k)
+          entered new e lr lb deep =
+              let h = s.depth in
+              let o = owed-kept d ws rest new e in
+              let b = shallow-kept limit d ws rest new e s.shallow h in
+              let l = b.1 in
+              record {
+                under = rw (← coming-kept d ws rest below new lr.rows e, ← o) under-next;
+                lies = lb;
+                all = lie-kept d ws rest new e s.all lr;
+                shallow = b.0;
+                depth = omega arith;
+              }
+
+          -- the slot has none
+          pub passed : Lies m rest → HasRows below → owed below ≡ 0
+              → Surveys d ws rest (paid + p) (made + 1) (option_or cap k)
+          passed lr hb z =
+              let owes : owed below + (owed rest + owed_by ws) ≡ owed rest + owed_by ws = omega arith in
+              record {
+                under = rw (← coming-leaf d ws rest below hb z, ← owes) under-next;
+                lies = lr;
+                all = s.all;
+                shallow = s.shallow;
+                depth = s.depth;
+              }
+
+        -- the slot is refused
+        pub refused-here : (e : Fault) → judge (budget - paid) (visits m base d at) ≡ refused e at 0 1 →
+            Refuses budget vs n (record { fault = e; place = at; paid = paid; visits = made + 1 })
+        refused-here e h =
+            let u = rw (coming-stop d ws f rest at next) at s.under in
             record {
-              under = rw (← coming-kept d ws rest below new lr.rows e, ← o) under-next;
-              lies = lb;
-              all = lie-kept d ws rest new e s.all lr;
-              shallow = b.0;
-              depth = omega arith;
+              is = inr (stops m budget vs n (visits m base d at) (coming d ws rest) (owed f + owed_by ws) paid made cap
+                  e
+                  at u h);
+              within = u.within;
+              few = let w = u.few in omega arith;
             }
-
-        -- the slot has none
-        pub passed : Lies m rest → HasRows below → owed below ≡ 0 → Surveys d ws rest (paid + p) (made + 1) (option_or cap k)
-        passed lr hb z =
-            let owes : owed below + (owed rest + owed_by ws) ≡ owed rest + owed_by ws = omega arith in
-            record {
-              under = rw (← coming-leaf d ws rest below hb z, ← owes) under-next;
-              lies = lr;
-              all = s.all;
-              shallow = s.shallow;
-              depth = s.depth;
-            }
-
-      -- the slot is refused
-      pub refused-here : (e : Fault) → judge (budget - paid) (visits m base d at) ≡ refused e at 0 1 →
-          Refuses budget vs n (record { fault = e; place = at; paid = paid; visits = made + 1 })
-      refused-here e h =
-          let u = rw (coming-stop d ws f rest at next) at s.under in
-          record {
-            is = inr (stops m budget vs n (visits m base d at) (coming d ws rest) (owed f + owed_by ws) paid made cap e at u h);
-            within = u.within;
-            few = let w = u.few in omega arith;
-          }
 
     -- ---- the visits to come grow fewer
 
-    pub as-many : (d : ℕ) (old ws : List Waiting) (f : Frame) (w : Waiting) (paid made : ℕ) (cap : Option ℕ) → old ≡ ws ++ w ∷ [] → owed f ≡ 0 → f.left ≡ 0 →
+    pub as-many : (d : ℕ) (old ws : List Waiting) (f : Frame) (w : Waiting) (paid made : ℕ) (cap : Option ℕ)
+        → old ≡ ws ++ w ∷ [] → owed f ≡ 0 → f.left ≡ 0 →
         Surveys d old f paid made cap →
-        3 * length (coming w.depth ws w.frame) + length ws + (1 - w.frame.left) < 3 * length (coming d old f) + length old + (1 - f.left)
+        3 * length (coming w.depth ws w.frame) + length ws + (1 - w.frame.left) < 3 * length (coming d old f)
+        + length old + (1 - f.left)
     as-many d old ws f w paid made cap e z y s =
         let c = coming-done d old f s.lies.rows z in
         let l : length old ≡ length ws + 1 = ap length e ∙ length-append ws (w ∷ []) in
@@ -310,7 +341,8 @@ module _ (m : List (List ℕ)) (base : ℕ) where
         (s : Surveys d ws f paid made cap) (next : places_of f ≡ at ∷ places_of rest)
         (here : visits m base d at ≡ pays at p ∷ visits_of m base (d - 1) (places_of below)) where
       pub fewer-entered : (new : List Waiting) → HasRows rest → IsKept d ws rest new →
-          3 * length (coming (d - 1) new below) + length new + (1 - below.left) < 3 * length (coming d ws f) + length ws + (1 - f.left)
+          3 * length (coming (d - 1) new below) + length new + (1 - below.left) < 3 * length (coming d ws f) + length ws
+          + (1 - f.left)
       fewer-entered new hr e =
           let t = ap length (coming-take d ws f rest below at p next here) in
           let n = ap length (coming-kept d ws rest below new hr e) in
@@ -319,7 +351,8 @@ module _ (m : List (List ℕ)) (base : ℕ) where
           omega arith
 
       pub fewer-passed : HasRows below → owed below ≡ 0 →
-          3 * length (coming d ws rest) + length ws + (1 - rest.left) < 3 * length (coming d ws f) + length ws + (1 - f.left)
+          3 * length (coming d ws rest) + length ws + (1 - rest.left) < 3 * length (coming d ws f) + length ws
+          + (1 - f.left)
       fewer-passed hb z =
           let t = ap length (coming-take d ws f rest below at p next here) in
           let n = ap length (coming-leaf d ws rest below hb z) in
@@ -327,25 +360,31 @@ module _ (m : List (List ℕ)) (base : ℕ) where
 
     -- a null slot
     module _ (d : ℕ) (ws : List Waiting) (f rest : Frame) (at : Place) (paid made : ℕ) (cap : Option ℕ)
-        (s : Surveys d ws f paid made cap) (next : places_of f ≡ at ∷ places_of rest) (none : target m at ≡ Ok targets.Nil) where
+        (s : Surveys d ws f paid made cap) (next : places_of f ≡ at ∷ places_of rest)
+        (none : target m at ≡ Ok targets.Nil) where
       pub passed-null : owed f ≡ owed rest + 1 → Lies m rest → Surveys d ws rest paid (made + 1) cap
       passed-null less lr =
           let z : paid + 0 ≡ paid = omega arith in
           rw (z, option_or-none cap) at
-          (passed d ws f rest at paid made cap s next less no_frame 0 None (visits-null m base at d none) (omega arith) (omega arith) (ap cap_of none) lr (λ h. absurd (omega arith)) refl)
+          (passed d ws f rest at paid made cap s next less no_frame 0 None (visits-null m base at d none) (omega arith)
+          (omega arith) (ap cap_of none) lr (λ h. absurd (omega arith)) refl)
 
-      pub fewer-null : 3 * length (coming d ws rest) + length ws + (1 - rest.left) < 3 * length (coming d ws f) + length ws + (1 - f.left)
-      fewer-null = fewer-passed d ws f rest no_frame at 0 paid made cap s next (visits-null m base at d none) (λ h. absurd (omega arith)) refl
+      pub fewer-null : 3 * length (coming d ws rest) + length ws + (1 - rest.left) < 3 * length (coming d ws f)
+          + length ws + (1 - f.left)
+      fewer-null = fewer-passed d ws f rest no_frame at 0 paid made cap s next (visits-null m base at d none)
+          (λ h. absurd (omega arith)) refl
 
 -- a pointer to what stands near
 module _ (m : List (List ℕ)) (at : Place) (w : ℕ) (p : Pointer) where
-  pub near-struct : (o : ℤ) (a b : ℕ) → w ≡ word_at m at → p ≡ pointer_of w → p ≡ Node o a b → near m at.segment at.word 0 p ≡ target m at
+  pub near-struct : (o : ℤ) (a b : ℕ) → w ≡ word_at m at → p ≡ pointer_of w → p ≡ Node o a b
+      → near m at.segment at.word 0 p ≡ target m at
   unfolding target
   near-struct o a b e f h =
       let r : pointer_in m at.segment at.word ≡ Node o a b = sym (f ∙ ap pointer_of e) ∙ h in
       ap (near m at.segment at.word 0) h ∙ sym (ap (named m at.segment at.word) r)
 
-  pub near-list : (o : ℤ) (width : Width) (n : ℕ) → w ≡ word_at m at → p ≡ pointer_of w → p ≡ Many o width n → near m at.segment at.word 0 (Many o width n) ≡ target m at
+  pub near-list : (o : ℤ) (width : Width) (n : ℕ) → w ≡ word_at m at → p ≡ pointer_of w → p ≡ Many o width n
+      → near m at.segment at.word 0 (Many o width n) ≡ target m at
   unfolding target
   near-list o width n e f h =
       let r : pointer_in m at.segment at.word ≡ Many o width n = sym (f ∙ ap pointer_of e) ∙ h in

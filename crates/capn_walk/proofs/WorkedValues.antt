@@ -24,7 +24,8 @@ unfolding target pointer_of
 far = record { segment = 2; start = 0; pads = 2; is = refl; inside = (refl, tt) }
 
 -- two slots that share a struct
-shared : IsAt ((0x2000000000000 ∷ 0x100000004 ∷ 0x100000000 ∷ 9 ∷ []) ∷ []) (at 0 0) (node [] (tree (node (9 ∷ []) no_trees) (tree (node (9 ∷ []) no_trees) no_trees)))
+shared : IsAt ((0x2000000000000 ∷ 0x100000004 ∷ 0x100000000 ∷ 9 ∷ []) ∷ []) (at 0 0)
+    (node [] (tree (node (9 ∷ []) no_trees) (tree (node (9 ∷ []) no_trees) no_trees)))
 unfolding target pointer_of
 shared = record {
   segment = 0;
@@ -41,14 +42,33 @@ shared = record {
 }
 
 -- rows of one word
-two_rows : IsAt ((0x1000000000000 ∷ 0x1700000001 ∷ 0x100000008 ∷ 7 ∷ 0 ∷ []) ∷ []) (at 0 0) (node [] (tree (rows (body (7 ∷ []) no_trees (body (0 ∷ []) no_trees no_bodies))) no_trees))
+two_rows : IsAt ((0x1000000000000 ∷ 0x1700000001 ∷ 0x100000008 ∷ 7 ∷ 0 ∷ []) ∷ []) (at 0 0)
+    (node [] (tree (rows (body (7 ∷ []) no_trees (body (0 ∷ []) no_trees no_bodies))) no_trees))
 unfolding target pointer_of
 two_rows = record {
   segment = 0;
   start = 1;
   pads = 0;
   is = refl;
-  inside = (refl, ((1, 0, 2, record { segment = 0; start = 2; pads = 0; is = refl; inside = (refl, refl, refl, tt, (refl, refl, refl, tt, tt)) }), tt));
+  inside = (
+    refl,
+    (
+      (
+        1,
+        0,
+        2,
+        record {
+          segment = 0;
+          start = 2;
+          pads = 0;
+          is = refl;
+          inside =
+              (refl, refl, refl, tt, (refl, refl, refl, tt, tt));
+        },
+      ),
+      tt,
+    ),
+  );
 }
 
 letters : AreElements 8 8 (0xffffffffff636261 ∷ []) (0x61 ∷ 0x62 ∷ 0x63 ∷ [])
@@ -57,6 +77,14 @@ letters (suc zero) h = refl
 letters (suc (suc zero)) h = refl
 letters (suc (suc (suc i))) h = absurd (omega arith)
 
-text : IsAt ((0x1000000000000 ∷ 0x1a00000001 ∷ 0xffffffffff636261 ∷ []) ∷ []) (at 0 0) (node [] (tree (bytes (0x61 ∷ 0x62 ∷ 0x63 ∷ [])) no_trees))
+text : IsAt ((0x1000000000000 ∷ 0x1a00000001 ∷ 0xffffffffff636261 ∷ []) ∷ []) (at 0 0)
+    (node [] (tree (bytes (0x61 ∷ 0x62 ∷ 0x63 ∷ [])) no_trees))
 unfolding target pointer_of
-text = record { segment = 0; start = 1; pads = 0; is = refl; inside = (refl, (record { segment = 0; start = 2; pads = 0; is = refl; inside = letters }, tt)) }
+text = record {
+  segment = 0;
+  start = 1;
+  pads = 0;
+  is = refl;
+  inside =
+      (refl, (record { segment = 0; start = 2; pads = 0; is = refl; inside = letters }, tt));
+}

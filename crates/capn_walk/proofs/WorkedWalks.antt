@@ -45,19 +45,23 @@ struct_that_is_its_own_slot : usual ((0x10000fffffffc ∷ []) ∷ []) ≡ refuse
 unfolding verdict root_visits visits target pointer_of
 struct_that_is_its_own_slot = refl
 
-struct_that_is_its_own_slot_at_the_budget : verdict ((0x10000fffffffc ∷ []) ∷ []) 1 128 64 ≡ refused faults.TooDeep (at 0 0) 128 65
+struct_that_is_its_own_slot_at_the_budget : verdict ((0x10000fffffffc ∷ []) ∷ []) 1 128 64
+    ≡ refused faults.TooDeep (at 0 0) 128 65
 unfolding verdict root_visits visits target pointer_of
 struct_that_is_its_own_slot_at_the_budget = refl
 
-struct_that_is_its_own_slot_one_below_the_budget : verdict ((0x10000fffffffc ∷ []) ∷ []) 1 127 64 ≡ refused faults.OverBudget (at 0 0) 126 64
+struct_that_is_its_own_slot_one_below_the_budget : verdict ((0x10000fffffffc ∷ []) ∷ []) 1 127 64
+    ≡ refused faults.OverBudget (at 0 0) 126 64
 unfolding verdict root_visits visits target pointer_of
 struct_that_is_its_own_slot_one_below_the_budget = refl
 
-struct_that_is_its_own_slot_with_budget_9 : verdict ((0x10000fffffffc ∷ []) ∷ []) 1 9 64 ≡ refused faults.OverBudget (at 0 0) 8 5
+struct_that_is_its_own_slot_with_budget_9 : verdict ((0x10000fffffffc ∷ []) ∷ []) 1 9 64
+    ≡ refused faults.OverBudget (at 0 0) 8 5
 unfolding verdict root_visits visits target pointer_of
 struct_that_is_its_own_slot_with_budget_9 = refl
 
-struct_that_is_its_own_slot_256_deep : verdict ((0x10000fffffffc ∷ []) ∷ []) 1 8388608 256 ≡ refused faults.TooDeep (at 0 0) 512 257
+struct_that_is_its_own_slot_256_deep : verdict ((0x10000fffffffc ∷ []) ∷ []) 1 8388608 256
+    ≡ refused faults.TooDeep (at 0 0) 512 257
 unfolding verdict root_visits visits target pointer_of
 struct_that_is_its_own_slot_256_deep = refl
 
@@ -65,7 +69,8 @@ far_pointer : usual ((0x100000002 ∷ []) ∷ (0x100000000 ∷ 5 ∷ []) ∷ [])
 unfolding verdict root_visits visits target pointer_of
 far_pointer = refl
 
-list_of_536870911_voids : usual ((0x1000000000000 ∷ 0xfffffff800000001 ∷ []) ∷ []) ≡ refused faults.OverBudget (at 0 1) 2 2
+list_of_536870911_voids : usual ((0x1000000000000 ∷ 0xfffffff800000001 ∷ []) ∷ [])
+    ≡ refused faults.OverBudget (at 0 1) 2 2
 unfolding verdict root_visits visits target pointer_of
 list_of_536870911_voids = refl
 
@@ -85,11 +90,13 @@ rows_of_no_words : usual ((0x1000000000000 ∷ 0x700000001 ∷ 8 ∷ []) ∷ [])
 unfolding verdict root_visits visits target pointer_of
 rows_of_no_words = refl
 
-rows_past_the_pointers_count : usual ((0x1000000000000 ∷ 0x1700000001 ∷ 0x10000000c ∷ 7 ∷ 0 ∷ []) ∷ []) ≡ refused faults.TagOverrun (at 0 1) 2 2
+rows_past_the_pointers_count : usual ((0x1000000000000 ∷ 0x1700000001 ∷ 0x10000000c ∷ 7 ∷ 0 ∷ []) ∷ [])
+    ≡ refused faults.TagOverrun (at 0 1) 2 2
 unfolding verdict root_visits visits target pointer_of
 rows_past_the_pointers_count = refl
 
-three_bytes_and_junk_behind_them : usual ((0x1000000000000 ∷ 0x1a00000001 ∷ 0xffffffffff636261 ∷ []) ∷ []) ≡ accepted 4 2
+three_bytes_and_junk_behind_them : usual ((0x1000000000000 ∷ 0x1a00000001 ∷ 0xffffffffff636261 ∷ []) ∷ [])
+    ≡ accepted 4 2
 unfolding verdict root_visits visits target pointer_of
 three_bytes_and_junk_behind_them = refl
 
@@ -145,7 +152,8 @@ pad_of_zeros : usual ((0x100000002 ∷ []) ∷ (0 ∷ []) ∷ []) ≡ refused fa
 unfolding verdict root_visits visits target pointer_of
 pad_of_zeros = refl
 
-composite_tag_that_is_a_list_pointer : usual ((0x1000000000000 ∷ 0x700000001 ∷ 1 ∷ []) ∷ []) ≡ refused faults.BadTag (at 0 1) 2 2
+composite_tag_that_is_a_list_pointer : usual ((0x1000000000000 ∷ 0x700000001 ∷ 1 ∷ []) ∷ [])
+    ≡ refused faults.BadTag (at 0 1) 2 2
 unfolding verdict root_visits visits target pointer_of
 composite_tag_that_is_a_list_pointer = refl
 
@@ -199,7 +207,8 @@ plain-far_pointer : plain ((0x100000002 ∷ []) ∷ (0x100000000 ∷ 5 ∷ []) �
 unfolding verdict root_visits visits target pointer_of
 plain-far_pointer = refl
 
-plain-list_of_536870911_voids : plain ((0x1000000000000 ∷ 0xfffffff800000001 ∷ []) ∷ []) ≡ refused faults.OverBudget (at 0 1) 1 2
+plain-list_of_536870911_voids : plain ((0x1000000000000 ∷ 0xfffffff800000001 ∷ []) ∷ [])
+    ≡ refused faults.OverBudget (at 0 1) 1 2
 unfolding verdict root_visits visits target pointer_of
 plain-list_of_536870911_voids = refl
 
@@ -207,7 +216,8 @@ plain-double_far_pointer : plain ((0x100000006 ∷ []) ∷ (0x200000002 ∷ 0x10
 unfolding verdict root_visits visits target pointer_of
 plain-double_far_pointer = refl
 
-plain-rows_of_which_the_last_is_zero : plain ((0x1000000000000 ∷ 0x1700000001 ∷ 0x100000008 ∷ 7 ∷ 0 ∷ []) ∷ []) ≡ accepted 4 2
+plain-rows_of_which_the_last_is_zero : plain ((0x1000000000000 ∷ 0x1700000001 ∷ 0x100000008 ∷ 7 ∷ 0 ∷ []) ∷ [])
+    ≡ accepted 4 2
 unfolding verdict root_visits visits target pointer_of
 plain-rows_of_which_the_last_is_zero = refl
 
@@ -223,6 +233,7 @@ plain-list_of_two_null_pointers : plain ((0x1000000000000 ∷ 0x1600000001 ∷ 0
 unfolding verdict root_visits visits target pointer_of
 plain-list_of_two_null_pointers = refl
 
-plain-struct_that_is_its_own_slot_with_budget_9 : verdict ((0x10000fffffffc ∷ []) ∷ []) (base Plain) 9 64 ≡ refused faults.OverBudget (at 0 0) 9 10
+plain-struct_that_is_its_own_slot_with_budget_9 : verdict ((0x10000fffffffc ∷ []) ∷ []) (base Plain) 9 64
+    ≡ refused faults.OverBudget (at 0 0) 9 10
 unfolding verdict root_visits visits target pointer_of
 plain-struct_that_is_its_own_slot_with_budget_9 = refl

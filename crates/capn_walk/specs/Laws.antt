@@ -36,7 +36,8 @@ use Rattle.capn_walk.specs.Ways.{OneOfThree}
 
 -- an accepted message has a value
 abbrev pub AcceptedAreReadable : Type 0
-AcceptedAreReadable = (message : List (List ℕ)) (limits : Bounds) → IsAccepted message limits → (v : Tree) × IsValueOf message limits v
+AcceptedAreReadable = (message : List (List ℕ)) (limits : Bounds) → IsAccepted message limits → (v : Tree)
+    × IsValueOf message limits v
 
 -- one value at most stands at a place
 abbrev pub PlacesHaveOneValue : Type 0
@@ -48,7 +49,8 @@ SlotsHaveOneValue = (message : List (List ℕ)) (vs ws : Trees) (segment word : 
     → AreAt message segment word vs → AreAt message segment word ws → vs ≡ ws
 
 abbrev pub RowsHaveOneValue : Type 0
-RowsHaveOneValue = (message : List (List ℕ)) (bs cs : Bodies) (words slots segment word : ℕ) → count_rows bs ≡ count_rows cs
+RowsHaveOneValue = (message : List (List ℕ)) (bs cs : Bodies) (words slots segment word : ℕ)
+    → count_rows bs ≡ count_rows cs
     → RowsAt message words slots segment word bs → RowsAt message words slots segment word cs → bs ≡ cs
 
 -- the numbers of a value at a place of a message are in their ranges
@@ -57,7 +59,8 @@ ValuesAreInRange = (message : List (List ℕ)) (at : Place) (v : Tree) → IsMes
 
 -- the value of a message that is accepted fits, costs at most what its walk pays, and is no higher than the limit
 abbrev pub ValuesFit : Type 0
-ValuesFit = (message : List (List ℕ)) (limits : Bounds) (v : Tree) → limits.budget ≤ most_cost → limits.depth ≤ most_height → IsValueOf message limits v → Fits v
+ValuesFit = (message : List (List ℕ)) (limits : Bounds) (v : Tree) → limits.budget ≤ most_cost
+    → limits.depth ≤ most_height → IsValueOf message limits v → Fits v
 
 abbrev pub ValuesAreCheap : Type 0
 ValuesAreCheap = (message : List (List ℕ)) (limits : Bounds) (v : Tree) → IsValueOf message limits v
@@ -67,12 +70,14 @@ ValuesAreCheap = (message : List (List ℕ)) (limits : Bounds) (v : Tree) → Is
 
 -- what the pointer at a place names lies inside its segment, which exists
 abbrev pub TargetsLieInside : Type 0
-TargetsLieInside = (message : List (List ℕ)) (at : Place) (found : Target) → IsPlace message at → target message at ≡ Ok found → IsInMessage message found
+TargetsLieInside = (message : List (List ℕ)) (at : Place) (found : Target) → IsPlace message at
+    → target message at ≡ Ok found → IsInMessage message found
 
 -- a value whose content stands where the pointer at a place leads is the value at that place
 abbrev pub ContentIsValue : Type 0
 ContentIsValue = (message : List (List ℕ)) (at : Place) (segment start pads : ℕ) (shape : Shape) (v : Tree)
-    → target message at ≡ Ok (targets.Content segment start shape pads) → IsInside message shape segment start v → IsAt message at v
+    → target message at ≡ Ok (targets.Content segment start shape pads) → IsInside message shape segment start v
+    → IsAt message at v
 
 -- ---- verdicts
 
@@ -83,7 +88,8 @@ Apart = (message : List (List ℕ)) (limits : Bounds) (fault : Fault) (at : Plac
 
 -- visits are within a budget, or there is a first one that isn't
 abbrev pub Decided : Type 0
-Decided = (budget : ℕ) (vs : List Visit) → IsWithin budget vs ⊎ ((fault : Fault) × (at : Place) × (paid visits : ℕ) × IsStop budget vs fault at paid visits)
+Decided = (budget : ℕ) (vs : List Visit) → IsWithin budget vs
+    ⊎ ((fault : Fault) × (at : Place) × (paid visits : ℕ) × IsStop budget vs fault at paid visits)
 
 -- there is one such at most
 abbrev pub StopsAreOne : Type 0
@@ -93,4 +99,5 @@ StopsAreOne = (budget : ℕ) (vs : List Visit) (e f : Fault) (at to : Place) (p 
 -- the pointer at a place names content exactly by one of three ways: near, by a pad of one word, by a pad of two
 abbrev pub ContentByThreeWays : Type 0
 ContentByThreeWays = (message : List (List ℕ)) (at : Place) (segment start pads : ℕ) (shape : Shape)
-    → (target message at ≡ Ok (targets.Content segment start shape pads)) ↔ OneOfThree message at segment start shape pads
+    → (target message at ≡ Ok (targets.Content segment start shape pads))
+    ↔ OneOfThree message at segment start shape pads

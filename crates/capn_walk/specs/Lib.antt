@@ -13,3 +13,4 @@ pub mod Viewed
 pub mod Shown
 pub mod Ways
 pub mod Laws
+pub mod Told

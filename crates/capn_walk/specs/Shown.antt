@@ -2,14 +2,16 @@
 use Rattle.std.specs.Prelude.{◌≡◌, ℕ, zero, suc, ◌<◌, List, [], map, length, slice_index, Ok}
 use Rattle.std.specs.Int.{from_bool}
 use Rattle.capn_words.specs.declared.space.Place.{Place}
-use Rattle.capn_value.specs.Tree.{Tree, nil, node, voids, bits, bytes, pairs, quads, octs, links, rows, cap, Trees, no_trees, Bodies, no_bodies, body, count, count_rows, tree_at}
+use Rattle.capn_value.specs.Tree.{Tree, nil, node, voids, bits, bytes, pairs, quads, octs, links, rows, cap, Trees}
+use Rattle.capn_value.specs.Tree.{no_trees, Bodies, no_bodies, body, count, count_rows, tree_at}
 use Rattle.capn_walk.specs.declared.target.Target.{Target}
 use Rattle.capn_walk.specs.declared.target.Target.TheVariants as targets
 use Rattle.capn_walk.specs.declared.kind.Kind.{Kind}
 use Rattle.capn_walk.specs.declared.kind.Kind.TheVariants as kinds
 use Rattle.capn_walk.specs.Target.{target}
 use Rattle.capn_walk.specs.At.{IsAt}
-use Rattle.capn_walk.specs.Viewed.{kind_of, len_of, words_in, slots_in, links_in, numbers_in, rows_in, step_place, content_of, number_of, row_of}
+use Rattle.capn_walk.specs.Viewed.{kind_of, len_of, words_in, slots_in, links_in, numbers_in, rows_in, step_place}
+use Rattle.capn_walk.specs.Viewed.{content_of, number_of, row_of}
 
 -- the words and the slots of a row
 abbrev pub words_of_row : Bodies → ℕ → List ℕ

@@ -1,5 +1,6 @@
 -- What the pointer at a place of a message names, or the first fault.
-use Rattle.std.specs.Prelude.{ℕ, ◌+◌, ◌-◌, ◌*◌, ◌/◌, nat_lt, ◌==◌, ℤ, pos, negsuc, Bool, true, false, List, length, slice_index, Result, Ok, Err, if◌then◌else◌}
+use Rattle.std.specs.Prelude.{ℕ, ◌+◌, ◌-◌, ◌*◌, ◌/◌, nat_lt, ◌==◌, ℤ, pos, negsuc, Bool, true, false, List, length}
+use Rattle.std.specs.Prelude.{slice_index, Result, Ok, Err, if◌then◌else◌}
 use Rattle.capn_words.specs.Message.{segment_at}
 use Rattle.capn_words.specs.declared.space.Place.{Place}
 use Rattle.capn_words.specs.declared.pointer.Pointer.{Pointer}
@@ -57,7 +58,8 @@ module _ (message : List (List ℕ)) where
 
   abbrev pub list : ℕ → ℕ → ℕ → Width → ℕ → Result Target Fault
   list s start pads Rows n = within s start (1 + n) (tagged s start pads n (slice_index (segment_at message s) start))
-  list s start pads width n = within s start (content_words width n) (Ok (targets.Content s start (shapes.Many width n) pads))
+  list s start pads width n =
+      within s start (content_words width n) (Ok (targets.Content s start (shapes.Many width n) pads))
 
   abbrev pub struct : ℕ → ℕ → ℕ → ℕ → ℕ → Result Target Fault
   struct s start pads a b = within s start (a + b) (Ok (targets.Content s start (shapes.Node a b) pads))

@@ -7,7 +7,8 @@ use Rattle.capn_walk.specs.declared.target.Fault.TheVariants as faults
 use Rattle.capn_walk.specs.Visits.{Visit, pays, fails}
 use Rattle.capn_walk.specs.Accepted.{root, root_visits}
 
--- accepted: what was paid, and the number of visits; refused: the fault, the place, what was paid before, and the number of the visit
+-- accepted: what was paid, and the number of visits; refused: the fault, the place, what was paid before, and the
+-- number of the visit
 pub data Verdict : Type 0 where
   accepted : ℕ → ℕ → Verdict
   refused : Fault → Place → ℕ → ℕ → Verdict
@@ -21,7 +22,8 @@ after p k (refused e at q j) = refused e at (p + q) (k + j)
 abbrev pub judge : ℕ → List Visit → Verdict
 judge budget [] = accepted 0 0
 judge budget (fails at e ∷ vs) = refused e at 0 1
-judge budget (pays at n ∷ vs) = if nat_lt budget n then refused faults.OverBudget at 0 1 else after n 1 (judge (budget - n) vs)
+judge budget (pays at n ∷ vs) =
+    if nat_lt budget n then refused faults.OverBudget at 0 1 else after n 1 (judge (budget - n) vs)
 
 -- a whole message, from its root on
 unfoldable pub verdict : List (List ℕ) → ℕ → ℕ → ℕ → Verdict

@@ -1,5 +1,6 @@
 -- What a view shows of a message: the target that a step found, and how many objects may stand below it.
-use Rattle.std.specs.Prelude.{ℕ, ◌+◌, ◌*◌, ◌/◌, ◌%◌, ◌^◌, ◌==◌, nat_lt, List, [], length, slice_index, Result, Ok, Err, Option, Some, None, if◌then◌else◌, ⊤}
+use Rattle.std.specs.Prelude.{ℕ, ◌+◌, ◌*◌, ◌/◌, ◌%◌, ◌^◌, ◌==◌, nat_lt, List, [], length, slice_index, Result, Ok, Err}
+use Rattle.std.specs.Prelude.{Option, Some, None, if◌then◌else◌, ⊤}
 use Rattle.capn_words.specs.Message.{segment_at}
 use Rattle.capn_words.specs.declared.space.Place.{Place}
 use Rattle.capn_words.specs.declared.pointer.Width.{Width}
@@ -51,11 +52,13 @@ rooted (Err e) = Err e
 -- a step to the root
 abbrev pub stepped_to_root : List (List ℕ) → ℕ → ℕ → ℕ → Result Target Fault
 stepped_to_root message base depth budget =
-    if length (segment_at message 0) == 0 then Err faults.NoRoot else stepped base depth budget (rooted (target message root))
+    if length (segment_at message 0) == 0 then Err faults.NoRoot else stepped base depth budget
+    (rooted (target message root))
 
 -- content of a message lies inside its segment
 abbrev pub IsInMessage : List (List ℕ) → Target → Type 0
-IsInMessage message (targets.Content s start shape pads) = IsContent message (record { segment = s; word = start }) (extent shape) × RowsFit shape
+IsInMessage message (targets.Content s start shape pads) =
+    IsContent message (record { segment = s; word = start }) (extent shape) × RowsFit shape
 IsInMessage message _ = ⊤
 
 -- ---- what a view tells
@@ -140,7 +143,8 @@ digit W32 w place = w / (2 ^ 32) ^ place % 2 ^ 32
 digit _ w place = w
 
 abbrev pub number_of : List (List ℕ) → Target → ℕ → ℕ
-number_of message (targets.Content s start (shapes.Many width n) pads) i = number_in width (words_from message s start) i
+number_of message (targets.Content s start (shapes.Many width n) pads) i =
+    number_in width (words_from message s start) i
 number_of message _ i = 0
 
 -- how many numbers a list has
@@ -158,7 +162,8 @@ rows_in _ = 0
 
 -- one of them, as a struct
 abbrev pub row_of : Target → ℕ → Target
-row_of (targets.Content s start (shapes.Rows n a b span) pads) i = targets.Content s (start + 1 + i * (a + b)) (shapes.Node a b) 0
+row_of (targets.Content s start (shapes.Rows n a b span) pads) i =
+    targets.Content s (start + 1 + i * (a + b)) (shapes.Node a b) 0
 row_of found i = found
 
 -- where the slots below a target stand

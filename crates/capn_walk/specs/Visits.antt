@@ -50,7 +50,8 @@ module _ (message : List (List ℕ)) (base : ℕ) where
 
   -- a visit of a slot, and of what is below it
   abbrev pub visit : (Place → List Visit) → Place → Result Target Fault → List Visit
-  visit below at (Ok (targets.Content s start shape pads)) = pays at (price base shape + pads) ∷ flat_map below (slots s start shape)
+  visit below at (Ok (targets.Content s start shape pads)) =
+      pays at (price base shape + pads) ∷ flat_map below (slots s start shape)
   visit below at found = last_visit at found
 
   -- at most d objects deep

@@ -66,13 +66,16 @@ pub record IsContent (message : List (List ℕ)) (at : Place) (n : ℕ) : Type 0
 
 -- what a value of that shape says of the content that starts at a word
 abbrev pub IsInside : List (List ℕ) → Shape → ℕ → ℕ → Tree → Type 0
-IsInside m shape s w (node ws ss) = (shape ≡ shapes.Node (length ws) (count ss)) × AreWords m s w ws × AreAt m s (w + length ws) ss
+IsInside m shape s w (node ws ss) = (shape ≡ shapes.Node (length ws) (count ss)) × AreWords m s w ws
+    × AreAt m s (w + length ws) ss
 IsInside m shape s w (voids n) = shape ≡ shapes.Many W0 n
-IsInside m shape s w (bits xs) = (shape ≡ shapes.Many W1 (length xs)) × AreElements 64 1 (words_from m s w) (map from_bool xs)
+IsInside m shape s w (bits xs) = (shape ≡ shapes.Many W1 (length xs))
+    × AreElements 64 1 (words_from m s w) (map from_bool xs)
 IsInside m shape s w (bytes xs) = (shape ≡ shapes.Many W8 (length xs)) × AreElements 8 8 (words_from m s w) xs
 IsInside m shape s w (pairs xs) = (shape ≡ shapes.Many W16 (length xs)) × AreElements 4 16 (words_from m s w) xs
 IsInside m shape s w (quads xs) = (shape ≡ shapes.Many W32 (length xs)) × AreElements 2 32 (words_from m s w) xs
 IsInside m shape s w (octs xs) = (shape ≡ shapes.Many W64 (length xs)) × AreWords m s w xs
 IsInside m shape s w (links ts) = (shape ≡ shapes.Many Link (count ts)) × AreAt m s w ts
-IsInside m shape s w (rows bs) = (a b span : ℕ) × (shape ≡ shapes.Rows (count_rows bs) a b span) × RowsAt m a b s (suc w) bs
+IsInside m shape s w (rows bs) = (a b span : ℕ) × (shape ≡ shapes.Rows (count_rows bs) a b span)
+    × RowsAt m a b s (suc w) bs
 IsInside m shape s w _ = ⊥

@@ -32,7 +32,8 @@ module _ (message : List (List ℕ)) where
   abbrev pub Describes : Pointer → ℕ → ℕ → Shape → Type 0
   Describes Nil s start shape = (shape ≡ shapes.Node 0 0) × Lies s start 0
   Describes (Node offset words slots) s start shape = (shape ≡ shapes.Node words slots) × Lies s start (words + slots)
-  Describes (Many offset Rows n) s start shape = Lies s start (1 + n) × HasRows (slice_index (segment_at message s) start) n shape
+  Describes (Many offset Rows n) s start shape = Lies s start (1 + n)
+      × HasRows (slice_index (segment_at message s) start) n shape
   Describes (Many offset width n) s start shape = (shape ≡ shapes.Many width n) × Lies s start (content_words width n)
   Describes _ s start shape = ⊥
 
@@ -68,4 +69,5 @@ module _ (message : List (List ℕ)) where
     pub two : pads ≡ 2
 
   abbrev pub OneOfThree : Place → ℕ → ℕ → Shape → ℕ → Type 0
-  OneOfThree at s start shape pads = Near at s start shape pads ⊎ (ByOnePad at s start shape pads ⊎ ByTwoPads at s start shape pads)
+  OneOfThree at s start shape pads = Near at s start shape pads
+      ⊎ (ByOnePad at s start shape pads ⊎ ByTwoPads at s start shape pads)

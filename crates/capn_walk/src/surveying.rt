@@ -1,6 +1,7 @@
 //! A survey of all that a message holds, without its value.
 
-ghost use Rattle.std.specs.Prelude.{◌≡◌, ◌≢◌, ℕ, ◌<◌, ◌≤◌, ◌+◌, ◌-◌, ◌∷◌, ◌⊎◌, ◌↔◌, [], length, Ok, IsTrue, IfOk, IfErr, MatchResult};
+ghost use Rattle.std.specs.Prelude.{◌≡◌, ◌≢◌, ℕ, ◌<◌, ◌≤◌, ◌+◌, ◌-◌, ◌∷◌, ◌⊎◌, ◌↔◌, [], length, Ok, IsTrue, IfOk};
+ghost use Rattle.std.specs.Prelude.{IfErr, MatchResult};
 ghost use Rattle.capn_words.specs.Message.{segment_at, IsMessage, IsPlace};
 ghost use Rattle.capn_value.specs.Sizes.{most_cost, most_height};
 ghost use Rattle.capn_walk.specs.Target as spec;
@@ -131,7 +132,8 @@ fn visit_struct<S: Space>(
     requires message { IsMessage (S.message space.now) }
     requires size { size ≡ length (segment_at (S.message space.now) at.segment) }
     requires place { IsPlace (S.message space.now) at }
-    requires pointer { spec.near (S.message space.now) at.segment at.word 0 pointer ≡ spec.target (S.message space.now) at }
+    requires pointer { spec.near (S.message space.now) at.segment at.word 0 pointer
+        ≡ spec.target (S.message space.now) at }
     requires left { left ≤ most_cost }
     ensures visits { IfOk result (λ v. visits (S.message space.now) base depth at
         ≡ pays at v.price ∷ visits_of (S.message space.now) base (depth - 1) (places_of v.below)) }
@@ -159,7 +161,8 @@ fn visit_numbers<S: Space>(
     base: u32,
 ) -> Result<u32, Fault>
     requires size { size ≡ length (segment_at (S.message space.now) at.segment) }
-    requires pointer { spec.near (S.message space.now) at.segment at.word 0 pointer ≡ spec.target (S.message space.now) at }
+    requires pointer { spec.near (S.message space.now) at.segment at.word 0 pointer
+        ≡ spec.target (S.message space.now) at }
     requires numbers { AreNumbers pointer }
     ensures visits { IfOk result (λ p. visits (S.message space.now) base depth at ≡ pays at p ∷ []) }
     ensures price { IfOk result (λ p. p ≤ left) }
@@ -289,7 +292,8 @@ fn survey_slots<S: Space, A: Allocator + Copy>(
     ensures pays { IfOk result (λ s. Gives budget
         (visits_of (S.message space.now) base limit (places_of first)) (owed first) s.paid s.visits) }
     ensures capability { IfOk result (λ s.
-        told.first_cap_of (S.message space.now) (visits_of (S.message space.now) base limit (places_of first)) ≡ s.capability) }
+        told.first_cap_of (S.message space.now) (visits_of (S.message space.now) base limit (places_of first))
+        ≡ s.capability) }
     ensures refused { IfErr result (λ s. Refuses budget
         (visits_of (S.message space.now) base limit (places_of first)) (owed first) s) }
     ensures memory { limit ≤ 64 → IfErr result (λ s. s.fault ≢ Memory) }

@@ -1,6 +1,8 @@
 //! What a pointer names, and why it names nothing.
 
 use capn_words::Width;
+use std::error::Error;
+use std::fmt;
 
 /// The form of the content that a pointer names. (Page: structs, lists.)
 #[derive(Clone, Copy, Debug, PartialEq, Eq)]
@@ -72,3 +74,29 @@ pub enum Fault {
     /// A growth of memory was refused.
     Memory,
 }
+
+impl fmt::Display for Fault {
+    ghost use Rattle.std.specs.Prelude.{Some};
+    ghost use Rattle.capn_walk.specs.Told.{fault_name};
+
+    ghost output = { λ fault. Some (fault_name fault) };
+
+    fn fmt<W: fmt::Write>(&self, f: &mut fmt::Formatter<W>) -> fmt::Result {
+        match self {
+            Fault::NoRoot => f.write_str("NoRoot"),
+            Fault::RootKind => f.write_str("RootKind"),
+            Fault::Reserved => f.write_str("Reserved"),
+            Fault::NoSegment => f.write_str("NoSegment"),
+            Fault::PadRange => f.write_str("PadRange"),
+            Fault::BadPad => f.write_str("BadPad"),
+            Fault::Range => f.write_str("Range"),
+            Fault::BadTag => f.write_str("BadTag"),
+            Fault::TagOverrun => f.write_str("TagOverrun"),
+            Fault::TooDeep => f.write_str("TooDeep"),
+            Fault::OverBudget => f.write_str("OverBudget"),
+            Fault::Memory => f.write_str("Memory"),
+        }
+    }
+}
+
+impl Error for Fault {}

@@ -1,6 +1,7 @@
 //! A message read in place, step by step.
 
-ghost use Rattle.std.specs.Prelude.{◌≡◌, ◌≢◌, ℕ, ◌<◌, ◌≤◌, ◌+◌, ◌-◌, ◌*◌, ◌/◌, ◌%◌, ◌^◌, Ok, Err, length, slice_index, IfOk, IfErr, IfSome, IsSome, OnErr, MatchResult, ◌↔◌};
+ghost use Rattle.std.specs.Prelude.{◌≡◌, ◌≢◌, ℕ, ◌<◌, ◌≤◌, ◌+◌, ◌-◌, ◌*◌, ◌/◌, ◌%◌, ◌^◌, Ok, Err, length, slice_index};
+ghost use Rattle.std.specs.Prelude.{IfOk, IfErr, IfSome, IsSome, OnErr, MatchResult, ◌↔◌};
 ghost use Rattle.capn_words.specs.Message.{segment_at, IsMessage, IsPlace};
 ghost use Rattle.capn_value.specs.Sizes.{base};
 ghost use Rattle.capn_walk.specs.Account.{with_paid, left_of};
@@ -87,8 +88,10 @@ impl<'s, S: Space> View<'s, S> {
     /// The root of a message, at most so many objects deep. The step pays by the tariff of the meter.
     pub fn root(space: &'s S, meter: &mut Meter, depth: u32) -> Result<View<'s, S>, Fault>
         ensures found { MatchResult result
-            (λ v. seen.stepped_to_root (S.message space.now) (base meter.old.tariff) depth (left_of meter.old) ≡ Ok v.found)
-            (λ e. seen.stepped_to_root (S.message space.now) (base meter.old.tariff) depth (left_of meter.old) ≡ Err e) }
+            (λ v. seen.stepped_to_root (S.message space.now) (base meter.old.tariff) depth (left_of meter.old)
+            ≡ Ok v.found)
+            (λ e. seen.stepped_to_root (S.message space.now) (base meter.old.tariff) depth (left_of meter.old)
+            ≡ Err e) }
         ensures message { IfOk result (λ v. v.message ≡ S.message space.now) }
         ensures depth { IfOk result (λ v. v.depth ≡ depth - 1) }
         ensures paid { IfOk result (λ v. meter.new ≡ with_paid meter.old (seen.toll (base meter.old.tariff) v.found)) }
@@ -343,7 +346,8 @@ impl<'s, S: Space> View<'s, S> {
     pub fn bytes(&self) -> Option<&'s [u8]>
         ensures some { IsSome result ↔ (seen.kind_of self.now.found ≡ kinds.Bytes) }
         ensures number { IfSome result (λ b. length b.now ≡ seen.len_of self.now.found) }
-        ensures elements { IfSome result (λ b. AreElements 8 8 (seen.content_of self.now.message self.now.found) b.now) }
+        ensures elements { IfSome result
+            (λ b. AreElements 8 8 (seen.content_of self.now.message self.now.found) b.now) }
     {
         match self.target {
             Target::Content {

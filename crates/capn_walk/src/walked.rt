@@ -7,6 +7,8 @@ use crate::target::Fault;
 use capn_value::Tree;
 use capn_words::Place;
 use std::alloc::{Allocator, Global};
+use std::error::Error;
+use std::fmt;
 
 /// What a message denotes, with what its walk paid.
 #[derive(Drop)]
@@ -46,6 +48,27 @@ impl Stopped {
         }
     }
 }
+
+impl fmt::Display for Stopped {
+    ghost use Rattle.std.specs.Prelude.{Some};
+    ghost use Rattle.capn_walk.specs.Told.{stopped_text};
+
+    ghost output = { λ stopped. Some (stopped_text stopped) };
+
+    fn fmt<W: fmt::Write>(&self, f: &mut fmt::Formatter<W>) -> fmt::Result {
+        let fault = self.fault;
+        let segment = self.place.segment;
+        let word = self.place.word;
+        let paid = self.paid;
+        let visits = self.visits;
+        write!(
+            f,
+            "{fault} at {segment}:{word}, paid {paid}, visits {visits}"
+        )
+    }
+}
+
+impl Error for Stopped {}
 
 /// A refusal at the first visit.
 pub fn stop(fault: Fault, place: Place) -> Stopped

@@ -5,3 +5,4 @@ pub mod Fields
 pub mod Pointers
 pub mod Watching
 pub mod Laws
+pub mod Told

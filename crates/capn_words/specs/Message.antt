@@ -1,5 +1,6 @@
 -- A message is a list of segments, and a segment is a list of words. (Page: messages.)
-use Rattle.std.specs.Prelude.{ℕ, ◌+◌, ◌*◌, ◌^◌, ◌<◌, ◌≤◌, List, [], length, slice_index, slice_index_or, take, drop, Option, Some, None, nat_lt, if◌then◌else◌}
+use Rattle.std.specs.Prelude.{ℕ, ◌+◌, ◌*◌, ◌^◌, ◌<◌, ◌≤◌, List, [], length, slice_index, slice_index_or, take, drop}
+use Rattle.std.specs.Prelude.{Option, Some, None, nat_lt, if◌then◌else◌}
 use Rattle.std.specs.List.{sum_by}
 use Rattle.capn_words.specs.Limits.{most_segments, most_words}
 use Rattle.capn_words.specs.declared.space.Place.{Place}
@@ -35,7 +36,8 @@ word_at message at = slice_index (segment_at message at.segment) at.word
 
 -- so many bytes from the start of a word on stay within its segment
 abbrev pub IsRange : List (List ℕ) → Place → ℕ → Type 0
-IsRange message at len = (at.segment < length message) × (8 * at.word + len ≤ 8 * length (segment_at message at.segment))
+IsRange message at len = (at.segment < length message)
+    × (8 * at.word + len ≤ 8 * length (segment_at message at.segment))
 
 -- these bytes
 abbrev pub bytes_at : List (List ℕ) → Place → ℕ → List ℕ

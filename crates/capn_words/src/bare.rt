@@ -6,6 +6,8 @@ ghost use Rattle.capn_words.specs.Words.{IsBare, ReadsBare, word_number};
 use crate::limits::MOST_WORDS;
 use crate::space::{Place, Space};
 use byteorder::{ByteOrder, LittleEndian};
+use std::error::Error;
+use std::fmt;
 use std::marker::Model;
 
 /// Why bytes are not one segment, in the order of the tests.
@@ -16,6 +18,22 @@ pub enum BareFault {
     /// The number of words, which is above 2^28 + 1.
     TooLong(u64),
 }
+
+impl fmt::Display for BareFault {
+    ghost use Rattle.std.specs.Prelude.{Some};
+    ghost use Rattle.capn_words.specs.Told.{bare_text};
+
+    ghost output = { λ fault. Some (bare_text fault) };
+
+    fn fmt<W: fmt::Write>(&self, f: &mut fmt::Formatter<W>) -> fmt::Result {
+        match self {
+            BareFault::NotWhole(bytes) => write!(f, "NotWhole({bytes})"),
+            BareFault::TooLong(words) => write!(f, "TooLong({words})"),
+        }
+    }
+}
+
+impl Error for BareFault {}
 
 /// The word that begins at so many times 8 bytes.
 #[tactic(auto, unfolding(crate::specs::Words::word_number))]

@@ -1,7 +1,7 @@
 //! Each message cut at each byte: its beginnings have the answer that the definitions give for them.
 
 use crate::messages::{MOST_WORDS, canonical_text, form_at, paid_text, true_limits_at};
-use crate::refusals::stopped_text;
+use crate::refusals::told;
 use crate::tariff_and_call;
 use crate::words::{bytes_at, word_at};
 use anyhow::{Result, anyhow, bail};
@@ -28,7 +28,7 @@ fn bare_text(alloc: Global, bytes: &[u8], limits: Limits) -> Result<String> {
     };
     let walked = match walk(alloc, &space, limits) {
         Ok(walked) => walked,
-        Err(stopped) => return stopped_text(alloc, stopped),
+        Err(stopped) => return told(alloc, stopped),
     };
     match layout(alloc, &walked.tree) {
         Ok(laid) => paid_text(alloc, walked.paid, laid.as_slice()),
@@ -37,8 +37,8 @@ fn bare_text(alloc: Global, bytes: &[u8], limits: Limits) -> Result<String> {
     }
 }
 
-/// Where the group that starts at an offset ends, unless it is cut: one of zeros has two bytes, one of raw words ten and
-/// eight for each further word, and any other its tag and a byte for each bit of it.
+/// Where the group that starts at an offset ends, unless it is cut: one of zeros has two bytes, one of raw words ten
+/// and eight for each further word, and any other its tag and a byte for each bit of it.
 fn group_end(text: &[u8], at: usize) -> Option<usize> {
     let len = match *text.get(at)? {
         0 => 2,
@@ -164,8 +164,8 @@ fn due_text(alloc: Global, form: Form, bytes: &[u8], limits: Limits) -> Result<S
     }
 }
 
-/// Cuts the message of a case at each byte, where the case is one of canonical bytes: each beginning answers what is due.
-/// A text that is longer than its limit is left out.
+/// Cuts the message of a case at each byte, where the case is one of canonical bytes: each beginning answers what is
+/// due. A text that is longer than its limit is left out.
 pub fn cut_each(alloc: Global, words: &[&str], answer: &str) -> Result<()> {
     let (tariff, words) = tariff_and_call(words);
     if word_at(words, 0)? != "canonicalise" || answer.starts_with("packed: TooLong") {

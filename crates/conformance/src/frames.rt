@@ -4,9 +4,10 @@ ghost use Rattle.std.specs.Prelude.{◌≤◌, ◌^◌, IfOk};
 
 use crate::growths::{Heap, MEMORY};
 use crate::messages::MOST_WORDS;
+use crate::refusals::told;
 use crate::words::{bytes_at, digits_of, number_at};
 use anyhow::{Result, anyhow};
-use capn_stream::{FrameFault, first, frame};
+use capn_stream::{first, frame};
 use capn_words::{Place, Space};
 use std::alloc::Global;
 
@@ -19,19 +20,6 @@ pub fn limit_at(words: &[&str], at: usize) -> Result<u32>
         return Err(anyhow!("a limit above 2^28"));
     }
     Ok(limit)
-}
-
-/// A refusal of a frame.
-pub fn frame_text(alloc: Global, fault: FrameFault) -> Result<String> {
-    let text = match fault {
-        FrameFault::Memory => format!(in alloc; "{MEMORY}")?,
-        FrameFault::Failed => format!(in alloc; "Failed")?,
-        FrameFault::Empty => format!(in alloc; "Empty")?,
-        FrameFault::TooManySegments(count) => format!(in alloc; "TooManySegments({count})")?,
-        FrameFault::TooManyWords(count) => format!(in alloc; "TooManyWords({count})")?,
-        FrameFault::Cut => format!(in alloc; "Cut")?,
-    };
-    Ok(text)
 }
 
 /// The bytes of each segment, each behind a space.
@@ -58,7 +46,7 @@ pub fn first_answer(alloc: Global, heap: &Heap, words: &[&str]) -> Result<String
             let segments = segments_text(alloc, &message)?;
             Ok(format!(in alloc; "taken {taken}:{segments}")?)
         }
-        Err(fault) => frame_text(alloc, fault),
+        Err(fault) => told(alloc, fault),
     }
 }
 
@@ -70,6 +58,6 @@ pub fn frame_answer(alloc: Global, heap: &Heap, words: &[&str]) -> Result<String
             Ok(again) => digits_of(alloc, again.as_slice()),
             Err(_) => Ok(String::from_str(alloc, MEMORY)?),
         },
-        Err(fault) => frame_text(alloc, fault),
+        Err(fault) => told(alloc, fault),
     }
 }

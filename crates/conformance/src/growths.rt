@@ -29,8 +29,8 @@ fn is_cut_short(told: &str, want: &str) -> bool {
     }
 }
 
-/// Refuses a growth of a call: it must be answered that memory is wanted and nothing else, and the same call afterwards,
-/// which meets no refusal, must give the answer.
+/// Refuses a growth of a call: it must be answered that memory is wanted and nothing else, and the same call
+/// afterwards, which meets no refusal, must give the answer.
 fn refuse(alloc: Global, words: &[&str], number: u64, want: &str) -> Result<()> {
     let heap = Heap::nth(alloc, number);
     let told = answer(alloc, &heap, words)?;

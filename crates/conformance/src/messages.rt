@@ -1,8 +1,7 @@
 //! The calls on messages.
 
-use crate::frames::frame_text;
 use crate::growths::{Heap, MEMORY};
-use crate::refusals::{fault_name, refusal_text, unpack_text, walk_stopped_text};
+use crate::refusals::{stop_told, told};
 use crate::words::{bytes_at, digits_of, number_at, word_at};
 use anyhow::{Result, anyhow, bail};
 use capn_canon::{Form, LayoutFault, Refusal, canonicalise, layout};
@@ -119,7 +118,7 @@ pub fn paid_text(alloc: Global, paid: u32, bytes: &[u8]) -> Result<String> {
 pub fn canonical_text(alloc: Global, form: Form, bytes: &[u8], limits: Limits) -> Result<String> {
     match canonicalise(alloc, form, bytes, limits) {
         Ok(canonical) => paid_text(alloc, canonical.paid, canonical.bytes.as_slice()),
-        Err(refusal) => refusal_text(alloc, refusal),
+        Err(refusal) => told(alloc, refusal),
     }
 }
 
@@ -135,7 +134,7 @@ pub fn canonicalise_answer(
     let bytes = bytes_at(alloc, words, 5)?;
     let canonical = match canonicalise(heap, form, bytes.as_slice(), limits) {
         Ok(canonical) => canonical,
-        Err(refusal) => return refusal_text(alloc, refusal),
+        Err(refusal) => return told(alloc, refusal),
     };
     match layout_in_form(heap, form, bytes.as_slice(), limits)? {
         Some(laid) => if laid.as_slice() != canonical.bytes.as_slice() {
@@ -200,7 +199,7 @@ fn walk_text<S: Space>(alloc: Global, heap: &Heap, space: &S, limits: Limits) ->
             let visits = walked.visits;
             Ok(format!(in alloc; "paid {paid}, visits {visits}")?)
         }
-        Err(stopped) => walk_stopped_text(alloc, stopped),
+        Err(stopped) => stop_told(alloc, stopped),
     }
 }
 
@@ -208,7 +207,7 @@ fn walk_text<S: Space>(alloc: Global, heap: &Heap, space: &S, limits: Limits) ->
 fn walk_frame(alloc: Global, heap: &Heap, bytes: &[u8], limits: Limits) -> Result<String> {
     match first(heap, bytes, MOST_WORDS) {
         Ok((space, _)) => walk_text(alloc, heap, &space, limits),
-        Err(fault) => frame_text(alloc, fault),
+        Err(fault) => told(alloc, fault),
     }
 }
 
@@ -225,7 +224,7 @@ pub fn walk_answer(alloc: Global, heap: &Heap, words: &[&str], tariff: Tariff) -
         Form::Stream => walk_frame(alloc, heap, bytes.as_slice(), limits),
         Form::Packed => match unpack(heap, bytes.as_slice(), MOST_WORDS) {
             Ok(text) => walk_frame(alloc, heap, text.as_slice(), limits),
-            Err(fault) => unpack_text(alloc, fault),
+            Err(fault) => told(alloc, fault),
         },
     }
 }
@@ -263,7 +262,7 @@ fn resolve_text<S: Space>(alloc: Global, space: &S, at: Place) -> Result<String>
     }
     match resolve(space, at) {
         Ok(target) => target_text(alloc, target),
-        Err(fault) => Ok(String::from_str(alloc, fault_name(fault))?),
+        Err(fault) => told(alloc, fault),
     }
 }
 
@@ -281,7 +280,7 @@ pub fn resolve_answer(alloc: Global, heap: &Heap, words: &[&str]) -> Result<Stri
         },
         Form::Stream => match first(heap, bytes.as_slice(), MOST_WORDS) {
             Ok((space, _)) => resolve_text(alloc, &space, at),
-            Err(fault) => frame_text(alloc, fault),
+            Err(fault) => told(alloc, fault),
         },
         Form::Packed => Err(anyhow!("no message is resolved in packed bytes")),
     }

@@ -1,7 +1,7 @@
 //! The calls of packing.
 
 use crate::growths::{Heap, MEMORY};
-use crate::refusals::unpack_text;
+use crate::refusals::told;
 use crate::words::{bytes_at, digits_of, number_at};
 use anyhow::{Result, anyhow};
 use capn_pack::{PackFault, pack, tag, unpack};
@@ -23,7 +23,7 @@ pub fn unpack_answer(alloc: Global, heap: &Heap, words: &[&str]) -> Result<Strin
     let text = bytes_at(alloc, words, 2)?;
     match unpack(heap, text.as_slice(), most) {
         Ok(bytes) => digits_of(alloc, bytes.as_slice()),
-        Err(fault) => unpack_text(alloc, fault),
+        Err(fault) => told(alloc, fault),
     }
 }
 

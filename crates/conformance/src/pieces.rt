@@ -1,9 +1,9 @@
 //! The calls on streams and packed texts that come in pieces, and over a reader and a writer.
 
-use crate::frames::{frame_text, limit_at, segments_text};
+use crate::frames::{limit_at, segments_text};
 use crate::growths::{Heap, MEMORY};
 use crate::messages::MOST_WORDS;
-use crate::refusals::unpack_text;
+use crate::refusals::told;
 use crate::words::{bytes_at, digits_of, number_at, push_told, word_at};
 use anyhow::{Result, anyhow, bail};
 use capn_pack::{UnpackFault, Unpacker};
@@ -21,7 +21,7 @@ fn message_text(alloc: Global, message: &Stored<&Heap>) -> Result<String> {
 fn ending_text(alloc: Global, ending: Result<(), FrameFault>) -> Result<String> {
     match ending {
         Ok(()) => Ok(String::from_str(alloc, "Ok")?),
-        Err(fault) => frame_text(alloc, fault),
+        Err(fault) => told(alloc, fault),
     }
 }
 
@@ -37,7 +37,7 @@ fn framer_text(
             let piece = bytes_at(alloc, words, at.saturating_add(1))?;
             match framer.feed(piece.as_slice()) {
                 Ok(taken) => Ok(format!(in alloc; "{taken}")?),
-                Err(fault) => frame_text(alloc, fault),
+                Err(fault) => told(alloc, fault),
             }
         }
         "take" => match framer.take() {
@@ -108,12 +108,12 @@ fn unpacker_text(
             match unpacker.feed(piece.as_slice(), &mut unpacked) {
                 Ok(()) => digits_of(alloc, unpacked.as_slice()),
                 Err(UnpackFault::Memory) => cut_short(alloc, unpacked.as_slice()),
-                Err(fault) => unpack_text(alloc, fault),
+                Err(fault) => told(alloc, fault),
             }
         }
         "finish" => match unpacker.finish() {
             Ok(()) => Ok(String::from_str(alloc, "Ok")?),
-            Err(fault) => unpack_text(alloc, fault),
+            Err(fault) => told(alloc, fault),
         },
         step => bail!("no step {step:?}"),
     }
@@ -180,7 +180,7 @@ pub fn pieces_answer(alloc: Global, heap: &Heap, words: &[&str]) -> Result<Strin
     let mut text = String::new(alloc);
     for piece in bytes.as_slice().chunks(size) {
         if let Err(fault) = feed_all(&mut framer, alloc, piece, &mut text)? {
-            let told = frame_text(alloc, fault)?;
+            let told = told(alloc, fault)?;
             push_told(&mut text, told.as_str())?;
             if told.as_str() == MEMORY {
                 has_to_fail(&mut framer)?;
@@ -210,7 +210,7 @@ pub fn read_answer(alloc: Global, heap: &Heap, words: &[&str]) -> Result<String>
                 continue;
             }
             Ok(None) => ending_text(alloc, Ok(()))?,
-            Err(ReadFault::Frame(fault)) => frame_text(alloc, fault)?,
+            Err(ReadFault::Frame(fault)) => told(alloc, fault)?,
             Err(ReadFault::Memory) => String::from_str(alloc, MEMORY)?,
             Err(_) => bail!("no input"),
         };

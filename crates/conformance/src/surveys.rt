@@ -1,9 +1,8 @@
 //! The calls that look through a message without its value.
 
-use crate::frames::frame_text;
 use crate::growths::Heap;
 use crate::messages::{MOST_WORDS, form_at, true_limits_at};
-use crate::refusals::{refusal_text, unpack_text, walk_stopped_text};
+use crate::refusals::{stop_told, told};
 use crate::words::bytes_at;
 use anyhow::{Result, anyhow};
 use capn_canon::{Form, is_canonical};
@@ -27,7 +26,7 @@ fn survey_text<S: Space>(alloc: Global, heap: &Heap, space: &S, limits: Limits) 
                 None => Ok(format!(in alloc; "paid {paid}, visits {visits}, no capability")?),
             }
         }
-        Err(stopped) => walk_stopped_text(alloc, stopped),
+        Err(stopped) => stop_told(alloc, stopped),
     }
 }
 
@@ -35,7 +34,7 @@ fn survey_text<S: Space>(alloc: Global, heap: &Heap, space: &S, limits: Limits) 
 fn survey_frame(alloc: Global, heap: &Heap, bytes: &[u8], limits: Limits) -> Result<String> {
     match first(heap, bytes, MOST_WORDS) {
         Ok((space, _)) => survey_text(alloc, heap, &space, limits),
-        Err(fault) => frame_text(alloc, fault),
+        Err(fault) => told(alloc, fault),
     }
 }
 
@@ -52,7 +51,7 @@ pub fn survey_answer(alloc: Global, heap: &Heap, words: &[&str], tariff: Tariff)
         Form::Stream => survey_frame(alloc, heap, bytes.as_slice(), limits),
         Form::Packed => match unpack(heap, bytes.as_slice(), MOST_WORDS) {
             Ok(text) => survey_frame(alloc, heap, text.as_slice(), limits),
-            Err(fault) => unpack_text(alloc, fault),
+            Err(fault) => told(alloc, fault),
         },
     }
 }
@@ -68,6 +67,6 @@ pub fn is_canonical_answer(
     let bytes = bytes_at(alloc, words, 4)?;
     match is_canonical(heap, bytes.as_slice(), limits) {
         Ok(answer) => Ok(format!(in alloc; "{answer}")?),
-        Err(refusal) => refusal_text(alloc, refusal),
+        Err(refusal) => told(alloc, refusal),
     }
 }

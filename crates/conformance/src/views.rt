@@ -2,10 +2,10 @@
 
 ghost use Rattle.std.specs.Prelude.{◌≡◌, ◌<◌, ◌≤◌, ◌^◌, IfOk};
 
-use crate::frames::{frame_text, limit_at};
+use crate::frames::limit_at;
 use crate::growths::Heap;
 use crate::messages::{MOST_WORDS, form_at};
-use crate::refusals::fault_name;
+use crate::refusals::told;
 use crate::words::{bytes_at, digits_of, number_at, push_told, word_at};
 use anyhow::{Result, anyhow, bail};
 use capn_canon::Form;
@@ -86,7 +86,7 @@ fn step_text<'s, S: Space>(
             Ok(format!(in alloc; "{paid} paid")?)
         }
         Err(fault) => {
-            let name = fault_name(fault);
+            let name = told(alloc, fault)?;
             Ok(format!(in alloc; "{name} with {paid} paid")?)
         }
     }
@@ -198,7 +198,7 @@ pub fn view_answer(alloc: Global, heap: &Heap, words: &[&str], tariff: Tariff) -
         },
         Form::Stream => match first(heap, bytes.as_slice(), MOST_WORDS) {
             Ok((space, _)) => steps_text(alloc, &space, &mut meter, depth, words),
-            Err(fault) => frame_text(alloc, fault),
+            Err(fault) => told(alloc, fault),
         },
         Form::Packed => Err(anyhow!("no view is of packed bytes")),
     }

@@ -1,7 +1,7 @@
 //! Trials of pointer words, packed texts and frames whose bytes are known.
 //!
-//! They stand apart from the crates that they try, since a crate with tests is proved twice, and apart from the trials of
-//! the crates above these, since they need not wait for those.
+//! They stand apart from the crates that they try, since a crate with tests is proved twice, and apart from the trials
+//! of the crates above these, since they need not wait for those.
 #![tactic(auto)]
 
 #[cfg(test)]

@@ -165,8 +165,8 @@ fn is_cut(alloc: Global, stream: &[u8]) -> bool {
     matches!(first(&heap, stream, 268_435_456), Err(FrameFault::Cut)) && heap.count() == 0
 }
 
-/// Whether `unpack` refuses a text so, or takes it where that is None, with the greatest maximum and a growth of at most
-/// so many bytes.
+/// Whether `unpack` refuses a text so, or takes it where that is None, with the greatest maximum and a growth of at
+/// most so many bytes.
 fn unpacks_small(alloc: Global, text: &[u8], want: Option<UnpackFault>, most: usize) -> bool {
     let heap = Refusing::nth(alloc, 0);
     let told = match unpack(&heap, text, u32::MAX) {

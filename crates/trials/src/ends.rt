@@ -177,8 +177,8 @@ fn due(whole: &[(u64, usize)], call: u64) -> usize {
     due
 }
 
-/// How often the reader was called when a byte of the text is written: as often as the message has bytes that it belongs
-/// to, or to the end of the input.
+/// How often the reader was called when a byte of the text is written: as often as the message has bytes that it
+/// belongs to, or to the end of the input.
 fn reads_before(whole: &[(u64, usize)], byte: usize, all: u64) -> u64 {
     for (bytes, text) in whole {
         if byte <= *text {

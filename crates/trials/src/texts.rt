@@ -180,15 +180,15 @@ fn refusals_of_a_walk(rt: HostRuntime) {
 }
 
 #[test]
-fn a_fault_displays_its_name(rt: HostRuntime) {
-    expect_name(&rt, rt.alloc(), ToolFault::Memory, "Memory");
-    expect_name(&rt, rt.alloc(), ToolFault::Io, "Io");
-    expect_name(&rt, rt.alloc(), ToolFault::InputTooLong, "InputTooLong");
-    expect_name(&rt, rt.alloc(), ToolFault::NotWhole(9), "NotWhole");
+fn a_fault_displays_its_text(rt: HostRuntime) {
+    expect_name(&rt, rt.alloc(), ToolFault::Memory, "out of memory");
+    expect_name(&rt, rt.alloc(), ToolFault::Io, "input or output failed");
+    expect_name(&rt, rt.alloc(), ToolFault::InputTooLong, "input too long");
+    expect_name(&rt, rt.alloc(), ToolFault::NotWhole(9), "NotWhole(9)");
     expect_name(
         &rt,
         rt.alloc(),
         ToolFault::Refused(Refusal::Bare(BareFault::NotWhole(9))),
-        "Refused",
+        "bare: NotWhole(9)",
     );
 }

@@ -18,10 +18,12 @@ use Rattle.capn_canon.specs.Answers.{Answers}
 
 one-framed : (bs : List ℕ) (most : ℕ) (m n : List (List ℕ)) → IsFramed bs most m → IsFramed bs most n → m ≡ n
 one-framed bs most m n h k =
-    (one_frame bs most most m n (length bs) (length bs) (stands_alone bs most m h.frame h.room) (stands_alone bs most n k.frame k.room)).0
+    (one_frame bs most most m n (length bs) (length bs) (stands_alone bs most m h.frame h.room)
+    (stands_alone bs most n k.frame k.room)).0
 
 -- at most one message
-pub one_message : (form : Form) (bs : List ℕ) (most : ℕ) (m n : List (List ℕ)) → Reads form bs most m → Reads form bs most n → m ≡ n
+pub one_message : (form : Form) (bs : List ℕ) (most : ℕ) (m n : List (List ℕ)) → Reads form bs most m
+    → Reads form bs most n → m ≡ n
 one_message forms.Bare bs most m n (ws, h, e) (vs, k, f) =
     let g : ws ≡ vs = sym (bare_only bs ws h) ∙ bare_only bs vs k in
     e ∙ ap (λ (us : List ℕ). us ∷ []) g ∙ sym f
@@ -37,13 +39,15 @@ framed-message bs most m l h =
     record { some = f.some; few = f.few; room = omega arith; each = f.each }
 
 -- what is read is a message
-pub is_message : (form : Form) (bs : List ℕ) (most : ℕ) (m : List (List ℕ)) → most ≤ 2 ^ 28 → Reads form bs most m → IsMessage m
+pub is_message : (form : Form) (bs : List ℕ) (most : ℕ) (m : List (List ℕ)) → most ≤ 2 ^ 28 → Reads form bs most m
+    → IsMessage m
 is_message forms.Bare bs most m l (ws, h, e) = subst IsMessage (sym e) (bare_message ws h.each h.room)
 is_message forms.Stream bs most m l h = framed-message bs most m l h
 is_message forms.Packed bs most m l (t, h, k) = framed-message t most m l k
 
 -- bytes denote one value at most
-pub one_value : (form : Form) (bs : List ℕ) (limits : Bounds) (v w : Tree) → Denotes form bs limits v → Denotes form bs limits w → v ≡ w
+pub one_value : (form : Form) (bs : List ℕ) (limits : Bounds) (v w : Tree) → Denotes form bs limits v
+    → Denotes form bs limits w → v ≡ w
 one_value form bs limits v w h k =
     let e = one_message form bs limits.message_words k.message h.message k.reads h.reads in
     unique h.message v w root h.value.is (subst (λ (m : List (List ℕ)). IsAt m root w) e k.value.is)
@@ -53,4 +57,5 @@ pub answers_only : (form : Form) (bs : List ℕ) (limits : Bounds) (out : List �
     → (v : Tree) → Denotes form bs limits v → out ≡ canon v
 answers_only form bs limits out n h v k =
     h.answer.canonical
-    ∙ ap canon (one_value form bs limits h.answer.value v (record { message = h.message; reads = h.reads; value = h.answer.is }) k)
+    ∙ ap canon (one_value form bs limits h.answer.value v
+    (record { message = h.message; reads = h.reads; value = h.answer.is }) k)

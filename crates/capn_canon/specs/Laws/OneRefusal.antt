@@ -1,5 +1,6 @@
 -- Bytes are refused for one reason, and not where they are read.
-use Rattle.std.proofs.Common.{◌≡◌, ◌⊎◌, inl, inr, ℕ, ◌+◌, ◌≤◌, List, [], ◌∷◌, ◌++◌, length, Some, Err, refl, ap, sym, subst, ◌∙◌, append_assoc, arith}
+use Rattle.std.proofs.Common.{◌≡◌, ◌⊎◌, inl, inr, ℕ, ◌+◌, ◌≤◌, List, [], ◌∷◌, ◌++◌, length, Some, Err, refl, ap, sym}
+use Rattle.std.proofs.Common.{subst, ◌∙◌, append_assoc, arith}
 use Rattle.std.specs.List.{AllByRecursion}
 use Rattle.capn_words.specs.Words.{IsBare, ReadsBare}
 use Rattle.capn_words.specs.declared.bare.BareFault.{BareFault}
@@ -40,7 +41,8 @@ use Rattle.capn_canon.specs.Laws.NotRefused.{accepted-not_refused}
 
 -- a rest with this fault begins with no whole group for which there is room
 abbrev NoGroupFirst : (ℕ → List ℕ → Type 0) → Type 0
-NoGroupFirst Fault = (room : ℕ) (rest more : List ℕ) (g : Group) → IsGroup g → rest ≡ text g ++ more → words g ≤ room → Fault room rest → ⊥
+NoGroupFirst Fault = (room : ℕ) (rest more : List ℕ) (g : Group) → IsGroup g → rest ≡ text g ++ more → words g ≤ room
+    → Fault room rest → ⊥
 
 cut-no_group : NoGroupFirst IsCut
 cut-no_group room rest more g h e fits cut = no_group room rest cut g more h e
@@ -54,25 +56,32 @@ record SameRow (gs hs : List Group) (rest other : List ℕ) (left right : ℕ) :
   rest_is : rest ≡ other
   left_is : left ≡ right
 
-same_row : (P Q : ℕ → List ℕ → Type 0) → NoGroupFirst P → NoGroupFirst Q → (gs hs : List Group) (rest other : List ℕ) (left right : ℕ) → AllByRecursion IsGroup gs → AllByRecursion IsGroup hs
-    → texts gs ++ rest ≡ texts hs ++ other → left + word_count gs ≡ right + word_count hs → P left rest → Q right other → SameRow gs hs rest other left right
-same_row P Q first also [] [] rest other left right p q e n f h = record { texts_are = refl; rest_is = e; left_is = omega arith }
+same_row : (P Q : ℕ → List ℕ → Type 0) → NoGroupFirst P → NoGroupFirst Q
+    → (gs hs : List Group) (rest other : List ℕ) (left right : ℕ) → AllByRecursion IsGroup gs
+    → AllByRecursion IsGroup hs
+    → texts gs ++ rest ≡ texts hs ++ other → left + word_count gs ≡ right + word_count hs → P left rest → Q right other
+    → SameRow gs hs rest other left right
+same_row P Q first also [] [] rest other left right p q e n f h =
+    record { texts_are = refl; rest_is = e; left_is = omega arith }
 same_row P Q first also [] (k ∷ ks) rest other left right p q e n f h =
     absurd (first left rest (texts ks ++ other) k q.0 (e ∙ append_assoc (text k) (texts ks) other) (omega arith) f)
 same_row P Q first also (g ∷ gs) [] rest other left right p q e n f h =
     absurd (also right other (texts gs ++ rest) g p.0 (sym e ∙ append_assoc (text g) (texts gs) rest) (omega arith) h)
 same_row P Q first also (g ∷ gs) (k ∷ ks) rest other left right p q e n f h =
-    let r = group_same g k (texts gs ++ rest) (texts ks ++ other) p.0 q.0 (sym (append_assoc (text g) (texts gs) rest) ∙ e ∙ append_assoc (text k) (texts ks) other) in
+    let r = group_same g k (texts gs ++ rest) (texts ks ++ other) p.0 q.0 (sym (append_assoc (text g) (texts gs) rest)
+    ∙ e ∙ append_assoc (text k) (texts ks) other) in
     let w : words g ≡ words k = ap words r.0 in
     let count : left + word_count gs ≡ right + word_count ks = omega arith in
     let s = same_row P Q first also gs ks rest other left right p.1 q.1 r.1 count f h in
     record { texts_are = λ i. text (r.0 i) ++ s.texts_are i; rest_is = s.rest_is; left_is = s.left_is }
 
 module _ (b : List ℕ) (max : ℕ) where
-  same_stand : (P Q : ℕ → List ℕ → Type 0) → NoGroupFirst P → NoGroupFirst Q → (at to : ℕ) (s : Stands P b max at) (t : Stands Q b max to)
+  same_stand : (P Q : ℕ → List ℕ → Type 0) → NoGroupFirst P → NoGroupFirst Q
+      → (at to : ℕ) (s : Stands P b max at) (t : Stands Q b max to)
       → SameRow s.groups t.groups s.rest t.rest s.left t.left
   same_stand P Q first also at to s t =
-      same_row P Q first also s.groups t.groups s.rest t.rest s.left t.left s.each t.each (sym s.text ∙ t.text) (s.counted ∙ sym t.counted) s.fault t.fault
+      same_row P Q first also s.groups t.groups s.rest t.rest s.left t.left s.each t.each (sym s.text
+      ∙ t.text) (s.counted ∙ sym t.counted) s.fault t.fault
 
   same_at : (P : ℕ → List ℕ → Type 0) → NoGroupFirst P → (at to : ℕ) → Stands P b max at → Stands P b max to → at ≡ to
   same_at P first at to s t =
@@ -88,19 +97,23 @@ module _ (b : List ℕ) (max : ℕ) where
       let over = t.fault.2 in
       omega arith
 
-  one_packed : (e f : UnpackFault) → packs.IsRefused b max e → packs.IsRefused b max f → (e ≡ unpack_faults.Memory → ⊥) → (f ≡ unpack_faults.Memory → ⊥) → e ≡ f
+  one_packed : (e f : UnpackFault) → packs.IsRefused b max e → packs.IsRefused b max f → (e ≡ unpack_faults.Memory → ⊥)
+      → (f ≡ unpack_faults.Memory → ⊥) → e ≡ f
   one_packed unpack_faults.Memory f r s ne nf = absurd (ne refl)
   one_packed unpack_faults.Failed f r s ne nf = absurd r
   one_packed (unpack_faults.Cut at) unpack_faults.Memory r s ne nf = absurd (nf refl)
   one_packed (unpack_faults.Cut at) unpack_faults.Failed r s ne nf = absurd s
-  one_packed (unpack_faults.Cut at) (unpack_faults.Cut to) r s ne nf = ap (λ (n : ℕ). unpack_faults.Cut n) (same_at IsCut cut-no_group at to r s)
+  one_packed (unpack_faults.Cut at) (unpack_faults.Cut to) r s ne nf =
+      ap (λ (n : ℕ). unpack_faults.Cut n) (same_at IsCut cut-no_group at to r s)
   one_packed (unpack_faults.Cut at) (unpack_faults.TooLong to) r s ne nf = absurd (never_both at to r s)
   one_packed (unpack_faults.TooLong at) unpack_faults.Memory r s ne nf = absurd (nf refl)
   one_packed (unpack_faults.TooLong at) unpack_faults.Failed r s ne nf = absurd s
   one_packed (unpack_faults.TooLong at) (unpack_faults.Cut to) r s ne nf = absurd (never_both to at s r)
-  one_packed (unpack_faults.TooLong at) (unpack_faults.TooLong to) r s ne nf = ap (λ (n : ℕ). unpack_faults.TooLong n) (same_at IsTooLong long-no_group at to r s)
+  one_packed (unpack_faults.TooLong at) (unpack_faults.TooLong to) r s ne nf =
+      ap (λ (n : ℕ). unpack_faults.TooLong n) (same_at IsTooLong long-no_group at to r s)
 
-pub one_unpack_fault : (b : List ℕ) (max : ℕ) (e f : UnpackFault) → packs.IsRefused b max e → packs.IsRefused b max f → (e ≡ unpack_faults.Memory → ⊥) → (f ≡ unpack_faults.Memory → ⊥) → e ≡ f
+pub one_unpack_fault : (b : List ℕ) (max : ℕ) (e f : UnpackFault) → packs.IsRefused b max e → packs.IsRefused b max f
+    → (e ≡ unpack_faults.Memory → ⊥) → (f ≡ unpack_faults.Memory → ⊥) → e ≡ f
 one_unpack_fault b max e f r s ne nf = one_packed b max e f r s ne nf
 
 -- ---- bare bytes
@@ -109,11 +122,13 @@ pub one_bare_fault : (bs : List ℕ) (e f : BareFault) → ReadsBare bs (Err e) 
 one_bare_fault bs (NotWhole m) (NotWhole n) r s = ap (λ (k : ℕ). NotWhole k) (r.0 ∙ sym s.0)
 one_bare_fault bs (NotWhole m) (TooLong n) r s = let l = s.0 in absurd (r.1 (omega arith))
 one_bare_fault bs (TooLong m) (NotWhole n) r s = let l = r.0 in absurd (s.1 (omega arith))
-one_bare_fault bs (TooLong m) (TooLong n) r s = let l = r.0 in let k = s.0 in let same : m ≡ n = omega arith in ap (λ (k : ℕ). TooLong k) same
+one_bare_fault bs (TooLong m) (TooLong n) r s = let l = r.0 in let k = s.0 in let same : m ≡ n = omega arith in
+    ap (λ (k : ℕ). TooLong k) same
 
 pub bare_not_misread : (bs ws : List ℕ) (e : BareFault) → IsBare bs ws → ReadsBare bs (Err e) → ⊥
 bare_not_misread bs ws (NotWhole n) h r = let l = bare_length bs ws h in r.1 (omega arith)
-bare_not_misread bs ws (TooLong n) h r = let l = bare_length bs ws h in let m = h.room in let a = r.0 in let b = r.1 in absurd (omega arith)
+bare_not_misread bs ws (TooLong n) h r = let l = bare_length bs ws h in let m = h.room in let a = r.0 in let b = r.1 in
+    absurd (omega arith)
 
 -- ---- the parts of a refusal
 
@@ -121,13 +136,15 @@ abbrev BarePart : List ℕ → Refusal → Type 0
 BarePart bs r = (e : BareFault) × (r ≡ refusals.Bare e) × ReadsBare bs (Err e)
 
 abbrev FramePart : List ℕ → ℕ → Refusal → Type 0
-FramePart bs most r = (e : FrameFault) × (r ≡ refusals.Frame e) × (e ≡ frame_faults.Memory → ⊥) × frames.IsRefused bs most e
+FramePart bs most r = (e : FrameFault) × (r ≡ refusals.Frame e) × (e ≡ frame_faults.Memory → ⊥)
+    × frames.IsRefused bs most e
 
 abbrev TrailPart : List ℕ → ℕ → Refusal → Type 0
 TrailPart bs most r = (at : ℕ) × (r ≡ refusals.Trailing at) × Trails bs most at
 
 abbrev PackedPart : List ℕ → ℕ → Refusal → Type 0
-PackedPart bs most r = (e : UnpackFault) × (r ≡ refusals.Packed e) × (e ≡ unpack_faults.Memory → ⊥) × packs.IsRefused bs (most + most_table_words) e
+PackedPart bs most r = (e : UnpackFault) × (r ≡ refusals.Packed e) × (e ≡ unpack_faults.Memory → ⊥)
+    × packs.IsRefused bs (most + most_table_words) e
 
 abbrev UnpackedPart : List ℕ → ℕ → Refusal → Type 0
 UnpackedPart bs most r = (text : List ℕ) × Unpacks bs most text × IsMisframed text most r
@@ -150,7 +167,8 @@ frame_part bs most (refusals.Walk s) h = absurd h
 frame_part bs most (refusals.Capability k) h = absurd h
 frame_part bs most refusals.Memory h = absurd h
 
-packed_part : (bs : List ℕ) (most : ℕ) (r : Refusal) → IsMisread forms.Packed bs most r → PackedPart bs most r ⊎ UnpackedPart bs most r
+packed_part : (bs : List ℕ) (most : ℕ) (r : Refusal) → IsMisread forms.Packed bs most r → PackedPart bs most r
+    ⊎ UnpackedPart bs most r
 packed_part bs most (refusals.Packed e) h = inl (e, refl, h.0, h.1)
 packed_part bs most (refusals.Frame e) h = inr h
 packed_part bs most (refusals.Trailing at) h = inr h
@@ -161,26 +179,35 @@ packed_part bs most refusals.Memory h = inr h
 
 -- ---- framed and packed bytes
 
-frames_same : (bs : List ℕ) (most : ℕ) (r s : Refusal) → FramePart bs most r ⊎ TrailPart bs most r → FramePart bs most s ⊎ TrailPart bs most s → r ≡ s
-frames_same bs most r s (inl (e, a, ne, h)) (inl (f, b, nf, k)) = a ∙ ap (λ (x : FrameFault). refusals.Frame x) (frame_laws.one_refusal bs most e f h k ne nf) ∙ sym b
-frames_same bs most r s (inl (e, a, ne, h)) (inr (at, b, (m, stands, l))) = absurd (ne (refused_whole bs most e (whole_of bs most m at stands) h))
-frames_same bs most r s (inr (at, b, (m, stands, l))) (inl (e, a, ne, h)) = absurd (ne (refused_whole bs most e (whole_of bs most m at stands) h))
+frames_same : (bs : List ℕ) (most : ℕ) (r s : Refusal) → FramePart bs most r ⊎ TrailPart bs most r → FramePart bs most s
+    ⊎ TrailPart bs most s → r ≡ s
+frames_same bs most r s (inl (e, a, ne, h)) (inl (f, b, nf, k)) = a
+    ∙ ap (λ (x : FrameFault). refusals.Frame x) (frame_laws.one_refusal bs most e f h k ne nf) ∙ sym b
+frames_same bs most r s (inl (e, a, ne, h)) (inr (at, b, (m, stands, l))) =
+    absurd (ne (refused_whole bs most e (whole_of bs most m at stands) h))
+frames_same bs most r s (inr (at, b, (m, stands, l))) (inl (e, a, ne, h)) =
+    absurd (ne (refused_whole bs most e (whole_of bs most m at stands) h))
 frames_same bs most r s (inr (at, a, (m, stands, l))) (inr (to, b, (n, also, k))) =
     a ∙ ap (λ (x : ℕ). refusals.Trailing x) (one_frame bs most most m n at to stands also).1 ∙ sym b
 
 one_misframed : (bs : List ℕ) (most : ℕ) (r s : Refusal) → IsMisframed bs most r → IsMisframed bs most s → r ≡ s
 one_misframed bs most r s h k = frames_same bs most r s (frame_part bs most r h) (frame_part bs most s k)
 
-packed_same : (bs : List ℕ) (most : ℕ) (r s : Refusal) → PackedPart bs most r ⊎ UnpackedPart bs most r → PackedPart bs most s ⊎ UnpackedPart bs most s → r ≡ s
+packed_same : (bs : List ℕ) (most : ℕ) (r s : Refusal) → PackedPart bs most r ⊎ UnpackedPart bs most r
+    → PackedPart bs most s ⊎ UnpackedPart bs most s → r ≡ s
 packed_same bs most r s (inl (e, a, ne, h)) (inl (f, b, nf, k)) =
-    a ∙ ap (λ (x : UnpackFault). refusals.Packed x) (one_unpack_fault bs (most + most_table_words) e f h k ne nf) ∙ sym b
-packed_same bs most r s (inl (e, a, ne, h)) (inr (t, u, k)) = absurd (ne (refused_only e bs t (most + most_table_words) h u.packs u.room))
-packed_same bs most r s (inr (t, u, k)) (inl (e, a, ne, h)) = absurd (ne (refused_only e bs t (most + most_table_words) h u.packs u.room))
+    a ∙ ap (λ (x : UnpackFault). refusals.Packed x) (one_unpack_fault bs (most + most_table_words) e f h k ne nf)
+    ∙ sym b
+packed_same bs most r s (inl (e, a, ne, h)) (inr (t, u, k)) =
+    absurd (ne (refused_only e bs t (most + most_table_words) h u.packs u.room))
+packed_same bs most r s (inr (t, u, k)) (inl (e, a, ne, h)) =
+    absurd (ne (refused_only e bs t (most + most_table_words) h u.packs u.room))
 packed_same bs most r s (inr (t, u, h)) (inr (x, v, k)) =
     let same = one_reading bs x t v.packs u.packs in
     one_misframed t most r s h (subst (λ (y : List ℕ). IsMisframed y most s) same k)
 
-one_misread : (form : Form) (bs : List ℕ) (most : ℕ) (r s : Refusal) → IsMisread form bs most r → IsMisread form bs most s → r ≡ s
+one_misread : (form : Form) (bs : List ℕ) (most : ℕ) (r s : Refusal) → IsMisread form bs most r
+    → IsMisread form bs most s → r ≡ s
 one_misread forms.Bare bs most r s h k =
     let a = bare_part bs most r h in
     let b = bare_part bs most s k in
@@ -190,19 +217,24 @@ one_misread forms.Packed bs most r s h k = packed_same bs most r s (packed_part 
 
 -- ---- what is read is not misread
 
-framed_read : (bs : List ℕ) (most : ℕ) (m : List (List ℕ)) (r : Refusal) → IsFramed bs most m → FramePart bs most r ⊎ TrailPart bs most r → ⊥
-framed_read bs most m r h (inl (e, a, ne, k)) = ne (refused_whole bs most e (whole_of bs most m (length bs) (stands_alone bs most m h.frame h.room)) k)
+framed_read : (bs : List ℕ) (most : ℕ) (m : List (List ℕ)) (r : Refusal) → IsFramed bs most m → FramePart bs most r
+    ⊎ TrailPart bs most r → ⊥
+framed_read bs most m r h (inl (e, a, ne, k)) =
+    ne (refused_whole bs most e (whole_of bs most m (length bs) (stands_alone bs most m h.frame h.room)) k)
 framed_read bs most m r h (inr (at, a, (n, stands, l))) =
     let e = (one_frame bs most most n m at (length bs) stands (stands_alone bs most m h.frame h.room)).1 in
     absurd (omega arith)
 
-packed_read : (bs : List ℕ) (most : ℕ) (m : List (List ℕ)) (r : Refusal) → Reads forms.Packed bs most m → PackedPart bs most r ⊎ UnpackedPart bs most r → ⊥
-packed_read bs most m r (t, u, h) (inl (e, a, ne, k)) = ne (refused_only e bs t (most + most_table_words) k u.packs u.room)
+packed_read : (bs : List ℕ) (most : ℕ) (m : List (List ℕ)) (r : Refusal) → Reads forms.Packed bs most m
+    → PackedPart bs most r ⊎ UnpackedPart bs most r → ⊥
+packed_read bs most m r (t, u, h) (inl (e, a, ne, k)) =
+    ne (refused_only e bs t (most + most_table_words) k u.packs u.room)
 packed_read bs most m r (t, u, h) (inr (x, v, k)) =
     let same = one_reading bs x t v.packs u.packs in
     framed_read t most m r h (frame_part t most r (subst (λ (y : List ℕ). IsMisframed y most r) same k))
 
-not_misread : (form : Form) (bs : List ℕ) (most : ℕ) (m : List (List ℕ)) (r : Refusal) → Reads form bs most m → IsMisread form bs most r → ⊥
+not_misread : (form : Form) (bs : List ℕ) (most : ℕ) (m : List (List ℕ)) (r : Refusal) → Reads form bs most m
+    → IsMisread form bs most r → ⊥
 not_misread forms.Bare bs most m r h k = let a = bare_part bs most r k in bare_not_misread bs h.0 a.0 h.1 a.2
 not_misread forms.Stream bs most m r h k = framed_read bs most m r h (frame_part bs most r k)
 not_misread forms.Packed bs most m r h k = packed_read bs most m r h (packed_part bs most r k)
@@ -214,23 +246,27 @@ same_stopped s t a b c d = λ i. record { fault = a i; place = b i; paid = c i; 
 
 module _ (m : List (List ℕ)) (limits : Bounds) where
   -- a walk stops at one place
-  pub one_stop : (s t : Stopped) → walks.IsRefused m limits s.fault s.place s.paid s.visits → walks.IsRefused m limits t.fault t.place t.paid t.visits → s ≡ t
+  pub one_stop : (s t : Stopped) → walks.IsRefused m limits s.fault s.place s.paid s.visits
+      → walks.IsRefused m limits t.fault t.place t.paid t.visits → s ≡ t
   one_stop s t (inl h) (inl k) = same_stopped s t (h.1 ∙ sym k.1) (h.2 ∙ sym k.2) (h.3 ∙ sym k.3) (h.4 ∙ sym k.4)
   one_stop s t (inl h) (inr k) = let a = h.0 in let b = k.0 in absurd (omega arith)
   one_stop s t (inr h) (inl k) = let a = h.0 in let b = k.0 in absurd (omega arith)
   one_stop s t (inr h) (inr k) =
       let visits = walks.visits_within m limits in
       let e : refused s.fault s.place s.paid s.visits ≡ refused t.fault t.place t.paid t.visits =
-      sym (stop-refused limits.budget visits s.fault s.place s.paid s.visits h.1) ∙ stop-refused limits.budget visits t.fault t.place t.paid t.visits k.1 in
+      sym (stop-refused limits.budget visits s.fault s.place s.paid s.visits h.1)
+      ∙ stop-refused limits.budget visits t.fault t.place t.paid t.visits k.1 in
       same_stopped s t (cc) (cc) (cc) (cc)
 
 abbrev WalkPart : List (List ℕ) → Bounds → Refusal → Type 0
 WalkPart m limits r = (s : Stopped) × (r ≡ refusals.Walk s) × walks.IsRefused m limits s.fault s.place s.paid s.visits
 
 abbrev CapPart : List (List ℕ) → Bounds → Refusal → Type 0
-CapPart m limits r = (k : ℕ) × (r ≡ refusals.Capability k) × ((v : Tree) × walks.IsValueOf m limits v × (first_cap v ≡ Some k))
+CapPart m limits r = (k : ℕ) × (r ≡ refusals.Capability k)
+    × ((v : Tree) × walks.IsValueOf m limits v × (first_cap v ≡ Some k))
 
-pub message_part : (m : List (List ℕ)) (limits : Bounds) (r : Refusal) → (r ≡ refusals.Memory → ⊥) → IsRefusedMessage m limits r → WalkPart m limits r ⊎ CapPart m limits r
+pub message_part : (m : List (List ℕ)) (limits : Bounds) (r : Refusal) → (r ≡ refusals.Memory → ⊥)
+    → IsRefusedMessage m limits r → WalkPart m limits r ⊎ CapPart m limits r
 message_part m limits (refusals.Walk s) n h = inl (s, refl, h)
 message_part m limits (refusals.Capability k) n h = inr (k, refl, h)
 message_part m limits refusals.Memory n h = absurd (n refl)
@@ -239,25 +275,32 @@ message_part m limits (refusals.Packed e) n h = absurd h
 message_part m limits (refusals.Frame e) n h = absurd h
 message_part m limits (refusals.Trailing at) n h = absurd h
 
-messages_same : (m : List (List ℕ)) (limits : Bounds) (r s : Refusal) → WalkPart m limits r ⊎ CapPart m limits r → WalkPart m limits s ⊎ CapPart m limits s → r ≡ s
-messages_same m limits r s (inl (p, a, h)) (inl (q, b, k)) = a ∙ ap (λ (x : Stopped). refusals.Walk x) (one_stop m limits p q h k) ∙ sym b
-messages_same m limits r s (inl (p, a, h)) (inr (n, b, (v, is, c))) = absurd (accepted-not_refused m limits p is.accepted h)
-messages_same m limits r s (inr (n, b, (v, is, c))) (inl (p, a, h)) = absurd (accepted-not_refused m limits p is.accepted h)
+messages_same : (m : List (List ℕ)) (limits : Bounds) (r s : Refusal) → WalkPart m limits r ⊎ CapPart m limits r
+    → WalkPart m limits s ⊎ CapPart m limits s → r ≡ s
+messages_same m limits r s (inl (p, a, h)) (inl (q, b, k)) = a
+    ∙ ap (λ (x : Stopped). refusals.Walk x) (one_stop m limits p q h k) ∙ sym b
+messages_same m limits r s (inl (p, a, h)) (inr (n, b, (v, is, c))) =
+    absurd (accepted-not_refused m limits p is.accepted h)
+messages_same m limits r s (inr (n, b, (v, is, c))) (inl (p, a, h)) =
+    absurd (accepted-not_refused m limits p is.accepted h)
 messages_same m limits r s (inr (j, a, (v, is, c))) (inr (k, b, (w, also, d))) =
     let e : Some j ≡ Some k = sym c ∙ ap first_cap (unique m v w root is.is also.is) ∙ d in
     let same : j ≡ k = cc in
     a ∙ ap (λ (x : ℕ). refusals.Capability x) same ∙ sym b
 
-pub one_message_refusal : (m : List (List ℕ)) (limits : Bounds) (r s : Refusal) → (r ≡ refusals.Memory → ⊥) → (s ≡ refusals.Memory → ⊥)
+pub one_message_refusal : (m : List (List ℕ)) (limits : Bounds) (r s : Refusal) → (r ≡ refusals.Memory → ⊥)
+    → (s ≡ refusals.Memory → ⊥)
     → IsRefusedMessage m limits r → IsRefusedMessage m limits s → r ≡ s
-one_message_refusal m limits r s nr ns h k = messages_same m limits r s (message_part m limits r nr h) (message_part m limits s ns k)
+one_message_refusal m limits r s nr ns h k =
+    messages_same m limits r s (message_part m limits r nr h) (message_part m limits s ns k)
 
 -- ---- bytes in a form
 
 abbrev MessagePart : Form → List ℕ → Bounds → Refusal → Type 0
 MessagePart form bs limits r = (m : List (List ℕ)) × Reads form bs limits.message_words m × IsRefusedMessage m limits r
 
-refusal_part : (form : Form) (bs : List ℕ) (limits : Bounds) (r : Refusal) → (r ≡ refusals.Memory → ⊥) → IsRefused form bs limits r → MessagePart form bs limits r ⊎ IsMisread form bs limits.message_words r
+refusal_part : (form : Form) (bs : List ℕ) (limits : Bounds) (r : Refusal) → (r ≡ refusals.Memory → ⊥)
+    → IsRefused form bs limits r → MessagePart form bs limits r ⊎ IsMisread form bs limits.message_words r
 refusal_part form bs limits (refusals.Walk s) n h = inl h
 refusal_part form bs limits (refusals.Capability k) n h = inl h
 refusal_part form bs limits refusals.Memory n h = absurd (n refl)
@@ -266,16 +309,22 @@ refusal_part form bs limits (refusals.Packed e) n h = inr h
 refusal_part form bs limits (refusals.Frame e) n h = inr h
 refusal_part form bs limits (refusals.Trailing at) n h = inr h
 
-refusals_same : (form : Form) (bs : List ℕ) (limits : Bounds) (r s : Refusal) → (r ≡ refusals.Memory → ⊥) → (s ≡ refusals.Memory → ⊥)
-    → MessagePart form bs limits r ⊎ IsMisread form bs limits.message_words r → MessagePart form bs limits s ⊎ IsMisread form bs limits.message_words s → r ≡ s
+refusals_same : (form : Form) (bs : List ℕ) (limits : Bounds) (r s : Refusal) → (r ≡ refusals.Memory → ⊥)
+    → (s ≡ refusals.Memory → ⊥)
+    → MessagePart form bs limits r ⊎ IsMisread form bs limits.message_words r → MessagePart form bs limits s
+    ⊎ IsMisread form bs limits.message_words s → r ≡ s
 refusals_same form bs limits r s nr ns (inl (m, h, i)) (inl (n, k, j)) =
     let same = one_message form bs limits.message_words n m k h in
     one_message_refusal m limits r s nr ns i (subst (λ (x : List (List ℕ)). IsRefusedMessage x limits s) same j)
-refusals_same form bs limits r s nr ns (inl (m, h, i)) (inr k) = absurd (not_misread form bs limits.message_words m s h k)
-refusals_same form bs limits r s nr ns (inr h) (inl (m, k, j)) = absurd (not_misread form bs limits.message_words m r k h)
+refusals_same form bs limits r s nr ns (inl (m, h, i)) (inr k) =
+    absurd (not_misread form bs limits.message_words m s h k)
+refusals_same form bs limits r s nr ns (inr h) (inl (m, k, j)) =
+    absurd (not_misread form bs limits.message_words m r k h)
 refusals_same form bs limits r s nr ns (inr h) (inr k) = one_misread form bs limits.message_words r s h k
 
 -- bytes are refused for one reason, but for want of memory
-pub one_refusal : (form : Form) (bs : List ℕ) (limits : Bounds) (r s : Refusal) → (r ≡ refusals.Memory → ⊥) → (s ≡ refusals.Memory → ⊥)
+pub one_refusal : (form : Form) (bs : List ℕ) (limits : Bounds) (r s : Refusal) → (r ≡ refusals.Memory → ⊥)
+    → (s ≡ refusals.Memory → ⊥)
     → IsRefused form bs limits r → IsRefused form bs limits s → r ≡ s
-one_refusal form bs limits r s nr ns h k = refusals_same form bs limits r s nr ns (refusal_part form bs limits r nr h) (refusal_part form bs limits s ns k)
+one_refusal form bs limits r s nr ns h k =
+    refusals_same form bs limits r s nr ns (refusal_part form bs limits r nr h) (refusal_part form bs limits s ns k)

@@ -1,5 +1,6 @@
 -- What stands at the front of some bytes decides the group, where there is one.
-use Rattle.std.proofs.Common.{◌≡◌, ℕ, zero, suc, ◌*◌, ◌/◌, ◌^◌, ◌<◌, ◌≤◌, inl, inr, false, eqb, List, [], ◌∷◌, ◌++◌, length, refl, sym, ap, ◌∙◌, subst, arith, append_assoc, length-append, pow-suc}
+use Rattle.std.proofs.Common.{◌≡◌, ℕ, zero, suc, ◌*◌, ◌/◌, ◌^◌, ◌<◌, ◌≤◌, inl, inr, false, eqb, List, [], ◌∷◌, ◌++◌}
+use Rattle.std.proofs.Common.{length, refl, sym, ap, ◌∙◌, subst, arith, append_assoc, length-append, pow-suc}
 use Rattle.std.proofs.lemmas.Bool.{ne_eqb}
 use Rattle.std.proofs.lemmas.List.{append-nil}
 use Rattle.std.specs.Prelude.{count_ones}
@@ -16,8 +17,10 @@ use Rattle.capn_pack.specs.Laws.GroupLemmas.{length_contents, count_append, text
 use Rattle.capn_pack.specs.Laws.SpreadLemmas.{ones_half, no_ones, parity, named_one, named_none}
 
 -- a tag names as many bytes as it has bits
-length_named : (n tag : ℕ) (word : List ℕ) → length word ≡ n → tag < 2 ^ n → length (named_bytes tag word) ≡ count_ones tag
-length_named n tag [] long less = let none : tag ≡ 0 = omega (arith, ap (λ k. 2 ^ k) long) in omega (arith, ap count_ones none, no_ones)
+length_named : (n tag : ℕ) (word : List ℕ) → length word ≡ n → tag < 2 ^ n
+    → length (named_bytes tag word) ≡ count_ones tag
+length_named n tag [] long less = let none : tag ≡ 0 = omega (arith, ap (λ k. 2 ^ k) long) in
+    omega (arith, ap count_ones none, no_ones)
 length_named zero tag (x ∷ xs) long less = absurd (omega arith)
 length_named (suc n) tag (x ∷ xs) long less =
     let half : tag / 2 < 2 ^ n = omega (arith, pow-suc 2 n) in
@@ -54,7 +57,8 @@ head_of (Raw (a ∷ b ∷ c ∷ d ∷ e ∷ f ∷ g ∷ h ∷ []) n further) mor
 head_of (Raw _ n further) more is = absurd (omega (arith, is.0))
 
 -- no group begins where one is cut
-pub no_group : (room : ℕ) (rest : List ℕ) → IsCut room rest → (g : Group) (more : List ℕ) → IsGroup g → rest ≡ text g ++ more → ⊥
+pub no_group : (room : ℕ) (rest : List ℕ) → IsCut room rest → (g : Group) (more : List ℕ) → IsGroup g
+    → rest ≡ text g ++ more → ⊥
 no_group room rest cut g more is e =
     let h = head_of g more is in
     let long : length rest < len_at rest = (cut.1 (subst HasHead (sym e) h.head)).1 in
@@ -63,17 +67,20 @@ no_group room rest cut g more is e =
 -- ---- two readings of one text
 
 -- words that a tag names alike are alike
-named_same : (tag : ℕ) (v w x y : List ℕ) → length v ≡ length w → IsNamedBy tag v → IsNamedBy tag w → named_bytes tag v ++ x ≡ named_bytes tag w ++ y → (v ≡ w) × (x ≡ y)
+named_same : (tag : ℕ) (v w x y : List ℕ) → length v ≡ length w → IsNamedBy tag v → IsNamedBy tag w
+    → named_bytes tag v ++ x ≡ named_bytes tag w ++ y → (v ≡ w) × (x ≡ y)
 named_same tag [] [] x y long p q e = (refl, e)
 named_same tag [] (b ∷ w) x y long p q e = absurd (omega arith)
 named_same tag (a ∷ v) [] x y long p q e = absurd (omega arith)
 named_same tag (a ∷ v) (b ∷ w) x y long p q e =
     elim (parity tag) [
       | inl even ↦
-          let r = named_same (tag / 2) v w x y (omega arith) p.1 q.1 (rw (named_none tag a v even, named_none tag b w even) at e) in
+          let r = named_same (tag / 2) v w x y (omega arith) p.1 q.1
+          (rw (named_none tag a v even, named_none tag b w even) at e) in
           ((λ i. (p.0 even ∙ sym (q.0 even)) i ∷ r.0 i), r.1)
       | inr odd ↦
-          let k : a ∷ (named_bytes (tag / 2) v ++ x) ≡ b ∷ (named_bytes (tag / 2) w ++ y) = rw (named_one tag a v odd, named_one tag b w odd) at e in
+          let k : a ∷ (named_bytes (tag / 2) v ++ x) ≡ b ∷ (named_bytes (tag / 2) w ++ y) =
+          rw (named_one tag a v odd, named_one tag b w odd) at e in
           let heads : a ≡ b = cc in
           let tails : named_bytes (tag / 2) v ++ x ≡ named_bytes (tag / 2) w ++ y = cc in
           let r = named_same (tag / 2) v w x y (omega arith) p.1 q.1 tails in
@@ -95,7 +102,8 @@ head_is a b x y e = (cc, cc)
 
 -- no group's text begins another's
 pub group_same : (g h : Group) (x y : List ℕ) → IsGroup g → IsGroup h → text g ++ x ≡ text h ++ y → (g ≡ h) × (x ≡ y)
-group_same (Zeros m) (Zeros n) x y p q e = let a = head_is _ _ _ _ e in let b = head_is _ _ _ _ a.1 in (ap Zeros b.0, b.1)
+group_same (Zeros m) (Zeros n) x y p q e = let a = head_is _ _ _ _ e in let b = head_is _ _ _ _ a.1 in
+    (ap Zeros b.0, b.1)
 group_same (Zeros m) (Named t w) x y p q e = let a = head_is _ _ _ _ e in absurd (omega (arith, a.0, q.0))
 group_same (Zeros m) (Raw w n f) x y p q e = let a = head_is _ _ _ _ e in absurd (omega (arith, a.0))
 group_same (Named s v) (Zeros n) x y p q e = let a = head_is _ _ _ _ e in absurd (omega (arith, a.0, p.0))
@@ -109,7 +117,8 @@ group_same (Raw v m f) (Zeros n) x y p q e = let a = head_is _ _ _ _ e in absurd
 group_same (Raw v m f) (Named t w) x y p q e = let a = head_is _ _ _ _ e in absurd (omega (arith, a.0, q.1))
 group_same (Raw v m f) (Raw w n g) x y p q e =
     let a = head_is _ _ _ _ e in
-    let k : v ++ (m ∷ (f ++ x)) ≡ w ++ (n ∷ (g ++ y)) = sym (append_assoc v (m ∷ f) x) ∙ a.1 ∙ append_assoc w (n ∷ g) y in
+    let k : v ++ (m ∷ (f ++ x)) ≡ w ++ (n ∷ (g ++ y)) = sym (append_assoc v (m ∷ f) x) ∙ a.1
+    ∙ append_assoc w (n ∷ g) y in
     let r = append_same v w _ _ (p.0 ∙ sym q.0) k in
     let c = head_is _ _ _ _ r.1 in
     let z = append_same f g x y (p.2 ∙ ap (λ i. 8 * i) c.0 ∙ sym q.2) c.1 in
@@ -122,9 +131,17 @@ pub record GoesOn (gs hs : List Group) (rest : List ℕ) : Type 0 where
   pub each : AllByRecursion IsGroup more
   pub text : rest ≡ texts more
 
-pub goes_on : (gs hs : List Group) (rest : List ℕ) → AllByRecursion IsGroup gs → AllByRecursion IsGroup hs → texts gs ≡ texts hs ++ rest → GoesOn gs hs rest
+pub goes_on : (gs hs : List Group) (rest : List ℕ) → AllByRecursion IsGroup gs → AllByRecursion IsGroup hs
+    → texts gs ≡ texts hs ++ rest → GoesOn gs hs rest
 goes_on gs [] rest p q e = record { more = gs; whole = refl; each = p; text = sym e }
-goes_on [] (h ∷ hs) rest p q e = absurd (omega (arith, text_some h, ap length e, length-append (text h) (texts hs), length-append (text h ++ texts hs) rest))
+goes_on [] (h ∷ hs) rest p q e =
+    absurd (omega (
+      arith,
+      text_some h,
+      ap length e,
+      length-append (text h) (texts hs),
+      length-append (text h ++ texts hs) rest,
+    ))
 goes_on (g ∷ gs) (h ∷ hs) rest p q e =
     let r = group_same g h (texts gs) (texts hs ++ rest) p.0 q.0 (e ∙ append_assoc (text h) (texts hs) rest) in
     let s = goes_on gs hs rest p.1 q.1 r.1 in
@@ -138,27 +155,42 @@ no_texts (g ∷ gs) e = absurd (omega (arith, text_some g, ap length e, length-a
 pub one_reading : (b cs bs : List ℕ) → Packs b cs → Packs b bs → cs ≡ bs
 one_reading b cs bs p q =
     let r = goes_on p.groups q.groups [] p.each q.each (sym p.text ∙ q.text ∙ sym (append-nil (texts q.groups))) in
-    p.content ∙ ap contents (r.whole ∙ ap (λ l. q.groups ++ l) (no_texts r.more r.text) ∙ append-nil q.groups) ∙ sym q.content
+    p.content ∙ ap contents (r.whole ∙ ap (λ l. q.groups ++ l) (no_texts r.more r.text) ∙ append-nil q.groups)
+    ∙ sym q.content
 
 -- what is read within the maximum isn't refused
-not_cut : (room : ℕ) (rest : List ℕ) (more : List Group) → AllByRecursion IsGroup more → rest ≡ texts more → IsCut room rest → ⊥
+not_cut : (room : ℕ) (rest : List ℕ) (more : List Group) → AllByRecursion IsGroup more → rest ≡ texts more
+    → IsCut room rest → ⊥
 not_cut room rest [] p e cut = omega (arith, cut.0, ap length e)
 not_cut room rest (g ∷ more) p e cut = no_group room rest cut g (texts more) p.0 e
 
-not_long : (room : ℕ) (rest : List ℕ) (more : List Group) → AllByRecursion IsGroup more → rest ≡ texts more → word_count more ≤ room → IsTooLong room rest → ⊥
+not_long : (room : ℕ) (rest : List ℕ) (more : List Group) → AllByRecursion IsGroup more → rest ≡ texts more
+    → word_count more ≤ room → IsTooLong room rest → ⊥
 not_long room rest [] p e fits long = omega (arith, long.0, ap length e)
 not_long room rest (g ∷ more) p e fits long =
     let h = head_of g (texts more) p.0 in
     omega (arith, long.2, ap words_at e, h.count)
 
-pub not_refused : (Q : ℕ → List ℕ → Type 0) → ((room : ℕ) (rest : List ℕ) (more : List Group) → AllByRecursion IsGroup more → rest ≡ texts more → word_count more ≤ room → Q room rest → ⊥)
+pub not_refused : (Q : ℕ → List ℕ → Type 0)
+    → ((room : ℕ) (rest : List ℕ) (more : List Group) → AllByRecursion IsGroup more → rest ≡ texts more
+    → word_count more ≤ room → Q room rest → ⊥)
     → (b bs : List ℕ) (max at : ℕ) → Packs b bs → length bs ≤ 8 * max → Stands Q b max at → ⊥
 not_refused Q never b bs max at p fits s =
     let r = goes_on p.groups s.groups s.rest p.each s.each (sym p.text ∙ s.text) in
-    never s.left s.rest r.more r.each r.text (omega (arith, ap length p.content, length_contents p.groups p.each, ap word_count r.whole, count_append s.groups r.more, s.counted)) s.fault
+    never s.left s.rest r.more r.each r.text
+    (omega (
+      arith,
+      ap length p.content,
+      length_contents p.groups p.each,
+      ap word_count r.whole,
+      count_append s.groups r.more,
+      s.counted,
+    )) s.fault
 
-pub refused_only : (e : UnpackFault) (b bs : List ℕ) (max : ℕ) → IsRefused b max e → Packs b bs → length bs ≤ 8 * max → e ≡ fault.Memory
+pub refused_only : (e : UnpackFault) (b bs : List ℕ) (max : ℕ) → IsRefused b max e → Packs b bs → length bs ≤ 8 * max
+    → e ≡ fault.Memory
 refused_only fault.Memory b bs max r p fits = refl
-refused_only (fault.Cut at) b bs max r p fits = absurd (not_refused IsCut (λ room rest more each e _ cut. not_cut room rest more each e cut) b bs max at p fits r)
+refused_only (fault.Cut at) b bs max r p fits =
+    absurd (not_refused IsCut (λ room rest more each e _ cut. not_cut room rest more each e cut) b bs max at p fits r)
 refused_only (fault.TooLong at) b bs max r p fits = absurd (not_refused IsTooLong not_long b bs max at p fits r)
 refused_only fault.Failed b bs max r p fits = absurd r

@@ -1,5 +1,7 @@
 -- Each text is a row of whole groups and a rest that no group begins, in one way.
-use Rattle.std.proofs.Common.{◌≡◌, ◌⊎◌, inl, inr, ℕ, zero, suc, ◌+◌, ◌-◌, ◌*◌, ◌/◌, ◌%◌, ◌^◌, ◌<◌, ◌≤◌, List, [], ◌∷◌, ◌++◌, length, take, drop, get_or, slice_range, refl, ap, sym, subst, ◌∙◌, arith, append_assoc, length-append, length-drop, take-append-drop, length-take}
+use Rattle.std.proofs.Common.{◌≡◌, ◌⊎◌, inl, inr, ℕ, zero, suc, ◌+◌, ◌-◌, ◌*◌, ◌/◌, ◌%◌, ◌^◌, ◌<◌, ◌≤◌, List, [], ◌∷◌}
+use Rattle.std.proofs.Common.{◌++◌, length, take, drop, get_or, slice_range, refl, ap, sym, subst, ◌∙◌, arith}
+use Rattle.std.proofs.Common.{append_assoc, length-append, length-drop, take-append-drop, length-take}
 use Rattle.std.proofs.lemmas.Bool.{cases_lt}
 use Rattle.std.proofs.lemmas.Bool.Decides.{nat_tests}
 use Rattle.std.proofs.lemmas.List.{drop_at, get_or-drop}
@@ -24,7 +26,8 @@ record Word (n tag : ℕ) (xs : List ℕ) : Type 0 where
   named : IsNamedBy tag word
   bytes : named_bytes tag word ≡ take (count_ones tag) xs
 
-named_odd : (n tag : ℕ) (xs : List ℕ) → tag % 2 ≡ 1 → count_ones tag ≤ length xs → ((ys : List ℕ) → count_ones (tag / 2) ≤ length ys → Word n (tag / 2) ys) → Word (suc n) tag xs
+named_odd : (n tag : ℕ) (xs : List ℕ) → tag % 2 ≡ 1 → count_ones tag ≤ length xs
+    → ((ys : List ℕ) → count_ones (tag / 2) ≤ length ys → Word n (tag / 2) ys) → Word (suc n) tag xs
 named_odd n tag [] odd room next = absurd (omega (arith, ones_half tag, odd, room))
 named_odd n tag (x ∷ xs) odd room next =
     let more : count_ones tag ≡ suc (count_ones (tag / 2)) = omega (arith, ones_half tag, odd) in
@@ -33,13 +36,20 @@ named_odd n tag (x ∷ xs) odd room next =
       word = x ∷ ih.word;
       size = ap suc ih.size;
       named = (λ h. absurd (omega (arith, h, odd)), ih.named);
-      bytes = named_one tag x ih.word odd ∙ ap (λ (l : List ℕ). x ∷ l) ih.bytes ∙ ap (λ (k : ℕ). take k (x ∷ xs)) (sym more);
+      bytes = named_one tag x ih.word odd ∙ ap (λ (l : List ℕ). x ∷ l) ih.bytes
+          ∙ ap (λ (k : ℕ). take k (x ∷ xs)) (sym more);
     }
 
 named_word : (n tag : ℕ) (xs : List ℕ) → tag < 2 ^ n → count_ones tag ≤ length xs → Word n tag xs
 named_word zero tag xs small room =
     let none : tag ≡ 0 = omega arith in
-    record { word = []; size = refl; named = tt; bytes = sym (ap (λ (t : ℕ). take (count_ones t) xs) none ∙ ap (λ (k : ℕ). take k xs) no_ones) }
+    record {
+      word = [];
+      size = refl;
+      named = tt;
+      bytes =
+          sym (ap (λ (t : ℕ). take (count_ones t) xs) none ∙ ap (λ (k : ℕ). take k xs) no_ones);
+    }
 named_word (suc n) tag xs small room = elim (parity tag) [
   | inl even ↦
       (let same : count_ones tag ≡ count_ones (tag / 2) = omega (arith, ones_half tag, even) in
@@ -63,7 +73,14 @@ record First (bs : List ℕ) : Type 0 where
 
 -- the first bytes are a group's
 first_of : (bs : List ℕ) (n : ℕ) (g : Group) → IsGroup g → take n bs ≡ text g → First bs
-first_of bs n g is e = record { group = g; more = drop n bs; is = is; text_is = sym (take-append-drop n bs) ∙ ap (λ (l : List ℕ). l ++ drop n bs) e }
+first_of bs n g is e =
+    record {
+      group = g;
+      more = drop n bs;
+      is = is;
+      text_is = sym (take-append-drop n bs)
+          ∙ ap (λ (l : List ℕ). l ++ drop n bs) e;
+    }
 
 -- the first number of a group is its tag
 tag_of_first : (bs : List ℕ) (g : Group) (more : List ℕ) → bs ≡ text g ++ more → get_or bs 0 0 ≡ get_or (text g) 0 0
@@ -74,17 +91,23 @@ tag_of_first bs (Raw word n further) more e = ap (λ (l : List ℕ). get_or l 0 
 -- no group has a tag, or a count, that is no byte
 no_tag : (bs : List ℕ) → 256 ≤ get_or bs 0 0 → NoGroupFirst bs
 no_tag bs great (Zeros n) more is e = let t = tag_of_first bs (Zeros n) more e in absurd (omega (arith, t, great))
-no_tag bs great (Named tag word) more is e = let t = tag_of_first bs (Named tag word) more e in absurd (omega (arith, t, great, is.1))
-no_tag bs great (Raw word n further) more is e = let t = tag_of_first bs (Raw word n further) more e in absurd (omega (arith, t, great))
+no_tag bs great (Named tag word) more is e = let t = tag_of_first bs (Named tag word) more e in
+    absurd (omega (arith, t, great, is.1))
+no_tag bs great (Raw word n further) more is e = let t = tag_of_first bs (Raw word n further) more e in
+    absurd (omega (arith, t, great))
 
 no_zeros : (bs : List ℕ) → get_or bs 0 0 ≡ 0 → 256 ≤ get_or bs 1 0 → NoGroupFirst bs
-no_zeros bs tag great (Zeros n) more is e = let c : get_or bs 1 0 ≡ n = ap (λ (l : List ℕ). get_or l 1 0) e in absurd (omega (arith, c, great, is))
-no_zeros bs tag great (Named t word) more is e = let f = tag_of_first bs (Named t word) more e in absurd (omega (arith, f, tag, is.0))
-no_zeros bs tag great (Raw word n further) more is e = let f = tag_of_first bs (Raw word n further) more e in absurd (omega (arith, f, tag))
+no_zeros bs tag great (Zeros n) more is e = let c : get_or bs 1 0 ≡ n = ap (λ (l : List ℕ). get_or l 1 0) e in
+    absurd (omega (arith, c, great, is))
+no_zeros bs tag great (Named t word) more is e = let f = tag_of_first bs (Named t word) more e in
+    absurd (omega (arith, f, tag, is.0))
+no_zeros bs tag great (Raw word n further) more is e = let f = tag_of_first bs (Raw word n further) more e in
+    absurd (omega (arith, f, tag))
 
 no_raw : (bs : List ℕ) → get_or bs 0 0 ≡ 255 → 256 ≤ get_or bs 9 0 → NoGroupFirst bs
 no_raw bs tag great (Zeros n) more is e = let f = tag_of_first bs (Zeros n) more e in absurd (omega (arith, f, tag))
-no_raw bs tag great (Named t word) more is e = let f = tag_of_first bs (Named t word) more e in absurd (omega (arith, f, tag, is.1))
+no_raw bs tag great (Named t word) more is e = let f = tag_of_first bs (Named t word) more e in
+    absurd (omega (arith, f, tag, is.1))
 no_raw bs tag great (Raw (a ∷ b ∷ c ∷ d ∷ k ∷ f ∷ g ∷ h ∷ []) n further) more is e =
     let count : get_or bs 9 0 ≡ n = ap (λ (l : List ℕ). get_or l 9 0) e in
     absurd (omega (arith, count, great, is.1))
@@ -94,7 +117,8 @@ zeros_first : (bs : List ℕ) → 0 < length bs → get_or bs 0 0 ≡ 0 → Firs
 zeros_first bs some tag = elim (cases_lt (length bs) 2) [
   | inl short ↦ inr (no_group 0 bs (some, λ head. absurd (grind (arith, nat_tests))))
   | inr long ↦ elim (cases_lt (get_or bs 1 0) 256) [
-    | inl small ↦ inl (first_of bs 2 (Zeros (get_or bs 1 0)) small (take_two bs long ∙ ap (λ (b : ℕ). b ∷ get_or bs 1 0 ∷ []) tag))
+    | inl small ↦ inl
+        (first_of bs 2 (Zeros (get_or bs 1 0)) small (take_two bs long ∙ ap (λ (b : ℕ). b ∷ get_or bs 1 0 ∷ []) tag))
     | inr great ↦ inr (no_zeros bs tag great)
   ]
 ]
@@ -103,8 +127,12 @@ raw_first : (bs : List ℕ) → 0 < length bs → get_or bs 0 0 ≡ 255 → Firs
 raw_first bs some tag = elim (cases_lt (get_or bs 9 0) 256) [
   | inl small ↦ elim (cases_lt (length bs) (10 + 8 * get_or bs 9 0)) [
     | inl short ↦ inr (no_group 256 bs (some, λ head. rw tag (omega (arith, small), omega (arith, short))))
-    | inr long ↦ inl (first_of bs (10 + 8 * get_or bs 9 0) (Raw (slice_range bs 1 9) (get_or bs 9 0) (slice_range bs 10 (10 + 8 * get_or bs 9 0))) (raw_is_group bs (get_or bs 9 0) long small)
-        (take_raw_text bs (get_or bs 9 0) long ∙ ap (λ (b : ℕ). b ∷ slice_range bs 1 9 ++ get_or bs 9 0 ∷ slice_range bs 10 (10 + 8 * get_or bs 9 0)) tag))
+    | inr long ↦ inl
+        (first_of bs (10 + 8 * get_or bs 9 0)
+        (Raw (slice_range bs 1 9) (get_or bs 9 0) (slice_range bs 10 (10 + 8 * get_or bs 9 0)))
+        (raw_is_group bs (get_or bs 9 0) long small)
+        (take_raw_text bs (get_or bs 9 0) long
+        ∙ ap (λ (b : ℕ). b ∷ slice_range bs 1 9 ++ get_or bs 9 0 ∷ slice_range bs 10 (10 + 8 * get_or bs 9 0)) tag))
   ]
   | inr great ↦ inr (no_raw bs tag great)
 ]
@@ -116,7 +144,8 @@ named_first bs some above below =
       | inl short ↦ inr (no_group 0 bs (some, λ head. absurd (grind (arith, nat_tests))))
       | inr long ↦
           (let w = named_word 8 tag (drop 1 bs) (omega arith) (omega (arith, length-drop 1 bs, long)) in
-          inl (first_of bs (1 + count_ones tag) (Named tag w.word) (above, below, w.size, w.named) (take_first (count_ones tag) bs some ∙ ap (λ (l : List ℕ). tag ∷ l) (sym w.bytes))))
+          inl (first_of bs (1 + count_ones tag) (Named tag w.word) (above, below, w.size, w.named)
+          (take_first (count_ones tag) bs some ∙ ap (λ (l : List ℕ). tag ∷ l) (sym w.bytes))))
     ]
 
 -- ---- all of a text
@@ -128,7 +157,8 @@ pub record Split (bs old : List ℕ) : Type 0 where
   pub splits : Splits bs rest old new len
 
 -- one group more in front
-split_more : (bs old : List ℕ) (g : Group) (more : List ℕ) → IsGroup g → bs ≡ text g ++ more → Split more (old ++ content g) → Split bs old
+split_more : (bs old : List ℕ) (g : Group) (more : List ℕ) → IsGroup g → bs ≡ text g ++ more
+    → Split more (old ++ content g) → Split bs old
 split_more bs old g more is e s = record {
   rest = s.rest;
   new = s.new;
@@ -136,7 +166,8 @@ split_more bs old g more is e s = record {
   splits = record {
     groups = g ∷ s.splits.groups;
     each = (is, s.splits.each);
-    text = e ∙ ap (λ (l : List ℕ). text g ++ l) s.splits.text ∙ sym (append_assoc (text g) (texts s.splits.groups) s.rest);
+    text = e ∙ ap (λ (l : List ℕ). text g ++ l) s.splits.text
+        ∙ sym (append_assoc (text g) (texts s.splits.groups) s.rest);
     content = s.splits.content ∙ append_assoc old (content g) (contents s.splits.groups);
     size = omega (arith, s.splits.size, length-append (text g) (texts s.splits.groups));
     open_rest = s.splits.open_rest;
@@ -150,7 +181,8 @@ first_or_none : (bs : List ℕ) → 0 < length bs → First bs ⊎ NoGroupFirst 
 first_or_none bs some = elim (cases_lt 0 (get_or bs 0 0)) [
   | inl above ↦ elim (cases_lt (get_or bs 0 0) 255) [
     | inl below ↦ named_first bs some above below
-    | inr top ↦ elim (cases_lt (get_or bs 0 0) 256) [ inl small ↦ raw_first bs some (omega (arith, small, top)) | inr great ↦ inr (no_tag bs great) ]
+    | inr top ↦ elim (cases_lt (get_or bs 0 0) 256)
+        [ inl small ↦ raw_first bs some (omega (arith, small, top)) | inr great ↦ inr (no_tag bs great) ]
   ]
   | inr none ↦ zeros_first bs some (omega (arith, none))
 ]
@@ -159,7 +191,9 @@ split_all : (n : ℕ) (bs old : List ℕ) → length bs < n → Split bs old
 split_all zero bs old short = absurd (omega arith)
 split_all (suc n) [] old short = split_open [] old nothing_first
 split_all (suc n) (b ∷ bs) old short = elim (first_or_none (b ∷ bs) (omega arith)) [
-  | inl f ↦ split_more (b ∷ bs) old f.group f.more f.is f.text_is (split_all n f.more (old ++ content f.group) (omega (arith, short, ap length f.text_is, length-append (text f.group) f.more, text_some f.group)))
+  | inl f ↦ split_more (b ∷ bs) old f.group f.more f.is f.text_is
+      (split_all n f.more (old ++ content f.group)
+      (omega (arith, short, ap length f.text_is, length-append (text f.group) f.more, text_some f.group)))
   | inr none ↦ split_open (b ∷ bs) old none
 ]
 
@@ -169,17 +203,20 @@ splits_all bs old = split_all (suc (length bs)) bs old (omega arith)
 
 -- ---- in one way
 
-pub one_row : (gs hs : List Group) (r s : List ℕ) → AllByRecursion IsGroup gs → AllByRecursion IsGroup hs → NoGroupFirst r → NoGroupFirst s → texts gs ++ r ≡ texts hs ++ s → (gs ≡ hs) × (r ≡ s)
+pub one_row : (gs hs : List Group) (r s : List ℕ) → AllByRecursion IsGroup gs → AllByRecursion IsGroup hs
+    → NoGroupFirst r → NoGroupFirst s → texts gs ++ r ≡ texts hs ++ s → (gs ≡ hs) × (r ≡ s)
 one_row [] [] r s f g n m e = (refl, e)
 one_row [] (h ∷ hs) r s f g n m e = absurd (n h (texts hs ++ s) g.0 (e ∙ append_assoc (text h) (texts hs) s))
 one_row (g ∷ gs) [] r s f k n m e = absurd (m g (texts gs ++ r) f.0 (sym e ∙ append_assoc (text g) (texts gs) r))
 one_row (g ∷ gs) (h ∷ hs) r s f k n m e =
-    let same = group_same g h (texts gs ++ r) (texts hs ++ s) f.0 k.0 (sym (append_assoc (text g) (texts gs) r) ∙ e ∙ append_assoc (text h) (texts hs) s) in
+    let same = group_same g h (texts gs ++ r) (texts hs ++ s) f.0 k.0 (sym (append_assoc (text g) (texts gs) r) ∙ e
+    ∙ append_assoc (text h) (texts hs) s) in
     let ih = one_row gs hs r s f.1 k.1 n m same.1 in
     (rw (same.0, ih.0) refl, ih.1)
 
 -- a text is split in one way
-pub one_split : (bs r s old new other : List ℕ) (len more : ℕ) → Splits bs r old new len → Splits bs s old other more → (r ≡ s) × ((new ≡ other) × (len ≡ more))
+pub one_split : (bs r s old new other : List ℕ) (len more : ℕ) → Splits bs r old new len → Splits bs s old other more
+    → (r ≡ s) × ((new ≡ other) × (len ≡ more))
 one_split bs r s old new other len more f g =
     let same = one_row f.groups g.groups r s f.each g.each f.open_rest g.open_rest (sym f.text ∙ g.text) in (
       same.1,

@@ -1,5 +1,6 @@
 -- The word of a tag and the bytes that it names, byte by byte.
-use Rattle.std.proofs.Common.{◌≡◌, ℕ, zero, suc, ◌+◌, ◌*◌, ◌/◌, ◌%◌, ◌^◌, ◌<◌, ◌⊎◌, inl, inr, List, ◌∷◌, refl, sym, ap, ◌∙◌, arith}
+use Rattle.std.proofs.Common.{◌≡◌, ℕ, zero, suc, ◌+◌, ◌*◌, ◌/◌, ◌%◌, ◌^◌, ◌<◌, ◌⊎◌, inl, inr, List, ◌∷◌, refl, sym, ap}
+use Rattle.std.proofs.Common.{◌∙◌, arith}
 use Rattle.std.proofs.lemmas.Bool.Decides.{nat_tests}
 use Rattle.std.proofs.lemmas.Nat.{ones_cat}
 use Rattle.std.specs.Prelude.{count_ones}
@@ -11,7 +12,8 @@ unfolding lib.Count.ones
 ones_half n =
     let whole : n / 2 * 2 ^ 1 + n % 2 ≡ n = omega arith in
     let last : (r : ℕ) → r < 2 → count_ones r ≡ r = λ r h. ones_below r h in
-    sym (ap count_ones whole) ∙ ones_cat 1 (n / 2) (n % 2) (omega arith) ∙ (rw (last (n % 2) (omega arith)) (omega arith))
+    sym (ap count_ones whole) ∙ ones_cat 1 (n / 2) (n % 2) (omega arith)
+    ∙ (rw (last (n % 2) (omega arith)) (omega arith))
   where
     ones_below : (r : ℕ) → r < 2 → count_ones r ≡ r
     ones_below zero h = refl

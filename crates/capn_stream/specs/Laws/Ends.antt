@@ -1,5 +1,6 @@
 -- Where segments of given sizes end.
-use Rattle.std.proofs.Common.{◌≡◌, ℕ, ◌+◌, ◌-◌, ◌≤◌, List, [], ◌∷◌, ◌++◌, length, take, drop, sum, map, refl, ap, sym, ◌∙◌, arith, append_assoc, length-append, length-drop, length-take}
+use Rattle.std.proofs.Common.{◌≡◌, ℕ, ◌+◌, ◌-◌, ◌≤◌, List, [], ◌∷◌, ◌++◌, length, take, drop, sum, map, refl, ap, sym}
+use Rattle.std.proofs.Common.{◌∙◌, arith, append_assoc, length-append, length-drop, length-take}
 use Rattle.std.specs.List.{flat_map}
 use Rattle.std.proofs.lemmas.Grind.{flat_map-append}
 use Rattle.std.proofs.lemmas.List.{append-nil, drop-drop, drop_at, take-append-drop, take_at}
@@ -13,15 +14,18 @@ length-ends_from from [] = refl
 length-ends_from from (size ∷ sizes) = omega (arith, length-ends_from (from + size) sizes)
 
 -- one segment more
-pub ends_from_push : (from : ℕ) (sizes : List ℕ) (size : ℕ) → ends_from from (sizes ++ size ∷ []) ≡ ends_from from sizes ++ (from + sum sizes + size) ∷ []
+pub ends_from_push : (from : ℕ) (sizes : List ℕ) (size : ℕ)
+    → ends_from from (sizes ++ size ∷ []) ≡ ends_from from sizes ++ (from + sum sizes + size) ∷ []
 ends_from_push from [] size = let e : from + size ≡ from + 0 + size = omega arith in ap (λ (n : ℕ). n ∷ []) e
 ends_from_push from (first ∷ sizes) size =
     let cons = sum_by-cons (λ (x : ℕ). x) first sizes in
     let e : from + first + sum sizes + size ≡ from + sum (first ∷ sizes) + size = omega (arith, cons) in
-    ap (λ (ends : List ℕ). (from + first) ∷ ends) (ends_from_push (from + first) sizes size ∙ ap (λ (n : ℕ). ends_from (from + first) sizes ++ n ∷ []) e)
+    ap (λ (ends : List ℕ). (from + first) ∷ ends) (ends_from_push (from + first) sizes size
+    ∙ ap (λ (n : ℕ). ends_from (from + first) sizes ++ n ∷ []) e)
 
 -- sizes within the words give ends that rise within them
-pub AreRising-ends_from : (from : ℕ) (sizes : List ℕ) (len : ℕ) → from + sum sizes ≤ len → AreRising from (ends_from from sizes) len
+pub AreRising-ends_from : (from : ℕ) (sizes : List ℕ) (len : ℕ) → from + sum sizes ≤ len
+    → AreRising from (ends_from from sizes) len
 AreRising-ends_from from [] len h = omega arith
 AreRising-ends_from from (size ∷ sizes) len h =
     (omega arith, AreRising-ends_from (from + size) sizes len (omega (arith, sum_by-cons (λ (x : ℕ). x) size sizes)))
@@ -29,15 +33,18 @@ AreRising-ends_from from (size ∷ sizes) len h =
 -- words that are cut where segments of these sizes end have those sizes
 pub lengths-cut : (from : ℕ) (sizes : List ℕ) (last : ℕ) (ws : List ℕ) → length ws ≡ from + (sum sizes + last)
     → map length (cut from (ends_from from sizes) ws) ≡ sizes ++ last ∷ []
-lengths-cut from [] last ws h = let e : length (drop from ws) ≡ last = omega (arith, length-drop from ws) in ap (λ (n : ℕ). n ∷ []) e
+lengths-cut from [] last ws h = let e : length (drop from ws) ≡ last = omega (arith, length-drop from ws) in
+    ap (λ (n : ℕ). n ∷ []) e
 lengths-cut from (size ∷ sizes) last ws h =
     let cons = sum_by-cons (λ (x : ℕ). x) size sizes in
-    let first : length (take (from + size - from) (drop from ws)) ≡ size = omega (arith, cons, length-take (from + size - from) (drop from ws), length-drop from ws) in
+    let first : length (take (from + size - from) (drop from ws)) ≡ size =
+    omega (arith, cons, length-take (from + size - from) (drop from ws), length-drop from ws) in
     let ih = lengths-cut (from + size) sizes last ws (omega (arith, cons)) in
     rw (first, ih) refl
 
 -- the bytes of the segments are those of the words
-pub contents-cut : (from : ℕ) (ends ws : List ℕ) → AreRising from ends (length ws) → contents (cut from ends ws) ≡ bytes (drop from ws)
+pub contents-cut : (from : ℕ) (ends ws : List ℕ) → AreRising from ends (length ws)
+    → contents (cut from ends ws) ≡ bytes (drop from ws)
 contents-cut from [] ws r = append-nil (bytes (drop from ws))
 contents-cut from (end ∷ ends) ws r =
     let e : from + (end - from) ≡ end = omega (arith, r.0) in
@@ -45,14 +52,16 @@ contents-cut from (end ∷ ends) ws r =
     let both = flat_map-append word_bytes (take (end - from) (drop from ws)) (drop (end - from) (drop from ws)) in
     let whole = take-append-drop (end - from) (drop from ws) in
     let ih = contents-cut end ends ws r.1 in
-    rw ih (ap (λ (xs : List ℕ). bytes (take (end - from) (drop from ws)) ++ bytes xs) (sym rest) ∙ sym both ∙ ap bytes whole)
+    rw ih (ap (λ (xs : List ℕ). bytes (take (end - from) (drop from ws)) ++ bytes xs) (sym rest) ∙ sym both
+    ∙ ap bytes whole)
 
 -- the words of all segments
 abbrev pub joined : List (List ℕ) → List ℕ
 joined message = flat_map (λ ws. ws) message
 
 -- a message is its words, cut where its segments end
-pub cut-joined : (message : List (List ℕ)) (sizes : List ℕ) (last from : ℕ) (before : List ℕ) → map length message ≡ sizes ++ last ∷ [] → length before ≡ from
+pub cut-joined : (message : List (List ℕ)) (sizes : List ℕ) (last from : ℕ) (before : List ℕ)
+    → map length message ≡ sizes ++ last ∷ [] → length before ≡ from
     → cut from (ends_from from sizes) (before ++ joined message) ≡ message
 cut-joined [] [] last from before h l = absurd (omega (arith, ap length h))
 cut-joined [] (size ∷ sizes) last from before h l = absurd (omega (arith, ap length h))
@@ -66,5 +75,6 @@ cut-joined (ws ∷ message) (size ∷ sizes) last from before h l =
     let e : from + size - from ≡ size = omega arith in
     let first = take_at ws (joined message) size here in
     let moved = sym (append_assoc before ws (joined message)) in
-    let ih = cut-joined message sizes last (from + size) (before ++ ws) there (omega (arith, length-append before ws)) in
+    let ih = cut-joined message sizes last (from + size) (before ++ ws) there
+    (omega (arith, length-append before ws)) in
     rw (start, e, first, moved, ih) refl

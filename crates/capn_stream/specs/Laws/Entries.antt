@@ -1,8 +1,10 @@
 -- Numbers of 4 bytes, one and many.
-use Rattle.std.proofs.Common.{◌≡◌, ℕ, zero, suc, ◌+◌, ◌*◌, ◌^◌, ◌<◌, ◌≤◌, List, [], ◌∷◌, ◌++◌, length, take, drop, sum, slice_index, refl, ap, ◌∙◌, arith, append_assoc, length-append, length-drop}
+use Rattle.std.proofs.Common.{◌≡◌, ℕ, zero, suc, ◌+◌, ◌*◌, ◌^◌, ◌<◌, ◌≤◌, List, [], ◌∷◌, ◌++◌, length, take, drop, sum}
+use Rattle.std.proofs.Common.{slice_index, refl, ap, ◌∙◌, arith, append_assoc, length-append, length-drop}
 use Rattle.std.specs.Int.{w32, from_le_bytes}
 use Rattle.std.specs.List.{flat_map}
-use Rattle.std.proofs.lemmas.List.{drop-drop, drop-take, drop_at, get_or-drop, length-take-le, take-append-drop, take-take}
+use Rattle.std.proofs.lemmas.List.{drop-drop, drop-take, drop_at, get_or-drop, length-take-le, take-append-drop}
+use Rattle.std.proofs.lemmas.List.{take-take}
 use Rattle.std.proofs.lemmas.List.Sums.{sum_by_push}
 use Rattle.std.proofs.lemmas.Nat.{le_bytes_4}
 use Rattle.byteorder.specs.Endian.{little_from}
@@ -21,13 +23,15 @@ take_then m n xs =
     rw (front, rest) at (take-append-drop m (take (m + n) xs))
 
 -- numbers below a bound stay below it in a front and in a rest
-pub below-take : (bound n : ℕ) (xs : List ℕ) → 0 < bound → ((i : ℕ) → slice_index xs i < bound) → (i : ℕ) → slice_index (take n xs) i < bound
+pub below-take : (bound n : ℕ) (xs : List ℕ) → 0 < bound → ((i : ℕ) → slice_index xs i < bound) → (i : ℕ)
+    → slice_index (take n xs) i < bound
 below-take bound zero xs p h i = p
 below-take bound (suc n) [] p h i = p
 below-take bound (suc n) (x ∷ xs) p h zero = h 0
 below-take bound (suc n) (x ∷ xs) p h (suc i) = below-take bound n xs p (λ k. h (suc k)) i
 
-pub below-drop : (bound n : ℕ) (xs : List ℕ) → ((i : ℕ) → slice_index xs i < bound) → (i : ℕ) → slice_index (drop n xs) i < bound
+pub below-drop : (bound n : ℕ) (xs : List ℕ) → ((i : ℕ) → slice_index xs i < bound) → (i : ℕ)
+    → slice_index (drop n xs) i < bound
 below-drop bound n xs h i = rw (get_or-drop n xs i 0) (h (n + i))
 
 -- ---- one number
@@ -64,13 +68,16 @@ entries-suc zero bs = refl
 entries-suc (suc n) bs =
     let e : 4 + 4 * n ≡ 4 * suc n = omega arith in
     let at = drop-drop (4 * n) 4 bs ∙ ap (λ (j : ℕ). drop j bs) e in
-    ap (λ (ns : List ℕ). entry_number bs ∷ ns) (entries-suc n (drop 4 bs) ∙ ap (λ (xs : List ℕ). entries n (drop 4 bs) ++ entry_number xs ∷ []) at)
+    ap (λ (ns : List ℕ). entry_number bs ∷ ns) (entries-suc n (drop 4 bs)
+    ∙ ap (λ (xs : List ℕ). entries n (drop 4 bs) ++ entry_number xs ∷ []) at)
 
 pub entries_more : (n : ℕ) (bs : List ℕ) → entries (n + 1) bs ≡ entries n bs ++ entry_number (drop (4 * n) bs) ∷ []
 entries_more n bs = let e : n + 1 ≡ suc n = omega arith in ap (λ (m : ℕ). entries m bs) e ∙ entries-suc n bs
 
-pub sum-entries_more : (n : ℕ) (bs : List ℕ) → sum (entries (n + 1) bs) ≡ sum (entries n bs) + entry_number (drop (4 * n) bs)
-sum-entries_more n bs = ap sum (entries_more n bs) ∙ sum_by_push (λ x. x) (entries n bs) (entry_number (drop (4 * n) bs))
+pub sum-entries_more : (n : ℕ) (bs : List ℕ)
+    → sum (entries (n + 1) bs) ≡ sum (entries n bs) + entry_number (drop (4 * n) bs)
+sum-entries_more n bs = ap sum (entries_more n bs)
+    ∙ sum_by_push (λ x. x) (entries n bs) (entry_number (drop (4 * n) bs))
 
 -- fewer numbers have a lesser sum
 pub sum-entries_le : (n m : ℕ) (bs : List ℕ) → sum (entries n bs) ≤ sum (entries (n + m) bs)
@@ -82,7 +89,8 @@ sum-entries_le n (suc m) bs =
     rw e (omega (arith, more, ih))
 
 -- the numbers that were written are read
-pub entries-entry : (ns rest : List ℕ) → ((k : ℕ) → slice_index ns k < 2 ^ 32) → entries (length ns) (flat_map entry ns ++ rest) ≡ ns
+pub entries-entry : (ns rest : List ℕ) → ((k : ℕ) → slice_index ns k < 2 ^ 32)
+    → entries (length ns) (flat_map entry ns ++ rest) ≡ ns
 entries-entry [] rest h = refl
 entries-entry (n ∷ ns) rest h =
     let split = append_assoc (entry n) (flat_map entry ns) rest in
@@ -92,7 +100,8 @@ entries-entry (n ∷ ns) rest h =
     rw (split, first, left, ih) refl
 
 -- the bytes of the numbers that are read are those from which they were read
-pub entry-entries : (n : ℕ) (bs : List ℕ) → AreBytes bs → 4 * n ≤ length bs → flat_map entry (entries n bs) ≡ take (4 * n) bs
+pub entry-entries : (n : ℕ) (bs : List ℕ) → AreBytes bs → 4 * n ≤ length bs
+    → flat_map entry (entries n bs) ≡ take (4 * n) bs
 entry-entries zero bs h l = refl
 entry-entries (suc n) bs h l =
     let first = entry-entry_number bs h (omega arith) in
@@ -102,4 +111,5 @@ entry-entries (suc n) bs h l =
 
 pub length-entry_all : (ns : List ℕ) → length (flat_map entry ns) ≡ 4 * length ns
 length-entry_all [] = refl
-length-entry_all (n ∷ ns) = omega (arith, length-entry_all ns, length-append (entry n) (flat_map entry ns), length-entry n)
+length-entry_all (n ∷ ns) =
+    omega (arith, length-entry_all ns, length-append (entry n) (flat_map entry ns), length-entry n)

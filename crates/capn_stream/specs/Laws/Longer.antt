@@ -1,11 +1,15 @@
 -- What bytes announce stays as more of them come.
-use Rattle.std.proofs.Common.{◌≡◌, ◌⊎◌, inl, inr, ℕ, zero, suc, ◌+◌, ◌-◌, ◌*◌, ◌<◌, ◌≤◌, List, [], ◌∷◌, ◌++◌, length, take, drop, sum, refl, ap, sym, subst, ◌∙◌, arith, append_assoc, append-nil, length-append, length-drop}
+use Rattle.std.proofs.Common.{◌≡◌, ◌⊎◌, inl, inr, ℕ, zero, suc, ◌+◌, ◌-◌, ◌*◌, ◌<◌, ◌≤◌, List, [], ◌∷◌, ◌++◌, length}
+use Rattle.std.proofs.Common.{take, drop, sum, refl, ap, sym, subst, ◌∙◌, arith, append_assoc, append-nil}
+use Rattle.std.proofs.Common.{length-append, length-drop}
 use Rattle.std.proofs.lemmas.List.{drop-append-le}
 use Rattle.byteorder.specs.Numbers.{little_from-append}
-use Rattle.capn_stream.specs.Reading.{HasCount, HasHead, IsRefused, announced_segments, announced_words, entries, entry_number, frame_length, head_length}
+use Rattle.capn_stream.specs.Reading.{HasCount, HasHead, IsRefused, announced_segments, announced_words, entries}
+use Rattle.capn_stream.specs.Reading.{entry_number, frame_length, head_length}
 use Rattle.capn_stream.specs.Stages.{Extends, IsStage, IsStop, Knows, announced_ends, need}
 use Rattle.capn_stream.specs.declared.fault.FrameFault.{FrameFault}
-use Rattle.capn_stream.specs.declared.fault.FrameFault.TheVariants.{Memory, Empty, TooManySegments, TooManyWords, Cut, Failed}
+use Rattle.capn_stream.specs.declared.fault.FrameFault.TheVariants.{Memory, Empty, TooManySegments, TooManyWords, Cut}
+use Rattle.capn_stream.specs.declared.fault.FrameFault.TheVariants.{Failed}
 use Rattle.capn_stream.specs.declared.stage.Stage.{Stage}
 use Rattle.capn_stream.specs.declared.stage.Stage.TheVariants as stages
 
@@ -26,8 +30,10 @@ pub segments-append : (bs more : List ℕ) → 4 ≤ length bs → announced_seg
 segments-append bs more h = ap (λ (n : ℕ). n + 1) (entry_number-append bs more h)
 
 -- so many of their sizes as the table has
-pub sizes-append : (n : ℕ) (bs more : List ℕ) → 4 + 4 * n ≤ length bs → entries n (drop 4 (bs ++ more)) ≡ entries n (drop 4 bs)
-sizes-append n bs more h = rw (drop-append-le 4 bs more (omega arith)) (entries-append n (drop 4 bs) more (omega (arith, length-drop 4 bs)))
+pub sizes-append : (n : ℕ) (bs more : List ℕ) → 4 + 4 * n ≤ length bs
+    → entries n (drop 4 (bs ++ more)) ≡ entries n (drop 4 bs)
+sizes-append n bs more h =
+    rw (drop-append-le 4 bs more (omega arith)) (entries-append n (drop 4 bs) more (omega (arith, length-drop 4 bs)))
 
 pub words-append : (bs more : List ℕ) → HasHead bs → announced_words (bs ++ more) ≡ announced_words bs
 words-append bs more h =
@@ -48,9 +54,11 @@ HasHead-append bs more h =
     let same = ap head_length (segments-append bs more h.0.0) in
     (HasCount-append bs more h.0, omega (arith, same, length-append bs more, h.1))
 
-pub Knows-append : (stage : Stage) (bs : List ℕ) (most : ℕ) (ends more : List ℕ) → Knows stage bs most ends → Knows stage (bs ++ more) most ends
+pub Knows-append : (stage : Stage) (bs : List ℕ) (most : ℕ) (ends more : List ℕ) → Knows stage bs most ends
+    → Knows stage (bs ++ more) most ends
 Knows-append stages.Count bs most ends more h = tt
-Knows-append (stages.Table segments) bs most ends more h = (HasCount-append bs more h.0, h.1 ∙ sym (segments-append bs more h.0.0))
+Knows-append (stages.Table segments) bs most ends more h =
+    (HasCount-append bs more h.0, h.1 ∙ sym (segments-append bs more h.0.0))
 Knows-append (stages.Contents start end) bs most ends more (head, room, begins, stops, cuts) =
     let count = segments-append bs more head.0.0 in
     let words = words-append bs more head in
@@ -63,10 +71,12 @@ Knows-append (stages.Contents start end) bs most ends more (head, room, begins, 
     )
 
 -- a stage goes on with what was added to its bytes
-pub IsStage-extends : (stage : Stage) (old piece : List ℕ) (most n : ℕ) (new ends : List ℕ) → IsStage stage old most ends → Extends old piece (need stage) n new → IsStage stage new most ends
+pub IsStage-extends : (stage : Stage) (old piece : List ℕ) (most n : ℕ) (new ends : List ℕ)
+    → IsStage stage old most ends → Extends old piece (need stage) n new → IsStage stage new most ends
 IsStage-extends stage old piece most n new ends is more = record {
   below = more.below;
-  knows = subst (λ (bs : List ℕ). Knows stage bs most ends) (sym more.text) (Knows-append stage old most ends (take n piece) is.knows);
+  knows = subst (λ (bs : List ℕ). Knows stage bs most ends) (sym more.text)
+      (Knows-append stage old most ends (take n piece) is.knows);
   within = more.upto;
 }
 
@@ -76,5 +86,6 @@ IsStop-append bs more most Memory h = tt
 IsStop-append bs more most Empty h = h
 IsStop-append bs more most Cut h = h
 IsStop-append bs more most Failed h = h
-IsStop-append bs more most (TooManySegments n) h = (omega (arith, length-append bs more, h.0), h.1 ∙ sym (segments-append bs more h.0), h.2)
+IsStop-append bs more most (TooManySegments n) h =
+    (omega (arith, length-append bs more, h.0), h.1 ∙ sym (segments-append bs more h.0), h.2)
 IsStop-append bs more most (TooManyWords n) h = (HasHead-append bs more h.0, h.1 ∙ sym (words-append bs more h.0), h.2)

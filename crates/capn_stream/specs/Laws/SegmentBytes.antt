@@ -1,5 +1,6 @@
 -- The bytes of words, and of parts of them.
-use Rattle.std.proofs.Common.{◌≡◌, ℕ, zero, suc, ◌+◌, ◌-◌, ◌*◌, ◌^◌, ◌<◌, ◌≤◌, List, [], ◌∷◌, ◌++◌, length, take, drop, refl, ap, sym, ◌∙◌, arith, length-append}
+use Rattle.std.proofs.Common.{◌≡◌, ℕ, zero, suc, ◌+◌, ◌-◌, ◌*◌, ◌^◌, ◌<◌, ◌≤◌, List, [], ◌∷◌, ◌++◌, length, take, drop}
+use Rattle.std.proofs.Common.{refl, ap, sym, ◌∙◌, arith, length-append}
 use Rattle.std.proofs.lemmas.List.{drop-drop, drop-take, drop_all, drop_at, take-take, take_all, take_at}
 use Rattle.byteorder.specs.Numbers.{little_number-reads_back}
 use Rattle.capn_words.specs.Message.{bytes, word_bytes}
@@ -46,17 +47,22 @@ bytes_of_part start size word len ws h =
     let rest = drop-take (8 * word) (8 * size - 8 * word) (bytes (drop start ws)) in
     let front = take-take len (8 * size - 8 * word) (drop (8 * word) (bytes (drop start ws))) (omega arith) in
     let e : 8 * start + 8 * word ≡ 8 * (start + word) = omega arith in
-    let at = ap (λ (xs : List ℕ). drop (8 * word) xs) (bytes-drop start ws) ∙ drop-drop (8 * word) (8 * start) (bytes ws) ∙ ap (λ (j : ℕ). drop j (bytes ws)) e in
+    let at = ap (λ (xs : List ℕ). drop (8 * word) xs) (bytes-drop start ws)
+    ∙ drop-drop (8 * word) (8 * start) (bytes ws) ∙ ap (λ (j : ℕ). drop j (bytes ws)) e in
     rw (part, rest, front, at) refl
 
 -- words with the same bytes are the same
 pub same_words : (xs ys : List ℕ) → AreWords xs → AreWords ys → bytes xs ≡ bytes ys → xs ≡ ys
 same_words [] [] f g e = refl
-same_words [] (y ∷ ys) f g e = absurd (omega (arith, ap length e, length-append (word_bytes y) (bytes ys), length-word_bytes y))
-same_words (x ∷ xs) [] f g e = absurd (omega (arith, ap length e, length-append (word_bytes x) (bytes xs), length-word_bytes x))
+same_words [] (y ∷ ys) f g e =
+    absurd (omega (arith, ap length e, length-append (word_bytes y) (bytes ys), length-word_bytes y))
+same_words (x ∷ xs) [] f g e =
+    absurd (omega (arith, ap length e, length-append (word_bytes x) (bytes xs), length-word_bytes x))
 same_words (x ∷ xs) (y ∷ ys) f g e =
-    let first : x ≡ y = sym (word_number-word_bytes x (bytes xs) (f 0)) ∙ ap word_number e ∙ word_number-word_bytes y (bytes ys) (g 0) in
+    let first : x ≡ y = sym (word_number-word_bytes x (bytes xs) (f 0)) ∙ ap word_number e
+    ∙ word_number-word_bytes y (bytes ys) (g 0) in
     let rest : bytes xs ≡ bytes ys =
-    sym (drop_at (word_bytes x) (bytes xs) 8 (length-word_bytes x)) ∙ ap (λ (bs : List ℕ). drop 8 bs) e ∙ drop_at (word_bytes y) (bytes ys) 8 (length-word_bytes y) in
+    sym (drop_at (word_bytes x) (bytes xs) 8 (length-word_bytes x)) ∙ ap (λ (bs : List ℕ). drop 8 bs) e
+    ∙ drop_at (word_bytes y) (bytes ys) 8 (length-word_bytes y) in
     let ih = same_words xs ys (λ k. f (suc k)) (λ k. g (suc k)) rest in
     rw (first, ih) refl

@@ -35,7 +35,8 @@ none_kept_slots (tree s ss) h zero = null_at s (behind_none (is_null s) (kept_sl
 none_kept_slots (tree s ss) h (suc i) = none_kept_slots ss (behind_none (is_null s) (kept_slots ss) h).1 i
 
 -- nor any slot
-pub cut_slots : (n : ℕ) (ss : Trees) → kept_slots ss ≤ n → (i : ℕ) → tree_at (front n (trimmed_each ss)) i ≡ trimmed (tree_at ss i)
+pub cut_slots : (n : ℕ) (ss : Trees) → kept_slots ss ≤ n → (i : ℕ)
+    → tree_at (front n (trimmed_each ss)) i ≡ trimmed (tree_at ss i)
 cut_slots zero ss h i = sym (ap trimmed (none_kept_slots ss h i))
 cut_slots (suc n) no_trees h i = refl
 cut_slots (suc n) (tree s ss) h zero = refl

@@ -24,7 +24,15 @@ fit_parts t h =
     let c = passed (anywhere is_ragged t) Ragged _ b.1 in
     let d = passed (nat_lt most_cost (cost (base Plain) t)) Costly _ c.1 in
     let e = passed (nat_lt most_height (height t)) Tall _ d.1 in
-    record { narrow = a.0; short = b.0; even = c.0; cheap = ltb-false _ _ d.0; low = ltb-false _ _ e.0; root = rooted (is_root t) e.1 }
+    record {
+      narrow = a.0;
+      short = b.0;
+      even = c.0;
+      cheap = ltb-false _ _ d.0;
+      low = ltb-false _ _ e.0;
+      root =
+          rooted (is_root t) e.1;
+    }
 
 pub fit_from : (t : Tree) → IsFit t → Fits t
 unfolding Fits misfit

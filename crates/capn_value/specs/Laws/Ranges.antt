@@ -1,8 +1,10 @@
 -- Numbers that are in range, and stay so once a value is trimmed.
 use Rattle.std.proofs.Common.{ℕ, zero, suc, ◌<◌, ◌^◌, List, [], ◌∷◌, take}
 use Rattle.std.specs.Prelude.{slice_index}
-use Rattle.capn_value.specs.Tree.{Tree, nil, node, voids, bits, bytes, pairs, quads, octs, links, rows, cap, Trees, no_trees, tree, Bodies, no_bodies, body, front}
-use Rattle.capn_value.specs.Trim.{kept_words, kept_slots, kept_words_of_rows, kept_slots_of_rows, trimmed, trimmed_each, trimmed_rows}
+use Rattle.capn_value.specs.Tree.{Tree, nil, node, voids, bits, bytes, pairs, quads, octs, links, rows, cap, Trees}
+use Rattle.capn_value.specs.Tree.{no_trees, tree, Bodies, no_bodies, body, front}
+use Rattle.capn_value.specs.Trim.{kept_words, kept_slots, kept_words_of_rows, kept_slots_of_rows, trimmed, trimmed_each}
+use Rattle.capn_value.specs.Trim.{trimmed_rows}
 use Rattle.capn_value.specs.InRange.{AllBelow, InRange, EachInRange, RowsInRange}
 
 -- what holds at each index holds of each number
@@ -23,8 +25,10 @@ each_in_range-front (suc n) (tree t ts) h = (h.0, each_in_range-front n ts h.1)
 mutual
   pub in_range-trimmed : (t : Tree) → InRange t → InRange (trimmed t)
   in_range-trimmed nil h = h
-  in_range-trimmed (node ws ss) h =
-      (below-take (2 ^ 64) (kept_words ws) ws h.0, each_in_range-front (kept_slots ss) (trimmed_each ss) (each_in_range-trimmed ss h.1))
+  in_range-trimmed (node ws ss) h = (
+    below-take (2 ^ 64) (kept_words ws) ws h.0,
+    each_in_range-front (kept_slots ss) (trimmed_each ss) (each_in_range-trimmed ss h.1),
+  )
   in_range-trimmed (voids n) h = h
   in_range-trimmed (bits xs) h = h
   in_range-trimmed (bytes xs) h = h
@@ -41,5 +45,8 @@ mutual
 
   pub rows_in_range-trimmed : (w s : ℕ) (bs : Bodies) → RowsInRange bs → RowsInRange (trimmed_rows w s bs)
   rows_in_range-trimmed w s no_bodies h = tt
-  rows_in_range-trimmed w s (body ws ss bs) h =
-      (below-take (2 ^ 64) w ws h.0, each_in_range-front s (trimmed_each ss) (each_in_range-trimmed ss h.1), rows_in_range-trimmed w s bs h.2)
+  rows_in_range-trimmed w s (body ws ss bs) h = (
+    below-take (2 ^ 64) w ws h.0,
+    each_in_range-front s (trimmed_each ss) (each_in_range-trimmed ss h.1),
+    rows_in_range-trimmed w s bs h.2,
+  )

@@ -1,10 +1,12 @@
 -- What a walk pays is at least the cost of the value that it finds, and its depth at least the height.
-use Rattle.std.proofs.Common.{◌≡◌, ◌≢◌, ℕ, zero, suc, ◌+◌, ◌-◌, ◌*◌, ◌<◌, ◌≤◌, ◌==◌, List, [], ◌∷◌, ◌++◌, length, Ok, refl, ap, ◌∙◌, arith, cond, if◌then◌else◌}
+use Rattle.std.proofs.Common.{◌≡◌, ◌≢◌, ℕ, zero, suc, ◌+◌, ◌-◌, ◌*◌, ◌<◌, ◌≤◌, ◌==◌, List, [], ◌∷◌, ◌++◌, length, Ok}
+use Rattle.std.proofs.Common.{refl, ap, ◌∙◌, arith, cond, if◌then◌else◌}
 use Rattle.std.specs.List.{flat_map}
 use Rattle.std.proofs.lemmas.Grind.{flat_map-append}
 use Rattle.std.proofs.lemmas.Bool.Decides.{nat_tests}
 use Rattle.capn_words.specs.declared.space.Place.{Place}
-use Rattle.capn_value.specs.Tree.{Tree, nil, node, voids, bits, bytes, pairs, quads, octs, links, rows, cap, Trees, no_trees, tree, Bodies, no_bodies, body, count, count_rows, row_words}
+use Rattle.capn_value.specs.Tree.{Tree, nil, node, voids, bits, bytes, pairs, quads, octs, links, rows, cap, Trees}
+use Rattle.capn_value.specs.Tree.{no_trees, tree, Bodies, no_bodies, body, count, count_rows, row_words}
 use Rattle.capn_value.specs.Sizes.{height, greatest, greatest_in_rows, cost, costs, costs_in_rows, rows_price}
 use Rattle.capn_words.specs.declared.pointer.Width.TheVariants.{W0, W1, W8, W16, W32, W64, Link}
 use Rattle.capn_walk.specs.declared.target.Target.TheVariants as targets
@@ -42,33 +44,40 @@ rows-price : (bs : Bodies) (a b span : ℕ) → row_words bs ≡ count_rows bs *
 unfolding rows_price
 rows-price bs a b span e f =
     pick (λ (x : ℕ). rows_price bs ≤ span + x) (a + b == 0) (count_rows bs) 0
-    (λ t. let z : a + b ≡ 0 = grind (arith, nat_tests) in let y : row_words bs ≡ 0 = rw (e, z) (omega arith) in grind (arith, nat_tests))
+    (λ t. let z : a + b ≡ 0 = grind (arith, nat_tests) in let y : row_words bs ≡ 0 = rw (e, z) (omega arith) in
+    grind (arith, nat_tests))
     (λ t. let z : a + b ≢ 0 = grind (arith, nat_tests) in priced (row_words bs) (count_rows bs) (a + b) span e f z)
   where
     priced : (r n k span : ℕ) → r ≡ n * k → n * k ≤ span → k ≢ 0 → cond (r == 0) n r ≤ span + 0
     priced r zero k span e f z = grind (arith, nat_tests)
     priced r (suc n) zero span e f z = absurd (z refl)
-    priced r (suc n) (suc k) span e f z = let p : suc n * suc k ≡ suc (n * suc k + k) = omega arith in let q : r ≢ 0 = omega arith in grind (arith, nat_tests)
+    priced r (suc n) (suc k) span e f z = let p : suc n * suc k ≡ suc (n * suc k + k) = omega arith in let q : r ≢ 0 =
+        omega arith in grind (arith, nat_tests)
 
 module _ (m : List (List ℕ)) (base : ℕ) where
   -- an object's visits: its price, and those of its slots
   record Object (at : Place) (d s start pads : ℕ) (shape : Shape) : Type 0 where
     deep : 0 < d
     below : AllPay (flat_map (visits m base (d - 1)) (slots s start shape))
-    sum : paid_of (visits m base d at) ≡ price base shape + pads + paid_of (flat_map (visits m base (d - 1)) (slots s start shape))
+    sum : paid_of (visits m base d at) ≡ price base shape + pads
+        + paid_of (flat_map (visits m base (d - 1)) (slots s start shape))
 
-  object : (at : Place) (d s start pads : ℕ) (shape : Shape) → target m at ≡ Ok (targets.Content s start shape pads) → AllPay (visits m base d at) → Object at d s start pads shape
-  object at zero s start pads shape e h = let f = rw (visits-deep m base at s start pads shape e 0 refl) at h in absurd f
+  object : (at : Place) (d s start pads : ℕ) (shape : Shape) → target m at ≡ Ok (targets.Content s start shape pads)
+      → AllPay (visits m base d at) → Object at d s start pads shape
+  object at zero s start pads shape e h = let f = rw (visits-deep m base at s start pads shape e 0 refl) at h in
+      absurd f
   object at (suc d) s start pads shape e h =
       let o = visits-object m base at s start pads shape e (suc d) (omega arith) in
       let f = rw o at h in
       record { deep = omega arith; below = f; sum = ap paid_of o }
 
-  slots-behind : (f : Place → List Visit) (p : Place) (ps : List Place) → AllPay (flat_map f (p ∷ ps)) → AllPay (f p) × AllPay (flat_map f ps)
+  slots-behind : (f : Place → List Visit) (p : Place) (ps : List Place) → AllPay (flat_map f (p ∷ ps)) → AllPay (f p)
+      × AllPay (flat_map f ps)
   slots-behind f p ps h = (all-front (f p) (flat_map f ps) h, all-back (f p) (flat_map f ps) h)
 
   mutual
-    pub cost-paid : (v : Tree) (at : Place) (d : ℕ) → IsAt m at v → AllPay (visits m base d at) → (cost base v ≤ paid_of (visits m base d at)) × (height v ≤ d)
+    pub cost-paid : (v : Tree) (at : Place) (d : ℕ) → IsAt m at v → AllPay (visits m base d at)
+        → (cost base v ≤ paid_of (visits m base d at)) × (height v ≤ d)
     cost-paid nil at d i h = (omega arith, omega arith)
     cost-paid (cap k) at d i h = (omega arith, omega arith)
     cost-paid (node ws ss) at d i h =
@@ -87,7 +96,8 @@ module _ (m : List (List ℕ)) (base : ℕ) where
         let n = i.3 in
         let o = object at d n.segment n.start n.pads (shapes.Rows (count_rows bs) i.0 i.1 i.2) n.is h in
         let fit = (inside m at n.segment n.start n.pads (shapes.Rows (count_rows bs) i.0 i.1 i.2) n.is).1 in
-        let below = costs-rows bs i.0 i.1 n.segment (n.start + 1) (d - 1) (let e : suc n.start ≡ n.start + 1 = omega arith in rw e at n.inside) o.below in
+        let below = costs-rows bs i.0 i.1 n.segment (n.start + 1) (d - 1) (let e : suc n.start ≡ n.start + 1 =
+        omega arith in rw e at n.inside) o.below in
         let p = rows-price bs i.0 i.1 i.2 below.2 fit in
         let deep = o.deep in
         let sum = o.sum in
@@ -123,7 +133,8 @@ module _ (m : List (List ℕ)) (base : ℕ) where
         let sum = o.sum in
         (omega arith, omega arith)
 
-    costs-paid : (ts : Trees) (s w d : ℕ) → AreAt m s w ts → AllPay (flat_map (visits m base d) (places s w (count ts))) →
+    costs-paid : (ts : Trees) (s w d : ℕ) → AreAt m s w ts → AllPay (flat_map (visits m base d) (places s w (count ts)))
+        →
         (costs base ts ≤ paid_of (flat_map (visits m base d) (places s w (count ts)))) × (greatest ts ≤ d)
     costs-paid no_trees s w d i h = (omega arith, omega arith)
     costs-paid (tree t ts) s w d i h =
@@ -132,11 +143,15 @@ module _ (m : List (List ℕ)) (base : ℕ) where
         let one = cost-paid t (slot s w) d i.0 (all-front (visits m base d (slot s w)) rest h) in
         let two = costs-paid ts s (w + 1) d (rw e at i.1) (all-back (visits m base d (slot s w)) rest h) in
         let sum = paid-append (visits m base d (slot s w)) rest in
-        let a = one.0 in let b = one.1 in let c = two.0 in let f = two.1 in
-        (sums (cost base t) (costs base ts) (paid_of (visits m base d (slot s w))) (paid_of rest) _ a c sum, omega arith)
+        let a = one.0 in let b = one.1 in let c = two.0 in let f = two.1 in (
+          sums (cost base t) (costs base ts) (paid_of (visits m base d (slot s w))) (paid_of rest) _ a c sum,
+          omega arith,
+        )
 
-    costs-rows : (bs : Bodies) (a b s w d : ℕ) → RowsAt m a b s w bs → AllPay (flat_map (visits m base d) (row_places s w a b (count_rows bs))) →
-        (costs_in_rows base bs ≤ paid_of (flat_map (visits m base d) (row_places s w a b (count_rows bs)))) × (greatest_in_rows bs ≤ d)
+    costs-rows : (bs : Bodies) (a b s w d : ℕ) → RowsAt m a b s w bs
+        → AllPay (flat_map (visits m base d) (row_places s w a b (count_rows bs))) →
+        (costs_in_rows base bs ≤ paid_of (flat_map (visits m base d) (row_places s w a b (count_rows bs))))
+        × (greatest_in_rows bs ≤ d)
         × ((row_words bs ≡ count_rows bs * (a + b)))
     costs-rows no_bodies a b s w d i h = (omega arith, omega arith, omega arith)
     costs-rows (body ws ss bs) a b s w d i h =

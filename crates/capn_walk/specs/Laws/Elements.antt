@@ -1,5 +1,6 @@
 -- Elements of a list, read from the bytes of its words.
-use Rattle.std.proofs.Common.{◌≡◌, ℕ, zero, suc, ◌+◌, ◌*◌, ◌/◌, ◌%◌, ◌^◌, ◌<◌, ◌≤◌, Bool, List, [], ◌∷◌, ◌++◌, length, take, drop, slice_index, map, refl, ap, sym, subst, ◌∙◌, arith, length-drop}
+use Rattle.std.proofs.Common.{◌≡◌, ℕ, zero, suc, ◌+◌, ◌*◌, ◌/◌, ◌%◌, ◌^◌, ◌<◌, ◌≤◌, Bool, List, [], ◌∷◌, ◌++◌, length}
+use Rattle.std.proofs.Common.{take, drop, slice_index, map, refl, ap, sym, subst, ◌∙◌, arith, length-drop}
 use Rattle.std.proofs.Math.Nat.{div-div-eq-div-mul}
 use Rattle.std.proofs.lemmas.Nat.{pow-add}
 use Rattle.std.specs.Int.{from_bool}
@@ -27,7 +28,8 @@ byte-in_word w (suc (suc (suc (suc (suc (suc (suc zero))))))) rest h = refl
 byte-in_word w (suc (suc (suc (suc (suc (suc (suc (suc i)))))))) rest h = absurd (omega arith)
 
 -- byte p of word q stands 8 * q + p bytes on
-byte-of : (ws : List ℕ) (q p : ℕ) → q < length ws → p < 8 → slice_index (bytes ws) (8 * q + p) ≡ slice_index ws q / 256 ^ p % 256
+byte-of : (ws : List ℕ) (q p : ℕ) → q < length ws → p < 8
+    → slice_index (bytes ws) (8 * q + p) ≡ slice_index ws q / 256 ^ p % 256
 byte-of ws q p inside below =
     sym (get_or-drop (8 * q) (bytes ws) p 0)
     ∙ ap (λ (bs : List ℕ). slice_index bs p) (bytes-drop q ws ∙ ap bytes (drop-cons ws q 0 inside))
@@ -35,7 +37,8 @@ byte-of ws q p inside below =
 
 -- ---- elements of several bytes, by where they stand in their word
 
-two-bytes : (w r : ℕ) → r < 4 → w / 256 ^ (2 * r) % 256 + 256 * (w / 256 ^ (2 * r + 1) % 256) ≡ w / (2 ^ 16) ^ r % 2 ^ 16
+two-bytes : (w r : ℕ) → r < 4
+    → w / 256 ^ (2 * r) % 256 + 256 * (w / 256 ^ (2 * r + 1) % 256) ≡ w / (2 ^ 16) ^ r % 2 ^ 16
 two-bytes w zero h = omega arith
 two-bytes w (suc zero) h = omega arith
 two-bytes w (suc (suc zero)) h = omega arith
@@ -43,7 +46,9 @@ two-bytes w (suc (suc (suc zero))) h = omega arith
 two-bytes w (suc (suc (suc (suc r)))) h = absurd (omega arith)
 
 four-bytes : (w r : ℕ) → r < 2 →
-    w / 256 ^ (4 * r) % 256 + 256 * (w / 256 ^ (4 * r + 1) % 256 + 256 * (w / 256 ^ (4 * r + 2) % 256 + 256 * (w / 256 ^ (4 * r + 3) % 256)))
+    w / 256 ^ (4 * r) % 256
+    + 256 * (w / 256 ^ (4 * r + 1) % 256
+    + 256 * (w / 256 ^ (4 * r + 2) % 256 + 256 * (w / 256 ^ (4 * r + 3) % 256)))
     ≡ w / (2 ^ 32) ^ r % 2 ^ 32
 four-bytes w zero h = omega arith
 four-bytes w (suc zero) h = omega arith
@@ -76,7 +81,8 @@ bytes-and-bits (suc (suc (suc (suc (suc (suc (suc (suc p)))))))) d h = absurd (o
 bit-in_word : (w p d i : ℕ) → p < 8 → d < 8 → i ≡ 8 * p + d → w / 256 ^ p % 256 / 2 ^ d % 2 ≡ w / 2 ^ i % 2
 bit-in_word w p d i hp hd e =
     low-bit (w / 256 ^ p) d hd
-    ∙ ap (λ (x : ℕ). x % 2) (div-div-eq-div-mul w (256 ^ p) (2 ^ d) ∙ ap (λ (x : ℕ). w / x) (bytes-and-bits p d hp ∙ ap (λ (x : ℕ). 2 ^ x) (sym e)))
+    ∙ ap (λ (x : ℕ). x % 2) (div-div-eq-div-mul w (256 ^ p) (2 ^ d)
+    ∙ ap (λ (x : ℕ). w / x) (bytes-and-bits p d hp ∙ ap (λ (x : ℕ). 2 ^ x) (sym e)))
 
 -- ---- the words that so many bytes are read as
 
@@ -87,7 +93,8 @@ eight-bytes : (w : ℕ) → w < 2 ^ 64 →
 eight-bytes w h = omega arith
 
 -- one more bit
-pub bits-more : (ws : List ℕ) (i : ℕ) (xs ys : List Bool) (b : Bool) → ys ≡ xs ++ b ∷ [] → length xs ≡ i → AreElements 64 1 ws (map from_bool xs) →
+pub bits-more : (ws : List ℕ) (i : ℕ) (xs ys : List Bool) (b : Bool) → ys ≡ xs ++ b ∷ [] → length xs ≡ i
+    → AreElements 64 1 ws (map from_bool xs) →
     from_bool b ≡ element 64 1 ws i → AreElements 64 1 ws (map from_bool ys)
 bits-more ws i xs ys b e l h is =
     let whole = ap (map from_bool) e ∙ map-append from_bool xs (b ∷ []) in
@@ -108,7 +115,8 @@ module _ (m : List (List ℕ)) (at : Place) where
       let rest = length-drop (8 * at.word) (bytes (segment_at m at.segment)) in
       length-take-le n (drop (8 * at.word) (bytes (segment_at m at.segment))) (omega arith)
 
-  module _ (n : ℕ) (bs : List ℕ) (are : bs ≡ bytes_at m at n) (inside : 8 * at.word + n ≤ 8 * length (segment_at m at.segment)) where
+  module _ (n : ℕ) (bs : List ℕ) (are : bs ≡ bytes_at m at n)
+      (inside : 8 * at.word + n ≤ 8 * length (segment_at m at.segment)) where
     pub length-read : length bs ≡ n
     length-read = ap length are ∙ length-bytes_at n inside
 
@@ -122,7 +130,8 @@ module _ (m : List (List ℕ)) (at : Place) where
         ∙ byte-of ws q p (omega arith) below
 
     -- byte k from byte d on
-    byte-on : (d k q p : ℕ) → d + k ≡ 8 * q + p → p < 8 → d + k < n → slice_index (drop d bs) k ≡ slice_index ws q / 256 ^ p % 256
+    byte-on : (d k q p : ℕ) → d + k ≡ 8 * q + p → p < 8 → d + k < n
+        → slice_index (drop d bs) k ≡ slice_index ws q / 256 ^ p % 256
     byte-on d k q p e below h = get_or-drop d bs k 0 ∙ byte-at (d + k) q p e below h
 
     pub are-bytes : AreElements 8 8 ws bs
@@ -130,7 +139,8 @@ module _ (m : List (List ℕ)) (at : Place) where
 
     pub is-bit : (i : ℕ) → i < 8 * n → slice_index bs (i / 8) / 2 ^ (i % 8) % 2 ≡ element 64 1 ws i
     is-bit i h =
-        ap (λ (x : ℕ). x / 2 ^ (i % 8) % 2) (byte-at (i / 8) (i / 64) (i / 8 % 8) (omega arith) (omega arith) (omega arith))
+        ap (λ (x : ℕ). x / 2 ^ (i % 8) % 2)
+        (byte-at (i / 8) (i / 64) (i / 8 % 8) (omega arith) (omega arith) (omega arith))
         ∙ bit-in_word (slice_index ws (i / 64)) (i / 8 % 8) (i % 8) (i % 64) (omega arith) (omega arith) (omega arith)
 
     module _ (xs : List ℕ) where
@@ -152,7 +162,8 @@ module _ (m : List (List ℕ)) (at : Place) where
           let d = byte-on (4 * i) 3 q (p + 3) (omega arith) (omega arith) (omega arith) in
           read i h ∙ omega (arith, a, b, c, d) ∙ four-bytes (slice_index ws q) (i % 2) (omega arith)
 
-      word-read : ((k : ℕ) → slice_index (segment_at m at.segment) k < 2 ^ 64) → n ≡ 8 * length xs → IsRead little_number 8 bs xs →
+      word-read : ((k : ℕ) → slice_index (segment_at m at.segment) k < 2 ^ 64) → n ≡ 8 * length xs
+          → IsRead little_number 8 bs xs →
           (i : ℕ) → i < length xs → slice_index xs i ≡ slice_index ws i
       word-read each size read i h =
           let a = byte-on (8 * i) 0 i 0 (omega arith) (omega arith) (omega arith) in
@@ -167,9 +178,11 @@ module _ (m : List (List ℕ)) (at : Place) where
           let below : slice_index ws i < 2 ^ 64 = omega (arith, whole, each (at.word + i)) in
           read i h ∙ omega (arith, a, b, c, d, e, f, g, o) ∙ eight-bytes (slice_index ws i) below
 
-      pub are-words : ((k : ℕ) → slice_index (segment_at m at.segment) k < 2 ^ 64) → n ≡ 8 * length xs → IsRead little_number 8 bs xs → take (length xs) ws ≡ xs
+      pub are-words : ((k : ℕ) → slice_index (segment_at m at.segment) k < 2 ^ 64) → n ≡ 8 * length xs
+          → IsRead little_number 8 bs xs → take (length xs) ws ≡ xs
       are-words each size read =
           let room = length-drop at.word (segment_at m at.segment) in
           let fits : length xs ≤ length ws = omega arith in
           let same = length-take-le (length xs) ws fits in
-          sym (same_number_lists xs (take (length xs) ws) (sym same) (λ k h. word-read each size read k h ∙ sym (get_or-take (length xs) ws k 0 h)))
+          sym (same_number_lists xs (take (length xs) ws) (sym same) (λ k h. word-read each size read k h
+          ∙ sym (get_or-take (length xs) ws k 0 h)))

@@ -1,11 +1,15 @@
--- The value at the root of an accepted message fits, costs at most what was paid, and is no higher than the depth limit.
-use Rattle.std.proofs.Common.{◌≡◌, inl, inr, ℕ, suc, ◌+◌, ◌*◌, ◌^◌, ◌<◌, ◌≤◌, ◌==◌, ◌&&◌, ◌||◌, Bool, true, false, List, [], ◌∷◌, length, refl, ap, arith}
+-- The value at the root of an accepted message fits, costs at most what was paid, and is no higher than the depth
+-- limit.
+use Rattle.std.proofs.Common.{◌≡◌, inl, inr, ℕ, suc, ◌+◌, ◌*◌, ◌^◌, ◌<◌, ◌≤◌, ◌==◌, ◌&&◌, ◌||◌, Bool, true, false, List}
+use Rattle.std.proofs.Common.{[], ◌∷◌, length, refl, ap, arith}
 use Rattle.std.proofs.lemmas.Bool.{or_from, and_from, and_parts, eqb-true, eq-eqb, le-ltb, not_from_true}
 use Rattle.capn_words.specs.declared.space.Place.{Place}
 use Rattle.capn_words.specs.declared.pointer.Width.TheVariants.{W0, W1, W8, W16, W32, W64, Link}
-use Rattle.capn_value.specs.Tree.{Tree, nil, node, voids, bits, bytes, pairs, quads, octs, links, rows, cap, Trees, no_trees, tree, Bodies, no_bodies, body, count, count_rows, row_words}
+use Rattle.capn_value.specs.Tree.{Tree, nil, node, voids, bits, bytes, pairs, quads, octs, links, rows, cap, Trees}
+use Rattle.capn_value.specs.Tree.{no_trees, tree, Bodies, no_bodies, body, count, count_rows, row_words}
 use Rattle.capn_value.specs.Sizes.{cost, costs, costs_in_rows, rows_price, height, most_cost, most_height}
-use Rattle.capn_value.specs.Fits.{Fits, anywhere, anywhere_in, anywhere_in_rows, is_wide, is_wide_body, has_wide_row, is_long, is_ragged, are_even, is_root, elements, words_in_rows}
+use Rattle.capn_value.specs.Fits.{Fits, anywhere, anywhere_in, anywhere_in_rows, is_wide, is_wide_body, has_wide_row}
+use Rattle.capn_value.specs.Fits.{is_long, is_ragged, are_even, is_root, elements, words_in_rows}
 use Rattle.capn_value.specs.Laws.Fitting.{fit_from}
 use Rattle.capn_value.specs.Laws.Tariffs.{cost-raised}
 use Rattle.capn_value.specs.Laws.Trimmed.{words-or_none}
@@ -25,7 +29,8 @@ not-wide : (ws : List ℕ) (ss : Trees) → length ws < 2 ^ 16 → count ss < 2 
 not-wide ws ss a b = or_from _ _ (le-ltb 65535 (length ws) (omega arith)) (le-ltb 65535 (count ss) (omega arith))
 
 not-long : (t : Tree) → elements t < 2 ^ 29 → words_in_rows t < 2 ^ 29 → is_long t ≡ false
-not-long t a b = or_from _ _ (le-ltb 536870911 (elements t) (omega arith)) (le-ltb 536870911 (words_in_rows t) (omega arith))
+not-long t a b =
+    or_from _ _ (le-ltb 536870911 (elements t) (omega arith)) (le-ltb 536870911 (words_in_rows t) (omega arith))
 
 -- what rows at a place are: narrow where their sizes are, even, and so many words
 record Rows (a b : ℕ) (bs : Bodies) : Type 0 where
@@ -37,7 +42,8 @@ not-ragged : (a b : ℕ) (bs : Bodies) → are_even a b bs ≡ true → is_ragge
 not-ragged a b no_bodies h = refl
 not-ragged a b (body ws ss bs) h = not_from_true _ (even-first a b ws ss bs h)
   where
-    even-first : (a b : ℕ) (ws : List ℕ) (ss : Trees) (bs : Bodies) → are_even a b (body ws ss bs) ≡ true → are_even (length ws) (count ss) bs ≡ true
+    even-first : (a b : ℕ) (ws : List ℕ) (ss : Trees) (bs : Bodies) → are_even a b (body ws ss bs) ≡ true
+        → are_even (length ws) (count ss) bs ≡ true
     even-first a b ws ss bs h =
         let p = and_parts ((length ws == a) && (count ss == b)) (are_even a b bs) h in
         let q = and_parts (length ws == a) (count ss == b) p.0 in
@@ -61,9 +67,11 @@ module _ (m : List (List ℕ)) where
       }
 
   -- rows that cost few words are few, also where they have none
-  few-rows : (bs : Bodies) → is_ragged (rows bs) ≡ false → row_words bs < 2 ^ 29 → rows_price bs < 2 ^ 29 → count_rows bs < 2 ^ 29
+  few-rows : (bs : Bodies) → is_ragged (rows bs) ≡ false → row_words bs < 2 ^ 29 → rows_price bs < 2 ^ 29
+      → count_rows bs < 2 ^ 29
   few-rows bs e w p =
-      elim (words-or_none bs e) as (λ _. count_rows bs < 2 ^ 29) [ inl z ↦ omega (arith, rows_price-none bs z) | inr l ↦ omega arith ]
+      elim (words-or_none bs e) as (λ _. count_rows bs < 2 ^ 29)
+      [ inl z ↦ omega (arith, rows_price-none bs z) | inr l ↦ omega arith ]
 
   -- ---- the parts that a value's fitness has at every level
 
@@ -73,16 +81,19 @@ module _ (m : List (List ℕ)) where
     even : ragged ≡ false
 
   joined : (a b c d e f : Bool) → a ≡ false → b ≡ false → c ≡ false → Parts d e f → Parts (a || d) (b || e) (c || f)
-  joined a b c d e f x y z p = record { narrow = or_from _ _ x p.narrow; short = or_from _ _ y p.short; even = or_from _ _ z p.even }
+  joined a b c d e f x y z p =
+      record { narrow = or_from _ _ x p.narrow; short = or_from _ _ y p.short; even = or_from _ _ z p.even }
 
   module _ (base : ℕ) where
     mutual
-      parts : (v : Tree) (at : Place) → cost base v < 2 ^ 29 → IsAt m at v → Parts (anywhere is_wide v) (anywhere is_long v) (anywhere is_ragged v)
+      parts : (v : Tree) (at : Place) → cost base v < 2 ^ 29 → IsAt m at v
+          → Parts (anywhere is_wide v) (anywhere is_long v) (anywhere is_ragged v)
       parts nil at l h = record { narrow = refl; short = refl; even = refl }
       parts (cap k) at l h = record { narrow = refl; short = refl; even = refl }
       parts (node ws ss) at l h =
           let r = room-of m at h.segment h.start h.pads (shapes.Node (length ws) (count ss)) h.is in
-          joined _ _ _ _ _ _ (not-wide ws ss r.0 r.1) refl refl (parts-slots ss h.segment (h.start + length ws) (omega arith) h.inside.1)
+          joined _ _ _ _ _ _ (not-wide ws ss r.0 r.1) refl refl
+          (parts-slots ss h.segment (h.start + length ws) (omega arith) h.inside.1)
       parts (voids n) at l h =
           let r = room-of m at h.segment h.start h.pads (shapes.Many W0 n) h.is in
           record { narrow = refl; short = not-long (voids n) r (omega arith); even = refl }
@@ -103,7 +114,8 @@ module _ (m : List (List ℕ)) where
           record { narrow = refl; short = not-long (octs xs) r (omega arith); even = refl }
       parts (links ts) at l h =
           let r = room-of m at h.segment h.start h.pads (shapes.Many Link (count ts)) h.is in
-          joined _ _ _ _ _ _ refl (not-long (links ts) r (omega arith)) refl (parts-slots ts h.segment h.start (omega arith) h.inside)
+          joined _ _ _ _ _ _ refl (not-long (links ts) r (omega arith)) refl
+          (parts-slots ts h.segment h.start (omega arith) h.inside)
       parts (rows bs) at l h =
           let a = h.0 in
           let b = h.1 in
@@ -117,7 +129,8 @@ module _ (m : List (List ℕ)) where
           let s = r.3 in
           let w : row_words bs < 2 ^ 29 = omega arith in
           let c : count_rows bs < 2 ^ 29 = few-rows bs e w (omega arith) in
-          joined _ _ _ _ _ _ rs.narrow (not-long (rows bs) c w) e (parts-rows bs a b n.segment (suc n.start) (omega arith) n.inside)
+          joined _ _ _ _ _ _ rs.narrow (not-long (rows bs) c w) e
+          (parts-rows bs a b n.segment (suc n.start) (omega arith) n.inside)
 
       parts-slots : (ts : Trees) (s w : ℕ) → costs base ts < 2 ^ 29 → AreAt m s w ts →
           Parts (anywhere_in is_wide ts) (anywhere_in is_long ts) (anywhere_in is_ragged ts)
@@ -142,28 +155,37 @@ module _ (m : List (List ℕ)) where
       pub same : root_visits m base depth ≡ visits m base depth root
 
     module _ (depth : ℕ) where
-      as-it-is : (v : Tree) → is_root v ≡ true → root_visits m base depth ≡ visits m base depth root → AllPay (root_visits m base depth) → Root depth v
+      as-it-is : (v : Tree) → is_root v ≡ true → root_visits m base depth ≡ visits m base depth root
+          → AllPay (root_visits m base depth) → Root depth v
       as-it-is v k e h = record { kind = k; all = rw e at h; same = e }
 
-      refused-root : (v : Tree) → root_visits m base depth ≡ fails root faults.RootKind ∷ [] → AllPay (root_visits m base depth) → Root depth v
+      refused-root : (v : Tree) → root_visits m base depth ≡ fails root faults.RootKind ∷ []
+          → AllPay (root_visits m base depth) → Root depth v
       refused-root v e h = let f = rw e at h in absurd f
 
       pub root-of : (v : Tree) → IsAt m root v → AllPay (root_visits m base depth) → Root depth v
       unfolding root_visits
       root-of nil h = as-it-is nil refl (ap (λ r. visits_at_root m base r (visits m base depth root)) h)
-      root-of (node ws ss) h = as-it-is (node ws ss) refl (ap (λ r. visits_at_root m base r (visits m base depth root)) h.is)
+      root-of (node ws ss) h =
+          as-it-is (node ws ss) refl (ap (λ r. visits_at_root m base r (visits m base depth root)) h.is)
       root-of (cap k) h = refused-root (cap k) (ap (λ r. visits_at_root m base r (visits m base depth root)) h)
       root-of (voids n) h = as-it-is (voids n) refl (ap (λ r. visits_at_root m base r (visits m base depth root)) h.is)
       root-of (bits xs) h = as-it-is (bits xs) refl (ap (λ r. visits_at_root m base r (visits m base depth root)) h.is)
-      root-of (bytes xs) h = as-it-is (bytes xs) refl (ap (λ r. visits_at_root m base r (visits m base depth root)) h.is)
-      root-of (pairs xs) h = as-it-is (pairs xs) refl (ap (λ r. visits_at_root m base r (visits m base depth root)) h.is)
-      root-of (quads xs) h = as-it-is (quads xs) refl (ap (λ r. visits_at_root m base r (visits m base depth root)) h.is)
+      root-of (bytes xs) h =
+          as-it-is (bytes xs) refl (ap (λ r. visits_at_root m base r (visits m base depth root)) h.is)
+      root-of (pairs xs) h =
+          as-it-is (pairs xs) refl (ap (λ r. visits_at_root m base r (visits m base depth root)) h.is)
+      root-of (quads xs) h =
+          as-it-is (quads xs) refl (ap (λ r. visits_at_root m base r (visits m base depth root)) h.is)
       root-of (octs xs) h = as-it-is (octs xs) refl (ap (λ r. visits_at_root m base r (visits m base depth root)) h.is)
-      root-of (links ts) h = as-it-is (links ts) refl (ap (λ r. visits_at_root m base r (visits m base depth root)) h.is)
-      root-of (rows bs) h = as-it-is (rows bs) refl (ap (λ r. visits_at_root m base r (visits m base depth root)) h.3.is)
+      root-of (links ts) h =
+          as-it-is (links ts) refl (ap (λ r. visits_at_root m base r (visits m base depth root)) h.is)
+      root-of (rows bs) h =
+          as-it-is (rows bs) refl (ap (λ r. visits_at_root m base r (visits m base depth root)) h.3.is)
 
       -- the cost of the value at the root is at most what its visits pay, its height at most the depth limit
-      pub root-costs : (v : Tree) → IsAt m root v → AllPay (root_visits m base depth) → (cost base v ≤ paid_of (root_visits m base depth)) × (height v ≤ depth)
+      pub root-costs : (v : Tree) → IsAt m root v → AllPay (root_visits m base depth)
+          → (cost base v ≤ paid_of (root_visits m base depth)) × (height v ≤ depth)
       root-costs v h a =
           let r = root-of v h a in
           let c = cost-paid m base v root depth h r.all in
@@ -173,7 +195,8 @@ module _ (m : List (List ℕ)) where
           (omega arith, y)
 
   -- the value at the root of a message accepted under limits in their ranges fits
-  pub fits-root : (base budget depth : ℕ) (v : Tree) → budget ≤ most_cost → depth ≤ most_height → IsWithin budget (root_visits m base depth) → IsAt m root v → Fits v
+  pub fits-root : (base budget depth : ℕ) (v : Tree) → budget ≤ most_cost → depth ≤ most_height
+      → IsWithin budget (root_visits m base depth) → IsAt m root v → Fits v
   fits-root base budget depth v lb ld w h =
       let r = root-of base depth v h w.all in
       let c = root-costs base depth v h w.all in
@@ -182,4 +205,12 @@ module _ (m : List (List ℕ)) where
       let y = c.1 in
       let z = w.paid in
       let p = parts base v root (omega arith) h in
-      fit_from v (record { narrow = p.narrow; short = p.short; even = p.even; cheap = omega arith; low = omega arith; root = r.kind })
+      fit_from v (record {
+        narrow = p.narrow;
+        short = p.short;
+        even = p.even;
+        cheap = omega arith;
+        low =
+            omega arith;
+        root = r.kind;
+      })

@@ -14,7 +14,8 @@ use Rattle.capn_walk.specs.declared.target.Shape.{Shape}
 use Rattle.capn_walk.specs.declared.target.Shape.TheVariants as shapes
 use Rattle.capn_walk.specs.declared.target.Fault.{Fault}
 use Rattle.capn_words.specs.Pointers.{field}
-use Rattle.capn_walk.specs.Target.{moved, tagged, within, list, struct, struct_from, list_from, near, second_pad, is_second_pad, two_pads, pointer_in, landing, named, target}
+use Rattle.capn_walk.specs.Target.{moved, tagged, within, list, struct, struct_from, list_from, near, second_pad}
+use Rattle.capn_walk.specs.Target.{is_second_pad, two_pads, pointer_in, landing, named, target}
 use Rattle.capn_walk.specs.Visits.{price}
 use Rattle.capn_walk.specs.Walked.{extent, slot_count, RowsFit}
 use Rattle.capn_words.specs.Laws.FieldBits.{pick}
@@ -28,13 +29,17 @@ module _ (m : List (List ℕ)) where
   IsFine (Ok t) = Inside t
   IsFine (Err e) = ⊤
 
-  fine-within : (s start n : ℕ) (r : Result Target Fault) → (start + n ≤ length (segment_at m s) → IsFine r) → IsFine (within m s start n r)
-  fine-within s start n r h = pick IsFine (nat_lt (length (segment_at m s)) (start + n)) _ _ (λ e. tt) (λ e. h (grind (arith, nat_tests)))
+  fine-within : (s start n : ℕ) (r : Result Target Fault) → (start + n ≤ length (segment_at m s) → IsFine r)
+      → IsFine (within m s start n r)
+  fine-within s start n r h =
+      pick IsFine (nat_lt (length (segment_at m s)) (start + n)) _ _ (λ e. tt) (λ e. h (grind (arith, nat_tests)))
 
-  fine-tagged : (s start pads span t : ℕ) → start + (1 + span) ≤ length (segment_at m s) → IsFine (tagged m s start pads span t)
+  fine-tagged : (s start pads span t : ℕ) → start + (1 + span) ≤ length (segment_at m s)
+      → IsFine (tagged m s start pads span t)
   fine-tagged s start pads span t h =
       pick IsFine (field 0 2 t == 0) _ _
-      (λ e. pick IsFine (nat_lt span (field 2 30 t * (field 32 16 t + field 48 16 t))) _ _ (λ e. tt) (λ e. (h, grind (arith, nat_tests))))
+      (λ e. pick IsFine (nat_lt span (field 2 30 t * (field 32 16 t + field 48 16 t))) _ _ (λ e. tt)
+      (λ e. (h, grind (arith, nat_tests))))
       (λ e. tt)
 
   fine-struct : (s start pads a b : ℕ) → IsFine (struct m s start pads a b)
@@ -54,7 +59,8 @@ module _ (m : List (List ℕ)) where
   fine-struct_from s (Ok start) pads a b = fine-struct s start pads a b
   fine-struct_from s (Err e) pads a b = tt
 
-  fine-list_from : (s : ℕ) (r : Result ℕ Fault) (pads : ℕ) (width : Width) (n : ℕ) → IsFine (list_from m s r pads width n)
+  fine-list_from : (s : ℕ) (r : Result ℕ Fault) (pads : ℕ) (width : Width) (n : ℕ)
+      → IsFine (list_from m s r pads width n)
   fine-list_from s (Ok start) pads width n = fine-list s start pads width n
   fine-list_from s (Err e) pads width n = tt
 

@@ -9,34 +9,47 @@ use Rattle.capn_walk.specs.Verdict.{Verdict, accepted, refused, after, judge}
 use Rattle.capn_words.specs.Laws.FieldBits.{pick}
 
 pub after-after : (p k q j : ℕ) (r : Verdict) → after p k (after q j r) ≡ after (p + q) (k + j) r
-after-after p k q j (accepted x y) = let a : p + (q + x) ≡ p + q + x = omega arith in let b : k + (j + y) ≡ k + j + y = omega arith in cc
-after-after p k q j (refused e at x y) = let a : p + (q + x) ≡ p + q + x = omega arith in let b : k + (j + y) ≡ k + j + y = omega arith in cc
+after-after p k q j (accepted x y) = let a : p + (q + x) ≡ p + q + x = omega arith in let b : k + (j + y) ≡ k + j + y =
+    omega arith in cc
+after-after p k q j (refused e at x y) = let a : p + (q + x) ≡ p + q + x = omega arith in
+    let b : k + (j + y) ≡ k + j + y = omega arith in cc
 
 pub after-none : (r : Verdict) → after 0 0 r ≡ r
 after-none (accepted x y) = let a : 0 + x ≡ x = omega arith in let b : 0 + y ≡ y = omega arith in cc
 after-none (refused e at x y) = let a : 0 + x ≡ x = omega arith in let b : 0 + y ≡ y = omega arith in cc
 
 -- what a verdict behind other visits came from
-pub after-accepted : (n m p k : ℕ) (r : Verdict) → after n m r ≡ accepted p k → (q j : ℕ) × (r ≡ accepted q j) × (p ≡ n + q) × (k ≡ m + j)
+pub after-accepted : (n m p k : ℕ) (r : Verdict) → after n m r ≡ accepted p k → (q j : ℕ) × (r ≡ accepted q j)
+    × (p ≡ n + q) × (k ≡ m + j)
 after-accepted n m p k (accepted q j) h = (q, j, refl, cc, cc)
 after-accepted n m p k (refused e at q j) h = absurd cc
 
-pub after-refused : (n m : ℕ) (e : Fault) (at : Place) (p k : ℕ) (r : Verdict) → after n m r ≡ refused e at p k → (q j : ℕ) × (r ≡ refused e at q j) × (p ≡ n + q) × (k ≡ m + j)
+pub after-refused : (n m : ℕ) (e : Fault) (at : Place) (p k : ℕ) (r : Verdict) → after n m r ≡ refused e at p k
+    → (q j : ℕ) × (r ≡ refused e at q j) × (p ≡ n + q) × (k ≡ m + j)
 after-refused n m e at p k (accepted q j) h = absurd cc
 after-refused n m e at p k (refused f x q j) h = (q, j, cc, cc, cc)
 
 -- one visit that pays
-pub judge-pays : (b n : ℕ) (at : Place) (vs : List Visit) → n ≤ b → judge b (pays at n ∷ vs) ≡ after n 1 (judge (b - n) vs)
-judge-pays b n at vs h = pick (λ (r : Verdict). r ≡ after n 1 (judge (b - n) vs)) (nat_lt b n) _ _ (λ e. absurd (grind (arith, nat_tests))) (λ e. refl)
+pub judge-pays : (b n : ℕ) (at : Place) (vs : List Visit) → n ≤ b
+    → judge b (pays at n ∷ vs) ≡ after n 1 (judge (b - n) vs)
+judge-pays b n at vs h =
+    pick (λ (r : Verdict). r ≡ after n 1 (judge (b - n) vs)) (nat_lt b n) _ _ (λ e. absurd (grind (arith, nat_tests)))
+    (λ e. refl)
 
-pub judge-over : (b n : ℕ) (at : Place) (vs : List Visit) → b < n → judge b (pays at n ∷ vs) ≡ refused faults.OverBudget at 0 1
-judge-over b n at vs h = pick (λ (r : Verdict). r ≡ refused faults.OverBudget at 0 1) (nat_lt b n) _ _ (λ e. refl) (λ e. absurd (grind (arith, nat_tests)))
+pub judge-over : (b n : ℕ) (at : Place) (vs : List Visit) → b < n
+    → judge b (pays at n ∷ vs) ≡ refused faults.OverBudget at 0 1
+judge-over b n at vs h =
+    pick (λ (r : Verdict). r ≡ refused faults.OverBudget at 0 1) (nat_lt b n) _ _ (λ e. refl)
+    (λ e. absurd (grind (arith, nat_tests)))
 
 pub judge-fits : (b n : ℕ) (at : Place) (vs : List Visit) (p k : ℕ) → judge b (pays at n ∷ vs) ≡ accepted p k → n ≤ b
-judge-fits b n at vs p k = pick (λ (r : Verdict). r ≡ accepted p k → n ≤ b) (nat_lt b n) _ _ (λ e. λ h. absurd cc) (λ e. λ h. grind (arith, nat_tests))
+judge-fits b n at vs p k =
+    pick (λ (r : Verdict). r ≡ accepted p k
+    → n ≤ b) (nat_lt b n) _ _ (λ e. λ h. absurd cc) (λ e. λ h. grind (arith, nat_tests))
 
 -- what is judged behind visits that are within the budget
-pub judge-more : (b : ℕ) (xs ys : List Visit) (p k : ℕ) → judge b xs ≡ accepted p k → judge b (xs ++ ys) ≡ after p k (judge (b - p) ys)
+pub judge-more : (b : ℕ) (xs ys : List Visit) (p k : ℕ) → judge b xs ≡ accepted p k
+    → judge b (xs ++ ys) ≡ after p k (judge (b - p) ys)
 judge-more b [] ys p k h =
     let x : p ≡ 0 = cc in let y : k ≡ 0 = cc in
     let z : b - p ≡ b = omega arith in
@@ -65,7 +78,9 @@ stops-paid b n x xs ys e at p k ih =
     let two = ap (after n 1) (ih q j is) in
     cc)
 
-pub judge-stops : (b : ℕ) (xs ys : List Visit) (e : Fault) (at : Place) (p k : ℕ) → judge b xs ≡ refused e at p k → judge b (xs ++ ys) ≡ refused e at p k
+pub judge-stops : (b : ℕ) (xs ys : List Visit) (e : Fault) (at : Place) (p k : ℕ) → judge b xs ≡ refused e at p k
+    → judge b (xs ++ ys) ≡ refused e at p k
 judge-stops b [] ys e at p k h = absurd cc
 judge-stops b (fails x f ∷ xs) ys e at p k h = h
-judge-stops b (pays x n ∷ xs) ys e at p k h = stops-paid b n x xs ys e at p k (λ q j is. judge-stops (b - n) xs ys e at q j is) h
+judge-stops b (pays x n ∷ xs) ys e at p k h =
+    stops-paid b n x xs ys e at p k (λ q j is. judge-stops (b - n) xs ys e at q j is) h

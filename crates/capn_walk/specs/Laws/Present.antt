@@ -1,5 +1,6 @@
 -- Content that a pointer names stands in a segment that exists.
-use Rattle.std.proofs.Common.{◌≡◌, ℕ, ◌+◌, ◌*◌, ◌<◌, ◌≤◌, ◌==◌, nat_lt, Bool, true, false, List, [], length, Result, Ok, Err, refl, ap, arith}
+use Rattle.std.proofs.Common.{◌≡◌, ℕ, ◌+◌, ◌*◌, ◌<◌, ◌≤◌, ◌==◌, nat_lt, Bool, true, false, List, [], length, Result, Ok}
+use Rattle.std.proofs.Common.{Err, refl, ap, arith}
 use Rattle.std.specs.Bool.{⊤}
 use Rattle.std.proofs.lemmas.Bool.Decides.{nat_tests}
 use Rattle.std.proofs.Math.ListN.{get_or-eq_default}
@@ -15,7 +16,8 @@ use Rattle.capn_walk.specs.declared.target.Target.TheVariants as targets
 use Rattle.capn_walk.specs.declared.target.Shape.{Shape}
 use Rattle.capn_walk.specs.declared.target.Fault.{Fault}
 use Rattle.capn_words.specs.Pointers.{field}
-use Rattle.capn_walk.specs.Target.{moved, tagged, within, list, struct, struct_from, list_from, near, second_pad, is_second_pad, two_pads, pointer_in, landing, named, target}
+use Rattle.capn_walk.specs.Target.{moved, tagged, within, list, struct, struct_from, list_from, near, second_pad}
+use Rattle.capn_walk.specs.Target.{is_second_pad, two_pads, pointer_in, landing, named, target}
 
 module _ (m : List (List ℕ)) where
   abbrev IsThere : Result Target Fault → Type 0
@@ -48,7 +50,8 @@ module _ (m : List (List ℕ)) where
   there-struct_from s (Ok start) pads a b h = there-struct s start pads a b h
   there-struct_from s (Err e) pads a b h = tt
 
-  there-list_from : (s : ℕ) (r : Result ℕ Fault) (pads : ℕ) (width : Width) (n : ℕ) → s < length m → IsThere (list_from m s r pads width n)
+  there-list_from : (s : ℕ) (r : Result ℕ Fault) (pads : ℕ) (width : Width) (n : ℕ) → s < length m
+      → IsThere (list_from m s r pads width n)
   there-list_from s (Ok start) pads width n h = there-list s start pads width n h
   there-list_from s (Err e) pads width n h = tt
 
@@ -91,7 +94,8 @@ module _ (m : List (List ℕ)) where
   there-named s w (Cap k) h = tt
   there-named s w (Reserved n) h = tt
   there-named s w (Far false v t) h = there-landing t v 1 _ (there-near t v 1 (pointer_in m t v))
-  there-named s w (Far true v t) h = there-landing t v 2 _ (λ k. there-two_pads (pointer_in m t v) (pointer_in m t (v + 1)))
+  there-named s w (Far true v t) h =
+      there-landing t v 2 _ (λ k. there-two_pads (pointer_in m t v) (pointer_in m t (v + 1)))
   there-named s w (Node o a b) h = there-near s w 0 (Node o a b) h
   there-named s w (Many o width n) h = there-near s w 0 (Many o width n) h
 
@@ -108,7 +112,8 @@ module _ (m : List (List ℕ)) where
 
   there-target : (at : Place) → at.word < length (segment_at m at.segment) → IsThere (target m at)
   unfolding target
-  there-target at h = there-named at.segment at.word (pointer_in m at.segment at.word) (has-segment at.segment at.word h)
+  there-target at h =
+      there-named at.segment at.word (pointer_in m at.segment at.word) (has-segment at.segment at.word h)
 
   pub present : (at : Place) (s start pads : ℕ) (shape : Shape) → at.word < length (segment_at m at.segment) →
       target m at ≡ Ok (targets.Content s start shape pads) → s < length m

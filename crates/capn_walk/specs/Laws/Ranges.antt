@@ -1,5 +1,7 @@
--- Sizes, counts and indices that pointers name are in the ranges of their fields, and so are the numbers of a value at a place of a message.
-use Rattle.std.proofs.Common.{◌≡◌, ℕ, ◌+◌, ◌*◌, ◌%◌, ◌^◌, ◌<◌, ◌==◌, nat_lt, true, false, List, length, slice_index, Result, Ok, Err, arith}
+-- Sizes, counts and indices that pointers name are in the ranges of their fields, and so are the numbers of a value
+-- at a place of a message.
+use Rattle.std.proofs.Common.{◌≡◌, ℕ, ◌+◌, ◌*◌, ◌%◌, ◌^◌, ◌<◌, ◌==◌, nat_lt, true, false, List, length, slice_index}
+use Rattle.std.proofs.Common.{Result, Ok, Err, arith}
 use Rattle.std.specs.Bool.{⊤}
 use Rattle.capn_words.specs.Message.{segment_at}
 use Rattle.capn_words.specs.declared.space.Place.{Place}
@@ -13,7 +15,8 @@ use Rattle.capn_walk.specs.declared.target.Shape.{Shape}
 use Rattle.capn_walk.specs.declared.target.Shape.TheVariants as shapes
 use Rattle.capn_walk.specs.declared.target.Fault.{Fault}
 use Rattle.capn_words.specs.Pointers.{field, pointer_of}
-use Rattle.capn_walk.specs.Target.{moved, tagged, within, list, struct, struct_from, list_from, near, second_pad, is_second_pad, two_pads, pointer_in, landing, named, target}
+use Rattle.capn_walk.specs.Target.{moved, tagged, within, list, struct, struct_from, list_from, near, second_pad}
+use Rattle.capn_walk.specs.Target.{is_second_pad, two_pads, pointer_in, landing, named, target}
 use Rattle.capn_words.specs.Laws.FieldBits.{pick}
 
 -- ---- pointers
@@ -54,7 +57,8 @@ module _ (m : List (List ℕ)) where
   ranged-tagged : (s start pads span t : ℕ) → span < 2 ^ 29 → IsRanged (tagged m s start pads span t)
   ranged-tagged s start pads span t h =
       pick IsRanged (field 0 2 t == 0) _ _
-      (λ e. pick IsRanged (nat_lt span (field 2 30 t * (field 32 16 t + field 48 16 t))) _ _ (λ e. tt) (λ e. (omega arith, omega arith, omega arith, h)))
+      (λ e. pick IsRanged (nat_lt span (field 2 30 t * (field 32 16 t + field 48 16 t))) _ _ (λ e. tt)
+      (λ e. (omega arith, omega arith, omega arith, h)))
       (λ e. tt)
 
   ranged-struct : (s start pads a b : ℕ) → a < 2 ^ 16 → b < 2 ^ 16 → IsRanged (struct m s start pads a b)
@@ -70,11 +74,13 @@ module _ (m : List (List ℕ)) where
   ranged-list s start pads Link n h = ranged-within s start _ _ h
   ranged-list s start pads Rows n h = ranged-within s start _ _ (ranged-tagged s start pads n _ h)
 
-  ranged-struct_from : (s : ℕ) (r : Result ℕ Fault) (pads a b : ℕ) → a < 2 ^ 16 → b < 2 ^ 16 → IsRanged (struct_from m s r pads a b)
+  ranged-struct_from : (s : ℕ) (r : Result ℕ Fault) (pads a b : ℕ) → a < 2 ^ 16 → b < 2 ^ 16
+      → IsRanged (struct_from m s r pads a b)
   ranged-struct_from s (Ok start) pads a b ha hb = ranged-struct s start pads a b ha hb
   ranged-struct_from s (Err e) pads a b ha hb = tt
 
-  ranged-list_from : (s : ℕ) (r : Result ℕ Fault) (pads : ℕ) (width : Width) (n : ℕ) → n < 2 ^ 29 → IsRanged (list_from m s r pads width n)
+  ranged-list_from : (s : ℕ) (r : Result ℕ Fault) (pads : ℕ) (width : Width) (n : ℕ) → n < 2 ^ 29
+      → IsRanged (list_from m s r pads width n)
   ranged-list_from s (Ok start) pads width n h = ranged-list s start pads width n h
   ranged-list_from s (Err e) pads width n h = tt
 
@@ -120,7 +126,8 @@ module _ (m : List (List ℕ)) where
   ranged-named s w (Cap k) h = h
   ranged-named s w (Reserved n) h = tt
   ranged-named s w (Far false v t) h = ranged-landing t v 1 _ (ranged-near t v 1 (pointer_in m t v) (narrow-in t v))
-  ranged-named s w (Far true v t) h = ranged-landing t v 2 _ (ranged-two_pads (pointer_in m t v) (pointer_in m t (v + 1)) (narrow-in t (v + 1)))
+  ranged-named s w (Far true v t) h =
+      ranged-landing t v 2 _ (ranged-two_pads (pointer_in m t v) (pointer_in m t (v + 1)) (narrow-in t (v + 1)))
   ranged-named s w (Node o a b) h = ranged-near s w 0 (Node o a b) h
   ranged-named s w (Many o width n) h = ranged-near s w 0 (Many o width n) h
 
@@ -129,7 +136,8 @@ module _ (m : List (List ℕ)) where
   ranged at = ranged-named at.segment at.word (pointer_in m at.segment at.word) (narrow-in at.segment at.word)
 
   -- an object that a pointer names has sizes and counts with room in their fields
-  pub room-of : (at : Place) (s start pads : ℕ) (shape : Shape) → target m at ≡ Ok (targets.Content s start shape pads) → HasRoom shape
+  pub room-of : (at : Place) (s start pads : ℕ) (shape : Shape) → target m at ≡ Ok (targets.Content s start shape pads)
+      → HasRoom shape
   room-of at s start pads shape e = let h = rw e at (ranged at) in h
 
   -- a capability's index is below 2^32

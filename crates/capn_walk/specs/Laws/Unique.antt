@@ -1,11 +1,13 @@
 -- At most one value stands at a place.
-use Rattle.std.proofs.Common.{◌≡◌, ℕ, suc, ◌+◌, Bool, true, false, List, [], ◌∷◌, length, take, map, Ok, refl, ap, ap₂, sym, subst, ◌∙◌, arith}
+use Rattle.std.proofs.Common.{◌≡◌, ℕ, suc, ◌+◌, Bool, true, false, List, [], ◌∷◌, length, take, map, Ok, refl, ap, ap₂}
+use Rattle.std.proofs.Common.{sym, subst, ◌∙◌, arith}
 use Rattle.std.specs.Int.{from_bool}
 use Rattle.std.proofs.lemmas.List.{length-map}
 use Rattle.std.proofs.lemmas.Grind.{same_number_lists}
 use Rattle.capn_words.specs.declared.space.Place.{Place}
 use Rattle.capn_words.specs.declared.pointer.Width.TheVariants.{W0, W1, W8, W16, W32, W64, Link}
-use Rattle.capn_value.specs.Tree.{Tree, nil, node, voids, bits, bytes, pairs, quads, octs, links, rows, cap, Trees, no_trees, tree, Bodies, no_bodies, body, count, count_rows}
+use Rattle.capn_value.specs.Tree.{Tree, nil, node, voids, bits, bytes, pairs, quads, octs, links, rows, cap, Trees}
+use Rattle.capn_value.specs.Tree.{no_trees, tree, Bodies, no_bodies, body, count, count_rows}
 use Rattle.capn_walk.specs.declared.target.Target.TheVariants as targets
 use Rattle.capn_walk.specs.declared.target.Shape.{Shape}
 use Rattle.capn_walk.specs.declared.target.Shape.TheVariants as shapes
@@ -22,7 +24,8 @@ same-bits (true ∷ xs) (false ∷ ys) e = absurd cc
 same-bits (false ∷ xs) (true ∷ ys) e = absurd cc
 
 module _ (m : List (List ℕ)) where
-  same-elements : (each width s w : ℕ) (xs ys : List ℕ) → length xs ≡ length ys → AreElements each width (words_from m s w) xs → AreElements each width (words_from m s w) ys → xs ≡ ys
+  same-elements : (each width s w : ℕ) (xs ys : List ℕ) → length xs ≡ length ys
+      → AreElements each width (words_from m s w) xs → AreElements each width (words_from m s w) ys → xs ≡ ys
   same-elements each width s w xs ys l h k = same_number_lists xs ys l (λ i b. h i b ∙ sym (k i (omega arith)))
 
   same-words : (s w : ℕ) (xs ys : List ℕ) → length xs ≡ length ys → AreWords m s w xs → AreWords m s w ys → xs ≡ ys
@@ -56,7 +59,8 @@ module _ (m : List (List ℕ)) where
   Shaped nil x = ⊥
   Shaped (cap k) x = ⊥
 
-  shaped : (w : Tree) (at : Place) (s start pads : ℕ) (x : Shape) → target m at ≡ Ok (targets.Content s start x pads) → IsAt m at w → Shaped w x
+  shaped : (w : Tree) (at : Place) (s start pads : ℕ) (x : Shape) → target m at ≡ Ok (targets.Content s start x pads)
+      → IsAt m at w → Shaped w x
   shaped nil at s start pads x e i = absurd cc
   shaped (cap k) at s start pads x e i = absurd cc
   shaped (rows bs) at s start pads x e i = let f = i.3.is in (i.0, i.1, i.2, cc)
@@ -69,7 +73,8 @@ module _ (m : List (List ℕ)) where
   shaped (octs xs) at s start pads x e i = let f = i.is in cc
   shaped (links ts) at s start pads x e i = let f = i.is in cc
 
-  node-only : (w : Tree) (a b : ℕ) → Shaped w (shapes.Node a b) → (ws : List ℕ) × (ss : Trees) × (w ≡ node ws ss) × (length ws ≡ a) × (count ss ≡ b)
+  node-only : (w : Tree) (a b : ℕ) → Shaped w (shapes.Node a b) → (ws : List ℕ) × (ss : Trees) × (w ≡ node ws ss)
+      × (length ws ≡ a) × (count ss ≡ b)
   node-only (node ws ss) a b h = (ws, ss, refl, cc, cc)
   node-only nil a b h = absurd h
   node-only (cap k) a b h = absurd h
@@ -125,7 +130,8 @@ module _ (m : List (List ℕ)) where
   links-only (rows bs) n h = let f = h.3 in absurd cc
   links-only w n h = absurd cc
 
-  rows-only : (w : Tree) (n a b span : ℕ) → Shaped w (shapes.Rows n a b span) → (bs : Bodies) × (w ≡ rows bs) × (count_rows bs ≡ n)
+  rows-only : (w : Tree) (n a b span : ℕ) → Shaped w (shapes.Rows n a b span) → (bs : Bodies) × (w ≡ rows bs)
+      × (count_rows bs ≡ n)
   rows-only (rows bs) n a b span h = let f = h.3 in (bs, refl, cc)
   rows-only nil n a b span h = absurd h
   rows-only (cap k) n a b span h = absurd h
@@ -150,28 +156,38 @@ module _ (m : List (List ℕ)) where
     unique (cap k) w at i j = sym (cap-only w at k i j)
     unique (voids n) w at i j = sym (voids-only w n (shaped w at i.segment i.start i.pads (shapes.Many W0 n) i.is j))
     unique (node ws ss) w at i j =
-        let (vs, ts, e, la, lb) = node-only w (length ws) (count ss) (shaped w at i.segment i.start i.pads (shapes.Node (length ws) (count ss)) i.is j) in
+        let (vs, ts, e, la, lb) =
+        node-only w (length ws) (count ss)
+        (shaped w at i.segment i.start i.pads (shapes.Node (length ws) (count ss)) i.is j) in
         let k : IsAt m at (node vs ts) = subst (IsAt m at) e j in
         let f = i.is in
         let g = k.is in
         let s : k.segment ≡ i.segment = cc in
         let p : k.start ≡ i.start = cc in
         let q : k.start + length vs ≡ i.start + length ws = omega arith in
-        let here : AreWords m i.segment i.start vs = subst (λ (x : ℕ). AreWords m x i.start vs) s (subst (λ (x : ℕ). AreWords m k.segment x vs) p k.inside.0) in
-        let below : AreAt m i.segment (i.start + length ws) ts = subst (λ (x : ℕ). AreAt m x (i.start + length ws) ts) s (subst (λ (x : ℕ). AreAt m k.segment x ts) q k.inside.1) in
-        ap₂ node (same-words i.segment i.start ws vs (sym la) i.inside.0 here) (unique-slots ss ts i.segment (i.start + length ws) (sym lb) i.inside.1 below) ∙ sym e
+        let here : AreWords m i.segment i.start vs =
+        subst (λ (x : ℕ). AreWords m x i.start vs) s (subst (λ (x : ℕ). AreWords m k.segment x vs) p k.inside.0) in
+        let below : AreAt m i.segment (i.start + length ws) ts =
+        subst (λ (x : ℕ). AreAt m x (i.start + length ws) ts) s
+        (subst (λ (x : ℕ). AreAt m k.segment x ts) q k.inside.1) in
+        ap₂ node (same-words i.segment i.start ws vs (sym la) i.inside.0 here)
+        (unique-slots ss ts i.segment (i.start + length ws) (sym lb) i.inside.1 below) ∙ sym e
     unique (links ss) w at i j =
-        let (ts, e, lb) = links-only w (count ss) (shaped w at i.segment i.start i.pads (shapes.Many Link (count ss)) i.is j) in
+        let (ts, e, lb) =
+        links-only w (count ss) (shaped w at i.segment i.start i.pads (shapes.Many Link (count ss)) i.is j) in
         let k : IsAt m at (links ts) = subst (IsAt m at) e j in
         let f = i.is in
         let g = k.is in
         let s : k.segment ≡ i.segment = cc in
         let p : k.start ≡ i.start = cc in
-        let below : AreAt m i.segment i.start ts = subst (λ (x : ℕ). AreAt m x i.start ts) s (subst (λ (x : ℕ). AreAt m k.segment x ts) p k.inside) in
+        let below : AreAt m i.segment i.start ts =
+        subst (λ (x : ℕ). AreAt m x i.start ts) s (subst (λ (x : ℕ). AreAt m k.segment x ts) p k.inside) in
         ap links (unique-slots ss ts i.segment i.start (sym lb) i.inside below) ∙ sym e
     unique (rows bs) w at i j =
         let n = i.3 in
-        let (cs, e, lb) = rows-only w (count_rows bs) i.0 i.1 i.2 (shaped w at n.segment n.start n.pads (shapes.Rows (count_rows bs) i.0 i.1 i.2) n.is j) in
+        let (cs, e, lb) =
+        rows-only w (count_rows bs) i.0 i.1 i.2
+        (shaped w at n.segment n.start n.pads (shapes.Rows (count_rows bs) i.0 i.1 i.2) n.is j) in
         let k : IsAt m at (rows cs) = subst (IsAt m at) e j in
         let o = k.3 in
         let f = n.is in
@@ -186,50 +202,62 @@ module _ (m : List (List ℕ)) where
         let four = subst (λ (r : ℕ). RowsAt m i.0 r n.segment (suc n.start) cs) y three in
         ap rows (unique-rows bs cs i.0 i.1 n.segment (suc n.start) (sym lb) n.inside four) ∙ sym e
     unique (bytes xs) w at i j =
-        let (ys, e, l) = bytes-only w (length xs) (shaped w at i.segment i.start i.pads (shapes.Many W8 (length xs)) i.is j) in
+        let (ys, e, l) =
+        bytes-only w (length xs) (shaped w at i.segment i.start i.pads (shapes.Many W8 (length xs)) i.is j) in
         let k : IsAt m at (bytes ys) = subst (IsAt m at) e j in
         let f = i.is in
         let g = k.is in
         let s : k.segment ≡ i.segment = cc in
         let p : k.start ≡ i.start = cc in
-        let here = subst (λ (x : ℕ). AreElements 8 8 (words_from m x i.start) ys) s (subst (λ (x : ℕ). AreElements 8 8 (words_from m k.segment x) ys) p k.inside) in
+        let here = subst (λ (x : ℕ). AreElements 8 8 (words_from m x i.start) ys) s
+        (subst (λ (x : ℕ). AreElements 8 8 (words_from m k.segment x) ys) p k.inside) in
         ap bytes (same-elements 8 8 i.segment i.start xs ys (sym l) i.inside here) ∙ sym e
     unique (pairs xs) w at i j =
-        let (ys, e, l) = pairs-only w (length xs) (shaped w at i.segment i.start i.pads (shapes.Many W16 (length xs)) i.is j) in
+        let (ys, e, l) =
+        pairs-only w (length xs) (shaped w at i.segment i.start i.pads (shapes.Many W16 (length xs)) i.is j) in
         let k : IsAt m at (pairs ys) = subst (IsAt m at) e j in
         let f = i.is in
         let g = k.is in
         let s : k.segment ≡ i.segment = cc in
         let p : k.start ≡ i.start = cc in
-        let here = subst (λ (x : ℕ). AreElements 4 16 (words_from m x i.start) ys) s (subst (λ (x : ℕ). AreElements 4 16 (words_from m k.segment x) ys) p k.inside) in
+        let here = subst (λ (x : ℕ). AreElements 4 16 (words_from m x i.start) ys) s
+        (subst (λ (x : ℕ). AreElements 4 16 (words_from m k.segment x) ys) p k.inside) in
         ap pairs (same-elements 4 16 i.segment i.start xs ys (sym l) i.inside here) ∙ sym e
     unique (quads xs) w at i j =
-        let (ys, e, l) = quads-only w (length xs) (shaped w at i.segment i.start i.pads (shapes.Many W32 (length xs)) i.is j) in
+        let (ys, e, l) =
+        quads-only w (length xs) (shaped w at i.segment i.start i.pads (shapes.Many W32 (length xs)) i.is j) in
         let k : IsAt m at (quads ys) = subst (IsAt m at) e j in
         let f = i.is in
         let g = k.is in
         let s : k.segment ≡ i.segment = cc in
         let p : k.start ≡ i.start = cc in
-        let here = subst (λ (x : ℕ). AreElements 2 32 (words_from m x i.start) ys) s (subst (λ (x : ℕ). AreElements 2 32 (words_from m k.segment x) ys) p k.inside) in
+        let here = subst (λ (x : ℕ). AreElements 2 32 (words_from m x i.start) ys) s
+        (subst (λ (x : ℕ). AreElements 2 32 (words_from m k.segment x) ys) p k.inside) in
         ap quads (same-elements 2 32 i.segment i.start xs ys (sym l) i.inside here) ∙ sym e
     unique (bits xs) w at i j =
-        let (ys, e, l) = bits-only w (length xs) (shaped w at i.segment i.start i.pads (shapes.Many W1 (length xs)) i.is j) in
+        let (ys, e, l) =
+        bits-only w (length xs) (shaped w at i.segment i.start i.pads (shapes.Many W1 (length xs)) i.is j) in
         let k : IsAt m at (bits ys) = subst (IsAt m at) e j in
         let f = i.is in
         let g = k.is in
         let s : k.segment ≡ i.segment = cc in
         let p : k.start ≡ i.start = cc in
-        let here = subst (λ (x : ℕ). AreElements 64 1 (words_from m x i.start) (map from_bool ys)) s (subst (λ (x : ℕ). AreElements 64 1 (words_from m k.segment x) (map from_bool ys)) p k.inside) in
-        let size : length (map from_bool xs) ≡ length (map from_bool ys) = length-map xs from_bool ∙ sym l ∙ sym (length-map ys from_bool) in
-        ap bits (same-bits xs ys (same-elements 64 1 i.segment i.start (map from_bool xs) (map from_bool ys) size i.inside here)) ∙ sym e
+        let here = subst (λ (x : ℕ). AreElements 64 1 (words_from m x i.start) (map from_bool ys)) s
+        (subst (λ (x : ℕ). AreElements 64 1 (words_from m k.segment x) (map from_bool ys)) p k.inside) in
+        let size : length (map from_bool xs) ≡ length (map from_bool ys) = length-map xs from_bool ∙ sym l
+        ∙ sym (length-map ys from_bool) in
+        ap bits (same-bits xs ys
+        (same-elements 64 1 i.segment i.start (map from_bool xs) (map from_bool ys) size i.inside here)) ∙ sym e
     unique (octs xs) w at i j =
-        let (ys, e, l) = octs-only w (length xs) (shaped w at i.segment i.start i.pads (shapes.Many W64 (length xs)) i.is j) in
+        let (ys, e, l) =
+        octs-only w (length xs) (shaped w at i.segment i.start i.pads (shapes.Many W64 (length xs)) i.is j) in
         let k : IsAt m at (octs ys) = subst (IsAt m at) e j in
         let f = i.is in
         let g = k.is in
         let s : k.segment ≡ i.segment = cc in
         let p : k.start ≡ i.start = cc in
-        let here : AreWords m i.segment i.start ys = subst (λ (x : ℕ). AreWords m x i.start ys) s (subst (λ (x : ℕ). AreWords m k.segment x ys) p k.inside) in
+        let here : AreWords m i.segment i.start ys =
+        subst (λ (x : ℕ). AreWords m x i.start ys) s (subst (λ (x : ℕ). AreWords m k.segment x ys) p k.inside) in
         ap octs (same-words i.segment i.start xs ys (sym l) i.inside here) ∙ sym e
 
     pub unique-slots : (ss ts : Trees) (s w : ℕ) → count ss ≡ count ts → AreAt m s w ss → AreAt m s w ts → ss ≡ ts
@@ -237,9 +265,11 @@ module _ (m : List (List ℕ)) where
     unique-slots no_trees (tree t ts) s w l i j = absurd (omega arith)
     unique-slots (tree t ts) no_trees s w l i j = absurd (omega arith)
     unique-slots (tree t ss) (tree u ts) s w l i j =
-        ap₂ tree (unique t u (record { segment = s; word = w }) i.0 j.0) (unique-slots ss ts s (suc w) (omega arith) i.1 j.1)
+        ap₂ tree (unique t u (record { segment = s; word = w }) i.0 j.0)
+        (unique-slots ss ts s (suc w) (omega arith) i.1 j.1)
 
-    pub unique-rows : (bs cs : Bodies) (a b s w : ℕ) → count_rows bs ≡ count_rows cs → RowsAt m a b s w bs → RowsAt m a b s w cs → bs ≡ cs
+    pub unique-rows : (bs cs : Bodies) (a b s w : ℕ) → count_rows bs ≡ count_rows cs → RowsAt m a b s w bs
+        → RowsAt m a b s w cs → bs ≡ cs
     unique-rows no_bodies no_bodies a b s w l i j = refl
     unique-rows no_bodies (body ws ss cs) a b s w l i j = absurd (omega arith)
     unique-rows (body ws ss bs) no_bodies a b s w l i j = absurd (omega arith)

@@ -1,11 +1,13 @@
 -- What a walk over slots knows.
-use Rattle.std.proofs.Common.{◌≡◌, ◌⊎◌, inl, inr, ℕ, zero, suc, ◌+◌, ◌-◌, ◌<◌, ◌≤◌, List, [], ◌∷◌, ◌++◌, length, take, Ok, Err, refl, ap, ap₂, sym, ◌∙◌, arith}
+use Rattle.std.proofs.Common.{◌≡◌, ◌⊎◌, inl, inr, ℕ, zero, suc, ◌+◌, ◌-◌, ◌<◌, ◌≤◌, List, [], ◌∷◌, ◌++◌, length, take}
+use Rattle.std.proofs.Common.{Ok, Err, refl, ap, ap₂, sym, ◌∙◌, arith}
 use Rattle.std.proofs.lemmas.List.{append-nil}
 use Rattle.std.specs.List.{flat_map}
 use Rattle.std.proofs.lemmas.Grind.{flat_map-append}
 use Rattle.capn_words.specs.declared.space.Place.{Place}
 use Rattle.capn_words.specs.declared.pointer.Width.TheVariants.{Link}
-use Rattle.capn_value.specs.Tree.{Trees, Bodies, Tree, nil, node, voids, bits, bytes, pairs, quads, octs, links, rows, cap, count, count_rows}
+use Rattle.capn_value.specs.Tree.{Trees, Bodies, Tree, nil, node, voids, bits, bytes, pairs, quads, octs, links, rows}
+use Rattle.capn_value.specs.Tree.{cap, count, count_rows}
 use Rattle.capn_value.specs.View.{tree_of, trees_of}
 use Rattle.capn_value.specs.declared.value.Value.{Value}
 use Rattle.capn_walk.specs.declared.target.Target.TheVariants as targets
@@ -32,7 +34,8 @@ places-add s w (suc i) n =
     let b : w + 1 + i ≡ w + suc i = omega arith in
     rw a (ap (λ (ps : List Place). slot s w ∷ ps) (rw (← b) (places-add s (w + 1) i n)))
 
-pub places-split : (s w i n : ℕ) → i < n → places s w n ≡ places s w i ++ slot s (w + i) ∷ places s (w + i + 1) (n - suc i)
+pub places-split : (s w i n : ℕ) → i < n
+    → places s w n ≡ places s w i ++ slot s (w + i) ∷ places s (w + i + 1) (n - suc i)
 places-split s w i n h =
     let a : n ≡ i + suc (n - suc i) = omega arith in
     ap (places s w) a ∙ places-add s w i (suc (n - suc i))
@@ -41,8 +44,10 @@ module _ (f : Place → List Visit) (s w : ℕ) where
   abbrev pub all : ℕ → List Visit
   all n = flat_map f (places s w n)
 
-  pub all-split : (i n : ℕ) → i < n → all n ≡ all i ++ (f (slot s (w + i)) ++ flat_map f (places s (w + i + 1) (n - suc i)))
-  all-split i n h = ap (flat_map f) (places-split s w i n h) ∙ flat_map-append f (places s w i) (slot s (w + i) ∷ places s (w + i + 1) (n - suc i))
+  pub all-split : (i n : ℕ) → i < n
+      → all n ≡ all i ++ (f (slot s (w + i)) ++ flat_map f (places s (w + i + 1) (n - suc i)))
+  all-split i n h = ap (flat_map f) (places-split s w i n h)
+      ∙ flat_map-append f (places s w i) (slot s (w + i) ∷ places s (w + i + 1) (n - suc i))
 
   pub gives-none : (left : ℕ) → Gives left (all 0) 0 0 0
   gives-none left = record { is = refl; within = omega arith; few = omega arith }
@@ -52,7 +57,8 @@ module _ (f : Place → List Visit) (s w : ℕ) where
       ap (flat_map f) (places-add s w i 1) ∙ flat_map-append f (places s w i) (slot s (w + i) ∷ [])
       ∙ ap (λ (vs : List Visit). all i ++ vs) (append-nil (f (slot s (w + i))))
 
-  pub gives-next : (left i p k q j : ℕ) → Gives left (all i) i p k → Gives (left - p) (f (slot s (w + i))) 1 q j → Gives left (all (i + 1)) (i + 1) (p + q) (k + j)
+  pub gives-next : (left i p k q j : ℕ) → Gives left (all i) i p k → Gives (left - p) (f (slot s (w + i))) 1 q j
+      → Gives left (all (i + 1)) (i + 1) (p + q) (k + j)
   gives-next left i p k q j g h = record {
     is = ap (judge left) (all-next i) ∙ judge-more left (all i) (f (slot s (w + i))) p k g.is ∙ ap (after p k) h.is;
     within = let a = g.within in let b = h.within in omega arith;
@@ -68,13 +74,15 @@ module _ (f : Place → List Visit) (s w : ℕ) where
       ∙ judge-more left (all i) (f (slot s (w + i)) ++ rest) p k g
       ∙ ap (after p k) (judge-stops (left - p) (f (slot s (w + i))) rest e at q j r)
 
-  pub refuses-next : (left i n p k : ℕ) (t : Stopped) → i < n → Gives left (all i) i p k → Refuses (left - p) (f (slot s (w + i))) 1 t →
+  pub refuses-next : (left i n p k : ℕ) (t : Stopped) → i < n → Gives left (all i) i p k
+      → Refuses (left - p) (f (slot s (w + i))) 1 t →
       Refuses left (all n) n (record { fault = t.fault; place = t.place; paid = p + t.paid; visits = k + t.visits })
   refuses-next left i n p k t h g r = record {
-    is = elim r.is as (λ _. (t.fault ≡ faults.Memory) ⊎ (judge left (all n) ≡ refused t.fault t.place (p + t.paid) (k + t.visits))) [
-      | inl m ↦ inl m
-      | inr is ↦ inr (refuses-is left i n p k t.fault t.place t.paid t.visits h g.is is)
-    ];
+    is = elim r.is as (λ _. (t.fault ≡ faults.Memory)
+        ⊎ (judge left (all n) ≡ refused t.fault t.place (p + t.paid) (k + t.visits))) [
+          | inl m ↦ inl m
+          | inr is ↦ inr (refuses-is left i n p k t.fault t.place t.paid t.visits h g.is is)
+        ];
     within = let a = g.within in let b = r.within in omega arith;
     few = let a = r.few in let b = g.few in omega arith;
   }
@@ -82,10 +90,12 @@ module _ (f : Place → List Visit) (s w : ℕ) where
   -- memory ran out behind i + 1 slots
   pub no_memory : (left i n p k : ℕ) (t : Stopped) → i < n → t.fault ≡ faults.Memory → t.paid ≡ p → t.visits ≡ k →
       Gives left (all (i + 1)) (i + 1) p k → Refuses left (all n) n t
-  no_memory left i n p k t h f x y g = record { is = inl f; within = let a = g.within in omega arith; few = let a = g.few in omega arith }
+  no_memory left i n p k t h f x y g =
+      record { is = inl f; within = let a = g.within in omega arith; few = let a = g.few in omega arith }
 
 -- what is said of the slots of an object, by its shape
-pub of-struct : (P : List Place → ℕ → Type 0) (s start first a b : ℕ) (shape : Shape) → shape ≡ shapes.Node a b → first ≡ start + a →
+pub of-struct : (P : List Place → ℕ → Type 0) (s start first a b : ℕ) (shape : Shape) → shape ≡ shapes.Node a b
+    → first ≡ start + a →
     P (places s first b) b → P (slots s start shape) (slot_count shape)
 of-struct P s start first a b shape e f h = rw (e, ← f) h
 
@@ -95,7 +105,8 @@ of-links P s start n shape e h = rw e h
 
 module _ (m : List (List ℕ)) where
   -- one more slot
-  pub at-next : {A : Type 0} (s w : ℕ) (vs : List (Value A)) (v : Value A) → AreAt m s w (trees_of vs) → IsAt m (slot s (w + count (trees_of vs))) (tree_of v) →
+  pub at-next : {A : Type 0} (s w : ℕ) (vs : List (Value A)) (v : Value A) → AreAt m s w (trees_of vs)
+      → IsAt m (slot s (w + count (trees_of vs))) (tree_of v) →
       AreAt m s w (trees_of (vs ++ v ∷ []))
   at-next s w [] v h i = let e : w + 0 ≡ w = omega arith in let j = rw e at i in (j, tt)
   at-next s w (u ∷ vs) v h i =
@@ -103,7 +114,8 @@ module _ (m : List (List ℕ)) where
       let j = rw e at i in
       (h.0, at-next s (suc w) vs v h.1 j)
 
-  pub count-next : {A : Type 0} (vs : List (Value A)) (v : Value A) → count (trees_of (vs ++ v ∷ [])) ≡ count (trees_of vs) + 1
+  pub count-next : {A : Type 0} (vs : List (Value A)) (v : Value A)
+      → count (trees_of (vs ++ v ∷ [])) ≡ count (trees_of vs) + 1
   count-next [] v = refl
   count-next (u ∷ vs) v = let e = count-next vs v in omega arith
 
@@ -130,14 +142,19 @@ module _ (m : List (List ℕ)) where
       visits-deep zero z = ap (last_visit m base at) e
       visits-deep (suc d) z = absurd (omega arith)
 
-      pub visits-object : (d : ℕ) → 0 < d → visits m base d at ≡ pays at (price base shape + pads) ∷ flat_map (visits m base (d - 1)) (slots s start shape)
+      pub visits-object : (d : ℕ) → 0 < d
+          → visits m base d at
+          ≡ pays at (price base shape + pads) ∷ flat_map (visits m base (d - 1)) (slots s start shape)
       unfolding visits
       visits-object zero z = absurd (omega arith)
       visits-object (suc d) z = let f : suc d - 1 ≡ d = omega arith in
-          ap (visit m base (visits m base d) at) e ∙ ap (λ (c : ℕ). pays at (price base shape + pads) ∷ flat_map (visits m base c) (slots s start shape)) (sym f)
+          ap (visit m base (visits m base d) at) e
+          ∙ ap (λ (c : ℕ). pays at (price base shape + pads) ∷ flat_map (visits m base c) (slots s start shape))
+          (sym f)
 
   -- a slot with an object
-  module _ (base : ℕ) (at : Place) (s start pads : ℕ) (shape : Shape) (e : target m at ≡ Ok (targets.Content s start shape pads))
+  module _ (base : ℕ) (at : Place) (s start pads : ℕ) (shape : Shape)
+      (e : target m at ≡ Ok (targets.Content s start shape pads))
       (left d : ℕ) (deep : 0 < d) (room : price base shape + pads ≤ left) where
     below : List Visit
     below = flat_map (visits m base (d - 1)) (slots s start shape)
@@ -145,33 +162,52 @@ module _ (m : List (List ℕ)) where
     few_slots : slot_count shape ≤ price base shape
     few_slots = slots-price base shape (inside m at s start pads shape e).1
 
-    pub gives-object : (p k : ℕ) → Gives (left - (price base shape + pads)) (flat_map (visits m base (d - 1)) (slots s start shape)) (slot_count shape) p k →
+    pub gives-object : (p k : ℕ)
+        → Gives (left - (price base shape + pads)) (flat_map (visits m base (d - 1)) (slots s start shape))
+        (slot_count shape) p k →
         Gives left (visits m base d at) 1 (price base shape + pads + p) (1 + k)
     gives-object p k g = record {
       is = ap (judge left) (visits-object base at s start pads shape e d deep)
-          ∙ judge-pays left (price base shape + pads) at (flat_map (visits m base (d - 1)) (slots s start shape)) room ∙ ap (after (price base shape + pads) 1) g.is;
+          ∙ judge-pays left (price base shape + pads) at (flat_map (visits m base (d - 1)) (slots s start shape)) room
+          ∙ ap (after (price base shape + pads) 1) g.is;
       within = let a = g.within in omega arith;
       few = let a = g.few in let b = few_slots in omega arith;
     }
 
-    pub refuses-object : (t : Stopped) → Refuses (left - (price base shape + pads)) (flat_map (visits m base (d - 1)) (slots s start shape)) (slot_count shape) t →
-        Refuses left (visits m base d at) 1 (record { fault = t.fault; place = t.place; paid = price base shape + pads + t.paid; visits = 1 + t.visits })
+    pub refuses-object : (t : Stopped)
+        → Refuses (left - (price base shape + pads)) (flat_map (visits m base (d - 1)) (slots s start shape))
+        (slot_count shape) t →
+        Refuses left (visits m base d at) 1
+        (record {
+          fault = t.fault;
+          place = t.place;
+          paid = price base shape + pads + t.paid;
+          visits =
+              1 + t.visits;
+        })
     refuses-object t r = record {
-      is = elim r.is as (λ _. (t.fault ≡ faults.Memory) ⊎ (judge left (visits m base d at) ≡ refused t.fault t.place (price base shape + pads + t.paid) (1 + t.visits))) [
-        | inl x ↦ inl x
-        | inr is ↦ inr (ap (judge left) (visits-object base at s start pads shape e d deep)
-            ∙ judge-pays left (price base shape + pads) at (flat_map (visits m base (d - 1)) (slots s start shape)) room ∙ ap (after (price base shape + pads) 1) is)
-      ];
+      is = elim r.is as (λ _. (t.fault ≡ faults.Memory)
+          ⊎ (judge left (visits m base d at)
+          ≡ refused t.fault t.place (price base shape + pads + t.paid) (1 + t.visits))) [
+            | inl x ↦ inl x
+            | inr is ↦ inr (ap (judge left) (visits-object base at s start pads shape e d deep)
+                ∙ judge-pays left (price base shape + pads) at (flat_map (visits m base (d - 1)) (slots s start shape))
+                room
+                ∙ ap (after (price base shape + pads) 1) is)
+          ];
       within = let a = r.within in omega arith;
       few = let a = r.few in let b = few_slots in omega arith;
     }
 
   -- a refusal at the slot itself
-  pub refuses-here : (base : ℕ) (at : Place) (left d : ℕ) (f : Fault) (t : Stopped) → visits m base d at ≡ fails at f ∷ [] →
+  pub refuses-here : (base : ℕ) (at : Place) (left d : ℕ) (f : Fault) (t : Stopped)
+      → visits m base d at ≡ fails at f ∷ [] →
       t ≡ record { fault = f; place = at; paid = 0; visits = 1 } → Refuses left (visits m base d at) 1 t
-  refuses-here base at left d f t e h = rw h (record { is = inr (ap (judge left) e); within = omega arith; few = omega arith })
+  refuses-here base at left d f t e h =
+      rw h (record { is = inr (ap (judge left) e); within = omega arith; few = omega arith })
 
-  pub refuses-price : (base : ℕ) (at : Place) (s start pads : ℕ) (shape : Shape) (left d : ℕ) (t : Stopped) → target m at ≡ Ok (targets.Content s start shape pads) →
+  pub refuses-price : (base : ℕ) (at : Place) (s start pads : ℕ) (shape : Shape) (left d : ℕ) (t : Stopped)
+      → target m at ≡ Ok (targets.Content s start shape pads) →
       0 < d → left < price base shape + pads →
       t ≡ record { fault = faults.OverBudget; place = at; paid = 0; visits = 1 } → Refuses left (visits m base d at) 1 t
   refuses-price base at s start pads shape left d t e deep over h = rw h (record {
@@ -181,32 +217,114 @@ module _ (m : List (List ℕ)) where
     few = omega arith;
   })
 
-  pub gives-nothing : (base : ℕ) (at : Place) (left d : ℕ) → visits m base d at ≡ pays at 0 ∷ [] → Gives left (visits m base d at) 1 0 1
-  gives-nothing base at left d e = record { is = ap (judge left) e ∙ judge-pays left 0 at [] (omega arith); within = omega arith; few = omega arith }
+  pub gives-nothing : (base : ℕ) (at : Place) (left d : ℕ) → visits m base d at ≡ pays at 0 ∷ []
+      → Gives left (visits m base d at) 1 0 1
+  gives-nothing base at left d e =
+      record { is = ap (judge left) e ∙ judge-pays left 0 at [] (omega arith); within = omega arith; few = omega arith }
 
-  pub is-inside : (at : Place) (s start pads : ℕ) (shape : Shape) (v : Tree) → target m at ≡ Ok (targets.Content s start shape pads) →
+  pub is-inside : (at : Place) (s start pads : ℕ) (shape : Shape) (v : Tree)
+      → target m at ≡ Ok (targets.Content s start shape pads) →
       IsInside m shape s start v → IsAt m at v
-  is-inside at s start pads shape (node ws ss) e h = record { segment = s; start = start; pads = pads; is = e ∙ ap (λ (x : Shape). Ok (targets.Content s start x pads)) h.0; inside = (h.1, h.2) }
-  is-inside at s start pads shape (voids n) e h = record { segment = s; start = start; pads = pads; is = e ∙ ap (λ (x : Shape). Ok (targets.Content s start x pads)) h; inside = tt }
-  is-inside at s start pads shape (links ts) e h = record { segment = s; start = start; pads = pads; is = e ∙ ap (λ (x : Shape). Ok (targets.Content s start x pads)) h.0; inside = h.1 }
+  is-inside at s start pads shape (node ws ss) e h =
+      record {
+        segment = s;
+        start = start;
+        pads = pads;
+        is = e
+            ∙ ap (λ (x : Shape). Ok (targets.Content s start x pads)) h.0;
+        inside = (h.1, h.2);
+      }
+  is-inside at s start pads shape (voids n) e h =
+      record {
+        segment = s;
+        start = start;
+        pads = pads;
+        is = e
+            ∙ ap (λ (x : Shape). Ok (targets.Content s start x pads)) h;
+        inside = tt;
+      }
+  is-inside at s start pads shape (links ts) e h =
+      record {
+        segment = s;
+        start = start;
+        pads = pads;
+        is = e
+            ∙ ap (λ (x : Shape). Ok (targets.Content s start x pads)) h.0;
+        inside = h.1;
+      }
   is-inside at s start pads shape nil e h = absurd h
-  is-inside at s start pads shape (bits xs) e h = record { segment = s; start = start; pads = pads; is = e ∙ ap (λ (x : Shape). Ok (targets.Content s start x pads)) h.0; inside = h.1 }
-  is-inside at s start pads shape (bytes xs) e h = record { segment = s; start = start; pads = pads; is = e ∙ ap (λ (x : Shape). Ok (targets.Content s start x pads)) h.0; inside = h.1 }
-  is-inside at s start pads shape (pairs xs) e h = record { segment = s; start = start; pads = pads; is = e ∙ ap (λ (x : Shape). Ok (targets.Content s start x pads)) h.0; inside = h.1 }
-  is-inside at s start pads shape (quads xs) e h = record { segment = s; start = start; pads = pads; is = e ∙ ap (λ (x : Shape). Ok (targets.Content s start x pads)) h.0; inside = h.1 }
-  is-inside at s start pads shape (octs xs) e h = record { segment = s; start = start; pads = pads; is = e ∙ ap (λ (x : Shape). Ok (targets.Content s start x pads)) h.0; inside = h.1 }
-  is-inside at s start pads shape (rows bs) e h = (h.0, h.1, h.2, record { segment = s; start = start; pads = pads; is = e ∙ ap (λ (x : Shape). Ok (targets.Content s start x pads)) h.3; inside = h.4 })
+  is-inside at s start pads shape (bits xs) e h =
+      record {
+        segment = s;
+        start = start;
+        pads = pads;
+        is = e
+            ∙ ap (λ (x : Shape). Ok (targets.Content s start x pads)) h.0;
+        inside = h.1;
+      }
+  is-inside at s start pads shape (bytes xs) e h =
+      record {
+        segment = s;
+        start = start;
+        pads = pads;
+        is = e
+            ∙ ap (λ (x : Shape). Ok (targets.Content s start x pads)) h.0;
+        inside = h.1;
+      }
+  is-inside at s start pads shape (pairs xs) e h =
+      record {
+        segment = s;
+        start = start;
+        pads = pads;
+        is = e
+            ∙ ap (λ (x : Shape). Ok (targets.Content s start x pads)) h.0;
+        inside = h.1;
+      }
+  is-inside at s start pads shape (quads xs) e h =
+      record {
+        segment = s;
+        start = start;
+        pads = pads;
+        is = e
+            ∙ ap (λ (x : Shape). Ok (targets.Content s start x pads)) h.0;
+        inside = h.1;
+      }
+  is-inside at s start pads shape (octs xs) e h =
+      record {
+        segment = s;
+        start = start;
+        pads = pads;
+        is = e
+            ∙ ap (λ (x : Shape). Ok (targets.Content s start x pads)) h.0;
+        inside = h.1;
+      }
+  is-inside at s start pads shape (rows bs) e h = (
+    h.0,
+    h.1,
+    h.2,
+    record {
+      segment = s;
+      start = start;
+      pads = pads;
+      is = e
+          ∙ ap (λ (x : Shape). Ok (targets.Content s start x pads)) h.3;
+      inside = h.4;
+    },
+  )
   is-inside at s start pads shape (cap k) e h = absurd h
 
 -- what stands inside objects
 module _ (m : List (List ℕ)) (s start : ℕ) (shape : Shape) where
-  pub inside-struct : (a b : ℕ) (ws : List ℕ) (ts : Trees) → shape ≡ shapes.Node a b → length ws ≡ a → take a (words_from m s start) ≡ ws →
+  pub inside-struct : (a b : ℕ) (ws : List ℕ) (ts : Trees) → shape ≡ shapes.Node a b → length ws ≡ a
+      → take a (words_from m s start) ≡ ws →
       count ts ≡ b → AreAt m s (start + a) ts → IsInside m shape s start (node ws ts)
   inside-struct a b ws ts e l w n h = (e ∙ ap₂ shapes.Node (sym l) (sym n), rw l w, rw l h)
 
-  pub inside-links : (n : ℕ) (ts : Trees) → shape ≡ shapes.Many Link n → count ts ≡ n → AreAt m s start ts → IsInside m shape s start (links ts)
+  pub inside-links : (n : ℕ) (ts : Trees) → shape ≡ shapes.Many Link n → count ts ≡ n → AreAt m s start ts
+      → IsInside m shape s start (links ts)
   inside-links n ts e l h = (e ∙ ap (shapes.Many Link) (sym l), h)
 
-  pub inside-rows : (n a b span : ℕ) (bs : Bodies) → shape ≡ shapes.Rows n a b span → count_rows bs ≡ n → RowsAt m a b s (suc start) bs →
+  pub inside-rows : (n a b span : ℕ) (bs : Bodies) → shape ≡ shapes.Rows n a b span → count_rows bs ≡ n
+      → RowsAt m a b s (suc start) bs →
       IsInside m shape s start (rows bs)
   inside-rows n a b span bs e l h = (a, b, span, e ∙ ap (λ (k : ℕ). shapes.Rows k a b span) (sym l), h)

@@ -1,5 +1,6 @@
 -- The fields of a pointer word are within their bits, and are found again there.
-use Rattle.std.proofs.Common.{◌≡◌, ◌≢◌, ℕ, zero, suc, ◌-◌, ◌^◌, ◌<◌, ◌≤◌, ◌==◌, nat_lt, Bool, true, false, ℤ, pos, negsuc, refl, ap, ◌∙◌, arith, if◌then◌else◌}
+use Rattle.std.proofs.Common.{◌≡◌, ◌≢◌, ℕ, zero, suc, ◌-◌, ◌^◌, ◌<◌, ◌≤◌, ◌==◌, nat_lt, Bool, true, false, ℤ, pos}
+use Rattle.std.proofs.Common.{negsuc, refl, ap, ◌∙◌, arith, if◌then◌else◌}
 use Rattle.std.proofs.lemmas.Bool.Decides.{nat_tests}
 use Rattle.std.specs.Int.{from_bool}
 use Rattle.capn_words.specs.Fields.{FitsOffset, offset_field, width_code}
@@ -10,7 +11,8 @@ use Rattle.capn_words.specs.declared.pointer.Width.TheVariants.{W0, W1, W8, W16,
 -- ---- choices
 
 -- what holds of both branches holds of the choice
-pub pick : {A : Type 0} (P : A → Type 0) (b : Bool) (x y : A) → (b ≡ true → P x) → (b ≡ false → P y) → P (if b then x else y)
+pub pick : {A : Type 0} (P : A → Type 0) (b : Bool) (x y : A) → (b ≡ true → P x) → (b ≡ false → P y)
+    → P (if b then x else y)
 pick P true x y f g = f refl
 pick P false x y f g = g refl
 
@@ -43,11 +45,14 @@ less-no a b e = grind (arith, nat_tests)
 -- ---- offsets
 
 pub signed-fits : (n : ℕ) → n < 2 ^ 30 → FitsOffset (signed n)
-signed-fits n h = pick FitsOffset (nat_lt n (2 ^ 29)) _ _ (λ e. grind (arith, nat_tests)) (λ e. grind (arith, nat_tests))
+signed-fits n h =
+    pick FitsOffset (nat_lt n (2 ^ 29)) _ _ (λ e. grind (arith, nat_tests)) (λ e. grind (arith, nat_tests))
 
 -- the bits of the offset that bits stand for
 pub signed-field : (n : ℕ) → n < 2 ^ 30 → offset_field (signed n) ≡ n
-signed-field n h = pick (λ (z : ℤ). offset_field z ≡ n) (nat_lt n (2 ^ 29)) _ _ (λ e. refl) (λ e. let l : 2 ^ 29 ≤ n = grind (arith, nat_tests) in omega arith)
+signed-field n h =
+    pick (λ (z : ℤ). offset_field z ≡ n) (nat_lt n (2 ^ 29)) _ _ (λ e. refl) (λ e. let l : 2 ^ 29 ≤ n =
+    grind (arith, nat_tests) in omega arith)
 
 pub offset_field-lt : (o : ℤ) → FitsOffset o → offset_field o < 2 ^ 30
 offset_field-lt (pos n) h = omega arith

@@ -1,12 +1,15 @@
 -- A message of one segment, read from its bytes.
-use Rattle.std.proofs.Common.{◌≡◌, ℕ, zero, suc, ◌*◌, ◌/◌, ◌%◌, ◌^◌, ◌<◌, ◌≤◌, List, [], ◌∷◌, length, drop, slice_index, refl, ap, sym, subst, ◌∙◌, arith}
+use Rattle.std.proofs.Common.{◌≡◌, ℕ, zero, suc, ◌*◌, ◌/◌, ◌%◌, ◌^◌, ◌<◌, ◌≤◌, List, [], ◌∷◌, length, drop, slice_index}
+use Rattle.std.proofs.Common.{refl, ap, sym, subst, ◌∙◌, arith}
 use Rattle.capn_words.specs.Limits.{most_words}
 use Rattle.capn_words.specs.Words.{word_number, words_in, bytes, AreBytes, AreWords, IsBare}
 use Rattle.capn_words.specs.Message.{IsMessage, segment_at}
-use Rattle.capn_words.specs.Laws.Words.{length-words_in, word_in, words_below, bytes_of_words, length-bytes, words_of_bytes}
+use Rattle.capn_words.specs.Laws.Words.{length-words_in, word_in, words_below, bytes_of_words, length-bytes}
+use Rattle.capn_words.specs.Laws.Words.{words_of_bytes}
 
 -- whole words that are not too many are a segment
-pub bare_is : (bs : List ℕ) → AreBytes bs → length bs % 8 ≡ 0 → length bs / 8 ≤ most_words → IsBare bs (words_in (length bs / 8) bs)
+pub bare_is : (bs : List ℕ) → AreBytes bs → length bs % 8 ≡ 0 → length bs / 8 ≤ most_words
+    → IsBare bs (words_in (length bs / 8) bs)
 bare_is bs h whole room = record {
   same = sym (bytes_of_words (length bs / 8) bs h (omega arith));
   each = words_below (length bs / 8) bs h;
@@ -50,7 +53,8 @@ module _ (bs ws : List ℕ) (is : words_in (length bs / 8) bs ≡ ws) where
   seen_length = ap length (sym is) ∙ length-words_in (length bs / 8) bs
 
   pub seen_word : (k : ℕ) → k < length ws → slice_index ws k ≡ word_number (drop (8 * k) bs)
-  seen_word k h = ap (λ (xs : List ℕ). slice_index xs k) (sym is) ∙ word_in (length bs / 8) k bs (omega (arith, seen_length))
+  seen_word k h = ap (λ (xs : List ℕ). slice_index xs k) (sym is)
+      ∙ word_in (length bs / 8) k bs (omega (arith, seen_length))
 
   pub seen_message : AreBytes bs → length bs / 8 ≤ most_words → IsMessage (ws ∷ [])
   seen_message h room =

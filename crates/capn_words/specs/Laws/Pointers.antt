@@ -1,27 +1,33 @@
 -- A word says one pointer, which `pointer_of` reads, and a pointer that fits has one word.
-use Rattle.std.proofs.Common.{◌≡◌, ◌≢◌, ℕ, ◌+◌, ◌*◌, ◌/◌, ◌%◌, ◌^◌, ◌<◌, ◌==◌, Bool, true, false, ◌↔◌, ℤ, refl, ap, sym, ◌∙◌, arith}
+use Rattle.std.proofs.Common.{◌≡◌, ◌≢◌, ℕ, ◌+◌, ◌*◌, ◌/◌, ◌%◌, ◌^◌, ◌<◌, ◌==◌, Bool, true, false, ◌↔◌, ℤ, refl, ap, sym}
+use Rattle.std.proofs.Common.{◌∙◌, arith}
 use Rattle.std.specs.Int.{from_bool}
 use Rattle.capn_words.specs.Fields.{Fields, Fits, FitsOffset, offset_field, width_code, word_of}
 use Rattle.capn_words.specs.Pointers.{field, signed, width_of, other_pointer, pointer_of}
 use Rattle.capn_words.specs.declared.pointer.Pointer.{Pointer}
 use Rattle.capn_words.specs.declared.pointer.Pointer.TheVariants.{Nil, Node, Many, Far, Cap, Reserved}
 use Rattle.capn_words.specs.declared.pointer.Width.{Width}
-use Rattle.capn_words.specs.Laws.FieldBits.{pick, if-yes, if-no, test-true, test-false, same-yes, same-no, signed-fits, signed-field, offset_field-lt, signed-again, width_code-width_of, width_code-lt, width_of-width_code, from_bool-le, bool-again}
+use Rattle.capn_words.specs.Laws.FieldBits.{pick, if-yes, if-no, test-true, test-false, same-yes, same-no, signed-fits}
+use Rattle.capn_words.specs.Laws.FieldBits.{signed-field, offset_field-lt, signed-again, width_code-width_of}
+use Rattle.capn_words.specs.Laws.FieldBits.{width_code-lt, width_of-width_code, from_bool-le, bool-again}
 
 -- ---- what `pointer_of` answers has the word's fields
 
-is-struct : (w : ℕ) → w < 2 ^ 64 → w ≢ 0 → w % 4 ≡ 0 → Fields w (Node (signed (field 2 30 w)) (field 32 16 w) (field 48 16 w))
+is-struct : (w : ℕ) → w < 2 ^ 64 → w ≢ 0 → w % 4 ≡ 0
+    → Fields w (Node (signed (field 2 30 w)) (field 32 16 w) (field 48 16 w))
 is-struct w h n k =
     let e = signed-field (field 2 30 w) (omega arith) in
     ((signed-fits (field 2 30 w) (omega arith), omega arith, omega arith, omega arith), omega arith)
 
-is-list : (w : ℕ) → w < 2 ^ 64 → w % 4 ≡ 1 → Fields w (Many (signed (field 2 30 w)) (width_of (field 32 3 w)) (field 35 29 w))
+is-list : (w : ℕ) → w < 2 ^ 64 → w % 4 ≡ 1
+    → Fields w (Many (signed (field 2 30 w)) (width_of (field 32 3 w)) (field 35 29 w))
 is-list w h k =
     let e = signed-field (field 2 30 w) (omega arith) in
     let c = width_code-width_of (field 32 3 w) (omega arith) in
     ((signed-fits (field 2 30 w) (omega arith), omega arith), omega arith)
 
-is-far : (w : ℕ) → w < 2 ^ 64 → w % 4 ≡ 2 → (b : Bool) → (field 2 1 w == 1) ≡ b → Fields w (Far b (field 3 29 w) (field 32 32 w))
+is-far : (w : ℕ) → w < 2 ^ 64 → w % 4 ≡ 2 → (b : Bool) → (field 2 1 w == 1) ≡ b
+    → Fields w (Far b (field 3 29 w) (field 32 32 w))
 is-far w h k true e = let x = test-true (field 2 1 w) 1 e in ((omega arith, omega arith), omega arith)
 is-far w h k false e = let x = test-false (field 2 1 w) 1 e in ((omega arith, omega arith), omega arith)
 
@@ -47,7 +53,8 @@ Fields-pointer_of w h =
 
 -- ---- `pointer_of` reads the fields of which a word is the sum
 
-struct-again : (w : ℕ) (o : ℤ) (a b : ℕ) → w ≡ 4 * offset_field o + 2 ^ 32 * a + 2 ^ 48 * b → FitsOffset o → a < 2 ^ 16 → b < 2 ^ 16 → 0 < offset_field o + a + b → pointer_of w ≡ Node o a b
+struct-again : (w : ℕ) (o : ℤ) (a b : ℕ) → w ≡ 4 * offset_field o + 2 ^ 32 * a + 2 ^ 48 * b → FitsOffset o → a < 2 ^ 16
+    → b < 2 ^ 16 → 0 < offset_field o + a + b → pointer_of w ≡ Node o a b
 unfolding pointer_of
 struct-again w o a b e ho ha hb h =
     let l = offset_field-lt o ho in
@@ -57,7 +64,8 @@ struct-again w o a b e ho ha hb h =
     let s = ap signed x ∙ signed-again o ho in
     if-no (w == 0) _ _ (same-no w 0 (omega arith)) ∙ if-yes (w % 4 == 0) _ _ (same-yes (w % 4) 0 (omega arith)) ∙ cc
 
-list-again : (w : ℕ) (o : ℤ) (k : Width) (c : ℕ) → w ≡ 1 + 4 * offset_field o + 2 ^ 32 * width_code k + 2 ^ 35 * c → FitsOffset o → c < 2 ^ 29 → pointer_of w ≡ Many o k c
+list-again : (w : ℕ) (o : ℤ) (k : Width) (c : ℕ) → w ≡ 1 + 4 * offset_field o + 2 ^ 32 * width_code k + 2 ^ 35 * c
+    → FitsOffset o → c < 2 ^ 29 → pointer_of w ≡ Many o k c
 unfolding pointer_of
 list-again w o k c e ho hc =
     let l = offset_field-lt o ho in
@@ -67,15 +75,18 @@ list-again w o k c e ho hc =
     let z : field 35 29 w ≡ c = omega arith in
     let s = ap signed x ∙ signed-again o ho in
     let v = ap width_of y ∙ width_of-width_code k in
-    if-no (w == 0) _ _ (same-no w 0 (omega arith)) ∙ if-no (w % 4 == 0) _ _ (same-no (w % 4) 0 (omega arith)) ∙ if-yes (w % 4 == 1) _ _ (same-yes (w % 4) 1 (omega arith)) ∙ cc
+    if-no (w == 0) _ _ (same-no w 0 (omega arith)) ∙ if-no (w % 4 == 0) _ _ (same-no (w % 4) 0 (omega arith))
+    ∙ if-yes (w % 4 == 1) _ _ (same-yes (w % 4) 1 (omega arith)) ∙ cc
 
 -- neither null nor a struct nor a list
 other-again : (w : ℕ) → w % 4 ≢ 0 → w % 4 ≢ 1 → pointer_of w ≡ other_pointer w
 unfolding pointer_of
 other-again w h l =
-    if-no (w == 0) _ _ (same-no w 0 (omega arith)) ∙ if-no (w % 4 == 0) _ _ (same-no (w % 4) 0 h) ∙ if-no (w % 4 == 1) _ _ (same-no (w % 4) 1 l)
+    if-no (w == 0) _ _ (same-no w 0 (omega arith)) ∙ if-no (w % 4 == 0) _ _ (same-no (w % 4) 0 h)
+    ∙ if-no (w % 4 == 1) _ _ (same-no (w % 4) 1 l)
 
-far-again : (w : ℕ) (d : Bool) (a s : ℕ) → w ≡ 2 + 4 * from_bool d + 8 * a + 2 ^ 32 * s → a < 2 ^ 29 → s < 2 ^ 32 → pointer_of w ≡ Far d a s
+far-again : (w : ℕ) (d : Bool) (a s : ℕ) → w ≡ 2 + 4 * from_bool d + 8 * a + 2 ^ 32 * s → a < 2 ^ 29 → s < 2 ^ 32
+    → pointer_of w ≡ Far d a s
 far-again w d a s e ha hs =
     let l = from_bool-le d in
     let x : field 2 1 w ≡ from_bool d = omega arith in

@@ -1,8 +1,10 @@
 -- Words and their bytes determine each other.
-use Rattle.std.proofs.Common.{◌≡◌, ℕ, zero, suc, ◌+◌, ◌*◌, ◌/◌, ◌%◌, ◌^◌, ◌<◌, ◌≤◌, List, [], ◌∷◌, ◌++◌, length, take, drop, slice_index, refl, ap, sym, ◌∙◌, arith, length-append, length-drop}
+use Rattle.std.proofs.Common.{◌≡◌, ℕ, zero, suc, ◌+◌, ◌*◌, ◌/◌, ◌%◌, ◌^◌, ◌<◌, ◌≤◌, List, [], ◌∷◌, ◌++◌, length, take}
+use Rattle.std.proofs.Common.{drop, slice_index, refl, ap, sym, ◌∙◌, arith, length-append, length-drop}
 use Rattle.std.proofs.Math.Nat.{div-div-eq-div-mul, pow-succ'}
 use Rattle.std.specs.Int.{byte_at, bytes_low_first}
-use Rattle.std.proofs.lemmas.List.{drop-drop, get_or-drop, length-take-le, drop_at, take_at, take-append-drop, nil_from_length}
+use Rattle.std.proofs.lemmas.List.{drop-drop, get_or-drop, length-take-le, drop_at, take_at, take-append-drop}
+use Rattle.std.proofs.lemmas.List.{nil_from_length}
 use Rattle.std.proofs.lemmas.List.Concat.{flat_map-append}
 use Rattle.byteorder.specs.Endian.{little_from}
 use Rattle.byteorder.specs.Numbers.{little_from-cons, little_from-lt, little_number-reads_back}
@@ -11,7 +13,9 @@ use Rattle.capn_words.specs.Words.{word_bytes, word_number, words_in, bytes, Are
 -- a byte further on is that byte of what is left
 byte_at-suc : (i x : ℕ) → byte_at (suc i) x ≡ byte_at i (x / 256)
 byte_at-suc zero x = refl
-byte_at-suc (suc i) x = ap (λ (y : ℕ). y % 256) (ap (λ (p : ℕ). x / p) (pow-succ' 256 (suc i)) ∙ sym (div-div-eq-div-mul x 256 (256 ^ suc i)))
+byte_at-suc (suc i) x =
+    ap (λ (y : ℕ). y % 256) (ap (λ (p : ℕ). x / p) (pow-succ' 256 (suc i))
+    ∙ sym (div-div-eq-div-mul x 256 (256 ^ suc i)))
 
 -- so are the bytes from there on
 bytes_low_first-suc : (i k x : ℕ) → bytes_low_first (suc i) k x ≡ bytes_low_first i k (x / 256)
@@ -19,7 +23,8 @@ bytes_low_first-suc i zero x = refl
 bytes_low_first-suc i (suc k) x = rw (byte_at-suc i x, bytes_low_first-suc (suc i) k x) refl
 
 -- the bytes of the number that n bytes are
-bytes_of_number : (n : ℕ) (bs : List ℕ) → AreBytes bs → n ≤ length bs → bytes_low_first 0 n (little_from 0 n bs) ≡ take n bs
+bytes_of_number : (n : ℕ) (bs : List ℕ) → AreBytes bs → n ≤ length bs
+    → bytes_low_first 0 n (little_from 0 n bs) ≡ take n bs
 bytes_of_number zero bs h l = refl
 bytes_of_number (suc n) [] h l = absurd (omega arith)
 bytes_of_number (suc n) (b ∷ bs) h l =
@@ -122,7 +127,8 @@ words_of_bytes (w ∷ ws) h =
 pub bytes-injective : (vs ws : List ℕ) → AreWords vs → AreWords ws → bytes vs ≡ bytes ws → vs ≡ ws
 bytes-injective vs ws hv hw e =
     let same : length vs ≡ length ws = omega (arith, length-bytes vs, length-bytes ws, ap length e) in
-    sym (words_of_bytes vs hv) ∙ ap (λ (n : ℕ). words_in n (bytes vs)) same ∙ ap (λ (bs : List ℕ). words_in (length ws) bs) e ∙ words_of_bytes ws hw
+    sym (words_of_bytes vs hv) ∙ ap (λ (n : ℕ). words_in n (bytes vs)) same
+    ∙ ap (λ (bs : List ℕ). words_in (length ws) bs) e ∙ words_of_bytes ws hw
 
 pub bytes-append : (vs ws : List ℕ) → bytes (vs ++ ws) ≡ bytes vs ++ bytes ws
 bytes-append vs ws = flat_map-append word_bytes vs ws
@@ -133,7 +139,9 @@ bytes-drop zero ws = refl
 bytes-drop (suc n) [] = let e : 8 * suc n ≡ suc (7 + 8 * n) = omega arith in rw e refl
 bytes-drop (suc n) (w ∷ ws) =
     let e : 8 * suc n ≡ 8 + 8 * n = omega arith in
-    rw e (sym (drop-drop (8 * n) 8 (word_bytes w ++ bytes ws)) ∙ ap (λ (bs : List ℕ). drop (8 * n) bs) (drop_at (word_bytes w) (bytes ws) 8 (length-word_bytes w)) ∙ bytes-drop n ws)
+    rw e (sym (drop-drop (8 * n) 8 (word_bytes w ++ bytes ws))
+    ∙ ap (λ (bs : List ℕ). drop (8 * n) bs) (drop_at (word_bytes w) (bytes ws) 8 (length-word_bytes w))
+    ∙ bytes-drop n ws)
 
 -- the bytes of the first n words
 pub bytes-take : (n : ℕ) (ws : List ℕ) → n ≤ length ws → take (8 * n) (bytes ws) ≡ bytes (take n ws)
@@ -141,7 +149,8 @@ bytes-take n ws h =
     let whole = ap bytes (take-append-drop n ws) in
     let split = bytes-append (take n ws) (drop n ws) in
     let len : length (bytes (take n ws)) ≡ 8 * n = omega (arith, length-bytes (take n ws), length-take-le n ws h) in
-    ap (λ (bs : List ℕ). take (8 * n) bs) (sym whole ∙ split) ∙ take_at (bytes (take n ws)) (bytes (drop n ws)) (8 * n) len
+    ap (λ (bs : List ℕ). take (8 * n) bs) (sym whole ∙ split)
+    ∙ take_at (bytes (take n ws)) (bytes (drop n ws)) (8 * n) len
 
 -- the bytes of words are bytes
 pub AreBytes-bytes : (ws : List ℕ) → AreBytes (bytes ws)
@@ -149,5 +158,7 @@ AreBytes-bytes [] i = omega arith
 AreBytes-bytes (w ∷ ws) i = AreBytes-append (word_bytes w) (bytes ws) (word_bytes-below w) (AreBytes-bytes ws) i
 
 -- the word read at the bytes of word k is that word
-pub word_number-bytes : (ws : List ℕ) (k : ℕ) → AreWords ws → k < length ws → word_number (drop (8 * k) (bytes ws)) ≡ slice_index ws k
-word_number-bytes ws k h l = sym (word_in (length ws) k (bytes ws) l) ∙ ap (λ (vs : List ℕ). slice_index vs k) (words_of_bytes ws h)
+pub word_number-bytes : (ws : List ℕ) (k : ℕ) → AreWords ws → k < length ws
+    → word_number (drop (8 * k) (bytes ws)) ≡ slice_index ws k
+word_number-bytes ws k h l = sym (word_in (length ws) k (bytes ws) l)
+    ∙ ap (λ (vs : List ℕ). slice_index vs k) (words_of_bytes ws h)

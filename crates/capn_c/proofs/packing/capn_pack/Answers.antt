@@ -5,8 +5,10 @@ use Rattle.capn_c.proofs.packing.capn_pack.Goals as goal
 
 pub returns-in-Ok-clause-only : goal.returns-in-Ok-clause-only
 returns-in-Ok-clause-only c text h =
-    let d : Delivers c.in-Ok.text.items c.deliver.result c.answer_of.result.length c.args.out.now c.deliver.new.out = search rules in
-    inr (subst (λ t. Delivers t c.deliver.result c.answer_of.result.length c.args.out.now c.deliver.new.out) (c.in-Ok.ensures.only text h) d)
+    let d : Delivers c.in-Ok.text.items c.deliver.result c.answer_of.result.length c.args.out.now c.deliver.new.out =
+    search rules in
+    inr (subst (λ t. Delivers t c.deliver.result c.answer_of.result.length c.args.out.now c.deliver.new.out)
+    (c.in-Ok.ensures.only text h) d)
 
 pub returns-in-Err-NotWhole-clause-only : goal.returns-in-Err-NotWhole-clause-only
 returns-in-Err-NotWhole-clause-only c text h =

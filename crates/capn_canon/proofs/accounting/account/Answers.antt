@@ -4,7 +4,11 @@ use Rattle.capn_canon.proofs.Accounted.{surveyed_only, surveyed_short}
 use Rattle.capn_canon.proofs.accounting.account.Goals as goal
 
 pub returns-clause-only : goal.returns-clause-only
-returns-clause-only g c = surveyed_only c.in_form.result c.args.form c.args.bytes.now c.args.limits c.in_form.ensures.found c.in_form.ensures.refused
+returns-clause-only g c =
+    surveyed_only c.in_form.result c.args.form c.args.bytes.now c.args.limits c.in_form.ensures.found
+    c.in_form.ensures.refused
 
 pub returns-clause-short : goal.returns-clause-short
-returns-clause-short g c = surveyed_short c.in_form.result c.args.form c.args.bytes.now c.args.limits (omega arith) (omega arith) (omega arith) c.in_form.ensures.found
+returns-clause-short g c =
+    surveyed_short c.in_form.result c.args.form c.args.bytes.now c.args.limits (omega arith) (omega arith) (omega arith)
+    c.in_form.ensures.found

@@ -7,11 +7,20 @@ use Rattle.capn_canon.proofs.accounting.of_packed.Goals as goal
 pub returns-in-Ok-clause-found : goal.returns-in-Ok-clause-found
 returns-in-Ok-clause-found g c =
     let u : Unpacks c.args.bytes.now c.args.limits.message_words c.as_slice.result.now =
-    record { packs = rw c.as_slice.ensures.value c.in-Ok.ensures.found; room = rw c.as_slice.ensures.value (omega (arith, c.in-Ok.ensures.within)) } in
+    record {
+      packs = rw c.as_slice.ensures.value c.in-Ok.ensures.found;
+      room =
+          rw c.as_slice.ensures.value (omega (arith, c.in-Ok.ensures.within));
+    } in
     packed_surveys c.of_frame.result c.args.bytes.now c.as_slice.result.now c.args.limits u c.of_frame.ensures.found
 
 pub returns-in-Ok-clause-refused : goal.returns-in-Ok-clause-refused
 returns-in-Ok-clause-refused g c =
     let u : Unpacks c.args.bytes.now c.args.limits.message_words c.as_slice.result.now =
-    record { packs = rw c.as_slice.ensures.value c.in-Ok.ensures.found; room = rw c.as_slice.ensures.value (omega (arith, c.in-Ok.ensures.within)) } in
-    packed_unaccepted_err c.of_frame.result c.args.bytes.now c.as_slice.result.now c.args.limits u c.of_frame.ensures.refused
+    record {
+      packs = rw c.as_slice.ensures.value c.in-Ok.ensures.found;
+      room =
+          rw c.as_slice.ensures.value (omega (arith, c.in-Ok.ensures.within));
+    } in
+    packed_unaccepted_err c.of_frame.result c.args.bytes.now c.as_slice.result.now c.args.limits u
+    c.of_frame.ensures.refused

@@ -13,6 +13,7 @@ loop-i-preserved g c =
     let rest = packed 64 1 (words - (i + 1)) (map from_bool (drop (64 * (i + 1)) bits)) in
     ap (λ (p : List (Option ℕ)). p ++ whole rest) c.in_ok-push.ensures.ok
     ∙ word-then c.loop-i.patch c.word_of_bits.result rest
-    ∙ ap (λ (w : ℕ). c.loop-i.patch ++ whole (w ∷ rest)) (c.word_of_bits.ensures ∙ ap (number 2) (chunk-is bits (64 * i) c.min-end.result c.min-end.ensures))
+    ∙ ap (λ (w : ℕ). c.loop-i.patch ++ whole (w ∷ rest)) (c.word_of_bits.ensures
+    ∙ ap (number 2) (chunk-is bits (64 * i) c.min-end.result c.min-end.ensures))
     ∙ ap (λ (ws : List ℕ). c.loop-i.patch ++ whole ws) (sym (packed-next bits words i c.loop-i-test.true))
     ∙ c.loop-i.invariant

@@ -35,7 +35,8 @@ loop-i-preserved c =
     let r = c.loop-i.invariant.rest in
     record {
       rest = omega arith;
-      small = bit-below c.loop-i.word c.loop-i.i (get_or bits (length bits - 1 - c.loop-i.i) false) c.loop-i.invariant.small;
+      small = bit-below c.loop-i.word c.loop-i.i (get_or bits (length bits - 1 - c.loop-i.i) false)
+          c.loop-i.invariant.small;
     }
 
 pub returns : goal.returns

@@ -21,8 +21,10 @@ invariant-check_slots-loop-i l = record {
   order : l.first + l.count ≤ l.next;
   fits : l.next ≤ length l.space;
   ready : AreReady (l.space ∷ []) 0 (l.first + l.i) (l.count - l.i) l.depth l.next;
-  same : (us ts : Trees) → AreAt (l.space ∷ []) 0 (l.first + l.i) us → count us ≡ l.count - l.i → AreAt (l.space ∷ []) 0 l.first ts → count ts ≡ l.count
-      → (AreLaidAt l.space ts l.first l.end ↔ AreLaidAt l.space us (l.first + l.i) l.next) × (l.next + sizes us ≡ l.end + sizes ts);
+  same : (us ts : Trees) → AreAt (l.space ∷ []) 0 (l.first + l.i) us → count us ≡ l.count - l.i
+      → AreAt (l.space ∷ []) 0 l.first ts → count ts ≡ l.count
+      → (AreLaidAt l.space ts l.first l.end ↔ AreLaidAt l.space us (l.first + l.i) l.next)
+      × (l.next + sizes us ≡ l.end + sizes ts);
 }
 
 abbrev pub decreases-check_rows : goal.decreases-check_rows

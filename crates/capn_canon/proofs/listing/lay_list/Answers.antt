@@ -1,4 +1,5 @@
-use Rattle.std.proofs.Common.{◌≡◌, ℕ, ◌+◌, ◌*◌, ◌≤◌, List, length, set, Some, Option, ◌++◌, ap, ap₂, sym, ◌∙◌, arith, length-drop}
+use Rattle.std.proofs.Common.{◌≡◌, ℕ, ◌+◌, ◌*◌, ◌≤◌, List, length, set, Some, Option, ◌++◌, ap, ap₂, sym, ◌∙◌, arith}
+use Rattle.std.proofs.Common.{length-drop}
 use Rattle.std.proofs.lemmas.Result.{on_ok_weaker}
 use Rattle.capn_words.specs.Message.{segment_at}
 use Rattle.capn_walk.specs.At.{words_from}
@@ -21,8 +22,11 @@ returns g c =
     let k = plain-words c.args.width c.args.count c.requires.plain in
     let bits = ap (λ (x : ℕ). x * c.args.count) c.bits_of.ensures in
     on_ok_weaker c.append_bits.result
-    (λ e v i. list-laid m c.args.width c.args.count s w c.args.from p c.append_bits.new.draft v c.requires.plain (part-below m s w c.requires.message) (omega arith)
+    (λ e v i. list-laid m c.args.width c.args.count s w c.args.from p c.append_bits.new.draft v c.requires.plain
+    (part-below m s w c.requires.message) (omega arith)
     (e ∙ ap₂ (λ (x : List (Option ℕ)) (y : ℕ). x ++ whole (first_bits y (words_from m s w)))
-    (c.put.ensures ∙ ap (λ (x : ℕ). set p c.args.from (Some x)) (c.list_pointer-word.ensures ∙ ap (λ (x : ℕ). list_to c.args.from x c.args.width c.args.count) c.len.ensures)) bits)
+    (c.put.ensures
+    ∙ ap (λ (x : ℕ). set p c.args.from (Some x)) (c.list_pointer-word.ensures
+    ∙ ap (λ (x : ℕ). list_to c.args.from x c.args.width c.args.count) c.len.ensures)) bits)
     i)
     c.append_bits.ensures

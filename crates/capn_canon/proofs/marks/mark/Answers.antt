@@ -18,6 +18,7 @@ returns-clause-others g c =
     let r = c.args.word % 64 in
     let new = bit_or c.index_mut.result.now (1 * 2 ^ r % 18446744073709551616) in
     let e : c.index_mut.result.now ≡ slice_index c.args.marks.now.items (c.args.word / 64) =
-    get_or_read c.args.marks.now.items (c.args.word / 64) c.index_mut.result.now (omega arith) c.index_mut.ensures.value 0 in
+    get_or_read c.args.marks.now.items (c.args.word / 64) c.index_mut.result.now (omega arith) c.index_mut.ensures.value
+    0 in
     marked-others c.args.marks.now.items c.args.word new c.requires
     (λ i lt ne. bit_at_set_other w64 c.index_mut.result.now r (omega arith) i ne ∙ ap (λ (m : ℕ). bit_at m i) e)

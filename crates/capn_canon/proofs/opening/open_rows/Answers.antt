@@ -9,31 +9,37 @@ list_pointer-word-requires-clause-few g c =
     let m = g.S.Space.message c.args.space.now in
     let s = c.args.start.segment in
     let a = kept_each-le m s (c.args.start.word + 0) c.args.words (c.args.words + c.args.slots) c.args.count in
-    let b = kept_each-le m s (c.args.start.word + c.args.words) c.args.slots (c.args.words + c.args.slots) c.args.count in
+    let b = kept_each-le m s (c.args.start.word + c.args.words) c.args.slots (c.args.words + c.args.slots)
+    c.args.count in
     let e = c.kept_in_rows-kept.ensures in
     let f = c.kept_in_rows-below.ensures in
-    less-times c.args.count (c.kept_in_rows-kept.result + c.kept_in_rows-below.result) (c.args.words + c.args.slots) _ (omega arith) c.requires.span
+    less-times c.args.count (c.kept_in_rows-kept.result + c.kept_in_rows-below.result) (c.args.words + c.args.slots) _
+    (omega arith) c.requires.span
 
 pub tag_word-requires-clause-words : goal.tag_word-requires-clause-words
 tag_word-requires-clause-words g c =
-    let a = kept_each-le (g.S.Space.message c.args.space.now) c.args.start.segment (c.args.start.word + 0) c.args.words (c.args.words + c.args.slots) c.args.count in
+    let a = kept_each-le (g.S.Space.message c.args.space.now) c.args.start.segment (c.args.start.word + 0) c.args.words
+    (c.args.words + c.args.slots) c.args.count in
     let e = c.kept_in_rows-kept.ensures in
     omega arith
 
 pub tag_word-requires-clause-slots : goal.tag_word-requires-clause-slots
 tag_word-requires-clause-slots g c =
-    let b = kept_each-le (g.S.Space.message c.args.space.now) c.args.start.segment (c.args.start.word + c.args.words) c.args.slots (c.args.words + c.args.slots) c.args.count in
+    let b = kept_each-le (g.S.Space.message c.args.space.now) c.args.start.segment (c.args.start.word + c.args.words)
+    c.args.slots (c.args.words + c.args.slots) c.args.count in
     let f = c.kept_in_rows-below.ensures in
     omega arith
 
 pub push_rows-requires-clause-part : goal.push_rows-requires-clause-part
 push_rows-requires-clause-part g c =
-    let a = kept_each-le (g.S.Space.message c.args.space.now) c.args.start.segment (c.args.start.word + 0) c.args.words (c.args.words + c.args.slots) c.args.count in
+    let a = kept_each-le (g.S.Space.message c.args.space.now) c.args.start.segment (c.args.start.word + 0) c.args.words
+    (c.args.words + c.args.slots) c.args.count in
     let e = c.kept_in_rows-kept.ensures in
     omega arith
 
 pub push_rows-requires-clause-parts : goal.push_rows-requires-clause-parts
 push_rows-requires-clause-parts g c =
-    let b = kept_each-le (g.S.Space.message c.args.space.now) c.args.start.segment (c.args.start.word + c.args.words) c.args.slots (c.args.words + c.args.slots) c.args.count in
+    let b = kept_each-le (g.S.Space.message c.args.space.now) c.args.start.segment (c.args.start.word + c.args.words)
+    c.args.slots (c.args.words + c.args.slots) c.args.count in
     let f = c.kept_in_rows-below.ensures in
     omega arith

@@ -5,6 +5,8 @@ use Rattle.capn_canon.proofs.opening.push_each.Given as goal
 abbrev pub invariant-loop-row : goal.invariant-loop-row
 invariant-loop-row g l = record {
   next : l.next ≡ l.start.word + l.row * l.step;
-  rest : l.draft ++ row_cells (g.S.Space.message l.space) l.start.segment l.next l.step l.inset l.words l.slots (l.count - l.row)
-      ≡ l.initial.draft ++ row_cells (g.S.Space.message l.space) l.start.segment l.start.word l.step l.inset l.words l.slots l.count;
+  rest : l.draft
+      ++ row_cells (g.S.Space.message l.space) l.start.segment l.next l.step l.inset l.words l.slots (l.count - l.row)
+      ≡ l.initial.draft
+      ++ row_cells (g.S.Space.message l.space) l.start.segment l.start.word l.step l.inset l.words l.slots l.count;
 }

@@ -15,6 +15,7 @@ returns-clause-ok g c =
     let e : length cs ≡ size = omega arith in
     written_over c.args.bytes.now.items c.append_room.new.bytes.items c.deref_mut.result.now c.write_u16_into.new.dst
     c.in_ok-start.start size (pad size) c.append_room.new.bytes.len
-    c.in_ok-start.ensures.ok c.deref_mut.ensures.value c.in_ok-start.ensures.start (ap length c.write_u16_into.ensures ∙ e) c.append_room.new.bytes.ok.0
+    c.in_ok-start.ensures.ok c.deref_mut.ensures.value c.in_ok-start.ensures.start (ap length c.write_u16_into.ensures
+    ∙ e) c.append_room.new.bytes.ok.0
     ∙ ap (λ (ys : List ℕ). c.args.bytes.now.items ++ (ys ++ replicate (pad size) 0)) c.write_u16_into.ensures
     ∙ ap (λ (k : ℕ). c.args.bytes.now.items ++ (cs ++ replicate (pad k) 0)) (sym e)

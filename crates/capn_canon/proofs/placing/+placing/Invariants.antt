@@ -23,11 +23,13 @@ decreases-lay_target g l = 5 * l.depth
 
 abbrev pub invariant-lay_slots-loop-i : goal.invariant-lay_slots-loop-i
 invariant-lay_slots-loop-i g l = record {
-  rest : (us ts : Trees) → AreAt (g.S.Space.message l.space) l.start.segment (l.start.word + l.i) us → count us ≡ l.count - l.i
+  rest : (us ts : Trees) → AreAt (g.S.Space.message l.space) l.start.segment (l.start.word + l.i) us
+      → count us ≡ l.count - l.i
       → AreAt (g.S.Space.message l.space) l.start.segment l.start.word ts → count ts ≡ l.count
       → laid_slots (l.count - l.i) us (l.first + l.i) l.draft ≡ laid_slots l.count ts l.first l.initial.draft;
   inside : l.first + l.count ≤ length l.draft;
-  ready : AreReady (g.S.Space.message l.space) l.start.segment (l.start.word + l.i) (l.count - l.i) l.depth (length l.draft);
+  ready : AreReady (g.S.Space.message l.space) l.start.segment (l.start.word + l.i) (l.count - l.i) l.depth
+      (length l.draft);
 }
 
 abbrev pub decreases-lay_rows : goal.decreases-lay_rows
@@ -37,8 +39,11 @@ abbrev pub invariant-lay_rows-loop-row : goal.invariant-lay_rows-loop-row
 invariant-lay_rows-loop-row g l = record {
   next : l.next ≡ l.start.word + l.row * (l.words + l.slots);
   fits : l.own + (l.count - l.row) * (l.rows.words + l.rows.slots) ≤ 2 ^ 29;
-  ready : RowsReady (g.S.Space.message l.space) l.start.segment l.next l.words l.slots (l.count - l.row) l.depth l.rows.words l.rows.slots l.own l.draft;
-  rest : (cs bs : Bodies) → RowsAt (g.S.Space.message l.space) l.words l.slots l.start.segment l.next cs → count_rows cs ≡ l.count - l.row
+  ready : RowsReady (g.S.Space.message l.space) l.start.segment l.next l.words l.slots (l.count - l.row) l.depth
+      l.rows.words l.rows.slots l.own l.draft;
+  rest : (cs bs : Bodies) → RowsAt (g.S.Space.message l.space) l.words l.slots l.start.segment l.next cs
+      → count_rows cs ≡ l.count - l.row
       → RowsAt (g.S.Space.message l.space) l.words l.slots l.start.segment l.start.word bs → count_rows bs ≡ l.count
-      → laid_rows l.rows.words l.rows.slots cs l.own l.draft ≡ laid_rows l.rows.words l.rows.slots bs l.rows.first l.initial.draft;
+      → laid_rows l.rows.words l.rows.slots cs l.own l.draft
+      ≡ laid_rows l.rows.words l.rows.slots bs l.rows.first l.initial.draft;
 }

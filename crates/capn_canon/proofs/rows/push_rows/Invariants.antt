@@ -6,6 +6,7 @@ use Rattle.capn_canon.proofs.rows.push_rows.Given as goal
 
 abbrev pub invariant-loop-row : goal.invariant-loop-row
 invariant-loop-row g l = record {
-  rest : l.patch ++ row_holes l.words l.slots (rows_of (drop l.row-index l.rows)) ≡ l.initial.patch ++ row_holes l.words l.slots (rows_of l.rows);
+  rest : l.patch ++ row_holes l.words l.slots (rows_of (drop l.row-index l.rows)) ≡ l.initial.patch
+      ++ row_holes l.words l.slots (rows_of l.rows);
   wide : AreWide l.words l.slots (rows_of (drop l.row-index l.rows));
 }

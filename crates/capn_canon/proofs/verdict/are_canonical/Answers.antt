@@ -15,7 +15,8 @@ returns-in-Some c v i =
     let h = c.in-Some.ensures v i in
     let e = h.1 in
     let l = c.words_of.ensures in (
-      (λ t. let q = eqb-true c.in-Some.end c.words_of.result t in words-stand all v o c.requires.some h.0 (omega arith)),
+      (λ t. let q = eqb-true c.in-Some.end c.words_of.result t in
+          words-stand all v o c.requires.some h.0 (omega arith)),
       (λ w. let s = (stand-words all v o c.requires.some w).1 in eq-eqb c.in-Some.end c.words_of.result (omega arith)),
     )
 

@@ -1,4 +1,5 @@
-use Rattle.std.proofs.Common.{arith, ap, sym, subst, ◌≡◌, ◌<◌, ◌≤◌, ◌∙◌, refl, ◌∷◌, [], get_or, take, length, slice_range, replicate, ◌+◌, ◌-◌, ◌*◌, ◌^◌}
+use Rattle.std.proofs.Common.{arith, ap, sym, subst, ◌≡◌, ◌<◌, ◌≤◌, ◌∙◌, refl, ◌∷◌, [], get_or, take, length}
+use Rattle.std.proofs.Common.{slice_range, replicate, ◌+◌, ◌-◌, ◌*◌, ◌^◌}
 use Rattle.std.proofs.lemmas.List.{take-replicate}
 use Rattle.std.specs.Prelude.{count_ones}
 use Rattle.capn_pack.specs.Group.Group.{Zeros, Named}
@@ -26,7 +27,9 @@ returns-else-end-limit-clause-some c =
       text = take_two rest (omega arith) ∙ ap (λ b. b ∷ more ∷ []) c.in-0.is;
       counted = refl;
       fits = omega arith;
-      content = stored c.args.block.now (replicate 64 0) c.store_zeros.new.block (replicate (8 * (1 + more)) 0) c.args.fill 64 (8 * (1 + more)) end (omega arith) (omega arith) (omega arith) c.store_zeros.ensures (take-replicate (8 * (1 + more)) 64 0 (omega arith));
+      content = stored c.args.block.now (replicate 64 0) c.store_zeros.new.block (replicate (8 * (1 + more)) 0)
+          c.args.fill 64 (8 * (1 + more)) end (omega arith) (omega arith) (omega arith) c.store_zeros.ensures
+          (take-replicate (8 * (1 + more)) 64 0 (omega arith));
     } in
     (1 + more, subst (λ n. Takes rest 8 n (1 + more) front new) taken step)
 
@@ -45,7 +48,8 @@ returns-in_default-clause-some c =
       group = Named tag c.spread_far-word.result;
       is_group = (omega arith, omega arith, omega arith, c.spread_far-word.ensures.named);
       within = omega (arith, eight_ones tag (omega arith));
-      text = take_first _ rest (omega arith) ∙ ap (λ l. tag ∷ l) (sym (take_tail _ rest) ∙ sym c.spread_far-word.ensures.bytes);
+      text = take_first _ rest (omega arith)
+          ∙ ap (λ l. tag ∷ l) (sym (take_tail _ rest) ∙ sym c.spread_far-word.ensures.bytes);
       counted = refl;
       fits = omega arith;
       content = c.store_word.ensures;

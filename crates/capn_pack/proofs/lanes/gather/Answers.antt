@@ -7,4 +7,5 @@ pub swizzle : goal.swizzle
 swizzle c = subst (SwzOk w8 16 16 0) (sym c.gather_places-places.ensures) (gather_ok c.args.tag (omega arith))
 
 pub returns : goal.returns
-returns c = gather_all c.args.tag c.args.word c.widened-lanes.result c.gather_places-places.result (omega arith) (omega arith) c.widened-lanes.ensures c.gather_places-places.ensures
+returns c = gather_all c.args.tag c.args.word c.widened-lanes.result c.gather_places-places.result (omega arith)
+    (omega arith) c.widened-lanes.ensures c.gather_places-places.ensures

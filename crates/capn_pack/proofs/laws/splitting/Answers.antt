@@ -5,4 +5,5 @@ pub returns-clause-all : goal.returns-clause-all
 returns-clause-all c b old = let s = splits_all b old in (s.rest, s.new, s.len, s.splits)
 
 pub returns-clause-one : goal.returns-clause-one
-returns-clause-one c b rest other old new also len more s t = let e = one_split b rest other old new also len more s t in (e.0, e.1.0, e.1.1)
+returns-clause-one c b rest other old new also len more s t = let e =
+    one_split b rest other old new also len more s t in (e.0, e.1.0, e.1.1)

@@ -5,16 +5,21 @@ use Rattle.capn_pack.specs.Laws.StreamLemmas.{join_past, join_whole, join_open}
 use Rattle.capn_pack.proofs.pieces.join_first.Goals as goal
 
 pub overflow_sub-result : goal.overflow_sub-result
-overflow_sub-result g c = join_past _ c.args.piece.now _ _ _ _ _ _ _ _ (omega arith) c.fill.ensures.joined c.requires.begun c.in-Ok.ensures.ok
+overflow_sub-result g c =
+    join_past _ c.args.piece.now _ _ _ _ _ _ _ _ (omega arith) c.fill.ensures.joined c.requires.begun c.in-Ok.ensures.ok
 
 pub returns-in-Ok-clause-joined : goal.returns-in-Ok-clause-joined
-returns-in-Ok-clause-joined g c = join_whole _ c.args.piece.now _ c.fill.new.held _ c.min-more.result _ _ _ _ _ (omega arith) (omega arith) c.fill.ensures.joined c.requires.begun c.in-Ok.ensures.ok
+returns-in-Ok-clause-joined g c =
+    join_whole _ c.args.piece.now _ c.fill.new.held _ c.min-more.result _ _ _ _ _ (omega arith) (omega arith)
+    c.fill.ensures.joined c.requires.begun c.in-Ok.ensures.ok
 
 pub returns-in-Err-Cut-clause-joined : goal.returns-in-Err-Cut-clause-joined
 returns-in-Err-Cut-clause-joined g c =
     let cut = c.in-Err-Cut.ensures in
     let is = ap Err c.in-Err-Cut.field-0-is in
-    join_open c.args.held.now c.args.piece.now _ _ _ c.min-more.result _ _ _ _ (omega arith) (omega arith) (elim (cases_lt 2049 (length c.args.piece.now)) [ inl h ↦ inr (omega arith) | inr h ↦ inl (omega arith) ]) (omega arith) c.fill.ensures.joined refl refl (cut.short is) (cut.cut is) cut.err
+    join_open c.args.held.now c.args.piece.now _ _ _ c.min-more.result _ _ _ _ (omega arith) (omega arith)
+    (elim (cases_lt 2049 (length c.args.piece.now)) [ inl h ↦ inr (omega arith) | inr h ↦ inl (omega arith) ])
+    (omega arith) c.fill.ensures.joined refl refl (cut.short is) (cut.cut is) cut.err
 
 pub returns-in-Err-Memory-clause-wanted : goal.returns-in-Err-Memory-clause-wanted
 returns-in-Err-Memory-clause-wanted g c none =

@@ -3,4 +3,9 @@ use Rattle.capn_pack.proofs.LaneLemmas.{pushed}
 use Rattle.capn_pack.proofs.putting.push_named.Goals as goal
 
 pub returns : goal.returns
-returns g c = record { ok = pushed _ _ _ _ _ _ _ (omega arith) c.in_ok-extend_from_slice.ensures.items c.truncate.ensures.items c.gather.ensures }
+returns g c =
+    record {
+      ok =
+          pushed _ _ _ _ _ _ _ (omega arith) c.in_ok-extend_from_slice.ensures.items c.truncate.ensures.items
+          c.gather.ensures;
+    }

@@ -6,7 +6,9 @@ pub returns-then-tag-lt7-clause-last : goal.returns-then-tag-lt7-clause-last
 returns-then-tag-lt7-clause-last c less d = not_dense _ (rw (c.tag.ensures, c.word_at.ensures) at c.if-tag-lt7.true) d
 
 pub loop-count-preserved : goal.loop-count-preserved
-loop-count-preserved c = dense_more _ _ _ c.loop-count.invariant (omega arith) (omega arith) (rw (c.tag.ensures, c.word_at.ensures) at c.if-tag-lt7.false)
+loop-count-preserved c =
+    dense_more _ _ _ c.loop-count.invariant (omega arith) (omega arith)
+    (rw (c.tag.ensures, c.word_at.ensures) at c.if-tag-lt7.false)
 
 pub returns-else-start-count-clause-last : goal.returns-else-start-count-clause-last
 returns-else-start-count-clause-last c less d =

@@ -4,7 +4,9 @@ use Rattle.capn_pack.specs.Tag.{tag_of}
 use Rattle.capn_pack.proofs.runs.zero_run.Goals as goal
 
 pub loop-count-preserved : goal.loop-count-preserved
-loop-count-preserved c = zero_more _ _ _ c.loop-count.invariant (omega arith) (omega arith) (sym (ap tag_of c.word_at.ensures) ∙ sym c.tag.ensures ∙ c.if-tag-ne0.false)
+loop-count-preserved c =
+    zero_more _ _ _ c.loop-count.invariant (omega arith) (omega arith) (sym (ap tag_of c.word_at.ensures)
+    ∙ sym c.tag.ensures ∙ c.if-tag-ne0.false)
 
 pub returns-else-start-count-clause-last : goal.returns-else-start-count-clause-last
 returns-else-start-count-clause-last c less e =

@@ -13,7 +13,8 @@ returns-clause-ok g c =
       group = Named tag c.spread-word.result;
       is_group = (omega arith, omega arith, omega arith, c.spread-word.ensures.named);
       within = omega arith;
-      text = take_first _ rest (omega arith) ∙ ap (λ l. tag ∷ l) (sym (take_tail _ rest) ∙ sym c.spread-word.ensures.bytes);
+      text = take_first _ rest (omega arith)
+          ∙ ap (λ l. tag ∷ l) (sym (take_tail _ rest) ∙ sym c.spread-word.ensures.bytes);
       counted = refl;
       fits = omega arith;
       content = c.in_ok-extend_from_slice.ensures.items;
@@ -25,4 +26,5 @@ returns-in_err-extend_from_slice-clause-wanted g c is =
     let tag = get_or rest 0 0 in
     starts rest (1 + count_ones tag) c.args.room (Named tag c.spread-word.result)
     (omega arith, omega arith, omega arith, c.spread-word.ensures.named)
-    (take_first _ rest (omega arith) ∙ ap (λ l. tag ∷ l) (sym (take_tail _ rest) ∙ sym c.spread-word.ensures.bytes)) (omega arith)
+    (take_first _ rest (omega arith)
+    ∙ ap (λ l. tag ∷ l) (sym (take_tail _ rest) ∙ sym c.spread-word.ensures.bytes)) (omega arith)

@@ -12,10 +12,12 @@ returns-clause-ok g c =
       group = Raw (slice_range rest 1 9) more (slice_range rest 10 (10 + 8 * more));
       is_group = raw_is_group rest more (omega arith) (omega (arith, c.type_inv.rest 9));
       within = omega arith;
-      text = take_raw_text rest more (omega arith) ∙ ap (λ b. b ∷ slice_range rest 1 9 ++ more ∷ slice_range rest 10 (10 + 8 * more)) c.requires.tag;
+      text = take_raw_text rest more (omega arith)
+          ∙ ap (λ b. b ∷ slice_range rest 1 9 ++ more ∷ slice_range rest 10 (10 + 8 * more)) c.requires.tag;
       counted = refl;
       fits = omega arith;
-      content = c.in_ok-extend_from_slice-2.ensures.items ∙ rw (c.in_ok-extend_from_slice.ensures.items, append_assoc, c.reserve.ensures.items) refl;
+      content = c.in_ok-extend_from_slice-2.ensures.items
+          ∙ rw (c.in_ok-extend_from_slice.ensures.items, append_assoc, c.reserve.ensures.items) refl;
     }
 
 pub returns-in_err-reserve-clause-wanted : goal.returns-in_err-reserve-clause-wanted

@@ -14,7 +14,10 @@ returns-clause-ok g c =
       text = take_two rest (omega arith) ∙ ap (λ b. b ∷ get_or rest 1 0 ∷ []) c.requires.tag;
       counted = refl;
       fits = omega arith;
-      content = c.in_ok-resize.ensures.items ∙ rw c.len-len.ensures (resized c.args.out.now.items (vec_len c.args.out.now) (8 * (1 + get_or rest 1 0)) (omega (arith, c.args.out.now.ok.0)));
+      content = c.in_ok-resize.ensures.items
+          ∙ rw c.len-len.ensures
+          (resized c.args.out.now.items (vec_len c.args.out.now) (8 * (1 + get_or rest 1 0))
+          (omega (arith, c.args.out.now.ok.0)));
     }
 
 pub returns-in_err-resize-clause-wanted : goal.returns-in_err-resize-clause-wanted

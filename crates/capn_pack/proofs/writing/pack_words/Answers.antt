@@ -3,10 +3,14 @@ use Rattle.capn_pack.proofs.writing.pack_words.Goals as goal
 
 pub loop-at-preserved-then-at-bytes : goal.loop-at-preserved-then-at-bytes
 loop-at-preserved-then-at-bytes g c =
-    puts_more _ _ _ _ _ _ _ (puts_join _ _ _ _ _ _ _ _ c.loop-at.invariant c.store_groups-stored.ensures.row c.in_ok-extend_from_slice.ensures.items) c.in_ok-at.ensures
+    puts_more _ _ _ _ _ _ _
+    (puts_join _ _ _ _ _ _ _ _ c.loop-at.invariant c.store_groups-stored.ensures.row
+    c.in_ok-extend_from_slice.ensures.items) c.in_ok-at.ensures
 
 pub loop-at-preserved : goal.loop-at-preserved
-loop-at-preserved g c = puts_join _ _ _ _ _ _ _ _ c.loop-at.invariant c.store_groups-stored.ensures.row c.in_ok-extend_from_slice.ensures.items
+loop-at-preserved g c =
+    puts_join _ _ _ _ _ _ _ _ c.loop-at.invariant c.store_groups-stored.ensures.row
+    c.in_ok-extend_from_slice.ensures.items
 
 pub returns-clause-chosen : goal.returns-clause-chosen
 returns-clause-chosen g c = puts_all _ _ _ c.loop-at.invariant c.loop-at-test.false

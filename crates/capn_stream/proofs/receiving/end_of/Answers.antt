@@ -3,4 +3,9 @@ use Rattle.capn_stream.specs.Laws.Wanting.{unfinished_frame}
 use Rattle.capn_stream.proofs.receiving.end_of.Goals as goal
 
 pub returns-in-Ok : goal.returns-in-Ok
-returns-in-Ok g c = elim c.in-Ok.ensures.1 [ inl none ↦ none | inr frame ↦ absurd (unfinished_frame c.args.framer.rest c.args.framer.most c.requires.part frame) ]
+returns-in-Ok g c =
+    elim c.in-Ok.ensures.1 [
+      | inl none ↦ none
+      | inr frame ↦
+          absurd (unfinished_frame c.args.framer.rest c.args.framer.most c.requires.part frame)
+    ]

@@ -13,12 +13,15 @@ loop-segment-preserved g c =
     let message = g.S.Space.message c.args.space.now in
     let here : c.loop-segment.segment < length message = omega arith in
     let size : c.unwrap_or.result ≡ length (segment_at message c.loop-segment.segment) =
-    c.unwrap_or.ensures ∙ ap (λ (o : Option ℕ). unwrap_or o 0) (c.words.ensures ∙ words_of-some message c.loop-segment.segment here) in
+    c.unwrap_or.ensures
+    ∙ ap (λ (o : Option ℕ). unwrap_or o 0) (c.words.ensures ∙ words_of-some message c.loop-segment.segment here) in
     record {
       so_far = omega arith;
       text =
           c.put_entry-in-loop-segment.ensures
           ∙ ap (λ (xs : List ℕ). xs ++ entry c.unwrap_or.result) c.loop-segment.invariant.text
-          ∙ append_assoc (entry (length message - 1)) (flat_map (λ ws. entry (length ws)) (take c.loop-segment.segment message)) (entry c.unwrap_or.result)
-          ∙ ap (λ (xs : List ℕ). entry (length message - 1) ++ xs) (sym (sizes_more message c.loop-segment.segment c.unwrap_or.result here size));
+          ∙ append_assoc (entry (length message - 1))
+          (flat_map (λ ws. entry (length ws)) (take c.loop-segment.segment message)) (entry c.unwrap_or.result)
+          ∙ ap (λ (xs : List ℕ). entry (length message - 1) ++ xs)
+          (sym (sizes_more message c.loop-segment.segment c.unwrap_or.result here size));
     }

@@ -7,5 +7,6 @@ use Rattle.capn_stream.proofs.sending.put_head.Given as goal
 abbrev pub invariant-loop-segment : goal.invariant-loop-segment
 invariant-loop-segment g l = record {
   so_far : l.at ≡ 4 + 4 * l.segment;
-  text : take l.at l.head ≡ entry (length (g.S.Space.message l.space) - 1) ++ flat_map (λ ws. entry (length ws)) (take l.segment (g.S.Space.message l.space));
+  text : take l.at l.head ≡ entry (length (g.S.Space.message l.space) - 1)
+      ++ flat_map (λ ws. entry (length ws)) (take l.segment (g.S.Space.message l.space));
 }

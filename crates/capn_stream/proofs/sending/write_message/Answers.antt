@@ -1,4 +1,5 @@
-use Rattle.std.proofs.Common.{◌≡◌, ◌<◌, ◌+◌, ◌++◌, List, ℕ, take, drop, replicate, length, arith, sym, subst, ap, ◌∙◌, append_assoc}
+use Rattle.std.proofs.Common.{◌≡◌, ◌<◌, ◌+◌, ◌++◌, List, ℕ, take, drop, replicate, length, arith, sym, subst, ap, ◌∙◌}
+use Rattle.std.proofs.Common.{append_assoc}
 use Rattle.std.proofs.lemmas.List.{take_all}
 use Rattle.std.specs.Io.KnownBytes.{Appends}
 use Rattle.capn_words.specs.Watching.{HasBegun, inner_of}
@@ -13,7 +14,8 @@ in_two : (message : List (List ℕ)) → frame_text message ≡ head_text messag
 in_two message = sym (append_assoc (table message) (replicate (padding (length message)) 0) (contents message))
 
 -- and those of some segments and of the rest
-in_three : (message : List (List ℕ)) (s : ℕ) → frame_text message ≡ (head_text message ++ contents (take s message)) ++ contents (drop s message)
+in_three : (message : List (List ℕ)) (s : ℕ)
+    → frame_text message ≡ (head_text message ++ contents (take s message)) ++ contents (drop s message)
 in_three message s =
     in_two message
     ∙ ap (λ (xs : List ℕ). head_text message ++ xs) (contents_split message s)
@@ -22,7 +24,8 @@ in_three message s =
 pub returns-in_err-write_table-clause-begun : goal.returns-in_err-write_table-clause-begun
 returns-in_err-write_table-clause-begun g c =
     let message = g.S.Space.message c.args.space.now in
-    begun_front _ _ (head_text message) (contents message) (frame_text message) (in_two message) c.in_err-write_table.ensures.begun
+    begun_front _ _ (head_text message) (contents message) (frame_text message) (in_two message)
+    c.in_err-write_table.ensures.begun
 
 pub returns-in_err-write_all-clause-begun : goal.returns-in_err-write_all-clause-begun
 returns-in_err-write_all-clause-begun g c =
@@ -30,10 +33,14 @@ returns-in_err-write_all-clause-begun g c =
     let s = c.loop-segment.segment in
     let here : s < length message = omega arith in
     let part = rw c.bytes_of.ensures at c.in_err-write_all.ensures.begun in
-    let begun = begun_more _ _ _ (head_text message ++ contents (take s message)) (bytes (segment_at message s)) c.loop-segment.invariant.written part in
-    let same : head_text message ++ contents (take (s + 1) message) ≡ (head_text message ++ contents (take s message)) ++ bytes (segment_at message s) =
-    ap (λ (xs : List ℕ). head_text message ++ xs) (contents_more message s here) ∙ sym (append_assoc (head_text message) (contents (take s message)) (bytes (segment_at message s))) in
-    begun_front _ _ ((head_text message ++ contents (take s message)) ++ bytes (segment_at message s)) (contents (drop (s + 1) message)) (frame_text message)
+    let begun = begun_more _ _ _ (head_text message ++ contents (take s message)) (bytes (segment_at message s))
+    c.loop-segment.invariant.written part in
+    let same : head_text message ++ contents (take (s + 1) message) ≡ (head_text message ++ contents (take s message))
+    ++ bytes (segment_at message s) =
+    ap (λ (xs : List ℕ). head_text message ++ xs) (contents_more message s here)
+    ∙ sym (append_assoc (head_text message) (contents (take s message)) (bytes (segment_at message s))) in
+    begun_front _ _ ((head_text message ++ contents (take s message)) ++ bytes (segment_at message s))
+    (contents (drop (s + 1) message)) (frame_text message)
     (in_three message (s + 1) ∙ ap (λ (xs : List ℕ). xs ++ contents (drop (s + 1) message)) same) begun
 
 pub returns-clause-begun : goal.returns-clause-begun

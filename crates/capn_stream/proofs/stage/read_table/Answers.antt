@@ -6,9 +6,11 @@ use Rattle.capn_stream.proofs.WholeFrames.{sizes_read, sum-sizes_read}
 use Rattle.capn_stream.proofs.stage.read_table.Goals as goal
 
 -- the sum of all sizes that were read
-all_words : (bs : List ℕ) (segments : ℕ) → segments ≡ announced_segments bs → sum (entries segments (take (length bs - 4) (drop 4 bs))) ≡ announced_words bs
+all_words : (bs : List ℕ) (segments : ℕ) → segments ≡ announced_segments bs
+    → sum (entries segments (take (length bs - 4) (drop 4 bs))) ≡ announced_words bs
 all_words bs segments count =
-    ap (λ (n : ℕ). sum (entries n (take (length bs - 4) (drop 4 bs)))) count ∙ ap (λ (xs : List ℕ). sum (entries (announced_segments bs) xs)) (take_rest bs 4)
+    ap (λ (n : ℕ). sum (entries n (take (length bs - 4) (drop 4 bs)))) count
+    ∙ ap (λ (xs : List ℕ). sum (entries (announced_segments bs) xs)) (take_rest bs 4)
 
 pub ends_of-requires-clause-room : goal.ends_of-requires-clause-room
 ends_of-requires-clause-room g c =

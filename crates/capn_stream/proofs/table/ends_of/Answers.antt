@@ -17,7 +17,8 @@ pub loop-index-preserved : goal.loop-index-preserved
 loop-index-preserved g c =
     let sizes : List ℕ = entries c.loop-index.index c.args.sizes.now in
     let size : ℕ = entry_number (drop (4 * c.loop-index.index) c.args.sizes.now) in
-    let end : c.loop-index.end + c.entry_at-end.result ≡ 0 + sum sizes + size = omega (arith, c.loop-index.invariant.end, c.entry_at-end.ensures) in
+    let end : c.loop-index.end + c.entry_at-end.result ≡ 0 + sum sizes + size =
+    omega (arith, c.loop-index.invariant.end, c.entry_at-end.ensures) in
     record {
       ends =
           c.in_ok-push.ensures.items

@@ -5,4 +5,5 @@ use Rattle.capn_stream.proofs.table.ends_of.Given as goal
 
 -- where the segments so far end, and the last of them
 abbrev pub invariant-loop-index : goal.invariant-loop-index
-invariant-loop-index g l = record { ends : l.ends.items ≡ ends_from 0 (entries l.index l.sizes); end : l.end ≡ sum (entries l.index l.sizes) }
+invariant-loop-index g l =
+    record { ends : l.ends.items ≡ ends_from 0 (entries l.index l.sizes); end : l.end ≡ sum (entries l.index l.sizes) }

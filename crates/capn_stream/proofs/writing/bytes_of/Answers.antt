@@ -9,4 +9,5 @@ pub returns : goal.returns
 returns g c =
     let size = words_of_is (g.S.Space.message c.args.space.now) c.args.segment c.args.words c.requires in
     c.bytes.ensures
-    ∙ take_all (8 * c.args.words) (bytes (segment_at (g.S.Space.message c.args.space.now) c.args.segment)) (omega (arith, size, length-bytes (segment_at (g.S.Space.message c.args.space.now) c.args.segment)))
+    ∙ take_all (8 * c.args.words) (bytes (segment_at (g.S.Space.message c.args.space.now) c.args.segment))
+    (omega (arith, size, length-bytes (segment_at (g.S.Space.message c.args.space.now) c.args.segment)))

@@ -6,4 +6,6 @@ use Rattle.capn_stream.proofs.writing.put_table.Given as goal
 -- the count and the sizes so far stand behind what was there
 abbrev pub invariant-loop-segment : goal.invariant-loop-segment
 invariant-loop-segment g l =
-    l.text.items ≡ l.fn.text.items ++ (entry (length (g.S.Space.message l.space) - 1) ++ flat_map (λ ws. entry (length ws)) (take l.segment (g.S.Space.message l.space)))
+    l.text.items ≡ l.fn.text.items
+    ++ (entry (length (g.S.Space.message l.space) - 1)
+    ++ flat_map (λ ws. entry (length ws)) (take l.segment (g.S.Space.message l.space)))

@@ -9,14 +9,17 @@ use Rattle.capn_tool.proofs.hearing.run_each.Goals as goal
 pub returns-in-Err : goal.returns-in-Err
 returns-in-Err g c =
     let i = c.pieces.invariant in
-    runs_unread c.args.piece c.args.limits _ _ _ _ _ c.pieces.taken c.pieces.framer.rest _ _ (grind (arith, common_steps)) i.within i.heard i.part c.in-Err.ensures.bytes
+    runs_unread c.args.piece c.args.limits _ _ _ _ _ c.pieces.taken c.pieces.framer.rest _ _
+    (grind (arith, common_steps)) i.within i.heard i.part c.in-Err.ensures.bytes
 
 pub returns-in-Ok-eq0 : goal.returns-in-Ok-eq0
 returns-in-Ok-eq0 g c =
     let i = c.pieces.invariant in
     let room = length-take c.min-room.result c.pieces.buffer in
-    let ends = subst (λ (m : ℕ). EndsInput c.pieces.framer.rest m c.end_of_input.result) i.most c.end_of_input.ensures in
-    runs_end c.args.piece c.args.limits _ _ _ _ _ c.pieces.taken c.pieces.framer.rest c.read.new.buf c.in-Ok-eq0.field-0 _ _ c.end_of_input.result (grind (arith, common_steps)) i.writer i.within i.heard c.in-Ok-eq0.field-0-test
+    let ends = subst (λ (m : ℕ). EndsInput c.pieces.framer.rest m c.end_of_input.result) i.most
+    c.end_of_input.ensures in
+    runs_end c.args.piece c.args.limits _ _ _ _ _ c.pieces.taken c.pieces.framer.rest c.read.new.buf c.in-Ok-eq0.field-0
+    _ _ c.end_of_input.result (grind (arith, common_steps)) i.writer i.within i.heard c.in-Ok-eq0.field-0-test
     c.in-Ok-eq0.ensures.bytes (omega arith) ends
 
 pub returns-in_err-serve_piece-in-Ok : goal.returns-in_err-serve_piece-in-Ok
@@ -26,8 +29,11 @@ returns-in_err-serve_piece-in-Ok g c =
     let bound = c.in-Ok.ensures.bound in
     let room = length-take c.min-room.result c.pieces.buffer in
     rw (p.1, p.2)
-    (runs_stopped c.args.piece c.args.limits _ _ _ _ _ _ c.pieces.taken c.pieces.framer.rest c.read.new.buf (drop c.min-room.result c.pieces.buffer) c.min-within.result c.in-Ok.count _ _ c.in_err-serve_piece-in-Ok.field-0.0
-    (grind (arith, common_steps)) i.within c.min-within.ensures (omega arith) i.heard c.in-Ok.ensures.bytes.0 bound.0 c.in_err-serve_piece-in-Ok.ensures)
+    (runs_stopped c.args.piece c.args.limits _ _ _ _ _ _ c.pieces.taken c.pieces.framer.rest c.read.new.buf
+    (drop c.min-room.result c.pieces.buffer) c.min-within.result c.in-Ok.count _ _
+    c.in_err-serve_piece-in-Ok.field-0.0
+    (grind (arith, common_steps)) i.within c.min-within.ensures (omega arith) i.heard c.in-Ok.ensures.bytes.0 bound.0
+    c.in_err-serve_piece-in-Ok.ensures)
 
 pub returns-then-within-count : goal.returns-then-within-count
 returns-then-within-count g c =
@@ -36,8 +42,10 @@ returns-then-within-count g c =
     let room = length-take c.min-room.result c.pieces.buffer in
     let served = c.in_ok-serve_piece-in-Ok.ensures in
     let part = subst (λ (m : ℕ). IsUnfinished c.serve_piece.new.framer.rest m) i.most served.1 in
-    runs_long c.args.piece c.args.limits _ _ _ _ _ _ c.pieces.taken c.pieces.framer.rest c.serve_piece.new.framer.rest c.read.new.buf (drop c.min-room.result c.pieces.buffer) c.min-within.result c.in-Ok.count _ _
-    (grind (arith, common_steps)) served.4 (omega arith) c.if-within-count.true (omega arith) i.heard c.in-Ok.ensures.bytes.0 bound.0 served.0 part
+    runs_long c.args.piece c.args.limits _ _ _ _ _ _ c.pieces.taken c.pieces.framer.rest c.serve_piece.new.framer.rest
+    c.read.new.buf (drop c.min-room.result c.pieces.buffer) c.min-within.result c.in-Ok.count _ _
+    (grind (arith, common_steps)) served.4 (omega arith) c.if-within-count.true (omega arith) i.heard
+    c.in-Ok.ensures.bytes.0 bound.0 served.0 part
 
 pub pieces-preserved : goal.pieces-preserved
 pieces-preserved g c =
@@ -51,5 +59,7 @@ pieces-preserved g c =
       most = served.2 ∙ i.most;
       part = subst (λ (m : ℕ). IsUnfinished c.serve_piece.new.framer.rest m) i.most served.1;
       within = omega arith;
-      heard = hears_more c.args.piece c.args.limits _ _ _ _ _ _ c.pieces.taken c.pieces.framer.rest c.serve_piece.new.framer.rest c.read.new.buf (drop c.min-room.result c.pieces.buffer) c.min-within.result c.in-Ok.count (omega arith) i.heard c.in-Ok.ensures.bytes.0 bound.0 served.0;
+      heard = hears_more c.args.piece c.args.limits _ _ _ _ _ _ c.pieces.taken c.pieces.framer.rest
+          c.serve_piece.new.framer.rest c.read.new.buf (drop c.min-room.result c.pieces.buffer) c.min-within.result
+          c.in-Ok.count (omega arith) i.heard c.in-Ok.ensures.bytes.0 bound.0 served.0;
     }

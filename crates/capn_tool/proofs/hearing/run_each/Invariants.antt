@@ -13,7 +13,8 @@ invariant-pieces g l = record {
   most : l.framer.most ≡ l.limits.message_words;
   part : IsUnfinished l.framer.rest l.limits.message_words;
   within : l.taken ≤ 2 ^ 32;
-  heard : Hears l.piece l.limits (g.R.Read.remaining (inner_of l.fn.reader)) (g.R.Read.remaining (inner_of l.reader)) l.taken l.framer.rest
+  heard : Hears l.piece l.limits (g.R.Read.remaining (inner_of l.fn.reader)) (g.R.Read.remaining (inner_of l.reader))
+      l.taken l.framer.rest
       (g.W.Write.contents (inner_of l.fn.writer)) (g.W.Write.contents (inner_of l.writer));
 }
 

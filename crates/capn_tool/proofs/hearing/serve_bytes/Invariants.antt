@@ -13,7 +13,8 @@ invariant-loop-at g l = record {
   most : l.framer.most ≡ l.fn.framer.most;
   part : IsUnfinished l.framer.rest l.fn.framer.most;
   within : l.at ≤ length l.bytes;
-  told : Tells l.piece l.limits (l.fn.framer.rest ++ take l.at l.bytes) l.framer.rest (outgoing (g.W.Write.contents (inner_of l.fn.writer)) l.fn.text.items)
+  told : Tells l.piece l.limits (l.fn.framer.rest ++ take l.at l.bytes) l.framer.rest
+      (outgoing (g.W.Write.contents (inner_of l.fn.writer)) l.fn.text.items)
       (outgoing (g.W.Write.contents (inner_of l.writer)) l.text.items);
 }
 

@@ -5,30 +5,36 @@ use Rattle.capn_tool.proofs.input.read_all.Goals as goal
 pub returns-in-Ok-eq0-clause-exact : goal.returns-in-Ok-eq0-clause-exact
 returns-in-Ok-eq0-clause-exact g c =
     let room = length-take c.min-room.result c.pieces.piece in
-    read_end _ _ _ c.pieces.bytes.items c.read.new.buf c.in-Ok-eq0.field-0 c.in-Ok-eq0.field-0-test c.pieces.invariant.read c.in-Ok-eq0.ensures.bytes (omega arith) c.pieces.invariant.room
+    read_end _ _ _ c.pieces.bytes.items c.read.new.buf c.in-Ok-eq0.field-0 c.in-Ok-eq0.field-0-test
+    c.pieces.invariant.read c.in-Ok-eq0.ensures.bytes (omega arith) c.pieces.invariant.room
 
 pub returns-then-is_err-clause-bounded : goal.returns-then-is_err-clause-bounded
 returns-then-is_err-clause-bounded g c =
     let bound = c.in-Ok.ensures.bound in
     let room = length-take c.min-room.result c.pieces.piece in
-    read_more _ _ _ c.pieces.bytes.items c.read.new.buf c.in-Ok.count (λ n. n ≤ 2 ^ 32 + 1) c.pieces.invariant.read c.in-Ok.ensures.bytes.0 bound.0 (omega arith)
+    read_more _ _ _ c.pieces.bytes.items c.read.new.buf c.in-Ok.count (λ n. n ≤ 2 ^ 32 + 1) c.pieces.invariant.read
+    c.in-Ok.ensures.bytes.0 bound.0 (omega arith)
 
 pub returns-then-len-count-gt-MOST_BYTES-clause-bounded : goal.returns-then-len-count-gt-MOST_BYTES-clause-bounded
 returns-then-len-count-gt-MOST_BYTES-clause-bounded g c =
     let bound = c.in-Ok.ensures.bound in
     let room = length-take c.min-room.result c.pieces.piece in
-    read_more _ _ _ c.pieces.bytes.items c.read.new.buf c.in-Ok.count (λ n. n ≤ 2 ^ 32 + 1) c.pieces.invariant.read c.in-Ok.ensures.bytes.0 bound.0 (omega arith)
+    read_more _ _ _ c.pieces.bytes.items c.read.new.buf c.in-Ok.count (λ n. n ≤ 2 ^ 32 + 1) c.pieces.invariant.read
+    c.in-Ok.ensures.bytes.0 bound.0 (omega arith)
 
 pub returns-then-is_err-2-clause-bounded : goal.returns-then-is_err-2-clause-bounded
 returns-then-is_err-2-clause-bounded g c =
     let bound = c.in-Ok.ensures.bound in
     let room = length-take c.min-room.result c.pieces.piece in
-    read_more _ _ _ c.pieces.bytes.items c.read.new.buf c.in-Ok.count (λ n. n ≤ 2 ^ 32 + 1) c.pieces.invariant.read c.in-Ok.ensures.bytes.0 bound.0 (omega arith)
+    read_more _ _ _ c.pieces.bytes.items c.read.new.buf c.in-Ok.count (λ n. n ≤ 2 ^ 32 + 1) c.pieces.invariant.read
+    c.in-Ok.ensures.bytes.0 bound.0 (omega arith)
 
 pub returns-then-len-count-gt-MOST_BYTES-clause-exact : goal.returns-then-len-count-gt-MOST_BYTES-clause-exact
 returns-then-len-count-gt-MOST_BYTES-clause-exact g c =
     let bound = c.in-Ok.ensures.bound in
     let room = length-take c.min-room.result c.pieces.piece in
-    let ok : is_ok c.extend_from_slice.result ≡ true = is_ok_from c.extend_from_slice.result c.is_err.result c.is_err.ensures.value c.if-is_err.false in
+    let ok : is_ok c.extend_from_slice.result ≡ true =
+    is_ok_from c.extend_from_slice.result c.is_err.result c.is_err.ensures.value c.if-is_err.false in
     let items = rw ok at c.extend_from_slice.ensures.items in
-    read_past_kept _ _ _ c.pieces.bytes.items c.read.new.buf _ _ c.in-Ok.count _ items c.pieces.invariant.read c.in-Ok.ensures.bytes.0 bound.0 (omega arith) (omega arith) (omega arith)
+    read_past_kept _ _ _ c.pieces.bytes.items c.read.new.buf _ _ c.in-Ok.count _ items c.pieces.invariant.read
+    c.in-Ok.ensures.bytes.0 bound.0 (omega arith) (omega arith) (omega arith)

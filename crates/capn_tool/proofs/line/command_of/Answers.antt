@@ -1,4 +1,5 @@
-use Rattle.std.proofs.Common.{◌≡◌, map, List, Option, Some, None, IsSome, Result, Ok, Err, IsErr, IsErrAnd, sym, ap, subst, ◌∙◌}
+use Rattle.std.proofs.Common.{◌≡◌, map, List, Option, Some, None, IsSome, Result, Ok, Err, IsErr, IsErrAnd, sym, ap}
+use Rattle.std.proofs.Common.{subst, ◌∙◌}
 use Rattle.clap.specs.Words.{App, Row, Text, is_simple, subcommand_of, takes}
 use Rattle.clap.specs.Words.{kind_of}
 use Rattle.clap.specs.declared.error.Error.{Error}
@@ -22,7 +23,8 @@ returns-in-Some-order-clause-means g c =
           let o = sym w.order-is ∙ c.in-Some-order.is in
           let means = rw o at w.order_of-order.ensures.means in
           let of_line = sym (ap (λ (a : App). subcommand_of a words) line) ∙ sym rows in
-          let is = entered _ _ _ _ c.subcommand.result _ _ w.in-Some.is c.subcommand.ensures.name c.subcommand.ensures.rows in
+          let is = entered _ _ _ _ c.subcommand.result _ _ w.in-Some.is c.subcommand.ensures.name
+          c.subcommand.ensures.rows in
           subst (λ (s : Option (Text × List Row)). Means s c.in-Some-order.command) (sym (of_line ∙ is)) means
       | in-None w ↦ absurd (let o = sym w.order-is ∙ c.in-Some-order.is in cc)
     ]
@@ -41,7 +43,8 @@ pub returns-in_err-matches-clause-only : goal.returns-in_err-matches-clause-only
 returns-in_err-matches-clause-only g c taken command means =
     let line = c.in_ok-tool_command.ensures in
     let words = map g.S.AsStr.text c.args.words.now in
-    told_memory command c.in_err-matches.field-0.0 _ (c.in_err-matches.ensures.passes (ap (λ (a : App). takes a words) line ∙ taken))
+    told_memory command c.in_err-matches.field-0.0 _
+    (c.in_err-matches.ensures.passes (ap (λ (a : App). takes a words) line ∙ taken))
     c.from_residual-in_err-matches.ensures
 
 -- a command that is there is not missing
@@ -57,7 +60,8 @@ returns-clause-only g c taken command means =
     let of_line = ap (λ (a : App). subcommand_of a words) (sym line) in
     elim c.match-subcommand.branch [
       | in-Some w ↦
-          let is = entered _ _ _ _ c.subcommand.result _ _ w.in-Some.is c.subcommand.ensures.name c.subcommand.ensures.rows in
+          let is = entered _ _ _ _ c.subcommand.result _ _ w.in-Some.is c.subcommand.ensures.name
+          c.subcommand.ensures.rows in
           let said = subst (λ (s : Option (Text × List Row)). Means s command) (of_line ∙ (sym rows ∙ is)) means in
           absurd (not_missing _ _ c.in-None-order.is w.order-is (w.order_of-order.ensures.served command said))
       | in-None w ↦

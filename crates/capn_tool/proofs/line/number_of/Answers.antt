@@ -8,11 +8,16 @@ use Rattle.capn_tool.proofs.line.number_of.Goals as goal
 pub returns-clause-read : goal.returns-clause-read
 returns-clause-read c =
     let m = found_of c.args.matches.now in
-    let got = read_some (λ bs r. ParsesUnsigned 32 10 bs r × ExplainsUnsignedError 10 bs r × HasUnsignedDigitsIfOk bs r) (one_text m c.args.id.now) c.get_one.result c.in_ok-number.number c.get_one.ensures.none c.get_one.ensures.value c.in_ok-number.was in
+    let got = read_some (λ bs r. ParsesUnsigned 32 10 bs r × ExplainsUnsignedError 10 bs r
+    × HasUnsignedDigitsIfOk bs r) (one_text m c.args.id.now) c.get_one.result c.in_ok-number.number
+    c.get_one.ensures.none c.get_one.ensures.value c.in_ok-number.was in
     (got.0, sym (one_text-rows m c.args.id.now) ∙ got.1, got.2.0.0.0, got.2.0.1)
 
 pub returns-in_err-number-clause-served : goal.returns-in_err-number-clause-served
 returns-in_err-number-clause-served c n (text, is, numeral, value) small =
     let m = found_of c.args.matches.now in
-    absurd (read_there (λ bs r. ParsesUnsigned 32 10 bs r × ExplainsUnsignedError 10 bs r × HasUnsignedDigitsIfOk bs r) (one_text m c.args.id.now) c.get_one.result
-    text (one_text-rows m c.args.id.now ∙ is) c.get_one.ensures.value (λ e gives. gives.0 (numeral, subst (λ (k : ℕ). k < 2 ^ 32) value small)) c.in_err-number.was)
+    absurd (read_there (λ bs r. ParsesUnsigned 32 10 bs r × ExplainsUnsignedError 10 bs r
+    × HasUnsignedDigitsIfOk bs r) (one_text m c.args.id.now) c.get_one.result
+    text (one_text-rows m c.args.id.now
+    ∙ is) c.get_one.ensures.value (λ e gives. gives.0 (numeral, subst (λ (k : ℕ). k < 2 ^ 32) value small))
+    c.in_err-number.was)

@@ -12,7 +12,8 @@ loop-at-init g c = record {
   most = refl;
   part = c.requires.part;
   within = omega arith;
-  told = packed_none c.args.piece c.args.limits c.args.unpacker.now c.args.framer.now.rest _ c.requires.group c.requires.offset c.requires.held;
+  told = packed_none c.args.piece c.args.limits c.args.unpacker.now c.args.framer.now.rest _ c.requires.group
+      c.requires.offset c.requires.held;
 }
 
 pub returns-in_err-serve_slice : goal.returns-in_err-serve_slice
@@ -20,7 +21,9 @@ returns-in_err-serve_slice g c =
     let i = c.loop-at.invariant in
     let p = err_from_is_err_and c.from_residual.result c.from_residual.ensures.1 in
     rw (p.1, p.2)
-    (slice_stop c.args.piece c.args.limits c.args.unpacker.now c.args.framer.now.rest c.args.bytes.now c.loop-at.at c.min-end.result (omega arith) c.loop-at.unpacker c.loop-at.framer.rest _ _ i.told _ _ c.in_err-serve_slice.field-0.0
+    (slice_stop c.args.piece c.args.limits c.args.unpacker.now c.args.framer.now.rest c.args.bytes.now c.loop-at.at
+    c.min-end.result (omega arith) c.loop-at.unpacker c.loop-at.framer.rest _ _ i.told _ _
+    c.in_err-serve_slice.field-0.0
     c.in_err-serve_slice.ensures)
 
 pub loop-at-preserved : goal.loop-at-preserved
@@ -34,6 +37,8 @@ loop-at-preserved g c =
       most = next.2 ∙ i.most;
       part = subst (λ (m : ℕ). IsUnfinished c.serve_slice.new.framer.rest m) i.most next.1;
       within = omega arith;
-      told = slice_more c.args.piece c.args.limits c.args.unpacker.now c.args.framer.now.rest c.args.bytes.now c.loop-at.at c.min-end.result (omega arith) c.loop-at.unpacker c.loop-at.framer.rest _ _ i.told c.serve_slice.new.unpacker
+      told = slice_more c.args.piece c.args.limits c.args.unpacker.now c.args.framer.now.rest c.args.bytes.now
+          c.loop-at.at c.min-end.result (omega arith) c.loop-at.unpacker c.loop-at.framer.rest _ _ i.told
+          c.serve_slice.new.unpacker
           c.serve_slice.new.framer.rest _ next.0;
     }

@@ -14,7 +14,8 @@ invariant-loop-at g l = record {
   most : l.framer.most ≡ l.fn.framer.most;
   part : IsUnfinished l.framer.rest l.fn.framer.most;
   within : l.at ≤ length l.bytes;
-  told : TellsPacked l.piece l.limits l.fn.unpacker l.fn.framer.rest (take l.at l.bytes) l.unpacker l.framer.rest (outgoing (g.W.Write.contents (inner_of l.fn.writer)) l.fn.text.items)
+  told : TellsPacked l.piece l.limits l.fn.unpacker l.fn.framer.rest (take l.at l.bytes) l.unpacker l.framer.rest
+      (outgoing (g.W.Write.contents (inner_of l.fn.writer)) l.fn.text.items)
       (outgoing (g.W.Write.contents (inner_of l.writer)) l.text.items);
 }
 

@@ -1,8 +1,11 @@
 use Rattle.std.proofs.Common.{arith, ap, ◌∙◌}
 use Rattle.capn_value.specs.Tree.{joined, joined_rows}
 use Rattle.capn_value.specs.View.{trees_of, rows_of}
-use Rattle.capn_value.proofs.Copies.{nil_kept, node_kept, voids_kept, bits_kept, bytes_kept, pairs_kept, quads_kept, octs_kept, links_kept, rows_kept, cap_kept, each_copied, all_copied, row_copied, rows_copied}
-use Rattle.capn_value.proofs.Depths.{falls, falls_above, steps_down, in_body, in_links, in_rows, in_node, item_below, row_below}
+use Rattle.capn_value.proofs.Copies.{nil_kept, node_kept, voids_kept, bits_kept, bytes_kept, pairs_kept, quads_kept}
+use Rattle.capn_value.proofs.Copies.{octs_kept, links_kept, rows_kept, cap_kept, each_copied, all_copied, row_copied}
+use Rattle.capn_value.proofs.Copies.{rows_copied}
+use Rattle.capn_value.proofs.Depths.{falls, falls_above, steps_down, in_body, in_links, in_rows, in_node, item_below}
+use Rattle.capn_value.proofs.Depths.{row_below}
 use Rattle.capn_value.proofs.copying.+copy.Goals as goal
 
 pub copy_of-returns-in-Nil : goal.copy_of-returns-in-Nil
@@ -61,7 +64,8 @@ copy_of_rows-loop-row-init g t c = ap (λ o. joined_rows (rows_of o) (rows_of c.
 pub copy_of_rows-loop-row-preserved : goal.copy_of_rows-loop-row-preserved
 copy_of_rows-loop-row-preserved g t c =
     row_copied c.loop-row.out c.args.rows.now _ c.loop-row.invariant c.row-item.result c.in_ok-copy_of_body.field-0
-    (omega arith) c.row-item.is c.in_ok-copy_of_body.ensures.words c.in_ok-copy_of_body.ensures.slots c.in_ok-push.ensures.ok
+    (omega arith) c.row-item.is c.in_ok-copy_of_body.ensures.words c.in_ok-copy_of_body.ensures.slots
+    c.in_ok-push.ensures.ok
 
 pub copy_of_rows-returns : goal.copy_of_rows-returns
 copy_of_rows-returns g t c = rows_copied c.loop-row.out c.args.rows.now _ c.loop-row.invariant (omega arith)
@@ -73,16 +77,20 @@ pub copy_of_body-returns-clause-slots : goal.copy_of_body-returns-clause-slots
 copy_of_body-returns-clause-slots g t c = c.in_ok-slots.ensures ∙ ap trees_of c.as_slice.ensures
 
 pub copy_of-copy_of_body-requires : goal.copy_of-copy_of_body-requires
-copy_of-copy_of_body-requires g t c κs within = (falls _ _ _ t c.decreases (in_node c.args.v.now _ c.in-Node.is), within)
+copy_of-copy_of_body-requires g t c κs within =
+    (falls _ _ _ t c.decreases (in_node c.args.v.now _ c.in-Node.is), within)
 
 pub copy_of-copy_of_each-requires : goal.copy_of-copy_of_each-requires
-copy_of-copy_of_each-requires g t c κs within = (falls_above _ _ _ t c.decreases (in_links c.args.v.now c.in-Links.is c.as_slice.ensures), within)
+copy_of-copy_of_each-requires g t c κs within =
+    (falls_above _ _ _ t c.decreases (in_links c.args.v.now c.in-Links.is c.as_slice.ensures), within)
 
 pub copy_of-copy_of_rows-requires : goal.copy_of-copy_of_rows-requires
-copy_of-copy_of_rows-requires g t c κs within = (falls_above _ _ _ t c.decreases (in_rows c.args.v.now c.in-Rows.is c.as_slice-in-Rows.ensures), within)
+copy_of-copy_of_rows-requires g t c κs within =
+    (falls_above _ _ _ t c.decreases (in_rows c.args.v.now c.in-Rows.is c.as_slice-in-Rows.ensures), within)
 
 pub copy_of_body-copy_of_each-requires : goal.copy_of_body-copy_of_each-requires
-copy_of_body-copy_of_each-requires g t c κs within = (falls_above _ _ _ t c.decreases (in_body c.args.body.now c.as_slice.ensures), within)
+copy_of_body-copy_of_each-requires g t c κs within =
+    (falls_above _ _ _ t c.decreases (in_body c.args.body.now c.as_slice.ensures), within)
 
 pub copy_of_each-copy_of-requires : goal.copy_of_each-copy_of-requires
 copy_of_each-copy_of-requires g t c κs within =

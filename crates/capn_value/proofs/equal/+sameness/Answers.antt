@@ -1,10 +1,17 @@
 use Rattle.std.proofs.Common.{arith, refl, sym, ap₂, ◌∙◌}
-use Rattle.capn_value.specs.Views.{tree_of-Nil, tree_of-Node, tree_of-Voids, tree_of-Bits, tree_of-Bytes, tree_of-Pairs, tree_of-Quads, tree_of-Octs, tree_of-Links, tree_of-Rows, tree_of-Cap, count-trees_of, count_rows-rows_of}
-use Rattle.capn_value.proofs.Apart.{not_nil, not_node, not_voids, not_bits, not_bytes, not_pairs, not_quads, not_octs, not_links, not_rows, not_cap, test_slots-past_shared, test_each-uneven, test_rows-uneven}
-use Rattle.capn_value.proofs.Pairwise.{ended, in_left, in_right, fails, holds, words_differ, words_agree, each_differs, each_agrees, each_tested, slots_differ, slots_agree, row_differs, row_agrees, rows_tested}
+use Rattle.capn_value.specs.Views.{tree_of-Nil, tree_of-Node, tree_of-Voids, tree_of-Bits, tree_of-Bytes, tree_of-Pairs}
+use Rattle.capn_value.specs.Views.{tree_of-Quads, tree_of-Octs, tree_of-Links, tree_of-Rows, tree_of-Cap}
+use Rattle.capn_value.specs.Views.{count-trees_of, count_rows-rows_of}
+use Rattle.capn_value.proofs.Apart.{not_nil, not_node, not_voids, not_bits, not_bytes, not_pairs, not_quads, not_octs}
+use Rattle.capn_value.proofs.Apart.{not_links, not_rows, not_cap, test_slots-past_shared, test_each-uneven}
+use Rattle.capn_value.proofs.Apart.{test_rows-uneven}
+use Rattle.capn_value.proofs.Pairwise.{ended, in_left, in_right, fails, holds, words_differ, words_agree, each_differs}
+use Rattle.capn_value.proofs.Pairwise.{each_agrees, each_tested, slots_differ, slots_agree, row_differs, row_agrees}
+use Rattle.capn_value.proofs.Pairwise.{rows_tested}
 use Rattle.capn_value.specs.View.{trees_of, rows_of}
 use Rattle.capn_value.specs.SameTest.{test_slots, test_each, test_rows}
-use Rattle.capn_value.proofs.Depths.{falls, falls_above, steps_down, in_body, in_links, in_rows, in_node, item_below, row_below}
+use Rattle.capn_value.proofs.Depths.{falls, falls_above, steps_down, in_body, in_links, in_rows, in_node, item_below}
+use Rattle.capn_value.proofs.Depths.{row_below}
 use Rattle.capn_value.proofs.equal.+sameness.Goals as goal
 
 pub test-returns-in-Nil-Nil : goal.test-returns-in-Nil-Nil
@@ -85,12 +92,16 @@ test-returns-in-Links-Links g t c =
       tree_of-Links c.in-Links-Links.xs,
       tree_of-Links c.in-Links-Links.ys,
     )
-    (c.test_each.ensures ∙ ap₂ (λ xs ys. test_each (trees_of xs) (trees_of ys)) c.as_slice-in-Links-Links.ensures c.as_slice-in-Links-Links-2.ensures)
+    (c.test_each.ensures
+    ∙ ap₂ (λ xs ys. test_each (trees_of xs) (trees_of ys)) c.as_slice-in-Links-Links.ensures
+    c.as_slice-in-Links-Links-2.ensures)
 
 pub test-returns-in-Rows-Rows : goal.test-returns-in-Rows-Rows
 test-returns-in-Rows-Rows g t c =
     rw (c.in-Rows-Rows.is-0, c.in-Rows-Rows.is-1, tree_of-Rows c.in-Rows-Rows.xs, tree_of-Rows c.in-Rows-Rows.ys)
-    (c.test_rows.ensures ∙ ap₂ (λ xs ys. test_rows (rows_of xs) (rows_of ys)) c.as_slice-in-Rows-Rows.ensures c.as_slice-in-Rows-Rows-2.ensures)
+    (c.test_rows.ensures
+    ∙ ap₂ (λ xs ys. test_rows (rows_of xs) (rows_of ys)) c.as_slice-in-Rows-Rows.ensures
+    c.as_slice-in-Rows-Rows-2.ensures)
 
 pub test-returns-in-Cap-Cap : goal.test-returns-in-Cap-Cap
 test-returns-in-Cap-Cap g t c =
@@ -146,7 +157,8 @@ test_slots-returns-else-are_null g t c =
 
 pub test_bodies-returns-else-test_words : goal.test_bodies-returns-else-test_words
 test_bodies-returns-else-test_words g t c =
-    words_differ c.as_slice.ensures c.as_slice-2.ensures c.test_words.ensures (test_slots (trees_of c.args.a.now.slots) (trees_of c.args.b.now.slots))
+    words_differ c.as_slice.ensures c.as_slice-2.ensures c.test_words.ensures
+    (test_slots (trees_of c.args.a.now.slots) (trees_of c.args.b.now.slots))
     c.if-test_words.false
 
 pub test_bodies-returns-then-test_words : goal.test_bodies-returns-then-test_words
@@ -156,16 +168,19 @@ test_bodies-returns-then-test_words g t c =
 
 pub test_each-returns-then-a-b : goal.test_each-returns-then-a-b
 test_each-returns-then-a-b g t c =
-    sym (test_each-uneven _ _ (λ e. c.if-a-b.true (sym (count-trees_of c.args.a.now) ∙ e ∙ count-trees_of c.args.b.now)))
+    sym (test_each-uneven _ _
+    (λ e. c.if-a-b.true (sym (count-trees_of c.args.a.now) ∙ e ∙ count-trees_of c.args.b.now)))
 
 pub test_each-returns-then-not-test : goal.test_each-returns-then-not-test
 test_each-returns-then-not-test g t c =
-    each_differs c.args.a.now c.args.b.now _ c.loop-i.invariant c.index-a-i.result c.index-b-i.result (omega arith) (omega arith)
+    each_differs c.args.a.now c.args.b.now _ c.loop-i.invariant c.index-a-i.result c.index-b-i.result (omega arith)
+    (omega arith)
     c.index-a-i.is c.index-b-i.is c.test.ensures c.if-not-test.true
 
 pub test_each-loop-i-preserved : goal.test_each-loop-i-preserved
 test_each-loop-i-preserved g t c =
-    each_agrees c.args.a.now c.args.b.now _ c.loop-i.invariant c.index-a-i.result c.index-b-i.result (omega arith) (omega arith)
+    each_agrees c.args.a.now c.args.b.now _ c.loop-i.invariant c.index-a-i.result c.index-b-i.result (omega arith)
+    (omega arith)
     c.index-a-i.is c.index-b-i.is c.test.ensures c.if-not-test.false
 
 pub test_each-returns : goal.test_each-returns
@@ -173,16 +188,19 @@ test_each-returns g t c = each_tested c.args.a.now c.args.b.now _ c.loop-i.invar
 
 pub test_rows-returns-then-a-b : goal.test_rows-returns-then-a-b
 test_rows-returns-then-a-b g t c =
-    sym (test_rows-uneven _ _ (λ e. c.if-a-b.true (sym (count_rows-rows_of c.args.a.now) ∙ e ∙ count_rows-rows_of c.args.b.now)))
+    sym (test_rows-uneven _ _
+    (λ e. c.if-a-b.true (sym (count_rows-rows_of c.args.a.now) ∙ e ∙ count_rows-rows_of c.args.b.now)))
 
 pub test_rows-returns-then-not-test_bodies : goal.test_rows-returns-then-not-test_bodies
 test_rows-returns-then-not-test_bodies g t c =
-    row_differs c.args.a.now c.args.b.now _ c.loop-i.invariant c.index-a-i.result c.index-b-i.result (omega arith) (omega arith)
+    row_differs c.args.a.now c.args.b.now _ c.loop-i.invariant c.index-a-i.result c.index-b-i.result (omega arith)
+    (omega arith)
     c.index-a-i.is c.index-b-i.is c.test_bodies.ensures c.if-not-test_bodies.true
 
 pub test_rows-loop-i-preserved : goal.test_rows-loop-i-preserved
 test_rows-loop-i-preserved g t c =
-    row_agrees c.args.a.now c.args.b.now _ c.loop-i.invariant c.index-a-i.result c.index-b-i.result (omega arith) (omega arith)
+    row_agrees c.args.a.now c.args.b.now _ c.loop-i.invariant c.index-a-i.result c.index-b-i.result (omega arith)
+    (omega arith)
     c.index-a-i.is c.index-b-i.is c.test_bodies.ensures c.if-not-test_bodies.false
 
 pub test_rows-returns : goal.test_rows-returns
@@ -191,24 +209,32 @@ test_rows-returns g t c = rows_tested c.args.a.now c.args.b.now _ c.loop-i.invar
 pub test_slots-returns-then-not-test : goal.test_slots-returns-then-not-test
 test_slots-returns-then-not-test g t c =
     slots_differ c.args.a.now c.args.b.now _ c.loop-i.invariant c.index-a-i.result c.index-b-i.result
-    (in_left _ _ _ _ c.min-shared.ensures c.loop-i-test.true) (in_right _ _ _ _ c.min-shared.ensures c.loop-i-test.true) c.index-a-i.is c.index-b-i.is c.test.ensures c.if-not-test.true
+    (in_left _ _ _ _ c.min-shared.ensures c.loop-i-test.true) (in_right _ _ _ _ c.min-shared.ensures c.loop-i-test.true)
+    c.index-a-i.is c.index-b-i.is c.test.ensures c.if-not-test.true
 
 pub test_slots-loop-i-preserved : goal.test_slots-loop-i-preserved
 test_slots-loop-i-preserved g t c =
     slots_agree c.args.a.now c.args.b.now _ c.loop-i.invariant c.index-a-i.result c.index-b-i.result
-    (in_left _ _ _ _ c.min-shared.ensures c.loop-i-test.true) (in_right _ _ _ _ c.min-shared.ensures c.loop-i-test.true) c.index-a-i.is c.index-b-i.is c.test.ensures c.if-not-test.false
+    (in_left _ _ _ _ c.min-shared.ensures c.loop-i-test.true) (in_right _ _ _ _ c.min-shared.ensures c.loop-i-test.true)
+    c.index-a-i.is c.index-b-i.is c.test.ensures c.if-not-test.false
 
 pub test-test_bodies-requires : goal.test-test_bodies-requires
-test-test_bodies-requires g t c κs within = (falls _ _ _ t c.decreases (in_node c.args.v.now _ c.in-Node-Node.is-0), within)
+test-test_bodies-requires g t c κs within =
+    (falls _ _ _ t c.decreases (in_node c.args.v.now _ c.in-Node-Node.is-0), within)
 
 pub test-test_each-requires : goal.test-test_each-requires
-test-test_each-requires g t c κs within = (falls_above _ _ _ t c.decreases (in_links c.args.v.now c.in-Links-Links.is-0 c.as_slice-in-Links-Links.ensures), within)
+test-test_each-requires g t c κs within = (
+  falls_above _ _ _ t c.decreases (in_links c.args.v.now c.in-Links-Links.is-0 c.as_slice-in-Links-Links.ensures),
+  within,
+)
 
 pub test-test_rows-requires : goal.test-test_rows-requires
-test-test_rows-requires g t c κs within = (falls_above _ _ _ t c.decreases (in_rows c.args.v.now c.in-Rows-Rows.is-0 c.as_slice-in-Rows-Rows.ensures), within)
+test-test_rows-requires g t c κs within =
+    (falls_above _ _ _ t c.decreases (in_rows c.args.v.now c.in-Rows-Rows.is-0 c.as_slice-in-Rows-Rows.ensures), within)
 
 pub test_bodies-test_slots-requires : goal.test_bodies-test_slots-requires
-test_bodies-test_slots-requires g t c κs within = (falls_above _ _ _ t c.decreases (in_body c.args.a.now c.as_slice-then-test_words.ensures), within)
+test_bodies-test_slots-requires g t c κs within =
+    (falls_above _ _ _ t c.decreases (in_body c.args.a.now c.as_slice-then-test_words.ensures), within)
 
 pub test_each-test-requires : goal.test_each-test-requires
 test_each-test-requires g t c κs within =
@@ -219,5 +245,9 @@ test_rows-test_bodies-requires g t c κs within =
     (steps_down _ _ t c.decreases (row_below c.args.a.now _ c.index-a-i.result (omega arith) c.index-a-i.is), within)
 
 pub test_slots-test-requires : goal.test_slots-test-requires
-test_slots-test-requires g t c κs within =
-    (steps_down _ _ t c.decreases (item_below c.args.a.now _ c.index-a-i.result (in_left _ _ _ _ c.min-shared.ensures c.loop-i-test.true) c.index-a-i.is), within)
+test_slots-test-requires g t c κs within = (
+  steps_down _ _ t c.decreases
+      (item_below c.args.a.now _ c.index-a-i.result (in_left _ _ _ _ c.min-shared.ensures c.loop-i-test.true)
+      c.index-a-i.is),
+  within,
+)

@@ -7,11 +7,16 @@ use Rattle.capn_value.proofs.lines.push_byte.Goals as goal
 pub returns : goal.returns
 returns g c =
     let written : c.encode_to_slice-done.new.output ≡ encode_lower (c.args.byte ∷ []) =
-    on_ok c.encode_to_slice-done.result (c.encode_to_slice-done.ensures.fits.1 refl) c.encode_to_slice-done.ensures.written in
-    let high : c.from.result ≡ slice_index lower_digits (c.args.byte / 16) = c.from.ensures ∙ ap (λ xs. slice_index xs 0) (written ∙ encode_lower-one c.args.byte) in
-    let low : c.from-2.result ≡ slice_index lower_digits (c.args.byte % 16) = c.from-2.ensures ∙ ap (λ xs. slice_index xs 1) (written ∙ encode_lower-one c.args.byte) in
+    on_ok c.encode_to_slice-done.result (c.encode_to_slice-done.ensures.fits.1 refl)
+    c.encode_to_slice-done.ensures.written in
+    let high : c.from.result ≡ slice_index lower_digits (c.args.byte / 16) = c.from.ensures
+    ∙ ap (λ xs. slice_index xs 0) (written ∙ encode_lower-one c.args.byte) in
+    let low : c.from-2.result ≡ slice_index lower_digits (c.args.byte % 16) = c.from-2.ensures
+    ∙ ap (λ xs. slice_index xs 1) (written ∙ encode_lower-one c.args.byte) in
     let first = c.in_ok-push.ensures.ascii (rw high (digit-ascii (c.args.byte / 16))) in
     let second = c.in_ok-push-2.ensures.ascii (rw low (digit-ascii (c.args.byte % 16))) in
     rw (encode_lower-one, ← high, ← low)
-    (c.in_ok-push-2.ensures.bytes ∙ ap₂ (λ xs ys. xs ++ ys) (c.in_ok-push.ensures.bytes ∙ ap (λ xs. string_bytes c.args.out.now ++ xs) first) second
+    (c.in_ok-push-2.ensures.bytes
+    ∙ ap₂ (λ xs ys. xs ++ ys) (c.in_ok-push.ensures.bytes
+    ∙ ap (λ xs. string_bytes c.args.out.now ++ xs) first) second
     ∙ append_assoc (string_bytes c.args.out.now) (c.from.result ∷ []) (c.from-2.result ∷ []))

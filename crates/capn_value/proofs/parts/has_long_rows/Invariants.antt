@@ -5,4 +5,5 @@ use Rattle.capn_value.proofs.parts.has_long_rows.Given as goal
 
 abbrev pub invariant-loop-body : goal.invariant-loop-body
 invariant-loop-body g l =
-    min (l.words + row_words (rows_of (drop l.body-index l.bodies))) (2 ^ 64 - 1) ≡ min (row_words (rows_of l.bodies)) (2 ^ 64 - 1)
+    min (l.words + row_words (rows_of (drop l.body-index l.bodies))) (2 ^ 64 - 1)
+    ≡ min (row_words (rows_of l.bodies)) (2 ^ 64 - 1)

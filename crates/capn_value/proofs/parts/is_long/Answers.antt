@@ -1,5 +1,6 @@
 use Rattle.std.proofs.Common.{refl}
-use Rattle.capn_value.proofs.Cases.{short, voids_long, bits_long, bytes_long, pairs_long, quads_long, octs_long, links_long}
+use Rattle.capn_value.proofs.Cases.{short, voids_long, bits_long, bytes_long, pairs_long, quads_long, octs_long}
+use Rattle.capn_value.proofs.Cases.{links_long}
 use Rattle.capn_value.proofs.parts.is_long.Goals as goal
 
 pub returns-in-Nil : goal.returns-in-Nil

@@ -9,4 +9,5 @@ invariant-trimmed_front-loop-i g l = trees_of l.out ≡ front l.i (cut.trimmed_e
 
 abbrev pub invariant-trimmed_rows-loop-row : goal.invariant-trimmed_rows-loop-row
 invariant-trimmed_rows-loop-row g l =
-    joined_rows (rows_of l.out) (cut.trimmed_rows l.words l.slots (rows_of (drop l.row-index l.rows))) ≡ cut.trimmed_rows l.words l.slots (rows_of l.rows)
+    joined_rows (rows_of l.out) (cut.trimmed_rows l.words l.slots (rows_of (drop l.row-index l.rows)))
+    ≡ cut.trimmed_rows l.words l.slots (rows_of l.rows)

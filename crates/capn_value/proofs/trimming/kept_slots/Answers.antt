@@ -16,7 +16,8 @@ loop-n-preserved g c =
     let m = c.loop-n.n - 1 in
     let one_more : c.loop-n.n ≡ suc m = omega arith in
     let null : is_null (tree_at (trees_of slots) m) ≡ true =
-    ap is_null (tree_at-trees_of m slots _ (omega arith) c.index-slots-n.is) ∙ sym c.is_null.ensures ∙ c.if-is_null.true in
+    ap is_null (tree_at-trees_of m slots _ (omega arith) c.index-slots-n.is) ∙ sym c.is_null.ensures
+    ∙ c.if-is_null.true in
     record {
       within = omega arith;
       so_far = sym (kept_slots-null m (trees_of slots) (omega (arith, count-trees_of slots)) null)
@@ -29,6 +30,7 @@ returns-else-is_null g c =
     let m = c.loop-n.n - 1 in
     let one_more : c.loop-n.n ≡ suc m = omega arith in
     let some : is_null (tree_at (trees_of slots) m) ≡ false =
-    ap is_null (tree_at-trees_of m slots _ (omega arith) c.index-slots-n.is) ∙ sym c.is_null.ensures ∙ c.if-is_null.false in
+    ap is_null (tree_at-trees_of m slots _ (omega arith) c.index-slots-n.is) ∙ sym c.is_null.ensures
+    ∙ c.if-is_null.false in
     one_more ∙ sym (kept_slots-some m (trees_of slots) (omega (arith, count-trees_of slots)) some)
     ∙ ap (λ k. kept_slots (front k (trees_of slots))) (sym one_more) ∙ c.loop-n.invariant.so_far

@@ -4,7 +4,8 @@ use Rattle.capn_value.specs.View.{tree_of, trees_of}
 use Rattle.capn_value.specs.Caps.{first_cap, first_in}
 use Rattle.capn_value.proofs.FirstCaps.{cap_here, cap_later, cap_nowhere, cap_in_row, cap_below, cap_in_no_row}
 use Rattle.capn_value.specs.Views.{tree_of-Node, tree_of-Links, tree_of-Rows, tree_of-Cap}
-use Rattle.capn_value.proofs.Depths.{falls, falls_above, steps_down, in_links, in_rows, in_slots, item_below, row_slots_below}
+use Rattle.capn_value.proofs.Depths.{falls, falls_above, steps_down, in_links, in_rows, in_slots, item_below}
+use Rattle.capn_value.proofs.Depths.{row_slots_below}
 use Rattle.capn_value.proofs.value.+first_cap.Goals as goal
 
 pub first_cap-returns-in-Cap : goal.first_cap-returns-in-Cap
@@ -67,18 +68,24 @@ pub first_in_rows-returns : goal.first_in_rows-returns
 first_in_rows-returns g t c = cap_in_no_row c.args.bodies.now _ c.loop-body.invariant (omega arith)
 
 pub first_cap-first_in-requires : goal.first_cap-first_in-requires
-first_cap-first_in-requires g t c κs within = (falls_above _ _ _ t c.decreases (in_slots c.args.v.now _ c.in-Node.is c.as_slice.ensures), within)
+first_cap-first_in-requires g t c κs within =
+    (falls_above _ _ _ t c.decreases (in_slots c.args.v.now _ c.in-Node.is c.as_slice.ensures), within)
 
 pub first_cap-first_in-requires-in-Links : goal.first_cap-first_in-requires-in-Links
-first_cap-first_in-requires-in-Links g t c κs within = (falls_above _ _ _ t c.decreases (in_links c.args.v.now c.in-Links.is c.as_slice-in-Links.ensures), within)
+first_cap-first_in-requires-in-Links g t c κs within =
+    (falls_above _ _ _ t c.decreases (in_links c.args.v.now c.in-Links.is c.as_slice-in-Links.ensures), within)
 
 pub first_cap-first_in_rows-requires : goal.first_cap-first_in_rows-requires
-first_cap-first_in_rows-requires g t c κs within = (falls _ _ _ t c.decreases (in_rows c.args.v.now c.in-Rows.is c.as_slice-in-Rows.ensures), within)
+first_cap-first_in_rows-requires g t c κs within =
+    (falls _ _ _ t c.decreases (in_rows c.args.v.now c.in-Rows.is c.as_slice-in-Rows.ensures), within)
 
 pub first_in-first_cap-requires : goal.first_in-first_cap-requires
 first_in-first_cap-requires g t c κs within =
     (steps_down _ _ t c.decreases (item_below c.args.items.now _ c.v-item.result (omega arith) c.v-item.is), within)
 
 pub first_in_rows-first_in-requires : goal.first_in_rows-first_in-requires
-first_in_rows-first_in-requires g t c κs within =
-    (falls_above _ _ _ t c.decreases (row_slots_below c.args.bodies.now _ c.body-item.result (omega arith) c.body-item.is c.as_slice.ensures), within)
+first_in_rows-first_in-requires g t c κs within = (
+  falls_above _ _ _ t c.decreases
+      (row_slots_below c.args.bodies.now _ c.body-item.result (omega arith) c.body-item.is c.as_slice.ensures),
+  within,
+)

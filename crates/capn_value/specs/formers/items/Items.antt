@@ -1,4 +1,5 @@
--- How `Items` stores its elements, so that `Value` may hold `Items` of `Value`: as the `Vec` inside it does, seen as the list of its elements.
+-- How `Items` stores its elements, so that `Value` may hold `Items` of `Value`: as the `Vec` inside it does, seen as
+-- the list of its elements.
 use mathlib.Core.Path.{◌≡◌, refl, sym}
 use mathlib.Core.List.{List, []}
 use mathlib.Core.Former.{Former, this, list, via, children}
@@ -30,22 +31,28 @@ the_empty A alloc = []
 abbrev pub the_items : (A T : Type 0) → List T → List T
 the_items A T elements = elements
 
-pub the_items_listed : (A T : Type 0) (elements : List T) → listed _ (children (the_former this A) T elements) ≡ the_items A T elements
+pub the_items_listed : (A T : Type 0) (elements : List T)
+    → listed _ (children (the_former this A) T elements) ≡ the_items A T elements
 the_items_listed A T elements = list-listed T elements
 
 -- the one field, a `Vec`
 abbrev inside : Type 0 → Former {0}
-inside A = via (vec.the_former this A) (λ T. Inside T A) (λ T it. it.items) (λ T v. record { items = v }) (λ T it. refl) (λ T v. refl)
+inside A = via (vec.the_former this A) (λ T. Inside T A) (λ T it. it.items) (λ T v. record { items = v }) (λ T it. refl)
+    (λ T v. refl)
 
 module _ (A : RattleType) (G : Ghosts A.Denot) (R S : RattleType) (h : R.Denot → S.Denot) where
-  pub the_places : Alike R S h → Alike (stored.the_row R A G) (stored.the_row S A G) ((the_former this A.Denot).map R.Denot S.Denot h)
+  pub the_places : Alike R S h
+      → Alike (stored.the_row R A G) (stored.the_row S A G) ((the_former this A.Denot).map R.Denot S.Denot h)
   the_places alike =
-      view_places (inside A.Denot) (list this) (λ T. view T A.Denot G) (λ T U k it. refl) (λ T it. refl) R.Denot S.Denot h
+      view_places (inside A.Denot) (list this) (λ T. view T A.Denot G) (λ T U k it. refl) (λ T it. refl) R.Denot S.Denot
+      h
       (stored.the_row R A G).coded (stored.the_row S A G).coded
-      (invariant R.Denot A.Denot G) (invariant S.Denot A.Denot G) (λ it p q. refl) (λ it p q. refl) (λ it e. tt) (λ it e. tt)
+      (invariant R.Denot A.Denot G) (invariant S.Denot A.Denot G) (λ it p q. refl) (λ it p q. refl) (λ it e. tt)
+      (λ it e. tt)
       (over (fields.the_row R A G)) (over (fields.the_row S A G))
       (struct_places (fields.the_type R A G) (fields.the_type S A G) (vec.mapped h, tt) _ (λ d. refl) refl
       (laid _ _ _ (vec.the_places A G R S h alike), tt))
 
-  pub the_codes_placed : Recodes R S h → Recodes (stored.the_row R A G) (stored.the_row S A G) ((the_former this A.Denot).map R.Denot S.Denot h)
+  pub the_codes_placed : Recodes R S h
+      → Recodes (stored.the_row R A G) (stored.the_row S A G) ((the_former this A.Denot).map R.Denot S.Denot h)
   the_codes_placed recodes elements = sym (code_map R.coded.code S.coded.code h (λ x. sym (recodes x)) elements)

@@ -7,16 +7,19 @@ pub bounds-bytes-i : goal.bounds-bytes-i
 bounds-bytes-i g c =
     let inside = c.requires.content.within in
     let number = c.div_ceil.ensures in
-    let size = length-read (g.S.Space.message c.args.space.now) c.args.at c.div_ceil.result c.bytes-bytes.result.now c.bytes-bytes.ensures (omega arith) in
+    let size = length-read (g.S.Space.message c.args.space.now) c.args.at c.div_ceil.result c.bytes-bytes.result.now
+    c.bytes-bytes.ensures (omega arith) in
     omega arith
 
 pub loop-i-preserved : goal.loop-i-preserved
 loop-i-preserved g c =
     let inside = c.requires.content.within in
     let number = c.div_ceil.ensures in
-    let bit = is-bit (g.S.Space.message c.args.space.now) c.args.at c.div_ceil.result c.bytes-bytes.result.now c.bytes-bytes.ensures (omega arith) c.loop-i.i (omega arith) in
+    let bit = is-bit (g.S.Space.message c.args.space.now) c.args.at c.div_ceil.result c.bytes-bytes.result.now
+    c.bytes-bytes.ensures (omega arith) c.loop-i.i (omega arith) in
     record {
       number = let more = c.in_ok-push.ensures.len in let so_far = c.loop-i.invariant.number in omega arith;
-      elements = bits-more (words_from (g.S.Space.message c.args.space.now) c.args.at.segment c.args.at.word) c.loop-i.i c.loop-i.bits.items _ c.bit_of.result
+      elements = bits-more (words_from (g.S.Space.message c.args.space.now) c.args.at.segment c.args.at.word) c.loop-i.i
+          c.loop-i.bits.items _ c.bit_of.result
           c.in_ok-push.ensures.items c.loop-i.invariant.number c.loop-i.invariant.elements (c.bit_of.ensures ∙ bit);
     }

@@ -6,5 +6,6 @@ use Rattle.capn_walk.proofs.lists.bits_at.Given as goal
 abbrev pub invariant-loop-i : goal.invariant-loop-i
 invariant-loop-i g l = record {
   number : length l.bits.items ≡ l.i;
-  elements : AreElements 64 1 (words_from (g.S.Space.message l.space) l.fn.at.segment l.fn.at.word) (map from_bool l.bits.items);
+  elements : AreElements 64 1 (words_from (g.S.Space.message l.space) l.fn.at.segment l.fn.at.word)
+      (map from_bool l.bits.items);
 }

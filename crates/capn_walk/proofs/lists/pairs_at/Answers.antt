@@ -6,7 +6,8 @@ use Rattle.capn_walk.proofs.lists.pairs_at.Goals as goal
 pub read_u16_into-requires : goal.read_u16_into-requires
 read_u16_into-requires g c =
     let inside = c.requires.content.within in
-    let size = length-read (g.S.Space.message c.args.space.now) c.args.at (2 * c.args.count) c.bytes.result.now c.bytes.ensures (omega arith) in
+    let size = length-read (g.S.Space.message c.args.space.now) c.args.at (2 * c.args.count) c.bytes.result.now
+    c.bytes.ensures (omega arith) in
     let made = c.in_ok-pairs.ensures.len in
     let lent = c.deref_mut.ensures.len in
     omega arith
@@ -17,7 +18,8 @@ returns-clause-elements g c =
     let made = c.in_ok-pairs.ensures.len in
     let lent = c.deref_mut.ensures.len in
     let kept = c.read_u16_into.auto.dst in
-    let read = are-pairs (g.S.Space.message c.args.space.now) c.args.at (2 * c.args.count) c.bytes.result.now c.bytes.ensures (omega arith)
+    let read = are-pairs (g.S.Space.message c.args.space.now) c.args.at (2 * c.args.count) c.bytes.result.now
+    c.bytes.ensures (omega arith)
     c.read_u16_into.new.dst (omega arith) c.read_u16_into.ensures in
     let same = c.from_vec.ensures ∙ take_at c.read_u16_into.new.dst _ c.in_ok-pairs.pairs.len (omega arith) in
     rw same read

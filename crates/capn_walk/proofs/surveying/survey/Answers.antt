@@ -15,8 +15,10 @@ pub returns-in_err-told-clause-refused : goal.returns-in_err-told-clause-refused
 returns-in_err-told-clause-refused g c =
     let m = g.S.Space.message c.args.space.now in
     let t = c.in_ok-target in
-    let r = rw (c.depth.ensures.value, c.budget.ensures.value, c.base.ensures.value, c.tariff.ensures) at c.in_err-told.ensures.refused in
-    let e = refused-below m c.args.limits t.ensures.place t.target t.ensures.target t.ensures.kind c.in_err-told.field-0.0 r in
+    let r = rw (c.depth.ensures.value, c.budget.ensures.value, c.base.ensures.value, c.tariff.ensures) at
+    c.in_err-told.ensures.refused in
+    let e = refused-below m c.args.limits t.ensures.place t.target t.ensures.target t.ensures.kind
+    c.in_err-told.field-0.0 r in
     let p = err_from_is_err_and c.from_residual-in_err-told.result c.from_residual-in_err-told.ensures.1 in
     rw (p.1, p.2) e
 
@@ -24,8 +26,10 @@ pub returns-in_err-told-clause-only : goal.returns-in_err-told-clause-only
 returns-in_err-told-clause-only g c v is =
     let m = g.S.Space.message c.args.space.now in
     let t = c.in_ok-target in
-    let r = rw (c.depth.ensures.value, c.budget.ensures.value, c.base.ensures.value, c.tariff.ensures) at c.in_err-told.ensures.refused in
-    let e = refused-below m c.args.limits t.ensures.place t.target t.ensures.target t.ensures.kind c.in_err-told.field-0.0 r in
+    let r = rw (c.depth.ensures.value, c.budget.ensures.value, c.base.ensures.value, c.tariff.ensures) at
+    c.in_err-told.ensures.refused in
+    let e = refused-below m c.args.limits t.ensures.place t.target t.ensures.target t.ensures.kind
+    c.in_err-told.field-0.0 r in
     let p = err_from_is_err_and c.from_residual-in_err-told.result c.from_residual-in_err-told.ensures.1 in
     rw (p.1, p.2) (only-memory m c.args.limits c.in_err-told.field-0.0 v is e)
 
@@ -34,7 +38,8 @@ returns-clause-found g c =
     let m = g.S.Space.message c.args.space.now in
     let t = c.in_ok-target in
     let x = c.in_ok-told in
-    let pays = rw (c.depth.ensures.value, c.budget.ensures.value, c.base.ensures.value, c.tariff.ensures) at x.ensures.pays in
+    let pays = rw (c.depth.ensures.value, c.budget.ensures.value, c.base.ensures.value, c.tariff.ensures) at
+    x.ensures.pays in
     let cap = rw (c.depth.ensures.value, c.base.ensures.value, c.tariff.ensures) at x.ensures.capability in
     surveyed m c.args.limits t.ensures.place t.target t.ensures.target t.ensures.kind x.told pays cap
 

@@ -10,7 +10,8 @@ returns-then-is_done-clause-pays g c =
     let m = g.S.Space.message c.args.space.now in
     let x = c.in-Ok in
     let z : owed c.in-Ok.visited.below ≡ 0 = done c.is_done.result _ c.is_done.ensures c.if-is_done.true in
-    gives-alone m c.args.base c.args.budget c.args.depth root x.visited.price x.visited.below x.visited.capability x.ensures.visits x.ensures.price x.ensures.owed x.ensures.capability
+    gives-alone m c.args.base c.args.budget c.args.depth root x.visited.price x.visited.below x.visited.capability
+    x.ensures.visits x.ensures.price x.ensures.owed x.ensures.capability
     x.ensures.below.rows z
 
 pub returns-then-is_done-clause-capability : goal.returns-then-is_done-clause-capability
@@ -18,5 +19,6 @@ returns-then-is_done-clause-capability g c =
     let m = g.S.Space.message c.args.space.now in
     let x = c.in-Ok in
     let z : owed c.in-Ok.visited.below ≡ 0 = done c.is_done.result _ c.is_done.ensures c.if-is_done.true in
-    caps-alone m c.args.base c.args.budget c.args.depth root x.visited.price x.visited.below x.visited.capability x.ensures.visits x.ensures.price x.ensures.owed x.ensures.capability
+    caps-alone m c.args.base c.args.budget c.args.depth root x.visited.price x.visited.below x.visited.capability
+    x.ensures.visits x.ensures.price x.ensures.owed x.ensures.capability
     x.ensures.below.rows z

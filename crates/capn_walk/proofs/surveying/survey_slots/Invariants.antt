@@ -6,7 +6,9 @@ use Rattle.capn_walk.proofs.UnderWay.{Surveys, coming}
 use Rattle.capn_walk.proofs.surveying.survey_slots.Given as goal
 
 abbrev pub decreases-slots : goal.decreases-slots
-decreases-slots g l = 3 * length (coming (g.S.Space.message l.space) l.base l.depth l.stack.items l.frame) + length l.stack.items + (1 - l.frame.left)
+decreases-slots g l =
+    3 * length (coming (g.S.Space.message l.space) l.base l.depth l.stack.items l.frame) + length l.stack.items
+    + (1 - l.frame.left)
 
 abbrev pub invariant-slots : goal.invariant-slots
 invariant-slots g l =

@@ -13,7 +13,9 @@ use Rattle.capn_walk.specs.Walked.{IsContent, extent, slot_count}
 use Rattle.capn_walk.specs.Laws.Inside.{inside, slots-price}
 use Rattle.capn_walk.specs.Laws.Present.{present}
 use Rattle.capn_walk.specs.Laws.Segments.{segment-room}
-use Rattle.capn_walk.specs.Laws.Walks.{gives-next, refuses-next, at-next, count-next, visits-null, visits-cap, visits-fault, gives-object, refuses-object, refuses-here, gives-nothing, inside-struct, inside-links, inside-rows}
+use Rattle.capn_walk.specs.Laws.Walks.{gives-next, refuses-next, at-next, count-next, visits-null, visits-cap}
+use Rattle.capn_walk.specs.Laws.Walks.{visits-fault, gives-object, refuses-object, refuses-here, gives-nothing}
+use Rattle.capn_walk.specs.Laws.Walks.{inside-struct, inside-links, inside-rows}
 use Rattle.capn_walk.specs.Laws.RowWalks.{one-more, row-inside, rows-give, rows-refuse, rows_at-step, count_rows-next}
 use Rattle.capn_walk.proofs.Stepped.{stepped-memory, step-refuses, content-taken}
 use Rattle.capn_walk.proofs.visiting.+walk.Goals as goal
@@ -24,7 +26,8 @@ pub walk_slot-returns-in-Err-clause-refused : goal.walk_slot-returns-in-Err-clau
 walk_slot-returns-in-Err-clause-refused g t c =
     let m = g.S.Space.message c.args.space.now in
     let e : target (g.S.Space.message c.args.space.now) c.args.at ≡ Err c.in-Err.fault = cc in
-    refuses-here m c.args.base c.args.at c.args.left c.args.depth c.in-Err.fault c.stop.result (visits-fault m c.args.base c.args.at c.args.depth c.in-Err.fault e) c.stop.ensures
+    refuses-here m c.args.base c.args.at c.args.left c.args.depth c.in-Err.fault c.stop.result
+    (visits-fault m c.args.base c.args.at c.args.depth c.in-Err.fault e) c.stop.ensures
 
 -- ---- a slot whose target is known
 
@@ -33,20 +36,26 @@ walk_target-returns-in-Nil-clause-pays g t c =
     let m = g.S.Space.message c.args.space.now in
     let e = c.requires.target ∙ ap Ok c.in-Nil.is in
     let none = c.without_content.ensures in
-    rw (none.paid, none.visits) (gives-nothing m c.args.base c.args.at c.args.left c.args.depth (visits-null m c.args.base c.args.at c.args.depth e))
+    rw (none.paid, none.visits)
+    (gives-nothing m c.args.base c.args.at c.args.left c.args.depth
+    (visits-null m c.args.base c.args.at c.args.depth e))
 
 pub walk_target-returns-in-Nil-clause-value : goal.walk_target-returns-in-Nil-clause-value
-walk_target-returns-in-Nil-clause-value g t c = rw (c.without_content.ensures.value, tree_of-Nil) (c.requires.target ∙ ap Ok c.in-Nil.is)
+walk_target-returns-in-Nil-clause-value g t c =
+    rw (c.without_content.ensures.value, tree_of-Nil) (c.requires.target ∙ ap Ok c.in-Nil.is)
 
 pub walk_target-returns-in-Cap-clause-pays : goal.walk_target-returns-in-Cap-clause-pays
 walk_target-returns-in-Cap-clause-pays g t c =
     let m = g.S.Space.message c.args.space.now in
     let e = c.requires.target ∙ ap Ok c.in-Cap.is in
     let none = c.without_content-in-Cap.ensures in
-    rw (none.paid, none.visits) (gives-nothing m c.args.base c.args.at c.args.left c.args.depth (visits-cap m c.args.base c.args.at c.args.depth c.in-Cap.index e))
+    rw (none.paid, none.visits)
+    (gives-nothing m c.args.base c.args.at c.args.left c.args.depth
+    (visits-cap m c.args.base c.args.at c.args.depth c.in-Cap.index e))
 
 pub walk_target-returns-in-Cap-clause-value : goal.walk_target-returns-in-Cap-clause-value
-walk_target-returns-in-Cap-clause-value g t c = rw (c.without_content-in-Cap.ensures.value, tree_of-Cap) (c.requires.target ∙ ap Ok c.in-Cap.is)
+walk_target-returns-in-Cap-clause-value g t c =
+    rw (c.without_content-in-Cap.ensures.value, tree_of-Cap) (c.requires.target ∙ ap Ok c.in-Cap.is)
 
 pub walk_target-returns-in-Err-clause-refused : goal.walk_target-returns-in-Err-clause-refused
 walk_target-returns-in-Err-clause-refused g t c =
@@ -59,7 +68,8 @@ pub walk_target-returns-in-Err-clause-wanted : goal.walk_target-returns-in-Err-c
 walk_target-returns-in-Err-clause-wanted g t c m =
     let x = c.in-Content in
     let e = ap (λ (s : Stopped). s.fault) (sym c.stop.ensures) ∙ m in
-    absurd (stepped-memory c.args.base c.args.depth c.args.left (targets.Content x.segment x.start x.shape x.pads) (c.in-Err.ensures.found ∙ ap Err e))
+    absurd (stepped-memory c.args.base c.args.depth c.args.left (targets.Content x.segment x.start x.shape x.pads)
+    (c.in-Err.ensures.found ∙ ap Err e))
 
 pub walk_target-object-requires : goal.walk_target-object-requires
 walk_target-object-requires g t c κs within =
@@ -114,7 +124,8 @@ walk_target-returns-in-Ok-object-clause-pays g t c =
     let k = content-taken c.args.base c.args.depth c.args.left x.segment x.start x.pads x.shape c.in-Ok.ensures.found in
     let h = rw p at c.in-Ok-object.ensures.pays in
     rw p
-    (gives-object m c.args.base c.args.at x.segment x.start x.pads x.shape (c.requires.target ∙ ap Ok x.is) c.args.left c.args.depth k.0 k.1
+    (gives-object m c.args.base c.args.at x.segment x.start x.pads x.shape (c.requires.target
+    ∙ ap Ok x.is) c.args.left c.args.depth k.0 k.1
     c.in-Ok-object.found.paid c.in-Ok-object.found.visits h)
 
 pub walk_target-returns-in-Err-object-clause-refused : goal.walk_target-returns-in-Err-object-clause-refused
@@ -125,12 +136,14 @@ walk_target-returns-in-Err-object-clause-refused g t c =
     let k = content-taken c.args.base c.args.depth c.args.left x.segment x.start x.pads x.shape c.in-Ok.ensures.found in
     let h = rw p at c.in-Err-object.ensures.refused in
     rw (c.behind.ensures, p)
-    (refuses-object m c.args.base c.args.at x.segment x.start x.pads x.shape (c.requires.target ∙ ap Ok x.is) c.args.left c.args.depth k.0 k.1
+    (refuses-object m c.args.base c.args.at x.segment x.start x.pads x.shape (c.requires.target
+    ∙ ap Ok x.is) c.args.left c.args.depth k.0 k.1
     c.in-Err-object.stopped h)
 
 pub walk_target-returns-in-Err-object-clause-wanted : goal.walk_target-returns-in-Err-object-clause-wanted
 walk_target-returns-in-Err-object-clause-wanted g t c m =
-    let h = ap (λ (r : Target). stepped c.args.base c.args.depth c.args.left (Ok r)) c.in-Content.is ∙ c.in-Ok.ensures.found in
+    let h = ap (λ (r : Target). stepped c.args.base c.args.depth c.args.left (Ok r)) c.in-Content.is
+    ∙ c.in-Ok.ensures.found in
     subst IsEntered (sym h) tt
 
 -- ---- an object
@@ -144,7 +157,8 @@ pub object-returns-in_ok-below-in-Node-clause-value : goal.object-returns-in_ok-
 object-returns-in_ok-below-in-Node-clause-value g t c =
     let b = c.in_ok-below-in-Node in
     rw c.into_struct.ensures.value
-    (inside-struct (g.S.Space.message c.args.space.now) c.args.start.segment c.args.start.word c.args.shape c.in-Node.words c.in-Node.slots c.in-Ok.words (trees_of b.below.items)
+    (inside-struct (g.S.Space.message c.args.space.now) c.args.start.segment c.args.start.word c.args.shape
+    c.in-Node.words c.in-Node.slots c.in-Ok.words (trees_of b.below.items)
     c.in-Node.is c.in-Ok.ensures.number c.in-Ok.ensures.words b.ensures.number b.ensures.value)
 
 pub object-returns-in_ok-below-in-Link-clause-pays : goal.object-returns-in_ok-below-in-Link-clause-pays
@@ -156,7 +170,8 @@ pub object-returns-in_ok-below-in-Link-clause-value : goal.object-returns-in_ok-
 object-returns-in_ok-below-in-Link-clause-value g t c =
     let b = c.in_ok-below-in-Link in
     rw c.into_list.ensures.value
-    (inside-links (g.S.Space.message c.args.space.now) c.args.start.segment c.args.start.word c.args.shape c.in-Many.count (trees_of b.below.items)
+    (inside-links (g.S.Space.message c.args.space.now) c.args.start.segment c.args.start.word c.args.shape
+    c.in-Many.count (trees_of b.below.items)
     (c.in-Many.is ∙ ap (λ (w : Width). shapes.Many w c.in-Many.count) c.in-Link.is) b.ensures.number b.ensures.value)
 
 pub object-returns-in_ok-below-in-Rows-clause-pays : goal.object-returns-in_ok-below-in-Rows-clause-pays
@@ -169,7 +184,8 @@ object-returns-in_ok-below-in-Rows-clause-value g t c =
     let b = c.in_ok-below-in-Rows in
     let e : suc c.args.start.word ≡ c.args.start.word + 1 = omega arith in
     rw c.into_list-in-Rows.ensures.value
-    (inside-rows (g.S.Space.message c.args.space.now) c.args.start.segment c.args.start.word c.args.shape c.in-Rows.count c.in-Rows.words c.in-Rows.slots c.in-Rows.span (rows_of b.below.rows)
+    (inside-rows (g.S.Space.message c.args.space.now) c.args.start.segment c.args.start.word c.args.shape
+    c.in-Rows.count c.in-Rows.words c.in-Rows.slots c.in-Rows.span (rows_of b.below.rows)
     c.in-Rows.is b.ensures.number (rw e b.ensures.value))
 
 -- ---- slots
@@ -177,18 +193,25 @@ object-returns-in_ok-below-in-Rows-clause-value g t c =
 pub walk_slots-returns-in-Err-clause-refused : goal.walk_slots-returns-in-Err-clause-refused
 walk_slots-returns-in-Err-clause-refused g t c =
     rw c.behind-in-Err.ensures
-    (refuses-next (visits (g.S.Space.message c.args.space.now) c.args.base c.args.depth) c.args.segment c.args.start c.args.left c.loop-i.i c.args.count c.loop-i.paid c.loop-i.visits
+    (refuses-next (visits (g.S.Space.message c.args.space.now) c.args.base c.args.depth) c.args.segment c.args.start
+    c.args.left c.loop-i.i c.args.count c.loop-i.paid c.loop-i.visits
     c.in-Err.stopped c.loop-i-test.true c.loop-i.invariant.pays c.in-Err.ensures.refused)
 
 pub walk_slots-loop-i-preserved : goal.walk_slots-loop-i-preserved
 walk_slots-loop-i-preserved g t c =
     let e = c.loop-i.invariant.number in
     record {
-      pays = gives-next (visits (g.S.Space.message c.args.space.now) c.args.base c.args.depth) c.args.segment c.args.start c.args.left c.loop-i.i c.loop-i.paid c.loop-i.visits
-          c.in-Ok-walk_slot.found.paid c.in-Ok-walk_slot.found.visits c.loop-i.invariant.pays c.in-Ok-walk_slot.ensures.pays;
-      value = rw c.in-Ok-push.ensures.ok (at-next (g.S.Space.message c.args.space.now) c.args.segment c.args.start c.loop-i.items c.in-Ok-walk_slot.found.value
+      pays = gives-next (visits (g.S.Space.message c.args.space.now) c.args.base c.args.depth) c.args.segment
+          c.args.start c.args.left c.loop-i.i c.loop-i.paid c.loop-i.visits
+          c.in-Ok-walk_slot.found.paid c.in-Ok-walk_slot.found.visits c.loop-i.invariant.pays
+          c.in-Ok-walk_slot.ensures.pays;
+      value = rw c.in-Ok-push.ensures.ok
+          (at-next (g.S.Space.message c.args.space.now) c.args.segment c.args.start c.loop-i.items
+          c.in-Ok-walk_slot.found.value
           c.loop-i.invariant.value (rw e c.in-Ok-walk_slot.ensures.value));
-      number = rw c.in-Ok-push.ensures.ok (count-next (g.S.Space.message c.args.space.now) c.loop-i.items c.in-Ok-walk_slot.found.value ∙ ap (λ (n : ℕ). n + 1) e);
+      number = rw c.in-Ok-push.ensures.ok
+          (count-next (g.S.Space.message c.args.space.now) c.loop-i.items c.in-Ok-walk_slot.found.value
+          ∙ ap (λ (n : ℕ). n + 1) e);
     }
 
 -- ---- rows
@@ -197,7 +220,8 @@ pub walk_rows-walk_slots-requires : goal.walk_rows-walk_slots-requires
 walk_rows-walk_slots-requires g t c κs within =
     let inside = c.requires.content.within in
     let next = c.loop-i.invariant.next in
-    let room = row-inside c.args.start.word c.args.count c.loop-i.i (c.args.words + c.args.slots) c.loop-i.next _ c.loop-i-test.true next inside in
+    let room = row-inside c.args.start.word c.args.count c.loop-i.i (c.args.words + c.args.slots) c.loop-i.next _
+    c.loop-i-test.true next inside in
     search rules
 
 pub walk_rows-overflow_add-visits : goal.walk_rows-overflow_add-visits
@@ -223,7 +247,8 @@ walk_rows-returns-in_default-push-clause-refused g t c =
     let b = c.in-Ok-walk_slots.ensures.pays in
     let d = a.within in let e = a.few in let f = b.within in let h = b.few in
     let k = one-more c.loop-i.i c.args.count c.args.slots c.loop-i-test.true in
-    rw (c.behind-in_default-push.ensures, c.out_of_memory-in_default-push.ensures) (record { is = inl refl; within = omega arith; few = omega arith })
+    rw (c.behind-in_default-push.ensures, c.out_of_memory-in_default-push.ensures)
+    (record { is = inl refl; within = omega arith; few = omega arith })
 
 pub walk_rows-behind-requires-in-Err-clause-visits : goal.walk_rows-behind-requires-in-Err-clause-visits
 walk_rows-behind-requires-in-Err-clause-visits g t c =
@@ -238,15 +263,18 @@ walk_rows-returns-in-Err-clause-refused g t c =
     let e = c.loop-i.invariant.next in
     let r = rw e at c.in-Err.ensures.refused in
     rw c.behind-in-Err.ensures
-    (rows-refuse (visits (g.S.Space.message c.args.space.now) c.args.base c.args.depth) c.args.start.segment c.args.start.word c.args.words c.args.slots c.args.left c.loop-i.i c.args.count c.loop-i.paid c.loop-i.visits
+    (rows-refuse (visits (g.S.Space.message c.args.space.now) c.args.base c.args.depth) c.args.start.segment
+    c.args.start.word c.args.words c.args.slots c.args.left c.loop-i.i c.args.count c.loop-i.paid c.loop-i.visits
     c.in-Err.stopped c.loop-i-test.true c.loop-i.invariant.pays r)
 
 pub walk_rows-overflow_add-next : goal.walk_rows-overflow_add-next
 walk_rows-overflow_add-next g t c =
     let inside = c.requires.content.within in
     let next = c.loop-i.invariant.next in
-    let room = row-inside c.args.start.word c.args.count c.loop-i.i (c.args.words + c.args.slots) c.loop-i.next _ c.loop-i-test.true next inside in
-    let all = segment-room (g.S.Space.message c.args.space.now) c.args.start.segment c.requires.message c.requires.content.exists in
+    let room = row-inside c.args.start.word c.args.count c.loop-i.i (c.args.words + c.args.slots) c.loop-i.next _
+    c.loop-i-test.true next inside in
+    let all = segment-room (g.S.Space.message c.args.space.now) c.args.start.segment c.requires.message
+    c.requires.content.exists in
     omega arith
 
 pub walk_rows-loop-i-preserved : goal.walk_rows-loop-i-preserved
@@ -255,10 +283,16 @@ walk_rows-loop-i-preserved g t c =
     let n = c.loop-i.invariant.number in
     let x = c.in-Ok-walk_slots in
     record {
-      pays = rows-give (visits (g.S.Space.message c.args.space.now) c.args.base c.args.depth) c.args.start.segment c.args.start.word c.args.words c.args.slots c.args.left c.loop-i.i c.loop-i.paid c.loop-i.visits
+      pays = rows-give (visits (g.S.Space.message c.args.space.now) c.args.base c.args.depth) c.args.start.segment
+          c.args.start.word c.args.words c.args.slots c.args.left c.loop-i.i c.loop-i.paid c.loop-i.visits
           x.below.paid x.below.visits c.loop-i.invariant.pays (rw e at x.ensures.pays);
-      value = rw c.in-Ok-push.ensures.ok (rows_at-step (g.S.Space.message c.args.space.now) c.args.words c.args.slots c.args.start.segment c.args.start.word c.loop-i.next c.loop-i.i c.loop-i.rows _
-          c.loop-i.invariant.value n e c.in-Ok-words_at.ensures.number c.in-Ok-words_at.ensures.words x.ensures.number x.ensures.value);
-      number = rw c.in-Ok-push.ensures.ok (count_rows-next (g.S.Space.message c.args.space.now) c.loop-i.rows _ ∙ ap (λ (k : ℕ). k + 1) n);
-      next = let k : (c.loop-i.i + 1) * (c.args.words + c.args.slots) ≡ c.loop-i.i * (c.args.words + c.args.slots) + (c.args.words + c.args.slots) = omega arith in omega arith;
+      value = rw c.in-Ok-push.ensures.ok
+          (rows_at-step (g.S.Space.message c.args.space.now) c.args.words c.args.slots c.args.start.segment
+          c.args.start.word c.loop-i.next c.loop-i.i c.loop-i.rows _
+          c.loop-i.invariant.value n e c.in-Ok-words_at.ensures.number c.in-Ok-words_at.ensures.words x.ensures.number
+          x.ensures.value);
+      number = rw c.in-Ok-push.ensures.ok (count_rows-next (g.S.Space.message c.args.space.now) c.loop-i.rows _
+          ∙ ap (λ (k : ℕ). k + 1) n);
+      next = let k : (c.loop-i.i + 1) * (c.args.words + c.args.slots) ≡ c.loop-i.i * (c.args.words + c.args.slots)
+          + (c.args.words + c.args.slots) = omega arith in omega arith;
     }

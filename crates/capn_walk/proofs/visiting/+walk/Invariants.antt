@@ -23,14 +23,17 @@ decreases-object g l = 5 * l.depth + 4
 
 abbrev pub invariant-walk_slots-loop-i : goal.invariant-walk_slots-loop-i
 invariant-walk_slots-loop-i g l = record {
-  pays : Gives l.left (visits_of (g.S.Space.message l.space) l.base l.depth (places l.segment l.start l.i)) l.i l.paid l.visits;
+  pays : Gives l.left (visits_of (g.S.Space.message l.space) l.base l.depth (places l.segment l.start l.i)) l.i l.paid
+      l.visits;
   value : AreAt (g.S.Space.message l.space) l.segment l.start (trees_of l.items);
   number : count (trees_of l.items) ≡ l.i;
 }
 
 abbrev pub invariant-walk_rows-loop-i : goal.invariant-walk_rows-loop-i
 invariant-walk_rows-loop-i g l = record {
-  pays : Gives l.left (visits_of (g.S.Space.message l.space) l.base l.depth (row_places l.segment l.fn.start.word l.words l.slots l.i)) (l.i * l.slots) l.paid l.visits;
+  pays : Gives l.left
+      (visits_of (g.S.Space.message l.space) l.base l.depth (row_places l.segment l.fn.start.word l.words l.slots l.i))
+      (l.i * l.slots) l.paid l.visits;
   value : RowsAt (g.S.Space.message l.space) l.words l.slots l.segment l.fn.start.word (rows_of l.rows);
   number : count_rows (rows_of l.rows) ≡ l.i;
   next : l.next ≡ l.fn.start.word + l.i * (l.words + l.slots);

@@ -9,4 +9,5 @@ pub returns-clause-ok : goal.returns-clause-ok
 returns-clause-ok g c =
     ap drafted c.in_ok-extend_from_slice.ensures.items
     ∙ drafted-words c.self.inside.bytes.items c.args.xs.now c.self.invariant c.requires
-    ∙ ap (λ (xs : List (Option ℕ)). xs ++ whole (packed 8 8 (words_for (8 * length c.args.xs.now)) c.args.xs.now)) c.self.view_is
+    ∙ ap (λ (xs : List (Option ℕ)). xs ++ whole (packed 8 8 (words_for (8 * length c.args.xs.now)) c.args.xs.now))
+    c.self.view_is

@@ -5,4 +5,5 @@ use Rattle.capn_canon.proofs.Drafted.{drafted-bytes}
 use Rattle.capn_canon.proofs.draft.Draft.finish.Goals as goal
 
 pub returns : goal.returns
-returns g c = drafted-bytes c.self.inside.bytes.items c.self.invariant ∙ ap (λ (xs : List (Option ℕ)). bytes (filled xs)) c.self.view_is
+returns g c = drafted-bytes c.self.inside.bytes.items c.self.invariant
+    ∙ ap (λ (xs : List (Option ℕ)). bytes (filled xs)) c.self.view_is

@@ -5,6 +5,7 @@ use Rattle.capn_canon.proofs.draft.Draft.push.Goals as goal
 
 pub returns-clause-ok : goal.returns-clause-ok
 returns-clause-ok g c =
-    ap drafted (c.in_ok-extend_from_slice.ensures.items ∙ ap (λ (xs : List ℕ). c.self.inside.bytes.items ++ xs) c.bytes_of-word.ensures)
+    ap drafted (c.in_ok-extend_from_slice.ensures.items
+    ∙ ap (λ (xs : List ℕ). c.self.inside.bytes.items ++ xs) c.bytes_of-word.ensures)
     ∙ drafted-push c.self.inside.bytes.items c.args.word c.self.invariant (omega arith)
     ∙ ap (λ (xs : List (Option ℕ)). xs ++ Some c.args.word ∷ []) c.self.view_is

@@ -24,12 +24,14 @@ invariant_of-self g c =
     let n = length-drafted c.self.inside.bytes.items in
     let v = ap length c.self.view_is in
     let h = c.requires in
-    is-put c.self.inside.bytes.items c.write_at.new.bytes.items c.args.at c.args.word c.self.invariant (omega arith) (omega arith) c.write_at.ensures
+    is-put c.self.inside.bytes.items c.write_at.new.bytes.items c.args.at c.args.word c.self.invariant (omega arith)
+    (omega arith) c.write_at.ensures
 
 pub returns : goal.returns
 returns g c =
     let n = length-drafted c.self.inside.bytes.items in
     let v = ap length c.self.view_is in
     let h = c.requires in
-    drafted-put c.self.inside.bytes.items c.write_at.new.bytes.items c.args.at c.args.word c.self.invariant (omega arith) (omega arith) c.write_at.ensures
+    drafted-put c.self.inside.bytes.items c.write_at.new.bytes.items c.args.at c.args.word c.self.invariant
+    (omega arith) (omega arith) c.write_at.ensures
     ∙ ap (λ (xs : List (Option ℕ)). set xs c.args.at (Some c.args.word)) c.self.view_is

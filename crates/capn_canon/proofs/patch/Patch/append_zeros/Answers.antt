@@ -5,13 +5,16 @@ use Rattle.capn_canon.proofs.patch.Patch.append_zeros.Goals as goal
 
 pub returns-in_err-cover-clause-err : goal.returns-in_err-cover-clause-err
 returns-in_err-cover-clause-err g c =
-    OnErr-always c.from_residual.result (patched-same c.self.inside.holes.items c.cover.new.marks.items c.self.inside.bytes.items c.cover.ensures.same ∙ c.self.view_is)
+    OnErr-always c.from_residual.result
+    (patched-same c.self.inside.holes.items c.cover.new.marks.items c.self.inside.bytes.items c.cover.ensures.same
+    ∙ c.self.view_is)
 
 pub returns-in_err-resize-clause-err : goal.returns-in_err-resize-clause-err
 returns-in_err-resize-clause-err g c =
     OnErr-always c.from_residual-in_err-resize.result
     (ap (patched c.cover.new.marks.items) c.in_err-resize.ensures.items
-    ∙ patched-same c.self.inside.holes.items c.cover.new.marks.items c.self.inside.bytes.items c.cover.ensures.same ∙ c.self.view_is)
+    ∙ patched-same c.self.inside.holes.items c.cover.new.marks.items c.self.inside.bytes.items c.cover.ensures.same
+    ∙ c.self.view_is)
 
 pub returns-clause-ok : goal.returns-clause-ok
 returns-clause-ok g c =
@@ -25,7 +28,9 @@ returns-clause-ok g c =
     let to : c.saturating_add-2.result ≡ length c.self.inside.bytes.items + 8 * c.args.n = omega arith in
     ap (patched c.cover.new.marks.items)
     (c.in_ok-resize.ensures.items
-    ∙ ap (λ (j : ℕ). take c.saturating_add-2.result c.self.inside.bytes.items ++ replicate (c.saturating_add-2.result - j) 0) l
+    ∙ ap (λ (j : ℕ). take c.saturating_add-2.result c.self.inside.bytes.items
+    ++ replicate (c.saturating_add-2.result - j) 0) l
     ∙ filled_up c.self.inside.bytes.items c.saturating_add-2.result (8 * c.args.n) to)
-    ∙ patched-zeros c.self.inside.holes.items c.cover.new.marks.items c.self.inside.bytes.items c.args.n c.self.invariant c.cover.ensures.same
+    ∙ patched-zeros c.self.inside.holes.items c.cover.new.marks.items c.self.inside.bytes.items c.args.n
+    c.self.invariant c.cover.ensures.same
     ∙ ap (λ (xs : List (Option ℕ)). xs ++ replicate c.args.n (Some 0)) c.self.view_is

@@ -10,13 +10,16 @@ use Rattle.capn_canon.proofs.patch.Patch.extend.Goals as goal
 
 pub returns-in_err-cover-clause-err : goal.returns-in_err-cover-clause-err
 returns-in_err-cover-clause-err g c =
-    OnErr-always c.from_residual.result (patched-same c.self.inside.holes.items c.cover.new.marks.items c.self.inside.bytes.items c.cover.ensures.same ∙ c.self.view_is)
+    OnErr-always c.from_residual.result
+    (patched-same c.self.inside.holes.items c.cover.new.marks.items c.self.inside.bytes.items c.cover.ensures.same
+    ∙ c.self.view_is)
 
 pub returns-in_err-append_octs-clause-err : goal.returns-in_err-append_octs-clause-err
 returns-in_err-append_octs-clause-err g c =
     OnErr-always c.from_residual-in_err-append_octs.result
     (ap (patched c.cover.new.marks.items) c.in_err-append_octs.ensures.err
-    ∙ patched-same c.self.inside.holes.items c.cover.new.marks.items c.self.inside.bytes.items c.cover.ensures.same ∙ c.self.view_is)
+    ∙ patched-same c.self.inside.holes.items c.cover.new.marks.items c.self.inside.bytes.items c.cover.ensures.same
+    ∙ c.self.view_is)
 
 pub invariant_of-self-2 : goal.invariant_of-self-2
 invariant_of-self-2 g c =
@@ -35,7 +38,8 @@ invariant_of-self-2 g c =
     let e = c.len-words.ensures in
     let o2 = c.self.inside.bytes.ok.0 in
     subst (IsPatched c.cover.new.marks.items) (sym c.in_ok-append_octs.ensures.ok)
-    (is-padded c.self.inside.holes.items c.cover.new.marks.items c.self.inside.bytes.items content k c.self.invariant c.cover.ensures.same
+    (is-padded c.self.inside.holes.items c.cover.new.marks.items c.self.inside.bytes.items content k c.self.invariant
+    c.cover.ensures.same
     (omega arith) (omega arith) (AreBytes-numbers 8 c.args.xs.now))
 
 pub returns-clause-ok : goal.returns-clause-ok
@@ -44,6 +48,9 @@ returns-clause-ok g c =
     let k = length c.args.xs.now in
     let n = length-numbers 8 c.args.xs.now in
     ap (patched c.cover.new.marks.items) c.in_ok-append_octs.ensures.ok
-    ∙ patched-padded c.self.inside.holes.items c.cover.new.marks.items c.self.inside.bytes.items content k c.self.invariant c.cover.ensures.same (omega arith)
-    ∙ ap (λ (ws : List ℕ). patched c.self.inside.holes.items c.self.inside.bytes.items ++ whole ws) (packed-numbers 8 1 64 k c.args.xs.now refl refl (λ i. omega (arith, c.type_inv.xs i)) ∙ packed-words c.args.xs.now)
+    ∙ patched-padded c.self.inside.holes.items c.cover.new.marks.items c.self.inside.bytes.items content k
+    c.self.invariant c.cover.ensures.same (omega arith)
+    ∙ ap (λ (ws : List ℕ). patched c.self.inside.holes.items c.self.inside.bytes.items ++ whole ws)
+    (packed-numbers 8 1 64 k c.args.xs.now refl refl (λ i. omega (arith, c.type_inv.xs i))
+    ∙ packed-words c.args.xs.now)
     ∙ ap (λ (xs : List (Option ℕ)). xs ++ whole (c.args.xs.now)) c.self.view_is

@@ -1,4 +1,5 @@
-use Rattle.std.proofs.Common.{◌*◌, ◌∙◌, ap, sym, subst, refl, List, Option, ℕ, ◌++◌, length, replicate, length-append, arith}
+use Rattle.std.proofs.Common.{◌*◌, ◌∙◌, ap, sym, subst, refl, List, Option, ℕ, ◌++◌, length, replicate, length-append}
+use Rattle.std.proofs.Common.{arith}
 use Rattle.std.proofs.lemmas.List.{length-replicate}
 use Rattle.capn_canon.specs.Layout.{packed, words_for}
 use Rattle.capn_canon.specs.Padded.{pad, padded}
@@ -8,13 +9,16 @@ use Rattle.capn_canon.proofs.patch.Patch.extend_bytes.Goals as goal
 
 pub returns-in_err-cover-clause-err : goal.returns-in_err-cover-clause-err
 returns-in_err-cover-clause-err g c =
-    OnErr-always c.from_residual.result (patched-same c.self.inside.holes.items c.cover.new.marks.items c.self.inside.bytes.items c.cover.ensures.same ∙ c.self.view_is)
+    OnErr-always c.from_residual.result
+    (patched-same c.self.inside.holes.items c.cover.new.marks.items c.self.inside.bytes.items c.cover.ensures.same
+    ∙ c.self.view_is)
 
 pub returns-in_err-append_bytes-clause-err : goal.returns-in_err-append_bytes-clause-err
 returns-in_err-append_bytes-clause-err g c =
     OnErr-always c.from_residual-in_err-append_bytes.result
     (ap (patched c.cover.new.marks.items) c.in_err-append_bytes.ensures.err
-    ∙ patched-same c.self.inside.holes.items c.cover.new.marks.items c.self.inside.bytes.items c.cover.ensures.same ∙ c.self.view_is)
+    ∙ patched-same c.self.inside.holes.items c.cover.new.marks.items c.self.inside.bytes.items c.cover.ensures.same
+    ∙ c.self.view_is)
 
 pub invariant_of-self-2 : goal.invariant_of-self-2
 invariant_of-self-2 g c =
@@ -34,7 +38,8 @@ invariant_of-self-2 g c =
     let o2 = c.self.inside.bytes.ok.0 in
     let z = c.div_ceil.ensures in
     subst (IsPatched c.cover.new.marks.items) (sym c.in_ok-append_bytes.ensures.ok)
-    (is-padded c.self.inside.holes.items c.cover.new.marks.items c.self.inside.bytes.items content k c.self.invariant c.cover.ensures.same
+    (is-padded c.self.inside.holes.items c.cover.new.marks.items c.self.inside.bytes.items content k c.self.invariant
+    c.cover.ensures.same
     (omega arith) (omega arith) (λ i. omega (arith, c.type_inv.xs i)))
 
 pub returns-clause-ok : goal.returns-clause-ok
@@ -43,6 +48,8 @@ returns-clause-ok g c =
     let k = words_for (8 * length c.args.xs.now) in
     let n = length c.args.xs.now in
     ap (patched c.cover.new.marks.items) c.in_ok-append_bytes.ensures.ok
-    ∙ patched-padded c.self.inside.holes.items c.cover.new.marks.items c.self.inside.bytes.items content k c.self.invariant c.cover.ensures.same (omega arith)
+    ∙ patched-padded c.self.inside.holes.items c.cover.new.marks.items c.self.inside.bytes.items content k
+    c.self.invariant c.cover.ensures.same (omega arith)
     ∙ ap (λ (ws : List ℕ). patched c.self.inside.holes.items c.self.inside.bytes.items ++ whole ws) (refl)
-    ∙ ap (λ (xs : List (Option ℕ)). xs ++ whole (packed 8 8 (words_for (8 * length c.args.xs.now)) c.args.xs.now)) c.self.view_is
+    ∙ ap (λ (xs : List (Option ℕ)). xs ++ whole (packed 8 8 (words_for (8 * length c.args.xs.now)) c.args.xs.now))
+    c.self.view_is

@@ -1,4 +1,5 @@
-use Rattle.std.proofs.Common.{◌*◌, ◌∙◌, ap, sym, subst, refl, List, Option, ℕ, ◌++◌, length, replicate, length-append, arith}
+use Rattle.std.proofs.Common.{◌*◌, ◌∙◌, ap, sym, subst, refl, List, Option, ℕ, ◌++◌, length, replicate, length-append}
+use Rattle.std.proofs.Common.{arith}
 use Rattle.std.proofs.lemmas.List.{length-replicate}
 use Rattle.std.specs.List.{flat_map}
 use Rattle.byteorder.specs.Endian.{little_bytes}
@@ -11,13 +12,16 @@ use Rattle.capn_canon.proofs.patch.Patch.extend_pairs.Goals as goal
 
 pub returns-in_err-cover-clause-err : goal.returns-in_err-cover-clause-err
 returns-in_err-cover-clause-err g c =
-    OnErr-always c.from_residual.result (patched-same c.self.inside.holes.items c.cover.new.marks.items c.self.inside.bytes.items c.cover.ensures.same ∙ c.self.view_is)
+    OnErr-always c.from_residual.result
+    (patched-same c.self.inside.holes.items c.cover.new.marks.items c.self.inside.bytes.items c.cover.ensures.same
+    ∙ c.self.view_is)
 
 pub returns-in_err-append_pairs-clause-err : goal.returns-in_err-append_pairs-clause-err
 returns-in_err-append_pairs-clause-err g c =
     OnErr-always c.from_residual-in_err-append_pairs.result
     (ap (patched c.cover.new.marks.items) c.in_err-append_pairs.ensures.err
-    ∙ patched-same c.self.inside.holes.items c.cover.new.marks.items c.self.inside.bytes.items c.cover.ensures.same ∙ c.self.view_is)
+    ∙ patched-same c.self.inside.holes.items c.cover.new.marks.items c.self.inside.bytes.items c.cover.ensures.same
+    ∙ c.self.view_is)
 
 pub invariant_of-self-2 : goal.invariant_of-self-2
 invariant_of-self-2 g c =
@@ -37,7 +41,8 @@ invariant_of-self-2 g c =
     let o2 = c.self.inside.bytes.ok.0 in
     let z = c.div_ceil.ensures in
     subst (IsPatched c.cover.new.marks.items) (sym c.in_ok-append_pairs.ensures.ok)
-    (is-padded c.self.inside.holes.items c.cover.new.marks.items c.self.inside.bytes.items content k c.self.invariant c.cover.ensures.same
+    (is-padded c.self.inside.holes.items c.cover.new.marks.items c.self.inside.bytes.items content k c.self.invariant
+    c.cover.ensures.same
     (omega arith) (omega arith) (AreBytes-numbers 2 c.args.xs.now))
 
 pub returns-clause-ok : goal.returns-clause-ok
@@ -46,6 +51,9 @@ returns-clause-ok g c =
     let k = words_for (16 * length c.args.xs.now) in
     let n = length-numbers 2 c.args.xs.now in
     ap (patched c.cover.new.marks.items) c.in_ok-append_pairs.ensures.ok
-    ∙ patched-padded c.self.inside.holes.items c.cover.new.marks.items c.self.inside.bytes.items content k c.self.invariant c.cover.ensures.same (omega arith)
-    ∙ ap (λ (ws : List ℕ). patched c.self.inside.holes.items c.self.inside.bytes.items ++ whole ws) (packed-numbers 2 4 16 k c.args.xs.now refl refl (λ i. omega (arith, c.type_inv.xs i)))
-    ∙ ap (λ (xs : List (Option ℕ)). xs ++ whole (packed 4 16 (words_for (16 * length c.args.xs.now)) c.args.xs.now)) c.self.view_is
+    ∙ patched-padded c.self.inside.holes.items c.cover.new.marks.items c.self.inside.bytes.items content k
+    c.self.invariant c.cover.ensures.same (omega arith)
+    ∙ ap (λ (ws : List ℕ). patched c.self.inside.holes.items c.self.inside.bytes.items ++ whole ws)
+    (packed-numbers 2 4 16 k c.args.xs.now refl refl (λ i. omega (arith, c.type_inv.xs i)))
+    ∙ ap (λ (xs : List (Option ℕ)). xs ++ whole (packed 4 16 (words_for (16 * length c.args.xs.now)) c.args.xs.now))
+    c.self.view_is

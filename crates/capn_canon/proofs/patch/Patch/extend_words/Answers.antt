@@ -1,4 +1,5 @@
-use Rattle.std.proofs.Common.{◌≡◌, ◌+◌, ◌*◌, ◌/◌, ◌∙◌, ap, sym, subst, refl, List, Option, ℕ, ◌++◌, length, replicate, length-append, append-nil, arith}
+use Rattle.std.proofs.Common.{◌≡◌, ◌+◌, ◌*◌, ◌/◌, ◌∙◌, ap, sym, subst, refl, List, Option, ℕ, ◌++◌, length, replicate}
+use Rattle.std.proofs.Common.{length-append, append-nil, arith}
 use Rattle.std.proofs.lemmas.List.{length-replicate}
 use Rattle.capn_canon.specs.Layout.{packed, words_for}
 use Rattle.capn_canon.specs.Padded.{pad, padded}
@@ -11,13 +12,16 @@ no-padding xs e = ap (λ (n : ℕ). xs ++ replicate n 0) e ∙ append-nil xs
 
 pub returns-in_err-cover-clause-err : goal.returns-in_err-cover-clause-err
 returns-in_err-cover-clause-err g c =
-    OnErr-always c.from_residual.result (patched-same c.self.inside.holes.items c.cover.new.marks.items c.self.inside.bytes.items c.cover.ensures.same ∙ c.self.view_is)
+    OnErr-always c.from_residual.result
+    (patched-same c.self.inside.holes.items c.cover.new.marks.items c.self.inside.bytes.items c.cover.ensures.same
+    ∙ c.self.view_is)
 
 pub returns-in_err-extend_from_slice-clause-err : goal.returns-in_err-extend_from_slice-clause-err
 returns-in_err-extend_from_slice-clause-err g c =
     OnErr-always c.from_residual-in_err-extend_from_slice.result
     (ap (patched c.cover.new.marks.items) c.in_err-extend_from_slice.ensures.items
-    ∙ patched-same c.self.inside.holes.items c.cover.new.marks.items c.self.inside.bytes.items c.cover.ensures.same ∙ c.self.view_is)
+    ∙ patched-same c.self.inside.holes.items c.cover.new.marks.items c.self.inside.bytes.items c.cover.ensures.same
+    ∙ c.self.view_is)
 
 pub returns-clause-ok : goal.returns-clause-ok
 returns-clause-ok g c =
@@ -25,6 +29,9 @@ returns-clause-ok g c =
     let k = words_for (8 * length c.args.xs.now) in
     let q = c.requires in
     let z : pad (length c.args.xs.now) ≡ 0 = omega arith in
-    ap (patched c.cover.new.marks.items) (c.in_ok-extend_from_slice.ensures.items ∙ ap (λ (ys : List ℕ). c.self.inside.bytes.items ++ ys) (sym (no-padding content z)))
-    ∙ patched-padded c.self.inside.holes.items c.cover.new.marks.items c.self.inside.bytes.items content k c.self.invariant c.cover.ensures.same (omega arith)
-    ∙ ap (λ (xs : List (Option ℕ)). xs ++ whole (packed 8 8 (words_for (8 * length c.args.xs.now)) c.args.xs.now)) c.self.view_is
+    ap (patched c.cover.new.marks.items) (c.in_ok-extend_from_slice.ensures.items
+    ∙ ap (λ (ys : List ℕ). c.self.inside.bytes.items ++ ys) (sym (no-padding content z)))
+    ∙ patched-padded c.self.inside.holes.items c.cover.new.marks.items c.self.inside.bytes.items content k
+    c.self.invariant c.cover.ensures.same (omega arith)
+    ∙ ap (λ (xs : List (Option ℕ)). xs ++ whole (packed 8 8 (words_for (8 * length c.args.xs.now)) c.args.xs.now))
+    c.self.view_is

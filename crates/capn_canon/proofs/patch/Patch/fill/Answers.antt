@@ -34,8 +34,10 @@ invariant_of-self g c =
     let v = ap length c.self.view_is in
     let h = slice_get_within c.args.self.now c.args.at None c.requires in
     let lt : c.args.at < length c.self.inside.bytes.items / 8 = omega arith in
-    is-filled c.self.inside.holes.items c.unmark.new.marks.items c.self.inside.bytes.items c.write_at.new.bytes.items c.args.at c.args.word
-    c.self.invariant lt (omega arith) c.unmark.ensures.len c.write_at.ensures c.unmark.ensures.here c.unmark.ensures.others
+    is-filled c.self.inside.holes.items c.unmark.new.marks.items c.self.inside.bytes.items c.write_at.new.bytes.items
+    c.args.at c.args.word
+    c.self.invariant lt (omega arith) c.unmark.ensures.len c.write_at.ensures c.unmark.ensures.here
+    c.unmark.ensures.others
 
 pub returns : goal.returns
 returns g c =
@@ -43,6 +45,8 @@ returns g c =
     let v = ap length c.self.view_is in
     let h = slice_get_within c.args.self.now c.args.at None c.requires in
     let lt : c.args.at < length c.self.inside.bytes.items / 8 = omega arith in
-    patched-fill c.self.inside.holes.items c.unmark.new.marks.items c.self.inside.bytes.items c.write_at.new.bytes.items c.args.at c.args.word
-    c.self.invariant lt (omega arith) c.unmark.ensures.len c.write_at.ensures c.unmark.ensures.here c.unmark.ensures.others
+    patched-fill c.self.inside.holes.items c.unmark.new.marks.items c.self.inside.bytes.items c.write_at.new.bytes.items
+    c.args.at c.args.word
+    c.self.invariant lt (omega arith) c.unmark.ensures.len c.write_at.ensures c.unmark.ensures.here
+    c.unmark.ensures.others
     ∙ ap (λ (xs : List (Option ℕ)). set xs c.args.at (Some c.args.word)) c.self.view_is

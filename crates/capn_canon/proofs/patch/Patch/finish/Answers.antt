@@ -6,5 +6,6 @@ use Rattle.capn_canon.proofs.patch.Patch.finish.Goals as goal
 
 pub returns-clause-ok : goal.returns-clause-ok
 returns-clause-ok g c =
-    patched-whole c.self.inside.holes.items c.self.inside.bytes.items c.self.invariant (subst IsWhole (sym c.self.view_is) c.requires)
+    patched-whole c.self.inside.holes.items c.self.inside.bytes.items c.self.invariant
+    (subst IsWhole (sym c.self.view_is) c.requires)
     ∙ ap (λ (xs : List (Option ℕ)). bytes (filled xs)) c.self.view_is

@@ -1,4 +1,5 @@
-use Rattle.std.proofs.Common.{◌≡◌, ◌+◌, ◌-◌, ◌++◌, ◌∙◌, ap, ap₂, sym, List, Option, Some, None, ℕ, length, replicate, append-nil, length-append, set, arith}
+use Rattle.std.proofs.Common.{◌≡◌, ◌+◌, ◌-◌, ◌++◌, ◌∙◌, ap, ap₂, sym, List, Option, Some, None, ℕ, length, replicate}
+use Rattle.std.proofs.Common.{append-nil, length-append, set, arith}
 use Rattle.std.proofs.lemmas.List.{length-replicate}
 use Rattle.capn_canon.proofs.Patched.{next_hole}
 use Rattle.capn_canon.proofs.patch.Patch.leave.Goals as goal
@@ -31,8 +32,10 @@ open-requires g c =
     let at = c.len-at.result in
     let a = c.loop-i.auto.i in
     let v = ap length c.loop-i.invariant in
-    let k = length-append c.args.self.now (replicate (c.loop-i.i - at) None ++ replicate (c.args.n - (c.loop-i.i - at)) (Some 0)) in
-    let j = length-append {A = Option ℕ} (replicate (c.loop-i.i - at) None) (replicate (c.args.n - (c.loop-i.i - at)) (Some 0)) in
+    let k = length-append c.args.self.now
+    (replicate (c.loop-i.i - at) None ++ replicate (c.args.n - (c.loop-i.i - at)) (Some 0)) in
+    let j = length-append {A =
+    Option ℕ} (replicate (c.loop-i.i - at) None) (replicate (c.args.n - (c.loop-i.i - at)) (Some 0)) in
     let r = length-replicate {A = Option ℕ} (c.loop-i.i - at) None in
     let s = length-replicate {A = Option ℕ} (c.args.n - (c.loop-i.i - at)) (Some 0) in
     let l = ap length c.in_ok-append_zeros.ensures.ok in

@@ -16,10 +16,12 @@ invariant_of-self g c =
     let v = ap length c.self.view_is in
     let h = c.requires in
     let lt : c.args.at < length c.self.inside.bytes.items / 8 = omega arith in
-    is-marked c.self.inside.holes.items c.mark.new.marks.items c.self.inside.bytes.items c.args.at true c.self.invariant lt
+    is-marked c.self.inside.holes.items c.mark.new.marks.items c.self.inside.bytes.items c.args.at true c.self.invariant
+    lt
     c.mark.ensures.len c.mark.ensures.here c.mark.ensures.others
 
 pub returns : goal.returns
 returns g c =
-    patched-open c.self.inside.holes.items c.mark.new.marks.items c.self.inside.bytes.items c.args.at c.mark.ensures.others c.mark.ensures.here
+    patched-open c.self.inside.holes.items c.mark.new.marks.items c.self.inside.bytes.items c.args.at
+    c.mark.ensures.others c.mark.ensures.here
     ∙ ap (λ (xs : List (Option ℕ)). set xs c.args.at None) c.self.view_is

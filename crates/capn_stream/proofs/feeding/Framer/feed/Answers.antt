@@ -4,5 +4,8 @@ use Rattle.capn_stream.proofs.feeding.Framer.feed.Goals as goal
 pub returns : goal.returns
 returns g c =
     rw (← c.self.view_is)
-    (feed_gives c.self.inside.frame.items c.args.piece.now c.self.inside.max_words c.fill-fed.result c.fill-fed.new.stage c.fill-fed.new.bytes.items c.fill-fed.new.ends.items c.self.inside.failed c.is_err-self-inside.result
-    c.self.invariant.small c.if-self.false c.is_err-self-inside.ensures.value c.fill-fed.ensures.filled c.fill-fed.ensures.refused)
+    (feed_gives c.self.inside.frame.items c.args.piece.now c.self.inside.max_words c.fill-fed.result
+    c.fill-fed.new.stage c.fill-fed.new.bytes.items c.fill-fed.new.ends.items c.self.inside.failed
+    c.is_err-self-inside.result
+    c.self.invariant.small c.if-self.false c.is_err-self-inside.ensures.value c.fill-fed.ensures.filled
+    c.fill-fed.ensures.refused)

@@ -7,5 +7,11 @@ use Rattle.capn_stream.proofs.feeding.Framer.finish.Goals as goal
 pub returns-in-Contents : goal.returns-in-Contents
 returns-in-Contents g c =
     let is = c.self.invariant.is c.if-self.false in
-    let done = subst (λ (s : Stage). IsDone s c.self.inside.frame.items) (sym c.in-Contents.is) (sym (c.if-end-len.true ∙ c.len.ensures ∙ c.self.inside.frame.ok.0)) in
-    rw (← c.self.view_is) (c.if-self.false, inr (frame_done c.self.inside.stage c.self.inside.frame.items c.self.inside.max_words c.self.inside.ends.items c.self.invariant.small is done), refl)
+    let done = subst (λ (s : Stage). IsDone s c.self.inside.frame.items) (sym c.in-Contents.is)
+    (sym (c.if-end-len.true ∙ c.len.ensures ∙ c.self.inside.frame.ok.0)) in
+    rw (← c.self.view_is) (
+      c.if-self.false,
+      inr (frame_done c.self.inside.stage c.self.inside.frame.items c.self.inside.max_words c.self.inside.ends.items
+          c.self.invariant.small is done),
+      refl,
+    )

@@ -4,14 +4,17 @@ use Rattle.capn_stream.proofs.owned.StoredSpace.words.Goals as goal
 
 pub returns-then-segment-len : goal.returns-then-segment-len
 returns-then-segment-len g c =
-    let count = seen_count c.self.inside.ends.items c.self.inside.words c.args.self.now c.self.view_is c.self.invariant in
+    let count = seen_count c.self.inside.ends.items c.self.inside.words c.args.self.now c.self.view_is
+    c.self.invariant in
     sym (words_of-none c.args.self.now c.args.segment (omega (arith, count)))
 
 pub overflow_sub-result : goal.overflow_sub-result
 overflow_sub-result g c =
-    let count = seen_count c.self.inside.ends.items c.self.inside.words c.args.self.now c.self.view_is c.self.invariant in
+    let count = seen_count c.self.inside.ends.items c.self.inside.words c.args.self.now c.self.view_is
+    c.self.invariant in
     let here : c.args.segment < length c.args.self.now = omega (arith, count) in
-    let order = seen_order c.self.inside.ends.items c.self.inside.words c.args.self.now c.self.view_is c.self.invariant c.args.segment here in
+    let order = seen_order c.self.inside.ends.items c.self.inside.words c.args.self.now c.self.view_is c.self.invariant
+    c.args.segment here in
     let all = c.len-all.ensures in
     let start = rw c.deref-2.ensures.value at c.start_of.ensures in
     let end = rw (c.deref.ensures.value, all) at c.end_of.ensures in
@@ -19,9 +22,11 @@ overflow_sub-result g c =
 
 pub returns : goal.returns
 returns g c =
-    let count = seen_count c.self.inside.ends.items c.self.inside.words c.args.self.now c.self.view_is c.self.invariant in
+    let count = seen_count c.self.inside.ends.items c.self.inside.words c.args.self.now c.self.view_is
+    c.self.invariant in
     let here : c.args.segment < length c.args.self.now = omega (arith, count) in
-    let size = seen_size c.self.inside.ends.items c.self.inside.words c.args.self.now c.self.view_is c.self.invariant c.args.segment here in
+    let size = seen_size c.self.inside.ends.items c.self.inside.words c.args.self.now c.self.view_is c.self.invariant
+    c.args.segment here in
     let all = c.len-all.ensures in
     let start = rw c.deref-2.ensures.value at c.start_of.ensures in
     let end = rw (c.deref.ensures.value, all) at c.end_of.ensures in

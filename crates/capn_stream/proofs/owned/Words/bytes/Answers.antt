@@ -22,5 +22,6 @@ returns g c =
     let tail : List ℕ = drop c.self.inside.start c.self.inside.frame.items in
     let b = seen_bytes tail c.args.self.now c.self.view_is c.self.invariant.below c.self.invariant.whole in
     c.part.ensures
-    ∙ ap (λ (bs : List ℕ). take c.args.len (drop (8 * c.args.index) (drop c.self.inside.start bs))) c.deref.ensures.value
+    ∙ ap (λ (bs : List ℕ). take c.args.len (drop (8 * c.args.index) (drop c.self.inside.start bs)))
+    c.deref.ensures.value
     ∙ ap (λ (bs : List ℕ). take c.args.len (drop (8 * c.args.index) bs)) (sym b)

@@ -14,4 +14,6 @@ pub returns : goal.returns
 returns g c =
     let tail : List ℕ = drop c.self.inside.start c.self.inside.frame.items in
     let w = seen_word tail c.args.self.now c.self.view_is c.args.index c.requires in
-    c.word_of.ensures ∙ ap (λ (bs : List ℕ). word_number (drop (8 * c.args.index) (drop c.self.inside.start bs))) c.deref.ensures.value ∙ sym w
+    c.word_of.ensures
+    ∙ ap (λ (bs : List ℕ). word_number (drop (8 * c.args.index) (drop c.self.inside.start bs)))
+    c.deref.ensures.value ∙ sym w

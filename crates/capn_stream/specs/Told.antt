@@ -1,0 +1,22 @@
+-- The text of a fault, as it is displayed. (Own.)
+use Rattle.std.specs.Prelude.{ℕ, List, ◌++◌, codes}
+use Rattle.std.specs.Fmt.{decimal}
+use Rattle.capn_stream.specs.declared.fault.FrameFault.{FrameFault}
+use Rattle.capn_stream.specs.declared.fault.FrameFault.TheVariants as frames
+use Rattle.capn_stream.specs.declared.fault.ReadFault.{ReadFault}
+use Rattle.capn_stream.specs.declared.fault.ReadFault.TheVariants as reads
+
+-- why bytes are no frame
+abbrev pub frame_text : FrameFault → List ℕ
+frame_text frames.Memory = codes "out of memory"
+frame_text frames.Empty = codes "Empty"
+frame_text (frames.TooManySegments n) = codes "TooManySegments(" ++ decimal n ++ codes ")"
+frame_text (frames.TooManyWords n) = codes "TooManyWords(" ++ decimal n ++ codes ")"
+frame_text frames.Cut = codes "Cut"
+frame_text frames.Failed = codes "Failed"
+
+-- why no message was read
+abbrev pub read_text : ReadFault → List ℕ
+read_text reads.Memory = codes "out of memory"
+read_text reads.Io = codes "input or output failed"
+read_text (reads.Frame fault) = codes "frame: " ++ frame_text fault
