@@ -7,7 +7,7 @@ ghost use Rattle.capn_canon.specs.Patch.{IsHole, IsWhole, filled, whole};
 ghost use Rattle.capn_canon.specs.Layout.{packed, words_for};
 
 use crate::marks::{cover, mark, unmark};
-use crate::packing::{append_bytes, append_octs, append_pairs, append_quads};
+use crate::elements::{append_bytes, append_octs, append_pairs, append_quads};
 use byteorder::{ByteOrder, LittleEndian};
 use capn_value::Memory;
 use std::alloc::{Allocator, Global};

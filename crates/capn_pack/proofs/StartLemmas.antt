@@ -7,7 +7,7 @@ use Rattle.std.specs.List.{AllByRecursion}
 use Rattle.capn_pack.specs.Group.{Group, IsGroup, text, words}
 use Rattle.capn_pack.specs.Group.Group.{Zeros, Named, Raw}
 use Rattle.capn_pack.specs.Joins.{Joins}
-use Rattle.capn_pack.specs.declared.pieces.Joined.TheVariants as joins
+use Rattle.capn_pack.specs.declared.unpack_piece.Joined.TheVariants as joins
 use Rattle.capn_pack.specs.Packs.{texts, contents, word_count}
 use Rattle.capn_pack.specs.Refusal.{StartsWithin}
 use Rattle.capn_pack.specs.Steps.{TakesRow}

@@ -2,9 +2,9 @@
 use Rattle.std.specs.Prelude.{ℕ, ◌≡◌, ◌<◌, ◌≤◌, ◌++◌, List, length, take}
 use Rattle.capn_pack.specs.Group.{Group, IsGroup, text, content}
 use Rattle.capn_pack.specs.Stream.{NoGroupFirst}
-use Rattle.capn_pack.specs.declared.taking.TheConstants.{GROUP}
-use Rattle.capn_pack.specs.declared.pieces.Joined.{Joined}
-use Rattle.capn_pack.specs.declared.pieces.Joined.TheVariants.{Open, Whole}
+use Rattle.capn_pack.specs.declared.unpack_group.TheConstants.{GROUP}
+use Rattle.capn_pack.specs.declared.unpack_piece.Joined.{Joined}
+use Rattle.capn_pack.specs.declared.unpack_piece.Joined.TheVariants.{Open, Whole}
 
 -- They are still unfinished and all held, or the front of the piece made the group whole.
 abbrev pub Joins : List ℕ → List ℕ → List ℕ → List ℕ → List ℕ → Joined → Type 0

@@ -2,8 +2,8 @@
 ghost use Rattle.std.specs.Prelude.{◌≡◌, ◌+◌, ◌≤◌, ◌∷◌, ◌++◌, length, take, replicate, count_ones, ℕ};
 ghost use Rattle.capn_pack.specs.Tag.{tag_of, named_bytes, IsNamedBy};
 
-use crate::gathers::gather_places;
-use crate::spreads::spread_places;
+use crate::gather_table::gather_places;
+use crate::spread_table::spread_places;
 use std::simd::prelude::*;
 
 /// The tag of a word: bit i is 1 exactly if byte i isn't zero (encoding page, "Packing").

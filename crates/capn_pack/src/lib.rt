@@ -15,23 +15,23 @@
 #![tactic(auto)]
 
 mod fault;
-mod filling;
-mod gathers;
+mod gather_table;
 mod lanes;
 pub mod laws;
-mod pieces;
-mod putting;
-mod reading;
+mod pack_block;
+mod pack_group;
+mod packing;
 mod runs;
 mod signs;
-mod spreads;
-mod storing;
-mod stream;
-mod taking;
-mod writing;
+mod spread_table;
+mod unpack_block;
+mod unpack_group;
+mod unpack_piece;
+mod unpacker;
+mod unpacking;
 
 pub use fault::{PackFault, UnpackFault};
 pub use lanes::tag;
-pub use reading::unpack;
-pub use stream::Unpacker;
-pub use writing::pack;
+pub use packing::pack;
+pub use unpacker::Unpacker;
+pub use unpacking::unpack;

@@ -16,11 +16,11 @@
 
 mod fault;
 mod feeding;
+mod framed;
 pub mod laws;
 mod owned;
 mod reading;
 mod receiving;
-mod segments;
 mod sending;
 mod stage;
 mod table;
@@ -28,10 +28,10 @@ mod writing;
 
 pub use fault::{FrameFault, Io, Memory, ReadFault};
 pub use feeding::Framer;
+pub use framed::Framed;
 pub use owned::Stored;
 pub use reading::first;
 pub use receiving::read_message;
-pub use segments::Framed;
 pub use sending::write_message;
 pub use table::MOST_TABLE_WORDS;
 pub use writing::frame;

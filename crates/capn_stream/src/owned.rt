@@ -5,7 +5,7 @@ ghost use Rattle.capn_words.specs.Words.{AreBytes, bytes, word_number, words_in}
 ghost use Rattle.capn_stream.specs.Cuts.{AreEnds, cut};
 ghost use Rattle.capn_stream.specs.Owned.{IsTail};
 
-use crate::segments::{end_of, start_of};
+use crate::framed::{end_of, start_of};
 use byteorder::{ByteOrder, LittleEndian};
 use capn_words::space::{Place, Space};
 use std::alloc::{Allocator, Global};

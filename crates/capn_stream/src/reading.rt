@@ -6,7 +6,7 @@ ghost use Rattle.capn_stream.specs.Frames.{StandsFirst};
 ghost use Rattle.capn_stream.specs.Reading.{HasTable, IsRefused};
 
 use crate::fault::FrameFault;
-use crate::segments::Framed;
+use crate::framed::Framed;
 use crate::table::{ends_of, head_of, read_head};
 use capn_words::bare::Bare;
 use std::alloc::Allocator;

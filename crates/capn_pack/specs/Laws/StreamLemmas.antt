@@ -14,7 +14,7 @@ use Rattle.capn_pack.specs.Steps.{Takes, TakesRow}
 use Rattle.capn_pack.specs.Stream.{Splits, Begins, NoGroupFirst}
 use Rattle.capn_pack.specs.Refusal.{IsCut, head_len, len_at}
 use Rattle.capn_pack.specs.Joins.{Joins}
-use Rattle.capn_pack.specs.declared.pieces.Joined.TheVariants as joins
+use Rattle.capn_pack.specs.declared.unpack_piece.Joined.TheVariants as joins
 use Rattle.capn_pack.specs.Laws.GroupLemmas.{rest_is, each_append, text_some}
 use Rattle.capn_pack.specs.Laws.GroupLaws.{no_group}
 

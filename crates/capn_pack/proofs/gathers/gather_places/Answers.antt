@@ -1,6 +1,0 @@
-use Rattle.std.proofs.Common.{arith}
-use Rattle.capn_pack.proofs.LaneLemmas.{gather_entry}
-use Rattle.capn_pack.proofs.gathers.gather_places.Goals as goal
-
-pub returns : goal.returns
-returns c = gather_entry c.args.tag _ (omega arith)

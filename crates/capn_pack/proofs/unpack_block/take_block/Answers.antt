@@ -1,0 +1,32 @@
+use Rattle.std.proofs.Common.{arith, ap, length, take, length-append, length-take}
+use Rattle.std.proofs.lemmas.Result.{err_from_is_err_and}
+use Rattle.capn_pack.proofs.StartLemmas.{row_starts}
+use Rattle.capn_pack.proofs.RowLemmas.{row_behind, row_whole}
+use Rattle.capn_pack.proofs.unpack_block.take_block.Goals as goal
+
+pub returns-clause-row : goal.returns-clause-row
+returns-clause-row g c = row_behind _ _ _ _ _ c.fill_block-filled.ensures.row c.in_ok-extend_from_slice.ensures.items
+
+pub returns-clause-counted : goal.returns-clause-counted
+returns-clause-counted g c =
+    let filled = c.fill_block-filled.result.fill in
+    let block = c.fill_block-filled.new.block in
+    omega (
+      arith,
+      (row_whole _ _ _ c.fill_block-filled.ensures.row).1,
+      ap length c.in_ok-extend_from_slice.ensures.items,
+      length-append c.args.out.now.items (take filled block),
+      length-take filled block,
+    )
+
+pub returns-in_err-extend_from_slice-clause-wanted : goal.returns-in_err-extend_from_slice-clause-wanted
+returns-in_err-extend_from_slice-clause-wanted g c =
+    let filled = c.fill_block-filled.result.fill in
+    let block = c.fill_block-filled.new.block in
+    let size = length-take filled block in
+    let p = err_from_is_err_and c.from_residual.result c.from_residual.ensures.1 in
+    rw p.1
+    (row_starts c.args.rest.now c.fill_block-filled.result.at c.args.room (take filled block)
+    c.fill_block-filled.ensures.row
+    (omega (arith, c.in_err-extend_from_slice.ensures.full, c.args.out.now.ok.1))
+    (omega (arith, size, c.fill_block-filled.ensures.within, c.min-limit.ensures)))

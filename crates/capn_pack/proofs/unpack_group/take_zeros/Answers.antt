@@ -1,0 +1,27 @@
+use Rattle.std.proofs.Common.{arith, ap, ◌∙◌, refl, ◌∷◌, [], get_or, vec_len, ◌*◌, ◌+◌}
+use Rattle.capn_pack.specs.Laws.GroupLemmas.{take_two, resized}
+use Rattle.capn_pack.proofs.StartLemmas.{starts}
+use Rattle.capn_pack.specs.Group.Group.{Zeros}
+use Rattle.capn_pack.proofs.unpack_group.take_zeros.Goals as goal
+
+pub returns-clause-ok : goal.returns-clause-ok
+returns-clause-ok g c =
+    let rest = c.args.rest.now in
+    record {
+      group = Zeros (get_or rest 1 0);
+      is_group = omega (arith, c.type_inv.rest 1);
+      within = omega arith;
+      text = take_two rest (omega arith) ∙ ap (λ b. b ∷ get_or rest 1 0 ∷ []) c.requires.tag;
+      counted = refl;
+      fits = omega arith;
+      content = c.in_ok-resize.ensures.items
+          ∙ rw c.len-len.ensures
+          (resized c.args.out.now.items (vec_len c.args.out.now) (8 * (1 + get_or rest 1 0))
+          (omega (arith, c.args.out.now.ok.0)));
+    }
+
+pub returns-in_err-resize-clause-wanted : goal.returns-in_err-resize-clause-wanted
+returns-in_err-resize-clause-wanted g c is =
+    let rest = c.args.rest.now in
+    starts rest 2 c.args.room (Zeros (get_or rest 1 0)) (omega (arith, c.type_inv.rest 1))
+    (take_two rest (omega arith) ∙ ap (λ b. b ∷ get_or rest 1 0 ∷ []) c.requires.tag) (omega arith)

@@ -1,0 +1,148 @@
+//! One group read, and its words appended.
+ghost use Rattle.std.specs.Prelude.{◌≡◌, ◌+◌, ◌*◌, ◌<◌, ◌≤◌, length, IfOk, OnErr, IsErrOf, slice_index};
+ghost use Rattle.capn_pack.specs.Refusal.{IsCut, IsTooLong, StartsWithin};
+ghost use Rattle.capn_pack.specs.Steps.{Takes};
+
+use crate::lanes::spread;
+use std::alloc::{AllocError, Allocator};
+
+/// The longest group has so many bytes, and an unfinished one fewer: a tag, a word, a count and 255 words.
+pub(crate) const GROUP: usize = 2050;
+
+/// A group has no more words.
+pub(crate) const WORDS: usize = 256;
+
+/// Why one group isn't read.
+#[derive(Debug, Drop, Clone, Copy)]
+pub(crate) enum Stop {
+    /// A growth was refused.
+    Memory,
+    /// The bytes end within the group.
+    Cut,
+    /// The group has more words than there is room for.
+    TooLong,
+}
+
+impl From<AllocError> for Stop {
+    ghost use Rattle.capn_pack.specs.declared.unpack_group.Stop.TheVariants.{Memory};
+
+    ghost from_gives = { λ _ e. e ≡ Memory };
+
+    fn from(_error: AllocError) -> Self {
+        Stop::Memory
+    }
+}
+
+/// A group that was read.
+#[derive(Debug, Drop, Clone, Copy)]
+pub(crate) struct Taken {
+    /// How many bytes it took.
+    pub bytes: usize,
+    /// How many words it has.
+    pub words: usize,
+}
+
+/// A zero word, and so many more.
+#[inline(always)]
+fn take_zeros<A: Allocator>(rest: &[u8], room: usize, out: &mut Vec<u8, A>) -> Result<Taken, Stop>
+    requires some { 0 < length rest.now }
+    requires tag { slice_index rest.now 0 ≡ 0 }
+    ensures ok { IfOk result (λ t. Takes rest.now room t.bytes t.words out.old.items out.new.items) }
+    ensures cut { IsErrOf result Stop.Cut → IsCut room rest.now }
+    ensures short { IsErrOf result Stop.Cut → length rest.now < GROUP }
+    ensures too_long { IsErrOf result Stop.TooLong → IsTooLong room rest.now }
+    ensures wanted { IsErrOf result Stop.Memory → StartsWithin rest.now room }
+    ensures err { OnErr result (out.new.items ≡ out.old.items) }
+{
+    if rest.len() < 2 {
+        return Err(Stop::Cut);
+    }
+    let words = 1 + rest[1] as usize;
+    if words > room {
+        return Err(Stop::TooLong);
+    }
+    let len = out.len();
+    out.resize(len + 8 * words, 0)?;
+    Ok(Taken { bytes: 2, words })
+}
+
+/// A group with one word, of which the tag names some bytes.
+fn take_named<A: Allocator>(rest: &[u8], room: usize, out: &mut Vec<u8, A>) -> Result<Taken, Stop>
+    requires some { 0 < length rest.now }
+    requires above { 0 < slice_index rest.now 0 }
+    requires below { slice_index rest.now 0 < 255 }
+    ensures ok { IfOk result (λ t. Takes rest.now room t.bytes t.words out.old.items out.new.items) }
+    ensures cut { IsErrOf result Stop.Cut → IsCut room rest.now }
+    ensures short { IsErrOf result Stop.Cut → length rest.now < GROUP }
+    ensures too_long { IsErrOf result Stop.TooLong → IsTooLong room rest.now }
+    ensures wanted { IsErrOf result Stop.Memory → StartsWithin rest.now room }
+    ensures err { OnErr result (out.new.items ≡ out.old.items) }
+{
+    let tag = rest[0];
+    let named = tag.count_ones() as usize;
+    if rest.len() <= named {
+        return Err(Stop::Cut);
+    }
+    if room < 1 {
+        return Err(Stop::TooLong);
+    }
+    let word = spread(tag, &rest[1..]);
+    out.extend_from_slice(&word)?;
+    Ok(Taken {
+        bytes: 1 + named,
+        words: 1,
+    })
+}
+
+/// A word written whole, and so many more.
+#[inline(always)]
+fn take_raw<A: Allocator>(rest: &[u8], room: usize, out: &mut Vec<u8, A>) -> Result<Taken, Stop>
+    requires some { 0 < length rest.now }
+    requires tag { slice_index rest.now 0 ≡ 255 }
+    ensures ok { IfOk result (λ t. Takes rest.now room t.bytes t.words out.old.items out.new.items) }
+    ensures cut { IsErrOf result Stop.Cut → IsCut room rest.now }
+    ensures short { IsErrOf result Stop.Cut → length rest.now < GROUP }
+    ensures too_long { IsErrOf result Stop.TooLong → IsTooLong room rest.now }
+    ensures wanted { IsErrOf result Stop.Memory → StartsWithin rest.now room }
+    ensures err { OnErr result (out.new.items ≡ out.old.items) }
+{
+    if rest.len() < 10 {
+        return Err(Stop::Cut);
+    }
+    let more = rest[9] as usize;
+    if 1 + more > room {
+        return Err(Stop::TooLong);
+    }
+    let bytes = 10 + 8 * more;
+    if rest.len() < bytes {
+        return Err(Stop::Cut);
+    }
+    out.reserve(8 + 8 * more)?;
+    out.extend_from_slice(&rest[1..9])?;
+    out.extend_from_slice(&rest[10..bytes])?;
+    Ok(Taken {
+        bytes,
+        words: 1 + more,
+    })
+}
+
+/// Reads the group that stands first, and appends its words.
+pub(crate) fn take_group<A: Allocator>(
+    rest: &[u8],
+    room: usize,
+    out: &mut Vec<u8, A>,
+) -> Result<Taken, Stop>
+    requires { 0 < length rest.now }
+    ensures ok { IfOk result (λ t. Takes rest.now room t.bytes t.words out.old.items out.new.items) }
+    ensures cut { IsErrOf result Stop.Cut → IsCut room rest.now }
+    ensures short { IsErrOf result Stop.Cut → length rest.now < GROUP }
+    ensures too_long { IsErrOf result Stop.TooLong → IsTooLong room rest.now }
+    ensures wanted { IsErrOf result Stop.Memory → StartsWithin rest.now room }
+    ensures err { OnErr result (out.new.items ≡ out.old.items) }
+{
+    match rest[0] {
+        0 => take_zeros(rest, room, out),
+        255 => take_raw(rest, room, out),
+        _ => take_named(rest, room, out),
+    }
+}

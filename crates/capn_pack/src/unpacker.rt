@@ -1,0 +1,111 @@
+//! Unpacking a text that comes in pieces.
+ghost use Rattle.std.specs.Prelude.{◌≡◌, ◌++◌, [], true, false, IfErr, OnOk, IsErrOf, IsOk};
+ghost use Rattle.capn_pack.specs.Stream.{Feeds, Begins, NoGroupFirst};
+
+use crate::fault::UnpackFault;
+use crate::unpack_piece::{HELD, feed_held};
+use std::alloc::Allocator;
+use std::marker::Model;
+
+/// Unpacks a text that comes in pieces, cut anywhere (own).
+///
+/// It keeps the bytes of the unfinished group, of which there are at most 2,049, and the offset of that group's tag in
+/// the text; it has its room inside and takes no memory but for what a piece's words need. After any refusal each later
+/// call answers `Failed` and changes nothing.
+#[derive(Drop)]
+pub struct Unpacker {
+    held: [u8; HELD],
+    len: usize,
+    offset: u64,
+    failed: bool,
+}
+
+impl Model for Unpacker {
+    ghost use Rattle.std.specs.Prelude.{◌<◌, take};
+    ghost use Rattle.capn_pack.specs.Stream.{Held, NoGroupFirst};
+    ghost use Rattle.capn_pack.specs.declared.unpack_group.TheConstants.{GROUP};
+
+    ghost Value = { Held };
+
+    ghost view = { λ a. record { rest = take a.len a.held; offset = a.offset; failed = a.failed } };
+
+    ghost invariant = { λ a. (a.len < GROUP) × NoGroupFirst (take a.len a.held) };
+}
+
+impl Unpacker {
+    /// At the beginning of a text. It takes no memory.
+    pub fn new() -> Unpacker
+        ensures { result ≡ record { rest = []; offset = 0; failed = false } }
+    {
+        Unpacker {
+            held: [0; HELD],
+            len: 0,
+            offset: 0,
+            failed: false,
+        }
+    }
+
+    /// Takes the next piece, and appends the bytes of the words of every group that is whole by now, and of no other.
+    ///
+    /// The piece is taken whole: what remains of it is held. There is no maximum of words; the pieces bound them.
+    ///
+    /// Refusals: `Memory` where a growth of `out` was refused, and then a beginning of those words was appended (a
+    /// piece that makes no group whole takes no memory); `Failed` after an earlier refusal, and then `out` is as it
+    /// was.
+    pub fn feed<A: Allocator>(
+        &mut self,
+        piece: &[u8],
+        out: &mut Vec<u8, A>,
+    ) -> Result<(), UnpackFault>
+        // What was held and the piece are whole groups, whose words were appended, and what is held now.
+        ensures fed { OnOk result (Feeds self.old piece.now out.old.items out.new.items self.new) }
+        // Without memory a beginning of the words was appended, and the text can't be gone on with.
+        ensures memory { IsErrOf result UnpackFault.Memory
+            → Begins (self.old.rest ++ piece.now) out.old.items out.new.items
+            × (self.new.failed ≡ true) }
+        // Memory is wanted only where a group became whole.
+        ensures wanted { IsErrOf result UnpackFault.Memory → NoGroupFirst (self.old.rest ++ piece.now) → ⊥ }
+        // After a refusal nothing changes any more.
+        ensures failed { self.old.failed ≡ true → (result ≡ Err UnpackFault.Failed)
+            × (out.new.items ≡ out.old.items) × (self.new ≡ self.old) }
+        // Before one, only memory can be wanting.
+        ensures kinds { self.old.failed ≡ false → IfErr result (λ e. e ≡ UnpackFault.Memory) }
+    {
+        if self.failed {
+            return Err(UnpackFault::Failed);
+        }
+        match feed_held(&mut self.held, self.len, piece, out) {
+            Ok(fed) => {
+                self.len = fed.len;
+                self.offset = self.offset.saturating_add(fed.taken as u64);
+                Ok(())
+            }
+            Err(_) => {
+                self.len = 0;
+                self.failed = true;
+                Err(UnpackFault::Memory)
+            }
+        }
+    }
+
+    /// The end of the text.
+    ///
+    /// Refusals: `Cut` at the offset of the unfinished group's tag, if there is one; `Failed` after an earlier refusal.
+    /// After Ok the text may go on. It takes no memory.
+    pub fn finish(&mut self) -> Result<(), UnpackFault>
+        ensures ok { OnOk result ((self.old.rest ≡ []) × (self.old.failed ≡ false) × (self.new ≡ self.old)) }
+        ensures cut { self.old.failed ≡ false → (self.old.rest ≡ [] → ⊥)
+            → (result ≡ Err (UnpackFault.Cut self.old.offset)) × (self.new.failed ≡ true) }
+        ensures failed { self.old.failed ≡ true → (result ≡ Err UnpackFault.Failed) × (self.new ≡ self.old) }
+        ensures whole { self.old.failed ≡ false → self.old.rest ≡ [] → IsOk result }
+    {
+        if self.failed {
+            return Err(UnpackFault::Failed);
+        }
+        if self.len == 0 {
+            return Ok(());
+        }
+        self.failed = true;
+        Err(UnpackFault::Cut { at: self.offset })
+    }
+}
