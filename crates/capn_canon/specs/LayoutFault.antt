@@ -2,8 +2,8 @@
 use Rattle.std.specs.Prelude.{◌≡◌, Some, ⊤}
 use Rattle.capn_value.specs.Tree.{Tree}
 use Rattle.capn_value.specs.Caps.{first_cap}
-use Rattle.capn_canon.specs.declared.layout.LayoutFault.{LayoutFault}
-use Rattle.capn_canon.specs.declared.layout.LayoutFault.TheVariants.{Memory, Capability}
+use Rattle.capn_canon.specs.declared.tree_layout.LayoutFault.{LayoutFault}
+use Rattle.capn_canon.specs.declared.tree_layout.LayoutFault.TheVariants.{Memory, Capability}
 
 -- a capability that is refused is the first in preorder (own)
 abbrev pub IsLayoutFault : Tree → LayoutFault → Type 0

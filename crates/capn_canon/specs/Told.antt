@@ -5,8 +5,8 @@ use Rattle.capn_words.specs.Told.{bare_text}
 use Rattle.capn_pack.specs.Told.{unpack_text}
 use Rattle.capn_stream.specs.Told.{frame_text}
 use Rattle.capn_walk.specs.Told.{stopped_text}
-use Rattle.capn_canon.specs.declared.layout.LayoutFault.{LayoutFault}
-use Rattle.capn_canon.specs.declared.layout.LayoutFault.TheVariants as layouts
+use Rattle.capn_canon.specs.declared.tree_layout.LayoutFault.{LayoutFault}
+use Rattle.capn_canon.specs.declared.tree_layout.LayoutFault.TheVariants as layouts
 use Rattle.capn_canon.specs.declared.refusal.Refusal.{Refusal}
 use Rattle.capn_canon.specs.declared.refusal.Refusal.TheVariants as refusals
 

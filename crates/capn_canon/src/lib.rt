@@ -26,7 +26,7 @@
 mod accounting;
 mod bits;
 mod canonical;
-mod canonicalise;
+mod canonicalising;
 mod checked;
 mod checking;
 mod content;
@@ -36,7 +36,6 @@ mod finding;
 mod form;
 mod kept;
 pub mod laws;
-mod layout;
 mod listing;
 mod marks;
 mod opening;
@@ -47,17 +46,18 @@ mod refusal;
 mod rows;
 mod surveying;
 mod testing;
+mod tree_layout;
 mod verdict;
 
 pub use accounting::account;
 pub use canonical::{Canonical, canonical_of};
-pub use canonicalise::canonicalise;
+pub use canonicalising::canonicalise;
 pub use checked::Checked;
 pub use form::Form;
-pub use layout::{LayoutFault, layout};
 pub use patch::Patch;
 pub use refusal::Refusal;
 pub use surveying::survey;
+pub use tree_layout::{LayoutFault, layout};
 pub use verdict::{check, is_canonical};
 
 // What the signatures above name.

@@ -3,7 +3,7 @@ use Rattle.capn_canon.specs.Layout.{size}
 use Rattle.capn_canon.specs.Sound.{Sound}
 use Rattle.capn_canon.proofs.Sound.{sound}
 use Rattle.capn_canon.proofs.Room.{room}
-use Rattle.capn_canon.proofs.layout.layout.Goals as goal
+use Rattle.capn_canon.proofs.tree_layout.layout.Goals as goal
 
 pub layout_value-requires : goal.layout_value-requires
 layout_value-requires g c =

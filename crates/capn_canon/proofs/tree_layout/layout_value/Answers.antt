@@ -5,7 +5,7 @@ use Rattle.capn_canon.specs.Patch.{filled, IsWhole}
 use Rattle.capn_canon.specs.Layout.{words}
 use Rattle.capn_canon.proofs.Holes.{whole-is, filled-whole}
 use Rattle.capn_canon.proofs.Laid.{laid-words}
-use Rattle.capn_canon.proofs.layout.layout_value.Goals as goal
+use Rattle.capn_canon.proofs.tree_layout.layout_value.Goals as goal
 
 pub finish-requires : goal.finish-requires
 finish-requires g c =

@@ -1,7 +1,7 @@
 -- The clauses on the bytes follow from what is answered and refused, by the laws of canonical forms.
 use Rattle.std.proofs.Common.{arith}
 use Rattle.capn_canon.proofs.InEachForm.{found_only, found_short, found_form}
-use Rattle.capn_canon.proofs.canonicalise.canonicalise.Goals as goal
+use Rattle.capn_canon.proofs.canonicalising.canonicalise.Goals as goal
 
 pub returns-clause-only : goal.returns-clause-only
 returns-clause-only g c =

@@ -2,7 +2,7 @@
 use Rattle.std.proofs.Common.{arith}
 use Rattle.capn_canon.specs.Reads.{Unpacks}
 use Rattle.capn_canon.proofs.InEachForm.{packed_found, packed_err}
-use Rattle.capn_canon.proofs.canonicalise.of_packed.Goals as goal
+use Rattle.capn_canon.proofs.canonicalising.of_packed.Goals as goal
 
 pub returns-in-Ok-clause-found : goal.returns-in-Ok-clause-found
 returns-in-Ok-clause-found g c =
