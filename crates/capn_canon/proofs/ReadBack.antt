@@ -163,7 +163,8 @@ module _ (all : List ℕ) (small : length all ≤ 2 ^ 29) where
         let h1 = has-front all to (lay t to) (lays ts (to + size t)) kids in
         let h2 = shifted (to + length (lay t to)) (to + size t) (lays ts (to + size t)) (omega arith)
         (has-back all to (lay t to) (lays ts (to + size t)) kids) in
-        let h3 = shifted (from + 1) (suc from) rest (omega arith) (has-back all from (point t from to ∷ []) rest has) in (
+        let behind = has-back all from (point t from to ∷ []) rest has in
+        let h3 = shifted (from + 1) (suc from) rest (omega arith) behind in (
           reads t from to h.0 (omega arith) (has-word all from (point t from to) rest has) h1,
           reads-slots ts n (suc from) (to + size t) h.1 (omega arith) h3 h2,
         )

@@ -6,8 +6,8 @@ ghost use Rattle.capn_words.specs.Message.{word_bytes, bytes as bytes_of_words};
 ghost use Rattle.capn_canon.specs.Patch.{IsHole, IsWhole, filled, whole};
 ghost use Rattle.capn_canon.specs.Layout.{packed, words_for};
 
-use crate::marks::{cover, mark, unmark};
 use crate::elements::{append_bytes, append_octs, append_pairs, append_quads};
+use crate::marks::{cover, mark, unmark};
 use byteorder::{ByteOrder, LittleEndian};
 use capn_value::Memory;
 use std::alloc::{Allocator, Global};

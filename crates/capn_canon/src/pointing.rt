@@ -47,7 +47,7 @@ pub fn struct_pointer(from: usize, to: usize, words: usize, slots: usize) -> u64
 }
 
 /// The pointer, at word `from`, to the value whose content starts at word `to`.
-#[tactic(auto, using(capn_value::specs::Views::views, crate::proofs::KeptLengths::bounds), unfolding(crate::specs::Layout::point))]
+#[tactic(auto, using(crate::proofs::KeptLengths::views_and_bounds), unfolding(crate::specs::Layout::point))]
 pub fn pointer_to<B: Allocator>(value: &Value<B>, from: usize, to: usize) -> u64
     requires order { from < to }
     requires room { to ≤ 2 ^ 29 }

@@ -39,6 +39,7 @@ pub record Received (old new : Option (List ℕ)) (failed : Bool) (most : ℕ)
   pub bounded : length bytes ≤ most_bytes most
   pub answer : Answers bytes most new failed result
 
+-- a reader gave some bytes, and a read answers what they call for
 abbrev pub ReadGives : Option (List ℕ) → Option (List ℕ) → Bool → ℕ → Result (Option (List (List ℕ))) ReadFault → Type 0
 ReadGives old new failed most result = (bytes : List ℕ) × Received old new failed most result bytes
 

@@ -92,6 +92,7 @@ PlanKeepsUp (plans.Whole whole) a b c d = Appends c d []
 PlanKeepsUp (plans.Each piece limits) a b c d = HasKeptUp (plans.Each piece limits) a b c d
 PlanKeepsUp (plans.Packed piece limits) a b c d = HasKeptUp (plans.Packed piece limits) a b c d
 
+-- the same of a command, by its plan
 abbrev pub KeepsUp : Command → Option (List ℕ) → Option (List ℕ) → Option (List ℕ) → Option (List ℕ) → Type 0
 KeepsUp command a b c d = PlanKeepsUp (plan_of command) a b c d
 

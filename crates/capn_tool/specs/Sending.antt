@@ -10,6 +10,7 @@ pub record Outgoing : Type 0 where
   pub taken : Option (List ℕ)
   pub kept : List ℕ
 
+-- a writer has taken this, and that text is kept
 abbrev pub outgoing : Option (List ℕ) → List ℕ → Outgoing
 outgoing taken kept = record { taken = taken; kept = kept }
 

@@ -23,9 +23,11 @@ pub record Part : Type 0 where
   pub message : List (List ℕ)
   pub text : List ℕ
 
+-- its bytes
 abbrev pub frame_of : Part → List ℕ
 frame_of part = part.frame
 
+-- what is written of it
 abbrev pub text_of : Part → List ℕ
 text_of part = part.text
 
@@ -33,6 +35,7 @@ text_of part = part.text
 abbrev pub frames_of : List Part → List ℕ
 frames_of parts = flat_map frame_of parts
 
+-- the texts, one behind the other
 abbrev pub texts_of : List Part → List ℕ
 texts_of parts = flat_map text_of parts
 

@@ -46,9 +46,11 @@ HasEnded plan bytes is_longer old new ending =
     (ending ≡ Err faults.Memory)
     ⊎ ((ending ≡ Err faults.Io) ⊎ ((text : List ℕ) × IsDue plan bytes is_longer text ending × Appends old new text))
 
+-- the same of a plan and the whole input
 abbrev pub PlanEndsAs : Plan → Option (List ℕ) → Option (List ℕ) → Result (Unit {0}) ToolFault → List ℕ → Type 0
 PlanEndsAs plan old new ending input = HasEnded plan (taken_of input) (has_more input) old new ending
 
+-- the same of a command, by its plan
 abbrev pub EndsAs : Command → Option (List ℕ) → Option (List ℕ) → Result (Unit {0}) ToolFault → List ℕ → Type 0
 EndsAs command old new ending input = PlanEndsAs (plan_of command) old new ending input
 
@@ -82,8 +84,10 @@ pub record Begun (plan : Plan) (old_reader new_reader old_writer new_writer : Op
     pub bounded : length bytes ≤ most_input + 1
     pub written : HasWritten plan (taken_of bytes) (has_more bytes) old_writer new_writer
 
+-- a run by a plan took some bytes and wrote a beginning of their text
 abbrev pub PlanBegins : Plan → Option (List ℕ) → Option (List ℕ) → Option (List ℕ) → Option (List ℕ) → Type 0
 PlanBegins plan a b c d = (bytes : List ℕ) × Begun plan a b c d bytes
 
+-- the same of a command, by its plan
 abbrev pub Begins : Command → Option (List ℕ) → Option (List ℕ) → Option (List ℕ) → Option (List ℕ) → Type 0
 Begins command a b c d = PlanBegins (plan_of command) a b c d

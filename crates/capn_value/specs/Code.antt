@@ -16,6 +16,7 @@ use Rattle.capn_value.specs.declared.value.Body.{Body}
 use Rattle.capn_value.specs.contracts.value.Value as stored
 
 module _ (A : Type 0) where
+  -- the declared value of a tree, and the lists that it holds
   abbrev mutual
     pub value_of : Tree → Value A
     value_of nil = Nil
@@ -60,6 +61,7 @@ module _ (A : Type 0) where
     rows_of-bodies_of no_bodies = refl
     rows_of-bodies_of (body ws ss bs) = ap₂ (body ws) (trees_of-values_of ss) (rows_of-bodies_of bs)
 
+-- a tree is coded as its declared value
 abbrev pub tree_code : Coded Tree
 tree_code = code_by (Value Global) (stored.the_row heap.the_row ghosts).coded (value_of Global) tree_of
     (tree_of-value_of Global)

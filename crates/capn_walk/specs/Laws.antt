@@ -48,6 +48,7 @@ abbrev pub SlotsHaveOneValue : Type 0
 SlotsHaveOneValue = (message : List (List ℕ)) (vs ws : Trees) (segment word : ℕ) → count vs ≡ count ws
     → AreAt message segment word vs → AreAt message segment word ws → vs ≡ ws
 
+-- and in so many rows
 abbrev pub RowsHaveOneValue : Type 0
 RowsHaveOneValue = (message : List (List ℕ)) (bs cs : Bodies) (words slots segment word : ℕ)
     → count_rows bs ≡ count_rows cs
@@ -62,6 +63,7 @@ abbrev pub ValuesFit : Type 0
 ValuesFit = (message : List (List ℕ)) (limits : Bounds) (v : Tree) → limits.budget ≤ most_cost
     → limits.depth ≤ most_height → IsValueOf message limits v → Fits v
 
+-- the same by what it costs and how high it is
 abbrev pub ValuesAreCheap : Type 0
 ValuesAreCheap = (message : List (List ℕ)) (limits : Bounds) (v : Tree) → IsValueOf message limits v
     → (cost (base limits.tariff) v ≤ paid message limits) × (height v ≤ limits.depth)

@@ -19,6 +19,7 @@ words_of_row no_bodies i = []
 words_of_row (body ws ss bs) zero = ws
 words_of_row (body ws ss bs) (suc i) = words_of_row bs i
 
+-- its slots
 abbrev pub slots_of_row : Bodies → ℕ → Trees
 slots_of_row no_bodies i = no_trees
 slots_of_row (body ws ss bs) zero = ss
@@ -54,6 +55,7 @@ pub record ShowsRows (message : List (List ℕ)) (found : Target) (bs : Bodies) 
   pub rows : rows_in found ≡ count_rows bs
   pub row : (i : ℕ) → i < count_rows bs → ShowsStruct message (row_of found i) (words_of_row bs i) (slots_of_row bs i)
 
+-- what a view tells of a target is what this value has
 abbrev pub Shows : List (List ℕ) → Target → Tree → Type 0
 Shows message found nil = found ≡ targets.Nil
 Shows message found (cap k) = found ≡ targets.Cap k

@@ -56,11 +56,13 @@ module _ (message : List (List ℕ)) where
   abbrev pub within : ℕ → ℕ → ℕ → Result Target Fault → Result Target Fault
   within s start n found = if nat_lt (length (segment_at message s)) (start + n) then Err faults.Range else found
 
+  -- a list whose content starts here: rows behind their tag, or elements of one width
   abbrev pub list : ℕ → ℕ → ℕ → Width → ℕ → Result Target Fault
   list s start pads Rows n = within s start (1 + n) (tagged s start pads n (slice_index (segment_at message s) start))
   list s start pads width n =
       within s start (content_words width n) (Ok (targets.Content s start (shapes.Many width n) pads))
 
+  -- a struct of so many words and slots whose content starts here
   abbrev pub struct : ℕ → ℕ → ℕ → ℕ → ℕ → Result Target Fault
   struct s start pads a b = within s start (a + b) (Ok (targets.Content s start (shapes.Node a b) pads))
 
@@ -69,6 +71,7 @@ module _ (message : List (List ℕ)) where
   struct_from s (Ok start) pads a b = struct s start pads a b
   struct_from s (Err e) pads a b = Err e
 
+  -- the same of a list
   abbrev pub list_from : ℕ → Result ℕ Fault → ℕ → Width → ℕ → Result Target Fault
   list_from s (Ok start) pads width n = list s start pads width n
   list_from s (Err e) pads width n = Err e
@@ -86,12 +89,14 @@ module _ (message : List (List ℕ)) where
   second_pad s start (Many o width n) = list s start 2 width n
   second_pad s start _ = Err faults.BadPad
 
+  -- whether this may be such a word: null, or a pointer to a struct or a list
   abbrev pub is_second_pad : Pointer → Bool
   is_second_pad Nil = true
   is_second_pad (Node o a b) = true
   is_second_pad (Many o width n) = true
   is_second_pad _ = false
 
+  -- what a pad of two words names: its first is a far pointer to the content, its second describes that
   abbrev pub two_pads : Pointer → Pointer → Result Target Fault
   two_pads (Far false w s) tag =
       if is_second_pad tag
@@ -99,6 +104,7 @@ module _ (message : List (List ℕ)) where
       else Err faults.BadPad
   two_pads _ tag = Err faults.BadPad
 
+  -- the pointer that a word of a segment holds
   abbrev pub pointer_in : ℕ → ℕ → Pointer
   pointer_in s w = pointer_of (slice_index (segment_at message s) w)
 
@@ -118,5 +124,6 @@ module _ (message : List (List ℕ)) where
   named s w (Far true v t) = landing t v 2 (two_pads (pointer_in t v) (pointer_in t (v + 1)))
   named s w near_pointer = near s w 0 near_pointer
 
+  -- what the pointer at a place names
   unfoldable pub target : Place → Result Target Fault
   target at = named at.segment at.word (pointer_in at.segment at.word)

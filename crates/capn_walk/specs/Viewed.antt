@@ -63,6 +63,7 @@ IsInMessage message _ = ⊤
 
 -- ---- what a view tells
 
+-- the kind of a list, by the width of its elements
 abbrev pub kind_of_list : Width → Kind
 kind_of_list W0 = kinds.Voids
 kind_of_list W1 = kinds.Bits
@@ -73,6 +74,7 @@ kind_of_list W64 = kinds.Octs
 kind_of_list Link = kinds.Links
 kind_of_list Rows = kinds.Rows
 
+-- the kind of what a pointer names
 abbrev pub kind_of : Target → Kind
 kind_of targets.Nil = kinds.Nil
 kind_of (targets.Cap k) = kinds.Cap
@@ -91,10 +93,12 @@ abbrev pub words_in : Target → ℕ
 words_in (targets.Content s start (shapes.Node a b) pads) = a
 words_in _ = 0
 
+-- its slots
 abbrev pub slots_in : Target → ℕ
 slots_in (targets.Content s start (shapes.Node a b) pads) = b
 slots_in _ = 0
 
+-- the index of a capability
 abbrev pub cap_in : Target → Option ℕ
 cap_in (targets.Cap k) = Some k
 cap_in _ = None
@@ -127,7 +131,7 @@ number_in W16 ws i = element 4 16 ws i
 number_in W32 ws i = element 2 32 ws i
 number_in _ ws i = slice_index ws i
 
--- how many of them a word holds, and that at a place of a word, counted from the least significant
+-- how many of them a word holds
 abbrev pub per_word : Width → ℕ
 per_word W1 = 64
 per_word W8 = 8
@@ -135,6 +139,7 @@ per_word W16 = 4
 per_word W32 = 2
 per_word _ = 1
 
+-- the one at a place of a word, counted from the least significant
 abbrev pub digit : Width → ℕ → ℕ → ℕ
 digit W1 w place = w / (2 ^ 1) ^ place % 2 ^ 1
 digit W8 w place = w / (2 ^ 8) ^ place % 2 ^ 8
@@ -142,6 +147,7 @@ digit W16 w place = w / (2 ^ 16) ^ place % 2 ^ 16
 digit W32 w place = w / (2 ^ 32) ^ place % 2 ^ 32
 digit _ w place = w
 
+-- number i of the list that a pointer names
 abbrev pub number_of : List (List ℕ) → Target → ℕ → ℕ
 number_of message (targets.Content s start (shapes.Many width n) pads) i =
     number_in width (words_from message s start) i

@@ -68,6 +68,7 @@ module _ (message : List (List ℕ)) where
     pub content : Describes (pointer_in message segment (word + 1)) s start shape
     pub two : pads ≡ 2
 
+  -- the pointer at a place leads to content in one of these three ways
   abbrev pub OneOfThree : Place → ℕ → ℕ → Shape → ℕ → Type 0
   OneOfThree at s start shape pads = Near at s start shape pads
       ⊎ (ByOnePad at s start shape pads ⊎ ByTwoPads at s start shape pads)

@@ -112,12 +112,14 @@ module _ (b : List ℕ) (max : ℕ) where
   one_packed (unpack_faults.TooLong at) (unpack_faults.TooLong to) r s ne nf =
       ap (λ (n : ℕ). unpack_faults.TooLong n) (same_at IsTooLong long-no_group at to r s)
 
+-- a packed text is refused for one reason, but for want of memory
 pub one_unpack_fault : (b : List ℕ) (max : ℕ) (e f : UnpackFault) → packs.IsRefused b max e → packs.IsRefused b max f
     → (e ≡ unpack_faults.Memory → ⊥) → (f ≡ unpack_faults.Memory → ⊥) → e ≡ f
 one_unpack_fault b max e f r s ne nf = one_packed b max e f r s ne nf
 
 -- ---- bare bytes
 
+-- bare bytes are refused for one reason
 pub one_bare_fault : (bs : List ℕ) (e f : BareFault) → ReadsBare bs (Err e) → ReadsBare bs (Err f) → e ≡ f
 one_bare_fault bs (NotWhole m) (NotWhole n) r s = ap (λ (k : ℕ). NotWhole k) (r.0 ∙ sym s.0)
 one_bare_fault bs (NotWhole m) (TooLong n) r s = let l = s.0 in absurd (r.1 (omega arith))
@@ -125,6 +127,7 @@ one_bare_fault bs (TooLong m) (NotWhole n) r s = let l = r.0 in absurd (s.1 (ome
 one_bare_fault bs (TooLong m) (TooLong n) r s = let l = r.0 in let k = s.0 in let same : m ≡ n = omega arith in
     ap (λ (k : ℕ). TooLong k) same
 
+-- bare bytes that are read are not refused
 pub bare_not_misread : (bs ws : List ℕ) (e : BareFault) → IsBare bs ws → ReadsBare bs (Err e) → ⊥
 bare_not_misread bs ws (NotWhole n) h r = let l = bare_length bs ws h in r.1 (omega arith)
 bare_not_misread bs ws (TooLong n) h r = let l = bare_length bs ws h in let m = h.room in let a = r.0 in let b = r.1 in
@@ -132,20 +135,25 @@ bare_not_misread bs ws (TooLong n) h r = let l = bare_length bs ws h in let m = 
 
 -- ---- the parts of a refusal
 
+-- it refuses bytes that are no bare segment
 abbrev BarePart : List ℕ → Refusal → Type 0
 BarePart bs r = (e : BareFault) × (r ≡ refusals.Bare e) × ReadsBare bs (Err e)
 
+-- it refuses bytes with which no frame begins
 abbrev FramePart : List ℕ → ℕ → Refusal → Type 0
 FramePart bs most r = (e : FrameFault) × (r ≡ refusals.Frame e) × (e ≡ frame_faults.Memory → ⊥)
     × frames.IsRefused bs most e
 
+-- it refuses bytes behind a frame
 abbrev TrailPart : List ℕ → ℕ → Refusal → Type 0
 TrailPart bs most r = (at : ℕ) × (r ≡ refusals.Trailing at) × Trails bs most at
 
+-- it refuses bytes that are no packed text
 abbrev PackedPart : List ℕ → ℕ → Refusal → Type 0
 PackedPart bs most r = (e : UnpackFault) × (r ≡ refusals.Packed e) × (e ≡ unpack_faults.Memory → ⊥)
     × packs.IsRefused bs (most + most_table_words) e
 
+-- it refuses what a packed text unpacks to
 abbrev UnpackedPart : List ℕ → ℕ → Refusal → Type 0
 UnpackedPart bs most r = (text : List ℕ) × Unpacks bs most text × IsMisframed text most r
 
@@ -258,13 +266,16 @@ module _ (m : List (List ℕ)) (limits : Bounds) where
       ∙ stop-refused limits.budget visits t.fault t.place t.paid t.visits k.1 in
       same_stopped s t (cc) (cc) (cc) (cc)
 
+-- it tells where and why the walk of a message stops
 abbrev WalkPart : List (List ℕ) → Bounds → Refusal → Type 0
 WalkPart m limits r = (s : Stopped) × (r ≡ refusals.Walk s) × walks.IsRefused m limits s.fault s.place s.paid s.visits
 
+-- it tells the first capability of the message's value
 abbrev CapPart : List (List ℕ) → Bounds → Refusal → Type 0
 CapPart m limits r = (k : ℕ) × (r ≡ refusals.Capability k)
     × ((v : Tree) × walks.IsValueOf m limits v × (first_cap v ≡ Some k))
 
+-- a message is refused by its walk, or for a capability
 pub message_part : (m : List (List ℕ)) (limits : Bounds) (r : Refusal) → (r ≡ refusals.Memory → ⊥)
     → IsRefusedMessage m limits r → WalkPart m limits r ⊎ CapPart m limits r
 message_part m limits (refusals.Walk s) n h = inl (s, refl, h)
@@ -288,6 +299,7 @@ messages_same m limits r s (inr (j, a, (v, is, c))) (inr (k, b, (w, also, d))) =
     let same : j ≡ k = cc in
     a ∙ ap (λ (x : ℕ). refusals.Capability x) same ∙ sym b
 
+-- a message is refused for one reason, but for want of memory
 pub one_message_refusal : (m : List (List ℕ)) (limits : Bounds) (r s : Refusal) → (r ≡ refusals.Memory → ⊥)
     → (s ≡ refusals.Memory → ⊥)
     → IsRefusedMessage m limits r → IsRefusedMessage m limits s → r ≡ s
@@ -296,6 +308,7 @@ one_message_refusal m limits r s nr ns h k =
 
 -- ---- bytes in a form
 
+-- it refuses the message that the bytes are read as
 abbrev MessagePart : Form → List ℕ → Bounds → Refusal → Type 0
 MessagePart form bs limits r = (m : List (List ℕ)) × Reads form bs limits.message_words m × IsRefusedMessage m limits r
 

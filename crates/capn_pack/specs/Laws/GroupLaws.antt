@@ -34,11 +34,13 @@ length_named (suc n) tag (x ∷ xs) long less =
 middle : (tag : ℕ) → 0 < tag → tag < 255 → (eqb tag 0 ≡ false) × (eqb tag 255 ≡ false)
 middle tag above below = (ne_eqb tag 0 (λ e. absurd (omega arith)), ne_eqb tag 255 (λ e. absurd (omega arith)))
 
+-- the bytes have a head that tells the length of the group's text and its words
 pub record HeadOf (g : Group) (b : List ℕ) : Type 0 where
   pub head : HasHead b
   pub long : len_at b ≡ length (text g)
   pub count : words_at b ≡ words g
 
+-- a group's text begins with its head
 pub head_of : (g : Group) (more : List ℕ) → IsGroup g → HeadOf g (text g ++ more)
 head_of (Zeros n) more is = record { head = omega arith; long = refl; count = refl }
 head_of (Named tag word) more is =
@@ -87,6 +89,7 @@ named_same tag (a ∷ v) (b ∷ w) x y long p q e =
           ((λ i. heads i ∷ r.0 i), r.1)
     ]
 
+-- two equal texts with first parts of one length have equal parts
 pub append_same : (a b x y : List ℕ) → length a ≡ length b → a ++ x ≡ b ++ y → (a ≡ b) × (x ≡ y)
 append_same [] [] x y long e = (refl, e)
 append_same [] (d ∷ b) x y long e = absurd (omega arith)
@@ -131,6 +134,7 @@ pub record GoesOn (gs hs : List Group) (rest : List ℕ) : Type 0 where
   pub each : AllByRecursion IsGroup more
   pub text : rest ≡ texts more
 
+-- groups whose texts begin with those of others begin with these
 pub goes_on : (gs hs : List Group) (rest : List ℕ) → AllByRecursion IsGroup gs → AllByRecursion IsGroup hs
     → texts gs ≡ texts hs ++ rest → GoesOn gs hs rest
 goes_on gs [] rest p q e = record { more = gs; whole = refl; each = p; text = sym e }
@@ -171,6 +175,7 @@ not_long room rest (g ∷ more) p e fits long =
     let h = head_of g (texts more) p.0 in
     omega (arith, long.2, ap words_at e, h.count)
 
+-- what never stands before whole groups within the room stands in no text that is read
 pub not_refused : (Q : ℕ → List ℕ → Type 0)
     → ((room : ℕ) (rest : List ℕ) (more : List Group) → AllByRecursion IsGroup more → rest ≡ texts more
     → word_count more ≤ room → Q room rest → ⊥)
@@ -187,6 +192,7 @@ not_refused Q never b bs max at p fits s =
       s.counted,
     )) s.fault
 
+-- a text that is read within the maximum is refused for want of memory alone
 pub refused_only : (e : UnpackFault) (b bs : List ℕ) (max : ℕ) → IsRefused b max e → Packs b bs → length bs ≤ 8 * max
     → e ≡ fault.Memory
 refused_only fault.Memory b bs max r p fits = refl

@@ -20,6 +20,7 @@ use Rattle.capn_pack.specs.Laws.StreamLemmas.{nothing_first, splits_open}
 
 -- ---- a word of which a tag names these bytes
 
+-- a word of n bytes, of which a tag names those that stand first in these
 record Word (n tag : ℕ) (xs : List ℕ) : Type 0 where
   word : List ℕ
   size : length word ≡ n
@@ -65,6 +66,7 @@ named_word (suc n) tag xs small room = elim (parity tag) [
 
 -- ---- a group stands first, or none does
 
+-- a group's text stands first in these bytes
 record First (bs : List ℕ) : Type 0 where
   group : Group
   more : List ℕ
@@ -150,6 +152,7 @@ named_first bs some above below =
 
 -- ---- all of a text
 
+-- some groups, and a rest with which none begins
 pub record Split (bs old : List ℕ) : Type 0 where
   pub rest : List ℕ
   pub new : List ℕ
@@ -203,6 +206,7 @@ splits_all bs old = split_all (suc (length bs)) bs old (omega arith)
 
 -- ---- in one way
 
+-- a text has one row of groups and one rest with which none begins
 pub one_row : (gs hs : List Group) (r s : List ℕ) → AllByRecursion IsGroup gs → AllByRecursion IsGroup hs
     → NoGroupFirst r → NoGroupFirst s → texts gs ++ r ≡ texts hs ++ s → (gs ≡ hs) × (r ≡ s)
 one_row [] [] r s f g n m e = (refl, e)

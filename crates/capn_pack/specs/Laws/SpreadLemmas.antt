@@ -20,12 +20,15 @@ ones_half n =
     ones_below (suc zero) h = refl
     ones_below (suc (suc r)) h = absurd (omega arith)
 
+-- a tag whose lowest bit is set names the first byte
 pub named_one : (left b : ℕ) (ws : List ℕ) → left % 2 ≡ 1 → named_bytes left (b ∷ ws) ≡ b ∷ named_bytes (left / 2) ws
 named_one left b ws e = grind (arith, nat_tests)
 
+-- another does not
 pub named_none : (left b : ℕ) (ws : List ℕ) → left % 2 ≡ 0 → named_bytes left (b ∷ ws) ≡ named_bytes (left / 2) ws
 named_none left b ws e = grind (arith, nat_tests)
 
+-- a number is even or odd
 pub parity : (n : ℕ) → (n % 2 ≡ 0) ⊎ (n % 2 ≡ 1)
 parity n = bit_cases (n % 2) (omega arith)
   where
@@ -34,6 +37,7 @@ parity n = bit_cases (n % 2) (omega arith)
     bit_cases (suc zero) h = inr refl
     bit_cases (suc (suc r)) h = absurd (omega arith)
 
+-- 0 has no bits
 pub no_ones : count_ones 0 ≡ 0
 unfolding lib.Count.ones
 no_ones = refl

@@ -18,6 +18,7 @@ use Rattle.capn_pack.specs.declared.unpack_piece.Joined.TheVariants as joins
 use Rattle.capn_pack.specs.Laws.GroupLemmas.{rest_is, each_append, text_some}
 use Rattle.capn_pack.specs.Laws.GroupLaws.{no_group}
 
+-- a text of which a row of groups was taken begins so
 pub begins : (bytes : List ℕ) (at : ℕ) (old out : List ℕ) → TakesRow bytes at old out → Begins bytes old out
 begins bytes at old out u = record {
   groups = u.groups;
@@ -27,6 +28,7 @@ begins bytes at old out u = record {
   content = u.content;
 }
 
+-- it splits so, where no group begins with what is left
 pub splits : (bytes : List ℕ) (at : ℕ) (old out : List ℕ) → TakesRow bytes at old out → NoGroupFirst (drop at bytes)
     → Splits bytes (drop at bytes) old out at
 splits bytes at old out u none = record {
@@ -38,9 +40,11 @@ splits bytes at old out u none = record {
   open_rest = none;
 }
 
+-- no group begins with nothing
 pub nothing_first : NoGroupFirst []
 nothing_first g more is e = omega (arith, text_some g, ap length e, length-append (text g) more)
 
+-- it splits so, where what is left is cut
 pub splits_cut : (bytes : List ℕ) (at : ℕ) (old out : List ℕ) (room : ℕ) → TakesRow bytes at old out
     → IsCut room (slice_range bytes at (length bytes)) → Splits bytes (drop at bytes) old out at
 splits_cut bytes at old out room u cut =
@@ -65,6 +69,7 @@ group_short rest fits = choose (eqb (get_or rest 0 0) 255)
     choose true = omega (arith, fits 9)
     choose false = omega (arith, head_short (get_or rest 0 0) (fits 0))
 
+-- a cut rest is shorter than the longest group
 pub cut_short : (room : ℕ) (rest : List ℕ) → ((i : ℕ) → get_or rest i 0 < 2 ^ 8) → IsCut room rest → length rest < 2050
 cut_short room rest fits cut =
     elim (cases_lt (length rest) (head_len (get_or rest 0 0))) [
@@ -88,12 +93,14 @@ past_rest rest piece joined more room taken count old new e none t =
       | inr le ↦ le
     ]
 
+-- a group taken of what is held and more ends behind what is held
 pub join_past : (held piece joined : List ℕ) (len more room taken count : ℕ) (old new : List ℕ) → len ≤ length held
     → joined ≡ take len held ++ take more piece → NoGroupFirst (take len held) → Takes joined room taken count old new
     → len ≤ taken
 join_past held piece joined len more room taken count old new le e none t =
     omega (arith, past_rest (take len held) piece joined more room taken count old new e none t, length-take len held)
 
+-- what is held and more made a group whole
 pub join_whole : (held piece joined kept : List ℕ) (len more room taken count : ℕ) (old new : List ℕ)
     → len ≤ length held → more ≤ length piece → joined ≡ take len held ++ take more piece → NoGroupFirst (take len held)
     → Takes joined room taken count old new
@@ -111,6 +118,7 @@ join_whole held piece joined kept len more room taken count old new le short e n
     ∙ ap (λ n. take n (rest ++ take more piece)) (sym sum) ∙ ap (take taken) (sym e) ∙ t.text in
     (omega arith, t.group, t.is_group, text_is, t.content)
 
+-- what is held and more made no group whole
 pub join_open : (held piece joined kept : List ℕ) (len more all room : ℕ) (old new : List ℕ) → 0 < len
     → len ≤ length held → (length piece ≤ more) ⊎ (2049 ≤ more) → more ≤ length piece
     → joined ≡ take len held ++ take more piece → all ≡ len + length (take more piece) → take all kept ≡ joined
@@ -134,6 +142,7 @@ join_open held piece joined kept len more all room old new some le enough within
 
 -- ---- what joined groups and a rest make
 
+-- what is held and a piece split as the group that they made whole, and the rest of the piece
 pub splits_more : (rest piece held : List ℕ) (at : ℕ) (old mid new after : List ℕ) (taken : ℕ)
     → Joins rest piece held old mid (joins.Whole at) → Splits (slice_range piece at (length piece)) after mid new taken
     → Splits (rest ++ piece) after old new ((length rest + at) + taken)
@@ -158,6 +167,7 @@ splits_more rest piece held at old mid new after taken j s =
       open_rest = s.open_rest;
     }
 
+-- they begin so too
 pub begins_more : (rest piece held : List ℕ) (at : ℕ) (old mid new : List ℕ)
     → Joins rest piece held old mid (joins.Whole at) → Begins (slice_range piece at (length piece)) mid new
     → Begins (rest ++ piece) old new
@@ -173,6 +183,7 @@ begins_more rest piece held at old mid new j s =
       content = s.content ∙ ap (λ l. l ++ contents s.groups) j.4 ∙ append_assoc old (content g) (contents s.groups);
     }
 
+-- a stream with which no group begins splits into nothing and itself
 pub splits_open : (stream old new : List ℕ) → NoGroupFirst stream → new ≡ old → Splits stream stream old new 0
 splits_open stream old new none e =
     record { groups = []; each = tt; text = refl; content = e ∙ sym (append-nil old); size = refl; open_rest = none }
@@ -196,5 +207,6 @@ splits_then stream rest piece after old mid new len more s t =
       open_rest = t.open_rest;
     }
 
+-- nothing splits into nothing
 pub splits_nothing : (old : List ℕ) → Splits [] [] old old 0
 splits_nothing old = splits_open [] old old nothing_first refl

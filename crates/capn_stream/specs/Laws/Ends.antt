@@ -9,6 +9,7 @@ use Rattle.capn_words.specs.Message.{bytes, word_bytes}
 use Rattle.capn_stream.specs.Cuts.{AreRising, cut, ends_from}
 use Rattle.capn_stream.specs.Frames.{contents}
 
+-- a segment has one end
 pub length-ends_from : (from : ℕ) (sizes : List ℕ) → length (ends_from from sizes) ≡ length sizes
 length-ends_from from [] = refl
 length-ends_from from (size ∷ sizes) = omega (arith, length-ends_from (from + size) sizes)

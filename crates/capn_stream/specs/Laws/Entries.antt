@@ -22,7 +22,7 @@ take_then m n xs =
     let rest = drop-take m n xs in
     rw (front, rest) at (take-append-drop m (take (m + n) xs))
 
--- numbers below a bound stay below it in a front and in a rest
+-- numbers below a bound stay below it in a front
 pub below-take : (bound n : ℕ) (xs : List ℕ) → 0 < bound → ((i : ℕ) → slice_index xs i < bound) → (i : ℕ)
     → slice_index (take n xs) i < bound
 below-take bound zero xs p h i = p
@@ -30,20 +30,24 @@ below-take bound (suc n) [] p h i = p
 below-take bound (suc n) (x ∷ xs) p h zero = h 0
 below-take bound (suc n) (x ∷ xs) p h (suc i) = below-take bound n xs p (λ k. h (suc k)) i
 
+-- and so in a rest
 pub below-drop : (bound n : ℕ) (xs : List ℕ) → ((i : ℕ) → slice_index xs i < bound) → (i : ℕ)
     → slice_index (drop n xs) i < bound
 below-drop bound n xs h i = rw (get_or-drop n xs i 0) (h (n + i))
 
 -- ---- one number
 
+-- an entry has 4 bytes
 pub length-entry : (n : ℕ) → length (entry n) ≡ 4
 unfolding entry
 length-entry n = refl
 
+-- the number in a number's entry is that number
 pub entry_number-entry : (n : ℕ) (rest : List ℕ) → n < 2 ^ 32 → entry_number (entry n ++ rest) ≡ n
 unfolding entry entry_number
 entry_number-entry n rest h = little_number-reads_back 4 n rest h
 
+-- an entry's number has 32 bits
 pub entry_number-lt : (bs : List ℕ) → AreBytes bs → entry_number bs < 2 ^ 32
 unfolding entry_number
 entry_number-lt bs h = little_from-lt 0 4 bs h
@@ -58,6 +62,7 @@ entry-entry_number bs h l =
 
 -- ---- many numbers
 
+-- as many entries are read as are asked for
 pub length-entries : (n : ℕ) (bs : List ℕ) → length (entries n bs) ≡ n
 length-entries zero bs = refl
 length-entries (suc n) bs = let e = length-entries n (drop 4 bs) in omega (arith, e)
@@ -71,9 +76,11 @@ entries-suc (suc n) bs =
     ap (λ (ns : List ℕ). entry_number bs ∷ ns) (entries-suc n (drop 4 bs)
     ∙ ap (λ (xs : List ℕ). entries n (drop 4 bs) ++ entry_number xs ∷ []) at)
 
+-- the same, with the sum the other way round
 pub entries_more : (n : ℕ) (bs : List ℕ) → entries (n + 1) bs ≡ entries n bs ++ entry_number (drop (4 * n) bs) ∷ []
 entries_more n bs = let e : n + 1 ≡ suc n = omega arith in ap (λ (m : ℕ). entries m bs) e ∙ entries-suc n bs
 
+-- their sum and one more's
 pub sum-entries_more : (n : ℕ) (bs : List ℕ)
     → sum (entries (n + 1) bs) ≡ sum (entries n bs) + entry_number (drop (4 * n) bs)
 sum-entries_more n bs = ap sum (entries_more n bs)
@@ -109,6 +116,7 @@ entry-entries (suc n) bs h l =
     let e : 4 + 4 * n ≡ 4 * suc n = omega arith in
     rw (first, ih) (take_then 4 (4 * n) bs ∙ ap (λ (j : ℕ). take j bs) e)
 
+-- each of the entries has 4 bytes
 pub length-entry_all : (ns : List ℕ) → length (flat_map entry ns) ≡ 4 * length ns
 length-entry_all [] = refl
 length-entry_all (n ∷ ns) =

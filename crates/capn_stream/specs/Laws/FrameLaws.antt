@@ -78,6 +78,7 @@ FitsTable-message message h = record {
 
 -- ---- what a frame announces
 
+-- the bytes announce a message's segments, their sizes and its words, and its contents stand behind the table
 pub record Announces (bs : List ℕ) (message : List (List ℕ)) (taken : ℕ) : Type 0 where
   pub count : announced_segments bs ≡ length message
   pub sizes : entries (announced_segments bs) (drop 4 bs) ≡ map length message
@@ -243,6 +244,7 @@ zeros_below zero i = omega arith
 zeros_below (suc n) zero = omega arith
 zeros_below (suc n) (suc i) = zeros_below n i
 
+-- the frame of a message frames it
 pub Frames-frame_text : (message : List (List ℕ)) → IsMessage message → Frames (frame_text message) message
 Frames-frame_text message h = record {
   fits = FitsTable-message message h;

@@ -13,10 +13,12 @@ use Rattle.capn_stream.specs.declared.fault.FrameFault.TheVariants.{Failed}
 use Rattle.capn_stream.specs.declared.stage.Stage.{Stage}
 use Rattle.capn_stream.specs.declared.stage.Stage.TheVariants as stages
 
+-- the number in the first 4 bytes stays
 pub entry_number-append : (bs more : List ℕ) → 4 ≤ length bs → entry_number (bs ++ more) ≡ entry_number bs
 unfolding entry_number
 entry_number-append bs more h = little_from-append 4 bs more h
 
+-- so do the entries in the first bytes
 pub entries-append : (n : ℕ) (bs more : List ℕ) → 4 * n ≤ length bs → entries n (bs ++ more) ≡ entries n bs
 entries-append zero bs more h = refl
 entries-append (suc n) bs more h =
@@ -35,25 +37,30 @@ pub sizes-append : (n : ℕ) (bs more : List ℕ) → 4 + 4 * n ≤ length bs
 sizes-append n bs more h =
     rw (drop-append-le 4 bs more (omega arith)) (entries-append n (drop 4 bs) more (omega (arith, length-drop 4 bs)))
 
+-- so does the number of words behind a whole table
 pub words-append : (bs more : List ℕ) → HasHead bs → announced_words (bs ++ more) ≡ announced_words bs
 words-append bs more h =
     ap (λ (n : ℕ). sum (entries n (drop 4 (bs ++ more)))) (segments-append bs more h.0.0)
     ∙ ap sum (sizes-append (announced_segments bs) bs more (omega (arith, h.1)))
 
+-- so do the segments' ends
 pub ends-append : (bs more : List ℕ) → HasHead bs → announced_ends (bs ++ more) ≡ announced_ends bs
 ends-append bs more h =
     let count = entry_number-append bs more h.0.0 in
     let sizes = sizes-append (entry_number bs) bs more (omega (arith, h.1)) in
     rw (count, sizes) refl
 
+-- the number of segments stays there
 pub HasCount-append : (bs more : List ℕ) → HasCount bs → HasCount (bs ++ more)
 HasCount-append bs more h = (omega (arith, length-append bs more, h.0), omega (arith, segments-append bs more h.0, h.1))
 
+-- so does the table
 pub HasHead-append : (bs more : List ℕ) → HasHead bs → HasHead (bs ++ more)
 HasHead-append bs more h =
     let same = ap head_length (segments-append bs more h.0.0) in
     (HasCount-append bs more h.0, omega (arith, same, length-append bs more, h.1))
 
+-- what is known at a stage stays known
 pub Knows-append : (stage : Stage) (bs : List ℕ) (most : ℕ) (ends more : List ℕ) → Knows stage bs most ends
     → Knows stage (bs ++ more) most ends
 Knows-append stages.Count bs most ends more h = tt

@@ -15,10 +15,12 @@ word_number-word_bytes : (w : ℕ) (rest : List ℕ) → w < 2 ^ 64 → word_num
 unfolding word_number word_bytes
 word_number-word_bytes w rest h = little_number-reads_back 8 w rest h
 
+-- words have 8 bytes each
 pub length-bytes : (ws : List ℕ) → length (bytes ws) ≡ 8 * length ws
 length-bytes [] = refl
 length-bytes (w ∷ ws) = omega (arith, length-bytes ws, length-append (word_bytes w) (bytes ws), length-word_bytes w)
 
+-- the bytes of the first n words
 pub bytes-take : (n : ℕ) (ws : List ℕ) → bytes (take n ws) ≡ take (8 * n) (bytes ws)
 bytes-take zero ws = refl
 bytes-take (suc n) [] = sym (take_all (8 * suc n) [] (omega arith))
@@ -29,6 +31,7 @@ bytes-take (suc n) (w ∷ ws) =
     let whole = rw (first, rest) at (take_then 8 (8 * n) (word_bytes w ++ bytes ws)) in
     rw (bytes-take n ws) (whole ∙ ap (λ (j : ℕ). take j (word_bytes w ++ bytes ws)) e)
 
+-- the bytes from word n on
 pub bytes-drop : (n : ℕ) (ws : List ℕ) → bytes (drop n ws) ≡ drop (8 * n) (bytes ws)
 bytes-drop zero ws = refl
 bytes-drop (suc n) [] = sym (drop_all (8 * suc n) [] (omega arith))

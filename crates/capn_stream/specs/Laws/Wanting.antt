@@ -45,6 +45,7 @@ need_least (stages.Contents start end) bs most ends more is f =
     let words = words-append bs more head in
     omega (arith, w.2, is.knows.3, count, words)
 
+-- the same by what is still to come
 pub least : (stage : Stage) (bs : List ℕ) (most : ℕ) (ends more : List ℕ) → IsStage stage bs most ends
     → IsFrame (bs ++ more) most → need stage - length bs ≤ length more
 least stage bs most ends more is f = omega (arith, need_least stage bs most ends more is f, length-append bs more)

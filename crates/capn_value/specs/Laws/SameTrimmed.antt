@@ -166,6 +166,7 @@ at_least_kept (body ws ss bs) h =
           e w s,
     )
 
+-- no list of rows in it is ragged
 abbrev IsEven : Tree → Type 0
 IsEven t = anywhere is_ragged t ≡ false
 

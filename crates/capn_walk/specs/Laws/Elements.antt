@@ -106,6 +106,7 @@ bits-more ws i xs ys b e l h is =
 -- ---- bytes from a place of a message on
 
 module _ (m : List (List ℕ)) (at : Place) where
+  -- the words from the place on
   abbrev ws : List ℕ
   ws = words_from m at.segment at.word
 

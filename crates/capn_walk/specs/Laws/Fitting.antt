@@ -75,6 +75,7 @@ module _ (m : List (List ℕ)) where
 
   -- ---- the parts that a value's fitness has at every level
 
+  -- none of the three is found
   record Parts (wide long ragged : Bool) : Type 0 where
     narrow : wide ≡ false
     short : long ≡ false

@@ -21,10 +21,12 @@ use Rattle.capn_walk.specs.Walked.{extent, slot_count, RowsFit}
 use Rattle.capn_words.specs.Laws.FieldBits.{pick}
 
 module _ (m : List (List ℕ)) where
+  -- the content of a target lies inside its segment, and its rows have room
   abbrev pub Inside : Target → Type 0
   Inside (targets.Content s start shape pads) = (start + extent shape ≤ length (segment_at m s)) × RowsFit shape
   Inside _ = ⊤
 
+  -- the same of an answer, where it is a target
   abbrev pub IsFine : Result Target Fault → Type 0
   IsFine (Ok t) = Inside t
   IsFine (Err e) = ⊤

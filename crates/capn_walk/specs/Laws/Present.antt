@@ -20,6 +20,7 @@ use Rattle.capn_walk.specs.Target.{moved, tagged, within, list, struct, struct_f
 use Rattle.capn_walk.specs.Target.{is_second_pad, two_pads, pointer_in, landing, named, target}
 
 module _ (m : List (List ℕ)) where
+  -- the segment of the content is there, where there is any
   abbrev IsThere : Result Target Fault → Type 0
   IsThere (Ok (targets.Content s start shape pads)) = s < length m
   IsThere _ = ⊤

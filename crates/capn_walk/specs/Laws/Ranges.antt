@@ -21,6 +21,7 @@ use Rattle.capn_words.specs.Laws.FieldBits.{pick}
 
 -- ---- pointers
 
+-- the fields of a pointer are in their ranges
 abbrev IsNarrow : Pointer → Type 0
 IsNarrow (Node o a b) = (a < 2 ^ 16) × (b < 2 ^ 16)
 IsNarrow (Many o k c) = c < 2 ^ 29
@@ -44,6 +45,7 @@ HasRoom (shapes.Node a b) = (a < 2 ^ 16) × (b < 2 ^ 16)
 HasRoom (shapes.Many width n) = n < 2 ^ 29
 HasRoom (shapes.Rows n a b span) = (n < 2 ^ 30) × (a < 2 ^ 16) × (b < 2 ^ 16) × (span < 2 ^ 29)
 
+-- the same of an answer, where it is a target
 abbrev IsRanged : Result Target Fault → Type 0
 IsRanged (Ok targets.Nil) = ⊤
 IsRanged (Ok (targets.Cap k)) = k < 2 ^ 32

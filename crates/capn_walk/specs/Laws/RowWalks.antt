@@ -42,6 +42,7 @@ row_places-add s w a b (suc i) n =
     (row_places s (w + suc i * (a + b)) a b n))
 
 module _ (f : Place → List Visit) (s w a b : ℕ) where
+  -- the visits below the slots of the first n rows
   abbrev pub all_rows : ℕ → List Visit
   all_rows n = flat_map f (row_places s w a b n)
 

@@ -24,6 +24,7 @@ use Rattle.capn_walk.specs.Walked.{Gives, Refuses, IsInside, slot_count}
 use Rattle.capn_walk.specs.Laws.Inside.{inside, slots-price}
 use Rattle.capn_walk.specs.Laws.Judge.{judge-more, judge-stops, judge-pays, judge-over}
 
+-- the place of a word
 abbrev pub slot : ℕ → ℕ → Place
 slot s w = record { segment = s; word = w }
 
@@ -41,6 +42,7 @@ places-split s w i n h =
     ap (places s w) a ∙ places-add s w i (suc (n - suc i))
 
 module _ (f : Place → List Visit) (s w : ℕ) where
+  -- the visits below the first n slots
   abbrev pub all : ℕ → List Visit
   all n = flat_map f (places s w n)
 

@@ -16,23 +16,29 @@ pub pick : {A : Type 0} (P : A → Type 0) (b : Bool) (x y : A) → (b ≡ true 
 pick P true x y f g = f refl
 pick P false x y f g = g refl
 
+-- a choice whose test holds is the first
 pub if-yes : {A : Type 0} (b : Bool) (x y : A) → b ≡ true → (if b then x else y) ≡ x
 if-yes true x y e = refl
 if-yes false x y e = absurd cc
 
+-- a choice whose test fails is the second
 pub if-no : {A : Type 0} (b : Bool) (x y : A) → b ≡ false → (if b then x else y) ≡ y
 if-no true x y e = absurd cc
 if-no false x y e = refl
 
+-- numbers whose test holds are equal
 pub test-true : (a b : ℕ) → (a == b) ≡ true → a ≡ b
 test-true a b e = grind (arith, nat_tests)
 
+-- numbers whose test fails differ
 pub test-false : (a b : ℕ) → (a == b) ≡ false → a ≢ b
 test-false a b e = grind (arith, nat_tests)
 
+-- the test of equal numbers holds
 pub same-yes : (a b : ℕ) → a ≡ b → (a == b) ≡ true
 same-yes a b e = grind (arith, nat_tests)
 
+-- the test of different numbers fails
 pub same-no : (a b : ℕ) → a ≢ b → (a == b) ≡ false
 same-no a b e = grind (arith, nat_tests)
 
@@ -44,6 +50,7 @@ less-no a b e = grind (arith, nat_tests)
 
 -- ---- offsets
 
+-- 30 bits stand for an offset in range
 pub signed-fits : (n : ℕ) → n < 2 ^ 30 → FitsOffset (signed n)
 signed-fits n h =
     pick FitsOffset (nat_lt n (2 ^ 29)) _ _ (λ e. grind (arith, nat_tests)) (λ e. grind (arith, nat_tests))
@@ -54,6 +61,7 @@ signed-field n h =
     pick (λ (z : ℤ). offset_field z ≡ n) (nat_lt n (2 ^ 29)) _ _ (λ e. refl) (λ e. let l : 2 ^ 29 ≤ n =
     grind (arith, nat_tests) in omega arith)
 
+-- the bits of an offset are 30
 pub offset_field-lt : (o : ℤ) → FitsOffset o → offset_field o < 2 ^ 30
 offset_field-lt (pos n) h = omega arith
 offset_field-lt (negsuc n) h = omega arith
@@ -68,6 +76,7 @@ signed-again (negsuc n) h =
 
 -- ---- widths
 
+-- the code of the width of a code is that code
 pub width_code-width_of : (c : ℕ) → c < 8 → width_code (width_of c) ≡ c
 width_code-width_of zero h = refl
 width_code-width_of (suc zero) h = refl
@@ -79,6 +88,7 @@ width_code-width_of (suc (suc (suc (suc (suc (suc zero)))))) h = refl
 width_code-width_of (suc (suc (suc (suc (suc (suc (suc zero))))))) h = refl
 width_code-width_of (suc (suc (suc (suc (suc (suc (suc (suc n)))))))) h = absurd (omega arith)
 
+-- a width's code has three bits
 pub width_code-lt : (k : Width) → width_code k < 8
 width_code-lt W0 = omega arith
 width_code-lt W1 = omega arith
@@ -89,6 +99,7 @@ width_code-lt W64 = omega arith
 width_code-lt Link = omega arith
 width_code-lt Rows = omega arith
 
+-- the width of a width's code is that width
 pub width_of-width_code : (k : Width) → width_of (width_code k) ≡ k
 width_of-width_code W0 = refl
 width_of-width_code W1 = refl
@@ -101,10 +112,12 @@ width_of-width_code Rows = refl
 
 -- ---- the bit of a double far pointer
 
+-- a bit is 0 or 1
 pub from_bool-le : (d : Bool) → from_bool d ≤ 1
 from_bool-le true = omega arith
 from_bool-le false = omega arith
 
+-- a bit that is 1 stands for the truth value that it was made of
 pub bool-again : (d : Bool) → (from_bool d == 1) ≡ d
 bool-again true = refl
 bool-again false = refl

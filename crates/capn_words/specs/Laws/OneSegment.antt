@@ -16,6 +16,7 @@ bare_is bs h whole room = record {
   room = rw (length-words_in (length bs / 8) bs) room;
 }
 
+-- bare bytes have 8 for each word
 pub bare_length : (bs ws : List ℕ) → IsBare bs ws → length bs ≡ 8 * length ws
 bare_length bs ws h = ap length h.same ∙ length-bytes ws
 
@@ -49,16 +50,20 @@ one_segment ws s h = omega arith
 
 -- what the words that the bytes are seen as have to do with the bytes
 module _ (bs ws : List ℕ) (is : words_in (length bs / 8) bs ≡ ws) where
+  -- a word for each 8 bytes
   pub seen_length : length ws ≡ length bs / 8
   seen_length = ap length (sym is) ∙ length-words_in (length bs / 8) bs
 
+  -- word k is read from its 8 bytes
   pub seen_word : (k : ℕ) → k < length ws → slice_index ws k ≡ word_number (drop (8 * k) bs)
   seen_word k h = ap (λ (xs : List ℕ). slice_index xs k) (sym is)
       ∙ word_in (length bs / 8) k bs (omega (arith, seen_length))
 
+  -- they are a message of one segment
   pub seen_message : AreBytes bs → length bs / 8 ≤ most_words → IsMessage (ws ∷ [])
   seen_message h room =
       bare_message ws (subst AreWords is (words_below (length bs / 8) bs h)) (omega (arith, seen_length))
 
+  -- whose bytes are the bytes
   pub seen_bytes : AreBytes bs → length bs % 8 ≡ 0 → bytes ws ≡ bs
   seen_bytes h whole = ap bytes (sym is) ∙ bytes_of_words (length bs / 8) bs h (omega arith)

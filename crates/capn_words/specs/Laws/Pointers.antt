@@ -112,6 +112,7 @@ null-again : pointer_of 0 ≡ Nil
 unfolding pointer_of
 null-again = refl
 
+-- the pointer in a pointer's word is that pointer
 pub pointer_of-word_of : (p : Pointer) → Fits p → pointer_of (word_of p) ≡ p
 pointer_of-word_of Nil h = null-again
 pointer_of-word_of (Node o w s) h = struct-again (word_of (Node o w s)) o w s refl h.0 h.1 h.2 h.3
@@ -120,6 +121,7 @@ pointer_of-word_of (Far d w s) h = far-again (word_of (Far d w s)) d w s refl h.
 pointer_of-word_of (Cap i) h = cap-again (word_of (Cap i)) i refl h
 pointer_of-word_of (Reserved n) h = reserved-again n h.1 h.2
 
+-- a pointer's word has 64 bits
 pub word_of-lt : (p : Pointer) → Fits p → word_of p < 2 ^ 64
 word_of-lt Nil h = omega arith
 word_of-lt (Node o w s) h = let l = offset_field-lt o h.0 in omega (arith, h.1, h.2)
@@ -132,9 +134,11 @@ word_of-lt (Reserved n) h = h.0
 pub Fields-only : (w : ℕ) (p : Pointer) → Fields w p → pointer_of w ≡ p
 Fields-only w p h = ap pointer_of h.1 ∙ pointer_of-word_of p h.0
 
+-- the fields of a word's pointer are in their ranges
 pub Fits-pointer_of : (w : ℕ) → w < 2 ^ 64 → Fits (pointer_of w)
 Fits-pointer_of w h = (Fields-pointer_of w h).0
 
+-- the word of the pointer in a word is that word
 pub word_of-pointer_of : (w : ℕ) → w < 2 ^ 64 → word_of (pointer_of w) ≡ w
 word_of-pointer_of w h = sym (Fields-pointer_of w h).1
 

@@ -44,9 +44,11 @@ bytes_low_first-below i (suc k) x (suc j) = bytes_low_first-below (suc i) k x j
 
 -- ---- one word
 
+-- what is left of bytes is bytes
 pub AreBytes-drop : (n : ℕ) (bs : List ℕ) → AreBytes bs → AreBytes (drop n bs)
 AreBytes-drop n bs h i = rw (get_or-drop n bs i 0) (h (n + i))
 
+-- bytes joined are bytes
 pub AreBytes-append : (cs bs : List ℕ) → AreBytes cs → AreBytes bs → AreBytes (cs ++ bs)
 AreBytes-append [] bs h l i = l i
 AreBytes-append (c ∷ cs) bs h l zero = h zero
@@ -67,6 +69,7 @@ pub number-word_bytes : (w : ℕ) (rest : List ℕ) → w < 2 ^ 64 → word_numb
 unfolding word_number word_bytes
 number-word_bytes w rest h = little_number-reads_back 8 w rest h
 
+-- a word has 8 bytes
 pub length-word_bytes : (w : ℕ) → length (word_bytes w) ≡ 8
 unfolding word_bytes
 length-word_bytes w = refl
@@ -77,6 +80,7 @@ word_bytes-below w = bytes_low_first-below 0 8 w
 
 -- ---- the words in bytes
 
+-- as many words are read as are asked for
 pub length-words_in : (n : ℕ) (bs : List ℕ) → length (words_in n bs) ≡ n
 unfolding words_in
 length-words_in zero bs = refl
@@ -109,6 +113,7 @@ bytes_of_words (suc n) bs h l =
 
 -- ---- the bytes of words
 
+-- words have 8 bytes each
 pub length-bytes : (ws : List ℕ) → length (bytes ws) ≡ 8 * length ws
 length-bytes [] = refl
 length-bytes (w ∷ ws) = omega (arith, length-bytes ws, length-append (word_bytes w) (bytes ws), length-word_bytes w)
@@ -130,6 +135,7 @@ bytes-injective vs ws hv hw e =
     sym (words_of_bytes vs hv) ∙ ap (λ (n : ℕ). words_in n (bytes vs)) same
     ∙ ap (λ (bs : List ℕ). words_in (length ws) bs) e ∙ words_of_bytes ws hw
 
+-- the bytes of words joined are their bytes joined
 pub bytes-append : (vs ws : List ℕ) → bytes (vs ++ ws) ≡ bytes vs ++ bytes ws
 bytes-append vs ws = flat_map-append word_bytes vs ws
 

@@ -22,12 +22,14 @@ use Rattle.capn_value.specs.contracts.items.Items.TheInside as fields
 abbrev pub the_former : Former {0} → Type 0 → Former {0}
 the_former elements A = list elements
 
+-- a list of elements that are weighed is weighed
 abbrev pub the_weighed : {elements : Former {0}} → Weighed elements → (A : Type 0) → Weighed (the_former elements A)
 the_weighed weights A = w_list weights
 
 pub the_empty : (A : Type 0) → A → List ⊥
 the_empty A alloc = []
 
+-- its elements are that list
 abbrev pub the_items : (A T : Type 0) → List T → List T
 the_items A T elements = elements
 
