@@ -5,11 +5,21 @@ PROGRAM := crates/capn
 KIT ?= $(dir $(shell rt doc))
 # The library for C. No symbolic link may stand in it, since the gate refuses one anywhere.
 BUILD := build
+SHELL := bash
+.SHELLFLAGS := -o pipefail -c
 
-.PHONY: program run test bench interop library install
+.PHONY: try program run test bench interop library install
+
+# The stored run, tried before any proof, in about a minute: what runs is not the proved program.
+try:
+	@echo "capn $$(tr '\n' ' ' < $(PROGRAM)/args)"
+	@echo "in:"; od -An -v -tx1 -w8 $(PROGRAM)/stdin
+	@echo "out:"; cd $(PROGRAM) && rt try -- $$(cat args) < stdin | od -An -v -tx1 -w8
+	@echo "nothing was proved: this is not the proved program, which make run builds, in 8 to 15 minutes at first"
 
 # The program, proved and built: crates/capn/out/capn.
 program:
+	@echo "proving and building capn: 8 to 15 minutes at first, less where an earlier check has left its work"
 	@cd $(PROGRAM) && rt run -- $$(cat args) < stdin > /dev/null
 
 # Builds the proved program and shows its stored run: the bytes in and the bytes out.
@@ -18,9 +28,10 @@ run: program
 	@echo "in:"; od -An -v -tx1 -w8 $(PROGRAM)/stdin
 	@echo "out:"; $(PROGRAM)/out/capn $$(cat $(PROGRAM)/args) < $(PROGRAM)/stdin | od -An -v -tx1 -w8
 
-# The whole gate: no crate reaches into another one's proofs, what `rt ci` tries, the program that it built, once or more
-# for each exit status and with too little memory, and the library for C with its examples.
+# The whole gate: no line is too long and no crate reaches into another one's proofs, what `rt ci` tries, the program that
+# it built, once or more for each exit status and with too little memory, and the library for C with its examples.
 test:
+	.ci/lines
 	.ci/borders
 	rt ci
 	.ci/statuses
@@ -46,14 +57,18 @@ library:
 	cd $(BUILD) && ld -r -o capn.o capn_c.o heap.pic.o && objcopy --wildcard --keep-global-symbol='capn_*' capn.o
 	cd $(BUILD) && ar rcsD libcapn.a capn.o
 	cd $(BUILD) && $(CC) -shared -o libcapn.so.1 -Wl,-soname,libcapn.so.1 -Wl,-z,defs,-z,now capn.o
-	sed 's,@PREFIX@,$(PREFIX),; s,@VERSION@,$(VERSION),' c/capn.pc.in > $(BUILD)/capn.pc
 
-# The program and its manual page; the library, its header and its pkg-config file.
-install: program library
+# The program and its manual page; the library, its header and its pkg-config file. Builds nothing, so that nothing is
+# proved and built as root.
+install:
+	@test -x $(PROGRAM)/out/capn || { echo "there is no program to install: run make program first" >&2; exit 1; }
+	@test -f $(BUILD)/libcapn.a -a -f $(BUILD)/libcapn.so.1 \
+		|| { echo "there is no library to install: run make library first" >&2; exit 1; }
 	install -D -m 755 $(PROGRAM)/out/capn $(DESTDIR)$(PREFIX)/bin/capn
 	install -D -m 644 docs/capn.1 $(DESTDIR)$(PREFIX)/share/man/man1/capn.1
 	install -D -m 644 c/capn.h $(DESTDIR)$(PREFIX)/include/capn.h
 	install -D -m 644 $(BUILD)/libcapn.a $(DESTDIR)$(PREFIX)/lib/libcapn.a
 	install -D -m 755 $(BUILD)/libcapn.so.1 $(DESTDIR)$(PREFIX)/lib/libcapn.so.1
 	ln -sf libcapn.so.1 $(DESTDIR)$(PREFIX)/lib/libcapn.so
-	install -D -m 644 $(BUILD)/capn.pc $(DESTDIR)$(PREFIX)/lib/pkgconfig/capn.pc
+	sed 's,@PREFIX@,$(PREFIX),; s,@VERSION@,$(VERSION),' c/capn.pc.in \
+		| install -D -m 644 /dev/stdin $(DESTDIR)$(PREFIX)/lib/pkgconfig/capn.pc

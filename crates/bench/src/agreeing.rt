@@ -49,7 +49,7 @@ fn check_readings(alloc: Global, bytes: &[u8]) -> Result<()> {
 }
 
 /// Prints for each shape the digest of its canonical bytes, where the operations agree.
-pub fn agree(rt: &impl Print, alloc: Global) -> Result<()> {
+pub(crate) fn agree(rt: &impl Print, alloc: Global) -> Result<()> {
     for shape in Shape::MESSAGES {
         let bytes = framed(alloc, shape, BYTES)?;
         check_canonical(alloc, &bytes)?;

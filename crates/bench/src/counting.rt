@@ -6,7 +6,7 @@ use anyhow::Result;
 use std::alloc::Global;
 
 /// Makes the input of an operation and does the operation so many times. Prints the bytes by which its cost is told.
-pub fn count(
+pub(crate) fn count(
     rt: &impl Print,
     alloc: Global,
     operation: Operation,

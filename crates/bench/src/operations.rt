@@ -19,7 +19,7 @@ const PIECE: usize = 65_536;
 
 /// An operation on a message, a tree, canonical bytes or packed bytes.
 #[derive(Debug, Clone, Copy, PartialEq, Eq)]
-pub enum Operation {
+pub(crate) enum Operation {
     /// A copy of the framed message's bytes, to compare with.
     Copy,
     /// What the frame says.
@@ -48,7 +48,7 @@ pub enum Operation {
 
 impl Operation {
     /// Those of one message.
-    pub const ALL: [Operation; 11] = [
+    pub(crate) const ALL: [Operation; 11] = [
         Operation::Copy,
         Operation::First,
         Operation::Framer,
@@ -63,7 +63,7 @@ impl Operation {
     ];
 
     /// What it is called.
-    pub fn name(self) -> &'static str {
+    pub(crate) fn name(self) -> &'static str {
         match self {
             Operation::Copy => "copy",
             Operation::First => "first",
@@ -81,7 +81,7 @@ impl Operation {
     }
 
     /// The operation of that name.
-    pub fn named(name: &str) -> Option<Operation> {
+    pub(crate) fn named(name: &str) -> Option<Operation> {
         if name == Operation::Check.name() {
             return Some(Operation::Check);
         }
@@ -94,7 +94,7 @@ impl Operation {
 
 /// What an operation takes.
 #[derive(Drop)]
-pub struct Input {
+pub(crate) struct Input {
     /// The framed message, its canonical bytes, its packed text, or a stream.
     bytes: Vec<u8>,
     /// The tree of the message.
@@ -104,7 +104,7 @@ pub struct Input {
 }
 
 /// The message that stands first in the bytes.
-pub fn message(alloc: Global, framed: &[u8]) -> Result<Framed<'_>> {
+pub(crate) fn message(alloc: Global, framed: &[u8]) -> Result<Framed<'_>> {
     match first(alloc, framed, MOST_WORDS) {
         Ok((message, _)) => Ok(message),
         Err(_) => Err(anyhow!("no frame")),
@@ -112,7 +112,7 @@ pub fn message(alloc: Global, framed: &[u8]) -> Result<Framed<'_>> {
 }
 
 /// The tree of a framed message, with what its walk paid.
-pub fn walked(alloc: Global, framed: &[u8]) -> Result<Walked> {
+pub(crate) fn walked(alloc: Global, framed: &[u8]) -> Result<Walked> {
     match walk(alloc, &message(alloc, framed)?, Limits::usual()) {
         Ok(walked) => Ok(walked),
         Err(_) => Err(anyhow!("not walked")),
@@ -120,7 +120,7 @@ pub fn walked(alloc: Global, framed: &[u8]) -> Result<Walked> {
 }
 
 /// The canonical bytes of a framed message.
-pub fn canonical(alloc: Global, framed: &[u8]) -> Result<Vec<u8>> {
+pub(crate) fn canonical(alloc: Global, framed: &[u8]) -> Result<Vec<u8>> {
     match canonical_of(alloc, &message(alloc, framed)?, Limits::usual()) {
         Ok(canonical) => Ok(canonical.bytes),
         Err(_) => Err(anyhow!("no canonical bytes")),
@@ -128,22 +128,22 @@ pub fn canonical(alloc: Global, framed: &[u8]) -> Result<Vec<u8>> {
 }
 
 /// Whether bytes are canonical.
-pub fn test(alloc: Global, bytes: &[u8]) -> Result<bool> {
+pub(crate) fn test(alloc: Global, bytes: &[u8]) -> Result<bool> {
     is_canonical(alloc, bytes, Limits::usual()).map_err(|_| anyhow!("not read"))
 }
 
 /// The packed text of some words.
-pub fn packed(alloc: Global, words: &[u8]) -> Result<Vec<u8>> {
+pub(crate) fn packed(alloc: Global, words: &[u8]) -> Result<Vec<u8>> {
     pack(alloc, words).map_err(|_| anyhow!("not packed"))
 }
 
 /// The words of a packed text.
-pub fn unpacked(alloc: Global, text: &[u8]) -> Result<Vec<u8>> {
+pub(crate) fn unpacked(alloc: Global, text: &[u8]) -> Result<Vec<u8>> {
     unpack(alloc, text, MOST_WORDS).map_err(|_| anyhow!("not unpacked"))
 }
 
 /// The words that reading a message pays.
-pub fn paid(alloc: Global, framed: &[u8]) -> Result<u32> {
+pub(crate) fn paid(alloc: Global, framed: &[u8]) -> Result<u32> {
     match survey(alloc, &message(alloc, framed)?, Limits::usual()) {
         Ok(surveyed) => Ok(surveyed.paid),
         Err(_) => Err(anyhow!("not surveyed")),
@@ -151,7 +151,7 @@ pub fn paid(alloc: Global, framed: &[u8]) -> Result<u32> {
 }
 
 /// The contents of the message that comes in pieces, in words.
-pub fn received(alloc: Global, framed: &[u8]) -> Result<u32> {
+pub(crate) fn received(alloc: Global, framed: &[u8]) -> Result<u32> {
     let mut framer = Framer::new(alloc, MOST_WORDS);
     for piece in framed.chunks(PIECE) {
         match framer.feed(piece) {
@@ -168,7 +168,7 @@ pub fn received(alloc: Global, framed: &[u8]) -> Result<u32> {
 }
 
 /// The words of a message.
-pub fn words_of<S: Space>(message: &S) -> u32 {
+pub(crate) fn words_of<S: Space>(message: &S) -> u32 {
     let mut words = 0u32;
     for segment in 0..message.segments() {
         words = words.saturating_add(message.words(segment).unwrap_or(0));
@@ -189,7 +189,7 @@ fn checked(alloc: Global, stream: &[u8]) -> Result<Vec<u8>> {
 
 impl Input {
     /// What an operation takes, for a framed message or a stream.
-    pub fn new(alloc: Global, operation: Operation, framed: Vec<u8>) -> Result<Input> {
+    pub(crate) fn new(alloc: Global, operation: Operation, framed: Vec<u8>) -> Result<Input> {
         let mut size = framed.len();
         let mut tree = None;
         let bytes = match operation {
@@ -221,7 +221,7 @@ impl Input {
 
     /// Does the operation once. The answer is some number of what came out.
     #[inline(never)]
-    pub fn perform(&self, alloc: Global, operation: Operation) -> Result<usize> {
+    pub(crate) fn perform(&self, alloc: Global, operation: Operation) -> Result<usize> {
         let bytes = self.bytes.as_slice();
         match operation {
             Operation::Copy => Ok(Vec::from_slice(alloc, bytes)?.len()),
@@ -241,6 +241,6 @@ impl Input {
 }
 
 /// The SHA-256 of a message's canonical bytes.
-pub fn digest(alloc: Global, framed: &[u8]) -> Result<[u8; 32]> {
+pub(crate) fn digest(alloc: Global, framed: &[u8]) -> Result<[u8; 32]> {
     Ok(Sha256::digest(canonical(alloc, framed)?.as_slice()))
 }

@@ -11,7 +11,7 @@ use std::alloc::{AllocError, Global};
 
 /// What a message is like.
 #[derive(Debug, Clone, Copy, PartialEq, Eq)]
-pub enum Shape {
+pub(crate) enum Shape {
     /// Structs of many data words.
     Wide,
     /// Nests of small structs, each in a slot of the one above.
@@ -34,7 +34,7 @@ pub enum Shape {
 
 impl Shape {
     /// Those of one message.
-    pub const MESSAGES: [Shape; 8] = [
+    pub(crate) const MESSAGES: [Shape; 8] = [
         Shape::Wide,
         Shape::Deep,
         Shape::Texts,
@@ -46,7 +46,7 @@ impl Shape {
     ];
 
     /// What it is called.
-    pub fn name(self) -> &'static str {
+    pub(crate) fn name(self) -> &'static str {
         match self {
             Shape::Wide => "wide",
             Shape::Deep => "deep",
@@ -61,7 +61,7 @@ impl Shape {
     }
 
     /// The shape of that name.
-    pub fn named(name: &str) -> Option<Shape> {
+    pub(crate) fn named(name: &str) -> Option<Shape> {
         if name == Shape::Small.name() {
             return Some(Shape::Small);
         }
@@ -73,7 +73,7 @@ impl Shape {
 }
 
 /// A framed message of some so many bytes, or a stream of small ones.
-pub fn framed(alloc: Global, shape: Shape, bytes: u32) -> Result<Vec<u8>, AllocError> {
+pub(crate) fn framed(alloc: Global, shape: Shape, bytes: u32) -> Result<Vec<u8>, AllocError> {
     match shape {
         Shape::Wide => flat::wide(alloc, bytes),
         Shape::Deep => nested::deep(alloc, bytes),

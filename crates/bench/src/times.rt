@@ -96,7 +96,7 @@ fn print_small<R: Print + Clock>(rt: &R, alloc: Global) -> Result<()> {
 }
 
 /// Prints the shortest times, in nanoseconds a byte, of each operation on each shape at each size.
-pub fn measure<R: Print + Clock>(rt: &R, alloc: Global) -> Result<()> {
+pub(crate) fn measure<R: Print + Clock>(rt: &R, alloc: Global) -> Result<()> {
     for bytes in SIZES {
         print_size(rt, alloc, bytes)?;
     }

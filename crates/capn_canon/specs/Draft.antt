@@ -1,4 +1,4 @@
--- A buffer of words, each of which can be written again, is a list without holes.
+-- A buffer of words, each of which can be written again, is a list without holes. No public clause cites this.
 use Rattle.std.specs.Prelude.{◌≡◌, ℕ, ◌/◌, ◌%◌, List, length, replicate, Option, false}
 use Rattle.capn_words.specs.Words.{AreBytes}
 use Rattle.capn_canon.specs.Patch.{cells}

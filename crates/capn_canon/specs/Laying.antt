@@ -1,4 +1,4 @@
--- How a buffer of words and holes grows to a layout.
+-- How a buffer of words and holes grows to a layout. No public clause cites this.
 use Rattle.std.specs.Prelude.{◌≡◌, ℕ, zero, suc, ◌+◌, ◌<◌, List, [], ◌++◌, length, take, set, replicate, Option, Some}
 use Rattle.std.specs.Prelude.{None, ⊤}
 use Rattle.capn_value.specs.Tree.{Tree, Trees, no_trees, tree, Bodies, no_bodies, body}

@@ -1,4 +1,4 @@
--- The own words of an object, before what is below it.
+-- The own words of an object, before what is below it. No public clause cites this.
 use Rattle.std.specs.Prelude.{◌≡◌, ℕ, ◌+◌, List, ◌++◌, length, take, set, Option, Some}
 use Rattle.capn_value.specs.Trim.{kept_words}
 use Rattle.capn_canon.specs.Patch.{whole}

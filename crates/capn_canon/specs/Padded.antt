@@ -1,4 +1,4 @@
--- Bytes, filled up with zeros to whole words.
+-- Bytes, filled up with zeros to whole words. No public clause cites this.
 use Rattle.std.specs.Prelude.{ℕ, ◌-◌, ◌%◌, List, ◌++◌, length, replicate}
 
 -- how many bytes are missing to a whole word (own)

@@ -1,4 +1,4 @@
--- What stands at places of a message and has room in a buffer of words.
+-- What stands at places of a message and has room in a buffer of words. No public clause cites this.
 use Rattle.std.specs.Prelude.{◌≡◌, ℕ, suc, ◌+◌, ◌^◌, ◌≤◌, List, length, set, Option, Some}
 use Rattle.capn_words.specs.declared.space.Place.{Place}
 use Rattle.capn_value.specs.Tree.{Tree, Trees, Bodies, count, count_rows}

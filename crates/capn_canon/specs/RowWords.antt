@@ -1,4 +1,4 @@
--- Rows of equal sizes, as the words of a segment have them.
+-- Rows of equal sizes, as the words of a segment have them. No public clause cites this.
 use Rattle.std.specs.Prelude.{◌≡◌, ℕ, zero, suc, ◌+◌, ◌*◌, ◌^◌, ◌≤◌, max, pos, List, [], ◌∷◌, ◌++◌, length, take, set}
 use Rattle.std.specs.Prelude.{Option, Some}
 use Rattle.capn_words.specs.Fields.{word_of}

@@ -1,4 +1,4 @@
--- Words that are the layout of what they are read as.
+-- Words that are the layout of what they are read as. No public clause cites this.
 use Rattle.std.specs.Prelude.{◌≡◌, ℕ, ◌+◌, ◌^◌, ◌≤◌, List, length, take, drop, slice_index, Option, Some, None}
 use Rattle.capn_value.specs.Tree.{Tree, Trees, Bodies, count_rows}
 use Rattle.capn_value.specs.Sizes.{greatest_in_rows}

@@ -1,6 +1,6 @@
--- The one text that this packer writes, of the many that pack the same words (own).
+-- The one text that this packer writes, of the many that pack the same words. (Own.)
 use Rattle.std.specs.Prelude.{ℕ, ◌≡◌, ◌+◌, ◌<◌, ◌≤◌, ◌==◌, if◌then◌else◌, List, [], ◌∷◌, length, replicate, take, drop}
-use Rattle.std.specs.Prelude.{suc, zero}
+use Rattle.std.specs.Prelude.{suc, zero, ⊤}
 use Rattle.capn_pack.specs.Tag.{tag_of}
 use Rattle.capn_pack.specs.Group.{Group, IsGroup}
 use Rattle.capn_pack.specs.Group.Group.{Zeros, Named, Raw}
@@ -31,7 +31,7 @@ IsChoice (Raw word count more) bs = (tag_of word ≡ 255) × AllDense count more
 
 -- Each group of the row is the packer's choice before those behind it.
 abbrev pub IsChosenRow : List Group → Type 0
-IsChosenRow [] = Unit {0}
+IsChosenRow [] = ⊤
 IsChosenRow (g ∷ gs) = IsGroup g × IsChoice g (contents gs) × IsChosenRow gs
 
 -- The text b is the packer's for the words whose bytes are bs.

@@ -1,4 +1,4 @@
--- The three kinds of group (encoding page, "Packing"). A word is its eight bytes, the least first.
+-- The three kinds of group. A word is its eight bytes, the least first. (Page: packing.)
 use Rattle.std.specs.Prelude.{ℕ, ◌≡◌, ◌+◌, ◌*◌, ◌<◌, List, [], ◌∷◌, ◌++◌, length, replicate}
 use Rattle.capn_pack.specs.Tag.{named_bytes, IsNamedBy}
 

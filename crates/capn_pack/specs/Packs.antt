@@ -1,4 +1,4 @@
--- Packed texts: rows of groups (encoding page, "Packing").
+-- Packed texts: rows of groups. (Page: packing.)
 use Rattle.std.specs.Prelude.{ℕ, ◌≡◌, ◌+◌, List, [], ◌∷◌}
 use Rattle.std.specs.List.{flat_map, AllByRecursion}
 use Rattle.capn_pack.specs.Group.{Group, IsGroup, text, content, words}

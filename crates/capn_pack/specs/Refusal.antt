@@ -1,6 +1,6 @@
--- What is answered where a text packs no words, or more than the maximum (own).
+-- What is answered where a text packs no words, or more than the maximum. (Own.)
 use Rattle.std.specs.Prelude.{ℕ, ◌≡◌, ◌+◌, ◌*◌, ◌<◌, ◌≤◌, ◌==◌, if◌then◌else◌, List, ◌++◌, length, slice_index}
-use Rattle.std.specs.Prelude.{count_ones}
+use Rattle.std.specs.Prelude.{count_ones, ⊤}
 use Rattle.std.specs.List.{AllByRecursion}
 use Rattle.capn_pack.specs.declared.fault.UnpackFault.{UnpackFault}
 use Rattle.capn_pack.specs.declared.fault.UnpackFault.TheVariants.{Memory, Cut, TooLong, Failed}
@@ -56,7 +56,7 @@ pub record StartsWithin (rest : List ℕ) (room : ℕ) : Type 0 where
 
 -- The text b is so refused under a maximum of words. Nothing is said of want of memory.
 abbrev pub IsRefused : List ℕ → ℕ → UnpackFault → Type 0
-IsRefused b max Memory = Unit {0}
+IsRefused b max Memory = ⊤
 IsRefused b max (Cut at) = Stands IsCut b max at
 IsRefused b max (TooLong at) = Stands IsTooLong b max at
 IsRefused b max Failed = ⊥

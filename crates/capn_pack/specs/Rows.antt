@@ -1,5 +1,5 @@
 -- The rules of the shuffle tables: where each lane of a vector comes from, 128 where it is zero. No public clause
--- cites these.
+-- cites this.
 use Rattle.std.specs.Prelude.{ℕ, ◌+◌, ◌/◌, ◌%◌, ◌==◌, if◌then◌else◌, List, [], ◌∷◌, ◌++◌, replicate, suc, zero}
 
 -- Of n bytes of a word: the next byte where the tag names it.

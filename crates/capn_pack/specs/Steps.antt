@@ -1,4 +1,4 @@
--- What one step of the code does. No public clause cites these.
+-- What one step of the code does. No public clause cites this.
 use Rattle.std.specs.Prelude.{ℕ, ◌≡◌, ◌+◌, ◌*◌, ◌≤◌, ◌++◌, List, length, take, drop}
 use Rattle.std.specs.List.{AllByRecursion}
 use Rattle.capn_pack.specs.Group.{Group, IsGroup, text, content, words}

@@ -1,4 +1,4 @@
--- A packed text that comes in pieces (own).
+-- A packed text that comes in pieces. (Own.)
 use Rattle.std.specs.Prelude.{ℕ, ◌≡◌, ◌+◌, ◌-◌, ◌^◌, ◌++◌, List, Bool, false, length, min}
 use Rattle.std.specs.List.{AllByRecursion}
 use Rattle.capn_pack.specs.Group.{Group, IsGroup, text}

@@ -1,5 +1,5 @@
--- The tag of a word, one bit for each of its eight bytes (encoding page, "Packing").
-use Rattle.std.specs.Prelude.{ℕ, ◌≡◌, ◌+◌, ◌*◌, ◌/◌, ◌%◌, ◌==◌, if◌then◌else◌, List, [], ◌∷◌}
+-- The tag of a word, one bit for each of its eight bytes. (Page: packing.)
+use Rattle.std.specs.Prelude.{ℕ, ◌≡◌, ◌+◌, ◌*◌, ◌/◌, ◌%◌, ◌==◌, if◌then◌else◌, List, [], ◌∷◌, ⊤}
 
 -- The tag of some bytes: from the least bit on, 1 exactly where the byte isn't zero.
 abbrev pub tag_of : List ℕ → ℕ
@@ -13,5 +13,5 @@ named_bytes tag (x ∷ xs) = if tag % 2 == 1 then x ∷ named_bytes (tag / 2) xs
 
 -- Each byte that the tag does not name is zero.
 abbrev pub IsNamedBy : ℕ → List ℕ → Type 0
-IsNamedBy tag [] = Unit {0}
+IsNamedBy tag [] = ⊤
 IsNamedBy tag (x ∷ xs) = (tag % 2 ≡ 0 → x ≡ 0) × IsNamedBy (tag / 2) xs

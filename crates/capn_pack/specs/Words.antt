@@ -1,4 +1,4 @@
--- Words as numbers (encoding page, "Messages": numbers are little-endian).
+-- Words as numbers, the least significant byte first. (Page: messages.)
 use Rattle.std.specs.Prelude.{ℕ, ◌≡◌, ◌^◌, ◌<◌, List, slice_index}
 use Rattle.std.specs.List.{flat_map, AllByRecursion}
 use Rattle.std.specs.Int.{w64, to_le_bytes}

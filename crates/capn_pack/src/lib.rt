@@ -2,8 +2,8 @@
 //!
 //! [`pack`] writes the one text of whole words that this packer chooses, and [`unpack`] reads any packed text, under a
 //! maximum of words; [`unpack`] of what [`pack`] gives is the words again. [`Unpacker`] reads a text that comes in
-//! pieces, and [`tag`] is the tag of one word. The format is that of the section "Packing" of the encoding page; what
-//! it leaves open (where a run ends, what an unpacker accepts, the order of refusals) is own.
+//! pieces, and [`tag`] is the tag of one word. (Page: packing; what it leaves open, as
+//! where a run ends, what an unpacker accepts and the order of refusals, is our own.)
 //!
 //! ```text
 //! let text = pack(alloc, &[8, 0, 0, 0, 3, 0, 2, 0])?;   // 51 08 03 02 in hexadecimal
@@ -14,6 +14,7 @@
 //! comes. [`laws`] has what holds of packed texts apart from any call: one reading, one refusal, one way to split.
 #![tactic(auto)]
 
+mod block;
 mod fault;
 mod gather_table;
 mod lanes;

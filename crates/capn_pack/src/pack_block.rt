@@ -3,6 +3,7 @@ ghost use Rattle.std.specs.Prelude.{◌≡◌, ◌+◌, ◌≤◌, ◌∷◌, �
 ghost use Rattle.capn_pack.specs.Tag.{named_bytes};
 ghost use Rattle.capn_pack.specs.Steps.{Puts, PutsRow};
 
+use crate::block::Block;
 use crate::lanes::gather;
 use crate::runs::{word_at, zero_run};
 use crate::signs::tag;
@@ -39,16 +40,9 @@ fn store_named(block: &mut [u8], fill: usize, word: [u8; 8], tag: u8) -> usize
     fill + 1 + tag.count_ones() as usize
 }
 
-/// What a block holds: the groups of the words up to an offset, and how many bytes they have.
-#[derive(Debug, Drop, Clone, Copy)]
-pub(crate) struct Stored {
-    pub at: usize,
-    pub fill: usize,
-}
-
 /// Writes the group that the packer chooses there behind those that wait, unless it is a raw one.
 #[inline(always)]
-fn store_group(bytes: &[u8], at: usize, block: &mut [u8], fill: usize) -> Option<Stored>
+fn store_group(bytes: &[u8], at: usize, block: &mut [u8], fill: usize) -> Option<Block>
     requires inside { at + 8 ≤ length bytes.now }
     requires room { fill + 16 ≤ length block.old }
     ensures within { IfSome result (λ s. s.fill ≤ fill + 16) }
@@ -60,13 +54,13 @@ fn store_group(bytes: &[u8], at: usize, block: &mut [u8], fill: usize) -> Option
         0 => {
             let more = zero_run(bytes, at + 8);
             store_pair(block, fill, [0, more as u8]);
-            Some(Stored {
+            Some(Block {
                 at: at + 8 + 8 * more,
                 fill: fill + 2,
             })
         }
         255 => None,
-        tag => Some(Stored {
+        tag => Some(Block {
             fill: store_named(block, fill, word, tag),
             at: at + 8,
         }),
@@ -74,7 +68,7 @@ fn store_group(bytes: &[u8], at: usize, block: &mut [u8], fill: usize) -> Option
 }
 
 /// Writes the groups that the packer chooses from there on, up to a raw one or as far as the block goes.
-pub(crate) fn store_groups(bytes: &[u8], start: usize, block: &mut [u8]) -> Stored
+pub(crate) fn store_groups(bytes: &[u8], start: usize, block: &mut [u8]) -> Block
     requires inside { start ≤ length bytes.now }
     requires room { 16 ≤ length block.old }
     ensures within { result.fill ≤ length block.new }
@@ -90,8 +84,8 @@ pub(crate) fn store_groups(bytes: &[u8], start: usize, block: &mut [u8]) -> Stor
                 at = stored.at;
                 fill = stored.fill;
             }
-            None => return Stored { at, fill },
+            None => return Block { at, fill },
         }
     }
-    Stored { at, fill }
+    Block { at, fill }
 }

@@ -1,12 +1,12 @@
 //! Packing.
-ghost use Rattle.std.specs.Prelude.{◌≡◌, ◌+◌, ◌%◌, ◌<◌, ◌≤◌, ◌∷◌, ◌++◌, ◌↔◌, length, take, IfOk, IsErrOf, OnErr};
+ghost use Rattle.std.specs.Prelude.{◌≡◌, ◌≢◌, ◌+◌, ◌%◌, ◌<◌, ◌≤◌, ◌∷◌, ◌++◌, ◌↔◌, length, take, IfOk, IsErrOf, OnErr};
 ghost use Rattle.std.specs.Prelude.{MatchResult, ℕ, List};
 ghost use Rattle.capn_pack.specs.Packs.{Packs};
 ghost use Rattle.capn_pack.specs.Chosen.{Chosen};
 
 use crate::fault::PackFault;
-use crate::pack_group::put_group;
 use crate::pack_block::{LANES, store_groups};
+use crate::pack_group::put_group;
 use std::alloc::{AllocError, Allocator};
 
 /// A block and the lanes behind it.
@@ -32,7 +32,7 @@ fn pack_words<A: Allocator + Copy>(alloc: A, bytes: &[u8]) -> Result<Vec<u8, A>,
     Ok(out)
 }
 
-/// The packed text of whole words, which this packer chooses (encoding page, "Packing"; where runs end is own).
+/// The packed text of whole words, which this packer chooses. (Page: packing; where runs end is our own.)
 ///
 /// `bytes` are the words' bytes, the least first. The answer grows on `alloc` a logarithmic number of times.
 ///
@@ -51,7 +51,7 @@ pub fn pack<A: Allocator + Copy>(alloc: A, bytes: &[u8]) -> Result<Vec<u8, A>, P
     // Memory is wanted for some bytes only.
     ensures wanted { IsErrOf result PackFault.Memory → 0 < length bytes.now }
     ensures whole { length bytes.now % 8 ≡ 0 → OnErr result (result ≡ Err PackFault.Memory) }
-    ensures not_whole { (length bytes.now % 8 ≡ 0 → ⊥) → result ≡ Err (PackFault.NotWhole (length bytes.now)) }
+    ensures not_whole { length bytes.now % 8 ≢ 0 → result ≡ Err (PackFault.NotWhole (length bytes.now)) }
 {
     if bytes.len() % 8 != 0 {
         return Err(PackFault::NotWhole(bytes.len() as u64));

@@ -4,6 +4,7 @@ ghost use Rattle.std.specs.Prelude.{IfSome, IfNone, IfOk, OnErr};
 ghost use Rattle.capn_pack.specs.Refusal.{StartsWithin};
 ghost use Rattle.capn_pack.specs.Steps.{Takes, TakesRow};
 
+use crate::block::Block;
 use crate::lanes::spread_far;
 use crate::unpack_group::Taken;
 use std::alloc::{AllocError, Allocator};
@@ -29,17 +30,10 @@ fn store_zeros(block: &mut [u8], at: usize)
     block[at..at + SLACK].copy_from_slice(&[0; SLACK]);
 }
 
-/// What a block holds: the words of the groups up to an offset of the text, and how many bytes those words have.
-#[derive(Debug, Drop, Clone, Copy)]
-struct Filled {
-    at: usize,
-    fill: usize,
-}
-
 /// Writes the words of the group that begins there behind those that wait, where it is one word that a tag names or
 /// a few zero words, and they stay within the limit.
 #[inline(always)]
-fn fill_group(text: &[u8], at: usize, block: &mut [u8], fill: usize, limit: usize) -> Option<Filled>
+fn fill_group(text: &[u8], at: usize, block: &mut [u8], fill: usize, limit: usize) -> Option<Block>
     requires far { at + 17 ≤ length text.now }
     requires room { fill + 8 ≤ limit }
     requires slack { limit + SLACK ≤ length block.old }
@@ -59,7 +53,7 @@ fn fill_group(text: &[u8], at: usize, block: &mut [u8], fill: usize, limit: usiz
                 return None;
             }
             store_zeros(block, fill);
-            Some(Filled {
+            Some(Block {
                 at: at + 2,
                 fill: end,
             })
@@ -69,7 +63,7 @@ fn fill_group(text: &[u8], at: usize, block: &mut [u8], fill: usize, limit: usiz
             let word = spread_far(tag, &rest[1..]);
             store_word(block, fill, word);
             // The next tag waits for this sum: one step from the count of bits to the offset.
-            Some(Filled {
+            Some(Block {
                 at: at + 1 + tag.count_ones() as usize,
                 fill: fill + 8,
             })
@@ -78,7 +72,7 @@ fn fill_group(text: &[u8], at: usize, block: &mut [u8], fill: usize, limit: usiz
 }
 
 /// Fills the block with the words of the groups that stand first, as far as it goes.
-fn fill_block(text: &[u8], block: &mut [u8], limit: usize) -> Filled
+fn fill_block(text: &[u8], block: &mut [u8], limit: usize) -> Block
     requires { limit + SLACK ≤ length block.old }
     ensures within { result.fill ≤ limit }
     ensures row { TakesRow text.now result.at [] (take result.fill block.new) }
@@ -93,10 +87,10 @@ fn fill_block(text: &[u8], block: &mut [u8], limit: usize) -> Filled
                 at = filled.at;
                 fill = filled.fill;
             }
-            None => return Filled { at, fill },
+            None => return Block { at, fill },
         }
     }
-    Filled { at, fill }
+    Block { at, fill }
 }
 
 /// Appends the words of the groups that stand first, as many as a block holds and there is room for; it may be none.

@@ -13,7 +13,7 @@ pub(crate) const GROUP: usize = 2050;
 pub(crate) const WORDS: usize = 256;
 
 /// Why one group isn't read.
-#[derive(Debug, Drop, Clone, Copy)]
+#[derive(Clone, Copy, Debug)]
 pub(crate) enum Stop {
     /// A growth was refused.
     Memory,
@@ -34,7 +34,7 @@ impl From<AllocError> for Stop {
 }
 
 /// A group that was read.
-#[derive(Debug, Drop, Clone, Copy)]
+#[derive(Clone, Copy, Debug)]
 pub(crate) struct Taken {
     /// How many bytes it took.
     pub bytes: usize,

@@ -1,5 +1,5 @@
 //! Unpacking a text that comes in pieces.
-ghost use Rattle.std.specs.Prelude.{◌≡◌, ◌++◌, [], true, false, IfErr, OnOk, IsErrOf, IsOk};
+ghost use Rattle.std.specs.Prelude.{◌≡◌, ◌≢◌, ◌++◌, [], true, false, IfErr, OnOk, IsErrOf, IsOk};
 ghost use Rattle.capn_pack.specs.Stream.{Feeds, Begins, NoGroupFirst};
 
 use crate::fault::UnpackFault;
@@ -7,12 +7,12 @@ use crate::unpack_piece::{HELD, feed_held};
 use std::alloc::Allocator;
 use std::marker::Model;
 
-/// Unpacks a text that comes in pieces, cut anywhere (own).
+/// Unpacks a text that comes in pieces, cut anywhere. (Own.)
 ///
 /// It keeps the bytes of the unfinished group, of which there are at most 2,049, and the offset of that group's tag in
 /// the text; it has its room inside and takes no memory but for what a piece's words need. After any refusal each later
 /// call answers `Failed` and changes nothing.
-#[derive(Drop)]
+#[derive(Debug, Drop)]
 pub struct Unpacker {
     held: [u8; HELD],
     len: usize,
@@ -30,6 +30,15 @@ impl Model for Unpacker {
     ghost view = { λ a. record { rest = take a.len a.held; offset = a.offset; failed = a.failed } };
 
     ghost invariant = { λ a. (a.len < GROUP) × NoGroupFirst (take a.len a.held) };
+}
+
+impl Default for Unpacker {
+    /// At the beginning of a text.
+    fn default() -> Unpacker
+        ensures { result ≡ record { rest = []; offset = 0; failed = false } }
+    {
+        Unpacker::new()
+    }
 }
 
 impl Unpacker {
@@ -94,7 +103,7 @@ impl Unpacker {
     /// After Ok the text may go on. It takes no memory.
     pub fn finish(&mut self) -> Result<(), UnpackFault>
         ensures ok { OnOk result ((self.old.rest ≡ []) × (self.old.failed ≡ false) × (self.new ≡ self.old)) }
-        ensures cut { self.old.failed ≡ false → (self.old.rest ≡ [] → ⊥)
+        ensures cut { self.old.failed ≡ false → self.old.rest ≢ []
             → (result ≡ Err (UnpackFault.Cut self.old.offset)) × (self.new.failed ≡ true) }
         ensures failed { self.old.failed ≡ true → (result ≡ Err UnpackFault.Failed) × (self.new ≡ self.old) }
         ensures whole { self.old.failed ≡ false → self.old.rest ≡ [] → IsOk result }

@@ -46,9 +46,9 @@ fn unpack_groups<A: Allocator + Copy>(
     Ok(out)
 }
 
-/// The words of a packed text, as their bytes (encoding page, "Packing").
+/// The words of a packed text, as their bytes. (Page: packing.)
 ///
-/// It takes what the packer would not write too: set tag bits over zero bytes, short runs, any raw words (own). A text
+/// It takes what the packer would not write too: set tag bits over zero bytes, short runs, any raw words. (Own.) A text
 /// without bytes packs no words. The answer grows on `alloc` a logarithmic number of times, and only by words that the
 /// text has behind the head of their group and that are within the maximum.
 ///

@@ -1,5 +1,5 @@
 -- The frame of a message in a stream: the table of its segments, padding up to a whole word, and the
--- segments. (The encoding page, "Serialization over a stream".)
+-- segments. (Page: serialization over a stream.)
 use Rattle.std.specs.Prelude.{◌≡◌, ℕ, ◌+◌, ◌-◌, ◌/◌, ◌%◌, ◌^◌, ◌<◌, ◌≤◌, ◌==◌, if◌then◌else◌, List, ◌++◌, length, take}
 use Rattle.std.specs.Prelude.{replicate, slice_index}
 use Rattle.std.specs.List.{flat_map}

@@ -1,4 +1,4 @@
--- A stream of messages that comes in pieces (own).
+-- A stream of messages that comes in pieces. (Own.)
 use Rattle.std.specs.Prelude.{◌≡◌, ◌⊎◌, ℕ, ◌≤◌, List, [], ◌++◌, length, take, Bool, true, false, Result, Ok, Err}
 use Rattle.std.specs.Prelude.{Option, Some, None}
 use Rattle.capn_words.specs.Limits.{most_message_words}

@@ -1,4 +1,4 @@
--- The words of a frame that is owned.
+-- The words of a frame that is owned. No public clause cites this.
 use Rattle.std.specs.Prelude.{◌≡◌, ℕ, ◌%◌, ◌≤◌, List, length, drop}
 use Rattle.capn_words.specs.Words.{AreBytes}
 

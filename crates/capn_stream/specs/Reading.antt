@@ -1,5 +1,6 @@
--- What the beginning of a stream announces, and why it is refused (own: the order of the tests).
-use Rattle.std.specs.Prelude.{◌≡◌, ℕ, zero, suc, ◌+◌, ◌*◌, ◌<◌, ◌≤◌, List, [], ◌∷◌, length, drop, sum}
+-- What the beginning of a stream announces, and why it is refused. (Page: serialization over a stream; the order of
+-- the tests is our own.)
+use Rattle.std.specs.Prelude.{◌≡◌, ℕ, zero, suc, ◌+◌, ◌*◌, ◌<◌, ◌≤◌, List, [], ◌∷◌, length, drop, sum, ⊤}
 use Rattle.byteorder.specs.Endian.{little_number}
 use Rattle.capn_words.specs.Limits.{most_segments}
 use Rattle.capn_stream.specs.Frames.{padding}
@@ -61,7 +62,7 @@ IsCut bs most =
 -- why bytes are refused under a number of words, each test being made once those before it have passed
 -- (want of memory says nothing of the bytes)
 abbrev pub IsRefused : List ℕ → ℕ → FrameFault → Type 0
-IsRefused bs most Memory = Unit {0}
+IsRefused bs most Memory = ⊤
 IsRefused bs most Empty = length bs ≡ 0
 IsRefused bs most (TooManySegments n) = (4 ≤ length bs) × (n ≡ announced_segments bs) × (most_segments < n)
 IsRefused bs most (TooManyWords n) = HasHead bs × (n ≡ announced_words bs) × (most < n)

@@ -1,4 +1,4 @@
--- The next message of a reader (own).
+-- The next message of a reader. (Own.)
 use Rattle.std.specs.Prelude.{◌≡◌, ◌≢◌, ◌⊎◌, ⊤, ℕ, ◌+◌, ◌*◌, ◌≤◌, List, [], ◌++◌, length, Bool, true, false, Result, Ok}
 use Rattle.std.specs.Prelude.{Err, Option, Some, None}
 use Rattle.std.specs.Io.KnownBytes.{Consumes, IsAtEnd}
@@ -49,7 +49,7 @@ TakesIn before piece (Ok (Some message)) after = Frames (before.rest ++ piece) m
 TakesIn before piece (Ok None) after =
     (after.rest ≡ before.rest ++ piece) × (after.most ≡ before.most) × (after.failed ≡ false)
     × IsUnfinished after.rest before.most
-TakesIn before piece (Err faults.Memory) after = Unit {0}
+TakesIn before piece (Err faults.Memory) after = ⊤
 TakesIn before piece (Err faults.Io) after = ⊥
 TakesIn before piece (Err (faults.Frame frames.Memory)) after = ⊥
 TakesIn before piece (Err (faults.Frame frames.Empty)) after = ⊥

@@ -1,4 +1,4 @@
--- A message to a writer.
+-- A message to a writer. No public clause cites this.
 use Rattle.std.specs.Prelude.{ℕ, List, ◌++◌, length, replicate}
 use Rattle.capn_stream.specs.Frames.{padding, table}
 

@@ -1,5 +1,5 @@
 -- How far the frame that comes in pieces is known.
-use Rattle.std.specs.Prelude.{◌≡◌, ◌⊎◌, ℕ, ◌<◌, ◌≤◌, List, ◌++◌, length, take, drop}
+use Rattle.std.specs.Prelude.{◌≡◌, ◌⊎◌, ℕ, ◌<◌, ◌≤◌, List, ◌++◌, length, take, drop, ⊤}
 use Rattle.capn_words.specs.Limits.{most_segments}
 use Rattle.capn_words.specs.Words.{AreBytes}
 use Rattle.capn_stream.specs.Cuts.{ends_from}
@@ -23,7 +23,7 @@ announced_ends bs = ends_from 0 (entries (entry_number bs) (drop 4 bs))
 
 -- the part that is waited for is told as the bytes announce it, and none before it was refused
 abbrev pub Knows : Stage → List ℕ → ℕ → List ℕ → Type 0
-Knows stages.Count bs most ends = Unit {0}
+Knows stages.Count bs most ends = ⊤
 Knows (stages.Table segments) bs most ends = HasCount bs × (segments ≡ announced_segments bs)
 Knows (stages.Contents start end) bs most ends =
     HasHead bs × (announced_words bs ≤ most) × (start ≡ head_length (announced_segments bs)) × (end ≡ frame_length bs)
@@ -31,9 +31,9 @@ Knows (stages.Contents start end) bs most ends =
 
 -- so many segments may be announced
 abbrev pub FitsStage : Stage → Type 0
-FitsStage stages.Count = Unit {0}
+FitsStage stages.Count = ⊤
 FitsStage (stages.Table segments) = segments ≤ most_segments
-FitsStage (stages.Contents start end) = Unit {0}
+FitsStage (stages.Contents start end) = ⊤
 
 -- and the bytes go no further than that part
 pub record IsStage (stage : Stage) (bs : List ℕ) (most : ℕ) (ends : List ℕ) : Type 0 where
@@ -61,7 +61,7 @@ pub record Extends (old piece : List ℕ) (end n : ℕ) (new : List ℕ) : Type 
 
 -- why a frame is refused before its contents are waited for
 abbrev pub IsStop : List ℕ → ℕ → FrameFault → Type 0
-IsStop bs most Memory = Unit {0}
+IsStop bs most Memory = ⊤
 IsStop bs most Empty = ⊥
 IsStop bs most (TooManySegments n) = IsRefused bs most (TooManySegments n)
 IsStop bs most (TooManyWords n) = IsRefused bs most (TooManyWords n)

@@ -3,8 +3,7 @@
 ghost use Rattle.std.specs.Prelude.{◌≡◌, ℕ, ◌+◌, ◌<◌, ◌≤◌, ◌∷◌, ◌++◌, [], length, slice_index};
 ghost use Rattle.capn_stream.specs.Cuts.{AreEnds, cut};
 
-use capn_words::bare::Bare;
-use capn_words::space::{Place, Space};
+use capn_words::{Bare, Place, Space};
 use std::alloc::{Allocator, Global};
 use std::marker::Model;
 
@@ -12,7 +11,7 @@ use std::marker::Model;
 ///
 /// It copies none of them. Beside the borrow it keeps where each segment but the last ends, so a message
 /// of one segment takes no memory, and every segment is found in constant time.
-#[derive(Drop)]
+#[derive(Debug, Drop)]
 pub struct Framed<'a, A: Allocator = Global> {
     words: Bare<'a>,
     ends: Vec<u32, A>,

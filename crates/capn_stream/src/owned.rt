@@ -7,12 +7,12 @@ ghost use Rattle.capn_stream.specs.Owned.{IsTail};
 
 use crate::framed::{end_of, start_of};
 use byteorder::{ByteOrder, LittleEndian};
-use capn_words::space::{Place, Space};
+use capn_words::{Place, Space};
 use std::alloc::{Allocator, Global};
 use std::marker::Model;
 
 /// The words behind the head of a frame that is owned.
-#[derive(Drop)]
+#[derive(Debug, Drop)]
 pub(crate) struct Words<A: Allocator = Global> {
     frame: Vec<u8, A>,
     start: usize,
@@ -86,7 +86,7 @@ impl<A: Allocator> Words<A> {
 ///
 /// It is made by [`Framer`](crate::Framer) and [`read_message`](crate::read_message): the frame as it came, in one
 /// buffer, and where its segments end, so that every segment is found in constant time.
-#[derive(Drop)]
+#[derive(Debug, Drop)]
 pub struct Stored<A: Allocator = Global> {
     words: Words<A>,
     ends: Vec<u32, A>,

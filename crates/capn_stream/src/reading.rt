@@ -8,7 +8,7 @@ ghost use Rattle.capn_stream.specs.Reading.{HasTable, IsRefused};
 use crate::fault::FrameFault;
 use crate::framed::Framed;
 use crate::table::{ends_of, head_of, read_head};
-use capn_words::bare::Bare;
+use capn_words::Bare;
 use std::alloc::Allocator;
 
 /// The message whose frame stands first in the bytes, and the number of bytes that it takes.
@@ -18,7 +18,7 @@ use std::alloc::Allocator;
 /// `TooManySegments`; `Cut` within the table or its padding; `TooManyWords`, with the sum of the sizes,
 /// where it is above `max_words`; `Cut` within the contents. `Memory` comes only where a growth was
 /// refused, after all of these; `Failed` never comes. Padding is ignored.
-/// (The encoding page, "Serialization over a stream".)
+/// (Page: serialization over a stream; the order of the tests is our own.)
 pub fn first<'a, A: Allocator + Copy>(
     alloc: A,
     bytes: &'a [u8],

@@ -37,7 +37,7 @@ pub(crate) fn total_of(sizes: &[u8], count: usize) -> u64
 }
 
 /// Where the segments of the sizes end, counted in words. Its one growth is by sizes that are there.
-pub fn ends_of<A: Allocator>(
+pub(crate) fn ends_of<A: Allocator>(
     alloc: A,
     sizes: &[u8],
     count: usize,
@@ -58,7 +58,7 @@ pub fn ends_of<A: Allocator>(
 }
 
 /// How many bytes the table of so many segments and its padding take.
-pub fn head_of(count: usize) -> usize
+pub(crate) fn head_of(count: usize) -> usize
     requires { count ≤ most_segments }
     ensures { result ≡ head_length count }
 {
@@ -66,14 +66,14 @@ pub fn head_of(count: usize) -> usize
 }
 
 /// What a table announces: how many segments, and how many words in all.
-#[derive(Clone, Copy)]
-pub struct Head {
+#[derive(Clone, Copy, Debug)]
+pub(crate) struct Head {
     pub segments: usize,
     pub words: usize,
 }
 
 /// What the table announces, where its frame is there whole and has at most `max_words` words.
-pub fn read_head(bytes: &[u8], max_words: u32) -> Result<Head, FrameFault>
+pub(crate) fn read_head(bytes: &[u8], max_words: u32) -> Result<Head, FrameFault>
     requires { max_words ≤ most_message_words }
     ensures whole { IfOk result (λ head. IsWhole bytes.now max_words) }
     ensures segments { IfOk result (λ head. head.segments ≡ announced_segments bytes.now) }

@@ -7,7 +7,7 @@ ghost use Rattle.capn_stream.specs.Frames.{Frames, StandsFirst, contents, entry,
 
 use crate::fault::Memory;
 use crate::table::head_of;
-use capn_words::space::{Place, Space};
+use capn_words::{Place, Space};
 use std::alloc::{AllocError, Allocator};
 
 /// The words of all segments.
@@ -81,7 +81,7 @@ fn put_contents<S: Space, A: Allocator>(text: &mut Vec<u8, A>, space: &S) -> Res
 ///
 /// [`first`](crate::first) of these bytes gives the message back. Memory is asked for once, for exactly
 /// the frame; `Memory` comes only where that was refused.
-/// (The encoding page, "Serialization over a stream"; that padding is zero is our own choice.)
+/// (Page: serialization over a stream; that padding is zero is our own.)
 pub fn frame<S: Space, A: Allocator + Copy>(alloc: A, space: &S) -> Result<Vec<u8, A>, Memory>
     ensures exact { IfOk result (λ text. text.items ≡ frame_text (S.message space.now)) }
     ensures frames { IfOk result (λ text. Frames text.items (S.message space.now)) }

@@ -1,4 +1,5 @@
--- A packed stream that is read in pieces: what has been told of the words of its whole groups. (Own.)
+-- A packed stream that is read in pieces: what has been told of the words of its whole groups. (Own.) No
+-- public clause cites this.
 use Rattle.std.specs.Prelude.{◌≡◌, ◌≢◌, ℕ, List, [], ◌++◌, length, Bool, false, Option, Result, Ok, Err}
 use Rattle.capn_walk.specs.Limits.{Bounds}
 use Rattle.capn_pack.specs.Stream.{Begins, Held, Splits, advanced}

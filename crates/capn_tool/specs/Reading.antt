@@ -1,4 +1,4 @@
--- What a run has read and written.
+-- What a run has read and written. No public clause cites this.
 use Rattle.std.specs.Prelude.{◌≡◌, ℕ, ◌+◌, ◌≤◌, List, length, Bool, false, Option, Result, Ok, Err, ⊤}
 use Rattle.std.specs.Io.KnownBytes.{Consumes, IsAtEnd}
 use Rattle.capn_tool.specs.Limits.{most_input}

@@ -1,4 +1,4 @@
--- What was written for bytes that have been read.
+-- What was written for bytes that have been read. No public clause cites this.
 use Rattle.std.specs.Prelude.{◌≡◌, ◌⊎◌, ◌↔◌, ℕ, List, [], Bool, true, false, Option, Result, Ok, Err}
 use Rattle.capn_walk.specs.Limits.{Bounds}
 use Rattle.capn_tool.specs.Pieces.{IsPiece, IsNoPiece}

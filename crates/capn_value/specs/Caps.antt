@@ -1,4 +1,4 @@
--- The first capability (own).
+-- The first capability. (Own.)
 use Rattle.std.specs.Prelude.{ℕ, Some, None, Option}
 use Rattle.std.specs.Option.{option_or}
 use Rattle.capn_value.specs.Tree.{Tree, nil, node, voids, bits, bytes, pairs, quads, octs, links, rows, cap, Trees}

@@ -1,4 +1,4 @@
--- What holds of the definitions, whatever the code does (own).
+-- What holds of the definitions, whatever the code does. (Own.)
 pub mod Cuts
 pub mod Fitting
 pub mod Prices

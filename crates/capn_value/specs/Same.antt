@@ -1,5 +1,5 @@
--- When two values are the same, up to trailing zero words and trailing null slots of structs (encoding page:
--- "Canonicalization").
+-- When two values are the same, up to trailing zero words and trailing null slots of structs. (Page:
+-- canonicalization.)
 use Rattle.std.specs.Prelude.{ℕ, ◌≡◌, List, ⊤, slice_index}
 use Rattle.capn_value.specs.Tree.{Tree, nil, node, voids, bits, bytes, pairs, quads, octs, links, rows, cap, Trees}
 use Rattle.capn_value.specs.Tree.{no_trees, tree, Bodies, no_bodies, body}

@@ -1,5 +1,5 @@
--- The test that decides `Same`, which no public clause names: the functions compute it, and `proofs/Decided.antt`
--- shows that the two agree.
+-- The test that decides `Same`: the functions compute it, and `proofs/Decided.antt` shows that the two agree. No public
+-- clause cites this.
 use Rattle.std.specs.Prelude.{ℕ, ◌==◌, ◌&&◌, Bool, true, false, List, [], ◌∷◌}
 use Rattle.std.specs.Cmp.Lexicographic.{pointwise}
 use mathlib.Core.Bool.{beq}

@@ -1,4 +1,4 @@
--- Height and cost: how deep a reader goes, and what it pays (own, after the encoding page's "Security Considerations").
+-- Height and cost: how deep a reader goes, and what it pays. (Page: security considerations; the prices are our own.)
 use Rattle.std.specs.Prelude.{ℕ, ◌+◌, ◌*◌, ◌^◌, ◌==◌, max, length, cond}
 use Rattle.std.specs.Int.{div_ceil}
 use Rattle.capn_value.specs.declared.tariff.Tariff.{Tariff}

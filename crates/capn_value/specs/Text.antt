@@ -1,4 +1,4 @@
--- The text of a tree (own). Every line is indented by two spaces for each level and ends with a newline.
+-- The text of a tree. Every line is indented by two spaces for each level and ends with a newline. (Own.)
 use Rattle.std.specs.Prelude.{ℕ, zero, suc, ◌+◌, ◌*◌, List, [], ◌∷◌, ◌++◌, length, codes, replicate, Bool, true, false}
 use Rattle.std.specs.Fmt.{decimal}
 use Rattle.std.specs.Int.{to_be_bytes, w64}

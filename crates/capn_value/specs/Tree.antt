@@ -1,5 +1,4 @@
--- Values as mathematical trees: no capacity, no address, no allocator (encoding page: "Structs", "Lists",
--- "Capabilities").
+-- Values as mathematical trees: no capacity, no address, no allocator. (Page: structs, lists, capabilities.)
 use Rattle.std.specs.Prelude.{ℕ, zero, suc, ◌+◌, List, Bool, true, false, length}
 
 -- what a pointer denotes: null, a struct by its data words and slots, a list of one of eight kinds, or a capability

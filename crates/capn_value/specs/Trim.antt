@@ -1,4 +1,4 @@
--- Values without trailing zero words and null slots of structs (encoding page: "Canonicalization").
+-- Values without trailing zero words and null slots of structs. (Page: canonicalization.)
 use Rattle.std.specs.Prelude.{ℕ, ◌+◌, max, List, [], ◌∷◌, take, Bool, cond, ◌&&◌, ◌==◌}
 use Rattle.capn_value.specs.Tree.{Tree, nil, node, voids, bits, bytes, pairs, quads, octs, links, rows, cap, Trees}
 use Rattle.capn_value.specs.Tree.{no_trees, tree, Bodies, no_bodies, body, front, is_null}

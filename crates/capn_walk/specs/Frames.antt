@@ -1,4 +1,4 @@
--- The slots that a survey has still to visit: of one object, and of a stack of objects.
+-- The slots that a survey has still to visit: of one object, and of a stack of objects. No public clause cites this.
 use Rattle.std.specs.Prelude.{ℕ, ◌+◌, ◌-◌, ◌*◌, ◌<◌, ◌≤◌, List, [], ◌∷◌, ◌++◌, length, ⊤}
 use Rattle.capn_words.specs.declared.space.Place.{Place}
 use Rattle.capn_words.specs.Message.{segment_at}

@@ -1,6 +1,6 @@
 -- A pointer word is the sum of its fields, each times the power of two of the bit at which it begins.
 -- (Page: structs, lists, inter-segment pointers, capabilities.)
-use Rattle.std.specs.Prelude.{◌≡◌, ℕ, suc, ◌+◌, ◌-◌, ◌*◌, ◌/◌, ◌%◌, ◌^◌, ◌<◌, ℤ, pos, negsuc}
+use Rattle.std.specs.Prelude.{◌≡◌, ℕ, suc, ◌+◌, ◌-◌, ◌*◌, ◌/◌, ◌%◌, ◌^◌, ◌<◌, ℤ, pos, negsuc, ⊤}
 use Rattle.std.specs.Int.{from_bool}
 use Rattle.capn_words.specs.declared.pointer.Pointer.{Pointer}
 use Rattle.capn_words.specs.declared.pointer.Pointer.TheVariants.{Nil, Node, Many, Far, Cap, Reserved}
@@ -31,7 +31,7 @@ offset_field (negsuc n) = 2 ^ 30 - suc n
 -- each field is in the range of its bits; a struct pointer isn't all zeros, which is null;
 -- a reserved word has bits 0 to 1 equal to 3 and isn't a capability
 abbrev pub Fits : Pointer → Type 0
-Fits Nil = Unit {0}
+Fits Nil = ⊤
 Fits (Node o w s) = FitsOffset o × (w < 2 ^ 16) × (s < 2 ^ 16) × (0 < offset_field o + w + s)
 Fits (Many o k c) = FitsOffset o × (c < 2 ^ 29)
 Fits (Far d w s) = (w < 2 ^ 29) × (s < 2 ^ 32)

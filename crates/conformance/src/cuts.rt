@@ -166,7 +166,7 @@ fn due_text(alloc: Global, form: Form, bytes: &[u8], limits: Limits) -> Result<S
 
 /// Cuts the message of a case at each byte, where the case is one of canonical bytes: each beginning answers what is
 /// due. A text that is longer than its limit is left out.
-pub fn cut_each(alloc: Global, words: &[&str], answer: &str) -> Result<()> {
+pub(crate) fn cut_each(alloc: Global, words: &[&str], answer: &str) -> Result<()> {
     let (tariff, words) = tariff_and_call(words);
     if word_at(words, 0)? != "canonicalise" || answer.starts_with("packed: TooLong") {
         return Ok(());

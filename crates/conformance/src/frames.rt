@@ -12,7 +12,7 @@ use capn_words::{Place, Space};
 use std::alloc::Global;
 
 /// The limit on message words at a place of the line.
-pub fn limit_at(words: &[&str], at: usize) -> Result<u32>
+pub(crate) fn limit_at(words: &[&str], at: usize) -> Result<u32>
     ensures { IfOk result (λ limit. limit ≤ 2 ^ 28) }
 {
     let limit = number_at(words, at)?;
@@ -23,7 +23,7 @@ pub fn limit_at(words: &[&str], at: usize) -> Result<u32>
 }
 
 /// The bytes of each segment, each behind a space.
-pub fn segments_text<S: Space>(alloc: Global, space: &S) -> Result<String> {
+pub(crate) fn segments_text<S: Space>(alloc: Global, space: &S) -> Result<String> {
     let mut text = String::new(alloc);
     for segment in 0..space.segments() {
         let Some(words) = space.words(segment) else {
@@ -38,7 +38,7 @@ pub fn segments_text<S: Space>(alloc: Global, space: &S) -> Result<String> {
 }
 
 /// `first MOST_WORDS BYTES`.
-pub fn first_answer(alloc: Global, heap: &Heap, words: &[&str]) -> Result<String> {
+pub(crate) fn first_answer(alloc: Global, heap: &Heap, words: &[&str]) -> Result<String> {
     let limit = limit_at(words, 1)?;
     let bytes = bytes_at(alloc, words, 2)?;
     match first(heap, bytes.as_slice(), limit) {
@@ -51,7 +51,7 @@ pub fn first_answer(alloc: Global, heap: &Heap, words: &[&str]) -> Result<String
 }
 
 /// `frame BYTES`: the frame of the message that stands first in the bytes.
-pub fn frame_answer(alloc: Global, heap: &Heap, words: &[&str]) -> Result<String> {
+pub(crate) fn frame_answer(alloc: Global, heap: &Heap, words: &[&str]) -> Result<String> {
     let bytes = bytes_at(alloc, words, 1)?;
     match first(heap, bytes.as_slice(), MOST_WORDS) {
         Ok((message, _)) => match frame(heap, &message) {

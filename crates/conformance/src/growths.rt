@@ -7,11 +7,11 @@ use refusing::Refusing;
 use std::alloc::Global;
 
 /// Where the calls of a case take their memory. What a case itself takes, as for its text, is never refused.
-pub type Heap = Refusing<Global>;
+pub(crate) type Heap = Refusing<Global>;
 
 /// How the answer of a case ends whose call answered that memory is wanted. Before it stands what was told or written
 /// by then.
-pub const MEMORY: &str = "Memory";
+pub(crate) const MEMORY: &str = "Memory";
 
 /// An answer behind its status, if it has one.
 fn behind_status(text: &str) -> &str {
@@ -46,7 +46,7 @@ fn refuse(alloc: Global, words: &[&str], number: u64, want: &str) -> Result<()> 
 
 /// What a call answers, as a line. Each of its growths is refused once, and where its message is cut it answers what is
 /// due.
-pub fn answer_each(alloc: Global, line: &str) -> Result<String> {
+pub(crate) fn answer_each(alloc: Global, line: &str) -> Result<String> {
     let words: Vec<&str> = line.split(' ').collect(alloc)?;
     let ample = Heap::nth(alloc, 0);
     let want = answer(alloc, &ample, words.as_slice())?;

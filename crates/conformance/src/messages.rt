@@ -13,10 +13,10 @@ use capn_words::{Bare, Place, Space};
 use std::alloc::Global;
 
 /// The most words that a message may have.
-pub const MOST_WORDS: u32 = 268_435_456;
+pub(crate) const MOST_WORDS: u32 = 268_435_456;
 
 /// The form at a place of the line.
-pub fn form_at(words: &[&str], at: usize) -> Result<Form> {
+pub(crate) fn form_at(words: &[&str], at: usize) -> Result<Form> {
     match word_at(words, at)? {
         "stream" => Ok(Form::Stream),
         "packed" => Ok(Form::Packed),
@@ -34,7 +34,7 @@ fn limits_at(words: &[&str], at: usize) -> Result<Option<Limits>> {
 }
 
 /// The same, where they have to be limits, with the prices of a tariff.
-pub fn true_limits_at(words: &[&str], at: usize, tariff: Tariff) -> Result<Limits> {
+pub(crate) fn true_limits_at(words: &[&str], at: usize, tariff: Tariff) -> Result<Limits> {
     match limits_at(words, at)? {
         Some(limits) => Ok(limits.with_tariff(tariff)),
         None => Err(anyhow!("no limits")),
@@ -42,7 +42,7 @@ pub fn true_limits_at(words: &[&str], at: usize, tariff: Tariff) -> Result<Limit
 }
 
 /// `limits MESSAGE_WORDS BUDGET DEPTH`.
-pub fn limits_answer(alloc: Global, words: &[&str]) -> Result<String> {
+pub(crate) fn limits_answer(alloc: Global, words: &[&str]) -> Result<String> {
     let text = match limits_at(words, 1)? {
         Some(_) => "limits",
         None => "none",
@@ -109,13 +109,18 @@ fn layout_in_form<'h>(
 }
 
 /// Canonical bytes, and what was paid for them.
-pub fn paid_text(alloc: Global, paid: u32, bytes: &[u8]) -> Result<String> {
+pub(crate) fn paid_text(alloc: Global, paid: u32, bytes: &[u8]) -> Result<String> {
     let digits = digits_of(alloc, bytes)?;
     Ok(format!(in alloc; "paid {paid}, {digits}")?)
 }
 
 /// What the canonical bytes of a message are, or why it has none.
-pub fn canonical_text(alloc: Global, form: Form, bytes: &[u8], limits: Limits) -> Result<String> {
+pub(crate) fn canonical_text(
+    alloc: Global,
+    form: Form,
+    bytes: &[u8],
+    limits: Limits,
+) -> Result<String> {
     match canonicalise(alloc, form, bytes, limits) {
         Ok(canonical) => paid_text(alloc, canonical.paid, canonical.bytes.as_slice()),
         Err(refusal) => told(alloc, refusal),
@@ -123,7 +128,7 @@ pub fn canonical_text(alloc: Global, form: Form, bytes: &[u8], limits: Limits) -
 }
 
 /// `canonicalise FORM MESSAGE_WORDS BUDGET DEPTH BYTES`. The bytes have to be the layout of the tree that a walk makes.
-pub fn canonicalise_answer(
+pub(crate) fn canonicalise_answer(
     alloc: Global,
     heap: &Heap,
     words: &[&str],
@@ -147,7 +152,12 @@ pub fn canonicalise_answer(
 
 /// `again FORM MESSAGE_WORDS BUDGET DEPTH BYTES`: whether the canonical bytes, read bare, have themselves as canonical
 /// bytes under the same limits; `refused` where there are none.
-pub fn again_answer(alloc: Global, heap: &Heap, words: &[&str], tariff: Tariff) -> Result<String> {
+pub(crate) fn again_answer(
+    alloc: Global,
+    heap: &Heap,
+    words: &[&str],
+    tariff: Tariff,
+) -> Result<String> {
     let form = form_at(words, 1)?;
     let limits = true_limits_at(words, 2, tariff)?;
     let bytes = bytes_at(alloc, words, 5)?;
@@ -169,7 +179,7 @@ pub fn again_answer(alloc: Global, heap: &Heap, words: &[&str], tariff: Tariff) 
 }
 
 /// `equal FORM BYTES FORM BYTES ..`: whether all have the same canonical bytes under the usual limits.
-pub fn equal_answer(alloc: Global, heap: &Heap, words: &[&str]) -> Result<String> {
+pub(crate) fn equal_answer(alloc: Global, heap: &Heap, words: &[&str]) -> Result<String> {
     let mut common: Option<Vec<u8, &Heap>> = None;
     let mut text = "equal";
     for pair in 0..words.len() / 2 {
@@ -212,7 +222,12 @@ fn walk_frame(alloc: Global, heap: &Heap, bytes: &[u8], limits: Limits) -> Resul
 }
 
 /// `walk FORM MESSAGE_WORDS BUDGET DEPTH BYTES`.
-pub fn walk_answer(alloc: Global, heap: &Heap, words: &[&str], tariff: Tariff) -> Result<String> {
+pub(crate) fn walk_answer(
+    alloc: Global,
+    heap: &Heap,
+    words: &[&str],
+    tariff: Tariff,
+) -> Result<String> {
     let form = form_at(words, 1)?;
     let limits = true_limits_at(words, 2, tariff)?;
     let bytes = bytes_at(alloc, words, 5)?;
@@ -267,7 +282,7 @@ fn resolve_text<S: Space>(alloc: Global, space: &S, at: Place) -> Result<String>
 }
 
 /// `resolve FORM SEGMENT WORD BYTES`.
-pub fn resolve_answer(alloc: Global, heap: &Heap, words: &[&str]) -> Result<String> {
+pub(crate) fn resolve_answer(alloc: Global, heap: &Heap, words: &[&str]) -> Result<String> {
     let form = form_at(words, 1)?;
     let segment = number_at(words, 2)?;
     let word = number_at(words, 3)?;

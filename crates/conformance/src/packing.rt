@@ -8,7 +8,7 @@ use capn_pack::{PackFault, pack, tag, unpack};
 use std::alloc::Global;
 
 /// `pack BYTES`.
-pub fn pack_answer(alloc: Global, heap: &Heap, words: &[&str]) -> Result<String> {
+pub(crate) fn pack_answer(alloc: Global, heap: &Heap, words: &[&str]) -> Result<String> {
     let bytes = bytes_at(alloc, words, 1)?;
     match pack(heap, bytes.as_slice()) {
         Ok(text) => digits_of(alloc, text.as_slice()),
@@ -18,7 +18,7 @@ pub fn pack_answer(alloc: Global, heap: &Heap, words: &[&str]) -> Result<String>
 }
 
 /// `unpack MOST_WORDS BYTES`.
-pub fn unpack_answer(alloc: Global, heap: &Heap, words: &[&str]) -> Result<String> {
+pub(crate) fn unpack_answer(alloc: Global, heap: &Heap, words: &[&str]) -> Result<String> {
     let most = number_at(words, 1)?;
     let text = bytes_at(alloc, words, 2)?;
     match unpack(heap, text.as_slice(), most) {
@@ -28,7 +28,7 @@ pub fn unpack_answer(alloc: Global, heap: &Heap, words: &[&str]) -> Result<Strin
 }
 
 /// `tag BYTES`, of a word.
-pub fn tag_answer(alloc: Global, words: &[&str]) -> Result<String> {
+pub(crate) fn tag_answer(alloc: Global, words: &[&str]) -> Result<String> {
     let bytes = bytes_at(alloc, words, 1)?;
     if bytes.len() != 8 {
         return Err(anyhow!("a word has eight bytes"));

@@ -58,7 +58,7 @@ fn has_to_fail(framer: &mut Framer<&Heap>) -> Result<()> {
 }
 
 /// `framer MOST_WORDS STEP ..`: each step is `feed BYTES`, `take` or `finish`.
-pub fn framer_answer(alloc: Global, heap: &Heap, words: &[&str]) -> Result<String> {
+pub(crate) fn framer_answer(alloc: Global, heap: &Heap, words: &[&str]) -> Result<String> {
     let mut framer = Framer::new(heap, limit_at(words, 1)?);
     let mut text = String::new(alloc);
     let mut is_piece = false;
@@ -120,7 +120,7 @@ fn unpacker_text(
 }
 
 /// `unpacker STEP ..`: each step is `feed BYTES` or `finish`.
-pub fn unpacker_answer(alloc: Global, heap: &Heap, words: &[&str]) -> Result<String> {
+pub(crate) fn unpacker_answer(alloc: Global, heap: &Heap, words: &[&str]) -> Result<String> {
     let mut unpacker = Unpacker::new();
     let mut text = String::new(alloc);
     let mut is_piece = false;
@@ -170,7 +170,7 @@ fn feed_all(
 }
 
 /// `pieces SIZE MOST_WORDS BYTES`: the messages of the bytes, fed so many at a time, and the ending.
-pub fn pieces_answer(alloc: Global, heap: &Heap, words: &[&str]) -> Result<String> {
+pub(crate) fn pieces_answer(alloc: Global, heap: &Heap, words: &[&str]) -> Result<String> {
     let size = number_at(words, 1)? as usize;
     let mut framer = Framer::new(heap, limit_at(words, 2)?);
     let bytes = bytes_at(alloc, words, 3)?;
@@ -194,7 +194,7 @@ pub fn pieces_answer(alloc: Global, heap: &Heap, words: &[&str]) -> Result<Strin
 }
 
 /// `read MOST_WORDS BYTES`: the messages of a reader that has the bytes to give, and the ending.
-pub fn read_answer(alloc: Global, heap: &Heap, words: &[&str]) -> Result<String> {
+pub(crate) fn read_answer(alloc: Global, heap: &Heap, words: &[&str]) -> Result<String> {
     let limit = limit_at(words, 1)?;
     let bytes = bytes_at(alloc, words, 2)?;
     let mut reader = Watched::new(bytes.as_slice());
@@ -221,7 +221,7 @@ pub fn read_answer(alloc: Global, heap: &Heap, words: &[&str]) -> Result<String>
 }
 
 /// `write BYTES`: what is written of the message that a reader of the bytes gives first.
-pub fn write_answer(alloc: Global, heap: &Heap, words: &[&str]) -> Result<String> {
+pub(crate) fn write_answer(alloc: Global, heap: &Heap, words: &[&str]) -> Result<String> {
     let bytes = bytes_at(alloc, words, 1)?;
     let mut reader = Watched::new(bytes.as_slice());
     let message = match read_message(heap, &mut reader, MOST_WORDS) {

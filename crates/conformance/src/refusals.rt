@@ -7,7 +7,7 @@ use std::alloc::Global;
 use std::fmt::Display;
 
 /// What a fault displays; want of memory, wherever it was met, as the one word by which growths know it.
-pub fn told<E: Display + Drop>(alloc: Global, fault: E) -> Result<String> {
+pub(crate) fn told<E: Display + Drop>(alloc: Global, fault: E) -> Result<String> {
     let text = format!(in alloc; "{fault}")?;
     match text.as_str().strip_suffix("out of memory") {
         Some(before) => Ok(format!(in alloc; "{before}{MEMORY}")?),
@@ -16,7 +16,7 @@ pub fn told<E: Display + Drop>(alloc: Global, fault: E) -> Result<String> {
 }
 
 /// Why a walk by itself gave no answer.
-pub fn stop_told(alloc: Global, stopped: Stopped) -> Result<String> {
+pub(crate) fn stop_told(alloc: Global, stopped: Stopped) -> Result<String> {
     match stopped.fault {
         Fault::Memory => Ok(String::from_str(alloc, MEMORY)?),
         _ => told(alloc, stopped),

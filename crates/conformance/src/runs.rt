@@ -25,7 +25,7 @@ fn cut_short(alloc: Global, written: &[u8]) -> Result<String> {
 }
 
 /// `run COUNT WORD .. BYTES`: the status, what is written, and the line on standard error.
-pub fn run_answer(alloc: Global, heap: &Heap, words: &[&str]) -> Result<String> {
+pub(crate) fn run_answer(alloc: Global, heap: &Heap, words: &[&str]) -> Result<String> {
     let line = command_line(alloc, words)?;
     let input = bytes_at(alloc, words, line.len().saturating_add(1))?;
     let Ok(command) = command_of(alloc, line.as_slice()) else {
@@ -48,7 +48,7 @@ pub fn run_answer(alloc: Global, heap: &Heap, words: &[&str]) -> Result<String> 
 }
 
 /// `usage COUNT WORD ..`: the status of a command line that orders nothing.
-pub fn usage_answer(alloc: Global, words: &[&str]) -> Result<String> {
+pub(crate) fn usage_answer(alloc: Global, words: &[&str]) -> Result<String> {
     let line = command_line(alloc, words)?;
     match command_of(alloc, line.as_slice()) {
         Ok(_) => Ok(String::from_str(alloc, "a command")?),

@@ -39,7 +39,12 @@ fn survey_frame(alloc: Global, heap: &Heap, bytes: &[u8], limits: Limits) -> Res
 }
 
 /// `survey FORM MESSAGE_WORDS BUDGET DEPTH BYTES`.
-pub fn survey_answer(alloc: Global, heap: &Heap, words: &[&str], tariff: Tariff) -> Result<String> {
+pub(crate) fn survey_answer(
+    alloc: Global,
+    heap: &Heap,
+    words: &[&str],
+    tariff: Tariff,
+) -> Result<String> {
     let form = form_at(words, 1)?;
     let limits = true_limits_at(words, 2, tariff)?;
     let bytes = bytes_at(alloc, words, 5)?;
@@ -57,7 +62,7 @@ pub fn survey_answer(alloc: Global, heap: &Heap, words: &[&str], tariff: Tariff)
 }
 
 /// `is_canonical MESSAGE_WORDS BUDGET DEPTH BYTES`.
-pub fn is_canonical_answer(
+pub(crate) fn is_canonical_answer(
     alloc: Global,
     heap: &Heap,
     words: &[&str],

@@ -186,7 +186,12 @@ fn steps_text<S: Space>(
 
 /// `view FORM BUDGET DEPTH BYTES STEP ..`: each step is `root`, `slot VIEW INDEX`, `row VIEW INDEX`, `word VIEW INDEX`,
 /// `number VIEW INDEX`, `bytes VIEW` or `shape VIEW`.
-pub fn view_answer(alloc: Global, heap: &Heap, words: &[&str], tariff: Tariff) -> Result<String> {
+pub(crate) fn view_answer(
+    alloc: Global,
+    heap: &Heap,
+    words: &[&str],
+    tariff: Tariff,
+) -> Result<String> {
     let form = form_at(words, 1)?;
     let mut meter = Meter::with_tariff(limit_at(words, 2)?, tariff);
     let depth = number_at(words, 3)?;

@@ -4,7 +4,7 @@ use anyhow::{Result, anyhow};
 use std::alloc::Global;
 
 /// The word at a place of the line.
-pub fn word_at<'a>(words: &[&'a str], at: usize) -> Result<&'a str> {
+pub(crate) fn word_at<'a>(words: &[&'a str], at: usize) -> Result<&'a str> {
     match words.get(at) {
         Some(word) => Ok(*word),
         None => Err(anyhow!("no word {at}")),
@@ -12,12 +12,12 @@ pub fn word_at<'a>(words: &[&'a str], at: usize) -> Result<&'a str> {
 }
 
 /// The number at a place of the line.
-pub fn number_at(words: &[&str], at: usize) -> Result<u32> {
+pub(crate) fn number_at(words: &[&str], at: usize) -> Result<u32> {
     Ok(word_at(words, at)?.parse::<u32>()?)
 }
 
 /// The bytes at a place of the line.
-pub fn bytes_at(alloc: Global, words: &[&str], at: usize) -> Result<Vec<u8>> {
+pub(crate) fn bytes_at(alloc: Global, words: &[&str], at: usize) -> Result<Vec<u8>> {
     let digits = word_at(words, at)?;
     if digits == "-" {
         return Ok(Vec::new(alloc));
@@ -26,7 +26,7 @@ pub fn bytes_at(alloc: Global, words: &[&str], at: usize) -> Result<Vec<u8>> {
 }
 
 /// Bytes as they stand in a case.
-pub fn digits_of(alloc: Global, bytes: &[u8]) -> Result<String> {
+pub(crate) fn digits_of(alloc: Global, bytes: &[u8]) -> Result<String> {
     if bytes.is_empty() {
         return Ok(String::from_str(alloc, "-")?);
     }
@@ -34,7 +34,7 @@ pub fn digits_of(alloc: Global, bytes: &[u8]) -> Result<String> {
 }
 
 /// Appends what one step of a case told.
-pub fn push_told(text: &mut String, told: &str) -> Result<()> {
+pub(crate) fn push_told(text: &mut String, told: &str) -> Result<()> {
     if !text.is_empty() {
         text.push_str(", ")?;
     }

@@ -10,10 +10,10 @@ use capn_words::{Place, Space};
 use std::alloc::Global;
 
 /// Canonical bytes, or why there are none.
-pub type Answer = Result<Canonical, Refusal>;
+pub(crate) type Answer = Result<Canonical, Refusal>;
 
 /// The answer of all calls on a stream's message, or the call that says something else than its walk.
-pub fn agreed(alloc: Global, stream: &[u8], limits: Limits) -> Result<Answer, &'static str> {
+pub(crate) fn agreed(alloc: Global, stream: &[u8], limits: Limits) -> Result<Answer, &'static str> {
     let Ok((space, _)) = first(alloc, stream, 268_435_456) else {
         return Err("first");
     };
@@ -98,7 +98,7 @@ fn segment_of<S: Space>(space: &S) -> &[u8] {
 }
 
 /// Whether `is_canonical` answers of bytes what comparing them with their canonical bytes does.
-pub fn is_told(alloc: Global, bytes: &[u8], limits: Limits) -> bool {
+pub(crate) fn is_told(alloc: Global, bytes: &[u8], limits: Limits) -> bool {
     let told = is_canonical(alloc, bytes, limits);
     match canonicalise(alloc, Form::Bare, bytes, limits) {
         Ok(canonical) => told == Ok(canonical.bytes.as_slice() == bytes),

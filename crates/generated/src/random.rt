@@ -4,20 +4,20 @@ ghost use Rattle.std.specs.Prelude.{◌≤◌};
 
 /// The same numbers for each seed.
 #[derive(Drop)]
-pub struct Random {
+pub(crate) struct Random {
     state: u64,
 }
 
 impl Random {
     /// The numbers of a seed.
-    pub fn new(seed: u64) -> Random {
+    pub(crate) fn new(seed: u64) -> Random {
         Random {
             state: seed.wrapping_mul(0x9e37_79b9_7f4a_7c15).wrapping_add(1),
         }
     }
 
     /// The next word.
-    pub fn word(&mut self) -> u64 {
+    pub(crate) fn word(&mut self) -> u64 {
         let mut state = self.state;
         state ^= state << 13;
         state ^= state >> 7;
@@ -27,7 +27,7 @@ impl Random {
     }
 
     /// The next number below a bound that isn't 0.
-    pub fn below(&mut self, bound: u64) -> u64
+    pub(crate) fn below(&mut self, bound: u64) -> u64
         ensures { result ≤ bound }
     {
         let word = self.word() >> 32;

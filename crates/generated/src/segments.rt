@@ -4,20 +4,20 @@ use std::alloc::{AllocError, Global};
 
 /// A word of a segment.
 #[derive(Clone, Copy)]
-pub struct At {
+pub(crate) struct At {
     pub segment: u64,
     pub word: u64,
 }
 
 /// The segments of a message.
 #[derive(Drop)]
-pub struct Segments {
+pub(crate) struct Segments {
     segments: Vec<Vec<u64>>,
 }
 
 impl Segments {
     /// So many, of no words.
-    pub fn new(alloc: Global, count: u64) -> Result<Segments, AllocError> {
+    pub(crate) fn new(alloc: Global, count: u64) -> Result<Segments, AllocError> {
         let mut segments = Vec::new(alloc);
         for _ in 0..count {
             segments.push(Vec::new(alloc))?;
@@ -26,12 +26,12 @@ impl Segments {
     }
 
     /// How many there are.
-    pub fn count(&self) -> u64 {
+    pub(crate) fn count(&self) -> u64 {
         self.segments.len() as u64
     }
 
     /// How many words one has.
-    pub fn len(&self, segment: u64) -> u64 {
+    pub(crate) fn len(&self, segment: u64) -> u64 {
         match self.segments.get(segment as usize) {
             Some(words) => words.len() as u64,
             None => 0,
@@ -39,7 +39,7 @@ impl Segments {
     }
 
     /// Appends a word to one.
-    pub fn push(&mut self, segment: u64, word: u64) -> Result<(), AllocError> {
+    pub(crate) fn push(&mut self, segment: u64, word: u64) -> Result<(), AllocError> {
         match self.segments.get_mut(segment as usize) {
             Some(words) => Ok(words.push(word)?),
             None => Ok(()),
@@ -47,7 +47,7 @@ impl Segments {
     }
 
     /// Replaces a word.
-    pub fn set(&mut self, at: At, word: u64) {
+    pub(crate) fn set(&mut self, at: At, word: u64) {
         if let Some(words) = self.segments.get_mut(at.segment as usize) {
             if let Some(place) = words.get_mut(at.word as usize) {
                 *place = word;
@@ -56,7 +56,7 @@ impl Segments {
     }
 
     /// The message as a stream.
-    pub fn stream(&self, alloc: Global) -> Result<Vec<u8>, AllocError> {
+    pub(crate) fn stream(&self, alloc: Global) -> Result<Vec<u8>, AllocError> {
         let count = self.count();
         let mut bytes = Vec::new(alloc);
         push_entry(&mut bytes, count.saturating_sub(1))?;
@@ -86,32 +86,32 @@ fn push_words(bytes: &mut Vec<u8>, words: &[u64]) -> Result<(), AllocError> {
 }
 
 /// An offset's field: from the word behind a pointer to where the content starts.
-pub fn offset_to(start: u64, pointer: u64) -> u64 {
+pub(crate) fn offset_to(start: u64, pointer: u64) -> u64 {
     (start.wrapping_sub(pointer).wrapping_sub(1) & 0x3fff_ffff) << 2
 }
 
 /// A pointer to a struct, at offset 0.
-pub fn node(words: u64, slots: u64) -> u64 {
+pub(crate) fn node(words: u64, slots: u64) -> u64 {
     (words & 0xffff) << 32 | (slots & 0xffff) << 48
 }
 
 /// A pointer to a list, by the code of its width, at offset 0.
-pub fn list(code: u64, count: u64) -> u64 {
+pub(crate) fn list(code: u64, count: u64) -> u64 {
     (count & 0x1fff_ffff) << 35 | (code & 7) << 32 | 1
 }
 
 /// A tag of so many rows.
-pub fn tag(count: u64, words: u64, slots: u64) -> u64 {
+pub(crate) fn tag(count: u64, words: u64, slots: u64) -> u64 {
     node(words, slots) | (count & 0x3fff_ffff) << 2
 }
 
 /// A far pointer to a pad of one word, or of two.
-pub fn far(pad: At, is_double: bool) -> u64 {
+pub(crate) fn far(pad: At, is_double: bool) -> u64 {
     let double = if is_double { 4 } else { 0 };
     (pad.segment & 0xffff_ffff) << 32 | (pad.word & 0x1fff_ffff) << 3 | double | 2
 }
 
 /// A capability.
-pub fn capability(index: u64) -> u64 {
+pub(crate) fn capability(index: u64) -> u64 {
     (index & 0xffff_ffff) << 32 | 3
 }

@@ -176,7 +176,7 @@ impl Writing {
 
 /// The stream of a seed's message, in so many segments: the same value in however many. Below the struct or the
 /// list at its root stand fewer than 40 objects.
-pub fn message(alloc: Global, seed: u64, count: u64) -> Result<Vec<u8>, AllocError> {
+pub(crate) fn message(alloc: Global, seed: u64, count: u64) -> Result<Vec<u8>, AllocError> {
     let mut writing = Writing {
         value: Random::new(seed),
         layout: Random::new(seed.wrapping_add(count)),

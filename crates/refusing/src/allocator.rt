@@ -1,20 +1,8 @@
 //! An allocator that refuses growths, and remembers what was asked of it.
 
+use crate::account::Account;
 use std::alloc::{AllocError, Allocator};
 use std::cell::Cell;
-
-/// Which growths are refused, and what was asked so far.
-#[derive(Clone, Copy)]
-struct Account {
-    /// The number of the growth that is refused, counted from 1 for the next one; 0 where none is.
-    left: u64,
-    /// The most bytes of a growth that is let through.
-    most: usize,
-    /// The most bytes that a growth asked for.
-    greatest: usize,
-    /// How many growths came.
-    count: u64,
-}
 
 /// Passes each call on, but for the growths that it refuses.
 pub struct Refusing<B: Allocator> {
@@ -27,12 +15,7 @@ impl<B: Allocator> Refusing<B> {
     pub fn nth(inner: B, number: u64) -> Refusing<B> {
         Refusing {
             inner,
-            account: Cell::new(Account {
-                left: number,
-                most: usize::MAX,
-                greatest: 0,
-                count: 0,
-            }),
+            account: Cell::new(Account::nth(number)),
         }
     }
 
@@ -74,14 +57,9 @@ impl<B: Allocator> Drop for Refusing<B> {
 
 // Counts a growth of so many bytes, and says whether it is to be refused.
 fn is_refused(account: &Cell<Account>, size: usize) -> bool {
-    let told = account.get();
-    account.set(Account {
-        left: told.left.saturating_sub(1),
-        most: told.most,
-        greatest: told.greatest.max(size),
-        count: told.count.saturating_add(1),
-    });
-    told.left == 1 || told.most < size
+    let before = account.get();
+    account.set(before.counted(size));
+    before.refuses(size)
 }
 
 unsafe impl<B: Allocator> Allocator for Refusing<B> {

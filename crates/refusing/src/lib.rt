@@ -1,6 +1,7 @@
 //! An allocator for trials: it refuses growths by their number or by their size, and counts them.
 #![tactic(auto)]
 
+mod account;
 mod allocator;
 
 pub use allocator::Refusing;

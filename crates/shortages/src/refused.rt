@@ -41,7 +41,7 @@ const STREAM: [u64; 20] = [
 
 /// A call that takes memory.
 #[derive(Clone, Copy)]
-pub enum Call {
+pub(crate) enum Call {
     First,
     Frame,
     Feed,
@@ -65,7 +65,7 @@ pub enum Call {
 }
 
 /// What a call answers with an allocator.
-pub fn answer(of: &Subject, short: &Refusing<Global>, call: Call) -> Answer {
+pub(crate) fn answer(of: &Subject, short: &Refusing<Global>, call: Call) -> Answer {
     match call {
         Call::First => first_answer(of, short),
         Call::Frame => frame_answer(of, short),

@@ -8,18 +8,18 @@ use refusing::Refusing;
 use std::alloc::{Allocator, Global};
 
 /// The canonical bytes of the message.
-pub fn canonical_answer(of: &Subject, short: &Refusing<Global>) -> Answer {
+pub(crate) fn canonical_answer(of: &Subject, short: &Refusing<Global>) -> Answer {
     judged_canonical(of, canonical_of(short, &of.message, limits(256)))
 }
 
 /// The canonical bytes of the packed stream.
-pub fn canonicalise_answer(of: &Subject, short: &Refusing<Global>) -> Answer {
+pub(crate) fn canonicalise_answer(of: &Subject, short: &Refusing<Global>) -> Answer {
     let packed = of.packed.as_slice();
     judged_canonical(of, canonicalise(short, Form::Packed, packed, limits(256)))
 }
 
 /// Right exactly if these are the canonical bytes of the value.
-pub fn judged_canonical(
+pub(crate) fn judged_canonical(
     of: &Subject,
     canonical: Result<Canonical<&Refusing<Global>>, Refusal>,
 ) -> Answer {
@@ -31,7 +31,7 @@ pub fn judged_canonical(
 }
 
 /// That the chain is canonical.
-pub fn check_answer(of: &Subject, short: &Refusing<Global>) -> Answer {
+pub(crate) fn check_answer(of: &Subject, short: &Refusing<Global>) -> Answer {
     match is_canonical(short, of.chain.as_slice(), limits(256)) {
         Ok(is_canonical) => judged(is_canonical),
         Err(refusal) => wanting(matches!(refusal, Refusal::Memory)),
@@ -39,7 +39,7 @@ pub fn check_answer(of: &Subject, short: &Refusing<Global>) -> Answer {
 }
 
 /// The text of a fault.
-pub fn text_answer(short: &Refusing<Global>) -> Answer {
+pub(crate) fn text_answer(short: &Refusing<Global>) -> Answer {
     match fault_text(short, &ToolFault::NotWhole(9)) {
         Ok(text) => judged(text.as_bytes() == b"NotWhole(9)".as_slice()),
         Err(_) => Answer::Memory,
@@ -47,7 +47,7 @@ pub fn text_answer(short: &Refusing<Global>) -> Answer {
 }
 
 /// What a command writes of an input.
-pub fn written<A: Allocator + Copy>(
+pub(crate) fn written<A: Allocator + Copy>(
     of: &Subject,
     alloc: A,
     command: Command,
@@ -63,7 +63,7 @@ pub fn written<A: Allocator + Copy>(
 }
 
 /// The text of a run, of which a refusal leaves a beginning.
-pub fn run_answer(of: &Subject, short: &Refusing<Global>, command: Command) -> Answer {
+pub(crate) fn run_answer(of: &Subject, short: &Refusing<Global>, command: Command) -> Answer {
     let (_, want) = written(of, of.alloc, command);
     let (outcome, text) = written(of, short, command);
     match outcome {

@@ -8,7 +8,7 @@ use refusing::Refusing;
 use std::alloc::Global;
 
 /// The first message of the stream.
-pub fn first_answer(of: &Subject, short: &Refusing<Global>) -> Answer {
+pub(crate) fn first_answer(of: &Subject, short: &Refusing<Global>) -> Answer {
     match first(short, of.stream, MOST) {
         Ok((message, _)) => judged_message(of, &message),
         Err(FrameFault::Memory) => Answer::Memory,
@@ -17,7 +17,7 @@ pub fn first_answer(of: &Subject, short: &Refusing<Global>) -> Answer {
 }
 
 /// The stream of the message.
-pub fn frame_answer(of: &Subject, short: &Refusing<Global>) -> Answer {
+pub(crate) fn frame_answer(of: &Subject, short: &Refusing<Global>) -> Answer {
     match frame(short, &of.message) {
         Ok(text) => judged(text.as_slice() == of.stream),
         Err(_) => Answer::Memory,
@@ -25,7 +25,7 @@ pub fn frame_answer(of: &Subject, short: &Refusing<Global>) -> Answer {
 }
 
 /// The message that a framer takes, which fails from its refusal on.
-pub fn feed_answer(of: &Subject, short: &Refusing<Global>) -> Answer {
+pub(crate) fn feed_answer(of: &Subject, short: &Refusing<Global>) -> Answer {
     let mut framer = Framer::new(short, MOST);
     match framer.feed(of.stream) {
         Ok(_) => match framer.take() {
@@ -40,7 +40,7 @@ pub fn feed_answer(of: &Subject, short: &Refusing<Global>) -> Answer {
 }
 
 /// The message that a reader gives.
-pub fn read_answer(of: &Subject, short: &Refusing<Global>) -> Answer {
+pub(crate) fn read_answer(of: &Subject, short: &Refusing<Global>) -> Answer {
     let mut reader = Watched::new(of.stream);
     match read_message(short, &mut reader, MOST) {
         Ok(Some(message)) => judged_message(of, &message),
@@ -50,7 +50,7 @@ pub fn read_answer(of: &Subject, short: &Refusing<Global>) -> Answer {
 }
 
 /// The packed text of the stream.
-pub fn pack_answer(of: &Subject, short: &Refusing<Global>) -> Answer {
+pub(crate) fn pack_answer(of: &Subject, short: &Refusing<Global>) -> Answer {
     match pack(short, of.stream) {
         Ok(text) => judged(text.as_slice() == of.packed.as_slice()),
         Err(PackFault::Memory) => Answer::Memory,
@@ -59,7 +59,7 @@ pub fn pack_answer(of: &Subject, short: &Refusing<Global>) -> Answer {
 }
 
 /// The stream of its packed text.
-pub fn unpack_answer(of: &Subject, short: &Refusing<Global>) -> Answer {
+pub(crate) fn unpack_answer(of: &Subject, short: &Refusing<Global>) -> Answer {
     match unpack(short, of.packed.as_slice(), MOST) {
         Ok(bytes) => judged(bytes.as_slice() == of.stream),
         Err(UnpackFault::Memory) => Answer::Memory,
@@ -68,7 +68,7 @@ pub fn unpack_answer(of: &Subject, short: &Refusing<Global>) -> Answer {
 }
 
 /// The stream that an unpacker appends, of which a refusal leaves a beginning, and from which on it fails.
-pub fn feed_packed_answer(of: &Subject, short: &Refusing<Global>) -> Answer {
+pub(crate) fn feed_packed_answer(of: &Subject, short: &Refusing<Global>) -> Answer {
     let mut unpacker = Unpacker::new();
     let mut bytes = Vec::new(short);
     match unpacker.feed(of.packed.as_slice(), &mut bytes) {

@@ -9,7 +9,7 @@ use refusing::Refusing;
 use std::alloc::{AllocError, Global};
 
 /// The value of the message.
-pub fn walk_answer(of: &Subject, short: &Refusing<Global>) -> Answer {
+pub(crate) fn walk_answer(of: &Subject, short: &Refusing<Global>) -> Answer {
     match walk(short, &of.message, limits(256)) {
         Ok(walked) => judged(same(walked.tree.value(), of.walked.tree.value())),
         Err(stopped) => wanting(matches!(stopped.fault, Fault::Memory)),
@@ -17,7 +17,7 @@ pub fn walk_answer(of: &Subject, short: &Refusing<Global>) -> Answer {
 }
 
 /// What a walk of the chain visits.
-pub fn survey_answer(of: &Subject, short: &Refusing<Global>) -> Answer {
+pub(crate) fn survey_answer(of: &Subject, short: &Refusing<Global>) -> Answer {
     let Ok(bare) = Bare::new(of.chain.as_slice()) else {
         return Answer::Wrong;
     };
@@ -28,7 +28,7 @@ pub fn survey_answer(of: &Subject, short: &Refusing<Global>) -> Answer {
 }
 
 /// The text of the value.
-pub fn show_answer(of: &Subject, short: &Refusing<Global>) -> Answer {
+pub(crate) fn show_answer(of: &Subject, short: &Refusing<Global>) -> Answer {
     match (
         show(short, &of.walked.tree),
         show(of.alloc, &of.walked.tree),
@@ -39,7 +39,7 @@ pub fn show_answer(of: &Subject, short: &Refusing<Global>) -> Answer {
 }
 
 /// Right exactly if this is the value of the message.
-pub fn judged_tree(of: &Subject, tree: Result<Tree<&Refusing<Global>>, Memory>) -> Answer {
+pub(crate) fn judged_tree(of: &Subject, tree: Result<Tree<&Refusing<Global>>, Memory>) -> Answer {
     match tree {
         Ok(tree) => judged(same(tree.value(), of.walked.tree.value())),
         Err(_) => Answer::Memory,
@@ -47,14 +47,14 @@ pub fn judged_tree(of: &Subject, tree: Result<Tree<&Refusing<Global>>, Memory>) 
 }
 
 /// Two items.
-pub fn items(short: &Refusing<Global>) -> Result<Items<u16, &Refusing<Global>>, AllocError> {
+pub(crate) fn items(short: &Refusing<Global>) -> Result<Items<u16, &Refusing<Global>>, AllocError> {
     let mut items = Items::from_slice(short, &[7u16])?;
     items.push(8)?;
     Ok(items)
 }
 
 /// Right exactly if these are the items.
-pub fn items_answer(short: &Refusing<Global>) -> Answer {
+pub(crate) fn items_answer(short: &Refusing<Global>) -> Answer {
     match items(short) {
         Ok(items) => judged(items.as_slice() == [7, 8].as_slice()),
         Err(_) => Answer::Memory,
@@ -62,7 +62,7 @@ pub fn items_answer(short: &Refusing<Global>) -> Answer {
 }
 
 /// The layout of the value.
-pub fn layout_answer(of: &Subject, short: &Refusing<Global>) -> Answer {
+pub(crate) fn layout_answer(of: &Subject, short: &Refusing<Global>) -> Answer {
     match (
         layout(short, &of.walked.tree),
         layout(of.alloc, &of.walked.tree),
@@ -74,7 +74,7 @@ pub fn layout_answer(of: &Subject, short: &Refusing<Global>) -> Answer {
 }
 
 /// A word and a hole that is filled.
-pub fn patched(short: &Refusing<Global>) -> Result<Vec<u8, &Refusing<Global>>, Memory> {
+pub(crate) fn patched(short: &Refusing<Global>) -> Result<Vec<u8, &Refusing<Global>>, Memory> {
     let mut patch = Patch::new(short);
     patch.push(1)?;
     let at = patch.leave(1)?;
@@ -86,7 +86,7 @@ pub fn patched(short: &Refusing<Global>) -> Result<Vec<u8, &Refusing<Global>>, M
 }
 
 /// Right exactly if these are the words.
-pub fn patch_answer(short: &Refusing<Global>) -> Answer {
+pub(crate) fn patch_answer(short: &Refusing<Global>) -> Answer {
     match patched(short) {
         Ok(bytes) => judged(bytes.as_slice() == b"\x01\0\0\0\0\0\0\0\x02\0\0\0\0\0\0\0".as_slice()),
         Err(_) => Answer::Memory,

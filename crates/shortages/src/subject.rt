@@ -10,11 +10,11 @@ use std::alloc::{AllocError, Global};
 use std::test::Fail;
 
 /// The most words of a message.
-pub const MOST: u32 = 268_435_456;
+pub(crate) const MOST: u32 = 268_435_456;
 
 /// What a call answered.
 #[derive(Clone, Copy)]
-pub enum Answer {
+pub(crate) enum Answer {
     Right,
     Wrong,
     Memory,
@@ -22,7 +22,7 @@ pub enum Answer {
 
 /// What the calls are tried on: a message, as a stream and packed, its walk, and a chain of 70 structs.
 #[derive(Drop)]
-pub struct Subject<'a> {
+pub(crate) struct Subject<'a> {
     pub alloc: Global,
     pub stream: &'a [u8],
     pub message: Framed<'a>,
@@ -32,13 +32,13 @@ pub struct Subject<'a> {
 }
 
 /// The limits of a walk to so many objects below one another.
-pub fn limits(depth: u32) -> Limits {
+pub(crate) fn limits(depth: u32) -> Limits {
     Limits::new(8_388_608, 8_388_608, depth).unwrap_or(Limits::usual())
 }
 
 /// So many structs of two slots, each in the first slot of the one before, with empty structs in the slots that are
 /// left.
-pub fn chain(alloc: Global, levels: u32) -> Result<Vec<u8>, AllocError> {
+pub(crate) fn chain(alloc: Global, levels: u32) -> Result<Vec<u8>, AllocError> {
     let mut words = Vec::new(alloc);
     words.push(0x2_0000_0000_0000)?;
     for _ in 1..levels {
@@ -49,7 +49,7 @@ pub fn chain(alloc: Global, levels: u32) -> Result<Vec<u8>, AllocError> {
 }
 
 /// What the calls are tried on, of a stream.
-pub fn subject_of(alloc: Global, stream: &[u8]) -> Result<Subject<'_>, Fail> {
+pub(crate) fn subject_of(alloc: Global, stream: &[u8]) -> Result<Subject<'_>, Fail> {
     let (Ok((message, _)), Ok(packed)) = (first(alloc, stream, MOST), pack(alloc, stream)) else {
         return Err(Fail::new("no stream"));
     };
@@ -67,7 +67,7 @@ pub fn subject_of(alloc: Global, stream: &[u8]) -> Result<Subject<'_>, Fail> {
 }
 
 /// Right exactly if this holds.
-pub fn judged(is_right: bool) -> Answer {
+pub(crate) fn judged(is_right: bool) -> Answer {
     if is_right {
         Answer::Right
     } else {
@@ -76,7 +76,7 @@ pub fn judged(is_right: bool) -> Answer {
 }
 
 /// What was wanted is memory, exactly if this holds.
-pub fn wanting(is_right: bool) -> Answer {
+pub(crate) fn wanting(is_right: bool) -> Answer {
     if is_right {
         Answer::Memory
     } else {
@@ -85,7 +85,7 @@ pub fn wanting(is_right: bool) -> Answer {
 }
 
 /// Right exactly if this is the message of the stream.
-pub fn judged_message<S: Space>(of: &Subject, message: &S) -> Answer {
+pub(crate) fn judged_message<S: Space>(of: &Subject, message: &S) -> Answer {
     match frame(of.alloc, message) {
         Ok(text) => judged(text.as_slice() == of.stream),
         Err(_) => Answer::Wrong,

@@ -4,10 +4,10 @@ use capn_value::{Body, Items, Misfit, Tree, Value};
 use std::alloc::{AllocError, Global};
 
 /// A value, unless memory ran out.
-pub type Made = Result<Value, AllocError>;
+pub(crate) type Made = Result<Value, AllocError>;
 
 /// A body of these data words and slots.
-pub fn body(alloc: Global, words: &[u64], slots: Vec<Value>) -> Result<Body, AllocError> {
+pub(crate) fn body(alloc: Global, words: &[u64], slots: Vec<Value>) -> Result<Body, AllocError> {
     Ok(Body {
         words: Items::from_slice(alloc, words)?,
         slots: Items::from_vec(slots),
@@ -15,36 +15,36 @@ pub fn body(alloc: Global, words: &[u64], slots: Vec<Value>) -> Result<Body, All
 }
 
 /// A struct of data words alone.
-pub fn data(alloc: Global, words: &[u64]) -> Made {
+pub(crate) fn data(alloc: Global, words: &[u64]) -> Made {
     Ok(Value::Node(body(alloc, words, Vec::new(alloc))?))
 }
 
 /// A struct of one slot.
-pub fn holder(alloc: Global, slot: Made) -> Made {
+pub(crate) fn holder(alloc: Global, slot: Made) -> Made {
     let slots = with(Ok(Vec::new(alloc)), slot)?;
     Ok(Value::Node(body(alloc, &[], slots)?))
 }
 
 /// A struct of two slots.
-pub fn pair(alloc: Global, first: Made, second: Made) -> Made {
+pub(crate) fn pair(alloc: Global, first: Made, second: Made) -> Made {
     let slots = with(with(Ok(Vec::new(alloc)), first), second)?;
     Ok(Value::Node(body(alloc, &[], slots)?))
 }
 
 /// A list of one element.
-pub fn link(alloc: Global, element: Made) -> Made {
+pub(crate) fn link(alloc: Global, element: Made) -> Made {
     let elements = with(Ok(Vec::new(alloc)), element)?;
     Ok(Value::Links(Items::from_vec(elements)))
 }
 
 /// A list of two elements.
-pub fn links(alloc: Global, first: Made, second: Made) -> Made {
+pub(crate) fn links(alloc: Global, first: Made, second: Made) -> Made {
     let elements = with(with(Ok(Vec::new(alloc)), first), second)?;
     Ok(Value::Links(Items::from_vec(elements)))
 }
 
 /// Two rows with these data words and no slots.
-pub fn two_rows(alloc: Global, first: &[u64], second: &[u64]) -> Made {
+pub(crate) fn two_rows(alloc: Global, first: &[u64], second: &[u64]) -> Made {
     let mut rows = Items::new(alloc);
     rows.push(body(alloc, first, Vec::new(alloc))?)?;
     rows.push(body(alloc, second, Vec::new(alloc))?)?;
@@ -52,12 +52,15 @@ pub fn two_rows(alloc: Global, first: &[u64], second: &[u64]) -> Made {
 }
 
 /// Bytes.
-pub fn text(alloc: Global, bytes: &[u8]) -> Made {
+pub(crate) fn text(alloc: Global, bytes: &[u8]) -> Made {
     Ok(Value::Bytes(Items::from_slice(alloc, bytes)?))
 }
 
 /// Slots with one more behind them. Lists of slots are made by such calls: a function with many `?` is dear to prove.
-pub fn with(slots: Result<Vec<Value>, AllocError>, slot: Made) -> Result<Vec<Value>, AllocError> {
+pub(crate) fn with(
+    slots: Result<Vec<Value>, AllocError>,
+    slot: Made,
+) -> Result<Vec<Value>, AllocError> {
     let mut slots = slots?;
     slots.push(slot?)?;
     Ok(slots)
@@ -103,7 +106,7 @@ fn plain_slots(alloc: Global) -> Result<Vec<Value>, AllocError> {
 }
 
 /// A struct with a slot of each kind, of which the list of pointers has this element and null.
-pub fn one_of_each(alloc: Global, element: Value) -> Made {
+pub(crate) fn one_of_each(alloc: Global, element: Value) -> Made {
     let slots = plain_slots(alloc);
     let slots = with(slots, links(alloc, Ok(element), Ok(Value::Nil)));
     let slots = with(slots, Ok(Value::Rows(Items::new(alloc))));
@@ -112,7 +115,7 @@ pub fn one_of_each(alloc: Global, element: Value) -> Made {
 }
 
 /// A tree, unless the value is a misfit.
-pub fn tree(made: Made) -> Result<Tree, Option<Misfit>> {
+pub(crate) fn tree(made: Made) -> Result<Tree, Option<Misfit>> {
     match made {
         Ok(value) => match Tree::new(value) {
             Ok(tree) => Ok(tree),

@@ -10,7 +10,7 @@ const EMPTY: u64 = 0xffff_fffc;
 
 /// A word of a draft.
 #[derive(Debug, Clone, Copy)]
-pub struct Slot {
+pub(crate) struct Slot {
     /// The segments before its own.
     segment: usize,
     /// The words before it, in all segments.
@@ -19,10 +19,10 @@ pub struct Slot {
 
 impl Slot {
     /// Where the pointer to the root stands.
-    pub const ROOT: Slot = Slot { segment: 0, at: 0 };
+    pub(crate) const ROOT: Slot = Slot { segment: 0, at: 0 };
 
     /// The word so many words behind it.
-    pub fn after(self, words: u32) -> Slot {
+    pub(crate) fn after(self, words: u32) -> Slot {
         Slot {
             segment: self.segment,
             at: self.at.saturating_add(words as usize),
@@ -42,7 +42,7 @@ enum Route {
 
 /// A message in the making. Objects stand in the order in which they are made.
 #[derive(Debug, Drop)]
-pub struct Draft {
+pub(crate) struct Draft {
     words: Vec<u64>,
     sizes: Vec<u32>,
     start: usize,
@@ -57,7 +57,7 @@ fn narrow(number: usize) -> u32 {
 
 impl Draft {
     /// With the pointer to the root alone, in one segment, or in segments of some so many words.
-    pub fn new(alloc: Global, most: Option<usize>) -> Result<Draft, AllocError> {
+    pub(crate) fn new(alloc: Global, most: Option<usize>) -> Result<Draft, AllocError> {
         let mut words = Vec::new(alloc);
         words.push(0)?;
         Ok(Draft {
@@ -70,7 +70,7 @@ impl Draft {
     }
 
     /// A number below another.
-    pub fn below(&mut self, bound: u32) -> u32
+    pub(crate) fn below(&mut self, bound: u32) -> u32
         requires { 0 < bound }
         ensures { result < bound }
     {
@@ -173,7 +173,7 @@ impl Draft {
     }
 
     /// So many words.
-    pub fn fill(&mut self, content: Content, words: u32) -> Result<(), AllocError> {
+    pub(crate) fn fill(&mut self, content: Content, words: u32) -> Result<(), AllocError> {
         for _ in 0..words {
             let word = self.random.word(content);
             self.words.push(word)?;
@@ -182,7 +182,7 @@ impl Draft {
     }
 
     /// A struct, whose slots are null so far. Answers the first slot.
-    pub fn node(
+    pub(crate) fn node(
         &mut self,
         slot: Slot,
         content: Content,
@@ -197,7 +197,12 @@ impl Draft {
     }
 
     /// A list of bytes.
-    pub fn bytes(&mut self, slot: Slot, content: Content, count: u32) -> Result<(), AllocError> {
+    pub(crate) fn bytes(
+        &mut self,
+        slot: Slot,
+        content: Content,
+        count: u32,
+    ) -> Result<(), AllocError> {
         self.place(slot, 1 | 2 << 32 | u64::from(count) << 35)?;
         self.fill(content, count / 8)?;
         let rest = count % 8;
@@ -209,19 +214,29 @@ impl Draft {
     }
 
     /// A list of 32-bit numbers, so many pairs of them.
-    pub fn pairs(&mut self, slot: Slot, content: Content, pairs: u32) -> Result<(), AllocError> {
+    pub(crate) fn pairs(
+        &mut self,
+        slot: Slot,
+        content: Content,
+        pairs: u32,
+    ) -> Result<(), AllocError> {
         self.place(slot, 1 | 4 << 32 | u64::from(pairs) << 36)?;
         self.fill(content, pairs)
     }
 
     /// A list of 64-bit numbers.
-    pub fn numbers(&mut self, slot: Slot, content: Content, count: u32) -> Result<(), AllocError> {
+    pub(crate) fn numbers(
+        &mut self,
+        slot: Slot,
+        content: Content,
+        count: u32,
+    ) -> Result<(), AllocError> {
         self.place(slot, 1 | 5 << 32 | u64::from(count) << 35)?;
         self.fill(content, count)
     }
 
     /// A list of pointers, which are null so far. Answers the first.
-    pub fn pointers(&mut self, slot: Slot, count: u32) -> Result<Slot, AllocError> {
+    pub(crate) fn pointers(&mut self, slot: Slot, count: u32) -> Result<Slot, AllocError> {
         self.place(slot, 1 | 6 << 32 | u64::from(count) << 35)?;
         let first = self.here();
         self.fill(Content::Zeros, count)?;
@@ -229,7 +244,7 @@ impl Draft {
     }
 
     /// A list of structs, whose slots are null so far. Answers the first word of the first.
-    pub fn rows(
+    pub(crate) fn rows(
         &mut self,
         slot: Slot,
         content: Content,
@@ -252,7 +267,7 @@ impl Draft {
 
     /// A root with a list of pointers, as many as there are groups of so many words each in so many bytes. Answers the
     /// first pointer and their number.
-    pub fn groups(&mut self, bytes: u32, words: u32) -> Result<(Slot, u32), AllocError>
+    pub(crate) fn groups(&mut self, bytes: u32, words: u32) -> Result<(Slot, u32), AllocError>
         requires { 0 < words }
     {
         let root = self.node(Slot::ROOT, Content::Numbers, 1, 1)?;
@@ -262,7 +277,7 @@ impl Draft {
     }
 
     /// The framed message.
-    pub fn into_frame(mut self, alloc: Global) -> Result<Vec<u8>, AllocError> {
+    pub(crate) fn into_frame(mut self, alloc: Global) -> Result<Vec<u8>, AllocError> {
         self.cut()?;
         let mut bytes = Vec::new(alloc);
         let last = narrow(self.sizes.len().saturating_sub(1));

@@ -5,7 +5,7 @@ use crate::shapes::random::Content;
 use std::alloc::{AllocError, Global};
 
 /// Structs of 16 to 128 data words.
-pub fn wide(alloc: Global, bytes: u32) -> Result<Vec<u8>, AllocError> {
+pub(crate) fn wide(alloc: Global, bytes: u32) -> Result<Vec<u8>, AllocError> {
     let mut draft = Draft::new(alloc, None)?;
     let (first, count) = draft.groups(bytes, 73)?;
     for i in 0..count {
@@ -16,7 +16,7 @@ pub fn wide(alloc: Global, bytes: u32) -> Result<Vec<u8>, AllocError> {
 }
 
 /// One list of 64-bit numbers.
-pub fn numbers(alloc: Global, bytes: u32) -> Result<Vec<u8>, AllocError> {
+pub(crate) fn numbers(alloc: Global, bytes: u32) -> Result<Vec<u8>, AllocError> {
     let mut draft = Draft::new(alloc, None)?;
     let slot = draft.node(Slot::ROOT, Content::Zeros, 0, 1)?;
     draft.numbers(slot, Content::Noise, (bytes / 8).saturating_sub(3))?;
@@ -24,7 +24,7 @@ pub fn numbers(alloc: Global, bytes: u32) -> Result<Vec<u8>, AllocError> {
 }
 
 /// One list of random bytes.
-pub fn noise(alloc: Global, bytes: u32) -> Result<Vec<u8>, AllocError> {
+pub(crate) fn noise(alloc: Global, bytes: u32) -> Result<Vec<u8>, AllocError> {
     let mut draft = Draft::new(alloc, None)?;
     let slot = draft.node(Slot::ROOT, Content::Zeros, 0, 1)?;
     draft.bytes(slot, Content::Noise, bytes.saturating_sub(24))?;
@@ -45,7 +45,7 @@ fn sparse(draft: &mut Draft, slot: Slot) -> Result<(), AllocError> {
 }
 
 /// Structs and lists of 8 to 64 words that are mostly zero.
-pub fn zeros(alloc: Global, bytes: u32) -> Result<Vec<u8>, AllocError> {
+pub(crate) fn zeros(alloc: Global, bytes: u32) -> Result<Vec<u8>, AllocError> {
     let mut draft = Draft::new(alloc, None)?;
     let (first, count) = draft.groups(bytes, 37)?;
     for i in 0..count {

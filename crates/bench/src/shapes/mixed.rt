@@ -87,7 +87,7 @@ fn group(draft: &mut Draft, slot: Slot) -> Result<(), AllocError> {
 }
 
 /// All of these in one segment.
-pub fn mixed(alloc: Global, bytes: u32) -> Result<Vec<u8>, AllocError> {
+pub(crate) fn mixed(alloc: Global, bytes: u32) -> Result<Vec<u8>, AllocError> {
     let mut draft = Draft::new(alloc, None)?;
     let (first, count) = draft.groups(bytes, 12)?;
     for i in 0..count {
@@ -97,7 +97,7 @@ pub fn mixed(alloc: Global, bytes: u32) -> Result<Vec<u8>, AllocError> {
 }
 
 /// All of these in some 400 segments, or in segments of 16 words.
-pub fn segments(alloc: Global, bytes: u32) -> Result<Vec<u8>, AllocError> {
+pub(crate) fn segments(alloc: Global, bytes: u32) -> Result<Vec<u8>, AllocError> {
     let most = (bytes / 8 / 400).max(16) as usize;
     let mut draft = Draft::new(alloc, Some(most))?;
     let (first, count) = draft.groups(bytes, 14)?;

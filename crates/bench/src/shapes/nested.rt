@@ -18,7 +18,7 @@ fn nest(draft: &mut Draft, slot: Slot) -> Result<(), AllocError> {
 }
 
 /// Nests of small structs.
-pub fn deep(alloc: Global, bytes: u32) -> Result<Vec<u8>, AllocError> {
+pub(crate) fn deep(alloc: Global, bytes: u32) -> Result<Vec<u8>, AllocError> {
     let mut draft = Draft::new(alloc, None)?;
     let (first, count) = draft.groups(bytes, 91)?;
     for i in 0..count {
@@ -37,7 +37,7 @@ fn pair(draft: &mut Draft, slot: Slot) -> Result<(), AllocError> {
 }
 
 /// Structs with two texts each.
-pub fn texts(alloc: Global, bytes: u32) -> Result<Vec<u8>, AllocError> {
+pub(crate) fn texts(alloc: Global, bytes: u32) -> Result<Vec<u8>, AllocError> {
     let mut draft = Draft::new(alloc, None)?;
     let (first, count) = draft.groups(bytes, 30)?;
     for i in 0..count {

@@ -4,7 +4,7 @@ ghost use Rattle.std.specs.Prelude.{◌<◌};
 
 /// What stands in words that are no pointers.
 #[derive(Debug, Clone, Copy)]
-pub enum Content {
+pub(crate) enum Content {
     /// Zero words.
     Zeros,
     /// Numbers of one to eight bytes, none of them zero.
@@ -21,13 +21,13 @@ pub enum Content {
 
 /// Numbers without order, by shifts and exclusive ors; the same ones from each beginning.
 #[derive(Debug, Drop)]
-pub struct Random {
+pub(crate) struct Random {
     state: u64,
 }
 
 impl Random {
     /// At the beginning.
-    pub fn new() -> Random {
+    pub(crate) fn new() -> Random {
         Random {
             state: 88_172_645_463_325_252,
         }
@@ -42,7 +42,7 @@ impl Random {
     }
 
     /// A number below another.
-    pub fn below(&mut self, bound: u32) -> u32
+    pub(crate) fn below(&mut self, bound: u32) -> u32
         requires { 0 < bound }
         ensures { result < bound }
     {
@@ -62,7 +62,7 @@ impl Random {
     }
 
     /// A word of some content.
-    pub fn word(&mut self, content: Content) -> u64 {
+    pub(crate) fn word(&mut self, content: Content) -> u64 {
         match content {
             Content::Zeros => 0,
             Content::Numbers => self.number(),

@@ -45,7 +45,7 @@ use Rattle.std.specs.contracts.cell.Cell as cells
 use Rattle.refusing.specs.contracts.allocator.is_refused as counting
 use Rattle.refusing.proofs.allocator.is_refused.Symbol as c_sym
 use Rattle.refusing.proofs.allocator.is_refused.Met as c_met
-use Rattle.refusing.specs.contracts.allocator.Account as account
+use Rattle.refusing.specs.contracts.account.Account as account
 use Rattle.refusing.specs.contracts.allocator.Refusing as wrapper
 use Rattle.refusing.specs.contracts.allocator.RefusingAllocator.allocate as F
 use Rattle.refusing.specs.contracts.allocator.RefusingAllocator.allocate.Key as key
@@ -169,13 +169,13 @@ module _ (Z : Al) {M : Type 1} {𝓤 : Ura M} (𝓛 : Logic 𝓤) (at_mem : Memo
           (λ _. sets ! (agg ! (no_more !)) refl (tt, tt) $ sets !
           (agg ! (and_then ! (lit ! tt) (and_then ! (get ! refl) (no_more !)))) refl (Answer-typed false 0 0) $
           returns_within ! ((walk_of 𝓛 (ended Z) (stayed Z) held).post bound) refl (look_at ! 0 refl) $ free_all ! refl
-              $
+          $
           suffices ! _ (ends_at 𝓛 (ended Z) (stayed Z) held bound (answer_val false 0 0) (Err (record {})) (
             tt,
             (tt, (tt, tt)),
           ) (tt, (tt, (tt, tt)))) $
           nothing ! $ use0 𝓛 (‵ (Answer.own_val (Err (record {})) (answer_val false 0 0 ∷ []))) (Answer-err 𝓛) $ nothing
-              !
+          !
           $ nothing ! $ fjoin ! $ nothing ! $ fjoin ! $ nothing ! $ fjoin ! $ join ! $
           keep ! (2 ∷ 4 ∷ 0 ∷ 1 ∷ []) $ join ! $ join ! $ done !)
           (λ _. skips ! $ exec ! 𝓣.C 𝓣.Λ (env (here Z).locals l) (after 3 (here Z).body)
@@ -189,7 +189,7 @@ module _ (Z : Al) {M : Type 1} {𝓤 : Ura M} (𝓛 : Logic 𝓤) (at_mem : Memo
           (Takes-gives Z 𝓛 at_mem run κ₁ q₁ p h n a τ v) $ await ! tt $ split ! $
           answers Z ! at_mem run h τ v
           (λ b o e. fjoin ! $ lands_as ! e refl (Answer-typed true b o) $ returns ! (look_at ! 0 refl) $ free_all ! refl
-              $
+          $
           suffices ! _ (ends_at 𝓛 (ended Z) (stayed Z) held bound (answer_val true b o) (Ok (block_ptr b o)) (
             tt,
             (tt, (tt, tt)),
@@ -198,13 +198,13 @@ module _ (Z : Al) {M : Type 1} {𝓤 : Ura M} (𝓛 : Logic 𝓤) (at_mem : Memo
           nothing ! $ fjoin ! $ nothing ! $ fjoin ! $ nothing ! $ fjoin ! $ join ! $
           move ! (2 ∷ 3 ∷ []) $ join ! $ join ! $ done !)
           (λ e. nothing ! $ lands_as ! e refl (Answer-typed false 0 0) $ returns ! (look_at ! 0 refl) $ free_all ! refl
-              $
+          $
           suffices ! _ (ends_at 𝓛 (ended Z) (stayed Z) held bound (answer_val false 0 0) (Err (record {})) (
             tt,
             (tt, (tt, tt)),
           ) (tt, (tt, (tt, tt)))) $
           use0 𝓛 (‵ (Answer.own_val (Err (record {})) (answer_val false 0 0 ∷ []))) (Answer-err 𝓛) $ nothing ! $ nothing
-              !
+          !
           $ fjoin ! $ nothing ! $ fjoin ! $ nothing ! $ fjoin ! $ join ! $
           move ! (2 ∷ 3 ∷ []) $ join ! $ join ! $ done !)))))))))
 

@@ -1,0 +1,55 @@
+//! What was asked of an allocator, and which growths it refuses.
+
+ghost use Rattle.std.specs.Prelude.{◌≡◌, ◌⊎◌, ◌+◌, ◌-◌, ◌^◌, ◌<◌, ◌↔◌, true, max, min};
+
+/// Which growths are refused, and what was asked so far.
+#[derive(Clone, Copy)]
+pub(crate) struct Account {
+    /// The number of the growth that is refused, counted from 1 for the next one; 0 where none is.
+    pub left: u64,
+    /// The most bytes of a growth that is let through.
+    pub most: usize,
+    /// The most bytes that a growth asked for.
+    pub greatest: usize,
+    /// How many growths came.
+    pub count: u64,
+}
+
+impl Account {
+    /// Refuses the growth of this number, counted from 1, and no other; none where it is 0.
+    pub(crate) fn nth(number: u64) -> Account
+        ensures left { result.left ≡ number }
+        ensures most { result.most ≡ 2 ^ 64 - 1 }
+        ensures greatest { result.greatest ≡ 0 }
+        ensures count { result.count ≡ 0 }
+    {
+        Account {
+            left: number,
+            most: usize::MAX,
+            greatest: 0,
+            count: 0,
+        }
+    }
+
+    /// Whether a growth of so many bytes is refused.
+    pub(crate) fn refuses(self, size: usize) -> bool
+        ensures { (result ≡ true) ↔ ((self.left ≡ 1) ⊎ (self.most < size)) }
+    {
+        self.left == 1 || self.most < size
+    }
+
+    /// The account once a growth of so many bytes has come.
+    pub(crate) fn counted(self, size: usize) -> Account
+        ensures left { result.left ≡ self.left - 1 }
+        ensures most { result.most ≡ self.most }
+        ensures greatest { result.greatest ≡ max self.greatest size }
+        ensures count { result.count ≡ min (self.count + 1) (2 ^ 64 - 1) }
+    {
+        Account {
+            left: self.left.saturating_sub(1),
+            most: self.most,
+            greatest: self.greatest.max(size),
+            count: self.count.saturating_add(1),
+        }
+    }
+}
