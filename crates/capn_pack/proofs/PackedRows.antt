@@ -1,5 +1,5 @@
 -- Words and their packed texts, from the encoding page: the definitions compute to what one reads there.
-use Rattle.std.proofs.Common.{◌≡◌, ℕ, ◌<◌, ◌≤◌, List, [], ◌∷◌, ◌++◌, get_or, replicate, refl, ap, arith}
+use Rattle.std.proofs.Common.{◌≡◌, ℕ, List, [], ◌∷◌, ◌++◌, get_or, replicate, refl, ap, arith}
 use Rattle.capn_pack.specs.Group.Group.{Named, Raw, Zeros}
 use Rattle.capn_pack.specs.Chosen.{Chosen}
 use Rattle.capn_pack.specs.Tag.{IsNamedBy, tag_of}

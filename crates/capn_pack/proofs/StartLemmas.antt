@@ -1,6 +1,6 @@
 -- A whole group stands first.
-use Rattle.std.proofs.Common.{◌≡◌, inl, inr, ℕ, ◌+◌, ◌*◌, ◌<◌, ◌≤◌, List, [], ◌∷◌, ◌++◌, length, take, drop}
-use Rattle.std.proofs.Common.{slice_range, refl, sym, ap, subst, ◌∙◌, arith, append_assoc, length-append, length-take}
+use Rattle.std.proofs.Common.{◌≡◌, inl, inr, ℕ, ◌*◌, ◌<◌, ◌≤◌, List, [], ◌∷◌, ◌++◌, length, take, drop}
+use Rattle.std.proofs.Common.{slice_range, sym, ap, ◌∙◌, arith, append_assoc, length-take}
 use Rattle.std.proofs.Common.{take-append-drop}
 use Rattle.std.proofs.lemmas.Bool.{cases_lt}
 use Rattle.std.specs.List.{AllByRecursion}
@@ -8,7 +8,7 @@ use Rattle.capn_pack.specs.Group.{Group, IsGroup, text, words}
 use Rattle.capn_pack.specs.Group.Group.{Zeros, Named, Raw}
 use Rattle.capn_pack.specs.Joins.{Joins}
 use Rattle.capn_pack.specs.declared.unpack_piece.Joined.TheVariants as joins
-use Rattle.capn_pack.specs.Packs.{texts, contents, word_count}
+use Rattle.capn_pack.specs.Packs.{texts, word_count}
 use Rattle.capn_pack.specs.Refusal.{StartsWithin}
 use Rattle.capn_pack.specs.Steps.{TakesRow}
 use Rattle.capn_pack.specs.Stream.{NoGroupFirst}

@@ -1,5 +1,5 @@
 -- The tag of a word as the sum of the weights of its lanes.
-use Rattle.std.proofs.Common.{◌≡◌, ℕ, zero, suc, ◌+◌, ◌*◌, ◌%◌, ◌<◌, ◌≤◌, Bool, true, false, not, cond, eqb, List, []}
+use Rattle.std.proofs.Common.{◌≡◌, ℕ, zero, suc, ◌+◌, ◌*◌, ◌%◌, ◌≤◌, Bool, true, false, not, cond, eqb, List, []}
 use Rattle.std.proofs.Common.{◌∷◌, map, length, refl, ap, ◌∙◌, arith, replicate}
 use lib.Lanes.{fold_l, sel_l, top, zip2}
 use Rattle.capn_pack.specs.Tag.{tag_of}

@@ -1,14 +1,12 @@
 -- What a read answers, of all that the reader had to give.
-use Rattle.std.proofs.Common.{◌≡◌, ◌≢◌, ◌⊎◌, inl, inr, ℕ, ◌+◌, ◌≤◌, List, [], ◌++◌, length, take, Bool, true, false}
+use Rattle.std.proofs.Common.{◌≡◌, inl, inr, ℕ, ◌≤◌, List, [], ◌++◌, length, take, Bool}
 use Rattle.std.proofs.Common.{Option, Some, None, IfSome, Result, Ok, Err, refl, ap, sym, subst, ◌∙◌, arith, append-nil}
 use Rattle.std.proofs.Common.{length-append}
 use Rattle.std.proofs.lemmas.List.{take_at}
-use Rattle.std.specs.Io.KnownBytes.{Consumes, IsAtEnd}
 use Rattle.capn_words.specs.Message.{total}
 use Rattle.capn_stream.specs.Frames.{Frames, StandsFirst}
 use Rattle.capn_stream.specs.Reading.{IsRefused}
 use Rattle.capn_stream.specs.Receiving.{OnlyFirst, ReadGives, ReadsFirst}
-use Rattle.capn_stream.specs.declared.fault.FrameFault.{FrameFault}
 use Rattle.capn_stream.specs.declared.fault.FrameFault.TheVariants as frames
 use Rattle.capn_stream.specs.declared.fault.ReadFault.{ReadFault}
 use Rattle.capn_stream.specs.declared.fault.ReadFault.TheVariants as faults

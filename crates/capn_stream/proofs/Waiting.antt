@@ -1,15 +1,15 @@
 -- A frame that came in pieces is whole.
-use Rattle.std.proofs.Common.{◌≡◌, ◌⊎◌, inl, inr, ℕ, ◌+◌, ◌-◌, ◌*◌, ◌/◌, ◌%◌, ◌^◌, ◌<◌, ◌≤◌, List, [], ◌∷◌, ◌++◌}
-use Rattle.std.proofs.Common.{length, take, drop, Bool, true, false, Option, Some, Result, Ok, Err, IfOk, IfErr, is_err}
+use Rattle.std.proofs.Common.{◌≡◌, ◌⊎◌, inl, inr, ℕ, ◌*◌, ◌/◌, ◌^◌, ◌<◌, ◌≤◌, List, [], ◌∷◌, ◌++◌}
+use Rattle.std.proofs.Common.{length, take, drop, Bool, false, Some, Result, Ok, Err, IfOk, IfErr, is_err}
 use Rattle.std.proofs.Common.{refl, ap, sym, subst, ◌∙◌, arith, length-drop}
 use Rattle.std.proofs.lemmas.List.{take_all}
 use Rattle.capn_words.specs.Message.{bytes, total}
-use Rattle.capn_words.specs.Words.{AreBytes, AreWords, words_in}
+use Rattle.capn_words.specs.Words.{AreWords, words_in}
 use Rattle.capn_words.specs.Laws.Words.{AreBytes-drop, bytes_of_words, words_below}
 use Rattle.capn_stream.specs.Cuts.{AreEnds, cut}
 use Rattle.capn_stream.specs.Frames.{Frames, StandsFirst}
-use Rattle.capn_stream.specs.Framing.{FeedGives, Framing, IsFrame, IsUnfinished, Stops, TakeGives}
-use Rattle.capn_stream.specs.Reading.{HasHead, IsWhole, announced_segments, announced_words, frame_length, head_length}
+use Rattle.capn_stream.specs.Framing.{FeedGives, IsFrame, IsUnfinished, TakeGives}
+use Rattle.capn_stream.specs.Reading.{IsWhole, announced_segments, announced_words, frame_length, head_length}
 use Rattle.capn_stream.specs.Stages.{Fills, IsDone, IsStage, IsStop, Knows, Rests, announced_ends}
 use Rattle.capn_stream.specs.declared.fault.FrameFault.{FrameFault}
 use Rattle.capn_stream.specs.declared.fault.FrameFault.TheVariants.{Memory, Empty, TooManySegments, TooManyWords, Cut}

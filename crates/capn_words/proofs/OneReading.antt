@@ -1,5 +1,5 @@
 -- Bytes are read as one segment in one way, or refused for one reason.
-use Rattle.std.proofs.Common.{◌≡◌, ℕ, ◌*◌, List, length, Err, ap, sym, ◌∙◌, arith}
+use Rattle.std.proofs.Common.{◌≡◌, ℕ, List, Err, ap, sym, ◌∙◌, arith}
 use Rattle.capn_words.specs.Words.{IsBare, ReadsBare}
 use Rattle.capn_words.specs.declared.bare.BareFault.{BareFault}
 use Rattle.capn_words.specs.declared.bare.BareFault.TheVariants.{NotWhole, TooLong}

@@ -1,20 +1,18 @@
 -- Each text is a row of whole groups and a rest that no group begins, in one way.
-use Rattle.std.proofs.Common.{◌≡◌, ◌⊎◌, inl, inr, ℕ, zero, suc, ◌+◌, ◌-◌, ◌*◌, ◌/◌, ◌%◌, ◌^◌, ◌<◌, ◌≤◌, List, [], ◌∷◌}
-use Rattle.std.proofs.Common.{◌++◌, length, take, drop, get_or, slice_range, refl, ap, sym, subst, ◌∙◌, arith}
-use Rattle.std.proofs.Common.{append_assoc, length-append, length-drop, take-append-drop, length-take}
+use Rattle.std.proofs.Common.{◌≡◌, ◌⊎◌, inl, inr, ℕ, zero, suc, ◌+◌, ◌*◌, ◌/◌, ◌%◌, ◌^◌, ◌<◌, ◌≤◌, List, [], ◌∷◌}
+use Rattle.std.proofs.Common.{◌++◌, length, take, drop, get_or, slice_range, refl, ap, sym, ◌∙◌, arith}
+use Rattle.std.proofs.Common.{append_assoc, length-append, length-drop, take-append-drop}
 use Rattle.std.proofs.lemmas.Bool.{cases_lt}
 use Rattle.std.proofs.lemmas.Bool.Decides.{nat_tests}
-use Rattle.std.proofs.lemmas.List.{drop_at, get_or-drop}
 use Rattle.std.specs.Prelude.{count_ones}
 use Rattle.std.specs.List.{AllByRecursion}
 use Rattle.capn_pack.specs.Group.{Group, IsGroup, text, content}
 use Rattle.capn_pack.specs.Group.Group.{Zeros, Named, Raw}
 use Rattle.capn_pack.specs.Packs.{texts, contents}
-use Rattle.capn_pack.specs.Refusal.{IsCut, HasHead, head_len, len_at, words_at}
 use Rattle.capn_pack.specs.Stream.{Splits, NoGroupFirst}
 use Rattle.capn_pack.specs.Tag.{named_bytes, IsNamedBy}
 use Rattle.capn_pack.specs.Laws.GroupLaws.{group_same, no_group}
-use Rattle.capn_pack.specs.Laws.GroupLemmas.{raw_is_group, take_first, take_raw_text, take_tail, take_two, text_some}
+use Rattle.capn_pack.specs.Laws.GroupLemmas.{raw_is_group, take_first, take_raw_text, take_two, text_some}
 use Rattle.capn_pack.specs.Laws.SpreadLemmas.{named_none, named_one, no_ones, ones_half, parity}
 use Rattle.capn_pack.specs.Laws.StreamLemmas.{nothing_first, splits_open}
 

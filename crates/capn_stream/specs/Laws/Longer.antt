@@ -1,11 +1,11 @@
 -- What bytes announce stays as more of them come.
-use Rattle.std.proofs.Common.{◌≡◌, ◌⊎◌, inl, inr, ℕ, zero, suc, ◌+◌, ◌-◌, ◌*◌, ◌<◌, ◌≤◌, List, [], ◌∷◌, ◌++◌, length}
-use Rattle.std.proofs.Common.{take, drop, sum, refl, ap, sym, subst, ◌∙◌, arith, append_assoc, append-nil}
+use Rattle.std.proofs.Common.{◌≡◌, ℕ, zero, suc, ◌+◌, ◌*◌, ◌≤◌, List, ◌++◌, length}
+use Rattle.std.proofs.Common.{take, drop, sum, refl, ap, sym, subst, ◌∙◌, arith}
 use Rattle.std.proofs.Common.{length-append, length-drop}
 use Rattle.std.proofs.lemmas.List.{drop-append-le}
 use Rattle.byteorder.specs.Numbers.{little_from-append}
-use Rattle.capn_stream.specs.Reading.{HasCount, HasHead, IsRefused, announced_segments, announced_words, entries}
-use Rattle.capn_stream.specs.Reading.{entry_number, frame_length, head_length}
+use Rattle.capn_stream.specs.Reading.{HasCount, HasHead, announced_segments, announced_words, entries}
+use Rattle.capn_stream.specs.Reading.{entry_number, head_length}
 use Rattle.capn_stream.specs.Stages.{Extends, IsStage, IsStop, Knows, announced_ends, need}
 use Rattle.capn_stream.specs.declared.fault.FrameFault.{FrameFault}
 use Rattle.capn_stream.specs.declared.fault.FrameFault.TheVariants.{Memory, Empty, TooManySegments, TooManyWords, Cut}

@@ -1,19 +1,18 @@
 -- How many bytes a frame still needs.
-use Rattle.std.proofs.Common.{◌≡◌, ◌⊎◌, inl, inr, ℕ, ◌+◌, ◌-◌, ◌*◌, ◌%◌, ◌^◌, ◌<◌, ◌≤◌, List, [], ◌∷◌, ◌++◌, length}
-use Rattle.std.proofs.Common.{take, drop, Bool, true, false, Option, Some, None, Result, Ok, Err, refl, ap, sym, subst}
-use Rattle.std.proofs.Common.{◌∙◌, arith, length-append, length-take, nat_eq}
+use Rattle.std.proofs.Common.{◌≡◌, inl, inr, ℕ, ◌-◌, ◌≤◌, List, ◌++◌, length}
+use Rattle.std.proofs.Common.{take, ap, sym, subst}
+use Rattle.std.proofs.Common.{◌∙◌, arith, length-append, length-take}
 use Rattle.std.proofs.lemmas.List.{take_all}
 use Rattle.std.proofs.lemmas.Bool.Decides.{nat_tests}
-use Rattle.capn_words.specs.Limits.{most_segments}
-use Rattle.capn_stream.specs.Frames.{Frames, padding}
-use Rattle.capn_stream.specs.Framing.{FeedGives, Feeds, Framing, IsFrame, IsUnfinished, TakeGives}
-use Rattle.capn_stream.specs.Reading.{HasCount, HasHead, IsWhole, announced_segments, announced_words, frame_length}
+use Rattle.capn_stream.specs.Frames.{padding}
+use Rattle.capn_stream.specs.Framing.{Feeds, Framing, IsFrame, IsUnfinished}
+use Rattle.capn_stream.specs.Reading.{IsWhole, announced_segments}
 use Rattle.capn_stream.specs.Reading.{head_length}
 use Rattle.capn_stream.specs.Receiving.{most_bytes}
-use Rattle.capn_stream.specs.Stages.{IsStage, Knows, need}
+use Rattle.capn_stream.specs.Stages.{IsStage, need}
 use Rattle.capn_stream.specs.declared.stage.Stage.{Stage}
 use Rattle.capn_stream.specs.declared.stage.Stage.TheVariants as stages
-use Rattle.capn_stream.specs.declared.fault.FrameFault.TheVariants.{Empty, Cut}
+use Rattle.capn_stream.specs.declared.fault.FrameFault.TheVariants.{Cut}
 use Rattle.capn_stream.specs.Laws.FrameLaws.{refused_whole, stands_alone, whole_of}
 use Rattle.capn_stream.specs.Laws.Longer.{segments-append, words-append}
 

@@ -1,11 +1,10 @@
-use Rattle.std.proofs.Common.{◌≡◌, ◌<◌, ◌≤◌, ◌+◌, ℕ, false, length, length-take, take, drop, sym, subst, ap, ◌∙◌, Ok}
+use Rattle.std.proofs.Common.{◌≡◌, ◌≤◌, ℕ, false, length, length-take, take, drop, sym, subst, ◌∙◌, Ok}
 use Rattle.std.proofs.Common.{Err, arith}
 use Rattle.std.proofs.lemmas.Grind.{common_steps}
-use Rattle.std.proofs.lemmas.List.{take-append-le}
 use Rattle.std.proofs.lemmas.Result.{err_from_is_err_and}
 use Rattle.capn_words.specs.Watching.{has_failed}
 use Rattle.capn_stream.specs.Framing.{IsUnfinished}
-use Rattle.capn_stream.specs.Receiving.{TakesIn, most_bytes}
+use Rattle.capn_stream.specs.Receiving.{most_bytes}
 use Rattle.capn_stream.proofs.Received.{received_end, received_err, received_more, received_none, received_some}
 use Rattle.capn_stream.proofs.Received.{took_front, took_none, took_some}
 use Rattle.capn_stream.proofs.receiving.receive.Goals as goal

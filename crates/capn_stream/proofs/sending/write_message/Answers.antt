@@ -2,7 +2,6 @@ use Rattle.std.proofs.Common.{◌≡◌, ◌<◌, ◌+◌, ◌++◌, List, ℕ, 
 use Rattle.std.proofs.Common.{append_assoc}
 use Rattle.std.proofs.lemmas.List.{take_all}
 use Rattle.std.specs.Io.KnownBytes.{Appends}
-use Rattle.capn_words.specs.Watching.{HasBegun, inner_of}
 use Rattle.capn_words.specs.Message.{bytes, segment_at}
 use Rattle.capn_stream.specs.Frames.{contents, frame_text, padding, table}
 use Rattle.capn_stream.specs.Sending.{head_text}

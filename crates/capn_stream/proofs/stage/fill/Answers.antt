@@ -1,9 +1,8 @@
-use Rattle.std.proofs.Common.{◌≡◌, ◌+◌, List, ℕ, ap, sym, subst, ◌∙◌, arith}
+use Rattle.std.proofs.Common.{◌≡◌, ◌+◌, ap, sym, subst, ◌∙◌, arith}
 use Rattle.std.proofs.lemmas.Result.{err_from_is_err_and}
 use Rattle.capn_stream.specs.Stages.{need, IsDone}
 use Rattle.capn_stream.specs.declared.stage.Stage.{Stage}
-use Rattle.capn_stream.specs.declared.stage.Stage.TheVariants as stages
-use Rattle.capn_stream.proofs.Filling.{Filled, filled, filled_all, filled_done, filled_short, filled_stop, is_contents}
+use Rattle.capn_stream.proofs.Filling.{Filled, filled, filled_done, filled_short, filled_stop, is_contents}
 use Rattle.capn_stream.proofs.Filling.{is_table, stop_count}
 use Rattle.capn_stream.proofs.stage.fill.Goals as goal
 

@@ -1,8 +1,6 @@
-use Rattle.std.proofs.Common.{◌≡◌, List, [], ℕ, Bool, false, ap, sym, subst, refl, ◌∙◌}
-use Rattle.capn_stream.specs.Framing.{Framing, TakeGives}
+use Rattle.std.proofs.Common.{sym, subst, ◌∙◌}
 use Rattle.capn_stream.specs.Stages.{IsStage}
 use Rattle.capn_stream.specs.declared.stage.Stage.{Stage}
-use Rattle.capn_stream.specs.declared.stage.Stage.TheVariants as stages
 use Rattle.capn_stream.proofs.Waiting.{take_gives, waiting_ends}
 use Rattle.capn_stream.proofs.feeding.Framer.take.Goals as goal
 

@@ -1,4 +1,4 @@
-use Rattle.std.proofs.Common.{◌≡◌, ◌<◌, Some, length, ap, sym, ◌∙◌, arith}
+use Rattle.std.proofs.Common.{◌<◌, Some, length, ap, sym, ◌∙◌, arith}
 use Rattle.capn_stream.proofs.Cutting.{seen_count, seen_order, seen_size, words_of-none, words_of-some}
 use Rattle.capn_stream.proofs.owned.StoredSpace.words.Goals as goal
 
