@@ -6,8 +6,8 @@ ghost use Rattle.capn_words.specs.Message.{word_bytes, bytes as bytes_of_words};
 ghost use Rattle.capn_canon.specs.Patch.{IsHole, IsWhole, filled, whole};
 ghost use Rattle.capn_canon.specs.Layout.{packed, words_for};
 
-use crate::marks::{cover, mark, unmark};
 use crate::elements::{append_bytes, append_octs, append_pairs, append_quads};
+use crate::marks::{cover, mark, unmark};
 use byteorder::{ByteOrder, LittleEndian};
 use capn_value::Memory;
 use std::alloc::{Allocator, Global};
@@ -16,7 +16,7 @@ use std::marker::Model;
 /// A list of words and holes. A hole is a word that is not known yet.
 ///
 /// The words are kept as their bytes, and a hole as one bit beside them.
-#[derive(Drop)]
+#[derive(Debug, Drop)]
 pub struct Patch<A: Allocator = Global> {
     bytes: Vec<u8, A>,
     holes: Vec<u64, A>,

@@ -6,7 +6,7 @@ use std::error::Error;
 use std::fmt;
 
 /// Why bytes aren't packed.
-#[derive(Debug, Drop, Clone, Copy, PartialEq, Eq)]
+#[derive(Clone, Copy, Debug, PartialEq, Eq)]
 pub enum PackFault {
     /// A growth was refused.
     Memory,
@@ -41,7 +41,7 @@ impl fmt::Display for PackFault {
 impl Error for PackFault {}
 
 /// Why a packed text isn't unpacked. Offsets are in bytes of the text, and are those of a group's tag.
-#[derive(Debug, Drop, Clone, Copy, PartialEq, Eq)]
+#[derive(Clone, Copy, Debug, PartialEq, Eq)]
 pub enum UnpackFault {
     /// A growth was refused.
     Memory,

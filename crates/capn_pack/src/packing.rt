@@ -5,8 +5,8 @@ ghost use Rattle.capn_pack.specs.Packs.{Packs};
 ghost use Rattle.capn_pack.specs.Chosen.{Chosen};
 
 use crate::fault::PackFault;
-use crate::pack_group::put_group;
 use crate::pack_block::{LANES, store_groups};
+use crate::pack_group::put_group;
 use std::alloc::{AllocError, Allocator};
 
 /// A block and the lanes behind it.

@@ -12,7 +12,7 @@ use std::marker::Model;
 /// It keeps the bytes of the unfinished group, of which there are at most 2,049, and the offset of that group's tag in
 /// the text; it has its room inside and takes no memory but for what a piece's words need. After any refusal each later
 /// call answers `Failed` and changes nothing.
-#[derive(Drop)]
+#[derive(Debug, Drop)]
 pub struct Unpacker {
     held: [u8; HELD],
     len: usize,
@@ -30,6 +30,15 @@ impl Model for Unpacker {
     ghost view = { λ a. record { rest = take a.len a.held; offset = a.offset; failed = a.failed } };
 
     ghost invariant = { λ a. (a.len < GROUP) × NoGroupFirst (take a.len a.held) };
+}
+
+impl Default for Unpacker {
+    /// As [`Unpacker::new`].
+    fn default() -> Self
+        ensures { result ≡ record { rest = []; offset = 0; failed = false } }
+    {
+        Unpacker::new()
+    }
 }
 
 impl Unpacker {

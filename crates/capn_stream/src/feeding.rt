@@ -17,7 +17,7 @@ use std::mem;
 /// It keeps the bytes that came since the last message was taken, and beside them what their table has told, so that no
 /// byte is looked at twice. It grows with bytes that came, by 64 at the first of a message, and never by what a table
 /// announces. After any refusal each later `feed` and `finish` answers `Failed`, and `take` answers None.
-#[derive(Drop)]
+#[derive(Debug, Drop)]
 pub struct Framer<A: Allocator + Copy = Global> {
     alloc: A,
     frame: Vec<u8, A>,

@@ -12,7 +12,7 @@ use std::marker::Model;
 ///
 /// It copies none of them. Beside the borrow it keeps where each segment but the last ends, so a message
 /// of one segment takes no memory, and every segment is found in constant time.
-#[derive(Drop)]
+#[derive(Debug, Drop)]
 pub struct Framed<'a, A: Allocator = Global> {
     words: Bare<'a>,
     ends: Vec<u32, A>,

@@ -12,7 +12,7 @@ use std::alloc::{Allocator, Global};
 use std::marker::Model;
 
 /// The words behind the head of a frame that is owned.
-#[derive(Drop)]
+#[derive(Debug, Drop)]
 pub(crate) struct Words<A: Allocator = Global> {
     frame: Vec<u8, A>,
     start: usize,
@@ -86,7 +86,7 @@ impl<A: Allocator> Words<A> {
 ///
 /// It is made by [`Framer`](crate::Framer) and [`read_message`](crate::read_message): the frame as it came, in one
 /// buffer, and where its segments end, so that every segment is found in constant time.
-#[derive(Drop)]
+#[derive(Debug, Drop)]
 pub struct Stored<A: Allocator = Global> {
     words: Words<A>,
     ends: Vec<u32, A>,

@@ -11,7 +11,7 @@ use std::error::Error;
 use std::fmt;
 
 /// What a message denotes, with what its walk paid.
-#[derive(Drop)]
+#[derive(Debug, Drop)]
 pub struct Walked<A: Allocator = Global> {
     /// The value at the root.
     pub tree: Tree<A>,

@@ -53,7 +53,7 @@ fn part(bytes: &[u8], start: usize, len: usize) -> &[u8]
 }
 
 /// A message of one segment over borrowed bytes. Contracts see it as the list of its words.
-#[derive(Drop)]
+#[derive(Debug, Drop)]
 pub struct Bare<'a> {
     bytes: &'a [u8],
 }

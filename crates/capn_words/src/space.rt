@@ -6,7 +6,7 @@ ghost use Rattle.capn_words.specs.Message.{IsMessage, IsPlace, IsRange, bytes_at
 /// Where a word stands in a message: a segment, and a word of it, both counted from 0.
 ///
 /// A place is in range of a message where the segment exists and the word is below its length.
-#[derive(Clone, Copy, Debug, PartialEq, Eq)]
+#[derive(Clone, Copy, Debug, PartialEq, Eq, PartialOrd, Ord, Hash)]
 pub struct Place {
     /// The segment.
     pub segment: u32,
