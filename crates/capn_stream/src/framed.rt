@@ -3,8 +3,7 @@
 ghost use Rattle.std.specs.Prelude.{◌≡◌, ℕ, ◌+◌, ◌<◌, ◌≤◌, ◌∷◌, ◌++◌, [], length, slice_index};
 ghost use Rattle.capn_stream.specs.Cuts.{AreEnds, cut};
 
-use capn_words::bare::Bare;
-use capn_words::space::{Place, Space};
+use capn_words::{Bare, Place, Space};
 use std::alloc::{Allocator, Global};
 use std::marker::Model;
 

@@ -7,7 +7,7 @@ ghost use Rattle.capn_stream.specs.Owned.{IsTail};
 
 use crate::framed::{end_of, start_of};
 use byteorder::{ByteOrder, LittleEndian};
-use capn_words::space::{Place, Space};
+use capn_words::{Place, Space};
 use std::alloc::{Allocator, Global};
 use std::marker::Model;
 

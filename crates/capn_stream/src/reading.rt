@@ -8,7 +8,7 @@ ghost use Rattle.capn_stream.specs.Reading.{HasTable, IsRefused};
 use crate::fault::FrameFault;
 use crate::framed::Framed;
 use crate::table::{ends_of, head_of, read_head};
-use capn_words::bare::Bare;
+use capn_words::Bare;
 use std::alloc::Allocator;
 
 /// The message whose frame stands first in the bytes, and the number of bytes that it takes.

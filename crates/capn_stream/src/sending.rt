@@ -9,8 +9,7 @@ ghost use Rattle.capn_stream.specs.Sending.{head_text};
 use crate::fault::Io;
 use crate::table::MOST_TABLE_WORDS;
 use crate::writing::bytes_of;
-use capn_words::Watched;
-use capn_words::space::Space;
+use capn_words::{Space, Watched};
 use std::io::Write;
 
 /// The most segments whose table is put together in the small buffer.

@@ -7,7 +7,7 @@ ghost use Rattle.capn_stream.specs.Frames.{Frames, StandsFirst, contents, entry,
 
 use crate::fault::Memory;
 use crate::table::head_of;
-use capn_words::space::{Place, Space};
+use capn_words::{Place, Space};
 use std::alloc::{AllocError, Allocator};
 
 /// The words of all segments.

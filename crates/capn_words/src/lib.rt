@@ -17,12 +17,12 @@
 //! ```
 #![tactic(auto)]
 
-pub mod bare;
+mod bare;
 pub mod laws;
-pub mod limits;
-pub mod pointer;
-pub mod space;
-pub mod watched;
+mod limits;
+mod pointer;
+mod space;
+mod watched;
 
 pub use bare::{Bare, BareFault};
 pub use limits::{MOST_MESSAGE_WORDS, MOST_SEGMENTS, MOST_WORDS};
