@@ -23,7 +23,7 @@ use capn_words::{Bare, Place, Space};
 use std::alloc::{Allocator, Global};
 
 /// Canonical bytes, and the words that the walk of the message paid.
-#[derive(Debug, Drop)]
+#[derive(Debug, Drop, PartialEq, Eq)]
 pub struct Canonical<A: Allocator = Global> {
     /// The canonical bytes: at most 8 for each word paid, and 8 more.
     pub bytes: Vec<u8, A>,

@@ -16,7 +16,7 @@ use std::marker::Model;
 /// A list of words and holes. A hole is a word that is not known yet.
 ///
 /// The words are kept as their bytes, and a hole as one bit beside them.
-#[derive(Drop)]
+#[derive(Debug, Drop)]
 pub struct Patch<A: Allocator = Global> {
     bytes: Vec<u8, A>,
     holes: Vec<u64, A>,

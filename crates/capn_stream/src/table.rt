@@ -68,7 +68,9 @@ pub(crate) fn head_of(count: usize) -> usize
 /// What a table announces: how many segments, and how many words in all.
 #[derive(Clone, Copy, Debug)]
 pub(crate) struct Head {
+    /// The number of segments.
     pub segments: usize,
+    /// The words of all segments together.
     pub words: usize,
 }
 

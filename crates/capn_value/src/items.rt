@@ -12,7 +12,7 @@ use std::slice;
 /// A list of elements, which contracts see as just that: no capacity and no address.
 ///
 /// It is made from a `Vec` and gives it back without taking memory.
-#[derive(Drop)]
+#[derive(Debug, Drop)]
 pub struct Items<T, A: Allocator = Global> {
     items: Vec<T, A>,
 }

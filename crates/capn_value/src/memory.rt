@@ -3,7 +3,7 @@ ghost use Rattle.std.specs.Prelude.{Some, codes};
 use std::alloc::AllocError;
 
 /// A growth was refused. What was asked for doesn't exist, and what was handed in is as it was.
-#[derive(Debug, Clone, Copy, PartialEq, Eq)]
+#[derive(Clone, Copy, Debug, PartialEq, Eq)]
 pub struct Memory;
 
 impl From<AllocError> for Memory {

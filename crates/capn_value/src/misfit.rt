@@ -5,7 +5,7 @@ use std::fmt;
 
 /// Why a value fits into no message (own). The reasons stand in the order in which they are tested, and each
 /// is looked for in the whole value before the next.
-#[derive(Debug, Clone, Copy, PartialEq, Eq)]
+#[derive(Clone, Copy, Debug, PartialEq, Eq)]
 pub enum Misfit {
     /// A struct has more than 65,535 data words or slots.
     Wide,

@@ -25,7 +25,7 @@ use std::alloc::{Allocator, Global};
 use std::marker::Model;
 
 /// A value that fits into a message: it has no [`Misfit`]. Its numbers are those of their types.
-#[derive(Drop)]
+#[derive(Debug, Drop)]
 pub struct Tree<A: Allocator = Global> {
     value: Value<A>,
 }

@@ -11,7 +11,7 @@ use std::alloc::{Allocator, Global};
 ///
 /// Kinds of list stay apart: an empty list of bytes is no empty list of voids.
 #[cycle(value)]
-#[derive(Drop)]
+#[derive(Debug, Drop)]
 pub enum Value<A: Allocator = Global> {
     /// The null pointer.
     Nil,
@@ -39,7 +39,7 @@ pub enum Value<A: Allocator = Global> {
 
 /// The content of a struct, or of one element of a composite list (encoding page: "Structs").
 #[cycle(value)]
-#[derive(Drop)]
+#[derive(Debug, Drop)]
 pub struct Body<A: Allocator = Global> {
     /// The data section, word by word.
     pub words: Items<u64, A>,

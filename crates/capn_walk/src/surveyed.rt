@@ -1,7 +1,7 @@
 //! What a survey answers.
 
 /// What a walk pays and visits, and the first capability that it meets.
-#[derive(Clone, Copy, Debug)]
+#[derive(Clone, Copy, Debug, PartialEq, Eq)]
 pub struct Surveyed {
     /// The words paid: the sum of the prices of all visits.
     pub paid: u32,

@@ -7,22 +7,29 @@ use std::fmt;
 /// The form of the content that a pointer names. (Page: structs, lists.)
 #[derive(Clone, Copy, Debug, PartialEq, Eq)]
 pub enum Shape {
-    /// A struct: so many data words, and so many pointers behind them.
+    /// A struct.
     Node {
+        /// Its data words.
         words: u16,
+        /// Its pointers, a word each, behind the data words.
         slots: u16,
     },
-    /// A list that isn't composite: `count` elements.
+    /// A list that isn't composite.
     Many {
+        /// The size of an element.
         width: Width,
+        /// The number of elements.
         count: u32,
     },
-    /// A composite list: a tag word, then `count` structs of so many data words and pointers each, all
-    /// within `span` words.
+    /// A composite list: a tag word, then structs of one size each.
     Rows {
+        /// The number of structs.
         count: u32,
+        /// The data words of each.
         words: u16,
+        /// The pointers of each.
         slots: u16,
+        /// The words that the pointer gives to all of them; the tag is not counted.
         span: u32,
     },
 }
@@ -34,10 +41,13 @@ pub enum Target {
     Nil,
     /// A capability, by its index.
     Cap(u32),
-    /// Content, which lies inside its segment. At a composite list `start` is the tag's word.
+    /// Content, which lies inside its segment.
     Content {
+        /// The index of its segment.
         segment: u32,
+        /// The index of its first word in the segment; of a composite list that is the tag.
         start: u32,
+        /// Its form and size.
         shape: Shape,
         /// The words of its landing pad: 0 for a near pointer, else 1 or 2.
         pads: u8,

@@ -66,7 +66,7 @@ fn digit(width: Width, word: u64, place: u32) -> u64
 }
 
 /// What stands in a slot of a message: null, a capability, or an object whose words are read where they lie.
-#[derive(Drop)]
+#[derive(Debug, Drop)]
 pub struct View<'s, S: Space> {
     space: &'s S,
     target: Target,

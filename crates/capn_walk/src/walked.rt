@@ -11,7 +11,7 @@ use std::error::Error;
 use std::fmt;
 
 /// What a message denotes, with what its walk paid.
-#[derive(Drop)]
+#[derive(Debug, Drop)]
 pub struct Walked<A: Allocator = Global> {
     /// The value at the root.
     pub tree: Tree<A>,
@@ -36,7 +36,7 @@ pub struct Stopped {
 
 impl Stopped {
     /// The same refusal behind visits that paid so much.
-    pub fn behind(self, paid: u32, visits: u32) -> Stopped
+    pub(crate) fn behind(self, paid: u32, visits: u32) -> Stopped
         requires paid { paid + self.paid < 2 ^ 32 }
         requires visits { visits + self.visits < 2 ^ 32 }
         ensures { result ≡ record self { paid = paid + self.paid; visits = visits + self.visits } }
@@ -71,7 +71,7 @@ impl fmt::Display for Stopped {
 impl Error for Stopped {}
 
 /// A refusal at the first visit.
-pub fn stop(fault: Fault, place: Place) -> Stopped
+pub(crate) fn stop(fault: Fault, place: Place) -> Stopped
     ensures { result ≡ record { fault = fault; place = place; paid = 0; visits = 1 } }
 {
     Stopped {
@@ -83,7 +83,7 @@ pub fn stop(fault: Fault, place: Place) -> Stopped
 }
 
 /// A growth was refused before any further visit.
-pub fn out_of_memory(place: Place) -> Stopped
+pub(crate) fn out_of_memory(place: Place) -> Stopped
     ensures { result ≡ record { fault = Memory; place = place; paid = 0; visits = 0 } }
 {
     Stopped {

@@ -11,7 +11,7 @@ use std::io::{ErrorKind, Read, Result, Write};
 ///
 /// It has failed from the first call on that answered an error, `Interrupted` too, or that wrote no byte of a
 /// piece that has some. Every call is passed on, after a failure too.
-#[derive(Drop)]
+#[derive(Debug, Drop)]
 pub struct Watched<T> {
     inner: T,
     failed: bool,
