@@ -1,5 +1,5 @@
-/* Each allocation of each call refused in turn: CAPN_MEMORY, the buffer untouched, no number in the report but what was
- * paid, and nothing left. Then the calls that want none: refused every one, they answer as with ample memory. */
+/* Each allocation of each call refused in turn: CAPN_MEMORY, the buffer untouched, no number in the report, and nothing
+ * left. Then the calls that want none: refused every one, they answer as with ample memory. */
 #include "capn.h"
 #include "refusing.h"
 #include <stdio.h>
@@ -76,7 +76,8 @@ static void refused(const char *name, const capn_report *report) {
             fail(name, "writes");
             break;
         }
-    if (report->length | report->at | report->segment | report->word) fail(name, "tells");
+    const capn_report none = {0, 0, 0, 0, 0, 0};
+    if (memcmp(report, &none, sizeof none)) fail(name, "tells");
 }
 
 /* Each allocation of a call refused in turn, which are at least so many. */
