@@ -42,9 +42,11 @@ test:
 bench:
 	cd crates/bench && rt run > /dev/null && ./out/bench times
 
-# The guide's recipes, and messages that the reference implementation wrote, where its command line tool is installed,
-# with the program that the gate builds, or with an installed one: make interop CAPN=/usr/local/bin/capn.
+# The program and the library as it is called from C, Python and Rust, on every stored vector; the guide's recipes; and
+# messages that the reference implementation wrote, where its command line tool is installed. With the program that the
+# gate builds, or with an installed one: make interop CAPN=/usr/local/bin/capn.
 interop: $(if $(CAPN),,program library)
+	./c/tests/agree
 	./interop/recipes
 	./interop/run
 	./interop/differences

@@ -6,8 +6,8 @@
  * What the caller owes, and nothing checks: each pointer leads to what its type and the size behind it say; what a call
  * writes (`out`, `digest`, `report`) overlaps nothing else that it is given; no call is made from a signal handler. A
  * pointer to no bytes may be null; the others may not. Any numbers may be passed. A call takes memory by malloc, and
- * gives it back before it returns; and at most 16 KiB of stack, and 256 bytes more
- * for each level of depth that the limits allow: 80 KiB at depth 256.
+ * gives it back before it returns; and at most 16 KiB of stack, and 256 bytes more for each level of depth that the
+ * limits allow: 80 KiB at depth 256.
  *
  * Each call answers a status and fills its report in; a field that the status does not speak of is 0. */
 #ifndef CAPN_H
@@ -47,7 +47,7 @@ typedef struct capn_limits {
 typedef struct capn_report {
     uint64_t length;  /* bytes of the answer: those written, or at CAPN_NO_ROOM those that are enough */
     uint64_t at;      /* a refusal's offset, count or index, as at its status below */
-    uint32_t paid;    /* words that the walk paid, also before a refusal */
+    uint32_t paid;    /* words that the walk paid; told with an answer and by refusals of the walk */
     uint32_t visits;  /* visits that the walk made; told by capn_check and by refusals of the walk */
     uint32_t segment; /* the slot at which a walk was refused: its segment, */
     uint32_t word;    /* and its word there */
@@ -98,28 +98,30 @@ enum {
 };
 
 /* The canonical bytes of one message. With a room of 0 it lays nothing, and answers CAPN_NO_ROOM with a `length` that
- * is enough, 8 * (paid + 1), or else the refusal: it costs what capn_check costs. With any other room that is too small
- * it answers CAPN_NO_ROOM with the exact length. CAPN_TRAILING tells where the first of several messages ends: call
- * again with that size. */
+ * is enough, 8 * (paid + 1), or else the refusal: it costs what capn_check costs, and takes memory where that does.
+ * With any other room that is too small it answers CAPN_NO_ROOM with the exact length. CAPN_TRAILING tells where the
+ * first of several messages ends: call again with that size. */
 capn_status capn_canonical(uint32_t form, const uint8_t *bytes, size_t size, const capn_limits *limits, uint8_t *out,
                            size_t room, capn_report *report);
 
-/* Whether bytes, read bare, are the canonical bytes of their value: CAPN_OK, CAPN_NOT_CANONICAL, or a refusal. It takes
- * memory only for a depth above 64. */
+/* Whether bytes, read bare, are the canonical bytes of their value: CAPN_OK, CAPN_NOT_CANONICAL, or a refusal; the
+ * first two tell nothing in the report. It takes memory only for a depth above 64. */
 capn_status capn_is_canonical(const uint8_t *bytes, size_t size, const capn_limits *limits, capn_report *report);
 
 /* The SHA-256 of the canonical bytes of one message. */
 capn_status capn_hash(uint32_t form, const uint8_t *bytes, size_t size, const capn_limits *limits, uint8_t digest[32],
                       capn_report *report);
 
-/* Whether one message is accepted within limits, with what reading it pays and how many visits that makes. */
+/* Whether one message is accepted within limits, with what reading it pays and how many visits that makes. It takes
+ * memory only for the table of two segments or more, for what is unpacked, and for a depth above 64. */
 capn_status capn_check(uint32_t form, const uint8_t *bytes, size_t size, const capn_limits *limits,
                        capn_report *report);
 
-/* The packed text of whole words. */
+/* The packed text of whole words. With too little room the length is exact. */
 capn_status capn_pack(const uint8_t *bytes, size_t size, uint8_t *out, size_t room, capn_report *report);
 
-/* The words of a packed text, at most max_words. */
+/* The words of a packed text, at most max_words. With too little room the length is exact. It takes memory only where a
+ * whole group within the maximum stands first. */
 capn_status capn_unpack(const uint8_t *bytes, size_t size, uint32_t max_words, uint8_t *out, size_t room,
                         capn_report *report);
 

@@ -1,13 +1,40 @@
-//! Cap'n Proto messages by the proved library: writes the canonical bytes of the message in a file.
+//! Cap'n Proto messages by the proved library: canonical, is_canonical, digest, check, pack, unpack, each.
+//!
+//! Run as a program, it writes the canonical bytes of the message in a file.
 use std::io::Write;
 
+/// How the bytes of a message are written: behind a segment table, the packed text of that, or the words alone.
+#[repr(u32)]
+#[derive(Clone, Copy, PartialEq)]
+pub enum Form {
+    Stream,
+    Packed,
+    Bare,
+}
+
+/// How a walk counts what it pays.
+#[repr(u32)]
+#[derive(Clone, Copy)]
+pub enum Tariff {
+    Strict,
+    Plain,
+}
+
 #[repr(C)]
+#[derive(Clone, Copy)]
 pub struct Limits {
     pub message_words: u32,
     pub budget: u32,
     pub depth: u32,
-    pub tariff: u32,
+    pub tariff: Tariff,
 }
+
+pub const USUAL: Limits = Limits {
+    message_words: 8_388_608,
+    budget: 8_388_608,
+    depth: 64,
+    tariff: Tariff::Strict,
+};
 
 #[repr(C)]
 #[derive(Debug, Default)]
@@ -20,13 +47,22 @@ pub struct Report {
     pub word: u32,
 }
 
+/// A call was refused: the status and the report of capn.h.
+#[derive(Debug)]
+pub struct Refused {
+    pub status: u32,
+    pub report: Report,
+}
+
 const OK: u32 = 0;
 const NO_ROOM: u32 = 1;
+const NOT_CANONICAL: u32 = 5;
+const TRAILING: u32 = 52;
 
 #[link(name = "capn", kind = "static")]
 unsafe extern "C" {
     fn capn_canonical(
-        form: u32,
+        form: Form,
         bytes: *const u8,
         size: usize,
         limits: &Limits,
@@ -34,36 +70,159 @@ unsafe extern "C" {
         room: usize,
         report: &mut Report,
     ) -> u32;
+    fn capn_is_canonical(
+        bytes: *const u8,
+        size: usize,
+        limits: &Limits,
+        report: &mut Report,
+    ) -> u32;
+    fn capn_hash(
+        form: Form,
+        bytes: *const u8,
+        size: usize,
+        limits: &Limits,
+        digest: &mut [u8; 32],
+        report: &mut Report,
+    ) -> u32;
+    fn capn_check(
+        form: Form,
+        bytes: *const u8,
+        size: usize,
+        limits: &Limits,
+        report: &mut Report,
+    ) -> u32;
+    fn capn_pack(
+        bytes: *const u8,
+        size: usize,
+        out: *mut u8,
+        room: usize,
+        report: &mut Report,
+    ) -> u32;
+    fn capn_unpack(
+        bytes: *const u8,
+        size: usize,
+        max_words: u32,
+        out: *mut u8,
+        room: usize,
+        report: &mut Report,
+    ) -> u32;
 }
 
-/// The canonical bytes of a framed message, or the status and the report of its refusal.
-pub fn canonical(message: &[u8], limits: &Limits) -> Result<Vec<u8>, (u32, Report)> {
+/// The report of a call, unless its status refuses.
+fn told(call: impl FnOnce(&mut Report) -> u32) -> Result<Report, Refused> {
     let mut report = Report::default();
-    let call = |out: &mut [u8], report: &mut Report| unsafe {
-        let (bytes, size) = (message.as_ptr(), message.len());
-        capn_canonical(0, bytes, size, limits, out.as_mut_ptr(), out.len(), report)
-    };
+    match call(&mut report) {
+        OK => Ok(report),
+        status => Err(Refused { status, report }),
+    }
+}
+
+/// Calls with no room, and then with the length that is told: the answer and its price.
+fn answer(call: impl Fn(&mut [u8], &mut Report) -> u32) -> Result<(Vec<u8>, u32), Refused> {
     let mut out = Vec::new();
-    let mut status = call(&mut out, &mut report);
-    if status == NO_ROOM {
-        out = vec![0; report.length as usize];
-        status = call(&mut out, &mut report);
-    }
-    if status != OK {
-        return Err((status, report));
-    }
+    let report = match told(|report| call(&mut out, report)) {
+        Err(Refused {
+            status: NO_ROOM,
+            report,
+        }) => {
+            out = vec![0; report.length as usize];
+            told(|report| call(&mut out, report))?
+        }
+        first => first?,
+    };
     out.truncate(report.length as usize);
-    Ok(out)
+    Ok((out, report.paid))
+}
+
+/// The canonical bytes of one message, and what its walk paid.
+pub fn canonical(message: &[u8], form: Form, limits: &Limits) -> Result<(Vec<u8>, u32), Refused> {
+    let (bytes, size) = (message.as_ptr(), message.len());
+    answer(|out, report| unsafe {
+        capn_canonical(
+            form,
+            bytes,
+            size,
+            limits,
+            out.as_mut_ptr(),
+            out.len(),
+            report,
+        )
+    })
+}
+
+/// Whether bytes, read bare, are the canonical bytes of their value.
+pub fn is_canonical(message: &[u8], limits: &Limits) -> Result<bool, Refused> {
+    let (bytes, size) = (message.as_ptr(), message.len());
+    match told(|report| unsafe { capn_is_canonical(bytes, size, limits, report) }) {
+        Err(Refused {
+            status: NOT_CANONICAL,
+            ..
+        }) => Ok(false),
+        answer => answer.map(|_| true),
+    }
+}
+
+/// The SHA-256 of the canonical bytes of one message.
+pub fn digest(message: &[u8], form: Form, limits: &Limits) -> Result<[u8; 32], Refused> {
+    let (bytes, size) = (message.as_ptr(), message.len());
+    let mut digest = [0; 32];
+    told(|report| unsafe { capn_hash(form, bytes, size, limits, &mut digest, report) })?;
+    Ok(digest)
+}
+
+/// What the walk of one message pays, and how many visits it makes.
+pub fn check(message: &[u8], form: Form, limits: &Limits) -> Result<(u32, u32), Refused> {
+    let (bytes, size) = (message.as_ptr(), message.len());
+    let report = told(|report| unsafe { capn_check(form, bytes, size, limits, report) })?;
+    Ok((report.paid, report.visits))
+}
+
+/// The packed text of whole words.
+pub fn pack(words: &[u8]) -> Result<Vec<u8>, Refused> {
+    let (bytes, size) = (words.as_ptr(), words.len());
+    let (text, _) = answer(|out, report| unsafe {
+        capn_pack(bytes, size, out.as_mut_ptr(), out.len(), report)
+    })?;
+    Ok(text)
+}
+
+/// The words of a packed text, at most so many.
+pub fn unpack(text: &[u8], max_words: u32) -> Result<Vec<u8>, Refused> {
+    let (bytes, size) = (text.as_ptr(), text.len());
+    let (words, _) = answer(|out, report| unsafe {
+        capn_unpack(bytes, size, max_words, out.as_mut_ptr(), out.len(), report)
+    })?;
+    Ok(words)
+}
+
+/// Each message of a stream, as its bytes: `TRAILING` tells where the first one ends.
+pub fn each<'a>(mut stream: &'a [u8], limits: &Limits) -> impl Iterator<Item = &'a [u8]> {
+    std::iter::from_fn(move || {
+        if stream.is_empty() {
+            return None;
+        }
+        let end = match check(stream, Form::Stream, limits) {
+            Err(Refused {
+                status: TRAILING,
+                report,
+            }) => report.at as usize,
+            _ => stream.len(),
+        };
+        let (message, rest) = stream.split_at(end);
+        stream = rest;
+        Some(message)
+    })
 }
 
 fn main() {
     let name = std::env::args().nth(1).expect("the name of a file");
     let message = std::fs::read(name).expect("a file that can be read");
-    let usual = Limits { message_words: 8_388_608, budget: 8_388_608, depth: 64, tariff: 0 };
-    match canonical(&message, &usual) {
-        Ok(bytes) => std::io::stdout().write_all(&bytes).expect("an output that takes bytes"),
-        Err((status, report)) => {
-            eprintln!("refused: status {status}, {report:?}");
+    match canonical(&message, Form::Stream, &USUAL) {
+        Ok((bytes, _)) => std::io::stdout()
+            .write_all(&bytes)
+            .expect("an output that takes bytes"),
+        Err(refused) => {
+            eprintln!("{refused:?}");
             std::process::exit(1);
         }
     }

@@ -1,95 +1,182 @@
-/* Each allocation of each call refused in turn: CAPN_MEMORY, the buffer untouched, no number in the report but what was
- * paid, and nothing left. Link with -Wl,--wrap=malloc,--wrap=realloc,--wrap=free. */
+/* Each allocation of each call refused in turn: CAPN_MEMORY, the buffer untouched, no number in the report, and nothing
+ * left. Then the calls that want none: refused every one, they answer as with ample memory. */
 #include "capn.h"
+#include "refusing.h"
 #include <stdio.h>
-#include <stdlib.h>
 #include <string.h>
 
-void *__real_malloc(size_t size);
-void *__real_realloc(void *old, size_t size);
-void __real_free(void *block);
+enum { ROOM = 1 << 16, DEPTH = 200, MOST = 8 * (2 * DEPTH) };
+static uint8_t deep[MOST], framed[MOST + 16], text[ROOM], out[ROOM];
+static int failed;
 
-static long left = -1, live;
-
-static int refuses(void) {
-    if (left == 0) return 1;
-    if (left > 0) left--;
-    return 0;
+static void fail(const char *name, const char *why) {
+    failed++;
+    printf("memory: %s: %s\n", name, why);
 }
 
-void *__wrap_malloc(size_t size) {
-    void *block = refuses() ? NULL : __real_malloc(size);
-    if (block) live++;
-    return block;
+/* Structs of two pointers, the second one null, each in the one before, so many deep, with a number at the end: how
+ * many bytes they take. */
+static size_t chain(uint8_t *at, size_t depth) {
+    memset(at, 0, 16 * depth);
+    at[depth > 1 ? 6 : 4] = depth > 1 ? 2 : 1;
+    for (size_t i = 0; i + 1 < depth; i++) {
+        at[8 * (1 + 2 * i)] = 4;
+        at[8 * (1 + 2 * i) + (i + 2 < depth ? 6 : 4)] = i + 2 < depth ? 2 : 1;
+    }
+    at[8 * (2 * depth - 1)] = 7;
+    return 16 * depth;
 }
 
-void *__wrap_realloc(void *old, size_t size) {
-    void *block = refuses() ? NULL : __real_realloc(old, size);
-    if (!old && block) live++;
-    return block;
+/* The frame of so many segments, one or two, of which the second has no words: how many bytes it takes. */
+static size_t frame(uint8_t *to, uint8_t segments, const uint8_t *words, size_t size) {
+    size_t table = segments == 1 ? 8 : 16;
+    memset(to, 0, table);
+    to[0] = segments - 1;
+    to[4] = (uint8_t)(size / 8);
+    to[5] = (uint8_t)(size / 8 >> 8);
+    memcpy(to + table, words, size);
+    return table + size;
 }
 
-void __wrap_free(void *block) {
-    if (block) live--;
-    __real_free(block);
+typedef struct input {
+    uint32_t form;
+    const uint8_t *bytes;
+    size_t size;
+    capn_limits limits;
+} input;
+
+typedef capn_status call(const input *in, capn_report *report);
+
+static capn_status canonical(const input *in, capn_report *report) {
+    return capn_canonical(in->form, in->bytes, in->size, &in->limits, out, ROOM, report);
+}
+static capn_status measured(const input *in, capn_report *report) {
+    return capn_canonical(in->form, in->bytes, in->size, &in->limits, NULL, 0, report);
+}
+static capn_status hashed(const input *in, capn_report *report) {
+    return capn_hash(in->form, in->bytes, in->size, &in->limits, out, report);
+}
+static capn_status checked(const input *in, capn_report *report) {
+    return capn_check(in->form, in->bytes, in->size, &in->limits, report);
+}
+static capn_status judged(const input *in, capn_report *report) {
+    return capn_is_canonical(in->bytes, in->size, &in->limits, report);
+}
+static capn_status packed(const input *in, capn_report *report) {
+    return capn_pack(in->bytes, in->size, out, ROOM, report);
+}
+static capn_status unpacked(const input *in, capn_report *report) {
+    return capn_unpack(in->bytes, in->size, 1u << 20, out, ROOM, report);
 }
 
-enum { ROOM = 1 << 16, DEPTH = 200 };
-static uint8_t deep[8 * (2 * DEPTH)], framed[sizeof deep + 16], text[ROOM], out[ROOM];
+/* What a call tells where it is refused memory, beside nothing. */
+static void refused(const char *name, const capn_report *report) {
+    for (size_t i = 0; i < ROOM; i++)
+        if (out[i] != 0xAA) {
+            fail(name, "writes");
+            break;
+        }
+    const capn_report none = {0, 0, 0, 0, 0, 0};
+    if (memcmp(report, &none, sizeof none)) fail(name, "tells");
+}
+
+/* Each allocation of a call refused in turn, which are at least so many. */
+static void each(const char *name, call *make, const input *in, int least) {
+    capn_report report;
+    uint32_t status = CAPN_MEMORY;
+    int count = 0;
+    for (long allowed = 0; allowed < 100000; allowed++, count++) {
+        long before = live;
+        memset(out, 0xAA, ROOM);
+        memset(&report, 0x55, sizeof report);
+        left = allowed;
+        status = make(in, &report);
+        left = -1;
+        if (live != before) fail(name, "leaves blocks");
+        if (status != CAPN_MEMORY) break;
+        refused(name, &report);
+    }
+    if (status != CAPN_OK && status != CAPN_NO_ROOM && status != CAPN_NOT_CANONICAL) fail(name, "is refused otherwise");
+    if (count < least) fail(name, "wants less memory");
+    printf("memory: %s: refused %d times\n", name, count);
+}
+
+/* A call wants so many growths, and with every one refused it ends as with ample memory where it wants none, with this
+ * status, and else with CAPN_MEMORY. */
+static void wants(const char *name, call *make, const input *in, long growths, uint32_t wanted) {
+    capn_report ample, short_of;
+    left = -1;
+    asked = 0;
+    if (make(in, &ample) != wanted) fail(name, "another status");
+    if (asked != growths) fail(name, "another number of growths");
+    left = 0;
+    uint32_t status = make(in, &short_of);
+    left = -1;
+    if (status != (growths ? CAPN_MEMORY : wanted)) fail(name, "another status without memory");
+    if (!growths && memcmp(&ample, &short_of, sizeof ample)) fail(name, "another report without memory");
+}
+
+static void in_turn(void) {
+    const capn_limits limits = {1u << 20, 1u << 20, 256, CAPN_STRICT};
+    const input bare = {CAPN_BARE, deep, chain(deep, DEPTH), limits};
+    const input stream = {CAPN_STREAM, framed, frame(framed, 2, deep, bare.size), limits};
+    capn_report report;
+    if (capn_pack(framed, stream.size, text, ROOM, &report) != CAPN_OK) fail("pack", "refuses");
+    const input pack = {CAPN_PACKED, text, report.length, limits};
+    each("canonical, bare", canonical, &bare, 2);
+    each("canonical, stream", canonical, &stream, 3);
+    each("canonical, packed", canonical, &pack, 4);
+    each("canonical, packed, no room", measured, &pack, 3);
+    each("hash, packed", hashed, &pack, 4);
+    each("check, bare", checked, &bare, 1);
+    each("check, stream", checked, &stream, 2);
+    each("check, packed", checked, &pack, 3);
+    each("is_canonical", judged, &bare, 1);
+    each("pack", packed, &stream, 1);
+    each("unpack", unpacked, &pack, 1);
+}
+
+/* At depth 64 a bare message and a stream of one segment want no memory, whether they are as deep or deeper; a stream
+ * of two segments wants it once, where the second one ends. */
+static void at_64(size_t depth, uint32_t wanted) {
+    const capn_limits limits = CAPN_USUAL_LIMITS;
+    const uint32_t room = wanted == CAPN_OK ? CAPN_NO_ROOM : wanted;
+    const input bare = {CAPN_BARE, deep, chain(deep, depth), limits};
+    input stream = {CAPN_STREAM, framed, frame(framed, 1, deep, bare.size), limits};
+    wants("check at 64, bare", checked, &bare, 0, wanted);
+    wants("no room at 64, bare", measured, &bare, 0, room);
+    wants("is_canonical at 64", judged, &bare, 0, wanted == CAPN_OK ? CAPN_NOT_CANONICAL : wanted);
+    wants("check at 64, one segment", checked, &stream, 0, wanted);
+    wants("no room at 64, one segment", measured, &stream, 0, room);
+    stream.size = frame(framed, 2, deep, bare.size);
+    wants("check at 64, two segments", checked, &stream, 1, wanted);
+    wants("no room at 64, two segments", measured, &stream, 1, room);
+}
+
+/* What is refused as it is read wants no memory: nothing to pack or unpack, no whole words, a first group that is cut
+ * or too long, a table that is cut or announces too much, and no table of a whole frame. */
+static void unread(void) {
+    const capn_limits limits = CAPN_USUAL_LIMITS;
+    const uint8_t cut[9] = {255}, head[8] = {1, 0, 0, 0, 1}, many[8] = {255, 255}, whole[16] = {1};
+    const input nothing = {CAPN_STREAM, NULL, 0, limits}, odd = {CAPN_BARE, cut, 9, limits};
+    const input group = {CAPN_PACKED, cut, 9, limits}, table = {CAPN_STREAM, head, 8, limits};
+    const input segments = {CAPN_STREAM, many, 8, limits}, trailing = {CAPN_STREAM, whole, 16, limits};
+    wants("pack of nothing", packed, &nothing, 0, CAPN_OK);
+    wants("unpack of nothing", unpacked, &nothing, 0, CAPN_OK);
+    wants("check of nothing", checked, &nothing, 0, CAPN_FRAME_EMPTY);
+    wants("pack of no words", packed, &odd, 0, CAPN_NOT_WHOLE);
+    wants("check of no words", checked, &odd, 0, CAPN_NOT_WHOLE);
+    wants("unpack of a cut group", unpacked, &group, 0, CAPN_PACKED_CUT);
+    wants("check of a cut group", checked, &group, 0, CAPN_PACKED_CUT);
+    wants("check of a cut table", checked, &table, 0, CAPN_FRAME_CUT);
+    wants("check of too many segments", checked, &segments, 0, CAPN_TOO_MANY_SEGMENTS);
+    wants("check of two segments without words", checked, &trailing, 1, CAPN_NO_ROOT);
+}
 
 int main(void) {
-    capn_report report;
-    capn_limits limits = {1u << 20, 1u << 20, 256, CAPN_STRICT};
-    /* Structs of two pointers, the second one null, 200 deep, with a number at the end; the same framed in two
-     * segments, the second one empty; and packed. */
-    deep[6] = 2;
-    for (size_t i = 0; i + 1 < DEPTH; i++) {
-        deep[8 * (1 + 2 * i)] = 4;
-        deep[8 * (1 + 2 * i) + (i + 2 < DEPTH ? 6 : 4)] = i + 2 < DEPTH ? 2 : 1;
-    }
-    deep[8 * (2 * DEPTH - 1)] = 7;
-    framed[0] = 1;
-    framed[4] = (2 * DEPTH) % 256;
-    framed[5] = (2 * DEPTH) / 256;
-    memcpy(framed + 16, deep, sizeof deep);
-    if (capn_pack(framed, sizeof framed, text, ROOM, &report) != CAPN_OK) return 1;
-    size_t size = report.length;
-    int failed = 0;
-    for (int call = 0; call < 9; call++) {
-        uint32_t status = CAPN_MEMORY;
-        int count = 0;
-        for (long allowed = 0; status == CAPN_MEMORY && allowed < 100000; allowed++) {
-            long before = live;
-            memset(out, 0xAA, ROOM);
-            memset(&report, 0x55, sizeof report);
-            left = allowed;
-            switch (call) {
-            case 0: status = capn_canonical(CAPN_BARE, deep, sizeof deep, &limits, out, ROOM, &report); break;
-            case 1: status = capn_canonical(CAPN_STREAM, framed, sizeof framed, &limits, out, ROOM, &report); break;
-            case 2: status = capn_canonical(CAPN_PACKED, text, size, &limits, out, ROOM, &report); break;
-            case 3: status = capn_canonical(CAPN_PACKED, text, size, &limits, out, 0, &report); break;
-            case 4: status = capn_hash(CAPN_PACKED, text, size, &limits, out, &report); break;
-            case 5: status = capn_check(CAPN_PACKED, text, size, &limits, &report); break;
-            case 6: status = capn_is_canonical(deep, sizeof deep, &limits, &report); break;
-            case 7: status = capn_pack(framed, sizeof framed, out, ROOM, &report); break;
-            default: status = capn_unpack(text, size, 1u << 20, out, ROOM, &report); break;
-            }
-            left = -1;
-            if (live != before) { failed++; printf("memory: call %d leaves %ld blocks\n", call, live - before); }
-            if (status != CAPN_MEMORY) break;
-            count++;
-            for (size_t i = 0; i < ROOM; i++)
-                if (out[i] != 0xAA) { failed++; printf("memory: call %d writes\n", call); break; }
-            if (report.length | report.at | report.segment | report.word) {
-                failed++;
-                printf("memory: call %d tells\n", call);
-            }
-        }
-        if (status != CAPN_OK && status != CAPN_NO_ROOM && status != CAPN_NOT_CANONICAL) {
-            failed++;
-            printf("memory: call %d ends with status %u\n", call, status);
-        }
-        printf("memory: call %d: refused %d times\n", call, count);
-    }
+    in_turn();
+    at_64(64, CAPN_OK);
+    at_64(65, CAPN_TOO_DEEP);
+    unread();
     return failed != 0;
 }

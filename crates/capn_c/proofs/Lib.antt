@@ -1,3 +1,4 @@
 pub mod Delivered
 pub mod Listed
 pub mod Named
+pub mod OutOfMemory

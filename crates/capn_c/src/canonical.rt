@@ -9,6 +9,7 @@ ghost use Rattle.capn_canon.specs.Denotes.{Denotes};
 ghost use Rattle.capn_canon.specs.Answers.{Answers};
 ghost use Rattle.capn_canon.specs.Canonicity.{IsCanonicalForm};
 ghost use Rattle.capn_canon.specs.Refused.{IsRefused};
+ghost use Rattle.capn_canon.specs.Wanted.{MayWantMemory};
 ghost use Rattle.capn_canon.specs.declared.refusal.Refusal.{Refusal as Refusals};
 ghost use Rattle.capn_c.specs.Calls.{IsForm, form_named, GiveLimits, IsTariff, bounds_of, Delivers, Serves};
 ghost use Rattle.capn_c.specs.Codes.{Tells, answered, at_number, is_status};
@@ -31,6 +32,7 @@ fn measure(alloc: Global, form: Form, bytes: &[u8], limits: Limits, report: &mut
     ensures rest { result ≡ 1 → report.new ≡ answered (8 * (report.new.paid + 1)) report.new.paid 0 }
     ensures listed { IsTrue (is_status result) }
     ensures refused { 8 ≤ result → (e : Refusals) × Tells result report.new e × IsRefused form bytes.now limits e }
+    ensures wanted { result ≡ 8 → MayWantMemory form bytes.now limits }
     ensures bounded { IsBounded limits.budget report.new.paid report.new.visits }
 {
     match account(alloc, form, bytes, limits) {
@@ -81,8 +83,9 @@ fn lay(
 /// The canonical bytes of a message, into a buffer.
 ///
 /// 0: the answer stands at the start of the buffer. 1: the buffer has no room for it, and is as it was; `length` is
-/// what it needs, exactly; where the buffer has no bytes at all, at most: the message is surveyed then, and nothing is
-/// laid. 2, 3 and 4: the form, a limit or the tariff is out of its range. 8: memory was refused. Others: the refusal.
+/// what it needs, exactly; where the buffer has no bytes at all, the message is surveyed and nothing is laid, and
+/// `length` is 8 for each word paid and 8 more, which is enough. 2, 3 and 4: the form, a limit or the tariff is out of
+/// its range. 8: memory was refused. Others: the refusal.
 #[unsafe(no_mangle)]
 pub extern "C" fn capn_canonical(
     alloc: Global,
@@ -111,6 +114,9 @@ pub extern "C" fn capn_canonical(
     // What each refusal means, and that no other is told so.
     ensures refused { 5 ≤ result → (e : Refusals) × Tells result report.new e
         × IsRefused (form_named form) bytes.now (bounds_of limits.now) e }
+    // With a room of 0 memory is wanted only where `capn_check` may want it.
+    ensures wanted { result ≡ 8 → length out.old ≡ 0
+        → MayWantMemory (form_named form) bytes.now (bounds_of limits.now) }
     // No walk pays beyond its budget.
     ensures bounded { IsBounded limits.now.budget report.new.paid report.new.visits }
     ensures short { result ≤ 1 → report.new.length ≤ 8 * (report.new.paid + 1) }

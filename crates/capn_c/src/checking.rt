@@ -7,6 +7,7 @@ ghost use Rattle.capn_walk.specs.declared.surveyed.Surveyed.{Surveyed as Survey}
 ghost use Rattle.capn_canon.specs.Denotes.{Denotes};
 ghost use Rattle.capn_canon.specs.Refused.{IsUnacceptedIn};
 ghost use Rattle.capn_canon.specs.Surveys.{Surveys};
+ghost use Rattle.capn_canon.specs.Wanted.{MayWantMemory};
 ghost use Rattle.capn_canon.specs.declared.refusal.Refusal.{Refusal as Refusals};
 ghost use Rattle.capn_c.specs.Calls.{IsForm, form_named, GiveLimits, IsTariff, bounds_of};
 ghost use Rattle.capn_c.specs.Codes.{Tells, answered, at_number, is_status};
@@ -26,6 +27,7 @@ fn check(alloc: Global, form: Form, bytes: &[u8], limits: Limits, report: &mut C
     ensures only { (v : Value) → Denotes form bytes.now limits v → (result ≡ 0) ⊎ (result ≡ 8) }
     ensures listed { IsTrue (is_status result) }
     ensures refused { 8 ≤ result → (e : Refusals) × Tells result report.new e × IsUnacceptedIn form bytes.now limits e }
+    ensures wanted { result ≡ 8 → MayWantMemory form bytes.now limits }
     ensures bounded { IsBounded limits.budget report.new.paid report.new.visits }
 {
     match account(alloc, form, bytes, limits) {
@@ -40,7 +42,8 @@ fn check(alloc: Global, form: Form, bytes: &[u8], limits: Limits, report: &mut C
 /// Whether a message is accepted within limits, and what reading it pays.
 ///
 /// 0: it is; `paid` and `visits` are those of its walk. 2, 3 and 4: the form, a limit or the tariff is out of its
-/// range. 8: memory was refused. Others: the refusal, which is never that of a capability.
+/// range. 8: memory was refused: for where two segments or more end, for what is unpacked, or for a depth above 64.
+/// Others: the refusal, which is never that of a capability.
 #[unsafe(no_mangle)]
 pub extern "C" fn capn_check(
     alloc: Global,
@@ -64,6 +67,8 @@ pub extern "C" fn capn_check(
     // What each refusal means, and that no other is told so.
     ensures refused { 5 ≤ result → (e : Refusals) × Tells result report.new e
         × IsUnacceptedIn (form_named form) bytes.now (bounds_of limits.now) e }
+    // Memory is wanted only for a depth above 64, for where two segments or more end, and for what a text packs.
+    ensures wanted { result ≡ 8 → MayWantMemory (form_named form) bytes.now (bounds_of limits.now) }
     // No walk pays beyond its budget.
     ensures bounded { IsBounded limits.now.budget report.new.paid report.new.visits }
 {

@@ -1,10 +1,10 @@
 //! Packing.
 
-ghost use Rattle.std.specs.Prelude.{◌↔◌, IsTrue, ◌≡◌, ◌≢◌, ◌⊎◌, ◌≤◌, ◌%◌, ◌*◌, ℕ, List, length};
+ghost use Rattle.std.specs.Prelude.{◌↔◌, IsTrue, ◌≡◌, ◌≢◌, ◌⊎◌, ◌≤◌, ◌<◌, ◌%◌, ◌*◌, ℕ, List, length};
 ghost use Rattle.capn_pack.specs.Packs.{Packs};
 ghost use Rattle.capn_pack.specs.Chosen.{Chosen};
 ghost use Rattle.capn_pack.specs.Words.{HasWords};
-ghost use Rattle.capn_pack.specs.Refusal.{IsRefused};
+ghost use Rattle.capn_pack.specs.Refusal.{IsRefused, StartsWithin};
 ghost use Rattle.capn_pack.specs.declared.fault.UnpackFault.{UnpackFault as Faults};
 ghost use Rattle.capn_c.specs.Calls.{Delivers};
 ghost use Rattle.capn_c.specs.Codes.{answered, at_number, TellsPacked, is_status};
@@ -38,6 +38,8 @@ pub extern "C" fn capn_pack(
     // Each refusal.
     ensures whole { length bytes.now % 8 ≡ 0 → (result ≤ 1) ⊎ (result ≡ 8) }
     ensures not_whole { length bytes.now % 8 ≢ 0 → (result ≡ 16) × (report.new ≡ at_number (length bytes.now)) }
+    // Memory is wanted for some bytes only.
+    ensures wanted { result ≡ 8 → 0 < length bytes.now }
     // The report of an answer has its length alone; what no status speaks of is 0.
     ensures rest { result ≤ 1 → report.new ≡ answered report.new.length 0 0 }
     ensures blank { result ≡ 8 → report.new ≡ at_number 0 }
@@ -82,6 +84,8 @@ pub extern "C" fn capn_unpack(
     ensures listed { IsTrue (is_status result) }
     // What each refusal means, and where.
     ensures refused { 2 ≤ result → (e : Faults) × TellsPacked result report.new e × IsRefused bytes.now max_words e }
+    // Memory is wanted only where a whole group within the maximum stands first.
+    ensures wanted { result ≡ 8 → StartsWithin bytes.now max_words }
     // The report of an answer has its length alone.
     ensures rest { result ≤ 1 → report.new ≡ answered report.new.length 0 0 }
     ensures kept { result ≢ 0 → out.new ≡ out.old }

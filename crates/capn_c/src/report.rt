@@ -7,7 +7,7 @@ ghost use Rattle.capn_c.specs.Codes.{at_number, answered};
 #[derive(Clone, Copy, Debug, PartialEq, Eq)]
 #[repr(C)]
 pub struct CapnReport {
-    /// How many bytes the answer has: those that were written, or that the buffer would need.
+    /// How many bytes the answer has: those that were written, or where there is no room how many are enough.
     pub length: u64,
     /// The number of a refusal: an offset, a count or an index.
     pub at: u64,

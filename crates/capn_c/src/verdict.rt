@@ -10,7 +10,6 @@ ghost use Rattle.capn_canon.specs.Layout.{canon};
 ghost use Rattle.capn_canon.specs.Refused.{IsRefused};
 ghost use Rattle.capn_canon.specs.declared.form.Form.TheVariants as forms;
 ghost use Rattle.capn_canon.specs.declared.refusal.Refusal.{Refusal as Refusals};
-ghost use Rattle.capn_canon.specs.declared.refusal.Refusal.TheVariants as refusals;
 ghost use Rattle.capn_c.specs.Calls.{GiveLimits, IsTariff, bounds_of};
 ghost use Rattle.capn_c.specs.Codes.{Tells, at_number, is_status};
 
@@ -31,7 +30,8 @@ fn judge(alloc: Global, bytes: &[u8], limits: Limits, report: &mut CapnReport) -
     ensures blank { result ≤ 5 → report.new ≡ at_number 0 }
     ensures listed { IsTrue (is_status result) }
     ensures refused { 8 ≤ result → (e : Refusals) × Tells result report.new e
-        × IsRefused forms.Bare bytes.now limits e × (limits.depth ≤ 64 → e ≢ refusals.Memory) }
+        × IsRefused forms.Bare bytes.now limits e }
+    ensures inline { limits.depth ≤ 64 → result ≢ 8 }
     ensures bounded { IsBounded limits.budget report.new.paid report.new.visits }
 {
     *report = report_at(0);
@@ -66,9 +66,11 @@ pub extern "C" fn capn_is_canonical(
     // An answer tells nothing in the report.
     ensures blank { result ≤ 5 → report.new ≡ at_number 0 }
     ensures listed { IsTrue (is_status result) }
-    // What each refusal means, and that no other is told so. No memory is wanted for a depth of at most 64.
+    // What each refusal means, and that no other is told so.
     ensures refused { 6 ≤ result → (e : Refusals) × Tells result report.new e
-        × IsRefused forms.Bare bytes.now (bounds_of limits.now) e × (limits.now.depth ≤ 64 → e ≢ refusals.Memory) }
+        × IsRefused forms.Bare bytes.now (bounds_of limits.now) e }
+    // No memory is wanted for a depth of at most 64.
+    ensures inline { limits.now.depth ≤ 64 → result ≢ 8 }
     // No walk pays beyond its budget.
     ensures bounded { IsBounded limits.now.budget report.new.paid report.new.visits }
 {

@@ -48,3 +48,4 @@ pub mod ComparedList
 pub mod ComparedRows
 pub mod CanonicalWords
 pub mod FoundNear
+pub mod Wanted

@@ -19,3 +19,4 @@ pub mod Checks
 pub mod Draft
 pub mod Surveys
 pub mod Told
+pub mod Wanted

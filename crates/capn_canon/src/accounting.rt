@@ -1,6 +1,6 @@
 //! A survey of a message in each form.
 
-ghost use Rattle.std.specs.Prelude.{◌≡◌, ◌≤◌, ◌+◌, ◌*◌, length, IfOk, IfErr, MatchResult};
+ghost use Rattle.std.specs.Prelude.{◌≡◌, ◌≤◌, ◌+◌, ◌*◌, length, IfOk, IfErr, IsErrOf, MatchResult};
 ghost use Rattle.capn_value.specs.Tree.{Tree as Value};
 ghost use Rattle.capn_value.specs.Caps.{first_cap};
 ghost use Rattle.capn_walk.specs.Denotes.{IsBounded};
@@ -8,6 +8,7 @@ ghost use Rattle.capn_canon.specs.Denotes.{Denotes};
 ghost use Rattle.capn_canon.specs.Layout.{canon};
 ghost use Rattle.capn_canon.specs.Refused.{IsUnacceptedIn, IsPaidWithin};
 ghost use Rattle.capn_canon.specs.Surveys.{Surveys};
+ghost use Rattle.capn_canon.specs.Wanted.{MayWantMemory};
 ghost use Rattle.capn_canon.specs.declared.form.Form.TheVariants as forms;
 ghost use Rattle.capn_canon.specs.declared.refusal.Refusal.TheVariants as refusals;
 
@@ -24,6 +25,7 @@ use std::alloc::Allocator;
 fn of_bare<A: Allocator + Copy>(alloc: A, bytes: &[u8], limits: Limits) -> Result<Surveyed, Refusal>
     ensures found { IfOk result (λ s. Surveys forms.Bare bytes.now limits s) }
     ensures refused { IfErr result (λ e. IsUnacceptedIn forms.Bare bytes.now limits e) }
+    ensures wanted { IsErrOf result refusals.Memory → MayWantMemory forms.Bare bytes.now limits }
     ensures bounded { MatchResult result (λ s. IsBounded limits.budget s.paid s.visits)
         (λ e. IsPaidWithin limits.budget e) }
 {
@@ -41,6 +43,7 @@ fn of_frame<A: Allocator + Copy>(
 ) -> Result<Surveyed, Refusal>
     ensures found { IfOk result (λ s. Surveys forms.Stream bytes.now limits s) }
     ensures refused { IfErr result (λ e. IsUnacceptedIn forms.Stream bytes.now limits e) }
+    ensures wanted { IsErrOf result refusals.Memory → MayWantMemory forms.Stream bytes.now limits }
     ensures bounded { MatchResult result (λ s. IsBounded limits.budget s.paid s.visits)
         (λ e. IsPaidWithin limits.budget e) }
 {
@@ -64,6 +67,7 @@ fn of_packed<A: Allocator + Copy>(
 ) -> Result<Surveyed, Refusal>
     ensures found { IfOk result (λ s. Surveys forms.Packed bytes.now limits s) }
     ensures refused { IfErr result (λ e. IsUnacceptedIn forms.Packed bytes.now limits e) }
+    ensures wanted { IsErrOf result refusals.Memory → MayWantMemory forms.Packed bytes.now limits }
     ensures bounded { MatchResult result (λ s. IsBounded limits.budget s.paid s.visits)
         (λ e. IsPaidWithin limits.budget e) }
 {
@@ -83,6 +87,7 @@ fn in_form<A: Allocator + Copy>(
 ) -> Result<Surveyed, Refusal>
     ensures found { IfOk result (λ s. Surveys form bytes.now limits s) }
     ensures refused { IfErr result (λ e. IsUnacceptedIn form bytes.now limits e) }
+    ensures wanted { IsErrOf result refusals.Memory → MayWantMemory form bytes.now limits }
     ensures bounded { MatchResult result (λ s. IsBounded limits.budget s.paid s.visits)
         (λ e. IsPaidWithin limits.budget e) }
 {
@@ -110,6 +115,8 @@ pub fn account<A: Allocator + Copy>(
         → MatchResult result (λ s. s.capability ≡ first_cap v) (λ e. e ≡ refusals.Memory) }
     // What each refusal means.
     ensures refused { IfErr result (λ e. IsUnacceptedIn form bytes.now limits e) }
+    // Memory is wanted only for a depth above 64, for where two segments or more end, and for what a text packs.
+    ensures wanted { IsErrOf result refusals.Memory → MayWantMemory form bytes.now limits }
     // No walk pays beyond its budget.
     ensures bounded { MatchResult result (λ s. IsBounded limits.budget s.paid s.visits)
         (λ e. IsPaidWithin limits.budget e) }

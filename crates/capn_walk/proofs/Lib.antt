@@ -2,7 +2,6 @@ pub mod RootWalks
 pub mod ThreeWays
 pub mod WorkedWalks
 pub mod Framing
-pub mod Plain
 pub mod UnderWay
 pub mod CapsMet
 pub mod Exists

@@ -4,6 +4,7 @@ pub mod Elements
 pub mod Fitting
 pub mod Inside
 pub mod Judge
+pub mod Plain
 pub mod Present
 pub mod Ranges
 pub mod RowWalks
@@ -11,7 +12,7 @@ pub mod Segments
 pub mod Stops
 pub mod Unique
 pub mod Walks
-use Rattle.std.specs.Prelude.{◌≡◌, ◌↔◌, ◌⊎◌, ℕ, ◌≤◌, List, length, Ok}
+use Rattle.std.specs.Prelude.{◌≡◌, ◌≢◌, ◌↔◌, ◌⊎◌, ℕ, ◌≤◌, List, length, Ok}
 use Rattle.capn_words.specs.Message.{IsMessage, IsPlace, segment_at}
 use Rattle.capn_words.specs.declared.space.Place.{Place}
 use Rattle.capn_value.specs.Tree.{Tree, Trees, Bodies, count, count_rows}
@@ -22,6 +23,7 @@ use Rattle.capn_walk.specs.declared.target.Target.{Target}
 use Rattle.capn_walk.specs.declared.target.Target.TheVariants as targets
 use Rattle.capn_walk.specs.declared.target.Shape.{Shape}
 use Rattle.capn_walk.specs.declared.target.Fault.{Fault}
+use Rattle.capn_walk.specs.declared.target.Fault.TheVariants as faults
 use Rattle.capn_walk.specs.Target.{target}
 use Rattle.capn_walk.specs.Visits.{Visit}
 use Rattle.capn_walk.specs.Accepted.{IsWithin, IsStop}
@@ -97,6 +99,11 @@ Decided = (budget : ℕ) (vs : List Visit) → IsWithin budget vs
 abbrev pub StopsAreOne : Type 0
 StopsAreOne = (budget : ℕ) (vs : List Visit) (e f : Fault) (at to : Place) (p q k j : ℕ)
     → IsStop budget vs e at p k → IsStop budget vs f to q j → (e ≡ f) × (at ≡ to) × (p ≡ q) × (k ≡ j)
+
+-- a message is refused for what it says, never for want of memory
+abbrev pub RefusedForTheirWords : Type 0
+RefusedForTheirWords = (message : List (List ℕ)) (limits : Bounds) (fault : Fault) (at : Place) (paid visits : ℕ)
+    → IsRefused message limits fault at paid visits → fault ≢ faults.Memory
 
 -- the pointer at a place names content exactly by one of three ways: near, by a pad of one word, by a pad of two
 abbrev pub ContentByThreeWays : Type 0

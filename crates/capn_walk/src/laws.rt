@@ -34,8 +34,10 @@ pub fn targets()
 {}
 
 /// No message is both accepted and refused. Visits are within a budget, or have a first one that isn't, which is one.
+/// A message is refused for what it says, never for want of memory.
 pub fn verdicts()
     ensures apart { laws.Apart }
     ensures decided { laws.Decided }
     ensures one { laws.StopsAreOne }
+    ensures their_words { laws.RefusedForTheirWords }
 {}

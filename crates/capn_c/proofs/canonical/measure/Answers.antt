@@ -1,8 +1,9 @@
 -- A survey tells a price and a length that is enough; a value without capabilities is refused for want of memory alone.
-use Rattle.std.proofs.Common.{inl, ap, sym, refl, ◌∙◌, arith}
+use Rattle.std.proofs.Common.{inl, ap, sym, refl, ◌∙◌, arith, Err}
 use Rattle.capn_canon.specs.Layout.{canon}
 use Rattle.capn_c.specs.declared.report.CapnReport.{CapnReport}
 use Rattle.capn_c.specs.Codes.{code}
+use Rattle.capn_c.proofs.OutOfMemory.{unaccepted_memory}
 use Rattle.capn_c.proofs.canonical.measure.Goals as goal
 
 pub returns-in-None-clause-found : goal.returns-in-None-clause-found
@@ -30,3 +31,10 @@ returns-in-None-clause-found c t =
 
 pub returns-in-Err-clause-only : goal.returns-in-Err-clause-only
 returns-in-Err-clause-only c v d n = inl (c.refuse-in-Err.ensures.status_is ∙ ap code (c.in-Err.ensures.only v d))
+
+pub returns-in-Err-clause-wanted : goal.returns-in-Err-clause-wanted
+returns-in-Err-clause-wanted c e =
+    c.in-Err.ensures.wanted
+    (ap Err
+    (unaccepted_memory c.args.form c.args.bytes.now c.args.limits c.in-Err.refusal c.in-Err.ensures.refused
+    (sym c.refuse-in-Err.ensures.status_is ∙ e)))

@@ -1,7 +1,15 @@
 -- A refusal of what is accepted is want of memory, whose status is 8.
-use Rattle.std.proofs.Common.{inr, ap, ◌∙◌}
+use Rattle.std.proofs.Common.{inr, ap, sym, ◌∙◌, Err}
 use Rattle.capn_c.specs.Codes.{code}
+use Rattle.capn_c.proofs.OutOfMemory.{unaccepted_memory}
 use Rattle.capn_c.proofs.checking.check.Goals as goal
 
 pub returns-in-Err-clause-only : goal.returns-in-Err-clause-only
 returns-in-Err-clause-only c v d = inr (c.refuse.ensures.status_is ∙ ap code (c.in-Err.ensures.only v d))
+
+pub returns-in-Err-clause-wanted : goal.returns-in-Err-clause-wanted
+returns-in-Err-clause-wanted c e =
+    c.in-Err.ensures.wanted
+    (ap Err
+    (unaccepted_memory c.args.form c.args.bytes.now c.args.limits c.in-Err.refusal c.in-Err.ensures.refused
+    (sym c.refuse.ensures.status_is ∙ e)))

@@ -1,4 +1,5 @@
 use Rattle.capn_walk.proofs.Answering.{apart, one-stop}
+use Rattle.capn_walk.specs.Laws.Plain.{plain-refusal}
 use Rattle.capn_walk.specs.Laws.Stops.{decided}
 use Rattle.capn_walk.proofs.laws.verdicts.Goals as goal
 
@@ -10,3 +11,6 @@ returns-clause-decided c = decided
 
 pub returns-clause-one : goal.returns-clause-one
 returns-clause-one c = one-stop
+
+pub returns-clause-their_words : goal.returns-clause-their_words
+returns-clause-their_words c = plain-refusal

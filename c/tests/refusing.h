@@ -1,0 +1,37 @@
+/* An allocator that refuses: link with -Wl,--wrap=malloc,--wrap=realloc,--wrap=free. */
+#ifndef CAPN_TESTS_REFUSING_H
+#define CAPN_TESTS_REFUSING_H
+#include <stdlib.h>
+
+void *__real_malloc(size_t size);
+void *__real_realloc(void *old, size_t size);
+void __real_free(void *block);
+
+/* How many growths are let through before each one is refused, or -1 where none is; how many were asked for; and how
+ * many blocks there are. */
+static long left = -1, asked, live;
+
+static int refuses(void) {
+    asked++;
+    if (left == 0) return 1;
+    if (left > 0) left--;
+    return 0;
+}
+
+void *__wrap_malloc(size_t size) {
+    void *block = refuses() ? NULL : __real_malloc(size);
+    if (block) live++;
+    return block;
+}
+
+void *__wrap_realloc(void *old, size_t size) {
+    void *block = refuses() ? NULL : __real_realloc(old, size);
+    if (!old && block) live++;
+    return block;
+}
+
+void __wrap_free(void *block) {
+    if (block) live--;
+    __real_free(block);
+}
+#endif

@@ -1,0 +1,78 @@
+-- The status 8 tells want of memory alone: no bytes, and no message, are refused by themselves so.
+use Rattle.std.proofs.Common.{◌≡◌, ℕ, List, refl, ◌≢◌, arith}
+use Rattle.capn_words.specs.declared.bare.BareFault.{BareFault}
+use Rattle.capn_words.specs.declared.bare.BareFault.TheVariants as bare
+use Rattle.capn_pack.specs.declared.fault.UnpackFault.{UnpackFault}
+use Rattle.capn_pack.specs.declared.fault.UnpackFault.TheVariants as packed
+use Rattle.capn_stream.specs.declared.fault.FrameFault.{FrameFault}
+use Rattle.capn_stream.specs.declared.fault.FrameFault.TheVariants as frame
+use Rattle.capn_walk.specs.declared.target.Fault.{Fault}
+use Rattle.capn_walk.specs.declared.target.Fault.TheVariants as walk
+use Rattle.capn_walk.specs.Limits.{Bounds}
+use Rattle.capn_walk.specs.Laws.Plain.{plain-refusal}
+use Rattle.capn_canon.specs.declared.form.Form.{Form}
+use Rattle.capn_canon.specs.declared.form.Form.TheVariants as forms
+use Rattle.capn_canon.specs.declared.refusal.Refusal.{Refusal}
+use Rattle.capn_canon.specs.declared.refusal.Refusal.TheVariants as refusals
+use Rattle.capn_canon.specs.Refused.{IsMisframed, IsRefused, IsUnacceptedIn}
+use Rattle.capn_c.specs.Codes.{bare_code, packed_code, frame_code, walk_code, code}
+
+-- of packed bytes
+pub packed_memory : (e : UnpackFault) → packed_code e ≡ 8 → e ≡ packed.Memory
+packed_memory packed.Memory h = refl
+packed_memory (packed.Cut at) h = absurd (omega arith)
+packed_memory (packed.TooLong at) h = absurd (omega arith)
+packed_memory packed.Failed h = absurd (omega arith)
+
+frame_memory : (e : FrameFault) → frame_code e ≡ 8 → e ≡ frame.Memory
+frame_memory frame.Memory h = refl
+frame_memory frame.Empty h = absurd (omega arith)
+frame_memory (frame.TooManySegments n) h = absurd (omega arith)
+frame_memory (frame.TooManyWords n) h = absurd (omega arith)
+frame_memory frame.Cut h = absurd (omega arith)
+frame_memory frame.Failed h = absurd (omega arith)
+
+walk_memory : (e : Fault) → walk_code e ≡ 8 → e ≡ walk.Memory
+walk_memory walk.Memory h = refl
+walk_memory walk.NoRoot h = absurd (omega arith)
+walk_memory walk.RootKind h = absurd (omega arith)
+walk_memory walk.Reserved h = absurd (omega arith)
+walk_memory walk.NoSegment h = absurd (omega arith)
+walk_memory walk.PadRange h = absurd (omega arith)
+walk_memory walk.BadPad h = absurd (omega arith)
+walk_memory walk.Range h = absurd (omega arith)
+walk_memory walk.BadTag h = absurd (omega arith)
+walk_memory walk.TagOverrun h = absurd (omega arith)
+walk_memory walk.TooDeep h = absurd (omega arith)
+walk_memory walk.OverBudget h = absurd (omega arith)
+
+never_bare : (e : BareFault) → bare_code e ≡ 8 → ⊥
+never_bare (bare.NotWhole n) h = omega arith
+never_bare (bare.TooLong n) h = omega arith
+
+-- of a refusal of bytes
+pub refused_memory : (form : Form) (bs : List ℕ) (l : Bounds) (r : Refusal) → IsRefused form bs l r → code r ≡ 8
+    → r ≡ refusals.Memory
+refused_memory form bs l refusals.Memory h c = refl
+refused_memory form bs l (refusals.Walk s) (m, i, h) c =
+    absurd (plain-refusal m l s.fault s.place s.paid s.visits h (walk_memory s.fault c))
+refused_memory form bs l (refusals.Capability k) h c = absurd (omega arith)
+refused_memory form bs l (refusals.Trailing at) h c = absurd (omega arith)
+refused_memory form bs l (refusals.Bare e) h c = absurd (never_bare e c)
+refused_memory forms.Bare bs l (refusals.Packed e) h c = absurd h
+refused_memory forms.Stream bs l (refusals.Packed e) h c = absurd h
+refused_memory forms.Packed bs l (refusals.Packed e) h c = absurd (h.0 (packed_memory e c))
+refused_memory forms.Bare bs l (refusals.Frame e) h c = absurd h
+refused_memory forms.Stream bs l (refusals.Frame e) h c = absurd (h.0 (frame_memory e c))
+refused_memory forms.Packed bs l (refusals.Frame e) h c = absurd (h.2.0 (frame_memory e c))
+
+-- and of bytes that are not accepted
+pub unaccepted_memory : (form : Form) (bs : List ℕ) (l : Bounds) (r : Refusal) → IsUnacceptedIn form bs l r
+    → code r ≡ 8 → r ≡ refusals.Memory
+unaccepted_memory form bs l (refusals.Capability k) h c = absurd h
+unaccepted_memory form bs l refusals.Memory h c = refl
+unaccepted_memory form bs l (refusals.Walk s) h c = refused_memory form bs l (refusals.Walk s) h c
+unaccepted_memory form bs l (refusals.Trailing at) h c = refused_memory form bs l (refusals.Trailing at) h c
+unaccepted_memory form bs l (refusals.Bare e) h c = refused_memory form bs l (refusals.Bare e) h c
+unaccepted_memory form bs l (refusals.Packed e) h c = refused_memory form bs l (refusals.Packed e) h c
+unaccepted_memory form bs l (refusals.Frame e) h c = refused_memory form bs l (refusals.Frame e) h c

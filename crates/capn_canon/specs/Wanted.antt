@@ -1,0 +1,20 @@
+-- Where memory may be wanted to survey a message. (Own.)
+use Rattle.std.specs.Prelude.{◌⊎◌, ℕ, ◌+◌, ◌<◌, List}
+use Rattle.capn_pack.specs.Refusal.{StartsWithin}
+use Rattle.capn_stream.specs.Frames.{most_table_words}
+use Rattle.capn_stream.specs.Reading.{HasTable}
+use Rattle.capn_walk.specs.Limits.{Bounds}
+use Rattle.capn_canon.specs.declared.form.Form.{Form}
+use Rattle.capn_canon.specs.declared.form.Form.TheVariants as forms
+use Rattle.capn_canon.specs.Reads.{Reads}
+
+-- the bytes are read as a message, which may be more than 64 objects deep
+abbrev pub MayBeDeep : Form → List ℕ → Bounds → Type 0
+MayBeDeep form bs limits = (64 < limits.depth) × (message : List (List ℕ)) × Reads form bs limits.message_words message
+
+-- memory may be wanted: of bare words, where they may be so deep; of a stream, there, and where a whole frame of two
+-- segments or more stands first; of a packed text, only where a whole group within the maximum stands first
+abbrev pub MayWantMemory : Form → List ℕ → Bounds → Type 0
+MayWantMemory forms.Bare bs limits = MayBeDeep forms.Bare bs limits
+MayWantMemory forms.Stream bs limits = HasTable bs limits.message_words ⊎ MayBeDeep forms.Stream bs limits
+MayWantMemory forms.Packed bs limits = StartsWithin bs (limits.message_words + most_table_words)
