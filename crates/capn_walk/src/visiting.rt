@@ -26,6 +26,7 @@ use std::alloc::Allocator;
 /// beside its size.
 #[cycle(walk)]
 #[tactic(auto, using(std::proofs::lemmas::Grind::common_steps))]
+#[inline(always)]
 fn walk_slot<S: Space, A: Allocator + Copy>(
     alloc: A,
     space: &S,
@@ -50,6 +51,7 @@ fn walk_slot<S: Space, A: Allocator + Copy>(
 /// What a slot denotes whose target is known. Its price is paid before anything of its content is read.
 #[cycle(walk)]
 #[tactic(auto, using(std::proofs::lemmas::Grind::common_steps))]
+#[inline(always)]
 pub fn walk_target<S: Space, A: Allocator + Copy>(
     alloc: A,
     space: &S,
@@ -110,6 +112,7 @@ pub fn walk_target<S: Space, A: Allocator + Copy>(
 /// The object of the slot at a place, with what is below it. Its own price has been paid.
 #[cycle(walk)]
 #[tactic(auto, using(std::proofs::lemmas::Grind::common_steps))]
+#[inline(always)]
 fn object<S: Space, A: Allocator + Copy>(
     alloc: A,
     space: &S,
@@ -196,6 +199,7 @@ fn object<S: Space, A: Allocator + Copy>(
 /// So many slots that stand one behind the other.
 #[cycle(walk)]
 #[tactic(auto, using(std::proofs::lemmas::Grind::common_steps))]
+#[inline(never)]
 fn walk_slots<S: Space, A: Allocator + Copy>(
     alloc: A,
     space: &S,
@@ -251,6 +255,7 @@ fn walk_slots<S: Space, A: Allocator + Copy>(
 /// So many rows of the same sizes that stand one behind the other.
 #[cycle(walk)]
 #[tactic(auto, using(std::proofs::lemmas::Grind::common_steps))]
+#[inline(never)]
 fn walk_rows<S: Space, A: Allocator + Copy>(
     alloc: A,
     space: &S,
