@@ -3,6 +3,7 @@ pub mod ThreeWays
 pub mod WorkedWalks
 pub mod Framing
 pub mod Plain
+pub mod Reading
 pub mod UnderWay
 pub mod CapsMet
 pub mod Exists
