@@ -4,6 +4,7 @@ pub mod WorkedWalks
 pub mod Framing
 pub mod Plain
 pub mod Reading
+pub mod Room
 pub mod UnderWay
 pub mod CapsMet
 pub mod Exists

@@ -221,7 +221,7 @@ fn walk_slots<S: Space, A: Allocator + Copy>(
     ensures refused { IfErr result (λ s. Refuses left
         (visits_of (S.message space.now) base depth (places segment start count)) count s) }
 {
-    let Ok(mut items) = Items::with_capacity(alloc, count as usize) else {
+    let Ok(mut slots) = Vec::with_capacity(alloc, count as usize) else {
         return Err(out_of_memory(Place {
             segment,
             word: start,
@@ -238,15 +238,13 @@ fn walk_slots<S: Space, A: Allocator + Copy>(
             Ok(found) => {
                 paid += found.paid;
                 visits += found.visits;
-                let Ok(()) = items.push(found.value) else {
-                    return Err(out_of_memory(at).behind(paid, visits));
-                };
+                slots.push_reserved(found.value);
             }
             Err(stopped) => return Err(stopped.behind(paid, visits)),
         }
     }
     Ok(FoundSlots {
-        items,
+        items: Items::from_vec(slots),
         paid,
         visits,
     })
@@ -284,7 +282,7 @@ fn walk_rows<S: Space, A: Allocator + Copy>(
         (count * slots) s) }
 {
     let segment = start.segment;
-    let Ok(mut rows) = Items::with_capacity(alloc, count as usize) else {
+    let Ok(mut rows) = Vec::with_capacity(alloc, count as usize) else {
         return Err(out_of_memory(start));
     };
     let mut paid = 0;
@@ -316,13 +314,15 @@ fn walk_rows<S: Space, A: Allocator + Copy>(
                     words: data,
                     slots: below.items,
                 };
-                let Ok(()) = rows.push(body) else {
-                    return Err(out_of_memory(at).behind(paid, visits));
-                };
+                rows.push_reserved(body);
             }
             Err(stopped) => return Err(stopped.behind(paid, visits)),
         }
         next = first + slots as u32;
     }
-    Ok(FoundRows { rows, paid, visits })
+    Ok(FoundRows {
+        rows: Items::from_vec(rows),
+        paid,
+        visits,
+    })
 }
