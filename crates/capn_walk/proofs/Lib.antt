@@ -2,6 +2,8 @@ pub mod RootWalks
 pub mod ThreeWays
 pub mod WorkedWalks
 pub mod Framing
+pub mod Reading
+pub mod Room
 pub mod UnderWay
 pub mod CapsMet
 pub mod Exists

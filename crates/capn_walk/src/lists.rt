@@ -54,8 +54,11 @@ pub fn words_at<S: Space, A: Allocator>(
     ensures words { IfOk result (λ ws. take count (words_from (S.message space.now) at.segment at.word) ≡ ws) }
 {
     let count = count as usize;
-    let mut words = vec![in alloc; 0u64; count]?;
-    LittleEndian::read_u64_into(space.bytes(at, 8 * count), &mut words);
+    let bytes = space.bytes(at, 8 * count);
+    let mut words = Vec::with_capacity(alloc, count)?;
+    for i in 0..count {
+        words.push_reserved(LittleEndian::read_u64(&bytes[8 * i..]));
+    }
     Ok(Items::from_vec(words))
 }
 
@@ -72,8 +75,11 @@ fn quads_at<S: Space, A: Allocator>(
         AreElements 2 32 (words_from (S.message space.now) at.segment at.word) xs) }
 {
     let count = count as usize;
-    let mut quads = vec![in alloc; 0u32; count]?;
-    LittleEndian::read_u32_into(space.bytes(at, 4 * count), &mut quads);
+    let bytes = space.bytes(at, 4 * count);
+    let mut quads = Vec::with_capacity(alloc, count)?;
+    for i in 0..count {
+        quads.push_reserved(LittleEndian::read_u32(&bytes[4 * i..]));
+    }
     Ok(Items::from_vec(quads))
 }
 
@@ -90,8 +96,11 @@ fn pairs_at<S: Space, A: Allocator>(
         AreElements 4 16 (words_from (S.message space.now) at.segment at.word) xs) }
 {
     let count = count as usize;
-    let mut pairs = vec![in alloc; 0u16; count]?;
-    LittleEndian::read_u16_into(space.bytes(at, 2 * count), &mut pairs);
+    let bytes = space.bytes(at, 2 * count);
+    let mut pairs = Vec::with_capacity(alloc, count)?;
+    for i in 0..count {
+        pairs.push_reserved(LittleEndian::read_u16(&bytes[2 * i..]));
+    }
     Ok(Items::from_vec(pairs))
 }
 
@@ -127,7 +136,7 @@ fn bits_at<S: Space, A: Allocator>(
     let bytes = space.bytes(at, count.div_ceil(8));
     let mut bits = Vec::with_capacity(alloc, count)?;
     for i in 0..count {
-        bits.push(bit_of(bytes[i / 8], i % 8))?;
+        bits.push_reserved(bit_of(bytes[i / 8], i % 8));
     }
     Ok(Items::from_vec(bits))
 }

@@ -26,6 +26,7 @@ use std::alloc::Allocator;
 /// beside its size.
 #[cycle(walk)]
 #[tactic(auto, using(std::proofs::lemmas::Grind::common_steps))]
+#[inline(always)]
 fn walk_slot<S: Space, A: Allocator + Copy>(
     alloc: A,
     space: &S,
@@ -50,6 +51,7 @@ fn walk_slot<S: Space, A: Allocator + Copy>(
 /// What a slot denotes whose target is known. Its price is paid before anything of its content is read.
 #[cycle(walk)]
 #[tactic(auto, using(std::proofs::lemmas::Grind::common_steps))]
+#[inline(always)]
 pub fn walk_target<S: Space, A: Allocator + Copy>(
     alloc: A,
     space: &S,
@@ -110,6 +112,7 @@ pub fn walk_target<S: Space, A: Allocator + Copy>(
 /// The object of the slot at a place, with what is below it. Its own price has been paid.
 #[cycle(walk)]
 #[tactic(auto, using(std::proofs::lemmas::Grind::common_steps))]
+#[inline(always)]
 fn object<S: Space, A: Allocator + Copy>(
     alloc: A,
     space: &S,
@@ -196,6 +199,7 @@ fn object<S: Space, A: Allocator + Copy>(
 /// So many slots that stand one behind the other.
 #[cycle(walk)]
 #[tactic(auto, using(std::proofs::lemmas::Grind::common_steps))]
+#[inline(never)]
 fn walk_slots<S: Space, A: Allocator + Copy>(
     alloc: A,
     space: &S,
@@ -217,7 +221,7 @@ fn walk_slots<S: Space, A: Allocator + Copy>(
     ensures refused { IfErr result (λ s. Refuses left
         (visits_of (S.message space.now) base depth (places segment start count)) count s) }
 {
-    let Ok(mut items) = Items::with_capacity(alloc, count as usize) else {
+    let Ok(mut slots) = Vec::with_capacity(alloc, count as usize) else {
         return Err(out_of_memory(Place {
             segment,
             word: start,
@@ -234,15 +238,13 @@ fn walk_slots<S: Space, A: Allocator + Copy>(
             Ok(found) => {
                 paid += found.paid;
                 visits += found.visits;
-                let Ok(()) = items.push(found.value) else {
-                    return Err(out_of_memory(at).behind(paid, visits));
-                };
+                slots.push_reserved(found.value);
             }
             Err(stopped) => return Err(stopped.behind(paid, visits)),
         }
     }
     Ok(FoundSlots {
-        items,
+        items: Items::from_vec(slots),
         paid,
         visits,
     })
@@ -251,6 +253,7 @@ fn walk_slots<S: Space, A: Allocator + Copy>(
 /// So many rows of the same sizes that stand one behind the other.
 #[cycle(walk)]
 #[tactic(auto, using(std::proofs::lemmas::Grind::common_steps))]
+#[inline(never)]
 fn walk_rows<S: Space, A: Allocator + Copy>(
     alloc: A,
     space: &S,
@@ -279,7 +282,7 @@ fn walk_rows<S: Space, A: Allocator + Copy>(
         (count * slots) s) }
 {
     let segment = start.segment;
-    let Ok(mut rows) = Items::with_capacity(alloc, count as usize) else {
+    let Ok(mut rows) = Vec::with_capacity(alloc, count as usize) else {
         return Err(out_of_memory(start));
     };
     let mut paid = 0;
@@ -311,13 +314,15 @@ fn walk_rows<S: Space, A: Allocator + Copy>(
                     words: data,
                     slots: below.items,
                 };
-                let Ok(()) = rows.push(body) else {
-                    return Err(out_of_memory(at).behind(paid, visits));
-                };
+                rows.push_reserved(body);
             }
             Err(stopped) => return Err(stopped.behind(paid, visits)),
         }
         next = first + slots as u32;
     }
-    Ok(FoundRows { rows, paid, visits })
+    Ok(FoundRows {
+        rows: Items::from_vec(rows),
+        paid,
+        visits,
+    })
 }

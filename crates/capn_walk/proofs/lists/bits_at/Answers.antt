@@ -18,8 +18,9 @@ loop-i-preserved g c =
     let bit = is-bit (g.S.Space.message c.args.space.now) c.args.at c.div_ceil.result c.bytes-bytes.result.now
     c.bytes-bytes.ensures (omega arith) c.loop-i.i (omega arith) in
     record {
-      number = let more = c.in_ok-push.ensures.len in let so_far = c.loop-i.invariant.number in omega arith;
+      number = let more = c.push_reserved.ensures.len in let so_far = c.loop-i.invariant.number in omega arith;
+      room = c.push_reserved.ensures.capacity ∙ c.loop-i.invariant.room;
       elements = bits-more (words_from (g.S.Space.message c.args.space.now) c.args.at.segment c.args.at.word) c.loop-i.i
           c.loop-i.bits.items _ c.bit_of.result
-          c.in_ok-push.ensures.items c.loop-i.invariant.number c.loop-i.invariant.elements (c.bit_of.ensures ∙ bit);
+          c.push_reserved.ensures.items c.loop-i.invariant.number c.loop-i.invariant.elements (c.bit_of.ensures ∙ bit);
     }

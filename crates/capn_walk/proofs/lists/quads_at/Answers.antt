@@ -1,25 +1,47 @@
-use Rattle.std.proofs.Common.{◌*◌, ◌∙◌, arith}
-use Rattle.std.proofs.lemmas.List.{take_at}
+use Rattle.std.proofs.Common.{◌≡◌, ◌*◌, arith, length, ◌∙◌}
+use Rattle.byteorder.specs.Endian.{little_number}
 use Rattle.capn_walk.specs.Laws.Elements.{length-read, are-quads}
+use Rattle.capn_walk.proofs.Reading.{rest-holds, read-more}
 use Rattle.capn_walk.proofs.lists.quads_at.Goals as goal
 
-pub read_u32_into-requires : goal.read_u32_into-requires
-read_u32_into-requires g c =
+pub slice_bounds-read_u32-count : goal.slice_bounds-read_u32-count
+slice_bounds-read_u32-count g c =
     let inside = c.requires.content.within in
-    let size = length-read (g.S.Space.message c.args.space.now) c.args.at (4 * c.args.count) c.bytes.result.now
-    c.bytes.ensures (omega arith) in
-    let made = c.in_ok-quads.ensures.len in
-    let lent = c.deref_mut.ensures.len in
+    let size = length-read (g.S.Space.message c.args.space.now) c.args.at (4 * c.args.count) c.bytes-bytes.result.now
+    c.bytes-bytes.ensures (omega arith) in
     omega arith
+
+pub slice_bounds-read_u32-start : goal.slice_bounds-read_u32-start
+slice_bounds-read_u32-start g c =
+    let inside = c.requires.content.within in
+    let size = length-read (g.S.Space.message c.args.space.now) c.args.at (4 * c.args.count) c.bytes-bytes.result.now
+    c.bytes-bytes.ensures (omega arith) in
+    omega arith
+
+pub read_u32-requires : goal.read_u32-requires
+read_u32-requires g c =
+    let inside = c.requires.content.within in
+    let size = length-read (g.S.Space.message c.args.space.now) c.args.at (4 * c.args.count) c.bytes-bytes.result.now
+    c.bytes-bytes.ensures (omega arith) in
+    rest-holds 4 (4 * c.loop-i.i) c.bytes-bytes.result.now (omega arith)
+
+pub loop-i-preserved : goal.loop-i-preserved
+loop-i-preserved g c =
+    let more = c.push_reserved.ensures in
+    let so_far = c.loop-i.invariant.number in
+    record {
+      number = let a = more.len in omega arith;
+      room = more.capacity ∙ c.loop-i.invariant.room;
+      read = read-more little_number 4 c.loop-i.i c.bytes-bytes.result.now c.loop-i.quads.items _ c.read_u32.result
+          more.items so_far c.loop-i.invariant.read c.read_u32.ensures;
+    }
 
 pub returns-clause-elements : goal.returns-clause-elements
 returns-clause-elements g c =
     let inside = c.requires.content.within in
-    let made = c.in_ok-quads.ensures.len in
-    let lent = c.deref_mut.ensures.len in
-    let kept = c.read_u32_into.auto.dst in
-    let read = are-quads (g.S.Space.message c.args.space.now) c.args.at (4 * c.args.count) c.bytes.result.now
-    c.bytes.ensures (omega arith)
-    c.read_u32_into.new.dst (omega arith) c.read_u32_into.ensures in
-    let same = c.from_vec.ensures ∙ take_at c.read_u32_into.new.dst _ c.in_ok-quads.quads.len (omega arith) in
-    rw same read
+    let so_far = c.loop-i.invariant.number in
+    let number : length c.loop-i.quads.items ≡ c.args.count = omega arith in
+    let read = are-quads (g.S.Space.message c.args.space.now) c.args.at (4 * c.args.count) c.bytes-bytes.result.now
+    c.bytes-bytes.ensures (omega arith) c.loop-i.quads.items
+    (omega arith) c.loop-i.invariant.read in
+    rw (c.from_vec.ensures) read

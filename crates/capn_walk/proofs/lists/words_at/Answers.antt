@@ -1,26 +1,47 @@
-use Rattle.std.proofs.Common.{◌≡◌, ◌*◌, ◌∙◌, arith, length}
-use Rattle.std.proofs.lemmas.List.{take_at}
+use Rattle.std.proofs.Common.{◌≡◌, ◌*◌, arith, length, ◌∙◌}
+use Rattle.byteorder.specs.Endian.{little_number}
 use Rattle.capn_walk.specs.Laws.Elements.{length-read, are-words}
+use Rattle.capn_walk.proofs.Reading.{rest-holds, read-more}
 use Rattle.capn_walk.proofs.lists.words_at.Goals as goal
 
-pub read_u64_into-requires : goal.read_u64_into-requires
-read_u64_into-requires g c =
+pub slice_bounds-read_u64-count : goal.slice_bounds-read_u64-count
+slice_bounds-read_u64-count g c =
     let inside = c.requires.content.within in
-    let size = length-read (g.S.Space.message c.args.space.now) c.args.at (8 * c.args.count) c.bytes.result.now
-    c.bytes.ensures (omega arith) in
-    let made = c.in_ok-words.ensures.len in
-    let lent = c.deref_mut.ensures.len in
+    let size = length-read (g.S.Space.message c.args.space.now) c.args.at (8 * c.args.count) c.bytes-bytes.result.now
+    c.bytes-bytes.ensures (omega arith) in
     omega arith
+
+pub slice_bounds-read_u64-start : goal.slice_bounds-read_u64-start
+slice_bounds-read_u64-start g c =
+    let inside = c.requires.content.within in
+    let size = length-read (g.S.Space.message c.args.space.now) c.args.at (8 * c.args.count) c.bytes-bytes.result.now
+    c.bytes-bytes.ensures (omega arith) in
+    omega arith
+
+pub read_u64-requires : goal.read_u64-requires
+read_u64-requires g c =
+    let inside = c.requires.content.within in
+    let size = length-read (g.S.Space.message c.args.space.now) c.args.at (8 * c.args.count) c.bytes-bytes.result.now
+    c.bytes-bytes.ensures (omega arith) in
+    rest-holds 8 (8 * c.loop-i.i) c.bytes-bytes.result.now (omega arith)
+
+pub loop-i-preserved : goal.loop-i-preserved
+loop-i-preserved g c =
+    let more = c.push_reserved.ensures in
+    let so_far = c.loop-i.invariant.number in
+    record {
+      number = let a = more.len in omega arith;
+      room = more.capacity ∙ c.loop-i.invariant.room;
+      read = read-more little_number 8 c.loop-i.i c.bytes-bytes.result.now c.loop-i.words.items _ c.read_u64.result
+          more.items so_far c.loop-i.invariant.read c.read_u64.ensures;
+    }
 
 pub returns-clause-words : goal.returns-clause-words
 returns-clause-words g c =
     let inside = c.requires.content.within in
-    let made = c.in_ok-words.ensures.len in
-    let lent = c.deref_mut.ensures.len in
-    let kept = c.read_u64_into.auto.dst in
-    let number : length c.read_u64_into.new.dst ≡ c.args.count = omega arith in
-    let read = are-words (g.S.Space.message c.args.space.now) c.args.at (8 * c.args.count) c.bytes.result.now
-    c.bytes.ensures (omega arith)
-    c.read_u64_into.new.dst (c.requires.message.each c.args.at.segment) (omega arith) c.read_u64_into.ensures in
-    let same = c.from_vec.ensures ∙ take_at c.read_u64_into.new.dst _ c.in_ok-words.words.len (omega arith) in
-    rw (same, ← number) read
+    let so_far = c.loop-i.invariant.number in
+    let number : length c.loop-i.words.items ≡ c.args.count = omega arith in
+    let read = are-words (g.S.Space.message c.args.space.now) c.args.at (8 * c.args.count) c.bytes-bytes.result.now
+    c.bytes-bytes.ensures (omega arith) c.loop-i.words.items (c.requires.message.each c.args.at.segment)
+    (omega arith) c.loop-i.invariant.read in
+    rw (c.from_vec.ensures, ← number) read

@@ -1,4 +1,4 @@
-use Rattle.std.proofs.Common.{rules, ◌≡◌, ℕ, suc, ◌+◌, ◌*◌, ◌^◌, ◌≤◌, Ok, Err, arith, ap, sym, subst, ◌∙◌, inl, refl}
+use Rattle.std.proofs.Common.{rules, ◌≡◌, ℕ, suc, ◌+◌, ◌*◌, ◌^◌, ◌≤◌, Ok, Err, arith, ap, sym, subst, ◌∙◌}
 use Rattle.capn_value.specs.View.{trees_of, rows_of}
 use Rattle.capn_value.specs.Views.{tree_of-Nil, tree_of-Cap}
 use Rattle.capn_words.specs.declared.pointer.Width.{Width}
@@ -17,6 +17,7 @@ use Rattle.capn_walk.specs.Laws.Walks.{gives-next, refuses-next, at-next, count-
 use Rattle.capn_walk.specs.Laws.Walks.{visits-fault, gives-object, refuses-object, refuses-here, gives-nothing}
 use Rattle.capn_walk.specs.Laws.Walks.{inside-struct, inside-links, inside-rows}
 use Rattle.capn_walk.specs.Laws.RowWalks.{one-more, row-inside, rows-give, rows-refuse, rows_at-step, count_rows-next}
+use Rattle.capn_walk.proofs.Room.{room-of}
 use Rattle.capn_walk.proofs.Stepped.{stepped-memory, step-refuses, content-taken}
 use Rattle.capn_walk.proofs.visiting.+walk.Goals as goal
 
@@ -190,9 +191,19 @@ object-returns-in_ok-below-in-Rows-clause-value g t c =
 
 -- ---- slots
 
+pub walk_slots-overflow_add-at : goal.walk_slots-overflow_add-at
+walk_slots-overflow_add-at g t c =
+    let room = room-of (g.S.Space.message c.args.space.now) c.args.segment c.requires.message in
+    omega arith
+
+pub walk_slots-returns-clause-pays : goal.walk_slots-returns-clause-pays
+walk_slots-returns-clause-pays g t c =
+    let e : c.loop-i.i ≡ c.args.count = omega arith in
+    rw (← e) c.loop-i.invariant.pays
+
 pub walk_slots-returns-in-Err-clause-refused : goal.walk_slots-returns-in-Err-clause-refused
 walk_slots-returns-in-Err-clause-refused g t c =
-    rw c.behind-in-Err.ensures
+    rw c.behind.ensures
     (refuses-next (visits (g.S.Space.message c.args.space.now) c.args.base c.args.depth) c.args.segment c.args.start
     c.args.left c.loop-i.i c.args.count c.loop-i.paid c.loop-i.visits
     c.in-Err.stopped c.loop-i-test.true c.loop-i.invariant.pays c.in-Err.ensures.refused)
@@ -200,18 +211,21 @@ walk_slots-returns-in-Err-clause-refused g t c =
 pub walk_slots-loop-i-preserved : goal.walk_slots-loop-i-preserved
 walk_slots-loop-i-preserved g t c =
     let e = c.loop-i.invariant.number in
+    let pushed = c.push_reserved.ensures in
     record {
       pays = gives-next (visits (g.S.Space.message c.args.space.now) c.args.base c.args.depth) c.args.segment
           c.args.start c.args.left c.loop-i.i c.loop-i.paid c.loop-i.visits
           c.in-Ok-walk_slot.found.paid c.in-Ok-walk_slot.found.visits c.loop-i.invariant.pays
           c.in-Ok-walk_slot.ensures.pays;
-      value = rw c.in-Ok-push.ensures.ok
-          (at-next (g.S.Space.message c.args.space.now) c.args.segment c.args.start c.loop-i.items
+      value = rw pushed.items
+          (at-next (g.S.Space.message c.args.space.now) c.args.segment c.args.start c.loop-i.slots.items
           c.in-Ok-walk_slot.found.value
           c.loop-i.invariant.value (rw e c.in-Ok-walk_slot.ensures.value));
-      number = rw c.in-Ok-push.ensures.ok
-          (count-next (g.S.Space.message c.args.space.now) c.loop-i.items c.in-Ok-walk_slot.found.value
+      number = rw pushed.items
+          (count-next (g.S.Space.message c.args.space.now) c.loop-i.slots.items c.in-Ok-walk_slot.found.value
           ∙ ap (λ (n : ℕ). n + 1) e);
+      filled = let a = pushed.len in let b = c.loop-i.invariant.filled in omega arith;
+      room = pushed.capacity ∙ c.loop-i.invariant.room;
     }
 
 -- ---- rows
@@ -231,24 +245,6 @@ walk_rows-overflow_add-visits g t c =
     let d = a.within in let e = a.few in let f = b.within in let h = b.few in
     let k = one-more c.loop-i.i c.args.count c.args.slots c.loop-i-test.true in
     omega arith
-
-pub walk_rows-behind-requires-in_default-push-clause-visits : goal.walk_rows-behind-requires-in_default-push-clause-visits
-walk_rows-behind-requires-in_default-push-clause-visits g t c =
-    let a = c.loop-i.invariant.pays in
-    let b = c.in-Ok-walk_slots.ensures.pays in
-    let d = a.within in let e = a.few in let f = b.within in let h = b.few in
-    let k = one-more c.loop-i.i c.args.count c.args.slots c.loop-i-test.true in
-    let none = c.out_of_memory-in_default-push.ensures in
-    rw none (omega arith)
-
-pub walk_rows-returns-in_default-push-clause-refused : goal.walk_rows-returns-in_default-push-clause-refused
-walk_rows-returns-in_default-push-clause-refused g t c =
-    let a = c.loop-i.invariant.pays in
-    let b = c.in-Ok-walk_slots.ensures.pays in
-    let d = a.within in let e = a.few in let f = b.within in let h = b.few in
-    let k = one-more c.loop-i.i c.args.count c.args.slots c.loop-i-test.true in
-    rw (c.behind-in_default-push.ensures, c.out_of_memory-in_default-push.ensures)
-    (record { is = inl refl; within = omega arith; few = omega arith })
 
 pub walk_rows-behind-requires-in-Err-clause-visits : goal.walk_rows-behind-requires-in-Err-clause-visits
 walk_rows-behind-requires-in-Err-clause-visits g t c =
@@ -282,17 +278,20 @@ walk_rows-loop-i-preserved g t c =
     let e = c.loop-i.invariant.next in
     let n = c.loop-i.invariant.number in
     let x = c.in-Ok-walk_slots in
+    let pushed = c.push_reserved.ensures in
     record {
       pays = rows-give (visits (g.S.Space.message c.args.space.now) c.args.base c.args.depth) c.args.start.segment
           c.args.start.word c.args.words c.args.slots c.args.left c.loop-i.i c.loop-i.paid c.loop-i.visits
           x.below.paid x.below.visits c.loop-i.invariant.pays (rw e at x.ensures.pays);
-      value = rw c.in-Ok-push.ensures.ok
+      value = rw pushed.items
           (rows_at-step (g.S.Space.message c.args.space.now) c.args.words c.args.slots c.args.start.segment
-          c.args.start.word c.loop-i.next c.loop-i.i c.loop-i.rows _
+          c.args.start.word c.loop-i.next c.loop-i.i c.loop-i.rows.items _
           c.loop-i.invariant.value n e c.in-Ok-words_at.ensures.number c.in-Ok-words_at.ensures.words x.ensures.number
           x.ensures.value);
-      number = rw c.in-Ok-push.ensures.ok (count_rows-next (g.S.Space.message c.args.space.now) c.loop-i.rows _
+      number = rw pushed.items (count_rows-next (g.S.Space.message c.args.space.now) c.loop-i.rows.items _
           ∙ ap (λ (k : ℕ). k + 1) n);
+      filled = let a = pushed.len in let b = c.loop-i.invariant.filled in omega arith;
+      room = pushed.capacity ∙ c.loop-i.invariant.room;
       next = let k : (c.loop-i.i + 1) * (c.args.words + c.args.slots) ≡ c.loop-i.i * (c.args.words + c.args.slots)
           + (c.args.words + c.args.slots) = omega arith in omega arith;
     }

@@ -1,4 +1,4 @@
-use Rattle.std.proofs.Common.{◌≡◌, ◌+◌, ◌*◌}
+use Rattle.std.proofs.Common.{◌≡◌, ◌+◌, ◌*◌, length, vec_capacity}
 use Rattle.capn_value.specs.Tree.{count, count_rows}
 use Rattle.capn_value.specs.View.{trees_of, rows_of}
 use Rattle.capn_walk.specs.Visits.{places, row_places, visits_of}
@@ -25,8 +25,10 @@ abbrev pub invariant-walk_slots-loop-i : goal.invariant-walk_slots-loop-i
 invariant-walk_slots-loop-i g l = record {
   pays : Gives l.left (visits_of (g.S.Space.message l.space) l.base l.depth (places l.segment l.start l.i)) l.i l.paid
       l.visits;
-  value : AreAt (g.S.Space.message l.space) l.segment l.start (trees_of l.items);
-  number : count (trees_of l.items) ≡ l.i;
+  value : AreAt (g.S.Space.message l.space) l.segment l.start (trees_of l.slots.items);
+  number : count (trees_of l.slots.items) ≡ l.i;
+  filled : length l.slots.items ≡ l.i;
+  room : vec_capacity l.slots ≡ l.count;
 }
 
 abbrev pub invariant-walk_rows-loop-i : goal.invariant-walk_rows-loop-i
@@ -34,7 +36,9 @@ invariant-walk_rows-loop-i g l = record {
   pays : Gives l.left
       (visits_of (g.S.Space.message l.space) l.base l.depth (row_places l.segment l.fn.start.word l.words l.slots l.i))
       (l.i * l.slots) l.paid l.visits;
-  value : RowsAt (g.S.Space.message l.space) l.words l.slots l.segment l.fn.start.word (rows_of l.rows);
-  number : count_rows (rows_of l.rows) ≡ l.i;
+  value : RowsAt (g.S.Space.message l.space) l.words l.slots l.segment l.fn.start.word (rows_of l.rows.items);
+  number : count_rows (rows_of l.rows.items) ≡ l.i;
+  filled : length l.rows.items ≡ l.i;
+  room : vec_capacity l.rows ≡ l.count;
   next : l.next ≡ l.fn.start.word + l.i * (l.words + l.slots);
 }

@@ -1,0 +1,10 @@
+use Rattle.std.proofs.Common.{◌≡◌, length, vec_capacity}
+use Rattle.byteorder.specs.Endian.{little_number, IsRead}
+use Rattle.capn_walk.proofs.lists.words_at.Given as goal
+
+abbrev pub invariant-loop-i : goal.invariant-loop-i
+invariant-loop-i g l = record {
+  number : length l.words.items ≡ l.i;
+  room : vec_capacity l.words ≡ l.count;
+  read : IsRead little_number 8 l.bytes l.words.items;
+}
