@@ -3,6 +3,7 @@ pub mod ThreeWays
 pub mod WorkedWalks
 pub mod Framing
 pub mod Plain
+pub mod Near
 pub mod Reading
 pub mod Room
 pub mod UnderWay
