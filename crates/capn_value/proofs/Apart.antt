@@ -8,7 +8,7 @@ use Rattle.capn_value.specs.Tree.{no_trees, tree, Bodies, no_bodies, body, count
 use Rattle.capn_value.specs.Tree.{is_null}
 use Rattle.capn_value.specs.SameTest.{test, test_slots, test_each, test_rows, are_null}
 use Rattle.capn_value.specs.View.{tree_of, trees_of}
-use Rattle.capn_value.specs.Views.{count-trees_of}
+use Rattle.capn_value.specs.Views.{views, count-trees_of}
 use Rattle.capn_value.specs.Code.{value_of}
 use Rattle.capn_value.specs.declared.value.Value.{Value, Nil, Node, Voids, Bits, Bytes, Pairs, Quads, Octs, Links, Rows}
 use Rattle.capn_value.specs.declared.value.Value.{Cap}
@@ -143,7 +143,9 @@ pub test_slots-past_right : (ss ts : Trees) → count ts ≡ 0 → test_slots ss
 test_slots-past_right ss no_trees e = test_slots-no_more ss ∙ and_true _
 test_slots-past_right ss (tree t ts) e = absurd (omega arith)
 
-pub ruleset apart = (not_null, test_each-uneven, test_rows-uneven, test_slots-past_left, test_slots-past_right)
+-- with what is seen of each kind of value
+pub ruleset apart =
+    (views, not_null, test_each-uneven, test_rows-uneven, test_slots-past_left, test_slots-past_right)
 
 -- what is left past the shared slots
 pub test_slots-past_shared : {A B : Type 0} (a : List (Value A)) (b : List (Value B)) (i s : ℕ)

@@ -4,6 +4,7 @@ use Rattle.std.proofs.lemmas.List.{take_min}
 use denote.Param.Weighed.{most}
 use Rattle.capn_value.specs.Tree.{Trees, no_trees, tree, Bodies, no_bodies, body, joined, joined_rows, front}
 use Rattle.capn_value.specs.View.{tree_of, trees_of, rows_of}
+use Rattle.capn_value.specs.Views.{views}
 use Rattle.capn_value.specs.Trim.{trimmed, trimmed_each}
 use Rattle.capn_value.specs.declared.value.Value.{Value}
 use Rattle.capn_value.specs.declared.value.Body.{Body}
@@ -36,8 +37,9 @@ trimmed_each-front zero ts = refl
 trimmed_each-front (suc n) no_trees = refl
 trimmed_each-front (suc n) (tree t ts) = ap (tree (trimmed t)) (trimmed_each-front n ts)
 
+-- with what is seen of each kind of value
 pub ruleset joins =
-    (joined-push, joined_rows-push, joined-none, joined_rows-none, trees_of-take, trimmed_each-front, take_min)
+    (views, joined-push, joined_rows-push, joined-none, joined_rows-none, trees_of-take, trimmed_each-front, take_min)
 
 pub most-take : {X : Type 0} (size : X → ℕ) (n : ℕ) (xs : List X) → most size (take n xs) ≤ most size xs
 most-take size zero xs = omega arith

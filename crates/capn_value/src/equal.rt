@@ -22,7 +22,7 @@ pub fn same<A: Allocator, B: Allocator>(v: &Value<A>, w: &Value<B>) -> bool
 }
 
 /// Whether the value is null.
-#[tactic(auto, using(std::proofs::lemmas::Grind::common_steps, crate::specs::Views::views, crate::proofs::Apart::apart))]
+#[tactic(auto, using(std::proofs::lemmas::Grind::common_steps, crate::proofs::Apart::apart))]
 pub fn is_null<A: Allocator>(v: &Value<A>) -> bool
     ensures { result ≡ is_null (tree_of v.now) }
 {
@@ -32,7 +32,7 @@ pub fn is_null<A: Allocator>(v: &Value<A>) -> bool
     }
 }
 
-#[tactic(auto, using(std::proofs::lemmas::Grind::common_steps, crate::specs::Views::views, crate::proofs::Apart::apart))]
+#[tactic(auto, using(std::proofs::lemmas::Grind::common_steps, crate::proofs::Apart::apart))]
 fn are_null<A: Allocator>(items: &[Value<A>]) -> bool
     ensures { result ≡ are_null (trees_of items.now) }
 {
@@ -64,7 +64,7 @@ fn word_or_zero(words: &[u64], i: usize) -> u64
 }
 
 #[cycle(sameness)]
-#[tactic(auto, using(std::proofs::lemmas::Grind::common_steps, crate::specs::Views::views, crate::proofs::Apart::apart))]
+#[tactic(auto, using(std::proofs::lemmas::Grind::common_steps, crate::proofs::Apart::apart))]
 fn test<A: Allocator, B: Allocator>(v: &Value<A>, w: &Value<B>) -> bool
     ensures { result ≡ test (tree_of v.now) (tree_of w.now) }
 {
@@ -85,7 +85,7 @@ fn test<A: Allocator, B: Allocator>(v: &Value<A>, w: &Value<B>) -> bool
 }
 
 #[cycle(sameness)]
-#[tactic(auto, using(std::proofs::lemmas::Grind::common_steps, crate::specs::Views::views, crate::proofs::Apart::apart))]
+#[tactic(auto, using(std::proofs::lemmas::Grind::common_steps, crate::proofs::Apart::apart))]
 fn test_bodies<A: Allocator, B: Allocator>(a: &Body<A>, b: &Body<B>) -> bool
     ensures { result
         ≡ (test_words a.now.words b.now.words && test_slots (trees_of a.now.slots) (trees_of b.now.slots)) }
@@ -96,7 +96,7 @@ fn test_bodies<A: Allocator, B: Allocator>(a: &Body<A>, b: &Body<B>) -> bool
 
 // Slot i of each is the same, null past the end.
 #[cycle(sameness)]
-#[tactic(auto, using(std::proofs::lemmas::Grind::common_steps, crate::specs::Views::views, crate::proofs::Apart::apart))]
+#[tactic(auto, using(std::proofs::lemmas::Grind::common_steps, crate::proofs::Apart::apart))]
 fn test_slots<A: Allocator, B: Allocator>(a: &[Value<A>], b: &[Value<B>]) -> bool
     ensures { result ≡ test_slots (trees_of a.now) (trees_of b.now) }
 {
@@ -110,7 +110,7 @@ fn test_slots<A: Allocator, B: Allocator>(a: &[Value<A>], b: &[Value<B>]) -> boo
 }
 
 #[cycle(sameness)]
-#[tactic(auto, using(std::proofs::lemmas::Grind::common_steps, crate::specs::Views::views, crate::proofs::Apart::apart))]
+#[tactic(auto, using(std::proofs::lemmas::Grind::common_steps, crate::proofs::Apart::apart))]
 fn test_each<A: Allocator, B: Allocator>(a: &[Value<A>], b: &[Value<B>]) -> bool
     ensures { result ≡ test_each (trees_of a.now) (trees_of b.now) }
 {
@@ -126,7 +126,7 @@ fn test_each<A: Allocator, B: Allocator>(a: &[Value<A>], b: &[Value<B>]) -> bool
 }
 
 #[cycle(sameness)]
-#[tactic(auto, using(std::proofs::lemmas::Grind::common_steps, crate::specs::Views::views, crate::proofs::Apart::apart))]
+#[tactic(auto, using(std::proofs::lemmas::Grind::common_steps, crate::proofs::Apart::apart))]
 fn test_rows<A: Allocator, B: Allocator>(a: &[Body<A>], b: &[Body<B>]) -> bool
     ensures { result ≡ test_rows (rows_of a.now) (rows_of b.now) }
 {

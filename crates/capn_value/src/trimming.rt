@@ -76,7 +76,7 @@ pub fn trim_value<A: Allocator + Copy, B: Allocator>(
 
 // The same, where null is a value as any other.
 #[cycle(trim)]
-#[tactic(auto, using(std::proofs::lemmas::Grind::common_steps, crate::specs::Views::views, crate::proofs::Joined::joins))]
+#[tactic(auto, using(std::proofs::lemmas::Grind::common_steps, crate::proofs::Joined::joins))]
 fn trimmed<A: Allocator + Copy, B: Allocator>(alloc: A, v: &Value<B>) -> Result<Value<A>, Memory>
     ensures { IfOk result (λ r. tree_of r ≡ cut.trimmed (tree_of v.now)) }
 {
@@ -108,7 +108,7 @@ fn trimmed<A: Allocator + Copy, B: Allocator>(alloc: A, v: &Value<B>) -> Result<
 
 // The body cut to so many words and slots.
 #[cycle(trim)]
-#[tactic(auto, using(std::proofs::lemmas::Grind::common_steps, crate::specs::Views::views, crate::proofs::Joined::joins))]
+#[tactic(auto, using(std::proofs::lemmas::Grind::common_steps, crate::proofs::Joined::joins))]
 fn trimmed_body<A: Allocator + Copy, B: Allocator>(
     alloc: A,
     body: &Body<B>,
@@ -126,7 +126,7 @@ fn trimmed_body<A: Allocator + Copy, B: Allocator>(
 
 // The first so many, each trimmed.
 #[cycle(trim)]
-#[tactic(auto, using(std::proofs::lemmas::Grind::common_steps, crate::specs::Views::views, crate::proofs::Joined::joins))]
+#[tactic(auto, using(std::proofs::lemmas::Grind::common_steps, crate::proofs::Joined::joins))]
 fn trimmed_front<A: Allocator + Copy, B: Allocator>(
     alloc: A,
     items: &[Value<B>],
@@ -143,7 +143,7 @@ fn trimmed_front<A: Allocator + Copy, B: Allocator>(
 }
 
 #[cycle(trim)]
-#[tactic(auto, using(std::proofs::lemmas::Grind::common_steps, crate::specs::Views::views, crate::proofs::Joined::joins))]
+#[tactic(auto, using(std::proofs::lemmas::Grind::common_steps, crate::proofs::Joined::joins))]
 fn trimmed_rows<A: Allocator + Copy, B: Allocator>(
     alloc: A,
     rows: &[Body<B>],

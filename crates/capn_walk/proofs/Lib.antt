@@ -2,6 +2,7 @@ pub mod RootWalks
 pub mod ThreeWays
 pub mod WorkedWalks
 pub mod Framing
+pub mod Near
 pub mod Reading
 pub mod Room
 pub mod UnderWay

@@ -1,5 +1,5 @@
 -- What a survey knows while it is under way.
-use Rattle.std.proofs.Common.{ℤ, ◌*◌, ◌≡◌, inr, ℕ, ◌+◌, ◌-◌, ◌<◌, ◌≤◌, List, [], ◌∷◌, ◌++◌, length, Option, Some, None}
+use Rattle.std.proofs.Common.{◌*◌, ◌≡◌, inr, ℕ, ◌+◌, ◌-◌, ◌<◌, ◌≤◌, List, [], ◌∷◌, ◌++◌, length, Option, Some, None}
 use Rattle.std.proofs.Common.{Ok, refl, ap, sym, ◌∙◌, arith}
 use Rattle.std.proofs.lemmas.List.{append-nil}
 use Rattle.std.proofs.Common.{append_assoc, length-append}
@@ -11,11 +11,9 @@ use Rattle.capn_walk.specs.declared.frame.Frame.{Frame}
 use Rattle.capn_walk.specs.declared.frame.Waiting.{Waiting}
 use Rattle.capn_words.specs.Message.{word_at}
 use Rattle.capn_words.specs.Pointers.{pointer_of}
-use Rattle.capn_words.specs.declared.pointer.Pointer.{Pointer}
-use Rattle.capn_words.specs.declared.pointer.Pointer.TheVariants.{Nil, Node, Many}
+use Rattle.capn_words.specs.declared.pointer.Pointer.TheVariants.{Nil}
 use Rattle.capn_walk.specs.Laws.Walks.{visits-null}
-use Rattle.capn_walk.specs.Target.{named, near, pointer_in, target}
-use Rattle.capn_words.specs.declared.pointer.Width.{Width}
+use Rattle.capn_walk.specs.Target.{named, target}
 use Rattle.capn_walk.specs.Visits.{Visit, pays, visits, visits_of}
 use Rattle.capn_walk.specs.Verdict.{accepted, refused, after, judge}
 use Rattle.capn_walk.specs.Frames.{places_of, owed, owed_by, Lies, AllLie, AreShallow, visits_left}
@@ -373,19 +371,3 @@ module _ (m : List (List ℕ)) (base : ℕ) where
           + length ws + (1 - f.left)
       fewer-null = fewer-passed d ws f rest no_frame at 0 paid made cap s next (visits-null m base at d none)
           (λ h. absurd (omega arith)) refl
-
--- a pointer to what stands near
-module _ (m : List (List ℕ)) (at : Place) (w : ℕ) (p : Pointer) where
-  pub near-struct : (o : ℤ) (a b : ℕ) → w ≡ word_at m at → p ≡ pointer_of w → p ≡ Node o a b
-      → near m at.segment at.word 0 p ≡ target m at
-  unfolding target
-  near-struct o a b e f h =
-      let r : pointer_in m at.segment at.word ≡ Node o a b = sym (f ∙ ap pointer_of e) ∙ h in
-      ap (near m at.segment at.word 0) h ∙ sym (ap (named m at.segment at.word) r)
-
-  pub near-list : (o : ℤ) (width : Width) (n : ℕ) → w ≡ word_at m at → p ≡ pointer_of w → p ≡ Many o width n
-      → near m at.segment at.word 0 (Many o width n) ≡ target m at
-  unfolding target
-  near-list o width n e f h =
-      let r : pointer_in m at.segment at.word ≡ Many o width n = sym (f ∙ ap pointer_of e) ∙ h in
-      sym (ap (named m at.segment at.word) r)

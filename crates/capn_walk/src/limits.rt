@@ -33,11 +33,13 @@ impl Model for Limits {
 
     ghost Value = { Bounds };
 
-    ghost view = { λ l. record { message_words = l.message_words; budget = l.budget; depth = l.depth; tariff = l.tariff } };
+    ghost view = { λ l.
+        record { message_words = l.message_words; budget = l.budget; depth = l.depth; tariff = l.tariff } };
 
     ghost invariant = { λ l. AreLimits l.message_words l.budget l.depth };
 
-    ghost inverse = { λ b. record { message_words = b.message_words; budget = b.budget; depth = b.depth; tariff = b.tariff } };
+    ghost inverse = { λ b.
+        record { message_words = b.message_words; budget = b.budget; depth = b.depth; tariff = b.tariff } };
 }
 
 impl Limits {

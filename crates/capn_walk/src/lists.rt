@@ -42,6 +42,7 @@ pub fn list_at<S: Space, A: Allocator + Copy>(
 }
 
 /// So many words.
+#[inline(always)]
 pub fn words_at<S: Space, A: Allocator>(
     alloc: A,
     space: &S,

@@ -12,22 +12,84 @@ ghost use Rattle.capn_walk.specs.declared.target.Fault.TheVariants.{Memory};
 ghost use Rattle.capn_walk.specs.Viewed.{IsEntered, stepped};
 ghost use Rattle.capn_walk.specs.Walked.{Gives, Refuses, IsInside, IsContent, RowsFit, extent, slot_count};
 
+use crate::content::segment_length;
 use crate::found::{Found, FoundRows, FoundSlots};
 use crate::lists::{list_at, words_at};
-use crate::resolving::resolve;
+use crate::resolving::{near, pointer_at, resolve};
 use crate::step::price_within;
 use crate::target::{Fault, Shape, Target};
 use crate::walked::{Stopped, out_of_memory, stop};
 use capn_value::{Body, Items, Value};
-use capn_words::{Place, Space, Width};
+use capn_words::{Place, Pointer, Space, Width};
 use std::alloc::Allocator;
 
 /// What a slot denotes, at most `depth` objects deep, where `left` words are left to pay and each content costs `base`
-/// beside its size.
+/// beside its size. Near structs and near lists have an arm each, so that each is compiled for its form alone.
 #[cycle(walk)]
 #[tactic(auto, using(std::proofs::lemmas::Grind::common_steps))]
 #[inline(always)]
 fn walk_slot<S: Space, A: Allocator + Copy>(
+    alloc: A,
+    space: &S,
+    at: Place,
+    depth: u32,
+    left: u32,
+    base: u32,
+) -> Result<Found<A>, Stopped>
+    requires message { IsMessage (S.message space.now) }
+    requires place { IsPlace (S.message space.now) at }
+    requires left { left ≤ most_cost }
+    ensures pays { IfOk result (λ f. Gives left (visits (S.message space.now) base depth at) 1 f.paid f.visits) }
+    ensures value { IfOk result (λ f. IsAt (S.message space.now) at (tree_of f.value)) }
+    ensures refused { IfErr result (λ s. Refuses left (visits (S.message space.now) base depth at) 1 s) }
+{
+    let pointer = pointer_at(space, at.segment, at.word);
+    match pointer {
+        Pointer::Nil => Ok(Found::without_content(Value::Nil)),
+        Pointer::Node { .. } => walk_near(alloc, space, at, pointer, depth, left, base),
+        Pointer::Many { .. } => walk_near(alloc, space, at, pointer, depth, left, base),
+        // Taken out and put in again: then only this arm's answer comes through memory.
+        _ => {
+            let found = walk_elsewhere(alloc, space, at, depth, left, base)?;
+            Ok(found)
+        }
+    }
+}
+
+/// The same of a slot whose pointer names content that stands near.
+#[cycle(walk)]
+#[tactic(auto, using(std::proofs::lemmas::Grind::common_steps))]
+#[inline(always)]
+fn walk_near<S: Space, A: Allocator + Copy>(
+    alloc: A,
+    space: &S,
+    at: Place,
+    pointer: Pointer,
+    depth: u32,
+    left: u32,
+    base: u32,
+) -> Result<Found<A>, Stopped>
+    requires message { IsMessage (S.message space.now) }
+    requires place { IsPlace (S.message space.now) at }
+    requires pointer { spec.near (S.message space.now) at.segment at.word 0 pointer
+        ≡ spec.target (S.message space.now) at }
+    requires left { left ≤ most_cost }
+    ensures pays { IfOk result (λ f. Gives left (visits (S.message space.now) base depth at) 1 f.paid f.visits) }
+    ensures value { IfOk result (λ f. IsAt (S.message space.now) at (tree_of f.value)) }
+    ensures refused { IfErr result (λ s. Refuses left (visits (S.message space.now) base depth at) 1 s) }
+{
+    let size = segment_length(space, at.segment);
+    match near(space, at.segment, size, at.word, 0, pointer) {
+        Ok(target) => walk_target(alloc, space, at, target, depth, left, base),
+        Err(fault) => Err(stop(fault, at)),
+    }
+}
+
+/// The same of a slot, whatever it names.
+#[cycle(walk)]
+#[tactic(auto, using(std::proofs::lemmas::Grind::common_steps))]
+#[inline(never)]
+fn walk_elsewhere<S: Space, A: Allocator + Copy>(
     alloc: A,
     space: &S,
     at: Place,

@@ -2,10 +2,11 @@ use Rattle.std.proofs.Common.{rules, ◌≡◌, [], None, refl, arith}
 use Rattle.capn_words.specs.declared.pointer.Pointer.TheVariants.{Many}
 use Rattle.capn_walk.specs.Frames.{owed, Lies}
 use Rattle.capn_walk.proofs.Framing.{done, none-owed, not-done}
+use Rattle.capn_walk.proofs.Near.{near-struct, near-list}
 use Rattle.capn_walk.proofs.Stepped.{capless-near}
 use Rattle.capn_walk.proofs.UnderWay.{popped, entered, passed, refused-here, as-many, fewer-entered, fewer-passed}
 use Rattle.capn_walk.proofs.UnderWay.{passed-null, fewer-null, null-target, next-row, fewer-rows, IsKept, kept, dropped}
-use Rattle.capn_walk.proofs.UnderWay.{near-struct, near-list, no_frame, option_or-none}
+use Rattle.capn_walk.proofs.UnderWay.{no_frame, option_or-none}
 use Rattle.capn_walk.proofs.surveying.survey_slots.Goals.{then-not-is_done+in-Ok-push, else-not-is_done}
 use Rattle.capn_walk.proofs.surveying.survey_slots.Goals.{then-not-is_done-2+in-Ok-push-2, else-not-is_done-2}
 use Rattle.capn_walk.proofs.surveying.survey_slots.Goals as goal

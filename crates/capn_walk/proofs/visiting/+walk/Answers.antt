@@ -1,9 +1,10 @@
-use Rattle.std.proofs.Common.{rules, ◌≡◌, ℕ, suc, ◌+◌, ◌*◌, ◌^◌, ◌≤◌, Ok, Err, arith, ap, sym, subst, ◌∙◌}
+use Rattle.std.proofs.Common.{rules, ◌≡◌, ℕ, suc, ◌+◌, ◌*◌, ◌^◌, ◌≤◌, Ok, Err, arith, ap, sym, subst, ◌∙◌, refl}
 use Rattle.capn_value.specs.View.{trees_of, rows_of}
 use Rattle.capn_value.specs.Views.{tree_of-Nil, tree_of-Cap}
 use Rattle.capn_words.specs.declared.pointer.Width.{Width}
 use Rattle.capn_walk.specs.declared.target.Shape.TheVariants as shapes
-use Rattle.capn_walk.specs.Target.{target}
+use Rattle.capn_words.specs.Message.{word_at}
+use Rattle.capn_walk.specs.Target.{named, near, target}
 use Rattle.capn_walk.specs.Visits.{visits}
 use Rattle.capn_walk.specs.Viewed.{stepped, IsEntered}
 use Rattle.capn_walk.specs.declared.target.Target.{Target}
@@ -17,14 +18,56 @@ use Rattle.capn_walk.specs.Laws.Walks.{gives-next, refuses-next, at-next, count-
 use Rattle.capn_walk.specs.Laws.Walks.{visits-fault, gives-object, refuses-object, refuses-here, gives-nothing}
 use Rattle.capn_walk.specs.Laws.Walks.{inside-struct, inside-links, inside-rows}
 use Rattle.capn_walk.specs.Laws.RowWalks.{one-more, row-inside, rows-give, rows-refuse, rows_at-step, count_rows-next}
+use Rattle.capn_walk.proofs.Near.{by-pointer, near-struct, near-list}
 use Rattle.capn_walk.proofs.Room.{room-of}
 use Rattle.capn_walk.proofs.Stepped.{stepped-memory, step-refuses, content-taken}
 use Rattle.capn_walk.proofs.visiting.+walk.Goals as goal
 
 -- ---- a slot
 
-pub walk_slot-returns-in-Err-clause-refused : goal.walk_slot-returns-in-Err-clause-refused
-walk_slot-returns-in-Err-clause-refused g t c =
+pub walk_slot-returns-in-Nil-clause-pays : goal.walk_slot-returns-in-Nil-clause-pays
+walk_slot-returns-in-Nil-clause-pays g t c =
+    let m = g.S.Space.message c.args.space.now in
+    let e = sym (by-pointer m c.args.at c.pointer_at-pointer.result c.pointer_at-pointer.ensures)
+    ∙ ap (named m c.args.at.segment c.args.at.word) c.in-Nil.is in
+    let none = c.without_content.ensures in
+    rw (none.paid, none.visits)
+    (gives-nothing m c.args.base c.args.at c.args.left c.args.depth
+    (visits-null m c.args.base c.args.at c.args.depth e))
+
+pub walk_slot-returns-in-Nil-clause-value : goal.walk_slot-returns-in-Nil-clause-value
+walk_slot-returns-in-Nil-clause-value g t c =
+    let m = g.S.Space.message c.args.space.now in
+    rw (c.without_content.ensures.value, tree_of-Nil)
+    (sym (by-pointer m c.args.at c.pointer_at-pointer.result c.pointer_at-pointer.ensures)
+    ∙ ap (named m c.args.at.segment c.args.at.word) c.in-Nil.is)
+
+pub walk_slot-walk_near-requires : goal.walk_slot-walk_near-requires
+walk_slot-walk_near-requires g t c κs within =
+    let m = g.S.Space.message c.args.space.now in
+    let p = c.pointer_at-pointer in
+    let x = c.in-Node in
+    let e = near-struct m c.args.at (word_at m c.args.at) p.result x.offset x.words x.slots refl p.ensures x.is in
+    search rules
+
+pub walk_slot-walk_near-requires-in-Many : goal.walk_slot-walk_near-requires-in-Many
+walk_slot-walk_near-requires-in-Many g t c κs within =
+    let m = g.S.Space.message c.args.space.now in
+    let p = c.pointer_at-pointer in
+    let x = c.in-Many in
+    let e = ap (near m c.args.at.segment c.args.at.word 0) x.is
+    ∙ near-list m c.args.at (word_at m c.args.at) p.result x.offset x.width x.count refl p.ensures x.is in
+    search rules
+
+pub walk_near-returns-in-Err-clause-refused : goal.walk_near-returns-in-Err-clause-refused
+walk_near-returns-in-Err-clause-refused g t c =
+    let m = g.S.Space.message c.args.space.now in
+    let e : target (g.S.Space.message c.args.space.now) c.args.at ≡ Err c.in-Err.fault = cc in
+    refuses-here m c.args.base c.args.at c.args.left c.args.depth c.in-Err.fault c.stop.result
+    (visits-fault m c.args.base c.args.at c.args.depth c.in-Err.fault e) c.stop.ensures
+
+pub walk_elsewhere-returns-in-Err-clause-refused : goal.walk_elsewhere-returns-in-Err-clause-refused
+walk_elsewhere-returns-in-Err-clause-refused g t c =
     let m = g.S.Space.message c.args.space.now in
     let e : target (g.S.Space.message c.args.space.now) c.args.at ≡ Err c.in-Err.fault = cc in
     refuses-here m c.args.base c.args.at c.args.left c.args.depth c.in-Err.fault c.stop.result

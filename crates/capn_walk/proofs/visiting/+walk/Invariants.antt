@@ -7,19 +7,25 @@ use Rattle.capn_walk.specs.Walked.{Gives}
 use Rattle.capn_walk.proofs.visiting.+walk.Given as goal
 
 abbrev pub decreases-walk_target : goal.decreases-walk_target
-decreases-walk_target g l = 5 * l.depth
+decreases-walk_target g l = 7 * l.depth
+
+abbrev pub decreases-walk_near : goal.decreases-walk_near
+decreases-walk_near g l = 7 * l.depth + 1
+
+abbrev pub decreases-walk_elsewhere : goal.decreases-walk_elsewhere
+decreases-walk_elsewhere g l = 7 * l.depth + 2
 
 abbrev pub decreases-walk_slot : goal.decreases-walk_slot
-decreases-walk_slot g l = 5 * l.depth + 1
+decreases-walk_slot g l = 7 * l.depth + 3
 
 abbrev pub decreases-walk_slots : goal.decreases-walk_slots
-decreases-walk_slots g l = 5 * l.depth + 2
+decreases-walk_slots g l = 7 * l.depth + 4
 
 abbrev pub decreases-walk_rows : goal.decreases-walk_rows
-decreases-walk_rows g l = 5 * l.depth + 3
+decreases-walk_rows g l = 7 * l.depth + 5
 
 abbrev pub decreases-object : goal.decreases-object
-decreases-object g l = 5 * l.depth + 4
+decreases-object g l = 7 * l.depth + 6
 
 abbrev pub invariant-walk_slots-loop-i : goal.invariant-walk_slots-loop-i
 invariant-walk_slots-loop-i g l = record {
