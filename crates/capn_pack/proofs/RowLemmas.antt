@@ -1,8 +1,7 @@
 -- Groups one behind another at the front of some bytes.
-use Rattle.std.proofs.Common.{◌≡◌, ℕ, ◌+◌, ◌-◌, ◌*◌, ◌≤◌, List, [], ◌∷◌, ◌++◌, length, take, drop, slice_range, refl}
+use Rattle.std.proofs.Common.{◌≡◌, ℕ, ◌+◌, ◌-◌, ◌*◌, ◌≤◌, List, [], ◌∷◌, ◌++◌, length, take, drop, slice_range}
 use Rattle.std.proofs.Common.{sym, ap, ◌∙◌, subst, arith, append_assoc, length-append, take-add, take-append-drop}
 use Rattle.std.proofs.Common.{length-take, length-drop, take_all}
-use Rattle.std.proofs.lemmas.List.{append-nil}
 use Rattle.std.proofs.lemmas.Grind.{flat_map-append}
 use Rattle.capn_pack.specs.Group.{text, content}
 use Rattle.capn_pack.specs.Packs.{Packs, texts, contents, word_count}
@@ -10,10 +9,6 @@ use Rattle.capn_pack.specs.Refusal.{Stands}
 use Rattle.capn_pack.specs.Steps.{Takes, TakesRow}
 use Rattle.capn_pack.specs.Laws.GroupLemmas.{texts_more, contents_more, each_more, rest_is, length_content}
 use Rattle.capn_pack.specs.Laws.GroupLemmas.{length_contents, each_append}
-
-pub row_start : (bytes old : List ℕ) → TakesRow bytes 0 old old
-row_start bytes old =
-    record { groups = []; each = tt; within = omega arith; text = refl; content = sym (append-nil old) }
 
 -- one group more
 pub row_more : (bytes : List ℕ) (at : ℕ) (old out : List ℕ) (room taken count : ℕ) (new : List ℕ)
