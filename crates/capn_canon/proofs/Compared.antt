@@ -1,33 +1,31 @@
 -- An object's own words are those of its layout exactly if the pointer is the one to the next free word, and so on
 -- below it.
-use Rattle.std.proofs.Common.{◌≡◌, ◌↔◌, ◌⊎◌, inl, inr, ℕ, zero, suc, ◌+◌, ◌-◌, ◌*◌, ◌^◌, ◌<◌, ◌≤◌, List, [], ◌∷◌, ◌++◌}
-use Rattle.std.proofs.Common.{length, take, drop, slice_index, Ok, refl, ap, ap₂, sym, subst, ◌∙◌, arith, length-append}
-use Rattle.std.proofs.Common.{Option, Some, None, false}
+use Rattle.std.proofs.Common.{◌≡◌, ◌↔◌, ◌⊎◌, inl, inr, ℕ, zero, suc, ◌+◌, ◌-◌, ◌^◌, ◌<◌, ◌≤◌, List, [], ◌∷◌, ◌++◌}
+use Rattle.std.proofs.Common.{length, take, slice_index, Ok, refl, ap, ap₂, sym, subst, ◌∙◌, arith}
+use Rattle.std.proofs.Common.{Option, false}
 use Rattle.std.specs.Bool.{IsTrue}
 use Rattle.std.proofs.lemmas.List.{take_all}
-use Rattle.capn_words.specs.Message.{IsMessage, segment_at}
-use Rattle.capn_words.specs.declared.space.Place.{Place}
+use Rattle.capn_words.specs.Message.{segment_at}
 use Rattle.capn_words.specs.Fields.{word_of}
 use Rattle.capn_words.specs.declared.pointer.Pointer.TheVariants.{Cap}
-use Rattle.capn_words.specs.declared.pointer.Width.{Width}
 use Rattle.capn_words.specs.declared.pointer.Width.TheVariants.{Link}
 use Rattle.capn_value.specs.Tree.{Tree, nil, cap, node, links, Trees, no_trees, tree, count}
 use Rattle.capn_value.specs.Trim.{kept_words, kept_slots}
-use Rattle.capn_value.specs.Sizes.{height, greatest}
+use Rattle.capn_value.specs.Sizes.{height}
 use Rattle.capn_walk.specs.declared.target.Target.TheVariants as targets
 use Rattle.capn_walk.specs.declared.target.Shape.TheVariants as shapes
 use Rattle.capn_walk.specs.Target.{target}
-use Rattle.capn_walk.specs.At.{IsAt, AreAt, AreWords, words_from}
+use Rattle.capn_walk.specs.At.{AreAt, AreWords, words_from}
 use Rattle.capn_walk.specs.Walked.{IsInside}
 use Rattle.capn_walk.specs.Laws.Unique.{unique-slots}
 use Rattle.capn_canon.specs.Layout.{size, sizes, point, points, lay, lays, struct_to, list_to}
-use Rattle.capn_canon.specs.Sound.{Sound, Sounds}
+use Rattle.capn_canon.specs.Sound.{Sound}
 use Rattle.capn_canon.proofs.LaidPointers.{struct-names, list-names}
 use Rattle.capn_canon.proofs.KeptLengths.{kept_words-le, kept_slots-le}
 use Rattle.capn_canon.proofs.LayLengths.{length-lay, length-points}
-use Rattle.capn_canon.specs.Ready.{IsReady, IsReadyInside, AreReady}
+use Rattle.capn_canon.specs.Ready.{AreReady}
 use Rattle.capn_canon.specs.Stands.{Stand, IsLaidAt, AreLaidAt, Tells}
-use Rattle.capn_canon.proofs.Nulls.{kept-slots, other-than-nil}
+use Rattle.capn_canon.proofs.Nulls.{kept-slots}
 use Rattle.capn_canon.proofs.Shaped.{IsNode, as-node, IsLinks, as-links}
 use Rattle.capn_canon.proofs.Slots.{IsNext, next}
 use Rattle.capn_canon.proofs.Standing.{stand-none, stand-join, stand-front, stand-back, stand-room, stand-cons}
@@ -70,11 +68,6 @@ cap-told all v k from to e z =
     subst (λ (x : Tree). IsLaidAt all x from to × (to ≡ to + size x)) (sym e)
     (record { pointer = z; content = stand-none all to }, omega arith)
 
-pub cap-pointer : (all : List ℕ) (v : Tree) (k from to : ℕ) → v ≡ cap k → IsLaidAt all v from to
-    → slice_index all from ≡ word_of (Cap k)
-unfolding point
-cap-pointer all v k from to e h = (subst (λ (x : Tree). IsLaidAt all x from to) e h).pointer
-
 -- ---- slots
 
 module _ (all : List ℕ) (t : Tree) (ts : Trees) (from to : ℕ) (inside : from < length all) (o : Sound t) where
@@ -98,76 +91,6 @@ module _ (all : List ℕ) (t : Tree) (ts : Trees) (from to : ℕ) (inside : from
     contents = stand-join all to (lay t to) (lays ts (to + size t)) h.content
         (subst (λ (j : ℕ). Stand all (to + j) (lays ts (to + size t))) (sym (length-lay t to o)) k.contents);
   }
-
--- what the loop over slots keeps
-abbrev pub Same : List ℕ → ℕ → ℕ → ℕ → ℕ → ℕ → Type 0
-Same all n first end i at =
-    (us ts : Trees) → AreAt (all ∷ []) 0 (first + i) us → count us ≡ n - i → AreAt (all ∷ []) 0 first ts → count ts ≡ n
-    → (AreLaidAt all ts first end ↔ AreLaidAt all us (first + i) at) × (at + sizes us ≡ end + sizes ts)
-
-pub same-begins : (all : List ℕ) (n first end : ℕ) → Same all n first end 0 end
-same-begins all n first end us ts hu cu ht ct =
-    let z : first + 0 ≡ first = omega arith in
-    let e : us ≡ ts =
-    unique-slots (all ∷ []) us ts 0 first (omega arith) (subst (λ (k : ℕ). AreAt (all ∷ []) 0 k us) z hu) ht in (
-      (
-        (λ h. subst (λ (k : ℕ). AreLaidAt all us k end) (sym z)
-            (subst (λ (x : Trees). AreLaidAt all x first end) (sym e) h)),
-        (λ h. subst (λ (x : Trees). AreLaidAt all x first end) e (subst (λ (k : ℕ). AreLaidAt all us k end) z h)),
-      ),
-      ap (λ (x : Trees). end + sizes x) e,
-    )
-
-module _ (all : List ℕ) (n first end depth i at : ℕ) (lt : i < n) (inside : first + n ≤ length all)
-    (ready : AreReady (all ∷ []) 0 (first + i) (n - i) depth at) (same : Same all n first end i at) where
-  pub this : IsNext (all ∷ []) 0 (first + i) (n - i) depth at
-  this = next (all ∷ []) 0 (first + i) (n - i) depth at ready (omega arith)
-
-  module _ (k : ℕ) (h : IsLaidAt all this.value (first + i) at) (e : k ≡ at + size this.value) where
-    pub same-then : Same all n first end (i + 1) k
-    same-then us ts hu cu ht ct =
-        let d : first + (i + 1) ≡ suc (first + i) = omega arith in
-        let au : AreAt (all ∷ []) 0 (first + i) (tree this.value us) =
-        (this.is, subst (λ (x : ℕ). AreAt (all ∷ []) 0 x us) d hu) in
-        let s = same (tree this.value us) ts au (omega arith) ht ct in
-        let lt2 : first + i < length all = omega arith in
-        let f = s.1 in (
-          (
-            (λ (x : AreLaidAt all ts first end). rw (d, e)
-                (slots-others all this.value us (first + i) at lt2 this.sound (s.0.0 x))),
-            (λ (x : AreLaidAt all us (first + (i + 1)) k). s.0.1
-                (slots-both all this.value us (first + i) at lt2 this.sound h
-                (subst (λ (y : ℕ). AreLaidAt all us (suc (first + i)) y) e
-                (subst (λ (y : ℕ). AreLaidAt all us y k) d x)))),
-          ),
-          omega arith,
-        )
-
-    pub ready-then : AreReady (all ∷ []) 0 (first + (i + 1)) (n - (i + 1)) depth k
-    ready-then = record {
-      values = this.others;
-      are = let d : suc (first + i) ≡ first + (i + 1) = omega arith in
-          subst (λ (x : ℕ). AreAt (all ∷ []) 0 x this.others) d this.are;
-      count = let c = this.count in omega arith;
-      sound = this.sounds;
-      low = this.lows;
-      room = let r = this.room in omega arith;
-    }
-
-  pub same-fails : (IsLaidAt all this.value (first + i) at → ⊥) → (ts : Trees) → AreAt (all ∷ []) 0 first ts
-      → count ts ≡ n → AreLaidAt all ts first end → ⊥
-  same-fails f ts ht ct x =
-      let au : AreAt (all ∷ []) 0 (first + i) (tree this.value this.others) = (this.is, this.are) in
-      let c = this.count in
-      let s = same (tree this.value this.others) ts au (omega arith) ht ct in
-      f (slots-first all this.value this.others (first + i) at (omega arith) this.sound (s.0.0 x))
-
-pub same-ends : (all : List ℕ) (n first end i at : ℕ) → n ≤ i → Same all n first end i at → (ts : Trees)
-    → AreAt (all ∷ []) 0 first ts → count ts ≡ n → AreLaidAt all ts first end × (at ≡ end + sizes ts)
-same-ends all n first end i at le same ts ht ct =
-    let s = same no_trees ts tt (omega arith) ht ct in
-    let e = s.1 in
-    (s.0.1 (record { pointers = stand-none all (first + i); contents = stand-none all at }), omega arith)
 
 -- ---- a struct
 

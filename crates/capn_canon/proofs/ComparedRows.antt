@@ -1,13 +1,12 @@
 -- Rows stand as their layout exactly if they keep all their words and slots, at the next free word, and so on below
 -- them.
-use Rattle.std.proofs.Common.{◌≡◌, ◌↔◌, ◌⊎◌, inl, inr, ℕ, zero, suc, ◌+◌, ◌-◌, ◌*◌, ◌^◌, ◌<◌, ◌≤◌, List, [], ◌∷◌, ◌++◌}
-use Rattle.std.proofs.Common.{length, take, drop, slice_index, Ok, refl, ap, ap₂, sym, subst, ◌∙◌, arith, length-append}
-use Rattle.std.proofs.Common.{Option, Some, None}
+use Rattle.std.proofs.Common.{◌≡◌, ◌↔◌, ℕ, zero, suc, ◌+◌, ◌-◌, ◌*◌, ◌^◌, ◌<◌, ◌≤◌, List, [], ◌∷◌, ◌++◌}
+use Rattle.std.proofs.Common.{length, slice_index, Ok, refl, ap, ap₂, sym, subst, ◌∙◌, arith}
+use Rattle.std.proofs.Common.{Option}
 use Rattle.std.specs.Prelude.{pos}
 use Rattle.std.proofs.lemmas.List.{take_all}
 use Rattle.capn_words.specs.Message.{segment_at}
 use Rattle.capn_words.specs.Fields.{word_of}
-use Rattle.capn_words.specs.declared.space.Place.{Place}
 use Rattle.capn_words.specs.declared.pointer.Pointer.TheVariants.{Node}
 use Rattle.capn_words.specs.declared.pointer.Width.TheVariants.{Rows}
 use Rattle.capn_value.specs.Tree.{Tree, rows, Trees, count, Bodies, no_bodies, body, count_rows}
@@ -16,7 +15,7 @@ use Rattle.capn_value.specs.Sizes.{height, greatest, greatest_in_rows}
 use Rattle.capn_walk.specs.declared.target.Target.TheVariants as targets
 use Rattle.capn_walk.specs.declared.target.Shape.TheVariants as shapes
 use Rattle.capn_walk.specs.Target.{target}
-use Rattle.capn_walk.specs.At.{AreAt, AreWords, RowsAt, words_from}
+use Rattle.capn_walk.specs.At.{AreAt, RowsAt}
 use Rattle.capn_walk.specs.Walked.{IsInside}
 use Rattle.capn_walk.specs.Laws.Unique.{unique-rows}
 use Rattle.capn_canon.specs.Layout.{own, size, sizes, sizes_in_rows, row_size, point, points, lay, lays, row_contents}
@@ -27,7 +26,7 @@ use Rattle.capn_canon.proofs.LayLengths.{length-lays, length-points, length-row_
 use Rattle.capn_canon.specs.RowWords.{kept_each}
 use Rattle.capn_canon.specs.Ready.{AreReady}
 use Rattle.capn_canon.specs.Stands.{Stand, IsLaidAt, AreLaidAt, RowsLaidAt, Tells, AreReadyRows}
-use Rattle.capn_canon.proofs.EachRow.{kept-rows-words, kept-rows-slots, kept_each-le}
+use Rattle.capn_canon.proofs.EachRow.{kept-rows-words, kept-rows-slots}
 use Rattle.capn_canon.proofs.Shaped.{IsRows, as-rows}
 use Rattle.capn_canon.proofs.Compared.{laid-room}
 use Rattle.capn_canon.proofs.Standing.{stand-none, stand-join, stand-front, stand-back, stand-room, stand-cons}

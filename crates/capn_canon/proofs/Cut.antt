@@ -49,7 +49,7 @@ module _ (seg : List ℕ) (w count : ℕ) where
   abbrev pub AreZeros : ℕ → Type 0
   AreZeros n = (k : ℕ) → n ≤ k → k < count → slice_index seg (w + k) ≡ 0
 
-  cut : (n : ℕ) → AreZeros n → kept_words part ≤ n
+  pub cut : (n : ℕ) → AreZeros n → kept_words part ≤ n
   cut n h = zeros-cut part n (λ k l. both k l)
     where
       both : (k : ℕ) → n ≤ k → slice_index part k ≡ 0

@@ -31,6 +31,11 @@ pub mod Sound
 pub mod StandsIn
 pub mod Tight
 pub mod Nulls
+pub mod Onward
+pub mod Pointed
+pub mod PointedLists
+pub mod PointedRows
+pub mod PointedStructs
 pub mod Cut
 pub mod Shaped
 pub mod Front

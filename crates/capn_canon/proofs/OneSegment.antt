@@ -28,7 +28,7 @@ IsPlain k = Unit {0}
 
 module _ (ws : List ℕ) where
   -- what the pointer at a word names, by what is read there
-  names : (from : ℕ) (p : Pointer) → pointer_of (slice_index ws from) ≡ p
+  pub names : (from : ℕ) (p : Pointer) → pointer_of (slice_index ws from) ≡ p
       → target (ws ∷ []) (here from) ≡ named (ws ∷ []) 0 from p
   unfolding target
   names from p e = ap (named (ws ∷ []) 0 from) e

@@ -15,6 +15,7 @@ pub mod Opened
 pub mod RowWords
 pub mod Bits
 pub mod Stands
+pub mod Runs
 pub mod Checks
 pub mod Draft
 pub mod Surveys

@@ -1,34 +1,166 @@
 //! Whether the words of a message are the canonical layout of what they are read as.
 
-ghost use Rattle.std.specs.Prelude.{◌≡◌, ℕ, ◌+◌, ◌*◌, ◌^◌, ◌<◌, ◌≤◌, [], ◌∷◌, length, Ok};
+ghost use Rattle.std.specs.Prelude.{◌≡◌, ℕ, ◌+◌, ◌*◌, ◌<◌, ◌≤◌, [], ◌∷◌, length, slice_index};
 ghost use Rattle.capn_words.specs.Message.{IsMessage};
-ghost use Rattle.capn_value.specs.Tree.{Tree, Trees, Bodies, count as count_trees, count_rows};
-ghost use Rattle.capn_walk.specs.Target as spec;
-ghost use Rattle.capn_walk.specs.declared.target.Target.TheVariants.{Content};
-ghost use Rattle.capn_walk.specs.At.{IsAt, AreAt, RowsAt};
-ghost use Rattle.capn_walk.specs.Walked.{IsInside, IsContent, IsPlain, RowsFit, extent};
-ghost use Rattle.capn_walk.specs.Target.{content_words};
-ghost use Rattle.capn_walk.specs.declared.target.Shape.TheVariants.{Many};
-ghost use Rattle.capn_canon.specs.Sound.{Sound};
+ghost use Rattle.capn_words.specs.declared.pointer.Width.TheVariants as widths;
+ghost use Rattle.capn_value.specs.Sizes.{most_height};
+ghost use Rattle.capn_value.specs.Tree.{Tree, Trees, Bodies, count_rows};
+ghost use Rattle.capn_walk.specs.At.{IsAt, RowsAt};
+ghost use Rattle.capn_walk.specs.Walked.{IsPlain};
 ghost use Rattle.capn_canon.specs.Layout.{size, sizes, sizes_in_rows};
-ghost use Rattle.capn_canon.specs.Ready.{IsReady, IsReadyInside, AreReady};
+ghost use Rattle.capn_canon.specs.Runs.{IsRun, AreIn, IsList, Steps};
 ghost use Rattle.capn_canon.specs.Stands.{IsLaidAt, AreLaidAt, RowsLaidAt, Tells, AreReadyRows};
 
 use crate::finding::target_at;
 use crate::listing::bits_of;
-use crate::testing::{are_bits_at, are_rows_at, is_list_at, is_struct_at, word_at};
+use crate::run::Run;
+use crate::testing::{are_bits_at, are_rows_at, is_struct_at, leads_to, word_at};
 use capn_walk::{Shape, Target};
-use capn_words::{Bare, Place, Pointer, Width, join};
+use capn_words::{Bare, Place, Pointer, Width, split};
 
-/// The next free word behind the value at a place, where the pointer to it and its content are those of the
-/// canonical layout that begins at the next free word; else none.
+/// The next free word behind all that is below some slots, where each slot and all below it is that of the canonical
+/// layout that begins at the next free word; else none.
 #[cycle(checking)]
-pub fn check_slot(space: &Bare<'_>, from: u32, next: u32, depth: u32) -> Option<u32>
+pub fn check_run(space: &Bare<'_>, run: Run) -> Option<u32>
     requires message { IsMessage (space.now ∷ []) }
-    requires place { from < length space.now }
-    requires order { from < next }
-    requires fits { next ≤ length space.now }
-    requires ready { IsReady (space.now ∷ []) (record { segment = 0; word = from }) depth next }
+    requires stands { IsRun space.now run }
+    ensures { (ts : Trees) → AreIn space.now run ts
+        → Tells (AreLaidAt space.now ts run.from run.next) (run.next + sizes ts) result }
+{
+    let mut left = run;
+    while left.from < left.end {
+        match step(space, left) {
+            Some(rest) => left = rest,
+            None => return None,
+        }
+    }
+    Some(left.next)
+}
+
+/// What is left of a run behind its first slot; behind its last slot, the slots of the struct that this one names.
+#[cycle(checking)]
+#[inline(always)]
+fn step(space: &Bare<'_>, run: Run) -> Option<Run>
+    requires message { IsMessage (space.now ∷ []) }
+    requires stands { IsRun space.now run }
+    requires some { run.from < run.end }
+    ensures { Steps space.now run result }
+{
+    let word = word_at(space, run.from);
+    if word == 0 {
+        return Some(run.behind(run.next));
+    }
+    match split(word) {
+        Pointer::Node {
+            offset: _,
+            words,
+            slots,
+        } => {
+            if !is_struct_at(space, word, words, slots, run) {
+                return None;
+            }
+            let from = run.next + words as u32;
+            let end = from + slots as u32;
+            let below = Run {
+                from,
+                end,
+                next: end,
+            };
+            if run.from + 1 == run.end {
+                return Some(below);
+            }
+            if slots == 0 {
+                return Some(run.behind(end));
+            }
+            match check_run(space, below) {
+                Some(next) => Some(run.behind(next)),
+                None => None,
+            }
+        }
+        Pointer::Many {
+            offset: _,
+            width,
+            count,
+        } => match check_many(space, word, width, count, run.from, run.next) {
+            Some(next) => Some(run.behind(next)),
+            None => None,
+        },
+        Pointer::Cap(_) => Some(run.behind(run.next)),
+        _ => None,
+    }
+}
+
+/// The next free word behind the list that the pointer at a place names, and behind all below it, where pointer and
+/// content are those of the canonical layout that begins at the next free word; else none.
+#[cycle(checking)]
+#[inline(always)]
+fn check_many(
+    space: &Bare<'_>,
+    word: u64,
+    width: Width,
+    count: u32,
+    from: u32,
+    next: u32,
+) -> Option<u32>
+    requires { IsList space.now word width count from next }
+    ensures { (v : Tree) → IsAt (space.now ∷ []) (record { segment = 0; word = from }) v
+        → Tells (IsLaidAt space.now v from next) (next + size v) result }
+{
+    match width {
+        Width::Link => check_links(space, word, count, from, next),
+        Width::Rows => check_composite(space, from, next),
+        _ => check_list(space, word, width, count, from, next),
+    }
+}
+
+/// The same of a list of elements without pointers.
+#[inline(always)]
+fn check_list(
+    space: &Bare<'_>,
+    word: u64,
+    width: Width,
+    count: u32,
+    from: u32,
+    next: u32,
+) -> Option<u32>
+    requires list { IsList space.now word width count from next }
+    requires plain { IsPlain width }
+    ensures { (v : Tree) → IsAt (space.now ∷ []) (record { segment = 0; word = from }) v
+        → Tells (IsLaidAt space.now v from next) (next + size v) result }
+{
+    if !leads_to(word, from, next) {
+        return None;
+    }
+    let bits = bits_of(width) * count as u64;
+    if !are_bits_at(space, bits, next) {
+        return None;
+    }
+    Some(next + bits.div_ceil(64) as u32)
+}
+
+/// The same of a list of pointers.
+#[cycle(checking)]
+fn check_links(space: &Bare<'_>, word: u64, count: u32, from: u32, next: u32) -> Option<u32>
+    requires { IsList space.now word widths.Link count from next }
+    ensures { (v : Tree) → IsAt (space.now ∷ []) (record { segment = 0; word = from }) v
+        → Tells (IsLaidAt space.now v from next) (next + size v) result }
+{
+    if !leads_to(word, from, next) {
+        return None;
+    }
+    let end = next + count;
+    let below = Run {
+        from: next,
+        end,
+        next: end,
+    };
+    check_run(space, below)
+}
+
+/// The same of a list of structs.
+#[cycle(checking)]
+fn check_composite(space: &Bare<'_>, from: u32, next: u32) -> Option<u32>
+    requires { (n : ℕ) × IsList space.now (slice_index space.now from) widths.Rows n from next }
     ensures { (v : Tree) → IsAt (space.now ∷ []) (record { segment = 0; word = from }) v
         → Tells (IsLaidAt space.now v from next) (next + size v) result }
 {
@@ -37,145 +169,36 @@ pub fn check_slot(space: &Bare<'_>, from: u32, next: u32, depth: u32) -> Option<
         word: from,
     };
     match target_at(space, at) {
-        Target::Nil => Some(next),
-        Target::Cap(index) => {
-            if word_at(space, from) == join(Pointer::Cap(index)) {
-                Some(next)
-            } else {
-                None
-            }
-        }
         Target::Content {
             segment,
             start,
             shape,
-            pads,
-        } => {
-            let start = Place {
-                segment,
-                word: start,
-            };
-            check_object(space, start, shape, pads, from, next, depth - 1)
-        }
-    }
-}
-
-/// The same of the object that a pointer names.
-#[cycle(checking)]
-fn check_object(
-    space: &Bare<'_>,
-    start: Place,
-    shape: Shape,
-    pads: u8,
-    from: u32,
-    next: u32,
-    depth: u32,
-) -> Option<u32>
-    requires message { IsMessage (space.now ∷ []) }
-    requires place { from < length space.now }
-    requires order { from < next }
-    requires fits { next ≤ length space.now }
-    requires target { spec.target (space.now ∷ []) (record { segment = 0; word = from })
-        ≡ Ok (Content start.segment start.word shape pads) }
-    requires content { IsContent (space.now ∷ []) start (extent shape) }
-    requires rows { RowsFit shape }
-    requires ready { IsReadyInside (space.now ∷ []) shape start.segment start.word depth next }
-    ensures { (v : Tree) → IsInside (space.now ∷ []) shape start.segment start.word v
-        → Tells (IsLaidAt space.now v from next) (next + size v) result }
-{
-    match shape {
-        Shape::Node { words, slots } => {
-            if !is_struct_at(space, start, words, slots, from, next) {
-                return None;
-            }
-            let first = next + words as u32;
-            let count = slots as u32;
-            check_slots(space, first, count, first + count, depth)
-        }
-        Shape::Many { width, count } => match width {
-            Width::Link => {
-                if !is_list_at(space, width, count, count, from, next) {
+            pads: _,
+        } => match shape {
+            Shape::Rows {
+                count,
+                words,
+                slots,
+                span: _,
+            } => {
+                let rows = Place {
+                    segment,
+                    word: start + 1,
+                };
+                if !are_rows_at(space, rows, count, words, slots, from, next) {
                     return None;
                 }
-                check_slots(space, next, count, next + count, depth)
+                let first = next + 1;
+                let end = first + count * (words as u32 + slots as u32);
+                check_rows(space, first, count, words, slots, end)
             }
-            _ => check_list(space, start, width, count, pads, from, next),
+            _ => unreachable!(),
         },
-        Shape::Rows {
-            count,
-            words,
-            slots,
-            span: _,
-        } => {
-            let rows = Place {
-                segment: start.segment,
-                word: start.word + 1,
-            };
-            if !are_rows_at(space, rows, count, words, slots, from, next) {
-                return None;
-            }
-            let first = next + 1;
-            let end = first + count * (words as u32 + slots as u32);
-            check_rows(space, first, count, words, slots, end, depth)
-        }
+        _ => unreachable!(),
     }
 }
 
-/// The same of a list of elements without pointers.
-fn check_list(
-    space: &Bare<'_>,
-    start: Place,
-    width: Width,
-    count: u32,
-    pads: u8,
-    from: u32,
-    next: u32,
-) -> Option<u32>
-    requires message { IsMessage (space.now ∷ []) }
-    requires place { from < length space.now }
-    requires order { from < next }
-    requires fits { next ≤ length space.now }
-    requires plain { IsPlain width }
-    requires few { count < 2 ^ 29 }
-    requires target { spec.target (space.now ∷ []) (record { segment = 0; word = from })
-        ≡ Ok (Content start.segment start.word (Many width count) pads) }
-    requires content { IsContent (space.now ∷ []) start (content_words width count) }
-    ensures { (v : Tree) → IsInside (space.now ∷ []) (Many width count) start.segment start.word v → Sound v
-        → Tells (IsLaidAt space.now v from next) (next + size v) result }
-{
-    let bits = bits_of(width) * count as u64;
-    let words = bits.div_ceil(64) as u32;
-    if !is_list_at(space, width, count, words, from, next) {
-        return None;
-    }
-    if !are_bits_at(space, bits, next) {
-        return None;
-    }
-    Some(next + words)
-}
-
-/// The same of so many slots that stand from a word on, below which the next free word is the end.
-#[cycle(checking)]
-fn check_slots(space: &Bare<'_>, first: u32, count: u32, end: u32, depth: u32) -> Option<u32>
-    requires message { IsMessage (space.now ∷ []) }
-    requires inside { first + count ≤ length space.now }
-    requires order { first + count ≤ end }
-    requires fits { end ≤ length space.now }
-    requires ready { AreReady (space.now ∷ []) 0 first count depth end }
-    ensures { (ts : Trees) → AreAt (space.now ∷ []) 0 first ts → count_trees ts ≡ count
-        → Tells (AreLaidAt space.now ts first end) (end + sizes ts) result }
-{
-    let mut next = end;
-    for i in 0..count {
-        match check_slot(space, first + i, next, depth) {
-            Some(behind) => next = behind,
-            None => return None,
-        }
-    }
-    Some(next)
-}
-
-/// The same of the slots of so many rows that stand from a word on.
+/// The same of the slots of so many rows that stand from a word on, below which the next free word is the end.
 #[cycle(checking)]
 fn check_rows(
     space: &Bare<'_>,
@@ -184,20 +207,25 @@ fn check_rows(
     words: u16,
     slots: u16,
     end: u32,
-    depth: u32,
 ) -> Option<u32>
     requires message { IsMessage (space.now ∷ []) }
     requires inside { first + count * (words + slots) ≤ length space.now }
     requires order { first + count * (words + slots) ≤ end }
     requires fits { end ≤ length space.now }
-    requires ready { AreReadyRows (space.now ∷ []) 0 first words slots count depth end }
+    requires ready { AreReadyRows (space.now ∷ []) 0 first words slots count most_height end }
     ensures { (bs : Bodies) → RowsAt (space.now ∷ []) words slots 0 first bs → count_rows bs ≡ count
         → Tells (RowsLaidAt space.now words slots bs first end) (end + sizes_in_rows bs) result }
 {
     let mut next = end;
     let mut row = first;
     for i in 0..count {
-        match check_slots(space, row + words as u32, slots as u32, next, depth) {
+        let from = row + words as u32;
+        let below = Run {
+            from,
+            end: from + slots as u32,
+            next,
+        };
+        match check_run(space, below) {
             Some(behind) => next = behind,
             None => return None,
         }

@@ -44,6 +44,7 @@ mod placing;
 mod pointing;
 mod refusal;
 mod rows;
+mod run;
 mod surveying;
 mod testing;
 mod tree_layout;

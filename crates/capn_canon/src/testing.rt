@@ -1,24 +1,25 @@
 //! Whether an object's own words are those of its canonical layout.
 
 ghost use Rattle.std.specs.Prelude.{◌≡◌, ℕ, ◌+◌, ◌*◌, ◌/◌, ◌^◌, ◌<◌, ◌≤◌, IsTrue, ◌↔◌, [], ◌∷◌, length, take, drop};
-ghost use Rattle.std.specs.Prelude.{slice_index, pos};
+ghost use Rattle.std.specs.Prelude.{slice_index, pos, ◌-◌, ◌%◌};
 ghost use Rattle.capn_words.specs.Message.{IsMessage};
 ghost use Rattle.capn_words.specs.Fields.{word_of};
 ghost use Rattle.capn_words.specs.declared.pointer.Pointer.TheVariants.{Node};
 ghost use Rattle.capn_words.specs.declared.pointer.Width.TheVariants.{Rows};
 ghost use Rattle.capn_value.specs.Trim.{kept_words};
 ghost use Rattle.capn_walk.specs.At.{words_from};
-ghost use Rattle.capn_walk.specs.Target.{content_words};
-ghost use Rattle.capn_walk.specs.Walked.{IsContent, IsPlain};
-ghost use Rattle.capn_canon.specs.Layout.{struct_to, list_to};
+ghost use Rattle.capn_walk.specs.Walked.{IsContent};
+ghost use Rattle.capn_canon.specs.Layout.{list_to};
 ghost use Rattle.capn_canon.specs.Bits.{element_bits, first_bits};
 ghost use Rattle.capn_canon.specs.RowWords.{kept_each};
+ghost use Rattle.capn_canon.specs.Runs.{IsStruct, Passes};
 ghost use Rattle.capn_canon.specs.Stands.{Stand};
 
-use crate::kept::{kept_above, kept_in_rows};
+use crate::kept::kept_in_rows;
 use crate::listing::bits_of;
-use crate::pointing::{list_pointer, struct_pointer};
+use crate::pointing::list_pointer;
 use crate::rows::tag_word;
+use crate::run::Run;
 use capn_words::{Bare, Place, Space, Width};
 
 /// The number of words.
@@ -36,39 +37,40 @@ pub fn word_at(space: &Bare<'_>, word: u32) -> u64
     space.word(Place { segment: 0, word })
 }
 
-/// Whether a struct keeps all its words and slots, its pointer is the one to the next free word, and there
-/// is room for it.
-pub fn is_struct_at(
-    space: &Bare<'_>,
-    start: Place,
-    words: u16,
-    slots: u16,
-    from: u32,
-    next: u32,
-) -> bool
-    requires message { IsMessage (space.now ∷ []) }
-    requires content { IsContent (space.now ∷ []) start (words + slots) }
-    requires place { from < length space.now }
+/// Whether a near pointer at a place leads to the next free word, by its offset.
+#[inline(always)]
+pub fn leads_to(word: u64, from: u32, next: u32) -> bool
     requires order { from < next }
-    requires room { next ≤ 2 ^ 29 }
-    ensures { IsTrue result ↔ (
-        (kept_words (take words (words_from (space.now ∷ []) start.segment start.word)) ≡ words)
-        × (kept_words (take slots (words_from (space.now ∷ []) start.segment (start.word + words))) ≡ slots)
-        × (slice_index space.now from ≡ struct_to from next words slots)
-        × (next + (words + slots) ≤ length space.now)) }
+    ensures { IsTrue result ↔ (word / 4 % 2 ^ 30 ≡ next - from - 1) }
 {
-    let below = Place {
-        segment: start.segment,
-        word: start.word + words as u32,
-    };
-    let kept = kept_above(space, start, words as u32, 0);
-    let count = kept_above(space, below, slots as u32, 0);
-    let word = struct_pointer(from as usize, next as usize, words as usize, slots as usize);
-    let end = next + words as u32 + slots as u32;
-    kept == words as u32
-        && count == slots as u32
-        && word_at(space, from) == word
-        && end <= words_of(space)
+    word >> 2 & 0x3fff_ffff == (next - from - 1) as u64
+}
+
+/// Whether so many words from a place on are all kept: the last of them, if any, is not zero.
+#[inline(always)]
+fn is_kept(space: &Bare<'_>, at: u32, count: u32) -> bool
+    requires inside { at + count ≤ length space.now }
+    requires room { length space.now ≤ 2 ^ 29 }
+    ensures { IsTrue result ↔ (kept_words (take count (drop at space.now)) ≡ count) }
+{
+    count == 0 || word_at(space, at + count - 1) != 0
+}
+
+/// Whether the pointer at the first slot of a run, to a struct of so many words and slots, is the one to the next free
+/// word, and the struct keeps all of them. One of none has its own word.
+#[inline(always)]
+pub fn is_struct_at(space: &Bare<'_>, word: u64, words: u16, slots: u16, run: Run) -> bool
+    requires { IsStruct space.now word words slots run }
+    ensures { IsTrue result ↔ Passes space.now words slots run }
+{
+    if words as u32 + slots as u32 == 0 {
+        return word == 0xffff_fffc;
+    }
+    if !leads_to(word, run.from, run.next) {
+        return false;
+    }
+    let below = run.next + words as u32;
+    is_kept(space, run.next, words as u32) && is_kept(space, below, slots as u32)
 }
 
 /// Whether the pointer to a list is the one to the next free word, and there is room for so many words.

@@ -5,6 +5,7 @@ ghost use Rattle.std.specs.Prelude.{MatchResult};
 ghost use Rattle.capn_words.specs.Message.{IsMessage};
 ghost use Rattle.capn_value.specs.Tree.{Tree as Value};
 ghost use Rattle.capn_value.specs.Caps.{first_cap};
+ghost use Rattle.capn_value.specs.Sizes.{most_height};
 ghost use Rattle.capn_walk.specs.Accepted.{root};
 ghost use Rattle.capn_walk.specs.At.{IsAt};
 ghost use Rattle.capn_walk.specs.Denotes.{IsValueOf, IsRefused as IsStopped, IsBounded};
@@ -18,21 +19,27 @@ ghost use Rattle.capn_canon.specs.Ready.{IsReady};
 ghost use Rattle.capn_canon.specs.Checks.{Checks, IsCheck};
 
 use crate::checked::Checked;
-use crate::checking::check_slot;
+use crate::checking::check_run;
 use crate::refusal::Refusal;
+use crate::run::Run;
 use crate::testing::words_of;
 use capn_walk::{Fault, Limits, Stopped, survey};
 use capn_words::{Bare, Space};
 use std::alloc::Allocator;
 
 /// Whether the words are the canonical words of the value at their root.
-pub fn are_canonical(space: &Bare<'_>, depth: u32) -> bool
+pub fn are_canonical(space: &Bare<'_>) -> bool
     requires message { IsMessage (space.now ∷ []) }
     requires some { 0 < length space.now }
-    requires ready { IsReady (space.now ∷ []) root depth 1 }
+    requires ready { IsReady (space.now ∷ []) root most_height 1 }
     ensures { (v : Value) → IsAt (space.now ∷ []) root v → IsTrue result ↔ (words v ≡ space.now) }
 {
-    match check_slot(space, 0, 1, depth) {
+    let root = Run {
+        from: 0,
+        end: 1,
+        next: 1,
+    };
+    match check_run(space, root) {
         Some(end) => end == words_of(space),
         None => false,
     }
@@ -64,11 +71,11 @@ pub fn check<A: Allocator + Copy>(
 {
     let _segments = space.segments();
     let _budget = limits.budget();
-    let depth = limits.depth();
+    let _depth = limits.depth();
     let told = survey(alloc, space, limits)?;
     let is_canonical = match told.capability {
         Some(_) => false,
-        None => are_canonical(space, depth),
+        None => are_canonical(space),
     };
     Ok(Checked {
         paid: told.paid,

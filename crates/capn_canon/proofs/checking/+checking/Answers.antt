@@ -1,306 +1,259 @@
-use Rattle.std.proofs.Common.{rules, ◌≡◌, ℕ, suc, ◌+◌, ◌-◌, ◌*◌, ◌^◌, ◌<◌, ◌≤◌, [], ◌∷◌, length, Some, Ok, Err, sym, ap}
-use Rattle.std.proofs.Common.{subst, ◌∙◌, arith, refl}
-use Rattle.capn_words.specs.Message.{segment_at}
-use Rattle.capn_walk.specs.Target.{target}
+use Rattle.std.proofs.Common.{◌≡◌, ℕ, ◌+◌, ◌-◌, ◌*◌, [], ◌∷◌, Some, None, Ok}
+use Rattle.std.proofs.Common.{sym, ap, subst, ◌∙◌, arith, refl}
+use Rattle.capn_words.specs.Fields.{Fields}
+use Rattle.capn_words.specs.declared.pointer.Pointer.TheVariants.{Many}
+use Rattle.capn_value.specs.Sizes.{most_height}
+use Rattle.capn_canon.specs.declared.run.Run.{Run}
+use Rattle.capn_canon.specs.Runs.{IsStruct, IsList, IsRun, Steps}
+use Rattle.capn_value.specs.Tree.{Trees, count}
+use Rattle.capn_walk.specs.At.{AreAt}
+use Rattle.capn_canon.specs.Layout.{sizes}
+use Rattle.capn_canon.specs.Stands.{AreLaidAt}
+use Rattle.capn_words.specs.declared.pointer.Width.{Width}
+use Rattle.capn_words.specs.declared.pointer.Width.TheVariants.{Link, Rows}
 use Rattle.capn_walk.specs.declared.target.Shape.{Shape}
 use Rattle.capn_walk.specs.declared.target.Shape.TheVariants as shapes
 use Rattle.capn_walk.specs.declared.target.Target.TheVariants as targets
-use Rattle.capn_walk.specs.Walked.{IsContent, IsInside, RowsFit, extent}
-use Rattle.capn_walk.specs.Laws.Inside.{inside}
-use Rattle.capn_walk.specs.Laws.Present.{present}
-use Rattle.capn_walk.specs.Laws.Segments.{segment-room}
-use Rattle.capn_walk.specs.Laws.Walks.{is-inside}
-use Rattle.capn_walk.specs.Laws.Unique.{unique}
-use Rattle.capn_words.specs.declared.pointer.Width.{Width}
-use Rattle.capn_value.specs.Tree.{Tree}
-use Rattle.capn_canon.specs.Sound.{Sound}
-use Rattle.capn_canon.specs.Layout.{list_to}
-use Rattle.capn_canon.specs.Ready.{IsReadyInside}
-use Rattle.capn_canon.proofs.Nulls.{other-than-nil}
-use Rattle.capn_canon.proofs.Shaped.{found, null-of, cap-at, inside-of, inside-height}
-use Rattle.capn_canon.proofs.Slots.{next, next-ready, begins-ready}
-use Rattle.capn_canon.proofs.Compared.{not-true, laid-room, null-told, cap-told, cap-pointer, same-begins, this}
-use Rattle.capn_canon.proofs.Compared.{same-then, ready-then, same-fails, same-ends, struct-passes, struct-told}
-use Rattle.capn_canon.proofs.Compared.{struct-ready, links-passes, links-told, links-check, links-few}
 use Rattle.capn_walk.specs.Laws.RowWalks.{row-inside}
 use Rattle.capn_canon.proofs.ComparedRows.{rows-same-begins, row-check, rows-fail, rows-grown, rows-within}
-use Rattle.capn_canon.proofs.ComparedRows.{rows-ready-then, rows-same-then, rows-same-ends, rows-passes, rows-check}
-use Rattle.capn_canon.proofs.ComparedRows.{rows-told}
+use Rattle.capn_canon.proofs.ComparedRows.{rows-ready-then, rows-same-then, rows-same-ends}
+use Rattle.capn_canon.proofs.Compared.{not-true, null-told, cap-told}
+use Rattle.capn_canon.proofs.Shaped.{found, null-of, cap-at}
+use Rattle.capn_canon.proofs.OneSegment.{here, names-null, names-cap}
+use Rattle.capn_canon.proofs.Pointed.{laid-kind}
+use Rattle.capn_canon.proofs.Onward.{goes-nowhere, goes-further, goes-to-end, first}
+use Rattle.capn_canon.proofs.Onward.{first-off, steps-behind}
+use Rattle.capn_canon.proofs.PointedLists.{links-leads, links-run, links-answer, composite-is}
+use Rattle.capn_canon.proofs.PointedRows.{composite-content, composite-start, composite-few}
+use Rattle.capn_canon.proofs.PointedRows.{composite-span, composite-passes, composite-check, composite-told}
+use Rattle.capn_canon.proofs.PointedStructs.{passes, below-is, below-told, none-told, steps-below}
+use Rattle.capn_canon.proofs.Slots.{next-ready}
 use Rattle.capn_canon.proofs.checking.+checking.Goals as goal
 
-pub check_slot-target_at-requires-clause-found : goal.check_slot-target_at-requires-clause-found
-check_slot-target_at-requires-clause-found t c =
-    found (c.args.space.now ∷ []) (record { segment = 0; word = c.args.from }) c.requires.ready.value
-    c.requires.ready.is
+-- ---- a run
 
-pub check_slot-overflow_sub-depth : goal.check_slot-overflow_sub-depth
-check_slot-overflow_sub-depth t c =
-    let m = c.args.space.now ∷ [] in
-    let x = c.in-Content in
-    let r = c.requires.ready in
-    let e = c.target_at.ensures ∙ ap Ok x.is in
-    let h = inside-height m x.shape x.segment x.start r.value
-    (inside-of m (record { segment = 0; word = c.args.from }) x.segment x.start x.pads x.shape e r.value r.is) in
-    let l = r.low in
-    omega arith
-
-pub check_slot-check_object-requires : goal.check_slot-check_object-requires
-check_slot-check_object-requires t c =
-    let m = c.args.space.now ∷ [] in
-    let x = c.in-Content in
-    let e = c.target_at.ensures ∙ ap Ok x.is in
-    let i = inside m (record { segment = 0; word = c.args.from }) x.segment x.start x.pads x.shape e in
-    let r = c.requires.ready in
-    let here = inside-of m (record { segment = 0; word = c.args.from }) x.segment x.start x.pads x.shape e r.value
-    r.is in
-    let h = inside-height m x.shape x.segment x.start r.value here in
-    let ready : IsReadyInside m x.shape x.segment x.start (c.args.depth - 1) c.args.next =
-    record {
-      value = r.value;
-      is = here;
-      only = λ v k. unique m v r.value (record { segment = 0; word = c.args.from })
-          (is-inside m (record { segment = 0; word = c.args.from }) x.segment x.start x.pads x.shape v e k) r.is;
-      sound = r.sound;
-      low = let l = r.low in omega arith;
-      room = r.room;
-    } in
-    let content : IsContent m (record { segment = x.segment; word = x.start }) (extent x.shape) =
-    record {
-      exists =
-          present m (record { segment = 0; word = c.args.from }) x.segment x.start x.pads x.shape c.requires.place e;
-      within = i.0;
-    } in (
-      omega arith,
-      (c.requires.message, (c.requires.place, (c.requires.order, (c.requires.fits, (e, (content, (i.1, ready))))))),
-    )
-
-pub check_slot-returns-in-Nil : goal.check_slot-returns-in-Nil
-check_slot-returns-in-Nil t c v h =
-    let m = c.args.space.now ∷ [] in
-    let e = c.target_at.ensures ∙ ap Ok c.in-Nil.is in
-    null-told c.args.space.now v c.args.from c.args.next (null-of m (record { segment = 0; word = c.args.from }) v e h)
-    (other-than-nil m (record { segment = 0; word = c.args.from }) e)
-
-pub check_slot-returns-then-word_at-join : goal.check_slot-returns-then-word_at-join
-check_slot-returns-then-word_at-join t c v h =
-    let m = c.args.space.now ∷ [] in
-    let e = c.target_at.ensures ∙ ap Ok c.in-Cap.is in
-    cap-told c.args.space.now v c.in-Cap.index c.args.from c.args.next
-    (cap-at m (record { segment = 0; word = c.args.from }) v c.in-Cap.index e h) (sym c.word_at.ensures
-    ∙ c.if-word_at-join.true ∙ c.join.ensures.word)
-
-pub check_slot-returns-else-word_at-join : goal.check_slot-returns-else-word_at-join
-check_slot-returns-else-word_at-join t c v h l =
-    let m = c.args.space.now ∷ [] in
-    let e = c.target_at.ensures ∙ ap Ok c.in-Cap.is in
-    c.if-word_at-join.false (c.word_at.ensures
-    ∙ cap-pointer c.args.space.now v c.in-Cap.index c.args.from c.args.next
-    (cap-at m (record { segment = 0; word = c.args.from }) v c.in-Cap.index e h) l ∙ sym c.join.ensures.word)
-
--- ---- slots
-
-pub check_slots-loop-i-init : goal.check_slots-loop-i-init
-check_slots-loop-i-init t c = record {
-  order = c.requires.order;
-  fits = c.requires.fits;
-  ready = let r = c.requires.ready in record {
-    values = r.values;
-    are = let z : c.args.first ≡ c.args.first + 0 = omega arith in rw (← z) r.are;
-    count = let e = r.count in omega arith;
-    sound = r.sound;
-    low = r.low;
-    room = r.room;
-  };
-  same = same-begins c.args.space.now c.args.count c.args.first c.args.end;
+pub check_run-loop-left-init : goal.check_run-loop-left-init
+check_run-loop-left-init t c = record {
+  later = omega arith;
+  stands = c.requires.stands;
+  goes = goes-nowhere c.args.space.now c.args.run;
 }
 
-pub check_slots-check_slot-requires : goal.check_slots-check_slot-requires
-check_slots-check_slot-requires t c =
-    let m = c.args.space.now ∷ [] in
-    let lt = c.loop-i-test.true in
-    let i = c.loop-i.i in
-    let v = c.loop-i.invariant in
-    let o = v.order in
-    let inside = c.requires.inside in
-    let x = next m 0 (c.args.first + i) (c.args.count - i) c.args.depth c.loop-i.next v.ready (omega arith) in
-    let ready = next-ready m 0 (c.args.first + i) (c.args.count - i) c.args.depth c.loop-i.next x in
-    (omega arith, (c.requires.message, (omega arith, (omega arith, (v.fits, ready)))))
-
-pub check_slots-returns-in-None : goal.check_slots-returns-in-None
-check_slots-returns-in-None t c =
-    let v = c.loop-i.invariant in
-    let x = this c.args.space.now c.args.count c.args.first c.args.end c.args.depth c.loop-i.i c.loop-i.next
-    c.loop-i-test.true c.requires.inside v.ready v.same in
-    same-fails c.args.space.now c.args.count c.args.first c.args.end c.args.depth c.loop-i.i c.loop-i.next
-    c.loop-i-test.true c.requires.inside v.ready v.same
-    (c.in-None.ensures x.value x.is)
-
-pub check_slots-loop-i-preserved : goal.check_slots-loop-i-preserved
-check_slots-loop-i-preserved t c =
-    let all = c.args.space.now in
-    let v = c.loop-i.invariant in
-    let x = this c.args.space.now c.args.count c.args.first c.args.end c.args.depth c.loop-i.i c.loop-i.next
-    c.loop-i-test.true c.requires.inside v.ready v.same in
-    let h = c.in-Some.ensures x.value x.is in
-    let r = laid-room c.args.space.now x.value (c.args.first + c.loop-i.i) c.loop-i.next x.sound v.fits h.0 in
-    let e = h.1 in
-    let o = v.order in
+pub check_run-loop-left-preserved : goal.check_run-loop-left-preserved
+check_run-loop-left-preserved t c =
+    let v = c.loop-left.invariant in
+    let s = c.in-Some.ensures in
+    let a = s.0 in
+    let l = v.later in
     record {
-      order = omega arith;
-      fits = omega arith;
-      ready = ready-then c.args.space.now c.args.count c.args.first c.args.end c.args.depth c.loop-i.i c.loop-i.next
-          c.loop-i-test.true c.requires.inside v.ready v.same c.in-Some.behind h.0 h.1;
-      same = same-then c.args.space.now c.args.count c.args.first c.args.end c.args.depth c.loop-i.i c.loop-i.next
-          c.loop-i-test.true c.requires.inside v.ready v.same c.in-Some.behind h.0 h.1;
+      later = omega arith;
+      stands = s.1;
+      goes = goes-further c.args.space.now c.args.run c.loop-left.left c.in-Some.rest v.stands v.goes s.2;
     }
 
-pub check_slots-returns : goal.check_slots-returns
-check_slots-returns t c =
-    same-ends c.args.space.now c.args.count c.args.first c.args.end c.loop-i.i c.loop-i.next c.loop-i-test.false
-    c.loop-i.invariant.same
+pub check_run-returns : goal.check_run-returns
+check_run-returns t c = goes-to-end c.args.space.now c.args.run c.loop-left.left c.loop-left-test.false
+    c.loop-left.invariant.goes
 
--- ---- a struct
+-- ---- a step
 
-pub check_object-returns-then-not-is_struct_at : goal.check_object-returns-then-not-is_struct_at
-check_object-returns-then-not-is_struct_at t c v i h =
-    let m = c.args.space.now ∷ [] in
+pub step-returns-then-word-eq0 : goal.step-returns-then-word-eq0
+step-returns-then-word-eq0 t c =
     let all = c.args.space.now in
-    let s = c.args.start.segment in
-    let w = c.args.start.word in
-    let x = c.in-Node in
-    let r = c.requires.ready in
-    let small = segment-room m 0 c.requires.message (omega arith) in
-    let within = subst (λ (sh : Shape). w + extent sh ≤ length (segment_at m s)) x.is c.requires.content.within in
-    let e = c.requires.target ∙ ap (λ (sh : Shape). Ok (targets.Content s w sh c.args.pads)) x.is in
-    let j = subst (λ (sh : Shape). IsInside m sh s w v) x.is i in
-    let o = subst Sound (sym (r.only v i)) r.sound in
-    not-true (c.if-not-is_struct_at.ensures.1
-    (struct-passes all x.words x.slots s w c.args.from c.args.next c.args.pads e (omega arith) within
-    c.requires.order v j o c.requires.fits h))
+    let r = c.args.run in
+    let n = first all r c.requires.some c.requires.stands in
+    let z = sym c.word_at-word.ensures ∙ c.if-word-eq0.true in
+    let k = null-told all n.value r.from r.next
+    (null-of (all ∷ []) (here r.from) n.value (names-null all r.from z) n.is) z in
+    subst (λ (q : Run). Steps all r (Some q)) (sym c.behind.ensures)
+    (steps-behind all r c.requires.some c.requires.stands r.next k.0 k.1)
 
-pub check_object-check_slots-requires : goal.check_object-check_slots-requires
-check_object-check_slots-requires t c =
-    let m = c.args.space.now ∷ [] in
-    let all = c.args.space.now in
-    let s = c.args.start.segment in
-    let w = c.args.start.word in
-    let x = c.in-Node in
-    let r = c.requires.ready in
-    let small = segment-room m 0 c.requires.message (omega arith) in
-    let within = subst (λ (sh : Shape). w + extent sh ≤ length (segment_at m s)) x.is c.requires.content.within in
-    let e = c.requires.target ∙ ap (λ (sh : Shape). Ok (targets.Content s w sh c.args.pads)) x.is in
-    let j = subst (λ (sh : Shape). IsInside m sh s w r.value) x.is r.is in
-    let four = c.if-not-is_struct_at.ensures.0 refl in
-    let room = four.3 in (
-      omega arith,
-      (
-        c.requires.message,
-        (
-          omega arith,
-          (
-            omega arith,
-            (
-              omega arith,
-              struct-ready all x.words x.slots s w c.args.from c.args.next c.args.pads e (omega arith) within
-                  c.requires.order r.value j r.sound c.requires.fits four.0 four.1 four.2 four.3 c.args.depth r.low
-                  r.room,
-            ),
-          ),
-        ),
-      ),
-    )
+pub step-is_struct_at-requires : goal.step-is_struct_at-requires
+step-is_struct_at-requires t c = record {
+  message = c.requires.message;
+  some = c.requires.some;
+  stands = c.requires.stands;
+  word = c.word_at-word.ensures;
+  pointer = (c.in-Node.offset, (c.in-Node.ensures.fits, sym c.in-Node.ensures.joined));
+}
 
-pub check_object-returns-else-not-is_struct_at : goal.check_object-returns-else-not-is_struct_at
-check_object-returns-else-not-is_struct_at t c v i =
-    let m = c.args.space.now ∷ [] in
+pub step-returns-then-not-is_struct_at : goal.step-returns-then-not-is_struct_at
+step-returns-then-not-is_struct_at t c =
     let all = c.args.space.now in
-    let s = c.args.start.segment in
-    let w = c.args.start.word in
+    let r = c.args.run in
     let x = c.in-Node in
-    let r = c.requires.ready in
-    let small = segment-room m 0 c.requires.message (omega arith) in
-    let within = subst (λ (sh : Shape). w + extent sh ≤ length (segment_at m s)) x.is c.requires.content.within in
-    let e = c.requires.target ∙ ap (λ (sh : Shape). Ok (targets.Content s w sh c.args.pads)) x.is in
-    let j = subst (λ (sh : Shape). IsInside m sh s w v) x.is i in
-    let o = subst Sound (sym (r.only v i)) r.sound in
-    let four = c.if-not-is_struct_at.ensures.0 refl in
-    struct-told all x.words x.slots s w c.args.from c.args.next c.args.pads e (omega arith) within c.requires.order v j
-    o c.requires.fits four.0 four.1 four.2 four.3 c.check_slots.result c.check_slots.ensures
+    let h : IsStruct all c.word_at-word.result x.words x.slots r = record {
+      message = c.requires.message;
+      stands = c.requires.stands;
+      some = c.requires.some;
+      word = c.word_at-word.ensures;
+      pointer = (x.offset, (x.ensures.fits, sym x.ensures.joined));
+    } in
+    first-off all r c.requires.some c.requires.stands
+    (λ k. not-true (c.if-not-is_struct_at.ensures.1 (passes all r c.word_at-word.result x.words x.slots h k)))
+
+pub step-returns-then-run : goal.step-returns-then-run
+step-returns-then-run t c =
+    let all = c.args.space.now in
+    let r = c.args.run in
+    let x = c.in-Node in
+    let h : IsStruct all c.word_at-word.result x.words x.slots r = record {
+      message = c.requires.message;
+      stands = c.requires.stands;
+      some = c.requires.some;
+      word = c.word_at-word.ensures;
+      pointer = (x.offset, (x.ensures.fits, sym x.ensures.joined));
+    } in
+    steps-below all r c.word_at-word.result x.words x.slots h (c.if-not-is_struct_at.ensures.0 refl) c.if-run.true
+
+pub step-returns-then-slots-eq0 : goal.step-returns-then-slots-eq0
+step-returns-then-slots-eq0 t c =
+    let all = c.args.space.now in
+    let r = c.args.run in
+    let x = c.in-Node in
+    let h : IsStruct all c.word_at-word.result x.words x.slots r = record {
+      message = c.requires.message;
+      stands = c.requires.stands;
+      some = c.requires.some;
+      word = c.word_at-word.ensures;
+      pointer = (x.offset, (x.ensures.fits, sym x.ensures.joined));
+    } in
+    let k = none-told all r c.word_at-word.result x.words x.slots h (c.if-not-is_struct_at.ensures.0 refl)
+    c.if-slots-eq0.true in
+    subst (λ (q : Run). Steps all r (Some q)) (sym c.behind-then-slots-eq0.ensures)
+    (steps-behind all r c.requires.some c.requires.stands (r.next + x.words + x.slots) k.0 k.1)
+
+pub step-check_run-requires : goal.step-check_run-requires
+step-check_run-requires t c =
+    let all = c.args.space.now in
+    let r = c.args.run in
+    let x = c.in-Node in
+    let h : IsStruct all c.word_at-word.result x.words x.slots r = record {
+      message = c.requires.message;
+      stands = c.requires.stands;
+      some = c.requires.some;
+      word = c.word_at-word.ensures;
+      pointer = (x.offset, (x.ensures.fits, sym x.ensures.joined));
+    } in
+    let b = below-is all r c.word_at-word.result x.words x.slots h (c.if-not-is_struct_at.ensures.0 refl) in
+    let f = b.fits in
+    let s = c.requires.some in
+    let o = c.requires.stands.before in
+    (omega arith, (c.requires.message, b))
+
+pub step-check_many-requires : goal.step-check_many-requires
+step-check_many-requires t c =
+    let r = c.args.run in
+    let s = c.requires.some in
+    let n = first c.args.space.now r s c.requires.stands in
+    let o = c.requires.stands.before in
+    let f = c.requires.stands.fits in
+    let x = c.in-Many in
+    let list : IsList c.args.space.now c.word_at-word.result x.width x.count r.from r.next = record {
+      message = c.requires.message;
+      place = omega arith;
+      order = omega arith;
+      fits = f;
+      word = c.word_at-word.ensures;
+      pointer = (x.offset, (x.ensures.fits, sym x.ensures.joined));
+      ready = next-ready (c.args.space.now ∷ []) 0 r.from (r.end - r.from) most_height r.next n;
+    } in
+    (omega arith, list)
+
+pub step-returns-in-Some : goal.step-returns-in-Some
+step-returns-in-Some t c =
+    let all = c.args.space.now in
+    let r = c.args.run in
+    let x = c.in-Node in
+    let h : IsStruct all c.word_at-word.result x.words x.slots r = record {
+      message = c.requires.message;
+      stands = c.requires.stands;
+      some = c.requires.some;
+      word = c.word_at-word.ensures;
+      pointer = (x.offset, (x.ensures.fits, sym x.ensures.joined));
+    } in
+    let k = below-told all r c.word_at-word.result x.words x.slots h (c.if-not-is_struct_at.ensures.0 refl)
+    (Some c.in-Some.next) c.in-Some.ensures in
+    subst (λ (q : Run). Steps all r (Some q)) (sym c.behind-in-Some.ensures)
+    (steps-behind all r c.requires.some c.requires.stands c.in-Some.next k.0 k.1)
+
+pub step-returns-in-None : goal.step-returns-in-None
+step-returns-in-None t c =
+    let all = c.args.space.now in
+    let r = c.args.run in
+    let x = c.in-Node in
+    let h : IsStruct all c.word_at-word.result x.words x.slots r = record {
+      message = c.requires.message;
+      stands = c.requires.stands;
+      some = c.requires.some;
+      word = c.word_at-word.ensures;
+      pointer = (x.offset, (x.ensures.fits, sym x.ensures.joined));
+    } in
+    first-off all r c.requires.some c.requires.stands
+    (below-told all r c.word_at-word.result x.words x.slots h (c.if-not-is_struct_at.ensures.0 refl) None
+    c.in-None.ensures)
+
+pub step-returns-in-Some-check_many : goal.step-returns-in-Some-check_many
+step-returns-in-Some-check_many t c =
+    let all = c.args.space.now in
+    let r = c.args.run in
+    let n = first all r c.requires.some c.requires.stands in
+    let k = c.in-Some-check_many.ensures n.value n.is in
+    subst (λ (q : Run). Steps all r (Some q)) (sym c.behind-in-Some-check_many.ensures)
+    (steps-behind all r c.requires.some c.requires.stands c.in-Some-check_many.next k.0 k.1)
+
+pub step-returns-in-None-check_many : goal.step-returns-in-None-check_many
+step-returns-in-None-check_many t c =
+    let n = first c.args.space.now c.args.run c.requires.some c.requires.stands in
+    first-off c.args.space.now c.args.run c.requires.some c.requires.stands (c.in-None-check_many.ensures n.value n.is)
+
+pub step-returns-in-Cap : goal.step-returns-in-Cap
+step-returns-in-Cap t c =
+    let all = c.args.space.now in
+    let r = c.args.run in
+    let n = first all r c.requires.some c.requires.stands in
+    let z = sym c.word_at-word.ensures ∙ sym c.in-Cap.ensures.joined in
+    let i = c.in-Cap.field-0 in
+    let k = cap-told all n.value i r.from r.next
+    (cap-at (all ∷ []) (here r.from) n.value i (names-cap all r.from i z c.in-Cap.ensures.fits) n.is) z in
+    subst (λ (q : Run). Steps all r (Some q)) (sym c.behind-in-Cap.ensures)
+    (steps-behind all r c.requires.some c.requires.stands r.next k.0 k.1)
+
+pub step-returns-in_default : goal.step-returns-in_default
+step-returns-in_default t c =
+    let all = c.args.space.now in
+    let r = c.args.run in
+    let n = first all r c.requires.some c.requires.stands in
+    let d = c.in_default in
+    first-off all r c.requires.some c.requires.stands
+    (λ k. laid-kind c.word_at-word.result c.split.result n.value r.from r.next
+    (c.split.ensures.fits, sym c.split.ensures.joined) c.if-word-eq0.false (c.word_at-word.ensures ∙ k.pointer)
+    d.not-Node d.not-Many d.not-Cap)
 
 -- ---- a list of pointers
 
-pub check_object-returns-then-not-is_list_at : goal.check_object-returns-then-not-is_list_at
-check_object-returns-then-not-is_list_at t c v i h =
-    let m = c.args.space.now ∷ [] in
-    let all = c.args.space.now in
-    let s = c.args.start.segment in
-    let w = c.args.start.word in
-    let n = c.in-Many.count in
-    let r = c.requires.ready in
-    let is = c.in-Many.is ∙ ap (λ (k : Width). shapes.Many k n) c.in-Link.is in
-    let small = segment-room m 0 c.requires.message (omega arith) in
-    let e = c.requires.target ∙ ap (λ (sh : Shape). Ok (targets.Content s w sh c.args.pads)) is in
-    let j = subst (λ (sh : Shape). IsInside m sh s w v) is i in
-    let o = subst Sound (sym (r.only v i)) r.sound in
-    let p = links-passes all n s w c.args.from c.args.next c.args.pads e (omega arith) c.requires.order v j o
-    c.requires.fits h in
-    not-true (c.if-not-is_list_at.ensures.1 (
-      p.0
-          ∙ ap (λ (k : Width). list_to c.args.from c.args.next k n) (sym c.in-Link.is),
-      p.1,
-    ))
+pub check_links-returns-then-not-leads_to : goal.check_links-returns-then-not-leads_to
+check_links-returns-then-not-leads_to t c v i k =
+    let a = c.args in
+    let r = c.requires in
+    not-true (c.if-not-leads_to.ensures.1 (links-leads a.space.now a.word a.from a.next a.count r v i k))
 
-pub check_object-check_slots-requires-in-Link : goal.check_object-check_slots-requires-in-Link
-check_object-check_slots-requires-in-Link t c =
-    let m = c.args.space.now ∷ [] in
-    let all = c.args.space.now in
-    let s = c.args.start.segment in
-    let w = c.args.start.word in
-    let n = c.in-Many.count in
-    let r = c.requires.ready in
-    let is = c.in-Many.is ∙ ap (λ (k : Width). shapes.Many k n) c.in-Link.is in
-    let small = segment-room m 0 c.requires.message (omega arith) in
-    let e = c.requires.target ∙ ap (λ (sh : Shape). Ok (targets.Content s w sh c.args.pads)) is in
-    let j = subst (λ (sh : Shape). IsInside m sh s w r.value) is r.is in
-    let two = c.if-not-is_list_at.ensures.0 refl in
-    let p = two.0 ∙ ap (λ (k : Width). list_to c.args.from c.args.next k n) c.in-Link.is in
-    let room = two.1 in (
-      omega arith,
-      (
-        c.requires.message,
-        (
-          omega arith,
-          (
-            omega arith,
-            (
-              omega arith,
-              links-check all n s w c.args.from c.args.next c.args.pads e (omega arith) c.requires.order r.value j
-                  r.sound c.requires.fits p two.1 c.args.depth r.low r.room,
-            ),
-          ),
-        ),
-      ),
-    )
+pub check_links-check_run-requires : goal.check_links-check_run-requires
+check_links-check_run-requires t c =
+    let a = c.args in
+    let r = c.requires in
+    let o = r.order in
+    let f = r.fits in
+    (omega arith, (r.message, links-run a.space.now a.word a.from a.next a.count r (c.if-not-leads_to.ensures.0 refl)))
 
-pub check_object-returns-else-not-is_list_at : goal.check_object-returns-else-not-is_list_at
-check_object-returns-else-not-is_list_at t c v i =
-    let m = c.args.space.now ∷ [] in
-    let all = c.args.space.now in
-    let s = c.args.start.segment in
-    let w = c.args.start.word in
-    let n = c.in-Many.count in
-    let r = c.requires.ready in
-    let is = c.in-Many.is ∙ ap (λ (k : Width). shapes.Many k n) c.in-Link.is in
-    let small = segment-room m 0 c.requires.message (omega arith) in
-    let e = c.requires.target ∙ ap (λ (sh : Shape). Ok (targets.Content s w sh c.args.pads)) is in
-    let j = subst (λ (sh : Shape). IsInside m sh s w v) is i in
-    let o = subst Sound (sym (r.only v i)) r.sound in
-    let two = c.if-not-is_list_at.ensures.0 refl in
-    let p = two.0 ∙ ap (λ (k : Width). list_to c.args.from c.args.next k n) c.in-Link.is in
-    links-told all n s w c.args.from c.args.next c.args.pads e (omega arith) c.requires.order v j o c.requires.fits p
-    two.1 c.check_slots-in-Link.result c.check_slots-in-Link.ensures
+pub check_links-returns : goal.check_links-returns
+check_links-returns t c =
+    let a = c.args in
+    let r = c.requires in
+    links-answer a.space.now a.word a.from a.next a.count r (c.if-not-leads_to.ensures.0 refl) c.check_run.result
+    c.check_run.ensures
 
--- ---- rows
+-- ---- the slots of rows
 
 pub check_rows-loop-i-init : goal.check_rows-loop-i-init
 check_rows-loop-i-init t c = record {
@@ -320,55 +273,68 @@ check_rows-loop-i-init t c = record {
   same = rows-same-begins c.args.space.now c.args.words c.args.slots c.args.count c.args.first c.args.end;
 }
 
-pub check_rows-check_slots-requires : goal.check_rows-check_slots-requires
-check_rows-check_slots-requires t c =
-    let all = c.args.space.now in
+pub check_rows-check_run-requires : goal.check_rows-check_run-requires
+check_rows-check_run-requires t c =
+    let a = c.args in
     let v = c.loop-i.invariant in
-    let room = row-inside c.args.first c.args.count c.loop-i.i (c.args.words + c.args.slots) c.loop-i.row _
-    c.loop-i-test.true v.place c.requires.inside in
-    let over = row-inside c.args.first c.args.count c.loop-i.i (c.args.words + c.args.slots) c.loop-i.row _
-    c.loop-i-test.true v.place v.order in (
-      omega arith,
-      (
-        c.requires.message,
-        (
-          omega arith,
-          (
-            omega arith,
-            (
-              v.fits,
-              row-check c.args.space.now c.args.words c.args.slots c.args.count c.args.first c.args.end c.args.depth
-                  c.loop-i.i c.loop-i.row c.loop-i.next c.loop-i-test.true v.ready v.same,
-            ),
-          ),
-        ),
-      ),
-    )
+    let room = row-inside a.first a.count c.loop-i.i (a.words + a.slots) c.loop-i.row _ c.loop-i-test.true v.place
+    c.requires.inside in
+    let over = row-inside a.first a.count c.loop-i.i (a.words + a.slots) c.loop-i.row _ c.loop-i-test.true v.place
+    v.order in
+    let q = row-check a.space.now a.words a.slots a.count a.first a.end most_height c.loop-i.i c.loop-i.row
+    c.loop-i.next c.loop-i-test.true v.ready v.same in
+    let p = v.place in
+    let f = v.fits in
+    let e : a.slots ≡ c.loop-i.row + a.words + a.slots - (c.loop-i.row + a.words) = omega arith in
+    let run : IsRun a.space.now (record {
+      from = c.loop-i.row + a.words;
+      end = c.loop-i.row + a.words + a.slots;
+      next = c.loop-i.next;
+    }) = record {
+      order = omega arith;
+      before = omega arith;
+      fits = v.fits;
+      ready = record {
+        values = q.values;
+        are = q.are;
+        count = q.count ∙ e;
+        sound = q.sound;
+        low = q.low;
+        room = q.room;
+      };
+    } in
+    (omega arith, (c.requires.message, run))
 
 pub check_rows-returns-in-None : goal.check_rows-returns-in-None
 check_rows-returns-in-None t c =
+    let a = c.args in
     let v = c.loop-i.invariant in
-    rows-fail c.args.space.now c.args.words c.args.slots c.args.count c.args.first c.args.end c.args.depth c.loop-i.i
-    c.loop-i.row c.loop-i.next c.loop-i-test.true v.ready v.same c.in-None.ensures
+    let e : a.slots ≡ c.loop-i.row + a.words + a.slots - (c.loop-i.row + a.words) = omega arith in
+    rows-fail a.space.now a.words a.slots a.count a.first a.end most_height c.loop-i.i c.loop-i.row c.loop-i.next
+    c.loop-i-test.true v.ready v.same
+    (λ ts i k. c.in-None.ensures ts (record { are = i; count = k ∙ e }))
 
 pub check_rows-loop-i-preserved : goal.check_rows-loop-i-preserved
 check_rows-loop-i-preserved t c =
     let all = c.args.space.now in
     let v = c.loop-i.invariant in
-    let h = c.in-Some.ensures in
+    let e : c.args.slots ≡ c.loop-i.row + c.args.words + c.args.slots - (c.loop-i.row + c.args.words) = omega arith in
     let k = c.in-Some.behind in
-    let grown = rows-grown all c.args.words c.args.slots c.args.count c.args.first c.args.end c.args.depth c.loop-i.i
+    let h : (ts : Trees) → AreAt (all ∷ []) 0 (c.loop-i.row + c.args.words) ts → count ts ≡ c.args.slots
+    → AreLaidAt all ts (c.loop-i.row + c.args.words) c.loop-i.next × (k ≡ c.loop-i.next + sizes ts) =
+    λ ts i n. c.in-Some.ensures ts (record { are = i; count = n ∙ e }) in
+    let grown = rows-grown all c.args.words c.args.slots c.args.count c.args.first c.args.end most_height c.loop-i.i
     c.loop-i.row c.loop-i.next c.loop-i-test.true v.ready v.same k h in
     let o = v.order in
     record {
       place = let d : (c.loop-i.i + 1) * (c.args.words + c.args.slots) ≡ c.loop-i.i * (c.args.words + c.args.slots)
           + (c.args.words + c.args.slots) = omega arith in let p = v.place in omega arith;
       order = omega arith;
-      fits = rows-within all c.args.words c.args.slots c.args.count c.args.first c.args.end c.args.depth c.loop-i.i
+      fits = rows-within all c.args.words c.args.slots c.args.count c.args.first c.args.end most_height c.loop-i.i
           c.loop-i.row c.loop-i.next c.loop-i-test.true v.ready v.same k h v.fits;
-      ready = rows-ready-then all c.args.words c.args.slots c.args.count c.args.first c.args.end c.args.depth c.loop-i.i
+      ready = rows-ready-then all c.args.words c.args.slots c.args.count c.args.first c.args.end most_height c.loop-i.i
           c.loop-i.row c.loop-i.next c.loop-i-test.true v.ready v.same k h;
-      same = rows-same-then all c.args.words c.args.slots c.args.count c.args.first c.args.end c.args.depth c.loop-i.i
+      same = rows-same-then all c.args.words c.args.slots c.args.count c.args.first c.args.end most_height c.loop-i.i
           c.loop-i.row c.loop-i.next c.loop-i-test.true v.ready v.same k h;
     }
 
@@ -377,75 +343,108 @@ check_rows-returns t c =
     rows-same-ends c.args.space.now c.args.words c.args.slots c.args.count c.args.first c.args.end c.loop-i.i
     c.loop-i.row c.loop-i.next c.loop-i-test.false c.loop-i.invariant.same
 
-pub check_object-returns-then-not-are_rows_at : goal.check_object-returns-then-not-are_rows_at
-check_object-returns-then-not-are_rows_at t c v i h =
-    let m = c.args.space.now ∷ [] in
-    let all = c.args.space.now in
-    let s = c.args.start.segment in
-    let w = c.args.start.word in
+-- ---- a list of structs
+
+pub check_many-check_composite-requires : goal.check_many-check_composite-requires
+check_many-check_composite-requires t c =
+    let a = c.args in
+    let l = subst (λ (k : Width). IsList a.space.now a.word k a.count a.from a.next) c.in-Rows.is c.requires in
+    let p = l.place in
+    (omega arith, (a.count, subst (λ (x : ℕ). IsList a.space.now x Rows a.count a.from a.next) l.word l))
+
+pub check_composite-target_at-requires-clause-found : goal.check_composite-target_at-requires-clause-found
+check_composite-target_at-requires-clause-found t c =
+    let r = c.requires.1.ready in
+    found (c.args.space.now ∷ []) (here c.args.from) r.value r.is
+
+pub check_composite-overflow_add-rows : goal.check_composite-overflow_add-rows
+check_composite-overflow_add-rows t c =
+    let a = c.args in
+    let y = c.in-Content in
     let x = c.in-Rows in
-    let r = c.requires.ready in
-    let small = segment-room m 0 c.requires.message (omega arith) in
-    let rows = subst RowsFit x.is c.requires.rows in
-    let within = subst (λ (sh : Shape). w + extent sh ≤ length (segment_at m s)) x.is c.requires.content.within in
-    let inside : w + 1 + x.count * (x.words + x.slots) ≤ length (segment_at m s) = omega arith in
-    let e = c.requires.target ∙ ap (λ (sh : Shape). Ok (targets.Content s w sh c.args.pads)) x.is in
-    let j = subst (λ (sh : Shape). IsInside m sh s w v) x.is i in
-    let o = subst Sound (sym (r.only v i)) r.sound in
+    let f = c.target_at.ensures ∙ ap Ok y.is in
+    let e = f ∙ ap (λ (k : Shape). Ok (targets.Content y.segment y.start k y.pads)) x.is in
+    let k = composite-start a.space.now a.from a.next y.segment y.start x.count x.words x.slots x.span y.pads
+    c.requires.0 c.requires.1 e in
+    omega arith
+
+pub check_composite-are_rows_at-requires-clause-content : goal.check_composite-are_rows_at-requires-clause-content
+check_composite-are_rows_at-requires-clause-content t c =
+    let a = c.args in
+    let y = c.in-Content in
+    let x = c.in-Rows in
+    let f = c.target_at.ensures ∙ ap Ok y.is in
+    let e = f ∙ ap (λ (k : Shape). Ok (targets.Content y.segment y.start k y.pads)) x.is in
+    composite-content a.space.now a.from a.next y.segment y.start x.count x.words x.slots x.span y.pads
+    c.requires.0 c.requires.1 e
+
+pub check_composite-are_rows_at-requires-clause-few : goal.check_composite-are_rows_at-requires-clause-few
+check_composite-are_rows_at-requires-clause-few t c =
+    let a = c.args in
+    let y = c.in-Content in
+    let x = c.in-Rows in
+    let f = c.target_at.ensures ∙ ap Ok y.is in
+    let e = f ∙ ap (λ (k : Shape). Ok (targets.Content y.segment y.start k y.pads)) x.is in
+    composite-few a.space.now a.from a.next y.segment y.start x.count x.words x.slots x.span y.pads
+    c.requires.0 c.requires.1 e
+
+pub check_composite-are_rows_at-requires-clause-span : goal.check_composite-are_rows_at-requires-clause-span
+check_composite-are_rows_at-requires-clause-span t c =
+    let a = c.args in
+    let y = c.in-Content in
+    let x = c.in-Rows in
+    let f = c.target_at.ensures ∙ ap Ok y.is in
+    let e = f ∙ ap (λ (k : Shape). Ok (targets.Content y.segment y.start k y.pads)) x.is in
+    composite-span a.space.now a.from a.next y.segment y.start x.count x.words x.slots x.span y.pads
+    c.requires.0 c.requires.1 e
+
+pub check_composite-returns-then-not-are_rows_at : goal.check_composite-returns-then-not-are_rows_at
+check_composite-returns-then-not-are_rows_at t c v i k =
+    let a = c.args in
+    let y = c.in-Content in
+    let x = c.in-Rows in
+    let f = c.target_at.ensures ∙ ap Ok y.is in
+    let e = f ∙ ap (λ (k : Shape). Ok (targets.Content y.segment y.start k y.pads)) x.is in
     not-true (c.if-not-are_rows_at.ensures.1
-    (rows-passes all x.count x.words x.slots x.span s w c.args.from c.args.next c.args.pads e (omega arith) inside
-    c.requires.order v j o c.requires.fits h))
+    (composite-passes a.space.now a.from a.next y.segment y.start x.count x.words x.slots x.span y.pads
+    c.requires.0 c.requires.1 e v i k))
 
-pub check_object-check_rows-requires : goal.check_object-check_rows-requires
-check_object-check_rows-requires t c =
-    let m = c.args.space.now ∷ [] in
-    let all = c.args.space.now in
-    let s = c.args.start.segment in
-    let w = c.args.start.word in
+pub check_composite-check_rows-requires : goal.check_composite-check_rows-requires
+check_composite-check_rows-requires t c =
+    let a = c.args in
+    let y = c.in-Content in
     let x = c.in-Rows in
-    let r = c.requires.ready in
-    let small = segment-room m 0 c.requires.message (omega arith) in
-    let rows = subst RowsFit x.is c.requires.rows in
-    let within = subst (λ (sh : Shape). w + extent sh ≤ length (segment_at m s)) x.is c.requires.content.within in
-    let inside : w + 1 + x.count * (x.words + x.slots) ≤ length (segment_at m s) = omega arith in
-    let e = c.requires.target ∙ ap (λ (sh : Shape). Ok (targets.Content s w sh c.args.pads)) x.is in
-    let j = subst (λ (sh : Shape). IsInside m sh s w r.value) x.is r.is in
+    let f = c.target_at.ensures ∙ ap Ok y.is in
+    let e = f ∙ ap (λ (k : Shape). Ok (targets.Content y.segment y.start k y.pads)) x.is in
     let five = c.if-not-are_rows_at.ensures.0 refl in
-    let room = five.3 in (
-      omega arith,
-      (
-        c.requires.message,
-        (
-          omega arith,
-          (
-            omega arith,
-            (
-              omega arith,
-              rows-check all x.count x.words x.slots x.span s w c.args.from c.args.next c.args.pads e (omega arith)
-                  inside c.requires.order r.value j r.sound c.requires.fits five.0 five.1 five.2 five.3 five.4
-                  c.args.depth r.low r.room,
-            ),
-          ),
-        ),
-      ),
-    )
+    let room = five.3 in
+    let o = c.requires.1.order in
+    let ready = composite-check a.space.now a.from a.next y.segment y.start x.count x.words x.slots x.span y.pads
+    c.requires.0 c.requires.1 e five in
+    (omega arith, (c.requires.1.message, (omega arith, (omega arith, (omega arith, ready)))))
 
-pub check_object-returns-else-not-are_rows_at : goal.check_object-returns-else-not-are_rows_at
-check_object-returns-else-not-are_rows_at t c v i =
-    let m = c.args.space.now ∷ [] in
-    let all = c.args.space.now in
-    let s = c.args.start.segment in
-    let w = c.args.start.word in
+pub check_composite-unreachable-requires : goal.check_composite-unreachable-requires
+check_composite-unreachable-requires t c =
+    let l = c.requires.1 in
+    let e = c.target_at.ensures ∙ ap Ok c.in-Content.is in
+    let y = composite-is c.args.space.now c.args.from c.requires.0 l.pointer.0 _ l.pointer.1 e in
+    let q = y.4 in
+    c.in_default-shape.not-Rows y.1 y.2 y.3 c.requires.0 (cc)
+
+pub check_composite-unreachable-requires-in_default : goal.check_composite-unreachable-requires-in_default
+check_composite-unreachable-requires-in_default t c =
+    let l = c.requires.1 in
+    let y = composite-is c.args.space.now c.args.from c.requires.0 l.pointer.0 c.target_at.result l.pointer.1
+    c.target_at.ensures in
+    c.in_default.not-Content 0 y.0 (shapes.Rows y.1 y.2 y.3 c.requires.0) 0 y.4
+
+pub check_composite-returns : goal.check_composite-returns
+check_composite-returns t c =
+    let a = c.args in
+    let y = c.in-Content in
     let x = c.in-Rows in
-    let r = c.requires.ready in
-    let small = segment-room m 0 c.requires.message (omega arith) in
-    let rows = subst RowsFit x.is c.requires.rows in
-    let within = subst (λ (sh : Shape). w + extent sh ≤ length (segment_at m s)) x.is c.requires.content.within in
-    let inside : w + 1 + x.count * (x.words + x.slots) ≤ length (segment_at m s) = omega arith in
-    let e = c.requires.target ∙ ap (λ (sh : Shape). Ok (targets.Content s w sh c.args.pads)) x.is in
-    let j = subst (λ (sh : Shape). IsInside m sh s w v) x.is i in
-    let o = subst Sound (sym (r.only v i)) r.sound in
-    let five = c.if-not-are_rows_at.ensures.0 refl in
-    rows-told all x.count x.words x.slots x.span s w c.args.from c.args.next c.args.pads e (omega arith) inside
-    c.requires.order v j o c.requires.fits five.0 five.1 five.2 five.3 five.4 c.check_rows.result
-    c.check_rows.ensures
+    let f = c.target_at.ensures ∙ ap Ok y.is in
+    let e = f ∙ ap (λ (k : Shape). Ok (targets.Content y.segment y.start k y.pads)) x.is in
+    composite-told a.space.now a.from a.next y.segment y.start x.count x.words x.slots x.span y.pads
+    c.requires.0 c.requires.1 e
+    (c.if-not-are_rows_at.ensures.0 refl) c.check_rows.result c.check_rows.ensures

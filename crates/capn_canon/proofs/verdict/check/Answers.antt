@@ -1,9 +1,7 @@
-use Rattle.std.proofs.Common.{◌≡◌, ℕ, ◌+◌, ◌≤◌, [], ◌∷◌, length, sym, subst, ◌∙◌, arith, refl}
+use Rattle.std.proofs.Common.{◌≤◌, [], ◌∷◌, length, sym, ◌∙◌, arith, refl}
 use Rattle.capn_words.specs.Words.{bytes}
 use Rattle.capn_words.specs.Limits.{most_words}
-use Rattle.capn_walk.specs.Accepted.{root}
 use Rattle.capn_canon.proofs.Headline.{denoted_fits, denoted_in_range}
-use Rattle.capn_canon.specs.Ready.{IsReady}
 use Rattle.capn_canon.proofs.AtRoot.{root-ready}
 use Rattle.capn_canon.proofs.CanonicalWords.{bytes-words}
 use Rattle.capn_canon.proofs.verdict.check.Goals as goal
@@ -12,8 +10,9 @@ pub are_canonical-is_canonical-requires-clause-ready : goal.are_canonical-is_can
 are_canonical-is_canonical-requires-clause-ready g c =
     let m = c.args.space.now ∷ [] in
     let f = c.in_ok-told.ensures.found in
-    subst (λ (d : ℕ). IsReady m root d 1) (sym c.depth-depth.ensures.value)
-    (root-ready m c.args.limits f.value c.segments-segments.ensures.bounds (omega arith) (omega arith) f.is)
+    let r = root-ready m c.args.limits f.value c.segments-segments.ensures.bounds (omega arith) (omega arith) f.is in
+    let l = r.low in
+    record { value = r.value; is = r.is; sound = r.sound; low = omega arith; room = r.room }
 
 pub returns-in-None-clause-found : goal.returns-in-None-clause-found
 returns-in-None-clause-found g c =
