@@ -30,6 +30,7 @@ mod surveyed;
 mod surveying;
 mod target;
 mod view;
+mod visited;
 mod visiting;
 mod walked;
 mod walking;

@@ -19,13 +19,12 @@ ghost use Rattle.capn_walk.specs.declared.target.Fault.TheVariants.{Memory};
 use crate::content::segment_length;
 use crate::frame::{Frame, Waiting};
 use crate::limits::Limits;
-use crate::resolving::{near, pointer_at, resolve};
-use crate::step::{capability_of, frame_below, price_within};
 use crate::surveyed::Surveyed;
 use crate::target::{Fault, Target};
+use crate::visited::{is_plain, visit_elsewhere, visit_found, visit_numbers, visit_struct};
 use crate::walked::Stopped;
 use crate::walking::{ROOT, root_target};
-use capn_words::{Place, Pointer, Space, Width, split};
+use capn_words::{Place, Pointer, Space, split};
 use smallvec::SmallVec;
 use std::alloc::Allocator;
 
@@ -106,146 +105,6 @@ fn survey_root<S: Space, A: Allocator + Copy>(
             capability: visited.capability.or(below.capability),
         }),
         Err(refusal) => Err(refusal.behind(visited.price, 1)),
-    }
-}
-
-/// What one visit comes to: its price, the capability that it meets, and the slots below it.
-#[derive(Clone, Copy)]
-struct Visited {
-    price: u32,
-    capability: Option<u32>,
-    below: Frame,
-}
-
-/// One visit of a slot whose pointer is a struct's that stands near, at most `depth` objects deep, where `left` words
-/// are left to pay and each content costs `base` beside its size.
-#[inline(always)]
-fn visit_struct<S: Space>(
-    space: &S,
-    at: Place,
-    size: u32,
-    pointer: Pointer,
-    depth: u32,
-    left: u32,
-    base: u32,
-) -> Result<Visited, Fault>
-    requires message { IsMessage (S.message space.now) }
-    requires size { size ≡ length (segment_at (S.message space.now) at.segment) }
-    requires place { IsPlace (S.message space.now) at }
-    requires pointer { spec.near (S.message space.now) at.segment at.word 0 pointer
-        ≡ spec.target (S.message space.now) at }
-    requires left { left ≤ most_cost }
-    ensures visits { IfOk result (λ v. visits (S.message space.now) base depth at
-        ≡ pays at v.price ∷ visits_of (S.message space.now) base (depth - 1) (places_of v.below)) }
-    ensures price { IfOk result (λ v. v.price ≤ left) }
-    ensures capability { IfOk result (λ v. told.cap_of (spec.target (S.message space.now) at) ≡ v.capability) }
-    ensures below { IfOk result (λ v. Lies (S.message space.now) v.below) }
-    ensures owed { IfOk result (λ v. owed v.below ≤ v.price) }
-    ensures deep { IfOk result (λ v. 0 < owed v.below → 0 < depth) }
-    ensures refused { IfErr result (λ e. judge left (visits (S.message space.now) base depth at) ≡ refused e at 0 1) }
-    ensures memory { IfErr result (λ e. e ≢ Memory) }
-{
-    let found = near(space, at.segment, size, at.word, 0, pointer);
-    visit_found(space, at, found, depth, left, base)
-}
-
-/// The price of a visit of a slot whose pointer is that of a list of numbers that stands near.
-#[inline(always)]
-fn visit_numbers<S: Space>(
-    space: &S,
-    at: Place,
-    size: u32,
-    pointer: Pointer,
-    depth: u32,
-    left: u32,
-    base: u32,
-) -> Result<u32, Fault>
-    requires size { size ≡ length (segment_at (S.message space.now) at.segment) }
-    requires pointer { spec.near (S.message space.now) at.segment at.word 0 pointer
-        ≡ spec.target (S.message space.now) at }
-    requires numbers { AreNumbers pointer }
-    ensures visits { IfOk result (λ p. visits (S.message space.now) base depth at ≡ pays at p ∷ []) }
-    ensures price { IfOk result (λ p. p ≤ left) }
-    ensures refused { IfErr result (λ e. judge left (visits (S.message space.now) base depth at) ≡ refused e at 0 1) }
-    ensures memory { IfErr result (λ e. e ≢ Memory) }
-{
-    match near(space, at.segment, size, at.word, 0, pointer) {
-        Ok(target) => price_within(target, depth, left, base),
-        Err(fault) => Err(fault),
-    }
-}
-
-/// The same, whatever the slot names.
-#[inline(never)]
-fn visit_elsewhere<S: Space>(
-    space: &S,
-    at: Place,
-    depth: u32,
-    left: u32,
-    base: u32,
-) -> Result<Visited, Fault>
-    requires message { IsMessage (S.message space.now) }
-    requires place { IsPlace (S.message space.now) at }
-    requires left { left ≤ most_cost }
-    ensures visits { IfOk result (λ v. visits (S.message space.now) base depth at
-        ≡ pays at v.price ∷ visits_of (S.message space.now) base (depth - 1) (places_of v.below)) }
-    ensures price { IfOk result (λ v. v.price ≤ left) }
-    ensures capability { IfOk result (λ v. told.cap_of (spec.target (S.message space.now) at) ≡ v.capability) }
-    ensures below { IfOk result (λ v. Lies (S.message space.now) v.below) }
-    ensures owed { IfOk result (λ v. owed v.below ≤ v.price) }
-    ensures deep { IfOk result (λ v. 0 < owed v.below → 0 < depth) }
-    ensures refused { IfErr result (λ e. judge left (visits (S.message space.now) base depth at) ≡ refused e at 0 1) }
-    ensures memory { IfErr result (λ e. e ≢ Memory) }
-{
-    visit_found(space, at, resolve(space, at), depth, left, base)
-}
-
-/// The same of a slot whose target is known.
-#[inline(always)]
-fn visit_found<S: Space>(
-    space: &S,
-    at: Place,
-    found: Result<Target, Fault>,
-    depth: u32,
-    left: u32,
-    base: u32,
-) -> Result<Visited, Fault>
-    requires message { IsMessage (S.message space.now) }
-    requires place { IsPlace (S.message space.now) at }
-    requires found { found ≡ spec.target (S.message space.now) at }
-    requires left { left ≤ most_cost }
-    ensures visits { IfOk result (λ v. visits (S.message space.now) base depth at
-        ≡ pays at v.price ∷ visits_of (S.message space.now) base (depth - 1) (places_of v.below)) }
-    ensures price { IfOk result (λ v. v.price ≤ left) }
-    ensures capability { IfOk result (λ v. told.cap_of (spec.target (S.message space.now) at) ≡ v.capability) }
-    ensures below { IfOk result (λ v. Lies (S.message space.now) v.below) }
-    ensures owed { IfOk result (λ v. owed v.below ≤ v.price) }
-    ensures deep { IfOk result (λ v. 0 < owed v.below → 0 < depth) }
-    ensures refused { IfErr result (λ e. judge left (visits (S.message space.now) base depth at) ≡ refused e at 0 1) }
-    ensures memory { IfErr result (λ e. e ≢ Memory) }
-{
-    let target = match found {
-        Ok(target) => target,
-        Err(fault) => return Err(fault),
-    };
-    match price_within(target, depth, left, base) {
-        Ok(price) => Ok(Visited {
-            price,
-            capability: capability_of(target),
-            below: frame_below(space, target),
-        }),
-        Err(fault) => Err(fault),
-    }
-}
-
-/// Whether the elements of a list are numbers.
-#[inline(always)]
-fn is_plain(width: Width) -> bool
-    ensures { IsTrue result ↔ IsPlain width }
-{
-    match width {
-        Width::Link | Width::Rows => false,
-        _ => true,
     }
 }
 

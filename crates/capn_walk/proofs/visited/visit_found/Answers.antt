@@ -5,7 +5,7 @@ use Rattle.capn_walk.specs.Laws.Plain.{never-memory}
 use Rattle.capn_walk.proofs.SeenInside.{found-inside}
 use Rattle.capn_walk.proofs.Stepped.{step-pays, step-stops}
 use Rattle.capn_walk.specs.Laws.Walks.{visits-fault}
-use Rattle.capn_walk.proofs.surveying.visit_found.Goals as goal
+use Rattle.capn_walk.proofs.visited.visit_found.Goals as goal
 
 pub returns-in-Err-clause-refused : goal.returns-in-Err-clause-refused
 returns-in-Err-clause-refused g c =

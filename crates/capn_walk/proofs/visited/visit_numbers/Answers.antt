@@ -1,6 +1,6 @@
 use Rattle.std.proofs.Common.{◌∙◌, sym}
 use Rattle.capn_walk.proofs.Stepped.{numbers-paid, numbers-stop, numbers-fault}
-use Rattle.capn_walk.proofs.surveying.visit_numbers.Goals as goal
+use Rattle.capn_walk.proofs.visited.visit_numbers.Goals as goal
 
 pub returns-in-Ok-clause-visits : goal.returns-in-Ok-clause-visits
 returns-in-Ok-clause-visits g c =
