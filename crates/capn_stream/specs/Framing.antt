@@ -11,9 +11,8 @@ use Rattle.capn_stream.specs.declared.fault.FrameFault.TheVariants.{Memory, Empt
 use Rattle.capn_stream.specs.declared.fault.FrameFault.TheVariants.{Failed}
 use Rattle.capn_stream.specs.declared.stage.Stage.{Stage}
 
--- what a framer holds: the bytes since the last message that was taken, how many words a message may have, and
--- whether a
--- call has refused
+-- what a framer holds: the bytes since the last message that was taken, how many words a message may have, and whether
+-- a call has refused
 pub record Framing : Type 0 where
   pub rest : List ℕ
   pub most : ℕ
@@ -43,8 +42,7 @@ pub record Stops (before after : Framing) : Type 0 where
   pub is_failed : after.failed ≡ true
 
 -- What a feed answers: how many bytes it took; a refusal of the bytes with the piece, which comes once; or that an
--- earlier
--- call has refused.
+-- earlier call has refused.
 abbrev pub FeedGives : Framing → List ℕ → Result ℕ FrameFault → Framing → Type 0
 FeedGives before piece (Ok n) after = Feeds before piece n after
 FeedGives before piece (Err Memory) after = Stops before after

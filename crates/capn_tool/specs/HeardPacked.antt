@@ -16,8 +16,7 @@ use Rattle.capn_tool.specs.declared.plan.Piece.{Piece}
 use Rattle.capn_tool.specs.declared.fault.ToolFault.{ToolFault}
 
 -- bytes behind an unfinished group and an unfinished message: their whole groups have words, of whose whole messages
--- the
--- pieces were added; this is held of the group, and so much of the message, then
+-- the pieces were added; this is held of the group, and so much of the message, then
 abbrev pub TellsPacked : Piece → Bounds → Held → List ℕ → List ℕ → Held → List ℕ → Outgoing → Outgoing → Type 0
 TellsPacked piece limits held rest bytes next left old new =
     (words : List ℕ) × (len : ℕ) × Splits (held.rest ++ bytes) next.rest [] words len

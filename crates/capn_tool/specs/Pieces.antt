@@ -62,8 +62,7 @@ abbrev pub AreCanonical : Tree → List ℕ → Type 0
 AreCanonical v words = (first_cap v ≡ None) × (canon v ≡ bytes words)
 
 -- What is written of the one bare message of these words: as of any message, but the line of its price has one word
--- more,
--- which tells whether the words are canonical.
+-- more, which tells whether the words are canonical.
 abbrev pub IsBarePiece : Piece → List ℕ → Bounds → List ℕ → Type 0
 IsBarePiece kinds.Text words limits text = IsPiece kinds.Text (words ∷ []) limits text
 IsBarePiece kinds.Price words limits text =

@@ -17,9 +17,8 @@ use Rattle.capn_tool.specs.declared.plan.Whole.TheVariants as wholes
 use Rattle.capn_tool.specs.declared.fault.ToolFault.{ToolFault}
 use Rattle.capn_tool.specs.declared.fault.ToolFault.TheVariants as faults
 
--- What is made of the bytes: the packer's text of them; the words that they pack, at most so many; the canonical
--- bytes of
--- the message that they are in a form; or a piece of the bare message that they are.
+-- What is made of the bytes: the packer's text of them; the words that they pack, at most so many; the canonical bytes
+-- of the message that they are in a form; or a piece of the bare message that they are.
 abbrev pub Makes : Whole → List ℕ → List ℕ → Type 0
 Makes wholes.Packed bytes text = Chosen text bytes
 Makes (wholes.Unpacked most) bytes text = Packs bytes text × (length text ≤ 8 * most)
@@ -27,9 +26,8 @@ Makes (wholes.Canonical form limits) bytes text = (price : ℕ) × Answers form 
 Makes (wholes.Bare piece limits) bytes text = (words : List ℕ) × IsBare bytes words
     × IsBarePiece piece words limits text
 
--- Why nothing is: the bytes are no whole words; they pack no words, or more; they have no canonical bytes in the
--- form; or
--- they are no bare message, or one that has no piece.
+-- Why nothing is: the bytes are no whole words; they pack no words, or more; they have no canonical bytes in the form;
+-- or they are no bare message, or one that has no piece.
 abbrev pub MakesNothing : Whole → List ℕ → ToolFault → Type 0
 MakesNothing wholes.Packed bytes fault = (length bytes % 8 ≢ 0) × (fault ≡ faults.NotWhole (length bytes))
 MakesNothing (wholes.Unpacked most) bytes fault =

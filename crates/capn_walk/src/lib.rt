@@ -5,8 +5,10 @@
 //! - [`walk`] answers the value that a message denotes within [`Limits`], with what reading it paid, or where
 //!   and why it stopped. Each visit of a slot pays its price before its content is read, so a message that
 //!   leads in circles or shares its objects costs at most the budget.
+//! - [`survey`] tells the same price and refusal and makes no tree; [`View`] goes from one object to those below it,
+//!   and pays from a [`Meter`] for each.
 //!
-//! Both take any `Space`: a bare segment, a framed message, one that owns its segments.
+//! All take any `Space`: a bare segment, a framed message, one that owns its segments.
 //!
 //! ```text
 //! let bare = Bare::new(input)?;
