@@ -36,6 +36,7 @@ fn main(rt: HostRuntime) -> ExitCode {
         }
     };
     let mut reader = Watched::new(rt.stdin());
-    let (code, _) = program(rt.alloc(), &words, &mut reader, rt.stdout(), &mut errors);
+    let mut writer = Watched::new(rt.stdout());
+    let code = program(rt.alloc(), &words, &mut reader, &mut writer, &mut errors);
     ExitCode::from(code)
 }

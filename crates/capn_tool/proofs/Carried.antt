@@ -1,23 +1,18 @@
 -- A command that was carried out: what a run did, and the flush behind it.
-use Rattle.std.proofs.Common.{◌≡◌, ◌⊎◌, ◌↔◌, inl, inr, ℕ, List, [], Bool, true, false, Option, Some, None, Result, Ok}
-use Rattle.std.proofs.Common.{Err, IfSome, IfErr, IsErrOf, IsOk, refl, sym, subst, ◌∙◌}
-use Rattle.std.specs.Io.KnownBytes.{Appends, Keeps}
-use Rattle.capn_tool.specs.Ends.{CarriesOut, EndsOnly}
+use Rattle.std.proofs.Common.{◌≡◌, ◌⊎◌, ◌↔◌, inl, inr, ℕ, List, [], Bool, true, Option, Some, None, Result}
+use Rattle.std.proofs.Common.{Err, IfSome, IsErrOf, sym, subst, ◌∙◌}
+use Rattle.std.specs.Io.KnownBytes.{Keeps}
+use Rattle.capn_tool.specs.Ends.{CarriesOut, EndsOnly, course}
 use Rattle.capn_tool.specs.Heard.{KeepsUp, PlanKeepsUp}
 use Rattle.capn_tool.specs.Planned.{plan_of}
+use Rattle.capn_tool.specs.Sending.{EndsFlushed}
 use Rattle.capn_tool.specs.Text.{Begins, EndsAs, EndsBy, HasEnded, IsDue}
 use Rattle.capn_tool.specs.declared.orders.Command.{Command}
 use Rattle.capn_tool.specs.declared.plan.Plan.{Plan}
 use Rattle.capn_tool.specs.declared.plan.Plan.TheVariants as plans
 use Rattle.capn_tool.specs.declared.fault.ToolFault.{ToolFault}
 use Rattle.capn_tool.specs.declared.fault.ToolFault.TheVariants as faults
-
--- bytes that stay as they were behind what was appended
-kept : (c m d : Option (List ℕ)) (text : List ℕ) → Keeps m d → Appends c m text → Appends c d text
-kept None m d text k a = tt
-kept (Some x) None d text k a = absurd a
-kept (Some x) (Some y) None text k a = absurd k
-kept (Some x) (Some y) (Some z) text k a = k ∙ a
+use Rattle.capn_tool.proofs.Kept.{kept}
 
 abbrev Ending : Type 0
 Ending = Result (Unit {0}) ToolFault
@@ -26,13 +21,9 @@ Ending = Result (Unit {0}) ToolFault
 abbrev Flushed : Ending → Ending → Type 0
 Flushed r s = (s ≡ r) ⊎ (s ≡ Err faults.Io)
 
-pub flushed : (r s : Ending) (is_flushed : Bool) → IfErr r (λ reason. s ≡ Err reason)
-    → (IsOk r → is_flushed ≡ false → s ≡ Err faults.Io)
-    → (IsOk r → is_flushed ≡ true → IsOk s) → Flushed r s
-flushed (Err e) s is_flushed k f d = inl k
-flushed (Ok u) s false k f d = inr (f refl refl)
-flushed (Ok u) (Ok v) true k f d = inl refl
-flushed (Ok u) (Err e) true k f d = absurd (let bad : false ≡ true = d refl refl in cc)
+flushed : (r s : Ending) (old new : Bool) → EndsFlushed r old new s → Flushed r s
+flushed r s old new (inl (is, same)) = inl is
+flushed r s old new (inr (is, failed)) = inr is
 
 ended : (plan : Plan) (bytes : List ℕ) (is_longer : Bool) (c m d : Option (List ℕ)) (r s : Ending)
     → Keeps m d → Flushed r s → HasEnded plan bytes is_longer c m r → HasEnded plan bytes is_longer c d s
@@ -76,22 +67,21 @@ keeps_up (plans.Each piece limits) a b c m d k (bytes, text, due, read, is, writ
 keeps_up (plans.Packed piece limits) a b c m d k (bytes, text, due, read, is, written) =
     (bytes, text, due, read, is, kept c m d text k written)
 
-failed_so : (r s : Ending) → Flushed r s → r ≡ Err faults.Io → s ≡ Err faults.Io
-failed_so r s (inl e) is = e ∙ is
-failed_so r s (inr io) is = io
+-- it ends with Io exactly where the reader or the writer has failed by then
+io : (r s : Ending) (unread old new : Bool) → EndsFlushed r old new s
+    → (IsErrOf r faults.Io ↔ ((unread ≡ true) ⊎ (old ≡ true))) → IsErrOf s faults.Io ↔ ((unread ≡ true) ⊎ (new ≡ true))
+io r s unread old new (inl (is, same)) g = rw (is, same) g
+io r s unread old new (inr (is, failed)) g = (λ _. inr failed, λ _. is)
 
-pub carried : (command : Command) (a b c m m' d c' : Option (List ℕ)) (unread unwritten : Bool) (r s : Ending)
-    → c ≡ c' → m' ≡ m → IfSome a (EndsAs command c m r) → IfSome a (EndsOnly command c m r)
-    → (IsErrOf r faults.Io ↔ ((unread ≡ true) ⊎ (unwritten ≡ true)))
-    → Begins command a b c m → (unread ≡ true → KeepsUp command a b c m) → Keeps m' d → Flushed r s
-    → CarriesOut command a b unread c' d s
-carried command a b c m m' d c' unread unwritten r s ec em e o io g h k f =
-    let keeps = subst (λ (x : Option (List ℕ)). Keeps x d) em k in
-    let out : CarriesOut command a b unread c d s = record {
-      exact = exact command a c m d r s keeps f e;
-      only = only command a c m d r s keeps f o;
-      io = λ failed. failed_so r s f (io.1 (inl failed));
-      begun = begun command a b c m d keeps g;
-      heard = λ failed. keeps_up (plan_of command) a b c m d keeps (h failed);
-    } in
-    subst (λ (x : Option (List ℕ)). CarriesOut command a b unread x d s) ec out
+pub carried : (command : Command) (a b c m d : Option (List ℕ)) (unread old new : Bool) (r s : Ending)
+    → IfSome a (EndsAs command c m r) → IfSome a (EndsOnly command c m r)
+    → (IsErrOf r faults.Io ↔ ((unread ≡ true) ⊎ (old ≡ true)))
+    → Begins command a b c m → (unread ≡ true → KeepsUp command a b c m) → Keeps m d → EndsFlushed r old new s
+    → CarriesOut command (course a b unread) (course c d new) s
+carried command a b c m d unread old new r s e o i g h k f = record {
+  exact = exact command a c m d r s k (flushed r s old new f) e;
+  only = only command a c m d r s k (flushed r s old new f) o;
+  io = io r s unread old new f i;
+  begun = begun command a b c m d k g;
+  heard = λ failed. keeps_up (plan_of command) a b c m d k (h failed);
+}

@@ -13,4 +13,6 @@ pub mod PackedMore
 pub mod PackedRun
 pub mod OneMeaning
 pub mod WorkedLines
+pub mod Kept
 pub mod Carried
+pub mod Shown

@@ -1,6 +1,6 @@
 -- A stream of messages that is read in pieces: what has been told of the bytes that came. (Own.)
 use Rattle.std.specs.Prelude.{◌≡◌, ◌⊎◌, ◌↔◌, ℕ, ◌<◌, ◌≤◌, List, [], ◌++◌, length, take, Bool, true, false, Option}
-use Rattle.std.specs.Prelude.{IfSome, Result, Ok, Err, ⊤}
+use Rattle.std.specs.Prelude.{IfSome, Result, Ok, Err}
 use Rattle.std.specs.Io.KnownBytes.{Consumes, Appends}
 use Rattle.capn_walk.specs.Limits.{Bounds}
 use Rattle.capn_stream.specs.Framing.{Framing, IsUnfinished}

@@ -1,5 +1,5 @@
 -- What a run has handed to its writer, and the text that it keeps to hand over with what comes next. (Own.)
-use Rattle.std.specs.Prelude.{◌≡◌, ℕ, List, [], ◌++◌, take, Bool, true, false, Option, Result, Err}
+use Rattle.std.specs.Prelude.{◌≡◌, ◌⊎◌, ℕ, List, [], ◌++◌, take, Bool, true, false, Option, Result, Err}
 use Rattle.std.specs.Io.KnownBytes.{Appends}
 use Rattle.capn_words.specs.Watching.{HasBegun}
 use Rattle.capn_tool.specs.declared.fault.ToolFault.{ToolFault}
@@ -33,3 +33,7 @@ abbrev pub SendsRest : Result (Unit {0}) ToolFault → List ℕ → Option (List
 SendsRest served text old new true failed result = (new ≡ old) × (failed ≡ true) × (result ≡ served)
 SendsRest served text old new false false result = Appends old new text × (result ≡ served)
 SendsRest served text old new false true result = HasBegun old new text × (result ≡ Err faults.Io)
+
+-- behind a flush a run ends as it did, and with Io where the flush failed
+abbrev pub EndsFlushed : Result (Unit {0}) ToolFault → Bool → Bool → Result (Unit {0}) ToolFault → Type 0
+EndsFlushed outcome old new result = ((result ≡ outcome) × (new ≡ old)) ⊎ ((result ≡ Err faults.Io) × (new ≡ true))

@@ -184,7 +184,8 @@ pub fn run_each<R: Read, W: Write, A: Allocator + Copy>(
     requires reader_fine { has_failed reader.old ≡ false }
     requires writer_fine { has_failed writer.old ≡ false }
     ensures { Runs (plans.Each piece limits) (R.remaining (inner_of reader.old)) (R.remaining (inner_of reader.new))
-        (W.contents (inner_of writer.old)) (W.contents (inner_of writer.new)) (has_failed reader.new) (has_failed writer.new) result }
+        (W.contents (inner_of writer.old)) (W.contents (inner_of writer.new)) (has_failed reader.new)
+        (has_failed writer.new) result }
 {
     let mut framer = Framer::new(alloc, limits.message_words());
     let mut text = Vec::new(alloc);

@@ -9,9 +9,9 @@ pub struct Page {
     pub more: &'static str,
 }
 
-/// The first line of every help, which names the version.
+/// The first line of every help, which names the version, and an empty line.
 pub const TITLE: &str =
-    "capn 0.1.0: Cap'n Proto messages without a schema, from standard input to standard output";
+    "capn 0.1.0: Cap'n Proto messages without a schema, from standard input to standard output\n\n";
 
 /// The program.
 pub const PROGRAM: Page = Page {

@@ -1,11 +1,12 @@
 //! What the words of the command line tell the tool to do.
 
-ghost use Rattle.std.specs.Prelude.{◌≡◌, ℕ, ◌<◌, ◌^◌, true, IfOk, IfSome, IsSome, Some, map};
-ghost use Rattle.clap.specs.Words.{found_of, rows_of, subcommand_of, takes};
+ghost use Rattle.std.specs.Prelude.{◌≡◌, ◌⊎◌, ℕ, ◌<◌, ◌^◌, true, IfErr, IfOk, IfSome, IsSome, Some, map};
+ghost use Rattle.clap.specs.Words.{found_of, kind_of, rows_of, subcommand_of, takes};
+ghost use Rattle.clap.specs.declared.error.ErrorKind.TheVariants as kinds;
 ghost use Rattle.capn_walk.specs.Limits.{Bounds};
 ghost use Rattle.capn_tool.specs.Line.{tool_line};
 ghost use Rattle.capn_tool.specs.Meaning.{Means, FormIs, TariffIs, LimitsAre, NumberIs, UnpackedIs};
-ghost use Rattle.capn_tool.specs.Misuse.{Orders};
+ghost use Rattle.capn_tool.specs.Misuse.{IsReason, Orders, error_of};
 
 use crate::help;
 use crate::misuse::Usage;
@@ -109,7 +110,9 @@ fn mistake_of(matches: &ArgMatches) -> &'static str {
 }
 
 /// What is answered where an option has a value that the command does not take.
-fn no_such_value(alloc: Global, text: &str) -> Usage {
+fn no_such_value(alloc: Global, text: &str) -> Usage
+    ensures { (kind_of (error_of result) ≡ kinds.OutOfMemory) ⊎ (kind_of (error_of result) ≡ kinds.InvalidValue) }
+{
     let mut command = match tool_command(alloc) {
         Ok(command) => command,
         Err(error) => return error.into(),
@@ -130,6 +133,8 @@ pub fn command_of<'a, S: AsStr>(alloc: Global, words: &'a [S]) -> Result<Command
     // Where the words are taken and mean a command, that very command is given, unless memory is refused.
     ensures only { takes tool_line (map S.text words.now) ≡ true → (command : Command)
         → Means (subcommand_of tool_line (map S.text words.now)) command → Orders command result }
+    // Where none is given, the kind of the answer is a reason why the words order nothing.
+    ensures reason { IfErr result (λ usage. IsReason (map S.text words.now) (kind_of (error_of usage))) }
 {
     let matches = tool_command(alloc)?.try_get_matches_from(words)?;
     let order = match matches.subcommand() {

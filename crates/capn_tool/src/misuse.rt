@@ -1,9 +1,10 @@
 //! Words of the command line that order nothing.
 
-ghost use Rattle.std.specs.Prelude.{◌≡◌, ◌↔◌, IsTrue};
+ghost use Rattle.std.specs.Prelude.{◌≡◌, ◌↔◌, IfOk, IsTrue, string_bytes};
 ghost use Rattle.clap.specs.Words.{kind_of};
 ghost use Rattle.capn_tool.specs.Status.{usage_status_of};
 
+use crate::help::TITLE;
 use clap::error::ErrorKind;
 use std::alloc::{AllocError, Allocator};
 
@@ -14,7 +15,7 @@ pub struct Usage {
 }
 
 impl Usage {
-    ghost use Rattle.capn_tool.specs.Misuse.{WantsMemory, WishesHelp, error_of};
+    ghost use Rattle.capn_tool.specs.Misuse.{IsHelp, WantsMemory, WishesHelp, error_of};
 
     /// The exit status: 3 for want of memory, 0 for a wish for help, 2 for any other.
     pub fn status(&self) -> u8
@@ -41,9 +42,17 @@ impl Usage {
         matches!(self.error.kind(), ErrorKind::DisplayHelp)
     }
 
-    /// The text for the user: help, or what is said of a mistake.
-    pub fn text<A: Allocator>(&self, alloc: A) -> Result<String<A>, AllocError> {
-        format!(in alloc; "{}", &self.error)
+    /// The text for the user: help below its title, or what is said of a mistake.
+    pub fn text<A: Allocator + Copy>(&self, alloc: A) -> Result<String<A>, AllocError>
+        ensures { WishesHelp self.now → IfOk result (λ text. IsHelp (string_bytes text)) }
+    {
+        let said = format!(in alloc; "{}", &self.error)?;
+        if !self.is_help() {
+            return Ok(said);
+        }
+        let mut text = String::from_str(alloc, TITLE)?;
+        text.push_str(said.as_str())?;
+        Ok(text)
     }
 }
 

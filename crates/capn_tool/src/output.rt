@@ -1,9 +1,9 @@
-//! All of the output.
+//! All of the output, and its flush.
 
 ghost use Rattle.std.specs.Prelude.{◌≡◌, ◌↔◌, true, false, OnOk, IsErrOf, IsOkUnless};
-ghost use Rattle.std.specs.Io.KnownBytes.{Appends};
+ghost use Rattle.std.specs.Io.KnownBytes.{Appends, Keeps};
 ghost use Rattle.capn_words.specs.Watching.{HasBegun, inner_of, has_failed};
-ghost use Rattle.capn_tool.specs.Sending.{SendsRest};
+ghost use Rattle.capn_tool.specs.Sending.{EndsFlushed, SendsRest};
 
 use crate::fault::ToolFault;
 use capn_words::Watched;
@@ -39,4 +39,18 @@ pub(crate) fn send_rest<W: Write>(
     }
     write_all(writer, text)?;
     served
+}
+
+/// Flushes the writer behind a run that ended so. The run ends so, or with `Io` where the flush fails.
+pub(crate) fn flush_behind<W: Write>(
+    outcome: Result<(), ToolFault>,
+    writer: &mut Watched<W>,
+) -> Result<(), ToolFault>
+    ensures kept { Keeps (W.contents (inner_of writer.old)) (W.contents (inner_of writer.new)) }
+    ensures ended { EndsFlushed outcome (has_failed writer.old) (has_failed writer.new) result }
+{
+    match writer.flush() {
+        Ok(()) => outcome,
+        Err(_) => Err(ToolFault::Io),
+    }
 }

@@ -72,7 +72,8 @@ fn perform<R: Read, W: Write, A: Allocator + Copy>(
     requires reader_fine { has_failed reader.old ≡ false }
     requires writer_fine { has_failed writer.old ≡ false }
     ensures { Runs plan (R.remaining (inner_of reader.old)) (R.remaining (inner_of reader.new))
-        (W.contents (inner_of writer.old)) (W.contents (inner_of writer.new)) (has_failed reader.new) (has_failed writer.new) result }
+        (W.contents (inner_of writer.old)) (W.contents (inner_of writer.new)) (has_failed reader.new)
+        (has_failed writer.new) result }
 {
     match plan {
         Plan::Whole(whole) => run_whole(alloc, whole, reader, writer),

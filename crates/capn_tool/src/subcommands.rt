@@ -82,7 +82,6 @@ fn plain_command<'a>(alloc: Global, name: &'a str, page: Page) -> Command<'a>
     ensures local { (out-Command result).has_globals ≡ false }
 {
     Command::new(alloc, name)
-        .before_help(help::TITLE)
         .about(page.about)
         .after_help(page.more)
 }

@@ -44,7 +44,8 @@ fn serve_slice<W: Write, A: Allocator + Copy>(
     requires most { framer.old.most ≡ limits.message_words }
     ensures { ServesPacked piece limits unpacker.old framer.old bytes.now
         (outgoing (W.contents (inner_of writer.old)) text.old.items)
-        (outgoing (W.contents (inner_of writer.new)) text.new.items) (has_failed writer.new) result unpacker.new framer.new }
+        (outgoing (W.contents (inner_of writer.new)) text.new.items) (has_failed writer.new) result
+        unpacker.new framer.new }
 {
     words.clear();
     match unpacker.feed(bytes, words) {
@@ -75,7 +76,8 @@ fn serve_slices<W: Write, A: Allocator + Copy>(
     requires room { length bytes.now ≤ 65536 }
     ensures { ServesPacked piece limits unpacker.old framer.old bytes.now
         (outgoing (W.contents (inner_of writer.old)) text.old.items)
-        (outgoing (W.contents (inner_of writer.new)) text.new.items) (has_failed writer.new) result unpacker.new framer.new }
+        (outgoing (W.contents (inner_of writer.new)) text.new.items) (has_failed writer.new) result
+        unpacker.new framer.new }
 {
     let mut at = 0;
     while at < bytes.len() {
@@ -153,7 +155,8 @@ pub fn run_packed<R: Read, W: Write, A: Allocator + Copy>(
     requires reader_fine { has_failed reader.old ≡ false }
     requires writer_fine { has_failed writer.old ≡ false }
     ensures { Runs (plans.Packed piece limits) (R.remaining (inner_of reader.old)) (R.remaining (inner_of reader.new))
-        (W.contents (inner_of writer.old)) (W.contents (inner_of writer.new)) (has_failed reader.new) (has_failed writer.new) result }
+        (W.contents (inner_of writer.old)) (W.contents (inner_of writer.new)) (has_failed reader.new)
+        (has_failed writer.new) result }
 {
     let mut unpacker = Unpacker::new();
     let mut words = Vec::new(alloc);

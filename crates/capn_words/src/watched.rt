@@ -2,15 +2,15 @@
 
 ghost use Rattle.std.specs.Prelude.{◌≡◌, ℕ, ◌<◌, ◌≤◌, Bool, true, false, ◌||◌, is_err, OnOk};
 ghost use Rattle.std.specs.Io.{ReadsAtMost, WritesAtMost};
-ghost use Rattle.std.specs.Io.KnownBytes.{Appends, ReadConsumes, WriteAppends};
+ghost use Rattle.std.specs.Io.KnownBytes.{Appends, Keeps, ReadConsumes, WriteAppends};
 ghost use Rattle.capn_words.specs.Watching.{HasBegun, has_failed, inner_of, write_fails};
 
 use std::io::{ErrorKind, Read, Result, Write};
 
 /// A reader or a writer, and whether a call of it has failed. (Own.)
 ///
-/// It has failed from the first call on that answered an error, `Interrupted` too, or that wrote no byte of a
-/// piece that has some. Every call is passed on, after a failure too.
+/// It has failed from the first call on that answered an error, `Interrupted` too and that of a flush, or that wrote no
+/// byte of a piece that has some. Every call is passed on, after a failure too.
 #[derive(Debug, Drop)]
 pub struct Watched<T> {
     inner: T,
@@ -94,5 +94,15 @@ impl<W: Write> Watched<W> {
             }
         }
         Ok(())
+    }
+
+    /// Flushes as the writer does, and answers what it answers. An error makes it failed.
+    pub fn flush(&mut self) -> Result<()>
+        ensures kept { Keeps (W.contents (inner_of self.old)) (W.contents (inner_of self.new)) }
+        ensures failed { has_failed self.new ≡ (has_failed self.old || is_err result) }
+    {
+        let answer = self.inner.flush();
+        self.failed |= answer.is_err();
+        answer
     }
 }

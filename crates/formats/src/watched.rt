@@ -57,6 +57,7 @@ impl<'a> Write for Told<'a> {
     }
 
     fn flush(&mut self) -> io::Result<()> {
+        self.answer(0)?;
         Ok(())
     }
 }
@@ -108,6 +109,20 @@ fn fails_at_the_first_error_of_a_write(rt: HostRuntime) {
         assert!(rt; matches!(writer.write(b"abc"), Err(_)));
         assert!(rt; writer.failed());
         assert!(rt; matches!(writer.write(b"abc"), Ok(1)));
+        assert!(rt; writer.failed());
+    }
+}
+
+#[test]
+fn fails_at_the_first_error_of_a_flush(rt: HostRuntime) {
+    for kind in KINDS {
+        let answers = [Answer::Bytes(0), Answer::Fault(kind), Answer::Bytes(0)];
+        let mut writer = Watched::new(Told { answers: &answers });
+        assert!(rt; matches!(writer.flush(), Ok(())));
+        assert!(rt; !writer.failed());
+        assert!(rt; matches!(writer.flush(), Err(_)));
+        assert!(rt; writer.failed());
+        assert!(rt; matches!(writer.flush(), Ok(())));
         assert!(rt; writer.failed());
     }
 }

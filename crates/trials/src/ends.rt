@@ -1,74 +1,13 @@
 //! Runs over readers and writers of one byte a call, which fail at one call.
 
+use crate::slow::{Run, ended};
 use capn_canon::{Form, Refusal};
 use capn_pack::UnpackFault;
 use capn_stream::FrameFault;
 use capn_tool::*;
 use capn_walk::Limits;
-use capn_words::Watched;
 use std::alloc::Global;
-use std::io::{self, Error, ErrorKind, Read, Write};
 use std::process::Abort;
-
-/// A reader of one byte a call, which fails at one call and remembers the most that it was asked for.
-#[derive(Drop)]
-struct Slow<'a> {
-    bytes: &'a [u8],
-    calls: u64,
-    fails_at: u64,
-    asked: usize,
-}
-
-impl Read for Slow<'_> {
-    fn read(&mut self, buf: &mut [u8]) -> io::Result<usize> {
-        self.calls = self.calls.saturating_add(1);
-        self.asked = self.asked.max(buf.len());
-        if self.calls == self.fails_at {
-            return Err(Error::from(ErrorKind::Interrupted));
-        }
-        match self.bytes.split_first() {
-            Some((first, rest)) if !buf.is_empty() => {
-                buf[0] = *first;
-                self.bytes = rest;
-                Ok(1)
-            }
-            _ => Ok(0),
-        }
-    }
-}
-
-/// A writer of one byte a call, which at one call answers an error or takes nothing.
-#[derive(Drop)]
-struct Narrow {
-    bytes: Vec<u8>,
-    calls: u64,
-    fails_at: u64,
-    takes_nothing: bool,
-}
-
-impl Write for Narrow {
-    fn write(&mut self, buf: &[u8]) -> io::Result<usize> {
-        self.calls = self.calls.saturating_add(1);
-        if self.calls == self.fails_at {
-            return if self.takes_nothing {
-                Ok(0)
-            } else {
-                Err(Error::from(ErrorKind::Other))
-            };
-        }
-        match buf.first() {
-            Some(first) => {
-                self.bytes.push(*first)?;
-                Ok(1)
-            }
-            None => Ok(0),
-        }
-    }
-
-    fn flush(&mut self) -> io::Result<()> {
-        Ok(())
-    }
-}
 
 /// A bare message: a struct with a trailing zero word, of 24 bytes.
 const BARE: [u8; 24] = [
@@ -86,14 +25,6 @@ const STREAM: [u8; 40] = [
 
 /// The lines of their prices, 19 bytes each.
 const PRICES: &[u8] = b"ok paid 2 visits 1\nok paid 0 visits 1\n";
-
-/// A command with its input and what it writes.
-#[derive(Clone, Copy)]
-struct Run<'a> {
-    command: Command,
-    input: &'a [u8],
-    text: &'a [u8],
-}
 
 /// The run of `canonical` over the bare message.
 fn canonical() -> Run<'static> {
@@ -129,39 +60,6 @@ fn hash() -> Run<'static> {
         command: Command::Hash(Form::Stream, Limits::usual()),
         input: &TWICE,
         text: DIGESTS,
-    }
-}
-
-/// How a run ended: its outcome, what it wrote, how often it called its reader, and the most that it asked it for.
-#[derive(Drop)]
-struct Ending {
-    outcome: Result<(), ToolFault>,
-    written: Vec<u8>,
-    reads: u64,
-    asked: usize,
-}
-
-/// How a run ended whose reader fails at one call and its writer at another (at 0: never).
-fn ended(alloc: Global, run_of: &Run, read: u64, write: u64, takes_nothing: bool) -> Ending {
-    let mut reader = Watched::new(Slow {
-        bytes: run_of.input,
-        calls: 0,
-        fails_at: read,
-        asked: 0,
-    });
-    let mut writer = Watched::new(Narrow {
-        bytes: Vec::new(alloc),
-        calls: 0,
-        fails_at: write,
-        takes_nothing,
-    });
-    let outcome = run(alloc, run_of.command, &mut reader, &mut writer);
-    let reader = reader.into_inner();
-    Ending {
-        outcome,
-        written: writer.into_inner().bytes,
-        reads: reader.calls,
-        asked: reader.asked,
     }
 }
 

@@ -19,6 +19,8 @@ mod pieces;
 #[cfg(test)]
 mod programs;
 #[cfg(test)]
+mod slow;
+#[cfg(test)]
 mod surveys;
 #[cfg(test)]
 mod texts;

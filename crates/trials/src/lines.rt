@@ -213,8 +213,13 @@ fn help_is_no_mistake(rt: HostRuntime) {
 }
 
 #[test]
-fn help_names_the_version_first(rt: HostRuntime) {
-    let mut command = tool_command(rt.alloc()).expect(&rt, "a command line");
-    let help = command.render_help().expect(&rt, "help");
-    assert!(rt; help.as_str().starts_with("capn 0.1.0: "));
+fn help_says_what_the_program_does_below_the_version(rt: HostRuntime) {
+    let text = match command_of(rt.alloc(), &["capn", "--help"]) {
+        Ok(_) => None,
+        Err(usage) => usage.text(rt.alloc()).ok(),
+    };
+    let text = text.expect(&rt, "help");
+    let (title, below) = text.as_str().split_once('\n').expect(&rt, "lines");
+    assert!(rt; title.starts_with("capn 0.1.0: "));
+    assert!(rt; below.starts_with("\nShows, checks, "));
 }

@@ -43,9 +43,10 @@ fn blank(alloc: Global, takes: bool, flushes: bool) -> Page {
 /// What the program ends with, writes and tells of errors, for these words and this input, over such an output.
 fn ended(alloc: Global, words: &[&str], input: &[u8], output: Page) -> (u8, Vec<u8>, Vec<u8>) {
     let mut reader = Watched::new(input);
+    let mut writer = Watched::new(output);
     let mut errors = Watched::new(blank(alloc, true, true));
-    let (code, written) = program(alloc, words, &mut reader, output, &mut errors);
-    (code, written.bytes, errors.into_inner().bytes)
+    let code = program(alloc, words, &mut reader, &mut writer, &mut errors);
+    (code, writer.into_inner().bytes, errors.into_inner().bytes)
 }
 
 /// A stream of one message: a struct of one word.
@@ -110,7 +111,7 @@ fn each_status_of_a_run(rt: HostRuntime) {
         alloc,
         &STREAM[..9],
         blank(alloc, true, false),
-        (1, b"", cut),
+        (3, b"", FAILED),
     );
 }
 

@@ -1,15 +1,17 @@
-use Rattle.std.proofs.Common.{◌≡◌, map, List, Option, Some, None, IsSome, Result, Ok, Err, IsErr, IsErrAnd, sym, ap}
-use Rattle.std.proofs.Common.{subst, ◌∙◌}
-use Rattle.clap.specs.Words.{App, Row, Text, is_simple, subcommand_of, takes}
-use Rattle.clap.specs.Words.{kind_of}
+use Rattle.std.proofs.Common.{◌≡◌, inl, inr, map, List, [], Option, Some, None, IsSome, Result, Ok, Err, IfErr, IsErr}
+use Rattle.std.proofs.Common.{IsErrAnd, sym, ap, subst, ◌∙◌}
+use Rattle.clap.specs.Words.{App, HasKind, Row, Text, fault_of, is_simple, is_simple_and_free, kind_of, subcommand_of}
+use Rattle.clap.specs.Words.{takes}
 use Rattle.clap.specs.declared.error.Error.{Error}
 use Rattle.clap.specs.declared.error.ErrorKind.TheVariants as kinds
 use Rattle.capn_tool.specs.declared.misuse.Usage.{Usage}
 use Rattle.capn_tool.specs.declared.orders.Command.{Command}
 use Rattle.capn_tool.specs.Meaning.{Means}
-use Rattle.capn_tool.specs.Misuse.{Orders, error_of}
+use Rattle.capn_tool.specs.Line.{tool_line}
+use Rattle.capn_tool.specs.Misuse.{IsReason, Orders, error_of}
 use Rattle.capn_tool.proofs.OneMeaning.{means_one}
 use Rattle.capn_tool.proofs.Entered.{entered, not_entered}
+use Rattle.capn_tool.proofs.line.command_of.Given.{Over}
 use Rattle.capn_tool.proofs.line.command_of.Goals.{in-Some, in-None}
 use Rattle.capn_tool.proofs.line.command_of.Goals as goal
 
@@ -52,8 +54,10 @@ not_missing : {A : Type 0} (order result : Option A) → order ≡ None → orde
 not_missing order None none is some = cc
 not_missing order (Some x) none is some = cc
 
-pub returns-clause-only : goal.returns-clause-only
-returns-clause-only g c taken command means =
+-- where no order was found, the words mean no command
+meaningless : (g : Over) (c : goal.Joined-matches-2 g) (command : Command)
+    → Means (subcommand_of tool_line (map g.S.AsStr.text c.args.words.now)) command → ⊥
+meaningless g c command means =
     let words = map g.S.AsStr.text c.args.words.now in
     let line = c.in_ok-tool_command.ensures in
     let rows = (c.in_ok-matches.ensures.matches (ap is_simple line)).1 in
@@ -63,9 +67,35 @@ returns-clause-only g c taken command means =
           let is = entered _ _ _ _ c.subcommand.result _ _ w.in-Some.is c.subcommand.ensures.name
           c.subcommand.ensures.rows in
           let said = subst (λ (s : Option (Text × List Row)). Means s command) (of_line ∙ (sym rows ∙ is)) means in
-          absurd (not_missing _ _ c.in-None-order.is w.order-is (w.order_of-order.ensures.served command said))
+          not_missing _ _ c.in-None-order.is w.order-is (w.order_of-order.ensures.served command said)
       | in-None w ↦
           let is = not_entered _ _ _ c.subcommand.result _ w.in-None.is c.subcommand.ensures.rows in
-          let said = subst (λ (s : Option (Text × List Row)). Means s command) (of_line ∙ (sym rows ∙ is)) means in
-          absurd said
+          subst (λ (s : Option (Text × List Row)). Means s command) (of_line ∙ (sym rows ∙ is)) means
     ]
+
+pub returns-clause-only : goal.returns-clause-only
+returns-clause-only g c taken command means = absurd (meaningless g c command means)
+
+-- an error of clap is told with its kind
+told_reason : (words : List Text) (e : Error) (r : Result Command Usage) → HasKind (fault_of tool_line words) e
+    → IsErr r × IsErrAnd r (λ usage. error_of usage ≡ e) → IfErr r (λ usage. IsReason words (kind_of (error_of usage)))
+told_reason words e (Ok given) kind (is_err, is) = tt
+told_reason words e (Err usage) (inl memory) (is_err, is) = inl (ap kind_of is ∙ memory)
+told_reason words e (Err usage) (inr among) (is_err, is) =
+    subst (λ (x : Error). IsReason words (kind_of x)) (sym is) (inr (inl among))
+
+pub returns-in_err-matches-clause-reason : goal.returns-in_err-matches-clause-reason
+returns-in_err-matches-clause-reason g c =
+    let line = c.in_ok-tool_command.ensures in
+    let words = map g.S.AsStr.text c.args.words.now in
+    let kind = subst (λ (a : App). HasKind (fault_of a words) c.in_err-matches.field-0.0) line
+    (c.in_err-matches.ensures.kinds (ap is_simple_and_free line)) in
+    told_reason words c.in_err-matches.field-0.0 _ kind c.from_residual-in_err-matches.ensures
+
+pub returns-clause-reason : goal.returns-clause-reason
+returns-clause-reason g c =
+    let line = c.in_ok-tool_command.ensures in
+    let words = map g.S.AsStr.text c.args.words.now in
+    let none = subst (λ (a : App). fault_of a words ≡ []) line
+    (c.in_ok-matches.ensures.kinds (ap is_simple_and_free line)) in
+    elim c.no_such_value.ensures [ inl memory ↦ inl memory | inr value ↦ inr (inr (none, value, meaningless g c)) ]

@@ -1,12 +1,9 @@
-use Rattle.std.proofs.Common.{ap}
-use Rattle.capn_tool.proofs.Carried.{carried, flushed}
+use Rattle.capn_tool.proofs.Carried.{carried}
 use Rattle.capn_tool.proofs.start.carry_out.Goals as goal
 
 pub returns : goal.returns
 returns g c =
     let run = c.run-outcome.ensures in
-    carried c.args.command _ _ _ _ _ _ _ _ _ c.run-outcome.result c.with_flush.result
-    (ap g.W.Write.contents c.new-output.ensures.inner) (ap g.W.Write.contents c.into_inner-writer.ensures)
-    run.exact run.only run.io run.begun run.heard c.flush-flushed.ensures.bytes
-    (flushed c.run-outcome.result c.with_flush.result c.is_ok.result c.with_flush.ensures.kept
-    c.with_flush.ensures.failed c.with_flush.ensures.done)
+    let flush = c.flush_behind.ensures in
+    carried c.args.command _ _ _ _ _ _ _ _ c.run-outcome.result c.flush_behind.result
+    run.exact run.only run.io run.begun run.heard flush.kept flush.ended

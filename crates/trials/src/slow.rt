@@ -1,0 +1,107 @@
+//! Runs over a reader and a writer of one byte a call, each of which fails at one call.
+
+use capn_tool::{Command, ToolFault, run};
+use capn_words::Watched;
+use std::alloc::Global;
+use std::io::{self, Error, ErrorKind, Read, Write};
+
+/// A reader of one byte a call, which fails at one call and remembers the most that it was asked for.
+#[derive(Drop)]
+struct Slow<'a> {
+    bytes: &'a [u8],
+    calls: u64,
+    fails_at: u64,
+    asked: usize,
+}
+
+impl Read for Slow<'_> {
+    fn read(&mut self, buf: &mut [u8]) -> io::Result<usize> {
+        self.calls = self.calls.saturating_add(1);
+        self.asked = self.asked.max(buf.len());
+        if self.calls == self.fails_at {
+            return Err(Error::from(ErrorKind::Interrupted));
+        }
+        match self.bytes.split_first() {
+            Some((first, rest)) if !buf.is_empty() => {
+                buf[0] = *first;
+                self.bytes = rest;
+                Ok(1)
+            }
+            _ => Ok(0),
+        }
+    }
+}
+
+/// A writer of one byte a call, which at one call answers an error or takes nothing.
+#[derive(Drop)]
+struct Narrow {
+    bytes: Vec<u8>,
+    calls: u64,
+    fails_at: u64,
+    takes_nothing: bool,
+}
+
+impl Write for Narrow {
+    fn write(&mut self, buf: &[u8]) -> io::Result<usize> {
+        self.calls = self.calls.saturating_add(1);
+        if self.calls == self.fails_at {
+            return if self.takes_nothing {
+                Ok(0)
+            } else {
+                Err(Error::from(ErrorKind::Other))
+            };
+        }
+        match buf.first() {
+            Some(first) => {
+                self.bytes.push(*first)?;
+                Ok(1)
+            }
+            None => Ok(0),
+        }
+    }
+
+    fn flush(&mut self) -> io::Result<()> {
+        Ok(())
+    }
+}
+
+/// A command with its input and what it writes.
+#[derive(Clone, Copy)]
+pub struct Run<'a> {
+    pub command: Command,
+    pub input: &'a [u8],
+    pub text: &'a [u8],
+}
+
+/// How a run ended: its outcome, what it wrote, how often it called its reader, and the most that it asked it for.
+#[derive(Drop)]
+pub struct Ending {
+    pub outcome: Result<(), ToolFault>,
+    pub written: Vec<u8>,
+    pub reads: u64,
+    pub asked: usize,
+}
+
+/// How a run ended whose reader fails at one call and its writer at another (at 0: never).
+pub fn ended(alloc: Global, run_of: &Run, read: u64, write: u64, takes_nothing: bool) -> Ending {
+    let mut reader = Watched::new(Slow {
+        bytes: run_of.input,
+        calls: 0,
+        fails_at: read,
+        asked: 0,
+    });
+    let mut writer = Watched::new(Narrow {
+        bytes: Vec::new(alloc),
+        calls: 0,
+        fails_at: write,
+        takes_nothing,
+    });
+    let outcome = run(alloc, run_of.command, &mut reader, &mut writer);
+    let reader = reader.into_inner();
+    Ending {
+        outcome,
+        written: writer.into_inner().bytes,
+        reads: reader.calls,
+        asked: reader.asked,
+    }
+}
