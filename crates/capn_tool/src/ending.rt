@@ -6,7 +6,8 @@ ghost use Rattle.capn_tool.specs.Status.{status_of};
 ghost use Rattle.capn_tool.specs.Told as spec;
 ghost use Rattle.capn_tool.specs.Told.{Tells, TellsFault};
 
-use crate::fault::{Memory, ToolFault};
+use crate::fault::ToolFault;
+use capn_value::Memory;
 use capn_words::Watched;
 use std::alloc::Allocator;
 use std::io::Write;

@@ -4,19 +4,10 @@ ghost use Rattle.std.specs.Prelude.{◌≡◌};
 ghost use Rattle.capn_tool.specs.declared.fault.ToolFault.TheVariants as fault;
 
 use capn_canon::Refusal;
+use capn_value::Memory;
 use std::alloc::AllocError;
 use std::error::Error;
 use std::fmt;
-
-/// Memory was refused.
-#[derive(Clone, Copy, Debug, PartialEq, Eq)]
-pub struct Memory;
-
-impl From<AllocError> for Memory {
-    fn from(_error: AllocError) -> Memory {
-        Memory
-    }
-}
 
 /// Why a run stops.
 #[derive(Clone, Copy, Debug, PartialEq, Eq)]
@@ -60,10 +51,10 @@ impl From<AllocError> for ToolFault {
     }
 }
 
-impl From<capn_value::Memory> for ToolFault {
+impl From<Memory> for ToolFault {
     ghost from_gives = { λ _ e. e ≡ fault.Memory };
 
-    fn from(_error: capn_value::Memory) -> ToolFault {
+    fn from(_error: Memory) -> ToolFault {
         ToolFault::Memory
     }
 }

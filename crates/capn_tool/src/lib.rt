@@ -32,10 +32,15 @@ mod subcommands;
 mod unpacking;
 
 pub use ending::{end, fault_text, status};
-pub use fault::{Memory, ToolFault};
+pub use fault::ToolFault;
 pub use line::command_of;
 pub use misuse::Usage;
 pub use orders::Command;
 pub use running::run;
 pub use start::program;
 pub use subcommands::tool_command;
+
+// What the signatures above name.
+pub use capn_canon::{Form, Limits, Refusal, Tariff};
+pub use capn_value::Memory;
+pub use capn_words::Watched;

@@ -1,6 +1,10 @@
+//! Want of memory.
+
 ghost use Rattle.std.specs.Prelude.{Some, codes};
 
 use std::alloc::AllocError;
+use std::error::Error;
+use std::fmt;
 
 /// A growth was refused. What was asked for doesn't exist, and what was handed in is as it was.
 #[derive(Clone, Copy, Debug, PartialEq, Eq)]
@@ -12,12 +16,12 @@ impl From<AllocError> for Memory {
     }
 }
 
-impl std::fmt::Display for Memory {
+impl fmt::Display for Memory {
     ghost output = { λ _. Some (codes "out of memory") };
 
-    fn fmt<W: std::fmt::Write>(&self, f: &mut std::fmt::Formatter<W>) -> std::fmt::Result {
+    fn fmt<W: fmt::Write>(&self, f: &mut fmt::Formatter<W>) -> fmt::Result {
         f.write_str("out of memory")
     }
 }
 
-impl std::error::Error for Memory {}
+impl Error for Memory {}
