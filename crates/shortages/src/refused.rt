@@ -60,6 +60,7 @@ pub(crate) enum Call {
     Canonical,
     Canonicalise,
     Check,
+    Account(Form),
     Text,
     Run(Command),
 }
@@ -85,6 +86,7 @@ pub(crate) fn answer(of: &Subject, short: &Refusing<Global>, call: Call) -> Answ
         Call::Canonical => canonical_answer(of, short),
         Call::Canonicalise => canonicalise_answer(of, short),
         Call::Check => check_answer(of, short),
+        Call::Account(form) => account_answer(of, short, form),
         Call::Text => text_answer(short),
         Call::Run(command) => run_answer(of, short, command),
     }
@@ -138,6 +140,14 @@ fn calls_on_values(rt: HostRuntime) -> Result<(), Fail> {
     refuse_each(&rt, &of, "canonical_of", Call::Canonical);
     refuse_each(&rt, &of, "canonicalise", Call::Canonicalise);
     refuse_each(&rt, &of, "is_canonical", Call::Check);
+    refuse_each(&rt, &of, "account of a stream", Call::Account(Form::Stream));
+    refuse_each(
+        &rt,
+        &of,
+        "account of packed bytes",
+        Call::Account(Form::Packed),
+    );
+    refuse_each(&rt, &of, "account of bare bytes", Call::Account(Form::Bare));
     Ok(())
 }
 
@@ -183,7 +193,10 @@ fn no_memory_for_64_objects(rt: HostRuntime) -> Result<(), Fail> {
     heap.refuse_each();
     let deep = chain(rt.alloc(), 63)?;
     assert!(rt; is_canonical(&heap, deep.as_slice(), limits(64)) == Ok(true));
+    assert!(rt; accounted(&heap, Form::Bare, deep.as_slice(), limits(64)) == Ok((253, 127, None)));
     let deeper = chain(rt.alloc(), 64)?;
+    let refusal = accounted(&heap, Form::Bare, deeper.as_slice(), limits(64));
+    assert!(rt; refusal == accounted(rt.alloc(), Form::Bare, deeper.as_slice(), limits(64)));
     match is_canonical(&heap, deeper.as_slice(), limits(64)) {
         Err(Refusal::Walk(stopped)) => assert!(rt;
             stopped.fault == Fault::TooDeep
@@ -193,5 +206,6 @@ fn no_memory_for_64_objects(rt: HostRuntime) -> Result<(), Fail> {
         ),
         _ => assert!(rt; false, "another answer"),
     }
+    assert!(rt; heap.count() == 0);
     Ok(())
 }

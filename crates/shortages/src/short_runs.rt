@@ -1,8 +1,11 @@
 //! Canonical bytes, texts of faults and runs, with an allocator that may refuse a growth.
 
 use crate::subject::{Answer, Subject, judged, limits, wanting};
-use capn_canon::{Canonical, Form, Refusal, canonical_of, canonicalise, is_canonical, layout};
+use capn_canon::{
+    Canonical, Form, Refusal, account, canonical_of, canonicalise, is_canonical, layout,
+};
 use capn_tool::{Command, ToolFault, fault_text, run};
+use capn_walk::Limits;
 use capn_words::Watched;
 use refusing::Refusing;
 use std::alloc::{Allocator, Global};
@@ -35,6 +38,32 @@ pub(crate) fn check_answer(of: &Subject, short: &Refusing<Global>) -> Answer {
     match is_canonical(short, of.chain.as_slice(), limits(256)) {
         Ok(is_canonical) => judged(is_canonical),
         Err(refusal) => wanting(matches!(refusal, Refusal::Memory)),
+    }
+}
+
+/// The price, the visits and the first capability that a survey of bytes tells.
+pub fn accounted<A: Allocator + Copy>(
+    alloc: A,
+    form: Form,
+    bytes: &[u8],
+    limits: Limits,
+) -> Result<(u32, u32, Option<u32>), Refusal> {
+    let told = account(alloc, form, bytes, limits)?;
+    Ok((told.paid, told.visits, told.capability))
+}
+
+/// What a survey tells of the stream, of its packed text, and of the chain, which is read bare.
+pub fn account_answer(of: &Subject, short: &Refusing<Global>, form: Form) -> Answer {
+    let bytes = match form {
+        Form::Stream => of.stream,
+        Form::Packed => of.packed.as_slice(),
+        Form::Bare => of.chain.as_slice(),
+    };
+    let told = accounted(short, form, bytes, limits(256));
+    match (told, accounted(of.alloc, form, bytes, limits(256))) {
+        (Ok(told), Ok(want)) => judged(told == want),
+        (Err(refusal), Ok(_)) => wanting(matches!(refusal, Refusal::Memory)),
+        _ => Answer::Wrong,
     }
 }
 
