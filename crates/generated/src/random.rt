@@ -1,6 +1,6 @@
 //! Numbers that look random.
 
-ghost use Rattle.std.specs.Prelude.{◌≤◌};
+ghost use Rattle.std.specs.Prelude.{◌≡◌, ◌+◌, ◌*◌, ◌%◌, ◌^◌, ◌≤◌};
 
 /// The same numbers for each seed.
 #[derive(Drop)]
@@ -10,14 +10,18 @@ pub(crate) struct Random {
 
 impl Random {
     /// The numbers of a seed.
-    pub(crate) fn new(seed: u64) -> Random {
+    pub(crate) fn new(seed: u64) -> Random
+        ensures { result.state ≡ (seed * 11_400_714_819_323_198_485 + 1) % 2 ^ 64 }
+    {
         Random {
             state: seed.wrapping_mul(0x9e37_79b9_7f4a_7c15).wrapping_add(1),
         }
     }
 
     /// The next word.
-    pub(crate) fn word(&mut self) -> u64 {
+    pub(crate) fn word(&mut self) -> u64
+        ensures { result ≡ self.new.state * 2_685_821_657_736_338_717 % 2 ^ 64 }
+    {
         let mut state = self.state;
         state ^= state << 13;
         state ^= state >> 7;

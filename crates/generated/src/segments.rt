@@ -1,5 +1,7 @@
 //! Segments that are written word by word, pointers into them, and their frame.
 
+ghost use Rattle.std.specs.Prelude.{◌≡◌, [], length, map, slice_index_or};
+
 use std::alloc::{AllocError, Global};
 
 /// A word of a segment.
@@ -26,12 +28,16 @@ impl Segments {
     }
 
     /// How many there are.
-    pub(crate) fn count(&self) -> u64 {
+    pub(crate) fn count(&self) -> u64
+        ensures { result ≡ length self.now.segments.items }
+    {
         self.segments.len() as u64
     }
 
     /// How many words one has.
-    pub(crate) fn len(&self, segment: u64) -> u64 {
+    pub(crate) fn len(&self, segment: u64) -> u64
+        ensures { result ≡ length (slice_index_or (map (λ words. words.items) self.now.segments.items) segment []) }
+    {
         match self.segments.get(segment as usize) {
             Some(words) => words.len() as u64,
             None => 0,

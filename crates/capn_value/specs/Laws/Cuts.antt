@@ -6,13 +6,16 @@ use Rattle.std.proofs.lemmas.Bool.Decides.{nat_tests}
 use Rattle.capn_value.specs.Tree.{Tree, nil, Trees, no_trees, tree, front, tree_at, is_null}
 use Rattle.capn_value.specs.Trim.{kept_behind, kept_words, kept_slots, trimmed, trimmed_each}
 
+-- what is kept of all is at most one more than what is kept behind the first
 pub behind_le : (b : Bool) (k n : ℕ) → kept_behind b k ≤ suc n → k ≤ n
 behind_le b k n h = grind (arith, nat_tests)
 
+-- nothing is kept where the first goes and nothing is kept behind it
 pub behind_none : (b : Bool) (k : ℕ) → kept_behind b k ≤ 0 → (b ≡ true) × (k ≤ 0)
 behind_none true k h = (refl, grind (arith, nat_tests))
 behind_none false k h = absurd (omega arith)
 
+-- words of which none is kept are zero
 pub none_kept : (ws : List ℕ) → kept_words ws ≤ 0 → (i : ℕ) → slice_index ws i ≡ 0
 none_kept [] h i = refl
 none_kept (w ∷ ws) h zero = eqb-true w 0 (behind_none (w == 0) (kept_words ws) h).0
@@ -25,10 +28,12 @@ cut_words (suc n) [] h i = refl
 cut_words (suc n) (w ∷ ws) h zero = refl
 cut_words (suc n) (w ∷ ws) h (suc i) = cut_words n ws (behind_le (w == 0) (kept_words ws) n h) i
 
+-- a value that is found null is null
 pub null_at : (t : Tree) → is_null t ≡ true → t ≡ nil
 null_at nil h = refl
 null_at _ h = absurd (cc)
 
+-- slots of which none is kept are null
 pub none_kept_slots : (ss : Trees) → kept_slots ss ≤ 0 → (i : ℕ) → tree_at ss i ≡ nil
 none_kept_slots no_trees h i = refl
 none_kept_slots (tree s ss) h zero = null_at s (behind_none (is_null s) (kept_slots ss) h).0

@@ -12,11 +12,13 @@ pub below_from : (most : ℕ) (xs : List ℕ) → ((k : ℕ) → slice_index xs 
 below_from most [] each = tt
 below_from most (x ∷ xs) each = (each 0, below_from most xs (λ k. each (suc k)))
 
+-- the first numbers of those below a bound are below it
 pub below-take : (most n : ℕ) (xs : List ℕ) → AllBelow most xs → AllBelow most (take n xs)
 below-take most zero xs h = tt
 below-take most (suc n) [] h = tt
 below-take most (suc n) (x ∷ xs) h = (h.0, below-take most n xs h.1)
 
+-- the first values of those in range are in range
 pub each_in_range-front : (n : ℕ) (ts : Trees) → EachInRange ts → EachInRange (front n ts)
 each_in_range-front zero ts h = tt
 each_in_range-front (suc n) no_trees h = tt
@@ -39,10 +41,12 @@ mutual
   in_range-trimmed (rows bs) h = rows_in_range-trimmed (kept_words_of_rows bs) (kept_slots_of_rows bs) bs h
   in_range-trimmed (cap k) h = h
 
+  -- so are the values of slots
   pub each_in_range-trimmed : (ts : Trees) → EachInRange ts → EachInRange (trimmed_each ts)
   each_in_range-trimmed no_trees h = tt
   each_in_range-trimmed (tree t ts) h = (in_range-trimmed t h.0, each_in_range-trimmed ts h.1)
 
+  -- and those of rows
   pub rows_in_range-trimmed : (w s : ℕ) (bs : Bodies) → RowsInRange bs → RowsInRange (trimmed_rows w s bs)
   rows_in_range-trimmed w s no_bodies h = tt
   rows_in_range-trimmed w s (body ws ss bs) h = (

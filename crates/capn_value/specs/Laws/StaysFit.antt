@@ -159,6 +159,7 @@ same_root (links ts) = refl
 same_root (rows bs) = refl
 same_root (cap k) = refl
 
+-- a value that fits does so once it is trimmed
 pub fits-trimmed : (t : Tree) → Fits t → Fits (trimmed t)
 fits-trimmed t h =
     let p = fit_parts t h in

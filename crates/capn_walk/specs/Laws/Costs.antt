@@ -26,11 +26,13 @@ all-front [] ys h = tt
 all-front (pays at n ∷ xs) ys h = all-front xs ys h
 all-front (fails at e ∷ xs) ys h = absurd h
 
+-- visits behind others pay where all do
 pub all-back : (xs ys : List Visit) → AllPay (xs ++ ys) → AllPay ys
 all-back [] ys h = h
 all-back (pays at n ∷ xs) ys h = all-back xs ys h
 all-back (fails at e ∷ xs) ys h = absurd h
 
+-- visits joined pay what both pay
 pub paid-append : (xs ys : List Visit) → paid_of (xs ++ ys) ≡ paid_of xs + paid_of ys
 paid-append [] ys = omega arith
 paid-append (pays at n ∷ xs) ys = omega (arith, paid-append xs ys)

@@ -110,6 +110,7 @@ module _ (m : List (List ℕ)) (at : Place) where
   abbrev ws : List ℕ
   ws = words_from m at.segment at.word
 
+  -- as many bytes are read as are asked for
   pub length-bytes_at : (n : ℕ) → 8 * at.word + n ≤ 8 * length (segment_at m at.segment) → length (bytes_at m at n) ≡ n
   length-bytes_at n h =
       let whole = length-bytes (segment_at m at.segment) in
@@ -118,6 +119,7 @@ module _ (m : List (List ℕ)) (at : Place) where
 
   module _ (n : ℕ) (bs : List ℕ) (are : bs ≡ bytes_at m at n)
       (inside : 8 * at.word + n ≤ 8 * length (segment_at m at.segment)) where
+    -- as many bytes were read as were asked for
     pub length-read : length bs ≡ n
     length-read = ap length are ∙ length-bytes_at n inside
 
@@ -135,9 +137,11 @@ module _ (m : List (List ℕ)) (at : Place) where
         → slice_index (drop d bs) k ≡ slice_index ws q / 256 ^ p % 256
     byte-on d k q p e below h = get_or-drop d bs k 0 ∙ byte-at (d + k) q p e below h
 
+    -- they are the elements of a list of bytes
     pub are-bytes : AreElements 8 8 ws bs
     are-bytes i h = byte-at i (i / 8) (i % 8) (omega arith) (omega arith) (omega (arith, length-read))
 
+    -- their bits are the elements of a list of bits
     pub is-bit : (i : ℕ) → i < 8 * n → slice_index bs (i / 8) / 2 ^ (i % 8) % 2 ≡ element 64 1 ws i
     is-bit i h =
         ap (λ (x : ℕ). x / 2 ^ (i % 8) % 2)
@@ -145,6 +149,7 @@ module _ (m : List (List ℕ)) (at : Place) where
         ∙ bit-in_word (slice_index ws (i / 64)) (i / 8 % 8) (i % 8) (i % 64) (omega arith) (omega arith) (omega arith)
 
     module _ (xs : List ℕ) where
+      -- the numbers in them are the elements of a list of 16 bits
       pub are-pairs : n ≡ 2 * length xs → IsRead little_number 2 bs xs → AreElements 4 16 ws xs
       are-pairs size read i h =
           let q = i / 4 in
@@ -153,6 +158,7 @@ module _ (m : List (List ℕ)) (at : Place) where
           let b = byte-on (2 * i) 1 q (p + 1) (omega arith) (omega arith) (omega arith) in
           read i h ∙ omega (arith, a, b) ∙ two-bytes (slice_index ws q) (i % 4) (omega arith)
 
+      -- or of 32 bits
       pub are-quads : n ≡ 4 * length xs → IsRead little_number 4 bs xs → AreElements 2 32 ws xs
       are-quads size read i h =
           let q = i / 2 in
@@ -179,6 +185,7 @@ module _ (m : List (List ℕ)) (at : Place) where
           let below : slice_index ws i < 2 ^ 64 = omega (arith, whole, each (at.word + i)) in
           read i h ∙ omega (arith, a, b, c, d, e, f, g, o) ∙ eight-bytes (slice_index ws i) below
 
+      -- or the words themselves
       pub are-words : ((k : ℕ) → slice_index (segment_at m at.segment) k < 2 ^ 64) → n ≡ 8 * length xs
           → IsRead little_number 8 bs xs → take (length xs) ws ≡ xs
       are-words each size read =

@@ -109,10 +109,12 @@ module _ (m : List (List ℕ)) where
   fine-named s w (Node o a b) = fine-near s w 0 (Node o a b)
   fine-named s w (Many o width n) = fine-near s w 0 (Many o width n)
 
+  -- whatever the pointer at a place names is so
   pub fine-target : (at : Place) → IsFine (target m at)
   unfolding target
   fine-target at = fine-named at.segment at.word (pointer_in m at.segment at.word)
 
+  -- the content that the pointer at a place names lies inside its segment, and its rows have room
   pub inside : (at : Place) (s start pads : ℕ) (shape : Shape) → target m at ≡ Ok (targets.Content s start shape pads) →
       (start + extent shape ≤ length (segment_at m s)) × RowsFit shape
   inside at s start pads shape e = let h = rw e at (fine-target at) in h

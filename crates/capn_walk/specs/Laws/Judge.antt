@@ -8,12 +8,14 @@ use Rattle.capn_walk.specs.Visits.{Visit, pays, fails}
 use Rattle.capn_walk.specs.Verdict.{Verdict, accepted, refused, after, judge}
 use Rattle.capn_words.specs.Laws.FieldBits.{pick}
 
+-- what comes after two parts comes after both together
 pub after-after : (p k q j : ℕ) (r : Verdict) → after p k (after q j r) ≡ after (p + q) (k + j) r
 after-after p k q j (accepted x y) = let a : p + (q + x) ≡ p + q + x = omega arith in let b : k + (j + y) ≡ k + j + y =
     omega arith in cc
 after-after p k q j (refused e at x y) = let a : p + (q + x) ≡ p + q + x = omega arith in
     let b : k + (j + y) ≡ k + j + y = omega arith in cc
 
+-- nothing before it changes no verdict
 pub after-none : (r : Verdict) → after 0 0 r ≡ r
 after-none (accepted x y) = let a : 0 + x ≡ x = omega arith in let b : 0 + y ≡ y = omega arith in cc
 after-none (refused e at x y) = let a : 0 + x ≡ x = omega arith in let b : 0 + y ≡ y = omega arith in cc
@@ -24,6 +26,7 @@ pub after-accepted : (n m p k : ℕ) (r : Verdict) → after n m r ≡ accepted 
 after-accepted n m p k (accepted q j) h = (q, j, refl, cc, cc)
 after-accepted n m p k (refused e at q j) h = absurd cc
 
+-- a verdict behind a part is a refusal where the verdict itself is one
 pub after-refused : (n m : ℕ) (e : Fault) (at : Place) (p k : ℕ) (r : Verdict) → after n m r ≡ refused e at p k
     → (q j : ℕ) × (r ≡ refused e at q j) × (p ≡ n + q) × (k ≡ m + j)
 after-refused n m e at p k (accepted q j) h = absurd cc
@@ -36,12 +39,14 @@ judge-pays b n at vs h =
     pick (λ (r : Verdict). r ≡ after n 1 (judge (b - n) vs)) (nat_lt b n) _ _ (λ e. absurd (grind (arith, nat_tests)))
     (λ e. refl)
 
+-- a visit that costs more than is left is refused
 pub judge-over : (b n : ℕ) (at : Place) (vs : List Visit) → b < n
     → judge b (pays at n ∷ vs) ≡ refused faults.OverBudget at 0 1
 judge-over b n at vs h =
     pick (λ (r : Verdict). r ≡ refused faults.OverBudget at 0 1) (nat_lt b n) _ _ (λ e. refl)
     (λ e. absurd (grind (arith, nat_tests)))
 
+-- the first visit of those that are accepted costs at most what is left
 pub judge-fits : (b n : ℕ) (at : Place) (vs : List Visit) (p k : ℕ) → judge b (pays at n ∷ vs) ≡ accepted p k → n ≤ b
 judge-fits b n at vs p k =
     pick (λ (r : Verdict). r ≡ accepted p k
@@ -78,6 +83,7 @@ stops-paid b n x xs ys e at p k ih =
     let two = ap (after n 1) (ih q j is) in
     cc)
 
+-- a refusal stays one whatever comes behind it
 pub judge-stops : (b : ℕ) (xs ys : List Visit) (e : Fault) (at : Place) (p k : ℕ) → judge b xs ≡ refused e at p k
     → judge b (xs ++ ys) ≡ refused e at p k
 judge-stops b [] ys e at p k h = absurd cc

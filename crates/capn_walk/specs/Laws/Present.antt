@@ -116,6 +116,7 @@ module _ (m : List (List ℕ)) where
   there-target at h =
       there-named at.segment at.word (pointer_in m at.segment at.word) (has-segment at.segment at.word h)
 
+  -- the segment of the content that a pointer in range names is there
   pub present : (at : Place) (s start pads : ℕ) (shape : Shape) → at.word < length (segment_at m at.segment) →
       target m at ≡ Ok (targets.Content s start shape pads) → s < length m
   present at s start pads shape h e = let there = rw e at (there-target at h) in there

@@ -69,6 +69,7 @@ module _ (f : Place → List Visit) (s w a b : ℕ) where
       ++ flat_map f (row_places s (w + i * (a + b) + a + b) a b k))) e
       ∙ ap (λ (r : List Visit). all_rows i ++ r) (append-nil (flat_map f (places s (w + i * (a + b) + a) b)))
 
+  -- one more row that is accepted
   pub rows-give : (left i p k q j : ℕ) → Gives left (all_rows i) (i * b) p k
       → Gives (left - p) (flat_map f (places s (w + i * (a + b) + a) b)) b q j →
       Gives left (all_rows (i + 1)) ((i + 1) * b) (p + q) (k + j)
@@ -89,6 +90,7 @@ module _ (f : Place → List Visit) (s w a b : ℕ) where
       ∙ judge-more left (all_rows i) (here ++ rest) p k g
       ∙ ap (after p k) (judge-stops (left - p) here rest e at q j r)
 
+  -- a row that is refused, behind rows that are accepted
   pub rows-refuse : (left i n p k : ℕ) (t : Stopped) → i < n → Gives left (all_rows i) (i * b) p k
       → Refuses (left - p) (flat_map f (places s (w + i * (a + b) + a) b)) b t →
       Refuses left (all_rows n) (n * b)
@@ -104,6 +106,7 @@ module _ (f : Place → List Visit) (s w a b : ℕ) where
   }
 
 module _ (m : List (List ℕ)) where
+  -- one more row that stands behind the others
   pub rows_at-next : {A : Type 0} (a b s w : ℕ) (bs : List (Body A)) (c : Body A) → RowsAt m a b s w (rows_of bs)
       → length c.words ≡ a → count (trees_of c.slots) ≡ b →
       AreWords m s (w + count_rows (rows_of bs) * (a + b)) c.words
@@ -120,11 +123,13 @@ module _ (m : List (List ℕ)) where
       let f : w + suc n * (a + b) + a ≡ w + a + b + n * (a + b) + a = omega arith in
       (h.0, h.1, h.2, h.3, rows_at-next a b s (w + a + b) bs c h.4 la lb (rw e at ws) (rw f at ss))
 
+  -- makes one more
   pub count_rows-next : {A : Type 0} (bs : List (Body A)) (c : Body A)
       → count_rows (rows_of (bs ++ c ∷ [])) ≡ count_rows (rows_of bs) + 1
   count_rows-next [] c = refl
   count_rows-next (d ∷ bs) c = let e = count_rows-next bs c in omega arith
 
+  -- the same where the next row's place is known as a number
   pub rows_at-step : {A : Type 0} (a b s w next n : ℕ) (bs : List (Body A)) (c : Body A) → RowsAt m a b s w (rows_of bs)
       → count_rows (rows_of bs) ≡ n → next ≡ w + n * (a + b) →
       length c.words ≡ a → take a (words_from m s next) ≡ c.words → count (trees_of c.slots) ≡ b

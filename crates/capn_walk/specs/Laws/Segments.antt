@@ -6,6 +6,7 @@ use Rattle.std.proofs.lemmas.List.Sums.{get_or-le-sum_by}
 use Rattle.capn_words.specs.Message.{segment_at, words_of, IsMessage}
 use Rattle.capn_words.specs.Laws.FieldBits.{pick}
 
+-- a segment that is not there has no words
 pub length_of_none : (m : List (List ℕ)) (s : ℕ) → words_of m s ≡ None → length (segment_at m s) ≡ 0
 length_of_none m s h =
     pick (λ (o : Option ℕ). o ≡ None
@@ -14,6 +15,7 @@ length_of_none m s h =
     (λ e. λ n. let past : length m ≤ s = grind (arith, nat_tests) in ap length (get_or-eq_default m [] past))
     h
 
+-- one that is has as many as it tells
 pub length_of_some : (m : List (List ℕ)) (s n : ℕ) → words_of m s ≡ Some n → length (segment_at m s) ≡ n
 length_of_some m s n h =
     pick (λ (o : Option ℕ). o ≡ Some n

@@ -27,6 +27,7 @@ ends-refused b p (fails x f) vs at e l h = let a = h.0 in let c = h.1 in cc
 ends-refused b p (pays x n) vs at e l h = let a = h.0 in let c = h.1 in let d =
     judge-over (b - p) n x vs (let o = h.2 in omega arith) in cc
 
+-- a list of visits with a stop is refused there
 pub stop-refused : (b : ℕ) (vs : List Visit) (e : Fault) (at : Place) (p k : ℕ) → IsStop b vs e at p k
     → judge b vs ≡ refused e at p k
 stop-refused b vs e at p k h =
@@ -58,6 +59,7 @@ stop-more b n x vs e at p k l h = record {
     later (fails y f) g = g
     later (pays y m) g = (g.0, g.1, let a = g.2 in omega arith)
 
+-- visits are within the budget, or one of them is a stop
 pub decided : (b : ℕ) (vs : List Visit) → IsWithin b vs
     ⊎ ((e : Fault) × (at : Place) × (p k : ℕ) × IsStop b vs e at p k)
 decided b [] = inl (record { all = tt; paid = omega arith })
@@ -106,6 +108,7 @@ decided b (pays x n ∷ vs) = fits (nat_lt b n) refl (decided (b - n) vs)
 
 -- ---- what a verdict says
 
+-- visits that are accepted are within the budget, and pay the sum of their prices
 pub accepted-within : (b : ℕ) (vs : List Visit) (p k : ℕ) → judge b vs ≡ accepted p k → IsWithin b vs × (p ≡ paid_of vs)
     × (k ≡ length vs)
 accepted-within b vs p k h = from (decided b vs)
@@ -115,6 +118,7 @@ accepted-within b vs p k h = from (decided b vs)
     from (inl w) = let is = within-accepted b vs w.all w.paid in (w, cc, cc)
     from (inr (e, at, q, j, s)) = let is = stop-refused b vs e at q j s in absurd cc
 
+-- visits that are refused have their stop there
 pub refused-stop : (b : ℕ) (vs : List Visit) (e : Fault) (at : Place) (p k : ℕ) → judge b vs ≡ refused e at p k
     → IsStop b vs e at p k
 refused-stop b vs e at p k h = from (decided b vs)

@@ -28,6 +28,7 @@ use Rattle.capn_walk.specs.Laws.Judge.{judge-more, judge-stops, judge-pays, judg
 abbrev pub slot : ℕ → ℕ → Place
 slot s w = record { segment = s; word = w }
 
+-- the places of slots, and of more behind them
 pub places-add : (s w i n : ℕ) → places s w (i + n) ≡ places s w i ++ places s (w + i) n
 places-add s w zero n = let a : 0 + n ≡ n = omega arith in let b : w + 0 ≡ w = omega arith in rw (a, b) refl
 places-add s w (suc i) n =
@@ -35,6 +36,7 @@ places-add s w (suc i) n =
     let b : w + 1 + i ≡ w + suc i = omega arith in
     rw a (ap (λ (ps : List Place). slot s w ∷ ps) (rw (← b) (places-add s (w + 1) i n)))
 
+-- the places before slot i, its own, and those behind it
 pub places-split : (s w i n : ℕ) → i < n
     → places s w n ≡ places s w i ++ slot s (w + i) ∷ places s (w + i + 1) (n - suc i)
 places-split s w i n h =
@@ -46,11 +48,13 @@ module _ (f : Place → List Visit) (s w : ℕ) where
   abbrev pub all : ℕ → List Visit
   all n = flat_map f (places s w n)
 
+  -- the visits before slot i, those of it, and those behind it
   pub all-split : (i n : ℕ) → i < n
       → all n ≡ all i ++ (f (slot s (w + i)) ++ flat_map f (places s (w + i + 1) (n - suc i)))
   all-split i n h = ap (flat_map f) (places-split s w i n h)
       ∙ flat_map-append f (places s w i) (slot s (w + i) ∷ places s (w + i + 1) (n - suc i))
 
+  -- no slots are accepted and pay nothing
   pub gives-none : (left : ℕ) → Gives left (all 0) 0 0 0
   gives-none left = record { is = refl; within = omega arith; few = omega arith }
 
@@ -59,6 +63,7 @@ module _ (f : Place → List Visit) (s w : ℕ) where
       ap (flat_map f) (places-add s w i 1) ∙ flat_map-append f (places s w i) (slot s (w + i) ∷ [])
       ∙ ap (λ (vs : List Visit). all i ++ vs) (append-nil (f (slot s (w + i))))
 
+  -- one more slot that is accepted
   pub gives-next : (left i p k q j : ℕ) → Gives left (all i) i p k → Gives (left - p) (f (slot s (w + i))) 1 q j
       → Gives left (all (i + 1)) (i + 1) (p + q) (k + j)
   gives-next left i p k q j g h = record {
@@ -76,6 +81,7 @@ module _ (f : Place → List Visit) (s w : ℕ) where
       ∙ judge-more left (all i) (f (slot s (w + i)) ++ rest) p k g
       ∙ ap (after p k) (judge-stops (left - p) (f (slot s (w + i))) rest e at q j r)
 
+  -- a slot that is refused, behind slots that are accepted
   pub refuses-next : (left i n p k : ℕ) (t : Stopped) → i < n → Gives left (all i) i p k
       → Refuses (left - p) (f (slot s (w + i))) 1 t →
       Refuses left (all n) n (record { fault = t.fault; place = t.place; paid = p + t.paid; visits = k + t.visits })
@@ -101,6 +107,7 @@ pub of-struct : (P : List Place → ℕ → Type 0) (s start first a b : ℕ) (s
     P (places s first b) b → P (slots s start shape) (slot_count shape)
 of-struct P s start first a b shape e f h = rw (e, ← f) h
 
+-- the same of a list of pointers
 pub of-links : (P : List Place → ℕ → Type 0) (s start n : ℕ) (shape : Shape) → shape ≡ shapes.Many Link n →
     P (places s start n) n → P (slots s start shape) (slot_count shape)
 of-links P s start n shape e h = rw e h
@@ -116,6 +123,7 @@ module _ (m : List (List ℕ)) where
       let j = rw e at i in
       (h.0, at-next s (suc w) vs v h.1 j)
 
+  -- makes one more
   pub count-next : {A : Type 0} (vs : List (Value A)) (v : Value A)
       → count (trees_of (vs ++ v ∷ [])) ≡ count (trees_of vs) + 1
   count-next [] v = refl
@@ -123,27 +131,32 @@ module _ (m : List (List ℕ)) where
 
   -- the visits of a slot by its target
   module _ (base : ℕ) (at : Place) where
+    -- the visit of a null pays nothing
     pub visits-null : (d : ℕ) → target m at ≡ Ok targets.Nil → visits m base d at ≡ pays at 0 ∷ []
     unfolding visits
     visits-null zero e = ap (last_visit m base at) e
     visits-null (suc d) e = ap (visit m base (visits m base d) at) e
 
+    -- so does that of a capability
     pub visits-cap : (d k : ℕ) → target m at ≡ Ok (targets.Cap k) → visits m base d at ≡ pays at 0 ∷ []
     unfolding visits
     visits-cap zero k e = ap (last_visit m base at) e
     visits-cap (suc d) k e = ap (visit m base (visits m base d) at) e
 
+    -- that of a pointer that names nothing fails
     pub visits-fault : (d : ℕ) (f : Fault) → target m at ≡ Err f → visits m base d at ≡ fails at f ∷ []
     unfolding visits
     visits-fault zero f e = ap (last_visit m base at) e
     visits-fault (suc d) f e = ap (visit m base (visits m base d) at) e
 
     module _ (s start pads : ℕ) (shape : Shape) (e : target m at ≡ Ok (targets.Content s start shape pads)) where
+      -- so does that of content where no depth is left
       pub visits-deep : (d : ℕ) → d ≡ 0 → visits m base d at ≡ fails at faults.TooDeep ∷ []
       unfolding visits
       visits-deep zero z = ap (last_visit m base at) e
       visits-deep (suc d) z = absurd (omega arith)
 
+      -- else it pays its price, and its slots are visited
       pub visits-object : (d : ℕ) → 0 < d
           → visits m base d at
           ≡ pays at (price base shape + pads) ∷ flat_map (visits m base (d - 1)) (slots s start shape)
@@ -164,6 +177,7 @@ module _ (m : List (List ℕ)) where
     few_slots : slot_count shape ≤ price base shape
     few_slots = slots-price base shape (inside m at s start pads shape e).1
 
+    -- an object is accepted where its slots are
     pub gives-object : (p k : ℕ)
         → Gives (left - (price base shape + pads)) (flat_map (visits m base (d - 1)) (slots s start shape))
         (slot_count shape) p k →
@@ -176,6 +190,7 @@ module _ (m : List (List ℕ)) where
       few = let a = g.few in let b = few_slots in omega arith;
     }
 
+    -- it is refused where one of them is
     pub refuses-object : (t : Stopped)
         → Refuses (left - (price base shape + pads)) (flat_map (visits m base (d - 1)) (slots s start shape))
         (slot_count shape) t →
@@ -208,6 +223,7 @@ module _ (m : List (List ℕ)) where
   refuses-here base at left d f t e h =
       rw h (record { is = inr (ap (judge left) e); within = omega arith; few = omega arith })
 
+  -- it is refused where its price is not left
   pub refuses-price : (base : ℕ) (at : Place) (s start pads : ℕ) (shape : Shape) (left d : ℕ) (t : Stopped)
       → target m at ≡ Ok (targets.Content s start shape pads) →
       0 < d → left < price base shape + pads →
@@ -219,11 +235,13 @@ module _ (m : List (List ℕ)) where
     few = omega arith;
   })
 
+  -- a visit that pays nothing is accepted
   pub gives-nothing : (base : ℕ) (at : Place) (left d : ℕ) → visits m base d at ≡ pays at 0 ∷ []
       → Gives left (visits m base d at) 1 0 1
   gives-nothing base at left d e =
       record { is = ap (judge left) e ∙ judge-pays left 0 at [] (omega arith); within = omega arith; few = omega arith }
 
+  -- the value inside the content that a pointer names stands at the pointer's place
   pub is-inside : (at : Place) (s start pads : ℕ) (shape : Shape) (v : Tree)
       → target m at ≡ Ok (targets.Content s start shape pads) →
       IsInside m shape s start v → IsAt m at v
@@ -317,15 +335,18 @@ module _ (m : List (List ℕ)) where
 
 -- what stands inside objects
 module _ (m : List (List ℕ)) (s start : ℕ) (shape : Shape) where
+  -- words and slots that stand inside a struct's content are the struct's
   pub inside-struct : (a b : ℕ) (ws : List ℕ) (ts : Trees) → shape ≡ shapes.Node a b → length ws ≡ a
       → take a (words_from m s start) ≡ ws →
       count ts ≡ b → AreAt m s (start + a) ts → IsInside m shape s start (node ws ts)
   inside-struct a b ws ts e l w n h = (e ∙ ap₂ shapes.Node (sym l) (sym n), rw l w, rw l h)
 
+  -- slots that stand inside a list's content are the list's
   pub inside-links : (n : ℕ) (ts : Trees) → shape ≡ shapes.Many Link n → count ts ≡ n → AreAt m s start ts
       → IsInside m shape s start (links ts)
   inside-links n ts e l h = (e ∙ ap (shapes.Many Link) (sym l), h)
 
+  -- rows that stand behind a tag are the list's
   pub inside-rows : (n a b span : ℕ) (bs : Bodies) → shape ≡ shapes.Rows n a b span → count_rows bs ≡ n
       → RowsAt m a b s (suc start) bs →
       IsInside m shape s start (rows bs)
