@@ -1,6 +1,6 @@
 -- An object's own words are those of its layout exactly if the pointer is the one to the next free word, and so on
 -- below it.
-use Rattle.std.proofs.Common.{◌≡◌, ◌↔◌, ◌⊎◌, inl, inr, ℕ, zero, suc, ◌+◌, ◌-◌, ◌^◌, ◌<◌, ◌≤◌, List, [], ◌∷◌, ◌++◌}
+use Rattle.std.proofs.Common.{◌≡◌, ◌⊎◌, inl, inr, ℕ, zero, suc, ◌+◌, ◌^◌, ◌<◌, ◌≤◌, List, [], ◌∷◌, ◌++◌}
 use Rattle.std.proofs.Common.{length, take, slice_index, Ok, refl, ap, ap₂, sym, subst, ◌∙◌, arith}
 use Rattle.std.proofs.Common.{Option, false}
 use Rattle.std.specs.Bool.{IsTrue}
@@ -17,7 +17,6 @@ use Rattle.capn_walk.specs.declared.target.Shape.TheVariants as shapes
 use Rattle.capn_walk.specs.Target.{target}
 use Rattle.capn_walk.specs.At.{AreAt, AreWords, words_from}
 use Rattle.capn_walk.specs.Walked.{IsInside}
-use Rattle.capn_walk.specs.Laws.Unique.{unique-slots}
 use Rattle.capn_canon.specs.Layout.{size, sizes, point, points, lay, lays, struct_to, list_to}
 use Rattle.capn_canon.specs.Sound.{Sound}
 use Rattle.capn_canon.proofs.LaidPointers.{struct-names, list-names}
@@ -27,7 +26,6 @@ use Rattle.capn_canon.specs.Ready.{AreReady}
 use Rattle.capn_canon.specs.Stands.{Stand, IsLaidAt, AreLaidAt, Tells}
 use Rattle.capn_canon.proofs.Nulls.{kept-slots}
 use Rattle.capn_canon.proofs.Shaped.{IsNode, as-node, IsLinks, as-links}
-use Rattle.capn_canon.proofs.Slots.{IsNext, next}
 use Rattle.capn_canon.proofs.Standing.{stand-none, stand-join, stand-front, stand-back, stand-room, stand-cons}
 use Rattle.capn_canon.proofs.Standing.{stand-head, stand-tail, told}
 

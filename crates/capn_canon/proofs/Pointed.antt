@@ -1,6 +1,7 @@
 -- Near pointers that lead to the next free word, in words of one segment.
 use Rattle.std.proofs.Common.{◌≡◌, ◌≢◌, ◌⊎◌, inl, inr, ℕ, suc, ◌+◌, ◌-◌, ◌*◌, ◌/◌, ◌%◌, ◌^◌, ◌<◌, ◌≤◌, ℤ, pos, negsuc}
-use Rattle.std.proofs.Common.{Bool, true, false, if◌then◌else◌, ◌==◌, ◌&&◌, List, take, drop, slice_index, Ok, refl, arith}
+use Rattle.std.proofs.Common.{Bool, true, false, if◌then◌else◌, ◌==◌, ◌&&◌, List, take, drop, slice_index, Ok, refl}
+use Rattle.std.proofs.Common.{arith}
 use Rattle.capn_words.specs.Fields.{Fields, FitsOffset, offset_field, word_of}
 use Rattle.capn_words.specs.Laws.FieldBits.{offset_field-lt, width_code-lt}
 use Rattle.capn_words.specs.declared.pointer.Pointer.{Pointer}
@@ -30,13 +31,16 @@ module _ (x : ℕ) (o : ℤ) (k : Width) (n from next : ℕ) (f : Fields x (Many
   pub leads-list : x / 4 % 2 ^ 30 ≡ next - from - 1 → x ≡ list_to from next k n
   leads-list e = let g = many-field x o k n f in let h = f.1 in omega arith
 
-  pub list-leads : next ≤ 2 ^ 29 → x ≡ list_to from next k n → x / 4 % 2 ^ 30 ≡ next - from - 1
-  list-leads room e = let w = width_code-lt k in let c = f.0.1 in omega arith
+pub list-leads : (x : ℕ) (k : Width) (n from next : ℕ) → from < next → next ≤ 2 ^ 29 → x ≡ list_to from next k n
+    → x / 4 % 2 ^ 30 ≡ next - from - 1
+list-leads x k n from next order room e = let w = width_code-lt k in omega arith
 
 -- all of some words are kept exactly if the last of them isn't zero
 module _ (seg : List ℕ) (w count : ℕ) (some : 0 < count) where
   pub all-kept : slice_index seg (w + (count - 1)) ≢ 0 → kept_words (take count (drop w seg)) ≡ count
-  all-kept h = let e = kept-found seg w count 0 count some (omega arith) (λ k l m. absurd (omega arith)) h in omega arith
+  all-kept h =
+      let e = kept-found seg w count 0 count some (omega arith) (λ k l m. absurd (omega arith)) h in
+      omega arith
 
   pub last-kept : kept_words (take count (drop w seg)) ≡ count → slice_index seg (w + (count - 1)) ≡ 0 → ⊥
   last-kept e z =
@@ -52,8 +56,8 @@ low : (v : Tree) (from to : ℕ) → (point v from to % 4 ≤ 1) ⊎ ((k : ℕ) 
 unfolding point
 low nil from to = inl (omega arith)
 low (cap k) from to = inr (k, refl)
-low (node ws ss) from to = inl (low-struct ((kept_words ws == 0) && (kept_slots ss == 0)) (to - suc from) (kept_words ws)
-    (kept_slots ss))
+low (node ws ss) from to =
+    inl (low-struct ((kept_words ws == 0) && (kept_slots ss == 0)) (to - suc from) (kept_words ws) (kept_slots ss))
 low (voids n) from to = inl (omega arith)
 low (bits xs) from to = inl (omega arith)
 low (bytes xs) from to = inl (omega arith)

@@ -1,8 +1,8 @@
 -- What the pointer to a list names that is known to name something, in words of one segment.
-use Rattle.std.proofs.Common.{◌≡◌, ℕ, ◌+◌, ◌-◌, ◌*◌, ◌/◌, ◌%◌, ◌^◌, ◌<◌, ◌≤◌, ℤ, List, [], ◌∷◌, length, slice_index, ap, sym}
-use Rattle.std.proofs.Common.{drop, ◌==◌, nat_lt, if◌then◌else◌, Option, Result, Ok, Err, subst, ◌∙◌, arith}
-use Rattle.capn_words.specs.Message.{IsMessage, segment_at}
-use Rattle.capn_words.specs.Fields.{Fields}
+use Rattle.std.proofs.Common.{◌≡◌, ℕ, ◌+◌, ◌-◌, ◌*◌, ◌/◌, ◌%◌, ◌^◌, ◌<◌, ◌≤◌, ℤ, List, [], ◌∷◌, length, slice_index}
+use Rattle.std.proofs.Common.{ap, sym, drop, refl}
+use Rattle.std.proofs.Common.{◌==◌, nat_lt, if◌then◌else◌, Option, Result, Ok, Err, subst, ◌∙◌, arith}
+use Rattle.capn_words.specs.Message.{segment_at}
 use Rattle.capn_words.specs.Pointers.{field, pointer_of}
 use Rattle.capn_words.specs.Laws.FieldBits.{pick}
 use Rattle.capn_words.specs.Laws.Pointers.{Fields-only}
@@ -93,7 +93,7 @@ module _ (all : List ℕ) (x from next : ℕ) (width : Width) (n : ℕ) (h : IsL
   word-leads e =
       let s = few-words in
       let f = h.fits in
-      list-leads x h.pointer.0 width n from next h.pointer.1 h.order (omega arith) (h.word ∙ e)
+      list-leads x width n from next h.order (omega arith) (h.word ∙ e)
 
   -- a list of elements without pointers
   module _ (plain : IsPlain width) where
@@ -202,32 +202,50 @@ module _ (m : List (List ℕ)) where
       (nat_lt (length (segment_at m s)) (start + n)) (Err faults.Range) r (λ _ e. absurd (cc)) (λ _ e. e)
 
   tagged-found : (s start pads span g : ℕ) (t : Target) → tagged m s start pads span g ≡ Ok t
-      → (c a b : ℕ) × (t ≡ targets.Content s start (shapes.Rows c a b span) pads)
+      → t ≡ targets.Content s start (shapes.Rows (field 2 30 g) (field 32 16 g) (field 48 16 g) span) pads
   tagged-found s start pads span g t =
-      pick (λ (q : Result Target Fault). q ≡ Ok t
-      → (c a b : ℕ) × (t ≡ targets.Content s start (shapes.Rows c a b span) pads))
-      (field 0 2 g == 0)
-      (if nat_lt span (field 2 30 g * (field 32 16 g + field 48 16 g)) then Err faults.TagOverrun
-      else Ok (targets.Content s start (shapes.Rows (field 2 30 g) (field 32 16 g) (field 48 16 g) span) pads))
-      (Err faults.BadTag)
-      (λ _. pick (λ (q : Result Target Fault). q ≡ Ok t
-      → (c a b : ℕ) × (t ≡ targets.Content s start (shapes.Rows c a b span) pads))
-      (nat_lt span (field 2 30 g * (field 32 16 g + field 48 16 g))) (Err faults.TagOverrun)
-      (Ok (targets.Content s start (shapes.Rows (field 2 30 g) (field 32 16 g) (field 48 16 g) span) pads))
-      (λ _ e. absurd (cc)) (λ _ e. (field 2 30 g, field 32 16 g, field 48 16 g, cc)))
+      let rows = targets.Content s start (shapes.Rows (field 2 30 g) (field 32 16 g) (field 48 16 g) span) pads in
+      let long = nat_lt span (field 2 30 g * (field 32 16 g + field 48 16 g)) in
+      pick (λ (q : Result Target Fault). q ≡ Ok t → t ≡ rows) (field 0 2 g == 0)
+      (if long then Err faults.TagOverrun else Ok rows) (Err faults.BadTag)
+      (λ _. pick (λ (q : Result Target Fault). q ≡ Ok t → t ≡ rows) long (Err faults.TagOverrun) (Ok rows)
+      (λ _ e. absurd (cc)) (λ _ e. cc))
       (λ _ e. absurd (cc))
 
+  -- the rows that the tag says which stands at a word
+  abbrev pub rows_at : ℕ → ℕ → Target
+  rows_at n w =
+      let g = slice_index (segment_at m 0) w in
+      targets.Content 0 w (shapes.Rows (field 2 30 g) (field 32 16 g) (field 48 16 g) n) 0
+
   rows-found : (r : Result ℕ Fault) (n : ℕ) (t : Target) → list_from m 0 r 0 Rows n ≡ Ok t
-      → (w c a b : ℕ) × (t ≡ targets.Content 0 w (shapes.Rows c a b n) 0)
+      → (w : ℕ) × (r ≡ Ok w) × (t ≡ rows_at n w)
   rows-found (Ok w) n t e =
       let g = slice_index (segment_at m 0) w in
-      let y = tagged-found 0 w 0 n g t (within-out 0 w (1 + n) (tagged m 0 w 0 n g) t e) in
-      (w, y.0, y.1, y.2, y.3)
+      (w, refl, tagged-found 0 w 0 n g t (within-out 0 w (1 + n) (tagged m 0 w 0 n g) t e))
   rows-found (Err f) n t e = absurd (cc)
 
--- what the pointer to one names is rows
-pub composite-is : (all : List ℕ) (from n : ℕ) (o : ℤ) (t : Target)
-    → Fields (slice_index all from) (Many o Rows n) → target (all ∷ []) (here from) ≡ Ok t
-    → (w c a b : ℕ) × (t ≡ targets.Content 0 w (shapes.Rows c a b n) 0)
-composite-is all from n o t f e = rows-found (all ∷ []) (moved from o) n t
-    (sym (names all from (Many o Rows n) (Fields-only (slice_index all from) (Many o Rows n) f)) ∙ e)
+-- what the pointer to a list of structs names
+module _ (all : List ℕ) (x from next n : ℕ) (h : IsList all x Rows n from next) where
+  pub composite-named : (w : ℕ) × (moved from h.pointer.0 ≡ Ok w)
+      × (target (all ∷ []) (here from) ≡ Ok (rows_at (all ∷ []) n w))
+  composite-named =
+      let o = h.pointer.0 in
+      let f = found (all ∷ []) (here from) h.ready.value h.ready.is in
+      let q = names all from (Many o Rows n) (ap pointer_of (sym h.word) ∙ Fields-only x (Many o Rows n) h.pointer.1) in
+      let y = rows-found (all ∷ []) (moved from o) n f.0 (sym q ∙ f.1) in
+      (y.0, y.1, f.1 ∙ ap Ok y.2)
+
+  -- where it leads to the next free word, the tag stands there
+  module _ (l : x / 4 % 2 ^ 30 ≡ next - from - 1) where
+    pub composite-names : target (all ∷ []) (here from) ≡ Ok (rows_at (all ∷ []) n next)
+    composite-names =
+        let y = composite-named in
+        let s = few-words all x from next Rows n h in
+        let p = h.fits in
+        let g = many-field x h.pointer.0 Rows n h.pointer.1 in
+        let e = moved-here h.pointer.0 from next y.0 h.pointer.1.0.0 (sym g ∙ l) h.order (omega arith) y.1 in
+        y.2 ∙ ap (λ (w : ℕ). Ok (rows_at (all ∷ []) n w)) e
+
+    pub tag-inside : next < length all
+    tag-inside = let i = (inside (all ∷ []) (here from) 0 next 0 _ composite-names).0 in omega arith

@@ -1,8 +1,9 @@
 -- The list of structs that a slot names which is known to name one, in words of one segment.
 use Rattle.std.proofs.Common.{◌≡◌, ℕ, ◌+◌, ◌*◌, ◌^◌, ◌<◌, ◌≤◌, List, [], ◌∷◌, length, slice_index, Option, Ok, pos}
-use Rattle.std.proofs.Common.{arith}
+use Rattle.std.proofs.Common.{arith, ◌-◌, ◌/◌, ◌%◌, ◌∙◌}
 use Rattle.capn_words.specs.Message.{segment_at}
 use Rattle.capn_words.specs.Fields.{word_of}
+use Rattle.capn_words.specs.Pointers.{field}
 use Rattle.capn_words.specs.declared.pointer.Pointer.TheVariants.{Node}
 use Rattle.capn_words.specs.declared.pointer.Width.TheVariants.{Rows}
 use Rattle.capn_value.specs.Tree.{Tree, Bodies, count_rows}
@@ -21,7 +22,8 @@ use Rattle.capn_canon.specs.Runs.{IsList}
 use Rattle.capn_canon.specs.Stands.{IsLaidAt, RowsLaidAt, AreReadyRows, Tells}
 use Rattle.capn_canon.proofs.ComparedRows.{rows-passes, rows-check, rows-told, rows-few}
 use Rattle.capn_canon.proofs.OneSegment.{here}
-use Rattle.capn_canon.proofs.PointedLists.{sound-at}
+use Rattle.capn_canon.proofs.Pointed.{list-leads}
+use Rattle.capn_canon.proofs.PointedLists.{sound-at, few-words, composite-named}
 use Rattle.capn_canon.proofs.Shaped.{inside-of}
 
 -- the tests that rows pass which stand as they are laid
@@ -31,7 +33,7 @@ PassRows all from next s w n a b =
     × (slice_index all from ≡ list_to from next Rows (n * (a + b))) × (next + (1 + n * (a + b)) ≤ length all)
     × (slice_index all next ≡ word_of (Node (pos n) a b))
 
-module _ (all : List ℕ) (from next s w n a b span pads k : ℕ) (h : IsList all (slice_index all from) Rows k from next)
+module _ (all : List ℕ) (x from next s w n a b span pads k : ℕ) (h : IsList all x Rows k from next)
     (names : target (all ∷ []) (here from) ≡ Ok (targets.Content s w (shapes.Rows n a b span) pads)) where
   small : length all ≤ 2 ^ 29
   small = let p = h.place in let r = segment-room (all ∷ []) 0 h.message (omega arith) in omega arith
@@ -51,16 +53,15 @@ module _ (all : List ℕ) (from next s w n a b span pads k : ℕ) (h : IsList al
     within = within;
   }
 
-  pub composite-start : w + 1 < 2 ^ 29
-  composite-start = let x = composite-content.exists in let r = segment-room (all ∷ []) s h.message x in let i = within in
-      omega arith
-
   pub composite-few : n < 2 ^ 29
   composite-few = rows-few all n a b span s w from next pads names small within h.order h.ready.value
       (inside-at h.ready.value h.ready.is) h.ready.sound h.fits
 
   pub composite-span : n * (a + b) < 2 ^ 29
-  composite-span = let x = composite-content.exists in let r = segment-room (all ∷ []) s h.message x in let i = within in
+  composite-span =
+      let x = composite-content.exists in
+      let r = segment-room (all ∷ []) s h.message x in
+      let i = within in
       omega arith
 
   pub composite-passes : (v : Tree) → IsAt (all ∷ []) (here from) v → IsLaidAt all v from next
@@ -83,3 +84,14 @@ module _ (all : List ℕ) (from next s w n a b span pads k : ℕ) (h : IsList al
         → (v : Tree) → IsAt (all ∷ []) (here from) v → Tells (IsLaidAt all v from next) (next + size v) res
     composite-told res t v i = rows-told all n a b span s w from next pads names small within h.order v (inside-at v i)
         (sound-at all from most_height next h.ready v i) h.fits p.0 p.1 p.2 p.3 p.4 res t
+
+-- the pointer leads to the next free word where its rows stand as they are laid
+pub composite-leads : (all : List ℕ) (x from next n : ℕ) → IsList all x Rows n from next → (v : Tree)
+    → IsAt (all ∷ []) (here from) v → IsLaidAt all v from next → x / 4 % 2 ^ 30 ≡ next - from - 1
+composite-leads all x from next n h v i k =
+    let y = composite-named all x from next n h in
+    let g = slice_index all y.0 in
+    let p = composite-passes all x from next 0 y.0 (field 2 30 g) (field 32 16 g) (field 48 16 g) n 0 n h y.2 v i k in
+    let s = few-words all x from next Rows n h in
+    let f = h.fits in
+    list-leads x Rows (field 2 30 g * (field 32 16 g + field 48 16 g)) from next h.order (omega arith) (h.word ∙ p.2)

@@ -2,7 +2,6 @@
 use Rattle.std.proofs.Common.{◌≡◌, ◌⊎◌, inl, inr, ℕ, ◌+◌, ◌-◌, ◌/◌, ◌%◌, ◌^◌, ◌<◌, ◌≤◌, ◌==◌, ◌&&◌, ℤ, List, []}
 use Rattle.std.proofs.Common.{◌∷◌, length, take, drop, slice_index, Option, Some, ap, sym, subst, ◌∙◌, arith, refl}
 use Rattle.std.proofs.lemmas.Bool.Decides.{nat_tests}
-use Rattle.capn_words.specs.Message.{IsMessage}
 use Rattle.capn_words.specs.Fields.{Fields, word_of}
 use Rattle.capn_words.specs.Pointers.{pointer_of}
 use Rattle.capn_words.specs.Laws.FieldBits.{if-no}

@@ -1,5 +1,6 @@
 -- Slots that are still to be checked, one run of them after the other.
-use Rattle.std.specs.Prelude.{◌≡◌, ◌↔◌, ℕ, ℤ, ◌+◌, ◌-◌, ◌<◌, ◌≤◌, List, [], ◌∷◌, length, take, drop, slice_index, Option, Some, None}
+use Rattle.std.specs.Prelude.{◌≡◌, ◌↔◌, ℕ, ℤ, ◌+◌, ◌-◌, ◌<◌, ◌≤◌, List, [], ◌∷◌, length, take, drop}
+use Rattle.std.specs.Prelude.{slice_index, Option, Some, None}
 use Rattle.capn_words.specs.Message.{IsMessage}
 use Rattle.capn_words.specs.Fields.{Fields}
 use Rattle.capn_words.specs.declared.pointer.Pointer.TheVariants.{Node, Many}

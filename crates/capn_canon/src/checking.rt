@@ -1,6 +1,6 @@
 //! Whether the words of a message are the canonical layout of what they are read as.
 
-ghost use Rattle.std.specs.Prelude.{◌≡◌, ℕ, ◌+◌, ◌*◌, ◌<◌, ◌≤◌, [], ◌∷◌, length, slice_index};
+ghost use Rattle.std.specs.Prelude.{◌≡◌, ℕ, ◌+◌, ◌*◌, ◌<◌, ◌≤◌, [], ◌∷◌, length};
 ghost use Rattle.capn_words.specs.Message.{IsMessage};
 ghost use Rattle.capn_words.specs.declared.pointer.Width.TheVariants as widths;
 ghost use Rattle.capn_value.specs.Sizes.{most_height};
@@ -11,11 +11,9 @@ ghost use Rattle.capn_canon.specs.Layout.{size, sizes, sizes_in_rows};
 ghost use Rattle.capn_canon.specs.Runs.{IsRun, AreIn, IsList, Steps};
 ghost use Rattle.capn_canon.specs.Stands.{IsLaidAt, AreLaidAt, RowsLaidAt, Tells, AreReadyRows};
 
-use crate::finding::target_at;
 use crate::listing::bits_of;
 use crate::run::Run;
-use crate::testing::{are_bits_at, are_rows_at, is_struct_at, leads_to, word_at};
-use capn_walk::{Shape, Target};
+use crate::testing::{are_bits_at, are_rows_at, is_struct_at, leads_to, tag_of, word_at};
 use capn_words::{Bare, Place, Pointer, Width, split};
 
 /// The next free word behind all that is below some slots, where each slot and all below it is that of the canonical
@@ -61,17 +59,21 @@ fn step(space: &Bare<'_>, run: Run) -> Option<Run>
             }
             let from = run.next + words as u32;
             let end = from + slots as u32;
+            if run.from + 1 == run.end {
+                return Some(Run {
+                    from,
+                    end,
+                    next: end,
+                });
+            }
+            if slots == 0 {
+                return Some(run.behind(end));
+            }
             let below = Run {
                 from,
                 end,
                 next: end,
             };
-            if run.from + 1 == run.end {
-                return Some(below);
-            }
-            if slots == 0 {
-                return Some(run.behind(end));
-            }
             match check_run(space, below) {
                 Some(next) => Some(run.behind(next)),
                 None => None,
@@ -108,7 +110,7 @@ fn check_many(
 {
     match width {
         Width::Link => check_links(space, word, count, from, next),
-        Width::Rows => check_composite(space, from, next),
+        Width::Rows => check_composite(space, word, count, from, next),
         _ => check_list(space, word, width, count, from, next),
     }
 }
@@ -140,6 +142,7 @@ fn check_list(
 
 /// The same of a list of pointers.
 #[cycle(checking)]
+#[inline(never)]
 fn check_links(space: &Bare<'_>, word: u64, count: u32, from: u32, next: u32) -> Option<u32>
     requires { IsList space.now word widths.Link count from next }
     ensures { (v : Tree) → IsAt (space.now ∷ []) (record { segment = 0; word = from }) v
@@ -159,43 +162,26 @@ fn check_links(space: &Bare<'_>, word: u64, count: u32, from: u32, next: u32) ->
 
 /// The same of a list of structs.
 #[cycle(checking)]
-fn check_composite(space: &Bare<'_>, from: u32, next: u32) -> Option<u32>
-    requires { (n : ℕ) × IsList space.now (slice_index space.now from) widths.Rows n from next }
+#[inline(never)]
+fn check_composite(space: &Bare<'_>, word: u64, span: u32, from: u32, next: u32) -> Option<u32>
+    requires { IsList space.now word widths.Rows span from next }
     ensures { (v : Tree) → IsAt (space.now ∷ []) (record { segment = 0; word = from }) v
         → Tells (IsLaidAt space.now v from next) (next + size v) result }
 {
-    let at = Place {
-        segment: 0,
-        word: from,
-    };
-    match target_at(space, at) {
-        Target::Content {
-            segment,
-            start,
-            shape,
-            pads: _,
-        } => match shape {
-            Shape::Rows {
-                count,
-                words,
-                slots,
-                span: _,
-            } => {
-                let rows = Place {
-                    segment,
-                    word: start + 1,
-                };
-                if !are_rows_at(space, rows, count, words, slots, from, next) {
-                    return None;
-                }
-                let first = next + 1;
-                let end = first + count * (words as u32 + slots as u32);
-                check_rows(space, first, count, words, slots, end)
-            }
-            _ => unreachable!(),
-        },
-        _ => unreachable!(),
+    if !leads_to(word, from, next) {
+        return None;
     }
+    let tag = tag_of(word_at(space, next));
+    let rows = Place {
+        segment: 0,
+        word: next + 1,
+    };
+    if !are_rows_at(space, rows, tag.count, tag.words, tag.slots, from, next) {
+        return None;
+    }
+    let first = next + 1;
+    let end = first + tag.count * (tag.words as u32 + tag.slots as u32);
+    check_rows(space, first, tag.count, tag.words, tag.slots, end)
 }
 
 /// The same of the slots of so many rows that stand from a word on, below which the next free word is the end.

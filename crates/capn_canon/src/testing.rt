@@ -4,6 +4,7 @@ ghost use Rattle.std.specs.Prelude.{◌≡◌, ℕ, ◌+◌, ◌*◌, ◌/◌, �
 ghost use Rattle.std.specs.Prelude.{slice_index, pos, ◌-◌, ◌%◌};
 ghost use Rattle.capn_words.specs.Message.{IsMessage};
 ghost use Rattle.capn_words.specs.Fields.{word_of};
+ghost use Rattle.capn_words.specs.Pointers.{field};
 ghost use Rattle.capn_words.specs.declared.pointer.Pointer.TheVariants.{Node};
 ghost use Rattle.capn_words.specs.declared.pointer.Width.TheVariants.{Rows};
 ghost use Rattle.capn_value.specs.Trim.{kept_words};
@@ -108,6 +109,26 @@ pub fn are_bits_at(space: &Bare<'_>, bits: u64, next: u32) -> bool
     }
     let last = word_at(space, next + (bits / 64) as u32);
     last == last % (1 << rest)
+}
+
+/// How many rows a list of structs has, and how many words and slots each of them.
+#[derive(Clone, Copy)]
+pub struct Tag {
+    pub count: u32,
+    pub words: u16,
+    pub slots: u16,
+}
+
+/// What a tag word says.
+#[inline(always)]
+pub fn tag_of(word: u64) -> Tag
+    ensures { result ≡ record { count = field 2 30 word; words = field 32 16 word; slots = field 48 16 word } }
+{
+    Tag {
+        count: (word >> 2 & 0x3fff_ffff) as u32,
+        words: (word >> 32 & 0xffff) as u16,
+        slots: (word >> 48) as u16,
+    }
 }
 
 /// How many words and slots of each row are kept, where it is all of them, the tag says so, the pointer is

@@ -1,7 +1,7 @@
-use Rattle.std.proofs.Common.{◌≡◌, ℕ, ◌+◌, ◌-◌, ◌*◌, [], ◌∷◌, Some, None, Ok}
+use Rattle.std.proofs.Common.{◌≡◌, ℕ, ◌+◌, ◌-◌, ◌*◌, List, [], ◌∷◌, slice_index, Some, None, Ok}
 use Rattle.std.proofs.Common.{sym, ap, subst, ◌∙◌, arith, refl}
-use Rattle.capn_words.specs.Fields.{Fields}
-use Rattle.capn_words.specs.declared.pointer.Pointer.TheVariants.{Many}
+use Rattle.capn_words.specs.Pointers.{field}
+use Rattle.capn_canon.specs.declared.testing.Tag.{Tag}
 use Rattle.capn_value.specs.Sizes.{most_height}
 use Rattle.capn_canon.specs.declared.run.Run.{Run}
 use Rattle.capn_canon.specs.Runs.{IsStruct, IsList, IsRun, Steps}
@@ -10,25 +10,31 @@ use Rattle.capn_walk.specs.At.{AreAt}
 use Rattle.capn_canon.specs.Layout.{sizes}
 use Rattle.capn_canon.specs.Stands.{AreLaidAt}
 use Rattle.capn_words.specs.declared.pointer.Width.{Width}
-use Rattle.capn_words.specs.declared.pointer.Width.TheVariants.{Link, Rows}
-use Rattle.capn_walk.specs.declared.target.Shape.{Shape}
 use Rattle.capn_walk.specs.declared.target.Shape.TheVariants as shapes
 use Rattle.capn_walk.specs.declared.target.Target.TheVariants as targets
 use Rattle.capn_walk.specs.Laws.RowWalks.{row-inside}
 use Rattle.capn_canon.proofs.ComparedRows.{rows-same-begins, row-check, rows-fail, rows-grown, rows-within}
 use Rattle.capn_canon.proofs.ComparedRows.{rows-ready-then, rows-same-then, rows-same-ends}
 use Rattle.capn_canon.proofs.Compared.{not-true, null-told, cap-told}
-use Rattle.capn_canon.proofs.Shaped.{found, null-of, cap-at}
+use Rattle.capn_canon.proofs.Shaped.{null-of, cap-at}
 use Rattle.capn_canon.proofs.OneSegment.{here, names-null, names-cap}
 use Rattle.capn_canon.proofs.Pointed.{laid-kind}
 use Rattle.capn_canon.proofs.Onward.{goes-nowhere, goes-further, goes-to-end, first}
 use Rattle.capn_canon.proofs.Onward.{first-off, steps-behind}
-use Rattle.capn_canon.proofs.PointedLists.{links-leads, links-run, links-answer, composite-is}
-use Rattle.capn_canon.proofs.PointedRows.{composite-content, composite-start, composite-few}
-use Rattle.capn_canon.proofs.PointedRows.{composite-span, composite-passes, composite-check, composite-told}
+use Rattle.capn_canon.proofs.PointedLists.{links-leads, links-run, links-answer, composite-names, tag-inside}
+use Rattle.capn_canon.proofs.PointedRows.{composite-content, composite-few}
+use Rattle.capn_canon.proofs.PointedRows.{composite-leads, composite-span, composite-passes, composite-check}
+use Rattle.capn_canon.proofs.PointedRows.{composite-told}
 use Rattle.capn_canon.proofs.PointedStructs.{passes, below-is, below-told, none-told, steps-below}
 use Rattle.capn_canon.proofs.Slots.{next-ready}
 use Rattle.capn_canon.proofs.checking.+checking.Goals as goal
+
+-- what a tag's word says
+abbrev says : ℕ → Tag
+says x = record { count = field 2 30 x; words = field 32 16 x; slots = field 48 16 x }
+
+tag-is : (all : List ℕ) (next x : ℕ) (g : Tag) → x ≡ slice_index all next → g ≡ says x → says (slice_index all next) ≡ g
+tag-is all next x g e f = ap says (sym e) ∙ sym f
 
 -- ---- a run
 
@@ -350,101 +356,80 @@ check_many-check_composite-requires t c =
     let a = c.args in
     let l = subst (λ (k : Width). IsList a.space.now a.word k a.count a.from a.next) c.in-Rows.is c.requires in
     let p = l.place in
-    (omega arith, (a.count, subst (λ (x : ℕ). IsList a.space.now x Rows a.count a.from a.next) l.word l))
+    (omega arith, l)
 
-pub check_composite-target_at-requires-clause-found : goal.check_composite-target_at-requires-clause-found
-check_composite-target_at-requires-clause-found t c =
-    let r = c.requires.1.ready in
-    found (c.args.space.now ∷ []) (here c.args.from) r.value r.is
-
-pub check_composite-overflow_add-rows : goal.check_composite-overflow_add-rows
-check_composite-overflow_add-rows t c =
+pub check_composite-returns-then-not-leads_to : goal.check_composite-returns-then-not-leads_to
+check_composite-returns-then-not-leads_to t c v i k =
     let a = c.args in
-    let y = c.in-Content in
-    let x = c.in-Rows in
-    let f = c.target_at.ensures ∙ ap Ok y.is in
-    let e = f ∙ ap (λ (k : Shape). Ok (targets.Content y.segment y.start k y.pads)) x.is in
-    let k = composite-start a.space.now a.from a.next y.segment y.start x.count x.words x.slots x.span y.pads
-    c.requires.0 c.requires.1 e in
-    omega arith
+    not-true (c.if-not-leads_to.ensures.1 (composite-leads a.space.now a.word a.from a.next a.span c.requires v i k))
+
+pub check_composite-word_at-requires : goal.check_composite-word_at-requires
+check_composite-word_at-requires t c =
+    let a = c.args in
+    tag-inside a.space.now a.word a.from a.next a.span c.requires (c.if-not-leads_to.ensures.0 refl)
 
 pub check_composite-are_rows_at-requires-clause-content : goal.check_composite-are_rows_at-requires-clause-content
 check_composite-are_rows_at-requires-clause-content t c =
     let a = c.args in
-    let y = c.in-Content in
-    let x = c.in-Rows in
-    let f = c.target_at.ensures ∙ ap Ok y.is in
-    let e = f ∙ ap (λ (k : Shape). Ok (targets.Content y.segment y.start k y.pads)) x.is in
-    composite-content a.space.now a.from a.next y.segment y.start x.count x.words x.slots x.span y.pads
-    c.requires.0 c.requires.1 e
+    let g = c.tag_of-tag.result in
+    let e = composite-names a.space.now a.word a.from a.next a.span c.requires (c.if-not-leads_to.ensures.0 refl) in
+    let is = tag-is a.space.now a.next c.word_at.result g c.word_at.ensures c.tag_of-tag.ensures in
+    let f = e ∙ ap (λ (k : Tag). Ok (targets.Content 0 a.next (shapes.Rows k.count k.words k.slots a.span) 0)) is in
+    composite-content a.space.now a.word a.from a.next 0 a.next g.count g.words g.slots a.span 0
+    a.span c.requires f
 
 pub check_composite-are_rows_at-requires-clause-few : goal.check_composite-are_rows_at-requires-clause-few
 check_composite-are_rows_at-requires-clause-few t c =
     let a = c.args in
-    let y = c.in-Content in
-    let x = c.in-Rows in
-    let f = c.target_at.ensures ∙ ap Ok y.is in
-    let e = f ∙ ap (λ (k : Shape). Ok (targets.Content y.segment y.start k y.pads)) x.is in
-    composite-few a.space.now a.from a.next y.segment y.start x.count x.words x.slots x.span y.pads
-    c.requires.0 c.requires.1 e
+    let g = c.tag_of-tag.result in
+    let e = composite-names a.space.now a.word a.from a.next a.span c.requires (c.if-not-leads_to.ensures.0 refl) in
+    let is = tag-is a.space.now a.next c.word_at.result g c.word_at.ensures c.tag_of-tag.ensures in
+    let f = e ∙ ap (λ (k : Tag). Ok (targets.Content 0 a.next (shapes.Rows k.count k.words k.slots a.span) 0)) is in
+    composite-few a.space.now a.word a.from a.next 0 a.next g.count g.words g.slots a.span 0
+    a.span c.requires f
 
 pub check_composite-are_rows_at-requires-clause-span : goal.check_composite-are_rows_at-requires-clause-span
 check_composite-are_rows_at-requires-clause-span t c =
     let a = c.args in
-    let y = c.in-Content in
-    let x = c.in-Rows in
-    let f = c.target_at.ensures ∙ ap Ok y.is in
-    let e = f ∙ ap (λ (k : Shape). Ok (targets.Content y.segment y.start k y.pads)) x.is in
-    composite-span a.space.now a.from a.next y.segment y.start x.count x.words x.slots x.span y.pads
-    c.requires.0 c.requires.1 e
+    let g = c.tag_of-tag.result in
+    let e = composite-names a.space.now a.word a.from a.next a.span c.requires (c.if-not-leads_to.ensures.0 refl) in
+    let is = tag-is a.space.now a.next c.word_at.result g c.word_at.ensures c.tag_of-tag.ensures in
+    let f = e ∙ ap (λ (k : Tag). Ok (targets.Content 0 a.next (shapes.Rows k.count k.words k.slots a.span) 0)) is in
+    composite-span a.space.now a.word a.from a.next 0 a.next g.count g.words g.slots a.span 0
+    a.span c.requires f
 
 pub check_composite-returns-then-not-are_rows_at : goal.check_composite-returns-then-not-are_rows_at
 check_composite-returns-then-not-are_rows_at t c v i k =
     let a = c.args in
-    let y = c.in-Content in
-    let x = c.in-Rows in
-    let f = c.target_at.ensures ∙ ap Ok y.is in
-    let e = f ∙ ap (λ (k : Shape). Ok (targets.Content y.segment y.start k y.pads)) x.is in
+    let g = c.tag_of-tag.result in
+    let e = composite-names a.space.now a.word a.from a.next a.span c.requires (c.if-not-leads_to.ensures.0 refl) in
+    let is = tag-is a.space.now a.next c.word_at.result g c.word_at.ensures c.tag_of-tag.ensures in
+    let f = e ∙ ap (λ (k : Tag). Ok (targets.Content 0 a.next (shapes.Rows k.count k.words k.slots a.span) 0)) is in
     not-true (c.if-not-are_rows_at.ensures.1
-    (composite-passes a.space.now a.from a.next y.segment y.start x.count x.words x.slots x.span y.pads
-    c.requires.0 c.requires.1 e v i k))
+    (composite-passes a.space.now a.word a.from a.next 0 a.next g.count g.words g.slots a.span 0
+    a.span c.requires f v i k))
 
 pub check_composite-check_rows-requires : goal.check_composite-check_rows-requires
 check_composite-check_rows-requires t c =
     let a = c.args in
-    let y = c.in-Content in
-    let x = c.in-Rows in
-    let f = c.target_at.ensures ∙ ap Ok y.is in
-    let e = f ∙ ap (λ (k : Shape). Ok (targets.Content y.segment y.start k y.pads)) x.is in
+    let g = c.tag_of-tag.result in
+    let e = composite-names a.space.now a.word a.from a.next a.span c.requires (c.if-not-leads_to.ensures.0 refl) in
+    let is = tag-is a.space.now a.next c.word_at.result g c.word_at.ensures c.tag_of-tag.ensures in
+    let f = e ∙ ap (λ (k : Tag). Ok (targets.Content 0 a.next (shapes.Rows k.count k.words k.slots a.span) 0)) is in
     let five = c.if-not-are_rows_at.ensures.0 refl in
     let room = five.3 in
-    let o = c.requires.1.order in
-    let ready = composite-check a.space.now a.from a.next y.segment y.start x.count x.words x.slots x.span y.pads
-    c.requires.0 c.requires.1 e five in
-    (omega arith, (c.requires.1.message, (omega arith, (omega arith, (omega arith, ready)))))
-
-pub check_composite-unreachable-requires : goal.check_composite-unreachable-requires
-check_composite-unreachable-requires t c =
-    let l = c.requires.1 in
-    let e = c.target_at.ensures ∙ ap Ok c.in-Content.is in
-    let y = composite-is c.args.space.now c.args.from c.requires.0 l.pointer.0 _ l.pointer.1 e in
-    let q = y.4 in
-    c.in_default-shape.not-Rows y.1 y.2 y.3 c.requires.0 (cc)
-
-pub check_composite-unreachable-requires-in_default : goal.check_composite-unreachable-requires-in_default
-check_composite-unreachable-requires-in_default t c =
-    let l = c.requires.1 in
-    let y = composite-is c.args.space.now c.args.from c.requires.0 l.pointer.0 c.target_at.result l.pointer.1
-    c.target_at.ensures in
-    c.in_default.not-Content 0 y.0 (shapes.Rows y.1 y.2 y.3 c.requires.0) 0 y.4
+    let o = c.requires.order in
+    let ready = composite-check a.space.now a.word a.from a.next 0 a.next g.count g.words g.slots a.span 0
+    a.span c.requires f five in
+    (omega arith, (c.requires.message, (omega arith, (omega arith, (omega arith, ready)))))
 
 pub check_composite-returns : goal.check_composite-returns
 check_composite-returns t c =
     let a = c.args in
-    let y = c.in-Content in
-    let x = c.in-Rows in
-    let f = c.target_at.ensures ∙ ap Ok y.is in
-    let e = f ∙ ap (λ (k : Shape). Ok (targets.Content y.segment y.start k y.pads)) x.is in
-    composite-told a.space.now a.from a.next y.segment y.start x.count x.words x.slots x.span y.pads
-    c.requires.0 c.requires.1 e
+    let g = c.tag_of-tag.result in
+    let e = composite-names a.space.now a.word a.from a.next a.span c.requires (c.if-not-leads_to.ensures.0 refl) in
+    let is = tag-is a.space.now a.next c.word_at.result g c.word_at.ensures c.tag_of-tag.ensures in
+    let f = e ∙ ap (λ (k : Tag). Ok (targets.Content 0 a.next (shapes.Rows k.count k.words k.slots a.span) 0)) is in
+    composite-told a.space.now a.word a.from a.next 0 a.next g.count g.words g.slots a.span 0
+    a.span c.requires f
     (c.if-not-are_rows_at.ensures.0 refl) c.check_rows.result c.check_rows.ensures

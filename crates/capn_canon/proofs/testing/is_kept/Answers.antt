@@ -1,4 +1,5 @@
-use Rattle.std.proofs.Common.{◌≡◌, ◌≢◌, ℕ, ◌+◌, ◌-◌, ◌∙◌, ap, sym, refl, slice_index, arith, IsTrue, nat_eq, not, zero, suc}
+use Rattle.std.proofs.Common.{◌≡◌, ◌≢◌, ℕ, ◌+◌, ◌-◌, ◌∙◌, ap, sym, refl, slice_index, arith, IsTrue, nat_eq, not}
+use Rattle.std.proofs.Common.{zero, suc}
 use Rattle.std.proofs.lemmas.Bool.Decides.{nat_tests}
 use Rattle.capn_canon.proofs.Pointed.{all-kept, last-kept}
 use Rattle.capn_canon.proofs.testing.is_kept.Goals as goal

@@ -1,5 +1,5 @@
-use Rattle.std.proofs.Common.{◌+◌, ◌≤◌, length, arith, refl}
-use Rattle.capn_canon.proofs.PointedStructs.{small, within-next}
+use Rattle.std.proofs.Common.{arith, refl}
+use Rattle.capn_canon.proofs.PointedStructs.{within-next}
 use Rattle.capn_canon.proofs.testing.is_struct_at.Goals as goal
 
 pub is_kept-requires-clause-inside : goal.is_kept-requires-clause-inside
