@@ -74,7 +74,7 @@ fn text_of<S: Space, A: Allocator + Copy>(
     Ok(text)
 }
 
-/// Appends the text of a message, and the line `end`.
+/// Appends the text of a message, and the line `end`. Behind nothing the text is handed over, and not copied.
 fn put_text<S: Space, A: Allocator + Copy>(
     alloc: A,
     space: &S,
@@ -85,6 +85,10 @@ fn put_text<S: Space, A: Allocator + Copy>(
 {
     let mut shown = text_of(alloc, space, limits)?;
     shown.push_str("end\n")?;
+    if text.is_empty() {
+        *text = shown.into_bytes();
+        return Ok(());
+    }
     text.extend_from_slice(shown.as_bytes())?;
     Ok(())
 }
