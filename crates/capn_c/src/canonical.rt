@@ -9,7 +9,7 @@ ghost use Rattle.capn_canon.specs.Denotes.{Denotes};
 ghost use Rattle.capn_canon.specs.Answers.{Answers};
 ghost use Rattle.capn_canon.specs.Canonicity.{IsCanonicalForm};
 ghost use Rattle.capn_canon.specs.Refused.{IsRefused};
-ghost use Rattle.capn_canon.specs.Wanted.{MayWantMemory};
+ghost use Rattle.capn_canon.specs.Wanted.{MayWantMemory, MayWantBytesIn};
 ghost use Rattle.capn_canon.specs.declared.refusal.Refusal.{Refusal as Refusals};
 ghost use Rattle.capn_c.specs.Calls.{IsForm, form_named, GiveLimits, IsTariff, bounds_of, Delivers, Serves};
 ghost use Rattle.capn_c.specs.Codes.{Tells, answered, at_number, is_status};
@@ -65,6 +65,7 @@ fn lay(
     ensures rest { result ≤ 1 → report.new ≡ answered report.new.length report.new.paid 0 }
     ensures listed { IsTrue (is_status result) }
     ensures refused { 8 ≤ result → (e : Refusals) × Tells result report.new e × IsRefused form bytes.now limits e }
+    ensures wanted { result ≡ 8 → MayWantBytesIn form bytes.now limits }
     ensures bounded { IsBounded limits.budget report.new.paid report.new.visits }
     ensures short { result ≤ 1 → report.new.length ≤ 8 * (report.new.paid + 1) }
     ensures kept { result ≢ 0 → out.new ≡ out.old }
@@ -114,8 +115,9 @@ pub extern "C" fn capn_canonical(
     // What each refusal means, and that no other is told so.
     ensures refused { 5 ≤ result → (e : Refusals) × Tells result report.new e
         × IsRefused (form_named form) bytes.now (bounds_of limits.now) e }
-    // With a room of 0 memory is wanted only where `capn_check` may want it.
-    ensures wanted { result ≡ 8 → length out.old ≡ 0
+    // Memory is wanted only where `capn_check` may want it, and, where there is room, for canonical bytes.
+    ensures wanted { result ≡ 8 → MayWantBytesIn (form_named form) bytes.now (bounds_of limits.now) }
+    ensures measuring { result ≡ 8 → length out.old ≡ 0
         → MayWantMemory (form_named form) bytes.now (bounds_of limits.now) }
     // No walk pays beyond its budget.
     ensures bounded { IsBounded limits.now.budget report.new.paid report.new.visits }

@@ -9,6 +9,7 @@ ghost use Rattle.capn_canon.specs.Layout.{canon};
 ghost use Rattle.capn_canon.specs.Denotes.{Denotes};
 ghost use Rattle.capn_canon.specs.Answers.{Answers};
 ghost use Rattle.capn_canon.specs.Refused.{IsRefused};
+ghost use Rattle.capn_canon.specs.Wanted.{MayWantBytesIn};
 ghost use Rattle.capn_canon.specs.declared.refusal.Refusal.{Refusal as Refusals};
 ghost use Rattle.capn_c.specs.Calls.{IsForm, form_named, GiveLimits, IsTariff, bounds_of};
 ghost use Rattle.capn_c.specs.Codes.{Tells, answered, at_number, is_status};
@@ -38,6 +39,7 @@ fn hash(
     ensures rest { result ≡ 0 → report.new ≡ answered 0 report.new.paid 0 }
     ensures listed { IsTrue (is_status result) }
     ensures refused { 8 ≤ result → (e : Refusals) × Tells result report.new e × IsRefused form bytes.now limits e }
+    ensures wanted { result ≡ 8 → MayWantBytesIn form bytes.now limits }
     ensures bounded { IsBounded limits.budget report.new.paid report.new.visits }
     ensures kept { result ≢ 0 → digest.new ≡ digest.old }
 {
@@ -83,6 +85,8 @@ pub extern "C" fn capn_hash(
     // What each refusal means, and that no other is told so.
     ensures refused { 5 ≤ result → (e : Refusals) × Tells result report.new e
         × IsRefused (form_named form) bytes.now (bounds_of limits.now) e }
+    // Memory is wanted only where `capn_check` may want it, and for canonical bytes.
+    ensures wanted { result ≡ 8 → MayWantBytesIn (form_named form) bytes.now (bounds_of limits.now) }
     // No walk pays beyond its budget.
     ensures bounded { IsBounded limits.now.budget report.new.paid report.new.visits }
     // Where nothing is answered, the buffer is as it was.

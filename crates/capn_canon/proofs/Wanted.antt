@@ -10,12 +10,13 @@ use Rattle.capn_pack.specs.Refusal.{StartsWithin}
 use Rattle.capn_pack.specs.Laws.GroupLemmas.{length_content}
 use Rattle.capn_stream.specs.Frames.{most_table_words}
 use Rattle.capn_stream.specs.Laws.FrameLaws.{stands_alone, whole_of}
+use Rattle.capn_walk.specs.Denotes.{IsValueOf}
 use Rattle.capn_walk.specs.Limits.{Bounds}
 use Rattle.capn_canon.specs.declared.form.Form.TheVariants as forms
 use Rattle.capn_canon.specs.declared.refusal.Refusal.{Refusal}
 use Rattle.capn_canon.specs.declared.refusal.Refusal.TheVariants as refusals
-use Rattle.capn_canon.specs.Reads.{IsFramed, Unpacks}
-use Rattle.capn_canon.specs.Wanted.{MayWantMemory}
+use Rattle.capn_canon.specs.Reads.{IsFramed, Reads, Unpacks}
+use Rattle.capn_canon.specs.Wanted.{MayWantMemory, MayWantBytes, MayWantBytesIn}
 
 -- a call that wants no memory for a depth of at most 64 wanted it for one above that
 pub deep : {T : Type 0} (r : Result T Refusal) (depth : ℕ) → (depth ≤ 64 → IfErr r (λ e. e ≢ refusals.Memory))
@@ -54,3 +55,18 @@ pub packed_wanted : (bs text : List ℕ) (limits : Bounds) → Unpacks bs limits
     → MayWantMemory forms.Stream text limits → MayWantMemory forms.Packed bs limits
 packed_wanted bs text limits u h =
     starts_within bs text (limits.message_words + most_table_words) u.packs (wanted_some text limits h) u.room
+
+-- ---- canonical bytes
+
+-- what is wanted of a message is wanted of the bytes that are read bare as it,
+pub bare_bytes_wanted : (bs : List ℕ) (limits : Bounds) (m : List (List ℕ)) → Reads forms.Bare bs limits.message_words m
+    → MayWantBytes m limits → MayWantBytesIn forms.Bare bs limits
+bare_bytes_wanted bs limits m r (inl d) = inl (d, m, r)
+bare_bytes_wanted bs limits m r (inr (v, is, free)) = inr (v, record { message = m; reads = r; value = is }, free)
+
+-- and of a packed text where it is of what it unpacks to
+pub packed_bytes_wanted : (bs text : List ℕ) (limits : Bounds) → Unpacks bs limits.message_words text
+    → MayWantBytesIn forms.Stream text limits → MayWantBytesIn forms.Packed bs limits
+packed_bytes_wanted bs text limits u (inl h) = inl (packed_wanted bs text limits u h)
+packed_bytes_wanted bs text limits u (inr (v, d, free)) =
+    inr (v, record { message = d.message; reads = (text, u, d.reads); value = d.value }, free)

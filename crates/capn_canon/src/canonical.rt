@@ -1,6 +1,6 @@
 //! Canonical bytes of messages, without a tree.
 
-ghost use Rattle.std.specs.Prelude.{◌≡◌, ◌≢◌, ℕ, ◌*◌, ◌+◌, ◌<◌, ◌≤◌, None, length, IfOk, IfErr, MatchResult};
+ghost use Rattle.std.specs.Prelude.{◌≡◌, ◌≢◌, ℕ, ◌*◌, ◌+◌, ◌<◌, ◌≤◌, None, length, IfOk, IfErr, IsErrOf, MatchResult};
 ghost use Rattle.capn_words.specs.Message.{IsMessage, segment_at};
 ghost use Rattle.capn_value.specs.Tree.{Tree as Value};
 ghost use Rattle.capn_value.specs.Caps.{first_cap};
@@ -13,6 +13,7 @@ ghost use Rattle.capn_canon.specs.Canonicity.{ReadsBack, PaysItsCost, IsItsOwnFo
 ghost use Rattle.capn_canon.specs.Refused.{IsRefusedMessage, IsPaidWithin};
 ghost use Rattle.capn_canon.specs.declared.refusal.Refusal.TheVariants as refusals;
 ghost use Rattle.capn_canon.specs.Ready.{IsReady};
+ghost use Rattle.capn_canon.specs.Wanted.{MayWantBytes};
 
 use crate::draft::Draft;
 use crate::placing::lay_slot;
@@ -68,6 +69,7 @@ fn canonical_in<A: Allocator + Copy, S: Space>(
     ensures only { (v : Value) → IsValueOf (S.message space.now) limits v → first_cap v ≡ None
         → MatchResult result (λ c. c.bytes.items ≡ canon v) (λ e. e ≡ refusals.Memory) }
     ensures refused { IfErr result (λ e. IsRefusedMessage (S.message space.now) limits e) }
+    ensures wanted { IsErrOf result refusals.Memory → MayWantBytes (S.message space.now) limits }
     ensures bounded { MatchResult result (λ c. c.paid ≤ limits.budget) (λ e. IsPaidWithin limits.budget e) }
 {
     let _segments = space.segments();
@@ -101,6 +103,7 @@ fn canonical_here<A: Allocator + Copy, S: Space>(
     ensures only { (v : Value) → IsValueOf (S.message space.now) limits v → first_cap v ≡ None
         → MatchResult result (λ c. c.bytes.items ≡ canon v) (λ e. e ≡ refusals.Memory) }
     ensures refused { IfErr result (λ e. IsRefusedMessage (S.message space.now) limits e) }
+    ensures wanted { IsErrOf result refusals.Memory → MayWantBytes (S.message space.now) limits }
     ensures bounded { MatchResult result (λ c. c.paid ≤ limits.budget) (λ e. IsPaidWithin limits.budget e) }
 {
     let words = space.words(0).unwrap_or(0);
@@ -128,6 +131,8 @@ pub fn canonical_of<A: Allocator + Copy, S: Space>(
         → MatchResult result (λ c. c.bytes.items ≡ canon v) (λ e. e ≡ refusals.Memory) }
     // What each refusal means.
     ensures refused { IfErr result (λ e. IsRefusedMessage (S.message space.now) limits e) }
+    // Memory is wanted only for a depth above 64 and for canonical bytes.
+    ensures wanted { IsErrOf result refusals.Memory → MayWantBytes (S.message space.now) limits }
     // No walk pays beyond its budget.
     ensures bounded { MatchResult result (λ c. c.paid ≤ limits.budget) (λ e. IsPaidWithin limits.budget e) }
     ensures short { IfOk result (λ c. length c.bytes.items ≤ 8 * (c.paid + 1)) }

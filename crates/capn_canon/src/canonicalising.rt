@@ -1,6 +1,6 @@
 //! Canonical bytes of a message in each form.
 
-ghost use Rattle.std.specs.Prelude.{◌≡◌, ℕ, ◌*◌, ◌+◌, ◌≤◌, None, length, IfOk, IfErr, MatchResult};
+ghost use Rattle.std.specs.Prelude.{◌≡◌, ℕ, ◌*◌, ◌+◌, ◌≤◌, None, length, IfOk, IfErr, IsErrOf, MatchResult};
 ghost use Rattle.capn_value.specs.Tree.{Tree as Value};
 ghost use Rattle.capn_value.specs.Caps.{first_cap};
 ghost use Rattle.capn_canon.specs.Layout.{canon};
@@ -8,6 +8,7 @@ ghost use Rattle.capn_canon.specs.Denotes.{Denotes};
 ghost use Rattle.capn_canon.specs.Answers.{Answers};
 ghost use Rattle.capn_canon.specs.Canonicity.{ReadsBack, PaysItsCost, IsItsOwnForm, IsFormExactlyOf};
 ghost use Rattle.capn_canon.specs.Refused.{IsRefused, IsPaidWithin};
+ghost use Rattle.capn_canon.specs.Wanted.{MayWantBytesIn};
 ghost use Rattle.capn_canon.specs.declared.form.Form.TheVariants as forms;
 ghost use Rattle.capn_canon.specs.declared.refusal.Refusal.TheVariants as refusals;
 
@@ -28,6 +29,7 @@ fn of_bare<A: Allocator + Copy>(
 ) -> Result<Canonical<A>, Refusal>
     ensures found { IfOk result (λ c. Answers forms.Bare bytes.now limits c.bytes.items c.paid) }
     ensures refused { IfErr result (λ e. IsRefused forms.Bare bytes.now limits e) }
+    ensures wanted { IsErrOf result refusals.Memory → MayWantBytesIn forms.Bare bytes.now limits }
     ensures bounded { IfErr result (λ e. IsPaidWithin limits.budget e) }
 {
     match Bare::new(bytes) {
@@ -44,6 +46,7 @@ fn of_frame<A: Allocator + Copy>(
 ) -> Result<Canonical<A>, Refusal>
     ensures found { IfOk result (λ c. Answers forms.Stream bytes.now limits c.bytes.items c.paid) }
     ensures refused { IfErr result (λ e. IsRefused forms.Stream bytes.now limits e) }
+    ensures wanted { IsErrOf result refusals.Memory → MayWantBytesIn forms.Stream bytes.now limits }
     ensures bounded { IfErr result (λ e. IsPaidWithin limits.budget e) }
 {
     match first(alloc, bytes, limits.message_words()) {
@@ -66,6 +69,7 @@ fn of_packed<A: Allocator + Copy>(
 ) -> Result<Canonical<A>, Refusal>
     ensures found { IfOk result (λ c. Answers forms.Packed bytes.now limits c.bytes.items c.paid) }
     ensures refused { IfErr result (λ e. IsRefused forms.Packed bytes.now limits e) }
+    ensures wanted { IsErrOf result refusals.Memory → MayWantBytesIn forms.Packed bytes.now limits }
     ensures bounded { IfErr result (λ e. IsPaidWithin limits.budget e) }
 {
     match unpack(alloc, bytes, limits.message_words() + MOST_TABLE_WORDS) {
@@ -84,6 +88,7 @@ fn in_form<A: Allocator + Copy>(
 ) -> Result<Canonical<A>, Refusal>
     ensures found { IfOk result (λ c. Answers form bytes.now limits c.bytes.items c.paid) }
     ensures refused { IfErr result (λ e. IsRefused form bytes.now limits e) }
+    ensures wanted { IsErrOf result refusals.Memory → MayWantBytesIn form bytes.now limits }
     ensures bounded { IfErr result (λ e. IsPaidWithin limits.budget e) }
 {
     match form {
@@ -112,6 +117,8 @@ pub fn canonicalise<A: Allocator + Copy>(
         → MatchResult result (λ c. c.bytes.items ≡ canon v) (λ e. e ≡ refusals.Memory) }
     // What each refusal means.
     ensures refused { IfErr result (λ e. IsRefused form bytes.now limits e) }
+    // Memory is wanted only where a survey of the bytes may want it, and for canonical bytes.
+    ensures wanted { IsErrOf result refusals.Memory → MayWantBytesIn form bytes.now limits }
     // No walk pays beyond its budget.
     ensures bounded { MatchResult result (λ c. c.paid ≤ limits.budget) (λ e. IsPaidWithin limits.budget e) }
     ensures short { IfOk result (λ c. length c.bytes.items ≤ 8 * (c.paid + 1)) }

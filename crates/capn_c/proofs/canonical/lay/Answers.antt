@@ -1,7 +1,8 @@
 -- What is said of the canonical bytes is said of the bytes in the buffer.
-use Rattle.std.proofs.Common.{rules}
+use Rattle.std.proofs.Common.{rules, ap, sym, ◌∙◌, Err}
 use Rattle.capn_canon.specs.Canonicity.{IsCanonicalForm}
 use Rattle.capn_c.proofs.Delivered.{in_buffer}
+use Rattle.capn_c.proofs.OutOfMemory.{refused_memory}
 use Rattle.capn_c.proofs.canonical.lay.Goals as goal
 
 pub returns-in-Ok-clause-canonical : goal.returns-in-Ok-clause-canonical
@@ -11,3 +12,10 @@ returns-in-Ok-clause-canonical c e v d =
     record { reads_back = f.reads_back v d; pays = f.pays v d; own = f.own v d; exactly = f.exactly v d } in
     in_buffer (λ b. IsCanonicalForm b c.args.limits v) c.in-Ok.canonical.bytes.items c.deliver.result
     c.answer_of.result.length c.args.out.now c.deliver.new.out (search rules) e is
+
+pub returns-in-Err-clause-wanted : goal.returns-in-Err-clause-wanted
+returns-in-Err-clause-wanted c e =
+    c.in-Err.ensures.wanted
+    (ap Err
+    (refused_memory c.args.form c.args.bytes.now c.args.limits c.in-Err.refusal c.in-Err.ensures.refused
+    (sym c.refuse.ensures.status_is ∙ e)))
