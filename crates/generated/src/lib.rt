@@ -11,9 +11,7 @@ mod agreement;
 mod changed;
 #[cfg(test)]
 mod hostile;
-#[cfg(test)]
 mod random;
-#[cfg(test)]
 mod segments;
 #[cfg(test)]
 mod writing;

@@ -1,6 +1,6 @@
 //! Numbers that look random.
 
-ghost use Rattle.std.specs.Prelude.{◌≡◌, ◌+◌, ◌*◌, ◌%◌, ◌^◌, ◌≤◌};
+ghost use Rattle.std.specs.Prelude.{◌≡◌, ◌+◌, ◌*◌, ◌%◌, ◌^◌, ◌<◌, ◌≤◌};
 
 /// The same numbers for each seed.
 #[derive(Drop)]
@@ -30,9 +30,10 @@ impl Random {
         state.wrapping_mul(0x2545_f491_4f6c_dd1d)
     }
 
-    /// The next number below a bound that isn't 0.
+    /// The next number below a bound; 0 where that is 0.
     pub(crate) fn below(&mut self, bound: u64) -> u64
-        ensures { result ≤ bound }
+        ensures below { 0 < bound → result < bound }
+        ensures within { result ≤ bound }
     {
         let word = self.word() >> 32;
         if bound == 0 { 0 } else { word % bound }

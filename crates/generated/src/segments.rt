@@ -1,6 +1,6 @@
 //! Segments that are written word by word, pointers into them, and their frame.
 
-ghost use Rattle.std.specs.Prelude.{◌≡◌, [], length, map, slice_index_or};
+ghost use Rattle.std.specs.Prelude.{◌≡◌, [], length, map, replicate, slice_index_or, IfOk};
 
 use std::alloc::{AllocError, Global};
 
@@ -19,7 +19,9 @@ pub(crate) struct Segments {
 
 impl Segments {
     /// So many, of no words.
-    pub(crate) fn new(alloc: Global, count: u64) -> Result<Segments, AllocError> {
+    pub(crate) fn new(alloc: Global, count: u64) -> Result<Segments, AllocError>
+        ensures { IfOk result (λ it. map (λ words. words.items) it.segments.items ≡ replicate count []) }
+    {
         let mut segments = Vec::new(alloc);
         for _ in 0..count {
             segments.push(Vec::new(alloc))?;
