@@ -57,15 +57,18 @@ fn is_kept(space: &Bare<'_>, at: u32, count: u32) -> bool
     count == 0 || word_at(space, at + count - 1) != 0
 }
 
+/// The pointer to a struct of no words and no slots: its offset is -1. (Page: canonicalization.)
+const EMPTY: u64 = 0xffff_fffc;
+
 /// Whether the pointer at the first slot of a run, to a struct of so many words and slots, is the one to the next free
-/// word, and the struct keeps all of them. One of none has its own word.
+/// word, and the struct keeps all of them.
 #[inline(always)]
 pub fn is_struct_at(space: &Bare<'_>, word: u64, words: u16, slots: u16, run: Run) -> bool
     requires { IsStruct space.now word words slots run }
     ensures { IsTrue result ↔ Passes space.now words slots run }
 {
     if words as u32 + slots as u32 == 0 {
-        return word == 0xffff_fffc;
+        return word == EMPTY;
     }
     if !leads_to(word, run.from, run.next) {
         return false;
@@ -75,14 +78,7 @@ pub fn is_struct_at(space: &Bare<'_>, word: u64, words: u16, slots: u16, run: Ru
 }
 
 /// Whether the pointer to a list is the one to the next free word, and there is room for so many words.
-pub fn is_list_at(
-    space: &Bare<'_>,
-    width: Width,
-    count: u32,
-    words: u32,
-    from: u32,
-    next: u32,
-) -> bool
+fn is_list_at(space: &Bare<'_>, width: Width, count: u32, words: u32, from: u32, next: u32) -> bool
     requires message { IsMessage (space.now ∷ []) }
     requires few { count < 2 ^ 29 }
     requires short { words ≤ 2 ^ 30 }
