@@ -9,7 +9,7 @@ use Rattle.capn_value.specs.Trim.{kept_words, kept_slots}
 use Rattle.capn_value.specs.Sizes.{height, greatest}
 use Rattle.capn_walk.specs.declared.target.Shape.TheVariants as shapes
 use Rattle.capn_walk.specs.At.{AreAt, words_from}
-use Rattle.capn_walk.specs.Walked.{IsInside}
+use Rattle.capn_walk.specs.At.{IsInside}
 use Rattle.capn_canon.specs.Layout.{size, sizes, point, struct_to, list_to}
 use Rattle.capn_canon.specs.Laying.{laid, laid_slots}
 use Rattle.capn_canon.specs.Patch.{whole}

@@ -4,9 +4,9 @@ ghost use Rattle.std.specs.Prelude.{◌≡◌, ◌≢◌, ℕ, ◌*◌, ◌+◌,
 ghost use Rattle.capn_words.specs.Message.{IsMessage, segment_at};
 ghost use Rattle.capn_value.specs.Tree.{Tree as Value};
 ghost use Rattle.capn_value.specs.Caps.{first_cap};
-ghost use Rattle.capn_walk.specs.Accepted.{root};
+ghost use Rattle.capn_walk.specs.Stops.{root};
 ghost use Rattle.capn_walk.specs.At.{IsAt};
-ghost use Rattle.capn_walk.specs.Denotes.{IsValueOf};
+ghost use Rattle.capn_walk.specs.Accepted.{IsValueOf};
 ghost use Rattle.capn_canon.specs.Layout.{canon};
 ghost use Rattle.capn_canon.specs.Answers.{AnswersMessage};
 ghost use Rattle.capn_canon.specs.Canonicity.{ReadsBack, PaysItsCost, IsItsOwnForm, IsFormExactlyOf};

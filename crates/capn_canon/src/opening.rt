@@ -4,7 +4,7 @@ ghost use Rattle.std.specs.Prelude.{◌≡◌, ℕ, ◌+◌, ◌*◌, ◌^◌, �
 ghost use Rattle.capn_words.specs.Message.{IsMessage};
 ghost use Rattle.capn_words.specs.declared.pointer.Width.TheVariants.{Link};
 ghost use Rattle.capn_walk.specs.At.{words_from};
-ghost use Rattle.capn_walk.specs.Walked.{IsContent};
+ghost use Rattle.capn_walk.specs.Shapes.{IsContent};
 ghost use Rattle.capn_canon.specs.Patch.{whole};
 ghost use Rattle.capn_canon.specs.Layout.{list_to};
 ghost use Rattle.capn_canon.specs.Opened.{IsOpened};

@@ -3,7 +3,7 @@
 ghost use Rattle.std.specs.Prelude.{◌≡◌, ℕ, ◌+◌, ◌*◌, ◌^◌, ◌<◌, ◌≤◌, length, Ok, OnOk};
 ghost use Rattle.capn_words.specs.Message.{IsMessage, IsPlace};
 ghost use Rattle.capn_walk.specs.Target as spec;
-ghost use Rattle.capn_walk.specs.Walked.{IsContent, RowsFit, extent};
+ghost use Rattle.capn_walk.specs.Shapes.{IsContent, RowsFit, extent};
 ghost use Rattle.capn_canon.specs.Ready.{IsReady, IsReadyInside, AreReady, IsLaid, IsLaidInside, AreLaid};
 ghost use Rattle.capn_canon.specs.RowWords.{RowsReady, RowsLaid};
 

@@ -19,10 +19,10 @@ use Rattle.capn_stream.specs.Laws.FrameLaws as frame_laws
 use Rattle.capn_value.specs.Text.{show_text}
 use Rattle.capn_value.specs.Tree.{Tree}
 use Rattle.capn_value.specs.Caps.{first_cap}
-use Rattle.capn_walk.specs.Accepted.{root}
+use Rattle.capn_walk.specs.Stops.{root}
 use Rattle.capn_walk.specs.declared.walked.Stopped.{Stopped}
 use Rattle.capn_walk.specs.Limits.{Bounds}
-use Rattle.capn_walk.specs.Denotes.{IsValueOf}
+use Rattle.capn_walk.specs.Accepted.{IsValueOf}
 use Rattle.capn_walk.specs.Laws.Unique.{unique}
 use Rattle.capn_canon.specs.Layout.{canon}
 use Rattle.capn_canon.specs.Answers.{Answers}

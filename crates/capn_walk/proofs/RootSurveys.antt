@@ -16,10 +16,10 @@ use Rattle.capn_walk.specs.declared.walked.Stopped.{Stopped}
 use Rattle.capn_walk.specs.Target.{target}
 use Rattle.capn_walk.specs.Visits.{Visit, pays, visits, visits_of}
 use Rattle.capn_walk.specs.Verdict.{judge, after, accepted, refused}
-use Rattle.capn_walk.specs.Accepted.{root, may_be_root}
-use Rattle.capn_walk.specs.Denotes.{IsValueOf, visits_within}
+use Rattle.capn_walk.specs.Stops.{root, may_be_root}
+use Rattle.capn_walk.specs.Accepted.{IsValueOf, visits_within}
 use Rattle.capn_walk.specs.Limits.{Bounds}
-use Rattle.capn_walk.specs.Walked.{Gives, Refuses}
+use Rattle.capn_walk.specs.Verdict.{Gives, Refuses}
 use Rattle.capn_walk.specs.Frames.{places_of, owed, HasRows}
 use Rattle.capn_walk.specs.Surveyed.{cap_of, first_cap_of, IsSurvey}
 use Rattle.capn_walk.proofs.Framing.{nothing-left}

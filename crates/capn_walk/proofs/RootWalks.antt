@@ -12,12 +12,12 @@ use Rattle.capn_walk.specs.declared.target.Fault.TheVariants as faults
 use Rattle.capn_walk.specs.declared.walked.Stopped.{Stopped}
 use Rattle.capn_walk.specs.Target.{target}
 use Rattle.capn_walk.specs.Visits.{Visit, fails, visits}
-use Rattle.capn_walk.specs.Accepted.{IsStop, root, may_be_root, visits_at_root, root_visits}
+use Rattle.capn_walk.specs.Stops.{IsStop, root, may_be_root, visits_at_root, root_visits}
 use Rattle.capn_walk.specs.At.{IsAt}
-use Rattle.capn_walk.specs.Denotes.{IsAccepted, IsValueOf, IsRefused, visits_within, paid, number_of_visits}
+use Rattle.capn_walk.specs.Accepted.{IsAccepted, IsValueOf, IsRefused, visits_within, paid, number_of_visits}
 use Rattle.capn_walk.specs.Limits.{Bounds}
 use Rattle.capn_walk.specs.Verdict.{refused, judge}
-use Rattle.capn_walk.specs.Walked.{Gives, Refuses}
+use Rattle.capn_walk.specs.Verdict.{Gives, Refuses}
 use Rattle.capn_walk.specs.Laws.Stops.{accepted-within, refused-stop, never-both}
 use Rattle.capn_walk.specs.Laws.Walks.{visits-fault}
 use Rattle.capn_walk.specs.Laws.Unique.{unique}

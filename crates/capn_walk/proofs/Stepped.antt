@@ -16,16 +16,16 @@ use Rattle.capn_words.specs.declared.pointer.Width.{Width}
 use Rattle.capn_words.specs.declared.pointer.Width.TheVariants.{W0, W1, W8, W16, W32, W64, Link, Rows}
 use Rattle.capn_words.specs.Pointers.{field}
 use Rattle.capn_walk.specs.Target.{moved, tagged, within, list, list_from, struct_from, near, target}
-use Rattle.capn_walk.specs.Walked.{IsPlain, AreNumbers}
+use Rattle.capn_walk.specs.Shapes.{IsPlain, AreNumbers}
 use Rattle.capn_walk.specs.Surveyed.{cap_of}
 use Rattle.std.specs.Bool.{⊤}
 use Rattle.std.specs.Result.{IfOk, IfErr, MatchResult}
 use Rattle.capn_walk.specs.Visits.{Visit, pays, price, visits, visits_of}
 use Rattle.capn_walk.specs.Verdict.{judge, refused}
 use Rattle.capn_walk.specs.Viewed.{stepped, rooted, stepped_to_root, IsEntered, toll, slots_below}
-use Rattle.capn_walk.specs.Walked.{Refuses}
+use Rattle.capn_walk.specs.Verdict.{Refuses}
 use Rattle.capn_walk.specs.declared.walked.Stopped.{Stopped}
-use Rattle.capn_walk.specs.Accepted.{IsWithin, paid_of, root, may_be_root}
+use Rattle.capn_walk.specs.Stops.{IsWithin, paid_of, root, may_be_root}
 use Rattle.capn_walk.specs.Laws.Costs.{paid-append, all-front, all-back}
 use Rattle.capn_walk.specs.Laws.Stops.{within-accepted}
 use Rattle.capn_walk.specs.Laws.Judge.{judge-over}

@@ -18,7 +18,7 @@ use Rattle.capn_walk.specs.Visits.{Visit, pays, visits, visits_of}
 use Rattle.capn_walk.specs.Verdict.{accepted, refused, after, judge}
 use Rattle.capn_walk.specs.Frames.{places_of, owed, owed_by, Lies, AllLie, AreShallow, visits_left}
 use Rattle.capn_walk.specs.Surveyed.{cap_of, first_cap_of}
-use Rattle.capn_walk.specs.Walked.{Gives, Refuses}
+use Rattle.capn_walk.specs.Verdict.{Gives, Refuses}
 use Rattle.capn_walk.specs.Frames.{HasRows}
 use Rattle.capn_walk.proofs.Framing.{nothing-left}
 use Rattle.capn_walk.specs.Laws.Judge.{judge-stops, judge-pays, after-after, after-none}

@@ -26,11 +26,11 @@ use Rattle.capn_walk.specs.declared.target.Fault.{Fault}
 use Rattle.capn_walk.specs.declared.target.Fault.TheVariants as faults
 use Rattle.capn_walk.specs.Target.{target}
 use Rattle.capn_walk.specs.Visits.{Visit}
-use Rattle.capn_walk.specs.Accepted.{IsWithin, IsStop}
+use Rattle.capn_walk.specs.Stops.{IsWithin, IsStop}
 use Rattle.capn_walk.specs.At.{IsAt, AreAt, RowsAt}
 use Rattle.capn_walk.specs.Limits.{Bounds}
-use Rattle.capn_walk.specs.Denotes.{IsAccepted, IsValueOf, IsRefused, paid}
-use Rattle.capn_walk.specs.Walked.{IsInside}
+use Rattle.capn_walk.specs.Accepted.{IsAccepted, IsValueOf, IsRefused, paid}
+use Rattle.capn_walk.specs.At.{IsInside}
 use Rattle.capn_walk.specs.Viewed.{IsInMessage}
 use Rattle.capn_walk.specs.Ways.{OneOfThree}
 

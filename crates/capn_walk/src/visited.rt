@@ -6,7 +6,7 @@ ghost use Rattle.capn_value.specs.Sizes.{most_cost};
 ghost use Rattle.capn_walk.specs.Target as spec;
 ghost use Rattle.capn_walk.specs.Visits.{pays, visits, visits_of};
 ghost use Rattle.capn_walk.specs.Verdict.{judge, refused};
-ghost use Rattle.capn_walk.specs.Walked.{IsPlain, AreNumbers};
+ghost use Rattle.capn_walk.specs.Shapes.{IsPlain, AreNumbers};
 ghost use Rattle.capn_walk.specs.Frames.{places_of, owed, Lies};
 ghost use Rattle.capn_walk.specs.Surveyed as told;
 ghost use Rattle.capn_walk.specs.declared.target.Fault.TheVariants.{Memory};

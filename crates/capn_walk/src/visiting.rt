@@ -10,7 +10,9 @@ ghost use Rattle.capn_walk.specs.Visits.{places, row_places, slots, visits, visi
 ghost use Rattle.capn_walk.specs.At.{IsAt, AreAt, RowsAt};
 ghost use Rattle.capn_walk.specs.declared.target.Fault.TheVariants.{Memory};
 ghost use Rattle.capn_walk.specs.Viewed.{IsEntered, stepped};
-ghost use Rattle.capn_walk.specs.Walked.{Gives, Refuses, IsInside, IsContent, RowsFit, extent, slot_count};
+ghost use Rattle.capn_walk.specs.Verdict.{Gives, Refuses};
+ghost use Rattle.capn_walk.specs.At.{IsInside};
+ghost use Rattle.capn_walk.specs.Shapes.{IsContent, RowsFit, extent, slot_count};
 
 use crate::content::segment_length;
 use crate::found::{Found, FoundRows, FoundSlots};

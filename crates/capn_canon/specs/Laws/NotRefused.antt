@@ -11,8 +11,8 @@ use Rattle.capn_value.specs.Tree.{Tree}
 use Rattle.capn_value.specs.Caps.{first_cap}
 use Rattle.capn_walk.specs.declared.walked.Stopped.{Stopped}
 use Rattle.capn_walk.specs.Verdict.{accepted, refused}
-use Rattle.capn_walk.specs.Denotes.{IsAccepted}
-use Rattle.capn_walk.specs.Denotes as walks
+use Rattle.capn_walk.specs.Accepted.{IsAccepted}
+use Rattle.capn_walk.specs.Accepted as walks
 use Rattle.capn_walk.specs.Limits.{Bounds}
 use Rattle.capn_walk.specs.Laws.Stops.{within-accepted, stop-refused}
 use Rattle.capn_canon.specs.declared.form.Form.{Form}

@@ -17,7 +17,7 @@ use Rattle.capn_words.specs.Pointers.{field}
 use Rattle.capn_walk.specs.Target.{moved, tagged, within, list, struct, struct_from, list_from, near, second_pad}
 use Rattle.capn_walk.specs.Target.{is_second_pad, two_pads, pointer_in, landing, named, target}
 use Rattle.capn_walk.specs.Visits.{price}
-use Rattle.capn_walk.specs.Walked.{extent, slot_count, RowsFit}
+use Rattle.capn_walk.specs.Shapes.{extent, slot_count, RowsFit}
 use Rattle.capn_words.specs.Laws.FieldBits.{pick}
 
 module _ (m : List (List ℕ)) where

@@ -17,9 +17,9 @@ use Rattle.capn_words.specs.Pointers.{field}
 use Rattle.capn_walk.specs.Target.{moved, tagged, within, list, struct, struct_from, list_from, near, second_pad}
 use Rattle.capn_walk.specs.Target.{is_second_pad, two_pads, pointer_in, landing, named, target}
 use Rattle.capn_walk.specs.Visits.{Visit, pays, fails, last_visit, visit, visits, slots}
-use Rattle.capn_walk.specs.Accepted.{Ends, paid_of, root, may_be_root, visits_at_root, root_visits}
+use Rattle.capn_walk.specs.Stops.{Ends, paid_of, root, may_be_root, visits_at_root, root_visits}
 use Rattle.capn_walk.specs.Limits.{Bounds}
-use Rattle.capn_walk.specs.Denotes.{IsRefused}
+use Rattle.capn_walk.specs.Accepted.{IsRefused}
 use Rattle.capn_value.specs.Sizes.{base}
 use Rattle.capn_words.specs.Laws.FieldBits.{pick}
 

@@ -20,7 +20,9 @@ use Rattle.capn_walk.specs.Target.{target}
 use Rattle.capn_walk.specs.Visits.{Visit, pays, fails, price, places, slots, visits, visit, last_visit}
 use Rattle.capn_walk.specs.Verdict.{accepted, refused, after, judge}
 use Rattle.capn_walk.specs.At.{IsAt, AreAt, RowsAt, words_from}
-use Rattle.capn_walk.specs.Walked.{Gives, Refuses, IsInside, slot_count}
+use Rattle.capn_walk.specs.Verdict.{Gives, Refuses}
+use Rattle.capn_walk.specs.At.{IsInside}
+use Rattle.capn_walk.specs.Shapes.{slot_count}
 use Rattle.capn_walk.specs.Laws.Inside.{inside, slots-price}
 use Rattle.capn_walk.specs.Laws.Judge.{judge-more, judge-stops, judge-pays, judge-over}
 

@@ -3,8 +3,8 @@ use Rattle.std.proofs.Common.{MatchResult}
 use Rattle.capn_words.specs.Message.{bytes_at, segment_at}
 use Rattle.capn_value.specs.Caps.{first_cap}
 use Rattle.capn_value.specs.Tree.{Tree}
-use Rattle.capn_walk.specs.Accepted.{root}
-use Rattle.capn_walk.specs.Denotes.{IsValueOf}
+use Rattle.capn_walk.specs.Stops.{root}
+use Rattle.capn_walk.specs.Accepted.{IsValueOf}
 use Rattle.capn_canon.specs.Answers.{AnswersMessage}
 use Rattle.capn_canon.specs.Layout.{canon}
 use Rattle.capn_canon.specs.Refused.{IsRefusedMessage}

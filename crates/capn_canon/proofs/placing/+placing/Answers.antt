@@ -8,7 +8,7 @@ use Rattle.capn_value.specs.Sizes.{height}
 use Rattle.capn_walk.specs.Target.{target}
 use Rattle.capn_walk.specs.declared.target.Shape.{Shape}
 use Rattle.capn_walk.specs.declared.target.Shape.TheVariants as shapes
-use Rattle.capn_walk.specs.Walked.{IsContent, RowsFit, extent}
+use Rattle.capn_walk.specs.Shapes.{IsContent, RowsFit, extent}
 use Rattle.capn_walk.specs.Laws.RowWalks.{row-inside}
 use Rattle.capn_walk.specs.Laws.Segments.{segment-room}
 use Rattle.capn_walk.specs.Laws.Inside.{inside}

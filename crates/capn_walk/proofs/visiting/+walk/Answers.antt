@@ -10,7 +10,7 @@ use Rattle.capn_walk.specs.Viewed.{stepped, IsEntered}
 use Rattle.capn_walk.specs.declared.target.Target.{Target}
 use Rattle.capn_walk.specs.declared.target.Target.TheVariants as targets
 use Rattle.capn_walk.specs.declared.walked.Stopped.{Stopped}
-use Rattle.capn_walk.specs.Walked.{IsContent, extent, slot_count}
+use Rattle.capn_walk.specs.Shapes.{IsContent, extent, slot_count}
 use Rattle.capn_walk.specs.Laws.Inside.{inside, slots-price}
 use Rattle.capn_walk.specs.Laws.Present.{present}
 use Rattle.capn_walk.specs.Laws.Segments.{segment-room}
