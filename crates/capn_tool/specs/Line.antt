@@ -1,4 +1,4 @@
--- The command line: each subcommand with its options, their ranges and their usual values (Own.).
+-- The command line: each subcommand with its options, their ranges and their usual values. (Own.)
 use Rattle.std.specs.Prelude.{ℕ, pos, Some, codes, [], ◌∷◌, true}
 use Rattle.capn_words.specs.Limits.{most_message_words}
 use Rattle.capn_value.specs.Sizes.{most_cost, most_height}

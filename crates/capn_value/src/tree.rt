@@ -144,7 +144,7 @@ pub fn copy<A: Allocator + Copy, B: Allocator>(alloc: A, tree: &Tree<B>) -> Resu
 }
 
 /// The text of the tree, as it was read and not trimmed: a line for each value and each data word, indented
-/// by two spaces a level (Own.).
+/// by two spaces a level. (Own.)
 ///
 /// Answers `Memory` only where a growth was refused, and takes one string.
 #[tactic(auto, using(crate::specs::Laws::Fitting::fit_parts))]

@@ -50,7 +50,7 @@ pub struct Body<A: Allocator = Global> {
 /// The index of the first capability in preorder; `None` if there is none.
 ///
 /// Preorder: a value, then what its slots, rows or elements hold, in order, each with all below it before the
-/// next (Own.). Takes no memory.
+/// next. (Own.) Takes no memory.
 #[cycle(first_cap)]
 pub fn first_cap<A: Allocator>(v: &Value<A>) -> Option<u32>
     ensures { result ≡ caps.first_cap (tree_of v.now) }
