@@ -12,6 +12,7 @@ pub mod Segments
 pub mod Stops
 pub mod Unique
 pub mod Walks
+pub mod Ways
 use Rattle.std.specs.Prelude.{◌≡◌, ◌≢◌, ◌↔◌, ◌⊎◌, ℕ, ◌≤◌, List, length, Ok}
 use Rattle.capn_words.specs.Message.{IsMessage, IsPlace, segment_at}
 use Rattle.capn_words.specs.declared.space.Place.{Place}
