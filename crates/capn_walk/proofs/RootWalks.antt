@@ -58,11 +58,6 @@ module _ (m : List (List ℕ)) where
 
   -- ---- refusals before the root's price
 
-  pub no-root : (t : Stopped) (limits : Bounds) → length (segment_at m 0) ≡ 0
-      → t ≡ record { fault = faults.NoRoot; place = root; paid = 0; visits = 0 } →
-      IsRefused m limits t.fault t.place t.paid t.visits
-  no-root t limits none e = rw e (inl (none, refl, refl, refl, refl))
-
   at-once : (t : Stopped) (f : Fault) (limits : Bounds) → 0 < length (segment_at m 0)
       → visits_within m limits ≡ fails root f ∷ [] →
       t ≡ record { fault = f; place = root; paid = 0; visits = 1 } → IsRefused m limits t.fault t.place t.paid t.visits

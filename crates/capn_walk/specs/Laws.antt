@@ -13,8 +13,8 @@ pub mod Stops
 pub mod Unique
 pub mod Walks
 pub mod Ways
-use Rattle.std.specs.Prelude.{◌≡◌, ◌≢◌, ◌↔◌, ◌⊎◌, ℕ, ◌≤◌, List, length, Ok}
-use Rattle.capn_words.specs.Message.{IsMessage, IsPlace, segment_at}
+use Rattle.std.specs.Prelude.{◌≡◌, ◌≢◌, ◌↔◌, ◌⊎◌, ℕ, ◌≤◌, List, Ok}
+use Rattle.capn_words.specs.Message.{IsMessage, IsPlace}
 use Rattle.capn_words.specs.declared.space.Place.{Place}
 use Rattle.capn_value.specs.Tree.{Tree, Trees, Bodies, count, count_rows}
 use Rattle.capn_value.specs.Fits.{Fits}

@@ -73,10 +73,6 @@ module _ (m : List (List ℕ)) (base : ℕ) where
       let f = rw o at h in
       record { deep = omega arith; below = f; sum = ap paid_of o }
 
-  slots-behind : (f : Place → List Visit) (p : Place) (ps : List Place) → AllPay (flat_map f (p ∷ ps)) → AllPay (f p)
-      × AllPay (flat_map f ps)
-  slots-behind f p ps h = (all-front (f p) (flat_map f ps) h, all-back (f p) (flat_map f ps) h)
-
   mutual
     pub cost-paid : (v : Tree) (at : Place) (d : ℕ) → IsAt m at v → AllPay (visits m base d at)
         → (cost base v ≤ paid_of (visits m base d at)) × (height v ≤ d)

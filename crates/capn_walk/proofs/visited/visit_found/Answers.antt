@@ -1,7 +1,7 @@
 use Rattle.std.proofs.Common.{◌∙◌, ap, sym}
 use Rattle.capn_walk.specs.Verdict.{judge}
 use Rattle.capn_walk.specs.Viewed.{stepped}
-use Rattle.capn_walk.specs.Laws.Plain.{never-memory}
+use Rattle.capn_walk.specs.Laws.Ways.{never-memory}
 use Rattle.capn_walk.proofs.SeenInside.{found-inside}
 use Rattle.capn_walk.proofs.Stepped.{step-pays, step-stops}
 use Rattle.capn_walk.specs.Laws.Walks.{visits-fault}
