@@ -1,6 +1,6 @@
 //! The numbers that a word holds.
 
-ghost use Rattle.std.specs.Prelude.{◌≡◌, ◌<◌, ◌*◌, ◌/◌, ◌%◌, ◌^◌};
+ghost use Rattle.std.specs.Prelude.{◌≡◌, ◌<◌};
 ghost use Rattle.capn_walk.specs.Viewed as seen;
 
 use capn_words::Width;

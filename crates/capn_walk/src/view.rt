@@ -1,15 +1,14 @@
 //! A message read in place, step by step.
 
-ghost use Rattle.std.specs.Prelude.{◌≡◌, ◌≢◌, ℕ, ◌<◌, ◌≤◌, ◌+◌, ◌-◌, ◌*◌, ◌/◌, ◌%◌, ◌^◌, Ok, Err, length, slice_index};
+ghost use Rattle.std.specs.Prelude.{◌≡◌, ◌<◌, ◌-◌, Ok, Err, length, slice_index};
 ghost use Rattle.std.specs.Prelude.{IfOk, IfErr, IfSome, IsSome, OnErr, MatchResult, ◌↔◌};
-ghost use Rattle.capn_words.specs.Message.{segment_at, IsMessage, IsPlace};
+ghost use Rattle.capn_words.specs.Message.{IsMessage, IsPlace};
 ghost use Rattle.capn_value.specs.Sizes.{base};
 ghost use Rattle.capn_walk.specs.Account.{with_paid, left_of};
 ghost use Rattle.capn_walk.specs.Target as spec;
 ghost use Rattle.capn_walk.specs.At.{AreElements};
 ghost use Rattle.capn_walk.specs.Viewed as seen;
 ghost use Rattle.capn_walk.specs.declared.kind.Kind.TheVariants as kinds;
-ghost use Rattle.capn_walk.specs.declared.target.Fault.TheVariants.{Memory};
 
 use crate::content::segment_length;
 use crate::digits::{digit, per_word};
