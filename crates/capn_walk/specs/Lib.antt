@@ -6,6 +6,7 @@ pub mod Accepted
 pub mod Limits
 pub mod Shapes
 pub mod Verdict
+pub mod Outcomes
 pub mod Frames
 pub mod Surveyed
 pub mod Account

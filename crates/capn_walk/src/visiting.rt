@@ -1,17 +1,12 @@
 //! The visits of slots, in preorder: what each denotes, what was paid, and how many there were.
 
-ghost use Rattle.std.specs.Prelude.{◌≡◌, ℕ, ◌<◌, ◌≤◌, ◌+◌, ◌*◌, Ok, length, IfOk, IfErr};
+ghost use Rattle.std.specs.Prelude.{◌≡◌, ◌≤◌, ◌+◌, ◌*◌, Ok, length, IfErr};
 ghost use Rattle.capn_words.specs.Message.{segment_at, IsMessage, IsPlace};
-ghost use Rattle.capn_value.specs.View.{tree_of, trees_of, rows_of};
-ghost use Rattle.capn_value.specs.Tree.{count as count_trees, count_rows};
 ghost use Rattle.capn_value.specs.Sizes.{most_cost};
 ghost use Rattle.capn_walk.specs.Target as spec;
-ghost use Rattle.capn_walk.specs.Visits.{places, row_places, slots, visits, visits_of};
-ghost use Rattle.capn_walk.specs.At.{IsAt, AreAt, RowsAt};
 ghost use Rattle.capn_walk.specs.declared.target.Fault.TheVariants.{Memory};
 ghost use Rattle.capn_walk.specs.Viewed.{IsEntered, stepped};
-ghost use Rattle.capn_walk.specs.Verdict.{Gives, Refuses};
-ghost use Rattle.capn_walk.specs.At.{IsInside};
+ghost use Rattle.capn_walk.specs.Outcomes.{Walks, WalksObject, WalksRows, WalksSlots};
 ghost use Rattle.capn_walk.specs.Shapes.{IsContent, RowsFit, extent, slot_count};
 
 use crate::content::segment_length;
@@ -41,9 +36,7 @@ fn walk_slot<S: Space, A: Allocator + Copy>(
     requires message { IsMessage (S.message space.now) }
     requires place { IsPlace (S.message space.now) at }
     requires left { left ≤ most_cost }
-    ensures pays { IfOk result (λ f. Gives left (visits (S.message space.now) base depth at) 1 f.paid f.visits) }
-    ensures value { IfOk result (λ f. IsAt (S.message space.now) at (tree_of f.value)) }
-    ensures refused { IfErr result (λ s. Refuses left (visits (S.message space.now) base depth at) 1 s) }
+    ensures { Walks (S.message space.now) base depth left at result }
 {
     let pointer = pointer_at(space, at.segment, at.word);
     match pointer {
@@ -76,9 +69,7 @@ fn walk_near<S: Space, A: Allocator + Copy>(
     requires pointer { spec.near (S.message space.now) at.segment at.word 0 pointer
         ≡ spec.target (S.message space.now) at }
     requires left { left ≤ most_cost }
-    ensures pays { IfOk result (λ f. Gives left (visits (S.message space.now) base depth at) 1 f.paid f.visits) }
-    ensures value { IfOk result (λ f. IsAt (S.message space.now) at (tree_of f.value)) }
-    ensures refused { IfErr result (λ s. Refuses left (visits (S.message space.now) base depth at) 1 s) }
+    ensures { Walks (S.message space.now) base depth left at result }
 {
     let size = segment_length(space, at.segment);
     match near(space, at.segment, size, at.word, 0, pointer) {
@@ -102,9 +93,7 @@ fn walk_elsewhere<S: Space, A: Allocator + Copy>(
     requires message { IsMessage (S.message space.now) }
     requires place { IsPlace (S.message space.now) at }
     requires left { left ≤ most_cost }
-    ensures pays { IfOk result (λ f. Gives left (visits (S.message space.now) base depth at) 1 f.paid f.visits) }
-    ensures value { IfOk result (λ f. IsAt (S.message space.now) at (tree_of f.value)) }
-    ensures refused { IfErr result (λ s. Refuses left (visits (S.message space.now) base depth at) 1 s) }
+    ensures { Walks (S.message space.now) base depth left at result }
 {
     match resolve(space, at) {
         Ok(target) => walk_target(alloc, space, at, target, depth, left, base),
@@ -129,9 +118,7 @@ pub fn walk_target<S: Space, A: Allocator + Copy>(
     requires place { IsPlace (S.message space.now) at }
     requires target { spec.target (S.message space.now) at ≡ Ok target }
     requires left { left ≤ most_cost }
-    ensures pays { IfOk result (λ f. Gives left (visits (S.message space.now) base depth at) 1 f.paid f.visits) }
-    ensures value { IfOk result (λ f. IsAt (S.message space.now) at (tree_of f.value)) }
-    ensures refused { IfErr result (λ s. Refuses left (visits (S.message space.now) base depth at) 1 s) }
+    ensures answer { Walks (S.message space.now) base depth left at result }
     // Memory is wanted for content only, and only once its price is paid.
     ensures wanted { IfErr result (λ s. s.fault ≡ Memory → IsEntered (stepped base depth left (Ok target))) }
 {
@@ -192,14 +179,7 @@ fn object<S: Space, A: Allocator + Copy>(
     requires rows { RowsFit shape }
     requires left { left ≤ most_cost }
     requires count { slot_count shape ≤ most_cost }
-    ensures pays { IfOk result (λ f. Gives left
-        (visits_of (S.message space.now) base depth (slots start.segment start.word shape))
-        (slot_count shape) f.paid f.visits) }
-    ensures value { IfOk result (λ f.
-        IsInside (S.message space.now) shape start.segment start.word (tree_of f.value)) }
-    ensures refused { IfErr result (λ s. Refuses left
-        (visits_of (S.message space.now) base depth (slots start.segment start.word shape))
-        (slot_count shape) s) }
+    ensures { WalksObject (S.message space.now) base depth left shape start result }
 {
     match shape {
         Shape::Node { words, slots } => {
@@ -277,13 +257,7 @@ fn walk_slots<S: Space, A: Allocator + Copy>(
     requires message { IsMessage (S.message space.now) }
     requires inside { start + count ≤ length (segment_at (S.message space.now) segment) }
     requires left { left ≤ most_cost }
-    ensures pays { IfOk result (λ f. Gives left
-        (visits_of (S.message space.now) base depth (places segment start count))
-        count f.paid f.visits) }
-    ensures value { IfOk result (λ f. AreAt (S.message space.now) segment start (trees_of f.items)) }
-    ensures number { IfOk result (λ f. count_trees (trees_of f.items) ≡ count) }
-    ensures refused { IfErr result (λ s. Refuses left
-        (visits_of (S.message space.now) base depth (places segment start count)) count s) }
+    ensures { WalksSlots (S.message space.now) base depth left segment start count result }
 {
     let Ok(mut slots) = Vec::with_capacity(alloc, count as usize) else {
         return Err(out_of_memory(Place {
@@ -333,17 +307,7 @@ fn walk_rows<S: Space, A: Allocator + Copy>(
     requires content { IsContent (S.message space.now) start (count * (words + slots)) }
     requires left { left ≤ most_cost }
     requires count { count * slots ≤ most_cost }
-    ensures pays { IfOk result (λ f. Gives left
-        (visits_of (S.message space.now) base depth
-        (row_places start.segment start.word words slots count))
-        (count * slots) f.paid f.visits) }
-    ensures value { IfOk result (λ f.
-        RowsAt (S.message space.now) words slots start.segment start.word (rows_of f.rows)) }
-    ensures number { IfOk result (λ f. count_rows (rows_of f.rows) ≡ count) }
-    ensures refused { IfErr result (λ s. Refuses left
-        (visits_of (S.message space.now) base depth
-        (row_places start.segment start.word words slots count))
-        (count * slots) s) }
+    ensures { WalksRows (S.message space.now) base depth left start words slots count result }
 {
     let segment = start.segment;
     let Ok(mut rows) = Vec::with_capacity(alloc, count as usize) else {
