@@ -23,7 +23,8 @@ module _ {A : Type 0} (message : List (List ℕ)) (base depth left : ℕ) where
   -- an object of a shape, whose own price has been paid: the value inside it
   abbrev pub WalksObject : Shape → Place → Result (Found A) Stopped → Type 0
   WalksObject shape start (Ok f) =
-      Gives left (visits_of message base depth (slots start.segment start.word shape)) (slot_count shape) f.paid f.visits
+      Gives left (visits_of message base depth (slots start.segment start.word shape))
+      (slot_count shape) f.paid f.visits
       × IsInside message shape start.segment start.word (tree_of f.value)
   WalksObject shape start (Err s) =
       Refuses left (visits_of message base depth (slots start.segment start.word shape)) (slot_count shape) s

@@ -9,7 +9,7 @@ ghost use Rattle.capn_walk.specs.Viewed.{IsEntered, stepped};
 ghost use Rattle.capn_walk.specs.Outcomes.{Walks, WalksObject, WalksRows, WalksSlots};
 ghost use Rattle.capn_walk.specs.Shapes.{IsContent, RowsFit, extent, slot_count};
 
-use crate::content::segment_length;
+use crate::content::{place, segment_length};
 use crate::found::{Found, FoundRows, FoundSlots};
 use crate::lists::{list_at, words_at};
 use crate::resolving::{near, pointer_at, resolve};
@@ -23,7 +23,6 @@ use std::alloc::Allocator;
 /// What a slot denotes, at most `depth` objects deep, where `left` words are left to pay and each content costs `base`
 /// beside its size. Near structs and near lists have an arm each, so that each is compiled for its form alone.
 #[cycle(walk)]
-#[tactic(auto, using(std::proofs::lemmas::Grind::common_steps))]
 #[inline(always)]
 fn walk_slot<S: Space, A: Allocator + Copy>(
     alloc: A,
@@ -53,7 +52,6 @@ fn walk_slot<S: Space, A: Allocator + Copy>(
 
 /// The same of a slot whose pointer names content that stands near.
 #[cycle(walk)]
-#[tactic(auto, using(std::proofs::lemmas::Grind::common_steps))]
 #[inline(always)]
 fn walk_near<S: Space, A: Allocator + Copy>(
     alloc: A,
@@ -80,7 +78,6 @@ fn walk_near<S: Space, A: Allocator + Copy>(
 
 /// The same of a slot, whatever it names.
 #[cycle(walk)]
-#[tactic(auto, using(std::proofs::lemmas::Grind::common_steps))]
 #[inline(never)]
 fn walk_elsewhere<S: Space, A: Allocator + Copy>(
     alloc: A,
@@ -103,7 +100,6 @@ fn walk_elsewhere<S: Space, A: Allocator + Copy>(
 
 /// What a slot denotes whose target is known. Its price is paid before anything of its content is read.
 #[cycle(walk)]
-#[tactic(auto, using(std::proofs::lemmas::Grind::common_steps))]
 #[inline(always)]
 pub fn walk_target<S: Space, A: Allocator + Copy>(
     alloc: A,
@@ -135,25 +131,10 @@ pub fn walk_target<S: Space, A: Allocator + Copy>(
                 Ok(price) => price,
                 Err(fault) => return Err(stop(fault, at)),
             };
-            let start = Place {
-                segment,
-                word: start,
-            };
-            match object(
-                alloc,
-                space,
-                at,
-                start,
-                shape,
-                depth - 1,
-                left - price,
-                base,
-            ) {
-                Ok(found) => Ok(Found {
-                    value: found.value,
-                    paid: price + found.paid,
-                    visits: 1 + found.visits,
-                }),
+            let start = place(segment, start);
+            let left = left - price;
+            match object(alloc, space, at, start, shape, depth - 1, left, base) {
+                Ok(found) => Ok(found.behind(price, 1)),
                 Err(stopped) => Err(stopped.behind(price, 1)),
             }
         }
@@ -162,7 +143,6 @@ pub fn walk_target<S: Space, A: Allocator + Copy>(
 
 /// The object of the slot at a place, with what is below it. Its own price has been paid.
 #[cycle(walk)]
-#[tactic(auto, using(std::proofs::lemmas::Grind::common_steps))]
 #[inline(always)]
 fn object<S: Space, A: Allocator + Copy>(
     alloc: A,
@@ -181,47 +161,28 @@ fn object<S: Space, A: Allocator + Copy>(
     requires count { slot_count shape ≤ most_cost }
     ensures { WalksObject (S.message space.now) base depth left shape start result }
 {
+    let segment = start.segment;
     match shape {
         Shape::Node { words, slots } => {
             let first = start.word + words as u32;
             let Ok(words) = words_at(alloc, space, start, words as u32) else {
                 return Err(out_of_memory(at));
             };
-            let below = walk_slots(
-                alloc,
-                space,
-                start.segment,
-                first,
-                slots as u32,
-                depth,
-                left,
-                base,
-            )?;
+            let count = slots as u32;
+            let below = walk_slots(alloc, space, segment, first, count, depth, left, base)?;
             Ok(below.into_struct(words))
         }
         Shape::Many { width, count } => match width {
             Width::Link => {
-                let below = walk_slots(
-                    alloc,
-                    space,
-                    start.segment,
-                    start.word,
-                    count,
-                    depth,
-                    left,
-                    base,
-                )?;
+                let first = start.word;
+                let below = walk_slots(alloc, space, segment, first, count, depth, left, base)?;
                 Ok(below.into_list())
             }
             _ => {
                 let Ok(value) = list_at(alloc, space, start, width, count) else {
                     return Err(out_of_memory(at));
                 };
-                Ok(Found {
-                    value,
-                    paid: 0,
-                    visits: 0,
-                })
+                Ok(Found::without_slots(value))
             }
         },
         Shape::Rows {
@@ -230,10 +191,7 @@ fn object<S: Space, A: Allocator + Copy>(
             slots,
             span: _,
         } => {
-            let first = Place {
-                segment: start.segment,
-                word: start.word + 1,
-            };
+            let first = place(segment, start.word + 1);
             let below = walk_rows(alloc, space, first, count, words, slots, depth, left, base)?;
             Ok(below.into_list())
         }
@@ -242,7 +200,6 @@ fn object<S: Space, A: Allocator + Copy>(
 
 /// So many slots that stand one behind the other.
 #[cycle(walk)]
-#[tactic(auto, using(std::proofs::lemmas::Grind::common_steps))]
 #[inline(never)]
 fn walk_slots<S: Space, A: Allocator + Copy>(
     alloc: A,
@@ -260,18 +217,12 @@ fn walk_slots<S: Space, A: Allocator + Copy>(
     ensures { WalksSlots (S.message space.now) base depth left segment start count result }
 {
     let Ok(mut slots) = Vec::with_capacity(alloc, count as usize) else {
-        return Err(out_of_memory(Place {
-            segment,
-            word: start,
-        }));
+        return Err(out_of_memory(place(segment, start)));
     };
     let mut paid = 0;
     let mut visits = 0;
     for i in 0..count {
-        let at = Place {
-            segment,
-            word: start + i,
-        };
+        let at = place(segment, start + i);
         match walk_slot(alloc, space, at, depth, left - paid, base) {
             Ok(found) => {
                 paid += found.paid;
@@ -290,7 +241,6 @@ fn walk_slots<S: Space, A: Allocator + Copy>(
 
 /// So many rows of the same sizes that stand one behind the other.
 #[cycle(walk)]
-#[tactic(auto, using(std::proofs::lemmas::Grind::common_steps))]
 #[inline(never)]
 fn walk_rows<S: Space, A: Allocator + Copy>(
     alloc: A,
@@ -310,6 +260,7 @@ fn walk_rows<S: Space, A: Allocator + Copy>(
     ensures { WalksRows (S.message space.now) base depth left start words slots count result }
 {
     let segment = start.segment;
+    let width = slots as u32;
     let Ok(mut rows) = Vec::with_capacity(alloc, count as usize) else {
         return Err(out_of_memory(start));
     };
@@ -317,24 +268,13 @@ fn walk_rows<S: Space, A: Allocator + Copy>(
     let mut visits = 0;
     let mut next = start.word;
     for i in 0..count {
-        let at = Place {
-            segment,
-            word: next,
-        };
+        let at = place(segment, next);
         let Ok(data) = words_at(alloc, space, at, words as u32) else {
             return Err(out_of_memory(at).behind(paid, visits));
         };
         let first = next + words as u32;
-        match walk_slots(
-            alloc,
-            space,
-            segment,
-            first,
-            slots as u32,
-            depth,
-            left - paid,
-            base,
-        ) {
+        let room = left - paid;
+        match walk_slots(alloc, space, segment, first, width, depth, room, base) {
             Ok(below) => {
                 paid += below.paid;
                 visits += below.visits;
@@ -346,7 +286,7 @@ fn walk_rows<S: Space, A: Allocator + Copy>(
             }
             Err(stopped) => return Err(stopped.behind(paid, visits)),
         }
-        next = first + slots as u32;
+        next = first + width;
     }
     Ok(FoundRows {
         rows: Items::from_vec(rows),

@@ -123,8 +123,8 @@ walk_target-object-requires g t c κs within =
     record { exists = present m c.args.at x.segment x.start x.pads x.shape c.requires.place e; within = i.0 } in
     search rules
 
-pub walk_target-overflow_add-result-in-Ok-object : goal.walk_target-overflow_add-result-in-Ok-object
-walk_target-overflow_add-result-in-Ok-object g t c =
+pub walk_target-behind-requires-clause-visits : goal.walk_target-behind-requires-clause-visits
+walk_target-behind-requires-clause-visits g t c =
     let m = g.S.Space.message c.args.space.now in
     let x = c.in-Content in
     let i = inside m c.args.at x.segment x.start x.pads x.shape (c.requires.target ∙ ap Ok x.is) in
@@ -137,8 +137,9 @@ walk_target-overflow_add-result-in-Ok-object g t c =
     let b = r.few in
     omega arith
 
-pub walk_target-behind-requires-clause-visits : goal.walk_target-behind-requires-clause-visits
-walk_target-behind-requires-clause-visits g t c =
+pub walk_target-behind-requires-in-Err-object-clause-visits
+    : goal.walk_target-behind-requires-in-Err-object-clause-visits
+walk_target-behind-requires-in-Err-object-clause-visits g t c =
     let m = g.S.Space.message c.args.space.now in
     let x = c.in-Content in
     let i = inside m c.args.at x.segment x.start x.pads x.shape (c.requires.target ∙ ap Ok x.is) in
@@ -158,12 +159,14 @@ walk_target-returns-in-Ok-object-clause-answer g t c =
     let p = c.in-Ok.ensures.price in
     let e = c.requires.target ∙ ap Ok x.is in
     let found = c.in-Ok-object.found in
+    let made = c.behind.ensures in
     let k = content-taken c.args.base c.args.depth c.args.left x.segment x.start x.pads x.shape c.in-Ok.ensures.found in
-    let h = rw p at c.in-Ok-object.ensures.0 in (
-      rw p
+    let h = rw (c.place-start.ensures, p) at c.in-Ok-object.ensures.0 in
+    let v = rw c.place-start.ensures at c.in-Ok-object.ensures.1 in (
+      rw (made.paid, made.visits, p)
           (gives-object m c.args.base c.args.at x.segment x.start x.pads x.shape e c.args.left c.args.depth k.0 k.1
           found.paid found.visits h),
-      is-inside m c.args.at x.segment x.start x.pads x.shape (tree_of found.value) e c.in-Ok-object.ensures.1,
+      rw made.value (is-inside m c.args.at x.segment x.start x.pads x.shape (tree_of found.value) e v),
     )
 
 pub walk_target-returns-in-Err-object-clause-answer : goal.walk_target-returns-in-Err-object-clause-answer
@@ -171,11 +174,11 @@ walk_target-returns-in-Err-object-clause-answer g t c =
     let m = g.S.Space.message c.args.space.now in
     let x = c.in-Content in
     let p = c.in-Ok.ensures.price in
+    let e = c.requires.target ∙ ap Ok x.is in
     let k = content-taken c.args.base c.args.depth c.args.left x.segment x.start x.pads x.shape c.in-Ok.ensures.found in
-    let h = rw p at c.in-Err-object.ensures in
-    rw (c.behind.ensures, p)
-    (refuses-object m c.args.base c.args.at x.segment x.start x.pads x.shape (c.requires.target
-    ∙ ap Ok x.is) c.args.left c.args.depth k.0 k.1
+    let h = rw (c.place-start.ensures, p) at c.in-Err-object.ensures in
+    rw (c.behind-in-Err-object.ensures, p)
+    (refuses-object m c.args.base c.args.at x.segment x.start x.pads x.shape e c.args.left c.args.depth k.0 k.1
     c.in-Err-object.stopped h)
 
 pub walk_target-returns-in-Err-object-clause-wanted : goal.walk_target-returns-in-Err-object-clause-wanted
@@ -212,18 +215,20 @@ pub object-returns-in_ok-below-in-Rows : goal.object-returns-in_ok-below-in-Rows
 object-returns-in_ok-below-in-Rows g t c =
     let made = c.into_list-in-Rows.ensures in
     let b = c.in_ok-below-in-Rows in
+    let gives = rw c.place-first.ensures at b.ensures.0 in
+    let at = rw c.place-first.ensures at b.ensures.1 in
     let e : suc c.args.start.word ≡ c.args.start.word + 1 = omega arith in (
-      rw (c.in-Rows.is, made.paid, made.visits) b.ensures.0,
+      rw (c.in-Rows.is, made.paid, made.visits) gives,
       rw made.value
           (inside-rows (g.S.Space.message c.args.space.now) c.args.start.segment c.args.start.word c.args.shape
           c.in-Rows.count c.in-Rows.words c.in-Rows.slots c.in-Rows.span (rows_of b.below.rows)
-          c.in-Rows.is b.ensures.2 (rw e b.ensures.1)),
+          c.in-Rows.is b.ensures.2 (rw e at)),
     )
 
 -- ---- slots
 
-pub walk_slots-overflow_add-at : goal.walk_slots-overflow_add-at
-walk_slots-overflow_add-at g t c =
+pub walk_slots-overflow_add-start : goal.walk_slots-overflow_add-start
+walk_slots-overflow_add-start g t c =
     let room = room-of (g.S.Space.message c.args.space.now) c.args.segment c.requires.message in
     omega arith
 
@@ -234,26 +239,39 @@ walk_slots-returns g t c =
     let same = c.from_vec.ensures in
     (rw (← e) i.pays, rw same i.value, rw same (i.number ∙ e))
 
+pub walk_slots-behind-requires-clause-visits : goal.walk_slots-behind-requires-clause-visits
+walk_slots-behind-requires-clause-visits g t c =
+    let room = room-of (g.S.Space.message c.args.space.now) c.args.segment c.requires.message in
+    let inside = c.requires.inside in
+    let more = c.loop-i-test.true in
+    let small = c.requires.left in
+    let a = c.loop-i.invariant.pays in
+    let b = c.in-Err.ensures in
+    let d = a.within in let e = a.few in let f = b.within in let h = b.few in
+    omega arith
+
 pub walk_slots-returns-in-Err : goal.walk_slots-returns-in-Err
 walk_slots-returns-in-Err g t c =
+    let r = rw c.place-at.ensures at c.in-Err.ensures in
     rw c.behind.ensures
     (refuses-next (visits (g.S.Space.message c.args.space.now) c.args.base c.args.depth) c.args.segment c.args.start
     c.args.left c.loop-i.i c.args.count c.loop-i.paid c.loop-i.visits
-    c.in-Err.stopped c.loop-i-test.true c.loop-i.invariant.pays c.in-Err.ensures)
+    c.in-Err.stopped c.loop-i-test.true c.loop-i.invariant.pays r)
 
 pub walk_slots-loop-i-preserved : goal.walk_slots-loop-i-preserved
 walk_slots-loop-i-preserved g t c =
     let e = c.loop-i.invariant.number in
+    let gives = rw c.place-at.ensures at c.in-Ok-walk_slot.ensures.0 in
+    let at = rw c.place-at.ensures at c.in-Ok-walk_slot.ensures.1 in
     let pushed = c.push_reserved.ensures in
     record {
       pays = gives-next (visits (g.S.Space.message c.args.space.now) c.args.base c.args.depth) c.args.segment
           c.args.start c.args.left c.loop-i.i c.loop-i.paid c.loop-i.visits
-          c.in-Ok-walk_slot.found.paid c.in-Ok-walk_slot.found.visits c.loop-i.invariant.pays
-          c.in-Ok-walk_slot.ensures.0;
+          c.in-Ok-walk_slot.found.paid c.in-Ok-walk_slot.found.visits c.loop-i.invariant.pays gives;
       value = rw pushed.items
           (at-next (g.S.Space.message c.args.space.now) c.args.segment c.args.start c.loop-i.slots.items
           c.in-Ok-walk_slot.found.value
-          c.loop-i.invariant.value (rw e c.in-Ok-walk_slot.ensures.1));
+          c.loop-i.invariant.value (rw e at));
       number = rw pushed.items
           (count-next (g.S.Space.message c.args.space.now) c.loop-i.slots.items c.in-Ok-walk_slot.found.value
           ∙ ap (λ (n : ℕ). n + 1) e);
@@ -310,6 +328,7 @@ pub walk_rows-loop-i-preserved : goal.walk_rows-loop-i-preserved
 walk_rows-loop-i-preserved g t c =
     let e = c.loop-i.invariant.next in
     let n = c.loop-i.invariant.number in
+    let ws = rw c.place-at.ensures at c.in-Ok-words_at.ensures.words in
     let x = c.in-Ok-walk_slots in
     let pushed = c.push_reserved.ensures in
     record {
@@ -319,7 +338,7 @@ walk_rows-loop-i-preserved g t c =
       value = rw pushed.items
           (rows_at-step (g.S.Space.message c.args.space.now) c.args.words c.args.slots c.args.start.segment
           c.args.start.word c.loop-i.next c.loop-i.i c.loop-i.rows.items _
-          c.loop-i.invariant.value n e c.in-Ok-words_at.ensures.number c.in-Ok-words_at.ensures.words x.ensures.2
+          c.loop-i.invariant.value n e c.in-Ok-words_at.ensures.number ws x.ensures.2
           x.ensures.1);
       number = rw pushed.items (count_rows-next (g.S.Space.message c.args.space.now) c.loop-i.rows.items _
           ∙ ap (λ (k : ℕ). k + 1) n);
