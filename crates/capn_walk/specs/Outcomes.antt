@@ -1,6 +1,6 @@
--- What the walk's inner functions answer, by cases: what they found, with what it pays and its visits, or a refusal. No
--- public clause cites this.
-use Rattle.std.specs.Prelude.{◌≡◌, ℕ, ◌*◌, List, Result, Ok, Err}
+-- What the inner functions of surveys and walks answer, by cases: what they found, with what it pays and its visits, or
+-- a refusal. No public clause cites this.
+use Rattle.std.specs.Prelude.{◌≡◌, ◌≢◌, ℕ, ◌-◌, ◌*◌, ◌<◌, ◌≤◌, List, ◌∷◌, Result, Ok, Err}
 use Rattle.capn_words.specs.declared.space.Place.{Place}
 use Rattle.capn_value.specs.Tree.{count, count_rows}
 use Rattle.capn_value.specs.View.{tree_of, trees_of, rows_of}
@@ -8,11 +8,41 @@ use Rattle.capn_walk.specs.declared.found.Found.{Found}
 use Rattle.capn_walk.specs.declared.found.FoundRows.{FoundRows}
 use Rattle.capn_walk.specs.declared.found.FoundSlots.{FoundSlots}
 use Rattle.capn_walk.specs.declared.target.Shape.{Shape}
+use Rattle.capn_walk.specs.declared.target.Fault.{Fault}
+use Rattle.capn_walk.specs.declared.target.Fault.TheVariants as faults
+use Rattle.capn_walk.specs.declared.visited.Visited.{Visited}
 use Rattle.capn_walk.specs.declared.walked.Stopped.{Stopped}
 use Rattle.capn_walk.specs.At.{IsAt, AreAt, RowsAt, IsInside}
+use Rattle.capn_walk.specs.Frames.{Lies, owed, places_of}
 use Rattle.capn_walk.specs.Shapes.{slot_count}
-use Rattle.capn_walk.specs.Verdict.{Gives, Refuses}
-use Rattle.capn_walk.specs.Visits.{places, row_places, slots, visits, visits_of}
+use Rattle.capn_walk.specs.Surveyed.{cap_of}
+use Rattle.capn_walk.specs.Target.{target}
+use Rattle.capn_walk.specs.Verdict.{Gives, Refuses, judge, refused}
+use Rattle.capn_walk.specs.Visits.{pays, places, row_places, slots, visits, visits_of}
+
+-- ---- a survey
+
+module _ (message : List (List ℕ)) (base depth left : ℕ) where
+  -- one visit that is paid: its price, the capability that it meets, and the slots below it
+  pub record IsVisit (at : Place) (v : Visited) : Type 0 where
+    pub visits : visits message base depth at ≡ pays at v.price ∷ visits_of message base (depth - 1) (places_of v.below)
+    pub price : v.price ≤ left
+    pub capability : cap_of (target message at) ≡ v.capability
+    pub below : Lies message v.below
+    pub deep : 0 < owed v.below → 0 < depth
+    pub owed : owed v.below ≤ v.price
+
+  -- one that is refused
+  pub record IsRefusal (at : Place) (e : Fault) : Type 0 where
+    pub refused : judge left (visits message base depth at) ≡ refused e at 0 1
+    pub memory : e ≢ faults.Memory
+
+  -- one visit of a slot, without its value
+  abbrev pub Visits : Place → Result Visited Fault → Type 0
+  Visits at (Ok v) = IsVisit at v
+  Visits at (Err e) = IsRefusal at e
+
+-- ---- a walk
 
 module _ {A : Type 0} (message : List (List ℕ)) (base depth left : ℕ) where
   -- a slot: the value at its place
