@@ -86,9 +86,6 @@ unpacked_starts bytes at out room max u s = elim (cases_lt 0 (length out)) [
 
 -- ---- and so not none
 
-pub started : (bs : List ℕ) (room : ℕ) → StartsWithin bs room → NoGroupFirst bs → ⊥
-started bs room s none = none s.group s.more s.is_group s.text
-
 row_open : (bytes : List ℕ) (at : ℕ) (gs : List Group) → AllByRecursion IsGroup gs → at ≤ length bytes
     → take at bytes ≡ texts gs
     → NoGroupFirst bytes → at ≡ 0

@@ -4,13 +4,13 @@ use Rattle.std.proofs.Common.{sum, map, replicate, slice_index, refl, ap, sym, s
 use Rattle.std.proofs.Common.{length-append}
 use Rattle.std.specs.List.{flat_map}
 use Rattle.std.proofs.lemmas.Grind.{flat_map-append}
-use Rattle.std.proofs.lemmas.List.{drop_at, length-map, length-replicate, length-take-le, take-append-drop, take_all}
+use Rattle.std.proofs.lemmas.List.{drop_at, length-map, length-take-le, take-append-drop, take_all}
 use Rattle.std.proofs.lemmas.List.{take_at}
 use Rattle.std.proofs.lemmas.List.Sums.{sum-map, sum_by-cons}
 use Rattle.capn_words.specs.Message.{bytes, segment_at, total, IsMessage, word_bytes}
 use Rattle.capn_words.specs.Words.{AreBytes, AreWords}
 use Rattle.capn_stream.specs.Cuts.{cut, ends_from}
-use Rattle.capn_stream.specs.Frames.{FitsTable, Frames, StandsFirst, contents, entry, frame_text, padding}
+use Rattle.capn_stream.specs.Frames.{FitsTable, Frames, StandsFirst, contents, entry, padding}
 use Rattle.capn_stream.specs.Reading.{IsRefused, IsWhole, announced_segments, entries, entry_number, frame_length}
 use Rattle.capn_stream.specs.Reading.{head_length, announced_words}
 use Rattle.capn_stream.specs.declared.fault.FrameFault.{FrameFault}
@@ -243,16 +243,6 @@ zeros_below : (n : ℕ) → AreBytes (replicate n 0)
 zeros_below zero i = omega arith
 zeros_below (suc n) zero = omega arith
 zeros_below (suc n) (suc i) = zeros_below n i
-
--- the frame of a message frames it
-pub Frames-frame_text : (message : List (List ℕ)) → IsMessage message → Frames (frame_text message) message
-Frames-frame_text message h = record {
-  fits = FitsTable-message message h;
-  gap = replicate (padding (length message)) 0;
-  gap_bytes = zeros_below (padding (length message));
-  gap_length = length-replicate (padding (length message)) 0;
-  text = refl;
-}
 
 -- all of a frame stands first in it
 pub stands_alone : (bs : List ℕ) (most : ℕ) (message : List (List ℕ)) → Frames bs message → total message ≤ most

@@ -162,9 +162,3 @@ bytes-take n ws h =
 pub AreBytes-bytes : (ws : List ℕ) → AreBytes (bytes ws)
 AreBytes-bytes [] i = omega arith
 AreBytes-bytes (w ∷ ws) i = AreBytes-append (word_bytes w) (bytes ws) (word_bytes-below w) (AreBytes-bytes ws) i
-
--- the word read at the bytes of word k is that word
-pub word_number-bytes : (ws : List ℕ) (k : ℕ) → AreWords ws → k < length ws
-    → word_number (drop (8 * k) (bytes ws)) ≡ slice_index ws k
-word_number-bytes ws k h l = sym (word_in (length ws) k (bytes ws) l)
-    ∙ ap (λ (vs : List ℕ). slice_index vs k) (words_of_bytes ws h)
