@@ -42,7 +42,7 @@ copied-words m s w n is h =
     let ld = length-drop w seg in
     let lt = length-take-le n (drop w seg) (omega arith) in
     let e : bytes_at m (record { segment = s; word = w }) (8 * n) ≡ bytes (take n (drop w seg)) =
-    ap (take (8 * n)) (bytes-drop w seg) ∙ bytes-take n (drop w seg) (omega arith) in
+    ap (take (8 * n)) (bytes-drop w seg) ∙ bytes-take n (drop w seg) in
     let l = ap length e ∙ length-bytes (take n (drop w seg)) in
     let k : words_for (8 * length (bytes_at m (record { segment = s; word = w }) (8 * n)))
     ≡ length (take n (drop w seg)) = omega arith in
