@@ -1,9 +1,7 @@
 -- What is answered or refused for a message is so for bytes that are read as it.
-use Rattle.std.proofs.Common.{◌≡◌, ℕ, ◌+◌, ◌*◌, ◌^◌, ◌≤◌, List, [], ◌∷◌, length, take, ap, subst, ◌∙◌, arith, Result}
+use Rattle.std.proofs.Common.{◌≡◌, ℕ, ◌+◌, ◌*◌, ◌^◌, ◌≤◌, List, [], ◌∷◌, length, Result}
 use Rattle.std.proofs.Common.{Ok, Err, MatchResult, IfOk, IfErr, None}
-use Rattle.std.proofs.Math.Seq.{take-length}
 use Rattle.capn_words.specs.Words.{IsBare}
-use Rattle.capn_stream.specs.Frames.{Frames, StandsFirst}
 use Rattle.capn_value.specs.Tree.{Tree}
 use Rattle.capn_value.specs.Caps.{first_cap}
 use Rattle.capn_walk.specs.Limits.{Bounds}
@@ -12,7 +10,7 @@ use Rattle.capn_canon.specs.declared.form.Form.TheVariants as forms
 use Rattle.capn_canon.specs.declared.refusal.Refusal.{Refusal}
 use Rattle.capn_canon.specs.declared.refusal.Refusal.TheVariants as refusals
 use Rattle.capn_canon.specs.Layout.{canon}
-use Rattle.capn_canon.specs.Reads.{IsFramed, Unpacks, Reads}
+use Rattle.capn_canon.specs.Reads.{Unpacks, Reads}
 use Rattle.capn_canon.specs.Denotes.{Denotes}
 use Rattle.capn_canon.specs.Refused.{IsRefused}
 use Rattle.capn_canon.specs.Canonicity.{IsCanonicalForm}
@@ -23,14 +21,6 @@ use Rattle.capn_canon.specs.Laws.NotRefused.{not_refused}
 -- the words of bare bytes are read
 pub bare_reads : (bs ws : List ℕ) (most : ℕ) → IsBare bs ws → Reads forms.Bare bs most (ws ∷ [])
 bare_reads bs ws most h = (ws, h, λ i. ws ∷ [])
-
--- a frame that stands first and takes all bytes is read
-pub frame_reads : (bs : List ℕ) (most : ℕ) (m : List (List ℕ)) (taken : ℕ) → StandsFirst bs most m taken
-    → length bs ≤ taken → IsFramed bs most m
-frame_reads bs most m taken h l =
-    let e : taken ≡ length bs = let i = h.inside in omega arith in
-    let all : take taken bs ≡ bs = ap (λ (n : ℕ). take n bs) e ∙ take-length bs in
-    record { frame = subst (λ (xs : List ℕ). Frames xs m) all h.frame; room = h.room }
 
 -- what is answered for an unpacked frame is answered for its packed text,
 pub packed_answers : (bs text : List ℕ) (limits : Bounds) (out : List ℕ) (n : ℕ) → Unpacks bs limits.message_words text

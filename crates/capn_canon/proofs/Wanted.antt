@@ -10,7 +10,6 @@ use Rattle.capn_pack.specs.Refusal.{StartsWithin}
 use Rattle.capn_pack.specs.Laws.GroupLemmas.{length_content}
 use Rattle.capn_stream.specs.Frames.{most_table_words}
 use Rattle.capn_stream.specs.Laws.FrameLaws.{stands_alone, whole_of}
-use Rattle.capn_walk.specs.Accepted.{IsValueOf}
 use Rattle.capn_walk.specs.Limits.{Bounds}
 use Rattle.capn_canon.specs.declared.form.Form.TheVariants as forms
 use Rattle.capn_canon.specs.declared.refusal.Refusal.{Refusal}

@@ -1,6 +1,6 @@
-use Rattle.std.proofs.Common.{◌≡◌, ℕ, [], ◌∷◌, ◌*◌, List, None, length, ap, subst, sym, ◌∙◌, arith, IfOk, IfErr}
+use Rattle.std.proofs.Common.{◌≡◌, ℕ, ◌*◌, List, None, ap, subst, sym, ◌∙◌, arith, IfOk, IfErr}
 use Rattle.std.proofs.Common.{MatchResult}
-use Rattle.capn_words.specs.Message.{bytes_at, segment_at}
+use Rattle.capn_words.specs.Message.{bytes_at}
 use Rattle.capn_value.specs.Caps.{first_cap}
 use Rattle.capn_value.specs.Tree.{Tree}
 use Rattle.capn_walk.specs.Stops.{root}

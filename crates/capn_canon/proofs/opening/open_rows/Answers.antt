@@ -1,6 +1,4 @@
-use Rattle.std.proofs.Common.{◌≡◌, ℕ, suc, ◌+◌, ◌-◌, ◌*◌, ◌^◌, ◌<◌, ◌≤◌, List, length, arith}
-use Rattle.std.proofs.Math.Nat.{mul-le-mul_left}
-use Rattle.capn_canon.specs.RowWords.{kept_each}
+use Rattle.std.proofs.Common.{◌+◌, arith}
 use Rattle.capn_canon.proofs.EachRow.{kept_each-le, less-times}
 use Rattle.capn_canon.proofs.opening.open_rows.Goals as goal
 

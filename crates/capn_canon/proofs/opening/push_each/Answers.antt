@@ -1,4 +1,4 @@
-use Rattle.std.proofs.Common.{◌≡◌, ℕ, ◌+◌, ◌-◌, ◌*◌, ◌<◌, ◌≤◌, List, length, ◌∙◌, arith}
+use Rattle.std.proofs.Common.{◌≡◌, ◌+◌, ◌*◌, ◌∙◌, arith}
 use Rattle.capn_walk.specs.Laws.RowWalks.{row-inside}
 use Rattle.capn_walk.specs.Laws.Segments.{segment-room}
 use Rattle.capn_canon.proofs.EachRow.{cells-begin, cells-more, cells-end}

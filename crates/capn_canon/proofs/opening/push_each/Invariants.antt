@@ -1,4 +1,4 @@
-use Rattle.std.proofs.Common.{ℕ, ◌≡◌, ◌+◌, ◌-◌, ◌*◌, ◌++◌}
+use Rattle.std.proofs.Common.{◌≡◌, ◌+◌, ◌-◌, ◌*◌, ◌++◌}
 use Rattle.capn_canon.specs.RowWords.{row_cells}
 use Rattle.capn_canon.proofs.opening.push_each.Given as goal
 

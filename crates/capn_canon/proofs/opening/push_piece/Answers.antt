@@ -1,4 +1,4 @@
-use Rattle.std.proofs.Common.{◌≡◌, ℕ, ◌+◌, ◌*◌, ◌≤◌, length, arith}
+use Rattle.std.proofs.Common.{◌*◌}
 use Rattle.std.proofs.lemmas.Result.{on_ok_weaker}
 use Rattle.capn_canon.proofs.Copied.{whole-bytes, copy-of}
 use Rattle.capn_canon.proofs.EachRow.{cells-piece}

@@ -1,11 +1,7 @@
-use Rattle.std.proofs.Common.{rules, ◌≡◌, ℕ, suc, ◌+◌, ◌-◌, ◌*◌, ◌^◌, ◌<◌, ◌≤◌, length, set, Some, Ok, Err, sym, ap}
-use Rattle.std.proofs.Common.{subst, ◌∙◌, arith, refl}
+use Rattle.std.proofs.Common.{◌≡◌, ◌+◌, ◌-◌, ◌*◌, ◌^◌, ◌≤◌, length, set, Some, Ok, sym, ap}
+use Rattle.std.proofs.Common.{subst, ◌∙◌, arith}
 use Rattle.std.proofs.lemmas.Result.{on_ok_weaker}
 use Rattle.capn_words.specs.Message.{segment_at}
-use Rattle.capn_words.specs.Fields.{word_of}
-use Rattle.capn_words.specs.declared.pointer.Pointer.TheVariants.{Cap}
-use Rattle.capn_value.specs.Sizes.{height}
-use Rattle.capn_walk.specs.Target.{target}
 use Rattle.capn_walk.specs.declared.target.Shape.{Shape}
 use Rattle.capn_walk.specs.declared.target.Shape.TheVariants as shapes
 use Rattle.capn_walk.specs.Shapes.{IsContent, RowsFit, extent}
@@ -20,7 +16,7 @@ use Rattle.capn_canon.specs.Ready.{IsReadyInside, IsLaidInside}
 use Rattle.capn_canon.proofs.Shaped.{found, null-of, cap-at, inside-of, inside-height}
 use Rattle.capn_canon.proofs.Slots.{laid-null, laid-cap, next, next-ready, begins-rest, begins-ready, then-rest}
 use Rattle.capn_canon.proofs.Slots.{then-inside, then-ready, ends-rest}
-use Rattle.capn_canon.proofs.Objects.{node-few, node-inside, node-ready, node-laid, links-few, links-inside}
+use Rattle.capn_canon.proofs.Objects.{node-few, node-inside, node-ready, node-laid, links-inside}
 use Rattle.capn_canon.proofs.Objects.{links-ready, links-laid}
 use Rattle.capn_canon.proofs.EachRow.{one-more-fits}
 use Rattle.capn_canon.proofs.RowByRow.{next-row, row-ready, rows-begin, rows-begin-ready, rows-then, rows-then-ready}

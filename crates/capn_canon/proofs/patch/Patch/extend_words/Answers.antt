@@ -1,10 +1,9 @@
-use Rattle.std.proofs.Common.{◌≡◌, ◌+◌, ◌*◌, ◌/◌, ◌∙◌, ap, sym, subst, refl, List, Option, ℕ, ◌++◌, length, replicate}
-use Rattle.std.proofs.Common.{length-append, append-nil, arith}
-use Rattle.std.proofs.lemmas.List.{length-replicate}
+use Rattle.std.proofs.Common.{◌≡◌, ◌*◌, ◌∙◌, ap, sym, List, Option, ℕ, ◌++◌, length, replicate}
+use Rattle.std.proofs.Common.{append-nil, arith}
 use Rattle.capn_canon.specs.Layout.{packed, words_for}
 use Rattle.capn_canon.specs.Padded.{pad, padded}
-use Rattle.capn_canon.specs.Patch.{patched, whole, IsPatched}
-use Rattle.capn_canon.proofs.Patched.{patched-same, patched-padded, is-padded, OnErr-always}
+use Rattle.capn_canon.specs.Patch.{patched, whole}
+use Rattle.capn_canon.proofs.Patched.{patched-same, patched-padded, OnErr-always}
 use Rattle.capn_canon.proofs.patch.Patch.extend_words.Goals as goal
 
 no-padding : (xs : List ℕ) → pad (length xs) ≡ 0 → padded xs ≡ xs
