@@ -7,7 +7,8 @@ use Rattle.capn_words.specs.Words.{AreBytes}
 use Rattle.capn_words.specs.Message.{word_bytes, bytes}
 use Rattle.capn_words.specs.Laws.Words.{AreBytes-append, length-word_bytes}
 use Rattle.capn_canon.specs.Draft.{drafted, IsDrafted}
-use Rattle.capn_canon.specs.Layout.{packed, words_for}
+use Rattle.capn_walk.specs.Target.{words_for}
+use Rattle.capn_canon.specs.Layout.{packed}
 use Rattle.capn_canon.specs.Patch.{cells, whole, filled, IsWhole}
 use Rattle.capn_canon.proofs.Cells.{length-cells, cells-none, cells-append, cells-one, cells-fill, cells-whole}
 use Rattle.capn_canon.proofs.Cells.{written-bytes, written-length}

@@ -23,25 +23,25 @@ use Rattle.capn_canon.proofs.RowByRow.{next-row, row-ready, rows-begin, rows-beg
 use Rattle.capn_canon.proofs.RowByRow.{rows-end, rows-few, rows-part, rows-fits, rows-ready, rows-laid, rows-nothing}
 use Rattle.capn_canon.proofs.placing.+placing.Goals as goal
 
-pub lay_slot-target_at-target-requires-clause-found : goal.lay_slot-target_at-target-requires-clause-found
-lay_slot-target_at-target-requires-clause-found g t c =
+pub lay_slot-target_at-requires-clause-found : goal.lay_slot-target_at-requires-clause-found
+lay_slot-target_at-requires-clause-found g t c =
     found (g.S.Space.message c.args.space.now) c.args.at c.requires.ready.value c.requires.ready.is
 
-pub lay_target-overflow_sub-depth : goal.lay_target-overflow_sub-depth
-lay_target-overflow_sub-depth g t c =
+pub lay_slot-overflow_sub-depth : goal.lay_slot-overflow_sub-depth
+lay_slot-overflow_sub-depth g t c =
     let m = g.S.Space.message c.args.space.now in
     let x = c.in-Content in
     let r = c.requires.ready in
     let h = inside-height m x.shape x.segment x.start r.value
-    (inside-of m c.args.at x.segment x.start x.pads x.shape (c.requires.target ∙ ap Ok x.is) r.value r.is) in
+    (inside-of m c.args.at x.segment x.start x.pads x.shape (c.target_at.ensures ∙ ap Ok x.is) r.value r.is) in
     let l = r.low in
     omega arith
 
-pub lay_target-lay_object-requires : goal.lay_target-lay_object-requires
-lay_target-lay_object-requires g t c κs live =
+pub lay_slot-lay_object-requires : goal.lay_slot-lay_object-requires
+lay_slot-lay_object-requires g t c κs live =
     let m = g.S.Space.message c.args.space.now in
     let x = c.in-Content in
-    let e = c.requires.target ∙ ap Ok x.is in
+    let e = c.target_at.ensures ∙ ap Ok x.is in
     let i = inside m c.args.at x.segment x.start x.pads x.shape e in
     let r = c.requires.ready in
     let here = inside-of m c.args.at x.segment x.start x.pads x.shape e r.value r.is in
@@ -59,17 +59,17 @@ lay_target-lay_object-requires g t c κs live =
     record { exists = present m c.args.at x.segment x.start x.pads x.shape c.requires.place e; within = i.0 } in
     (omega arith, (live.0, (live.1, (c.requires.message, (content, (i.1, (ready, c.requires.inside)))))))
 
-pub lay_target-returns-in-Nil : goal.lay_target-returns-in-Nil
-lay_target-returns-in-Nil g t c v h =
+pub lay_slot-returns-in-Nil : goal.lay_slot-returns-in-Nil
+lay_slot-returns-in-Nil g t c v h =
     c.put.ensures
     ∙ laid-null v c.args.draft.now c.args.from
-    (null-of (g.S.Space.message c.args.space.now) c.args.at v (c.requires.target ∙ ap Ok c.in-Nil.is) h)
+    (null-of (g.S.Space.message c.args.space.now) c.args.at v (c.target_at.ensures ∙ ap Ok c.in-Nil.is) h)
 
-pub lay_target-returns-in-Cap : goal.lay_target-returns-in-Cap
-lay_target-returns-in-Cap g t c v h =
+pub lay_slot-returns-in-Cap : goal.lay_slot-returns-in-Cap
+lay_slot-returns-in-Cap g t c v h =
     c.put-in-Cap.ensures ∙ ap (λ x. set c.args.draft.now c.args.from (Some x)) c.join.ensures.word
     ∙ laid-cap v c.in-Cap.index c.args.draft.now c.args.from
-    (cap-at (g.S.Space.message c.args.space.now) c.args.at v c.in-Cap.index (c.requires.target
+    (cap-at (g.S.Space.message c.args.space.now) c.args.at v c.in-Cap.index (c.target_at.ensures
     ∙ ap Ok c.in-Cap.is) h)
 
 pub lay_slots-loop-i-init : goal.lay_slots-loop-i-init

@@ -3,7 +3,8 @@ use Rattle.std.proofs.Common.{arith}
 use Rattle.std.proofs.lemmas.List.{length-replicate}
 use Rattle.std.specs.List.{flat_map}
 use Rattle.byteorder.specs.Endian.{little_bytes}
-use Rattle.capn_canon.specs.Layout.{packed, words_for}
+use Rattle.capn_walk.specs.Target.{words_for}
+use Rattle.capn_canon.specs.Layout.{packed}
 use Rattle.capn_canon.specs.Padded.{pad, padded}
 use Rattle.capn_canon.specs.Patch.{patched, whole, IsPatched}
 use Rattle.capn_canon.proofs.PackedBytes.{packed-numbers, length-numbers, AreBytes-numbers}

@@ -1,6 +1,7 @@
 use Rattle.std.proofs.Common.{◌≡◌, ◌*◌, ◌∙◌, ap, sym, List, Option, ℕ, ◌++◌, length, replicate}
 use Rattle.std.proofs.Common.{append-nil, arith}
-use Rattle.capn_canon.specs.Layout.{packed, words_for}
+use Rattle.capn_walk.specs.Target.{words_for}
+use Rattle.capn_canon.specs.Layout.{packed}
 use Rattle.capn_canon.specs.Padded.{pad, padded}
 use Rattle.capn_canon.specs.Patch.{patched, whole}
 use Rattle.capn_canon.proofs.Patched.{patched-same, patched-padded, OnErr-always}
