@@ -12,16 +12,17 @@ use Rattle.capn_canon.specs.declared.refusal.Refusal.TheVariants as refusals
 use Rattle.capn_canon.specs.Reads.{Unpacks}
 use Rattle.capn_canon.specs.Denotes.{Denotes}
 use Rattle.capn_canon.specs.Refused.{IsUnacceptedIn}
-use Rattle.capn_canon.specs.Surveys.{Surveys}
+use Rattle.capn_canon.specs.Surveys.{Surveys, AreSurveyed}
 use Rattle.capn_canon.specs.Laws.OneReading.{one_value, is_message}
 use Rattle.capn_canon.specs.Laws.NotUnaccepted.{not_unaccepted}
 use Rattle.capn_canon.specs.Layout.{canon}
 use Rattle.capn_canon.proofs.Answered.{denoted_here}
 use Rattle.capn_canon.proofs.Headline.{denoted_length}
 use Rattle.capn_canon.proofs.InEachForm.{packed_refused}
+use Rattle.capn_canon.proofs.Wanted.{packed_wanted}
 
 -- what is told of an unpacked frame is told of its packed text,
-pub packed_surveys : (r : Result Surveyed Refusal) (bs text : List ℕ) (limits : Bounds)
+packed_surveys : (r : Result Surveyed Refusal) (bs text : List ℕ) (limits : Bounds)
     → Unpacks bs limits.message_words text →
     IfOk r (λ s. Surveys forms.Stream text limits s) → IfOk r (λ s. Surveys forms.Packed bs limits s)
 packed_surveys (Ok s) bs text limits u h = record { message = h.message; reads = (text, u, h.reads); survey = h.survey }
@@ -38,11 +39,22 @@ packed_unaccepted bs text limits (refusals.Bare e) u h = packed_refused bs text 
 packed_unaccepted bs text limits (refusals.Packed e) u h = packed_refused bs text limits (refusals.Packed e) u h
 
 -- and so is what is refused
-pub packed_unaccepted_err : (r : Result Surveyed Refusal) (bs text : List ℕ) (limits : Bounds)
+packed_unaccepted_err : (r : Result Surveyed Refusal) (bs text : List ℕ) (limits : Bounds)
     → Unpacks bs limits.message_words text →
     IfErr r (λ e. IsUnacceptedIn forms.Stream text limits e) → IfErr r (λ e. IsUnacceptedIn forms.Packed bs limits e)
 packed_unaccepted_err (Ok s) bs text limits u h = tt
 packed_unaccepted_err (Err e) bs text limits u h = packed_unaccepted bs text limits e u h
+
+-- and so is the whole
+pub packed_surveyed : (r : Result Surveyed Refusal) (bs text : List ℕ) (limits : Bounds)
+    → Unpacks bs limits.message_words text →
+    AreSurveyed forms.Stream text limits r → AreSurveyed forms.Packed bs limits r
+packed_surveyed r bs text limits u h = record {
+  found = packed_surveys r bs text limits u h.found;
+  refused = packed_unaccepted_err r bs text limits u h.refused;
+  wanted = λ e. packed_wanted bs text limits u (h.wanted e);
+  bounded = h.bounded;
+}
 
 -- a call that tells and refuses so tells of any value that the bytes denote
 pub surveyed_only : (r : Result Surveyed Refusal) (form : Form) (bs : List ℕ) (limits : Bounds) →

@@ -1,7 +1,9 @@
 -- What is answered or refused for a message is so for bytes that are read as it.
-use Rattle.std.proofs.Common.{◌≡◌, ℕ, ◌+◌, ◌*◌, ◌^◌, ◌≤◌, List, [], ◌∷◌, length, Result}
-use Rattle.std.proofs.Common.{Ok, Err, MatchResult, IfOk, IfErr, None}
+use Rattle.std.proofs.Common.{◌≡◌, ℕ, ◌+◌, ◌*◌, ◌^◌, ◌≤◌, List, [], ◌∷◌, length, take, ap, subst, ◌∙◌, arith, Result}
+use Rattle.std.proofs.Common.{Ok, Err, MatchResult, IfOk, IfErr, IsErrOf, None}
+use Rattle.std.proofs.Math.Seq.{take-length}
 use Rattle.capn_words.specs.Words.{IsBare}
+use Rattle.capn_stream.specs.Frames.{Frames, StandsFirst}
 use Rattle.capn_value.specs.Tree.{Tree}
 use Rattle.capn_value.specs.Caps.{first_cap}
 use Rattle.capn_walk.specs.Limits.{Bounds}
@@ -10,17 +12,27 @@ use Rattle.capn_canon.specs.declared.form.Form.TheVariants as forms
 use Rattle.capn_canon.specs.declared.refusal.Refusal.{Refusal}
 use Rattle.capn_canon.specs.declared.refusal.Refusal.TheVariants as refusals
 use Rattle.capn_canon.specs.Layout.{canon}
-use Rattle.capn_canon.specs.Reads.{Unpacks, Reads}
+use Rattle.capn_canon.specs.Reads.{IsFramed, Unpacks, Reads}
 use Rattle.capn_canon.specs.Denotes.{Denotes}
-use Rattle.capn_canon.specs.Refused.{IsRefused}
+use Rattle.capn_canon.specs.Refused.{IsRefusedMessage, IsRefused, IsPaidWithin}
+use Rattle.capn_canon.specs.Wanted.{MayWantBytes, MayWantBytesIn}
 use Rattle.capn_canon.specs.Canonicity.{IsCanonicalForm}
-use Rattle.capn_canon.specs.Answers.{Answers}
+use Rattle.capn_canon.specs.Answers.{AnswersMessage, Answers, AreCanonicalised}
 use Rattle.capn_canon.proofs.Answered.{answers_only, answers_length, answers_form}
 use Rattle.capn_canon.specs.Laws.NotRefused.{not_refused}
+use Rattle.capn_canon.proofs.Wanted.{packed_bytes_wanted}
 
 -- the words of bare bytes are read
 pub bare_reads : (bs ws : List ℕ) (most : ℕ) → IsBare bs ws → Reads forms.Bare bs most (ws ∷ [])
 bare_reads bs ws most h = (ws, h, λ i. ws ∷ [])
+
+-- a frame that stands first and takes all bytes is read
+pub frame_reads : (bs : List ℕ) (most : ℕ) (m : List (List ℕ)) (taken : ℕ) → StandsFirst bs most m taken
+    → length bs ≤ taken → IsFramed bs most m
+frame_reads bs most m taken h l =
+    let e : taken ≡ length bs = let i = h.inside in omega arith in
+    let all : take taken bs ≡ bs = ap (λ (n : ℕ). take n bs) e ∙ take-length bs in
+    record { frame = subst (λ (xs : List ℕ). Frames xs m) all h.frame; room = h.room }
 
 -- what is answered for an unpacked frame is answered for its packed text,
 pub packed_answers : (bs text : List ℕ) (limits : Bounds) (out : List ℕ) (n : ℕ) → Unpacks bs limits.message_words text
@@ -38,10 +50,42 @@ packed_refused bs text limits (refusals.Trailing at) u h = (text, u, h)
 packed_refused bs text limits (refusals.Bare e) u h = absurd h
 packed_refused bs text limits (refusals.Packed e) u h = absurd h
 
+-- why a message is refused is why the bytes are that are read as it
+refused_as : (form : Form) (bs : List ℕ) (limits : Bounds) (m : List (List ℕ)) → Reads form bs limits.message_words m
+    → (e : Refusal) → IsRefusedMessage m limits e → IsRefused form bs limits e
+refused_as form bs limits m is (refusals.Walk s) h = (m, is, h)
+refused_as form bs limits m is (refusals.Capability k) h = (m, is, h)
+refused_as form bs limits m is refusals.Memory h = tt
+refused_as form bs limits m is (refusals.Frame e) h = absurd h
+refused_as form bs limits m is (refusals.Trailing at) h = absurd h
+refused_as form bs limits m is (refusals.Bare e) h = absurd h
+refused_as form bs limits m is (refusals.Packed e) h = absurd h
+
 -- ---- results of calls
 
+-- what a call answers or refuses for a message is so for the bytes that are read as it,
+module _ {T : Type 0} (bytes_of : T → List ℕ) (price_of : T → ℕ) (form : Form) (bs : List ℕ) (limits : Bounds)
+    (m : List (List ℕ)) (is : Reads form bs limits.message_words m) where
+  found_as : (r : Result T Refusal) → IfOk r (λ c. AnswersMessage m limits (bytes_of c) (price_of c))
+      → IfOk r (λ c. Answers form bs limits (bytes_of c) (price_of c))
+  found_as (Ok c) h = record { message = m; reads = is; answer = h }
+  found_as (Err e) h = tt
+
+  err_as : (r : Result T Refusal) → IfErr r (λ e. IsRefusedMessage m limits e)
+      → IfErr r (λ e. IsRefused form bs limits e)
+  err_as (Ok c) h = tt
+  err_as (Err e) h = refused_as form bs limits m is e h
+
+  pub canonicalised_as : (r : Result T Refusal) → (MayWantBytes m limits → MayWantBytesIn form bs limits)
+      → IfOk r (λ c. AnswersMessage m limits (bytes_of c) (price_of c)) → IfErr r (λ e. IsRefusedMessage m limits e)
+      → (IsErrOf r refusals.Memory → MayWantBytes m limits)
+      → MatchResult r (λ c. price_of c ≤ limits.budget) (λ e. IsPaidWithin limits.budget e)
+      → AreCanonicalised form bs limits r bytes_of price_of
+  canonicalised_as r want f e w b =
+      record { found = found_as r f; refused = err_as r e; wanted = λ x. want (w x); bounded = b }
+
 -- what a call answers for an unpacked frame is answered for its packed text,
-pub packed_found : {T : Type 0} (r : Result T Refusal) (bytes_of : T → List ℕ) (price_of : T
+packed_found : {T : Type 0} (r : Result T Refusal) (bytes_of : T → List ℕ) (price_of : T
     → ℕ) (bs text : List ℕ) (limits : Bounds) → Unpacks bs limits.message_words text →
     IfOk r (λ c. Answers forms.Stream text limits (bytes_of c) (price_of c))
     → IfOk r (λ c. Answers forms.Packed bs limits (bytes_of c) (price_of c))
@@ -49,11 +93,23 @@ packed_found (Ok c) bytes_of price_of bs text limits u h = packed_answers bs tex
 packed_found (Err e) bytes_of price_of bs text limits u h = tt
 
 -- and so is what it refuses
-pub packed_err : {T : Type 0} (r : Result T Refusal) (bs text : List ℕ) (limits : Bounds)
+packed_err : {T : Type 0} (r : Result T Refusal) (bs text : List ℕ) (limits : Bounds)
     → Unpacks bs limits.message_words text →
     IfErr r (λ e. IsRefused forms.Stream text limits e) → IfErr r (λ e. IsRefused forms.Packed bs limits e)
 packed_err (Ok c) bs text limits u h = tt
 packed_err (Err e) bs text limits u h = packed_refused bs text limits e u h
+
+-- and so is the whole
+pub packed_canonicalised : {T : Type 0} (r : Result T Refusal) (bytes_of : T → List ℕ) (price_of : T → ℕ)
+    (bs text : List ℕ) (limits : Bounds) → Unpacks bs limits.message_words text →
+    AreCanonicalised forms.Stream text limits r bytes_of price_of
+    → AreCanonicalised forms.Packed bs limits r bytes_of price_of
+packed_canonicalised r bytes_of price_of bs text limits u h = record {
+  found = packed_found r bytes_of price_of bs text limits u h.found;
+  refused = packed_err r bs text limits u h.refused;
+  wanted = λ e. packed_bytes_wanted bs text limits u (h.wanted e);
+  bounded = h.bounded;
+}
 
 -- a call that answers and refuses so answers the canonical bytes of any value without capabilities that the bytes
 -- denote

@@ -63,6 +63,13 @@ pub bare_bytes_wanted : (bs : List ℕ) (limits : Bounds) (m : List (List ℕ)) 
 bare_bytes_wanted bs limits m r (inl d) = inl (d, m, r)
 bare_bytes_wanted bs limits m r (inr (v, is, free)) = inr (v, record { message = m; reads = r; value = is }, free)
 
+-- or as its frame,
+pub framed_bytes_wanted : (bs : List ℕ) (limits : Bounds) (m : List (List ℕ))
+    → Reads forms.Stream bs limits.message_words m
+    → MayWantBytes m limits → MayWantBytesIn forms.Stream bs limits
+framed_bytes_wanted bs limits m r (inl d) = inl (inr (d, m, r))
+framed_bytes_wanted bs limits m r (inr (v, is, free)) = inr (v, record { message = m; reads = r; value = is }, free)
+
 -- and of a packed text where it is of what it unpacks to
 pub packed_bytes_wanted : (bs text : List ℕ) (limits : Bounds) → Unpacks bs limits.message_words text
     → MayWantBytesIn forms.Stream text limits → MayWantBytesIn forms.Packed bs limits
