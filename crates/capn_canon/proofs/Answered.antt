@@ -21,10 +21,6 @@ module _ (m : List (List ℕ)) (limits : Bounds) (bs : List ℕ) (n : ℕ) (h : 
   pub answer_only : (v : Tree) → IsValueOf m limits v → bs ≡ canon v
   answer_only v k = h.canonical ∙ ap canon (unique m h.value v root h.is.is k.is)
 
-  -- and a price within the budget;
-  pub answer_within : n ≤ limits.budget
-  answer_within = let e = h.priced in let w = h.is.accepted.within.paid in omega arith
-
   module _ (is : IsMessage m) (small : limits.budget ≤ 2 ^ 28) (shallow : limits.depth ≤ 256) where
     -- there are at most 8 bytes for each word paid and 8 more,
     pub answer_length : length bs ≤ 8 * (n + 1)
@@ -51,10 +47,6 @@ module _ (form : Form) (bs : List ℕ) (limits : Bounds) (out : List ℕ) (n : �
   -- has the canonical bytes of whichever value the bytes denote,
   pub answers_only : (v : Tree) → Denotes form bs limits v → out ≡ canon v
   answers_only v k = answer_only h.message limits out n h.answer v (denoted_here form bs limits h.message v h.reads k)
-
-  -- and a price within the budget;
-  pub answers_within : n ≤ limits.budget
-  answers_within = answer_within h.message limits out n h.answer
 
   module _ (few : limits.message_words ≤ 2 ^ 28) (small : limits.budget ≤ 2 ^ 28) (shallow : limits.depth ≤ 256) where
     -- there are at most 8 bytes for each word paid and 8 more,

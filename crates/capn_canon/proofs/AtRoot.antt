@@ -1,5 +1,5 @@
 -- The value at the root is ready to be laid, and what is laid are its canonical words.
-use Rattle.std.proofs.Common.{◌≡◌, ℕ, ◌+◌, ◌^◌, ◌≤◌, List, [], ◌∷◌, ◌++◌, length, set, ap, sym, subst, ◌∙◌, arith, refl}
+use Rattle.std.proofs.Common.{◌≡◌, ℕ, ◌^◌, ◌≤◌, List, [], ◌∷◌, ◌++◌, length, set, ap, ◌∙◌, arith, refl}
 use Rattle.std.proofs.Common.{Option, Some}
 use Rattle.capn_words.specs.Message.{IsMessage}
 use Rattle.capn_words.specs.Words.{bytes}

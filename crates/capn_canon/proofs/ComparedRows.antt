@@ -175,9 +175,6 @@ module _ (all : List ℕ) (a b n first end depth i row at : ℕ) (lt : i < n)
     laid-this : AreLaidAt all this.slots (row + a) at × (k ≡ at + sizes this.slots)
     laid-this = h this.slots this.below this.long
 
-    pub rows-behind : k ≡ at + sizes this.slots
-    rows-behind = laid-this.1
-
     pub rows-grown : at ≤ k
     rows-grown = let e = laid-this.1 in omega arith
 

@@ -1,5 +1,5 @@
 -- The canonical layout of a value, by sums of sizes. (Page: canonicalization.)
-use Rattle.std.specs.Prelude.{ℕ, zero, suc, ◌+◌, ◌-◌, ◌*◌, ◌/◌, ◌^◌, ◌==◌, ◌&&◌, List, [], ◌∷◌, ◌++◌, map, length, take}
+use Rattle.std.specs.Prelude.{ℕ, zero, suc, ◌+◌, ◌-◌, ◌*◌, ◌^◌, ◌==◌, ◌&&◌, List, [], ◌∷◌, ◌++◌, map, length, take}
 use Rattle.std.specs.Prelude.{drop, pos, negsuc, if◌then◌else◌}
 use Rattle.std.specs.Int.{from_bool}
 use Rattle.capn_words.specs.Words.{bytes}
@@ -10,10 +10,7 @@ use Rattle.capn_words.specs.declared.pointer.Width.TheVariants.{W0, W1, W8, W16,
 use Rattle.capn_value.specs.Tree.{Tree, nil, node, voids, bits, bytes as octets, pairs, quads, octs, links, rows, cap}
 use Rattle.capn_value.specs.Tree.{Trees, no_trees, tree, Bodies, no_bodies, body, count, count_rows}
 use Rattle.capn_value.specs.Trim.{kept_words, kept_slots, kept_words_of_rows, kept_slots_of_rows}
-
--- the words that so many bits take (Page: lists.)
-abbrev pub words_for : ℕ → ℕ
-words_for n = (n + 63) / 64
+use Rattle.capn_walk.specs.Target.{words_for}
 
 -- the words that a row of a list of structs takes, when all rows are cut jointly (Page: canonicalization.)
 abbrev pub row_size : Bodies → ℕ

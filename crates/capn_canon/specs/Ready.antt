@@ -1,14 +1,13 @@
 -- What stands at places of a message and has room in a buffer of words. No public clause cites this.
 use Rattle.std.specs.Prelude.{◌≡◌, ℕ, suc, ◌+◌, ◌^◌, ◌≤◌, List, length, set, Option, Some}
 use Rattle.capn_words.specs.declared.space.Place.{Place}
-use Rattle.capn_value.specs.Tree.{Tree, Trees, Bodies, count, count_rows}
-use Rattle.capn_value.specs.Sizes.{height, greatest, greatest_in_rows}
+use Rattle.capn_value.specs.Tree.{Tree, Trees, count}
+use Rattle.capn_value.specs.Sizes.{height, greatest}
 use Rattle.capn_walk.specs.declared.target.Shape.{Shape}
-use Rattle.capn_walk.specs.At.{IsAt, AreAt, RowsAt}
-use Rattle.capn_walk.specs.At.{IsInside}
-use Rattle.capn_canon.specs.Layout.{size, sizes, sizes_in_rows, point}
-use Rattle.capn_canon.specs.Laying.{laid, laid_slots, laid_rows}
-use Rattle.capn_canon.specs.Sound.{Sound, Sounds, SoundRows}
+use Rattle.capn_walk.specs.At.{IsAt, AreAt, IsInside}
+use Rattle.capn_canon.specs.Layout.{size, sizes, point}
+use Rattle.capn_canon.specs.Laying.{laid, laid_slots}
+use Rattle.capn_canon.specs.Sound.{Sound, Sounds}
 
 module _ (m : List (List ℕ)) where
   -- a value stands at a place, at most so many objects high, and there is room for it behind so many words (Own.)

@@ -1,4 +1,4 @@
-use Rattle.std.proofs.Common.{◌∙◌, sym, arith, subst, ℕ}
+use Rattle.std.proofs.Common.{sym, arith, subst, ℕ}
 use Rattle.capn_walk.specs.Stops.{root}
 use Rattle.capn_canon.specs.Ready.{IsReady}
 use Rattle.capn_canon.proofs.AtRoot.{root-ready}
