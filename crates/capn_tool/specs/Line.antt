@@ -7,14 +7,14 @@ use Rattle.clap.specs.declared.builder.command.Command.{Command}
 use Rattle.clap.specs.declared.builder.command.Command.TheViews.{out-Command}
 use Rattle.clap.specs.declared.builder.value_parser.ValueParser.TheVariants as vp
 
--- an option that takes a number from the least to the most, and has the usual one where it is not given
+-- an option of this name that takes a value, and has the usual one where it is not given
+abbrev pub usual_rule : Text → Text → Rule
+usual_rule name usual = record (new_rule name) { long = Some name; value_names = 1; defaults = usual ∷ [] }
+
+-- such an option that takes a number from the least to the most
 abbrev pub number_rule : Text → Text → ℕ → ℕ → Rule
-number_rule name usual least most = record (new_rule name) {
-  long = Some name;
-  value_names = 1;
-  defaults = usual ∷ [];
-  parser = Some (vp.Signed (pos least) (pos most));
-}
+number_rule name usual least most =
+    record (usual_rule name usual) { parser = Some (vp.Signed (pos least) (pos most)) }
 
 -- the words of a message
 abbrev pub words_rule : Rule
@@ -30,19 +30,11 @@ depth_rule = number_rule (codes "depth") (codes "64") 1 most_height
 
 -- the form of the input, a stream where none is given
 abbrev pub form_rule : Rule
-form_rule = record (new_rule (codes "form")) {
-  long = Some (codes "form");
-  value_names = 1;
-  defaults = codes "stream" ∷ [];
-}
+form_rule = usual_rule (codes "form") (codes "stream")
 
 -- the tariff of the prices, the strict one where none is given
 abbrev pub tariff_rule : Rule
-tariff_rule = record (new_rule (codes "tariff")) {
-  long = Some (codes "tariff");
-  value_names = 1;
-  defaults = codes "strict" ∷ [];
-}
+tariff_rule = usual_rule (codes "tariff") (codes "strict")
 
 -- a command has this line, and hands no option down to its subcommands
 abbrev pub HasLine : Command → App → Type 0

@@ -3,7 +3,7 @@
 ghost use Rattle.std.specs.Prelude.{◌≡◌, IfOk, false};
 ghost use Rattle.clap.specs.Words.{App, app_of, rule_of, new_app, with_subcommand};
 ghost use Rattle.clap.specs.declared.builder.command.Command.TheViews.{out-Command};
-ghost use Rattle.capn_tool.specs.Line.{HasLine, form_rule, words_rule, budget_rule, depth_rule, tariff_rule};
+ghost use Rattle.capn_tool.specs.Line.{HasLine, usual_rule, words_rule, budget_rule, depth_rule};
 ghost use Rattle.capn_tool.specs.Line.{formed_line, walked_line, message_line, unpack_line, shown_line, messages_line};
 ghost use Rattle.capn_tool.specs.Line.{tool_line};
 
@@ -13,17 +13,23 @@ use capn_words::MOST_MESSAGE_WORDS;
 use clap::{Arg, Command};
 use std::alloc::{AllocError, Global};
 
-/// `--form`. It takes any text here, and `line` reads it: a list of names has no place in the statement of the command
-/// line.
-fn form_option<'a>(alloc: Global, text: &'a str) -> Arg<'a>
-    ensures rule { rule_of result ≡ form_rule }
+/// An option of this name, with its usual value. It takes any text, and `line` reads that of `--form` and `--tariff`: a
+/// list of names has no place in the statement of the command line.
+fn usual_option<'a>(
+    alloc: Global,
+    name: &'a str,
+    value: &'a str,
+    text: &'a str,
+    usual: &'a str,
+) -> Arg<'a>
+    ensures rule { rule_of result ≡ usual_rule name.now usual.now }
     ensures local { result.global ≡ false }
 {
-    Arg::new(alloc, "form")
-        .long("form")
-        .value_name("FORM")
+    Arg::new(alloc, name)
+        .long(name)
+        .value_name(value)
         .help(text)
-        .default_value("stream")
+        .default_value(usual)
 }
 
 /// `--message-words`.
@@ -31,12 +37,8 @@ fn words_option<'a>(alloc: Global, text: &'a str) -> Arg<'a>
     ensures rule { rule_of result ≡ words_rule }
     ensures local { result.global ≡ false }
 {
-    Arg::new(alloc, "message-words")
-        .long("message-words")
-        .value_name("N")
-        .help(text)
-        .default_value("8388608")
-        .value_parser(clap::value_parser!(u32).range(1..=MOST_MESSAGE_WORDS as i64))
+    let numbers = clap::value_parser!(u32).range(1..=MOST_MESSAGE_WORDS as i64);
+    usual_option(alloc, "message-words", "N", text, "8388608").value_parser(numbers)
 }
 
 /// `--budget`.
@@ -44,12 +46,8 @@ fn budget_option<'a>(alloc: Global) -> Arg<'a>
     ensures rule { rule_of result ≡ budget_rule }
     ensures local { result.global ≡ false }
 {
-    Arg::new(alloc, "budget")
-        .long("budget")
-        .value_name("N")
-        .help(help::BUDGET)
-        .default_value("8388608")
-        .value_parser(clap::value_parser!(u32).range(0..=MOST_COST as i64))
+    let numbers = clap::value_parser!(u32).range(0..=MOST_COST as i64);
+    usual_option(alloc, "budget", "N", help::BUDGET, "8388608").value_parser(numbers)
 }
 
 /// `--depth`.
@@ -57,24 +55,8 @@ fn depth_option<'a>(alloc: Global) -> Arg<'a>
     ensures rule { rule_of result ≡ depth_rule }
     ensures local { result.global ≡ false }
 {
-    Arg::new(alloc, "depth")
-        .long("depth")
-        .value_name("N")
-        .help(help::DEPTH)
-        .default_value("64")
-        .value_parser(clap::value_parser!(u32).range(1..=MOST_HEIGHT as i64))
-}
-
-/// `--tariff`. It takes any text here, as `--form` does.
-fn tariff_option<'a>(alloc: Global) -> Arg<'a>
-    ensures rule { rule_of result ≡ tariff_rule }
-    ensures local { result.global ≡ false }
-{
-    Arg::new(alloc, "tariff")
-        .long("tariff")
-        .value_name("TARIFF")
-        .help(help::TARIFF)
-        .default_value("strict")
+    let numbers = clap::value_parser!(u32).range(1..=MOST_HEIGHT as i64);
+    usual_option(alloc, "depth", "N", help::DEPTH, "64").value_parser(numbers)
 }
 
 /// A command of this name without options, with its page of help.
@@ -96,7 +78,8 @@ fn formed_command<'a>(
 ) -> Result<Command<'a>, AllocError>
     ensures { IfOk result (λ c. HasLine c (formed_line name.now)) }
 {
-    let command = plain_command(alloc, name, page).arg(form_option(alloc, forms))?;
+    let form = usual_option(alloc, "form", "FORM", forms, "stream");
+    let command = plain_command(alloc, name, page).arg(form)?;
     command.arg(words_option(alloc, help::MESSAGE_WORDS))
 }
 
@@ -107,7 +90,7 @@ fn with_walk<'a>(alloc: Global, command: Command<'a>) -> Result<Command<'a>, All
 {
     let with_budget = command.arg(budget_option(alloc))?;
     let with_depth = with_budget.arg(depth_option(alloc))?;
-    with_depth.arg(tariff_option(alloc))
+    with_depth.arg(usual_option(alloc, "tariff", "TARIFF", help::TARIFF, "strict"))
 }
 
 /// A command over messages: with `--form`, which has this help, the three limits and the tariff.

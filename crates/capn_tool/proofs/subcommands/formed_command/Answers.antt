@@ -8,9 +8,9 @@ use Rattle.capn_tool.proofs.subcommands.formed_command.Goals as goal
 pub returns : goal.returns
 returns c =
     let one = c.in_ok-command.ensures in
-    let formed = one.shape c.form_option.ensures.local
-    ∙ ap₂ with_rule c.plain_command.ensures.app c.form_option.ensures.rule in
+    let formed = one.shape c.usual_option-form.ensures.local
+    ∙ ap₂ with_rule c.plain_command.ensures.app c.usual_option-form.ensures.rule in
     let free : (out-Command c.in_ok-command.command).has_globals ≡ false =
-    rw (one.globals, c.plain_command.ensures.local, c.form_option.ensures.local) refl in
+    rw (one.globals, c.plain_command.ensures.local, c.usual_option-form.ensures.local) refl in
     answers_option c.in_ok-command.command c.words_option.result (with_rule (new_app c.args.name.now) form_rule)
     words_rule c.arg-2.result (formed, free) c.words_option.ensures.rule c.words_option.ensures.local c.arg-2.ensures

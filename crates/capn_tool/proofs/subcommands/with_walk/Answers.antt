@@ -14,6 +14,6 @@ returns c =
     let free : (out-Command c.in_ok-with_depth.with_depth).has_globals ≡ false =
     rw (two.globals, one.globals, c.requires, c.budget_option.ensures.local, c.depth_option.ensures.local)
     refl in
-    answers_option c.in_ok-with_depth.with_depth c.tariff_option.result
+    answers_option c.in_ok-with_depth.with_depth c.usual_option.result
     (with_rule (with_rule (app_of c.args.command) budget_rule) depth_rule) tariff_rule c.arg-3.result (deep, free)
-    c.tariff_option.ensures.rule c.tariff_option.ensures.local c.arg-3.ensures
+    c.usual_option.ensures.rule c.usual_option.ensures.local c.arg-3.ensures
