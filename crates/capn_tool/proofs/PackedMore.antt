@@ -7,7 +7,7 @@ use Rattle.std.proofs.lemmas.Grind.{flat_map-append}
 use Rattle.capn_walk.specs.Limits.{Bounds}
 use Rattle.capn_pack.specs.Group.{IsGroup, text, content}
 use Rattle.capn_pack.specs.Packs.{texts, contents}
-use Rattle.capn_pack.specs.Stream.{Begins, Feeds, Held, NoGroupFirst, Splits, advanced}
+use Rattle.capn_pack.specs.Stream.{Begins, Held, NoGroupFirst, Splits, advanced}
 use Rattle.capn_pack.specs.Laws.StreamLemmas.{splits_open, splits_then}
 use Rattle.capn_stream.specs.Framing.{Framing}
 use Rattle.capn_tool.specs.Sending.{Outgoing, SendsRest, outgoing, sent}
@@ -86,18 +86,6 @@ module _ (piece : Piece) (limits : Bounds) (held : Held) (rest x : List ℕ) (mi
         subst (λ (l : List ℕ). Stops piece limits l a c failed fault) (append_assoc rest w v)
             (stops_more piece limits (rest ++ w) left v a b c failed fault told.5 stop),
       )
-
-module _ (piece : Piece) (limits : Bounds) (held : Held) (rest bytes words : List ℕ) (next : Held) where
-  -- one slice
-  pub packed_one : (left : List ℕ) (a b : Outgoing) → Feeds held bytes [] words next
-      → Tells piece limits (rest ++ words) left a b → TellsPacked piece limits held rest bytes next left a b
-  packed_one left a b fed told = (words, fed.len, fed.split, fed.offset, fed.is_good, told)
-
-  pub packed_one_stop : (a b : Outgoing) (failed : Bool) (fault : ToolFault) → Feeds held bytes [] words next
-      → Stops piece limits (rest ++ words) a b failed fault
-      → StopsPacked piece limits held.rest rest bytes a b failed fault
-  packed_one_stop a b failed fault fed stop =
-      (words, begins_all (held.rest ++ bytes) next.rest words fed.len fed.split, stop)
 
 -- memory was refused while a slice was unpacked
 pub packed_memory : (piece : Piece) (limits : Bounds) (group rest bytes : List ℕ) (a : Outgoing) (failed : Bool)
