@@ -1,6 +1,6 @@
 //! What the visits of slots found.
 
-ghost use Rattle.std.specs.Prelude.{◌≡◌, ◌+◌, ◌<◌, ◌^◌};
+ghost use Rattle.std.specs.Prelude.{◌≡◌};
 ghost use Rattle.capn_value.specs.Tree as trees;
 ghost use Rattle.capn_value.specs.View.{tree_of, trees_of, rows_of};
 
@@ -40,22 +40,6 @@ impl<A: Allocator> Found<A> {
             value,
             paid: 0,
             visits: 0,
-        }
-    }
-
-    /// The same behind visits that paid so much.
-    #[inline(always)]
-    pub fn behind(self, paid: u32, visits: u32) -> Found<A>
-        requires paid { paid + self.paid < 2 ^ 32 }
-        requires visits { visits + self.visits < 2 ^ 32 }
-        ensures value { result.value ≡ self.value }
-        ensures paid { result.paid ≡ paid + self.paid }
-        ensures visits { result.visits ≡ visits + self.visits }
-    {
-        Found {
-            value: self.value,
-            paid: paid + self.paid,
-            visits: visits + self.visits,
         }
     }
 }

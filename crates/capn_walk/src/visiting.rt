@@ -134,7 +134,11 @@ pub fn walk_target<S: Space, A: Allocator + Copy>(
             let start = place(segment, start);
             let left = left - price;
             match object(alloc, space, at, start, shape, depth - 1, left, base) {
-                Ok(found) => Ok(found.behind(price, 1)),
+                Ok(found) => Ok(Found {
+                    value: found.value,
+                    paid: price + found.paid,
+                    visits: 1 + found.visits,
+                }),
                 Err(stopped) => Err(stopped.behind(price, 1)),
             }
         }

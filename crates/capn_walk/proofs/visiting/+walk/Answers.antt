@@ -123,8 +123,8 @@ walk_target-object-requires g t c κs within =
     record { exists = present m c.args.at x.segment x.start x.pads x.shape c.requires.place e; within = i.0 } in
     search rules
 
-pub walk_target-behind-requires-clause-visits : goal.walk_target-behind-requires-clause-visits
-walk_target-behind-requires-clause-visits g t c =
+pub walk_target-overflow_add-result-in-Ok-object : goal.walk_target-overflow_add-result-in-Ok-object
+walk_target-overflow_add-result-in-Ok-object g t c =
     let m = g.S.Space.message c.args.space.now in
     let x = c.in-Content in
     let i = inside m c.args.at x.segment x.start x.pads x.shape (c.requires.target ∙ ap Ok x.is) in
@@ -137,9 +137,8 @@ walk_target-behind-requires-clause-visits g t c =
     let b = r.few in
     omega arith
 
-pub walk_target-behind-requires-in-Err-object-clause-visits
-    : goal.walk_target-behind-requires-in-Err-object-clause-visits
-walk_target-behind-requires-in-Err-object-clause-visits g t c =
+pub walk_target-behind-requires-clause-visits : goal.walk_target-behind-requires-clause-visits
+walk_target-behind-requires-clause-visits g t c =
     let m = g.S.Space.message c.args.space.now in
     let x = c.in-Content in
     let i = inside m c.args.at x.segment x.start x.pads x.shape (c.requires.target ∙ ap Ok x.is) in
@@ -159,14 +158,13 @@ walk_target-returns-in-Ok-object-clause-answer g t c =
     let p = c.in-Ok.ensures.price in
     let e = c.requires.target ∙ ap Ok x.is in
     let found = c.in-Ok-object.found in
-    let made = c.behind.ensures in
     let k = content-taken c.args.base c.args.depth c.args.left x.segment x.start x.pads x.shape c.in-Ok.ensures.found in
     let h = rw (c.place-start.ensures, p) at c.in-Ok-object.ensures.0 in
     let v = rw c.place-start.ensures at c.in-Ok-object.ensures.1 in (
-      rw (made.paid, made.visits, p)
+      rw p
           (gives-object m c.args.base c.args.at x.segment x.start x.pads x.shape e c.args.left c.args.depth k.0 k.1
           found.paid found.visits h),
-      rw made.value (is-inside m c.args.at x.segment x.start x.pads x.shape (tree_of found.value) e v),
+      is-inside m c.args.at x.segment x.start x.pads x.shape (tree_of found.value) e v,
     )
 
 pub walk_target-returns-in-Err-object-clause-answer : goal.walk_target-returns-in-Err-object-clause-answer
@@ -177,7 +175,7 @@ walk_target-returns-in-Err-object-clause-answer g t c =
     let e = c.requires.target ∙ ap Ok x.is in
     let k = content-taken c.args.base c.args.depth c.args.left x.segment x.start x.pads x.shape c.in-Ok.ensures.found in
     let h = rw (c.place-start.ensures, p) at c.in-Err-object.ensures in
-    rw (c.behind-in-Err-object.ensures, p)
+    rw (c.behind.ensures, p)
     (refuses-object m c.args.base c.args.at x.segment x.start x.pads x.shape e c.args.left c.args.depth k.0 k.1
     c.in-Err-object.stopped h)
 
