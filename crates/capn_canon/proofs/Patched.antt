@@ -172,13 +172,31 @@ module _ (ms ns bs content : List ℕ) (k : ℕ) (is : IsPatched ms bs) (same : 
       length-append content (replicate (pad (length content)) 0)
       ∙ (let r = length-replicate {A = ℕ} (pad (length content)) 0 in omega arith)
 
-  pub patched-padded : patched ns (bs ++ padded content) ≡ patched ms bs ++ whole (packed 8 8 k content)
+  patched-padded : patched ns (bs ++ padded content) ≡ patched ms bs ++ whole (packed 8 8 k content)
   patched-padded =
       patched-append ms ns bs (padded content) k is padded-length same
       ∙ ap (λ (xs : List (Option ℕ)). patched ms bs ++ xs) (cells-words k (padded content))
       ∙ ap (λ (ws : List ℕ). patched ms bs ++ whole ws) (packed-padded 8 8 k (pad (length content)) content)
 
-  pub is-padded : length bs / 8 + k ≤ 64 * length ns → AreBytes content → IsPatched ns (bs ++ padded content)
+  is-padded : length bs / 8 + k ≤ 64 * length ns → AreBytes content → IsPatched ns (bs ++ padded content)
   is-padded room are =
       is-appended ms ns bs (padded content) k is padded-length same room
       (AreBytes-append content (replicate (pad (length content)) 0) are (AreBytes-zeros (pad (length content))))
+
+-- the bytes have grown by these
+module _ (ms ns bs content items : List ℕ) (k : ℕ) (is : IsPatched ms bs) (same : (i : ℕ)
+    → is_marked ns i ≡ is_marked ms i) (l : 8 * k ≡ length content + pad (length content))
+    (grown : items ≡ bs ++ padded content) where
+  pub grown-length : length items ≡ length bs + 8 * k
+  grown-length =
+      ap length grown ∙ length-append bs (padded content)
+      ∙ ap (λ (n : ℕ). length bs + n) (padded-length ms ns bs content k is same l)
+
+  pub is-grown : length bs / 8 + k ≤ 64 * length ns → AreBytes content → IsPatched ns items
+  is-grown room are = subst (IsPatched ns) (sym grown) (is-padded ms ns bs content k is same l room are)
+
+  pub patched-grown : (p : List (Option ℕ)) (ws : List ℕ) → patched ms bs ≡ p → packed 8 8 k content ≡ ws
+      → patched ns items ≡ p ++ whole ws
+  patched-grown p ws e f =
+      ap (patched ns) grown ∙ patched-padded ms ns bs content k is same l
+      ∙ ap₂ (λ (q : List (Option ℕ)) (vs : List ℕ). q ++ whole vs) e f
