@@ -25,7 +25,8 @@ invariant_of-self-2 g c =
     let k = length c.args.xs.now in
     let n = length-numbers 8 c.args.xs.now in
     let d = grown-length c.self.inside.holes.items c.cover.new.marks.items c.self.inside.bytes.items content
-    c.append_octs.new.bytes.items k c.self.invariant c.cover.ensures.same (omega arith) c.in_ok-append_octs.ensures.ok in
+    c.append_octs.new.bytes.items k c.self.invariant c.cover.ensures.same
+    (omega arith) c.in_ok-append_octs.ensures.ok in
     let o = c.append_octs.new.bytes.ok.0 in
     let o1 = c.append_octs.new.bytes.ok.1 in
     let small = c.append_octs.new.bytes.small in

@@ -23,7 +23,8 @@ invariant_of-self-2 g c =
     let content = c.args.xs.now in
     let k = words_for (8 * length c.args.xs.now) in
     let d = grown-length c.self.inside.holes.items c.cover.new.marks.items c.self.inside.bytes.items content
-    c.append_bytes.new.bytes.items k c.self.invariant c.cover.ensures.same (omega arith) c.in_ok-append_bytes.ensures.ok in
+    c.append_bytes.new.bytes.items k c.self.invariant c.cover.ensures.same
+    (omega arith) c.in_ok-append_bytes.ensures.ok in
     let o = c.append_bytes.new.bytes.ok.0 in
     let o1 = c.append_bytes.new.bytes.ok.1 in
     let small = c.append_bytes.new.bytes.small in

@@ -27,7 +27,8 @@ invariant_of-self-2 g c =
     let k = words_for (32 * length c.args.xs.now) in
     let n = length-numbers 4 c.args.xs.now in
     let d = grown-length c.self.inside.holes.items c.cover.new.marks.items c.self.inside.bytes.items content
-    c.append_quads.new.bytes.items k c.self.invariant c.cover.ensures.same (omega arith) c.in_ok-append_quads.ensures.ok in
+    c.append_quads.new.bytes.items k c.self.invariant c.cover.ensures.same
+    (omega arith) c.in_ok-append_quads.ensures.ok in
     let o = c.append_quads.new.bytes.ok.0 in
     let o1 = c.append_quads.new.bytes.ok.1 in
     let small = c.append_quads.new.bytes.small in
