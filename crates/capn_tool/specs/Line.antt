@@ -40,17 +40,11 @@ tariff_rule = usual_rule (codes "tariff") (codes "strict")
 abbrev pub HasLine : Command → App → Type 0
 HasLine command line = (app_of command ≡ line) × ((out-Command command).has_globals ≡ false)
 
--- a command that takes a form and the words of a message
-abbrev pub formed_line : Text → App
-formed_line name = with_rule (with_rule (new_app name) form_rule) words_rule
-
--- a command with the budget, the depth and the tariff beside its options
-abbrev pub walked_line : App → App
-walked_line line = with_rule (with_rule (with_rule line budget_rule) depth_rule) tariff_rule
-
 -- a command over messages takes a form, three limits and a tariff
 abbrev pub message_line : Text → App
-message_line name = walked_line (formed_line name)
+message_line name =
+    with_rule (with_rule (with_rule (with_rule (with_rule (new_app name) form_rule) words_rule) budget_rule) depth_rule)
+    tariff_rule
 
 -- `pack` takes no option
 abbrev pub pack_line : App

@@ -4,7 +4,7 @@ ghost use Rattle.std.specs.Prelude.{◌≡◌, IfOk, false};
 ghost use Rattle.clap.specs.Words.{App, app_of, rule_of, new_app, with_subcommand};
 ghost use Rattle.clap.specs.declared.builder.command.Command.TheViews.{out-Command};
 ghost use Rattle.capn_tool.specs.Line.{HasLine, usual_rule, words_rule, budget_rule, depth_rule};
-ghost use Rattle.capn_tool.specs.Line.{formed_line, walked_line, message_line, unpack_line, shown_line, messages_line};
+ghost use Rattle.capn_tool.specs.Line.{message_line, unpack_line, shown_line, messages_line};
 ghost use Rattle.capn_tool.specs.Line.{tool_line};
 
 use crate::help::{self, Page};
@@ -69,30 +69,6 @@ fn plain_command<'a>(alloc: Global, name: &'a str, page: Page) -> Command<'a>
         .after_help(page.more)
 }
 
-/// A command with `--form`, which has this help, and `--message-words`.
-fn formed_command<'a>(
-    alloc: Global,
-    name: &'a str,
-    page: Page,
-    forms: &'a str,
-) -> Result<Command<'a>, AllocError>
-    ensures { IfOk result (λ c. HasLine c (formed_line name.now)) }
-{
-    let form = usual_option(alloc, "form", "FORM", forms, "stream");
-    let command = plain_command(alloc, name, page).arg(form)?;
-    command.arg(words_option(alloc, help::MESSAGE_WORDS))
-}
-
-/// A command with the limits and the tariff of a walk beside the options that it has.
-fn with_walk<'a>(alloc: Global, command: Command<'a>) -> Result<Command<'a>, AllocError>
-    requires { (out-Command command).has_globals ≡ false }
-    ensures { IfOk result (λ c. HasLine c (walked_line (app_of command.entry))) }
-{
-    let with_budget = command.arg(budget_option(alloc))?;
-    let with_depth = with_budget.arg(depth_option(alloc))?;
-    with_depth.arg(usual_option(alloc, "tariff", "TARIFF", help::TARIFF, "strict"))
-}
-
 /// A command over messages: with `--form`, which has this help, the three limits and the tariff.
 fn message_command<'a>(
     alloc: Global,
@@ -102,8 +78,14 @@ fn message_command<'a>(
 ) -> Result<Command<'a>, AllocError>
     ensures { IfOk result (λ c. HasLine c (message_line name.now)) }
 {
-    let command = formed_command(alloc, name, page, forms)?;
-    with_walk(alloc, command)
+    let options = vec![in alloc;
+        usual_option(alloc, "form", "FORM", forms, "stream"),
+        words_option(alloc, help::MESSAGE_WORDS),
+        budget_option(alloc),
+        depth_option(alloc),
+        usual_option(alloc, "tariff", "TARIFF", help::TARIFF, "strict"),
+    ]?;
+    plain_command(alloc, name, page).args(options)
 }
 
 /// `unpack` and its option.

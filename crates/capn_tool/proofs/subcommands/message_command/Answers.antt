@@ -1,14 +1,28 @@
-use Rattle.std.proofs.Common.{ap, ◌∙◌}
-use Rattle.std.proofs.lemmas.Result.{IfOk-weaker}
-use Rattle.clap.specs.Words.{app_of}
-use Rattle.capn_tool.specs.Line.{HasLine, message_line, walked_line}
+use Rattle.std.proofs.Common.{◌≡◌, ap, ap₂, [], ◌∷◌, List, subst, IfOk}
+use Rattle.clap.specs.Words.{AddsArg, AddsInTurn, App, new_app, with_rule}
+use Rattle.clap.specs.declared.builder.arg.Arg.{Arg}
+use Rattle.capn_tool.specs.Line.{HasLine, message_line}
+use Rattle.capn_tool.proofs.CommandLines.{answers_options, with_options}
 use Rattle.capn_tool.proofs.subcommands.message_command.Goals as goal
-
-pub with_walk-requires : goal.with_walk-requires
-with_walk-requires c = c.in_ok-command.ensures.1
 
 pub returns : goal.returns
 returns c =
-    IfOk-weaker c.with_walk.result (λ new. HasLine new (walked_line (app_of c.in_ok-command.command)))
-    (λ new. HasLine new (message_line c.args.name.now))
-    (λ new has. (has.0 ∙ ap walked_line c.in_ok-command.ensures.0, has.1)) c.with_walk.ensures
+    let form = c.usual_option.ensures in
+    let words = c.words_option.ensures in
+    let budget = c.budget_option.ensures in
+    let depth = c.depth_option.ensures in
+    let tariff = c.usual_option-2.ensures in
+    let r = c.args-2.result in
+    let options : List Arg = c.usual_option.result ∷ c.words_option.result ∷ c.budget_option.result
+    ∷ c.depth_option.result ∷ c.usual_option-2.result ∷ [] in
+    let adds = subst (λ (xs : List Arg). IfOk r (AddsInTurn AddsArg c.plain_command.result xs))
+    c.in_ok-options.ensures.items c.args-2.ensures in
+    let has = answers_options c.plain_command.result options (new_app c.args.name.now) r
+    (c.plain_command.ensures.app, c.plain_command.ensures.local)
+    (form.local, (words.local, (budget.local, (depth.local, (tariff.local, tt))))) adds in
+    let line : with_options (new_app c.args.name.now) options ≡ message_line c.args.name.now = ap₂ with_rule
+    (ap₂ with_rule
+    (ap₂ with_rule (ap₂ with_rule (ap (with_rule (new_app c.args.name.now)) form.rule) words.rule) budget.rule)
+    depth.rule)
+    tariff.rule in
+    subst (λ (a : App). IfOk r (λ new. HasLine new a)) line has
