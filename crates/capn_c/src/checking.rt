@@ -2,7 +2,7 @@
 
 ghost use Rattle.std.specs.Prelude.{IsTrue, ◌≡◌, ◌⊎◌, ◌↔◌, ◌≤◌};
 ghost use Rattle.capn_value.specs.Tree.{Tree as Value};
-ghost use Rattle.capn_walk.specs.Denotes.{IsBounded};
+ghost use Rattle.capn_walk.specs.Accepted.{IsBounded};
 ghost use Rattle.capn_walk.specs.declared.surveyed.Surveyed.{Surveyed as Survey};
 ghost use Rattle.capn_canon.specs.Denotes.{Denotes};
 ghost use Rattle.capn_canon.specs.Refused.{IsUnacceptedIn};

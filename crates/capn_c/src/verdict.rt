@@ -3,7 +3,7 @@
 ghost use Rattle.std.specs.Prelude.{IsTrue, ◌≡◌, ◌≢◌, ◌⊎◌, ◌↔◌, ◌≤◌, None, true, false};
 ghost use Rattle.capn_value.specs.Tree.{Tree as Value};
 ghost use Rattle.capn_value.specs.Caps.{first_cap};
-ghost use Rattle.capn_walk.specs.Denotes.{IsBounded};
+ghost use Rattle.capn_walk.specs.Accepted.{IsBounded};
 ghost use Rattle.capn_canon.specs.Checks.{Checks};
 ghost use Rattle.capn_canon.specs.Denotes.{Denotes};
 ghost use Rattle.capn_canon.specs.Layout.{canon};

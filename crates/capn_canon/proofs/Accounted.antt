@@ -1,6 +1,7 @@
 -- What a survey of bytes tells is so of their packed text, and of any value that the bytes denote.
 use Rattle.std.proofs.Common.{◌≡◌, ℕ, ◌+◌, ◌*◌, ◌^◌, ◌≤◌, List, length, ap, arith, ◌∙◌, Result, Ok, Err, MatchResult}
 use Rattle.std.proofs.Common.{IfOk, IfErr}
+use Rattle.std.proofs.lemmas.Result.{IfOk-weaker, IfErr-weaker}
 use Rattle.capn_value.specs.Tree.{Tree}
 use Rattle.capn_value.specs.Caps.{first_cap}
 use Rattle.capn_walk.specs.declared.surveyed.Surveyed.{Surveyed}
@@ -12,20 +13,14 @@ use Rattle.capn_canon.specs.declared.refusal.Refusal.TheVariants as refusals
 use Rattle.capn_canon.specs.Reads.{Unpacks}
 use Rattle.capn_canon.specs.Denotes.{Denotes}
 use Rattle.capn_canon.specs.Refused.{IsUnacceptedIn}
-use Rattle.capn_canon.specs.Surveys.{Surveys}
+use Rattle.capn_canon.specs.Surveys.{Surveys, AreSurveyed}
 use Rattle.capn_canon.specs.Laws.OneReading.{one_value, is_message}
 use Rattle.capn_canon.specs.Laws.NotUnaccepted.{not_unaccepted}
 use Rattle.capn_canon.specs.Layout.{canon}
 use Rattle.capn_canon.proofs.Answered.{denoted_here}
 use Rattle.capn_canon.proofs.Headline.{denoted_length}
 use Rattle.capn_canon.proofs.InEachForm.{packed_refused}
-
--- what is told of an unpacked frame is told of its packed text,
-pub packed_surveys : (r : Result Surveyed Refusal) (bs text : List ℕ) (limits : Bounds)
-    → Unpacks bs limits.message_words text →
-    IfOk r (λ s. Surveys forms.Stream text limits s) → IfOk r (λ s. Surveys forms.Packed bs limits s)
-packed_surveys (Ok s) bs text limits u h = record { message = h.message; reads = (text, u, h.reads); survey = h.survey }
-packed_surveys (Err e) bs text limits u h = tt
+use Rattle.capn_canon.proofs.Wanted.{packed_wanted}
 
 packed_unaccepted : (bs text : List ℕ) (limits : Bounds) (r : Refusal) → Unpacks bs limits.message_words text
     → IsUnacceptedIn forms.Stream text limits r → IsUnacceptedIn forms.Packed bs limits r
@@ -37,12 +32,17 @@ packed_unaccepted bs text limits (refusals.Trailing at) u h = packed_refused bs 
 packed_unaccepted bs text limits (refusals.Bare e) u h = packed_refused bs text limits (refusals.Bare e) u h
 packed_unaccepted bs text limits (refusals.Packed e) u h = packed_refused bs text limits (refusals.Packed e) u h
 
--- and so is what is refused
-pub packed_unaccepted_err : (r : Result Surveyed Refusal) (bs text : List ℕ) (limits : Bounds)
+-- what a call tells or refuses of an unpacked frame is so of its packed text
+pub packed_surveyed : (r : Result Surveyed Refusal) (bs text : List ℕ) (limits : Bounds)
     → Unpacks bs limits.message_words text →
-    IfErr r (λ e. IsUnacceptedIn forms.Stream text limits e) → IfErr r (λ e. IsUnacceptedIn forms.Packed bs limits e)
-packed_unaccepted_err (Ok s) bs text limits u h = tt
-packed_unaccepted_err (Err e) bs text limits u h = packed_unaccepted bs text limits e u h
+    AreSurveyed forms.Stream text limits r → AreSurveyed forms.Packed bs limits r
+packed_surveyed r bs text limits u h = record {
+  found = IfOk-weaker r _ _ (λ s a. record { message = a.message; reads = (text, u, a.reads); survey = a.survey })
+      h.found;
+  refused = IfErr-weaker r _ _ (λ e. packed_unaccepted bs text limits e u) h.refused;
+  wanted = λ e. packed_wanted bs text limits u (h.wanted e);
+  bounded = h.bounded;
+}
 
 -- a call that tells and refuses so tells of any value that the bytes denote
 pub surveyed_only : (r : Result Surveyed Refusal) (form : Form) (bs : List ℕ) (limits : Bounds) →
@@ -60,9 +60,8 @@ pub surveyed_short : (r : Result Surveyed Refusal) (form : Form) (bs : List ℕ)
     limits.message_words ≤ 2 ^ 28 → limits.budget ≤ 2 ^ 28 → limits.depth ≤ 256 →
     IfOk r (λ s. Surveys form bs limits s)
     → IfOk r (λ s. (v : Tree) → Denotes form bs limits v → length (canon v) ≤ 8 * (s.paid + 1))
-surveyed_short (Ok s) form bs limits few small shallow h = λ v d.
+surveyed_short r form bs limits few small shallow = IfOk-weaker r _ _ (λ s h v d.
     let m = is_message form bs limits.message_words h.message few h.reads in
     let l = denoted_length h.message limits v m small shallow (denoted_here form bs limits h.message v h.reads d) in
     let e = h.survey.pays in
-    omega arith
-surveyed_short (Err e) form bs limits few small shallow h = tt
+    omega arith)

@@ -2,8 +2,8 @@
 use Rattle.std.proofs.Common.{◌≡◌, ℕ, ◌*◌, ◌+◌, ◌^◌, ◌≤◌, List, length, ap, subst, ◌∙◌, arith}
 use Rattle.capn_words.specs.Message.{IsMessage}
 use Rattle.capn_value.specs.Tree.{Tree}
-use Rattle.capn_walk.specs.Accepted.{root}
-use Rattle.capn_walk.specs.Denotes.{IsValueOf}
+use Rattle.capn_walk.specs.Stops.{root}
+use Rattle.capn_walk.specs.Accepted.{IsValueOf}
 use Rattle.capn_walk.specs.Limits.{Bounds}
 use Rattle.capn_walk.specs.Laws.Unique.{unique}
 use Rattle.capn_canon.specs.declared.form.Form.{Form}
@@ -20,10 +20,6 @@ module _ (m : List (List ℕ)) (limits : Bounds) (bs : List ℕ) (n : ℕ) (h : 
   -- has the canonical bytes of whichever value the message has,
   pub answer_only : (v : Tree) → IsValueOf m limits v → bs ≡ canon v
   answer_only v k = h.canonical ∙ ap canon (unique m h.value v root h.is.is k.is)
-
-  -- and a price within the budget;
-  pub answer_within : n ≤ limits.budget
-  answer_within = let e = h.priced in let w = h.is.accepted.within.paid in omega arith
 
   module _ (is : IsMessage m) (small : limits.budget ≤ 2 ^ 28) (shallow : limits.depth ≤ 256) where
     -- there are at most 8 bytes for each word paid and 8 more,
@@ -51,10 +47,6 @@ module _ (form : Form) (bs : List ℕ) (limits : Bounds) (out : List ℕ) (n : �
   -- has the canonical bytes of whichever value the bytes denote,
   pub answers_only : (v : Tree) → Denotes form bs limits v → out ≡ canon v
   answers_only v k = answer_only h.message limits out n h.answer v (denoted_here form bs limits h.message v h.reads k)
-
-  -- and a price within the budget;
-  pub answers_within : n ≤ limits.budget
-  answers_within = answer_within h.message limits out n h.answer
 
   module _ (few : limits.message_words ≤ 2 ^ 28) (small : limits.budget ≤ 2 ^ 28) (shallow : limits.depth ≤ 256) where
     -- there are at most 8 bytes for each word paid and 8 more,

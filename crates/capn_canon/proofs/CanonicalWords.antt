@@ -1,7 +1,6 @@
 -- Words are canonical exactly if the value at their root stands as its layout, and no word is left.
-use Rattle.std.proofs.Common.{◌≡◌, ◌↔◌, ℕ, suc, ◌+◌, ◌^◌, ◌<◌, ◌≤◌, List, [], ◌∷◌, length, take, drop, slice_index}
-use Rattle.std.proofs.Common.{refl, ap, sym, subst, ◌∙◌, arith, Bool, true, false, Option, Some, None}
-use Rattle.std.specs.Bool.{IsTrue}
+use Rattle.std.proofs.Common.{◌≡◌, ◌↔◌, ℕ, ◌+◌, ◌<◌, ◌≤◌, List, ◌∷◌, length}
+use Rattle.std.proofs.Common.{ap, sym, subst, ◌∙◌, arith}
 use Rattle.std.proofs.Math.Seq.{take-length}
 use Rattle.std.proofs.lemmas.List.{take_all}
 use Rattle.capn_words.specs.Words.{bytes, IsBare}
@@ -13,7 +12,7 @@ use Rattle.capn_canon.specs.Layout.{size, point, lay, words, canon}
 use Rattle.capn_canon.specs.Sound.{Sound}
 use Rattle.capn_canon.proofs.Room.{length_words}
 use Rattle.capn_canon.proofs.BareCanon.{words_are_words}
-use Rattle.capn_canon.specs.Stands.{Stand, IsLaidAt, Tells}
+use Rattle.capn_canon.specs.Stands.{Stand, IsLaidAt}
 use Rattle.capn_canon.proofs.Standing.{stand-cons, stand-head, stand-tail}
 
 module _ (all : List ℕ) (v : Tree) (o : Sound v) (some : 0 < length all) where

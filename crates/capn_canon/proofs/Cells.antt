@@ -56,12 +56,6 @@ cells-one h w lt =
     ∙ cells-cons h [] (word_bytes w) [] (length-word_bytes w)
     ∙ rw (number-word w lt, cells-none []) refl
 
--- a word is appended
-pub cells-push : (hs : List Bool) (bs : List ℕ) (h : Bool) (w : ℕ) → length bs ≡ 8 * length hs → w < 2 ^ 64
-    → cells (hs ++ h ∷ []) (bs ++ word_bytes w) ≡ cells hs bs ++ cell h w ∷ []
-cells-push hs bs h w l lt =
-    cells-append hs (h ∷ []) bs (word_bytes w) l ∙ ap (λ (xs : List (Option ℕ)). cells hs bs ++ xs) (cells-one h w lt)
-
 -- the rest is forgotten
 pub cells-take : (n : ℕ) (hs : List Bool) (bs : List ℕ) → length bs ≡ 8 * length hs → n ≤ length hs
     → cells (take n hs) (take (8 * n) bs) ≡ take n (cells hs bs)

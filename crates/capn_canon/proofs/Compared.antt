@@ -16,7 +16,7 @@ use Rattle.capn_walk.specs.declared.target.Target.TheVariants as targets
 use Rattle.capn_walk.specs.declared.target.Shape.TheVariants as shapes
 use Rattle.capn_walk.specs.Target.{target}
 use Rattle.capn_walk.specs.At.{AreAt, AreWords, words_from}
-use Rattle.capn_walk.specs.Walked.{IsInside}
+use Rattle.capn_walk.specs.At.{IsInside}
 use Rattle.capn_canon.specs.Layout.{size, sizes, point, points, lay, lays, struct_to, list_to}
 use Rattle.capn_canon.specs.Sound.{Sound}
 use Rattle.capn_canon.proofs.LaidPointers.{struct-names, list-names}

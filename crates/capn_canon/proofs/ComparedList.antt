@@ -10,10 +10,11 @@ use Rattle.capn_words.specs.declared.pointer.Width.TheVariants.{W0, W1, W8, W16,
 use Rattle.capn_value.specs.Tree.{Tree}
 use Rattle.capn_walk.specs.declared.target.Target.TheVariants as targets
 use Rattle.capn_walk.specs.declared.target.Shape.TheVariants as shapes
-use Rattle.capn_walk.specs.Target.{content_words, target}
+use Rattle.capn_walk.specs.Target.{content_words, target, words_for}
 use Rattle.capn_walk.specs.At.{words_from}
-use Rattle.capn_walk.specs.Walked.{IsInside, IsPlain}
-use Rattle.capn_canon.specs.Layout.{size, point, lay, list_to, words_for}
+use Rattle.capn_walk.specs.At.{IsInside}
+use Rattle.capn_walk.specs.Shapes.{IsPlain}
+use Rattle.capn_canon.specs.Layout.{size, point, lay, list_to}
 use Rattle.capn_canon.specs.Sound.{Sound}
 use Rattle.capn_canon.proofs.OneSegment as one
 use Rattle.capn_canon.proofs.LaidPointers.{list-names}

@@ -16,7 +16,7 @@ use Rattle.capn_walk.specs.declared.target.Target.TheVariants as targets
 use Rattle.capn_walk.specs.declared.target.Shape.TheVariants as shapes
 use Rattle.capn_walk.specs.Target.{target}
 use Rattle.capn_walk.specs.At.{AreAt, RowsAt}
-use Rattle.capn_walk.specs.Walked.{IsInside}
+use Rattle.capn_walk.specs.At.{IsInside}
 use Rattle.capn_walk.specs.Laws.Unique.{unique-rows}
 use Rattle.capn_canon.specs.Layout.{own, size, sizes, sizes_in_rows, row_size, point, points, lay, lays, row_contents}
 use Rattle.capn_canon.specs.Layout.{lays_in_rows, list_to}
@@ -174,9 +174,6 @@ module _ (all : List ℕ) (a b n first end depth i row at : ℕ) (lt : i < n)
       × (k ≡ at + sizes ts)) where
     laid-this : AreLaidAt all this.slots (row + a) at × (k ≡ at + sizes this.slots)
     laid-this = h this.slots this.below this.long
-
-    pub rows-behind : k ≡ at + sizes this.slots
-    rows-behind = laid-this.1
 
     pub rows-grown : at ≤ k
     rows-grown = let e = laid-this.1 in omega arith

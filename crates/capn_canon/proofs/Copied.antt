@@ -1,16 +1,16 @@
 -- Bytes of a message that are copied as words.
 use Rattle.capn_walk.specs.Laws.Elements.{length-bytes_at}
 use Rattle.std.proofs.Common.{◌≡◌, ℕ, zero, suc, ◌+◌, ◌*◌, ◌%◌, ◌^◌, ◌<◌, ◌≤◌, List, [], ◌∷◌, ◌++◌, length, take, drop}
-use Rattle.std.proofs.Common.{slice_index, refl, ap, ap₂, sym, subst, ◌∙◌, arith, length-drop, Option}
-use Rattle.std.proofs.lemmas.List.{length-take-le, get_or-drop, get_or-take}
+use Rattle.std.proofs.Common.{slice_index, refl, ap, ap₂, ◌∙◌, arith, length-drop, Option}
+use Rattle.std.proofs.lemmas.List.{length-take-le, get_or-drop}
 use Rattle.std.specs.List.{flat_map}
 use Rattle.byteorder.specs.Endian.{little_bytes}
 use Rattle.capn_words.specs.Message.{IsMessage, segment_at, bytes_at}
-use Rattle.capn_words.specs.Words.{word_bytes, bytes, AreWords}
-use Rattle.capn_words.specs.declared.space.Place.{Place}
+use Rattle.capn_words.specs.Words.{word_bytes, bytes}
 use Rattle.capn_words.specs.Laws.Words.{bytes-drop, bytes-take, length-bytes}
 use Rattle.capn_walk.specs.At.{words_from}
-use Rattle.capn_canon.specs.Layout.{packed, words_for}
+use Rattle.capn_walk.specs.Target.{words_for}
+use Rattle.capn_canon.specs.Layout.{packed}
 use Rattle.capn_canon.specs.Patch.{whole}
 use Rattle.capn_canon.proofs.PackedBytes.{packed-numbers, packed-words}
 
@@ -42,7 +42,7 @@ copied-words m s w n is h =
     let ld = length-drop w seg in
     let lt = length-take-le n (drop w seg) (omega arith) in
     let e : bytes_at m (record { segment = s; word = w }) (8 * n) ≡ bytes (take n (drop w seg)) =
-    ap (take (8 * n)) (bytes-drop w seg) ∙ bytes-take n (drop w seg) (omega arith) in
+    ap (take (8 * n)) (bytes-drop w seg) ∙ bytes-take n (drop w seg) in
     let l = ap length e ∙ length-bytes (take n (drop w seg)) in
     let k : words_for (8 * length (bytes_at m (record { segment = s; word = w }) (8 * n)))
     ≡ length (take n (drop w seg)) = omega arith in

@@ -1,8 +1,8 @@
 -- The length up to the last number that is not zero.
 use Rattle.std.proofs.Common.{◌≡◌, ◌≢◌, ◌⊎◌, inl, inr, ℕ, zero, suc, ◌+◌, ◌-◌, ◌<◌, ◌≤◌, ◌==◌, max, Bool, List, [], ◌∷◌}
-use Rattle.std.proofs.Common.{length, take, drop, slice_index, refl, ap, sym, subst, ◌∙◌, arith, length-drop}
+use Rattle.std.proofs.Common.{length, take, drop, slice_index, refl, ap, sym, ◌∙◌, arith}
 use Rattle.std.proofs.lemmas.Bool.Decides.{nat_tests}
-use Rattle.std.proofs.lemmas.List.{get_or-drop, get_or-take, length-take-le}
+use Rattle.std.proofs.lemmas.List.{get_or-drop, get_or-take}
 use Rattle.capn_value.specs.Trim.{kept_behind, kept_words}
 use Rattle.capn_canon.proofs.KeptLengths.{kept_words-le}
 

@@ -7,9 +7,9 @@ use Rattle.capn_words.specs.Words.{AreBytes}
 use Rattle.capn_words.specs.Message.{word_bytes, bytes}
 use Rattle.capn_words.specs.Laws.Words.{AreBytes-append, length-word_bytes}
 use Rattle.capn_canon.specs.Draft.{drafted, IsDrafted}
-use Rattle.capn_canon.specs.Layout.{packed, words_for}
+use Rattle.capn_walk.specs.Target.{words_for}
+use Rattle.capn_canon.specs.Layout.{packed}
 use Rattle.capn_canon.specs.Patch.{cells, whole, filled, IsWhole}
-use Rattle.capn_canon.proofs.Bytes.{AreBytes-word}
 use Rattle.capn_canon.proofs.Cells.{length-cells, cells-none, cells-append, cells-one, cells-fill, cells-whole}
 use Rattle.capn_canon.proofs.Cells.{written-bytes, written-length}
 use Rattle.capn_canon.proofs.Holes.{whole-is}
@@ -51,17 +51,11 @@ drafted-push bs w is lt =
     drafted-append bs (word_bytes w) 1 is (length-word_bytes w)
     ∙ ap (λ (xs : List (Option ℕ)). drafted bs ++ xs) (cells-one false w lt)
 
-pub is-pushed : (bs : List ℕ) (w : ℕ) → IsDrafted bs → IsDrafted (bs ++ word_bytes w)
-is-pushed bs w is = is-longer bs (word_bytes w) 1 is (length-word_bytes w) (AreBytes-word w)
-
 pub drafted-words : (bs xs : List ℕ) → IsDrafted bs → length xs % 8 ≡ 0
     → drafted (bs ++ xs) ≡ drafted bs ++ whole (packed 8 8 (words_for (8 * length xs)) xs)
 drafted-words bs xs is e =
     let k = words_for (8 * length xs) in
     drafted-append bs xs k is (omega arith) ∙ ap (λ (ys : List (Option ℕ)). drafted bs ++ ys) (cells-words k xs)
-
-pub is-extended : (bs xs : List ℕ) → IsDrafted bs → length xs % 8 ≡ 0 → AreBytes xs → IsDrafted (bs ++ xs)
-is-extended bs xs is e are = is-longer bs xs (length xs / 8) is (omega arith) are
 
 -- the bytes of a word are written
 module _ (bs cs : List ℕ) (at w : ℕ) (is : IsDrafted bs) (lt : at < length bs / 8) (fits : w < 2 ^ 64)

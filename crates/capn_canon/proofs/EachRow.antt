@@ -1,8 +1,8 @@
 -- Rows of equal sizes, one after the other.
-use Rattle.std.proofs.Common.{◌≡◌, ℕ, zero, suc, ◌+◌, ◌-◌, ◌*◌, ◌^◌, ◌<◌, ◌≤◌, max, List, [], ◌++◌, length, take, refl}
+use Rattle.std.proofs.Common.{◌≡◌, ℕ, zero, suc, ◌+◌, ◌-◌, ◌*◌, ◌<◌, ◌≤◌, max, List, ◌++◌, length, take, refl}
 use Rattle.std.proofs.Common.{ap, ap₂, sym, subst, ◌∙◌, arith, append_assoc, append-nil, length-drop, Option}
-use Rattle.capn_words.specs.Message.{IsMessage, segment_at}
-use Rattle.capn_value.specs.Tree.{Trees, Bodies, no_bodies, body, count, count_rows}
+use Rattle.capn_words.specs.Message.{segment_at}
+use Rattle.capn_value.specs.Tree.{Bodies, no_bodies, body, count_rows}
 use Rattle.capn_value.specs.Trim.{kept_words, kept_words_of_rows, kept_slots_of_rows}
 use Rattle.capn_walk.specs.At.{RowsAt, words_from}
 use Rattle.capn_canon.specs.Patch.{whole}

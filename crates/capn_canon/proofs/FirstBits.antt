@@ -1,5 +1,5 @@
 -- Elements that are packed into words are the first bits of the words that they are read from.
-use Rattle.std.proofs.Common.{◌≡◌, ◌≢◌, ◌⊎◌, inl, inr, ℕ, zero, suc, ◌+◌, ◌-◌, ◌*◌, ◌/◌, ◌%◌, ◌^◌, ◌<◌, ◌≤◌, List, []}
+use Rattle.std.proofs.Common.{◌≡◌, ◌≢◌, ℕ, zero, suc, ◌+◌, ◌*◌, ◌/◌, ◌%◌, ◌^◌, ◌<◌, ◌≤◌, List, []}
 use Rattle.std.proofs.Common.{◌∷◌, ◌++◌, length, take, drop, set, map, slice_index, refl, ap, ap₂, sym, subst, ◌∙◌}
 use Rattle.std.proofs.Common.{arith, append-nil, append_assoc, length-drop, Option, Some}
 use Rattle.std.specs.Int.{from_bool}
@@ -8,14 +8,15 @@ use Rattle.std.proofs.Math.Nat.{add-div_right, add-mod_right, div-add-mod}
 use Rattle.std.proofs.Math.Arith.{mod-mul}
 use Rattle.std.proofs.lemmas.Nat.{pow-add, pow_below}
 use Rattle.std.proofs.lemmas.List.{get_or-drop, get_or-take, length-take-le, length-map, take_all, drop-drop}
-use Rattle.capn_value.specs.Tree.{Tree, nil, node, voids, bits, bytes, pairs, quads, octs, links, rows, cap, count}
+use Rattle.capn_value.specs.Tree.{Tree, nil, node, voids, bits, bytes, pairs, quads, octs, links, rows, cap}
 use Rattle.capn_words.specs.declared.pointer.Width.{Width}
 use Rattle.capn_words.specs.declared.pointer.Width.TheVariants.{W0, W1, W8, W16, W32, W64, Link, Rows}
 use Rattle.capn_walk.specs.declared.target.Shape.TheVariants as shapes
-use Rattle.capn_walk.specs.At.{element, AreElements, words_from}
-use Rattle.capn_walk.specs.Target.{content_words}
-use Rattle.capn_walk.specs.Walked.{IsInside, IsPlain}
-use Rattle.capn_canon.specs.Layout.{number, packed, words_for, lay, point, list_to}
+use Rattle.capn_walk.specs.At.{AreElements, words_from}
+use Rattle.capn_walk.specs.Target.{content_words, words_for}
+use Rattle.capn_walk.specs.At.{IsInside}
+use Rattle.capn_walk.specs.Shapes.{IsPlain}
+use Rattle.capn_canon.specs.Layout.{number, packed, lay, point, list_to}
 use Rattle.capn_canon.specs.Laying.{laid}
 use Rattle.capn_canon.specs.Patch.{whole}
 use Rattle.capn_canon.proofs.Holes.{whole-append}

@@ -1,22 +1,11 @@
 -- The marks of words, one bit each.
-use Rattle.std.proofs.Common.{◌≡◌, ◌≢◌, ℕ, zero, suc, ◌+◌, ◌*◌, ◌/◌, ◌%◌, ◌<◌, ◌≤◌, List, [], ◌∷◌, ◌++◌, length, set}
+use Rattle.std.proofs.Common.{◌≡◌, ◌≢◌, ℕ, zero, suc, ◌+◌, ◌*◌, ◌/◌, ◌%◌, ◌<◌, ◌≤◌, List, ◌∷◌, ◌++◌, length, set}
 use Rattle.std.proofs.Common.{replicate, refl, ap, ap₂, sym, ◌∙◌, arith, Bool, false, ⊎_elim}
 use Rattle.std.proofs.lemmas.List.{get_or-set_same, get_or-set_other}
 use Rattle.std.proofs.lemmas.Bool.{cases_eq}
 use Rattle.std.specs.Prelude.{slice_index, ◌==◌}
 use Rattle.std.specs.Int.{bit_at}
 use Rattle.capn_canon.specs.Patch.{is_marked, flags}
-
-index-zeros : (ms : List ℕ) (k q : ℕ) → slice_index (ms ++ replicate k 0) q ≡ slice_index ms q
-index-zeros [] zero q = refl
-index-zeros [] (suc k) zero = refl
-index-zeros [] (suc k) (suc q) = index-zeros [] k q
-index-zeros (m ∷ ms) k zero = refl
-index-zeros (m ∷ ms) k (suc q) = index-zeros ms k q
-
--- more numbers of zeros mark nothing
-pub marked-zeros : (ms : List ℕ) (k i : ℕ) → is_marked (ms ++ replicate k 0) i ≡ is_marked ms i
-marked-zeros ms k i = ap (λ (m : ℕ). bit_at m (i % 64) == 1) (index-zeros ms k (i / 64))
 
 pub length-flags : (i n : ℕ) (ms : List ℕ) → length (flags i n ms) ≡ n
 unfolding flags

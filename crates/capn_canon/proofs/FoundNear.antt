@@ -1,9 +1,9 @@
 -- What a near pointer names that is known to name something.
-use Rattle.std.proofs.Common.{◌≡◌, ℕ, ◌+◌, ◌^◌, ◌<◌, ◌≤◌, nat_lt, ℤ, Bool, true, false, List, length, Result, Ok, Err}
+use Rattle.std.proofs.Common.{◌≡◌, ℕ, ◌+◌, ◌≤◌, nat_lt, ℤ, Bool, true, false, List, length, Result, Ok, Err}
 use Rattle.std.proofs.Common.{refl, ap, sym, ◌∙◌, arith, if◌then◌else◌}
 use Rattle.std.specs.Bool.{⊤}
 use Rattle.std.proofs.lemmas.Bool.Decides.{nat_tests}
-use Rattle.capn_words.specs.Message.{IsMessage, segment_at}
+use Rattle.capn_words.specs.Message.{segment_at}
 use Rattle.capn_words.specs.declared.space.Place.{Place}
 use Rattle.capn_words.specs.declared.pointer.Pointer.TheVariants.{Nil, Node, Many}
 use Rattle.capn_words.specs.declared.pointer.Width.{Width}
@@ -14,7 +14,7 @@ use Rattle.capn_walk.specs.declared.target.Shape.{Shape}
 use Rattle.capn_walk.specs.declared.target.Shape.TheVariants as shapes
 use Rattle.capn_walk.specs.declared.target.Fault.{Fault}
 use Rattle.capn_walk.specs.declared.target.Fault.TheVariants as faults
-use Rattle.capn_walk.specs.Target.{content_words, moved, within, list, struct, struct_from, list_from, pointer_in}
+use Rattle.capn_walk.specs.Target.{content_words, moved, within, struct_from, list_from, pointer_in}
 use Rattle.capn_walk.specs.Target.{named, target}
 
 abbrev pub IsComposite : Width → Type 0

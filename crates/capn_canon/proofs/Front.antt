@@ -1,16 +1,15 @@
 -- The first slots, behind which all are null.
-use Rattle.std.proofs.Common.{◌≡◌, ℕ, zero, suc, ◌+◌, ◌≤◌, ◌==◌, Bool, true, false, List, ◌++◌, length, set, Option}
-use Rattle.std.proofs.Common.{Some, refl, ap, sym, subst, ◌∙◌, arith, append-nil}
+use Rattle.std.proofs.Common.{◌≡◌, ℕ, zero, suc, ◌≤◌, Bool, true, false, List, length, set, Option}
+use Rattle.std.proofs.Common.{Some, refl, ap, sym, ◌∙◌, arith, append-nil}
 use Rattle.std.proofs.lemmas.Bool.Decides.{nat_tests}
 use Rattle.capn_value.specs.Tree.{Tree, nil, node, voids, bits, bytes, pairs, quads, octs, links, rows, cap, Trees}
 use Rattle.capn_value.specs.Tree.{no_trees, tree, count, front, is_null}
 use Rattle.capn_value.specs.Trim.{kept_behind, kept_slots}
-use Rattle.capn_value.specs.Sizes.{height, greatest}
+use Rattle.capn_value.specs.Sizes.{greatest}
 use Rattle.capn_walk.specs.At.{AreAt}
-use Rattle.capn_canon.specs.Layout.{sizes, point, lay}
+use Rattle.capn_canon.specs.Layout.{sizes, point}
 use Rattle.capn_canon.specs.Laying.{laid, laid_slots}
-use Rattle.capn_canon.specs.Patch.{whole}
-use Rattle.capn_canon.specs.Sound.{Sound, Sounds}
+use Rattle.capn_canon.specs.Sound.{Sounds}
 use Rattle.capn_canon.proofs.Laid.{laid-is, slots-none, slots-past, slots-next}
 
 pub front-count : (n : ℕ) (ts : Trees) → n ≤ count ts → count (front n ts) ≡ n

@@ -2,7 +2,7 @@
 use Rattle.std.proofs.Common.{◌≡◌, ℕ, zero, suc, ◌+◌, ◌-◌, ◌^◌, ◌<◌, ◌≤◌, List, [], ◌∷◌, ◌++◌, length, take, drop, set}
 use Rattle.std.proofs.Common.{replicate, get_or, refl, ap, ap₂, sym, subst, ◌∙◌, arith, append_assoc, append-nil}
 use Rattle.std.proofs.Common.{length-append, Option, Some, None}
-use Rattle.std.proofs.lemmas.List.{length-take-le, length-set, length-replicate}
+use Rattle.std.proofs.lemmas.List.{length-take-le, length-set}
 use Rattle.std.proofs.Math.Seq.{take-length}
 use Rattle.capn_value.specs.Tree.{Tree, node, links, Trees, no_trees, tree, count}
 use Rattle.capn_value.specs.Trim.{kept_words, kept_slots}

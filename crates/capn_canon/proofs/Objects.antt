@@ -1,19 +1,18 @@
 -- What is below an object is laid behind its own words.
-use Rattle.std.proofs.Common.{◌≡◌, ℕ, zero, suc, ◌+◌, ◌-◌, ◌*◌, ◌^◌, ◌<◌, ◌≤◌, List, ◌++◌, length, take, set, Option}
-use Rattle.std.proofs.Common.{Some, Ok, refl, ap, ap₂, sym, subst, ◌∙◌, arith, length-append, length-drop, append-nil}
+use Rattle.std.proofs.Common.{◌≡◌, ℕ, ◌+◌, ◌^◌, ◌<◌, ◌≤◌, List, ◌++◌, length, take, set, Option}
+use Rattle.std.proofs.Common.{Some, refl, ap, ap₂, sym, subst, ◌∙◌, arith, length-append, length-drop}
 use Rattle.std.proofs.lemmas.List.{length-set, length-take-le}
 use Rattle.capn_words.specs.Message.{segment_at}
 use Rattle.capn_words.specs.declared.pointer.Width.TheVariants.{Link}
 use Rattle.capn_value.specs.Tree.{Tree, node, links, Trees, count, front}
 use Rattle.capn_value.specs.Trim.{kept_words, kept_slots}
-use Rattle.capn_value.specs.Sizes.{height, greatest}
+use Rattle.capn_value.specs.Sizes.{height}
 use Rattle.capn_walk.specs.declared.target.Shape.TheVariants as shapes
-use Rattle.capn_walk.specs.At.{AreAt, words_from}
-use Rattle.capn_walk.specs.Walked.{IsInside}
+use Rattle.capn_walk.specs.At.{words_from}
 use Rattle.capn_canon.specs.Layout.{size, sizes, point, struct_to, list_to}
-use Rattle.capn_canon.specs.Laying.{laid, laid_slots}
+use Rattle.capn_canon.specs.Laying.{laid}
 use Rattle.capn_canon.specs.Patch.{whole}
-use Rattle.capn_canon.specs.Sound.{Sound, Sounds}
+use Rattle.capn_canon.specs.Sound.{Sound}
 use Rattle.capn_canon.proofs.KeptLengths.{kept_words-le, kept_slots-le}
 use Rattle.capn_canon.proofs.Holes.{length-whole}
 use Rattle.capn_canon.proofs.Laid.{left-length, node-room, node-done, links-room, links-done}

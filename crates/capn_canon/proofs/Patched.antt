@@ -8,7 +8,6 @@ use Rattle.capn_words.specs.Words.{word_number, AreBytes}
 use Rattle.capn_words.specs.Message.{word_bytes, bytes}
 use Rattle.capn_canon.specs.Patch.{cells, flags, is_marked, patched, IsPatched, whole, filled, IsWhole}
 use Rattle.capn_words.specs.Laws.Words.{AreBytes-append, length-word_bytes}
-use Rattle.capn_canon.proofs.Bytes.{AreBytes-word}
 use Rattle.capn_canon.proofs.Cells.{length-cells, cells-none, cells-append, cells-one, cells-fill, cells-open}
 use Rattle.capn_canon.proofs.Cells.{cells-whole, written-bytes, written-length}
 use Rattle.capn_canon.specs.Layout.{packed}
@@ -75,9 +74,6 @@ module _ (ms ns bs : List ℕ) (k : ℕ) (is : IsPatched ms bs) (same : (i : ℕ
       patched-append ms ns bs (replicate (8 * k) 0) k is zeros-length same
       ∙ ap (λ (xs : List (Option ℕ)). patched ms bs ++ xs) (cells-zeros k)
 
-  pub is-zeros : length bs / 8 + k ≤ 64 * length ns → IsPatched ns (bs ++ replicate (8 * k) 0)
-  is-zeros room = is-appended ms ns bs (replicate (8 * k) 0) k is zeros-length same room (AreBytes-zeros (8 * k))
-
 -- a word is appended
 module _ (ms ns bs : List ℕ) (w : ℕ) (is : IsPatched ms bs) (same : (i : ℕ) → is_marked ns i ≡ is_marked ms i) where
   pub patched-push : w < 2 ^ 64 → patched ns (bs ++ word_bytes w) ≡ patched ms bs ++ Some w ∷ []
@@ -85,25 +81,15 @@ module _ (ms ns bs : List ℕ) (w : ℕ) (is : IsPatched ms bs) (same : (i : ℕ
       patched-append ms ns bs (word_bytes w) 1 is (length-word_bytes w) same
       ∙ ap (λ (xs : List (Option ℕ)). patched ms bs ++ xs) (cells-one false w lt)
 
-  pub is-push : length bs / 8 + 1 ≤ 64 * length ns → IsPatched ns (bs ++ word_bytes w)
-  is-push room = is-appended ms ns bs (word_bytes w) 1 is (length-word_bytes w) same room (AreBytes-word w)
-
 -- one mark changes
-module _ (ms ns bs : List ℕ) (at : ℕ) (b : Bool) (is : IsPatched ms bs) (lt : at < length bs / 8)
-    (len : length ns ≡ length ms)
-    (here : is_marked ns at ≡ b) (others : (i : ℕ) → i ≢ at → is_marked ns i ≡ is_marked ms i) where
-  flags-changed : flags 0 (length bs / 8) ns ≡ set (flags 0 (length bs / 8) ms) at b
-  flags-changed =
-      let z : 0 + at ≡ at = omega arith in
-      flags-set 0 (length bs / 8) at b ms ns (ap (is_marked ns) z ∙ here) (λ k ne. others k (λ e. ne (e ∙ sym z)))
-
-  pub is-marked : IsPatched ns bs
-  is-marked = record {
-    even = is.even;
-    room = let r = is.room in omega arith;
-    clean = λ i le. others i (omega arith) ∙ is.clean i le;
-    bytes = is.bytes;
-  }
+pub is-marked : (ms ns bs : List ℕ) (at : ℕ) → IsPatched ms bs → at < length bs / 8 → length ns ≡ length ms
+    → ((i : ℕ) → i ≢ at → is_marked ns i ≡ is_marked ms i) → IsPatched ns bs
+is-marked ms ns bs at is lt len others = record {
+  even = is.even;
+  room = let r = is.room in omega arith;
+  clean = λ i le. others i (omega arith) ∙ is.clean i le;
+  bytes = is.bytes;
+}
 
 pub patched-open : (ms ns bs : List ℕ) (at : ℕ) → ((i : ℕ) → i ≢ at → is_marked ns i ≡ is_marked ms i)
     → is_marked ns at ≡ true
@@ -186,13 +172,31 @@ module _ (ms ns bs content : List ℕ) (k : ℕ) (is : IsPatched ms bs) (same : 
       length-append content (replicate (pad (length content)) 0)
       ∙ (let r = length-replicate {A = ℕ} (pad (length content)) 0 in omega arith)
 
-  pub patched-padded : patched ns (bs ++ padded content) ≡ patched ms bs ++ whole (packed 8 8 k content)
+  patched-padded : patched ns (bs ++ padded content) ≡ patched ms bs ++ whole (packed 8 8 k content)
   patched-padded =
       patched-append ms ns bs (padded content) k is padded-length same
       ∙ ap (λ (xs : List (Option ℕ)). patched ms bs ++ xs) (cells-words k (padded content))
       ∙ ap (λ (ws : List ℕ). patched ms bs ++ whole ws) (packed-padded 8 8 k (pad (length content)) content)
 
-  pub is-padded : length bs / 8 + k ≤ 64 * length ns → AreBytes content → IsPatched ns (bs ++ padded content)
+  is-padded : length bs / 8 + k ≤ 64 * length ns → AreBytes content → IsPatched ns (bs ++ padded content)
   is-padded room are =
       is-appended ms ns bs (padded content) k is padded-length same room
       (AreBytes-append content (replicate (pad (length content)) 0) are (AreBytes-zeros (pad (length content))))
+
+-- the bytes have grown by these
+module _ (ms ns bs content items : List ℕ) (k : ℕ) (is : IsPatched ms bs) (same : (i : ℕ)
+    → is_marked ns i ≡ is_marked ms i) (l : 8 * k ≡ length content + pad (length content))
+    (grown : items ≡ bs ++ padded content) where
+  pub grown-length : length items ≡ length bs + 8 * k
+  grown-length =
+      ap length grown ∙ length-append bs (padded content)
+      ∙ ap (λ (n : ℕ). length bs + n) (padded-length ms ns bs content k is same l)
+
+  pub is-grown : length bs / 8 + k ≤ 64 * length ns → AreBytes content → IsPatched ns items
+  is-grown room are = subst (IsPatched ns) (sym grown) (is-padded ms ns bs content k is same l room are)
+
+  pub patched-grown : (p : List (Option ℕ)) (ws : List ℕ) → patched ms bs ≡ p → packed 8 8 k content ≡ ws
+      → patched ns items ≡ p ++ whole ws
+  patched-grown p ws e f =
+      ap (patched ns) grown ∙ patched-padded ms ns bs content k is same l
+      ∙ ap₂ (λ (q : List (Option ℕ)) (vs : List ℕ). q ++ whole vs) e f

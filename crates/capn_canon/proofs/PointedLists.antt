@@ -18,7 +18,8 @@ use Rattle.capn_walk.specs.declared.target.Fault.{Fault}
 use Rattle.capn_walk.specs.declared.target.Fault.TheVariants as faults
 use Rattle.capn_walk.specs.Target.{content_words, moved, tagged, within, list_from, target}
 use Rattle.capn_walk.specs.At.{IsAt}
-use Rattle.capn_walk.specs.Walked.{IsInside, IsPlain}
+use Rattle.capn_walk.specs.At.{IsInside}
+use Rattle.capn_walk.specs.Shapes.{IsPlain}
 use Rattle.capn_walk.specs.Laws.Inside.{inside}
 use Rattle.capn_walk.specs.Laws.Segments.{segment-room}
 use Rattle.capn_walk.specs.Laws.Unique.{unique}

@@ -12,7 +12,8 @@ use Rattle.capn_walk.specs.declared.target.Target.TheVariants as targets
 use Rattle.capn_walk.specs.declared.target.Shape.TheVariants as shapes
 use Rattle.capn_walk.specs.Target.{target}
 use Rattle.capn_walk.specs.At.{IsAt, RowsAt}
-use Rattle.capn_walk.specs.Walked.{IsContent, IsInside}
+use Rattle.capn_walk.specs.Shapes.{IsContent}
+use Rattle.capn_walk.specs.At.{IsInside}
 use Rattle.capn_walk.specs.Laws.Inside.{inside}
 use Rattle.capn_walk.specs.Laws.Present.{present}
 use Rattle.capn_walk.specs.Laws.Segments.{segment-room}

@@ -13,7 +13,7 @@ use Rattle.capn_value.specs.Sizes.{most_height}
 use Rattle.capn_walk.specs.declared.target.Shape.TheVariants as shapes
 use Rattle.capn_walk.specs.Target.{moved, target}
 use Rattle.capn_walk.specs.At.{words_from}
-use Rattle.capn_walk.specs.Walked.{IsInside}
+use Rattle.capn_walk.specs.At.{IsInside}
 use Rattle.capn_walk.specs.Laws.Inside.{inside}
 use Rattle.capn_walk.specs.Laws.Segments.{segment-room}
 use Rattle.capn_canon.specs.declared.run.Run.{Run}

@@ -1,6 +1,6 @@
 -- One slot after the other is laid.
-use Rattle.std.proofs.Common.{◌≡◌, ℕ, zero, suc, ◌+◌, ◌-◌, ◌^◌, ◌<◌, ◌≤◌, List, ◌++◌, length, set, Option, Some, Ok}
-use Rattle.std.proofs.Common.{refl, ap, ap₂, sym, subst, ◌∙◌, arith, append-nil}
+use Rattle.std.proofs.Common.{◌≡◌, ℕ, suc, ◌+◌, ◌-◌, ◌^◌, ◌<◌, ◌≤◌, List, length, set, Option, Some}
+use Rattle.std.proofs.Common.{ap, sym, subst, ◌∙◌, arith, append-nil}
 use Rattle.std.proofs.lemmas.List.{length-set}
 use Rattle.capn_words.specs.declared.space.Place.{Place}
 use Rattle.capn_words.specs.Fields.{word_of}
@@ -11,9 +11,8 @@ use Rattle.capn_walk.specs.At.{IsAt, AreAt}
 use Rattle.capn_walk.specs.Laws.Unique.{unique-slots}
 use Rattle.capn_canon.specs.Layout.{size, sizes, point}
 use Rattle.capn_canon.specs.Laying.{laid, laid_slots}
-use Rattle.capn_canon.specs.Patch.{whole}
 use Rattle.capn_canon.specs.Sound.{Sound, Sounds}
-use Rattle.capn_canon.proofs.Laid.{laid-is, length-laid, slots-none, slots-next, rest-starts}
+use Rattle.capn_canon.proofs.Laid.{length-laid, slots-none, slots-next, rest-starts}
 use Rattle.capn_canon.specs.Ready.{IsReady, AreReady, IsLaid, AreLaid}
 
 abbrev pub slot : ℕ → ℕ → Place

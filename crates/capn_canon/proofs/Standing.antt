@@ -1,11 +1,9 @@
 -- Words that stand in others, cut and joined.
-use Rattle.std.proofs.Common.{◌≡◌, ◌↔◌, ℕ, zero, suc, ◌+◌, ◌*◌, ◌/◌, ◌%◌, ◌^◌, ◌<◌, ◌≤◌, List, [], ◌∷◌, ◌++◌, length}
-use Rattle.std.proofs.Common.{take, drop, slice_index, refl, ap, ap₂, sym, subst, ◌∙◌, arith, append-nil, length-append}
+use Rattle.std.proofs.Common.{◌≡◌, ℕ, zero, suc, ◌+◌, ◌<◌, ◌≤◌, List, [], ◌∷◌, ◌++◌, length}
+use Rattle.std.proofs.Common.{take, drop, slice_index, refl, ap, ap₂, sym, ◌∙◌, arith, length-append}
 use Rattle.std.proofs.Common.{length-drop, Option, Some, None}
 use Rattle.std.proofs.Math.Seq.{drop-cons}
-use Rattle.std.proofs.lemmas.List.{drop-drop, length-take-le, get_or-drop}
-use Rattle.capn_canon.specs.Bits.{first_bits, last_bits}
-use Rattle.capn_canon.proofs.FirstBits.{some-last}
+use Rattle.std.proofs.lemmas.List.{drop-drop}
 use Rattle.capn_canon.specs.Stands.{Stand, Tells}
 
 pub take-plus : (m n : ℕ) (xs : List ℕ) → take (m + n) xs ≡ take m xs ++ take n (drop m xs)
@@ -93,48 +91,3 @@ module _ (all : List ℕ) (at : ℕ) where
 pub told : (P Q : Type 0) (m n : ℕ) (r : Option ℕ) → (P → Q) → (Q → P) → m ≡ n → Tells P m r → Tells Q n r
 told P Q m n (Some k) f g e h = (f h.0, h.1 ∙ e)
 told P Q m n None f g e h = λ q. h (g q)
-
--- the first bits of the words that stand there stand there exactly if the others of the last word are zero
-module _ (all : List ℕ) (at n : ℕ) (room : at + (n + 63) / 64 ≤ length all) where
-  whole-part : Stand all at (take (n / 64) (drop at all))
-  whole-part = let d = length-drop at all in let l = length-take-le (n / 64) (drop at all) (omega arith) in
-      ap (λ (k : ℕ). take k (drop at all)) l
-
-  pub bits-whole : n % 64 ≡ 0 → Stand all at (first_bits n (drop at all))
-  bits-whole e =
-      subst (Stand all at) (sym (append-nil (take (n / 64) (drop at all)))
-      ∙ ap (λ (r : ℕ). take (n / 64) (drop at all) ++ last_bits r (drop (n / 64) (drop at all))) (sym e)) whole-part
-
-  module _ (some : 0 < n % 64) where
-    pub last-word : ℕ
-    last-word = slice_index all (at + n / 64)
-
-    is-last : last_bits (n % 64) (drop (n / 64) (drop at all)) ≡ last-word % 2 ^ (n % 64) ∷ []
-    unfolding last-word
-    is-last =
-        let z : at + (n / 64 + 0) ≡ at + n / 64 = omega arith in
-        some-last (n % 64) (drop (n / 64) (drop at all)) some
-        ∙ ap (λ (x : ℕ). x % 2 ^ (n % 64) ∷ []) (get_or-drop (n / 64) (drop at all) 0 0
-        ∙ get_or-drop at all (n / 64 + 0) 0 ∙ ap (slice_index all) z)
-
-    long : length (take (n / 64) (drop at all)) ≡ n / 64
-    long = let d = length-drop at all in length-take-le (n / 64) (drop at all) (omega arith)
-
-    pub bits-cut : slice_index all (at + n / 64) ≡ slice_index all (at + n / 64) % 2 ^ (n % 64)
-        → Stand all at (first_bits n (drop at all))
-    unfolding last-word
-    bits-cut e =
-        stand-join all at (take (n / 64) (drop at all)) (last_bits (n % 64) (drop (n / 64) (drop at all))) whole-part
-        (subst (Stand all (at + length (take (n / 64) (drop at all)))) (sym is-last)
-        (subst (λ (k : ℕ). Stand all (at + k) (last-word % 2 ^ (n % 64) ∷ [])) (sym long)
-        (stand-cons all (at + n / 64) (last-word % 2 ^ (n % 64)) [] (omega arith) e
-        (stand-none all (suc (at + n / 64))))))
-
-    pub bits-are-cut : Stand all at (first_bits n (drop at all))
-        → slice_index all (at + n / 64) ≡ slice_index all (at + n / 64) % 2 ^ (n % 64)
-    unfolding last-word
-    bits-are-cut h =
-        let b = stand-back all at (take (n / 64) (drop at all)) (last_bits (n % 64) (drop (n / 64) (drop at all))) h in
-        stand-head all (at + n / 64) (last-word % 2 ^ (n % 64)) [] (omega arith)
-        (subst (λ (k : ℕ). Stand all (at + k) (last-word % 2 ^ (n % 64) ∷ [])) long
-        (subst (Stand all (at + length (take (n / 64) (drop at all)))) is-last b))

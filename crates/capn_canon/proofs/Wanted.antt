@@ -10,7 +10,6 @@ use Rattle.capn_pack.specs.Refusal.{StartsWithin}
 use Rattle.capn_pack.specs.Laws.GroupLemmas.{length_content}
 use Rattle.capn_stream.specs.Frames.{most_table_words}
 use Rattle.capn_stream.specs.Laws.FrameLaws.{stands_alone, whole_of}
-use Rattle.capn_walk.specs.Denotes.{IsValueOf}
 use Rattle.capn_walk.specs.Limits.{Bounds}
 use Rattle.capn_canon.specs.declared.form.Form.TheVariants as forms
 use Rattle.capn_canon.specs.declared.refusal.Refusal.{Refusal}
@@ -63,6 +62,13 @@ pub bare_bytes_wanted : (bs : List ℕ) (limits : Bounds) (m : List (List ℕ)) 
     → MayWantBytes m limits → MayWantBytesIn forms.Bare bs limits
 bare_bytes_wanted bs limits m r (inl d) = inl (d, m, r)
 bare_bytes_wanted bs limits m r (inr (v, is, free)) = inr (v, record { message = m; reads = r; value = is }, free)
+
+-- or as its frame,
+pub framed_bytes_wanted : (bs : List ℕ) (limits : Bounds) (m : List (List ℕ))
+    → Reads forms.Stream bs limits.message_words m
+    → MayWantBytes m limits → MayWantBytesIn forms.Stream bs limits
+framed_bytes_wanted bs limits m r (inl d) = inl (inr (d, m, r))
+framed_bytes_wanted bs limits m r (inr (v, is, free)) = inr (v, record { message = m; reads = r; value = is }, free)
 
 -- and of a packed text where it is of what it unpacks to
 pub packed_bytes_wanted : (bs text : List ℕ) (limits : Bounds) → Unpacks bs limits.message_words text

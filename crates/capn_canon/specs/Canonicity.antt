@@ -6,7 +6,7 @@ use Rattle.capn_value.specs.Fits.{Fits}
 use Rattle.capn_value.specs.Same.{Same}
 use Rattle.capn_value.specs.Sizes.{base, cost}
 use Rattle.capn_value.specs.Trim.{trimmed}
-use Rattle.capn_walk.specs.Denotes.{paid}
+use Rattle.capn_walk.specs.Accepted.{paid}
 use Rattle.capn_walk.specs.Limits.{Bounds}
 use Rattle.capn_canon.specs.declared.form.Form.TheVariants as forms
 use Rattle.capn_canon.specs.Reads.{Reads}

@@ -4,7 +4,7 @@ use Rattle.std.specs.Bool.{IsTrue}
 use Rattle.capn_words.specs.Words.{bytes}
 use Rattle.capn_value.specs.Tree.{Tree}
 use Rattle.capn_value.specs.Caps.{first_cap}
-use Rattle.capn_walk.specs.Denotes.{IsValueOf, paid, number_of_visits}
+use Rattle.capn_walk.specs.Accepted.{IsValueOf, paid, number_of_visits}
 use Rattle.capn_walk.specs.Limits.{Bounds}
 use Rattle.capn_canon.specs.declared.checked.Checked.{Checked}
 use Rattle.capn_canon.specs.declared.form.Form.TheVariants as forms

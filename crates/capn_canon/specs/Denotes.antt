@@ -1,7 +1,7 @@
 -- Which value bytes denote within limits.
 use Rattle.std.specs.Prelude.{ℕ, List}
 use Rattle.capn_value.specs.Tree.{Tree}
-use Rattle.capn_walk.specs.Denotes.{IsValueOf}
+use Rattle.capn_walk.specs.Accepted.{IsValueOf}
 use Rattle.capn_walk.specs.Limits.{Bounds}
 use Rattle.capn_canon.specs.declared.form.Form.{Form}
 use Rattle.capn_canon.specs.Reads.{Reads}

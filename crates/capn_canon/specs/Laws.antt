@@ -10,7 +10,7 @@ use Rattle.capn_value.specs.InRange.{InRange}
 use Rattle.capn_value.specs.Fits.{Fits}
 use Rattle.capn_value.specs.Same.{Same}
 use Rattle.capn_value.specs.Sizes.{base, cost, height}
-use Rattle.capn_walk.specs.Denotes.{paid}
+use Rattle.capn_walk.specs.Accepted.{paid}
 use Rattle.capn_walk.specs.Limits.{Bounds, AreLimits}
 use Rattle.capn_canon.specs.declared.form.Form.{Form}
 use Rattle.capn_canon.specs.declared.refusal.Refusal.{Refusal}

@@ -1,5 +1,5 @@
 -- The canonical layout of a value, by sums of sizes. (Page: canonicalization.)
-use Rattle.std.specs.Prelude.{ℕ, zero, suc, ◌+◌, ◌-◌, ◌*◌, ◌/◌, ◌^◌, ◌==◌, ◌&&◌, List, [], ◌∷◌, ◌++◌, map, length, take}
+use Rattle.std.specs.Prelude.{ℕ, zero, suc, ◌+◌, ◌-◌, ◌*◌, ◌^◌, ◌==◌, ◌&&◌, List, [], ◌∷◌, ◌++◌, map, length, take}
 use Rattle.std.specs.Prelude.{drop, pos, negsuc, if◌then◌else◌}
 use Rattle.std.specs.Int.{from_bool}
 use Rattle.capn_words.specs.Words.{bytes}
@@ -10,12 +10,9 @@ use Rattle.capn_words.specs.declared.pointer.Width.TheVariants.{W0, W1, W8, W16,
 use Rattle.capn_value.specs.Tree.{Tree, nil, node, voids, bits, bytes as octets, pairs, quads, octs, links, rows, cap}
 use Rattle.capn_value.specs.Tree.{Trees, no_trees, tree, Bodies, no_bodies, body, count, count_rows}
 use Rattle.capn_value.specs.Trim.{kept_words, kept_slots, kept_words_of_rows, kept_slots_of_rows}
+use Rattle.capn_walk.specs.Target.{words_for}
 
--- the words that so many bits take (page: lists)
-abbrev pub words_for : ℕ → ℕ
-words_for n = (n + 63) / 64
-
--- the words that a row of a list of structs takes, when all rows are cut jointly (page: canonicalization)
+-- the words that a row of a list of structs takes, when all rows are cut jointly (Page: canonicalization.)
 abbrev pub row_size : Bodies → ℕ
 row_size bs = kept_words_of_rows bs + kept_slots_of_rows bs
 
@@ -34,7 +31,7 @@ own (octs xs) = length xs
 own (links ts) = count ts
 own (rows bs) = 1 + count_rows bs * row_size bs
 
--- the words of a value with all that is below it (own)
+-- the words of a value with all that is below it (Own.)
 abbrev mutual
   pub size : Tree → ℕ
   size (node ws ss) = own (node ws ss) + sizes ss
@@ -58,11 +55,11 @@ abbrev mutual
   sizes_in_rows (body ws ss bs) = sizes ss + sizes_in_rows bs
 
 -- the pointer, at word `from`, to a list whose content starts at word `to`; its offset counts from the next word
--- (page: lists)
+-- (Page: lists.)
 abbrev pub list_to : ℕ → ℕ → Width → ℕ → ℕ
 list_to from to width n = word_of (Many (pos (to - suc from)) width n)
 
--- the pointer to a struct: offset -1 where it has no words, so that it isn't null (page: canonicalization)
+-- the pointer to a struct: offset -1 where it has no words, so that it isn't null (Page: canonicalization.)
 abbrev pub struct_to : ℕ → ℕ → ℕ → ℕ → ℕ
 struct_to from to a b = word_of (if (a == 0) && (b == 0) then Node (negsuc 0) 0 0 else Node (pos (to - suc from)) a b)
 
@@ -80,29 +77,29 @@ point (links ts) from to = list_to from to Link (count ts)
 point (rows bs) from to = list_to from to Rows (count_rows bs * row_size bs)
 point (cap k) from to = word_of (Cap k)
 
--- the pointers to values whose content stands one behind the other, each with all below it (page: canonicalization,
--- preorder)
+-- the pointers to values whose content stands one behind the other, each with all below it (Page: canonicalization,
+-- preorder.)
 abbrev pub points : Trees → ℕ → ℕ → List ℕ
 points no_trees from to = []
 points (tree t ts) from to = point t from to ∷ points ts (suc from) (to + size t)
 
--- numbers below a base as one number, the first lowest (page: lists)
+-- numbers below a base as one number, the first lowest (Page: lists.)
 abbrev pub number : ℕ → List ℕ → ℕ
 number base [] = 0
 number base (x ∷ xs) = x + base * number base xs
 
--- n words, each of so many elements of so many bits; what is missing in the last one is 0 (own)
+-- n words, each of so many elements of so many bits; what is missing in the last one is 0 (Own.)
 abbrev pub packed : ℕ → ℕ → ℕ → List ℕ → List ℕ
 packed each width zero xs = []
 packed each width (suc n) xs = number (2 ^ width) (take each xs) ∷ packed each width n (drop each xs)
 
--- the own content of rows, cut to a words and b slots, whose children start at word `to` (page: lists, composite)
+-- the own content of rows, cut to a words and b slots, whose children start at word `to` (Page: lists, composite.)
 abbrev pub row_contents : ℕ → ℕ → Bodies → ℕ → ℕ → List ℕ
 row_contents a b no_bodies from to = []
 row_contents a b (body ws ss bs) from to =
     take a ws ++ (take b (points ss (from + a) to) ++ row_contents a b bs (from + a + b) (to + sizes ss))
 
--- a value's content at word `at`, and behind it the content of what is below (page: canonicalization, preorder)
+-- a value's content at word `at`, and behind it the content of what is below (Page: canonicalization, preorder.)
 abbrev mutual
   pub lay : Tree → ℕ → List ℕ
   lay (node ws ss) at =
@@ -131,10 +128,10 @@ abbrev mutual
   lays_in_rows no_bodies at = []
   lays_in_rows (body ws ss bs) at = lays ss at ++ lays_in_rows bs (at + sizes ss)
 
--- the canonical words: the pointer to the root in word 0, its content from word 1 on (page: canonicalization)
+-- the canonical words: the pointer to the root in word 0, its content from word 1 on (Page: canonicalization.)
 unfoldable pub words : Tree → List ℕ
 words v = point v 0 1 ∷ lay v 1
 
--- the canonical bytes (page: canonicalization)
+-- the canonical bytes (Page: canonicalization.)
 abbrev pub canon : Tree → List ℕ
 canon v = bytes (words v)

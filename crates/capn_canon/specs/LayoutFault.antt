@@ -5,7 +5,7 @@ use Rattle.capn_value.specs.Caps.{first_cap}
 use Rattle.capn_canon.specs.declared.tree_layout.LayoutFault.{LayoutFault}
 use Rattle.capn_canon.specs.declared.tree_layout.LayoutFault.TheVariants.{Memory, Capability}
 
--- a capability that is refused is the first in preorder (own)
+-- a capability that is refused is the first in preorder (Own.)
 abbrev pub IsLayoutFault : Tree → LayoutFault → Type 0
 IsLayoutFault t Memory = ⊤
 IsLayoutFault t (Capability k) = first_cap t ≡ Some k

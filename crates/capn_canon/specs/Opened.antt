@@ -5,7 +5,7 @@ use Rattle.capn_canon.specs.Patch.{whole}
 use Rattle.capn_canon.specs.Layout.{struct_to}
 
 -- the pointer to a struct of these words and slot words was put at a place; what is kept of the words was appended,
--- and the kept slots as they stand (own)
+-- and the kept slots as they stand (Own.)
 pub record IsOpened (ws ss : List ℕ) (from : ℕ) (p q : List (Option ℕ)) (first number : ℕ) : Type 0 where
   pub count : number ≡ kept_words ss
   pub at : first ≡ length p + kept_words ws

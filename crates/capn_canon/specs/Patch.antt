@@ -4,50 +4,50 @@ use Rattle.std.specs.Prelude.{slice_get, slice_index, Bool, true, false, Option,
 use Rattle.std.specs.Int.{bit_at}
 use Rattle.capn_words.specs.Words.{word_number, AreBytes}
 
--- a hole stands there (own)
+-- a hole stands there (Own.)
 abbrev pub IsHole : List (Option ℕ) → ℕ → Type 0
 IsHole cs at = slice_get cs at ≡ Some None
 
--- no hole is left (own)
+-- no hole is left (Own.)
 abbrev pub IsWhole : List (Option ℕ) → Type 0
 IsWhole [] = ⊤
 IsWhole (None ∷ cs) = ⊥
 IsWhole (Some w ∷ cs) = IsWhole cs
 
--- words, as a list without holes (own)
+-- words, as a list without holes (Own.)
 abbrev pub whole : List ℕ → List (Option ℕ)
 whole ws = map (λ (w : ℕ). Some w) ws
 
--- the words of a list, its holes left out (own)
+-- the words of a list, its holes left out (Own.)
 abbrev pub filled : List (Option ℕ) → List ℕ
 filled [] = []
 filled (None ∷ cs) = filled cs
 filled (Some w ∷ cs) = w ∷ filled cs
 
--- whether the mark of a word is set, each number having the marks of 64 words (own)
+-- whether the mark of a word is set, each number having the marks of 64 words (Own.)
 abbrev pub is_marked : List ℕ → ℕ → Bool
 is_marked marks i = bit_at (slice_index marks (i / 64)) (i % 64) == 1
 
--- the marks of n words from a word on (own)
+-- the marks of n words from a word on (Own.)
 unfoldable pub flags : ℕ → ℕ → List ℕ → List Bool
 flags i zero marks = []
 flags i (suc n) marks = is_marked marks i ∷ flags (suc i) n marks
 
--- what stands at a word: a hole where it is marked (own)
+-- what stands at a word: a hole where it is marked (Own.)
 abbrev pub cell : Bool → ℕ → Option ℕ
 cell true w = None
 cell false w = Some w
 
--- the list that bytes stand for, given the mark of each word (own)
+-- the list that bytes stand for, given the mark of each word (Own.)
 unfoldable pub cells : List Bool → List ℕ → List (Option ℕ)
 cells [] bs = []
 cells (h ∷ hs) bs = cell h (word_number (take 8 bs)) ∷ cells hs (drop 8 bs)
 
--- the list that marks and bytes stand for (own)
+-- the list that marks and bytes stand for (Own.)
 abbrev pub patched : List ℕ → List ℕ → List (Option ℕ)
 patched marks bs = cells (flags 0 (length bs / 8) marks) bs
 
--- whole words, each with a mark; no mark is set past the last word (own)
+-- whole words, each with a mark; no mark is set past the last word (Own.)
 pub record IsPatched (marks bs : List ℕ) : Type 0 where
   pub even : length bs % 8 ≡ 0
   pub room : length bs / 8 ≤ 64 * length marks

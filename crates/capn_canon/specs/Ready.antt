@@ -1,17 +1,16 @@
 -- What stands at places of a message and has room in a buffer of words. No public clause cites this.
 use Rattle.std.specs.Prelude.{◌≡◌, ℕ, suc, ◌+◌, ◌^◌, ◌≤◌, List, length, set, Option, Some}
 use Rattle.capn_words.specs.declared.space.Place.{Place}
-use Rattle.capn_value.specs.Tree.{Tree, Trees, Bodies, count, count_rows}
-use Rattle.capn_value.specs.Sizes.{height, greatest, greatest_in_rows}
+use Rattle.capn_value.specs.Tree.{Tree, Trees, count}
+use Rattle.capn_value.specs.Sizes.{height, greatest}
 use Rattle.capn_walk.specs.declared.target.Shape.{Shape}
-use Rattle.capn_walk.specs.At.{IsAt, AreAt, RowsAt}
-use Rattle.capn_walk.specs.Walked.{IsInside}
-use Rattle.capn_canon.specs.Layout.{size, sizes, sizes_in_rows, point}
-use Rattle.capn_canon.specs.Laying.{laid, laid_slots, laid_rows}
-use Rattle.capn_canon.specs.Sound.{Sound, Sounds, SoundRows}
+use Rattle.capn_walk.specs.At.{IsAt, AreAt, IsInside}
+use Rattle.capn_canon.specs.Layout.{size, sizes, point}
+use Rattle.capn_canon.specs.Laying.{laid, laid_slots}
+use Rattle.capn_canon.specs.Sound.{Sound, Sounds}
 
 module _ (m : List (List ℕ)) where
-  -- a value stands at a place, at most so many objects high, and there is room for it behind so many words (own)
+  -- a value stands at a place, at most so many objects high, and there is room for it behind so many words (Own.)
   pub record IsReady (at : Place) (depth n : ℕ) : Type 0 where
     pub value : Tree
     pub is : IsAt m at value
@@ -20,7 +19,7 @@ module _ (m : List (List ℕ)) where
     pub room : n + size value ≤ 2 ^ 29
 
   -- one value alone stands inside the content that starts at a word, with all below it at most so many objects
-  -- high (own)
+  -- high (Own.)
   pub record IsReadyInside (shape : Shape) (s w depth n : ℕ) : Type 0 where
     pub value : Tree
     pub is : IsInside m shape s w value
@@ -29,7 +28,7 @@ module _ (m : List (List ℕ)) where
     pub low : height value ≤ suc depth
     pub room : n + size value ≤ 2 ^ 29
 
-  -- so many values stand in slots one behind the other (own)
+  -- so many values stand in slots one behind the other (Own.)
   pub record AreReady (s w number depth n : ℕ) : Type 0 where
     pub values : Trees
     pub are : AreAt m s w values
@@ -38,15 +37,15 @@ module _ (m : List (List ℕ)) where
     pub low : greatest values ≤ depth
     pub room : n + sizes values ≤ 2 ^ 29
 
-  -- the pointer to the value at a place has been put into a hole, and its content appended (own)
+  -- the pointer to the value at a place has been put into a hole, and its content appended (Own.)
   abbrev pub IsLaid : Place → ℕ → List (Option ℕ) → List (Option ℕ) → Type 0
   IsLaid at from p q = (v : Tree) → IsAt m at v → q ≡ laid v (set p from (Some (point v from (length p))))
 
-  -- the same of the value inside content (own)
+  -- the same of the value inside content (Own.)
   abbrev pub IsLaidInside : Shape → ℕ → ℕ → ℕ → List (Option ℕ) → List (Option ℕ) → Type 0
   IsLaidInside shape s w from p q = (v : Tree) → IsInside m shape s w v
       → q ≡ laid v (set p from (Some (point v from (length p))))
 
-  -- the same of so many slots, whose holes stand from a word on (own)
+  -- the same of so many slots, whose holes stand from a word on (Own.)
   abbrev pub AreLaid : ℕ → ℕ → ℕ → ℕ → List (Option ℕ) → List (Option ℕ) → Type 0
   AreLaid s w number first p q = (ts : Trees) → AreAt m s w ts → count ts ≡ number → q ≡ laid_slots number ts first p

@@ -9,7 +9,7 @@ use Rattle.capn_stream.specs.Reading as frames
 use Rattle.capn_stream.specs.declared.fault.FrameFault.TheVariants as frame_faults
 use Rattle.capn_value.specs.Tree.{Tree}
 use Rattle.capn_value.specs.Caps.{first_cap}
-use Rattle.capn_walk.specs.Denotes as walks
+use Rattle.capn_walk.specs.Accepted as walks
 use Rattle.capn_walk.specs.Limits.{Bounds}
 use Rattle.capn_canon.specs.declared.form.Form.{Form}
 use Rattle.capn_canon.specs.declared.form.Form.TheVariants as forms

@@ -5,17 +5,17 @@ use Rattle.capn_value.specs.Tree.{no_trees, tree, Bodies, no_bodies, body, count
 use Rattle.capn_value.specs.Trim.{kept_words_of_rows, kept_slots_of_rows}
 use Rattle.capn_canon.specs.Layout.{row_size}
 
--- each row has at least a words and b slots (own)
+-- each row has at least a words and b slots (Own.)
 abbrev pub AreWide : ℕ → ℕ → Bodies → Type 0
 AreWide a b no_bodies = ⊤
 AreWide a b (body ws ss bs) = (a ≤ length ws) × (b ≤ count ss) × AreWide a b bs
 
--- each number is below a bound (own)
+-- each number is below a bound (Own.)
 abbrev pub AreBelow : ℕ → List ℕ → Type 0
 AreBelow bound xs = (i : ℕ) → slice_index xs i < bound
 
 -- each count, size and index has room in a pointer's fields, each element in its bits, and each row has the kept
--- lengths (own)
+-- lengths (Own.)
 abbrev mutual
   pub Sound : Tree → Type 0
   Sound nil = ⊤

@@ -6,31 +6,31 @@ use Rattle.capn_walk.specs.At.{RowsAt}
 use Rattle.capn_canon.specs.Layout.{point, points, lay, lays, row_contents, lays_in_rows, sizes_in_rows}
 use Rattle.capn_canon.specs.Sound.{SoundRows}
 
--- these words stand from a word on (own)
+-- these words stand from a word on (Own.)
 abbrev pub Stand : List ℕ → ℕ → List ℕ → Type 0
 Stand all at xs = take (length xs) (drop at all) ≡ xs
 
--- the pointer to a value and its content stand where its layout has them (own)
+-- the pointer to a value and its content stand where its layout has them (Own.)
 pub record IsLaidAt (all : List ℕ) (v : Tree) (from to : ℕ) : Type 0 where
   pub pointer : slice_index all from ≡ point v from to
   pub content : Stand all to (lay v to)
 
--- the same of slots (own)
+-- the same of slots (Own.)
 pub record AreLaidAt (all : List ℕ) (ts : Trees) (from to : ℕ) : Type 0 where
   pub pointers : Stand all from (points ts from to)
   pub contents : Stand all to (lays ts to)
 
--- the same of rows of a words and b slots (own)
+-- the same of rows of a words and b slots (Own.)
 pub record RowsLaidAt (all : List ℕ) (a b : ℕ) (bs : Bodies) (from to : ℕ) : Type 0 where
   pub rows : Stand all from (row_contents a b bs from to)
   pub contents : Stand all to (lays_in_rows bs to)
 
--- the answer is the next free word exactly if so (own)
+-- the answer is the next free word exactly if so (Own.)
 abbrev pub Tells : Type 0 → ℕ → Option ℕ → Type 0
 Tells P n (Some k) = P × (k ≡ n)
 Tells P n None = P → ⊥
 
--- so many rows stand one behind the other, and there is room for what is below them behind so many words (own)
+-- so many rows stand one behind the other, and there is room for what is below them behind so many words (Own.)
 pub record AreReadyRows (m : List (List ℕ)) (s w a b number depth n : ℕ) : Type 0 where
   pub values : Bodies
   pub are : RowsAt m a b s w values

@@ -5,7 +5,7 @@ use Rattle.capn_stream.specs.Frames.{most_table_words}
 use Rattle.capn_stream.specs.Reading.{HasTable}
 use Rattle.capn_value.specs.Tree.{Tree}
 use Rattle.capn_value.specs.Caps.{first_cap}
-use Rattle.capn_walk.specs.Denotes.{IsValueOf}
+use Rattle.capn_walk.specs.Accepted.{IsValueOf}
 use Rattle.capn_walk.specs.Limits.{Bounds}
 use Rattle.capn_canon.specs.Denotes.{Denotes}
 use Rattle.capn_canon.specs.declared.form.Form.{Form}

@@ -3,11 +3,11 @@
 ghost use Rattle.std.specs.Prelude.{◌≡◌, ◌≤◌, ◌+◌, ◌*◌, length, IfOk, IfErr, IsErrOf, MatchResult};
 ghost use Rattle.capn_value.specs.Tree.{Tree as Value};
 ghost use Rattle.capn_value.specs.Caps.{first_cap};
-ghost use Rattle.capn_walk.specs.Denotes.{IsBounded};
+ghost use Rattle.capn_walk.specs.Accepted.{IsBounded};
 ghost use Rattle.capn_canon.specs.Denotes.{Denotes};
 ghost use Rattle.capn_canon.specs.Layout.{canon};
 ghost use Rattle.capn_canon.specs.Refused.{IsUnacceptedIn, IsPaidWithin};
-ghost use Rattle.capn_canon.specs.Surveys.{Surveys};
+ghost use Rattle.capn_canon.specs.Surveys.{Surveys, AreSurveyed};
 ghost use Rattle.capn_canon.specs.Wanted.{MayWantMemory};
 ghost use Rattle.capn_canon.specs.declared.form.Form.TheVariants as forms;
 ghost use Rattle.capn_canon.specs.declared.refusal.Refusal.TheVariants as refusals;
@@ -23,11 +23,7 @@ use std::alloc::Allocator;
 
 /// Of the words of one segment.
 fn of_bare<A: Allocator + Copy>(alloc: A, bytes: &[u8], limits: Limits) -> Result<Surveyed, Refusal>
-    ensures found { IfOk result (λ s. Surveys forms.Bare bytes.now limits s) }
-    ensures refused { IfErr result (λ e. IsUnacceptedIn forms.Bare bytes.now limits e) }
-    ensures wanted { IsErrOf result refusals.Memory → MayWantMemory forms.Bare bytes.now limits }
-    ensures bounded { MatchResult result (λ s. IsBounded limits.budget s.paid s.visits)
-        (λ e. IsPaidWithin limits.budget e) }
+    ensures { AreSurveyed forms.Bare bytes.now limits result }
 {
     match Bare::new(bytes) {
         Ok(space) => survey(alloc, &space, limits),
@@ -41,11 +37,7 @@ fn of_frame<A: Allocator + Copy>(
     bytes: &[u8],
     limits: Limits,
 ) -> Result<Surveyed, Refusal>
-    ensures found { IfOk result (λ s. Surveys forms.Stream bytes.now limits s) }
-    ensures refused { IfErr result (λ e. IsUnacceptedIn forms.Stream bytes.now limits e) }
-    ensures wanted { IsErrOf result refusals.Memory → MayWantMemory forms.Stream bytes.now limits }
-    ensures bounded { MatchResult result (λ s. IsBounded limits.budget s.paid s.visits)
-        (λ e. IsPaidWithin limits.budget e) }
+    ensures { AreSurveyed forms.Stream bytes.now limits result }
 {
     match first(alloc, bytes, limits.message_words()) {
         Ok((message, taken)) => {
@@ -65,11 +57,7 @@ fn of_packed<A: Allocator + Copy>(
     bytes: &[u8],
     limits: Limits,
 ) -> Result<Surveyed, Refusal>
-    ensures found { IfOk result (λ s. Surveys forms.Packed bytes.now limits s) }
-    ensures refused { IfErr result (λ e. IsUnacceptedIn forms.Packed bytes.now limits e) }
-    ensures wanted { IsErrOf result refusals.Memory → MayWantMemory forms.Packed bytes.now limits }
-    ensures bounded { MatchResult result (λ s. IsBounded limits.budget s.paid s.visits)
-        (λ e. IsPaidWithin limits.budget e) }
+    ensures { AreSurveyed forms.Packed bytes.now limits result }
 {
     match unpack(alloc, bytes, limits.message_words() + MOST_TABLE_WORDS) {
         Ok(text) => of_frame(alloc, text.as_slice(), limits),
@@ -85,11 +73,7 @@ fn in_form<A: Allocator + Copy>(
     bytes: &[u8],
     limits: Limits,
 ) -> Result<Surveyed, Refusal>
-    ensures found { IfOk result (λ s. Surveys form bytes.now limits s) }
-    ensures refused { IfErr result (λ e. IsUnacceptedIn form bytes.now limits e) }
-    ensures wanted { IsErrOf result refusals.Memory → MayWantMemory form bytes.now limits }
-    ensures bounded { MatchResult result (λ s. IsBounded limits.budget s.paid s.visits)
-        (λ e. IsPaidWithin limits.budget e) }
+    ensures { AreSurveyed form bytes.now limits result }
 {
     match form {
         Form::Stream => of_frame(alloc, bytes, limits),

@@ -2,7 +2,8 @@
 
 ghost use Rattle.std.specs.Prelude.{◌≡◌, ◌++◌, ◌≤◌, length, map, OnOk};
 ghost use Rattle.std.specs.Int.{from_bool};
-ghost use Rattle.capn_canon.specs.Layout.{number, packed, words_for};
+ghost use Rattle.capn_walk.specs.Target.{words_for};
+ghost use Rattle.capn_canon.specs.Layout.{number, packed};
 ghost use Rattle.capn_canon.specs.Patch.{whole};
 
 use crate::patch::Patch;

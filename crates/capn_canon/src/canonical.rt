@@ -4,11 +4,11 @@ ghost use Rattle.std.specs.Prelude.{◌≡◌, ◌≢◌, ℕ, ◌*◌, ◌+◌,
 ghost use Rattle.capn_words.specs.Message.{IsMessage, segment_at};
 ghost use Rattle.capn_value.specs.Tree.{Tree as Value};
 ghost use Rattle.capn_value.specs.Caps.{first_cap};
-ghost use Rattle.capn_walk.specs.Accepted.{root};
+ghost use Rattle.capn_walk.specs.Stops.{root};
 ghost use Rattle.capn_walk.specs.At.{IsAt};
-ghost use Rattle.capn_walk.specs.Denotes.{IsValueOf};
+ghost use Rattle.capn_walk.specs.Accepted.{IsValueOf};
 ghost use Rattle.capn_canon.specs.Layout.{canon};
-ghost use Rattle.capn_canon.specs.Answers.{AnswersMessage};
+ghost use Rattle.capn_canon.specs.Answers.{AnswersMessage, IsCanonicalised};
 ghost use Rattle.capn_canon.specs.Canonicity.{ReadsBack, PaysItsCost, IsItsOwnForm, IsFormExactlyOf};
 ghost use Rattle.capn_canon.specs.Refused.{IsRefusedMessage, IsPaidWithin};
 ghost use Rattle.capn_canon.specs.declared.refusal.Refusal.TheVariants as refusals;
@@ -65,12 +65,7 @@ fn canonical_in<A: Allocator + Copy, S: Space>(
     space: &S,
     limits: Limits,
 ) -> Result<Canonical<A>, Refusal>
-    ensures found { IfOk result (λ c. AnswersMessage (S.message space.now) limits c.bytes.items c.paid) }
-    ensures only { (v : Value) → IsValueOf (S.message space.now) limits v → first_cap v ≡ None
-        → MatchResult result (λ c. c.bytes.items ≡ canon v) (λ e. e ≡ refusals.Memory) }
-    ensures refused { IfErr result (λ e. IsRefusedMessage (S.message space.now) limits e) }
-    ensures wanted { IsErrOf result refusals.Memory → MayWantBytes (S.message space.now) limits }
-    ensures bounded { MatchResult result (λ c. c.paid ≤ limits.budget) (λ e. IsPaidWithin limits.budget e) }
+    ensures { IsCanonicalised (S.message space.now) limits result (λ c. c.bytes.items) (λ c. c.paid) }
 {
     let _segments = space.segments();
     let _budget = limits.budget();
@@ -99,12 +94,7 @@ fn canonical_here<A: Allocator + Copy, S: Space>(
     space: &S,
     limits: Limits,
 ) -> Result<Canonical<A>, Refusal>
-    ensures found { IfOk result (λ c. AnswersMessage (S.message space.now) limits c.bytes.items c.paid) }
-    ensures only { (v : Value) → IsValueOf (S.message space.now) limits v → first_cap v ≡ None
-        → MatchResult result (λ c. c.bytes.items ≡ canon v) (λ e. e ≡ refusals.Memory) }
-    ensures refused { IfErr result (λ e. IsRefusedMessage (S.message space.now) limits e) }
-    ensures wanted { IsErrOf result refusals.Memory → MayWantBytes (S.message space.now) limits }
-    ensures bounded { MatchResult result (λ c. c.paid ≤ limits.budget) (λ e. IsPaidWithin limits.budget e) }
+    ensures { IsCanonicalised (S.message space.now) limits result (λ c. c.bytes.items) (λ c. c.paid) }
 {
     let words = space.words(0).unwrap_or(0);
     if space.segments() == 1 {

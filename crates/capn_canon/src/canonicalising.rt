@@ -5,7 +5,7 @@ ghost use Rattle.capn_value.specs.Tree.{Tree as Value};
 ghost use Rattle.capn_value.specs.Caps.{first_cap};
 ghost use Rattle.capn_canon.specs.Layout.{canon};
 ghost use Rattle.capn_canon.specs.Denotes.{Denotes};
-ghost use Rattle.capn_canon.specs.Answers.{Answers};
+ghost use Rattle.capn_canon.specs.Answers.{Answers, AreCanonicalised};
 ghost use Rattle.capn_canon.specs.Canonicity.{ReadsBack, PaysItsCost, IsItsOwnForm, IsFormExactlyOf};
 ghost use Rattle.capn_canon.specs.Refused.{IsRefused, IsPaidWithin};
 ghost use Rattle.capn_canon.specs.Wanted.{MayWantBytesIn};
@@ -27,10 +27,7 @@ fn of_bare<A: Allocator + Copy>(
     bytes: &[u8],
     limits: Limits,
 ) -> Result<Canonical<A>, Refusal>
-    ensures found { IfOk result (λ c. Answers forms.Bare bytes.now limits c.bytes.items c.paid) }
-    ensures refused { IfErr result (λ e. IsRefused forms.Bare bytes.now limits e) }
-    ensures wanted { IsErrOf result refusals.Memory → MayWantBytesIn forms.Bare bytes.now limits }
-    ensures bounded { IfErr result (λ e. IsPaidWithin limits.budget e) }
+    ensures { AreCanonicalised forms.Bare bytes.now limits result (λ c. c.bytes.items) (λ c. c.paid) }
 {
     match Bare::new(bytes) {
         Ok(space) => canonical_of(alloc, &space, limits),
@@ -44,10 +41,7 @@ fn of_frame<A: Allocator + Copy>(
     bytes: &[u8],
     limits: Limits,
 ) -> Result<Canonical<A>, Refusal>
-    ensures found { IfOk result (λ c. Answers forms.Stream bytes.now limits c.bytes.items c.paid) }
-    ensures refused { IfErr result (λ e. IsRefused forms.Stream bytes.now limits e) }
-    ensures wanted { IsErrOf result refusals.Memory → MayWantBytesIn forms.Stream bytes.now limits }
-    ensures bounded { IfErr result (λ e. IsPaidWithin limits.budget e) }
+    ensures { AreCanonicalised forms.Stream bytes.now limits result (λ c. c.bytes.items) (λ c. c.paid) }
 {
     match first(alloc, bytes, limits.message_words()) {
         Ok((message, taken)) => {
@@ -67,10 +61,7 @@ fn of_packed<A: Allocator + Copy>(
     bytes: &[u8],
     limits: Limits,
 ) -> Result<Canonical<A>, Refusal>
-    ensures found { IfOk result (λ c. Answers forms.Packed bytes.now limits c.bytes.items c.paid) }
-    ensures refused { IfErr result (λ e. IsRefused forms.Packed bytes.now limits e) }
-    ensures wanted { IsErrOf result refusals.Memory → MayWantBytesIn forms.Packed bytes.now limits }
-    ensures bounded { IfErr result (λ e. IsPaidWithin limits.budget e) }
+    ensures { AreCanonicalised forms.Packed bytes.now limits result (λ c. c.bytes.items) (λ c. c.paid) }
 {
     match unpack(alloc, bytes, limits.message_words() + MOST_TABLE_WORDS) {
         Ok(text) => of_frame(alloc, text.as_slice(), limits),
@@ -86,10 +77,7 @@ fn in_form<A: Allocator + Copy>(
     bytes: &[u8],
     limits: Limits,
 ) -> Result<Canonical<A>, Refusal>
-    ensures found { IfOk result (λ c. Answers form bytes.now limits c.bytes.items c.paid) }
-    ensures refused { IfErr result (λ e. IsRefused form bytes.now limits e) }
-    ensures wanted { IsErrOf result refusals.Memory → MayWantBytesIn form bytes.now limits }
-    ensures bounded { IfErr result (λ e. IsPaidWithin limits.budget e) }
+    ensures { AreCanonicalised form bytes.now limits result (λ c. c.bytes.items) (λ c. c.paid) }
 {
     match form {
         Form::Stream => of_frame(alloc, bytes, limits),

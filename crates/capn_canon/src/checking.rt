@@ -6,7 +6,7 @@ ghost use Rattle.capn_words.specs.declared.pointer.Width.TheVariants as widths;
 ghost use Rattle.capn_value.specs.Sizes.{most_height};
 ghost use Rattle.capn_value.specs.Tree.{Tree, Trees, Bodies, count_rows};
 ghost use Rattle.capn_walk.specs.At.{IsAt, RowsAt};
-ghost use Rattle.capn_walk.specs.Walked.{IsPlain};
+ghost use Rattle.capn_walk.specs.Shapes.{IsPlain};
 ghost use Rattle.capn_canon.specs.Layout.{size, sizes, sizes_in_rows};
 ghost use Rattle.capn_canon.specs.Runs.{IsRun, AreIn, IsList, Steps};
 ghost use Rattle.capn_canon.specs.Stands.{IsLaidAt, AreLaidAt, RowsLaidAt, Tells, AreReadyRows};

@@ -3,7 +3,8 @@
 ghost use Rattle.std.specs.Prelude.{◌≡◌, ◌*◌, ◌%◌, ◌<◌, [], ◌∷◌, ◌++◌, length, set, Some, OnOk, OnErr, IfOk};
 ghost use Rattle.capn_words.specs.Message.{bytes as bytes_of_words};
 ghost use Rattle.capn_canon.specs.Patch.{filled, whole};
-ghost use Rattle.capn_canon.specs.Layout.{packed, words_for};
+ghost use Rattle.capn_walk.specs.Target.{words_for};
+ghost use Rattle.capn_canon.specs.Layout.{packed};
 
 use crate::patch::{bytes_of, write_at};
 use capn_value::Memory;

@@ -4,7 +4,7 @@ ghost use Rattle.std.specs.Prelude.{◌≡◌, ◌+◌, ◌*◌, ◌^◌, ◌<�
 ghost use Rattle.capn_words.specs.Message.{IsMessage};
 ghost use Rattle.capn_walk.specs.At.{words_from};
 ghost use Rattle.capn_walk.specs.Target.{content_words, words_for};
-ghost use Rattle.capn_walk.specs.Walked.{IsContent, IsPlain};
+ghost use Rattle.capn_walk.specs.Shapes.{IsContent, IsPlain};
 ghost use Rattle.capn_walk.specs.declared.target.Shape.TheVariants.{Many};
 ghost use Rattle.capn_canon.specs.Patch.{whole};
 ghost use Rattle.capn_canon.specs.Bits.{element_bits, first_bits};

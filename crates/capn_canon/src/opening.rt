@@ -4,7 +4,7 @@ ghost use Rattle.std.specs.Prelude.{◌≡◌, ℕ, ◌+◌, ◌*◌, ◌^◌, �
 ghost use Rattle.capn_words.specs.Message.{IsMessage};
 ghost use Rattle.capn_words.specs.declared.pointer.Width.TheVariants.{Link};
 ghost use Rattle.capn_walk.specs.At.{words_from};
-ghost use Rattle.capn_walk.specs.Walked.{IsContent};
+ghost use Rattle.capn_walk.specs.Shapes.{IsContent};
 ghost use Rattle.capn_canon.specs.Patch.{whole};
 ghost use Rattle.capn_canon.specs.Layout.{list_to};
 ghost use Rattle.capn_canon.specs.Opened.{IsOpened};
@@ -152,87 +152,44 @@ pub fn open_rows<S: Space, A: Allocator>(
     let word = list_pointer(from, draft.len(), Width::Rows, size);
     draft.put(from, word);
     draft.push(tag_word(count as usize, kept as usize, below as usize))?;
-    let first = draft.len();
-    push_rows(space, start, count, step, words as u32, kept, below, draft)?;
-    Ok(RowRun {
-        first,
+    let rows = RowRun {
+        first: draft.len(),
         words: kept,
         slots: below,
-    })
+    };
+    push_rows(space, start, count, words, slots, rows, draft)?;
+    Ok(rows)
 }
 
-/// Appends the first words of two parts of each of so many rows. Rows that are kept whole are one piece.
+/// Appends what is kept of each of so many rows. Rows that are kept whole are one piece.
 fn push_rows<S: Space, A: Allocator>(
     space: &S,
     start: Place,
     count: u32,
-    step: u32,
-    inset: u32,
-    words: u32,
-    slots: u32,
+    words: u16,
+    slots: u16,
+    rows: RowRun,
     draft: &mut Draft<A>,
 ) -> Result<(), Memory>
     requires message { IsMessage (S.message space.now) }
-    requires content { IsContent (S.message space.now) start (count * step) }
-    requires part { words ≤ inset }
-    requires parts { inset + slots ≤ step }
+    requires content { IsContent (S.message space.now) start (count * (words + slots)) }
+    requires words { rows.words ≤ words }
+    requires slots { rows.slots ≤ slots }
     ensures { OnOk result (draft.new ≡ draft.old
-        ++ row_cells (S.message space.now) start.segment start.word step inset words slots count) }
+        ++ row_cells (S.message space.now) start.segment start.word (words + slots) words rows.words rows.slots count) }
 {
-    if words + slots == step {
-        push_piece(space, start, count, step, inset, words, slots, draft)
-    } else {
-        push_each(space, start, count, step, inset, words, slots, draft)
+    let step = words as u32 + slots as u32;
+    if rows.words + rows.slots == step {
+        let size = count * step;
+        return draft.extend(space.bytes(start, 8 * size as usize));
     }
-}
-
-/// Appends all words of so many rows.
-fn push_piece<S: Space, A: Allocator>(
-    space: &S,
-    start: Place,
-    count: u32,
-    step: u32,
-    inset: u32,
-    words: u32,
-    slots: u32,
-    draft: &mut Draft<A>,
-) -> Result<(), Memory>
-    requires message { IsMessage (S.message space.now) }
-    requires content { IsContent (S.message space.now) start (count * step) }
-    requires part { words ≡ inset }
-    requires parts { words + slots ≡ step }
-    ensures { OnOk result (draft.new ≡ draft.old
-        ++ row_cells (S.message space.now) start.segment start.word step inset words slots count) }
-{
-    let size = count * step;
-    draft.extend(space.bytes(start, 8 * size as usize))
-}
-
-/// Appends the first words of two parts of each of so many rows, one row after the other.
-fn push_each<S: Space, A: Allocator>(
-    space: &S,
-    start: Place,
-    count: u32,
-    step: u32,
-    inset: u32,
-    words: u32,
-    slots: u32,
-    draft: &mut Draft<A>,
-) -> Result<(), Memory>
-    requires message { IsMessage (S.message space.now) }
-    requires content { IsContent (S.message space.now) start (count * step) }
-    requires part { words ≤ inset }
-    requires parts { inset + slots ≤ step }
-    ensures { OnOk result (draft.new ≡ draft.old
-        ++ row_cells (S.message space.now) start.segment start.word step inset words slots count) }
-{
     let mut next = start.word;
     for row in 0..count {
         let at = Place {
             segment: start.segment,
             word: next,
         };
-        push_parts(space, at, inset, words, slots, draft)?;
+        push_parts(space, at, words as u32, rows.words, rows.slots, draft)?;
         next += step;
     }
     Ok(())

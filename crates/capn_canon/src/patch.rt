@@ -4,7 +4,8 @@ ghost use Rattle.std.specs.Prelude.{◌≡◌, ℕ, ◌+◌, ◌*◌, ◌%◌, �
 ghost use Rattle.std.specs.Prelude.{Some, None, IfOk, IfErr, OnOk, OnErr};
 ghost use Rattle.capn_words.specs.Message.{word_bytes, bytes as bytes_of_words};
 ghost use Rattle.capn_canon.specs.Patch.{IsHole, IsWhole, filled, whole};
-ghost use Rattle.capn_canon.specs.Layout.{packed, words_for};
+ghost use Rattle.capn_walk.specs.Target.{words_for};
+ghost use Rattle.capn_canon.specs.Layout.{packed};
 
 use crate::elements::{append_bytes, append_octs, append_pairs, append_quads};
 use crate::marks::{cover, mark, unmark};

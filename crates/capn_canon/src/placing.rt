@@ -1,9 +1,8 @@
 //! The content of the value at a place of a message, and of all below it, in canonical order.
 
-ghost use Rattle.std.specs.Prelude.{◌≡◌, ℕ, ◌+◌, ◌*◌, ◌^◌, ◌<◌, ◌≤◌, length, Ok, OnOk};
+ghost use Rattle.std.specs.Prelude.{ℕ, ◌+◌, ◌*◌, ◌^◌, ◌<◌, ◌≤◌, length, OnOk};
 ghost use Rattle.capn_words.specs.Message.{IsMessage, IsPlace};
-ghost use Rattle.capn_walk.specs.Target as spec;
-ghost use Rattle.capn_walk.specs.Walked.{IsContent, RowsFit, extent};
+ghost use Rattle.capn_walk.specs.Shapes.{IsContent, RowsFit, extent};
 ghost use Rattle.capn_canon.specs.Ready.{IsReady, IsReadyInside, AreReady, IsLaid, IsLaidInside, AreLaid};
 ghost use Rattle.capn_canon.specs.RowWords.{RowsReady, RowsLaid};
 
@@ -31,28 +30,7 @@ pub fn lay_slot<S: Space, A: Allocator>(
     requires inside { from < length draft.old }
     ensures { OnOk result (IsLaid (S.message space.now) at from draft.old draft.new) }
 {
-    let target = target_at(space, at);
-    lay_target(space, at, target, from, depth, draft)
-}
-
-/// The same where the target is known.
-#[cycle(placing)]
-fn lay_target<S: Space, A: Allocator>(
-    space: &S,
-    at: Place,
-    target: Target,
-    from: usize,
-    depth: u32,
-    draft: &mut Draft<A>,
-) -> Result<(), Memory>
-    requires message { IsMessage (S.message space.now) }
-    requires place { IsPlace (S.message space.now) at }
-    requires target { spec.target (S.message space.now) at ≡ Ok target }
-    requires ready { IsReady (S.message space.now) at depth (length draft.old) }
-    requires inside { from < length draft.old }
-    ensures { OnOk result (IsLaid (S.message space.now) at from draft.old draft.new) }
-{
-    match target {
+    match target_at(space, at) {
         Target::Nil => {
             draft.put(from, 0);
             Ok(())

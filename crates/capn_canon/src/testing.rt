@@ -9,7 +9,7 @@ ghost use Rattle.capn_words.specs.declared.pointer.Pointer.TheVariants.{Node};
 ghost use Rattle.capn_words.specs.declared.pointer.Width.TheVariants.{Rows};
 ghost use Rattle.capn_value.specs.Trim.{kept_words};
 ghost use Rattle.capn_walk.specs.At.{words_from};
-ghost use Rattle.capn_walk.specs.Walked.{IsContent};
+ghost use Rattle.capn_walk.specs.Shapes.{IsContent};
 ghost use Rattle.capn_canon.specs.Layout.{list_to};
 ghost use Rattle.capn_canon.specs.Bits.{element_bits, first_bits};
 ghost use Rattle.capn_canon.specs.RowWords.{kept_each};

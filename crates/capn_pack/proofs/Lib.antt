@@ -6,5 +6,4 @@ mod WordLemmas
 mod LaneLemmas
 mod RowLemmas
 mod StartLemmas
-pub mod RefusalLaws
 pub mod PackedRows

@@ -1,8 +1,9 @@
 -- A whole group stands first.
 use Rattle.std.proofs.Common.{◌≡◌, inl, inr, ℕ, ◌*◌, ◌<◌, ◌≤◌, List, [], ◌∷◌, ◌++◌, length, take, drop}
 use Rattle.std.proofs.Common.{slice_range, sym, ap, ◌∙◌, arith, append_assoc, length-take}
-use Rattle.std.proofs.Common.{take-append-drop}
+use Rattle.std.proofs.Common.{take-append-drop, Result, IsErrAnd}
 use Rattle.std.proofs.lemmas.Bool.{cases_lt}
+use Rattle.std.proofs.lemmas.Result.{err_from_is_err_and}
 use Rattle.std.specs.List.{AllByRecursion}
 use Rattle.capn_pack.specs.Group.{Group, IsGroup, text, words}
 use Rattle.capn_pack.specs.Group.Group.{Zeros, Named, Raw}
@@ -10,21 +11,28 @@ use Rattle.capn_pack.specs.Joins.{Joins}
 use Rattle.capn_pack.specs.declared.unpack_piece.Joined.TheVariants as joins
 use Rattle.capn_pack.specs.Packs.{texts, word_count}
 use Rattle.capn_pack.specs.Refusal.{StartsWithin}
-use Rattle.capn_pack.specs.Steps.{TakesRow}
+use Rattle.capn_pack.specs.Steps.{TakeGives, TakesRow}
 use Rattle.capn_pack.specs.Stream.{NoGroupFirst}
+use Rattle.capn_pack.specs.declared.unpack_group.Stop.{Stop}
+use Rattle.capn_pack.specs.declared.unpack_group.Stop.TheVariants.{Memory}
+use Rattle.capn_pack.specs.declared.unpack_group.Taken.{Taken}
 use Rattle.capn_pack.specs.Laws.GroupLemmas.{length_contents, rest_is}
 use Rattle.capn_pack.proofs.RowLemmas.{Unpacked}
 
--- the first n bytes are a group's
-pub starts : (rest : List ℕ) (n room : ℕ) (g : Group) → IsGroup g → take n rest ≡ text g → words g ≤ room
-    → StartsWithin rest room
-starts rest n room g is e fits = record {
-  group = g;
-  more = drop n rest;
-  is_group = is;
-  text = sym (take-append-drop n rest) ∙ ap (λ (xs : List ℕ). xs ++ drop n rest) e;
-  fits = fits;
-}
+-- memory is refused where the first n bytes are a group's
+pub memory_gives : (rest : List ℕ) (n room : ℕ) (g : Group) (old new : List ℕ) (r : Result Taken Stop) → IsGroup g
+    → take n rest ≡ text g → words g ≤ room → new ≡ old → IsErrAnd r (λ (e : Stop). e ≡ Memory)
+    → TakeGives rest room old r new
+memory_gives rest n room g old new r is e fits same refused =
+    let error = err_from_is_err_and r refused in
+    let first : StartsWithin rest room = record {
+      group = g;
+      more = drop n rest;
+      is_group = is;
+      text = sym (take-append-drop n rest) ∙ ap (λ (xs : List ℕ). xs ++ drop n rest) e;
+      fits = fits;
+    } in
+    rw (error.1, error.2) (first, same)
 
 -- the first of some groups
 first_of : (bytes : List ℕ) (at room : ℕ) (gs : List Group) → AllByRecursion IsGroup gs → take at bytes ≡ texts gs
@@ -77,9 +85,6 @@ unpacked_starts bytes at out room max u s = elim (cases_lt 0 (length out)) [
 ]
 
 -- ---- and so not none
-
-pub started : (bs : List ℕ) (room : ℕ) → StartsWithin bs room → NoGroupFirst bs → ⊥
-started bs room s none = none s.group s.more s.is_group s.text
 
 row_open : (bytes : List ℕ) (at : ℕ) (gs : List Group) → AllByRecursion IsGroup gs → at ≤ length bytes
     → take at bytes ≡ texts gs

@@ -2,6 +2,7 @@
 pub mod ChosenLaws
 pub mod GroupLaws
 pub mod GroupLemmas
+pub mod RefusalLaws
 pub mod SplitLaws
 pub mod SpreadLemmas
 pub mod StreamLemmas

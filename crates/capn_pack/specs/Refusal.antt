@@ -1,5 +1,5 @@
 -- What is answered where a text packs no words, or more than the maximum. (Own.)
-use Rattle.std.specs.Prelude.{ℕ, ◌≡◌, ◌+◌, ◌*◌, ◌<◌, ◌≤◌, ◌==◌, if◌then◌else◌, List, ◌++◌, length, slice_index}
+use Rattle.std.specs.Prelude.{ℕ, ◌≡◌, ◌⊎◌, ◌+◌, ◌*◌, ◌<◌, ◌≤◌, ◌==◌, if◌then◌else◌, List, ◌++◌, length, slice_index}
 use Rattle.std.specs.Prelude.{count_ones, ⊤}
 use Rattle.std.specs.List.{AllByRecursion}
 use Rattle.capn_pack.specs.declared.fault.UnpackFault.{UnpackFault}
@@ -27,9 +27,10 @@ len_at rest =
     let tag = slice_index rest 0 in
     if tag == 255 then 10 + 8 * slice_index rest 9 else head_len tag
 
--- The group that begins here is cut: its head is, or else its words have room and its raw words are cut.
+-- The group that begins here is cut: its head is, or its words have room and its raw words are cut.
 abbrev pub IsCut : ℕ → List ℕ → Type 0
-IsCut room rest = (0 < length rest) × (HasHead rest → (words_at rest ≤ room) × (length rest < len_at rest))
+IsCut room rest = (0 < length rest)
+    × ((length rest < head_len (slice_index rest 0)) ⊎ ((words_at rest ≤ room) × (length rest < len_at rest)))
 
 -- The group that begins here has its head, which announces more words than there is room for.
 abbrev pub IsTooLong : ℕ → List ℕ → Type 0

@@ -1,9 +1,14 @@
 -- What one step of the code does. No public clause cites this.
-use Rattle.std.specs.Prelude.{ℕ, ◌≡◌, ◌+◌, ◌*◌, ◌≤◌, ◌++◌, List, length, take, drop}
+use Rattle.std.specs.Prelude.{ℕ, ◌≡◌, ◌+◌, ◌*◌, ◌<◌, ◌≤◌, ◌++◌, List, length, take, drop, Result, Ok, Err}
 use Rattle.std.specs.List.{AllByRecursion}
 use Rattle.capn_pack.specs.Group.{Group, IsGroup, text, content, words}
 use Rattle.capn_pack.specs.Packs.{texts, contents, word_count}
 use Rattle.capn_pack.specs.Chosen.{IsChoice, IsChosenRow}
+use Rattle.capn_pack.specs.Refusal.{IsCut, IsTooLong, StartsWithin}
+use Rattle.capn_pack.specs.declared.unpack_group.TheConstants.{GROUP}
+use Rattle.capn_pack.specs.declared.unpack_group.Stop.{Stop}
+use Rattle.capn_pack.specs.declared.unpack_group.Stop.TheVariants.{Memory, Cut, TooLong}
+use Rattle.capn_pack.specs.declared.unpack_group.Taken.{Taken}
 
 -- The next group of the rest takes so many bytes and has so many words, whose bytes were appended.
 pub record Takes (rest : List ℕ) (room taken count : ℕ) (old new : List ℕ) : Type 0 where
@@ -14,6 +19,14 @@ pub record Takes (rest : List ℕ) (room taken count : ℕ) (old new : List ℕ)
   pub counted : count ≡ words group
   pub fits : count ≤ room
   pub content : new ≡ old ++ content group
+
+-- What reading the next group answers: what it takes; or nothing was appended, and memory was refused for a whole group
+-- within the room, or the group is cut and shorter than the longest, or it has more words than there is room for.
+abbrev pub TakeGives : List ℕ → ℕ → List ℕ → Result Taken Stop → List ℕ → Type 0
+TakeGives rest room old (Ok taken) new = Takes rest room taken.bytes taken.words old new
+TakeGives rest room old (Err Memory) new = StartsWithin rest room × (new ≡ old)
+TakeGives rest room old (Err Cut) new = IsCut room rest × (length rest < GROUP) × (new ≡ old)
+TakeGives rest room old (Err TooLong) new = IsTooLong room rest × (new ≡ old)
 
 -- The next groups of the rest take so many bytes, and their words' bytes were appended.
 pub record TakesRow (rest : List ℕ) (taken : ℕ) (old new : List ℕ) : Type 0 where

@@ -1,7 +1,6 @@
 //! One group read, and its words appended.
-ghost use Rattle.std.specs.Prelude.{◌≡◌, ◌+◌, ◌*◌, ◌<◌, ◌≤◌, length, IfOk, OnErr, IsErrOf, slice_index};
-ghost use Rattle.capn_pack.specs.Refusal.{IsCut, IsTooLong, StartsWithin};
-ghost use Rattle.capn_pack.specs.Steps.{Takes};
+ghost use Rattle.std.specs.Prelude.{◌≡◌, ◌<◌, length, slice_index};
+ghost use Rattle.capn_pack.specs.Steps.{TakeGives};
 
 use crate::lanes::spread;
 use std::alloc::{AllocError, Allocator};
@@ -47,12 +46,7 @@ pub(crate) struct Taken {
 fn take_zeros<A: Allocator>(rest: &[u8], room: usize, out: &mut Vec<u8, A>) -> Result<Taken, Stop>
     requires some { 0 < length rest.now }
     requires tag { slice_index rest.now 0 ≡ 0 }
-    ensures ok { IfOk result (λ t. Takes rest.now room t.bytes t.words out.old.items out.new.items) }
-    ensures cut { IsErrOf result Stop.Cut → IsCut room rest.now }
-    ensures short { IsErrOf result Stop.Cut → length rest.now < GROUP }
-    ensures too_long { IsErrOf result Stop.TooLong → IsTooLong room rest.now }
-    ensures wanted { IsErrOf result Stop.Memory → StartsWithin rest.now room }
-    ensures err { OnErr result (out.new.items ≡ out.old.items) }
+    ensures { TakeGives rest.now room out.old.items result out.new.items }
 {
     if rest.len() < 2 {
         return Err(Stop::Cut);
@@ -71,12 +65,7 @@ fn take_named<A: Allocator>(rest: &[u8], room: usize, out: &mut Vec<u8, A>) -> R
     requires some { 0 < length rest.now }
     requires above { 0 < slice_index rest.now 0 }
     requires below { slice_index rest.now 0 < 255 }
-    ensures ok { IfOk result (λ t. Takes rest.now room t.bytes t.words out.old.items out.new.items) }
-    ensures cut { IsErrOf result Stop.Cut → IsCut room rest.now }
-    ensures short { IsErrOf result Stop.Cut → length rest.now < GROUP }
-    ensures too_long { IsErrOf result Stop.TooLong → IsTooLong room rest.now }
-    ensures wanted { IsErrOf result Stop.Memory → StartsWithin rest.now room }
-    ensures err { OnErr result (out.new.items ≡ out.old.items) }
+    ensures { TakeGives rest.now room out.old.items result out.new.items }
 {
     let tag = rest[0];
     let named = tag.count_ones() as usize;
@@ -99,12 +88,7 @@ fn take_named<A: Allocator>(rest: &[u8], room: usize, out: &mut Vec<u8, A>) -> R
 fn take_raw<A: Allocator>(rest: &[u8], room: usize, out: &mut Vec<u8, A>) -> Result<Taken, Stop>
     requires some { 0 < length rest.now }
     requires tag { slice_index rest.now 0 ≡ 255 }
-    ensures ok { IfOk result (λ t. Takes rest.now room t.bytes t.words out.old.items out.new.items) }
-    ensures cut { IsErrOf result Stop.Cut → IsCut room rest.now }
-    ensures short { IsErrOf result Stop.Cut → length rest.now < GROUP }
-    ensures too_long { IsErrOf result Stop.TooLong → IsTooLong room rest.now }
-    ensures wanted { IsErrOf result Stop.Memory → StartsWithin rest.now room }
-    ensures err { OnErr result (out.new.items ≡ out.old.items) }
+    ensures { TakeGives rest.now room out.old.items result out.new.items }
 {
     if rest.len() < 10 {
         return Err(Stop::Cut);
@@ -133,12 +117,7 @@ pub(crate) fn take_group<A: Allocator>(
     out: &mut Vec<u8, A>,
 ) -> Result<Taken, Stop>
     requires { 0 < length rest.now }
-    ensures ok { IfOk result (λ t. Takes rest.now room t.bytes t.words out.old.items out.new.items) }
-    ensures cut { IsErrOf result Stop.Cut → IsCut room rest.now }
-    ensures short { IsErrOf result Stop.Cut → length rest.now < GROUP }
-    ensures too_long { IsErrOf result Stop.TooLong → IsTooLong room rest.now }
-    ensures wanted { IsErrOf result Stop.Memory → StartsWithin rest.now room }
-    ensures err { OnErr result (out.new.items ≡ out.old.items) }
+    ensures { TakeGives rest.now room out.old.items result out.new.items }
 {
     match rest[0] {
         0 => take_zeros(rest, room, out),

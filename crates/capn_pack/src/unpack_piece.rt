@@ -1,7 +1,7 @@
 //! One piece of a packed text, and what is held of the pieces before it.
 ghost use Rattle.std.specs.Prelude.{◌≡◌, ◌+◌, ◌<◌, ◌≤◌, ◌++◌, length, take, drop, IfOk, OnErr};
 ghost use Rattle.capn_pack.specs.Stream.{Splits, Begins, NoGroupFirst};
-ghost use Rattle.capn_pack.specs.Joins.{Joins};
+ghost use Rattle.capn_pack.specs.Joins.{FeedGives, Joins};
 
 use crate::unpack_block::{SLACK, take_block};
 use crate::unpack_group::{GROUP, Stop, WORDS, take_group};
@@ -102,11 +102,8 @@ fn feed_fresh<A: Allocator>(
     out: &mut Vec<u8, A>,
 ) -> Result<Fed, AllocError>
     requires room { length held.old ≡ HELD }
-    ensures most { IfOk result (λ fed. fed.len < GROUP) }
-    ensures ok { IfOk result (λ fed. Splits piece.now (take fed.len held.new) out.old.items out.new.items fed.taken) }
+    ensures gives { FeedGives piece.now out.old.items result held.new out.new.items }
     ensures inside { IfOk result (λ fed. fed.taken ≤ length piece.now) }
-    ensures err { OnErr result (Begins piece.now out.old.items out.new.items) }
-    ensures wanted { OnErr result (NoGroupFirst piece.now → ⊥) }
 {
     let taken = take_groups(piece, held, out)?;
     let rest = &piece[taken..];
@@ -128,11 +125,7 @@ fn feed_begun<A: Allocator>(
     requires some { 0 < len }
     requires most { len < GROUP }
     requires begun { NoGroupFirst (take len held.old) }
-    ensures most { IfOk result (λ fed. fed.len < GROUP) }
-    ensures ok { IfOk result (λ fed. Splits (take len held.old ++ piece.now)
-        (take fed.len held.new) out.old.items out.new.items fed.taken) }
-    ensures err { OnErr result (Begins (take len held.old ++ piece.now) out.old.items out.new.items) }
-    ensures wanted { OnErr result (NoGroupFirst (take len held.old ++ piece.now) → ⊥) }
+    ensures { FeedGives (take len held.old ++ piece.now) out.old.items result held.new out.new.items }
 {
     match join_first(held, len, piece, out)? {
         Joined::Open(all) => Ok(Fed { len: all, taken: 0 }),
@@ -158,11 +151,7 @@ pub(crate) fn feed_held<A: Allocator>(
     requires room { length held.old ≡ HELD }
     requires most { len < GROUP }
     requires begun { NoGroupFirst (take len held.old) }
-    ensures most { IfOk result (λ fed. fed.len < GROUP) }
-    ensures ok { IfOk result (λ fed. Splits (take len held.old ++ piece.now)
-        (take fed.len held.new) out.old.items out.new.items fed.taken) }
-    ensures err { OnErr result (Begins (take len held.old ++ piece.now) out.old.items out.new.items) }
-    ensures wanted { OnErr result (NoGroupFirst (take len held.old ++ piece.now) → ⊥) }
+    ensures { FeedGives (take len held.old ++ piece.now) out.old.items result held.new out.new.items }
 {
     if len == 0 {
         feed_fresh(held, piece, out)

@@ -80,12 +80,12 @@ cut_or_empty (b ∷ bs) most h = h (omega arith)
 unfinished : (stage : Stage) (bs : List ℕ) (most : ℕ) (ends : List ℕ) → Knows stage bs most ends → Rests stage bs
     → (IsDone stage bs → ⊥) → IsUnfinished bs most
 unfinished stages.Count bs most ends knows (inl short) never =
-    cut_or_empty bs most (λ some. inr (some, λ four. absurd (omega (arith, four, short))))
+    cut_or_empty bs most (λ some. inr (inl (some, short)))
 unfinished (stages.Table segments) bs most ends knows (inl short) never =
     let same = ap head_length knows.1 in
-    inr (omega (arith, knows.0.0), λ four. (knows.0.1, λ head. absurd (omega (arith, head, short, same))))
+    inr (inr (inl (knows.0, omega (arith, short, same))))
 unfinished (stages.Contents start end) bs most ends knows (inl short) never =
-    inr (omega (arith, knows.0.0.0), λ four. (knows.0.0.1, λ head. (knows.1, omega (arith, short, knows.3))))
+    inr (inr (inr (knows.0, knows.1, omega (arith, short, knows.3))))
 unfinished stage bs most ends knows (inr done) never = absurd (never done)
 
 pub frame_held : (stage : Stage) (bs : List ℕ) (most : ℕ) (ends : List ℕ) → most ≤ 2 ^ 28 → IsStage stage bs most ends

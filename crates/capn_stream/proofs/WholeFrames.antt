@@ -13,7 +13,7 @@ use Rattle.capn_stream.proofs.Cutting.{length-cut, message-cut, total-cut}
 use Rattle.capn_stream.specs.Laws.Ends.{AreRising-ends_from, contents-cut, length-ends_from, lengths-cut}
 use Rattle.capn_stream.specs.Laws.Entries.{entries_more, entry-entries, entry-entry_number, below-drop, below-take}
 use Rattle.capn_stream.specs.Laws.Entries.{length-entries, sum-entries_more, take_then}
-use Rattle.capn_stream.specs.Laws.SegmentBytes.{length-bytes}
+use Rattle.capn_words.specs.Laws.Words.{length-bytes}
 use Rattle.capn_stream.specs.Laws.FrameLaws.{FitsTable-message, table_sizes}
 
 -- the sizes of all segments but the last

@@ -8,7 +8,7 @@ use Rattle.capn_words.specs.Limits.{most_segments}
 use Rattle.capn_words.specs.Message.{bytes, segment_at, total}
 use Rattle.capn_words.specs.Words.{AreBytes}
 
--- the words of the longest table and its padding (own)
+-- the words of the longest table and its padding (Own.)
 abbrev pub most_table_words : ℕ
 most_table_words = most_segments / 2 + 1
 

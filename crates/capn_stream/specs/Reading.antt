@@ -1,6 +1,6 @@
 -- What the beginning of a stream announces, and why it is refused. (Page: serialization over a stream; the order of
 -- the tests is our own.)
-use Rattle.std.specs.Prelude.{◌≡◌, ℕ, zero, suc, ◌+◌, ◌*◌, ◌<◌, ◌≤◌, List, [], ◌∷◌, length, drop, sum, ⊤}
+use Rattle.std.specs.Prelude.{◌≡◌, ◌⊎◌, ℕ, zero, suc, ◌+◌, ◌*◌, ◌<◌, ◌≤◌, List, [], ◌∷◌, length, drop, sum, ⊤}
 use Rattle.byteorder.specs.Endian.{little_number}
 use Rattle.capn_words.specs.Limits.{most_segments}
 use Rattle.capn_stream.specs.Frames.{padding}
@@ -50,14 +50,13 @@ IsWhole bs most = HasHead bs × (announced_words bs ≤ most) × (frame_length b
 abbrev pub HasTable : List ℕ → ℕ → Type 0
 HasTable bs most = IsWhole bs most × (2 ≤ announced_segments bs)
 
--- the count is cut; or so many segments are allowed and the table or its padding is cut; or so many
--- words are allowed and the contents are cut
+-- the count is cut; or so many segments are allowed, and the table or its padding is cut; or so many words are allowed
+-- too, and the contents are cut
 abbrev pub IsCut : List ℕ → ℕ → Type 0
 IsCut bs most =
-    (0 < length bs)
-    × (4 ≤ length bs → (announced_segments bs ≤ most_segments)
-    × (head_length (announced_segments bs) ≤ length bs → (announced_words bs ≤ most)
-    × (length bs < frame_length bs)))
+    ((0 < length bs) × (length bs < 4))
+    ⊎ (HasCount bs × (length bs < head_length (announced_segments bs)))
+    ⊎ (HasHead bs × (announced_words bs ≤ most) × (length bs < frame_length bs))
 
 -- why bytes are refused under a number of words, each test being made once those before it have passed
 -- (want of memory says nothing of the bytes)

@@ -1,5 +1,5 @@
 -- A run over a stream that is read in pieces.
-use Rattle.std.proofs.Common.{◌≡◌, ◌≢◌, ◌⊎◌, inl, inr, ◌↔◌, ℕ, ◌+◌, ◌-◌, ◌<◌, ◌≤◌, ◌^◌, min, List, [], ◌++◌, length}
+use Rattle.std.proofs.Common.{◌≡◌, ◌≢◌, ◌⊎◌, inl, inr, ℕ, ◌+◌, ◌-◌, ◌<◌, ◌≤◌, ◌^◌, min, List, [], ◌++◌, length}
 use Rattle.std.proofs.Common.{take, Bool, true, false, Option, None, Some, IfSome, Result, Ok, Err, refl, ap, sym}
 use Rattle.std.proofs.Common.{subst, ◌∙◌, append-nil, arith, length-append, length-take-le}
 use Rattle.std.proofs.Math.Seq.{take-append-add, take-length}
@@ -17,8 +17,6 @@ use Rattle.capn_tool.specs.Text.{HasWritten, PlanBegins, PlanEndsAs, taken_of, h
 use Rattle.capn_tool.specs.Sending.{sent}
 use Rattle.capn_tool.specs.Heard.{EndsInput, Hears, IsDueSo, Runs, Stops, Tells, TellsFront}
 use Rattle.capn_tool.specs.declared.plan.Piece.{Piece}
-use Rattle.capn_tool.specs.declared.plan.Whole.{Whole}
-use Rattle.capn_tool.specs.declared.plan.Plan.{Plan}
 use Rattle.capn_tool.specs.declared.plan.Plan.TheVariants as plans
 use Rattle.capn_tool.specs.declared.fault.ToolFault.{ToolFault}
 use Rattle.capn_tool.specs.declared.fault.ToolFault.TheVariants as faults
@@ -295,15 +293,3 @@ module _ (piece : Piece) (limits : Bounds) where
         omega (arith, count, length-append bytes (take k buf), length-take-le k buf within),
         tells_more piece limits bytes rest (take k buf) new (sent c) (sent d) (sent e) told part,
       )
-
--- a plan that takes its input whole
-pub runs_whole : (plan : Plan) (whole : Whole) (a b c d : Option (List ℕ)) (reader_failed writer_failed : Bool)
-    (r : Result (Unit {0}) ToolFault) → plan ≡ plans.Whole whole → IfSome a (PlanEndsAs (plans.Whole whole) c d r)
-    → (r ≡ Err faults.Io) ↔ ((reader_failed ≡ true) ⊎ (writer_failed ≡ true)) → PlanBegins (plans.Whole whole) a b c d
-    → (reader_failed ≡ true → Appends c d []) → Runs plan a b c d reader_failed writer_failed r
-runs_whole plan whole a b c d reader_failed writer_failed r is exact io begun unread = rw is (record {
-  exact = exact;
-  io = io;
-  begun = begun;
-  heard = unread;
-})

@@ -1,5 +1,6 @@
 pub mod ReadMore
 pub mod NumberLemmas
+pub mod CommandLines
 pub mod WholeServed
 pub mod RunLaw
 pub mod OneText

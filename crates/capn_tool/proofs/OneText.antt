@@ -5,10 +5,10 @@ use Rattle.std.proofs.Common.{arith, length-append}
 use Rattle.std.proofs.Math.Seq.{take-length, take-append-le}
 use Rattle.std.specs.List.{AllByRecursion}
 use Rattle.std.specs.Io.KnownBytes.{Appends}
-use Rattle.capn_words.specs.Words.{IsBare}
 use Rattle.capn_words.specs.declared.bare.BareFault.{BareFault}
-use Rattle.capn_words.specs.Laws.OneSegment.{bare_only}
+use Rattle.capn_words.specs.Laws.OneSegment.{bare_not_refused, one_bare, one_bare_fault}
 use Rattle.capn_pack.specs.Laws.GroupLaws.{append_same, one_reading, refused_only}
+use Rattle.capn_pack.specs.Laws.RefusalLaws.{one_unpack_fault}
 use Rattle.capn_pack.specs.Laws.ChosenLaws.{chosen_whole}
 use Rattle.capn_pack.specs.Laws.ChosenLaws as chosen
 use Rattle.capn_pack.specs.declared.fault.UnpackFault.{UnpackFault}
@@ -19,10 +19,10 @@ use Rattle.capn_stream.specs.Laws.FrameLaws as frame_laws
 use Rattle.capn_value.specs.Text.{show_text}
 use Rattle.capn_value.specs.Tree.{Tree}
 use Rattle.capn_value.specs.Caps.{first_cap}
-use Rattle.capn_walk.specs.Accepted.{root}
+use Rattle.capn_walk.specs.Stops.{root}
 use Rattle.capn_walk.specs.declared.walked.Stopped.{Stopped}
 use Rattle.capn_walk.specs.Limits.{Bounds}
-use Rattle.capn_walk.specs.Denotes.{IsValueOf}
+use Rattle.capn_walk.specs.Accepted.{IsValueOf}
 use Rattle.capn_walk.specs.Laws.Unique.{unique}
 use Rattle.capn_canon.specs.Layout.{canon}
 use Rattle.capn_canon.specs.Answers.{Answers}
@@ -48,8 +48,7 @@ use Rattle.capn_tool.specs.declared.plan.Plan.{Plan}
 use Rattle.capn_tool.specs.declared.plan.Plan.TheVariants as plans
 use Rattle.capn_tool.specs.declared.fault.ToolFault.{ToolFault}
 use Rattle.capn_tool.specs.declared.fault.ToolFault.TheVariants as faults
-use Rattle.capn_canon.specs.Laws.OneRefusal.{one_unpack_fault, one_bare_fault, bare_not_misread, one_stop, message_part}
-use Rattle.capn_canon.specs.Laws.OneRefusal.{one_message_refusal, one_refusal}
+use Rattle.capn_canon.specs.Laws.OneRefusal.{message_part, one_message_refusal, one_refusal, one_stop}
 
 -- ---- a message has one piece, or none for one reason
 
@@ -112,9 +111,6 @@ module _ (words : List ℕ) (limits : Bounds) where
 
 -- ---- an input that is taken whole
 
-same_words : (bytes ws vs : List ℕ) → IsBare bytes ws → IsBare bytes vs → ws ≡ vs
-same_words bytes ws vs h k = sym (bare_only bytes ws h) ∙ bare_only bytes vs k
-
 denoted : (form : Form) (bytes : List ℕ) (limits : Bounds) (t : List ℕ) (price : ℕ)
     (a : Answers form bytes limits t price) → Denotes form bytes limits a.answer.value
 denoted form bytes limits t price a = record { message = a.message; reads = a.reads; value = a.answer.is }
@@ -126,7 +122,7 @@ one_made (wholes.Canonical form limits) bytes t u (p, a) (q, b) =
     answers_only form bytes limits t p a b.answer.value (denoted form bytes limits u q b) ∙ sym b.answer.canonical
 one_made (wholes.Bare piece limits) bytes t u (ws, h, i) (vs, k, j) =
     one_bare_piece vs limits piece t u
-    (subst (λ (x : List ℕ). IsBarePiece piece x limits t) (same_words bytes ws vs h k) i) j
+    (subst (λ (x : List ℕ). IsBarePiece piece x limits t) (one_bare bytes ws vs h k) i) j
 
 made_or_none : (whole : Whole) (bytes t : List ℕ) (fault : ToolFault) → Makes whole bytes t
     → MakesNothing whole bytes fault → ⊥
@@ -134,10 +130,10 @@ made_or_none wholes.Packed bytes t fault h k = k.0 (chosen_whole t bytes h)
 made_or_none (wholes.Unpacked most) bytes t fault h (e, f, n, k) = n (refused_only e bytes t most k h.0 h.1)
 made_or_none (wholes.Canonical form limits) bytes t fault (p, a) (r, f, n, k) =
     n (not_refused form bytes limits a.answer.value r (denoted form bytes limits t p a) a.answer.free k)
-made_or_none (wholes.Bare piece limits) bytes t fault (ws, h, i) (inl (e, f, k)) = bare_not_misread bytes ws e h k
+made_or_none (wholes.Bare piece limits) bytes t fault (ws, h, i) (inl (e, f, k)) = bare_not_refused bytes ws e h k
 made_or_none (wholes.Bare piece limits) bytes t fault (ws, h, i) (inr (vs, k, j)) =
     bare_or_none vs limits piece t fault
-    (subst (λ (x : List ℕ). IsBarePiece piece x limits t) (same_words bytes ws vs h k) i) j
+    (subst (λ (x : List ℕ). IsBarePiece piece x limits t) (one_bare bytes ws vs h k) i) j
 
 one_nothing : (whole : Whole) (bytes : List ℕ) (f g : ToolFault) → MakesNothing whole bytes f
     → MakesNothing whole bytes g → f ≡ g
@@ -149,12 +145,12 @@ one_nothing (wholes.Canonical form limits) bytes f g (r, a, n, h) (s, b, o, k) =
 one_nothing (wholes.Bare piece limits) bytes f g (inl (e, a, h)) (inl (d, b, k)) =
     a ∙ ap (λ (x : BareFault). faults.Refused (refusals.Bare x)) (one_bare_fault bytes e d h k) ∙ sym b
 one_nothing (wholes.Bare piece limits) bytes f g (inl (e, a, h)) (inr (vs, k, j)) =
-    absurd (bare_not_misread bytes vs e k h)
+    absurd (bare_not_refused bytes vs e k h)
 one_nothing (wholes.Bare piece limits) bytes f g (inr (ws, h, i)) (inl (e, b, k)) =
-    absurd (bare_not_misread bytes ws e h k)
+    absurd (bare_not_refused bytes ws e h k)
 one_nothing (wholes.Bare piece limits) bytes f g (inr (ws, h, i)) (inr (vs, k, j)) =
     one_no_piece (vs ∷ []) limits piece f g
-    (subst (λ (x : List ℕ). IsNoPiece piece (x ∷ []) limits f) (same_words bytes ws vs h k) i) j
+    (subst (λ (x : List ℕ). IsNoPiece piece (x ∷ []) limits f) (one_bare bytes ws vs h k) i) j
 
 one_due_whole : (whole : Whole) (bytes : List ℕ) (is_longer : Bool) (t u : List ℕ) (r s : Result (Unit {0}) ToolFault)
     → IsDueWhole whole bytes is_longer t r → IsDueWhole whole bytes is_longer u s → (t ≡ u) × (r ≡ s)

@@ -1,14 +1,14 @@
 -- A packed stream that is read in pieces: more of it.
-use Rattle.std.proofs.Common.{◌≡◌, ℕ, ◌+◌, ◌-◌, ◌<◌, ◌≤◌, ◌^◌, List, [], ◌++◌, length, take, drop, Bool, true, false}
+use Rattle.std.proofs.Common.{◌≡◌, ℕ, ◌+◌, ◌-◌, ◌<◌, ◌≤◌, ◌^◌, List, [], ◌++◌, take, drop, Bool, true, false}
 use Rattle.std.proofs.Common.{Option, Result, Ok, Err, refl, ap, sym, subst, ◌∙◌, append_assoc, append-nil, arith}
-use Rattle.std.proofs.Common.{length-append}
 use Rattle.std.proofs.lemmas.List.{take-append-drop}
 use Rattle.std.proofs.Math.Seq.{take-add}
 use Rattle.std.proofs.lemmas.Grind.{flat_map-append}
 use Rattle.capn_walk.specs.Limits.{Bounds}
 use Rattle.capn_pack.specs.Group.{IsGroup, text, content}
 use Rattle.capn_pack.specs.Packs.{texts, contents}
-use Rattle.capn_pack.specs.Stream.{Begins, Feeds, Held, NoGroupFirst, Splits, advanced}
+use Rattle.capn_pack.specs.Stream.{Begins, Held, NoGroupFirst, Splits, advanced}
+use Rattle.capn_pack.specs.Laws.StreamLemmas.{splits_open, splits_then}
 use Rattle.capn_stream.specs.Framing.{Framing}
 use Rattle.capn_tool.specs.Sending.{Outgoing, SendsRest, outgoing, sent}
 use Rattle.capn_tool.specs.Heard.{Stops, Tells}
@@ -18,28 +18,6 @@ use Rattle.capn_tool.specs.declared.fault.ToolFault.{ToolFault}
 use Rattle.capn_tool.specs.declared.fault.ToolFault.TheVariants as faults
 use Rattle.capn_tool.proofs.HeardMore.{every_append, stops_memory, stops_more, tells_more, tells_none}
 use Rattle.capn_tool.proofs.HeardNext.{stops_broken, stops_kept, stops_sent, tells_broken, tells_sent}
-
-splits_open : (stream old new : List ℕ) → NoGroupFirst stream → new ≡ old → Splits stream stream old new 0
-splits_open stream old new none e =
-    record { groups = []; each = tt; text = refl; content = e ∙ sym (append-nil old); size = refl; open_rest = none }
-
--- one piece after another
-splits_then : (stream rest piece after : List ℕ) (old mid new : List ℕ) (len more : ℕ) → Splits stream rest old mid len
-    → Splits (rest ++ piece) after mid new more → Splits (stream ++ piece) after old new (len + more)
-splits_then stream rest piece after old mid new len more s t =
-    let texts_are = flat_map-append text s.groups t.groups in
-    record {
-      groups = s.groups ++ t.groups;
-      each = every_append IsGroup s.groups t.groups s.each t.each;
-      text = ap (λ l. l ++ piece) s.text ∙ append_assoc (texts s.groups) rest piece
-          ∙ ap (λ l. texts s.groups ++ l) t.text ∙ sym (append_assoc (texts s.groups) (texts t.groups) after)
-          ∙ ap (λ l. l ++ after) (sym texts_are);
-      content = t.content ∙ ap (λ l. l ++ contents t.groups) s.content
-          ∙ append_assoc old (contents s.groups) (contents t.groups)
-          ∙ ap (λ l. old ++ l) (sym (flat_map-append content s.groups t.groups));
-      size = omega (arith, s.size, t.size, ap length texts_are, length-append (texts s.groups) (texts t.groups));
-      open_rest = t.open_rest;
-    }
 
 -- the words behind those that were there
 shifted : (stream rest words old : List ℕ) (len : ℕ) → Splits stream rest [] words len
@@ -108,18 +86,6 @@ module _ (piece : Piece) (limits : Bounds) (held : Held) (rest x : List ℕ) (mi
         subst (λ (l : List ℕ). Stops piece limits l a c failed fault) (append_assoc rest w v)
             (stops_more piece limits (rest ++ w) left v a b c failed fault told.5 stop),
       )
-
-module _ (piece : Piece) (limits : Bounds) (held : Held) (rest bytes words : List ℕ) (next : Held) where
-  -- one slice
-  pub packed_one : (left : List ℕ) (a b : Outgoing) → Feeds held bytes [] words next
-      → Tells piece limits (rest ++ words) left a b → TellsPacked piece limits held rest bytes next left a b
-  packed_one left a b fed told = (words, fed.len, fed.split, fed.offset, fed.is_good, told)
-
-  pub packed_one_stop : (a b : Outgoing) (failed : Bool) (fault : ToolFault) → Feeds held bytes [] words next
-      → Stops piece limits (rest ++ words) a b failed fault
-      → StopsPacked piece limits held.rest rest bytes a b failed fault
-  packed_one_stop a b failed fault fed stop =
-      (words, begins_all (held.rest ++ bytes) next.rest words fed.len fed.split, stop)
 
 -- memory was refused while a slice was unpacked
 pub packed_memory : (piece : Piece) (limits : Bounds) (group rest bytes : List ℕ) (a : Outgoing) (failed : Bool)

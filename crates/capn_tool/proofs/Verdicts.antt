@@ -1,7 +1,7 @@
 -- The line of a bare message's price.
 use Rattle.std.proofs.Common.{◌≡◌, inl, inr, ℕ, List, [], ◌∷◌, ◌++◌, codes, true, false, Result, Ok, Err, ap, sym, ◌∙◌}
 use Rattle.capn_walk.specs.Limits.{Bounds}
-use Rattle.capn_walk.specs.Denotes.{paid, number_of_visits}
+use Rattle.capn_walk.specs.Accepted.{paid, number_of_visits}
 use Rattle.capn_canon.specs.Checks.{IsCheck}
 use Rattle.capn_canon.specs.declared.checked.Checked.{Checked}
 use Rattle.capn_tool.specs.Pieces.{AreCanonical, PutsBarePiece, PutsLine, priced}

@@ -1,12 +1,10 @@
 -- An input that is taken whole, and how a run over it ends.
-use Rattle.std.proofs.Common.{◌≡◌, ◌⊎◌, inl, inr, ◌↔◌, ℕ, List, [], Bool, true, false, Option, Result, Ok, Err, OnOk}
-use Rattle.std.proofs.Common.{IsOkUnless, refl, ap}
-use Rattle.std.specs.Io.KnownBytes.{Appends}
+use Rattle.std.proofs.Common.{◌≡◌, ◌⊎◌, inl, inr, ℕ, List, [], Bool, true, false, Option, Err}
+use Rattle.std.proofs.Common.{refl, ap}
 use Rattle.std.proofs.KnownBytes.{Appends-nil}
 use Rattle.capn_tool.specs.Pieces.{IsNoPiece}
-use Rattle.capn_tool.specs.Wholes.{Makes, MakesNothing}
+use Rattle.capn_tool.specs.Wholes.{MakesNothing}
 use Rattle.capn_tool.specs.Text.{HasEnded}
-use Rattle.capn_words.specs.Watching.{HasBegun}
 use Rattle.capn_tool.specs.Served.{Served}
 use Rattle.capn_tool.specs.declared.plan.Piece.{Piece}
 use Rattle.capn_tool.specs.declared.plan.Piece.TheVariants as kinds
@@ -50,25 +48,6 @@ told_whole (wholes.Bare piece limits) bytes fault (inr h) = told_piece piece _ l
 pub not_true : (b : Bool) → (b ≡ true → ⊥) → b ≡ false
 not_true true h = absurd (h refl)
 not_true false h = refl
-
--- ---- how a run ends
-
--- the writer took the text, or a beginning of it
-pub served_wrote : (whole : Whole) (bytes text : List ℕ) (old new : Option (List ℕ)) (failed : Bool)
-    (r : Result (Unit {0}) ToolFault) → Makes whole bytes text
-    → OnOk r (Appends old new text) → HasBegun old new text → (r ≡ Err faults.Io) ↔ (failed ≡ true)
-    → IsOkUnless r faults.Io
-    → Served (plans.Whole whole) bytes false old new failed r
-served_wrote whole bytes text old new failed (Ok u) makes wrote begun io only = record {
-  ended = inr (inr (text, makes, wrote));
-  written = (text, begun.0, inr makes, begun.1);
-  io = io;
-}
-served_wrote whole bytes text old new failed (Err fault) makes wrote begun io only = record {
-  ended = inr (inl (ap (λ (f : ToolFault). Err f) only));
-  written = (text, begun.0, inr makes, begun.1);
-  io = io;
-}
 
 -- nothing is made of the input
 served_nothing : (whole : Whole) (bytes : List ℕ) (old : Option (List ℕ)) (failed : Bool) (fault : ToolFault)

@@ -1,18 +1,20 @@
--- The command line: each subcommand with its options, their ranges and their usual values (own).
-use Rattle.std.specs.Prelude.{ℕ, pos, Some, codes, [], ◌∷◌, true}
+-- The command line: each subcommand with its options, their ranges and their usual values. (Own.)
+use Rattle.std.specs.Prelude.{◌≡◌, ℕ, pos, Some, codes, [], ◌∷◌, true, false}
 use Rattle.capn_words.specs.Limits.{most_message_words}
 use Rattle.capn_value.specs.Sizes.{most_cost, most_height}
-use Rattle.clap.specs.Words.{App, Rule, Text, new_app, new_rule, with_rule, with_subcommand}
+use Rattle.clap.specs.Words.{App, Rule, Text, app_of, new_app, new_rule, with_rule, with_subcommand}
+use Rattle.clap.specs.declared.builder.command.Command.{Command}
+use Rattle.clap.specs.declared.builder.command.Command.TheViews.{out-Command}
 use Rattle.clap.specs.declared.builder.value_parser.ValueParser.TheVariants as vp
 
--- an option that takes a number from the least to the most, and has the usual one where it is not given
+-- an option of this name that takes a value, and has the usual one where it is not given
+abbrev pub usual_rule : Text → Text → Rule
+usual_rule name usual = record (new_rule name) { long = Some name; value_names = 1; defaults = usual ∷ [] }
+
+-- such an option that takes a number from the least to the most
 abbrev pub number_rule : Text → Text → ℕ → ℕ → Rule
-number_rule name usual least most = record (new_rule name) {
-  long = Some name;
-  value_names = 1;
-  defaults = usual ∷ [];
-  parser = Some (vp.Signed (pos least) (pos most));
-}
+number_rule name usual least most =
+    record (usual_rule name usual) { parser = Some (vp.Signed (pos least) (pos most)) }
 
 -- the words of a message
 abbrev pub words_rule : Rule
@@ -28,19 +30,15 @@ depth_rule = number_rule (codes "depth") (codes "64") 1 most_height
 
 -- the form of the input, a stream where none is given
 abbrev pub form_rule : Rule
-form_rule = record (new_rule (codes "form")) {
-  long = Some (codes "form");
-  value_names = 1;
-  defaults = codes "stream" ∷ [];
-}
+form_rule = usual_rule (codes "form") (codes "stream")
 
 -- the tariff of the prices, the strict one where none is given
 abbrev pub tariff_rule : Rule
-tariff_rule = record (new_rule (codes "tariff")) {
-  long = Some (codes "tariff");
-  value_names = 1;
-  defaults = codes "strict" ∷ [];
-}
+tariff_rule = usual_rule (codes "tariff") (codes "strict")
+
+-- a command has this line, and hands no option down to its subcommands
+abbrev pub HasLine : Command → App → Type 0
+HasLine command line = (app_of command ≡ line) × ((out-Command command).has_globals ≡ false)
 
 -- a command over messages takes a form, three limits and a tariff
 abbrev pub message_line : Text → App
@@ -60,12 +58,15 @@ unpack_line = with_rule (new_app (codes "unpack")) words_rule
 abbrev pub top_line : App
 top_line = let a = new_app (codes "capn") in record a { top = record a.top { subcommand_required = true } }
 
+-- the program with `show` and `check`
+abbrev pub shown_line : App
+shown_line =
+    with_subcommand (with_subcommand top_line (message_line (codes "show")).top) (message_line (codes "check")).top
+
 -- the program with the four commands over messages
 abbrev pub messages_line : App
 messages_line =
-    with_subcommand (with_subcommand (with_subcommand (with_subcommand top_line
-    (message_line (codes "show")).top)
-    (message_line (codes "check")).top)
+    with_subcommand (with_subcommand shown_line
     (message_line (codes "canonical")).top)
     (message_line (codes "hash")).top
 

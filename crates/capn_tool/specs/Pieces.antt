@@ -8,8 +8,8 @@ use Rattle.capn_words.specs.Words.{bytes}
 use Rattle.capn_value.specs.Text.{show_text}
 use Rattle.capn_value.specs.Caps.{first_cap}
 use Rattle.capn_walk.specs.Limits.{Bounds}
-use Rattle.capn_walk.specs.Denotes.{IsValueOf, paid, number_of_visits}
-use Rattle.capn_walk.specs.Denotes as walks
+use Rattle.capn_walk.specs.Accepted.{IsValueOf, paid, number_of_visits}
+use Rattle.capn_walk.specs.Accepted as walks
 use Rattle.capn_walk.specs.declared.walked.Stopped.{Stopped}
 use Rattle.capn_canon.specs.Layout.{canon}
 use Rattle.capn_canon.specs.Answers.{AnswersMessage}

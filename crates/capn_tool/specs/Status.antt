@@ -5,7 +5,7 @@ use Rattle.clap.specs.declared.error.ErrorKind.TheVariants as kinds
 use Rattle.capn_tool.specs.declared.fault.ToolFault.{ToolFault}
 use Rattle.capn_tool.specs.declared.fault.ToolFault.TheVariants as faults
 
--- after a run: 0 where it is done, 1 where the input is refused, 3 where it could not be carried out (own)
+-- after a run: 0 where it is done, 1 where the input is refused, 3 where it could not be carried out (Own.)
 abbrev pub status_of : Result (Unit {0}) ToolFault → ℕ
 status_of (Ok u) = 0
 status_of (Err faults.Memory) = 3
@@ -14,7 +14,8 @@ status_of (Err faults.InputTooLong) = 3
 status_of (Err (faults.NotWhole n)) = 1
 status_of (Err (faults.Refused refusal)) = 1
 
--- where the words of the command line order nothing: 3 for want of memory, 0 for a wish for help, 2 for any other (own)
+-- where the words of the command line order nothing: 3 for want of memory, 0 for a wish for help, 2 for any other
+-- (Own.)
 abbrev pub usage_status_of : ErrorKind → ℕ
 usage_status_of kinds.OutOfMemory = 3
 usage_status_of kinds.DisplayHelp = 0

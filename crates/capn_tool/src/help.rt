@@ -24,7 +24,7 @@ Exit status:
   1  The input was refused
   2  The command line is none of these
   3  Reading or writing failed, the input is longer than 2^32 bytes, or memory ran out
-With 1 and 3 one line on standard error says why.
+With 1 and 3 one line on standard error says why; the manual page explains it under DIAGNOSTICS.
 
 Example:
   capn show < message",
@@ -40,7 +40,7 @@ Exit status:
   1  A message was refused; those before it have been written
   2  The command line is none of these
   3  Reading or writing failed, the input is longer than 2^32 bytes, or memory ran out
-With 1 and 3 one line on standard error says why.
+With 1 and 3 one line on standard error says why; the manual page explains it under DIAGNOSTICS.
 
 Example:
   capn show < message",
@@ -59,7 +59,7 @@ Exit status:
   1  A message was refused; the lines of those before it have been written
   2  The command line is none of these
   3  Reading or writing failed, the input is longer than 2^32 bytes, or memory ran out
-With 1 and 3 one line on standard error says why.
+With 1 and 3 one line on standard error says why; the manual page explains it under DIAGNOSTICS.
 
 Example:
   capn check --budget 100000 --depth 20 < message",
@@ -77,7 +77,7 @@ Exit status:
   1  The input was refused, and nothing was written
   2  The command line is none of these
   3  Reading or writing failed, the input is longer than 2^32 bytes, or memory ran out
-With 1 and 3 one line on standard error says why.
+With 1 and 3 one line on standard error says why; the manual page explains it under DIAGNOSTICS.
 
 Example:
   capn canonical < message > message.canonical",
@@ -94,7 +94,7 @@ Exit status:
   1  A message was refused; the lines of those before it have been written
   2  The command line is none of these
   3  Reading or writing failed, the input is longer than 2^32 bytes, or memory ran out
-With 1 and 3 one line on standard error says why.
+With 1 and 3 one line on standard error says why; the manual page explains it under DIAGNOSTICS.
 
 Example:
   capn hash < message",
@@ -108,7 +108,7 @@ pub const PACK: Page = Page {
   1  The number of bytes is no multiple of 8, and nothing was written
   2  The command line is none of these
   3  Reading or writing failed, the input is longer than 2^32 bytes, or memory ran out
-With 1 and 3 one line on standard error says why.
+With 1 and 3 one line on standard error says why; the manual page explains it under DIAGNOSTICS.
 
 Example:
   capn pack < message > message.packed",
@@ -122,7 +122,7 @@ pub const UNPACK: Page = Page {
   1  The input is cut or holds more words than it may, and nothing was written
   2  The command line is none of these
   3  Reading or writing failed, the input is longer than 2^32 bytes, or memory ran out
-With 1 and 3 one line on standard error says why.
+With 1 and 3 one line on standard error says why; the manual page explains it under DIAGNOSTICS.
 
 Example:
   capn unpack < message.packed > message",

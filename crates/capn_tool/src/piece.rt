@@ -5,7 +5,7 @@ ghost use Rattle.sha2.specs.Sha256.{sha256};
 ghost use Rattle.hex.specs.Hex.{encode_lower};
 ghost use Rattle.capn_value.specs.Text.{show_text};
 ghost use Rattle.capn_value.specs.Tree.{Tree};
-ghost use Rattle.capn_walk.specs.Denotes.{IsValueOf, paid, number_of_visits};
+ghost use Rattle.capn_walk.specs.Accepted.{IsValueOf, paid, number_of_visits};
 ghost use Rattle.capn_walk.specs.Surveyed.{IsSurvey};
 ghost use Rattle.capn_canon.specs.Checks.{IsCheck};
 ghost use Rattle.capn_tool.specs.Pieces.{PutsPiece, PutsBarePiece, PutsLine, PutsFront, IsStopped, priced};

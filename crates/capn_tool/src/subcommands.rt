@@ -1,10 +1,11 @@
 //! The command line: the subcommands, their options, and what help says of each.
 
-ghost use Rattle.std.specs.Prelude.{◌≡◌, IfOk, codes, false};
-ghost use Rattle.clap.specs.Words.{app_of, rule_of, new_app, with_subcommand};
+ghost use Rattle.std.specs.Prelude.{◌≡◌, IfOk, false};
+ghost use Rattle.clap.specs.Words.{App, app_of, rule_of, new_app, with_subcommand};
 ghost use Rattle.clap.specs.declared.builder.command.Command.TheViews.{out-Command};
-ghost use Rattle.capn_tool.specs.Line.{form_rule, words_rule, budget_rule, depth_rule, tariff_rule, message_line};
-ghost use Rattle.capn_tool.specs.Line.{unpack_line, messages_line, tool_line};
+ghost use Rattle.capn_tool.specs.Line.{HasLine, usual_rule, words_rule, budget_rule, depth_rule};
+ghost use Rattle.capn_tool.specs.Line.{message_line, unpack_line, shown_line, messages_line};
+ghost use Rattle.capn_tool.specs.Line.{tool_line};
 
 use crate::help::{self, Page};
 use capn_value::{MOST_COST, MOST_HEIGHT};
@@ -12,17 +13,23 @@ use capn_words::MOST_MESSAGE_WORDS;
 use clap::{Arg, Command};
 use std::alloc::{AllocError, Global};
 
-/// `--form`. It takes any text here, and `line` reads it: a list of names has no place in the statement of the command
-/// line.
-fn form_option<'a>(alloc: Global, text: &'a str) -> Arg<'a>
-    ensures rule { rule_of result ≡ form_rule }
+/// An option of this name, with its usual value. It takes any text, and `line` reads that of `--form` and `--tariff`: a
+/// list of names has no place in the statement of the command line.
+fn usual_option<'a>(
+    alloc: Global,
+    name: &'a str,
+    value: &'a str,
+    text: &'a str,
+    usual: &'a str,
+) -> Arg<'a>
+    ensures rule { rule_of result ≡ usual_rule name.now usual.now }
     ensures local { result.global ≡ false }
 {
-    Arg::new(alloc, "form")
-        .long("form")
-        .value_name("FORM")
+    Arg::new(alloc, name)
+        .long(name)
+        .value_name(value)
         .help(text)
-        .default_value("stream")
+        .default_value(usual)
 }
 
 /// `--message-words`.
@@ -30,12 +37,8 @@ fn words_option<'a>(alloc: Global, text: &'a str) -> Arg<'a>
     ensures rule { rule_of result ≡ words_rule }
     ensures local { result.global ≡ false }
 {
-    Arg::new(alloc, "message-words")
-        .long("message-words")
-        .value_name("N")
-        .help(text)
-        .default_value("8388608")
-        .value_parser(clap::value_parser!(u32).range(1..=MOST_MESSAGE_WORDS as i64))
+    let numbers = clap::value_parser!(u32).range(1..=MOST_MESSAGE_WORDS as i64);
+    usual_option(alloc, "message-words", "N", text, "8388608").value_parser(numbers)
 }
 
 /// `--budget`.
@@ -43,12 +46,8 @@ fn budget_option<'a>(alloc: Global) -> Arg<'a>
     ensures rule { rule_of result ≡ budget_rule }
     ensures local { result.global ≡ false }
 {
-    Arg::new(alloc, "budget")
-        .long("budget")
-        .value_name("N")
-        .help(help::BUDGET)
-        .default_value("8388608")
-        .value_parser(clap::value_parser!(u32).range(0..=MOST_COST as i64))
+    let numbers = clap::value_parser!(u32).range(0..=MOST_COST as i64);
+    usual_option(alloc, "budget", "N", help::BUDGET, "8388608").value_parser(numbers)
 }
 
 /// `--depth`.
@@ -56,24 +55,8 @@ fn depth_option<'a>(alloc: Global) -> Arg<'a>
     ensures rule { rule_of result ≡ depth_rule }
     ensures local { result.global ≡ false }
 {
-    Arg::new(alloc, "depth")
-        .long("depth")
-        .value_name("N")
-        .help(help::DEPTH)
-        .default_value("64")
-        .value_parser(clap::value_parser!(u32).range(1..=MOST_HEIGHT as i64))
-}
-
-/// `--tariff`. It takes any text here, as `--form` does.
-fn tariff_option<'a>(alloc: Global) -> Arg<'a>
-    ensures rule { rule_of result ≡ tariff_rule }
-    ensures local { result.global ≡ false }
-{
-    Arg::new(alloc, "tariff")
-        .long("tariff")
-        .value_name("TARIFF")
-        .help(help::TARIFF)
-        .default_value("strict")
+    let numbers = clap::value_parser!(u32).range(1..=MOST_HEIGHT as i64);
+    usual_option(alloc, "depth", "N", help::DEPTH, "64").value_parser(numbers)
 }
 
 /// A command of this name without options, with its page of help.
@@ -93,62 +76,61 @@ fn message_command<'a>(
     page: Page,
     forms: &'a str,
 ) -> Result<Command<'a>, AllocError>
-    ensures { IfOk result (λ c. (app_of c ≡ message_line name.now) × ((out-Command c).has_globals ≡ false)) }
+    ensures { IfOk result (λ c. HasLine c (message_line name.now)) }
 {
-    let command = plain_command(alloc, name, page);
-    let command = command.arg(form_option(alloc, forms))?;
-    let command = command.arg(words_option(alloc, help::MESSAGE_WORDS))?;
-    let command = command.arg(budget_option(alloc))?;
-    let command = command.arg(depth_option(alloc))?;
-    let command = command.arg(tariff_option(alloc))?;
-    Ok(command)
+    let options = vec![in alloc;
+        usual_option(alloc, "form", "FORM", forms, "stream"),
+        words_option(alloc, help::MESSAGE_WORDS),
+        budget_option(alloc),
+        depth_option(alloc),
+        usual_option(alloc, "tariff", "TARIFF", help::TARIFF, "strict"),
+    ]?;
+    plain_command(alloc, name, page).args(options)
 }
 
 /// `unpack` and its option.
 fn unpack_command<'a>(alloc: Global) -> Result<Command<'a>, AllocError>
-    ensures { IfOk result (λ c. (app_of c ≡ unpack_line) × ((out-Command c).has_globals ≡ false)) }
+    ensures { IfOk result (λ c. HasLine c unpack_line) }
 {
-    let command = plain_command(alloc, "unpack", help::UNPACK);
-    let command = command.arg(words_option(alloc, help::UNPACKED_WORDS))?;
-    Ok(command)
+    plain_command(alloc, "unpack", help::UNPACK).arg(words_option(alloc, help::UNPACKED_WORDS))
 }
 
-/// A program with a command over messages beside those that it has.
-fn with_messages<'a>(
-    alloc: Global,
+/// A program with this command, if it could be made, beside those that it has.
+fn with_command<'a>(
     program: Command<'a>,
-    name: &'a str,
-    page: Page,
-    forms: &'a str,
+    made: Result<Command<'a>, AllocError>,
 ) -> Result<Command<'a>, AllocError>
-    ensures { IfOk result (λ c. app_of c ≡ with_subcommand (app_of program.entry) (message_line name.now).top) }
+    ensures { (line : App) → IfOk made.entry (λ c. HasLine c line)
+        → IfOk result (λ c. app_of c ≡ with_subcommand (app_of program.entry) line.top) }
 {
-    let command = message_command(alloc, name, page, forms)?;
-    let whole = program.subcommand(command)?;
-    Ok(whole)
+    let command = made?;
+    program.subcommand(command)
 }
 
-/// A program with `unpack` beside the commands that it has.
-fn with_unpack<'a>(alloc: Global, program: Command<'a>) -> Result<Command<'a>, AllocError>
-    ensures { IfOk result (λ c. app_of c ≡ with_subcommand (app_of program.entry) unpack_line.top) }
+/// The program with `show` and `check`.
+fn shown_command<'a>(alloc: Global) -> Result<Command<'a>, AllocError>
+    ensures { IfOk result (λ c. app_of c ≡ shown_line) }
 {
-    let command = unpack_command(alloc)?;
-    let whole = program.subcommand(command)?;
-    Ok(whole)
+    let forms = help::FORMS_OF_MESSAGES;
+    let top = plain_command(alloc, "capn", help::PROGRAM).subcommand_required(true);
+    let with_show = with_command(top, message_command(alloc, "show", help::SHOW, forms))?;
+    with_command(
+        with_show,
+        message_command(alloc, "check", help::CHECK, forms),
+    )
 }
 
 /// The program with the four commands over messages.
 fn messages_command<'a>(alloc: Global) -> Result<Command<'a>, AllocError>
     ensures { IfOk result (λ c. app_of c ≡ messages_line) }
 {
-    let forms = help::FORMS_OF_MESSAGES;
-    let top = plain_command(alloc, "capn", help::PROGRAM).subcommand_required(true);
-    let with_show = with_messages(alloc, top, "show", help::SHOW, forms)?;
-    let with_check = with_messages(alloc, with_show, "check", help::CHECK, forms)?;
-    let one = help::FORMS_OF_ONE;
-    let with_canonical = with_messages(alloc, with_check, "canonical", help::CANONICAL, one)?;
-    let with_hash = with_messages(alloc, with_canonical, "hash", help::HASH, forms)?;
-    Ok(with_hash)
+    let shown = shown_command(alloc)?;
+    let canonical = message_command(alloc, "canonical", help::CANONICAL, help::FORMS_OF_ONE);
+    let with_canonical = with_command(shown, canonical)?;
+    with_command(
+        with_canonical,
+        message_command(alloc, "hash", help::HASH, help::FORMS_OF_MESSAGES),
+    )
 }
 
 /// The whole command line.
@@ -157,6 +139,5 @@ pub fn tool_command<'a>(alloc: Global) -> Result<Command<'a>, AllocError>
 {
     let messages = messages_command(alloc)?;
     let with_pack = messages.subcommand(plain_command(alloc, "pack", help::PACK))?;
-    let whole = with_unpack(alloc, with_pack)?;
-    Ok(whole)
+    with_command(with_pack, unpack_command(alloc))
 }

@@ -79,7 +79,7 @@ abbrev pub is_ragged : Tree → Bool
 is_ragged (rows (body ws ss bs)) = not (are_even (length ws) (count ss) bs)
 is_ragged _ = false
 
--- a message's root is anything but a capability (own)
+-- a message's root is anything but a capability (Own.)
 abbrev pub is_root : Tree → Bool
 is_root (cap k) = false
 is_root _ = true

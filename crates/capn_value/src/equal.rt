@@ -9,8 +9,8 @@ ghost use Rattle.capn_value.specs.SameTest.{test, test_words, test_slots, test_e
 use crate::value::{Body, Value};
 use std::alloc::Allocator;
 
-/// Whether two values are equal up to trailing zero words and trailing null slots of structs, at every level
-/// (encoding page: "Canonicalization").
+/// Whether two values are equal up to trailing zero words and trailing null slots of structs, at every level.
+/// (Page: canonicalization.)
 ///
 /// A pointer to an empty struct isn't null, elements of a list are all compared, and kinds of list stay apart.
 /// The values needn't fit. Takes no memory.

@@ -3,8 +3,8 @@
 ghost use Rattle.std.specs.Prelude.{◌≡◌, ◌≤◌};
 ghost use Rattle.capn_value.specs.Sizes as sizes;
 
-/// How visits are priced (own, after the encoding page's "Security Considerations"): each pays the words of the
-/// content that its slot leads to, and one for each element that has no size.
+/// How visits are priced: each pays the words of the content that its slot leads to, and one for each element that has
+/// no size. (Own, after the page's security considerations.)
 #[derive(Clone, Copy, Debug, PartialEq, Eq)]
 pub enum Tariff {
     /// Each content costs 1 beside its size.

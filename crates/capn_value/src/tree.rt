@@ -92,8 +92,8 @@ impl<A: Allocator> Tree<A> {
     }
 }
 
-/// The greatest depth of an object, where the root's is 1 and null and capabilities have none: from 0 to 256
-/// (encoding page: "Security Considerations"; rows have the depth of their list, own). Takes no memory.
+/// The greatest depth of an object, where the root's is 1 and null and capabilities have none: from 0 to 256.
+/// (Page: security considerations. That rows have the depth of their list is own.) Takes no memory.
 #[tactic(auto, using(crate::specs::Laws::Fitting::fit_parts))]
 pub fn height<A: Allocator>(tree: &Tree<A>) -> u32
     ensures exact { result ≡ sizes.height tree.now }
@@ -102,8 +102,8 @@ pub fn height<A: Allocator>(tree: &Tree<A>) -> u32
     capped_height(&tree.value)
 }
 
-/// What following each pointer once costs, in words, by a tariff (own, after the encoding page's "Security
-/// Considerations"): from 0 to 2^28 by the plain one, to 2^29 + 1 by the strict one. Takes no memory.
+/// What following each pointer once costs, in words, by a tariff: from 0 to 2^28 by the plain one, to 2^29 + 1 by the
+/// strict one. (Own, after the page's security considerations.) Takes no memory.
 #[tactic(auto, using(crate::specs::Laws::Tariffs::affordable))]
 pub fn cost<A: Allocator>(tree: &Tree<A>, tariff: Tariff) -> u32
     ensures exact { result ≡ sizes.cost (sizes.base tariff) tree.now }
@@ -144,7 +144,7 @@ pub fn copy<A: Allocator + Copy, B: Allocator>(alloc: A, tree: &Tree<B>) -> Resu
 }
 
 /// The text of the tree, as it was read and not trimmed: a line for each value and each data word, indented
-/// by two spaces a level (own).
+/// by two spaces a level. (Own.)
 ///
 /// Answers `Memory` only where a growth was refused, and takes one string.
 #[tactic(auto, using(crate::specs::Laws::Fitting::fit_parts))]

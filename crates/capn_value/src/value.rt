@@ -7,7 +7,7 @@ ghost use Rattle.capn_value.specs.Caps as caps;
 use crate::items::Items;
 use std::alloc::{Allocator, Global};
 
-/// What a pointer denotes (encoding page: "Structs", "Lists", "Capabilities").
+/// What a pointer denotes. (Page: structs, lists, capabilities.)
 ///
 /// Kinds of list stay apart: an empty list of bytes is no empty list of voids.
 #[cycle(value)]
@@ -37,7 +37,7 @@ pub enum Value<A: Allocator = Global> {
     Cap(u32),
 }
 
-/// The content of a struct, or of one element of a composite list (encoding page: "Structs").
+/// The content of a struct, or of one element of a composite list. (Page: structs.)
 #[cycle(value)]
 #[derive(Debug, Drop)]
 pub struct Body<A: Allocator = Global> {
@@ -50,7 +50,7 @@ pub struct Body<A: Allocator = Global> {
 /// The index of the first capability in preorder; `None` if there is none.
 ///
 /// Preorder: a value, then what its slots, rows or elements hold, in order, each with all below it before the
-/// next (own). Takes no memory.
+/// next. (Own.) Takes no memory.
 #[cycle(first_cap)]
 pub fn first_cap<A: Allocator>(v: &Value<A>) -> Option<u32>
     ensures { result ≡ caps.first_cap (tree_of v.now) }

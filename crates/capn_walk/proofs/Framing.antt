@@ -1,14 +1,9 @@
 -- The slots of a frame, one by one.
 use Rattle.std.proofs.Common.{Bool, true, false, IsTrue, ◌↔◌, ◌≡◌, ℕ, zero, suc, ◌+◌, ◌-◌, ◌*◌, ◌<◌, [], ◌∷◌, ◌++◌}
-use Rattle.std.proofs.Common.{refl, sym, arith}
+use Rattle.std.proofs.Common.{refl, arith}
 use Rattle.capn_walk.specs.Visits.{places, row_places}
 use Rattle.capn_walk.specs.declared.frame.Frame.{Frame}
 use Rattle.capn_walk.specs.Frames.{places_of, owed, HasRows}
-
--- one row of n
-pub one-row : (n b : ℕ) → 0 < n → n * b ≡ b + (n - 1) * b
-one-row zero b h = absurd (omega arith)
-one-row (suc n) b h = let e : suc n - 1 ≡ n = omega arith in rw e (omega arith)
 
 -- rows of no slots have none
 pub no-slots : (s w a n : ℕ) → row_places s w a 0 n ≡ []
@@ -24,20 +19,6 @@ no-rows (suc n) b h e = let k = h (omega arith) in let p : suc n * b ≡ b + n *
 pub next-place : (s w n : ℕ) → 0 < n → places s w n ≡ record { segment = s; word = w } ∷ places s (w + 1) (n - 1)
 next-place s w zero h = absurd (omega arith)
 next-place s w (suc n) h = let e : suc n - 1 ≡ n = omega arith in rw e refl
-
--- the next row
-pub next-row : (s w a b n : ℕ) → 0 < n
-    → row_places s w a b n ≡ places s (w + a) b ++ row_places s (w + a + b) a b (n - 1)
-next-row s w a b zero h = absurd (omega arith)
-next-row s w a b (suc n) h = let e : suc n - 1 ≡ n = omega arith in rw e refl
-
--- of a frame whose row in hand has no slot left, with rows behind it
-pub turned : (f : Frame) → f.left ≡ 0 → 0 < f.rows →
-    places f.segment (f.next + f.words) f.slots
-    ++ row_places f.segment (f.next + f.words + f.slots) f.words f.slots (f.rows - 1) ≡ places_of f
-turned f e h =
-    let z : f.next + 0 ≡ f.next = omega arith in
-    rw (e, z) (sym (next-row f.segment f.next f.words f.slots f.rows h))
 
 -- of a frame whose row in hand has a slot left
 pub taken : (f : Frame) → 0 < f.left →

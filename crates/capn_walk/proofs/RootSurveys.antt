@@ -1,5 +1,5 @@
 -- A survey of a whole message.
-use Rattle.std.proofs.Common.{◌≡◌, ◌⊎◌, true, inl, inr, ℕ, ◌+◌, ◌-◌, ◌<◌, ◌≤◌, List, [], ◌∷◌, length, Option, None, Ok}
+use Rattle.std.proofs.Common.{◌≡◌, true, ℕ, ◌+◌, ◌-◌, ◌<◌, ◌≤◌, List, [], ◌∷◌, length, Option, None, Ok}
 use Rattle.std.proofs.Common.{ap, ap₂, sym, ◌∙◌, arith}
 use Rattle.std.specs.Option.{option_or}
 use Rattle.capn_words.specs.Message.{segment_at}
@@ -8,18 +8,15 @@ use Rattle.capn_value.specs.Sizes.{base}
 use Rattle.capn_value.specs.Tree.{Tree}
 use Rattle.capn_value.specs.Caps.{first_cap}
 use Rattle.capn_walk.specs.declared.frame.Frame.{Frame}
-use Rattle.capn_walk.specs.declared.target.Fault.{Fault}
-use Rattle.capn_walk.specs.declared.target.Fault.TheVariants as faults
 use Rattle.capn_walk.specs.declared.target.Target.{Target}
 use Rattle.capn_walk.specs.declared.surveyed.Surveyed.{Surveyed}
-use Rattle.capn_walk.specs.declared.walked.Stopped.{Stopped}
 use Rattle.capn_walk.specs.Target.{target}
 use Rattle.capn_walk.specs.Visits.{Visit, pays, visits, visits_of}
-use Rattle.capn_walk.specs.Verdict.{judge, after, accepted, refused}
-use Rattle.capn_walk.specs.Accepted.{root, may_be_root}
-use Rattle.capn_walk.specs.Denotes.{IsValueOf, visits_within}
+use Rattle.capn_walk.specs.Verdict.{judge, after, accepted}
+use Rattle.capn_walk.specs.Stops.{root, may_be_root}
+use Rattle.capn_walk.specs.Accepted.{IsValueOf, visits_within}
 use Rattle.capn_walk.specs.Limits.{Bounds}
-use Rattle.capn_walk.specs.Walked.{Gives, Refuses}
+use Rattle.capn_walk.specs.Verdict.{Gives}
 use Rattle.capn_walk.specs.Frames.{places_of, owed, HasRows}
 use Rattle.capn_walk.specs.Surveyed.{cap_of, first_cap_of, IsSurvey}
 use Rattle.capn_walk.proofs.Framing.{nothing-left}
@@ -31,12 +28,6 @@ use Rattle.capn_walk.proofs.CapsMet.{caps-at}
 use Rattle.capn_walk.proofs.Exists.{exists-at}
 
 module _ (m : List (List ℕ)) (base : ℕ) where
-  -- the visit of a slot that is refused at once
-  pub refuses-here : (budget depth : ℕ) (at : Place) (e : Fault)
-      → judge budget (visits m base depth at) ≡ refused e at 0 1 →
-      Refuses budget (visits m base depth at) 1 (record { fault = e; place = at; paid = 0; visits = 1 })
-  refuses-here budget depth at e h = record { is = inr h; within = omega arith; few = omega arith }
-
   -- that of a slot that pays, with what the visits below it come to
   module _ (budget depth : ℕ) (at : Place) (p : ℕ) (below : Frame) (k : Option ℕ)
       (here : visits m base depth at ≡ pays at p ∷ visits_of m base (depth - 1) (places_of below)) (fits : p ≤ budget)
@@ -47,30 +38,9 @@ module _ (m : List (List ℕ)) (base : ℕ) where
     both : judge budget (visits m base depth at) ≡ after p 1 (judge (budget - p) others)
     both = ap (judge budget) here ∙ judge-pays budget p at others fits
 
-    pub gives-below : (q j : ℕ) → Gives (budget - p) others (owed below) q j
-        → Gives budget (visits m base depth at) 1 (p + q) (1 + j)
-    gives-below q j g = record {
-      is = both ∙ ap (after p 1) g.is;
-      within = let w = g.within in omega arith;
-      few = let w = g.few in omega arith;
-    }
-
     pub caps-below : (j : Option ℕ) → first_cap_of m others ≡ j
         → first_cap_of m (visits m base depth at) ≡ option_or k j
     caps-below j e = ap (first_cap_of m) here ∙ ap₂ option_or c e
-
-    later : (e : Fault) (to : Place) (q j : ℕ) → (e ≡ faults.Memory) ⊎ (judge (budget - p) others ≡ refused e to q j) →
-        (e ≡ faults.Memory) ⊎ (judge budget (visits m base depth at) ≡ refused e to (p + q) (1 + j))
-    later e to q j (inl h) = inl h
-    later e to q j (inr h) = inr (both ∙ ap (after p 1) h)
-
-    pub refuses-below : (s : Stopped) → Refuses (budget - p) others (owed below) s →
-        Refuses budget (visits m base depth at) 1 (record s { paid = p + s.paid; visits = 1 + s.visits })
-    refuses-below s r = record {
-      is = later s.fault s.place s.paid s.visits r.is;
-      within = let w = r.within in omega arith;
-      few = let w = r.few in omega arith;
-    }
 
     -- nothing is below it
     none-below : HasRows below → owed below ≡ 0 → others ≡ []

@@ -12,12 +12,12 @@ use Rattle.capn_walk.specs.declared.target.Fault.TheVariants as faults
 use Rattle.capn_walk.specs.declared.walked.Stopped.{Stopped}
 use Rattle.capn_walk.specs.Target.{target}
 use Rattle.capn_walk.specs.Visits.{Visit, fails, visits}
-use Rattle.capn_walk.specs.Accepted.{IsStop, root, may_be_root, visits_at_root, root_visits}
+use Rattle.capn_walk.specs.Stops.{IsStop, root, may_be_root, visits_at_root, root_visits}
 use Rattle.capn_walk.specs.At.{IsAt}
-use Rattle.capn_walk.specs.Denotes.{IsAccepted, IsValueOf, IsRefused, visits_within, paid, number_of_visits}
+use Rattle.capn_walk.specs.Accepted.{IsAccepted, IsValueOf, IsRefused, visits_within, paid, number_of_visits}
 use Rattle.capn_walk.specs.Limits.{Bounds}
 use Rattle.capn_walk.specs.Verdict.{refused, judge}
-use Rattle.capn_walk.specs.Walked.{Gives, Refuses}
+use Rattle.capn_walk.specs.Verdict.{Gives, Refuses}
 use Rattle.capn_walk.specs.Laws.Stops.{accepted-within, refused-stop, never-both}
 use Rattle.capn_walk.specs.Laws.Walks.{visits-fault}
 use Rattle.capn_walk.specs.Laws.Unique.{unique}
@@ -57,11 +57,6 @@ module _ (m : List (List ℕ)) where
   faulty-root base d f e = ap (λ r. visits_at_root m base r (visits m base d root)) e ∙ visits-fault m base root d f e
 
   -- ---- refusals before the root's price
-
-  pub no-root : (t : Stopped) (limits : Bounds) → length (segment_at m 0) ≡ 0
-      → t ≡ record { fault = faults.NoRoot; place = root; paid = 0; visits = 0 } →
-      IsRefused m limits t.fault t.place t.paid t.visits
-  no-root t limits none e = rw e (inl (none, refl, refl, refl, refl))
 
   at-once : (t : Stopped) (f : Fault) (limits : Bounds) → 0 < length (segment_at m 0)
       → visits_within m limits ≡ fails root f ∷ [] →

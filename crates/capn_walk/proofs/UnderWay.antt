@@ -15,13 +15,13 @@ use Rattle.capn_words.specs.declared.pointer.Pointer.TheVariants.{Nil}
 use Rattle.capn_walk.specs.Laws.Walks.{visits-null}
 use Rattle.capn_walk.specs.Target.{named, target}
 use Rattle.capn_walk.specs.Visits.{Visit, pays, visits, visits_of}
-use Rattle.capn_walk.specs.Verdict.{accepted, refused, after, judge}
+use Rattle.capn_walk.specs.Verdict.{refused, after, judge}
 use Rattle.capn_walk.specs.Frames.{places_of, owed, owed_by, Lies, AllLie, AreShallow, visits_left}
 use Rattle.capn_walk.specs.Surveyed.{cap_of, first_cap_of}
-use Rattle.capn_walk.specs.Walked.{Gives, Refuses}
+use Rattle.capn_walk.specs.Verdict.{Refuses}
 use Rattle.capn_walk.specs.Frames.{HasRows}
 use Rattle.capn_walk.proofs.Framing.{nothing-left}
-use Rattle.capn_walk.specs.Laws.Judge.{judge-stops, judge-pays, after-after, after-none}
+use Rattle.capn_walk.specs.Laws.Judge.{judge-stops, judge-pays, after-after}
 
 option_or-assoc : (a b c : Option ℕ) → option_or a (option_or b c) ≡ option_or (option_or a b) c
 option_or-assoc None b c = refl
@@ -67,11 +67,6 @@ module _ (m : List (List ℕ)) where
       ap (λ (vs : List Visit). vs ++ visits_of m base g.depth (places_of g.frame)) (left-push base ws w)
       ∙ rw append_assoc refl
 
-  -- the visits of the first of several places
-  pub of-first : (base d : ℕ) (at : Place) (ps : List Place)
-      → visits_of m base d (at ∷ ps) ≡ visits m base d at ++ visits_of m base d ps
-  of-first base d at ps = refl
-
 -- ---- a survey under way: of a list of visits, some are made, and the others are to come
 
 module _ (m : List (List ℕ)) (budget : ℕ) (vs : List Visit) (n : ℕ) where
@@ -80,14 +75,6 @@ module _ (m : List (List ℕ)) (budget : ℕ) (vs : List Visit) (n : ℕ) where
     pub within : paid ≤ budget
     pub few : visits + owed ≤ paid + n
     pub first : first_cap_of m vs ≡ option_or cap (first_cap_of m coming)
-
-  pub begins : IsUnderWay vs n 0 0 None
-  begins = record {
-    is = let e : budget - 0 ≡ budget = omega arith in rw e (sym (after-none (judge budget vs)));
-    within = omega arith;
-    few = omega arith;
-    first = refl;
-  }
 
   -- a visit that pays, with so many slots below it
   pub goes-on : (at : Place) (p : ℕ) (below rest : List Visit) (o b paid visits : ℕ) (cap k : Option ℕ) →
@@ -115,17 +102,6 @@ module _ (m : List (List ℕ)) (budget : ℕ) (vs : List Visit) (n : ℕ) where
       let z : paid + 0 ≡ paid = omega arith in
       u.is ∙ ap (after paid visits) (judge-stops (budget - paid) here rest e at 0 1 h)
       ∙ ap (λ (c : ℕ). refused e at c (visits + 1)) z
-
-  -- no visit is to come
-  pub ends : (paid visits : ℕ) (cap : Option ℕ) → IsUnderWay [] 0 paid visits cap →
-      (judge budget vs ≡ accepted paid visits) × (first_cap_of m vs ≡ cap)
-  ends paid visits cap u =
-      let z : paid + 0 ≡ paid = omega arith in
-      let y : visits + 0 ≡ visits = omega arith in (
-        u.is ∙ ap (λ (c : ℕ). accepted c (visits + 0)) z ∙ ap (λ (c : ℕ). accepted paid c) y,
-        u.first
-            ∙ option_or-none cap,
-      )
 
 -- ---- a survey with an object in hand and a stack of those above it
 
@@ -251,18 +227,6 @@ module _ (m : List (List ℕ)) (base : ℕ) where
     fewer-rows d ws f row p z h =
         let n = ap (λ (ps : List Place). length (visits_of m base d ps ++ visits_left m base ws)) p in
         omega arith
-
-    -- nothing is left
-    pub finished : (d : ℕ) (ws : List Waiting) (f : Frame) (paid visits : ℕ) (cap : Option ℕ) → length ws ≡ 0
-        → owed f ≡ 0 →
-        Surveys d ws f paid visits cap → Gives budget vs n paid visits × (first_cap_of m vs ≡ cap)
-    finished d [] f paid visits cap l z s =
-        let c = coming-done d [] f s.lies.rows z in
-        let owes : owed f + 0 ≡ 0 = omega arith in
-        let u = rw (c, owes) at s.under in
-        let e = ends m budget vs n paid visits cap u in
-        (record { is = e.0; within = u.within; few = let w = u.few in omega arith }, e.1)
-    finished d (g ∷ ws) f paid visits cap l z s = absurd (omega arith)
 
     module _ (d : ℕ) (ws : List Waiting) (f rest : Frame) (at : Place) (paid made : ℕ) (cap : Option ℕ)
         (s : Surveys d ws f paid made cap) (next : places_of f ≡ at ∷ places_of rest) (less : owed f ≡ owed rest + 1)

@@ -12,8 +12,9 @@ pub mod Segments
 pub mod Stops
 pub mod Unique
 pub mod Walks
-use Rattle.std.specs.Prelude.{◌≡◌, ◌≢◌, ◌↔◌, ◌⊎◌, ℕ, ◌≤◌, List, length, Ok}
-use Rattle.capn_words.specs.Message.{IsMessage, IsPlace, segment_at}
+pub mod Ways
+use Rattle.std.specs.Prelude.{◌≡◌, ◌≢◌, ◌↔◌, ◌⊎◌, ℕ, ◌≤◌, List, Ok}
+use Rattle.capn_words.specs.Message.{IsMessage, IsPlace}
 use Rattle.capn_words.specs.declared.space.Place.{Place}
 use Rattle.capn_value.specs.Tree.{Tree, Trees, Bodies, count, count_rows}
 use Rattle.capn_value.specs.Fits.{Fits}
@@ -26,11 +27,11 @@ use Rattle.capn_walk.specs.declared.target.Fault.{Fault}
 use Rattle.capn_walk.specs.declared.target.Fault.TheVariants as faults
 use Rattle.capn_walk.specs.Target.{target}
 use Rattle.capn_walk.specs.Visits.{Visit}
-use Rattle.capn_walk.specs.Accepted.{IsWithin, IsStop}
+use Rattle.capn_walk.specs.Stops.{IsWithin, IsStop}
 use Rattle.capn_walk.specs.At.{IsAt, AreAt, RowsAt}
 use Rattle.capn_walk.specs.Limits.{Bounds}
-use Rattle.capn_walk.specs.Denotes.{IsAccepted, IsValueOf, IsRefused, paid}
-use Rattle.capn_walk.specs.Walked.{IsInside}
+use Rattle.capn_walk.specs.Accepted.{IsAccepted, IsValueOf, IsRefused, paid}
+use Rattle.capn_walk.specs.At.{IsInside}
 use Rattle.capn_walk.specs.Viewed.{IsInMessage}
 use Rattle.capn_walk.specs.Ways.{OneOfThree}
 

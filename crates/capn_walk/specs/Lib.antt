@@ -1,11 +1,12 @@
 pub mod Target
 pub mod Visits
-pub mod Accepted
+pub mod Stops
 pub mod At
-pub mod Denotes
+pub mod Accepted
 pub mod Limits
+pub mod Shapes
 pub mod Verdict
-pub mod Walked
+pub mod Outcomes
 pub mod Frames
 pub mod Surveyed
 pub mod Account

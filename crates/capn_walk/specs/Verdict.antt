@@ -1,11 +1,12 @@
 -- What a list of visits comes to, computed: the same as `IsWithin` and `IsStop`, for the walk's inner functions.
-use Rattle.std.specs.Prelude.{ℕ, ◌+◌, ◌-◌, ◌==◌, nat_lt, List, [], ◌∷◌, length, if◌then◌else◌}
+use Rattle.std.specs.Prelude.{◌≡◌, ◌⊎◌, ℕ, ◌+◌, ◌-◌, ◌≤◌, ◌==◌, nat_lt, List, [], ◌∷◌, length, if◌then◌else◌}
 use Rattle.capn_words.specs.Message.{segment_at}
 use Rattle.capn_words.specs.declared.space.Place.{Place}
 use Rattle.capn_walk.specs.declared.target.Fault.{Fault}
 use Rattle.capn_walk.specs.declared.target.Fault.TheVariants as faults
+use Rattle.capn_walk.specs.declared.walked.Stopped.{Stopped}
 use Rattle.capn_walk.specs.Visits.{Visit, pays, fails}
-use Rattle.capn_walk.specs.Accepted.{root, root_visits}
+use Rattle.capn_walk.specs.Stops.{root, root_visits}
 
 -- accepted: what was paid, and the number of visits; refused: the fault, the place, what was paid before, and the
 -- number of the visit
@@ -31,3 +32,15 @@ verdict message base budget depth =
     if length (segment_at message 0) == 0
     then refused faults.NoRoot root 0 0
     else judge budget (root_visits message base depth)
+
+-- The visits of n slots, with all below them, are accepted, with what they pay and their number.
+pub record Gives (left : ℕ) (vs : List Visit) (n paid visits : ℕ) : Type 0 where
+  pub is : judge left vs ≡ accepted paid visits
+  pub within : paid ≤ left
+  pub few : visits ≤ paid + n
+
+-- They are refused there, or memory ran out.
+pub record Refuses (left : ℕ) (vs : List Visit) (n : ℕ) (s : Stopped) : Type 0 where
+  pub is : (s.fault ≡ faults.Memory) ⊎ (judge left vs ≡ refused s.fault s.place s.paid s.visits)
+  pub within : s.paid ≤ left
+  pub few : s.visits ≤ s.paid + n

@@ -14,9 +14,9 @@ use Rattle.capn_walk.specs.declared.kind.Kind.{Kind}
 use Rattle.capn_walk.specs.declared.kind.Kind.TheVariants as kinds
 use Rattle.capn_walk.specs.Target.{target}
 use Rattle.capn_walk.specs.Visits.{price, slots}
-use Rattle.capn_walk.specs.Accepted.{root, may_be_root}
+use Rattle.capn_walk.specs.Stops.{root, may_be_root}
 use Rattle.capn_walk.specs.At.{element, words_from}
-use Rattle.capn_walk.specs.Walked.{IsContent, RowsFit, extent}
+use Rattle.capn_walk.specs.Shapes.{IsContent, RowsFit, extent}
 
 -- a message, what was found in it, and how many objects may stand below that
 pub record Seen : Type 0 where

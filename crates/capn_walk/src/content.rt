@@ -16,6 +16,14 @@ pub fn segment_length<S: Space>(space: &S, segment: u32) -> u32
     space.words(segment).unwrap_or(0)
 }
 
+/// A word of a segment.
+#[inline(always)]
+pub fn place(segment: u32, word: u32) -> Place
+    ensures { result ≡ record { segment = segment; word = word } }
+{
+    Place { segment, word }
+}
+
 /// Where an offset leads from the word behind a pointer.
 #[inline(always)]
 pub fn start_of(word: u32, offset: i32) -> Result<u64, Fault>

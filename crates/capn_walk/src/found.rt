@@ -28,6 +28,20 @@ impl<A: Allocator> Found<A> {
             visits: 1,
         }
     }
+
+    /// The value of an object that has no slots, whose own price has been paid.
+    #[inline(always)]
+    pub fn without_slots(value: Value<A>) -> Found<A>
+        ensures value { result.value ≡ value }
+        ensures paid { result.paid ≡ 0 }
+        ensures visits { result.visits ≡ 0 }
+    {
+        Found {
+            value,
+            paid: 0,
+            visits: 0,
+        }
+    }
 }
 
 /// The values of slots that stand one behind the other.

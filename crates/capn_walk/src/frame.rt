@@ -2,7 +2,7 @@
 
 ghost use Rattle.std.specs.Prelude.{◌≡◌, ℕ, ◌-◌, ◌<◌, ◌≤◌, ◌+◌, ◌*◌, ◌^◌, [], ◌∷◌, ◌↔◌, IsTrue};
 ghost use Rattle.capn_walk.specs.Visits.{slots};
-ghost use Rattle.capn_walk.specs.Walked.{slot_count, extent, RowsFit};
+ghost use Rattle.capn_walk.specs.Shapes.{slot_count, extent, RowsFit};
 ghost use Rattle.capn_walk.specs.Frames.{places_of, owed, end_of, HasRows};
 
 use crate::target::Shape;

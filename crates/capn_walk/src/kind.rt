@@ -1,5 +1,11 @@
 //! What a view shows.
 
+ghost use Rattle.std.specs.Prelude.{◌≡◌};
+ghost use Rattle.capn_walk.specs.Viewed as seen;
+
+use crate::target::{Shape, Target};
+use capn_words::Width;
+
 /// The kinds of what a pointer denotes, as those of a value.
 #[derive(Clone, Copy, Debug, PartialEq, Eq)]
 pub enum Kind {
@@ -25,4 +31,41 @@ pub enum Kind {
     Rows,
     /// A capability.
     Cap,
+}
+
+/// The kind of what a pointer names.
+#[inline(always)]
+pub fn kind_of(target: Target) -> Kind
+    ensures { result ≡ seen.kind_of target }
+{
+    match target {
+        Target::Nil => Kind::Nil,
+        Target::Cap(_) => Kind::Cap,
+        Target::Content {
+            segment: _,
+            start: _,
+            shape,
+            pads: _,
+        } => match shape {
+            Shape::Node { .. } => Kind::Node,
+            Shape::Rows { .. } => Kind::Rows,
+            Shape::Many { width, count: _ } => kind_of_list(width),
+        },
+    }
+}
+
+/// The kind of a list of elements of that width.
+fn kind_of_list(width: Width) -> Kind
+    ensures { result ≡ seen.kind_of_list width }
+{
+    match width {
+        Width::W0 => Kind::Voids,
+        Width::W1 => Kind::Bits,
+        Width::W8 => Kind::Bytes,
+        Width::W16 => Kind::Pairs,
+        Width::W32 => Kind::Quads,
+        Width::W64 => Kind::Octs,
+        Width::Link => Kind::Links,
+        Width::Rows => Kind::Rows,
+    }
 }

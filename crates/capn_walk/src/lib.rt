@@ -18,6 +18,7 @@
 #![tactic(auto)]
 
 mod content;
+mod digits;
 mod found;
 mod frame;
 mod kind;
@@ -27,6 +28,7 @@ mod lists;
 mod meter;
 mod price;
 mod resolving;
+mod sizes;
 mod step;
 mod surveyed;
 mod surveying;

@@ -6,7 +6,8 @@ ghost use Rattle.capn_words.specs.Message.{IsMessage, segment_at};
 ghost use Rattle.capn_value.specs.View.{tree_of};
 ghost use Rattle.capn_walk.specs.Target.{content_words};
 ghost use Rattle.capn_walk.specs.At.{AreElements, words_from};
-ghost use Rattle.capn_walk.specs.Walked.{IsInside, IsPlain, IsContent};
+ghost use Rattle.capn_walk.specs.At.{IsInside};
+ghost use Rattle.capn_walk.specs.Shapes.{IsPlain, IsContent};
 ghost use Rattle.capn_walk.specs.declared.target.Shape.TheVariants.{Many};
 ghost use Rattle.capn_words.specs.declared.pointer.Width.TheVariants.{W1, W8, W16, W32};
 

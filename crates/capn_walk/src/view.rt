@@ -1,69 +1,26 @@
 //! A message read in place, step by step.
 
-ghost use Rattle.std.specs.Prelude.{◌≡◌, ◌≢◌, ℕ, ◌<◌, ◌≤◌, ◌+◌, ◌-◌, ◌*◌, ◌/◌, ◌%◌, ◌^◌, Ok, Err, length, slice_index};
+ghost use Rattle.std.specs.Prelude.{◌≡◌, ◌<◌, ◌-◌, Ok, Err, length, slice_index};
 ghost use Rattle.std.specs.Prelude.{IfOk, IfErr, IfSome, IsSome, OnErr, MatchResult, ◌↔◌};
-ghost use Rattle.capn_words.specs.Message.{segment_at, IsMessage, IsPlace};
+ghost use Rattle.capn_words.specs.Message.{IsMessage, IsPlace};
 ghost use Rattle.capn_value.specs.Sizes.{base};
 ghost use Rattle.capn_walk.specs.Account.{with_paid, left_of};
 ghost use Rattle.capn_walk.specs.Target as spec;
 ghost use Rattle.capn_walk.specs.At.{AreElements};
 ghost use Rattle.capn_walk.specs.Viewed as seen;
 ghost use Rattle.capn_walk.specs.declared.kind.Kind.TheVariants as kinds;
-ghost use Rattle.capn_walk.specs.declared.target.Fault.TheVariants.{Memory};
 
 use crate::content::segment_length;
-use crate::kind::Kind;
+use crate::digits::{digit, per_word};
+use crate::kind::{Kind, kind_of};
 use crate::meter::Meter;
 use crate::resolving::resolve;
+use crate::sizes::{len_of, slots_in, words_in};
 use crate::step::{capability_of, price_within};
 use crate::target::{Fault, Shape, Target};
 use crate::walking::{ROOT, may_be_root};
 use capn_words::{Place, Space, Width};
 use std::marker::Model;
-
-/// The kind of a list of elements of that width.
-fn kind_of_list(width: Width) -> Kind
-    ensures { result ≡ seen.kind_of_list width }
-{
-    match width {
-        Width::W0 => Kind::Voids,
-        Width::W1 => Kind::Bits,
-        Width::W8 => Kind::Bytes,
-        Width::W16 => Kind::Pairs,
-        Width::W32 => Kind::Quads,
-        Width::W64 => Kind::Octs,
-        Width::Link => Kind::Links,
-        Width::Rows => Kind::Rows,
-    }
-}
-
-/// How many numbers of that width a word holds.
-fn per_word(width: Width) -> u32
-    ensures value { result ≡ seen.per_word width }
-    ensures some { 0 < result }
-{
-    match width {
-        Width::W1 => 64,
-        Width::W8 => 8,
-        Width::W16 => 4,
-        Width::W32 => 2,
-        _ => 1,
-    }
-}
-
-/// The number of that width at a place of a word, counted from the least significant.
-fn digit(width: Width, word: u64, place: u32) -> u64
-    requires { place < seen.per_word width }
-    ensures { result ≡ seen.digit width word place }
-{
-    match width {
-        Width::W1 => word >> place & 1,
-        Width::W8 => word >> (8 * place) & 0xff,
-        Width::W16 => word >> (16 * place) & 0xffff,
-        Width::W32 => word >> (32 * place) & 0xffff_ffff,
-        _ => word,
-    }
-}
 
 /// What stands in a slot of a message: null, a capability, or an object whose words are read where they lie.
 #[derive(Debug, Drop)]
@@ -157,20 +114,7 @@ impl<'s, S: Space> View<'s, S> {
     pub fn kind(&self) -> Kind
         ensures { result ≡ seen.kind_of self.now.found }
     {
-        match self.target {
-            Target::Nil => Kind::Nil,
-            Target::Cap(_) => Kind::Cap,
-            Target::Content {
-                segment: _,
-                start: _,
-                shape,
-                pads: _,
-            } => match shape {
-                Shape::Node { .. } => Kind::Node,
-                Shape::Rows { .. } => Kind::Rows,
-                Shape::Many { width, count: _ } => kind_of_list(width),
-            },
-        }
+        kind_of(self.target)
     }
 
     /// The elements of a list; else 0.
@@ -179,49 +123,21 @@ impl<'s, S: Space> View<'s, S> {
         ensures links { seen.kind_of self.now.found ≡ kinds.Links → result ≡ seen.links_in self.now.found }
         ensures rows { seen.kind_of self.now.found ≡ kinds.Rows → result ≡ seen.rows_in self.now.found }
     {
-        match self.target {
-            Target::Content {
-                segment: _,
-                start: _,
-                shape,
-                pads: _,
-            } => match shape {
-                Shape::Node { .. } => 0,
-                Shape::Rows { count, .. } => count,
-                Shape::Many { width: _, count } => count,
-            },
-            _ => 0,
-        }
+        len_of(self.target)
     }
 
     /// The data words of a struct; else 0.
     pub fn words(&self) -> u16
         ensures { result ≡ seen.words_in self.now.found }
     {
-        match self.target {
-            Target::Content {
-                segment: _,
-                start: _,
-                shape: Shape::Node { words, slots: _ },
-                pads: _,
-            } => words,
-            _ => 0,
-        }
+        words_in(self.target)
     }
 
     /// The slots of a struct; else 0.
     pub fn slots(&self) -> u16
         ensures { result ≡ seen.slots_in self.now.found }
     {
-        match self.target {
-            Target::Content {
-                segment: _,
-                start: _,
-                shape: Shape::Node { words: _, slots },
-                pads: _,
-            } => slots,
-            _ => 0,
-        }
+        slots_in(self.target)
     }
 
     /// The index of a capability.

@@ -1,14 +1,13 @@
 //! One visit of a slot, without its value.
 
-ghost use Rattle.std.specs.Prelude.{◌≡◌, ◌≢◌, ◌<◌, ◌≤◌, ◌-◌, ◌∷◌, ◌↔◌, [], length, IsTrue, IfOk, IfErr};
+ghost use Rattle.std.specs.Prelude.{◌≡◌, ◌≢◌, ◌≤◌, ◌∷◌, ◌↔◌, [], length, IsTrue, IfOk, IfErr};
 ghost use Rattle.capn_words.specs.Message.{segment_at, IsMessage, IsPlace};
 ghost use Rattle.capn_value.specs.Sizes.{most_cost};
 ghost use Rattle.capn_walk.specs.Target as spec;
-ghost use Rattle.capn_walk.specs.Visits.{pays, visits, visits_of};
+ghost use Rattle.capn_walk.specs.Visits.{pays, visits};
 ghost use Rattle.capn_walk.specs.Verdict.{judge, refused};
-ghost use Rattle.capn_walk.specs.Walked.{IsPlain, AreNumbers};
-ghost use Rattle.capn_walk.specs.Frames.{places_of, owed, Lies};
-ghost use Rattle.capn_walk.specs.Surveyed as told;
+ghost use Rattle.capn_walk.specs.Outcomes.{Visits};
+ghost use Rattle.capn_walk.specs.Shapes.{IsPlain, AreNumbers};
 ghost use Rattle.capn_walk.specs.declared.target.Fault.TheVariants.{Memory};
 
 use crate::frame::Frame;
@@ -46,15 +45,7 @@ pub fn visit_struct<S: Space>(
     requires pointer { spec.near (S.message space.now) at.segment at.word 0 pointer
         ≡ spec.target (S.message space.now) at }
     requires left { left ≤ most_cost }
-    ensures visits { IfOk result (λ v. visits (S.message space.now) base depth at
-        ≡ pays at v.price ∷ visits_of (S.message space.now) base (depth - 1) (places_of v.below)) }
-    ensures price { IfOk result (λ v. v.price ≤ left) }
-    ensures capability { IfOk result (λ v. told.cap_of (spec.target (S.message space.now) at) ≡ v.capability) }
-    ensures below { IfOk result (λ v. Lies (S.message space.now) v.below) }
-    ensures owed { IfOk result (λ v. owed v.below ≤ v.price) }
-    ensures deep { IfOk result (λ v. 0 < owed v.below → 0 < depth) }
-    ensures refused { IfErr result (λ e. judge left (visits (S.message space.now) base depth at) ≡ refused e at 0 1) }
-    ensures memory { IfErr result (λ e. e ≢ Memory) }
+    ensures { Visits (S.message space.now) base depth left at result }
 {
     let found = near(space, at.segment, size, at.word, 0, pointer);
     visit_found(space, at, found, depth, left, base)
@@ -98,15 +89,7 @@ pub fn visit_elsewhere<S: Space>(
     requires message { IsMessage (S.message space.now) }
     requires place { IsPlace (S.message space.now) at }
     requires left { left ≤ most_cost }
-    ensures visits { IfOk result (λ v. visits (S.message space.now) base depth at
-        ≡ pays at v.price ∷ visits_of (S.message space.now) base (depth - 1) (places_of v.below)) }
-    ensures price { IfOk result (λ v. v.price ≤ left) }
-    ensures capability { IfOk result (λ v. told.cap_of (spec.target (S.message space.now) at) ≡ v.capability) }
-    ensures below { IfOk result (λ v. Lies (S.message space.now) v.below) }
-    ensures owed { IfOk result (λ v. owed v.below ≤ v.price) }
-    ensures deep { IfOk result (λ v. 0 < owed v.below → 0 < depth) }
-    ensures refused { IfErr result (λ e. judge left (visits (S.message space.now) base depth at) ≡ refused e at 0 1) }
-    ensures memory { IfErr result (λ e. e ≢ Memory) }
+    ensures { Visits (S.message space.now) base depth left at result }
 {
     visit_found(space, at, resolve(space, at), depth, left, base)
 }
@@ -125,15 +108,7 @@ pub fn visit_found<S: Space>(
     requires place { IsPlace (S.message space.now) at }
     requires found { found ≡ spec.target (S.message space.now) at }
     requires left { left ≤ most_cost }
-    ensures visits { IfOk result (λ v. visits (S.message space.now) base depth at
-        ≡ pays at v.price ∷ visits_of (S.message space.now) base (depth - 1) (places_of v.below)) }
-    ensures price { IfOk result (λ v. v.price ≤ left) }
-    ensures capability { IfOk result (λ v. told.cap_of (spec.target (S.message space.now) at) ≡ v.capability) }
-    ensures below { IfOk result (λ v. Lies (S.message space.now) v.below) }
-    ensures owed { IfOk result (λ v. owed v.below ≤ v.price) }
-    ensures deep { IfOk result (λ v. 0 < owed v.below → 0 < depth) }
-    ensures refused { IfErr result (λ e. judge left (visits (S.message space.now) base depth at) ≡ refused e at 0 1) }
-    ensures memory { IfErr result (λ e. e ≢ Memory) }
+    ensures { Visits (S.message space.now) base depth left at result }
 {
     let target = match found {
         Ok(target) => target,

@@ -1,18 +1,15 @@
 //! The visits of slots, in preorder: what each denotes, what was paid, and how many there were.
 
-ghost use Rattle.std.specs.Prelude.{◌≡◌, ℕ, ◌<◌, ◌≤◌, ◌+◌, ◌*◌, Ok, length, IfOk, IfErr};
+ghost use Rattle.std.specs.Prelude.{◌≡◌, ◌≤◌, ◌+◌, ◌*◌, Ok, length, IfErr};
 ghost use Rattle.capn_words.specs.Message.{segment_at, IsMessage, IsPlace};
-ghost use Rattle.capn_value.specs.View.{tree_of, trees_of, rows_of};
-ghost use Rattle.capn_value.specs.Tree.{count as count_trees, count_rows};
 ghost use Rattle.capn_value.specs.Sizes.{most_cost};
 ghost use Rattle.capn_walk.specs.Target as spec;
-ghost use Rattle.capn_walk.specs.Visits.{places, row_places, slots, visits, visits_of};
-ghost use Rattle.capn_walk.specs.At.{IsAt, AreAt, RowsAt};
 ghost use Rattle.capn_walk.specs.declared.target.Fault.TheVariants.{Memory};
 ghost use Rattle.capn_walk.specs.Viewed.{IsEntered, stepped};
-ghost use Rattle.capn_walk.specs.Walked.{Gives, Refuses, IsInside, IsContent, RowsFit, extent, slot_count};
+ghost use Rattle.capn_walk.specs.Outcomes.{Walks, WalksObject, WalksRows, WalksSlots};
+ghost use Rattle.capn_walk.specs.Shapes.{IsContent, RowsFit, extent, slot_count};
 
-use crate::content::segment_length;
+use crate::content::{place, segment_length};
 use crate::found::{Found, FoundRows, FoundSlots};
 use crate::lists::{list_at, words_at};
 use crate::resolving::{near, pointer_at, resolve};
@@ -26,7 +23,6 @@ use std::alloc::Allocator;
 /// What a slot denotes, at most `depth` objects deep, where `left` words are left to pay and each content costs `base`
 /// beside its size. Near structs and near lists have an arm each, so that each is compiled for its form alone.
 #[cycle(walk)]
-#[tactic(auto, using(std::proofs::lemmas::Grind::common_steps))]
 #[inline(always)]
 fn walk_slot<S: Space, A: Allocator + Copy>(
     alloc: A,
@@ -39,9 +35,7 @@ fn walk_slot<S: Space, A: Allocator + Copy>(
     requires message { IsMessage (S.message space.now) }
     requires place { IsPlace (S.message space.now) at }
     requires left { left ≤ most_cost }
-    ensures pays { IfOk result (λ f. Gives left (visits (S.message space.now) base depth at) 1 f.paid f.visits) }
-    ensures value { IfOk result (λ f. IsAt (S.message space.now) at (tree_of f.value)) }
-    ensures refused { IfErr result (λ s. Refuses left (visits (S.message space.now) base depth at) 1 s) }
+    ensures { Walks (S.message space.now) base depth left at result }
 {
     let pointer = pointer_at(space, at.segment, at.word);
     match pointer {
@@ -58,7 +52,6 @@ fn walk_slot<S: Space, A: Allocator + Copy>(
 
 /// The same of a slot whose pointer names content that stands near.
 #[cycle(walk)]
-#[tactic(auto, using(std::proofs::lemmas::Grind::common_steps))]
 #[inline(always)]
 fn walk_near<S: Space, A: Allocator + Copy>(
     alloc: A,
@@ -74,9 +67,7 @@ fn walk_near<S: Space, A: Allocator + Copy>(
     requires pointer { spec.near (S.message space.now) at.segment at.word 0 pointer
         ≡ spec.target (S.message space.now) at }
     requires left { left ≤ most_cost }
-    ensures pays { IfOk result (λ f. Gives left (visits (S.message space.now) base depth at) 1 f.paid f.visits) }
-    ensures value { IfOk result (λ f. IsAt (S.message space.now) at (tree_of f.value)) }
-    ensures refused { IfErr result (λ s. Refuses left (visits (S.message space.now) base depth at) 1 s) }
+    ensures { Walks (S.message space.now) base depth left at result }
 {
     let size = segment_length(space, at.segment);
     match near(space, at.segment, size, at.word, 0, pointer) {
@@ -87,7 +78,6 @@ fn walk_near<S: Space, A: Allocator + Copy>(
 
 /// The same of a slot, whatever it names.
 #[cycle(walk)]
-#[tactic(auto, using(std::proofs::lemmas::Grind::common_steps))]
 #[inline(never)]
 fn walk_elsewhere<S: Space, A: Allocator + Copy>(
     alloc: A,
@@ -100,9 +90,7 @@ fn walk_elsewhere<S: Space, A: Allocator + Copy>(
     requires message { IsMessage (S.message space.now) }
     requires place { IsPlace (S.message space.now) at }
     requires left { left ≤ most_cost }
-    ensures pays { IfOk result (λ f. Gives left (visits (S.message space.now) base depth at) 1 f.paid f.visits) }
-    ensures value { IfOk result (λ f. IsAt (S.message space.now) at (tree_of f.value)) }
-    ensures refused { IfErr result (λ s. Refuses left (visits (S.message space.now) base depth at) 1 s) }
+    ensures { Walks (S.message space.now) base depth left at result }
 {
     match resolve(space, at) {
         Ok(target) => walk_target(alloc, space, at, target, depth, left, base),
@@ -112,7 +100,6 @@ fn walk_elsewhere<S: Space, A: Allocator + Copy>(
 
 /// What a slot denotes whose target is known. Its price is paid before anything of its content is read.
 #[cycle(walk)]
-#[tactic(auto, using(std::proofs::lemmas::Grind::common_steps))]
 #[inline(always)]
 pub fn walk_target<S: Space, A: Allocator + Copy>(
     alloc: A,
@@ -127,9 +114,7 @@ pub fn walk_target<S: Space, A: Allocator + Copy>(
     requires place { IsPlace (S.message space.now) at }
     requires target { spec.target (S.message space.now) at ≡ Ok target }
     requires left { left ≤ most_cost }
-    ensures pays { IfOk result (λ f. Gives left (visits (S.message space.now) base depth at) 1 f.paid f.visits) }
-    ensures value { IfOk result (λ f. IsAt (S.message space.now) at (tree_of f.value)) }
-    ensures refused { IfErr result (λ s. Refuses left (visits (S.message space.now) base depth at) 1 s) }
+    ensures answer { Walks (S.message space.now) base depth left at result }
     // Memory is wanted for content only, and only once its price is paid.
     ensures wanted { IfErr result (λ s. s.fault ≡ Memory → IsEntered (stepped base depth left (Ok target))) }
 {
@@ -146,20 +131,9 @@ pub fn walk_target<S: Space, A: Allocator + Copy>(
                 Ok(price) => price,
                 Err(fault) => return Err(stop(fault, at)),
             };
-            let start = Place {
-                segment,
-                word: start,
-            };
-            match object(
-                alloc,
-                space,
-                at,
-                start,
-                shape,
-                depth - 1,
-                left - price,
-                base,
-            ) {
+            let start = place(segment, start);
+            let left = left - price;
+            match object(alloc, space, at, start, shape, depth - 1, left, base) {
                 Ok(found) => Ok(Found {
                     value: found.value,
                     paid: price + found.paid,
@@ -173,7 +147,6 @@ pub fn walk_target<S: Space, A: Allocator + Copy>(
 
 /// The object of the slot at a place, with what is below it. Its own price has been paid.
 #[cycle(walk)]
-#[tactic(auto, using(std::proofs::lemmas::Grind::common_steps))]
 #[inline(always)]
 fn object<S: Space, A: Allocator + Copy>(
     alloc: A,
@@ -190,56 +163,30 @@ fn object<S: Space, A: Allocator + Copy>(
     requires rows { RowsFit shape }
     requires left { left ≤ most_cost }
     requires count { slot_count shape ≤ most_cost }
-    ensures pays { IfOk result (λ f. Gives left
-        (visits_of (S.message space.now) base depth (slots start.segment start.word shape))
-        (slot_count shape) f.paid f.visits) }
-    ensures value { IfOk result (λ f.
-        IsInside (S.message space.now) shape start.segment start.word (tree_of f.value)) }
-    ensures refused { IfErr result (λ s. Refuses left
-        (visits_of (S.message space.now) base depth (slots start.segment start.word shape))
-        (slot_count shape) s) }
+    ensures { WalksObject (S.message space.now) base depth left shape start result }
 {
+    let segment = start.segment;
     match shape {
         Shape::Node { words, slots } => {
             let first = start.word + words as u32;
             let Ok(words) = words_at(alloc, space, start, words as u32) else {
                 return Err(out_of_memory(at));
             };
-            let below = walk_slots(
-                alloc,
-                space,
-                start.segment,
-                first,
-                slots as u32,
-                depth,
-                left,
-                base,
-            )?;
+            let count = slots as u32;
+            let below = walk_slots(alloc, space, segment, first, count, depth, left, base)?;
             Ok(below.into_struct(words))
         }
         Shape::Many { width, count } => match width {
             Width::Link => {
-                let below = walk_slots(
-                    alloc,
-                    space,
-                    start.segment,
-                    start.word,
-                    count,
-                    depth,
-                    left,
-                    base,
-                )?;
+                let first = start.word;
+                let below = walk_slots(alloc, space, segment, first, count, depth, left, base)?;
                 Ok(below.into_list())
             }
             _ => {
                 let Ok(value) = list_at(alloc, space, start, width, count) else {
                     return Err(out_of_memory(at));
                 };
-                Ok(Found {
-                    value,
-                    paid: 0,
-                    visits: 0,
-                })
+                Ok(Found::without_slots(value))
             }
         },
         Shape::Rows {
@@ -248,10 +195,7 @@ fn object<S: Space, A: Allocator + Copy>(
             slots,
             span: _,
         } => {
-            let first = Place {
-                segment: start.segment,
-                word: start.word + 1,
-            };
+            let first = place(segment, start.word + 1);
             let below = walk_rows(alloc, space, first, count, words, slots, depth, left, base)?;
             Ok(below.into_list())
         }
@@ -260,7 +204,6 @@ fn object<S: Space, A: Allocator + Copy>(
 
 /// So many slots that stand one behind the other.
 #[cycle(walk)]
-#[tactic(auto, using(std::proofs::lemmas::Grind::common_steps))]
 #[inline(never)]
 fn walk_slots<S: Space, A: Allocator + Copy>(
     alloc: A,
@@ -275,27 +218,15 @@ fn walk_slots<S: Space, A: Allocator + Copy>(
     requires message { IsMessage (S.message space.now) }
     requires inside { start + count ≤ length (segment_at (S.message space.now) segment) }
     requires left { left ≤ most_cost }
-    ensures pays { IfOk result (λ f. Gives left
-        (visits_of (S.message space.now) base depth (places segment start count))
-        count f.paid f.visits) }
-    ensures value { IfOk result (λ f. AreAt (S.message space.now) segment start (trees_of f.items)) }
-    ensures number { IfOk result (λ f. count_trees (trees_of f.items) ≡ count) }
-    ensures refused { IfErr result (λ s. Refuses left
-        (visits_of (S.message space.now) base depth (places segment start count)) count s) }
+    ensures { WalksSlots (S.message space.now) base depth left segment start count result }
 {
     let Ok(mut slots) = Vec::with_capacity(alloc, count as usize) else {
-        return Err(out_of_memory(Place {
-            segment,
-            word: start,
-        }));
+        return Err(out_of_memory(place(segment, start)));
     };
     let mut paid = 0;
     let mut visits = 0;
     for i in 0..count {
-        let at = Place {
-            segment,
-            word: start + i,
-        };
+        let at = place(segment, start + i);
         match walk_slot(alloc, space, at, depth, left - paid, base) {
             Ok(found) => {
                 paid += found.paid;
@@ -314,7 +245,6 @@ fn walk_slots<S: Space, A: Allocator + Copy>(
 
 /// So many rows of the same sizes that stand one behind the other.
 #[cycle(walk)]
-#[tactic(auto, using(std::proofs::lemmas::Grind::common_steps))]
 #[inline(never)]
 fn walk_rows<S: Space, A: Allocator + Copy>(
     alloc: A,
@@ -331,19 +261,10 @@ fn walk_rows<S: Space, A: Allocator + Copy>(
     requires content { IsContent (S.message space.now) start (count * (words + slots)) }
     requires left { left ≤ most_cost }
     requires count { count * slots ≤ most_cost }
-    ensures pays { IfOk result (λ f. Gives left
-        (visits_of (S.message space.now) base depth
-        (row_places start.segment start.word words slots count))
-        (count * slots) f.paid f.visits) }
-    ensures value { IfOk result (λ f.
-        RowsAt (S.message space.now) words slots start.segment start.word (rows_of f.rows)) }
-    ensures number { IfOk result (λ f. count_rows (rows_of f.rows) ≡ count) }
-    ensures refused { IfErr result (λ s. Refuses left
-        (visits_of (S.message space.now) base depth
-        (row_places start.segment start.word words slots count))
-        (count * slots) s) }
+    ensures { WalksRows (S.message space.now) base depth left start words slots count result }
 {
     let segment = start.segment;
+    let width = slots as u32;
     let Ok(mut rows) = Vec::with_capacity(alloc, count as usize) else {
         return Err(out_of_memory(start));
     };
@@ -351,24 +272,13 @@ fn walk_rows<S: Space, A: Allocator + Copy>(
     let mut visits = 0;
     let mut next = start.word;
     for i in 0..count {
-        let at = Place {
-            segment,
-            word: next,
-        };
+        let at = place(segment, next);
         let Ok(data) = words_at(alloc, space, at, words as u32) else {
             return Err(out_of_memory(at).behind(paid, visits));
         };
         let first = next + words as u32;
-        match walk_slots(
-            alloc,
-            space,
-            segment,
-            first,
-            slots as u32,
-            depth,
-            left - paid,
-            base,
-        ) {
+        let room = left - paid;
+        match walk_slots(alloc, space, segment, first, width, depth, room, base) {
             Ok(below) => {
                 paid += below.paid;
                 visits += below.visits;
@@ -380,7 +290,7 @@ fn walk_rows<S: Space, A: Allocator + Copy>(
             }
             Err(stopped) => return Err(stopped.behind(paid, visits)),
         }
-        next = first + slots as u32;
+        next = first + width;
     }
     Ok(FoundRows {
         rows: Items::from_vec(rows),

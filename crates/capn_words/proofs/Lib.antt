@@ -1,3 +1,2 @@
 mod Written
-pub mod OneReading
 pub mod PointerRows

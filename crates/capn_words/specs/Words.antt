@@ -32,13 +32,13 @@ unfoldable pub words_in : ℕ → List ℕ → List ℕ
 words_in zero bs = []
 words_in (suc n) bs = word_number bs ∷ words_in n (drop 8 bs)
 
--- the bytes are those of so many words as a message may have (own)
+-- the bytes are those of so many words as a message may have (Own.)
 pub record IsBare (bs ws : List ℕ) : Type 0 where
   pub same : bs ≡ bytes ws
   pub each : AreWords ws
   pub room : length ws ≤ most_words
 
--- what a reading of bytes as one segment answers: the words, or the first of the two refusals (own)
+-- what a reading of bytes as one segment answers: the words, or the first of the two refusals (Own.)
 abbrev pub ReadsBare : List ℕ → Result (List ℕ) BareFault → Type 0
 ReadsBare bs (Ok ws) = IsBare bs ws
 ReadsBare bs (Err (NotWhole n)) = (n ≡ length bs) × (length bs % 8 ≢ 0)

@@ -1,6 +1,6 @@
 //! Each message cut at each byte: its beginnings have the answer that the definitions give for them.
 
-use crate::messages::{MOST_WORDS, canonical_text, form_at, paid_text, true_limits_at};
+use crate::messages::{canonical_text, form_at, paid_text, true_limits_at};
 use crate::refusals::told;
 use crate::tariff_and_call;
 use crate::words::{bytes_at, word_at};
@@ -8,7 +8,7 @@ use anyhow::{Result, anyhow, bail};
 use capn_canon::{Form, LayoutFault, layout};
 use capn_pack::{UnpackFault, Unpacker, unpack};
 use capn_walk::{Limits, walk};
-use capn_words::{Bare, MOST_SEGMENTS};
+use capn_words::{Bare, MOST_MESSAGE_WORDS, MOST_SEGMENTS};
 use std::alloc::Global;
 
 /// The first bytes, at most so many.
@@ -70,7 +70,7 @@ fn is_unpacked(alloc: Global, text: &[u8]) -> bool {
         Ok(()) => unpacker.finish(),
         Err(fault) => Err(fault),
     };
-    let is_whole = match unpack(alloc, start_of(text, at), MOST_WORDS) {
+    let is_whole = match unpack(alloc, start_of(text, at), MOST_MESSAGE_WORDS) {
         Ok(words) => words.as_slice() == fed.as_slice(),
         Err(_) => false,
     };
@@ -79,7 +79,7 @@ fn is_unpacked(alloc: Global, text: &[u8]) -> bool {
     } else {
         None
     };
-    is_whole && cut_of(ending) == cut && cut_of(unpack(alloc, text, MOST_WORDS)) == cut
+    is_whole && cut_of(ending) == cut && cut_of(unpack(alloc, text, MOST_MESSAGE_WORDS)) == cut
 }
 
 /// Where it was answered that a text is cut.
@@ -99,7 +99,7 @@ fn packed_text(alloc: Global, text: &[u8], limits: Limits) -> Result<String> {
     if at < text.len() {
         return Ok(format!(in alloc; "packed: Cut at {at}")?);
     }
-    match unpack(alloc, text, MOST_WORDS) {
+    match unpack(alloc, text, MOST_MESSAGE_WORDS) {
         Ok(stream) => canonical_text(alloc, Form::Stream, stream.as_slice(), limits),
         Err(_) => Err(anyhow!("no stream")),
     }

@@ -3,12 +3,11 @@
 ghost use Rattle.std.specs.Prelude.{◌≤◌, ◌^◌, IfOk};
 
 use crate::growths::{Heap, MEMORY};
-use crate::messages::MOST_WORDS;
 use crate::refusals::told;
 use crate::words::{bytes_at, digits_of, number_at};
 use anyhow::{Result, anyhow};
 use capn_stream::{first, frame};
-use capn_words::{Place, Space};
+use capn_words::{MOST_MESSAGE_WORDS, Place, Space};
 use std::alloc::Global;
 
 /// The limit on message words at a place of the line.
@@ -16,7 +15,7 @@ pub(crate) fn limit_at(words: &[&str], at: usize) -> Result<u32>
     ensures { IfOk result (λ limit. limit ≤ 2 ^ 28) }
 {
     let limit = number_at(words, at)?;
-    if limit > MOST_WORDS {
+    if limit > MOST_MESSAGE_WORDS {
         return Err(anyhow!("a limit above 2^28"));
     }
     Ok(limit)
@@ -53,7 +52,7 @@ pub(crate) fn first_answer(alloc: Global, heap: &Heap, words: &[&str]) -> Result
 /// `frame BYTES`: the frame of the message that stands first in the bytes.
 pub(crate) fn frame_answer(alloc: Global, heap: &Heap, words: &[&str]) -> Result<String> {
     let bytes = bytes_at(alloc, words, 1)?;
-    match first(heap, bytes.as_slice(), MOST_WORDS) {
+    match first(heap, bytes.as_slice(), MOST_MESSAGE_WORDS) {
         Ok((message, _)) => match frame(heap, &message) {
             Ok(again) => digits_of(alloc, again.as_slice()),
             Err(_) => Ok(String::from_str(alloc, MEMORY)?),

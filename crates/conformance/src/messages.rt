@@ -9,11 +9,8 @@ use capn_pack::{UnpackFault, unpack};
 use capn_stream::{FrameFault, first};
 use capn_value::{Tariff, copy, trim};
 use capn_walk::{Fault, Limits, Shape, Target, resolve, walk};
-use capn_words::{Bare, Place, Space};
+use capn_words::{Bare, MOST_MESSAGE_WORDS, Place, Space};
 use std::alloc::Global;
-
-/// The most words that a message may have.
-pub(crate) const MOST_WORDS: u32 = 268_435_456;
 
 /// The form at a place of the line.
 pub(crate) fn form_at(words: &[&str], at: usize) -> Result<Form> {
@@ -80,7 +77,7 @@ fn layout_of_frame<'h>(
     bytes: &[u8],
     limits: Limits,
 ) -> Result<Option<Vec<u8, &'h Heap>>> {
-    match first(heap, bytes, MOST_WORDS) {
+    match first(heap, bytes, MOST_MESSAGE_WORDS) {
         Ok((space, _)) => layout_of(heap, &space, limits),
         Err(FrameFault::Memory) => Ok(None),
         Err(_) => Err(anyhow!("no frame")),
@@ -100,7 +97,7 @@ fn layout_in_form<'h>(
             Err(_) => Err(anyhow!("no segment")),
         },
         Form::Stream => layout_of_frame(heap, bytes, limits),
-        Form::Packed => match unpack(heap, bytes, MOST_WORDS) {
+        Form::Packed => match unpack(heap, bytes, MOST_MESSAGE_WORDS) {
             Ok(text) => layout_of_frame(heap, text.as_slice(), limits),
             Err(UnpackFault::Memory) => Ok(None),
             Err(_) => Err(anyhow!("no text")),
@@ -215,7 +212,7 @@ fn walk_text<S: Space>(alloc: Global, heap: &Heap, space: &S, limits: Limits) ->
 
 /// What a walk of the message that stands first answers.
 fn walk_frame(alloc: Global, heap: &Heap, bytes: &[u8], limits: Limits) -> Result<String> {
-    match first(heap, bytes, MOST_WORDS) {
+    match first(heap, bytes, MOST_MESSAGE_WORDS) {
         Ok((space, _)) => walk_text(alloc, heap, &space, limits),
         Err(fault) => told(alloc, fault),
     }
@@ -237,7 +234,7 @@ pub(crate) fn walk_answer(
             Err(_) => Err(anyhow!("no segment")),
         },
         Form::Stream => walk_frame(alloc, heap, bytes.as_slice(), limits),
-        Form::Packed => match unpack(heap, bytes.as_slice(), MOST_WORDS) {
+        Form::Packed => match unpack(heap, bytes.as_slice(), MOST_MESSAGE_WORDS) {
             Ok(text) => walk_frame(alloc, heap, text.as_slice(), limits),
             Err(fault) => told(alloc, fault),
         },
@@ -293,7 +290,7 @@ pub(crate) fn resolve_answer(alloc: Global, heap: &Heap, words: &[&str]) -> Resu
             Ok(space) => resolve_text(alloc, &space, at),
             Err(_) => Err(anyhow!("no segment")),
         },
-        Form::Stream => match first(heap, bytes.as_slice(), MOST_WORDS) {
+        Form::Stream => match first(heap, bytes.as_slice(), MOST_MESSAGE_WORDS) {
             Ok((space, _)) => resolve_text(alloc, &space, at),
             Err(fault) => told(alloc, fault),
         },

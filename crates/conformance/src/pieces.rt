@@ -2,13 +2,12 @@
 
 use crate::frames::{limit_at, segments_text};
 use crate::growths::{Heap, MEMORY};
-use crate::messages::MOST_WORDS;
 use crate::refusals::told;
 use crate::words::{bytes_at, digits_of, number_at, push_told, word_at};
 use anyhow::{Result, anyhow, bail};
 use capn_pack::{UnpackFault, Unpacker};
 use capn_stream::{FrameFault, Framer, ReadFault, Stored, read_message, write_message};
-use capn_words::Watched;
+use capn_words::{MOST_MESSAGE_WORDS, Watched};
 use std::alloc::Global;
 
 /// A message, by the bytes of its segments.
@@ -224,7 +223,7 @@ pub(crate) fn read_answer(alloc: Global, heap: &Heap, words: &[&str]) -> Result<
 pub(crate) fn write_answer(alloc: Global, heap: &Heap, words: &[&str]) -> Result<String> {
     let bytes = bytes_at(alloc, words, 1)?;
     let mut reader = Watched::new(bytes.as_slice());
-    let message = match read_message(heap, &mut reader, MOST_WORDS) {
+    let message = match read_message(heap, &mut reader, MOST_MESSAGE_WORDS) {
         Ok(Some(message)) => message,
         Err(ReadFault::Memory) => return Ok(String::from_str(alloc, MEMORY)?),
         _ => bail!("no message"),

@@ -1,7 +1,7 @@
 //! The calls that look through a message without its value.
 
 use crate::growths::Heap;
-use crate::messages::{MOST_WORDS, form_at, true_limits_at};
+use crate::messages::{form_at, true_limits_at};
 use crate::refusals::{stop_told, told};
 use crate::words::bytes_at;
 use anyhow::{Result, anyhow};
@@ -10,7 +10,7 @@ use capn_pack::unpack;
 use capn_stream::first;
 use capn_value::Tariff;
 use capn_walk::{Limits, survey};
-use capn_words::{Bare, Space};
+use capn_words::{Bare, MOST_MESSAGE_WORDS, Space};
 use std::alloc::Global;
 
 /// What a survey answers.
@@ -32,7 +32,7 @@ fn survey_text<S: Space>(alloc: Global, heap: &Heap, space: &S, limits: Limits) 
 
 /// What a survey of the message that stands first answers.
 fn survey_frame(alloc: Global, heap: &Heap, bytes: &[u8], limits: Limits) -> Result<String> {
-    match first(heap, bytes, MOST_WORDS) {
+    match first(heap, bytes, MOST_MESSAGE_WORDS) {
         Ok((space, _)) => survey_text(alloc, heap, &space, limits),
         Err(fault) => told(alloc, fault),
     }
@@ -54,7 +54,7 @@ pub(crate) fn survey_answer(
             Err(_) => Err(anyhow!("no segment")),
         },
         Form::Stream => survey_frame(alloc, heap, bytes.as_slice(), limits),
-        Form::Packed => match unpack(heap, bytes.as_slice(), MOST_WORDS) {
+        Form::Packed => match unpack(heap, bytes.as_slice(), MOST_MESSAGE_WORDS) {
             Ok(text) => survey_frame(alloc, heap, text.as_slice(), limits),
             Err(fault) => told(alloc, fault),
         },

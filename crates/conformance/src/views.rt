@@ -4,7 +4,7 @@ ghost use Rattle.std.specs.Prelude.{◌≡◌, ◌<◌, ◌≤◌, ◌^◌, IfOk
 
 use crate::frames::limit_at;
 use crate::growths::Heap;
-use crate::messages::{MOST_WORDS, form_at};
+use crate::messages::form_at;
 use crate::refusals::told;
 use crate::words::{bytes_at, digits_of, number_at, push_told, word_at};
 use anyhow::{Result, anyhow, bail};
@@ -12,7 +12,7 @@ use capn_canon::Form;
 use capn_stream::first;
 use capn_value::Tariff;
 use capn_walk::{Fault, Kind, Meter, View};
-use capn_words::{Bare, Space};
+use capn_words::{Bare, MOST_MESSAGE_WORDS, Space};
 use std::alloc::Global;
 
 /// A step to a slot of a struct or an element of a list of pointers.
@@ -201,7 +201,7 @@ pub(crate) fn view_answer(
             Ok(space) => steps_text(alloc, &space, &mut meter, depth, words),
             Err(_) => Err(anyhow!("no segment")),
         },
-        Form::Stream => match first(heap, bytes.as_slice(), MOST_WORDS) {
+        Form::Stream => match first(heap, bytes.as_slice(), MOST_MESSAGE_WORDS) {
             Ok((space, _)) => steps_text(alloc, &space, &mut meter, depth, words),
             Err(fault) => told(alloc, fault),
         },

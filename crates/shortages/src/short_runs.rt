@@ -42,7 +42,7 @@ pub(crate) fn check_answer(of: &Subject, short: &Refusing<Global>) -> Answer {
 }
 
 /// The price, the visits and the first capability that a survey of bytes tells.
-pub fn accounted<A: Allocator + Copy>(
+pub(crate) fn accounted<A: Allocator + Copy>(
     alloc: A,
     form: Form,
     bytes: &[u8],
@@ -53,7 +53,7 @@ pub fn accounted<A: Allocator + Copy>(
 }
 
 /// What a survey tells of the stream, of its packed text, and of the chain, which is read bare.
-pub fn account_answer(of: &Subject, short: &Refusing<Global>, form: Form) -> Answer {
+pub(crate) fn account_answer(of: &Subject, short: &Refusing<Global>, form: Form) -> Answer {
     let bytes = match form {
         Form::Stream => of.stream,
         Form::Packed => of.packed.as_slice(),

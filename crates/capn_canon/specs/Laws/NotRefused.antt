@@ -1,9 +1,6 @@
 -- Bytes that denote a value without capabilities are refused for want of memory alone.
-use Rattle.std.proofs.Common.{◌≡◌, inl, inr, ℕ, ◌+◌, List, length, Some, None, Err, refl, ap, sym, subst, ◌∙◌, arith}
-use Rattle.capn_words.specs.Words.{IsBare, ReadsBare}
-use Rattle.capn_words.specs.declared.bare.BareFault.{BareFault}
-use Rattle.capn_words.specs.declared.bare.BareFault.TheVariants.{NotWhole, TooLong}
-use Rattle.capn_words.specs.Laws.OneSegment.{bare_length}
+use Rattle.std.proofs.Common.{◌≡◌, inl, inr, ℕ, ◌+◌, List, length, Some, None, refl, ap, sym, subst, ◌∙◌, arith}
+use Rattle.capn_words.specs.Laws.OneSegment.{bare_not_refused}
 use Rattle.capn_pack.specs.Laws.GroupLaws.{refused_only, one_reading}
 use Rattle.capn_stream.specs.Frames.{most_table_words}
 use Rattle.capn_stream.specs.Laws.FrameLaws.{one_frame, stands_alone, whole_of, refused_whole}
@@ -11,8 +8,8 @@ use Rattle.capn_value.specs.Tree.{Tree}
 use Rattle.capn_value.specs.Caps.{first_cap}
 use Rattle.capn_walk.specs.declared.walked.Stopped.{Stopped}
 use Rattle.capn_walk.specs.Verdict.{accepted, refused}
-use Rattle.capn_walk.specs.Denotes.{IsAccepted}
-use Rattle.capn_walk.specs.Denotes as walks
+use Rattle.capn_walk.specs.Accepted.{IsAccepted}
+use Rattle.capn_walk.specs.Accepted as walks
 use Rattle.capn_walk.specs.Limits.{Bounds}
 use Rattle.capn_walk.specs.Laws.Stops.{within-accepted, stop-refused}
 use Rattle.capn_canon.specs.declared.form.Form.{Form}
@@ -23,11 +20,6 @@ use Rattle.capn_canon.specs.Reads.{IsFramed, Unpacks, Reads}
 use Rattle.capn_canon.specs.Denotes.{Denotes}
 use Rattle.capn_canon.specs.Refused.{IsMisframed, IsMisread, IsRefusedMessage, IsRefused}
 use Rattle.capn_canon.specs.Laws.OneReading.{one_message, one_value}
-
-bare-read : (bs ws : List ℕ) (e : BareFault) → IsBare bs ws → ReadsBare bs (Err e) → ⊥
-bare-read bs ws (NotWhole n) h r = let l = bare_length bs ws h in r.1 (omega arith)
-bare-read bs ws (TooLong n) h r = let l = bare_length bs ws h in let m = h.room in let a = r.0 in let b = r.1 in
-    absurd (omega arith)
 
 framed-read : (bs : List ℕ) (most : ℕ) (m : List (List ℕ)) (r : Refusal) → IsFramed bs most m → IsMisframed bs most r
     → ⊥
@@ -51,7 +43,7 @@ unpacked-read bs most m r (t, h, k) (u, i, j) =
 -- what is read isn't misread
 pub read-not_misread : (form : Form) (bs : List ℕ) (most : ℕ) (m : List (List ℕ)) (r : Refusal) → Reads form bs most m
     → IsMisread form bs most r → ⊥
-read-not_misread forms.Bare bs most m (refusals.Bare e) (ws, h, i) r = bare-read bs ws e h r
+read-not_misread forms.Bare bs most m (refusals.Bare e) (ws, h, i) r = bare_not_refused bs ws e h r
 read-not_misread forms.Bare bs most m (refusals.Packed e) h r = r
 read-not_misread forms.Bare bs most m (refusals.Frame e) h r = r
 read-not_misread forms.Bare bs most m (refusals.Trailing at) h r = r

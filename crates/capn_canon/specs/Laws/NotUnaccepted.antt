@@ -1,7 +1,7 @@
 -- Bytes that denote a value are read and accepted, unless memory runs out.
 use Rattle.std.proofs.Common.{◌≡◌, ℕ, List, refl, subst}
 use Rattle.capn_value.specs.Tree.{Tree}
-use Rattle.capn_walk.specs.Denotes.{IsAccepted}
+use Rattle.capn_walk.specs.Accepted.{IsAccepted}
 use Rattle.capn_walk.specs.Limits.{Bounds}
 use Rattle.capn_canon.specs.declared.form.Form.{Form}
 use Rattle.capn_canon.specs.declared.refusal.Refusal.{Refusal}

@@ -5,7 +5,7 @@ use Rattle.capn_words.specs.Laws.OneSegment.{bare_only, bare_message}
 use Rattle.capn_pack.specs.Laws.GroupLaws.{one_reading}
 use Rattle.capn_stream.specs.Laws.FrameLaws.{one_frame, stands_alone}
 use Rattle.capn_value.specs.Tree.{Tree}
-use Rattle.capn_walk.specs.Accepted.{root}
+use Rattle.capn_walk.specs.Stops.{root}
 use Rattle.capn_walk.specs.At.{IsAt}
 use Rattle.capn_walk.specs.Limits.{Bounds}
 use Rattle.capn_walk.specs.Laws.Unique.{unique}

@@ -1,18 +1,13 @@
 -- Bytes are refused for one reason, and not where they are read.
-use Rattle.std.proofs.Common.{◌≡◌, ◌⊎◌, inl, inr, ℕ, ◌+◌, ◌≤◌, List, [], ◌∷◌, ◌++◌, length, Some, Err, refl, ap, sym}
-use Rattle.std.proofs.Common.{subst, ◌∙◌, append_assoc, arith}
-use Rattle.std.specs.List.{AllByRecursion}
-use Rattle.capn_words.specs.Words.{IsBare, ReadsBare}
+use Rattle.std.proofs.Common.{◌≡◌, ◌⊎◌, inl, inr, ℕ, ◌+◌, List, length, Some, Err, refl, ap, sym, subst, ◌∙◌, arith}
+use Rattle.capn_words.specs.Words.{ReadsBare}
 use Rattle.capn_words.specs.declared.bare.BareFault.{BareFault}
-use Rattle.capn_words.specs.declared.bare.BareFault.TheVariants.{NotWhole, TooLong}
-use Rattle.capn_words.specs.Laws.OneSegment.{bare_length}
-use Rattle.capn_pack.specs.Group.{Group, IsGroup, text, words}
-use Rattle.capn_pack.specs.Packs.{texts, word_count}
-use Rattle.capn_pack.specs.Refusal.{words_at, IsCut, IsTooLong, Stands}
+use Rattle.capn_words.specs.Laws.OneSegment.{bare_not_refused, one_bare_fault}
 use Rattle.capn_pack.specs.Refusal as packs
 use Rattle.capn_pack.specs.declared.fault.UnpackFault.{UnpackFault}
 use Rattle.capn_pack.specs.declared.fault.UnpackFault.TheVariants as unpack_faults
-use Rattle.capn_pack.specs.Laws.GroupLaws.{no_group, head_of, group_same, one_reading, refused_only}
+use Rattle.capn_pack.specs.Laws.GroupLaws.{one_reading, refused_only}
+use Rattle.capn_pack.specs.Laws.RefusalLaws.{one_unpack_fault}
 use Rattle.capn_stream.specs.Reading as frames
 use Rattle.capn_stream.specs.declared.fault.FrameFault.{FrameFault}
 use Rattle.capn_stream.specs.declared.fault.FrameFault.TheVariants as frame_faults
@@ -22,9 +17,9 @@ use Rattle.capn_stream.specs.Laws.FrameLaws as frame_laws
 use Rattle.capn_value.specs.Tree.{Tree}
 use Rattle.capn_value.specs.Caps.{first_cap}
 use Rattle.capn_walk.specs.declared.walked.Stopped.{Stopped}
-use Rattle.capn_walk.specs.Accepted.{root}
+use Rattle.capn_walk.specs.Stops.{root}
 use Rattle.capn_walk.specs.Verdict.{refused}
-use Rattle.capn_walk.specs.Denotes as walks
+use Rattle.capn_walk.specs.Accepted as walks
 use Rattle.capn_walk.specs.Limits.{Bounds}
 use Rattle.capn_walk.specs.Laws.Stops.{stop-refused}
 use Rattle.capn_walk.specs.Laws.Unique.{unique}
@@ -36,102 +31,6 @@ use Rattle.capn_canon.specs.Reads.{IsFramed, Unpacks, Reads, Trails}
 use Rattle.capn_canon.specs.Refused.{IsMisframed, IsMisread, IsRefusedMessage, IsRefused}
 use Rattle.capn_canon.specs.Laws.OneReading.{one_message}
 use Rattle.capn_canon.specs.Laws.NotRefused.{accepted-not_refused}
-
--- ---- packed texts
-
--- a rest with this fault begins with no whole group for which there is room
-abbrev NoGroupFirst : (ℕ → List ℕ → Type 0) → Type 0
-NoGroupFirst Fault = (room : ℕ) (rest more : List ℕ) (g : Group) → IsGroup g → rest ≡ text g ++ more → words g ≤ room
-    → Fault room rest → ⊥
-
-cut-no_group : NoGroupFirst IsCut
-cut-no_group room rest more g h e fits cut = no_group room rest cut g more h e
-
-long-no_group : NoGroupFirst IsTooLong
-long-no_group room rest more g h e fits long = let a = head_of g more h in omega (arith, long.2, ap words_at e, a.count)
-
--- two rows of groups before such rests are one
-record SameRow (gs hs : List Group) (rest other : List ℕ) (left right : ℕ) : Type 0 where
-  texts_are : texts gs ≡ texts hs
-  rest_is : rest ≡ other
-  left_is : left ≡ right
-
-same_row : (P Q : ℕ → List ℕ → Type 0) → NoGroupFirst P → NoGroupFirst Q
-    → (gs hs : List Group) (rest other : List ℕ) (left right : ℕ) → AllByRecursion IsGroup gs
-    → AllByRecursion IsGroup hs
-    → texts gs ++ rest ≡ texts hs ++ other → left + word_count gs ≡ right + word_count hs → P left rest → Q right other
-    → SameRow gs hs rest other left right
-same_row P Q first also [] [] rest other left right p q e n f h =
-    record { texts_are = refl; rest_is = e; left_is = omega arith }
-same_row P Q first also [] (k ∷ ks) rest other left right p q e n f h =
-    absurd (first left rest (texts ks ++ other) k q.0 (e ∙ append_assoc (text k) (texts ks) other) (omega arith) f)
-same_row P Q first also (g ∷ gs) [] rest other left right p q e n f h =
-    absurd (also right other (texts gs ++ rest) g p.0 (sym e ∙ append_assoc (text g) (texts gs) rest) (omega arith) h)
-same_row P Q first also (g ∷ gs) (k ∷ ks) rest other left right p q e n f h =
-    let r = group_same g k (texts gs ++ rest) (texts ks ++ other) p.0 q.0 (sym (append_assoc (text g) (texts gs) rest)
-    ∙ e ∙ append_assoc (text k) (texts ks) other) in
-    let w : words g ≡ words k = ap words r.0 in
-    let count : left + word_count gs ≡ right + word_count ks = omega arith in
-    let s = same_row P Q first also gs ks rest other left right p.1 q.1 r.1 count f h in
-    record { texts_are = λ i. text (r.0 i) ++ s.texts_are i; rest_is = s.rest_is; left_is = s.left_is }
-
-module _ (b : List ℕ) (max : ℕ) where
-  same_stand : (P Q : ℕ → List ℕ → Type 0) → NoGroupFirst P → NoGroupFirst Q
-      → (at to : ℕ) (s : Stands P b max at) (t : Stands Q b max to)
-      → SameRow s.groups t.groups s.rest t.rest s.left t.left
-  same_stand P Q first also at to s t =
-      same_row P Q first also s.groups t.groups s.rest t.rest s.left t.left s.each t.each (sym s.text
-      ∙ t.text) (s.counted ∙ sym t.counted) s.fault t.fault
-
-  same_at : (P : ℕ → List ℕ → Type 0) → NoGroupFirst P → (at to : ℕ) → Stands P b max at → Stands P b max to → at ≡ to
-  same_at P first at to s t =
-      let row = same_stand P P first first at to s t in
-      s.offset ∙ ap length row.texts_are ∙ sym t.offset
-
-  never_both : (at to : ℕ) → Stands IsCut b max at → Stands IsTooLong b max to → ⊥
-  never_both at to s t =
-      let row = same_stand IsCut IsTooLong cut-no_group long-no_group at to s t in
-      let here : IsCut s.left t.rest = subst (λ (xs : List ℕ). IsCut s.left xs) row.rest_is s.fault in
-      let cut : IsCut t.left t.rest = subst (λ (n : ℕ). IsCut n t.rest) row.left_is here in
-      let fits = (cut.1 t.fault.1).0 in
-      let over = t.fault.2 in
-      omega arith
-
-  one_packed : (e f : UnpackFault) → packs.IsRefused b max e → packs.IsRefused b max f → (e ≡ unpack_faults.Memory → ⊥)
-      → (f ≡ unpack_faults.Memory → ⊥) → e ≡ f
-  one_packed unpack_faults.Memory f r s ne nf = absurd (ne refl)
-  one_packed unpack_faults.Failed f r s ne nf = absurd r
-  one_packed (unpack_faults.Cut at) unpack_faults.Memory r s ne nf = absurd (nf refl)
-  one_packed (unpack_faults.Cut at) unpack_faults.Failed r s ne nf = absurd s
-  one_packed (unpack_faults.Cut at) (unpack_faults.Cut to) r s ne nf =
-      ap (λ (n : ℕ). unpack_faults.Cut n) (same_at IsCut cut-no_group at to r s)
-  one_packed (unpack_faults.Cut at) (unpack_faults.TooLong to) r s ne nf = absurd (never_both at to r s)
-  one_packed (unpack_faults.TooLong at) unpack_faults.Memory r s ne nf = absurd (nf refl)
-  one_packed (unpack_faults.TooLong at) unpack_faults.Failed r s ne nf = absurd s
-  one_packed (unpack_faults.TooLong at) (unpack_faults.Cut to) r s ne nf = absurd (never_both to at s r)
-  one_packed (unpack_faults.TooLong at) (unpack_faults.TooLong to) r s ne nf =
-      ap (λ (n : ℕ). unpack_faults.TooLong n) (same_at IsTooLong long-no_group at to r s)
-
--- a packed text is refused for one reason, but for want of memory
-pub one_unpack_fault : (b : List ℕ) (max : ℕ) (e f : UnpackFault) → packs.IsRefused b max e → packs.IsRefused b max f
-    → (e ≡ unpack_faults.Memory → ⊥) → (f ≡ unpack_faults.Memory → ⊥) → e ≡ f
-one_unpack_fault b max e f r s ne nf = one_packed b max e f r s ne nf
-
--- ---- bare bytes
-
--- bare bytes are refused for one reason
-pub one_bare_fault : (bs : List ℕ) (e f : BareFault) → ReadsBare bs (Err e) → ReadsBare bs (Err f) → e ≡ f
-one_bare_fault bs (NotWhole m) (NotWhole n) r s = ap (λ (k : ℕ). NotWhole k) (r.0 ∙ sym s.0)
-one_bare_fault bs (NotWhole m) (TooLong n) r s = let l = s.0 in absurd (r.1 (omega arith))
-one_bare_fault bs (TooLong m) (NotWhole n) r s = let l = r.0 in absurd (s.1 (omega arith))
-one_bare_fault bs (TooLong m) (TooLong n) r s = let l = r.0 in let k = s.0 in let same : m ≡ n = omega arith in
-    ap (λ (k : ℕ). TooLong k) same
-
--- bare bytes that are read are not refused
-pub bare_not_misread : (bs ws : List ℕ) (e : BareFault) → IsBare bs ws → ReadsBare bs (Err e) → ⊥
-bare_not_misread bs ws (NotWhole n) h r = let l = bare_length bs ws h in r.1 (omega arith)
-bare_not_misread bs ws (TooLong n) h r = let l = bare_length bs ws h in let m = h.room in let a = r.0 in let b = r.1 in
-    absurd (omega arith)
 
 -- ---- the parts of a refusal
 
@@ -243,7 +142,7 @@ packed_read bs most m r (t, u, h) (inr (x, v, k)) =
 
 not_misread : (form : Form) (bs : List ℕ) (most : ℕ) (m : List (List ℕ)) (r : Refusal) → Reads form bs most m
     → IsMisread form bs most r → ⊥
-not_misread forms.Bare bs most m r h k = let a = bare_part bs most r k in bare_not_misread bs h.0 a.0 h.1 a.2
+not_misread forms.Bare bs most m r h k = let a = bare_part bs most r k in bare_not_refused bs h.0 a.0 h.1 a.2
 not_misread forms.Stream bs most m r h k = framed_read bs most m r h (frame_part bs most r k)
 not_misread forms.Packed bs most m r h k = packed_read bs most m r h (packed_part bs most r k)
 

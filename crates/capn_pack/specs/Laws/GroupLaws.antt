@@ -63,8 +63,8 @@ pub no_group : (room : ℕ) (rest : List ℕ) → IsCut room rest → (g : Group
     → rest ≡ text g ++ more → ⊥
 no_group room rest cut g more is e =
     let h = head_of g more is in
-    let long : length rest < len_at rest = (cut.1 (subst HasHead (sym e) h.head)).1 in
-    omega (arith, long, ap length e, ap len_at e, h.long, length-append (text g) more)
+    let head = subst HasHead (sym e) h.head in
+    grind (arith, cut, head, ap length e, ap len_at e, h.long, length-append (text g) more)
 
 -- ---- two readings of one text
 

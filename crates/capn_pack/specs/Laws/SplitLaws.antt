@@ -115,7 +115,7 @@ no_raw bs tag great (Raw _ n further) more is e = absurd (omega (arith, is.0))
 
 zeros_first : (bs : List ℕ) → 0 < length bs → get_or bs 0 0 ≡ 0 → First bs ⊎ NoGroupFirst bs
 zeros_first bs some tag = elim (cases_lt (length bs) 2) [
-  | inl short ↦ inr (no_group 0 bs (some, λ head. absurd (grind (arith, nat_tests))))
+  | inl short ↦ inr (no_group 0 bs (some, inl (grind (arith, nat_tests))))
   | inr long ↦ elim (cases_lt (get_or bs 1 0) 256) [
     | inl small ↦ inl
         (first_of bs 2 (Zeros (get_or bs 1 0)) small (take_two bs long ∙ ap (λ (b : ℕ). b ∷ get_or bs 1 0 ∷ []) tag))
@@ -126,7 +126,7 @@ zeros_first bs some tag = elim (cases_lt (length bs) 2) [
 raw_first : (bs : List ℕ) → 0 < length bs → get_or bs 0 0 ≡ 255 → First bs ⊎ NoGroupFirst bs
 raw_first bs some tag = elim (cases_lt (get_or bs 9 0) 256) [
   | inl small ↦ elim (cases_lt (length bs) (10 + 8 * get_or bs 9 0)) [
-    | inl short ↦ inr (no_group 256 bs (some, λ head. rw tag (omega (arith, small), omega (arith, short))))
+    | inl short ↦ inr (no_group 256 bs (some, inr (rw tag (omega (arith, small), omega (arith, short)))))
     | inr long ↦ inl
         (first_of bs (10 + 8 * get_or bs 9 0)
         (Raw (slice_range bs 1 9) (get_or bs 9 0) (slice_range bs 10 (10 + 8 * get_or bs 9 0)))
@@ -141,7 +141,7 @@ named_first : (bs : List ℕ) → 0 < length bs → 0 < get_or bs 0 0 → get_or
 named_first bs some above below =
     let tag : ℕ = get_or bs 0 0 in
     elim (cases_lt (length bs) (1 + count_ones tag)) [
-      | inl short ↦ inr (no_group 0 bs (some, λ head. absurd (grind (arith, nat_tests))))
+      | inl short ↦ inr (no_group 0 bs (some, inl (grind (arith, nat_tests))))
       | inr long ↦
           (let w = named_word 8 tag (drop 1 bs) (omega arith) (omega (arith, length-drop 1 bs, long)) in
           inl (first_of bs (1 + count_ones tag) (Named tag w.word) (above, below, w.size, w.named)

@@ -1,18 +1,16 @@
 -- Groups at the front of a stream.
-use Rattle.std.proofs.Common.{◌≡◌, ℕ, ◌+◌, ◌-◌, ◌*◌, ◌^◌, ◌<◌, ◌≤◌, ◌⊎◌, inl, inr, Bool, true, false, cond, eqb, List}
-use Rattle.std.proofs.Common.{[], ◌∷◌, ◌++◌, length, take, drop, get_or, slice_range, refl, sym, ap, ◌∙◌, subst, arith}
+use Rattle.std.proofs.Common.{◌≡◌, ℕ, ◌+◌, ◌-◌, ◌<◌, ◌≤◌, ◌⊎◌, inl, inr, List}
+use Rattle.std.proofs.Common.{[], ◌∷◌, ◌++◌, length, take, drop, slice_range, refl, sym, ap, ◌∙◌, subst, arith}
 use Rattle.std.proofs.Common.{append_assoc, length-append, take-append-drop, length-take, take_all}
 use Rattle.std.proofs.lemmas.Bool.{cases_lt}
 use Rattle.std.proofs.lemmas.List.{append-nil, take-append-le, take-take}
 use Rattle.std.proofs.Math.Seq.{take-append-add}
-use Rattle.std.proofs.lemmas.Nat.{ones-le}
-use Rattle.std.specs.Prelude.{count_ones}
 use Rattle.std.proofs.lemmas.Grind.{flat_map-append}
 use Rattle.capn_pack.specs.Group.{text, content}
 use Rattle.capn_pack.specs.Packs.{texts, contents}
 use Rattle.capn_pack.specs.Steps.{Takes, TakesRow}
 use Rattle.capn_pack.specs.Stream.{Splits, Begins, NoGroupFirst}
-use Rattle.capn_pack.specs.Refusal.{IsCut, head_len, len_at}
+use Rattle.capn_pack.specs.Refusal.{IsCut}
 use Rattle.capn_pack.specs.Joins.{Joins}
 use Rattle.capn_pack.specs.declared.unpack_piece.Joined.TheVariants as joins
 use Rattle.capn_pack.specs.Laws.GroupLemmas.{rest_is, each_append, text_some}
@@ -49,33 +47,6 @@ pub splits_cut : (bytes : List ℕ) (at : ℕ) (old out : List ℕ) (room : ℕ)
     → IsCut room (slice_range bytes at (length bytes)) → Splits bytes (drop at bytes) old out at
 splits_cut bytes at old out room u cut =
     splits bytes at old out u (no_group room (drop at bytes) (subst (IsCut room) (rest_is bytes at) cut))
-
--- a head is short, and so is a group
-few_ones : (tag : ℕ) → tag < 2 ^ 8 → count_ones tag ≤ 8
-few_ones tag h = ones-le 8 tag h
-
-head_short : (tag : ℕ) → tag < 2 ^ 8 → head_len tag ≤ 10
-head_short tag h = choose (eqb tag 0) (eqb tag 255)
-  where
-    choose : (a b : Bool) → cond a 2 (cond b 10 (1 + count_ones tag)) ≤ 10
-    choose true b = omega arith
-    choose false true = omega arith
-    choose false false = omega (arith, few_ones tag h)
-
-group_short : (rest : List ℕ) → ((i : ℕ) → get_or rest i 0 < 2 ^ 8) → len_at rest ≤ 2050
-group_short rest fits = choose (eqb (get_or rest 0 0) 255)
-  where
-    choose : (b : Bool) → cond b (10 + 8 * get_or rest 9 0) (head_len (get_or rest 0 0)) ≤ 2050
-    choose true = omega (arith, fits 9)
-    choose false = omega (arith, head_short (get_or rest 0 0) (fits 0))
-
--- a cut rest is shorter than the longest group
-pub cut_short : (room : ℕ) (rest : List ℕ) → ((i : ℕ) → get_or rest i 0 < 2 ^ 8) → IsCut room rest → length rest < 2050
-cut_short room rest fits cut =
-    elim (cases_lt (length rest) (head_len (get_or rest 0 0))) [
-      | inl less ↦ omega (arith, head_short (get_or rest 0 0) (fits 0))
-      | inr le ↦ omega (arith, (cut.1 le).1, group_short rest fits)
-    ]
 
 -- ---- an unfinished group and what comes
 
@@ -206,7 +177,3 @@ splits_then stream rest piece after old mid new len more s t =
       size = omega (arith, s.size, t.size, ap length texts_are, length-append (texts s.groups) (texts t.groups));
       open_rest = t.open_rest;
     }
-
--- nothing splits into nothing
-pub splits_nothing : (old : List ℕ) → Splits [] [] old old 0
-splits_nothing old = splits_open [] old old nothing_first refl

@@ -8,7 +8,7 @@ use Rattle.std.proofs.lemmas.List.{take-take}
 use Rattle.std.proofs.lemmas.List.Sums.{sum_by_push}
 use Rattle.std.proofs.lemmas.Nat.{le_bytes_4}
 use Rattle.byteorder.specs.Endian.{little_from}
-use Rattle.byteorder.specs.Numbers.{little_from-take, little_from-lt, little_number-reads_back}
+use Rattle.byteorder.specs.Numbers.{little_from-take, little_number-reads_back}
 use Rattle.capn_words.specs.Words.{AreBytes}
 use Rattle.capn_stream.specs.Frames.{entry}
 use Rattle.capn_stream.specs.Reading.{entry_number, entries}
@@ -46,11 +46,6 @@ length-entry n = refl
 pub entry_number-entry : (n : ℕ) (rest : List ℕ) → n < 2 ^ 32 → entry_number (entry n ++ rest) ≡ n
 unfolding entry entry_number
 entry_number-entry n rest h = little_number-reads_back 4 n rest h
-
--- an entry's number has 32 bits
-pub entry_number-lt : (bs : List ℕ) → AreBytes bs → entry_number bs < 2 ^ 32
-unfolding entry_number
-entry_number-lt bs h = little_from-lt 0 4 bs h
 
 -- the bytes of a number that is read are those from which it was read
 pub entry-entry_number : (bs : List ℕ) → AreBytes bs → 4 ≤ length bs → entry (entry_number bs) ≡ take 4 bs

@@ -4,22 +4,22 @@ use Rattle.std.proofs.Common.{sum, map, replicate, slice_index, refl, ap, sym, s
 use Rattle.std.proofs.Common.{length-append}
 use Rattle.std.specs.List.{flat_map}
 use Rattle.std.proofs.lemmas.Grind.{flat_map-append}
-use Rattle.std.proofs.lemmas.List.{drop_at, length-map, length-replicate, length-take-le, take-append-drop, take_all}
+use Rattle.std.proofs.lemmas.List.{drop_at, length-map, length-take-le, take-append-drop, take_all}
 use Rattle.std.proofs.lemmas.List.{take_at}
 use Rattle.std.proofs.lemmas.List.Sums.{sum-map, sum_by-cons}
 use Rattle.capn_words.specs.Message.{bytes, segment_at, total, IsMessage, word_bytes}
 use Rattle.capn_words.specs.Words.{AreBytes, AreWords}
+use Rattle.capn_words.specs.Laws.Words.{bytes-injective, length-bytes}
 use Rattle.capn_stream.specs.Cuts.{cut, ends_from}
-use Rattle.capn_stream.specs.Frames.{FitsTable, Frames, StandsFirst, contents, entry, frame_text, padding}
-use Rattle.capn_stream.specs.Reading.{IsRefused, IsWhole, announced_segments, entries, entry_number, frame_length}
-use Rattle.capn_stream.specs.Reading.{head_length, announced_words}
+use Rattle.capn_stream.specs.Frames.{FitsTable, Frames, StandsFirst, contents, entry, padding}
+use Rattle.capn_stream.specs.Reading.{IsRefused, IsWhole, announced_segments, announced_words, entries}
+use Rattle.capn_stream.specs.Reading.{entry_number, frame_length, head_length}
 use Rattle.capn_stream.specs.declared.fault.FrameFault.{FrameFault}
 use Rattle.capn_stream.specs.declared.fault.FrameFault.TheVariants.{Memory, Empty, TooManySegments, TooManyWords, Cut}
 use Rattle.capn_stream.specs.declared.fault.FrameFault.TheVariants.{Failed}
 use Rattle.capn_stream.specs.Laws.Ends.{cut-joined, joined}
 use Rattle.capn_stream.specs.Laws.Entries.{entries-entry, entries_more, entry_number-entry, length-entry}
 use Rattle.capn_stream.specs.Laws.Entries.{length-entry_all}
-use Rattle.capn_stream.specs.Laws.SegmentBytes.{length-bytes, same_words}
 
 -- ---- the parts of a frame
 
@@ -182,7 +182,7 @@ refused_whole bs most Memory w r = refl
 refused_whole bs most Empty w r = absurd (omega arith)
 refused_whole bs most (TooManySegments n) w r = absurd (omega arith)
 refused_whole bs most (TooManyWords n) w r = absurd (omega arith)
-refused_whole bs most Cut w r = absurd (omega (arith, ((r.1 w.0.0.0).1 w.0.1).1))
+refused_whole bs most Cut w r = absurd (grind (arith, r, w))
 refused_whole bs most Failed w r = absurd r
 
 -- ---- one refusal
@@ -197,24 +197,24 @@ one_refusal bs most Empty Failed r s other also = absurd s
 one_refusal bs most Empty Empty r s other also = refl
 one_refusal bs most Empty (TooManySegments m) r s other also = absurd (omega arith)
 one_refusal bs most Empty (TooManyWords m) r s other also = absurd (omega arith)
-one_refusal bs most Empty Cut r s other also = absurd (omega arith)
+one_refusal bs most Empty Cut r s other also = absurd (grind (arith, r, s))
 one_refusal bs most (TooManySegments n) Memory r s other also = absurd (also refl)
 one_refusal bs most (TooManySegments n) Failed r s other also = absurd s
 one_refusal bs most (TooManySegments n) Empty r s other also = absurd (omega arith)
 one_refusal bs most (TooManySegments n) (TooManySegments m) r s other also = ap TooManySegments (r.1 ∙ sym s.1)
 one_refusal bs most (TooManySegments n) (TooManyWords m) r s other also = absurd (omega arith)
-one_refusal bs most (TooManySegments n) Cut r s other also = absurd (omega (arith, (s.1 r.0).0, r.1, r.2))
+one_refusal bs most (TooManySegments n) Cut r s other also = absurd (grind (arith, r, s))
 one_refusal bs most (TooManyWords n) Memory r s other also = absurd (also refl)
 one_refusal bs most (TooManyWords n) Failed r s other also = absurd s
 one_refusal bs most (TooManyWords n) Empty r s other also = absurd (omega arith)
 one_refusal bs most (TooManyWords n) (TooManySegments m) r s other also = absurd (omega arith)
 one_refusal bs most (TooManyWords n) (TooManyWords m) r s other also = ap TooManyWords (r.1 ∙ sym s.1)
-one_refusal bs most (TooManyWords n) Cut r s other also = absurd (omega (arith, ((s.1 r.0.0.0).1 r.0.1).0, r.1, r.2))
+one_refusal bs most (TooManyWords n) Cut r s other also = absurd (grind (arith, r, s))
 one_refusal bs most Cut Memory r s other also = absurd (also refl)
 one_refusal bs most Cut Failed r s other also = absurd s
-one_refusal bs most Cut Empty r s other also = absurd (omega arith)
-one_refusal bs most Cut (TooManySegments m) r s other also = absurd (omega (arith, (r.1 s.0).0, s.1, s.2))
-one_refusal bs most Cut (TooManyWords m) r s other also = absurd (omega (arith, ((r.1 s.0.0.0).1 s.0.1).0, s.1, s.2))
+one_refusal bs most Cut Empty r s other also = absurd (grind (arith, r, s))
+one_refusal bs most Cut (TooManySegments m) r s other also = absurd (grind (arith, r, s))
+one_refusal bs most Cut (TooManyWords m) r s other also = absurd (grind (arith, r, s))
 one_refusal bs most Cut Cut r s other also = refl
 
 -- ---- one frame
@@ -229,7 +229,7 @@ one_frame bs most limit m n taken length f g =
     let last : ℕ = entry_number (drop (4 * entry_number bs) (drop 4 bs)) in
     let all = entries_more (entry_number bs) (drop 4 bs) in
     let same = bytes-joined m ∙ sym a.contents_are ∙ b.contents_are ∙ sym (bytes-joined n) in
-    let words = same_words (joined m) (joined n) (AreWords-joined m f.frame.fits.each)
+    let words = bytes-injective (joined m) (joined n) (AreWords-joined m f.frame.fits.each)
     (AreWords-joined n g.frame.fits.each) same in (
       sym (cut-joined m sizes last 0 [] (sym a.sizes ∙ all) refl)
           ∙ ap (λ (ws : List ℕ). cut 0 (ends_from 0 sizes) ws) words
@@ -243,16 +243,6 @@ zeros_below : (n : ℕ) → AreBytes (replicate n 0)
 zeros_below zero i = omega arith
 zeros_below (suc n) zero = omega arith
 zeros_below (suc n) (suc i) = zeros_below n i
-
--- the frame of a message frames it
-pub Frames-frame_text : (message : List (List ℕ)) → IsMessage message → Frames (frame_text message) message
-Frames-frame_text message h = record {
-  fits = FitsTable-message message h;
-  gap = replicate (padding (length message)) 0;
-  gap_bytes = zeros_below (padding (length message));
-  gap_length = length-replicate (padding (length message)) 0;
-  text = refl;
-}
 
 -- all of a frame stands first in it
 pub stands_alone : (bs : List ℕ) (most : ℕ) (message : List (List ℕ)) → Frames bs message → total message ≤ most

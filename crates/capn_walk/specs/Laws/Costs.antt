@@ -14,7 +14,7 @@ use Rattle.capn_walk.specs.declared.target.Shape.{Shape}
 use Rattle.capn_walk.specs.declared.target.Shape.TheVariants as shapes
 use Rattle.capn_walk.specs.Target.{target}
 use Rattle.capn_walk.specs.Visits.{Visit, pays, fails, price, places, row_places, slots, visits}
-use Rattle.capn_walk.specs.Accepted.{paid_of, AllPay}
+use Rattle.capn_walk.specs.Stops.{paid_of, AllPay}
 use Rattle.capn_walk.specs.At.{IsAt, AreAt, RowsAt}
 use Rattle.capn_words.specs.Laws.FieldBits.{pick}
 use Rattle.capn_walk.specs.Laws.Inside.{inside}
@@ -72,10 +72,6 @@ module _ (m : List (List ℕ)) (base : ℕ) where
       let o = visits-object m base at s start pads shape e (suc d) (omega arith) in
       let f = rw o at h in
       record { deep = omega arith; below = f; sum = ap paid_of o }
-
-  slots-behind : (f : Place → List Visit) (p : Place) (ps : List Place) → AllPay (flat_map f (p ∷ ps)) → AllPay (f p)
-      × AllPay (flat_map f ps)
-  slots-behind f p ps h = (all-front (f p) (flat_map f ps) h, all-back (f p) (flat_map f ps) h)
 
   mutual
     pub cost-paid : (v : Tree) (at : Place) (d : ℕ) → IsAt m at v → AllPay (visits m base d at)

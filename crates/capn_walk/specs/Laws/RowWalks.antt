@@ -14,7 +14,7 @@ use Rattle.capn_walk.specs.declared.walked.Stopped.{Stopped}
 use Rattle.capn_walk.specs.Visits.{Visit, places, row_places}
 use Rattle.capn_walk.specs.Verdict.{accepted, refused, after, judge}
 use Rattle.capn_walk.specs.At.{AreAt, RowsAt, AreWords, words_from}
-use Rattle.capn_walk.specs.Walked.{Gives, Refuses}
+use Rattle.capn_walk.specs.Verdict.{Gives, Refuses}
 use Rattle.capn_walk.specs.Laws.Judge.{judge-more, judge-stops}
 
 -- one more of several things of the same size

@@ -20,9 +20,11 @@ use Rattle.capn_walk.specs.Target.{target}
 use Rattle.capn_walk.specs.Visits.{Visit, pays, fails, price, places, slots, visits, visit, last_visit}
 use Rattle.capn_walk.specs.Verdict.{accepted, refused, after, judge}
 use Rattle.capn_walk.specs.At.{IsAt, AreAt, RowsAt, words_from}
-use Rattle.capn_walk.specs.Walked.{Gives, Refuses, IsInside, slot_count}
+use Rattle.capn_walk.specs.Verdict.{Gives, Refuses}
+use Rattle.capn_walk.specs.At.{IsInside}
+use Rattle.capn_walk.specs.Shapes.{slot_count}
 use Rattle.capn_walk.specs.Laws.Inside.{inside, slots-price}
-use Rattle.capn_walk.specs.Laws.Judge.{judge-more, judge-stops, judge-pays, judge-over}
+use Rattle.capn_walk.specs.Laws.Judge.{judge-more, judge-stops, judge-pays}
 
 -- the place of a word
 abbrev pub slot : ℕ → ℕ → Place
@@ -53,10 +55,6 @@ module _ (f : Place → List Visit) (s w : ℕ) where
       → all n ≡ all i ++ (f (slot s (w + i)) ++ flat_map f (places s (w + i + 1) (n - suc i)))
   all-split i n h = ap (flat_map f) (places-split s w i n h)
       ∙ flat_map-append f (places s w i) (slot s (w + i) ∷ places s (w + i + 1) (n - suc i))
-
-  -- no slots are accepted and pay nothing
-  pub gives-none : (left : ℕ) → Gives left (all 0) 0 0 0
-  gives-none left = record { is = refl; within = omega arith; few = omega arith }
 
   all-next : (i : ℕ) → all (i + 1) ≡ all i ++ f (slot s (w + i))
   all-next i =
@@ -94,23 +92,6 @@ module _ (f : Place → List Visit) (s w : ℕ) where
     within = let a = g.within in let b = r.within in omega arith;
     few = let a = r.few in let b = g.few in omega arith;
   }
-
-  -- memory ran out behind i + 1 slots
-  pub no_memory : (left i n p k : ℕ) (t : Stopped) → i < n → t.fault ≡ faults.Memory → t.paid ≡ p → t.visits ≡ k →
-      Gives left (all (i + 1)) (i + 1) p k → Refuses left (all n) n t
-  no_memory left i n p k t h f x y g =
-      record { is = inl f; within = let a = g.within in omega arith; few = let a = g.few in omega arith }
-
--- what is said of the slots of an object, by its shape
-pub of-struct : (P : List Place → ℕ → Type 0) (s start first a b : ℕ) (shape : Shape) → shape ≡ shapes.Node a b
-    → first ≡ start + a →
-    P (places s first b) b → P (slots s start shape) (slot_count shape)
-of-struct P s start first a b shape e f h = rw (e, ← f) h
-
--- the same of a list of pointers
-pub of-links : (P : List Place → ℕ → Type 0) (s start n : ℕ) (shape : Shape) → shape ≡ shapes.Many Link n →
-    P (places s start n) n → P (slots s start shape) (slot_count shape)
-of-links P s start n shape e h = rw e h
 
 module _ (m : List (List ℕ)) where
   -- one more slot
@@ -171,7 +152,8 @@ module _ (m : List (List ℕ)) where
   module _ (base : ℕ) (at : Place) (s start pads : ℕ) (shape : Shape)
       (e : target m at ≡ Ok (targets.Content s start shape pads))
       (left d : ℕ) (deep : 0 < d) (room : price base shape + pads ≤ left) where
-    below : List Visit
+    -- the visits below it
+    abbrev pub below : List Visit
     below = flat_map (visits m base (d - 1)) (slots s start shape)
 
     few_slots : slot_count shape ≤ price base shape
@@ -179,12 +161,11 @@ module _ (m : List (List ℕ)) where
 
     -- an object is accepted where its slots are
     pub gives-object : (p k : ℕ)
-        → Gives (left - (price base shape + pads)) (flat_map (visits m base (d - 1)) (slots s start shape))
-        (slot_count shape) p k →
+        → Gives (left - (price base shape + pads)) below (slot_count shape) p k →
         Gives left (visits m base d at) 1 (price base shape + pads + p) (1 + k)
     gives-object p k g = record {
       is = ap (judge left) (visits-object base at s start pads shape e d deep)
-          ∙ judge-pays left (price base shape + pads) at (flat_map (visits m base (d - 1)) (slots s start shape)) room
+          ∙ judge-pays left (price base shape + pads) at below room
           ∙ ap (after (price base shape + pads) 1) g.is;
       within = let a = g.within in omega arith;
       few = let a = g.few in let b = few_slots in omega arith;
@@ -192,24 +173,16 @@ module _ (m : List (List ℕ)) where
 
     -- it is refused where one of them is
     pub refuses-object : (t : Stopped)
-        → Refuses (left - (price base shape + pads)) (flat_map (visits m base (d - 1)) (slots s start shape))
-        (slot_count shape) t →
+        → Refuses (left - (price base shape + pads)) below (slot_count shape) t →
         Refuses left (visits m base d at) 1
-        (record {
-          fault = t.fault;
-          place = t.place;
-          paid = price base shape + pads + t.paid;
-          visits =
-              1 + t.visits;
-        })
+        (record t { paid = price base shape + pads + t.paid; visits = 1 + t.visits })
     refuses-object t r = record {
       is = elim r.is as (λ _. (t.fault ≡ faults.Memory)
           ⊎ (judge left (visits m base d at)
           ≡ refused t.fault t.place (price base shape + pads + t.paid) (1 + t.visits))) [
             | inl x ↦ inl x
             | inr is ↦ inr (ap (judge left) (visits-object base at s start pads shape e d deep)
-                ∙ judge-pays left (price base shape + pads) at (flat_map (visits m base (d - 1)) (slots s start shape))
-                room
+                ∙ judge-pays left (price base shape + pads) at below room
                 ∙ ap (after (price base shape + pads) 1) is)
           ];
       within = let a = r.within in omega arith;
@@ -222,18 +195,6 @@ module _ (m : List (List ℕ)) where
       t ≡ record { fault = f; place = at; paid = 0; visits = 1 } → Refuses left (visits m base d at) 1 t
   refuses-here base at left d f t e h =
       rw h (record { is = inr (ap (judge left) e); within = omega arith; few = omega arith })
-
-  -- it is refused where its price is not left
-  pub refuses-price : (base : ℕ) (at : Place) (s start pads : ℕ) (shape : Shape) (left d : ℕ) (t : Stopped)
-      → target m at ≡ Ok (targets.Content s start shape pads) →
-      0 < d → left < price base shape + pads →
-      t ≡ record { fault = faults.OverBudget; place = at; paid = 0; visits = 1 } → Refuses left (visits m base d at) 1 t
-  refuses-price base at s start pads shape left d t e deep over h = rw h (record {
-    is = inr (ap (judge left) (visits-object base at s start pads shape e d deep)
-        ∙ judge-over left (price base shape + pads) at (flat_map (visits m base (d - 1)) (slots s start shape)) over);
-    within = omega arith;
-    few = omega arith;
-  })
 
   -- a visit that pays nothing is accepted
   pub gives-nothing : (base : ℕ) (at : Place) (left d : ℕ) → visits m base d at ≡ pays at 0 ∷ []

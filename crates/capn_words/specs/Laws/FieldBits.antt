@@ -1,5 +1,5 @@
 -- The fields of a pointer word are within their bits, and are found again there.
-use Rattle.std.proofs.Common.{◌≡◌, ◌≢◌, ℕ, zero, suc, ◌-◌, ◌^◌, ◌<◌, ◌≤◌, ◌==◌, nat_lt, Bool, true, false, ℤ, pos}
+use Rattle.std.proofs.Common.{◌≡◌, ◌≢◌, ℕ, suc, ◌-◌, ◌^◌, ◌<◌, ◌≤◌, ◌==◌, nat_lt, Bool, true, false, ℤ, pos}
 use Rattle.std.proofs.Common.{negsuc, refl, ap, ◌∙◌, arith, if◌then◌else◌}
 use Rattle.std.proofs.lemmas.Bool.Decides.{nat_tests}
 use Rattle.std.specs.Int.{from_bool}
@@ -26,14 +26,6 @@ pub if-no : {A : Type 0} (b : Bool) (x y : A) → b ≡ false → (if b then x e
 if-no true x y e = absurd cc
 if-no false x y e = refl
 
--- numbers whose test holds are equal
-pub test-true : (a b : ℕ) → (a == b) ≡ true → a ≡ b
-test-true a b e = grind (arith, nat_tests)
-
--- numbers whose test fails differ
-pub test-false : (a b : ℕ) → (a == b) ≡ false → a ≢ b
-test-false a b e = grind (arith, nat_tests)
-
 -- the test of equal numbers holds
 pub same-yes : (a b : ℕ) → a ≡ b → (a == b) ≡ true
 same-yes a b e = grind (arith, nat_tests)
@@ -50,17 +42,6 @@ less-no a b e = grind (arith, nat_tests)
 
 -- ---- offsets
 
--- 30 bits stand for an offset in range
-pub signed-fits : (n : ℕ) → n < 2 ^ 30 → FitsOffset (signed n)
-signed-fits n h =
-    pick FitsOffset (nat_lt n (2 ^ 29)) _ _ (λ e. grind (arith, nat_tests)) (λ e. grind (arith, nat_tests))
-
--- the bits of the offset that bits stand for
-pub signed-field : (n : ℕ) → n < 2 ^ 30 → offset_field (signed n) ≡ n
-signed-field n h =
-    pick (λ (z : ℤ). offset_field z ≡ n) (nat_lt n (2 ^ 29)) _ _ (λ e. refl) (λ e. let l : 2 ^ 29 ≤ n =
-    grind (arith, nat_tests) in omega arith)
-
 -- the bits of an offset are 30
 pub offset_field-lt : (o : ℤ) → FitsOffset o → offset_field o < 2 ^ 30
 offset_field-lt (pos n) h = omega arith
@@ -75,18 +56,6 @@ signed-again (negsuc n) h =
     if-no (nat_lt (2 ^ 30 - suc n) (2 ^ 29)) _ _ (less-no (2 ^ 30 - suc n) (2 ^ 29) high) ∙ ap negsuc back
 
 -- ---- widths
-
--- the code of the width of a code is that code
-pub width_code-width_of : (c : ℕ) → c < 8 → width_code (width_of c) ≡ c
-width_code-width_of zero h = refl
-width_code-width_of (suc zero) h = refl
-width_code-width_of (suc (suc zero)) h = refl
-width_code-width_of (suc (suc (suc zero))) h = refl
-width_code-width_of (suc (suc (suc (suc zero)))) h = refl
-width_code-width_of (suc (suc (suc (suc (suc zero))))) h = refl
-width_code-width_of (suc (suc (suc (suc (suc (suc zero)))))) h = refl
-width_code-width_of (suc (suc (suc (suc (suc (suc (suc zero))))))) h = refl
-width_code-width_of (suc (suc (suc (suc (suc (suc (suc (suc n)))))))) h = absurd (omega arith)
 
 -- a width's code has three bits
 pub width_code-lt : (k : Width) → width_code k < 8

@@ -1,8 +1,10 @@
--- A message of one segment, read from its bytes.
+-- A message of one segment, read from its bytes in one way, or refused for one reason.
 use Rattle.std.proofs.Common.{◌≡◌, ℕ, zero, suc, ◌*◌, ◌/◌, ◌%◌, ◌^◌, ◌<◌, ◌≤◌, List, [], ◌∷◌, length, drop, slice_index}
-use Rattle.std.proofs.Common.{refl, ap, sym, subst, ◌∙◌, arith}
+use Rattle.std.proofs.Common.{Err, refl, ap, sym, subst, ◌∙◌, arith}
 use Rattle.capn_words.specs.Limits.{most_words}
-use Rattle.capn_words.specs.Words.{word_number, words_in, bytes, AreBytes, AreWords, IsBare}
+use Rattle.capn_words.specs.Words.{word_number, words_in, bytes, AreBytes, AreWords, IsBare, ReadsBare}
+use Rattle.capn_words.specs.declared.bare.BareFault.{BareFault}
+use Rattle.capn_words.specs.declared.bare.BareFault.TheVariants.{NotWhole, TooLong}
 use Rattle.capn_words.specs.Message.{IsMessage, segment_at}
 use Rattle.capn_words.specs.Laws.Words.{length-words_in, word_in, words_below, bytes_of_words, length-bytes}
 use Rattle.capn_words.specs.Laws.Words.{words_of_bytes}
@@ -25,6 +27,31 @@ pub bare_only : (bs ws : List ℕ) → IsBare bs ws → words_in (length bs / 8)
 bare_only bs ws h =
     let n : length bs / 8 ≡ length ws = omega (arith, bare_length bs ws h) in
     rw (n, h.same) (words_of_bytes ws h.each)
+
+-- bytes are read in one way
+pub one_bare : (bs vs ws : List ℕ) → IsBare bs vs → IsBare bs ws → vs ≡ ws
+one_bare bs vs ws h k = sym (bare_only bs vs h) ∙ bare_only bs ws k
+
+-- they are refused for one reason
+pub one_bare_fault : (bs : List ℕ) (e f : BareFault) → ReadsBare bs (Err e) → ReadsBare bs (Err f) → e ≡ f
+one_bare_fault bs (NotWhole m) (NotWhole n) r s = ap (λ (k : ℕ). NotWhole k) (r.0 ∙ sym s.0)
+one_bare_fault bs (NotWhole m) (TooLong n) r s = let l = s.0 in absurd (r.1 (omega arith))
+one_bare_fault bs (TooLong m) (NotWhole n) r s = let l = r.0 in absurd (s.1 (omega arith))
+one_bare_fault bs (TooLong m) (TooLong n) r s =
+    let l = r.0 in
+    let k = s.0 in
+    let same : m ≡ n = omega arith in
+    ap (λ (k : ℕ). TooLong k) same
+
+-- bytes that are read are not refused
+pub bare_not_refused : (bs ws : List ℕ) (e : BareFault) → IsBare bs ws → ReadsBare bs (Err e) → ⊥
+bare_not_refused bs ws (NotWhole n) h r = let l = bare_length bs ws h in r.1 (omega arith)
+bare_not_refused bs ws (TooLong n) h r =
+    let l = bare_length bs ws h in
+    let m = h.room in
+    let a = r.0 in
+    let b = r.1 in
+    absurd (omega arith)
 
 only_segment : (ws : List ℕ) → AreWords ws → (s k : ℕ) → slice_index (segment_at (ws ∷ []) s) k < 2 ^ 64
 only_segment ws each zero k = each k

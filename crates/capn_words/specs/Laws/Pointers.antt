@@ -1,55 +1,13 @@
--- A word says one pointer, which `pointer_of` reads, and a pointer that fits has one word.
-use Rattle.std.proofs.Common.{◌≡◌, ◌≢◌, ℕ, ◌+◌, ◌*◌, ◌/◌, ◌%◌, ◌^◌, ◌<◌, ◌==◌, Bool, true, false, ◌↔◌, ℤ, refl, ap, sym}
-use Rattle.std.proofs.Common.{◌∙◌, arith}
+-- A pointer that fits has one word, of which `pointer_of` reads it, and no other pointer has that word.
+use Rattle.std.proofs.Common.{◌≡◌, ◌≢◌, ℕ, ◌+◌, ◌*◌, ◌/◌, ◌%◌, ◌^◌, ◌<◌, ◌==◌, Bool, ℤ, refl, ap, ◌∙◌, arith}
 use Rattle.std.specs.Int.{from_bool}
 use Rattle.capn_words.specs.Fields.{Fields, Fits, FitsOffset, offset_field, width_code, word_of}
 use Rattle.capn_words.specs.Pointers.{field, signed, width_of, other_pointer, pointer_of}
 use Rattle.capn_words.specs.declared.pointer.Pointer.{Pointer}
 use Rattle.capn_words.specs.declared.pointer.Pointer.TheVariants.{Nil, Node, Many, Far, Cap, Reserved}
 use Rattle.capn_words.specs.declared.pointer.Width.{Width}
-use Rattle.capn_words.specs.Laws.FieldBits.{pick, if-yes, if-no, test-true, test-false, same-yes, same-no, signed-fits}
-use Rattle.capn_words.specs.Laws.FieldBits.{signed-field, offset_field-lt, signed-again, width_code-width_of}
+use Rattle.capn_words.specs.Laws.FieldBits.{if-yes, if-no, same-yes, same-no, offset_field-lt, signed-again}
 use Rattle.capn_words.specs.Laws.FieldBits.{width_code-lt, width_of-width_code, from_bool-le, bool-again}
-
--- ---- what `pointer_of` answers has the word's fields
-
-is-struct : (w : ℕ) → w < 2 ^ 64 → w ≢ 0 → w % 4 ≡ 0
-    → Fields w (Node (signed (field 2 30 w)) (field 32 16 w) (field 48 16 w))
-is-struct w h n k =
-    let e = signed-field (field 2 30 w) (omega arith) in
-    ((signed-fits (field 2 30 w) (omega arith), omega arith, omega arith, omega arith), omega arith)
-
-is-list : (w : ℕ) → w < 2 ^ 64 → w % 4 ≡ 1
-    → Fields w (Many (signed (field 2 30 w)) (width_of (field 32 3 w)) (field 35 29 w))
-is-list w h k =
-    let e = signed-field (field 2 30 w) (omega arith) in
-    let c = width_code-width_of (field 32 3 w) (omega arith) in
-    ((signed-fits (field 2 30 w) (omega arith), omega arith), omega arith)
-
-is-far : (w : ℕ) → w < 2 ^ 64 → w % 4 ≡ 2 → (b : Bool) → (field 2 1 w == 1) ≡ b
-    → Fields w (Far b (field 3 29 w) (field 32 32 w))
-is-far w h k true e = let x = test-true (field 2 1 w) 1 e in ((omega arith, omega arith), omega arith)
-is-far w h k false e = let x = test-false (field 2 1 w) 1 e in ((omega arith, omega arith), omega arith)
-
-is-cap : (w : ℕ) → w < 2 ^ 64 → w % 4 ≡ 3 → field 2 30 w ≡ 0 → Fields w (Cap (field 32 32 w))
-is-cap w h k z = (omega arith, omega arith)
-
-is-reserved : (w : ℕ) → w < 2 ^ 64 → w % 4 ≡ 3 → field 2 30 w ≢ 0 → Fields w (Reserved w)
-is-reserved w h k z = ((h, k, omega arith), refl)
-
-pub Fields-pointer_of : (w : ℕ) → w < 2 ^ 64 → Fields w (pointer_of w)
-unfolding pointer_of
-Fields-pointer_of w h =
-    pick (Fields w) (w == 0) _ _ (λ e. (tt, test-true w 0 e)) (λ n.
-    pick (Fields w) (w % 4 == 0) _ _ (λ e. is-struct w h (test-false w 0 n) (test-true (w % 4) 0 e)) (λ x.
-    pick (Fields w) (w % 4 == 1) _ _ (λ e. is-list w h (test-true (w % 4) 1 e)) (λ y.
-    pick (Fields w) (w % 4 == 2) _ _ (λ e. is-far w h (test-true (w % 4) 2 e) _ refl) (λ z.
-    let a = test-false (w % 4) 0 x in
-    let b = test-false (w % 4) 1 y in
-    let c = test-false (w % 4) 2 z in
-    pick (Fields w) (field 2 30 w == 0) _ _
-    (λ e. is-cap w h (omega arith) (test-true (field 2 30 w) 0 e))
-    (λ e. is-reserved w h (omega arith) (test-false (field 2 30 w) 0 e))))))
 
 -- ---- `pointer_of` reads the fields of which a word is the sum
 
@@ -133,15 +91,3 @@ word_of-lt (Reserved n) h = h.0
 -- the only pointer whose fields a word has is the one that `pointer_of` reads
 pub Fields-only : (w : ℕ) (p : Pointer) → Fields w p → pointer_of w ≡ p
 Fields-only w p h = ap pointer_of h.1 ∙ pointer_of-word_of p h.0
-
--- the fields of a word's pointer are in their ranges
-pub Fits-pointer_of : (w : ℕ) → w < 2 ^ 64 → Fits (pointer_of w)
-Fits-pointer_of w h = (Fields-pointer_of w h).0
-
--- the word of the pointer in a word is that word
-pub word_of-pointer_of : (w : ℕ) → w < 2 ^ 64 → word_of (pointer_of w) ≡ w
-word_of-pointer_of w h = sym (Fields-pointer_of w h).1
-
--- what the clause of `split` by fields says of its answer
-pub split_is : (w : ℕ) (p : Pointer) → w < 2 ^ 64 → ((q : Pointer) → Fields w q ↔ (p ≡ q)) → p ≡ pointer_of w
-split_is w p h e = (e (pointer_of w)).0 (Fields-pointer_of w h)

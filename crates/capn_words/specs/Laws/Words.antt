@@ -1,11 +1,11 @@
 -- Words and their bytes determine each other.
 use Rattle.std.proofs.Common.{◌≡◌, ℕ, zero, suc, ◌+◌, ◌*◌, ◌/◌, ◌%◌, ◌^◌, ◌<◌, ◌≤◌, List, [], ◌∷◌, ◌++◌, length, take}
 use Rattle.std.proofs.Common.{drop, slice_index, refl, ap, sym, ◌∙◌, arith, length-append, length-drop}
+use Rattle.std.proofs.Math.Seq.{take-append-add}
 use Rattle.std.proofs.Math.Nat.{div-div-eq-div-mul, pow-succ'}
 use Rattle.std.specs.Int.{byte_at, bytes_low_first}
-use Rattle.std.proofs.lemmas.List.{drop-drop, get_or-drop, length-take-le, drop_at, take_at, take-append-drop}
+use Rattle.std.proofs.lemmas.List.{drop-drop, get_or-drop, drop_at, take-append-drop}
 use Rattle.std.proofs.lemmas.List.{nil_from_length}
-use Rattle.std.proofs.lemmas.List.Concat.{flat_map-append}
 use Rattle.byteorder.specs.Endian.{little_from}
 use Rattle.byteorder.specs.Numbers.{little_from-cons, little_from-lt, little_number-reads_back}
 use Rattle.capn_words.specs.Words.{word_bytes, word_number, words_in, bytes, AreBytes, AreWords}
@@ -135,10 +135,6 @@ bytes-injective vs ws hv hw e =
     sym (words_of_bytes vs hv) ∙ ap (λ (n : ℕ). words_in n (bytes vs)) same
     ∙ ap (λ (bs : List ℕ). words_in (length ws) bs) e ∙ words_of_bytes ws hw
 
--- the bytes of words joined are their bytes joined
-pub bytes-append : (vs ws : List ℕ) → bytes (vs ++ ws) ≡ bytes vs ++ bytes ws
-bytes-append vs ws = flat_map-append word_bytes vs ws
-
 -- the bytes from word n on
 pub bytes-drop : (n : ℕ) (ws : List ℕ) → drop (8 * n) (bytes ws) ≡ bytes (drop n ws)
 bytes-drop zero ws = refl
@@ -150,21 +146,15 @@ bytes-drop (suc n) (w ∷ ws) =
     ∙ bytes-drop n ws)
 
 -- the bytes of the first n words
-pub bytes-take : (n : ℕ) (ws : List ℕ) → n ≤ length ws → take (8 * n) (bytes ws) ≡ bytes (take n ws)
-bytes-take n ws h =
-    let whole = ap bytes (take-append-drop n ws) in
-    let split = bytes-append (take n ws) (drop n ws) in
-    let len : length (bytes (take n ws)) ≡ 8 * n = omega (arith, length-bytes (take n ws), length-take-le n ws h) in
-    ap (λ (bs : List ℕ). take (8 * n) bs) (sym whole ∙ split)
-    ∙ take_at (bytes (take n ws)) (bytes (drop n ws)) (8 * n) len
+pub bytes-take : (n : ℕ) (ws : List ℕ) → take (8 * n) (bytes ws) ≡ bytes (take n ws)
+bytes-take zero ws = refl
+bytes-take (suc n) [] = let e : 8 * suc n ≡ suc (7 + 8 * n) = omega arith in rw e refl
+bytes-take (suc n) (w ∷ ws) =
+    let e : 8 * suc n ≡ length (word_bytes w) + 8 * n = omega (arith, length-word_bytes w) in
+    rw e (take-append-add (word_bytes w) (bytes ws) (8 * n)
+    ∙ ap (λ (bs : List ℕ). word_bytes w ++ bs) (bytes-take n ws))
 
 -- the bytes of words are bytes
 pub AreBytes-bytes : (ws : List ℕ) → AreBytes (bytes ws)
 AreBytes-bytes [] i = omega arith
 AreBytes-bytes (w ∷ ws) i = AreBytes-append (word_bytes w) (bytes ws) (word_bytes-below w) (AreBytes-bytes ws) i
-
--- the word read at the bytes of word k is that word
-pub word_number-bytes : (ws : List ℕ) (k : ℕ) → AreWords ws → k < length ws
-    → word_number (drop (8 * k) (bytes ws)) ≡ slice_index ws k
-word_number-bytes ws k h l = sym (word_in (length ws) k (bytes ws) l)
-    ∙ ap (λ (vs : List ℕ). slice_index vs k) (words_of_bytes ws h)

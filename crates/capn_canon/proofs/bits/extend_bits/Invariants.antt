@@ -1,7 +1,8 @@
 use Rattle.std.proofs.Common.{◌≡◌, ◌-◌, ◌*◌, ◌++◌, drop, map, length}
 use Rattle.std.specs.Int.{from_bool}
 use Rattle.capn_canon.specs.Patch.{whole}
-use Rattle.capn_canon.specs.Layout.{packed, words_for}
+use Rattle.capn_walk.specs.Target.{words_for}
+use Rattle.capn_canon.specs.Layout.{packed}
 use Rattle.capn_canon.proofs.bits.extend_bits.Given as goal
 
 abbrev pub invariant-loop-i : goal.invariant-loop-i

@@ -1,4 +1,4 @@
-use Rattle.std.proofs.Common.{◌≡◌, ℕ, List, [], ◌∷◌, ◌++◌, ap, ◌∙◌, Option, Some}
+use Rattle.std.proofs.Common.{ℕ, List, [], ◌∷◌, ◌++◌, ap, ◌∙◌, Option, Some}
 use Rattle.capn_canon.proofs.AtRoot.{root-bytes}
 use Rattle.capn_canon.proofs.canonical.bytes_of.Goals as goal
 

@@ -1,10 +1,8 @@
-use Rattle.std.proofs.Common.{rules, ◌≡◌, ℕ, ℤ, pos, negsuc, ◌+◌, ◌*◌, ◌^◌, ◌<◌, ◌≤◌, length, Ok, ap, sym, subst, ◌∙◌}
+use Rattle.std.proofs.Common.{rules, ◌≡◌, ℕ, Ok, ap, sym, ◌∙◌}
 use Rattle.std.proofs.Common.{arith, w32}
 use Rattle.std.proofs.lemmas.Int.{to_z-of_z}
 use Rattle.std.specs.Int.RustNames.{FitsSigned}
 use Rattle.capn_words.specs.Pointers.{pointer_of}
-use Rattle.capn_words.specs.declared.pointer.Width.TheVariants.{Rows}
-use Rattle.capn_words.specs.declared.pointer.Width.{Width}
 use Rattle.capn_walk.specs.Target.{moved}
 use Rattle.capn_walk.specs.declared.target.Target.TheVariants as targets
 use Rattle.capn_walk.specs.declared.target.Shape.TheVariants as shapes

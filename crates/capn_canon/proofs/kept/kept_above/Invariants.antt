@@ -1,4 +1,4 @@
-use Rattle.std.proofs.Common.{ℕ, ◌≡◌, ◌+◌, ◌<◌, ◌≤◌, slice_index}
+use Rattle.std.proofs.Common.{◌≤◌}
 use Rattle.capn_words.specs.Message.{segment_at}
 use Rattle.capn_canon.proofs.Cut.{AreZeros}
 use Rattle.capn_canon.proofs.kept.kept_above.Given as goal

@@ -1,4 +1,4 @@
-use Rattle.std.proofs.Common.{ℕ, ◌≡◌, ◌+◌, ◌-◌, ◌*◌, ◌≤◌, max}
+use Rattle.std.proofs.Common.{◌≡◌, ◌+◌, ◌-◌, ◌*◌, ◌≤◌, max}
 use Rattle.capn_canon.specs.RowWords.{kept_each}
 use Rattle.capn_canon.proofs.kept.kept_in_rows.Given as goal
 

@@ -1,8 +1,6 @@
-use Rattle.std.proofs.Common.{◌≡◌, ℕ, ◌+◌, ◌*◌, ◌/◌, ◌%◌, ◌^◌, ◌<◌, ◌≤◌, List, length, take, ap, ap₂, sym, ◌∙◌, arith}
-use Rattle.std.proofs.Common.{refl}
+use Rattle.std.proofs.Common.{◌*◌, ◌/◌, ◌%◌, ◌^◌, arith}
 use Rattle.capn_words.specs.Message.{segment_at}
 use Rattle.capn_walk.specs.At.{words_from}
-use Rattle.capn_canon.specs.Layout.{packed, words_for}
 use Rattle.capn_canon.proofs.Copied.{whole-bytes}
 use Rattle.capn_canon.proofs.Copied.{copy-of}
 use Rattle.capn_canon.proofs.FirstBits.{bits-appended, words-appended, shifted-one}

@@ -1,12 +1,11 @@
-use Rattle.std.proofs.Common.{◌≡◌, ℕ, ◌+◌, ◌*◌, ◌≤◌, List, length, set, Some, Option, ◌++◌, ap, ap₂, sym, ◌∙◌, arith}
+use Rattle.std.proofs.Common.{ℕ, ◌*◌, List, set, Some, Option, ◌++◌, ap, ap₂, ◌∙◌, arith}
 use Rattle.std.proofs.Common.{length-drop}
 use Rattle.std.proofs.lemmas.Result.{on_ok_weaker}
 use Rattle.capn_words.specs.Message.{segment_at}
 use Rattle.capn_walk.specs.At.{words_from}
-use Rattle.capn_walk.specs.Target.{content_words}
-use Rattle.capn_canon.specs.Layout.{words_for, list_to}
+use Rattle.capn_canon.specs.Layout.{list_to}
 use Rattle.capn_canon.specs.Patch.{whole}
-use Rattle.capn_canon.specs.Bits.{element_bits, first_bits}
+use Rattle.capn_canon.specs.Bits.{first_bits}
 use Rattle.capn_canon.proofs.Copied.{part-below}
 use Rattle.capn_canon.proofs.FirstBits.{list-laid, plain-words}
 use Rattle.capn_canon.proofs.listing.lay_list.Goals as goal

@@ -1,4 +1,4 @@
-use Rattle.std.proofs.Common.{◌≡◌, ℕ, ◌+◌, ◌*◌, ◌≤◌, List, length, take, set, Some, Option, ap, ◌++◌, ◌∙◌, arith}
+use Rattle.std.proofs.Common.{ℕ, List, take, set, Some, Option, ap, ◌++◌, ◌∙◌}
 use Rattle.capn_words.specs.declared.pointer.Width.TheVariants.{Link}
 use Rattle.capn_walk.specs.At.{words_from}
 use Rattle.capn_canon.specs.Layout.{list_to}

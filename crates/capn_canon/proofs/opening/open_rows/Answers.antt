@@ -1,6 +1,4 @@
-use Rattle.std.proofs.Common.{◌≡◌, ℕ, suc, ◌+◌, ◌-◌, ◌*◌, ◌^◌, ◌<◌, ◌≤◌, List, length, arith}
-use Rattle.std.proofs.Math.Nat.{mul-le-mul_left}
-use Rattle.capn_canon.specs.RowWords.{kept_each}
+use Rattle.std.proofs.Common.{◌+◌, arith}
 use Rattle.capn_canon.proofs.EachRow.{kept_each-le, less-times}
 use Rattle.capn_canon.proofs.opening.open_rows.Goals as goal
 
@@ -30,15 +28,15 @@ tag_word-requires-clause-slots g c =
     let f = c.kept_in_rows-below.ensures in
     omega arith
 
-pub push_rows-requires-clause-part : goal.push_rows-requires-clause-part
-push_rows-requires-clause-part g c =
+pub push_rows-requires-clause-words : goal.push_rows-requires-clause-words
+push_rows-requires-clause-words g c =
     let a = kept_each-le (g.S.Space.message c.args.space.now) c.args.start.segment (c.args.start.word + 0) c.args.words
     (c.args.words + c.args.slots) c.args.count in
     let e = c.kept_in_rows-kept.ensures in
     omega arith
 
-pub push_rows-requires-clause-parts : goal.push_rows-requires-clause-parts
-push_rows-requires-clause-parts g c =
+pub push_rows-requires-clause-slots : goal.push_rows-requires-clause-slots
+push_rows-requires-clause-slots g c =
     let b = kept_each-le (g.S.Space.message c.args.space.now) c.args.start.segment (c.args.start.word + c.args.words)
     c.args.slots (c.args.words + c.args.slots) c.args.count in
     let f = c.kept_in_rows-below.ensures in

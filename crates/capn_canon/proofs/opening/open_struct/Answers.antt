@@ -1,4 +1,4 @@
-use Rattle.std.proofs.Common.{◌≡◌, ℕ, ◌+◌, ◌*◌, ◌<◌, ◌≤◌, ◌^◌, length, refl, arith}
+use Rattle.std.proofs.Common.{◌+◌, refl, arith}
 use Rattle.capn_walk.specs.At.{words_from}
 use Rattle.capn_canon.proofs.Cut.{part-le}
 use Rattle.capn_canon.proofs.OpenedStruct.{opened}

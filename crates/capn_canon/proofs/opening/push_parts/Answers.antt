@@ -1,4 +1,4 @@
-use Rattle.std.proofs.Common.{◌≡◌, ℕ, ◌+◌, ◌*◌, ◌≤◌, List, length, take, ap, ◌++◌, ◌∙◌, arith, Option}
+use Rattle.std.proofs.Common.{ℕ, ◌+◌, List, take, ap, ◌++◌, ◌∙◌, arith, Option}
 use Rattle.std.proofs.lemmas.Result.{on_ok_weaker}
 use Rattle.capn_walk.specs.At.{words_from}
 use Rattle.capn_canon.specs.Patch.{whole}

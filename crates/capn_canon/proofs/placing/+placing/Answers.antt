@@ -1,14 +1,10 @@
-use Rattle.std.proofs.Common.{rules, ◌≡◌, ℕ, suc, ◌+◌, ◌-◌, ◌*◌, ◌^◌, ◌<◌, ◌≤◌, length, set, Some, Ok, Err, sym, ap}
-use Rattle.std.proofs.Common.{subst, ◌∙◌, arith, refl}
+use Rattle.std.proofs.Common.{◌≡◌, ◌+◌, ◌-◌, ◌*◌, ◌^◌, ◌≤◌, length, set, Some, Ok, sym, ap}
+use Rattle.std.proofs.Common.{subst, ◌∙◌, arith}
 use Rattle.std.proofs.lemmas.Result.{on_ok_weaker}
 use Rattle.capn_words.specs.Message.{segment_at}
-use Rattle.capn_words.specs.Fields.{word_of}
-use Rattle.capn_words.specs.declared.pointer.Pointer.TheVariants.{Cap}
-use Rattle.capn_value.specs.Sizes.{height}
-use Rattle.capn_walk.specs.Target.{target}
 use Rattle.capn_walk.specs.declared.target.Shape.{Shape}
 use Rattle.capn_walk.specs.declared.target.Shape.TheVariants as shapes
-use Rattle.capn_walk.specs.Walked.{IsContent, RowsFit, extent}
+use Rattle.capn_walk.specs.Shapes.{IsContent, RowsFit, extent}
 use Rattle.capn_walk.specs.Laws.RowWalks.{row-inside}
 use Rattle.capn_walk.specs.Laws.Segments.{segment-room}
 use Rattle.capn_walk.specs.Laws.Inside.{inside}
@@ -20,32 +16,32 @@ use Rattle.capn_canon.specs.Ready.{IsReadyInside, IsLaidInside}
 use Rattle.capn_canon.proofs.Shaped.{found, null-of, cap-at, inside-of, inside-height}
 use Rattle.capn_canon.proofs.Slots.{laid-null, laid-cap, next, next-ready, begins-rest, begins-ready, then-rest}
 use Rattle.capn_canon.proofs.Slots.{then-inside, then-ready, ends-rest}
-use Rattle.capn_canon.proofs.Objects.{node-few, node-inside, node-ready, node-laid, links-few, links-inside}
+use Rattle.capn_canon.proofs.Objects.{node-few, node-inside, node-ready, node-laid, links-inside}
 use Rattle.capn_canon.proofs.Objects.{links-ready, links-laid}
 use Rattle.capn_canon.proofs.EachRow.{one-more-fits}
 use Rattle.capn_canon.proofs.RowByRow.{next-row, row-ready, rows-begin, rows-begin-ready, rows-then, rows-then-ready}
 use Rattle.capn_canon.proofs.RowByRow.{rows-end, rows-few, rows-part, rows-fits, rows-ready, rows-laid, rows-nothing}
 use Rattle.capn_canon.proofs.placing.+placing.Goals as goal
 
-pub lay_slot-target_at-target-requires-clause-found : goal.lay_slot-target_at-target-requires-clause-found
-lay_slot-target_at-target-requires-clause-found g t c =
+pub lay_slot-target_at-requires-clause-found : goal.lay_slot-target_at-requires-clause-found
+lay_slot-target_at-requires-clause-found g t c =
     found (g.S.Space.message c.args.space.now) c.args.at c.requires.ready.value c.requires.ready.is
 
-pub lay_target-overflow_sub-depth : goal.lay_target-overflow_sub-depth
-lay_target-overflow_sub-depth g t c =
+pub lay_slot-overflow_sub-depth : goal.lay_slot-overflow_sub-depth
+lay_slot-overflow_sub-depth g t c =
     let m = g.S.Space.message c.args.space.now in
     let x = c.in-Content in
     let r = c.requires.ready in
     let h = inside-height m x.shape x.segment x.start r.value
-    (inside-of m c.args.at x.segment x.start x.pads x.shape (c.requires.target ∙ ap Ok x.is) r.value r.is) in
+    (inside-of m c.args.at x.segment x.start x.pads x.shape (c.target_at.ensures ∙ ap Ok x.is) r.value r.is) in
     let l = r.low in
     omega arith
 
-pub lay_target-lay_object-requires : goal.lay_target-lay_object-requires
-lay_target-lay_object-requires g t c κs live =
+pub lay_slot-lay_object-requires : goal.lay_slot-lay_object-requires
+lay_slot-lay_object-requires g t c κs live =
     let m = g.S.Space.message c.args.space.now in
     let x = c.in-Content in
-    let e = c.requires.target ∙ ap Ok x.is in
+    let e = c.target_at.ensures ∙ ap Ok x.is in
     let i = inside m c.args.at x.segment x.start x.pads x.shape e in
     let r = c.requires.ready in
     let here = inside-of m c.args.at x.segment x.start x.pads x.shape e r.value r.is in
@@ -63,17 +59,17 @@ lay_target-lay_object-requires g t c κs live =
     record { exists = present m c.args.at x.segment x.start x.pads x.shape c.requires.place e; within = i.0 } in
     (omega arith, (live.0, (live.1, (c.requires.message, (content, (i.1, (ready, c.requires.inside)))))))
 
-pub lay_target-returns-in-Nil : goal.lay_target-returns-in-Nil
-lay_target-returns-in-Nil g t c v h =
+pub lay_slot-returns-in-Nil : goal.lay_slot-returns-in-Nil
+lay_slot-returns-in-Nil g t c v h =
     c.put.ensures
     ∙ laid-null v c.args.draft.now c.args.from
-    (null-of (g.S.Space.message c.args.space.now) c.args.at v (c.requires.target ∙ ap Ok c.in-Nil.is) h)
+    (null-of (g.S.Space.message c.args.space.now) c.args.at v (c.target_at.ensures ∙ ap Ok c.in-Nil.is) h)
 
-pub lay_target-returns-in-Cap : goal.lay_target-returns-in-Cap
-lay_target-returns-in-Cap g t c v h =
+pub lay_slot-returns-in-Cap : goal.lay_slot-returns-in-Cap
+lay_slot-returns-in-Cap g t c v h =
     c.put-in-Cap.ensures ∙ ap (λ x. set c.args.draft.now c.args.from (Some x)) c.join.ensures.word
     ∙ laid-cap v c.in-Cap.index c.args.draft.now c.args.from
-    (cap-at (g.S.Space.message c.args.space.now) c.args.at v c.in-Cap.index (c.requires.target
+    (cap-at (g.S.Space.message c.args.space.now) c.args.at v c.in-Cap.index (c.target_at.ensures
     ∙ ap Ok c.in-Cap.is) h)
 
 pub lay_slots-loop-i-init : goal.lay_slots-loop-i-init

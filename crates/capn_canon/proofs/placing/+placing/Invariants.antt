@@ -10,16 +10,13 @@ use Rattle.capn_canon.specs.RowWords.{RowsReady}
 use Rattle.capn_canon.proofs.placing.+placing.Given as goal
 
 abbrev pub decreases-lay_object : goal.decreases-lay_object
-decreases-lay_object g l = 5 * l.depth + 4
+decreases-lay_object g l = 4 * l.depth + 3
 
 abbrev pub decreases-lay_slots : goal.decreases-lay_slots
-decreases-lay_slots g l = 5 * l.depth + 2
+decreases-lay_slots g l = 4 * l.depth + 1
 
 abbrev pub decreases-lay_slot : goal.decreases-lay_slot
-decreases-lay_slot g l = 5 * l.depth + 1
-
-abbrev pub decreases-lay_target : goal.decreases-lay_target
-decreases-lay_target g l = 5 * l.depth
+decreases-lay_slot g l = 4 * l.depth
 
 abbrev pub invariant-lay_slots-loop-i : goal.invariant-lay_slots-loop-i
 invariant-lay_slots-loop-i g l = record {
@@ -33,7 +30,7 @@ invariant-lay_slots-loop-i g l = record {
 }
 
 abbrev pub decreases-lay_rows : goal.decreases-lay_rows
-decreases-lay_rows g l = 5 * l.depth + 3
+decreases-lay_rows g l = 4 * l.depth + 2
 
 abbrev pub invariant-lay_rows-loop-row : goal.invariant-lay_rows-loop-row
 invariant-lay_rows-loop-row g l = record {

@@ -1,11 +1,11 @@
 use Rattle.std.proofs.Common.{arith, ap, ◌∙◌, refl, ◌∷◌, [], get_or, vec_len, ◌*◌, ◌+◌}
 use Rattle.capn_pack.specs.Laws.GroupLemmas.{take_two, resized}
-use Rattle.capn_pack.proofs.StartLemmas.{starts}
+use Rattle.capn_pack.proofs.StartLemmas.{memory_gives}
 use Rattle.capn_pack.specs.Group.Group.{Zeros}
 use Rattle.capn_pack.proofs.unpack_group.take_zeros.Goals as goal
 
-pub returns-clause-ok : goal.returns-clause-ok
-returns-clause-ok g c =
+pub returns : goal.returns
+returns g c =
     let rest = c.args.rest.now in
     record {
       group = Zeros (get_or rest 1 0);
@@ -20,8 +20,10 @@ returns-clause-ok g c =
           (omega (arith, c.args.out.now.ok.0)));
     }
 
-pub returns-in_err-resize-clause-wanted : goal.returns-in_err-resize-clause-wanted
-returns-in_err-resize-clause-wanted g c is =
+pub returns-in_err-resize : goal.returns-in_err-resize
+returns-in_err-resize g c =
     let rest = c.args.rest.now in
-    starts rest 2 c.args.room (Zeros (get_or rest 1 0)) (omega (arith, c.type_inv.rest 1))
+    memory_gives rest 2 c.args.room (Zeros (get_or rest 1 0)) _ _ c.from_residual.result
+    (omega (arith, c.type_inv.rest 1))
     (take_two rest (omega arith) ∙ ap (λ b. b ∷ get_or rest 1 0 ∷ []) c.requires.tag) (omega arith)
+    c.in_err-resize.ensures.items c.from_residual.ensures.1

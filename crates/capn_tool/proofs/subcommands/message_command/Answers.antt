@@ -1,31 +1,28 @@
-use Rattle.std.proofs.Common.{ap₂, ◌∙◌, refl}
-use Rattle.clap.specs.Words.{with_rule}
+use Rattle.std.proofs.Common.{◌≡◌, ap, ap₂, [], ◌∷◌, List, subst, IfOk}
+use Rattle.clap.specs.Words.{AddsArg, AddsInTurn, App, new_app, with_rule}
+use Rattle.clap.specs.declared.builder.arg.Arg.{Arg}
+use Rattle.capn_tool.specs.Line.{HasLine, message_line}
+use Rattle.capn_tool.proofs.CommandLines.{answers_options, with_options}
 use Rattle.capn_tool.proofs.subcommands.message_command.Goals as goal
 
 pub returns : goal.returns
 returns c =
-    let one = c.in_ok-command.ensures in
-    let two = c.in_ok-command-2.ensures in
-    let three = c.in_ok-command-3.ensures in
-    let four = c.in_ok-command-4.ensures in
-    let five = c.in_ok-command-5.ensures in
-    let formed = one.shape c.form_option.ensures.local
-    ∙ ap₂ with_rule c.plain_command-command.ensures.app c.form_option.ensures.rule in
-    let worded = two.shape c.words_option.ensures.local ∙ ap₂ with_rule formed c.words_option.ensures.rule in
-    let budgeted = three.shape c.budget_option.ensures.local ∙ ap₂ with_rule worded c.budget_option.ensures.rule in
-    let deep = four.shape c.depth_option.ensures.local ∙ ap₂ with_rule budgeted c.depth_option.ensures.rule in (
-      five.shape c.tariff_option.ensures.local ∙ ap₂ with_rule deep c.tariff_option.ensures.rule,
-      rw (
-        five.globals,
-        four.globals,
-        three.globals,
-        two.globals,
-        one.globals,
-        c.plain_command-command.ensures.local,
-        c.form_option.ensures.local,
-        c.words_option.ensures.local,
-        c.budget_option.ensures.local,
-        c.depth_option.ensures.local,
-        c.tariff_option.ensures.local,
-      ) refl,
-    )
+    let form = c.usual_option.ensures in
+    let words = c.words_option.ensures in
+    let budget = c.budget_option.ensures in
+    let depth = c.depth_option.ensures in
+    let tariff = c.usual_option-2.ensures in
+    let r = c.args-2.result in
+    let options : List Arg = c.usual_option.result ∷ c.words_option.result ∷ c.budget_option.result
+    ∷ c.depth_option.result ∷ c.usual_option-2.result ∷ [] in
+    let adds = subst (λ (xs : List Arg). IfOk r (AddsInTurn AddsArg c.plain_command.result xs))
+    c.in_ok-options.ensures.items c.args-2.ensures in
+    let has = answers_options c.plain_command.result options (new_app c.args.name.now) r
+    (c.plain_command.ensures.app, c.plain_command.ensures.local)
+    (form.local, (words.local, (budget.local, (depth.local, (tariff.local, tt))))) adds in
+    let line : with_options (new_app c.args.name.now) options ≡ message_line c.args.name.now = ap₂ with_rule
+    (ap₂ with_rule
+    (ap₂ with_rule (ap₂ with_rule (ap (with_rule (new_app c.args.name.now)) form.rule) words.rule) budget.rule)
+    depth.rule)
+    tariff.rule in
+    subst (λ (a : App). IfOk r (λ new. HasLine new a)) line has

@@ -1,11 +1,11 @@
-use Rattle.std.proofs.Common.{ap₂, ◌∙◌, refl}
-use Rattle.clap.specs.Words.{with_rule}
+use Rattle.std.proofs.Common.{codes}
+use Rattle.clap.specs.Words.{new_app}
+use Rattle.capn_tool.specs.Line.{words_rule}
+use Rattle.capn_tool.proofs.CommandLines.{answers_option}
 use Rattle.capn_tool.proofs.subcommands.unpack_command.Goals as goal
 
 pub returns : goal.returns
 returns c =
-    let one = c.in_ok-command.ensures in (
-      one.shape c.words_option.ensures.local
-          ∙ ap₂ with_rule c.plain_command-command.ensures.app c.words_option.ensures.rule,
-      rw (one.globals, c.plain_command-command.ensures.local, c.words_option.ensures.local) refl,
-    )
+    answers_option c.plain_command.result c.words_option.result (new_app (codes "unpack")) words_rule c.arg.result
+    (c.plain_command.ensures.app, c.plain_command.ensures.local) c.words_option.ensures.rule
+    c.words_option.ensures.local c.arg.ensures

@@ -1,6 +1,7 @@
 use Rattle.capn_walk.proofs.SeenInside.{found-inside}
 use Rattle.capn_walk.specs.Laws.Walks.{is-inside}
-use Rattle.capn_walk.proofs.ThreeWays.{one-of-three, back}
+use Rattle.capn_walk.specs.Laws.Ways.{one-of-three}
+use Rattle.capn_walk.proofs.ThreeWays.{back}
 use Rattle.capn_walk.proofs.laws.targets.Goals as goal
 
 pub returns-clause-inside : goal.returns-clause-inside

@@ -1,5 +1,5 @@
 use Rattle.std.proofs.Common.{rules, ◌≡◌, ℕ, suc, ◌+◌, ◌*◌, ◌^◌, ◌≤◌, Ok, Err, arith, ap, sym, subst, ◌∙◌, refl}
-use Rattle.capn_value.specs.View.{trees_of, rows_of}
+use Rattle.capn_value.specs.View.{tree_of, trees_of, rows_of}
 use Rattle.capn_value.specs.Views.{tree_of-Nil, tree_of-Cap}
 use Rattle.capn_words.specs.declared.pointer.Width.{Width}
 use Rattle.capn_walk.specs.declared.target.Shape.TheVariants as shapes
@@ -10,13 +10,13 @@ use Rattle.capn_walk.specs.Viewed.{stepped, IsEntered}
 use Rattle.capn_walk.specs.declared.target.Target.{Target}
 use Rattle.capn_walk.specs.declared.target.Target.TheVariants as targets
 use Rattle.capn_walk.specs.declared.walked.Stopped.{Stopped}
-use Rattle.capn_walk.specs.Walked.{IsContent, extent, slot_count}
+use Rattle.capn_walk.specs.Shapes.{IsContent, extent, slot_count}
 use Rattle.capn_walk.specs.Laws.Inside.{inside, slots-price}
 use Rattle.capn_walk.specs.Laws.Present.{present}
 use Rattle.capn_walk.specs.Laws.Segments.{segment-room}
 use Rattle.capn_walk.specs.Laws.Walks.{gives-next, refuses-next, at-next, count-next, visits-null, visits-cap}
 use Rattle.capn_walk.specs.Laws.Walks.{visits-fault, gives-object, refuses-object, refuses-here, gives-nothing}
-use Rattle.capn_walk.specs.Laws.Walks.{inside-struct, inside-links, inside-rows}
+use Rattle.capn_walk.specs.Laws.Walks.{inside-struct, inside-links, inside-rows, is-inside}
 use Rattle.capn_walk.specs.Laws.RowWalks.{one-more, row-inside, rows-give, rows-refuse, rows_at-step, count_rows-next}
 use Rattle.capn_walk.proofs.Near.{by-pointer, near-struct, near-list}
 use Rattle.capn_walk.proofs.Room.{room-of}
@@ -25,22 +25,17 @@ use Rattle.capn_walk.proofs.visiting.+walk.Goals as goal
 
 -- ---- a slot
 
-pub walk_slot-returns-in-Nil-clause-pays : goal.walk_slot-returns-in-Nil-clause-pays
-walk_slot-returns-in-Nil-clause-pays g t c =
+pub walk_slot-returns-in-Nil : goal.walk_slot-returns-in-Nil
+walk_slot-returns-in-Nil g t c =
     let m = g.S.Space.message c.args.space.now in
     let e = sym (by-pointer m c.args.at c.pointer_at-pointer.result c.pointer_at-pointer.ensures)
     ∙ ap (named m c.args.at.segment c.args.at.word) c.in-Nil.is in
-    let none = c.without_content.ensures in
-    rw (none.paid, none.visits)
-    (gives-nothing m c.args.base c.args.at c.args.left c.args.depth
-    (visits-null m c.args.base c.args.at c.args.depth e))
-
-pub walk_slot-returns-in-Nil-clause-value : goal.walk_slot-returns-in-Nil-clause-value
-walk_slot-returns-in-Nil-clause-value g t c =
-    let m = g.S.Space.message c.args.space.now in
-    rw (c.without_content.ensures.value, tree_of-Nil)
-    (sym (by-pointer m c.args.at c.pointer_at-pointer.result c.pointer_at-pointer.ensures)
-    ∙ ap (named m c.args.at.segment c.args.at.word) c.in-Nil.is)
+    let none = c.without_content.ensures in (
+      rw (none.paid, none.visits)
+          (gives-nothing m c.args.base c.args.at c.args.left c.args.depth
+          (visits-null m c.args.base c.args.at c.args.depth e)),
+      rw (none.value, tree_of-Nil) e,
+    )
 
 pub walk_slot-walk_near-requires : goal.walk_slot-walk_near-requires
 walk_slot-walk_near-requires g t c κs within =
@@ -59,15 +54,15 @@ walk_slot-walk_near-requires-in-Many g t c κs within =
     ∙ near-list m c.args.at (word_at m c.args.at) p.result x.offset x.width x.count refl p.ensures x.is in
     search rules
 
-pub walk_near-returns-in-Err-clause-refused : goal.walk_near-returns-in-Err-clause-refused
-walk_near-returns-in-Err-clause-refused g t c =
+pub walk_near-returns-in-Err : goal.walk_near-returns-in-Err
+walk_near-returns-in-Err g t c =
     let m = g.S.Space.message c.args.space.now in
     let e : target (g.S.Space.message c.args.space.now) c.args.at ≡ Err c.in-Err.fault = cc in
     refuses-here m c.args.base c.args.at c.args.left c.args.depth c.in-Err.fault c.stop.result
     (visits-fault m c.args.base c.args.at c.args.depth c.in-Err.fault e) c.stop.ensures
 
-pub walk_elsewhere-returns-in-Err-clause-refused : goal.walk_elsewhere-returns-in-Err-clause-refused
-walk_elsewhere-returns-in-Err-clause-refused g t c =
+pub walk_elsewhere-returns-in-Err : goal.walk_elsewhere-returns-in-Err
+walk_elsewhere-returns-in-Err g t c =
     let m = g.S.Space.message c.args.space.now in
     let e : target (g.S.Space.message c.args.space.now) c.args.at ≡ Err c.in-Err.fault = cc in
     refuses-here m c.args.base c.args.at c.args.left c.args.depth c.in-Err.fault c.stop.result
@@ -75,34 +70,30 @@ walk_elsewhere-returns-in-Err-clause-refused g t c =
 
 -- ---- a slot whose target is known
 
-pub walk_target-returns-in-Nil-clause-pays : goal.walk_target-returns-in-Nil-clause-pays
-walk_target-returns-in-Nil-clause-pays g t c =
+pub walk_target-returns-in-Nil-clause-answer : goal.walk_target-returns-in-Nil-clause-answer
+walk_target-returns-in-Nil-clause-answer g t c =
     let m = g.S.Space.message c.args.space.now in
     let e = c.requires.target ∙ ap Ok c.in-Nil.is in
-    let none = c.without_content.ensures in
-    rw (none.paid, none.visits)
-    (gives-nothing m c.args.base c.args.at c.args.left c.args.depth
-    (visits-null m c.args.base c.args.at c.args.depth e))
+    let none = c.without_content.ensures in (
+      rw (none.paid, none.visits)
+          (gives-nothing m c.args.base c.args.at c.args.left c.args.depth
+          (visits-null m c.args.base c.args.at c.args.depth e)),
+      rw (none.value, tree_of-Nil) e,
+    )
 
-pub walk_target-returns-in-Nil-clause-value : goal.walk_target-returns-in-Nil-clause-value
-walk_target-returns-in-Nil-clause-value g t c =
-    rw (c.without_content.ensures.value, tree_of-Nil) (c.requires.target ∙ ap Ok c.in-Nil.is)
-
-pub walk_target-returns-in-Cap-clause-pays : goal.walk_target-returns-in-Cap-clause-pays
-walk_target-returns-in-Cap-clause-pays g t c =
+pub walk_target-returns-in-Cap-clause-answer : goal.walk_target-returns-in-Cap-clause-answer
+walk_target-returns-in-Cap-clause-answer g t c =
     let m = g.S.Space.message c.args.space.now in
     let e = c.requires.target ∙ ap Ok c.in-Cap.is in
-    let none = c.without_content-in-Cap.ensures in
-    rw (none.paid, none.visits)
-    (gives-nothing m c.args.base c.args.at c.args.left c.args.depth
-    (visits-cap m c.args.base c.args.at c.args.depth c.in-Cap.index e))
+    let none = c.without_content-in-Cap.ensures in (
+      rw (none.paid, none.visits)
+          (gives-nothing m c.args.base c.args.at c.args.left c.args.depth
+          (visits-cap m c.args.base c.args.at c.args.depth c.in-Cap.index e)),
+      rw (none.value, tree_of-Cap) e,
+    )
 
-pub walk_target-returns-in-Cap-clause-value : goal.walk_target-returns-in-Cap-clause-value
-walk_target-returns-in-Cap-clause-value g t c =
-    rw (c.without_content-in-Cap.ensures.value, tree_of-Cap) (c.requires.target ∙ ap Ok c.in-Cap.is)
-
-pub walk_target-returns-in-Err-clause-refused : goal.walk_target-returns-in-Err-clause-refused
-walk_target-returns-in-Err-clause-refused g t c =
+pub walk_target-returns-in-Err-clause-answer : goal.walk_target-returns-in-Err-clause-answer
+walk_target-returns-in-Err-clause-answer g t c =
     let x = c.in-Content in
     step-refuses (g.S.Space.message c.args.space.now) c.args.base c.args.at c.args.depth c.args.left
     (targets.Content x.segment x.start x.shape x.pads) c.in-Err.fault c.stop.result
@@ -141,7 +132,7 @@ walk_target-overflow_add-result-in-Ok-object g t c =
     let p = c.in-Ok.ensures.price in
     let k = content-taken c.args.base c.args.depth c.args.left x.segment x.start x.pads x.shape c.in-Ok.ensures.found in
     let room = k.1 in
-    let r = c.in-Ok-object.ensures.pays in
+    let r = c.in-Ok-object.ensures.0 in
     let a = r.within in
     let b = r.few in
     omega arith
@@ -155,33 +146,37 @@ walk_target-behind-requires-clause-visits g t c =
     let p = c.in-Ok.ensures.price in
     let k = content-taken c.args.base c.args.depth c.args.left x.segment x.start x.pads x.shape c.in-Ok.ensures.found in
     let room = k.1 in
-    let r = c.in-Err-object.ensures.refused in
+    let r = c.in-Err-object.ensures in
     let a = r.within in
     let b = r.few in
     omega arith
 
-pub walk_target-returns-in-Ok-object-clause-pays : goal.walk_target-returns-in-Ok-object-clause-pays
-walk_target-returns-in-Ok-object-clause-pays g t c =
+pub walk_target-returns-in-Ok-object-clause-answer : goal.walk_target-returns-in-Ok-object-clause-answer
+walk_target-returns-in-Ok-object-clause-answer g t c =
     let m = g.S.Space.message c.args.space.now in
     let x = c.in-Content in
     let p = c.in-Ok.ensures.price in
+    let e = c.requires.target ∙ ap Ok x.is in
+    let found = c.in-Ok-object.found in
     let k = content-taken c.args.base c.args.depth c.args.left x.segment x.start x.pads x.shape c.in-Ok.ensures.found in
-    let h = rw p at c.in-Ok-object.ensures.pays in
-    rw p
-    (gives-object m c.args.base c.args.at x.segment x.start x.pads x.shape (c.requires.target
-    ∙ ap Ok x.is) c.args.left c.args.depth k.0 k.1
-    c.in-Ok-object.found.paid c.in-Ok-object.found.visits h)
+    let h = rw (c.place-start.ensures, p) at c.in-Ok-object.ensures.0 in
+    let v = rw c.place-start.ensures at c.in-Ok-object.ensures.1 in (
+      rw p
+          (gives-object m c.args.base c.args.at x.segment x.start x.pads x.shape e c.args.left c.args.depth k.0 k.1
+          found.paid found.visits h),
+      is-inside m c.args.at x.segment x.start x.pads x.shape (tree_of found.value) e v,
+    )
 
-pub walk_target-returns-in-Err-object-clause-refused : goal.walk_target-returns-in-Err-object-clause-refused
-walk_target-returns-in-Err-object-clause-refused g t c =
+pub walk_target-returns-in-Err-object-clause-answer : goal.walk_target-returns-in-Err-object-clause-answer
+walk_target-returns-in-Err-object-clause-answer g t c =
     let m = g.S.Space.message c.args.space.now in
     let x = c.in-Content in
     let p = c.in-Ok.ensures.price in
+    let e = c.requires.target ∙ ap Ok x.is in
     let k = content-taken c.args.base c.args.depth c.args.left x.segment x.start x.pads x.shape c.in-Ok.ensures.found in
-    let h = rw p at c.in-Err-object.ensures.refused in
+    let h = rw (c.place-start.ensures, p) at c.in-Err-object.ensures in
     rw (c.behind.ensures, p)
-    (refuses-object m c.args.base c.args.at x.segment x.start x.pads x.shape (c.requires.target
-    ∙ ap Ok x.is) c.args.left c.args.depth k.0 k.1
+    (refuses-object m c.args.base c.args.at x.segment x.start x.pads x.shape e c.args.left c.args.depth k.0 k.1
     c.in-Err-object.stopped h)
 
 pub walk_target-returns-in-Err-object-clause-wanted : goal.walk_target-returns-in-Err-object-clause-wanted
@@ -192,78 +187,89 @@ walk_target-returns-in-Err-object-clause-wanted g t c m =
 
 -- ---- an object
 
-pub object-returns-in_ok-below-in-Node-clause-pays : goal.object-returns-in_ok-below-in-Node-clause-pays
-object-returns-in_ok-below-in-Node-clause-pays g t c =
+pub object-returns-in_ok-below-in-Node : goal.object-returns-in_ok-below-in-Node
+object-returns-in_ok-below-in-Node g t c =
     let made = c.into_struct.ensures in
-    rw (c.in-Node.is, made.paid, made.visits) c.in_ok-below-in-Node.ensures.pays
+    let b = c.in_ok-below-in-Node in (
+      rw (c.in-Node.is, made.paid, made.visits) b.ensures.0,
+      rw made.value
+          (inside-struct (g.S.Space.message c.args.space.now) c.args.start.segment c.args.start.word c.args.shape
+          c.in-Node.words c.in-Node.slots c.in-Ok.words (trees_of b.below.items)
+          c.in-Node.is c.in-Ok.ensures.number c.in-Ok.ensures.words b.ensures.2 b.ensures.1),
+    )
 
-pub object-returns-in_ok-below-in-Node-clause-value : goal.object-returns-in_ok-below-in-Node-clause-value
-object-returns-in_ok-below-in-Node-clause-value g t c =
-    let b = c.in_ok-below-in-Node in
-    rw c.into_struct.ensures.value
-    (inside-struct (g.S.Space.message c.args.space.now) c.args.start.segment c.args.start.word c.args.shape
-    c.in-Node.words c.in-Node.slots c.in-Ok.words (trees_of b.below.items)
-    c.in-Node.is c.in-Ok.ensures.number c.in-Ok.ensures.words b.ensures.number b.ensures.value)
-
-pub object-returns-in_ok-below-in-Link-clause-pays : goal.object-returns-in_ok-below-in-Link-clause-pays
-object-returns-in_ok-below-in-Link-clause-pays g t c =
+pub object-returns-in_ok-below-in-Link : goal.object-returns-in_ok-below-in-Link
+object-returns-in_ok-below-in-Link g t c =
     let made = c.into_list.ensures in
-    rw (c.in-Many.is, c.in-Link.is, made.paid, made.visits) c.in_ok-below-in-Link.ensures.pays
+    let b = c.in_ok-below-in-Link in (
+      rw (c.in-Many.is, c.in-Link.is, made.paid, made.visits) b.ensures.0,
+      rw made.value
+          (inside-links (g.S.Space.message c.args.space.now) c.args.start.segment c.args.start.word c.args.shape
+          c.in-Many.count (trees_of b.below.items)
+          (c.in-Many.is ∙ ap (λ (w : Width). shapes.Many w c.in-Many.count) c.in-Link.is) b.ensures.2 b.ensures.1),
+    )
 
-pub object-returns-in_ok-below-in-Link-clause-value : goal.object-returns-in_ok-below-in-Link-clause-value
-object-returns-in_ok-below-in-Link-clause-value g t c =
-    let b = c.in_ok-below-in-Link in
-    rw c.into_list.ensures.value
-    (inside-links (g.S.Space.message c.args.space.now) c.args.start.segment c.args.start.word c.args.shape
-    c.in-Many.count (trees_of b.below.items)
-    (c.in-Many.is ∙ ap (λ (w : Width). shapes.Many w c.in-Many.count) c.in-Link.is) b.ensures.number b.ensures.value)
-
-pub object-returns-in_ok-below-in-Rows-clause-pays : goal.object-returns-in_ok-below-in-Rows-clause-pays
-object-returns-in_ok-below-in-Rows-clause-pays g t c =
+pub object-returns-in_ok-below-in-Rows : goal.object-returns-in_ok-below-in-Rows
+object-returns-in_ok-below-in-Rows g t c =
     let made = c.into_list-in-Rows.ensures in
-    rw (c.in-Rows.is, made.paid, made.visits) c.in_ok-below-in-Rows.ensures.pays
-
-pub object-returns-in_ok-below-in-Rows-clause-value : goal.object-returns-in_ok-below-in-Rows-clause-value
-object-returns-in_ok-below-in-Rows-clause-value g t c =
     let b = c.in_ok-below-in-Rows in
-    let e : suc c.args.start.word ≡ c.args.start.word + 1 = omega arith in
-    rw c.into_list-in-Rows.ensures.value
-    (inside-rows (g.S.Space.message c.args.space.now) c.args.start.segment c.args.start.word c.args.shape
-    c.in-Rows.count c.in-Rows.words c.in-Rows.slots c.in-Rows.span (rows_of b.below.rows)
-    c.in-Rows.is b.ensures.number (rw e b.ensures.value))
+    let gives = rw c.place-first.ensures at b.ensures.0 in
+    let at = rw c.place-first.ensures at b.ensures.1 in
+    let e : suc c.args.start.word ≡ c.args.start.word + 1 = omega arith in (
+      rw (c.in-Rows.is, made.paid, made.visits) gives,
+      rw made.value
+          (inside-rows (g.S.Space.message c.args.space.now) c.args.start.segment c.args.start.word c.args.shape
+          c.in-Rows.count c.in-Rows.words c.in-Rows.slots c.in-Rows.span (rows_of b.below.rows)
+          c.in-Rows.is b.ensures.2 (rw e at)),
+    )
 
 -- ---- slots
 
-pub walk_slots-overflow_add-at : goal.walk_slots-overflow_add-at
-walk_slots-overflow_add-at g t c =
+pub walk_slots-overflow_add-start : goal.walk_slots-overflow_add-start
+walk_slots-overflow_add-start g t c =
     let room = room-of (g.S.Space.message c.args.space.now) c.args.segment c.requires.message in
     omega arith
 
-pub walk_slots-returns-clause-pays : goal.walk_slots-returns-clause-pays
-walk_slots-returns-clause-pays g t c =
+pub walk_slots-returns : goal.walk_slots-returns
+walk_slots-returns g t c =
     let e : c.loop-i.i ≡ c.args.count = omega arith in
-    rw (← e) c.loop-i.invariant.pays
+    let i = c.loop-i.invariant in
+    let same = c.from_vec.ensures in
+    (rw (← e) i.pays, rw same i.value, rw same (i.number ∙ e))
 
-pub walk_slots-returns-in-Err-clause-refused : goal.walk_slots-returns-in-Err-clause-refused
-walk_slots-returns-in-Err-clause-refused g t c =
+pub walk_slots-behind-requires-clause-visits : goal.walk_slots-behind-requires-clause-visits
+walk_slots-behind-requires-clause-visits g t c =
+    let room = room-of (g.S.Space.message c.args.space.now) c.args.segment c.requires.message in
+    let inside = c.requires.inside in
+    let more = c.loop-i-test.true in
+    let small = c.requires.left in
+    let a = c.loop-i.invariant.pays in
+    let b = c.in-Err.ensures in
+    let d = a.within in let e = a.few in let f = b.within in let h = b.few in
+    omega arith
+
+pub walk_slots-returns-in-Err : goal.walk_slots-returns-in-Err
+walk_slots-returns-in-Err g t c =
+    let r = rw c.place-at.ensures at c.in-Err.ensures in
     rw c.behind.ensures
     (refuses-next (visits (g.S.Space.message c.args.space.now) c.args.base c.args.depth) c.args.segment c.args.start
     c.args.left c.loop-i.i c.args.count c.loop-i.paid c.loop-i.visits
-    c.in-Err.stopped c.loop-i-test.true c.loop-i.invariant.pays c.in-Err.ensures.refused)
+    c.in-Err.stopped c.loop-i-test.true c.loop-i.invariant.pays r)
 
 pub walk_slots-loop-i-preserved : goal.walk_slots-loop-i-preserved
 walk_slots-loop-i-preserved g t c =
     let e = c.loop-i.invariant.number in
+    let gives = rw c.place-at.ensures at c.in-Ok-walk_slot.ensures.0 in
+    let at = rw c.place-at.ensures at c.in-Ok-walk_slot.ensures.1 in
     let pushed = c.push_reserved.ensures in
     record {
       pays = gives-next (visits (g.S.Space.message c.args.space.now) c.args.base c.args.depth) c.args.segment
           c.args.start c.args.left c.loop-i.i c.loop-i.paid c.loop-i.visits
-          c.in-Ok-walk_slot.found.paid c.in-Ok-walk_slot.found.visits c.loop-i.invariant.pays
-          c.in-Ok-walk_slot.ensures.pays;
+          c.in-Ok-walk_slot.found.paid c.in-Ok-walk_slot.found.visits c.loop-i.invariant.pays gives;
       value = rw pushed.items
           (at-next (g.S.Space.message c.args.space.now) c.args.segment c.args.start c.loop-i.slots.items
           c.in-Ok-walk_slot.found.value
-          c.loop-i.invariant.value (rw e c.in-Ok-walk_slot.ensures.value));
+          c.loop-i.invariant.value (rw e at));
       number = rw pushed.items
           (count-next (g.S.Space.message c.args.space.now) c.loop-i.slots.items c.in-Ok-walk_slot.found.value
           ∙ ap (λ (n : ℕ). n + 1) e);
@@ -284,7 +290,7 @@ walk_rows-walk_slots-requires g t c κs within =
 pub walk_rows-overflow_add-visits : goal.walk_rows-overflow_add-visits
 walk_rows-overflow_add-visits g t c =
     let a = c.loop-i.invariant.pays in
-    let b = c.in-Ok-walk_slots.ensures.pays in
+    let b = c.in-Ok-walk_slots.ensures.0 in
     let d = a.within in let e = a.few in let f = b.within in let h = b.few in
     let k = one-more c.loop-i.i c.args.count c.args.slots c.loop-i-test.true in
     omega arith
@@ -292,15 +298,15 @@ walk_rows-overflow_add-visits g t c =
 pub walk_rows-behind-requires-in-Err-clause-visits : goal.walk_rows-behind-requires-in-Err-clause-visits
 walk_rows-behind-requires-in-Err-clause-visits g t c =
     let a = c.loop-i.invariant.pays in
-    let b = c.in-Err.ensures.refused in
+    let b = c.in-Err.ensures in
     let d = a.within in let e = a.few in let f = b.within in let h = b.few in
     let k = one-more c.loop-i.i c.args.count c.args.slots c.loop-i-test.true in
     omega arith
 
-pub walk_rows-returns-in-Err-clause-refused : goal.walk_rows-returns-in-Err-clause-refused
-walk_rows-returns-in-Err-clause-refused g t c =
+pub walk_rows-returns-in-Err : goal.walk_rows-returns-in-Err
+walk_rows-returns-in-Err g t c =
     let e = c.loop-i.invariant.next in
-    let r = rw e at c.in-Err.ensures.refused in
+    let r = rw e at c.in-Err.ensures in
     rw c.behind-in-Err.ensures
     (rows-refuse (visits (g.S.Space.message c.args.space.now) c.args.base c.args.depth) c.args.start.segment
     c.args.start.word c.args.words c.args.slots c.args.left c.loop-i.i c.args.count c.loop-i.paid c.loop-i.visits
@@ -320,17 +326,18 @@ pub walk_rows-loop-i-preserved : goal.walk_rows-loop-i-preserved
 walk_rows-loop-i-preserved g t c =
     let e = c.loop-i.invariant.next in
     let n = c.loop-i.invariant.number in
+    let ws = rw c.place-at.ensures at c.in-Ok-words_at.ensures.words in
     let x = c.in-Ok-walk_slots in
     let pushed = c.push_reserved.ensures in
     record {
       pays = rows-give (visits (g.S.Space.message c.args.space.now) c.args.base c.args.depth) c.args.start.segment
           c.args.start.word c.args.words c.args.slots c.args.left c.loop-i.i c.loop-i.paid c.loop-i.visits
-          x.below.paid x.below.visits c.loop-i.invariant.pays (rw e at x.ensures.pays);
+          x.below.paid x.below.visits c.loop-i.invariant.pays (rw e at x.ensures.0);
       value = rw pushed.items
           (rows_at-step (g.S.Space.message c.args.space.now) c.args.words c.args.slots c.args.start.segment
           c.args.start.word c.loop-i.next c.loop-i.i c.loop-i.rows.items _
-          c.loop-i.invariant.value n e c.in-Ok-words_at.ensures.number c.in-Ok-words_at.ensures.words x.ensures.number
-          x.ensures.value);
+          c.loop-i.invariant.value n e c.in-Ok-words_at.ensures.number ws x.ensures.2
+          x.ensures.1);
       number = rw pushed.items (count_rows-next (g.S.Space.message c.args.space.now) c.loop-i.rows.items _
           ∙ ap (λ (k : ℕ). k + 1) n);
       filled = let a = pushed.len in let b = c.loop-i.invariant.filled in omega arith;

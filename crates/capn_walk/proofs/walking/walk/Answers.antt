@@ -2,7 +2,7 @@ use Rattle.std.proofs.Common.{inr, ◌∙◌, ap, arith}
 use Rattle.std.proofs.lemmas.Result.{err_from_is_err_and}
 use Rattle.capn_value.specs.View.{tree_of}
 use Rattle.capn_value.specs.Sizes.{base}
-use Rattle.capn_walk.specs.Accepted.{root}
+use Rattle.capn_walk.specs.Stops.{root}
 use Rattle.capn_walk.proofs.InRangeAt.{in_range-at}
 use Rattle.capn_walk.proofs.Stepped.{entered-root}
 use Rattle.capn_walk.proofs.RootWalks.{answered, refused-below, only-memory, one-value}
@@ -19,7 +19,7 @@ pub returns-in_err-found-clause-only : goal.returns-in_err-found-clause-only
 returns-in_err-found-clause-only g c v is =
     let t = c.in_ok-target.ensures in
     let r = rw (c.budget.ensures.value, c.depth.ensures.value, c.base.ensures.value, c.tariff.ensures) at
-    c.in_err-found.ensures.refused in
+    c.in_err-found.ensures.answer in
     let e = refused-below (g.S.Space.message c.args.space.now) c.args.limits t.place c.in_ok-target.target t.target
     t.kind c.in_err-found.field-0.0 r in
     let p = err_from_is_err_and c.from_residual-in_err-found.result c.from_residual-in_err-found.ensures.1 in
@@ -29,7 +29,7 @@ pub returns-in_err-found-clause-refused : goal.returns-in_err-found-clause-refus
 returns-in_err-found-clause-refused g c =
     let t = c.in_ok-target.ensures in
     let r = rw (c.budget.ensures.value, c.depth.ensures.value, c.base.ensures.value, c.tariff.ensures) at
-    c.in_err-found.ensures.refused in
+    c.in_err-found.ensures.answer in
     let e = refused-below (g.S.Space.message c.args.space.now) c.args.limits t.place c.in_ok-target.target t.target
     t.kind c.in_err-found.field-0.0 r in
     let p = err_from_is_err_and c.from_residual-in_err-found.result c.from_residual-in_err-found.ensures.1 in
@@ -40,10 +40,10 @@ of_fit-requires-clause-fits g c =
     let m = g.S.Space.message c.args.space.now in
     let t = c.in_ok-target.ensures in
     let pays = rw (c.budget.ensures.value, c.depth.ensures.value, c.base.ensures.value, c.tariff.ensures) at
-    c.in_ok-found.ensures.pays in
+    c.in_ok-found.ensures.answer.0 in
     let a = answered m c.args.limits t.place c.in_ok-target.target t.target t.kind
     (tree_of c.in_ok-found.found.value) c.in_ok-found.found.paid c.in_ok-found.found.visits pays
-    c.in_ok-found.ensures.value in
+    c.in_ok-found.ensures.answer.1 in
     let budget = c.budget.ensures in
     let depth = c.depth.ensures in
     a.fits (omega arith) (omega arith)
@@ -51,17 +51,17 @@ of_fit-requires-clause-fits g c =
 pub of_fit-requires-clause-in_range : goal.of_fit-requires-clause-in_range
 of_fit-requires-clause-in_range g c =
     in_range-at (g.S.Space.message c.args.space.now) c.segments-bounds.ensures.bounds.each
-    (tree_of c.in_ok-found.found.value) root c.in_ok-found.ensures.value
+    (tree_of c.in_ok-found.found.value) root c.in_ok-found.ensures.answer.1
 
 pub returns-clause-found : goal.returns-clause-found
 returns-clause-found g c =
     let m = g.S.Space.message c.args.space.now in
     let t = c.in_ok-target.ensures in
     let pays = rw (c.budget.ensures.value, c.depth.ensures.value, c.base.ensures.value, c.tariff.ensures) at
-    c.in_ok-found.ensures.pays in
+    c.in_ok-found.ensures.answer.0 in
     let a = answered m c.args.limits t.place c.in_ok-target.target t.target t.kind
     (tree_of c.in_ok-found.found.value) c.in_ok-found.found.paid c.in_ok-found.found.visits pays
-    c.in_ok-found.ensures.value in
+    c.in_ok-found.ensures.answer.1 in
     rw c.of_fit.ensures a.value
 
 pub returns-clause-pays : goal.returns-clause-pays
@@ -69,10 +69,10 @@ returns-clause-pays g c =
     let m = g.S.Space.message c.args.space.now in
     let t = c.in_ok-target.ensures in
     let pays = rw (c.budget.ensures.value, c.depth.ensures.value, c.base.ensures.value, c.tariff.ensures) at
-    c.in_ok-found.ensures.pays in
+    c.in_ok-found.ensures.answer.0 in
     let a = answered m c.args.limits t.place c.in_ok-target.target t.target t.kind
     (tree_of c.in_ok-found.found.value) c.in_ok-found.found.paid c.in_ok-found.found.visits pays
-    c.in_ok-found.ensures.value in
+    c.in_ok-found.ensures.answer.1 in
     a.sum
 
 pub returns-clause-counts : goal.returns-clause-counts
@@ -80,10 +80,10 @@ returns-clause-counts g c =
     let m = g.S.Space.message c.args.space.now in
     let t = c.in_ok-target.ensures in
     let pays = rw (c.budget.ensures.value, c.depth.ensures.value, c.base.ensures.value, c.tariff.ensures) at
-    c.in_ok-found.ensures.pays in
+    c.in_ok-found.ensures.answer.0 in
     let a = answered m c.args.limits t.place c.in_ok-target.target t.target t.kind
     (tree_of c.in_ok-found.found.value) c.in_ok-found.found.paid c.in_ok-found.found.visits pays
-    c.in_ok-found.ensures.value in
+    c.in_ok-found.ensures.answer.1 in
     a.number
 
 pub returns-clause-thrifty : goal.returns-clause-thrifty
@@ -91,10 +91,10 @@ returns-clause-thrifty g c =
     let m = g.S.Space.message c.args.space.now in
     let t = c.in_ok-target.ensures in
     let pays = rw (c.budget.ensures.value, c.depth.ensures.value, c.base.ensures.value, c.tariff.ensures) at
-    c.in_ok-found.ensures.pays in
+    c.in_ok-found.ensures.answer.0 in
     let a = answered m c.args.limits t.place c.in_ok-target.target t.target t.kind
     (tree_of c.in_ok-found.found.value) c.in_ok-found.found.paid c.in_ok-found.found.visits pays
-    c.in_ok-found.ensures.value in
+    c.in_ok-found.ensures.answer.1 in
     rw c.of_fit.ensures a.thrifty
 
 pub returns-clause-low : goal.returns-clause-low
@@ -102,15 +102,15 @@ returns-clause-low g c =
     let m = g.S.Space.message c.args.space.now in
     let t = c.in_ok-target.ensures in
     let pays = rw (c.budget.ensures.value, c.depth.ensures.value, c.base.ensures.value, c.tariff.ensures) at
-    c.in_ok-found.ensures.pays in
+    c.in_ok-found.ensures.answer.0 in
     let a = answered m c.args.limits t.place c.in_ok-target.target t.target t.kind
     (tree_of c.in_ok-found.found.value) c.in_ok-found.found.paid c.in_ok-found.found.visits pays
-    c.in_ok-found.ensures.value in
+    c.in_ok-found.ensures.answer.1 in
     rw c.of_fit.ensures a.low
 
 pub returns-clause-only : goal.returns-clause-only
 returns-clause-only g c v is =
-    let here = c.in_ok-found.ensures.value in
+    let here = c.in_ok-found.ensures.answer.1 in
     c.of_fit.ensures
     ∙ one-value (g.S.Space.message c.args.space.now) c.args.limits v (tree_of c.in_ok-found.found.value) here is
 

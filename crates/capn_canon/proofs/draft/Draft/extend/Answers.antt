@@ -1,6 +1,7 @@
 use Rattle.std.proofs.Common.{◌*◌, ◌++◌, ◌∙◌, ap, length, List, Option, ℕ}
 use Rattle.capn_canon.specs.Draft.{drafted}
-use Rattle.capn_canon.specs.Layout.{packed, words_for}
+use Rattle.capn_walk.specs.Target.{words_for}
+use Rattle.capn_canon.specs.Layout.{packed}
 use Rattle.capn_canon.specs.Patch.{whole}
 use Rattle.capn_canon.proofs.Drafted.{drafted-words}
 use Rattle.capn_canon.proofs.draft.Draft.extend.Goals as goal

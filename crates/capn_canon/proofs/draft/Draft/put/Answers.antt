@@ -1,4 +1,4 @@
-use Rattle.std.proofs.Common.{◌*◌, ◌+◌, ◌/◌, ◌<◌, ◌≤◌, ◌∙◌, ap, List, Option, Some, ℕ, length, set, arith}
+use Rattle.std.proofs.Common.{◌∙◌, ap, List, Option, Some, ℕ, length, set, arith}
 use Rattle.capn_canon.proofs.Drafted.{length-drafted, is-put, drafted-put}
 use Rattle.capn_canon.proofs.draft.Draft.put.Goals as goal
 

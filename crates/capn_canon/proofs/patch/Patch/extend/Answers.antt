@@ -1,11 +1,9 @@
-use Rattle.std.proofs.Common.{◌∙◌, ap, sym, subst, refl, List, Option, ℕ, ◌++◌, length, replicate, length-append, arith}
-use Rattle.std.proofs.lemmas.List.{length-replicate}
+use Rattle.std.proofs.Common.{◌∙◌, ap, refl, length, arith}
 use Rattle.std.specs.List.{flat_map}
 use Rattle.byteorder.specs.Endian.{little_bytes}
-use Rattle.capn_canon.specs.Padded.{pad, padded}
-use Rattle.capn_canon.specs.Patch.{patched, whole, IsPatched}
+use Rattle.capn_canon.specs.Patch.{patched}
 use Rattle.capn_canon.proofs.PackedBytes.{packed-numbers, packed-words, length-numbers, AreBytes-numbers}
-use Rattle.capn_canon.proofs.Patched.{patched-same, patched-padded, is-padded, OnErr-always}
+use Rattle.capn_canon.proofs.Patched.{patched-same, grown-length, is-grown, patched-grown, OnErr-always}
 use Rattle.capn_canon.proofs.patch.Patch.extend.Goals as goal
 
 pub returns-in_err-cover-clause-err : goal.returns-in_err-cover-clause-err
@@ -26,10 +24,9 @@ invariant_of-self-2 g c =
     let content = flat_map (little_bytes 8) c.args.xs.now in
     let k = length c.args.xs.now in
     let n = length-numbers 8 c.args.xs.now in
-    let a = length-append c.self.inside.bytes.items (padded content) in
-    let b = length-append content (replicate (pad (length content)) 0) in
-    let r = length-replicate {A = ℕ} (pad (length content)) 0 in
-    let d = ap length c.in_ok-append_octs.ensures.ok in
+    let d = grown-length c.self.inside.holes.items c.cover.new.marks.items c.self.inside.bytes.items content
+    c.append_octs.new.bytes.items k c.self.invariant c.cover.ensures.same
+    (omega arith) c.in_ok-append_octs.ensures.ok in
     let o = c.append_octs.new.bytes.ok.0 in
     let o1 = c.append_octs.new.bytes.ok.1 in
     let small = c.append_octs.new.bytes.small in
@@ -37,20 +34,17 @@ invariant_of-self-2 g c =
     let s = c.saturating_add.ensures in
     let e = c.len-words.ensures in
     let o2 = c.self.inside.bytes.ok.0 in
-    subst (IsPatched c.cover.new.marks.items) (sym c.in_ok-append_octs.ensures.ok)
-    (is-padded c.self.inside.holes.items c.cover.new.marks.items c.self.inside.bytes.items content k c.self.invariant
-    c.cover.ensures.same
-    (omega arith) (omega arith) (AreBytes-numbers 8 c.args.xs.now))
+    is-grown c.self.inside.holes.items c.cover.new.marks.items c.self.inside.bytes.items content
+    c.append_octs.new.bytes.items k c.self.invariant c.cover.ensures.same
+    (omega arith) c.in_ok-append_octs.ensures.ok (omega arith) (AreBytes-numbers 8 c.args.xs.now)
 
 pub returns-clause-ok : goal.returns-clause-ok
 returns-clause-ok g c =
     let content = flat_map (little_bytes 8) c.args.xs.now in
     let k = length c.args.xs.now in
     let n = length-numbers 8 c.args.xs.now in
-    ap (patched c.cover.new.marks.items) c.in_ok-append_octs.ensures.ok
-    ∙ patched-padded c.self.inside.holes.items c.cover.new.marks.items c.self.inside.bytes.items content k
-    c.self.invariant c.cover.ensures.same (omega arith)
-    ∙ ap (λ (ws : List ℕ). patched c.self.inside.holes.items c.self.inside.bytes.items ++ whole ws)
+    patched-grown c.self.inside.holes.items c.cover.new.marks.items c.self.inside.bytes.items content
+    c.append_octs.new.bytes.items k c.self.invariant c.cover.ensures.same
+    (omega arith) c.in_ok-append_octs.ensures.ok _ _ c.self.view_is
     (packed-numbers 8 1 64 k c.args.xs.now refl refl (λ i. omega (arith, c.type_inv.xs i))
     ∙ packed-words c.args.xs.now)
-    ∙ ap (λ (xs : List (Option ℕ)). xs ++ whole (c.args.xs.now)) c.self.view_is

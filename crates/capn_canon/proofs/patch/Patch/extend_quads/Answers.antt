@@ -1,13 +1,11 @@
-use Rattle.std.proofs.Common.{◌*◌, ◌∙◌, ap, sym, subst, refl, List, Option, ℕ, ◌++◌, length, replicate, length-append}
+use Rattle.std.proofs.Common.{◌*◌, ◌∙◌, ap, refl, length}
 use Rattle.std.proofs.Common.{arith}
-use Rattle.std.proofs.lemmas.List.{length-replicate}
 use Rattle.std.specs.List.{flat_map}
 use Rattle.byteorder.specs.Endian.{little_bytes}
-use Rattle.capn_canon.specs.Layout.{packed, words_for}
-use Rattle.capn_canon.specs.Padded.{pad, padded}
-use Rattle.capn_canon.specs.Patch.{patched, whole, IsPatched}
+use Rattle.capn_walk.specs.Target.{words_for}
+use Rattle.capn_canon.specs.Patch.{patched}
 use Rattle.capn_canon.proofs.PackedBytes.{packed-numbers, length-numbers, AreBytes-numbers}
-use Rattle.capn_canon.proofs.Patched.{patched-same, patched-padded, is-padded, OnErr-always}
+use Rattle.capn_canon.proofs.Patched.{patched-same, grown-length, is-grown, patched-grown, OnErr-always}
 use Rattle.capn_canon.proofs.patch.Patch.extend_quads.Goals as goal
 
 pub returns-in_err-cover-clause-err : goal.returns-in_err-cover-clause-err
@@ -28,10 +26,9 @@ invariant_of-self-2 g c =
     let content = flat_map (little_bytes 4) c.args.xs.now in
     let k = words_for (32 * length c.args.xs.now) in
     let n = length-numbers 4 c.args.xs.now in
-    let a = length-append c.self.inside.bytes.items (padded content) in
-    let b = length-append content (replicate (pad (length content)) 0) in
-    let r = length-replicate {A = ℕ} (pad (length content)) 0 in
-    let d = ap length c.in_ok-append_quads.ensures.ok in
+    let d = grown-length c.self.inside.holes.items c.cover.new.marks.items c.self.inside.bytes.items content
+    c.append_quads.new.bytes.items k c.self.invariant c.cover.ensures.same
+    (omega arith) c.in_ok-append_quads.ensures.ok in
     let o = c.append_quads.new.bytes.ok.0 in
     let o1 = c.append_quads.new.bytes.ok.1 in
     let small = c.append_quads.new.bytes.small in
@@ -40,20 +37,16 @@ invariant_of-self-2 g c =
     let e = c.len-words.ensures in
     let o2 = c.self.inside.bytes.ok.0 in
     let z = c.div_ceil.ensures in
-    subst (IsPatched c.cover.new.marks.items) (sym c.in_ok-append_quads.ensures.ok)
-    (is-padded c.self.inside.holes.items c.cover.new.marks.items c.self.inside.bytes.items content k c.self.invariant
-    c.cover.ensures.same
-    (omega arith) (omega arith) (AreBytes-numbers 4 c.args.xs.now))
+    is-grown c.self.inside.holes.items c.cover.new.marks.items c.self.inside.bytes.items content
+    c.append_quads.new.bytes.items k c.self.invariant c.cover.ensures.same
+    (omega arith) c.in_ok-append_quads.ensures.ok (omega arith) (AreBytes-numbers 4 c.args.xs.now)
 
 pub returns-clause-ok : goal.returns-clause-ok
 returns-clause-ok g c =
     let content = flat_map (little_bytes 4) c.args.xs.now in
     let k = words_for (32 * length c.args.xs.now) in
     let n = length-numbers 4 c.args.xs.now in
-    ap (patched c.cover.new.marks.items) c.in_ok-append_quads.ensures.ok
-    ∙ patched-padded c.self.inside.holes.items c.cover.new.marks.items c.self.inside.bytes.items content k
-    c.self.invariant c.cover.ensures.same (omega arith)
-    ∙ ap (λ (ws : List ℕ). patched c.self.inside.holes.items c.self.inside.bytes.items ++ whole ws)
+    patched-grown c.self.inside.holes.items c.cover.new.marks.items c.self.inside.bytes.items content
+    c.append_quads.new.bytes.items k c.self.invariant c.cover.ensures.same
+    (omega arith) c.in_ok-append_quads.ensures.ok _ _ c.self.view_is
     (packed-numbers 4 2 32 k c.args.xs.now refl refl (λ i. omega (arith, c.type_inv.xs i)))
-    ∙ ap (λ (xs : List (Option ℕ)). xs ++ whole (packed 2 32 (words_for (32 * length c.args.xs.now)) c.args.xs.now))
-    c.self.view_is

@@ -1,10 +1,9 @@
-use Rattle.std.proofs.Common.{◌≡◌, ◌+◌, ◌*◌, ◌/◌, ◌∙◌, ap, sym, subst, refl, List, Option, ℕ, ◌++◌, length, replicate}
-use Rattle.std.proofs.Common.{length-append, append-nil, arith}
-use Rattle.std.proofs.lemmas.List.{length-replicate}
-use Rattle.capn_canon.specs.Layout.{packed, words_for}
+use Rattle.std.proofs.Common.{◌≡◌, ◌*◌, ◌∙◌, ap, sym, List, ℕ, ◌++◌, length, replicate}
+use Rattle.std.proofs.Common.{append-nil, arith, refl}
+use Rattle.capn_walk.specs.Target.{words_for}
 use Rattle.capn_canon.specs.Padded.{pad, padded}
-use Rattle.capn_canon.specs.Patch.{patched, whole, IsPatched}
-use Rattle.capn_canon.proofs.Patched.{patched-same, patched-padded, is-padded, OnErr-always}
+use Rattle.capn_canon.specs.Patch.{patched}
+use Rattle.capn_canon.proofs.Patched.{patched-same, patched-grown, OnErr-always}
 use Rattle.capn_canon.proofs.patch.Patch.extend_words.Goals as goal
 
 no-padding : (xs : List ℕ) → pad (length xs) ≡ 0 → padded xs ≡ xs
@@ -29,9 +28,7 @@ returns-clause-ok g c =
     let k = words_for (8 * length c.args.xs.now) in
     let q = c.requires in
     let z : pad (length c.args.xs.now) ≡ 0 = omega arith in
-    ap (patched c.cover.new.marks.items) (c.in_ok-extend_from_slice.ensures.items
-    ∙ ap (λ (ys : List ℕ). c.self.inside.bytes.items ++ ys) (sym (no-padding content z)))
-    ∙ patched-padded c.self.inside.holes.items c.cover.new.marks.items c.self.inside.bytes.items content k
-    c.self.invariant c.cover.ensures.same (omega arith)
-    ∙ ap (λ (xs : List (Option ℕ)). xs ++ whole (packed 8 8 (words_for (8 * length c.args.xs.now)) c.args.xs.now))
-    c.self.view_is
+    patched-grown c.self.inside.holes.items c.cover.new.marks.items c.self.inside.bytes.items content
+    c.extend_from_slice.new.self.items k c.self.invariant c.cover.ensures.same (omega arith)
+    (c.in_ok-extend_from_slice.ensures.items
+    ∙ ap (λ (ys : List ℕ). c.self.inside.bytes.items ++ ys) (sym (no-padding content z))) _ _ c.self.view_is refl

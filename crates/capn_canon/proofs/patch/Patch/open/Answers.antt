@@ -1,4 +1,4 @@
-use Rattle.std.proofs.Common.{◌/◌, ◌<◌, ◌∙◌, ap, List, Option, None, ℕ, length, set, arith, true}
+use Rattle.std.proofs.Common.{◌/◌, ◌<◌, ◌∙◌, ap, List, Option, None, ℕ, length, set, arith}
 use Rattle.capn_canon.proofs.Patched.{length-patched, is-marked, patched-open}
 use Rattle.capn_canon.proofs.patch.Patch.open.Goals as goal
 
@@ -16,9 +16,8 @@ invariant_of-self g c =
     let v = ap length c.self.view_is in
     let h = c.requires in
     let lt : c.args.at < length c.self.inside.bytes.items / 8 = omega arith in
-    is-marked c.self.inside.holes.items c.mark.new.marks.items c.self.inside.bytes.items c.args.at true c.self.invariant
-    lt
-    c.mark.ensures.len c.mark.ensures.here c.mark.ensures.others
+    is-marked c.self.inside.holes.items c.mark.new.marks.items c.self.inside.bytes.items c.args.at c.self.invariant
+    lt c.mark.ensures.len c.mark.ensures.others
 
 pub returns : goal.returns
 returns g c =

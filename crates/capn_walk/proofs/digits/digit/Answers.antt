@@ -1,5 +1,5 @@
 use Rattle.capn_walk.proofs.SeenInside.{shifted}
-use Rattle.capn_walk.proofs.view.digit.Goals as goal
+use Rattle.capn_walk.proofs.digits.digit.Goals as goal
 
 pub returns-in-W8 : goal.returns-in-W8
 returns-in-W8 c = rw c.in-W8.is (shifted 8 c.args.word c.args.place)

@@ -1,6 +1,6 @@
 -- A packed text is refused for one reason.
-use Rattle.std.proofs.Common.{◌≡◌, ℕ, ◌+◌, ◌≤◌, List, [], ◌∷◌, ◌++◌, length, refl, ap, sym, subst, ◌∙◌, append_assoc}
-use Rattle.std.proofs.Common.{arith}
+use Rattle.std.proofs.Common.{◌≡◌, ℕ, ◌+◌, ◌≤◌, List, [], ◌∷◌, ◌++◌, length, refl, ap, sym, subst, ◌∙◌}
+use Rattle.std.proofs.Common.{append_assoc, arith}
 use Rattle.std.specs.List.{AllByRecursion}
 use Rattle.capn_pack.specs.Group.{Group, IsGroup, text, words}
 use Rattle.capn_pack.specs.Packs.{texts, word_count}
@@ -63,9 +63,7 @@ module _ (b : List ℕ) (max : ℕ) where
       let row = same_stand IsCut IsTooLong cut-no_group long-no_group at to s t in
       let here : IsCut s.left t.rest = subst (λ (xs : List ℕ). IsCut s.left xs) row.rest_is s.fault in
       let cut : IsCut t.left t.rest = subst (λ (n : ℕ). IsCut n t.rest) row.left_is here in
-      let fits = (cut.1 t.fault.1).0 in
-      let over = t.fault.2 in
-      omega arith
+      grind (arith, cut, t.fault)
 
   one_packed : (e f : UnpackFault)
       → IsRefused b max e → IsRefused b max f → (e ≡ fault.Memory → ⊥) → (f ≡ fault.Memory → ⊥) → e ≡ f
@@ -82,6 +80,7 @@ module _ (b : List ℕ) (max : ℕ) where
   one_packed (fault.TooLong at) (fault.TooLong to) r s ne nf =
       ap (λ (n : ℕ). fault.TooLong n) (same_at IsTooLong long-no_group at to r s)
 
+-- a packed text is refused for one reason, but for want of memory
 pub one_unpack_fault : (b : List ℕ) (max : ℕ) (e f : UnpackFault)
     → IsRefused b max e → IsRefused b max f → (e ≡ fault.Memory → ⊥) → (f ≡ fault.Memory → ⊥) → e ≡ f
 one_unpack_fault b max e f r s ne nf = one_packed b max e f r s ne nf
