@@ -14,8 +14,8 @@ mod packing;
 mod pieces;
 mod refusals;
 mod runs;
-mod surveys;
 mod views;
+mod visits;
 mod words;
 
 use anyhow::{Result, bail};
@@ -23,6 +23,7 @@ use capn_value::Tariff;
 use growths::{Heap, answer_each};
 use std::alloc::Global;
 use std::io::BufRead;
+use visits::Asked;
 use words::word_at;
 
 /// The tariff by which a call pays, and the words of the call.
@@ -43,7 +44,7 @@ fn answer(alloc: Global, heap: &Heap, words: &[&str]) -> Result<String> {
         "usage" => runs::usage_answer(alloc, words),
         "limits" => messages::limits_answer(alloc, words),
         "resolve" => messages::resolve_answer(alloc, heap, words),
-        "walk" => messages::walk_answer(alloc, heap, words, tariff),
+        "walk" => visits::visits_answer(alloc, heap, Asked::Walk, words, tariff),
         "canonicalise" => messages::canonicalise_answer(alloc, heap, words, tariff),
         "again" => messages::again_answer(alloc, heap, words, tariff),
         "equal" => messages::equal_answer(alloc, heap, words),
@@ -55,8 +56,8 @@ fn answer(alloc: Global, heap: &Heap, words: &[&str]) -> Result<String> {
         "unpacker" => pieces::unpacker_answer(alloc, heap, words),
         "read" => pieces::read_answer(alloc, heap, words),
         "write" => pieces::write_answer(alloc, heap, words),
-        "survey" => surveys::survey_answer(alloc, heap, words, tariff),
-        "is_canonical" => surveys::is_canonical_answer(alloc, heap, words, tariff),
+        "survey" => visits::visits_answer(alloc, heap, Asked::Survey, words, tariff),
+        "is_canonical" => visits::is_canonical_answer(alloc, heap, words, tariff),
         "view" => views::view_answer(alloc, heap, words, tariff),
         call => bail!("no call {call:?}"),
     }

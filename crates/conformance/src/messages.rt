@@ -1,7 +1,7 @@
 //! The calls on messages.
 
 use crate::growths::{Heap, MEMORY};
-use crate::refusals::{stop_told, told};
+use crate::refusals::told;
 use crate::words::{bytes_at, digits_of, number_at, word_at};
 use anyhow::{Result, anyhow, bail};
 use capn_canon::{Form, LayoutFault, Refusal, canonicalise, layout};
@@ -196,49 +196,6 @@ pub(crate) fn equal_answer(alloc: Global, heap: &Heap, words: &[&str]) -> Result
         }
     }
     Ok(String::from_str(alloc, text)?)
-}
-
-/// What a walk answers.
-fn walk_text<S: Space>(alloc: Global, heap: &Heap, space: &S, limits: Limits) -> Result<String> {
-    match walk(heap, space, limits) {
-        Ok(walked) => {
-            let paid = walked.paid;
-            let visits = walked.visits;
-            Ok(format!(in alloc; "paid {paid}, visits {visits}")?)
-        }
-        Err(stopped) => stop_told(alloc, stopped),
-    }
-}
-
-/// What a walk of the message that stands first answers.
-fn walk_frame(alloc: Global, heap: &Heap, bytes: &[u8], limits: Limits) -> Result<String> {
-    match first(heap, bytes, MOST_MESSAGE_WORDS) {
-        Ok((space, _)) => walk_text(alloc, heap, &space, limits),
-        Err(fault) => told(alloc, fault),
-    }
-}
-
-/// `walk FORM MESSAGE_WORDS BUDGET DEPTH BYTES`.
-pub(crate) fn walk_answer(
-    alloc: Global,
-    heap: &Heap,
-    words: &[&str],
-    tariff: Tariff,
-) -> Result<String> {
-    let form = form_at(words, 1)?;
-    let limits = true_limits_at(words, 2, tariff)?;
-    let bytes = bytes_at(alloc, words, 5)?;
-    match form {
-        Form::Bare => match Bare::new(bytes.as_slice()) {
-            Ok(space) => walk_text(alloc, heap, &space, limits),
-            Err(_) => Err(anyhow!("no segment")),
-        },
-        Form::Stream => walk_frame(alloc, heap, bytes.as_slice(), limits),
-        Form::Packed => match unpack(heap, bytes.as_slice(), MOST_MESSAGE_WORDS) {
-            Ok(text) => walk_frame(alloc, heap, text.as_slice(), limits),
-            Err(fault) => told(alloc, fault),
-        },
-    }
 }
 
 /// What a slot denotes, as a line.

@@ -1,4 +1,4 @@
-//! The calls that look through a message without its value.
+//! The calls that tell of a message's visits, and whether its bytes are canonical.
 
 use crate::growths::Heap;
 use crate::messages::{form_at, true_limits_at};
@@ -9,9 +9,21 @@ use capn_canon::{Form, is_canonical};
 use capn_pack::unpack;
 use capn_stream::first;
 use capn_value::Tariff;
-use capn_walk::{Limits, survey};
+use capn_walk::{Limits, survey, walk};
 use capn_words::{Bare, MOST_MESSAGE_WORDS, Space};
 use std::alloc::Global;
+
+/// What a walk answers.
+fn walk_text<S: Space>(alloc: Global, heap: &Heap, space: &S, limits: Limits) -> Result<String> {
+    match walk(heap, space, limits) {
+        Ok(walked) => {
+            let paid = walked.paid;
+            let visits = walked.visits;
+            Ok(format!(in alloc; "paid {paid}, visits {visits}")?)
+        }
+        Err(stopped) => stop_told(alloc, stopped),
+    }
+}
 
 /// What a survey answers.
 fn survey_text<S: Space>(alloc: Global, heap: &Heap, space: &S, limits: Limits) -> Result<String> {
@@ -30,18 +42,46 @@ fn survey_text<S: Space>(alloc: Global, heap: &Heap, space: &S, limits: Limits) 
     }
 }
 
-/// What a survey of the message that stands first answers.
-fn survey_frame(alloc: Global, heap: &Heap, bytes: &[u8], limits: Limits) -> Result<String> {
+/// What is asked of a message.
+#[derive(Clone, Copy)]
+pub(crate) enum Asked {
+    Walk,
+    Survey,
+}
+
+/// What a message answers.
+fn visits_text<S: Space>(
+    alloc: Global,
+    heap: &Heap,
+    asked: Asked,
+    space: &S,
+    limits: Limits,
+) -> Result<String> {
+    match asked {
+        Asked::Walk => walk_text(alloc, heap, space, limits),
+        Asked::Survey => survey_text(alloc, heap, space, limits),
+    }
+}
+
+/// What the message that stands first answers.
+fn visits_of_frame(
+    alloc: Global,
+    heap: &Heap,
+    asked: Asked,
+    bytes: &[u8],
+    limits: Limits,
+) -> Result<String> {
     match first(heap, bytes, MOST_MESSAGE_WORDS) {
-        Ok((space, _)) => survey_text(alloc, heap, &space, limits),
+        Ok((space, _)) => visits_text(alloc, heap, asked, &space, limits),
         Err(fault) => told(alloc, fault),
     }
 }
 
-/// `survey FORM MESSAGE_WORDS BUDGET DEPTH BYTES`.
-pub(crate) fn survey_answer(
+/// `walk FORM MESSAGE_WORDS BUDGET DEPTH BYTES`, or `survey` with the same.
+pub(crate) fn visits_answer(
     alloc: Global,
     heap: &Heap,
+    asked: Asked,
     words: &[&str],
     tariff: Tariff,
 ) -> Result<String> {
@@ -50,12 +90,12 @@ pub(crate) fn survey_answer(
     let bytes = bytes_at(alloc, words, 5)?;
     match form {
         Form::Bare => match Bare::new(bytes.as_slice()) {
-            Ok(space) => survey_text(alloc, heap, &space, limits),
+            Ok(space) => visits_text(alloc, heap, asked, &space, limits),
             Err(_) => Err(anyhow!("no segment")),
         },
-        Form::Stream => survey_frame(alloc, heap, bytes.as_slice(), limits),
+        Form::Stream => visits_of_frame(alloc, heap, asked, bytes.as_slice(), limits),
         Form::Packed => match unpack(heap, bytes.as_slice(), MOST_MESSAGE_WORDS) {
-            Ok(text) => survey_frame(alloc, heap, text.as_slice(), limits),
+            Ok(text) => visits_of_frame(alloc, heap, asked, text.as_slice(), limits),
             Err(fault) => told(alloc, fault),
         },
     }
