@@ -1,7 +1,9 @@
 //! Lists of elements without pointers, read from the bytes of their segment in one pass.
 
-ghost use Rattle.std.specs.Prelude.{◌≡◌, ◌+◌, ◌*◌, ◌/◌, ◌%◌, ◌<◌, ◌≤◌, ◌^◌, length, map, take, IfOk};
+ghost use Rattle.std.specs.Prelude.{◌≡◌, ◌+◌, ◌*◌, ◌/◌, ◌%◌, ◌<◌, ◌≤◌, ◌^◌, ◌++◌, length, map, take};
+ghost use Rattle.std.specs.Prelude.{vec_capacity, IfOk};
 ghost use Rattle.std.specs.Int.{from_bool};
+ghost use Rattle.std.specs.List.{range_with_len};
 ghost use Rattle.capn_words.specs.Message.{IsMessage, segment_at};
 ghost use Rattle.capn_value.specs.View.{tree_of};
 ghost use Rattle.capn_walk.specs.Target.{content_words};
@@ -137,10 +139,28 @@ fn bits_at<S: Space, A: Allocator>(
     let count = count as usize;
     let bytes = space.bytes(at, count.div_ceil(8));
     let mut bits = Vec::with_capacity(alloc, count)?;
-    for i in 0..count {
-        bits.push_reserved(bit_of(bytes[i / 8], i % 8));
+    for byte in &bytes[..count / 8] {
+        push_bits(&mut bits, *byte, 8);
+    }
+    if count % 8 > 0 {
+        push_bits(&mut bits, bytes[count / 8], count % 8);
     }
     Ok(Items::from_vec(bits))
+}
+
+/// So many bits of a byte, the least significant first. Inlined, so that the loop over a whole byte is unrolled.
+#[inline(always)]
+fn push_bits<A: Allocator>(bits: &mut Vec<bool, A>, byte: u8, count: usize)
+    requires within { count ≤ 8 }
+    requires room { length bits.old.items + count ≤ vec_capacity bits.old }
+    ensures items { map from_bool bits.new.items
+        ≡ map from_bool bits.old.items ++ map (λ k. byte / 2 ^ k % 2) (range_with_len 0 count) }
+    ensures number { length bits.new.items ≡ length bits.old.items + count }
+    ensures capacity { vec_capacity bits.new ≡ vec_capacity bits.old }
+{
+    for place in 0..count {
+        bits.push_reserved(bit_of(byte, place));
+    }
 }
 
 /// The bit at a place of a byte, counted from the least significant.

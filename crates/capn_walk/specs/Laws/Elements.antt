@@ -4,8 +4,11 @@ use Rattle.std.proofs.Common.{take, drop, slice_index, map, refl, ap, sym, subst
 use Rattle.std.proofs.Math.Nat.{div-div-eq-div-mul}
 use Rattle.std.proofs.lemmas.Nat.{pow-add}
 use Rattle.std.specs.Int.{from_bool}
+use Rattle.std.specs.List.{range_with_len}
 use Rattle.std.proofs.Math.Seq.{drop-cons}
-use Rattle.std.proofs.lemmas.List.{get_or-drop, get_or-take, length-take-le, length-map, map-append}
+use Rattle.std.proofs.lemmas.List.{get_or-drop, get_or-take, length-take-le, length-map, map-append, append_assoc}
+use Rattle.std.proofs.lemmas.List.FromFn.{length-map-range_with_len, get_or-map-range_with_len}
+use Rattle.std.proofs.lemmas.List.FromFn.{map-range_with_len_more}
 use Rattle.std.proofs.lemmas.Grind.{same_number_lists, common_steps}
 use Rattle.byteorder.specs.Endian.{little_number, IsRead}
 use Rattle.capn_words.specs.Message.{segment_at, bytes_at}
@@ -92,16 +95,27 @@ eight-bytes : (w : ℕ) → w < 2 ^ 64 →
     ≡ w
 eight-bytes w h = omega arith
 
--- one more bit
-pub bits-more : (ws : List ℕ) (i : ℕ) (xs ys : List Bool) (b : Bool) → ys ≡ xs ++ b ∷ [] → length xs ≡ i
-    → AreElements 64 1 ws (map from_bool xs) →
-    from_bool b ≡ element 64 1 ws i → AreElements 64 1 ws (map from_bool ys)
-bits-more ws i xs ys b e l h is =
-    let whole = ap (map from_bool) e ∙ map-append from_bool xs (b ∷ []) in
-    subst (AreElements 64 1 ws) (sym whole) (more (map from_bool xs) (length-map xs from_bool ∙ l) h)
-  where
-    more : (ns : List ℕ) → length ns ≡ i → AreElements 64 1 ws ns → AreElements 64 1 ws (ns ++ from_bool b ∷ [])
-    more ns m h j below = grind (arith, common_steps)
+-- the first bits of a number, the lowest first
+abbrev pub first_bits : ℕ → ℕ → List ℕ
+first_bits count x = map (λ k. x / 2 ^ k % 2) (range_with_len 0 count)
+
+-- one more of them
+pub first_bits-more : (i x : ℕ) (zs xs ys : List Bool) (b : Bool) → ys ≡ xs ++ b ∷ []
+    → map from_bool xs ≡ map from_bool zs ++ first_bits i x → from_bool b ≡ x / 2 ^ i % 2
+    → map from_bool ys ≡ map from_bool zs ++ first_bits (i + 1) x
+first_bits-more i x zs xs ys b e before is =
+    let bit : ℕ → ℕ = λ k. x / 2 ^ k % 2 in
+    ap (map from_bool) e
+    ∙ map-append from_bool xs (b ∷ [])
+    ∙ ap (λ (l : List ℕ). l ++ from_bool b ∷ []) before
+    ∙ append_assoc (map from_bool zs) (first_bits i x) (from_bool b ∷ [])
+    ∙ ap (λ (l : List ℕ). map from_bool zs ++ l) (ap (λ (y : ℕ). first_bits i x ++ y ∷ []) is
+    ∙ sym (map-range_with_len_more bit 0 i i (omega arith)))
+
+-- elements, and the next ones behind them
+elements-joined : (ws xs ys : List ℕ) → AreElements 64 1 ws xs
+    → ((k : ℕ) → k < length ys → slice_index ys k ≡ element 64 1 ws (length xs + k)) → AreElements 64 1 ws (xs ++ ys)
+elements-joined ws xs ys before next i below = grind (arith, common_steps)
 
 -- ---- bytes from a place of a message on
 
@@ -142,11 +156,24 @@ module _ (m : List (List ℕ)) (at : Place) where
     are-bytes i h = byte-at i (i / 8) (i % 8) (omega arith) (omega arith) (omega (arith, length-read))
 
     -- their bits are the elements of a list of bits
-    pub is-bit : (i : ℕ) → i < 8 * n → slice_index bs (i / 8) / 2 ^ (i % 8) % 2 ≡ element 64 1 ws i
-    is-bit i h =
-        ap (λ (x : ℕ). x / 2 ^ (i % 8) % 2)
-        (byte-at (i / 8) (i / 64) (i / 8 % 8) (omega arith) (omega arith) (omega arith))
-        ∙ bit-in_word (slice_index ws (i / 64)) (i / 8 % 8) (i % 8) (i % 64) (omega arith) (omega arith) (omega arith)
+    bit-at : (q k : ℕ) → q < n → k < 8 → slice_index bs q / 2 ^ k % 2 ≡ element 64 1 ws (8 * q + k)
+    bit-at q k h below =
+        let i = 8 * q + k in
+        ap (λ (x : ℕ). x / 2 ^ k % 2) (byte-at q (i / 64) (q % 8) (omega arith) (omega arith) h)
+        ∙ bit-in_word (slice_index ws (i / 64)) (q % 8) k (i % 64) (omega arith) below (omega arith)
+
+    -- so are those that came before and the first of the next byte
+    pub bits-more : (q count x : ℕ) (xs ys : List Bool) → x ≡ slice_index bs q → q < n → count ≤ 8 → length xs ≡ 8 * q
+        → map from_bool ys ≡ map from_bool xs ++ first_bits count x
+        → AreElements 64 1 ws (map from_bool xs) → AreElements 64 1 ws (map from_bool ys)
+    bits-more q count x xs ys is h most l e before =
+        let bit : ℕ → ℕ = λ k. x / 2 ^ k % 2 in
+        let so_far = length-map xs from_bool ∙ l in
+        let many = length-map-range_with_len bit 0 count in
+        subst (AreElements 64 1 ws) (sym e) (elements-joined ws (map from_bool xs) (first_bits count x) before
+        (λ k below. get_or-map-range_with_len bit 0 count k k 0 (omega arith) (omega arith)
+        ∙ ap (λ (y : ℕ). y / 2 ^ k % 2) is
+        ∙ bit-at q k h (omega arith) ∙ ap (λ (i : ℕ). element 64 1 ws (i + k)) (sym so_far)))
 
     module _ (xs : List ℕ) where
       -- the numbers in them are the elements of a list of 16 bits
