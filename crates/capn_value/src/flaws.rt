@@ -21,6 +21,12 @@ struct Flaws {
 }
 
 impl Flaws {
+    const NONE: Flaws = Flaws {
+        wide: false,
+        long: false,
+        ragged: false,
+    };
+
     // Those of either.
     fn or(self, other: Flaws) -> Flaws
         ensures wide { result.wide ≡ (self.wide || other.wide) }
@@ -107,11 +113,7 @@ fn flaws_of_each<A: Allocator>(items: &[Value<A>]) -> Flaws
     ensures long { result.long ≡ fits.anywhere_in fits.is_long (trees_of items.now) }
     ensures ragged { result.ragged ≡ fits.anywhere_in fits.is_ragged (trees_of items.now) }
 {
-    let mut found = Flaws {
-        wide: false,
-        long: false,
-        ragged: false,
-    };
+    let mut found = Flaws::NONE;
     for v in items {
         found = found.or(flaws_of(v));
     }
@@ -124,11 +126,7 @@ fn flaws_of_rows<A: Allocator>(bodies: &[Body<A>]) -> Flaws
     ensures long { result.long ≡ fits.anywhere_in_rows fits.is_long (rows_of bodies.now) }
     ensures ragged { result.ragged ≡ fits.anywhere_in_rows fits.is_ragged (rows_of bodies.now) }
 {
-    let mut found = Flaws {
-        wide: false,
-        long: false,
-        ragged: false,
-    };
+    let mut found = Flaws::NONE;
     for body in bodies {
         found = found.or(flaws_of_each(body.slots.as_slice()));
     }
