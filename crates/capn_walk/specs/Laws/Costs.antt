@@ -1,5 +1,5 @@
 -- What a walk pays is at least the cost of the value that it finds, and its depth at least the height.
-use Rattle.std.proofs.Common.{◌≡◌, ◌≢◌, ℕ, zero, suc, ◌+◌, ◌-◌, ◌*◌, ◌<◌, ◌≤◌, ◌==◌, List, [], ◌∷◌, ◌++◌, length, Ok}
+use Rattle.std.proofs.Common.{◌≡◌, ◌≢◌, ℕ, zero, suc, ◌+◌, ◌-◌, ◌*◌, ◌<◌, ◌≤◌, ◌==◌, List, [], ◌∷◌, ◌++◌, length}
 use Rattle.std.proofs.Common.{refl, ap, ◌∙◌, arith, cond, if◌then◌else◌}
 use Rattle.std.specs.List.{flat_map}
 use Rattle.std.proofs.lemmas.Grind.{flat_map-append}
@@ -8,14 +8,11 @@ use Rattle.capn_words.specs.declared.space.Place.{Place}
 use Rattle.capn_value.specs.Tree.{Tree, nil, node, voids, bits, bytes, pairs, quads, octs, links, rows, cap, Trees}
 use Rattle.capn_value.specs.Tree.{no_trees, tree, Bodies, no_bodies, body, count, count_rows, row_words}
 use Rattle.capn_value.specs.Sizes.{height, greatest, greatest_in_rows, cost, costs, costs_in_rows, rows_price}
-use Rattle.capn_words.specs.declared.pointer.Width.TheVariants.{W0, W1, W8, W16, W32, W64, Link}
-use Rattle.capn_walk.specs.declared.target.Target.TheVariants as targets
 use Rattle.capn_walk.specs.declared.target.Shape.{Shape}
 use Rattle.capn_walk.specs.declared.target.Shape.TheVariants as shapes
-use Rattle.capn_walk.specs.Target.{target}
 use Rattle.capn_walk.specs.Visits.{Visit, pays, fails, price, places, row_places, slots, visits}
 use Rattle.capn_walk.specs.Stops.{paid_of, AllPay}
-use Rattle.capn_walk.specs.At.{IsAt, AreAt, RowsAt}
+use Rattle.capn_walk.specs.At.{IsAt, AreAt, RowsAt, Names}
 use Rattle.capn_words.specs.Laws.FieldBits.{pick}
 use Rattle.capn_walk.specs.Laws.Inside.{inside}
 use Rattle.capn_walk.specs.Laws.Walks.{slot, visits-deep, visits-object}
@@ -64,14 +61,24 @@ module _ (m : List (List ℕ)) (base : ℕ) where
     sum : paid_of (visits m base d at) ≡ price base shape + pads
         + paid_of (flat_map (visits m base (d - 1)) (slots s start shape))
 
-  object : (at : Place) (d s start pads : ℕ) (shape : Shape) → target m at ≡ Ok (targets.Content s start shape pads)
-      → AllPay (visits m base d at) → Object at d s start pads shape
-  object at zero s start pads shape e h = let f = rw (visits-deep m base at s start pads shape e 0 refl) at h in
-      absurd f
-  object at (suc d) s start pads shape e h =
-      let o = visits-object m base at s start pads shape e (suc d) (omega arith) in
-      let f = rw o at h in
-      record { deep = omega arith; below = f; sum = ap paid_of o }
+  object : {x : Shape} {Inside : ℕ → ℕ → Type 0} (at : Place) (d : ℕ) (i : Names m at x Inside)
+      → AllPay (visits m base d at) → Object at d i.segment i.start i.pads x
+  object {x = x} at zero i h =
+      absurd (let f = rw (visits-deep m base at i.segment i.start i.pads x i.is 0 refl) at h in f)
+  object {x = x} at (suc d) i h =
+      let o = visits-object m base at i.segment i.start i.pads x i.is (suc d) (omega arith) in
+      record { deep = omega arith; below = rw o at h; sum = ap paid_of o }
+
+  -- a value that costs no more than its object and its slots, and is one higher than these
+  with-slots : {at : Place} {d s start pads c q n : ℕ} {x : Shape} → Object at d s start pads x
+      → (q ≤ paid_of (flat_map (visits m base (d - 1)) (slots s start x))) × (n ≤ d - 1) → c ≤ price base x + q
+      → (c ≤ paid_of (visits m base d at)) × (1 + n ≤ d)
+  with-slots o below cheap = let deep = o.deep in let sum = o.sum in (omega arith, omega arith)
+
+  -- a value that costs no more than its object, and is one high
+  without-slots : {c : ℕ} {x : Shape} {Inside : ℕ → ℕ → Type 0} (at : Place) (d : ℕ) → Names m at x Inside
+      → AllPay (visits m base d at) → c ≤ price base x → (c ≤ paid_of (visits m base d at)) × (1 ≤ d)
+  without-slots at d i h cheap = with-slots {q = 0} {n = 0} (object at d i h) (omega arith, omega arith) (omega arith)
 
   mutual
     pub cost-paid : (v : Tree) (at : Place) (d : ℕ) → IsAt m at v → AllPay (visits m base d at)
@@ -79,57 +86,25 @@ module _ (m : List (List ℕ)) (base : ℕ) where
     cost-paid nil at d i h = (omega arith, omega arith)
     cost-paid (cap k) at d i h = (omega arith, omega arith)
     cost-paid (node ws ss) at d i h =
-        let o = object at d i.segment i.start i.pads (shapes.Node (length ws) (count ss)) i.is h in
-        let below = costs-paid ss i.segment (i.start + length ws) (d - 1) i.inside.1 o.below in
-        let deep = o.deep in
-        let sum = o.sum in
-        (omega arith, omega arith)
+        let o = object at d i h in
+        with-slots o (costs-paid ss i.segment (i.start + length ws) (d - 1) i.inside.1 o.below) (omega arith)
     cost-paid (links ts) at d i h =
-        let o = object at d i.segment i.start i.pads (shapes.Many Link (count ts)) i.is h in
-        let below = costs-paid ts i.segment i.start (d - 1) i.inside o.below in
-        let deep = o.deep in
-        let sum = o.sum in
-        (omega arith, omega arith)
+        let o = object at d i h in
+        with-slots o (costs-paid ts i.segment i.start (d - 1) i.inside o.below) (omega arith)
     cost-paid (rows bs) at d i h =
         let n = i.3 in
-        let o = object at d n.segment n.start n.pads (shapes.Rows (count_rows bs) i.0 i.1 i.2) n.is h in
+        let o = object at d n h in
         let fit = (inside m at n.segment n.start n.pads (shapes.Rows (count_rows bs) i.0 i.1 i.2) n.is).1 in
-        let below = costs-rows bs i.0 i.1 n.segment (n.start + 1) (d - 1) (let e : suc n.start ≡ n.start + 1 =
-        omega arith in rw e at n.inside) o.below in
+        let e : suc n.start ≡ n.start + 1 = omega arith in
+        let below = costs-rows bs i.0 i.1 n.segment (n.start + 1) (d - 1) (rw e at n.inside) o.below in
         let p = rows-price bs i.0 i.1 i.2 below.2 fit in
-        let deep = o.deep in
-        let sum = o.sum in
-        (omega arith, omega arith)
-    cost-paid (voids n) at d i h =
-        let o = object at d i.segment i.start i.pads (shapes.Many W0 n) i.is h in
-        let deep = o.deep in
-        let sum = o.sum in
-        (omega arith, omega arith)
-    cost-paid (bits xs) at d i h =
-        let o = object at d i.segment i.start i.pads (shapes.Many W1 (length xs)) i.is h in
-        let deep = o.deep in
-        let sum = o.sum in
-        (omega arith, omega arith)
-    cost-paid (bytes xs) at d i h =
-        let o = object at d i.segment i.start i.pads (shapes.Many W8 (length xs)) i.is h in
-        let deep = o.deep in
-        let sum = o.sum in
-        (omega arith, omega arith)
-    cost-paid (pairs xs) at d i h =
-        let o = object at d i.segment i.start i.pads (shapes.Many W16 (length xs)) i.is h in
-        let deep = o.deep in
-        let sum = o.sum in
-        (omega arith, omega arith)
-    cost-paid (quads xs) at d i h =
-        let o = object at d i.segment i.start i.pads (shapes.Many W32 (length xs)) i.is h in
-        let deep = o.deep in
-        let sum = o.sum in
-        (omega arith, omega arith)
-    cost-paid (octs xs) at d i h =
-        let o = object at d i.segment i.start i.pads (shapes.Many W64 (length xs)) i.is h in
-        let deep = o.deep in
-        let sum = o.sum in
-        (omega arith, omega arith)
+        with-slots o (below.0, below.1) (omega arith)
+    cost-paid (voids n) at d i h = without-slots at d i h (omega arith)
+    cost-paid (bits xs) at d i h = without-slots at d i h (omega arith)
+    cost-paid (bytes xs) at d i h = without-slots at d i h (omega arith)
+    cost-paid (pairs xs) at d i h = without-slots at d i h (omega arith)
+    cost-paid (quads xs) at d i h = without-slots at d i h (omega arith)
+    cost-paid (octs xs) at d i h = without-slots at d i h (omega arith)
 
     costs-paid : (ts : Trees) (s w d : ℕ) → AreAt m s w ts → AllPay (flat_map (visits m base d) (places s w (count ts)))
         →

@@ -19,9 +19,8 @@ use Rattle.capn_walk.specs.declared.walked.Stopped.{Stopped}
 use Rattle.capn_walk.specs.Target.{target}
 use Rattle.capn_walk.specs.Visits.{Visit, pays, fails, price, places, slots, visits, visit, last_visit}
 use Rattle.capn_walk.specs.Verdict.{accepted, refused, after, judge}
-use Rattle.capn_walk.specs.At.{IsAt, AreAt, RowsAt, words_from}
+use Rattle.capn_walk.specs.At.{IsAt, AreAt, RowsAt, IsInside, Names, words_from}
 use Rattle.capn_walk.specs.Verdict.{Gives, Refuses}
-use Rattle.capn_walk.specs.At.{IsInside}
 use Rattle.capn_walk.specs.Shapes.{slot_count}
 use Rattle.capn_walk.specs.Laws.Inside.{inside, slots-price}
 use Rattle.capn_walk.specs.Laws.Judge.{judge-more, judge-stops, judge-pays}
@@ -202,96 +201,31 @@ module _ (m : List (List ℕ)) where
   gives-nothing base at left d e =
       record { is = ap (judge left) e ∙ judge-pays left 0 at [] (omega arith); within = omega arith; few = omega arith }
 
+  -- what is said of the content that a pointer names, by an equal shape
+  names : {at : Place} {s start pads : ℕ} {shape x : Shape} {Inside : ℕ → ℕ → Type 0}
+      → target m at ≡ Ok (targets.Content s start shape pads) → shape ≡ x → Inside s start → Names m at x Inside
+  names {s = s} {start = start} {pads = pads} e h i = record {
+    segment = s;
+    start = start;
+    pads = pads;
+    is = e ∙ ap (λ (x : Shape). Ok (targets.Content s start x pads)) h;
+    inside = i;
+  }
+
   -- the value inside the content that a pointer names stands at the pointer's place
   pub is-inside : (at : Place) (s start pads : ℕ) (shape : Shape) (v : Tree)
       → target m at ≡ Ok (targets.Content s start shape pads) →
       IsInside m shape s start v → IsAt m at v
-  is-inside at s start pads shape (node ws ss) e h =
-      record {
-        segment = s;
-        start = start;
-        pads = pads;
-        is = e
-            ∙ ap (λ (x : Shape). Ok (targets.Content s start x pads)) h.0;
-        inside = (h.1, h.2);
-      }
-  is-inside at s start pads shape (voids n) e h =
-      record {
-        segment = s;
-        start = start;
-        pads = pads;
-        is = e
-            ∙ ap (λ (x : Shape). Ok (targets.Content s start x pads)) h;
-        inside = tt;
-      }
-  is-inside at s start pads shape (links ts) e h =
-      record {
-        segment = s;
-        start = start;
-        pads = pads;
-        is = e
-            ∙ ap (λ (x : Shape). Ok (targets.Content s start x pads)) h.0;
-        inside = h.1;
-      }
+  is-inside at s start pads shape (node ws ss) e h = names e h.0 (h.1, h.2)
+  is-inside at s start pads shape (voids n) e h = names e h tt
+  is-inside at s start pads shape (links ts) e h = names e h.0 h.1
   is-inside at s start pads shape nil e h = absurd h
-  is-inside at s start pads shape (bits xs) e h =
-      record {
-        segment = s;
-        start = start;
-        pads = pads;
-        is = e
-            ∙ ap (λ (x : Shape). Ok (targets.Content s start x pads)) h.0;
-        inside = h.1;
-      }
-  is-inside at s start pads shape (bytes xs) e h =
-      record {
-        segment = s;
-        start = start;
-        pads = pads;
-        is = e
-            ∙ ap (λ (x : Shape). Ok (targets.Content s start x pads)) h.0;
-        inside = h.1;
-      }
-  is-inside at s start pads shape (pairs xs) e h =
-      record {
-        segment = s;
-        start = start;
-        pads = pads;
-        is = e
-            ∙ ap (λ (x : Shape). Ok (targets.Content s start x pads)) h.0;
-        inside = h.1;
-      }
-  is-inside at s start pads shape (quads xs) e h =
-      record {
-        segment = s;
-        start = start;
-        pads = pads;
-        is = e
-            ∙ ap (λ (x : Shape). Ok (targets.Content s start x pads)) h.0;
-        inside = h.1;
-      }
-  is-inside at s start pads shape (octs xs) e h =
-      record {
-        segment = s;
-        start = start;
-        pads = pads;
-        is = e
-            ∙ ap (λ (x : Shape). Ok (targets.Content s start x pads)) h.0;
-        inside = h.1;
-      }
-  is-inside at s start pads shape (rows bs) e h = (
-    h.0,
-    h.1,
-    h.2,
-    record {
-      segment = s;
-      start = start;
-      pads = pads;
-      is = e
-          ∙ ap (λ (x : Shape). Ok (targets.Content s start x pads)) h.3;
-      inside = h.4;
-    },
-  )
+  is-inside at s start pads shape (bits xs) e h = names e h.0 h.1
+  is-inside at s start pads shape (bytes xs) e h = names e h.0 h.1
+  is-inside at s start pads shape (pairs xs) e h = names e h.0 h.1
+  is-inside at s start pads shape (quads xs) e h = names e h.0 h.1
+  is-inside at s start pads shape (octs xs) e h = names e h.0 h.1
+  is-inside at s start pads shape (rows bs) e h = (h.0, h.1, h.2, names e h.3 h.4)
   is-inside at s start pads shape (cap k) e h = absurd h
 
 -- what stands inside objects
