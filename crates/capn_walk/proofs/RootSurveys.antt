@@ -1,5 +1,5 @@
 -- A survey of a whole message.
-use Rattle.std.proofs.Common.{◌≡◌, true, ℕ, ◌+◌, ◌-◌, ◌<◌, ◌≤◌, List, [], ◌∷◌, length, Option, None, Ok}
+use Rattle.std.proofs.Common.{◌≡◌, true, ℕ, ◌+◌, ◌-◌, ◌<◌, ◌≤◌, List, [], ◌∷◌, length, Option, Ok}
 use Rattle.std.proofs.Common.{ap, ap₂, sym, ◌∙◌, arith}
 use Rattle.std.specs.Option.{option_or}
 use Rattle.capn_words.specs.Message.{segment_at}
@@ -13,10 +13,10 @@ use Rattle.capn_walk.specs.declared.surveyed.Surveyed.{Surveyed}
 use Rattle.capn_walk.specs.Target.{target}
 use Rattle.capn_walk.specs.Visits.{Visit, pays, visits, visits_of}
 use Rattle.capn_walk.specs.Verdict.{judge, after, accepted}
+use Rattle.capn_walk.specs.Outcomes.{Tells}
 use Rattle.capn_walk.specs.Stops.{root, may_be_root}
 use Rattle.capn_walk.specs.Accepted.{IsValueOf, visits_within}
 use Rattle.capn_walk.specs.Limits.{Bounds}
-use Rattle.capn_walk.specs.Verdict.{Gives}
 use Rattle.capn_walk.specs.Frames.{places_of, owed, HasRows}
 use Rattle.capn_walk.specs.Surveyed.{cap_of, first_cap_of, IsSurvey}
 use Rattle.capn_walk.proofs.Framing.{nothing-left}
@@ -38,34 +38,29 @@ module _ (m : List (List ℕ)) (base : ℕ) where
     both : judge budget (visits m base depth at) ≡ after p 1 (judge (budget - p) others)
     both = ap (judge budget) here ∙ judge-pays budget p at others fits
 
-    pub caps-below : (j : Option ℕ) → first_cap_of m others ≡ j
-        → first_cap_of m (visits m base depth at) ≡ option_or k j
-    caps-below j e = ap (first_cap_of m) here ∙ ap₂ option_or c e
-
     -- nothing is below it
     none-below : HasRows below → owed below ≡ 0 → others ≡ []
     none-below h z = ap (visits_of m base (depth - 1)) (nothing-left below h z)
 
-    pub gives-alone : HasRows below → owed below ≡ 0 → Gives budget (visits m base depth at) 1 p 1
-    gives-alone h z = record {
-      is =
-          let y : p + 0 ≡ p = omega arith in
-          both ∙ ap (λ (vs : List Visit). after p 1 (judge (budget - p) vs)) (none-below h z)
-          ∙ ap (λ (n : ℕ). accepted n 1) y;
-      within = fits;
-      few = omega arith;
-    }
-
-    pub caps-alone : HasRows below → owed below ≡ 0 → first_cap_of m (visits m base depth at) ≡ k
-    caps-alone h z = caps-below None (ap (first_cap_of m) (none-below h z)) ∙ option_or-none k
+    pub tells-alone : HasRows below → owed below ≡ 0
+        → Tells m budget 1 (visits m base depth at) (Ok (record { paid = p; visits = 1; capability = k }))
+    tells-alone h z =
+        let y : p + 0 ≡ p = omega arith in (
+          record {
+            is = both ∙ ap (λ (vs : List Visit). after p 1 (judge (budget - p) vs)) (none-below h z)
+                ∙ ap (λ (n : ℕ). accepted n 1) y;
+            within = fits;
+            few = omega arith;
+          },
+          ap (first_cap_of m) here ∙ ap₂ option_or c (ap (first_cap_of m) (none-below h z)) ∙ option_or-none k,
+        )
 
 module _ (m : List (List ℕ)) (limits : Bounds) (some : 0 < length (segment_at m 0)) (t : Target)
     (e : target m root ≡ Ok t)
     (kind : may_be_root t ≡ true) where
   pub surveyed : (s : Surveyed)
-      → Gives limits.budget (visits m (base limits.tariff) limits.depth root) 1 s.paid s.visits →
-      first_cap_of m (visits m (base limits.tariff) limits.depth root) ≡ s.capability → IsSurvey m limits s
-  surveyed s g c =
+      → Tells m limits.budget 1 (visits m (base limits.tariff) limits.depth root) (Ok s) → IsSurvey m limits s
+  surveyed s (g, c) =
       let same = from-root m (base limits.tariff) limits.depth t e kind in
       let (w, p, k) =
       accepted-within limits.budget (visits_within m limits) s.paid s.visits (ap (judge limits.budget) same

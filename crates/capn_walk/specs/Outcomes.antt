@@ -10,15 +10,16 @@ use Rattle.capn_walk.specs.declared.found.FoundSlots.{FoundSlots}
 use Rattle.capn_walk.specs.declared.target.Shape.{Shape}
 use Rattle.capn_walk.specs.declared.target.Fault.{Fault}
 use Rattle.capn_walk.specs.declared.target.Fault.TheVariants as faults
+use Rattle.capn_walk.specs.declared.surveyed.Surveyed.{Surveyed}
 use Rattle.capn_walk.specs.declared.visited.Visited.{Visited}
 use Rattle.capn_walk.specs.declared.walked.Stopped.{Stopped}
 use Rattle.capn_walk.specs.At.{IsAt, AreAt, RowsAt, IsInside}
 use Rattle.capn_walk.specs.Frames.{Lies, owed, places_of}
 use Rattle.capn_walk.specs.Shapes.{slot_count}
-use Rattle.capn_walk.specs.Surveyed.{cap_of}
+use Rattle.capn_walk.specs.Surveyed.{cap_of, first_cap_of}
 use Rattle.capn_walk.specs.Target.{target}
 use Rattle.capn_walk.specs.Verdict.{Gives, Refuses, judge, refused}
-use Rattle.capn_walk.specs.Visits.{pays, places, row_places, slots, visits, visits_of}
+use Rattle.capn_walk.specs.Visits.{Visit, pays, places, row_places, slots, visits, visits_of}
 
 -- ---- a survey
 
@@ -41,6 +42,11 @@ module _ (message : List (List ℕ)) (base depth left : ℕ) where
   abbrev pub Visits : Place → Result Visited Fault → Type 0
   Visits at (Ok v) = IsVisit at v
   Visits at (Err e) = IsRefusal at e
+
+-- the visits of n slots, with all below them: what they pay, how many they are, and the first capability
+abbrev pub Tells : List (List ℕ) → ℕ → ℕ → List Visit → Result Surveyed Stopped → Type 0
+Tells message left n vs (Ok s) = Gives left vs n s.paid s.visits × (first_cap_of message vs ≡ s.capability)
+Tells message left n vs (Err s) = Refuses left vs n s
 
 -- ---- a walk
 

@@ -6,10 +6,8 @@ ghost use Rattle.capn_words.specs.Message.{segment_at, IsMessage, IsPlace};
 ghost use Rattle.capn_value.specs.Sizes.{most_cost, most_height};
 ghost use Rattle.capn_walk.specs.Target as spec;
 ghost use Rattle.capn_walk.specs.Stops.{root};
-ghost use Rattle.capn_walk.specs.Visits.{pays, visits, visits_of};
-ghost use Rattle.capn_walk.specs.Verdict.{judge, refused};
-ghost use Rattle.capn_walk.specs.Verdict.{Gives, Refuses};
-ghost use Rattle.capn_walk.specs.Shapes.{IsPlain, AreNumbers};
+ghost use Rattle.capn_walk.specs.Visits.{visits, visits_of};
+ghost use Rattle.capn_walk.specs.Outcomes.{Tells};
 ghost use Rattle.capn_walk.specs.Frames.{places_of, owed, Lies};
 ghost use Rattle.capn_walk.specs.Surveyed as told;
 ghost use Rattle.capn_value.specs.Tree.{Tree};
@@ -81,10 +79,7 @@ fn survey_root<S: Space, A: Allocator + Copy>(
     requires some { 1 ≤ depth }
     requires depth { depth ≤ most_height }
     requires budget { budget ≤ most_cost }
-    ensures pays { IfOk result (λ s. Gives budget (visits (S.message space.now) base depth root) 1 s.paid s.visits) }
-    ensures capability { IfOk result (λ s.
-        told.first_cap_of (S.message space.now) (visits (S.message space.now) base depth root) ≡ s.capability) }
-    ensures refused { IfErr result (λ s. Refuses budget (visits (S.message space.now) base depth root) 1 s) }
+    ensures tells { Tells (S.message space.now) budget 1 (visits (S.message space.now) base depth root) result }
     ensures memory { depth ≤ 64 → IfErr result (λ s. s.fault ≢ Memory) }
 {
     let visited = match visit_found(space, ROOT, Ok(target), depth, budget, base) {
@@ -149,13 +144,8 @@ fn survey_slots<S: Space, A: Allocator + Copy>(
     requires limit { limit ≤ most_cost }
     requires budget { budget ≤ most_cost }
     requires few { owed first ≤ most_cost }
-    ensures pays { IfOk result (λ s. Gives budget
-        (visits_of (S.message space.now) base limit (places_of first)) (owed first) s.paid s.visits) }
-    ensures capability { IfOk result (λ s.
-        told.first_cap_of (S.message space.now) (visits_of (S.message space.now) base limit (places_of first))
-        ≡ s.capability) }
-    ensures refused { IfErr result (λ s. Refuses budget
-        (visits_of (S.message space.now) base limit (places_of first)) (owed first) s) }
+    ensures tells { Tells (S.message space.now) budget (owed first)
+        (visits_of (S.message space.now) base limit (places_of first)) result }
     ensures memory { limit ≤ 64 → IfErr result (λ s. s.fault ≢ Memory) }
 {
     let mut stack: SmallVec<Waiting, 64, &A> = SmallVec::new(&alloc);

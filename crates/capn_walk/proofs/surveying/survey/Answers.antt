@@ -16,7 +16,7 @@ returns-in_err-told-clause-refused g c =
     let m = g.S.Space.message c.args.space.now in
     let t = c.in_ok-target in
     let r = rw (c.depth.ensures.value, c.budget.ensures.value, c.base.ensures.value, c.tariff.ensures) at
-    c.in_err-told.ensures.refused in
+    c.in_err-told.ensures.tells in
     let e = refused-below m c.args.limits t.ensures.place t.target t.ensures.target t.ensures.kind
     c.in_err-told.field-0.0 r in
     let p = err_from_is_err_and c.from_residual-in_err-told.result c.from_residual-in_err-told.ensures.1 in
@@ -27,7 +27,7 @@ returns-in_err-told-clause-only g c v is =
     let m = g.S.Space.message c.args.space.now in
     let t = c.in_ok-target in
     let r = rw (c.depth.ensures.value, c.budget.ensures.value, c.base.ensures.value, c.tariff.ensures) at
-    c.in_err-told.ensures.refused in
+    c.in_err-told.ensures.tells in
     let e = refused-below m c.args.limits t.ensures.place t.target t.ensures.target t.ensures.kind
     c.in_err-told.field-0.0 r in
     let p = err_from_is_err_and c.from_residual-in_err-told.result c.from_residual-in_err-told.ensures.1 in
@@ -38,15 +38,14 @@ returns-clause-found g c =
     let m = g.S.Space.message c.args.space.now in
     let t = c.in_ok-target in
     let x = c.in_ok-told in
-    let pays = rw (c.depth.ensures.value, c.budget.ensures.value, c.base.ensures.value, c.tariff.ensures) at
-    x.ensures.pays in
-    let cap = rw (c.depth.ensures.value, c.base.ensures.value, c.tariff.ensures) at x.ensures.capability in
-    surveyed m c.args.limits t.ensures.place t.target t.ensures.target t.ensures.kind x.told pays cap
+    let tells = rw (c.depth.ensures.value, c.budget.ensures.value, c.base.ensures.value, c.tariff.ensures) at
+    x.ensures.tells in
+    surveyed m c.args.limits t.ensures.place t.target t.ensures.target t.ensures.kind x.told tells
 
 pub returns-clause-only : goal.returns-clause-only
 returns-clause-only g c v is =
     let m = g.S.Space.message c.args.space.now in
     let t = c.in_ok-target in
     let x = c.in_ok-told in
-    let cap = rw (c.depth.ensures.value, c.base.ensures.value, c.tariff.ensures) at x.ensures.capability in
+    let cap = rw (c.depth.ensures.value, c.base.ensures.value, c.tariff.ensures) at x.ensures.tells.1 in
     one-cap m c.args.limits t.ensures.place t.target t.ensures.target t.ensures.kind x.told.capability v is cap

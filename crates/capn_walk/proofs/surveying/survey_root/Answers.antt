@@ -2,23 +2,14 @@ use Rattle.std.proofs.Common.{◌≡◌}
 use Rattle.capn_walk.specs.Stops.{root}
 use Rattle.capn_walk.specs.Frames.{owed}
 use Rattle.capn_walk.proofs.Framing.{done}
-use Rattle.capn_walk.proofs.RootSurveys.{gives-alone, caps-alone}
+use Rattle.capn_walk.proofs.RootSurveys.{tells-alone}
 use Rattle.capn_walk.proofs.surveying.survey_root.Goals as goal
 
-pub returns-then-is_done-clause-pays : goal.returns-then-is_done-clause-pays
-returns-then-is_done-clause-pays g c =
+pub returns-then-is_done-clause-tells : goal.returns-then-is_done-clause-tells
+returns-then-is_done-clause-tells g c =
     let m = g.S.Space.message c.args.space.now in
     let x = c.in-Ok in
     let z : owed c.in-Ok.visited.below ≡ 0 = done c.is_done.result _ c.is_done.ensures c.if-is_done.true in
-    gives-alone m c.args.base c.args.budget c.args.depth root x.visited.price x.visited.below x.visited.capability
-    x.ensures.visits x.ensures.price x.ensures.owed x.ensures.capability
-    x.ensures.below.rows z
-
-pub returns-then-is_done-clause-capability : goal.returns-then-is_done-clause-capability
-returns-then-is_done-clause-capability g c =
-    let m = g.S.Space.message c.args.space.now in
-    let x = c.in-Ok in
-    let z : owed c.in-Ok.visited.below ≡ 0 = done c.is_done.result _ c.is_done.ensures c.if-is_done.true in
-    caps-alone m c.args.base c.args.budget c.args.depth root x.visited.price x.visited.below x.visited.capability
+    tells-alone m c.args.base c.args.budget c.args.depth root x.visited.price x.visited.below x.visited.capability
     x.ensures.visits x.ensures.price x.ensures.owed x.ensures.capability
     x.ensures.below.rows z

@@ -94,8 +94,8 @@ visit_numbers-requires-clause-pointer g c =
     near-list m at c.word-word.result c.split-pointer.result c.in-Many.offset c.in-Many.width c.in-Many.count
     c.word-word.ensures c.split-pointer.ensures.read c.in-Many.is
 
-pub returns-in-Err-clause-refused : goal.returns-in-Err-clause-refused
-returns-in-Err-clause-refused g c =
+pub returns-in-Err-clause-tells : goal.returns-in-Err-clause-tells
+returns-in-Err-clause-tells g c =
     let m = g.S.Space.message c.args.space.now in
     let w = c.slots in
     let t = c.take in
@@ -273,8 +273,8 @@ slots-smaller g c =
     t.result.1 x.found.below t.result.0 x.found.price w.paid w.visits w.capability
     w.invariant.surveys t.ensures.places x.ensures.visits c.if-not-is_done-2.stack.items t.ensures.kept k
 
-pub returns-in-Err-visit_numbers-clause-refused : goal.returns-in-Err-visit_numbers-clause-refused
-returns-in-Err-visit_numbers-clause-refused g c =
+pub returns-in-Err-visit_numbers-clause-tells : goal.returns-in-Err-visit_numbers-clause-tells
+returns-in-Err-visit_numbers-clause-tells g c =
     let m = g.S.Space.message c.args.space.now in
     let w = c.slots in
     let t = c.take in
@@ -284,8 +284,8 @@ returns-in-Err-visit_numbers-clause-refused g c =
     w.invariant.surveys t.ensures.places t.ensures.owed c.in-Err-visit_numbers.fault
     c.in-Err-visit_numbers.ensures.refused)
 
-pub returns-in-Err-visit_elsewhere-clause-refused : goal.returns-in-Err-visit_elsewhere-clause-refused
-returns-in-Err-visit_elsewhere-clause-refused g c =
+pub returns-in-Err-visit_elsewhere-clause-tells : goal.returns-in-Err-visit_elsewhere-clause-tells
+returns-in-Err-visit_elsewhere-clause-tells g c =
     let m = g.S.Space.message c.args.space.now in
     let w = c.slots in
     let t = c.take in
