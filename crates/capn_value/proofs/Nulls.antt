@@ -1,6 +1,6 @@
 -- The one value that is null.
 use Rattle.std.proofs.Common.{◌≡◌, true, refl}
-use Rattle.capn_value.specs.Tree.{Tree, nil, node, voids, bits, bytes, pairs, quads, octs, links, rows, cap, is_null}
+use Rattle.capn_value.specs.Tree.{Tree, nil, is_null}
 
 pub null-is : (t : Tree) → is_null t ≡ true → t ≡ nil
 null-is nil e = refl

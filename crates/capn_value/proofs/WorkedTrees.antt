@@ -1,12 +1,11 @@
 -- Worked values: what they are trimmed to, cost, and show as.
-use Rattle.std.proofs.Common.{◌≡◌, ℕ, ◌*◌, ◌+◌, ◌^◌, List, [], ◌∷◌, codes, true, false, refl, arith}
+use Rattle.std.proofs.Common.{◌≡◌, [], ◌∷◌, codes, true, false, refl}
 use Rattle.std.specs.Fmt.{digits}
 use Rattle.hex.specs.Hex.{encode_with}
-use Rattle.capn_value.specs.Tree.{Tree, nil, node, voids, bits, bytes, links, rows, cap, no_trees, tree, no_bodies}
+use Rattle.capn_value.specs.Tree.{nil, node, voids, bits, bytes, links, rows, cap, no_trees, tree, no_bodies}
 use Rattle.capn_value.specs.Tree.{body}
 use Rattle.capn_value.specs.Trim.{trimmed}
 use Rattle.capn_value.specs.Sizes.{cost, height, rows_price}
-use Rattle.capn_value.specs.Same.{Same}
 use Rattle.capn_value.specs.Text.{show_text, line}
 
 -- a struct loses its last word, which is zero, and its last slot, which is null

@@ -1,6 +1,6 @@
 -- Which values fit into a message, and the first reason why one doesn't. The greatest sizes are those that the
 -- pointers can count. (Page: structs, lists; the bounds on cost and height are our own.)
-use Rattle.std.specs.Prelude.{ℕ, ◌≡◌, ◌≤◌, ◌^◌, Bool, true, false, cond, ◌||◌, ◌&&◌, not, nat_lt, ◌==◌, length, Option}
+use Rattle.std.specs.Prelude.{ℕ, ◌≡◌, ◌≤◌, Bool, true, false, cond, ◌||◌, ◌&&◌, not, nat_lt, ◌==◌, length, Option}
 use Rattle.std.specs.Prelude.{Some, None, List}
 use Rattle.capn_value.specs.Tree.{Tree, nil, node, voids, bits, bytes, pairs, quads, octs, links, rows, cap, Trees}
 use Rattle.capn_value.specs.Tree.{no_trees, tree, Bodies, no_bodies, body, count, count_rows, row_words}

@@ -4,7 +4,7 @@ use Rattle.capn_value.specs.declared.tariff.Tariff.{Tariff}
 use Rattle.capn_value.specs.declared.tariff.Tariff.TheVariants.{Strict, Plain}
 use Rattle.capn_value.specs.Tree.{Tree, nil, node, voids, bits, bytes, pairs, quads, octs, links, rows, cap, Trees}
 use Rattle.capn_value.specs.Tree.{no_trees, tree, Bodies, no_bodies, body, count, row_words}
-use Rattle.capn_value.specs.Sizes.{base, cost, costs, costs_in_rows, rows_price, most_cost, dear}
+use Rattle.capn_value.specs.Sizes.{base, cost, costs, costs_in_rows, most_cost, dear}
 use Rattle.capn_value.specs.Fits.{Fits}
 use Rattle.capn_value.specs.Laws.Fitting.{fit_parts}
 use Rattle.capn_value.specs.Laws.Prices.{row_words-le}
