@@ -1,7 +1,9 @@
 -- Repeated bytes, and the digits of bytes.
-use Rattle.std.proofs.Common.{rules, ◌≡◌, ℕ, ◌+◌, ◌++◌, ◌<◌, ◌/◌, ◌%◌, List, [], ◌∷◌, replicate, sym, refl}
+use Rattle.std.proofs.Common.{rules, ◌≡◌, ℕ, zero, suc, ◌+◌, ◌++◌, ◌<◌, ◌/◌, ◌%◌, Bool, true, false, List, [], ◌∷◌}
+use Rattle.std.proofs.Common.{◌≤◌, length, take, set, get_or, replicate, IsAscii, ap, ap₂, sym, refl, arith, ◌∙◌}
 use Rattle.std.specs.Prelude.{slice_index, Result, Ok, Err, IsOk, OnOk}
-use Rattle.std.proofs.lemmas.List.{replicate-append-replicate}
+use Rattle.std.proofs.lemmas.List.{replicate-append-replicate, take_all, take_more, take_more_set}
+use Rattle.capn_value.specs.Text.{digit, digits_of}
 use Rattle.hex.specs.Hex.{encode_with, encode_lower, lower_digits}
 
 pub replicate-two : (n x : ℕ) → replicate (n + 2) x ≡ replicate n x ++ x ∷ x ∷ []
@@ -32,3 +34,30 @@ on_ok (Err e) h p = absurd (cc)
 -- a digit is ASCII
 pub digit-ascii : (k : ℕ) → slice_index lower_digits k < 128
 digit-ascii k = search (rules)
+
+-- the digits of bits that are joined
+pub digits_of-append : (xs ys : List Bool) → digits_of (xs ++ ys) ≡ digits_of xs ++ digits_of ys
+digits_of-append [] ys = refl
+digits_of-append (x ∷ xs) ys = ap (λ (l : List ℕ). digit x ∷ l) (digits_of-append xs ys)
+
+-- they are ASCII
+pub digits_of-ascii : (xs : List Bool) → IsAscii (digits_of xs)
+digits_of-ascii [] i = omega arith
+digits_of-ascii (true ∷ xs) zero = omega arith
+digits_of-ascii (false ∷ xs) zero = omega arith
+digits_of-ascii (x ∷ xs) (suc i) = digits_of-ascii xs i
+
+-- one more digit behind those that are written
+pub digits_of-more : (ds : List ℕ) (bits : List Bool) (i d : ℕ) (b : Bool) → i < length ds → i < length bits
+    → b ≡ get_or bits i false → d ≡ digit b → take i ds ≡ digits_of (take i bits)
+    → take (i + 1) (set ds i d) ≡ digits_of (take (i + 1) bits)
+digits_of-more ds bits i d b room below is e so_far =
+    take_more_set ds i d room
+    ∙ ap₂ (λ (xs : List ℕ) (x : ℕ). xs ++ x ∷ []) so_far (e ∙ ap digit is)
+    ∙ sym (ap digits_of (take_more bits i false below) ∙ digits_of-append (take i bits) (get_or bits i false ∷ []))
+
+-- all digits
+pub digits_of-all : (ds : List ℕ) (bits : List Bool) (i n : ℕ) → i ≡ n → length bits ≤ n
+    → take i ds ≡ digits_of (take i bits) → take n ds ≡ digits_of bits
+digits_of-all ds bits i n e le so_far =
+    ap (λ (k : ℕ). take k ds) (sym e) ∙ so_far ∙ ap digits_of (take_all i bits (omega arith))

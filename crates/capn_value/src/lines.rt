@@ -1,6 +1,6 @@
 //! The lines of a tree's text, each written straight into the one string.
 
-ghost use Rattle.std.specs.Prelude.{◌≡◌, [], ◌∷◌, ◌++◌, ◌*◌, OnOk, string_bytes, codes, replicate};
+ghost use Rattle.std.specs.Prelude.{◌≡◌, ◌≤◌, [], ◌∷◌, ◌++◌, ◌*◌, length, OnOk, string_bytes, codes, replicate};
 ghost use Rattle.capn_value.specs.Text as text;
 ghost use Rattle.std.specs.Fmt.{decimal};
 ghost use Rattle.hex.specs.Hex.{encode_lower};
@@ -107,10 +107,32 @@ pub fn bits_line<A: Allocator>(out: &mut String<A>, level: u32, bits: &[bool]) -
 fn push_bits<A: Allocator>(out: &mut String<A>, bits: &[bool]) -> Result<(), Memory>
     ensures { OnOk result (string_bytes out.new ≡ string_bytes out.old ++ text.digits_of bits.now) }
 {
-    for bit in bits {
-        out.push_str(if *bit { "1" } else { "0" })?;
+    for block in bits.chunks(64) {
+        push_block(out, block)?;
     }
     Ok(())
+}
+
+// The digits are put together apart, so that the string is extended once for all of them.
+fn push_block<A: Allocator>(out: &mut String<A>, bits: &[bool]) -> Result<(), Memory>
+    requires { length bits.now ≤ 64 }
+    ensures { OnOk result (string_bytes out.new ≡ string_bytes out.old ++ text.digits_of bits.now) }
+{
+    let mut digits = [0; 64];
+    for i in 0..bits.len() {
+        digits[i] = digit_of(bits[i]);
+    }
+    let Ok(text) = str::from_utf8(&digits[..bits.len()]) else {
+        unreachable!();
+    };
+    out.push_str(text)?;
+    Ok(())
+}
+
+fn digit_of(bit: bool) -> u8
+    ensures { result ≡ text.digit bit }
+{
+    if bit { b'1' } else { b'0' }
 }
 
 // Two digits for each byte.
