@@ -1,8 +1,8 @@
--- Repeated bytes, and the digits of bytes.
+-- Repeated bytes, and the digits of bytes and of bits.
 use Rattle.std.proofs.Common.{rules, ◌≡◌, ℕ, zero, suc, ◌+◌, ◌++◌, ◌<◌, ◌/◌, ◌%◌, Bool, true, false, List, [], ◌∷◌}
 use Rattle.std.proofs.Common.{◌≤◌, length, take, set, get_or, replicate, IsAscii, ap, ap₂, sym, refl, arith, ◌∙◌}
 use Rattle.std.specs.Prelude.{slice_index, Result, Ok, Err, IsOk, OnOk}
-use Rattle.std.proofs.lemmas.List.{replicate-append-replicate, take_all, take_more, take_more_set}
+use Rattle.std.proofs.lemmas.List.{append_assoc, replicate-append-replicate, take_all, take_more, take_more_set}
 use Rattle.capn_value.specs.Text.{digit, digits_of}
 use Rattle.hex.specs.Hex.{encode_with, encode_lower, lower_digits}
 
@@ -40,7 +40,16 @@ pub digits_of-append : (xs ys : List Bool) → digits_of (xs ++ ys) ≡ digits_o
 digits_of-append [] ys = refl
 digits_of-append (x ∷ xs) ys = ap (λ (l : List ℕ). digit x ∷ l) (digits_of-append xs ys)
 
--- they are ASCII
+-- a block of them behind what was written, where the digits of all bits were still to come
+pub digits_of-block : (out more all : List ℕ) (bits block rest : List Bool) → more ≡ out ++ digits_of block
+    → bits ≡ block ++ rest → out ++ digits_of bits ≡ all → more ++ digits_of rest ≡ all
+digits_of-block out more all bits block rest e is so_far =
+    ap (λ (l : List ℕ). l ++ digits_of rest) e
+    ∙ append_assoc out (digits_of block) (digits_of rest)
+    ∙ ap (λ (l : List ℕ). out ++ l) (sym (ap digits_of is ∙ digits_of-append block rest))
+    ∙ so_far
+
+-- digits are ASCII
 pub digits_of-ascii : (xs : List Bool) → IsAscii (digits_of xs)
 digits_of-ascii [] i = omega arith
 digits_of-ascii (true ∷ xs) zero = omega arith
@@ -48,12 +57,12 @@ digits_of-ascii (false ∷ xs) zero = omega arith
 digits_of-ascii (x ∷ xs) (suc i) = digits_of-ascii xs i
 
 -- one more digit behind those that are written
-pub digits_of-more : (ds : List ℕ) (bits : List Bool) (i d : ℕ) (b : Bool) → i < length ds → i < length bits
-    → b ≡ get_or bits i false → d ≡ digit b → take i ds ≡ digits_of (take i bits)
+pub digits_of-more : (ds : List ℕ) (bits : List Bool) (i d : ℕ) → i < length ds → i < length bits
+    → d ≡ digit (get_or bits i false) → take i ds ≡ digits_of (take i bits)
     → take (i + 1) (set ds i d) ≡ digits_of (take (i + 1) bits)
-digits_of-more ds bits i d b room below is e so_far =
+digits_of-more ds bits i d room below is so_far =
     take_more_set ds i d room
-    ∙ ap₂ (λ (xs : List ℕ) (x : ℕ). xs ++ x ∷ []) so_far (e ∙ ap digit is)
+    ∙ ap₂ (λ (xs : List ℕ) (x : ℕ). xs ++ x ∷ []) so_far is
     ∙ sym (ap digits_of (take_more bits i false below) ∙ digits_of-append (take i bits) (get_or bits i false ∷ []))
 
 -- all digits

@@ -1,4 +1,4 @@
-use Rattle.std.proofs.Common.{length, arith, refl, ◌∙◌}
+use Rattle.std.proofs.Common.{length, arith, ◌∙◌}
 use Rattle.std.proofs.lemmas.List.{length-set}
 use Rattle.std.proofs.lemmas.Str.{IsUtf8-from_ascii}
 use Rattle.capn_value.specs.Text.{digits_of}
@@ -10,8 +10,8 @@ loop-i-preserved g c =
     let so_far = c.loop-i.invariant in
     record {
       room = length-set c.loop-i.digits c.loop-i.i c.digit_of.result ∙ so_far.room;
-      written = digits_of-more c.loop-i.digits c.args.bits.now c.loop-i.i c.digit_of.result _
-          (let room = so_far.room in omega arith) (omega arith) refl c.digit_of.ensures so_far.written;
+      written = digits_of-more c.loop-i.digits c.args.bits.now c.loop-i.i c.digit_of.result
+          (let room = so_far.room in omega arith) (omega arith) c.digit_of.ensures so_far.written;
     }
 
 pub unreachable-requires : goal.unreachable-requires
