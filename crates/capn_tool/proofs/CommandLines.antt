@@ -45,17 +45,9 @@ answers_options old options line r has local adds =
     IfOk-weaker r (AddsInTurn AddsArg old options) (λ new. HasLine new (with_options line options))
     (λ new all. has_options options old new line has local all) adds
 
--- a call that answers a program with one subcommand more
-pub answers_command : {E : Type 0} (old sub : Command) (line : App) (r : Result Command E)
-    → HasLine sub line → IfOk r (AddsSubcommand old sub)
-    → IfOk r (λ new. app_of new ≡ with_subcommand (app_of old) line.top)
-answers_command old sub line r (is, free) adds =
-    IfOk-weaker r (AddsSubcommand old sub) (λ new. app_of new ≡ with_subcommand (app_of old) line.top)
-    (λ new added. added.shape free ∙ ap (λ (s : Shape). with_subcommand (app_of old) s) (ap top_of is)) adds
-
--- a call that answers a program with one subcommand more, over a program of this line
-pub answers_line : {E : Type 0} (old line : App) (shape : Shape) (r : Result Command E) → old ≡ line
-    → IfOk r (λ new. app_of new ≡ with_subcommand old shape) → IfOk r (λ new. app_of new ≡ with_subcommand line shape)
-answers_line old line shape r is h =
-    IfOk-weaker r (λ new. app_of new ≡ with_subcommand old shape) (λ new. app_of new ≡ with_subcommand line shape)
-    (λ new e. e ∙ ap (λ (a : App). with_subcommand a shape) is) h
+-- a call that answers a program of this line with one subcommand more
+pub answers_command : {E : Type 0} (old sub : Command) (top line : App) (r : Result Command E) → app_of old ≡ top
+    → HasLine sub line → IfOk r (AddsSubcommand old sub) → IfOk r (λ new. app_of new ≡ with_subcommand top line.top)
+answers_command old sub top line r same (is, free) adds =
+    IfOk-weaker r (AddsSubcommand old sub) (λ new. app_of new ≡ with_subcommand top line.top)
+    (λ new added. added.shape free ∙ ap₂ with_subcommand same (ap top_of is)) adds

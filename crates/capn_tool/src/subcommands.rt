@@ -4,7 +4,7 @@ ghost use Rattle.std.specs.Prelude.{◌≡◌, IfOk, false};
 ghost use Rattle.clap.specs.Words.{App, app_of, rule_of, new_app, with_subcommand};
 ghost use Rattle.clap.specs.declared.builder.command.Command.TheViews.{out-Command};
 ghost use Rattle.capn_tool.specs.Line.{HasLine, usual_rule, words_rule, budget_rule, depth_rule};
-ghost use Rattle.capn_tool.specs.Line.{message_line, unpack_line, shown_line, messages_line};
+ghost use Rattle.capn_tool.specs.Line.{message_line, unpack_line, messages_line};
 ghost use Rattle.capn_tool.specs.Line.{tool_line};
 
 use crate::help::{self, Page};
@@ -95,41 +95,33 @@ fn unpack_command<'a>(alloc: Global) -> Result<Command<'a>, AllocError>
     plain_command(alloc, "unpack", help::UNPACK).arg(words_option(alloc, help::UNPACKED_WORDS))
 }
 
-/// A program with this command, if it could be made, beside those that it has.
+/// A program with this command beside those that it has, if both could be made.
 fn with_command<'a>(
-    program: Command<'a>,
-    made: Result<Command<'a>, AllocError>,
+    program: Result<Command<'a>, AllocError>,
+    command: Result<Command<'a>, AllocError>,
 ) -> Result<Command<'a>, AllocError>
-    ensures { (line : App) → IfOk made.entry (λ c. HasLine c line)
-        → IfOk result (λ c. app_of c ≡ with_subcommand (app_of program.entry) line.top) }
+    ensures { (top line : App) → IfOk program.entry (λ c. app_of c ≡ top) → IfOk command.entry (λ c. HasLine c line)
+        → IfOk result (λ c. app_of c ≡ with_subcommand top line.top) }
 {
-    let command = made?;
-    program.subcommand(command)
-}
-
-/// The program with `show` and `check`.
-fn shown_command<'a>(alloc: Global) -> Result<Command<'a>, AllocError>
-    ensures { IfOk result (λ c. app_of c ≡ shown_line) }
-{
-    let forms = help::FORMS_OF_MESSAGES;
-    let top = plain_command(alloc, "capn", help::PROGRAM).subcommand_required(true);
-    let with_show = with_command(top, message_command(alloc, "show", help::SHOW, forms))?;
-    with_command(
-        with_show,
-        message_command(alloc, "check", help::CHECK, forms),
-    )
+    let made = command?;
+    program?.subcommand(made)
 }
 
 /// The program with the four commands over messages.
 fn messages_command<'a>(alloc: Global) -> Result<Command<'a>, AllocError>
     ensures { IfOk result (λ c. app_of c ≡ messages_line) }
 {
-    let shown = shown_command(alloc)?;
+    let forms = help::FORMS_OF_MESSAGES;
+    let top = plain_command(alloc, "capn", help::PROGRAM).subcommand_required(true);
+    let with_show = with_command(Ok(top), message_command(alloc, "show", help::SHOW, forms));
+    let with_check = with_command(
+        with_show,
+        message_command(alloc, "check", help::CHECK, forms),
+    );
     let canonical = message_command(alloc, "canonical", help::CANONICAL, help::FORMS_OF_ONE);
-    let with_canonical = with_command(shown, canonical)?;
     with_command(
-        with_canonical,
-        message_command(alloc, "hash", help::HASH, help::FORMS_OF_MESSAGES),
+        with_command(with_check, canonical),
+        message_command(alloc, "hash", help::HASH, forms),
     )
 }
 
@@ -137,7 +129,7 @@ fn messages_command<'a>(alloc: Global) -> Result<Command<'a>, AllocError>
 pub fn tool_command<'a>(alloc: Global) -> Result<Command<'a>, AllocError>
     ensures { IfOk result (λ c. app_of c ≡ tool_line) }
 {
-    let messages = messages_command(alloc)?;
-    let with_pack = messages.subcommand(plain_command(alloc, "pack", help::PACK))?;
+    let pack = plain_command(alloc, "pack", help::PACK);
+    let with_pack = with_command(messages_command(alloc), Ok(pack));
     with_command(with_pack, unpack_command(alloc))
 }
