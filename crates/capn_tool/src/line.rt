@@ -19,7 +19,7 @@ use capn_walk::Limits;
 use capn_words::MOST_MESSAGE_WORDS;
 use clap::ArgMatches;
 use clap::error::ErrorKind;
-use std::alloc::Global;
+use std::alloc::{AllocError, Global};
 use std::convert::AsStr;
 
 /// The form that `--form` names, if it names one.
@@ -68,6 +68,16 @@ fn limits_of(matches: &ArgMatches) -> Option<Limits>
     Some(limits.with_tariff(tariff_of(matches)?))
 }
 
+/// The form and the limits that the options of a command over messages name, if they name both.
+fn form_and_limits_of(matches: &ArgMatches) -> Option<(Form, Limits)>
+    ensures are { IfSome result (λ both. FormIs (rows_of (found_of matches.now)) both.0
+        × LimitsAre (rows_of (found_of matches.now)) both.1) }
+    ensures served { (form : Form) (limits : Bounds) → FormIs (rows_of (found_of matches.now)) form
+        → LimitsAre (rows_of (found_of matches.now)) limits → IsSome result }
+{
+    Some((form_of(matches)?, limits_of(matches)?))
+}
+
 /// The most words that may be unpacked: those of a message, and of the longest segment table.
 fn unpacked_words_of(matches: &ArgMatches) -> Option<u32>
     ensures are { IfSome result (λ most. UnpackedIs (rows_of (found_of matches.now)) most) }
@@ -88,10 +98,22 @@ fn order_of(name: &str, matches: &ArgMatches) -> Option<Command>
         → IsSome result }
 {
     match name {
-        "show" => Some(Command::Show(form_of(matches)?, limits_of(matches)?)),
-        "check" => Some(Command::Check(form_of(matches)?, limits_of(matches)?)),
-        "canonical" => Some(Command::Canonical(form_of(matches)?, limits_of(matches)?)),
-        "hash" => Some(Command::Hash(form_of(matches)?, limits_of(matches)?)),
+        "show" => {
+            let (form, limits) = form_and_limits_of(matches)?;
+            Some(Command::Show(form, limits))
+        }
+        "check" => {
+            let (form, limits) = form_and_limits_of(matches)?;
+            Some(Command::Check(form, limits))
+        }
+        "canonical" => {
+            let (form, limits) = form_and_limits_of(matches)?;
+            Some(Command::Canonical(form, limits))
+        }
+        "hash" => {
+            let (form, limits) = form_and_limits_of(matches)?;
+            Some(Command::Hash(form, limits))
+        }
         "pack" => Some(Command::Pack),
         "unpack" => Some(Command::Unpack(unpacked_words_of(matches)?)),
         _ => None,
@@ -109,15 +131,18 @@ fn mistake_of(matches: &ArgMatches) -> &'static str {
     }
 }
 
+/// The parser's error for an option whose value the command does not take.
+fn value_error(alloc: Global, text: &str) -> Result<clap::Error, AllocError>
+    ensures { IfOk result (λ e. kind_of e ≡ kinds.InvalidValue) }
+{
+    tool_command(alloc)?.error(ErrorKind::InvalidValue, text)
+}
+
 /// What is answered where an option has a value that the command does not take.
 fn no_such_value(alloc: Global, text: &str) -> Usage
     ensures { (kind_of (error_of result) ≡ kinds.OutOfMemory) ⊎ (kind_of (error_of result) ≡ kinds.InvalidValue) }
 {
-    let mut command = match tool_command(alloc) {
-        Ok(command) => command,
-        Err(error) => return error.into(),
-    };
-    match command.error(ErrorKind::InvalidValue, text) {
+    match value_error(alloc, text) {
         Ok(error) => error.into(),
         Err(error) => error.into(),
     }
