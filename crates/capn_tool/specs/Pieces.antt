@@ -11,6 +11,7 @@ use Rattle.capn_walk.specs.Limits.{Bounds}
 use Rattle.capn_walk.specs.Accepted.{IsValueOf, paid, number_of_visits}
 use Rattle.capn_walk.specs.Accepted as walks
 use Rattle.capn_walk.specs.declared.walked.Stopped.{Stopped}
+use Rattle.capn_walk.specs.declared.target.Fault.TheVariants as walk_faults
 use Rattle.capn_canon.specs.Layout.{canon}
 use Rattle.capn_canon.specs.Answers.{AnswersMessage}
 use Rattle.capn_canon.specs.Refused.{IsRefusedMessage}
@@ -49,6 +50,12 @@ abbrev pub IsStopped : List (List ℕ) → Bounds → ToolFault → Type 0
 IsStopped message limits fault =
     (s : Stopped) × (fault ≡ faults.Refused (refusals.Walk s))
     × walks.IsRefused message limits s.fault s.place s.paid s.visits
+
+-- why a run stops whose walk has stopped so: for want of memory exactly where the walk did
+abbrev pub TellsStop : Stopped → ToolFault → Type 0
+TellsStop s fault =
+    ((s.fault ≡ walk_faults.Memory) × (fault ≡ faults.Memory))
+    ⊎ ((s.fault ≢ walk_faults.Memory) × (fault ≡ faults.Refused (refusals.Walk s)))
 
 -- why a message has no piece: its walk is refused; for the digest also that its value has a capability
 abbrev pub IsNoPiece : Piece → List (List ℕ) → Bounds → ToolFault → Type 0

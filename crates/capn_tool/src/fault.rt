@@ -5,6 +5,7 @@ ghost use Rattle.capn_tool.specs.declared.fault.ToolFault.TheVariants as fault;
 
 use capn_canon::Refusal;
 use capn_value::Memory;
+use capn_walk::{Fault, Stopped};
 use std::alloc::AllocError;
 use std::error::Error;
 use std::fmt;
@@ -56,5 +57,18 @@ impl From<Memory> for ToolFault {
 
     fn from(_error: Memory) -> ToolFault {
         ToolFault::Memory
+    }
+}
+
+impl From<Stopped> for ToolFault {
+    ghost use Rattle.capn_tool.specs.Pieces.{TellsStop};
+
+    ghost from_gives = { TellsStop };
+
+    fn from(stopped: Stopped) -> ToolFault {
+        match stopped.fault {
+            Fault::Memory => ToolFault::Memory,
+            _ => ToolFault::Refused(Refusal::Walk(stopped)),
+        }
     }
 }

@@ -1,77 +1,45 @@
 //! What is written of one message.
 
-ghost use Rattle.std.specs.Prelude.{◌≡◌, ◌⊎◌, ◌∷◌, ◌++◌, [], string_bytes, IfOk, IfErr};
+ghost use Rattle.std.specs.Prelude.{◌≡◌, ◌⊎◌, ◌∷◌, ◌++◌, [], codes, string_bytes, IfOk, IfErr};
 ghost use Rattle.sha2.specs.Sha256.{sha256};
 ghost use Rattle.hex.specs.Hex.{encode_lower};
 ghost use Rattle.capn_value.specs.Text.{show_text};
-ghost use Rattle.capn_value.specs.Tree.{Tree};
-ghost use Rattle.capn_walk.specs.Accepted.{IsValueOf, paid, number_of_visits};
-ghost use Rattle.capn_walk.specs.Surveyed.{IsSurvey};
-ghost use Rattle.capn_canon.specs.Checks.{IsCheck};
-ghost use Rattle.capn_tool.specs.Pieces.{PutsPiece, PutsBarePiece, PutsLine, PutsFront, IsStopped, priced};
+ghost use Rattle.capn_tool.specs.Pieces.{IsPiece, PutsPiece, PutsBarePiece, PutsLine, PutsFront, IsStopped, priced};
 ghost use Rattle.capn_tool.specs.declared.fault.ToolFault.TheVariants as faults;
 ghost use Rattle.capn_tool.specs.declared.plan.Piece.TheVariants as kinds;
 
 use crate::fault::ToolFault;
 use crate::plan::Piece;
-use capn_canon::{Checked, Refusal, canonical_of, check};
-use capn_value::show;
-use capn_walk::{Fault, Limits, Surveyed, Walked, survey, walk};
+use capn_canon::{Refusal, canonical_of, check};
+use capn_value::{Tree, show};
+use capn_walk::{Limits, survey, walk};
 use capn_words::{Bare, Space};
 use sha2::{Digest, Sha256};
 use std::alloc::{AllocError, Allocator};
 
-/// The value of a message, with what its walk paid.
-fn walk_within<S: Space, A: Allocator + Copy>(
-    alloc: A,
-    space: &S,
-    limits: Limits,
-) -> Result<Walked<A>, ToolFault>
-    ensures found { IfOk result (λ w. IsValueOf (S.message space.now) limits w.tree) }
-    ensures pays { IfOk result (λ w. w.paid ≡ paid (S.message space.now) limits) }
-    ensures counts { IfOk result (λ w. w.visits ≡ number_of_visits (S.message space.now) limits) }
-    ensures refused { IfErr result (λ e. (e ≡ faults.Memory) ⊎ IsStopped (S.message space.now) limits e) }
+/// The text of a tree, and the line `end`.
+fn ended_text<A: Allocator, B: Allocator>(alloc: A, tree: &Tree<B>) -> Result<String<A>, ToolFault>
+    ensures found { IfOk result (λ text. string_bytes text ≡ show_text tree.now ++ (codes "end" ++ 10 ∷ [])) }
+    ensures only { IfErr result (λ e. e ≡ faults.Memory) }
 {
-    match walk(alloc, space, limits) {
-        Ok(walked) => Ok(walked),
-        Err(stopped) => match stopped.fault {
-            Fault::Memory => Err(ToolFault::Memory),
-            _ => Err(ToolFault::Refused(Refusal::Walk(stopped))),
-        },
+    let mut text = show(alloc, tree)?;
+    match text.push_str("end\n") {
+        Ok(()) => Ok(text),
+        Err(_) => Err(ToolFault::Memory),
     }
 }
 
-/// What the walk of a message pays and visits.
-fn survey_within<S: Space, A: Allocator + Copy>(
-    alloc: A,
-    space: &S,
-    limits: Limits,
-) -> Result<Surveyed, ToolFault>
-    ensures found { IfOk result (λ s. IsSurvey (S.message space.now) limits s) }
-    ensures refused { IfErr result (λ e. (e ≡ faults.Memory) ⊎ IsStopped (S.message space.now) limits e) }
-{
-    match survey(alloc, space, limits) {
-        Ok(surveyed) => Ok(surveyed),
-        Err(stopped) => match stopped.fault {
-            Fault::Memory => Err(ToolFault::Memory),
-            _ => Err(ToolFault::Refused(Refusal::Walk(stopped))),
-        },
-    }
-}
-
-/// The text of a message's value.
+/// The text of a message's value, and the line `end`.
 fn text_of<S: Space, A: Allocator + Copy>(
     alloc: A,
     space: &S,
     limits: Limits,
 ) -> Result<String<A>, ToolFault>
-    ensures found { IfOk result (λ text. (v : Tree) × IsValueOf (S.message space.now) limits v
-        × (string_bytes text ≡ show_text v)) }
+    ensures found { IfOk result (λ text. IsPiece kinds.Text (S.message space.now) limits (string_bytes text)) }
     ensures refused { IfErr result (λ e. (e ≡ faults.Memory) ⊎ IsStopped (S.message space.now) limits e) }
 {
-    let walked = walk_within(alloc, space, limits)?;
-    let text = show(alloc, &walked.tree)?;
-    Ok(text)
+    let walked = walk(alloc, space, limits)?;
+    ended_text(alloc, &walked.tree)
 }
 
 /// Appends the text of a message, and the line `end`. Behind nothing the text is handed over, and not copied.
@@ -83,14 +51,15 @@ fn put_text<S: Space, A: Allocator + Copy>(
 ) -> Result<(), ToolFault>
     ensures { PutsPiece kinds.Text (S.message space.now) limits text.old.items text.new.items result }
 {
-    let mut shown = text_of(alloc, space, limits)?;
-    shown.push_str("end\n")?;
+    let shown = text_of(alloc, space, limits)?;
     if text.is_empty() {
         *text = shown.into_bytes();
         return Ok(());
     }
-    text.extend_from_slice(shown.as_bytes())?;
-    Ok(())
+    match text.extend_from_slice(shown.as_bytes()) {
+        Ok(()) => Ok(()),
+        Err(_) => Err(ToolFault::Memory),
+    }
 }
 
 /// Appends a price, a number of visits and what ends their line. Where memory is refused, a beginning may stand there.
@@ -136,26 +105,8 @@ fn put_price<S: Space, A: Allocator + Copy>(
 ) -> Result<(), ToolFault>
     ensures { PutsPiece kinds.Price (S.message space.now) limits text.old.items text.new.items result }
 {
-    let surveyed = survey_within(alloc, space, limits)?;
+    let surveyed = survey(alloc, space, limits)?;
     put_priced(text, surveyed.paid, surveyed.visits, b"\n")
-}
-
-/// What the check of a bare message tells.
-fn check_within<A: Allocator + Copy>(
-    alloc: A,
-    space: &Bare<'_>,
-    limits: Limits,
-) -> Result<Checked, ToolFault>
-    ensures found { IfOk result (λ c. IsCheck space.now limits c) }
-    ensures refused { IfErr result (λ e. (e ≡ faults.Memory) ⊎ IsStopped (space.now ∷ []) limits e) }
-{
-    match check(alloc, space, limits) {
-        Ok(checked) => Ok(checked),
-        Err(stopped) => match stopped.fault {
-            Fault::Memory => Err(ToolFault::Memory),
-            _ => Err(ToolFault::Refused(Refusal::Walk(stopped))),
-        },
-    }
 }
 
 /// Appends the line of a bare message's price and number of visits, which tells whether its bytes are canonical. It
@@ -168,7 +119,7 @@ fn put_verdict<A: Allocator + Copy>(
 ) -> Result<(), ToolFault>
     ensures { PutsBarePiece kinds.Price space.now limits text.old.items text.new.items result }
 {
-    let checked = check_within(alloc, space, limits)?;
+    let checked = check(alloc, space, limits)?;
     if checked.is_canonical {
         return put_priced(text, checked.paid, checked.visits, b" canonical\n");
     }
@@ -197,8 +148,10 @@ fn put_digest<S: Space, A: Allocator + Copy>(
     match canonical_of(alloc, space, limits) {
         Ok(canonical) => {
             let line = digest_line(&canonical.bytes);
-            text.extend_from_slice(&line)?;
-            Ok(())
+            match text.extend_from_slice(&line) {
+                Ok(()) => Ok(()),
+                Err(_) => Err(ToolFault::Memory),
+            }
         }
         Err(Refusal::Memory) => Err(ToolFault::Memory),
         Err(refusal) => Err(ToolFault::Refused(refusal)),
