@@ -18,7 +18,7 @@ use Rattle.capn_tool.specs.Served.{AddsPiece}
 use Rattle.capn_tool.specs.Sending.{Outgoing, Adds, SendsRest, outgoing, sent}
 use Rattle.capn_tool.specs.Streams.{texts_of}
 use Rattle.capn_tool.specs.Pieces.{IsPiece}
-use Rattle.capn_tool.specs.Heard.{IsDueSo, Serves, ServesNext, Stops, Tells, fault_of}
+use Rattle.capn_tool.specs.Heard.{IsDueSo, IsListening, Serves, ServesNext, Stops, Tells, fault_of}
 use Rattle.capn_tool.specs.declared.plan.Piece.{Piece}
 use Rattle.capn_tool.specs.declared.fault.ToolFault.{ToolFault}
 use Rattle.capn_tool.specs.declared.fault.ToolFault.TheVariants as faults
@@ -30,8 +30,23 @@ use Rattle.capn_tool.proofs.HeardMore.{stops_piece}
 empty_unfinished : (most : ℕ) → IsUnfinished [] most
 empty_unfinished most = inl refl
 
+-- a framer at the beginning of a stream
+pub new_listening : (framer : Framing) (limits : Bounds) (most : ℕ)
+    → framer ≡ record { rest = []; most = most; failed = false } → most ≡ limits.message_words
+    → IsListening framer limits
+new_listening framer limits most is same = record {
+  good = ap (λ (f : Framing). f.failed) is;
+  part = subst (λ (l : List ℕ). IsUnfinished l limits.message_words) (sym (ap (λ (f : Framing). f.rest) is))
+      (inl refl);
+  most = ap (λ (f : Framing). f.most) is ∙ same;
+}
+
 module _ (piece : Piece) (limits : Bounds) (before : Framing) (bytes : List ℕ)
-    (part : IsUnfinished before.rest before.most) (most : before.most ≡ limits.message_words) where
+    (listening : IsListening before limits) where
+  -- what is held is no frame
+  part : IsUnfinished before.rest before.most
+  part = subst (λ (m : ℕ). IsUnfinished before.rest m) (sym listening.most) listening.part
+
   moves : (n : ℕ) (mid : Framing) → Feeds before bytes n mid → 0 < length bytes → 0 < n
   moves zero mid fed some =
       elim fed.stops [
@@ -50,17 +65,17 @@ module _ (piece : Piece) (limits : Bounds) (before : Framing) (bytes : List ℕ)
       → ServesNext piece limits before bytes a b failed (Ok n) after
   next_some n mid after message a b failed u fed took (text, is, wrote, fine) =
       let frame = subst (λ (p : List ℕ). Frames p message) fed.rest took.0 in
-      let room : total message ≤ limits.message_words = omega (arith, took.1, fed.same, most) in
-      let rest : after.rest ≡ [] = ap (λ (f : Framing). f.rest) took.3 in
-      let same : after.most ≡ before.most = ap (λ (f : Framing). f.most) took.3 ∙ fed.same in
-      let good : after.failed ≡ false = ap (λ (f : Framing). f.failed) took.3 in (
+      let room : total message ≤ limits.message_words = omega (arith, took.1, fed.same, listening.most) in
+      let rest : after.rest ≡ [] = ap (λ (f : Framing). f.rest) took.3 in (
         fed.inside,
         moves n mid fed,
-        rw rest (
-          tells_one piece limits (before.rest ++ take n bytes) message text a b frame room is wrote,
-          empty_unfinished before.most,
-          same,
-          good,
+        (
+          rw rest (tells_one piece limits (before.rest ++ take n bytes) message text a b frame room is wrote),
+          record {
+            good = ap (λ (f : Framing). f.failed) took.3;
+            part = rw rest (empty_unfinished limits.message_words);
+            most = ap (λ (f : Framing). f.most) took.3 ∙ fed.same ∙ listening.most;
+          },
           fine,
         ),
       )
@@ -73,17 +88,17 @@ module _ (piece : Piece) (limits : Bounds) (before : Framing) (bytes : List ℕ)
       absurd (let e : true ≡ false = sym broken ∙ fed.is_good in cc)
   next_none n mid after a failed fine fed (inr open_rest, same) =
       let rest : after.rest ≡ before.rest ++ take n bytes = ap (λ (f : Framing). f.rest) same ∙ fed.rest in
-      let held : IsUnfinished (before.rest ++ take n bytes) before.most =
-      subst (λ (p : List ℕ). IsUnfinished p before.most) fed.rest
-      (subst (λ (m : ℕ). IsUnfinished mid.rest m) fed.same open_rest) in (
+      let most : after.most ≡ limits.message_words = ap (λ (f : Framing). f.most) same ∙ fed.same ∙ listening.most in
+      let held = subst (λ (f : Framing). IsUnfinished f.rest f.most) (sym same) open_rest in (
         fed.inside,
         moves n mid fed,
-        rw rest (
-          tells_none piece limits (before.rest ++ take n bytes) a,
-          held,
-          ap (λ (f : Framing). f.most) same
-              ∙ fed.same,
-          ap (λ (f : Framing). f.failed) same ∙ fed.is_good,
+        (
+          rw rest (tells_none piece limits (before.rest ++ take n bytes) a),
+          record {
+            good = ap (λ (f : Framing). f.failed) same ∙ fed.is_good;
+            part = subst (λ (m : ℕ). IsUnfinished after.rest m) most held;
+            most = most;
+          },
           fine,
         ),
       )
@@ -102,7 +117,7 @@ module _ (piece : Piece) (limits : Bounds) (before : Framing) (bytes : List ℕ)
       → Stops piece limits (before.rest ++ bytes) a b failed fault
   next_stopped n mid after message a b failed fault fed took wrote =
       let frame = subst (λ (p : List ℕ). Frames p message) fed.rest took.0 in
-      let room : total message ≤ limits.message_words = omega (arith, took.1, fed.same, most) in
+      let room : total message ≤ limits.message_words = omega (arith, took.1, fed.same, listening.most) in
       let whole : (before.rest ++ take n bytes) ++ drop n bytes ≡ before.rest ++ bytes =
       append_assoc before.rest (take n bytes) (drop n bytes)
       ∙ ap (λ (p : List ℕ). before.rest ++ p) (take-append-drop n bytes) in
@@ -112,20 +127,21 @@ module _ (piece : Piece) (limits : Bounds) (before : Framing) (bytes : List ℕ)
 
   -- the bytes are refused, or memory is
   pub next_refused : (e : FrameFault) (after : Framing) (a : Outgoing) (failed : Bool) → failed ≡ false
-      → before.failed ≡ false → FeedGives before bytes (Err e) after
+      → FeedGives before bytes (Err e) after
       → Stops piece limits (before.rest ++ bytes) a a failed (fault_of e)
-  next_refused frame_faults.Memory after a failed fine good fed =
+  next_refused frame_faults.Memory after a failed fine fed =
       stops_memory piece limits (before.rest ++ bytes) a failed fine
-  next_refused frame_faults.Empty after a failed fine good fed = absurd fed
-  next_refused frame_faults.Cut after a failed fine good fed = absurd fed
-  next_refused frame_faults.Failed after a failed fine good fed = absurd (let e : true ≡ false = sym fed.0 ∙ good in cc)
-  next_refused (frame_faults.TooManySegments k) after a failed fine good fed =
+  next_refused frame_faults.Empty after a failed fine fed = absurd fed
+  next_refused frame_faults.Cut after a failed fine fed = absurd fed
+  next_refused frame_faults.Failed after a failed fine fed =
+      absurd (let e : true ≡ false = sym fed.0 ∙ listening.good in cc)
+  next_refused (frame_faults.TooManySegments k) after a failed fine fed =
       stops_framed piece limits (before.rest ++ bytes) a failed (frame_faults.TooManySegments k) fine (λ h. cc) fed.1
-  next_refused (frame_faults.TooManyWords k) after a failed fine good fed =
+  next_refused (frame_faults.TooManyWords k) after a failed fine fed =
       stops_framed piece limits (before.rest ++ bytes) a failed (frame_faults.TooManyWords k) fine (λ h. cc) (
         fed.1.0,
         fed.1.1,
-        omega (arith, fed.1.2, most),
+        omega (arith, fed.1.2, listening.most),
       )
 
 -- ---- more of the bytes
@@ -289,7 +305,7 @@ serves_sent : (piece : Piece) (limits : Bounds) (before after : Framing) (bytes 
     → SendsRest served text d e broken failed result
     → Serves piece limits before bytes (sent c) (sent e) failed result after
 serves_sent piece limits before after bytes c d e text true failed (Ok u) result s r =
-    absurd (let bad : true ≡ false = s.4 in cc)
+    absurd (let bad : true ≡ false = s.2 in cc)
 serves_sent piece limits before after bytes c d e text true failed (Err fault) result s (same, broken, is) =
     subst (λ (x : Result (Unit {0}) ToolFault). Serves piece limits before bytes (sent c) (sent e) failed x after)
     (sym is)
@@ -298,7 +314,7 @@ serves_sent piece limits before after bytes c d e text true failed (Err fault) r
 serves_sent piece limits before after bytes c d e text false false (Ok u) result s (wrote, is) =
     subst (λ (x : Result (Unit {0}) ToolFault). Serves piece limits before bytes (sent c) (sent e) false x after)
     (sym is)
-    (tells_sent piece limits c d e text (before.rest ++ bytes) after.rest s.0 wrote, s.1, s.2, s.3, refl)
+    (tells_sent piece limits c d e text (before.rest ++ bytes) after.rest s.0 wrote, s.1, refl)
 serves_sent piece limits before after bytes c d e text false false (Err fault) result s (wrote, is) =
     subst (λ (x : Result (Unit {0}) ToolFault). Serves piece limits before bytes (sent c) (sent e) false x after)
     (sym is)

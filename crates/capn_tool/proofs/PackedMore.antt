@@ -1,5 +1,5 @@
 -- A packed stream that is read in pieces: more of it.
-use Rattle.std.proofs.Common.{◌≡◌, ℕ, ◌+◌, ◌-◌, ◌<◌, ◌≤◌, ◌^◌, List, [], ◌++◌, take, drop, Bool, true, false}
+use Rattle.std.proofs.Common.{◌≡◌, ℕ, ◌+◌, ◌-◌, ◌≤◌, List, [], ◌++◌, take, drop, Bool, true, false}
 use Rattle.std.proofs.Common.{Option, Result, Ok, Err, refl, ap, sym, subst, ◌∙◌, append_assoc, append-nil, arith}
 use Rattle.std.proofs.lemmas.List.{take-append-drop}
 use Rattle.std.proofs.Math.Seq.{take-add}
@@ -7,12 +7,12 @@ use Rattle.std.proofs.lemmas.Grind.{flat_map-append}
 use Rattle.capn_walk.specs.Limits.{Bounds}
 use Rattle.capn_pack.specs.Group.{IsGroup, text, content}
 use Rattle.capn_pack.specs.Packs.{texts, contents}
-use Rattle.capn_pack.specs.Stream.{Begins, Held, NoGroupFirst, Splits, advanced}
+use Rattle.capn_pack.specs.Stream.{Begins, Held, Splits, advanced}
 use Rattle.capn_pack.specs.Laws.StreamLemmas.{splits_open, splits_then}
 use Rattle.capn_stream.specs.Framing.{Framing}
 use Rattle.capn_tool.specs.Sending.{Outgoing, SendsRest, outgoing, sent}
 use Rattle.capn_tool.specs.Heard.{Stops, Tells}
-use Rattle.capn_tool.specs.HeardPacked.{ServesPacked, StopsPacked, TellsPacked}
+use Rattle.capn_tool.specs.HeardPacked.{IsUnpacking, ServesPacked, StopsPacked, TellsPacked}
 use Rattle.capn_tool.specs.declared.plan.Piece.{Piece}
 use Rattle.capn_tool.specs.declared.fault.ToolFault.{ToolFault}
 use Rattle.capn_tool.specs.declared.fault.ToolFault.TheVariants as faults
@@ -98,15 +98,14 @@ packed_memory piece limits group rest bytes a failed fine = (
 
 -- nothing has come
 pub packed_none : (piece : Piece) (limits : Bounds) (held : Held) (rest : List ℕ) (a : Outgoing)
-    → NoGroupFirst held.rest → held.offset < 2 ^ 64 → held.failed ≡ false
-    → TellsPacked piece limits held rest [] held rest a a
-packed_none piece limits held rest a none small good = (
+    → IsUnpacking held → TellsPacked piece limits held rest [] held rest a a
+packed_none piece limits held rest a unpacking = (
   [],
   0,
   subst (λ (l : List ℕ). Splits l held.rest [] [] 0) (sym (append-nil held.rest))
-      (splits_open held.rest [] [] none refl),
-  omega (arith, small),
-  good,
+      (splits_open held.rest [] [] unpacking.group refl),
+  omega (arith, unpacking.offset),
+  unpacking.held,
   subst (λ (l : List ℕ). Tells piece limits l rest a a) (sym (append-nil rest)) (tells_none piece limits rest a),
 )
 
@@ -165,12 +164,12 @@ module _ (piece : Piece) (limits : Bounds) (held next : Held) (before after : Fr
   packed_sent : (broken failed : Bool) (served result : Result (Unit {0}) ToolFault)
       → Served (outgoing d text) broken served → SendsRest served text d e broken failed result
       → Served (sent e) failed result
-  packed_sent true failed (Ok u) result s r = absurd (let bad : true ≡ false = s.4 in cc)
+  packed_sent true failed (Ok u) result s r = absurd (let bad : true ≡ false = s.2 in cc)
   packed_sent true failed (Err fault) result (words, begins, stop) (same, broken, is) =
       subst (λ (x : Result (Unit {0}) ToolFault). Served (sent e) failed x) (sym is)
       (subst (λ (x : Bool). StopsPacked piece limits held.rest before.rest bytes (sent c) (sent e) x fault) (sym broken)
       (words, begins, stops_kept piece limits c d e text (before.rest ++ words) fault same stop))
-  packed_sent false false (Ok u) result ((words, len, split, offset, good, told), part, most, fine, ok) (wrote, is) =
+  packed_sent false false (Ok u) result ((words, len, split, offset, good, told), listening, ok) (wrote, is) =
       subst (λ (x : Result (Unit {0}) ToolFault). Served (sent e) false x) (sym is) (
         (
           words,
@@ -180,15 +179,13 @@ module _ (piece : Piece) (limits : Bounds) (held next : Held) (before after : Fr
           good,
           tells_sent piece limits c d e text (before.rest ++ words) after.rest told wrote,
         ),
-        part,
-        most,
-        fine,
+        listening,
         refl,
       )
   packed_sent false false (Err fault) result (words, begins, stop) (wrote, is) =
       subst (λ (x : Result (Unit {0}) ToolFault). Served (sent e) false x) (sym is)
       (words, begins, stops_sent piece limits c d e text (before.rest ++ words) fault stop wrote)
-  packed_sent false true (Ok u) result ((words, len, split, offset, good, told), part, most, fine, ok) (wrote, is) =
+  packed_sent false true (Ok u) result ((words, len, split, offset, good, told), listening, ok) (wrote, is) =
       subst (λ (x : Result (Unit {0}) ToolFault). Served (sent e) true x) (sym is) (
         words,
         begins_all (held.rest ++ bytes) next.rest words len split,

@@ -17,7 +17,7 @@ use Rattle.capn_tool.specs.Streams.{texts_of, behind_packed, end_of, IsDueEach, 
 use Rattle.capn_tool.specs.Text.{HasWritten, PlanBegins, PlanEndsAs, taken_of, has_more}
 use Rattle.capn_tool.specs.Heard.{IsDueSo, Runs, TellsFront}
 use Rattle.capn_tool.specs.Sending.{sent}
-use Rattle.capn_tool.specs.HeardPacked.{EndsPacked, HearsPacked, StopsPacked, TellsPacked, fresh}
+use Rattle.capn_tool.specs.HeardPacked.{EndsPacked, HearsPacked, IsUnpacking, StopsPacked, TellsPacked, fresh}
 use Rattle.capn_tool.specs.declared.plan.Piece.{Piece}
 use Rattle.capn_tool.specs.declared.plan.Plan.TheVariants as plans
 use Rattle.capn_tool.specs.declared.fault.ToolFault.{ToolFault}
@@ -114,8 +114,8 @@ module _ (piece : Piece) (limits : Bounds) where
   pub packed_begin : (a c : Option (List ℕ)) (held : Held) (rest : List ℕ) → held ≡ fresh → rest ≡ []
       → HearsPacked piece limits a a 0 held rest c c
   packed_begin a c held rest new none =
-      let small : 0 < 2 ^ 64 = omega arith in
-      let told = packed_none piece limits fresh [] (sent c) nothing_first small refl in (
+      let unpacking : IsUnpacking fresh = record { held = refl; group = nothing_first; offset = omega arith } in
+      let told = packed_none piece limits fresh [] (sent c) unpacking in (
         [],
         Consumes-nil a,
         refl,

@@ -53,13 +53,17 @@ fault_of (frames.TooManyWords n) = faults.Refused (refusals.Frame (frames.TooMan
 fault_of frames.Cut = faults.Refused (refusals.Frame frames.Cut)
 fault_of frames.Failed = faults.Refused (refusals.Frame frames.Failed)
 
+-- a framer within the limits of a run has not failed, and what it holds is no whole message
+pub record IsListening (framer : Framing) (limits : Bounds) : Type 0 where
+  pub good : framer.failed ≡ false
+  pub part : IsUnfinished framer.rest limits.message_words
+  pub most : framer.most ≡ limits.message_words
+
 -- bytes behind what a framer holds were served: all that they made whole, or up to where the run stopped
 abbrev pub Serves : Piece → Bounds → Framing → List ℕ → Outgoing → Outgoing → Bool → Result (Unit {0}) ToolFault
     → Framing → Type 0
 Serves piece limits before bytes old new failed (Ok u) after =
-    Tells piece limits (before.rest ++ bytes) after.rest old new × IsUnfinished after.rest before.most
-    × (after.most ≡ before.most) × (after.failed ≡ false)
-    × (failed ≡ false)
+    Tells piece limits (before.rest ++ bytes) after.rest old new × IsListening after limits × (failed ≡ false)
 Serves piece limits before bytes old new failed (Err fault) after =
     Stops piece limits (before.rest ++ bytes) old new failed fault
 

@@ -1,19 +1,25 @@
 -- A packed stream that is read in pieces: what has been told of the words of its whole groups. (Own.) No
 -- public clause cites this.
-use Rattle.std.specs.Prelude.{◌≡◌, ◌≢◌, ℕ, List, [], ◌++◌, length, Bool, false, Option, Result, Ok, Err}
+use Rattle.std.specs.Prelude.{◌≡◌, ◌≢◌, ℕ, ◌<◌, ◌^◌, List, [], ◌++◌, length, Bool, false, Option, Result, Ok, Err}
 use Rattle.capn_walk.specs.Limits.{Bounds}
-use Rattle.capn_pack.specs.Stream.{Begins, Held, Splits, advanced}
-use Rattle.capn_stream.specs.Framing.{Framing, IsUnfinished}
+use Rattle.capn_pack.specs.Stream.{Begins, Held, NoGroupFirst, Splits, advanced}
+use Rattle.capn_stream.specs.Framing.{Framing}
 use Rattle.std.specs.Io.KnownBytes.{Consumes}
 use Rattle.capn_stream.specs.Reading as frame_rules
 use Rattle.capn_stream.specs.declared.fault.FrameFault.{FrameFault}
 use Rattle.capn_stream.specs.declared.fault.FrameFault.TheVariants as frames
 use Rattle.capn_tool.specs.Streams.{behind_packed, end_of}
 use Rattle.capn_tool.specs.declared.fault.ToolFault.TheVariants as faults
-use Rattle.capn_tool.specs.Heard.{Stops, Tells}
+use Rattle.capn_tool.specs.Heard.{IsListening, Stops, Tells}
 use Rattle.capn_tool.specs.Sending.{Outgoing, sent}
 use Rattle.capn_tool.specs.declared.plan.Piece.{Piece}
 use Rattle.capn_tool.specs.declared.fault.ToolFault.{ToolFault}
+
+-- an unpacker has not failed, and holds no whole group
+pub record IsUnpacking (unpacker : Held) : Type 0 where
+  pub held : unpacker.failed ≡ false
+  pub group : NoGroupFirst unpacker.rest
+  pub offset : unpacker.offset < 2 ^ 64
 
 -- bytes behind an unfinished group and an unfinished message: their whole groups have words, of whose whole messages
 -- the pieces were added; this is held of the group, and so much of the message, then
@@ -32,9 +38,8 @@ StopsPacked piece limits group rest bytes old new failed fault =
 abbrev pub ServesPacked : Piece → Bounds → Held → Framing → List ℕ → Outgoing → Outgoing → Bool
     → Result (Unit {0}) ToolFault → Held → Framing → Type 0
 ServesPacked piece limits held before bytes old new failed (Ok u) next after =
-    TellsPacked piece limits held before.rest bytes next after.rest old new × IsUnfinished after.rest before.most
-    × (after.most ≡ before.most)
-    × (after.failed ≡ false) × (failed ≡ false)
+    TellsPacked piece limits held before.rest bytes next after.rest old new × IsListening after limits
+    × (failed ≡ false)
 ServesPacked piece limits held before bytes old new failed (Err fault) next after =
     StopsPacked piece limits held.rest before.rest bytes old new failed fault
 

@@ -5,7 +5,7 @@ ghost use Rattle.std.specs.Prelude.{◌≡◌, ◌⊎◌, ◌≤◌, ◌^◌, []
 ghost use Rattle.capn_words.specs.Watching.{inner_of, has_failed};
 ghost use Rattle.capn_stream.specs.Framing.{IsUnfinished};
 ghost use Rattle.capn_tool.specs.Heard as spec;
-ghost use Rattle.capn_tool.specs.Heard.{EndsInput, Runs, Serves, ServesNext, ServesWhole};
+ghost use Rattle.capn_tool.specs.Heard.{EndsInput, IsListening, Runs, Serves, ServesNext, ServesWhole};
 ghost use Rattle.capn_tool.specs.Sending.{outgoing, sent};
 ghost use Rattle.capn_tool.specs.declared.plan.Plan.TheVariants as plans;
 
@@ -43,9 +43,7 @@ fn serve_next<W: Write, A: Allocator + Copy>(
     writer: &mut Watched<W>,
 ) -> Result<usize, ToolFault>
     requires fine { has_failed writer.old ≡ false }
-    requires good { framer.old.failed ≡ false }
-    requires part { IsUnfinished framer.old.rest framer.old.most }
-    requires most { framer.old.most ≡ limits.message_words }
+    requires listening { IsListening framer.old limits }
     ensures serves { ServesNext piece limits framer.old bytes.now
         (outgoing (W.contents (inner_of writer.old)) text.old.items)
         (outgoing (W.contents (inner_of writer.new)) text.new.items) (has_failed writer.new) result framer.new }
@@ -100,9 +98,7 @@ fn serve_some<W: Write, A: Allocator + Copy>(
     writer: &mut Watched<W>,
 ) -> Result<usize, ToolFault>
     requires fine { has_failed writer.old ≡ false }
-    requires good { framer.old.failed ≡ false }
-    requires part { IsUnfinished framer.old.rest framer.old.most }
-    requires most { framer.old.most ≡ limits.message_words }
+    requires listening { IsListening framer.old limits }
     ensures { ServesNext piece limits framer.old bytes.now (outgoing (W.contents (inner_of writer.old)) text.old.items)
         (outgoing (W.contents (inner_of writer.new)) text.new.items) (has_failed writer.new) result framer.new }
 {
@@ -125,9 +121,7 @@ pub(crate) fn serve_bytes<W: Write, A: Allocator + Copy>(
     writer: &mut Watched<W>,
 ) -> Result<(), ToolFault>
     requires fine { has_failed writer.old ≡ false }
-    requires good { framer.old.failed ≡ false }
-    requires part { IsUnfinished framer.old.rest framer.old.most }
-    requires most { framer.old.most ≡ limits.message_words }
+    requires listening { IsListening framer.old limits }
     ensures { Serves piece limits framer.old bytes.now (outgoing (W.contents (inner_of writer.old)) text.old.items)
         (outgoing (W.contents (inner_of writer.new)) text.new.items) (has_failed writer.new) result framer.new }
 {
@@ -149,9 +143,7 @@ fn serve_piece<W: Write, A: Allocator + Copy>(
     writer: &mut Watched<W>,
 ) -> Result<(), ToolFault>
     requires fine { has_failed writer.old ≡ false }
-    requires good { framer.old.failed ≡ false }
-    requires part { IsUnfinished framer.old.rest framer.old.most }
-    requires most { framer.old.most ≡ limits.message_words }
+    requires listening { IsListening framer.old limits }
     ensures { Serves piece limits framer.old bytes.now (sent (W.contents (inner_of writer.old)))
         (sent (W.contents (inner_of writer.new)))
         (has_failed writer.new) result framer.new }

@@ -1,11 +1,10 @@
 //! A packed stream of messages that is read in pieces.
 
-ghost use Rattle.std.specs.Prelude.{◌≡◌, ◌<◌, ◌≤◌, ◌^◌, length, false};
+ghost use Rattle.std.specs.Prelude.{◌≡◌, ◌≤◌, length, false};
 ghost use Rattle.capn_words.specs.Watching.{inner_of, has_failed};
-ghost use Rattle.capn_pack.specs.Stream.{NoGroupFirst};
 ghost use Rattle.capn_stream.specs.Framing.{IsUnfinished};
-ghost use Rattle.capn_tool.specs.Heard.{Runs};
-ghost use Rattle.capn_tool.specs.HeardPacked.{EndsPacked, ServesPacked};
+ghost use Rattle.capn_tool.specs.Heard.{IsListening, Runs};
+ghost use Rattle.capn_tool.specs.HeardPacked.{EndsPacked, IsUnpacking, ServesPacked};
 ghost use Rattle.capn_tool.specs.Sending.{outgoing, sent};
 ghost use Rattle.capn_tool.specs.declared.plan.Plan.TheVariants as plans;
 
@@ -38,10 +37,8 @@ fn serve_slice<W: Write, A: Allocator + Copy>(
     writer: &mut Watched<W>,
 ) -> Result<(), ToolFault>
     requires fine { has_failed writer.old ≡ false }
+    requires listening { IsListening framer.old limits }
     requires held { unpacker.old.failed ≡ false }
-    requires good { framer.old.failed ≡ false }
-    requires part { IsUnfinished framer.old.rest framer.old.most }
-    requires most { framer.old.most ≡ limits.message_words }
     ensures { ServesPacked piece limits unpacker.old framer.old bytes.now
         (outgoing (W.contents (inner_of writer.old)) text.old.items)
         (outgoing (W.contents (inner_of writer.new)) text.new.items) (has_failed writer.new) result
@@ -67,12 +64,8 @@ fn serve_slices<W: Write, A: Allocator + Copy>(
     writer: &mut Watched<W>,
 ) -> Result<(), ToolFault>
     requires fine { has_failed writer.old ≡ false }
-    requires held { unpacker.old.failed ≡ false }
-    requires good { framer.old.failed ≡ false }
-    requires part { IsUnfinished framer.old.rest framer.old.most }
-    requires most { framer.old.most ≡ limits.message_words }
-    requires group { NoGroupFirst unpacker.old.rest }
-    requires offset { unpacker.old.offset < 2 ^ 64 }
+    requires listening { IsListening framer.old limits }
+    requires unpacking { IsUnpacking unpacker.old }
     requires room { length bytes.now ≤ 65536 }
     ensures { ServesPacked piece limits unpacker.old framer.old bytes.now
         (outgoing (W.contents (inner_of writer.old)) text.old.items)
@@ -111,12 +104,8 @@ fn serve_packed<W: Write, A: Allocator + Copy>(
     writer: &mut Watched<W>,
 ) -> Result<(), ToolFault>
     requires fine { has_failed writer.old ≡ false }
-    requires held { unpacker.old.failed ≡ false }
-    requires good { framer.old.failed ≡ false }
-    requires part { IsUnfinished framer.old.rest framer.old.most }
-    requires most { framer.old.most ≡ limits.message_words }
-    requires group { NoGroupFirst unpacker.old.rest }
-    requires offset { unpacker.old.offset < 2 ^ 64 }
+    requires listening { IsListening framer.old limits }
+    requires unpacking { IsUnpacking unpacker.old }
     requires room { length bytes.now ≤ 65536 }
     ensures { ServesPacked piece limits unpacker.old framer.old bytes.now (sent (W.contents (inner_of writer.old)))
         (sent (W.contents (inner_of writer.new))) (has_failed writer.new) result unpacker.new framer.new }

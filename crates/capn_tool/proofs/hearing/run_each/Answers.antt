@@ -1,7 +1,6 @@
-use Rattle.std.proofs.Common.{◌∙◌, drop, length-take, ℕ, subst, arith}
+use Rattle.std.proofs.Common.{drop, length-take, ℕ, subst, arith}
 use Rattle.std.proofs.lemmas.Grind.{common_steps}
 use Rattle.std.proofs.lemmas.Result.{err_from_is_err_and}
-use Rattle.capn_stream.specs.Framing.{IsUnfinished}
 use Rattle.capn_tool.specs.Heard.{EndsInput}
 use Rattle.capn_tool.proofs.HeardRun.{hears_more, runs_end, runs_long, runs_stopped, runs_unread}
 use Rattle.capn_tool.proofs.hearing.run_each.Goals as goal
@@ -10,13 +9,13 @@ pub returns-in-Err : goal.returns-in-Err
 returns-in-Err g c =
     let i = c.pieces.invariant in
     runs_unread c.args.piece c.args.limits _ _ _ _ _ c.pieces.taken c.pieces.framer.rest _ _
-    (grind (arith, common_steps)) i.within i.heard i.part c.in-Err.ensures.bytes
+    (grind (arith, common_steps)) i.within i.heard i.listening.part c.in-Err.ensures.bytes
 
 pub returns-in-Ok-eq0 : goal.returns-in-Ok-eq0
 returns-in-Ok-eq0 g c =
     let i = c.pieces.invariant in
     let room = length-take c.min-room.result c.pieces.buffer in
-    let ends = subst (λ (m : ℕ). EndsInput c.pieces.framer.rest m c.end_of_input.result) i.most
+    let ends = subst (λ (m : ℕ). EndsInput c.pieces.framer.rest m c.end_of_input.result) i.listening.most
     c.end_of_input.ensures in
     runs_end c.args.piece c.args.limits _ _ _ _ _ c.pieces.taken c.pieces.framer.rest c.read.new.buf c.in-Ok-eq0.field-0
     _ _ c.end_of_input.result (grind (arith, common_steps)) i.writer i.within i.heard c.in-Ok-eq0.field-0-test
@@ -41,11 +40,10 @@ returns-then-within-count g c =
     let bound = c.in-Ok.ensures.bound in
     let room = length-take c.min-room.result c.pieces.buffer in
     let served = c.in_ok-serve_piece-in-Ok.ensures in
-    let part = subst (λ (m : ℕ). IsUnfinished c.serve_piece.new.framer.rest m) i.most served.1 in
     runs_long c.args.piece c.args.limits _ _ _ _ _ _ c.pieces.taken c.pieces.framer.rest c.serve_piece.new.framer.rest
     c.read.new.buf (drop c.min-room.result c.pieces.buffer) c.min-within.result c.in-Ok.count _ _
-    (grind (arith, common_steps)) served.4 (omega arith) c.if-within-count.true (omega arith) i.heard
-    c.in-Ok.ensures.bytes.0 bound.0 served.0 part
+    (grind (arith, common_steps)) served.2 (omega arith) c.if-within-count.true (omega arith) i.heard
+    c.in-Ok.ensures.bytes.0 bound.0 served.0 served.1.part
 
 pub pieces-preserved : goal.pieces-preserved
 pieces-preserved g c =
@@ -54,10 +52,8 @@ pieces-preserved g c =
     let served = c.in_ok-serve_piece-in-Ok.ensures in
     record {
       reader = grind (arith, common_steps);
-      writer = served.4;
-      good = served.3;
-      most = served.2 ∙ i.most;
-      part = subst (λ (m : ℕ). IsUnfinished c.serve_piece.new.framer.rest m) i.most served.1;
+      writer = served.2;
+      listening = served.1;
       within = omega arith;
       heard = hears_more c.args.piece c.args.limits _ _ _ _ _ _ c.pieces.taken c.pieces.framer.rest
           c.serve_piece.new.framer.rest c.read.new.buf (drop c.min-room.result c.pieces.buffer) c.min-within.result

@@ -1,6 +1,5 @@
-use Rattle.std.proofs.Common.{◌-◌, length, drop, ℕ, subst, ◌∙◌, arith, length-drop, length-take}
+use Rattle.std.proofs.Common.{◌-◌, length, drop, arith, length-drop, length-take}
 use Rattle.std.proofs.lemmas.Result.{err_from_is_err_and}
-use Rattle.capn_stream.specs.Framing.{IsUnfinished}
 use Rattle.capn_tool.proofs.HeardNext.{served_more, served_stop}
 use Rattle.capn_tool.proofs.hearing.serve_bytes.Goals as goal
 
@@ -17,10 +16,8 @@ loop-at-preserved g c =
     let i = c.loop-at.invariant in
     let rest = length-take (length c.args.bytes.now - c.loop-at.at) (drop c.loop-at.at c.args.bytes.now) in
     record {
-      fine = next.2.4;
-      good = next.2.3;
-      most = next.2.2 ∙ i.most;
-      part = subst (λ (m : ℕ). IsUnfinished c.serve_some.new.framer.rest m) i.most next.2.1;
+      fine = next.2.2;
+      listening = next.2.1;
       within = omega (arith, next.0, rest, i.within, length-drop c.loop-at.at c.args.bytes.now);
       told = served_more c.args.piece c.args.limits c.args.framer.now c.loop-at.framer c.args.bytes.now c.loop-at.at _ _
           _ i.told c.in_ok-at.field-0 c.serve_some.new.framer.rest next.2.0;

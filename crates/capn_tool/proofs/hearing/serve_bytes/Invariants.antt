@@ -1,17 +1,14 @@
 use Rattle.std.proofs.Common.{◌≡◌, ◌≤◌, ◌-◌, ◌++◌, length, take, false}
 use Rattle.capn_words.specs.Watching.{inner_of, has_failed}
-use Rattle.capn_stream.specs.Framing.{IsUnfinished}
 use Rattle.capn_tool.specs.Sending.{outgoing}
-use Rattle.capn_tool.specs.Heard.{Tells}
+use Rattle.capn_tool.specs.Heard.{IsListening, Tells}
 use Rattle.capn_tool.proofs.hearing.serve_bytes.Given as goal
 
 -- the pieces of the messages that the bytes so far made whole are added
 abbrev pub invariant-loop-at : goal.invariant-loop-at
 invariant-loop-at g l = record {
   fine : has_failed l.writer ≡ false;
-  good : l.framer.failed ≡ false;
-  most : l.framer.most ≡ l.fn.framer.most;
-  part : IsUnfinished l.framer.rest l.fn.framer.most;
+  listening : IsListening l.framer l.limits;
   within : l.at ≤ length l.bytes;
   told : Tells l.piece l.limits (l.fn.framer.rest ++ take l.at l.bytes) l.framer.rest
       (outgoing (g.W.Write.contents (inner_of l.fn.writer)) l.fn.text.items)

@@ -27,8 +27,6 @@ returns g c =
         some_more c.args.piece c.args.limits c.args.framer.now c.serve_next.new.framer c.args.bytes.now n _ _ _
             s.serves.2.0 none c.in_ok-more.more m.1,
         s.serves.2.1,
-        s.serves.2.2,
-        s.serves.2.3,
         m.2,
       ),
     )

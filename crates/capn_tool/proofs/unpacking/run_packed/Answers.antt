@@ -1,21 +1,19 @@
-use Rattle.std.proofs.Common.{inl, refl, ◌∙◌, drop, length-take, List, ℕ, subst, ap, sym, arith}
+use Rattle.std.proofs.Common.{drop, length-take, ℕ, subst, ap, arith}
 use Rattle.std.proofs.lemmas.Grind.{common_steps}
 use Rattle.std.proofs.lemmas.Result.{err_from_is_err_and}
 use Rattle.capn_words.specs.Watching.{inner_of}
-use Rattle.capn_stream.specs.Framing.{Framing, IsUnfinished}
+use Rattle.capn_stream.specs.Framing.{Framing}
 use Rattle.capn_tool.specs.HeardPacked.{EndsPacked}
 use Rattle.capn_tool.proofs.PackedRun.{packed_begin, packed_end, packed_hears, packed_long, packed_stopped}
 use Rattle.capn_tool.proofs.PackedRun.{packed_unread}
+use Rattle.capn_tool.proofs.HeardNext.{new_listening}
 use Rattle.capn_tool.proofs.unpacking.run_packed.Goals as goal
 
 pub pieces-init : goal.pieces-init
 pieces-init g c = record {
   reader = c.requires.reader_fine;
   writer = c.requires.writer_fine;
-  good = ap (λ (f : Framing). f.failed) c.new-framer.ensures;
-  most = ap (λ (f : Framing). f.most) c.new-framer.ensures ∙ c.message_words.ensures.value;
-  part = subst (λ (l : List ℕ). IsUnfinished l c.args.limits.message_words)
-      (sym (ap (λ (f : Framing). f.rest) c.new-framer.ensures)) (inl refl);
+  listening = new_listening c.new-framer.result c.args.limits _ c.new-framer.ensures c.message_words.ensures.value;
   within = omega arith;
   heard = packed_begin c.args.piece c.args.limits (g.R.Read.remaining (inner_of c.args.reader.now))
       (g.W.Write.contents (inner_of c.args.writer.now)) c.new-unpacker.result c.new-framer.result.rest
@@ -27,7 +25,7 @@ pub returns-in-Err : goal.returns-in-Err
 returns-in-Err g c =
     let i = c.pieces.invariant in
     packed_unread c.args.piece c.args.limits _ _ _ _ _ c.pieces.taken c.pieces.unpacker c.pieces.framer.rest _ _
-    (grind (arith, common_steps)) i.within i.heard i.part c.in-Err.ensures.bytes
+    (grind (arith, common_steps)) i.within i.heard i.listening.part c.in-Err.ensures.bytes
 
 pub returns-in-Ok-eq0 : goal.returns-in-Ok-eq0
 returns-in-Ok-eq0 g c =
@@ -35,7 +33,7 @@ returns-in-Ok-eq0 g c =
     let room = length-take c.min-room.result c.pieces.buffer in
     let ends = subst
     (λ (m : ℕ). EndsPacked c.pieces.unpacker.rest c.pieces.unpacker.offset c.pieces.framer.rest m
-    c.end_of_packed.result) i.most c.end_of_packed.ensures in
+    c.end_of_packed.result) i.listening.most c.end_of_packed.ensures in
     packed_end c.args.piece c.args.limits _ _ _ _ _ c.pieces.taken c.pieces.unpacker c.pieces.framer.rest c.read.new.buf
     c.in-Ok-eq0.field-0 _ _ c.end_of_packed.result (grind (arith, common_steps)) i.writer i.within i.heard
     c.in-Ok-eq0.field-0-test
@@ -60,12 +58,11 @@ returns-then-within-count g c =
     let bound = c.in-Ok.ensures.bound in
     let room = length-take c.min-room.result c.pieces.buffer in
     let served = c.in_ok-serve_packed-in-Ok.ensures in
-    let part = subst (λ (m : ℕ). IsUnfinished c.serve_packed.new.framer.rest m) i.most served.1 in
     packed_long c.args.piece c.args.limits _ _ _ _ _ _ c.pieces.taken c.pieces.unpacker c.serve_packed.new.unpacker
     c.pieces.framer.rest c.serve_packed.new.framer.rest c.read.new.buf (drop c.min-room.result c.pieces.buffer)
     c.min-within.result c.in-Ok.count _ _
-    (grind (arith, common_steps)) served.4 (omega arith) c.if-within-count.true (omega arith) i.heard
-    c.in-Ok.ensures.bytes.0 bound.0 served.0 part
+    (grind (arith, common_steps)) served.2 (omega arith) c.if-within-count.true (omega arith) i.heard
+    c.in-Ok.ensures.bytes.0 bound.0 served.0 served.1.part
 
 pub pieces-preserved : goal.pieces-preserved
 pieces-preserved g c =
@@ -74,10 +71,8 @@ pieces-preserved g c =
     let served = c.in_ok-serve_packed-in-Ok.ensures in
     record {
       reader = grind (arith, common_steps);
-      writer = served.4;
-      good = served.3;
-      most = served.2 ∙ i.most;
-      part = subst (λ (m : ℕ). IsUnfinished c.serve_packed.new.framer.rest m) i.most served.1;
+      writer = served.2;
+      listening = served.1;
       within = omega arith;
       heard = packed_hears c.args.piece c.args.limits _ _ _ _ _ _ c.pieces.taken c.pieces.unpacker
           c.serve_packed.new.unpacker c.pieces.framer.rest c.serve_packed.new.framer.rest c.read.new.buf

@@ -1,6 +1,6 @@
 use Rattle.std.proofs.Common.{◌≡◌, ◌≤◌, ◌+◌, ◌-◌, ◌^◌, false}
 use Rattle.capn_words.specs.Watching.{inner_of, has_failed}
-use Rattle.capn_stream.specs.Framing.{IsUnfinished}
+use Rattle.capn_tool.specs.Heard.{IsListening}
 use Rattle.capn_tool.specs.HeardPacked.{HearsPacked}
 use Rattle.capn_tool.proofs.unpacking.run_packed.Given as goal
 
@@ -9,9 +9,7 @@ abbrev pub invariant-pieces : goal.invariant-pieces
 invariant-pieces g l = record {
   reader : has_failed l.reader ≡ false;
   writer : has_failed l.writer ≡ false;
-  good : l.framer.failed ≡ false;
-  most : l.framer.most ≡ l.limits.message_words;
-  part : IsUnfinished l.framer.rest l.limits.message_words;
+  listening : IsListening l.framer l.limits;
   within : l.taken ≤ 2 ^ 32;
   heard : HearsPacked l.piece l.limits (g.R.Read.remaining (inner_of l.fn.reader))
       (g.R.Read.remaining (inner_of l.reader)) l.taken l.unpacker l.framer.rest

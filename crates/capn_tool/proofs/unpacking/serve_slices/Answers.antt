@@ -1,19 +1,15 @@
-use Rattle.std.proofs.Common.{ℕ, subst, refl, ◌∙◌, arith}
+use Rattle.std.proofs.Common.{arith}
 use Rattle.std.proofs.lemmas.Result.{err_from_is_err_and}
-use Rattle.capn_stream.specs.Framing.{IsUnfinished}
 use Rattle.capn_tool.proofs.PackedMore.{packed_none, slice_more, slice_stop}
 use Rattle.capn_tool.proofs.unpacking.serve_slices.Goals as goal
 
 pub loop-at-init : goal.loop-at-init
 loop-at-init g c = record {
   fine = c.requires.fine;
-  held = c.requires.held;
-  good = c.requires.good;
-  most = refl;
-  part = c.requires.part;
+  held = c.requires.unpacking.held;
+  listening = c.requires.listening;
   within = omega arith;
-  told = packed_none c.args.piece c.args.limits c.args.unpacker.now c.args.framer.now.rest _ c.requires.group
-      c.requires.offset c.requires.held;
+  told = packed_none c.args.piece c.args.limits c.args.unpacker.now c.args.framer.now.rest _ c.requires.unpacking;
 }
 
 pub returns-in_err-serve_slice : goal.returns-in_err-serve_slice
@@ -31,11 +27,9 @@ loop-at-preserved g c =
     let i = c.loop-at.invariant in
     let next = c.in_ok-serve_slice.ensures in
     record {
-      fine = next.4;
+      fine = next.2;
       held = next.0.4;
-      good = next.3;
-      most = next.2 ∙ i.most;
-      part = subst (λ (m : ℕ). IsUnfinished c.serve_slice.new.framer.rest m) i.most next.1;
+      listening = next.1;
       within = omega arith;
       told = slice_more c.args.piece c.args.limits c.args.unpacker.now c.args.framer.now.rest c.args.bytes.now
           c.loop-at.at c.min-end.result (omega arith) c.loop-at.unpacker c.loop-at.framer.rest _ _ i.told

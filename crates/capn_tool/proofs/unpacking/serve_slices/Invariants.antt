@@ -1,7 +1,7 @@
 use Rattle.std.proofs.Common.{◌≡◌, ◌≤◌, ◌-◌, length, take, false}
 use Rattle.capn_words.specs.Watching.{inner_of, has_failed}
-use Rattle.capn_stream.specs.Framing.{IsUnfinished}
 use Rattle.capn_tool.specs.Sending.{outgoing}
+use Rattle.capn_tool.specs.Heard.{IsListening}
 use Rattle.capn_tool.specs.HeardPacked.{TellsPacked}
 use Rattle.capn_tool.proofs.unpacking.serve_slices.Given as goal
 
@@ -10,9 +10,7 @@ abbrev pub invariant-loop-at : goal.invariant-loop-at
 invariant-loop-at g l = record {
   fine : has_failed l.writer ≡ false;
   held : l.unpacker.failed ≡ false;
-  good : l.framer.failed ≡ false;
-  most : l.framer.most ≡ l.fn.framer.most;
-  part : IsUnfinished l.framer.rest l.fn.framer.most;
+  listening : IsListening l.framer l.limits;
   within : l.at ≤ length l.bytes;
   told : TellsPacked l.piece l.limits l.fn.unpacker l.fn.framer.rest (take l.at l.bytes) l.unpacker l.framer.rest
       (outgoing (g.W.Write.contents (inner_of l.fn.writer)) l.fn.text.items)
