@@ -50,18 +50,15 @@ pub fn read_all<R: Read, A: Allocator>(
                 });
             }
             Ok(count) => {
-                if bytes.len() + count > MOST_BYTES {
-                    let kept = MOST_BYTES - bytes.len();
-                    if bytes.extend_from_slice(&piece[..kept]).is_err() {
-                        return Err(ToolFault::Memory);
-                    }
+                let kept = count.min(MOST_BYTES - bytes.len());
+                if bytes.extend_from_slice(&piece[..kept]).is_err() {
+                    return Err(ToolFault::Memory);
+                }
+                if kept < count {
                     return Ok(Input {
                         bytes,
                         is_longer: true,
                     });
-                }
-                if bytes.extend_from_slice(&piece[..count]).is_err() {
-                    return Err(ToolFault::Memory);
                 }
             }
         }

@@ -15,22 +15,15 @@ returns-then-is_err-clause-bounded g c =
     read_more _ _ _ c.pieces.bytes.items c.read.new.buf c.in-Ok.count (λ n. n ≤ 2 ^ 32 + 1) c.pieces.invariant.read
     c.in-Ok.ensures.bytes.0 bound.0 (omega arith)
 
-pub returns-then-len-count-gt-MOST_BYTES-clause-bounded : goal.returns-then-len-count-gt-MOST_BYTES-clause-bounded
-returns-then-len-count-gt-MOST_BYTES-clause-bounded g c =
+pub returns-then-kept-count-clause-bounded : goal.returns-then-kept-count-clause-bounded
+returns-then-kept-count-clause-bounded g c =
     let bound = c.in-Ok.ensures.bound in
     let room = length-take c.min-room.result c.pieces.piece in
     read_more _ _ _ c.pieces.bytes.items c.read.new.buf c.in-Ok.count (λ n. n ≤ 2 ^ 32 + 1) c.pieces.invariant.read
     c.in-Ok.ensures.bytes.0 bound.0 (omega arith)
 
-pub returns-then-is_err-2-clause-bounded : goal.returns-then-is_err-2-clause-bounded
-returns-then-is_err-2-clause-bounded g c =
-    let bound = c.in-Ok.ensures.bound in
-    let room = length-take c.min-room.result c.pieces.piece in
-    read_more _ _ _ c.pieces.bytes.items c.read.new.buf c.in-Ok.count (λ n. n ≤ 2 ^ 32 + 1) c.pieces.invariant.read
-    c.in-Ok.ensures.bytes.0 bound.0 (omega arith)
-
-pub returns-then-len-count-gt-MOST_BYTES-clause-exact : goal.returns-then-len-count-gt-MOST_BYTES-clause-exact
-returns-then-len-count-gt-MOST_BYTES-clause-exact g c =
+pub returns-then-kept-count-clause-exact : goal.returns-then-kept-count-clause-exact
+returns-then-kept-count-clause-exact g c =
     let bound = c.in-Ok.ensures.bound in
     let room = length-take c.min-room.result c.pieces.piece in
     let ok : is_ok c.extend_from_slice.result ≡ true =
