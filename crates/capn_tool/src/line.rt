@@ -1,6 +1,6 @@
 //! What the words of the command line tell the tool to do.
 
-ghost use Rattle.std.specs.Prelude.{◌≡◌, ◌⊎◌, ℕ, ◌<◌, ◌^◌, true, IfErr, IfOk, IfSome, IsSome, Some, map};
+ghost use Rattle.std.specs.Prelude.{◌≡◌, ◌⊎◌, ℕ, ◌<◌, ◌^◌, true, IfErr, IfOk, IfSome, IsSome, Some, codes, map};
 ghost use Rattle.clap.specs.Words.{found_of, kind_of, rows_of, subcommand_of, takes};
 ghost use Rattle.clap.specs.declared.error.ErrorKind.TheVariants as kinds;
 ghost use Rattle.capn_walk.specs.Limits.{Bounds};
@@ -91,6 +91,22 @@ fn unpacked_words_of(matches: &ArgMatches) -> Option<u32>
     }
 }
 
+/// The command over messages of this name with these options.
+fn message_order_of(name: &str, matches: &ArgMatches) -> Option<Command>
+    ensures means { IfSome result (λ command. Means (Some (name.now, rows_of (found_of matches.now))) command) }
+    ensures served { (command : Command) → Means (Some (name.now, rows_of (found_of matches.now))) command
+        → (name.now ≡ codes "pack") ⊎ ((name.now ≡ codes "unpack") ⊎ IsSome result) }
+{
+    let (form, limits) = form_and_limits_of(matches)?;
+    match name {
+        "show" => Some(Command::Show(form, limits)),
+        "check" => Some(Command::Check(form, limits)),
+        "canonical" => Some(Command::Canonical(form, limits)),
+        "hash" => Some(Command::Hash(form, limits)),
+        _ => None,
+    }
+}
+
 /// The command of this name with these options.
 fn order_of(name: &str, matches: &ArgMatches) -> Option<Command>
     ensures means { IfSome result (λ command. Means (Some (name.now, rows_of (found_of matches.now))) command) }
@@ -98,25 +114,9 @@ fn order_of(name: &str, matches: &ArgMatches) -> Option<Command>
         → IsSome result }
 {
     match name {
-        "show" => {
-            let (form, limits) = form_and_limits_of(matches)?;
-            Some(Command::Show(form, limits))
-        }
-        "check" => {
-            let (form, limits) = form_and_limits_of(matches)?;
-            Some(Command::Check(form, limits))
-        }
-        "canonical" => {
-            let (form, limits) = form_and_limits_of(matches)?;
-            Some(Command::Canonical(form, limits))
-        }
-        "hash" => {
-            let (form, limits) = form_and_limits_of(matches)?;
-            Some(Command::Hash(form, limits))
-        }
         "pack" => Some(Command::Pack),
         "unpack" => Some(Command::Unpack(unpacked_words_of(matches)?)),
-        _ => None,
+        _ => message_order_of(name, matches),
     }
 }
 
@@ -135,7 +135,14 @@ fn mistake_of(matches: &ArgMatches) -> &'static str {
 fn value_error(alloc: Global, text: &str) -> Result<clap::Error, AllocError>
     ensures { IfOk result (λ e. kind_of e ≡ kinds.InvalidValue) }
 {
-    tool_command(alloc)?.error(ErrorKind::InvalidValue, text)
+    match tool_command(alloc) {
+        Ok(mut tool) => {
+            let error = tool.error(ErrorKind::InvalidValue, text);
+            drop(tool);
+            error
+        }
+        Err(error) => Err(error),
+    }
 }
 
 /// What is answered where an option has a value that the command does not take.

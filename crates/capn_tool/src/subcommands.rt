@@ -103,8 +103,19 @@ fn with_command<'a>(
     ensures { (top line : App) → IfOk program.entry (λ c. app_of c ≡ top) → IfOk command.entry (λ c. HasLine c line)
         → IfOk result (λ c. app_of c ≡ with_subcommand top line.top) }
 {
-    let made = command?;
-    program?.subcommand(made)
+    match program {
+        Ok(top) => match command {
+            Ok(made) => top.subcommand(made),
+            Err(error) => {
+                drop(top);
+                Err(error)
+            }
+        },
+        Err(error) => {
+            drop(command);
+            Err(error)
+        }
+    }
 }
 
 /// The program with the four commands over messages.

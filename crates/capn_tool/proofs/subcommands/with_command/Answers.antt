@@ -5,8 +5,8 @@ use Rattle.capn_tool.specs.Line.{HasLine}
 use Rattle.capn_tool.proofs.CommandLines.{answers_command}
 use Rattle.capn_tool.proofs.subcommands.with_command.Goals as goal
 
-pub returns : goal.returns
-returns c top line is has =
-    answers_command c.in_ok-program.field-0 c.in_ok-made.made top line c.subcommand.result
-    (IfOk-at_ok (λ program. app_of program ≡ top) c.in_ok-program.was is)
-    (IfOk-at_ok (λ made. HasLine made line) c.in_ok-made.was has) c.subcommand.ensures
+pub returns-in-Ok-command : goal.returns-in-Ok-command
+returns-in-Ok-command c top line is has =
+    answers_command c.in-Ok.top c.in-Ok-command.made top line c.subcommand.result
+    (IfOk-at_ok (λ program. app_of program ≡ top) c.in-Ok.is is)
+    (IfOk-at_ok (λ made. HasLine made line) c.in-Ok-command.is has) c.subcommand.ensures
