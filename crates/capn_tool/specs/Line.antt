@@ -58,12 +58,16 @@ unpack_line = with_rule (new_app (codes "unpack")) words_rule
 abbrev pub top_line : App
 top_line = let a = new_app (codes "capn") in record a { top = record a.top { subcommand_required = true } }
 
+-- the program with the commands that tell what messages hold and cost
+abbrev pub reading_line : App
+reading_line =
+    let with_show = with_subcommand top_line (message_line (codes "show")).top in
+    with_subcommand with_show (message_line (codes "check")).top
+
 -- the program with the four commands over messages
 abbrev pub messages_line : App
 messages_line =
-    let with_show = with_subcommand top_line (message_line (codes "show")).top in
-    let with_check = with_subcommand with_show (message_line (codes "check")).top in
-    let with_canonical = with_subcommand with_check (message_line (codes "canonical")).top in
+    let with_canonical = with_subcommand reading_line (message_line (codes "canonical")).top in
     with_subcommand with_canonical (message_line (codes "hash")).top
 
 -- the whole command line

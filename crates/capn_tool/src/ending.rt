@@ -35,10 +35,7 @@ pub fn fault_text<A: Allocator>(alloc: A, fault: &ToolFault) -> Result<String<A>
 fn fault_line<A: Allocator + Copy>(alloc: A, fault: &ToolFault) -> Result<String<A>, Memory>
     ensures { IfOk result (λ line. string_bytes line ≡ spec.fault_line fault.now) }
 {
-    let mut line = String::from_str(alloc, "capn: ")?;
-    line.push_str(fault_text(alloc, fault)?.as_str())?;
-    line.push_str("\n")?;
-    Ok(line)
+    Ok(format!(in alloc; "capn: {fault}\n")?)
 }
 
 /// Writes the line of a fault, or that of want of memory where the line finds none.

@@ -4,7 +4,7 @@ ghost use Rattle.std.specs.Prelude.{◌≡◌, IfOk, false};
 ghost use Rattle.clap.specs.Words.{App, app_of, rule_of, new_app, with_subcommand};
 ghost use Rattle.clap.specs.declared.builder.command.Command.TheViews.{out-Command};
 ghost use Rattle.capn_tool.specs.Line.{HasLine, usual_rule, words_rule, budget_rule, depth_rule};
-ghost use Rattle.capn_tool.specs.Line.{message_line, unpack_line, messages_line};
+ghost use Rattle.capn_tool.specs.Line.{message_line, unpack_line, reading_line, messages_line};
 ghost use Rattle.capn_tool.specs.Line.{tool_line};
 
 use crate::help::{self, Page};
@@ -118,22 +118,24 @@ fn with_command<'a>(
     }
 }
 
+/// The program with the commands that tell what messages hold and cost.
+fn reading_command<'a>(alloc: Global) -> Result<Command<'a>, AllocError>
+    ensures { IfOk result (λ c. app_of c ≡ reading_line) }
+{
+    let forms = help::FORMS_OF_MESSAGES;
+    let top = plain_command(alloc, "capn", help::PROGRAM).subcommand_required(true);
+    let show = message_command(alloc, "show", help::SHOW, forms);
+    let check = message_command(alloc, "check", help::CHECK, forms);
+    with_command(with_command(Ok(top), show), check)
+}
+
 /// The program with the four commands over messages.
 fn messages_command<'a>(alloc: Global) -> Result<Command<'a>, AllocError>
     ensures { IfOk result (λ c. app_of c ≡ messages_line) }
 {
-    let forms = help::FORMS_OF_MESSAGES;
-    let top = plain_command(alloc, "capn", help::PROGRAM).subcommand_required(true);
-    let with_show = with_command(Ok(top), message_command(alloc, "show", help::SHOW, forms));
-    let with_check = with_command(
-        with_show,
-        message_command(alloc, "check", help::CHECK, forms),
-    );
     let canonical = message_command(alloc, "canonical", help::CANONICAL, help::FORMS_OF_ONE);
-    with_command(
-        with_command(with_check, canonical),
-        message_command(alloc, "hash", help::HASH, forms),
-    )
+    let hash = message_command(alloc, "hash", help::HASH, help::FORMS_OF_MESSAGES);
+    with_command(with_command(reading_command(alloc), canonical), hash)
 }
 
 /// The whole command line.

@@ -1,20 +1,10 @@
-use Rattle.std.proofs.Common.{ap, ◌∙◌, ◌≡◌, codes, true}
-use Rattle.clap.specs.Words.{App, app_of}
-use Rattle.clap.specs.Simple.{app_of_fields}
-use Rattle.capn_tool.specs.Line.{message_line, top_line}
+use Rattle.std.proofs.Common.{codes}
+use Rattle.capn_tool.specs.Line.{message_line, reading_line}
 use Rattle.capn_tool.proofs.subcommands.messages_command.Goals as goal
-
-abbrev required : App → App
-required a = record a { top = record a.top { subcommand_required = true } }
 
 pub returns : goal.returns
 returns c =
-    let top : app_of c.subcommand_required-top.result ≡ top_line = ap app_of_fields c.subcommand_required-top.ensures
-    ∙ ap required c.plain_command.ensures.app in
     c.with_command-2.ensures _ (message_line (codes "hash"))
-    (c.with_command.ensures _ (message_line (codes "canonical"))
-    (c.with_command-with_check.ensures _ (message_line (codes "check"))
-    (c.with_command-with_show.ensures top_line (message_line (codes "show")) top c.message_command.ensures)
-    c.message_command-2.ensures)
+    (c.with_command.ensures reading_line (message_line (codes "canonical")) c.reading_command.ensures
     c.message_command-canonical.ensures)
-    c.message_command-3.ensures
+    c.message_command-hash.ensures
