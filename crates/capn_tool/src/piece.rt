@@ -39,7 +39,9 @@ fn text_of<S: Space, A: Allocator + Copy>(
     ensures refused { IfErr result (λ e. (e ≡ faults.Memory) ⊎ IsStopped (S.message space.now) limits e) }
 {
     let walked = walk(alloc, space, limits)?;
-    ended_text(alloc, &walked.tree)
+    let text = ended_text(alloc, &walked.tree);
+    drop(walked);
+    text
 }
 
 /// Appends the text of a message, and the line `end`. Behind nothing the text is handed over, and not copied.
