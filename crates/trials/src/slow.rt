@@ -67,23 +67,23 @@ impl Write for Narrow {
 
 /// A command with its input and what it writes.
 #[derive(Clone, Copy)]
-pub struct Run<'a> {
-    pub command: Command,
-    pub input: &'a [u8],
-    pub text: &'a [u8],
+pub(crate) struct Run<'a> {
+    pub(crate) command: Command,
+    pub(crate) input: &'a [u8],
+    pub(crate) text: &'a [u8],
 }
 
 /// How a run ended: its outcome, what it wrote, how often it called its reader, and the most that it asked it for.
 #[derive(Drop)]
-pub struct Ending {
-    pub outcome: Result<(), ToolFault>,
-    pub written: Vec<u8>,
-    pub reads: u64,
-    pub asked: usize,
+pub(crate) struct Ending {
+    pub(crate) outcome: Result<(), ToolFault>,
+    pub(crate) written: Vec<u8>,
+    pub(crate) reads: u64,
+    pub(crate) asked: usize,
 }
 
 /// How a run ended whose reader fails at one call and its writer at another (at 0: never).
-pub fn ended(alloc: Global, run_of: &Run, read: u64, write: u64, takes_nothing: bool) -> Ending {
+pub(crate) fn ended(alloc: Global, run_of: &Run, read: u64, write: u64, takes_nothing: bool) -> Ending {
     let mut reader = Watched::new(Slow {
         bytes: run_of.input,
         calls: 0,
