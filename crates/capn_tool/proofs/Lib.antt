@@ -17,3 +17,5 @@ pub mod WorkedLines
 pub mod Kept
 pub mod Carried
 pub mod Shown
+pub mod Added
+pub mod Unordered

@@ -34,7 +34,7 @@ not_shown c d failed text fault (Err e) help begun io is (is_err, same) =
     rw (same ∙ is) (text, help, begun, io.0 (ap stopped is))
 
 -- a writer that has written has not failed
-sound : (failed : Bool) → (IsErrOf done faults.Io ↔ (failed ≡ true)) → failed ≡ false
+pub sound : (failed : Bool) → (IsErrOf done faults.Io ↔ (failed ≡ true)) → failed ≡ false
 sound false io = refl
 sound true io = absurd (let bad = io.1 refl in cc)
 

@@ -1,10 +1,14 @@
 -- The line of a bare message's price.
 use Rattle.std.proofs.Common.{◌≡◌, inl, inr, ℕ, List, [], ◌∷◌, ◌++◌, codes, true, false, Result, Ok, Err, ap, sym, ◌∙◌}
+use Rattle.std.proofs.Common.{◌⊎◌, IsErrAnd, refl}
 use Rattle.capn_walk.specs.Limits.{Bounds}
 use Rattle.capn_walk.specs.Accepted.{paid, number_of_visits}
+use Rattle.capn_walk.specs.Accepted as walks
+use Rattle.capn_walk.specs.declared.walked.Stopped.{Stopped}
+use Rattle.capn_walk.specs.declared.target.Fault.TheVariants as walk_faults
 use Rattle.capn_canon.specs.Checks.{IsCheck}
 use Rattle.capn_canon.specs.declared.checked.Checked.{Checked}
-use Rattle.capn_tool.specs.Pieces.{AreCanonical, PutsBarePiece, PutsLine, priced}
+use Rattle.capn_tool.specs.Pieces.{AreCanonical, PutsBarePiece, PutsLine, TellsStop, priced}
 use Rattle.capn_tool.specs.declared.plan.Piece.TheVariants as kinds
 use Rattle.capn_tool.specs.declared.fault.ToolFault.{ToolFault}
 
@@ -39,3 +43,12 @@ module _ (words : List ℕ) (limits : Bounds) (c : Checked) (told : IsCheck word
     put,
   )
   verdict_no old new (Err fault) e put = (inl put.0, put.1)
+
+-- the walk stopped
+pub verdict_stopped : (words : List ℕ) (limits : Bounds) (s : Stopped) (old : List ℕ) (r : Result (Unit {0}) ToolFault)
+    → (s.fault ≡ walk_faults.Memory) ⊎ walks.IsRefused (words ∷ []) limits s.fault s.place s.paid s.visits
+    → IsErrAnd r (TellsStop s) → PutsBarePiece kinds.Price words limits old old r
+verdict_stopped words limits s old (Ok u) why is = absurd is
+verdict_stopped words limits s old (Err fault) why (inl (memory, is)) = (inl is, refl)
+verdict_stopped words limits s old (Err fault) (inl memory) (inr (other, is)) = absurd (other memory)
+verdict_stopped words limits s old (Err fault) (inr refused) (inr (other, is)) = (inr (s, is, refused), refl)

@@ -1,4 +1,4 @@
-use Rattle.capn_tool.proofs.Verdicts.{verdict_yes, verdict_no}
+use Rattle.capn_tool.proofs.Verdicts.{verdict_no, verdict_stopped, verdict_yes}
 use Rattle.capn_tool.proofs.piece.put_verdict.Goals as goal
 
 pub returns-then-checked : goal.returns-then-checked
@@ -10,3 +10,8 @@ pub returns : goal.returns
 returns g c =
     verdict_no c.args.space.now c.args.limits c.in_ok-checked.checked c.in_ok-checked.ensures.found _ _
     c.put_priced-2.result c.if-checked.false c.put_priced-2.ensures
+
+pub returns-in_err-checked : goal.returns-in_err-checked
+returns-in_err-checked g c =
+    verdict_stopped c.args.space.now c.args.limits c.in_err-checked.field-0.0 c.args.text.now.items
+    c.from_residual.result c.in_err-checked.ensures.refused c.from_residual.ensures.1

@@ -1,7 +1,26 @@
-use Rattle.std.proofs.Common.{arith}
+use Rattle.std.proofs.Common.{◌≡◌, ◌≤◌, ℕ, List, Bool, false, Ok, take, length, subst, arith}
+use Rattle.std.proofs.Math.Seq.{take_all}
+use Rattle.capn_walk.specs.Limits.{Bounds}
+use Rattle.capn_pack.specs.Stream.{Held}
+use Rattle.capn_stream.specs.Framing.{Framing}
+use Rattle.capn_tool.specs.Heard.{IsListening}
+use Rattle.capn_tool.specs.HeardPacked.{ServesPacked, TellsPacked}
+use Rattle.capn_tool.specs.Sending.{Outgoing}
+use Rattle.capn_tool.specs.declared.plan.Piece.{Piece}
 use Rattle.std.proofs.lemmas.Result.{err_from_is_err_and}
 use Rattle.capn_tool.proofs.PackedMore.{packed_none, slice_more, slice_stop}
 use Rattle.capn_tool.proofs.unpacking.serve_slices.Goals as goal
+
+-- the loop has come to the end of the bytes
+packed_all : (piece : Piece) (limits : Bounds) (held : Held) (before : Framing) (bytes : List ℕ) (at : ℕ) (next : Held)
+    (after : Framing) (a b : Outgoing) (failed : Bool) → length bytes ≤ at
+    → TellsPacked piece limits held before.rest (take at bytes) next after.rest a b → IsListening after limits
+    → failed ≡ false → ServesPacked piece limits held before bytes a b failed (Ok tt) next after
+packed_all piece limits held before bytes at next after a b failed end told listening fine = (
+  subst (λ (x : List ℕ). TellsPacked piece limits held before.rest x next after.rest a b) (take_all at bytes end) told,
+  listening,
+  fine,
+)
 
 pub loop-at-init : goal.loop-at-init
 loop-at-init g c = record {
@@ -36,3 +55,33 @@ loop-at-preserved g c =
           c.serve_slice.new.unpacker
           c.serve_slice.new.framer.rest _ next.0;
     }
+
+pub overflow_add-at : goal.overflow_add-at
+overflow_add-at g c = omega arith
+
+pub slice_bounds-serve_slice-count : goal.slice_bounds-serve_slice-count
+slice_bounds-serve_slice-count g c = omega arith
+
+pub slice_bounds-serve_slice-start : goal.slice_bounds-serve_slice-start
+slice_bounds-serve_slice-start g c = omega arith
+
+pub slice_bounds-serve_slice-end : goal.slice_bounds-serve_slice-end
+slice_bounds-serve_slice-end g c = omega arith
+
+pub serve_slice-requires-clause-fine : goal.serve_slice-requires-clause-fine
+serve_slice-requires-clause-fine g c = c.loop-at.invariant.fine
+
+pub serve_slice-requires-clause-listening : goal.serve_slice-requires-clause-listening
+serve_slice-requires-clause-listening g c = c.loop-at.invariant.listening
+
+pub serve_slice-requires-clause-held : goal.serve_slice-requires-clause-held
+serve_slice-requires-clause-held g c = c.loop-at.invariant.held
+
+pub loop-at-smaller : goal.loop-at-smaller
+loop-at-smaller g c = omega arith
+
+pub returns : goal.returns
+returns g c =
+    let i = c.loop-at.invariant in
+    packed_all c.args.piece c.args.limits c.args.unpacker.now c.args.framer.now c.args.bytes.now c.loop-at.at
+    c.loop-at.unpacker c.loop-at.framer _ _ _ c.loop-at-test.false i.told i.listening i.fine

@@ -1,0 +1,38 @@
+-- Words that order nothing, and how the program ends then.
+use Rattle.std.proofs.Common.{◌≡◌, ℕ, Bool, true, false, Result, Err, refl, sym, ◌∙◌}
+use Rattle.clap.specs.declared.error.ErrorKind.{ErrorKind}
+use Rattle.clap.specs.declared.error.ErrorKind.TheVariants as kinds
+use Rattle.capn_tool.specs.Ends.{Course, EndsUnordered, IsUntouched, ShowsHelp, TellsText}
+use Rattle.capn_tool.specs.Status.{status_of}
+use Rattle.capn_tool.specs.Told.{Tells}
+use Rattle.capn_tool.specs.declared.fault.ToolFault.{ToolFault}
+use Rattle.capn_tool.specs.declared.fault.ToolFault.TheVariants as faults
+
+module _ (kind : ErrorKind) (output errors : Course) where
+  pub ends_memory : (status : ℕ) → kind ≡ kinds.OutOfMemory → IsUntouched output
+      → Tells (Err faults.Memory) errors.before errors.after errors.failed → status ≡ 3
+      → EndsUnordered kind output errors status
+  ends_memory status is untouched told ends = record {
+    memory = λ _. (untouched, told, ends);
+    help = λ other. let bad : kinds.OutOfMemory ≡ kinds.DisplayHelp = sym is ∙ other in absurd (cc);
+    mistake = λ no _. absurd (no is);
+  }
+
+  pub ends_help : (status : ℕ) (outcome : Result (Unit {0}) ToolFault) → kind ≡ kinds.DisplayHelp
+      → ShowsHelp output outcome → Tells outcome errors.before errors.after errors.failed
+      → status ≡ status_of outcome → EndsUnordered kind output errors status
+  ends_help status outcome is shown told ends = record {
+    memory = λ other. let bad : kinds.OutOfMemory ≡ kinds.DisplayHelp = sym other ∙ is in absurd (cc);
+    help = λ _. record { outcome = outcome; shown = shown; told = told; is = ends };
+    mistake = λ _ no. absurd (no is);
+  }
+
+  -- neither test was met
+  pub ends_mistake : (memory help : Bool) → (kind ≡ kinds.OutOfMemory → memory ≡ true) → memory ≡ false
+      → (kind ≡ kinds.DisplayHelp → help ≡ true) → help ≡ false → IsUntouched output → TellsText errors
+      → EndsUnordered kind output errors 2
+  ends_mistake memory help memory_is no_memory help_is no_help untouched told = record {
+    memory = λ is. let bad : true ≡ false = sym (memory_is is) ∙ no_memory in absurd (cc);
+    help = λ is. let bad : true ≡ false = sym (help_is is) ∙ no_help in absurd (cc);
+    mistake = λ _ _. (untouched, told, refl);
+  }
