@@ -1,4 +1,4 @@
--- A test anywhere in a value: where it holds just if it holds of the value itself, and how the parts join.
+-- A test anywhere in a value: how the parts join.
 use Rattle.std.proofs.Common.{◌≡◌, ℕ, suc, ◌+◌, ◌<◌, List, [], ◌∷◌, Bool, true, false, ◌||◌, ◌⊎◌, inl, inr, length}
 use Rattle.std.proofs.Common.{get_or, drop, refl, sym, ap, ap₂, ◌∙◌, add-one}
 use Rattle.std.proofs.Math.Seq.{drop-cons, drop-length}
@@ -28,27 +28,7 @@ pub or_no_more : (f : Bool) → f ≡ (f || false)
 or_no_more true = refl
 or_no_more false = refl
 
-module _ {A : Type 0} where
-  abbrev IsAlone : Value A → Type 0
-  IsAlone v = (v ≡ Nil)
-      ⊎ (((n : ℕ) × (v ≡ Voids n))
-      ⊎ (((xs : List Bool) × (v ≡ Bits xs))
-      ⊎ (((xs : List ℕ) × (v ≡ Bytes xs))
-      ⊎ (((xs : List ℕ) × (v ≡ Pairs xs))
-      ⊎ (((xs : List ℕ) × (v ≡ Quads xs)) ⊎ (((xs : List ℕ) × (v ≡ Octs xs)) ⊎ ((k : ℕ) × (v ≡ Cap k))))))))
-
 module _ {A : Type 0} (test : Tree → Bool) where
-  -- of a value with nothing below it
-  pub alone : (v : Value A) → IsAlone v → test (tree_of v) ≡ anywhere test (tree_of v)
-  alone v (inl e) = rw (e, tree_of-Nil) refl
-  alone v (inr (inl p)) = rw (p.1, tree_of-Voids) refl
-  alone v (inr (inr (inl p))) = rw (p.1, tree_of-Bits) refl
-  alone v (inr (inr (inr (inl p)))) = rw (p.1, tree_of-Bytes) refl
-  alone v (inr (inr (inr (inr (inl p))))) = rw (p.1, tree_of-Pairs) refl
-  alone v (inr (inr (inr (inr (inr (inl p)))))) = rw (p.1, tree_of-Quads) refl
-  alone v (inr (inr (inr (inr (inr (inr (inl p))))))) = rw (p.1, tree_of-Octs) refl
-  alone v (inr (inr (inr (inr (inr (inr (inr p))))))) = rw (p.1, tree_of-Cap) refl
-
   module _ (v : Value A) where
     module _ {h o r : Bool} (joined : r ≡ (h || o)) (here : h ≡ test (tree_of v)) where
       pub node_joins : {b : Body A} {s : List (Value A)} → v ≡ Node b → s ≡ b.slots → o ≡ anywhere_in test (trees_of s)

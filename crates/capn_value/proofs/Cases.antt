@@ -1,129 +1,121 @@
--- What holds of a value of one of several kinds, as the arms of a match tell it.
+-- What holds of a value of one kind, or of none of several kinds, as the arms of a match tell it.
 use Rattle.std.proofs.Common.{◌≡◌, ℕ, List, Bool, true, false, ◌||◌, None, ◌⊎◌, inl, inr, refl, length, ap, ap₂, sym}
 use Rattle.std.proofs.Common.{◌∙◌, nat_lt}
-use Rattle.capn_value.specs.Tree.{Tree, voids, bits, bytes, pairs, quads, octs, links}
-use Rattle.capn_value.specs.View.{tree_of, trees_of}
+use Rattle.capn_value.specs.Tree.{Tree, nil, node, voids, bits, bytes, pairs, quads, octs, links, rows, cap}
+use Rattle.capn_value.specs.View.{tree_of, trees_of, rows_of}
 use Rattle.capn_value.specs.Views.{tree_of-Nil, tree_of-Node, tree_of-Voids, tree_of-Bits, tree_of-Bytes, tree_of-Pairs}
 use Rattle.capn_value.specs.Views.{tree_of-Quads, tree_of-Octs, tree_of-Links, tree_of-Rows, tree_of-Cap}
 use Rattle.capn_value.specs.Views.{count-trees_of}
 use Rattle.capn_value.specs.Caps.{first_cap}
+use Rattle.capn_value.specs.Code.{value_of}
 use Rattle.capn_value.specs.Sizes.{height}
-use Rattle.capn_value.specs.Fits.{is_wide, is_long, is_ragged, is_root, elements, words_in_rows}
+use Rattle.capn_value.specs.Fits.{anywhere, is_wide, is_long, is_ragged, is_root, elements, words_in_rows}
 use Rattle.capn_value.specs.declared.value.Value.{Value, Nil, Node, Voids, Bits, Bytes, Pairs, Quads, Octs, Links, Rows}
 use Rattle.capn_value.specs.declared.value.Value.{Cap}
 use Rattle.capn_value.specs.declared.value.Body.{Body}
 use Rattle.capn_value.proofs.Anywhere.{or_no_more}
+use Rattle.capn_value.proofs.Inverse.{value_of-tree_of}
+
+-- what is said of the tree of a value of a known kind
+module _ {A X : Type 0} (f : Tree → X) (v : Value A) where
+  pub node_seen : (b : Body A) → v ≡ Node b → f (node b.words (trees_of b.slots)) ≡ f (tree_of v)
+  node_seen b e = sym (ap f (ap tree_of e ∙ tree_of-Node b))
+
+  pub links_seen : (vs : List (Value A)) → v ≡ Links vs → f (links (trees_of vs)) ≡ f (tree_of v)
+  links_seen vs e = sym (ap f (ap tree_of e ∙ tree_of-Links vs))
+
+  pub rows_seen : (bs : List (Body A)) → v ≡ Rows bs → f (rows (rows_of bs)) ≡ f (tree_of v)
+  rows_seen bs e = sym (ap f (ap tree_of e ∙ tree_of-Rows bs))
+
+  pub cap_seen : {k : ℕ} → v ≡ Cap k → f (cap k) ≡ f (tree_of v)
+  cap_seen {k} e = sym (ap f (ap tree_of e ∙ tree_of-Cap A k))
+
+-- the value is of another kind
+abbrev IsNot : {A X : Type 0} → (X → Value A) → Value A → Type 0
+IsNot {A = A} {X} kind v = (x : X) → v ≡ kind x → ⊥
 
 module _ {A : Type 0} where
-  abbrev IsNoCap : Value A → Type 0
-  IsNoCap v = (v ≡ Nil)
-      ⊎ (((n : ℕ) × (v ≡ Voids n))
-      ⊎ (((xs : List Bool) × (v ≡ Bits xs))
-      ⊎ (((xs : List ℕ) × (v ≡ Bytes xs))
-      ⊎ (((xs : List ℕ) × (v ≡ Pairs xs)) ⊎ (((xs : List ℕ) × (v ≡ Quads xs)) ⊎ ((xs : List ℕ) × (v ≡ Octs xs)))))))
+  -- and so is what its tree is the tree of
+  still_not : {X : Type 0} (kind : X → Value A) (v : Value A) → IsNot kind v → IsNot kind (value_of A (tree_of v))
+  still_not kind v n x e = n x (sym (value_of-tree_of A v) ∙ e)
 
-  pub no_cap : (v : Value A) → IsNoCap v → None ≡ first_cap (tree_of v)
-  no_cap v (inl e) = rw (e, tree_of-Nil) refl
-  no_cap v (inr (inl p)) = rw (p.1, tree_of-Voids) refl
-  no_cap v (inr (inr (inl p))) = rw (p.1, tree_of-Bits) refl
-  no_cap v (inr (inr (inr (inl p)))) = rw (p.1, tree_of-Bytes) refl
-  no_cap v (inr (inr (inr (inr (inl p))))) = rw (p.1, tree_of-Pairs) refl
-  no_cap v (inr (inr (inr (inr (inr (inl p)))))) = rw (p.1, tree_of-Quads) refl
-  no_cap v (inr (inr (inr (inr (inr (inr p)))))) = rw (p.1, tree_of-Octs) refl
+  capless : (t : Tree) → IsNot {A = A} Cap (value_of A t) → IsNot {A = A} Node (value_of A t) → IsNot {A = A} Links (value_of A t)
+      → IsNot {A = A} Rows (value_of A t) → None ≡ first_cap t
+  capless (cap k) n m l r = absurd (n _ refl)
+  capless (node ws ss) n m l r = absurd (m _ refl)
+  capless (links ts) n m l r = absurd (l _ refl)
+  capless (rows bs) n m l r = absurd (r _ refl)
+  capless _ n m l r = refl
 
-  abbrev IsNarrow : Value A → Type 0
-  IsNarrow v = (v ≡ Nil)
-      ⊎ (((n : ℕ) × (v ≡ Voids n))
-      ⊎ (((xs : List Bool) × (v ≡ Bits xs))
-      ⊎ (((xs : List ℕ) × (v ≡ Bytes xs))
-      ⊎ (((xs : List ℕ) × (v ≡ Pairs xs))
-      ⊎ (((xs : List ℕ) × (v ≡ Quads xs))
-      ⊎ (((xs : List ℕ) × (v ≡ Octs xs)) ⊎ (((vs : List (Value A)) × (v ≡ Links vs)) ⊎ ((k : ℕ) × (v ≡ Cap k)))))))))
+  pub no_cap : (v : Value A) → IsNot Cap v → IsNot Node v → IsNot Links v → IsNot Rows v
+      → None ≡ first_cap (tree_of v)
+  no_cap v n m l r =
+      capless (tree_of v) (still_not Cap v n) (still_not Node v m) (still_not Links v l) (still_not Rows v r)
 
-  pub narrow : (v : Value A) → IsNarrow v → false ≡ is_wide (tree_of v)
-  narrow v (inl e) = rw (e, tree_of-Nil) refl
-  narrow v (inr (inl p)) = rw (p.1, tree_of-Voids) refl
-  narrow v (inr (inr (inl p))) = rw (p.1, tree_of-Bits) refl
-  narrow v (inr (inr (inr (inl p)))) = rw (p.1, tree_of-Bytes) refl
-  narrow v (inr (inr (inr (inr (inl p))))) = rw (p.1, tree_of-Pairs) refl
-  narrow v (inr (inr (inr (inr (inr (inl p)))))) = rw (p.1, tree_of-Quads) refl
-  narrow v (inr (inr (inr (inr (inr (inr (inl p))))))) = rw (p.1, tree_of-Octs) refl
-  narrow v (inr (inr (inr (inr (inr (inr (inr (inl p)))))))) = rw (p.1, tree_of-Links) refl
-  narrow v (inr (inr (inr (inr (inr (inr (inr (inr p)))))))) = rw (p.1, tree_of-Cap) refl
+  bodiless : (t : Tree) → IsNot {A = A} Node (value_of A t) → IsNot {A = A} Rows (value_of A t) → false ≡ is_wide t
+  bodiless (node ws ss) m r = absurd (m _ refl)
+  bodiless (rows bs) m r = absurd (r _ refl)
+  bodiless _ m r = refl
 
-  abbrev IsEven : Value A → Type 0
-  IsEven v = (v ≡ Nil)
-      ⊎ (((b : Body A) × (v ≡ Node b))
-      ⊎ (((n : ℕ) × (v ≡ Voids n))
-      ⊎ (((xs : List Bool) × (v ≡ Bits xs))
-      ⊎ (((xs : List ℕ) × (v ≡ Bytes xs))
-      ⊎ (((xs : List ℕ) × (v ≡ Pairs xs))
-      ⊎ (((xs : List ℕ) × (v ≡ Quads xs))
-      ⊎ (((xs : List ℕ) × (v ≡ Octs xs)) ⊎ (((vs : List (Value A)) × (v ≡ Links vs)) ⊎ ((k : ℕ) × (v ≡ Cap k))))))))))
+  pub narrow : (v : Value A) → IsNot Node v → IsNot Rows v → false ≡ is_wide (tree_of v)
+  narrow v m r = bodiless (tree_of v) (still_not Node v m) (still_not Rows v r)
 
-  pub even : (v : Value A) → IsEven v → false ≡ is_ragged (tree_of v)
-  even v (inl e) = rw (e, tree_of-Nil) refl
-  even v (inr (inl p)) = rw (p.1, tree_of-Node) refl
-  even v (inr (inr (inl p))) = rw (p.1, tree_of-Voids) refl
-  even v (inr (inr (inr (inl p)))) = rw (p.1, tree_of-Bits) refl
-  even v (inr (inr (inr (inr (inl p))))) = rw (p.1, tree_of-Bytes) refl
-  even v (inr (inr (inr (inr (inr (inl p)))))) = rw (p.1, tree_of-Pairs) refl
-  even v (inr (inr (inr (inr (inr (inr (inl p))))))) = rw (p.1, tree_of-Quads) refl
-  even v (inr (inr (inr (inr (inr (inr (inr (inl p)))))))) = rw (p.1, tree_of-Octs) refl
-  even v (inr (inr (inr (inr (inr (inr (inr (inr (inl p))))))))) = rw (p.1, tree_of-Links) refl
-  even v (inr (inr (inr (inr (inr (inr (inr (inr (inr p))))))))) = rw (p.1, tree_of-Cap) refl
+  rowless : (t : Tree) → IsNot {A = A} Rows (value_of A t) → false ≡ is_ragged t
+  rowless (rows bs) r = absurd (r _ refl)
+  rowless _ r = refl
 
-  abbrev IsLow : Value A → Type 0
-  IsLow v = ((n : ℕ) × (v ≡ Voids n))
-      ⊎ (((xs : List Bool) × (v ≡ Bits xs))
-      ⊎ (((xs : List ℕ) × (v ≡ Bytes xs))
-      ⊎ (((xs : List ℕ) × (v ≡ Pairs xs)) ⊎ (((xs : List ℕ) × (v ≡ Quads xs)) ⊎ ((xs : List ℕ) × (v ≡ Octs xs))))))
+  pub even : (v : Value A) → IsNot Rows v → false ≡ is_ragged (tree_of v)
+  even v r = rowless (tree_of v) (still_not Rows v r)
 
-  pub low : (v : Value A) → IsLow v → height (tree_of v) ≡ 1
-  low v (inl p) = rw (p.1, tree_of-Voids) refl
-  low v (inr (inl p)) = rw (p.1, tree_of-Bits) refl
-  low v (inr (inr (inl p))) = rw (p.1, tree_of-Bytes) refl
-  low v (inr (inr (inr (inl p)))) = rw (p.1, tree_of-Pairs) refl
-  low v (inr (inr (inr (inr (inl p))))) = rw (p.1, tree_of-Quads) refl
-  low v (inr (inr (inr (inr (inr p))))) = rw (p.1, tree_of-Octs) refl
+  flat : (t : Tree) → (value_of A t ≡ Nil → ⊥) → IsNot {A = A} Cap (value_of A t) → IsNot {A = A} Node (value_of A t)
+      → IsNot {A = A} Links (value_of A t) → IsNot {A = A} Rows (value_of A t) → height t ≡ 1
+  flat nil z n m l r = absurd (z refl)
+  flat (cap k) z n m l r = absurd (n _ refl)
+  flat (node ws ss) z n m l r = absurd (m _ refl)
+  flat (links ts) z n m l r = absurd (l _ refl)
+  flat (rows bs) z n m l r = absurd (r _ refl)
+  flat _ z n m l r = refl
+
+  pub low : (v : Value A) → (v ≡ Nil → ⊥) → IsNot Cap v → IsNot Node v → IsNot Links v → IsNot Rows v
+      → height (tree_of v) ≡ 1
+  low v z n m l r =
+      flat (tree_of v) (λ e. z (sym (value_of-tree_of A v) ∙ e)) (still_not Cap v n) (still_not Node v m)
+      (still_not Links v l) (still_not Rows v r)
+
+  above_none : (test : Tree → Bool) (t : Tree) → IsNot {A = A} Node (value_of A t) → IsNot {A = A} Links (value_of A t)
+      → IsNot {A = A} Rows (value_of A t) → test t ≡ anywhere test t
+  above_none test (node ws ss) m l r = absurd (m _ refl)
+  above_none test (links ts) m l r = absurd (l _ refl)
+  above_none test (rows bs) m l r = absurd (r _ refl)
+  above_none test _ m l r = refl
+
+  -- of a value with nothing below it
+  pub alone : (test : Tree → Bool) (v : Value A) → IsNot Node v → IsNot Links v → IsNot Rows v
+      → test (tree_of v) ≡ anywhere test (tree_of v)
+  alone test v m l r =
+      above_none test (tree_of v) (still_not Node v m) (still_not Links v l) (still_not Rows v r)
+
+  uncapped : (t : Tree) → IsNot {A = A} Cap (value_of A t) → true ≡ is_root t
+  uncapped (cap k) n = absurd (n _ refl)
+  uncapped _ n = refl
+
+  pub rooted : (v : Value A) → IsNot Cap v → true ≡ is_root (tree_of v)
+  rooted v n = uncapped (tree_of v) (still_not Cap v n)
 
   abbrev IsNoObject : Value A → Type 0
   IsNoObject v = (v ≡ Nil) ⊎ ((k : ℕ) × (v ≡ Cap k))
 
   pub no_object : (v : Value A) → IsNoObject v → height (tree_of v) ≡ 0
-  no_object v (inl e) = rw (e, tree_of-Nil) refl
-  no_object v (inr p) = rw (p.1, tree_of-Cap) refl
-
-  abbrev IsRooted : Value A → Type 0
-  IsRooted v = (v ≡ Nil)
-      ⊎ (((b : Body A) × (v ≡ Node b))
-      ⊎ (((n : ℕ) × (v ≡ Voids n))
-      ⊎ (((xs : List Bool) × (v ≡ Bits xs))
-      ⊎ (((xs : List ℕ) × (v ≡ Bytes xs))
-      ⊎ (((xs : List ℕ) × (v ≡ Pairs xs))
-      ⊎ (((xs : List ℕ) × (v ≡ Quads xs))
-      ⊎ (((xs : List ℕ) × (v ≡ Octs xs))
-      ⊎ (((vs : List (Value A)) × (v ≡ Links vs)) ⊎ ((bs : List (Body A)) × (v ≡ Rows bs))))))))))
-
-  pub rooted : (v : Value A) → IsRooted v → true ≡ is_root (tree_of v)
-  rooted v (inl e) = rw (e, tree_of-Nil) refl
-  rooted v (inr (inl p)) = rw (p.1, tree_of-Node) refl
-  rooted v (inr (inr (inl p))) = rw (p.1, tree_of-Voids) refl
-  rooted v (inr (inr (inr (inl p)))) = rw (p.1, tree_of-Bits) refl
-  rooted v (inr (inr (inr (inr (inl p))))) = rw (p.1, tree_of-Bytes) refl
-  rooted v (inr (inr (inr (inr (inr (inl p)))))) = rw (p.1, tree_of-Pairs) refl
-  rooted v (inr (inr (inr (inr (inr (inr (inl p))))))) = rw (p.1, tree_of-Quads) refl
-  rooted v (inr (inr (inr (inr (inr (inr (inr (inl p)))))))) = rw (p.1, tree_of-Octs) refl
-  rooted v (inr (inr (inr (inr (inr (inr (inr (inr (inl p))))))))) = rw (p.1, tree_of-Links) refl
-  rooted v (inr (inr (inr (inr (inr (inr (inr (inr (inr p))))))))) = rw (p.1, tree_of-Rows) refl
+  no_object v (inl e) = ap height (ap tree_of e ∙ tree_of-Nil A)
+  no_object v (inr p) = ap height (ap tree_of p.1 ∙ tree_of-Cap A p.0)
 
   abbrev IsShort : Value A → Type 0
   IsShort v = (v ≡ Nil) ⊎ (((b : Body A) × (v ≡ Node b)) ⊎ ((k : ℕ) × (v ≡ Cap k)))
 
   pub short : (v : Value A) → IsShort v → false ≡ is_long (tree_of v)
-  short v (inl e) = rw (e, tree_of-Nil) refl
-  short v (inr (inl p)) = rw (p.1, tree_of-Node) refl
-  short v (inr (inr p)) = rw (p.1, tree_of-Cap) refl
+  short v (inl e) = sym (ap is_long (ap tree_of e ∙ tree_of-Nil A))
+  short v (inr (inl p)) = sym (ap is_long (ap tree_of p.1 ∙ tree_of-Node p.0))
+  short v (inr (inr p)) = cap_seen is_long v p.1
 
   -- a list that is no list of structs, by the number of its elements
   counted : (v : Value A) (t : Tree) {n : ℕ} → tree_of v ≡ t → words_in_rows t ≡ 0 → n ≡ elements t

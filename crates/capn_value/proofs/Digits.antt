@@ -1,7 +1,7 @@
 -- Repeated bytes, and the digits of bytes and of bits.
 use Rattle.std.proofs.Common.{rules, ◌≡◌, ℕ, zero, suc, ◌+◌, ◌++◌, ◌<◌, ◌/◌, ◌%◌, Bool, true, false, List, [], ◌∷◌}
 use Rattle.std.proofs.Common.{◌≤◌, length, take, set, get_or, replicate, IsAscii, ap, ap₂, sym, refl, arith, ◌∙◌}
-use Rattle.std.specs.Prelude.{slice_index, Result, Ok, Err, IsOk, OnOk}
+use Rattle.std.specs.Prelude.{slice_index, Result, Ok, Err, IsOk, OnOk, is_ok, if◌then◌else◌}
 use Rattle.std.proofs.lemmas.List.{append_assoc, replicate-append-replicate, take_all, take_more, take_more_set}
 use Rattle.capn_value.specs.Text.{digit, digits_of}
 use Rattle.hex.specs.Hex.{encode_with, encode_lower, lower_digits}
@@ -30,6 +30,12 @@ pub ruleset digits = (encode_lower-none, encode_lower-cons)
 pub on_ok : {T E P : Type 0} (r : Result T E) → IsOk r → OnOk r P → P
 on_ok (Ok x) h p = p
 on_ok (Err e) h p = absurd (cc)
+
+-- what a last call that succeeds appended
+pub appended : {T E : Type 0} (r : Result T E) (n a b x : List ℕ) → n ≡ (if is_ok r then a else b) → a ≡ x
+    → OnOk r (n ≡ x)
+appended (Ok y) n a b x e f = e ∙ f
+appended (Err y) n a b x e f = tt
 
 -- a digit is ASCII
 pub digit-ascii : (k : ℕ) → slice_index lower_digits k < 128

@@ -16,5 +16,6 @@ pub mod Digits
 pub mod OnceTrimmed
 pub mod Pairwise
 pub mod Shown
+pub mod Sized
 mod WorkedTrees
 mod Nulls

@@ -71,16 +71,7 @@ fn is_root<A: Allocator>(v: &Value<A>) -> bool
 {
     match v {
         Value::Cap(_) => false,
-        Value::Nil
-        | Value::Node(_)
-        | Value::Voids(_)
-        | Value::Bits(_)
-        | Value::Bytes(_)
-        | Value::Pairs(_)
-        | Value::Quads(_)
-        | Value::Octs(_)
-        | Value::Links(_)
-        | Value::Rows(_) => true,
+        _ => true,
     }
 }
 
@@ -96,14 +87,7 @@ fn flaws_of<A: Allocator>(v: &Value<A>) -> Flaws
         Value::Node(body) => here.or(flaws_of_each(body.slots.as_slice())),
         Value::Links(items) => here.or(flaws_of_each(items.as_slice())),
         Value::Rows(bodies) => here.or(flaws_of_rows(bodies.as_slice())),
-        Value::Nil
-        | Value::Voids(_)
-        | Value::Bits(_)
-        | Value::Bytes(_)
-        | Value::Pairs(_)
-        | Value::Quads(_)
-        | Value::Octs(_)
-        | Value::Cap(_) => here,
+        _ => here,
     }
 }
 

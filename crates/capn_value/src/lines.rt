@@ -5,12 +5,11 @@ ghost use Rattle.capn_value.specs.Text as text;
 ghost use Rattle.std.specs.Fmt.{decimal};
 ghost use Rattle.hex.specs.Hex.{encode_lower};
 
-use crate::memory::Memory;
-use std::alloc::Allocator;
+use std::alloc::{AllocError, Allocator};
 
 // Two spaces for each level.
 #[tactic(auto, using(std::proofs::lemmas::Grind::common_steps, crate::proofs::Digits::lines))]
-fn indent<A: Allocator>(out: &mut String<A>, level: u32) -> Result<(), Memory>
+fn indent<A: Allocator>(out: &mut String<A>, level: u32) -> Result<(), AllocError>
     ensures { OnOk result (string_bytes out.new ≡ string_bytes out.old ++ replicate (2 * level) 32) }
 {
     for _i in 0..level {
@@ -21,12 +20,15 @@ fn indent<A: Allocator>(out: &mut String<A>, level: u32) -> Result<(), Memory>
 
 /// A line of one word.
 #[tactic(auto, using(std::proofs::lemmas::Grind::common_steps), unfolding(crate::specs::Text::line))]
-pub fn plain_line<A: Allocator>(out: &mut String<A>, level: u32, word: &str) -> Result<(), Memory>
+pub fn plain_line<A: Allocator>(
+    out: &mut String<A>,
+    level: u32,
+    word: &str,
+) -> Result<(), AllocError>
     ensures { OnOk result (string_bytes out.new ≡ string_bytes out.old ++ text.line level word.now) }
 {
     indent(out, level)?;
-    writeln!(out, "{word}")?;
-    Ok(())
+    writeln!(out, "{word}")
 }
 
 /// A line of a word and a number.
@@ -36,12 +38,11 @@ pub fn named_line<A: Allocator>(
     level: u32,
     name: &str,
     n: usize,
-) -> Result<(), Memory>
+) -> Result<(), AllocError>
     ensures { OnOk result (string_bytes out.new ≡ string_bytes out.old ++ text.line level (text.named name.now n)) }
 {
     indent(out, level)?;
-    writeln!(out, "{name} {n}")?;
-    Ok(())
+    writeln!(out, "{name} {n}")
 }
 
 /// The first line of a struct: how many words and slots it has.
@@ -51,60 +52,63 @@ pub fn body_line<A: Allocator>(
     level: u32,
     words: usize,
     slots: usize,
-) -> Result<(), Memory>
+) -> Result<(), AllocError>
     ensures { OnOk result (string_bytes out.new ≡ string_bytes out.old ++ text.body_line level words slots) }
 {
     indent(out, level)?;
-    writeln!(out, "struct {words} {slots}")?;
-    Ok(())
+    writeln!(out, "struct {words} {slots}")
 }
 
 /// A line of one number.
 #[tactic(auto, using(std::proofs::lemmas::Grind::common_steps), unfolding(crate::specs::Text::line))]
-pub fn number_line<A: Allocator>(out: &mut String<A>, level: u32, n: u64) -> Result<(), Memory>
+pub fn number_line<A: Allocator>(out: &mut String<A>, level: u32, n: u64) -> Result<(), AllocError>
     ensures { OnOk result (string_bytes out.new ≡ string_bytes out.old ++ text.line level (decimal n)) }
 {
     indent(out, level)?;
-    writeln!(out, "{n}")?;
-    Ok(())
+    writeln!(out, "{n}")
 }
 
 /// The line of one data word, as a number: its most significant digit comes first.
 #[tactic(auto, using(std::proofs::lemmas::Grind::common_steps), unfolding(crate::specs::Text::line))]
-pub fn word_line<A: Allocator>(out: &mut String<A>, level: u32, word: u64) -> Result<(), Memory>
+pub fn word_line<A: Allocator>(out: &mut String<A>, level: u32, word: u64) -> Result<(), AllocError>
     ensures { OnOk result
         (string_bytes out.new ≡ string_bytes out.old ++ text.line level (codes "word " ++ text.hex16 word)) }
 {
     indent(out, level)?;
     out.push_str("word ")?;
     push_hex(out, &word.to_be_bytes())?;
-    out.push_str("\n")?;
-    Ok(())
+    out.push_str("\n")
 }
 
 /// A line of the bytes' digits.
 #[tactic(auto, using(std::proofs::lemmas::Grind::common_steps), unfolding(crate::specs::Text::line))]
-pub fn bytes_line<A: Allocator>(out: &mut String<A>, level: u32, bytes: &[u8]) -> Result<(), Memory>
+pub fn bytes_line<A: Allocator>(
+    out: &mut String<A>,
+    level: u32,
+    bytes: &[u8],
+) -> Result<(), AllocError>
     ensures { OnOk result (string_bytes out.new ≡ string_bytes out.old ++ text.line level (encode_lower bytes.now)) }
 {
     indent(out, level)?;
     push_hex(out, bytes)?;
-    out.push_str("\n")?;
-    Ok(())
+    out.push_str("\n")
 }
 
 /// A line of a digit for each bit.
 #[tactic(auto, using(std::proofs::lemmas::Grind::common_steps), unfolding(crate::specs::Text::line))]
-pub fn bits_line<A: Allocator>(out: &mut String<A>, level: u32, bits: &[bool]) -> Result<(), Memory>
+pub fn bits_line<A: Allocator>(
+    out: &mut String<A>,
+    level: u32,
+    bits: &[bool],
+) -> Result<(), AllocError>
     ensures { OnOk result (string_bytes out.new ≡ string_bytes out.old ++ text.line level (text.digits_of bits.now)) }
 {
     indent(out, level)?;
     push_bits(out, bits)?;
-    out.push_str("\n")?;
-    Ok(())
+    out.push_str("\n")
 }
 
-fn push_bits<A: Allocator>(out: &mut String<A>, bits: &[bool]) -> Result<(), Memory>
+fn push_bits<A: Allocator>(out: &mut String<A>, bits: &[bool]) -> Result<(), AllocError>
     ensures { OnOk result (string_bytes out.new ≡ string_bytes out.old ++ text.digits_of bits.now) }
 {
     for block in bits.chunks(64) {
@@ -114,7 +118,7 @@ fn push_bits<A: Allocator>(out: &mut String<A>, bits: &[bool]) -> Result<(), Mem
 }
 
 // The digits are put together apart, so that the string is extended once for all of them.
-fn push_block<A: Allocator>(out: &mut String<A>, bits: &[bool]) -> Result<(), Memory>
+fn push_block<A: Allocator>(out: &mut String<A>, bits: &[bool]) -> Result<(), AllocError>
     requires { length bits.now ≤ 64 }
     ensures { OnOk result (string_bytes out.new ≡ string_bytes out.old ++ text.digits_of bits.now) }
 {
@@ -125,8 +129,7 @@ fn push_block<A: Allocator>(out: &mut String<A>, bits: &[bool]) -> Result<(), Me
     let Ok(text) = str::from_utf8(&digits[..bits.len()]) else {
         unreachable!();
     };
-    out.push_str(text)?;
-    Ok(())
+    out.push_str(text)
 }
 
 fn digit_of(bit: bool) -> u8
@@ -137,7 +140,7 @@ fn digit_of(bit: bool) -> u8
 
 // Two digits for each byte.
 #[tactic(auto, using(std::proofs::lemmas::Grind::common_steps, crate::proofs::Digits::digits))]
-fn push_hex<A: Allocator>(out: &mut String<A>, bytes: &[u8]) -> Result<(), Memory>
+fn push_hex<A: Allocator>(out: &mut String<A>, bytes: &[u8]) -> Result<(), AllocError>
     ensures { OnOk result (string_bytes out.new ≡ string_bytes out.old ++ encode_lower bytes.now) }
 {
     for byte in bytes {
@@ -147,13 +150,12 @@ fn push_hex<A: Allocator>(out: &mut String<A>, bytes: &[u8]) -> Result<(), Memor
 }
 
 #[tactic(auto, using(std::proofs::lemmas::Grind::common_steps, crate::proofs::Digits::digits))]
-fn push_byte<A: Allocator>(out: &mut String<A>, byte: u8) -> Result<(), Memory>
+fn push_byte<A: Allocator>(out: &mut String<A>, byte: u8) -> Result<(), AllocError>
     ensures { OnOk result (string_bytes out.new ≡ string_bytes out.old ++ encode_lower (byte ∷ [])) }
 {
     let mut digits = [0u8; 2];
     // Two digits have room, so nothing is refused.
     let _done = hex::encode_to_slice([byte], &mut digits);
     out.push(char::from(digits[0]))?;
-    out.push(char::from(digits[1]))?;
-    Ok(())
+    out.push(char::from(digits[1]))
 }

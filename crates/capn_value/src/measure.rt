@@ -166,12 +166,7 @@ pub fn capped_height<A: Allocator>(v: &Value<A>) -> u32
         Value::Node(body) => taller(capped_greatest(body.slots.as_slice())),
         Value::Links(items) => taller(capped_greatest(items.as_slice())),
         Value::Rows(bodies) => taller(capped_greatest_in_rows(bodies.as_slice())),
-        Value::Voids(_)
-        | Value::Bits(_)
-        | Value::Bytes(_)
-        | Value::Pairs(_)
-        | Value::Quads(_)
-        | Value::Octs(_) => 1,
+        _ => 1,
     }
 }
 

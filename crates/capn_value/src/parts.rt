@@ -16,15 +16,7 @@ pub fn is_wide<A: Allocator>(v: &Value<A>) -> bool
     match v {
         Value::Node(body) => is_wide_body(body),
         Value::Rows(bodies) => has_wide_row(bodies.as_slice()),
-        Value::Nil
-        | Value::Voids(_)
-        | Value::Bits(_)
-        | Value::Bytes(_)
-        | Value::Pairs(_)
-        | Value::Quads(_)
-        | Value::Octs(_)
-        | Value::Links(_)
-        | Value::Cap(_) => false,
+        _ => false,
     }
 }
 
@@ -89,16 +81,7 @@ pub fn is_ragged<A: Allocator>(v: &Value<A>) -> bool
 {
     match v {
         Value::Rows(bodies) => are_ragged(bodies.as_slice()),
-        Value::Nil
-        | Value::Node(_)
-        | Value::Voids(_)
-        | Value::Bits(_)
-        | Value::Bytes(_)
-        | Value::Pairs(_)
-        | Value::Quads(_)
-        | Value::Octs(_)
-        | Value::Links(_)
-        | Value::Cap(_) => false,
+        _ => false,
     }
 }
 

@@ -9,9 +9,8 @@ ghost use Rattle.hex.specs.Hex.{encode_lower};
 use crate::lines::{
     bits_line, body_line, bytes_line, named_line, number_line, plain_line, word_line,
 };
-use crate::memory::Memory;
 use crate::value::{Body, Value};
-use std::alloc::Allocator;
+use std::alloc::{AllocError, Allocator};
 
 /// Appends the value's text to `out`, its first line at this level. After a refusal a part of it may stand there.
 #[cycle(show)]
@@ -20,7 +19,7 @@ pub fn show<A: Allocator, B: Allocator>(
     out: &mut String<A>,
     level: u32,
     v: &Value<B>,
-) -> Result<(), Memory>
+) -> Result<(), AllocError>
     requires { level + 2 * sizes.height (tree_of v.now) < 2 ^ 32 }
     ensures { OnOk result (string_bytes out.new ≡ string_bytes out.old ++ text.shown level (tree_of v.now)) }
 {
@@ -47,7 +46,11 @@ pub fn show<A: Allocator, B: Allocator>(
     }
 }
 
-fn word_lines<A: Allocator>(out: &mut String<A>, level: u32, words: &[u64]) -> Result<(), Memory>
+fn word_lines<A: Allocator>(
+    out: &mut String<A>,
+    level: u32,
+    words: &[u64],
+) -> Result<(), AllocError>
     ensures { OnOk result (string_bytes out.new ≡ string_bytes out.old ++ text.word_lines level words.now) }
 {
     for word in words {
@@ -56,7 +59,7 @@ fn word_lines<A: Allocator>(out: &mut String<A>, level: u32, words: &[u64]) -> R
     Ok(())
 }
 
-fn show_pairs<A: Allocator>(out: &mut String<A>, level: u32, xs: &[u16]) -> Result<(), Memory>
+fn show_pairs<A: Allocator>(out: &mut String<A>, level: u32, xs: &[u16]) -> Result<(), AllocError>
     requires { level + 1 < 2 ^ 32 }
     ensures { OnOk result
         (string_bytes out.new ≡ string_bytes out.old
@@ -69,7 +72,7 @@ fn show_pairs<A: Allocator>(out: &mut String<A>, level: u32, xs: &[u16]) -> Resu
     Ok(())
 }
 
-fn show_quads<A: Allocator>(out: &mut String<A>, level: u32, xs: &[u32]) -> Result<(), Memory>
+fn show_quads<A: Allocator>(out: &mut String<A>, level: u32, xs: &[u32]) -> Result<(), AllocError>
     requires { level + 1 < 2 ^ 32 }
     ensures { OnOk result
         (string_bytes out.new ≡ string_bytes out.old
@@ -82,7 +85,7 @@ fn show_quads<A: Allocator>(out: &mut String<A>, level: u32, xs: &[u32]) -> Resu
     Ok(())
 }
 
-fn show_octs<A: Allocator>(out: &mut String<A>, level: u32, xs: &[u64]) -> Result<(), Memory>
+fn show_octs<A: Allocator>(out: &mut String<A>, level: u32, xs: &[u64]) -> Result<(), AllocError>
     requires { level + 1 < 2 ^ 32 }
     ensures { OnOk result
         (string_bytes out.new ≡ string_bytes out.old
@@ -95,7 +98,7 @@ fn show_octs<A: Allocator>(out: &mut String<A>, level: u32, xs: &[u64]) -> Resul
     Ok(())
 }
 
-fn show_bytes<A: Allocator>(out: &mut String<A>, level: u32, xs: &[u8]) -> Result<(), Memory>
+fn show_bytes<A: Allocator>(out: &mut String<A>, level: u32, xs: &[u8]) -> Result<(), AllocError>
     requires { level + 1 < 2 ^ 32 }
     ensures { OnOk result
         (string_bytes out.new ≡ string_bytes out.old
@@ -109,7 +112,7 @@ fn show_bytes<A: Allocator>(out: &mut String<A>, level: u32, xs: &[u8]) -> Resul
     bytes_line(out, level + 1, xs)
 }
 
-fn show_bits<A: Allocator>(out: &mut String<A>, level: u32, xs: &[bool]) -> Result<(), Memory>
+fn show_bits<A: Allocator>(out: &mut String<A>, level: u32, xs: &[bool]) -> Result<(), AllocError>
     requires { level + 1 < 2 ^ 32 }
     ensures { OnOk result
         (string_bytes out.new ≡ string_bytes out.old
@@ -129,7 +132,7 @@ fn show_body<A: Allocator, B: Allocator>(
     out: &mut String<A>,
     level: u32,
     body: &Body<B>,
-) -> Result<(), Memory>
+) -> Result<(), AllocError>
     requires { level + 1 + 2 * sizes.greatest (trees_of body.now.slots) < 2 ^ 32 }
     ensures { OnOk result
         (string_bytes out.new ≡ string_bytes out.old
@@ -148,7 +151,7 @@ fn show_each<A: Allocator, B: Allocator>(
     out: &mut String<A>,
     level: u32,
     items: &[Value<B>],
-) -> Result<(), Memory>
+) -> Result<(), AllocError>
     requires { level + 2 * sizes.greatest (trees_of items.now) < 2 ^ 32 }
     ensures { OnOk result (string_bytes out.new ≡ string_bytes out.old ++ text.shown_each level (trees_of items.now)) }
 {
@@ -164,7 +167,7 @@ fn show_rows<A: Allocator, B: Allocator>(
     out: &mut String<A>,
     level: u32,
     rows: &[Body<B>],
-) -> Result<(), Memory>
+) -> Result<(), AllocError>
     requires { level + 1 + 2 * sizes.greatest_in_rows (rows_of rows.now) < 2 ^ 32 }
     ensures { OnOk result (string_bytes out.new ≡ string_bytes out.old ++ text.shown_rows level (rows_of rows.now)) }
 {

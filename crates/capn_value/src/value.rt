@@ -60,13 +60,7 @@ pub fn first_cap<A: Allocator>(v: &Value<A>) -> Option<u32>
         Value::Node(body) => first_in(body.slots.as_slice()),
         Value::Links(items) => first_in(items.as_slice()),
         Value::Rows(bodies) => first_in_rows(bodies.as_slice()),
-        Value::Nil
-        | Value::Voids(_)
-        | Value::Bits(_)
-        | Value::Bytes(_)
-        | Value::Pairs(_)
-        | Value::Quads(_)
-        | Value::Octs(_) => None,
+        _ => None,
     }
 }
 

@@ -1,65 +1,20 @@
 use Rattle.std.proofs.Common.{◌∙◌, arith}
 use Rattle.capn_value.specs.Fits.{is_wide, is_long, is_ragged}
-use Rattle.capn_value.proofs.Anywhere.{alone, node_joins, links_join, rows_join, each_joins, each_joined, row_joins}
+use Rattle.capn_value.proofs.Anywhere.{node_joins, links_join, rows_join, each_joins, each_joined, row_joins}
 use Rattle.capn_value.proofs.Anywhere.{rows_joined}
+use Rattle.capn_value.proofs.Cases.{alone}
 use Rattle.capn_value.proofs.Depths.{falls, falls_above, steps_down, in_links, in_rows, in_slots, item_below}
 use Rattle.capn_value.proofs.Depths.{row_slots_below}
 use Rattle.capn_value.proofs.flaws.+flaws_of.Goals as goal
 
-pub flaws_of-returns-in-Nil : goal.flaws_of-returns-in-Nil
-flaws_of-returns-in-Nil g t c = record {
-  wide = c.own_flaws-here.ensures.wide ∙ alone is_wide _ c.in-Nil.is;
-  long = c.own_flaws-here.ensures.long ∙ alone is_long _ c.in-Nil.is;
-  ragged = c.own_flaws-here.ensures.ragged ∙ alone is_ragged _ c.in-Nil.is;
-}
-
-pub flaws_of-returns-in-Nil-2 : goal.flaws_of-returns-in-Nil-2
-flaws_of-returns-in-Nil-2 g t c = record {
-  wide = c.own_flaws-here.ensures.wide ∙ alone is_wide _ c.in-Nil.is;
-  long = c.own_flaws-here.ensures.long ∙ alone is_long _ c.in-Nil.is;
-  ragged = c.own_flaws-here.ensures.ragged ∙ alone is_ragged _ c.in-Nil.is;
-}
-
-pub flaws_of-returns-in-Nil-3 : goal.flaws_of-returns-in-Nil-3
-flaws_of-returns-in-Nil-3 g t c = record {
-  wide = c.own_flaws-here.ensures.wide ∙ alone is_wide _ c.in-Nil.is;
-  long = c.own_flaws-here.ensures.long ∙ alone is_long _ c.in-Nil.is;
-  ragged = c.own_flaws-here.ensures.ragged ∙ alone is_ragged _ c.in-Nil.is;
-}
-
-pub flaws_of-returns-in-Nil-4 : goal.flaws_of-returns-in-Nil-4
-flaws_of-returns-in-Nil-4 g t c = record {
-  wide = c.own_flaws-here.ensures.wide ∙ alone is_wide _ c.in-Nil.is;
-  long = c.own_flaws-here.ensures.long ∙ alone is_long _ c.in-Nil.is;
-  ragged = c.own_flaws-here.ensures.ragged ∙ alone is_ragged _ c.in-Nil.is;
-}
-
-pub flaws_of-returns-in-Nil-5 : goal.flaws_of-returns-in-Nil-5
-flaws_of-returns-in-Nil-5 g t c = record {
-  wide = c.own_flaws-here.ensures.wide ∙ alone is_wide _ c.in-Nil.is;
-  long = c.own_flaws-here.ensures.long ∙ alone is_long _ c.in-Nil.is;
-  ragged = c.own_flaws-here.ensures.ragged ∙ alone is_ragged _ c.in-Nil.is;
-}
-
-pub flaws_of-returns-in-Nil-6 : goal.flaws_of-returns-in-Nil-6
-flaws_of-returns-in-Nil-6 g t c = record {
-  wide = c.own_flaws-here.ensures.wide ∙ alone is_wide _ c.in-Nil.is;
-  long = c.own_flaws-here.ensures.long ∙ alone is_long _ c.in-Nil.is;
-  ragged = c.own_flaws-here.ensures.ragged ∙ alone is_ragged _ c.in-Nil.is;
-}
-
-pub flaws_of-returns-in-Nil-7 : goal.flaws_of-returns-in-Nil-7
-flaws_of-returns-in-Nil-7 g t c = record {
-  wide = c.own_flaws-here.ensures.wide ∙ alone is_wide _ c.in-Nil.is;
-  long = c.own_flaws-here.ensures.long ∙ alone is_long _ c.in-Nil.is;
-  ragged = c.own_flaws-here.ensures.ragged ∙ alone is_ragged _ c.in-Nil.is;
-}
-
-pub flaws_of-returns-in-Nil-8 : goal.flaws_of-returns-in-Nil-8
-flaws_of-returns-in-Nil-8 g t c = record {
-  wide = c.own_flaws-here.ensures.wide ∙ alone is_wide _ c.in-Nil.is;
-  long = c.own_flaws-here.ensures.long ∙ alone is_long _ c.in-Nil.is;
-  ragged = c.own_flaws-here.ensures.ragged ∙ alone is_ragged _ c.in-Nil.is;
+pub flaws_of-returns-in_default : goal.flaws_of-returns-in_default
+flaws_of-returns-in_default g t c = record {
+  wide = c.own_flaws-here.ensures.wide
+      ∙ alone is_wide _ c.in_default.not-Node c.in_default.not-Links c.in_default.not-Rows;
+  long = c.own_flaws-here.ensures.long
+      ∙ alone is_long _ c.in_default.not-Node c.in_default.not-Links c.in_default.not-Rows;
+  ragged = c.own_flaws-here.ensures.ragged
+      ∙ alone is_ragged _ c.in_default.not-Node c.in_default.not-Links c.in_default.not-Rows;
 }
 
 pub flaws_of-returns-in-Node : goal.flaws_of-returns-in-Node

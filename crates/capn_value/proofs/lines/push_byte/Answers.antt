@@ -1,7 +1,7 @@
 use Rattle.std.proofs.Common.{◌≡◌, [], ◌∷◌, ◌++◌, string_bytes, ap, ap₂, ◌∙◌, refl, ◌/◌, ◌%◌, append_assoc}
-use Rattle.std.specs.Prelude.{slice_index}
+use Rattle.std.specs.Prelude.{slice_index, encode_utf8}
 use Rattle.hex.specs.Hex.{encode_lower, lower_digits}
-use Rattle.capn_value.proofs.Digits.{encode_lower-one, on_ok, digit-ascii}
+use Rattle.capn_value.proofs.Digits.{encode_lower-one, on_ok, digit-ascii, appended}
 use Rattle.capn_value.proofs.lines.push_byte.Goals as goal
 
 pub returns : goal.returns
@@ -14,9 +14,11 @@ returns g c =
     let low : c.from-2.result ≡ slice_index lower_digits (c.args.byte % 16) = c.from-2.ensures
     ∙ ap (λ xs. slice_index xs 1) (written ∙ encode_lower-one c.args.byte) in
     let first = c.in_ok-push.ensures.ascii (rw high (digit-ascii (c.args.byte / 16))) in
-    let second = c.in_ok-push-2.ensures.ascii (rw low (digit-ascii (c.args.byte % 16))) in
+    let second = c.push-2.ensures.ascii (rw low (digit-ascii (c.args.byte % 16))) in
+    let both : (string_bytes c.push.new.self ++ encode_utf8 c.from-2.result)
+    ≡ (string_bytes c.args.out.now ++ encode_lower (c.args.byte ∷ [])) =
     rw (encode_lower-one, ← high, ← low)
-    (c.in_ok-push-2.ensures.bytes
-    ∙ ap₂ (λ xs ys. xs ++ ys) (c.in_ok-push.ensures.bytes
+    (ap₂ (λ xs ys. xs ++ ys) (c.in_ok-push.ensures.bytes
     ∙ ap (λ xs. string_bytes c.args.out.now ++ xs) first) second
-    ∙ append_assoc (string_bytes c.args.out.now) (c.from.result ∷ []) (c.from-2.result ∷ []))
+    ∙ append_assoc (string_bytes c.args.out.now) (c.from.result ∷ []) (c.from-2.result ∷ [])) in
+    appended c.push-2.result _ _ _ _ c.push-2.ensures.bytes both

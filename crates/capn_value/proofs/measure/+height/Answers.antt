@@ -1,4 +1,4 @@
-use Rattle.std.proofs.Common.{arith, refl}
+use Rattle.std.proofs.Common.{arith, ap, sym, min}
 use Rattle.capn_value.proofs.Cases.{low, no_object}
 use Rattle.capn_value.proofs.Heights.{node_high, links_high, rows_high, each_high, highest, row_high, highest_row}
 use Rattle.capn_value.proofs.Heights.{still_capped}
@@ -6,29 +6,16 @@ use Rattle.capn_value.proofs.Depths.{falls, falls_above, steps_down, in_links, i
 use Rattle.capn_value.proofs.Depths.{row_slots_below}
 use Rattle.capn_value.proofs.measure.+height.Goals as goal
 
-pub capped_height-returns-in-Voids : goal.capped_height-returns-in-Voids
-capped_height-returns-in-Voids g t c = rw (low _ c.in-Voids.is) refl
-
-pub capped_height-returns-in-Voids-2 : goal.capped_height-returns-in-Voids-2
-capped_height-returns-in-Voids-2 g t c = rw (low _ c.in-Voids.is) refl
-
-pub capped_height-returns-in-Voids-3 : goal.capped_height-returns-in-Voids-3
-capped_height-returns-in-Voids-3 g t c = rw (low _ c.in-Voids.is) refl
-
-pub capped_height-returns-in-Voids-4 : goal.capped_height-returns-in-Voids-4
-capped_height-returns-in-Voids-4 g t c = rw (low _ c.in-Voids.is) refl
-
-pub capped_height-returns-in-Voids-5 : goal.capped_height-returns-in-Voids-5
-capped_height-returns-in-Voids-5 g t c = rw (low _ c.in-Voids.is) refl
-
-pub capped_height-returns-in-Voids-6 : goal.capped_height-returns-in-Voids-6
-capped_height-returns-in-Voids-6 g t c = rw (low _ c.in-Voids.is) refl
+pub capped_height-returns-in_default : goal.capped_height-returns-in_default
+capped_height-returns-in_default g t c =
+    ap (λ h. min h 257) (sym (low _ c.in_default.not-Nil c.in_default.not-Cap c.in_default.not-Node
+    c.in_default.not-Links c.in_default.not-Rows))
 
 pub capped_height-returns-in-Nil : goal.capped_height-returns-in-Nil
-capped_height-returns-in-Nil g t c = rw (no_object _ c.in-Nil.is) refl
+capped_height-returns-in-Nil g t c = ap (λ h. min h 257) (sym (no_object _ c.in-Nil.is))
 
 pub capped_height-returns-in-Nil-2 : goal.capped_height-returns-in-Nil-2
-capped_height-returns-in-Nil-2 g t c = rw (no_object _ c.in-Nil.is) refl
+capped_height-returns-in-Nil-2 g t c = ap (λ h. min h 257) (sym (no_object _ c.in-Nil.is))
 
 pub capped_height-returns-in-Node : goal.capped_height-returns-in-Node
 capped_height-returns-in-Node g t c =

@@ -1,32 +1,14 @@
-use Rattle.capn_value.proofs.Cases.{even}
+use Rattle.std.proofs.Common.{◌∙◌, ap}
+use Rattle.capn_value.specs.Fits.{is_ragged}
+use Rattle.capn_value.specs.Tree.{rows}
+use Rattle.capn_value.specs.View.{rows_of}
+use Rattle.capn_value.proofs.Cases.{even, rows_seen}
 use Rattle.capn_value.proofs.parts.is_ragged.Goals as goal
 
-pub returns-in-Nil : goal.returns-in-Nil
-returns-in-Nil g c = even _ c.in-Nil.is
+pub returns-in-Rows : goal.returns-in-Rows
+returns-in-Rows g c =
+    c.are_ragged.ensures ∙ ap (λ bs. is_ragged (rows (rows_of bs))) c.as_slice.ensures
+    ∙ rows_seen is_ragged _ _ c.in-Rows.is
 
-pub returns-in-Nil-2 : goal.returns-in-Nil-2
-returns-in-Nil-2 g c = even _ c.in-Nil.is
-
-pub returns-in-Nil-3 : goal.returns-in-Nil-3
-returns-in-Nil-3 g c = even _ c.in-Nil.is
-
-pub returns-in-Nil-4 : goal.returns-in-Nil-4
-returns-in-Nil-4 g c = even _ c.in-Nil.is
-
-pub returns-in-Nil-5 : goal.returns-in-Nil-5
-returns-in-Nil-5 g c = even _ c.in-Nil.is
-
-pub returns-in-Nil-6 : goal.returns-in-Nil-6
-returns-in-Nil-6 g c = even _ c.in-Nil.is
-
-pub returns-in-Nil-7 : goal.returns-in-Nil-7
-returns-in-Nil-7 g c = even _ c.in-Nil.is
-
-pub returns-in-Nil-8 : goal.returns-in-Nil-8
-returns-in-Nil-8 g c = even _ c.in-Nil.is
-
-pub returns-in-Nil-9 : goal.returns-in-Nil-9
-returns-in-Nil-9 g c = even _ c.in-Nil.is
-
-pub returns-in-Nil-10 : goal.returns-in-Nil-10
-returns-in-Nil-10 g c = even _ c.in-Nil.is
+pub returns-in_default : goal.returns-in_default
+returns-in_default g c = even _ c.in_default.not-Rows

@@ -1,29 +1,16 @@
-use Rattle.capn_value.proofs.Cases.{narrow}
+use Rattle.std.proofs.Common.{◌∙◌, ap}
+use Rattle.capn_value.specs.Fits.{is_wide, has_wide_row}
+use Rattle.capn_value.specs.View.{rows_of}
+use Rattle.capn_value.proofs.Cases.{narrow, node_seen, rows_seen}
 use Rattle.capn_value.proofs.parts.is_wide.Goals as goal
 
-pub returns-in-Nil : goal.returns-in-Nil
-returns-in-Nil g c = narrow _ c.in-Nil.is
+pub returns-in-Node : goal.returns-in-Node
+returns-in-Node g c = c.is_wide_body.ensures ∙ node_seen is_wide _ _ c.in-Node.is
 
-pub returns-in-Nil-2 : goal.returns-in-Nil-2
-returns-in-Nil-2 g c = narrow _ c.in-Nil.is
+pub returns-in-Rows : goal.returns-in-Rows
+returns-in-Rows g c =
+    c.has_wide_row.ensures ∙ ap (λ bs. has_wide_row (rows_of bs)) c.as_slice.ensures
+    ∙ rows_seen is_wide _ _ c.in-Rows.is
 
-pub returns-in-Nil-3 : goal.returns-in-Nil-3
-returns-in-Nil-3 g c = narrow _ c.in-Nil.is
-
-pub returns-in-Nil-4 : goal.returns-in-Nil-4
-returns-in-Nil-4 g c = narrow _ c.in-Nil.is
-
-pub returns-in-Nil-5 : goal.returns-in-Nil-5
-returns-in-Nil-5 g c = narrow _ c.in-Nil.is
-
-pub returns-in-Nil-6 : goal.returns-in-Nil-6
-returns-in-Nil-6 g c = narrow _ c.in-Nil.is
-
-pub returns-in-Nil-7 : goal.returns-in-Nil-7
-returns-in-Nil-7 g c = narrow _ c.in-Nil.is
-
-pub returns-in-Nil-8 : goal.returns-in-Nil-8
-returns-in-Nil-8 g c = narrow _ c.in-Nil.is
-
-pub returns-in-Nil-9 : goal.returns-in-Nil-9
-returns-in-Nil-9 g c = narrow _ c.in-Nil.is
+pub returns-in_default : goal.returns-in_default
+returns-in_default g c = narrow _ c.in_default.not-Node c.in_default.not-Rows

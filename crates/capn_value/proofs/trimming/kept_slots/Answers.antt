@@ -34,3 +34,21 @@ returns-else-is_null g c =
     ∙ c.if-is_null.false in
     one_more ∙ sym (kept_slots-some m (trees_of slots) (omega (arith, count-trees_of slots)) some)
     ∙ ap (λ k. kept_slots (front k (trees_of slots))) (sym one_more) ∙ c.loop-n.invariant.so_far
+
+pub overflow_sub-n : goal.overflow_sub-n
+overflow_sub-n g c = omega arith
+
+pub bounds-slots-n : goal.bounds-slots-n
+bounds-slots-n g c = omega arith
+
+pub overflow_sub-n-in-loop-n : goal.overflow_sub-n-in-loop-n
+overflow_sub-n-in-loop-n g c = omega arith
+
+pub loop-n-smaller : goal.loop-n-smaller
+loop-n-smaller g c = omega arith
+
+pub returns-after-loop-n : goal.returns-after-loop-n
+returns-after-loop-n g c =
+    let slots = c.args.slots.now in
+    let none : c.loop-n.n ≡ 0 = omega arith in
+    none ∙ ap (λ k. kept_slots (front k (trees_of slots))) (sym none) ∙ c.loop-n.invariant.so_far

@@ -1,45 +1,32 @@
-use Rattle.capn_value.proofs.Cases.{no_cap}
-use Rattle.std.proofs.Common.{◌≡◌, Some, None, arith, refl}
-use Rattle.capn_value.specs.View.{tree_of, trees_of}
-use Rattle.capn_value.specs.Caps.{first_cap, first_in}
+use Rattle.std.proofs.Common.{◌≡◌, Some, None, arith, ap, ◌∙◌}
+use Rattle.capn_value.specs.View.{tree_of, trees_of, rows_of}
+use Rattle.capn_value.specs.Caps.{first_cap, first_in, first_in_rows}
+use Rattle.capn_value.proofs.Cases.{no_cap, node_seen, links_seen, rows_seen, cap_seen}
 use Rattle.capn_value.proofs.FirstCaps.{cap_here, cap_later, cap_nowhere, cap_in_row, cap_below, cap_in_no_row}
-use Rattle.capn_value.specs.Views.{tree_of-Node, tree_of-Links, tree_of-Rows, tree_of-Cap}
 use Rattle.capn_value.proofs.Depths.{falls, falls_above, steps_down, in_links, in_rows, in_slots, item_below}
 use Rattle.capn_value.proofs.Depths.{row_slots_below}
 use Rattle.capn_value.proofs.value.+first_cap.Goals as goal
 
 pub first_cap-returns-in-Cap : goal.first_cap-returns-in-Cap
-first_cap-returns-in-Cap g t c = rw (c.in-Cap.is, tree_of-Cap) refl
+first_cap-returns-in-Cap g t c = cap_seen first_cap _ c.in-Cap.is
 
 pub first_cap-returns-in-Node : goal.first_cap-returns-in-Node
-first_cap-returns-in-Node g t c = rw (c.in-Node.is, tree_of-Node) (cc)
+first_cap-returns-in-Node g t c =
+    c.first_in.ensures ∙ ap (λ vs. first_in (trees_of vs)) c.as_slice.ensures ∙ node_seen first_cap _ _ c.in-Node.is
 
 pub first_cap-returns-in-Links : goal.first_cap-returns-in-Links
-first_cap-returns-in-Links g t c = rw (c.in-Links.is, tree_of-Links) (cc)
+first_cap-returns-in-Links g t c =
+    c.first_in-in-Links.ensures ∙ ap (λ vs. first_in (trees_of vs)) c.as_slice-in-Links.ensures
+    ∙ links_seen first_cap _ _ c.in-Links.is
 
 pub first_cap-returns-in-Rows : goal.first_cap-returns-in-Rows
-first_cap-returns-in-Rows g t c = rw (c.in-Rows.is, tree_of-Rows) (cc)
+first_cap-returns-in-Rows g t c =
+    c.first_in_rows.ensures ∙ ap (λ bs. first_in_rows (rows_of bs)) c.as_slice-in-Rows.ensures
+    ∙ rows_seen first_cap _ _ c.in-Rows.is
 
-pub first_cap-returns-in-Nil : goal.first_cap-returns-in-Nil
-first_cap-returns-in-Nil g t c = no_cap _ c.in-Nil.is
-
-pub first_cap-returns-in-Nil-2 : goal.first_cap-returns-in-Nil-2
-first_cap-returns-in-Nil-2 g t c = no_cap _ c.in-Nil.is
-
-pub first_cap-returns-in-Nil-3 : goal.first_cap-returns-in-Nil-3
-first_cap-returns-in-Nil-3 g t c = no_cap _ c.in-Nil.is
-
-pub first_cap-returns-in-Nil-4 : goal.first_cap-returns-in-Nil-4
-first_cap-returns-in-Nil-4 g t c = no_cap _ c.in-Nil.is
-
-pub first_cap-returns-in-Nil-5 : goal.first_cap-returns-in-Nil-5
-first_cap-returns-in-Nil-5 g t c = no_cap _ c.in-Nil.is
-
-pub first_cap-returns-in-Nil-6 : goal.first_cap-returns-in-Nil-6
-first_cap-returns-in-Nil-6 g t c = no_cap _ c.in-Nil.is
-
-pub first_cap-returns-in-Nil-7 : goal.first_cap-returns-in-Nil-7
-first_cap-returns-in-Nil-7 g t c = no_cap _ c.in-Nil.is
+pub first_cap-returns-in_default : goal.first_cap-returns-in_default
+first_cap-returns-in_default g t c =
+    no_cap _ c.in_default.not-Cap c.in_default.not-Node c.in_default.not-Links c.in_default.not-Rows
 
 pub first_in-returns-in-Some : goal.first_in-returns-in-Some
 first_in-returns-in-Some g t c =
