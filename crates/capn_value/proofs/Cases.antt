@@ -31,12 +31,12 @@ module _ {A X : Type 0} (f : Tree → X) (v : Value A) where
   cap_seen {k} e = sym (ap f (ap tree_of e ∙ tree_of-Cap A k))
 
 -- the value is of another kind
-abbrev IsNot : {A X : Type 0} → (X → Value A) → Value A → Type 0
+abbrev pub IsNot : {A X : Type 0} → (X → Value A) → Value A → Type 0
 IsNot {A = A} {X} kind v = (x : X) → v ≡ kind x → ⊥
 
 module _ {A : Type 0} where
   -- and so is what its tree is the tree of
-  still_not : {X : Type 0} (kind : X → Value A) (v : Value A) → IsNot kind v → IsNot kind (value_of A (tree_of v))
+  pub still_not : {X : Type 0} (kind : X → Value A) (v : Value A) → IsNot kind v → IsNot kind (value_of A (tree_of v))
   still_not kind v n x e = n x (sym (value_of-tree_of A v) ∙ e)
 
   capless : (t : Tree) → IsNot {A = A} Cap (value_of A t) → IsNot {A = A} Node (value_of A t) → IsNot {A = A} Links (value_of A t)

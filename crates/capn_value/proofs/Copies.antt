@@ -1,6 +1,6 @@
 -- A value of a known kind, over another allocator: its tree is the same if its content is.
 use Rattle.std.proofs.Common.{◌≡◌, ℕ, ◌+◌, ◌<◌, List, [], ◌∷◌, ◌++◌, length, get_or, drop, Bool, sym, ap, ap₂, ◌∙◌}
-use Rattle.capn_value.specs.Tree.{Trees, tree, Bodies, body, joined, joined_rows, node, bits, bytes, pairs, quads, octs}
+use Rattle.capn_value.specs.Tree.{Tree, Trees, tree, Bodies, body, joined, joined_rows, node, bits, bytes, pairs, quads, octs}
 use Rattle.capn_value.specs.Tree.{links, rows}
 use Rattle.capn_value.specs.View.{tree_of, trees_of, rows_of}
 use Rattle.capn_value.specs.Views.{tree_of-Nil, tree_of-Node, tree_of-Voids, tree_of-Bits, tree_of-Bytes, tree_of-Pairs}
@@ -9,6 +9,13 @@ use Rattle.capn_value.specs.declared.value.Value.{Value, Nil, Node, Voids, Bits,
 use Rattle.capn_value.specs.declared.value.Value.{Cap}
 use Rattle.capn_value.specs.declared.value.Body.{Body}
 use Rattle.capn_value.proofs.Anywhere.{drop-next, drop-past}
+use Rattle.capn_value.proofs.Cases.{IsNot, still_not}
+use Rattle.capn_value.specs.Code.{value_of}
+use Rattle.capn_value.specs.Trim.{trimmed}
+use Rattle.std.specs.Result.{IfOk}
+use Rattle.std.specs.declared.result.Result.{Result}
+use Rattle.std.proofs.lemmas.Result.{IfOk-weaker}
+use Rattle.std.proofs.Common.{◌⊎◌, inl, inr, refl}
 use Rattle.capn_value.proofs.Joined.{joined-push, joined_rows-push, joined-none, joined_rows-none}
 
 module _ (A : Type 0) {B : Type 0} (v : Value B) where
@@ -48,6 +55,31 @@ module _ (A : Type 0) {B : Type 0} (v : Value B) where
   pub rows_kept : (bs s : List (Body B)) (cs : List (Body A)) → v ≡ Rows bs → s ≡ bs → rows_of cs ≡ rows_of s
       → tree_of (Rows cs) ≡ tree_of v
   rows_kept bs s cs e f h = tree_of-Rows cs ∙ ap rows (h ∙ ap rows_of f) ∙ sym (ap tree_of e ∙ tree_of-Rows bs)
+
+-- the value is of none of the kinds that hold others
+module _ {A : Type 0} where
+  parts_cut : (t : Tree) → IsNot {A = A} Node (value_of A t) → IsNot {A = A} Links (value_of A t)
+      → IsNot {A = A} Rows (value_of A t) → t ≡ trimmed t
+  parts_cut (node ws ss) m l r = absurd (m _ refl)
+  parts_cut (links ts) m l r = absurd (l _ refl)
+  parts_cut (rows bs) m l r = absurd (r _ refl)
+  parts_cut _ m l r = refl
+
+  -- so trimming leaves it
+  pub plain_kept : {B E : Type 0} (v : Value A) (r : Result (Value B) E) → IsNot Node v → IsNot Links v → IsNot Rows v
+      → IfOk r (λ u. tree_of u ≡ tree_of v) → IfOk r (λ u. tree_of u ≡ trimmed (tree_of v))
+  plain_kept v r m l n h =
+      IfOk-weaker r (λ u. tree_of u ≡ tree_of v) (λ u. tree_of u ≡ trimmed (tree_of v))
+      (λ u e. e ∙ parts_cut (tree_of v) (still_not Node v m) (still_not Links v l) (still_not Rows v n)) h
+
+  abbrev HasParts : Value A → Type 0
+  HasParts v = ((b : Body A) × (v ≡ Node b))
+      ⊎ (((vs : List (Value A)) × (v ≡ Links vs)) ⊎ ((bs : List (Body A)) × (v ≡ Rows bs)))
+
+  pub no_parts : (v : Value A) → IsNot Node v → IsNot Links v → IsNot Rows v → HasParts v → ⊥
+  no_parts v m l r (inl p) = m p.0 p.1
+  no_parts v m l r (inr (inl p)) = l p.0 p.1
+  no_parts v m l r (inr (inr p)) = r p.0 p.1
 
 -- a loop that copies one element after another: one more, and all of them
 module _ {A B : Type 0} (out : List (Value A)) (items : List (Value B)) (i : ℕ) {all : Trees}

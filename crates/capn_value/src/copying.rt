@@ -1,30 +1,31 @@
 //! Copying a value into memory of its own.
 
-ghost use Rattle.std.specs.Prelude.{◌≡◌, ◌≢◌, IfOk, OnErr};
+ghost use Rattle.std.specs.Prelude.{◌≡◌, ◌≢◌, IfOk, OnErr, List};
 ghost use Rattle.capn_value.specs.Tree.{nil};
 ghost use Rattle.capn_value.specs.View.{tree_of, trees_of, rows_of};
+ghost use Rattle.capn_value.specs.declared.value.Value.{Value, Node, Links, Rows};
+ghost use Rattle.capn_value.specs.declared.value.Body.{Body};
 
 use crate::equal::is_null;
 use crate::items::Items;
-use crate::memory::Memory;
 use crate::value::{Body, Value};
-use std::alloc::Allocator;
+use std::alloc::{AllocError, Allocator};
 
 /// A list of plain elements, copied as a whole.
-pub fn copied<T: Copy, A: Allocator, B: Allocator>(
+fn copied<T: Copy, A: Allocator, B: Allocator>(
     alloc: A,
     items: &Items<T, B>,
-) -> Result<Items<T, A>, Memory>
+) -> Result<Items<T, A>, AllocError>
     ensures { IfOk result (λ it. it ≡ items.now) }
 {
-    Ok(Items::from_slice(alloc, items.as_slice())?)
+    Items::from_slice(alloc, items.as_slice())
 }
 
 /// The same value, over another allocator. Null takes no memory.
 pub fn copy_value<A: Allocator + Copy, B: Allocator>(
     alloc: A,
     v: &Value<B>,
-) -> Result<Value<A>, Memory>
+) -> Result<Value<A>, AllocError>
     ensures value { IfOk result (λ r. tree_of r ≡ tree_of v.now) }
     ensures wanted { OnErr result (tree_of v.now ≢ nil) }
 {
@@ -34,23 +35,42 @@ pub fn copy_value<A: Allocator + Copy, B: Allocator>(
     copy_of(alloc, v)
 }
 
-// The same value, over another allocator.
-#[cycle(copy)]
-fn copy_of<A: Allocator + Copy, B: Allocator>(alloc: A, v: &Value<B>) -> Result<Value<A>, Memory>
+/// The same value, which holds no other, over another allocator.
+pub fn copy_of_plain<A: Allocator, B: Allocator>(
+    alloc: A,
+    v: &Value<B>,
+) -> Result<Value<A>, AllocError>
+    requires no_struct { (body : Body B) → v.now ≢ Node body }
+    requires no_pointers { (items : List (Value B)) → v.now ≢ Links items }
+    requires no_rows { (rows : List (Body B)) → v.now ≢ Rows rows }
     ensures { IfOk result (λ r. tree_of r ≡ tree_of v.now) }
 {
     match v {
         Value::Nil => Ok(Value::Nil),
-        Value::Node(body) => Ok(Value::Node(copy_of_body(alloc, body)?)),
         Value::Voids(n) => Ok(Value::Voids(*n)),
         Value::Bits(xs) => Ok(Value::Bits(copied(alloc, xs)?)),
         Value::Bytes(xs) => Ok(Value::Bytes(copied(alloc, xs)?)),
         Value::Pairs(xs) => Ok(Value::Pairs(copied(alloc, xs)?)),
         Value::Quads(xs) => Ok(Value::Quads(copied(alloc, xs)?)),
         Value::Octs(xs) => Ok(Value::Octs(copied(alloc, xs)?)),
+        Value::Cap(k) => Ok(Value::Cap(*k)),
+        Value::Node(_) | Value::Links(_) | Value::Rows(_) => unreachable!(),
+    }
+}
+
+// The same value, over another allocator.
+#[cycle(copy)]
+fn copy_of<A: Allocator + Copy, B: Allocator>(
+    alloc: A,
+    v: &Value<B>,
+) -> Result<Value<A>, AllocError>
+    ensures { IfOk result (λ r. tree_of r ≡ tree_of v.now) }
+{
+    match v {
+        Value::Node(body) => Ok(Value::Node(copy_of_body(alloc, body)?)),
         Value::Links(items) => Ok(Value::Links(copy_of_each(alloc, items.as_slice())?)),
         Value::Rows(rows) => Ok(Value::Rows(copy_of_rows(alloc, rows.as_slice())?)),
-        Value::Cap(k) => Ok(Value::Cap(*k)),
+        _ => copy_of_plain(alloc, v),
     }
 }
 
@@ -58,7 +78,7 @@ fn copy_of<A: Allocator + Copy, B: Allocator>(alloc: A, v: &Value<B>) -> Result<
 fn copy_of_body<A: Allocator + Copy, B: Allocator>(
     alloc: A,
     body: &Body<B>,
-) -> Result<Body<A>, Memory>
+) -> Result<Body<A>, AllocError>
     ensures words { IfOk result (λ r. r.words ≡ body.now.words) }
     ensures slots { IfOk result (λ r. trees_of r.slots ≡ trees_of body.now.slots) }
 {
@@ -71,7 +91,7 @@ fn copy_of_body<A: Allocator + Copy, B: Allocator>(
 fn copy_of_each<A: Allocator + Copy, B: Allocator>(
     alloc: A,
     items: &[Value<B>],
-) -> Result<Items<Value<A>, A>, Memory>
+) -> Result<Items<Value<A>, A>, AllocError>
     ensures { IfOk result (λ r. trees_of r ≡ trees_of items.now) }
 {
     let mut out = Items::with_capacity(alloc, items.len())?;
@@ -85,7 +105,7 @@ fn copy_of_each<A: Allocator + Copy, B: Allocator>(
 fn copy_of_rows<A: Allocator + Copy, B: Allocator>(
     alloc: A,
     rows: &[Body<B>],
-) -> Result<Items<Body<A>, A>, Memory>
+) -> Result<Items<Body<A>, A>, AllocError>
     ensures { IfOk result (λ r. rows_of r ≡ rows_of rows.now) }
 {
     let mut out = Items::with_capacity(alloc, rows.len())?;

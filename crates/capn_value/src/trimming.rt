@@ -5,12 +5,11 @@ ghost use Rattle.capn_value.specs.View.{tree_of, trees_of, rows_of};
 ghost use Rattle.capn_value.specs.Tree.{nil, front};
 ghost use Rattle.capn_value.specs.Trim as cut;
 
-use crate::copying::copied;
+use crate::copying::copy_of_plain;
 use crate::equal::is_null;
 use crate::items::Items;
-use crate::memory::Memory;
 use crate::value::{Body, Value};
-use std::alloc::Allocator;
+use std::alloc::{AllocError, Allocator};
 
 /// How many words of a data section are kept: the least number behind which every word is 0.
 #[tactic(auto, using(std::proofs::lemmas::Grind::common_steps, crate::proofs::Kept::kept))]
@@ -64,7 +63,7 @@ pub fn kept_slots_of_rows<A: Allocator>(rows: &[Body<A>]) -> usize
 pub fn trim_value<A: Allocator + Copy, B: Allocator>(
     alloc: A,
     v: &Value<B>,
-) -> Result<Value<A>, Memory>
+) -> Result<Value<A>, AllocError>
     ensures value { IfOk result (λ r. tree_of r ≡ cut.trimmed (tree_of v.now)) }
     ensures wanted { OnErr result (tree_of v.now ≢ nil) }
 {
@@ -77,22 +76,18 @@ pub fn trim_value<A: Allocator + Copy, B: Allocator>(
 // The same, where null is a value as any other.
 #[cycle(trim)]
 #[tactic(auto, using(std::proofs::lemmas::Grind::common_steps, crate::proofs::Joined::joins))]
-fn trimmed<A: Allocator + Copy, B: Allocator>(alloc: A, v: &Value<B>) -> Result<Value<A>, Memory>
+fn trimmed<A: Allocator + Copy, B: Allocator>(
+    alloc: A,
+    v: &Value<B>,
+) -> Result<Value<A>, AllocError>
     ensures { IfOk result (λ r. tree_of r ≡ cut.trimmed (tree_of v.now)) }
 {
     match v {
-        Value::Nil => Ok(Value::Nil),
         Value::Node(body) => {
             let words = kept_words(body.words.as_slice());
             let slots = kept_slots(body.slots.as_slice());
             Ok(Value::Node(trimmed_body(alloc, body, words, slots)?))
         }
-        Value::Voids(n) => Ok(Value::Voids(*n)),
-        Value::Bits(xs) => Ok(Value::Bits(copied(alloc, xs)?)),
-        Value::Bytes(xs) => Ok(Value::Bytes(copied(alloc, xs)?)),
-        Value::Pairs(xs) => Ok(Value::Pairs(copied(alloc, xs)?)),
-        Value::Quads(xs) => Ok(Value::Quads(copied(alloc, xs)?)),
-        Value::Octs(xs) => Ok(Value::Octs(copied(alloc, xs)?)),
         Value::Links(items) => {
             Ok(Value::Links(trimmed_front(alloc, items.as_slice(), items.len())?))
         }
@@ -102,7 +97,7 @@ fn trimmed<A: Allocator + Copy, B: Allocator>(alloc: A, v: &Value<B>) -> Result<
             let slots = kept_slots_of_rows(rows);
             Ok(Value::Rows(trimmed_rows(alloc, rows, words, slots)?))
         }
-        Value::Cap(k) => Ok(Value::Cap(*k)),
+        _ => copy_of_plain(alloc, v),
     }
 }
 
@@ -114,7 +109,7 @@ fn trimmed_body<A: Allocator + Copy, B: Allocator>(
     body: &Body<B>,
     words: usize,
     slots: usize,
-) -> Result<Body<A>, Memory>
+) -> Result<Body<A>, AllocError>
     ensures words { IfOk result (λ r. r.words ≡ take words body.now.words) }
     ensures slots { IfOk result (λ r. trees_of r.slots ≡ front slots (cut.trimmed_each (trees_of body.now.slots))) }
 {
@@ -131,7 +126,7 @@ fn trimmed_front<A: Allocator + Copy, B: Allocator>(
     alloc: A,
     items: &[Value<B>],
     most: usize,
-) -> Result<Items<Value<A>, A>, Memory>
+) -> Result<Items<Value<A>, A>, AllocError>
     ensures { IfOk result (λ r. trees_of r ≡ front most (cut.trimmed_each (trees_of items.now))) }
 {
     let len = most.min(items.len());
@@ -149,7 +144,7 @@ fn trimmed_rows<A: Allocator + Copy, B: Allocator>(
     rows: &[Body<B>],
     words: usize,
     slots: usize,
-) -> Result<Items<Body<A>, A>, Memory>
+) -> Result<Items<Body<A>, A>, AllocError>
     ensures { IfOk result (λ r. rows_of r ≡ cut.trimmed_rows words slots (rows_of rows.now)) }
 {
     let mut out = Items::with_capacity(alloc, rows.len())?;

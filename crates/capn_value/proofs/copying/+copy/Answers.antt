@@ -1,38 +1,26 @@
 use Rattle.std.proofs.Common.{arith, ap, ◌∙◌}
 use Rattle.capn_value.specs.Tree.{joined, joined_rows}
 use Rattle.capn_value.specs.View.{trees_of, rows_of}
-use Rattle.capn_value.proofs.Copies.{nil_kept, node_kept, voids_kept, bits_kept, bytes_kept, pairs_kept, quads_kept}
-use Rattle.capn_value.proofs.Copies.{octs_kept, links_kept, rows_kept, cap_kept, each_copied, all_copied, row_copied}
+use Rattle.capn_value.proofs.Copies.{node_kept, links_kept, rows_kept, each_copied, all_copied, row_copied}
 use Rattle.capn_value.proofs.Copies.{rows_copied}
 use Rattle.capn_value.proofs.Depths.{falls, falls_above, steps_down, in_body, in_links, in_rows, in_node, item_below}
 use Rattle.capn_value.proofs.Depths.{row_below}
 use Rattle.capn_value.proofs.copying.+copy.Goals as goal
 
-pub copy_of-returns-in-Nil : goal.copy_of-returns-in-Nil
-copy_of-returns-in-Nil g t c = nil_kept _ _ c.in-Nil.is
+pub copy_of-copy_of_plain-requires : goal.copy_of-copy_of_plain-requires
+copy_of-copy_of_plain-requires g t c = record {
+  no_struct = c.in_default.not-Node;
+  no_pointers = c.in_default.not-Links;
+  no_rows = c.in_default.not-Rows;
+}
+
+pub copy_of-returns-in_default : goal.copy_of-returns-in_default
+copy_of-returns-in_default g t c = c.copy_of_plain.ensures
 
 pub copy_of-returns-in_ok-copy_of_body-in-Node : goal.copy_of-returns-in_ok-copy_of_body-in-Node
 copy_of-returns-in_ok-copy_of_body-in-Node g t c =
     node_kept _ _ c.in-Node.body c.in_ok-copy_of_body-in-Node.field-0 c.in-Node.is
     c.in_ok-copy_of_body-in-Node.ensures.words c.in_ok-copy_of_body-in-Node.ensures.slots
-
-pub copy_of-returns-in-Voids : goal.copy_of-returns-in-Voids
-copy_of-returns-in-Voids g t c = voids_kept _ _ c.in-Voids.is
-
-pub copy_of-returns-in_ok-copied-in-Bits : goal.copy_of-returns-in_ok-copied-in-Bits
-copy_of-returns-in_ok-copied-in-Bits g t c = bits_kept _ _ c.in-Bits.is c.in_ok-copied-in-Bits.ensures
-
-pub copy_of-returns-in_ok-copied-in-Bytes : goal.copy_of-returns-in_ok-copied-in-Bytes
-copy_of-returns-in_ok-copied-in-Bytes g t c = bytes_kept _ _ c.in-Bytes.is c.in_ok-copied-in-Bytes.ensures
-
-pub copy_of-returns-in_ok-copied-in-Pairs : goal.copy_of-returns-in_ok-copied-in-Pairs
-copy_of-returns-in_ok-copied-in-Pairs g t c = pairs_kept _ _ c.in-Pairs.is c.in_ok-copied-in-Pairs.ensures
-
-pub copy_of-returns-in_ok-copied-in-Quads : goal.copy_of-returns-in_ok-copied-in-Quads
-copy_of-returns-in_ok-copied-in-Quads g t c = quads_kept _ _ c.in-Quads.is c.in_ok-copied-in-Quads.ensures
-
-pub copy_of-returns-in_ok-copied-in-Octs : goal.copy_of-returns-in_ok-copied-in-Octs
-copy_of-returns-in_ok-copied-in-Octs g t c = octs_kept _ _ c.in-Octs.is c.in_ok-copied-in-Octs.ensures
 
 pub copy_of-returns-in_ok-copy_of_each-in-Links : goal.copy_of-returns-in_ok-copy_of_each-in-Links
 copy_of-returns-in_ok-copy_of_each-in-Links g t c =
@@ -43,9 +31,6 @@ pub copy_of-returns-in_ok-copy_of_rows-in-Rows : goal.copy_of-returns-in_ok-copy
 copy_of-returns-in_ok-copy_of_rows-in-Rows g t c =
     rows_kept _ _ c.in-Rows.rows c.as_slice-in-Rows.result.now c.in_ok-copy_of_rows-in-Rows.field-0 c.in-Rows.is
     c.as_slice-in-Rows.ensures c.in_ok-copy_of_rows-in-Rows.ensures
-
-pub copy_of-returns-in-Cap : goal.copy_of-returns-in-Cap
-copy_of-returns-in-Cap g t c = cap_kept _ _ c.in-Cap.is
 
 pub copy_of_each-loop-v-init : goal.copy_of_each-loop-v-init
 copy_of_each-loop-v-init g t c = ap (λ o. joined (trees_of o) (trees_of c.args.items.now)) c.in_ok-out.ensures.ok

@@ -1,50 +1,27 @@
-use Rattle.std.proofs.Common.{◌≡◌, arith, refl, sym, ap, ap₂, ◌∙◌, min, length}
-use Rattle.capn_value.specs.Tree.{bits, bytes, pairs, quads, octs, links, front, joined_rows}
+use Rattle.std.proofs.Common.{◌≡◌, arith, sym, ap, ap₂, ◌∙◌, min, length, take}
+use Rattle.capn_value.specs.Tree.{node, links, front, joined_rows}
 use Rattle.capn_value.specs.View.{tree_of, trees_of, rows_of}
-use Rattle.capn_value.specs.Views.{tree_of-Nil, tree_of-Voids, tree_of-Bits, tree_of-Bytes, tree_of-Pairs}
-use Rattle.capn_value.specs.Views.{tree_of-Quads, tree_of-Octs, tree_of-Links, tree_of-Cap, tree_of-Node, tree_of-Rows}
-use Rattle.capn_value.specs.Trim.{trimmed, trimmed_each, trimmed_rows}
+use Rattle.capn_value.specs.Views.{tree_of-Links, tree_of-Node, tree_of-Rows}
+use Rattle.capn_value.specs.Trim.{trimmed, trimmed_each, trimmed_rows, kept_words, kept_slots}
+use Rattle.capn_value.proofs.Cases.{node_seen}
+use Rattle.capn_value.proofs.Copies.{plain_kept}
 use Rattle.capn_value.proofs.Fronts.{trimmed_front-length, trimmed_front-min, trimmed_front-push, row_trimmed}
 use Rattle.capn_value.proofs.Fronts.{rows_trimmed, cut_length, cut_words}
 use Rattle.capn_value.proofs.Depths.{falls, falls_above, steps_down, in_body, in_links, in_rows, in_node, item_below}
 use Rattle.capn_value.proofs.Depths.{row_below}
 use Rattle.capn_value.proofs.trimming.+trim.Goals as goal
 
-pub trimmed-returns-in-Nil : goal.trimmed-returns-in-Nil
-trimmed-returns-in-Nil g t c = rw (c.in-Nil.is, tree_of-Nil g.row.A.Denot, tree_of-Nil g.row.B.Denot) refl
+pub trimmed-copy_of_plain-requires : goal.trimmed-copy_of_plain-requires
+trimmed-copy_of_plain-requires g t c = record {
+  no_struct = c.in_default.not-Node;
+  no_pointers = c.in_default.not-Links;
+  no_rows = c.in_default.not-Rows;
+}
 
-pub trimmed-returns-in-Voids : goal.trimmed-returns-in-Voids
-trimmed-returns-in-Voids g t c =
-    rw (c.in-Voids.is, tree_of-Voids g.row.A.Denot c.in-Voids.n, tree_of-Voids g.row.B.Denot c.in-Voids.n) refl
-
-pub trimmed-returns-in-Cap : goal.trimmed-returns-in-Cap
-trimmed-returns-in-Cap g t c =
-    rw (c.in-Cap.is, tree_of-Cap g.row.A.Denot c.in-Cap.k, tree_of-Cap g.row.B.Denot c.in-Cap.k) refl
-
-pub trimmed-returns-in_ok-copied-in-Bits : goal.trimmed-returns-in_ok-copied-in-Bits
-trimmed-returns-in_ok-copied-in-Bits g t c =
-    rw (c.in-Bits.is, tree_of-Bits _ c.in_ok-copied-in-Bits.field-0, tree_of-Bits _ c.in-Bits.xs)
-    (ap bits c.in_ok-copied-in-Bits.ensures)
-
-pub trimmed-returns-in_ok-copied-in-Bytes : goal.trimmed-returns-in_ok-copied-in-Bytes
-trimmed-returns-in_ok-copied-in-Bytes g t c =
-    rw (c.in-Bytes.is, tree_of-Bytes _ c.in_ok-copied-in-Bytes.field-0, tree_of-Bytes _ c.in-Bytes.xs)
-    (ap bytes c.in_ok-copied-in-Bytes.ensures)
-
-pub trimmed-returns-in_ok-copied-in-Pairs : goal.trimmed-returns-in_ok-copied-in-Pairs
-trimmed-returns-in_ok-copied-in-Pairs g t c =
-    rw (c.in-Pairs.is, tree_of-Pairs _ c.in_ok-copied-in-Pairs.field-0, tree_of-Pairs _ c.in-Pairs.xs)
-    (ap pairs c.in_ok-copied-in-Pairs.ensures)
-
-pub trimmed-returns-in_ok-copied-in-Quads : goal.trimmed-returns-in_ok-copied-in-Quads
-trimmed-returns-in_ok-copied-in-Quads g t c =
-    rw (c.in-Quads.is, tree_of-Quads _ c.in_ok-copied-in-Quads.field-0, tree_of-Quads _ c.in-Quads.xs)
-    (ap quads c.in_ok-copied-in-Quads.ensures)
-
-pub trimmed-returns-in_ok-copied-in-Octs : goal.trimmed-returns-in_ok-copied-in-Octs
-trimmed-returns-in_ok-copied-in-Octs g t c =
-    rw (c.in-Octs.is, tree_of-Octs _ c.in_ok-copied-in-Octs.field-0, tree_of-Octs _ c.in-Octs.xs)
-    (ap octs c.in_ok-copied-in-Octs.ensures)
+pub trimmed-returns-in_default : goal.trimmed-returns-in_default
+trimmed-returns-in_default g t c =
+    plain_kept _ c.copy_of_plain.result c.in_default.not-Node c.in_default.not-Links c.in_default.not-Rows
+    c.copy_of_plain.ensures
 
 pub trimmed-returns-in_ok-trimmed_front-in-Links : goal.trimmed-returns-in_ok-trimmed_front-in-Links
 trimmed-returns-in_ok-trimmed_front-in-Links g t c =
@@ -72,8 +49,12 @@ trimmed_front-returns g t c =
 pub trimmed-returns-in_ok-trimmed_body-in-Node : goal.trimmed-returns-in_ok-trimmed_body-in-Node
 trimmed-returns-in_ok-trimmed_body-in-Node g t c =
     let made = c.in_ok-trimmed_body-in-Node in
-    rw (c.in-Node.is, tree_of-Node made.field-0, tree_of-Node c.in-Node.body)
-    (cc (made.ensures.words, made.ensures.slots))
+    let body = c.in-Node.body in
+    tree_of-Node made.field-0
+    ∙ ap₂ node (made.ensures.words ∙ ap (λ n. take n body.words) (c.kept_words-words.ensures ∙ ap kept_words c.as_slice.ensures))
+    (made.ensures.slots ∙ ap (λ n. front n (trimmed_each (trees_of body.slots)))
+    (c.kept_slots-slots.ensures ∙ ap (λ vs. kept_slots (trees_of vs)) c.as_slice-in-Node.ensures))
+    ∙ node_seen trimmed _ body c.in-Node.is
 
 pub trimmed-returns-in_ok-trimmed_rows-in-Rows : goal.trimmed-returns-in_ok-trimmed_rows-in-Rows
 trimmed-returns-in_ok-trimmed_rows-in-Rows g t c =
