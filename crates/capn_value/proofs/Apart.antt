@@ -1,5 +1,5 @@
 -- A value of one kind is the same as no value of another.
-use Rattle.std.proofs.Common.{◌≡◌, ℕ, List, Bool, false, refl, sym, ap, ◌∙◌, ◌≢◌, suc, true, ◌&&◌, arith, min, length}
+use Rattle.std.proofs.Common.{◌≡◌, ℕ, List, Bool, false, refl, sym, ap, ap₂, ◌∙◌, ◌≢◌, suc, true, ◌&&◌, arith, min, length}
 use Rattle.std.proofs.Common.{take, drop, ◌-◌, length-drop, inl, inr}
 use Rattle.std.proofs.lemmas.Grind.{common_steps}
 use Rattle.std.proofs.lemmas.Bool.{and_right, cases_lt}
@@ -7,8 +7,10 @@ use Rattle.capn_value.specs.Tree.{Tree, nil, node, voids, bits, bytes, pairs, qu
 use Rattle.capn_value.specs.Tree.{no_trees, tree, Bodies, no_bodies, body, count, count_rows}
 use Rattle.capn_value.specs.Tree.{is_null}
 use Rattle.capn_value.specs.SameTest.{test, test_slots, test_each, test_rows, are_null}
-use Rattle.capn_value.specs.View.{tree_of, trees_of}
+use Rattle.capn_value.specs.View.{tree_of, trees_of, rows_of}
 use Rattle.capn_value.specs.Views.{views, count-trees_of}
+use Rattle.capn_value.specs.Views.{tree_of-Nil, tree_of-Node, tree_of-Voids, tree_of-Bits, tree_of-Bytes, tree_of-Pairs}
+use Rattle.capn_value.specs.Views.{tree_of-Quads, tree_of-Octs, tree_of-Links, tree_of-Rows, tree_of-Cap}
 use Rattle.capn_value.specs.Code.{value_of}
 use Rattle.capn_value.specs.declared.value.Value.{Value, Nil, Node, Voids, Bits, Bytes, Pairs, Quads, Octs, Links, Rows}
 use Rattle.capn_value.specs.declared.value.Value.{Cap}
@@ -142,6 +144,111 @@ test_slots-past_left (tree s ss) ts e = absurd (omega arith)
 pub test_slots-past_right : (ss ts : Trees) → count ts ≡ 0 → test_slots ss ts ≡ (are_null ss && are_null ts)
 test_slots-past_right ss no_trees e = test_slots-no_more ss ∙ and_true _
 test_slots-past_right ss (tree t ts) e = absurd (omega arith)
+
+-- what is said of the trees of two values of known kinds
+module _ {A B : Type 0} (v : Value A) (w : Value B) where
+  seen : (t u : Tree) {r : Bool} → tree_of v ≡ t → tree_of w ≡ u → r ≡ test t u → r ≡ test (tree_of v) (tree_of w)
+  seen t u e f h = h ∙ sym (ap₂ test e f)
+
+  seen_apart : (t : Tree) → tree_of v ≡ t → test t (tree_of w) ≡ false → false ≡ test (tree_of v) (tree_of w)
+  seen_apart t e h = sym (ap (λ x. test x (tree_of w)) e ∙ h)
+
+  pub both_nil : v ≡ Nil → w ≡ Nil → true ≡ test (tree_of v) (tree_of w)
+  both_nil e f = seen nil nil (ap tree_of e ∙ tree_of-Nil A) (ap tree_of f ∙ tree_of-Nil B) refl
+
+  pub both_node : (a : Body A) (b : Body B) {r : Bool} → v ≡ Node a → w ≡ Node b
+      → r ≡ test (node a.words (trees_of a.slots)) (node b.words (trees_of b.slots)) → r ≡ test (tree_of v) (tree_of w)
+  both_node a b e f =
+      seen (node a.words (trees_of a.slots)) (node b.words (trees_of b.slots)) (ap tree_of e ∙ tree_of-Node a)
+      (ap tree_of f ∙ tree_of-Node b)
+
+  -- the parameters `s` and `t` are the slices of the elements
+  pub both_links : (xs s : List (Value A)) (ys t : List (Value B)) {r : Bool} → v ≡ Links xs → w ≡ Links ys → s ≡ xs
+      → t ≡ ys → r ≡ test_each (trees_of s) (trees_of t) → r ≡ test (tree_of v) (tree_of w)
+  both_links xs s ys t e f g h tested =
+      seen (links (trees_of xs)) (links (trees_of ys)) (ap tree_of e ∙ tree_of-Links xs) (ap tree_of f ∙ tree_of-Links ys)
+      (tested ∙ ap₂ (λ us vs. test_each (trees_of us) (trees_of vs)) g h)
+
+  pub both_rows : (xs s : List (Body A)) (ys t : List (Body B)) {r : Bool} → v ≡ Rows xs → w ≡ Rows ys → s ≡ xs
+      → t ≡ ys → r ≡ test_rows (rows_of s) (rows_of t) → r ≡ test (tree_of v) (tree_of w)
+  both_rows xs s ys t e f g h tested =
+      seen (rows (rows_of xs)) (rows (rows_of ys)) (ap tree_of e ∙ tree_of-Rows xs) (ap tree_of f ∙ tree_of-Rows ys)
+      (tested ∙ ap₂ (λ us vs. test_rows (rows_of us) (rows_of vs)) g h)
+
+  pub nil_apart : v ≡ Nil → (w ≡ Nil → ⊥) → false ≡ test (tree_of v) (tree_of w)
+  nil_apart e n = seen_apart nil (ap tree_of e ∙ tree_of-Nil A) (not_nil w n)
+
+  pub node_apart : (a : Body A) → v ≡ Node a → ((b : Body B) → w ≡ Node b → ⊥) → false ≡ test (tree_of v) (tree_of w)
+  node_apart a e n =
+      seen_apart (node a.words (trees_of a.slots)) (ap tree_of e ∙ tree_of-Node a) (not_node w a.words (trees_of a.slots) n)
+
+  pub links_apart : (xs : List (Value A)) → v ≡ Links xs → ((ys : List (Value B)) → w ≡ Links ys → ⊥)
+      → false ≡ test (tree_of v) (tree_of w)
+  links_apart xs e n =
+      seen_apart (links (trees_of xs)) (ap tree_of e ∙ tree_of-Links xs) (not_links w (trees_of xs) n)
+
+  pub rows_apart : (xs : List (Body A)) → v ≡ Rows xs → ((ys : List (Body B)) → w ≡ Rows ys → ⊥)
+      → false ≡ test (tree_of v) (tree_of w)
+  rows_apart xs e n = seen_apart (rows (rows_of xs)) (ap tree_of e ∙ tree_of-Rows xs) (not_rows w (rows_of xs) n)
+
+  pub both_voids : (n m : ℕ) {r : Bool} → v ≡ Voids n → w ≡ Voids m → r ≡ test (voids n) (voids m)
+      → r ≡ test (tree_of v) (tree_of w)
+  both_voids n m e f = seen (voids n) (voids m) (ap tree_of e ∙ tree_of-Voids A n) (ap tree_of f ∙ tree_of-Voids B m)
+
+  pub voids_apart : (k : ℕ) → v ≡ Voids k → ((m : ℕ) → w ≡ Voids m → ⊥) → false ≡ test (tree_of v) (tree_of w)
+  voids_apart k e n = seen_apart (voids k) (ap tree_of e ∙ tree_of-Voids A k) (not_voids w k n)
+
+  pub both_bits : (xs ys : List Bool) {s t : List Bool} {r : Bool} → v ≡ Bits xs → w ≡ Bits ys → s ≡ xs → t ≡ ys
+      → r ≡ test (bits s) (bits t) → r ≡ test (tree_of v) (tree_of w)
+  both_bits xs ys e f g h tested =
+      seen (bits xs) (bits ys) (ap tree_of e ∙ tree_of-Bits A xs) (ap tree_of f ∙ tree_of-Bits B ys)
+      (tested ∙ ap₂ (λ x y. test (bits x) (bits y)) g h)
+
+  pub bits_apart : (xs : List Bool) → v ≡ Bits xs → ((ys : List Bool) → w ≡ Bits ys → ⊥) → false ≡ test (tree_of v) (tree_of w)
+  bits_apart xs e n = seen_apart (bits xs) (ap tree_of e ∙ tree_of-Bits A xs) (not_bits w xs n)
+
+  pub both_bytes : (xs ys : List ℕ) {s t : List ℕ} {r : Bool} → v ≡ Bytes xs → w ≡ Bytes ys → s ≡ xs → t ≡ ys
+      → r ≡ test (bytes s) (bytes t) → r ≡ test (tree_of v) (tree_of w)
+  both_bytes xs ys e f g h tested =
+      seen (bytes xs) (bytes ys) (ap tree_of e ∙ tree_of-Bytes A xs) (ap tree_of f ∙ tree_of-Bytes B ys)
+      (tested ∙ ap₂ (λ x y. test (bytes x) (bytes y)) g h)
+
+  pub bytes_apart : (xs : List ℕ) → v ≡ Bytes xs → ((ys : List ℕ) → w ≡ Bytes ys → ⊥) → false ≡ test (tree_of v) (tree_of w)
+  bytes_apart xs e n = seen_apart (bytes xs) (ap tree_of e ∙ tree_of-Bytes A xs) (not_bytes w xs n)
+
+  pub both_pairs : (xs ys : List ℕ) {s t : List ℕ} {r : Bool} → v ≡ Pairs xs → w ≡ Pairs ys → s ≡ xs → t ≡ ys
+      → r ≡ test (pairs s) (pairs t) → r ≡ test (tree_of v) (tree_of w)
+  both_pairs xs ys e f g h tested =
+      seen (pairs xs) (pairs ys) (ap tree_of e ∙ tree_of-Pairs A xs) (ap tree_of f ∙ tree_of-Pairs B ys)
+      (tested ∙ ap₂ (λ x y. test (pairs x) (pairs y)) g h)
+
+  pub pairs_apart : (xs : List ℕ) → v ≡ Pairs xs → ((ys : List ℕ) → w ≡ Pairs ys → ⊥) → false ≡ test (tree_of v) (tree_of w)
+  pairs_apart xs e n = seen_apart (pairs xs) (ap tree_of e ∙ tree_of-Pairs A xs) (not_pairs w xs n)
+
+  pub both_quads : (xs ys : List ℕ) {s t : List ℕ} {r : Bool} → v ≡ Quads xs → w ≡ Quads ys → s ≡ xs → t ≡ ys
+      → r ≡ test (quads s) (quads t) → r ≡ test (tree_of v) (tree_of w)
+  both_quads xs ys e f g h tested =
+      seen (quads xs) (quads ys) (ap tree_of e ∙ tree_of-Quads A xs) (ap tree_of f ∙ tree_of-Quads B ys)
+      (tested ∙ ap₂ (λ x y. test (quads x) (quads y)) g h)
+
+  pub quads_apart : (xs : List ℕ) → v ≡ Quads xs → ((ys : List ℕ) → w ≡ Quads ys → ⊥) → false ≡ test (tree_of v) (tree_of w)
+  quads_apart xs e n = seen_apart (quads xs) (ap tree_of e ∙ tree_of-Quads A xs) (not_quads w xs n)
+
+  pub both_octs : (xs ys : List ℕ) {s t : List ℕ} {r : Bool} → v ≡ Octs xs → w ≡ Octs ys → s ≡ xs → t ≡ ys
+      → r ≡ test (octs s) (octs t) → r ≡ test (tree_of v) (tree_of w)
+  both_octs xs ys e f g h tested =
+      seen (octs xs) (octs ys) (ap tree_of e ∙ tree_of-Octs A xs) (ap tree_of f ∙ tree_of-Octs B ys)
+      (tested ∙ ap₂ (λ x y. test (octs x) (octs y)) g h)
+
+  pub octs_apart : (xs : List ℕ) → v ≡ Octs xs → ((ys : List ℕ) → w ≡ Octs ys → ⊥) → false ≡ test (tree_of v) (tree_of w)
+  octs_apart xs e n = seen_apart (octs xs) (ap tree_of e ∙ tree_of-Octs A xs) (not_octs w xs n)
+
+  pub both_cap : (k j : ℕ) {r : Bool} → v ≡ Cap k → w ≡ Cap j → r ≡ test (cap k) (cap j)
+      → r ≡ test (tree_of v) (tree_of w)
+  both_cap k j e f = seen (cap k) (cap j) (ap tree_of e ∙ tree_of-Cap A k) (ap tree_of f ∙ tree_of-Cap B j)
+
+  pub cap_apart : (k : ℕ) → v ≡ Cap k → ((j : ℕ) → w ≡ Cap j → ⊥) → false ≡ test (tree_of v) (tree_of w)
+  cap_apart k e n = seen_apart (cap k) (ap tree_of e ∙ tree_of-Cap A k) (not_cap w k n)
 
 -- with what is seen of each kind of value
 pub ruleset apart =

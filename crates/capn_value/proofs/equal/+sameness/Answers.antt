@@ -1,10 +1,9 @@
 use Rattle.std.proofs.Common.{arith, refl, sym, ap₂, ◌∙◌}
-use Rattle.capn_value.specs.Views.{tree_of-Nil, tree_of-Node, tree_of-Voids, tree_of-Bits, tree_of-Bytes, tree_of-Pairs}
-use Rattle.capn_value.specs.Views.{tree_of-Quads, tree_of-Octs, tree_of-Links, tree_of-Rows, tree_of-Cap}
 use Rattle.capn_value.specs.Views.{count-trees_of, count_rows-rows_of}
-use Rattle.capn_value.proofs.Apart.{not_nil, not_node, not_voids, not_bits, not_bytes, not_pairs, not_quads, not_octs}
-use Rattle.capn_value.proofs.Apart.{not_links, not_rows, not_cap, test_slots-past_shared, test_each-uneven}
-use Rattle.capn_value.proofs.Apart.{test_rows-uneven}
+use Rattle.capn_value.proofs.Apart.{both_nil, both_node, both_voids, both_bits, both_bytes, both_pairs, both_quads}
+use Rattle.capn_value.proofs.Apart.{both_octs, both_links, both_rows, both_cap, nil_apart, node_apart, voids_apart}
+use Rattle.capn_value.proofs.Apart.{bits_apart, bytes_apart, pairs_apart, quads_apart, octs_apart, links_apart}
+use Rattle.capn_value.proofs.Apart.{rows_apart, cap_apart, test_slots-past_shared, test_each-uneven, test_rows-uneven}
 use Rattle.capn_value.proofs.Pairwise.{ended, in_left, in_right, fails, holds, words_differ, words_agree, each_differs}
 use Rattle.capn_value.proofs.Pairwise.{each_agrees, each_tested, slots_differ, slots_agree, row_differs, row_agrees}
 use Rattle.capn_value.proofs.Pairwise.{rows_tested}
@@ -15,131 +14,87 @@ use Rattle.capn_value.proofs.Depths.{row_below}
 use Rattle.capn_value.proofs.equal.+sameness.Goals as goal
 
 pub test-returns-in-Nil-Nil : goal.test-returns-in-Nil-Nil
-test-returns-in-Nil-Nil g t c =
-    rw (c.in-Nil-Nil.is-0, c.in-Nil-Nil.is-1, tree_of-Nil g.row.A.Denot, tree_of-Nil g.row.B.Denot)
-    refl
+test-returns-in-Nil-Nil g t c = both_nil _ _ c.in-Nil-Nil.is-0 c.in-Nil-Nil.is-1
 
 pub test-returns-in-Node-Node : goal.test-returns-in-Node-Node
 test-returns-in-Node-Node g t c =
-    rw (c.in-Node-Node.is-0, c.in-Node-Node.is-1, tree_of-Node c.in-Node-Node.a, tree_of-Node c.in-Node-Node.b)
-    c.test_bodies.ensures
+    both_node _ _ _ _ c.in-Node-Node.is-0 c.in-Node-Node.is-1 c.test_bodies.ensures
 
 pub test-returns-in-Voids-Voids : goal.test-returns-in-Voids-Voids
 test-returns-in-Voids-Voids g t c =
-    rw (
-      c.in-Voids-Voids.is-0,
-      c.in-Voids-Voids.is-1,
-      tree_of-Voids _ c.in-Voids-Voids.m,
-      tree_of-Voids _ c.in-Voids-Voids.n,
-    )
-    refl
-
-pub test-returns-in-Bits-Bits : goal.test-returns-in-Bits-Bits
-test-returns-in-Bits-Bits g t c =
-    rw (
-      c.in-Bits-Bits.is-0,
-      c.in-Bits-Bits.is-1,
-      tree_of-Bits _ c.in-Bits-Bits.xs,
-      tree_of-Bits _ c.in-Bits-Bits.ys,
-    )
-    (rw (c.as_slice.ensures, c.as_slice-in-Bits-Bits.ensures) at c.eq.ensures)
-
-pub test-returns-in-Bytes-Bytes : goal.test-returns-in-Bytes-Bytes
-test-returns-in-Bytes-Bytes g t c =
-    rw (
-      c.in-Bytes-Bytes.is-0,
-      c.in-Bytes-Bytes.is-1,
-      tree_of-Bytes _ c.in-Bytes-Bytes.xs,
-      tree_of-Bytes _ c.in-Bytes-Bytes.ys,
-    )
-    (rw (c.as_slice-in-Bytes-Bytes.ensures, c.as_slice-in-Bytes-Bytes-2.ensures) at c.eq-in-Bytes-Bytes.ensures)
-
-pub test-returns-in-Pairs-Pairs : goal.test-returns-in-Pairs-Pairs
-test-returns-in-Pairs-Pairs g t c =
-    rw (
-      c.in-Pairs-Pairs.is-0,
-      c.in-Pairs-Pairs.is-1,
-      tree_of-Pairs _ c.in-Pairs-Pairs.xs,
-      tree_of-Pairs _ c.in-Pairs-Pairs.ys,
-    )
-    (rw (c.as_slice-in-Pairs-Pairs.ensures, c.as_slice-in-Pairs-Pairs-2.ensures) at c.eq-in-Pairs-Pairs.ensures)
-
-pub test-returns-in-Quads-Quads : goal.test-returns-in-Quads-Quads
-test-returns-in-Quads-Quads g t c =
-    rw (
-      c.in-Quads-Quads.is-0,
-      c.in-Quads-Quads.is-1,
-      tree_of-Quads _ c.in-Quads-Quads.xs,
-      tree_of-Quads _ c.in-Quads-Quads.ys,
-    )
-    (rw (c.as_slice-in-Quads-Quads.ensures, c.as_slice-in-Quads-Quads-2.ensures) at c.eq-in-Quads-Quads.ensures)
-
-pub test-returns-in-Octs-Octs : goal.test-returns-in-Octs-Octs
-test-returns-in-Octs-Octs g t c =
-    rw (
-      c.in-Octs-Octs.is-0,
-      c.in-Octs-Octs.is-1,
-      tree_of-Octs _ c.in-Octs-Octs.xs,
-      tree_of-Octs _ c.in-Octs-Octs.ys,
-    )
-    (rw (c.as_slice-in-Octs-Octs.ensures, c.as_slice-in-Octs-Octs-2.ensures) at c.eq-in-Octs-Octs.ensures)
-
-pub test-returns-in-Links-Links : goal.test-returns-in-Links-Links
-test-returns-in-Links-Links g t c =
-    rw (
-      c.in-Links-Links.is-0,
-      c.in-Links-Links.is-1,
-      tree_of-Links c.in-Links-Links.xs,
-      tree_of-Links c.in-Links-Links.ys,
-    )
-    (c.test_each.ensures
-    ∙ ap₂ (λ xs ys. test_each (trees_of xs) (trees_of ys)) c.as_slice-in-Links-Links.ensures
-    c.as_slice-in-Links-Links-2.ensures)
-
-pub test-returns-in-Rows-Rows : goal.test-returns-in-Rows-Rows
-test-returns-in-Rows-Rows g t c =
-    rw (c.in-Rows-Rows.is-0, c.in-Rows-Rows.is-1, tree_of-Rows c.in-Rows-Rows.xs, tree_of-Rows c.in-Rows-Rows.ys)
-    (c.test_rows.ensures
-    ∙ ap₂ (λ xs ys. test_rows (rows_of xs) (rows_of ys)) c.as_slice-in-Rows-Rows.ensures
-    c.as_slice-in-Rows-Rows-2.ensures)
+    both_voids _ _ c.in-Voids-Voids.m c.in-Voids-Voids.n c.in-Voids-Voids.is-0 c.in-Voids-Voids.is-1 refl
 
 pub test-returns-in-Cap-Cap : goal.test-returns-in-Cap-Cap
 test-returns-in-Cap-Cap g t c =
-    rw (c.in-Cap-Cap.is-0, c.in-Cap-Cap.is-1, tree_of-Cap _ c.in-Cap-Cap.j, tree_of-Cap _ c.in-Cap-Cap.k)
-    refl
+    both_cap _ _ c.in-Cap-Cap.j c.in-Cap-Cap.k c.in-Cap-Cap.is-0 c.in-Cap-Cap.is-1 refl
+
+pub test-returns-in-Bits-Bits : goal.test-returns-in-Bits-Bits
+test-returns-in-Bits-Bits g t c =
+    both_bits _ _ c.in-Bits-Bits.xs c.in-Bits-Bits.ys c.in-Bits-Bits.is-0 c.in-Bits-Bits.is-1 c.as_slice.ensures
+    c.as_slice-in-Bits-Bits.ensures c.eq.ensures
+
+pub test-returns-in-Bytes-Bytes : goal.test-returns-in-Bytes-Bytes
+test-returns-in-Bytes-Bytes g t c =
+    both_bytes _ _ c.in-Bytes-Bytes.xs c.in-Bytes-Bytes.ys c.in-Bytes-Bytes.is-0 c.in-Bytes-Bytes.is-1 c.as_slice-in-Bytes-Bytes.ensures
+    c.as_slice-in-Bytes-Bytes-2.ensures c.eq-in-Bytes-Bytes.ensures
+
+pub test-returns-in-Pairs-Pairs : goal.test-returns-in-Pairs-Pairs
+test-returns-in-Pairs-Pairs g t c =
+    both_pairs _ _ c.in-Pairs-Pairs.xs c.in-Pairs-Pairs.ys c.in-Pairs-Pairs.is-0 c.in-Pairs-Pairs.is-1 c.as_slice-in-Pairs-Pairs.ensures
+    c.as_slice-in-Pairs-Pairs-2.ensures c.eq-in-Pairs-Pairs.ensures
+
+pub test-returns-in-Quads-Quads : goal.test-returns-in-Quads-Quads
+test-returns-in-Quads-Quads g t c =
+    both_quads _ _ c.in-Quads-Quads.xs c.in-Quads-Quads.ys c.in-Quads-Quads.is-0 c.in-Quads-Quads.is-1 c.as_slice-in-Quads-Quads.ensures
+    c.as_slice-in-Quads-Quads-2.ensures c.eq-in-Quads-Quads.ensures
+
+pub test-returns-in-Octs-Octs : goal.test-returns-in-Octs-Octs
+test-returns-in-Octs-Octs g t c =
+    both_octs _ _ c.in-Octs-Octs.xs c.in-Octs-Octs.ys c.in-Octs-Octs.is-0 c.in-Octs-Octs.is-1 c.as_slice-in-Octs-Octs.ensures
+    c.as_slice-in-Octs-Octs-2.ensures c.eq-in-Octs-Octs.ensures
+
+pub test-returns-in-Links-Links : goal.test-returns-in-Links-Links
+test-returns-in-Links-Links g t c =
+    both_links _ _ c.in-Links-Links.xs _ c.in-Links-Links.ys _ c.in-Links-Links.is-0 c.in-Links-Links.is-1
+    c.as_slice-in-Links-Links.ensures c.as_slice-in-Links-Links-2.ensures c.test_each.ensures
+
+pub test-returns-in-Rows-Rows : goal.test-returns-in-Rows-Rows
+test-returns-in-Rows-Rows g t c =
+    both_rows _ _ c.in-Rows-Rows.xs _ c.in-Rows-Rows.ys _ c.in-Rows-Rows.is-0 c.in-Rows-Rows.is-1
+    c.as_slice-in-Rows-Rows.ensures c.as_slice-in-Rows-Rows-2.ensures c.test_rows.ensures
 
 pub test-returns-in_default : goal.test-returns-in_default
-test-returns-in_default g t c = rw (c.in_default.is-0, tree_of-Nil) (sym (not_nil _ c.in_default.not-Nil-1))
+test-returns-in_default g t c = nil_apart _ _ c.in_default.is-0 c.in_default.not-Nil-1
 
 pub test-returns-in_default-2 : goal.test-returns-in_default-2
-test-returns-in_default-2 g t c = rw (c.in_default.is-0, tree_of-Node) (sym (not_node _ _ _ c.in_default.not-Node-1))
+test-returns-in_default-2 g t c = node_apart _ _ _ c.in_default.is-0 c.in_default.not-Node-1
 
 pub test-returns-in_default-3 : goal.test-returns-in_default-3
-test-returns-in_default-3 g t c = rw (c.in_default.is-0, tree_of-Voids) (sym (not_voids _ _ c.in_default.not-Voids-1))
+test-returns-in_default-3 g t c = voids_apart _ _ _ c.in_default.is-0 c.in_default.not-Voids-1
 
 pub test-returns-in_default-4 : goal.test-returns-in_default-4
-test-returns-in_default-4 g t c = rw (c.in_default.is-0, tree_of-Bits) (sym (not_bits _ _ c.in_default.not-Bits-1))
+test-returns-in_default-4 g t c = bits_apart _ _ _ c.in_default.is-0 c.in_default.not-Bits-1
 
 pub test-returns-in_default-5 : goal.test-returns-in_default-5
-test-returns-in_default-5 g t c = rw (c.in_default.is-0, tree_of-Bytes) (sym (not_bytes _ _ c.in_default.not-Bytes-1))
+test-returns-in_default-5 g t c = bytes_apart _ _ _ c.in_default.is-0 c.in_default.not-Bytes-1
 
 pub test-returns-in_default-6 : goal.test-returns-in_default-6
-test-returns-in_default-6 g t c = rw (c.in_default.is-0, tree_of-Pairs) (sym (not_pairs _ _ c.in_default.not-Pairs-1))
+test-returns-in_default-6 g t c = pairs_apart _ _ _ c.in_default.is-0 c.in_default.not-Pairs-1
 
 pub test-returns-in_default-7 : goal.test-returns-in_default-7
-test-returns-in_default-7 g t c = rw (c.in_default.is-0, tree_of-Quads) (sym (not_quads _ _ c.in_default.not-Quads-1))
+test-returns-in_default-7 g t c = quads_apart _ _ _ c.in_default.is-0 c.in_default.not-Quads-1
 
 pub test-returns-in_default-8 : goal.test-returns-in_default-8
-test-returns-in_default-8 g t c = rw (c.in_default.is-0, tree_of-Octs) (sym (not_octs _ _ c.in_default.not-Octs-1))
+test-returns-in_default-8 g t c = octs_apart _ _ _ c.in_default.is-0 c.in_default.not-Octs-1
 
 pub test-returns-in_default-9 : goal.test-returns-in_default-9
-test-returns-in_default-9 g t c = rw (c.in_default.is-0, tree_of-Links) (sym (not_links _ _ c.in_default.not-Links-1))
+test-returns-in_default-9 g t c = links_apart _ _ _ c.in_default.is-0 c.in_default.not-Links-1
 
 pub test-returns-in_default-10 : goal.test-returns-in_default-10
-test-returns-in_default-10 g t c = rw (c.in_default.is-0, tree_of-Rows) (sym (not_rows _ _ c.in_default.not-Rows-1))
+test-returns-in_default-10 g t c = rows_apart _ _ _ c.in_default.is-0 c.in_default.not-Rows-1
 
 pub test-returns-in_default-11 : goal.test-returns-in_default-11
-test-returns-in_default-11 g t c = rw (c.in_default.is-0, tree_of-Cap) (sym (not_cap _ _ c.in_default.not-Cap-1))
+test-returns-in_default-11 g t c = cap_apart _ _ _ c.in_default.is-0 c.in_default.not-Cap-1
 
 pub test_slots-returns-then-are_null : goal.test_slots-returns-then-are_null
 test_slots-returns-then-are_null g t c =
@@ -251,3 +206,39 @@ test_slots-test-requires g t c κs within = (
       c.index-a-i.is),
   within,
 )
+
+pub test_each-bounds-a-i : goal.test_each-bounds-a-i
+test_each-bounds-a-i g t c = omega arith
+
+pub test_each-bounds-b-i : goal.test_each-bounds-b-i
+test_each-bounds-b-i g t c = omega arith
+
+pub test_rows-bounds-a-i : goal.test_rows-bounds-a-i
+test_rows-bounds-a-i g t c = omega arith
+
+pub test_rows-bounds-b-i : goal.test_rows-bounds-b-i
+test_rows-bounds-b-i g t c = omega arith
+
+pub test_slots-bounds-a-i : goal.test_slots-bounds-a-i
+test_slots-bounds-a-i g t c = in_left _ _ _ _ c.min-shared.ensures c.loop-i-test.true
+
+pub test_slots-bounds-b-i : goal.test_slots-bounds-b-i
+test_slots-bounds-b-i g t c = in_right _ _ _ _ c.min-shared.ensures c.loop-i-test.true
+
+pub test_slots-slice_bounds-are_null-count : goal.test_slots-slice_bounds-are_null-count
+test_slots-slice_bounds-are_null-count g t c = omega (arith, c.min-shared.ensures)
+
+pub test_slots-slice_bounds-are_null-start : goal.test_slots-slice_bounds-are_null-start
+test_slots-slice_bounds-are_null-start g t c = omega (arith, c.min-shared.ensures)
+
+pub test_slots-slice_bounds-are_null-end : goal.test_slots-slice_bounds-are_null-end
+test_slots-slice_bounds-are_null-end g t c = omega (arith, c.min-shared.ensures)
+
+pub test_slots-slice_bounds-are_null-count-then-are_null : goal.test_slots-slice_bounds-are_null-count-then-are_null
+test_slots-slice_bounds-are_null-count-then-are_null g t c = omega (arith, c.min-shared.ensures)
+
+pub test_slots-slice_bounds-are_null-start-then-are_null : goal.test_slots-slice_bounds-are_null-start-then-are_null
+test_slots-slice_bounds-are_null-start-then-are_null g t c = omega (arith, c.min-shared.ensures)
+
+pub test_slots-slice_bounds-are_null-end-then-are_null : goal.test_slots-slice_bounds-are_null-end-then-are_null
+test_slots-slice_bounds-are_null-end-then-are_null g t c = omega (arith, c.min-shared.ensures)
