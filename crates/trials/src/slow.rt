@@ -83,7 +83,13 @@ pub(crate) struct Ending {
 }
 
 /// How a run ended whose reader fails at one call and its writer at another (at 0: never).
-pub(crate) fn ended(alloc: Global, run_of: &Run, read: u64, write: u64, takes_nothing: bool) -> Ending {
+pub(crate) fn ended(
+    alloc: Global,
+    run_of: &Run,
+    read: u64,
+    write: u64,
+    takes_nothing: bool,
+) -> Ending {
     let mut reader = Watched::new(Slow {
         bytes: run_of.input,
         calls: 0,
