@@ -1,5 +1,6 @@
 -- A value of one kind is the same as no value of another.
-use Rattle.std.proofs.Common.{◌≡◌, ℕ, List, Bool, false, refl, sym, ap, ap₂, ◌∙◌, ◌≢◌, suc, true, ◌&&◌, arith, min, length}
+use Rattle.std.proofs.Common.{◌≡◌, ℕ, List, Bool, false, refl, sym, ap, ap₂, ◌∙◌, ◌≢◌, suc, true, ◌&&◌, arith, min}
+use Rattle.std.proofs.Common.{length}
 use Rattle.std.proofs.Common.{take, drop, ◌-◌, length-drop, inl, inr}
 use Rattle.std.proofs.lemmas.Grind.{common_steps}
 use Rattle.std.proofs.lemmas.Bool.{and_right, cases_lt}
@@ -166,7 +167,8 @@ module _ {A B : Type 0} (v : Value A) (w : Value B) where
   pub both_links : (xs s : List (Value A)) (ys t : List (Value B)) {r : Bool} → v ≡ Links xs → w ≡ Links ys → s ≡ xs
       → t ≡ ys → r ≡ test_each (trees_of s) (trees_of t) → r ≡ test (tree_of v) (tree_of w)
   both_links xs s ys t e f g h tested =
-      seen (links (trees_of xs)) (links (trees_of ys)) (ap tree_of e ∙ tree_of-Links xs) (ap tree_of f ∙ tree_of-Links ys)
+      seen (links (trees_of xs)) (links (trees_of ys)) (ap tree_of e ∙ tree_of-Links xs)
+      (ap tree_of f ∙ tree_of-Links ys)
       (tested ∙ ap₂ (λ us vs. test_each (trees_of us) (trees_of vs)) g h)
 
   pub both_rows : (xs s : List (Body A)) (ys t : List (Body B)) {r : Bool} → v ≡ Rows xs → w ≡ Rows ys → s ≡ xs
@@ -180,7 +182,8 @@ module _ {A B : Type 0} (v : Value A) (w : Value B) where
 
   pub node_apart : (a : Body A) → v ≡ Node a → ((b : Body B) → w ≡ Node b → ⊥) → false ≡ test (tree_of v) (tree_of w)
   node_apart a e n =
-      seen_apart (node a.words (trees_of a.slots)) (ap tree_of e ∙ tree_of-Node a) (not_node w a.words (trees_of a.slots) n)
+      seen_apart (node a.words (trees_of a.slots)) (ap tree_of e ∙ tree_of-Node a)
+      (not_node w a.words (trees_of a.slots) n)
 
   pub links_apart : (xs : List (Value A)) → v ≡ Links xs → ((ys : List (Value B)) → w ≡ Links ys → ⊥)
       → false ≡ test (tree_of v) (tree_of w)
@@ -204,7 +207,8 @@ module _ {A B : Type 0} (v : Value A) (w : Value B) where
       seen (bits xs) (bits ys) (ap tree_of e ∙ tree_of-Bits A xs) (ap tree_of f ∙ tree_of-Bits B ys)
       (tested ∙ ap₂ (λ x y. test (bits x) (bits y)) g h)
 
-  pub bits_apart : (xs : List Bool) → v ≡ Bits xs → ((ys : List Bool) → w ≡ Bits ys → ⊥) → false ≡ test (tree_of v) (tree_of w)
+  pub bits_apart : (xs : List Bool) → v ≡ Bits xs → ((ys : List Bool) → w ≡ Bits ys → ⊥)
+      → false ≡ test (tree_of v) (tree_of w)
   bits_apart xs e n = seen_apart (bits xs) (ap tree_of e ∙ tree_of-Bits A xs) (not_bits w xs n)
 
   pub both_bytes : (xs ys : List ℕ) {s t : List ℕ} {r : Bool} → v ≡ Bytes xs → w ≡ Bytes ys → s ≡ xs → t ≡ ys
@@ -213,7 +217,8 @@ module _ {A B : Type 0} (v : Value A) (w : Value B) where
       seen (bytes xs) (bytes ys) (ap tree_of e ∙ tree_of-Bytes A xs) (ap tree_of f ∙ tree_of-Bytes B ys)
       (tested ∙ ap₂ (λ x y. test (bytes x) (bytes y)) g h)
 
-  pub bytes_apart : (xs : List ℕ) → v ≡ Bytes xs → ((ys : List ℕ) → w ≡ Bytes ys → ⊥) → false ≡ test (tree_of v) (tree_of w)
+  pub bytes_apart : (xs : List ℕ) → v ≡ Bytes xs → ((ys : List ℕ) → w ≡ Bytes ys → ⊥)
+      → false ≡ test (tree_of v) (tree_of w)
   bytes_apart xs e n = seen_apart (bytes xs) (ap tree_of e ∙ tree_of-Bytes A xs) (not_bytes w xs n)
 
   pub both_pairs : (xs ys : List ℕ) {s t : List ℕ} {r : Bool} → v ≡ Pairs xs → w ≡ Pairs ys → s ≡ xs → t ≡ ys
@@ -222,7 +227,8 @@ module _ {A B : Type 0} (v : Value A) (w : Value B) where
       seen (pairs xs) (pairs ys) (ap tree_of e ∙ tree_of-Pairs A xs) (ap tree_of f ∙ tree_of-Pairs B ys)
       (tested ∙ ap₂ (λ x y. test (pairs x) (pairs y)) g h)
 
-  pub pairs_apart : (xs : List ℕ) → v ≡ Pairs xs → ((ys : List ℕ) → w ≡ Pairs ys → ⊥) → false ≡ test (tree_of v) (tree_of w)
+  pub pairs_apart : (xs : List ℕ) → v ≡ Pairs xs → ((ys : List ℕ) → w ≡ Pairs ys → ⊥)
+      → false ≡ test (tree_of v) (tree_of w)
   pairs_apart xs e n = seen_apart (pairs xs) (ap tree_of e ∙ tree_of-Pairs A xs) (not_pairs w xs n)
 
   pub both_quads : (xs ys : List ℕ) {s t : List ℕ} {r : Bool} → v ≡ Quads xs → w ≡ Quads ys → s ≡ xs → t ≡ ys
@@ -231,7 +237,8 @@ module _ {A B : Type 0} (v : Value A) (w : Value B) where
       seen (quads xs) (quads ys) (ap tree_of e ∙ tree_of-Quads A xs) (ap tree_of f ∙ tree_of-Quads B ys)
       (tested ∙ ap₂ (λ x y. test (quads x) (quads y)) g h)
 
-  pub quads_apart : (xs : List ℕ) → v ≡ Quads xs → ((ys : List ℕ) → w ≡ Quads ys → ⊥) → false ≡ test (tree_of v) (tree_of w)
+  pub quads_apart : (xs : List ℕ) → v ≡ Quads xs → ((ys : List ℕ) → w ≡ Quads ys → ⊥)
+      → false ≡ test (tree_of v) (tree_of w)
   quads_apart xs e n = seen_apart (quads xs) (ap tree_of e ∙ tree_of-Quads A xs) (not_quads w xs n)
 
   pub both_octs : (xs ys : List ℕ) {s t : List ℕ} {r : Bool} → v ≡ Octs xs → w ≡ Octs ys → s ≡ xs → t ≡ ys
@@ -240,7 +247,8 @@ module _ {A B : Type 0} (v : Value A) (w : Value B) where
       seen (octs xs) (octs ys) (ap tree_of e ∙ tree_of-Octs A xs) (ap tree_of f ∙ tree_of-Octs B ys)
       (tested ∙ ap₂ (λ x y. test (octs x) (octs y)) g h)
 
-  pub octs_apart : (xs : List ℕ) → v ≡ Octs xs → ((ys : List ℕ) → w ≡ Octs ys → ⊥) → false ≡ test (tree_of v) (tree_of w)
+  pub octs_apart : (xs : List ℕ) → v ≡ Octs xs → ((ys : List ℕ) → w ≡ Octs ys → ⊥)
+      → false ≡ test (tree_of v) (tree_of w)
   octs_apart xs e n = seen_apart (octs xs) (ap tree_of e ∙ tree_of-Octs A xs) (not_octs w xs n)
 
   pub both_cap : (k j : ℕ) {r : Bool} → v ≡ Cap k → w ≡ Cap j → r ≡ test (cap k) (cap j)

@@ -39,7 +39,8 @@ module _ {A : Type 0} where
   pub still_not : {X : Type 0} (kind : X → Value A) (v : Value A) → IsNot kind v → IsNot kind (value_of A (tree_of v))
   still_not kind v n x e = n x (sym (value_of-tree_of A v) ∙ e)
 
-  capless : (t : Tree) → IsNot {A = A} Cap (value_of A t) → IsNot {A = A} Node (value_of A t) → IsNot {A = A} Links (value_of A t)
+  capless : (t : Tree) → IsNot {A = A} Cap (value_of A t) → IsNot {A = A} Node (value_of A t)
+      → IsNot {A = A} Links (value_of A t)
       → IsNot {A = A} Rows (value_of A t) → None ≡ first_cap t
   capless (cap k) n m l r = absurd (n _ refl)
   capless (node ws ss) n m l r = absurd (m _ refl)

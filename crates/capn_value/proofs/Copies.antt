@@ -1,6 +1,7 @@
 -- A value of a known kind, over another allocator: its tree is the same if its content is.
 use Rattle.std.proofs.Common.{◌≡◌, ℕ, ◌+◌, ◌<◌, List, [], ◌∷◌, ◌++◌, length, get_or, drop, Bool, sym, ap, ap₂, ◌∙◌}
-use Rattle.capn_value.specs.Tree.{Tree, Trees, tree, Bodies, body, joined, joined_rows, node, bits, bytes, pairs, quads, octs}
+use Rattle.capn_value.specs.Tree.{Tree, Trees, tree, Bodies, body, joined, joined_rows, node, bits, bytes, pairs}
+use Rattle.capn_value.specs.Tree.{quads, octs}
 use Rattle.capn_value.specs.Tree.{links, rows}
 use Rattle.capn_value.specs.View.{tree_of, trees_of, rows_of}
 use Rattle.capn_value.specs.Views.{tree_of-Nil, tree_of-Node, tree_of-Voids, tree_of-Bits, tree_of-Bytes, tree_of-Pairs}

@@ -1,4 +1,5 @@
-use Rattle.std.proofs.Common.{◌≡◌, ◌<◌, ◌≤◌, ◌-◌, ◌++◌, ℕ, List, [], Bool, false, Ok, length, take, drop, arith, sym, subst}
+use Rattle.std.proofs.Common.{◌≡◌, ◌<◌, ◌≤◌, ◌-◌, ◌++◌, ℕ, List, [], Bool, false, Ok, length, take, drop, arith, sym}
+use Rattle.std.proofs.Common.{subst}
 use Rattle.std.proofs.Common.{append-nil, length-drop, length-take}
 use Rattle.std.proofs.Math.Seq.{take_all}
 use Rattle.capn_walk.specs.Limits.{Bounds}
@@ -11,7 +12,8 @@ use Rattle.std.proofs.lemmas.Result.{err_from_is_err_and}
 use Rattle.capn_tool.proofs.HeardNext.{served_more, served_stop}
 use Rattle.capn_tool.proofs.hearing.serve_bytes.Goals as goal
 
-served_none : (piece : Piece) (limits : Bounds) (rest : List ℕ) (a : Outgoing) → Tells piece limits (rest ++ []) rest a a
+served_none : (piece : Piece) (limits : Bounds) (rest : List ℕ) (a : Outgoing)
+    → Tells piece limits (rest ++ []) rest a a
 served_none piece limits rest a =
     subst (λ (p : List ℕ). Tells piece limits p rest a a) (sym (append-nil rest)) (tells_none piece limits rest a)
 

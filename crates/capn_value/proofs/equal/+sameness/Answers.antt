@@ -35,22 +35,26 @@ test-returns-in-Bits-Bits g t c =
 
 pub test-returns-in-Bytes-Bytes : goal.test-returns-in-Bytes-Bytes
 test-returns-in-Bytes-Bytes g t c =
-    both_bytes _ _ c.in-Bytes-Bytes.xs c.in-Bytes-Bytes.ys c.in-Bytes-Bytes.is-0 c.in-Bytes-Bytes.is-1 c.as_slice-in-Bytes-Bytes.ensures
+    both_bytes _ _ c.in-Bytes-Bytes.xs c.in-Bytes-Bytes.ys c.in-Bytes-Bytes.is-0 c.in-Bytes-Bytes.is-1
+    c.as_slice-in-Bytes-Bytes.ensures
     c.as_slice-in-Bytes-Bytes-2.ensures c.eq-in-Bytes-Bytes.ensures
 
 pub test-returns-in-Pairs-Pairs : goal.test-returns-in-Pairs-Pairs
 test-returns-in-Pairs-Pairs g t c =
-    both_pairs _ _ c.in-Pairs-Pairs.xs c.in-Pairs-Pairs.ys c.in-Pairs-Pairs.is-0 c.in-Pairs-Pairs.is-1 c.as_slice-in-Pairs-Pairs.ensures
+    both_pairs _ _ c.in-Pairs-Pairs.xs c.in-Pairs-Pairs.ys c.in-Pairs-Pairs.is-0 c.in-Pairs-Pairs.is-1
+    c.as_slice-in-Pairs-Pairs.ensures
     c.as_slice-in-Pairs-Pairs-2.ensures c.eq-in-Pairs-Pairs.ensures
 
 pub test-returns-in-Quads-Quads : goal.test-returns-in-Quads-Quads
 test-returns-in-Quads-Quads g t c =
-    both_quads _ _ c.in-Quads-Quads.xs c.in-Quads-Quads.ys c.in-Quads-Quads.is-0 c.in-Quads-Quads.is-1 c.as_slice-in-Quads-Quads.ensures
+    both_quads _ _ c.in-Quads-Quads.xs c.in-Quads-Quads.ys c.in-Quads-Quads.is-0 c.in-Quads-Quads.is-1
+    c.as_slice-in-Quads-Quads.ensures
     c.as_slice-in-Quads-Quads-2.ensures c.eq-in-Quads-Quads.ensures
 
 pub test-returns-in-Octs-Octs : goal.test-returns-in-Octs-Octs
 test-returns-in-Octs-Octs g t c =
-    both_octs _ _ c.in-Octs-Octs.xs c.in-Octs-Octs.ys c.in-Octs-Octs.is-0 c.in-Octs-Octs.is-1 c.as_slice-in-Octs-Octs.ensures
+    both_octs _ _ c.in-Octs-Octs.xs c.in-Octs-Octs.ys c.in-Octs-Octs.is-0 c.in-Octs-Octs.is-1
+    c.as_slice-in-Octs-Octs.ensures
     c.as_slice-in-Octs-Octs-2.ensures c.eq-in-Octs-Octs.ensures
 
 pub test-returns-in-Links-Links : goal.test-returns-in-Links-Links

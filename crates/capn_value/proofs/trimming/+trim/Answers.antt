@@ -51,7 +51,8 @@ trimmed-returns-in_ok-trimmed_body-in-Node g t c =
     let made = c.in_ok-trimmed_body-in-Node in
     let body = c.in-Node.body in
     tree_of-Node made.field-0
-    ∙ ap₂ node (made.ensures.words ∙ ap (λ n. take n body.words) (c.kept_words-words.ensures ∙ ap kept_words c.as_slice.ensures))
+    ∙ ap₂ node
+    (made.ensures.words ∙ ap (λ n. take n body.words) (c.kept_words-words.ensures ∙ ap kept_words c.as_slice.ensures))
     (made.ensures.slots ∙ ap (λ n. front n (trimmed_each (trees_of body.slots)))
     (c.kept_slots-slots.ensures ∙ ap (λ vs. kept_slots (trees_of vs)) c.as_slice-in-Node.ensures))
     ∙ node_seen trimmed _ body c.in-Node.is
