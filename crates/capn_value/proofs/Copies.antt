@@ -13,8 +13,8 @@ use Rattle.capn_value.proofs.Anywhere.{drop-next, drop-past}
 use Rattle.capn_value.proofs.Cases.{IsNot, still_not}
 use Rattle.capn_value.specs.Code.{value_of}
 use Rattle.capn_value.specs.Trim.{trimmed}
-use Rattle.std.specs.Result.{IfOk}
-use Rattle.std.specs.declared.result.Result.{Result}
+use Rattle.std.specs.Result.{IfOk, IsOkAnd}
+use Rattle.std.specs.Prelude.{Result, Ok, Err}
 use Rattle.std.proofs.lemmas.Result.{IfOk-weaker}
 use Rattle.std.proofs.Common.{◌⊎◌, inl, inr, refl}
 use Rattle.capn_value.proofs.Joined.{joined-push, joined_rows-push, joined-none, joined_rows-none}
@@ -85,7 +85,7 @@ module _ {A : Type 0} where
 -- a loop that copies one element after another: one more, and all of them
 module _ {A B : Type 0} (out : List (Value A)) (items : List (Value B)) (i : ℕ) {all : Trees}
     (so_far : joined (trees_of out) (trees_of (drop i items)) ≡ all) where
-  pub each_copied : (v : Value B) (r : Value A) {more : List (Value A)} → i < length items → v ≡ get_or items i v
+  each_copied : (v : Value B) (r : Value A) {more : List (Value A)} → i < length items → v ≡ get_or items i v
       → tree_of r ≡ tree_of v →
       more ≡ out ++ r ∷ [] → joined (trees_of more) (trees_of (drop (i + 1) items)) ≡ all
   each_copied v r h at e p =
@@ -93,13 +93,20 @@ module _ {A B : Type 0} (out : List (Value A)) (items : List (Value B)) (i : ℕ
       ap (λ o. joined (trees_of o) rest) p ∙ joined-push out r rest ∙ ap (λ t. joined (trees_of out) (tree t rest)) e
       ∙ sym (ap (λ vs. joined (trees_of out) (trees_of vs)) (drop-next items i v h at)) ∙ so_far
 
+  -- the same, of what a call made
+  pub each_made : {E : Type 0} (v : Value B) (r : Result (Value A) E) (more : List (Value A)) → i < length items
+      → v ≡ get_or items i v → IfOk r (λ u. tree_of u ≡ tree_of v) → IsOkAnd r (λ u. more ≡ out ++ u ∷ [])
+      → joined (trees_of more) (trees_of (drop (i + 1) items)) ≡ all
+  each_made v (Ok u) more h at e p = each_copied v u h at e p
+  each_made v (Err d) more h at e p = absurd p
+
   pub all_copied : i ≡ length items → trees_of out ≡ all
   all_copied e = sym (joined-none (trees_of out))
       ∙ sym (ap (λ vs. joined (trees_of out) (trees_of vs)) (drop-past items i e)) ∙ so_far
 
 module _ {A B : Type 0} (out : List (Body A)) (rows : List (Body B)) (i : ℕ) {all : Bodies}
     (so_far : joined_rows (rows_of out) (rows_of (drop i rows)) ≡ all) where
-  pub row_copied : (b : Body B) (r : Body A) {more : List (Body A)} → i < length rows → b ≡ get_or rows i b
+  row_copied : (b : Body B) (r : Body A) {more : List (Body A)} → i < length rows → b ≡ get_or rows i b
       → r.words ≡ b.words →
       trees_of r.slots ≡ trees_of b.slots → more ≡ out ++ r ∷ []
       → joined_rows (rows_of more) (rows_of (drop (i + 1) rows)) ≡ all
@@ -108,6 +115,13 @@ module _ {A B : Type 0} (out : List (Body A)) (rows : List (Body B)) (i : ℕ) {
       ap (λ o. joined_rows (rows_of o) rest) p ∙ joined_rows-push out r rest
       ∙ ap₂ (λ ws ss. joined_rows (rows_of out) (body ws ss rest)) e f
       ∙ sym (ap (λ bs. joined_rows (rows_of out) (rows_of bs)) (drop-next rows i b h at)) ∙ so_far
+
+  -- the same, of what a call made
+  pub row_made : {E : Type 0} (b : Body B) (r : Result (Body A) E) (more : List (Body A)) → i < length rows
+      → b ≡ get_or rows i b → IfOk r (λ u. u.words ≡ b.words) → IfOk r (λ u. trees_of u.slots ≡ trees_of b.slots)
+      → IsOkAnd r (λ u. more ≡ out ++ u ∷ []) → joined_rows (rows_of more) (rows_of (drop (i + 1) rows)) ≡ all
+  row_made b (Ok u) more h at e f p = row_copied b u h at e f p
+  row_made b (Err d) more h at e f p = absurd p
 
   pub rows_copied : i ≡ length rows → rows_of out ≡ all
   rows_copied e = sym (joined_rows-none (rows_of out))

@@ -2,6 +2,8 @@
 use Rattle.std.proofs.Common.{◌≡◌, ℕ, zero, suc, ◌+◌, ◌<◌, List, [], ◌∷◌, ◌++◌, length, min, take, drop, refl, sym, ap}
 use Rattle.std.proofs.Common.{ap₂, ◌∙◌, arith, get_or, add-one}
 use Rattle.std.proofs.lemmas.List.{take_min, length-take-le}
+use Rattle.std.specs.Prelude.{Result, Ok, Err}
+use Rattle.std.specs.Result.{IfOk, IsOkAnd}
 use Rattle.capn_value.specs.Tree.{Trees, no_trees, tree, Bodies, body, joined, joined_rows, front, count, tree_at}
 use Rattle.capn_value.specs.View.{tree_of, trees_of, rows_of}
 use Rattle.capn_value.specs.Views.{count-trees_of}
@@ -65,7 +67,7 @@ module _ {A : Type 0} where
       ∙ front-min n (trimmed_each (trees_of vs))
 
 -- the next one, trimmed and put behind the others
-pub trimmed_front-push : {A B : Type 0} (out : List (Value A)) (items : List (Value B)) (i : ℕ) (v : Value B)
+trimmed_front-push : {A B : Type 0} (out : List (Value A)) (items : List (Value B)) (i : ℕ) (v : Value B)
     (r : Value A) →
     trees_of out ≡ front i (trimmed_each (trees_of items)) → i < length items → v ≡ get_or items i v
     → tree_of r ≡ trimmed (tree_of v) →
@@ -78,10 +80,18 @@ trimmed_front-push out items i v r so_far within here done =
     (trees_of-push out r ∙ ap₂ (λ ts t. joined ts (tree t no_trees)) so_far next
     ∙ sym (front-suc i all (omega (arith, count-trimmed_each (trees_of items), count-trees_of items))))
 
+-- the same, of what a call made
+pub front_made : {A B E : Type 0} (out : List (Value A)) (items : List (Value B)) (i : ℕ) (v : Value B)
+    (r : Result (Value A) E) (more : List (Value A)) → trees_of out ≡ front i (trimmed_each (trees_of items))
+    → i < length items → v ≡ get_or items i v → IfOk r (λ u. tree_of u ≡ trimmed (tree_of v))
+    → IsOkAnd r (λ u. more ≡ out ++ u ∷ []) → trees_of more ≡ front (i + 1) (trimmed_each (trees_of items))
+front_made out items i v (Ok u) more so_far h at e p = ap trees_of p ∙ trimmed_front-push out items i v u so_far h at e
+front_made out items i v (Err d) more so_far h at e p = absurd p
+
 -- the next row, cut and put behind the others, and all of them
 module _ {A B : Type 0} (out : List (Body A)) (rows : List (Body B)) (i w s : ℕ) {all : Bodies}
     (so_far : joined_rows (rows_of out) (trimmed_rows w s (rows_of (drop i rows))) ≡ all) where
-  pub row_trimmed : (b : Body B) (r : Body A) {more : List (Body A)} → i < length rows → b ≡ get_or rows i b
+  row_trimmed : (b : Body B) (r : Body A) {more : List (Body A)} → i < length rows → b ≡ get_or rows i b
       → r.words ≡ take w b.words →
       trees_of r.slots ≡ front s (trimmed_each (trees_of b.slots)) → more ≡ out ++ r ∷ [] →
       joined_rows (rows_of more) (trimmed_rows w s (rows_of (drop (i + 1) rows))) ≡ all
@@ -90,6 +100,15 @@ module _ {A B : Type 0} (out : List (Body A)) (rows : List (Body B)) (i w s : �
       ap (λ o. joined_rows (rows_of o) rest) p ∙ joined_rows-push out r rest
       ∙ ap₂ (λ ws ss. joined_rows (rows_of out) (body ws ss rest)) e f
       ∙ sym (ap (λ bs. joined_rows (rows_of out) (trimmed_rows w s (rows_of bs))) (drop-next rows i b h at)) ∙ so_far
+
+  -- the same, of what a call made
+  pub row_made : {E : Type 0} (b : Body B) (r : Result (Body A) E) (more : List (Body A)) → i < length rows
+      → b ≡ get_or rows i b → IfOk r (λ u. u.words ≡ take w b.words)
+      → IfOk r (λ u. trees_of u.slots ≡ front s (trimmed_each (trees_of b.slots)))
+      → IsOkAnd r (λ u. more ≡ out ++ u ∷ [])
+      → joined_rows (rows_of more) (trimmed_rows w s (rows_of (drop (i + 1) rows))) ≡ all
+  row_made b (Ok u) more h at e f p = row_trimmed b u h at e f p
+  row_made b (Err d) more h at e f p = absurd p
 
   pub rows_trimmed : i ≡ length rows → rows_of out ≡ all
   rows_trimmed e =

@@ -1,6 +1,6 @@
 //! Copying a value into memory of its own.
 
-ghost use Rattle.std.specs.Prelude.{◌≡◌, ◌≢◌, IfOk, OnErr, List};
+ghost use Rattle.std.specs.Prelude.{◌≡◌, ◌≢◌, [], ◌∷◌, ◌++◌, IfOk, OnOk, OnErr, IsOkAnd, List};
 ghost use Rattle.capn_value.specs.Tree.{nil};
 ghost use Rattle.capn_value.specs.View.{tree_of, trees_of, rows_of};
 ghost use Rattle.capn_value.specs.declared.value.Value.{Value, Node, Links, Rows};
@@ -19,6 +19,17 @@ fn copied<T: Copy, A: Allocator, B: Allocator>(
     ensures { IfOk result (λ it. it ≡ items.now) }
 {
     Items::from_slice(alloc, items.as_slice())
+}
+
+/// Puts what was made behind the others, if it was made.
+#[inline]
+pub fn push_made<T: Drop, A: Allocator>(
+    out: &mut Items<T, A>,
+    made: Result<T, AllocError>,
+) -> Result<(), AllocError>
+    ensures { OnOk result (IsOkAnd made (λ item. out.new ≡ out.old ++ item ∷ [])) }
+{
+    out.push(made?)
 }
 
 /// The same value, over another allocator. Null takes no memory.
@@ -96,7 +107,7 @@ fn copy_of_each<A: Allocator + Copy, B: Allocator>(
 {
     let mut out = Items::with_capacity(alloc, items.len())?;
     for v in items {
-        out.push(copy_of(alloc, v)?)?;
+        push_made(&mut out, copy_of(alloc, v))?;
     }
     Ok(out)
 }
@@ -110,7 +121,7 @@ fn copy_of_rows<A: Allocator + Copy, B: Allocator>(
 {
     let mut out = Items::with_capacity(alloc, rows.len())?;
     for row in rows {
-        out.push(copy_of_body(alloc, row)?)?;
+        push_made(&mut out, copy_of_body(alloc, row))?;
     }
     Ok(out)
 }

@@ -5,7 +5,7 @@ ghost use Rattle.capn_value.specs.View.{tree_of, trees_of, rows_of};
 ghost use Rattle.capn_value.specs.Tree.{nil, front};
 ghost use Rattle.capn_value.specs.Trim as cut;
 
-use crate::copying::copy_of_plain;
+use crate::copying::{copy_of_plain, push_made};
 use crate::equal::is_null;
 use crate::items::Items;
 use crate::value::{Body, Value};
@@ -132,7 +132,7 @@ fn trimmed_front<A: Allocator + Copy, B: Allocator>(
     let len = most.min(items.len());
     let mut out = Items::with_capacity(alloc, len)?;
     for i in 0..len {
-        out.push(trimmed(alloc, &items[i])?)?;
+        push_made(&mut out, trimmed(alloc, &items[i]))?;
     }
     Ok(out)
 }
@@ -149,7 +149,7 @@ fn trimmed_rows<A: Allocator + Copy, B: Allocator>(
 {
     let mut out = Items::with_capacity(alloc, rows.len())?;
     for row in rows {
-        out.push(trimmed_body(alloc, row, words, slots)?)?;
+        push_made(&mut out, trimmed_body(alloc, row, words, slots))?;
     }
     Ok(out)
 }

@@ -1,7 +1,7 @@
 use Rattle.std.proofs.Common.{arith, ap, ◌∙◌}
 use Rattle.capn_value.specs.Tree.{joined, joined_rows}
 use Rattle.capn_value.specs.View.{trees_of, rows_of}
-use Rattle.capn_value.proofs.Copies.{node_kept, links_kept, rows_kept, each_copied, all_copied, row_copied}
+use Rattle.capn_value.proofs.Copies.{node_kept, links_kept, rows_kept, each_made, all_copied, row_made}
 use Rattle.capn_value.proofs.Copies.{rows_copied}
 use Rattle.capn_value.proofs.Depths.{falls, falls_above, steps_down, in_body, in_links, in_rows, in_node, item_below}
 use Rattle.capn_value.proofs.Depths.{row_below}
@@ -37,8 +37,8 @@ copy_of_each-loop-v-init g t c = ap (λ o. joined (trees_of o) (trees_of c.args.
 
 pub copy_of_each-loop-v-preserved : goal.copy_of_each-loop-v-preserved
 copy_of_each-loop-v-preserved g t c =
-    each_copied c.loop-v.out c.args.items.now _ c.loop-v.invariant c.v-item.result c.in_ok-copy_of.field-0
-    (omega arith) c.v-item.is c.in_ok-copy_of.ensures c.in_ok-push.ensures.ok
+    each_made c.loop-v.out c.args.items.now _ c.loop-v.invariant c.v-item.result c.copy_of.result c.push_made.new.out
+    (omega arith) c.v-item.is c.copy_of.ensures c.in_ok-push_made.ensures
 
 pub copy_of_each-returns : goal.copy_of_each-returns
 copy_of_each-returns g t c = all_copied c.loop-v.out c.args.items.now _ c.loop-v.invariant (omega arith)
@@ -48,9 +48,9 @@ copy_of_rows-loop-row-init g t c = ap (λ o. joined_rows (rows_of o) (rows_of c.
 
 pub copy_of_rows-loop-row-preserved : goal.copy_of_rows-loop-row-preserved
 copy_of_rows-loop-row-preserved g t c =
-    row_copied c.loop-row.out c.args.rows.now _ c.loop-row.invariant c.row-item.result c.in_ok-copy_of_body.field-0
-    (omega arith) c.row-item.is c.in_ok-copy_of_body.ensures.words c.in_ok-copy_of_body.ensures.slots
-    c.in_ok-push.ensures.ok
+    row_made c.loop-row.out c.args.rows.now _ c.loop-row.invariant c.row-item.result c.copy_of_body.result
+    c.push_made.new.out (omega arith) c.row-item.is c.copy_of_body.ensures.words c.copy_of_body.ensures.slots
+    c.in_ok-push_made.ensures
 
 pub copy_of_rows-returns : goal.copy_of_rows-returns
 copy_of_rows-returns g t c = rows_copied c.loop-row.out c.args.rows.now _ c.loop-row.invariant (omega arith)

@@ -1,6 +1,9 @@
-use Rattle.std.proofs.Common.{arith, refl}
-use Rattle.capn_value.specs.Sizes.{dear}
-use Rattle.capn_value.specs.Views.{tree_of-Nil, tree_of-Cap}
+use Rattle.std.proofs.Common.{arith, min, subst, sym, ap, ◌∙◌}
+use Rattle.capn_value.specs.InRange.{InRange}
+use Rattle.capn_value.specs.Sizes.{cost, dear}
+use Rattle.capn_value.specs.View.{tree_of}
+use Rattle.capn_value.specs.Views.{tree_of-Nil}
+use Rattle.capn_value.proofs.Cases.{cap_seen}
 use Rattle.capn_value.proofs.Costs.{voids_cost, bits_cost, bytes_cost, pairs_cost, quads_cost, octs_cost, node_costs}
 use Rattle.capn_value.proofs.Costs.{links_cost, rows_cost, bytes_ranged, pairs_ranged, quads_ranged, octs_ranged}
 use Rattle.capn_value.proofs.Costs.{node_ranged, links_ranged, rows_ranged, still_capped, each_cost, all_cost, row_cost}
@@ -11,10 +14,14 @@ use Rattle.capn_value.proofs.Depths.{row_slots_below}
 use Rattle.capn_value.proofs.measure.+cost.Goals as goal
 
 pub capped_cost-returns-in-Nil-clause-value : goal.capped_cost-returns-in-Nil-clause-value
-capped_cost-returns-in-Nil-clause-value g t c = rw (c.in-Nil.is, tree_of-Nil) refl
+capped_cost-returns-in-Nil-clause-value g t c =
+    sym (ap (λ u. min (cost c.args.base u) dear) (ap tree_of c.in-Nil.is ∙ tree_of-Nil _))
+
+pub capped_cost-returns-in-Nil-clause-in_range : goal.capped_cost-returns-in-Nil-clause-in_range
+capped_cost-returns-in-Nil-clause-in_range g t c = subst InRange (sym (ap tree_of c.in-Nil.is ∙ tree_of-Nil _)) tt
 
 pub capped_cost-returns-in-Cap-clause-value : goal.capped_cost-returns-in-Cap-clause-value
-capped_cost-returns-in-Cap-clause-value g t c = rw (c.in-Cap.is, tree_of-Cap) refl
+capped_cost-returns-in-Cap-clause-value g t c = cap_seen (λ u. min (cost c.args.base u) dear) _ c.in-Cap.is
 
 pub capped_cost-returns-in-Voids-clause-value : goal.capped_cost-returns-in-Voids-clause-value
 capped_cost-returns-in-Voids-clause-value g t c = voids_cost _ dear _ c.in-Voids.is c.plus-in-Voids.ensures

@@ -5,7 +5,7 @@ use Rattle.capn_value.specs.Views.{tree_of-Links, tree_of-Node, tree_of-Rows}
 use Rattle.capn_value.specs.Trim.{trimmed, trimmed_each, trimmed_rows, kept_words, kept_slots}
 use Rattle.capn_value.proofs.Cases.{node_seen}
 use Rattle.capn_value.proofs.Copies.{plain_kept}
-use Rattle.capn_value.proofs.Fronts.{trimmed_front-length, trimmed_front-min, trimmed_front-push, row_trimmed}
+use Rattle.capn_value.proofs.Fronts.{trimmed_front-length, trimmed_front-min, front_made, row_made}
 use Rattle.capn_value.proofs.Fronts.{rows_trimmed, cut_length, cut_words}
 use Rattle.capn_value.proofs.Depths.{falls, falls_above, steps_down, in_body, in_links, in_rows, in_node, item_below}
 use Rattle.capn_value.proofs.Depths.{row_below}
@@ -35,10 +35,9 @@ trimmed-returns-in_ok-trimmed_front-in-Links g t c =
 
 pub trimmed_front-loop-i-preserved : goal.trimmed_front-loop-i-preserved
 trimmed_front-loop-i-preserved g t c =
-    ap trees_of c.in_ok-push.ensures.ok
-    ∙ trimmed_front-push c.loop-i.out c.args.items.now c.loop-i.i c.index-items-i.result c.in_ok-trimmed.field-0
-    c.loop-i.invariant
-    (omega (arith, c.min-len.ensures)) c.index-items-i.is c.in_ok-trimmed.ensures
+    front_made c.loop-i.out c.args.items.now c.loop-i.i c.index-items-i.result c.trimmed.result c.push_made.new.out
+    c.loop-i.invariant (omega (arith, c.min-len.ensures)) c.index-items-i.is c.trimmed.ensures
+    c.in_ok-push_made.ensures
 
 pub trimmed_front-returns : goal.trimmed_front-returns
 trimmed_front-returns g t c =
@@ -69,9 +68,9 @@ trimmed_rows-loop-row-init g t c =
 
 pub trimmed_rows-loop-row-preserved : goal.trimmed_rows-loop-row-preserved
 trimmed_rows-loop-row-preserved g t c =
-    row_trimmed c.loop-row.out c.args.rows.now _ c.args.words c.args.slots c.loop-row.invariant c.row-item.result
-    c.in_ok-trimmed_body.field-0 (omega arith) c.row-item.is c.in_ok-trimmed_body.ensures.words
-    c.in_ok-trimmed_body.ensures.slots c.in_ok-push.ensures.ok
+    row_made c.loop-row.out c.args.rows.now _ c.args.words c.args.slots c.loop-row.invariant c.row-item.result
+    c.trimmed_body.result c.push_made.new.out (omega arith) c.row-item.is c.trimmed_body.ensures.words
+    c.trimmed_body.ensures.slots c.in_ok-push_made.ensures
 
 pub trimmed_rows-returns : goal.trimmed_rows-returns
 trimmed_rows-returns g t c =
