@@ -13,6 +13,7 @@ pub mod Joined
 pub mod Kept
 pub mod Depths
 pub mod Digits
+pub mod Numbered
 pub mod OnceTrimmed
 pub mod Pairwise
 pub mod Shown
