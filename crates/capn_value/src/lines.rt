@@ -8,7 +8,6 @@ ghost use Rattle.hex.specs.Hex.{encode_lower};
 use std::alloc::{AllocError, Allocator};
 
 // Two spaces for each level.
-#[tactic(auto, using(std::proofs::lemmas::Grind::common_steps, crate::proofs::Digits::lines))]
 fn indent<A: Allocator>(out: &mut String<A>, level: u32) -> Result<(), AllocError>
     ensures { OnOk result (string_bytes out.new ≡ string_bytes out.old ++ replicate (2 * level) 32) }
 {
