@@ -55,26 +55,11 @@ loop-at-init g c = record {
   told = served_none c.args.piece c.args.limits c.args.framer.now.rest _;
 }
 
-pub slice_bounds-serve_some-count : goal.slice_bounds-serve_some-count
-slice_bounds-serve_some-count g c = omega arith
-
-pub slice_bounds-serve_some-start : goal.slice_bounds-serve_some-start
-slice_bounds-serve_some-start g c = omega arith
-
-pub slice_bounds-serve_some-end : goal.slice_bounds-serve_some-end
-slice_bounds-serve_some-end g c = omega arith
-
 pub serve_some-requires-clause-fine : goal.serve_some-requires-clause-fine
 serve_some-requires-clause-fine g c = c.loop-at.invariant.fine
 
 pub serve_some-requires-clause-listening : goal.serve_some-requires-clause-listening
 serve_some-requires-clause-listening g c = c.loop-at.invariant.listening
-
-pub overflow_add-at : goal.overflow_add-at
-overflow_add-at g c =
-    let next = c.in_ok-at.ensures in
-    let rest = length-take (length c.args.bytes.now - c.loop-at.at) (drop c.loop-at.at c.args.bytes.now) in
-    omega (arith, next.0, rest, length-drop c.loop-at.at c.args.bytes.now)
 
 pub loop-at-smaller : goal.loop-at-smaller
 loop-at-smaller g c =

@@ -1,13 +1,22 @@
-use Rattle.std.proofs.Common.{drop, length-take, ℕ, subst, ap, arith}
-use Rattle.std.proofs.lemmas.Grind.{common_steps}
+use Rattle.std.proofs.Common.{ℕ, List, Option, drop, length-take, ap, sym, subst, arith}
 use Rattle.std.proofs.lemmas.Result.{err_from_is_err_and}
 use Rattle.capn_words.specs.Watching.{inner_of}
-use Rattle.capn_stream.specs.Framing.{Framing}
-use Rattle.capn_tool.specs.HeardPacked.{EndsPacked}
+use Rattle.capn_walk.specs.Limits.{Bounds}
+use Rattle.capn_pack.specs.Stream.{Held}
+use Rattle.capn_stream.specs.Framing.{Framing, IsUnfinished}
+use Rattle.capn_tool.specs.HeardPacked.{EndsPacked, HearsPacked, IsUnpacking}
+use Rattle.capn_tool.specs.declared.plan.Piece.{Piece}
 use Rattle.capn_tool.proofs.PackedRun.{packed_begin, packed_end, packed_hears, packed_long, packed_stopped}
 use Rattle.capn_tool.proofs.PackedRun.{packed_unread}
 use Rattle.capn_tool.proofs.HeardNext.{new_listening}
+use Rattle.capn_tool.proofs.ReadMore.{has_broken, still_fine}
 use Rattle.capn_tool.proofs.unpacking.run_packed.Goals as goal
+
+-- an unpacker that has been heard so holds no whole group
+unpacking : (piece : Piece) (limits : Bounds) (a b : Option (List ℕ)) (taken : ℕ) (held : Held) (rest : List ℕ)
+    (c d : Option (List ℕ)) → HearsPacked piece limits a b taken held rest c d → IsUnpacking held
+unpacking piece limits a b taken held rest c d (bytes, read, count, told) =
+    record { held = told.4; group = told.2.open_rest; offset = omega (arith, told.3) }
 
 pub pieces-init : goal.pieces-init
 pieces-init g c = record {
@@ -25,7 +34,7 @@ pub returns-in-Err : goal.returns-in-Err
 returns-in-Err g c =
     let i = c.pieces.invariant in
     packed_unread c.args.piece c.args.limits _ _ _ _ _ c.pieces.taken c.pieces.unpacker c.pieces.framer.rest _ _
-    (grind (arith, common_steps)) i.within i.heard i.listening.part c.in-Err.ensures.bytes
+    (has_broken _ _ c.in-Err.ensures.failed) i.within i.heard i.listening.part c.in-Err.ensures.bytes
 
 pub returns-in-Ok-eq0 : goal.returns-in-Ok-eq0
 returns-in-Ok-eq0 g c =
@@ -35,7 +44,7 @@ returns-in-Ok-eq0 g c =
     (λ (m : ℕ). EndsPacked c.pieces.unpacker.rest c.pieces.unpacker.offset c.pieces.framer.rest m
     c.end_of_packed.result) i.listening.most c.end_of_packed.ensures in
     packed_end c.args.piece c.args.limits _ _ _ _ _ c.pieces.taken c.pieces.unpacker c.pieces.framer.rest c.read.new.buf
-    c.in-Ok-eq0.field-0 _ _ c.end_of_packed.result (grind (arith, common_steps)) i.writer i.within i.heard
+    c.in-Ok-eq0.field-0 _ _ c.end_of_packed.result (still_fine _ _ i.reader c.in-Ok-eq0.ensures.failed) i.writer i.within i.heard
     c.in-Ok-eq0.field-0-test
     c.in-Ok-eq0.ensures.bytes (omega arith) ends
 
@@ -49,7 +58,7 @@ returns-in_err-serve_packed-in-Ok g c =
     (packed_stopped c.args.piece c.args.limits _ _ _ _ _ _ c.pieces.taken c.pieces.unpacker c.pieces.framer.rest
     c.read.new.buf (drop c.min-room.result c.pieces.buffer) c.min-within.result c.in-Ok.count _ _
     c.in_err-serve_packed-in-Ok.field-0.0
-    (grind (arith, common_steps)) i.within c.min-within.ensures (omega arith) i.heard c.in-Ok.ensures.bytes.0 bound.0
+    (still_fine _ _ i.reader c.in-Ok.ensures.failed) i.within c.min-within.ensures (omega arith) i.heard c.in-Ok.ensures.bytes.0 bound.0
     c.in_err-serve_packed-in-Ok.ensures)
 
 pub returns-then-within-count : goal.returns-then-within-count
@@ -61,7 +70,7 @@ returns-then-within-count g c =
     packed_long c.args.piece c.args.limits _ _ _ _ _ _ c.pieces.taken c.pieces.unpacker c.serve_packed.new.unpacker
     c.pieces.framer.rest c.serve_packed.new.framer.rest c.read.new.buf (drop c.min-room.result c.pieces.buffer)
     c.min-within.result c.in-Ok.count _ _
-    (grind (arith, common_steps)) served.2 (omega arith) c.if-within-count.true (omega arith) i.heard
+    (still_fine _ _ i.reader c.in-Ok.ensures.failed) served.2 (omega arith) c.if-within-count.true (omega arith) i.heard
     c.in-Ok.ensures.bytes.0 bound.0 served.0 served.1.part
 
 pub pieces-preserved : goal.pieces-preserved
@@ -70,7 +79,7 @@ pieces-preserved g c =
     let bound = c.in-Ok.ensures.bound in
     let served = c.in_ok-serve_packed-in-Ok.ensures in
     record {
-      reader = grind (arith, common_steps);
+      reader = still_fine _ _ i.reader c.in-Ok.ensures.failed;
       writer = served.2;
       listening = served.1;
       within = omega arith;
@@ -79,3 +88,24 @@ pieces-preserved g c =
           (drop c.min-room.result c.pieces.buffer) c.min-within.result c.in-Ok.count (omega arith) i.heard
           c.in-Ok.ensures.bytes.0 bound.0 served.0;
     }
+
+pub serve_packed-requires-clause-fine : goal.serve_packed-requires-clause-fine
+serve_packed-requires-clause-fine g c = c.pieces.invariant.writer
+
+pub serve_packed-requires-clause-listening : goal.serve_packed-requires-clause-listening
+serve_packed-requires-clause-listening g c = c.pieces.invariant.listening
+
+pub serve_packed-requires-clause-unpacking : goal.serve_packed-requires-clause-unpacking
+serve_packed-requires-clause-unpacking g c =
+    unpacking c.args.piece c.args.limits _ _ _ c.pieces.unpacker _ _ _ c.pieces.invariant.heard
+
+pub end_of_packed-requires-clause-held : goal.end_of_packed-requires-clause-held
+end_of_packed-requires-clause-held g c = c.pieces.invariant.heard.3.4
+
+pub end_of_packed-requires-clause-good : goal.end_of_packed-requires-clause-good
+end_of_packed-requires-clause-good g c = c.pieces.invariant.listening.good
+
+pub end_of_packed-requires-clause-part : goal.end_of_packed-requires-clause-part
+end_of_packed-requires-clause-part g c =
+    let listening = c.pieces.invariant.listening in
+    subst (λ (m : ℕ). IsUnfinished c.pieces.framer.rest m) (sym listening.most) listening.part

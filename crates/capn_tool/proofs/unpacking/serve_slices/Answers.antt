@@ -56,18 +56,6 @@ loop-at-preserved g c =
           c.serve_slice.new.framer.rest _ next.0;
     }
 
-pub overflow_add-at : goal.overflow_add-at
-overflow_add-at g c = omega arith
-
-pub slice_bounds-serve_slice-count : goal.slice_bounds-serve_slice-count
-slice_bounds-serve_slice-count g c = omega arith
-
-pub slice_bounds-serve_slice-start : goal.slice_bounds-serve_slice-start
-slice_bounds-serve_slice-start g c = omega arith
-
-pub slice_bounds-serve_slice-end : goal.slice_bounds-serve_slice-end
-slice_bounds-serve_slice-end g c = omega arith
-
 pub serve_slice-requires-clause-fine : goal.serve_slice-requires-clause-fine
 serve_slice-requires-clause-fine g c = c.loop-at.invariant.fine
 
@@ -76,9 +64,6 @@ serve_slice-requires-clause-listening g c = c.loop-at.invariant.listening
 
 pub serve_slice-requires-clause-held : goal.serve_slice-requires-clause-held
 serve_slice-requires-clause-held g c = c.loop-at.invariant.held
-
-pub loop-at-smaller : goal.loop-at-smaller
-loop-at-smaller g c = omega arith
 
 pub returns : goal.returns
 returns g c =
