@@ -36,7 +36,8 @@ returns-in-Ok-eq0 g c =
     let ends = subst (λ (m : ℕ). EndsInput c.pieces.framer.rest m c.end_of_input.result) i.listening.most
     c.end_of_input.ensures in
     runs_end c.args.piece c.args.limits _ _ _ _ _ c.pieces.taken c.pieces.framer.rest c.read.new.buf c.in-Ok-eq0.field-0
-    _ _ c.end_of_input.result (still_fine _ _ i.reader c.in-Ok-eq0.ensures.failed) i.writer i.within i.heard c.in-Ok-eq0.field-0-test
+    _ _ c.end_of_input.result (still_fine _ _ i.reader c.in-Ok-eq0.ensures.failed) i.writer i.within i.heard
+    c.in-Ok-eq0.field-0-test
     c.in-Ok-eq0.ensures.bytes (omega arith) ends
 
 pub returns-in_err-serve_piece-in-Ok : goal.returns-in_err-serve_piece-in-Ok
@@ -49,7 +50,8 @@ returns-in_err-serve_piece-in-Ok g c =
     (runs_stopped c.args.piece c.args.limits _ _ _ _ _ _ c.pieces.taken c.pieces.framer.rest c.read.new.buf
     (drop c.min-room.result c.pieces.buffer) c.min-within.result c.in-Ok.count _ _
     c.in_err-serve_piece-in-Ok.field-0.0
-    (still_fine _ _ i.reader c.in-Ok.ensures.failed) i.within c.min-within.ensures (omega arith) i.heard c.in-Ok.ensures.bytes.0 bound.0
+    (still_fine _ _ i.reader c.in-Ok.ensures.failed) i.within c.min-within.ensures (omega arith) i.heard
+    c.in-Ok.ensures.bytes.0 bound.0
     c.in_err-serve_piece-in-Ok.ensures)
 
 pub returns-then-within-count : goal.returns-then-within-count

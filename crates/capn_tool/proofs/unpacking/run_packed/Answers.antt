@@ -44,7 +44,8 @@ returns-in-Ok-eq0 g c =
     (λ (m : ℕ). EndsPacked c.pieces.unpacker.rest c.pieces.unpacker.offset c.pieces.framer.rest m
     c.end_of_packed.result) i.listening.most c.end_of_packed.ensures in
     packed_end c.args.piece c.args.limits _ _ _ _ _ c.pieces.taken c.pieces.unpacker c.pieces.framer.rest c.read.new.buf
-    c.in-Ok-eq0.field-0 _ _ c.end_of_packed.result (still_fine _ _ i.reader c.in-Ok-eq0.ensures.failed) i.writer i.within i.heard
+    c.in-Ok-eq0.field-0 _ _ c.end_of_packed.result (still_fine _ _ i.reader c.in-Ok-eq0.ensures.failed) i.writer
+    i.within i.heard
     c.in-Ok-eq0.field-0-test
     c.in-Ok-eq0.ensures.bytes (omega arith) ends
 
@@ -58,7 +59,8 @@ returns-in_err-serve_packed-in-Ok g c =
     (packed_stopped c.args.piece c.args.limits _ _ _ _ _ _ c.pieces.taken c.pieces.unpacker c.pieces.framer.rest
     c.read.new.buf (drop c.min-room.result c.pieces.buffer) c.min-within.result c.in-Ok.count _ _
     c.in_err-serve_packed-in-Ok.field-0.0
-    (still_fine _ _ i.reader c.in-Ok.ensures.failed) i.within c.min-within.ensures (omega arith) i.heard c.in-Ok.ensures.bytes.0 bound.0
+    (still_fine _ _ i.reader c.in-Ok.ensures.failed) i.within c.min-within.ensures (omega arith) i.heard
+    c.in-Ok.ensures.bytes.0 bound.0
     c.in_err-serve_packed-in-Ok.ensures)
 
 pub returns-then-within-count : goal.returns-then-within-count
