@@ -138,6 +138,7 @@ fn value_error(alloc: Global, text: &str) -> Result<clap::Error, AllocError>
     match tool_command(alloc) {
         Ok(mut tool) => {
             let error = tool.error(ErrorKind::InvalidValue, text);
+            // One call is cheaper to check than fields that are dropped one by one.
             drop(tool);
             error
         }

@@ -40,6 +40,7 @@ fn text_of<S: Space, A: Allocator + Copy>(
 {
     let walked = walk(alloc, space, limits)?;
     let text = ended_text(alloc, &walked.tree);
+    // One call is cheaper to check than fields that are dropped one by one.
     drop(walked);
     text
 }

@@ -21,13 +21,14 @@ fn copied<T: Copy, A: Allocator, B: Allocator>(
     Items::from_slice(alloc, items.as_slice())
 }
 
-/// Puts what was made behind the others, if it was made.
+/// Puts what was made behind the others, if it was made. After a refusal the list is as it was.
 #[inline]
 pub fn push_made<T: Drop, A: Allocator>(
     out: &mut Items<T, A>,
     made: Result<T, AllocError>,
 ) -> Result<(), AllocError>
-    ensures { OnOk result (IsOkAnd made (λ item. out.new ≡ out.old ++ item ∷ [])) }
+    ensures ok { OnOk result (IsOkAnd made (λ item. out.new ≡ out.old ++ item ∷ [])) }
+    ensures err { OnErr result (out.new ≡ out.old) }
 {
     out.push(made?)
 }

@@ -38,7 +38,7 @@ copy_of_each-loop-v-init g t c = ap (λ o. joined (trees_of o) (trees_of c.args.
 pub copy_of_each-loop-v-preserved : goal.copy_of_each-loop-v-preserved
 copy_of_each-loop-v-preserved g t c =
     each_made c.loop-v.out c.args.items.now _ c.loop-v.invariant c.v-item.result c.copy_of.result c.push_made.new.out
-    (omega arith) c.v-item.is c.copy_of.ensures c.in_ok-push_made.ensures
+    (omega arith) c.v-item.is c.copy_of.ensures c.in_ok-push_made.ensures.ok
 
 pub copy_of_each-returns : goal.copy_of_each-returns
 copy_of_each-returns g t c = all_copied c.loop-v.out c.args.items.now _ c.loop-v.invariant (omega arith)
@@ -50,7 +50,7 @@ pub copy_of_rows-loop-row-preserved : goal.copy_of_rows-loop-row-preserved
 copy_of_rows-loop-row-preserved g t c =
     row_made c.loop-row.out c.args.rows.now _ c.loop-row.invariant c.row-item.result c.copy_of_body.result
     c.push_made.new.out (omega arith) c.row-item.is c.copy_of_body.ensures.words c.copy_of_body.ensures.slots
-    c.in_ok-push_made.ensures
+    c.in_ok-push_made.ensures.ok
 
 pub copy_of_rows-returns : goal.copy_of_rows-returns
 copy_of_rows-returns g t c = rows_copied c.loop-row.out c.args.rows.now _ c.loop-row.invariant (omega arith)

@@ -37,7 +37,7 @@ pub trimmed_front-loop-i-preserved : goal.trimmed_front-loop-i-preserved
 trimmed_front-loop-i-preserved g t c =
     front_made c.loop-i.out c.args.items.now c.loop-i.i c.index-items-i.result c.trimmed.result c.push_made.new.out
     c.loop-i.invariant (omega (arith, c.min-len.ensures)) c.index-items-i.is c.trimmed.ensures
-    c.in_ok-push_made.ensures
+    c.in_ok-push_made.ensures.ok
 
 pub trimmed_front-returns : goal.trimmed_front-returns
 trimmed_front-returns g t c =
@@ -70,7 +70,7 @@ pub trimmed_rows-loop-row-preserved : goal.trimmed_rows-loop-row-preserved
 trimmed_rows-loop-row-preserved g t c =
     row_made c.loop-row.out c.args.rows.now _ c.args.words c.args.slots c.loop-row.invariant c.row-item.result
     c.trimmed_body.result c.push_made.new.out (omega arith) c.row-item.is c.trimmed_body.ensures.words
-    c.trimmed_body.ensures.slots c.in_ok-push_made.ensures
+    c.trimmed_body.ensures.slots c.in_ok-push_made.ensures.ok
 
 pub trimmed_rows-returns : goal.trimmed_rows-returns
 trimmed_rows-returns g t c =
