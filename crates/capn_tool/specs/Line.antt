@@ -1,5 +1,5 @@
 -- The command line: each subcommand with its options, their ranges and their usual values. (Own.)
-use Rattle.std.specs.Prelude.{◌≡◌, ℕ, pos, Some, codes, [], ◌∷◌, true, false}
+use Rattle.std.specs.Prelude.{◌≡◌, ℤ, pos, Some, codes, [], ◌∷◌, true, false}
 use Rattle.capn_words.specs.Limits.{most_message_words}
 use Rattle.capn_value.specs.Sizes.{most_cost, most_height}
 use Rattle.clap.specs.Words.{App, Rule, Text, app_of, new_app, new_rule, with_rule, with_subcommand}
@@ -12,21 +12,20 @@ abbrev pub usual_rule : Text → Text → Rule
 usual_rule name usual = record (new_rule name) { long = Some name; value_names = 1; defaults = usual ∷ [] }
 
 -- such an option that takes a number from the least to the most
-abbrev pub number_rule : Text → Text → ℕ → ℕ → Rule
-number_rule name usual least most =
-    record (usual_rule name usual) { parser = Some (vp.Signed (pos least) (pos most)) }
+abbrev pub number_rule : Text → Text → ℤ → ℤ → Rule
+number_rule name usual least most = record (usual_rule name usual) { parser = Some (vp.Signed least most) }
 
 -- the words of a message
 abbrev pub words_rule : Rule
-words_rule = number_rule (codes "message-words") (codes "8388608") 1 most_message_words
+words_rule = number_rule (codes "message-words") (codes "8388608") (pos 1) (pos most_message_words)
 
 -- the words of the budget
 abbrev pub budget_rule : Rule
-budget_rule = number_rule (codes "budget") (codes "8388608") 0 most_cost
+budget_rule = number_rule (codes "budget") (codes "8388608") (pos 0) (pos most_cost)
 
 -- the depth
 abbrev pub depth_rule : Rule
-depth_rule = number_rule (codes "depth") (codes "64") 1 most_height
+depth_rule = number_rule (codes "depth") (codes "64") (pos 1) (pos most_height)
 
 -- the form of the input, a stream where none is given
 abbrev pub form_rule : Rule

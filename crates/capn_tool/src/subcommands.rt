@@ -3,13 +3,15 @@
 ghost use Rattle.std.specs.Prelude.{◌≡◌, IfOk, false};
 ghost use Rattle.clap.specs.Words.{App, app_of, rule_of, new_app, with_subcommand};
 ghost use Rattle.clap.specs.declared.builder.command.Command.TheViews.{out-Command};
-ghost use Rattle.capn_tool.specs.Line.{HasLine, usual_rule, words_rule, budget_rule, depth_rule};
+ghost use Rattle.capn_tool.specs.Line.{HasLine, usual_rule, number_rule, words_rule, budget_rule};
+ghost use Rattle.capn_tool.specs.Line.{depth_rule};
 ghost use Rattle.capn_tool.specs.Line.{message_line, unpack_line, reading_line, messages_line};
 ghost use Rattle.capn_tool.specs.Line.{tool_line};
 
 use crate::help::{self, Page};
 use capn_value::{MOST_COST, MOST_HEIGHT};
 use capn_words::MOST_MESSAGE_WORDS;
+use clap::builder::ValueParser;
 use clap::{Arg, Command};
 use std::alloc::{AllocError, Global};
 
@@ -32,13 +34,28 @@ fn usual_option<'a>(
         .default_value(usual)
 }
 
-/// `--message-words`.
+/// An option of this name that takes a number from the least to the most, with its usual value.
+fn number_option<'a>(
+    alloc: Global,
+    name: &'a str,
+    text: &'a str,
+    usual: &'a str,
+    least: i64,
+    most: i64,
+) -> Arg<'a>
+    ensures rule { rule_of result ≡ number_rule name.now usual.now least most }
+    ensures local { result.global ≡ false }
+{
+    usual_option(alloc, name, "N", text, usual).value_parser(ValueParser::signed(least, most))
+}
+
+/// `--message-words`, of which help says this.
 fn words_option<'a>(alloc: Global, text: &'a str) -> Arg<'a>
     ensures rule { rule_of result ≡ words_rule }
     ensures local { result.global ≡ false }
 {
-    let numbers = clap::value_parser!(u32).range(1..=MOST_MESSAGE_WORDS as i64);
-    usual_option(alloc, "message-words", "N", text, "8388608").value_parser(numbers)
+    let most = MOST_MESSAGE_WORDS as i64;
+    number_option(alloc, "message-words", text, "8388608", 1, most)
 }
 
 /// `--budget`.
@@ -46,8 +63,14 @@ fn budget_option<'a>(alloc: Global) -> Arg<'a>
     ensures rule { rule_of result ≡ budget_rule }
     ensures local { result.global ≡ false }
 {
-    let numbers = clap::value_parser!(u32).range(0..=MOST_COST as i64);
-    usual_option(alloc, "budget", "N", help::BUDGET, "8388608").value_parser(numbers)
+    number_option(
+        alloc,
+        "budget",
+        help::BUDGET,
+        "8388608",
+        0,
+        MOST_COST as i64,
+    )
 }
 
 /// `--depth`.
@@ -55,8 +78,7 @@ fn depth_option<'a>(alloc: Global) -> Arg<'a>
     ensures rule { rule_of result ≡ depth_rule }
     ensures local { result.global ≡ false }
 {
-    let numbers = clap::value_parser!(u32).range(1..=MOST_HEIGHT as i64);
-    usual_option(alloc, "depth", "N", help::DEPTH, "64").value_parser(numbers)
+    number_option(alloc, "depth", help::DEPTH, "64", 1, MOST_HEIGHT as i64)
 }
 
 /// A command of this name without options, with its page of help.
