@@ -31,7 +31,8 @@ pub returns-in_err-at : goal.returns-in_err-at
 returns-in_err-at g c =
     let p = err_from_is_err_and c.from_residual.result c.from_residual.ensures.1 in
     rw (p.1, p.2)
-    (served_stop c.args.piece c.args.limits c.args.framer.now c.loop-at.framer c.args.bytes.now c.loop-at.at _ _ _
+    (served_stop c.args.service.piece c.args.service.limits c.args.framer.now c.loop-at.framer c.args.bytes.now
+    c.loop-at.at _ _ _
     c.loop-at.invariant.told _ c.in_err-at.field-0.0 c.in_err-at.ensures)
 
 pub loop-at-preserved : goal.loop-at-preserved
@@ -43,7 +44,8 @@ loop-at-preserved g c =
       fine = next.2.2;
       listening = next.2.1;
       within = omega (arith, next.0, rest, i.within, length-drop c.loop-at.at c.args.bytes.now);
-      told = served_more c.args.piece c.args.limits c.args.framer.now c.loop-at.framer c.args.bytes.now c.loop-at.at _ _
+      told = served_more c.args.service.piece c.args.service.limits c.args.framer.now c.loop-at.framer c.args.bytes.now
+          c.loop-at.at _ _
           _ i.told c.in_ok-at.field-0 c.serve_some.new.framer.rest next.2.0;
     }
 
@@ -52,7 +54,7 @@ loop-at-init g c = record {
   fine = c.requires.fine;
   listening = c.requires.listening;
   within = omega arith;
-  told = served_none c.args.piece c.args.limits c.args.framer.now.rest _;
+  told = served_none c.args.service.piece c.args.service.limits c.args.framer.now.rest _;
 }
 
 pub serve_some-requires-clause-fine : goal.serve_some-requires-clause-fine
@@ -72,5 +74,6 @@ loop-at-smaller g c =
 pub returns : goal.returns
 returns g c =
     let i = c.loop-at.invariant in
-    served_all c.args.piece c.args.limits c.args.framer.now c.loop-at.framer c.args.bytes.now c.loop-at.at _ _ _
+    served_all c.args.service.piece c.args.service.limits c.args.framer.now c.loop-at.framer c.args.bytes.now
+    c.loop-at.at _ _ _
     c.loop-at-test.false i.told i.listening i.fine

@@ -10,7 +10,8 @@ returns-in_err-more g c =
     let none = some_none c.in_ok-taken.taken (length c.args.bytes.now) c.serve_next.new.framer.rest s.whole
     (λ h. omega (arith, h, c.if-taken-bytes.false)) in
     rw (p.1, p.2)
-    (some_stop c.args.piece c.args.limits c.args.framer.now c.serve_next.new.framer c.args.bytes.now c.in_ok-taken.taken
+    (some_stop c.args.service.piece c.args.service.limits c.args.framer.now c.serve_next.new.framer c.args.bytes.now
+    c.in_ok-taken.taken
     _ _ _ s.serves.2.0 none _ c.in_err-more.field-0.0 c.in_err-more.ensures)
 
 pub returns : goal.returns
@@ -24,7 +25,8 @@ returns g c =
       omega (arith, m.0, rest, s.serves.0, length-drop n c.args.bytes.now),
       λ h. omega (arith, s.serves.1 h),
       (
-        some_more c.args.piece c.args.limits c.args.framer.now c.serve_next.new.framer c.args.bytes.now n _ _ _
+        some_more c.args.service.piece c.args.service.limits c.args.framer.now c.serve_next.new.framer c.args.bytes.now
+            n _ _ _
             s.serves.2.0 none c.in_ok-more.more m.1,
         s.serves.2.1,
         m.2,

@@ -28,7 +28,8 @@ loop-at-init g c = record {
   held = c.requires.unpacking.held;
   listening = c.requires.listening;
   within = omega arith;
-  told = packed_none c.args.piece c.args.limits c.args.unpacker.now c.args.framer.now.rest _ c.requires.unpacking;
+  told = packed_none c.args.service.piece c.args.service.limits c.args.unpacker.now c.args.framer.now.rest _
+      c.requires.unpacking;
 }
 
 pub returns-in_err-serve_slice : goal.returns-in_err-serve_slice
@@ -36,7 +37,8 @@ returns-in_err-serve_slice g c =
     let i = c.loop-at.invariant in
     let p = err_from_is_err_and c.from_residual.result c.from_residual.ensures.1 in
     rw (p.1, p.2)
-    (slice_stop c.args.piece c.args.limits c.args.unpacker.now c.args.framer.now.rest c.args.bytes.now c.loop-at.at
+    (slice_stop c.args.service.piece c.args.service.limits c.args.unpacker.now c.args.framer.now.rest c.args.bytes.now
+    c.loop-at.at
     c.min-end.result (omega arith) c.loop-at.unpacker c.loop-at.framer.rest _ _ i.told _ _
     c.in_err-serve_slice.field-0.0
     c.in_err-serve_slice.ensures)
@@ -50,7 +52,8 @@ loop-at-preserved g c =
       held = next.0.4;
       listening = next.1;
       within = omega arith;
-      told = slice_more c.args.piece c.args.limits c.args.unpacker.now c.args.framer.now.rest c.args.bytes.now
+      told = slice_more c.args.service.piece c.args.service.limits c.args.unpacker.now c.args.framer.now.rest
+          c.args.bytes.now
           c.loop-at.at c.min-end.result (omega arith) c.loop-at.unpacker c.loop-at.framer.rest _ _ i.told
           c.serve_slice.new.unpacker
           c.serve_slice.new.framer.rest _ next.0;
@@ -68,5 +71,6 @@ serve_slice-requires-clause-held g c = c.loop-at.invariant.held
 pub returns : goal.returns
 returns g c =
     let i = c.loop-at.invariant in
-    packed_all c.args.piece c.args.limits c.args.unpacker.now c.args.framer.now c.args.bytes.now c.loop-at.at
+    packed_all c.args.service.piece c.args.service.limits c.args.unpacker.now c.args.framer.now c.args.bytes.now
+    c.loop-at.at
     c.loop-at.unpacker c.loop-at.framer _ _ _ c.loop-at-test.false i.told i.listening i.fine
