@@ -23,31 +23,6 @@ use std::io::{Read, Write};
 /// The most packed bytes that are unpacked at once, of which come at most 1,024 times as many.
 const SLICE: usize = 512;
 
-/// Unpacks bytes, and adds the pieces of all messages that their words make whole.
-fn serve_slice<W: Write, A: Allocator + Copy>(
-    service: Service<A>,
-    unpacker: &mut Unpacker,
-    words: &mut Vec<u8, A>,
-    framer: &mut Framer<A>,
-    bytes: &[u8],
-    text: &mut Vec<u8, A>,
-    writer: &mut Watched<W>,
-) -> Result<(), ToolFault>
-    requires fine { has_failed writer.old ≡ false }
-    requires listening { IsListening framer.old service.limits }
-    requires held { unpacker.old.failed ≡ false }
-    ensures { ServesPacked service.piece service.limits unpacker.old framer.old bytes.now
-        (outgoing (W.contents (inner_of writer.old)) text.old.items)
-        (outgoing (W.contents (inner_of writer.new)) text.new.items) (has_failed writer.new) result
-        unpacker.new framer.new }
-{
-    words.clear();
-    match unpacker.feed(bytes, words) {
-        Ok(()) => serve_bytes(service, framer, words, text, writer),
-        Err(_) => Err(ToolFault::Memory),
-    }
-}
-
 /// Adds the pieces of all messages that packed bytes make whole. The words of no more than a slice are held at once.
 fn serve_slices<W: Write, A: Allocator + Copy>(
     service: Service<A>,
@@ -70,15 +45,11 @@ fn serve_slices<W: Write, A: Allocator + Copy>(
     let mut at = 0;
     while at < bytes.len() {
         let end = (at + SLICE).min(bytes.len());
-        serve_slice(
-            service,
-            unpacker,
-            words,
-            framer,
-            &bytes[at..end],
-            text,
-            writer,
-        )?;
+        words.clear();
+        match unpacker.feed(&bytes[at..end], words) {
+            Ok(()) => serve_bytes(service, framer, words, text, writer)?,
+            Err(_) => return Err(ToolFault::Memory),
+        }
         at = end;
     }
     Ok(())
