@@ -2,10 +2,11 @@ use Rattle.std.proofs.Common.{◌≡◌, ◌<◌, ◌≤◌, ◌-◌, ◌++◌, 
 use Rattle.std.proofs.Common.{subst}
 use Rattle.std.proofs.Common.{append-nil, length-drop, length-take}
 use Rattle.std.proofs.Math.Seq.{take_all}
+use Rattle.capn_words.specs.Watching.{inner_of, has_failed}
 use Rattle.capn_walk.specs.Limits.{Bounds}
 use Rattle.capn_stream.specs.Framing.{Framing}
 use Rattle.capn_tool.specs.Heard.{IsListening, Serves, Tells}
-use Rattle.capn_tool.specs.Sending.{Outgoing}
+use Rattle.capn_tool.specs.Sending.{Outgoing, outgoing}
 use Rattle.capn_tool.specs.declared.plan.Piece.{Piece}
 use Rattle.capn_tool.proofs.HeardMore.{tells_none}
 use Rattle.std.proofs.lemmas.Result.{err_from_is_err_and}
@@ -32,8 +33,9 @@ returns-in_err-at g c =
     let p = err_from_is_err_and c.from_residual.result c.from_residual.ensures.1 in
     rw (p.1, p.2)
     (served_stop c.args.service.piece c.args.service.limits c.args.framer.now c.loop-at.framer c.args.bytes.now
-    c.loop-at.at _ _ _
-    c.loop-at.invariant.told _ c.in_err-at.field-0.0 c.in_err-at.ensures)
+    c.loop-at.at _ (outgoing (g.W.Write.contents (inner_of c.loop-at.writer)) c.loop-at.text.items)
+    (outgoing (g.W.Write.contents (inner_of c.serve_some.new.writer)) c.serve_some.new.text.items)
+    c.loop-at.invariant.told (has_failed c.serve_some.new.writer) c.in_err-at.field-0.0 c.in_err-at.ensures)
 
 pub loop-at-preserved : goal.loop-at-preserved
 loop-at-preserved g c =

@@ -1,5 +1,7 @@
 use Rattle.std.proofs.Common.{◌-◌, length, drop, arith, length-drop, length-take}
 use Rattle.std.proofs.lemmas.Result.{err_from_is_err_and}
+use Rattle.capn_words.specs.Watching.{inner_of, has_failed}
+use Rattle.capn_tool.specs.Sending.{outgoing}
 use Rattle.capn_tool.proofs.HeardNext.{some_more, some_none, some_stop}
 use Rattle.capn_tool.proofs.hearing.serve_some.Goals as goal
 
@@ -11,8 +13,9 @@ returns-in_err-more g c =
     (λ h. omega (arith, h, c.if-taken-bytes.false)) in
     rw (p.1, p.2)
     (some_stop c.args.service.piece c.args.service.limits c.args.framer.now c.serve_next.new.framer c.args.bytes.now
-    c.in_ok-taken.taken
-    _ _ _ s.serves.2.0 none _ c.in_err-more.field-0.0 c.in_err-more.ensures)
+    c.in_ok-taken.taken _ _
+    (outgoing (g.W.Write.contents (inner_of c.serve_whole.new.writer)) c.serve_whole.new.text.items) s.serves.2.0 none
+    (has_failed c.serve_whole.new.writer) c.in_err-more.field-0.0 c.in_err-more.ensures)
 
 pub returns : goal.returns
 returns g c =

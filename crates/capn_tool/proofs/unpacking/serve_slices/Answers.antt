@@ -1,11 +1,12 @@
 use Rattle.std.proofs.Common.{◌≡◌, ◌≤◌, ◌-◌, ℕ, List, Bool, false, Ok, take, drop, length, subst, arith}
 use Rattle.std.proofs.Math.Seq.{take_all}
+use Rattle.capn_words.specs.Watching.{inner_of, has_failed}
 use Rattle.capn_walk.specs.Limits.{Bounds}
 use Rattle.capn_pack.specs.Stream.{Held}
 use Rattle.capn_stream.specs.Framing.{Framing}
 use Rattle.capn_tool.specs.Heard.{IsListening}
 use Rattle.capn_tool.specs.HeardPacked.{ServesPacked, TellsPacked}
-use Rattle.capn_tool.specs.Sending.{Outgoing}
+use Rattle.capn_tool.specs.Sending.{Outgoing, outgoing}
 use Rattle.capn_tool.specs.declared.plan.Piece.{Piece}
 use Rattle.capn_tool.specs.declared.fault.ToolFault.TheVariants as faults
 use Rattle.std.proofs.lemmas.Result.{err_from_is_err_and}
@@ -40,11 +41,16 @@ returns-in_err-serve_bytes-in-Ok g c =
     let p = err_from_is_err_and c.from_residual.result c.from_residual.ensures.1 in
     rw (p.1, p.2)
     (slice_stop c.args.service.piece c.args.service.limits c.args.unpacker.now c.args.framer.now.rest c.args.bytes.now
-    c.loop-at.at c.min-end.result (omega arith) c.loop-at.unpacker c.loop-at.framer.rest _ _ i.told _ _
-    c.in_err-serve_bytes-in-Ok.field-0.0
+    c.loop-at.at c.min-end.result (omega arith) c.loop-at.unpacker c.loop-at.framer.rest _
+    (outgoing (g.W.Write.contents (inner_of c.loop-at.writer)) c.loop-at.text.items) i.told
+    (outgoing (g.W.Write.contents (inner_of c.serve_bytes.new.writer)) c.serve_bytes.new.text.items)
+    (has_failed c.serve_bytes.new.writer) c.in_err-serve_bytes-in-Ok.field-0.0
     (unpacked_stops c.args.service.piece c.args.service.limits c.loop-at.unpacker c.feed.new.self c.loop-at.framer.rest
     (take (c.min-end.result - c.loop-at.at) (drop c.loop-at.at c.args.bytes.now)) c.clear.new.self.items
-    c.feed.new.out.items c.deref.result.now c.clear.ensures.items c.deref.ensures.value c.in-Ok.ensures.fed _ _ _ _
+    c.feed.new.out.items c.deref.result.now c.clear.ensures.items c.deref.ensures.value c.in-Ok.ensures.fed
+    (outgoing (g.W.Write.contents (inner_of c.loop-at.writer)) c.loop-at.text.items)
+    (outgoing (g.W.Write.contents (inner_of c.serve_bytes.new.writer)) c.serve_bytes.new.text.items)
+    (has_failed c.serve_bytes.new.writer) c.in_err-serve_bytes-in-Ok.field-0.0
     c.in_err-serve_bytes-in-Ok.ensures))
 
 pub returns-in-Err : goal.returns-in-Err
