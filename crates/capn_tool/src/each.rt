@@ -17,8 +17,8 @@ use std::io::Write;
 /// As many bytes of text are written at once, or more.
 const ENOUGH: usize = 65_536;
 
-/// What is done for each message of a stream: its piece is made, within the limits, with memory of the allocator.
-#[derive(Clone, Copy)]
+/// What is done for each message of a stream: its piece is made within limits, with memory of an allocator.
+#[derive(Drop)]
 pub struct Service<A: Allocator + Copy> {
     pub(crate) alloc: A,
     pub(crate) piece: Piece,
@@ -27,13 +27,13 @@ pub struct Service<A: Allocator + Copy> {
 
 /// Adds the piece of a message to the text, or nothing of one that is refused, and writes the text once it is long.
 pub(crate) fn add_piece<S: Space, W: Write, A: Allocator + Copy>(
-    service: Service<A>,
+    service: &Service<A>,
     space: &S,
     text: &mut Vec<u8, A>,
     writer: &mut Watched<W>,
 ) -> Result<(), ToolFault>
     requires { has_failed writer.old ≡ false }
-    ensures { AddsPiece service.piece (S.message space.now) service.limits
+    ensures { AddsPiece service.now.piece (S.message space.now) service.now.limits
         (outgoing (W.contents (inner_of writer.old)) text.old.items)
         (outgoing (W.contents (inner_of writer.new)) text.new.items) (has_failed writer.new) result }
 {

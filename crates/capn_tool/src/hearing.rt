@@ -32,15 +32,15 @@ fn fault_of(fault: FrameFault) -> ToolFault
 /// Takes bytes up to the end of a message, and adds its piece. Answers how many bytes it took: all of them, or none is
 /// held any more.
 fn serve_next<W: Write, A: Allocator + Copy>(
-    service: Service<A>,
+    service: &Service<A>,
     framer: &mut Framer<A>,
     bytes: &[u8],
     text: &mut Vec<u8, A>,
     writer: &mut Watched<W>,
 ) -> Result<usize, ToolFault>
     requires fine { has_failed writer.old ≡ false }
-    requires listening { IsListening framer.old service.limits }
-    ensures serves { ServesNext service.piece service.limits framer.old bytes.now
+    requires listening { IsListening framer.old service.now.limits }
+    ensures serves { ServesNext service.now.piece service.now.limits framer.old bytes.now
         (outgoing (W.contents (inner_of writer.old)) text.old.items)
         (outgoing (W.contents (inner_of writer.new)) text.new.items) (has_failed writer.new) result framer.new }
     ensures whole { IfOk result (λ n. (n ≡ length bytes.now) ⊎ (framer.new.rest ≡ [])) }
@@ -59,13 +59,13 @@ fn serve_next<W: Write, A: Allocator + Copy>(
 /// Adds the pieces of the messages that lie whole in these bytes, of which no byte is copied. Answers how many bytes
 /// they take. Why no other follows is for the framer to say.
 fn serve_whole<W: Write, A: Allocator + Copy>(
-    service: Service<A>,
+    service: &Service<A>,
     bytes: &[u8],
     text: &mut Vec<u8, A>,
     writer: &mut Watched<W>,
 ) -> Result<usize, ToolFault>
     requires fine { has_failed writer.old ≡ false }
-    ensures { ServesWhole service.piece service.limits bytes.now
+    ensures { ServesWhole service.now.piece service.now.limits bytes.now
         (outgoing (W.contents (inner_of writer.old)) text.old.items)
         (outgoing (W.contents (inner_of writer.new)) text.new.items) (has_failed writer.new) result }
 {
@@ -84,15 +84,15 @@ fn serve_whole<W: Write, A: Allocator + Copy>(
 
 /// Adds the pieces of the message that has begun and of those that follow it whole. Answers how many bytes it took.
 fn serve_some<W: Write, A: Allocator + Copy>(
-    service: Service<A>,
+    service: &Service<A>,
     framer: &mut Framer<A>,
     bytes: &[u8],
     text: &mut Vec<u8, A>,
     writer: &mut Watched<W>,
 ) -> Result<usize, ToolFault>
     requires fine { has_failed writer.old ≡ false }
-    requires listening { IsListening framer.old service.limits }
-    ensures { ServesNext service.piece service.limits framer.old bytes.now
+    requires listening { IsListening framer.old service.now.limits }
+    ensures { ServesNext service.now.piece service.now.limits framer.old bytes.now
         (outgoing (W.contents (inner_of writer.old)) text.old.items)
         (outgoing (W.contents (inner_of writer.new)) text.new.items) (has_failed writer.new) result framer.new }
 {
@@ -106,15 +106,15 @@ fn serve_some<W: Write, A: Allocator + Copy>(
 
 /// Adds the pieces of all messages that these bytes make whole.
 pub(crate) fn serve_bytes<W: Write, A: Allocator + Copy>(
-    service: Service<A>,
+    service: &Service<A>,
     framer: &mut Framer<A>,
     bytes: &[u8],
     text: &mut Vec<u8, A>,
     writer: &mut Watched<W>,
 ) -> Result<(), ToolFault>
     requires fine { has_failed writer.old ≡ false }
-    requires listening { IsListening framer.old service.limits }
-    ensures { Serves service.piece service.limits framer.old bytes.now
+    requires listening { IsListening framer.old service.now.limits }
+    ensures { Serves service.now.piece service.now.limits framer.old bytes.now
         (outgoing (W.contents (inner_of writer.old)) text.old.items)
         (outgoing (W.contents (inner_of writer.new)) text.new.items) (has_failed writer.new) result framer.new }
 {
@@ -127,15 +127,15 @@ pub(crate) fn serve_bytes<W: Write, A: Allocator + Copy>(
 
 /// Writes the pieces of all messages that these bytes make whole. The text is room for them.
 fn serve_piece<W: Write, A: Allocator + Copy>(
-    service: Service<A>,
+    service: &Service<A>,
     framer: &mut Framer<A>,
     bytes: &[u8],
     text: &mut Vec<u8, A>,
     writer: &mut Watched<W>,
 ) -> Result<(), ToolFault>
     requires fine { has_failed writer.old ≡ false }
-    requires listening { IsListening framer.old service.limits }
-    ensures { Serves service.piece service.limits framer.old bytes.now (sent (W.contents (inner_of writer.old)))
+    requires listening { IsListening framer.old service.now.limits }
+    ensures { Serves service.now.piece service.now.limits framer.old bytes.now (sent (W.contents (inner_of writer.old)))
         (sent (W.contents (inner_of writer.new)))
         (has_failed writer.new) result framer.new }
 {
@@ -158,13 +158,13 @@ pub(crate) fn end_of_input<A: Allocator + Copy>(mut framer: Framer<A>) -> Result
 
 /// Reads a stream piece by piece, and writes the pieces of all messages that are whole before it reads again.
 pub fn run_each<R: Read, W: Write, A: Allocator + Copy>(
-    service: Service<A>,
+    service: &Service<A>,
     reader: &mut Watched<R>,
     writer: &mut Watched<W>,
 ) -> Result<(), ToolFault>
     requires reader_fine { has_failed reader.old ≡ false }
     requires writer_fine { has_failed writer.old ≡ false }
-    ensures { Runs (plans.Each service.piece service.limits) (R.remaining (inner_of reader.old))
+    ensures { Runs (plans.Each service.now.piece service.now.limits) (R.remaining (inner_of reader.old))
         (R.remaining (inner_of reader.new))
         (W.contents (inner_of writer.old)) (W.contents (inner_of writer.new)) (has_failed reader.new)
         (has_failed writer.new) result }

@@ -79,7 +79,7 @@ fn perform<R: Read, W: Write, A: Allocator + Copy>(
     match plan {
         Plan::Whole(whole) => run_whole(alloc, whole, reader, writer),
         Plan::Each(piece, limits) => run_each(
-            Service {
+            &Service {
                 alloc,
                 piece,
                 limits,
@@ -88,7 +88,7 @@ fn perform<R: Read, W: Write, A: Allocator + Copy>(
             writer,
         ),
         Plan::Packed(piece, limits) => run_packed(
-            Service {
+            &Service {
                 alloc,
                 piece,
                 limits,

@@ -25,7 +25,7 @@ const SLICE: usize = 512;
 
 /// Adds the pieces of all messages that packed bytes make whole. The words of no more than a slice are held at once.
 fn serve_slices<W: Write, A: Allocator + Copy>(
-    service: Service<A>,
+    service: &Service<A>,
     unpacker: &mut Unpacker,
     words: &mut Vec<u8, A>,
     framer: &mut Framer<A>,
@@ -34,10 +34,10 @@ fn serve_slices<W: Write, A: Allocator + Copy>(
     writer: &mut Watched<W>,
 ) -> Result<(), ToolFault>
     requires fine { has_failed writer.old ≡ false }
-    requires listening { IsListening framer.old service.limits }
+    requires listening { IsListening framer.old service.now.limits }
     requires unpacking { IsUnpacking unpacker.old }
     requires room { length bytes.now ≤ 65536 }
-    ensures { ServesPacked service.piece service.limits unpacker.old framer.old bytes.now
+    ensures { ServesPacked service.now.piece service.now.limits unpacker.old framer.old bytes.now
         (outgoing (W.contents (inner_of writer.old)) text.old.items)
         (outgoing (W.contents (inner_of writer.new)) text.new.items) (has_failed writer.new) result
         unpacker.new framer.new }
@@ -57,7 +57,7 @@ fn serve_slices<W: Write, A: Allocator + Copy>(
 
 /// Writes the pieces of all messages that packed bytes make whole. The text is room for them.
 fn serve_packed<W: Write, A: Allocator + Copy>(
-    service: Service<A>,
+    service: &Service<A>,
     unpacker: &mut Unpacker,
     words: &mut Vec<u8, A>,
     framer: &mut Framer<A>,
@@ -66,10 +66,10 @@ fn serve_packed<W: Write, A: Allocator + Copy>(
     writer: &mut Watched<W>,
 ) -> Result<(), ToolFault>
     requires fine { has_failed writer.old ≡ false }
-    requires listening { IsListening framer.old service.limits }
+    requires listening { IsListening framer.old service.now.limits }
     requires unpacking { IsUnpacking unpacker.old }
     requires room { length bytes.now ≤ 65536 }
-    ensures { ServesPacked service.piece service.limits unpacker.old framer.old bytes.now
+    ensures { ServesPacked service.now.piece service.now.limits unpacker.old framer.old bytes.now
         (sent (W.contents (inner_of writer.old)))
         (sent (W.contents (inner_of writer.new))) (has_failed writer.new) result unpacker.new framer.new }
 {
@@ -96,13 +96,13 @@ fn end_of_packed<A: Allocator + Copy>(
 
 /// Reads a packed stream piece by piece, and writes the pieces of all messages that are whole before it reads again.
 pub fn run_packed<R: Read, W: Write, A: Allocator + Copy>(
-    service: Service<A>,
+    service: &Service<A>,
     reader: &mut Watched<R>,
     writer: &mut Watched<W>,
 ) -> Result<(), ToolFault>
     requires reader_fine { has_failed reader.old ≡ false }
     requires writer_fine { has_failed writer.old ≡ false }
-    ensures { Runs (plans.Packed service.piece service.limits) (R.remaining (inner_of reader.old))
+    ensures { Runs (plans.Packed service.now.piece service.now.limits) (R.remaining (inner_of reader.old))
         (R.remaining (inner_of reader.new))
         (W.contents (inner_of writer.old)) (W.contents (inner_of writer.new)) (has_failed reader.new)
         (has_failed writer.new) result }

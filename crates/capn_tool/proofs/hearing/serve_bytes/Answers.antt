@@ -32,7 +32,7 @@ pub returns-in_err-at : goal.returns-in_err-at
 returns-in_err-at g c =
     let p = err_from_is_err_and c.from_residual.result c.from_residual.ensures.1 in
     rw (p.1, p.2)
-    (served_stop c.args.service.piece c.args.service.limits c.args.framer.now c.loop-at.framer c.args.bytes.now
+    (served_stop c.args.service.now.piece c.args.service.now.limits c.args.framer.now c.loop-at.framer c.args.bytes.now
     c.loop-at.at _ (outgoing (g.W.Write.contents (inner_of c.loop-at.writer)) c.loop-at.text.items)
     (outgoing (g.W.Write.contents (inner_of c.serve_some.new.writer)) c.serve_some.new.text.items)
     c.loop-at.invariant.told (has_failed c.serve_some.new.writer) c.in_err-at.field-0.0 c.in_err-at.ensures)
@@ -46,7 +46,8 @@ loop-at-preserved g c =
       fine = next.2.2;
       listening = next.2.1;
       within = omega (arith, next.0, rest, i.within, length-drop c.loop-at.at c.args.bytes.now);
-      told = served_more c.args.service.piece c.args.service.limits c.args.framer.now c.loop-at.framer c.args.bytes.now
+      told = served_more c.args.service.now.piece c.args.service.now.limits c.args.framer.now c.loop-at.framer
+          c.args.bytes.now
           c.loop-at.at _ _
           _ i.told c.in_ok-at.field-0 c.serve_some.new.framer.rest next.2.0;
     }
@@ -56,7 +57,7 @@ loop-at-init g c = record {
   fine = c.requires.fine;
   listening = c.requires.listening;
   within = omega arith;
-  told = served_none c.args.service.piece c.args.service.limits c.args.framer.now.rest _;
+  told = served_none c.args.service.now.piece c.args.service.now.limits c.args.framer.now.rest _;
 }
 
 pub serve_some-requires-clause-fine : goal.serve_some-requires-clause-fine
@@ -76,6 +77,6 @@ loop-at-smaller g c =
 pub returns : goal.returns
 returns g c =
     let i = c.loop-at.invariant in
-    served_all c.args.service.piece c.args.service.limits c.args.framer.now c.loop-at.framer c.args.bytes.now
+    served_all c.args.service.now.piece c.args.service.now.limits c.args.framer.now c.loop-at.framer c.args.bytes.now
     c.loop-at.at _ _ _
     c.loop-at-test.false i.told i.listening i.fine

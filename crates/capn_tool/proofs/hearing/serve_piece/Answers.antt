@@ -3,7 +3,7 @@ use Rattle.capn_tool.proofs.hearing.serve_piece.Goals as goal
 
 pub returns : goal.returns
 returns g c =
-    serves_piece c.args.service.piece c.args.service.limits c.args.framer.now c.serve_bytes-served.new.framer
+    serves_piece c.args.service.now.piece c.args.service.now.limits c.args.framer.now c.serve_bytes-served.new.framer
     c.args.bytes.now _ _ _
     c.clear.new.self.items c.serve_bytes-served.new.text.items c.deref.result.now _ _ c.serve_bytes-served.result
     c.send_rest.result

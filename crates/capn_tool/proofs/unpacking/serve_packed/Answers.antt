@@ -3,7 +3,8 @@ use Rattle.capn_tool.proofs.unpacking.serve_packed.Goals as goal
 
 pub returns : goal.returns
 returns g c =
-    packed_piece c.args.service.piece c.args.service.limits c.args.unpacker.now c.serve_slices-served.new.unpacker
+    packed_piece c.args.service.now.piece c.args.service.now.limits c.args.unpacker.now
+    c.serve_slices-served.new.unpacker
     c.args.framer.now
     c.serve_slices-served.new.framer c.args.bytes.now _ _ _ c.serve_slices-served.new.text.items
     c.clear.new.self.items

@@ -31,7 +31,7 @@ loop-at-init g c = record {
   held = c.requires.unpacking.held;
   listening = c.requires.listening;
   within = omega arith;
-  told = packed_none c.args.service.piece c.args.service.limits c.args.unpacker.now c.args.framer.now.rest _
+  told = packed_none c.args.service.now.piece c.args.service.now.limits c.args.unpacker.now c.args.framer.now.rest _
       c.requires.unpacking;
 }
 
@@ -40,12 +40,14 @@ returns-in_err-serve_bytes-in-Ok g c =
     let i = c.loop-at.invariant in
     let p = err_from_is_err_and c.from_residual.result c.from_residual.ensures.1 in
     rw (p.1, p.2)
-    (slice_stop c.args.service.piece c.args.service.limits c.args.unpacker.now c.args.framer.now.rest c.args.bytes.now
+    (slice_stop c.args.service.now.piece c.args.service.now.limits c.args.unpacker.now c.args.framer.now.rest
+    c.args.bytes.now
     c.loop-at.at c.min-end.result (omega arith) c.loop-at.unpacker c.loop-at.framer.rest _
     (outgoing (g.W.Write.contents (inner_of c.loop-at.writer)) c.loop-at.text.items) i.told
     (outgoing (g.W.Write.contents (inner_of c.serve_bytes.new.writer)) c.serve_bytes.new.text.items)
     (has_failed c.serve_bytes.new.writer) c.in_err-serve_bytes-in-Ok.field-0.0
-    (unpacked_stops c.args.service.piece c.args.service.limits c.loop-at.unpacker c.feed.new.self c.loop-at.framer.rest
+    (unpacked_stops c.args.service.now.piece c.args.service.now.limits c.loop-at.unpacker c.feed.new.self
+    c.loop-at.framer.rest
     (take (c.min-end.result - c.loop-at.at) (drop c.loop-at.at c.args.bytes.now)) c.clear.new.self.items
     c.feed.new.out.items c.deref.result.now c.clear.ensures.items c.deref.ensures.value c.in-Ok.ensures.fed
     (outgoing (g.W.Write.contents (inner_of c.loop-at.writer)) c.loop-at.text.items)
@@ -56,9 +58,10 @@ returns-in_err-serve_bytes-in-Ok g c =
 pub returns-in-Err : goal.returns-in-Err
 returns-in-Err g c =
     let i = c.loop-at.invariant in
-    slice_stop c.args.service.piece c.args.service.limits c.args.unpacker.now c.args.framer.now.rest c.args.bytes.now
+    slice_stop c.args.service.now.piece c.args.service.now.limits c.args.unpacker.now c.args.framer.now.rest
+    c.args.bytes.now
     c.loop-at.at c.min-end.result (omega arith) c.loop-at.unpacker c.loop-at.framer.rest _ _ i.told _ _ faults.Memory
-    (packed_memory c.args.service.piece c.args.service.limits c.loop-at.unpacker.rest c.loop-at.framer.rest
+    (packed_memory c.args.service.now.piece c.args.service.now.limits c.loop-at.unpacker.rest c.loop-at.framer.rest
     (take (c.min-end.result - c.loop-at.at) (drop c.loop-at.at c.args.bytes.now)) _ _ i.fine)
 
 pub loop-at-preserved : goal.loop-at-preserved
@@ -70,10 +73,10 @@ loop-at-preserved g c =
       held = c.in-Ok.ensures.fed.is_good;
       listening = next.1;
       within = omega arith;
-      told = slice_more c.args.service.piece c.args.service.limits c.args.unpacker.now c.args.framer.now.rest
+      told = slice_more c.args.service.now.piece c.args.service.now.limits c.args.unpacker.now c.args.framer.now.rest
           c.args.bytes.now c.loop-at.at c.min-end.result (omega arith) c.loop-at.unpacker c.loop-at.framer.rest _ _
           i.told c.feed.new.self c.serve_bytes.new.framer.rest _
-          (unpacked_tells c.args.service.piece c.args.service.limits c.loop-at.unpacker c.feed.new.self
+          (unpacked_tells c.args.service.now.piece c.args.service.now.limits c.loop-at.unpacker c.feed.new.self
           c.loop-at.framer.rest (take (c.min-end.result - c.loop-at.at) (drop c.loop-at.at c.args.bytes.now))
           c.clear.new.self.items c.feed.new.out.items c.deref.result.now c.clear.ensures.items c.deref.ensures.value
           c.in-Ok.ensures.fed c.serve_bytes.new.framer.rest _ _ next.0);
@@ -88,6 +91,6 @@ serve_bytes-requires-clause-listening g c = c.loop-at.invariant.listening
 pub returns : goal.returns
 returns g c =
     let i = c.loop-at.invariant in
-    packed_all c.args.service.piece c.args.service.limits c.args.unpacker.now c.args.framer.now c.args.bytes.now
+    packed_all c.args.service.now.piece c.args.service.now.limits c.args.unpacker.now c.args.framer.now c.args.bytes.now
     c.loop-at.at
     c.loop-at.unpacker c.loop-at.framer _ _ _ c.loop-at-test.false i.told i.listening i.fine
