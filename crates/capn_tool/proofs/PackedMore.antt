@@ -7,7 +7,7 @@ use Rattle.std.proofs.lemmas.Grind.{flat_map-append}
 use Rattle.capn_walk.specs.Limits.{Bounds}
 use Rattle.capn_pack.specs.Group.{IsGroup, text, content}
 use Rattle.capn_pack.specs.Packs.{texts, contents}
-use Rattle.capn_pack.specs.Stream.{Begins, Held, Splits, advanced}
+use Rattle.capn_pack.specs.Stream.{Begins, Feeds, Held, Splits, advanced}
 use Rattle.capn_pack.specs.Laws.StreamLemmas.{splits_open, splits_then}
 use Rattle.capn_stream.specs.Framing.{Framing}
 use Rattle.capn_tool.specs.Sending.{Outgoing, SendsRest, outgoing, sent}
@@ -95,6 +95,23 @@ packed_memory piece limits group rest bytes a failed fine = (
   record { groups = []; rest = group ++ bytes; each = tt; text = refl; content = refl },
   stops_memory piece limits (rest ++ []) a failed fine,
 )
+
+-- bytes were unpacked, and their words were served
+module _ (piece : Piece) (limits : Bounds) (held next : Held) (left bytes old new words : List ℕ) (none : old ≡ [])
+    (same : words ≡ new) (fed : Feeds held bytes old new next) where
+  split : Splits (held.rest ++ bytes) next.rest [] words fed.len
+  split = subst (λ (l : List ℕ). Splits (held.rest ++ bytes) next.rest [] l fed.len) (sym same)
+      (subst (λ (l : List ℕ). Splits (held.rest ++ bytes) next.rest l new fed.len) none fed.split)
+
+  pub unpacked_tells : (last : List ℕ) (a b : Outgoing) → Tells piece limits (left ++ words) last a b
+      → TellsPacked piece limits held left bytes next last a b
+  unpacked_tells last a b told = (words, fed.len, split, fed.offset, fed.is_good, told)
+
+  pub unpacked_stops : (a b : Outgoing) (failed : Bool) (fault : ToolFault)
+      → Stops piece limits (left ++ words) a b failed fault
+      → StopsPacked piece limits held.rest left bytes a b failed fault
+  unpacked_stops a b failed fault stop =
+      (words, begins_all (held.rest ++ bytes) next.rest words fed.len split, stop)
 
 -- nothing has come
 pub packed_none : (piece : Piece) (limits : Bounds) (held : Held) (rest : List ℕ) (a : Outgoing)

@@ -17,20 +17,27 @@ use std::io::Write;
 /// As many bytes of text are written at once, or more.
 const ENOUGH: usize = 65_536;
 
+/// What is done for each message of a stream: its piece is made within limits, with memory of an allocator.
+#[derive(Drop)]
+pub struct Service<A: Allocator + Copy> {
+    pub(crate) alloc: A,
+    pub(crate) piece: Piece,
+    pub(crate) limits: Limits,
+}
+
 /// Adds the piece of a message to the text, or nothing of one that is refused, and writes the text once it is long.
 pub(crate) fn add_piece<S: Space, W: Write, A: Allocator + Copy>(
-    alloc: A,
-    piece: Piece,
+    service: &Service<A>,
     space: &S,
-    limits: Limits,
     text: &mut Vec<u8, A>,
     writer: &mut Watched<W>,
 ) -> Result<(), ToolFault>
     requires { has_failed writer.old ≡ false }
-    ensures { AddsPiece piece (S.message space.now) limits (outgoing (W.contents (inner_of writer.old)) text.old.items)
+    ensures { AddsPiece service.now.piece (S.message space.now) service.now.limits
+        (outgoing (W.contents (inner_of writer.old)) text.old.items)
         (outgoing (W.contents (inner_of writer.new)) text.new.items) (has_failed writer.new) result }
 {
-    put_piece(alloc, piece, space, limits, text)?;
+    put_piece(service.alloc, service.piece, space, service.limits, text)?;
     if text.len() >= ENOUGH {
         write_all(writer, text)?;
         text.clear();

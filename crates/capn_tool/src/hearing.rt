@@ -9,14 +9,12 @@ ghost use Rattle.capn_tool.specs.Heard.{EndsInput, IsListening, Runs, Serves, Se
 ghost use Rattle.capn_tool.specs.Sending.{outgoing, sent};
 ghost use Rattle.capn_tool.specs.declared.plan.Plan.TheVariants as plans;
 
-use crate::each::add_piece;
+use crate::each::{Service, add_piece};
 use crate::fault::ToolFault;
 use crate::input::{MOST_BYTES, PIECE};
 use crate::output::send_rest;
-use crate::plan::Piece;
 use capn_canon::Refusal;
 use capn_stream::{FrameFault, Framer, first};
-use capn_walk::Limits;
 use capn_words::Watched;
 use std::alloc::Allocator;
 use std::io::{Read, Write};
@@ -34,17 +32,15 @@ fn fault_of(fault: FrameFault) -> ToolFault
 /// Takes bytes up to the end of a message, and adds its piece. Answers how many bytes it took: all of them, or none is
 /// held any more.
 fn serve_next<W: Write, A: Allocator + Copy>(
-    alloc: A,
-    piece: Piece,
-    limits: Limits,
+    service: &Service<A>,
     framer: &mut Framer<A>,
     bytes: &[u8],
     text: &mut Vec<u8, A>,
     writer: &mut Watched<W>,
 ) -> Result<usize, ToolFault>
     requires fine { has_failed writer.old ≡ false }
-    requires listening { IsListening framer.old limits }
-    ensures serves { ServesNext piece limits framer.old bytes.now
+    requires listening { IsListening framer.old service.now.limits }
+    ensures serves { ServesNext service.now.piece service.now.limits framer.old bytes.now
         (outgoing (W.contents (inner_of writer.old)) text.old.items)
         (outgoing (W.contents (inner_of writer.new)) text.new.items) (has_failed writer.new) result framer.new }
     ensures whole { IfOk result (λ n. (n ≡ length bytes.now) ⊎ (framer.new.rest ≡ [])) }
@@ -52,7 +48,7 @@ fn serve_next<W: Write, A: Allocator + Copy>(
     match framer.feed(bytes) {
         Ok(taken) => {
             if let Some(message) = framer.take() {
-                add_piece(alloc, piece, &message, limits, text, writer)?;
+                add_piece(service, &message, text, writer)?;
             }
             Ok(taken)
         }
@@ -63,22 +59,21 @@ fn serve_next<W: Write, A: Allocator + Copy>(
 /// Adds the pieces of the messages that lie whole in these bytes, of which no byte is copied. Answers how many bytes
 /// they take. Why no other follows is for the framer to say.
 fn serve_whole<W: Write, A: Allocator + Copy>(
-    alloc: A,
-    piece: Piece,
-    limits: Limits,
+    service: &Service<A>,
     bytes: &[u8],
     text: &mut Vec<u8, A>,
     writer: &mut Watched<W>,
 ) -> Result<usize, ToolFault>
     requires fine { has_failed writer.old ≡ false }
-    ensures { ServesWhole piece limits bytes.now (outgoing (W.contents (inner_of writer.old)) text.old.items)
+    ensures { ServesWhole service.now.piece service.now.limits bytes.now
+        (outgoing (W.contents (inner_of writer.old)) text.old.items)
         (outgoing (W.contents (inner_of writer.new)) text.new.items) (has_failed writer.new) result }
 {
     let mut at = 0;
     while at < bytes.len() {
-        match first(alloc, &bytes[at..], limits.message_words()) {
+        match first(service.alloc, &bytes[at..], service.limits.message_words()) {
             Ok((message, taken)) => {
-                add_piece(alloc, piece, &message, limits, text, writer)?;
+                add_piece(service, &message, text, writer)?;
                 at += taken;
             }
             Err(_) => return Ok(at),
@@ -89,67 +84,63 @@ fn serve_whole<W: Write, A: Allocator + Copy>(
 
 /// Adds the pieces of the message that has begun and of those that follow it whole. Answers how many bytes it took.
 fn serve_some<W: Write, A: Allocator + Copy>(
-    alloc: A,
-    piece: Piece,
-    limits: Limits,
+    service: &Service<A>,
     framer: &mut Framer<A>,
     bytes: &[u8],
     text: &mut Vec<u8, A>,
     writer: &mut Watched<W>,
 ) -> Result<usize, ToolFault>
     requires fine { has_failed writer.old ≡ false }
-    requires listening { IsListening framer.old limits }
-    ensures { ServesNext piece limits framer.old bytes.now (outgoing (W.contents (inner_of writer.old)) text.old.items)
+    requires listening { IsListening framer.old service.now.limits }
+    ensures { ServesNext service.now.piece service.now.limits framer.old bytes.now
+        (outgoing (W.contents (inner_of writer.old)) text.old.items)
         (outgoing (W.contents (inner_of writer.new)) text.new.items) (has_failed writer.new) result framer.new }
 {
-    let taken = serve_next(alloc, piece, limits, framer, bytes, text, writer)?;
+    let taken = serve_next(service, framer, bytes, text, writer)?;
     if taken == bytes.len() {
         return Ok(taken);
     }
-    let more = serve_whole(alloc, piece, limits, &bytes[taken..], text, writer)?;
+    let more = serve_whole(service, &bytes[taken..], text, writer)?;
     Ok(taken + more)
 }
 
 /// Adds the pieces of all messages that these bytes make whole.
 pub(crate) fn serve_bytes<W: Write, A: Allocator + Copy>(
-    alloc: A,
-    piece: Piece,
-    limits: Limits,
+    service: &Service<A>,
     framer: &mut Framer<A>,
     bytes: &[u8],
     text: &mut Vec<u8, A>,
     writer: &mut Watched<W>,
 ) -> Result<(), ToolFault>
     requires fine { has_failed writer.old ≡ false }
-    requires listening { IsListening framer.old limits }
-    ensures { Serves piece limits framer.old bytes.now (outgoing (W.contents (inner_of writer.old)) text.old.items)
+    requires listening { IsListening framer.old service.now.limits }
+    ensures { Serves service.now.piece service.now.limits framer.old bytes.now
+        (outgoing (W.contents (inner_of writer.old)) text.old.items)
         (outgoing (W.contents (inner_of writer.new)) text.new.items) (has_failed writer.new) result framer.new }
 {
     let mut at = 0;
     while at < bytes.len() {
-        at += serve_some(alloc, piece, limits, framer, &bytes[at..], text, writer)?;
+        at += serve_some(service, framer, &bytes[at..], text, writer)?;
     }
     Ok(())
 }
 
 /// Writes the pieces of all messages that these bytes make whole. The text is room for them.
 fn serve_piece<W: Write, A: Allocator + Copy>(
-    alloc: A,
-    piece: Piece,
-    limits: Limits,
+    service: &Service<A>,
     framer: &mut Framer<A>,
     bytes: &[u8],
     text: &mut Vec<u8, A>,
     writer: &mut Watched<W>,
 ) -> Result<(), ToolFault>
     requires fine { has_failed writer.old ≡ false }
-    requires listening { IsListening framer.old limits }
-    ensures { Serves piece limits framer.old bytes.now (sent (W.contents (inner_of writer.old)))
+    requires listening { IsListening framer.old service.now.limits }
+    ensures { Serves service.now.piece service.now.limits framer.old bytes.now (sent (W.contents (inner_of writer.old)))
         (sent (W.contents (inner_of writer.new)))
         (has_failed writer.new) result framer.new }
 {
     text.clear();
-    let served = serve_bytes(alloc, piece, limits, framer, bytes, text, writer);
+    let served = serve_bytes(service, framer, bytes, text, writer);
     send_rest(served, text, writer)
 }
 
@@ -167,20 +158,19 @@ pub(crate) fn end_of_input<A: Allocator + Copy>(mut framer: Framer<A>) -> Result
 
 /// Reads a stream piece by piece, and writes the pieces of all messages that are whole before it reads again.
 pub fn run_each<R: Read, W: Write, A: Allocator + Copy>(
-    alloc: A,
-    piece: Piece,
-    limits: Limits,
+    service: &Service<A>,
     reader: &mut Watched<R>,
     writer: &mut Watched<W>,
 ) -> Result<(), ToolFault>
     requires reader_fine { has_failed reader.old ≡ false }
     requires writer_fine { has_failed writer.old ≡ false }
-    ensures { Runs (plans.Each piece limits) (R.remaining (inner_of reader.old)) (R.remaining (inner_of reader.new))
+    ensures { Runs (plans.Each service.now.piece service.now.limits) (R.remaining (inner_of reader.old))
+        (R.remaining (inner_of reader.new))
         (W.contents (inner_of writer.old)) (W.contents (inner_of writer.new)) (has_failed reader.new)
         (has_failed writer.new) result }
 {
-    let mut framer = Framer::new(alloc, limits.message_words());
-    let mut text = Vec::new(alloc);
+    let mut framer = Framer::new(service.alloc, service.limits.message_words());
+    let mut text = Vec::new(service.alloc);
     let mut buffer = [0; PIECE];
     let mut taken = 0;
     'pieces: loop {
@@ -190,15 +180,7 @@ pub fn run_each<R: Read, W: Write, A: Allocator + Copy>(
             Ok(0) => return end_of_input(framer),
             Ok(count) => {
                 let within = count.min(MOST_BYTES - taken);
-                serve_piece(
-                    alloc,
-                    piece,
-                    limits,
-                    &mut framer,
-                    &buffer[..within],
-                    &mut text,
-                    writer,
-                )?;
+                serve_piece(service, &mut framer, &buffer[..within], &mut text, writer)?;
                 if within < count {
                     return Err(ToolFault::InputTooLong);
                 }

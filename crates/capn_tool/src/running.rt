@@ -10,6 +10,7 @@ ghost use Rattle.capn_tool.specs.Text.{EndsAs, EndsBy, IsText, Begins, PlanEndsA
 ghost use Rattle.capn_tool.specs.declared.fault.ToolFault.{ToolFault};
 ghost use Rattle.capn_tool.specs.declared.plan.Plan.TheVariants as plans;
 
+use crate::each::Service;
 use crate::fault::ToolFault;
 use crate::hearing::run_each;
 use crate::input::{Input, read_all};
@@ -77,8 +78,24 @@ fn perform<R: Read, W: Write, A: Allocator + Copy>(
 {
     match plan {
         Plan::Whole(whole) => run_whole(alloc, whole, reader, writer),
-        Plan::Each(piece, limits) => run_each(alloc, piece, limits, reader, writer),
-        Plan::Packed(piece, limits) => run_packed(alloc, piece, limits, reader, writer),
+        Plan::Each(piece, limits) => run_each(
+            &Service {
+                alloc,
+                piece,
+                limits,
+            },
+            reader,
+            writer,
+        ),
+        Plan::Packed(piece, limits) => run_packed(
+            &Service {
+                alloc,
+                piece,
+                limits,
+            },
+            reader,
+            writer,
+        ),
     }
 }
 

@@ -8,15 +8,14 @@ ghost use Rattle.capn_tool.specs.HeardPacked.{EndsPacked, IsUnpacking, ServesPac
 ghost use Rattle.capn_tool.specs.Sending.{outgoing, sent};
 ghost use Rattle.capn_tool.specs.declared.plan.Plan.TheVariants as plans;
 
+use crate::each::Service;
 use crate::fault::ToolFault;
 use crate::hearing::{end_of_input, serve_bytes};
 use crate::input::{MOST_BYTES, PIECE};
 use crate::output::send_rest;
-use crate::plan::Piece;
 use capn_canon::Refusal;
 use capn_pack::Unpacker;
 use capn_stream::Framer;
-use capn_walk::Limits;
 use capn_words::Watched;
 use std::alloc::Allocator;
 use std::io::{Read, Write};
@@ -24,38 +23,9 @@ use std::io::{Read, Write};
 /// The most packed bytes that are unpacked at once, of which come at most 1,024 times as many.
 const SLICE: usize = 512;
 
-/// Unpacks bytes, and adds the pieces of all messages that their words make whole.
-fn serve_slice<W: Write, A: Allocator + Copy>(
-    alloc: A,
-    piece: Piece,
-    limits: Limits,
-    unpacker: &mut Unpacker,
-    words: &mut Vec<u8, A>,
-    framer: &mut Framer<A>,
-    bytes: &[u8],
-    text: &mut Vec<u8, A>,
-    writer: &mut Watched<W>,
-) -> Result<(), ToolFault>
-    requires fine { has_failed writer.old ≡ false }
-    requires listening { IsListening framer.old limits }
-    requires held { unpacker.old.failed ≡ false }
-    ensures { ServesPacked piece limits unpacker.old framer.old bytes.now
-        (outgoing (W.contents (inner_of writer.old)) text.old.items)
-        (outgoing (W.contents (inner_of writer.new)) text.new.items) (has_failed writer.new) result
-        unpacker.new framer.new }
-{
-    words.clear();
-    match unpacker.feed(bytes, words) {
-        Ok(()) => serve_bytes(alloc, piece, limits, framer, words, text, writer),
-        Err(_) => Err(ToolFault::Memory),
-    }
-}
-
 /// Adds the pieces of all messages that packed bytes make whole. The words of no more than a slice are held at once.
 fn serve_slices<W: Write, A: Allocator + Copy>(
-    alloc: A,
-    piece: Piece,
-    limits: Limits,
+    service: &Service<A>,
     unpacker: &mut Unpacker,
     words: &mut Vec<u8, A>,
     framer: &mut Framer<A>,
@@ -64,10 +34,10 @@ fn serve_slices<W: Write, A: Allocator + Copy>(
     writer: &mut Watched<W>,
 ) -> Result<(), ToolFault>
     requires fine { has_failed writer.old ≡ false }
-    requires listening { IsListening framer.old limits }
+    requires listening { IsListening framer.old service.now.limits }
     requires unpacking { IsUnpacking unpacker.old }
     requires room { length bytes.now ≤ 65536 }
-    ensures { ServesPacked piece limits unpacker.old framer.old bytes.now
+    ensures { ServesPacked service.now.piece service.now.limits unpacker.old framer.old bytes.now
         (outgoing (W.contents (inner_of writer.old)) text.old.items)
         (outgoing (W.contents (inner_of writer.new)) text.new.items) (has_failed writer.new) result
         unpacker.new framer.new }
@@ -75,17 +45,11 @@ fn serve_slices<W: Write, A: Allocator + Copy>(
     let mut at = 0;
     while at < bytes.len() {
         let end = (at + SLICE).min(bytes.len());
-        serve_slice(
-            alloc,
-            piece,
-            limits,
-            unpacker,
-            words,
-            framer,
-            &bytes[at..end],
-            text,
-            writer,
-        )?;
+        words.clear();
+        match unpacker.feed(&bytes[at..end], words) {
+            Ok(()) => serve_bytes(service, framer, words, text, writer)?,
+            Err(_) => return Err(ToolFault::Memory),
+        }
         at = end;
     }
     Ok(())
@@ -93,9 +57,7 @@ fn serve_slices<W: Write, A: Allocator + Copy>(
 
 /// Writes the pieces of all messages that packed bytes make whole. The text is room for them.
 fn serve_packed<W: Write, A: Allocator + Copy>(
-    alloc: A,
-    piece: Piece,
-    limits: Limits,
+    service: &Service<A>,
     unpacker: &mut Unpacker,
     words: &mut Vec<u8, A>,
     framer: &mut Framer<A>,
@@ -104,16 +66,15 @@ fn serve_packed<W: Write, A: Allocator + Copy>(
     writer: &mut Watched<W>,
 ) -> Result<(), ToolFault>
     requires fine { has_failed writer.old ≡ false }
-    requires listening { IsListening framer.old limits }
+    requires listening { IsListening framer.old service.now.limits }
     requires unpacking { IsUnpacking unpacker.old }
     requires room { length bytes.now ≤ 65536 }
-    ensures { ServesPacked piece limits unpacker.old framer.old bytes.now (sent (W.contents (inner_of writer.old)))
+    ensures { ServesPacked service.now.piece service.now.limits unpacker.old framer.old bytes.now
+        (sent (W.contents (inner_of writer.old)))
         (sent (W.contents (inner_of writer.new))) (has_failed writer.new) result unpacker.new framer.new }
 {
     text.clear();
-    let served = serve_slices(
-        alloc, piece, limits, unpacker, words, framer, bytes, text, writer,
-    );
+    let served = serve_slices(service, unpacker, words, framer, bytes, text, writer);
     send_rest(served, text, writer)
 }
 
@@ -135,22 +96,21 @@ fn end_of_packed<A: Allocator + Copy>(
 
 /// Reads a packed stream piece by piece, and writes the pieces of all messages that are whole before it reads again.
 pub fn run_packed<R: Read, W: Write, A: Allocator + Copy>(
-    alloc: A,
-    piece: Piece,
-    limits: Limits,
+    service: &Service<A>,
     reader: &mut Watched<R>,
     writer: &mut Watched<W>,
 ) -> Result<(), ToolFault>
     requires reader_fine { has_failed reader.old ≡ false }
     requires writer_fine { has_failed writer.old ≡ false }
-    ensures { Runs (plans.Packed piece limits) (R.remaining (inner_of reader.old)) (R.remaining (inner_of reader.new))
+    ensures { Runs (plans.Packed service.now.piece service.now.limits) (R.remaining (inner_of reader.old))
+        (R.remaining (inner_of reader.new))
         (W.contents (inner_of writer.old)) (W.contents (inner_of writer.new)) (has_failed reader.new)
         (has_failed writer.new) result }
 {
     let mut unpacker = Unpacker::new();
-    let mut words = Vec::new(alloc);
-    let mut framer = Framer::new(alloc, limits.message_words());
-    let mut text = Vec::new(alloc);
+    let mut words = Vec::new(service.alloc);
+    let mut framer = Framer::new(service.alloc, service.limits.message_words());
+    let mut text = Vec::new(service.alloc);
     let mut buffer = [0; PIECE];
     let mut taken = 0;
     'pieces: loop {
@@ -161,9 +121,7 @@ pub fn run_packed<R: Read, W: Write, A: Allocator + Copy>(
             Ok(count) => {
                 let within = count.min(MOST_BYTES - taken);
                 serve_packed(
-                    alloc,
-                    piece,
-                    limits,
+                    service,
                     &mut unpacker,
                     &mut words,
                     &mut framer,

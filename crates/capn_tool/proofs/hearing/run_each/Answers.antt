@@ -26,7 +26,7 @@ nothing_heard piece limits a c rest is = (
 pub returns-in-Err : goal.returns-in-Err
 returns-in-Err g c =
     let i = c.pieces.invariant in
-    runs_unread c.args.piece c.args.limits _ _ _ _ _ c.pieces.taken c.pieces.framer.rest _ _
+    runs_unread c.args.service.now.piece c.args.service.now.limits _ _ _ _ _ c.pieces.taken c.pieces.framer.rest _ _
     (has_broken _ _ c.in-Err.ensures.failed) i.within i.heard i.listening.part c.in-Err.ensures.bytes
 
 pub returns-in-Ok-eq0 : goal.returns-in-Ok-eq0
@@ -35,7 +35,9 @@ returns-in-Ok-eq0 g c =
     let room = length-take c.min-room.result c.pieces.buffer in
     let ends = subst (λ (m : ℕ). EndsInput c.pieces.framer.rest m c.end_of_input.result) i.listening.most
     c.end_of_input.ensures in
-    runs_end c.args.piece c.args.limits _ _ _ _ _ c.pieces.taken c.pieces.framer.rest c.read.new.buf c.in-Ok-eq0.field-0
+    runs_end c.args.service.now.piece c.args.service.now.limits _ _ _ _ _ c.pieces.taken c.pieces.framer.rest
+    c.read.new.buf
+    c.in-Ok-eq0.field-0
     _ _ c.end_of_input.result (still_fine _ _ i.reader c.in-Ok-eq0.ensures.failed) i.writer i.within i.heard
     c.in-Ok-eq0.field-0-test
     c.in-Ok-eq0.ensures.bytes (omega arith) ends
@@ -47,7 +49,8 @@ returns-in_err-serve_piece-in-Ok g c =
     let bound = c.in-Ok.ensures.bound in
     let room = length-take c.min-room.result c.pieces.buffer in
     rw (p.1, p.2)
-    (runs_stopped c.args.piece c.args.limits _ _ _ _ _ _ c.pieces.taken c.pieces.framer.rest c.read.new.buf
+    (runs_stopped c.args.service.now.piece c.args.service.now.limits _ _ _ _ _ _ c.pieces.taken c.pieces.framer.rest
+    c.read.new.buf
     (drop c.min-room.result c.pieces.buffer) c.min-within.result c.in-Ok.count _ _
     c.in_err-serve_piece-in-Ok.field-0.0
     (still_fine _ _ i.reader c.in-Ok.ensures.failed) i.within c.min-within.ensures (omega arith) i.heard
@@ -60,7 +63,8 @@ returns-then-within-count g c =
     let bound = c.in-Ok.ensures.bound in
     let room = length-take c.min-room.result c.pieces.buffer in
     let served = c.in_ok-serve_piece-in-Ok.ensures in
-    runs_long c.args.piece c.args.limits _ _ _ _ _ _ c.pieces.taken c.pieces.framer.rest c.serve_piece.new.framer.rest
+    runs_long c.args.service.now.piece c.args.service.now.limits _ _ _ _ _ _ c.pieces.taken c.pieces.framer.rest
+    c.serve_piece.new.framer.rest
     c.read.new.buf (drop c.min-room.result c.pieces.buffer) c.min-within.result c.in-Ok.count _ _
     (still_fine _ _ i.reader c.in-Ok.ensures.failed) served.2 (omega arith) c.if-within-count.true (omega arith) i.heard
     c.in-Ok.ensures.bytes.0 bound.0 served.0 served.1.part
@@ -75,7 +79,8 @@ pieces-preserved g c =
       writer = served.2;
       listening = served.1;
       within = omega arith;
-      heard = hears_more c.args.piece c.args.limits _ _ _ _ _ _ c.pieces.taken c.pieces.framer.rest
+      heard = hears_more c.args.service.now.piece c.args.service.now.limits _ _ _ _ _ _ c.pieces.taken
+          c.pieces.framer.rest
           c.serve_piece.new.framer.rest c.read.new.buf (drop c.min-room.result c.pieces.buffer) c.min-within.result
           c.in-Ok.count (omega arith) i.heard c.in-Ok.ensures.bytes.0 bound.0 served.0;
     }
@@ -90,9 +95,11 @@ pub pieces-init : goal.pieces-init
 pieces-init g c = record {
   reader = c.requires.reader_fine;
   writer = c.requires.writer_fine;
-  listening = new_listening c.new-framer.result c.args.limits _ c.new-framer.ensures c.message_words.ensures.value;
+  listening = new_listening c.new-framer.result c.args.service.now.limits _ c.new-framer.ensures
+      c.message_words.ensures.value;
   within = omega arith;
-  heard = nothing_heard c.args.piece c.args.limits (g.R.Read.remaining (inner_of c.args.reader.now))
+  heard = nothing_heard c.args.service.now.piece c.args.service.now.limits
+      (g.R.Read.remaining (inner_of c.args.reader.now))
       (g.W.Write.contents (inner_of c.args.writer.now)) c.new-framer.result.rest
       (ap (λ (f : Framing). f.rest) c.new-framer.ensures);
 }

@@ -8,9 +8,10 @@ abbrev pub invariant-pieces : goal.invariant-pieces
 invariant-pieces g l = record {
   reader : has_failed l.reader ≡ false;
   writer : has_failed l.writer ≡ false;
-  listening : IsListening l.framer l.limits;
+  listening : IsListening l.framer l.service.limits;
   within : l.taken ≤ 2 ^ 32;
-  heard : Hears l.piece l.limits (g.R.Read.remaining (inner_of l.fn.reader)) (g.R.Read.remaining (inner_of l.reader))
+  heard : Hears l.service.piece l.service.limits (g.R.Read.remaining (inner_of l.fn.reader))
+      (g.R.Read.remaining (inner_of l.reader))
       l.taken l.framer.rest
       (g.W.Write.contents (inner_of l.fn.writer)) (g.W.Write.contents (inner_of l.writer));
 }

@@ -2,10 +2,11 @@ use Rattle.std.proofs.Common.{◌≡◌, ◌<◌, ◌≤◌, ◌-◌, ◌++◌, 
 use Rattle.std.proofs.Common.{subst}
 use Rattle.std.proofs.Common.{append-nil, length-drop, length-take}
 use Rattle.std.proofs.Math.Seq.{take_all}
+use Rattle.capn_words.specs.Watching.{inner_of, has_failed}
 use Rattle.capn_walk.specs.Limits.{Bounds}
 use Rattle.capn_stream.specs.Framing.{Framing}
 use Rattle.capn_tool.specs.Heard.{IsListening, Serves, Tells}
-use Rattle.capn_tool.specs.Sending.{Outgoing}
+use Rattle.capn_tool.specs.Sending.{Outgoing, outgoing}
 use Rattle.capn_tool.specs.declared.plan.Piece.{Piece}
 use Rattle.capn_tool.proofs.HeardMore.{tells_none}
 use Rattle.std.proofs.lemmas.Result.{err_from_is_err_and}
@@ -31,8 +32,10 @@ pub returns-in_err-at : goal.returns-in_err-at
 returns-in_err-at g c =
     let p = err_from_is_err_and c.from_residual.result c.from_residual.ensures.1 in
     rw (p.1, p.2)
-    (served_stop c.args.piece c.args.limits c.args.framer.now c.loop-at.framer c.args.bytes.now c.loop-at.at _ _ _
-    c.loop-at.invariant.told _ c.in_err-at.field-0.0 c.in_err-at.ensures)
+    (served_stop c.args.service.now.piece c.args.service.now.limits c.args.framer.now c.loop-at.framer c.args.bytes.now
+    c.loop-at.at _ (outgoing (g.W.Write.contents (inner_of c.loop-at.writer)) c.loop-at.text.items)
+    (outgoing (g.W.Write.contents (inner_of c.serve_some.new.writer)) c.serve_some.new.text.items)
+    c.loop-at.invariant.told (has_failed c.serve_some.new.writer) c.in_err-at.field-0.0 c.in_err-at.ensures)
 
 pub loop-at-preserved : goal.loop-at-preserved
 loop-at-preserved g c =
@@ -43,7 +46,9 @@ loop-at-preserved g c =
       fine = next.2.2;
       listening = next.2.1;
       within = omega (arith, next.0, rest, i.within, length-drop c.loop-at.at c.args.bytes.now);
-      told = served_more c.args.piece c.args.limits c.args.framer.now c.loop-at.framer c.args.bytes.now c.loop-at.at _ _
+      told = served_more c.args.service.now.piece c.args.service.now.limits c.args.framer.now c.loop-at.framer
+          c.args.bytes.now
+          c.loop-at.at _ _
           _ i.told c.in_ok-at.field-0 c.serve_some.new.framer.rest next.2.0;
     }
 
@@ -52,7 +57,7 @@ loop-at-init g c = record {
   fine = c.requires.fine;
   listening = c.requires.listening;
   within = omega arith;
-  told = served_none c.args.piece c.args.limits c.args.framer.now.rest _;
+  told = served_none c.args.service.now.piece c.args.service.now.limits c.args.framer.now.rest _;
 }
 
 pub serve_some-requires-clause-fine : goal.serve_some-requires-clause-fine
@@ -72,5 +77,6 @@ loop-at-smaller g c =
 pub returns : goal.returns
 returns g c =
     let i = c.loop-at.invariant in
-    served_all c.args.piece c.args.limits c.args.framer.now c.loop-at.framer c.args.bytes.now c.loop-at.at _ _ _
+    served_all c.args.service.now.piece c.args.service.now.limits c.args.framer.now c.loop-at.framer c.args.bytes.now
+    c.loop-at.at _ _ _
     c.loop-at-test.false i.told i.listening i.fine

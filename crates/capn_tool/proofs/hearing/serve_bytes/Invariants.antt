@@ -8,9 +8,9 @@ use Rattle.capn_tool.proofs.hearing.serve_bytes.Given as goal
 abbrev pub invariant-loop-at : goal.invariant-loop-at
 invariant-loop-at g l = record {
   fine : has_failed l.writer ≡ false;
-  listening : IsListening l.framer l.limits;
+  listening : IsListening l.framer l.service.limits;
   within : l.at ≤ length l.bytes;
-  told : Tells l.piece l.limits (l.fn.framer.rest ++ take l.at l.bytes) l.framer.rest
+  told : Tells l.service.piece l.service.limits (l.fn.framer.rest ++ take l.at l.bytes) l.framer.rest
       (outgoing (g.W.Write.contents (inner_of l.fn.writer)) l.fn.text.items)
       (outgoing (g.W.Write.contents (inner_of l.writer)) l.text.items);
 }

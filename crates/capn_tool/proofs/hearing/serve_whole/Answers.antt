@@ -7,13 +7,16 @@ pub returns-in_err-add_piece-in-Ok : goal.returns-in_err-add_piece-in-Ok
 returns-in_err-add_piece-in-Ok g c =
     let p = err_from_is_err_and c.from_residual.result c.from_residual.ensures.1 in
     rw (p.1, p.2)
-    (whole_stop c.args.piece c.args.limits c.args.bytes.now c.loop-at.at _ _ c.loop-at.invariant.told _ c.in-Ok.taken
+    (whole_stop c.args.service.now.piece c.args.service.now.limits c.args.bytes.now c.loop-at.at _ _
+    c.loop-at.invariant.told _
+    c.in-Ok.taken
     c.message_words.result c.message_words.ensures.value c.in-Ok.ensures.found _ _
     c.in_err-add_piece-in-Ok.field-0.0 c.in_err-add_piece-in-Ok.ensures)
 
 pub loop-at-smaller : goal.loop-at-smaller
 loop-at-smaller g c =
-    let moves = whole_moves c.args.piece c.args.limits c.args.bytes.now c.loop-at.at _ _ c.loop-at.invariant.told _
+    let moves = whole_moves c.args.service.now.piece c.args.service.now.limits c.args.bytes.now c.loop-at.at _ _
+    c.loop-at.invariant.told _
     c.in-Ok.taken c.message_words.result c.message_words.ensures.value c.in-Ok.ensures.found in
     omega (arith, moves, c.loop-at-test.true)
 
@@ -26,6 +29,7 @@ loop-at-preserved g c =
     record {
       fine = next.3;
       within = omega (arith, found.inside, rest, i.within, length-drop c.loop-at.at c.args.bytes.now);
-      told = whole_more c.args.piece c.args.limits c.args.bytes.now c.loop-at.at _ _ i.told _ c.in-Ok.taken
+      told = whole_more c.args.service.now.piece c.args.service.now.limits c.args.bytes.now c.loop-at.at _ _ i.told _
+          c.in-Ok.taken
           c.message_words.result c.message_words.ensures.value found _ next.0 next.1 next.2;
     }

@@ -9,7 +9,7 @@ abbrev pub invariant-loop-at : goal.invariant-loop-at
 invariant-loop-at g l = record {
   fine : has_failed l.writer ≡ false;
   within : l.at ≤ length l.bytes;
-  told : Tells l.piece l.limits (take l.at l.bytes) []
+  told : Tells l.service.piece l.service.limits (take l.at l.bytes) []
       (outgoing (g.W.Write.contents (inner_of l.fn.writer)) l.fn.text.items)
       (outgoing (g.W.Write.contents (inner_of l.writer)) l.text.items);
 }

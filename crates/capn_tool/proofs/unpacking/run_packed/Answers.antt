@@ -22,9 +22,11 @@ pub pieces-init : goal.pieces-init
 pieces-init g c = record {
   reader = c.requires.reader_fine;
   writer = c.requires.writer_fine;
-  listening = new_listening c.new-framer.result c.args.limits _ c.new-framer.ensures c.message_words.ensures.value;
+  listening = new_listening c.new-framer.result c.args.service.now.limits _ c.new-framer.ensures
+      c.message_words.ensures.value;
   within = omega arith;
-  heard = packed_begin c.args.piece c.args.limits (g.R.Read.remaining (inner_of c.args.reader.now))
+  heard = packed_begin c.args.service.now.piece c.args.service.now.limits
+      (g.R.Read.remaining (inner_of c.args.reader.now))
       (g.W.Write.contents (inner_of c.args.writer.now)) c.new-unpacker.result c.new-framer.result.rest
       c.new-unpacker.ensures
       (ap (λ (f : Framing). f.rest) c.new-framer.ensures);
@@ -33,7 +35,8 @@ pieces-init g c = record {
 pub returns-in-Err : goal.returns-in-Err
 returns-in-Err g c =
     let i = c.pieces.invariant in
-    packed_unread c.args.piece c.args.limits _ _ _ _ _ c.pieces.taken c.pieces.unpacker c.pieces.framer.rest _ _
+    packed_unread c.args.service.now.piece c.args.service.now.limits _ _ _ _ _ c.pieces.taken c.pieces.unpacker
+    c.pieces.framer.rest _ _
     (has_broken _ _ c.in-Err.ensures.failed) i.within i.heard i.listening.part c.in-Err.ensures.bytes
 
 pub returns-in-Ok-eq0 : goal.returns-in-Ok-eq0
@@ -43,7 +46,8 @@ returns-in-Ok-eq0 g c =
     let ends = subst
     (λ (m : ℕ). EndsPacked c.pieces.unpacker.rest c.pieces.unpacker.offset c.pieces.framer.rest m
     c.end_of_packed.result) i.listening.most c.end_of_packed.ensures in
-    packed_end c.args.piece c.args.limits _ _ _ _ _ c.pieces.taken c.pieces.unpacker c.pieces.framer.rest c.read.new.buf
+    packed_end c.args.service.now.piece c.args.service.now.limits _ _ _ _ _ c.pieces.taken c.pieces.unpacker
+    c.pieces.framer.rest c.read.new.buf
     c.in-Ok-eq0.field-0 _ _ c.end_of_packed.result (still_fine _ _ i.reader c.in-Ok-eq0.ensures.failed) i.writer
     i.within i.heard
     c.in-Ok-eq0.field-0-test
@@ -56,7 +60,8 @@ returns-in_err-serve_packed-in-Ok g c =
     let bound = c.in-Ok.ensures.bound in
     let room = length-take c.min-room.result c.pieces.buffer in
     rw (p.1, p.2)
-    (packed_stopped c.args.piece c.args.limits _ _ _ _ _ _ c.pieces.taken c.pieces.unpacker c.pieces.framer.rest
+    (packed_stopped c.args.service.now.piece c.args.service.now.limits _ _ _ _ _ _ c.pieces.taken c.pieces.unpacker
+    c.pieces.framer.rest
     c.read.new.buf (drop c.min-room.result c.pieces.buffer) c.min-within.result c.in-Ok.count _ _
     c.in_err-serve_packed-in-Ok.field-0.0
     (still_fine _ _ i.reader c.in-Ok.ensures.failed) i.within c.min-within.ensures (omega arith) i.heard
@@ -69,7 +74,8 @@ returns-then-within-count g c =
     let bound = c.in-Ok.ensures.bound in
     let room = length-take c.min-room.result c.pieces.buffer in
     let served = c.in_ok-serve_packed-in-Ok.ensures in
-    packed_long c.args.piece c.args.limits _ _ _ _ _ _ c.pieces.taken c.pieces.unpacker c.serve_packed.new.unpacker
+    packed_long c.args.service.now.piece c.args.service.now.limits _ _ _ _ _ _ c.pieces.taken c.pieces.unpacker
+    c.serve_packed.new.unpacker
     c.pieces.framer.rest c.serve_packed.new.framer.rest c.read.new.buf (drop c.min-room.result c.pieces.buffer)
     c.min-within.result c.in-Ok.count _ _
     (still_fine _ _ i.reader c.in-Ok.ensures.failed) served.2 (omega arith) c.if-within-count.true (omega arith) i.heard
@@ -85,7 +91,8 @@ pieces-preserved g c =
       writer = served.2;
       listening = served.1;
       within = omega arith;
-      heard = packed_hears c.args.piece c.args.limits _ _ _ _ _ _ c.pieces.taken c.pieces.unpacker
+      heard = packed_hears c.args.service.now.piece c.args.service.now.limits _ _ _ _ _ _ c.pieces.taken
+          c.pieces.unpacker
           c.serve_packed.new.unpacker c.pieces.framer.rest c.serve_packed.new.framer.rest c.read.new.buf
           (drop c.min-room.result c.pieces.buffer) c.min-within.result c.in-Ok.count (omega arith) i.heard
           c.in-Ok.ensures.bytes.0 bound.0 served.0;
@@ -99,7 +106,7 @@ serve_packed-requires-clause-listening g c = c.pieces.invariant.listening
 
 pub serve_packed-requires-clause-unpacking : goal.serve_packed-requires-clause-unpacking
 serve_packed-requires-clause-unpacking g c =
-    unpacking c.args.piece c.args.limits _ _ _ c.pieces.unpacker _ _ _ c.pieces.invariant.heard
+    unpacking c.args.service.now.piece c.args.service.now.limits _ _ _ c.pieces.unpacker _ _ _ c.pieces.invariant.heard
 
 pub end_of_packed-requires-clause-held : goal.end_of_packed-requires-clause-held
 end_of_packed-requires-clause-held g c = c.pieces.invariant.heard.3.4

@@ -1,14 +1,17 @@
-use Rattle.std.proofs.Common.{◌≡◌, ◌≤◌, ℕ, List, Bool, false, Ok, take, length, subst, arith}
+use Rattle.std.proofs.Common.{◌≡◌, ◌≤◌, ◌-◌, ℕ, List, Bool, false, Ok, take, drop, length, subst, arith}
 use Rattle.std.proofs.Math.Seq.{take_all}
+use Rattle.capn_words.specs.Watching.{inner_of, has_failed}
 use Rattle.capn_walk.specs.Limits.{Bounds}
 use Rattle.capn_pack.specs.Stream.{Held}
 use Rattle.capn_stream.specs.Framing.{Framing}
 use Rattle.capn_tool.specs.Heard.{IsListening}
 use Rattle.capn_tool.specs.HeardPacked.{ServesPacked, TellsPacked}
-use Rattle.capn_tool.specs.Sending.{Outgoing}
+use Rattle.capn_tool.specs.Sending.{Outgoing, outgoing}
 use Rattle.capn_tool.specs.declared.plan.Piece.{Piece}
+use Rattle.capn_tool.specs.declared.fault.ToolFault.TheVariants as faults
 use Rattle.std.proofs.lemmas.Result.{err_from_is_err_and}
-use Rattle.capn_tool.proofs.PackedMore.{packed_none, slice_more, slice_stop}
+use Rattle.capn_tool.proofs.PackedMore.{packed_memory, packed_none, slice_more, slice_stop, unpacked_stops}
+use Rattle.capn_tool.proofs.PackedMore.{unpacked_tells}
 use Rattle.capn_tool.proofs.unpacking.serve_slices.Goals as goal
 
 -- the loop has come to the end of the bytes
@@ -28,45 +31,66 @@ loop-at-init g c = record {
   held = c.requires.unpacking.held;
   listening = c.requires.listening;
   within = omega arith;
-  told = packed_none c.args.piece c.args.limits c.args.unpacker.now c.args.framer.now.rest _ c.requires.unpacking;
+  told = packed_none c.args.service.now.piece c.args.service.now.limits c.args.unpacker.now c.args.framer.now.rest _
+      c.requires.unpacking;
 }
 
-pub returns-in_err-serve_slice : goal.returns-in_err-serve_slice
-returns-in_err-serve_slice g c =
+pub returns-in_err-serve_bytes-in-Ok : goal.returns-in_err-serve_bytes-in-Ok
+returns-in_err-serve_bytes-in-Ok g c =
     let i = c.loop-at.invariant in
     let p = err_from_is_err_and c.from_residual.result c.from_residual.ensures.1 in
     rw (p.1, p.2)
-    (slice_stop c.args.piece c.args.limits c.args.unpacker.now c.args.framer.now.rest c.args.bytes.now c.loop-at.at
-    c.min-end.result (omega arith) c.loop-at.unpacker c.loop-at.framer.rest _ _ i.told _ _
-    c.in_err-serve_slice.field-0.0
-    c.in_err-serve_slice.ensures)
+    (slice_stop c.args.service.now.piece c.args.service.now.limits c.args.unpacker.now c.args.framer.now.rest
+    c.args.bytes.now
+    c.loop-at.at c.min-end.result (omega arith) c.loop-at.unpacker c.loop-at.framer.rest _
+    (outgoing (g.W.Write.contents (inner_of c.loop-at.writer)) c.loop-at.text.items) i.told
+    (outgoing (g.W.Write.contents (inner_of c.serve_bytes.new.writer)) c.serve_bytes.new.text.items)
+    (has_failed c.serve_bytes.new.writer) c.in_err-serve_bytes-in-Ok.field-0.0
+    (unpacked_stops c.args.service.now.piece c.args.service.now.limits c.loop-at.unpacker c.feed.new.self
+    c.loop-at.framer.rest
+    (take (c.min-end.result - c.loop-at.at) (drop c.loop-at.at c.args.bytes.now)) c.clear.new.self.items
+    c.feed.new.out.items c.deref.result.now c.clear.ensures.items c.deref.ensures.value c.in-Ok.ensures.fed
+    (outgoing (g.W.Write.contents (inner_of c.loop-at.writer)) c.loop-at.text.items)
+    (outgoing (g.W.Write.contents (inner_of c.serve_bytes.new.writer)) c.serve_bytes.new.text.items)
+    (has_failed c.serve_bytes.new.writer) c.in_err-serve_bytes-in-Ok.field-0.0
+    c.in_err-serve_bytes-in-Ok.ensures))
+
+pub returns-in-Err : goal.returns-in-Err
+returns-in-Err g c =
+    let i = c.loop-at.invariant in
+    slice_stop c.args.service.now.piece c.args.service.now.limits c.args.unpacker.now c.args.framer.now.rest
+    c.args.bytes.now
+    c.loop-at.at c.min-end.result (omega arith) c.loop-at.unpacker c.loop-at.framer.rest _ _ i.told _ _ faults.Memory
+    (packed_memory c.args.service.now.piece c.args.service.now.limits c.loop-at.unpacker.rest c.loop-at.framer.rest
+    (take (c.min-end.result - c.loop-at.at) (drop c.loop-at.at c.args.bytes.now)) _ _ i.fine)
 
 pub loop-at-preserved : goal.loop-at-preserved
 loop-at-preserved g c =
     let i = c.loop-at.invariant in
-    let next = c.in_ok-serve_slice.ensures in
+    let next = c.in_ok-serve_bytes-in-Ok.ensures in
     record {
       fine = next.2;
-      held = next.0.4;
+      held = c.in-Ok.ensures.fed.is_good;
       listening = next.1;
       within = omega arith;
-      told = slice_more c.args.piece c.args.limits c.args.unpacker.now c.args.framer.now.rest c.args.bytes.now
-          c.loop-at.at c.min-end.result (omega arith) c.loop-at.unpacker c.loop-at.framer.rest _ _ i.told
-          c.serve_slice.new.unpacker
-          c.serve_slice.new.framer.rest _ next.0;
+      told = slice_more c.args.service.now.piece c.args.service.now.limits c.args.unpacker.now c.args.framer.now.rest
+          c.args.bytes.now c.loop-at.at c.min-end.result (omega arith) c.loop-at.unpacker c.loop-at.framer.rest _ _
+          i.told c.feed.new.self c.serve_bytes.new.framer.rest _
+          (unpacked_tells c.args.service.now.piece c.args.service.now.limits c.loop-at.unpacker c.feed.new.self
+          c.loop-at.framer.rest (take (c.min-end.result - c.loop-at.at) (drop c.loop-at.at c.args.bytes.now))
+          c.clear.new.self.items c.feed.new.out.items c.deref.result.now c.clear.ensures.items c.deref.ensures.value
+          c.in-Ok.ensures.fed c.serve_bytes.new.framer.rest _ _ next.0);
     }
 
-pub serve_slice-requires-clause-fine : goal.serve_slice-requires-clause-fine
-serve_slice-requires-clause-fine g c = c.loop-at.invariant.fine
+pub serve_bytes-requires-clause-fine : goal.serve_bytes-requires-clause-fine
+serve_bytes-requires-clause-fine g c = c.loop-at.invariant.fine
 
-pub serve_slice-requires-clause-listening : goal.serve_slice-requires-clause-listening
-serve_slice-requires-clause-listening g c = c.loop-at.invariant.listening
-
-pub serve_slice-requires-clause-held : goal.serve_slice-requires-clause-held
-serve_slice-requires-clause-held g c = c.loop-at.invariant.held
+pub serve_bytes-requires-clause-listening : goal.serve_bytes-requires-clause-listening
+serve_bytes-requires-clause-listening g c = c.loop-at.invariant.listening
 
 pub returns : goal.returns
 returns g c =
     let i = c.loop-at.invariant in
-    packed_all c.args.piece c.args.limits c.args.unpacker.now c.args.framer.now c.args.bytes.now c.loop-at.at
+    packed_all c.args.service.now.piece c.args.service.now.limits c.args.unpacker.now c.args.framer.now c.args.bytes.now
+    c.loop-at.at
     c.loop-at.unpacker c.loop-at.framer _ _ _ c.loop-at-test.false i.told i.listening i.fine

@@ -10,9 +10,10 @@ abbrev pub invariant-loop-at : goal.invariant-loop-at
 invariant-loop-at g l = record {
   fine : has_failed l.writer ≡ false;
   held : l.unpacker.failed ≡ false;
-  listening : IsListening l.framer l.limits;
+  listening : IsListening l.framer l.service.limits;
   within : l.at ≤ length l.bytes;
-  told : TellsPacked l.piece l.limits l.fn.unpacker l.fn.framer.rest (take l.at l.bytes) l.unpacker l.framer.rest
+  told : TellsPacked l.service.piece l.service.limits l.fn.unpacker l.fn.framer.rest (take l.at l.bytes) l.unpacker
+      l.framer.rest
       (outgoing (g.W.Write.contents (inner_of l.fn.writer)) l.fn.text.items)
       (outgoing (g.W.Write.contents (inner_of l.writer)) l.text.items);
 }
