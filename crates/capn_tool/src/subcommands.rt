@@ -3,8 +3,7 @@
 ghost use Rattle.std.specs.Prelude.{◌≡◌, IfOk, false};
 ghost use Rattle.clap.specs.Words.{App, app_of, rule_of, new_app, with_subcommand};
 ghost use Rattle.clap.specs.declared.builder.command.Command.TheViews.{out-Command};
-ghost use Rattle.capn_tool.specs.Line.{HasLine, usual_rule, number_rule, words_rule, budget_rule};
-ghost use Rattle.capn_tool.specs.Line.{depth_rule};
+ghost use Rattle.capn_tool.specs.Line.{HasLine, usual_rule, number_rule, words_rule, budget_rule, depth_rule};
 ghost use Rattle.capn_tool.specs.Line.{message_line, unpack_line, reading_line, messages_line};
 ghost use Rattle.capn_tool.specs.Line.{tool_line};
 
@@ -125,6 +124,7 @@ fn with_command<'a>(
     ensures { (top line : App) → IfOk program.entry (λ c. app_of c ≡ top) → IfOk command.entry (λ c. HasLine c line)
         → IfOk result (λ c. app_of c ≡ with_subcommand top line.top) }
 {
+    // What is not handed on is dropped by one call: cheaper to check than its fields one by one.
     match program {
         Ok(top) => match command {
             Ok(made) => top.subcommand(made),
