@@ -1,7 +1,7 @@
 //! What the words of the command line tell the tool to do.
 
 ghost use Rattle.std.specs.Prelude.{◌≡◌, ◌⊎◌, ℕ, ◌<◌, ◌^◌, true, IfErr, IfOk, IfSome, IsSome, Some, codes, map};
-ghost use Rattle.clap.specs.Words.{found_of, kind_of, rows_of, subcommand_of, takes};
+ghost use Rattle.clap.specs.Words.{FailsBy, HasMatchesOf, fault_of, found_of, kind_of, rows_of, subcommand_of, takes};
 ghost use Rattle.clap.specs.declared.error.ErrorKind.TheVariants as kinds;
 ghost use Rattle.capn_walk.specs.Limits.{Bounds};
 ghost use Rattle.capn_tool.specs.Line.{tool_line};
@@ -156,6 +156,19 @@ fn no_such_value(alloc: Global, text: &str) -> Usage
     }
 }
 
+/// What the parser finds in the words, the first of them being the program's name.
+fn matches_of<'a, S: AsStr>(alloc: Global, words: &'a [S]) -> Result<ArgMatches<'a>, clap::Error>
+    ensures found { IfOk result (HasMatchesOf tool_line (map S.text words.now)) }
+    ensures passes { IfErr result (λ e.
+        takes tool_line (map S.text words.now) ≡ true → kind_of e ≡ kinds.OutOfMemory) }
+    ensures kinds { FailsBy (fault_of tool_line (map S.text words.now)) result }
+{
+    match tool_command(alloc) {
+        Ok(tool) => tool.try_get_matches_from(words),
+        Err(error) => Err(error.into()),
+    }
+}
+
 /// The command that the words order, the first of them being the program's name: the subcommand's, with the form, the
 /// limits and the tariff that its options have, given or usual. A wish for help, a word, an option or a value that is
 /// not known, a number out of its range, a form or a tariff that the command does not take and want of memory are
@@ -169,7 +182,7 @@ pub fn command_of<'a, S: AsStr>(alloc: Global, words: &'a [S]) -> Result<Command
     // Where none is given, the kind of the answer is a reason why the words order nothing.
     ensures reason { IfErr result (λ usage. IsReason (map S.text words.now) (kind_of (error_of usage))) }
 {
-    let matches = tool_command(alloc)?.try_get_matches_from(words)?;
+    let matches = matches_of(alloc, words)?;
     let order = match matches.subcommand() {
         Some((name, found)) => order_of(name, found),
         None => None,

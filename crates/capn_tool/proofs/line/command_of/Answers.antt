@@ -1,7 +1,6 @@
-use Rattle.std.proofs.Common.{◌≡◌, inl, inr, map, List, [], Option, Some, None, IsSome, Result, Ok, Err, IfErr, IsErr}
-use Rattle.std.proofs.Common.{IsErrAnd, sym, ap, subst, ◌∙◌}
-use Rattle.clap.specs.Words.{App, HasKind, Row, Text, fault_of, is_simple, is_simple_and_free, kind_of, subcommand_of}
-use Rattle.clap.specs.Words.{takes}
+use Rattle.std.proofs.Common.{◌≡◌, inl, inr, List, Option, Some, None, IsSome, Result, Ok, Err, IfErr, IsErr}
+use Rattle.std.proofs.Common.{IsErrAnd, map, refl, sym, ap, subst, ◌∙◌}
+use Rattle.clap.specs.Words.{HasKind, Row, Text, fault_of, kind_of, subcommand_of}
 use Rattle.clap.specs.declared.error.Error.{Error}
 use Rattle.clap.specs.declared.error.ErrorKind.TheVariants as kinds
 use Rattle.capn_tool.specs.declared.misuse.Usage.{Usage}
@@ -17,17 +16,14 @@ use Rattle.capn_tool.proofs.line.command_of.Goals as goal
 
 pub returns-in-Some-order-clause-means : goal.returns-in-Some-order-clause-means
 returns-in-Some-order-clause-means g c =
-    let words = map g.S.AsStr.text c.args.words.now in
-    let line = c.in_ok-tool_command.ensures in
-    let rows = (c.in_ok-matches.ensures.matches (ap is_simple line)).1 in
+    let rows = (c.in_ok-matches.ensures.found refl).1 in
     elim c.match-subcommand.branch [
       | in-Some w ↦
           let o = sym w.order-is ∙ c.in-Some-order.is in
           let means = rw o at w.order_of-order.ensures.means in
-          let of_line = sym (ap (λ (a : App). subcommand_of a words) line) ∙ sym rows in
           let is = entered _ _ _ _ c.subcommand.result _ _ w.in-Some.is c.subcommand.ensures.name
           c.subcommand.ensures.rows in
-          subst (λ (s : Option (Text × List Row)). Means s c.in-Some-order.command) (sym (of_line ∙ is)) means
+          subst (λ (s : Option (Text × List Row)). Means s c.in-Some-order.command) (sym (sym rows ∙ is)) means
       | in-None w ↦ absurd (let o = sym w.order-is ∙ c.in-Some-order.is in cc)
     ]
 
@@ -43,11 +39,8 @@ told_memory command e (Err usage) memory (is_err, is) = ap kind_of is ∙ memory
 
 pub returns-in_err-matches-clause-only : goal.returns-in_err-matches-clause-only
 returns-in_err-matches-clause-only g c taken command means =
-    let line = c.in_ok-tool_command.ensures in
-    let words = map g.S.AsStr.text c.args.words.now in
-    told_memory command c.in_err-matches.field-0.0 _
-    (c.in_err-matches.ensures.passes (ap (λ (a : App). takes a words) line ∙ taken))
-    c.from_residual-in_err-matches.ensures
+    told_memory command c.in_err-matches.field-0.0 _ (c.in_err-matches.ensures.passes taken)
+    c.from_residual.ensures
 
 -- a command that is there is not missing
 not_missing : {A : Type 0} (order result : Option A) → order ≡ None → order ≡ result → IsSome result → ⊥
@@ -58,19 +51,16 @@ not_missing order (Some x) none is some = cc
 meaningless : (g : Over) (c : goal.Joined-matches-2 g) (command : Command)
     → Means (subcommand_of tool_line (map g.S.AsStr.text c.args.words.now)) command → ⊥
 meaningless g c command means =
-    let words = map g.S.AsStr.text c.args.words.now in
-    let line = c.in_ok-tool_command.ensures in
-    let rows = (c.in_ok-matches.ensures.matches (ap is_simple line)).1 in
-    let of_line = ap (λ (a : App). subcommand_of a words) (sym line) in
+    let rows = (c.in_ok-matches.ensures.found refl).1 in
     elim c.match-subcommand.branch [
       | in-Some w ↦
           let is = entered _ _ _ _ c.subcommand.result _ _ w.in-Some.is c.subcommand.ensures.name
           c.subcommand.ensures.rows in
-          let said = subst (λ (s : Option (Text × List Row)). Means s command) (of_line ∙ (sym rows ∙ is)) means in
+          let said = subst (λ (s : Option (Text × List Row)). Means s command) (sym rows ∙ is) means in
           not_missing _ _ c.in-None-order.is w.order-is (w.order_of-order.ensures.served command said)
       | in-None w ↦
           let is = not_entered _ _ _ c.subcommand.result _ w.in-None.is c.subcommand.ensures.rows in
-          subst (λ (s : Option (Text × List Row)). Means s command) (of_line ∙ (sym rows ∙ is)) means
+          subst (λ (s : Option (Text × List Row)). Means s command) (sym rows ∙ is) means
     ]
 
 pub returns-clause-only : goal.returns-clause-only
@@ -86,16 +76,10 @@ told_reason words e (Err usage) (inr among) (is_err, is) =
 
 pub returns-in_err-matches-clause-reason : goal.returns-in_err-matches-clause-reason
 returns-in_err-matches-clause-reason g c =
-    let line = c.in_ok-tool_command.ensures in
-    let words = map g.S.AsStr.text c.args.words.now in
-    let kind = subst (λ (a : App). HasKind (fault_of a words) c.in_err-matches.field-0.0) line
-    (c.in_err-matches.ensures.kinds (ap is_simple_and_free line)) in
-    told_reason words c.in_err-matches.field-0.0 _ kind c.from_residual-in_err-matches.ensures
+    told_reason (map g.S.AsStr.text c.args.words.now) c.in_err-matches.field-0.0 _ c.in_err-matches.ensures.kinds
+    c.from_residual.ensures
 
 pub returns-clause-reason : goal.returns-clause-reason
 returns-clause-reason g c =
-    let line = c.in_ok-tool_command.ensures in
-    let words = map g.S.AsStr.text c.args.words.now in
-    let none = subst (λ (a : App). fault_of a words ≡ []) line
-    (c.in_ok-matches.ensures.kinds (ap is_simple_and_free line)) in
+    let none = c.in_ok-matches.ensures.kinds in
     elim c.no_such_value.ensures [ inl memory ↦ inl memory | inr value ↦ inr (inr (none, value, meaningless g c)) ]
