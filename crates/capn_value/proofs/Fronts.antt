@@ -1,17 +1,19 @@
 -- The first so many trees.
 use Rattle.std.proofs.Common.{◌≡◌, ℕ, zero, suc, ◌+◌, ◌<◌, List, [], ◌∷◌, ◌++◌, length, min, take, drop, refl, sym, ap}
-use Rattle.std.proofs.Common.{ap₂, ◌∙◌, arith, get_or, add-one}
-use Rattle.std.proofs.lemmas.List.{take_min, length-take-le}
+use Rattle.std.proofs.Common.{ap₂, ◌∙◌, arith, get_or, add-one, Bool, true, false, Option, Some, None}
+use Rattle.std.proofs.lemmas.List.{take_all, take_min, length-take-le}
 use Rattle.std.specs.Prelude.{Result, Ok, Err}
 use Rattle.std.specs.Result.{IfOk, IsOkAnd}
-use Rattle.capn_value.specs.Tree.{Trees, no_trees, tree, Bodies, body, joined, joined_rows, front, count, tree_at}
+use Rattle.std.specs.Option.{is_some, unwrap_or}
+use Rattle.capn_value.specs.Tree.{Trees, no_trees, tree, Bodies, no_bodies, body, joined, joined_rows, front, count}
+use Rattle.capn_value.specs.Tree.{tree_at}
 use Rattle.capn_value.specs.View.{tree_of, trees_of, rows_of}
 use Rattle.capn_value.specs.Views.{count-trees_of}
-use Rattle.capn_value.specs.Trim.{trimmed, trimmed_each, trimmed_rows}
+use Rattle.capn_value.specs.Trim.{trimmed, trimmed_each}
+use Rattle.capn_value.specs.Anew.{anew, each_anew, words_anew, slots_anew, rows_anew}
 use Rattle.capn_value.specs.declared.value.Value.{Value}
 use Rattle.capn_value.specs.declared.value.Body.{Body}
 use Rattle.capn_value.proofs.Anywhere.{drop-next, drop-past}
-use Rattle.capn_value.proofs.Joined.{joined_rows-push, joined_rows-none}
 use Rattle.capn_value.specs.Laws.Trimmed.{count-trimmed_each}
 
 -- one more
@@ -32,10 +34,18 @@ front-min (suc n) no_trees = let e : min (suc n) zero ≡ zero = omega arith in 
 front-min (suc n) (tree t ts) =
     let e : min (suc n) (suc (count ts)) ≡ suc (min n (count ts)) = omega arith in rw e (ap (tree t) (front-min n ts))
 
-pub tree_at-trimmed_each : (i : ℕ) (ts : Trees) → tree_at (trimmed_each ts) i ≡ trimmed (tree_at ts i)
+tree_at-trimmed_each : (i : ℕ) (ts : Trees) → tree_at (trimmed_each ts) i ≡ trimmed (tree_at ts i)
 tree_at-trimmed_each i no_trees = refl
 tree_at-trimmed_each zero (tree t ts) = refl
 tree_at-trimmed_each (suc i) (tree t ts) = tree_at-trimmed_each i ts
+
+tree_at-each_anew : (cut : Bool) (i : ℕ) (ts : Trees) → tree_at (each_anew cut ts) i ≡ anew cut (tree_at ts i)
+tree_at-each_anew true i ts = tree_at-trimmed_each i ts
+tree_at-each_anew false i ts = refl
+
+count-each_anew : (cut : Bool) (ts : Trees) → count (each_anew cut ts) ≡ count ts
+count-each_anew true ts = count-trimmed_each ts
+count-each_anew false ts = refl
 
 module _ {A : Type 0} where
   pub tree_at-trees_of : (i : ℕ) (vs : List (Value A)) (v : Value A) → i < length vs → v ≡ get_or vs i v
@@ -52,73 +62,111 @@ module _ {A : Type 0} where
   pub front-length : (vs : List (Value A)) → front (length vs) (trees_of vs) ≡ trees_of vs
   front-length vs = ap (λ n. front n (trees_of vs)) (sym (count-trees_of vs)) ∙ front-count (trees_of vs)
 
-  -- as many as there are
-  pub trimmed_front-length : (vs : List (Value A))
-      → front (length vs) (trimmed_each (trees_of vs)) ≡ trimmed_each (trees_of vs)
-  trimmed_front-length vs =
-      ap (λ n. front n (trimmed_each (trees_of vs))) (sym (count-trimmed_each (trees_of vs) ∙ count-trees_of vs))
-      ∙ front-count (trimmed_each (trees_of vs))
+  module _ (cut : Bool) (vs : List (Value A)) where
+    pub count-anew : count (each_anew cut (trees_of vs)) ≡ length vs
+    count-anew = count-each_anew cut (trees_of vs) ∙ count-trees_of vs
 
-  pub trimmed_front-min : (n : ℕ) (vs : List (Value A))
-      → front (min n (length vs)) (trimmed_each (trees_of vs)) ≡ front n (trimmed_each (trees_of vs))
-  trimmed_front-min n vs =
-      ap (λ k. front (min n k) (trimmed_each (trees_of vs)))
-      (sym (count-trimmed_each (trees_of vs) ∙ count-trees_of vs))
-      ∙ front-min n (trimmed_each (trees_of vs))
+    -- as many as there are
+    pub anew_front-length : front (length vs) (each_anew cut (trees_of vs)) ≡ each_anew cut (trees_of vs)
+    anew_front-length = ap (λ n. front n (each_anew cut (trees_of vs))) (sym count-anew)
+        ∙ front-count (each_anew cut (trees_of vs))
 
--- the next one, trimmed and put behind the others
-trimmed_front-push : {A B : Type 0} (out : List (Value A)) (items : List (Value B)) (i : ℕ) (v : Value B)
-    (r : Value A) →
-    trees_of out ≡ front i (trimmed_each (trees_of items)) → i < length items → v ≡ get_or items i v
-    → tree_of r ≡ trimmed (tree_of v) →
-    trees_of (out ++ r ∷ []) ≡ front (i + 1) (trimmed_each (trees_of items))
-trimmed_front-push out items i v r so_far within here done =
-    let all = trimmed_each (trees_of items) in
-    let next : tree_of r ≡ tree_at all i =
-    done ∙ ap trimmed (sym (tree_at-trees_of i items v within here)) ∙ sym (tree_at-trimmed_each i (trees_of items)) in
-    rw add-one
-    (trees_of-push out r ∙ ap₂ (λ ts t. joined ts (tree t no_trees)) so_far next
-    ∙ sym (front-suc i all (omega (arith, count-trimmed_each (trees_of items), count-trees_of items))))
+    pub anew_front-min : (n : ℕ)
+        → front (min n (length vs)) (each_anew cut (trees_of vs)) ≡ front n (each_anew cut (trees_of vs))
+    anew_front-min n = ap (λ k. front (min n k) (each_anew cut (trees_of vs))) (sym count-anew)
+        ∙ front-min n (each_anew cut (trees_of vs))
 
--- the same, of what a call made
-pub front_made : {A B E : Type 0} (out : List (Value A)) (items : List (Value B)) (i : ℕ) (v : Value B)
-    (r : Result (Value A) E) (more : List (Value A)) → trees_of out ≡ front i (trimmed_each (trees_of items))
-    → i < length items → v ≡ get_or items i v → IfOk r (λ u. tree_of u ≡ trimmed (tree_of v))
-    → IsOkAnd r (λ u. more ≡ out ++ u ∷ []) → trees_of more ≡ front (i + 1) (trimmed_each (trees_of items))
-front_made out items i v (Ok u) more so_far h at e p = ap trees_of p ∙ trimmed_front-push out items i v u so_far h at e
-front_made out items i v (Err d) more so_far h at e p = absurd p
+-- the next one, made anew and put behind the others
+module _ {A B : Type 0} (cut : Bool) (out : List (Value A)) (items : List (Value B)) (i : ℕ) (v : Value B)
+    (so_far : trees_of out ≡ front i (each_anew cut (trees_of items))) (within : i < length items)
+    (here : v ≡ get_or items i v) where
+  anew_front-push : (r : Value A) → tree_of r ≡ anew cut (tree_of v)
+      → trees_of (out ++ r ∷ []) ≡ front (i + 1) (each_anew cut (trees_of items))
+  anew_front-push r done =
+      let all = each_anew cut (trees_of items) in
+      let next : tree_of r ≡ tree_at all i =
+      done ∙ ap (anew cut) (sym (tree_at-trees_of i items v within here))
+      ∙ sym (tree_at-each_anew cut i (trees_of items)) in
+      rw add-one
+      (trees_of-push out r ∙ ap₂ (λ ts t. joined ts (tree t no_trees)) so_far next
+      ∙ sym (front-suc i all (omega (arith, count-anew cut items))))
 
--- the next row, cut and put behind the others, and all of them
-module _ {A B : Type 0} (out : List (Body A)) (rows : List (Body B)) (i w s : ℕ) {all : Bodies}
-    (so_far : joined_rows (rows_of out) (trimmed_rows w s (rows_of (drop i rows))) ≡ all) where
-  row_trimmed : (b : Body B) (r : Body A) {more : List (Body A)} → i < length rows → b ≡ get_or rows i b
-      → r.words ≡ take w b.words →
-      trees_of r.slots ≡ front s (trimmed_each (trees_of b.slots)) → more ≡ out ++ r ∷ [] →
-      joined_rows (rows_of more) (trimmed_rows w s (rows_of (drop (i + 1) rows))) ≡ all
-  row_trimmed b r h at e f p =
-      let rest = trimmed_rows w s (rows_of (drop (i + 1) rows)) in
-      ap (λ o. joined_rows (rows_of o) rest) p ∙ joined_rows-push out r rest
-      ∙ ap₂ (λ ws ss. joined_rows (rows_of out) (body ws ss rest)) e f
-      ∙ sym (ap (λ bs. joined_rows (rows_of out) (trimmed_rows w s (rows_of bs))) (drop-next rows i b h at)) ∙ so_far
+  -- the same, of what a call made
+  pub front_made : {E : Type 0} (r : Result (Value A) E) (more : List (Value A))
+      → IfOk r (λ u. tree_of u ≡ anew cut (tree_of v)) → IsOkAnd r (λ u. more ≡ out ++ u ∷ [])
+      → trees_of more ≡ front (i + 1) (each_anew cut (trees_of items))
+  front_made (Ok u) more e p = ap trees_of p ∙ anew_front-push u e
+  front_made (Err d) more e p = absurd p
+
+joined_rows-push : {A : Type 0} (bs : List (Body A)) (b : Body A) (cs : Bodies) →
+    joined_rows (rows_of (bs ++ b ∷ [])) cs ≡ joined_rows (rows_of bs) (body b.words (trees_of b.slots) cs)
+joined_rows-push [] b cs = refl
+joined_rows-push (c ∷ bs) b cs = ap (body c.words (trees_of c.slots)) (joined_rows-push bs b cs)
+
+joined_rows-none : (bs : Bodies) → joined_rows bs no_bodies ≡ bs
+joined_rows-none no_bodies = refl
+joined_rows-none (body ws ss bs) = ap (body ws ss) (joined_rows-none bs)
+
+rows_anew-none : (kept : Option (ℕ × ℕ)) → rows_anew kept no_bodies ≡ no_bodies
+rows_anew-none (Some k) = refl
+rows_anew-none None = refl
+
+rows_anew-body : (kept : Option (ℕ × ℕ)) (ws : List ℕ) (ss : Trees) (bs : Bodies)
+    → rows_anew kept (body ws ss bs) ≡ body (words_anew kept ws) (slots_anew kept ss) (rows_anew kept bs)
+rows_anew-body (Some k) ws ss bs = refl
+rows_anew-body None ws ss bs = refl
+
+-- the next row, made anew and put behind the others, and all of them
+module _ {A B : Type 0} (kept : Option (ℕ × ℕ)) (out : List (Body A)) (rows : List (Body B)) (i : ℕ) {all : Bodies}
+    (so_far : joined_rows (rows_of out) (rows_anew kept (rows_of (drop i rows))) ≡ all) where
+  row_pushed : (b : Body B) (r : Body A) {more : List (Body A)} → i < length rows → b ≡ get_or rows i b
+      → r.words ≡ words_anew kept b.words → trees_of r.slots ≡ slots_anew kept (trees_of b.slots)
+      → more ≡ out ++ r ∷ []
+      → joined_rows (rows_of more) (rows_anew kept (rows_of (drop (i + 1) rows))) ≡ all
+  row_pushed b r h at e f p =
+      let rest = rows_of (drop (i + 1) rows) in
+      ap (λ o. joined_rows (rows_of o) (rows_anew kept rest)) p ∙ joined_rows-push out r (rows_anew kept rest)
+      ∙ ap₂ (λ ws ss. joined_rows (rows_of out) (body ws ss (rows_anew kept rest))) e f
+      ∙ ap (joined_rows (rows_of out)) (sym (rows_anew-body kept b.words (trees_of b.slots) rest))
+      ∙ sym (ap (λ bs. joined_rows (rows_of out) (rows_anew kept (rows_of bs))) (drop-next rows i b h at)) ∙ so_far
 
   -- the same, of what a call made
   pub row_made : {E : Type 0} (b : Body B) (r : Result (Body A) E) (more : List (Body A)) → i < length rows
-      → b ≡ get_or rows i b → IfOk r (λ u. u.words ≡ take w b.words)
-      → IfOk r (λ u. trees_of u.slots ≡ front s (trimmed_each (trees_of b.slots)))
+      → b ≡ get_or rows i b → IfOk r (λ u. u.words ≡ words_anew kept b.words)
+      → IfOk r (λ u. trees_of u.slots ≡ slots_anew kept (trees_of b.slots))
       → IsOkAnd r (λ u. more ≡ out ++ u ∷ [])
-      → joined_rows (rows_of more) (trimmed_rows w s (rows_of (drop (i + 1) rows))) ≡ all
-  row_made b (Ok u) more h at e f p = row_trimmed b u h at e f p
+      → joined_rows (rows_of more) (rows_anew kept (rows_of (drop (i + 1) rows))) ≡ all
+  row_made b (Ok u) more h at e f p = row_pushed b u h at e f p
   row_made b (Err d) more h at e f p = absurd p
 
-  pub rows_trimmed : i ≡ length rows → rows_of out ≡ all
-  rows_trimmed e =
-      sym (joined_rows-none (rows_of out))
-      ∙ sym (ap (λ bs. joined_rows (rows_of out) (trimmed_rows w s (rows_of bs))) (drop-past rows i e)) ∙ so_far
+  pub rows_made : i ≡ length rows → rows_of out ≡ all
+  rows_made e =
+      sym (joined_rows-none (rows_of out)) ∙ ap (joined_rows (rows_of out)) (sym (rows_anew-none kept))
+      ∙ sym (ap (λ bs. joined_rows (rows_of out) (rows_anew kept (rows_of bs))) (drop-past rows i e)) ∙ so_far
 
--- a slice of at most so many numbers
-module _ (k : ℕ) {xs s : List ℕ} {l m : ℕ} (whole : s ≡ xs) (e : l ≡ length xs) (f : m ≡ min k l) where
-  pub cut_length : m ≡ length (take m s)
-  cut_length = let same : length s ≡ length xs = ap length whole in sym (length-take-le m s (omega arith))
+-- the first so many numbers of a slice, if it has them
+pub cut_length : (k : ℕ) (s : List ℕ) {m : ℕ} → m ≡ min k (length s) → m ≡ length (take m s)
+cut_length k s {m} e = sym (length-take-le m s (omega arith))
 
-  pub cut_words : {w : List ℕ} → w ≡ take m s → w ≡ take k xs
-  cut_words h = h ∙ ap₂ take (f ∙ ap (min k) e) whole ∙ take_min k xs
+all_words : (kept : Option (ℕ × ℕ)) (a b : ℕ) (ws : List ℕ) → a ≡ length ws
+    → take (unwrap_or kept (a, b)).0 ws ≡ words_anew kept ws
+all_words (Some k) a b ws e = refl
+all_words None a b ws e = take_all a ws (omega arith)
+
+all_slots : {A : Type 0} (kept : Option (ℕ × ℕ)) (a b : ℕ) (vs : List (Value A)) → b ≡ length vs
+    → front (unwrap_or kept (a, b)).1 (each_anew (is_some kept) (trees_of vs)) ≡ slots_anew kept (trees_of vs)
+all_slots (Some k) a b vs e = refl
+all_slots None a b vs e = ap (λ n. front n (trees_of vs)) e ∙ front-length vs
+
+-- the words and the slots of a body, by how many of them are kept, which is all if it is whole
+module _ (kept : Option (ℕ × ℕ)) {p : ℕ × ℕ} (a b : ℕ) (chosen : p ≡ unwrap_or kept (a, b)) where
+  pub words_made : {xs s w : List ℕ} {m : ℕ} → s ≡ xs → a ≡ length xs → m ≡ min p.0 (length s) → w ≡ take m s
+      → w ≡ words_anew kept xs
+  words_made {xs} {s} whole n e h =
+      h ∙ ap (λ i. take i s) e ∙ take_min p.0 s ∙ ap₂ (λ q ys. take q.0 ys) chosen whole ∙ all_words kept a b xs n
+
+  pub slots_made : {A : Type 0} {vs s : List (Value A)} {some : Bool} {ts : Trees} → s ≡ vs → b ≡ length vs
+      → some ≡ is_some kept → ts ≡ front p.1 (each_anew some (trees_of s)) → ts ≡ slots_anew kept (trees_of vs)
+  slots_made {vs = vs} whole n e h =
+      h ∙ ap₂ (λ c us. front p.1 (each_anew c (trees_of us))) e whole
+      ∙ ap (λ q. front q.1 (each_anew (is_some kept) (trees_of vs))) chosen ∙ all_slots kept a b vs n

@@ -9,7 +9,6 @@ pub mod FirstMisfit
 pub mod Fronts
 pub mod Heights
 pub mod Inverse
-pub mod Joined
 pub mod Kept
 pub mod Depths
 pub mod Digits

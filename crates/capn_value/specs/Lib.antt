@@ -8,6 +8,7 @@ pub mod Fits
 pub mod Same
 pub mod SameTest
 pub mod Trim
+pub mod Anew
 pub mod Laws
 pub mod Text
 pub mod Caps

@@ -2,13 +2,14 @@
 
 ghost use Rattle.std.specs.Prelude.{◌≡◌, ◌≢◌, [], ◌∷◌, ◌++◌, IfOk, OnOk, OnErr, IsOkAnd, List};
 ghost use Rattle.capn_value.specs.Tree.{nil};
-ghost use Rattle.capn_value.specs.View.{tree_of, trees_of, rows_of};
+ghost use Rattle.capn_value.specs.View.{tree_of};
 ghost use Rattle.capn_value.specs.declared.value.Value.{Value, Node, Links, Rows};
 ghost use Rattle.capn_value.specs.declared.value.Body.{Body};
 
 use crate::equal::is_null;
 use crate::items::Items;
-use crate::value::{Body, Value};
+use crate::trimming::anew;
+use crate::value::Value;
 use std::alloc::{AllocError, Allocator};
 
 /// A list of plain elements, copied as a whole.
@@ -44,7 +45,7 @@ pub fn copy_value<A: Allocator + Copy, B: Allocator>(
     if is_null(v) {
         return Ok(Value::Nil);
     }
-    copy_of(alloc, v)
+    anew(alloc, v, false)
 }
 
 /// The same value, which holds no other, over another allocator.
@@ -68,61 +69,4 @@ pub fn copy_of_plain<A: Allocator, B: Allocator>(
         Value::Cap(k) => Ok(Value::Cap(*k)),
         Value::Node(_) | Value::Links(_) | Value::Rows(_) => unreachable!(),
     }
-}
-
-// The same value, over another allocator.
-#[cycle(copy)]
-fn copy_of<A: Allocator + Copy, B: Allocator>(
-    alloc: A,
-    v: &Value<B>,
-) -> Result<Value<A>, AllocError>
-    ensures { IfOk result (λ r. tree_of r ≡ tree_of v.now) }
-{
-    match v {
-        Value::Node(body) => Ok(Value::Node(copy_of_body(alloc, body)?)),
-        Value::Links(items) => Ok(Value::Links(copy_of_each(alloc, items.as_slice())?)),
-        Value::Rows(rows) => Ok(Value::Rows(copy_of_rows(alloc, rows.as_slice())?)),
-        _ => copy_of_plain(alloc, v),
-    }
-}
-
-#[cycle(copy)]
-fn copy_of_body<A: Allocator + Copy, B: Allocator>(
-    alloc: A,
-    body: &Body<B>,
-) -> Result<Body<A>, AllocError>
-    ensures words { IfOk result (λ r. r.words ≡ body.now.words) }
-    ensures slots { IfOk result (λ r. trees_of r.slots ≡ trees_of body.now.slots) }
-{
-    let words = copied(alloc, &body.words)?;
-    let slots = copy_of_each(alloc, body.slots.as_slice())?;
-    Ok(Body { words, slots })
-}
-
-#[cycle(copy)]
-fn copy_of_each<A: Allocator + Copy, B: Allocator>(
-    alloc: A,
-    items: &[Value<B>],
-) -> Result<Items<Value<A>, A>, AllocError>
-    ensures { IfOk result (λ r. trees_of r ≡ trees_of items.now) }
-{
-    let mut out = Items::with_capacity(alloc, items.len())?;
-    for v in items {
-        push_made(&mut out, copy_of(alloc, v))?;
-    }
-    Ok(out)
-}
-
-#[cycle(copy)]
-fn copy_of_rows<A: Allocator + Copy, B: Allocator>(
-    alloc: A,
-    rows: &[Body<B>],
-) -> Result<Items<Body<A>, A>, AllocError>
-    ensures { IfOk result (λ r. rows_of r ≡ rows_of rows.now) }
-{
-    let mut out = Items::with_capacity(alloc, rows.len())?;
-    for row in rows {
-        push_made(&mut out, copy_of_body(alloc, row))?;
-    }
-    Ok(out)
 }

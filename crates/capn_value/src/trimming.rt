@@ -1,9 +1,10 @@
-//! Cutting bodies to what they keep.
+//! Cutting bodies to what they keep, and making values anew: so cut, or whole.
 
-ghost use Rattle.std.specs.Prelude.{◌≡◌, ◌≢◌, IfOk, OnErr, take};
+ghost use Rattle.std.specs.Prelude.{◌≡◌, ◌≢◌, IfOk, OnErr};
 ghost use Rattle.capn_value.specs.View.{tree_of, trees_of, rows_of};
 ghost use Rattle.capn_value.specs.Tree.{nil, front};
 ghost use Rattle.capn_value.specs.Trim as cut;
+ghost use Rattle.capn_value.specs.Anew as made;
 
 use crate::copying::{copy_of_plain, push_made};
 use crate::equal::is_null;
@@ -70,86 +71,102 @@ pub fn trim_value<A: Allocator + Copy, B: Allocator>(
     if is_null(v) {
         return Ok(Value::Nil);
     }
-    trimmed(alloc, v)
+    anew(alloc, v, true)
 }
 
-// The same, where null is a value as any other.
-#[cycle(trim)]
-#[tactic(auto, using(std::proofs::lemmas::Grind::common_steps, crate::proofs::Joined::joins))]
-fn trimmed<A: Allocator + Copy, B: Allocator>(
+// How many words and slots of the body are kept, if it is cut.
+fn kept_of_body<A: Allocator>(body: &Body<A>, cut: bool) -> Option<(usize, usize)>
+    ensures { result ≡ made.kept_of_body cut body.now.words (trees_of body.now.slots) }
+{
+    if !cut {
+        return None;
+    }
+    Some((
+        kept_words(body.words.as_slice()),
+        kept_slots(body.slots.as_slice()),
+    ))
+}
+
+// How many words and slots of each row are kept, if they are cut.
+fn kept_of_rows<A: Allocator>(rows: &[Body<A>], cut: bool) -> Option<(usize, usize)>
+    ensures { result ≡ made.kept_of_rows cut (rows_of rows.now) }
+{
+    if !cut {
+        return None;
+    }
+    Some((kept_words_of_rows(rows), kept_slots_of_rows(rows)))
+}
+
+/// The value anew, over another allocator: with every body cut to what it keeps, or as it is. Null is a value as any
+/// other.
+#[cycle(anew)]
+pub fn anew<A: Allocator + Copy, B: Allocator>(
     alloc: A,
     v: &Value<B>,
+    cut: bool,
 ) -> Result<Value<A>, AllocError>
-    ensures { IfOk result (λ r. tree_of r ≡ cut.trimmed (tree_of v.now)) }
+    ensures { IfOk result (λ r. tree_of r ≡ made.anew cut (tree_of v.now)) }
 {
     match v {
-        Value::Node(body) => {
-            let words = kept_words(body.words.as_slice());
-            let slots = kept_slots(body.slots.as_slice());
-            Ok(Value::Node(trimmed_body(alloc, body, words, slots)?))
-        }
+        Value::Node(body) => Ok(Value::Node(anew_body(alloc, body, kept_of_body(body, cut))?)),
         Value::Links(items) => {
-            Ok(Value::Links(trimmed_front(alloc, items.as_slice(), items.len())?))
+            Ok(Value::Links(anew_front(alloc, items.as_slice(), items.len(), cut)?))
         }
         Value::Rows(rows) => {
             let rows = rows.as_slice();
-            let words = kept_words_of_rows(rows);
-            let slots = kept_slots_of_rows(rows);
-            Ok(Value::Rows(trimmed_rows(alloc, rows, words, slots)?))
+            Ok(Value::Rows(anew_rows(alloc, rows, kept_of_rows(rows, cut))?))
         }
         _ => copy_of_plain(alloc, v),
     }
 }
 
-// The body cut to so many words and slots.
-#[cycle(trim)]
-#[tactic(auto, using(std::proofs::lemmas::Grind::common_steps, crate::proofs::Joined::joins))]
-fn trimmed_body<A: Allocator + Copy, B: Allocator>(
+// The body cut to so many words and slots, or whole.
+#[cycle(anew)]
+fn anew_body<A: Allocator + Copy, B: Allocator>(
     alloc: A,
     body: &Body<B>,
-    words: usize,
-    slots: usize,
+    kept: Option<(usize, usize)>,
 ) -> Result<Body<A>, AllocError>
-    ensures words { IfOk result (λ r. r.words ≡ take words body.now.words) }
-    ensures slots { IfOk result (λ r. trees_of r.slots ≡ front slots (cut.trimmed_each (trees_of body.now.slots))) }
+    ensures words { IfOk result (λ r. r.words ≡ made.words_anew kept body.now.words) }
+    ensures slots { IfOk result (λ r. trees_of r.slots ≡ made.slots_anew kept (trees_of body.now.slots)) }
 {
-    let len = words.min(body.words.len());
-    let words = Items::from_slice(alloc, &body.words.as_slice()[..len])?;
-    let slots = trimmed_front(alloc, body.slots.as_slice(), slots)?;
+    let all = body.words.as_slice();
+    let (words, slots) = kept.unwrap_or((all.len(), body.slots.len()));
+    let words = Items::from_slice(alloc, &all[..words.min(all.len())])?;
+    let slots = anew_front(alloc, body.slots.as_slice(), slots, kept.is_some())?;
     Ok(Body { words, slots })
 }
 
-// The first so many, each trimmed.
-#[cycle(trim)]
-#[tactic(auto, using(std::proofs::lemmas::Grind::common_steps, crate::proofs::Joined::joins))]
-fn trimmed_front<A: Allocator + Copy, B: Allocator>(
+// The first so many, each anew.
+#[cycle(anew)]
+fn anew_front<A: Allocator + Copy, B: Allocator>(
     alloc: A,
     items: &[Value<B>],
     most: usize,
+    cut: bool,
 ) -> Result<Items<Value<A>, A>, AllocError>
-    ensures { IfOk result (λ r. trees_of r ≡ front most (cut.trimmed_each (trees_of items.now))) }
+    ensures { IfOk result (λ r. trees_of r ≡ front most (made.each_anew cut (trees_of items.now))) }
 {
     let len = most.min(items.len());
     let mut out = Items::with_capacity(alloc, len)?;
     for i in 0..len {
-        push_made(&mut out, trimmed(alloc, &items[i]))?;
+        push_made(&mut out, anew(alloc, &items[i], cut))?;
     }
     Ok(out)
 }
 
-#[cycle(trim)]
-#[tactic(auto, using(std::proofs::lemmas::Grind::common_steps, crate::proofs::Joined::joins))]
-fn trimmed_rows<A: Allocator + Copy, B: Allocator>(
+// The rows, each cut to so many words and slots, or whole.
+#[cycle(anew)]
+fn anew_rows<A: Allocator + Copy, B: Allocator>(
     alloc: A,
     rows: &[Body<B>],
-    words: usize,
-    slots: usize,
+    kept: Option<(usize, usize)>,
 ) -> Result<Items<Body<A>, A>, AllocError>
-    ensures { IfOk result (λ r. rows_of r ≡ cut.trimmed_rows words slots (rows_of rows.now)) }
+    ensures { IfOk result (λ r. rows_of r ≡ made.rows_anew kept (rows_of rows.now)) }
 {
     let mut out = Items::with_capacity(alloc, rows.len())?;
     for row in rows {
-        push_made(&mut out, trimmed_body(alloc, row, words, slots))?;
+        push_made(&mut out, anew_body(alloc, row, kept))?;
     }
     Ok(out)
 }
