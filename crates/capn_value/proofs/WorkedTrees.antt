@@ -1,10 +1,11 @@
 -- Worked values: what they are trimmed to, cost, and show as.
-use Rattle.std.proofs.Common.{◌≡◌, [], ◌∷◌, codes, true, false, refl}
+use Rattle.std.proofs.Common.{◌≡◌, [], ◌∷◌, Some, codes, true, false, refl}
 use Rattle.std.specs.Fmt.{digits}
 use Rattle.hex.specs.Hex.{encode_with}
 use Rattle.capn_value.specs.Tree.{nil, node, voids, bits, bytes, links, rows, cap, no_trees, tree, no_bodies}
 use Rattle.capn_value.specs.Tree.{body}
 use Rattle.capn_value.specs.Trim.{trimmed}
+use Rattle.capn_value.specs.Anew.{anew, rows_anew}
 use Rattle.capn_value.specs.Sizes.{cost, height, rows_price}
 use Rattle.capn_value.specs.Text.{show_text, line}
 
@@ -30,6 +31,15 @@ rows_left_empty = refl
 -- null elements of a list of pointers stay
 links_stay : trimmed (links (tree nil (tree nil no_trees))) ≡ links (tree nil (tree nil no_trees))
 links_stay = refl
+
+-- a struct that is made anew and not cut is as it was
+struct_anew : anew false (node (5 ∷ 0 ∷ []) (tree nil no_trees)) ≡ node (5 ∷ 0 ∷ []) (tree nil no_trees)
+struct_anew = refl
+
+-- rows of which each keeps one word and no slot
+rows_cut : rows_anew (Some (1, 0)) (body (1 ∷ 2 ∷ []) (tree nil no_trees) (body [] no_trees no_bodies))
+    ≡ body (1 ∷ []) no_trees (body [] no_trees no_bodies)
+rows_cut = refl
 
 -- a struct of one word and a slot with three bytes: 1 and 2 for itself, 1 and 1 for the bytes
 struct_costs : cost 1 (node (5 ∷ []) (tree (bytes (1 ∷ 2 ∷ 3 ∷ [])) no_trees)) ≡ 5

@@ -1,4 +1,4 @@
--- A value made anew: with every body cut to what it keeps, or as it is.
+-- A value made anew: with every body cut to what it keeps, or as it is. (Own.) No public clause cites this.
 use Rattle.std.specs.Prelude.{ℕ, List, take, Bool, true, false, Option, Some, None}
 use Rattle.capn_value.specs.Tree.{Tree, Trees, Bodies, front}
 use Rattle.capn_value.specs.Trim.{trimmed, trimmed_each, trimmed_rows, kept_words, kept_slots, kept_words_of_rows}

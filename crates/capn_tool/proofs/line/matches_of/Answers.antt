@@ -19,11 +19,11 @@ returns-in-Ok-clause-found g c =
 pub returns-in-Ok-clause-passes : goal.returns-in-Ok-clause-passes
 returns-in-Ok-clause-passes g c =
     subst (λ (a : App). IfErr c.try_get_matches_from.result (λ e.
-      takes a (map g.S.AsStr.text c.args.words.now) ≡ true → kind_of e ≡ kinds.OutOfMemory))
+    takes a (map g.S.AsStr.text c.args.words.now) ≡ true → kind_of e ≡ kinds.OutOfMemory))
     (line_of g c) c.try_get_matches_from.ensures.passes
 
 pub returns-in-Ok-clause-kinds : goal.returns-in-Ok-clause-kinds
 returns-in-Ok-clause-kinds g c =
     subst (λ (a : App). is_simple_and_free a ≡ true
-      → FailsBy (fault_of a (map g.S.AsStr.text c.args.words.now)) c.try_get_matches_from.result)
+    → FailsBy (fault_of a (map g.S.AsStr.text c.args.words.now)) c.try_get_matches_from.result)
     (line_of g c) c.try_get_matches_from.ensures.kinds refl
