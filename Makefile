@@ -8,7 +8,7 @@ BUILD := build
 SHELL := bash
 .SHELLFLAGS := -o pipefail -c
 
-.PHONY: try program run test bench interop library install
+.PHONY: try program run test bench interop library linked install
 
 # The stored run, tried before any proof, in about a minute: what runs is not the proved program.
 try:
@@ -29,10 +29,13 @@ run: program
 	@echo "out:"; $(PROGRAM)/out/capn $$(cat $(PROGRAM)/args) < $(PROGRAM)/stdin | od -An -v -tx1 -w8
 
 # The whole gate: no line is too long and no crate reaches into another one's proofs, what `rt ci` tries, the program that
-# it built, once or more for each exit status and with too little memory, and the library for C with its examples.
+# it built, once or more for each exit status and with too little memory, and the library for C with its examples. The
+# libraries that earlier checks built go first: `rt ci` would put them back behind it, in the place of its own, over which
+# the library for C is built.
 test:
 	.ci/lines
 	.ci/borders
+	rm -rf crates/*/out/rlib
 	rt ci
 	.ci/statuses
 	.ci/failures
@@ -51,9 +54,14 @@ interop: $(if $(CAPN),,program library)
 	./interop/run
 	./interop/differences
 
-# The library for C, proved: the archive and the allocator as one object, of which the names capn_* alone are visible.
+# The library for C, proved: the archive of capn_c and what is made of it.
 library:
 	cd crates/capn_c && rt lib > /dev/null
+	$(MAKE) linked
+
+# The two libraries that are linked with: the archive and the allocator as one object, of which the names capn_* alone are
+# visible. Proves and compiles nothing.
+linked:
 	rm -rf $(BUILD) && mkdir $(BUILD)
 	cd $(BUILD) && ar x ../crates/capn_c/out/libcapn_c.a && ar x $(KIT)c/liblibc_c.a heap.pic.o
 	cd $(BUILD) && ld -r -o capn.o capn_c.o heap.pic.o && objcopy --wildcard --keep-global-symbol='capn_*' capn.o
