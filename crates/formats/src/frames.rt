@@ -2,6 +2,7 @@
 
 use capn_stream::{FrameFault, first, frame};
 use capn_words::{Bare, Place, Space};
+use std::alloc::Global;
 
 mod pieces;
 
@@ -30,6 +31,14 @@ fn segment_of<S: Space>(space: &S, segment: u32) -> Option<&[u8]> {
     }
 }
 
+/// Whether a message's frame is these bytes, if there is memory for it.
+fn is_framed<S: Space>(alloc: Global, message: &S, want: &[u8]) -> Option<bool> {
+    match frame(alloc, message) {
+        Ok(text) => Some(text.as_slice() == want),
+        Err(_) => None,
+    }
+}
+
 #[test]
 fn reads_two_segments(rt: HostRuntime) {
     let mut input = FAR_POINTER;
@@ -40,20 +49,20 @@ fn reads_two_segments(rt: HostRuntime) {
     match first(rt.alloc(), &input, MOST) {
         Err(fault) => assert!(rt; false, "{fault:?}"),
         Ok((message, taken)) => {
-            assert_eq!(rt; taken, 40);
-            assert_eq!(rt; message.segments(), 2);
-            assert_eq!(rt; message.words(0), Some(1));
-            assert_eq!(rt; message.words(1), Some(2));
-            assert_eq!(rt; message.words(2), None);
-            assert_eq!(rt; word_at(&message, 0, 0), Some(0x1_0000_0002));
-            assert_eq!(rt; word_at(&message, 1, 0), Some(0x1_0000_0000));
-            assert_eq!(rt; word_at(&message, 1, 1), Some(5));
+            let sizes = [message.words(0), message.words(1), message.words(2)];
+            assert_eq!(rt;
+                (taken, message.segments(), sizes),
+                (40, 2, [Some(1), Some(2), None])
+            );
+            let words = [
+                word_at(&message, 0, 0),
+                word_at(&message, 1, 0),
+                word_at(&message, 1, 1),
+            ];
+            assert_eq!(rt; words, [Some(0x1_0000_0002), Some(0x1_0000_0000), Some(5)]);
             assert_eq!(rt; segment_of(&message, 0), Some(&FAR_POINTER[16..24]));
             assert_eq!(rt; segment_of(&message, 1), Some(&FAR_POINTER[24..]));
-            match frame(rt.alloc(), &message) {
-                Err(_) => assert!(rt; false, "no memory"),
-                Ok(text) => assert_eq!(rt; text.as_slice(), FAR_POINTER.as_slice()),
-            }
+            assert_eq!(rt; is_framed(rt.alloc(), &message, &FAR_POINTER), Some(true));
         }
     }
 }
@@ -63,10 +72,8 @@ fn reads_a_segment_without_words(rt: HostRuntime) {
     match first(rt.alloc(), &[0; 9], MOST) {
         Err(fault) => assert!(rt; false, "{fault:?}"),
         Ok((message, taken)) => {
-            assert_eq!(rt; taken, 8);
-            assert_eq!(rt; message.segments(), 1);
-            assert_eq!(rt; message.words(0), Some(0));
-            assert_eq!(rt; message.words(1), None);
+            let sizes = [message.words(0), message.words(1)];
+            assert_eq!(rt; (taken, message.segments(), sizes), (8, 1, [Some(0), None]));
         }
     }
 }
@@ -78,10 +85,7 @@ fn frames_a_bare_message(rt: HostRuntime) {
     ];
     match Bare::new(&framed[8..]) {
         Err(_) => assert!(rt; false, "two words are refused"),
-        Ok(bare) => match frame(rt.alloc(), &bare) {
-            Err(_) => assert!(rt; false, "no memory"),
-            Ok(text) => assert_eq!(rt; text.as_slice(), framed.as_slice()),
-        },
+        Ok(bare) => assert_eq!(rt; is_framed(rt.alloc(), &bare, &framed), Some(true)),
     }
 }
 

@@ -153,16 +153,24 @@ fn refuses(rt: HostRuntime) {
     let cut = |at: u64| Some(UnpackFault::Cut { at });
     let too_long = |at: u64| Some(UnpackFault::TooLong { at });
     let raw = [0xff, 1, 2, 3, 4, 5, 6, 7, 8, 2, 1, 2, 3, 4, 5, 6, 7, 8];
-    assert_eq!(rt; fault(&[0xff, 0x8a], 9), cut(0));
-    assert_eq!(rt; fault(&[0x01, 0x05, 0xff], 9), cut(2));
-    assert_eq!(rt; fault(&[0x00, 0x03], 3), too_long(0));
-    assert_eq!(rt; fault(&[0x00, 0x03], 4), None);
-    assert_eq!(rt; fault(&[0x00, 0x00], 0), too_long(0));
-    assert_eq!(rt; fault(&raw[..9], 0), cut(0));
-    assert_eq!(rt; fault(&raw, 3), cut(0));
-    assert_eq!(rt; fault(&raw, 2), too_long(0));
-    assert_eq!(rt; fault(&[0x01, 0x00, 0x00, 0x01, 0xff], 2), too_long(2));
-    assert_eq!(rt; fault(&[], 0), None);
+    for (text, most, want) in [
+        (&[0xff, 0x8a][..], 9, cut(0)),
+        (&[0x01, 0x05, 0xff], 9, cut(2)),
+        (&[0x00, 0x03], 3, too_long(0)),
+        (&[0x00, 0x03], 4, None),
+        (&[0x00, 0x00], 0, too_long(0)),
+        (&raw[..9], 0, cut(0)),
+        (&raw, 3, cut(0)),
+        (&raw, 2, too_long(0)),
+        (&[0x01, 0x00, 0x00, 0x01, 0xff], 2, too_long(2)),
+        (&[], 0, None),
+    ] {
+        assert_eq!(rt;
+            fault(text, most),
+            want,
+            "of {text:?}, at most {most} words"
+        );
+    }
 }
 
 /// Words of every kind of group, many of each.

@@ -1,7 +1,7 @@
 //! Frames that come in pieces, and over readers and writers.
 
-use super::{FAR_POINTER, MOST, segment_of, word_at};
-use capn_stream::{FrameFault, Framer, ReadFault, frame, read_message, write_message};
+use super::{FAR_POINTER, MOST, is_framed, segment_of, word_at};
+use capn_stream::{FrameFault, Framer, ReadFault, read_message, write_message};
 use capn_words::{Space, Watched};
 
 #[test]
@@ -12,29 +12,30 @@ fn takes_two_messages_of_one_piece(rt: HostRuntime) {
         twice[index + 40] = *byte;
     }
     let mut framer = Framer::new(rt.alloc(), MOST);
-    assert!(rt; framer.is_empty());
-    assert_eq!(rt; framer.feed(&twice), Ok(40));
-    assert!(rt; !framer.is_empty());
-    assert_eq!(rt; framer.feed(&twice[40..]), Ok(0));
+    let states = [
+        framer.is_empty(),
+        framer.feed(&twice) == Ok(40),
+        framer.is_empty(),
+    ];
+    assert_eq!(rt;
+        (states, framer.feed(&twice[40..])),
+        ([true, true, false], Ok(0))
+    );
     match framer.take() {
         None => assert!(rt; false, "no message waits"),
         Some(message) => {
-            assert_eq!(rt; message.segments(), 2);
-            assert_eq!(rt; word_at(&message, 1, 1), Some(5));
-            assert_eq!(rt; word_at(&message, 1, 2), None);
+            let words = [word_at(&message, 1, 1), word_at(&message, 1, 2)];
+            assert_eq!(rt; (message.segments(), words), (2, [Some(5), None]));
             assert_eq!(rt; segment_of(&message, 1), Some(&FAR_POINTER[24..]));
-            match frame(rt.alloc(), &message) {
-                Err(_) => assert!(rt; false, "no memory"),
-                Ok(text) => assert_eq!(rt; text.as_slice(), FAR_POINTER.as_slice()),
-            }
+            assert_eq!(rt; is_framed(rt.alloc(), &message, &FAR_POINTER), Some(true));
         }
     }
-    assert!(rt; framer.is_empty());
-    assert!(rt; framer.take().is_none());
-    assert_eq!(rt; framer.feed(&twice[40..]), Ok(40));
-    assert_eq!(rt; framer.finish(), Ok(()));
-    assert!(rt; framer.take().is_some());
-    assert_eq!(rt; framer.finish(), Ok(()));
+    assert!(rt; framer.is_empty() && framer.take().is_none());
+    assert_eq!(rt;
+        (framer.feed(&twice[40..]), framer.finish()),
+        (Ok(40), Ok(()))
+    );
+    assert_eq!(rt; (framer.take().is_some(), framer.finish()), (true, Ok(())));
 }
 
 #[test]
@@ -48,15 +49,14 @@ fn refuses_at_the_byte_that_tells(rt: HostRuntime) {
         let mut framer = Framer::new(rt.alloc(), MOST);
         for (index, byte) in bytes.iter().enumerate() {
             let fed = framer.feed(&[*byte]);
-            if index + 1 < bytes.len() {
-                assert_eq!(rt; fed, Ok(1));
-            } else {
-                assert_eq!(rt; fed, Err(want));
-            }
+            let is_last = index + 1 == bytes.len();
+            assert_eq!(rt; fed, if is_last { Err(want) } else { Ok(1) });
         }
-        assert_eq!(rt; framer.feed(&[0]), Err(FrameFault::Failed));
-        assert_eq!(rt; framer.finish(), Err(FrameFault::Failed));
-        assert!(rt; framer.take().is_none());
+        let again = (framer.feed(&[0]), framer.finish(), framer.take().is_none());
+        assert_eq!(rt;
+            again,
+            (Err(FrameFault::Failed), Err(FrameFault::Failed), true)
+        );
     }
 }
 
@@ -64,13 +64,12 @@ fn refuses_at_the_byte_that_tells(rt: HostRuntime) {
 fn takes_a_message_byte_by_byte(rt: HostRuntime) {
     let mut framer = Framer::new(rt.alloc(), MOST);
     for (index, byte) in FAR_POINTER.iter().enumerate() {
-        assert!(rt; framer.take().is_none(), "at {index} bytes");
-        assert_eq!(rt; framer.feed(&[*byte]), Ok(1));
+        let step = (framer.take().is_none(), framer.feed(&[*byte]));
+        assert_eq!(rt; step, (true, Ok(1)), "at {index} bytes");
     }
-    assert!(rt; framer.take().is_some());
-    assert_eq!(rt; framer.feed(&[1]), Ok(1));
-    assert_eq!(rt; framer.finish(), Err(FrameFault::Cut));
-    assert_eq!(rt; framer.finish(), Err(FrameFault::Failed));
+    assert_eq!(rt; (framer.take().is_some(), framer.feed(&[1])), (true, Ok(1)));
+    let ends = [framer.finish(), framer.finish()];
+    assert_eq!(rt; ends, [Err(FrameFault::Cut), Err(FrameFault::Failed)]);
 }
 
 #[test]
