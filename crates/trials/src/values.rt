@@ -162,16 +162,20 @@ fn expect_text(rt: &impl Abort, alloc: Global, tree: Result<Tree, Memory>, words
     }
 }
 
+/// What was made of a tree is the same value.
+fn expect_alike(rt: &impl Abort, tree: &Tree, made: &Result<Tree, Memory>) {
+    match made {
+        Ok(made) => assert!(rt; same(tree.value(), made.value())),
+        Err(_) => assert!(rt; false, "out of memory"),
+    }
+}
+
 /// The value, its trimmed form and its copy have this cost and these texts, and are the same.
 fn expect_texts(rt: &impl Abort, alloc: Global, made: Made, words: u32, want: &str, cut: &str) {
     match tree(made) {
         Ok(tree) => {
-            match (trim(alloc, &tree), copy(alloc, &tree)) {
-                (Ok(trimmed), Ok(copied)) => assert!(rt;
-                    same(tree.value(), trimmed.value()) && same(tree.value(), copied.value())
-                ),
-                _ => assert!(rt; false, "out of memory"),
-            }
+            expect_alike(rt, &tree, &trim(alloc, &tree));
+            expect_alike(rt, &tree, &copy(alloc, &tree));
             expect_text(rt, alloc, trim(alloc, &tree), words, cut);
             expect_text(rt, alloc, copy(alloc, &tree), words, want);
             expect_text(rt, alloc, Ok(tree), words, want);

@@ -3,7 +3,7 @@
 use crate::words::bytes_of;
 use capn_stream::first;
 use capn_value::same;
-use capn_walk::{Fault, Limits, Stopped, walk};
+use capn_walk::{Fault, Limits, Stopped, Walked, walk};
 use capn_words::{Bare, Place};
 use std::alloc::Global;
 use std::test::Fail;
@@ -30,26 +30,27 @@ fn limits(budget: u32) -> Limits {
     Limits::new(8_388_608, budget, 64).unwrap_or(Limits::usual())
 }
 
+// The walk of a stream's first message.
+fn walked(alloc: Global, stream: &[u8]) -> Result<Walked, Fail> {
+    match first(alloc, stream, 64) {
+        Ok((message, _)) => match walk(alloc, &message, Limits::usual()) {
+            Ok(walked) => Ok(walked),
+            Err(_) => Err(Fail::new("a message is refused")),
+        },
+        Err(_) => Err(Fail::new("a stream is refused")),
+    }
+}
+
 // A far and a double far pointer to the same struct denote one value, and their pads are paid.
 #[test]
 fn far_pointers_are_walked(rt: HostRuntime) -> Result<(), Fail> {
     let alloc = rt.alloc();
     let far = stream_of_two(alloc, 0x1_0000_0002, &[ONE_WORD, 5])?;
     let double = stream_of_two(alloc, 0x1_0000_0006, &[0x1_0000_0012, ONE_WORD, 5])?;
-    let (Ok((far, _)), Ok((double, _))) = (
-        first(alloc, far.as_slice(), 64),
-        first(alloc, double.as_slice(), 64),
-    ) else {
-        return Err(Fail::new("a stream is refused"));
-    };
-    let (Ok(one), Ok(two)) = (
-        walk(alloc, &far, Limits::usual()),
-        walk(alloc, &double, Limits::usual()),
-    ) else {
-        return Err(Fail::new("a message is refused"));
-    };
-    assert_eq!(rt; (one.paid, one.visits), (3, 1));
-    assert_eq!(rt; (two.paid, two.visits), (4, 1));
+    let one = walked(alloc, far.as_slice())?;
+    let two = walked(alloc, double.as_slice())?;
+    let prices = [(one.paid, one.visits), (two.paid, two.visits)];
+    assert_eq!(rt; prices, [(3, 1), (4, 1)]);
     assert!(rt; same(one.tree.value(), two.tree.value()));
     Ok(())
 }
