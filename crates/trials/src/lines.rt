@@ -9,10 +9,11 @@ use std::process::Abort;
 
 /// The words order this.
 fn expect(rt: &impl Abort, alloc: Global, words: &[&str], want: Command) {
-    match command_of(alloc, words) {
-        Ok(command) => assert!(rt; command == want, "{words:?}"),
-        Err(_) => assert!(rt; false, "{words:?}"),
-    }
+    let told = match command_of(alloc, words) {
+        Ok(command) => Some(command),
+        Err(_) => None,
+    };
+    assert!(rt; told == Some(want), "{words:?}");
 }
 
 #[test]
