@@ -9,10 +9,7 @@ use std::process::Abort;
 
 /// The words order this.
 fn expect(rt: &impl Abort, alloc: Global, words: &[&str], want: Command) {
-    let told = match command_of(alloc, words) {
-        Ok(command) => Some(command),
-        Err(_) => None,
-    };
+    let told = command_of(alloc, words).ok();
     assert!(rt; told == Some(want), "{words:?}");
 }
 
