@@ -1,4 +1,5 @@
-/* Bad input: nothing, numbers out of range, buffers of each size, announced lengths, hostile messages. */
+/* Each call with ample memory; and bad input: nothing, numbers out of range, buffers of each size, announced lengths,
+ * hostile messages. */
 #include "capn.h"
 #include <stdio.h>
 #include <stdlib.h>
@@ -20,6 +21,36 @@ static void blank(const char *what, const capn_report *r) {
 
 static const uint8_t message[32] = {0, 0, 0, 0, 3, 0, 0, 0, 0, 0, 0, 0, 2, 0, 0, 0, 5};
 static const capn_limits usual = CAPN_USUAL_LIMITS;
+
+/* Each call, with ample memory and room: its status, what it tells, and each byte that it writes. */
+static void answered(void) {
+    const uint8_t canonical[16] = {0, 0, 0, 0, 1, 0, 0, 0, 5}, packed[8] = {0x10, 3, 0x10, 2, 1, 5};
+    /* The first bytes of the SHA-256 of the canonical bytes. */
+    const uint8_t sum[4] = {0x6a, 0x3e, 0xfd, 0x90};
+    const capn_limits plain = {8388608, 8388608, 64, CAPN_PLAIN};
+    capn_report r;
+    uint8_t out[32], digest[32];
+    memset(out, 0xAA, 32);
+    want("canonical", capn_canonical(CAPN_STREAM, message, 32, &usual, out, 32, &r), CAPN_OK);
+    want("its bytes", memcmp(out, canonical, 16) != 0 || out[16] != 0xAA, 0);
+    want("its length", r.length, 16);
+    want("its price", r.paid, 3);
+    want("is_canonical of them", capn_is_canonical(out, 16, &usual, &r), CAPN_OK);
+    want("is_canonical of a struct with a zero word", capn_is_canonical(message + 8, 24, &usual, &r), CAPN_NOT_CANONICAL);
+    want("check", capn_check(CAPN_STREAM, message, 32, &usual, &r), CAPN_OK);
+    want("its price", r.paid, 3);
+    want("its visits", r.visits, 1);
+    want("check by the plain tariff", capn_check(CAPN_STREAM, message, 32, &plain, &r), CAPN_OK);
+    want("its price", r.paid, 2);
+    want("hash", capn_hash(CAPN_STREAM, message, 32, &usual, digest, &r), CAPN_OK);
+    want("its bytes", memcmp(digest, sum, 4) != 0, 0);
+    want("pack", capn_pack(message, 32, out, 8, &r), CAPN_OK);
+    want("its bytes", memcmp(out, packed, 8) != 0, 0);
+    want("its length", r.length, 8);
+    want("unpack", capn_unpack(packed, 8, 4, out, 32, &r), CAPN_OK);
+    want("its bytes", memcmp(out, message, 32) != 0, 0);
+    want("its length", r.length, 32);
+}
 
 static void nothing(void) {
     capn_report r;
@@ -157,6 +188,7 @@ static void hostile(void) {
 }
 
 int main(void) {
+    answered();
     nothing();
     ranges();
     rooms();

@@ -18,6 +18,3 @@ mod verdict;
 
 pub use limits::CapnLimits;
 pub use report::CapnReport;
-
-#[cfg(test)]
-mod tests;

@@ -5,7 +5,7 @@ use crate::refusals::told;
 use crate::tariff_and_call;
 use crate::words::{bytes_at, word_at};
 use anyhow::{Result, anyhow, bail};
-use capn_canon::{Form, LayoutFault, layout};
+use capn_canon::{Form, LayoutFault, Tree, layout};
 use capn_pack::{UnpackFault, Unpacker, unpack};
 use capn_walk::{Limits, walk};
 use capn_words::{Bare, MOST_MESSAGE_WORDS, MOST_SEGMENTS};
@@ -20,20 +20,24 @@ fn start_of(bytes: &[u8], len: usize) -> &[u8] {
     }
 }
 
+/// What a tree answers by its layout, with what was paid for it.
+fn tree_text(alloc: Global, paid: u32, tree: &Tree) -> Result<String> {
+    match layout(alloc, tree) {
+        Ok(laid) => paid_text(alloc, paid, laid.as_slice()),
+        Err(LayoutFault::Capability(index)) => Ok(format!(in alloc; "capability {index}")?),
+        Err(LayoutFault::Memory) => Err(anyhow!("out of memory")),
+    }
+}
+
 /// What a bare message answers by its length and the layout of its tree.
 fn bare_text(alloc: Global, bytes: &[u8], limits: Limits) -> Result<String> {
     let length = bytes.len();
     let Ok(space) = Bare::new(bytes) else {
         return Ok(format!(in alloc; "bare: NotWhole({length})")?);
     };
-    let walked = match walk(alloc, &space, limits) {
-        Ok(walked) => walked,
-        Err(stopped) => return told(alloc, stopped),
-    };
-    match layout(alloc, &walked.tree) {
-        Ok(laid) => paid_text(alloc, walked.paid, laid.as_slice()),
-        Err(LayoutFault::Capability(index)) => Ok(format!(in alloc; "capability {index}")?),
-        Err(LayoutFault::Memory) => Err(anyhow!("out of memory")),
+    match walk(alloc, &space, limits) {
+        Ok(walked) => tree_text(alloc, walked.paid, &walked.tree),
+        Err(stopped) => told(alloc, stopped),
     }
 }
 
@@ -123,33 +127,55 @@ fn sizes_of(bytes: &[u8], count: u64) -> Option<u64> {
     Some(sum)
 }
 
+/// What a frame is refused for.
+#[derive(Clone, Copy)]
+enum FrameRefusal {
+    Empty,
+    Cut,
+    TooManySegments(u64),
+    TooManyWords(u64),
+}
+
 /// How the frame of a stream is refused, if it is.
-fn frame_refusal(alloc: Global, bytes: &[u8], limits: Limits) -> Result<Option<String>> {
+fn frame_refusal(bytes: &[u8], limits: Limits) -> Option<FrameRefusal> {
     if bytes.is_empty() {
-        return Ok(Some(String::from_str(alloc, "frame: Empty")?));
+        return Some(FrameRefusal::Empty);
     }
-    let cut = String::from_str(alloc, "frame: Cut")?;
     let Some(last) = entry_at(bytes, 0) else {
-        return Ok(Some(cut));
+        return Some(FrameRefusal::Cut);
     };
     let count = last.saturating_add(1);
     if count > MOST_SEGMENTS as u64 {
-        return Ok(Some(format!(in alloc; "frame: TooManySegments({count})")?));
+        return Some(FrameRefusal::TooManySegments(count));
     }
     let table = count.saturating_add(2) / 2;
     let Some(words) = sizes_of(bytes, count) else {
-        return Ok(Some(cut));
+        return Some(FrameRefusal::Cut);
     };
     if (bytes.len() as u64) < table.saturating_mul(8) {
-        return Ok(Some(cut));
+        return Some(FrameRefusal::Cut);
     }
     if words > limits.message_words() as u64 {
-        return Ok(Some(format!(in alloc; "frame: TooManyWords({words})")?));
+        return Some(FrameRefusal::TooManyWords(words));
     }
     if (bytes.len() as u64) < table.saturating_add(words).saturating_mul(8) {
-        return Ok(Some(cut));
+        return Some(FrameRefusal::Cut);
     }
-    Ok(None)
+    None
+}
+
+/// A frame's refusal as a line.
+fn refusal_text(alloc: Global, refusal: FrameRefusal) -> Result<String> {
+    match refusal {
+        FrameRefusal::Empty => Ok(String::from_str(alloc, "frame: Empty")?),
+        FrameRefusal::Cut => Ok(String::from_str(alloc, "frame: Cut")?),
+        FrameRefusal::TooManySegments(count) => {
+            Ok(format!(in alloc; "frame: TooManySegments({count})")?)
+        }
+        FrameRefusal::TooManyWords(words) => {
+            Ok(format!(in alloc; "frame: TooManyWords({words})")?)
+        }
+    }
 }
 
 /// What a beginning answers, where the definitions say it without its message; else what it does answer.
@@ -157,10 +183,22 @@ fn due_text(alloc: Global, form: Form, bytes: &[u8], limits: Limits) -> Result<S
     match form {
         Form::Bare => bare_text(alloc, bytes, limits),
         Form::Packed => packed_text(alloc, bytes, limits),
-        Form::Stream => match frame_refusal(alloc, bytes, limits)? {
-            Some(refusal) => Ok(refusal),
+        Form::Stream => match frame_refusal(bytes, limits) {
+            Some(refusal) => refusal_text(alloc, refusal),
             None => canonical_text(alloc, form, bytes, limits),
         },
+    }
+}
+
+/// A message that is cut answers what is due.
+fn cut_once(alloc: Global, form: Form, start: &[u8], limits: Limits) -> Result<()> {
+    let told = canonical_text(alloc, form, start, limits)?;
+    let due = due_text(alloc, form, start, limits)?;
+    if told.as_str() == due.as_str() {
+        Ok(())
+    } else {
+        let len = start.len();
+        Err(anyhow!("cut at {len}: {told}"))
     }
 }
 
@@ -175,12 +213,7 @@ pub(crate) fn cut_each(alloc: Global, words: &[&str], answer: &str) -> Result<()
     let limits = true_limits_at(words, 2, tariff)?;
     let bytes = bytes_at(alloc, words, 5)?;
     for len in 0..bytes.len() {
-        let start = start_of(bytes.as_slice(), len);
-        let told = canonical_text(alloc, form, start, limits)?;
-        let due = due_text(alloc, form, start, limits)?;
-        if told.as_str() != due.as_str() {
-            bail!("cut at {len}: {told}");
-        }
+        cut_once(alloc, form, start_of(bytes.as_slice(), len), limits)?;
     }
     Ok(())
 }

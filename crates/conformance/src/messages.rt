@@ -4,10 +4,10 @@ use crate::growths::{Heap, MEMORY};
 use crate::refusals::told;
 use crate::words::{bytes_at, digits_of, number_at, word_at};
 use anyhow::{Result, anyhow, bail};
-use capn_canon::{Form, LayoutFault, Refusal, canonicalise, layout};
+use capn_canon::{Canonical, Form, LayoutFault, Refusal, canonicalise, layout};
 use capn_pack::{UnpackFault, unpack};
 use capn_stream::{FrameFault, first};
-use capn_value::{Tariff, copy, trim};
+use capn_value::{Tariff, Tree, copy, trim};
 use capn_walk::{Fault, Limits, Shape, Target, resolve, walk};
 use capn_words::{Bare, MOST_MESSAGE_WORDS, Place, Space};
 use std::alloc::Global;
@@ -47,59 +47,67 @@ pub(crate) fn limits_answer(alloc: Global, words: &[&str]) -> Result<String> {
     Ok(String::from_str(alloc, text)?)
 }
 
-/// The layout of the tree that a walk of the message makes, trimmed and copied; None where memory is wanted.
-fn layout_of<'h, S: Space>(
-    heap: &'h Heap,
-    space: &S,
-    limits: Limits,
-) -> Result<Option<Vec<u8, &'h Heap>>> {
-    let tree = match walk(heap, space, limits) {
-        Ok(walked) => walked.tree,
-        Err(stopped) if matches!(stopped.fault, Fault::Memory) => return Ok(None),
-        Err(_) => bail!("no tree"),
-    };
-    let Ok(trimmed) = trim(heap, &tree) else {
-        return Ok(None);
-    };
-    let Ok(copied) = copy(heap, &trimmed) else {
-        return Ok(None);
-    };
-    match layout(heap, &copied) {
-        Ok(bytes) => Ok(Some(bytes)),
-        Err(LayoutFault::Memory) => Ok(None),
+/// Whether bytes are the layout of a tree; false where memory is wanted.
+fn is_layout(heap: &Heap, tree: &Tree<&Heap>, bytes: &[u8]) -> Result<bool> {
+    match layout(heap, tree) {
+        Ok(laid) if laid.as_slice() == bytes => Ok(true),
+        Ok(_) => Err(anyhow!("the layout of the tree is another one")),
+        Err(LayoutFault::Memory) => Ok(false),
         Err(_) => Err(anyhow!("no layout")),
     }
 }
 
+/// The same of a tree's copy.
+fn is_layout_of_copy(heap: &Heap, tree: &Tree<&Heap>, bytes: &[u8]) -> Result<bool> {
+    match copy(heap, tree) {
+        Ok(copied) => is_layout(heap, &copied, bytes),
+        Err(_) => Ok(false),
+    }
+}
+
+/// The same of a tree that is trimmed and copied.
+fn is_layout_of_trimmed(heap: &Heap, tree: &Tree<&Heap>, bytes: &[u8]) -> Result<bool> {
+    match trim(heap, tree) {
+        Ok(trimmed) => is_layout_of_copy(heap, &trimmed, bytes),
+        Err(_) => Ok(false),
+    }
+}
+
+/// The same of the tree that a walk of the message makes.
+fn is_layout_of<S: Space>(heap: &Heap, space: &S, limits: Limits, bytes: &[u8]) -> Result<bool> {
+    match walk(heap, space, limits) {
+        Ok(walked) => is_layout_of_trimmed(heap, &walked.tree, bytes),
+        Err(stopped) if matches!(stopped.fault, Fault::Memory) => Ok(false),
+        Err(_) => Err(anyhow!("no tree")),
+    }
+}
+
 /// The same of the message that stands first.
-fn layout_of_frame<'h>(
-    heap: &'h Heap,
-    bytes: &[u8],
-    limits: Limits,
-) -> Result<Option<Vec<u8, &'h Heap>>> {
-    match first(heap, bytes, MOST_MESSAGE_WORDS) {
-        Ok((space, _)) => layout_of(heap, &space, limits),
-        Err(FrameFault::Memory) => Ok(None),
+fn is_layout_of_frame(heap: &Heap, stream: &[u8], limits: Limits, bytes: &[u8]) -> Result<bool> {
+    match first(heap, stream, MOST_MESSAGE_WORDS) {
+        Ok((space, _)) => is_layout_of(heap, &space, limits, bytes),
+        Err(FrameFault::Memory) => Ok(false),
         Err(_) => Err(anyhow!("no frame")),
     }
 }
 
-/// The same of the message that bytes are in a form.
-fn layout_in_form<'h>(
-    heap: &'h Heap,
+/// The same of the message that an input is in a form.
+fn is_layout_in_form(
+    heap: &Heap,
     form: Form,
-    bytes: &[u8],
+    input: &[u8],
     limits: Limits,
-) -> Result<Option<Vec<u8, &'h Heap>>> {
+    bytes: &[u8],
+) -> Result<bool> {
     match form {
-        Form::Bare => match Bare::new(bytes) {
-            Ok(space) => layout_of(heap, &space, limits),
+        Form::Bare => match Bare::new(input) {
+            Ok(space) => is_layout_of(heap, &space, limits, bytes),
             Err(_) => Err(anyhow!("no segment")),
         },
-        Form::Stream => layout_of_frame(heap, bytes, limits),
-        Form::Packed => match unpack(heap, bytes, MOST_MESSAGE_WORDS) {
-            Ok(text) => layout_of_frame(heap, text.as_slice(), limits),
-            Err(UnpackFault::Memory) => Ok(None),
+        Form::Stream => is_layout_of_frame(heap, input, limits, bytes),
+        Form::Packed => match unpack(heap, input, MOST_MESSAGE_WORDS) {
+            Ok(text) => is_layout_of_frame(heap, text.as_slice(), limits, bytes),
+            Err(UnpackFault::Memory) => Ok(false),
             Err(_) => Err(anyhow!("no text")),
         },
     }
@@ -124,6 +132,22 @@ pub(crate) fn canonical_text(
     }
 }
 
+/// What canonical bytes are told as, where they are the layout of the tree that a walk of the input makes.
+fn laid_text(
+    alloc: Global,
+    heap: &Heap,
+    form: Form,
+    input: &[u8],
+    limits: Limits,
+    canonical: &Canonical<&Heap>,
+) -> Result<String> {
+    if is_layout_in_form(heap, form, input, limits, canonical.bytes.as_slice())? {
+        paid_text(alloc, canonical.paid, canonical.bytes.as_slice())
+    } else {
+        Ok(String::from_str(alloc, MEMORY)?)
+    }
+}
+
 /// `canonicalise FORM MESSAGE_WORDS BUDGET DEPTH BYTES`. The bytes have to be the layout of the tree that a walk makes.
 pub(crate) fn canonicalise_answer(
     alloc: Global,
@@ -134,17 +158,20 @@ pub(crate) fn canonicalise_answer(
     let form = form_at(words, 1)?;
     let limits = true_limits_at(words, 2, tariff)?;
     let bytes = bytes_at(alloc, words, 5)?;
-    let canonical = match canonicalise(heap, form, bytes.as_slice(), limits) {
-        Ok(canonical) => canonical,
-        Err(refusal) => return told(alloc, refusal),
-    };
-    match layout_in_form(heap, form, bytes.as_slice(), limits)? {
-        Some(laid) => if laid.as_slice() != canonical.bytes.as_slice() {
-            bail!("the layout of the tree is another one");
-        },
-        None => return Ok(String::from_str(alloc, MEMORY)?),
+    match canonicalise(heap, form, bytes.as_slice(), limits) {
+        Ok(canonical) => laid_text(alloc, heap, form, bytes.as_slice(), limits, &canonical),
+        Err(refusal) => told(alloc, refusal),
     }
-    paid_text(alloc, canonical.paid, canonical.bytes.as_slice())
+}
+
+/// What canonical bytes are told as, by whether they have themselves as canonical bytes.
+fn again_text(heap: &Heap, once: &[u8], limits: Limits) -> &'static str {
+    match canonicalise(heap, Form::Bare, once, limits) {
+        Ok(again) if again.bytes.as_slice() == once => "again",
+        Ok(_) => "others",
+        Err(Refusal::Memory) => MEMORY,
+        Err(_) => "refused again",
+    }
 }
 
 /// `again FORM MESSAGE_WORDS BUDGET DEPTH BYTES`: whether the canonical bytes, read bare, have themselves as canonical
@@ -158,19 +185,10 @@ pub(crate) fn again_answer(
     let form = form_at(words, 1)?;
     let limits = true_limits_at(words, 2, tariff)?;
     let bytes = bytes_at(alloc, words, 5)?;
-    let once = match canonicalise(heap, form, bytes.as_slice(), limits) {
-        Ok(canonical) => canonical.bytes,
-        Err(Refusal::Memory) => return Ok(String::from_str(alloc, MEMORY)?),
-        Err(_) => return Ok(String::from_str(alloc, "refused")?),
-    };
-    let text = match canonicalise(heap, Form::Bare, once.as_slice(), limits) {
-        Ok(again) => if again.bytes.as_slice() == once.as_slice() {
-            "again"
-        } else {
-            "others"
-        },
+    let text = match canonicalise(heap, form, bytes.as_slice(), limits) {
+        Ok(once) => again_text(heap, once.bytes.as_slice(), limits),
         Err(Refusal::Memory) => MEMORY,
-        Err(_) => "refused again",
+        Err(_) => "refused",
     };
     Ok(String::from_str(alloc, text)?)
 }

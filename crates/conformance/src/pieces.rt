@@ -1,5 +1,7 @@
 //! The calls on streams and packed texts that come in pieces, and over a reader and a writer.
 
+ghost use Rattle.std.specs.Prelude.{◌≤◌, ◌^◌};
+
 use crate::frames::{limit_at, segments_text};
 use crate::growths::{Heap, MEMORY};
 use crate::refusals::told;
@@ -14,6 +16,12 @@ use std::alloc::Global;
 fn message_text(alloc: Global, message: &Stored<&Heap>) -> Result<String> {
     let segments = segments_text(alloc, message)?;
     Ok(format!(in alloc; "message{segments}")?)
+}
+
+/// Appends a message.
+fn push_message(alloc: Global, message: &Stored<&Heap>, text: &mut String) -> Result<()> {
+    let told = message_text(alloc, message)?;
+    push_told(text, told.as_str())
 }
 
 /// What the end of a stream is told.
@@ -56,9 +64,21 @@ fn has_to_fail(framer: &mut Framer<&Heap>) -> Result<()> {
     }
 }
 
-/// `framer MOST_WORDS STEP ..`: each step is `feed BYTES`, `take` or `finish`.
-pub(crate) fn framer_answer(alloc: Global, heap: &Heap, words: &[&str]) -> Result<String> {
-    let mut framer = Framer::new(heap, limit_at(words, 1)?);
+/// Appends what a framer answers to a step; whether memory was wanted.
+fn framer_step(
+    framer: &mut Framer<&Heap>,
+    alloc: Global,
+    words: &[&str],
+    at: usize,
+    text: &mut String,
+) -> Result<bool> {
+    let told = framer_text(framer, alloc, words, at)?;
+    push_told(text, told.as_str())?;
+    Ok(told.as_str() == MEMORY)
+}
+
+/// What a framer answers to all steps, or to those up to the one where memory was wanted.
+fn framer_steps(framer: &mut Framer<&Heap>, alloc: Global, words: &[&str]) -> Result<String> {
     let mut text = String::new(alloc);
     let mut is_piece = false;
     for at in 2..words.len() {
@@ -66,15 +86,19 @@ pub(crate) fn framer_answer(alloc: Global, heap: &Heap, words: &[&str]) -> Resul
             is_piece = false;
             continue;
         }
-        let told = framer_text(&mut framer, alloc, words, at)?;
-        push_told(&mut text, told.as_str())?;
-        if told.as_str() == MEMORY {
-            has_to_fail(&mut framer)?;
-            return Ok(text);
+        if framer_step(framer, alloc, words, at, &mut text)? {
+            has_to_fail(framer)?;
+            break;
         }
         is_piece = word_at(words, at)? == "feed";
     }
     Ok(text)
+}
+
+/// `framer MOST_WORDS STEP ..`: each step is `feed BYTES`, `take` or `finish`.
+pub(crate) fn framer_answer(alloc: Global, heap: &Heap, words: &[&str]) -> Result<String> {
+    let mut framer = Framer::new(heap, limit_at(words, 1)?);
+    framer_steps(&mut framer, alloc, words)
 }
 
 /// What was unpacked before memory was wanted, and that it was.
@@ -118,6 +142,20 @@ fn unpacker_text(
     }
 }
 
+/// Appends what an unpacker answers to a step; whether memory was wanted.
+fn unpacker_step(
+    unpacker: &mut Unpacker,
+    alloc: Global,
+    heap: &Heap,
+    words: &[&str],
+    at: usize,
+    text: &mut String,
+) -> Result<bool> {
+    let told = unpacker_text(unpacker, alloc, heap, words, at)?;
+    push_told(text, told.as_str())?;
+    Ok(told.as_str().ends_with(MEMORY))
+}
+
 /// `unpacker STEP ..`: each step is `feed BYTES` or `finish`.
 pub(crate) fn unpacker_answer(alloc: Global, heap: &Heap, words: &[&str]) -> Result<String> {
     let mut unpacker = Unpacker::new();
@@ -128,11 +166,9 @@ pub(crate) fn unpacker_answer(alloc: Global, heap: &Heap, words: &[&str]) -> Res
             is_piece = false;
             continue;
         }
-        let told = unpacker_text(&mut unpacker, alloc, heap, words, at)?;
-        push_told(&mut text, told.as_str())?;
-        if told.as_str().ends_with(MEMORY) {
+        if unpacker_step(&mut unpacker, alloc, heap, words, at, &mut text)? {
             unpacker_has_to_fail(&mut unpacker, alloc)?;
-            return Ok(text);
+            break;
         }
         is_piece = word_at(words, at)? == "feed";
     }
@@ -158,8 +194,7 @@ fn feed_all(
             Err(fault) => return Ok(Err(fault)),
         }
         if let Some(message) = framer.take() {
-            let told = message_text(alloc, &message)?;
-            push_told(text, told.as_str())?;
+            push_message(alloc, &message, text)?;
         }
         if at >= piece.len() {
             break;
@@ -168,28 +203,78 @@ fn feed_all(
     Ok(Ok(()))
 }
 
-/// `pieces SIZE MOST_WORDS BYTES`: the messages of the bytes, fed so many at a time, and the ending.
-pub(crate) fn pieces_answer(alloc: Global, heap: &Heap, words: &[&str]) -> Result<String> {
-    let size = number_at(words, 1)? as usize;
-    let mut framer = Framer::new(heap, limit_at(words, 2)?);
-    let bytes = bytes_at(alloc, words, 3)?;
+/// Feeds the bytes, so many at a time, and appends each message that they make whole; how that ends.
+fn feed_pieces(
+    framer: &mut Framer<&Heap>,
+    alloc: Global,
+    bytes: &[u8],
+    size: usize,
+    text: &mut String,
+) -> Result<Result<(), FrameFault>> {
     if size == 0 {
         bail!("pieces of no bytes");
     }
-    let mut text = String::new(alloc);
-    for piece in bytes.as_slice().chunks(size) {
-        if let Err(fault) = feed_all(&mut framer, alloc, piece, &mut text)? {
-            let told = told(alloc, fault)?;
-            push_told(&mut text, told.as_str())?;
-            if told.as_str() == MEMORY {
-                has_to_fail(&mut framer)?;
-            }
-            return Ok(text);
+    for piece in bytes.chunks(size) {
+        let fed = feed_all(framer, alloc, piece, text)?;
+        if fed.is_err() {
+            return Ok(fed);
         }
     }
-    let told = ending_text(alloc, framer.finish())?;
+    Ok(framer.finish())
+}
+
+/// The messages that a framer makes of the bytes, and the ending.
+fn pieces_text(
+    framer: &mut Framer<&Heap>,
+    alloc: Global,
+    bytes: &[u8],
+    size: usize,
+) -> Result<String> {
+    let mut text = String::new(alloc);
+    let ending = feed_pieces(framer, alloc, bytes, size, &mut text)?;
+    if ending == Err(FrameFault::Memory) {
+        has_to_fail(framer)?;
+    }
+    let told = ending_text(alloc, ending)?;
     push_told(&mut text, told.as_str())?;
     Ok(text)
+}
+
+/// `pieces SIZE MOST_WORDS BYTES`: the messages of the bytes, fed so many at a time, and the ending.
+pub(crate) fn pieces_answer(alloc: Global, heap: &Heap, words: &[&str]) -> Result<String> {
+    let size = number_at(words, 1)? as usize;
+    let limit = limit_at(words, 2)?;
+    let bytes = bytes_at(alloc, words, 3)?;
+    let mut framer = Framer::new(heap, limit);
+    pieces_text(&mut framer, alloc, bytes.as_slice(), size)
+}
+
+/// Appends what a reader gives next, a message or the ending; whether it was a message.
+fn read_next(
+    reader: &mut Watched<&[u8]>,
+    alloc: Global,
+    heap: &Heap,
+    limit: u32,
+    text: &mut String,
+) -> Result<bool>
+    requires { limit ≤ 2 ^ 28 }
+{
+    if reader.failed() {
+        bail!("no input");
+    }
+    let ending = match read_message(heap, reader, limit) {
+        Ok(Some(message)) => {
+            push_message(alloc, &message, text)?;
+            return Ok(true);
+        }
+        Ok(None) => Ok(()),
+        Err(ReadFault::Frame(fault)) => Err(fault),
+        Err(ReadFault::Memory) => Err(FrameFault::Memory),
+        Err(_) => bail!("no input"),
+    };
+    let told = ending_text(alloc, ending)?;
+    push_told(text, told.as_str())?;
+    Ok(false)
 }
 
 /// `read MOST_WORDS BYTES`: the messages of a reader that has the bytes to give, and the ending.
@@ -199,38 +284,29 @@ pub(crate) fn read_answer(alloc: Global, heap: &Heap, words: &[&str]) -> Result<
     let mut reader = Watched::new(bytes.as_slice());
     let mut text = String::new(alloc);
     for _ in 0..=bytes.len() {
-        if reader.failed() {
-            bail!("no input");
+        if !read_next(&mut reader, alloc, heap, limit, &mut text)? {
+            return Ok(text);
         }
-        let told = match read_message(heap, &mut reader, limit) {
-            Ok(Some(message)) => {
-                let told = message_text(alloc, &message)?;
-                push_told(&mut text, told.as_str())?;
-                continue;
-            }
-            Ok(None) => ending_text(alloc, Ok(()))?,
-            Err(ReadFault::Frame(fault)) => told(alloc, fault)?,
-            Err(ReadFault::Memory) => String::from_str(alloc, MEMORY)?,
-            Err(_) => bail!("no input"),
-        };
-        push_told(&mut text, told.as_str())?;
-        return Ok(text);
     }
     Err(anyhow!("a reader without end"))
+}
+
+/// What is written of a message.
+fn written_text(alloc: Global, message: &Stored<&Heap>) -> Result<String> {
+    let mut writer = Watched::new(Vec::new(alloc));
+    match write_message(&mut writer, message) {
+        Ok(()) => digits_of(alloc, writer.into_inner().as_slice()),
+        Err(_) => Err(anyhow!("no output")),
+    }
 }
 
 /// `write BYTES`: what is written of the message that a reader of the bytes gives first.
 pub(crate) fn write_answer(alloc: Global, heap: &Heap, words: &[&str]) -> Result<String> {
     let bytes = bytes_at(alloc, words, 1)?;
     let mut reader = Watched::new(bytes.as_slice());
-    let message = match read_message(heap, &mut reader, MOST_MESSAGE_WORDS) {
-        Ok(Some(message)) => message,
-        Err(ReadFault::Memory) => return Ok(String::from_str(alloc, MEMORY)?),
-        _ => bail!("no message"),
-    };
-    let mut writer = Watched::new(Vec::new(alloc));
-    match write_message(&mut writer, &message) {
-        Ok(()) => digits_of(alloc, writer.into_inner().as_slice()),
-        Err(_) => Err(anyhow!("no output")),
+    match read_message(heap, &mut reader, MOST_MESSAGE_WORDS) {
+        Ok(Some(message)) => written_text(alloc, &message),
+        Err(ReadFault::Memory) => Ok(String::from_str(alloc, MEMORY)?),
+        _ => Err(anyhow!("no message")),
     }
 }

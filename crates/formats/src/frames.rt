@@ -1,124 +1,32 @@
-//! Frames whose bytes are known.
+//! The frame of a message that is read bare, and when a framer is empty.
 
-use capn_stream::{FrameFault, first, frame};
-use capn_words::{Bare, Place, Space};
+use capn_stream::{Framer, frame};
+use capn_words::Bare;
 
-mod pieces;
-
-/// The most words of a message, as usual.
-const MOST: u32 = 8_388_608;
-
-/// A far pointer in the first segment; its pad and a struct of the word 5 in the second.
-const FAR_POINTER: [u8; 40] = [
-    1, 0, 0, 0, 1, 0, 0, 0, 2, 0, 0, 0, 0, 0, 0, 0, 2, 0, 0, 0, 1, 0, 0, 0, 0, 0, 0, 0, 1, 0, 0, 0,
-    5, 0, 0, 0, 0, 0, 0, 0,
+/// A struct of the word 5, framed.
+const FRAMED: [u8; 24] = [
+    0, 0, 0, 0, 2, 0, 0, 0, 0, 0, 0, 0, 1, 0, 0, 0, 5, 0, 0, 0, 0, 0, 0, 0,
 ];
-
-/// The word at a place of any message, if it is there.
-fn word_at<S: Space>(space: &S, segment: u32, word: u32) -> Option<u64> {
-    match space.words(segment) {
-        Some(words) if word < words => Some(space.word(Place { segment, word })),
-        _ => None,
-    }
-}
-
-/// The bytes of a segment of any message, if it is there.
-fn segment_of<S: Space>(space: &S, segment: u32) -> Option<&[u8]> {
-    match space.words(segment) {
-        Some(words) => Some(space.bytes(Place { segment, word: 0 }, 8 * words as usize)),
-        None => None,
-    }
-}
-
-#[test]
-fn reads_two_segments(rt: HostRuntime) {
-    let mut input = FAR_POINTER;
-    input[12] = 0xaa;
-    input[13] = 0xbb;
-    input[14] = 0xcc;
-    input[15] = 0xdd;
-    match first(rt.alloc(), &input, MOST) {
-        Err(fault) => assert!(rt; false, "{fault:?}"),
-        Ok((message, taken)) => {
-            assert_eq!(rt; taken, 40);
-            assert_eq!(rt; message.segments(), 2);
-            assert_eq!(rt; message.words(0), Some(1));
-            assert_eq!(rt; message.words(1), Some(2));
-            assert_eq!(rt; message.words(2), None);
-            assert_eq!(rt; word_at(&message, 0, 0), Some(0x1_0000_0002));
-            assert_eq!(rt; word_at(&message, 1, 0), Some(0x1_0000_0000));
-            assert_eq!(rt; word_at(&message, 1, 1), Some(5));
-            assert_eq!(rt; segment_of(&message, 0), Some(&FAR_POINTER[16..24]));
-            assert_eq!(rt; segment_of(&message, 1), Some(&FAR_POINTER[24..]));
-            match frame(rt.alloc(), &message) {
-                Err(_) => assert!(rt; false, "no memory"),
-                Ok(text) => assert_eq!(rt; text.as_slice(), FAR_POINTER.as_slice()),
-            }
-        }
-    }
-}
-
-#[test]
-fn reads_a_segment_without_words(rt: HostRuntime) {
-    match first(rt.alloc(), &[0; 9], MOST) {
-        Err(fault) => assert!(rt; false, "{fault:?}"),
-        Ok((message, taken)) => {
-            assert_eq!(rt; taken, 8);
-            assert_eq!(rt; message.segments(), 1);
-            assert_eq!(rt; message.words(0), Some(0));
-            assert_eq!(rt; message.words(1), None);
-        }
-    }
-}
 
 #[test]
 fn frames_a_bare_message(rt: HostRuntime) {
-    let framed = [
-        0, 0, 0, 0, 2, 0, 0, 0, 0, 0, 0, 0, 1, 0, 0, 0, 5, 0, 0, 0, 0, 0, 0, 0,
-    ];
-    match Bare::new(&framed[8..]) {
+    match Bare::new(&FRAMED[8..]) {
         Err(_) => assert!(rt; false, "two words are refused"),
         Ok(bare) => match frame(rt.alloc(), &bare) {
-            Err(_) => assert!(rt; false, "no memory"),
-            Ok(text) => assert_eq!(rt; text.as_slice(), framed.as_slice()),
+            Ok(text) => assert_eq!(rt; text.as_slice(), FRAMED.as_slice()),
+            Err(_) => assert!(rt; false, "out of memory"),
         },
     }
 }
 
 #[test]
-fn refuses_in_the_stated_order(rt: HostRuntime) {
-    let all = [0xff; 16];
-    let table = [
-        1, 0, 0, 0, 0xff, 0xff, 0xff, 0xff, 0xff, 0xff, 0xff, 0xff, 0, 0, 0, 0,
+fn a_framer_is_empty_but_for_what_it_holds(rt: HostRuntime) {
+    let mut framer = Framer::new(rt.alloc(), 2);
+    let states = [
+        framer.is_empty(),
+        framer.feed(&FRAMED) == Ok(24),
+        framer.is_empty(),
     ];
-    let cut = [0, 0, 0, 0, 0xff, 0xff, 0xff, 0xff];
-    for (input, want) in [
-        (&all[..0], FrameFault::Empty),
-        (&[0, 16, 0, 0], FrameFault::TooManySegments(4_097)),
-        (&[0, 2, 0, 0], FrameFault::Cut),
-        (&all[..3], FrameFault::Cut),
-        (&all[..4], FrameFault::TooManySegments(4_294_967_296)),
-        (&table[..12], FrameFault::Cut),
-        (&table[..], FrameFault::TooManyWords(8_589_934_590)),
-        (&cut[..], FrameFault::TooManyWords(4_294_967_295)),
-    ] {
-        match first(rt.alloc(), input, MOST) {
-            Err(fault) => assert_eq!(rt; fault, want),
-            Ok(_) => assert!(rt; false, "taken in place of {want:?}"),
-        }
-    }
-    match first(rt.alloc(), &[0, 0, 0, 0, 2, 0, 0, 0], 1) {
-        Err(fault) => assert_eq!(rt; fault, FrameFault::TooManyWords(2)),
-        Ok(_) => assert!(rt; false, "two words are taken for one"),
-    }
-}
-
-#[test]
-fn refuses_each_front_of_a_frame(rt: HostRuntime) {
-    for len in 1..40 {
-        match first(rt.alloc(), &FAR_POINTER[..len], MOST) {
-            Err(fault) => assert_eq!(rt; fault, FrameFault::Cut, "at {len} bytes"),
-            Ok(_) => assert!(rt; false, "{len} bytes are taken"),
-        }
-    }
+    assert_eq!(rt; states, [true, true, false]);
+    assert!(rt; framer.take().is_some() && framer.is_empty());
 }

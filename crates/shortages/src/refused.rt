@@ -112,77 +112,45 @@ fn refuse_each(rt: &impl Abort, of: &Subject, name: &str, call: Call) {
 }
 
 #[test]
-fn calls_on_streams(rt: HostRuntime) -> Result<(), Fail> {
-    let stream = bytes_of(rt.alloc(), &STREAM)?;
-    let of = subject_of(rt.alloc(), stream.as_slice())?;
-    refuse_each(&rt, &of, "first", Call::First);
-    refuse_each(&rt, &of, "frame", Call::Frame);
-    refuse_each(&rt, &of, "feed", Call::Feed);
-    refuse_each(&rt, &of, "read_message", Call::Read);
-    refuse_each(&rt, &of, "pack", Call::Pack);
-    refuse_each(&rt, &of, "unpack", Call::Unpack);
-    refuse_each(&rt, &of, "feed of packed bytes", Call::FeedPacked);
-    Ok(())
-}
-
-#[test]
-fn calls_on_values(rt: HostRuntime) -> Result<(), Fail> {
-    let stream = bytes_of(rt.alloc(), &STREAM)?;
-    let of = subject_of(rt.alloc(), stream.as_slice())?;
-    refuse_each(&rt, &of, "walk", Call::Walk);
-    refuse_each(&rt, &of, "survey", Call::Survey);
-    refuse_each(&rt, &of, "show", Call::Show);
-    refuse_each(&rt, &of, "trim", Call::Trim);
-    refuse_each(&rt, &of, "copy", Call::Copy);
-    refuse_each(&rt, &of, "items", Call::Items);
-    refuse_each(&rt, &of, "layout", Call::Layout);
-    refuse_each(&rt, &of, "patch", Call::Patch);
-    refuse_each(&rt, &of, "canonical_of", Call::Canonical);
-    refuse_each(&rt, &of, "canonicalise", Call::Canonicalise);
-    refuse_each(&rt, &of, "is_canonical", Call::Check);
-    refuse_each(&rt, &of, "account of a stream", Call::Account(Form::Stream));
-    refuse_each(
-        &rt,
-        &of,
-        "account of packed bytes",
-        Call::Account(Form::Packed),
-    );
-    refuse_each(&rt, &of, "account of bare bytes", Call::Account(Form::Bare));
-    Ok(())
-}
-
-#[test]
-fn calls_of_the_tool(rt: HostRuntime) -> Result<(), Fail> {
+fn each_call(rt: HostRuntime) -> Result<(), Fail> {
     let stream = bytes_of(rt.alloc(), &STREAM)?;
     let of = subject_of(rt.alloc(), stream.as_slice())?;
     let usual = limits(64);
-    refuse_each(&rt, &of, "fault_text", Call::Text);
-    refuse_each(
-        &rt,
-        &of,
-        "show",
-        Call::Run(Command::Show(Form::Stream, usual)),
-    );
-    refuse_each(
-        &rt,
-        &of,
-        "check",
-        Call::Run(Command::Check(Form::Packed, usual)),
-    );
-    refuse_each(
-        &rt,
-        &of,
-        "canonical",
-        Call::Run(Command::Canonical(Form::Stream, usual)),
-    );
-    refuse_each(
-        &rt,
-        &of,
-        "hash",
-        Call::Run(Command::Hash(Form::Stream, usual)),
-    );
-    refuse_each(&rt, &of, "pack", Call::Run(Command::Pack));
-    refuse_each(&rt, &of, "unpack", Call::Run(Command::Unpack(1_000)));
+    for (name, call) in [
+        ("first", Call::First),
+        ("frame", Call::Frame),
+        ("feed", Call::Feed),
+        ("read_message", Call::Read),
+        ("pack", Call::Pack),
+        ("unpack", Call::Unpack),
+        ("feed of packed bytes", Call::FeedPacked),
+        ("walk", Call::Walk),
+        ("survey", Call::Survey),
+        ("show", Call::Show),
+        ("trim", Call::Trim),
+        ("copy", Call::Copy),
+        ("items", Call::Items),
+        ("layout", Call::Layout),
+        ("patch", Call::Patch),
+        ("canonical_of", Call::Canonical),
+        ("canonicalise", Call::Canonicalise),
+        ("is_canonical", Call::Check),
+        ("account of a stream", Call::Account(Form::Stream)),
+        ("account of packed bytes", Call::Account(Form::Packed)),
+        ("account of bare bytes", Call::Account(Form::Bare)),
+        ("fault_text", Call::Text),
+        ("show", Call::Run(Command::Show(Form::Stream, usual))),
+        ("check", Call::Run(Command::Check(Form::Packed, usual))),
+        (
+            "canonical",
+            Call::Run(Command::Canonical(Form::Stream, usual)),
+        ),
+        ("hash", Call::Run(Command::Hash(Form::Stream, usual))),
+        ("pack", Call::Run(Command::Pack)),
+        ("unpack", Call::Run(Command::Unpack(1_000))),
+    ] {
+        refuse_each(&rt, &of, name, call);
+    }
     Ok(())
 }
 

@@ -92,17 +92,13 @@ fn fail_each_read(rt: &impl Abort, alloc: Global, run_of: &Run, whole: &[(u64, u
     for call in 0..=calls + 1 {
         let end = ended(alloc, run_of, call, 0, false);
         assert_eq!(rt; end.asked, 65_536, "read {call}");
-        if 1 <= call && call <= calls {
-            assert_eq!(rt; end.outcome, Err(ToolFault::Io), "read {call}");
-            assert_eq!(rt;
-                run_of.text.get(..due(whole, call)),
-                Some(end.written.as_slice()),
-                "read {call}"
-            );
+        let (outcome, text) = if 1 <= call && call <= calls {
+            (Err(ToolFault::Io), run_of.text.get(..due(whole, call)))
         } else {
-            assert_eq!(rt; end.outcome, Ok(()), "read {call}");
-            assert_eq!(rt; end.written.as_slice(), run_of.text, "read {call}");
-        }
+            (Ok(()), Some(run_of.text))
+        };
+        assert_eq!(rt; end.outcome, outcome, "read {call}");
+        assert_eq!(rt; Some(end.written.as_slice()), text, "read {call}");
     }
 }
 
@@ -118,21 +114,18 @@ fn fail_each_write(
     let calls = run_of.input.len() as u64 + 1;
     for call in 0..200usize {
         let end = ended(alloc, run_of, 0, call as u64, takes_nothing);
-        if 1 <= call && call <= run_of.text.len() {
-            assert_eq!(rt; end.outcome, Err(ToolFault::Io), "write {call}");
-            assert_eq!(rt;
-                run_of.text.get(..call - 1),
-                Some(end.written.as_slice()),
-                "write {call}"
-            );
-            assert!(rt;
-                end.reads == reads_before(whole, call, calls),
-                "write {call}"
-            );
+        let fails = 1 <= call && call <= run_of.text.len();
+        let (outcome, text) = if fails {
+            (Err(ToolFault::Io), run_of.text.get(..call - 1))
         } else {
-            assert_eq!(rt; end.outcome, Ok(()), "write {call}");
-            assert_eq!(rt; end.written.as_slice(), run_of.text, "write {call}");
-        }
+            (Ok(()), Some(run_of.text))
+        };
+        assert_eq!(rt; end.outcome, outcome, "write {call}");
+        assert_eq!(rt; Some(end.written.as_slice()), text, "write {call}");
+        assert!(rt;
+            !fails || end.reads == reads_before(whole, call, calls),
+            "write {call}"
+        );
     }
 }
 

@@ -21,12 +21,8 @@ mod programs;
 #[cfg(test)]
 mod slow;
 #[cfg(test)]
-mod surveys;
-#[cfg(test)]
 mod texts;
 #[cfg(test)]
 mod values;
-#[cfg(test)]
-mod walks;
 #[cfg(test)]
 mod words;

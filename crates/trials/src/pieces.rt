@@ -7,7 +7,6 @@ use capn_words::Watched;
 use std::alloc::Global;
 use std::cell::Cell;
 use std::io::{self, Read, Write};
-use std::process::Abort;
 
 /// How often the reader and the writer of a run were called, and the reader before the writer was first.
 #[derive(Drop)]
@@ -144,59 +143,4 @@ fn ten_thousand_messages_are_written_at_once(rt: HostRuntime) {
     assert!(rt; written.as_slice() == lines.as_slice());
     assert_eq!(rt; calls.reads.get(), 6);
     assert_eq!(rt; calls.writes.get(), 5);
-}
-
-/// `check` of a bare input writes this line.
-fn expect_line(rt: &impl Abort, alloc: Global, limits: Limits, input: &[u8], line: &str) {
-    let command = Command::Check(Form::Bare, limits);
-    let (outcome, written) = ended(alloc, command, input, 65_536, &no_calls());
-    assert_eq!(rt; outcome, Ok(()), "{line}");
-    assert_eq!(rt; written.as_slice(), line.as_bytes());
-}
-
-#[test]
-fn the_line_of_a_bare_message_has_one_word_more(rt: HostRuntime) {
-    for (input, line) in [
-        (
-            [0, 0, 0, 0, 1, 0, 0, 0, 5, 0, 0, 0, 0, 0, 0, 0].as_slice(),
-            "ok paid 2 visits 1 canonical\n",
-        ),
-        (
-            [
-                0, 0, 0, 0, 2, 0, 0, 0, 5, 0, 0, 0, 0, 0, 0, 0, 0, 0, 0, 0, 0, 0, 0, 0,
-            ]
-            .as_slice(),
-            "ok paid 3 visits 1 not-canonical\n",
-        ),
-        (
-            [0, 0, 0, 0, 0, 0, 1, 0, 3, 0, 0, 0, 2, 0, 0, 0].as_slice(),
-            "ok paid 2 visits 2 not-canonical\n",
-        ),
-    ] {
-        expect_line(&rt, rt.alloc(), Limits::usual(), input, line);
-    }
-}
-
-/// So many objects, each the only slot of the one before, the last of which is empty.
-fn chain(alloc: Global, above: u32) -> Option<Vec<u8>> {
-    let mut input = repeated(alloc, &[0, 0, 0, 0, 0, 0, 1, 0], above)?;
-    input
-        .extend_from_slice(&[0xfc, 0xff, 0xff, 0xff, 0, 0, 0, 0])
-        .ok()?;
-    Some(input)
-}
-
-#[test]
-fn chains_as_deep_as_may_be(rt: HostRuntime) {
-    for (above, depth, line) in [
-        (63, 64, "ok paid 127 visits 64 canonical\n"),
-        (64, 65, "ok paid 129 visits 65 canonical\n"),
-    ] {
-        if let (Some(input), Some(limits)) = (
-            chain(rt.alloc(), above),
-            Limits::new(8_388_608, 8_388_608, depth),
-        ) {
-            expect_line(&rt, rt.alloc(), limits, &input, line);
-        }
-    }
 }

@@ -76,43 +76,23 @@ fn expect_check(
 
 #[test]
 fn each_status_of_a_run(rt: HostRuntime) {
-    let alloc = rt.alloc();
-    expect_check(
-        &rt,
-        alloc,
-        &STREAM,
-        blank(alloc, true, true),
-        (0, PRICE, b""),
-    );
     let cut = b"capn: frame: Cut\n";
-    expect_check(
-        &rt,
-        alloc,
-        &STREAM[..9],
-        blank(alloc, true, true),
-        (1, b"", cut),
-    );
-    expect_check(
-        &rt,
-        alloc,
-        &STREAM,
-        blank(alloc, false, true),
-        (3, b"", FAILED),
-    );
-    expect_check(
-        &rt,
-        alloc,
-        &STREAM,
-        blank(alloc, true, false),
-        (3, PRICE, FAILED),
-    );
-    expect_check(
-        &rt,
-        alloc,
-        &STREAM[..9],
-        blank(alloc, true, false),
-        (3, b"", FAILED),
-    );
+    for (size, takes, flushes, code, written, told) in [
+        (24, true, true, 0, PRICE, b"".as_slice()),
+        (9, true, true, 1, b"", cut),
+        (24, false, true, 3, b"", FAILED),
+        (24, true, false, 3, PRICE, FAILED),
+        (9, true, false, 3, b"", FAILED),
+    ] {
+        let output = blank(rt.alloc(), takes, flushes);
+        expect_check(
+            &rt,
+            rt.alloc(),
+            &STREAM[..size],
+            output,
+            (code, written, told),
+        );
+    }
 }
 
 #[test]
@@ -130,16 +110,16 @@ fn mistakes_are_told_as_errors(rt: HostRuntime) {
 
 #[test]
 fn help_is_output(rt: HostRuntime) {
-    let alloc = rt.alloc();
     let words = ["capn", "pack", "--help"];
-    let (code, written, told) = ended(alloc, &words, &STREAM, blank(alloc, true, true));
-    assert_eq!(rt; code, 0);
-    assert!(rt; written.as_slice().starts_with(b"capn 0.1.0: "));
-    assert!(rt; told.is_empty());
-    let (unwritten, _, line) = ended(alloc, &words, &STREAM, blank(alloc, false, true));
-    assert_eq!(rt; unwritten, 3);
-    assert_eq!(rt; line.as_slice(), FAILED);
-    let (unflushed, _, again) = ended(alloc, &words, &STREAM, blank(alloc, true, false));
-    assert_eq!(rt; unflushed, 3);
-    assert_eq!(rt; again.as_slice(), FAILED);
+    for (takes, flushes, code, told) in [
+        (true, true, 0, b"".as_slice()),
+        (false, true, 3, FAILED),
+        (true, false, 3, FAILED),
+    ] {
+        let output = blank(rt.alloc(), takes, flushes);
+        let (status, written, line) = ended(rt.alloc(), &words, &STREAM, output);
+        let is_written = written.as_slice().starts_with(b"capn 0.1.0: ");
+        assert_eq!(rt; (status, is_written), (code, takes));
+        assert_eq!(rt; line.as_slice(), told);
+    }
 }
