@@ -18,7 +18,7 @@ const MOST_WORDS: u32 = 1 << 28;
 const PIECE: usize = 65_536;
 
 /// An operation on a message, a tree, canonical bytes or packed bytes.
-#[derive(Debug, Clone, Copy, PartialEq, Eq)]
+#[derive(Clone, Copy)]
 pub(crate) enum Operation {
     /// A copy of the framed message's bytes, to compare with.
     Copy,

@@ -10,7 +10,7 @@ mod small;
 use std::alloc::{AllocError, Global};
 
 /// What a message is like.
-#[derive(Debug, Clone, Copy, PartialEq, Eq)]
+#[derive(Clone, Copy)]
 pub(crate) enum Shape {
     /// Structs of many data words.
     Wide,

@@ -9,7 +9,7 @@ use capn_value::Tariff;
 use capn_walk::Limits;
 
 /// How much a call takes on. Any numbers may be passed: a call tells where one is out of its range.
-#[derive(Clone, Copy, Debug, PartialEq, Eq)]
+#[derive(Clone, Copy)]
 #[repr(C)]
 pub struct CapnLimits {
     /// The words of one framed message, from 1 to 2^28.

@@ -4,7 +4,7 @@ ghost use Rattle.std.specs.Prelude.{◌≡◌};
 ghost use Rattle.capn_c.specs.Codes.{at_number, answered};
 
 /// What a call tells beside its status. Each call sets every field; one that its status does not speak of is 0.
-#[derive(Clone, Copy, Debug, PartialEq, Eq)]
+#[derive(Clone, Copy)]
 #[repr(C)]
 pub struct CapnReport {
     /// How many bytes the answer has: those that were written, or where there is no room how many are enough.

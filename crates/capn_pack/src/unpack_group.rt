@@ -12,7 +12,7 @@ pub(crate) const GROUP: usize = 2050;
 pub(crate) const WORDS: usize = 256;
 
 /// Why one group isn't read.
-#[derive(Clone, Copy, Debug)]
+#[derive(Clone, Copy)]
 pub(crate) enum Stop {
     /// A growth was refused.
     Memory,
@@ -33,7 +33,7 @@ impl From<AllocError> for Stop {
 }
 
 /// A group that was read.
-#[derive(Clone, Copy, Debug)]
+#[derive(Clone, Copy)]
 pub(crate) struct Taken {
     /// How many bytes it took.
     pub bytes: usize,

@@ -44,7 +44,7 @@ fn take_groups<A: Allocator>(
 
 /// What became of an unfinished group once more bytes came: it is still one, and has as many bytes,
 /// or it took so many bytes of the piece.
-#[derive(Clone, Copy, Debug)]
+#[derive(Clone, Copy)]
 pub(crate) enum Joined {
     Open(usize),
     Whole(usize),
@@ -89,7 +89,7 @@ fn join_first<A: Allocator>(
 }
 
 /// How many bytes are held for the next group, and how many the groups took.
-#[derive(Clone, Copy, Debug)]
+#[derive(Clone, Copy)]
 pub(crate) struct Fed {
     pub len: usize,
     pub taken: usize,

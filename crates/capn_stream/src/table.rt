@@ -66,7 +66,7 @@ pub(crate) fn head_of(count: usize) -> usize
 }
 
 /// What a table announces: how many segments, and how many words in all.
-#[derive(Clone, Copy, Debug)]
+#[derive(Clone, Copy)]
 pub(crate) struct Head {
     /// The number of segments.
     pub segments: usize,

@@ -10,7 +10,7 @@ use capn_words::{Place, Width};
 
 /// The slots of an object that are still to be visited, in order: those that are left of the row in hand, then
 /// those of the rows behind it. A struct and a list of pointers are one row.
-#[derive(Clone, Copy, Debug, Default)]
+#[derive(Clone, Copy, Default)]
 pub struct Frame {
     /// The segment of the object.
     pub segment: u32,
@@ -27,7 +27,7 @@ pub struct Frame {
 }
 
 /// An object that waits until all below one of its slots is visited.
-#[derive(Clone, Copy, Debug, Default)]
+#[derive(Clone, Copy, Default)]
 pub struct Waiting {
     /// Its slots behind that one.
     pub frame: Frame,

@@ -14,6 +14,7 @@ mod packing;
 mod pieces;
 mod refusals;
 mod runs;
+mod unpackers;
 mod views;
 mod visits;
 mod words;
@@ -53,7 +54,7 @@ fn answer(alloc: Global, heap: &Heap, words: &[&str]) -> Result<String> {
         "tag" => packing::tag_answer(alloc, words),
         "framer" => pieces::framer_answer(alloc, heap, words),
         "pieces" => pieces::pieces_answer(alloc, heap, words),
-        "unpacker" => pieces::unpacker_answer(alloc, heap, words),
+        "unpacker" => unpackers::unpacker_answer(alloc, heap, words),
         "read" => pieces::read_answer(alloc, heap, words),
         "write" => pieces::write_answer(alloc, heap, words),
         "survey" => visits::visits_answer(alloc, heap, Asked::Survey, words, tariff),

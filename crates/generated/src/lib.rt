@@ -11,7 +11,9 @@ mod agreement;
 mod changed;
 #[cfg(test)]
 mod hostile;
+#[cfg(test)]
 mod random;
+#[cfg(test)]
 mod segments;
 #[cfg(test)]
 mod writing;

@@ -9,7 +9,7 @@ use std::alloc::{AllocError, Global};
 const EMPTY: u64 = 0xffff_fffc;
 
 /// A word of a draft.
-#[derive(Debug, Clone, Copy)]
+#[derive(Clone, Copy)]
 pub(crate) struct Slot {
     /// The segments before its own.
     segment: usize,
@@ -41,7 +41,7 @@ enum Route {
 }
 
 /// A message in the making. Objects stand in the order in which they are made.
-#[derive(Debug, Drop)]
+#[derive(Drop)]
 pub(crate) struct Draft {
     words: Vec<u64>,
     sizes: Vec<u32>,

@@ -3,7 +3,7 @@
 ghost use Rattle.std.specs.Prelude.{◌<◌};
 
 /// What stands in words that are no pointers.
-#[derive(Debug, Clone, Copy)]
+#[derive(Clone, Copy)]
 pub(crate) enum Content {
     /// Zero words.
     Zeros,
@@ -20,7 +20,7 @@ pub(crate) enum Content {
 }
 
 /// Numbers without order, by shifts and exclusive ors; the same ones from each beginning.
-#[derive(Debug, Drop)]
+#[derive(Drop)]
 pub(crate) struct Random {
     state: u64,
 }
