@@ -23,28 +23,52 @@ fn framed_again(alloc: Global, bytes: &[u8]) -> Result<Vec<u8>> {
     }
 }
 
+/// Whether canonical bytes are their own canonical bytes.
+fn is_own(alloc: Global, once: &[u8]) -> Result<bool> {
+    let framed = framed_again(alloc, once)?;
+    Ok(canonical(alloc, &framed)?.as_slice() == once)
+}
+
 /// Tests that the canonical bytes of a message are canonical, and their own canonical bytes.
 fn check_canonical(alloc: Global, bytes: &[u8]) -> Result<()> {
     let once = canonical(alloc, bytes)?;
     ensure!(test(alloc, &once)?, "not canonical");
-    let again = canonical(alloc, &framed_again(alloc, &once)?)?;
-    ensure!(again == once, "other canonical bytes");
+    ensure!(is_own(alloc, &once)?, "other canonical bytes");
     Ok(())
+}
+
+/// Whether unpacking takes back what packing gives.
+fn is_unpacked(alloc: Global, bytes: &[u8]) -> Result<bool> {
+    let text = packed(alloc, bytes)?;
+    Ok(unpacked(alloc, &text)?.as_slice() == bytes)
+}
+
+/// The words of the message that stands first.
+fn first_words(alloc: Global, bytes: &[u8]) -> Result<u32> {
+    Ok(words_of(&message(alloc, bytes)?))
 }
 
 /// Tests that unpacking takes back what packing gives, that the framer gives what `first` gives, and that the walk pays
 /// what the survey tells.
 fn check_readings(alloc: Global, bytes: &[u8]) -> Result<()> {
-    let words = unpacked(alloc, &packed(alloc, bytes)?)?;
-    ensure!(words.as_slice() == bytes, "other words");
-    ensure!(
-        received(alloc, bytes)? == words_of(&message(alloc, bytes)?),
-        "another message"
-    );
-    ensure!(
-        walked(alloc, bytes)?.paid == paid(alloc, bytes)?,
-        "another price"
-    );
+    ensure!(is_unpacked(alloc, bytes)?, "other words");
+    let words = first_words(alloc, bytes)?;
+    ensure!(received(alloc, bytes)? == words, "another message");
+    let price = paid(alloc, bytes)?;
+    ensure!(walked(alloc, bytes)? == price, "another price");
+    Ok(())
+}
+
+/// The digest of a message's canonical bytes, in digits.
+fn digits_of(alloc: Global, bytes: &[u8]) -> Result<String> {
+    let digest = digest(alloc, bytes)?;
+    Ok(hex::encode(alloc, digest.as_slice())?)
+}
+
+/// Prints the line of a shape whose operations agree.
+fn print_digest(rt: &impl Print, alloc: Global, shape: Shape, bytes: &[u8]) -> Result<()> {
+    let digits = digits_of(alloc, bytes)?;
+    println!(rt; "{}: {} bytes, {digits}, ok", shape.name(), bytes.len())?;
     Ok(())
 }
 
@@ -54,8 +78,7 @@ pub(crate) fn agree(rt: &impl Print, alloc: Global) -> Result<()> {
         let bytes = framed(alloc, shape, BYTES)?;
         check_canonical(alloc, &bytes)?;
         check_readings(alloc, &bytes)?;
-        let digits = hex::encode(alloc, digest(alloc, &bytes)?.as_slice())?;
-        println!(rt; "{}: {} bytes, {digits}, ok", shape.name(), bytes.len())?;
+        print_digest(rt, alloc, shape, &bytes)?;
     }
     Ok(())
 }

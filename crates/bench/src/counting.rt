@@ -5,6 +5,15 @@ use crate::shapes::{Shape, framed};
 use anyhow::Result;
 use std::alloc::Global;
 
+/// Does an operation so many times. The answer is some number of what came out.
+fn repeated(alloc: Global, operation: Operation, input: &Input, steps: u32) -> Result<usize> {
+    let mut sum = 0usize;
+    for _ in 0..steps {
+        sum = sum.wrapping_add(input.perform(alloc, operation)?);
+    }
+    Ok(sum)
+}
+
 /// Makes the input of an operation and does the operation so many times. Prints the bytes by which its cost is told.
 pub(crate) fn count(
     rt: &impl Print,
@@ -15,10 +24,11 @@ pub(crate) fn count(
     bytes: u32,
 ) -> Result<()> {
     let input = Input::new(alloc, operation, framed(alloc, shape, bytes)?)?;
-    let mut sum = 0usize;
-    for _ in 0..steps {
-        sum = sum.wrapping_add(input.perform(alloc, operation)?);
-    }
-    println!(rt; "{} {sum}", input.size)?;
+    let size = input.size;
+    let sum = repeated(alloc, operation, &input, steps);
+    // One call is cheaper to check than fields that are dropped one by one.
+    drop(input);
+    let sum = sum?;
+    println!(rt; "{size} {sum}")?;
     Ok(())
 }

@@ -95,7 +95,7 @@ impl Operation {
 /// What an operation takes.
 #[derive(Drop)]
 pub(crate) struct Input {
-    /// The framed message, its canonical bytes, its packed text, or a stream.
+    /// The framed message, its canonical bytes, its packed text, or a stream; nothing beside a tree.
     bytes: Vec<u8>,
     /// The tree of the message.
     tree: Option<Tree>,
@@ -111,12 +111,28 @@ pub(crate) fn message(alloc: Global, framed: &[u8]) -> Result<Framed<'_>> {
     }
 }
 
-/// The tree of a framed message, with what its walk paid.
-pub(crate) fn walked(alloc: Global, framed: &[u8]) -> Result<Walked> {
-    match walk(alloc, &message(alloc, framed)?, Limits::usual()) {
+/// The tree of a message, with what its walk paid.
+fn walk_of<S: Space>(alloc: Global, space: &S) -> Result<Walked> {
+    match walk(alloc, space, Limits::usual()) {
         Ok(walked) => Ok(walked),
         Err(_) => Err(anyhow!("not walked")),
     }
+}
+
+/// The words that the walk of a framed message pays; its tree is freed.
+pub(crate) fn walked(alloc: Global, framed: &[u8]) -> Result<u32> {
+    let message = message(alloc, framed)?;
+    let walked = walk_of(alloc, &message)?;
+    let paid = walked.paid;
+    // One call is cheaper to check than fields that are dropped one by one.
+    drop(walked);
+    Ok(paid)
+}
+
+/// The tree of a framed message.
+fn tree_of(alloc: Global, framed: &[u8]) -> Result<Tree> {
+    let message = message(alloc, framed)?;
+    Ok(walk_of(alloc, &message)?.tree)
 }
 
 /// The canonical bytes of a framed message.
@@ -150,9 +166,8 @@ pub(crate) fn paid(alloc: Global, framed: &[u8]) -> Result<u32> {
     }
 }
 
-/// The contents of the message that comes in pieces, in words.
-pub(crate) fn received(alloc: Global, framed: &[u8]) -> Result<u32> {
-    let mut framer = Framer::new(alloc, MOST_WORDS);
+/// The contents of the message that a framer is fed in pieces, in words.
+fn fed(framer: &mut Framer, framed: &[u8]) -> Result<u32> {
     for piece in framed.chunks(PIECE) {
         match framer.feed(piece) {
             Ok(taken) => if taken < piece.len() {
@@ -165,6 +180,32 @@ pub(crate) fn received(alloc: Global, framed: &[u8]) -> Result<u32> {
         Some(message) => Ok(words_of(&message)),
         None => Err(anyhow!("no message")),
     }
+}
+
+/// The contents of the message that comes in pieces, in words.
+pub(crate) fn received(alloc: Global, framed: &[u8]) -> Result<u32> {
+    let mut framer = Framer::new(alloc, MOST_WORDS);
+    fed(&mut framer, framed)
+}
+
+/// A copy of some bytes.
+fn copied(alloc: Global, bytes: &[u8]) -> Result<Vec<u8>> {
+    Ok(Vec::from_slice(alloc, bytes)?)
+}
+
+/// The segments of the message that stands first.
+fn segments_of(alloc: Global, framed: &[u8]) -> Result<u32> {
+    Ok(message(alloc, framed)?.segments())
+}
+
+/// 1 where bytes are canonical, else 0.
+fn told(alloc: Global, bytes: &[u8]) -> Result<u32> {
+    Ok(u32::from(test(alloc, bytes)?))
+}
+
+/// The first byte of the digest of a message's canonical bytes.
+fn first_byte(alloc: Global, framed: &[u8]) -> Result<u32> {
+    Ok(u32::from(digest(alloc, framed)?[0]))
 }
 
 /// The words of a message.
@@ -187,25 +228,47 @@ fn checked(alloc: Global, stream: &[u8]) -> Result<Vec<u8>> {
     }
 }
 
+/// Bytes of which the cost is told by a size, or else by their own.
+fn of_bytes(bytes: Result<Vec<u8>>, size: Option<usize>) -> Result<Input> {
+    let bytes = bytes?;
+    let size = size.unwrap_or(bytes.len());
+    Ok(Input {
+        bytes,
+        tree: None,
+        size,
+    })
+}
+
+/// A tree of which the cost is told by the size of its framed message.
+fn of_tree(alloc: Global, tree: Result<Tree>, size: usize) -> Result<Input> {
+    let tree = tree?;
+    Ok(Input {
+        bytes: Vec::new(alloc),
+        tree: Some(tree),
+        size,
+    })
+}
+
+/// How many bytes came out.
+fn len_of(bytes: Result<Vec<u8>>) -> Result<usize> {
+    Ok(bytes?.len())
+}
+
+/// A number that came out.
+fn number_of(number: Result<u32>) -> Result<usize> {
+    Ok(number? as usize)
+}
+
 impl Input {
     /// What an operation takes, for a framed message or a stream.
     pub(crate) fn new(alloc: Global, operation: Operation, framed: Vec<u8>) -> Result<Input> {
-        let mut size = framed.len();
-        let mut tree = None;
-        let bytes = match operation {
-            Operation::IsCanonical => {
-                let bytes = canonical(alloc, &framed)?;
-                size = bytes.len();
-                bytes
-            }
-            Operation::Unpack => packed(alloc, &framed)?,
-            Operation::Show => {
-                tree = Some(walked(alloc, &framed)?.tree);
-                framed
-            }
-            _ => framed,
-        };
-        Ok(Input { bytes, tree, size })
+        let size = framed.len();
+        match operation {
+            Operation::IsCanonical => of_bytes(canonical(alloc, &framed), None),
+            Operation::Unpack => of_bytes(packed(alloc, &framed), Some(size)),
+            Operation::Show => of_tree(alloc, tree_of(alloc, &framed), size),
+            _ => of_bytes(Ok(framed), Some(size)),
+        }
     }
 
     /// The text of the tree.
@@ -224,18 +287,18 @@ impl Input {
     pub(crate) fn perform(&self, alloc: Global, operation: Operation) -> Result<usize> {
         let bytes = self.bytes.as_slice();
         match operation {
-            Operation::Copy => Ok(Vec::from_slice(alloc, bytes)?.len()),
-            Operation::First => Ok(message(alloc, bytes)?.segments() as usize),
-            Operation::Framer => Ok(received(alloc, bytes)? as usize),
-            Operation::Survey => Ok(paid(alloc, bytes)? as usize),
-            Operation::Walk => Ok(walked(alloc, bytes)?.paid as usize),
-            Operation::Canonical => Ok(canonical(alloc, bytes)?.len()),
-            Operation::IsCanonical => Ok(usize::from(test(alloc, bytes)?)),
-            Operation::Hash => Ok(usize::from(digest(alloc, bytes)?[0])),
+            Operation::Copy => len_of(copied(alloc, bytes)),
+            Operation::First => number_of(segments_of(alloc, bytes)),
+            Operation::Framer => number_of(received(alloc, bytes)),
+            Operation::Survey => number_of(paid(alloc, bytes)),
+            Operation::Walk => number_of(walked(alloc, bytes)),
+            Operation::Canonical => len_of(canonical(alloc, bytes)),
+            Operation::IsCanonical => number_of(told(alloc, bytes)),
+            Operation::Hash => number_of(first_byte(alloc, bytes)),
             Operation::Show => self.text(alloc),
-            Operation::Pack => Ok(packed(alloc, bytes)?.len()),
-            Operation::Unpack => Ok(unpacked(alloc, bytes)?.len()),
-            Operation::Check => Ok(checked(alloc, bytes)?.len()),
+            Operation::Pack => len_of(packed(alloc, bytes)),
+            Operation::Unpack => len_of(unpacked(alloc, bytes)),
+            Operation::Check => len_of(checked(alloc, bytes)),
         }
     }
 }

@@ -34,8 +34,25 @@ fn timed<R: Clock>(
     Ok(per_unit(start.elapsed(rt)?.as_nanos(), units))
 }
 
-/// The shortest of some times of an operation. A small message is taken many times over, so that the clock's own time
-/// counts for little.
+/// The shortest of some times of an operation on an input of some so many bytes. A small one is taken many times over,
+/// so that the clock's own time counts for little.
+fn least_of<R: Clock>(
+    rt: &R,
+    alloc: Global,
+    operation: Operation,
+    input: &Input,
+    bytes: u32,
+) -> Result<u64> {
+    let steps = ((1 << 17) / bytes.max(1)).max(1) as usize;
+    let rounds = if bytes > 1 << 22 { 2 } else { 8 };
+    let mut least = u64::MAX;
+    for _ in 0..rounds {
+        least = least.min(timed(rt, alloc, operation, input, steps)?);
+    }
+    Ok(least)
+}
+
+/// The shortest of some times of an operation on a message of a shape.
 fn shortest<R: Clock>(
     rt: &R,
     alloc: Global,
@@ -44,13 +61,9 @@ fn shortest<R: Clock>(
     bytes: u32,
 ) -> Result<u64> {
     let input = Input::new(alloc, operation, framed(alloc, shape, bytes)?)?;
-    let steps = ((1 << 17) / bytes.max(1)).max(1) as usize;
-    let rounds = if bytes > 1 << 22 { 2 } else { 8 };
-    let mut least = u64::MAX;
-    for _ in 0..rounds {
-        least = least.min(timed(rt, alloc, operation, &input, steps)?);
-    }
-    Ok(least)
+    let least = least_of(rt, alloc, operation, &input, bytes);
+    drop(input);
+    least
 }
 
 /// The line of the operations' names.

@@ -139,6 +139,17 @@ fn digest_line(bytes: &[u8]) -> [u8; 65]
     line
 }
 
+/// Appends the line of the digest of some bytes.
+fn put_digest_line<A: Allocator>(bytes: &[u8], text: &mut Vec<u8, A>) -> Result<(), ToolFault>
+    ensures { PutsLine (encode_lower (sha256 bytes.now) ++ 10 ∷ []) text.old.items text.new.items result }
+{
+    let line = digest_line(bytes);
+    match text.extend_from_slice(&line) {
+        Ok(()) => Ok(()),
+        Err(_) => Err(ToolFault::Memory),
+    }
+}
+
 /// Appends the line of the digest of a message's canonical bytes.
 fn put_digest<S: Space, A: Allocator + Copy>(
     alloc: A,
@@ -149,13 +160,7 @@ fn put_digest<S: Space, A: Allocator + Copy>(
     ensures { PutsPiece kinds.Digest (S.message space.now) limits text.old.items text.new.items result }
 {
     match canonical_of(alloc, space, limits) {
-        Ok(canonical) => {
-            let line = digest_line(&canonical.bytes);
-            match text.extend_from_slice(&line) {
-                Ok(()) => Ok(()),
-                Err(_) => Err(ToolFault::Memory),
-            }
-        }
+        Ok(canonical) => put_digest_line(&canonical.bytes, text),
         Err(Refusal::Memory) => Err(ToolFault::Memory),
         Err(refusal) => Err(ToolFault::Refused(refusal)),
     }

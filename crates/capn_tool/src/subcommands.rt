@@ -140,24 +140,39 @@ fn with_command<'a>(
     }
 }
 
+/// A program with a command over messages beside those that it has, if both could be made.
+fn with_messages<'a>(
+    program: Result<Command<'a>, AllocError>,
+    alloc: Global,
+    name: &'a str,
+    page: Page,
+    forms: &'a str,
+) -> Result<Command<'a>, AllocError>
+    ensures { (top : App) → IfOk program.entry (λ c. app_of c ≡ top)
+        → IfOk result (λ c. app_of c ≡ with_subcommand top (message_line name.now).top) }
+{
+    let command = message_command(alloc, name, page, forms);
+    with_command(program, command)
+}
+
 /// The program with the commands that tell what messages hold and cost.
 fn reading_command<'a>(alloc: Global) -> Result<Command<'a>, AllocError>
     ensures { IfOk result (λ c. app_of c ≡ reading_line) }
 {
     let forms = help::FORMS_OF_MESSAGES;
     let top = plain_command(alloc, "capn", help::PROGRAM).subcommand_required(true);
-    let show = message_command(alloc, "show", help::SHOW, forms);
-    let check = message_command(alloc, "check", help::CHECK, forms);
-    with_command(with_command(Ok(top), show), check)
+    let with_show = with_messages(Ok(top), alloc, "show", help::SHOW, forms);
+    with_messages(with_show, alloc, "check", help::CHECK, forms)
 }
 
 /// The program with the four commands over messages.
 fn messages_command<'a>(alloc: Global) -> Result<Command<'a>, AllocError>
     ensures { IfOk result (λ c. app_of c ≡ messages_line) }
 {
-    let canonical = message_command(alloc, "canonical", help::CANONICAL, help::FORMS_OF_ONE);
-    let hash = message_command(alloc, "hash", help::HASH, help::FORMS_OF_MESSAGES);
-    with_command(with_command(reading_command(alloc), canonical), hash)
+    let (of_one, of_each) = (help::FORMS_OF_ONE, help::FORMS_OF_MESSAGES);
+    let reading = reading_command(alloc);
+    let with_canonical = with_messages(reading, alloc, "canonical", help::CANONICAL, of_one);
+    with_messages(with_canonical, alloc, "hash", help::HASH, of_each)
 }
 
 /// The whole command line.

@@ -36,7 +36,12 @@ fn bare_text(alloc: Global, bytes: &[u8], limits: Limits) -> Result<String> {
         return Ok(format!(in alloc; "bare: NotWhole({length})")?);
     };
     match walk(alloc, &space, limits) {
-        Ok(walked) => tree_text(alloc, walked.paid, &walked.tree),
+        Ok(walked) => {
+            let text = tree_text(alloc, walked.paid, &walked.tree);
+            // One call is cheaper to check than fields that are dropped one by one.
+            drop(walked);
+            text
+        }
         Err(stopped) => told(alloc, stopped),
     }
 }

@@ -36,16 +36,27 @@ pub(crate) fn segments_text<S: Space>(alloc: Global, space: &S) -> Result<String
     Ok(text)
 }
 
+/// What is told of a message that was taken off so many bytes.
+fn taken_text<S: Space>(alloc: Global, message: &S, taken: usize) -> Result<String> {
+    let segments = segments_text(alloc, message)?;
+    Ok(format!(in alloc; "taken {taken}:{segments}")?)
+}
+
 /// `first MOST_WORDS BYTES`.
 pub(crate) fn first_answer(alloc: Global, heap: &Heap, words: &[&str]) -> Result<String> {
     let limit = limit_at(words, 1)?;
     let bytes = bytes_at(alloc, words, 2)?;
     match first(heap, bytes.as_slice(), limit) {
-        Ok((message, taken)) => {
-            let segments = segments_text(alloc, &message)?;
-            Ok(format!(in alloc; "taken {taken}:{segments}")?)
-        }
+        Ok((message, taken)) => taken_text(alloc, &message, taken),
         Err(fault) => told(alloc, fault),
+    }
+}
+
+/// The frame of a message.
+fn frame_text<S: Space>(alloc: Global, heap: &Heap, message: &S) -> Result<String> {
+    match frame(heap, message) {
+        Ok(framed) => digits_of(alloc, framed.as_slice()),
+        Err(_) => Ok(String::from_str(alloc, MEMORY)?),
     }
 }
 
@@ -53,10 +64,7 @@ pub(crate) fn first_answer(alloc: Global, heap: &Heap, words: &[&str]) -> Result
 pub(crate) fn frame_answer(alloc: Global, heap: &Heap, words: &[&str]) -> Result<String> {
     let bytes = bytes_at(alloc, words, 1)?;
     match first(heap, bytes.as_slice(), MOST_MESSAGE_WORDS) {
-        Ok((message, _)) => match frame(heap, &message) {
-            Ok(again) => digits_of(alloc, again.as_slice()),
-            Err(_) => Ok(String::from_str(alloc, MEMORY)?),
-        },
+        Ok((message, _)) => frame_text(alloc, heap, &message),
         Err(fault) => told(alloc, fault),
     }
 }

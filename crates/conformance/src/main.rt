@@ -14,6 +14,7 @@ mod packing;
 mod pieces;
 mod refusals;
 mod runs;
+mod slots;
 mod unpackers;
 mod views;
 mod visits;
@@ -44,7 +45,7 @@ fn answer(alloc: Global, heap: &Heap, words: &[&str]) -> Result<String> {
         "run" => runs::run_answer(alloc, heap, words),
         "usage" => runs::usage_answer(alloc, words),
         "limits" => messages::limits_answer(alloc, words),
-        "resolve" => messages::resolve_answer(alloc, heap, words),
+        "resolve" => slots::resolve_answer(alloc, heap, words),
         "walk" => visits::visits_answer(alloc, heap, Asked::Walk, words, tariff),
         "canonicalise" => messages::canonicalise_answer(alloc, heap, words, tariff),
         "again" => messages::again_answer(alloc, heap, words, tariff),

@@ -7,9 +7,9 @@ use anyhow::{Result, anyhow, bail};
 use capn_canon::{Canonical, Form, LayoutFault, Refusal, canonicalise, layout};
 use capn_pack::{UnpackFault, unpack};
 use capn_stream::{FrameFault, first};
-use capn_value::{Tariff, Tree, copy, trim};
-use capn_walk::{Fault, Limits, Shape, Target, resolve, walk};
-use capn_words::{Bare, MOST_MESSAGE_WORDS, Place, Space};
+use capn_value::{Memory, Tariff, Tree, copy, trim};
+use capn_walk::{Fault, Limits, walk};
+use capn_words::{Bare, MOST_MESSAGE_WORDS, Space};
 use std::alloc::Global;
 
 /// The form at a place of the line.
@@ -57,26 +57,36 @@ fn is_layout(heap: &Heap, tree: &Tree<&Heap>, bytes: &[u8]) -> Result<bool> {
     }
 }
 
-/// The same of a tree's copy.
-fn is_layout_of_copy(heap: &Heap, tree: &Tree<&Heap>, bytes: &[u8]) -> Result<bool> {
-    match copy(heap, tree) {
-        Ok(copied) => is_layout(heap, &copied, bytes),
+/// The same of a tree that was to be made.
+fn is_layout_of_made(heap: &Heap, made: Result<Tree<&Heap>, Memory>, bytes: &[u8]) -> Result<bool> {
+    match made {
+        Ok(tree) => {
+            let told = is_layout(heap, &tree, bytes);
+            // One call is cheaper to check than fields that are dropped one by one.
+            drop(tree);
+            told
+        }
         Err(_) => Ok(false),
     }
 }
 
-/// The same of a tree that is trimmed and copied.
-fn is_layout_of_trimmed(heap: &Heap, tree: &Tree<&Heap>, bytes: &[u8]) -> Result<bool> {
-    match trim(heap, tree) {
-        Ok(trimmed) => is_layout_of_copy(heap, &trimmed, bytes),
-        Err(_) => Ok(false),
-    }
+/// The same of a tree, of its copy, and of its trimmed form.
+fn is_layout_of_each(heap: &Heap, tree: &Tree<&Heap>, bytes: &[u8]) -> Result<bool> {
+    Ok(
+        is_layout(heap, tree, bytes)?
+            && is_layout_of_made(heap, copy(heap, tree), bytes)?
+            && is_layout_of_made(heap, trim(heap, tree), bytes)?,
+    )
 }
 
 /// The same of the tree that a walk of the message makes.
 fn is_layout_of<S: Space>(heap: &Heap, space: &S, limits: Limits, bytes: &[u8]) -> Result<bool> {
     match walk(heap, space, limits) {
-        Ok(walked) => is_layout_of_trimmed(heap, &walked.tree, bytes),
+        Ok(walked) => {
+            let told = is_layout_of_each(heap, &walked.tree, bytes);
+            drop(walked);
+            told
+        }
         Err(stopped) if matches!(stopped.fault, Fault::Memory) => Ok(false),
         Err(_) => Err(anyhow!("no tree")),
     }
@@ -132,7 +142,8 @@ pub(crate) fn canonical_text(
     }
 }
 
-/// What canonical bytes are told as, where they are the layout of the tree that a walk of the input makes.
+/// What canonical bytes are told as, where they are the layout of the tree that a walk of the input makes, of its copy,
+/// and of its trimmed form.
 fn laid_text(
     alloc: Global,
     heap: &Heap,
@@ -148,7 +159,8 @@ fn laid_text(
     }
 }
 
-/// `canonicalise FORM MESSAGE_WORDS BUDGET DEPTH BYTES`. The bytes have to be the layout of the tree that a walk makes.
+/// `canonicalise FORM MESSAGE_WORDS BUDGET DEPTH BYTES`. The bytes have to be the layout of the tree that a walk makes,
+/// of its copy, and of its trimmed form.
 pub(crate) fn canonicalise_answer(
     alloc: Global,
     heap: &Heap,
@@ -193,82 +205,49 @@ pub(crate) fn again_answer(
     Ok(String::from_str(alloc, text)?)
 }
 
+/// What canonical bytes are told as, beside those of the first message.
+fn equal_text(first: &[u8], canonical: Result<Canonical<&Heap>, Refusal>) -> Result<&'static str> {
+    match canonical {
+        Ok(canonical) if canonical.bytes.as_slice() == first => Ok("equal"),
+        Ok(_) => Ok("different"),
+        Err(Refusal::Memory) => Ok(MEMORY),
+        Err(_) => Err(anyhow!("refused")),
+    }
+}
+
+/// The same of the message at a place of the line.
+fn equal_at(
+    alloc: Global,
+    heap: &Heap,
+    words: &[&str],
+    at: usize,
+    first: &[u8],
+) -> Result<&'static str> {
+    let form = form_at(words, at)?;
+    let bytes = bytes_at(alloc, words, at.saturating_add(1))?;
+    let canonical = canonicalise(heap, form, bytes.as_slice(), Limits::usual());
+    equal_text(first, canonical)
+}
+
+/// What the messages behind the first are told as: the first that isn't equal, if one isn't.
+fn equal_each(alloc: Global, heap: &Heap, words: &[&str], first: &[u8]) -> Result<&'static str> {
+    for pair in 1..words.len() / 2 {
+        let text = equal_at(alloc, heap, words, 2 * pair + 1, first)?;
+        if text != "equal" {
+            return Ok(text);
+        }
+    }
+    Ok("equal")
+}
+
 /// `equal FORM BYTES FORM BYTES ..`: whether all have the same canonical bytes under the usual limits.
 pub(crate) fn equal_answer(alloc: Global, heap: &Heap, words: &[&str]) -> Result<String> {
-    let mut common: Option<Vec<u8, &Heap>> = None;
-    let mut text = "equal";
-    for pair in 0..words.len() / 2 {
-        let at = 2 * pair + 1;
-        let form = form_at(words, at)?;
-        let bytes = bytes_at(alloc, words, at + 1)?;
-        let found = match canonicalise(heap, form, bytes.as_slice(), Limits::usual()) {
-            Ok(canonical) => canonical.bytes,
-            Err(Refusal::Memory) => return Ok(String::from_str(alloc, MEMORY)?),
-            Err(_) => bail!("refused"),
-        };
-        match &common {
-            Some(bytes) => if bytes.as_slice() != found.as_slice() {
-                text = "different";
-            },
-            None => common = Some(found),
-        }
-    }
-    Ok(String::from_str(alloc, text)?)
-}
-
-/// What a slot denotes, as a line.
-fn target_text(alloc: Global, target: Target) -> Result<String> {
-    let Target::Content {
-        segment,
-        start,
-        shape,
-        pads,
-    } = target
-    else {
-        return Ok(String::from_str(alloc, "no content")?);
-    };
-    match shape {
-        Shape::Node { words, slots } => {
-            Ok(format!(in alloc;
-                "segment {segment}, start {start}, Node {words} {slots}, pads {pads}"
-            )?)
-        }
-        Shape::Many { .. } | Shape::Rows { .. } => {
-            Ok(format!(in alloc; "segment {segment}, start {start}, a list, pads {pads}")?)
-        }
-    }
-}
-
-/// What `resolve` answers at a place.
-fn resolve_text<S: Space>(alloc: Global, space: &S, at: Place) -> Result<String> {
-    let Some(length) = space.words(at.segment) else {
-        return Err(anyhow!("no such segment"));
-    };
-    if at.word >= length {
-        return Err(anyhow!("no such word"));
-    }
-    match resolve(space, at) {
-        Ok(target) => target_text(alloc, target),
-        Err(fault) => told(alloc, fault),
-    }
-}
-
-/// `resolve FORM SEGMENT WORD BYTES`.
-pub(crate) fn resolve_answer(alloc: Global, heap: &Heap, words: &[&str]) -> Result<String> {
     let form = form_at(words, 1)?;
-    let segment = number_at(words, 2)?;
-    let word = number_at(words, 3)?;
-    let at = Place { segment, word };
-    let bytes = bytes_at(alloc, words, 4)?;
-    match form {
-        Form::Bare => match Bare::new(bytes.as_slice()) {
-            Ok(space) => resolve_text(alloc, &space, at),
-            Err(_) => Err(anyhow!("no segment")),
-        },
-        Form::Stream => match first(heap, bytes.as_slice(), MOST_MESSAGE_WORDS) {
-            Ok((space, _)) => resolve_text(alloc, &space, at),
-            Err(fault) => told(alloc, fault),
-        },
-        Form::Packed => Err(anyhow!("no message is resolved in packed bytes")),
-    }
+    let bytes = bytes_at(alloc, words, 2)?;
+    let text = match canonicalise(heap, form, bytes.as_slice(), Limits::usual()) {
+        Ok(first) => equal_each(alloc, heap, words, first.bytes.as_slice())?,
+        Err(Refusal::Memory) => MEMORY,
+        Err(_) => bail!("refused"),
+    };
+    Ok(String::from_str(alloc, text)?)
 }

@@ -31,6 +31,22 @@ fn ending_text(alloc: Global, ending: Result<(), FrameFault>) -> Result<String> 
     }
 }
 
+/// What a framer that is fed a piece answers.
+fn fed_text(framer: &mut Framer<&Heap>, alloc: Global, piece: &[u8]) -> Result<String> {
+    match framer.feed(piece) {
+        Ok(taken) => Ok(format!(in alloc; "{taken}")?),
+        Err(fault) => told(alloc, fault),
+    }
+}
+
+/// The message that a framer has, if it has one.
+fn taken_text(framer: &mut Framer<&Heap>, alloc: Global) -> Result<String> {
+    match framer.take() {
+        Some(message) => message_text(alloc, &message),
+        None => Ok(String::from_str(alloc, "none")?),
+    }
+}
+
 /// What a framer is told, in a word of the line, and what it answers; bytes are those of the next word.
 fn framer_text(
     framer: &mut Framer<&Heap>,
@@ -41,15 +57,9 @@ fn framer_text(
     match word_at(words, at)? {
         "feed" => {
             let piece = bytes_at(alloc, words, at.saturating_add(1))?;
-            match framer.feed(piece.as_slice()) {
-                Ok(taken) => Ok(format!(in alloc; "{taken}")?),
-                Err(fault) => told(alloc, fault),
-            }
+            fed_text(framer, alloc, piece.as_slice())
         }
-        "take" => match framer.take() {
-            Some(message) => message_text(alloc, &message),
-            None => Ok(String::from_str(alloc, "none")?),
-        },
+        "take" => taken_text(framer, alloc),
         "finish" => ending_text(alloc, framer.finish()),
         step => bail!("no step {step:?}"),
     }
@@ -105,6 +115,14 @@ fn rest_of(bytes: &[u8], at: usize) -> &[u8] {
     if at <= bytes.len() { &bytes[at..] } else { &[] }
 }
 
+/// Appends the message that a framer has, if it has one.
+fn push_taken(framer: &mut Framer<&Heap>, alloc: Global, text: &mut String) -> Result<()> {
+    match framer.take() {
+        Some(message) => push_message(alloc, &message, text),
+        None => Ok(()),
+    }
+}
+
 /// Feeds a piece, and appends each message that it makes whole.
 fn feed_all(
     framer: &mut Framer<&Heap>,
@@ -118,9 +136,7 @@ fn feed_all(
             Ok(taken) => at = at.saturating_add(taken),
             Err(fault) => return Ok(Err(fault)),
         }
-        if let Some(message) = framer.take() {
-            push_message(alloc, &message, text)?;
-        }
+        push_taken(framer, alloc, text)?;
         if at >= piece.len() {
             break;
         }
@@ -174,6 +190,12 @@ pub(crate) fn pieces_answer(alloc: Global, heap: &Heap, words: &[&str]) -> Resul
     pieces_text(&mut framer, alloc, bytes.as_slice(), size)
 }
 
+/// Appends a message that was read.
+fn push_read(alloc: Global, message: &Stored<&Heap>, text: &mut String) -> Result<bool> {
+    push_message(alloc, message, text)?;
+    Ok(true)
+}
+
 /// Appends what a reader gives next, a message or the ending; whether it was a message.
 fn read_next(
     reader: &mut Watched<&[u8]>,
@@ -188,10 +210,7 @@ fn read_next(
         bail!("no input");
     }
     let ending = match read_message(heap, reader, limit) {
-        Ok(Some(message)) => {
-            push_message(alloc, &message, text)?;
-            return Ok(true);
-        }
+        Ok(Some(message)) => return push_read(alloc, &message, text),
         Ok(None) => Ok(()),
         Err(ReadFault::Frame(fault)) => Err(fault),
         Err(ReadFault::Memory) => Err(FrameFault::Memory),

@@ -22,6 +22,16 @@ fn unpacker_has_to_fail(unpacker: &mut Unpacker, alloc: Global) -> Result<()> {
     }
 }
 
+/// What an unpacker that is fed a piece answers.
+fn fed_text(unpacker: &mut Unpacker, alloc: Global, heap: &Heap, piece: &[u8]) -> Result<String> {
+    let mut unpacked = Vec::new(heap);
+    match unpacker.feed(piece, &mut unpacked) {
+        Ok(()) => digits_of(alloc, unpacked.as_slice()),
+        Err(UnpackFault::Memory) => cut_short(alloc, unpacked.as_slice()),
+        Err(fault) => told(alloc, fault),
+    }
+}
+
 /// What an unpacker is told, in a word of the line, and what it answers; bytes are those of the next word.
 fn unpacker_text(
     unpacker: &mut Unpacker,
@@ -33,12 +43,7 @@ fn unpacker_text(
     match word_at(words, at)? {
         "feed" => {
             let piece = bytes_at(alloc, words, at.saturating_add(1))?;
-            let mut unpacked = Vec::new(heap);
-            match unpacker.feed(piece.as_slice(), &mut unpacked) {
-                Ok(()) => digits_of(alloc, unpacked.as_slice()),
-                Err(UnpackFault::Memory) => cut_short(alloc, unpacked.as_slice()),
-                Err(fault) => told(alloc, fault),
-            }
+            fed_text(unpacker, alloc, heap, piece.as_slice())
         }
         "finish" => match unpacker.finish() {
             Ok(()) => Ok(String::from_str(alloc, "Ok")?),

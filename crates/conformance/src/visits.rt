@@ -19,6 +19,8 @@ fn walk_text<S: Space>(alloc: Global, heap: &Heap, space: &S, limits: Limits) ->
         Ok(walked) => {
             let paid = walked.paid;
             let visits = walked.visits;
+            // One call is cheaper to check than fields that are dropped one by one.
+            drop(walked);
             Ok(format!(in alloc; "paid {paid}, visits {visits}")?)
         }
         Err(stopped) => stop_told(alloc, stopped),

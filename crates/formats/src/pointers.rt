@@ -20,91 +20,96 @@ fn split_again(pointer: Pointer) -> Pointer
     split(join(pointer))
 }
 
+/// Whether a word says this, and is the word of it.
+fn is_word_of(word: u64, pointer: Pointer) -> bool {
+    split(word) == pointer && joined_again(word) == word && join(pointer) == word
+}
+
+/// Words of structs, with the offset, the data words and the slots that each says.
+const STRUCTS: [(u64, i32, u16, u16); 5] = [
+    (0x0000_0000_ffff_fffc, -1, 0, 0),
+    (0x0000_0000_0000_0004, 1, 0, 0),
+    (0x0002_0001_0000_0000, 0, 1, 2),
+    (0xffff_ffff_8000_0000, -0x2000_0000, 0xffff, 0xffff),
+    (0x0000_0000_7fff_fffc, 0x1fff_ffff, 0, 0),
+];
+
 #[test]
 fn null_and_structs(rt: HostRuntime) {
-    assert_eq!(rt; split(0), Pointer::Nil);
-    assert_eq!(rt; join(Pointer::Nil), 0);
-    for (word, offset, words, slots) in [
-        (0x0000_0000_ffff_fffc, -1, 0, 0),
-        (0x0000_0000_0000_0004, 1, 0, 0),
-        (0x0002_0001_0000_0000, 0, 1, 2),
-        (0xffff_ffff_8000_0000, -0x2000_0000, 0xffff, 0xffff),
-        (0x0000_0000_7fff_fffc, 0x1fff_ffff, 0, 0),
-    ] {
+    assert!(rt; is_word_of(0, Pointer::Nil));
+    for (word, offset, words, slots) in STRUCTS {
         let pointer = Pointer::Node {
             offset,
             words,
             slots,
         };
-        assert_eq!(rt; split(word), pointer, "of {word:x}");
-        assert_eq!(rt; joined_again(word), word, "of {word:x}");
+        assert!(rt; is_word_of(word, pointer), "of {word:x}");
     }
+}
+
+#[test]
+fn a_struct_at_the_ends_of_its_ranges(rt: HostRuntime) {
     let backwards = Pointer::Node {
         offset: -0x2000_0000,
         words: 0xffff,
         slots: 0xffff,
     };
-    assert_eq!(rt; join(backwards), 0xffff_ffff_8000_0000);
-    assert_eq!(rt; split_again(backwards), backwards);
+    assert!(rt; split_again(backwards) == backwards);
 }
+
+/// Words of lists, with the offset, the width and the count that each says.
+const LISTS: [(u64, i32, Width, u32); 9] = [
+    (0xffff_fff8_0000_0001, 0, Width::W0, 0x1fff_ffff),
+    (0x0000_0051_0000_0001, 0, Width::W1, 10),
+    (0x0000_001a_0000_0001, 0, Width::W8, 3),
+    (0x0000_002b_0000_0001, 0, Width::W16, 5),
+    (0x0000_0014_0000_0001, 0, Width::W32, 2),
+    (0x0000_000d_0000_0001, 0, Width::W64, 1),
+    (0x0000_0016_0000_0001, 0, Width::Link, 2),
+    (0xffff_ffff_0000_0001, 0, Width::Rows, 0x1fff_ffff),
+    (
+        0xffff_ffff_8000_0001,
+        -0x2000_0000,
+        Width::Rows,
+        0x1fff_ffff,
+    ),
+];
 
 #[test]
 fn lists_of_each_width(rt: HostRuntime) {
-    for (word, width, count) in [
-        (0xffff_fff8_0000_0001, Width::W0, 0x1fff_ffff),
-        (0x0000_0051_0000_0001, Width::W1, 10),
-        (0x0000_001a_0000_0001, Width::W8, 3),
-        (0x0000_002b_0000_0001, Width::W16, 5),
-        (0x0000_0014_0000_0001, Width::W32, 2),
-        (0x0000_000d_0000_0001, Width::W64, 1),
-        (0x0000_0016_0000_0001, Width::Link, 2),
-        (0xffff_ffff_0000_0001, Width::Rows, 0x1fff_ffff),
-    ] {
+    for (word, offset, width, count) in LISTS {
         let pointer = Pointer::Many {
-            offset: 0,
+            offset,
             width,
             count,
         };
-        assert_eq!(rt; split(word), pointer, "of {word:x}");
-        assert_eq!(rt; joined_again(word), word, "of {word:x}");
+        assert!(rt; is_word_of(word, pointer), "of {word:x}");
     }
-    let backwards = Pointer::Many {
-        offset: -0x2000_0000,
-        width: Width::Rows,
-        count: 0x1fff_ffff,
-    };
-    assert_eq!(rt; join(backwards), 0xffff_ffff_8000_0001);
-    assert_eq!(rt; split(0xffff_ffff_8000_0001), backwards);
 }
+
+/// Words of far pointers, with whether each is double, the word and the segment that it says.
+const FARS: [(u64, bool, u32, u32); 2] = [
+    (0x0000_0001_0000_0002, false, 0, 1),
+    (0xffff_ffff_ffff_fffe, true, 0x1fff_ffff, 0xffff_ffff),
+];
 
 #[test]
 fn far_capability_and_reserved(rt: HostRuntime) {
-    for (word, pointer) in [
-        (
-            0x0000_0001_0000_0002,
-            Pointer::Far {
-                double: false,
-                word: 0,
-                segment: 1,
-            },
-        ),
-        (
-            0xffff_ffff_ffff_fffe,
-            Pointer::Far {
-                double: true,
-                word: 0x1fff_ffff,
-                segment: 0xffff_ffff,
-            },
-        ),
-        (0x0000_0002_0000_0003, Pointer::Cap(2)),
-        (0xffff_ffff_0000_0003, Pointer::Cap(0xffff_ffff)),
-        (7, Pointer::Reserved(7)),
-        (
-            0xffff_ffff_ffff_ffff,
-            Pointer::Reserved(0xffff_ffff_ffff_ffff),
-        ),
+    for (at, double, word, segment) in FARS {
+        let pointer = Pointer::Far {
+            double,
+            word,
+            segment,
+        };
+        assert!(rt; is_word_of(at, pointer), "of {at:x}");
+    }
+    for (word, index) in [
+        (0x0000_0002_0000_0003, 2),
+        (0xffff_ffff_0000_0003, 0xffff_ffff),
     ] {
-        assert_eq!(rt; split(word), pointer, "of {word:x}");
-        assert_eq!(rt; join(pointer), word, "of {pointer:?}");
+        assert!(rt; is_word_of(word, Pointer::Cap(index)), "of {word:x}");
+    }
+    for word in [7, 0xffff_ffff_ffff_ffff] {
+        assert!(rt; is_word_of(word, Pointer::Reserved(word)), "of {word:x}");
     }
 }

@@ -2,7 +2,7 @@
 
 use capn_stream::{FrameFault, Framer};
 use refusing::Refusing;
-use std::alloc::Global;
+use std::alloc::{AllocError, Global};
 use std::process::Abort;
 use std::test::Fail;
 
@@ -14,18 +14,36 @@ fn waiting<'a>(rt: &impl Abort, heap: &'a Refusing<Global>) -> Framer<&'a Refusi
     framer
 }
 
+/// So many of them.
+fn waiting_each<'a>(
+    rt: &impl Abort,
+    alloc: Global,
+    heap: &'a Refusing<Global>,
+    count: u32,
+) -> Result<Vec<Framer<&'a Refusing<Global>>>, AllocError> {
+    let mut framers = Vec::new(alloc);
+    for _ in 0..count {
+        framers.push(waiting(rt, heap))?;
+    }
+    Ok(framers)
+}
+
+/// Whether each of some framers has no room for 256 bytes.
+fn are_without_room(framers: &mut [Framer<&Refusing<Global>>]) -> bool {
+    for framer in framers {
+        if framer.feed(&[0; 256]) != Err(FrameFault::Memory) {
+            return false;
+        }
+    }
+    true
+}
+
 /// No framer takes memory for what was announced to it: where no more comes, none has room for 256 bytes.
 #[test]
 fn many_framers_that_wait_for_the_greatest_message(rt: HostRuntime) -> Result<(), Fail> {
     let heap = Refusing::nth(rt.alloc(), 0);
-    let mut framers = Vec::new(rt.alloc());
-    for _ in 0..65_536 {
-        framers.push(waiting(&rt, &heap))?;
-    }
+    let mut framers = waiting_each(&rt, rt.alloc(), &heap, 65_536)?;
     heap.refuse_each();
-    for framer in &mut framers {
-        assert!(rt; framer.feed(&[0; 256]) == Err(FrameFault::Memory));
-    }
-    assert!(rt; framers.len() == 65_536);
+    assert!(rt; framers.len() == 65_536 && are_without_room(&mut framers));
     Ok(())
 }

@@ -39,6 +39,17 @@ const STREAM: [u64; 20] = [
     9,
 ];
 
+/// A command that is run.
+#[derive(Clone, Copy)]
+pub(crate) enum Order {
+    Show,
+    Check,
+    Canonical,
+    Hash,
+    Pack,
+    Unpack,
+}
+
 /// A call that takes memory.
 #[derive(Clone, Copy)]
 pub(crate) enum Call {
@@ -62,7 +73,51 @@ pub(crate) enum Call {
     Check,
     Account(Form),
     Text,
-    Run(Command),
+    Run(Order),
+}
+
+/// Each call that takes memory. A list that is constant costs its users nothing to check.
+pub(crate) const CALLS: [(&str, Call); 28] = [
+    ("first", Call::First),
+    ("frame", Call::Frame),
+    ("feed", Call::Feed),
+    ("read_message", Call::Read),
+    ("pack", Call::Pack),
+    ("unpack", Call::Unpack),
+    ("feed of packed bytes", Call::FeedPacked),
+    ("walk", Call::Walk),
+    ("survey", Call::Survey),
+    ("show", Call::Show),
+    ("trim", Call::Trim),
+    ("copy", Call::Copy),
+    ("items", Call::Items),
+    ("layout", Call::Layout),
+    ("patch", Call::Patch),
+    ("canonical_of", Call::Canonical),
+    ("canonicalise", Call::Canonicalise),
+    ("is_canonical", Call::Check),
+    ("account of a stream", Call::Account(Form::Stream)),
+    ("account of packed bytes", Call::Account(Form::Packed)),
+    ("account of bare bytes", Call::Account(Form::Bare)),
+    ("fault_text", Call::Text),
+    ("run of show", Call::Run(Order::Show)),
+    ("run of check", Call::Run(Order::Check)),
+    ("run of canonical", Call::Run(Order::Canonical)),
+    ("run of hash", Call::Run(Order::Hash)),
+    ("run of pack", Call::Run(Order::Pack)),
+    ("run of unpack", Call::Run(Order::Unpack)),
+];
+
+/// The command of an order, within the limits of a walk to 256 objects below one another.
+fn command_of(order: Order) -> Command {
+    match order {
+        Order::Show => Command::Show(Form::Stream, limits(256)),
+        Order::Check => Command::Check(Form::Packed, limits(256)),
+        Order::Canonical => Command::Canonical(Form::Stream, limits(256)),
+        Order::Hash => Command::Hash(Form::Stream, limits(256)),
+        Order::Pack => Command::Pack,
+        Order::Unpack => Command::Unpack(268_437_505),
+    }
 }
 
 /// What a call answers with an allocator.
@@ -88,25 +143,29 @@ pub(crate) fn answer(of: &Subject, short: &Refusing<Global>, call: Call) -> Answ
         Call::Check => check_answer(of, short),
         Call::Account(form) => account_answer(of, short, form),
         Call::Text => text_answer(short),
-        Call::Run(command) => run_answer(of, short, command),
+        Call::Run(order) => run_answer(of, short, command_of(order)),
     }
+}
+
+/// Whether no growth of a call had this number, what it answers with that refused, and what it answers then, unless no
+/// growth had it.
+fn answers(of: &Subject, call: Call, number: u64) -> (bool, Answer, Answer) {
+    let short = Refusing::nth(of.alloc, number);
+    let first = answer(of, &short, call);
+    let is_spared = short.has_spared();
+    let again = answer(of, &short, call);
+    (is_spared, first, again)
 }
 
 /// Refuses each growth of a call in turn, until a run meets none: it answers Memory and nothing else, and then, with
 /// ample memory, what is right.
 fn refuse_each(rt: &impl Abort, of: &Subject, name: &str, call: Call) {
     for number in 1..1_000u64 {
-        let short = Refusing::nth(of.alloc, number);
-        let first = answer(of, &short, call);
-        if short.has_spared() {
-            assert!(rt; 1 < number && matches!(first, Answer::Right), "{name}");
-            return;
+        match answers(of, call, number) {
+            (true, Answer::Right, _) if 1 < number => return,
+            (false, Answer::Memory, Answer::Right) => {}
+            _ => assert!(rt; false, "{name}, growth {number}"),
         }
-        let again = answer(of, &short, call);
-        assert!(rt;
-            matches!((first, again), (Answer::Memory, Answer::Right)),
-            "{name}, growth {number}"
-        );
     }
     assert!(rt; false, "{name} grows a thousand times");
 }
@@ -115,65 +174,40 @@ fn refuse_each(rt: &impl Abort, of: &Subject, name: &str, call: Call) {
 fn each_call(rt: HostRuntime) -> Result<(), Fail> {
     let stream = bytes_of(rt.alloc(), &STREAM)?;
     let of = subject_of(rt.alloc(), stream.as_slice())?;
-    let usual = limits(64);
-    for (name, call) in [
-        ("first", Call::First),
-        ("frame", Call::Frame),
-        ("feed", Call::Feed),
-        ("read_message", Call::Read),
-        ("pack", Call::Pack),
-        ("unpack", Call::Unpack),
-        ("feed of packed bytes", Call::FeedPacked),
-        ("walk", Call::Walk),
-        ("survey", Call::Survey),
-        ("show", Call::Show),
-        ("trim", Call::Trim),
-        ("copy", Call::Copy),
-        ("items", Call::Items),
-        ("layout", Call::Layout),
-        ("patch", Call::Patch),
-        ("canonical_of", Call::Canonical),
-        ("canonicalise", Call::Canonicalise),
-        ("is_canonical", Call::Check),
-        ("account of a stream", Call::Account(Form::Stream)),
-        ("account of packed bytes", Call::Account(Form::Packed)),
-        ("account of bare bytes", Call::Account(Form::Bare)),
-        ("fault_text", Call::Text),
-        ("show", Call::Run(Command::Show(Form::Stream, usual))),
-        ("check", Call::Run(Command::Check(Form::Packed, usual))),
-        (
-            "canonical",
-            Call::Run(Command::Canonical(Form::Stream, usual)),
-        ),
-        ("hash", Call::Run(Command::Hash(Form::Stream, usual))),
-        ("pack", Call::Run(Command::Pack)),
-        ("unpack", Call::Run(Command::Unpack(1_000))),
-    ] {
+    for (name, call) in CALLS {
         refuse_each(&rt, &of, name, call);
     }
     Ok(())
 }
 
+/// Whether a chain is canonical and tells its price and its visits.
+fn is_told(heap: &Refusing<Global>, deep: &[u8]) -> bool {
+    is_canonical(heap, deep, limits(64)) == Ok(true)
+        && accounted(heap, Form::Bare, deep, limits(64)) == Ok((253, 127, None))
+}
+
+/// Whether a chain is refused as too deep at its last object, and as it is with ample memory.
+fn is_too_deep(heap: &Refusing<Global>, alloc: Global, deeper: &[u8]) -> bool {
+    let is_stopped = match is_canonical(heap, deeper, limits(64)) {
+        Err(Refusal::Walk(stopped)) => stopped.fault == Fault::TooDeep
+            && stopped.place.word == 127
+            && stopped.paid == 192
+            && stopped.visits == 65,
+        _ => false,
+    };
+    let refusal = accounted(heap, Form::Bare, deeper, limits(64));
+    is_stopped && refusal == accounted(alloc, Form::Bare, deeper, limits(64))
+}
+
 /// The usual depth of 64 objects is checked without memory, and the first object that is deeper is refused as such.
 #[test]
 fn no_memory_for_64_objects(rt: HostRuntime) -> Result<(), Fail> {
+    let deep = chain(rt.alloc(), 63)?;
+    let deeper = chain(rt.alloc(), 64)?;
     let heap = Refusing::nth(rt.alloc(), 0);
     heap.refuse_each();
-    let deep = chain(rt.alloc(), 63)?;
-    assert!(rt; is_canonical(&heap, deep.as_slice(), limits(64)) == Ok(true));
-    assert!(rt; accounted(&heap, Form::Bare, deep.as_slice(), limits(64)) == Ok((253, 127, None)));
-    let deeper = chain(rt.alloc(), 64)?;
-    let refusal = accounted(&heap, Form::Bare, deeper.as_slice(), limits(64));
-    assert!(rt; refusal == accounted(rt.alloc(), Form::Bare, deeper.as_slice(), limits(64)));
-    match is_canonical(&heap, deeper.as_slice(), limits(64)) {
-        Err(Refusal::Walk(stopped)) => assert!(rt;
-            stopped.fault == Fault::TooDeep
-                && stopped.place.word == 127
-                && stopped.paid == 192
-                && stopped.visits == 65
-        ),
-        _ => assert!(rt; false, "another answer"),
-    }
+    assert!(rt; is_told(&heap, deep.as_slice()));
+    assert!(rt; is_too_deep(&heap, rt.alloc(), deeper.as_slice()));
     assert!(rt; heap.count() == 0);
     Ok(())
 }

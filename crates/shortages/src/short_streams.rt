@@ -25,8 +25,7 @@ pub(crate) fn frame_answer(of: &Subject, short: &Refusing<Global>) -> Answer {
 }
 
 /// The message that a framer takes, which fails from its refusal on.
-pub(crate) fn feed_answer(of: &Subject, short: &Refusing<Global>) -> Answer {
-    let mut framer = Framer::new(short, MOST);
+fn fed_answer(of: &Subject, framer: &mut Framer<&Refusing<Global>>) -> Answer {
     match framer.feed(of.stream) {
         Ok(_) => match framer.take() {
             Some(message) => judged_message(of, &message),
@@ -37,6 +36,12 @@ pub(crate) fn feed_answer(of: &Subject, short: &Refusing<Global>) -> Answer {
         ),
         Err(_) => Answer::Wrong,
     }
+}
+
+/// What a new framer takes.
+pub(crate) fn feed_answer(of: &Subject, short: &Refusing<Global>) -> Answer {
+    let mut framer = Framer::new(short, MOST);
+    fed_answer(of, &mut framer)
 }
 
 /// The message that a reader gives.
@@ -68,10 +73,9 @@ pub(crate) fn unpack_answer(of: &Subject, short: &Refusing<Global>) -> Answer {
 }
 
 /// The stream that an unpacker appends, of which a refusal leaves a beginning, and from which on it fails.
-pub(crate) fn feed_packed_answer(of: &Subject, short: &Refusing<Global>) -> Answer {
+fn unpacked_answer(of: &Subject, bytes: &mut Vec<u8, &Refusing<Global>>) -> Answer {
     let mut unpacker = Unpacker::new();
-    let mut bytes = Vec::new(short);
-    match unpacker.feed(of.packed.as_slice(), &mut bytes) {
+    match unpacker.feed(of.packed.as_slice(), bytes) {
         Ok(()) => judged(bytes.as_slice() == of.stream),
         Err(UnpackFault::Memory) => wanting(
             of.stream.starts_with(bytes.as_slice())
@@ -79,4 +83,10 @@ pub(crate) fn feed_packed_answer(of: &Subject, short: &Refusing<Global>) -> Answ
         ),
         Err(_) => Answer::Wrong,
     }
+}
+
+/// What an unpacker appends to nothing.
+pub(crate) fn feed_packed_answer(of: &Subject, short: &Refusing<Global>) -> Answer {
+    let mut bytes = Vec::new(short);
+    unpacked_answer(of, &mut bytes)
 }

@@ -11,7 +11,12 @@ use std::alloc::{AllocError, Global};
 /// The value of the message.
 pub(crate) fn walk_answer(of: &Subject, short: &Refusing<Global>) -> Answer {
     match walk(short, &of.message, limits(256)) {
-        Ok(walked) => judged(same(walked.tree.value(), of.walked.tree.value())),
+        Ok(walked) => {
+            let is_same = same(walked.tree.value(), of.walked.tree.value());
+            // One call is cheaper to check than fields that are dropped one by one.
+            drop(walked);
+            judged(is_same)
+        }
         Err(stopped) => wanting(matches!(stopped.fault, Fault::Memory)),
     }
 }
@@ -41,7 +46,11 @@ pub(crate) fn show_answer(of: &Subject, short: &Refusing<Global>) -> Answer {
 /// Right exactly if this is the value of the message.
 pub(crate) fn judged_tree(of: &Subject, tree: Result<Tree<&Refusing<Global>>, Memory>) -> Answer {
     match tree {
-        Ok(tree) => judged(same(tree.value(), of.walked.tree.value())),
+        Ok(tree) => {
+            let is_same = same(tree.value(), of.walked.tree.value());
+            drop(tree);
+            judged(is_same)
+        }
         Err(_) => Answer::Memory,
     }
 }

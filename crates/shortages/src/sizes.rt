@@ -1,12 +1,11 @@
 //! How much calls ask for: big messages through each of them, and nothing before the input is known to have it.
 
-use crate::refused::{Call, answer};
+use crate::refused::{CALLS, Call, answer};
 use crate::subject::{Answer, Subject, chain, limits, subject_of};
 use crate::words::bytes_of;
 use capn_canon::{Form, Refusal, canonicalise, is_canonical};
 use capn_pack::{UnpackFault, unpack};
 use capn_stream::{FrameFault, first, frame};
-use capn_tool::Command;
 use capn_walk::{Fault, walk};
 use capn_words::Bare;
 use refusing::Refusing;
@@ -54,37 +53,12 @@ fn within(rt: &impl Abort, of: &Subject, name: &str, call: Call, most: usize) {
     );
 }
 
-/// Puts a message through each call.
+/// Puts a message through each call; six of them take something small in its place.
 fn through_each(rt: &impl Abort, alloc: Global, segment: &[u8]) -> Result<(), Fail> {
     let stream = stream_of(alloc, segment)?;
     let of = subject_of(alloc, stream.as_slice())?;
-    let usual = limits(256);
     let most = stream.len().saturating_mul(8).saturating_add(1 << 19);
-    for (name, call) in [
-        ("first", Call::First),
-        ("frame", Call::Frame),
-        ("feed", Call::Feed),
-        ("read_message", Call::Read),
-        ("pack", Call::Pack),
-        ("unpack", Call::Unpack),
-        ("feed of packed bytes", Call::FeedPacked),
-        ("walk", Call::Walk),
-        ("show", Call::Show),
-        ("trim", Call::Trim),
-        ("copy", Call::Copy),
-        ("layout", Call::Layout),
-        ("canonical_of", Call::Canonical),
-        ("canonicalise", Call::Canonicalise),
-        ("show", Call::Run(Command::Show(Form::Stream, usual))),
-        ("check", Call::Run(Command::Check(Form::Packed, usual))),
-        (
-            "canonical",
-            Call::Run(Command::Canonical(Form::Stream, usual)),
-        ),
-        ("hash", Call::Run(Command::Hash(Form::Stream, usual))),
-        ("pack", Call::Run(Command::Pack)),
-        ("unpack", Call::Run(Command::Unpack(268_437_505))),
-    ] {
+    for (name, call) in CALLS {
         within(rt, &of, name, call, most);
     }
     Ok(())

@@ -48,21 +48,43 @@ pub(crate) fn chain(alloc: Global, levels: u32) -> Result<Vec<u8>, AllocError> {
     bytes_of(alloc, words.as_slice())
 }
 
+/// The packed text of a stream.
+fn packed_of(alloc: Global, stream: &[u8]) -> Result<Vec<u8>, Fail> {
+    match pack(alloc, stream) {
+        Ok(packed) => Ok(packed),
+        Err(_) => Err(Fail::new("no text")),
+    }
+}
+
+/// The message that stands first in a stream.
+fn message_of(alloc: Global, stream: &[u8]) -> Result<Framed<'_>, Fail> {
+    match first(alloc, stream, MOST) {
+        Ok((message, _)) => Ok(message),
+        Err(_) => Err(Fail::new("no stream")),
+    }
+}
+
+/// The walk of a message.
+fn walked_of<S: Space>(alloc: Global, message: &S) -> Result<Walked, Fail> {
+    match walk(alloc, message, limits(256)) {
+        Ok(walked) => Ok(walked),
+        Err(_) => Err(Fail::new("no message")),
+    }
+}
+
 /// What the calls are tried on, of a stream.
 pub(crate) fn subject_of(alloc: Global, stream: &[u8]) -> Result<Subject<'_>, Fail> {
-    let (Ok((message, _)), Ok(packed)) = (first(alloc, stream, MOST), pack(alloc, stream)) else {
-        return Err(Fail::new("no stream"));
-    };
-    let Ok(walked) = walk(alloc, &message, limits(256)) else {
-        return Err(Fail::new("no message"));
-    };
+    let chain = chain(alloc, 70)?;
+    let packed = packed_of(alloc, stream)?;
+    let message = message_of(alloc, stream)?;
+    let walked = walked_of(alloc, &message)?;
     Ok(Subject {
         alloc,
         stream,
         message,
         packed,
         walked,
-        chain: chain(alloc, 70)?,
+        chain,
     })
 }
 

@@ -1,6 +1,6 @@
 //! Runs over readers and writers of one byte a call, which fail at one call.
 
-use crate::slow::{Run, ended};
+use crate::slow::{Ending, Run, ended};
 use capn_canon::{Form, Refusal};
 use capn_pack::UnpackFault;
 use capn_stream::FrameFault;
@@ -86,19 +86,51 @@ fn reads_before(whole: &[(u64, usize)], byte: usize, all: u64) -> u64 {
     all
 }
 
+/// Whether a run ended so, and wrote this.
+fn is_ended(end: &Ending, outcome: Result<(), ToolFault>, text: Option<&[u8]>) -> bool {
+    end.outcome == outcome && Some(end.written.as_slice()) == text
+}
+
+/// Whether a run whose reader fails at a call ends so and writes this, and asked for pieces of 64 KiB.
+fn reads_so(
+    alloc: Global,
+    run_of: &Run,
+    call: u64,
+    outcome: Result<(), ToolFault>,
+    text: Option<&[u8]>,
+) -> bool {
+    let end = ended(alloc, run_of, call, 0, false);
+    end.asked == 65_536 && is_ended(&end, outcome, text)
+}
+
 /// Fails each call of the reader in turn, the one that finds the end among them: what is due is written.
 fn fail_each_read(rt: &impl Abort, alloc: Global, run_of: &Run, whole: &[(u64, usize)]) {
     let calls = run_of.input.len() as u64 + 1;
     for call in 0..=calls + 1 {
-        let end = ended(alloc, run_of, call, 0, false);
-        assert_eq!(rt; end.asked, 65_536, "read {call}");
-        let (outcome, text) = if 1 <= call && call <= calls {
-            (Err(ToolFault::Io), run_of.text.get(..due(whole, call)))
+        let is_right = if 1 <= call && call <= calls {
+            let text = run_of.text.get(..due(whole, call));
+            reads_so(alloc, run_of, call, Err(ToolFault::Io), text)
         } else {
-            (Ok(()), Some(run_of.text))
+            reads_so(alloc, run_of, call, Ok(()), Some(run_of.text))
         };
-        assert_eq!(rt; end.outcome, outcome, "read {call}");
-        assert_eq!(rt; Some(end.written.as_slice()), text, "read {call}");
+        assert!(rt; is_right, "read {call}");
+    }
+}
+
+/// Whether a run whose writer fails at a call ended so and wrote this; how often it had called its reader.
+fn writes_so(
+    alloc: Global,
+    run_of: &Run,
+    call: usize,
+    takes_nothing: bool,
+    outcome: Result<(), ToolFault>,
+    text: Option<&[u8]>,
+) -> Option<u64> {
+    let end = ended(alloc, run_of, 0, call as u64, takes_nothing);
+    if is_ended(&end, outcome, text) {
+        Some(end.reads)
+    } else {
+        None
     }
 }
 
@@ -113,19 +145,15 @@ fn fail_each_write(
 ) {
     let calls = run_of.input.len() as u64 + 1;
     for call in 0..200usize {
-        let end = ended(alloc, run_of, 0, call as u64, takes_nothing);
-        let fails = 1 <= call && call <= run_of.text.len();
-        let (outcome, text) = if fails {
-            (Err(ToolFault::Io), run_of.text.get(..call - 1))
+        let is_right = if 1 <= call && call <= run_of.text.len() {
+            let text = run_of.text.get(..call - 1);
+            let reads = writes_so(alloc, run_of, call, takes_nothing, Err(ToolFault::Io), text);
+            reads == Some(reads_before(whole, call, calls))
         } else {
-            (Ok(()), Some(run_of.text))
+            let text = Some(run_of.text);
+            writes_so(alloc, run_of, call, takes_nothing, Ok(()), text).is_some()
         };
-        assert_eq!(rt; end.outcome, outcome, "write {call}");
-        assert_eq!(rt; Some(end.written.as_slice()), text, "write {call}");
-        assert!(rt;
-            !fails || end.reads == reads_before(whole, call, calls),
-            "write {call}"
-        );
+        assert!(rt; is_right, "write {call}");
     }
 }
 
@@ -162,36 +190,44 @@ fn check_packed<'a>(input: &'a [u8], text: &'a [u8]) -> Run<'a> {
 /// The packed text of a struct of one word, framed.
 const PACKED: [u8; 6] = [0x10, 2, 0x10, 1, 1, 5];
 
+/// The same twice, and where each ends with its line.
+const PACKED_TWICE: [u8; 12] = [0x10, 2, 0x10, 1, 1, 5, 0x10, 2, 0x10, 1, 1, 5];
+
+const PACKED_WHOLE: [(u64, usize); 2] = [(6, 19), (12, 38)];
+
+/// The line of its price, once and twice.
+const PRICE: &[u8] = b"ok paid 2 visits 1\n";
+
+const PRICE_TWICE: &[u8] = b"ok paid 2 visits 1\nok paid 2 visits 1\n";
+
 #[test]
 fn a_packed_stream_is_served(rt: HostRuntime) {
-    let twice = [0x10, 2, 0x10, 1, 1, 5, 0x10, 2, 0x10, 1, 1, 5];
-    let lines = b"ok paid 2 visits 1\nok paid 2 visits 1\n";
-    let both = check_packed(&twice, lines);
-    let whole = [(6, 19), (12, 38)];
-    fail_each_read(&rt, rt.alloc(), &both, &whole);
-    fail_each_write(&rt, rt.alloc(), &both, &whole, true);
+    let both = check_packed(&PACKED_TWICE, PRICE_TWICE);
+    fail_each_read(&rt, rt.alloc(), &both, &PACKED_WHOLE);
+    fail_each_write(&rt, rt.alloc(), &both, &PACKED_WHOLE, true);
 }
 
-/// The run writes its text and is refused so.
-fn ends_refused(rt: &impl Abort, alloc: Global, run_of: &Run, want: Refusal) {
-    let end = ended(alloc, run_of, 0, 0, false);
-    assert_eq!(rt; end.outcome, Err(ToolFault::Refused(want)));
-    assert_eq!(rt; end.written.as_slice(), run_of.text);
+/// A packed stream that announces 4,097 segments in its second byte, one that is cut in a group, and one that is cut in
+/// a frame, the two behind a whole message.
+const LONG: [u8; 4] = [2, 0x10, 0xff, 0x8a];
+
+const CUT: [u8; 9] = [0x10, 2, 0x10, 1, 1, 5, 0x10, 2, 0x10];
+
+const UNFRAMED: [u8; 8] = [0x10, 2, 0x10, 1, 1, 5, 0x10, 2];
+
+/// Whether `check` of packed bytes writes this and ends so.
+fn ends_so(alloc: Global, input: &[u8], text: &[u8], outcome: Result<(), ToolFault>) -> bool {
+    let end = ended(alloc, &check_packed(input, text), 0, 0, false);
+    is_ended(&end, outcome, Some(text))
 }
 
 #[test]
 fn packed_streams_end_as_is_due(rt: HostRuntime) {
-    let long = [2, 0x10, 0xff, 0x8a];
-    let cut = [0x10, 2, 0x10, 1, 1, 5, 0x10, 2, 0x10];
-    let unframed = [0x10, 2, 0x10, 1, 1, 5, 0x10, 2];
-    let line = b"ok paid 2 visits 1\n";
     let table = Refusal::Frame(FrameFault::TooManySegments(4_097));
-    ends_refused(&rt, rt.alloc(), &check_packed(&long, b""), table);
+    assert!(rt; ends_so(rt.alloc(), &LONG, b"", Err(ToolFault::Refused(table))));
     let group = Refusal::Packed(UnpackFault::Cut { at: 8 });
-    ends_refused(&rt, rt.alloc(), &check_packed(&cut, line), group);
+    assert!(rt; ends_so(rt.alloc(), &CUT, PRICE, Err(ToolFault::Refused(group))));
     let frame = Refusal::Frame(FrameFault::Cut);
-    ends_refused(&rt, rt.alloc(), &check_packed(&unframed, line), frame);
-    let end = ended(rt.alloc(), &check_packed(&PACKED, line), 0, 0, false);
-    assert_eq!(rt; end.outcome, Ok(()));
-    assert_eq!(rt; end.written.as_slice(), line.as_slice());
+    assert!(rt; ends_so(rt.alloc(), &UNFRAMED, PRICE, Err(ToolFault::Refused(frame))));
+    assert!(rt; ends_so(rt.alloc(), &PACKED, PRICE, Ok(())));
 }

@@ -5,11 +5,7 @@
 #![tactic(auto)]
 
 #[cfg(test)]
-mod canonical;
-#[cfg(test)]
 mod ends;
-#[cfg(test)]
-mod layouts;
 #[cfg(test)]
 mod lines;
 #[cfg(test)]
@@ -24,5 +20,3 @@ mod slow;
 mod texts;
 #[cfg(test)]
 mod values;
-#[cfg(test)]
-mod words;

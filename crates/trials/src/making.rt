@@ -43,12 +43,31 @@ pub(crate) fn links(alloc: Global, first: Made, second: Made) -> Made {
     Ok(Value::Links(Items::from_vec(elements)))
 }
 
+/// Two bodies as rows.
+pub(crate) fn two_bodies(
+    alloc: Global,
+    first: Result<Body, AllocError>,
+    second: Result<Body, AllocError>,
+) -> Result<Items<Body>, AllocError> {
+    let rows = row(Ok(Items::new(alloc)), first);
+    row(rows, second)
+}
+
+/// Rows with one more behind them.
+fn row(
+    rows: Result<Items<Body>, AllocError>,
+    body: Result<Body, AllocError>,
+) -> Result<Items<Body>, AllocError> {
+    let mut rows = rows?;
+    rows.push(body?)?;
+    Ok(rows)
+}
+
 /// Two rows with these data words and no slots.
 pub(crate) fn two_rows(alloc: Global, first: &[u64], second: &[u64]) -> Made {
-    let mut rows = Items::new(alloc);
-    rows.push(body(alloc, first, Vec::new(alloc))?)?;
-    rows.push(body(alloc, second, Vec::new(alloc))?)?;
-    Ok(Value::Rows(rows))
+    let first = body(alloc, first, Vec::new(alloc));
+    let second = body(alloc, second, Vec::new(alloc));
+    Ok(Value::Rows(two_bodies(alloc, first, second)?))
 }
 
 /// Bytes.

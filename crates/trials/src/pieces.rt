@@ -113,34 +113,28 @@ fn check_stream() -> Command {
     Command::Check(Form::Stream, Limits::usual())
 }
 
+/// Whether `check` of so many messages, in pieces of so many bytes, writes their lines.
+fn is_checked(alloc: Global, count: u32, piece: usize, calls: &Calls) -> bool {
+    let Some(lines) = repeated(alloc, LINE, count) else {
+        return false;
+    };
+    let Some(input) = repeated(alloc, &FRAMED, count) else {
+        return false;
+    };
+    let (outcome, written) = ended(alloc, check_stream(), &input, piece, calls);
+    outcome == Ok(()) && written.as_slice() == lines.as_slice()
+}
+
 #[test]
 fn a_message_is_written_before_the_next_piece_is_read(rt: HostRuntime) {
     let calls = no_calls();
-    let Some(twice) = repeated(rt.alloc(), &FRAMED, 2) else {
-        return;
-    };
-    let Some(lines) = repeated(rt.alloc(), LINE, 2) else {
-        return;
-    };
-    let (outcome, written) = ended(rt.alloc(), check_stream(), &twice, 32, &calls);
-    assert_eq!(rt; outcome, Ok(()));
-    assert_eq!(rt; written.as_slice(), lines.as_slice());
-    assert_eq!(rt; calls.reads_before.get(), 1);
-    assert_eq!(rt; calls.writes.get(), 2);
+    assert!(rt; is_checked(rt.alloc(), 2, 32, &calls));
+    assert!(rt; calls.reads_before.get() == 1 && calls.writes.get() == 2);
 }
 
 #[test]
 fn ten_thousand_messages_are_written_at_once(rt: HostRuntime) {
     let calls = no_calls();
-    let Some(input) = repeated(rt.alloc(), &FRAMED, 10_000) else {
-        return;
-    };
-    let Some(lines) = repeated(rt.alloc(), LINE, 10_000) else {
-        return;
-    };
-    let (outcome, written) = ended(rt.alloc(), check_stream(), &input, 65_536, &calls);
-    assert_eq!(rt; outcome, Ok(()));
-    assert!(rt; written.as_slice() == lines.as_slice());
-    assert_eq!(rt; calls.reads.get(), 6);
-    assert_eq!(rt; calls.writes.get(), 5);
+    assert!(rt; is_checked(rt.alloc(), 10_000, 65_536, &calls));
+    assert!(rt; calls.reads.get() == 6 && calls.writes.get() == 5);
 }

@@ -60,18 +60,16 @@ const PRICE: &[u8] = b"ok paid 2 visits 1\n";
 /// The line of an output that failed.
 const FAILED: &[u8] = b"capn: input or output failed\n";
 
-/// `check` of an input ends with this status, writes this and tells this.
-fn expect_check(
-    rt: &impl Abort,
+/// Whether the program ends with this status, writes this and tells this.
+fn is_ended(
     alloc: Global,
+    words: &[&str],
     input: &[u8],
     output: Page,
     want: (u8, &[u8], &[u8]),
-) {
-    let (code, written, told) = ended(alloc, &["capn", "check"], input, output);
-    assert_eq!(rt; code, want.0);
-    assert_eq!(rt; written.as_slice(), want.1);
-    assert_eq!(rt; told.as_slice(), want.2);
+) -> bool {
+    let (code, written, told) = ended(alloc, words, input, output);
+    code == want.0 && written.as_slice() == want.1 && told.as_slice() == want.2
 }
 
 #[test]
@@ -85,41 +83,49 @@ fn each_status_of_a_run(rt: HostRuntime) {
         (9, true, false, 3, b"", FAILED),
     ] {
         let output = blank(rt.alloc(), takes, flushes);
-        expect_check(
-            &rt,
-            rt.alloc(),
-            &STREAM[..size],
-            output,
-            (code, written, told),
+        let want = (code, written, told);
+        assert!(rt;
+            is_ended(
+                rt.alloc(),
+                &["capn", "check"],
+                &STREAM[..size],
+                output,
+                want
+            )
         );
     }
 }
 
+/// Whether the words are a mistake: nothing is written, and what is told begins so.
+fn is_mistake(alloc: Global, words: &[&str], line: &[u8]) -> bool {
+    let (code, written, told) = ended(alloc, words, &STREAM, blank(alloc, true, true));
+    code == 2 && written.is_empty() && told.as_slice().starts_with(line)
+}
+
 #[test]
 fn mistakes_are_told_as_errors(rt: HostRuntime) {
-    let alloc = rt.alloc();
     let words = ["capn", "hash", "--tariff", "cheap"];
-    let (code, written, told) = ended(alloc, &words, &STREAM, blank(alloc, true, true));
-    assert_eq!(rt; code, 2);
-    assert!(rt; written.is_empty());
-    assert!(rt;
-        told.as_slice()
-            .starts_with(b"error: --tariff takes strict or plain\n")
-    );
+    let line = b"error: --tariff takes strict or plain\n";
+    assert!(rt; is_mistake(rt.alloc(), &words, line));
+}
+
+/// Whether help over such an output ends with this status, is written or not, and tells this.
+fn is_helped(alloc: Global, output: Page, code: u8, is_written: bool, line: &[u8]) -> bool {
+    let words = ["capn", "pack", "--help"];
+    let (status, written, told) = ended(alloc, &words, &STREAM, output);
+    status == code
+        && written.as_slice().starts_with(b"capn 0.1.0: ") == is_written
+        && told.as_slice() == line
 }
 
 #[test]
 fn help_is_output(rt: HostRuntime) {
-    let words = ["capn", "pack", "--help"];
-    for (takes, flushes, code, told) in [
+    for (takes, flushes, code, line) in [
         (true, true, 0, b"".as_slice()),
         (false, true, 3, FAILED),
         (true, false, 3, FAILED),
     ] {
         let output = blank(rt.alloc(), takes, flushes);
-        let (status, written, line) = ended(rt.alloc(), &words, &STREAM, output);
-        let is_written = written.as_slice().starts_with(b"capn 0.1.0: ");
-        assert_eq!(rt; (status, is_written), (code, takes));
-        assert_eq!(rt; line.as_slice(), told);
+        assert!(rt; is_helped(rt.alloc(), output, code, takes, line));
     }
 }

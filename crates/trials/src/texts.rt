@@ -9,10 +9,9 @@ use std::process::Abort;
 /// Expects the text of a fault and its status.
 fn expect_text(rt: &impl Abort, alloc: Global, fault: ToolFault, text: &str, code: u8) {
     match fault_text(alloc, &fault) {
-        Ok(got) => assert_eq!(rt; got.as_bytes(), text.as_bytes()),
+        Ok(got) => assert!(rt; got.as_bytes() == text.as_bytes() && status(&Err(fault)) == code),
         Err(_) => assert!(rt; false, "no memory"),
     }
-    assert_eq!(rt; status(&Err(fault)), code);
 }
 
 #[test]

@@ -2,7 +2,7 @@
 
 use crate::making::*;
 use capn_value::{
-    Items, Memory, Misfit, Tariff, Tree, Value, copy, cost, first_cap, height, kept_slots,
+    Body, Items, Memory, Misfit, Tariff, Tree, Value, copy, cost, first_cap, height, kept_slots,
     kept_slots_of_rows, kept_words, kept_words_of_rows, same, show, trim,
 };
 use std::alloc::{AllocError, Global};
@@ -11,7 +11,11 @@ use std::process::Abort;
 /// The value fits, or is this misfit.
 fn expect(rt: &impl Abort, made: Made, want: Option<Misfit>) {
     match tree(made) {
-        Ok(_) => assert!(rt; want.is_none()),
+        Ok(tree) => {
+            // One call is cheaper to check than fields that are dropped one by one.
+            drop(tree);
+            assert!(rt; want.is_none());
+        }
         Err(misfit) => assert!(rt; misfit.is_some() && misfit == want),
     }
 }
@@ -19,7 +23,11 @@ fn expect(rt: &impl Abort, made: Made, want: Option<Misfit>) {
 /// The value fits, and has this height and cost.
 fn expect_sizes(rt: &impl Abort, made: Made, levels: u32, words: u32) {
     match tree(made) {
-        Ok(tree) => assert!(rt; height(&tree) == levels && cost(&tree, Tariff::Strict) == words),
+        Ok(tree) => {
+            let sizes = (height(&tree), cost(&tree, Tariff::Strict));
+            drop(tree);
+            assert!(rt; sizes == (levels, words));
+        }
         Err(_) => assert!(rt; false, "the value doesn't fit"),
     }
 }
@@ -27,9 +35,12 @@ fn expect_sizes(rt: &impl Abort, made: Made, levels: u32, words: u32) {
 /// Whether two values are the same, asked both ways.
 fn expect_same(rt: &impl Abort, one: Made, other: Made, want: bool) {
     match (one, other) {
-        (Ok(one), Ok(other)) => assert!(rt;
-            same(&one, &other) == want && same(&other, &one) == want
-        ),
+        (Ok(one), Ok(other)) => {
+            let are_same = (same(&one, &other), same(&other, &one));
+            drop(one);
+            drop(other);
+            assert!(rt; are_same == (want, want));
+        }
         _ => assert!(rt; false, "out of memory"),
     }
 }
@@ -65,9 +76,12 @@ fn nested(alloc: Global, count: u32) -> Made {
 
 /// Two rows of which the first has a slot.
 fn slots_in_one_row(alloc: Global) -> Made {
-    let mut rows = Items::new(alloc);
-    rows.push(body(alloc, &[], nulls(alloc, 1)?)?)?;
-    rows.push(body(alloc, &[], Vec::new(alloc))?)?;
+    let slot = nulls(alloc, 1)?;
+    let rows = two_bodies(
+        alloc,
+        body(alloc, &[], slot),
+        body(alloc, &[], Vec::new(alloc)),
+    )?;
     Ok(Value::Rows(rows))
 }
 
@@ -90,7 +104,11 @@ fn wide_and_ragged(rt: HostRuntime) {
 /// The value fits, and costs so much by the plain tariff.
 fn expect_plain(rt: &impl Abort, made: Made, words: u32) {
     match tree(made) {
-        Ok(tree) => assert!(rt; cost(&tree, Tariff::Plain) == words),
+        Ok(tree) => {
+            let paid = cost(&tree, Tariff::Plain);
+            drop(tree);
+            assert!(rt; paid == words);
+        }
         Err(_) => assert!(rt; false, "the value doesn't fit"),
     }
 }
@@ -153,24 +171,23 @@ fn sameness(rt: HostRuntime) {
     expect_same(&rt, Ok(Value::Voids(0)), text(alloc, &[]), false);
 }
 
-/// The tree has this cost and text.
-fn expect_text(rt: &impl Abort, alloc: Global, tree: Result<Tree, Memory>, words: u32, want: &str) {
-    match tree {
-        Ok(tree) => match show(alloc, &tree) {
-            Ok(text) => assert!(rt;
-                cost(&tree, Tariff::Strict) == words && text.as_bytes() == want.as_bytes()
-            ),
-            Err(_) => assert!(rt; false, "out of memory"),
-        },
-        Err(_) => assert!(rt; false, "out of memory"),
+/// Whether a tree has this cost and text.
+fn has_text(alloc: Global, tree: &Tree, words: u32, want: &str) -> bool {
+    match show(alloc, tree) {
+        Ok(text) => cost(tree, Tariff::Strict) == words && text.as_bytes() == want.as_bytes(),
+        Err(_) => false,
     }
 }
 
-/// What was made of a tree is the same value.
-fn expect_alike(rt: &impl Abort, tree: &Tree, made: &Result<Tree, Memory>) {
+/// Whether what was made of a tree is the same value, with this cost and text.
+fn is_made(alloc: Global, tree: &Tree, made: Result<Tree, Memory>, words: u32, want: &str) -> bool {
     match made {
-        Ok(made) => assert!(rt; same(tree.value(), made.value())),
-        Err(_) => assert!(rt; false, "out of memory"),
+        Ok(made) => {
+            let is_right = same(tree.value(), made.value()) && has_text(alloc, &made, words, want);
+            drop(made);
+            is_right
+        }
+        Err(_) => false,
     }
 }
 
@@ -178,11 +195,11 @@ fn expect_alike(rt: &impl Abort, tree: &Tree, made: &Result<Tree, Memory>) {
 fn expect_texts(rt: &impl Abort, alloc: Global, made: Made, words: u32, want: &str, cut: &str) {
     match tree(made) {
         Ok(tree) => {
-            expect_alike(rt, &tree, &trim(alloc, &tree));
-            expect_alike(rt, &tree, &copy(alloc, &tree));
-            expect_text(rt, alloc, trim(alloc, &tree), words, cut);
-            expect_text(rt, alloc, copy(alloc, &tree), words, want);
-            expect_text(rt, alloc, Ok(tree), words, want);
+            let is_shown = has_text(alloc, &tree, words, want);
+            let is_trimmed = is_made(alloc, &tree, trim(alloc, &tree), words, cut);
+            let is_copied = is_made(alloc, &tree, copy(alloc, &tree), words, want);
+            drop(tree);
+            assert!(rt; is_shown && is_trimmed && is_copied);
         }
         Err(_) => assert!(rt; false, "the value doesn't fit"),
     }
@@ -219,7 +236,11 @@ fn texts(rt: HostRuntime) {
 /// The first capability of a value is this one.
 fn expect_capability(rt: &impl Abort, made: Made, want: Option<u32>) {
     match made {
-        Ok(value) => assert!(rt; first_cap(&value) == want),
+        Ok(value) => {
+            let capability = first_cap(&value);
+            drop(value);
+            assert!(rt; capability == want);
+        }
         Err(_) => assert!(rt; false, "out of memory"),
     }
 }
@@ -234,29 +255,46 @@ fn first_capability(rt: HostRuntime) {
 }
 
 /// Rows, of which one has a zero word behind a word, and the other a null behind a capability.
-fn kept_rows(alloc: Global) -> Made {
+fn kept_rows(alloc: Global) -> Result<Items<Body>, AllocError> {
     let mut slots = nulls(alloc, 1)?;
     slots.push(Value::Cap(3))?;
     slots.push(Value::Nil)?;
-    let mut rows = Items::new(alloc);
-    rows.push(body(alloc, &[0, 5, 0], Vec::new(alloc))?)?;
-    rows.push(body(alloc, &[1], slots)?)?;
-    Ok(Value::Rows(rows))
+    let first = body(alloc, &[0, 5, 0], Vec::new(alloc));
+    two_bodies(alloc, first, body(alloc, &[1], slots))
+}
+
+/// Whether these rows keep two words and two slots each.
+fn are_kept(rows: &[Body]) -> bool {
+    match rows {
+        [_, last] => kept_slots(last.slots.as_slice()) == 2
+            && kept_words_of_rows(rows) == 2
+            && kept_slots_of_rows(rows) == 2,
+        _ => false,
+    }
 }
 
 #[test]
 fn kept_lengths(rt: HostRuntime) {
     assert!(rt; kept_words(&[0, 5, 0]) == 2);
-    match (kept_rows(rt.alloc()), nulls(rt.alloc(), 65_535)) {
-        (Ok(Value::Rows(rows)), Ok(nulls)) => {
-            let [_, last] = rows.as_slice() else {
-                return;
-            };
-            assert!(rt; kept_slots(last.slots.as_slice()) == 2 && kept_slots(&nulls) == 0);
-            assert!(rt; kept_words_of_rows(rows.as_slice()) == 2);
-            assert!(rt; kept_slots_of_rows(rows.as_slice()) == 2);
+    match kept_rows(rt.alloc()) {
+        Ok(rows) => {
+            let is_right = are_kept(rows.as_slice());
+            drop(rows);
+            assert!(rt; is_right);
         }
-        _ => assert!(rt; false, "out of memory"),
+        Err(_) => assert!(rt; false, "out of memory"),
+    }
+}
+
+#[test]
+fn nulls_are_not_kept(rt: HostRuntime) {
+    match nulls(rt.alloc(), 65_535) {
+        Ok(nulls) => {
+            let kept = kept_slots(&nulls);
+            drop(nulls);
+            assert!(rt; kept == 0);
+        }
+        Err(_) => assert!(rt; false, "out of memory"),
     }
 }
 

@@ -276,8 +276,8 @@ impl Draft {
         Ok((first, count))
     }
 
-    /// The framed message.
-    pub(crate) fn into_frame(mut self, alloc: Global) -> Result<Vec<u8>, AllocError> {
+    /// Ends the last segment, and frames the message.
+    fn framed(&mut self, alloc: Global) -> Result<Vec<u8>, AllocError> {
         self.cut()?;
         let mut bytes = Vec::new(alloc);
         let last = narrow(self.sizes.len().saturating_sub(1));
@@ -292,5 +292,12 @@ impl Draft {
             bytes.extend_from_slice(&word.to_le_bytes())?;
         }
         Ok(bytes)
+    }
+    /// The framed message.
+    pub(crate) fn into_frame(mut self, alloc: Global) -> Result<Vec<u8>, AllocError> {
+        let framed = self.framed(alloc);
+        // One call is cheaper to check than fields that are dropped one by one.
+        drop(self);
+        framed
     }
 }
