@@ -7,12 +7,9 @@ use capn_stream::{Framed, Framer, first};
 use capn_tool::{Command, run};
 use capn_value::{Tree, show};
 use capn_walk::{Limits, Walked, survey, walk};
-use capn_words::{Space, Watched};
+use capn_words::{MOST_MESSAGE_WORDS, Space, Watched};
 use sha2::{Digest, Sha256};
 use std::alloc::Global;
-
-/// More words than any input here has.
-const MOST_WORDS: u32 = 1 << 28;
 
 /// The bytes of a piece.
 const PIECE: usize = 65_536;
@@ -105,7 +102,7 @@ pub(crate) struct Input {
 
 /// The message that stands first in the bytes.
 pub(crate) fn message(alloc: Global, framed: &[u8]) -> Result<Framed<'_>> {
-    match first(alloc, framed, MOST_WORDS) {
+    match first(alloc, framed, MOST_MESSAGE_WORDS) {
         Ok((message, _)) => Ok(message),
         Err(_) => Err(anyhow!("no frame")),
     }
@@ -155,7 +152,7 @@ pub(crate) fn packed(alloc: Global, words: &[u8]) -> Result<Vec<u8>> {
 
 /// The words of a packed text.
 pub(crate) fn unpacked(alloc: Global, text: &[u8]) -> Result<Vec<u8>> {
-    unpack(alloc, text, MOST_WORDS).map_err(|_| anyhow!("not unpacked"))
+    unpack(alloc, text, MOST_MESSAGE_WORDS).map_err(|_| anyhow!("not unpacked"))
 }
 
 /// The words that reading a message pays.
@@ -184,7 +181,7 @@ fn fed(framer: &mut Framer, framed: &[u8]) -> Result<u32> {
 
 /// The contents of the message that comes in pieces, in words.
 pub(crate) fn received(alloc: Global, framed: &[u8]) -> Result<u32> {
-    let mut framer = Framer::new(alloc, MOST_WORDS);
+    let mut framer = Framer::new(alloc, MOST_MESSAGE_WORDS);
     fed(&mut framer, framed)
 }
 

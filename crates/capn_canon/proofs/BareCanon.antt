@@ -19,7 +19,7 @@ use Rattle.capn_value.specs.InRange.{AllBelow, InRange, EachInRange, RowsInRange
 use Rattle.capn_value.specs.Laws.Ranges.{below-take}
 use Rattle.capn_canon.specs.Layout.{own, size, sizes, sizes_in_rows, row_size, list_to, struct_to, point, points}
 use Rattle.capn_canon.specs.Layout.{number, packed, row_contents, lay, lays, lays_in_rows, words, canon}
-use Rattle.capn_words.specs.Laws.FieldBits.{pick}
+use Rattle.capn_words.specs.Laws.Choices.{pick}
 use Rattle.capn_words.specs.Laws.Pointers.{word_of-lt}
 use Rattle.capn_canon.specs.Sound.{Sound, Sounds, SoundRows}
 use Rattle.capn_canon.proofs.KeptLengths.{kept_words-le, kept_slots-le}

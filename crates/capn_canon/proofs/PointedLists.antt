@@ -4,7 +4,7 @@ use Rattle.std.proofs.Common.{ap, sym, drop, refl}
 use Rattle.std.proofs.Common.{◌==◌, nat_lt, if◌then◌else◌, Option, Result, Ok, Err, subst, ◌∙◌, arith}
 use Rattle.capn_words.specs.Message.{segment_at}
 use Rattle.capn_words.specs.Pointers.{field, pointer_of}
-use Rattle.capn_words.specs.Laws.FieldBits.{pick}
+use Rattle.capn_words.specs.Laws.Choices.{pick}
 use Rattle.capn_words.specs.Laws.Pointers.{Fields-only}
 use Rattle.capn_words.specs.declared.pointer.Pointer.TheVariants.{Many}
 use Rattle.capn_words.specs.declared.pointer.Width.{Width}

@@ -4,7 +4,7 @@ use Rattle.std.proofs.Common.{◌∷◌, length, take, drop, slice_index, Option
 use Rattle.std.proofs.lemmas.Bool.Decides.{nat_tests}
 use Rattle.capn_words.specs.Fields.{Fields, word_of}
 use Rattle.capn_words.specs.Pointers.{pointer_of}
-use Rattle.capn_words.specs.Laws.FieldBits.{if-no}
+use Rattle.capn_words.specs.Laws.Choices.{if-no}
 use Rattle.capn_words.specs.Laws.Pointers.{Fields-only}
 use Rattle.capn_words.specs.declared.pointer.Pointer.TheVariants.{Node}
 use Rattle.capn_value.specs.Tree.{Tree, Trees, no_trees, tree}

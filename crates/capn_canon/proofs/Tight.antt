@@ -18,7 +18,7 @@ use Rattle.capn_walk.specs.Target.{target}
 use Rattle.capn_walk.specs.Visits.{Visit, pays, fails, price, places, row_places, slots, visits}
 use Rattle.capn_walk.specs.Stops.{paid_of, AllPay}
 use Rattle.capn_walk.specs.At.{IsAt, AreAt, RowsAt, AreWords, AreElements, words_from}
-use Rattle.capn_words.specs.Laws.FieldBits.{pick}
+use Rattle.capn_words.specs.Laws.Choices.{pick}
 use Rattle.capn_walk.specs.Laws.Walks.{slot, visits-null, visits-cap, visits-object}
 use Rattle.capn_walk.specs.Laws.Costs.{paid-append}
 

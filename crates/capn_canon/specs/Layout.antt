@@ -90,8 +90,8 @@ number base (x ∷ xs) = x + base * number base xs
 
 -- n words, each of so many elements of so many bits; what is missing in the last one is 0 (Own.)
 abbrev pub packed : ℕ → ℕ → ℕ → List ℕ → List ℕ
-packed each width zero xs = []
-packed each width (suc n) xs = number (2 ^ width) (take each xs) ∷ packed each width n (drop each xs)
+packed many width zero xs = []
+packed many width (suc n) xs = number (2 ^ width) (take many xs) ∷ packed many width n (drop many xs)
 
 -- the own content of rows, cut to a words and b slots, whose children start at word `to` (Page: lists, composite.)
 abbrev pub row_contents : ℕ → ℕ → Bodies → ℕ → ℕ → List ℕ

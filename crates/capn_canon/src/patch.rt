@@ -1,7 +1,7 @@
 //! A buffer of words, some of which are still to be written.
 
 ghost use Rattle.std.specs.Prelude.{◌≡◌, ℕ, ◌+◌, ◌*◌, ◌%◌, ◌<◌, ◌≤◌, [], ◌∷◌, ◌++◌, length, take, drop, set, replicate};
-ghost use Rattle.std.specs.Prelude.{Some, None, IfOk, IfErr, OnOk, OnErr};
+ghost use Rattle.std.specs.Prelude.{Some, None, IfOk, IfErr, OnOk, OnErr, IsOk};
 ghost use Rattle.capn_words.specs.Message.{word_bytes, bytes as bytes_of_words};
 ghost use Rattle.capn_canon.specs.Patch.{IsHole, IsWhole, filled, whole};
 ghost use Rattle.capn_walk.specs.Target.{words_for};
@@ -209,6 +209,7 @@ impl<A: Allocator> Patch<A> {
         requires { IsWhole self }
         ensures ok { IfOk result (λ v. v.items ≡ bytes_of_words (filled self)) }
         ensures err { IfErr result (λ e. e.0 ≡ self) }
+        ensures never { IsOk result }
     {
         Ok(self.bytes)
     }

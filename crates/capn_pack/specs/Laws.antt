@@ -1,5 +1,6 @@
 -- The laws of packed texts.
 pub mod ChosenLaws
+pub mod FirstParts
 pub mod GroupLaws
 pub mod GroupLemmas
 pub mod RefusalLaws

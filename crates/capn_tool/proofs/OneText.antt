@@ -7,7 +7,8 @@ use Rattle.std.specs.List.{AllByRecursion}
 use Rattle.std.specs.Io.KnownBytes.{Appends}
 use Rattle.capn_words.specs.declared.bare.BareFault.{BareFault}
 use Rattle.capn_words.specs.Laws.OneSegment.{bare_not_refused, one_bare, one_bare_fault}
-use Rattle.capn_pack.specs.Laws.GroupLaws.{append_same, one_reading, refused_only}
+use Rattle.capn_pack.specs.Laws.FirstParts.{append_same}
+use Rattle.capn_pack.specs.Laws.GroupLaws.{one_reading, refused_only}
 use Rattle.capn_pack.specs.Laws.RefusalLaws.{one_unpack_fault}
 use Rattle.capn_pack.specs.Laws.ChosenLaws.{chosen_whole}
 use Rattle.capn_pack.specs.Laws.ChosenLaws as chosen

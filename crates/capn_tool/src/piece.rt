@@ -139,7 +139,7 @@ fn digest_line(bytes: &[u8]) -> [u8; 65]
     line
 }
 
-/// Appends the line of the digest of some bytes.
+/// Appends the line of the digest of some bytes, or nothing where memory is refused.
 fn put_digest_line<A: Allocator>(bytes: &[u8], text: &mut Vec<u8, A>) -> Result<(), ToolFault>
     ensures { PutsLine (encode_lower (sha256 bytes.now) ++ 10 ∷ []) text.old.items text.new.items result }
 {

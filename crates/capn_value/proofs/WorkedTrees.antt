@@ -1,5 +1,5 @@
--- Worked values: what they are trimmed to, cost, and show as.
-use Rattle.std.proofs.Common.{◌≡◌, [], ◌∷◌, Some, codes, true, false, refl}
+-- Worked values: what they are trimmed to, cost, and show as, and why some do not fit.
+use Rattle.std.proofs.Common.{◌≡◌, [], ◌∷◌, Some, None, codes, true, false, refl}
 use Rattle.std.specs.Fmt.{digits}
 use Rattle.hex.specs.Hex.{encode_with}
 use Rattle.capn_value.specs.Tree.{nil, node, voids, bits, bytes, links, rows, cap, no_trees, tree, no_bodies}
@@ -8,6 +8,8 @@ use Rattle.capn_value.specs.Trim.{trimmed}
 use Rattle.capn_value.specs.Anew.{anew, rows_anew}
 use Rattle.capn_value.specs.Sizes.{cost, height, rows_price}
 use Rattle.capn_value.specs.Text.{show_text, line}
+use Rattle.capn_value.specs.Fits.{misfit}
+use Rattle.capn_value.specs.declared.misfit.Misfit.TheVariants.{Long, Ragged, BadRoot}
 
 -- a struct loses its last word, which is zero, and its last slot, which is null
 struct_trimmed : trimmed (node (5 ∷ 0 ∷ []) (tree (cap 3) (tree nil no_trees))) ≡ node (5 ∷ []) (tree (cap 3) no_trees)
@@ -57,6 +59,26 @@ rows_cost = refl
 -- the root of a chain of two is two high
 chain_height : height (node [] (tree (node [] no_trees) no_trees)) ≡ 2
 chain_height = refl
+
+-- rows that differ in their words are ragged, and a slot with them too
+ragged_rows : misfit (node [] (tree (rows (body (1 ∷ []) no_trees (body [] no_trees no_bodies))) no_trees))
+    ≡ Some Ragged
+unfolding misfit
+ragged_rows = refl
+
+-- more elements than a pointer counts are too many, at any size
+long_list : misfit (voids 536870912) ≡ Some Long
+unfolding misfit
+long_list = refl
+
+-- a capability fits in a slot, and is no root
+capability_fits : misfit (links (tree (cap 0) no_trees)) ≡ None
+unfolding misfit
+capability_fits = refl
+
+capability_root : misfit (cap 0) ≡ Some BadRoot
+unfolding misfit
+capability_root = refl
 
 -- the text of null, of a capability, and of a struct with a word and a list of two bits
 null_text : show_text nil ≡ codes "null\n"

@@ -244,12 +244,12 @@ impl<'s, S: Space> View<'s, S> {
                 pads: _,
             } => match shape {
                 Shape::Many { width, count: _ } => {
-                    let each = per_word(width);
+                    let many = per_word(width);
                     let word = self.space.word(Place {
                         segment,
-                        word: start + i / each,
+                        word: start + i / many,
                     });
-                    digit(width, word, i % each)
+                    digit(width, word, i % many)
                 }
                 _ => unreachable!(),
             },

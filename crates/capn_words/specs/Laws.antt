@@ -1,4 +1,5 @@
 -- The laws of bytes that are read as one segment.
+pub mod Choices
 pub mod FieldBits
 pub mod OneSegment
 pub mod Pointers

@@ -1,6 +1,7 @@
 //! The calls of frames.
 
-ghost use Rattle.std.specs.Prelude.{◌≤◌, ◌^◌, IfOk};
+ghost use Rattle.std.specs.Prelude.{◌≤◌, IfOk};
+ghost use Rattle.capn_words.specs.Limits.{most_message_words};
 
 use crate::growths::{Heap, MEMORY};
 use crate::refusals::told;
@@ -12,7 +13,7 @@ use std::alloc::Global;
 
 /// The limit on message words at a place of the line.
 pub(crate) fn limit_at(words: &[&str], at: usize) -> Result<u32>
-    ensures { IfOk result (λ limit. limit ≤ 2 ^ 28) }
+    ensures { IfOk result (λ limit. limit ≤ most_message_words) }
 {
     let limit = number_at(words, at)?;
     if limit > MOST_MESSAGE_WORDS {
@@ -36,7 +37,7 @@ pub(crate) fn segments_text<S: Space>(alloc: Global, space: &S) -> Result<String
     Ok(text)
 }
 
-/// What is told of a message that was taken off so many bytes.
+/// What is told of a message that takes so many bytes.
 fn taken_text<S: Space>(alloc: Global, message: &S, taken: usize) -> Result<String> {
     let segments = segments_text(alloc, message)?;
     Ok(format!(in alloc; "taken {taken}:{segments}")?)

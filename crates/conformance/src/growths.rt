@@ -13,6 +13,12 @@ pub(crate) type Heap = Refusing<Global>;
 /// by then.
 pub(crate) const MEMORY: &str = "Memory";
 
+/// What was written before memory was wanted, and that it was.
+pub(crate) fn cut_short(alloc: Global, written: &[u8]) -> Result<String> {
+    let digits = hex::encode(alloc, written)?;
+    Ok(format!(in alloc; "{digits}{MEMORY}")?)
+}
+
 /// An answer behind its status, if it has one.
 fn behind_status(text: &str) -> &str {
     match text.strip_prefix("status 0, ") {

@@ -1,6 +1,7 @@
 //! The calls on streams that come in pieces, and over a reader and a writer.
 
-ghost use Rattle.std.specs.Prelude.{◌≤◌, ◌^◌};
+ghost use Rattle.std.specs.Prelude.{◌≤◌};
+ghost use Rattle.capn_words.specs.Limits.{most_message_words};
 
 use crate::frames::{limit_at, segments_text};
 use crate::growths::{Heap, MEMORY};
@@ -190,7 +191,7 @@ pub(crate) fn pieces_answer(alloc: Global, heap: &Heap, words: &[&str]) -> Resul
     pieces_text(&mut framer, alloc, bytes.as_slice(), size)
 }
 
-/// Appends a message that was read.
+/// Appends a message that was read; that it was one.
 fn push_read(alloc: Global, message: &Stored<&Heap>, text: &mut String) -> Result<bool> {
     push_message(alloc, message, text)?;
     Ok(true)
@@ -204,7 +205,7 @@ fn read_next(
     limit: u32,
     text: &mut String,
 ) -> Result<bool>
-    requires { limit ≤ 2 ^ 28 }
+    requires { limit ≤ most_message_words }
 {
     if reader.failed() {
         bail!("no input");

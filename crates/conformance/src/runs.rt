@@ -1,6 +1,6 @@
 //! Runs of the program, from the words of the command line to what is written.
 
-use crate::growths::{Heap, MEMORY};
+use crate::growths::{Heap, cut_short};
 use crate::words::{bytes_at, digits_of, number_at, word_at};
 use anyhow::{Result, anyhow};
 use capn_tool::{ToolFault, command_of, fault_text, run, status};
@@ -16,12 +16,6 @@ fn command_line<'a>(alloc: Global, words: &[&'a str]) -> Result<Vec<&'a str>> {
         line.push(word_at(words, word.saturating_add(2))?)?;
     }
     Ok(line)
-}
-
-/// What was written before memory was wanted, and that it was.
-fn cut_short(alloc: Global, written: &[u8]) -> Result<String> {
-    let digits = hex::encode(alloc, written)?;
-    Ok(format!(in alloc; "{digits}{MEMORY}")?)
 }
 
 /// `run COUNT WORD .. BYTES`: the status, what is written, and the line on standard error.

@@ -1,4 +1,4 @@
-//! What slots denote.
+//! The call that resolves a slot.
 
 use crate::growths::Heap;
 use crate::messages::form_at;

@@ -1,17 +1,11 @@
 //! The calls on packed texts that come in pieces.
 
-use crate::growths::{Heap, MEMORY};
+use crate::growths::{Heap, MEMORY, cut_short};
 use crate::refusals::told;
 use crate::words::{bytes_at, digits_of, push_told, word_at};
 use anyhow::{Result, anyhow, bail};
 use capn_pack::{UnpackFault, Unpacker};
 use std::alloc::Global;
-
-/// What was unpacked before memory was wanted, and that it was.
-fn cut_short(alloc: Global, unpacked: &[u8]) -> Result<String> {
-    let digits = hex::encode(alloc, unpacked)?;
-    Ok(format!(in alloc; "{digits}{MEMORY}")?)
-}
 
 /// Where memory was wanted, an unpacker has to fail from then on.
 fn unpacker_has_to_fail(unpacker: &mut Unpacker, alloc: Global) -> Result<()> {

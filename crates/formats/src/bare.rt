@@ -55,6 +55,11 @@ fn words_and_bytes_of_one_segment(rt: HostRuntime) {
 }
 
 #[test]
+fn a_zero_word_is_null(rt: HostRuntime) {
+    assert!(rt; matches!(Bare::new(&[0; 8]), Ok(bare) if is_null(&bare)));
+}
+
+#[test]
 fn no_bytes_are_a_segment_of_no_words(rt: HostRuntime) {
     match Bare::new(&[]) {
         Err(_) => assert!(rt; false, "no bytes are refused"),

@@ -130,12 +130,33 @@ fn fails_at_the_first_error_of_a_flush(rt: HostRuntime) {
     }
 }
 
+/// All output goes through this call: what fails is not tried again.
+#[test]
+fn fails_at_the_first_error_of_a_whole_text(rt: HostRuntime) {
+    for kind in KINDS {
+        let answers = [Answer::Bytes(2), Answer::Fault(kind), Answer::Bytes(1)];
+        let mut writer = Watched::new(Told { answers: &answers });
+        assert!(rt; writer.write_all(b"abc").is_err() && writer.failed());
+        assert!(rt; matches!(writer.write(b"abc"), Ok(1)));
+    }
+}
+
+#[test]
+fn passes_empty_pieces_on(rt: HostRuntime) {
+    let answers = [Answer::Fault(ErrorKind::Other)];
+    let mut reader = Watched::new(Told { answers: &answers });
+    assert!(rt; reader.read(&mut []).is_err() && reader.failed());
+    let mut writer = Watched::new(Told { answers: &answers });
+    assert!(rt; writer.write(b"").is_err() && writer.failed());
+}
+
 #[test]
 fn fails_at_a_write_that_takes_nothing_of_something(rt: HostRuntime) {
-    let answers = [Answer::Bytes(0), Answer::Bytes(0)];
+    let answers = [Answer::Bytes(0), Answer::Bytes(0), Answer::Bytes(2)];
     let mut writer = Watched::new(Told { answers: &answers });
     assert!(rt; matches!(writer.write(b""), Ok(0)));
     assert!(rt; !writer.failed());
     assert!(rt; matches!(writer.write(b"abc"), Ok(0)));
     assert!(rt; writer.failed());
+    assert!(rt; matches!(writer.write(b"abc"), Ok(2)));
 }

@@ -3,7 +3,6 @@
 use capn_stream::{FrameFault, Framer, first, frame};
 use capn_words::Space;
 use std::alloc::Global;
-use std::process::Abort;
 use std::test::Fail;
 
 /// The most words of a message, as usual.

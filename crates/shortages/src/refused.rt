@@ -3,10 +3,10 @@
 use crate::short_runs::*;
 use crate::short_streams::*;
 use crate::short_values::*;
-use crate::subject::{Answer, Subject, chain, limits, subject_of};
+use crate::subject::{Answer, Subject, chain, judged, limits, subject_of, wanting};
 use crate::words::bytes_of;
 use capn_canon::{Form, Refusal, is_canonical};
-use capn_tool::Command;
+use capn_tool::{Command, ToolFault};
 use capn_value::{copy, trim};
 use capn_walk::Fault;
 use refusing::Refusing;
@@ -39,7 +39,7 @@ const STREAM: [u64; 20] = [
     9,
 ];
 
-/// A command that is run.
+/// A command that is run. Its limits can't stand in a constant, so it is named apart from them.
 #[derive(Clone, Copy)]
 pub(crate) enum Order {
     Show,
@@ -76,7 +76,7 @@ pub(crate) enum Call {
     Run(Order),
 }
 
-/// Each call that takes memory. A list that is constant costs its users nothing to check.
+/// Calls that take memory. A list that is constant costs its users nothing to check.
 pub(crate) const CALLS: [(&str, Call); 28] = [
     ("first", Call::First),
     ("frame", Call::Frame),
@@ -180,13 +180,53 @@ fn each_call(rt: HostRuntime) -> Result<(), Fail> {
     Ok(())
 }
 
-/// Whether a chain is canonical and tells its price and its visits.
+/// Whether no growth had this number, and what showing two messages, each with this text, answers with it refused:
+/// both texts, or that of the first, perhaps a beginning of the second's, and want of memory.
+fn shows_twice(alloc: Global, twice: &[u8], text: &[u8], number: u64) -> (bool, Answer) {
+    let short = Refusing::nth(alloc, number);
+    let (outcome, shown) = output(alloc, &short, command_of(Order::Show), twice);
+    let (first, second) = shown.split_at(text.len().min(shown.len()));
+    let answer = match outcome {
+        Ok(()) => judged(second == text),
+        Err(ToolFault::Memory) => wanting(text.starts_with(second)),
+        Err(_) => Answer::Wrong,
+    };
+    (
+        short.has_spared(),
+        if first == text { answer } else { Answer::Wrong },
+    )
+}
+
+/// Where a growth for the second of two messages is refused, the text of the first is written all the same.
+///
+/// The framer makes good a growth that was refused for the ends of the second's segments.
+#[test]
+fn the_first_message_is_written(rt: HostRuntime) -> Result<(), Fail> {
+    let once = bytes_of(rt.alloc(), &STREAM)?;
+    let mut twice = bytes_of(rt.alloc(), &STREAM)?;
+    twice.extend_from_slice(once.as_slice())?;
+    let heap = Refusing::nth(rt.alloc(), 0);
+    let (outcome, text) = output(rt.alloc(), &heap, command_of(Order::Show), once.as_slice());
+    assert!(rt; outcome.is_ok() && !text.is_empty());
+    let mut was_refused = false;
+    for number in heap.count().saturating_add(1)..1_000 {
+        match shows_twice(rt.alloc(), twice.as_slice(), text.as_slice(), number) {
+            (true, Answer::Right) if was_refused => return Ok(()),
+            (false, Answer::Right) => {}
+            (false, Answer::Memory) => was_refused = true,
+            _ => assert!(rt; false, "growth {number}"),
+        }
+    }
+    Err(Fail::new("a thousand growths"))
+}
+
+/// Whether a chain of 63 structs is canonical and tells its price and its visits.
 fn is_told(heap: &Refusing<Global>, deep: &[u8]) -> bool {
     is_canonical(heap, deep, limits(64)) == Ok(true)
         && accounted(heap, Form::Bare, deep, limits(64)) == Ok((253, 127, None))
 }
 
-/// Whether a chain is refused as too deep at its last object, and as it is with ample memory.
+/// Whether a chain of 64 structs is refused as too deep at its last object, and as it is with ample memory.
 fn is_too_deep(heap: &Refusing<Global>, alloc: Global, deeper: &[u8]) -> bool {
     let is_stopped = match is_canonical(heap, deeper, limits(64)) {
         Err(Refusal::Walk(stopped)) => stopped.fault == Fault::TooDeep

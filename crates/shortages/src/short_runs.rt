@@ -75,8 +75,21 @@ pub(crate) fn text_answer(short: &Refusing<Global>) -> Answer {
     }
 }
 
+/// What a command writes of some bytes, to memory that is never short.
+pub(crate) fn output<A: Allocator + Copy>(
+    ample: Global,
+    alloc: A,
+    command: Command,
+    input: &[u8],
+) -> (Result<(), ToolFault>, Vec<u8>) {
+    let mut reader = Watched::new(input);
+    let mut writer = Watched::new(Vec::new(ample));
+    let outcome = run(alloc, command, &mut reader, &mut writer);
+    (outcome, writer.into_inner())
+}
+
 /// What a command writes of an input.
-pub(crate) fn written<A: Allocator + Copy>(
+fn written<A: Allocator + Copy>(
     of: &Subject,
     alloc: A,
     command: Command,
@@ -85,10 +98,7 @@ pub(crate) fn written<A: Allocator + Copy>(
         Command::Unpack(_) | Command::Check(Form::Packed, _) => of.packed.as_slice(),
         _ => of.stream,
     };
-    let mut reader = Watched::new(input);
-    let mut writer = Watched::new(Vec::new(of.alloc));
-    let outcome = run(alloc, command, &mut reader, &mut writer);
-    (outcome, writer.into_inner())
+    output(of.alloc, alloc, command, input)
 }
 
 /// The text of a run, of which a refusal leaves a beginning.

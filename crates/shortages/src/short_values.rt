@@ -62,6 +62,16 @@ pub(crate) fn items(short: &Refusing<Global>) -> Result<Items<u16, &Refusing<Glo
     Ok(items)
 }
 
+/// How many growths four items take, room for which is asked for at once.
+pub(crate) fn growths_of_four(alloc: Global) -> Result<u64, AllocError> {
+    let heap = Refusing::nth(alloc, 0);
+    let mut items = Items::with_capacity(&heap, 4)?;
+    for item in 0..4u16 {
+        items.push(item)?;
+    }
+    Ok(heap.count())
+}
+
 /// Right exactly if these are the items.
 pub(crate) fn items_answer(short: &Refusing<Global>) -> Answer {
     match items(short) {
@@ -82,11 +92,12 @@ pub(crate) fn layout_answer(of: &Subject, short: &Refusing<Global>) -> Answer {
     }
 }
 
-/// A word and a hole that is filled.
+/// A word and a hole that is filled; no holes are left behind them.
 pub(crate) fn patched(short: &Refusing<Global>) -> Result<Vec<u8, &Refusing<Global>>, Memory> {
     let mut patch = Patch::new(short);
     patch.push(1)?;
     let at = patch.leave(1)?;
+    patch.leave(0)?;
     patch.fill(at, 2);
     match patch.finish() {
         Ok(bytes) => Ok(bytes),

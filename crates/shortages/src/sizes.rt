@@ -1,6 +1,7 @@
 //! How much calls ask for: big messages through each of them, and nothing before the input is known to have it.
 
 use crate::refused::{CALLS, Call, answer};
+use crate::short_values::growths_of_four;
 use crate::subject::{Answer, Subject, chain, limits, subject_of};
 use crate::words::bytes_of;
 use capn_canon::{Form, Refusal, canonicalise, is_canonical};
@@ -83,7 +84,8 @@ fn the_greatest_height_through_each_call(rt: HostRuntime) -> Result<(), Fail> {
     through_each(&rt, rt.alloc(), deep.as_slice())
 }
 
-/// Big messages are canonical or not without memory, and a frame is one growth of its length.
+/// Big messages are canonical or not without memory, a frame is one growth of its length, and items grow once where
+/// room for them is asked for.
 #[test]
 fn exact_growths(rt: HostRuntime) -> Result<(), Fail> {
     let heap = Refusing::nth(rt.alloc(), 0);
@@ -98,6 +100,7 @@ fn exact_growths(rt: HostRuntime) -> Result<(), Fail> {
     assert!(rt; heap.count() == 0);
     assert!(rt; frame(&heap, &message).is_ok());
     assert!(rt; heap.count() == 1 && heap.greatest() == stream.len());
+    assert!(rt; growths_of_four(rt.alloc())? == 1);
     Ok(())
 }
 

@@ -5,7 +5,6 @@ use capn_pack::pack;
 use capn_stream::{Framed, first, frame};
 use capn_walk::{Limits, Walked, walk};
 use capn_words::Space;
-use refusing::Refusing;
 use std::alloc::{AllocError, Global};
 use std::test::Fail;
 

@@ -4,7 +4,6 @@ use capn_tool::program;
 use capn_words::Watched;
 use std::alloc::Global;
 use std::io::{self, Error, ErrorKind, Write};
-use std::process::Abort;
 
 /// A writer that takes every byte, or fails at the first, or fails at the flush.
 #[derive(Drop)]
@@ -106,6 +105,9 @@ fn is_mistake(alloc: Global, words: &[&str], line: &[u8]) -> bool {
 fn mistakes_are_told_as_errors(rt: HostRuntime) {
     let words = ["capn", "hash", "--tariff", "cheap"];
     let line = b"error: --tariff takes strict or plain\n";
+    assert!(rt; is_mistake(rt.alloc(), &words, line));
+    let words = ["capn", "hash", "--form", "text"];
+    let line = b"error: --form takes stream, packed or bare\n";
     assert!(rt; is_mistake(rt.alloc(), &words, line));
 }
 

@@ -229,7 +229,7 @@ fn texts(rt: HostRuntime) {
     expect_texts(&rt, alloc, rows, 6, ROWS, ROWS);
     // 1 + 1 + 12 for the struct; 4, 2, 1, 2, 1, 2, 2 and 3 for the plain lists, 3 for the pointers, 2 for the rows and
     // 1 for the empty struct.
-    let each = one_of_each(alloc, Value::Cap(2));
+    let each = one_of_each(alloc);
     expect_texts(&rt, alloc, each, 37, EACH, EACH);
 }
 
@@ -251,7 +251,7 @@ fn first_capability(rt: HostRuntime) {
     let links = link(alloc, Ok(Value::Cap(7)));
     expect_capability(&rt, pair(alloc, links, Ok(Value::Cap(2))), Some(7));
     expect_capability(&rt, data(alloc, &[]), None);
-    expect_capability(&rt, one_of_each(alloc, Value::Cap(2)), Some(2));
+    expect_capability(&rt, one_of_each(alloc), Some(2));
 }
 
 /// Rows, of which one has a zero word behind a word, and the other a null behind a capability.

@@ -293,6 +293,7 @@ impl Draft {
         }
         Ok(bytes)
     }
+
     /// The framed message.
     pub(crate) fn into_frame(mut self, alloc: Global) -> Result<Vec<u8>, AllocError> {
         let framed = self.framed(alloc);

@@ -1,5 +1,6 @@
 -- Bytes in a form are read as one message at most, and it is a message.
-use Rattle.std.proofs.Common.{◌≡◌, ℕ, ◌^◌, ◌≤◌, List, [], ◌∷◌, length, ap, sym, subst, ◌∙◌, arith}
+use Rattle.std.proofs.Common.{◌≡◌, ℕ, ◌≤◌, List, [], ◌∷◌, length, ap, sym, subst, ◌∙◌, arith}
+use Rattle.capn_words.specs.Limits.{most_message_words}
 use Rattle.capn_words.specs.Message.{IsMessage}
 use Rattle.capn_words.specs.Laws.OneSegment.{bare_only, bare_message}
 use Rattle.capn_pack.specs.Laws.GroupLaws.{one_reading}
@@ -32,15 +33,16 @@ one_message forms.Packed bs most m n (t, h, k) (u, i, j) =
     let same : u ≡ t = one_reading bs u t i.packs h.packs in
     one-framed t most m n k (subst (λ (x : List ℕ). IsFramed x most n) same j)
 
-framed-message : (bs : List ℕ) (most : ℕ) (m : List (List ℕ)) → most ≤ 2 ^ 28 → IsFramed bs most m → IsMessage m
+framed-message : (bs : List ℕ) (most : ℕ) (m : List (List ℕ)) → most ≤ most_message_words → IsFramed bs most m
+    → IsMessage m
 framed-message bs most m l h =
     let f = h.frame.fits in
     let r = h.room in
     record { some = f.some; few = f.few; room = omega arith; each = f.each }
 
 -- what is read is a message
-pub is_message : (form : Form) (bs : List ℕ) (most : ℕ) (m : List (List ℕ)) → most ≤ 2 ^ 28 → Reads form bs most m
-    → IsMessage m
+pub is_message : (form : Form) (bs : List ℕ) (most : ℕ) (m : List (List ℕ)) → most ≤ most_message_words
+    → Reads form bs most m → IsMessage m
 is_message forms.Bare bs most m l (ws, h, e) = subst IsMessage (sym e) (bare_message ws h.each h.room)
 is_message forms.Stream bs most m l h = framed-message bs most m l h
 is_message forms.Packed bs most m l (t, h, k) = framed-message t most m l k

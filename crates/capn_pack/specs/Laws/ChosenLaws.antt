@@ -10,8 +10,9 @@ use Rattle.capn_pack.specs.Chosen.{IsChoice, IsChosenRow, Chosen, IsDense, AllDe
 use Rattle.capn_pack.specs.Tag.{tag_of}
 use Rattle.capn_pack.specs.Group.Group.{Zeros, Named, Raw}
 use Rattle.std.specs.List.{AllByRecursion}
+use Rattle.capn_pack.specs.Laws.FirstParts.{append_same}
 use Rattle.capn_pack.specs.Laws.GroupLemmas.{length_contents}
-use Rattle.capn_pack.specs.Laws.GroupLaws.{append_same, one_reading}
+use Rattle.capn_pack.specs.Laws.GroupLaws.{one_reading}
 
 -- the word at place m of dense words is dense
 dense_at : (n m : ℕ) (bs : List ℕ) → AllDense n bs → length bs ≡ 8 * n → m < n → IsDense (take 8 (drop (8 * m) bs))

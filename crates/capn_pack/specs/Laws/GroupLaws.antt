@@ -13,6 +13,7 @@ use Rattle.capn_pack.specs.Group.Group.{Zeros, Named, Raw}
 use Rattle.capn_pack.specs.Refusal.{IsRefused}
 use Rattle.capn_pack.specs.declared.fault.UnpackFault.{UnpackFault}
 use Rattle.capn_pack.specs.declared.fault.UnpackFault.TheVariants as fault
+use Rattle.capn_pack.specs.Laws.FirstParts.{append_same}
 use Rattle.capn_pack.specs.Laws.GroupLemmas.{length_contents, count_append, text_some}
 use Rattle.capn_pack.specs.Laws.SpreadLemmas.{ones_half, no_ones, parity, named_one, named_none}
 
@@ -88,17 +89,6 @@ named_same tag (a ∷ v) (b ∷ w) x y long p q e =
           let r = named_same (tag / 2) v w x y (omega arith) p.1 q.1 tails in
           ((λ i. heads i ∷ r.0 i), r.1)
     ]
-
--- two equal texts with first parts of one length have equal parts
-pub append_same : (a b x y : List ℕ) → length a ≡ length b → a ++ x ≡ b ++ y → (a ≡ b) × (x ≡ y)
-append_same [] [] x y long e = (refl, e)
-append_same [] (d ∷ b) x y long e = absurd (omega arith)
-append_same (c ∷ a) [] x y long e = absurd (omega arith)
-append_same (c ∷ a) (d ∷ b) x y long e =
-    let heads : c ≡ d = cc in
-    let tails : a ++ x ≡ b ++ y = cc in
-    let r = append_same a b x y (omega arith) tails in
-    ((λ i. heads i ∷ r.0 i), r.1)
 
 head_is : (a b : ℕ) (x y : List ℕ) → a ∷ x ≡ b ∷ y → (a ≡ b) × (x ≡ y)
 head_is a b x y e = (cc, cc)

@@ -13,7 +13,7 @@ use Rattle.capn_walk.specs.declared.target.Shape.TheVariants as shapes
 use Rattle.capn_walk.specs.Visits.{Visit, pays, fails, price, places, row_places, slots, visits}
 use Rattle.capn_walk.specs.Stops.{paid_of, AllPay}
 use Rattle.capn_walk.specs.At.{IsAt, AreAt, RowsAt, Names}
-use Rattle.capn_words.specs.Laws.FieldBits.{pick}
+use Rattle.capn_words.specs.Laws.Choices.{pick}
 use Rattle.capn_walk.specs.Laws.Inside.{inside}
 use Rattle.capn_walk.specs.Laws.Walks.{slot, visits-deep, visits-object}
 

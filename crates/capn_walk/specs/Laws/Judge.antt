@@ -6,7 +6,7 @@ use Rattle.capn_walk.specs.declared.target.Fault.{Fault}
 use Rattle.capn_walk.specs.declared.target.Fault.TheVariants as faults
 use Rattle.capn_walk.specs.Visits.{Visit, pays, fails}
 use Rattle.capn_walk.specs.Verdict.{Verdict, accepted, refused, after, judge}
-use Rattle.capn_words.specs.Laws.FieldBits.{pick}
+use Rattle.capn_words.specs.Laws.Choices.{pick}
 
 -- what comes after two parts comes after both together
 pub after-after : (p k q j : ℕ) (r : Verdict) → after p k (after q j r) ≡ after (p + q) (k + j) r

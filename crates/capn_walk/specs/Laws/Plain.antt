@@ -4,7 +4,7 @@ use Rattle.std.proofs.Common.{◌∙◌}
 use Rattle.std.specs.Bool.{⊤}
 use Rattle.std.specs.List.{flat_map}
 use Rattle.capn_words.specs.declared.space.Place.{Place}
-use Rattle.capn_words.specs.Laws.FieldBits.{pick}
+use Rattle.capn_words.specs.Laws.Choices.{pick}
 use Rattle.capn_value.specs.Sizes.{base}
 use Rattle.capn_walk.specs.declared.target.Target.{Target}
 use Rattle.capn_walk.specs.declared.target.Target.TheVariants as targets

@@ -13,7 +13,7 @@ use Rattle.capn_words.specs.Pointers.{field, pointer_of}
 use Rattle.capn_walk.specs.Target.{pointer_in, target}
 use Rattle.capn_walk.specs.Ways.{Describes}
 use Rattle.capn_walk.specs.Laws.Ways.{described, cap-pointer}
-use Rattle.capn_words.specs.Laws.FieldBits.{pick}
+use Rattle.capn_words.specs.Laws.Choices.{pick}
 
 -- the fields of a pointer are in their ranges
 abbrev IsNarrow : Pointer → Type 0

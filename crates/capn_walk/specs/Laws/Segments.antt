@@ -1,10 +1,11 @@
 -- The lengths of segments.
-use Rattle.std.proofs.Common.{◌≡◌, ℕ, ◌+◌, ◌^◌, ◌<◌, ◌≤◌, List, [], length, ap, arith, Option, Some, None, nat_lt}
+use Rattle.std.proofs.Common.{◌≡◌, ℕ, ◌<◌, ◌≤◌, List, [], length, ap, arith, Option, Some, None, nat_lt}
 use Rattle.std.proofs.lemmas.Bool.Decides.{nat_tests}
 use Rattle.std.proofs.Math.ListN.{get_or-eq_default}
 use Rattle.std.proofs.lemmas.List.Sums.{get_or-le-sum_by}
+use Rattle.capn_words.specs.Limits.{most_words}
 use Rattle.capn_words.specs.Message.{segment_at, words_of, IsMessage}
-use Rattle.capn_words.specs.Laws.FieldBits.{pick}
+use Rattle.capn_words.specs.Laws.Choices.{pick}
 
 -- a segment that is not there has no words
 pub length_of_none : (m : List (List ℕ)) (s : ℕ) → words_of m s ≡ None → length (segment_at m s) ≡ 0
@@ -25,5 +26,5 @@ length_of_some m s n h =
     h
 
 -- no segment is longer than all together
-pub segment-room : (m : List (List ℕ)) (s : ℕ) → IsMessage m → s < length m → length (segment_at m s) ≤ 2 ^ 28 + 1
+pub segment-room : (m : List (List ℕ)) (s : ℕ) → IsMessage m → s < length m → length (segment_at m s) ≤ most_words
 segment-room m s h l = let one = get_or-le-sum_by length m s [] l in let all = h.room in omega arith

@@ -23,9 +23,9 @@ same-bits (true ∷ xs) (false ∷ ys) e = absurd cc
 same-bits (false ∷ xs) (true ∷ ys) e = absurd cc
 
 module _ (m : List (List ℕ)) where
-  same-elements : (each width s w : ℕ) (xs ys : List ℕ) → length xs ≡ length ys
-      → AreElements each width (words_from m s w) xs → AreElements each width (words_from m s w) ys → xs ≡ ys
-  same-elements each width s w xs ys l h k = same_number_lists xs ys l (λ i b. h i b ∙ sym (k i (omega arith)))
+  same-elements : (many width s w : ℕ) (xs ys : List ℕ) → length xs ≡ length ys
+      → AreElements many width (words_from m s w) xs → AreElements many width (words_from m s w) ys → xs ≡ ys
+  same-elements many width s w xs ys l h k = same_number_lists xs ys l (λ i b. h i b ∙ sym (k i (omega arith)))
 
   same-words : (s w : ℕ) (xs ys : List ℕ) → length xs ≡ length ys → AreWords m s w xs → AreWords m s w ys → xs ≡ ys
   same-words s w xs ys l h k = sym h ∙ ap (λ (n : ℕ). take n (words_from m s w)) l ∙ k

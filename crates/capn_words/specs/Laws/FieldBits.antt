@@ -1,44 +1,12 @@
 -- The fields of a pointer word are within their bits, and are found again there.
-use Rattle.std.proofs.Common.{◌≡◌, ◌≢◌, ℕ, suc, ◌-◌, ◌^◌, ◌<◌, ◌≤◌, ◌==◌, nat_lt, Bool, true, false, ℤ, pos}
-use Rattle.std.proofs.Common.{negsuc, refl, ap, ◌∙◌, arith, if◌then◌else◌}
-use Rattle.std.proofs.lemmas.Bool.Decides.{nat_tests}
+use Rattle.std.proofs.Common.{◌≡◌, ℕ, suc, ◌-◌, ◌^◌, ◌<◌, ◌≤◌, ◌==◌, nat_lt, Bool, true, false, ℤ, pos}
+use Rattle.std.proofs.Common.{negsuc, refl, ap, ◌∙◌, arith}
 use Rattle.std.specs.Int.{from_bool}
 use Rattle.capn_words.specs.Fields.{FitsOffset, offset_field, width_code}
 use Rattle.capn_words.specs.Pointers.{signed, width_of}
 use Rattle.capn_words.specs.declared.pointer.Width.{Width}
 use Rattle.capn_words.specs.declared.pointer.Width.TheVariants.{W0, W1, W8, W16, W32, W64, Link, Rows}
-
--- ---- choices
-
--- what holds of both branches holds of the choice
-pub pick : {A : Type 0} (P : A → Type 0) (b : Bool) (x y : A) → (b ≡ true → P x) → (b ≡ false → P y)
-    → P (if b then x else y)
-pick P true x y f g = f refl
-pick P false x y f g = g refl
-
--- a choice whose test holds is the first
-pub if-yes : {A : Type 0} (b : Bool) (x y : A) → b ≡ true → (if b then x else y) ≡ x
-if-yes true x y e = refl
-if-yes false x y e = absurd cc
-
--- a choice whose test fails is the second
-pub if-no : {A : Type 0} (b : Bool) (x y : A) → b ≡ false → (if b then x else y) ≡ y
-if-no true x y e = absurd cc
-if-no false x y e = refl
-
--- the test of equal numbers holds
-pub same-yes : (a b : ℕ) → a ≡ b → (a == b) ≡ true
-same-yes a b e = grind (arith, nat_tests)
-
--- the test of different numbers fails
-pub same-no : (a b : ℕ) → a ≢ b → (a == b) ≡ false
-same-no a b e = grind (arith, nat_tests)
-
-less-yes : (a b : ℕ) → a < b → nat_lt a b ≡ true
-less-yes a b e = grind (arith, nat_tests)
-
-less-no : (a b : ℕ) → b ≤ a → nat_lt a b ≡ false
-less-no a b e = grind (arith, nat_tests)
+use Rattle.capn_words.specs.Laws.Choices.{if-yes, if-no, less-yes, less-no}
 
 -- ---- offsets
 

@@ -6,7 +6,8 @@ use Rattle.capn_words.specs.Pointers.{field, signed, width_of, other_pointer, po
 use Rattle.capn_words.specs.declared.pointer.Pointer.{Pointer}
 use Rattle.capn_words.specs.declared.pointer.Pointer.TheVariants.{Nil, Node, Many, Far, Cap, Reserved}
 use Rattle.capn_words.specs.declared.pointer.Width.{Width}
-use Rattle.capn_words.specs.Laws.FieldBits.{if-yes, if-no, same-yes, same-no, offset_field-lt, signed-again}
+use Rattle.capn_words.specs.Laws.Choices.{if-yes, if-no, same-yes, same-no}
+use Rattle.capn_words.specs.Laws.FieldBits.{offset_field-lt, signed-again}
 use Rattle.capn_words.specs.Laws.FieldBits.{width_code-lt, width_of-width_code, from_bool-le, bool-again}
 
 -- ---- `pointer_of` reads the fields of which a word is the sum

@@ -1,0 +1,35 @@
+-- Choices by a test: what holds of them, and which branch they are. The library of the toolchain has no such lemmas.
+use Rattle.std.proofs.Common.{◌≡◌, ◌≢◌, ℕ, ◌<◌, ◌≤◌, ◌==◌, nat_lt, Bool, true, false, refl, arith, if◌then◌else◌}
+use Rattle.std.proofs.lemmas.Bool.Decides.{nat_tests}
+
+-- what holds of both branches holds of the choice
+pub pick : {A : Type 0} (P : A → Type 0) (b : Bool) (x y : A) → (b ≡ true → P x) → (b ≡ false → P y)
+    → P (if b then x else y)
+pick P true x y f g = f refl
+pick P false x y f g = g refl
+
+-- a choice whose test holds is the first
+pub if-yes : {A : Type 0} (b : Bool) (x y : A) → b ≡ true → (if b then x else y) ≡ x
+if-yes true x y e = refl
+if-yes false x y e = absurd cc
+
+-- a choice whose test fails is the second
+pub if-no : {A : Type 0} (b : Bool) (x y : A) → b ≡ false → (if b then x else y) ≡ y
+if-no true x y e = absurd cc
+if-no false x y e = refl
+
+-- the test of equal numbers holds
+pub same-yes : (a b : ℕ) → a ≡ b → (a == b) ≡ true
+same-yes a b e = grind (arith, nat_tests)
+
+-- the test of different numbers fails
+pub same-no : (a b : ℕ) → a ≢ b → (a == b) ≡ false
+same-no a b e = grind (arith, nat_tests)
+
+-- the test of a smaller number holds
+pub less-yes : (a b : ℕ) → a < b → nat_lt a b ≡ true
+less-yes a b e = grind (arith, nat_tests)
+
+-- the test of one that is not smaller fails
+pub less-no : (a b : ℕ) → b ≤ a → nat_lt a b ≡ false
+less-no a b e = grind (arith, nat_tests)
