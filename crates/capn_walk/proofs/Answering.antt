@@ -23,7 +23,7 @@ module _ (m : List (List ℕ)) (base : ℕ) where
   all-below (Ok (targets.Content s start shape pads)) vs h = h
   all-below (Err e) vs h = h
 
-  all-at_root : (depth : ℕ) → AllPay (root_visits m base depth) → AllPay (visits m base depth root)
+  pub all-at_root : (depth : ℕ) → AllPay (root_visits m base depth) → AllPay (visits m base depth root)
   unfolding root_visits
   all-at_root depth h = all-below (target m root) (visits m base depth root) h
 

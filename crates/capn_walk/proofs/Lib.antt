@@ -6,6 +6,9 @@ pub mod Near
 pub mod Reading
 pub mod Room
 pub mod UnderWay
+pub mod Filling
+pub mod RootIndexes
+pub mod Readable
 pub mod CapsMet
 pub mod Exists
 pub mod RootSurveys

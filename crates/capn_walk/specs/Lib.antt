@@ -15,3 +15,5 @@ pub mod Shown
 pub mod Ways
 pub mod Laws
 pub mod Told
+pub mod Index
+pub mod Indexing

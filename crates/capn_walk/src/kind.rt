@@ -55,7 +55,8 @@ pub fn kind_of(target: Target) -> Kind
 }
 
 /// The kind of a list of elements of that width.
-fn kind_of_list(width: Width) -> Kind
+#[inline(always)]
+pub fn kind_of_list(width: Width) -> Kind
     ensures { result ≡ seen.kind_of_list width }
 {
     match width {

@@ -6,6 +6,7 @@ ghost use Rattle.capn_value.specs.Tree.{Tree};
 ghost use Rattle.capn_walk.specs.declared.target.Target.{Target};
 ghost use Rattle.capn_walk.specs.Laws as laws;
 ghost use Rattle.capn_walk.specs.Shown.{ViewsShow};
+ghost use Rattle.capn_walk.specs.Index.{IndexesAreReadable, IndexesFollowVisits};
 
 /// A view of a slot shows the value that stands there.
 pub fn views_show_values()
@@ -40,4 +41,11 @@ pub fn verdicts()
     ensures decided { laws.Decided }
     ensures one { laws.StopsAreOne }
     ensures their_words { laws.RefusedForTheirWords }
+{}
+
+/// The index of an accepted message begins with its root. Each entry's content lies inside its segment, and the entries
+/// of its slots stand behind it, a span apart, each with what that slot names. They are those of the visits, in order.
+pub fn indexes()
+    ensures readable { IndexesAreReadable }
+    ensures visits { IndexesFollowVisits }
 {}

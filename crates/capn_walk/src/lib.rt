@@ -5,8 +5,9 @@
 //! - [`walk`] answers the value that a message denotes within [`Limits`], with what reading it paid, or where
 //!   and why it stopped. Each visit of a slot pays its price before its content is read, so a message that
 //!   leads in circles or shares its objects costs at most the budget.
-//! - [`survey`] tells the same price and refusal and makes no tree; [`View`] goes from one object to those below it,
-//!   and pays from a [`Meter`] for each.
+//! - [`survey`] tells the same price and refusal and makes no tree; [`index`] and [`index_into`] tell it with an entry
+//!   for each slot that was visited, by which the message can be read in place with no further test.
+//! - [`View`] goes from one object to those below it, and pays from a [`Meter`] for each.
 //!
 //! All take any `Space`: a bare segment, a framed message, one that owns its segments.
 //!
@@ -19,8 +20,10 @@
 
 mod content;
 mod digits;
+mod entry;
 mod found;
 mod frame;
+mod indexing;
 mod kind;
 pub mod laws;
 mod limits;
@@ -39,6 +42,8 @@ mod visiting;
 mod walked;
 mod walking;
 
+pub use entry::{Entry, Index, Indexed};
+pub use indexing::{index, index_into};
 pub use kind::Kind;
 pub use limits::Limits;
 pub use meter::Meter;

@@ -119,7 +119,7 @@ fn stopped(fault: Fault, place: Place, paid: u32, visits: u32) -> Stopped
 
 /// The words of a segment, where those of another, or the same, are known.
 #[inline(always)]
-fn size_of<S: Space>(space: &S, segment: u32, known: u32, size: u32) -> u32
+pub fn size_of<S: Space>(space: &S, segment: u32, known: u32, size: u32) -> u32
     requires { size ≡ length (segment_at (S.message space.now) known) }
     ensures { result ≡ length (segment_at (S.message space.now) segment) }
 {

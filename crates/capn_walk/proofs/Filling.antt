@@ -1,0 +1,268 @@
+-- What an index knows while it is under way.
+use Rattle.std.proofs.Common.{◌≡◌, ◌≢◌, ◌⊎◌, inl, inr, ℕ, zero, suc, ◌+◌, ◌-◌, ◌<◌, ◌≤◌, List, [], ◌∷◌, ◌++◌, length}
+use Rattle.std.proofs.Common.{set, slice_index_or, Result, Ok, Err, refl, ap, ap₂, sym, ◌∙◌, arith, length-append}
+use Rattle.std.specs.List.{flat_map}
+use Rattle.capn_words.specs.declared.space.Place.{Place}
+use Rattle.capn_walk.specs.declared.entry.Entry.{Entry}
+use Rattle.capn_walk.specs.declared.target.Target.{Target}
+use Rattle.capn_walk.specs.declared.target.Target.TheVariants as targets
+use Rattle.capn_walk.specs.declared.target.Shape.TheVariants as shapes
+use Rattle.capn_walk.specs.declared.target.Fault.{Fault}
+use Rattle.capn_walk.specs.declared.target.Fault.TheVariants as faults
+use Rattle.capn_walk.specs.declared.walked.Stopped.{Stopped}
+use Rattle.capn_walk.specs.Target.{target}
+use Rattle.capn_walk.specs.Visits.{Visit, pays, slots, visits, visit, last_visit}
+use Rattle.capn_walk.specs.Verdict.{Gives, Refuses, accepted, refused, after, judge}
+use Rattle.capn_walk.specs.Viewed.{slots_below}
+use Rattle.capn_walk.specs.Index.{entry_of, entered, entries_by, entries, entries_of}
+use Rattle.capn_walk.specs.Indexing.{laid, respan, IsLaid}
+use Rattle.capn_walk.specs.Laws.Judge.{judge-more, judge-stops, judge-pays, after-after, after-none}
+
+-- ---- a room
+
+-- entries behind entries
+pub laid-append : (i : ℕ) (xs ys room : List Entry) → laid i (xs ++ ys) room ≡ laid (i + length xs) ys (laid i xs room)
+laid-append i [] ys room = let z : i + 0 ≡ i = omega arith in rw z refl
+laid-append i (x ∷ xs) ys room =
+    let e : i + suc (length xs) ≡ suc i + length xs = omega arith in
+    rw e (laid-append (suc i) xs ys (set room i x))
+
+-- a span may be set before those entries behind it are put, or after them
+respan-swap : (room : List Entry) (i j n : ℕ) (a : Entry) → i ≢ j
+    → respan (set room j a) i n ≡ set (respan room i n) j a
+respan-swap [] i j n a h = refl
+respan-swap (x ∷ room) zero zero n a h = absurd (h refl)
+respan-swap (x ∷ room) zero (suc j) n a h = refl
+respan-swap (x ∷ room) (suc i) zero n a h = refl
+respan-swap (x ∷ room) (suc i) (suc j) n a h =
+    ap (λ (r : List Entry). x ∷ r) (respan-swap room i j n a (λ e. h (ap suc e)))
+
+respan-laid : (es : List Entry) (i k n : ℕ) (room : List Entry) → k < i
+    → respan (laid i es room) k n ≡ laid i es (respan room k n)
+respan-laid [] i k n room h = refl
+respan-laid (x ∷ es) i k n room h =
+    let other : k ≢ i = omega arith in
+    respan-laid es (suc i) k n (set room i x) (omega arith) ∙ ap (laid (suc i) es) (respan-swap room k i n x other)
+
+respanned : (t : Target) (k n : ℕ) → record (entry_of t k) { span = n } ≡ entry_of t n
+respanned targets.Nil k n = refl
+respanned (targets.Cap c) k n = refl
+respanned (targets.Content s start (shapes.Node a b) pads) k n = refl
+respanned (targets.Content s start (shapes.Many width c) pads) k n = refl
+respanned (targets.Content s start (shapes.Rows c a b span) pads) k n = refl
+
+respan-set : (room : List Entry) (i k n : ℕ) (t : Target)
+    → respan (set room i (entry_of t k)) i n ≡ set room i (entry_of t n)
+respan-set [] i k n t = refl
+respan-set (x ∷ room) zero k n t = ap (λ (e : Entry). e ∷ room) (respanned t k n)
+respan-set (x ∷ room) (suc i) k n t = ap (λ (r : List Entry). x ∷ r) (respan-set room i k n t)
+
+pub respan-front : (es : List Entry) (i k n : ℕ) (room : List Entry) (t : Target)
+    → respan (laid (i + 1) es (set room i (entry_of t k))) i n ≡ laid i (entry_of t n ∷ es) room
+respan-front es i k n room t =
+    let s : i + 1 ≡ suc i = omega arith in
+    ap (λ (c : ℕ). respan (laid c es (set room i (entry_of t k))) i n) s
+    ∙ respan-laid es (suc i) i n (set room i (entry_of t k)) (omega arith)
+    ∙ ap (laid (suc i) es) (respan-set room i k n t)
+
+-- what setting a span does, by the index
+pub respan-inside : (room : List Entry) (i n : ℕ) (d : Entry) → i < length room
+    → respan room i n ≡ set room i (record (slice_index_or room i d) { span = n })
+respan-inside [] i n d h = absurd (omega arith)
+respan-inside (x ∷ room) zero n d h = refl
+respan-inside (x ∷ room) (suc i) n d h = ap (λ (r : List Entry). x ∷ r) (respan-inside room i n d (omega arith))
+
+pub respan-outside : (room : List Entry) (i n : ℕ) → length room ≤ i → respan room i n ≡ room
+respan-outside [] i n h = refl
+respan-outside (x ∷ room) zero n h = absurd (omega arith)
+respan-outside (x ∷ room) (suc i) n h = ap (λ (r : List Entry). x ∷ r) (respan-outside room i n (omega arith))
+
+-- ---- the entries of a slot by its target
+
+abbrev nothing : Place → List Entry
+nothing p = []
+
+none-of : (ps : List Place) → flat_map nothing ps ≡ []
+none-of [] = refl
+none-of (p ∷ ps) = none-of ps
+
+module _ (m : List (List ℕ)) where
+  pub entries-leaf : (d : ℕ) (at : Place) (t : Target) → target m at ≡ Ok t → slots_below t ≡ []
+      → entries m d at ≡ entry_of t 1 ∷ []
+  unfolding entries
+  entries-leaf zero at t e z =
+      ap (entries_by m nothing) e ∙ ap (λ (es : List Entry). entered t es) (none-of (slots_below t))
+  entries-leaf (suc d) at t e z = ap (entries_by m (entries m d)) e
+      ∙ ap (λ (ps : List Place). entered t (flat_map (entries m d) ps)) z
+
+  pub entries-object : (d : ℕ) (at : Place) (t : Target) → target m at ≡ Ok t → 0 < d
+      → entries m d at ≡ entered t (entries_of m (d - 1) (slots_below t))
+  unfolding entries
+  entries-object zero at t e h = absurd (omega arith)
+  entries-object (suc d) at t e h =
+      let f : suc d - 1 ≡ d = omega arith in
+      ap (entries_by m (entries m d)) e ∙ ap (λ (c : ℕ). entered t (entries_of m c (slots_below t))) (sym f)
+
+  -- ---- as many entries as visits
+
+  same-lengths : (f : Place → List Entry) (g : Place → List Visit) → ((p : Place) → length (f p) ≡ length (g p))
+      → (ps : List Place) → length (flat_map f ps) ≡ length (flat_map g ps)
+  same-lengths f g h [] = refl
+  same-lengths f g h (p ∷ ps) =
+      length-append (f p) (flat_map f ps) ∙ ap₂ (λ (a b : ℕ). a + b) (h p) (same-lengths f g h ps)
+      ∙ sym (length-append (g p) (flat_map g ps))
+
+  module _ (base : ℕ) where
+    one-last : (at : Place) (r : Result Target Fault)
+        → length (entries_by m nothing r) ≡ length (last_visit m base at r)
+    one-last at (Ok targets.Nil) = refl
+    one-last at (Ok (targets.Cap k)) = refl
+    one-last at (Ok (targets.Content s start shape pads)) =
+        ap (λ (es : List Entry). suc (length es)) (none-of (slots s start shape))
+    one-last at (Err e) = refl
+
+    as-many-by : (f : Place → List Entry) (g : Place → List Visit) → ((p : Place) → length (f p) ≡ length (g p))
+        → (at : Place) (r : Result Target Fault) → length (entries_by m f r) ≡ length (visit m base g at r)
+    as-many-by f g h at (Ok targets.Nil) = refl
+    as-many-by f g h at (Ok (targets.Cap k)) = refl
+    as-many-by f g h at (Ok (targets.Content s start shape pads)) = ap suc (same-lengths f g h (slots s start shape))
+    as-many-by f g h at (Err e) = refl
+
+    -- a slot has as many entries as visits
+    pub as-many-entries : (d : ℕ) (at : Place) → length (entries m d at) ≡ length (visits m base d at)
+    unfolding entries visits
+    as-many-entries zero at = one-last at (target m at)
+    as-many-entries (suc d) at = as-many-by (entries m d) (visits m base d) (as-many-entries d) at (target m at)
+
+-- ---- visits under way: some are made, and the others are to come
+
+module _ (left : ℕ) (vs : List Visit) (n : ℕ) where
+  pub record IsOnWay (coming : List Visit) (owed paid visits : ℕ) : Type 0 where
+    pub is : judge left vs ≡ after paid visits (judge (left - paid) coming)
+    pub within : paid ≤ left
+    pub few : visits + owed ≤ paid + n
+
+  pub way-ends : (o p k : ℕ) → IsOnWay [] o p k → Gives left vs n p k
+  way-ends o p k u =
+      let a : p + 0 ≡ p = omega arith in
+      let b : k + 0 ≡ k = omega arith in
+      record {
+        is = u.is ∙ ap₂ accepted a b;
+        within = u.within;
+        few = let h = u.few in omega arith;
+      }
+
+  -- one more slot is accepted
+  way-next : (here rest : List Visit) (o p k q j : ℕ) → IsOnWay (here ++ rest) (o + 1) p k
+      → Gives (left - p) here 1 q j → IsOnWay rest o (p + q) (k + j)
+  way-next here rest o p k q j u g =
+      let z : left - p - q ≡ left - (p + q) = omega arith in
+      record {
+        is = u.is ∙ ap (after p k) (judge-more (left - p) here rest q j g.is)
+            ∙ after-after p k q j (judge (left - p - q) rest)
+            ∙ ap (λ (c : ℕ). after (p + q) (k + j) (judge c rest)) z;
+        within = let a = u.within in let b = g.within in omega arith;
+        few = let a = u.few in let b = g.few in omega arith;
+      }
+
+  pub way-takes : (whole here rest : List Visit) (owes o p k q j : ℕ) → whole ≡ here ++ rest → owes ≡ o + 1
+      → IsOnWay whole owes p k → Gives (left - p) here 1 q j → IsOnWay rest o (p + q) (k + j)
+  way-takes whole here rest owes o p k q j e f u g =
+      let v = rw (e, f) at u in
+      way-next here rest o p k q j v g
+
+  -- one is refused
+  way-stops : (here rest : List Visit) (o p k : ℕ) (t : Stopped) → IsOnWay (here ++ rest) (o + 1) p k
+      → Refuses (left - p) here 1 t
+      → Refuses left vs n (record { fault = t.fault; place = t.place; paid = p + t.paid; visits = k + t.visits })
+  way-stops here rest o p k t u r = record {
+    is = elim r.is as (λ _. (t.fault ≡ faults.Memory)
+        ⊎ (judge left vs ≡ refused t.fault t.place (p + t.paid) (k + t.visits))) [
+          | inl x ↦ inl x
+          | inr is ↦ inr (u.is ∙ ap (after p k) (judge-stops (left - p) here rest t.fault t.place t.paid t.visits is))
+        ];
+    within = let a = u.within in let b = r.within in omega arith;
+    few = let a = u.few in let b = r.few in omega arith;
+  }
+
+  pub way-refuses : (whole here rest : List Visit) (owes o p k : ℕ) (t : Stopped) → whole ≡ here ++ rest
+      → owes ≡ o + 1 → IsOnWay whole owes p k → Refuses (left - p) here 1 t
+      → Refuses left vs n (record { fault = t.fault; place = t.place; paid = p + t.paid; visits = k + t.visits })
+  way-refuses whole here rest owes o p k t e f u r =
+      let v = rw (e, f) at u in
+      way-stops here rest o p k t v r
+
+pub way-begins : (left : ℕ) (vs : List Visit) (n : ℕ) → IsOnWay left vs n vs n 0 0
+way-begins left vs n =
+    let z : left - 0 ≡ left = omega arith in
+    record {
+      is = sym (after-none (judge left vs)) ∙ ap (λ (c : ℕ). after 0 0 (judge c vs)) (sym z);
+      within = omega arith;
+      few = omega arith;
+    }
+
+-- ---- an object
+
+module _ (left p : ℕ) (at : Place) (vs : List Visit) (n : ℕ) (fits : p ≤ left) (few : n ≤ p) where
+  -- it is accepted where its slots are
+  pub object-gives : (q j : ℕ) → Gives (left - p) vs n q j → Gives left (pays at p ∷ vs) 1 (p + q) (1 + j)
+  object-gives q j g = record {
+    is = judge-pays left p at vs fits ∙ ap (after p 1) g.is;
+    within = let a = g.within in omega arith;
+    few = let a = g.few in omega arith;
+  }
+
+  -- and refused where one of them is
+  pub object-refuses : (t : Stopped) → Refuses (left - p) vs n t
+      → Refuses left (pays at p ∷ vs) 1 (record t { paid = p + t.paid; visits = 1 + t.visits })
+  object-refuses t r = record {
+    is = elim r.is as (λ _. (t.fault ≡ faults.Memory)
+        ⊎ (judge left (pays at p ∷ vs) ≡ refused t.fault t.place (p + t.paid) (1 + t.visits))) [
+          | inl x ↦ inl x
+          | inr is ↦ inr (judge-pays left p at vs fits ∙ ap (after p 1) is)
+        ];
+    within = let a = r.within in omega arith;
+    few = let a = r.few in omega arith;
+  }
+
+-- one with no slots
+pub leaf-gives : (left p : ℕ) (at : Place) → p ≤ left → Gives left (pays at p ∷ []) 1 p 1
+leaf-gives left p at fits =
+    let z : p + 0 ≡ p = omega arith in
+    record {
+      is = judge-pays left p at [] fits ∙ ap (λ (c : ℕ). accepted c 1) z;
+      within = fits;
+      few = omega arith;
+    }
+
+-- ---- entries under way: of all, some are put, and the others are to come
+
+module _ (whole here rest : List Entry) (e : whole ≡ here ++ rest) (i k j : ℕ) (old new : List Entry)
+    (h : IsLaid here (i + k) old new j) where
+  pub room-takes : laid (i + k) whole old ≡ laid (i + (k + j)) rest new
+  room-takes =
+      let c = h.count in
+      let n : i + k + length here ≡ i + (k + j) = omega arith in
+      ap (λ (es : List Entry). laid (i + k) es old) e ∙ laid-append (i + k) here rest old
+      ∙ ap₂ (λ (x : ℕ) (r : List Entry). laid x rest r) n (sym h.is)
+
+  pub count-takes : (all : ℕ) → all ≡ k + length whole → all ≡ k + j + length rest
+  count-takes all a =
+      let c = h.count in
+      let n = ap length e ∙ length-append here rest in
+      omega arith
+
+-- an object's entry is put before those of its slots, and has its span once these are there
+module _ (es : List Entry) (t : Target) (below : List Entry) (e : es ≡ entered t below) (i j : ℕ)
+    (old first mid new : List Entry) (q : first ≡ set old i (entry_of t 1)) (h : IsLaid below (i + 1) first mid j)
+    (p : new ≡ respan mid i (1 + j)) where
+  pub object-laid : IsLaid es i old new (1 + j)
+  object-laid =
+      let c = h.count in
+      record {
+        is = p ∙ ap (λ (r : List Entry). respan r i (1 + j)) (h.is ∙ ap (laid (i + 1) below) q)
+            ∙ respan-front below i 1 (1 + j) old t
+            ∙ ap (λ (n : ℕ). laid i (entry_of t (1 + n) ∷ below) old) (sym c)
+            ∙ ap (λ (xs : List Entry). laid i xs old) (sym e);
+        count = let n : length es ≡ suc (length below) = ap length e in omega arith;
+      }

@@ -1,0 +1,66 @@
+-- An index of a whole message.
+use Rattle.std.proofs.Common.{◌≡◌, ◌⊎◌, inl, inr, true, ℕ, suc, ◌<◌, List, [], ◌∷◌, length, set}
+use Rattle.std.proofs.Common.{Ok, Err, refl, ap, sym, ◌∙◌}
+use Rattle.capn_words.specs.Message.{segment_at}
+use Rattle.capn_value.specs.Sizes.{base}
+use Rattle.capn_walk.specs.declared.entry.Entry.{Entry}
+use Rattle.capn_walk.specs.declared.entry.Indexed.{Indexed}
+use Rattle.capn_walk.specs.declared.target.Target.{Target}
+use Rattle.capn_walk.specs.declared.target.Fault.TheVariants as faults
+use Rattle.capn_walk.specs.declared.walked.Stopped.{Stopped}
+use Rattle.capn_walk.specs.Target.{target}
+use Rattle.capn_walk.specs.Visits.{Visit, visits}
+use Rattle.capn_walk.specs.Verdict.{judge}
+use Rattle.capn_walk.specs.Stops.{root, may_be_root}
+use Rattle.capn_walk.specs.Accepted.{IsRefused, visits_within}
+use Rattle.capn_walk.specs.Limits.{Bounds}
+use Rattle.capn_walk.specs.Index.{entries, filled, IsIndexed}
+use Rattle.capn_walk.specs.Indexing.{laid, Indexes}
+use Rattle.capn_walk.specs.Laws.Stops.{accepted-within}
+use Rattle.capn_walk.proofs.RootWalks.{from-root, refused-below}
+use Rattle.capn_walk.proofs.Filling.{as-many-entries}
+
+-- ---- a room that is filled from its front
+
+laid-nothing : (i : ℕ) (es : List Entry) → laid i es [] ≡ []
+laid-nothing i [] = refl
+laid-nothing i (e ∷ es) = laid-nothing (suc i) es
+
+laid-behind : (i : ℕ) (es room : List Entry) (x : Entry) → laid (suc i) es (x ∷ room) ≡ x ∷ laid i es room
+laid-behind i [] room x = refl
+laid-behind i (e ∷ es) room x = laid-behind (suc i) es (set room i e) x
+
+pub laid-filled : (es room : List Entry) → laid 0 es room ≡ filled es room
+laid-filled [] [] = refl
+laid-filled [] (x ∷ room) = refl
+laid-filled (e ∷ es) [] = laid-nothing 1 es
+laid-filled (e ∷ es) (x ∷ room) = laid-behind 0 es room e ∙ ap (λ (r : List Entry). e ∷ r) (laid-filled es room)
+
+module _ (m : List (List ℕ)) (limits : Bounds) (some : 0 < length (segment_at m 0)) (t : Target)
+    (e : target m root ≡ Ok t) (kind : may_be_root t ≡ true) where
+  pub indexed : (old new : List Entry) (told : Indexed)
+      → Indexes limits.budget (visits m (base limits.tariff) limits.depth root) 1 (entries m limits.depth root) 0 old
+      new (Ok told) → IsIndexed m limits old new told
+  indexed old new told (g, h) =
+      let same = from-root m (base limits.tariff) limits.depth t e kind in
+      let (w, p, k) =
+      accepted-within limits.budget (visits_within m limits) told.paid told.visits (ap (judge limits.budget) same
+      ∙ g.is) in
+      record {
+        accepted = record { some = some; within = w };
+        entries = h.is ∙ laid-filled (entries m limits.depth root) old;
+        pays = p;
+        counts = k;
+        each = as-many-entries m (base limits.tariff) limits.depth root
+            ∙ ap (λ (vs : List Visit). length vs) (sym same);
+      }
+
+  pub unindexed : (old new : List Entry) (s : Stopped)
+      → Indexes limits.budget (visits m (base limits.tariff) limits.depth root) 1 (entries m limits.depth root) 0 old
+      new (Err s) → IsRefused m limits s.fault s.place s.paid s.visits
+  unindexed old new s (r, other) = but (refused-below m limits some t e kind s r)
+    where
+      but : (s.fault ≡ faults.Memory) ⊎ IsRefused m limits s.fault s.place s.paid s.visits
+          → IsRefused m limits s.fault s.place s.paid s.visits
+      but (inl x) = absurd (other x)
+      but (inr is) = is

@@ -1,0 +1,147 @@
+-- The index of a message: an entry for each slot that its walk visits, in the order of the visits.
+use Rattle.std.specs.Prelude.{◌≡◌, ℕ, zero, suc, ◌+◌, ◌*◌, ◌<◌, ◌≤◌, List, [], ◌∷◌, ◌++◌, length, take, drop}
+use Rattle.std.specs.Prelude.{get_or, map, Result, Ok, Err}
+use Rattle.std.specs.List.{flat_map}
+use Rattle.capn_words.specs.declared.space.Place.{Place}
+use Rattle.capn_words.specs.declared.pointer.Width.{Width}
+use Rattle.capn_words.specs.declared.pointer.Width.TheVariants.{W0, W1, W8, W16, W32, W64, Link, Rows}
+use Rattle.capn_walk.specs.declared.entry.Entry.{Entry}
+use Rattle.capn_walk.specs.declared.entry.Indexed.{Indexed}
+use Rattle.capn_walk.specs.declared.target.Target.{Target}
+use Rattle.capn_walk.specs.declared.target.Target.TheVariants as targets
+use Rattle.capn_walk.specs.declared.target.Shape.TheVariants as shapes
+use Rattle.capn_walk.specs.declared.target.Fault.{Fault}
+use Rattle.capn_walk.specs.declared.kind.Kind.{Kind}
+use Rattle.capn_walk.specs.declared.kind.Kind.TheVariants as kinds
+use Rattle.capn_walk.specs.Target.{target}
+use Rattle.capn_walk.specs.Stops.{root}
+use Rattle.capn_walk.specs.Visits.{Visit, pays, fails}
+use Rattle.capn_walk.specs.Accepted.{IsAccepted, visits_within, paid, number_of_visits}
+use Rattle.capn_walk.specs.Limits.{Bounds}
+use Rattle.capn_walk.specs.Viewed.{slots_below, kind_of_list, IsInMessage}
+
+-- what an entry says of what a pointer names, with the number of entries that the slot takes
+abbrev pub entry_of : Target → ℕ → Entry
+entry_of targets.Nil n =
+    record { start = 0; segment = 0; count = 0; span = n; words = 0; slots = 0; kind = kinds.Nil }
+entry_of (targets.Cap k) n =
+    record { start = 0; segment = 0; count = k; span = n; words = 0; slots = 0; kind = kinds.Cap }
+entry_of (targets.Content s start (shapes.Node a b) pads) n =
+    record { start = start; segment = s; count = 0; span = n; words = a; slots = b; kind = kinds.Node }
+entry_of (targets.Content s start (shapes.Many width c) pads) n =
+    record { start = start; segment = s; count = c; span = n; words = 0; slots = 0; kind = kind_of_list width }
+entry_of (targets.Content s start (shapes.Rows c a b span) pads) n =
+    record { start = start; segment = s; count = c; span = n; words = a; slots = b; kind = kinds.Rows }
+
+-- the entry of a slot, in front of those of the slots below it
+abbrev pub entered : Target → List Entry → List Entry
+entered found below = entry_of found (1 + length below) ∷ below
+
+module _ (message : List (List ℕ)) where
+  -- the entries of a slot by its target, and of what is below it (an accepted message has no slot that names nothing)
+  abbrev pub entries_by : (Place → List Entry) → Result Target Fault → List Entry
+  entries_by below (Ok found) = entered found (flat_map below (slots_below found))
+  entries_by below (Err e) = entered targets.Nil []
+
+  -- at most d objects deep
+  unfoldable pub entries : ℕ → Place → List Entry
+  entries zero at = entries_by (λ p. []) (target message at)
+  entries (suc d) at = entries_by (entries d) (target message at)
+
+  -- those of several slots, one after the other
+  abbrev pub entries_of : ℕ → List Place → List Entry
+  entries_of d ps = flat_map (entries d) ps
+
+-- the index of a message, as deep as the limits go
+abbrev pub index_of : List (List ℕ) → Bounds → List Entry
+index_of message limits = entries message limits.depth root
+
+-- the room has the first entries, as many as go into it, and behind them what it had
+abbrev pub filled : List Entry → List Entry → List Entry
+filled es room = take (length room) es ++ drop (length es) room
+
+-- the message is accepted, the room has its index, and what its walk pays and visits is told
+pub record IsIndexed (message : List (List ℕ)) (limits : Bounds) (old new : List Entry) (t : Indexed) : Type 0 where
+  pub accepted : IsAccepted message limits
+  pub entries : new ≡ filled (index_of message limits) old
+  pub pays : t.paid ≡ paid message limits
+  pub counts : t.visits ≡ number_of_visits message limits
+  pub each : length (index_of message limits) ≡ number_of_visits message limits
+
+-- ---- what a reader of an index needs
+
+-- a list of elements of one width, from a word on
+abbrev pub elements : Entry → Width → Target
+elements e width = targets.Content e.segment e.start (shapes.Many width e.count) 0
+
+-- what an entry says that its slot names, by its kind
+abbrev pub by_kind : Kind → Entry → Target
+by_kind kinds.Nil e = targets.Nil
+by_kind kinds.Cap e = targets.Cap e.count
+by_kind kinds.Node e = targets.Content e.segment e.start (shapes.Node e.words e.slots) 0
+by_kind kinds.Rows e =
+    targets.Content e.segment e.start (shapes.Rows e.count e.words e.slots (e.count * (e.words + e.slots))) 0
+by_kind kinds.Voids e = elements e W0
+by_kind kinds.Bits e = elements e W1
+by_kind kinds.Bytes e = elements e W8
+by_kind kinds.Pairs e = elements e W16
+by_kind kinds.Quads e = elements e W32
+by_kind kinds.Octs e = elements e W64
+by_kind kinds.Links e = elements e Link
+
+abbrev pub entry_target : Entry → Target
+entry_target e = by_kind e.kind e
+
+-- what an entry keeps of a target: all but its landing pads, and the words that a composite list has beside its rows
+-- (no target is a list of the width of rows)
+abbrev pub kept : Target → Target
+kept (targets.Content s start (shapes.Rows c a b span) pads) =
+    targets.Content s start (shapes.Rows c a b (c * (a + b))) 0
+kept (targets.Content s start (shapes.Many Rows c) pads) = targets.Content s start (shapes.Rows c 0 0 (c * (0 + 0))) 0
+kept (targets.Content s start shape pads) = targets.Content s start shape 0
+kept found = found
+
+-- the same of a slot, where it names anything
+abbrev pub kept_of : Result Target Fault → Result Target Fault
+kept_of (Ok found) = Ok (kept found)
+kept_of (Err e) = Err e
+
+-- the entry at an index
+abbrev pub entry_at : List Entry → ℕ → Entry
+entry_at es i = get_or es i (entry_of targets.Nil 1)
+
+-- the slots of the object at entry i
+abbrev pub slots_at : List Entry → ℕ → List Place
+slots_at es i = slots_below (entry_target (entry_at es i))
+
+-- the entry of the slot that is j slots behind that of entry i, each one a span on
+abbrev pub beside : List Entry → ℕ → ℕ → ℕ
+beside es i zero = i
+beside es i (suc j) = beside es (i + (entry_at es i).span) j
+
+-- an entry of an index: its content lies inside its segment; the entries of its slots are, from the next entry on, one
+-- beside the other, each with what that slot names; and behind the last of them its own span ends
+pub record IsReadable (message : List (List ℕ)) (es : List Entry) (i : ℕ) : Type 0 where
+  pub inside : IsInMessage message (entry_target (entry_at es i))
+  pub below : (j : ℕ) → j < length (slots_at es i) → (beside es (i + 1) j < i + (entry_at es i).span)
+      × (kept_of (target message (get_or (slots_at es i) j root))
+      ≡ Ok (entry_target (entry_at es (beside es (i + 1) j))))
+  pub span : beside es (i + 1) (length (slots_at es i)) ≡ i + (entry_at es i).span
+  pub within : i + (entry_at es i).span ≤ length es
+
+-- the index of an accepted message begins with its root, and each of its entries can be read
+abbrev pub IndexesAreReadable : Type 0
+IndexesAreReadable = (message : List (List ℕ)) (limits : Bounds) → IsAccepted message limits
+    → (kept_of (target message root) ≡ Ok (entry_target (entry_at (index_of message limits) 0)))
+    × ((i : ℕ) → i < length (index_of message limits) → IsReadable message (index_of message limits) i)
+
+-- where a visit was made
+abbrev pub place_of : Visit → Place
+place_of (pays at n) = at
+place_of (fails at e) = at
+
+-- the entries of an accepted message are those of its visits, one for one: each says what its visit's place names
+abbrev pub IndexesFollowVisits : Type 0
+IndexesFollowVisits = (message : List (List ℕ)) (limits : Bounds) → IsAccepted message limits
+    → map (λ e. Ok (entry_target e)) (index_of message limits)
+    ≡ map (λ v. kept_of (target message (place_of v))) (visits_within message limits)

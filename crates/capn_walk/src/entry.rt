@@ -1,0 +1,129 @@
+//! What an index of a message has for each slot.
+
+ghost use Rattle.std.specs.Prelude.{◌≡◌};
+ghost use Rattle.capn_walk.specs.Index.{entry_of};
+ghost use Rattle.capn_walk.specs.declared.target.Target.TheVariants.{Nil};
+
+use crate::kind::{Kind, kind_of_list};
+use crate::target::{Shape, Target};
+use std::alloc::{Allocator, Global};
+use std::mem::size_of;
+
+/// A slot of a message: what its pointer names, and how many entries it takes with all below it. It takes 24 bytes.
+#[derive(Clone, Copy, Debug, PartialEq, Eq)]
+pub struct Entry {
+    /// The index of the first word of the content in its segment; of a composite list that is its tag. Else 0.
+    pub start: u32,
+    /// The index of the segment of the content, else 0.
+    pub segment: u32,
+    /// The elements of a list, the rows of a composite one, or the index of a capability; else 0.
+    pub count: u32,
+    /// Its own entry and those of all slots below it: so many entries on stands the next slot beside it.
+    pub span: u32,
+    /// The data words of a struct, or of each row of a composite list; else 0.
+    pub words: u16,
+    /// The pointers of a struct, or of each row of a composite list; else 0.
+    pub slots: u16,
+    /// The kind of what its pointer names.
+    pub kind: Kind,
+}
+
+impl Entry {
+    /// The bytes of an entry.
+    pub fn bytes() -> usize
+        ensures { result ≡ 24 }
+    {
+        size_of::<Entry>()
+    }
+
+    /// Null.
+    pub fn nil() -> Entry
+        ensures { result ≡ entry_of Nil 1 }
+    {
+        Entry::of(Target::Nil, 1)
+    }
+
+    /// The entry of a slot whose pointer names this, with so many entries.
+    #[inline(always)]
+    pub(crate) fn of(target: Target, span: u32) -> Entry
+        ensures { result ≡ entry_of target span }
+    {
+        match target {
+            Target::Nil => Entry {
+                start: 0,
+                segment: 0,
+                count: 0,
+                span,
+                words: 0,
+                slots: 0,
+                kind: Kind::Nil,
+            },
+            Target::Cap(index) => Entry {
+                start: 0,
+                segment: 0,
+                count: index,
+                span,
+                words: 0,
+                slots: 0,
+                kind: Kind::Cap,
+            },
+            Target::Content {
+                segment,
+                start,
+                shape,
+                pads: _,
+            } => match shape {
+                Shape::Node { words, slots } => Entry {
+                    start,
+                    segment,
+                    count: 0,
+                    span,
+                    words,
+                    slots,
+                    kind: Kind::Node,
+                },
+                Shape::Many { width, count } => Entry {
+                    start,
+                    segment,
+                    count,
+                    span,
+                    words: 0,
+                    slots: 0,
+                    kind: kind_of_list(width),
+                },
+                Shape::Rows {
+                    count,
+                    words,
+                    slots,
+                    span: _,
+                } => Entry {
+                    start,
+                    segment,
+                    count,
+                    span,
+                    words,
+                    slots,
+                    kind: Kind::Rows,
+                },
+            },
+        }
+    }
+}
+
+/// What an index took: the words that the walk of the message pays, and the entries that there are.
+#[derive(Clone, Copy, Debug, PartialEq, Eq)]
+pub struct Indexed {
+    /// The words paid: the sum of the prices of all visits.
+    pub paid: u32,
+    /// The number of visits, which is that of the entries, also where not all had room.
+    pub visits: u32,
+}
+
+/// The index of a message.
+#[derive(Debug, Drop)]
+pub struct Index<A: Allocator = Global> {
+    /// An entry for each slot that the walk visits, in preorder.
+    pub entries: Vec<Entry, A>,
+    /// The words paid: the sum of the prices of all visits.
+    pub paid: u32,
+}

@@ -1,0 +1,330 @@
+//! An index of a message: an entry for each slot that its walk visits, in preorder.
+
+ghost use Rattle.std.specs.Prelude.{◌≡◌, ◌⊎◌, ◌+◌, ◌<◌, ◌≤◌, ◌^◌, length, set, IfOk, IfErr, IsOk, OnOk, MatchResult};
+ghost use Rattle.capn_words.specs.Message.{segment_at, IsMessage, IsPlace};
+ghost use Rattle.capn_value.specs.Sizes.{most_cost};
+ghost use Rattle.capn_walk.specs.Target as spec;
+ghost use Rattle.capn_walk.specs.Visits.{visits, visits_of};
+ghost use Rattle.capn_walk.specs.Frames.{places_of, owed, Lies};
+ghost use Rattle.capn_walk.specs.Index.{entries, entries_of, index_of, IsIndexed};
+ghost use Rattle.capn_walk.specs.Indexing.{Indexes, respan};
+ghost use Rattle.capn_walk.specs.Accepted.{IsAccepted, IsValueOf, IsRefused, IsBounded, paid};
+ghost use Rattle.capn_value.specs.Tree.{Tree};
+ghost use Rattle.capn_walk.specs.declared.target.Fault.TheVariants.{Memory};
+
+use crate::content::segment_length;
+use crate::entry::{Entry, Index, Indexed};
+use crate::frame::Frame;
+use crate::limits::Limits;
+use crate::resolving::{near, resolve};
+use crate::step::{frame_below, price_within};
+use crate::surveying::{size_of, survey};
+use crate::target::{Fault, Target};
+use crate::walked::{Stopped, out_of_memory, stop};
+use crate::walking::{ROOT, root_target};
+use capn_words::{Place, Pointer, Space, split};
+use std::alloc::Allocator;
+
+/// Puts the entries of a message that is accepted within the limits into a room, as far as it goes, and tells how many
+/// there are, with what its walk pays.
+///
+/// It visits the slots as [`walk`] and [`survey`] do and refuses what they refuse, in the same way. It takes no memory
+/// but the stack. Where it refuses, the room has what was put before.
+pub fn index_into<S: Space>(
+    space: &S,
+    limits: Limits,
+    room: &mut [Entry],
+) -> Result<Indexed, Stopped>
+    // An answer: the message is accepted, and the room has its index, as far as it goes.
+    ensures found { IfOk result (λ t. IsIndexed (S.message space.now) limits room.old room.new t) }
+    // A message that is accepted is answered; any refusal is the first stop.
+    ensures only { IsAccepted (S.message space.now) limits → IsOk result }
+    ensures refused { IfErr result (λ s. IsRefused (S.message space.now) limits s.fault s.place s.paid s.visits) }
+    // No walk pays beyond its budget.
+    ensures bounded { MatchResult result (λ t. IsBounded limits.budget t.paid t.visits)
+        (λ s. IsBounded limits.budget s.paid s.visits) }
+{
+    let _bounds = space.segments();
+    let target = root_target(space)?;
+    let told = index_found(
+        space,
+        ROOT,
+        segment_length(space, ROOT.segment),
+        Ok(target),
+        limits.depth(),
+        limits.budget(),
+        limits.tariff().base(),
+        room,
+        0,
+    )?;
+    Ok(told)
+}
+
+/// The index of a message that is accepted within the limits, with what its walk pays.
+///
+/// It refuses what [`survey`] refuses, in the same way. `Memory` comes only where a growth was refused.
+pub fn index<S: Space, A: Allocator + Copy>(
+    alloc: A,
+    space: &S,
+    limits: Limits,
+) -> Result<Index<A>, Stopped>
+    // An answer: the message is accepted, and these are its entries and what its walk pays.
+    ensures accepted { OnOk result (IsAccepted (S.message space.now) limits) }
+    ensures entries { IfOk result (λ x. x.entries.items ≡ index_of (S.message space.now) limits) }
+    ensures pays { IfOk result (λ x. x.paid ≡ paid (S.message space.now) limits) }
+    // A message that is accepted is answered, or a growth was refused; any other refusal is the first stop.
+    ensures only { (v : Tree) → IsValueOf (S.message space.now) limits v → IfErr result (λ s. s.fault ≡ Memory) }
+    ensures refused { IfErr result (λ s.
+        (s.fault ≡ Memory)
+        ⊎ IsRefused (S.message space.now) limits s.fault s.place s.paid s.visits) }
+{
+    let told = survey(alloc, space, limits)?;
+    let Ok(mut entries) = vec![in alloc; Entry::nil(); told.visits as usize] else {
+        return Err(out_of_memory(ROOT));
+    };
+    match index_into(space, limits, &mut entries) {
+        Ok(told) => Ok(Index {
+            entries,
+            paid: told.paid,
+        }),
+        Err(stopped) => Err(stopped),
+    }
+}
+
+/// Puts an entry, where there is room for it.
+#[inline(always)]
+fn put(room: &mut [Entry], at: u32, entry: Entry)
+    ensures { room.new ≡ set room.old at entry }
+{
+    let at = at as usize;
+    if at < room.len() {
+        room[at] = entry;
+    }
+}
+
+/// Sets the span of an entry, where there was room for it.
+#[inline(always)]
+fn set_span(room: &mut [Entry], at: u32, span: u32)
+    ensures { room.new ≡ respan room.old at span }
+{
+    let at = at as usize;
+    if at < room.len() {
+        room[at].span = span;
+    }
+}
+
+/// The entries of a slot whose target is known, from an index on.
+#[cycle(indexing)]
+#[inline(always)]
+fn index_found<S: Space>(
+    space: &S,
+    at: Place,
+    size: u32,
+    found: Result<Target, Fault>,
+    depth: u32,
+    left: u32,
+    base: u32,
+    room: &mut [Entry],
+    first: u32,
+) -> Result<Indexed, Stopped>
+    requires message { IsMessage (S.message space.now) }
+    requires size { size ≡ length (segment_at (S.message space.now) at.segment) }
+    requires place { IsPlace (S.message space.now) at }
+    requires found { found ≡ spec.target (S.message space.now) at }
+    requires left { left ≤ most_cost }
+    requires fits { first + 1 + left < 2 ^ 32 }
+    ensures { Indexes left (visits (S.message space.now) base depth at) 1 (entries (S.message space.now) depth at) first
+        room.old room.new result }
+{
+    let target = match found {
+        Ok(target) => target,
+        Err(fault) => return Err(stop(fault, at)),
+    };
+    let price = match price_within(target, depth, left, base) {
+        Ok(price) => price,
+        Err(fault) => return Err(stop(fault, at)),
+    };
+    put(room, first, Entry::of(target, 1));
+    let below = frame_below(space, target);
+    if below.is_done() {
+        return Ok(Indexed {
+            paid: price,
+            visits: 1,
+        });
+    }
+    let size = size_of(space, below.segment, at.segment, size);
+    match index_frame(
+        space,
+        below,
+        size,
+        depth - 1,
+        left - price,
+        base,
+        room,
+        first + 1,
+    ) {
+        Ok(told) => {
+            let span = 1 + told.visits;
+            set_span(room, first, span);
+            Ok(Indexed {
+                paid: price + told.paid,
+                visits: span,
+            })
+        }
+        Err(stopped) => Err(stopped.behind(price, 1)),
+    }
+}
+
+/// The same of a slot whose pointer names content that stands near.
+#[cycle(indexing)]
+#[inline(always)]
+fn index_near<S: Space>(
+    space: &S,
+    at: Place,
+    size: u32,
+    pointer: Pointer,
+    depth: u32,
+    left: u32,
+    base: u32,
+    room: &mut [Entry],
+    first: u32,
+) -> Result<Indexed, Stopped>
+    requires message { IsMessage (S.message space.now) }
+    requires size { size ≡ length (segment_at (S.message space.now) at.segment) }
+    requires place { IsPlace (S.message space.now) at }
+    requires pointer { spec.near (S.message space.now) at.segment at.word 0 pointer
+        ≡ spec.target (S.message space.now) at }
+    requires left { left ≤ most_cost }
+    requires fits { first + 1 + left < 2 ^ 32 }
+    ensures { Indexes left (visits (S.message space.now) base depth at) 1 (entries (S.message space.now) depth at) first
+        room.old room.new result }
+{
+    let found = near(space, at.segment, size, at.word, 0, pointer);
+    index_found(space, at, size, found, depth, left, base, room, first)
+}
+
+/// The same of a slot, whatever it names.
+#[cycle(indexing)]
+#[inline(never)]
+fn index_elsewhere<S: Space>(
+    space: &S,
+    at: Place,
+    size: u32,
+    depth: u32,
+    left: u32,
+    base: u32,
+    room: &mut [Entry],
+    first: u32,
+) -> Result<Indexed, Stopped>
+    requires message { IsMessage (S.message space.now) }
+    requires size { size ≡ length (segment_at (S.message space.now) at.segment) }
+    requires place { IsPlace (S.message space.now) at }
+    requires left { left ≤ most_cost }
+    requires fits { first + 1 + left < 2 ^ 32 }
+    ensures { Indexes left (visits (S.message space.now) base depth at) 1 (entries (S.message space.now) depth at) first
+        room.old room.new result }
+{
+    index_found(
+        space,
+        at,
+        size,
+        resolve(space, at),
+        depth,
+        left,
+        base,
+        room,
+        first,
+    )
+}
+
+/// The same of a slot, where the words of its segment are known. Near structs and near lists have an arm each, so that
+/// each is compiled for its form alone.
+#[cycle(indexing)]
+#[inline(always)]
+fn index_slot<S: Space>(
+    space: &S,
+    at: Place,
+    size: u32,
+    depth: u32,
+    left: u32,
+    base: u32,
+    room: &mut [Entry],
+    first: u32,
+) -> Result<Indexed, Stopped>
+    requires message { IsMessage (S.message space.now) }
+    requires size { size ≡ length (segment_at (S.message space.now) at.segment) }
+    requires place { IsPlace (S.message space.now) at }
+    requires left { left ≤ most_cost }
+    requires fits { first + 1 + left < 2 ^ 32 }
+    ensures { Indexes left (visits (S.message space.now) base depth at) 1 (entries (S.message space.now) depth at) first
+        room.old room.new result }
+{
+    let word = space.word(at);
+    if word == 0 {
+        put(room, first, Entry::nil());
+        return Ok(Indexed { paid: 0, visits: 1 });
+    }
+    let pointer = split(word);
+    match pointer {
+        Pointer::Node { .. } => index_near(
+            space, at, size, pointer, depth, left, base, room, first,
+        ),
+        Pointer::Many { .. } => index_near(
+            space, at, size, pointer, depth, left, base, room, first,
+        ),
+        _ => index_elsewhere(space, at, size, depth, left, base, room, first),
+    }
+}
+
+/// The entries of so many slots, one behind the other, each with all below it.
+#[cycle(indexing)]
+#[inline(never)]
+fn index_frame<S: Space>(
+    space: &S,
+    slots: Frame,
+    size: u32,
+    depth: u32,
+    left: u32,
+    base: u32,
+    room: &mut [Entry],
+    first: u32,
+) -> Result<Indexed, Stopped>
+    requires message { IsMessage (S.message space.now) }
+    requires inside { Lies (S.message space.now) slots }
+    requires size { size ≡ length (segment_at (S.message space.now) slots.segment) }
+    requires left { left ≤ most_cost }
+    requires fits { first + owed slots + left < 2 ^ 32 }
+    ensures { Indexes left (visits_of (S.message space.now) base depth (places_of slots)) (owed slots)
+        (entries_of (S.message space.now) depth (places_of slots)) first room.old room.new result }
+{
+    let mut frame = slots;
+    let mut paid = 0u32;
+    let mut visits = 0u32;
+    'slots: loop {
+        if frame.left == 0 {
+            if frame.rows > 0 {
+                frame = frame.turned();
+                continue;
+            }
+            return Ok(Indexed { paid, visits });
+        }
+        let (at, rest) = frame.take();
+        match index_slot(
+            space,
+            at,
+            size,
+            depth,
+            left - paid,
+            base,
+            room,
+            first + visits,
+        ) {
+            Ok(told) => {
+                paid += told.paid;
+                visits += told.visits;
+                frame = rest;
+            }
+            Err(stopped) => return Err(stopped.behind(paid, visits)),
+        }
+    }
+}
