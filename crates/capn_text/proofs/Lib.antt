@@ -1,0 +1,13 @@
+pub mod Loops
+pub mod Steps
+pub mod Lexed
+pub mod Numbers
+pub mod Headed
+pub mod Showing
+pub mod Grown
+pub mod Taken
+pub mod Made
+pub mod Answered
+pub mod Counted
+pub mod Streamed
+pub mod Begun

@@ -1,0 +1,32 @@
+-- What holds of texts.
+use Rattle.std.specs.Prelude.{◌≡◌, ℕ, List, [], ◌∷◌, ◌++◌}
+use Rattle.std.specs.List.{AllByRecursion}
+use Rattle.capn_value.specs.Tree.{Tree}
+use Rattle.capn_value.specs.Fits.{Fits}
+use Rattle.capn_value.specs.InRange.{InRange}
+use Rattle.capn_value.specs.Text.{shown, show_text}
+use Rattle.capn_text.specs.Showable.{IsShowable}
+use Rattle.capn_text.specs.Streams.{end_line, stream_text}
+
+-- values whose texts begin one text are equal, and so is what stands after them: no text of a value begins another's
+abbrev pub TextsAreApart : Type 0
+TextsAreApart = (level : ℕ) (v w : Tree) (x y : List ℕ) → IsShowable v → IsShowable w
+    → shown level v ++ x ≡ shown level w ++ y → (v ≡ w) × (x ≡ y)
+
+-- a value that fits and is in range is such a value
+abbrev pub FittingIsShowable : Type 0
+FittingIsShowable = (v : Tree) → Fits v → InRange v → IsShowable v
+
+-- one text has one value that fits and is in range
+abbrev pub OneValue : Type 0
+OneValue = (v w : Tree) → Fits v → InRange v → Fits w → InRange w → show_text v ≡ show_text w → v ≡ w
+
+-- one stream of texts has one list of values
+abbrev pub OneStream : Type 0
+OneStream = (vs ws : List Tree) → AllByRecursion IsShowable vs → AllByRecursion IsShowable ws
+    → stream_text vs ≡ stream_text ws → vs ≡ ws
+
+-- a text and its end, read after a stream of texts, make it a stream with one more
+abbrev pub StreamGoesOn : Type 0
+StreamGoesOn = (vs : List Tree) (v : Tree) (rest : List ℕ)
+    → stream_text (vs ++ v ∷ []) ++ rest ≡ stream_text vs ++ (show_text v ++ (end_line ++ rest))

@@ -1,0 +1,5 @@
+pub mod Lexing
+pub mod Reading
+pub mod Showable
+pub mod Streams
+pub mod Laws

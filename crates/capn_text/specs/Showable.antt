@@ -1,0 +1,28 @@
+-- Values whose numbers a text tells: each is below what its type holds, and so is each count of what a value holds.
+use Rattle.std.specs.Prelude.{◌<◌, ◌^◌, length, ⊤}
+use Rattle.capn_value.specs.InRange.{AllBelow}
+use Rattle.capn_value.specs.Tree.{Tree, nil, node, voids, bits, bytes, pairs, quads, octs, links, rows, cap, Trees}
+use Rattle.capn_value.specs.Tree.{no_trees, tree, Bodies, no_bodies, body, count, count_rows}
+
+abbrev mutual
+  pub IsShowable : Tree → Type 0
+  IsShowable nil = ⊤
+  IsShowable (node ws ss) = (length ws < 2 ^ 64) × (count ss < 2 ^ 64) × AllBelow (2 ^ 64) ws × EachShowable ss
+  IsShowable (voids n) = n < 2 ^ 32
+  IsShowable (bits xs) = length xs < 2 ^ 64
+  IsShowable (bytes xs) = (length xs < 2 ^ 64) × AllBelow (2 ^ 8) xs
+  IsShowable (pairs xs) = (length xs < 2 ^ 64) × AllBelow (2 ^ 16) xs
+  IsShowable (quads xs) = (length xs < 2 ^ 64) × AllBelow (2 ^ 32) xs
+  IsShowable (octs xs) = (length xs < 2 ^ 64) × AllBelow (2 ^ 64) xs
+  IsShowable (links ts) = (count ts < 2 ^ 64) × EachShowable ts
+  IsShowable (rows bs) = (count_rows bs < 2 ^ 64) × RowsShowable bs
+  IsShowable (cap k) = k < 2 ^ 32
+
+  pub EachShowable : Trees → Type 0
+  EachShowable no_trees = ⊤
+  EachShowable (tree t ts) = IsShowable t × EachShowable ts
+
+  pub RowsShowable : Bodies → Type 0
+  RowsShowable no_bodies = ⊤
+  RowsShowable (body ws ss bs) =
+      (length ws < 2 ^ 64) × (count ss < 2 ^ 64) × AllBelow (2 ^ 64) ws × EachShowable ss × RowsShowable bs

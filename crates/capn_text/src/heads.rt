@@ -1,0 +1,107 @@
+//! The first line of a value.
+
+ghost use Rattle.std.specs.Prelude.{◌≡◌};
+ghost use Rattle.capn_text.specs.Lexing.{GivesIdly};
+ghost use Rattle.capn_text.specs.Reading as texts;
+
+use crate::fault::Stop;
+use crate::lexing::{decimal_at, indent_at, pass, skip};
+
+/// A value that holds no other, except null.
+#[derive(Clone, Copy)]
+pub enum Flat {
+    Voids,
+    Bits,
+    Bytes,
+    Pairs,
+    Quads,
+    Octs,
+    Cap,
+}
+
+/// What stands before a number.
+#[derive(Clone, Copy)]
+pub enum Name {
+    Links,
+    Rows,
+    Flat(Flat),
+}
+
+/// What a first line tells.
+#[derive(Clone, Copy)]
+pub enum Head {
+    Null,
+    /// Words and slots.
+    Struct(u64, u64),
+    Named(Name, u64),
+}
+
+/// The first line at the front of the text, at a level.
+#[tactic(auto, unfolding(crate::specs::Reading::head_at))]
+pub fn head_at(level: u32, text: &[u8]) -> Result<(Head, &[u8]), Stop>
+    ensures { GivesIdly (λ x. (x.0, x.1.now)) result (texts.head_at level text.now) }
+{
+    let line = indent_at(level, text)?;
+    match skip(line, b"null\n") {
+        Some(rest) => Ok((Head::Null, rest)),
+        None => match skip(line, b"struct ") {
+            Some(rest) => sizes_at(rest),
+            None => named_at(line),
+        },
+    }
+}
+
+#[tactic(auto, unfolding(crate::specs::Reading::sizes_at))]
+fn sizes_at(text: &[u8]) -> Result<(Head, &[u8]), Stop>
+    ensures { GivesIdly (λ x. (x.0, x.1.now)) result (texts.sizes_at text.now) }
+{
+    let (words, rest) = decimal_at(text)?;
+    let rest = pass(rest, b" ")?;
+    let (slots, rest) = decimal_at(rest)?;
+    let rest = pass(rest, b"\n")?;
+    Ok((Head::Struct(words, slots), rest))
+}
+
+#[tactic(auto, unfolding(crate::specs::Reading::named_at))]
+fn named_at(line: &[u8]) -> Result<(Head, &[u8]), Stop>
+    ensures { GivesIdly (λ x. (x.0, x.1.now)) result (texts.named_at line.now) }
+{
+    let (name, rest) = name_at(line)?;
+    let (number, rest) = decimal_at(rest)?;
+    let rest = pass(rest, b"\n")?;
+    Ok((Head::Named(name, number), rest))
+}
+
+#[tactic(auto, unfolding(crate::specs::Reading::name_at))]
+fn name_at(line: &[u8]) -> Result<(Name, &[u8]), Stop>
+    ensures { GivesIdly (λ x. (x.0, x.1.now)) result (texts.name_at line.now) }
+{
+    if let Some(rest) = skip(line, b"pointers ") {
+        return Ok((Name::Links, rest));
+    }
+    if let Some(rest) = skip(line, b"rows ") {
+        return Ok((Name::Rows, rest));
+    }
+    if let Some(rest) = skip(line, b"void ") {
+        return Ok((Name::Flat(Flat::Voids), rest));
+    }
+    if let Some(rest) = skip(line, b"bits ") {
+        return Ok((Name::Flat(Flat::Bits), rest));
+    }
+    if let Some(rest) = skip(line, b"bytes ") {
+        return Ok((Name::Flat(Flat::Bytes), rest));
+    }
+    if let Some(rest) = skip(line, b"u16 ") {
+        return Ok((Name::Flat(Flat::Pairs), rest));
+    }
+    if let Some(rest) = skip(line, b"u32 ") {
+        return Ok((Name::Flat(Flat::Quads), rest));
+    }
+    if let Some(rest) = skip(line, b"u64 ") {
+        return Ok((Name::Flat(Flat::Octs), rest));
+    }
+    if let Some(rest) = skip(line, b"capability ") {
+        return Ok((Name::Flat(Flat::Cap), rest));
+    }
+    Err(Stop::Left(line.len()))
+}

@@ -1,0 +1,25 @@
+//! The text of a tree, read back: the inverse of [`capn_value::show`].
+//!
+//! No grammar stands beside that text: a text is that of a tree exactly if `show` writes it for the tree. [`read`]
+//! answers the tree of a text, and refuses each other text, at the first line that goes on with no tree's. [`Texts`]
+//! reads such texts in a row, each followed by its line `end`.
+//!
+//! Memory grows with the lines that come, and never by a number that a line announces.
+#![tactic(auto)]
+
+mod contents;
+mod fault;
+mod flat;
+mod heads;
+pub mod laws;
+mod lexing;
+mod lines;
+mod reading;
+mod texts;
+
+pub use fault::TextFault;
+pub use reading::{read, read_first};
+pub use texts::Texts;
+
+#[cfg(test)]
+mod tests;

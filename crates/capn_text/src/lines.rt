@@ -1,0 +1,30 @@
+//! Lines, counted.
+
+ghost use Rattle.std.specs.Prelude.{◌≡◌, ◌+◌, ◌-◌, ◌≤◌, length, take};
+ghost use Rattle.capn_text.specs.Streams.{ended_lines};
+
+/// How many lines end within these bytes.
+#[tactic(auto, using(crate::proofs::Counted::lines_within))]
+pub fn lines_in(bytes: &[u8]) -> u64
+    ensures exact { result ≡ ended_lines bytes.now }
+    ensures within { result ≤ length bytes.now }
+{
+    let mut lines: u64 = 0;
+    let mut rest = bytes;
+    while let [c, after @ ..] = rest {
+        if *c == b'\n' {
+            lines += 1;
+        }
+        rest = after;
+    }
+    lines
+}
+
+/// The line, counted from 1, on which so many bytes of the text are left.
+#[tactic(auto, using(crate::proofs::Counted::lines_before))]
+pub fn line_of(text: &[u8], left: usize) -> u64
+    ensures exact { result ≡ ended_lines (take (length text.now - left) text.now) + 1 }
+    ensures within { result ≤ ended_lines text.now + 1 }
+{
+    lines_in(&text[..text.len().saturating_sub(left)]) + 1
+}
