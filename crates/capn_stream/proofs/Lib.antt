@@ -1,6 +1,7 @@
 pub mod Cutting
 pub mod WholeFrames
 pub mod Filling
+pub mod Came
 pub mod Waiting
 pub mod Received
 pub mod Sent

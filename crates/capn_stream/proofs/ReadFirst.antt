@@ -1,12 +1,12 @@
 -- What a read answers, of all that the reader had to give.
-use Rattle.std.proofs.Common.{◌≡◌, inl, inr, ℕ, ◌≤◌, List, [], ◌++◌, length, take, Bool}
+use Rattle.std.proofs.Common.{◌≡◌, inl, inr, ℕ, ◌<◌, ◌≤◌, List, [], ◌++◌, length, take, Bool, IsErrOf}
 use Rattle.std.proofs.Common.{Option, Some, None, IfSome, Result, Ok, Err, refl, ap, sym, subst, ◌∙◌, arith, append-nil}
 use Rattle.std.proofs.Common.{length-append}
 use Rattle.std.proofs.lemmas.List.{take_at}
 use Rattle.capn_words.specs.Message.{total}
 use Rattle.capn_stream.specs.Frames.{Frames, StandsFirst}
 use Rattle.capn_stream.specs.Reading.{IsRefused}
-use Rattle.capn_stream.specs.Receiving.{OnlyFirst, ReadGives, ReadsFirst}
+use Rattle.capn_stream.specs.Receiving.{OnlyFirst, ReadGives, ReadsFirst, StopsInside}
 use Rattle.capn_stream.specs.declared.fault.FrameFault.TheVariants as frames
 use Rattle.capn_stream.specs.declared.fault.ReadFault.{ReadFault}
 use Rattle.capn_stream.specs.declared.fault.ReadFault.TheVariants as faults
@@ -64,6 +64,23 @@ only input most (Err faults.Memory) h message taken t = inr (inl refl)
 only input most (Err faults.Io) h message taken t = inr (inr refl)
 only input most (Err (faults.Frame e)) (refused, other, some) message taken t =
     absurd (other (refused_whole input most e (whole_of input most message taken t) refused))
+
+-- what stops inside the message is what a read gives
+pub read_gives : (old new : Option (List ℕ)) (failed : Bool) (most : ℕ) (r : Result (Option (List (List ℕ))) ReadFault)
+    → StopsInside old new failed most r → ReadGives old new failed most r
+read_gives old new failed most r (bytes, received, place) = (bytes, received)
+
+-- and wants memory for bytes that are there alone
+pub wants_first : (old new : Option (List ℕ)) (failed : Bool) (most : ℕ)
+    (r : Result (Option (List (List ℕ))) ReadFault)
+    → StopsInside old new failed most r → IfSome old (λ input. IsErrOf r faults.Memory → 0 < length input)
+wants_first None new failed most r g = tt
+wants_first (Some input) None failed most r (bytes, received, place) = absurd received.read
+wants_first (Some input) (Some rest) failed most (Ok m) g = λ h. cc
+wants_first (Some input) (Some rest) failed most (Err faults.Memory) (bytes, received, place) =
+    λ h. omega (arith, place.0, ap length received.read, length-append bytes rest)
+wants_first (Some input) (Some rest) failed most (Err faults.Io) g = λ h. cc
+wants_first (Some input) (Some rest) failed most (Err (faults.Frame e)) g = λ h. cc
 
 pub reads_first : (old new : Option (List ℕ)) (most : ℕ) (failed : Bool) (r : Result (Option (List (List ℕ))) ReadFault)
     → ReadGives old new failed most r → IfSome old (ReadsFirst most r)

@@ -1,17 +1,18 @@
 -- A message from a reader.
 use Rattle.std.proofs.Common.{◌≡◌, inl, inr, ℕ, ◌+◌, ◌<◌, ◌≤◌, List, [], ◌++◌, length, take, Bool, true, false}
-use Rattle.std.proofs.Common.{Option, Some, None, Result, Ok, Err, sym, subst, ◌∙◌, arith, append-nil}
+use Rattle.std.proofs.Common.{Option, Some, None, Result, Ok, Err, ap, sym, subst, ◌∙◌, arith, append-nil}
 use Rattle.std.proofs.Common.{length-append, length-take-le}
-use Rattle.std.specs.Io.KnownBytes.{Consumes, IsAtEnd}
+use Rattle.std.specs.Io.KnownBytes.{Consumes, IsAtEnd, Keeps}
 use Rattle.std.proofs.KnownBytes.{Consumes-trans}
 use Rattle.std.proofs.lemmas.List.{take-append-le}
 use Rattle.capn_stream.specs.Frames.{Frames}
 use Rattle.capn_stream.specs.Framing.{Feeds, Framing, IsFrame, IsUnfinished, TakeGives}
-use Rattle.capn_stream.specs.Receiving.{EndGives, ReadGives, TakesIn, most_bytes}
+use Rattle.capn_stream.specs.Reading.{EndsWithin, IsRefused}
+use Rattle.capn_stream.specs.Receiving.{EndGives, StopsInside, TakesIn, most_bytes}
 use Rattle.capn_stream.specs.declared.fault.FrameFault.TheVariants as frames
 use Rattle.capn_stream.specs.declared.fault.ReadFault.{ReadFault}
 use Rattle.capn_stream.specs.declared.fault.ReadFault.TheVariants as faults
-use Rattle.capn_stream.specs.Laws.Wanting.{taken_whole}
+use Rattle.capn_stream.specs.Laws.Wanting.{many_segments_end, many_words_end, taken_whole, unfinished_within}
 
 -- bytes that were all needed were all taken
 pub takes_in : (before : Framing) (piece : List ℕ) (n : ℕ) (mid : Framing) (r : Option (List (List ℕ)))
@@ -27,14 +28,20 @@ takes_in before piece n mid None after fed needs (inr part, same) =
 takes_in before piece n mid None after fed needs (inl failed, same) = let e : true ≡ false = sym failed ∙ fed.is_good in
     cc
 
+Consumes-kept : (a b c : Option (List ℕ)) (bs : List ℕ) → Consumes a b bs → Keeps b c → Consumes a c bs
+Consumes-kept None b c bs read kept = tt
+Consumes-kept (Some xs) None c bs read kept = absurd read
+Consumes-kept (Some xs) (Some ys) None bs read kept = absurd kept
+Consumes-kept (Some xs) (Some ys) (Some zs) bs read kept = read ∙ ap (λ (ts : List ℕ). bs ++ ts) (sym kept)
+
 -- the input ended
 pub received_end : (a b : Option (List ℕ)) (rest : List ℕ) (most : ℕ) (failed : Bool)
     (r : Result (Option (List (List ℕ))) ReadFault) → EndGives rest most r → Consumes a b rest → IsAtEnd b
     → length rest ≤ most_bytes most → failed ≡ false
-    → ReadGives a b failed most r
+    → StopsInside a b failed most r
 received_end a b rest most failed (Ok (Some message)) ends read end bound fine = absurd ends
 received_end a b rest most failed (Ok None) ends read end bound fine =
-    (rest, record { read = read; bounded = bound; answer = (ends, end, fine) })
+    (rest, record { read = read; bounded = bound; answer = (ends, end, fine) }, tt)
 received_end a b rest most failed (Err faults.Memory) ends read end bound fine = absurd ends
 received_end a b rest most failed (Err faults.Io) ends read end bound fine = absurd ends
 received_end a b rest most failed (Err (faults.Frame frames.Memory)) ends read end bound fine = absurd ends
@@ -42,14 +49,25 @@ received_end a b rest most failed (Err (faults.Frame frames.Empty)) ends read en
 received_end a b rest most failed (Err (faults.Frame (frames.TooManySegments n))) ends read end bound fine = absurd ends
 received_end a b rest most failed (Err (faults.Frame (frames.TooManyWords n))) ends read end bound fine = absurd ends
 received_end a b rest most failed (Err (faults.Frame frames.Cut)) ends read end bound fine =
-    (rest, record { read = read; bounded = bound; answer = ((ends, end), fine) })
+    (rest, record { read = read; bounded = bound; answer = ((ends, end), fine) }, end)
 received_end a b rest most failed (Err (faults.Frame frames.Failed)) ends read end bound fine = absurd ends
+
+-- the reader failed
+pub received_io : (a b c : Option (List ℕ)) (rest : List ℕ) (most : ℕ) (failed : Bool) → Consumes a b rest → Keeps b c
+    → length rest ≤ most_bytes most → IsUnfinished rest most → failed ≡ true
+    → StopsInside a c failed most (Err faults.Io)
+received_io a b c rest most failed read kept bound part broken = (
+  rest,
+  record { read = Consumes-kept a b c rest read kept; bounded = bound; answer = (part, broken) },
+  unfinished_within rest most part,
+)
 
 -- bytes were read and taken
 module _ (a b c : Option (List ℕ)) (before : Framing) (buf : List ℕ) (count : ℕ) (after : Framing) (most : ℕ)
     (failed : Bool) (same : before.most ≡ most) (read : Consumes a b before.rest) (more : Consumes b c (take count buf))
     (within : count ≤ length buf)
-    (bound : length before.rest + count ≤ most_bytes most) (fine : failed ≡ false) where
+    (bound : length before.rest + count ≤ most_bytes most) (fine : failed ≡ false) (came : 0 < count)
+    (inside : EndsWithin (before.rest ++ take count buf) most) where
   both : Consumes a c (before.rest ++ take count buf)
   both = Consumes-trans a b c before.rest (take count buf) read more
 
@@ -57,24 +75,35 @@ module _ (a b c : Option (List ℕ)) (before : Framing) (buf : List ℕ) (count 
   short = omega (arith, bound, length-append before.rest (take count buf), length-take-le count buf within)
 
   pub received_some : (message : List (List ℕ)) → TakesIn before (take count buf) (Ok (Some message)) after
-      → ReadGives a c failed most (Ok (Some message))
+      → StopsInside a c failed most (Ok (Some message))
   received_some message took = (
     before.rest ++ take count buf,
     record { read = both; bounded = short; answer = (took.0, omega (arith, took.1, same), fine) },
+    tt,
   )
 
-  pub received_err : (e : ReadFault) → TakesIn before (take count buf) (Err e) after → ReadGives a c failed most (Err e)
+  some : 0 < length (before.rest ++ take count buf)
+  some = omega (arith, length-append before.rest (take count buf), length-take-le count buf within, came)
+
+  pub received_err : (e : ReadFault) → TakesIn before (take count buf) (Err e) after
+      → StopsInside a c failed most (Err e)
   received_err faults.Memory took =
-      (before.rest ++ take count buf, record { read = both; bounded = short; answer = fine })
+      (before.rest ++ take count buf, record { read = both; bounded = short; answer = fine }, (some, inside))
   received_err faults.Io took = absurd took
   received_err (faults.Frame frames.Memory) took = absurd took
   received_err (faults.Frame frames.Empty) took = absurd took
-  received_err (faults.Frame (frames.TooManySegments n)) took =
-      (before.rest ++ take count buf, record { read = both; bounded = short; answer = (took, fine) })
-  received_err (faults.Frame (frames.TooManyWords n)) took = (
+  received_err (faults.Frame (frames.TooManySegments n)) took = (
     before.rest ++ take count buf,
-    record { read = both; bounded = short; answer = ((took.0, took.1, omega (arith, took.2, same)), fine) },
+    record { read = both; bounded = short; answer = (took, fine) },
+    many_segments_end (before.rest ++ take count buf) most n inside took,
   )
+  received_err (faults.Frame (frames.TooManyWords n)) took =
+      let refused : IsRefused (before.rest ++ take count buf) most (frames.TooManyWords n) =
+      (took.0, took.1, omega (arith, took.2, same)) in (
+        before.rest ++ take count buf,
+        record { read = both; bounded = short; answer = (refused, fine) },
+        many_words_end (before.rest ++ take count buf) most n inside refused,
+      )
   received_err (faults.Frame frames.Cut) took = absurd took
   received_err (faults.Frame frames.Failed) took = absurd took
 

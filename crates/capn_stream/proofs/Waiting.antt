@@ -10,7 +10,7 @@ use Rattle.capn_stream.specs.Cuts.{AreEnds, cut}
 use Rattle.capn_stream.specs.Frames.{Frames, StandsFirst}
 use Rattle.capn_stream.specs.Framing.{FeedGives, IsFrame, IsUnfinished, TakeGives}
 use Rattle.capn_stream.specs.Reading.{IsWhole, announced_segments, announced_words, frame_length, head_length}
-use Rattle.capn_stream.specs.Stages.{Fills, IsDone, IsStage, IsStop, Knows, Rests, announced_ends}
+use Rattle.capn_stream.specs.Stages.{Fills, IsDone, IsStage, IsStop, Knows, Rests, announced_ends, need}
 use Rattle.capn_stream.specs.declared.fault.FrameFault.{FrameFault}
 use Rattle.capn_stream.specs.declared.fault.FrameFault.TheVariants.{Memory, Empty, TooManySegments, TooManyWords, Cut}
 use Rattle.capn_stream.specs.declared.fault.FrameFault.TheVariants.{Failed}
@@ -88,16 +88,19 @@ unfinished (stages.Contents start end) bs most ends knows (inl short) never =
     inr (inr (inr (knows.0, knows.1, omega (arith, short, knows.3))))
 unfinished stage bs most ends knows (inr done) never = absurd (never done)
 
+-- a part that lacks bytes is of a frame that is not whole
+pub unfinished_stage : (stage : Stage) (bs : List ℕ) (most : ℕ) (ends : List ℕ) → IsStage stage bs most ends
+    → length bs < need stage → IsUnfinished bs most
+unfinished_stage stages.Count bs most ends is short = unfinished stages.Count bs most ends is.knows (inl short) (λ d. d)
+unfinished_stage (stages.Table segments) bs most ends is short =
+    unfinished (stages.Table segments) bs most ends is.knows (inl short) (λ d. d)
+unfinished_stage (stages.Contents start end) bs most ends is short =
+    unfinished (stages.Contents start end) bs most ends is.knows (inl short) (λ d. absurd (omega (arith, short, d)))
+
 pub frame_held : (stage : Stage) (bs : List ℕ) (most : ℕ) (ends : List ℕ) → most ≤ 2 ^ 28 → IsStage stage bs most ends
     → Rests stage bs → IsFrame bs most ⊎ IsUnfinished bs most
 frame_held stage bs most ends small is (inr done) = inl (frame_done stage bs most ends small is done)
-frame_held stages.Count bs most ends small is (inl short) =
-    inr (unfinished stages.Count bs most ends is.knows (inl short) (λ d. d))
-frame_held (stages.Table segments) bs most ends small is (inl short) =
-    inr (unfinished (stages.Table segments) bs most ends is.knows (inl short) (λ d. d))
-frame_held (stages.Contents start end) bs most ends small is (inl short) =
-    inr (unfinished (stages.Contents start end) bs most ends is.knows (inl short)
-    (λ d. absurd (omega (arith, short, d))))
+frame_held stage bs most ends small is (inl short) = inr (unfinished_stage stage bs most ends is short)
 
 -- what a feed gives, by what became of the fields
 pub feed_gives : (rest piece : List ℕ) (most : ℕ) (r : Result ℕ FrameFault) (stage : Stage) (new ends : List ℕ)

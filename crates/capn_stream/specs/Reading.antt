@@ -58,6 +58,14 @@ IsCut bs most =
     ⊎ (HasCount bs × (length bs < head_length (announced_segments bs)))
     ⊎ (HasHead bs × (announced_words bs ≤ most) × (length bs < frame_length bs))
 
+-- the bytes end with the count or before it; or with the table and its padding, where so many segments are allowed; or
+-- with the contents, where so many words are allowed too
+abbrev pub EndsWithin : List ℕ → ℕ → Type 0
+EndsWithin bs most =
+    (length bs ≤ 4)
+    ⊎ (HasCount bs × (length bs ≤ head_length (announced_segments bs)))
+    ⊎ (HasHead bs × (announced_words bs ≤ most) × (length bs ≤ frame_length bs))
+
 -- why bytes are refused under a number of words, each test being made once those before it have passed
 -- (want of memory says nothing of the bytes)
 abbrev pub IsRefused : List ℕ → ℕ → FrameFault → Type 0

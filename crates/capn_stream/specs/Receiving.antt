@@ -1,11 +1,11 @@
 -- The next message of a reader. (Own.)
-use Rattle.std.specs.Prelude.{◌≡◌, ◌≢◌, ◌⊎◌, ⊤, ℕ, ◌+◌, ◌*◌, ◌≤◌, List, [], ◌++◌, length, Bool, true, false, Result, Ok}
-use Rattle.std.specs.Prelude.{Err, Option, Some, None}
+use Rattle.std.specs.Prelude.{◌≡◌, ◌≢◌, ◌⊎◌, ⊤, ℕ, ◌+◌, ◌*◌, ◌<◌, ◌≤◌, List, [], ◌++◌, length, Bool, true}
+use Rattle.std.specs.Prelude.{false, Result, Ok, Err, Option, Some, None}
 use Rattle.std.specs.Io.KnownBytes.{Consumes, IsAtEnd}
 use Rattle.capn_words.specs.Message.{total}
 use Rattle.capn_stream.specs.Frames.{Frames, StandsFirst, most_table_words}
 use Rattle.capn_stream.specs.Framing.{Framing, IsUnfinished}
-use Rattle.capn_stream.specs.Reading.{IsRefused}
+use Rattle.capn_stream.specs.Reading.{EndsWithin, IsRefused, announced_segments, head_length}
 use Rattle.capn_stream.specs.declared.fault.FrameFault.{FrameFault}
 use Rattle.capn_stream.specs.declared.fault.FrameFault.TheVariants as frames
 use Rattle.capn_stream.specs.declared.fault.ReadFault.{ReadFault}
@@ -42,6 +42,26 @@ pub record Received (old new : Option (List ℕ)) (failed : Bool) (most : ℕ)
 -- a reader gave some bytes, and a read answers what they call for
 abbrev pub ReadGives : Option (List ℕ) → Option (List ℕ) → Bool → ℕ → Result (Option (List (List ℕ))) ReadFault → Type 0
 ReadGives old new failed most result = (bytes : List ℕ) × Received old new failed most result bytes
+
+-- Where a read that took these bytes has left its reader: after a refusal it stands inside the message. That is exactly
+-- after the count where so many segments are too many, after the table and its padding where so many words are, and at
+-- the end of the input where the message is cut. Memory is wanted once a byte has come, and not beyond the message.
+abbrev pub StandsInside : List ℕ → ℕ → Option (List ℕ) → Result (Option (List (List ℕ))) ReadFault → Type 0
+StandsInside bs most new (Ok answer) = ⊤
+StandsInside bs most new (Err faults.Memory) = (0 < length bs) × EndsWithin bs most
+StandsInside bs most new (Err faults.Io) = EndsWithin bs most
+StandsInside bs most new (Err (faults.Frame frames.Memory)) = ⊥
+StandsInside bs most new (Err (faults.Frame frames.Empty)) = ⊥
+StandsInside bs most new (Err (faults.Frame (frames.TooManySegments n))) = length bs ≡ 4
+StandsInside bs most new (Err (faults.Frame (frames.TooManyWords n))) = length bs ≡ head_length (announced_segments bs)
+StandsInside bs most new (Err (faults.Frame frames.Cut)) = IsAtEnd new
+StandsInside bs most new (Err (faults.Frame frames.Failed)) = ⊥
+
+-- a reader gave some bytes, a read answers what they call for, and a refusal leaves the reader inside the message
+abbrev pub StopsInside : Option (List ℕ) → Option (List ℕ) → Bool → ℕ → Result (Option (List (List ℕ))) ReadFault
+    → Type 0
+StopsInside old new failed most result = (bytes : List ℕ) × Received old new failed most result bytes
+    × StandsInside bytes most new result
 
 -- bytes behind what a framer holds were all taken: they make a message whole, or none, or are refused
 abbrev pub TakesIn : Framing → List ℕ → Result (Option (List (List ℕ))) ReadFault → Framing → Type 0

@@ -1,8 +1,10 @@
 //! Messages from a stream that comes in pieces.
 
 ghost use Rattle.std.specs.Prelude.{◌≡◌, ◌↔◌, IsTrue, ℕ, ◌+◌, ◌<◌, ◌≤◌, ◌++◌, List, [], length, false};
+ghost use Rattle.std.specs.Prelude.{IsErrOf};
 ghost use Rattle.capn_words.specs.Limits.{most_message_words};
 ghost use Rattle.capn_stream.specs.Framing.{FeedGives, FinishGives, IsFrame, IsUnfinished, TakeGives};
+ghost use Rattle.capn_stream.specs.Reading.{EndsWithin};
 ghost use Rattle.capn_stream.specs.Receiving.{most_bytes};
 
 use crate::fault::FrameFault;
@@ -59,7 +61,10 @@ impl<A: Allocator + Copy> Framer<A> {
     /// the table and its padding are there, `Memory` where a growth was refused, `Failed` after an earlier refusal.
     #[inline]
     pub fn feed(&mut self, piece: &[u8]) -> Result<usize, FrameFault>
-        ensures { FeedGives self.old piece.now result self.new }
+        ensures gives { FeedGives self.old piece.now result self.new }
+        // Memory is wanted only where bytes came that are kept: the piece has some, and no message waits.
+        ensures wanted { IsErrOf result FrameFault.Memory
+            → (0 < length piece.now) × IsUnfinished self.old.rest self.old.most }
     {
         if self.failed {
             return Err(FrameFault::Failed);
@@ -82,6 +87,7 @@ impl<A: Allocator + Copy> Framer<A> {
         ensures least { (more : List ℕ) → IsFrame (self.now.rest ++ more) self.now.most → result ≤ length more }
         ensures some { IsUnfinished self.now.rest self.now.most → 0 < result }
         ensures bound { length self.now.rest + result ≤ most_bytes self.now.most }
+        ensures within { (more : List ℕ) → length more ≤ result → EndsWithin (self.now.rest ++ more) self.now.most }
     {
         part_left(self.stage, &self.frame)
     }

@@ -1,10 +1,10 @@
 //! The next message of a reader.
 
-ghost use Rattle.std.specs.Prelude.{◌≡◌, ℕ, ◌≤◌, ◌++◌, List, length, false, IfSome};
+ghost use Rattle.std.specs.Prelude.{◌≡◌, ℕ, ◌<◌, ◌≤◌, ◌++◌, List, length, false, IfSome, IsErrOf};
 ghost use Rattle.capn_words.specs.Limits.{most_message_words};
 ghost use Rattle.capn_words.specs.Watching.{has_failed, inner_of};
 ghost use Rattle.capn_stream.specs.Framing.{IsFrame, IsUnfinished};
-ghost use Rattle.capn_stream.specs.Receiving.{EndGives, OnlyFirst, ReadGives, ReadsFirst, TakesIn};
+ghost use Rattle.capn_stream.specs.Receiving.{EndGives, OnlyFirst, ReadGives, ReadsFirst, StopsInside, TakesIn};
 
 use crate::fault::{FrameFault, ReadFault};
 use crate::feeding::Framer;
@@ -53,7 +53,7 @@ fn receive<R: Read, A: Allocator + Copy>(
 ) -> Result<Option<Stored<A>>, ReadFault>
     requires small { max_words ≤ most_message_words }
     requires fine { has_failed reader.old ≡ false }
-    ensures gives { ReadGives (R.remaining (inner_of reader.old)) (R.remaining (inner_of reader.new))
+    ensures gives { StopsInside (R.remaining (inner_of reader.old)) (R.remaining (inner_of reader.new))
         (has_failed reader.new)
         max_words result }
 {
@@ -73,12 +73,15 @@ fn receive<R: Read, A: Allocator + Copy>(
     }
 }
 
-/// The next message of a reader, of at most so many words: its bytes and no others are taken, in pieces of at most
-/// 16,384.
+/// The next message of a reader, of at most so many words: its bytes and no others are taken.
 ///
-/// None exactly where the input ends between messages. Refusals: `Memory` where a growth was refused; `Io` exactly
-/// where the reader fails; `Frame` with `TooManySegments`, `TooManyWords` or `Cut`, and then the reader stands inside
-/// the message.
+/// No call asks the reader for more than 16,384 bytes, nor for more than the part of the message that is waited for
+/// still needs. The message grows with bytes that came, never by what its table announces.
+///
+/// None exactly where the input ends between messages. Refusals: `Memory` where a growth was refused, which takes a
+/// byte of a message; `Io` exactly where the reader fails; `Frame` with `TooManySegments`, `TooManyWords` or `Cut`.
+/// After a refusal the reader stands inside the message: after the 4 bytes of the count at `TooManySegments`, after the
+/// table and its padding at `TooManyWords`, at the end of the input at `Cut`, and never beyond the message.
 pub fn read_message<R: Read, A: Allocator + Copy>(
     alloc: A,
     reader: &mut Watched<R>,
@@ -93,6 +96,13 @@ pub fn read_message<R: Read, A: Allocator + Copy>(
     ensures gives { ReadGives (R.remaining (inner_of reader.old)) (R.remaining (inner_of reader.new))
         (has_failed reader.new)
         max_words result }
+    // After a refusal the reader stands inside the message, and exactly where.
+    ensures inside { StopsInside (R.remaining (inner_of reader.old)) (R.remaining (inner_of reader.new))
+        (has_failed reader.new)
+        max_words result }
+    // Memory is wanted only where the reader has a byte to give.
+    ensures wanted { IfSome (R.remaining (inner_of reader.old))
+        (λ input. IsErrOf result ReadFault.Memory → 0 < length input) }
 {
     receive(alloc, reader, max_words)
 }

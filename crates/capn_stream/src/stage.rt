@@ -1,11 +1,12 @@
 //! How far the frame that comes in pieces is known.
 
-ghost use Rattle.std.specs.Prelude.{◌≡◌, ℕ, ◌+◌, ◌-◌, ◌*◌, ◌<◌, ◌≤◌, ◌++◌, length, drop, IfOk, IfErr};
+ghost use Rattle.std.specs.Prelude.{◌≡◌, ℕ, ◌+◌, ◌-◌, ◌*◌, ◌<◌, ◌≤◌, ◌++◌, length, drop, IfOk, IfErr, IsErrOf, OnErr};
+ghost use Rattle.std.specs.Prelude.{vec_capacity};
 ghost use Rattle.capn_words.specs.Words.{AreBytes};
 ghost use Rattle.capn_words.specs.Limits.{most_segments, most_message_words};
 ghost use Rattle.capn_stream.specs.Reading.{HasCount, announced_segments, head_length};
 ghost use Rattle.capn_stream.specs.Stages as spec;
-ghost use Rattle.capn_stream.specs.Stages.{Extends, Fills, FitsStage, IsStage, IsStop, Tabled};
+ghost use Rattle.capn_stream.specs.Stages.{Extends, Fills, FitsStage, IsStage, IsStop, Rests, Tabled};
 ghost use Rattle.capn_stream.specs.declared.fault.FrameFault.TheVariants as faults;
 
 use crate::fault::FrameFault;
@@ -49,10 +50,13 @@ pub(crate) fn part_left(stage: Stage, bytes: &[u8]) -> usize
 /// The room for which the first bytes of a frame ask, so that a small one takes memory once.
 const FIRST_ROOM: usize = 64;
 
-/// Room for so many bytes, where they are the first.
+/// Room for so many bytes, where they are the first. It never grows what has some, so that those that follow grow it by
+/// its own rule.
 #[inline]
 fn make_room<A: Allocator>(bytes: &mut Vec<u8, A>, count: usize) -> Result<(), AllocError>
-    ensures { bytes.new.items ≡ bytes.old.items }
+    ensures same { bytes.new.items ≡ bytes.old.items }
+    ensures kept { 0 < length bytes.old.items → vec_capacity bytes.new ≡ vec_capacity bytes.old }
+    ensures wanted { OnErr result (0 < count) }
 {
     if bytes.is_empty() && count > 0 {
         bytes.reserve(FIRST_ROOM)?;
@@ -69,7 +73,8 @@ fn fill_to<A: Allocator>(
 ) -> Result<usize, AllocError>
     requires within { length bytes.old.items ≤ end }
     requires below { AreBytes bytes.old.items }
-    ensures { IfOk result (λ n. Extends bytes.old.items piece.now end n bytes.new.items) }
+    ensures extends { IfOk result (λ n. Extends bytes.old.items piece.now end n bytes.new.items) }
+    ensures wanted { OnErr result ((0 < length piece.now) × (length bytes.old.items < end)) }
 {
     let count = (end - bytes.len()).min(piece.len());
     make_room(bytes, count)?;
@@ -136,9 +141,12 @@ pub(crate) fn fill<A: Allocator + Copy>(
 ) -> Result<usize, FrameFault>
     requires small { most ≤ most_message_words }
     requires is { IsStage stage.old bytes.old.items most ends.old.items }
+    requires rests { Rests stage.old bytes.old.items }
     ensures filled { IfOk result
         (λ n. Fills bytes.old.items piece.now most n bytes.new.items stage.new ends.new.items) }
     ensures refused { IfErr result (λ e. IsStop (bytes.old.items ++ piece.now) most e) }
+    ensures wanted { IsErrOf result FrameFault.Memory
+        → (0 < length piece.now) × (length bytes.old.items < spec.need stage.old) }
 {
     let mut at = 0;
     'parts: loop {

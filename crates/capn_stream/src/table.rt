@@ -1,6 +1,7 @@
 //! The table of segments at the front of a stream.
 
 ghost use Rattle.std.specs.Prelude.{◌≡◌, ℕ, ◌+◌, ◌*◌, ◌^◌, ◌<◌, ◌≤◌, length, drop, sum, IfOk, IfErr, IsErrOf, OnErr};
+ghost use Rattle.std.specs.Prelude.{vec_capacity};
 ghost use Rattle.capn_stream.specs.Cuts.{ends_from};
 ghost use Rattle.capn_words.specs.Limits.{most_segments, most_message_words};
 ghost use Rattle.capn_stream.specs.Reading.{IsRefused, IsWhole, announced_segments, entries, entry_number, head_length};
@@ -36,7 +37,7 @@ pub(crate) fn total_of(sizes: &[u8], count: usize) -> u64
     total
 }
 
-/// Where the segments of the sizes end, counted in words. Its one growth is by sizes that are there.
+/// Where the segments of the sizes end, counted in words. Its one growth is for exactly the sizes, which are there.
 pub(crate) fn ends_of<A: Allocator>(
     alloc: A,
     sizes: &[u8],
@@ -46,13 +47,14 @@ pub(crate) fn ends_of<A: Allocator>(
     requires inside { 4 * count ≤ length sizes.now }
     requires room { sum (entries count sizes.now) < 2 ^ 32 }
     ensures ends { IfOk result (λ v. v.items ≡ ends_from 0 (entries count sizes.now)) }
+    ensures room { IfOk result (λ v. vec_capacity v ≡ count) }
     ensures wanted { OnErr result (0 < count) }
 {
     let mut ends = Vec::with_capacity(alloc, count)?;
     let mut end: u32 = 0;
     for index in 0..count {
         end += entry_at(sizes, index);
-        ends.push(end)?;
+        ends.push_reserved(end);
     }
     Ok(ends)
 }

@@ -1,7 +1,8 @@
-use Rattle.std.proofs.Common.{◌≡◌, ◌+◌, ap, sym, subst, ◌∙◌, arith}
+use Rattle.std.proofs.Common.{◌≡◌, inr, ◌+◌, ap, sym, subst, ◌∙◌, arith}
 use Rattle.std.proofs.lemmas.Result.{err_from_is_err_and}
 use Rattle.capn_stream.specs.Stages.{need, IsDone}
 use Rattle.capn_stream.specs.declared.stage.Stage.{Stage}
+use Rattle.capn_stream.proofs.Came.{lacked_now, lacked_whole}
 use Rattle.capn_stream.proofs.Filling.{Filled, filled, filled_done, filled_short, filled_stop, is_contents}
 use Rattle.capn_stream.proofs.Filling.{is_table, stop_count}
 use Rattle.capn_stream.proofs.stage.fill.Goals as goal
@@ -10,7 +11,7 @@ pub returns-then-len-end-clause-filled : goal.returns-then-len-end-clause-filled
 returns-then-len-end-clause-filled g c =
     filled_short c.parts.stage c.args.bytes.now.items c.args.piece.now c.args.most c.parts.at c.in_ok-at.field-0
     c.end_of-end.result c.parts.bytes.items c.fill_to.new.bytes.items c.parts.ends.items
-    c.end_of-end.ensures c.parts.invariant.inside c.parts.invariant.text c.parts.invariant.is c.in_ok-at.ensures
+    c.end_of-end.ensures c.parts.invariant.inside c.parts.invariant.text c.parts.invariant.is c.in_ok-at.ensures.extends
     (omega arith)
 
 pub parts-preserved-in-Count : goal.parts-preserved-in-Count
@@ -18,20 +19,27 @@ parts-preserved-in-Count g c =
     let f =
     filled c.parts.stage c.args.bytes.now.items c.args.piece.now c.args.most c.parts.at c.in_ok-at.field-0
     c.end_of-end.result c.parts.bytes.items c.fill_to.new.bytes.items c.parts.ends.items
-    c.end_of-end.ensures c.parts.invariant.inside c.parts.invariant.text c.parts.invariant.is c.in_ok-at.ensures in
+    c.end_of-end.ensures c.parts.invariant.inside c.parts.invariant.text c.parts.invariant.is
+    c.in_ok-at.ensures.extends in
     let end : c.end_of-end.result ≡ 4 = c.end_of-end.ensures ∙ ap need c.in-Count.is in
     let counted = rw c.deref.ensures.value at c.in_ok-segments-in-Count.ensures.counted in
     let t = is_table c.parts.stage c.args.bytes.now.items c.args.piece.now c.args.most _
     c.in_ok-segments-in-Count.segments c.fill_to.new.bytes.items c.parts.ends.items f counted
-    (omega (arith, end, c.in_ok-at.ensures.upto)) in
-    record { inside = t.inside; text = t.text; is = t.is }
+    (omega (arith, end, c.in_ok-at.ensures.extends.upto)) in
+    let lacked =
+    lacked_whole c.args.stage.now c.parts.stage c.args.bytes.now.items c.parts.bytes.items c.args.piece.now
+    c.fill_to.new.bytes.items c.parts.at c.in_ok-at.field-0 c.end_of-end.result c.end_of-end.ensures c.requires.rests
+    c.parts.invariant.came c.in_ok-at.ensures.extends (omega arith)
+    (λ done. subst (λ (s : Stage). IsDone s c.parts.bytes.items) c.in-Count.is done) in
+    record { inside = t.inside; text = t.text; is = t.is; came = inr lacked }
 
 pub read_table-requires-clause-count : goal.read_table-requires-clause-count
 read_table-requires-clause-count g c =
     let f =
     filled c.parts.stage c.args.bytes.now.items c.args.piece.now c.args.most c.parts.at c.in_ok-at.field-0
     c.end_of-end.result c.parts.bytes.items c.fill_to.new.bytes.items c.parts.ends.items
-    c.end_of-end.ensures c.parts.invariant.inside c.parts.invariant.text c.parts.invariant.is c.in_ok-at.ensures in
+    c.end_of-end.ensures c.parts.invariant.inside c.parts.invariant.text c.parts.invariant.is
+    c.in_ok-at.ensures.extends in
     let t = subst
     (λ (s : Stage). Filled s c.args.bytes.now.items c.args.piece.now c.args.most (c.parts.at + c.in_ok-at.field-0)
     c.fill_to.new.bytes.items c.parts.ends.items) c.in-Table.is f in
@@ -44,11 +52,11 @@ returns-in_err-segments-in-Count-clause-refused g c =
     let end : c.end_of-end.result ≡ 4 = c.end_of-end.ensures ∙ ap need c.in-Count.is in
     let many = rw c.deref.ensures.value at c.in_err-segments-in-Count.ensures.refused in
     let stop = stop_count c.fill_to.new.bytes.items c.args.most c.in_err-segments-in-Count.field-0.0
-    (omega (arith, end, c.in_ok-at.ensures.upto)) many in
+    (omega (arith, end, c.in_ok-at.ensures.extends.upto)) many in
     rw (p.1, p.2)
     (filled_stop c.parts.stage c.args.bytes.now.items c.args.piece.now c.args.most c.parts.at c.in_ok-at.field-0
     c.end_of-end.result c.parts.bytes.items c.fill_to.new.bytes.items c.parts.ends.items
-    c.end_of-end.ensures c.parts.invariant.inside c.parts.invariant.text c.parts.invariant.is c.in_ok-at.ensures
+    c.end_of-end.ensures c.parts.invariant.inside c.parts.invariant.text c.parts.invariant.is c.in_ok-at.ensures.extends
     c.in_err-segments-in-Count.field-0.0 stop)
 
 pub returns-in_err-bounds-in-Table-clause-refused : goal.returns-in_err-bounds-in-Table-clause-refused
@@ -59,7 +67,7 @@ returns-in_err-bounds-in-Table-clause-refused g c =
     rw (p.1, p.2)
     (filled_stop c.parts.stage c.args.bytes.now.items c.args.piece.now c.args.most c.parts.at c.in_ok-at.field-0
     c.end_of-end.result c.parts.bytes.items c.fill_to.new.bytes.items c.parts.ends.items
-    c.end_of-end.ensures c.parts.invariant.inside c.parts.invariant.text c.parts.invariant.is c.in_ok-at.ensures
+    c.end_of-end.ensures c.parts.invariant.inside c.parts.invariant.text c.parts.invariant.is c.in_ok-at.ensures.extends
     c.in_err-bounds-in-Table.field-0.0 stop)
 
 pub parts-preserved : goal.parts-preserved
@@ -67,7 +75,8 @@ parts-preserved g c =
     let f =
     filled c.parts.stage c.args.bytes.now.items c.args.piece.now c.args.most c.parts.at c.in_ok-at.field-0
     c.end_of-end.result c.parts.bytes.items c.fill_to.new.bytes.items c.parts.ends.items
-    c.end_of-end.ensures c.parts.invariant.inside c.parts.invariant.text c.parts.invariant.is c.in_ok-at.ensures in
+    c.end_of-end.ensures c.parts.invariant.inside c.parts.invariant.text c.parts.invariant.is
+    c.in_ok-at.ensures.extends in
     let t = subst
     (λ (s : Stage). Filled s c.args.bytes.now.items c.args.piece.now c.args.most (c.parts.at + c.in_ok-at.field-0)
     c.fill_to.new.bytes.items c.parts.ends.items) c.in-Table.is f in
@@ -75,13 +84,38 @@ parts-preserved g c =
     let n = is_contents c.in-Table.segments c.args.bytes.now.items c.args.piece.now c.args.most _
     c.in_ok-bounds-in-Table.bounds.start c.in_ok-bounds-in-Table.bounds.end c.fill_to.new.bytes.items
     c.parts.ends.items c.in_ok-bounds-in-Table.bounds.ends.items t tabled in
-    record { inside = n.inside; text = n.text; is = n.is }
+    let lacked =
+    lacked_whole c.args.stage.now c.parts.stage c.args.bytes.now.items c.parts.bytes.items c.args.piece.now
+    c.fill_to.new.bytes.items c.parts.at c.in_ok-at.field-0 c.end_of-end.result c.end_of-end.ensures c.requires.rests
+    c.parts.invariant.came c.in_ok-at.ensures.extends (omega arith)
+    (λ done. subst (λ (s : Stage). IsDone s c.parts.bytes.items) c.in-Table.is done) in
+    record { inside = n.inside; text = n.text; is = n.is; came = inr lacked }
 
 pub returns-in-Contents-clause-filled : goal.returns-in-Contents-clause-filled
 returns-in-Contents-clause-filled g c =
     let end = c.end_of-end.ensures ∙ ap need c.in-Contents.is in
     let done = subst (λ (s : Stage). IsDone s c.fill_to.new.bytes.items) (sym c.in-Contents.is)
-    (omega (arith, end, c.in_ok-at.ensures.upto)) in
+    (omega (arith, end, c.in_ok-at.ensures.extends.upto)) in
     filled_done c.parts.stage c.args.bytes.now.items c.args.piece.now c.args.most c.parts.at c.in_ok-at.field-0
     c.end_of-end.result c.parts.bytes.items c.fill_to.new.bytes.items c.parts.ends.items
-    c.end_of-end.ensures c.parts.invariant.inside c.parts.invariant.text c.parts.invariant.is c.in_ok-at.ensures done
+    c.end_of-end.ensures c.parts.invariant.inside c.parts.invariant.text c.parts.invariant.is
+    c.in_ok-at.ensures.extends done
+
+pub returns-in_err-at-clause-wanted : goal.returns-in_err-at-clause-wanted
+returns-in_err-at-clause-wanted g c = λ h.
+    lacked_now c.args.stage.now c.parts.stage c.args.bytes.now.items c.parts.bytes.items c.args.piece.now c.parts.at
+    c.end_of-end.result c.end_of-end.ensures c.parts.invariant.came c.in_err-at.ensures.wanted
+
+pub returns-in_err-segments-in-Count-clause-wanted : goal.returns-in_err-segments-in-Count-clause-wanted
+returns-in_err-segments-in-Count-clause-wanted g c = λ h.
+    lacked_whole c.args.stage.now c.parts.stage c.args.bytes.now.items c.parts.bytes.items c.args.piece.now
+    c.fill_to.new.bytes.items c.parts.at c.in_ok-at.field-0 c.end_of-end.result c.end_of-end.ensures c.requires.rests
+    c.parts.invariant.came c.in_ok-at.ensures.extends (omega arith)
+    (λ done. subst (λ (s : Stage). IsDone s c.parts.bytes.items) c.in-Count.is done)
+
+pub returns-in_err-bounds-in-Table-clause-wanted : goal.returns-in_err-bounds-in-Table-clause-wanted
+returns-in_err-bounds-in-Table-clause-wanted g c = λ h.
+    lacked_whole c.args.stage.now c.parts.stage c.args.bytes.now.items c.parts.bytes.items c.args.piece.now
+    c.fill_to.new.bytes.items c.parts.at c.in_ok-at.field-0 c.end_of-end.result c.end_of-end.ensures c.requires.rests
+    c.parts.invariant.came c.in_ok-at.ensures.extends (omega arith)
+    (λ done. subst (λ (s : Stage). IsDone s c.parts.bytes.items) c.in-Table.is done)

@@ -1,5 +1,6 @@
 use Rattle.std.proofs.Common.{◌≡◌, ◌≤◌, ◌++◌, length, take}
 use Rattle.capn_stream.specs.Stages.{IsStage, parts_left}
+use Rattle.capn_stream.proofs.Came.{Came}
 use Rattle.capn_stream.proofs.stage.fill.Given as goal
 
 -- the bytes of the piece so far stand behind those that were there
@@ -8,6 +9,7 @@ invariant-parts g l = record {
   inside : l.at ≤ length l.piece;
   text : l.bytes.items ≡ l.fn.bytes.items ++ take l.at l.piece;
   is : IsStage l.stage l.bytes.items l.most l.ends.items;
+  came : Came l.fn.stage l.stage l.fn.bytes.items l.bytes.items l.piece;
 }
 
 -- the parts behind the one that is waited for

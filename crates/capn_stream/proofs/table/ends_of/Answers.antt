@@ -1,4 +1,5 @@
 use Rattle.std.proofs.Common.{◌≡◌, ℕ, ◌+◌, ◌-◌, ◌*◌, List, [], ◌∷◌, ◌++◌, sum, drop, ap, sym, ◌∙◌, arith}
+use Rattle.std.proofs.Common.{length, length-append}
 use Rattle.capn_stream.specs.Cuts.{ends_from}
 use Rattle.capn_stream.specs.Reading.{entries, entry_number}
 use Rattle.capn_stream.specs.Laws.Entries.{entries_more, sum-entries_le, sum-entries_more}
@@ -21,10 +22,17 @@ loop-index-preserved g c =
     omega (arith, c.loop-index.invariant.end, c.entry_at-end.ensures) in
     record {
       ends =
-          c.in_ok-push.ensures.items
+          c.push_reserved.ensures.items
           ∙ ap (λ (ends : List ℕ). ends ++ (c.loop-index.end + c.entry_at-end.result) ∷ []) c.loop-index.invariant.ends
           ∙ ap (λ (n : ℕ). ends_from 0 sizes ++ n ∷ []) end
           ∙ sym (ends_from_push 0 sizes size)
           ∙ ap (λ (ns : List ℕ). ends_from 0 ns) (sym (entries_more c.loop-index.index c.args.sizes.now));
+      number = omega (
+        arith,
+        ap length c.push_reserved.ensures.items,
+        length-append c.loop-index.ends.items ((c.loop-index.end + c.entry_at-end.result) ∷ []),
+        c.loop-index.invariant.number,
+      );
+      room = c.push_reserved.ensures.capacity ∙ c.loop-index.invariant.room;
       end = omega (arith, sum-entries_more c.loop-index.index c.args.sizes.now);
     }

@@ -1,4 +1,4 @@
-use Rattle.std.proofs.Common.{◌≡◌, sum}
+use Rattle.std.proofs.Common.{◌≡◌, length, sum, vec_capacity}
 use Rattle.capn_stream.specs.Cuts.{ends_from}
 use Rattle.capn_stream.specs.Reading.{entries}
 use Rattle.capn_stream.proofs.table.ends_of.Given as goal
@@ -6,4 +6,9 @@ use Rattle.capn_stream.proofs.table.ends_of.Given as goal
 -- where the segments so far end, and the last of them
 abbrev pub invariant-loop-index : goal.invariant-loop-index
 invariant-loop-index g l =
-    record { ends : l.ends.items ≡ ends_from 0 (entries l.index l.sizes); end : l.end ≡ sum (entries l.index l.sizes) }
+    record {
+      ends : l.ends.items ≡ ends_from 0 (entries l.index l.sizes);
+      number : length l.ends.items ≡ l.index;
+      room : vec_capacity l.ends ≡ l.count;
+      end : l.end ≡ sum (entries l.index l.sizes);
+    }
