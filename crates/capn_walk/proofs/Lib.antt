@@ -6,9 +6,10 @@ pub mod Near
 pub mod Reading
 pub mod Room
 pub mod UnderWay
-pub mod Filling
+pub mod FilledRoom
 pub mod RootIndexes
-pub mod Readable
+pub mod IndexLaws
+pub mod ValuesRead
 pub mod CapsMet
 pub mod Exists
 pub mod RootSurveys
@@ -16,5 +17,6 @@ pub mod SeenInside
 pub mod Stepped
 pub mod Showing
 pub mod WorkedValues
+pub mod WorkedIndexes
 pub mod InRangeAt
 pub mod Answering

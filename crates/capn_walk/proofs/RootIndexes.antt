@@ -15,10 +15,10 @@ use Rattle.capn_walk.specs.Stops.{root, may_be_root}
 use Rattle.capn_walk.specs.Accepted.{IsRefused, visits_within}
 use Rattle.capn_walk.specs.Limits.{Bounds}
 use Rattle.capn_walk.specs.Index.{entries, filled, IsIndexed}
-use Rattle.capn_walk.specs.Indexing.{laid, Indexes}
+use Rattle.capn_walk.specs.IndexRoom.{laid, Indexes}
 use Rattle.capn_walk.specs.Laws.Stops.{accepted-within}
 use Rattle.capn_walk.proofs.RootWalks.{from-root, refused-below}
-use Rattle.capn_walk.proofs.Filling.{as-many-entries}
+use Rattle.capn_walk.proofs.FilledRoom.{as-many-entries}
 
 -- ---- a room that is filled from its front
 

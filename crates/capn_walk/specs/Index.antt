@@ -56,11 +56,11 @@ module _ (message : List (List ℕ)) where
 abbrev pub index_of : List (List ℕ) → Bounds → List Entry
 index_of message limits = entries message limits.depth root
 
--- the room has the first entries, as many as go into it, and behind them what it had
+-- the room has the first entries, as many as go into it, and after them what it had
 abbrev pub filled : List Entry → List Entry → List Entry
 filled es room = take (length room) es ++ drop (length es) room
 
--- the message is accepted, the room has its index, and what its walk pays and visits is told
+-- the message is accepted, and the room has its index; the answer has what its walk pays and how many slots it visits
 pub record IsIndexed (message : List (List ℕ)) (limits : Bounds) (old new : List Entry) (t : Indexed) : Type 0 where
   pub accepted : IsAccepted message limits
   pub entries : new ≡ filled (index_of message limits) old
@@ -92,8 +92,8 @@ by_kind kinds.Links e = elements e Link
 abbrev pub entry_target : Entry → Target
 entry_target e = by_kind e.kind e
 
--- what an entry keeps of a target: all but its landing pads, and the words that a composite list has beside its rows
--- (no target is a list of the width of rows)
+-- what an entry keeps of a target: all except its landing pads and the length of a composite list. So spare words after
+-- the list's last row can't be found through an index; no value has them. (No target is a list of the width of rows.)
 abbrev pub kept : Target → Target
 kept (targets.Content s start (shapes.Rows c a b span) pads) =
     targets.Content s start (shapes.Rows c a b (c * (a + b))) 0
@@ -101,7 +101,7 @@ kept (targets.Content s start (shapes.Many Rows c) pads) = targets.Content s sta
 kept (targets.Content s start shape pads) = targets.Content s start shape 0
 kept found = found
 
--- the same of a slot, where it names anything
+-- the same of what a slot names, or its fault
 abbrev pub kept_of : Result Target Fault → Result Target Fault
 kept_of (Ok found) = Ok (kept found)
 kept_of (Err e) = Err e
@@ -114,13 +114,13 @@ entry_at es i = get_or es i (entry_of targets.Nil 1)
 abbrev pub slots_at : List Entry → ℕ → List Place
 slots_at es i = slots_below (entry_target (entry_at es i))
 
--- the entry of the slot that is j slots behind that of entry i, each one a span on
+-- the entry of the slot that is j slots after that of entry i: each next one is a span on
 abbrev pub beside : List Entry → ℕ → ℕ → ℕ
 beside es i zero = i
 beside es i (suc j) = beside es (i + (entry_at es i).span) j
 
 -- an entry of an index: its content lies inside its segment; the entries of its slots are, from the next entry on, one
--- beside the other, each with what that slot names; and behind the last of them its own span ends
+-- after the other, each with what that slot names; and its own span ends with the last of them
 pub record IsReadable (message : List (List ℕ)) (es : List Entry) (i : ℕ) : Type 0 where
   pub inside : IsInMessage message (entry_target (entry_at es i))
   pub below : (j : ℕ) → j < length (slots_at es i) → (beside es (i + 1) j < i + (entry_at es i).span)

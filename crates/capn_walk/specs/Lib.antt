@@ -16,4 +16,5 @@ pub mod Ways
 pub mod Laws
 pub mod Told
 pub mod Index
-pub mod Indexing
+pub mod IndexRoom
+pub mod IndexValues

@@ -24,7 +24,7 @@ pub fn place(segment: u32, word: u32) -> Place
     Place { segment, word }
 }
 
-/// Where an offset leads from the word behind a pointer.
+/// Where an offset leads from the word after a pointer.
 #[inline(always)]
 pub fn start_of(word: u32, offset: i32) -> Result<u64, Fault>
     ensures { result ≡ spec.moved word offset }
@@ -122,7 +122,7 @@ pub fn many_at<S: Space>(
     })
 }
 
-/// A composite list of so many words behind its tag, which stands at a word.
+/// A composite list of `span` words after its tag, which is at a word.
 #[tactic(auto, using(std::proofs::lemmas::Grind::common_steps))]
 #[inline(always)]
 fn rows_at<S: Space>(

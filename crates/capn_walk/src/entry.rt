@@ -9,16 +9,17 @@ use crate::target::{Shape, Target};
 use std::alloc::{Allocator, Global};
 use std::mem::size_of;
 
-/// A slot of a message: what its pointer names, and how many entries it takes with all below it. It takes 24 bytes.
+/// A slot of a message: what its pointer names, and how many entries it takes with all below it. An entry is 24 bytes.
 #[derive(Clone, Copy, Debug, PartialEq, Eq)]
 pub struct Entry {
     /// The index of the first word of the content in its segment; of a composite list that is its tag. Else 0.
     pub start: u32,
     /// The index of the segment of the content, else 0.
     pub segment: u32,
-    /// The elements of a list, the rows of a composite one, or the index of a capability; else 0.
+    /// The number of elements of a list, or of rows of a composite one; the index of a capability; else 0.
     pub count: u32,
-    /// Its own entry and those of all slots below it: so many entries on stands the next slot beside it.
+    /// How many entries it takes: its own and those of all slots below it. The next slot beside it has the entry that
+    /// is this number further on.
     pub span: u32,
     /// The data words of a struct, or of each row of a composite list; else 0.
     pub words: u16,
@@ -29,7 +30,7 @@ pub struct Entry {
 }
 
 impl Entry {
-    /// The bytes of an entry.
+    /// The size of an entry in bytes.
     pub fn bytes() -> usize
         ensures { result ≡ 24 }
     {
@@ -43,7 +44,7 @@ impl Entry {
         Entry::of(Target::Nil, 1)
     }
 
-    /// The entry of a slot whose pointer names this, with so many entries.
+    /// The entry of a slot whose pointer names this, with its span.
     #[inline(always)]
     pub(crate) fn of(target: Target, span: u32) -> Entry
         ensures { result ≡ entry_of target span }
@@ -110,12 +111,12 @@ impl Entry {
     }
 }
 
-/// What an index took: the words that the walk of the message pays, and the entries that there are.
+/// What an index comes to: the words that the walk of the message pays, and the number of entries.
 #[derive(Clone, Copy, Debug, PartialEq, Eq)]
 pub struct Indexed {
     /// The words paid: the sum of the prices of all visits.
     pub paid: u32,
-    /// The number of visits, which is that of the entries, also where not all had room.
+    /// The number of visits, which is that of all entries, also if not all of them had room.
     pub visits: u32,
 }
 

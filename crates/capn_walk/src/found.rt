@@ -44,7 +44,7 @@ impl<A: Allocator> Found<A> {
     }
 }
 
-/// The values of slots that stand one behind the other.
+/// The values of slots, one after the other.
 #[derive(Drop)]
 pub struct FoundSlots<A: Allocator> {
     pub items: Items<Value<A>, A>,

@@ -9,16 +9,16 @@ use crate::target::Shape;
 use capn_words::{Place, Width};
 
 /// The slots of an object that are still to be visited, in order: those that are left of the row in hand, then
-/// those of the rows behind it. A struct and a list of pointers are one row.
+/// those of the rows after it. A struct and a list of pointers are one row.
 #[derive(Clone, Copy, Default)]
 pub struct Frame {
     /// The segment of the object.
     pub segment: u32,
-    /// The word of the next slot, or of the next row where none is left of the row in hand.
+    /// The word of the next slot, or of the next row if none is left of the row in hand.
     pub next: u32,
     /// The slots that are left of the row in hand.
     pub left: u32,
-    /// The rows behind it.
+    /// The rows after it.
     pub rows: u32,
     /// The data words of each of these.
     pub words: u16,
@@ -29,7 +29,7 @@ pub struct Frame {
 /// An object that waits until all below one of its slots is visited.
 #[derive(Clone, Copy, Default)]
 pub struct Waiting {
-    /// Its slots behind that one.
+    /// Its slots after that one.
     pub frame: Frame,
     /// How many objects may stand one below another, from each of these on.
     pub depth: u32,
@@ -131,7 +131,7 @@ impl Frame {
         }
     }
 
-    /// The place of the next slot, and what is left behind it.
+    /// The place of the next slot, and what is left after it.
     #[inline(always)]
     pub fn take(self) -> (Place, Frame)
         requires some { 0 < self.left }

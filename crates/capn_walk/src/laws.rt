@@ -7,14 +7,16 @@ ghost use Rattle.capn_walk.specs.declared.target.Target.{Target};
 ghost use Rattle.capn_walk.specs.Laws as laws;
 ghost use Rattle.capn_walk.specs.Shown.{ViewsShow};
 ghost use Rattle.capn_walk.specs.Index.{IndexesAreReadable, IndexesFollowVisits};
+ghost use Rattle.capn_walk.specs.IndexValues.{IndexesSayValues, EntriesSayValues};
 
-/// A view of a slot shows the value that stands there.
+/// A view of a slot shows the value that is there.
 pub fn views_show_values()
     ensures { (message : List (List ℕ)) (at : Place) (found : Target) (v : Tree) → ViewsShow message at found v }
 {}
 
-/// A message that is accepted has a value at its root. One value at most stands at a place, at so many slots, and in
-/// so many rows; its numbers are in range. Where the message is accepted, it fits, and costs at most what was paid.
+/// A message that is accepted has a value at its root. At most one value is at a place, one list of values in a number
+/// of slots, and one list of bodies in a number of rows; numbers are in range. The value of an accepted message fits,
+/// and costs at most what was paid.
 pub fn values()
     ensures readable { laws.AcceptedAreReadable }
     ensures one { laws.PlacesHaveOneValue }
@@ -25,7 +27,7 @@ pub fn values()
     ensures cheap { laws.ValuesAreCheap }
 {}
 
-/// What the pointer at a place of a message names lies inside its segment, which exists; a value whose content stands
+/// What the pointer at a place of a message names lies inside its segment, which exists; a value whose content is
 /// there is the value at that place. It names content exactly by one of three ways: near, by a landing pad of one word,
 /// by one of two.
 pub fn targets()
@@ -35,7 +37,7 @@ pub fn targets()
 {}
 
 /// No message is both accepted and refused. Visits are within a budget, or have a first one that isn't, which is one.
-/// A message is refused for what it says, never for want of memory.
+/// A message is refused for what it says, never because memory ran out.
 pub fn verdicts()
     ensures apart { laws.Apart }
     ensures decided { laws.Decided }
@@ -44,8 +46,11 @@ pub fn verdicts()
 {}
 
 /// The index of an accepted message begins with its root. Each entry's content lies inside its segment, and the entries
-/// of its slots stand behind it, a span apart, each with what that slot names. They are those of the visits, in order.
+/// of its slots come after it, each a span further on, with what that slot names. There is one entry for each visit, in
+/// order. The value of the message is the one that its entries say with its words, and so is the value at each entry.
 pub fn indexes()
     ensures readable { IndexesAreReadable }
     ensures visits { IndexesFollowVisits }
+    ensures values { IndexesSayValues }
+    ensures each { EntriesSayValues }
 {}

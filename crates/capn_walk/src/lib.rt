@@ -1,12 +1,12 @@
 //! Reading a message from its root: what a pointer names, and what the whole message denotes.
 //!
 //! - [`resolve`] says what the pointer at a place names: null, a capability, or content that lies inside its
-//!   segment, behind landing pads if need be; else the first fault of that slot.
+//!   segment, after landing pads if need be; else the first fault of that slot.
 //! - [`walk`] answers the value that a message denotes within [`Limits`], with what reading it paid, or where
 //!   and why it stopped. Each visit of a slot pays its price before its content is read, so a message that
 //!   leads in circles or shares its objects costs at most the budget.
-//! - [`survey`] tells the same price and refusal and makes no tree; [`index`] and [`index_into`] tell it with an entry
-//!   for each slot that was visited, by which the message can be read in place with no further test.
+//! - [`survey`] answers the same price and refusal and makes no tree. [`index`] and [`index_into`] add an entry for
+//!   each slot that was visited, by which the message can be read in place with no further test.
 //! - [`View`] goes from one object to those below it, and pays from a [`Meter`] for each.
 //!
 //! All take any `Space`: a bare segment, a framed message, one that owns its segments.
@@ -23,11 +23,11 @@ mod digits;
 mod entry;
 mod found;
 mod frame;
-mod indexing;
 mod kind;
 pub mod laws;
 mod limits;
 mod lists;
+mod message_index;
 mod meter;
 mod price;
 mod resolving;
@@ -43,9 +43,9 @@ mod walked;
 mod walking;
 
 pub use entry::{Entry, Index, Indexed};
-pub use indexing::{index, index_into};
 pub use kind::Kind;
 pub use limits::Limits;
+pub use message_index::{index, index_into};
 pub use meter::Meter;
 pub use resolving::resolve;
 pub use surveyed::Surveyed;

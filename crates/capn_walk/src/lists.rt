@@ -17,7 +17,7 @@ use capn_value::{Items, Value};
 use capn_words::{Place, Space, Width};
 use std::alloc::{AllocError, Allocator};
 
-/// The list of so many elements whose content starts at a place.
+/// The list of `count` elements whose content starts at a place.
 #[tactic(auto, using(capn_value::specs::Views::views))]
 pub fn list_at<S: Space, A: Allocator + Copy>(
     alloc: A,

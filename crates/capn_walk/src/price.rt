@@ -7,7 +7,7 @@ use crate::content::content_words;
 use crate::target::Shape;
 use capn_words::Width;
 
-/// The price of an object behind so many landing pads, in words: `base`, its words, and 1 for
+/// The price of an object after `pads` words of landing pad, in words: `base`, its words, and 1 for
 /// each element that has no size. A composite list pays all the words that its pointer says.
 #[inline(always)]
 pub fn price_of(shape: Shape, pads: u8, base: u32) -> u64

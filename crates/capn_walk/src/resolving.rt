@@ -1,4 +1,4 @@
-//! What the pointer at a place names, behind landing pads if need be.
+//! What the pointer at a place names, after landing pads if need be.
 
 ghost use Rattle.std.specs.Prelude.{◌≡◌, ℕ, ◌<◌, ◌≤◌, ◌+◌, ◌^◌, length, Ok, Err, IfOk, OnOk, nat_lt, if◌then◌else◌};
 ghost use Rattle.capn_words.specs.Message.{segment_at, IsPlace};
@@ -28,7 +28,7 @@ pub fn resolve<S: Space>(space: &S, at: Place) -> Result<Target, Fault>
     named(space, at.segment, at.word, pointer)
 }
 
-/// What a pointer names that stands at a word of a segment.
+/// What the pointer at a word of a segment names.
 #[inline(always)]
 fn named<S: Space>(space: &S, segment: u32, word: u32, pointer: Pointer) -> Result<Target, Fault>
     ensures { result ≡ spec.named (S.message space.now) segment word pointer }
@@ -55,7 +55,7 @@ fn named<S: Space>(space: &S, segment: u32, word: u32, pointer: Pointer) -> Resu
     }
 }
 
-/// The pointer that stands at a word.
+/// The pointer at a word.
 #[inline(always)]
 pub fn pointer_at<S: Space>(space: &S, segment: u32, word: u32) -> Pointer
     requires { word < length (segment_at (S.message space.now) segment) }
@@ -64,7 +64,7 @@ pub fn pointer_at<S: Space>(space: &S, segment: u32, word: u32) -> Pointer
     split(space.word(Place { segment, word }))
 }
 
-/// The content of a struct or list pointer that stands at a word, itself or as a pad of one word.
+/// The content of the struct or list pointer at a word, which is the slot itself or a pad of one word.
 #[inline(always)]
 pub fn near<S: Space>(
     space: &S,
@@ -171,7 +171,7 @@ fn named_by_two<S: Space>(space: &S, first: Pointer, second: Pointer) -> Result<
     }
 }
 
-/// Refuses a landing pad of so many words that isn't inside its segment.
+/// Refuses a landing pad of `pads` words that isn't inside its segment.
 fn landing<S: Space>(space: &S, segment: u32, word: u32, pads: u32) -> Result<(), Fault>
     requires { pads ≤ 2 }
     ensures exact { result ≡ spec.landing (S.message space.now) segment word pads (Ok tt) }

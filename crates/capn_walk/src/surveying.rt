@@ -44,7 +44,7 @@ pub fn survey<S: Space, A: Allocator + Copy>(
     ensures refused { IfErr result (λ s.
         (s.fault ≡ Memory)
         ⊎ IsRefused (S.message space.now) limits s.fault s.place s.paid s.visits) }
-    // No growth is wanted for a depth of at most 64.
+    // No growth is needed for a depth of at most 64.
     ensures inline { limits.depth ≤ 64 → IfErr result (λ s. s.fault ≢ Memory) }
     // No walk pays beyond its budget.
     ensures bounded { MatchResult result (λ s. IsBounded limits.budget s.paid s.visits)
@@ -63,7 +63,7 @@ pub fn survey<S: Space, A: Allocator + Copy>(
     Ok(told)
 }
 
-/// The visit of the root's slot, and then those below it, where there are any: only these want a stack.
+/// The visit of the root's slot, and then those below it, if there are any: only these need a stack.
 #[inline(always)]
 fn survey_root<S: Space, A: Allocator + Copy>(
     alloc: A,
@@ -130,7 +130,7 @@ pub fn size_of<S: Space>(space: &S, segment: u32, known: u32, size: u32) -> u32
     }
 }
 
-/// The visits of so many slots, with all below them.
+/// The visits of the slots of a frame, with all below them.
 fn survey_slots<S: Space, A: Allocator + Copy>(
     alloc: A,
     space: &S,

@@ -11,7 +11,7 @@ pub enum Shape {
     Node {
         /// Its data words.
         words: u16,
-        /// Its pointers, a word each, behind the data words.
+        /// Its pointers, a word each, after the data words.
         slots: u16,
     },
     /// A list that isn't composite.
@@ -73,7 +73,7 @@ pub enum Fault {
     BadPad,
     /// The content starts before word 0 or ends past its segment's end.
     Range,
-    /// The tag of a composite list isn't laid out as a struct pointer.
+    /// The tag of a composite list isn't spelt as a struct pointer.
     BadTag,
     /// The structs of a composite list take more words than its pointer says.
     TagOverrun,

@@ -22,7 +22,7 @@ use crate::walking::{ROOT, may_be_root};
 use capn_words::{Place, Space, Width};
 use std::marker::Model;
 
-/// What stands in a slot of a message: null, a capability, or an object whose words are read where they lie.
+/// What is in a slot of a message: null, a capability, or an object whose words are read where they lie.
 #[derive(Debug, Drop)]
 pub struct View<'s, S: Space> {
     space: &'s S,
@@ -42,7 +42,7 @@ impl<'s, S: Space> Model for View<'s, S> {
 }
 
 impl<'s, S: Space> View<'s, S> {
-    /// The root of a message, at most so many objects deep. The step pays by the tariff of the meter.
+    /// The root of a message, at most `depth` objects deep. The step pays by the tariff of the meter.
     pub fn root(space: &'s S, meter: &mut Meter, depth: u32) -> Result<View<'s, S>, Fault>
         ensures found { MatchResult result
             (λ v. seen.stepped_to_root (S.message space.now) (base meter.old.tariff) depth (left_of meter.old)
@@ -147,7 +147,7 @@ impl<'s, S: Space> View<'s, S> {
         capability_of(self.target)
     }
 
-    /// Where a struct's slot or an element of a list of pointers stands.
+    /// Where a struct's slot or an element of a list of pointers is.
     #[inline]
     pub fn slot_place(&self, i: u32) -> Place
         requires { i < seen.steps_in self.now.found }

@@ -27,7 +27,7 @@ pub struct Visited {
     pub below: Frame,
 }
 
-/// One visit of a slot whose pointer is a struct's that stands near, at most `depth` objects deep, where `left` words
+/// One visit of a slot whose pointer is that of a near struct, at most `depth` objects deep, where `left` words
 /// are left to pay and each content costs `base` beside its size.
 #[inline(always)]
 pub fn visit_struct<S: Space>(
@@ -51,7 +51,7 @@ pub fn visit_struct<S: Space>(
     visit_found(space, at, found, depth, left, base)
 }
 
-/// The price of a visit of a slot whose pointer is that of a list of numbers that stands near.
+/// The price of a visit of a slot whose pointer is that of a near list of numbers.
 #[inline(always)]
 pub fn visit_numbers<S: Space>(
     space: &S,

@@ -50,7 +50,7 @@ fn walk_slot<S: Space, A: Allocator + Copy>(
     }
 }
 
-/// The same of a slot whose pointer names content that stands near.
+/// The same of a slot whose pointer names near content.
 #[cycle(walk)]
 #[inline(always)]
 fn walk_near<S: Space, A: Allocator + Copy>(
@@ -115,7 +115,7 @@ pub fn walk_target<S: Space, A: Allocator + Copy>(
     requires target { spec.target (S.message space.now) at ≡ Ok target }
     requires left { left ≤ most_cost }
     ensures answer { Walks (S.message space.now) base depth left at result }
-    // Memory is wanted for content only, and only once its price is paid.
+    // Memory is needed for content only, and only once its price is paid.
     ensures wanted { IfErr result (λ s. s.fault ≡ Memory → IsEntered (stepped base depth left (Ok target))) }
 {
     match target {
@@ -202,7 +202,7 @@ fn object<S: Space, A: Allocator + Copy>(
     }
 }
 
-/// So many slots that stand one behind the other.
+/// The values of `count` slots, one after the other.
 #[cycle(walk)]
 #[inline(never)]
 fn walk_slots<S: Space, A: Allocator + Copy>(
@@ -243,7 +243,7 @@ fn walk_slots<S: Space, A: Allocator + Copy>(
     })
 }
 
-/// So many rows of the same sizes that stand one behind the other.
+/// The bodies of `count` rows of the same sizes, one after the other.
 #[cycle(walk)]
 #[inline(never)]
 fn walk_rows<S: Space, A: Allocator + Copy>(

@@ -26,7 +26,8 @@ pub struct Walked<A: Allocator = Global> {
 pub struct Stopped {
     /// The fault.
     pub fault: Fault,
-    /// The slot that was visited, also where its landing pad is at fault.
+    /// The slot that was visited, also where its landing pad is at fault. If the fault is `Memory`, no clause says
+    /// which place this is: it is near the object for which memory was refused.
     pub place: Place,
     /// The words paid for the visits before the refused one.
     pub paid: u32,
@@ -35,7 +36,7 @@ pub struct Stopped {
 }
 
 impl Stopped {
-    /// The same refusal behind visits that paid so much.
+    /// The same refusal after other visits, with what these paid and how many they were.
     pub(crate) fn behind(self, paid: u32, visits: u32) -> Stopped
         requires paid { paid + self.paid < 2 ^ 32 }
         requires visits { visits + self.visits < 2 ^ 32 }

@@ -22,7 +22,7 @@ use capn_value::Tree;
 use capn_words::{Place, Space};
 use std::alloc::Allocator;
 
-/// Where the pointer to the root stands.
+/// Where the pointer to the root is.
 pub const ROOT: Place = Place {
     segment: 0,
     word: 0,
@@ -59,7 +59,7 @@ pub fn walk<S: Space, A: Allocator + Copy>(
         (s.fault ≡ Memory)
         ⊎ IsRefused (S.message space.now) limits s.fault s.place s.paid s.visits) }
 
-    // Memory is wanted only where the root leads to content whose price is within the budget.
+    // Memory is needed only if the root leads to content whose price is within the budget.
     ensures wanted { IfErr result (λ s. s.fault ≡ Memory →
         IsEntered (stepped_to_root (S.message space.now) (base limits.tariff) limits.depth limits.budget)) }
 

@@ -2,9 +2,9 @@ use Rattle.std.proofs.Common.{◌≡◌, ◌+◌, ◌-◌, ◌*◌, length}
 use Rattle.capn_walk.specs.Visits.{visits_of}
 use Rattle.capn_walk.specs.Frames.{places_of, owed, Lies}
 use Rattle.capn_walk.specs.Index.{entries_of}
-use Rattle.capn_walk.specs.Indexing.{laid}
-use Rattle.capn_walk.proofs.Filling.{IsOnWay}
-use Rattle.capn_walk.proofs.indexing.+indexing.Given as goal
+use Rattle.capn_walk.specs.IndexRoom.{laid}
+use Rattle.capn_walk.proofs.FilledRoom.{IsOnWay}
+use Rattle.capn_walk.proofs.message_index.+index_slots.Given as goal
 
 abbrev pub decreases-index_found : goal.decreases-index_found
 decreases-index_found g l = 5 * l.depth

@@ -1,7 +1,7 @@
 use Rattle.std.proofs.lemmas.Result.{err_from_is_err_and}
 use Rattle.capn_walk.proofs.RootWalks.{not-refused}
 use Rattle.capn_walk.proofs.RootIndexes.{indexed, unindexed}
-use Rattle.capn_walk.proofs.indexing.index_into.Goals as goal
+use Rattle.capn_walk.proofs.message_index.index_into.Goals as goal
 
 pub returns-in_err-told-clause-only : goal.returns-in_err-told-clause-only
 returns-in_err-told-clause-only g c is =

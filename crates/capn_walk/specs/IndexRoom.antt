@@ -18,7 +18,7 @@ respan [] i n = []
 respan (x ∷ room) zero n = record x { span = n } ∷ room
 respan (x ∷ room) (suc i) n = x ∷ respan room i n
 
--- so many entries are put into the room from an index on
+-- these entries are put into the room from an index on, and this is how many they are
 pub record IsLaid (es : List Entry) (first : ℕ) (old new : List Entry) (visits : ℕ) : Type 0 where
   pub is : new ≡ laid first es old
   pub count : length es ≡ visits

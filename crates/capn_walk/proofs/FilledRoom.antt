@@ -15,7 +15,7 @@ use Rattle.capn_walk.specs.Visits.{Visit, pays, slots, visits, visit, last_visit
 use Rattle.capn_walk.specs.Verdict.{Gives, Refuses, accepted, refused, after, judge}
 use Rattle.capn_walk.specs.Viewed.{slots_below}
 use Rattle.capn_walk.specs.Index.{entry_of, entered, entries_by, entries, entries_of}
-use Rattle.capn_walk.specs.Indexing.{laid, respan, IsLaid}
+use Rattle.capn_walk.specs.IndexRoom.{laid, respan, IsLaid}
 use Rattle.capn_walk.specs.Laws.Judge.{judge-more, judge-stops, judge-pays, after-after, after-none}
 
 -- ---- a room

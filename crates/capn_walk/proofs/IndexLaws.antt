@@ -17,12 +17,14 @@ use Rattle.capn_walk.specs.Target.{target}
 use Rattle.capn_walk.specs.Visits.{Visit, pays, price, places, row_places, visits, visits_of}
 use Rattle.capn_walk.specs.Stops.{AllPay, root, visits_at_root, root_visits}
 use Rattle.capn_walk.specs.Viewed.{slots_below, IsInMessage}
+use Rattle.capn_walk.specs.Limits.{Bounds}
+use Rattle.capn_walk.specs.Accepted.{IsAccepted}
 use Rattle.capn_walk.specs.Index.{entry_of, entry_target, kept, kept_of, entered, entries, entries_of, index_of}
 use Rattle.capn_walk.specs.Index.{entry_at, beside, IndexesAreReadable}
 use Rattle.capn_walk.specs.Index.{place_of, IndexesFollowVisits}
 use Rattle.capn_walk.specs.Laws.Costs.{all-front, all-back}
 use Rattle.capn_walk.specs.Laws.Walks.{visits-null, visits-cap, visits-fault, visits-deep, visits-object}
-use Rattle.capn_walk.proofs.Filling.{entries-leaf, entries-object}
+use Rattle.capn_walk.proofs.FilledRoom.{entries-leaf, entries-object}
 use Rattle.capn_walk.proofs.Answering.{all-at_root}
 use Rattle.capn_walk.proofs.SeenInside.{found-inside}
 
@@ -99,7 +101,7 @@ below-or (suc k) (suc a) = next-or k a (below-or k a)
 -- ---- slots stand in their segment
 
 module _ (m : List (List ℕ)) where
-  abbrev AllPlaces : List Place → Type 0
+  abbrev pub AllPlaces : List Place → Type 0
   AllPlaces [] = ⊤
   AllPlaces (p ∷ ps) = IsPlace m p × AllPlaces ps
 
@@ -118,7 +120,7 @@ module _ (m : List (List ℕ)) where
       all-append (places s (w + a) b) (row_places s (w + a + b) a b n) (in-places s (w + a) b (omega arith))
       (in-rows s (w + a + b) a b n (omega arith))
 
-  in-slots : (t : Target) → IsInMessage m t → AllPlaces (slots_below t)
+  pub in-slots : (t : Target) → IsInMessage m t → AllPlaces (slots_below t)
   in-slots targets.Nil h = tt
   in-slots (targets.Cap k) h = tt
   in-slots (targets.Content s start (shapes.Node a b) pads) h =
@@ -370,12 +372,22 @@ module _ (m : List (List ℕ)) where
         slot-of i (length (entries_of m d (slots_below p.t))) p.t f.0 inside ss at (length (entries m (suc d) at)) p.is
         (ap length e)
 
+-- the whole index, as the entries of the root
+at-root : (m : List (List ℕ)) (limits : Bounds) → IsAccepted m limits
+    → Slot m (index_of m limits) root 0 (length (index_of m limits))
+at-root m limits a =
+    let es = index_of m limits in
+    slot-at m es (base limits.tariff) limits.depth root 0 a.some
+    (all-at_root m (base limits.tariff) limits.depth a.within.all)
+    (λ k l. ap (entry_at es) (let z : 0 + k ≡ k = omega arith in z))
+
+pub not-empty : (m : List (List ℕ)) (limits : Bounds) → IsAccepted m limits → 0 < length (index_of m limits)
+not-empty m limits a = (at-root m limits a).some
+
 pub readable : IndexesAreReadable
 readable m limits a =
     let es = index_of m limits in
-    let all = all-at_root m (base limits.tariff) limits.depth a.within.all in
-    let s = slot-at m es (base limits.tariff) limits.depth root 0 a.some all
-    (λ k l. ap (entry_at es) (let z : 0 + k ≡ k = omega arith in z)) in (
+    let s = at-root m limits a in (
       s.is,
       λ i l.
           let r = s.each i l in

@@ -7,7 +7,7 @@ ghost use Rattle.capn_walk.specs.Target as spec;
 ghost use Rattle.capn_walk.specs.Visits.{visits, visits_of};
 ghost use Rattle.capn_walk.specs.Frames.{places_of, owed, Lies};
 ghost use Rattle.capn_walk.specs.Index.{entries, entries_of, index_of, IsIndexed};
-ghost use Rattle.capn_walk.specs.Indexing.{Indexes, respan};
+ghost use Rattle.capn_walk.specs.IndexRoom.{Indexes, respan};
 ghost use Rattle.capn_walk.specs.Accepted.{IsAccepted, IsValueOf, IsRefused, IsBounded, paid};
 ghost use Rattle.capn_value.specs.Tree.{Tree};
 ghost use Rattle.capn_walk.specs.declared.target.Fault.TheVariants.{Memory};
@@ -25,11 +25,17 @@ use crate::walking::{ROOT, root_target};
 use capn_words::{Place, Pointer, Space, split};
 use std::alloc::Allocator;
 
-/// Puts the entries of a message that is accepted within the limits into a room, as far as it goes, and tells how many
-/// there are, with what its walk pays.
+/// Writes the index of a message that is accepted within the limits into a room, and answers how many entries there are
+/// and what the walk pays.
 ///
-/// It visits the slots as [`walk`] and [`survey`] do and refuses what they refuse, in the same way. It takes no memory
-/// but the stack. Where it refuses, the room has what was put before.
+/// The room gets the first entries, as many as go into it, and keeps what it had after them: nothing is refused if it
+/// is too small. There is an entry for each visit, so `budget + 1` entries are always enough, and a room of 0 counts
+/// them.
+///
+/// It visits the slots as [`walk`](crate::walk) and [`survey`] do and refuses what they refuse, in the same way. What
+/// the room has after a refusal is not said.
+///
+/// Memory: none but the stack, which has one frame for each object on the way down, at most as many as the depth limit.
 pub fn index_into<S: Space>(
     space: &S,
     limits: Limits,
@@ -60,9 +66,12 @@ pub fn index_into<S: Space>(
     Ok(told)
 }
 
-/// The index of a message that is accepted within the limits, with what its walk pays.
+/// The index of a message that is accepted within the limits, and what its walk pays.
 ///
 /// It refuses what [`survey`] refuses, in the same way. `Memory` comes only where a growth was refused.
+///
+/// Memory: the entries, 24 bytes each, for which it asks once the message is accepted; and for a depth above 64 that
+/// of a survey.
 pub fn index<S: Space, A: Allocator + Copy>(
     alloc: A,
     space: &S,
@@ -77,6 +86,12 @@ pub fn index<S: Space, A: Allocator + Copy>(
     ensures refused { IfErr result (λ s.
         (s.fault ≡ Memory)
         ⊎ IsRefused (S.message space.now) limits s.fault s.place s.paid s.visits) }
+    // For a depth of at most 64 no growth is needed except for the entries: if it is refused, the message is accepted.
+    ensures inline { limits.depth ≤ 64 →
+        IfErr result (λ s. s.fault ≡ Memory → IsAccepted (S.message space.now) limits) }
+    // No walk pays beyond its budget.
+    ensures bounded { MatchResult result (λ x. IsBounded limits.budget x.paid (length x.entries.items))
+        (λ s. IsBounded limits.budget s.paid s.visits) }
 {
     let told = survey(alloc, space, limits)?;
     let Ok(mut entries) = vec![in alloc; Entry::nil(); told.visits as usize] else {
@@ -91,7 +106,7 @@ pub fn index<S: Space, A: Allocator + Copy>(
     }
 }
 
-/// Puts an entry, where there is room for it.
+/// Puts an entry into the room, if there is room for it.
 #[inline(always)]
 fn put(room: &mut [Entry], at: u32, entry: Entry)
     ensures { room.new ≡ set room.old at entry }
@@ -102,7 +117,7 @@ fn put(room: &mut [Entry], at: u32, entry: Entry)
     }
 }
 
-/// Sets the span of an entry, where there was room for it.
+/// Sets the span of an entry, if there was room for it.
 #[inline(always)]
 fn set_span(room: &mut [Entry], at: u32, span: u32)
     ensures { room.new ≡ respan room.old at span }
@@ -114,7 +129,7 @@ fn set_span(room: &mut [Entry], at: u32, span: u32)
 }
 
 /// The entries of a slot whose target is known, from an index on.
-#[cycle(indexing)]
+#[cycle(index_slots)]
 #[inline(always)]
 fn index_found<S: Space>(
     space: &S,
@@ -175,8 +190,8 @@ fn index_found<S: Space>(
     }
 }
 
-/// The same of a slot whose pointer names content that stands near.
-#[cycle(indexing)]
+/// The entries of a slot whose pointer is that of a struct or list that is near.
+#[cycle(index_slots)]
 #[inline(always)]
 fn index_near<S: Space>(
     space: &S,
@@ -203,8 +218,8 @@ fn index_near<S: Space>(
     index_found(space, at, size, found, depth, left, base, room, first)
 }
 
-/// The same of a slot, whatever it names.
-#[cycle(indexing)]
+/// The entries of a slot, whatever its pointer names.
+#[cycle(index_slots)]
 #[inline(never)]
 fn index_elsewhere<S: Space>(
     space: &S,
@@ -237,9 +252,9 @@ fn index_elsewhere<S: Space>(
     )
 }
 
-/// The same of a slot, where the words of its segment are known. Near structs and near lists have an arm each, so that
-/// each is compiled for its form alone.
-#[cycle(indexing)]
+/// The entries of a slot, from an index on. Near structs and near lists have an arm each, so that each is compiled for
+/// its form alone.
+#[cycle(index_slots)]
 #[inline(always)]
 fn index_slot<S: Space>(
     space: &S,
@@ -276,8 +291,8 @@ fn index_slot<S: Space>(
     }
 }
 
-/// The entries of so many slots, one behind the other, each with all below it.
-#[cycle(indexing)]
+/// The entries of the slots of a frame, one after the other, each with all below it.
+#[cycle(index_slots)]
 #[inline(never)]
 fn index_frame<S: Space>(
     space: &S,

@@ -8,7 +8,7 @@ use Rattle.capn_walk.specs.Visits.{pays, visits, visits_of}
 use Rattle.capn_walk.specs.Frames.{places_of, owed, Lies}
 use Rattle.capn_walk.specs.Viewed.{stepped}
 use Rattle.capn_walk.specs.Index.{entered, entries, entries_of}
-use Rattle.capn_walk.specs.Indexing.{laid}
+use Rattle.capn_walk.specs.IndexRoom.{laid}
 use Rattle.capn_walk.specs.Laws.Walks.{visits-fault, visits-null, refuses-here, gives-nothing}
 use Rattle.capn_walk.specs.Laws.Ways.{never-memory}
 use Rattle.capn_walk.proofs.Framing.{done, not-done, nothing-left}
@@ -16,10 +16,10 @@ use Rattle.capn_walk.proofs.Near.{near-struct, near-list}
 use Rattle.capn_walk.proofs.SeenInside.{found-inside}
 use Rattle.capn_walk.proofs.Stepped.{step-pays, step-refuses, stepped-memory}
 use Rattle.capn_walk.proofs.UnderWay.{null-target}
-use Rattle.capn_walk.proofs.Filling.{entries-leaf, entries-object, leaf-gives, object-gives, object-refuses}
-use Rattle.capn_walk.proofs.Filling.{object-laid}
-use Rattle.capn_walk.proofs.Filling.{way-takes, way-refuses, room-takes, count-takes}
-use Rattle.capn_walk.proofs.indexing.+indexing.Goals as goal
+use Rattle.capn_walk.proofs.FilledRoom.{entries-leaf, entries-object, leaf-gives, object-gives, object-refuses}
+use Rattle.capn_walk.proofs.FilledRoom.{object-laid}
+use Rattle.capn_walk.proofs.FilledRoom.{way-takes, way-refuses, room-takes, count-takes}
+use Rattle.capn_walk.proofs.message_index.+index_slots.Goals as goal
 
 -- ---- a slot whose target is known
 

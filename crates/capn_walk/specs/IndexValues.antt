@@ -1,0 +1,69 @@
+-- Which value an index says with the words of its message: no pointer is read again.
+use Rattle.std.specs.Prelude.{◌≡◌, ◌↔◌, ℕ, suc, ◌+◌, ◌*◌, ◌<◌, List, map, length, Ok, ⊤}
+use Rattle.std.specs.Int.{from_bool}
+use Rattle.capn_words.specs.Message.{IsPlace}
+use Rattle.capn_words.specs.declared.space.Place.{Place}
+use Rattle.capn_words.specs.declared.pointer.Width.TheVariants.{W0, W1, W8, W16, W32, W64, Link}
+use Rattle.capn_value.specs.Tree.{Tree, nil, node, voids, bits, bytes, pairs, quads, octs, links, rows, cap, Trees}
+use Rattle.capn_value.specs.Tree.{no_trees, tree, Bodies, no_bodies, body, count, count_rows}
+use Rattle.capn_walk.specs.declared.entry.Entry.{Entry}
+use Rattle.capn_walk.specs.declared.target.Target.TheVariants as targets
+use Rattle.capn_walk.specs.declared.target.Shape.{Shape}
+use Rattle.capn_walk.specs.declared.target.Shape.TheVariants as shapes
+use Rattle.capn_walk.specs.Target.{target}
+use Rattle.capn_walk.specs.Limits.{Bounds}
+use Rattle.capn_walk.specs.Accepted.{IsAccepted, IsValueOf}
+use Rattle.capn_walk.specs.At.{IsAt, AreWords, AreElements, words_from}
+use Rattle.capn_walk.specs.Index.{index_of, entry_target, entry_at, beside, kept_of}
+
+module _ (message : List (List ℕ)) (es : List Entry) where
+  -- entry i says that its slot names an object of that shape, and what is said holds where its content starts
+  pub record EntryNames (i : ℕ) (shape : Shape) (Inside : ℕ → ℕ → Type 0) : Type 0 where
+    pub segment : ℕ
+    pub start : ℕ
+    pub is : entry_target (entry_at es i) ≡ targets.Content segment start shape 0
+    pub inside : Inside segment start
+
+  -- the value of entry i
+  abbrev mutual
+    pub IsReadAt : ℕ → Tree → Type 0
+    IsReadAt i nil = entry_target (entry_at es i) ≡ targets.Nil
+    IsReadAt i (cap k) = entry_target (entry_at es i) ≡ targets.Cap k
+    IsReadAt i (node ws ss) =
+        EntryNames i (shapes.Node (length ws) (count ss)) (λ s w. AreWords message s w ws × AreReadAt (i + 1) ss)
+    IsReadAt i (voids n) = EntryNames i (shapes.Many W0 n) (λ s w. ⊤)
+    IsReadAt i (bits xs) =
+        EntryNames i (shapes.Many W1 (length xs)) (λ s w. AreElements 64 1 (words_from message s w) (map from_bool xs))
+    IsReadAt i (bytes xs) =
+        EntryNames i (shapes.Many W8 (length xs)) (λ s w. AreElements 8 8 (words_from message s w) xs)
+    IsReadAt i (pairs xs) =
+        EntryNames i (shapes.Many W16 (length xs)) (λ s w. AreElements 4 16 (words_from message s w) xs)
+    IsReadAt i (quads xs) =
+        EntryNames i (shapes.Many W32 (length xs)) (λ s w. AreElements 2 32 (words_from message s w) xs)
+    IsReadAt i (octs xs) = EntryNames i (shapes.Many W64 (length xs)) (λ s w. AreWords message s w xs)
+    IsReadAt i (links ts) = EntryNames i (shapes.Many Link (count ts)) (λ s w. AreReadAt (i + 1) ts)
+    IsReadAt i (rows bs) = (a b : ℕ) × EntryNames i (shapes.Rows (count_rows bs) a b (count_rows bs * (a + b)))
+        (λ s w. RowsReadAt a b s (suc w) (i + 1) bs)
+
+    -- the values of slots: the first has entry i, and each of the others is a span on
+    pub AreReadAt : ℕ → Trees → Type 0
+    AreReadAt i no_trees = ⊤
+    AreReadAt i (tree t ts) = IsReadAt i t × AreReadAt (i + (entry_at es i).span) ts
+
+    -- rows of a words and b slots from a word on, one after the other; the first of all their slots has entry i
+    pub RowsReadAt : ℕ → ℕ → ℕ → ℕ → ℕ → Bodies → Type 0
+    RowsReadAt a b s w i no_bodies = ⊤
+    RowsReadAt a b s w i (body ws ss bs) = (length ws ≡ a) × (count ss ≡ b) × AreWords message s w ws × AreReadAt i ss
+        × RowsReadAt a b s (w + a + b) (beside es i b) bs
+
+-- the value of an accepted message is the one that its index says
+abbrev pub IndexesSayValues : Type 0
+IndexesSayValues = (message : List (List ℕ)) (limits : Bounds) (v : Tree) → IsAccepted message limits
+    → IsValueOf message limits v ↔ IsReadAt message (index_of message limits) 0 v
+
+-- and so at each entry: the value at a place that names what the entry says is the one that the entry says
+abbrev pub EntriesSayValues : Type 0
+EntriesSayValues = (message : List (List ℕ)) (limits : Bounds) (i : ℕ) (at : Place) (v : Tree)
+    → IsAccepted message limits → i < length (index_of message limits) → IsPlace message at
+    → kept_of (target message at) ≡ Ok (entry_target (entry_at (index_of message limits) i))
+    → IsAt message at v ↔ IsReadAt message (index_of message limits) i v
