@@ -10,15 +10,15 @@ ghost use Rattle.capn_value.specs.InRange.{InRange};
 ghost use Rattle.capn_value.specs.Text.{show_text};
 ghost use Rattle.capn_value.specs.declared.misfit.Misfit.{Misfit};
 ghost use Rattle.capn_value.specs.declared.misfit.Misfit.TheVariants.{Tall};
-ghost use Rattle.capn_text.specs.Lexing.{strip};
+ghost use Rattle.capn_text.specs.Tokens.{strip};
 ghost use Rattle.capn_text.specs.Showable.{IsShowable};
 ghost use Rattle.capn_text.specs.Streams.{end_line, ended_lines, BeginsAs};
 ghost use Rattle.capn_text.specs.declared.fault.TextFault.TheVariants as faults;
 
 use crate::fault::TextFault;
-use crate::lexing::skip;
 use crate::lines::lines_in;
-use crate::reading::read_first;
+use crate::one_text::read_first;
+use crate::tokens::skip;
 use capn_value::Tree;
 use std::alloc::Allocator;
 use std::marker::Model;

@@ -2,11 +2,11 @@ use Rattle.std.proofs.Common.{◌≡◌, ◌++◌, ◌∷◌, [], ◌∙◌, ap,
 use Rattle.std.proofs.lemmas.Result.{err_from_is_err_and}
 use Rattle.std.proofs.lemmas.List.{map_push}
 use Rattle.capn_value.specs.View.{tree_of, body_of}
-use Rattle.capn_text.specs.Lexing.{many}
-use Rattle.capn_text.specs.Reading.{tree_at, row_at}
+use Rattle.capn_text.specs.Tokens.{many}
+use Rattle.capn_text.specs.Values.{tree_at, row_at}
 use Rattle.capn_text.specs.declared.heads.Head.TheVariants as heads
 use Rattle.capn_text.proofs.Loops.{goes_on, ends, is_done}
-use Rattle.capn_text.proofs.Made.{node_read, links_read, rows_read}
+use Rattle.capn_text.proofs.ValueOfParts.{node_read, links_read, rows_read}
 use Rattle.capn_text.proofs.contents.+value_at.Goals as goal
 
 pub value_at-returns-in_ok-body-in-Struct : goal.value_at-returns-in_ok-body-in-Struct
@@ -20,14 +20,16 @@ value_at-returns-in_ok-items-in-Links g t c =
     links_read c.args.room c.args.level c.args.text.now c.in_ok-head.rest.now c.in_ok-items-in-Links.rest.now
     c.in_ok-head.head (omega arith) c.in_ok-head.ensures c.in-Named.count c.from_vec.result
     (c.in-Named.is ∙ ap (λ n. heads.Named n c.in-Named.count) c.in-Links.is)
-    (c.in_ok-items-in-Links.ensures ∙ ap (λ vs. Some (map tree_of vs, c.in_ok-items-in-Links.rest.now)) (sym c.from_vec.ensures))
+    (c.in_ok-items-in-Links.ensures ∙ ap (λ vs. Some (map tree_of vs, c.in_ok-items-in-Links.rest.now))
+    (sym c.from_vec.ensures))
 
 pub value_at-returns-in_ok-rows-in-Rows : goal.value_at-returns-in_ok-rows-in-Rows
 value_at-returns-in_ok-rows-in-Rows g t c =
     rows_read c.args.room c.args.level c.args.text.now c.in_ok-head.rest.now c.in_ok-rows-in-Rows.rest.now
     c.in_ok-head.head (omega arith) c.in_ok-head.ensures c.in-Named.count c.from_vec-in-Rows.result
     (c.in-Named.is ∙ ap (λ n. heads.Named n c.in-Named.count) c.in-Rows.is)
-    (c.in_ok-rows-in-Rows.ensures ∙ ap (λ bs. Some (map body_of bs, c.in_ok-rows-in-Rows.rest.now)) (sym c.from_vec-in-Rows.ensures))
+    (c.in_ok-rows-in-Rows.ensures ∙ ap (λ bs. Some (map body_of bs, c.in_ok-rows-in-Rows.rest.now))
+    (sym c.from_vec-in-Rows.ensures))
 
 pub values_at-returns-in_err-value : goal.values_at-returns-in_err-value
 values_at-returns-in_err-value g t c =

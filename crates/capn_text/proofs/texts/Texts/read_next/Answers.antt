@@ -3,9 +3,10 @@ use Rattle.std.proofs.Common.{Some, sym, ap, ◌∙◌, arith}
 use Rattle.capn_value.specs.Text.{show_text}
 use Rattle.capn_text.specs.Streams.{ended_lines, Place}
 use Rattle.capn_value.specs.Laws.Fitting.{fit_parts}
-use Rattle.capn_text.proofs.Showing.{showable-fit}
-use Rattle.capn_text.proofs.Counted.{lines_within}
-use Rattle.capn_text.proofs.Streamed.{line_number, later, same_next, begins_whole, lines_of_front, with_end, room_left, lines_with_end, next_is, rest_is, not_none}
+use Rattle.capn_text.proofs.ShowableValues.{showable-fit}
+use Rattle.capn_text.proofs.LineCounts.{lines_within}
+use Rattle.capn_text.proofs.StreamTexts.{line_number, later, same_next, begins_whole, lines_of_front, with_end}
+use Rattle.capn_text.proofs.StreamTexts.{room_left, lines_with_end, next_is, rest_is, not_none}
 use Rattle.capn_text.specs.declared.fault.TextFault.TheVariants as faults
 use Rattle.capn_text.proofs.texts.Texts.read_next.Goals as goal
 
@@ -80,8 +81,8 @@ returns-in-None-clause-place g c n same =
 pub invariant_of-self : goal.invariant_of-self
 invariant_of-self g c =
     let found = c.in-Ok.ensures.found in
-    let k = room_left c.self.inside.rest.now c.in-Ok.first.0 c.in-Ok.first.1 found.1 c.in-Some.rest.now c.in-Some.ensures
-    found.0 in
+    let k = room_left c.self.inside.rest.now c.in-Ok.first.0 c.in-Ok.first.1 found.1 c.in-Some.rest.now
+    c.in-Some.ensures found.0 in
     let few = c.lines_before.ensures.within in
     let room = c.self.invariant in
     omega arith
@@ -97,7 +98,8 @@ returns-in-None-clause-begun g c other =
     let some = later c.self.inside.line c.lines_before.result c.args.self.now.line
     (ap (λ (p : Place). p.line) c.self.view_is) other in
     let exact = c.lines_before.ensures.exact in
-    let begun = begins_whole c.self.inside.rest.now c.in-Ok.first.0 c.in-Ok.first.1 c.in-Ok.ensures.found.1 (omega arith) in
+    let begun = begins_whole c.self.inside.rest.now c.in-Ok.first.0 c.in-Ok.first.1 c.in-Ok.ensures.found.1
+    (omega arith) in
     rw (← c.self.view_is) ((c.in-Ok.first.0, begun))
 
 pub returns-in-Err-clause-end : goal.returns-in-Err-clause-end
