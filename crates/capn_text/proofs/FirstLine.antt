@@ -13,7 +13,7 @@ use Rattle.capn_text.specs.Tokens.{◌>>=◌, FailsIdly}
 use Rattle.capn_text.specs.declared.fault.Stop.{Stop}
 use Rattle.capn_text.specs.declared.fault.Stop.TheVariants as stops
 use Rattle.std.specs.Prelude.{cond, ◌==◌}
-use Rattle.capn_text.specs.Values.{head_at, content_at, tree_at, whole}
+use Rattle.capn_text.specs.Values.{head_at}
 use Rattle.capn_text.specs.Streams.{ended_lines, BeginsAs}
 use Rattle.capn_text.specs.declared.heads.Leaf.TheVariants as leaves
 use Rattle.capn_text.specs.declared.heads.Name.{Name}
@@ -79,7 +79,7 @@ begun (heads.Named (names.Leaf leaves.Octs) n) =
     let xs = replicate n 0 in
     let more = number_lines 1 xs in
     (octs xs, more, renamed (names.Leaf leaves.Octs) (length xs) n more (length-replicate n 0))
-begun (heads.Named (names.Leaf leaves.Cap) n) = (cap n, [], sym (append-nil (show_text (cap n))))
+begun (heads.Named names.Cap n) = (cap n, [], sym (append-nil (show_text (cap n))))
 
 line_ends : (text : List ℕ) → 0 < ended_lines (line 0 text)
 unfolding line
@@ -91,18 +91,9 @@ line_ends text =
 pub begins : (t : List ℕ) (x : Head × List ℕ) → head_at 0 t ≡ Some x → (v : Tree) × BeginsAs t v
 begins t x e =
     let b = begun x.0 in
-    (b.0, (line 0 (head_text x.0), x.1, b.1, head_takes 0 t x.0 x.1 e, b.2, line_ends (head_text x.0)))
-
--- without one no value is read
-pub no_head : (t : List ℕ) → head_at 0 t ≡ None → tree_at 257 0 t ≡ None
-unfolding tree_at
-no_head t e = ap (λ (r : Option (Head × List ℕ)). r >>= λ h. content_at (tree_at 256) 0 h.0 h.1) e
+    (b.0, (line 0 (head_text x.0), x.1, b.1, (head_takes 0 t x.0 x.1 e).0, b.2, line_ends (head_text x.0)))
 
 pub idle_none : {Y : Type 0} (e : Stop) (r : Option Y) → FailsIdly e r → r ≡ None
 idle_none stops.Memory r h = absurd h
 idle_none (stops.Left n) r h = h
 idle_none stops.Deep r h = h
-
-pub no_whole : (t : List ℕ) → tree_at 257 0 t ≡ None → whole t ≡ None
-unfolding whole
-no_whole t e = ap (λ (r : Option (Tree × List ℕ)). r >>= λ x. cond (length x.1 == 0) (Some x.0) None) e

@@ -68,3 +68,25 @@ mutual
 
 pub showable-fit : (t : Tree) → Fits t → InRange t → IsShowable t
 showable-fit t f r = showable t (fit_parts t f).narrow (fit_parts t f).short r
+
+mutual
+  pub in_range : (t : Tree) → IsShowable t → InRange t
+  in_range nil s = tt
+  in_range (node ws ss) s = (s.2, each_in_range ss s.3)
+  in_range (voids n) s = s
+  in_range (bits xs) s = tt
+  in_range (bytes xs) s = s.1
+  in_range (pairs xs) s = s.1
+  in_range (quads xs) s = s.1
+  in_range (octs xs) s = s.1
+  in_range (links ts) s = each_in_range ts s.1
+  in_range (rows bs) s = rows_in_range bs s.1
+  in_range (cap k) s = s
+
+  each_in_range : (ts : Trees) → EachShowable ts → EachInRange ts
+  each_in_range no_trees s = tt
+  each_in_range (tree t ts) s = (in_range t s.0, each_in_range ts s.1)
+
+  rows_in_range : (bs : Bodies) → RowsShowable bs → RowsInRange bs
+  rows_in_range no_bodies s = tt
+  rows_in_range (body ws ss bs) s = (s.2, each_in_range ss s.3, rows_in_range bs s.4)

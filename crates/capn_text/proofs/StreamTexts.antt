@@ -1,24 +1,22 @@
 -- The text at the front of an input, and its line `end`.
-use Rattle.std.proofs.Common.{◌≡◌, ◌≤◌, ◌<◌, ◌+◌, ℕ, zero, suc, List, [], ◌∷◌, ◌++◌}
-use Rattle.std.proofs.Common.{length, take, drop, Some, None}
-use Rattle.std.proofs.Common.{refl, subst, sym, ap, ap₂, ◌∙◌, append_assoc, arith}
+use Rattle.std.proofs.Common.{◌≡◌, ◌≤◌, ◌<◌, ◌+◌, ◌-◌, ℕ, zero, suc, List, [], ◌∷◌, ◌++◌}
+use Rattle.std.proofs.Common.{length, take, Some, None}
+use Rattle.std.proofs.Common.{refl, sym, ap, ap₂, ◌∙◌, append_assoc, arith}
 use Rattle.std.specs.List.{AllByRecursion}
-use Rattle.std.proofs.lemmas.List.{append-nil, take-append-drop, length-drop, length-append}
+use Rattle.std.proofs.lemmas.List.{length-append}
 use Rattle.capn_value.specs.Tree.{Tree}
-use Rattle.capn_value.specs.Fits.{Fits}
-use Rattle.capn_value.specs.InRange.{InRange}
 use Rattle.capn_value.specs.Text.{show_text}
 use Rattle.capn_text.specs.Tokens.{strip}
 use Rattle.capn_text.specs.Showable.{IsShowable}
-use Rattle.capn_text.specs.Streams.{end_line, stream_text, ended_lines, BeginsAs}
+use Rattle.capn_text.specs.Streams.{end_line, stream_text, ended_lines}
 use Rattle.capn_text.specs.Values.{tree_at, head_at, named_at, name_at}
 use Rattle.capn_value.specs.Sizes.{height}
 use Rattle.capn_text.specs.declared.fault.TextFault.TheVariants as faults
 use Rattle.capn_text.proofs.Steps.{some_is}
 use Rattle.capn_text.proofs.TokenText.{strip_takes, strip_again}
-use Rattle.capn_text.proofs.ShowableValues.{showable-fit}
+use Rattle.capn_text.proofs.FittingText.{before}
 use Rattle.capn_text.proofs.TreeOfText.{tree_again, apart}
-use Rattle.capn_text.proofs.LineCounts.{lines_append}
+use Rattle.capn_text.proofs.LineCounts.{lines_append, lines_within}
 
 pub line_number : (m n : ℕ) → faults.Line m ≡ faults.Line n → m ≡ n
 line_number m n e = cc
@@ -31,53 +29,41 @@ pub later : (a n b : ℕ) → a ≡ b → (faults.Line (a + n) ≡ faults.Line b
 later a zero b same other = absurd (other (ap (λ k. faults.Line k) (omega arith)))
 later a (suc n) b same other = omega arith
 
--- `taken` bytes of `t` are the text of `w`
-module _ (t : List ℕ) (w : Tree) (taken : ℕ) (front : take taken t ≡ show_text w) where
-  pub parted : t ≡ show_text w ++ drop taken t
-  parted = sym (take-append-drop taken t) ∙ ap (λ x. x ++ drop taken t) front
+-- the text of `w` stands first
+module _ (t : List ℕ) (w : Tree) (after : List ℕ) (front : t ≡ show_text w ++ after) where
+  pub lines_of_front : ended_lines t ≡ ended_lines (show_text w) + ended_lines after
+  lines_of_front = ap ended_lines front ∙ lines_append (show_text w) after
 
-  -- a value whose text stands next is this one
-  pub same_next : Fits w → InRange w → (v : Tree) (rest : List ℕ) → Fits v → InRange v → t ≡ show_text v ++ rest → w ≡ v
-  same_next fw rw_ v rest fv rv e =
-      (apart 0 w v (drop taken t) rest (showable-fit w fw rw_) (showable-fit v fv rv) (sym parted ∙ e)).0
-
-  pub begins_whole : 0 < ended_lines (take taken t) → BeginsAs t w
-  begins_whole low =
-      (show_text w, drop taken t, [], parted, sym (append-nil (show_text w)), subst (λ x. 0 < ended_lines x) front low)
-
-  pub lines_of_front : ended_lines t ≡ ended_lines (take taken t) + ended_lines (drop taken t)
-  lines_of_front = ap ended_lines (sym (take-append-drop taken t)) ∙ lines_append (take taken t) (drop taken t)
+  pub lines_counted : ended_lines (take (length t - length after) t) ≡ ended_lines (show_text w)
+  lines_counted = ap ended_lines (before t (show_text w) after front)
 
   -- its end was read
-  module _ (rest : List ℕ) (end : strip end_line (drop taken t) ≡ Some rest) where
+  module _ (rest : List ℕ) (end : strip end_line after ≡ Some rest) where
     pub with_end : t ≡ show_text w ++ (end_line ++ rest)
-    with_end = parted ∙ ap (λ x. show_text w ++ x) (strip_takes end_line (drop taken t) rest end)
+    with_end = front ∙ ap (λ x. show_text w ++ x) (strip_takes end_line after rest end)
 
-    pub lines_with_end : (line : ℕ) → line + ended_lines (take taken t) + 1 + ended_lines rest ≡ line + ended_lines t
+    pub lines_with_end : (line : ℕ) → line + ended_lines (show_text w) + 1 + ended_lines rest ≡ line + ended_lines t
     lines_with_end line =
         let a = lines_of_front in
-        let b : ended_lines (drop taken t) ≡ 1 + ended_lines rest =
-        ap ended_lines (strip_takes end_line (drop taken t) rest end) ∙ one_end rest in
+        let b : ended_lines after ≡ 1 + ended_lines rest =
+        ap ended_lines (strip_takes end_line after rest end) ∙ one_end rest in
         omega arith
 
-    pub room_left : taken ≤ length t → taken + 4 + length rest ≡ length t
-    room_left within =
-        let a = ap length (strip_takes end_line (drop taken t) rest end) in
-        let b = length-drop taken t in
-        let k : length (end_line ++ rest) ≡ 4 + length rest = length-append end_line rest in
+    pub room_left : ended_lines (show_text w) + 4 + length rest ≤ length t
+    room_left =
+        let a = ap length front ∙ length-append (show_text w) after in
+        let b = ap length (strip_takes end_line after rest end) ∙ length-append end_line rest in
+        let c : length end_line ≡ 4 = refl in
+        let few = lines_within (show_text w) in
         omega arith
 
-  -- a value whose text stands next with its end is this one
-  module _ (f : Fits w) (r : InRange w) (v : Tree) (s : IsShowable v) (rest : List ℕ)
-      (e : t ≡ show_text v ++ (end_line ++ rest)) where
-    pub next_is : (w ≡ v) × (drop taken t ≡ end_line ++ rest)
-    next_is = apart 0 w v (drop taken t) (end_line ++ rest) (showable-fit w f r) s (sym parted ∙ e)
+-- what stands after a text is its end
+module _ (after rest : List ℕ) (is : after ≡ end_line ++ rest) where
+  pub rest_is : (left : List ℕ) → strip end_line after ≡ Some left → left ≡ rest
+  rest_is left h = some_is left rest (sym h ∙ ap (strip end_line) is ∙ strip_again end_line rest)
 
-    pub rest_is : (after : List ℕ) → strip end_line (drop taken t) ≡ Some after → after ≡ rest
-    rest_is after h = some_is after rest (sym h ∙ ap (strip end_line) next_is.1 ∙ strip_again end_line rest)
-
-    pub not_none : strip end_line (drop taken t) ≡ None → ⊥
-    not_none h = let k = sym h ∙ ap (strip end_line) next_is.1 ∙ strip_again end_line rest in absurd cc
+  pub not_none : strip end_line after ≡ None → ⊥
+  not_none h = let k = sym h ∙ ap (strip end_line) is ∙ strip_again end_line rest in absurd cc
 
 -- ---- streams
 

@@ -15,7 +15,7 @@ use Rattle.capn_value.specs.InRange.{AllBelow}
 use Rattle.capn_value.specs.Text.{line, body_line, word_lines, number_lines, digits_of, one_line, shown, shown_each}
 use Rattle.capn_value.specs.Text.{shown_rows, show_text}
 use Rattle.capn_text.specs.Tokens.{◌>>=◌, byte_at, bit_at, many, word_line_at, number_line_at}
-use Rattle.capn_text.specs.Values.{head_at, leaf_at, body_at, row_of, row_at, content_at, tree_at, whole}
+use Rattle.capn_text.specs.Values.{Holds, head_at, leaf_at, body_at, row_of, row_at, content_at, low_at, tree_at}
 use Rattle.capn_text.specs.Showable.{IsShowable, EachShowable, RowsShowable}
 use Rattle.capn_text.specs.declared.heads.Leaf.TheVariants as leaves
 use Rattle.capn_text.specs.declared.heads.Name.TheVariants as names
@@ -25,7 +25,7 @@ use Rattle.capn_text.proofs.Steps.{some_is, many_again}
 use Rattle.capn_text.proofs.TokenText.{one_byte, byte_again, encode_none, encode_more}
 use Rattle.capn_text.proofs.Numbers.{word_text, word_line_again, number_text, number_line_again}
 use Rattle.capn_text.proofs.Numbers.{one_digit, bit_again, row_again}
-use Rattle.capn_text.proofs.HeadText.{head_text, IsHead, head_again}
+use Rattle.capn_text.proofs.HeadText.{head_text, head_again}
 
 -- ---- trees and rows as lists
 
@@ -91,19 +91,19 @@ rows_text-cons level b bs =
 -- ---- what is shown is read
 
 abbrev Again : ℕ → Type 0
-Again room = (level : ℕ) (t : Tree) (rest : List ℕ) → height t < room → IsShowable t
+Again room = (level : ℕ) (t : Tree) (rest : List ℕ) → height t ≤ room → IsShowable t
     → tree_at room level (shown level t ++ rest) ≡ Some (t, rest)
 
 abbrev Below : ℕ → Tree → Type 0
-Below room t = (height t < room) × IsShowable t
+Below room t = (height t ≤ room) × IsShowable t
 
-each_below : (room : ℕ) (ts : Trees) → greatest ts < room → EachShowable ts → AllByRecursion (Below room) (listed ts)
+each_below : (room : ℕ) (ts : Trees) → greatest ts ≤ room → EachShowable ts → AllByRecursion (Below room) (listed ts)
 unfolding listed
 each_below room no_trees low s = tt
 each_below room (tree t ts) low s = ((omega arith, s.0), each_below room ts (omega arith) s.1)
 
 module _ (room : ℕ) (again : Again room) where
-  each_again : (level : ℕ) (ts : Trees) (rest : List ℕ) → greatest ts < room → EachShowable ts
+  each_again : (level : ℕ) (ts : Trees) (rest : List ℕ) → greatest ts ≤ room → EachShowable ts
       → many (tree_at room level) (count ts) (shown_each level ts ++ rest) ≡ Some (listed ts, rest)
   each_again level ts rest low s =
       let h = many_again (tree_at room level) (shown level) (each_text level) (Below room) refl (λ x xs. refl)
@@ -111,7 +111,7 @@ module _ (room : ℕ) (again : Again room) where
       ap₂ (λ n us. many (tree_at room level) n (shown_each level us ++ rest)) (sym (length-listed ts))
       (sym (trees-listed ts)) ∙ h
 
-  body_again : (level : ℕ) (ws : List ℕ) (ss : Trees) (rest : List ℕ) → AllBelow (2 ^ 64) ws → greatest ss < room
+  body_again : (level : ℕ) (ws : List ℕ) (ss : Trees) (rest : List ℕ) → AllBelow (2 ^ 64) ws → greatest ss ≤ room
       → EachShowable ss
       → body_at (tree_at room) level (length ws) (count ss) (body_text level (ws, ss) ++ rest) ≡ Some ((ws, ss), rest)
   unfolding body_at
@@ -131,7 +131,7 @@ module _ (room : ℕ) (again : Again room) where
 
   abbrev IsRow : List ℕ × Trees → Type 0
   IsRow b = (length b.0 < 2 ^ 64) × (count b.1 < 2 ^ 64) × AllBelow (2 ^ 64) b.0 × EachShowable b.1 ×
-      (greatest b.1 < room)
+      (greatest b.1 ≤ room)
 
   row_one : (level : ℕ) (b : List ℕ × Trees) (rest : List ℕ) → IsRow b
       → row_at (tree_at room) level (row_text level b ++ rest) ≡ Some (b, rest)
@@ -144,12 +144,12 @@ module _ (room : ℕ) (again : Again room) where
       (head_again level (heads.Struct (length b.0) (count b.1)) (body_text level b ++ rest) (p.0, p.1))
       ∙ body_again level b.0 b.1 rest p.2 p.4 p.3
 
-  rows_fit : (bs : Bodies) → greatest_in_rows bs < room → RowsShowable bs → AllByRecursion IsRow (listed_rows bs)
+  rows_fit : (bs : Bodies) → greatest_in_rows bs ≤ room → RowsShowable bs → AllByRecursion IsRow (listed_rows bs)
   unfolding listed_rows
   rows_fit no_bodies low s = tt
   rows_fit (body ws ss bs) low s = ((s.0, s.1, s.2, s.3, omega arith), rows_fit bs (omega arith) s.4)
 
-  rows_again : (level : ℕ) (bs : Bodies) (rest : List ℕ) → greatest_in_rows bs < room → RowsShowable bs
+  rows_again : (level : ℕ) (bs : Bodies) (rest : List ℕ) → greatest_in_rows bs ≤ room → RowsShowable bs
       → many (row_at (tree_at room) level) (count_rows bs) (shown_rows level bs ++ rest) ≡ Some (listed_rows bs, rest)
   rows_again level bs rest low s =
       let h = many_again (row_at (tree_at room) level) (row_text level) (rows_text level) IsRow refl
@@ -168,15 +168,22 @@ numbers_again greatest level top xs rest fits =
     many_again (number_line_at greatest level) (number_text level) (number_lines level) (λ n. n < suc greatest) refl
     (λ x ys. refl) (number_line_again greatest level top) xs rest fits
 
+-- a value of height 0 by its first line
+lowest : (level : ℕ) (h : Head) (rest : List ℕ) → Holds h
+    → tree_at 0 level (line level (head_text h) ++ rest) ≡ low_at h rest
+unfolding tree_at
+lowest level h rest fits =
+    ap (λ (r : Option (Head × List ℕ)). r >>= λ k. low_at k.0 k.1) (head_again level h rest fits)
+
 -- a value by its first line
-plain : (room level : ℕ) (h : Head) (rest : List ℕ) → IsHead h
+plain : (room level : ℕ) (h : Head) (rest : List ℕ) → Holds h
     → tree_at (suc room) level (line level (head_text h) ++ rest) ≡ content_at (tree_at room) level h rest
 unfolding tree_at
 plain room level h rest fits =
     ap (λ (r : Option (Head × List ℕ)). r >>= λ k. content_at (tree_at room) level k.0 k.1)
     (head_again level h rest fits)
 
-step : (room level : ℕ) (h : Head) (content rest : List ℕ) → IsHead h
+step : (room level : ℕ) (h : Head) (content rest : List ℕ) → Holds h
     → tree_at (suc room) level ((line level (head_text h) ++ content) ++ rest)
     ≡ content_at (tree_at room) level h (content ++ rest)
 step room level h content rest fits =
@@ -185,7 +192,17 @@ step room level h content rest fits =
 
 pub tree_again : (room : ℕ) → Again room
 unfolding leaf_at
-tree_again zero level t rest low s = absurd (omega arith)
+tree_again zero level nil rest low s = lowest level heads.Null rest tt
+tree_again zero level (node ws ss) rest low s = absurd (omega arith)
+tree_again zero level (voids n) rest low s = absurd (omega arith)
+tree_again zero level (bits xs) rest low s = absurd (omega arith)
+tree_again zero level (bytes xs) rest low s = absurd (omega arith)
+tree_again zero level (pairs xs) rest low s = absurd (omega arith)
+tree_again zero level (quads xs) rest low s = absurd (omega arith)
+tree_again zero level (octs xs) rest low s = absurd (omega arith)
+tree_again zero level (links ts) rest low s = absurd (omega arith)
+tree_again zero level (rows bs) rest low s = absurd (omega arith)
+tree_again zero level (cap k) rest low s = lowest level (heads.Named names.Cap k) rest (omega arith)
 tree_again (suc room) level nil rest low s = plain room level heads.Null rest tt
 tree_again (suc room) level (node ws ss) rest low s =
     step room level (heads.Struct (length ws) (count ss)) (body_text level (ws, ss)) rest (s.0, s.1)
@@ -193,51 +210,45 @@ tree_again (suc room) level (node ws ss) rest low s =
     (body_again room (tree_again room) level ws ss rest s.2 (omega arith) s.3)
 tree_again (suc room) level (voids n) rest low s =
     plain room level (heads.Named (names.Leaf leaves.Voids) n) rest (omega arith)
-    ∙ ap (λ b. cond b (Some (voids n, rest)) None) (lt-ltb n (2 ^ 32) s)
 tree_again (suc room) level (bits xs) rest low s =
     step room level (heads.Named (names.Leaf leaves.Bits) (length xs))
-    (one_line (level + 1) (length xs) (digits_of xs)) rest s
+    (one_line (level + 1) (length xs) (digits_of xs)) rest (omega arith)
     ∙ ap (λ (r : Option (List Bool × List ℕ)). r >>= λ x. Some (bits x.0, x.1))
     (row_again bit_at one_digit digits_of (λ _. ⊤) refl (λ x ys. refl) (level + 1) bit_again xs rest (every_bit xs))
 tree_again (suc room) level (bytes xs) rest low s =
     step room level (heads.Named (names.Leaf leaves.Bytes) (length xs))
     (one_line (level + 1) (length xs) (encode_lower xs))
-    rest s.0
+    rest (omega (arith, s.0))
     ∙ ap (λ (r : Option (List ℕ × List ℕ)). r >>= λ x. Some (bytes x.0, x.1))
     (row_again byte_at one_byte encode_lower (λ b. b < 2 ^ 8) encode_none encode_more
     (level + 1) byte_again xs rest s.1)
 tree_again (suc room) level (pairs xs) rest low s =
-    step room level (heads.Named (names.Leaf leaves.Pairs) (length xs)) (number_lines (level + 1) xs) rest s.0
+    step room level (heads.Named (names.Leaf leaves.Pairs) (length xs)) (number_lines (level + 1) xs) rest
+    (omega (arith, s.0))
     ∙ ap (λ (r : Option (List ℕ × List ℕ)). r >>= λ x. Some (pairs x.0, x.1))
     (numbers_again 65535 (level + 1) (omega arith) xs rest s.1)
 tree_again (suc room) level (quads xs) rest low s =
-    step room level (heads.Named (names.Leaf leaves.Quads) (length xs)) (number_lines (level + 1) xs) rest s.0
+    step room level (heads.Named (names.Leaf leaves.Quads) (length xs)) (number_lines (level + 1) xs) rest
+    (omega (arith, s.0))
     ∙ ap (λ (r : Option (List ℕ × List ℕ)). r >>= λ x. Some (quads x.0, x.1))
     (numbers_again 4294967295 (level + 1) (omega arith) xs rest s.1)
 tree_again (suc room) level (octs xs) rest low s =
-    step room level (heads.Named (names.Leaf leaves.Octs) (length xs)) (number_lines (level + 1) xs) rest s.0
+    step room level (heads.Named (names.Leaf leaves.Octs) (length xs)) (number_lines (level + 1) xs) rest
+    (omega (arith, s.0))
     ∙ ap (λ (r : Option (List ℕ × List ℕ)). r >>= λ x. Some (octs x.0, x.1))
     (numbers_again 18446744073709551615 (level + 1) (omega arith) xs rest s.1)
 tree_again (suc room) level (links ts) rest low s =
-    step room level (heads.Named names.Links (count ts)) (shown_each (level + 1) ts) rest s.0
+    step room level (heads.Named names.Links (count ts)) (shown_each (level + 1) ts) rest (omega (arith, s.0))
     ∙ ap (λ (r : Option (List Tree × List ℕ)). r >>= λ us. Some (links (trees us.0), us.1))
     (each_again room (tree_again room) (level + 1) ts rest (omega arith) s.1)
     ∙ ap (λ us. Some (links us, rest)) (trees-listed ts)
 tree_again (suc room) level (rows bs) rest low s =
-    step room level (heads.Named names.Rows (count_rows bs)) (shown_rows (level + 1) bs) rest s.0
+    step room level (heads.Named names.Rows (count_rows bs)) (shown_rows (level + 1) bs) rest (omega (arith, s.0))
     ∙ ap (λ (r : Option (List (List ℕ × Trees) × List ℕ)). r >>= λ cs. Some (rows (rows_from cs.0), cs.1))
     (rows_again room (tree_again room) (level + 1) bs rest (omega arith) s.1)
     ∙ ap (λ cs. Some (rows cs, rest)) (rows-listed bs)
 tree_again (suc room) level (cap k) rest low s =
-    plain room level (heads.Named (names.Leaf leaves.Cap) k) rest (omega arith)
-    ∙ ap (λ b. cond b (Some (cap k, rest)) None) (lt-ltb k (2 ^ 32) s)
-
-pub whole_again : (t : Tree) → height t ≤ 256 → IsShowable t → whole (show_text t) ≡ Some t
-unfolding whole
-whole_again t low s =
-    let read : tree_at 257 0 (show_text t) ≡ Some (t, []) =
-    ap (tree_at 257 0) (sym (append-nil (show_text t))) ∙ tree_again 257 0 t [] (omega arith) s in
-    ap (λ (r : Option (Tree × List ℕ)). r >>= λ x. cond (length x.1 == 0) (Some x.0) None) read
+    plain room level (heads.Named names.Cap k) rest (omega arith)
 
 -- no text begins another's
 pub apart : (level : ℕ) (v w : Tree) (x y : List ℕ) → IsShowable v → IsShowable w

@@ -5,6 +5,7 @@ ghost use Rattle.capn_value.specs.View.{tree_of, body_of};
 ghost use Rattle.capn_text.specs.Tokens as tokens;
 ghost use Rattle.capn_text.specs.Tokens.{Gives};
 ghost use Rattle.capn_text.specs.Values as values;
+ghost use Rattle.capn_text.specs.Values.{Holds};
 
 use crate::fault::Stop;
 use crate::heads::{Head, Name, head_at};
@@ -12,9 +13,8 @@ use crate::leaves::{leaf_at, words_at};
 use capn_value::{Body, Items, Value};
 use std::alloc::Allocator;
 
-/// The value at the front of the text, of fewer than `room` levels, its first line at this level.
+/// The value at the front of the text, of a height of at most `room`, its first line at this level.
 #[cycle(value_at)]
-#[tactic(auto, using(crate::proofs::ValueOfParts::steps_and_views), unfolding(crate::specs::Values::tree_at))]
 pub fn value_at<'t, A: Allocator + Copy>(
     alloc: A,
     room: u32,
@@ -24,26 +24,58 @@ pub fn value_at<'t, A: Allocator + Copy>(
     requires { level + 2 * room < 2 ^ 32 }
     ensures { Gives (λ x. (tree_of x.0, x.1.now)) result (values.tree_at room level text.now) }
 {
-    if room == 0 {
-        return Err(Stop::Deep);
-    }
     let (head, rest) = head_at(level, text)?;
+    if room == 0 {
+        return low_at(head, rest);
+    }
+    content_at(alloc, room - 1, level, head, rest)
+}
+
+// A value of height 0, by its first line.
+#[tactic(auto, using(crate::proofs::ValueOfParts::steps_and_views))]
+fn low_at<'t, A: Allocator>(head: Head, text: &'t [u8]) -> Result<(Value<A>, &'t [u8]), Stop>
+    requires { Holds head }
+    ensures { Gives (λ x. (tree_of x.0, x.1.now)) result (values.low_at head text.now) }
+{
     match head {
-        Head::Null => Ok((Value::Nil, rest)),
+        Head::Null => Ok((Value::Nil, text)),
+        Head::Named(Name::Cap, number) => Ok((Value::Cap(number as u32), text)),
+        _ => Err(Stop::Deep),
+    }
+}
+
+// A value by its first line, which was at this level; what it holds is of a height of at most `room`.
+#[cycle(value_at)]
+#[tactic(auto, using(crate::proofs::ValueOfParts::steps_and_views))]
+fn content_at<'t, A: Allocator + Copy>(
+    alloc: A,
+    room: u32,
+    level: u32,
+    head: Head,
+    text: &'t [u8],
+) -> Result<(Value<A>, &'t [u8]), Stop>
+    requires level { level + 2 + 2 * room < 2 ^ 32 }
+    requires head { Holds head }
+    ensures { Gives (λ x. (tree_of x.0, x.1.now)) result
+        (values.content_at (values.tree_at room) level head text.now) }
+{
+    match head {
+        Head::Null => Ok((Value::Nil, text)),
         Head::Struct(words, slots) => {
-            let (body, rest) = body_at(alloc, room - 1, level, words, slots, rest)?;
+            let (body, rest) = body_at(alloc, room, level, words, slots, text)?;
             Ok((Value::Node(body), rest))
         }
         Head::Named(name, count) => match name {
             Name::Links => {
-                let (items, rest) = values_at(alloc, room - 1, level + 1, count, rest)?;
+                let (items, rest) = values_at(alloc, room, level + 1, count, text)?;
                 Ok((Value::Links(Items::from_vec(items)), rest))
             }
             Name::Rows => {
-                let (rows, rest) = rows_at(alloc, room - 1, level + 1, count, rest)?;
+                let (rows, rest) = rows_at(alloc, room, level + 1, count, text)?;
                 Ok((Value::Rows(Items::from_vec(rows)), rest))
             }
-            Name::Leaf(leaf) => leaf_at(alloc, level, leaf, count, rest, text.len()),
+            Name::Cap => Ok((Value::Cap(count as u32), text)),
+            Name::Leaf(leaf) => leaf_at(alloc, level, leaf, count, text),
         },
     }
 }
@@ -72,7 +104,7 @@ fn body_at<'t, A: Allocator + Copy>(
     Ok((body, rest))
 }
 
-// So many values.
+// `count` values.
 #[cycle(value_at)]
 fn values_at<'t, A: Allocator + Copy>(
     alloc: A,
@@ -115,7 +147,7 @@ fn row_at<'t, A: Allocator + Copy>(
     }
 }
 
-// So many rows.
+// `count` rows.
 #[cycle(value_at)]
 fn rows_at<'t, A: Allocator + Copy>(
     alloc: A,

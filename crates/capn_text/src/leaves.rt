@@ -1,10 +1,11 @@
-//! Values that hold no other.
+//! Lists whose elements hold no other value.
 
-ghost use Rattle.std.specs.Prelude.{◌≡◌, ◌+◌, ◌<◌, ◌^◌};
+ghost use Rattle.std.specs.Prelude.{◌≡◌, ◌+◌, ◌≤◌, ◌<◌, ◌^◌};
 ghost use Rattle.capn_value.specs.View.{tree_of};
 ghost use Rattle.capn_text.specs.Tokens as tokens;
 ghost use Rattle.capn_text.specs.Tokens.{Gives};
 ghost use Rattle.capn_text.specs.Values as values;
+ghost use Rattle.capn_text.specs.declared.heads.Name.TheVariants as names;
 
 use crate::fault::Stop;
 use crate::heads::Leaf;
@@ -12,8 +13,7 @@ use crate::tokens::{bit_at, byte_at, indent_at, number_line_at, pass, word_line_
 use capn_value::{Items, Value};
 use std::alloc::Allocator;
 
-/// A value that holds no other, by its kind and number; its first line was at this level, and `whole` bytes were left
-/// there.
+/// A list whose elements hold no other value, by their kind and number; its first line was at this level.
 #[tactic(auto, using(crate::proofs::ValueOfParts::steps_and_views), unfolding(crate::specs::Values::leaf_at))]
 pub fn leaf_at<'t, A: Allocator>(
     alloc: A,
@@ -21,18 +21,13 @@ pub fn leaf_at<'t, A: Allocator>(
     leaf: Leaf,
     count: u64,
     text: &'t [u8],
-    whole: usize,
 ) -> Result<(Value<A>, &'t [u8]), Stop>
-    requires { level + 1 < 2 ^ 32 }
+    requires level { level + 1 < 2 ^ 32 }
+    requires number { count ≤ values.greatest_number (names.Leaf leaf) }
     ensures { Gives (λ x. (tree_of x.0, x.1.now)) result (values.leaf_at level leaf count text.now) }
 {
     match leaf {
-        Leaf::Voids => {
-            if count > u32::MAX as u64 {
-                return Err(Stop::Left(whole));
-            }
-            Ok((Value::Voids(count as u32), text))
-        }
+        Leaf::Voids => Ok((Value::Voids(count as u32), text)),
         Leaf::Bits => {
             let (xs, rest) = bits_at(alloc, level + 1, count, text)?;
             Ok((Value::Bits(Items::from_vec(xs)), rest))
@@ -52,12 +47,6 @@ pub fn leaf_at<'t, A: Allocator>(
         Leaf::Octs => {
             let (xs, rest) = octs_at(alloc, level + 1, count, text)?;
             Ok((Value::Octs(Items::from_vec(xs)), rest))
-        }
-        Leaf::Cap => {
-            if count > u32::MAX as u64 {
-                return Err(Stop::Left(whole));
-            }
-            Ok((Value::Cap(count as u32), text))
         }
     }
 }

@@ -18,7 +18,7 @@ mod texts;
 mod tokens;
 
 pub use fault::TextFault;
-pub use one_text::{read, read_first};
+pub use one_text::read;
 pub use texts::Texts;
 
 #[cfg(test)]

@@ -20,11 +20,12 @@ pub fn lines_in(bytes: &[u8]) -> u64
     lines
 }
 
-/// The line, counted from 1, on which so many bytes of the text are left.
+/// How many lines of a text end before its last `left` bytes.
 #[tactic(auto, using(crate::proofs::LineCounts::lines_before))]
-pub fn line_of(text: &[u8], left: usize) -> u64
-    ensures exact { result ≡ ended_lines (take (length text.now - left) text.now) + 1 }
-    ensures within { result ≤ ended_lines text.now + 1 }
+pub fn lines_before(text: &[u8], left: usize) -> u64
+    ensures exact { result ≡ ended_lines (take (length text.now - left) text.now) }
+    ensures within { result ≤ ended_lines text.now }
+    ensures below { result ≤ length text.now }
 {
-    lines_in(&text[..text.len().saturating_sub(left)]) + 1
+    lines_in(&text[..text.len().saturating_sub(left)])
 }

@@ -1,7 +1,7 @@
-//! The tree of a text.
+//! The tree of one text.
 
-ghost use Rattle.std.specs.Prelude.{◌≡◌, ◌≢◌, ◌⊎◌, ◌≤◌, ◌+◌, ◌++◌, ℕ, List, IfOk, IfErr};
-ghost use Rattle.std.specs.Prelude.{MatchResult, Some, None, true, false, length, take};
+ghost use Rattle.std.specs.Prelude.{◌≡◌, ◌≢◌, ◌⊎◌, ◌≤◌, ◌+◌, ◌++◌, ℕ, List, [], IfOk, IfErr};
+ghost use Rattle.std.specs.Prelude.{MatchResult, Some, None, true, false};
 ghost use Rattle.capn_value.specs.Tree as trees;
 ghost use Rattle.capn_value.specs.View.{tree_of};
 ghost use Rattle.capn_value.specs.Sizes.{height, most_height};
@@ -10,7 +10,6 @@ ghost use Rattle.capn_value.specs.InRange.{InRange};
 ghost use Rattle.capn_value.specs.Text.{show_text};
 ghost use Rattle.capn_value.specs.declared.misfit.Misfit.{Misfit};
 ghost use Rattle.capn_value.specs.declared.misfit.Misfit.TheVariants.{Tall};
-ghost use Rattle.capn_text.specs.Tokens.{Gives};
 ghost use Rattle.capn_text.specs.Showable.{IsShowable};
 ghost use Rattle.capn_text.specs.Values as values;
 ghost use Rattle.capn_text.specs.Streams.{ended_lines, BeginsAs};
@@ -19,13 +18,14 @@ ghost use Rattle.capn_text.specs.declared.fault.TextFault.TheVariants as faults;
 use crate::contents::value_at;
 use crate::fault::{Stop, TextFault};
 use crate::heads::head_at;
-use crate::lines::line_of;
+use crate::lines::lines_before;
 use capn_value::{MOST_HEIGHT, Misfit, Tree, Value};
 use std::alloc::Allocator;
 
 /// The tree of a text: the one for which [`capn_value::show`] writes this text.
 ///
-/// Linear in the text. Memory: the tree's own, up to twice for lists as they grow. The stack holds at most 257 values.
+/// A line is refused before a misfit is, and a text of more than 256 levels is `Tall`, whatever follows. Linear in the
+/// text. Memory: the tree's own, up to twice for lists as they grow. The stack holds at most 257 values.
 pub fn read<A: Allocator + Copy>(alloc: A, text: &[u8]) -> Result<Tree<A>, TextFault>
     // What is read has this text.
     ensures found { IfOk result (λ t. text.now ≡ show_text t) }
@@ -41,71 +41,58 @@ pub fn read<A: Allocator + Copy>(alloc: A, text: &[u8]) -> Result<Tree<A>, TextF
     ensures misfit { IfErr result (λ e. (m : Misfit) → e ≡ faults.Misfit m →
         (m ≡ Tall) ⊎ ((v : trees.Tree) × InRange v × (text.now ≡ show_text v) × (misfit v ≡ Some m))) }
 {
-    // No memory is needed if the first line is that of no value.
-    if has_no_head(text) {
-        return Err(TextFault::Line(1));
+    let (value, rest) = first_value(alloc, text)?;
+    if has_more(rest) {
+        drop(value);
+        return Err(TextFault::Line(lines_before(text, rest.len()) + 1));
     }
-    let value = match value_of(alloc, text) {
-        Ok(value) => value,
-        Err(Stop::Memory) => return Err(TextFault::Memory),
-        Err(Stop::Left(left)) => return Err(TextFault::Line(line_of(text, left))),
-        Err(Stop::Deep) => return Err(TextFault::Misfit(Misfit::Tall)),
-    };
-    match Tree::new(value) {
-        Ok(tree) => Ok(tree),
-        Err((value, reason)) => {
-            // One call is cheaper to check than fields that are dropped one by one.
-            drop(value);
-            Err(TextFault::Misfit(reason))
-        }
+    let tree = fitting(value)?;
+    Ok(tree)
+}
+
+fn has_more(rest: &[u8]) -> bool
+    ensures more { result ≡ true → rest.now ≢ [] }
+    ensures over { result ≡ false → rest.now ≡ [] }
+{
+    match rest {
+        [] => false,
+        _ => true,
     }
 }
 
-/// The tree of the text at the front of these bytes, and how many of them that text takes.
-///
-/// What stands after it is not looked at. Linear in that text, with the memory and the stack of [`read`].
-pub fn read_first<A: Allocator + Copy>(alloc: A, text: &[u8]) -> Result<(Tree<A>, usize), TextFault>
-    // So many bytes at the front are the text of what is read.
-    ensures found { IfOk result (λ x. (x.1 ≤ length text.now) × (take x.1 text.now ≡ show_text x.0)) }
-    ensures fits { IfOk result (λ x. Fits x.0 × InRange x.0) }
-    // A tree whose text stands first is read, unless memory runs out.
-    ensures only { (v : trees.Tree) (rest : List ℕ) → Fits v → InRange v → text.now ≡ show_text v ++ rest →
-        MatchResult result (λ x. (x.0 ≡ v) × (x.1 ≡ length (show_text v))) (λ e. e ≡ faults.Memory) }
-    // Bytes that are refused by a line begin with the text of no value, fit or not, of at most 256 levels.
-    ensures line { IfErr result (λ e. (n : ℕ) → e ≡ faults.Line n → (v : trees.Tree) (rest : List ℕ) → IsShowable v →
-        height v ≤ most_height → text.now ≢ show_text v ++ rest) }
-    // That line is one of these bytes, or the one after their last.
+/// The value whose text is at the front of these bytes, whether it fits or not, and the bytes after that text.
+pub fn first_value<A: Allocator + Copy>(
+    alloc: A,
+    text: &[u8],
+) -> Result<(Value<A>, &[u8]), TextFault>
+    ensures found { IfOk result (λ x. text.now ≡ show_text (tree_of x.0) ++ x.1.now) }
+    ensures range { IfOk result (λ x. InRange (tree_of x.0)) }
+    // A value of at most 256 levels whose text is at the front is read, unless memory runs out.
+    ensures only { (v : trees.Tree) (rest : List ℕ) → IsShowable v → height v ≤ most_height →
+        text.now ≡ show_text v ++ rest →
+        MatchResult result (λ x. (tree_of x.0 ≡ v) × (x.1.now ≡ rest)) (λ e. e ≡ faults.Memory) }
+    // A line that is refused is one of these bytes, or the one after their last.
     ensures place { IfErr result (λ e. (n : ℕ) → e ≡ faults.Line n → (1 ≤ n) × (n ≤ ended_lines text.now + 1)) }
-    // Except for line 1, nothing is refused and no memory needed before the first line is that of a value.
+    // Except for line 1, nothing is answered and no memory needed before the first line is that of a value.
+    ensures begins { IfOk result (λ x. (v : trees.Tree) × BeginsAs text.now v) }
     ensures begun { IfErr result (λ e. e ≢ faults.Line 1 → (v : trees.Tree) × BeginsAs text.now v) }
-    // A misfit is that of the value whose text stands first, or the text goes too deep.
-    ensures misfit { IfErr result (λ e. (m : Misfit) → e ≡ faults.Misfit m →
-        (m ≡ Tall) ⊎ ((v : trees.Tree) × (rest : List ℕ) × InRange v × (text.now ≡ show_text v ++ rest)
-        × (misfit v ≡ Some m))) }
+    ensures tall { IfErr result (λ e. (m : Misfit) → e ≡ faults.Misfit m → m ≡ Tall) }
 {
     // No memory is needed if the first line is that of no value.
     if has_no_head(text) {
         return Err(TextFault::Line(1));
     }
-    let (value, rest) = match value_at(alloc, MOST_HEIGHT + 1, 0, text) {
-        Ok(first) => first,
-        Err(Stop::Memory) => return Err(TextFault::Memory),
-        Err(Stop::Left(left)) => return Err(TextFault::Line(line_of(text, left))),
-        Err(Stop::Deep) => return Err(TextFault::Misfit(Misfit::Tall)),
-    };
-    match Tree::new(value) {
-        Ok(tree) => Ok((tree, text.len() - rest.len())),
-        Err((value, flaw)) => {
-            // As in `read`.
-            drop(value);
-            Err(TextFault::Misfit(flaw))
-        }
+    match value_at(alloc, MOST_HEIGHT, 0, text) {
+        Ok((value, rest)) => Ok((value, rest)),
+        Err(Stop::Memory) => Err(TextFault::Memory),
+        Err(Stop::Left(left)) => Err(TextFault::Line(lines_before(text, left) + 1)),
+        Err(Stop::Deep) => Err(TextFault::Misfit(Misfit::Tall)),
     }
 }
 
 // Whether the first line is that of no value.
 fn has_no_head(text: &[u8]) -> bool
-    ensures none { result ≡ true → values.tree_at 257 0 text.now ≡ None }
+    ensures none { result ≡ true → values.tree_at 256 0 text.now ≡ None }
     ensures some { result ≡ false → (v : trees.Tree) × BeginsAs text.now v }
 {
     match head_at(0, text) {
@@ -114,14 +101,18 @@ fn has_no_head(text: &[u8]) -> bool
     }
 }
 
-// The value of a text, all of it.
-#[tactic(auto, unfolding(crate::specs::Values::whole))]
-fn value_of<A: Allocator + Copy>(alloc: A, text: &[u8]) -> Result<Value<A>, Stop>
-    ensures { Gives tree_of result (values.whole text.now) }
+/// A value as a tree, if it fits into a message.
+pub fn fitting<A: Allocator>(value: Value<A>) -> Result<Tree<A>, TextFault>
+    ensures found { IfOk result (λ t. t ≡ tree_of value) }
+    ensures fits { IfOk result (λ t. Fits t) }
+    ensures misfit { IfErr result (λ e. (m : Misfit) × (e ≡ faults.Misfit m) × (misfit (tree_of value) ≡ Some m)) }
 {
-    let (value, rest) = value_at(alloc, MOST_HEIGHT + 1, 0, text)?;
-    if !rest.is_empty() {
-        return Err(Stop::Left(rest.len()));
+    match Tree::new(value) {
+        Ok(tree) => Ok(tree),
+        Err((value, flaw)) => {
+            // One call is cheaper to check than fields that are dropped one by one.
+            drop(value);
+            Err(TextFault::Misfit(flaw))
+        }
     }
-    Ok(value)
 }
