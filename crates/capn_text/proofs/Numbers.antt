@@ -1,16 +1,18 @@
 -- Lines of numbers, and one line of many digits.
 use Rattle.std.proofs.Common.{◌≡◌, ℕ, zero, suc, ◌*◌, ◌^◌, ◌<◌, Bool, true, false, cond, List, [], ◌∷◌, ◌++◌}
-use Rattle.std.proofs.Common.{length, Option, Some, None, codes, replicate, refl, sym, ap, subst, ◌∙◌, append_assoc, arith, inl, inr}
+use Rattle.std.proofs.Common.{length, Option, Some, None, codes, replicate, refl, sym, ap, subst, ◌∙◌, append_assoc}
+use Rattle.std.proofs.Common.{arith, inl, inr}
 use Rattle.std.specs.Prelude.{nat_le, ◌==◌, ⊤}
 use Rattle.std.specs.List.{AllByRecursion}
 use Rattle.std.specs.Fmt.{decimal}
 use Rattle.std.proofs.lemmas.Bool.{leb-true, le-leb, eqb-true, ne_eqb}
 use Rattle.capn_value.specs.Text.{line, hex16, one_line, digit}
-use Rattle.capn_text.specs.Lexing.{◌>>=◌, strip, indent_at, decimal_at, bit_at, word_at, many, word_line_at, number_line_at}
-use Rattle.capn_text.specs.Lexing.{row_line_at}
+use Rattle.capn_text.specs.Tokens.{◌>>=◌, strip, indent_at, decimal_at, bit_at, word_at, many, word_line_at}
+use Rattle.capn_text.specs.Tokens.{number_line_at}
+use Rattle.capn_text.specs.Tokens.{row_line_at}
 use Rattle.capn_text.proofs.Steps.{bind_some, guard_some, chosen, some_is, then, many_again, many_takes}
-use Rattle.capn_text.proofs.Lexed.{strip_takes, indent_takes, indent_again, decimal_takes, decimal_again}
-use Rattle.capn_text.proofs.Lexed.{word_takes, word_again}
+use Rattle.capn_text.proofs.TokenText.{strip_takes, indent_takes, indent_again, decimal_takes, decimal_again}
+use Rattle.capn_text.proofs.TokenText.{word_takes, word_again}
 
 -- a line and what stands after it
 pub line_is : (level : ℕ) (x rest : List ℕ) → line level x ++ rest ≡ replicate (2 * level) 32 ++ (x ++ 10 ∷ rest)
@@ -43,7 +45,8 @@ word_line_again level w rest fits =
     let digits : List ℕ → Option (ℕ × List ℕ) =
     (λ d. word_at d >>= λ n. strip (10 ∷ []) n.1 >>= λ r. Some (n.0, r)) in
     in_line level (codes "word " ++ hex16 w) rest (λ a. strip (codes "word ") a >>= digits)
-    ∙ ap (λ (r : Option (ℕ × List ℕ)). r >>= λ n. strip (10 ∷ []) n.1 >>= λ z. Some (n.0, z)) (word_again w (10 ∷ rest) fits)
+    ∙ ap (λ (r : Option (ℕ × List ℕ)). r >>= λ n. strip (10 ∷ []) n.1 >>= λ z. Some (n.0, z))
+    (word_again w (10 ∷ rest) fits)
 
 pub word_line_takes : (level : ℕ) (t : List ℕ) (w : ℕ) (rest : List ℕ) → word_line_at level t ≡ Some (w, rest)
     → (t ≡ word_text level w ++ rest) × (w < 2 ^ 64)
@@ -83,7 +86,8 @@ module _ (greatest level : ℕ) where
       >>= λ r. cond (nat_le n.0 greatest) (Some (n.0, r)) None) (k, rest) e in
       let n = bind_some (decimal_at a.0) (λ n. strip (10 ∷ []) n.1
       >>= λ r. cond (nat_le n.0 greatest) (Some (n.0, r)) None) (k, rest) a.2 in
-      let z = bind_some (strip (10 ∷ []) n.0.1) (λ r. cond (nat_le n.0.0 greatest) (Some (n.0.0, r)) None) (k, rest) n.2 in
+      let z = bind_some (strip (10 ∷ []) n.0.1) (λ r. cond (nat_le n.0.0 greatest) (Some (n.0.0, r)) None)
+      (k, rest) n.2 in
       let g = guard_some (nat_le n.0.0 greatest) (n.0.0, z.0) (k, rest) z.2 in
       let low = leb-true n.0.0 greatest g.0 in
       subst (λ (y : ℕ × List ℕ). (t ≡ number_text level y.0 ++ y.1) × (y.0 < suc greatest)) g.1
@@ -140,7 +144,8 @@ module _ {X : Type 0} (one : List ℕ → Option (X × List ℕ)) (show : X → 
       → (t ≡ one_line level (length xs) (text xs) ++ rest) × (length xs ≡ n) × AllByRecursion P xs
   unfolding row_line_at
   row_takes takes zero t xs rest e =
-      subst (λ (y : List X × List ℕ). (t ≡ one_line level (length y.0) (text y.0) ++ y.1) × (length y.0 ≡ 0) × AllByRecursion P y.0)
+      subst (λ (y : List X × List ℕ). (t ≡ one_line level (length y.0) (text y.0) ++ y.1) ×
+      (length y.0 ≡ 0) × AllByRecursion P y.0)
       (some_is ([], t) (xs, rest) e) (refl, refl, tt)
   row_takes takes (suc n) t xs rest e =
       let a = bind_some (indent_at level t) (λ l. many one (suc n) l >>= λ ys. strip (10 ∷ []) ys.1
@@ -151,5 +156,6 @@ module _ {X : Type 0} (one : List ℕ → Option (X × List ℕ)) (show : X → 
       let whole = line_from level t a.0 (text b.0.0) b.0.1 z.0 a.1 m.0 z.1 in
       let here : one_line level (length b.0.0) (text b.0.0) ≡ line level (text b.0.0) =
       ap (λ k. one_line level k (text b.0.0)) m.1 in
-      subst (λ (y : List X × List ℕ). (t ≡ one_line level (length y.0) (text y.0) ++ y.1) × (length y.0 ≡ suc n) × AllByRecursion P y.0)
+      subst (λ (y : List X × List ℕ). (t ≡ one_line level (length y.0) (text y.0) ++ y.1) ×
+      (length y.0 ≡ suc n) × AllByRecursion P y.0)
       (some_is (b.0.0, z.0) (xs, rest) z.2) (whole ∙ ap (λ k. k ++ z.0) (sym here), m.1, m.2)

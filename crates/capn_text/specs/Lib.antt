@@ -1,5 +1,5 @@
-pub mod Lexing
-pub mod Reading
+pub mod Tokens
+pub mod Values
 pub mod Showable
 pub mod Streams
 pub mod Laws

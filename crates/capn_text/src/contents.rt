@@ -2,19 +2,19 @@
 
 ghost use Rattle.std.specs.Prelude.{◌≡◌, ◌+◌, ◌*◌, ◌<◌, ◌^◌, map};
 ghost use Rattle.capn_value.specs.View.{tree_of, body_of};
-ghost use Rattle.capn_text.specs.Lexing as lexing;
-ghost use Rattle.capn_text.specs.Lexing.{Gives};
-ghost use Rattle.capn_text.specs.Reading as texts;
+ghost use Rattle.capn_text.specs.Tokens as tokens;
+ghost use Rattle.capn_text.specs.Tokens.{Gives};
+ghost use Rattle.capn_text.specs.Values as values;
+ghost use Rattle.capn_text.specs.Values.{Holds};
 
 use crate::fault::Stop;
-use crate::flat::{flat_at, words_at};
 use crate::heads::{Head, Name, head_at};
+use crate::leaves::{leaf_at, words_at};
 use capn_value::{Body, Items, Value};
 use std::alloc::Allocator;
 
-/// The value at the front of the text, of fewer than `room` levels, its first line at this level.
+/// The value at the front of the text, of a height of at most `room`, its first line at this level.
 #[cycle(value_at)]
-#[tactic(auto, using(std::proofs::lemmas::Grind::common_steps, capn_value::specs::Views::views), unfolding(crate::specs::Reading::tree_at))]
 pub fn value_at<'t, A: Allocator + Copy>(
     alloc: A,
     room: u32,
@@ -22,35 +22,67 @@ pub fn value_at<'t, A: Allocator + Copy>(
     text: &'t [u8],
 ) -> Result<(Value<A>, &'t [u8]), Stop>
     requires { level + 2 * room < 2 ^ 32 }
-    ensures { Gives (λ x. (tree_of x.0, x.1.now)) result (texts.tree_at room level text.now) }
+    ensures { Gives (λ x. (tree_of x.0, x.1.now)) result (values.tree_at room level text.now) }
 {
-    if room == 0 {
-        return Err(Stop::Deep);
-    }
     let (head, rest) = head_at(level, text)?;
+    if room == 0 {
+        return low_at(head, rest);
+    }
+    content_at(alloc, room - 1, level, head, rest)
+}
+
+// A value of height 0, by its first line.
+#[tactic(auto, using(crate::proofs::ValueOfParts::steps_and_views))]
+fn low_at<'t, A: Allocator>(head: Head, text: &'t [u8]) -> Result<(Value<A>, &'t [u8]), Stop>
+    requires { Holds head }
+    ensures { Gives (λ x. (tree_of x.0, x.1.now)) result (values.low_at head text.now) }
+{
     match head {
-        Head::Null => Ok((Value::Nil, rest)),
+        Head::Null => Ok((Value::Nil, text)),
+        Head::Named(Name::Cap, number) => Ok((Value::Cap(number as u32), text)),
+        _ => Err(Stop::Deep),
+    }
+}
+
+// A value by its first line, which was at this level; what it holds is of a height of at most `room`.
+#[cycle(value_at)]
+#[tactic(auto, using(crate::proofs::ValueOfParts::steps_and_views))]
+fn content_at<'t, A: Allocator + Copy>(
+    alloc: A,
+    room: u32,
+    level: u32,
+    head: Head,
+    text: &'t [u8],
+) -> Result<(Value<A>, &'t [u8]), Stop>
+    requires level { level + 2 + 2 * room < 2 ^ 32 }
+    requires head { Holds head }
+    ensures { Gives (λ x. (tree_of x.0, x.1.now)) result
+        (values.content_at (values.tree_at room) level head text.now) }
+{
+    match head {
+        Head::Null => Ok((Value::Nil, text)),
         Head::Struct(words, slots) => {
-            let (body, rest) = body_at(alloc, room - 1, level, words, slots, rest)?;
+            let (body, rest) = body_at(alloc, room, level, words, slots, text)?;
             Ok((Value::Node(body), rest))
         }
         Head::Named(name, count) => match name {
             Name::Links => {
-                let (items, rest) = values_at(alloc, room - 1, level + 1, count, rest)?;
+                let (items, rest) = values_at(alloc, room, level + 1, count, text)?;
                 Ok((Value::Links(Items::from_vec(items)), rest))
             }
             Name::Rows => {
-                let (rows, rest) = rows_at(alloc, room - 1, level + 1, count, rest)?;
+                let (rows, rest) = rows_at(alloc, room, level + 1, count, text)?;
                 Ok((Value::Rows(Items::from_vec(rows)), rest))
             }
-            Name::Flat(flat) => flat_at(alloc, level, flat, count, rest, text.len()),
+            Name::Cap => Ok((Value::Cap(count as u32), text)),
+            Name::Leaf(leaf) => leaf_at(alloc, level, leaf, count, text),
         },
     }
 }
 
 // The words and slots of a struct, whose first line was at this level.
 #[cycle(value_at)]
-#[tactic(auto, unfolding(crate::specs::Reading::body_at))]
+#[tactic(auto, unfolding(crate::specs::Values::body_at))]
 fn body_at<'t, A: Allocator + Copy>(
     alloc: A,
     room: u32,
@@ -61,7 +93,7 @@ fn body_at<'t, A: Allocator + Copy>(
 ) -> Result<(Body<A>, &'t [u8]), Stop>
     requires { level + 1 + 2 * room < 2 ^ 32 }
     ensures { Gives (λ x. (body_of x.0, x.1.now)) result
-        (texts.body_at (texts.tree_at room) level words slots text.now) }
+        (values.body_at (values.tree_at room) level words slots text.now) }
 {
     let (words, rest) = words_at(alloc, level + 1, words, text)?;
     let (slots, rest) = values_at(alloc, room, level + 1, slots, rest)?;
@@ -72,7 +104,7 @@ fn body_at<'t, A: Allocator + Copy>(
     Ok((body, rest))
 }
 
-// So many values.
+// `count` values.
 #[cycle(value_at)]
 fn values_at<'t, A: Allocator + Copy>(
     alloc: A,
@@ -83,7 +115,7 @@ fn values_at<'t, A: Allocator + Copy>(
 ) -> Result<(Vec<Value<A>, A>, &'t [u8]), Stop>
     requires { level + 2 * room < 2 ^ 32 }
     ensures { Gives (λ x. (map tree_of x.0.items, x.1.now)) result
-        (lexing.many (texts.tree_at room level) count text.now) }
+        (tokens.many (values.tree_at room level) count text.now) }
 {
     let mut items = Vec::new(alloc);
     let mut rest = text;
@@ -97,7 +129,7 @@ fn values_at<'t, A: Allocator + Copy>(
 
 // One row.
 #[cycle(value_at)]
-#[tactic(auto, unfolding(crate::specs::Reading::row_at))]
+#[tactic(auto, unfolding(crate::specs::Values::row_at))]
 fn row_at<'t, A: Allocator + Copy>(
     alloc: A,
     room: u32,
@@ -105,7 +137,7 @@ fn row_at<'t, A: Allocator + Copy>(
     text: &'t [u8],
 ) -> Result<(Body<A>, &'t [u8]), Stop>
     requires { level + 1 + 2 * room < 2 ^ 32 }
-    ensures { Gives (λ x. (body_of x.0, x.1.now)) result (texts.row_at (texts.tree_at room) level text.now) }
+    ensures { Gives (λ x. (body_of x.0, x.1.now)) result (values.row_at (values.tree_at room) level text.now) }
 {
     let (head, rest) = head_at(level, text)?;
     match head {
@@ -115,7 +147,7 @@ fn row_at<'t, A: Allocator + Copy>(
     }
 }
 
-// So many rows.
+// `count` rows.
 #[cycle(value_at)]
 fn rows_at<'t, A: Allocator + Copy>(
     alloc: A,
@@ -126,7 +158,7 @@ fn rows_at<'t, A: Allocator + Copy>(
 ) -> Result<(Vec<Body<A>, A>, &'t [u8]), Stop>
     requires { level + 1 + 2 * room < 2 ^ 32 }
     ensures { Gives (λ x. (map body_of x.0.items, x.1.now)) result
-        (lexing.many (texts.row_at (texts.tree_at room) level) count text.now) }
+        (tokens.many (values.row_at (values.tree_at room) level) count text.now) }
 {
     let mut items = Vec::new(alloc);
     let mut rest = text;

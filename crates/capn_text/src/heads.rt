@@ -1,45 +1,48 @@
 //! The first line of a value.
 
-ghost use Rattle.std.specs.Prelude.{◌≡◌};
-ghost use Rattle.capn_text.specs.Lexing.{GivesIdly};
-ghost use Rattle.capn_text.specs.Reading as texts;
+ghost use Rattle.std.specs.Prelude.{◌≡◌, IfOk};
+ghost use Rattle.capn_text.specs.Tokens.{GivesIdly};
+ghost use Rattle.capn_text.specs.Values as values;
+ghost use Rattle.capn_text.specs.Values.{Holds};
 
 use crate::fault::Stop;
-use crate::lexing::{decimal_at, indent_at, pass, skip};
+use crate::tokens::{decimal_at, indent_at, pass, skip};
 
-/// A value that holds no other, except null.
+/// A list whose elements hold no other value, by the kind of its elements.
 #[derive(Clone, Copy)]
-pub enum Flat {
+pub enum Leaf {
     Voids,
     Bits,
     Bytes,
     Pairs,
     Quads,
     Octs,
-    Cap,
 }
 
-/// What stands before a number.
+/// The name before a single number.
 #[derive(Clone, Copy)]
 pub enum Name {
     Links,
     Rows,
-    Flat(Flat),
+    Cap,
+    Leaf(Leaf),
 }
 
-/// What a first line tells.
+/// What a first line says: the kind of a value, and its sizes.
 #[derive(Clone, Copy)]
 pub enum Head {
     Null,
     /// Words and slots.
     Struct(u64, u64),
+    /// The number of elements, or of a capability.
     Named(Name, u64),
 }
 
 /// The first line at the front of the text, at a level.
-#[tactic(auto, unfolding(crate::specs::Reading::head_at))]
+#[tactic(auto, unfolding(crate::specs::Values::head_at))]
 pub fn head_at(level: u32, text: &[u8]) -> Result<(Head, &[u8]), Stop>
-    ensures { GivesIdly (λ x. (x.0, x.1.now)) result (texts.head_at level text.now) }
+    ensures value { GivesIdly (λ x. (x.0, x.1.now)) result (values.head_at level text.now) }
+    ensures holds { IfOk result (λ x. Holds x.0) }
 {
     let line = indent_at(level, text)?;
     match skip(line, b"null\n") {
@@ -51,9 +54,10 @@ pub fn head_at(level: u32, text: &[u8]) -> Result<(Head, &[u8]), Stop>
     }
 }
 
-#[tactic(auto, unfolding(crate::specs::Reading::sizes_at))]
+#[tactic(auto, unfolding(crate::specs::Values::sizes_at))]
 fn sizes_at(text: &[u8]) -> Result<(Head, &[u8]), Stop>
-    ensures { GivesIdly (λ x. (x.0, x.1.now)) result (texts.sizes_at text.now) }
+    ensures value { GivesIdly (λ x. (x.0, x.1.now)) result (values.sizes_at text.now) }
+    ensures holds { IfOk result (λ x. Holds x.0) }
 {
     let (words, rest) = decimal_at(text)?;
     let rest = pass(rest, b" ")?;
@@ -62,19 +66,32 @@ fn sizes_at(text: &[u8]) -> Result<(Head, &[u8]), Stop>
     Ok((Head::Struct(words, slots), rest))
 }
 
-#[tactic(auto, unfolding(crate::specs::Reading::named_at))]
+#[tactic(auto, unfolding(crate::specs::Values::named_at))]
 fn named_at(line: &[u8]) -> Result<(Head, &[u8]), Stop>
-    ensures { GivesIdly (λ x. (x.0, x.1.now)) result (texts.named_at line.now) }
+    ensures value { GivesIdly (λ x. (x.0, x.1.now)) result (values.named_at line.now) }
+    ensures holds { IfOk result (λ x. Holds x.0) }
 {
     let (name, rest) = name_at(line)?;
     let (number, rest) = decimal_at(rest)?;
     let rest = pass(rest, b"\n")?;
+    if number > greatest_number(name) {
+        return Err(Stop::Left(line.len()));
+    }
     Ok((Head::Named(name, number), rest))
 }
 
-#[tactic(auto, unfolding(crate::specs::Reading::name_at))]
+fn greatest_number(name: Name) -> u64
+    ensures { result ≡ values.greatest_number name }
+{
+    match name {
+        Name::Cap | Name::Leaf(Leaf::Voids) => u32::MAX as u64,
+        _ => u64::MAX,
+    }
+}
+
+#[tactic(auto, unfolding(crate::specs::Values::name_at))]
 fn name_at(line: &[u8]) -> Result<(Name, &[u8]), Stop>
-    ensures { GivesIdly (λ x. (x.0, x.1.now)) result (texts.name_at line.now) }
+    ensures { GivesIdly (λ x. (x.0, x.1.now)) result (values.name_at line.now) }
 {
     if let Some(rest) = skip(line, b"pointers ") {
         return Ok((Name::Links, rest));
@@ -83,25 +100,25 @@ fn name_at(line: &[u8]) -> Result<(Name, &[u8]), Stop>
         return Ok((Name::Rows, rest));
     }
     if let Some(rest) = skip(line, b"void ") {
-        return Ok((Name::Flat(Flat::Voids), rest));
+        return Ok((Name::Leaf(Leaf::Voids), rest));
     }
     if let Some(rest) = skip(line, b"bits ") {
-        return Ok((Name::Flat(Flat::Bits), rest));
+        return Ok((Name::Leaf(Leaf::Bits), rest));
     }
     if let Some(rest) = skip(line, b"bytes ") {
-        return Ok((Name::Flat(Flat::Bytes), rest));
+        return Ok((Name::Leaf(Leaf::Bytes), rest));
     }
     if let Some(rest) = skip(line, b"u16 ") {
-        return Ok((Name::Flat(Flat::Pairs), rest));
+        return Ok((Name::Leaf(Leaf::Pairs), rest));
     }
     if let Some(rest) = skip(line, b"u32 ") {
-        return Ok((Name::Flat(Flat::Quads), rest));
+        return Ok((Name::Leaf(Leaf::Quads), rest));
     }
     if let Some(rest) = skip(line, b"u64 ") {
-        return Ok((Name::Flat(Flat::Octs), rest));
+        return Ok((Name::Leaf(Leaf::Octs), rest));
     }
     if let Some(rest) = skip(line, b"capability ") {
-        return Ok((Name::Flat(Flat::Cap), rest));
+        return Ok((Name::Cap, rest));
     }
     Err(Stop::Left(line.len()))
 }

@@ -9,16 +9,16 @@
 
 mod contents;
 mod fault;
-mod flat;
 mod heads;
 pub mod laws;
-mod lexing;
+mod leaves;
 mod lines;
-mod reading;
+mod one_text;
 mod texts;
+mod tokens;
 
 pub use fault::TextFault;
-pub use reading::{read, read_first};
+pub use one_text::read;
 pub use texts::Texts;
 
 #[cfg(test)]

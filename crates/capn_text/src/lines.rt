@@ -4,7 +4,7 @@ ghost use Rattle.std.specs.Prelude.{◌≡◌, ◌+◌, ◌-◌, ◌≤◌, leng
 ghost use Rattle.capn_text.specs.Streams.{ended_lines};
 
 /// How many lines end within these bytes.
-#[tactic(auto, using(crate::proofs::Counted::lines_within))]
+#[tactic(auto, using(crate::proofs::LineCounts::lines_within))]
 pub fn lines_in(bytes: &[u8]) -> u64
     ensures exact { result ≡ ended_lines bytes.now }
     ensures within { result ≤ length bytes.now }
@@ -20,11 +20,12 @@ pub fn lines_in(bytes: &[u8]) -> u64
     lines
 }
 
-/// The line, counted from 1, on which so many bytes of the text are left.
-#[tactic(auto, using(crate::proofs::Counted::lines_before))]
-pub fn line_of(text: &[u8], left: usize) -> u64
-    ensures exact { result ≡ ended_lines (take (length text.now - left) text.now) + 1 }
-    ensures within { result ≤ ended_lines text.now + 1 }
+/// How many lines of a text end before its last `left` bytes.
+#[tactic(auto, using(crate::proofs::LineCounts::lines_before))]
+pub fn lines_before(text: &[u8], left: usize) -> u64
+    ensures exact { result ≡ ended_lines (take (length text.now - left) text.now) }
+    ensures within { result ≤ ended_lines text.now }
+    ensures below { result ≤ length text.now }
 {
-    lines_in(&text[..text.len().saturating_sub(left)]) + 1
+    lines_in(&text[..text.len().saturating_sub(left)])
 }

@@ -188,13 +188,47 @@ fn lines_of_a_stream(rt: HostRuntime) {
     assert_eq!(rt; fault, Some((3, TextFault::Line(4))));
     let fault = stream_fault(alloc, b"null\nend\nvoid 4294967295\nend\n");
     assert_eq!(rt; fault, Some((3, TextFault::Misfit(Misfit::Long))));
+    let fault = stream_fault(alloc, b"null\nend\nvoid 4294967295\nEnd\n");
+    assert_eq!(rt; fault, Some((3, TextFault::Line(4))));
+    let fault = stream_fault(alloc, b"capability 1\n");
+    assert_eq!(rt; fault, Some((1, TextFault::Line(2))));
+}
+
+/// The text of so many structs, each in the one before, and these lines in the last of them.
+fn nested(alloc: Global, levels: u32, last: &[u8]) -> Result<Vec<u8>, Fail> {
+    let mut text = Vec::new(alloc);
+    for level in 0..levels {
+        for _ in 0..level {
+            text.extend_from_slice(b"  ")?;
+        }
+        text.extend_from_slice(b"struct 0 1\n")?;
+    }
+    for _ in 0..levels {
+        text.extend_from_slice(b"  ")?;
+    }
+    text.extend_from_slice(last)?;
+    Ok(text)
+}
+
+/// The fault of the text that has these lines at level 256.
+fn deep_fault(alloc: Global, last: &[u8]) -> Result<Option<TextFault>, Fail> {
+    let text = nested(alloc, 256, last)?;
+    Ok(fault_of(alloc, text.as_slice()))
 }
 
 #[test]
-fn a_text_at_the_front(rt: HostRuntime) {
+fn texts_that_go_deep(rt: HostRuntime) -> Result<(), Fail> {
     let alloc = rt.alloc();
-    match read_first(alloc, b"bits 2\n  10\nnothing more") {
-        Ok((_, taken)) => assert_eq!(rt; taken, 12),
-        Err(_) => assert!(rt; false, "it is not read"),
-    }
+    let tall = Some(TextFault::Misfit(Misfit::Tall));
+    let wrong = Some(TextFault::Line(257));
+    assert_eq!(rt; deep_fault(alloc, b"null\n")?, None);
+    assert_eq!(rt; deep_fault(alloc, b"capability 1\n")?, None);
+    assert_eq!(rt; deep_fault(alloc, b"struct 0 0\n")?, tall);
+    assert_eq!(rt; deep_fault(alloc, b"void 0\n")?, tall);
+    // What follows such a line isn't looked at.
+    assert_eq!(rt; deep_fault(alloc, b"struct 1 0\nword")?, tall);
+    assert_eq!(rt; deep_fault(alloc, b"bits 2\n12\n")?, tall);
+    assert_eq!(rt; deep_fault(alloc, b"nul\n")?, wrong);
+    assert_eq!(rt; deep_fault(alloc, b"void 4294967296\n")?, wrong);
+    Ok(())
 }

@@ -1,8 +1,8 @@
 //! The texts of a stream, one after the other.
 
-ghost use Rattle.std.specs.Prelude.{◌≡◌, ◌≢◌, ◌↔◌, ◌⊎◌, ◌≤◌, ◌<◌, ◌+◌, ◌-◌, ◌^◌, ◌++◌, ℕ, List, []};
+ghost use Rattle.std.specs.Prelude.{◌≡◌, ◌≢◌, ◌⊎◌, ◌≤◌, ◌<◌, ◌+◌, ◌-◌, ◌^◌, ◌++◌, ℕ, List, []};
 ghost use Rattle.std.specs.Prelude.{IfOk, IfErr, OnErr, MatchResult};
-ghost use Rattle.std.specs.Prelude.{MatchOption, Ok, Some, None, length, take, drop};
+ghost use Rattle.std.specs.Prelude.{MatchOption, Ok, Some, None};
 ghost use Rattle.capn_value.specs.Tree as trees;
 ghost use Rattle.capn_value.specs.Sizes.{height, most_height};
 ghost use Rattle.capn_value.specs.Fits.{Fits, misfit};
@@ -10,15 +10,14 @@ ghost use Rattle.capn_value.specs.InRange.{InRange};
 ghost use Rattle.capn_value.specs.Text.{show_text};
 ghost use Rattle.capn_value.specs.declared.misfit.Misfit.{Misfit};
 ghost use Rattle.capn_value.specs.declared.misfit.Misfit.TheVariants.{Tall};
-ghost use Rattle.capn_text.specs.Lexing.{strip};
 ghost use Rattle.capn_text.specs.Showable.{IsShowable};
 ghost use Rattle.capn_text.specs.Streams.{end_line, ended_lines, BeginsAs};
 ghost use Rattle.capn_text.specs.declared.fault.TextFault.TheVariants as faults;
 
 use crate::fault::TextFault;
-use crate::lexing::skip;
-use crate::lines::lines_in;
-use crate::reading::read_first;
+use crate::lines::lines_before;
+use crate::one_text::{first_value, fitting};
+use crate::tokens::skip;
 use capn_value::Tree;
 use std::alloc::Allocator;
 use std::marker::Model;
@@ -61,8 +60,10 @@ impl<'t> Texts<'t> {
 
     /// The tree of the next text, or none at the end of the input.
     ///
-    /// After a refusal the place is as it was, so that each later call answers the same. A line that is refused is
-    /// counted over the whole input, and a misfit is that of the text which begins at [`Texts::line`].
+    /// A text is taken with its line `end`: another line in its place is refused before a misfit is. A text of more
+    /// than 256 levels is `Tall`, whatever follows. After a refusal the place is as it was, so each later call answers
+    /// the same. A line that is refused is counted over the whole input; a misfit is that of the text that begins at
+    /// [`Texts::line`]. Memory as for [`crate::read`].
     pub fn read_next<A: Allocator + Copy>(&mut self, alloc: A) -> Result<Option<Tree<A>>, TextFault>
         // The text of what is read stood next with its end, and what comes after it is left; or nothing was left.
         ensures found { IfOk result (λ o. MatchOption o ((self.old.rest ≡ []) × (self.new ≡ self.old))
@@ -83,61 +84,42 @@ impl<'t> Texts<'t> {
         // That line stands not before the text, and not after the line that follows the last.
         ensures place { IfErr result (λ e. (n : ℕ) → e ≡ faults.Line n →
             (self.old.line ≤ n) × (n ≤ self.old.line + ended_lines self.old.rest)) }
-        // After a text that fits, the line refused is the one at which its end is missing.
-        ensures end { (v : trees.Tree) (rest : List ℕ) → Fits v → InRange v → self.old.rest ≡ show_text v ++ rest →
+        // After the text of a value of at most 256 levels, fit or not, the line refused is the one at which its end
+        // is missing.
+        ensures end { (v : trees.Tree) (rest : List ℕ) → IsShowable v → height v ≤ most_height →
+            self.old.rest ≡ show_text v ++ rest →
             IfErr result (λ e. (n : ℕ) → e ≡ faults.Line n → n ≡ self.old.line + ended_lines (show_text v)) }
         // Except for the next line, nothing is refused and no memory needed before that line is the first of a value.
         ensures begun { IfErr result (λ e. e ≢ faults.Line self.old.line →
             (v : trees.Tree) × BeginsAs self.old.rest v) }
-        // A misfit is that of the value whose text stands next, or the text goes too deep.
+        // A misfit is that of the value whose text stands next with its end, or the text goes too deep.
         ensures misfit { IfErr result (λ e. (m : Misfit) → e ≡ faults.Misfit m →
-            (m ≡ Tall) ⊎ ((v : trees.Tree) × (rest : List ℕ) × InRange v × (self.old.rest ≡ show_text v ++ rest)
-            × (misfit v ≡ Some m))) }
+            (m ≡ Tall) ⊎ ((v : trees.Tree) × (rest : List ℕ) × InRange v
+            × (self.old.rest ≡ show_text v ++ (end_line ++ rest)) × (misfit v ≡ Some m))) }
     {
         if self.rest.is_empty() {
             return Ok(None);
         }
-        let (tree, taken) = match read_first(alloc, self.rest) {
-            Ok(first) => first,
+        let (value, after) = match first_value(alloc, self.rest) {
+            Ok((value, after)) => (value, after),
             Err(fault) => return Err(counted_from(self.line, fault)),
         };
-        let line = self.line + lines_before(self.rest, taken);
-        match past_end(self.rest, taken) {
-            Some(rest) => {
-                self.rest = rest;
-                self.line = line + 1;
-                Ok(Some(tree))
-            }
-            None => {
-                drop(tree);
-                Err(TextFault::Line(line))
-            }
-        }
+        let line = self.line + lines_before(self.rest, after.len());
+        let Some(rest) = skip(after, b"end\n") else {
+            drop(value);
+            return Err(TextFault::Line(line));
+        };
+        let tree = fitting(value)?;
+        self.rest = rest;
+        self.line = line + 1;
+        Ok(Some(tree))
     }
 }
 
-// How many lines end within so many bytes at the front.
-fn lines_before(text: &[u8], taken: usize) -> u64
-    requires { taken ≤ length text.now }
-    ensures exact { result ≡ ended_lines (take taken text.now) }
-    ensures within { result ≤ taken }
-{
-    lines_in(&text[..taken])
-}
-
-// What stands after the line `end` that stands there.
-fn past_end(text: &[u8], taken: usize) -> Option<&[u8]>
-    requires { taken ≤ length text.now }
-    ensures { MatchOption result (strip end_line (drop taken text.now) ≡ None)
-        (λ rest. strip end_line (drop taken text.now) ≡ Some rest.now) }
-{
-    skip(&text[taken..], b"end\n")
-}
-
-// The same, where the text begins at this line.
+// The same fault, where the text begins at this line.
 fn counted_from(line: u64, fault: TextFault) -> TextFault
     requires { (n : ℕ) → fault ≡ faults.Line n → line + (n - 1) < 2 ^ 64 }
-    ensures memory { (fault ≡ faults.Memory) ↔ (result ≡ faults.Memory) }
+    ensures memory { fault ≡ faults.Memory → result ≡ faults.Memory }
     ensures placed { (n : ℕ) → result ≡ faults.Line n → (k : ℕ) × (fault ≡ faults.Line k) × (n ≡ line + (k - 1)) }
     ensures first { fault ≡ faults.Line 1 → result ≡ faults.Line line }
     ensures misfit { (m : Misfit) → result ≡ faults.Misfit m → fault ≡ faults.Misfit m }

@@ -2,32 +2,48 @@ use Rattle.std.proofs.Common.{◌≡◌, ◌++◌, ◌∷◌, [], ◌∙◌, ap,
 use Rattle.std.proofs.lemmas.Result.{err_from_is_err_and}
 use Rattle.std.proofs.lemmas.List.{map_push}
 use Rattle.capn_value.specs.View.{tree_of, body_of}
-use Rattle.capn_text.specs.Lexing.{many}
-use Rattle.capn_text.specs.Reading.{tree_at, row_at}
+use Rattle.capn_text.specs.Tokens.{many}
+use Rattle.capn_text.specs.Values.{tree_at, row_at}
 use Rattle.capn_text.specs.declared.heads.Head.TheVariants as heads
 use Rattle.capn_text.proofs.Loops.{goes_on, ends, is_done}
-use Rattle.capn_text.proofs.Made.{node_read, links_read, rows_read}
+use Rattle.capn_text.proofs.ValueOfParts.{node_read, links_read, rows_read, head_fails, by_low_head, by_head}
 use Rattle.capn_text.proofs.contents.+value_at.Goals as goal
 
-pub value_at-returns-in_ok-body-in-Struct : goal.value_at-returns-in_ok-body-in-Struct
-value_at-returns-in_ok-body-in-Struct g t c =
-    node_read c.args.room c.args.level c.args.text.now c.in_ok-head.rest.now c.in_ok-body-in-Struct.rest.now
-    c.in_ok-head.head (omega arith) c.in_ok-head.ensures c.in-Struct.words c.in-Struct.slots c.in_ok-body-in-Struct.body
-    c.in-Struct.is c.in_ok-body-in-Struct.ensures
+pub content_at-returns-in_ok-body-in-Struct : goal.content_at-returns-in_ok-body-in-Struct
+content_at-returns-in_ok-body-in-Struct g t c =
+    node_read (tree_at c.args.room) c.args.level c.args.text.now c.in_ok-body-in-Struct.rest.now c.args.head
+    c.in-Struct.words c.in-Struct.slots c.in_ok-body-in-Struct.body c.in-Struct.is c.in_ok-body-in-Struct.ensures
 
-pub value_at-returns-in_ok-items-in-Links : goal.value_at-returns-in_ok-items-in-Links
-value_at-returns-in_ok-items-in-Links g t c =
-    links_read c.args.room c.args.level c.args.text.now c.in_ok-head.rest.now c.in_ok-items-in-Links.rest.now
-    c.in_ok-head.head (omega arith) c.in_ok-head.ensures c.in-Named.count c.from_vec.result
-    (c.in-Named.is ∙ ap (λ n. heads.Named n c.in-Named.count) c.in-Links.is)
-    (c.in_ok-items-in-Links.ensures ∙ ap (λ vs. Some (map tree_of vs, c.in_ok-items-in-Links.rest.now)) (sym c.from_vec.ensures))
+pub content_at-returns-in_ok-items-in-Links : goal.content_at-returns-in_ok-items-in-Links
+content_at-returns-in_ok-items-in-Links g t c =
+    links_read (tree_at c.args.room) c.args.level c.args.text.now c.in_ok-items-in-Links.rest.now c.args.head
+    c.in-Named.count c.from_vec.result (c.in-Named.is ∙ ap (λ n. heads.Named n c.in-Named.count) c.in-Links.is)
+    (c.in_ok-items-in-Links.ensures ∙ ap (λ vs. Some (map tree_of vs, c.in_ok-items-in-Links.rest.now))
+    (sym c.from_vec.ensures))
 
-pub value_at-returns-in_ok-rows-in-Rows : goal.value_at-returns-in_ok-rows-in-Rows
-value_at-returns-in_ok-rows-in-Rows g t c =
-    rows_read c.args.room c.args.level c.args.text.now c.in_ok-head.rest.now c.in_ok-rows-in-Rows.rest.now
-    c.in_ok-head.head (omega arith) c.in_ok-head.ensures c.in-Named.count c.from_vec-in-Rows.result
-    (c.in-Named.is ∙ ap (λ n. heads.Named n c.in-Named.count) c.in-Rows.is)
-    (c.in_ok-rows-in-Rows.ensures ∙ ap (λ bs. Some (map body_of bs, c.in_ok-rows-in-Rows.rest.now)) (sym c.from_vec-in-Rows.ensures))
+pub content_at-returns-in_ok-rows-in-Rows : goal.content_at-returns-in_ok-rows-in-Rows
+content_at-returns-in_ok-rows-in-Rows g t c =
+    rows_read (tree_at c.args.room) c.args.level c.args.text.now c.in_ok-rows-in-Rows.rest.now c.args.head
+    c.in-Named.count c.from_vec-in-Rows.result (c.in-Named.is ∙ ap (λ n. heads.Named n c.in-Named.count) c.in-Rows.is)
+    (c.in_ok-rows-in-Rows.ensures ∙ ap (λ bs. Some (map body_of bs, c.in_ok-rows-in-Rows.rest.now))
+    (sym c.from_vec-in-Rows.ensures))
+
+pub value_at-returns-in_err-head : goal.value_at-returns-in_err-head
+value_at-returns-in_err-head g t c =
+    let p = err_from_is_err_and c.from_residual.result c.from_residual.ensures.1 in
+    rw (p.1, p.2)
+    (head_fails c.args.room c.args.level c.args.text.now c.in_err-head.field-0.0 c.in_err-head.ensures.value)
+
+pub value_at-returns-then-room-eq0 : goal.value_at-returns-then-room-eq0
+value_at-returns-then-room-eq0 g t c =
+    rw (by_low_head c.args.room c.args.level c.args.text.now c.in_ok-head.rest.now c.in_ok-head.head
+    c.in_ok-head.ensures.value c.if-room-eq0.true) c.low_at.ensures
+
+pub value_at-returns : goal.value_at-returns
+value_at-returns g t c =
+    let other = c.if-room-eq0.false in
+    rw (by_head c.args.room c.args.level c.args.text.now c.in_ok-head.rest.now c.in_ok-head.head
+    c.in_ok-head.ensures.value (omega arith)) c.content_at.ensures
 
 pub values_at-returns-in_err-value : goal.values_at-returns-in_err-value
 values_at-returns-in_err-value g t c =

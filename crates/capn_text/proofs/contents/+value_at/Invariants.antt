@@ -1,24 +1,27 @@
 use Rattle.std.proofs.Common.{◌≡◌, ◌+◌, ◌*◌, ◌-◌, map}
 use Rattle.capn_value.specs.View.{tree_of, body_of}
-use Rattle.capn_text.specs.Lexing.{many}
-use Rattle.capn_text.specs.Reading.{tree_at, row_at}
+use Rattle.capn_text.specs.Tokens.{many}
+use Rattle.capn_text.specs.Values.{tree_at, row_at}
 use Rattle.capn_text.proofs.Loops.{with_front}
 use Rattle.capn_text.proofs.contents.+value_at.Given as goal
 
 abbrev pub decreases-value_at : goal.decreases-value_at
-decreases-value_at g l = 5 * l.room
+decreases-value_at g l = 6 * l.room
+
+abbrev pub decreases-content_at : goal.decreases-content_at
+decreases-content_at g l = 6 * l.room + 5
 
 abbrev pub decreases-values_at : goal.decreases-values_at
-decreases-values_at g l = 5 * l.room + 1
+decreases-values_at g l = 6 * l.room + 1
 
 abbrev pub decreases-body_at : goal.decreases-body_at
-decreases-body_at g l = 5 * l.room + 2
+decreases-body_at g l = 6 * l.room + 2
 
 abbrev pub decreases-row_at : goal.decreases-row_at
-decreases-row_at g l = 5 * l.room + 3
+decreases-row_at g l = 6 * l.room + 3
 
 abbrev pub decreases-rows_at : goal.decreases-rows_at
-decreases-rows_at g l = 5 * l.room + 4
+decreases-rows_at g l = 6 * l.room + 4
 
 abbrev pub invariant-values_at-loop : goal.invariant-values_at-loop
 invariant-values_at-loop g l =

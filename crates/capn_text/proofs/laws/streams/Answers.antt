@@ -1,4 +1,4 @@
-use Rattle.capn_text.proofs.Streamed.{one_stream, stream_goes_on}
+use Rattle.capn_text.proofs.StreamTexts.{one_stream, stream_goes_on}
 use Rattle.capn_text.proofs.laws.streams.Goals as goal
 
 pub returns-clause-one : goal.returns-clause-one

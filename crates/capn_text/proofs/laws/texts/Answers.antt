@@ -1,8 +1,8 @@
 use Rattle.std.proofs.Common.{[], ◌∙◌, sym}
 use Rattle.std.proofs.lemmas.List.{append-nil}
 use Rattle.capn_value.specs.Text.{show_text}
-use Rattle.capn_text.proofs.Showing.{showable-fit}
-use Rattle.capn_text.proofs.Grown.{apart}
+use Rattle.capn_text.proofs.ShowableValues.{showable-fit}
+use Rattle.capn_text.proofs.TreeOfText.{apart}
 use Rattle.capn_text.proofs.laws.texts.Goals as goal
 
 pub returns-clause-apart : goal.returns-clause-apart

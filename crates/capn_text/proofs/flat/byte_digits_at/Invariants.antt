@@ -1,8 +1,0 @@
-use Rattle.std.proofs.Common.{◌≡◌, ◌-◌}
-use Rattle.capn_text.specs.Lexing.{many, byte_at}
-use Rattle.capn_text.proofs.Loops.{with_front}
-use Rattle.capn_text.proofs.flat.byte_digits_at.Given as goal
-
-abbrev pub invariant-loop : goal.invariant-loop
-invariant-loop g l =
-    with_front l.items.items (many byte_at (l.count - l.counter) l.rest) ≡ many byte_at l.count l.text

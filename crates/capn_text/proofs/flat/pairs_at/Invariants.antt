@@ -1,8 +1,0 @@
-use Rattle.std.proofs.Common.{◌≡◌, ◌-◌}
-use Rattle.capn_text.specs.Lexing.{many, number_line_at}
-use Rattle.capn_text.proofs.Loops.{with_front}
-use Rattle.capn_text.proofs.flat.pairs_at.Given as goal
-
-abbrev pub invariant-loop : goal.invariant-loop
-invariant-loop g l =
-    with_front l.items.items (many (number_line_at 65535 l.level) (l.count - l.counter) l.rest) ≡ many (number_line_at 65535 l.level) l.count l.text

@@ -1,6 +1,0 @@
-use Rattle.std.proofs.Common.{◌≡◌, ◌-◌}
-use Rattle.capn_text.specs.Lexing.{indent_at}
-use Rattle.capn_text.proofs.lexing.indent_at.Given as goal
-
-abbrev pub invariant-loop : goal.invariant-loop
-invariant-loop l = indent_at (l.level - l.counter) l.rest ≡ indent_at l.level l.text

@@ -1,0 +1,198 @@
+//! Lists whose elements hold no other value.
+
+ghost use Rattle.std.specs.Prelude.{◌≡◌, ◌+◌, ◌≤◌, ◌<◌, ◌^◌};
+ghost use Rattle.capn_value.specs.View.{tree_of};
+ghost use Rattle.capn_text.specs.Tokens as tokens;
+ghost use Rattle.capn_text.specs.Tokens.{Gives};
+ghost use Rattle.capn_text.specs.Values as values;
+ghost use Rattle.capn_text.specs.declared.heads.Name.TheVariants as names;
+
+use crate::fault::Stop;
+use crate::heads::Leaf;
+use crate::tokens::{bit_at, byte_at, indent_at, number_line_at, pass, word_line_at};
+use capn_value::{Items, Value};
+use std::alloc::Allocator;
+
+/// A list whose elements hold no other value, by their kind and number; its first line was at this level.
+#[tactic(auto, using(crate::proofs::ValueOfParts::steps_and_views), unfolding(crate::specs::Values::leaf_at))]
+pub fn leaf_at<'t, A: Allocator>(
+    alloc: A,
+    level: u32,
+    leaf: Leaf,
+    count: u64,
+    text: &'t [u8],
+) -> Result<(Value<A>, &'t [u8]), Stop>
+    requires level { level + 1 < 2 ^ 32 }
+    requires number { count ≤ values.greatest_number (names.Leaf leaf) }
+    ensures { Gives (λ x. (tree_of x.0, x.1.now)) result (values.leaf_at level leaf count text.now) }
+{
+    match leaf {
+        Leaf::Voids => Ok((Value::Voids(count as u32), text)),
+        Leaf::Bits => {
+            let (xs, rest) = bits_at(alloc, level + 1, count, text)?;
+            Ok((Value::Bits(Items::from_vec(xs)), rest))
+        }
+        Leaf::Bytes => {
+            let (xs, rest) = bytes_at(alloc, level + 1, count, text)?;
+            Ok((Value::Bytes(Items::from_vec(xs)), rest))
+        }
+        Leaf::Pairs => {
+            let (xs, rest) = pairs_at(alloc, level + 1, count, text)?;
+            Ok((Value::Pairs(Items::from_vec(xs)), rest))
+        }
+        Leaf::Quads => {
+            let (xs, rest) = quads_at(alloc, level + 1, count, text)?;
+            Ok((Value::Quads(Items::from_vec(xs)), rest))
+        }
+        Leaf::Octs => {
+            let (xs, rest) = octs_at(alloc, level + 1, count, text)?;
+            Ok((Value::Octs(Items::from_vec(xs)), rest))
+        }
+    }
+}
+
+#[tactic(auto, unfolding(crate::specs::Tokens::row_line_at))]
+fn bits_at<A: Allocator>(
+    alloc: A,
+    level: u32,
+    count: u64,
+    text: &[u8],
+) -> Result<(Vec<bool, A>, &[u8]), Stop>
+    ensures { Gives (λ x. (x.0.items, x.1.now)) result (tokens.row_line_at tokens.bit_at level count text.now) }
+{
+    if count == 0 {
+        return Ok((Vec::new(alloc), text));
+    }
+    let line = indent_at(level, text)?;
+    let (items, rest) = bit_digits_at(alloc, count, line)?;
+    let rest = pass(rest, b"\n")?;
+    Ok((items, rest))
+}
+
+fn bit_digits_at<A: Allocator>(
+    alloc: A,
+    count: u64,
+    text: &[u8],
+) -> Result<(Vec<bool, A>, &[u8]), Stop>
+    ensures { Gives (λ x. (x.0.items, x.1.now)) result (tokens.many tokens.bit_at count text.now) }
+{
+    let mut items = Vec::new(alloc);
+    let mut rest = text;
+    for _ in 0..count {
+        let (bit, after) = bit_at(rest)?;
+        items.push(bit)?;
+        rest = after;
+    }
+    Ok((items, rest))
+}
+
+#[tactic(auto, unfolding(crate::specs::Tokens::row_line_at))]
+fn bytes_at<A: Allocator>(
+    alloc: A,
+    level: u32,
+    count: u64,
+    text: &[u8],
+) -> Result<(Vec<u8, A>, &[u8]), Stop>
+    ensures { Gives (λ x. (x.0.items, x.1.now)) result (tokens.row_line_at tokens.byte_at level count text.now) }
+{
+    if count == 0 {
+        return Ok((Vec::new(alloc), text));
+    }
+    let line = indent_at(level, text)?;
+    let (items, rest) = byte_digits_at(alloc, count, line)?;
+    let rest = pass(rest, b"\n")?;
+    Ok((items, rest))
+}
+
+fn byte_digits_at<A: Allocator>(
+    alloc: A,
+    count: u64,
+    text: &[u8],
+) -> Result<(Vec<u8, A>, &[u8]), Stop>
+    ensures { Gives (λ x. (x.0.items, x.1.now)) result (tokens.many tokens.byte_at count text.now) }
+{
+    let mut items = Vec::new(alloc);
+    let mut rest = text;
+    for _ in 0..count {
+        let (byte, after) = byte_at(rest)?;
+        items.push(byte)?;
+        rest = after;
+    }
+    Ok((items, rest))
+}
+
+fn pairs_at<A: Allocator>(
+    alloc: A,
+    level: u32,
+    count: u64,
+    text: &[u8],
+) -> Result<(Vec<u16, A>, &[u8]), Stop>
+    ensures { Gives (λ x. (x.0.items, x.1.now)) result
+        (tokens.many (tokens.number_line_at 65535 level) count text.now) }
+{
+    let mut items = Vec::new(alloc);
+    let mut rest = text;
+    for _ in 0..count {
+        let (number, after) = number_line_at(65_535, level, rest)?;
+        items.push(number as u16)?;
+        rest = after;
+    }
+    Ok((items, rest))
+}
+
+fn quads_at<A: Allocator>(
+    alloc: A,
+    level: u32,
+    count: u64,
+    text: &[u8],
+) -> Result<(Vec<u32, A>, &[u8]), Stop>
+    ensures { Gives (λ x. (x.0.items, x.1.now)) result
+        (tokens.many (tokens.number_line_at 4294967295 level) count text.now) }
+{
+    let mut items = Vec::new(alloc);
+    let mut rest = text;
+    for _ in 0..count {
+        let (number, after) = number_line_at(4_294_967_295, level, rest)?;
+        items.push(number as u32)?;
+        rest = after;
+    }
+    Ok((items, rest))
+}
+
+fn octs_at<A: Allocator>(
+    alloc: A,
+    level: u32,
+    count: u64,
+    text: &[u8],
+) -> Result<(Vec<u64, A>, &[u8]), Stop>
+    ensures { Gives (λ x. (x.0.items, x.1.now)) result
+        (tokens.many (tokens.number_line_at 18446744073709551615 level) count text.now) }
+{
+    let mut items = Vec::new(alloc);
+    let mut rest = text;
+    for _ in 0..count {
+        let (number, after) = number_line_at(u64::MAX, level, rest)?;
+        items.push(number)?;
+        rest = after;
+    }
+    Ok((items, rest))
+}
+
+/// The lines of data words.
+pub fn words_at<A: Allocator>(
+    alloc: A,
+    level: u32,
+    count: u64,
+    text: &[u8],
+) -> Result<(Vec<u64, A>, &[u8]), Stop>
+    ensures { Gives (λ x. (x.0.items, x.1.now)) result (tokens.many (tokens.word_line_at level) count text.now) }
+{
+    let mut items = Vec::new(alloc);
+    let mut rest = text;
+    for _ in 0..count {
+        let (word, after) = word_line_at(level, rest)?;
+        items.push(word)?;
+        rest = after;
+    }
+    Ok((items, rest))
+}

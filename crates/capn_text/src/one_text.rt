@@ -1,0 +1,118 @@
+//! The tree of one text.
+
+ghost use Rattle.std.specs.Prelude.{◌≡◌, ◌≢◌, ◌⊎◌, ◌≤◌, ◌+◌, ◌++◌, ℕ, List, [], IfOk, IfErr};
+ghost use Rattle.std.specs.Prelude.{MatchResult, Some, None, true, false};
+ghost use Rattle.capn_value.specs.Tree as trees;
+ghost use Rattle.capn_value.specs.View.{tree_of};
+ghost use Rattle.capn_value.specs.Sizes.{height, most_height};
+ghost use Rattle.capn_value.specs.Fits.{Fits, misfit};
+ghost use Rattle.capn_value.specs.InRange.{InRange};
+ghost use Rattle.capn_value.specs.Text.{show_text};
+ghost use Rattle.capn_value.specs.declared.misfit.Misfit.{Misfit};
+ghost use Rattle.capn_value.specs.declared.misfit.Misfit.TheVariants.{Tall};
+ghost use Rattle.capn_text.specs.Showable.{IsShowable};
+ghost use Rattle.capn_text.specs.Values as values;
+ghost use Rattle.capn_text.specs.Streams.{ended_lines, BeginsAs};
+ghost use Rattle.capn_text.specs.declared.fault.TextFault.TheVariants as faults;
+
+use crate::contents::value_at;
+use crate::fault::{Stop, TextFault};
+use crate::heads::head_at;
+use crate::lines::lines_before;
+use capn_value::{MOST_HEIGHT, Misfit, Tree, Value};
+use std::alloc::Allocator;
+
+/// The tree of a text: the one for which [`capn_value::show`] writes this text.
+///
+/// A line is refused before a misfit is, and a text of more than 256 levels is `Tall`, whatever follows. Linear in the
+/// text. Memory: the tree's own, up to twice for lists as they grow. The stack holds at most 257 values.
+pub fn read<A: Allocator + Copy>(alloc: A, text: &[u8]) -> Result<Tree<A>, TextFault>
+    // What is read has this text.
+    ensures found { IfOk result (λ t. text.now ≡ show_text t) }
+    // A tree that has this text is read, unless memory runs out.
+    ensures only { (v : trees.Tree) → Fits v → InRange v → text.now ≡ show_text v →
+        MatchResult result (λ t. t ≡ v) (λ e. e ≡ faults.Memory) }
+    // A text that is refused by a line is that of no value, fit or not, of at most 256 levels.
+    ensures line { IfErr result (λ e. (n : ℕ) → e ≡ faults.Line n → (v : trees.Tree) → IsShowable v →
+        height v ≤ most_height → text.now ≢ show_text v) }
+    // Except for line 1, nothing is refused and no memory needed before the first line is that of a value.
+    ensures begun { IfErr result (λ e. e ≢ faults.Line 1 → (v : trees.Tree) × BeginsAs text.now v) }
+    // A misfit is that of the value which has this text, or the text goes too deep.
+    ensures misfit { IfErr result (λ e. (m : Misfit) → e ≡ faults.Misfit m →
+        (m ≡ Tall) ⊎ ((v : trees.Tree) × InRange v × (text.now ≡ show_text v) × (misfit v ≡ Some m))) }
+{
+    let (value, rest) = first_value(alloc, text)?;
+    if has_more(rest) {
+        drop(value);
+        return Err(TextFault::Line(lines_before(text, rest.len()) + 1));
+    }
+    let tree = fitting(value)?;
+    Ok(tree)
+}
+
+fn has_more(rest: &[u8]) -> bool
+    ensures more { result ≡ true → rest.now ≢ [] }
+    ensures over { result ≡ false → rest.now ≡ [] }
+{
+    match rest {
+        [] => false,
+        _ => true,
+    }
+}
+
+/// The value whose text is at the front of these bytes, whether it fits or not, and the bytes after that text.
+pub fn first_value<A: Allocator + Copy>(
+    alloc: A,
+    text: &[u8],
+) -> Result<(Value<A>, &[u8]), TextFault>
+    ensures found { IfOk result (λ x. text.now ≡ show_text (tree_of x.0) ++ x.1.now) }
+    ensures range { IfOk result (λ x. InRange (tree_of x.0)) }
+    // A value of at most 256 levels whose text is at the front is read, unless memory runs out.
+    ensures only { (v : trees.Tree) (rest : List ℕ) → IsShowable v → height v ≤ most_height →
+        text.now ≡ show_text v ++ rest →
+        MatchResult result (λ x. (tree_of x.0 ≡ v) × (x.1.now ≡ rest)) (λ e. e ≡ faults.Memory) }
+    // A line that is refused is one of these bytes, or the one after their last.
+    ensures place { IfErr result (λ e. (n : ℕ) → e ≡ faults.Line n → (1 ≤ n) × (n ≤ ended_lines text.now + 1)) }
+    // Except for line 1, nothing is answered and no memory needed before the first line is that of a value.
+    ensures begins { IfOk result (λ x. (v : trees.Tree) × BeginsAs text.now v) }
+    ensures begun { IfErr result (λ e. e ≢ faults.Line 1 → (v : trees.Tree) × BeginsAs text.now v) }
+    ensures tall { IfErr result (λ e. (m : Misfit) → e ≡ faults.Misfit m → m ≡ Tall) }
+{
+    // No memory is needed if the first line is that of no value.
+    if has_no_head(text) {
+        return Err(TextFault::Line(1));
+    }
+    match value_at(alloc, MOST_HEIGHT, 0, text) {
+        Ok((value, rest)) => Ok((value, rest)),
+        Err(Stop::Memory) => Err(TextFault::Memory),
+        Err(Stop::Left(left)) => Err(TextFault::Line(lines_before(text, left) + 1)),
+        Err(Stop::Deep) => Err(TextFault::Misfit(Misfit::Tall)),
+    }
+}
+
+// Whether the first line is that of no value.
+fn has_no_head(text: &[u8]) -> bool
+    ensures none { result ≡ true → values.tree_at 256 0 text.now ≡ None }
+    ensures some { result ≡ false → (v : trees.Tree) × BeginsAs text.now v }
+{
+    match head_at(0, text) {
+        Ok(_) => false,
+        Err(_) => true,
+    }
+}
+
+/// A value as a tree, if it fits into a message.
+pub fn fitting<A: Allocator>(value: Value<A>) -> Result<Tree<A>, TextFault>
+    ensures found { IfOk result (λ t. t ≡ tree_of value) }
+    ensures fits { IfOk result (λ t. Fits t) }
+    ensures misfit { IfErr result (λ e. (m : Misfit) × (e ≡ faults.Misfit m) × (misfit (tree_of value) ≡ Some m)) }
+{
+    match Tree::new(value) {
+        Ok(tree) => Ok(tree),
+        Err((value, flaw)) => {
+            // One call is cheaper to check than fields that are dropped one by one.
+            drop(value);
+            Err(TextFault::Misfit(flaw))
+        }
+    }
+}

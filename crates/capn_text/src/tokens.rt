@@ -1,0 +1,174 @@
+//! What stands within a line, read from left to right: what was read, and the bytes after it.
+
+ghost use Rattle.std.specs.Prelude.{◌≡◌, ◌≤◌, ◌<◌, MatchOption, IfOk, IfSome, Some, None};
+ghost use Rattle.capn_text.specs.Tokens as tokens;
+ghost use Rattle.capn_text.specs.Tokens.{Gives, GivesIdly};
+
+use crate::fault::Stop;
+
+/// The text after its front, if it begins so.
+pub fn skip<'t>(text: &'t [u8], front: &[u8]) -> Option<&'t [u8]>
+    ensures { MatchOption result (tokens.strip front.now text.now ≡ None)
+        (λ rest. tokens.strip front.now text.now ≡ Some rest.now) }
+{
+    let mut rest = text;
+    let mut left = front;
+    while let [c, others @ ..] = left {
+        let [d, after @ ..] = rest else {
+            return None;
+        };
+        if *c != *d {
+            return None;
+        }
+        left = others;
+        rest = after;
+    }
+    Some(rest)
+}
+
+/// The same, where a text that begins otherwise ends the reading.
+pub fn pass<'t>(text: &'t [u8], front: &[u8]) -> Result<&'t [u8], Stop>
+    ensures { GivesIdly (λ rest. rest.now) result (tokens.strip front.now text.now) }
+{
+    match skip(text, front) {
+        Some(rest) => Ok(rest),
+        None => Err(Stop::Left(text.len())),
+    }
+}
+
+/// The text after two spaces for each level.
+pub fn indent_at(level: u32, text: &[u8]) -> Result<&[u8], Stop>
+    ensures { GivesIdly (λ rest. rest.now) result (tokens.indent_at level text.now) }
+{
+    let mut rest = text;
+    for _ in 0..level {
+        let after = pass(rest, b"  ")?;
+        rest = after;
+    }
+    Ok(rest)
+}
+
+/// A number in decimal digits.
+pub fn decimal_at(text: &[u8]) -> Result<(u64, &[u8]), Stop>
+    ensures { GivesIdly (λ x. (x.0, x.1.now)) result (tokens.decimal_at text.now) }
+{
+    match text {
+        [b'0', rest @ ..] => Ok((0, rest)),
+        [b'1'..=b'9', ..] => digits_at(text),
+        _ => Err(Stop::Left(text.len())),
+    }
+}
+
+fn digits_at(text: &[u8]) -> Result<(u64, &[u8]), Stop>
+    ensures { GivesIdly (λ x. (x.0, x.1.now)) result (tokens.digits_at 0 text.now) }
+{
+    let mut number: u64 = 0;
+    let mut rest = text;
+    while let [c, after @ ..] = rest {
+        if !is_digit(*c) {
+            return Ok((number, rest));
+        }
+        let Some(tens) = number.checked_mul(10) else {
+            return Err(Stop::Left(text.len()));
+        };
+        let Some(more) = tens.checked_add(u64::from(*c - b'0')) else {
+            return Err(Stop::Left(text.len()));
+        };
+        number = more;
+        rest = after;
+    }
+    Ok((number, rest))
+}
+
+fn is_digit(c: u8) -> bool
+    ensures { result ≡ tokens.is_digit c }
+{
+    b'0' <= c && c <= b'9'
+}
+
+/// A byte in two hexadecimal digits.
+pub fn byte_at(text: &[u8]) -> Result<(u8, &[u8]), Stop>
+    ensures { Gives (λ x. (x.0, x.1.now)) result (tokens.byte_at text.now) }
+{
+    let [high, low, rest @ ..] = text else {
+        return Err(Stop::Left(text.len()));
+    };
+    let Some(a) = nibble(*high) else {
+        return Err(Stop::Left(text.len()));
+    };
+    let Some(b) = nibble(*low) else {
+        return Err(Stop::Left(text.len()));
+    };
+    Ok((a * 16 + b, rest))
+}
+
+fn nibble(c: u8) -> Option<u8>
+    ensures value { result ≡ tokens.nibble c }
+    ensures within { IfSome result (λ d. d < 16) }
+{
+    match c {
+        b'0'..=b'9' => Some(c - b'0'),
+        b'a'..=b'f' => Some(c - 87),
+        _ => None,
+    }
+}
+
+/// A bit as a digit.
+pub fn bit_at(text: &[u8]) -> Result<(bool, &[u8]), Stop>
+    ensures { Gives (λ x. (x.0, x.1.now)) result (tokens.bit_at text.now) }
+{
+    match text {
+        [b'1', rest @ ..] => Ok((true, rest)),
+        [b'0', rest @ ..] => Ok((false, rest)),
+        _ => Err(Stop::Left(text.len())),
+    }
+}
+
+// The eight bytes of a word, the most significant first.
+fn eight_at(text: &[u8]) -> Result<([u8; 8], &[u8]), Stop>
+    ensures { Gives (λ x. (x.0, x.1.now)) result (tokens.many tokens.byte_at 8 text.now) }
+{
+    let mut bytes = [0; 8];
+    let mut rest = text;
+    for i in 0..8 {
+        let (byte, after) = byte_at(rest)?;
+        bytes[i] = byte;
+        rest = after;
+    }
+    Ok((bytes, rest))
+}
+
+/// A number in sixteen hexadecimal digits.
+pub fn word_at(text: &[u8]) -> Result<(u64, &[u8]), Stop>
+    ensures { Gives (λ x. (x.0, x.1.now)) result (tokens.word_at text.now) }
+{
+    let (bytes, rest) = eight_at(text)?;
+    Ok((u64::from_be_bytes(bytes), rest))
+}
+
+/// The line of a data word.
+#[tactic(auto, unfolding(crate::specs::Tokens::word_line_at))]
+pub fn word_line_at(level: u32, text: &[u8]) -> Result<(u64, &[u8]), Stop>
+    ensures { Gives (λ x. (x.0, x.1.now)) result (tokens.word_line_at level text.now) }
+{
+    let line = indent_at(level, text)?;
+    let digits = pass(line, b"word ")?;
+    let (word, rest) = word_at(digits)?;
+    let rest = pass(rest, b"\n")?;
+    Ok((word, rest))
+}
+
+/// The line of a number up to the greatest.
+#[tactic(auto, unfolding(crate::specs::Tokens::number_line_at))]
+pub fn number_line_at(greatest: u64, level: u32, text: &[u8]) -> Result<(u64, &[u8]), Stop>
+    ensures value { Gives (λ x. (x.0, x.1.now)) result (tokens.number_line_at greatest level text.now) }
+    ensures within { IfOk result (λ x. x.0 ≤ greatest) }
+{
+    let line = indent_at(level, text)?;
+    let (number, rest) = decimal_at(line)?;
+    let rest = pass(rest, b"\n")?;
+    if number > greatest {
+        return Err(Stop::Left(text.len()));
+    }
+    Ok((number, rest))
+}
