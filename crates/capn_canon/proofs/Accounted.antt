@@ -13,7 +13,8 @@ use Rattle.capn_canon.specs.declared.refusal.Refusal.TheVariants as refusals
 use Rattle.capn_canon.specs.Reads.{Unpacks}
 use Rattle.capn_canon.specs.Denotes.{Denotes}
 use Rattle.capn_canon.specs.Refused.{IsUnacceptedIn}
-use Rattle.capn_canon.specs.Surveys.{Surveys, AreSurveyed}
+use Rattle.capn_canon.specs.Outcomes.{AreSurveyed}
+use Rattle.capn_canon.specs.Surveys.{Surveys}
 use Rattle.capn_canon.specs.Laws.OneReading.{one_value, is_message}
 use Rattle.capn_canon.specs.Laws.NotUnaccepted.{not_unaccepted}
 use Rattle.capn_canon.specs.Layout.{canon}

@@ -18,7 +18,8 @@ use Rattle.capn_canon.specs.Denotes.{Denotes}
 use Rattle.capn_canon.specs.Refused.{IsRefusedMessage, IsRefused, IsPaidWithin}
 use Rattle.capn_canon.specs.Wanted.{MayWantBytes, MayWantBytesIn}
 use Rattle.capn_canon.specs.Canonicity.{IsCanonicalForm}
-use Rattle.capn_canon.specs.Answers.{AnswersMessage, Answers, AreCanonicalised}
+use Rattle.capn_canon.specs.Answers.{AnswersMessage, Answers}
+use Rattle.capn_canon.specs.Outcomes.{AreCanonicalised}
 use Rattle.capn_canon.proofs.Answered.{answers_only, answers_length, answers_form}
 use Rattle.capn_canon.specs.Laws.NotRefused.{not_refused}
 use Rattle.capn_canon.proofs.Wanted.{packed_bytes_wanted}

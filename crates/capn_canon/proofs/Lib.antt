@@ -54,3 +54,5 @@ pub mod ComparedRows
 pub mod CanonicalWords
 pub mod FoundNear
 pub mod Wanted
+pub mod CapOfTrimmed
+pub mod TheTheorem

@@ -3,7 +3,9 @@ pub mod OneReading
 pub mod NotRefused
 pub mod NotUnaccepted
 pub mod OneRefusal
-use Rattle.std.specs.Prelude.{◌≡◌, ◌↔◌, ℕ, ◌*◌, ◌+◌, ◌≤◌, List, None, length}
+use Rattle.std.specs.Prelude.{◌≡◌, ◌↔◌, ℕ, ◌*◌, ◌+◌, ◌≤◌, List, None, length, Result, IfOk, IfErr}
+use Rattle.capn_words.specs.Words.{bytes}
+use Rattle.capn_pack.specs.Words.{bytes as packed_bytes}
 use Rattle.capn_value.specs.Tree.{Tree}
 use Rattle.capn_value.specs.Caps.{first_cap}
 use Rattle.capn_value.specs.InRange.{InRange}
@@ -18,7 +20,10 @@ use Rattle.capn_canon.specs.declared.refusal.Refusal.TheVariants as refusals
 use Rattle.capn_canon.specs.Layout.{canon}
 use Rattle.capn_canon.specs.Denotes.{Denotes}
 use Rattle.capn_canon.specs.Refused.{IsRefused}
+use Rattle.capn_canon.specs.declared.canonical.Canonical.{Canonical}
+use Rattle.capn_canon.specs.Answers.{Answers}
 use Rattle.capn_canon.specs.Canonicity.{IsCanonicalForm}
+use Rattle.capn_canon.specs.Theorem.{Answered, EqualExactly, OwnForm, WithinBudget}
 
 -- the canonical bytes of a value that fits and is in range are its canonical form, under all limits that hold its
 -- cost and height
@@ -63,3 +68,36 @@ abbrev pub RefusedForOneReason : Type 0
 RefusedForOneReason = (form : Form) (bs : List ℕ) (limits : Bounds) (r s : Refusal) → (r ≡ refusals.Memory → ⊥)
     → (s ≡ refusals.Memory → ⊥)
     → IsRefused form bs limits r → IsRefused form bs limits s → r ≡ s
+
+-- words have the same bytes where they are read and where they are packed
+abbrev pub WordsHaveTheSameBytes : Type 0
+WordsHaveTheSameBytes = (ws : List ℕ) → bytes ws ≡ packed_bytes ws
+
+-- ---- the theorem, of all that is answered and refused as the clauses of `canonicalise` say
+
+-- an answer is found under limits, or a refusal means what it says
+pub record IsFoundOrRefused {A : Type 0} (form : Form) (bs : List ℕ) (limits : Bounds)
+    (r : Result (Canonical A) Refusal) : Type 0 where
+  pub are : AreLimits limits.message_words limits.budget limits.depth
+  pub found : IfOk r (λ c. Answers form bs limits c.bytes.items c.paid)
+  pub refused : IfErr r (λ e. IsRefused form bs limits e)
+
+-- where bytes denote a message without capabilities, and nowhere else, there is an answer, unless memory runs out
+abbrev pub EachIsAnswered : Type 0 → Type 0
+EachIsAnswered A = (form : Form) (bs : List ℕ) (limits : Bounds) (r : Result (Canonical A) Refusal)
+    → IsFoundOrRefused form bs limits r → Answered form bs limits r
+
+-- any two answers are equal if and only if the values denoted are the same
+abbrev pub AnswersAreEqualExactly : Type 0 → Type 0
+AnswersAreEqualExactly A = (form : Form) (bs : List ℕ) (limits : Bounds) (r : Result (Canonical A) Refusal)
+    → IsFoundOrRefused form bs limits r → IfOk r (λ c. EqualExactly form bs limits c.bytes.items)
+
+-- each answer is its own canonical form
+abbrev pub AnswersAreOwnForms : Type 0 → Type 0
+AnswersAreOwnForms A = (form : Form) (bs : List ℕ) (limits : Bounds) (r : Result (Canonical A) Refusal)
+    → IsFoundOrRefused form bs limits r → IfOk r (λ c. OwnForm form bs limits c)
+
+-- no walk pays beyond its budget
+abbrev pub WalksAreWithinBudgets : Type 0 → Type 0
+WalksAreWithinBudgets A = (form : Form) (bs : List ℕ) (limits : Bounds) (r : Result (Canonical A) Refusal)
+    → IsFoundOrRefused form bs limits r → WithinBudget limits r

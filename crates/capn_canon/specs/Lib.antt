@@ -21,3 +21,5 @@ pub mod Draft
 pub mod Surveys
 pub mod Told
 pub mod Wanted
+pub mod Theorem
+pub mod Outcomes

@@ -5,9 +5,11 @@ ghost use Rattle.capn_value.specs.Tree.{Tree as Value};
 ghost use Rattle.capn_value.specs.Caps.{first_cap};
 ghost use Rattle.capn_canon.specs.Layout.{canon};
 ghost use Rattle.capn_canon.specs.Denotes.{Denotes};
-ghost use Rattle.capn_canon.specs.Answers.{Answers, AreCanonicalised};
+ghost use Rattle.capn_canon.specs.Answers.{Answers};
+ghost use Rattle.capn_canon.specs.Outcomes.{AreCanonicalised};
 ghost use Rattle.capn_canon.specs.Canonicity.{ReadsBack, PaysItsCost, IsItsOwnForm, IsFormExactlyOf};
 ghost use Rattle.capn_canon.specs.Refused.{IsRefused, IsPaidWithin};
+ghost use Rattle.capn_canon.specs.Theorem.{Answered, EqualExactly, OwnForm, WithinBudget};
 ghost use Rattle.capn_canon.specs.Wanted.{MayWantBytesIn};
 ghost use Rattle.capn_canon.specs.declared.form.Form.TheVariants as forms;
 ghost use Rattle.capn_canon.specs.declared.refusal.Refusal.TheVariants as refusals;
@@ -121,6 +123,14 @@ pub fn canonicalise<A: Allocator + Copy>(
     // and a second value has these canonical bytes exactly if it is the same value.
     ensures exactly { IfOk result (λ c. (v : Value) → Denotes form bytes.now limits v
         → IsFormExactlyOf c.bytes.items v) }
+    // The theorem of the README, sentence by sentence: it answers if and only if there is something to answer;
+    ensures answered { Answered form bytes.now limits result }
+    // any two answers are equal if and only if the values denoted are the same;
+    ensures equal { IfOk result (λ c. EqualExactly form bytes.now limits c.bytes.items) }
+    // each denotes the same value, and a second call, bare and under the same limits, answers it or `Memory`;
+    ensures second { IfOk result (λ c. OwnForm form bytes.now limits c) }
+    // no walk pays beyond its budget.
+    ensures within { WithinBudget limits result }
 {
     let _words = limits.message_words();
     let _budget = limits.budget();

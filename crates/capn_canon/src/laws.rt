@@ -2,6 +2,19 @@
 
 ghost use Rattle.capn_canon.specs.Laws.{CanonIsForm, EqualExactlySame, DenotedHaveForms, DenoteOne};
 ghost use Rattle.capn_canon.specs.Laws.{DenotedAreNotRefused, RefusedForOneReason};
+ghost use Rattle.capn_canon.specs.Laws.{EachIsAnswered, AnswersAreEqualExactly, AnswersAreOwnForms};
+ghost use Rattle.capn_canon.specs.Laws.{WalksAreWithinBudgets, WordsHaveTheSameBytes};
+
+use std::alloc::Allocator;
+
+/// The theorem of the README: each of its sentences holds of all that is answered and refused as the clauses `found`
+/// and `refused` of `canonicalise` say.
+pub fn theorem<A: Allocator>()
+    ensures answered { EachIsAnswered A }
+    ensures equal { AnswersAreEqualExactly A }
+    ensures second { AnswersAreOwnForms A }
+    ensures within { WalksAreWithinBudgets A }
+{}
 
 /// Canonical bytes read back the trimmed value, are their own form, and are equal exactly for values that
 /// are the same.
@@ -17,4 +30,9 @@ pub fn denotation()
     ensures one { DenoteOne }
     ensures answered { DenotedAreNotRefused }
     ensures refused { RefusedForOneReason }
+{}
+
+/// A word has the same 8 bytes in a message that is read and in one that is packed.
+pub fn spelling()
+    ensures { WordsHaveTheSameBytes }
 {}

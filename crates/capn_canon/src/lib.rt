@@ -10,10 +10,13 @@
 //! - [`Patch`] is the buffer that it writes: words, and holes for what is not known yet, as a pointer
 //!   whose object has no place so far.
 //!
-//! Two answers of `canonicalise`, from any two forms and limits, are equal bytes exactly if the values
-//! denoted are the same up to trailing zero words and trailing null pointers of structs. Each answer, read
-//! as bare words under the same limits, denotes such a value, and has itself as its canonical bytes.
-//! The clauses `reads_back`, `pays`, `own` and `exactly` say so; [`laws`] has them over the definitions.
+//! For any bytes, form and limits, unless memory runs out, `canonicalise` succeeds if and only if the bytes denote a
+//! message without capabilities that is accepted within the limits. Two answers, from any two forms, inputs and limits,
+//! are byte for byte equal if and only if the values denoted are the same up to trailing zero words and trailing null
+//! pointers of structs. Each answer, read bare under the same limits, denotes a value that is the same in this sense,
+//! and canonicalises to itself: the second call answers those bytes, or that memory ran out. No walk pays beyond its
+//! budget. The clauses `answered`, `equal`, `second` and `within` of `canonicalise` say so, in the definitions of
+//! `specs/Theorem.antt`; [`laws::theorem`] says it of all answers.
 //!
 //! `layout` takes memory for the bytes that it answers, and a bit beside each word. Where a growth is
 //! refused the answer is `Memory`.

@@ -1,6 +1,6 @@
 //! A buffer of words, some of which are still to be written.
 
-ghost use Rattle.std.specs.Prelude.{◌≡◌, ℕ, ◌+◌, ◌*◌, ◌%◌, ◌<◌, ◌≤◌, [], ◌∷◌, ◌++◌, length, take, drop, set, replicate};
+ghost use Rattle.std.specs.Prelude.{◌≡◌, ℕ, ◌+◌, ◌*◌, ◌<◌, ◌≤◌, [], ◌∷◌, ◌++◌, length, take, drop, set, replicate};
 ghost use Rattle.std.specs.Prelude.{Some, None, IfOk, IfErr, OnOk, OnErr, IsOk};
 ghost use Rattle.capn_words.specs.Message.{word_bytes, bytes as bytes_of_words};
 ghost use Rattle.capn_canon.specs.Patch.{IsHole, IsWhole, filled, whole};
@@ -175,20 +175,6 @@ impl<A: Allocator> Patch<A> {
         let words = self.bytes.len() / 8;
         cover(&mut self.holes, words.saturating_add(xs.len()))?;
         append_octs(&mut self.bytes, xs)?;
-        Ok(())
-    }
-
-    /// Appends whole words, given by their bytes. On Memory nothing has changed.
-    #[inline(always)]
-    pub fn extend_words(&mut self, xs: &[u8]) -> Result<(), Memory>
-        requires { length xs.now % 8 ≡ 0 }
-        ensures ok { OnOk result (self.new
-            ≡ self.old ++ whole (packed 8 8 (words_for (8 * length xs.now)) xs.now)) }
-        ensures err { OnErr result (self.new ≡ self.old) }
-    {
-        let words = self.bytes.len() / 8;
-        cover(&mut self.holes, words + xs.len() / 8)?;
-        self.bytes.extend_from_slice(xs)?;
         Ok(())
     }
 
