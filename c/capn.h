@@ -1,8 +1,8 @@
 /* capn: checks, canonicalises, hashes and packs Cap'n Proto messages, without a schema, by proved code.
  *
- * What the caller owes first, since nothing checks it: the input must not change while a call runs. Each call reads its
- * input more than once and relies on what it read before, so whoever changes the bytes meanwhile can make it read
- * outside of them. Copy first what another thread, another process or a device can write: shared memory, a mapped file.
+ * What the caller owes first, since nothing checks it: the input must not change while a call runs. A call may read its
+ * input more than once and rely on what it read before, so whoever changes the bytes meanwhile can make it read outside
+ * of them. Copy first what another thread, another process or a device can write: shared memory, a mapped file.
  *
  * What the caller owes beside:
  *   - Each pointer leads to what its type and the size after it say. A pointer to no bytes may be null; no other may.
