@@ -1,16 +1,17 @@
 PREFIX ?= /usr/local
-VERSION ?= 0.1.0
+# The version is that of the file VERSION.
+VERSION := $(shell cat VERSION)
 # --anew: the gate proves and tries again what an earlier run of it has passed on this machine.
 ANEW ?=
 PROGRAM := crates/capn
-# The kit's folder, in whose c/liblibc_c.a the allocator's code in C stands: malloc, realloc, free.
+# The kit's folder. Its c/liblibc_c.a has the allocator's code in C: malloc, realloc, free.
 KIT ?= $(dir $(shell rt doc))
 # The library for C. No symbolic link may stand in it, since the gate refuses one anywhere.
 BUILD := build
 SHELL := bash
 .SHELLFLAGS := -o pipefail -c
 
-.PHONY: try program run test bench interop library linked install
+.PHONY: try program run test bench interop library linked install install-library
 
 # The stored run, tried before any proof, in about a minute: what runs is not the proved program.
 try:
@@ -30,13 +31,14 @@ run: program
 	@echo "in:"; od -An -v -tx1 -w8 $(PROGRAM)/stdin
 	@echo "out:"; $(PROGRAM)/out/capn $$(cat $(PROGRAM)/args) < $(PROGRAM)/stdin | od -An -v -tx1 -w8
 
-# The whole gate: no line is too long and no crate reaches into another one's proofs, what `rt ci` tries, the program that
-# it built, once or more for each exit status and with too little memory, and the library for C with its examples. The
-# libraries that earlier checks built go first: `rt ci` would put them back behind it, in the place of its own, over which
-# the library for C is built.
+# The whole gate: no line is too long, no crate reaches into another one's proofs, the toolchain is the one that README.md
+# names; what `rt ci` tries; the program that it built, once or more for each exit status and with too little memory; and
+# the library for C with its examples. The libraries that earlier checks built go first: `rt ci` would put them back after
+# it, in the place of its own, over which the library for C is built.
 test:
 	.ci/lines
 	.ci/borders
+	.ci/toolchain
 	rm -rf crates/*/out/rlib
 	rt ci $(ANEW)
 	.ci/statuses
@@ -48,13 +50,15 @@ bench:
 	cd crates/bench && rt run > /dev/null && ./out/bench times
 
 # The program and the library as it is called from C, Python and Rust, on every stored vector; the guide's recipes; and
-# messages that the reference implementation wrote, where its command line tool is installed. With the program that the
-# gate builds, or with an installed one: make interop CAPN=/usr/local/bin/capn.
+# where the reference implementation is installed: messages that it wrote, the lines of docs/DIFFERENCES.md, and its
+# table of hostile inputs. With the program that the gate builds, or with an installed one:
+# make interop CAPN=/usr/local/bin/capn.
 interop: $(if $(CAPN),,program library)
 	./c/tests/agree
 	./interop/recipes
 	./interop/run
 	./interop/differences
+	if command -v python3 > /dev/null; then ./interop/hostile; else echo "hostile: skipped, since there is no python3"; fi
 
 # The library for C, proved: the archive of capn_c and what is made of it.
 library:
@@ -70,14 +74,16 @@ linked:
 	cd $(BUILD) && ar rcsD libcapn.a capn.o
 	cd $(BUILD) && $(CC) -shared -o libcapn.so.1 -Wl,-soname,libcapn.so.1 -Wl,-z,defs,-z,now capn.o
 
-# The program and its manual page; the library, its header and its pkg-config file. Builds nothing, so that nothing is
-# proved and built as root.
+# The program and its manual page. Builds nothing, so that nothing is proved and built as root.
 install:
 	@test -x $(PROGRAM)/out/capn || { echo "there is no program to install: run make program first" >&2; exit 1; }
-	@test -f $(BUILD)/libcapn.a -a -f $(BUILD)/libcapn.so.1 \
-		|| { echo "there is no library to install: run make library first" >&2; exit 1; }
 	install -D -m 755 $(PROGRAM)/out/capn $(DESTDIR)$(PREFIX)/bin/capn
 	install -D -m 644 docs/capn.1 $(DESTDIR)$(PREFIX)/share/man/man1/capn.1
+
+# The library for C, its header and its pkg-config file. Builds nothing either.
+install-library:
+	@test -f $(BUILD)/libcapn.a -a -f $(BUILD)/libcapn.so.1 \
+		|| { echo "there is no library to install: run make library first" >&2; exit 1; }
 	install -D -m 644 c/capn.h $(DESTDIR)$(PREFIX)/include/capn.h
 	install -D -m 644 $(BUILD)/libcapn.a $(DESTDIR)$(PREFIX)/lib/libcapn.a
 	install -D -m 755 $(BUILD)/libcapn.so.1 $(DESTDIR)$(PREFIX)/lib/libcapn.so.1

@@ -27,7 +27,7 @@ int main(int count, char **words) {
     uint8_t *bytes = read_all(words[1], &size);
     if (!bytes) return 3;
 
-    /* First with no room: the message is checked, and a length told that is enough. */
+    /* First with no room: the message is checked, and the report has a length that is enough. */
     capn_limits limits = CAPN_USUAL_LIMITS;
     capn_report report;
     capn_status status = capn_canonical(CAPN_STREAM, bytes, size, &limits, NULL, 0, &report);

@@ -46,7 +46,7 @@ for _name, _takes in {
 
 
 def _answer(call):
-    """Calls with no room, and then with the length that is told: the answer and its price."""
+    """Calls with no room, and then with the length that was reported: the answer and its price."""
     report = Report()
     status = call(None, 0, report)
     out = None
@@ -98,20 +98,19 @@ def pack(words):
 
 
 def unpack(text, max_words=8388608 + 2049):
-    """The words of a packed text, at most so many."""
+    """The words of a packed text, at most max_words."""
     return _answer(lambda out, room, report: _lib.capn_unpack(text, len(text), max_words, out, room, report))[0]
 
 
 def each(stream, limits=USUAL):
-    """Each message of a stream, as its bytes: TRAILING tells where the first one ends."""
-    while stream:
-        try:
-            check(stream, STREAM, limits)
-            end = len(stream)
-        except Refused as refused:
-            end = refused.report.at if refused.status == TRAILING else len(stream)
-        yield stream[:end]
-        stream = stream[end:]
+    """Each message of a stream, as its bytes: TRAILING says where the first one ends. None is copied but by itself."""
+    report, start, size = Report(), ctypes.cast(stream, ctypes.c_void_p).value, len(stream)
+    at = 0
+    while at < size:
+        status = _lib.capn_check(STREAM, ctypes.c_char_p(start + at), size - at, limits, report)
+        end = at + report.at if status == TRAILING else size
+        yield stream[at:end]
+        at = end
 
 
 if __name__ == "__main__":

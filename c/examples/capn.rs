@@ -3,7 +3,7 @@
 //! Run as a program, it writes the canonical bytes of the message in a file.
 use std::io::Write;
 
-/// How the bytes of a message are written: behind a segment table, the packed text of that, or the words alone.
+/// How the bytes of a message are written: after a segment table, the packed text of that, or the words alone.
 #[repr(u32)]
 #[derive(Clone, Copy, PartialEq)]
 pub enum Form {
@@ -109,7 +109,7 @@ unsafe extern "C" {
 }
 
 /// The report of a call, unless its status refuses.
-fn told(call: impl FnOnce(&mut Report) -> u32) -> Result<Report, Refused> {
+fn reported(call: impl FnOnce(&mut Report) -> u32) -> Result<Report, Refused> {
     let mut report = Report::default();
     match call(&mut report) {
         OK => Ok(report),
@@ -117,16 +117,16 @@ fn told(call: impl FnOnce(&mut Report) -> u32) -> Result<Report, Refused> {
     }
 }
 
-/// Calls with no room, and then with the length that is told: the answer and its price.
+/// Calls with no room, and then with the length that was reported: the answer and its price.
 fn answer(call: impl Fn(&mut [u8], &mut Report) -> u32) -> Result<(Vec<u8>, u32), Refused> {
     let mut out = Vec::new();
-    let report = match told(|report| call(&mut out, report)) {
+    let report = match reported(|report| call(&mut out, report)) {
         Err(Refused {
             status: NO_ROOM,
             report,
         }) => {
             out = vec![0; report.length as usize];
-            told(|report| call(&mut out, report))?
+            reported(|report| call(&mut out, report))?
         }
         first => first?,
     };
@@ -153,7 +153,7 @@ pub fn canonical(message: &[u8], form: Form, limits: &Limits) -> Result<(Vec<u8>
 /// Whether bytes, read bare, are the canonical bytes of their value.
 pub fn is_canonical(message: &[u8], limits: &Limits) -> Result<bool, Refused> {
     let (bytes, size) = (message.as_ptr(), message.len());
-    match told(|report| unsafe { capn_is_canonical(bytes, size, limits, report) }) {
+    match reported(|report| unsafe { capn_is_canonical(bytes, size, limits, report) }) {
         Err(Refused {
             status: NOT_CANONICAL,
             ..
@@ -166,14 +166,14 @@ pub fn is_canonical(message: &[u8], limits: &Limits) -> Result<bool, Refused> {
 pub fn digest(message: &[u8], form: Form, limits: &Limits) -> Result<[u8; 32], Refused> {
     let (bytes, size) = (message.as_ptr(), message.len());
     let mut digest = [0; 32];
-    told(|report| unsafe { capn_hash(form, bytes, size, limits, &mut digest, report) })?;
+    reported(|report| unsafe { capn_hash(form, bytes, size, limits, &mut digest, report) })?;
     Ok(digest)
 }
 
 /// What the walk of one message pays, and how many visits it makes.
 pub fn check(message: &[u8], form: Form, limits: &Limits) -> Result<(u32, u32), Refused> {
     let (bytes, size) = (message.as_ptr(), message.len());
-    let report = told(|report| unsafe { capn_check(form, bytes, size, limits, report) })?;
+    let report = reported(|report| unsafe { capn_check(form, bytes, size, limits, report) })?;
     Ok((report.paid, report.visits))
 }
 
@@ -186,7 +186,7 @@ pub fn pack(words: &[u8]) -> Result<Vec<u8>, Refused> {
     Ok(text)
 }
 
-/// The words of a packed text, at most so many.
+/// The words of a packed text, at most `max_words`.
 pub fn unpack(text: &[u8], max_words: u32) -> Result<Vec<u8>, Refused> {
     let (bytes, size) = (text.as_ptr(), text.len());
     let (words, _) = answer(|out, report| unsafe {
@@ -195,7 +195,7 @@ pub fn unpack(text: &[u8], max_words: u32) -> Result<Vec<u8>, Refused> {
     Ok(words)
 }
 
-/// Each message of a stream, as its bytes: `TRAILING` tells where the first one ends.
+/// Each message of a stream, as its bytes: `TRAILING` says where the first one ends.
 pub fn each<'a>(mut stream: &'a [u8], limits: &Limits) -> impl Iterator<Item = &'a [u8]> {
     std::iter::from_fn(move || {
         if stream.is_empty() {

@@ -1,9 +1,9 @@
-/* Each message of a stream: CAPN_TRAILING tells where the first one ends, before any of it is walked. */
+/* Each message of a stream: CAPN_TRAILING says where the first one ends, before any of it is walked. */
 #ifndef CAPN_EACH_H
 #define CAPN_EACH_H
 #include "capn.h"
 
-/* The digest of the message that stands first in some bytes of a stream, and how many bytes it takes. */
+/* The digest of the first message in some bytes of a stream, and how many bytes it takes. */
 static inline capn_status first_digest(const uint8_t *bytes, size_t size, const capn_limits *limits, uint8_t digest[32],
                                        size_t *taken, capn_report *report) {
     *taken = size;

@@ -22,7 +22,7 @@ static void blank(const char *what, const capn_report *r) {
 static const uint8_t message[32] = {0, 0, 0, 0, 3, 0, 0, 0, 0, 0, 0, 0, 2, 0, 0, 0, 5};
 static const capn_limits usual = CAPN_USUAL_LIMITS;
 
-/* Each call, with ample memory and room: its status, what it tells, and each byte that it writes. */
+/* Each call, with ample memory and room: its status, its report, and each byte that it writes. */
 static void answered(void) {
     const uint8_t canonical[16] = {0, 0, 0, 0, 1, 0, 0, 0, 5}, packed[8] = {0x10, 3, 0x10, 2, 1, 5};
     /* The first bytes of the SHA-256 of the canonical bytes. */
@@ -44,12 +44,77 @@ static void answered(void) {
     want("its price", r.paid, 2);
     want("hash", capn_hash(CAPN_STREAM, message, 32, &usual, digest, &r), CAPN_OK);
     want("its bytes", memcmp(digest, sum, 4) != 0, 0);
+    memset(digest, 0, 32);
+    want("hash of a packed text", capn_hash(CAPN_PACKED, packed, 8, &usual, digest, &r), CAPN_OK);
+    want("its bytes", memcmp(digest, sum, 4) != 0, 0);
+    want("its price", r.paid, 3);
+    want("no length", r.length, 0);
+    want("check of a packed text", capn_check(CAPN_PACKED, packed, 8, &usual, &r), CAPN_OK);
+    want("its price", r.paid, 3);
+    want("its visits", r.visits, 1);
     want("pack", capn_pack(message, 32, out, 8, &r), CAPN_OK);
     want("its bytes", memcmp(out, packed, 8) != 0, 0);
     want("its length", r.length, 8);
     want("unpack", capn_unpack(packed, 8, 4, out, 32, &r), CAPN_OK);
     want("its bytes", memcmp(out, message, 32) != 0, 0);
     want("its length", r.length, 32);
+}
+
+/* Each call of a message whose first byte, and that of each buffer, has any address; each lies at the end of a block that
+ * is exactly as long as it has to be, so that a sanitizer sees any byte beside it. */
+static void anywhere(void) {
+    const uint8_t packed[8] = {0x10, 3, 0x10, 2, 1, 5};
+    for (size_t off = 0; off < 8; off++)
+        for (size_t to = 0; to < 8; to++) {
+            uint8_t *from[2] = {malloc(off + 32), malloc(off + 8)}, *into[2] = {malloc(to + 32), malloc(to + 16)};
+            uint8_t *in = from[0] + off, *text = from[1] + off, *out = into[0] + to, *canonical = into[1] + to;
+            uint8_t digest[3][32];
+            capn_report r;
+            memcpy(in, message, 32);
+            memcpy(text, packed, 8);
+            want("canonical anywhere", capn_canonical(CAPN_STREAM, in, 32, &usual, canonical, 16, &r), CAPN_OK);
+            want("is_canonical anywhere", capn_is_canonical(canonical, 16, &usual, &r), CAPN_OK);
+            want("is_canonical anywhere, no", capn_is_canonical(in + 8, 24, &usual, &r), CAPN_NOT_CANONICAL);
+            want("canonical anywhere, packed", capn_canonical(CAPN_PACKED, text, 8, &usual, canonical, 16, &r), CAPN_OK);
+            want("canonical anywhere, bare", capn_canonical(CAPN_BARE, in + 8, 24, &usual, canonical, 16, &r), CAPN_OK);
+            want("hash anywhere", capn_hash(CAPN_STREAM, in, 32, &usual, out, &r), CAPN_OK);
+            memcpy(digest[0], out, 32);
+            want("hash anywhere, packed", capn_hash(CAPN_PACKED, text, 8, &usual, out, &r), CAPN_OK);
+            memcpy(digest[1], out, 32);
+            want("hash anywhere, bare", capn_hash(CAPN_BARE, canonical, 16, &usual, out, &r), CAPN_OK);
+            memcpy(digest[2], out, 32);
+            want("one digest", memcmp(digest[0], digest[1], 32) || memcmp(digest[0], digest[2], 32), 0);
+            want("check anywhere", capn_check(CAPN_STREAM, in, 32, &usual, &r), CAPN_OK);
+            want("check anywhere, packed", capn_check(CAPN_PACKED, text, 8, &usual, &r), CAPN_OK);
+            want("check anywhere, bare", capn_check(CAPN_BARE, in + 8, 24, &usual, &r), CAPN_OK);
+            want("unpack anywhere", capn_unpack(text, 8, 4, out, 32, &r), CAPN_OK);
+            want("its bytes", memcmp(out, message, 32) != 0, 0);
+            want("pack anywhere", capn_pack(in, 32, out, 8, &r), CAPN_OK);
+            want("its bytes", memcmp(out, packed, 8) != 0, 0);
+            for (int i = 0; i < 2; i++) {
+                free(from[i]);
+                free(into[i]);
+            }
+        }
+}
+
+/* With ample memory a message of each number of segments that it may have is accepted, in each form that has segments:
+ * the first segment has a null root, the others have no words. */
+static void segments(void) {
+    static uint8_t frame[4 * 4097 + 4 + 8], text[2 * sizeof frame], digest[32];
+    capn_report r;
+    for (size_t count = 1; count <= 4096; count++) {
+        size_t table = 8 * (count / 2 + 1);
+        memset(frame, 0, table + 8);
+        frame[0] = (uint8_t)(count - 1);
+        frame[1] = (uint8_t)((count - 1) >> 8);
+        frame[4] = 1;
+        want("so many segments", capn_check(CAPN_STREAM, frame, table + 8, &usual, &r), CAPN_OK);
+        want("hashed", capn_hash(CAPN_STREAM, frame, table + 8, &usual, digest, &r), CAPN_OK);
+        want("canonical", capn_canonical(CAPN_STREAM, frame, table + 8, &usual, digest, 8, &r), CAPN_OK);
+        want("packed", capn_pack(frame, table + 8, text, sizeof text, &r), CAPN_OK);
+        want("checked packed", capn_check(CAPN_PACKED, text, r.length, &usual, &r), CAPN_OK);
+    }
 }
 
 static void nothing(void) {
@@ -109,7 +174,7 @@ static void rooms(void) {
         want("room", status, room < 16 ? CAPN_NO_ROOM : CAPN_OK);
         want("its length", r.length, room ? 16 : 32);
         want("its price", r.paid, 3);
-        for (size_t i = room < 16 ? 0 : 16; i < room; i++) want("a byte behind the answer", out[i], 0xAA);
+        for (size_t i = room < 16 ? 0 : 16; i < room; i++) want("a byte after the answer", out[i], 0xAA);
         free(out);
     }
 }
@@ -189,6 +254,8 @@ static void hostile(void) {
 
 int main(void) {
     answered();
+    anywhere();
+    segments();
     nothing();
     ranges();
     rooms();

@@ -1,5 +1,5 @@
 /* Each allocation of each call refused in turn: CAPN_MEMORY, the buffer untouched, no number in the report, and nothing
- * left. Then the calls that want none: refused every one, they answer as with ample memory. */
+ * left. Then the calls that need none: refused every one, they answer as with ample memory. */
 #include "capn.h"
 #include "refusing.h"
 #include <stdio.h>
@@ -14,7 +14,7 @@ static void fail(const char *name, const char *why) {
     printf("memory: %s: %s\n", name, why);
 }
 
-/* Structs of two pointers, the second one null, each in the one before, so many deep, with a number at the end: how
+/* Structs of two pointers, the second one null, each in the one before, `depth` deep, with a number at the end: how
  * many bytes they take. */
 static size_t chain(uint8_t *at, size_t depth) {
     memset(at, 0, 16 * depth);
@@ -27,7 +27,7 @@ static size_t chain(uint8_t *at, size_t depth) {
     return 16 * depth;
 }
 
-/* The frame of so many segments, one or two, of which the second has no words: how many bytes it takes. */
+/* The frame of one segment or of two, the second without words: how many bytes it takes. */
 static size_t frame(uint8_t *to, uint8_t segments, const uint8_t *words, size_t size) {
     size_t table = segments == 1 ? 8 : 16;
     memset(to, 0, table);
@@ -69,7 +69,7 @@ static capn_status unpacked(const input *in, capn_report *report) {
     return capn_unpack(in->bytes, in->size, 1u << 20, out, ROOM, report);
 }
 
-/* What a call tells where it is refused memory, beside nothing. */
+/* A call that was refused memory writes nothing, and every field of its report is 0. */
 static void refused(const char *name, const capn_report *report) {
     for (size_t i = 0; i < ROOM; i++)
         if (out[i] != 0xAA) {
@@ -77,10 +77,10 @@ static void refused(const char *name, const capn_report *report) {
             break;
         }
     const capn_report none = {0, 0, 0, 0, 0, 0};
-    if (memcmp(report, &none, sizeof none)) fail(name, "tells");
+    if (memcmp(report, &none, sizeof none)) fail(name, "reports");
 }
 
-/* Each allocation of a call refused in turn, which are at least so many. */
+/* Each allocation of a call refused in turn; there are at least `least`. */
 static void each(const char *name, call *make, const input *in, int least) {
     capn_report report;
     uint32_t status = CAPN_MEMORY;
@@ -97,12 +97,12 @@ static void each(const char *name, call *make, const input *in, int least) {
         refused(name, &report);
     }
     if (status != CAPN_OK && status != CAPN_NO_ROOM && status != CAPN_NOT_CANONICAL) fail(name, "is refused otherwise");
-    if (count < least) fail(name, "wants less memory");
+    if (count < least) fail(name, "needs less memory");
     printf("memory: %s: refused %d times\n", name, count);
 }
 
-/* A call wants so many growths, and with every one refused it ends as with ample memory where it wants none, with this
- * status, and else with CAPN_MEMORY. */
+/* A call asks for `growths` growths. With every one refused it ends with CAPN_MEMORY; if it asks for none, as with ample
+ * memory, with the status `wanted`. */
 static void wants(const char *name, call *make, const input *in, long growths, uint32_t wanted) {
     capn_report ample, short_of;
     left = -1;
@@ -127,6 +127,10 @@ static void in_turn(void) {
     each("canonical, stream", canonical, &stream, 3);
     each("canonical, packed", canonical, &pack, 4);
     each("canonical, packed, no room", measured, &pack, 3);
+    each("canonical, bare, no room", measured, &bare, 1);
+    each("canonical, stream, no room", measured, &stream, 2);
+    each("hash, bare", hashed, &bare, 2);
+    each("hash, stream", hashed, &stream, 3);
     each("hash, packed", hashed, &pack, 4);
     each("check, bare", checked, &bare, 1);
     each("check, stream", checked, &stream, 2);
@@ -136,8 +140,8 @@ static void in_turn(void) {
     each("unpack", unpacked, &pack, 1);
 }
 
-/* At depth 64 a bare message and a stream of one segment want no memory, whether they are as deep or deeper; a stream
- * of two segments wants it once, where the second one ends. */
+/* At depth 64 a bare message and a stream of one segment need no memory, whether they are as deep or deeper; a stream
+ * of two segments needs it once, where the second one ends. */
 static void at_64(size_t depth, uint32_t wanted) {
     const capn_limits limits = CAPN_USUAL_LIMITS;
     const uint32_t room = wanted == CAPN_OK ? CAPN_NO_ROOM : wanted;
@@ -153,7 +157,7 @@ static void at_64(size_t depth, uint32_t wanted) {
     wants("no room at 64, two segments", measured, &stream, 1, room);
 }
 
-/* What is refused as it is read wants no memory: nothing to pack or unpack, no whole words, a first group that is cut
+/* What is refused as it is read needs no memory: nothing to pack or unpack, no whole words, a first group that is cut
  * or too long, a table that is cut or announces too much, and no table of a whole frame. */
 static void unread(void) {
     const capn_limits limits = CAPN_USUAL_LIMITS;

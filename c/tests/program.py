@@ -18,7 +18,7 @@ def digits(data):
 
 
 def priced(words, data):
-    """What the one message costs, as `check` tells it, and whether a bare one is canonical."""
+    """What the one message costs, as `check` writes it, and whether a bare one is canonical."""
     status, wrote, refusal = run(["check", *words], data)
     if status:
         return None, None, refusal

@@ -35,21 +35,32 @@ static capn_report each_call(const char *what, uint32_t form, const void *bytes,
     return wanted == CAPN_CAPABILITY ? report : checked;
 }
 
-/* Words, the least significant byte first, and what each call answers of them where they are read bare. */
+/* Words, the least significant byte first, and what each call answers of them: read bare, after the table of one segment
+ * and of two, the second without words, and each of these packed. */
 static void walks(const char *what, const uint64_t *words, size_t count, const capn_limits *limits, uint32_t wanted,
                   uint32_t word) {
-    uint8_t bytes[32];
+    uint8_t bytes[32], text[64];
     for (size_t i = 0; i < 8 * count; i++) bytes[i] = (uint8_t)(words[i / 8] >> i % 8 * 8);
     capn_report told = each_call(what, CAPN_BARE, bytes, 8 * count, limits, wanted), judged;
     is(what, capn_is_canonical(bytes, 8 * count, limits, &judged), wanted);
     want(what, told.word, word);
     if (wanted != CAPN_OK) want("the report of is_canonical", memcmp(&told, &judged, sizeof told) != 0, 0);
+    for (uint8_t segments = 1; segments <= 2; segments++) {
+        uint8_t framed[48] = {(uint8_t)(segments - 1), 0, 0, 0, (uint8_t)count};
+        size_t table = segments == 1 ? 8 : 16;
+        memcpy(framed + table, bytes, 8 * count);
+        capn_report same = each_call(what, CAPN_STREAM, framed, table + 8 * count, limits, wanted);
+        want("the report of a frame", memcmp(&told, &same, sizeof told) != 0, 0);
+        is(what, capn_pack(framed, table + 8 * count, text, sizeof text, &judged), CAPN_OK);
+        same = each_call(what, CAPN_PACKED, text, judged.length, limits, wanted);
+        want("the report of a packed frame", memcmp(&told, &same, sizeof told) != 0, 0);
+    }
 }
 
 /* The faults of a walk, and a capability. */
 static void walked(void) {
-    const capn_limits shallow = {1, 100, 1, CAPN_STRICT}, poor = {1, 1, 64, CAPN_STRICT};
-    const uint64_t null = 0, capability = 3, reserved = 7, far = 2 | 1ull << 32, beyond = 2 | 9 << 3;
+    const capn_limits shallow = {3, 100, 1, CAPN_STRICT}, poor = {3, 1, 64, CAPN_STRICT};
+    const uint64_t null = 0, capability = 3, reserved = 7, far = 2 | 9ull << 32, beyond = 2 | 9 << 3;
     const uint64_t range = 1ull << 32;
     const uint64_t pad[] = {2 | 1 << 3, 0};
     const uint64_t tag[] = {1 | 15ull << 32, 1, 0}, overrun[] = {1 | 15ull << 32, 2 << 2 | 1ull << 32, 0};
@@ -57,7 +68,7 @@ static void walked(void) {
     walks("no root", &null, 0, &usual, CAPN_NO_ROOT, 0);
     walks("a capability as root", &capability, 1, &usual, CAPN_ROOT_KIND, 0);
     walks("a reserved pointer", &reserved, 1, &usual, CAPN_RESERVED, 0);
-    walks("no segment 1", &far, 1, &usual, CAPN_NO_SEGMENT, 0);
+    walks("no segment 9", &far, 1, &usual, CAPN_NO_SEGMENT, 0);
     walks("a pad beyond the segment", &beyond, 1, &usual, CAPN_PAD_RANGE, 0);
     walks("a null pad", pad, 2, &usual, CAPN_BAD_PAD, 0);
     walks("a struct beyond the segment", &range, 1, &usual, CAPN_RANGE, 0);
@@ -92,7 +103,17 @@ static void reading(void) {
     read_as("4,097 segments", CAPN_STREAM, many, 8, &usual, CAPN_TOO_MANY_SEGMENTS, 4097);
     read_as("2 words", CAPN_STREAM, "\0\0\0\0\2\0\0", 8, &one, CAPN_TOO_MANY_WORDS, 2);
     read_as("a cut frame", CAPN_STREAM, message, 15, &usual, CAPN_FRAME_CUT, 0);
-    read_as("bytes behind the frame", CAPN_STREAM, message, 24, &usual, CAPN_TRAILING, 16);
+    read_as("bytes after the frame", CAPN_STREAM, message, 24, &usual, CAPN_TRAILING, 16);
+    /* 8 packed bytes, and an offset of 24 in what they unpack to. */
+    read_as("words after a packed frame", CAPN_PACKED, "\x10\2\x10\1\1\5\0", 8, &usual, CAPN_TRAILING, 24);
+    read_as("a packed frame of too many segments", CAPN_PACKED, "\3\0\x10", 3, &usual, CAPN_TOO_MANY_SEGMENTS, 4097);
+    read_as("a packed frame that is cut", CAPN_PACKED, "\x10\2\x10\1", 4, &usual, CAPN_FRAME_CUT, 0);
+    read_as("a packed frame of 2 words", CAPN_PACKED, "\x10\2\0\1", 4, &one, CAPN_TOO_MANY_WORDS, 2);
+    is("whole groups, then a cut one", capn_unpack((const uint8_t *)"\1\5\1", 3, 9, out, 16, &report), CAPN_PACKED_CUT);
+    want("its offset", report.at, 2);
+    is("whole groups, then one too many", capn_unpack((const uint8_t *)"\1\5\1\5", 4, 1, out, 16, &report),
+       CAPN_PACKED_TOO_LONG);
+    want("its offset", report.at, 2);
 }
 
 /* A packed text of more words than one message and the longest table may have; more bare words than there may be, of

@@ -1,5 +1,5 @@
 /* Answers each call of standard input as the stored answers are written, by the library: canonicalise, is_canonical,
- * survey, pack, unpack, and run N hash. Bytes are hexadecimal, and - stands for none. */
+ * survey, pack, unpack, and run N hash. Bytes are hexadecimal, and - is none. */
 #include "../examples/each.h"
 #include <stdio.h>
 #include <stdlib.h>
@@ -104,7 +104,7 @@ static capn_status unpacked(const void *at, uint8_t *out, size_t room, capn_repo
     return capn_unpack(call->bytes, call->size, call->most, out, room, report);
 }
 
-/* The lines of the digests of a stream, in hexadecimal, and how the run ends. */
+/* The lines of the digests of a stream, or of one bare or packed message, in hexadecimal, and how the run ends. */
 static void hashed(const struct call *call) {
     char *lines = calloc(call->size + 1, 65);
     size_t lines_length = 0, taken;
@@ -114,7 +114,8 @@ static void hashed(const struct call *call) {
     int is_bare = call->form == CAPN_BARE;
     for (size_t from = 0; from < call->size || (is_bare && !lines_length); from += taken) {
         taken = call->size;
-        if (is_bare) status = capn_hash(CAPN_BARE, call->bytes, call->size, &call->limits, digest, &report);
+        if (call->form != CAPN_STREAM)
+            status = capn_hash(call->form, call->bytes, call->size, &call->limits, digest, &report);
         else status = first_digest(call->bytes + from, call->size - from, &call->limits, digest, &taken, &report);
         if (status != CAPN_OK) break;
         for (int i = 0; i < 32; i++) lines_length += (size_t)sprintf(lines + lines_length, "%02x", digest[i]);

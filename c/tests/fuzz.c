@@ -1,0 +1,122 @@
+/* Any bytes through every call, in each form: the calls agree with one another, and read nothing beside the bytes. As a
+ * program it takes the bytes that end each line of standard input, in hexadecimal, and copies of them with some bytes
+ * changed, by a fixed seed. A fuzzer calls LLVMFuzzerTestOneInput:
+ * clang -DFUZZER -fsanitize=fuzzer,address -I c c/tests/fuzz.c build/libcapn.a */
+#include "capn.h"
+#include <stdio.h>
+#include <stdlib.h>
+#include <string.h>
+
+static const capn_limits limits = {1u << 16, 1u << 16, 64, CAPN_STRICT};
+
+static void need(int holds, const char *what, const uint8_t *bytes, size_t size) {
+    if (holds) return;
+    printf("fuzz: not so: %s:", what);
+    for (size_t i = 0; i < size; i++) printf(" %02x", bytes[i]);
+    printf("\n");
+    abort();
+}
+
+/* The canonical bytes of what check accepts: canonical, hash and is_canonical agree on them, and check on the price. */
+static void accepted(uint32_t form, const uint8_t *bytes, size_t size, const capn_report *checked, size_t enough) {
+    uint8_t *out = malloc(enough), digest[2][32];
+    capn_report report;
+    capn_status status = capn_canonical(form, bytes, size, &limits, out, enough, &report);
+    need(status == CAPN_OK && report.paid == checked->paid, "room that is enough", bytes, size);
+    size_t length = report.length;
+    uint8_t *again = malloc(length);
+    status = capn_canonical(CAPN_BARE, out, length, &limits, again, length, &report);
+    need(status == CAPN_OK && report.length == length && !memcmp(out, again, length), "own form", bytes, size);
+    need(capn_is_canonical(out, length, &limits, &report) == CAPN_OK, "is canonical", bytes, size);
+    need(capn_hash(form, bytes, size, &limits, digest[0], &report) == CAPN_OK, "hash", bytes, size);
+    need(capn_hash(CAPN_BARE, out, length, &limits, digest[1], &report) == CAPN_OK, "hash again", bytes, size);
+    need(!memcmp(digest[0], digest[1], 32), "one digest", bytes, size);
+    if (form == CAPN_BARE) {
+        int is_own = length == size && !memcmp(out, bytes, length);
+        status = capn_is_canonical(bytes, size, &limits, &report);
+        need(status == (is_own ? CAPN_OK : CAPN_NOT_CANONICAL), "is canonical only if it is", bytes, size);
+    }
+    free(out);
+    free(again);
+}
+
+static void message(uint32_t form, const uint8_t *bytes, size_t size) {
+    capn_report checked, report;
+    uint8_t digest[32];
+    capn_status check = capn_check(form, bytes, size, &limits, &checked);
+    capn_status status = capn_canonical(form, bytes, size, &limits, NULL, 0, &report);
+    need(check != CAPN_MEMORY && status != CAPN_MEMORY, "there is memory", bytes, size);
+    if (check == CAPN_OK && status == CAPN_NO_ROOM) {
+        need(report.length == 8 * ((uint64_t)report.paid + 1), "a length that is enough", bytes, size);
+        accepted(form, bytes, size, &checked, report.length);
+        return;
+    }
+    capn_report hashed;
+    need(status == (check == CAPN_OK ? CAPN_CAPABILITY : check), "canonical refuses as check", bytes, size);
+    need(capn_hash(form, bytes, size, &limits, digest, &hashed) == status, "hash refuses as canonical", bytes, size);
+    need(!memcmp(&report, &hashed, sizeof report), "the reports of a refusal", bytes, size);
+}
+
+/* Any bytes as a packed text: what it unpacks to is packed, and unpacked again. */
+static void packing(const uint8_t *bytes, size_t size) {
+    static uint8_t words[1 << 16], again[1 << 16], text[10 * (1 << 13)];
+    capn_report report, other;
+    if (capn_unpack(bytes, size, 1 << 13, words, sizeof words, &report) != CAPN_OK) return;
+    need(capn_pack(words, report.length, text, sizeof text, &other) == CAPN_OK, "packed", bytes, size);
+    need(capn_unpack(text, other.length, 1 << 13, again, sizeof again, &other) == CAPN_OK, "unpacked", bytes, size);
+    need(other.length == report.length && !memcmp(words, again, other.length), "there and back", bytes, size);
+}
+
+int LLVMFuzzerTestOneInput(const uint8_t *data, size_t size) {
+    uint8_t *bytes = malloc(size ? size : 1); /* exactly as long, so that a sanitizer sees any byte beside them */
+    if (size) memcpy(bytes, data, size);
+    for (uint32_t form = 0; form < 3; form++) message(form, bytes, size);
+    packing(bytes, size);
+    free(bytes);
+    return 0;
+}
+
+#ifndef FUZZER
+static uint64_t seed = 7;
+
+static uint32_t any(uint32_t below) {
+    seed ^= seed << 13;
+    seed ^= seed >> 7;
+    seed ^= seed << 17;
+    return (uint32_t)(seed >> 32) % below;
+}
+
+/* One to four bytes changed, and now and then the end cut off. */
+static size_t change(uint8_t *bytes, size_t size) {
+    const uint8_t special[6] = {0, 1, 2, 7, 0x80, 0xff};
+    for (uint32_t times = 1 + any(4); times && size; times--) {
+        uint8_t *byte = bytes + any((uint32_t)size);
+        *byte = any(2) ? special[any(6)] : (uint8_t)(*byte ^ 1u << any(8));
+    }
+    return any(8) || !size ? size : any((uint32_t)size);
+}
+
+int main(void) {
+    enum { LINE = 1 << 22, LONGEST = 1 << 12, COPIES = 40 };
+    static char line[LINE];
+    static uint8_t bytes[LONGEST], copy[LONGEST];
+    long tried = 0;
+    while (fgets(line, LINE, stdin)) {
+        char *digits = strrchr(line, ' ');
+        size_t size = digits ? strcspn(++digits, "\n") / 2 : 0;
+        if (!digits || size > LONGEST) continue;
+        for (size_t i = 0; i < size; i++) {
+            unsigned byte = 0;
+            sscanf(digits + 2 * i, "%2x", &byte);
+            bytes[i] = (uint8_t)byte;
+        }
+        LLVMFuzzerTestOneInput(bytes, size);
+        for (int i = 0; i < COPIES; i++, tried++) {
+            memcpy(copy, bytes, size);
+            LLVMFuzzerTestOneInput(copy, change(copy, size));
+        }
+    }
+    printf("fuzz: %ld changed inputs, on which all calls agree\n", tried);
+    return 0;
+}
+#endif

@@ -1,0 +1,17 @@
+/* The header as a program of C or C++ takes it: each of the six calls once, on a null root and on nothing. */
+#include "capn.h"
+
+int main(void) {
+    const uint8_t null[16] = {0, 0, 0, 0, 1, 0, 0, 0, 0, 0, 0, 0, 0, 0, 0, 0};
+    const capn_limits limits = CAPN_USUAL_LIMITS;
+    capn_report report;
+    uint8_t out[16], digest[32];
+    if (CAPN_VERSION < 100) return 1;
+    if (capn_canonical(CAPN_STREAM, null, 16, &limits, out, 16, &report) != CAPN_OK || report.length != 8) return 2;
+    if (capn_is_canonical(out, 8, &limits, &report) != CAPN_OK) return 3;
+    if (capn_hash(CAPN_STREAM, null, 16, &limits, digest, &report) != CAPN_OK) return 4;
+    if (capn_check(CAPN_BARE, out, 8, &limits, &report) != CAPN_OK || report.visits != 1) return 5;
+    if (capn_pack(null, 16, out, 16, &report) != CAPN_OK || report.length != 4) return 6;
+    if (capn_unpack(out, 4, 1, out + 8, 8, &report) != CAPN_PACKED_TOO_LONG) return 7;
+    return 0;
+}

@@ -1,0 +1,81 @@
+/* Calls at the same time: threads that start together make every call on the same input, into buffers of their own, and
+ * each answer is that of one thread alone. */
+#include "capn.h"
+#include <pthread.h>
+#include <stdio.h>
+#include <string.h>
+
+enum { THREADS = 4, ROUNDS = 500, DEPTH = 200, WORDS = 2 * DEPTH, ROOM = 16 * WORDS };
+static const capn_limits limits = {1u << 20, 1u << 20, 256, CAPN_STRICT};
+/* Structs of two pointers, each in the one before: as a stream of two segments, and packed. */
+static uint8_t stream[16 + 8 * WORDS], packed[10 * (WORDS + 2)];
+static size_t packed_size;
+
+/* What the calls answer: statuses, reports, and all that they write. */
+typedef struct answers {
+    capn_status status[9];
+    capn_report report[9];
+    uint8_t canonical[ROOM], digest[2][32], text[sizeof packed], words[sizeof stream];
+} answers;
+static answers alone, each[THREADS];
+static pthread_barrier_t start;
+static int differ[THREADS];
+
+static void make(answers *a) {
+    const uint8_t *bare = stream + 16;
+    capn_report *r = a->report;
+    memset(a, 0, sizeof *a);
+    a->status[0] = capn_canonical(CAPN_STREAM, stream, sizeof stream, &limits, a->canonical, ROOM, &r[0]);
+    a->status[1] = capn_canonical(CAPN_PACKED, packed, packed_size, &limits, NULL, 0, &r[1]);
+    a->status[2] = capn_is_canonical(a->canonical, r[0].length, &limits, &r[2]);
+    a->status[3] = capn_hash(CAPN_BARE, bare, sizeof stream - 16, &limits, a->digest[0], &r[3]);
+    a->status[4] = capn_hash(CAPN_PACKED, packed, packed_size, &limits, a->digest[1], &r[4]);
+    a->status[5] = capn_check(CAPN_STREAM, stream, sizeof stream, &limits, &r[5]);
+    a->status[6] = capn_check(CAPN_STREAM, stream, sizeof stream - 8, &limits, &r[6]);
+    a->status[7] = capn_pack(stream, sizeof stream, a->text, sizeof a->text, &r[7]);
+    a->status[8] = capn_unpack(packed, packed_size, WORDS + 2, a->words, sizeof a->words, &r[8]);
+}
+
+static void *run(void *number) {
+    int own = *(int *)number;
+    pthread_barrier_wait(&start);
+    for (int i = 0; i < ROUNDS; i++) {
+        make(&each[own]);
+        if (memcmp(&each[own], &alone, sizeof alone)) differ[own]++;
+    }
+    return NULL;
+}
+
+int main(void) {
+    pthread_t threads[THREADS];
+    int numbers[THREADS], failed = 0;
+    stream[0] = 1;
+    stream[4] = WORDS & 255;
+    stream[5] = WORDS >> 8;
+    for (size_t i = 0; i < DEPTH; i++) {
+        uint8_t *slot = stream + 16 + (i ? 8 * (2 * i - 1) : 0);
+        slot[0] = i ? 4 : 0; /* over the second slot of its own struct */
+        slot[i + 1 < DEPTH ? 6 : 4] = i + 1 < DEPTH ? 2 : 1;
+    }
+    stream[sizeof stream - 8] = 7;
+    capn_report report;
+    if (capn_pack(stream, sizeof stream, packed, sizeof packed, &report) != CAPN_OK) return 1;
+    packed_size = report.length;
+    make(&alone);
+    const capn_status wanted[9] = {CAPN_OK, CAPN_NO_ROOM, CAPN_OK, CAPN_OK, CAPN_OK, CAPN_OK, CAPN_FRAME_CUT};
+    if (memcmp(alone.status, wanted, sizeof wanted) || alone.report[5].visits <= DEPTH) {
+        printf("threads: another answer\n");
+        return 1;
+    }
+    if (pthread_barrier_init(&start, NULL, THREADS)) return 2;
+    for (int i = 0; i < THREADS; i++) {
+        numbers[i] = i;
+        if (pthread_create(&threads[i], NULL, run, &numbers[i])) return 2;
+    }
+    for (int i = 0; i < THREADS; i++) {
+        pthread_join(threads[i], NULL);
+        failed += differ[i];
+    }
+    printf("threads: %d times every call in each of %d threads, %d differ\n", ROUNDS, THREADS, failed);
+    return failed != 0;
+}
