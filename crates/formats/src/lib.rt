@@ -13,4 +13,6 @@ mod packed;
 #[cfg(test)]
 mod pointers;
 #[cfg(test)]
+mod receiving;
+#[cfg(test)]
 mod watched;

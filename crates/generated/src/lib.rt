@@ -16,4 +16,8 @@ mod random;
 #[cfg(test)]
 mod segments;
 #[cfg(test)]
+mod texts;
+#[cfg(test)]
+mod trees;
+#[cfg(test)]
 mod writing;

@@ -1,0 +1,93 @@
+//! Texts of values, which are read back: one by one, at the front of more, and as a stream.
+
+use crate::writing::message;
+use capn_stream::first;
+use capn_text::{Texts, read, read_first};
+use capn_value::{Tree, same, show};
+use capn_walk::{Limits, walk};
+use capn_words::MOST_MESSAGE_WORDS;
+use std::alloc::{AllocError, Global};
+use std::test::Fail;
+
+/// The value of a seed's message.
+pub(crate) fn value_of(alloc: Global, seed: u64) -> Result<Tree, Fail> {
+    let stream = message(alloc, seed, 1)?;
+    let Ok((space, _)) = first(alloc, stream.as_slice(), MOST_MESSAGE_WORDS) else {
+        return Err(Fail::new("first"));
+    };
+    match walk(alloc, &space, Limits::usual()) {
+        Ok(walked) => Ok(walked.tree),
+        Err(_) => Err(Fail::new("walk")),
+    }
+}
+
+// Whether a tree that was read is this one, with this text. Values with trailing zeros are the same as others without,
+// but have another text.
+fn is_read(alloc: Global, tree: &Tree, read: Option<Tree>, text: &[u8]) -> bool {
+    match read {
+        Some(read) => {
+            let is_same = same(tree.value(), read.value());
+            let again = show(alloc, &read);
+            // One call is cheaper to check than fields that are dropped one by one.
+            drop(read);
+            is_same && matches!(again, Ok(again) if again.as_bytes() == text)
+        }
+        None => false,
+    }
+}
+
+// What is read at the front of bytes that have one more behind the text, if it took all of the text.
+fn read_at_front(alloc: Global, text: &[u8]) -> Result<Option<Tree>, AllocError> {
+    let mut more = Vec::new(alloc);
+    more.extend_from_slice(text)?;
+    more.push(10)?;
+    match read_first(alloc, more.as_slice()) {
+        Ok((tree, taken)) if taken == text.len() => Ok(Some(tree)),
+        _ => Ok(None),
+    }
+}
+
+// Whether the text of a tree is read back as this tree, by itself and at the front; the text joins a stream.
+fn joins(alloc: Global, tree: &Tree, stream: &mut Vec<u8>) -> Result<bool, AllocError> {
+    let Ok(text) = show(alloc, tree) else {
+        return Ok(false);
+    };
+    stream.extend_from_slice(text.as_bytes())?;
+    stream.extend_from_slice(b"end\n")?;
+    let alone = read(alloc, text.as_bytes()).ok();
+    let in_front = read_at_front(alloc, text.as_bytes())?;
+    Ok(
+        is_read(alloc, tree, alone, text.as_bytes())
+            && is_read(alloc, tree, in_front, text.as_bytes()),
+    )
+}
+
+// Whether the next text of a stream is read as this tree.
+fn is_next(alloc: Global, tree: &Tree, texts: &mut Texts) -> bool {
+    match (texts.read_next(alloc), show(alloc, tree)) {
+        (Ok(next), Ok(text)) => is_read(alloc, tree, next, text.as_bytes()),
+        _ => false,
+    }
+}
+
+const SEEDS: u64 = 500;
+
+#[test]
+fn texts_of_five_hundred_values(rt: HostRuntime) -> Result<(), Fail> {
+    let mut stream = Vec::new(rt.alloc());
+    for seed in 0..SEEDS {
+        let tree = value_of(rt.alloc(), seed)?;
+        let is_right = joins(rt.alloc(), &tree, &mut stream);
+        drop(tree);
+        assert!(rt; is_right == Ok(true), "at seed {seed}");
+    }
+    let mut texts = Texts::new(stream.as_slice());
+    for seed in 0..SEEDS {
+        let tree = value_of(rt.alloc(), seed)?;
+        let is_right = is_next(rt.alloc(), &tree, &mut texts);
+        drop(tree);
+        assert!(rt; is_right, "at seed {seed} of the stream");
+    }
+    assert!(rt; matches!(texts.read_next(rt.alloc()), Ok(None)));
+    Ok(())
+}
