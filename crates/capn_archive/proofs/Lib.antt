@@ -1,0 +1,4 @@
+pub mod Sends
+pub mod More
+pub mod Next
+pub mod Added

@@ -1,0 +1,4 @@
+pub mod Service
+pub mod Fold
+pub mod Sending
+pub mod Serving
