@@ -2,3 +2,4 @@ pub mod Service
 pub mod Fold
 pub mod Sending
 pub mod Serving
+pub mod StreamRun

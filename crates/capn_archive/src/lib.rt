@@ -9,7 +9,9 @@ mod output;
 mod position;
 mod service;
 mod stream;
+mod stream_run;
 
 pub use fault::{RunFault, ServeFault};
 pub use position::Position;
 pub use service::{Run, Service};
+pub use stream_run::run_stream;
