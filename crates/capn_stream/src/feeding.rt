@@ -100,6 +100,15 @@ impl<A: Allocator + Copy> Framer<A> {
         self.frame.is_empty()
     }
 
+    /// The bytes that came since the last message was taken, while no call has refused: the frame of the message that
+    /// waits, or the beginning of one.
+    #[inline]
+    pub fn held(&self) -> &[u8]
+        ensures { result.now ≡ self.now.rest }
+    {
+        &self.frame
+    }
+
     /// The message that waits, if one does, once. It takes no memory: the bytes are moved.
     #[inline]
     pub fn take(&mut self) -> Option<Stored<A>>

@@ -1,0 +1,5 @@
+pub mod Service
+pub mod Fold
+pub mod Sending
+pub mod Serving
+pub mod StreamRun
