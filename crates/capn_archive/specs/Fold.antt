@@ -8,7 +8,6 @@ use Rattle.capn_stream.specs.Frames.{Frames, StandsFirst}
 use Rattle.capn_stream.specs.Reading as frames
 use Rattle.capn_stream.specs.declared.fault.FrameFault.{FrameFault}
 use Rattle.capn_stream.specs.declared.fault.FrameFault.TheVariants as frame_faults
-use Rattle.capn_pack.specs.declared.fault.UnpackFault.TheVariants as cuts
 use Rattle.capn_canon.specs.declared.refusal.Refusal.{Refusal}
 use Rattle.capn_canon.specs.declared.refusal.Refusal.TheVariants as refusals
 use Rattle.capn_archive.specs.declared.position.Position.{Position}
