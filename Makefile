@@ -58,7 +58,7 @@ interop: $(if $(CAPN),,program library)
 	./interop/recipes
 	./interop/run
 	./interop/differences
-	if command -v python3 > /dev/null; then ./interop/hostile; else echo "hostile: skipped, since there is no python3"; fi
+	@if command -v python3 > /dev/null; then ./interop/hostile; else echo "hostile: skipped, since there is no python3"; fi
 
 # The library for C, proved: the archive of capn_c and what is made of it.
 library:
