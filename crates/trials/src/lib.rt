@@ -7,6 +7,8 @@
 #[cfg(test)]
 mod ends;
 #[cfg(test)]
+mod indexes;
+#[cfg(test)]
 mod layouts;
 #[cfg(test)]
 mod lines;

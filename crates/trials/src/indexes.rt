@@ -1,0 +1,193 @@
+//! Indexes of messages, and rooms that are too short for them.
+
+use crate::words::bytes_of;
+use capn_walk::{Entry, Fault, Indexed, Kind, Limits, Stopped, index, index_into};
+use capn_words::{Bare, Place};
+use std::alloc::Global;
+use std::test::Fail;
+
+/// The entry of null.
+const NULL: Entry = Entry {
+    start: 0,
+    segment: 0,
+    count: 0,
+    span: 1,
+    words: 0,
+    slots: 0,
+    kind: Kind::Nil,
+};
+
+/// What stands in a room before.
+const BLANK: Entry = Entry {
+    start: 99,
+    segment: 98,
+    count: 97,
+    span: 96,
+    words: 95,
+    slots: 94,
+    kind: Kind::Cap,
+};
+
+/// A struct whose slot has three bytes.
+const BYTES: [u64; 3] = [0x1_0000_0000_0000, 0x1a_0000_0001, 0x63_6261];
+
+const BYTES_INDEX: [Entry; 2] = [
+    Entry {
+        start: 1,
+        words: 0,
+        slots: 1,
+        span: 2,
+        kind: Kind::Node,
+        ..NULL
+    },
+    Entry {
+        start: 2,
+        count: 3,
+        kind: Kind::Bytes,
+        ..NULL
+    },
+];
+
+/// A struct whose slot has two rows of one slot each, of which the first is null and the second leads to an empty
+/// struct.
+const ROWS: [u64; 5] = [
+    0x1_0000_0000_0000,
+    0x17_0000_0001,
+    0x1_0000_0000_0008,
+    0,
+    0xffff_fffc,
+];
+
+const ROWS_INDEX: [Entry; 4] = [
+    Entry {
+        start: 1,
+        words: 0,
+        slots: 1,
+        span: 4,
+        kind: Kind::Node,
+        ..NULL
+    },
+    Entry {
+        start: 2,
+        count: 2,
+        slots: 1,
+        span: 3,
+        kind: Kind::Rows,
+        ..NULL
+    },
+    NULL,
+    Entry {
+        start: 4,
+        words: 0,
+        slots: 0,
+        span: 1,
+        kind: Kind::Node,
+        ..NULL
+    },
+];
+
+/// A struct whose two slots lead to the same struct, which is entered once for each.
+const SHARED: [u64; 4] = [0x2_0000_0000_0000, 0x1_0000_0004, 0x1_0000_0000, 9];
+
+const SHARED_INDEX: [Entry; 3] = [
+    Entry {
+        start: 1,
+        words: 0,
+        slots: 2,
+        span: 3,
+        kind: Kind::Node,
+        ..NULL
+    },
+    Entry {
+        start: 3,
+        words: 1,
+        slots: 0,
+        span: 1,
+        kind: Kind::Node,
+        ..NULL
+    },
+    Entry {
+        start: 3,
+        words: 1,
+        slots: 0,
+        span: 1,
+        kind: Kind::Node,
+        ..NULL
+    },
+];
+
+/// A room of which nothing is filled.
+const ROOM: [Entry; 6] = [BLANK; 6];
+
+/// What an index of a message tells that is put into a room.
+fn put(bytes: &[u8], limits: Limits, room: &mut [Entry]) -> Option<Result<Indexed, Stopped>> {
+    let bare = Bare::new(bytes).ok()?;
+    Some(index_into(&bare, limits, room))
+}
+
+/// Whether the entries are put into a room of so many, as far as it goes, and nothing behind them is touched.
+fn is_put(bytes: &[u8], want: &[Entry], told: Indexed, most: usize) -> bool {
+    let mut room = ROOM;
+    let most = most.min(6);
+    let is_told = put(bytes, Limits::usual(), &mut room[..most]) == Some(Ok(told));
+    let filled = most.min(want.len()).min(6);
+    is_told && room[..filled] == want[..filled] && room[filled..] == ROOM[filled..]
+}
+
+/// Whether the index of a message has these entries, by both calls, and in each room that is too short for it.
+fn is_indexed(alloc: Global, words: &[u64], want: &[Entry], paid: u32) -> Result<bool, Fail> {
+    let bytes = bytes_of(alloc, words)?;
+    let told = Indexed {
+        paid,
+        visits: want.len() as u32,
+    };
+    for most in 0..=6usize {
+        if !is_put(bytes.as_slice(), want, told, most) {
+            return Ok(false);
+        }
+    }
+    let Ok(bare) = Bare::new(bytes.as_slice()) else {
+        return Ok(false);
+    };
+    match index(alloc, &bare, Limits::usual()) {
+        Ok(index) => Ok(index.paid == paid && index.entries.as_slice() == want),
+        Err(_) => Ok(false),
+    }
+}
+
+#[test]
+fn each_entry_of_a_message(rt: HostRuntime) -> Result<(), Fail> {
+    assert!(rt; is_indexed(rt.alloc(), &[0], &[NULL], 0)?);
+    assert!(rt; is_indexed(rt.alloc(), &BYTES, &BYTES_INDEX, 4)?);
+    assert!(rt; is_indexed(rt.alloc(), &ROWS, &ROWS_INDEX, 7)?);
+    assert!(rt; is_indexed(rt.alloc(), &SHARED, &SHARED_INDEX, 7)?);
+    Ok(())
+}
+
+/// How the index of the rows stops that may pay six words: at the struct in the last slot.
+const STOPPED: Stopped = Stopped {
+    fault: Fault::OverBudget,
+    place: Place {
+        segment: 0,
+        word: 4,
+    },
+    paid: 6,
+    visits: 4,
+};
+
+#[test]
+fn a_refusal_of_a_walk(rt: HostRuntime) -> Result<(), Fail> {
+    let limits = Limits::new(1, 6, 64).unwrap_or(Limits::usual());
+    let bytes = bytes_of(rt.alloc(), &ROWS)?;
+    for most in [0, 3, 6usize] {
+        let mut room = ROOM;
+        let told = put(bytes.as_slice(), limits, &mut room[..most]);
+        assert!(rt; told == Some(Err(STOPPED)));
+    }
+    let Ok(bare) = Bare::new(bytes.as_slice()) else {
+        return Err(Fail::new("no words"));
+    };
+    let told = index(rt.alloc(), &bare, limits);
+    assert!(rt; matches!(told, Err(stopped) if stopped == STOPPED));
+    Ok(())
+}
