@@ -22,7 +22,8 @@ use Rattle.capn_archive.specs.declared.fault.RunFault.{RunFault}
 use Rattle.capn_archive.specs.declared.fault.RunFault.TheVariants as faults
 use Rattle.capn_archive.specs.Fold.{Fold, Part, AreServed, AreParts, after, fold_of, frames_of, texts_of}
 use Rattle.capn_archive.specs.Sending.{Outgoing, Adds, SendsRest, outgoing, sent}
-use Rattle.capn_archive.specs.Serving.{AddsMessage, HasRoom, IsDueSo, IsListening, Passes, Serves, ServesHeld, ServesNext}
+use Rattle.capn_archive.specs.Serving.{AddsMessage, HasRoom, IsDueSo, IsListening, Passes, Serves, ServesHeld}
+use Rattle.capn_archive.specs.Serving.{ServesNext}
 use Rattle.capn_archive.specs.Serving.{ServesWhole, Stops, Tells, fault_at}
 use Rattle.capn_archive.proofs.Sends.{adds_all, breaks_rest}
 use Rattle.capn_archive.proofs.More.{parts_none, tells_more, tells_none, tells_one, stops_framed, stops_memory}
@@ -274,8 +275,8 @@ module _ {X : Type 0} (f : Fold X) (x y : X) (bytes : List ℕ) (at : ℕ) (a b 
       adds in
       let same_front = subst (λ (p : List ℕ). Stops f y (take taken p ++ drop taken (drop at bytes)) b c failed fault)
       (take_rest bytes at) here in
-      let part = subst (λ (p : List ℕ). Stops f y p b c failed fault) (take-append-drop taken (drop at bytes)) same_front
-      in
+      let split = take-append-drop taken (drop at bytes) in
+      let part = subst (λ (p : List ℕ). Stops f y p b c failed fault) split same_front in
       subst (λ (p : List ℕ). Stops f x p a c failed fault) (take-append-drop at bytes)
       (stops_more f x y (take at bytes) [] (drop at bytes) a b c failed fault told part)
 
@@ -365,7 +366,8 @@ module _ {X : Type 0} (f : Fold X) (x : X) (c d e : Option (List ℕ)) (text : L
   stops_kept stream fault same stop = record {
     told = λ h. absurd (cc);
     front = λ h. (let g = stop.front h in
-        (g.0, g.1, g.2, g.3, g.4, subst (λ (o : Option (List ℕ)). Appends c o (take g.3 (texts_of g.0))) (sym same) g.5));
+        let wrote = subst (λ (o : Option (List ℕ)). Appends c o (take g.3 (texts_of g.0))) (sym same) g.5 in
+        (g.0, g.1, g.2, g.3, g.4, wrote));
     io = stop.io;
     due = inr (inl (stop.io.1 refl));
   }

@@ -1,5 +1,6 @@
 -- A run over a stream that is read in chunks.
-use Rattle.std.proofs.Common.{◌≡◌, ◌≢◌, ◌⊎◌, inl, inr, ℕ, ◌+◌, ◌-◌, ◌<◌, ◌≤◌, ◌^◌, min, List, [], ◌++◌, length, take, Bool}
+use Rattle.std.proofs.Common.{◌≡◌, ◌≢◌, ◌⊎◌, inl, inr, ℕ, ◌+◌, ◌-◌, ◌<◌, ◌≤◌, ◌^◌, min, List, [], ◌++◌, length, take}
+use Rattle.std.proofs.Common.{Bool}
 use Rattle.std.proofs.Common.{true, false, Option, None, Some, IfSome, Result, Ok, Err, refl, ap, sym, subst, ◌∙◌}
 use Rattle.std.proofs.Common.{append-nil, arith, length-append, length-take-le}
 use Rattle.std.proofs.Math.Seq.{take-length, take_all}
@@ -228,7 +229,8 @@ module _ {X : Type 0} (f : Fold X) (x : X) (limit : ℕ) where
         exact = ends_kept z a b2 c e (bytes ++ take w buf) true (Err faults.InputTooLong) kept
             (inr (inr (due.0, z, due.1, due.2)));
         io = (λ h. absurd (cc), λ h. absurd (not_failed reader_failed writer_failed reader_fine writer_fine h));
-        begun = begins_kept a b2 c e (bytes ++ take w buf) true kept (written_front z (bytes ++ take w buf) new c e all);
+        begun = begins_kept a b2 c e (bytes ++ take w buf) true kept
+            (written_front z (bytes ++ take w buf) new c e all);
         heard = λ h. absurd (not_failed reader_failed writer_failed reader_fine writer_fine (inl h));
       }
 

@@ -26,7 +26,7 @@ Adds old new text = (written : List ℕ) × Appends old.taken new.taken written 
 abbrev pub Breaks : Outgoing → Outgoing → ℕ → List ℕ → Type 0
 Breaks old new count text = Appends old.taken new.taken (take count (old.kept ++ text))
 
--- A run that ended in this way wrote what it kept, and ends so: not if its writer had failed before, and with Io if that
+-- A run that ended in this way wrote what it kept, and ends so: not if its writer had failed before, and with Io if it
 -- failed now.
 abbrev pub SendsRest : Result (Unit {0}) RunFault → List ℕ → Option (List ℕ) → Option (List ℕ) → Bool → Bool
     → Result (Unit {0}) RunFault → Type 0

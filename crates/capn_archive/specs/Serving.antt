@@ -78,7 +78,8 @@ module _ {X : Type 0} (f : Fold X) where
   abbrev pub ServesHeld : X → Framing → Outgoing → Outgoing → Bool → Result (Unit {0}) RunFault → Framing → X → Type 0
   ServesHeld x before old new failed (Ok u) after y =
       Tells x before.rest after.rest old new y × IsListening after × (failed ≡ false)
-  ServesHeld x before old new failed (Err fault) after y = (more : List ℕ) → Stops x (before.rest ++ more) old new failed fault
+  ServesHeld x before old new failed (Err fault) after y =
+      (more : List ℕ) → Stops x (before.rest ++ more) old new failed fault
 
   -- this number of bytes was served, up to a whole message or to their end
   abbrev pub ServesNext : X → Framing → List ℕ → Outgoing → Outgoing → Bool → Result ℕ RunFault → Framing → X → Type 0

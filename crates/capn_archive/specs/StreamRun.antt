@@ -1,5 +1,6 @@
 -- A run over a stream: the bytes that it takes, what it writes, how it ends, and the state after it. (Own.)
-use Rattle.std.specs.Prelude.{◌≡◌, ◌⊎◌, ◌↔◌, ℕ, ◌+◌, ◌≤◌, nat_lt, List, [], length, take, Bool, true, false, Option, Some}
+use Rattle.std.specs.Prelude.{◌≡◌, ◌⊎◌, ◌↔◌, ℕ, ◌+◌, ◌≤◌, nat_lt, List, [], length, take, Bool, true, false, Option}
+use Rattle.std.specs.Prelude.{Some}
 use Rattle.std.specs.Prelude.{None, IfSome, Result, Ok, Err}
 use Rattle.std.specs.Io.KnownBytes.{Consumes, Appends, IsAtEnd}
 use Rattle.capn_stream.specs.Reading as frame_rules
@@ -29,8 +30,8 @@ behind false = None
 abbrev pub start : Position
 start = record { index = 0; offset = 0 }
 
--- a reader gave these bytes, all that it had or one more than are taken; the first of them were taken, and whether there
--- are more
+-- a reader gave these bytes, all that it had or one more than are taken; the first of them were taken; and whether
+-- there are more
 pub record Kept (limit : ℕ) (old new : Option (List ℕ)) (kept : List ℕ) (is_longer : Bool) (bytes : List ℕ)
     : Type 0 where
   pub read : Consumes old new bytes
@@ -44,8 +45,8 @@ module _ {X : Type 0} (f : Fold X) (x : X) (limit : ℕ) where
   abbrev pub IsDue : List ℕ → Bool → List ℕ → Result (Unit {0}) RunFault → X → Type 0
   IsDue bytes is_longer text ending y = IsFolded f x bytes (behind is_longer) text ending y
 
-  -- a run has written the text of its input and ended as that does, in the state after it; or memory was refused, or the
-  -- reader or the writer failed
+  -- a run has written the text of its input and ended as that does, in the state after it; or memory was refused, or
+  -- the reader or the writer failed
   abbrev pub HasEnded : List ℕ → Bool → Option (List ℕ) → Option (List ℕ) → Result (Unit {0}) RunFault → X → Type 0
   HasEnded bytes is_longer old new (Ok u) y =
       (text : List ℕ) × IsDue bytes is_longer text (Ok u) y × Appends old new text

@@ -56,3 +56,4 @@ pub mod FoundNear
 pub mod Wanted
 pub mod CapOfTrimmed
 pub mod TheTheorem
+pub mod WorkedCanon

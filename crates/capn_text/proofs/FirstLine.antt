@@ -9,9 +9,6 @@ use Rattle.capn_value.specs.Tree.{no_trees}
 use Rattle.capn_value.specs.Tree.{count, count_rows}
 use Rattle.capn_value.specs.View.{trees, rows_from}
 use Rattle.capn_value.specs.Text.{line, digits_of, one_line, number_lines, shown_each, shown_rows, show_text}
-use Rattle.capn_text.specs.Tokens.{◌>>=◌, FailsIdly}
-use Rattle.capn_text.specs.declared.fault.Stop.{Stop}
-use Rattle.capn_text.specs.declared.fault.Stop.TheVariants as stops
 use Rattle.std.specs.Prelude.{cond, ◌==◌}
 use Rattle.capn_text.specs.Values.{head_at}
 use Rattle.capn_text.specs.Streams.{ended_lines, BeginsAs}
@@ -92,8 +89,3 @@ pub begins : (t : List ℕ) (x : Head × List ℕ) → head_at 0 t ≡ Some x �
 begins t x e =
     let b = begun x.0 in
     (b.0, (line 0 (head_text x.0), x.1, b.1, (head_takes 0 t x.0 x.1 e).0, b.2, line_ends (head_text x.0)))
-
-pub idle_none : {Y : Type 0} (e : Stop) (r : Option Y) → FailsIdly e r → r ≡ None
-idle_none stops.Memory r h = absurd h
-idle_none (stops.Left n) r h = h
-idle_none stops.Deep r h = h

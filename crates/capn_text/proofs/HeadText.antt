@@ -40,7 +40,7 @@ head_text (heads.Struct w s) = codes "struct " ++ (decimal w ++ 32 ∷ decimal s
 head_text (heads.Named name n) = named (name_text name) n
 
 -- no number after a name has more than 64 bits
-number_below : (name : Name) → greatest_number name < 2 ^ 64
+pub number_below : (name : Name) → greatest_number name < 2 ^ 64
 number_below names.Links = omega arith
 number_below names.Rows = omega arith
 number_below names.Cap = omega arith

@@ -11,3 +11,10 @@ pub mod FittingText
 pub mod LineCounts
 pub mod StreamTexts
 pub mod FirstLine
+pub mod WholeLines
+pub mod LineBytes
+pub mod StopLaws
+pub mod LineStops
+pub mod TreeStops
+pub mod PartStops
+pub mod FirstWrong

@@ -147,7 +147,7 @@ decimal_takes (c ∷ cs) n rest e =
 
 -- ---- hexadecimal digits
 
-abbrev glyph : ℕ → ℕ
+abbrev pub glyph : ℕ → ℕ
 glyph d = slice_index lower_digits d
 
 always : ℕ → Bool
@@ -258,7 +258,7 @@ byte_takes (h ∷ l ∷ t) b rest e =
 
 -- ---- words
 
-bytes_below : (n : ℕ) → AllByRecursion (λ b. b < 2 ^ 8) (to_be_bytes w64 n)
+pub bytes_below : (n : ℕ) → AllByRecursion (λ b. b < 2 ^ 8) (to_be_bytes w64 n)
 bytes_below n = (
   omega arith,
   (

@@ -133,7 +133,7 @@ module _ (room : ℕ) (again : Again room) where
   IsRow b = (length b.0 < 2 ^ 64) × (count b.1 < 2 ^ 64) × AllBelow (2 ^ 64) b.0 × EachShowable b.1 ×
       (greatest b.1 ≤ room)
 
-  row_one : (level : ℕ) (b : List ℕ × Trees) (rest : List ℕ) → IsRow b
+  pub row_one : (level : ℕ) (b : List ℕ × Trees) (rest : List ℕ) → IsRow b
       → row_at (tree_at room) level (row_text level b ++ rest) ≡ Some (b, rest)
   unfolding row_at
   row_one level b rest p =

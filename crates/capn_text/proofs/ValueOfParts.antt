@@ -8,9 +8,7 @@ use Rattle.std.proofs.lemmas.Grind.{common_steps}
 use Rattle.capn_value.specs.Views.{views, tree_of-Node, tree_of-Links, tree_of-Rows}
 use Rattle.capn_value.specs.declared.value.Value.{Value, Node, Links, Rows}
 use Rattle.capn_value.specs.declared.value.Body.{Body}
-use Rattle.capn_text.specs.Tokens.{◌>>=◌, many, Fails, FailsIdly}
-use Rattle.capn_text.specs.declared.fault.Stop.{Stop}
-use Rattle.capn_text.specs.declared.fault.Stop.TheVariants as stops
+use Rattle.capn_text.specs.Tokens.{◌>>=◌, many}
 use Rattle.capn_text.specs.Values.{head_at, body_at, row_at, content_at, low_at, tree_at}
 use Rattle.capn_text.specs.declared.heads.Name.TheVariants as names
 use Rattle.capn_text.specs.declared.heads.Head.{Head}
@@ -38,12 +36,6 @@ unfolding tree_at
 no_head zero level t e = ap (λ (o : Option (Head × List ℕ)). o >>= λ q. low_at q.0 q.1) e
 no_head (suc room) level t e =
     ap (λ (o : Option (Head × List ℕ)). o >>= λ q. content_at (tree_at room) level q.0 q.1) e
-
-pub head_fails : (room level : ℕ) (t : List ℕ) (e : Stop) → FailsIdly e (head_at level t)
-    → Fails e (tree_at room level t)
-head_fails room level t stops.Memory h = tt
-head_fails room level t (stops.Left n) h = no_head room level t h
-head_fails room level t stops.Deep h = no_head room level t h
 
 module _ {A : Type 0} where
   trees-map : (vs : List (Value A)) → trees (map tree_of vs) ≡ trees_of vs

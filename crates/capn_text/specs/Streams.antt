@@ -1,7 +1,9 @@
 -- Texts in a row, each followed by the line `end`, as a stream of messages is shown. (Own.)
-use Rattle.std.specs.Prelude.{ℕ, ◌≡◌, ◌<◌, ◌+◌, List, [], ◌∷◌, ◌++◌, codes, cond, ◌==◌}
+use Rattle.std.specs.Prelude.{ℕ, zero, suc, ◌≡◌, ◌<◌, ◌+◌, List, [], ◌∷◌, ◌++◌, codes, cond, ◌==◌}
 use Rattle.capn_value.specs.Tree.{Tree}
+use Rattle.capn_value.specs.Sizes.{height, most_height}
 use Rattle.capn_value.specs.Text.{show_text}
+use Rattle.capn_text.specs.Showable.{IsShowable}
 
 -- the line that ends each text
 abbrev pub end_line : List ℕ
@@ -17,6 +19,12 @@ abbrev pub ended_lines : List ℕ → ℕ
 ended_lines [] = 0
 ended_lines (c ∷ cs) = cond (c == 10) 1 0 + ended_lines cs
 
+-- the bytes up to the end of the nth line, or all
+abbrev pub first_lines : ℕ → List ℕ → List ℕ
+first_lines zero text = []
+first_lines (suc n) [] = []
+first_lines (suc n) (c ∷ cs) = c ∷ cond (c == 10) (first_lines n cs) (first_lines (suc n) cs)
+
 -- Where reading stands in such an input: what is still to be read, and the number of the line at which it begins.
 pub record Place : Type 0 where
   pub rest : List ℕ
@@ -26,3 +34,19 @@ pub record Place : Type 0 where
 abbrev pub BeginsAs : List ℕ → Tree → Type 0
 BeginsAs text v = (front : List ℕ) × (rest : List ℕ) × (more : List ℕ) × (text ≡ front ++ rest)
     × (show_text v ≡ front ++ more) × (0 < ended_lines front)
+
+-- Line n is the first that doesn't go on: some value, spelled so, has the lines before it, and none has that line, too.
+abbrev pub IsFirstWrong : (Tree → List ℕ) → ℕ → List ℕ → Type 0
+IsFirstWrong spell n text = (k : ℕ) × (n ≡ k + 1)
+    × (v : Tree) × IsShowable v × (first_lines k (spell v) ≡ first_lines k text)
+    × ((w : Tree) → IsShowable w → first_lines n (spell w) ≡ first_lines n text → ⊥)
+
+-- Whatever follows, the text goes too deep: a value begins with its first bytes, and each that does is too high.
+abbrev pub GoesTooDeep : List ℕ → Type 0
+GoesTooDeep text = (front : List ℕ) × (rest : List ℕ) × (text ≡ front ++ rest)
+    × (v : Tree) × (more : List ℕ) × IsShowable v × (show_text v ≡ front ++ more)
+    × ((w : Tree) (z : List ℕ) → IsShowable w → show_text w ≡ front ++ z → most_height < height w)
+
+-- a text and its end
+abbrev pub ended_text : Tree → List ℕ
+ended_text v = show_text v ++ end_line

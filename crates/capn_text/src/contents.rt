@@ -1,9 +1,11 @@
 //! Values with what they hold.
 
-ghost use Rattle.std.specs.Prelude.{◌≡◌, ◌+◌, ◌*◌, ◌<◌, ◌^◌, map};
+ghost use Rattle.std.specs.Prelude.{◌≡◌, ◌+◌, ◌*◌, ◌<◌, ◌^◌, map, IfErr};
 ghost use Rattle.capn_value.specs.View.{tree_of, body_of};
 ghost use Rattle.capn_text.specs.Tokens as tokens;
 ghost use Rattle.capn_text.specs.Tokens.{Gives};
+ghost use Rattle.capn_text.specs.Stops.{GivesAt};
+ghost use Rattle.capn_text.specs.declared.fault.Stop.TheVariants as stops;
 ghost use Rattle.capn_text.specs.Values as values;
 ghost use Rattle.capn_text.specs.Values.{Holds};
 
@@ -22,7 +24,7 @@ pub fn value_at<'t, A: Allocator + Copy>(
     text: &'t [u8],
 ) -> Result<(Value<A>, &'t [u8]), Stop>
     requires { level + 2 * room < 2 ^ 32 }
-    ensures { Gives (λ x. (tree_of x.0, x.1.now)) result (values.tree_at room level text.now) }
+    ensures { GivesAt (λ x. (tree_of x.0, x.1.now)) result (λ r. values.tree_at r level) room text.now }
 {
     let (head, rest) = head_at(level, text)?;
     if room == 0 {
@@ -35,7 +37,8 @@ pub fn value_at<'t, A: Allocator + Copy>(
 #[tactic(auto, using(crate::proofs::ValueOfParts::steps_and_views))]
 fn low_at<'t, A: Allocator>(head: Head, text: &'t [u8]) -> Result<(Value<A>, &'t [u8]), Stop>
     requires { Holds head }
-    ensures { Gives (λ x. (tree_of x.0, x.1.now)) result (values.low_at head text.now) }
+    ensures value { Gives (λ x. (tree_of x.0, x.1.now)) result (values.low_at head text.now) }
+    ensures deep { IfErr result (λ e. e ≡ stops.Deep) }
 {
     match head {
         Head::Null => Ok((Value::Nil, text)),
@@ -56,8 +59,8 @@ fn content_at<'t, A: Allocator + Copy>(
 ) -> Result<(Value<A>, &'t [u8]), Stop>
     requires level { level + 2 + 2 * room < 2 ^ 32 }
     requires head { Holds head }
-    ensures { Gives (λ x. (tree_of x.0, x.1.now)) result
-        (values.content_at (values.tree_at room) level head text.now) }
+    ensures { GivesAt (λ x. (tree_of x.0, x.1.now)) result
+        (λ r. values.content_at (values.tree_at r) level head) room text.now }
 {
     match head {
         Head::Null => Ok((Value::Nil, text)),
@@ -92,8 +95,8 @@ fn body_at<'t, A: Allocator + Copy>(
     text: &'t [u8],
 ) -> Result<(Body<A>, &'t [u8]), Stop>
     requires { level + 1 + 2 * room < 2 ^ 32 }
-    ensures { Gives (λ x. (body_of x.0, x.1.now)) result
-        (values.body_at (values.tree_at room) level words slots text.now) }
+    ensures { GivesAt (λ x. (body_of x.0, x.1.now)) result
+        (λ r. values.body_at (values.tree_at r) level words slots) room text.now }
 {
     let (words, rest) = words_at(alloc, level + 1, words, text)?;
     let (slots, rest) = values_at(alloc, room, level + 1, slots, rest)?;
@@ -114,8 +117,8 @@ fn values_at<'t, A: Allocator + Copy>(
     text: &'t [u8],
 ) -> Result<(Vec<Value<A>, A>, &'t [u8]), Stop>
     requires { level + 2 * room < 2 ^ 32 }
-    ensures { Gives (λ x. (map tree_of x.0.items, x.1.now)) result
-        (tokens.many (values.tree_at room level) count text.now) }
+    ensures { GivesAt (λ x. (map tree_of x.0.items, x.1.now)) result
+        (λ r. tokens.many (values.tree_at r level) count) room text.now }
 {
     let mut items = Vec::new(alloc);
     let mut rest = text;
@@ -137,7 +140,7 @@ fn row_at<'t, A: Allocator + Copy>(
     text: &'t [u8],
 ) -> Result<(Body<A>, &'t [u8]), Stop>
     requires { level + 1 + 2 * room < 2 ^ 32 }
-    ensures { Gives (λ x. (body_of x.0, x.1.now)) result (values.row_at (values.tree_at room) level text.now) }
+    ensures { GivesAt (λ x. (body_of x.0, x.1.now)) result (λ r. values.row_at (values.tree_at r) level) room text.now }
 {
     let (head, rest) = head_at(level, text)?;
     match head {
@@ -157,8 +160,8 @@ fn rows_at<'t, A: Allocator + Copy>(
     text: &'t [u8],
 ) -> Result<(Vec<Body<A>, A>, &'t [u8]), Stop>
     requires { level + 1 + 2 * room < 2 ^ 32 }
-    ensures { Gives (λ x. (map body_of x.0.items, x.1.now)) result
-        (tokens.many (values.row_at (values.tree_at room) level) count text.now) }
+    ensures { GivesAt (λ x. (map body_of x.0.items, x.1.now)) result
+        (λ r. tokens.many (values.row_at (values.tree_at r) level) count) room text.now }
 {
     let mut items = Vec::new(alloc);
     let mut rest = text;

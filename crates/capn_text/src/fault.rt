@@ -11,9 +11,11 @@ use std::alloc::{AllocError, AllocFailed};
 pub enum TextFault {
     /// A growth was refused.
     Memory,
-    /// The first line, counted from 1, with which the text goes on as that of no tree.
+    /// The first line, counted from 1, that doesn't go on with the text of a value. A line that is missing is the one
+    /// after the last.
     Line(u64),
-    /// The text is that of a value that fits into no message, or goes deeper than any that fits (`Tall`).
+    /// The text is that of a value that fits into no message, or goes deeper than any that fits (`Tall`), whatever
+    /// follows.
     Misfit(Misfit),
 }
 
@@ -22,9 +24,10 @@ pub enum TextFault {
 pub enum Stop {
     /// A growth was refused.
     Memory,
-    /// The text doesn't go on where so many bytes of it are left, or on the same line.
+    /// A line doesn't go on: the one that begins where this many bytes of the text are left. Within a line, any place
+    /// on it.
     Left(usize),
-    /// A value stands deeper than any that fits.
+    /// A value is deeper than any that fits.
     Deep,
 }
 

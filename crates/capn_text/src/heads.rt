@@ -1,9 +1,10 @@
 //! The first line of a value.
 
-ghost use Rattle.std.specs.Prelude.{◌≡◌, IfOk};
+ghost use Rattle.std.specs.Prelude.{◌≡◌, IfOk, IfErr, length};
 ghost use Rattle.capn_text.specs.Tokens.{GivesIdly};
 ghost use Rattle.capn_text.specs.Values as values;
 ghost use Rattle.capn_text.specs.Values.{Holds};
+ghost use Rattle.capn_text.specs.declared.fault.Stop.TheVariants as stops;
 
 use crate::fault::Stop;
 use crate::tokens::{decimal_at, indent_at, pass, skip};
@@ -39,8 +40,19 @@ pub enum Head {
 }
 
 /// The first line at the front of the text, at a level.
-#[tactic(auto, unfolding(crate::specs::Values::head_at))]
 pub fn head_at(level: u32, text: &[u8]) -> Result<(Head, &[u8]), Stop>
+    ensures value { GivesIdly (λ x. (x.0, x.1.now)) result (values.head_at level text.now) }
+    ensures holds { IfOk result (λ x. Holds x.0) }
+    ensures place { IfErr result (λ e. e ≡ stops.Left (length text.now)) }
+{
+    match head_in_line(level, text) {
+        Ok((head, rest)) => Ok((head, rest)),
+        Err(_) => Err(Stop::Left(text.len())),
+    }
+}
+
+#[tactic(auto, unfolding(crate::specs::Values::head_at))]
+fn head_in_line(level: u32, text: &[u8]) -> Result<(Head, &[u8]), Stop>
     ensures value { GivesIdly (λ x. (x.0, x.1.now)) result (values.head_at level text.now) }
     ensures holds { IfOk result (λ x. Holds x.0) }
 {

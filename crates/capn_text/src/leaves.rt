@@ -4,6 +4,7 @@ ghost use Rattle.std.specs.Prelude.{◌≡◌, ◌+◌, ◌≤◌, ◌<◌, ◌^
 ghost use Rattle.capn_value.specs.View.{tree_of};
 ghost use Rattle.capn_text.specs.Tokens as tokens;
 ghost use Rattle.capn_text.specs.Tokens.{Gives};
+ghost use Rattle.capn_text.specs.Stops.{GivesAt, GivesLine};
 ghost use Rattle.capn_text.specs.Values as values;
 ghost use Rattle.capn_text.specs.declared.heads.Name.TheVariants as names;
 
@@ -24,7 +25,7 @@ pub fn leaf_at<'t, A: Allocator>(
 ) -> Result<(Value<A>, &'t [u8]), Stop>
     requires level { level + 1 < 2 ^ 32 }
     requires number { count ≤ values.greatest_number (names.Leaf leaf) }
-    ensures { Gives (λ x. (tree_of x.0, x.1.now)) result (values.leaf_at level leaf count text.now) }
+    ensures { GivesAt (λ x. (tree_of x.0, x.1.now)) result (λ r. values.leaf_at level leaf count) 0 text.now }
 {
     match leaf {
         Leaf::Voids => Ok((Value::Voids(count as u32), text)),
@@ -51,8 +52,24 @@ pub fn leaf_at<'t, A: Allocator>(
     }
 }
 
-#[tactic(auto, unfolding(crate::specs::Tokens::row_line_at))]
 fn bits_at<A: Allocator>(
+    alloc: A,
+    level: u32,
+    count: u64,
+    text: &[u8],
+) -> Result<(Vec<bool, A>, &[u8]), Stop>
+    ensures { GivesLine (λ x. (x.0.items, x.1.now)) result (tokens.row_line_at tokens.bit_at level count) text.now }
+{
+    match bits_in_line(alloc, level, count, text) {
+        Ok((items, rest)) => Ok((items, rest)),
+        Err(Stop::Memory) => Err(Stop::Memory),
+        Err(Stop::Left(_)) => Err(Stop::Left(text.len())),
+        Err(Stop::Deep) => Err(Stop::Left(text.len())),
+    }
+}
+
+#[tactic(auto, unfolding(crate::specs::Tokens::row_line_at))]
+fn bits_in_line<A: Allocator>(
     alloc: A,
     level: u32,
     count: u64,
@@ -86,8 +103,24 @@ fn bit_digits_at<A: Allocator>(
     Ok((items, rest))
 }
 
-#[tactic(auto, unfolding(crate::specs::Tokens::row_line_at))]
 fn bytes_at<A: Allocator>(
+    alloc: A,
+    level: u32,
+    count: u64,
+    text: &[u8],
+) -> Result<(Vec<u8, A>, &[u8]), Stop>
+    ensures { GivesLine (λ x. (x.0.items, x.1.now)) result (tokens.row_line_at tokens.byte_at level count) text.now }
+{
+    match bytes_in_line(alloc, level, count, text) {
+        Ok((items, rest)) => Ok((items, rest)),
+        Err(Stop::Memory) => Err(Stop::Memory),
+        Err(Stop::Left(_)) => Err(Stop::Left(text.len())),
+        Err(Stop::Deep) => Err(Stop::Left(text.len())),
+    }
+}
+
+#[tactic(auto, unfolding(crate::specs::Tokens::row_line_at))]
+fn bytes_in_line<A: Allocator>(
     alloc: A,
     level: u32,
     count: u64,
@@ -127,8 +160,8 @@ fn pairs_at<A: Allocator>(
     count: u64,
     text: &[u8],
 ) -> Result<(Vec<u16, A>, &[u8]), Stop>
-    ensures { Gives (λ x. (x.0.items, x.1.now)) result
-        (tokens.many (tokens.number_line_at 65535 level) count text.now) }
+    ensures { GivesAt (λ x. (x.0.items, x.1.now)) result
+        (λ r. tokens.many (tokens.number_line_at 65535 level) count) 0 text.now }
 {
     let mut items = Vec::new(alloc);
     let mut rest = text;
@@ -146,8 +179,8 @@ fn quads_at<A: Allocator>(
     count: u64,
     text: &[u8],
 ) -> Result<(Vec<u32, A>, &[u8]), Stop>
-    ensures { Gives (λ x. (x.0.items, x.1.now)) result
-        (tokens.many (tokens.number_line_at 4294967295 level) count text.now) }
+    ensures { GivesAt (λ x. (x.0.items, x.1.now)) result
+        (λ r. tokens.many (tokens.number_line_at 4294967295 level) count) 0 text.now }
 {
     let mut items = Vec::new(alloc);
     let mut rest = text;
@@ -165,8 +198,8 @@ fn octs_at<A: Allocator>(
     count: u64,
     text: &[u8],
 ) -> Result<(Vec<u64, A>, &[u8]), Stop>
-    ensures { Gives (λ x. (x.0.items, x.1.now)) result
-        (tokens.many (tokens.number_line_at 18446744073709551615 level) count text.now) }
+    ensures { GivesAt (λ x. (x.0.items, x.1.now)) result
+        (λ r. tokens.many (tokens.number_line_at 18446744073709551615 level) count) 0 text.now }
 {
     let mut items = Vec::new(alloc);
     let mut rest = text;
@@ -185,7 +218,8 @@ pub fn words_at<A: Allocator>(
     count: u64,
     text: &[u8],
 ) -> Result<(Vec<u64, A>, &[u8]), Stop>
-    ensures { Gives (λ x. (x.0.items, x.1.now)) result (tokens.many (tokens.word_line_at level) count text.now) }
+    ensures { GivesAt (λ x. (x.0.items, x.1.now)) result
+        (λ r. tokens.many (tokens.word_line_at level) count) 0 text.now }
 {
     let mut items = Vec::new(alloc);
     let mut rest = text;

@@ -1,10 +1,10 @@
 //! The text of a tree, read back: the inverse of [`capn_value::show`].
 //!
-//! No grammar stands beside that text: a text is that of a tree exactly if `show` writes it for the tree. [`read`]
-//! answers the tree of a text, and refuses each other text, at the first line that goes on with no tree's. [`Texts`]
-//! reads such texts in a row, each followed by its line `end`.
+//! The text has no grammar of its own: it is that of a tree exactly if `show` writes it for the tree. [`read`] answers
+//! the tree of a text. It refuses any other text, at the first line that doesn't go on with the text of a value.
+//! [`Texts`] reads texts one after the other, each followed by its line `end`.
 //!
-//! Memory grows with the lines that come, and never by a number that a line announces.
+//! Memory grows with the lines that are read, and never by a number that a line announces.
 #![tactic(auto)]
 
 mod contents;

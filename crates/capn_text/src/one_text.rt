@@ -12,7 +12,9 @@ ghost use Rattle.capn_value.specs.declared.misfit.Misfit.{Misfit};
 ghost use Rattle.capn_value.specs.declared.misfit.Misfit.TheVariants.{Tall};
 ghost use Rattle.capn_text.specs.Showable.{IsShowable};
 ghost use Rattle.capn_text.specs.Values as values;
-ghost use Rattle.capn_text.specs.Streams.{ended_lines, BeginsAs};
+ghost use Rattle.capn_text.specs.Tokens.{strip};
+ghost use Rattle.capn_text.specs.Streams.{end_line, ended_lines, ended_text, BeginsAs};
+ghost use Rattle.capn_text.specs.Streams.{IsFirstWrong, GoesTooDeep};
 ghost use Rattle.capn_text.specs.declared.fault.TextFault.TheVariants as faults;
 
 use crate::contents::value_at;
@@ -24,8 +26,9 @@ use std::alloc::Allocator;
 
 /// The tree of a text: the one for which [`capn_value::show`] writes this text.
 ///
-/// A line is refused before a misfit is, and a text of more than 256 levels is `Tall`, whatever follows. Linear in the
-/// text. Memory: the tree's own, up to twice for lists as they grow. The stack holds at most 257 values.
+/// Refuses with [`TextFault::Line`] if the bytes are not the text of a value, then with [`TextFault::Misfit`] if that
+/// value fits into no message. A text of more than 256 levels is `Tall`, whatever follows. Linear in the text. Memory:
+/// the tree's own, up to twice for lists as they grow. The stack holds at most 257 values.
 pub fn read<A: Allocator + Copy>(alloc: A, text: &[u8]) -> Result<Tree<A>, TextFault>
     // What is read has this text.
     ensures found { IfOk result (λ t. text.now ≡ show_text t) }
@@ -37,9 +40,12 @@ pub fn read<A: Allocator + Copy>(alloc: A, text: &[u8]) -> Result<Tree<A>, TextF
         height v ≤ most_height → text.now ≢ show_text v) }
     // Except for line 1, nothing is refused and no memory needed before the first line is that of a value.
     ensures begun { IfErr result (λ e. e ≢ faults.Line 1 → (v : trees.Tree) × BeginsAs text.now v) }
-    // A misfit is that of the value which has this text, or the text goes too deep.
+    // A line that is refused is the first that doesn't go on with a text.
+    ensures first { IfErr result (λ e. (n : ℕ) → e ≡ faults.Line n → IsFirstWrong show_text n text.now) }
+    // A misfit is that of the value which has this text, or the text goes too deep, whatever follows.
     ensures misfit { IfErr result (λ e. (m : Misfit) → e ≡ faults.Misfit m →
-        (m ≡ Tall) ⊎ ((v : trees.Tree) × InRange v × (text.now ≡ show_text v) × (misfit v ≡ Some m))) }
+        ((m ≡ Tall) × GoesTooDeep text.now)
+        ⊎ ((v : trees.Tree) × InRange v × (text.now ≡ show_text v) × (misfit v ≡ Some m))) }
 {
     let (value, rest) = first_value(alloc, text)?;
     if has_more(rest) {
@@ -76,7 +82,17 @@ pub fn first_value<A: Allocator + Copy>(
     // Except for line 1, nothing is answered and no memory needed before the first line is that of a value.
     ensures begins { IfOk result (λ x. (v : trees.Tree) × BeginsAs text.now v) }
     ensures begun { IfErr result (λ e. e ≢ faults.Line 1 → (v : trees.Tree) × BeginsAs text.now v) }
+    // A line that is refused is the first that doesn't go on with a text, also where each text has its end.
+    ensures first { IfErr result (λ e. (n : ℕ) → e ≡ faults.Line n → IsFirstWrong show_text n text.now) }
+    ensures first_ended { IfErr result (λ e. (n : ℕ) → e ≡ faults.Line n → IsFirstWrong ended_text n text.now) }
+    // So is the line after what was read, if there is one, or no end.
+    ensures more { IfOk result (λ x. x.1.now ≢ [] →
+        IsFirstWrong show_text (ended_lines (show_text (tree_of x.0)) + 1) text.now) }
+    ensures no_end { IfOk result (λ x. strip end_line x.1.now ≡ None →
+        IsFirstWrong ended_text (ended_lines (show_text (tree_of x.0)) + 1) text.now) }
+    // A misfit says that the text goes too deep, whatever follows.
     ensures tall { IfErr result (λ e. (m : Misfit) → e ≡ faults.Misfit m → m ≡ Tall) }
+    ensures deep { IfErr result (λ e. (m : Misfit) → e ≡ faults.Misfit m → GoesTooDeep text.now) }
 {
     // No memory is needed if the first line is that of no value.
     if has_no_head(text) {
@@ -92,7 +108,7 @@ pub fn first_value<A: Allocator + Copy>(
 
 // Whether the first line is that of no value.
 fn has_no_head(text: &[u8]) -> bool
-    ensures none { result ≡ true → values.tree_at 256 0 text.now ≡ None }
+    ensures none { result ≡ true → values.head_at 0 text.now ≡ None }
     ensures some { result ≡ false → (v : trees.Tree) × BeginsAs text.now v }
 {
     match head_at(0, text) {

@@ -11,7 +11,7 @@ ghost use Rattle.capn_value.specs.Text.{show_text};
 ghost use Rattle.capn_value.specs.declared.misfit.Misfit.{Misfit};
 ghost use Rattle.capn_value.specs.declared.misfit.Misfit.TheVariants.{Tall};
 ghost use Rattle.capn_text.specs.Showable.{IsShowable};
-ghost use Rattle.capn_text.specs.Streams.{end_line, ended_lines, BeginsAs};
+ghost use Rattle.capn_text.specs.Streams.{end_line, ended_lines, ended_text, BeginsAs, IsFirstWrong, GoesTooDeep};
 ghost use Rattle.capn_text.specs.declared.fault.TextFault.TheVariants as faults;
 
 use crate::fault::TextFault;
@@ -92,9 +92,13 @@ impl<'t> Texts<'t> {
         // Except for the next line, nothing is refused and no memory needed before that line is the first of a value.
         ensures begun { IfErr result (λ e. e ≢ faults.Line self.old.line →
             (v : trees.Tree) × BeginsAs self.old.rest v) }
-        // A misfit is that of the value whose text stands next with its end, or the text goes too deep.
+        // A line that is refused is the first that doesn't go on with a text and its end.
+        ensures first { IfErr result (λ e. (n : ℕ) → e ≡ faults.Line n →
+            (k : ℕ) × (n + 1 ≡ self.old.line + k) × IsFirstWrong ended_text k self.old.rest) }
+        // A misfit is that of the value whose text stands next with its end, or the text goes too deep, whatever
+        // follows.
         ensures misfit { IfErr result (λ e. (m : Misfit) → e ≡ faults.Misfit m →
-            (m ≡ Tall) ⊎ ((v : trees.Tree) × (rest : List ℕ) × InRange v
+            ((m ≡ Tall) × GoesTooDeep self.old.rest) ⊎ ((v : trees.Tree) × (rest : List ℕ) × InRange v
             × (self.old.rest ≡ show_text v ++ (end_line ++ rest)) × (misfit v ≡ Some m))) }
     {
         if self.rest.is_empty() {

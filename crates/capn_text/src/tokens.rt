@@ -3,6 +3,7 @@
 ghost use Rattle.std.specs.Prelude.{◌≡◌, ◌≤◌, ◌<◌, MatchOption, IfOk, IfSome, Some, None};
 ghost use Rattle.capn_text.specs.Tokens as tokens;
 ghost use Rattle.capn_text.specs.Tokens.{Gives, GivesIdly};
+ghost use Rattle.capn_text.specs.Stops.{GivesLine};
 
 use crate::fault::Stop;
 
@@ -147,8 +148,19 @@ pub fn word_at(text: &[u8]) -> Result<(u64, &[u8]), Stop>
 }
 
 /// The line of a data word.
-#[tactic(auto, unfolding(crate::specs::Tokens::word_line_at))]
 pub fn word_line_at(level: u32, text: &[u8]) -> Result<(u64, &[u8]), Stop>
+    ensures { GivesLine (λ x. (x.0, x.1.now)) result (tokens.word_line_at level) text.now }
+{
+    match word_in_line(level, text) {
+        Ok((word, rest)) => Ok((word, rest)),
+        Err(Stop::Memory) => Err(Stop::Memory),
+        Err(Stop::Left(_)) => Err(Stop::Left(text.len())),
+        Err(Stop::Deep) => Err(Stop::Left(text.len())),
+    }
+}
+
+#[tactic(auto, unfolding(crate::specs::Tokens::word_line_at))]
+fn word_in_line(level: u32, text: &[u8]) -> Result<(u64, &[u8]), Stop>
     ensures { Gives (λ x. (x.0, x.1.now)) result (tokens.word_line_at level text.now) }
 {
     let line = indent_at(level, text)?;
@@ -159,9 +171,19 @@ pub fn word_line_at(level: u32, text: &[u8]) -> Result<(u64, &[u8]), Stop>
 }
 
 /// The line of a number up to the greatest.
-#[tactic(auto, unfolding(crate::specs::Tokens::number_line_at))]
 pub fn number_line_at(greatest: u64, level: u32, text: &[u8]) -> Result<(u64, &[u8]), Stop>
-    ensures value { Gives (λ x. (x.0, x.1.now)) result (tokens.number_line_at greatest level text.now) }
+    ensures value { GivesLine (λ x. (x.0, x.1.now)) result (tokens.number_line_at greatest level) text.now }
+    ensures within { IfOk result (λ x. x.0 ≤ greatest) }
+{
+    match number_in_line(greatest, level, text) {
+        Ok((number, rest)) => Ok((number, rest)),
+        Err(_) => Err(Stop::Left(text.len())),
+    }
+}
+
+#[tactic(auto, unfolding(crate::specs::Tokens::number_line_at))]
+fn number_in_line(greatest: u64, level: u32, text: &[u8]) -> Result<(u64, &[u8]), Stop>
+    ensures value { GivesIdly (λ x. (x.0, x.1.now)) result (tokens.number_line_at greatest level text.now) }
     ensures within { IfOk result (λ x. x.0 ≤ greatest) }
 {
     let line = indent_at(level, text)?;

@@ -7,6 +7,8 @@
 #[cfg(test)]
 mod ends;
 #[cfg(test)]
+mod layouts;
+#[cfg(test)]
 mod lines;
 #[cfg(test)]
 mod making;
@@ -17,6 +19,10 @@ mod programs;
 #[cfg(test)]
 mod slow;
 #[cfg(test)]
+mod steps;
+#[cfg(test)]
 mod texts;
 #[cfg(test)]
 mod values;
+#[cfg(test)]
+mod words;

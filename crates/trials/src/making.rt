@@ -38,7 +38,7 @@ pub(crate) fn link(alloc: Global, element: Made) -> Made {
 }
 
 /// A list of two elements.
-fn links(alloc: Global, first: Made, second: Made) -> Made {
+pub(crate) fn links(alloc: Global, first: Made, second: Made) -> Made {
     let elements = with(with(Ok(Vec::new(alloc)), first), second)?;
     Ok(Value::Links(Items::from_vec(elements)))
 }
@@ -83,7 +83,7 @@ fn with(slots: Result<Vec<Value>, AllocError>, slot: Made) -> Result<Vec<Value>,
 }
 
 /// A list of bits.
-fn bits(alloc: Global, bits: &[bool]) -> Made {
+pub(crate) fn bits(alloc: Global, bits: &[bool]) -> Made {
     Ok(Value::Bits(Items::from_slice(alloc, bits)?))
 }
 
@@ -121,10 +121,10 @@ fn plain_slots(alloc: Global) -> Result<Vec<Value>, AllocError> {
     )
 }
 
-/// A struct with a slot of each kind, of which the list of pointers has capability 2 and null.
-pub(crate) fn one_of_each(alloc: Global) -> Made {
+/// A struct with a slot of each kind, of which the list of pointers has this element and null.
+pub(crate) fn one_of_each(alloc: Global, element: Value) -> Made {
     let slots = plain_slots(alloc);
-    let slots = with(slots, links(alloc, Ok(Value::Cap(2)), Ok(Value::Nil)));
+    let slots = with(slots, links(alloc, Ok(element), Ok(Value::Nil)));
     let slots = with(slots, Ok(Value::Rows(Items::new(alloc))));
     let slots = with(slots, data(alloc, &[]))?;
     Ok(Value::Node(body(alloc, &[0xab_cdef], slots)?))

@@ -44,8 +44,8 @@ clear-requires-clause-whole g c =
     let found = c.in-Ok.ensures.found in
     let all = whole _ c.args.framer.now.rest c.args.most _ c.in-Ok.taken c.held-held.ensures found c.requires.held
     c.in-Ok.ensures.only in
-    let first = subst (λ (p : List ℕ). StandsFirst p c.args.most c.in-Ok.message c.in-Ok.taken) c.held-held.ensures found
-    in
+    let is : c.held-held.result.now ≡ c.args.framer.now.rest = c.held-held.ensures in
+    let first = subst (λ (p : List ℕ). StandsFirst p c.args.most c.in-Ok.message c.in-Ok.taken) is found in
     held_frame c.args.framer.now.rest c.args.most c.args.framer.now.most c.in-Ok.message c.in-Ok.taken first
     (subst (λ (p : List ℕ). take c.in-Ok.taken p ≡ c.args.framer.now.rest) c.held-held.ensures all) c.requires.same
 

@@ -52,7 +52,8 @@ loop-at-preserved g c =
 
 pub returns-in_err-pass-in-Err : goal.returns-in_err-pass-in-Err
 returns-in_err-pass-in-Err g c =
-    let p = err_from_is_err_and c.from_residual-in_err-pass-in-Err.result c.from_residual-in_err-pass-in-Err.ensures.1 in
+    let left = c.from_residual-in_err-pass-in-Err.ensures.1 in
+    let p = err_from_is_err_and c.from_residual-in_err-pass-in-Err.result left in
     rw (p.1, p.2, c.in_err-pass-in-Err.ensures.1)
     (whole_memory (fold_of g.S.Service.serves g.S.Service.refuses c.args.most) c.args.run.now c.loop-at.run
     c.args.bytes.now c.loop-at.at _ _ _ c.loop-at.invariant.told c.loop-at.invariant.fine)

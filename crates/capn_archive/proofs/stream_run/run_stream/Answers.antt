@@ -1,4 +1,5 @@
-use Rattle.std.proofs.Common.{◌≡◌, ◌+◌, ◌++◌, ℕ, List, [], Option, false, drop, length, length-take, refl, ap, sym, subst, arith}
+use Rattle.std.proofs.Common.{◌≡◌, ◌+◌, ◌++◌, ℕ, List, [], Option, false, drop, length, length-take, refl, ap, sym}
+use Rattle.std.proofs.Common.{subst, arith}
 use Rattle.std.proofs.lemmas.Result.{err_from_is_err_and}
 use Rattle.std.proofs.KnownBytes.{Consumes-nil}
 use Rattle.capn_words.specs.Watching.{inner_of}
@@ -47,8 +48,8 @@ chunks-init g c = record {
 pub returns-in-Err : goal.returns-in-Err
 returns-in-Err g c =
     let i = c.chunks.invariant in
-    runs_unread (fold_of g.S.Service.serves g.S.Service.refuses c.args.most) c.args.run.now c.args.limit c.chunks.run _ _
-    _ _ _ c.chunks.taken c.chunks.framer.rest _ _ (has_broken _ _ c.in-Err.ensures.failed) i.within i.heard
+    runs_unread (fold_of g.S.Service.serves g.S.Service.refuses c.args.most) c.args.run.now c.args.limit c.chunks.run _
+    _ _ _ _ c.chunks.taken c.chunks.framer.rest _ _ (has_broken _ _ c.in-Err.ensures.failed) i.within i.heard
     (subst (λ (m : ℕ). IsUnfinished c.chunks.framer.rest m) i.listening.most i.listening.part) c.in-Err.ensures.bytes
 
 pub returns-in-Ok-eq0 : goal.returns-in-Ok-eq0

@@ -1,9 +1,13 @@
 use Rattle.std.proofs.Common.{◌≡◌, ◌-◌}
 use Rattle.capn_text.specs.Tokens.{many, number_line_at}
 use Rattle.capn_text.proofs.Loops.{with_front}
+use Rattle.capn_text.proofs.StopLaws.{PassesOn}
+use Rattle.capn_text.proofs.TreeStops.{numbers_by}
 use Rattle.capn_text.proofs.leaves.quads_at.Given as goal
 
 abbrev pub invariant-loop : goal.invariant-loop
-invariant-loop g l =
-    with_front l.items.items (many (number_line_at 4294967295 l.level) (l.count - l.counter) l.rest)
-    ≡ many (number_line_at 4294967295 l.level) l.count l.text
+invariant-loop g l = record {
+  so_far : with_front l.items.items (many (number_line_at 4294967295 l.level) (l.count - l.counter) l.rest)
+      ≡ many (number_line_at 4294967295 l.level) l.count l.text;
+  passes_on : PassesOn (numbers_by 4294967295 l.level) 0 l.count l.counter l.rest l.text;
+}

@@ -1,6 +1,6 @@
 use Rattle.capn_text.specs.Values.{head_at}
-use Rattle.capn_text.proofs.FirstLine.{begins, idle_none}
-use Rattle.capn_text.proofs.ValueOfParts.{no_head}
+use Rattle.capn_text.proofs.FirstLine.{begins}
+use Rattle.capn_text.proofs.StopLaws.{idle_none}
 use Rattle.capn_text.proofs.one_text.has_no_head.Goals as goal
 
 pub returns-in-Ok-clause-some : goal.returns-in-Ok-clause-some
@@ -9,4 +9,4 @@ returns-in-Ok-clause-some c e =
 
 pub returns-in-Err-clause-none : goal.returns-in-Err-clause-none
 returns-in-Err-clause-none c e =
-    no_head 256 0 c.args.text.now (idle_none c.in-Err.field-0 (head_at 0 c.args.text.now) c.in-Err.ensures.value)
+    (idle_none c.in-Err.field-0 (head_at 0 c.args.text.now) c.in-Err.ensures.value)

@@ -1,4 +1,6 @@
-use Rattle.std.proofs.Common.{◌≡◌, ◌++◌, [], Some, inr, refl, sym, ap, ◌∙◌}
+use Rattle.std.proofs.Common.{◌≡◌, ◌++◌, [], Some, inl, inr, refl, sym, ap, subst, ◌∙◌, ◌+◌}
+use Rattle.capn_text.specs.Streams.{IsFirstWrong}
+use Rattle.capn_text.proofs.StreamTexts.{line_number, lines_counted}
 use Rattle.std.proofs.lemmas.Result.{err_from_is_err_and}
 use Rattle.std.proofs.lemmas.List.{append-nil}
 use Rattle.capn_value.specs.View.{tree_of}
@@ -59,3 +61,22 @@ pub returns-clause-only : goal.returns-clause-only
 returns-clause-only g c v f r e =
     let is = c.in_ok-value.ensures.only v [] (showable-fit v f r) (fit_parts v f).low (all_of c.args.text.now v e) in
     c.in_ok-tree.ensures.found ∙ is.0
+
+pub returns-in_err-value-clause-first : goal.returns-in_err-value-clause-first
+returns-in_err-value-clause-first g c =
+    let p = err_from_is_err_and c.from_residual.result c.from_residual.ensures.1 in
+    rw (p.1, p.2) c.in_err-value.ensures.first
+
+pub returns-in_err-value-clause-misfit : goal.returns-in_err-value-clause-misfit
+returns-in_err-value-clause-misfit g c =
+    let p = err_from_is_err_and c.from_residual.result c.from_residual.ensures.1 in
+    rw (p.1, p.2) (λ m same. inl (c.in_err-value.ensures.tall m same, c.in_err-value.ensures.deep m same))
+
+pub returns-then-has_more-clause-first : goal.returns-then-has_more-clause-first
+returns-then-has_more-clause-first g c n same =
+    let t = c.args.text.now in
+    let lines = c.lines_before.ensures.exact
+    ∙ lines_counted t (tree_of c.in_ok-value.value) c.in_ok-value.rest.now c.in_ok-value.ensures.found in
+    subst (λ m. IsFirstWrong show_text m t)
+    (ap (λ m. m + 1) (sym lines) ∙ line_number (c.lines_before.result + 1) n same)
+    (c.in_ok-value.ensures.more (c.if-has_more.ensures.more refl))

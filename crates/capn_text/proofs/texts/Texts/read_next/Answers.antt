@@ -1,4 +1,4 @@
-use Rattle.std.proofs.Common.{◌≡◌, ◌+◌, ◌++◌, Some, ap, sym, ◌∙◌, arith}
+use Rattle.std.proofs.Common.{◌≡◌, ◌+◌, ◌++◌, Some, inl, ap, sym, ◌∙◌, arith}
 use Rattle.std.proofs.lemmas.Result.{err_from_is_err_and}
 use Rattle.capn_value.specs.View.{tree_of}
 use Rattle.capn_value.specs.Text.{show_text}
@@ -88,3 +88,23 @@ returns-clause-counted g c =
     ap (λ n. c.self.inside.line + n + 1 + ended_lines c.in-Some.rest.now) lines
     ∙ lines_with_end t w c.in-Ok.after.now c.in-Ok.ensures.found c.in-Some.rest.now c.in-Some.ensures c.self.inside.line
     ∙ ap (λ (p : Place). p.line + ended_lines p.rest) c.self.view_is
+
+pub returns-in-Err-clause-first : goal.returns-in-Err-clause-first
+returns-in-Err-clause-first g c n same =
+    let q = c.counted_from.ensures.placed n same in
+    let low = (c.in-Err.ensures.place q.0 q.1).0 in
+    let is = q.2 in
+    rw (← c.self.view_is) ((q.0, omega arith, c.in-Err.ensures.first_ended q.0 q.1))
+
+pub returns-in-Err-clause-misfit : goal.returns-in-Err-clause-misfit
+returns-in-Err-clause-misfit g c m same =
+    let is = c.counted_from.ensures.misfit m same in
+    rw (← c.self.view_is) (inl (c.in-Err.ensures.tall m is, c.in-Err.ensures.deep m is))
+
+pub returns-in_default-clause-first : goal.returns-in_default-clause-first
+returns-in_default-clause-first g c n same =
+    let w = tree_of c.in-Ok.value in
+    let lines = c.lines_before.ensures.exact
+    ∙ lines_counted c.self.inside.rest.now w c.in-Ok.after.now c.in-Ok.ensures.found in
+    let is = line_number (c.self.inside.line + c.lines_before.result) n same in
+    rw (← c.self.view_is) ((ended_lines (show_text w) + 1, omega arith, c.in-Ok.ensures.no_end c.in_default.ensures))

@@ -1,0 +1,291 @@
+-- Where the parts of a value stop, as the code reads them.
+use Rattle.std.proofs.Common.{◌≡◌, ◌+◌, ◌-◌, ◌^◌, ◌<◌, ◌≤◌, ℕ, zero, suc, Bool, List, [], ◌∷◌, ◌++◌, length, Option}
+use Rattle.std.proofs.Common.{Some, None}
+use Rattle.std.proofs.Common.{refl, sym, ap, subst, ◌∙◌, arith}
+use Rattle.std.specs.Prelude.{Result, Ok, Err, IfErr}
+use Rattle.capn_value.specs.Tree.{Tree, node, bits, bytes, pairs, quads, octs, links, rows, Trees}
+use Rattle.capn_value.specs.View.{trees, rows_from}
+use Rattle.capn_text.specs.Streams.{first_lines, ended_lines}
+use Rattle.capn_text.specs.Stops.{Stops, Deepens, FailsAt, GivesAt, LineFails}
+use Rattle.capn_text.specs.Tokens.{◌>>=◌, Gives, Fails, byte_at, bit_at, many, word_line_at, number_line_at}
+use Rattle.capn_text.specs.Tokens.{row_line_at}
+use Rattle.capn_text.specs.Values.{Holds, head_at, leaf_at, body_at, row_of, row_at, content_at, low_at, tree_at}
+use Rattle.capn_text.specs.declared.fault.Stop.{Stop}
+use Rattle.capn_text.specs.declared.fault.Stop.TheVariants as stops
+use Rattle.capn_text.specs.declared.heads.Leaf.{Leaf}
+use Rattle.capn_text.specs.declared.heads.Leaf.TheVariants as leaves
+use Rattle.capn_text.specs.declared.heads.Name.TheVariants as names
+use Rattle.capn_text.specs.declared.heads.Head.{Head}
+use Rattle.capn_text.specs.declared.heads.Head.TheVariants as heads
+use Rattle.capn_value.specs.Text.{line}
+use Rattle.capn_text.proofs.ValueOfParts.{by_low_head, by_head, no_head}
+use Rattle.capn_text.proofs.HeadText.{head_text, head_again, head_takes}
+use Rattle.capn_text.proofs.LineBytes.{head_is_line}
+use Rattle.capn_text.proofs.WholeLines.{are_none, first_front}
+use Rattle.std.proofs.lemmas.List.{append-nil}
+use Rattle.capn_text.proofs.LineStops.{word_local, number_local, bits_local, bits_fail, bytes_local, bytes_fail}
+use Rattle.capn_text.proofs.LineStops.{head_local}
+use Rattle.capn_text.proofs.StopLaws.{Reads, given, both, all, full_given, local_all, first_fails, second_fails}
+use Rattle.capn_text.proofs.StopLaws.{any_room}
+use Rattle.capn_text.proofs.StopLaws.{not_read}
+use Rattle.capn_text.proofs.TreeStops.{tree_by, body_by, row_by, content_by, words_by, numbers_by, slots_by}
+use Rattle.capn_text.proofs.TreeStops.{tree_local, tree_full, slots_full, body_local, row_local, content_local}
+use Rattle.capn_text.proofs.TreeStops.{row_full, content_full}
+
+module _ (level n : ℕ) (e : Stop) (t : List ℕ) where
+  pub bits_fail_here : LineFails e (row_line_at bit_at (level + 1) n) t
+      → FailsAt (λ r. leaf_at level leaves.Bits n) 0 e t
+  unfolding leaf_at
+  bits_fail_here h =
+      first_fails (λ r. row_line_at bit_at (level + 1) n) (λ xs. given (bits xs)) 0 (bits_local (level + 1) n 1)
+      (λ xs. full_given (bits xs)) e t (bits_fail (level + 1) n 0 e t h)
+
+  pub bytes_fail_here : LineFails e (row_line_at byte_at (level + 1) n) t
+      → FailsAt (λ r. leaf_at level leaves.Bytes n) 0 e t
+  unfolding leaf_at
+  bytes_fail_here h =
+      first_fails (λ r. row_line_at byte_at (level + 1) n) (λ xs. given (bytes xs)) 0 (bytes_local (level + 1) n 1)
+      (λ xs. full_given (bytes xs)) e t (bytes_fail (level + 1) n 0 e t h)
+
+  numbers_fail : (greatest : ℕ) (make : List ℕ → Tree) → greatest < 2 ^ 64
+      → FailsAt (all (numbers_by greatest (level + 1)) n) 0 e t
+      → FailsAt (both (all (numbers_by greatest (level + 1)) n) (λ xs. given (make xs))) 0 e t
+  numbers_fail greatest make top h =
+      first_fails (all (numbers_by greatest (level + 1)) n) (λ xs. given (make xs)) 0
+      (local_all (numbers_by greatest (level + 1)) 1 (number_local (level + 1) greatest top 1) n)
+      (λ xs. full_given (make xs)) e t h
+
+  pub pairs_fail : FailsAt (all (numbers_by 65535 (level + 1)) n) 0 e t
+      → FailsAt (λ r. leaf_at level leaves.Pairs n) 0 e t
+  unfolding leaf_at
+  pairs_fail = numbers_fail 65535 pairs (omega arith)
+
+  pub quads_fail : FailsAt (all (numbers_by 4294967295 (level + 1)) n) 0 e t
+      → FailsAt (λ r. leaf_at level leaves.Quads n) 0 e t
+  unfolding leaf_at
+  quads_fail = numbers_fail 4294967295 quads (omega arith)
+
+  pub octs_fail : FailsAt (all (numbers_by 18446744073709551615 (level + 1)) n) 0 e t
+      → FailsAt (λ r. leaf_at level leaves.Octs n) 0 e t
+  unfolding leaf_at
+  octs_fail = numbers_fail 18446744073709551615 octs (omega arith)
+
+module _ (room level : ℕ) (e : Stop) (t : List ℕ) where
+  -- the words of a body fail
+  pub words_fail : (w s : ℕ) → FailsAt (all (words_by (level + 1)) w) 0 e t → FailsAt (body_by level w s) room e t
+  unfolding body_at
+  words_fail w s h =
+      first_fails (all (words_by (level + 1)) w) (slots_by level s) room
+      (local_all (words_by (level + 1)) (suc room) (word_local (level + 1) (suc room)) w) (slots_full level s) e t
+      (any_room (many (word_line_at (level + 1)) w) room e t h)
+
+  -- its slots do
+  pub slots_fail : (w s : ℕ) (ws : List ℕ) (after : List ℕ) → many (word_line_at (level + 1)) w t ≡ Some (ws, after)
+      → FailsAt (all (tree_by (level + 1)) s) room e after → FailsAt (body_by level w s) room e t
+  unfolding body_at
+  slots_fail w s ws after is h =
+      second_fails (all (words_by (level + 1)) w) (slots_by level s) room
+      (local_all (words_by (level + 1)) room (word_local (level + 1) room) w) t ws after is e
+      (first_fails (all (tree_by (level + 1)) s) (λ ss. given (ws, trees ss)) room
+      (local_all (tree_by (level + 1)) (suc room) (tree_local (suc room) (level + 1)) s)
+      (λ ss. full_given (ws, trees ss)) e after h)
+
+  -- what a value holds fails, by its first line
+  pub struct_fails : (h : Head) (w s : ℕ) → h ≡ heads.Struct w s → FailsAt (body_by level w s) room e t
+      → FailsAt (content_by level h) room e t
+  struct_fails h w s is f =
+      subst (λ k. FailsAt (content_by level k) room e t) (sym is)
+      (first_fails (body_by level w s) (λ b. given (node b.0 b.1)) room
+      (body_local (suc room) (tree_local (suc room)) level w s)
+      (λ b. full_given (node b.0 b.1)) e t f)
+
+  pub links_fail : (h : Head) (n : ℕ) → h ≡ heads.Named names.Links n → FailsAt (all (tree_by (level + 1)) n) room e t
+      → FailsAt (content_by level h) room e t
+  links_fail h n is f =
+      subst (λ k. FailsAt (content_by level k) room e t) (sym is)
+      (first_fails (all (tree_by (level + 1)) n) (λ ts. given (links (trees ts))) room
+      (local_all (tree_by (level + 1)) (suc room) (tree_local (suc room) (level + 1)) n)
+      (λ ts. full_given (links (trees ts))) e t f)
+
+  pub rows_fail : (h : Head) (n : ℕ) → h ≡ heads.Named names.Rows n → FailsAt (all (row_by (level + 1)) n) room e t
+      → FailsAt (content_by level h) room e t
+  rows_fail h n is f =
+      subst (λ k. FailsAt (content_by level k) room e t) (sym is)
+      (first_fails (all (row_by (level + 1)) n) (λ bs. given (rows (rows_from bs))) room
+      (local_all (row_by (level + 1)) (suc room) (row_local (suc room) (tree_local (suc room)) (level + 1)) n)
+      (λ bs. full_given (rows (rows_from bs))) e t f)
+
+-- what is read of a list without values, as what is read of a value
+pub leaf_gives : {X : Type 0} (view : X → Tree × List ℕ) (result : Result X Stop) (room level : ℕ) (h : Head)
+    (leaf : Leaf)
+    (n : ℕ) (t : List ℕ) → h ≡ heads.Named (names.Leaf leaf) n → GivesAt view result (λ r. leaf_at level leaf n) 0 t
+    → GivesAt view result (content_by level h) room t
+leaf_gives view (Ok x) room level h leaf n t is g = ap (λ k. content_at (tree_at room) level k t) is ∙ g
+leaf_gives view (Err e) room level h leaf n t is g =
+    subst (λ k. FailsAt (content_by level k) room e t) (sym is) (any_room (leaf_at level leaf n) room e t g)
+
+-- ---- a value
+
+-- a first line of a value higher than 0 is one, whatever follows
+not_low : (h : Head) (t z : List ℕ) → low_at h t ≡ None → low_at h z ≡ None
+not_low heads.Null t z e = absurd cc
+not_low (heads.Struct w s) t z e = refl
+not_low (heads.Named names.Links n) t z e = refl
+not_low (heads.Named names.Rows n) t z e = refl
+not_low (heads.Named names.Cap n) t z e = absurd cc
+not_low (heads.Named (names.Leaf leaf) n) t z e = refl
+
+module _ (level : ℕ) where
+  abbrev headed : Reads Tree
+  headed = both (λ r. head_at level) (content_by level)
+
+  -- what holds of contents holds of values one higher
+  over : (m : ℕ) (s : List ℕ) (v : Option (Tree × List ℕ)) → ((r : ℕ) → m < r → headed r s ≡ v)
+      → (r : ℕ) → suc m < r → tree_at r level s ≡ v
+  unfolding tree_at
+  over m s v h zero low = absurd (omega arith)
+  over m s v h (suc r) low = h r (omega arith)
+
+  from : (m : ℕ) (s : List ℕ) (v : Option (Tree × List ℕ)) → ((r : ℕ) → m ≤ r → headed r s ≡ v)
+      → (r : ℕ) → suc m ≤ r → tree_at r level s ≡ v
+  unfolding tree_at
+  from m s v h zero low = absurd (omega arith)
+  from m s v h (suc r) low = h r (omega arith)
+
+  one_higher : (m : ℕ) (e : Stop) (t : List ℕ) → FailsAt headed m e t → FailsAt (tree_by level) (suc m) e t
+  unfolding tree_at
+  one_higher m stops.Memory t h = tt
+  one_higher m (stops.Left n) t h = (
+    h.0,
+    h.1,
+    h.2,
+    h.3,
+    (h.4.0, h.4.1, h.4.2, over m (h.0 ++ h.4.1) (Some (h.4.2, [])) h.4.3),
+    λ r z low same. from m (h.0 ++ z) None (λ k least. h.5 k z least same) r low,
+  )
+  one_higher m stops.Deep t h =
+      (h.0, h.1, h.2, (h.3.0, h.3.1, h.3.2, over m (h.0 ++ h.3.1) (Some (h.3.2, [])) h.3.3), h.4)
+
+  too_deep : (t after : List ℕ) (h : Head) → head_at level t ≡ Some (h, after) → low_at h after ≡ None
+      → Deepens (tree_by level) 0 t
+  unfolding tree_at
+  too_deep t after h e none =
+      let p = head_local level 0 t h after e in
+      let full = content_full level h in (
+        p.0,
+        after,
+        p.1,
+        (
+          p.2,
+          full.0,
+          full.1,
+          from 0 (p.0 ++ full.0) (Some (full.1, []))
+              (λ r low. ap (λ o. o >>= λ k. content_by level k.0 r k.1) (p.3 r full.0 (omega arith)) ∙ full.2 r),
+        ),
+        λ z. ap (λ o. o >>= λ k. low_at k.0 k.1) (p.3 0 z (omega arith)) ∙ not_low h after z none,
+      )
+
+  head_same : (t z : List ℕ) → head_at level t ≡ None → first_lines 1 z ≡ first_lines 1 t → head_at level z ≡ None
+  head_same t z none same =
+      not_read (head_at level) (λ h. line level (head_text h)) Holds (head_takes level) (head_again level) t z
+      (head_is_line level) none same (head_at level z) refl
+
+-- the first line is wrong
+pub tree_line_fails : (room level : ℕ) (t : List ℕ) → head_at level t ≡ None → Stops (tree_by level) room t (length t)
+tree_line_fails room level t none =
+    let w = tree_full level in (
+      [],
+      t,
+      refl,
+      refl,
+      (are_none, w.0, w.1, λ r low. w.2 r),
+      λ r z low same. no_head r level z (head_same level t z none same),
+    )
+
+-- it goes too deep
+pub low_gives : {X : Type 0} (view : X → Tree × List ℕ) (result : Result X Stop) (room level : ℕ) (t after : List ℕ)
+    (h : Head)
+    → room ≡ 0 → head_at level t ≡ Some (h, after) → Gives view result (low_at h after)
+    → IfErr result (λ e. e ≡ stops.Deep)
+    → GivesAt view result (tree_by level) room t
+low_gives view (Ok x) room level t after h is e g deep = by_low_head room level t after h e is ∙ g
+low_gives view (Err stop) room level t after h is e g deep =
+    subst (λ s. FailsAt (tree_by level) room s t) (sym deep)
+    (subst (λ n. Deepens (tree_by level) n t) (sym is)
+    (too_deep level t after h e (subst (λ s. Fails s (low_at h after)) deep g)))
+
+-- a value by its first line
+pub content_gives : {X : Type 0} (view : X → Tree × List ℕ) (result : Result X Stop) (room level : ℕ)
+    (t after : List ℕ) (h : Head)
+    → 0 < room → head_at level t ≡ Some (h, after) → GivesAt view result (content_by level h) (room - 1) after
+    → GivesAt view result (tree_by level) room t
+content_gives view (Ok x) room level t after h low e g = by_head room level t after h e low ∙ g
+content_gives view (Err stop) room level t after h low e g =
+    let r : suc (room - 1) ≡ room = omega arith in
+    subst (λ n. FailsAt (tree_by level) n stop t) r
+    (one_higher level (room - 1) stop t (second_fails (λ r. head_at level) (content_by level) (room - 1)
+    (head_local level (room - 1)) t h after e stop g))
+
+-- ---- a row
+
+module _ (level : ℕ) where
+  -- another text with the same first line has the same first line of a value
+  head_again_same : (t z after : List ℕ) (h : Head) → head_at level t ≡ Some (h, after)
+      → first_lines 1 z ≡ first_lines 1 t
+      → (rest : List ℕ) × (head_at level z ≡ Some (h, rest))
+  head_again_same t z after h e same =
+      let p = head_takes level t h after e in
+      let l = head_is_line level h p.1 in
+      let n : ended_lines (line level (head_text h)) + 0 ≡ 1 = omega (arith, l.1) in
+      let first : first_lines 1 z ≡ line level (head_text h) =
+      same ∙ ap (first_lines 1) p.0 ∙ ap (λ k. first_lines k (line level (head_text h) ++ after)) (sym n) ∙ l.0 0 after
+      ∙ append-nil (line level (head_text h)) in
+      let f = first_front 1 z in
+      (f.0, ap (head_at level) (f.1 ∙ ap (λ s. s ++ f.0) first) ∙ head_again level h f.0 p.1)
+
+  row_stops : (room : ℕ) (t : List ℕ) → ((r : ℕ) (z : List ℕ) → first_lines 1 z ≡ first_lines 1 t
+      → row_by level r z ≡ None)
+      → Stops (row_by level) room t (length t)
+  row_stops room t none =
+      let w = row_full level in
+      ([], t, refl, refl, (are_none, w.0, w.1, λ r low. w.2 r), λ r z low same. none r z same)
+
+  pub row_line_fails : (room : ℕ) (t : List ℕ) → head_at level t ≡ None → Stops (row_by level) room t (length t)
+  unfolding row_at
+  row_line_fails room t e =
+      row_stops room t (λ r z same. ap (λ o. o >>= λ k. row_of (tree_at r) level k.0 k.1) (head_same level t z e same))
+
+  -- a line of another kind
+  pub row_kind_fails : (room : ℕ) (t after : List ℕ) (h : Head) → head_at level t ≡ Some (h, after)
+      → ((r : ℕ) (y : List ℕ) → row_of (tree_at r) level h y ≡ None) → Stops (row_by level) room t (length t)
+  unfolding row_at
+  row_kind_fails room t after h e other =
+      row_stops room t (λ r z same.
+      let p = head_again_same t z after h e same in
+      ap (λ o. o >>= λ k. row_of (tree_at r) level k.0 k.1) p.1 ∙ other r p.0)
+
+  row_body_fails : (room : ℕ) (t after : List ℕ) (h : Head) (w s : ℕ) → h ≡ heads.Struct w s
+      → head_at level t ≡ Some (h, after) → (e : Stop) → FailsAt (body_by level w s) room e after
+      → FailsAt (row_by level) room e t
+  unfolding row_at
+  row_body_fails room t after h w s is e stop f =
+      second_fails (λ r. head_at level) (λ k r. row_of (tree_at r) level k) room
+      (head_local level room) t h after e stop
+      (subst (λ k. FailsAt (λ r. row_of (tree_at r) level k) room stop after) (sym is) f)
+
+pub row_gives : {X : Type 0} (view : X → (List ℕ × Trees) × List ℕ) (result : Result X Stop) (room level : ℕ)
+    (t after : List ℕ)
+    (h : Head) (w s : ℕ) → h ≡ heads.Struct w s → head_at level t ≡ Some (h, after)
+    → GivesAt view result (body_by level w s) room after → GivesAt view result (row_by level) room t
+unfolding row_at
+row_gives view (Ok x) room level t after h w s is e g =
+    ap (λ o. o >>= λ k. row_of (tree_at room) level k.0 k.1) e ∙ ap (λ k. row_of (tree_at room) level k after) is ∙ g
+row_gives view (Err stop) room level t after h w s is e g = row_body_fails level room t after h w s is e stop g
+
+-- ---- nothing is read
+
+pub stops_none : (room level : ℕ) (t : List ℕ) (n : ℕ) → Stops (tree_by level) room t n → tree_at room level t ≡ None
+stops_none room level t n h = ap (tree_at room level) h.2 ∙ h.5 room h.1 (omega arith) refl
+
+pub deepens_none : (room level : ℕ) (t : List ℕ) → Deepens (tree_by level) room t → tree_at room level t ≡ None
+deepens_none room level t h = ap (tree_at room level) h.2 ∙ h.4 h.1

@@ -1,0 +1,7 @@
+use Rattle.capn_text.specs.Values.{head_at}
+use Rattle.capn_text.proofs.StopLaws.{idle_none}
+use Rattle.capn_text.proofs.heads.head_at.Goals as goal
+
+pub returns-in-Err-clause-value : goal.returns-in-Err-clause-value
+returns-in-Err-clause-value c =
+    idle_none c.in-Err.field-0 (head_at c.args.level c.args.text.now) c.in-Err.ensures.value

@@ -1,0 +1,124 @@
+//! What steps of views pay and where they lead, and what a survey and a check of a message tell.
+
+use crate::words::bytes_of;
+use capn_canon::{Checked, Refusal, check, survey};
+use capn_stream::first;
+use capn_value::Tariff;
+use capn_walk::{Fault, Limits, Meter, Stopped, Surveyed, View};
+use capn_words::{Bare, MOST_MESSAGE_WORDS, Place, Space};
+use std::alloc::Global;
+use std::test::Fail;
+
+/// A struct whose two slots lead to the same struct.
+const SHARED: [u64; 4] = [0x2_0000_0000_0000, 0x1_0000_0004, 0x1_0000_0000, 9];
+
+/// A stream whose root has a slot, which stands in segment 1.
+const FAR: [u64; 5] = [0x1_0000_0001, 0x2, 0x1_0000_0002, 0x1_0000_0000_0000, 0];
+
+/// What a meter has left behind the root and behind its slot at an index, and where that stands.
+fn stepped<S: Space>(space: &S, meter: &mut Meter, index: u32) -> Option<(u32, u32, Place)> {
+    let root = View::root(space, meter, 64).ok()?;
+    let left = meter.left();
+    if index >= root.slots() as u32 {
+        return None;
+    }
+    let _ = root.slot(index, meter);
+    Some((left, meter.left(), root.slot_place(index)))
+}
+
+/// What a new meter of so many words has left, behind the root, and behind its second slot, by a tariff.
+fn left_of_shared(alloc: Global, mut meter: Meter) -> Option<(u32, u32, Place)> {
+    let bytes = bytes_of(alloc, &SHARED).ok()?;
+    let bare = Bare::new(bytes.as_slice()).ok()?;
+    stepped(&bare, &mut meter, 1)
+}
+
+#[test]
+fn meters(rt: HostRuntime) {
+    let meter = Meter::new(6);
+    assert!(rt; meter.left() == 6 && meter.paid() == 0 && meter.tariff() == Tariff::Strict);
+    let plain = Meter::with_tariff(6, Tariff::Plain);
+    assert!(rt; plain.left() == 6 && plain.tariff() == Tariff::Plain);
+    let second = Place {
+        segment: 0,
+        word: 2,
+    };
+    assert!(rt; left_of_shared(rt.alloc(), meter) == Some((3, 1, second)));
+    assert!(rt; left_of_shared(rt.alloc(), plain) == Some((4, 3, second)));
+    // A step that can't be paid pays nothing.
+    assert!(rt; left_of_shared(rt.alloc(), Meter::new(4)) == Some((1, 1, second)));
+}
+
+#[test]
+fn a_slot_of_another_segment(rt: HostRuntime) -> Result<(), Fail> {
+    let bytes = bytes_of(rt.alloc(), &FAR)?;
+    let Ok((message, _)) = first(rt.alloc(), bytes.as_slice(), MOST_MESSAGE_WORDS) else {
+        return Err(Fail::new("no message"));
+    };
+    let mut meter = Meter::new(3);
+    let at = Place {
+        segment: 1,
+        word: 1,
+    };
+    assert!(rt; stepped(&message, &mut meter, 0) == Some((0, 0, at)));
+    Ok(())
+}
+
+/// A struct with a capability, and one with a word that is reserved.
+const CAPABILITY: [u64; 2] = [0x1_0000_0000_0000, 0x2_0000_0003];
+
+const RESERVED: [u64; 2] = [0x1_0000_0000_0000, 7];
+
+/// What a survey and a check tell of a message that is read bare.
+fn told(
+    alloc: Global,
+    words: &[u64],
+) -> Option<(Result<Surveyed, Refusal>, Result<Checked, Stopped>)> {
+    let bytes = bytes_of(alloc, words).ok()?;
+    let bare = Bare::new(bytes.as_slice()).ok()?;
+    let surveyed = survey(alloc, &bare, Limits::usual());
+    Some((surveyed, check(alloc, &bare, Limits::usual())))
+}
+
+/// Whether both tell this price, so many visits and this first capability, and the check whether the bytes are
+/// canonical.
+fn are_told(
+    alloc: Global,
+    words: &[u64],
+    (paid, visits, capability): (u32, u32, Option<u32>),
+    is_canonical: bool,
+) -> bool {
+    match told(alloc, words) {
+        Some((Ok(surveyed), Ok(checked))) => {
+            (surveyed.paid, surveyed.visits, surveyed.capability) == (paid, visits, capability)
+                && (checked.paid, checked.visits, checked.capability) == (paid, visits, capability)
+                && checked.is_canonical == is_canonical
+        }
+        _ => false,
+    }
+}
+
+/// Bytes that are canonical, bytes that aren't, and a capability, of which no bytes are.
+#[test]
+fn what_a_message_holds(rt: HostRuntime) {
+    assert!(rt; are_told(rt.alloc(), &[0x1_0000_0000, 5], (2, 1, None), true));
+    assert!(rt; are_told(rt.alloc(), &[0x2_0000_0000, 5, 0], (3, 1, None), false));
+    assert!(rt; are_told(rt.alloc(), &SHARED, (7, 3, None), false));
+    assert!(rt; are_told(rt.alloc(), &CAPABILITY, (2, 2, Some(2)), false));
+}
+
+#[test]
+fn a_message_that_is_not_accepted(rt: HostRuntime) {
+    let stopped = Stopped {
+        fault: Fault::Reserved,
+        place: Place {
+            segment: 0,
+            word: 1,
+        },
+        paid: 2,
+        visits: 2,
+    };
+    let told = told(rt.alloc(), &RESERVED);
+    let want = (Err(Refusal::Walk(stopped)), Err(stopped));
+    assert!(rt; matches!(told, Some(told) if told == want));
+}
