@@ -17,7 +17,7 @@ use Rattle.capn_canon.specs.declared.canonical.Canonical.{Canonical}
 use Rattle.capn_canon.specs.Denotes.{Denotes}
 use Rattle.capn_canon.specs.Answers.{Answers}
 use Rattle.capn_canon.specs.Refused.{IsRefused}
-use Rattle.capn_canon.specs.Theorem.{Answered, EqualExactly, IsCall, OwnForm, WithinBudget}
+use Rattle.capn_canon.specs.Theorem.{Answered, EqualExactly, OwnForm, WithinBudget}
 use Rattle.capn_canon.specs.Laws.NotRefused.{not_refused}
 use Rattle.capn_canon.specs.Laws.OneReading.{is_message}
 use Rattle.capn_canon.proofs.Headline.{denoted_fits, denoted_in_range}
@@ -55,10 +55,10 @@ memory_only A form bs limits v (refusals.Capability x) d n a = absurd (let k = (
 -- where bytes denote a value without capabilities whose canonical bytes are these, a call answers these
 call_gives : (A : Type 0) (form : Form) (bs out : List ℕ) (limits : Bounds) (v : Tree) → Denotes form bs limits v
     → first_cap v ≡ None → ((b : List ℕ) (n : ℕ) → Answers form bs limits b n → b ≡ out)
-    → (r : Result (Canonical A) Refusal) → IsCall form bs limits r
-    → MatchResult r (λ d. d.bytes.items ≡ out) (λ e. e ≡ refusals.Memory)
-call_gives A form bs out limits v d n only (Ok c) h = only c.bytes.items c.paid h.found
-call_gives A form bs out limits v d n only (Err e) h = memory_only A form bs limits v e d n h.answered
+    → (r : Result (Canonical A) Refusal) → IfOk r (λ d. Answers form bs limits d.bytes.items d.paid)
+    → Answered form bs limits r → MatchResult r (λ d. d.bytes.items ≡ out) (λ e. e ≡ refusals.Memory)
+call_gives A form bs out limits v d n only (Ok c) found answered = only c.bytes.items c.paid found
+call_gives A form bs out limits v d n only (Err e) found answered = memory_only A form bs limits v e d n answered
 
 module _ (form : Form) (bs : List ℕ) (limits : Bounds) (few : limits.message_words ≤ 2 ^ 28)
     (small : limits.budget ≤ 2 ^ 28) (shallow : limits.depth ≤ 256) where
@@ -95,8 +95,7 @@ module _ (form : Form) (bs : List ℕ) (limits : Bounds) (few : limits.message_w
         value = trimmed a.0;
         reads_bare = f.reads_back.denotes;
         same = f.reads_back.same;
-        free = free;
-        itself = f.own;
+        itself = (free, f.own);
         second = call_gives A forms.Bare c.bytes.items c.bytes.items limits (trimmed a.0) f.reads_back.denotes free
             (λ b n k. answers_only forms.Bare c.bytes.items limits b n k (trimmed a.0) f.reads_back.denotes ∙ f.own);
       }

@@ -17,8 +17,7 @@ use Rattle.capn_canon.specs.Answers.{Answers}
 -- For any bytes, form and limits, unless memory runs out, `canonicalise` succeeds if and only if the bytes denote a
 -- message without capabilities that is accepted within the limits.
 abbrev pub Answered : {A : Type 0} → Form → List ℕ → Bounds → Result (Canonical A) Refusal → Type 0
-Answered form bs limits r =
-    (r ≢ Err refusals.Memory) → IsOk r ↔ ((v : Tree) × Denotes form bs limits v × (first_cap v ≡ None))
+Answered form bs m r = (r ≢ Err refusals.Memory) → IsOk r ↔ ((v : Tree) × Denotes form bs m v × (first_cap v ≡ None))
 
 -- Two answers, from any two forms, inputs and limits, are byte for byte equal if and only if the values denoted are the
 -- same up to trailing zero words and trailing null pointers of structs.
@@ -26,12 +25,6 @@ abbrev pub EqualExactly : Form → List ℕ → Bounds → List ℕ → Type 0
 EqualExactly form bs limits answer = (g : Form) (ds : List ℕ) (m : Bounds) (other : List ℕ) (price : ℕ) (v w : Tree)
     → AreLimits m.message_words m.budget m.depth → Answers g ds m other price → Denotes form bs limits v
     → Denotes g ds m w → (answer ≡ other) ↔ Same v w
-
--- what a call gives: its clauses `found` and `answered`
-pub record IsCall {A : Type 0} (form : Form) (bs : List ℕ) (limits : Bounds)
-    (r : Result (Canonical A) Refusal) : Type 0 where
-  pub found : IfOk r (λ c. Answers form bs limits c.bytes.items c.paid)
-  pub answered : Answered form bs limits r
 
 -- Each answer, read bare under the same limits, denotes a value that is the same in this sense, and canonicalises to
 -- itself: the second call answers those bytes, or that memory ran out.
@@ -41,9 +34,10 @@ pub record OwnForm {A : Type 0} (form : Form) (bs : List ℕ) (limits : Bounds) 
   pub value : Tree
   pub reads_bare : Denotes forms.Bare c.bytes.items limits value
   pub same : Same value denoted
-  pub free : first_cap value ≡ None
-  pub itself : canon value ≡ c.bytes.items
-  pub second : (r : Result (Canonical A) Refusal) → IsCall forms.Bare c.bytes.items limits r
+  pub itself : (first_cap value ≡ None) × (canon value ≡ c.bytes.items)
+  pub second : (r : Result (Canonical A) Refusal)
+      → IfOk r (λ d. Answers forms.Bare c.bytes.items limits d.bytes.items d.paid)
+      → Answered forms.Bare c.bytes.items limits r
       → MatchResult r (λ d. d.bytes.items ≡ c.bytes.items) (λ e. e ≡ refusals.Memory)
 
 -- No walk pays beyond its budget.

@@ -7,7 +7,7 @@ use Rattle.capn_pack.specs.Group.{text, content}
 use Rattle.capn_pack.specs.Packs.{texts, contents}
 use Rattle.capn_pack.specs.Chosen.{IsChoice, IsChosenRow, Chosen, IsDense, AllDense}
 use Rattle.capn_pack.specs.Steps.{Puts, PutsRow}
-use Rattle.capn_pack.specs.Tag.{tag_of, named_bytes}
+use Rattle.capn_pack.specs.Group.{tag_of, named_bytes}
 use Rattle.capn_pack.specs.Group.Group.{Zeros, Named, Raw}
 use Rattle.std.proofs.lemmas.Grind.{flat_map-append}
 use Rattle.capn_pack.specs.Laws.GroupLemmas.{texts_more, contents_more, count_more, count_append}

@@ -6,7 +6,7 @@ use Rattle.std.proofs.lemmas.Bool.{cases_lt}
 use Rattle.std.proofs.lemmas.Nat.{le_bytes_8}
 use Rattle.std.specs.Int.{w64, to_le_bytes, from_le_bytes}
 use Rattle.std.specs.List.{AllByRecursion}
-use Rattle.capn_pack.specs.Tag.{named_bytes, IsNamedBy}
+use Rattle.capn_pack.specs.Group.{named_bytes, IsNamedBy}
 use Rattle.capn_pack.specs.Group.{Group, IsGroup, text, content}
 use Rattle.capn_pack.specs.Group.Group.{Zeros, Named, Raw}
 use Rattle.capn_pack.specs.Packs.{Packs, texts, contents, word_count}

@@ -1,7 +1,7 @@
 -- The one text that this packer writes, of the many that pack the same words. (Own.)
 use Rattle.std.specs.Prelude.{ℕ, ◌≡◌, ◌+◌, ◌<◌, ◌≤◌, ◌==◌, if◌then◌else◌, List, [], ◌∷◌, length, replicate, take, drop}
 use Rattle.std.specs.Prelude.{suc, zero, ⊤}
-use Rattle.capn_pack.specs.Tag.{tag_of}
+use Rattle.capn_pack.specs.Group.{tag_of}
 use Rattle.capn_pack.specs.Group.{Group, IsGroup}
 use Rattle.capn_pack.specs.Group.Group.{Zeros, Named, Raw}
 use Rattle.capn_pack.specs.Packs.{texts, contents}

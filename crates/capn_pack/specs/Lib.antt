@@ -1,4 +1,3 @@
-pub mod Tag
 pub mod Group
 pub mod Packs
 pub mod Chosen

@@ -1,23 +1,17 @@
 -- The first capability. (Own.)
 use Rattle.std.specs.Prelude.{ℕ, Some, None, Option}
 use Rattle.std.specs.Option.{option_or}
-use Rattle.capn_value.specs.Tree.{Tree, nil, node, voids, bits, bytes, pairs, quads, octs, links, rows, cap, Trees}
+use Rattle.capn_value.specs.Tree.{Tree, node, links, rows, cap, Trees}
 use Rattle.capn_value.specs.Tree.{no_trees, tree, Bodies, no_bodies, body}
 
 -- in preorder: a value, then what its slots, rows or elements hold, in order, each with all below it before the next
 abbrev mutual
   pub first_cap : Tree → Option ℕ
-  first_cap nil = None
   first_cap (cap k) = Some k
   first_cap (node ws slots) = first_in slots
   first_cap (links ts) = first_in ts
   first_cap (rows bs) = first_in_rows bs
-  first_cap (voids n) = None
-  first_cap (bits xs) = None
-  first_cap (bytes xs) = None
-  first_cap (pairs xs) = None
-  first_cap (quads xs) = None
-  first_cap (octs xs) = None
+  first_cap _ = None
 
   pub first_in : Trees → Option ℕ
   first_in no_trees = None

@@ -43,9 +43,8 @@ slots s start (shapes.Rows n a b span) = row_places s (start + 1) a b n
 module _ (message : List (List ℕ)) (base : ℕ) where
   -- a visit of a slot, where none may have content
   abbrev pub last_visit : Place → Result Target Fault → List Visit
-  last_visit at (Ok targets.Nil) = pays at 0 ∷ []
-  last_visit at (Ok (targets.Cap k)) = pays at 0 ∷ []
   last_visit at (Ok (targets.Content s start shape pads)) = fails at faults.TooDeep ∷ []
+  last_visit at (Ok found) = pays at 0 ∷ []
   last_visit at (Err e) = fails at e ∷ []
 
   -- a visit of a slot, and of what is below it

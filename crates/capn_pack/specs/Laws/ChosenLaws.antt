@@ -7,7 +7,7 @@ use Rattle.std.proofs.lemmas.List.{append_cancel_left, replicate-append-replicat
 use Rattle.capn_pack.specs.Group.{Group, content, IsGroup}
 use Rattle.capn_pack.specs.Packs.{texts, contents, Packs}
 use Rattle.capn_pack.specs.Chosen.{IsChoice, IsChosenRow, Chosen, IsDense, AllDense}
-use Rattle.capn_pack.specs.Tag.{tag_of}
+use Rattle.capn_pack.specs.Group.{tag_of}
 use Rattle.capn_pack.specs.Group.Group.{Zeros, Named, Raw}
 use Rattle.std.specs.List.{AllByRecursion}
 use Rattle.capn_pack.specs.Laws.FirstParts.{append_same}

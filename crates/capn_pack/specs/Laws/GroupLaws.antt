@@ -7,7 +7,7 @@ use Rattle.std.specs.Prelude.{count_ones}
 use Rattle.std.specs.List.{AllByRecursion}
 use Rattle.capn_pack.specs.Group.{Group, text, words, IsGroup}
 use Rattle.capn_pack.specs.Packs.{texts, contents, word_count, Packs}
-use Rattle.capn_pack.specs.Tag.{named_bytes, IsNamedBy}
+use Rattle.capn_pack.specs.Group.{named_bytes, IsNamedBy}
 use Rattle.capn_pack.specs.Refusal.{words_at, len_at, HasHead, IsCut, IsTooLong, Stands}
 use Rattle.capn_pack.specs.Group.Group.{Zeros, Named, Raw}
 use Rattle.capn_pack.specs.Refusal.{IsRefused}

@@ -10,7 +10,7 @@ use Rattle.capn_pack.specs.Group.{Group, IsGroup, text, content}
 use Rattle.capn_pack.specs.Group.Group.{Zeros, Named, Raw}
 use Rattle.capn_pack.specs.Packs.{texts, contents}
 use Rattle.capn_pack.specs.Stream.{Splits, NoGroupFirst}
-use Rattle.capn_pack.specs.Tag.{named_bytes, IsNamedBy}
+use Rattle.capn_pack.specs.Group.{named_bytes, IsNamedBy}
 use Rattle.capn_pack.specs.Laws.GroupLaws.{group_same, no_group}
 use Rattle.capn_pack.specs.Laws.GroupLemmas.{raw_is_group, take_first, take_raw_text, take_two, text_some}
 use Rattle.capn_pack.specs.Laws.SpreadLemmas.{named_none, named_one, no_ones, ones_half, parity}
