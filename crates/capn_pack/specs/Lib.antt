@@ -10,3 +10,4 @@ pub mod Joins
 pub mod Rows
 pub mod Laws
 pub mod Told
+pub mod Some
