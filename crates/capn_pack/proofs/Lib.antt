@@ -5,5 +5,6 @@ mod PutLemmas
 mod WordLemmas
 mod LaneLemmas
 mod RowLemmas
+mod SomeLemmas
 mod StartLemmas
 pub mod PackedRows

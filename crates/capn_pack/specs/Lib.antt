@@ -9,3 +9,4 @@ pub mod Joins
 pub mod Rows
 pub mod Laws
 pub mod Told
+pub mod Some
