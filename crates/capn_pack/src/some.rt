@@ -1,4 +1,5 @@
 //! The whole groups at the front of some bytes.
+
 ghost use Rattle.std.specs.Prelude.{◌≡◌, ◌+◌, ◌≤◌, length, IfOk, OnErr};
 ghost use Rattle.capn_pack.specs.Refusal.{StartsWithin};
 ghost use Rattle.capn_pack.specs.Some.{UnpacksSome, AppendsSome};
@@ -10,7 +11,7 @@ use std::alloc::{AllocError, Allocator};
 /// A block and its slack.
 const BLOCK: usize = 4096 + SLACK;
 
-/// What stands behind the whole groups that were unpacked.
+/// What follows the whole groups that were unpacked.
 #[derive(Clone, Copy, Debug, PartialEq, Eq)]
 pub enum Next {
     /// The end of the bytes.
@@ -28,11 +29,11 @@ pub struct Progress {
     pub bytes: usize,
     /// How many words they have.
     pub words: u32,
-    /// What stands behind them.
+    /// What follows them.
     pub next: Next,
 }
 
-/// How far it came, with so much room left of the maximum.
+/// How far it came, with this much room left of the maximum.
 fn stopped(bytes: usize, max_words: u32, room: usize, next: Next) -> Progress
     requires { room ≤ max_words }
     ensures bytes { result.bytes ≡ bytes }
@@ -50,11 +51,11 @@ fn stopped(bytes: usize, max_words: u32, room: usize, next: Next) -> Progress
 ///
 /// A text that comes in pieces is unpacked under a maximum by calls of it: each takes what the last call left, and the
 /// piece that came, with the words that the last call left of the maximum. Where the text ends, what is left is
-/// refused as [`unpack`](crate::unpack) refuses it there: `Cut` if a group has begun, and `TooLong` as soon as this call
-/// says so.
+/// refused as [`unpack`](crate::unpack) refuses it there: `Cut` if a group has begun, and `TooLong` as soon as this
+/// call says so.
 ///
-/// It takes no memory but what `out` needs for those words. Refusal: `AllocError` where a growth of `out` was refused,
-/// and then a beginning of those words was appended; that takes a whole group within the maximum at the front.
+/// It takes no memory except what `out` needs for those words. Refusal: `AllocError` if a growth of `out` was refused,
+/// and then a beginning of those words was appended; that needs a whole group within the maximum at the front.
 pub fn unpack_some<A: Allocator>(
     bytes: &[u8],
     max_words: u32,
@@ -65,7 +66,7 @@ pub fn unpack_some<A: Allocator>(
         p.next) }
     // Without memory a beginning of the words within the maximum was appended.
     ensures memory { OnErr result (AppendsSome bytes.now max_words out.old.items out.new.items) }
-    // Memory is wanted only where a whole group within the maximum stands first.
+    // Memory is asked for only where a whole group within the maximum stands first.
     ensures wanted { OnErr result (StartsWithin bytes.now max_words) }
 {
     let mut block = [0; BLOCK];
