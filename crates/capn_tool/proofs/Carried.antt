@@ -1,6 +1,6 @@
--- A command that was carried out: what a run did, and the flush behind it.
+-- A command that was carried out: what a run did, and the flush after it.
 use Rattle.std.proofs.Common.{◌≡◌, ◌⊎◌, ◌↔◌, inl, inr, ℕ, List, [], Bool, true, Option, Some, None, Result}
-use Rattle.std.proofs.Common.{Err, IfSome, IsErrOf, sym, subst, ◌∙◌}
+use Rattle.std.proofs.Common.{Ok, Err, IfSome, IsErrOf, refl, sym, subst, ◌∙◌}
 use Rattle.std.specs.Io.KnownBytes.{Keeps}
 use Rattle.capn_tool.specs.Ends.{CarriesOut, EndsOnly, course}
 use Rattle.capn_tool.specs.Heard.{KeepsUp, PlanKeepsUp}
@@ -22,8 +22,9 @@ abbrev Flushed : Ending → Ending → Type 0
 Flushed r s = (s ≡ r) ⊎ (s ≡ Err faults.Io)
 
 flushed : (r s : Ending) (old new : Bool) → EndsFlushed r old new s → Flushed r s
-flushed r s old new (inl (is, same)) = inl is
-flushed r s old new (inr (is, failed)) = inr is
+flushed (Ok u) s old new (inl (is, same)) = inl is
+flushed (Ok u) s old new (inr (is, failed)) = inr is
+flushed (Err fault) s old new (is, failed) = inl is
 
 ended : (plan : Plan) (bytes : List ℕ) (is_longer : Bool) (c m d : Option (List ℕ)) (r s : Ending)
     → Keeps m d → Flushed r s → HasEnded plan bytes is_longer c m r → HasEnded plan bytes is_longer c d s
@@ -67,11 +68,25 @@ keeps_up (plans.Each piece limits) a b c m d k (bytes, text, due, read, is, writ
 keeps_up (plans.Packed piece limits) a b c m d k (bytes, text, due, read, is, written) =
     (bytes, text, due, read, is, kept c m d text k written)
 
--- it ends with Io exactly where the reader or the writer has failed by then
-io : (r s : Ending) (unread old new : Bool) → EndsFlushed r old new s
-    → (IsErrOf r faults.Io ↔ ((unread ≡ true) ⊎ (old ≡ true))) → IsErrOf s faults.Io ↔ ((unread ≡ true) ⊎ (new ≡ true))
-io r s unread old new (inl (is, same)) g = rw (is, same) g
-io r s unread old new (inr (is, failed)) g = (λ _. inr failed, λ _. is)
+-- what a run ends with Io for, and what a flush of its output adds
+abbrev InRun : Bool → Bool → Type 0
+InRun unread old = (unread ≡ true) ⊎ (old ≡ true)
+
+-- it ends with Io exactly where the run did, or the run was done and the flush failed
+io : (r s : Ending) (unread old new : Bool) → EndsFlushed r old new s → (IsErrOf r faults.Io ↔ InRun unread old)
+    → IsErrOf s faults.Io ↔ (InRun unread old ⊎ ((r ≡ Ok tt) × (new ≡ true)))
+io (Ok u) s unread old new (inl (is, same)) g = (
+  λ bad. absurd (let no : Ok u ≡ Err faults.Io = sym is ∙ bad in cc),
+  λ h. elim h [
+    | inl run ↦ absurd (let no = g.1 run in cc)
+    | inr flush ↦ absurd (let no = g.1 (inr (sym same ∙ flush.1)) in cc)
+  ],
+)
+io (Ok u) s unread old new (inr (is, failed)) g = (λ _. inr (refl, failed), λ _. is)
+io (Err fault) s unread old new (is, failed) g = (
+  λ bad. inl (g.0 (sym is ∙ bad)),
+  λ h. elim h [ inl run ↦ is ∙ g.1 run | inr flush ↦ absurd (let no = flush.0 in cc) ],
+)
 
 pub carried : (command : Command) (a b c m d : Option (List ℕ)) (unread old new : Bool) (r s : Ending)
     → IfSome a (EndsAs command c m r) → IfSome a (EndsOnly command c m r)
@@ -79,6 +94,11 @@ pub carried : (command : Command) (a b c m d : Option (List ℕ)) (unread old ne
     → Begins command a b c m → (unread ≡ true → KeepsUp command a b c m) → Keeps m d → EndsFlushed r old new s
     → CarriesOut command (course a b unread) (course c d new) s
 carried command a b c m d unread old new r s e o i g h k f = record {
+  run = r;
+  failed = old;
+  ran = exact command a c m d r r k (inl refl) e;
+  stopped = i;
+  flushed = f;
   exact = exact command a c m d r s k (flushed r s old new f) e;
   only = only command a c m d r s k (flushed r s old new f) o;
   io = io r s unread old new f i;

@@ -1,7 +1,7 @@
 -- Bytes up to the end of a message.
-use Rattle.std.proofs.Common.{◌≡◌, ◌⊎◌, inl, inr, ℕ, zero, suc, ◌+◌, ◌-◌, ◌<◌, ◌≤◌, List, [], ◌++◌, length, take, drop}
+use Rattle.std.proofs.Common.{◌≡◌, ◌≢◌, ◌⊎◌, inl, inr, ℕ, zero, suc, ◌+◌, ◌-◌, ◌<◌, ◌≤◌, List, [], ◌++◌, length, take}
 use Rattle.std.proofs.Common.{Bool, true, false, Option, None, Some, Result, Ok, Err, refl, ap, sym, subst, ◌∙◌}
-use Rattle.std.proofs.Common.{append-nil, append_assoc, arith}
+use Rattle.std.proofs.Common.{drop, append-nil, append_assoc, arith, length-drop}
 use Rattle.std.proofs.lemmas.List.{take-append-drop, take_rest}
 use Rattle.std.proofs.Math.Seq.{take-add}
 use Rattle.std.proofs.lemmas.Bool.{cases_lt}
@@ -18,7 +18,8 @@ use Rattle.capn_tool.specs.Served.{AddsPiece}
 use Rattle.capn_tool.specs.Sending.{Outgoing, Adds, SendsRest, outgoing, sent}
 use Rattle.capn_tool.specs.Streams.{texts_of}
 use Rattle.capn_tool.specs.Pieces.{IsPiece}
-use Rattle.capn_tool.specs.Heard.{IsDueSo, IsListening, Serves, ServesNext, Stops, Tells, fault_of}
+use Rattle.capn_stream.specs.Reading as frame_rules
+use Rattle.capn_tool.specs.Heard.{HasNoFrame, IsDueSo, IsListening, Serves, ServesNext, Stops, Tells, fault_of}
 use Rattle.capn_tool.specs.declared.plan.Piece.{Piece}
 use Rattle.capn_tool.specs.declared.fault.ToolFault.{ToolFault}
 use Rattle.capn_tool.specs.declared.fault.ToolFault.TheVariants as faults
@@ -213,6 +214,28 @@ module _ (piece : Piece) (limits : Bounds) (bytes : List ℕ) (at : ℕ) (a b : 
       here in
       subst (λ (p : List ℕ). Stops piece limits p a c failed fault) (take-append-drop at bytes)
       (stops_more piece limits (take at bytes) [] (drop at bytes) a b c failed fault told part)
+
+-- memory was refused after whole messages
+pub whole_memory : (piece : Piece) (limits : Bounds) (bytes : List ℕ) (at : ℕ) (a b : Outgoing)
+    → Tells piece limits (take at bytes) [] a b → (failed : Bool) → failed ≡ false
+    → Stops piece limits bytes a b failed faults.Memory
+whole_memory piece limits bytes at a b told failed fine =
+    let here = stops_memory piece limits (drop at bytes) b failed fine in
+    subst (λ (p : List ℕ). Stops piece limits p a b failed faults.Memory) (take-append-drop at bytes)
+    (stops_more piece limits (take at bytes) [] (drop at bytes) a b b failed faults.Memory told here)
+
+-- no whole message follows: what follows is refused,
+pub none_follows : (limits : Bounds) (bytes : List ℕ) (at most : ℕ) (e : FrameFault) → most ≡ limits.message_words
+    → e ≢ frame_faults.Memory → frame_rules.IsRefused (take (length bytes - at) (drop at bytes)) most e
+    → HasNoFrame limits (drop at bytes)
+none_follows limits bytes at most e same other refused =
+    let here = subst (λ (p : List ℕ). frame_rules.IsRefused p most e) (take_rest bytes at) refused in
+    (e, other, subst (λ (m : ℕ). frame_rules.IsRefused (drop at bytes) m e) same here)
+
+-- or nothing follows
+pub nothing_follows : (limits : Bounds) (bytes : List ℕ) (at : ℕ) → length bytes ≤ at
+    → HasNoFrame limits (drop at bytes)
+nothing_follows limits bytes at end = (frame_faults.Empty, λ h. cc, omega (arith, length-drop at bytes, end))
 
 -- none is held where not all bytes were taken
 pub some_none : (n size : ℕ) (rest : List ℕ) → (n ≡ size) ⊎ (rest ≡ []) → (n ≡ size → ⊥) → rest ≡ []

@@ -8,8 +8,9 @@ use Rattle.capn_words.specs.Watching.{HasBegun}
 use Rattle.capn_tool.specs.Line.{tool_line}
 use Rattle.capn_tool.specs.Meaning.{Means}
 use Rattle.capn_tool.specs.Misuse.{IsHelp, IsReason}
+use Rattle.capn_tool.specs.Sending.{EndsFlushed}
 use Rattle.capn_tool.specs.Status.{status_of}
-use Rattle.capn_tool.specs.Told.{Tells, TellsLine}
+use Rattle.capn_tool.specs.Told.{Tells, TellsLine, fault_line}
 use Rattle.capn_tool.specs.Text.{EndsAs, EndsBy, IsText, Begins}
 use Rattle.capn_tool.specs.Heard.{KeepsUp}
 use Rattle.capn_tool.specs.declared.orders.Command.{Command}
@@ -34,11 +35,19 @@ abbrev pub EndsOnly : Command → Option (List ℕ) → Option (List ℕ) → Re
 EndsOnly command c d outcome input =
     (text : List ℕ) (due : Result (Unit {0}) ToolFault) → IsText command input text due → EndsBy text due c d outcome
 
--- a command was carried out, over the input and the output, and ended so: with Io exactly where one of the two failed
+-- A command was carried out, over the input and the output, and ended so. Its run ended first, and by then the output
+-- had failed or not; then the output was flushed, which writes nothing. It ends with Io exactly where the input or the
+-- output failed in the run, or the run was done and the flush failed.
 pub record CarriesOut (command : Command) (input output : Course) (outcome : Result (Unit {0}) ToolFault) : Type 0 where
+  pub run : Result (Unit {0}) ToolFault
+  pub failed : Bool
+  pub ran : IfSome input.before (EndsAs command output.before output.after run)
+  pub stopped : IsErrOf run faults.Io ↔ ((input.failed ≡ true) ⊎ (failed ≡ true))
+  pub flushed : EndsFlushed run failed output.failed outcome
   pub exact : IfSome input.before (EndsAs command output.before output.after outcome)
   pub only : IfSome input.before (EndsOnly command output.before output.after outcome)
-  pub io : IsErrOf outcome faults.Io ↔ ((input.failed ≡ true) ⊎ (output.failed ≡ true))
+  pub io : IsErrOf outcome faults.Io
+      ↔ (((input.failed ≡ true) ⊎ (failed ≡ true)) ⊎ ((run ≡ Ok tt) × (output.failed ≡ true)))
   pub begun : Begins command input.before input.after output.before output.after
   pub heard : input.failed ≡ true → KeepsUp command input.before input.after output.before output.after
 
@@ -71,9 +80,11 @@ pub record EndsHelp (output errors : Course) (status : ℕ) : Type 0 where
   pub told : Tells outcome errors.before errors.after errors.failed
   pub is : status ≡ status_of outcome
 
--- a text was told on the errors, or a beginning of it where they have failed
+-- a text was told on the errors, or the line of Memory if there was no memory for the text; or a beginning of that,
+-- where the errors have failed
 abbrev pub TellsText : Course → Type 0
-TellsText errors = (text : List ℕ) × TellsLine text errors.before errors.after errors.failed
+TellsText errors = ((text : List ℕ) × TellsLine text errors.before errors.after errors.failed)
+    ⊎ TellsLine (fault_line faults.Memory) errors.before errors.after errors.failed
 
 -- The words order nothing, for a reason of this kind: memory was refused, help is wished for, or they are a mistake.
 pub record EndsUnordered (kind : ErrorKind) (output errors : Course) (status : ℕ) : Type 0 where

@@ -1,6 +1,6 @@
 -- A stream of messages that is read in pieces: what has been told of the bytes that came. (Own.)
-use Rattle.std.specs.Prelude.{◌≡◌, ◌⊎◌, ◌↔◌, ℕ, ◌<◌, ◌≤◌, List, [], ◌++◌, length, take, Bool, true, false, Option}
-use Rattle.std.specs.Prelude.{IfSome, Result, Ok, Err}
+use Rattle.std.specs.Prelude.{◌≡◌, ◌≢◌, ◌⊎◌, ◌↔◌, ℕ, ◌<◌, ◌≤◌, List, [], ◌++◌, length, take, drop, Bool, true}
+use Rattle.std.specs.Prelude.{false, Option, IfSome, Result, Ok, Err}
 use Rattle.std.specs.Io.KnownBytes.{Consumes, Appends}
 use Rattle.capn_walk.specs.Limits.{Bounds}
 use Rattle.capn_stream.specs.Framing.{Framing, IsUnfinished}
@@ -76,10 +76,20 @@ ServesNext piece limits before bytes old new failed (Ok n) after =
 ServesNext piece limits before bytes old new failed (Err fault) after =
     Stops piece limits (before.rest ++ bytes) old new failed fault
 
--- so many bytes that stand first are whole messages, and were served, or the run stopped among them
+-- a run goes on where no whole message stands first, or stops since memory was refused
+abbrev pub Passes : FrameFault → Result (Unit {0}) ToolFault → Type 0
+Passes fault (Ok u) = fault ≢ frames.Memory
+Passes fault (Err e) = (fault ≡ frames.Memory) × (e ≡ faults.Memory)
+
+-- no whole message stands first in these bytes, by what they say and not since memory was refused
+abbrev pub HasNoFrame : Bounds → List ℕ → Type 0
+HasNoFrame limits bytes =
+    (e : FrameFault) × (e ≢ frames.Memory) × frame_rules.IsRefused bytes limits.message_words e
+
+-- the first n bytes are whole messages and were served, and no whole message follows; or the run stopped among them
 abbrev pub ServesWhole : Piece → Bounds → List ℕ → Outgoing → Outgoing → Bool → Result ℕ ToolFault → Type 0
 ServesWhole piece limits bytes old new failed (Ok n) = (n ≤ length bytes) × Tells piece limits (take n bytes) [] old new
-    × (failed ≡ false)
+    × (failed ≡ false) × HasNoFrame limits (drop n bytes)
 ServesWhole piece limits bytes old new failed (Err fault) = Stops piece limits bytes old new failed fault
 
 -- all that is due for the bytes that a reader gave was written

@@ -1,5 +1,5 @@
 -- What a run has handed to its writer, and the text that it keeps to hand over with what comes next. (Own.)
-use Rattle.std.specs.Prelude.{◌≡◌, ◌⊎◌, ℕ, List, [], ◌++◌, take, Bool, true, false, Option, Result, Err}
+use Rattle.std.specs.Prelude.{◌≡◌, ◌⊎◌, ℕ, List, [], ◌++◌, take, Bool, true, false, Option, Result, Ok, Err}
 use Rattle.std.specs.Io.KnownBytes.{Appends}
 use Rattle.capn_words.specs.Watching.{HasBegun}
 use Rattle.capn_tool.specs.declared.fault.ToolFault.{ToolFault}
@@ -34,6 +34,7 @@ SendsRest served text old new true failed result = (new ≡ old) × (failed ≡ 
 SendsRest served text old new false false result = Appends old new text × (result ≡ served)
 SendsRest served text old new false true result = HasBegun old new text × (result ≡ Err faults.Io)
 
--- behind a flush a run ends as it did, and with Io where the flush failed
+-- After a flush a run that was done ends as it did, or with Io if the flush failed. Any other run ends as it did.
 abbrev pub EndsFlushed : Result (Unit {0}) ToolFault → Bool → Bool → Result (Unit {0}) ToolFault → Type 0
-EndsFlushed outcome old new result = ((result ≡ outcome) × (new ≡ old)) ⊎ ((result ≡ Err faults.Io) × (new ≡ true))
+EndsFlushed (Ok u) old new result = ((result ≡ Ok u) × (new ≡ old)) ⊎ ((result ≡ Err faults.Io) × (new ≡ true))
+EndsFlushed (Err fault) old new result = (result ≡ Err fault) × ((new ≡ old) ⊎ (new ≡ true))

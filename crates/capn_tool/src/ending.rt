@@ -10,6 +10,7 @@ use crate::fault::ToolFault;
 use capn_value::Memory;
 use capn_words::Watched;
 use std::alloc::Allocator;
+use std::fmt;
 use std::io::Write;
 
 /// The exit status of a run: 0 where it is done, 1 where the input is refused, 3 where memory, the reader or the
@@ -24,18 +25,40 @@ pub fn status(outcome: &Result<(), ToolFault>) -> u8
     }
 }
 
-/// The text of a fault, as the program prints it behind `capn: `. `Memory` where the text finds none.
+/// A fault of which the text is shown. A `ToolFault` itself shows the name of its variant.
+#[derive(Drop)]
+struct Text(ToolFault);
+
+impl fmt::Display for Text {
+    ghost use Rattle.std.specs.Prelude.{Some};
+
+    ghost output = { λ text. Some (spec.fault_text text.0) };
+
+    fn fmt<W: fmt::Write>(&self, f: &mut fmt::Formatter<W>) -> fmt::Result {
+        match &self.0 {
+            ToolFault::Memory => write!(f, "out of memory"),
+            ToolFault::Io => write!(f, "input or output failed"),
+            ToolFault::InputTooLong => write!(f, "input too long"),
+            ToolFault::NotWhole(length) => write!(f, "NotWhole({length})"),
+            ToolFault::Refused(refusal) => write!(f, "{refusal}"),
+        }
+    }
+}
+
+/// The text of a fault, as the program prints it after `capn: `. `Memory` if there is none for the text.
 pub fn fault_text<A: Allocator>(alloc: A, fault: &ToolFault) -> Result<String<A>, Memory>
     ensures { IfOk result (λ text. string_bytes text ≡ spec.fault_text fault.now) }
 {
-    Ok(format!(in alloc; "{fault}")?)
+    let text = Text(*fault);
+    Ok(format!(in alloc; "{text}")?)
 }
 
-/// The line that tells a fault.
+/// The line that the program prints for a fault.
 fn fault_line<A: Allocator + Copy>(alloc: A, fault: &ToolFault) -> Result<String<A>, Memory>
     ensures { IfOk result (λ line. string_bytes line ≡ spec.fault_line fault.now) }
 {
-    Ok(format!(in alloc; "capn: {fault}\n")?)
+    let text = Text(*fault);
+    Ok(format!(in alloc; "capn: {text}\n")?)
 }
 
 /// Writes the line of a fault, or that of want of memory where the line finds none.

@@ -7,42 +7,28 @@ use capn_canon::Refusal;
 use capn_value::Memory;
 use capn_walk::{Fault, Stopped};
 use std::alloc::AllocError;
-use std::error::Error;
-use std::fmt;
+use thiserror::Error;
 
-/// Why a run stops.
-#[derive(Clone, Copy, Debug, PartialEq, Eq)]
+/// Why a run stops. `{}` shows the name of the variant alone; [`fault_text`](crate::fault_text) is the text for the
+/// user.
+#[derive(Clone, Copy, Debug, PartialEq, Eq, Error)]
 pub enum ToolFault {
     /// Memory was refused.
+    #[error("Memory")]
     Memory,
     /// The reader or the writer failed.
+    #[error("Io")]
     Io,
     /// The input has a byte past the 2^32 that one run takes.
+    #[error("InputTooLong")]
     InputTooLong,
     /// The input, of this many bytes, is not whole words.
+    #[error("NotWhole")]
     NotWhole(u64),
     /// The input has no answer.
+    #[error("Refused")]
     Refused(Refusal),
 }
-
-impl fmt::Display for ToolFault {
-    ghost use Rattle.std.specs.Prelude.{Some};
-    ghost use Rattle.capn_tool.specs.Told.{fault_text};
-
-    ghost output = { λ fault. Some (fault_text fault) };
-
-    fn fmt<W: fmt::Write>(&self, f: &mut fmt::Formatter<W>) -> fmt::Result {
-        match self {
-            ToolFault::Memory => write!(f, "out of memory"),
-            ToolFault::Io => write!(f, "input or output failed"),
-            ToolFault::InputTooLong => write!(f, "input too long"),
-            ToolFault::NotWhole(length) => write!(f, "NotWhole({length})"),
-            ToolFault::Refused(refusal) => write!(f, "{refusal}"),
-        }
-    }
-}
-
-impl Error for ToolFault {}
 
 impl From<AllocError> for ToolFault {
     ghost from_gives = { λ _ e. e ≡ fault.Memory };

@@ -5,7 +5,7 @@ ghost use Rattle.std.specs.Prelude.{◌≡◌, ◌⊎◌, ◌≤◌, ◌^◌, []
 ghost use Rattle.capn_words.specs.Watching.{inner_of, has_failed};
 ghost use Rattle.capn_stream.specs.Framing.{IsUnfinished};
 ghost use Rattle.capn_tool.specs.Heard as spec;
-ghost use Rattle.capn_tool.specs.Heard.{EndsInput, IsListening, Runs, Serves, ServesNext, ServesWhole};
+ghost use Rattle.capn_tool.specs.Heard.{EndsInput, IsListening, Passes, Runs, Serves, ServesNext, ServesWhole};
 ghost use Rattle.capn_tool.specs.Sending.{outgoing, sent};
 ghost use Rattle.capn_tool.specs.declared.plan.Plan.TheVariants as plans;
 
@@ -56,8 +56,18 @@ fn serve_next<W: Write, A: Allocator + Copy>(
     }
 }
 
+/// Goes on where no whole message stands first, for this reason, unless memory was refused.
+fn pass(fault: FrameFault) -> Result<(), ToolFault>
+    ensures { Passes fault result }
+{
+    match fault {
+        FrameFault::Memory => Err(ToolFault::Memory),
+        _ => Ok(()),
+    }
+}
+
 /// Adds the pieces of the messages that lie whole in these bytes, of which no byte is copied. Answers how many bytes
-/// they take. Why no other follows is for the framer to say.
+/// they take: no whole message follows. Why none does is for the framer to say.
 fn serve_whole<W: Write, A: Allocator + Copy>(
     service: &Service<A>,
     bytes: &[u8],
@@ -76,7 +86,10 @@ fn serve_whole<W: Write, A: Allocator + Copy>(
                 add_piece(service, &message, text, writer)?;
                 at += taken;
             }
-            Err(_) => return Ok(at),
+            Err(fault) => {
+                pass(fault)?;
+                return Ok(at);
+            }
         }
     }
     Ok(at)

@@ -11,15 +11,14 @@ ghost use Rattle.capn_tool.specs.Misuse.{IsReason, Orders, error_of};
 use crate::help;
 use crate::misuse::Usage;
 use crate::orders::Command;
-use crate::subcommands::tool_command;
+use crate::subcommands::{tool_command, value_error};
 use capn_canon::Form;
 use capn_stream::MOST_TABLE_WORDS;
 use capn_value::Tariff;
 use capn_walk::Limits;
 use capn_words::MOST_MESSAGE_WORDS;
 use clap::ArgMatches;
-use clap::error::ErrorKind;
-use std::alloc::{AllocError, Global};
+use std::alloc::Global;
 use std::convert::AsStr;
 
 /// The form that `--form` names, if it names one.
@@ -120,37 +119,24 @@ fn order_of(name: &str, matches: &ArgMatches) -> Option<Command>
     }
 }
 
-/// What is said of the value that a command over messages does not take: that of `--form`, or else that of `--tariff`.
-fn mistake_of(matches: &ArgMatches) -> &'static str {
+/// The command over messages that has an option with a value that it does not take, and what is said of that: of
+/// `--form`, or else of `--tariff`.
+fn mistake_of<'a>(matches: &'a ArgMatches) -> (&'a str, &'static str) {
     match matches.subcommand() {
-        Some((_, found)) => match form_of(found) {
-            Some(_) => help::NO_SUCH_TARIFF,
-            None => help::NO_SUCH_FORM,
+        Some((name, found)) => match form_of(found) {
+            Some(_) => (name, help::NO_SUCH_TARIFF),
+            None => (name, help::NO_SUCH_FORM),
         },
-        None => help::NO_SUCH_FORM,
-    }
-}
-
-/// The parser's error for an option whose value the command does not take.
-fn value_error(alloc: Global, text: &str) -> Result<clap::Error, AllocError>
-    ensures { IfOk result (λ e. kind_of e ≡ kinds.InvalidValue) }
-{
-    match tool_command(alloc) {
-        Ok(mut tool) => {
-            let error = tool.error(ErrorKind::InvalidValue, text);
-            // One call is cheaper to check than fields that are dropped one by one.
-            drop(tool);
-            error
-        }
-        Err(error) => Err(error),
+        None => ("", help::NO_SUCH_FORM),
     }
 }
 
 /// What is answered where an option has a value that the command does not take.
-fn no_such_value(alloc: Global, text: &str) -> Usage
+fn no_such_value(alloc: Global, matches: &ArgMatches) -> Usage
     ensures { (kind_of (error_of result) ≡ kinds.OutOfMemory) ⊎ (kind_of (error_of result) ≡ kinds.InvalidValue) }
 {
-    match value_error(alloc, text) {
+    let (name, text) = mistake_of(matches);
+    match value_error(alloc, name, text) {
         Ok(error) => error.into(),
         Err(error) => error.into(),
     }
@@ -189,6 +175,6 @@ pub fn command_of<'a, S: AsStr>(alloc: Global, words: &'a [S]) -> Result<Command
     };
     match order {
         Some(command) => Ok(command),
-        None => Err(no_such_value(alloc, mistake_of(&matches))),
+        None => Err(no_such_value(alloc, &matches)),
     }
 }

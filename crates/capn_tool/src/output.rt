@@ -41,7 +41,8 @@ pub(crate) fn send_rest<W: Write>(
     served
 }
 
-/// Flushes the writer behind a run that ended so. The run ends so, or with `Io` where the flush fails.
+/// Flushes the writer after a run that ended so. A run that was done ends with `Io` if the flush fails; any other ends
+/// as it did.
 pub(crate) fn flush_behind<W: Write>(
     outcome: Result<(), ToolFault>,
     writer: &mut Watched<W>,
@@ -49,8 +50,10 @@ pub(crate) fn flush_behind<W: Write>(
     ensures kept { Keeps (W.contents (inner_of writer.old)) (W.contents (inner_of writer.new)) }
     ensures ended { EndsFlushed outcome (has_failed writer.old) (has_failed writer.new) result }
 {
-    match writer.flush() {
-        Ok(()) => outcome,
+    let flushed = writer.flush();
+    outcome?;
+    match flushed {
+        Ok(()) => Ok(()),
         Err(_) => Err(ToolFault::Io),
     }
 }

@@ -1,10 +1,12 @@
 //! The program: from the words of the command line to the exit status.
 
-ghost use Rattle.std.specs.Prelude.{◌≡◌, List, ℕ, map, false};
+ghost use Rattle.std.specs.Prelude.{◌≡◌, List, ℕ, map, false, IfOk, IfErr, string_bytes};
 ghost use Rattle.clap.specs.Words.{kind_of};
 ghost use Rattle.capn_words.specs.Watching.{inner_of, has_failed};
 ghost use Rattle.capn_tool.specs.Ends.{CarriesOut, Ends, EndsUnordered, ShowsHelp, TellsText, course};
 ghost use Rattle.capn_tool.specs.Misuse.{WishesHelp, error_of};
+ghost use Rattle.capn_tool.specs.Told.{TellsLine, fault_line};
+ghost use Rattle.capn_tool.specs.declared.fault.ToolFault.TheVariants as faults;
 
 use crate::ending::end;
 use crate::fault::ToolFault;
@@ -14,14 +16,15 @@ use crate::orders::Command;
 use crate::output::{flush_behind, write_all};
 use crate::running::run;
 use capn_words::Watched;
-use std::alloc::Global;
+use std::alloc::{AllocError, Global};
 use std::convert::AsStr;
 use std::io::{Read, Write};
 
 /// The exit status of a mistake on the command line.
 const MISTAKE: u8 = 2;
 
-/// Carries a command out, and flushes the output. It ends as the run does, or with `Io` where the flush fails.
+/// Carries a command out, and flushes the output. It ends as the run does, or with `Io` if the run is done and the
+/// flush fails.
 fn carry_out<R: Read, W: Write>(
     alloc: Global,
     command: Command,
@@ -54,16 +57,27 @@ fn show_help<W: Write>(
     flush_behind(Ok(()), writer)
 }
 
-/// Writes what is said of a mistake, or the line of want of memory where that finds none.
+/// Writes what is said of a mistake, or the line of `Memory` if there was no memory for that.
+fn tell_said<E: Write>(said: Result<String, AllocError>, errors: &mut Watched<E>)
+    requires { has_failed errors.old ≡ false }
+    ensures text { IfOk said (λ text. TellsLine (string_bytes text)
+        (E.contents (inner_of errors.old)) (E.contents (inner_of errors.new)) (has_failed errors.new)) }
+    ensures memory { IfErr said (λ _. TellsLine (fault_line faults.Memory)
+        (E.contents (inner_of errors.old)) (E.contents (inner_of errors.new)) (has_failed errors.new)) }
+{
+    let _told = match said {
+        Ok(text) => errors.write_all(text.as_bytes()),
+        Err(_) => errors.write_all(b"capn: out of memory\n"),
+    };
+}
+
+/// Writes what is said of a mistake, or the line of `Memory` if there is no memory for that.
 fn tell_mistake<E: Write>(alloc: Global, usage: &Usage, errors: &mut Watched<E>)
     requires { has_failed errors.old ≡ false }
     ensures { TellsText
         (course (E.contents (inner_of errors.old)) (E.contents (inner_of errors.new)) (has_failed errors.new)) }
 {
-    let _told = match usage.text(alloc) {
-        Ok(text) => errors.write_all(text.as_bytes()),
-        Err(_) => errors.write_all(b"capn: out of memory\n"),
-    };
+    tell_said(usage.text(alloc), errors);
 }
 
 /// Ends where the words of the command line order nothing.
@@ -92,11 +106,11 @@ fn end_unordered<W: Write, E: Write>(
 /// The whole program, from the words of the command line, the first of them its name, to the exit status.
 ///
 /// It carries out the command that the words order, from the reader to the writer, as [`run`] promises, and flushes the
-/// writer; a failed flush ends it as a failed output does. The status is 0 where that is done, 1 where the input is
-/// refused, and 3 where memory, the input or the output failed or the input is too long; with 1 and 3 one line on
-/// `errors` tells why, `capn: ` and the text of the fault, or where that text finds no memory `capn: out of memory`.
-/// Words that order nothing end with 2 and are told on `errors`; a wish for help is served on the writer, and ends with
-/// 0, or with 3 where that fails.
+/// writer. If the run is done and the flush fails, it ends as a failed output does; after any other run a failed flush
+/// changes nothing. The status is 0 if all is done, 1 if the input is refused, and 3 if memory, the input or the output
+/// failed or the input is too long. With 1 and 3 one line on `errors` says why: `capn: ` and the text of the fault, or
+/// `capn: out of memory` if there is no memory for that text. A command line that names no command ends with 2, and
+/// `errors` says what is wrong with it. Help is written to the writer and ends with 0, or with 3 if that fails.
 pub fn program<'a, S: AsStr, R: Read, W: Write, E: Write>(
     alloc: Global,
     words: &'a [S],

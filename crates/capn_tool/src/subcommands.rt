@@ -1,7 +1,8 @@
 //! The command line: the subcommands, their options, and what help says of each.
 
 ghost use Rattle.std.specs.Prelude.{◌≡◌, IfOk, false};
-ghost use Rattle.clap.specs.Words.{App, app_of, rule_of, new_app, with_subcommand};
+ghost use Rattle.clap.specs.Words.{App, app_of, kind_of, rule_of, new_app, with_subcommand};
+ghost use Rattle.clap.specs.declared.error.ErrorKind.TheVariants as kinds;
 ghost use Rattle.clap.specs.declared.builder.command.Command.TheViews.{out-Command};
 ghost use Rattle.capn_tool.specs.Line.{HasLine, usual_rule, number_rule, words_rule, budget_rule, depth_rule};
 ghost use Rattle.capn_tool.specs.Line.{message_line, unpack_line, reading_line, messages_line};
@@ -11,6 +12,7 @@ use crate::help::{self, Page};
 use capn_value::{MOST_COST, MOST_HEIGHT};
 use capn_words::MOST_MESSAGE_WORDS;
 use clap::builder::ValueParser;
+use clap::error::ErrorKind;
 use clap::{Arg, Command};
 use std::alloc::{AllocError, Global};
 
@@ -80,6 +82,16 @@ fn depth_option<'a>(alloc: Global) -> Arg<'a>
     number_option(alloc, "depth", help::DEPTH, "64", 1, MOST_HEIGHT as i64)
 }
 
+/// The page of help of a command over messages.
+fn page_of(name: &str) -> Page {
+    match name {
+        "show" => help::SHOW,
+        "check" => help::CHECK,
+        "canonical" => help::CANONICAL,
+        _ => help::HASH,
+    }
+}
+
 /// A command of this name without options, with its page of help.
 fn plain_command<'a>(alloc: Global, name: &'a str, page: Page) -> Command<'a>
     ensures app { app_of result ≡ new_app name.now }
@@ -88,13 +100,24 @@ fn plain_command<'a>(alloc: Global, name: &'a str, page: Page) -> Command<'a>
     Command::new(alloc, name)
         .about(page.about)
         .after_help(page.more)
+        .override_usage(page.usage)
+}
+
+/// The parser's error for a value that an option of a command over messages does not take, with that command's usage.
+pub(crate) fn value_error(alloc: Global, name: &str, text: &str) -> Result<clap::Error, AllocError>
+    ensures { IfOk result (λ e. kind_of e ≡ kinds.InvalidValue) }
+{
+    let mut command = plain_command(alloc, name, page_of(name));
+    let error = command.error(ErrorKind::InvalidValue, text);
+    // One call is cheaper to check than fields that are dropped one by one.
+    drop(command);
+    error
 }
 
 /// A command over messages: with `--form`, which has this help, the three limits and the tariff.
 fn message_command<'a>(
     alloc: Global,
     name: &'a str,
-    page: Page,
     forms: &'a str,
 ) -> Result<Command<'a>, AllocError>
     ensures { IfOk result (λ c. HasLine c (message_line name.now)) }
@@ -106,7 +129,7 @@ fn message_command<'a>(
         depth_option(alloc),
         usual_option(alloc, "tariff", "TARIFF", help::TARIFF, "strict"),
     ]?;
-    plain_command(alloc, name, page).args(options)
+    plain_command(alloc, name, page_of(name)).args(options)
 }
 
 /// `unpack` and its option.
@@ -145,13 +168,12 @@ fn with_messages<'a>(
     program: Result<Command<'a>, AllocError>,
     alloc: Global,
     name: &'a str,
-    page: Page,
     forms: &'a str,
 ) -> Result<Command<'a>, AllocError>
     ensures { (top : App) → IfOk program.entry (λ c. app_of c ≡ top)
         → IfOk result (λ c. app_of c ≡ with_subcommand top (message_line name.now).top) }
 {
-    let command = message_command(alloc, name, page, forms);
+    let command = message_command(alloc, name, forms);
     with_command(program, command)
 }
 
@@ -161,8 +183,8 @@ fn reading_command<'a>(alloc: Global) -> Result<Command<'a>, AllocError>
 {
     let forms = help::FORMS_OF_MESSAGES;
     let top = plain_command(alloc, "capn", help::PROGRAM).subcommand_required(true);
-    let with_show = with_messages(Ok(top), alloc, "show", help::SHOW, forms);
-    with_messages(with_show, alloc, "check", help::CHECK, forms)
+    let with_show = with_messages(Ok(top), alloc, "show", forms);
+    with_messages(with_show, alloc, "check", forms)
 }
 
 /// The program with the four commands over messages.
@@ -171,8 +193,8 @@ fn messages_command<'a>(alloc: Global) -> Result<Command<'a>, AllocError>
 {
     let (of_one, of_each) = (help::FORMS_OF_ONE, help::FORMS_OF_MESSAGES);
     let reading = reading_command(alloc);
-    let with_canonical = with_messages(reading, alloc, "canonical", help::CANONICAL, of_one);
-    with_messages(with_canonical, alloc, "hash", help::HASH, of_each)
+    let with_canonical = with_messages(reading, alloc, "canonical", of_one);
+    with_messages(with_canonical, alloc, "hash", of_each)
 }
 
 /// The whole command line.

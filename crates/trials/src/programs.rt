@@ -5,12 +5,13 @@ use capn_words::Watched;
 use std::alloc::Global;
 use std::io::{self, Error, ErrorKind, Write};
 
-/// A writer that takes every byte, or fails at the first, or fails at the flush.
+/// A writer that takes every byte, or fails at the first, or fails at the flush. It counts its flushes.
 #[derive(Drop)]
 struct Page {
     bytes: Vec<u8>,
     takes: bool,
     flushes: bool,
+    flushed: usize,
 }
 
 impl Write for Page {
@@ -23,6 +24,7 @@ impl Write for Page {
     }
 
     fn flush(&mut self) -> io::Result<()> {
+        self.flushed = self.flushed.saturating_add(1);
         if !self.flushes {
             return Err(Error::from(ErrorKind::Other));
         }
@@ -36,16 +38,17 @@ fn blank(alloc: Global, takes: bool, flushes: bool) -> Page {
         bytes: Vec::new(alloc),
         takes,
         flushes,
+        flushed: 0,
     }
 }
 
-/// What the program ends with, writes and tells of errors, for these words and this input, over such an output.
-fn ended(alloc: Global, words: &[&str], input: &[u8], output: Page) -> (u8, Vec<u8>, Vec<u8>) {
+/// What the program ends with, and the output and the errors then, for these words and this input, over such an output.
+fn ended(alloc: Global, words: &[&str], input: &[u8], output: Page) -> (u8, Page, Page) {
     let mut reader = Watched::new(input);
     let mut writer = Watched::new(output);
     let mut errors = Watched::new(blank(alloc, true, true));
     let code = program(alloc, words, &mut reader, &mut writer, &mut errors);
-    (code, writer.into_inner().bytes, errors.into_inner().bytes)
+    (code, writer.into_inner(), errors.into_inner())
 }
 
 /// A stream of one message: a struct of one word.
@@ -59,7 +62,7 @@ const PRICE: &[u8] = b"ok paid 2 visits 1\n";
 /// The line of an output that failed.
 const FAILED: &[u8] = b"capn: input or output failed\n";
 
-/// Whether the program ends with this status, writes this and tells this.
+/// Whether the program ends with this status, writes this and tells this, and flushes its output once.
 fn is_ended(
     alloc: Global,
     words: &[&str],
@@ -68,7 +71,10 @@ fn is_ended(
     want: (u8, &[u8], &[u8]),
 ) -> bool {
     let (code, written, told) = ended(alloc, words, input, output);
-    code == want.0 && written.as_slice() == want.1 && told.as_slice() == want.2
+    code == want.0
+        && written.bytes.as_slice() == want.1
+        && written.flushed == 1
+        && told.bytes.as_slice() == want.2
 }
 
 #[test]
@@ -79,7 +85,8 @@ fn each_status_of_a_run(rt: HostRuntime) {
         (9, true, true, 1, b"", cut),
         (24, false, true, 3, b"", FAILED),
         (24, true, false, 3, PRICE, FAILED),
-        (9, true, false, 3, b"", FAILED),
+        // A flush that fails after a refusal changes neither the status nor the line.
+        (9, true, false, 1, b"", cut),
     ] {
         let output = blank(rt.alloc(), takes, flushes);
         let want = (code, written, told);
@@ -98,7 +105,7 @@ fn each_status_of_a_run(rt: HostRuntime) {
 /// Whether the words are a mistake: nothing is written, and what is told begins so.
 fn is_mistake(alloc: Global, words: &[&str], line: &[u8]) -> bool {
     let (code, written, told) = ended(alloc, words, &STREAM, blank(alloc, true, true));
-    code == 2 && written.is_empty() && told.as_slice().starts_with(line)
+    code == 2 && written.bytes.is_empty() && told.bytes.as_slice().starts_with(line)
 }
 
 #[test]
@@ -116,8 +123,8 @@ fn is_helped(alloc: Global, output: Page, code: u8, is_written: bool, line: &[u8
     let words = ["capn", "pack", "--help"];
     let (status, written, told) = ended(alloc, &words, &STREAM, output);
     status == code
-        && written.as_slice().starts_with(b"capn 0.1.0: ") == is_written
-        && told.as_slice() == line
+        && written.bytes.as_slice().starts_with(b"capn 0.1.0: ") == is_written
+        && told.bytes.as_slice() == line
 }
 
 #[test]

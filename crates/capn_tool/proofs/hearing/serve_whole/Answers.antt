@@ -1,6 +1,6 @@
 use Rattle.std.proofs.Common.{◌-◌, length, drop, arith, length-drop, length-take}
 use Rattle.std.proofs.lemmas.Result.{err_from_is_err_and}
-use Rattle.capn_tool.proofs.HeardNext.{whole_more, whole_moves, whole_stop}
+use Rattle.capn_tool.proofs.HeardNext.{none_follows, nothing_follows, whole_memory, whole_more, whole_moves, whole_stop}
 use Rattle.capn_tool.proofs.hearing.serve_whole.Goals as goal
 
 pub returns-in_err-add_piece-in-Ok : goal.returns-in_err-add_piece-in-Ok
@@ -33,3 +33,30 @@ loop-at-preserved g c =
           c.in-Ok.taken
           c.message_words.result c.message_words.ensures.value found _ next.0 next.1 next.2;
     }
+
+pub returns-in_err-pass-in-Err : goal.returns-in_err-pass-in-Err
+returns-in_err-pass-in-Err g c =
+    let from = c.from_residual-in_err-pass-in-Err in
+    let p = err_from_is_err_and from.result from.ensures.1 in
+    rw (p.1, p.2, c.in_err-pass-in-Err.ensures.1)
+    (whole_memory c.args.service.now.piece c.args.service.now.limits c.args.bytes.now c.loop-at.at _ _
+    c.loop-at.invariant.told _ c.loop-at.invariant.fine)
+
+pub returns-in-Err : goal.returns-in-Err
+returns-in-Err g c =
+    let i = c.loop-at.invariant in (
+      i.within,
+      i.told,
+      i.fine,
+      none_follows c.args.service.now.limits c.args.bytes.now c.loop-at.at c.message_words.result _
+          c.message_words.ensures.value c.in_ok-pass-in-Err.ensures c.in-Err.ensures.refused,
+    )
+
+pub returns : goal.returns
+returns g c =
+    let i = c.loop-at.invariant in (
+      i.within,
+      i.told,
+      i.fine,
+      nothing_follows c.args.service.now.limits c.args.bytes.now c.loop-at.at c.loop-at-test.false,
+    )

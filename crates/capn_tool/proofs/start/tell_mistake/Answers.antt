@@ -1,7 +1,16 @@
-use Rattle.capn_tool.proofs.Shown.{told}
+use Rattle.std.proofs.Common.{inl, inr, ℕ, List, Result, Ok, Err, IfOk, IfErr, string_bytes, String}
+use Rattle.capn_tool.specs.Ends.{Course, TellsText}
+use Rattle.capn_tool.specs.Told.{TellsLine, fault_line}
+use Rattle.capn_tool.specs.declared.fault.ToolFault.TheVariants as faults
 use Rattle.capn_tool.proofs.start.tell_mistake.Goals as goal
 
-pub returns-in-Err : goal.returns-in-Err
-returns-in-Err g c =
-    let wrote = c.write_all-told-in-Err.ensures in
-    (_, told _ _ _ _ _ c.write_all-told-in-Err.result c.requires wrote.ok wrote.begun wrote.failed)
+-- a text was told, or Memory's line
+told_text : {A E : Type 0} (errors : Course) (said : Result (String A) E)
+    → IfOk said (λ text. TellsLine (string_bytes text) errors.before errors.after errors.failed)
+    → IfErr said (λ e. TellsLine (fault_line faults.Memory) errors.before errors.after errors.failed)
+    → TellsText errors
+told_text errors (Ok text) told memory = inl (string_bytes text, told)
+told_text errors (Err e) told memory = inr memory
+
+pub returns : goal.returns
+returns g c = told_text _ c.text.result c.tell_said.ensures.text c.tell_said.ensures.memory
