@@ -19,10 +19,7 @@ row_size bs = kept_words_of_rows bs + kept_slots_of_rows bs
 -- the words of a value's own content: what is kept of a struct, the elements of a list, a tag before rows (pages:
 -- structs, lists)
 abbrev pub own : Tree → ℕ
-own nil = 0
-own (cap k) = 0
 own (node ws ss) = kept_words ws + kept_slots ss
-own (voids n) = 0
 own (bits xs) = words_for (length xs)
 own (octets xs) = words_for (8 * length xs)
 own (pairs xs) = words_for (16 * length xs)
@@ -30,6 +27,7 @@ own (quads xs) = words_for (32 * length xs)
 own (octs xs) = length xs
 own (links ts) = count ts
 own (rows bs) = 1 + count_rows bs * row_size bs
+own _ = 0
 
 -- the words of a value with all that is below it (Own.)
 abbrev mutual
@@ -37,14 +35,7 @@ abbrev mutual
   size (node ws ss) = own (node ws ss) + sizes ss
   size (links ts) = own (links ts) + sizes ts
   size (rows bs) = own (rows bs) + sizes_in_rows bs
-  size nil = 0
-  size (cap k) = 0
-  size (voids n) = own (voids n)
-  size (bits xs) = own (bits xs)
-  size (octets xs) = own (octets xs)
-  size (pairs xs) = own (pairs xs)
-  size (quads xs) = own (quads xs)
-  size (octs xs) = own (octs xs)
+  size v = own v
 
   pub sizes : Trees → ℕ
   sizes no_trees = 0
@@ -111,14 +102,12 @@ abbrev mutual
       word_of (Node (pos (count_rows bs)) (kept_words_of_rows bs) (kept_slots_of_rows bs))
       ∷ (row_contents (kept_words_of_rows bs) (kept_slots_of_rows bs) bs (suc at) (at + own (rows bs))
       ++ lays_in_rows bs (at + own (rows bs)))
-  lay nil at = []
-  lay (cap k) at = []
-  lay (voids n) at = []
   lay (bits xs) at = packed 64 1 (own (bits xs)) (map from_bool xs)
   lay (octets xs) at = packed 8 8 (own (octets xs)) xs
   lay (pairs xs) at = packed 4 16 (own (pairs xs)) xs
   lay (quads xs) at = packed 2 32 (own (quads xs)) xs
   lay (octs xs) at = xs
+  lay _ at = []
 
   pub lays : Trees → ℕ → List ℕ
   lays no_trees at = []
