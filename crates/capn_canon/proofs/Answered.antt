@@ -8,9 +8,8 @@ use Rattle.capn_walk.specs.Limits.{Bounds}
 use Rattle.capn_walk.specs.Laws.Unique.{unique}
 use Rattle.capn_canon.specs.declared.form.Form.{Form}
 use Rattle.capn_canon.specs.Layout.{canon}
-use Rattle.capn_canon.specs.Denotes.{Denotes}
+use Rattle.capn_canon.specs.Denotes.{Denotes, AnswersMessage, Answers}
 use Rattle.capn_canon.specs.Reads.{Reads}
-use Rattle.capn_canon.specs.Answers.{AnswersMessage, Answers}
 use Rattle.capn_canon.specs.Canonicity.{IsCanonicalForm}
 use Rattle.capn_canon.proofs.Headline.{denoted_length, form_of_any}
 use Rattle.capn_canon.specs.Laws.OneReading.{is_message, one_message}

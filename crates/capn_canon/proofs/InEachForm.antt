@@ -14,11 +14,10 @@ use Rattle.capn_canon.specs.declared.refusal.Refusal.{Refusal}
 use Rattle.capn_canon.specs.declared.refusal.Refusal.TheVariants as refusals
 use Rattle.capn_canon.specs.Layout.{canon}
 use Rattle.capn_canon.specs.Reads.{IsFramed, Unpacks, Reads}
-use Rattle.capn_canon.specs.Denotes.{Denotes}
+use Rattle.capn_canon.specs.Denotes.{Denotes, AnswersMessage, Answers}
 use Rattle.capn_canon.specs.Refused.{IsRefusedMessage, IsRefused, IsPaidWithin}
 use Rattle.capn_canon.specs.Wanted.{MayWantBytes, MayWantBytesIn}
 use Rattle.capn_canon.specs.Canonicity.{IsCanonicalForm}
-use Rattle.capn_canon.specs.Answers.{AnswersMessage, Answers}
 use Rattle.capn_canon.specs.Outcomes.{AreCanonicalised}
 use Rattle.capn_canon.proofs.Answered.{answers_only, answers_length, answers_form}
 use Rattle.capn_canon.specs.Laws.NotRefused.{not_refused}

@@ -6,7 +6,7 @@ use Rattle.capn_value.specs.Tree.{Tree}
 use Rattle.capn_walk.specs.Accepted.{IsValueOf}
 use Rattle.capn_walk.specs.Limits.{Bounds}
 use Rattle.capn_canon.specs.declared.refusal.Refusal.{Refusal}
-use Rattle.capn_canon.specs.Answers.{AnswersMessage}
+use Rattle.capn_canon.specs.Denotes.{AnswersMessage}
 use Rattle.capn_canon.specs.Canonicity.{IsCanonicalForm}
 use Rattle.capn_canon.proofs.Answered.{answer_length, answer_form}
 

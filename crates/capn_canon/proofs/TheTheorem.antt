@@ -14,8 +14,7 @@ use Rattle.capn_canon.specs.declared.form.Form.TheVariants as forms
 use Rattle.capn_canon.specs.declared.refusal.Refusal.{Refusal}
 use Rattle.capn_canon.specs.declared.refusal.Refusal.TheVariants as refusals
 use Rattle.capn_canon.specs.declared.canonical.Canonical.{Canonical}
-use Rattle.capn_canon.specs.Denotes.{Denotes}
-use Rattle.capn_canon.specs.Answers.{Answers}
+use Rattle.capn_canon.specs.Denotes.{Denotes, Answers}
 use Rattle.capn_canon.specs.Refused.{IsRefused}
 use Rattle.capn_canon.specs.Theorem.{Answered, EqualExactly, OwnForm, WithinBudget}
 use Rattle.capn_canon.specs.Laws.NotRefused.{not_refused}

@@ -1,7 +1,5 @@
 -- Small messages computed from the definitions: from bytes to what they denote, and to its canonical bytes.
-use Rattle.std.proofs.Common.{◌≡◌, ◌≢◌, ℕ, zero, suc, ◌^◌, ◌<◌, ◌≤◌, List, [], ◌∷◌, ◌++◌, Some, None, length, refl}
-use Rattle.std.proofs.Common.{arith}
-use Rattle.std.proofs.Common.{inl, inr}
+use Rattle.std.proofs.Common.{◌≡◌, ℕ, zero, suc, ◌^◌, ◌<◌, List, [], ◌∷◌, ◌++◌, length, refl, arith, inl, inr}
 use Rattle.std.specs.Prelude.{slice_index}
 use Rattle.capn_words.specs.Words.{IsBare, word_bytes}
 use Rattle.capn_words.specs.Message.{segment_at}
@@ -22,8 +20,7 @@ use Rattle.capn_walk.specs.Visits.{visits, fails}
 use Rattle.capn_walk.specs.declared.target.Fault.TheVariants as faults
 use Rattle.capn_canon.specs.declared.form.Form.TheVariants as forms
 use Rattle.capn_canon.specs.declared.refusal.Refusal.TheVariants as refusals
-use Rattle.capn_canon.specs.Answers.{Answers}
-use Rattle.capn_canon.specs.Denotes.{Denotes}
+use Rattle.capn_canon.specs.Denotes.{Denotes, Answers}
 use Rattle.capn_canon.specs.Layout.{words, canon, point}
 use Rattle.capn_canon.specs.Reads.{IsFramed}
 use Rattle.capn_canon.specs.Refused.{IsRefused}

@@ -1,9 +1,11 @@
--- Which value bytes denote within limits.
-use Rattle.std.specs.Prelude.{ℕ, List}
+-- Which value bytes denote within limits, and what is answered of it: its canonical bytes and a price.
+use Rattle.std.specs.Prelude.{◌≡◌, ℕ, List, None}
 use Rattle.capn_value.specs.Tree.{Tree}
-use Rattle.capn_walk.specs.Accepted.{IsValueOf}
+use Rattle.capn_value.specs.Caps.{first_cap}
+use Rattle.capn_walk.specs.Accepted.{IsValueOf, paid}
 use Rattle.capn_walk.specs.Limits.{Bounds}
 use Rattle.capn_canon.specs.declared.form.Form.{Form}
+use Rattle.capn_canon.specs.Layout.{canon}
 use Rattle.capn_canon.specs.Reads.{Reads}
 
 -- the bytes are read as a message, which is accepted with the value at its root
@@ -11,3 +13,17 @@ pub record Denotes (form : Form) (bs : List ℕ) (limits : Bounds) (v : Tree) : 
   pub message : List (List ℕ)
   pub reads : Reads form bs limits.message_words message
   pub value : IsValueOf message limits v
+
+-- the message is accepted, its value has no capability, these are its canonical bytes, and its walk pays the price
+pub record AnswersMessage (message : List (List ℕ)) (limits : Bounds) (bytes : List ℕ) (price : ℕ) : Type 0 where
+  pub value : Tree
+  pub is : IsValueOf message limits value
+  pub free : first_cap value ≡ None
+  pub canonical : bytes ≡ canon value
+  pub priced : price ≡ paid message limits
+
+-- the bytes are read as a message with that answer
+pub record Answers (form : Form) (bs : List ℕ) (limits : Bounds) (bytes : List ℕ) (price : ℕ) : Type 0 where
+  pub message : List (List ℕ)
+  pub reads : Reads form bs limits.message_words message
+  pub answer : AnswersMessage message limits bytes price

@@ -18,10 +18,9 @@ use Rattle.capn_canon.specs.declared.form.Form.{Form}
 use Rattle.capn_canon.specs.declared.refusal.Refusal.{Refusal}
 use Rattle.capn_canon.specs.declared.refusal.Refusal.TheVariants as refusals
 use Rattle.capn_canon.specs.Layout.{canon}
-use Rattle.capn_canon.specs.Denotes.{Denotes}
+use Rattle.capn_canon.specs.Denotes.{Denotes, Answers}
 use Rattle.capn_canon.specs.Refused.{IsRefused}
 use Rattle.capn_canon.specs.declared.canonical.Canonical.{Canonical}
-use Rattle.capn_canon.specs.Answers.{Answers}
 use Rattle.capn_canon.specs.Canonicity.{IsCanonicalForm}
 use Rattle.capn_canon.specs.Theorem.{Answered, EqualExactly, OwnForm, WithinBudget}
 

@@ -9,7 +9,7 @@ use Rattle.capn_canon.specs.declared.form.Form.{Form}
 use Rattle.capn_canon.specs.declared.refusal.Refusal.{Refusal}
 use Rattle.capn_canon.specs.declared.refusal.Refusal.TheVariants as refusals
 use Rattle.capn_canon.specs.Layout.{canon}
-use Rattle.capn_canon.specs.Answers.{AnswersMessage, Answers}
+use Rattle.capn_canon.specs.Denotes.{AnswersMessage, Answers}
 use Rattle.capn_canon.specs.Surveys.{Surveys}
 use Rattle.capn_canon.specs.Refused.{IsRefusedMessage, IsRefused, IsUnacceptedIn, IsPaidWithin}
 use Rattle.capn_canon.specs.Wanted.{MayWantMemory, MayWantBytes, MayWantBytesIn}

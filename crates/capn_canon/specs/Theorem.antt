@@ -11,8 +11,7 @@ use Rattle.capn_canon.specs.declared.refusal.Refusal.{Refusal}
 use Rattle.capn_canon.specs.declared.refusal.Refusal.TheVariants as refusals
 use Rattle.capn_canon.specs.declared.canonical.Canonical.{Canonical}
 use Rattle.capn_canon.specs.Layout.{canon}
-use Rattle.capn_canon.specs.Denotes.{Denotes}
-use Rattle.capn_canon.specs.Answers.{Answers}
+use Rattle.capn_canon.specs.Denotes.{Denotes, Answers}
 
 -- For any bytes, form and limits, unless memory runs out, `canonicalise` succeeds if and only if the bytes denote a
 -- message without capabilities that is accepted within the limits.

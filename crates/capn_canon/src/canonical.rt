@@ -8,7 +8,7 @@ ghost use Rattle.capn_walk.specs.Stops.{root};
 ghost use Rattle.capn_walk.specs.At.{IsAt};
 ghost use Rattle.capn_walk.specs.Accepted.{IsValueOf};
 ghost use Rattle.capn_canon.specs.Layout.{canon};
-ghost use Rattle.capn_canon.specs.Answers.{AnswersMessage};
+ghost use Rattle.capn_canon.specs.Denotes.{AnswersMessage};
 ghost use Rattle.capn_canon.specs.Outcomes.{IsCanonicalised};
 ghost use Rattle.capn_canon.specs.Canonicity.{ReadsBack, PaysItsCost, IsItsOwnForm, IsFormExactlyOf};
 ghost use Rattle.capn_canon.specs.Refused.{IsRefusedMessage, IsPaidWithin};
