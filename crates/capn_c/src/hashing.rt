@@ -7,7 +7,7 @@ ghost use Rattle.capn_value.specs.Caps.{first_cap};
 ghost use Rattle.capn_walk.specs.Accepted.{IsBounded};
 ghost use Rattle.capn_canon.specs.Layout.{canon};
 ghost use Rattle.capn_canon.specs.Denotes.{Denotes};
-ghost use Rattle.capn_canon.specs.Answers.{Answers};
+ghost use Rattle.capn_canon.specs.Denotes.{Answers};
 ghost use Rattle.capn_canon.specs.Refused.{IsRefused};
 ghost use Rattle.capn_canon.specs.Wanted.{MayWantBytesIn};
 ghost use Rattle.capn_canon.specs.declared.refusal.Refusal.{Refusal as Refusals};

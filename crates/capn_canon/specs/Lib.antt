@@ -1,4 +1,3 @@
-pub mod Answers
 pub mod Canonicity
 pub mod Denotes
 pub mod Laws

@@ -26,7 +26,7 @@ use Rattle.capn_walk.specs.Limits.{Bounds}
 use Rattle.capn_walk.specs.Accepted.{IsValueOf}
 use Rattle.capn_walk.specs.Laws.Unique.{unique}
 use Rattle.capn_canon.specs.Layout.{canon}
-use Rattle.capn_canon.specs.Answers.{Answers}
+use Rattle.capn_canon.specs.Denotes.{Answers}
 use Rattle.capn_canon.specs.Denotes.{Denotes}
 use Rattle.capn_canon.specs.declared.form.Form.{Form}
 use Rattle.capn_canon.specs.declared.refusal.Refusal.{Refusal}

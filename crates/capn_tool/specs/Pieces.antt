@@ -13,7 +13,7 @@ use Rattle.capn_walk.specs.Accepted as walks
 use Rattle.capn_walk.specs.declared.walked.Stopped.{Stopped}
 use Rattle.capn_walk.specs.declared.target.Fault.TheVariants as walk_faults
 use Rattle.capn_canon.specs.Layout.{canon}
-use Rattle.capn_canon.specs.Answers.{AnswersMessage}
+use Rattle.capn_canon.specs.Denotes.{AnswersMessage}
 use Rattle.capn_canon.specs.Refused.{IsRefusedMessage}
 use Rattle.capn_canon.specs.declared.refusal.Refusal.{Refusal}
 use Rattle.capn_canon.specs.declared.refusal.Refusal.TheVariants as refusals

@@ -7,7 +7,7 @@ use Rattle.capn_pack.specs.Chosen.{Chosen}
 use Rattle.capn_pack.specs.Refusal as packs
 use Rattle.capn_pack.specs.declared.fault.UnpackFault.{UnpackFault}
 use Rattle.capn_pack.specs.declared.fault.UnpackFault.TheVariants as unpack_faults
-use Rattle.capn_canon.specs.Answers.{Answers}
+use Rattle.capn_canon.specs.Denotes.{Answers}
 use Rattle.capn_canon.specs.Refused.{IsRefused}
 use Rattle.capn_canon.specs.declared.refusal.Refusal.{Refusal}
 use Rattle.capn_canon.specs.declared.refusal.Refusal.TheVariants as refusals
