@@ -1,0 +1,55 @@
+"""The calls of c/capn.h for cffi, which compiles them over that header: where the two differ, the build fails.
+
+The library is linked into the module, and its names are seen by no other. CAPN_ARCHIVE names another archive than
+the one that `make library` leaves."""
+import os
+from pathlib import Path
+
+from cffi import FFI
+
+TOP = Path(__file__).resolve().parent.parent
+HEADER = TOP / "c" / "capn.h"
+ARCHIVE = Path(os.environ.get("CAPN_ARCHIVE", TOP / "build" / "libcapn.a")).resolve()
+if not ARCHIVE.is_file():
+    raise SystemExit(f"there is no {ARCHIVE}: run `make library` first, or name the archive by CAPN_ARCHIVE")
+
+DECLARED = """
+    enum { CAPN_STREAM, CAPN_PACKED, CAPN_BARE, ... };
+    enum { CAPN_STRICT, CAPN_PLAIN, ... };
+
+    typedef struct { uint32_t message_words, budget, depth, tariff; } capn_limits;
+    typedef struct {
+        uint64_t length, at;
+        uint32_t paid, visits, segment, word;
+    } capn_report;
+
+    typedef uint32_t capn_status;
+    enum {
+        CAPN_OK, CAPN_NO_ROOM, CAPN_NOT_CANONICAL, CAPN_MEMORY, CAPN_NOT_WHOLE, CAPN_BARE_TOO_LONG, CAPN_PACKED_CUT,
+        CAPN_PACKED_TOO_LONG, CAPN_FRAME_EMPTY, CAPN_TOO_MANY_SEGMENTS, CAPN_TOO_MANY_WORDS, CAPN_FRAME_CUT,
+        CAPN_TRAILING, CAPN_NO_ROOT, CAPN_ROOT_KIND, CAPN_RESERVED, CAPN_NO_SEGMENT, CAPN_PAD_RANGE, CAPN_BAD_PAD,
+        CAPN_RANGE, CAPN_BAD_TAG, CAPN_TAG_OVERRUN, CAPN_TOO_DEEP, CAPN_OVER_BUDGET, CAPN_CAPABILITY, ...
+    };
+
+    capn_status capn_canonical(uint32_t form, const uint8_t *bytes, size_t size, const capn_limits *limits,
+                               uint8_t *out, size_t room, capn_report *report);
+    capn_status capn_is_canonical(const uint8_t *bytes, size_t size, const capn_limits *limits, capn_report *report);
+    capn_status capn_hash(uint32_t form, const uint8_t *bytes, size_t size, const capn_limits *limits,
+                          uint8_t *digest, capn_report *report);
+    capn_status capn_check(uint32_t form, const uint8_t *bytes, size_t size, const capn_limits *limits,
+                           capn_report *report);
+    capn_status capn_pack(const uint8_t *bytes, size_t size, uint8_t *out, size_t room, capn_report *report);
+    capn_status capn_unpack(const uint8_t *bytes, size_t size, uint32_t max_words, uint8_t *out, size_t room,
+                            capn_report *report);
+"""
+
+binding = FFI()
+binding.cdef(DECLARED)
+binding.set_source(
+    "capn._capn",
+    '#include "capn.h"',
+    include_dirs=[str(HEADER.parent)],
+    extra_objects=[str(ARCHIVE)],
+    extra_link_args=["-Wl,--exclude-libs,ALL"],
+    depends=[str(HEADER), str(ARCHIVE), __file__],
+)

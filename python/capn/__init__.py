@@ -1,0 +1,10 @@
+"""Checks, canonicalises, hashes and packs Cap'n Proto messages, without a schema, by proved code.
+
+Each call takes any object that has a buffer, and one message in it. It raises `Refusal` where the program `capn`
+refuses, and `MemoryError` where memory runs out; `TypeError` and `ValueError` for arguments that are wrong in
+themselves, before any byte is read. Other threads run meanwhile, so nothing may change the bytes until it returns."""
+from ._calls import Checked, canonical, check, digest, is_canonical, pack, unpack
+from ._limits import Limits
+from ._refusal import Refusal
+
+__all__ = ["Checked", "Limits", "Refusal", "canonical", "check", "digest", "is_canonical", "pack", "unpack"]

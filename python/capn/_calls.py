@@ -1,0 +1,156 @@
+"""The six calls."""
+from __future__ import annotations
+
+from operator import index
+from typing import TYPE_CHECKING, Any, Callable, Literal, NamedTuple
+
+from ._capn import ffi, lib
+from ._limits import Limits
+from ._refusal import failure
+
+if TYPE_CHECKING:
+    from _typeshed import ReadableBuffer
+
+_FORMS: dict[str, int] = {"stream": lib.CAPN_STREAM, "packed": lib.CAPN_PACKED, "bare": lib.CAPN_BARE}
+_USUAL = Limits()
+# What `capn unpack` takes: the words of the usual limits, and those of the longest segment table.
+_USUAL_WORDS = 8388608 + 2049
+_new, _from_buffer, _report_type = ffi.new, ffi.from_buffer, ffi.typeof("capn_report *")
+_room = ffi.new_allocator(should_clear_after_alloc=False)
+_room_type, _digest_type = ffi.typeof("uint8_t[]"), ffi.typeof("uint8_t[32]")
+_capn_check, _new_tuple = lib.capn_check, tuple.__new__
+# Reports that no call uses. Each call takes one for itself, whatever threads and signal handlers run meanwhile.
+_reports: list[Any] = []
+
+
+class Checked(NamedTuple):
+    """What reading an accepted message costs."""
+
+    paid: int
+    """Words that the walk paid."""
+    visits: int
+    """Slots that it visited, each as often as it was met; the root is one."""
+
+
+def _report() -> Any:
+    try:
+        return _reports.pop()
+    except IndexError:
+        return _new(_report_type)
+
+
+def _form(form: str) -> int:
+    """The number of a form."""
+    if not isinstance(form, str):
+        raise TypeError(f"form is a string, not {type(form).__name__}")
+    if form not in _FORMS:
+        raise ValueError(f"form is 'stream', 'packed' or 'bare', not {form!r}")
+    return _FORMS[form]
+
+
+def _buffer(data: ReadableBuffer) -> Any:
+    """The bytes of an object, in place; those of a view with gaps are copied together."""
+    try:
+        return data if type(data) is bytes else _from_buffer(data)
+    except BufferError:
+        return memoryview(data).tobytes()
+    except TypeError:
+        raise TypeError(f"a message is an object with a buffer, as bytes are, not {type(data).__name__}") from None
+
+
+def _laid_out(limits: Limits) -> Any:
+    """Limits as the library lays them out."""
+    if not isinstance(limits, Limits):
+        raise TypeError(f"limits are capn.Limits, not {type(limits).__name__}")
+    return limits._laid_out  # type: ignore[attr-defined]
+
+
+def _taken(data: ReadableBuffer, form: str, limits: Limits) -> tuple[int, Any, Any]:
+    """What the library is given of the arguments: the number of the form, the bytes, the limits."""
+    try:
+        given = data if type(data) is bytes else _from_buffer(data)
+        return _FORMS[form], given, limits._laid_out  # type: ignore[attr-defined]
+    except (KeyError, TypeError, BufferError, AttributeError):
+        return _form(form), _buffer(data), _laid_out(limits)
+
+
+def _filled(call: Callable[[Any, int, Any], int], room: int, of_words: bool = False) -> bytes:
+    """What a call writes: with this room or, if the answer does not fit, with the length that the call asks for."""
+    report = _report()
+    out = _room(_room_type, room)
+    status = call(out, room, report)
+    while status == lib.CAPN_NO_ROOM:
+        room = report.length
+        out = _room(_room_type, room)
+        status = call(out, room, report)
+    if status != lib.CAPN_OK:
+        raise failure(status, report, of_words)
+    answer = bytes(ffi.buffer(out, report.length))
+    _reports.append(report)
+    return answer
+
+
+def check(
+    data: ReadableBuffer, form: Literal["stream", "packed", "bare"] = "stream", limits: Limits = _USUAL
+) -> Checked:
+    """Whether one message is accepted within limits: what reading it costs, or a refusal."""
+    number, given, bounds = _taken(data, form, limits)
+    report = _report()
+    status = _capn_check(number, given, len(given), bounds, report)
+    if status:
+        raise failure(status, report)
+    checked = _new_tuple(Checked, (report.paid, report.visits))
+    _reports.append(report)
+    return checked
+
+
+def canonical(
+    data: ReadableBuffer, form: Literal["stream", "packed", "bare"] = "stream", limits: Limits = _USUAL
+) -> bytes:
+    """The canonical bytes of one message: the same for equal values alone, whoever wrote the message, and in whatever
+    form. At most 8 * (limits.budget + 1) of them."""
+    number, given, bounds = _taken(data, form, limits)
+    size = len(given)
+    # As long as the words that the message has: mostly enough. If it isn't, the call tells the length.
+    room = 4 * size if form == "packed" else size
+    return _filled(lambda *out: lib.capn_canonical(number, given, size, bounds, *out), room)
+
+
+def is_canonical(data: ReadableBuffer, limits: Limits = _USUAL) -> bool:
+    """Whether bytes, read bare, are the canonical bytes of their value. A refusal if they have none."""
+    given, bounds, report = _buffer(data), _laid_out(limits), _report()
+    status = lib.capn_is_canonical(given, len(given), bounds, report)
+    if status not in (lib.CAPN_OK, lib.CAPN_NOT_CANONICAL):
+        raise failure(status, report)
+    _reports.append(report)
+    return bool(status == lib.CAPN_OK)
+
+
+def digest(
+    data: ReadableBuffer, form: Literal["stream", "packed", "bare"] = "stream", limits: Limits = _USUAL
+) -> bytes:
+    """The SHA-256 of the canonical bytes of one message, 32 bytes."""
+    number, given, bounds = _taken(data, form, limits)
+    report, out = _report(), _new(_digest_type)
+    status = lib.capn_hash(number, given, len(given), bounds, out, report)
+    if status != lib.CAPN_OK:
+        raise failure(status, report)
+    _reports.append(report)
+    return bytes(ffi.buffer(out))
+
+
+def pack(data: ReadableBuffer) -> bytes:
+    """The packed text of whole words."""
+    given = _buffer(data)
+    size = len(given)
+    return _filled(lambda *out: lib.capn_pack(given, size, *out), size // 8 * 10, of_words=True)
+
+
+def unpack(data: ReadableBuffer, max_words: int = _USUAL_WORDS) -> bytes:
+    """The words of a packed text, at most `max_words`, a number below 2^32."""
+    most = index(max_words)
+    if not 0 <= most < 1 << 32:
+        raise ValueError(f"max_words is a number from 0 to {(1 << 32) - 1}, not {most}")
+    given = _buffer(data)
+    size = len(given)
+    return _filled(lambda *out: lib.capn_unpack(given, size, most, *out), min(4 * size, 8 * most))

@@ -1,0 +1,40 @@
+"""How much a call takes on."""
+from __future__ import annotations
+
+from dataclasses import dataclass
+from operator import index
+from typing import Any, Literal
+
+from ._capn import ffi, lib
+
+_TARIFFS = {"strict": lib.CAPN_STRICT, "plain": lib.CAPN_PLAIN}
+_MOST_WORDS = 1 << 28
+_RANGES = {"message_words": (1, _MOST_WORDS), "budget": (0, _MOST_WORDS), "depth": (1, 256)}
+
+
+@dataclass(frozen=True)
+class Limits:
+    """How much a call takes on: the words of one framed message (1 to 2^28), the words that reading it may pay (0 to
+    2^28), the depth of its objects (1 to 256, the root has 1), and the tariff of what is paid, "strict" or "plain"."""
+
+    message_words: int = 8388608
+    budget: int = 8388608
+    depth: int = 64
+    tariff: Literal["strict", "plain"] = "strict"
+
+    def __post_init__(self) -> None:
+        for name, (least, most) in _RANGES.items():
+            number = index(getattr(self, name))
+            if not least <= number <= most:
+                raise ValueError(f"{name} is a number from {least} to {most}, not {number}")
+            object.__setattr__(self, name, number)
+        if not isinstance(self.tariff, str):
+            raise TypeError(f"tariff is a string, not {type(self.tariff).__name__}")
+        if self.tariff not in _TARIFFS:
+            raise ValueError(f"tariff is 'strict' or 'plain', not {self.tariff!r}")
+        fields = (self.message_words, self.budget, self.depth, _TARIFFS[self.tariff])
+        object.__setattr__(self, "_laid_out", ffi.new("const capn_limits *", fields))
+
+    def __reduce__(self) -> tuple[Any, ...]:
+        # What is laid out for the library is made again by who unpickles or copies.
+        return Limits, (self.message_words, self.budget, self.depth, self.tariff)

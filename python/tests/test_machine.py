@@ -1,0 +1,104 @@
+"""Other threads run during a call; memory that runs out is a MemoryError."""
+import subprocess
+import sys
+import threading
+import unittest
+
+import capn
+
+WORDS = bytes(1 << 24)
+
+# 2^14 groups of 256 zero words: 32 MiB, from 32 KiB.
+START = """
+import capn, resource
+PACKED = b"\\0\\xff" * (1 << 14)
+"""
+# From here on 8 MiB more, and no more.
+LITTLE = """
+with open("/proc/self/statm") as file:
+    used = int(file.read().split()[0]) * resource.getpagesize()
+resource.setrlimit(resource.RLIMIT_AS, (used + (8 << 20), resource.RLIM_INFINITY))
+"""
+
+
+def child(*code):
+    """What another process prints."""
+    ran = subprocess.run([sys.executable, "-B", "-c", "".join(code)], capture_output=True, check=False, text=True)
+    return ran.stdout + ran.stderr.splitlines()[-1] if ran.stderr else ran.stdout
+
+
+class Threads(unittest.TestCase):
+    def setUp(self):
+        self.addCleanup(sys.setswitchinterval, sys.getswitchinterval())
+
+    def test_another_thread_runs_during_each_call(self):
+        # No thread is made to leave the lock, so that another one runs only where a call gives it up.
+        sys.setswitchinterval(1000)
+        message = bytes.fromhex("0000000001002000" "01000000feffff07") + WORDS[:8 * ((1 << 20) - 1)]
+        frame = (0).to_bytes(4, "little") + (len(message) // 8).to_bytes(4, "little") + message
+        packed = capn.pack(WORDS)
+        calls = [lambda: capn.pack(WORDS), lambda: capn.unpack(packed), lambda: capn.canonical(frame),
+                 lambda: capn.digest(frame), lambda: capn.check(packed, "packed"), lambda: capn.is_canonical(message)]
+        for number, call in enumerate(calls):
+            with self.subTest(number=number):
+                self.assertTrue(any(self.runs_beside(call) for _ in range(50)))
+
+    def runs_beside(self, call):
+        """Whether this thread runs before the call of another one ends."""
+        started, ended = threading.Event(), []
+
+        def run():
+            started.set()
+            try:
+                call()
+            except capn.Refusal:
+                pass
+            ended.append(True)
+
+        other = threading.Thread(target=run)
+        other.start()
+        started.wait()
+        beside = not ended
+        other.join()
+        return beside
+
+    def test_calls_in_many_threads_have_their_own_answers(self):
+        messages = [bytes.fromhex("0000000003000000" "0000000002000000") + number.to_bytes(8, "little") + bytes(8)
+                    for number in range(1, 9)]
+        alone = [(capn.check(one), capn.digest(one), capn.canonical(one)) for one in messages]
+        wrong = []
+
+        def run(one, answer):
+            for _ in range(500):
+                if (capn.check(one), capn.digest(one), capn.canonical(one)) != answer:
+                    wrong.append(one)
+                try:
+                    capn.check(one[:-8])
+                except capn.Refusal as refusal:
+                    if refusal.name != "FrameCut":
+                        wrong.append(refusal)
+
+        threads = [threading.Thread(target=run, args=each) for each in zip(messages, alone)]
+        for thread in threads:
+            thread.start()
+        for thread in threads:
+            thread.join()
+        self.assertEqual(wrong, [])
+
+
+@unittest.skipUnless(sys.platform == "linux", "how much memory a process has is read from /proc")
+class Memory(unittest.TestCase):
+    def test_the_library_finds_none(self):
+        told = child(START, LITTLE, "capn.check(PACKED, 'packed')")
+        self.assertEqual(told, "MemoryError: capn: out of memory")
+
+    def test_there_is_none_for_the_answer(self):
+        for call in "capn.unpack(PACKED)", "capn.canonical(PACKED, 'packed')":
+            self.assertRegex(child(START, LITTLE, call), "^MemoryError")
+
+    def test_there_is_enough(self):
+        self.assertEqual(child(START, "print(len(capn.unpack(PACKED)))"), f"{1 << 25}\n")
+
+
+if __name__ == "__main__":
+    unittest.main()

@@ -1,0 +1,53 @@
+"""The programs of docs/PYTHON.md do as the page says."""
+import subprocess
+import sys
+import tempfile
+import textwrap
+import unittest
+from pathlib import Path
+
+import capn
+
+PAGE = Path(__file__).resolve().parents[2] / "docs" / "PYTHON.md"
+MESSAGE = bytes.fromhex("0000000003000000" "0000000002000000" "0500000000000000" "0000000000000000")
+
+
+def blocks():
+    """The indented blocks of the page."""
+    lines, block = PAGE.read_text().splitlines() + ["end"], []
+    for line in lines:
+        if line.startswith("    ") or (block and not line):
+            block.append(line)
+        elif block:
+            yield textwrap.dedent("\n".join(block))
+            block = []
+
+
+class Page(unittest.TestCase):
+    def setUp(self):
+        _, self.check, self.verify = blocks()
+
+    def run_on(self, message, more=""):
+        with tempfile.TemporaryDirectory() as folder:
+            (Path(folder) / "message").write_bytes(message)
+            ran = subprocess.run([sys.executable, "-B", "-c", self.check + "\n" + more], cwd=folder,
+                                 capture_output=True, check=False, text=True)
+        return ran.returncode, ran.stdout + ran.stderr
+
+    def test_check(self):
+        self.assertEqual(self.run_on(MESSAGE), (0, "reading it costs 3 words\n"))
+        self.assertEqual(self.run_on(MESSAGE[:-8]), (1, "refused: frame: Cut\n"))
+        self.assertEqual(self.run_on(MESSAGE * 2), (1, "refused: trailing bytes at 32\n"))
+        self.assertEqual(self.run_on(b""), (1, "refused: frame: Empty\n"))
+        self.assertEqual(self.run_on(bytes((1 << 20) + 1)), (1, "too long\n"))
+
+    def test_verify(self):
+        digest = capn.digest(MESSAGE)
+        for message, expected in (MESSAGE, True), (MESSAGE[:-8], False), (MESSAGE * 2, False), (b"", False):
+            asked = f"print(is_signed({message!r}, {digest!r}), is_signed({message!r}, bytes(32)))"
+            status, wrote = self.run_on(MESSAGE, self.verify + "\n" + asked)
+            self.assertEqual((status, wrote.splitlines()[-1]), (0, f"{expected} False"))
+
+
+if __name__ == "__main__":
+    unittest.main()

@@ -1,0 +1,89 @@
+"""Each call answers the stored cases as it is stored that the library and the program answer them."""
+import re
+import unittest
+from pathlib import Path
+
+import capn
+
+STORED = Path(__file__).resolve().parents[2] / "crates" / "conformance"
+CALLS = re.compile(
+    r"(plain )?(canonicalise|is_canonical|survey|pack|unpack) .*|run \d+ hash --form (bare|stream) (?!--).*"
+    # Of packed streams those of one message, whose digest is a line of 65 bytes.
+    r"|run \d+ hash --form packed (?!--)[^|]*\|status 0, [0-9a-f]{130}"
+)
+
+
+def cases():
+    """The cases that a call answers, with their answers."""
+    lines = [(STORED / name).read_text().splitlines() for name in ("stdin", "stdout")]
+    return [both for both in zip(*lines, strict=True) if CALLS.fullmatch("|".join(both))]
+
+
+def digits(data):
+    return data.hex() or "-"
+
+
+def hashed(data, form):
+    """What `capn hash` ends with and writes: a line for each message, until one is refused."""
+    lines = ""
+    try:
+        for message in (parted(data) if form == "stream" else [data]):
+            lines += f"{capn.digest(message, form).hex()}\n"
+    except capn.Refusal as refusal:
+        return f"status 1, {digits(lines.encode())}, capn: {refusal}"
+    return f"status 0, {digits(lines.encode())}"
+
+
+def parted(data):
+    """Each message of a stream, the last one as it is."""
+    while data:
+        end = len(data)
+        try:
+            capn.check(data)
+        except capn.Refusal as refusal:
+            if refusal.name == "Trailing":
+                end = refusal.at
+        yield data[:end]
+        data = data[end:]
+
+
+def answer(words):
+    """What a call answers, written as the stored answers are."""
+    tariff = "strict"
+    if words[0] == "plain":
+        tariff, words = "plain", words[1:]
+    call, data = words[0], b"" if words[-1] == "-" else bytes.fromhex(words[-1])
+    if call == "pack":
+        return digits(capn.pack(data))
+    if call == "unpack":
+        return digits(capn.unpack(data, int(words[1])))
+    if call == "run":
+        return hashed(data, words[4])
+    limits = capn.Limits(*map(int, words[-4:-1]), tariff)
+    if call == "is_canonical":
+        return str(capn.is_canonical(data, limits)).lower()
+    if call == "survey":
+        paid, visits = capn.check(data, words[1], limits)
+        return f"paid {paid}, visits {visits}"
+    wrote = capn.canonical(data, words[1], limits)
+    return f"paid {capn.check(data, words[1], limits).paid}, {digits(wrote)}"
+
+
+class Stored(unittest.TestCase):
+    def test_each(self):
+        answered = cases()
+        self.assertGreater(len(answered), 500)
+        for case, stored in answered:
+            # The check of the library says nothing of capabilities, and what it unpacks is of no form.
+            stored = re.sub(r", (no capability|capability \d+)$", "", stored)
+            stored = re.sub(r"^(Cut|TooLong) at", r"packed: \g<0>", stored)
+            with self.subTest(case=case):
+                try:
+                    got = answer(case.split())
+                except capn.Refusal as refusal:
+                    got = str(refusal)
+                self.assertEqual(got, stored)
+
+
+if __name__ == "__main__":
+    unittest.main()
