@@ -1,17 +1,16 @@
 """Builds the package `capn` with the proved library inside: `pip install ./python`, after `make library`.
 
 There is no pyproject.toml: with one, pip would fetch setuptools and cffi anew for each build, and fail offline."""
-import re
 from pathlib import Path
 
 import cffi  # noqa: F401, without it setuptools would ignore `cffi_modules` and build a package of no library
 from setuptools import setup
 
-MAKEFILE = Path(__file__).resolve().parent.parent / "Makefile"
+TOP = Path(__file__).resolve().parent.parent
 
 setup(
     name="capn",
-    version=re.search(r"^VERSION \?= (\S+)", MAKEFILE.read_text(), re.MULTILINE)[1],
+    version=(TOP / "VERSION").read_text().strip(),
     description="Checks, canonicalises, hashes and packs Cap'n Proto messages by proved code",
     packages=["capn"],
     package_data={"capn": ["py.typed", "_capn.pyi"]},
