@@ -32,8 +32,8 @@ run: program
 	@echo "out:"; $(PROGRAM)/out/capn $$(cat $(PROGRAM)/args) < $(PROGRAM)/stdin | od -An -v -tx1 -w8
 
 # The whole gate: no line is too long; no crate reaches into another one's proofs; README.md names the toolchain that runs;
-# the tables of docs/VERIFY.md, PROMISES.md and TESTED.md are true; what `rt ci` tries; the program that it built, once or
-# more for each exit status and with too little memory; and the library for C with its examples. The libraries that
+# the tables of docs/VERIFY.md, PROMISES.md, TESTED.md and ARCHITECTURE.md are true; what `rt ci` tries; the program that
+# it built, once or more for each exit status and with too little memory; and the library for C. The libraries that
 # earlier checks built go first: `rt ci` would put them back after it, in the place of its own, over which the library for
 # C is built.
 test:
@@ -42,6 +42,7 @@ test:
 	.ci/toolchain
 	.ci/readings
 	.ci/counts
+	.ci/places
 	rm -rf crates/*/out/rlib
 	rt ci $(ANEW)
 	.ci/statuses
