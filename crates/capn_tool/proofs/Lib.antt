@@ -1,8 +1,13 @@
 pub mod ReadMore
+pub mod Given
+pub mod Unpending
+pub mod FirstBytes
+pub mod Makings
 pub mod NumberLemmas
 pub mod CommandLines
 pub mod WholeServed
 pub mod RunLaw
+pub mod WholeRun
 pub mod OneText
 pub mod Sends
 pub mod Verdicts

@@ -9,6 +9,7 @@ pub mod Served
 pub mod Heard
 pub mod HeardPacked
 pub mod Reading
+pub mod Pending
 pub mod Status
 pub mod Misuse
 pub mod Line

@@ -1,20 +1,11 @@
 -- What was written for bytes that have been read. No public clause cites this.
-use Rattle.std.specs.Prelude.{◌≡◌, ◌⊎◌, ◌↔◌, ℕ, List, [], Bool, true, false, Option, Result, Ok, Err}
+use Rattle.std.specs.Prelude.{◌≡◌, ◌⊎◌, ℕ, List, [], Bool, true, false, Result, Ok, Err}
 use Rattle.capn_walk.specs.Limits.{Bounds}
 use Rattle.capn_tool.specs.Pieces.{IsPiece, IsNoPiece}
-use Rattle.capn_tool.specs.Text.{HasEnded, HasWritten}
 use Rattle.capn_tool.specs.Sending.{Outgoing, Adds, Breaks}
 use Rattle.capn_tool.specs.declared.plan.Piece.{Piece}
-use Rattle.capn_tool.specs.declared.plan.Plan.{Plan}
 use Rattle.capn_tool.specs.declared.fault.ToolFault.{ToolFault}
 use Rattle.capn_tool.specs.declared.fault.ToolFault.TheVariants as faults
-
--- a writer took what a plan makes of the bytes, or a beginning of it; whether it has failed decides on Io
-pub record Served (plan : Plan) (bytes : List ℕ) (is_longer : Bool) (old new : Option (List ℕ)) (failed : Bool)
-    (ending : Result (Unit {0}) ToolFault) : Type 0 where
-  pub ended : HasEnded plan bytes is_longer old new ending
-  pub written : HasWritten plan bytes is_longer old new
-  pub io : (ending ≡ Err faults.Io) ↔ (failed ≡ true)
 
 -- the piece of a message was added; or nothing, since there is none or memory was refused; or the writer failed
 -- within it

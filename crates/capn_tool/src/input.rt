@@ -1,10 +1,8 @@
-//! All of the input that a run takes.
+//! All of the input that a run takes, of which no more is held than needed.
 
-ghost use Rattle.std.specs.Prelude.{◌≡◌, ◌⊎◌, ◌↔◌, ◌≤◌, ◌+◌, true, false, IsErrOf, IfErr};
+ghost use Rattle.std.specs.Prelude.{◌≡◌, false};
 ghost use Rattle.capn_words.specs.Watching.{inner_of, has_failed};
-ghost use Rattle.capn_tool.specs.Limits.{most_input};
-ghost use Rattle.capn_tool.specs.Reading.{HasRead, ReadsAll};
-ghost use Rattle.capn_tool.specs.declared.fault.ToolFault.TheVariants as faults;
+ghost use Rattle.capn_tool.specs.Reading.{IsBeginning, TakesAll};
 
 use crate::fault::ToolFault;
 use capn_words::Watched;
@@ -17,50 +15,39 @@ pub(crate) const MOST_BYTES: usize = 1 << 32;
 /// The most bytes that one call of a reader is asked for.
 pub(crate) const PIECE: usize = 65_536;
 
-/// The first 2^32 bytes of an input, and whether there are more.
+/// The bytes that an input begins with, and how many bytes it has.
 #[derive(Drop)]
 pub struct Input<A: Allocator = Global> {
     pub bytes: Vec<u8, A>,
-    pub is_longer: bool,
+    pub len: usize,
 }
 
-/// The input that the reader has to give. Each call asks for at most 65,536 bytes, and for no byte past the one that
-/// makes the input too long.
+/// Reads an input to its end, and keeps its first bytes, at most so many. What follows is dropped as it comes.
+///
+/// Each call of the reader asks for at most 65,536 bytes, and for no byte past the one that makes the input too long.
 pub fn read_all<R: Read, A: Allocator>(
     alloc: A,
     reader: &mut Watched<R>,
+    most: usize,
 ) -> Result<Input<A>, ToolFault>
     requires { has_failed reader.old ≡ false }
-    ensures exact { ReadsAll (R.remaining (inner_of reader.old)) (R.remaining (inner_of reader.new)) result }
-    ensures bounded { HasRead (R.remaining (inner_of reader.old)) (R.remaining (inner_of reader.new))
-        (λ n. n ≤ most_input + 1) }
-    ensures io { IsErrOf result ToolFault.Io ↔ (has_failed reader.new ≡ true) }
-    ensures only { IfErr result (λ e. (e ≡ faults.Memory) ⊎ (e ≡ faults.Io)) }
+    ensures { TakesAll (IsBeginning most) (R.remaining (inner_of reader.old)) (R.remaining (inner_of reader.new))
+        (has_failed reader.new) result }
 {
     let mut bytes = Vec::new(alloc);
     let mut piece = [0; PIECE];
-    'pieces: loop {
-        let room = (MOST_BYTES + 1 - bytes.len()).min(PIECE);
+    let mut len = 0;
+    'pieces: while len <= MOST_BYTES {
+        let room = (MOST_BYTES + 1 - len).min(PIECE);
         match reader.read(&mut piece[..room]) {
             Err(_) => return Err(ToolFault::Io),
-            Ok(0) => {
-                return Ok(Input {
-                    bytes,
-                    is_longer: false,
-                });
-            }
+            Ok(0) => return Ok(Input { bytes, len }),
             Ok(count) => {
-                let kept = count.min(MOST_BYTES - bytes.len());
-                if bytes.extend_from_slice(&piece[..kept]).is_err() {
-                    return Err(ToolFault::Memory);
-                }
-                if kept < count {
-                    return Ok(Input {
-                        bytes,
-                        is_longer: true,
-                    });
-                }
+                let kept = count.min(most - bytes.len());
+                bytes.extend_from_slice(&piece[..kept])?;
+                len += count;
             }
         }
     }
+    Err(ToolFault::InputTooLong)
 }

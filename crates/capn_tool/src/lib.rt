@@ -24,6 +24,7 @@ mod making;
 mod misuse;
 mod orders;
 mod output;
+mod pending;
 mod piece;
 mod plan;
 mod running;

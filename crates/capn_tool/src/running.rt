@@ -5,7 +5,6 @@ ghost use Rattle.std.specs.Io.KnownBytes.{Appends};
 ghost use Rattle.capn_words.specs.Watching.{inner_of, has_failed};
 ghost use Rattle.capn_tool.specs.Planned as spec;
 ghost use Rattle.capn_tool.specs.Heard.{KeepsUp, Runs};
-ghost use Rattle.capn_tool.specs.Served.{Served};
 ghost use Rattle.capn_tool.specs.Text.{EndsAs, EndsBy, IsText, Begins, PlanEndsAs, PlanBegins};
 ghost use Rattle.capn_tool.specs.declared.fault.ToolFault.{ToolFault};
 ghost use Rattle.capn_tool.specs.declared.plan.Plan.TheVariants as plans;
@@ -13,7 +12,6 @@ ghost use Rattle.capn_tool.specs.declared.plan.Plan.TheVariants as plans;
 use crate::each::Service;
 use crate::fault::ToolFault;
 use crate::hearing::run_each;
-use crate::input::{Input, read_all};
 use crate::making::make;
 use crate::orders::Command;
 use crate::output::write_all;
@@ -22,24 +20,6 @@ use crate::unpacking::run_packed;
 use capn_words::Watched;
 use std::alloc::Allocator;
 use std::io::{Read, Write};
-
-/// Writes what is made of the whole input, or nothing where it is too long or refused.
-fn write_whole<W: Write, A: Allocator + Copy>(
-    alloc: A,
-    whole: Whole,
-    input: &Input<A>,
-    writer: &mut Watched<W>,
-) -> Result<(), ToolFault>
-    requires { has_failed writer.old ≡ false }
-    ensures { Served (plans.Whole whole) input.now.bytes.items input.now.is_longer (W.contents (inner_of writer.old))
-        (W.contents (inner_of writer.new)) (has_failed writer.new) result }
-{
-    if input.is_longer {
-        return Err(ToolFault::InputTooLong);
-    }
-    let text = make(alloc, whole, &input.bytes)?;
-    write_all(writer, &text)
-}
 
 /// Reads all there is, and writes what is made of it.
 fn run_whole<R: Read, W: Write, A: Allocator + Copy>(
@@ -59,8 +39,8 @@ fn run_whole<R: Read, W: Write, A: Allocator + Copy>(
     ensures unread { has_failed reader.new ≡ true
         → Appends (W.contents (inner_of writer.old)) (W.contents (inner_of writer.new)) [] }
 {
-    let input = read_all(alloc, reader)?;
-    write_whole(alloc, whole, &input, writer)
+    let text = make(alloc, whole, reader)?;
+    write_all(writer, &text)
 }
 
 /// Carries a plan out.
@@ -110,6 +90,10 @@ fn perform<R: Read, W: Write, A: Allocator + Copy>(
 /// beginning of the text was written; `InputTooLong` for a byte past 2^32; else the command's own. At most 2^32 + 1
 /// bytes are read, at most 65,536 by one call. Over a stream the memory does not grow with the input: 128 KiB, the
 /// texts of what one call read, at most 1 MiB for unpacked words, and what the longest message takes.
+///
+/// Of an input that is taken whole, `canonical` holds the first 8 * (message words + 2,049) bytes and one more, or as
+/// many words of a packed one, and `unpack` its answer; what follows is read and dropped. The form bare holds at most
+/// 2^28 + 1 words, and `pack` all of its input.
 pub fn run<R: Read, W: Write, A: Allocator + Copy>(
     alloc: A,
     command: Command,

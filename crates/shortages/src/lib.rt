@@ -7,6 +7,8 @@
 #[cfg(test)]
 mod cuts;
 #[cfg(test)]
+mod endless;
+#[cfg(test)]
 mod framers;
 #[cfg(test)]
 mod refused;

@@ -1,79 +1,52 @@
-use Rattle.std.proofs.Common.{◌≡◌, ◌≤◌, ◌^◌, ◌+◌, ◌++◌, ℕ, List, length, drop, length-append, length-take, arith}
-use Rattle.std.proofs.Common.{is_ok, true}
-use Rattle.std.proofs.Common.{refl, ap, sym, subst}
-use Rattle.std.specs.Io.KnownBytes.{Consumes}
-use Rattle.std.proofs.KnownBytes.{Consumes-kept, Consumes-nil}
-use Rattle.capn_words.specs.Watching.{inner_of}
-use Rattle.capn_tool.proofs.ReadMore.{has_broken, is_ok_from, read_end, read_kept, read_more, read_past_kept, read_well}
-use Rattle.capn_tool.proofs.ReadMore.{size_kept, still_fine}
+use Rattle.std.proofs.Common.{◌≡◌, ◌++◌, [], length, take, drop, length-append, length-take, length-take-le}
+use Rattle.std.specs.Prelude.{min}
+use Rattle.std.proofs.Common.{◌-◌, arith, inl, refl, ap, sym, ◌∙◌, take_all}
+use Rattle.std.proofs.lemmas.Result.{err_from_is_err_and}
+use Rattle.std.proofs.KnownBytes.{Consumes-kept}
+use Rattle.capn_tool.proofs.Given.{first_more, given_all, given_broken, given_long, given_memory, given_more, given_none}
+use Rattle.capn_tool.proofs.ReadMore.{has_broken, size_kept, still_fine}
 use Rattle.capn_tool.proofs.input.read_all.Goals as goal
-
-pub returns-in-Ok-eq0-clause-exact : goal.returns-in-Ok-eq0-clause-exact
-returns-in-Ok-eq0-clause-exact g c =
-    let room = length-take c.min-room.result c.pieces.piece in
-    read_end _ _ _ c.pieces.bytes.items c.read.new.buf c.in-Ok-eq0.field-0 c.in-Ok-eq0.field-0-test
-    c.pieces.invariant.read c.in-Ok-eq0.ensures.bytes (omega arith) c.pieces.invariant.room
-
-pub returns-then-is_err-clause-bounded : goal.returns-then-is_err-clause-bounded
-returns-then-is_err-clause-bounded g c =
-    let bound = c.in-Ok.ensures.bound in
-    let room = length-take c.min-room.result c.pieces.piece in
-    read_more _ _ _ c.pieces.bytes.items c.read.new.buf c.in-Ok.count (λ n. n ≤ 2 ^ 32 + 1) c.pieces.invariant.read
-    c.in-Ok.ensures.bytes.0 bound.0 (omega arith)
-
-pub returns-then-kept-count-clause-bounded : goal.returns-then-kept-count-clause-bounded
-returns-then-kept-count-clause-bounded g c =
-    let bound = c.in-Ok.ensures.bound in
-    let room = length-take c.min-room.result c.pieces.piece in
-    read_more _ _ _ c.pieces.bytes.items c.read.new.buf c.in-Ok.count (λ n. n ≤ 2 ^ 32 + 1) c.pieces.invariant.read
-    c.in-Ok.ensures.bytes.0 bound.0 (omega arith)
-
-pub returns-then-kept-count-clause-exact : goal.returns-then-kept-count-clause-exact
-returns-then-kept-count-clause-exact g c =
-    let bound = c.in-Ok.ensures.bound in
-    let room = length-take c.min-room.result c.pieces.piece in
-    let ok : is_ok c.extend_from_slice.result ≡ true =
-    is_ok_from c.extend_from_slice.result c.is_err.result c.is_err.ensures.value c.if-is_err.false in
-    let items = rw ok at c.extend_from_slice.ensures.items in
-    read_past_kept _ _ _ c.pieces.bytes.items c.read.new.buf _ _ c.in-Ok.count _ items c.pieces.invariant.read
-    c.in-Ok.ensures.bytes.0 bound.0 (omega arith) (omega arith) (omega arith)
 
 pub pieces-init : goal.pieces-init
 pieces-init g c =
-    let known = g.R.Read.remaining (inner_of c.args.reader.now) in
     let none = c.new-bytes.ensures.items in
     record {
-      fine = c.requires;
-      room = omega (arith, ap (λ (l : List ℕ). length l) none);
-      read = subst (Consumes known known) (sym none) (Consumes-nil known);
+      seen = [];
+      given = given_none _ _ c.requires;
+      size = refl;
+      first = take_all c.args.most [] (omega arith) ∙ sym none;
+      room = omega (arith, ap length none);
     }
 
-pub returns-in-Err-clause-bounded : goal.returns-in-Err-clause-bounded
-returns-in-Err-clause-bounded g c = (
-  c.pieces.bytes.items,
-  Consumes-kept _ _ _ c.pieces.bytes.items c.pieces.invariant.read c.in-Err.ensures.bytes,
-  omega (arith, c.pieces.invariant.room),
-)
+pub returns-in-Err : goal.returns-in-Err
+returns-in-Err g c =
+    let i = c.pieces.invariant in
+    inl
+    (given_broken _ _ _ _ _ i.seen i.given (Consumes-kept _ _ _ i.seen i.given.read c.in-Err.ensures.bytes)
+    (has_broken _ _ c.in-Err.ensures.failed))
 
-pub returns-in-Err-clause-io : goal.returns-in-Err-clause-io
-returns-in-Err-clause-io g c = (λ e. has_broken _ _ c.in-Err.ensures.failed, λ e. refl)
+pub returns-in-Ok-eq0 : goal.returns-in-Ok-eq0
+returns-in-Ok-eq0 g c =
+    let i = c.pieces.invariant in
+    let room = length-take c.min-room.result c.pieces.piece in (
+      i.seen,
+      given_all _ _ _ _ _ i.seen c.read.new.buf c.in-Ok-eq0.field-0 i.given c.in-Ok-eq0.field-0-test
+          c.in-Ok-eq0.ensures.bytes (omega (arith, room)) (omega (arith, i.size))
+          (still_fine _ _ i.given.fine c.in-Ok-eq0.ensures.failed),
+      (i.first, i.size),
+    )
 
-pub returns-in-Ok-eq0-clause-bounded : goal.returns-in-Ok-eq0-clause-bounded
-returns-in-Ok-eq0-clause-bounded g c =
-    let none = c.in-Ok-eq0.field-0-test in
-    let room = c.pieces.invariant.room in
-    read_more _ _ _ c.pieces.bytes.items c.read.new.buf c.in-Ok-eq0.field-0 (λ n. n ≤ 2 ^ 32 + 1)
-    c.pieces.invariant.read c.in-Ok-eq0.ensures.bytes.0 (omega (arith, none)) (omega (arith, none, room))
-
-pub returns-in-Ok-eq0-clause-io : goal.returns-in-Ok-eq0-clause-io
-returns-in-Ok-eq0-clause-io g c =
-    read_well _ _ _ (λ e. cc) c.pieces.invariant.fine c.in-Ok-eq0.ensures.failed
-
-pub returns-then-is_err-clause-io : goal.returns-then-is_err-clause-io
-returns-then-is_err-clause-io g c = read_well _ _ _ (λ e. cc) c.pieces.invariant.fine c.in-Ok.ensures.failed
-
-pub returns-then-kept-count-clause-io : goal.returns-then-kept-count-clause-io
-returns-then-kept-count-clause-io g c = read_well _ _ _ (λ e. cc) c.pieces.invariant.fine c.in-Ok.ensures.failed
+pub returns-in_err-extend_from_slice-in-Ok : goal.returns-in_err-extend_from_slice-in-Ok
+returns-in_err-extend_from_slice-in-Ok g c =
+    let i = c.pieces.invariant in
+    let bound = c.in-Ok.ensures.bound in
+    let room = length-take c.min-room.result c.pieces.piece in
+    let p = err_from_is_err_and c.from_residual.result c.from_residual.ensures.1 in
+    rw (p.1, p.2)
+    (inl
+    (given_memory _ _ _ _
+    (given_more _ _ _ _ _ i.seen c.read.new.buf c.in-Ok.count i.given c.in-Ok.ensures.bytes.0 bound.0
+    (omega (arith, room, bound.0, i.size)) (still_fine _ _ i.given.fine c.in-Ok.ensures.failed))))
 
 pub slice_bounds-piece-end-in-Ok : goal.slice_bounds-piece-end-in-Ok
 slice_bounds-piece-end-in-Ok g c =
@@ -84,29 +57,39 @@ slice_bounds-piece-end-in-Ok g c =
 pub pieces-smaller : goal.pieces-smaller
 pieces-smaller g c =
     let bound = c.in-Ok.ensures.bound in
-    let buf = c.read.new.buf ++ drop c.min-room.result c.pieces.piece in
-    let ok : is_ok c.extend_from_slice.result ≡ true =
-    is_ok_from c.extend_from_slice.result c.is_err.result c.is_err.ensures.value c.if-is_err.false in
-    let items = rw ok at c.extend_from_slice.ensures.items in
-    let size = length-append c.read.new.buf (drop c.min-room.result c.pieces.piece) in
-    let grown = size_kept c.pieces.bytes.items buf c.extend_from_slice.new.self.items c.min-kept.result items
-    (omega (arith, bound.0, size, c.min-kept.ensures)) in
-    omega (arith, grown, c.in-Ok.count-test, c.if-kept-count.false, c.pieces.invariant.room)
+    let room = length-take c.min-room.result c.pieces.piece in
+    omega (arith, bound.0, room, c.in-Ok.count-test)
 
 pub pieces-preserved : goal.pieces-preserved
 pieces-preserved g c =
+    let i = c.pieces.invariant in
     let bound = c.in-Ok.ensures.bound in
     let tail = drop c.min-room.result c.pieces.piece in
-    let ok : is_ok c.extend_from_slice.result ≡ true =
-    is_ok_from c.extend_from_slice.result c.is_err.result c.is_err.ensures.value c.if-is_err.false in
-    let items = rw ok at c.extend_from_slice.ensures.items in
+    let room = length-take c.min-room.result c.pieces.piece in
+    let items = c.in_ok-extend_from_slice-in-Ok.ensures.items in
     let size = length-append c.read.new.buf tail in
+    let least : c.min-kept.result ≡ min c.in-Ok.count (c.args.most - length c.pieces.bytes.items) =
+    omega (arith, c.min-kept.ensures, c.len.ensures) in
     let grown = size_kept c.pieces.bytes.items (c.read.new.buf ++ tail) c.extend_from_slice.new.self.items
     c.min-kept.result items (omega (arith, bound.0, size, c.min-kept.ensures)) in
     record {
-      fine = still_fine _ _ c.pieces.invariant.fine c.in-Ok.ensures.failed;
-      room = omega (arith, grown, c.pieces.invariant.room, c.min-kept.ensures);
-      read = read_kept _ _ _ c.pieces.bytes.items c.read.new.buf tail c.extend_from_slice.new.self.items c.in-Ok.count
-          c.min-kept.result items c.pieces.invariant.read c.in-Ok.ensures.bytes.0
-          (omega (arith, c.if-kept-count.false, c.min-kept.ensures)) bound.0;
+      seen = i.seen ++ take c.in-Ok.count c.read.new.buf;
+      given = given_more _ _ _ _ _ i.seen c.read.new.buf c.in-Ok.count i.given c.in-Ok.ensures.bytes.0 bound.0
+          (omega (arith, room, bound.0, i.size)) (still_fine _ _ i.given.fine c.in-Ok.ensures.failed);
+      size = omega (
+        arith,
+        i.size,
+        length-append i.seen (take c.in-Ok.count c.read.new.buf),
+        length-take-le c.in-Ok.count c.read.new.buf bound.0,
+      );
+      first = first_more c.args.most i.seen c.read.new.buf tail c.pieces.bytes.items
+          c.extend_from_slice.new.self.items c.in-Ok.count c.min-kept.result i.first bound.0
+          least
+          items;
+      room = omega (arith, grown, i.room, c.min-kept.ensures);
     }
+
+pub returns : goal.returns
+returns g c =
+    let i = c.pieces.invariant in
+    inl (given_long _ _ _ i.seen i.given (omega (arith, i.size)))

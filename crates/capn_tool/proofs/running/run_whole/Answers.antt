@@ -1,83 +1,67 @@
-use Rattle.std.proofs.Common.{◌≡◌, ◌⊎◌, ◌↔◌, inl, inr, ℕ, List, Bool, true, false, Option, IfSome, Result, Ok, Err}
-use Rattle.std.proofs.Common.{IsErrAnd, IsErrOf, ap, sym, subst, ◌∙◌}
+use Rattle.std.proofs.Common.{◌≡◌, ◌⊎◌, ◌↔◌, inl, inr, Bool, true, false, Result, Err, IsErrOf, ap, sym, ◌∙◌}
 use Rattle.std.proofs.KnownBytes.{Appends-nil}
-use Rattle.capn_tool.specs.Text.{PlanEndsAs}
-use Rattle.capn_tool.specs.declared.plan.Plan.{Plan}
-use Rattle.capn_tool.specs.declared.plan.Plan.TheVariants as plans
+use Rattle.std.proofs.lemmas.Result.{err_from_is_err_and}
 use Rattle.capn_tool.specs.declared.fault.ToolFault.{ToolFault}
 use Rattle.capn_tool.specs.declared.fault.ToolFault.TheVariants as faults
-use Rattle.capn_tool.proofs.RunLaw.{begins_kept, begins_none, ends_kept, ends_unread}
+use Rattle.capn_tool.proofs.WholeRun.{made_begins, made_ends, made_fine, unmade_begins, unmade_ends, unmade_io}
 use Rattle.capn_tool.proofs.running.run_whole.Goals as goal
 
 abbrev Ending : Type 0
 Ending = Result (Unit {0}) ToolFault
 
--- the input was not read: how the run ends,
-unread : (plan : Plan) (known old new : Option (List ℕ)) (fault : ToolFault) (r : Ending)
-    → (fault ≡ faults.Memory) ⊎ (fault ≡ faults.Io) → IsErrAnd r (λ e. e ≡ fault)
-    → IfSome known (PlanEndsAs plan old new r)
-unread plan known old new fault (Ok u) why is = absurd is
-unread plan known old new fault (Err e) why is =
-    ends_unread plan known old new e (subst (λ (x : ToolFault). (x ≡ faults.Memory) ⊎ (x ≡ faults.Io)) (sym is) why)
-
--- and when with Io
-unread_io : {T : Type 0} (fault : ToolFault) (r : Ending) (reader writer : Bool)
-    → (IsErrOf {T = T} (Err fault) faults.Io ↔ (reader ≡ true)) → writer ≡ false → IsErrAnd r (λ e. e ≡ fault)
-    → IsErrOf r faults.Io ↔ ((reader ≡ true) ⊎ (writer ≡ true))
-unread_io fault (Ok u) reader writer io fine is = absurd is
-unread_io fault (Err e) reader writer io fine is = (λ h. inl (to h), from)
-  where
-    failed : IsErrOf {T = Unit {0}} (Err e) faults.Io → fault ≡ faults.Io
-    failed h = let same : e ≡ faults.Io = cc in sym is ∙ same
-
-    to : IsErrOf {T = Unit {0}} (Err e) faults.Io → reader ≡ true
-    to h = io.0 (ap (λ (x : ToolFault). Err x) (failed h))
-
-    from : (reader ≡ true) ⊎ (writer ≡ true) → IsErrOf {T = Unit {0}} (Err e) faults.Io
-    from (inl h) = let known = io.1 h in let same : fault ≡ faults.Io = cc in ap (λ (x : ToolFault). Err x) (is ∙ same)
-    from (inr h) = absurd (let bad : true ≡ false = sym h ∙ fine in cc)
-
-not_read : {T : Type 0} (x : T) → IsErrOf {E = ToolFault} (Ok x) faults.Io → ⊥
-not_read x e = cc
-
--- it was read: the writer decides
-read_io : {T : Type 0} (x : T) (r : Ending) (reader writer : Bool)
-    → (IsErrOf {E = ToolFault} (Ok x) faults.Io ↔ (reader ≡ true)) → ((r ≡ Err faults.Io) ↔ (writer ≡ true))
-    → IsErrOf r faults.Io ↔ ((reader ≡ true) ⊎ (writer ≡ true))
-read_io x r reader writer io wrote = (λ h. inr (wrote.0 h), from)
+-- nothing was made: the reader decides
+unmade : (fault : ToolFault) (r : Ending) (reader writer : Bool) → ((fault ≡ faults.Io) ↔ (reader ≡ true))
+    → writer ≡ false → r ≡ Err fault → IsErrOf r faults.Io ↔ ((reader ≡ true) ⊎ (writer ≡ true))
+unmade fault r reader writer io fine is = (λ h. inl (io.0 (cc)), from)
   where
     from : (reader ≡ true) ⊎ (writer ≡ true) → IsErrOf r faults.Io
-    from (inl h) = absurd (not_read x (io.1 h))
-    from (inr h) = wrote.1 h
+    from (inl h) = is ∙ ap (λ (f : ToolFault). Err f) (io.1 h)
+    from (inr h) = absurd (let bad : true ≡ false = sym h ∙ fine in cc)
 
-pub returns-in_err-input-clause-begun : goal.returns-in_err-input-clause-begun
-returns-in_err-input-clause-begun g c = begins_none (plans.Whole c.args.whole) _ _ _ c.read_all.ensures.bounded
+-- it was made: the writer does
+made : (r : Ending) (reader writer : Bool) → reader ≡ false → (IsErrOf r faults.Io ↔ (writer ≡ true))
+    → IsErrOf r faults.Io ↔ ((reader ≡ true) ⊎ (writer ≡ true))
+made r reader writer fine io = (λ h. inr (io.0 h), from)
+  where
+    from : (reader ≡ true) ⊎ (writer ≡ true) → IsErrOf r faults.Io
+    from (inl h) = absurd (let bad : true ≡ false = sym h ∙ fine in cc)
+    from (inr h) = io.1 h
 
-pub returns-clause-begun : goal.returns-clause-begun
-returns-clause-begun g c =
-    begins_kept (plans.Whole c.args.whole) _ _ _ _ _ _ c.in_ok-input.ensures.exact c.write_whole.ensures.written
+pub returns-in_err-text-clause-exact : goal.returns-in_err-text-clause-exact
+returns-in_err-text-clause-exact g c =
+    let p = err_from_is_err_and c.from_residual.result c.from_residual.ensures.1 in
+    rw (p.1, p.2) (unmade_ends c.args.whole _ _ _ _ c.in_err-text.field-0.0 c.in_err-text.ensures)
+
+pub returns-in_err-text-clause-begun : goal.returns-in_err-text-clause-begun
+returns-in_err-text-clause-begun g c =
+    unmade_begins c.args.whole _ _ _ _ c.in_err-text.field-0.0 c.in_err-text.ensures
+
+pub returns-in_err-text-clause-io : goal.returns-in_err-text-clause-io
+returns-in_err-text-clause-io g c =
+    let p = err_from_is_err_and c.from_residual.result c.from_residual.ensures.1 in
+    unmade c.in_err-text.field-0.0 c.from_residual.result _ _
+    (unmade_io c.args.whole _ _ _ c.in_err-text.field-0.0 c.in_err-text.ensures)
+    c.requires.writer_fine (p.1 ∙ ap (λ (f : ToolFault). Err f) p.2)
+
+pub returns-in_err-text-clause-unread : goal.returns-in_err-text-clause-unread
+returns-in_err-text-clause-unread g c failed = Appends-nil _
 
 pub returns-clause-exact : goal.returns-clause-exact
 returns-clause-exact g c =
-    ends_kept (plans.Whole c.args.whole) _ _ _ _ _ _ c.write_whole.result c.in_ok-input.ensures.exact
-    c.write_whole.ensures.ended
+    made_ends c.args.whole _ _ _ _ c.in_ok-text.text _ c.write_all.result c.in_ok-text.ensures
+    (rw c.deref.ensures.value at c.write_all.ensures.ok) c.write_all.ensures.only
 
-pub returns-in_err-input-clause-exact : goal.returns-in_err-input-clause-exact
-returns-in_err-input-clause-exact g c =
-    unread (plans.Whole c.args.whole) _ _ _ c.in_err-input.field-0.0 c.from_residual.result c.in_err-input.ensures.only
-    c.from_residual.ensures.1
-
-pub returns-in_err-input-clause-io : goal.returns-in_err-input-clause-io
-returns-in_err-input-clause-io g c =
-    unread_io c.in_err-input.field-0.0 c.from_residual.result _ _ c.in_err-input.ensures.io c.requires.writer_fine
-    c.from_residual.ensures.1
-
-pub returns-in_err-input-clause-unread : goal.returns-in_err-input-clause-unread
-returns-in_err-input-clause-unread g c = λ failed. Appends-nil _
+pub returns-clause-begun : goal.returns-clause-begun
+returns-clause-begun g c =
+    made_begins c.args.whole _ _ _ _ c.in_ok-text.text _ c.in_ok-text.ensures
+    (rw c.deref.ensures.value at c.write_all.ensures.begun)
 
 pub returns-clause-io : goal.returns-clause-io
 returns-clause-io g c =
-    read_io c.in_ok-input.input c.write_whole.result _ _ c.in_ok-input.ensures.io c.write_whole.ensures.io
+    made c.write_all.result _ _ (made_fine c.args.whole _ _ _ c.in_ok-text.text c.in_ok-text.ensures)
+    c.write_all.ensures.io
 
 pub returns-clause-unread : goal.returns-clause-unread
-returns-clause-unread g c = λ failed. absurd (not_read c.in_ok-input.input (c.in_ok-input.ensures.io.1 failed))
+returns-clause-unread g c failed =
+    let fine = made_fine c.args.whole _ _ _ c.in_ok-text.text c.in_ok-text.ensures in
+    absurd (let bad = sym failed ∙ fine in cc)

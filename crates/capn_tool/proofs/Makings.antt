@@ -1,0 +1,119 @@
+-- What is made of an input, from what was read of it.
+use Rattle.std.proofs.Common.{◌≡◌, ◌⊎◌, inl, inr, ℕ, ◌+◌, ◌*◌, ◌<◌, ◌≤◌, ◌^◌, List, length, Bool, Option, Result, Ok, Err}
+use Rattle.std.proofs.Common.{Vec, refl, sym, subst, ◌∙◌, arith, take_all}
+use Rattle.capn_words.specs.Words.{ReadsBare}
+use Rattle.capn_words.specs.declared.bare.BareFault.{BareFault}
+use Rattle.capn_stream.specs.Frames.{most_table_words}
+use Rattle.capn_walk.specs.Limits.{Bounds}
+use Rattle.capn_canon.specs.declared.form.Form.TheVariants as forms
+use Rattle.capn_canon.specs.declared.refusal.Refusal.TheVariants as refusals
+use Rattle.capn_tool.specs.Reading.{HasGivenAll, IsBeginning, IsShortBare, IsUntaken, TakesAll}
+use Rattle.capn_tool.specs.Wholes.{Gives, MakesNothing}
+use Rattle.capn_tool.specs.declared.input.Input.{Input}
+use Rattle.capn_tool.specs.declared.plan.Piece.{Piece}
+use Rattle.capn_tool.specs.declared.plan.Whole.{Whole}
+use Rattle.capn_tool.specs.declared.plan.Whole.TheVariants as wholes
+use Rattle.capn_tool.specs.declared.fault.ToolFault.{ToolFault}
+use Rattle.capn_tool.specs.declared.fault.ToolFault.TheVariants as faults
+use Rattle.capn_tool.proofs.FirstBytes.{fails_unpacked, gives_first, gives_packed}
+use Rattle.capn_tool.proofs.Given.{takes_so}
+
+-- why nothing is made, or that memory was refused
+abbrev Fails : Whole → List ℕ → ToolFault → Type 0
+Fails whole bytes fault = (fault ≡ faults.Memory) ⊎ MakesNothing whole bytes fault
+
+-- an input was not taken, or was read to its end and fails so
+abbrev TakesNone : (List ℕ → Type 0) → Option (List ℕ) → Option (List ℕ) → Bool → ToolFault → Type 0
+TakesNone P a b f fault = IsUntaken a b f fault ⊎ ((bytes : List ℕ) × HasGivenAll a b f bytes × P bytes)
+
+-- why bytes are no segment
+abbrev FailsBare : List ℕ → ToolFault → Type 0
+FailsBare bytes fault = (e : BareFault) × (fault ≡ faults.Refused (refusals.Bare e)) × ReadsBare bytes (Err e)
+
+module _ (a b : Option (List ℕ)) (f : Bool) (fault : ToolFault) where
+  none_else : (P Q : List ℕ → Type 0) → ((bytes : List ℕ) → P bytes → Q bytes) → TakesNone P a b f fault
+      → TakesNone Q a b f fault
+  none_else P Q change (inl untaken) = inl untaken
+  none_else P Q change (inr (bytes, all, p)) = inr (bytes, all, change bytes p)
+
+  -- an input that was not taken
+  pub unread : (whole : Whole) → TakesNone (λ bytes. ⊥) a b f fault → TakesNone (λ bytes. Fails whole bytes fault) a b f fault
+  unread whole h = none_else (λ bytes. ⊥) (λ bytes. Fails whole bytes fault) (λ bytes none. absurd none) h
+
+  pub unread_bare : TakesNone (λ bytes. ⊥) a b f fault → TakesNone (λ bytes. FailsBare bytes fault) a b f fault
+  unread_bare h = none_else (λ bytes. ⊥) (λ bytes. FailsBare bytes fault) (λ bytes none. absurd none) h
+
+  -- a packed text that packs no words
+  pub unmade_packed : (limits : Bounds) (most : ℕ) → most ≡ limits.message_words + most_table_words
+      → TakesNone (λ bytes. Fails (wholes.Unpacked most) bytes fault) a b f fault
+      → TakesNone (λ bytes. Fails (wholes.Canonical forms.Packed limits) bytes fault) a b f fault
+  unmade_packed limits most is h =
+      none_else (λ bytes. Fails (wholes.Unpacked (limits.message_words + most_table_words)) bytes fault)
+      (λ bytes. Fails (wholes.Canonical forms.Packed limits) bytes fault)
+      (λ bytes why. fails_unpacked limits bytes fault why)
+      (subst (λ (n : ℕ). TakesNone (λ bytes. Fails (wholes.Unpacked n) bytes fault) a b f fault) is h)
+
+  -- bytes that are no segment
+  pub unmade_canonical : (limits : Bounds) → TakesNone (λ bytes. FailsBare bytes fault) a b f fault
+      → TakesNone (λ bytes. Fails (wholes.Canonical forms.Bare limits) bytes fault) a b f fault
+  unmade_canonical limits h =
+      none_else (λ bytes. FailsBare bytes fault) (λ bytes. Fails (wholes.Canonical forms.Bare limits) bytes fault)
+      (λ bytes why. inr (refusals.Bare why.0, why.1, apart why.0, why.2)) h
+    where
+      apart : (e : BareFault) → refusals.Bare e ≡ refusals.Memory → ⊥
+      apart e same = cc
+
+  pub unmade_piece : (piece : Piece) (limits : Bounds) → TakesNone (λ bytes. FailsBare bytes fault) a b f fault
+      → TakesNone (λ bytes. Fails (wholes.Bare piece limits) bytes fault) a b f fault
+  unmade_piece piece limits h =
+      none_else (λ bytes. FailsBare bytes fault) (λ bytes. Fails (wholes.Bare piece limits) bytes fault)
+      (λ bytes why. inr (inl why)) h
+
+module _ {A : Type 0} (a b : Option (List ℕ)) (f : Bool) where
+  -- all of it is held
+  pub made_held : (whole : Whole) (input : Input A) (held : List ℕ) (r : Result (Vec ℕ A) ToolFault)
+      → TakesAll (IsBeginning (2 ^ 32)) a b f (Ok input) → held ≡ input.bytes.items
+      → Gives whole held r → TakesAll (Gives whole) a b f r
+  made_held whole input held r (bytes, all, is) same gives =
+      takes_so (Gives whole) a b f r bytes all
+      (subst (λ (xs : List ℕ). Gives whole xs r) (same ∙ sym is.0 ∙ take_all (2 ^ 32) bytes all.within) gives)
+
+  -- of a frame its beginning is
+  pub made_framed : (limits : Bounds) (n : ℕ) (input : Input A) (held : List ℕ) (r : Result (Vec ℕ A) ToolFault)
+      → 8 * (limits.message_words + most_table_words) < n → TakesAll (IsBeginning n) a b f (Ok input)
+      → held ≡ input.bytes.items → Gives (wholes.Canonical forms.Stream limits) held r
+      → TakesAll (Gives (wholes.Canonical forms.Stream limits)) a b f r
+  made_framed limits n input held r enough (bytes, all, is) same gives =
+      let P : List ℕ → Type 0 = λ xs. Gives (wholes.Canonical forms.Stream limits) xs r in
+      takes_so (Gives (wholes.Canonical forms.Stream limits)) a b f r bytes all
+      (gives_first n limits bytes enough r (subst P (same ∙ sym is.0) gives))
+
+  -- of a packed text its words are
+  pub made_packed : (limits : Bounds) (most : ℕ) (words : Vec ℕ A) (held : List ℕ) (r : Result (Vec ℕ A) ToolFault)
+      → most ≡ limits.message_words + most_table_words → TakesAll (Gives (wholes.Unpacked most)) a b f (Ok words)
+      → held ≡ words.items → Gives (wholes.Canonical forms.Stream limits) held r
+      → TakesAll (Gives (wholes.Canonical forms.Packed limits)) a b f r
+  made_packed limits most words held r is (bytes, all, packs) same gives =
+      let P : List ℕ → Type 0 = λ xs. Gives (wholes.Canonical forms.Stream limits) xs r in
+      takes_so (Gives (wholes.Canonical forms.Packed limits)) a b f r bytes all
+      (gives_packed limits bytes words.items packs.0 (omega (arith, is, packs.1)) r (subst P same gives))
+
+  -- ---- bare bytes
+
+  -- a segment is held whole
+  pub read_short : (n : ℕ) (input : Input A) → TakesAll (IsBeginning n) a b f (Ok input) → input.len ≤ n
+      → TakesAll IsShortBare a b f (Ok input.bytes)
+  read_short n input (bytes, all, is) short =
+      (bytes, all, sym (take_all n bytes (omega (arith, short, is.1))) ∙ is.0)
+
+  -- what is longer is refused
+  pub read_long : (n : ℕ) (input : Input A) (e : BareFault) (len : ℕ) → TakesAll (IsBeginning n) a b f (Ok input)
+      → len ≡ input.len → ((bytes : List ℕ) → length bytes ≡ len → ReadsBare bytes (Err e))
+      → TakesNone (λ bytes. FailsBare bytes (faults.Refused (refusals.Bare e))) a b f (faults.Refused (refusals.Bare e))
+  read_long n input e len (bytes, all, is) same why = inr (bytes, all, (e, refl, why bytes (is.1 ∙ sym same)))
+
+  pub made_bare : (whole : Whole) (input : Vec ℕ A) (held : List ℕ) (r : Result (Vec ℕ A) ToolFault)
+      → TakesAll IsShortBare a b f (Ok input) → held ≡ input.items → Gives whole held r → TakesAll (Gives whole) a b f r
+  made_bare whole input held r (bytes, all, is) same gives =
+      takes_so (Gives whole) a b f r bytes all
+      (subst (λ (xs : List ℕ). Gives whole xs r) (same ∙ sym is) gives)
