@@ -13,7 +13,7 @@ use Rattle.capn_stream.specs.declared.fault.FrameFault.TheVariants as frame_faul
 use Rattle.capn_pack.specs.Packs.{Packs}
 use Rattle.capn_pack.specs.declared.fault.UnpackFault.{UnpackFault}
 use Rattle.capn_walk.specs.Limits.{Bounds}
-use Rattle.capn_canon.specs.Answers.{Answers}
+use Rattle.capn_canon.specs.Denotes.{Answers}
 use Rattle.capn_canon.specs.Reads.{IsFramed, Trails}
 use Rattle.capn_canon.specs.Refused.{IsMisframed, IsRefused}
 use Rattle.capn_canon.specs.declared.form.Form.TheVariants as forms

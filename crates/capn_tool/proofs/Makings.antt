@@ -1,5 +1,6 @@
 -- What is made of an input, from what was read of it.
-use Rattle.std.proofs.Common.{◌≡◌, ◌⊎◌, inl, inr, ℕ, ◌+◌, ◌*◌, ◌<◌, ◌≤◌, ◌^◌, List, length, Bool, Option, Result, Ok, Err}
+use Rattle.std.proofs.Common.{◌≡◌, ◌⊎◌, inl, inr, ℕ, ◌+◌, ◌*◌, ◌<◌, ◌≤◌, ◌^◌, List, length, Bool, Option, Result, Ok}
+use Rattle.std.proofs.Common.{Err}
 use Rattle.std.proofs.Common.{Vec, refl, sym, subst, ◌∙◌, arith, take_all}
 use Rattle.capn_words.specs.Words.{ReadsBare}
 use Rattle.capn_words.specs.declared.bare.BareFault.{BareFault}
@@ -37,7 +38,8 @@ module _ (a b : Option (List ℕ)) (f : Bool) (fault : ToolFault) where
   none_else P Q change (inr (bytes, all, p)) = inr (bytes, all, change bytes p)
 
   -- an input that was not taken
-  pub unread : (whole : Whole) → TakesNone (λ bytes. ⊥) a b f fault → TakesNone (λ bytes. Fails whole bytes fault) a b f fault
+  pub unread : (whole : Whole) → TakesNone (λ bytes. ⊥) a b f fault
+      → TakesNone (λ bytes. Fails whole bytes fault) a b f fault
   unread whole h = none_else (λ bytes. ⊥) (λ bytes. Fails whole bytes fault) (λ bytes none. absurd none) h
 
   pub unread_bare : TakesNone (λ bytes. ⊥) a b f fault → TakesNone (λ bytes. FailsBare bytes fault) a b f fault

@@ -88,8 +88,8 @@ module _ (most : ℕ) (seen words held piece : List ℕ) (at left : ℕ) (h : Ho
       ∙ ap (λ (xs : List ℕ). xs ++ drop taken (held ++ piece)) (sym (flat_map-append text h.groups groups))
 
   -- the piece ends there, or a group is cut
-  pub goes_on : (next : Next) (rest : List ℕ) (to room : ℕ) → UnpacksSome (held ++ piece) left words new taken count next
-      → rest ≡ drop taken (held ++ piece) → to ≡ at + taken → room + count ≡ left
+  pub goes_on : (next : Next) (rest : List ℕ) (to room : ℕ)
+      → UnpacksSome (held ++ piece) left words new taken count next → rest ≡ drop taken (held ++ piece) → to ≡ at + taken → room + count ≡ left
       → (rest ≡ []) ⊎ IsCut room rest → Holds most (seen ++ piece) new rest to room
   goes_on next rest to room u is further less begun = record {
     groups = h.groups ++ u.groups;
@@ -211,7 +211,8 @@ pub taken_piece : (most : ℕ) (seen words held piece : List ℕ) (at left : ℕ
     → IsPending most seen words held at left long → IsPending most (seen ++ piece) new rest to room long
 taken_piece most seen words held piece at left true new taken count next is rest to room off u e kind r further less p =
     absurd (let bad : true ≡ false = off in cc)
-taken_piece most seen words held piece at left false new taken count next is rest to room off u e kind r further less p =
+taken_piece most seen words held piece at left false new taken count next is rest to room off u e kind r further less
+    p =
     goes_on most seen words held piece at left p new taken count next rest to room u r further less begun
   where
     same_room : u.left ≡ room

@@ -3,7 +3,8 @@ use Rattle.std.specs.Prelude.{min}
 use Rattle.std.proofs.Common.{◌-◌, arith, inl, refl, ap, sym, ◌∙◌, take_all}
 use Rattle.std.proofs.lemmas.Result.{err_from_is_err_and}
 use Rattle.std.proofs.KnownBytes.{Consumes-kept}
-use Rattle.capn_tool.proofs.Given.{first_more, given_all, given_broken, given_long, given_memory, given_more, given_none}
+use Rattle.capn_tool.proofs.Given.{first_more, given_all, given_broken, given_long, given_memory, given_more}
+use Rattle.capn_tool.proofs.Given.{given_none}
 use Rattle.capn_tool.proofs.ReadMore.{has_broken, size_kept, still_fine}
 use Rattle.capn_tool.proofs.input.read_all.Goals as goal
 
