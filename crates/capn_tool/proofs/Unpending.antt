@@ -89,7 +89,8 @@ module _ (most : ℕ) (seen words held piece : List ℕ) (at left : ℕ) (h : Ho
 
   -- the piece ends there, or a group is cut
   pub goes_on : (next : Next) (rest : List ℕ) (to room : ℕ)
-      → UnpacksSome (held ++ piece) left words new taken count next → rest ≡ drop taken (held ++ piece) → to ≡ at + taken → room + count ≡ left
+      → UnpacksSome (held ++ piece) left words new taken count next
+      → rest ≡ drop taken (held ++ piece) → to ≡ at + taken → room + count ≡ left
       → (rest ≡ []) ⊎ IsCut room rest → Holds most (seen ++ piece) new rest to room
   goes_on next rest to room u is further less begun = record {
     groups = h.groups ++ u.groups;
