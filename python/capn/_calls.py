@@ -111,7 +111,7 @@ def canonical(
     form. At most 8 * (limits.budget + 1) of them."""
     number, given, bounds = _taken(data, form, limits)
     size = len(given)
-    # As long as the words that the message has: mostly enough. If it isn't, the call tells the length.
+    # As long as the words that the message has: mostly enough. If it isn't, the call reports the length.
     room = 4 * size if form == "packed" else size
     return _filled(lambda *out: lib.capn_canonical(number, given, size, bounds, *out), room)
 

@@ -38,7 +38,7 @@ class Refusal(ValueError):
 
     `name` is the name of its status, as "Range" or "FrameCut". A refusal of the walk has a `place`, the segment and
     word of the slot at which it came, and what was `paid` and how many `visits` were made until then; the others have
-    none, and 0. `at` is the offset, count or index that a refusal tells, or 0."""
+    none, and 0. `at` is the offset, count or index of a refusal that has one, or 0."""
 
     def __init__(
         self, text: str, name: str, place: tuple[int, int] | None = None, paid: int = 0, visits: int = 0, at: int = 0

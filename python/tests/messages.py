@@ -2,7 +2,7 @@
 from hypothesis import strategies as some
 
 # A value is None; ("struct", words, slots); ("list", code, count, bytes), of numbers; ("pointers", values); or ("rows",
-# words, slots, [(words, slots)]), where all rows have as many words and slots as the list tells.
+# words, slots, [(words, slots)]), where all rows have as many words and slots as the list says.
 NUMBERS = some.sampled_from([0, 0, 1, 1 << 63]) | some.integers(0, (1 << 64) - 1)
 BITS = {0: 0, 1: 1, 2: 8, 3: 16, 4: 32, 5: 64}
 

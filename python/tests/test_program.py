@@ -2,9 +2,13 @@
 
 The program is the one that CAPN names, or the one that `make program` builds; without it, all of this is skipped."""
 import os
+import random
 import shutil
 import subprocess
 import unittest
+from concurrent.futures import ThreadPoolExecutor
+from importlib.machinery import SourceFileLoader
+from importlib.util import module_from_spec, spec_from_loader
 from pathlib import Path
 
 from hypothesis import given, settings
@@ -19,6 +23,14 @@ INTEROP = TOP / "interop"
 LIMITS = capn.Limits(message_words=4096, budget=64, depth=8)
 SAME = ["--message-words", "4096", "--budget", "64", "--depth", "8"]
 settings.register_profile("program", deadline=None, max_examples=200, derandomize=True)
+
+
+def script(name):
+    """A program of the folder `interop`, as a module."""
+    spec = spec_from_loader(name, SourceFileLoader(name, str(INTEROP / name)))
+    module = module_from_spec(spec)
+    spec.loader.exec_module(module)
+    return module
 
 
 def program(*words, data):
@@ -64,6 +76,32 @@ class Program(unittest.TestCase):
     def test_pack_and_unpack(self, data):
         self.assertEqual(called(capn.pack, data), program("pack", data=data))
         self.assertEqual(called(capn.unpack, data), program("unpack", data=data))
+
+
+@unittest.skipUnless(PROGRAM, "there is no program")
+class OfTheComparisons(unittest.TestCase):
+    """What the program is compared on with the reference implementation."""
+
+    def test_a_thousand_messages(self):
+        generated, source = script("generated"), random.Random(46)
+        messages = [b"".join(generated.pieces(generated.message(source))) for _ in range(1000)]
+        with ThreadPoolExecutor(4) as pool:
+            wrote = list(pool.map(lambda message: program("canonical", data=message), messages))
+        accepted = 0
+        for message, answer in zip(messages, wrote):
+            with self.subTest(message=message.hex()):
+                self.assertEqual(called(capn.canonical, message), answer)
+            accepted += isinstance(answer, bytes)
+        self.assertGreater(accepted, 200)
+        self.assertLess(accepted, 800)
+
+    def test_hostile_inputs(self):
+        for name, data, form in script("hostile").INPUTS:
+            with self.subTest(name):
+                checked = called(capn.check, data, form)
+                if isinstance(checked, capn.Checked):
+                    checked = f"ok paid {checked.paid} visits {checked.visits}\n".encode()
+                self.assertEqual(checked, program("check", "--form", form, data=data))
 
 
 @unittest.skipUnless(PROGRAM and shutil.which("capnp"), "there is no program, or no command capnp")
