@@ -43,6 +43,7 @@ test:
 	.ci/readings
 	.ci/counts
 	.ci/places
+	.ci/completion
 	rm -rf crates/*/out/rlib
 	rt ci $(ANEW)
 	.ci/statuses
@@ -78,11 +79,12 @@ linked:
 	cd $(BUILD) && ar rcsD libcapn.a capn.o
 	cd $(BUILD) && $(CC) -shared -o libcapn.so.1 -Wl,-soname,libcapn.so.1 -Wl,-z,defs,-z,now capn.o
 
-# The program and its manual page. Builds nothing, so that nothing is proved and built as root.
+# The program, its manual page and its completion for bash. Builds nothing, so that nothing is proved and built as root.
 install:
 	@test -x $(PROGRAM)/out/capn || { echo "there is no program to install: run make program first" >&2; exit 1; }
 	install -D -m 755 $(PROGRAM)/out/capn $(DESTDIR)$(PREFIX)/bin/capn
 	install -D -m 644 docs/capn.1 $(DESTDIR)$(PREFIX)/share/man/man1/capn.1
+	install -D -m 644 docs/capn.bash $(DESTDIR)$(PREFIX)/share/bash-completion/completions/capn
 
 # The library for C, its header and its pkg-config file. Builds nothing either.
 install-library:

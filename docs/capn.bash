@@ -1,0 +1,40 @@
+# Completion of bash for capn, made from its help by .ci/completion.
+_capn() {
+    local word=${COMP_WORDS[COMP_CWORD]} before=${COMP_WORDS[COMP_CWORD - 1]} command=${COMP_WORDS[1]} words=
+    if ((COMP_CWORD == 1)); then
+        mapfile -t COMPREPLY < <(compgen -W 'show check canonical hash pack unpack help --help' -- "$word")
+        return
+    fi
+    case "$command $before" in
+        'show --form') words='stream packed bare' ;;
+        'show --message-words') words='' ;;
+        'show --budget') words='' ;;
+        'show --depth') words='' ;;
+        'show --tariff') words='strict plain' ;;
+        'check --form') words='stream packed bare' ;;
+        'check --message-words') words='' ;;
+        'check --budget') words='' ;;
+        'check --depth') words='' ;;
+        'check --tariff') words='strict plain' ;;
+        'canonical --form') words='stream packed bare' ;;
+        'canonical --message-words') words='' ;;
+        'canonical --budget') words='' ;;
+        'canonical --depth') words='' ;;
+        'canonical --tariff') words='strict plain' ;;
+        'hash --form') words='stream packed bare' ;;
+        'hash --message-words') words='' ;;
+        'hash --budget') words='' ;;
+        'hash --depth') words='' ;;
+        'hash --tariff') words='strict plain' ;;
+        'unpack --message-words') words='' ;;
+        'show '*) words='--form --message-words --budget --depth --tariff --help' ;;
+        'check '*) words='--form --message-words --budget --depth --tariff --help' ;;
+        'canonical '*) words='--form --message-words --budget --depth --tariff --help' ;;
+        'hash '*) words='--form --message-words --budget --depth --tariff --help' ;;
+        'pack '*) words='--help' ;;
+        'unpack '*) words='--message-words --help' ;;
+        'help '*) words='show check canonical hash pack unpack' ;;
+    esac
+    mapfile -t COMPREPLY < <(compgen -W "$words" -- "$word")
+}
+complete -F _capn capn
