@@ -53,6 +53,14 @@ class Arguments(unittest.TestCase):
             with self.subTest(most=most), self.assertRaises(wrong):
                 capn.unpack(b"", max_words=most)
 
+    def test_the_usual_maximum_of_words_is_that_of_the_program(self):
+        words = 8388608 + 2049
+        text = b"\0\xff" * (words // 256) + b"\0\0" * (words % 256)
+        self.assertEqual(len(capn.unpack(text)), 8 * words)
+        with self.assertRaises(capn.Refusal) as caught:
+            capn.unpack(text + b"\0\0")
+        self.assertEqual((caught.exception.name, caught.exception.at), ("PackedTooLong", len(text)))
+
     def test_none_of_these_is_a_refusal(self):
         for wrong in [lambda: capn.check(MESSAGE, "framed"), lambda: capn.Limits(depth=0)]:
             with self.assertRaises(ValueError) as caught:
@@ -62,7 +70,9 @@ class Arguments(unittest.TestCase):
     def test_buffers_of_each_kind(self):
         mapped = mmap.mmap(-1, len(MESSAGE))
         mapped[:] = MESSAGE
-        for data in bytearray(MESSAGE), memoryview(MESSAGE), array.array("I", MESSAGE), mapped:
+        gaps = bytearray(2 * len(MESSAGE))
+        gaps[::2] = MESSAGE
+        for data in bytearray(MESSAGE), memoryview(MESSAGE), array.array("I", MESSAGE), mapped, memoryview(gaps)[::2]:
             with self.subTest(type=type(data)):
                 self.assertEqual(capn.check(data), capn.Checked(paid=3, visits=1))
                 self.assertEqual(capn.digest(data), capn.digest(MESSAGE))
