@@ -54,16 +54,17 @@ test:
 bench:
 	cd crates/bench && rt run > /dev/null && ./out/bench times
 
-# The program and the library as it is called from C, Python and Rust, on every stored vector; the guide's recipes; and
-# where the reference implementation is installed: messages that it wrote, the lines of docs/DIFFERENCES.md, and its
-# table of hostile inputs. With the program that the gate builds, or with an installed one:
+# The program and the library as it is called from C, Python and Rust, on every stored vector; the package for Python;
+# the guide's recipes; and where the reference implementation is installed: messages that it wrote, the lines of
+# docs/DIFFERENCES.md, and its table of hostile inputs. With the program that the gate builds, or with an installed one:
 # make interop CAPN=/usr/local/bin/capn.
 interop: $(if $(CAPN),,program library)
 	./c/tests/agree
 	./interop/recipes
 	./interop/run
 	./interop/differences
-	@if command -v python3 > /dev/null; then ./interop/hostile; else echo "hostile: skipped, since there is no python3"; fi
+	@if command -v python3 > /dev/null; then ./python/tests/run && ./interop/hostile; \
+	else echo "python, hostile: skipped, since there is no python3"; fi
 
 # The library for C, proved: the archive of capn_c and what is made of it.
 library:

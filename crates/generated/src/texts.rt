@@ -1,8 +1,8 @@
-//! Texts of values, which are read back: one by one, at the front of more, and as a stream.
+//! Texts of values, which are read back: one by one, and as a stream.
 
 use crate::writing::message;
 use capn_stream::first;
-use capn_text::{Texts, read, read_first};
+use capn_text::{Texts, read};
 use capn_value::{Tree, same, show};
 use capn_walk::{Limits, walk};
 use capn_words::MOST_MESSAGE_WORDS;
@@ -36,18 +36,7 @@ fn is_read(alloc: Global, tree: &Tree, read: Option<Tree>, text: &[u8]) -> bool 
     }
 }
 
-// What is read at the front of bytes that have one more behind the text, if it took all of the text.
-fn read_at_front(alloc: Global, text: &[u8]) -> Result<Option<Tree>, AllocError> {
-    let mut more = Vec::new(alloc);
-    more.extend_from_slice(text)?;
-    more.push(10)?;
-    match read_first(alloc, more.as_slice()) {
-        Ok((tree, taken)) if taken == text.len() => Ok(Some(tree)),
-        _ => Ok(None),
-    }
-}
-
-// Whether the text of a tree is read back as this tree, by itself and at the front; the text joins a stream.
+// Whether the text of a tree is read back as this tree; the text joins a stream.
 fn joins(alloc: Global, tree: &Tree, stream: &mut Vec<u8>) -> Result<bool, AllocError> {
     let Ok(text) = show(alloc, tree) else {
         return Ok(false);
@@ -55,11 +44,7 @@ fn joins(alloc: Global, tree: &Tree, stream: &mut Vec<u8>) -> Result<bool, Alloc
     stream.extend_from_slice(text.as_bytes())?;
     stream.extend_from_slice(b"end\n")?;
     let alone = read(alloc, text.as_bytes()).ok();
-    let in_front = read_at_front(alloc, text.as_bytes())?;
-    Ok(
-        is_read(alloc, tree, alone, text.as_bytes())
-            && is_read(alloc, tree, in_front, text.as_bytes()),
-    )
+    Ok(is_read(alloc, tree, alone, text.as_bytes()))
 }
 
 // Whether the next text of a stream is read as this tree.

@@ -1,9 +1,17 @@
 -- What is said of the canonical bytes is said of the bytes in the buffer.
-use Rattle.std.proofs.Common.{rules, ap, sym, ◌∙◌, Err}
+use Rattle.std.proofs.Common.{rules, List, ℕ, inr, ap, sym, subst, ◌∙◌, Err}
 use Rattle.capn_canon.specs.Canonicity.{IsCanonicalForm}
+use Rattle.capn_c.specs.Calls.{Delivers}
 use Rattle.capn_c.proofs.Delivered.{in_buffer}
 use Rattle.capn_c.proofs.OutOfMemory.{refused_memory}
 use Rattle.capn_c.proofs.canonical.lay.Goals as goal
+
+pub returns-in-Ok-clause-only : goal.returns-in-Ok-clause-only
+returns-in-Ok-clause-only c v d n =
+    let told : Delivers c.in-Ok.canonical.bytes.items c.deliver.result c.answer_of.result.length c.args.out.now
+    c.deliver.new.out = search rules in
+    inr (subst (λ (b : List ℕ). Delivers b c.deliver.result c.answer_of.result.length c.args.out.now c.deliver.new.out)
+    (c.in-Ok.ensures.only v d n) told)
 
 pub returns-in-Ok-clause-canonical : goal.returns-in-Ok-clause-canonical
 returns-in-Ok-clause-canonical c e v d =
