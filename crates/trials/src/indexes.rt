@@ -139,7 +139,7 @@ fn is_indexed(alloc: Global, words: &[u64], want: &[Entry], paid: u32) -> Result
     let bytes = bytes_of(alloc, words)?;
     let told = Indexed {
         paid,
-        visits: want.len() as u32,
+        visits: u32::try_from(want.len()).unwrap_or(0),
     };
     for most in 0..=6usize {
         if !is_put(bytes.as_slice(), want, told, most) {
