@@ -195,7 +195,7 @@ fn streams_cut_at_every_byte(rt: HostRuntime) -> Result<(), Fail> {
 }
 
 /// A table of so many segments and one more, of which the first alone has a word, and its null.
-fn long_table(alloc: Global, count: u32) -> Result<Vec<u8>, Fail> {
+pub(crate) fn long_table(alloc: Global, count: u32) -> Result<Vec<u8>, Fail> {
     let mut bytes = Vec::new(alloc);
     bytes.extend_from_slice(&count.to_le_bytes())?;
     bytes.extend_from_slice(&[1, 0, 0, 0])?;

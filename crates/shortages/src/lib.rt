@@ -11,11 +11,17 @@ mod endless;
 #[cfg(test)]
 mod framers;
 #[cfg(test)]
+mod growing;
+#[cfg(test)]
+mod reads;
+#[cfg(test)]
 mod refused;
 #[cfg(test)]
 mod short_runs;
 #[cfg(test)]
 mod short_streams;
+#[cfg(test)]
+mod short_texts;
 #[cfg(test)]
 mod short_values;
 #[cfg(test)]

@@ -2,8 +2,9 @@
 
 use crate::short_runs::*;
 use crate::short_streams::*;
+use crate::short_texts::*;
 use crate::short_values::*;
-use crate::subject::{Answer, Subject, chain, judged, limits, subject_of, wanting};
+use crate::subject::{Answer, Subject, chain, judged, limits, packed_of, subject_of, wanting};
 use crate::words::bytes_of;
 use capn_canon::{Form, Refusal, is_canonical};
 use capn_tool::{Command, ToolFault};
@@ -16,7 +17,7 @@ use std::test::Fail;
 
 /// A message of three segments: a struct with a word, a text, two rows, two pointers, and a double-far pointer to a
 /// struct.
-const STREAM: [u64; 20] = [
+pub(crate) const STREAM: [u64; 20] = [
     0xf_0000_0002,
     0x1_0000_0002,
     0x4_0001_0000_0000,
@@ -62,7 +63,12 @@ pub(crate) enum Call {
     FeedPacked,
     Walk,
     Survey,
+    Index,
+    DeepIndex,
     Show,
+    ReadText,
+    ReadFirst,
+    Texts,
     Trim,
     Copy,
     Items,
@@ -77,7 +83,7 @@ pub(crate) enum Call {
 }
 
 /// Calls that take memory. A list that is constant costs its users nothing to check.
-pub(crate) const CALLS: [(&str, Call); 28] = [
+pub(crate) const CALLS: [(&str, Call); 33] = [
     ("first", Call::First),
     ("frame", Call::Frame),
     ("feed", Call::Feed),
@@ -87,7 +93,12 @@ pub(crate) const CALLS: [(&str, Call); 28] = [
     ("feed of packed bytes", Call::FeedPacked),
     ("walk", Call::Walk),
     ("survey", Call::Survey),
+    ("index", Call::Index),
+    ("index of a chain", Call::DeepIndex),
     ("show", Call::Show),
+    ("read of a text", Call::ReadText),
+    ("read_first of a text", Call::ReadFirst),
+    ("texts", Call::Texts),
     ("trim", Call::Trim),
     ("copy", Call::Copy),
     ("items", Call::Items),
@@ -132,7 +143,12 @@ pub(crate) fn answer(of: &Subject, short: &Refusing<Global>, call: Call) -> Answ
         Call::FeedPacked => feed_packed_answer(of, short),
         Call::Walk => walk_answer(of, short),
         Call::Survey => survey_answer(of, short),
+        Call::Index => index_answer(of, short, &of.message),
+        Call::DeepIndex => deep_index_answer(of, short),
         Call::Show => show_answer(of, short),
+        Call::ReadText => read_text_answer(of, short),
+        Call::ReadFirst => read_first_answer(of, short),
+        Call::Texts => texts_answer(of, short),
         Call::Trim => judged_tree(of, trim(short, &of.walked.tree)),
         Call::Copy => judged_tree(of, copy(short, &of.walked.tree)),
         Call::Items => items_answer(short),
@@ -198,8 +214,6 @@ fn shows_twice(alloc: Global, twice: &[u8], text: &[u8], number: u64) -> (bool, 
 }
 
 /// Where a growth for the second of two messages is refused, the text of the first is written all the same.
-///
-/// The framer makes good a growth that was refused for the ends of the second's segments.
 #[test]
 fn the_first_message_is_written(rt: HostRuntime) -> Result<(), Fail> {
     let once = bytes_of(rt.alloc(), &STREAM)?;
@@ -212,12 +226,65 @@ fn the_first_message_is_written(rt: HostRuntime) -> Result<(), Fail> {
     for number in heap.count().saturating_add(1)..1_000 {
         match shows_twice(rt.alloc(), twice.as_slice(), text.as_slice(), number) {
             (true, Answer::Right) if was_refused => return Ok(()),
-            (false, Answer::Right) => {}
             (false, Answer::Memory) => was_refused = true,
             _ => assert!(rt; false, "growth {number}"),
         }
     }
     Err(Fail::new("a thousand growths"))
+}
+
+/// A stream of null in one segment, and of a struct of one word that is in two.
+const TWO: [u64; 7] = [
+    0x1_0000_0000,
+    0,
+    0x1_0000_0001,
+    0x2,
+    0x1_0000_0002,
+    0x1_0000_0000,
+    5,
+];
+
+/// Whether no growth of a run had this number, and whether the run ended as done then, and else as Memory.
+fn ends_by(alloc: Global, command: &Command, input: &[u8], number: u64) -> (bool, bool) {
+    let short = Refusing::nth(alloc, number);
+    let (outcome, _) = output(alloc, &short, *command, input);
+    let is_spared = short.has_spared();
+    let want = if is_spared {
+        Ok(())
+    } else {
+        Err(ToolFault::Memory)
+    };
+    (is_spared, outcome == want)
+}
+
+/// How many growths a run has, each of which ends it as Memory where it is refused. None where one doesn't.
+fn growths_of(alloc: Global, command: &Command, input: &[u8]) -> Option<u64> {
+    for number in 1..1_000u64 {
+        match ends_by(alloc, command, input, number) {
+            (true, true) => return Some(number - 1),
+            (false, true) => {}
+            _ => return None,
+        }
+    }
+    None
+}
+
+/// Wherever a growth is refused the run ends as Memory, also for a message that is whole in a piece after another one.
+#[test]
+fn a_refused_growth_ends_a_run(rt: HostRuntime) -> Result<(), Fail> {
+    let stream = bytes_of(rt.alloc(), &TWO)?;
+    let packed = packed_of(rt.alloc(), stream.as_slice())?;
+    let usual = limits(64);
+    for (command, input) in [
+        (Command::Show(Form::Stream, usual), stream.as_slice()),
+        (Command::Check(Form::Stream, usual), stream.as_slice()),
+        (Command::Hash(Form::Stream, usual), stream.as_slice()),
+        (Command::Check(Form::Packed, usual), packed.as_slice()),
+    ] {
+        let growths = growths_of(rt.alloc(), &command, input);
+        assert!(rt; matches!(growths, Some(count) if 3 <= count), "{command:?}");
+    }
+    Ok(())
 }
 
 /// Whether a chain of 63 structs is canonical and tells its price and its visits.

@@ -3,8 +3,8 @@
 use crate::subject::{Answer, Subject, judged, limits, wanting};
 use capn_canon::{LayoutFault, Patch, layout};
 use capn_value::{Items, Memory, Tree, same, show};
-use capn_walk::{Fault, survey, walk};
-use capn_words::Bare;
+use capn_walk::{Fault, index, survey, walk};
+use capn_words::{Bare, Space};
 use refusing::Refusing;
 use std::alloc::{AllocError, Global};
 
@@ -29,6 +29,28 @@ pub(crate) fn survey_answer(of: &Subject, short: &Refusing<Global>) -> Answer {
     match survey(short, &bare, limits(256)) {
         Ok(told) => judged(told.visits == 141),
         Err(stopped) => wanting(matches!(stopped.fault, Fault::Memory)),
+    }
+}
+
+/// The index of a message.
+pub(crate) fn index_answer<S: Space>(of: &Subject, short: &Refusing<Global>, space: &S) -> Answer {
+    match (
+        index(short, space, limits(256)),
+        index(of.alloc, space, limits(256)),
+    ) {
+        (Ok(index), Ok(want)) => judged(
+            index.paid == want.paid && index.entries.as_slice() == want.entries.as_slice(),
+        ),
+        (Err(stopped), Ok(_)) => wanting(matches!(stopped.fault, Fault::Memory)),
+        _ => Answer::Wrong,
+    }
+}
+
+/// The index of the chain, whose survey grows too.
+pub(crate) fn deep_index_answer(of: &Subject, short: &Refusing<Global>) -> Answer {
+    match Bare::new(of.chain.as_slice()) {
+        Ok(bare) => index_answer(of, short, &bare),
+        Err(_) => Answer::Wrong,
     }
 }
 

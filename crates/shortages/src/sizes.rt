@@ -15,7 +15,7 @@ use std::process::Abort;
 use std::test::Fail;
 
 /// The stream of a message of one segment.
-fn stream_of(alloc: Global, segment: &[u8]) -> Result<Vec<u8>, AllocError> {
+pub(crate) fn stream_of(alloc: Global, segment: &[u8]) -> Result<Vec<u8>, AllocError> {
     let count = (segment.len() / 8) as u64;
     let mut stream = bytes_of(alloc, &[count << 32])?;
     stream.extend_from_slice(segment)?;
@@ -33,7 +33,7 @@ fn segment_of(alloc: Global, root: u64, count: u64) -> Result<Vec<u8>, AllocErro
 }
 
 /// A list of numbers of eight bytes of a mebibyte.
-fn long_list(alloc: Global) -> Result<Vec<u8>, AllocError> {
+pub(crate) fn long_list(alloc: Global) -> Result<Vec<u8>, AllocError> {
     segment_of(alloc, 0x10_0005_0000_0001, 131_072)
 }
 
@@ -54,10 +54,19 @@ fn within(rt: &impl Abort, of: &Subject, name: &str, call: Call, most: usize) {
     );
 }
 
-/// Puts a message through each call; six of them take something small in its place.
+/// Puts a message of one segment through each call; seven of them take something small in its place.
 fn through_each(rt: &impl Abort, alloc: Global, segment: &[u8]) -> Result<(), Fail> {
     let stream = stream_of(alloc, segment)?;
-    let of = subject_of(alloc, stream.as_slice())?;
+    stream_through_each(rt, alloc, stream.as_slice())
+}
+
+/// The same of a message by its stream.
+pub(crate) fn stream_through_each(
+    rt: &impl Abort,
+    alloc: Global,
+    stream: &[u8],
+) -> Result<(), Fail> {
+    let of = subject_of(alloc, stream)?;
     let most = stream.len().saturating_mul(8).saturating_add(1 << 19);
     for (name, call) in CALLS {
         within(rt, &of, name, call, most);

@@ -48,7 +48,7 @@ pub(crate) fn chain(alloc: Global, levels: u32) -> Result<Vec<u8>, AllocError> {
 }
 
 /// The packed text of a stream.
-fn packed_of(alloc: Global, stream: &[u8]) -> Result<Vec<u8>, Fail> {
+pub(crate) fn packed_of(alloc: Global, stream: &[u8]) -> Result<Vec<u8>, Fail> {
     match pack(alloc, stream) {
         Ok(packed) => Ok(packed),
         Err(_) => Err(Fail::new("no text")),
