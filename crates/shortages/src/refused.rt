@@ -67,7 +67,6 @@ pub(crate) enum Call {
     DeepIndex,
     Show,
     ReadText,
-    ReadFirst,
     Texts,
     Trim,
     Copy,
@@ -83,7 +82,7 @@ pub(crate) enum Call {
 }
 
 /// Calls that take memory. A list that is constant costs its users nothing to check.
-pub(crate) const CALLS: [(&str, Call); 33] = [
+pub(crate) const CALLS: [(&str, Call); 32] = [
     ("first", Call::First),
     ("frame", Call::Frame),
     ("feed", Call::Feed),
@@ -97,7 +96,6 @@ pub(crate) const CALLS: [(&str, Call); 33] = [
     ("index of a chain", Call::DeepIndex),
     ("show", Call::Show),
     ("read of a text", Call::ReadText),
-    ("read_first of a text", Call::ReadFirst),
     ("texts", Call::Texts),
     ("trim", Call::Trim),
     ("copy", Call::Copy),
@@ -147,7 +145,6 @@ pub(crate) fn answer(of: &Subject, short: &Refusing<Global>, call: Call) -> Answ
         Call::DeepIndex => deep_index_answer(of, short),
         Call::Show => show_answer(of, short),
         Call::ReadText => read_text_answer(of, short),
-        Call::ReadFirst => read_first_answer(of, short),
         Call::Texts => texts_answer(of, short),
         Call::Trim => judged_tree(of, trim(short, &of.walked.tree)),
         Call::Copy => judged_tree(of, copy(short, &of.walked.tree)),

@@ -2,7 +2,7 @@
 
 use crate::short_values::judged_tree;
 use crate::subject::{Answer, Subject, wanting};
-use capn_text::{TextFault, Texts, read, read_first};
+use capn_text::{TextFault, Texts, read};
 use capn_value::{Tree, same, show};
 use refusing::Refusing;
 use std::alloc::{AllocError, Global};
@@ -31,18 +31,6 @@ fn ended_text(of: &Subject) -> Result<Vec<u8>, AllocError> {
     }
     bytes.extend_from_slice(b"end\n")?;
     Ok(bytes)
-}
-
-/// The value whose text stands in front of the line `end`.
-pub(crate) fn read_first_answer(of: &Subject, short: &Refusing<Global>) -> Answer {
-    let Ok(text) = ended_text(of) else {
-        return Answer::Wrong;
-    };
-    match read_first(short, text.as_slice()) {
-        Ok((tree, taken)) if taken.saturating_add(4) == text.len() => judged_tree(of, Ok(tree)),
-        Ok(_) => Answer::Wrong,
-        Err(fault) => wanting(fault == TextFault::Memory),
-    }
 }
 
 /// Whether the next text is still that of the value.
