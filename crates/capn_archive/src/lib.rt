@@ -5,6 +5,7 @@
 
 mod fault;
 mod message;
+mod order;
 mod output;
 mod position;
 mod service;

@@ -1,0 +1,27 @@
+//! What a run does with an archive.
+
+use capn_canon::{Form, Limits};
+
+/// What is done with the messages of an archive.
+#[derive(Clone, Copy, Debug, PartialEq, Eq)]
+pub enum Task {
+    /// Writes a line for each message: where it is, how large, what it costs, and whether it is canonical.
+    List,
+    /// Writes at the end the limits that all messages need.
+    Limits,
+    /// Writes the canonical bytes of each message, as a frame of one segment.
+    Canonical,
+}
+
+/// What a run does with an archive.
+#[derive(Clone, Copy, Debug, PartialEq, Eq)]
+pub struct Archive {
+    /// What is done with each message.
+    pub task: Task,
+    /// How the input holds the messages.
+    pub form: Form,
+    /// The limits of each message.
+    pub limits: Limits,
+    /// Whether a message that is refused is passed over, and the next one served.
+    pub keep_going: bool,
+}
