@@ -32,7 +32,7 @@ pub record Place : Type 0 where
 
 -- The first line of a text is that of a value: both texts begin with the same bytes, in which a line ends.
 abbrev pub BeginsAs : List ℕ → Tree → Type 0
-BeginsAs text v = (front : List ℕ) × (rest : List ℕ) × (more : List ℕ) × (text ≡ front ++ rest)
+BeginsAs text v = IsShowable v × (front : List ℕ) × (rest : List ℕ) × (more : List ℕ) × (text ≡ front ++ rest)
     × (show_text v ≡ front ++ more) × (0 < ended_lines front)
 
 -- Line n is the first that doesn't go on: some value, spelled so, has the lines before it, and none has that line, too.

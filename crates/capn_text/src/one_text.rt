@@ -45,7 +45,7 @@ pub fn read<A: Allocator + Copy>(alloc: A, text: &[u8]) -> Result<Tree<A>, TextF
     // A misfit is that of the value which has this text, or the text goes too deep, whatever follows.
     ensures misfit { IfErr result (λ e. (m : Misfit) → e ≡ faults.Misfit m →
         ((m ≡ Tall) × GoesTooDeep text.now)
-        ⊎ ((v : trees.Tree) × InRange v × (text.now ≡ show_text v) × (misfit v ≡ Some m))) }
+        ⊎ ((v : trees.Tree) × InRange v × IsShowable v × (text.now ≡ show_text v) × (misfit v ≡ Some m))) }
 {
     let (value, rest) = first_value(alloc, text)?;
     if has_more(rest) {
@@ -56,7 +56,8 @@ pub fn read<A: Allocator + Copy>(alloc: A, text: &[u8]) -> Result<Tree<A>, TextF
     Ok(tree)
 }
 
-fn has_more(rest: &[u8]) -> bool
+/// Whether any bytes are left.
+pub fn has_more(rest: &[u8]) -> bool
     ensures more { result ≡ true → rest.now ≢ [] }
     ensures over { result ≡ false → rest.now ≡ [] }
 {
@@ -73,6 +74,7 @@ pub fn first_value<A: Allocator + Copy>(
 ) -> Result<(Value<A>, &[u8]), TextFault>
     ensures found { IfOk result (λ x. text.now ≡ show_text (tree_of x.0) ++ x.1.now) }
     ensures range { IfOk result (λ x. InRange (tree_of x.0)) }
+    ensures showable { IfOk result (λ x. IsShowable (tree_of x.0)) }
     // A value of at most 256 levels whose text is at the front is read, unless memory runs out.
     ensures only { (v : trees.Tree) (rest : List ℕ) → IsShowable v → height v ≤ most_height →
         text.now ≡ show_text v ++ rest →
@@ -106,9 +108,10 @@ pub fn first_value<A: Allocator + Copy>(
     }
 }
 
-// Whether the first line is that of no value.
-fn has_no_head(text: &[u8]) -> bool
+/// Whether the first line is that of no value.
+pub fn has_no_head(text: &[u8]) -> bool
     ensures none { result ≡ true → values.head_at 0 text.now ≡ None }
+    ensures other { result ≡ true → (v : trees.Tree) → BeginsAs text.now v → ⊥ }
     ensures some { result ≡ false → (v : trees.Tree) × BeginsAs text.now v }
 {
     match head_at(0, text) {

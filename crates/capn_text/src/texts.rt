@@ -2,7 +2,7 @@
 
 ghost use Rattle.std.specs.Prelude.{◌≡◌, ◌≢◌, ◌⊎◌, ◌≤◌, ◌<◌, ◌+◌, ◌-◌, ◌^◌, ◌++◌, ℕ, List, []};
 ghost use Rattle.std.specs.Prelude.{IfOk, IfErr, OnErr, MatchResult};
-ghost use Rattle.std.specs.Prelude.{MatchOption, Ok, Some, None};
+ghost use Rattle.std.specs.Prelude.{MatchOption, Ok, Some, None, true, false};
 ghost use Rattle.capn_value.specs.Tree as trees;
 ghost use Rattle.capn_value.specs.Sizes.{height, most_height};
 ghost use Rattle.capn_value.specs.Fits.{Fits, misfit};
@@ -16,7 +16,7 @@ ghost use Rattle.capn_text.specs.declared.fault.TextFault.TheVariants as faults;
 
 use crate::fault::TextFault;
 use crate::lines::lines_before;
-use crate::one_text::{first_value, fitting};
+use crate::one_text::{first_value, fitting, has_more, has_no_head};
 use crate::tokens::skip;
 use capn_value::Tree;
 use std::alloc::Allocator;
@@ -56,6 +56,22 @@ impl<'t> Texts<'t> {
         ensures { result ≡ self.now.line }
     {
         self.line
+    }
+
+    /// Whether the end of the input is reached. Takes no memory.
+    pub fn is_done(&self) -> bool
+        ensures over { result ≡ true → self.now.rest ≡ [] }
+        ensures more { result ≡ false → self.now.rest ≢ [] }
+    {
+        !has_more(self.rest)
+    }
+
+    /// Whether the first line of what is left is that of a value. Takes no memory.
+    pub fn begins(&self) -> bool
+        ensures begun { result ≡ true → (v : trees.Tree) × BeginsAs self.now.rest v }
+        ensures other { result ≡ false → (v : trees.Tree) → BeginsAs self.now.rest v → ⊥ }
+    {
+        !has_no_head(self.rest)
     }
 
     /// The tree of the next text, or none at the end of the input.
@@ -99,7 +115,7 @@ impl<'t> Texts<'t> {
         // follows.
         ensures misfit { IfErr result (λ e. (m : Misfit) → e ≡ faults.Misfit m →
             ((m ≡ Tall) × GoesTooDeep self.old.rest) ⊎ ((v : trees.Tree) × (rest : List ℕ) × InRange v
-            × (self.old.rest ≡ show_text v ++ (end_line ++ rest)) × (misfit v ≡ Some m))) }
+            × IsShowable v × (self.old.rest ≡ show_text v ++ (end_line ++ rest)) × (misfit v ≡ Some m))) }
     {
         if self.rest.is_empty() {
             return Ok(None);

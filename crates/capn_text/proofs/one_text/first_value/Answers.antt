@@ -1,4 +1,4 @@
-use Rattle.std.proofs.Common.{◌≡◌, ◌+◌, [], refl, sym, ap, subst, ◌∙◌}
+use Rattle.std.proofs.Common.{◌+◌, [], refl, sym, ap, subst, ◌∙◌}
 use Rattle.std.proofs.lemmas.List.{append-nil}
 use Rattle.capn_value.specs.Text.{show_text}
 use Rattle.capn_text.specs.Streams.{end_line, ended_text, IsFirstWrong}
@@ -24,6 +24,10 @@ returns-in-Ok-clause-found g c =
 pub returns-in-Ok-clause-range : goal.returns-in-Ok-clause-range
 returns-in-Ok-clause-range g c =
     in_range (tree_of c.in-Ok.value)
+    (tree_takes 256 0 c.args.text.now (tree_of c.in-Ok.value) c.in-Ok.rest.now c.in-Ok.ensures).1
+
+pub returns-in-Ok-clause-showable : goal.returns-in-Ok-clause-showable
+returns-in-Ok-clause-showable g c =
     (tree_takes 256 0 c.args.text.now (tree_of c.in-Ok.value) c.in-Ok.rest.now c.in-Ok.ensures).1
 
 pub returns-in-Ok-clause-only : goal.returns-in-Ok-clause-only

@@ -1,5 +1,5 @@
 use Rattle.capn_text.specs.Values.{head_at}
-use Rattle.capn_text.proofs.FirstLine.{begins}
+use Rattle.capn_text.proofs.FirstLine.{begins, begins_none}
 use Rattle.capn_text.proofs.StopLaws.{idle_none}
 use Rattle.capn_text.proofs.one_text.has_no_head.Goals as goal
 
@@ -10,3 +10,7 @@ returns-in-Ok-clause-some c e =
 pub returns-in-Err-clause-none : goal.returns-in-Err-clause-none
 returns-in-Err-clause-none c e =
     (idle_none c.in-Err.field-0 (head_at 0 c.args.text.now) c.in-Err.ensures.value)
+
+pub returns-in-Err-clause-other : goal.returns-in-Err-clause-other
+returns-in-Err-clause-other c e =
+    begins_none c.args.text.now (idle_none c.in-Err.field-0 (head_at 0 c.args.text.now) c.in-Err.ensures.value)

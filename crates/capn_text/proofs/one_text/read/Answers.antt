@@ -1,4 +1,4 @@
-use Rattle.std.proofs.Common.{◌≡◌, ◌++◌, [], Some, inl, inr, refl, sym, ap, subst, ◌∙◌, ◌+◌}
+use Rattle.std.proofs.Common.{◌++◌, [], Some, inl, inr, refl, sym, ap, subst, ◌∙◌, ◌+◌}
 use Rattle.capn_text.specs.Streams.{IsFirstWrong}
 use Rattle.capn_text.proofs.StreamTexts.{line_number, lines_counted}
 use Rattle.std.proofs.lemmas.Result.{err_from_is_err_and}
@@ -45,6 +45,7 @@ returns-in_err-tree-clause-misfit g c =
     rw (q.1, q.2) (λ m same. inr (
       tree_of c.in_ok-value.value,
       c.in_ok-value.ensures.range,
+      c.in_ok-value.ensures.showable,
       c.in_ok-value.ensures.found ∙ ap (λ r. show_text (tree_of c.in_ok-value.value) ++ r)
           (c.if-has_more.ensures.over refl)
           ∙ append-nil (show_text (tree_of c.in_ok-value.value)),

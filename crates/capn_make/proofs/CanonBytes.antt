@@ -1,0 +1,47 @@
+-- The length of canonical bytes and of their frame.
+use Rattle.std.proofs.Common.{◌≡◌, ℕ, ◌*◌, ◌/◌, ◌%◌, ◌^◌, ◌<◌, List, ◌++◌, length, replicate, arith, ap}
+use Rattle.std.proofs.Common.{length-append, refl}
+use Rattle.std.specs.Int.{to_le_bytes, w32}
+use Rattle.capn_words.specs.Words.{IsBare}
+use Rattle.capn_words.specs.Laws.Words.{length-bytes}
+use Rattle.capn_value.specs.Tree.{Tree}
+use Rattle.capn_value.specs.Fits.{Fits}
+use Rattle.capn_value.specs.InRange.{InRange}
+use Rattle.capn_value.specs.Sizes.{cost, height}
+use Rattle.capn_value.specs.declared.tariff.Tariff.TheVariants.{Plain}
+use Rattle.capn_walk.specs.Limits.{Bounds}
+use Rattle.capn_canon.specs.Layout.{canon}
+use Rattle.capn_canon.specs.Laws.{CanonIsForm}
+use Rattle.capn_make.specs.Pieces.{framed}
+
+-- limits that a value meets
+limits_of : Tree → Bounds
+limits_of v = record { message_words = 1; budget = cost 0 v; depth = height v; tariff = Plain }
+
+module _ (law : CanonIsForm) (v : Tree) (fits : Fits v) (range : InRange v) where
+  -- canonical bytes are those of as many words as a message may have
+  pub canon_bare : (ws : List ℕ) × IsBare (canon v) ws
+  unfolding limits_of
+  canon_bare =
+      let form = law v (limits_of v) fits range (omega arith) (omega arith) in
+      let reads = form.reads_back.denotes.reads in
+      (reads.0, reads.1)
+
+  canon_length : length (canon v) ≡ 8 * length canon_bare.0
+  canon_length = let e = ap length canon_bare.1.same in let k = length-bytes canon_bare.0 in omega arith
+
+  pub canon_short : length (canon v) < 2 ^ 35
+  canon_short = let e = canon_length in let room = canon_bare.1.room in omega arith
+
+  pub canon_whole : length (canon v) % 8 ≡ 0
+  canon_whole = let e = canon_length in omega arith
+
+-- the frame of whole words is whole words
+pub framed_whole : (bytes : List ℕ) → length bytes % 8 ≡ 0 → length (framed bytes) % 8 ≡ 0
+framed_whole bytes whole =
+    let head = to_le_bytes w32 (length bytes / 8) in
+    let size : length head ≡ 4 = refl in
+    let a = length-append (replicate 4 0) (head ++ bytes) in
+    let b = length-append head bytes in
+    let c : length {A = ℕ} (replicate 4 0) ≡ 4 = refl in
+    omega arith

@@ -1,0 +1,51 @@
+-- Texts that begin an input, and one more.
+use Rattle.std.proofs.Common.{◌≡◌, ℕ, ◌+◌, ◌==◌, List, [], ◌∷◌, ◌++◌, cond, refl, sym, ap, ◌∙◌, append_assoc, arith}
+use Rattle.std.proofs.lemmas.List.{append-nil}
+use Rattle.std.specs.List.{AllByRecursion}
+use Rattle.capn_value.specs.Tree.{Tree}
+use Rattle.capn_value.specs.Text.{show_text}
+use Rattle.capn_text.specs.Streams.{end_line, ended_lines, stream_text}
+use Rattle.capn_canon.specs.declared.form.Form.{Form}
+use Rattle.capn_make.specs.Pieces.{IsMakeable, IsPiece, AreMade}
+use Rattle.capn_make.specs.Makes.{AreFirst}
+
+pub lines_append : (x y : List ℕ) → ended_lines (x ++ y) ≡ ended_lines x + ended_lines y
+lines_append [] y = omega arith
+lines_append (c ∷ cs) y =
+    let h = lines_append cs y in
+    let k : cond (c == 10) 1 0 + ended_lines (cs ++ y) ≡ cond (c == 10) 1 0 + ended_lines cs + ended_lines y =
+    omega arith in
+    k
+
+all_more : (vs : List Tree) (v : Tree) → AllByRecursion IsMakeable vs → IsMakeable v
+    → AllByRecursion IsMakeable (vs ++ v ∷ [])
+all_more [] v each one = (one, tt)
+all_more (u ∷ us) v each one = (each.0, all_more us v each.1 one)
+
+stream_more : (vs : List Tree) (v : Tree) (rest : List ℕ)
+    → stream_text vs ++ (show_text v ++ (end_line ++ rest)) ≡ stream_text (vs ++ v ∷ []) ++ rest
+stream_more [] v rest = sym (append_assoc (show_text v) (end_line ++ []) rest)
+stream_more (u ∷ us) v rest =
+    append_assoc (show_text u) (end_line ++ stream_text us) (show_text v ++ (end_line ++ rest))
+    ∙ ap (λ x. show_text u ++ (end_line ++ x)) (stream_more us v rest)
+    ∙ sym (append_assoc (show_text u) (end_line ++ stream_text (us ++ v ∷ [])) rest)
+
+-- one text more begins the input
+pub first_more : (vs : List Tree) (v : Tree) (input rest more : List ℕ) → AreFirst vs input rest → IsMakeable v
+    → rest ≡ show_text v ++ (end_line ++ more) → AreFirst (vs ++ v ∷ []) input more
+first_more vs v input rest more first one is = record {
+  each = all_more vs v first.each one;
+  are = first.are ∙ ap (λ r. stream_text vs ++ r) is ∙ stream_more vs v more;
+}
+
+-- what is made of one more is appended
+pub made_more : (form : Form) (vs : List Tree) (text : List ℕ) (v : Tree) (piece : List ℕ) → AreMade form vs text
+    → IsPiece form v piece → AreMade form (vs ++ v ∷ []) (text ++ piece)
+made_more form [] text v piece made is = (piece, [], is, refl, ap (λ t. t ++ piece) made ∙ sym (append-nil piece))
+made_more form (u ∷ us) text v piece made is = (
+  made.0,
+  made.1 ++ piece,
+  made.2,
+  made_more form us made.1 v piece made.3 is,
+  ap (λ t. t ++ piece) made.4 ∙ append_assoc made.0 made.1 piece,
+)

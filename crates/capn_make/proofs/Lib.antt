@@ -1,0 +1,10 @@
+pub mod CanonBytes
+pub mod Failures
+pub mod FramesOfCanon
+pub mod FirstTexts
+pub mod NextTexts
+pub mod OnlyText
+pub mod RunEnds
+pub mod OneReading
+pub mod OneRefusal
+pub mod ShownTexts

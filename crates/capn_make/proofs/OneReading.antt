@@ -1,0 +1,124 @@
+-- An input is read in one way: its texts are those of the same values, and what is left is refused for one reason.
+use Rattle.std.proofs.Common.{◌≡◌, ◌⊎◌, inl, inr, ℕ, ◌≤◌, List, [], ◌∷◌, ◌++◌, length}
+use Rattle.std.proofs.Common.{Some, Result, Ok, Err, refl, sym, ap, ap₂, subst}
+use Rattle.std.proofs.Common.{◌∙◌, append_assoc, arith}
+use Rattle.std.proofs.lemmas.List.{append-nil, length-append}
+use Rattle.std.specs.List.{AllByRecursion}
+use Rattle.capn_value.specs.Tree.{Tree}
+use Rattle.capn_value.specs.Caps.{first_cap}
+use Rattle.capn_value.specs.Fits.{Fits, misfit}
+use Rattle.capn_value.specs.Laws.Fitting.{fit_parts}
+use Rattle.capn_value.specs.Sizes.{height, most_height}
+use Rattle.capn_value.specs.Text.{show_text}
+use Rattle.capn_value.specs.declared.misfit.Misfit.{Misfit}
+use Rattle.capn_text.specs.Laws.{TextsAreApart, FittingIsShowable}
+use Rattle.capn_text.specs.Showable.{IsShowable}
+use Rattle.capn_text.specs.Streams.{end_line, stream_text, GoesTooDeep}
+use Rattle.capn_make.specs.Pieces.{IsMakeable}
+use Rattle.capn_make.specs.Makes.{IsRefused, EndsAfter, line_after}
+use Rattle.capn_make.specs.declared.fault.MakeFault.{MakeFault}
+use Rattle.capn_make.specs.declared.fault.MakeFault.TheVariants as faults
+
+-- of two beginnings of one list one begins the other
+fronts : (a b c d : List ℕ) → a ++ b ≡ c ++ d
+    → ((z : List ℕ) × (c ≡ a ++ z)) ⊎ ((z : List ℕ) × (a ≡ c ++ z))
+fronts [] b c d e = inl (c, refl)
+fronts (x ∷ xs) b [] d e = inr (x ∷ xs, refl)
+fronts (x ∷ xs) b (y ∷ ys) d e =
+    let same : x ≡ y = cc in
+    let rest : xs ++ b ≡ ys ++ d = cc in
+    elim (fronts xs b ys d rest) [
+      | inl p ↦ inl (p.0, ap₂ (λ h t. h ∷ t) (sym same) p.1)
+      | inr p ↦ inr (p.0, ap₂ (λ h t. h ∷ t) same p.1)
+    ]
+
+past_end : (x y : List ℕ) → end_line ++ x ≡ end_line ++ y → x ≡ y
+past_end x y e = cc
+
+-- no text of a value that can be made is next with its end
+abbrev pub IsStuck : List ℕ → Type 0
+IsStuck rest = (v : Tree) (more : List ℕ) → IsMakeable v → rest ≡ show_text v ++ (end_line ++ more) → ⊥
+
+pub nothing_stuck : IsStuck []
+nothing_stuck v more one e =
+    let a = ap length e in
+    let b = length-append (show_text v) (end_line ++ more) in
+    let c = length-append end_line more in
+    let d : length end_line ≡ 4 = refl in
+    let z : length {A = ℕ} [] ≡ 0 = refl in
+    absurd (omega arith)
+
+pub fit_not : (v : Tree) (m : Misfit) → Fits v → misfit v ≡ Some m → ⊥
+unfolding Fits
+fit_not v m fits e = absurd cc
+
+module _ (apart : TextsAreApart) (shows : FittingIsShowable) where
+  -- the values of two texts that are next
+  pub next_same : (v w : Tree) (x y t : List ℕ) → IsShowable v → IsShowable w → t ≡ show_text v ++ (end_line ++ x)
+      → t ≡ show_text w ++ (end_line ++ y) → (v ≡ w) × (x ≡ y)
+  next_same v w x y t sv sw e f =
+      let p = apart 0 v w (end_line ++ x) (end_line ++ y) sv sw (sym e ∙ f) in
+      (p.0, past_end x y p.1)
+
+  pub shown : (v : Tree) → IsMakeable v → IsShowable v
+  shown v one = shows v one.fits one.in_range
+
+  -- a text that goes too deep is that of no value of at most 256 levels
+  deep_stuck : (t : List ℕ) → GoesTooDeep t → (v : Tree) (x : List ℕ) → IsShowable v → height v ≤ most_height
+      → t ≡ show_text v ++ x → ⊥
+  deep_stuck t deep v x sv low e =
+      let front = deep.0 in
+      let u = deep.3 in
+      let more = deep.4 in
+      elim (fronts front deep.1 (show_text v) x (sym deep.2 ∙ e)) [
+        | inl p ↦ (let high = deep.7 v p.0 sv p.1 in absurd (omega arith))
+        | inr p ↦
+            (let whole : show_text u ++ [] ≡ show_text v ++ (p.0 ++ more) =
+            append-nil (show_text u) ∙ deep.6 ∙ ap (λ f. f ++ more) p.1 ∙ append_assoc (show_text v) p.0 more in
+            let same = apart 0 u v [] (p.0 ++ more) deep.5 sv whole in
+            let high = deep.7 u more deep.5 deep.6 in
+            let equal = ap height same.0 in
+            absurd (omega arith))
+      ]
+
+  pub refused_stuck : (line : ℕ) (rest : List ℕ) (fault : MakeFault) → IsRefused line rest fault → IsStuck rest
+  refused_stuck line rest faults.Memory h v more one e = absurd h
+  refused_stuck line rest faults.Io h v more one e = absurd h
+  refused_stuck line rest (faults.NotText n) h v more one e =
+      h.none v more (shown v one) (fit_parts v one.fits).low e
+  refused_stuck line rest (faults.Misfit n m) h v more one e = elim h.1 [
+    | inl deep ↦ deep_stuck rest deep.1 v (end_line ++ more) (shown v one) (fit_parts v one.fits).low e
+    | inr w ↦
+        (let p = next_same v w.0 more w.1 rest (shown v one) w.3 e w.4 in
+        fit_not v m one.fits (ap misfit p.0 ∙ w.5))
+  ]
+  refused_stuck line rest (faults.Capability n index) h v more one e =
+      let p = next_same v h.1 more h.2 rest (shown v one) (shows h.1 h.3 h.4) e h.5 in
+      let free = one.free in
+      let cap = ap first_cap p.0 ∙ h.6 in
+      absurd cc
+  refused_stuck line rest (faults.Another n) h v more one e = absurd h
+  refused_stuck line rest faults.NoText h v more one e = absurd h
+
+  pub stuck_after : (vs : List Tree) (rest : List ℕ) (r : Result (Unit {0}) MakeFault) → EndsAfter vs rest r
+      → IsStuck rest
+  stuck_after vs rest (Ok u) e = subst IsStuck (sym e) nothing_stuck
+  stuck_after vs rest (Err fault) h = refused_stuck (line_after vs) rest fault h
+
+  pub next_of : (v : Tree) (vs : List Tree) (rest : List ℕ)
+      → stream_text (v ∷ vs) ++ rest ≡ show_text v ++ (end_line ++ (stream_text vs ++ rest))
+  next_of v vs rest = append_assoc (show_text v) (end_line ++ stream_text vs) rest
+
+  -- the texts before are those of the same values
+  pub same_firsts : (vs ws : List Tree) (x y : List ℕ) → AllByRecursion IsMakeable vs
+      → AllByRecursion IsMakeable ws → IsStuck x → IsStuck y → stream_text vs ++ x ≡ stream_text ws ++ y
+      → (vs ≡ ws) × (x ≡ y)
+  same_firsts [] [] x y av aw sx sy e = (refl, e)
+  same_firsts [] (w ∷ ws) x y av aw sx sy e = absurd (sx w (stream_text ws ++ y) aw.0 (e ∙ next_of w ws y))
+  same_firsts (v ∷ vs) [] x y av aw sx sy e = absurd (sy v (stream_text vs ++ x) av.0 (sym e ∙ next_of v vs x))
+  same_firsts (v ∷ vs) (w ∷ ws) x y av aw sx sy e =
+      let t = stream_text (v ∷ vs) ++ x in
+      let p = next_same v w (stream_text vs ++ x) (stream_text ws ++ y) t (shown v av.0) (shown w aw.0)
+      (next_of v vs x) (e ∙ next_of w ws y) in
+      let q = same_firsts vs ws x y av.1 aw.1 sx sy p.1 in
+      (ap₂ (λ h t. h ∷ t) p.0 q.0, q.1)

@@ -1,0 +1,53 @@
+-- What holds of the definitions alone. (Own.)
+use Rattle.std.specs.Prelude.{◌≡◌, ◌⊎◌, ℕ, List, [], ◌∷◌, Result, Ok}
+use Rattle.std.specs.List.{AllByRecursion}
+use Rattle.capn_words.specs.Words.{IsBare}
+use Rattle.capn_stream.specs.Frames.{Frames}
+use Rattle.capn_value.specs.Tree.{Tree}
+use Rattle.capn_value.specs.Fits.{Fits}
+use Rattle.capn_value.specs.InRange.{InRange}
+use Rattle.capn_text.specs.Streams.{stream_text, GoesTooDeep}
+use Rattle.capn_canon.specs.Layout.{canon}
+use Rattle.capn_canon.specs.declared.form.Form.{Form}
+use Rattle.capn_canon.specs.declared.form.Form.TheVariants as forms
+use Rattle.capn_make.specs.Pieces.{IsMakeable, AreMade, framed}
+use Rattle.capn_make.specs.Makes.{AreFirst, MakesEach, MakesOne}
+use Rattle.capn_make.specs.declared.fault.MakeFault.{MakeFault}
+
+-- of the texts that `show` writes of values that can be made, all are made
+abbrev pub ShownAreMade : Type 0
+ShownAreMade = (form : Form) (vs : List Tree) (text : List ℕ) → AllByRecursion IsMakeable vs → AreMade form vs text
+    → MakesEach form (stream_text vs) text (Ok tt)
+
+-- and nothing else is made of them
+abbrev pub ShownAreMadeOnly : Type 0
+ShownAreMadeOnly = (form : Form) (vs : List Tree) (text : List ℕ) (ending : Result (Unit {0}) MakeFault)
+    → AllByRecursion IsMakeable vs → MakesEach form (stream_text vs) text ending
+    → (ending ≡ Ok tt) × AreMade form vs text
+
+-- of the text that `show` writes of one value that can be made, its canonical bytes are made
+abbrev pub OneShownIsMade : Type 0
+OneShownIsMade = (v : Tree) → IsMakeable v → MakesOne (stream_text (v ∷ [])) (canon v) (Ok tt)
+
+-- and nothing else is
+abbrev pub OneShownIsMadeOnly : Type 0
+OneShownIsMadeOnly = (v : Tree) (text : List ℕ) (ending : Result (Unit {0}) MakeFault) → IsMakeable v
+    → MakesOne (stream_text (v ∷ [])) text ending → (ending ≡ Ok tt) × (text ≡ canon v)
+
+-- An input is made in one way: its texts are those of the same values, and it ends with one fault, unless the text that
+-- is refused goes too deep.
+abbrev pub OneMaking : Type 0
+OneMaking = (form : Form) (input text other : List ℕ) (r s : Result (Unit {0}) MakeFault)
+    → MakesEach form input text r → MakesEach form input other s
+    → (vs : List Tree) × (rest : List ℕ) × AreFirst vs input rest × AreMade form vs text × AreMade form vs other
+    × ((r ≡ s) ⊎ GoesTooDeep rest)
+
+-- what is written of a value in frames is a frame of one segment, whose bytes are the canonical ones
+abbrev pub FramedAreFrames : Type 0
+FramedAreFrames = (v : Tree) → Fits v → InRange v
+    → (ws : List ℕ) × IsBare (canon v) ws × Frames (framed (canon v)) (ws ∷ [])
+
+-- values have one text in frames
+abbrev pub OneTextInFrames : Type 0
+OneTextInFrames = (vs : List Tree) (text other : List ℕ) → AreMade forms.Stream vs text
+    → AreMade forms.Stream vs other → text ≡ other

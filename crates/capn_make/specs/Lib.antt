@@ -1,0 +1,6 @@
+pub mod Told
+pub mod Pieces
+pub mod Makes
+pub mod Sending
+pub mod Made
+pub mod Laws

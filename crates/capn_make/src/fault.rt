@@ -1,0 +1,75 @@
+//! Why a run of `make` ends without having made all of its input.
+
+ghost use Rattle.std.specs.Prelude.{◌≡◌};
+ghost use Rattle.capn_make.specs.Told.{status_of};
+ghost use Rattle.capn_make.specs.declared.fault.MakeFault.TheVariants as faults;
+
+use capn_value::Misfit;
+use std::alloc::AllocError;
+use std::error::Error;
+use std::fmt;
+
+/// Why a run ends without having made all of its input. Lines are counted from 1 over the whole input.
+#[derive(Clone, Copy, Debug, PartialEq, Eq)]
+pub enum MakeFault {
+    /// A growth was refused.
+    Memory,
+    /// The reader or the writer failed.
+    Io,
+    /// The first line that doesn't go on with a text and its end. A line that is missing is the one after the last.
+    NotText(u64),
+    /// The value of the text that begins at this line fits into no message.
+    Misfit(u64, Misfit),
+    /// The value of the text that begins at this line has a capability: the index of the first in preorder.
+    Capability(u64, u32),
+    /// One text is asked for, and a second one begins at this line.
+    Another(u64),
+    /// One text is asked for, and the input is empty.
+    NoText,
+}
+
+impl MakeFault {
+    /// The exit status of a run that ends so: 1 if the input is refused, 3 if memory, the reader or the writer failed.
+    pub fn status(self) -> u8
+        ensures { result ≡ status_of self }
+    {
+        match self {
+            MakeFault::Memory | MakeFault::Io => 3,
+            MakeFault::NotText(_)
+            | MakeFault::Misfit(_, _)
+            | MakeFault::Capability(_, _)
+            | MakeFault::Another(_)
+            | MakeFault::NoText => 1,
+        }
+    }
+}
+
+/// Shows the text that a program prints after its name.
+impl fmt::Display for MakeFault {
+    ghost use Rattle.std.specs.Prelude.{Some};
+    ghost use Rattle.capn_make.specs.Told.{fault_text};
+
+    ghost output = { λ fault. Some (fault_text fault) };
+
+    fn fmt<W: fmt::Write>(&self, f: &mut fmt::Formatter<W>) -> fmt::Result {
+        match self {
+            MakeFault::Memory => write!(f, "out of memory"),
+            MakeFault::Io => write!(f, "input or output failed"),
+            MakeFault::NotText(line) => write!(f, "line {line}: not the text of a value"),
+            MakeFault::Misfit(line, misfit) => write!(f, "line {line}: {misfit}"),
+            MakeFault::Capability(line, index) => write!(f, "line {line}: capability {index}"),
+            MakeFault::Another(line) => write!(f, "line {line}: another text"),
+            MakeFault::NoText => write!(f, "line 1: no text"),
+        }
+    }
+}
+
+impl Error for MakeFault {}
+
+impl From<AllocError> for MakeFault {
+    ghost from_gives = { λ _ e. e ≡ faults.Memory };
+
+    fn from(_error: AllocError) -> MakeFault {
+        MakeFault::Memory
+    }
+}

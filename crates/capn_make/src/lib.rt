@@ -1,0 +1,27 @@
+//! Messages made from texts: the inverse of what `show` writes for a stream of messages.
+//!
+//! [`make`] reads texts of values, each followed by its line `end`, and writes the canonical bytes of each value: as a
+//! frame of one segment, as the packed text of that frame, or as they are. A text that is refused ends it with a
+//! [`MakeFault`], which names the line.
+#![tactic(auto)]
+
+mod each;
+mod fault;
+mod input;
+pub mod laws;
+mod making;
+mod next;
+mod one;
+mod output;
+mod piece;
+
+pub use fault::MakeFault;
+pub use making::make;
+
+// What the signatures above name.
+pub use capn_canon::Form;
+pub use capn_value::Misfit;
+pub use capn_words::Watched;
+
+#[cfg(test)]
+mod tests;
