@@ -4,3 +4,11 @@ pub mod Next
 pub mod Added
 pub mod InputRead
 pub mod RunEnds
+pub mod Depths
+pub mod OneSegment
+pub mod Closings
+pub mod FormRuns
+pub mod WholeRead
+pub mod BareEnds
+pub mod PackedMore
+pub mod PackedEnds

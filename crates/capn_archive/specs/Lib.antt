@@ -3,3 +3,15 @@ pub mod Fold
 pub mod Sending
 pub mod Serving
 pub mod StreamRun
+pub mod Framed
+pub mod Depth
+pub mod Message
+pub mod Lines
+pub mod Tally
+pub mod Tasks
+pub mod Archived
+pub mod Closing
+pub mod WholeInput
+pub mod BareRun
+pub mod PackedServing
+pub mod PackedRun

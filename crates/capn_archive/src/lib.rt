@@ -1,18 +1,44 @@
 //! A stream of messages, served one after the other by one loop.
 //!
 //! A [`Service`] is what is done with each message: a fold whose state is the service. [`Run`] is how far it has come.
+//! [`run_stream`], [`run_packed`] and [`run_bare`] are the loops over the three forms.
+//!
+//! [`run_archive`] carries an order out, an [`Archive`]: by its service, the [`Archivist`], it lists messages, tells
+//! what limits they need, or writes their canonical bytes as frames.
 #![tactic(auto)]
 
+mod archive_run;
+mod archivist;
+mod bare_run;
+mod closing;
+mod depth;
 mod fault;
+#[cfg(test)]
+mod form_tests;
+mod framing;
+mod head;
+mod lines;
 mod message;
+mod needs;
 mod order;
 mod output;
+mod packed_run;
 mod position;
 mod service;
 mod stream;
 mod stream_run;
+mod tally;
+#[cfg(test)]
+mod tests;
+mod told;
+mod whole_input;
 
-pub use fault::{RunFault, ServeFault};
+pub use archive_run::run_archive;
+pub use archivist::Archivist;
+pub use bare_run::run_bare;
+pub use fault::{ArchiveFault, Passed, RunFault, ServeFault};
+pub use order::{Archive, Task};
+pub use packed_run::run_packed;
 pub use position::Position;
 pub use service::{Run, Service};
 pub use stream_run::run_stream;

@@ -1,5 +1,7 @@
 //! Where a message is in a stream.
 
+ghost use Rattle.std.specs.Prelude.{◌≡◌, ◌+◌};
+
 /// Where a message is in a stream. (Own.)
 ///
 /// The offset is that of its table, in bytes from the beginning of the stream; of a packed stream, in the bytes that it
@@ -10,4 +12,11 @@ pub struct Position {
     pub index: u64,
     /// How many bytes are before it.
     pub offset: u64,
+}
+
+/// The number, counted from 1, of the message that is after this number of others.
+pub(crate) fn number_of(index: u64) -> u128
+    ensures { result ≡ index + 1 }
+{
+    u128::from(index) + 1
 }

@@ -32,6 +32,7 @@ pub trait Service {
 }
 
 /// A service, and how far it has come in its stream.
+#[derive(Drop)]
 pub struct Run<S> {
     /// The service.
     pub service: S,

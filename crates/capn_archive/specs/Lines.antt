@@ -1,0 +1,79 @@
+-- The lines that are written of messages. (Own.)
+use Rattle.std.specs.Prelude.{ℕ, ◌+◌, ◌*◌, ◌^◌, min, max, List, ◌++◌, codes, Bool, true, false, Option, Some, None}
+use Rattle.std.specs.Fmt.{decimal}
+use Rattle.capn_value.specs.declared.tariff.Tariff.{Tariff}
+use Rattle.capn_value.specs.declared.tariff.Tariff.TheVariants as tariffs
+use Rattle.capn_canon.specs.declared.refusal.Refusal.{Refusal}
+use Rattle.capn_canon.specs.Told.{refusal_text}
+use Rattle.capn_archive.specs.declared.head.Head.{Head}
+use Rattle.capn_archive.specs.declared.told.Told.{Told}
+use Rattle.capn_archive.specs.declared.tally.Greatest.{Greatest}
+use Rattle.capn_archive.specs.declared.needs.Needs.{Needs}
+
+-- the number of a message, counted from 1, and where and how large it is
+abbrev pub head_text : Head → List ℕ
+head_text head =
+    decimal (head.at.index + 1) ++ (codes " at " ++ (decimal head.at.offset ++ (codes " bytes "
+    ++ (decimal head.bytes ++ (codes " segments " ++ (decimal head.segments ++ (codes " words "
+    ++ decimal head.words)))))))
+
+-- the index of a capability, or that there is none
+abbrev pub capability_text : Option ℕ → List ℕ
+capability_text (Some index) = decimal index
+capability_text None = codes "no"
+
+-- whether something is so
+abbrev pub answer_text : Bool → List ℕ
+answer_text true = codes "yes"
+answer_text false = codes "no"
+
+-- what is told of a message that is accepted
+abbrev pub told_text : Told → List ℕ
+told_text told =
+    codes "paid " ++ (decimal told.checked.paid ++ (codes " visits " ++ (decimal told.checked.visits
+    ++ (codes " depth " ++ (decimal told.depth ++ (codes " capability "
+    ++ (capability_text told.checked.capability ++ (codes " canonical "
+    ++ answer_text told.checked.is_canonical))))))))
+
+-- the line of a message that is accepted
+abbrev pub list_line : Head → Told → List ℕ
+list_line head told = head_text head ++ (codes " " ++ (told_text told ++ codes "\n"))
+
+-- the line of a message that is passed over
+abbrev pub refused_line : Head → Refusal → List ℕ
+refused_line head refusal = head_text head ++ (codes " refused " ++ (refusal_text refusal ++ codes "\n"))
+
+-- the greatest amount of a message and the number of the first that has it, counted from 1; zeros if there is none
+abbrev pub greatest_text : Option Greatest → List ℕ
+greatest_text None = codes "0 message 0"
+greatest_text (Some g) = decimal g.amount ++ (codes " message " ++ decimal (g.index + 1))
+
+-- the greatest amount, 0 if there is no message
+abbrev pub amount_of : Option Greatest → ℕ
+amount_of None = 0
+amount_of (Some g) = g.amount
+
+-- the option that names a tariff, if it is not the usual one
+abbrev pub tariff_text : Tariff → List ℕ
+tariff_text tariffs.Strict = codes ""
+tariff_text tariffs.Plain = codes " --tariff plain"
+
+-- how many messages there are, and the greatest words, price and depth of one
+abbrev pub needs_text : Needs → List ℕ
+needs_text needs =
+    codes "messages " ++ (decimal needs.messages
+    ++ (codes "\nmessage-words " ++ (greatest_text needs.tally.words
+    ++ (codes "\nbudget " ++ (greatest_text needs.tally.price
+    ++ (codes "\ndepth " ++ greatest_text needs.tally.depth))))))
+
+-- limits that leave room: four times the words and the price, and twice the depth, within their ranges
+abbrev pub advice_text : Needs → List ℕ
+advice_text needs =
+    codes "use --message-words " ++ (decimal (min (max (4 * amount_of needs.tally.words) 1) (2 ^ 28))
+    ++ (codes " --budget " ++ (decimal (min (4 * amount_of needs.tally.price) (2 ^ 28))
+    ++ (codes " --depth " ++ (decimal (min (max (2 * amount_of needs.tally.depth) 1) 256)
+    ++ tariff_text needs.tariff)))))
+
+-- the five lines of `limits`
+abbrev pub limits_text : Needs → List ℕ
+limits_text needs = needs_text needs ++ (codes "\n" ++ (advice_text needs ++ codes "\n"))

@@ -1,0 +1,38 @@
+-- What a run keeps of the messages that it has served. (Own.)
+use Rattle.std.specs.Prelude.{ℕ, ◌+◌, ◌-◌, ◌^◌, min, nat_lt, if◌then◌else◌, Option, Some, None}
+use Rattle.capn_archive.specs.declared.position.Position.{Position}
+use Rattle.capn_archive.specs.declared.tally.Greatest.{Greatest}
+use Rattle.capn_archive.specs.declared.tally.Skipped.{Skipped}
+use Rattle.capn_archive.specs.declared.tally.Tally.{Tally}
+
+-- the greater of what was greatest so far and an amount of the message of this index; the earlier of two that are equal
+abbrev pub greater : Option Greatest → ℕ → ℕ → Greatest
+greater None amount index = record { amount = amount; index = index }
+greater (Some g) amount index = if nat_lt g.amount amount then record { amount = amount; index = index } else g
+
+-- one more message is passed over, of which the first is told; no count passes 2^64 - 1
+abbrev pub one_more : Option Skipped → Position → Skipped
+one_more None at = record { count = 1; first = at }
+one_more (Some s) at = record { count = min (s.count + 1) (2 ^ 64 - 1); first = s.first }
+
+-- a message with these words, this price and this depth is counted
+abbrev pub counted : Tally → ℕ → ℕ → ℕ → ℕ → Tally
+counted tally index words price depth = record {
+  skipped = tally.skipped;
+  words = Some (greater tally.words words index);
+  price = Some (greater tally.price price index);
+  depth = Some (greater tally.depth depth index);
+}
+
+-- a message is passed over
+abbrev pub skipped : Tally → Position → Tally
+skipped tally at = record {
+  skipped = Some (one_more tally.skipped at);
+  words = tally.words;
+  price = tally.price;
+  depth = tally.depth;
+}
+
+-- nothing has been counted
+abbrev pub no_tally : Tally
+no_tally = record { skipped = None; words = None; price = None; depth = None }

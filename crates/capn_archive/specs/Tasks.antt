@@ -1,0 +1,88 @@
+-- What each task writes of a message and keeps of it, and when it refuses it. (Own.)
+use Rattle.std.specs.Prelude.{◌≡◌, ◌≢◌, ◌⊎◌, ℕ, List, [], ◌++◌, true, false, Result, Ok, Err, ⊤}
+use Rattle.capn_words.specs.Message.{total}
+use Rattle.capn_walk.specs.Limits.{Bounds}
+use Rattle.capn_walk.specs.Accepted.{IsAccepted, paid}
+use Rattle.capn_canon.specs.Denotes.{AnswersMessage}
+use Rattle.capn_canon.specs.Refused.{IsRefusedMessage, IsUnaccepted}
+use Rattle.capn_canon.specs.declared.refusal.Refusal.{Refusal}
+use Rattle.capn_canon.specs.declared.refusal.Refusal.TheVariants as refusals
+use Rattle.capn_archive.specs.declared.position.Position.{Position}
+use Rattle.capn_archive.specs.declared.fault.ServeFault.{ServeFault}
+use Rattle.capn_archive.specs.declared.fault.ServeFault.TheVariants as faults
+use Rattle.capn_archive.specs.declared.order.Task.{Task}
+use Rattle.capn_archive.specs.declared.order.Task.TheVariants as tasks
+use Rattle.capn_archive.specs.declared.order.Archive.{Archive}
+use Rattle.capn_archive.specs.declared.told.Told.{Told}
+use Rattle.capn_archive.specs.declared.tally.Tally.{Tally}
+use Rattle.capn_archive.specs.declared.archivist.Archivist.{Archivist}
+use Rattle.capn_archive.specs.Framed.{framed}
+use Rattle.capn_archive.specs.Depth.{IsDepth}
+use Rattle.capn_archive.specs.Message.{head_of, IsTold}
+use Rattle.capn_archive.specs.Lines.{list_line, refused_line}
+use Rattle.capn_archive.specs.Tally.{counted, skipped}
+
+-- what is found; or why it is not, by a property of the reason, unless memory was refused
+abbrev pub Finds : {T : Type 0} → (T → Type 0) → (Refusal → Type 0) → Result T ServeFault → Type 0
+Finds is isn't (Ok x) = is x
+Finds is isn't (Err faults.Memory) = ⊤
+Finds is isn't (Err (faults.Refused r)) = isn't r × (r ≢ refusals.Memory)
+
+-- a message is refused: by its walk, and where its canonical bytes are needed, also for a capability
+abbrev pub IsRefusedBy : Task → List (List ℕ) → Bounds → Refusal → Type 0
+IsRefusedBy tasks.List message limits r = IsUnaccepted message limits r × (r ≢ refusals.Memory)
+IsRefusedBy tasks.Limits message limits r = IsUnaccepted message limits r × (r ≢ refusals.Memory)
+IsRefusedBy tasks.Canonical message limits r = IsRefusedMessage message limits r × (r ≢ refusals.Memory)
+
+-- What a message that is not refused writes, and the tally after it: the line of what is told of it; the frame of its
+-- canonical bytes; or nothing, but it is counted.
+abbrev pub IsServedBy : Task → Bounds → Tally → Position → List ℕ → List (List ℕ) → List ℕ → Tally → Type 0
+IsServedBy tasks.List limits tally at frame message text tally_after =
+    (told : Told) × IsTold message limits told × (text ≡ list_line (head_of at frame message) told)
+    × (tally_after ≡ tally)
+IsServedBy tasks.Canonical limits tally at frame message text tally_after =
+    (answer : List ℕ) × (price : ℕ) × AnswersMessage message limits answer price × (text ≡ framed answer)
+    × (tally_after ≡ tally)
+IsServedBy tasks.Limits limits tally at frame message text tally_after =
+    (depth : ℕ) × IsAccepted message limits × IsDepth message limits depth × (text ≡ [])
+    × (tally_after ≡ counted tally at.index (total message) (paid message limits) depth)
+
+-- what a message that is passed over writes: its line, or nothing
+abbrev pub skipped_text : Task → Position → List ℕ → List (List ℕ) → Refusal → List ℕ
+skipped_text tasks.List at frame message r = refused_line (head_of at frame message) r
+skipped_text tasks.Limits at frame message r = []
+skipped_text tasks.Canonical at frame message r = []
+
+-- a message is passed over: it is refused, and the run keeps going
+abbrev pub IsSkippedBy : Archive → Tally → Position → List ℕ → List (List ℕ) → List ℕ → Tally → Type 0
+IsSkippedBy order tally at frame message text tally_after =
+    (order.keep_going ≡ true) × (r : Refusal) × IsRefusedBy order.task message order.limits r
+    × (text ≡ skipped_text order.task at frame message r) × (tally_after ≡ skipped tally at)
+
+-- from one state to the next, a message is served or passed over
+abbrev pub serves : Archivist → Position → List ℕ → List (List ℕ) → List ℕ → Archivist → Type 0
+serves s at frame message text t =
+    (t.order ≡ s.order)
+    × (IsServedBy s.order.task s.order.limits s.tally at frame message text t.tally
+    ⊎ IsSkippedBy s.order s.tally at frame message text t.tally)
+
+-- a message that is refused ends a run that does not keep going
+abbrev pub refuses : Archivist → Position → List ℕ → List (List ℕ) → Refusal → Type 0
+refuses s at frame message r = (s.order.keep_going ≡ false) × IsRefusedBy s.order.task message s.order.limits r
+
+-- a message was served; or it is refused, or memory was, and the text and the tally are as they were
+abbrev pub Serves : Task → Bounds → Tally → Position → List ℕ → List (List ℕ) → List ℕ → List ℕ
+    → Result (Unit {0}) ServeFault → Tally → Type 0
+Serves task limits tally at frame message old new (Ok u) tally_after =
+    (text : List ℕ) × IsServedBy task limits tally at frame message text tally_after × (new ≡ old ++ text)
+Serves task limits tally at frame message old new (Err faults.Memory) tally_after =
+    (new ≡ old) × (tally_after ≡ tally)
+Serves task limits tally at frame message old new (Err (faults.Refused r)) tally_after =
+    IsRefusedBy task message limits r × (new ≡ old) × (tally_after ≡ tally)
+
+-- a message was passed over; or memory was refused, and the text is as it was
+abbrev pub Skips : Task → Tally → Position → List ℕ → List (List ℕ) → Refusal → List ℕ → List ℕ
+    → Result (Unit {0}) ServeFault → Tally → Type 0
+Skips task tally at frame message r old new (Ok u) tally_after =
+    (new ≡ old ++ skipped_text task at frame message r) × (tally_after ≡ skipped tally at)
+Skips task tally at frame message r old new (Err fault) tally_after = (fault ≡ faults.Memory) × (new ≡ old)

@@ -1,0 +1,170 @@
+//! The service of an archive: what is done with each message, and what is kept of it.
+
+ghost use Rattle.std.specs.Prelude.{◌≡◌, ◌≢◌, ℕ, List};
+ghost use Rattle.capn_canon.specs.declared.refusal.Refusal.TheVariants as refusals;
+ghost use Rattle.capn_archive.specs.Tasks.{Serves, Skips};
+ghost use Rattle.capn_archive.specs.declared.order.Task.TheVariants as tasks;
+ghost use Rattle.capn_archive.specs.declared.position.Position.{Position};
+ghost use Rattle.capn_archive.specs.declared.tally.Tally.{Tally};
+
+use crate::fault::ServeFault;
+use crate::framing::put_frame;
+use crate::head::head_of;
+use crate::lines::{put_list_line, put_refused_line};
+use crate::order::{Archive, Task};
+use crate::position::Position;
+use crate::service::Service;
+use crate::tally::{Tally, count, skip};
+use crate::told::told_of;
+use capn_canon::{Refusal, canonical_of};
+use capn_walk::Limits;
+use capn_words::Space;
+use std::alloc::Allocator;
+
+/// The service of an archive: what is done with each message, and what was kept of those before.
+///
+/// A message writes what its task says. One that is refused ends the run, or, if the order says to keep going, is
+/// passed over: it is counted, and `list` writes its line. Of a run it keeps a tally, whatever its length.
+#[derive(Clone, Copy, Debug, PartialEq, Eq)]
+pub struct Archivist {
+    /// What is done with each message.
+    pub order: Archive,
+    /// What was kept of the messages before.
+    pub tally: Tally,
+}
+
+/// Appends the frame of a message's canonical bytes.
+fn serve_canonical<S: Space, A: Allocator + Copy>(
+    alloc: A,
+    limits: Limits,
+    message: &S,
+    text: &mut Vec<u8, A>,
+) -> Result<(), ServeFault>
+    ensures { (tally : Tally) (at : Position) (frame : List ℕ) → Serves tasks.Canonical limits tally at frame
+        (S.message message.now) text.old.items text.new.items result tally }
+{
+    let _budget = limits.budget();
+    match canonical_of(alloc, message, limits) {
+        Ok(canonical) => put_frame(text, &canonical.bytes),
+        Err(Refusal::Memory) => Err(ServeFault::Memory),
+        Err(refusal) => Err(ServeFault::Refused(refusal)),
+    }
+}
+
+/// Appends the line of what is told of a message.
+fn serve_list<S: Space, A: Allocator + Copy>(
+    alloc: A,
+    limits: Limits,
+    at: Position,
+    frame: &[u8],
+    message: &S,
+    text: &mut Vec<u8, A>,
+) -> Result<(), ServeFault>
+    ensures { (tally : Tally) → Serves tasks.List limits tally at frame.now (S.message message.now) text.old.items
+        text.new.items result tally }
+{
+    let told = told_of(alloc, message, limits)?;
+    put_list_line(alloc, &head_of(at, frame, message), &told, text)
+}
+
+/// Counts a message.
+fn serve_limits<S: Space, A: Allocator + Copy>(
+    alloc: A,
+    limits: Limits,
+    tally: &mut Tally,
+    at: Position,
+    frame: &[u8],
+    message: &S,
+) -> Result<(), ServeFault>
+    ensures { (text : List ℕ) → Serves tasks.Limits limits tally.old at frame.now (S.message message.now) text text
+        result tally.new }
+{
+    let told = told_of(alloc, message, limits)?;
+    let head = head_of(at, frame, message);
+    count(tally, at.index, head.words, told.checked.paid, told.depth);
+    Ok(())
+}
+
+/// Serves a message as a task says.
+fn serve_task<S: Space, A: Allocator + Copy>(
+    alloc: A,
+    order: &Archive,
+    tally: &mut Tally,
+    at: Position,
+    frame: &[u8],
+    message: &S,
+    text: &mut Vec<u8, A>,
+) -> Result<(), ServeFault>
+    ensures { Serves order.now.task order.now.limits tally.old at frame.now (S.message message.now) text.old.items
+        text.new.items result tally.new }
+{
+    match order.task {
+        Task::List => serve_list(alloc, order.limits, at, frame, message, text),
+        Task::Limits => serve_limits(alloc, order.limits, tally, at, frame, message),
+        Task::Canonical => serve_canonical(alloc, order.limits, message, text),
+    }
+}
+
+/// Passes a message over that is refused.
+fn skip_message<S: Space, A: Allocator + Copy>(
+    alloc: A,
+    task: Task,
+    tally: &mut Tally,
+    at: Position,
+    frame: &[u8],
+    message: &S,
+    refusal: Refusal,
+    text: &mut Vec<u8, A>,
+) -> Result<(), ServeFault>
+    ensures { Skips task tally.old at frame.now (S.message message.now) refusal text.old.items text.new.items result
+        tally.new }
+{
+    match task {
+        Task::List => {
+            put_refused_line(alloc, &head_of(at, frame, message), &refusal, text)?;
+        }
+        Task::Limits | Task::Canonical => {}
+    }
+    skip(tally, at);
+    Ok(())
+}
+
+impl Service for Archivist {
+    ghost use Rattle.capn_archive.specs.Tasks as spec;
+
+    ghost serves = { spec.serves };
+
+    ghost refuses = { spec.refuses };
+
+    fn serve<S: Space, A: Allocator + Copy>(
+        &mut self,
+        alloc: A,
+        at: Position,
+        frame: &[u8],
+        message: &S,
+        text: &mut Vec<u8, A>,
+    ) -> Result<(), ServeFault> {
+        let served = serve_task(
+            alloc,
+            &self.order,
+            &mut self.tally,
+            at,
+            frame,
+            message,
+            text,
+        );
+        match served {
+            Err(ServeFault::Refused(refusal)) if self.order.keep_going => skip_message(
+                alloc,
+                self.order.task,
+                &mut self.tally,
+                at,
+                frame,
+                message,
+                refusal,
+                text,
+            ),
+            served => served,
+        }
+    }
+}

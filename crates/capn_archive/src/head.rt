@@ -1,0 +1,64 @@
+//! Where a message is, and how large.
+
+ghost use Rattle.std.specs.Prelude.{◌≡◌};
+ghost use Rattle.capn_words.specs.Message.{total};
+ghost use Rattle.capn_archive.specs.Message as spec;
+
+use crate::position::{Position, number_of};
+use capn_words::Space;
+use std::fmt;
+
+/// Where a message is, and how large.
+#[derive(Clone, Copy, Debug, PartialEq, Eq)]
+pub struct Head {
+    /// Where it is.
+    pub at: Position,
+    /// How many bytes its frame has: the table, the padding and the contents.
+    pub bytes: u64,
+    /// How many segments it has.
+    pub segments: u32,
+    /// How many words its segments have in all.
+    pub words: u32,
+}
+
+impl fmt::Display for Head {
+    ghost use Rattle.std.specs.Prelude.{Some};
+    ghost use Rattle.capn_archive.specs.Lines.{head_text};
+
+    ghost output = { λ head. Some (head_text head) };
+
+    fn fmt<W: fmt::Write>(&self, f: &mut fmt::Formatter<W>) -> fmt::Result {
+        let number = number_of(self.at.index);
+        write!(
+            f,
+            "{number} at {} bytes {} segments {} words {}",
+            self.at.offset, self.bytes, self.segments, self.words
+        )
+    }
+}
+
+/// The words of all segments.
+#[tactic(auto, using(std::proofs::lemmas::List::Sums::sum_by_more_le, std::proofs::lemmas::List::Sums::fold_more))]
+fn words_of_all<S: Space>(space: &S) -> u32
+    ensures { result ≡ total (S.message space.now) }
+{
+    let mut total = 0;
+    for segment in 0..space.segments() {
+        if let Some(words) = space.words(segment) {
+            total += words;
+        }
+    }
+    total
+}
+
+/// Where a message with its frame is, and how large.
+pub(crate) fn head_of<S: Space>(at: Position, frame: &[u8], message: &S) -> Head
+    ensures { result ≡ spec.head_of at frame.now (S.message message.now) }
+{
+    Head {
+        at,
+        bytes: frame.len() as u64,
+        segments: message.segments(),
+        words: words_of_all(message),
+    }
+}

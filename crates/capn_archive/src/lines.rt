@@ -1,0 +1,74 @@
+//! The lines that are written of messages.
+
+ghost use Rattle.std.specs.Prelude.{◌≡◌, IfOk, IfErr, string_bytes};
+ghost use Rattle.capn_archive.specs.Framed.{PutsText};
+ghost use Rattle.capn_archive.specs.Lines as spec;
+ghost use Rattle.capn_archive.specs.declared.fault.ServeFault.TheVariants as faults;
+
+use crate::fault::ServeFault;
+use crate::head::Head;
+use crate::told::Told;
+use capn_canon::Refusal;
+use std::alloc::Allocator;
+
+/// The line of a message that is accepted.
+fn list_line<A: Allocator>(alloc: A, head: &Head, told: &Told) -> Result<String<A>, ServeFault>
+    ensures found { IfOk result (λ line. string_bytes line ≡ spec.list_line head.now told.now) }
+    ensures only { IfErr result (λ e. e ≡ faults.Memory) }
+{
+    match format!(in alloc; "{head} {told}\n") {
+        Ok(line) => Ok(line),
+        Err(_) => Err(ServeFault::Memory),
+    }
+}
+
+/// The line of a message that is passed over.
+fn refused_line<A: Allocator>(
+    alloc: A,
+    head: &Head,
+    refusal: &Refusal,
+) -> Result<String<A>, ServeFault>
+    ensures found { IfOk result (λ line. string_bytes line ≡ spec.refused_line head.now refusal.now) }
+    ensures only { IfErr result (λ e. e ≡ faults.Memory) }
+{
+    match format!(in alloc; "{head} refused {refusal}\n") {
+        Ok(line) => Ok(line),
+        Err(_) => Err(ServeFault::Memory),
+    }
+}
+
+/// Appends some bytes, or nothing where memory is refused.
+fn put_bytes<A: Allocator>(text: &mut Vec<u8, A>, bytes: &[u8]) -> Result<(), ServeFault>
+    ensures { PutsText bytes.now text.old.items text.new.items result }
+{
+    match text.extend_from_slice(bytes) {
+        Ok(()) => Ok(()),
+        Err(_) => Err(ServeFault::Memory),
+    }
+}
+
+/// Appends the line of a message that is accepted, or nothing where memory is refused.
+pub(crate) fn put_list_line<A: Allocator + Copy>(
+    alloc: A,
+    head: &Head,
+    told: &Told,
+    text: &mut Vec<u8, A>,
+) -> Result<(), ServeFault>
+    ensures { PutsText (spec.list_line head.now told.now) text.old.items text.new.items result }
+{
+    let line = list_line(alloc, head, told)?;
+    put_bytes(text, line.as_bytes())
+}
+
+/// Appends the line of a message that is passed over, or nothing where memory is refused.
+pub(crate) fn put_refused_line<A: Allocator + Copy>(
+    alloc: A,
+    head: &Head,
+    refusal: &Refusal,
+    text: &mut Vec<u8, A>,
+) -> Result<(), ServeFault>
+    ensures { PutsText (spec.refused_line head.now refusal.now) text.old.items text.new.items result }
+{
+    let line = refused_line(alloc, head, refusal)?;
+    put_bytes(text, line.as_bytes())
+}

@@ -1,0 +1,126 @@
+//! The limits that the messages of an archive need.
+
+ghost use Rattle.std.specs.Prelude.{◌≡◌, ◌<◌, ◌^◌, IfOk, IfErr, string_bytes};
+ghost use Rattle.capn_archive.specs.Lines as spec;
+ghost use Rattle.capn_archive.specs.declared.fault.RunFault.TheVariants as faults;
+
+use crate::fault::RunFault;
+use crate::position::number_of;
+use crate::tally::{Greatest, Tally};
+use capn_value::Tariff;
+use std::alloc::Allocator;
+use std::fmt;
+
+/// The limits that the messages of an archive need.
+#[derive(Clone, Copy, Debug, PartialEq, Eq)]
+pub struct Needs {
+    /// How many messages there are.
+    pub messages: u64,
+    /// What was kept of them.
+    pub tally: Tally,
+    /// The tariff by which they were priced.
+    pub tariff: Tariff,
+}
+
+/// The greatest amount of a message, if there is a message.
+#[derive(Drop)]
+struct Peak(Option<Greatest>);
+
+impl fmt::Display for Peak {
+    ghost use Rattle.std.specs.Prelude.{Some};
+    ghost use Rattle.capn_archive.specs.Lines.{greatest_text};
+
+    ghost output = { λ peak. Some (greatest_text peak.0) };
+
+    fn fmt<W: fmt::Write>(&self, f: &mut fmt::Formatter<W>) -> fmt::Result {
+        match self.0 {
+            Some(greatest) => {
+                let number = number_of(greatest.index);
+                write!(f, "{} message {number}", greatest.amount)
+            }
+            None => write!(f, "0 message 0"),
+        }
+    }
+}
+
+/// The option that names a tariff, or nothing if it is the usual one.
+#[derive(Drop)]
+struct TariffOption(Tariff);
+
+impl fmt::Display for TariffOption {
+    ghost use Rattle.std.specs.Prelude.{Some};
+    ghost use Rattle.capn_archive.specs.Lines.{tariff_text};
+
+    ghost output = { λ option. Some (tariff_text option.0) };
+
+    fn fmt<W: fmt::Write>(&self, f: &mut fmt::Formatter<W>) -> fmt::Result {
+        match self.0 {
+            Tariff::Strict => write!(f, ""),
+            Tariff::Plain => write!(f, " --tariff plain"),
+        }
+    }
+}
+
+/// How many messages there are, and the greatest words, price and depth of one.
+impl fmt::Display for Needs {
+    ghost use Rattle.std.specs.Prelude.{Some};
+    ghost use Rattle.capn_archive.specs.Lines.{needs_text};
+
+    ghost output = { λ needs. Some (needs_text needs) };
+
+    fn fmt<W: fmt::Write>(&self, f: &mut fmt::Formatter<W>) -> fmt::Result {
+        let words = Peak(self.tally.words);
+        let price = Peak(self.tally.price);
+        let depth = Peak(self.tally.depth);
+        write!(
+            f,
+            "messages {}\nmessage-words {words}\nbudget {price}\ndepth {depth}",
+            self.messages
+        )
+    }
+}
+
+/// The greatest amount, 0 if there is no message.
+fn amount_of(greatest: Option<Greatest>) -> u64
+    ensures value { result ≡ spec.amount_of greatest }
+    ensures small { result < 2 ^ 32 }
+{
+    match greatest {
+        Some(greatest) => u64::from(greatest.amount),
+        None => 0,
+    }
+}
+
+/// Limits that leave room.
+#[derive(Drop)]
+struct Advice<'a>(&'a Needs);
+
+impl<'a> fmt::Display for Advice<'a> {
+    ghost use Rattle.std.specs.Prelude.{Some};
+    ghost use Rattle.capn_archive.specs.Lines.{advice_text};
+
+    ghost output = { λ advice. Some (advice_text advice.0.now) };
+
+    fn fmt<W: fmt::Write>(&self, f: &mut fmt::Formatter<W>) -> fmt::Result {
+        let words = (4 * amount_of(self.0.tally.words)).max(1).min(1 << 28);
+        let budget = (4 * amount_of(self.0.tally.price)).min(1 << 28);
+        let depth = (2 * amount_of(self.0.tally.depth)).max(1).min(256);
+        let tariff = TariffOption(self.0.tariff);
+        write!(
+            f,
+            "use --message-words {words} --budget {budget} --depth {depth}{tariff}"
+        )
+    }
+}
+
+/// The five lines of the limits that the messages of an archive need.
+pub(crate) fn limits_text<A: Allocator>(alloc: A, needs: &Needs) -> Result<String<A>, RunFault>
+    ensures found { IfOk result (λ text. string_bytes text ≡ spec.limits_text needs.now) }
+    ensures only { IfErr result (λ e. e ≡ faults.Memory) }
+{
+    let advice = Advice(needs);
+    match format!(in alloc; "{needs}\n{advice}\n") {
+        Ok(text) => Ok(text),
+        Err(_) => Err(RunFault::Memory),
+    }
+}

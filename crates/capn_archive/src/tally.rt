@@ -1,0 +1,98 @@
+//! What a run keeps of the messages that it has served.
+
+ghost use Rattle.std.specs.Prelude.{◌≡◌, ◌≤◌};
+ghost use Rattle.capn_archive.specs.Tally as spec;
+
+use crate::position::Position;
+
+/// The greatest amount of a message so far.
+#[derive(Clone, Copy, Debug, PartialEq, Eq)]
+pub struct Greatest {
+    /// The amount.
+    pub amount: u32,
+    /// How many messages are before the first that has it.
+    pub index: u64,
+}
+
+/// The messages that were passed over so far.
+#[derive(Clone, Copy, Debug, PartialEq, Eq)]
+pub struct Skipped {
+    /// How many.
+    pub count: u64,
+    /// Where the first of them is.
+    pub first: Position,
+}
+
+/// What a run keeps of the messages that it has served.
+#[derive(Clone, Copy, Debug, PartialEq, Eq)]
+pub struct Tally {
+    /// The messages that were passed over, if any was.
+    pub skipped: Option<Skipped>,
+    /// The greatest number of words, if any message was counted.
+    pub words: Option<Greatest>,
+    /// The greatest price.
+    pub price: Option<Greatest>,
+    /// The greatest depth.
+    pub depth: Option<Greatest>,
+}
+
+/// The greater of what was greatest so far and an amount of the message of this index. Of two that are equal, the
+/// earlier.
+fn greater(so_far: Option<Greatest>, amount: u32, index: u64) -> Greatest
+    ensures { result ≡ spec.greater so_far amount index }
+{
+    match so_far {
+        Some(greatest) => {
+            if greatest.amount < amount {
+                Greatest { amount, index }
+            } else {
+                greatest
+            }
+        }
+        None => Greatest { amount, index },
+    }
+}
+
+/// One more message that is passed over.
+fn one_more(so_far: Option<Skipped>, at: Position) -> Skipped
+    ensures { result ≡ spec.one_more so_far at }
+{
+    match so_far {
+        Some(skipped) => Skipped {
+            count: skipped.count.saturating_add(1),
+            first: skipped.first,
+        },
+        None => Skipped {
+            count: 1,
+            first: at,
+        },
+    }
+}
+
+/// Nothing has been counted.
+pub(crate) fn no_tally() -> Tally
+    ensures { result ≡ spec.no_tally }
+{
+    Tally {
+        skipped: None,
+        words: None,
+        price: None,
+        depth: None,
+    }
+}
+
+/// Counts a message with these words, this price and this depth.
+pub(crate) fn count(tally: &mut Tally, index: u64, words: u32, price: u32, depth: u32)
+    ensures { tally.new ≡ spec.counted tally.old index words price depth }
+{
+    tally.words = Some(greater(tally.words, words, index));
+    tally.price = Some(greater(tally.price, price, index));
+    tally.depth = Some(greater(tally.depth, depth, index));
+}
+
+/// Counts a message that is passed over.
+pub(crate) fn skip(tally: &mut Tally, at: Position)
+    ensures { tally.new ≡ spec.skipped tally.old at }
+{
+    tally.skipped = Some(one_more(tally.skipped, at));
+}
