@@ -12,7 +12,7 @@ use Rattle.capn_tool.specs.Sending.{outgoing}
 use Rattle.capn_tool.specs.declared.plan.Piece.{Piece}
 use Rattle.capn_tool.specs.declared.fault.ToolFault.{ToolFault}
 use Rattle.capn_tool.specs.declared.fault.ToolFault.TheVariants as faults
-use Rattle.capn_tool.proofs.Shown.{sound}
+use Rattle.capn_tool.specs.Laws.Written.{sound}
 
 abbrev Ending : Type 0
 Ending = Result (Unit {0}) ToolFault

@@ -16,3 +16,4 @@ pub mod Line
 pub mod Meaning
 pub mod Told
 pub mod Ends
+pub mod Laws

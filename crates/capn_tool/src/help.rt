@@ -1,4 +1,6 @@
 //! The texts of help, in lines of at most 80 columns as they are printed.
+//!
+//! A program with more commands than these has pages of its own for them.
 
 /// What help says of the program, or of one command.
 #[derive(Clone, Copy)]

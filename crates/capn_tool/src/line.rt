@@ -22,7 +22,7 @@ use std::alloc::Global;
 use std::convert::AsStr;
 
 /// The form that `--form` names, if it names one.
-fn form_of(matches: &ArgMatches) -> Option<Form>
+pub fn form_of(matches: &ArgMatches) -> Option<Form>
     ensures named { IfSome result (λ form. FormIs (rows_of (found_of matches.now)) form) }
     ensures served { (form : Form) → FormIs (rows_of (found_of matches.now)) form → IsSome result }
 {
@@ -55,8 +55,8 @@ fn number_of(matches: &ArgMatches, id: &str) -> Option<u32>
     Some(number)
 }
 
-/// The limits that the three number options and `--tariff` have.
-fn limits_of(matches: &ArgMatches) -> Option<Limits>
+/// The limits that the three number options and `--tariff` have, if each is in its range and names something.
+pub fn limits_of(matches: &ArgMatches) -> Option<Limits>
     ensures are { IfSome result (λ limits. LimitsAre (rows_of (found_of matches.now)) limits) }
     ensures served { (limits : Bounds) → LimitsAre (rows_of (found_of matches.now)) limits → IsSome result }
 {
@@ -106,8 +106,8 @@ fn message_order_of(name: &str, matches: &ArgMatches) -> Option<Command>
     }
 }
 
-/// The command of this name with these options.
-fn order_of(name: &str, matches: &ArgMatches) -> Option<Command>
+/// The command of this name with these options, if they mean one.
+pub fn order_of(name: &str, matches: &ArgMatches) -> Option<Command>
     ensures means { IfSome result (λ command. Means (Some (name.now, rows_of (found_of matches.now))) command) }
     ensures served { (command : Command) → Means (Some (name.now, rows_of (found_of matches.now))) command
         → IsSome result }

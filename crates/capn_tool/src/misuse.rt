@@ -11,7 +11,8 @@ use std::alloc::{AllocError, Allocator};
 /// Why the words of the command line order nothing: a wish for help, a mistake, or want of memory.
 #[derive(Drop)]
 pub struct Usage {
-    error: clap::Error,
+    /// What the parser of the command line says of them.
+    pub error: clap::Error,
 }
 
 impl Usage {

@@ -43,7 +43,7 @@ pub(crate) fn send_rest<W: Write>(
 
 /// Flushes the writer after a run that ended so. A run that was done ends with `Io` if the flush fails; any other ends
 /// as it did.
-pub(crate) fn flush_behind<W: Write>(
+pub fn flush_behind<W: Write>(
     outcome: Result<(), ToolFault>,
     writer: &mut Watched<W>,
 ) -> Result<(), ToolFault>

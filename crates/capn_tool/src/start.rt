@@ -25,7 +25,7 @@ const MISTAKE: u8 = 2;
 
 /// Carries a command out, and flushes the output. It ends as the run does, or with `Io` if the run is done and the
 /// flush fails.
-fn carry_out<R: Read, W: Write>(
+pub fn carry_out<R: Read, W: Write>(
     alloc: Global,
     command: Command,
     reader: &mut Watched<R>,
@@ -80,8 +80,9 @@ fn tell_mistake<E: Write>(alloc: Global, usage: &Usage, errors: &mut Watched<E>)
     tell_said(usage.text(alloc), errors);
 }
 
-/// Ends where the words of the command line order nothing.
-fn end_unordered<W: Write, E: Write>(
+/// Ends where the words of the command line order nothing, and answers the exit status. Help is written to the writer,
+/// and what is said of a mistake, or the line of refused memory, to `errors`.
+pub fn end_unordered<W: Write, E: Write>(
     alloc: Global,
     usage: &Usage,
     writer: &mut Watched<W>,

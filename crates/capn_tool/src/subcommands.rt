@@ -18,7 +18,7 @@ use std::alloc::{AllocError, Global};
 
 /// An option of this name, with its usual value. It takes any text, and `line` reads that of `--form` and `--tariff`: a
 /// list of names has no place in the statement of the command line.
-fn usual_option<'a>(
+pub fn usual_option<'a>(
     alloc: Global,
     name: &'a str,
     value: &'a str,
@@ -83,7 +83,7 @@ fn depth_option<'a>(alloc: Global) -> Arg<'a>
 }
 
 /// The page of help of a command over messages.
-fn page_of(name: &str) -> Page {
+pub fn page_of(name: &str) -> Page {
     match name {
         "show" => help::SHOW,
         "check" => help::CHECK,
@@ -93,7 +93,7 @@ fn page_of(name: &str) -> Page {
 }
 
 /// A command of this name without options, with its page of help.
-fn plain_command<'a>(alloc: Global, name: &'a str, page: Page) -> Command<'a>
+pub fn plain_command<'a>(alloc: Global, name: &'a str, page: Page) -> Command<'a>
     ensures app { app_of result ≡ new_app name.now }
     ensures local { (out-Command result).has_globals ≡ false }
 {
@@ -114,10 +114,12 @@ pub(crate) fn value_error(alloc: Global, name: &str, text: &str) -> Result<clap:
     error
 }
 
-/// A command over messages: with `--form`, which has this help, the three limits and the tariff.
-fn message_command<'a>(
+/// A command over messages, with its page of help: it takes `--form`, which has this help, the three limits and the
+/// tariff. Refused memory is answered.
+pub fn message_command<'a>(
     alloc: Global,
     name: &'a str,
+    page: Page,
     forms: &'a str,
 ) -> Result<Command<'a>, AllocError>
     ensures { IfOk result (λ c. HasLine c (message_line name.now)) }
@@ -129,18 +131,18 @@ fn message_command<'a>(
         depth_option(alloc),
         usual_option(alloc, "tariff", "TARIFF", help::TARIFF, "strict"),
     ]?;
-    plain_command(alloc, name, page_of(name)).args(options)
+    plain_command(alloc, name, page).args(options)
 }
 
-/// `unpack` and its option.
-fn unpack_command<'a>(alloc: Global) -> Result<Command<'a>, AllocError>
+/// `unpack` and its option. Refused memory is answered.
+pub fn unpack_command<'a>(alloc: Global) -> Result<Command<'a>, AllocError>
     ensures { IfOk result (λ c. HasLine c unpack_line) }
 {
     plain_command(alloc, "unpack", help::UNPACK).arg(words_option(alloc, help::UNPACKED_WORDS))
 }
 
-/// A program with this command beside those that it has, if both could be made.
-fn with_command<'a>(
+/// A program with this command beside those that it has, if both could be made. Refused memory is answered.
+pub fn with_command<'a>(
     program: Result<Command<'a>, AllocError>,
     command: Result<Command<'a>, AllocError>,
 ) -> Result<Command<'a>, AllocError>
@@ -163,8 +165,9 @@ fn with_command<'a>(
     }
 }
 
-/// A program with a command over messages beside those that it has, if both could be made.
-fn with_messages<'a>(
+/// A program with the command of this name over messages beside those that it has, if both could be made. Refused
+/// memory is answered.
+pub fn with_messages<'a>(
     program: Result<Command<'a>, AllocError>,
     alloc: Global,
     name: &'a str,
@@ -173,7 +176,7 @@ fn with_messages<'a>(
     ensures { (top : App) → IfOk program.entry (λ c. app_of c ≡ top)
         → IfOk result (λ c. app_of c ≡ with_subcommand top (message_line name.now).top) }
 {
-    let command = message_command(alloc, name, forms);
+    let command = message_command(alloc, name, page_of(name), forms);
     with_command(program, command)
 }
 

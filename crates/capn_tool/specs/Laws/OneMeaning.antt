@@ -14,7 +14,7 @@ use Rattle.capn_tool.specs.declared.orders.Command.TheVariants as commands
 use Rattle.capn_tool.specs.Meaning.{Means, NumberIs, LimitsAre, UnpackedIs, MeansOne, form_name, tariff_name}
 
 -- two characters of a text, which tell the names apart
-abbrev mark : Text → ℕ
+abbrev pub mark : Text → ℕ
 mark text = slice_index text 0 + slice_index text 1
 
 abbrev mark_in : Option Text → ℕ
@@ -62,7 +62,8 @@ pub unpacked_one : (rows : List Row) (m n : ℕ) → UnpackedIs rows m → Unpac
 unpacked_one rows m n (k, a, i, x) (l, b, j, y) =
     let e = number_one rows _ k l a b in x ∙ ap (λ (n : ℕ). n + most_table_words) e ∙ sym y
 
-abbrev mark_of : Command → ℕ
+-- that of the name of each command
+abbrev pub mark_of : Command → ℕ
 mark_of (commands.Show f l) = 219
 mark_of (commands.Check f l) = 203
 mark_of commands.Pack = 209
@@ -71,7 +72,7 @@ mark_of (commands.Canonical f l) = 196
 mark_of (commands.Hash f l) = 201
 
 -- the subcommand is named as its command
-marked : (said : Text × List Row) (c : Command) → Means (Some said) c → mark said.0 ≡ mark_of c
+pub marked : (said : Text × List Row) (c : Command) → Means (Some said) c → mark said.0 ≡ mark_of c
 marked said (commands.Show f l) m = ap mark m.0
 marked said (commands.Check f l) m = ap mark m.0
 marked said commands.Pack m = ap mark m

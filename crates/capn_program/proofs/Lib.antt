@@ -1,0 +1,3 @@
+pub mod OneOrder
+pub mod CanonicalMeans
+pub mod Shown

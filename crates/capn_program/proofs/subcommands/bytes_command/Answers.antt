@@ -1,0 +1,10 @@
+use Rattle.capn_tool.specs.Line.{pack_line, unpack_line}
+use Rattle.capn_program.specs.Line.{messages_line}
+use Rattle.capn_program.proofs.subcommands.bytes_command.Goals as goal
+
+pub returns : goal.returns
+returns c =
+    c.with_command.ensures _ unpack_line
+    (c.with_command-with_pack.ensures messages_line pack_line c.messages_command.ensures
+    (c.plain_command-pack.ensures.app, c.plain_command-pack.ensures.local))
+    c.unpack_command.ensures
