@@ -63,6 +63,7 @@ interop: $(if $(CAPN),,program library)
 	./interop/recipes
 	./interop/run
 	./interop/differences
+	@if command -v python3 > /dev/null; then ./interop/archives; else echo "archives: skipped, since there is no python3"; fi
 	@if command -v python3 > /dev/null; then ./python/tests/run && ./interop/hostile; \
 	else echo "python, hostile: skipped, since there is no python3"; fi
 
@@ -71,12 +72,13 @@ library:
 	cd crates/capn_c && rt lib > /dev/null
 	$(MAKE) linked
 
-# The two libraries that are linked with: the archive and the allocator as one object, of which the names capn_* alone are
-# visible. Proves and compiles nothing.
+# The two libraries that are linked with: the archive, the allocator and the texts as one object, of which the names capn_*
+# alone are visible. Proves nothing, and compiles the texts alone.
 linked:
 	rm -rf $(BUILD) && mkdir $(BUILD)
 	cd $(BUILD) && ar x ../crates/capn_c/out/libcapn_c.a && ar x $(KIT)c/liblibc_c.a heap.pic.o
-	cd $(BUILD) && ld -r -o capn.o capn_c.o heap.pic.o && objcopy --wildcard --keep-global-symbol='capn_*' capn.o
+	$(CC) -O2 -fPIC -Wall -Wextra -Werror -DCAPN_VERSION_TEXT='"$(VERSION)"' -c c/text.c -o $(BUILD)/text.o
+	cd $(BUILD) && ld -r -o capn.o capn_c.o heap.pic.o text.o && objcopy --wildcard --keep-global-symbol='capn_*' capn.o
 	cd $(BUILD) && ar rcsD libcapn.a capn.o
 	cd $(BUILD) && $(CC) -shared -o libcapn.so.1 -Wl,-soname,libcapn.so.1 -Wl,-z,defs,-z,now capn.o
 

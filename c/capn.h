@@ -6,9 +6,9 @@
  *
  * What the caller owes beside:
  *   - Each pointer leads to what its type and the size after it say. A pointer to no bytes may be null; no other may.
- *     Bytes may start at any address; limits and reports are aligned as their types are.
- *   - What a call writes (`out`, `digest`, `report`) overlaps nothing else that it is given, and nothing else reads or
- *     writes it while the call runs.
+ *     Bytes may start at any address; limits, figures, entries and reports are aligned as their types are.
+ *   - What a call writes (`out`, `digest`, `figures`, `entries`, `report`) overlaps nothing else that it is given, and
+ *     nothing else reads or writes it while the call runs.
  *   - No call is made from a signal handler, nor from the child of a `fork` of a process with several threads.
  *   - malloc, realloc and free belong to one allocator, which aligns each block as C asks, up to 16 bytes.
  * Any numbers may be passed.
@@ -57,7 +57,7 @@ typedef struct capn_limits {
 #define CAPN_USUAL_LIMITS { 8388608u, 8388608u, 64u, CAPN_STRICT }
 
 typedef struct capn_report {
-    uint64_t length;  /* bytes of an answer in `out`: those written, or at CAPN_NO_ROOM those that are enough */
+    uint64_t length;  /* bytes of an answer: those written, or at CAPN_NO_ROOM those that are enough; of a frame */
     uint64_t at;      /* a refusal's offset, count or index, as at its status below */
     uint32_t paid;    /* words that the walk paid; set with an answer and by refusals of the walk */
     uint32_t visits;  /* visits that the walk made; set by capn_check and by refusals of the walk */
@@ -65,8 +65,46 @@ typedef struct capn_report {
     uint32_t word;    /* and its word there */
 } capn_report;
 
-/* The two types have the sizes that the library gives them; else this is refused by any compiler of C and C++. */
-#define CAPN_SIZES_AGREE (sizeof(capn_limits) == 16 && sizeof(capn_report) == 32)
+/* What capn_survey tells of a message. */
+typedef struct capn_figures {
+    uint32_t words;          /* of all segments */
+    uint32_t segments;       /* 1 to 4,096 */
+    uint32_t paid;           /* words that its walk pays */
+    uint32_t visits;         /* visits that its walk makes */
+    uint32_t depth;          /* the least depth under which it is accepted: 0 for a null root, else from 1 on */
+    uint32_t has_capability; /* 1 if its value has a capability, else 0 */
+    uint32_t capability;     /* the index of the first one in preorder, else 0 */
+    uint32_t canonical;      /* 1 if it has one segment, and that is its canonical bytes; else 0 */
+} capn_figures;
+
+/* What a pointer names. */
+enum {
+    CAPN_KIND_NULL = 0,
+    CAPN_KIND_STRUCT = 1,   /* `words` data words, then `slots` pointers */
+    CAPN_KIND_VOID = 2,     /* a list of `count` elements, each without size, */
+    CAPN_KIND_BITS = 3,     /* of a bit, the least significant of a byte first, */
+    CAPN_KIND_BYTES = 4,    /* of 1 byte, */
+    CAPN_KIND_U16 = 5,      /* of 2, */
+    CAPN_KIND_U32 = 6,      /* of 4, */
+    CAPN_KIND_U64 = 7,      /* of 8, the least significant first, */
+    CAPN_KIND_POINTERS = 8, /* a pointer, */
+    CAPN_KIND_ROWS = 9,     /* or a struct of `words` data words and `slots` pointers */
+    CAPN_KIND_CAPABILITY = 10 /* `count` is its index */
+};
+
+/* An entry of an index: what the pointer in a slot names. */
+typedef struct capn_entry {
+    uint64_t offset; /* the offset in `bytes` of its content; of CAPN_KIND_ROWS its tag, 8 bytes before the rows */
+    uint32_t count;  /* elements or rows of a list; the index of a capability; else 0 */
+    uint32_t span;   /* entries of this slot and of all below it: the slot beside it has the entry so much further on */
+    uint16_t words;  /* data words of a struct, or of each row; else 0 */
+    uint16_t slots;  /* pointers of a struct, or of each row; else 0 */
+    uint32_t kind;   /* CAPN_KIND_NULL to CAPN_KIND_CAPABILITY */
+} capn_entry;
+
+/* The types have the sizes that the library gives them; else this is refused by any compiler of C and C++. */
+#define CAPN_SIZES_AGREE (sizeof(capn_limits) == 16 && sizeof(capn_report) == 32 && sizeof(capn_figures) == 32 \
+                          && sizeof(capn_entry) == 24 && offsetof(capn_entry, kind) == 20)
 #if defined(__cplusplus) && __cplusplus >= 201103L
 static_assert(CAPN_SIZES_AGREE, "as the library lays them out");
 #elif !defined(__cplusplus) && defined(__STDC_VERSION__) && __STDC_VERSION__ >= 201112L
@@ -80,7 +118,7 @@ enum {
     /* the call */
     CAPN_OK = 0,
     CAPN_NO_ROOM = 1,       /* `length` bytes are enough for the answer; the buffer is as it was */
-    CAPN_BAD_FORM = 2,      /* the form is none of the three */
+    CAPN_BAD_FORM = 2,      /* the form is none of the three, or none that the call takes */
     CAPN_BAD_LIMITS = 3,    /* a limit is out of its range */
     CAPN_BAD_TARIFF = 4,    /* the tariff is none of the two */
     CAPN_NOT_CANONICAL = 5, /* of capn_is_canonical alone: the bytes are accepted, and are not canonical */
@@ -94,10 +132,10 @@ enum {
     CAPN_PACKED_CUT = 32,
     CAPN_PACKED_TOO_LONG = 33,
     /* the segment table */
-    CAPN_FRAME_EMPTY = 48,
+    CAPN_FRAME_EMPTY = 48,       /* of capn_first, `length`: how many bytes a frame has at least */
     CAPN_TOO_MANY_SEGMENTS = 49, /* at: how many are announced */
     CAPN_TOO_MANY_WORDS = 50,    /* at: how many are announced */
-    CAPN_FRAME_CUT = 51,
+    CAPN_FRAME_CUT = 51, /* of capn_first, `length`: how many bytes the frame has at least */
     CAPN_TRAILING = 52, /* at: the offset of the first byte after the message; of CAPN_PACKED, in the unpacked bytes */
     /* the walk, at `segment` and `word` */
     CAPN_NO_ROOT = 64,
@@ -144,6 +182,48 @@ capn_status capn_pack(const uint8_t *bytes, size_t size, uint8_t *out, size_t ro
  * whole group within the maximum comes first. */
 capn_status capn_unpack(const uint8_t *bytes, size_t size, uint32_t max_words, uint8_t *out, size_t room,
                         capn_report *report);
+
+/* The version of the library that runs, as "0.1.0". CAPN_VERSION is that of the header that was compiled. */
+const char *capn_version(void);
+
+/* What a status means, in a few words; for a number that is no status too. It is never null, and not to be freed. */
+const char *capn_status_text(capn_status status);
+
+/* The first frame of a stream, to read one in pieces. All limits are tested, and `message_words` alone counts.
+ * CAPN_OK: the frame is whole, and `length` bytes long; more may follow it.
+ * CAPN_FRAME_EMPTY, CAPN_FRAME_CUT: it is not whole. No frame that begins so is shorter than `length` bytes, counted from
+ * its start, and that is more than there are: have that many, and call again. It is 8, then the length of the table,
+ * then that of the frame, at most 8 * (message_words + 2049): no byte after the frame is asked for.
+ * Else the refusal. Nothing is walked. It takes memory for the table of two segments or more, once the frame is whole. */
+capn_status capn_first(const uint8_t *bytes, size_t size, const capn_limits *limits, capn_report *report);
+
+/* The words of the whole groups that stand first in a packed text, as many as have room, to unpack one in pieces.
+ * CAPN_OK: all bytes were taken, and the text may end here. CAPN_PACKED_CUT: a group begins at `at` and is cut: keep its
+ * bytes, and pass them again before those that follow; if none follow, the text is cut. CAPN_PACKED_TOO_LONG: the group
+ * at `at` has more words than there is room for: pass it again with a buffer that has room. In these three `at` bytes
+ * were taken and `length` bytes written, and the rest of the buffer is as it was. CAPN_MEMORY: nothing was taken, and
+ * the buffer is as it was. No group has more than 2,050 bytes or 256 words: so with a room of 2,048 each call takes
+ * something, or asks for more bytes. It takes memory for the words that it writes. */
+capn_status capn_unpack_some(const uint8_t *bytes, size_t size, uint8_t *out, size_t room, capn_report *report);
+
+/* The figures of one message, of CAPN_STREAM or CAPN_BARE; with CAPN_PACKED it answers CAPN_BAD_FORM: unpack it first.
+ * It accepts and refuses what capn_check does, and takes memory where that does; the report tells `paid` and `visits`.
+ * Unless it answers CAPN_OK, the figures are as they were. It walks a message up to twice and once more for each level of
+ * its depth: use capn_check if what it tells is enough. */
+capn_status capn_survey(uint32_t form, const uint8_t *bytes, size_t size, const capn_limits *limits,
+                        capn_figures *figures, capn_report *report);
+
+/* The index of one message, of CAPN_STREAM or CAPN_BARE; with CAPN_PACKED it answers CAPN_BAD_FORM: unpack it first.
+ * It has an entry for each slot that the walk visits, in preorder: first the root, and after each entry those of its
+ * slots, one a `span` after the other. `room` counts entries.
+ * CAPN_OK: `visits` entries stand at the start of `entries`, and the rest is as it was. CAPN_NO_ROOM: there are `visits`
+ * entries, more than there is room for. In both `length` is 24 * visits. With a room of 0 it tells the number alone.
+ * It accepts and refuses what capn_check does. Unless it answers CAPN_OK, the entries are as they were. It takes memory
+ * where capn_check does, and, once there is room, for 24 bytes an entry and 4 a segment.
+ * All that an entry tells lies within `bytes`, also of a hostile message: an offset, and from there on as many bytes as
+ * its kind and its numbers say. Of null and of a capability the offset says nothing. */
+capn_status capn_index(uint32_t form, const uint8_t *bytes, size_t size, const capn_limits *limits, capn_entry *entries,
+                       size_t room, capn_report *report);
 
 #ifdef __cplusplus
 }

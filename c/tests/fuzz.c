@@ -40,11 +40,83 @@ static void accepted(uint32_t form, const uint8_t *bytes, size_t size, const cap
     free(again);
 }
 
+/* How many bytes an entry says that its content has. */
+static uint64_t content(const capn_entry *e) {
+    const uint64_t object = 8 * ((uint64_t)e->words + e->slots);
+    switch (e->kind) {
+    case CAPN_KIND_STRUCT: return object;
+    case CAPN_KIND_BITS: return ((uint64_t)e->count + 7) / 8;
+    case CAPN_KIND_BYTES: return e->count;
+    case CAPN_KIND_U16: return 2 * (uint64_t)e->count;
+    case CAPN_KIND_U32: return 4 * (uint64_t)e->count;
+    case CAPN_KIND_U64: case CAPN_KIND_POINTERS: return 8 * (uint64_t)e->count;
+    case CAPN_KIND_ROWS: return 8 + e->count * object;
+    default: return 0;
+    }
+}
+
+/* The entry at i, and all below it: it lies within the bytes, its slots have entries one after the other, a null slot that
+ * of null, and its span ends with the last. */
+static void entry(const capn_entry *all, size_t count, size_t i, const uint8_t *bytes, size_t size) {
+    const capn_entry *e = &all[i];
+    need(e->span >= 1 && e->span <= count - i, "a span", bytes, size);
+    need(e->offset <= size && content(e) <= size - e->offset, "within the bytes", bytes, size);
+    need(e->kind <= CAPN_KIND_CAPABILITY, "a kind", bytes, size);
+    size_t next = i + 1, rows = e->kind == CAPN_KIND_ROWS ? e->count : 1;
+    const uint8_t *at = bytes + e->offset + (e->kind == CAPN_KIND_ROWS ? 8 : 0);
+    size_t slots = e->kind == CAPN_KIND_POINTERS ? e->count : e->slots;
+    for (size_t row = 0; row < rows && slots; row++, at += 8 * slots) {
+        at += 8 * (size_t)e->words;
+        for (size_t slot = 0; slot < slots; slot++) {
+            uint64_t word;
+            need(next < i + e->span, "an entry of a slot", bytes, size);
+            memcpy(&word, at + 8 * slot, 8);
+            need((word == 0) == (all[next].kind == CAPN_KIND_NULL), "null", bytes, size);
+            entry(all, count, next, bytes, size);
+            next += all[next].span;
+        }
+    }
+    need(next == i + e->span, "the end of a span", bytes, size);
+}
+
+/* What survey and index tell of what check told, of a form that is not packed. */
+static void indexed(uint32_t form, const uint8_t *bytes, size_t size, capn_status check, const capn_report *checked) {
+    capn_figures figures;
+    capn_report report;
+    need(capn_survey(form, bytes, size, &limits, &figures, &report) == check, "survey as check", bytes, size);
+    need(!memcmp(&report, checked, sizeof report), "its report", bytes, size);
+    if (check != CAPN_OK) {
+        need(capn_index(form, bytes, size, &limits, NULL, 0, &report) == check, "index as check", bytes, size);
+        need(!memcmp(&report, checked, sizeof report), "its report", bytes, size);
+        return;
+    }
+    capn_limits lower = limits;
+    lower.depth = figures.depth;
+    need(!lower.depth || capn_check(form, bytes, size, &lower, &report) == CAPN_OK, "the depth", bytes, size);
+    lower.depth--;
+    need(figures.depth < 2 || capn_check(form, bytes, size, &lower, &report) == CAPN_TOO_DEEP, "less", bytes, size);
+    const size_t count = checked->visits;
+    need(figures.visits == count && figures.paid == checked->paid, "the figures", bytes, size);
+    capn_entry *all = malloc(count * sizeof *all); /* exactly as long */
+    for (size_t room = count - 1; room <= count; room++) {
+        memset(all, 0x55, count * sizeof *all);
+        capn_status status = capn_index(form, bytes, size, &limits, all, room, &report);
+        need(status == (room < count ? CAPN_NO_ROOM : CAPN_OK), "the room", bytes, size);
+        need(report.visits == count && report.paid == checked->paid, "the number of entries", bytes, size);
+        need(report.length == 24 * count && all[0].kind == (room < count ? 0x55555555 : all[0].kind), "as it was", bytes,
+             size);
+    }
+    need(all[0].span == count, "all entries", bytes, size);
+    entry(all, count, 0, bytes, size);
+    free(all);
+}
+
 static void message(uint32_t form, const uint8_t *bytes, size_t size) {
     capn_report checked, report;
     uint8_t digest[32];
     capn_status check = capn_check(form, bytes, size, &limits, &checked);
     capn_status status = capn_canonical(form, bytes, size, &limits, NULL, 0, &report);
+    if (form != CAPN_PACKED) indexed(form, bytes, size, check, &checked);
     need(check != CAPN_MEMORY && status != CAPN_MEMORY, "there is memory", bytes, size);
     if (check == CAPN_OK && status == CAPN_NO_ROOM) {
         need(report.length == 8 * ((uint64_t)report.paid + 1), "a length that is enough", bytes, size);

@@ -1,9 +1,10 @@
-/* The header as a program of C or C++ takes it: each of the six calls once, on a null root and on nothing. */
+/* The header as a program of C or C++ takes it: each call once, on a null root and on nothing. */
 #include "capn.h"
 
 int main(void) {
     const uint8_t null[16] = {0, 0, 0, 0, 1, 0, 0, 0, 0, 0, 0, 0, 0, 0, 0, 0};
     const capn_limits limits = CAPN_USUAL_LIMITS;
+    capn_figures figures;
     capn_report report;
     uint8_t out[16], digest[32];
     if (CAPN_VERSION < 100) return 1;
@@ -13,5 +14,10 @@ int main(void) {
     if (capn_check(CAPN_BARE, out, 8, &limits, &report) != CAPN_OK || report.visits != 1) return 5;
     if (capn_pack(null, 16, out, 16, &report) != CAPN_OK || report.length != 4) return 6;
     if (capn_unpack(out, 4, 1, out + 8, 8, &report) != CAPN_PACKED_TOO_LONG) return 7;
+    if (capn_first(null, 16, &limits, &report) != CAPN_OK || report.length != 16) return 8;
+    if (capn_unpack_some(out, 4, out + 8, 8, &report) != CAPN_PACKED_TOO_LONG || report.at != 2) return 9;
+    if (capn_survey(CAPN_STREAM, null, 16, &limits, &figures, &report) != CAPN_OK || figures.depth != 0) return 11;
+    if (capn_index(CAPN_STREAM, null, 16, &limits, NULL, 0, &report) != CAPN_NO_ROOM || report.visits != 1) return 12;
+    if (!capn_version()[0] || !capn_status_text(CAPN_OK)[0]) return 10;
     return 0;
 }

@@ -6,7 +6,8 @@
 #include <string.h>
 
 enum { ROOM = 1 << 16, DEPTH = 200, MOST = 8 * (2 * DEPTH) };
-static uint8_t deep[MOST], framed[MOST + 16], text[ROOM], out[ROOM];
+static uint8_t deep[MOST], framed[MOST + 16], text[ROOM];
+static _Alignas(8) uint8_t out[ROOM];
 static int failed;
 
 static void fail(const char *name, const char *why) {
@@ -67,6 +68,21 @@ static capn_status packed(const input *in, capn_report *report) {
 }
 static capn_status unpacked(const input *in, capn_report *report) {
     return capn_unpack(in->bytes, in->size, 1u << 20, out, ROOM, report);
+}
+static capn_status first(const input *in, capn_report *report) {
+    return capn_first(in->bytes, in->size, &in->limits, report);
+}
+static capn_status some(const input *in, capn_report *report) {
+    return capn_unpack_some(in->bytes, in->size, out, ROOM, report);
+}
+static capn_status surveyed(const input *in, capn_report *report) {
+    return capn_survey(in->form, in->bytes, in->size, &in->limits, (capn_figures *)out, report);
+}
+static capn_status indexed(const input *in, capn_report *report) {
+    return capn_index(in->form, in->bytes, in->size, &in->limits, (capn_entry *)out, ROOM / 24, report);
+}
+static capn_status counted(const input *in, capn_report *report) {
+    return capn_index(in->form, in->bytes, in->size, &in->limits, NULL, 0, report);
 }
 
 /* A call that was refused memory writes nothing, and every field of its report is 0. */
@@ -138,6 +154,13 @@ static void in_turn(void) {
     each("is_canonical", judged, &bare, 1);
     each("pack", packed, &stream, 1);
     each("unpack", unpacked, &pack, 1);
+    each("first", first, &stream, 1);
+    each("survey, bare", surveyed, &bare, 1);
+    each("survey, stream", surveyed, &stream, 3);
+    each("index, bare", indexed, &bare, 2);
+    each("index, stream", indexed, &stream, 4);
+    each("index, stream, no room", counted, &stream, 2);
+    each("unpack_some", some, &pack, 1);
 }
 
 /* At depth 64 a bare message and a stream of one segment need no memory, whether they are as deep or deeper; a stream
@@ -151,6 +174,9 @@ static void at_64(size_t depth, uint32_t wanted) {
     wants("no room at 64, bare", measured, &bare, 0, room);
     wants("is_canonical at 64", judged, &bare, 0, wanted == CAPN_OK ? CAPN_NOT_CANONICAL : wanted);
     wants("check at 64, one segment", checked, &stream, 0, wanted);
+    wants("survey at 64, bare", surveyed, &bare, 0, wanted);
+    wants("survey at 64, one segment", surveyed, &stream, 0, wanted);
+    wants("index at 64, no room", counted, &stream, 0, room);
     wants("no room at 64, one segment", measured, &stream, 0, room);
     stream.size = frame(framed, 2, deep, bare.size);
     wants("check at 64, two segments", checked, &stream, 1, wanted);
@@ -172,6 +198,12 @@ static void unread(void) {
     wants("check of no words", checked, &odd, 0, CAPN_NOT_WHOLE);
     wants("unpack of a cut group", unpacked, &group, 0, CAPN_PACKED_CUT);
     wants("check of a cut group", checked, &group, 0, CAPN_PACKED_CUT);
+    wants("unpack_some of a cut group", some, &group, 0, CAPN_PACKED_CUT);
+    wants("unpack_some of nothing", some, &nothing, 0, CAPN_OK);
+    wants("first of a cut table", first, &table, 0, CAPN_FRAME_CUT);
+    wants("first of nothing", first, &nothing, 0, CAPN_FRAME_EMPTY);
+    wants("first of too many segments", first, &segments, 0, CAPN_TOO_MANY_SEGMENTS);
+    wants("first of two segments without words", first, &trailing, 1, CAPN_OK);
     wants("check of a cut table", checked, &table, 0, CAPN_FRAME_CUT);
     wants("check of too many segments", checked, &segments, 0, CAPN_TOO_MANY_SEGMENTS);
     wants("check of two segments without words", checked, &trailing, 1, CAPN_NO_ROOT);

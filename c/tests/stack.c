@@ -6,7 +6,8 @@
 #include <string.h>
 
 enum { ROOM = 1 << 20 };
-static uint8_t in[8 * 4096], framed[8 * 4096 + 8], text[ROOM], out[ROOM];
+static uint8_t in[8 * 4096], framed[8 * 4096 + 8], text[ROOM];
+static _Alignas(8) uint8_t out[ROOM];
 static size_t size, packed_size;
 static uint32_t depth;
 static int call;
@@ -20,6 +21,7 @@ static void put(size_t at, uint32_t low, uint32_t high) {
 
 static void *run(void *status) {
     capn_limits limits = {1u << 28, 1u << 28, depth, CAPN_STRICT};
+    capn_figures figures;
     capn_report report;
     uint8_t digest[32];
     uint32_t *told = status;
@@ -30,6 +32,10 @@ static void *run(void *status) {
     case 3: *told = capn_check(CAPN_PACKED, text, packed_size, &limits, &report); break;
     case 4: *told = capn_is_canonical(in, size, &limits, &report); break;
     case 5: *told = capn_pack(in, size, out, ROOM, &report); break;
+    case 6: *told = capn_first(framed, size + 8, &limits, &report); break;
+    case 7: *told = capn_unpack_some(text, packed_size, out, ROOM, &report); break;
+    case 8: *told = capn_survey(CAPN_STREAM, framed, size + 8, &limits, &figures, &report); break;
+    case 9: *told = capn_index(CAPN_STREAM, framed, size + 8, &limits, (capn_entry *)out, ROOM / 24, &report); break;
     default: *told = capn_unpack(text, packed_size, 1u << 20, out, ROOM, &report); break;
     }
     return NULL;
@@ -57,7 +63,7 @@ int main(void) {
             capn_report report;
             if (capn_pack(framed, size + 8, text, ROOM, &report) != CAPN_OK) return 1;
             packed_size = report.length;
-            for (call = 0; call < 7; call++) {
+            for (call = 0; call < 11; call++) {
                 char *stack = aligned_alloc(4096, ROOM);
                 if (!stack) return 2;
                 memset(stack, 0x5a, ROOM);

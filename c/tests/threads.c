@@ -5,7 +5,7 @@
 #include <stdio.h>
 #include <string.h>
 
-enum { THREADS = 4, ROUNDS = 500, DEPTH = 200, WORDS = 2 * DEPTH, ROOM = 16 * WORDS };
+enum { THREADS = 4, ROUNDS = 100, DEPTH = 200, WORDS = 2 * DEPTH, ROOM = 16 * WORDS, CALLS = 13 };
 static const capn_limits limits = {1u << 20, 1u << 20, 256, CAPN_STRICT};
 /* Structs of two pointers, each in the one before: as a stream of two segments, and packed. */
 static uint8_t stream[16 + 8 * WORDS], packed[10 * (WORDS + 2)];
@@ -13,9 +13,11 @@ static size_t packed_size;
 
 /* What the calls answer: statuses, reports, and all that they write. */
 typedef struct answers {
-    capn_status status[9];
-    capn_report report[9];
-    uint8_t canonical[ROOM], digest[2][32], text[sizeof packed], words[sizeof stream];
+    capn_status status[CALLS];
+    capn_report report[CALLS];
+    uint8_t canonical[ROOM], digest[2][32], text[sizeof packed], words[sizeof stream], some[ROOM];
+    capn_figures figures;
+    capn_entry entries[WORDS + 1];
 } answers;
 static answers alone, each[THREADS];
 static pthread_barrier_t start;
@@ -34,6 +36,10 @@ static void make(answers *a) {
     a->status[6] = capn_check(CAPN_STREAM, stream, sizeof stream - 8, &limits, &r[6]);
     a->status[7] = capn_pack(stream, sizeof stream, a->text, sizeof a->text, &r[7]);
     a->status[8] = capn_unpack(packed, packed_size, WORDS + 2, a->words, sizeof a->words, &r[8]);
+    a->status[9] = capn_first(stream, sizeof stream, &limits, &r[9]);
+    a->status[10] = capn_unpack_some(packed, packed_size - 1, a->some, sizeof a->some, &r[10]);
+    a->status[11] = capn_survey(CAPN_STREAM, stream, sizeof stream, &limits, &a->figures, &r[11]);
+    a->status[12] = capn_index(CAPN_STREAM, stream, sizeof stream, &limits, a->entries, WORDS + 1, &r[12]);
 }
 
 static void *run(void *number) {
@@ -62,7 +68,7 @@ int main(void) {
     if (capn_pack(stream, sizeof stream, packed, sizeof packed, &report) != CAPN_OK) return 1;
     packed_size = report.length;
     make(&alone);
-    const capn_status wanted[9] = {CAPN_OK, CAPN_NO_ROOM, CAPN_OK, CAPN_OK, CAPN_OK, CAPN_OK, CAPN_FRAME_CUT};
+    const capn_status wanted[CALLS] = {[1] = CAPN_NO_ROOM, [6] = CAPN_FRAME_CUT, [10] = CAPN_PACKED_CUT};
     if (memcmp(alone.status, wanted, sizeof wanted) || alone.report[5].visits <= DEPTH) {
         printf("threads: another answer\n");
         return 1;

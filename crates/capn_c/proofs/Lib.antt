@@ -1,4 +1,10 @@
 pub mod Delivered
+pub mod Depths
+pub mod Entered
+pub mod Figured
+pub mod Least
 pub mod Listed
 pub mod Named
+pub mod OneBare
 pub mod OutOfMemory
+pub mod Unpacked

@@ -1,5 +1,5 @@
 -- The status 8 tells want of memory alone: no bytes, and no message, are refused by themselves so.
-use Rattle.std.proofs.Common.{◌≡◌, ℕ, List, refl, ◌≢◌, arith}
+use Rattle.std.proofs.Common.{◌≡◌, ℕ, List, refl, arith}
 use Rattle.capn_words.specs.declared.bare.BareFault.{BareFault}
 use Rattle.capn_words.specs.declared.bare.BareFault.TheVariants as bare
 use Rattle.capn_pack.specs.declared.fault.UnpackFault.{UnpackFault}
@@ -14,7 +14,7 @@ use Rattle.capn_canon.specs.declared.form.Form.{Form}
 use Rattle.capn_canon.specs.declared.form.Form.TheVariants as forms
 use Rattle.capn_canon.specs.declared.refusal.Refusal.{Refusal}
 use Rattle.capn_canon.specs.declared.refusal.Refusal.TheVariants as refusals
-use Rattle.capn_canon.specs.Refused.{IsMisframed, IsRefused, IsUnacceptedIn}
+use Rattle.capn_canon.specs.Refused.{IsRefused, IsUnacceptedIn}
 use Rattle.capn_c.specs.Codes.{bare_code, packed_code, frame_code, walk_code, code}
 
 -- of packed bytes

@@ -1,2 +1,7 @@
 pub mod Calls
 pub mod Codes
+pub mod Entries
+pub mod Figures
+pub mod Framed
+pub mod Needed
+pub mod Pieces

@@ -35,6 +35,12 @@ pub const MEMORY: u32 = 8;
 /// The number of bytes is no multiple of 8.
 pub const NOT_WHOLE: u32 = 16;
 
+/// A group of a packed text is cut.
+pub const PACKED_CUT: u32 = 32;
+
+/// A group of a packed text has more words than it may.
+pub const PACKED_TOO_LONG: u32 = 33;
+
 fn code_of_bare(fault: BareFault) -> u32
     ensures { result ≡ bare_code fault }
 {
@@ -58,8 +64,8 @@ fn code_of_packed(fault: UnpackFault) -> u32
 {
     match fault {
         UnpackFault::Memory => MEMORY,
-        UnpackFault::Cut { at: _ } => 32,
-        UnpackFault::TooLong { at: _ } => 33,
+        UnpackFault::Cut { at: _ } => PACKED_CUT,
+        UnpackFault::TooLong { at: _ } => PACKED_TOO_LONG,
         UnpackFault::Failed => 254,
     }
 }
@@ -75,7 +81,7 @@ fn number_of_packed(fault: UnpackFault) -> u64
     }
 }
 
-fn code_of_frame(fault: FrameFault) -> u32
+pub fn code_of_frame(fault: FrameFault) -> u32
     ensures { result ≡ frame_code fault }
 {
     match fault {
@@ -88,7 +94,7 @@ fn code_of_frame(fault: FrameFault) -> u32
     }
 }
 
-fn number_of_frame(fault: FrameFault) -> u64
+pub fn number_of_frame(fault: FrameFault) -> u64
     ensures { result ≡ frame_number fault }
 {
     match fault {

@@ -9,12 +9,22 @@
 mod canonical;
 mod checking;
 mod codes;
+mod entries;
+mod figures;
+mod framing;
 mod hashing;
+mod indexing;
 mod limits;
+mod measuring;
+mod needed;
 mod output;
 mod packing;
 mod report;
+mod surveying;
+mod unpacking;
 mod verdict;
 
+pub use entries::CapnEntry;
+pub use figures::CapnFigures;
 pub use limits::CapnLimits;
 pub use report::CapnReport;

@@ -2,6 +2,7 @@
 
 ghost use Rattle.std.specs.Prelude.{◌≡◌, ◌↔◌, ◌⊎◌, IsSome, IfSome, IfOk, IfErr};
 ghost use Rattle.capn_c.specs.Calls.{IsForm, form_named, IsTariff, tariff_named, GiveLimits, bounds_of};
+ghost use Rattle.capn_c.specs.Figures.{IsFlat};
 
 use crate::codes::{BAD_LIMITS, BAD_TARIFF};
 use capn_canon::Form;
@@ -42,6 +43,19 @@ pub fn form_of(number: u32) -> Option<Form>
     match number {
         0 => Some(Form::Stream),
         1 => Some(Form::Packed),
+        2 => Some(Form::Bare),
+        _ => None,
+    }
+}
+
+/// The form of a number, if its bytes are those of the message itself: a stream, or bare words.
+pub fn flat_form_of(number: u32) -> Option<Form>
+    ensures some { IsSome result ↔ IsFlat number }
+    ensures value { IfSome result (λ f. f ≡ form_named number) }
+    ensures flat { IfSome result (λ f. (f ≡ Form.Stream) ⊎ (f ≡ Form.Bare)) }
+{
+    match number {
+        0 => Some(Form::Stream),
         2 => Some(Form::Bare),
         _ => None,
     }

@@ -1,0 +1,42 @@
+/* index FILE: writes the tree of a message that a stranger sent, with no schema: a line for each slot, by its index. */
+#include "capn.h"
+#include <inttypes.h>
+#include <stdio.h>
+#include <stdlib.h>
+
+static const char *const kinds[] = {"null", "struct", "void", "bits", "bytes", "u16", "u32", "u64", "pointers", "rows",
+                                    "capability"};
+
+/* The entry at i and all below it: each has its own place, and `span` says where the next one beside it is. */
+static void show(const capn_entry *all, size_t i, int level, const uint8_t *bytes) {
+    const capn_entry *e = &all[i];
+    printf("%*s%s", 2 * level, "", kinds[e->kind]);
+    if (e->kind == CAPN_KIND_STRUCT || e->kind == CAPN_KIND_ROWS) printf(" %u:%u", e->words, e->slots);
+    if (e->kind >= CAPN_KIND_VOID) printf(" %" PRIu32, e->count);
+    if (e->kind == CAPN_KIND_STRUCT && e->words) printf(", first byte %u", bytes[e->offset]);
+    printf("\n");
+    for (size_t next = i + 1; next < i + e->span; next += all[next].span) show(all, next, level + 1, bytes);
+}
+
+int main(int count, char **words) {
+    static uint8_t bytes[1 << 20]; /* a copy, which nobody changes while it is read */
+    const capn_limits limits = {1 << 17, 1 << 18, 64, CAPN_STRICT};
+    if (count != 2) return 2;
+    FILE *file = fopen(words[1], "rb");
+    if (!file) return 3;
+    size_t size = fread(bytes, 1, sizeof bytes, file);
+    fclose(file);
+
+    capn_report report;
+    capn_status status = capn_index(CAPN_STREAM, bytes, size, &limits, NULL, 0, &report);
+    if (status == CAPN_NO_ROOM) {
+        const size_t room = report.visits; /* at most the budget and 1 */
+        capn_entry *all = malloc(report.length);
+        status = all ? capn_index(CAPN_STREAM, bytes, size, &limits, all, room, &report) : CAPN_MEMORY;
+        if (status == CAPN_OK) show(all, 0, 0, bytes);
+        free(all);
+    }
+    if (status == CAPN_OK) return 0;
+    fprintf(stderr, "index: %s\n", capn_status_text(status));
+    return 1;
+}

@@ -1,0 +1,66 @@
+-- A message of one segment is what its bytes are read as.
+use Rattle.std.proofs.Common.{◌≡◌, ◌↔◌, ℕ, ◌*◌, List, [], ◌∷◌, length, refl, ap, sym, subst, ◌∙◌, arith}
+use Rattle.std.proofs.Common.{Option, Some, None}
+use Rattle.std.specs.Option.{unwrap_or}
+use Rattle.std.proofs.lemmas.List.{take_all}
+use Rattle.capn_words.specs.Message.{IsMessage, segment_at, bytes_at, words_of}
+use Rattle.capn_words.specs.Words.{bytes, IsBare}
+use Rattle.capn_words.specs.Laws.Words.{bytes-injective, length-bytes}
+use Rattle.capn_walk.specs.Stops.{root}
+use Rattle.std.specs.Bool.{IsTrue}
+use Rattle.capn_value.specs.Caps.{first_cap}
+use Rattle.capn_walk.specs.Limits.{Bounds}
+use Rattle.capn_walk.specs.Laws.Segments.{length_of_none, length_of_some}
+use Rattle.capn_walk.specs.Laws.Unique.{unique}
+use Rattle.capn_canon.specs.Checks.{IsCheck}
+use Rattle.capn_canon.specs.Layout.{canon}
+use Rattle.capn_canon.specs.declared.checked.Checked.{Checked}
+use Rattle.capn_c.specs.Figures.{IsCanonicalMessage}
+
+only-segment : (m : List (List ℕ)) → length m ≡ 1 → m ≡ segment_at m 0 ∷ []
+only-segment [] e = absurd (omega arith)
+only-segment (ws ∷ []) e = refl
+only-segment (ws ∷ (vs ∷ m)) e = absurd (omega arith)
+
+pub one-bare : (m : List (List ℕ)) (bs ws : List ℕ) → IsMessage m → length m ≡ 1
+    → bs ≡ bytes_at m root (8 * length (segment_at m 0)) → IsBare bs ws → m ≡ ws ∷ []
+one-bare m bs ws is e eb b =
+    let seg = segment_at m 0 in
+    let l = length-bytes seg in
+    let all : bytes_at m root (8 * length seg) ≡ bytes seg = take_all (8 * length seg) (bytes seg) (omega arith) in
+    only-segment m e
+    ∙ ap (λ (xs : List ℕ). xs ∷ []) (bytes-injective seg ws (is.each 0) b.each (sym all ∙ sym eb ∙ b.same))
+
+-- the same where the number of its words is known by another name
+pub one-here : (m : List (List ℕ)) (bs ws : List ℕ) (n : ℕ) → IsMessage m → length m ≡ 1
+    → n ≡ length (segment_at m 0) → bs ≡ bytes_at m root (8 * n) → IsBare bs ws → m ≡ ws ∷ []
+one-here m bs ws n is e same eb b =
+    one-bare m bs ws is e (subst (λ (j : ℕ). bs ≡ bytes_at m root (8 * j)) same eb) b
+
+-- the words of the first segment, where there is one
+pub first-words : (m : List (List ℕ)) (r : Option ℕ) (n : ℕ) → r ≡ words_of m 0 → n ≡ unwrap_or r 0
+    → n ≡ length (segment_at m 0)
+first-words m None n e f = f ∙ sym (length_of_none m 0 (sym e))
+first-words m (Some k) n e f = f ∙ sym (length_of_some m 0 k (sym e))
+
+-- the words of any segment, where there is one
+pub words-at : (m : List (List ℕ)) (s : ℕ) (r : Option ℕ) (n : ℕ) → r ≡ words_of m s → n ≡ unwrap_or r 0
+    → n ≡ length (segment_at m s)
+words-at m s None n e f = f ∙ sym (length_of_none m s (sym e))
+words-at m s (Some k) n e f = f ∙ sym (length_of_some m s k (sym e))
+
+-- a check tells whether a message of one segment is canonical
+pub canonical-bare : (ws : List ℕ) (limits : Bounds) (c : Checked) → IsCheck ws limits c
+    → IsTrue c.is_canonical ↔ IsCanonicalMessage (ws ∷ []) limits
+canonical-bare ws limits c k = (
+  (λ t. record {
+    one = refl;
+    value = k.value;
+    is = k.is;
+    free = (k.answer.0 t).0;
+    same = (k.answer.0 t).1;
+  }),
+  (λ h.
+      let e = unique (ws ∷ []) h.value k.value root h.is.is k.is.is in
+      k.answer.1 (ap first_cap (sym e) ∙ h.free, ap canon (sym e) ∙ h.same)),
+)

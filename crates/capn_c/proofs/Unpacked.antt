@@ -1,0 +1,21 @@
+-- How many bytes the words have that were unpacked, and that they have room.
+use Rattle.std.proofs.Common.{◌≡◌, ℕ, ◌*◌, ◌≤◌, List, [], length, ap, arith}
+use Rattle.capn_pack.specs.Some.{UnpacksSome}
+use Rattle.capn_pack.specs.Laws.GroupLemmas.{length_contents}
+use Rattle.capn_pack.specs.declared.some.Next.{Next}
+use Rattle.capn_c.specs.Pieces.{words_in}
+
+-- 8 for each word
+pub content_length : (bytes : List ℕ) (max : ℕ) (content : List ℕ) (taken words : ℕ) (next : Next)
+    → UnpacksSome bytes max [] content taken words next → length content ≡ 8 * words
+content_length bytes max content taken words next u =
+    omega (arith, ap length u.content, length_contents u.groups u.each, u.counted)
+
+words_room : (room : ℕ) → 8 * words_in room ≤ room
+words_room room = omega arith
+
+-- which is within the buffer
+pub content_room : (bytes : List ℕ) (room : ℕ) (content : List ℕ) (taken words : ℕ) (next : Next)
+    → UnpacksSome bytes (words_in room) [] content taken words next → length content ≤ room
+content_room bytes room content taken words next u =
+    omega (arith, content_length bytes (words_in room) content taken words next u, u.fits, words_room room)

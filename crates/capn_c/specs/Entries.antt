@@ -1,0 +1,61 @@
+-- The index of a message, as C reads it. (Own.)
+use Rattle.std.specs.Prelude.{◌≡◌, ℕ, ◌+◌, ◌*◌, List, [], ◌∷◌, ◌++◌, length, drop, get_or, map}
+use Rattle.capn_stream.specs.Reading.{head_length}
+use Rattle.capn_walk.specs.Accepted.{IsAccepted}
+use Rattle.capn_walk.specs.Index.{index_of}
+use Rattle.capn_walk.specs.Limits.{Bounds}
+use Rattle.capn_walk.specs.declared.entry.Entry.{Entry}
+use Rattle.capn_walk.specs.declared.kind.Kind.{Kind}
+use Rattle.capn_walk.specs.declared.kind.Kind.TheVariants as kinds
+use Rattle.capn_canon.specs.Reads.{Reads}
+use Rattle.capn_canon.specs.declared.form.Form.{Form}
+use Rattle.capn_canon.specs.declared.form.Form.TheVariants as forms
+use Rattle.capn_c.specs.declared.entries.CapnEntry.{CapnEntry}
+
+-- the number of a kind
+abbrev pub kind_number : Kind → ℕ
+kind_number kinds.Nil = 0
+kind_number kinds.Node = 1
+kind_number kinds.Voids = 2
+kind_number kinds.Bits = 3
+kind_number kinds.Bytes = 4
+kind_number kinds.Pairs = 5
+kind_number kinds.Quads = 6
+kind_number kinds.Octs = 7
+kind_number kinds.Links = 8
+kind_number kinds.Rows = 9
+kind_number kinds.Cap = 10
+
+-- where each segment starts, in words after the table
+abbrev pub starts_from : ℕ → List (List ℕ) → List ℕ
+starts_from n [] = []
+starts_from n (ws ∷ message) = n ∷ starts_from (n + length ws) message
+
+-- an entry, with the offset of its content in the bytes in the place of a segment and a word
+abbrev pub c_entry : ℕ → List ℕ → Entry → CapnEntry
+c_entry table starts e = record {
+  offset = table + 8 * (get_or starts e.segment 0 + e.start);
+  count = e.count;
+  span = e.span;
+  words = e.words;
+  slots = e.slots;
+  kind = kind_number e.kind;
+}
+
+-- the index of a message that stands after a table of so many bytes
+abbrev pub c_index : ℕ → List (List ℕ) → Bounds → List CapnEntry
+c_index table message limits = map (c_entry table (starts_from 0 message)) (index_of message limits)
+
+-- how many bytes of a form stand before the words of a message
+abbrev pub table_length : Form → List (List ℕ) → ℕ
+table_length forms.Stream message = head_length (length message)
+table_length forms.Packed message = 0
+table_length forms.Bare message = 0
+
+-- the bytes are read as an accepted message, whose index stands at the start of the room; the rest of it is as it was
+pub record IndexedIn (form : Form) (bs : List ℕ) (limits : Bounds) (old new : List CapnEntry) : Type 0 where
+  pub message : List (List ℕ)
+  pub reads : Reads form bs limits.message_words message
+  pub accepted : IsAccepted message limits
+  pub entries : new ≡ c_index (table_length form message) message limits
+      ++ drop (length (index_of message limits)) old

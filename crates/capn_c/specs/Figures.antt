@@ -1,0 +1,71 @@
+-- What is told of a message that is read. (Own.)
+use Rattle.std.specs.Prelude.{◌≡◌, ◌⊎◌, ◌↔◌, ℕ, zero, suc, ◌<◌, List, length, Option, Some, None}
+use Rattle.std.specs.Bool.{IsTrue}
+use Rattle.capn_words.specs.Message.{bytes, segment_at, total}
+use Rattle.capn_value.specs.Tree.{Tree}
+use Rattle.capn_value.specs.Caps.{first_cap}
+use Rattle.capn_walk.specs.Accepted.{IsAccepted, IsValueOf, number_of_visits, paid}
+use Rattle.capn_walk.specs.Limits.{Bounds}
+use Rattle.capn_canon.specs.Layout.{canon}
+use Rattle.capn_canon.specs.Reads.{Reads}
+use Rattle.capn_canon.specs.declared.form.Form.{Form}
+use Rattle.capn_c.specs.declared.figures.CapnFigures.{CapnFigures}
+use Rattle.capn_c.specs.declared.measuring.Measured.{Measured}
+
+-- a number names a form whose bytes are those of the message itself
+abbrev pub IsFlat : ℕ → Type 0
+IsFlat n = (n ≡ 0) ⊎ (n ≡ 2)
+
+-- the same limits with another depth
+abbrev pub at_depth : Bounds → ℕ → Bounds
+at_depth l d = record { message_words = l.message_words; budget = l.budget; depth = d; tariff = l.tariff }
+
+-- the least depth under which a message is accepted: 0 for a null root alone
+pub record IsDepth (message : List (List ℕ)) (limits : Bounds) (d : ℕ) : Type 0 where
+  pub enough : IsAccepted message (at_depth limits d)
+  pub least : (e : ℕ) → e < d → IsAccepted message (at_depth limits e) → ⊥
+
+-- the message has one segment, whose bytes are the canonical bytes of its value
+pub record IsCanonicalMessage (message : List (List ℕ)) (limits : Bounds) : Type 0 where
+  pub one : length message ≡ 1
+  pub value : Tree
+  pub is : IsValueOf message limits value
+  pub free : first_cap value ≡ None
+  pub same : canon value ≡ bytes (segment_at message 0)
+
+-- how many words and segments a message has, how deep it is, and whether it is canonical
+pub record AreMeasures (message : List (List ℕ)) (limits : Bounds) (m : Measured) : Type 0 where
+  pub words : m.words ≡ total message
+  pub segments : m.segments ≡ length message
+  pub depth : IsDepth message limits m.depth
+  pub canonical : IsTrue m.canonical ↔ IsCanonicalMessage message limits
+
+-- the same of the message that bytes are read as
+pub record MeasuresIn (form : Form) (bs : List ℕ) (limits : Bounds) (m : Measured) : Type 0 where
+  pub message : List (List ℕ)
+  pub reads : Reads form bs limits.message_words message
+  pub are : AreMeasures message limits m
+
+-- the capability that two numbers tell: whether there is one, and its index
+abbrev pub told_cap : ℕ → ℕ → Option ℕ
+told_cap zero k = None
+told_cap (suc n) k = Some k
+
+-- the figures of an accepted message: its words and segments; what its walk pays and visits; the least depth under
+-- which it is accepted; 1 and the first capability of its value, or 0 and 0; and 1 exactly if it is canonical
+pub record AreFigures (message : List (List ℕ)) (limits : Bounds) (f : CapnFigures) : Type 0 where
+  pub value : Tree
+  pub is : IsValueOf message limits value
+  pub words : f.words ≡ total message
+  pub segments : f.segments ≡ length message
+  pub pays : f.paid ≡ paid message limits
+  pub counts : f.visits ≡ number_of_visits message limits
+  pub depth : IsDepth message limits f.depth
+  pub capability : told_cap f.has_capability f.capability ≡ first_cap value
+  pub canonical : (f.canonical ≡ 1) ↔ IsCanonicalMessage message limits
+
+-- the figures of the message that bytes are read as
+pub record FiguresIn (form : Form) (bs : List ℕ) (limits : Bounds) (f : CapnFigures) : Type 0 where
+  pub message : List (List ℕ)
+  pub reads : Reads form bs limits.message_words message
+  pub are : AreFigures message limits f
