@@ -6,7 +6,7 @@ use capn_pack::{pack, unpack};
 use capn_stream::{Framed, Framer, first};
 use capn_tool::{Command, run};
 use capn_value::{Tree, show};
-use capn_walk::{Limits, Walked, survey, walk};
+use capn_walk::{Entry, Limits, Walked, index_into, survey, walk};
 use capn_words::{MOST_MESSAGE_WORDS, Space, Watched};
 use sha2::{Digest, Sha256};
 use std::alloc::Global;
@@ -25,6 +25,10 @@ pub(crate) enum Operation {
     Framer,
     /// What reading the message costs.
     Survey,
+    /// Room for an entry a word, to compare with.
+    Room,
+    /// The entries of the message, with the room for them.
+    Index,
     /// The message as a tree, which is freed.
     Walk,
     /// The canonical bytes of the message.
@@ -45,11 +49,13 @@ pub(crate) enum Operation {
 
 impl Operation {
     /// Those of one message.
-    pub(crate) const ALL: [Operation; 11] = [
+    pub(crate) const ALL: [Operation; 13] = [
         Operation::Copy,
         Operation::First,
         Operation::Framer,
         Operation::Survey,
+        Operation::Room,
+        Operation::Index,
         Operation::Walk,
         Operation::Canonical,
         Operation::IsCanonical,
@@ -66,6 +72,8 @@ impl Operation {
             Operation::First => "first",
             Operation::Framer => "framer",
             Operation::Survey => "survey",
+            Operation::Room => "room",
+            Operation::Index => "index",
             Operation::Walk => "walk",
             Operation::Canonical => "canonical",
             Operation::IsCanonical => "is_canonical",
@@ -160,6 +168,31 @@ pub(crate) fn paid(alloc: Global, framed: &[u8]) -> Result<u32> {
     match survey(alloc, &message(alloc, framed)?, Limits::usual()) {
         Ok(surveyed) => Ok(surveyed.paid),
         Err(_) => Err(anyhow!("not surveyed")),
+    }
+}
+
+/// Room for as many entries as a framed message has words.
+fn room_of(alloc: Global, framed: &[u8]) -> Result<Vec<Entry>> {
+    let words = framed.len() / 8;
+    let mut room = Vec::with_capacity(alloc, words)?;
+    for _ in 0..words {
+        room.push(Entry::nil())?;
+    }
+    Ok(room)
+}
+
+/// The length of the room alone.
+fn roomed(alloc: Global, framed: &[u8]) -> Result<usize> {
+    Ok(room_of(alloc, framed)?.len())
+}
+
+/// The number of entries of a framed message.
+fn indexed(alloc: Global, framed: &[u8]) -> Result<u32> {
+    let message = message(alloc, framed)?;
+    let mut room = room_of(alloc, framed)?;
+    match index_into(&message, Limits::usual(), &mut room) {
+        Ok(indexed) => Ok(indexed.visits),
+        Err(_) => Err(anyhow!("not indexed")),
     }
 }
 
@@ -288,6 +321,8 @@ impl Input {
             Operation::First => number_of(segments_of(alloc, bytes)),
             Operation::Framer => number_of(received(alloc, bytes)),
             Operation::Survey => number_of(paid(alloc, bytes)),
+            Operation::Room => roomed(alloc, bytes),
+            Operation::Index => number_of(indexed(alloc, bytes)),
             Operation::Walk => number_of(walked(alloc, bytes)),
             Operation::Canonical => len_of(canonical(alloc, bytes)),
             Operation::IsCanonical => number_of(told(alloc, bytes)),

@@ -3,8 +3,8 @@
 use crate::answer;
 use crate::cuts::cut_each;
 use anyhow::{Result, bail};
-use refusing::Refusing;
 use std::alloc::Global;
+use test_allocator::Refusing;
 
 /// Where the calls of a case take their memory. What a case itself takes, as for its text, is never refused.
 pub(crate) type Heap = Refusing<Global>;

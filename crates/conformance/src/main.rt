@@ -6,6 +6,7 @@
 //! beginning what the definitions give.
 #![tactic(auto)]
 
+mod archives;
 mod cuts;
 mod frames;
 mod growths;
@@ -44,6 +45,8 @@ fn answer(alloc: Global, heap: &Heap, words: &[&str]) -> Result<String> {
         "unpack" => packing::unpack_answer(alloc, heap, words),
         "run" => runs::run_answer(alloc, heap, words),
         "usage" => runs::usage_answer(alloc, words),
+        "archive" => archives::archive_answer(alloc, heap, words),
+        "make" => archives::make_answer(alloc, heap, words),
         "limits" => messages::limits_answer(alloc, words),
         "resolve" => slots::resolve_answer(alloc, heap, words),
         "walk" => visits::visits_answer(alloc, heap, Asked::Walk, words, tariff),

@@ -1,6 +1,0 @@
-use Rattle.std.proofs.Common.{◌≡◌, [], map, replicate}
-use Rattle.generated.proofs.segments.Segments.new.Given as goal
-
--- so many segments of no words are there
-abbrev pub invariant-loop : goal.invariant-loop
-invariant-loop l = map (λ words. words.items) l.segments.items ≡ replicate l.counter []

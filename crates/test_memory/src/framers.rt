@@ -1,0 +1,49 @@
+//! Many framers that wait for the greatest message.
+
+use capn_stream::{FrameFault, Framer};
+use std::alloc::{AllocError, Global};
+use std::process::Abort;
+use std::test::Fail;
+use test_allocator::Refusing;
+
+/// A framer that was told of 2^28 words.
+fn waiting<'a>(rt: &impl Abort, heap: &'a Refusing<Global>) -> Framer<&'a Refusing<Global>> {
+    let mut framer = Framer::new(heap, 268_435_456);
+    let fed = framer.feed(&[0, 0, 0, 0, 0, 0, 0, 0x10]);
+    assert!(rt; fed == Ok(8));
+    framer
+}
+
+/// So many of them.
+fn waiting_each<'a>(
+    rt: &impl Abort,
+    alloc: Global,
+    heap: &'a Refusing<Global>,
+    count: u32,
+) -> Result<Vec<Framer<&'a Refusing<Global>>>, AllocError> {
+    let mut framers = Vec::new(alloc);
+    for _ in 0..count {
+        framers.push(waiting(rt, heap))?;
+    }
+    Ok(framers)
+}
+
+/// Whether each of some framers has no room for 256 bytes.
+fn are_without_room(framers: &mut [Framer<&Refusing<Global>>]) -> bool {
+    for framer in framers {
+        if framer.feed(&[0; 256]) != Err(FrameFault::Memory) {
+            return false;
+        }
+    }
+    true
+}
+
+/// No framer takes memory for what was announced to it: where no more comes, none has room for 256 bytes.
+#[test]
+fn many_framers_that_wait_for_the_greatest_message(rt: HostRuntime) -> Result<(), Fail> {
+    let heap = Refusing::nth(rt.alloc(), 0);
+    let mut framers = waiting_each(&rt, rt.alloc(), &heap, 65_536)?;
+    heap.refuse_each();
+    assert!(rt; framers.len() == 65_536 && are_without_room(&mut framers));
+    Ok(())
+}

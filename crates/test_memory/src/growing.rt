@@ -1,0 +1,195 @@
+//! How often and by how much calls grow: tables of many segments, bytes that come one by one, and what is announced.
+
+use crate::cuts::long_table;
+use crate::short_runs::output;
+use crate::sizes::{long_list, stream_of, stream_through_each};
+use crate::subject::{MOST, chain, limits};
+use crate::words::bytes_of;
+use capn_canon::{Form, Refusal, canonicalise, is_canonical};
+use capn_stream::{Framer, first, frame};
+use capn_tool::{Command, ToolFault};
+use capn_value::show;
+use capn_walk::{Fault, walk};
+use capn_words::{Bare, Space};
+use std::alloc::{AllocError, Global};
+use std::test::Fail;
+use test_allocator::Refusing;
+
+/// Whether the message that stands first is all of the stream, and has so many segments.
+fn is_whole(alloc: Global, stream: &[u8], segments: u32) -> bool {
+    match first(alloc, stream, MOST) {
+        Ok((message, taken)) => taken == stream.len() && message.segments() == segments,
+        Err(_) => false,
+    }
+}
+
+/// No number of segments is refused as Memory where there is memory.
+#[test]
+fn each_number_of_segments(rt: HostRuntime) -> Result<(), Fail> {
+    for count in 2..=4_096u32 {
+        let stream = long_table(rt.alloc(), count - 1)?;
+        assert!(rt;
+            is_whole(rt.alloc(), stream.as_slice(), count),
+            "{count} segments"
+        );
+    }
+    Ok(())
+}
+
+#[test]
+fn the_longest_table_through_each_call(rt: HostRuntime) -> Result<(), Fail> {
+    let stream = long_table(rt.alloc(), 4_095)?;
+    stream_through_each(&rt, rt.alloc(), stream.as_slice())
+}
+
+/// A stream of 4,096 segments of 32 words each: a table of 16,392 bytes, and a mebibyte.
+fn many_segments(alloc: Global) -> Result<Vec<u8>, AllocError> {
+    let mut stream = Vec::new(alloc);
+    stream.extend_from_slice(&4_095u32.to_le_bytes())?;
+    for _ in 0..4_096u32 {
+        stream.extend_from_slice(&32u32.to_le_bytes())?;
+    }
+    stream.resize(1_064_968, 0)?;
+    Ok(stream)
+}
+
+/// How many growths a message of a stream takes and the most bytes of one, and the same for its frame.
+fn framed_growths(alloc: Global, stream: &[u8]) -> Option<((u64, usize), (u64, usize))> {
+    let heap = Refusing::nth(alloc, 0);
+    let (message, _) = first(&heap, stream, MOST).ok()?;
+    let other = Refusing::nth(alloc, 0);
+    let text = frame(&other, &message).ok()?;
+    if text.as_slice() == stream {
+        Some((
+            (heap.count(), heap.greatest()),
+            (other.count(), other.greatest()),
+        ))
+    } else {
+        None
+    }
+}
+
+/// A message of many segments takes four bytes for each, whatever these hold; its frame is one growth of its length.
+#[test]
+fn growths_of_many_segments(rt: HostRuntime) -> Result<(), Fail> {
+    let stream = many_segments(rt.alloc())?;
+    let growths = framed_growths(rt.alloc(), stream.as_slice());
+    assert!(rt; matches!(growths, Some(((1, most), (1, 1_064_968))) if most <= 16_384));
+    Ok(())
+}
+
+/// How many growths a framer takes that is fed a message byte by byte.
+fn growths_by_the_byte(alloc: Global, stream: &[u8]) -> Option<u64> {
+    let heap = Refusing::nth(alloc, 0);
+    let mut framer = Framer::new(&heap, MOST);
+    for byte in stream {
+        if framer.feed(&[*byte]) != Ok(1) {
+            return None;
+        }
+    }
+    if framer.take().is_some() {
+        Some(heap.count())
+    } else {
+        None
+    }
+}
+
+/// Room for bytes grows with what is there, so that a message that comes byte by byte is copied a few times at most.
+#[test]
+fn a_mebibyte_byte_by_byte(rt: HostRuntime) -> Result<(), Fail> {
+    let list = long_list(rt.alloc())?;
+    let stream = stream_of(rt.alloc(), list.as_slice())?;
+    let growths = growths_by_the_byte(rt.alloc(), stream.as_slice());
+    assert!(rt; matches!(growths, Some(count) if count <= 20));
+    Ok(())
+}
+
+/// Whether bytes are their own canonical bytes, which ask for no growth of more than a kibibyte.
+fn is_small(alloc: Global, bytes: &[u8]) -> bool {
+    let heap = Refusing::nth(alloc, 0);
+    let is_own = match canonicalise(&heap, Form::Bare, bytes, limits(64)) {
+        Ok(canonical) => canonical.bytes.as_slice() == bytes,
+        Err(_) => false,
+    };
+    is_own && is_canonical(&heap, bytes, limits(64)) == Ok(true) && heap.greatest() <= 1_024
+}
+
+/// What was paid is not taken for what there is to write: eight million voids, which cost as many words.
+#[test]
+fn voids_by_the_million(rt: HostRuntime) -> Result<(), Fail> {
+    let voids = [0x1_0000_0000_0000, 8_000_000 << 35 | 1];
+    let bytes = bytes_of(rt.alloc(), &voids)?;
+    assert!(rt; is_small(rt.alloc(), bytes.as_slice()));
+    Ok(())
+}
+
+/// How many growths the price of a packed input takes that begins with an empty message, and the most bytes of one.
+fn priced_growths(alloc: Global, packed: &[u8]) -> Option<(u64, usize)> {
+    let heap = Refusing::nth(alloc, 0);
+    let command = Command::Check(Form::Packed, limits(64));
+    let (outcome, _) = output(alloc, &heap, command, packed);
+    match outcome {
+        Err(ToolFault::Refused(Refusal::Walk(stopped))) if stopped.fault == Fault::NoRoot => {
+            Some((heap.count(), heap.greatest()))
+        }
+        _ => None,
+    }
+}
+
+/// Of packed zeros that stand for 64 MiB no more is unpacked at once than 514 KiB.
+#[test]
+fn packed_zeros_are_unpacked_bit_by_bit(rt: HostRuntime) -> Result<(), Fail> {
+    let mut packed = Vec::new(rt.alloc());
+    for _ in 0..32_768u32 {
+        packed.extend_from_slice(&[0, 255])?;
+    }
+    let growths = priced_growths(rt.alloc(), packed.as_slice());
+    assert!(rt;
+        matches!(growths, Some((_, most)) if most <= 526_336),
+        "{growths:?}"
+    );
+    Ok(())
+}
+
+/// How many growths the walk of a message takes, and how many its walk and its text do together.
+fn walked_growths(alloc: Global, bytes: &[u8]) -> Option<(u64, u64)> {
+    let heap = Refusing::nth(alloc, 0);
+    let space = Bare::new(bytes).ok()?;
+    let Ok(walked) = walk(&heap, &space, limits(256)) else {
+        return None;
+    };
+    let count = heap.count();
+    let is_shown = show(&heap, &walked.tree).is_ok();
+    // One call is cheaper to check than fields that are dropped one by one.
+    drop(walked);
+    if is_shown {
+        Some((count, heap.count()))
+    } else {
+        None
+    }
+}
+
+/// How many growths it takes to show a message.
+fn shown_growths(alloc: Global, stream: &[u8]) -> Option<u64> {
+    let heap = Refusing::nth(alloc, 0);
+    let command = Command::Show(Form::Stream, limits(256));
+    match output(alloc, &heap, command, stream) {
+        (Ok(()), _) => Some(heap.count()),
+        _ => None,
+    }
+}
+
+/// To show a message takes a walk, its text, and a few growths for the message and the line behind it.
+#[test]
+fn a_message_is_walked_once_to_be_shown(rt: HostRuntime) -> Result<(), Fail> {
+    let deep = chain(rt.alloc(), 200)?;
+    let stream = stream_of(rt.alloc(), deep.as_slice())?;
+    let walked = walked_growths(rt.alloc(), deep.as_slice());
+    let shown = shown_growths(rt.alloc(), stream.as_slice());
+    let is_right = match (walked, shown) {
+        (Some((walk, both)), Some(shown)) => 200 <= walk && shown <= both.saturating_add(8),
+        _ => false,
+    };
+    assert!(rt; is_right, "{walked:?} {shown:?}");
+    Ok(())
+}

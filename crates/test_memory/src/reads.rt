@@ -1,0 +1,42 @@
+//! What a reader has left where a growth for its next message is refused.
+
+use crate::refused::STREAM;
+use crate::words::bytes_of;
+use capn_stream::{ReadFault, read_message};
+use capn_words::{MOST_MESSAGE_WORDS, Watched};
+use std::alloc::Global;
+use std::test::Fail;
+use test_allocator::Refusing;
+
+/// Whether no growth for the next message had this number, and how many bytes the reader has left, where the message
+/// was read then, and memory was wanted else.
+fn left_by(alloc: Global, stream: &[u8], number: u64) -> (bool, Option<usize>) {
+    let short = Refusing::nth(alloc, number);
+    let mut reader = Watched::new(stream);
+    let is_read = match read_message(&short, &mut reader, MOST_MESSAGE_WORDS) {
+        Ok(Some(_)) => Some(true),
+        Err(ReadFault::Memory) => Some(false),
+        _ => None,
+    };
+    let is_spared = short.has_spared();
+    if is_read == Some(is_spared) {
+        return (is_spared, Some(reader.into_inner().len()));
+    }
+    (is_spared, None)
+}
+
+/// No byte of the next message is read where memory is refused for the one before.
+#[test]
+fn no_byte_of_the_next_message_is_read(rt: HostRuntime) -> Result<(), Fail> {
+    let mut twice = bytes_of(rt.alloc(), &STREAM)?;
+    let once = twice.len();
+    twice.extend_from_within(..)?;
+    for number in 1..1_000u64 {
+        match left_by(rt.alloc(), twice.as_slice(), number) {
+            (true, Some(left)) if 1 < number && left == once => return Ok(()),
+            (false, Some(left)) if once <= left => {}
+            _ => assert!(rt; false, "growth {number}"),
+        }
+    }
+    Err(Fail::new("a thousand growths"))
+}

@@ -1,0 +1,317 @@
+//! Calls of which each growth is refused in turn.
+
+use crate::short_runs::*;
+use crate::short_streams::*;
+use crate::short_texts::*;
+use crate::short_values::*;
+use crate::subject::{Answer, Subject, chain, judged, limits, packed_of, subject_of, wanting};
+use crate::words::bytes_of;
+use capn_canon::{Form, Refusal, is_canonical};
+use capn_tool::{Command, ToolFault};
+use capn_value::{copy, trim};
+use capn_walk::Fault;
+use std::alloc::Global;
+use std::process::Abort;
+use std::test::Fail;
+use test_allocator::Refusing;
+
+/// A message of three segments: a struct with a word, a text, two rows, two pointers, and a double-far pointer to a
+/// struct.
+pub(crate) const STREAM: [u64; 20] = [
+    0xf_0000_0002,
+    0x1_0000_0002,
+    0x4_0001_0000_0000,
+    5,
+    0x1a_0000_000d,
+    0x27_0000_000d,
+    0x16_0000_001d,
+    0x1_0000_0006,
+    0x63_6261,
+    0x1_0001_0000_0008,
+    7,
+    0,
+    0,
+    0x51_0000_0009,
+    0,
+    0xffff_fffc,
+    0x3ff,
+    0x2_0000_0002,
+    0x1_0000_0000,
+    9,
+];
+
+/// A command that is run. Its limits can't stand in a constant, so it is named apart from them.
+#[derive(Clone, Copy)]
+pub(crate) enum Order {
+    Show,
+    Check,
+    Canonical,
+    Hash,
+    Pack,
+    Unpack,
+}
+
+/// A call that takes memory.
+#[derive(Clone, Copy)]
+pub(crate) enum Call {
+    First,
+    Frame,
+    Feed,
+    Read,
+    Pack,
+    Unpack,
+    FeedPacked,
+    Walk,
+    Survey,
+    Index,
+    DeepIndex,
+    Show,
+    ReadText,
+    Texts,
+    Trim,
+    Copy,
+    Items,
+    Layout,
+    Patch,
+    Canonical,
+    Canonicalise,
+    Check,
+    Account(Form),
+    Text,
+    Run(Order),
+}
+
+/// Calls that take memory. A list that is constant costs its users nothing to check.
+pub(crate) const CALLS: [(&str, Call); 32] = [
+    ("first", Call::First),
+    ("frame", Call::Frame),
+    ("feed", Call::Feed),
+    ("read_message", Call::Read),
+    ("pack", Call::Pack),
+    ("unpack", Call::Unpack),
+    ("feed of packed bytes", Call::FeedPacked),
+    ("walk", Call::Walk),
+    ("survey", Call::Survey),
+    ("index", Call::Index),
+    ("index of a chain", Call::DeepIndex),
+    ("show", Call::Show),
+    ("read of a text", Call::ReadText),
+    ("texts", Call::Texts),
+    ("trim", Call::Trim),
+    ("copy", Call::Copy),
+    ("items", Call::Items),
+    ("layout", Call::Layout),
+    ("patch", Call::Patch),
+    ("canonical_of", Call::Canonical),
+    ("canonicalise", Call::Canonicalise),
+    ("is_canonical", Call::Check),
+    ("account of a stream", Call::Account(Form::Stream)),
+    ("account of packed bytes", Call::Account(Form::Packed)),
+    ("account of bare bytes", Call::Account(Form::Bare)),
+    ("fault_text", Call::Text),
+    ("run of show", Call::Run(Order::Show)),
+    ("run of check", Call::Run(Order::Check)),
+    ("run of canonical", Call::Run(Order::Canonical)),
+    ("run of hash", Call::Run(Order::Hash)),
+    ("run of pack", Call::Run(Order::Pack)),
+    ("run of unpack", Call::Run(Order::Unpack)),
+];
+
+/// The command of an order, within the limits of a walk to 256 objects below one another.
+fn command_of(order: Order) -> Command {
+    match order {
+        Order::Show => Command::Show(Form::Stream, limits(256)),
+        Order::Check => Command::Check(Form::Packed, limits(256)),
+        Order::Canonical => Command::Canonical(Form::Stream, limits(256)),
+        Order::Hash => Command::Hash(Form::Stream, limits(256)),
+        Order::Pack => Command::Pack,
+        Order::Unpack => Command::Unpack(268_437_505),
+    }
+}
+
+/// What a call answers with an allocator.
+pub(crate) fn answer(of: &Subject, short: &Refusing<Global>, call: Call) -> Answer {
+    match call {
+        Call::First => first_answer(of, short),
+        Call::Frame => frame_answer(of, short),
+        Call::Feed => feed_answer(of, short),
+        Call::Read => read_answer(of, short),
+        Call::Pack => pack_answer(of, short),
+        Call::Unpack => unpack_answer(of, short),
+        Call::FeedPacked => feed_packed_answer(of, short),
+        Call::Walk => walk_answer(of, short),
+        Call::Survey => survey_answer(of, short),
+        Call::Index => index_answer(of, short, &of.message),
+        Call::DeepIndex => deep_index_answer(of, short),
+        Call::Show => show_answer(of, short),
+        Call::ReadText => read_text_answer(of, short),
+        Call::Texts => texts_answer(of, short),
+        Call::Trim => judged_tree(of, trim(short, &of.walked.tree)),
+        Call::Copy => judged_tree(of, copy(short, &of.walked.tree)),
+        Call::Items => items_answer(short),
+        Call::Layout => layout_answer(of, short),
+        Call::Patch => patch_answer(short),
+        Call::Canonical => canonical_answer(of, short),
+        Call::Canonicalise => canonicalise_answer(of, short),
+        Call::Check => check_answer(of, short),
+        Call::Account(form) => account_answer(of, short, form),
+        Call::Text => text_answer(short),
+        Call::Run(order) => run_answer(of, short, command_of(order)),
+    }
+}
+
+/// Whether no growth of a call had this number, what it answers with that refused, and what it answers then, unless no
+/// growth had it.
+fn answers(of: &Subject, call: Call, number: u64) -> (bool, Answer, Answer) {
+    let short = Refusing::nth(of.alloc, number);
+    let first = answer(of, &short, call);
+    let is_spared = short.has_spared();
+    let again = answer(of, &short, call);
+    (is_spared, first, again)
+}
+
+/// Refuses each growth of a call in turn, until a run meets none: it answers Memory and nothing else, and then, with
+/// ample memory, what is right.
+fn refuse_each(rt: &impl Abort, of: &Subject, name: &str, call: Call) {
+    for number in 1..1_000u64 {
+        match answers(of, call, number) {
+            (true, Answer::Right, _) if 1 < number => return,
+            (false, Answer::Memory, Answer::Right) => {}
+            _ => assert!(rt; false, "{name}, growth {number}"),
+        }
+    }
+    assert!(rt; false, "{name} grows a thousand times");
+}
+
+#[test]
+fn each_call(rt: HostRuntime) -> Result<(), Fail> {
+    let stream = bytes_of(rt.alloc(), &STREAM)?;
+    let of = subject_of(rt.alloc(), stream.as_slice())?;
+    for (name, call) in CALLS {
+        refuse_each(&rt, &of, name, call);
+    }
+    Ok(())
+}
+
+/// Whether no growth had this number, and what showing two messages, each with this text, answers with it refused:
+/// both texts, or that of the first, perhaps a beginning of the second's, and want of memory.
+fn shows_twice(alloc: Global, twice: &[u8], text: &[u8], number: u64) -> (bool, Answer) {
+    let short = Refusing::nth(alloc, number);
+    let (outcome, shown) = output(alloc, &short, command_of(Order::Show), twice);
+    let (first, second) = shown.split_at(text.len().min(shown.len()));
+    let answer = match outcome {
+        Ok(()) => judged(second == text),
+        Err(ToolFault::Memory) => wanting(text.starts_with(second)),
+        Err(_) => Answer::Wrong,
+    };
+    (
+        short.has_spared(),
+        if first == text { answer } else { Answer::Wrong },
+    )
+}
+
+/// Where a growth for the second of two messages is refused, the text of the first is written all the same.
+#[test]
+fn the_first_message_is_written(rt: HostRuntime) -> Result<(), Fail> {
+    let once = bytes_of(rt.alloc(), &STREAM)?;
+    let mut twice = bytes_of(rt.alloc(), &STREAM)?;
+    twice.extend_from_slice(once.as_slice())?;
+    let heap = Refusing::nth(rt.alloc(), 0);
+    let (outcome, text) = output(rt.alloc(), &heap, command_of(Order::Show), once.as_slice());
+    assert!(rt; outcome.is_ok() && !text.is_empty());
+    let mut was_refused = false;
+    for number in heap.count().saturating_add(1)..1_000 {
+        match shows_twice(rt.alloc(), twice.as_slice(), text.as_slice(), number) {
+            (true, Answer::Right) if was_refused => return Ok(()),
+            (false, Answer::Memory) => was_refused = true,
+            _ => assert!(rt; false, "growth {number}"),
+        }
+    }
+    Err(Fail::new("a thousand growths"))
+}
+
+/// A stream of null in one segment, and of a struct of one word that is in two.
+const TWO: [u64; 7] = [
+    0x1_0000_0000,
+    0,
+    0x1_0000_0001,
+    0x2,
+    0x1_0000_0002,
+    0x1_0000_0000,
+    5,
+];
+
+/// Whether no growth of a run had this number, and whether the run ended as done then, and else as Memory.
+fn ends_by(alloc: Global, command: &Command, input: &[u8], number: u64) -> (bool, bool) {
+    let short = Refusing::nth(alloc, number);
+    let (outcome, _) = output(alloc, &short, *command, input);
+    let is_spared = short.has_spared();
+    let want = if is_spared {
+        Ok(())
+    } else {
+        Err(ToolFault::Memory)
+    };
+    (is_spared, outcome == want)
+}
+
+/// How many growths a run has, each of which ends it as Memory where it is refused. None where one doesn't.
+fn growths_of(alloc: Global, command: &Command, input: &[u8]) -> Option<u64> {
+    for number in 1..1_000u64 {
+        match ends_by(alloc, command, input, number) {
+            (true, true) => return Some(number - 1),
+            (false, true) => {}
+            _ => return None,
+        }
+    }
+    None
+}
+
+/// Wherever a growth is refused the run ends as Memory, also for a message that is whole in a piece after another one.
+#[test]
+fn a_refused_growth_ends_a_run(rt: HostRuntime) -> Result<(), Fail> {
+    let stream = bytes_of(rt.alloc(), &TWO)?;
+    let packed = packed_of(rt.alloc(), stream.as_slice())?;
+    let usual = limits(64);
+    for (command, input) in [
+        (Command::Show(Form::Stream, usual), stream.as_slice()),
+        (Command::Check(Form::Stream, usual), stream.as_slice()),
+        (Command::Hash(Form::Stream, usual), stream.as_slice()),
+        (Command::Check(Form::Packed, usual), packed.as_slice()),
+    ] {
+        let growths = growths_of(rt.alloc(), &command, input);
+        assert!(rt; matches!(growths, Some(count) if 3 <= count), "{command:?}");
+    }
+    Ok(())
+}
+
+/// Whether a chain of 63 structs is canonical and tells its price and its visits.
+fn is_told(heap: &Refusing<Global>, deep: &[u8]) -> bool {
+    is_canonical(heap, deep, limits(64)) == Ok(true)
+        && accounted(heap, Form::Bare, deep, limits(64)) == Ok((253, 127, None))
+}
+
+/// Whether a chain of 64 structs is refused as too deep at its last object, and as it is with ample memory.
+fn is_too_deep(heap: &Refusing<Global>, alloc: Global, deeper: &[u8]) -> bool {
+    let is_stopped = match is_canonical(heap, deeper, limits(64)) {
+        Err(Refusal::Walk(stopped)) => stopped.fault == Fault::TooDeep
+            && stopped.place.word == 127
+            && stopped.paid == 192
+            && stopped.visits == 65,
+        _ => false,
+    };
+    let refusal = accounted(heap, Form::Bare, deeper, limits(64));
+    is_stopped && refusal == accounted(alloc, Form::Bare, deeper, limits(64))
+}
+
+/// The usual depth of 64 objects is checked without memory, and the first object that is deeper is refused as such.
+#[test]
+fn no_memory_for_64_objects(rt: HostRuntime) -> Result<(), Fail> {
+    let deep = chain(rt.alloc(), 63)?;
+    let deeper = chain(rt.alloc(), 64)?;
+    let heap = Refusing::nth(rt.alloc(), 0);
+    heap.refuse_each();
+    assert!(rt; is_told(&heap, deep.as_slice()));
+    assert!(rt; is_too_deep(&heap, rt.alloc(), deeper.as_slice()));
+    assert!(rt; heap.count() == 0);
+    Ok(())
+}

@@ -1,0 +1,113 @@
+//! Canonical bytes, texts of faults and runs, with an allocator that may refuse a growth.
+
+use crate::subject::{Answer, Subject, judged, limits, wanting};
+use capn_canon::{
+    Canonical, Form, Refusal, account, canonical_of, canonicalise, is_canonical, layout,
+};
+use capn_tool::{Command, ToolFault, fault_text, run};
+use capn_walk::Limits;
+use capn_words::Watched;
+use std::alloc::{Allocator, Global};
+use test_allocator::Refusing;
+
+/// The canonical bytes of the message.
+pub(crate) fn canonical_answer(of: &Subject, short: &Refusing<Global>) -> Answer {
+    judged_canonical(of, canonical_of(short, &of.message, limits(256)))
+}
+
+/// The canonical bytes of the packed stream.
+pub(crate) fn canonicalise_answer(of: &Subject, short: &Refusing<Global>) -> Answer {
+    let packed = of.packed.as_slice();
+    judged_canonical(of, canonicalise(short, Form::Packed, packed, limits(256)))
+}
+
+/// Right exactly if these are the canonical bytes of the value.
+pub(crate) fn judged_canonical(
+    of: &Subject,
+    canonical: Result<Canonical<&Refusing<Global>>, Refusal>,
+) -> Answer {
+    match (canonical, layout(of.alloc, &of.walked.tree)) {
+        (Ok(canonical), Ok(want)) => judged(canonical.bytes.as_slice() == want.as_slice()),
+        (Err(refusal), _) => wanting(matches!(refusal, Refusal::Memory)),
+        _ => Answer::Wrong,
+    }
+}
+
+/// That the chain is canonical.
+pub(crate) fn check_answer(of: &Subject, short: &Refusing<Global>) -> Answer {
+    match is_canonical(short, of.chain.as_slice(), limits(256)) {
+        Ok(is_canonical) => judged(is_canonical),
+        Err(refusal) => wanting(matches!(refusal, Refusal::Memory)),
+    }
+}
+
+/// The price, the visits and the first capability that a survey of bytes tells.
+pub(crate) fn accounted<A: Allocator + Copy>(
+    alloc: A,
+    form: Form,
+    bytes: &[u8],
+    limits: Limits,
+) -> Result<(u32, u32, Option<u32>), Refusal> {
+    let told = account(alloc, form, bytes, limits)?;
+    Ok((told.paid, told.visits, told.capability))
+}
+
+/// What a survey tells of the stream, of its packed text, and of the chain, which is read bare.
+pub(crate) fn account_answer(of: &Subject, short: &Refusing<Global>, form: Form) -> Answer {
+    let bytes = match form {
+        Form::Stream => of.stream,
+        Form::Packed => of.packed.as_slice(),
+        Form::Bare => of.chain.as_slice(),
+    };
+    let told = accounted(short, form, bytes, limits(256));
+    match (told, accounted(of.alloc, form, bytes, limits(256))) {
+        (Ok(told), Ok(want)) => judged(told == want),
+        (Err(refusal), Ok(_)) => wanting(matches!(refusal, Refusal::Memory)),
+        _ => Answer::Wrong,
+    }
+}
+
+/// The text of a fault.
+pub(crate) fn text_answer(short: &Refusing<Global>) -> Answer {
+    match fault_text(short, &ToolFault::NotWhole(9)) {
+        Ok(text) => judged(text.as_bytes() == b"NotWhole(9)".as_slice()),
+        Err(_) => Answer::Memory,
+    }
+}
+
+/// What a command writes of some bytes, to memory that is never short.
+pub(crate) fn output<A: Allocator + Copy>(
+    ample: Global,
+    alloc: A,
+    command: Command,
+    input: &[u8],
+) -> (Result<(), ToolFault>, Vec<u8>) {
+    let mut reader = Watched::new(input);
+    let mut writer = Watched::new(Vec::new(ample));
+    let outcome = run(alloc, command, &mut reader, &mut writer);
+    (outcome, writer.into_inner())
+}
+
+/// What a command writes of an input.
+fn written<A: Allocator + Copy>(
+    of: &Subject,
+    alloc: A,
+    command: Command,
+) -> (Result<(), ToolFault>, Vec<u8>) {
+    let input = match command {
+        Command::Unpack(_) | Command::Check(Form::Packed, _) => of.packed.as_slice(),
+        _ => of.stream,
+    };
+    output(of.alloc, alloc, command, input)
+}
+
+/// The text of a run, of which a refusal leaves a beginning.
+pub(crate) fn run_answer(of: &Subject, short: &Refusing<Global>, command: Command) -> Answer {
+    let (_, want) = written(of, of.alloc, command);
+    let (outcome, text) = written(of, short, command);
+    match outcome {
+        Ok(()) => judged(!text.is_empty() && text.as_slice() == want.as_slice()),
+        Err(ToolFault::Memory) => wanting(want.as_slice().starts_with(text.as_slice())),
+        Err(_) => Answer::Wrong,
+    }
+}

@@ -1,0 +1,63 @@
+//! Texts that are read, with an allocator that may refuse a growth.
+
+use crate::short_values::judged_tree;
+use crate::subject::{Answer, Subject, wanting};
+use capn_text::{TextFault, Texts, read};
+use capn_value::{Tree, same, show};
+use std::alloc::{AllocError, Global};
+use test_allocator::Refusing;
+
+/// Right exactly if this is the value of the message.
+fn judged_read(of: &Subject, read: Result<Tree<&Refusing<Global>>, TextFault>) -> Answer {
+    match read {
+        Ok(tree) => judged_tree(of, Ok(tree)),
+        Err(fault) => wanting(fault == TextFault::Memory),
+    }
+}
+
+/// The value that its text is read as.
+pub(crate) fn read_text_answer(of: &Subject, short: &Refusing<Global>) -> Answer {
+    match show(of.alloc, &of.walked.tree) {
+        Ok(text) => judged_read(of, read(short, text.as_bytes())),
+        Err(_) => Answer::Wrong,
+    }
+}
+
+/// The text of the value, and the line `end`.
+fn ended_text(of: &Subject) -> Result<Vec<u8>, AllocError> {
+    let mut bytes = Vec::new(of.alloc);
+    if let Ok(text) = show(of.alloc, &of.walked.tree) {
+        bytes.extend_from_slice(text.as_bytes())?;
+    }
+    bytes.extend_from_slice(b"end\n")?;
+    Ok(bytes)
+}
+
+/// Whether the next text is still that of the value.
+fn is_next(of: &Subject, texts: &mut Texts) -> bool {
+    match texts.read_next(of.alloc) {
+        Ok(Some(tree)) => {
+            let is_same = same(tree.value(), of.walked.tree.value());
+            drop(tree);
+            is_same
+        }
+        _ => false,
+    }
+}
+
+/// What the next text is read as. After a refusal the place is as it was.
+fn next_answer(of: &Subject, short: &Refusing<Global>, texts: &mut Texts) -> Answer {
+    match texts.read_next(short) {
+        Ok(Some(tree)) => judged_tree(of, Ok(tree)),
+        Err(TextFault::Memory) => wanting(texts.line() == 1 && is_next(of, texts)),
+        _ => Answer::Wrong,
+    }
+}
+
+/// The value of the one text of a stream.
+pub(crate) fn texts_answer(of: &Subject, short: &Refusing<Global>) -> Answer {
+    match ended_text(of) {
+        Ok(text) => next_answer(of, short, &mut Texts::new(text.as_slice())),
+        Err(_) => Answer::Wrong,
+    }
+}

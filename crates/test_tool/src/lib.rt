@@ -1,0 +1,17 @@
+//! Tests of the program's work: its runs, its command line, and readers and writers that fail.
+//!
+//! They stand apart from the crates that they test, since a crate with tests is proved twice.
+#![tactic(auto)]
+
+#[cfg(test)]
+mod ends;
+#[cfg(test)]
+mod lines;
+#[cfg(test)]
+mod pieces;
+#[cfg(test)]
+mod programs;
+#[cfg(test)]
+mod slow;
+#[cfg(test)]
+mod texts;

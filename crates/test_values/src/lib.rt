@@ -1,0 +1,17 @@
+//! Tests of the libraries' public calls on values and messages that are put together by hand.
+//!
+//! They stand apart from the crates that they test, since a crate with tests is proved twice.
+#![tactic(auto)]
+
+#[cfg(test)]
+mod indexes;
+#[cfg(test)]
+mod layouts;
+#[cfg(test)]
+mod making;
+#[cfg(test)]
+mod steps;
+#[cfg(test)]
+mod values;
+#[cfg(test)]
+mod words;
