@@ -22,6 +22,19 @@ DECLARED = """
         uint64_t length, at;
         uint32_t paid, visits, segment, word;
     } capn_report;
+    typedef struct {
+        uint32_t words, segments, paid, visits, depth, has_capability, capability, canonical;
+    } capn_figures;
+    enum {
+        CAPN_KIND_NULL, CAPN_KIND_STRUCT, CAPN_KIND_VOID, CAPN_KIND_BITS, CAPN_KIND_BYTES, CAPN_KIND_U16, CAPN_KIND_U32,
+        CAPN_KIND_U64, CAPN_KIND_POINTERS, CAPN_KIND_ROWS, CAPN_KIND_CAPABILITY, ...
+    };
+    typedef struct {
+        uint64_t offset;
+        uint32_t count, span;
+        uint16_t words, slots;
+        uint32_t kind;
+    } capn_entry;
 
     typedef uint32_t capn_status;
     enum {
@@ -41,6 +54,12 @@ DECLARED = """
     capn_status capn_pack(const uint8_t *bytes, size_t size, uint8_t *out, size_t room, capn_report *report);
     capn_status capn_unpack(const uint8_t *bytes, size_t size, uint32_t max_words, uint8_t *out, size_t room,
                             capn_report *report);
+    capn_status capn_first(const uint8_t *bytes, size_t size, const capn_limits *limits, capn_report *report);
+    capn_status capn_unpack_some(const uint8_t *bytes, size_t size, uint8_t *out, size_t room, capn_report *report);
+    capn_status capn_survey(uint32_t form, const uint8_t *bytes, size_t size, const capn_limits *limits,
+                            capn_figures *figures, capn_report *report);
+    capn_status capn_index(uint32_t form, const uint8_t *bytes, size_t size, const capn_limits *limits,
+                           capn_entry *entries, size_t room, capn_report *report);
 """
 
 binding = FFI()

@@ -1,4 +1,4 @@
-"""The six calls."""
+"""The calls that take one message, or words."""
 from __future__ import annotations
 
 from operator import index
@@ -16,6 +16,7 @@ _USUAL = Limits()
 # What `capn unpack` takes: the words of the usual limits, and those of the longest segment table.
 _USUAL_WORDS = 8388608 + 2049
 _new, _from_buffer, _report_type = ffi.new, ffi.from_buffer, ffi.typeof("capn_report *")
+_figures_type = ffi.typeof("capn_figures *")
 _room = ffi.new_allocator(should_clear_after_alloc=False)
 _room_type, _digest_type = ffi.typeof("uint8_t[]"), ffi.typeof("uint8_t[32]")
 _capn_check, _new_tuple = lib.capn_check, tuple.__new__
@@ -30,6 +31,25 @@ class Checked(NamedTuple):
     """Words that the walk paid."""
     visits: int
     """Slots that it visited, each as often as it was met; the root is one."""
+
+
+class Surveyed(NamedTuple):
+    """What a survey finds of an accepted message."""
+
+    words: int
+    """Words of its segments."""
+    segments: int
+    """Segments that it has."""
+    paid: int
+    """Words that the walk paid."""
+    visits: int
+    """Slots that it visited, each as often as it was met; the root is one."""
+    depth: int
+    """The least depth under which it is accepted, 0 for a null root."""
+    capability: int | None
+    """The index of its first capability, or None."""
+    canonical: bool
+    """Whether it has one segment, which is the canonical bytes of its value."""
 
 
 def _report() -> Any:
@@ -102,6 +122,24 @@ def check(
     checked = _new_tuple(Checked, (report.paid, report.visits))
     _reports.append(report)
     return checked
+
+
+def survey(
+    data: ReadableBuffer, form: Literal["stream", "packed", "bare"] = "stream", limits: Limits = _USUAL
+) -> Surveyed:
+    """What one message has and costs, within limits."""
+    if form == "packed":
+        data, form = unpack(data, _laid_out(limits).message_words + 2049), "stream"
+    number, given, bounds = _taken(data, form, limits)
+    report, figures = _report(), _new(_figures_type)
+    status = lib.capn_survey(number, given, len(given), bounds, figures, report)
+    if status != lib.CAPN_OK:
+        raise failure(status, report)
+    _reports.append(report)
+    capability = figures.capability if figures.has_capability else None
+    return Surveyed(
+        figures.words, figures.segments, figures.paid, figures.visits, figures.depth, capability,
+        bool(figures.canonical))
 
 
 def canonical(

@@ -10,6 +10,7 @@ import capn
 
 PAGE = Path(__file__).resolve().parents[2] / "docs" / "PYTHON.md"
 MESSAGE = bytes.fromhex("0000000003000000" "0000000002000000" "0500000000000000" "0000000000000000")
+TEXT = bytes.fromhex("0000000004000000" "0000000001000100" "0500000000000000" "010000001a000000" "6162630000000000")
 
 
 def blocks():
@@ -25,11 +26,12 @@ def blocks():
 
 class Page(unittest.TestCase):
     def setUp(self):
-        _, self.check, self.verify = blocks()
+        _, self.check, self.verify, self.read, self.stream = blocks()
 
     def run_on(self, message, more=""):
         with tempfile.TemporaryDirectory() as folder:
             (Path(folder) / "message").write_bytes(message)
+            (Path(folder) / "messages").write_bytes(message * 2)
             ran = subprocess.run([sys.executable, "-B", "-c", self.check + "\n" + more], cwd=folder,
                                  capture_output=True, check=False, text=True)
         return ran.returncode, ran.stdout + ran.stderr
@@ -47,6 +49,15 @@ class Page(unittest.TestCase):
             asked = f"print(is_signed({message!r}, {digest!r}), is_signed({message!r}, bytes(32)))"
             status, wrote = self.run_on(MESSAGE, self.verify + "\n" + asked)
             self.assertEqual((status, wrote.splitlines()[-1]), (0, f"{expected} False"))
+
+    def test_read(self):
+        self.assertEqual(self.run_on(TEXT, self.read), (0, "reading it costs 5 words\n5 b'abc'\n"))
+        self.assertEqual(self.run_on(MESSAGE, self.read), (0, "reading it costs 3 words\n"))
+
+    def test_stream(self):
+        figures = capn.Surveyed(words=3, segments=1, paid=3, visits=1, depth=1, capability=None, canonical=False)
+        status, wrote = self.run_on(MESSAGE, self.stream)
+        self.assertEqual((status, wrote.splitlines()[1:]), (0, [str(figures)] * 2))
 
 
 if __name__ == "__main__":
