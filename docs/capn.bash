@@ -2,7 +2,7 @@
 _capn() {
     local word=${COMP_WORDS[COMP_CWORD]} before=${COMP_WORDS[COMP_CWORD - 1]} command=${COMP_WORDS[1]} words=
     if ((COMP_CWORD == 1)); then
-        mapfile -t COMPREPLY < <(compgen -W 'show check canonical hash pack unpack help --help' -- "$word")
+        mapfile -t COMPREPLY < <(compgen -W 'show check list limits canonical hash pack unpack make help --help' -- "$word")
         return
     fi
     case "$command $before" in
@@ -16,6 +16,16 @@ _capn() {
         'check --budget') words='' ;;
         'check --depth') words='' ;;
         'check --tariff') words='strict plain' ;;
+        'list --form') words='stream packed bare' ;;
+        'list --message-words') words='' ;;
+        'list --budget') words='' ;;
+        'list --depth') words='' ;;
+        'list --tariff') words='strict plain' ;;
+        'limits --form') words='stream packed bare' ;;
+        'limits --message-words') words='' ;;
+        'limits --budget') words='' ;;
+        'limits --depth') words='' ;;
+        'limits --tariff') words='strict plain' ;;
         'canonical --form') words='stream packed bare' ;;
         'canonical --message-words') words='' ;;
         'canonical --budget') words='' ;;
@@ -27,13 +37,17 @@ _capn() {
         'hash --depth') words='' ;;
         'hash --tariff') words='strict plain' ;;
         'unpack --message-words') words='' ;;
+        'make --form') words='stream packed bare' ;;
         'show '*) words='--form --message-words --budget --depth --tariff --help' ;;
         'check '*) words='--form --message-words --budget --depth --tariff --help' ;;
-        'canonical '*) words='--form --message-words --budget --depth --tariff --help' ;;
+        'list '*) words='--form --message-words --budget --depth --tariff --keep-going --help' ;;
+        'limits '*) words='--form --message-words --budget --depth --tariff --keep-going --help' ;;
+        'canonical '*) words='--form --message-words --budget --depth --tariff --framed --keep-going --help' ;;
         'hash '*) words='--form --message-words --budget --depth --tariff --help' ;;
         'pack '*) words='--help' ;;
         'unpack '*) words='--message-words --help' ;;
-        'help '*) words='show check canonical hash pack unpack' ;;
+        'make '*) words='--form --help' ;;
+        'help '*) words='show check list limits canonical hash pack unpack make' ;;
     esac
     mapfile -t COMPREPLY < <(compgen -W "$words" -- "$word")
 }
