@@ -20,18 +20,18 @@ use Rattle.capn_archive.specs.Archived.{Archived, EndsAs, HasBegunClosing, HasWr
 use Rattle.capn_archive.specs.Archived.{fault_of, outcome, outcome_by}
 use Rattle.capn_archive.specs.Closing.{MessagesEnd, PutsClosing, ServesMessages}
 
-abbrev Served : Type 0
+abbrev pub Served : Type 0
 Served = Result (Unit {0}) RunFault
 
-abbrev Ending : Type 0
+abbrev pub Ending : Type 0
 Ending = Result (Unit {0}) ArchiveFault
 
 -- how the messages of a run ended
-abbrev served : Served → Served
+abbrev pub served : Served → Served
 served r = r
 
 -- how a run over an archive ended
-abbrev ended : Ending → Ending
+abbrev pub ended : Ending → Ending
 ended r = r
 
 -- a fault of the messages
@@ -39,7 +39,7 @@ abbrev stopped_by : RunFault → Served
 stopped_by e = Err e
 
 -- the same, as a run over an archive tells it
-abbrev told_by : RunFault → Ending
+abbrev pub told_by : RunFault → Ending
 told_by e = Err (fault_of e)
 
 -- ---- the faults
@@ -50,7 +50,7 @@ told_io run_faults.Io is = refl
 told_io run_faults.InputTooLong is = absurd (cc)
 told_io (run_faults.Refused at r) is = absurd (cc)
 
-same_io : (e : RunFault) (reader writer : Bool)
+pub same_io : (e : RunFault) (reader writer : Bool)
     → ((served (Err e) ≡ Err run_faults.Io) ↔ ((reader ≡ true) ⊎ (writer ≡ true)))
     → (ended (Err (fault_of e)) ≡ Err faults.Io) ↔ ((reader ≡ true) ⊎ (writer ≡ true))
 same_io e reader writer (to, from) = (
@@ -134,7 +134,7 @@ module _ (order : Archive) where
     Appends-trans c m d text (closing order y) before wrote,
   ))
 
-not_io : (skipped : Option Skipped) (messages : ℕ) → outcome_by skipped messages ≡ Err faults.Io → ⊥
+pub not_io : (skipped : Option Skipped) (messages : ℕ) → outcome_by skipped messages ≡ Err faults.Io → ⊥
 not_io None messages is = absurd (cc)
 not_io (Some s) messages is = absurd (cc)
 
@@ -156,13 +156,13 @@ failed_exact : (order : Archive) (a c d : Option (List ℕ)) → IfSome a (EndsA
 failed_exact order None c d = tt
 failed_exact order (Some input) c d = inr (inl refl)
 
-neither : (reader before after : Bool)
+pub neither : (reader before after : Bool)
     → ((served (Ok tt) ≡ Err run_faults.Io) ↔ ((reader ≡ true) ⊎ (before ≡ true))) → after ≡ false
     → (reader ≡ true) ⊎ (after ≡ true) → ⊥
 neither reader before after io fine (inl failed) = reader_fine reader before io failed
 neither reader before after io fine (inr failed) = let e : true ≡ false = sym failed ∙ fine in cc
 
-memory_is_not_io : ended (Err faults.Memory) ≡ Err faults.Io → ⊥
+pub memory_is_not_io : ended (Err faults.Memory) ≡ Err faults.Io → ⊥
 memory_is_not_io is = absurd (cc)
 
 module _ (order : Archive) (a b c m : Option (List ℕ)) (reader before : Bool) (y : Run Archivist)

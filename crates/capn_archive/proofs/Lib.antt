@@ -12,3 +12,6 @@ pub mod WholeRead
 pub mod BareEnds
 pub mod PackedMore
 pub mod PackedEnds
+pub mod EachForm
+pub mod Finishes
+pub mod Sieves

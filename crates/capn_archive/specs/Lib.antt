@@ -15,3 +15,7 @@ pub mod WholeInput
 pub mod BareRun
 pub mod PackedServing
 pub mod PackedRun
+pub mod FormRun
+pub mod Finish
+pub mod Sieve
+pub mod Uniq

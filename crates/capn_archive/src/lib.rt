@@ -4,7 +4,8 @@
 //! [`run_stream`], [`run_packed`] and [`run_bare`] are the loops over the three forms.
 //!
 //! [`run_archive`] carries an order out, an [`Archive`]: by its service, the [`Archivist`], it lists messages, tells
-//! what limits they need, or writes their canonical bytes as frames.
+//! what limits they need, or writes their canonical bytes as frames. [`run_uniq`] carries out a [`Uniq`] by a
+//! [`Sieve`]: it leaves out messages whose canonical bytes one before them had.
 #![tactic(auto)]
 
 mod archive_run;
@@ -13,6 +14,7 @@ mod bare_run;
 mod closing;
 mod depth;
 mod fault;
+mod form_run;
 #[cfg(test)]
 mod form_tests;
 mod framing;
@@ -25,12 +27,17 @@ mod output;
 mod packed_run;
 mod position;
 mod service;
+mod sieve;
 mod stream;
 mod stream_run;
 mod tally;
 #[cfg(test)]
 mod tests;
 mod told;
+mod uniq;
+mod uniq_run;
+#[cfg(test)]
+mod uniq_tests;
 mod whole_input;
 
 pub use archive_run::run_archive;
@@ -41,4 +48,7 @@ pub use order::{Archive, Task};
 pub use packed_run::run_packed;
 pub use position::Position;
 pub use service::{Run, Service};
+pub use sieve::Sieve;
 pub use stream_run::run_stream;
+pub use uniq::Uniq;
+pub use uniq_run::run_uniq;

@@ -38,7 +38,7 @@ fn refused_line<A: Allocator>(
 }
 
 /// Appends some bytes, or nothing where memory is refused.
-fn put_bytes<A: Allocator>(text: &mut Vec<u8, A>, bytes: &[u8]) -> Result<(), ServeFault>
+pub(crate) fn put_bytes<A: Allocator>(text: &mut Vec<u8, A>, bytes: &[u8]) -> Result<(), ServeFault>
     ensures { PutsText bytes.now text.old.items text.new.items result }
 {
     match text.extend_from_slice(bytes) {

@@ -8,37 +8,37 @@ use std::alloc::Global;
 use std::test::Fail;
 
 /// A struct of the word 5, in one segment; its frame has 24 bytes.
-const FIVE: [u8; 24] = [
+pub(crate) const FIVE: [u8; 24] = [
     0, 0, 0, 0, 2, 0, 0, 0, 0, 0, 0, 0, 1, 0, 0, 0, 5, 0, 0, 0, 0, 0, 0, 0,
 ];
 
 /// A null root, in one segment; its frame has 16 bytes.
-const NULL: [u8; 16] = [0, 0, 0, 0, 1, 0, 0, 0, 0, 0, 0, 0, 0, 0, 0, 0];
+pub(crate) const NULL: [u8; 16] = [0, 0, 0, 0, 1, 0, 0, 0, 0, 0, 0, 0, 0, 0, 0, 0];
 
 /// A struct of the words 5 and 0: not canonical; its frame has 32 bytes.
-const LONG: [u8; 32] = [
+pub(crate) const LONG: [u8; 32] = [
     0, 0, 0, 0, 3, 0, 0, 0, 0, 0, 0, 0, 2, 0, 0, 0, 5, 0, 0, 0, 0, 0, 0, 0, 0, 0, 0, 0, 0, 0, 0, 0,
 ];
 
 /// A struct of one slot, which is the capability 7; its frame has 24 bytes.
-const CAPABLE: [u8; 24] = [
+pub(crate) const CAPABLE: [u8; 24] = [
     0, 0, 0, 0, 2, 0, 0, 0, 0, 0, 0, 0, 0, 0, 1, 0, 3, 0, 0, 0, 7, 0, 0, 0,
 ];
 
 /// A struct of one slot, which is a struct of the word 5; its frame has 32 bytes.
-const DEEP: [u8; 32] = [
+pub(crate) const DEEP: [u8; 32] = [
     0, 0, 0, 0, 3, 0, 0, 0, 0, 0, 0, 0, 0, 0, 1, 0, 0, 0, 0, 0, 1, 0, 0, 0, 5, 0, 0, 0, 0, 0, 0, 0,
 ];
 
 /// A struct of the word 5 in the second of two segments, of 1 and 2 words; its frame has 40 bytes, of which 16 are the
 /// table and its padding.
-const APART: [u8; 40] = [
+pub(crate) const APART: [u8; 40] = [
     1, 0, 0, 0, 1, 0, 0, 0, 2, 0, 0, 0, 0, 0, 0, 0, 2, 0, 0, 0, 1, 0, 0, 0, 0, 0, 0, 0, 1, 0, 0, 0,
     5, 0, 0, 0, 0, 0, 0, 0,
 ];
 
 /// A struct of one word that is not there; its frame has 16 bytes.
-const SHORT: [u8; 16] = [0, 0, 0, 0, 1, 0, 0, 0, 0, 0, 0, 0, 1, 0, 0, 0];
+pub(crate) const SHORT: [u8; 16] = [0, 0, 0, 0, 1, 0, 0, 0, 0, 0, 0, 0, 1, 0, 0, 0];
 
 /// What a run wrote, and how it ended.
 #[derive(Drop)]
@@ -48,7 +48,7 @@ struct Outcome {
 }
 
 /// The frames, joined.
-fn joined(alloc: Global, frames: &[&[u8]]) -> Result<Vec<u8>, Fail> {
+pub(crate) fn joined(alloc: Global, frames: &[&[u8]]) -> Result<Vec<u8>, Fail> {
     let mut stream = Vec::new(alloc);
     for frame in frames {
         stream.extend_from_slice(frame)?;
@@ -75,7 +75,7 @@ fn ran(alloc: Global, task: Task, keep_going: bool, frames: &[&[u8]]) -> Result<
 }
 
 /// The refusal of a message that ends too early, as of its root.
-fn range() -> Refusal {
+pub(crate) fn range() -> Refusal {
     Refusal::Walk(Stopped {
         fault: Fault::Range,
         place: Place {

@@ -1,0 +1,5 @@
+pub mod InputRead
+pub mod RunEnds
+pub mod Unpacked
+pub mod Settled
+pub mod Packed

@@ -1,0 +1,119 @@
+-- How far packing has come.
+use Rattle.std.proofs.Common.{◌≡◌, ◌⊎◌, ◌↔◌, inl, inr, ℕ, ◌+◌, ◌<◌, ◌≤◌, List, [], ◌++◌, length, take, drop}
+use Rattle.std.proofs.Common.{Bool, true, false, Option, Ok, Err, refl, ap, sym, subst, ◌∙◌, arith, append-nil}
+use Rattle.std.proofs.Common.{append_assoc, length-append, length-take, length-drop, take-append-drop}
+use Rattle.std.proofs.Math.Seq.{take-append-add, take-length}
+use Rattle.std.proofs.lemmas.List.{take-append-le}
+use Rattle.std.specs.Io.KnownBytes.{Appends}
+use Rattle.std.proofs.KnownBytes.{Appends-nil, Appends-trans}
+use Rattle.capn_pack.specs.Chosen.{Chosen}
+use Rattle.capn_flow.specs.declared.fault.FlowFault.{FlowFault}
+use Rattle.capn_flow.specs.declared.fault.FlowFault.TheVariants as faults
+use Rattle.capn_flow.specs.Flow.{Ending, Ends, HasEnded, HasWritten, Stops}
+use Rattle.capn_flow.specs.Packing.{IsFront, Settles, most_held, ending_of, packing, packing_last, whole_of}
+
+-- nothing is settled, and all is held
+pub settles_none : (bytes : List ℕ) → Settles bytes [] bytes
+settles_none bytes = record { settled = λ more t c. c }
+
+-- ---- more bytes
+
+module _ (bytes text rest more : List ℕ) (s : Settles bytes text rest) where
+  pub settles_more : (next after : List ℕ) → Settles (rest ++ more) next after
+      → Settles (bytes ++ more) (text ++ next) after
+  settles_more next after n = record {
+    settled = λ end t c.
+        let inner = n.settled end t c in
+        let outer = s.settled (more ++ end) (next ++ t)
+        (subst (λ (l : List ℕ). Chosen (next ++ t) (whole_of l)) (append_assoc rest more end) inner) in
+        subst (λ (l : List ℕ). Chosen l (whole_of ((bytes ++ more) ++ end))) (sym (append_assoc text next t))
+        (subst (λ (l : List ℕ). Chosen (text ++ (next ++ t)) (whole_of l)) (sym (append_assoc bytes more end)) outer);
+  }
+
+  pub front_more : (next : List ℕ) → IsFront (rest ++ more) next → IsFront (bytes ++ more) (text ++ next)
+  front_more next (inl (after, n)) = inl (after, settles_more next after n)
+  front_more next (inr c) = inr (s.settled more next c)
+
+  -- a beginning of the text that follows was written
+  pub written_more : (c d e : Option (List ℕ)) → Appends c d text → HasWritten packing (rest ++ more) d e
+      → HasWritten packing (bytes ++ more) c e
+  written_more c d e wrote (v, count, front, part) = (
+    text ++ v,
+    length text + count,
+    front_more v front,
+    subst (Appends c e) (sym (take-append-add text v count)) (Appends-trans c d e text (take count v) wrote part),
+  )
+
+  pub packs_stop : (c d e : Option (List ℕ)) (failed : Bool) (fault : FlowFault) → Appends c d text
+      → Stops packing (rest ++ more) d e failed fault → Stops packing (bytes ++ more) c e failed fault
+  packs_stop c d e failed fault wrote stop =
+      record { kind = stop.kind; io = stop.io; written = written_more c d e wrote stop.written }
+
+-- of the bytes of a buffer that stand first
+pub front_stop : (rest buf tail : List ℕ) (w : ℕ) (c d : Option (List ℕ)) (failed : Bool) (fault : FlowFault)
+    → w ≤ length buf → Stops packing (rest ++ take w (buf ++ tail)) c d failed fault
+    → Stops packing (rest ++ take w buf) c d failed fault
+front_stop rest buf tail w c d failed fault within stop =
+    subst (λ (l : List ℕ). Stops packing (rest ++ l) c d failed fault) (take-append-le w buf tail within) stop
+
+-- ---- the end
+
+-- what was held is packed
+module _ (bytes text held : List ℕ) (s : Settles bytes text held) (count : ℕ) (size : length bytes ≡ count)
+    (c d e : Option (List ℕ)) (wrote : Appends c d text) where
+  last_ended : (is_longer : Bool) (r : Ending) → HasEnded (packing_last count) held is_longer d e r
+      → HasEnded packing bytes is_longer c e r
+  last_ended is_longer r (inl memory) = inl memory
+  last_ended is_longer r (inr (inl io)) = inr (inl io)
+  last_ended is_longer r (inr (inr (t, packed, rest))) = inr (inr (
+    text ++ t,
+    record {
+      chosen =
+          let all = s.settled [] t (subst (λ (l : List ℕ). Chosen t (whole_of l)) (sym (append-nil held)) packed.chosen)
+          in
+          subst (λ (l : List ℕ). Chosen (text ++ t) (whole_of l)) (append-nil bytes) all;
+      ends = subst (λ (k : ℕ). r ≡ ending_of is_longer k) (sym size) packed.ends;
+    },
+    Appends-trans c d e text t wrote rest,
+  ))
+
+  last_written : HasWritten (packing_last count) held d e → HasWritten packing bytes c e
+  last_written (v, n, front, part) =
+      subst (λ (l : List ℕ). HasWritten packing l c e) (append-nil bytes)
+      (written_more bytes text held [] s c d e wrote
+      (v, n, subst (λ (l : List ℕ). IsFront l v) (sym (append-nil held)) front, part))
+
+  pub packing_ends : (is_longer failed : Bool) (r : Ending) → Ends (packing_last count) held is_longer d e failed r
+      → Ends packing bytes is_longer c e failed r
+  packing_ends is_longer failed r ends =
+      record { exact = last_ended is_longer r ends.exact; io = ends.io; written = last_written ends.written }
+
+-- ---- the whole stream
+
+-- these bytes are held, and the text of those before them was written
+abbrev pub Holds : List ℕ → List ℕ → List ℕ → Type 0
+Holds held bytes text = Settles bytes text held × (length held < most_held)
+
+pub holds_settles : (held bytes text : List ℕ) → Holds held bytes text → packing.settles bytes text
+holds_settles held bytes text h = (held, h.0, h.1)
+
+pub holds_begins : (held bytes text : List ℕ) → Holds held bytes text → packing.begins bytes text
+holds_begins held bytes text h = inl (held, h.0)
+
+-- ---- a chunk
+
+-- a beginning of what is settled was written
+pub packs_broken : (bytes text rest : List ℕ) (count : ℕ) (c d : Option (List ℕ)) (failed : Bool) (fault : FlowFault)
+    → Settles bytes text rest → Appends c d (take count text) → (fault ≡ faults.Memory) ⊎ (fault ≡ faults.Io)
+    → (fault ≡ faults.Io) ↔ (failed ≡ true) → Stops packing bytes c d failed fault
+packs_broken bytes text rest count c d failed fault s wrote kind io =
+    record { kind = kind; io = io; written = (text, count, inl (rest, s), wrote) }
+
+-- memory was refused before anything was written
+pub packs_memory : (bytes : List ℕ) (c : Option (List ℕ)) (failed : Bool) → failed ≡ false
+    → Stops packing bytes c c failed faults.Memory
+packs_memory bytes c failed fine = record {
+  kind = inl refl;
+  io = (λ h. cc, λ h. absurd (let bad : true ≡ false = sym h ∙ fine in cc));
+  written = ([], 0, inl (bytes, settles_none bytes), Appends-nil c);
+}

@@ -1,0 +1,122 @@
+-- A loop that appends a text for each element of a list: one more, and all of them.
+use Rattle.std.proofs.Common.{◌≡◌, ℕ, zero, suc, ◌+◌, ◌*◌, ◌<◌, List, [], ◌∷◌, ◌++◌, Bool, true, false, length, take}
+use Rattle.std.proofs.Common.{get_or, map, replicate, codes, refl, sym, ap, ◌∙◌, arith, append_assoc}
+use Rattle.std.specs.Prelude.{Option, ◌==◌}
+use Rattle.std.specs.Int.{from_bool}
+use Rattle.std.specs.Fmt.{decimal}
+use Rattle.std.specs.Io.KnownBytes.{Appends}
+use Rattle.std.proofs.lemmas.List.{append-nil, take_all, take_more, get_or-map}
+use Rattle.hex.specs.Hex.{encode_lower}
+use Rattle.capn_value.specs.Text.{line, one_line, hex16, word_lines, number_lines, digit, digits_of}
+use Rattle.capn_show.proofs.Appended.{same, both, otherwise}
+use Rattle.capn_show.proofs.TextDigits.{encode_lower-none, encode_lower-cons}
+
+module _ {A : Type 0} (F : List A → List ℕ) (joins : (xs ys : List A) → F (xs ++ ys) ≡ F xs ++ F ys)
+    (p q : Option (List ℕ)) (xs : List A) (i : ℕ) where
+  -- one element more
+  more : (r : Option (List ℕ)) (d : A) → i < length xs → Appends p q (F (take i xs))
+      → Appends q r (F (get_or xs i d ∷ [])) → Appends p r (F (take (i + 1) xs))
+  more r d below h k =
+      otherwise p r (F (take i xs) ++ F (get_or xs i d ∷ [])) (F (take (i + 1) xs))
+      (sym (ap F (take_more xs i d below) ∙ joins (take i xs) (get_or xs i d ∷ [])))
+      (both p q r (F (take i xs)) (F (get_or xs i d ∷ [])) h k)
+
+  -- all of them
+  all : i ≡ length xs → Appends p q (F (take i xs)) → Appends p q (F xs)
+  all e h = otherwise p q (F (take i xs)) (F xs) (ap F (take_all i xs (omega arith))) h
+
+word_lines-joined : (level : ℕ) (xs ys : List ℕ)
+    → word_lines level (xs ++ ys) ≡ word_lines level xs ++ word_lines level ys
+word_lines-joined level [] ys = refl
+word_lines-joined level (x ∷ xs) ys =
+    let l = line level (codes "word " ++ hex16 x) in
+    ap (λ (r : List ℕ). l ++ r) (word_lines-joined level xs ys)
+    ∙ sym (append_assoc l (word_lines level xs) (word_lines level ys))
+
+number_lines-joined : (level : ℕ) (xs ys : List ℕ)
+    → number_lines level (xs ++ ys) ≡ number_lines level xs ++ number_lines level ys
+number_lines-joined level [] ys = refl
+number_lines-joined level (x ∷ xs) ys =
+    let l = line level (decimal x) in
+    ap (λ (r : List ℕ). l ++ r) (number_lines-joined level xs ys)
+    ∙ sym (append_assoc l (number_lines level xs) (number_lines level ys))
+
+digits_of-joined : (xs ys : List Bool) → digits_of (xs ++ ys) ≡ digits_of xs ++ digits_of ys
+digits_of-joined [] ys = refl
+digits_of-joined (x ∷ xs) ys = ap (λ (l : List ℕ). digit x ∷ l) (digits_of-joined xs ys)
+
+encode_lower-joined : (xs ys : List ℕ) → encode_lower (xs ++ ys) ≡ encode_lower xs ++ encode_lower ys
+encode_lower-joined [] ys = sym (ap (λ (l : List ℕ). l ++ encode_lower ys) encode_lower-none)
+encode_lower-joined (x ∷ xs) ys =
+    encode_lower-cons x (xs ++ ys)
+    ∙ ap (λ (l : List ℕ). encode_lower (x ∷ []) ++ l) (encode_lower-joined xs ys)
+    ∙ sym (append_assoc (encode_lower (x ∷ [])) (encode_lower xs) (encode_lower ys))
+    ∙ ap (λ (l : List ℕ). l ++ encode_lower ys) (sym (encode_lower-cons x xs))
+
+module _ (p q : Option (List ℕ)) where
+  module _ (level : ℕ) (xs : List ℕ) (i : ℕ) where
+    pub word-more : (r : Option (List ℕ)) (x : ℕ) → i < length xs → x ≡ get_or xs i 0
+        → Appends p q (word_lines level (take i xs)) → Appends q r (line level (codes "word " ++ hex16 x))
+        → Appends p r (word_lines level (take (i + 1) xs))
+    word-more r x below e h k =
+        more (word_lines level) (word_lines-joined level) p q xs i r 0 below h
+        (otherwise q r (line level (codes "word " ++ hex16 x)) (word_lines level (get_or xs i 0 ∷ []))
+        (ap (λ (n : ℕ). line level (codes "word " ++ hex16 n)) e
+        ∙ sym (append-nil (line level (codes "word " ++ hex16 (get_or xs i 0))))) k)
+
+    pub words-all : i ≡ length xs → Appends p q (word_lines level (take i xs)) → Appends p q (word_lines level xs)
+    words-all = all (word_lines level) (word_lines-joined level) p q xs i
+
+    pub number-more : (r : Option (List ℕ)) (x : ℕ) → i < length xs → x ≡ get_or xs i 0
+        → Appends p q (number_lines level (take i xs)) → Appends q r (line level (decimal x))
+        → Appends p r (number_lines level (take (i + 1) xs))
+    number-more r x below e h k =
+        more (number_lines level) (number_lines-joined level) p q xs i r 0 below h
+        (otherwise q r (line level (decimal x)) (number_lines level (get_or xs i 0 ∷ []))
+        (ap (λ (n : ℕ). line level (decimal n)) e ∙ sym (append-nil (line level (decimal (get_or xs i 0))))) k)
+
+    pub numbers-all : i ≡ length xs → Appends p q (number_lines level (take i xs))
+        → Appends p q (number_lines level xs)
+    numbers-all = all (number_lines level) (number_lines-joined level) p q xs i
+
+  module _ (xs : List ℕ) (i : ℕ) where
+    pub byte-more : (r : Option (List ℕ)) (x : ℕ) → i < length xs → x ≡ get_or xs i 0
+        → Appends p q (encode_lower (take i xs)) → Appends q r (encode_lower (x ∷ []))
+        → Appends p r (encode_lower (take (i + 1) xs))
+    byte-more r x below e h k =
+        more encode_lower encode_lower-joined p q xs i r 0 below h
+        (otherwise q r (encode_lower (x ∷ [])) (encode_lower (get_or xs i 0 ∷ []))
+        (ap (λ (n : ℕ). encode_lower (n ∷ [])) e) k)
+
+    pub bytes-all : i ≡ length xs → Appends p q (encode_lower (take i xs)) → Appends p q (encode_lower xs)
+    bytes-all = all encode_lower encode_lower-joined p q xs i
+
+  module _ (xs : List Bool) (i : ℕ) where
+    pub bit-more : (r : Option (List ℕ)) (x d : Bool) → i < length xs → x ≡ get_or xs i d
+        → Appends p q (digits_of (take i xs)) → Appends q r (digit x ∷ [])
+        → Appends p r (digits_of (take (i + 1) xs))
+    bit-more r x d below e h k =
+        more digits_of digits_of-joined p q xs i r d below h
+        (otherwise q r (digit x ∷ []) (digits_of (get_or xs i d ∷ [])) (ap (λ (b : Bool). digit b ∷ []) e) k)
+
+    pub bits-all : i ≡ length xs → Appends p q (digits_of (take i xs)) → Appends p q (digits_of xs)
+    bits-all = all digits_of digits_of-joined p q xs i
+
+-- the bit that a number tells
+pub bit-told : (xs : List Bool) (i n : ℕ) → i < length xs → n ≡ get_or (map from_bool xs) i 0
+    → (n == 1) ≡ get_or xs i false
+bit-told xs i n below e =
+    ap (λ (k : ℕ). k == 1) (e ∙ get_or-map from_bool xs i false 0 below) ∙ is-one (get_or xs i false)
+  where
+    is-one : (b : Bool) → (from_bool b == 1) ≡ b
+    is-one true = refl
+    is-one false = refl
+
+-- a line between its indentation and its end
+pub lined : (p q r s : Option (List ℕ)) (level n : ℕ) (x : List ℕ) → 0 < n
+    → Appends p q (replicate (2 * level) 32) → Appends q r x → Appends r s (10 ∷ [])
+    → Appends p s (one_line level n x)
+unfolding line
+lined p q r s level zero x some h k l = absurd (omega arith)
+lined p q r s level (suc n) x some h k l =
+    both p q s (replicate (2 * level) 32) (x ++ 10 ∷ []) h (both q r s x (10 ∷ []) k l)

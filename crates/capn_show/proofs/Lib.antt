@@ -1,0 +1,11 @@
+mod TextDigits
+mod Shifts
+mod Appended
+mod Grown
+mod Within
+mod RowFront
+mod SlotTexts
+mod FoundKinds
+mod Steps
+mod ListTexts
+mod FoundTexts

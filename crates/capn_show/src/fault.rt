@@ -1,0 +1,38 @@
+//! Why the text of a message ends.
+
+ghost use Rattle.std.specs.Prelude.{◌≡◌};
+ghost use Rattle.capn_show.specs.declared.fault.ShowFault.TheVariants as faults;
+
+use capn_walk::Stopped;
+use std::alloc::AllocError;
+use thiserror::Error;
+
+/// Why the text of a message is not written, or not the whole of it.
+#[derive(Clone, Copy, Debug, PartialEq, Eq, Error)]
+pub enum ShowFault {
+    /// The message is not accepted within the limits, or the survey was refused memory. Nothing of it was written.
+    #[error("{0}")]
+    Stopped(Stopped),
+    /// The writer failed. A beginning of the text was written.
+    #[error("the writer failed")]
+    Io,
+    /// The page was refused the memory of its block.
+    #[error("out of memory")]
+    Memory,
+}
+
+impl From<AllocError> for ShowFault {
+    ghost from_gives = { λ _ e. e ≡ faults.Memory };
+
+    fn from(_error: AllocError) -> ShowFault {
+        ShowFault::Memory
+    }
+}
+
+impl From<Stopped> for ShowFault {
+    ghost from_gives = { λ stopped e. e ≡ faults.Stopped stopped };
+
+    fn from(stopped: Stopped) -> ShowFault {
+        ShowFault::Stopped(stopped)
+    }
+}
