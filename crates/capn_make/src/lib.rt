@@ -22,6 +22,3 @@ pub use making::make;
 pub use capn_canon::Form;
 pub use capn_value::Misfit;
 pub use capn_words::Watched;
-
-#[cfg(test)]
-mod tests;

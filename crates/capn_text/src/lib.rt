@@ -20,6 +20,3 @@ mod tokens;
 pub use fault::TextFault;
 pub use one_text::read;
 pub use texts::Texts;
-
-#[cfg(test)]
-mod tests;

@@ -1,5 +1,7 @@
-use super::*;
-use capn_value::{Body, Items, Misfit, Tree, Value, same, show};
+//! Texts that are read: what is shown is read back, and a text that isn't one is refused at its first wrong line.
+
+use capn_text::{TextFault, Texts, read};
+use capn_value::{Body, Items, Misfit, Tree, Value, show};
 use std::alloc::Global;
 use std::test::Fail;
 
@@ -86,64 +88,41 @@ fn fault_of(alloc: Global, text: &[u8]) -> Option<TextFault> {
     }
 }
 
+/// Texts that are refused, and why.
+const REFUSED: [(&[u8], TextFault); 18] = [
+    (b"", TextFault::Line(1)),
+    (b"null", TextFault::Line(1)),
+    (b"null\r\n", TextFault::Line(1)),
+    (b"null\n\n", TextFault::Line(2)),
+    (b"void 01\n", TextFault::Line(1)),
+    (b"void 18446744073709551616\n", TextFault::Line(1)),
+    (b"void 4294967296\n", TextFault::Line(1)),
+    (b"void 4294967295\n", TextFault::Misfit(Misfit::Long)),
+    (b"capability 1\n", TextFault::Misfit(Misfit::BadRoot)),
+    (b"u16 2\n  1\n  65536\n", TextFault::Line(3)),
+    (b"u16 2\n  1\n", TextFault::Line(3)),
+    (b"u64 18446744073709551615\n  1\n", TextFault::Line(3)),
+    (b"bytes 1\n  fF\n", TextFault::Line(2)),
+    (b"bytes 0\n  \n", TextFault::Line(2)),
+    (b"struct 1 0\n  word 000000000000000\n", TextFault::Line(2)),
+    (
+        b"struct 1 0\n   word 0000000000000005\n",
+        TextFault::Line(2),
+    ),
+    (b"rows 2\n  struct 0 0\n  null\n", TextFault::Line(3)),
+    (
+        b"rows 2\n  struct 0 0\n  struct 1 0\n    word 0000000000000000\n",
+        TextFault::Misfit(Misfit::Ragged),
+    ),
+];
+
 #[test]
 fn refusals(rt: HostRuntime) {
     let alloc = rt.alloc();
-    assert_eq!(rt; fault_of(alloc, b"null\n"), None);
-    assert_eq!(rt; fault_of(alloc, b""), Some(TextFault::Line(1)));
-    assert_eq!(rt; fault_of(alloc, b"null"), Some(TextFault::Line(1)));
-    assert_eq!(rt; fault_of(alloc, b"null\r\n"), Some(TextFault::Line(1)));
-    assert_eq!(rt; fault_of(alloc, b"null\n\n"), Some(TextFault::Line(2)));
-    assert_eq!(rt; fault_of(alloc, b"void 01\n"), Some(TextFault::Line(1)));
-    assert_eq!(rt;
-        fault_of(alloc, b"void 18446744073709551616\n"),
-        Some(TextFault::Line(1))
-    );
-    assert_eq!(rt;
-        fault_of(alloc, b"void 4294967296\n"),
-        Some(TextFault::Line(1))
-    );
-    assert_eq!(rt;
-        fault_of(alloc, b"void 4294967295\n"),
-        Some(TextFault::Misfit(Misfit::Long))
-    );
-    assert_eq!(rt;
-        fault_of(alloc, b"capability 1\n"),
-        Some(TextFault::Misfit(Misfit::BadRoot))
-    );
-    assert_eq!(rt;
-        fault_of(alloc, b"u16 2\n  1\n  65536\n"),
-        Some(TextFault::Line(3))
-    );
-    assert_eq!(rt; fault_of(alloc, b"u16 2\n  1\n"), Some(TextFault::Line(3)));
-    assert_eq!(rt;
-        fault_of(alloc, b"u64 18446744073709551615\n  1\n"),
-        Some(TextFault::Line(3))
-    );
-    assert_eq!(rt;
-        fault_of(alloc, b"bytes 1\n  fF\n"),
-        Some(TextFault::Line(2))
-    );
-    assert_eq!(rt; fault_of(alloc, b"bytes 0\n  \n"), Some(TextFault::Line(2)));
-    assert_eq!(rt;
-        fault_of(alloc, b"struct 1 0\n  word 000000000000000\n"),
-        Some(TextFault::Line(2))
-    );
-    assert_eq!(rt;
-        fault_of(alloc, b"struct 1 0\n   word 0000000000000005\n"),
-        Some(TextFault::Line(2))
-    );
-    assert_eq!(rt;
-        fault_of(alloc, b"rows 2\n  struct 0 0\n  null\n"),
-        Some(TextFault::Line(3))
-    );
-    assert_eq!(rt;
-        fault_of(
-            alloc,
-            b"rows 2\n  struct 0 0\n  struct 1 0\n    word 0000000000000000\n"
-        ),
-        Some(TextFault::Misfit(Misfit::Ragged))
-    );
+    assert!(rt; fault_of(alloc, b"null\n").is_none());
+    for (text, fault) in REFUSED {
+        assert!(rt; fault_of(alloc, text) == Some(fault));
+    }
 }
 
 const STREAM: &[u8] = b"null\nend\nstruct 1 0\n  word 0000000000000005\nend\n";
@@ -173,28 +152,32 @@ fn stream_fault(alloc: Global, input: &[u8]) -> Option<(u64, TextFault)> {
     None
 }
 
+/// Streams of texts that are refused, the line at which the refused text begins, and why.
+const REFUSED_STREAMS: [(&[u8], u64, TextFault); 7] = [
+    (b"null\nend\nnull\n", 3, TextFault::Line(4)),
+    (b"null\nend\nnull\nnull\nend\n", 3, TextFault::Line(4)),
+    (b"null\nend\nbits 2\n  10\nEnd\n", 3, TextFault::Line(5)),
+    (b"null\nend\nbits 2\n  12\nend\n", 3, TextFault::Line(4)),
+    (
+        b"null\nend\nvoid 4294967295\nend\n",
+        3,
+        TextFault::Misfit(Misfit::Long),
+    ),
+    (b"null\nend\nvoid 4294967295\nEnd\n", 3, TextFault::Line(4)),
+    (b"capability 1\n", 1, TextFault::Line(2)),
+];
+
 #[test]
 fn lines_of_a_stream(rt: HostRuntime) {
     let alloc = rt.alloc();
-    assert_eq!(rt; stream_fault(alloc, b""), None);
-    assert_eq!(rt; stream_fault(alloc, STREAM), None);
-    let fault = stream_fault(alloc, b"null\nend\nnull\n");
-    assert_eq!(rt; fault, Some((3, TextFault::Line(4))));
-    let fault = stream_fault(alloc, b"null\nend\nnull\nnull\nend\n");
-    assert_eq!(rt; fault, Some((3, TextFault::Line(4))));
-    let fault = stream_fault(alloc, b"null\nend\nbits 2\n  10\nEnd\n");
-    assert_eq!(rt; fault, Some((3, TextFault::Line(5))));
-    let fault = stream_fault(alloc, b"null\nend\nbits 2\n  12\nend\n");
-    assert_eq!(rt; fault, Some((3, TextFault::Line(4))));
-    let fault = stream_fault(alloc, b"null\nend\nvoid 4294967295\nend\n");
-    assert_eq!(rt; fault, Some((3, TextFault::Misfit(Misfit::Long))));
-    let fault = stream_fault(alloc, b"null\nend\nvoid 4294967295\nEnd\n");
-    assert_eq!(rt; fault, Some((3, TextFault::Line(4))));
-    let fault = stream_fault(alloc, b"capability 1\n");
-    assert_eq!(rt; fault, Some((1, TextFault::Line(2))));
+    assert!(rt; stream_fault(alloc, b"").is_none());
+    assert!(rt; stream_fault(alloc, STREAM).is_none());
+    for (input, line, fault) in REFUSED_STREAMS {
+        assert!(rt; stream_fault(alloc, input) == Some((line, fault)));
+    }
 }
 
-/// The text of so many structs, each in the one before, and these lines in the last of them.
+/// The text of `levels` structs, each in the one before, and these lines in the last of them.
 fn nested(alloc: Global, levels: u32, last: &[u8]) -> Result<Vec<u8>, Fail> {
     let mut text = Vec::new(alloc);
     for level in 0..levels {
@@ -216,19 +199,26 @@ fn deep_fault(alloc: Global, last: &[u8]) -> Result<Option<TextFault>, Fail> {
     Ok(fault_of(alloc, text.as_slice()))
 }
 
+/// What a text is refused for that goes deeper than 256 levels. What follows the line that does isn't looked at.
+const TALL: TextFault = TextFault::Misfit(Misfit::Tall);
+
+/// Lines at level 256 that are refused, and why.
+const TOO_DEEP: [(&[u8], TextFault); 6] = [
+    (b"struct 0 0\n", TALL),
+    (b"void 0\n", TALL),
+    (b"struct 1 0\nword", TALL),
+    (b"bits 2\n12\n", TALL),
+    (b"nul\n", TextFault::Line(257)),
+    (b"void 4294967296\n", TextFault::Line(257)),
+];
+
 #[test]
 fn texts_that_go_deep(rt: HostRuntime) -> Result<(), Fail> {
     let alloc = rt.alloc();
-    let tall = Some(TextFault::Misfit(Misfit::Tall));
-    let wrong = Some(TextFault::Line(257));
-    assert_eq!(rt; deep_fault(alloc, b"null\n")?, None);
-    assert_eq!(rt; deep_fault(alloc, b"capability 1\n")?, None);
-    assert_eq!(rt; deep_fault(alloc, b"struct 0 0\n")?, tall);
-    assert_eq!(rt; deep_fault(alloc, b"void 0\n")?, tall);
-    // What follows such a line isn't looked at.
-    assert_eq!(rt; deep_fault(alloc, b"struct 1 0\nword")?, tall);
-    assert_eq!(rt; deep_fault(alloc, b"bits 2\n12\n")?, tall);
-    assert_eq!(rt; deep_fault(alloc, b"nul\n")?, wrong);
-    assert_eq!(rt; deep_fault(alloc, b"void 4294967296\n")?, wrong);
+    assert!(rt; deep_fault(alloc, b"null\n")?.is_none());
+    assert!(rt; deep_fault(alloc, b"capability 1\n")?.is_none());
+    for (last, fault) in TOO_DEEP {
+        assert!(rt; deep_fault(alloc, last)? == Some(fault));
+    }
     Ok(())
 }

@@ -1,0 +1,9 @@
+//! Tests of the calls that read the texts of values and make messages of them.
+//!
+//! They stand apart from the crates that they test, since a crate with tests is proved twice.
+#![tactic(auto)]
+
+#[cfg(test)]
+mod making;
+#[cfg(test)]
+mod reading;
