@@ -1,0 +1,6 @@
+pub mod InputRead
+pub mod RunEnds
+pub mod Unpacked
+pub mod Settled
+pub mod LastWord
+pub mod Packed

@@ -1,0 +1,4 @@
+pub mod Told
+pub mod Flow
+pub mod Unpacking
+pub mod Packing

@@ -1,0 +1,64 @@
+//! Why a stream isn't packed or unpacked to its end.
+
+ghost use Rattle.std.specs.Prelude.{◌≡◌};
+ghost use Rattle.capn_flow.specs.Told.{status_of};
+
+use std::alloc::AllocError;
+use std::error::Error;
+use std::fmt;
+
+/// Why a stream isn't packed or unpacked to its end.
+#[derive(Clone, Copy, Debug, PartialEq, Eq)]
+pub enum FlowFault {
+    /// A growth was refused.
+    Memory,
+    /// The reader or the writer failed.
+    Io,
+    /// The input has more than 2^64 - 1 bytes.
+    InputTooLong,
+    /// The packed input ends within the group whose tag stands at this offset, in bytes.
+    Cut(u64),
+    /// The input has this number of bytes, which is no multiple of eight.
+    NotWhole(u64),
+}
+
+impl From<AllocError> for FlowFault {
+    ghost use Rattle.capn_flow.specs.declared.fault.FlowFault.TheVariants.{Memory};
+
+    ghost from_gives = { λ _ e. e ≡ Memory };
+
+    fn from(_error: AllocError) -> Self {
+        FlowFault::Memory
+    }
+}
+
+impl fmt::Display for FlowFault {
+    ghost use Rattle.std.specs.Prelude.{Some};
+    ghost use Rattle.capn_flow.specs.Told.{fault_text};
+
+    ghost output = { λ fault. Some (fault_text fault) };
+
+    fn fmt<W: fmt::Write>(&self, f: &mut fmt::Formatter<W>) -> fmt::Result {
+        match self {
+            FlowFault::Memory => write!(f, "out of memory"),
+            FlowFault::Io => write!(f, "input or output failed"),
+            FlowFault::InputTooLong => write!(f, "input too long"),
+            FlowFault::Cut(at) => write!(f, "packed: Cut at {at}"),
+            FlowFault::NotWhole(bytes) => write!(f, "NotWhole({bytes})"),
+        }
+    }
+}
+
+impl Error for FlowFault {}
+
+impl FlowFault {
+    /// The status with which a program ends: 1 if the input is refused, else 3.
+    pub fn status(self) -> u8
+        ensures { result ≡ status_of self }
+    {
+        match self {
+            FlowFault::Cut(_) | FlowFault::NotWhole(_) => 1,
+            FlowFault::Memory | FlowFault::Io | FlowFault::InputTooLong => 3,
+        }
+    }
+}

@@ -1,0 +1,19 @@
+//! Packing and unpacking of a stream of any length, while it comes in.
+//!
+//! [`unpack_stream`] reads a packed stream in chunks, and writes the words of the groups that each chunk makes whole
+//! before it reads again. [`pack_stream`] writes the text that the packer has for the words of the stream, as far as no
+//! later word can change it. Memory is bounded, whatever comes.
+//!
+//! Of a call one record speaks, `Runs` in `specs/Flow.antt`: what was written of the input and how it ended, when it is
+//! `Io`, and what had been written where it ended early. What is written of some bytes is a [`Flow`] of that file, one
+//! for each direction.
+#![tactic(auto)]
+
+mod fault;
+mod output;
+mod packing;
+mod unpacking;
+
+pub use fault::FlowFault;
+pub use packing::pack_stream;
+pub use unpacking::unpack_stream;
