@@ -1,0 +1,192 @@
+-- A loop that appends a text for each element of a list: one more, and all of them.
+use Rattle.std.proofs.Common.{◌≡◌, ℕ, zero, suc, ◌+◌, ◌*◌, ◌<◌, List, [], ◌∷◌, ◌++◌, Bool, true, false}
+use Rattle.std.proofs.Common.{length, take, drop}
+use Rattle.std.proofs.Common.{get_or, map, replicate, codes, refl, sym, ap, ◌∙◌, arith, append_assoc}
+use Rattle.std.specs.Prelude.{◌==◌}
+use Rattle.std.specs.Int.{from_bool}
+use Rattle.std.specs.Fmt.{decimal}
+use Rattle.std.proofs.lemmas.List.{append-nil, take_all, take_more, take-append-drop, get_or-map}
+use Rattle.hex.specs.Hex.{encode_lower}
+use Rattle.capn_value.specs.Text.{line, one_line, hex16, word_lines, number_lines, digit, digits_of}
+use Rattle.capn_show.specs.declared.fault.Broken.{Broken}
+use Rattle.capn_show.specs.Sheet.{Sheet, Grows, BreaksOff}
+use Rattle.capn_show.proofs.Appended.{both, otherwise, otherwise-broken, then-broken, broken-before}
+use Rattle.capn_show.proofs.TextDigits.{encode_lower-none, encode_lower-cons}
+
+module _ {A : Type 0} (F : List A → List ℕ) (joins : (xs ys : List A) → F (xs ++ ys) ≡ F xs ++ F ys)
+    (p q : Sheet) (xs : List A) (i : ℕ) where
+  -- one element more
+  more : (r : Sheet) (d : A) → i < length xs → Grows p q (F (take i xs))
+      → Grows q r (F (get_or xs i d ∷ [])) → Grows p r (F (take (i + 1) xs))
+  more r d below h k =
+      otherwise p r (F (take i xs) ++ F (get_or xs i d ∷ [])) (F (take (i + 1) xs))
+      (sym (ap F (take_more xs i d below) ∙ joins (take i xs) (get_or xs i d ∷ [])))
+      (both p q r (F (take i xs)) (F (get_or xs i d ∷ [])) h k)
+
+  -- a text that breaks off in it
+  cut : (r : Sheet) (e : Broken) (d : A) → i < length xs → Grows p q (F (take i xs))
+      → BreaksOff q r e (F (get_or xs i d ∷ [])) → BreaksOff p r e (F xs)
+  cut r e d below h k =
+      let front = F (take i xs) in
+      let here = F (get_or xs i d ∷ []) in
+      let rest = F (drop (i + 1) xs) in
+      otherwise-broken p r e ((front ++ here) ++ rest) (F xs)
+      (ap (λ (l : List ℕ). l ++ rest) (sym (ap F (take_more xs i d below) ∙ joins (take i xs) (get_or xs i d ∷ [])))
+      ∙ sym (joins (take (i + 1) xs) (drop (i + 1) xs))
+      ∙ ap F (take-append-drop (i + 1) xs))
+      (broken-before p r e (front ++ here) rest (then-broken p q r e front here h k))
+
+  -- all of them
+  all : i ≡ length xs → Grows p q (F (take i xs)) → Grows p q (F xs)
+  all e h = otherwise p q (F (take i xs)) (F xs) (ap F (take_all i xs (omega arith))) h
+
+word_lines-joined : (level : ℕ) (xs ys : List ℕ)
+    → word_lines level (xs ++ ys) ≡ word_lines level xs ++ word_lines level ys
+word_lines-joined level [] ys = refl
+word_lines-joined level (x ∷ xs) ys =
+    let l = line level (codes "word " ++ hex16 x) in
+    ap (λ (r : List ℕ). l ++ r) (word_lines-joined level xs ys)
+    ∙ sym (append_assoc l (word_lines level xs) (word_lines level ys))
+
+number_lines-joined : (level : ℕ) (xs ys : List ℕ)
+    → number_lines level (xs ++ ys) ≡ number_lines level xs ++ number_lines level ys
+number_lines-joined level [] ys = refl
+number_lines-joined level (x ∷ xs) ys =
+    let l = line level (decimal x) in
+    ap (λ (r : List ℕ). l ++ r) (number_lines-joined level xs ys)
+    ∙ sym (append_assoc l (number_lines level xs) (number_lines level ys))
+
+digits_of-joined : (xs ys : List Bool) → digits_of (xs ++ ys) ≡ digits_of xs ++ digits_of ys
+digits_of-joined [] ys = refl
+digits_of-joined (x ∷ xs) ys = ap (λ (l : List ℕ). digit x ∷ l) (digits_of-joined xs ys)
+
+encode_lower-joined : (xs ys : List ℕ) → encode_lower (xs ++ ys) ≡ encode_lower xs ++ encode_lower ys
+encode_lower-joined [] ys = sym (ap (λ (l : List ℕ). l ++ encode_lower ys) encode_lower-none)
+encode_lower-joined (x ∷ xs) ys =
+    encode_lower-cons x (xs ++ ys)
+    ∙ ap (λ (l : List ℕ). encode_lower (x ∷ []) ++ l) (encode_lower-joined xs ys)
+    ∙ sym (append_assoc (encode_lower (x ∷ [])) (encode_lower xs) (encode_lower ys))
+    ∙ ap (λ (l : List ℕ). l ++ encode_lower ys) (sym (encode_lower-cons x xs))
+
+module _ (p q : Sheet) where
+  module _ (level : ℕ) (xs : List ℕ) (i : ℕ) where
+    pub word-more : (r : Sheet) (x : ℕ) → i < length xs → x ≡ get_or xs i 0
+        → Grows p q (word_lines level (take i xs)) → Grows q r (line level (codes "word " ++ hex16 x))
+        → Grows p r (word_lines level (take (i + 1) xs))
+    word-more r x below e h k =
+        more (word_lines level) (word_lines-joined level) p q xs i r 0 below h
+        (otherwise q r (line level (codes "word " ++ hex16 x)) (word_lines level (get_or xs i 0 ∷ []))
+        (ap (λ (n : ℕ). line level (codes "word " ++ hex16 n)) e
+        ∙ sym (append-nil (line level (codes "word " ++ hex16 (get_or xs i 0))))) k)
+
+    pub word-cut : (r : Sheet) (e : Broken) (x : ℕ) → i < length xs → x ≡ get_or xs i 0
+        → Grows p q (word_lines level (take i xs)) → BreaksOff q r e (line level (codes "word " ++ hex16 x))
+        → BreaksOff p r e (word_lines level xs)
+    word-cut r e x below is h k =
+        cut (word_lines level) (word_lines-joined level) p q xs i r e 0 below h
+        (otherwise-broken q r e (line level (codes "word " ++ hex16 x)) (word_lines level (get_or xs i 0 ∷ []))
+        (ap (λ (n : ℕ). line level (codes "word " ++ hex16 n)) is
+        ∙ sym (append-nil (line level (codes "word " ++ hex16 (get_or xs i 0))))) k)
+
+    pub words-all : i ≡ length xs → Grows p q (word_lines level (take i xs)) → Grows p q (word_lines level xs)
+    words-all = all (word_lines level) (word_lines-joined level) p q xs i
+
+    pub number-more : (r : Sheet) (x : ℕ) → i < length xs → x ≡ get_or xs i 0
+        → Grows p q (number_lines level (take i xs)) → Grows q r (line level (decimal x))
+        → Grows p r (number_lines level (take (i + 1) xs))
+    number-more r x below e h k =
+        more (number_lines level) (number_lines-joined level) p q xs i r 0 below h
+        (otherwise q r (line level (decimal x)) (number_lines level (get_or xs i 0 ∷ []))
+        (ap (λ (n : ℕ). line level (decimal n)) e ∙ sym (append-nil (line level (decimal (get_or xs i 0))))) k)
+
+    pub number-cut : (r : Sheet) (e : Broken) (x : ℕ) → i < length xs → x ≡ get_or xs i 0
+        → Grows p q (number_lines level (take i xs)) → BreaksOff q r e (line level (decimal x))
+        → BreaksOff p r e (number_lines level xs)
+    number-cut r e x below is h k =
+        cut (number_lines level) (number_lines-joined level) p q xs i r e 0 below h
+        (otherwise-broken q r e (line level (decimal x)) (number_lines level (get_or xs i 0 ∷ []))
+        (ap (λ (n : ℕ). line level (decimal n)) is ∙ sym (append-nil (line level (decimal (get_or xs i 0))))) k)
+
+    pub numbers-all : i ≡ length xs → Grows p q (number_lines level (take i xs))
+        → Grows p q (number_lines level xs)
+    numbers-all = all (number_lines level) (number_lines-joined level) p q xs i
+
+  module _ (xs : List ℕ) (i : ℕ) where
+    pub byte-more : (r : Sheet) (x : ℕ) → i < length xs → x ≡ get_or xs i 0
+        → Grows p q (encode_lower (take i xs)) → Grows q r (encode_lower (x ∷ []))
+        → Grows p r (encode_lower (take (i + 1) xs))
+    byte-more r x below e h k =
+        more encode_lower encode_lower-joined p q xs i r 0 below h
+        (otherwise q r (encode_lower (x ∷ [])) (encode_lower (get_or xs i 0 ∷ []))
+        (ap (λ (n : ℕ). encode_lower (n ∷ [])) e) k)
+
+    pub byte-cut : (r : Sheet) (e : Broken) (x : ℕ) → i < length xs → x ≡ get_or xs i 0
+        → Grows p q (encode_lower (take i xs)) → BreaksOff q r e (encode_lower (x ∷ []))
+        → BreaksOff p r e (encode_lower xs)
+    byte-cut r e x below is h k =
+        cut encode_lower encode_lower-joined p q xs i r e 0 below h
+        (otherwise-broken q r e (encode_lower (x ∷ [])) (encode_lower (get_or xs i 0 ∷ []))
+        (ap (λ (n : ℕ). encode_lower (n ∷ [])) is) k)
+
+    pub bytes-all : i ≡ length xs → Grows p q (encode_lower (take i xs)) → Grows p q (encode_lower xs)
+    bytes-all = all encode_lower encode_lower-joined p q xs i
+
+  module _ (xs : List Bool) (i : ℕ) where
+    pub bit-more : (r : Sheet) (x d : Bool) → i < length xs → x ≡ get_or xs i d
+        → Grows p q (digits_of (take i xs)) → Grows q r (digit x ∷ [])
+        → Grows p r (digits_of (take (i + 1) xs))
+    bit-more r x d below e h k =
+        more digits_of digits_of-joined p q xs i r d below h
+        (otherwise q r (digit x ∷ []) (digits_of (get_or xs i d ∷ [])) (ap (λ (b : Bool). digit b ∷ []) e) k)
+
+    pub bit-cut : (r : Sheet) (e : Broken) (x d : Bool) → i < length xs → x ≡ get_or xs i d
+        → Grows p q (digits_of (take i xs)) → BreaksOff q r e (digit x ∷ []) → BreaksOff p r e (digits_of xs)
+    bit-cut r e x d below is h k =
+        cut digits_of digits_of-joined p q xs i r e d below h
+        (otherwise-broken q r e (digit x ∷ []) (digits_of (get_or xs i d ∷ [])) (ap (λ (b : Bool). digit b ∷ []) is) k)
+
+    pub bits-all : i ≡ length xs → Grows p q (digits_of (take i xs)) → Grows p q (digits_of xs)
+    bits-all = all digits_of digits_of-joined p q xs i
+
+-- the bit that a number tells
+pub bit-told : (xs : List Bool) (i n : ℕ) → i < length xs → n ≡ get_or (map from_bool xs) i 0
+    → (n == 1) ≡ get_or xs i false
+bit-told xs i n below e =
+    ap (λ (k : ℕ). k == 1) (e ∙ get_or-map from_bool xs i false 0 below) ∙ is-one (get_or xs i false)
+  where
+    is-one : (b : Bool) → (from_bool b == 1) ≡ b
+    is-one true = refl
+    is-one false = refl
+
+-- a line between its indentation and its end
+lined-is : (level n : ℕ) (x : List ℕ) → 0 < n → replicate (2 * level) 32 ++ (x ++ 10 ∷ []) ≡ one_line level n x
+unfolding line
+lined-is level zero x some = absurd (omega arith)
+lined-is level (suc n) x some = refl
+
+module _ (level n : ℕ) (x : List ℕ) (some : 0 < n) (p q : Sheet) where
+  pub lined : (r s : Sheet) → Grows p q (replicate (2 * level) 32) → Grows q r x → Grows r s (10 ∷ [])
+      → Grows p s (one_line level n x)
+  lined r s h k l =
+      otherwise p s (replicate (2 * level) 32 ++ (x ++ 10 ∷ [])) (one_line level n x) (lined-is level n x some)
+      (both p q s (replicate (2 * level) 32) (x ++ 10 ∷ []) h (both q r s x (10 ∷ []) k l))
+
+  -- it breaks off in its indentation, in what it has, or in its end
+  pub cut-first : (e : Broken) → BreaksOff p q e (replicate (2 * level) 32) → BreaksOff p q e (one_line level n x)
+  cut-first e h =
+      otherwise-broken p q e (replicate (2 * level) 32 ++ (x ++ 10 ∷ [])) (one_line level n x)
+      (lined-is level n x some) (broken-before p q e (replicate (2 * level) 32) (x ++ 10 ∷ []) h)
+
+  pub cut-inside : (r : Sheet) (e : Broken) → Grows p q (replicate (2 * level) 32) → BreaksOff q r e x
+      → BreaksOff p r e (one_line level n x)
+  cut-inside r e h k =
+      otherwise-broken p r e (replicate (2 * level) 32 ++ (x ++ 10 ∷ [])) (one_line level n x)
+      (lined-is level n x some)
+      (then-broken p q r e (replicate (2 * level) 32) (x ++ 10 ∷ []) h (broken-before q r e x (10 ∷ []) k))
+
+  pub cut-last : (r s : Sheet) (e : Broken) → Grows p q (replicate (2 * level) 32) → Grows q r x
+      → BreaksOff r s e (10 ∷ []) → BreaksOff p s e (one_line level n x)
+  cut-last r s e h k l =
+      otherwise-broken p s e (replicate (2 * level) 32 ++ (x ++ 10 ∷ [])) (one_line level n x)
+      (lined-is level n x some)
+      (then-broken p q s e (replicate (2 * level) 32) (x ++ 10 ∷ []) h (then-broken q r s e x (10 ∷ []) k l))

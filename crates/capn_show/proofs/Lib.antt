@@ -1,0 +1,12 @@
+mod TextDigits
+mod Shifts
+mod Appended
+mod Grown
+mod Within
+mod RowFront
+mod SlotTexts
+mod FoundKinds
+mod Steps
+mod ListTexts
+mod FoundTexts
+mod Ends

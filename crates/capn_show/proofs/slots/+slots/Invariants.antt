@@ -1,0 +1,34 @@
+use Rattle.std.proofs.Common.{◌≡◌, ◌+◌, ◌*◌}
+use Rattle.capn_show.specs.Sheet.{Grows}
+use Rattle.capn_value.specs.Tree.{Trees, Bodies, count, count_rows, front}
+use Rattle.capn_value.specs.Text.{shown_each, shown_rows}
+use Rattle.capn_show.specs.Ready.{AreSlots, AreRowsAt}
+use Rattle.capn_show.proofs.RowFront.{front_rows}
+use Rattle.capn_show.proofs.slots.+slots.Given as goal
+
+abbrev pub decreases-show_found : goal.decreases-show_found
+decreases-show_found g l = 5 * l.depth
+
+abbrev pub decreases-show_slot : goal.decreases-show_slot
+decreases-show_slot g l = 5 * l.depth + 1
+
+abbrev pub decreases-show_slots : goal.decreases-show_slots
+decreases-show_slots g l = 5 * l.depth + 2
+
+abbrev pub decreases-show_body : goal.decreases-show_body
+decreases-show_body g l = 5 * l.depth + 3
+
+abbrev pub decreases-show_rows : goal.decreases-show_rows
+decreases-show_rows g l = 5 * l.depth + 4
+
+abbrev pub invariant-show_slots-loop-i : goal.invariant-show_slots-loop-i
+invariant-show_slots-loop-i g l = (ts : Trees)
+    → AreSlots (g.S.Space.message l.space) l.first.segment l.first.word ts → count ts ≡ l.count
+    → Grows l.initial.page l.page (shown_each l.level (front l.i ts))
+
+abbrev pub invariant-show_rows-loop-row : goal.invariant-show_rows-loop-row
+invariant-show_rows-loop-row g l = record {
+  next : l.next ≡ l.first.word + l.row * (l.words + l.slots);
+  rest : (bs : Bodies) → AreRowsAt (g.S.Space.message l.space) l.first.segment l.first.word l.words l.slots bs
+      → count_rows bs ≡ l.count → Grows l.initial.page l.page (shown_rows l.level (front_rows l.row bs));
+}

@@ -1,0 +1,159 @@
+-- What stands at places of a message whose text is written, and how a text grows by it.
+use Rattle.std.specs.Prelude.{◌≡◌, ◌⊎◌, ℕ, ◌+◌, ◌*◌, ◌<◌, ◌≤◌, List, Bool, ◌++◌, length, map, slice_index, ⊤}
+use Rattle.std.specs.Int.{from_bool}
+use Rattle.capn_words.specs.declared.space.Place.{Place}
+use Rattle.capn_words.specs.declared.pointer.Width.{Width}
+use Rattle.capn_words.specs.declared.pointer.Width.TheVariants.{W0, W1, Link, Rows}
+use Rattle.capn_value.specs.Tree.{Tree, Trees, Bodies, count, count_rows, tree_at}
+use Rattle.capn_value.specs.Sizes.{height, greatest, greatest_in_rows}
+use Rattle.capn_value.specs.Text.{body_line, word_lines, shown, shown_each, shown_rows, show_text}
+use Rattle.capn_walk.specs.declared.target.Target.{Target}
+use Rattle.capn_walk.specs.declared.target.Target.TheVariants as targets
+use Rattle.capn_walk.specs.declared.target.Shape.TheVariants as shapes
+use Rattle.capn_walk.specs.declared.target.Fault.TheVariants as faults
+use Rattle.capn_walk.specs.At.{IsAt, words_from}
+use Rattle.capn_walk.specs.Viewed.{number_in}
+use Rattle.capn_walk.specs.Shown.{Shows, ShowsStruct, words_of_row, slots_of_row}
+use Rattle.capn_walk.specs.Accepted.{IsValueOf, IsRefused}
+use Rattle.capn_walk.specs.Limits.{Bounds}
+use Rattle.capn_show.specs.Sheet.{Sheet, Grows, BreaksOff}
+use Rattle.capn_show.specs.declared.fault.ShowFault.{ShowFault}
+use Rattle.capn_show.specs.declared.fault.ShowFault.TheVariants as ends
+use Rattle.capn_show.specs.declared.fault.Broken.{Broken}
+use Rattle.capn_show.specs.declared.fault.Broken.TheVariants as broken
+
+-- how a text that breaks off is answered
+abbrev pub as_fault : Broken → ShowFault
+as_fault broken.Io = ends.Io
+as_fault broken.Memory = ends.Memory
+
+-- elements that a word holds as numbers
+abbrev pub HasNumbers : Width → Type 0
+HasNumbers W0 = ⊥
+HasNumbers Link = ⊥
+HasNumbers Rows = ⊥
+HasNumbers _ = ⊤
+
+-- a struct of a words and b slots whose content starts at a word
+abbrev pub struct_at : ℕ → ℕ → ℕ → ℕ → Target
+struct_at s w a b = targets.Content s w (shapes.Node a b) 0
+
+-- the text of a struct
+abbrev pub shown_body : ℕ → List ℕ → Trees → List ℕ
+shown_body level ws ss = body_line level (length ws) (count ss)
+    ++ (word_lines (level + 1) ws ++ shown_each (level + 1) ss)
+
+module _ (m : List (List ℕ)) where
+  -- ---- what stands there
+
+  -- these words stand from a word on
+  abbrev pub AreDataWords : ℕ → ℕ → List ℕ → Type 0
+  AreDataWords s w ws = (i : ℕ) → i < length ws → slice_index (words_from m s w) i ≡ slice_index ws i
+
+  -- these are the first elements of a list whose content starts at a word
+  abbrev pub AreNumbers : ℕ → ℕ → Width → List ℕ → Type 0
+  AreNumbers s w width xs = (i : ℕ) → i < length xs → number_in width (words_from m s w) i ≡ slice_index xs i
+
+  -- these values stand in slots, one after the other
+  abbrev pub AreSlots : ℕ → ℕ → Trees → Type 0
+  AreSlots s w ts = (i : ℕ) → i < count ts → IsAt m (record { segment = s; word = w + i }) (tree_at ts i)
+
+  -- these rows of a words and b slots stand one after the other
+  abbrev pub AreRowsAt : ℕ → ℕ → ℕ → ℕ → Bodies → Type 0
+  AreRowsAt s w a b bs = (i : ℕ) → i < count_rows bs
+      → ShowsStruct m (struct_at s (w + i * (a + b)) a b) (words_of_row bs i) (slots_of_row bs i)
+
+  -- ---- that there is something to show, at most this number of objects high
+
+  -- a value stands at a place
+  pub record IsReady (at : Place) (depth : ℕ) : Type 0 where
+    pub value : Tree
+    pub is : IsAt m at value
+    pub low : height value ≤ depth
+
+  -- a pointer names a value
+  pub record IsFound (found : Target) (depth : ℕ) : Type 0 where
+    pub value : Tree
+    pub is : Shows m found value
+    pub low : height value ≤ depth
+
+  -- a struct stands from a word on
+  pub record IsBody (s w a b depth : ℕ) : Type 0 where
+    pub words : List ℕ
+    pub slots : Trees
+    pub is : ShowsStruct m (struct_at s w a b) words slots
+    pub low : greatest slots ≤ depth
+
+  -- values stand in this number of slots
+  pub record AreReady (s w number depth : ℕ) : Type 0 where
+    pub values : Trees
+    pub are : AreSlots s w values
+    pub count : count values ≡ number
+    pub low : greatest values ≤ depth
+
+  -- this number of rows stand one after the other
+  pub record AreRows (s w number a b depth : ℕ) : Type 0 where
+    pub values : Bodies
+    pub are : AreRowsAt s w a b values
+    pub count : count_rows values ≡ number
+    pub low : greatest_in_rows values ≤ depth
+
+  -- ---- what is said of the text, as that it is appended, or breaks off
+
+  -- of that of the value at a place
+  abbrev pub IsShown : Place → ℕ → (List ℕ → Type 0) → Type 0
+  IsShown at level Says = (v : Tree) → IsAt m at v → Says (shown level v)
+
+  -- of that of the value which a pointer names
+  abbrev pub IsFoundShown : Target → ℕ → (List ℕ → Type 0) → Type 0
+  IsFoundShown found level Says = (v : Tree) → Shows m found v → Says (shown level v)
+
+  -- of that of a struct
+  abbrev pub IsBodyShown : ℕ → ℕ → ℕ → ℕ → ℕ → (List ℕ → Type 0) → Type 0
+  IsBodyShown s w a b level Says = (ws : List ℕ) (ss : Trees) → ShowsStruct m (struct_at s w a b) ws ss
+      → Says (shown_body level ws ss)
+
+  -- of those of slots
+  abbrev pub AreShown : ℕ → ℕ → ℕ → ℕ → (List ℕ → Type 0) → Type 0
+  AreShown s w number level Says = (ts : Trees) → AreSlots s w ts → count ts ≡ number → Says (shown_each level ts)
+
+  -- of those of rows
+  abbrev pub RowsShown : ℕ → ℕ → ℕ → ℕ → ℕ → ℕ → (List ℕ → Type 0) → Type 0
+  RowsShown s w number a b level Says = (bs : Bodies) → AreRowsAt s w a b bs → count_rows bs ≡ number
+      → Says (shown_rows level bs)
+
+  -- of that of data words
+  abbrev pub WordsShown : ℕ → ℕ → ℕ → ℕ → (List ℕ → Type 0) → Type 0
+  WordsShown s w number level Says = (ws : List ℕ) → AreDataWords s w ws → length ws ≡ number
+      → Says (word_lines level ws)
+
+  -- of that of numbers, by how their text is made
+  abbrev pub NumbersShown : ℕ → ℕ → Width → ℕ → (List ℕ → List ℕ) → (List ℕ → Type 0) → Type 0
+  NumbersShown s w width number text Says = (xs : List ℕ) → AreNumbers s w width xs → length xs ≡ number
+      → Says (text xs)
+
+  -- the same of bits
+  abbrev pub BitsShown : ℕ → ℕ → ℕ → (List Bool → List ℕ) → (List ℕ → Type 0) → Type 0
+  BitsShown s w number text Says = (xs : List Bool) → AreNumbers s w W1 (map from_bool xs) → length xs ≡ number
+      → Says (text xs)
+
+  -- ---- what becomes of a message
+
+  -- it is accepted, and the text of its value is appended
+  pub record IsWritten (limits : Bounds) (p q : Sheet) : Type 0 where
+    pub value : Tree
+    pub is : IsValueOf m limits value
+    pub text : Grows p q (show_text value)
+
+  -- it is accepted, and the text of its value breaks off
+  pub record IsBegun (limits : Bounds) (p q : Sheet) (e : Broken) : Type 0 where
+    pub value : Tree
+    pub is : IsValueOf m limits value
+    pub text : BreaksOff p q e (show_text value)
+
+  -- it is refused, or a survey was refused memory, and the page is as it was; or the text of its value breaks off
+  abbrev pub IsUnwritten : Bounds → ShowFault → Sheet → Sheet → Type 0
+  IsUnwritten limits (ends.Stopped s) p q = (q ≡ p)
+      × ((s.fault ≡ faults.Memory) ⊎ IsRefused m limits s.fault s.place s.paid s.visits)
+  IsUnwritten limits ends.Io p q = IsBegun limits p q broken.Io
+  IsUnwritten limits ends.Memory p q = IsBegun limits p q broken.Memory

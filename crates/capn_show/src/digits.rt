@@ -1,0 +1,34 @@
+//! The numbers that a word holds.
+
+ghost use Rattle.std.specs.Prelude.{◌≡◌, ◌<◌};
+ghost use Rattle.capn_walk.specs.Viewed as seen;
+
+use capn_words::Width;
+
+/// How many numbers of that width a word holds.
+pub fn per_word(width: Width) -> u32
+    ensures value { result ≡ seen.per_word width }
+    ensures some { 0 < result }
+{
+    match width {
+        Width::W1 => 64,
+        Width::W8 => 8,
+        Width::W16 => 4,
+        Width::W32 => 2,
+        _ => 1,
+    }
+}
+
+/// The number of that width at a place of a word, counted from the least significant.
+pub fn digit(width: Width, word: u64, place: u32) -> u64
+    requires { place < seen.per_word width }
+    ensures { result ≡ seen.digit width word place }
+{
+    match width {
+        Width::W1 => word >> place & 1,
+        Width::W8 => word >> (8 * place) & 0xff,
+        Width::W16 => word >> (16 * place) & 0xffff,
+        Width::W32 => word >> (32 * place) & 0xffff_ffff,
+        _ => word,
+    }
+}

@@ -1,0 +1,49 @@
+//! Why the text of a message ends.
+
+ghost use Rattle.std.specs.Prelude.{◌≡◌};
+ghost use Rattle.capn_show.specs.declared.fault.ShowFault.TheVariants as faults;
+ghost use Rattle.capn_show.specs.Ready.{as_fault};
+
+use capn_walk::Stopped;
+use thiserror::Error;
+
+/// Why the text of a message is not written, or not the whole of it.
+#[derive(Clone, Copy, Debug, PartialEq, Eq, Error)]
+pub enum ShowFault {
+    /// The message is not accepted within the limits, or the survey was refused memory. Nothing of it was written.
+    #[error("{0}")]
+    Stopped(Stopped),
+    /// The writer failed. A beginning of the text was written.
+    #[error("the writer failed")]
+    Io,
+    /// The page was refused the memory of its block.
+    #[error("out of memory")]
+    Memory,
+}
+
+/// Why a text breaks off.
+#[derive(Clone, Copy, Debug, PartialEq, Eq)]
+pub enum Broken {
+    /// The writer failed.
+    Io,
+    /// The page was refused the memory of its block.
+    Memory,
+}
+
+impl From<Stopped> for ShowFault {
+    ghost from_gives = { λ stopped e. e ≡ faults.Stopped stopped };
+
+    fn from(stopped: Stopped) -> ShowFault {
+        ShowFault::Stopped(stopped)
+    }
+}
+
+/// How a text that breaks off is answered.
+pub fn fault_of(broken: Broken) -> ShowFault
+    ensures { result ≡ as_fault broken }
+{
+    match broken {
+        Broken::Io => ShowFault::Io,
+        Broken::Memory => ShowFault::Memory,
+    }
+}

@@ -1,0 +1,252 @@
+//! The text of what stands in the slots of a message, and of all below it.
+
+ghost use Rattle.std.specs.Prelude.{◌≡◌, ℕ, ◌<◌, ◌≤◌, ◌+◌, ◌*◌, ◌^◌, length, IfErr, OnOk};
+ghost use Rattle.capn_words.specs.Message.{IsMessage, IsPlace};
+ghost use Rattle.capn_walk.specs.declared.target.Target.TheVariants as targets;
+ghost use Rattle.capn_walk.specs.declared.target.Shape.TheVariants as shapes;
+ghost use Rattle.capn_walk.specs.Target.{content_words};
+ghost use Rattle.capn_walk.specs.Shapes.{IsContent, IsPlain};
+ghost use Rattle.capn_walk.specs.Viewed.{IsInMessage};
+ghost use Rattle.capn_show.specs.Sheet.{Grows, BreaksOff};
+ghost use Rattle.capn_show.specs.Ready.{IsReady, IsFound, IsBody, AreReady, AreRows};
+ghost use Rattle.capn_show.specs.Ready.{IsShown, IsFoundShown, IsBodyShown, AreShown, RowsShown};
+
+use crate::fault::Broken;
+use crate::numbers::{show_bits, show_bytes, show_numbers, show_words};
+use crate::page::Page;
+use capn_walk::laws::views_show_values;
+use capn_walk::{Shape, Target, resolve};
+use capn_words::{Place, Space, Width};
+use std::alloc::Allocator;
+use std::io::Write;
+
+/// The text of the value that stands at a place.
+#[cycle(slots)]
+pub fn show_slot<S: Space, W: Write, A: Allocator>(
+    page: &mut Page<W, A>,
+    space: &S,
+    at: Place,
+    level: u32,
+    depth: u32,
+) -> Result<(), Broken>
+    requires message { IsMessage (S.message space.now) }
+    requires place { IsPlace (S.message space.now) at }
+    requires ready { IsReady (S.message space.now) at depth }
+    requires room { level + 2 * depth < 2 ^ 32 }
+    ensures shown { OnOk result (IsShown (S.message space.now) at level (Grows page.old page.new)) }
+    ensures cut { IfErr result (λ e. IsShown (S.message space.now) at level (BreaksOff page.old page.new e)) }
+{
+    views_show_values();
+    match resolve(space, at) {
+        Ok(found) => show_found(page, space, found, level, depth),
+        // A value stands here, so the pointer names something.
+        Err(_) => unreachable!(),
+    }
+}
+
+/// The text of the value that a pointer names.
+#[cycle(slots)]
+fn show_found<S: Space, W: Write, A: Allocator>(
+    page: &mut Page<W, A>,
+    space: &S,
+    found: Target,
+    level: u32,
+    depth: u32,
+) -> Result<(), Broken>
+    requires message { IsMessage (S.message space.now) }
+    requires inside { IsInMessage (S.message space.now) found }
+    requires ready { IsFound (S.message space.now) found depth }
+    requires room { level + 2 * depth < 2 ^ 32 }
+    ensures shown { OnOk result
+        (IsFoundShown (S.message space.now) found level (Grows page.old page.new)) }
+    ensures cut { IfErr result (λ e.
+        IsFoundShown (S.message space.now) found level (BreaksOff page.old page.new e)) }
+{
+    match found {
+        Target::Nil => page.plain(level, "null"),
+        Target::Cap(index) => page.named(level, "capability", index),
+        Target::Content {
+            segment,
+            start,
+            shape,
+            pads: _,
+        } => {
+            let start = Place {
+                segment,
+                word: start,
+            };
+            match shape {
+                Shape::Node { words, slots } => {
+                    show_body(page, space, start, words, slots, level, depth - 1)
+                }
+                Shape::Many { width, count } => match width {
+                    Width::Link => {
+                        page.named(level, "pointers", count)?;
+                        show_slots(page, space, start, count, level + 1, depth - 1)
+                    }
+                    _ => show_list(page, space, start, width, count, level),
+                },
+                Shape::Rows {
+                    count,
+                    words,
+                    slots,
+                    span: _,
+                } => {
+                    page.named(level, "rows", count)?;
+                    let first = Place {
+                        segment,
+                        word: start.word + 1,
+                    };
+                    show_rows(
+                        page,
+                        space,
+                        first,
+                        count,
+                        words,
+                        slots,
+                        level + 1,
+                        depth - 1,
+                    )
+                }
+            }
+        }
+    }
+}
+
+/// The text of a list of elements without pointers.
+fn show_list<S: Space, W: Write, A: Allocator>(
+    page: &mut Page<W, A>,
+    space: &S,
+    start: Place,
+    width: Width,
+    count: u32,
+    level: u32,
+) -> Result<(), Broken>
+    requires message { IsMessage (S.message space.now) }
+    requires content { IsContent (S.message space.now) start (content_words width count) }
+    requires plain { IsPlain width }
+    requires room { level + 1 < 2 ^ 32 }
+    ensures shown { OnOk result ((pads : ℕ)
+        → IsFoundShown (S.message space.now) (targets.Content start.segment start.word (shapes.Many width count) pads)
+        level (Grows page.old page.new)) }
+    ensures cut { IfErr result (λ e. (pads : ℕ)
+        → IsFoundShown (S.message space.now) (targets.Content start.segment start.word (shapes.Many width count) pads)
+        level (BreaksOff page.old page.new e)) }
+{
+    match width {
+        Width::W0 => page.named(level, "void", count),
+        Width::W1 => {
+            page.named(level, "bits", count)?;
+            show_bits(page, space, start, count, level + 1)
+        }
+        Width::W8 => {
+            page.named(level, "bytes", count)?;
+            show_bytes(page, space, start, count, level + 1)
+        }
+        Width::W16 => {
+            page.named(level, "u16", count)?;
+            show_numbers(page, space, start, width, count, level + 1)
+        }
+        Width::W32 => {
+            page.named(level, "u32", count)?;
+            show_numbers(page, space, start, width, count, level + 1)
+        }
+        Width::W64 => {
+            page.named(level, "u64", count)?;
+            show_numbers(page, space, start, width, count, level + 1)
+        }
+        Width::Link | Width::Rows => unreachable!(),
+    }
+}
+
+/// The text of a struct: its first line, its words, and its slots with all below them.
+#[cycle(slots)]
+fn show_body<S: Space, W: Write, A: Allocator>(
+    page: &mut Page<W, A>,
+    space: &S,
+    start: Place,
+    words: u16,
+    slots: u16,
+    level: u32,
+    depth: u32,
+) -> Result<(), Broken>
+    requires message { IsMessage (S.message space.now) }
+    requires content { IsContent (S.message space.now) start (words + slots) }
+    requires ready { IsBody (S.message space.now) start.segment start.word words slots depth }
+    requires room { level + 1 + 2 * depth < 2 ^ 32 }
+    ensures shown { OnOk result
+        (IsBodyShown (S.message space.now) start.segment start.word words slots level (Grows page.old page.new)) }
+    ensures cut { IfErr result (λ e.
+        IsBodyShown (S.message space.now) start.segment start.word words slots level (BreaksOff page.old page.new e)) }
+{
+    page.body(level, words, slots)?;
+    show_words(page, space, start, words, level + 1)?;
+    let first = Place {
+        segment: start.segment,
+        word: start.word + words as u32,
+    };
+    show_slots(page, space, first, slots as u32, level + 1, depth)
+}
+
+/// The text of what stands in slots, one after the other.
+#[cycle(slots)]
+fn show_slots<S: Space, W: Write, A: Allocator>(
+    page: &mut Page<W, A>,
+    space: &S,
+    first: Place,
+    count: u32,
+    level: u32,
+    depth: u32,
+) -> Result<(), Broken>
+    requires message { IsMessage (S.message space.now) }
+    requires content { IsContent (S.message space.now) first count }
+    requires ready { AreReady (S.message space.now) first.segment first.word count depth }
+    requires room { level + 2 * depth < 2 ^ 32 }
+    ensures shown { OnOk result (AreShown (S.message space.now) first.segment first.word count level
+        (Grows page.old page.new)) }
+    ensures cut { IfErr result (λ e. AreShown (S.message space.now) first.segment first.word count level
+        (BreaksOff page.old page.new e)) }
+{
+    for i in 0..count {
+        let at = Place {
+            segment: first.segment,
+            word: first.word + i,
+        };
+        show_slot(page, space, at, level, depth)?;
+    }
+    Ok(())
+}
+
+/// The text of rows, one after the other.
+#[cycle(slots)]
+fn show_rows<S: Space, W: Write, A: Allocator>(
+    page: &mut Page<W, A>,
+    space: &S,
+    first: Place,
+    count: u32,
+    words: u16,
+    slots: u16,
+    level: u32,
+    depth: u32,
+) -> Result<(), Broken>
+    requires message { IsMessage (S.message space.now) }
+    requires content { IsContent (S.message space.now) first (count * (words + slots)) }
+    requires ready { AreRows (S.message space.now) first.segment first.word count words slots depth }
+    requires room { level + 1 + 2 * depth < 2 ^ 32 }
+    ensures shown { OnOk result
+        (RowsShown (S.message space.now) first.segment first.word count words slots level (Grows page.old page.new)) }
+    ensures cut { IfErr result (λ e.
+        RowsShown (S.message space.now) first.segment first.word count words slots level
+        (BreaksOff page.old page.new e)) }
+{
+    let mut next = first.word;
+    for row in 0..count {
+        let start = Place {
+            segment: first.segment,
+            word: next,
+        };
+        show_body(page, space, start, words, slots, level, depth)?;
+        next += words as u32 + slots as u32;
+    }
+    Ok(())
+}
