@@ -60,7 +60,7 @@ typedef struct capn_report {
     uint64_t length;  /* bytes of an answer: those written, or at CAPN_NO_ROOM those that are enough; of a frame */
     uint64_t at;      /* a refusal's offset, count or index, as at its status below */
     uint32_t paid;    /* words that the walk paid; set with an answer and by refusals of the walk */
-    uint32_t visits;  /* visits that the walk made; set by capn_check and by refusals of the walk */
+    uint32_t visits;  /* visits that it made; set by capn_check, capn_survey, capn_index and by refusals of the walk */
     uint32_t segment; /* the slot at which a walk was refused: its segment, */
     uint32_t word;    /* and its word there */
 } capn_report;

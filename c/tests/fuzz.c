@@ -149,6 +149,10 @@ int LLVMFuzzerTestOneInput(const uint8_t *data, size_t size) {
 }
 
 #ifndef FUZZER
+/* How many changed copies of each input are tried. */
+#ifndef COPIES
+#define COPIES 40
+#endif
 static uint64_t seed = 7;
 
 static uint32_t any(uint32_t below) {
@@ -169,7 +173,7 @@ static size_t change(uint8_t *bytes, size_t size) {
 }
 
 int main(void) {
-    enum { LINE = 1 << 22, LONGEST = 1 << 12, COPIES = 40 };
+    enum { LINE = 1 << 22, LONGEST = 1 << 12 };
     static char line[LINE];
     static uint8_t bytes[LONGEST], copy[LONGEST];
     long tried = 0;

@@ -1,22 +1,9 @@
 /* The index of a message that has each kind, by hand: every room, read bare, in one segment and in three, at any address,
  * beside pages that can't be touched. (c/tests/fuzz.c reads the indexes of many messages.) */
-#include "capn.h"
-#include <stdio.h>
-#include <string.h>
-#include <sys/mman.h>
+#define TEST "index"
+#include "wanted.h"
 
-static int failed;
-
-static void want(const char *what, uint64_t got, uint64_t wanted) {
-    if (got == wanted) return;
-    failed++;
-    printf("index: %s: %llu, wanted %llu\n", what, (unsigned long long)got, (unsigned long long)wanted);
-}
-
-static const capn_limits usual = CAPN_USUAL_LIMITS;
-enum { PAGE = 4096, PAGES = 8, COUNT = 17, WORDS = 26 };
-static uint8_t *guarded[2];
-static uint8_t *at_end(int which, size_t size) { return guarded[which] + PAGE * PAGES - size; }
+enum { COUNT = 17, WORDS = 26 };
 
 /* A pointer to a list at `from` of the object at `to`, and one to a struct. */
 static uint64_t list(uint64_t from, uint64_t to, uint64_t width, uint64_t count) {
@@ -48,10 +35,7 @@ static void make(uint64_t *w, capn_entry *e) {
 int main(void) {
     uint64_t words[WORDS];
     capn_entry wanted[COUNT], got[COUNT + 3];
-    for (int i = 0; i < 2; i++) {
-        guarded[i] = mmap(NULL, PAGE * (PAGES + 1), PROT_READ | PROT_WRITE, MAP_PRIVATE | MAP_ANONYMOUS, -1, 0);
-        if (guarded[i] == MAP_FAILED || mprotect(guarded[i] + PAGE * PAGES, PAGE, PROT_NONE)) return 2;
-    }
+    uint8_t *const guarded[2] = {between_pages(), between_pages()};
     make(words, wanted);
     wanted[0].span = COUNT - 1;
     for (size_t segments = 0; segments <= 3; segments += segments == 0 ? 1 : 2) {
@@ -59,7 +43,7 @@ int main(void) {
         size_t table = segments == 0 ? 0 : 8 * (segments / 2 + 1), more = segments == 3 ? 8 : 0;
         size_t size = table + more + 8 * WORDS;
         for (size_t off = 0; off < 8; off++) {
-            uint8_t *in = at_end(0, size + off);
+            uint8_t *in = at_end(guarded[0], size + off);
             memset(in, 0, table + more);
             if (segments) {
                 in[0] = (uint8_t)(segments - 1);
@@ -73,7 +57,7 @@ int main(void) {
             for (size_t i = 0; i < 8 * WORDS; i++) in[table + more + i] = (uint8_t)(words[i / 8] >> i % 8 * 8);
             const uint32_t form = segments ? CAPN_STREAM : CAPN_BARE;
             for (size_t room = 0; room < COUNT + 3; room++) {
-                capn_entry *entries = (capn_entry *)at_end(1, room * sizeof *entries);
+                capn_entry *entries = (capn_entry *)at_end(guarded[1], room * sizeof *entries);
                 capn_report r, checked;
                 memset(entries, 0x55, room * sizeof *entries);
                 memset(&r, 0x55, sizeof r);

@@ -1,24 +1,9 @@
 /* The version, the texts of the statuses, and the two calls that read in pieces: each beginning of a frame and of a packed
  * text, each room, at any address, beside a page that can't be touched. */
-#include "capn.h"
-#include <stdio.h>
-#include <string.h>
-#include <sys/mman.h>
+#define TEST "pieces"
+#include "wanted.h"
 
-static int failed;
-
-static void want(const char *what, uint64_t got, uint64_t wanted) {
-    if (got == wanted) return;
-    failed++;
-    printf("pieces: %s: %llu, wanted %llu\n", what, (unsigned long long)got, (unsigned long long)wanted);
-}
-
-static const capn_limits usual = CAPN_USUAL_LIMITS;
-
-/* A block of so many bytes whose end is the end of a page before one that can't be touched. */
-enum { PAGE = 4096, PAGES = 16 };
 static uint8_t *guarded[2];
-static uint8_t *at_end(int which, size_t size) { return guarded[which] + PAGE * PAGES - size; }
 
 /* Each status has a text, which no other has, and every other number has the same one. */
 static void texts(const char *version) {
@@ -68,7 +53,7 @@ static void beginnings(void) {
     for (uint32_t count = 1; count <= 5; count++) {
         size_t table = 8 * (count / 2 + 1), all = frame(bytes, sizes, count);
         for (size_t size = 0; size <= all + 9; size++) {
-            uint8_t *in = at_end(0, size);
+            uint8_t *in = at_end(guarded[0], size);
             memcpy(in, bytes, size);
             uint64_t needs = size < 4 ? 8 : size < table ? table : all;
             is_first("a beginning", in, size, size == 0 ? CAPN_FRAME_EMPTY : size < all ? CAPN_FRAME_CUT : CAPN_OK, needs);
@@ -115,7 +100,7 @@ static void make_words(void) {
 static void some(void) {
     for (size_t size = 0; size <= text_size; size++)
         for (size_t room = 0; room <= sizeof words + 9; room += room < 64 ? 1 : 7) {
-            uint8_t *in = at_end(0, size), *out = at_end(1, room), whole[sizeof words];
+            uint8_t *in = at_end(guarded[0], size), *out = at_end(guarded[1], room), whole[sizeof words];
             capn_report r, all;
             memcpy(in, text, size);
             memset(out, 0xAA, room);
@@ -170,10 +155,7 @@ static void loops(void) {
 
 int main(int count, char **args) {
     if (count != 2) return 2;
-    for (int i = 0; i < 2; i++) {
-        guarded[i] = mmap(NULL, PAGE * (PAGES + 1), PROT_READ | PROT_WRITE, MAP_PRIVATE | MAP_ANONYMOUS, -1, 0);
-        if (guarded[i] == MAP_FAILED || mprotect(guarded[i] + PAGE * PAGES, PAGE, PROT_NONE)) return 2;
-    }
+    for (int i = 0; i < 2; i++) guarded[i] = between_pages();
     texts(args[1]);
     beginnings();
     refused();

@@ -1,20 +1,8 @@
 /* The figures of messages: by hand, and against the other calls; what is refused; at any address, beside a page that can't
  * be touched. */
-#include "capn.h"
-#include <stdio.h>
-#include <string.h>
-#include <sys/mman.h>
+#define TEST "survey"
+#include "wanted.h"
 
-static int failed;
-
-static void want(const char *what, uint64_t got, uint64_t wanted) {
-    if (got == wanted) return;
-    failed++;
-    printf("survey: %s: %llu, wanted %llu\n", what, (unsigned long long)got, (unsigned long long)wanted);
-}
-
-static const capn_limits usual = CAPN_USUAL_LIMITS;
-enum { PAGE = 4096, PAGES = 8 };
 static uint8_t *guarded;
 
 /* The figures of words, read bare, after the table of one segment, and after that of three, the others without words: they
@@ -22,7 +10,7 @@ static uint8_t *guarded;
 static void figures(const char *what, const uint64_t *words, uint32_t count, capn_figures wanted) {
     for (uint32_t segments = 0; segments <= 3; segments += segments == 0 ? 1 : 2) {
         size_t table = segments == 0 ? 0 : 8 * (segments / 2 + 1), size = table + 8 * count;
-        uint8_t *in = guarded + PAGE * PAGES - size;
+        uint8_t *in = at_end(guarded, size);
         memset(in, 0, table);
         if (segments) {
             in[0] = (uint8_t)(segments - 1);
@@ -82,8 +70,7 @@ static void refused(const char *what, uint32_t form, const void *bytes, size_t s
 }
 
 int main(void) {
-    guarded = mmap(NULL, PAGE * (PAGES + 1), PROT_READ | PROT_WRITE, MAP_PRIVATE | MAP_ANONYMOUS, -1, 0);
-    if (guarded == MAP_FAILED || mprotect(guarded + PAGE * PAGES, PAGE, PROT_NONE)) return 2;
+    guarded = between_pages();
     const uint64_t null[] = {0}, number[] = {1ull << 32, 5}, zero[] = {1ull << 32, 0}, spare[] = {0, 7};
     const uint64_t two[] = {1ull << 48, 1ull << 32, 5}, holds[] = {2ull << 48, 3 | 8ull << 32, 3 | 9ull << 32};
     const uint64_t three[] = {2ull << 48, 4, 1ull << 48, 1ull << 32, 5};

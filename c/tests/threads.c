@@ -5,7 +5,11 @@
 #include <stdio.h>
 #include <string.h>
 
-enum { THREADS = 4, ROUNDS = 100, DEPTH = 200, WORDS = 2 * DEPTH, ROOM = 16 * WORDS, CALLS = 13 };
+#ifndef THREADS
+#define THREADS 4
+#define ROUNDS 100
+#endif
+enum { DEPTH = 200, WORDS = 2 * DEPTH, ROOM = 16 * WORDS, CALLS = 13 };
 static const capn_limits limits = {1u << 20, 1u << 20, 256, CAPN_STRICT};
 /* Structs of two pointers, each in the one before: as a stream of two segments, and packed. */
 static uint8_t stream[16 + 8 * WORDS], packed[10 * (WORDS + 2)];

@@ -110,6 +110,16 @@ def _filled(call: Callable[[Any, int, Any], int], room: int, of_words: bool = Fa
     return answer
 
 
+def _told(call: Callable[..., int], data: ReadableBuffer, form: str, limits: Limits, *out: Any) -> None:
+    """A call on one message, with the buffer that it writes into, if there is one."""
+    number, given, bounds = _taken(data, form, limits)
+    report = _report()
+    status = call(number, given, len(given), bounds, *out, report)
+    if status != lib.CAPN_OK:
+        raise failure(status, report)
+    _reports.append(report)
+
+
 def check(
     data: ReadableBuffer, form: Literal["stream", "packed", "bare"] = "stream", limits: Limits = _USUAL
 ) -> Checked:
@@ -130,12 +140,8 @@ def survey(
     """What one message has and costs, within limits."""
     if form == "packed":
         data, form = unpack(data, _laid_out(limits).message_words + 2049), "stream"
-    number, given, bounds = _taken(data, form, limits)
-    report, figures = _report(), _new(_figures_type)
-    status = lib.capn_survey(number, given, len(given), bounds, figures, report)
-    if status != lib.CAPN_OK:
-        raise failure(status, report)
-    _reports.append(report)
+    figures = _new(_figures_type)
+    _told(lib.capn_survey, data, form, limits, figures)
     capability = figures.capability if figures.has_capability else None
     return Surveyed(
         figures.words, figures.segments, figures.paid, figures.visits, figures.depth, capability,
@@ -168,12 +174,8 @@ def digest(
     data: ReadableBuffer, form: Literal["stream", "packed", "bare"] = "stream", limits: Limits = _USUAL
 ) -> bytes:
     """The SHA-256 of the canonical bytes of one message, 32 bytes."""
-    number, given, bounds = _taken(data, form, limits)
-    report, out = _report(), _new(_digest_type)
-    status = lib.capn_hash(number, given, len(given), bounds, out, report)
-    if status != lib.CAPN_OK:
-        raise failure(status, report)
-    _reports.append(report)
+    out = _new(_digest_type)
+    _told(lib.capn_hash, data, form, limits, out)
     return bytes(ffi.buffer(out))
 
 

@@ -25,6 +25,8 @@ _KINDS = {
     lib.CAPN_KIND_ROWS: "rows",
     lib.CAPN_KIND_CAPABILITY: "capability",
 }
+# The entries for which there is room at once; if there are more, the library says how many.
+_FEW = 64
 # The format of a number, and its bytes.
 _NUMBERS = {"bytes": ("B", 1), "u16": ("H", 2), "u32": ("I", 4), "u64": ("Q", 8)}
 
@@ -252,9 +254,9 @@ class Message:
 def read(
     data: ReadableBuffer, form: Literal["stream", "packed", "bare"] = "stream", limits: Limits = _USUAL
 ) -> Message:
-    """One message within limits, to be read in place: an index is made of it in one pass, and what is read follows no
-    pointer. A packed message is unpacked first. An index takes 24 bytes for each slot, at most one more than words were
-    paid."""
+    """One message within limits, to be read in place: an index is made of it, and what is read follows no pointer. A
+    packed message is unpacked first. An index takes 24 bytes for each slot, and as many more while it is made; there is
+    at most one slot more than words were paid."""
     bounds = _laid_out(limits)
     if _form(form) == lib.CAPN_PACKED:
         data, form = unpack(data, limits.message_words + 2049), "stream"
@@ -262,7 +264,7 @@ def read(
     view = memoryview(data)
     bytes_of = view.cast("B") if view.c_contiguous else memoryview(view.tobytes())
     given, report = ffi.from_buffer(bytes_of), ffi.new(_report_type)
-    room = len(bytes_of) // 8 + 1
+    room = _FEW
     while True:
         entries = ffi.new(_entries_type, room)
         status = lib.capn_index(number, given, len(given), bounds, entries, room, report)

@@ -1,13 +1,13 @@
 -- Which messages are accepted at depth 0, and that a message that is refused is not accepted.
-use Rattle.std.proofs.Common.{◌≡◌, inl, inr, ℕ, zero, suc, ◌<◌, List, length, Result, Ok, Err, refl, arith}
+use Rattle.std.proofs.Common.{◌≡◌, inl, inr, ℕ, ◌<◌, List, length, Result, Ok, Err, refl, arith}
 use Rattle.capn_words.specs.Message.{segment_at}
 use Rattle.capn_words.specs.declared.space.Place.{Place}
 use Rattle.capn_value.specs.Sizes.{base}
-use Rattle.capn_walk.specs.Accepted.{IsAccepted, IsRefused, number_of_visits, visits_within}
+use Rattle.capn_walk.specs.Accepted.{IsAccepted, IsRefused, visits_within}
 use Rattle.capn_walk.specs.Limits.{Bounds}
 use Rattle.capn_walk.specs.Stops.{IsWithin, root, root_visits, visits_at_root}
 use Rattle.capn_walk.specs.Target.{target}
-use Rattle.capn_walk.specs.Visits.{Visit, last_visit, visit, visits}
+use Rattle.capn_walk.specs.Visits.{last_visit, visits}
 use Rattle.capn_walk.specs.Laws.Stops.{never-both}
 use Rattle.capn_walk.specs.declared.target.Fault.{Fault}
 use Rattle.capn_walk.specs.declared.target.Target.{Target}
@@ -33,38 +33,6 @@ pub null_only : (m : List (List ℕ)) (limits : Bounds) → IsAccepted m (at_dep
     → target m root ≡ Ok targets.Nil
 unfolding root_visits visits
 null_only m limits a = only_by m (base limits.tariff) limits.budget (target m root) a.within
-
-last_some : (m : List (List ℕ)) (b : ℕ) (at : Place) (r : Result Target Fault) → 0 < length (last_visit m b at r)
-last_some m b at (Ok targets.Nil) = omega arith
-last_some m b at (Ok (targets.Cap k)) = omega arith
-last_some m b at (Ok (targets.Content s start shape pads)) = omega arith
-last_some m b at (Err e) = omega arith
-
-visit_some : (m : List (List ℕ)) (b : ℕ) (below : Place → List Visit) (at : Place) (r : Result Target Fault)
-    → 0 < length (visit m b below at r)
-visit_some m b below at (Ok targets.Nil) = omega arith
-visit_some m b below at (Ok (targets.Cap k)) = omega arith
-visit_some m b below at (Ok (targets.Content s start shape pads)) = omega arith
-visit_some m b below at (Err e) = omega arith
-
-visits_some : (m : List (List ℕ)) (b d : ℕ) (at : Place) → 0 < length (visits m b d at)
-unfolding visits
-visits_some m b zero at = last_some m b at (target m at)
-visits_some m b (suc d) at = visit_some m b (visits m b d) at (target m at)
-
-root_some : (m : List (List ℕ)) (b : ℕ) (r : Result Target Fault) (vs : List Visit) → 0 < length vs
-    → 0 < length (visits_at_root m b r vs)
-root_some m b (Ok targets.Nil) vs h = h
-root_some m b (Ok (targets.Cap k)) vs h = omega arith
-root_some m b (Ok (targets.Content s start shape pads)) vs h = h
-root_some m b (Err e) vs h = h
-
--- a walk makes a visit
-pub some_visit : (m : List (List ℕ)) (limits : Bounds) → 0 < number_of_visits m limits
-unfolding root_visits
-some_visit m limits =
-    let b = base limits.tariff in
-    root_some m b (target m root) (visits m b limits.depth root) (visits_some m b limits.depth root)
 
 -- what is refused is not accepted
 pub refused_not : (m : List (List ℕ)) (limits : Bounds) (e : Fault) (at : Place) (p k : ℕ)

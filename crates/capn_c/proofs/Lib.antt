@@ -1,3 +1,4 @@
+pub mod Counted
 pub mod Delivered
 pub mod Depths
 pub mod Entered
@@ -7,4 +8,5 @@ pub mod Listed
 pub mod Named
 pub mod OneBare
 pub mod OutOfMemory
+pub mod Placed
 pub mod Unpacked

@@ -59,3 +59,10 @@ pub record IndexedIn (form : Form) (bs : List ℕ) (limits : Bounds) (old new : 
   pub accepted : IsAccepted message limits
   pub entries : new ≡ c_index (table_length form message) message limits
       ++ drop (length (index_of message limits)) old
+
+-- the bytes are read as an accepted message, whose index has so many entries
+pub record HasEntries (form : Form) (bs : List ℕ) (limits : Bounds) (count : ℕ) : Type 0 where
+  pub message : List (List ℕ)
+  pub reads : Reads form bs limits.message_words message
+  pub accepted : IsAccepted message limits
+  pub each : count ≡ length (index_of message limits)

@@ -4,4 +4,5 @@ pub mod Entries
 pub mod Figures
 pub mod Framed
 pub mod Needed
+pub mod Offsets
 pub mod Pieces

@@ -1,6 +1,6 @@
 //! Indexes of messages.
 
-ghost use Rattle.std.specs.Prelude.{IsTrue, ◌≡◌, ◌≢◌, ◌⊎◌, ◌↔◌, ◌<◌, ◌≤◌, ◌*◌, ◌++◌, length, drop, false};
+ghost use Rattle.std.specs.Prelude.{IsTrue, ◌≡◌, ◌≢◌, ◌⊎◌, ◌↔◌, ◌<◌, ◌≤◌, ◌*◌, ◌++◌, ℕ, length, drop, false};
 ghost use Rattle.capn_value.specs.Tree.{Tree as Value};
 ghost use Rattle.capn_walk.specs.Accepted.{IsAccepted, IsBounded};
 ghost use Rattle.capn_walk.specs.Index.{index_of};
@@ -13,7 +13,7 @@ ghost use Rattle.capn_canon.specs.declared.form.Form.TheVariants as forms;
 ghost use Rattle.capn_canon.specs.declared.refusal.Refusal.{Refusal as Refusals};
 ghost use Rattle.capn_c.specs.Calls.{form_named, GiveLimits, IsTariff, bounds_of};
 ghost use Rattle.capn_c.specs.Codes.{Tells, answered, at_number, is_status};
-ghost use Rattle.capn_c.specs.Entries.{IndexedIn, c_index};
+ghost use Rattle.capn_c.specs.Entries.{HasEntries, IndexedIn, c_index};
 ghost use Rattle.capn_c.specs.Figures.{IsFlat};
 
 use crate::codes::{BAD_FORM, DONE, NO_ROOM, refuse};
@@ -23,6 +23,7 @@ use crate::needed::head_of;
 use crate::report::{CapnReport, answer_of, report_at};
 use capn_canon::{Form, Refusal, account};
 use capn_stream::first;
+use capn_walk::laws::indexes;
 use capn_walk::{Entry, Limits, Surveyed, index_into};
 use capn_words::{Bare, Space};
 use std::alloc::Global;
@@ -148,11 +149,13 @@ fn index_in(
     ensures only { (v : Value) → Denotes form bytes.now limits v → (result ≤ 1) ⊎ (result ≡ 8) }
     ensures listed { IsTrue (is_status result) }
     ensures refused { 8 ≤ result → (e : Refusals) × Tells result report.new e × IsUnacceptedIn form bytes.now limits e }
+    ensures entries { result ≤ 1 → HasEntries form bytes.now limits report.new.visits }
     ensures wanted { result ≡ 8 → MayWantMemory form bytes.now limits
-        ⊎ ((0 < length out.old) × (v : Value) × Denotes form bytes.now limits v) }
+        ⊎ ((n : ℕ) × HasEntries form bytes.now limits n × (n ≤ length out.old)) }
     ensures bounded { IsBounded limits.budget report.new.paid report.new.visits }
     ensures kept { result ≢ 0 → out.new ≡ out.old }
 {
+    indexes();
     match account(alloc, form, bytes, limits) {
         Ok(surveyed) => {
             *report = report_of_index(surveyed);
@@ -192,6 +195,9 @@ pub extern "C" fn capn_index(
     // The bytes are an accepted message; the report tells how many entries its index has, and what its walk pays.
     ensures counted { result ≤ 1 → (s : Survey) × Surveys (form_named form) bytes.now (bounds_of limits.now) s
         × (report.new ≡ answered (24 * s.visits) s.paid s.visits) }
+    // That number is the one of all entries of the index, whether they have room or not.
+    ensures entries { result ≤ 1
+        → HasEntries (form_named form) bytes.now (bounds_of limits.now) report.new.visits }
     // The index stands in the room, or has no room.
     ensures written { result ≡ 0 → (report.new.visits ≤ length out.old)
         × IndexedIn (form_named form) bytes.now (bounds_of limits.now) out.old out.new }
@@ -204,9 +210,9 @@ pub extern "C" fn capn_index(
     // What each refusal means, and that no other is told so.
     ensures refused { 5 ≤ result → (e : Refusals) × Tells result report.new e
         × IsUnacceptedIn (form_named form) bytes.now (bounds_of limits.now) e }
-    // Memory is wanted only where `capn_check` may want it, and for the entries of a message that is accepted.
+    // Memory is wanted only where `capn_check` may want it, and for an index that has room.
     ensures wanted { result ≡ 8 → MayWantMemory (form_named form) bytes.now (bounds_of limits.now)
-        ⊎ ((0 < length out.old) × (v : Value) × Denotes (form_named form) bytes.now (bounds_of limits.now) v) }
+        ⊎ ((n : ℕ) × HasEntries (form_named form) bytes.now (bounds_of limits.now) n × (n ≤ length out.old)) }
     // No walk pays beyond its budget.
     ensures bounded { IsBounded limits.now.budget report.new.paid report.new.visits }
     // Where nothing is written, the room is as it was.

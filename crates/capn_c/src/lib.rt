@@ -14,6 +14,7 @@ mod figures;
 mod framing;
 mod hashing;
 mod indexing;
+pub mod laws;
 mod limits;
 mod measuring;
 mod needed;

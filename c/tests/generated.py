@@ -1,0 +1,27 @@
+"""Writes calls, as c/tests/vectors answers them, for a thousand messages as `interop/generated` makes them, from a fixed
+seed, most of them hostile or changed, and for the hostile inputs of `interop/hostile`."""
+import random
+from importlib.machinery import SourceFileLoader
+from importlib.util import module_from_spec, spec_from_loader
+from pathlib import Path
+
+INTEROP = Path(__file__).resolve().parents[2] / "interop"
+
+
+def script(name):
+    """A program of the folder `interop`, as a module."""
+    spec = spec_from_loader(name, SourceFileLoader(name, str(INTEROP / name)))
+    module = module_from_spec(spec)
+    spec.loader.exec_module(module)
+    return module
+
+
+def main():
+    generated, source = script("generated"), random.Random(46)
+    messages = [("stream", b"".join(generated.pieces(generated.message(source)))) for _ in range(1000)]
+    for form, data in messages + [(form, data) for _, data, form in script("hostile").INPUTS]:
+        for call in "canonicalise", "survey":
+            print(call, form, "8388608 8388608 64", data.hex())
+
+
+main()

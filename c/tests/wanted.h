@@ -1,0 +1,32 @@
+/* What the programs of this folder share: what is wanted, the usual limits, pages between two that can't be touched.
+ * TEST is the name of the program. */
+#ifndef CAPN_TESTS_WANTED_H
+#define CAPN_TESTS_WANTED_H
+#include "capn.h"
+#include <stdio.h>
+#include <stdlib.h>
+#include <string.h>
+#include <sys/mman.h>
+
+static int failed;
+
+static void want(const char *what, uint64_t got, uint64_t wanted) {
+    if (got == wanted) return;
+    failed++;
+    printf("%s: %s: %llu, wanted %llu\n", TEST, what, (unsigned long long)got, (unsigned long long)wanted);
+}
+
+static const capn_limits usual = CAPN_USUAL_LIMITS;
+
+enum { PAGE = 4096, PAGES = 24, ALL_PAGES = PAGE * PAGES };
+
+/* So many bytes: all of these pages. */
+static uint8_t *between_pages(void) {
+    uint8_t *all = mmap(NULL, ALL_PAGES + 2 * PAGE, PROT_NONE, MAP_PRIVATE | MAP_ANONYMOUS, -1, 0);
+    if (all == MAP_FAILED || mprotect(all + PAGE, ALL_PAGES, PROT_READ | PROT_WRITE)) exit(2);
+    return all + PAGE;
+}
+
+/* The last so many of them. */
+static uint8_t *at_end(uint8_t *pages, size_t size) { return pages + ALL_PAGES - size; }
+#endif

@@ -1,0 +1,41 @@
+-- The index of a message has as many entries as its walk makes visits.
+use Rattle.std.proofs.Common.{◌≡◌, ℕ, ◌*◌, List, length, map, Ok, ap, sym, subst, arith}
+use Rattle.std.proofs.lemmas.List.{length-map}
+use Rattle.capn_walk.specs.Accepted.{number_of_visits, visits_within}
+use Rattle.capn_walk.specs.Index.{IndexesFollowVisits, entry_target, index_of, kept_of, place_of}
+use Rattle.capn_walk.specs.Limits.{Bounds}
+use Rattle.capn_walk.specs.Target.{target}
+use Rattle.capn_walk.specs.Visits.{Visit}
+use Rattle.capn_walk.specs.declared.entry.Entry.{Entry}
+use Rattle.capn_walk.specs.declared.surveyed.Surveyed.{Surveyed}
+use Rattle.capn_canon.specs.Surveys.{Surveys}
+use Rattle.capn_canon.specs.declared.form.Form.{Form}
+use Rattle.capn_c.specs.Codes.{answered}
+use Rattle.capn_c.specs.Entries.{HasEntries}
+use Rattle.capn_c.specs.declared.report.CapnReport.{CapnReport}
+
+same_number : {A B C : Type 0} (f : A → C) (g : B → C) (xs : List A) (ys : List B) → map f xs ≡ map g ys
+    → length xs ≡ length ys
+same_number f g xs ys e = omega (arith, ap length e, length-map xs f, length-map ys g)
+
+pub entries_of_survey : IndexesFollowVisits → (form : Form) (bs : List ℕ) (limits : Bounds) (s : Surveyed)
+    → Surveys form bs limits s → HasEntries form bs limits s.visits
+entries_of_survey law form bs limits s h =
+    let m = h.message in
+    let a = h.survey.is.accepted in
+    let each : length (index_of m limits) ≡ number_of_visits m limits =
+    same_number (λ (e : Entry). Ok (entry_target e)) (λ (v : Visit). kept_of (target m (place_of v)))
+    (index_of m limits) (visits_within m limits) (law m limits a) in
+    record {
+      message = m;
+      reads = h.reads;
+      accepted = a;
+      each = omega (arith, h.survey.counts, each);
+    }
+
+-- and that number is the one of visits in its report
+pub entries_told : IndexesFollowVisits → (form : Form) (bs : List ℕ) (limits : Bounds) (s : Surveyed)
+    → Surveys form bs limits s → (r : CapnReport) → r ≡ answered (24 * s.visits) s.paid s.visits
+    → HasEntries form bs limits r.visits
+entries_told law form bs limits s h r e =
+    subst (λ (x : CapnReport). HasEntries form bs limits x.visits) (sym e) (entries_of_survey law form bs limits s h)
