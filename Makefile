@@ -54,16 +54,20 @@ test:
 bench:
 	cd crates/bench && rt run > /dev/null && ./out/bench times
 
-# The program and the library as it is called from C, Python and Rust, on every stored vector; the package for Python;
-# the guide's recipes; and where the reference implementation is installed: messages that it wrote, the lines of
-# docs/DIFFERENCES.md, and its table of hostile inputs. With the program that the gate builds, or with an installed one:
+# The program and the library as it is called from C, Python and Rust, on every stored vector; a million calls from C, and
+# calls in two threads; the guide's recipes, and the programs of the pages for C and Python; the package for Python; and
+# where the reference implementation is installed: messages that it wrote, the lines of docs/DIFFERENCES.md, and its table
+# of hostile inputs. With the program that the gate builds, or with an installed one:
 # make interop CAPN=/usr/local/bin/capn.
 interop: $(if $(CAPN),,program library)
 	./c/tests/agree
+	./c/tests/watched
 	./interop/recipes
+	./interop/callers
 	./interop/run
 	./interop/differences
 	@if command -v python3 > /dev/null; then ./interop/archives; else echo "archives: skipped, since there is no python3"; fi
+	./contrib/dask/run
 	@if command -v python3 > /dev/null; then ./python/tests/run && ./interop/hostile; \
 	else echo "python, hostile: skipped, since there is no python3"; fi
 

@@ -2,7 +2,7 @@
 _capn() {
     local word=${COMP_WORDS[COMP_CWORD]} before=${COMP_WORDS[COMP_CWORD - 1]} command=${COMP_WORDS[1]} words=
     if ((COMP_CWORD == 1)); then
-        mapfile -t COMPREPLY < <(compgen -W 'show check list limits canonical hash pack unpack make help --help' -- "$word")
+        mapfile -t COMPREPLY < <(compgen -W 'show check list limits canonical hash uniq pick pack unpack make help --help' -- "$word")
         return
     fi
     case "$command $before" in
@@ -36,18 +36,29 @@ _capn() {
         'hash --budget') words='' ;;
         'hash --depth') words='' ;;
         'hash --tariff') words='strict plain' ;;
+        'uniq --form') words='stream packed bare' ;;
+        'uniq --message-words') words='' ;;
+        'uniq --budget') words='' ;;
+        'uniq --depth') words='' ;;
+        'uniq --tariff') words='strict plain' ;;
+        'pick --form') words='stream packed' ;;
+        'pick --message-words') words='' ;;
+        'pick --from') words='' ;;
+        'pick --to') words='' ;;
         'unpack --message-words') words='' ;;
         'make --form') words='stream packed bare' ;;
         'show '*) words='--form --message-words --budget --depth --tariff --help' ;;
         'check '*) words='--form --message-words --budget --depth --tariff --help' ;;
-        'list '*) words='--form --message-words --budget --depth --tariff --keep-going --help' ;;
+        'list '*) words='--form --message-words --budget --depth --tariff --keep-going --digest --help' ;;
         'limits '*) words='--form --message-words --budget --depth --tariff --keep-going --help' ;;
         'canonical '*) words='--form --message-words --budget --depth --tariff --framed --keep-going --help' ;;
         'hash '*) words='--form --message-words --budget --depth --tariff --help' ;;
-        'pack '*) words='--help' ;;
-        'unpack '*) words='--message-words --help' ;;
+        'uniq '*) words='--form --message-words --budget --depth --tariff --keep-going --count --help' ;;
+        'pick '*) words='--form --message-words --from --to --help' ;;
+        'pack '*) words='--streaming --help' ;;
+        'unpack '*) words='--message-words --streaming --help' ;;
         'make '*) words='--form --help' ;;
-        'help '*) words='show check list limits canonical hash pack unpack make' ;;
+        'help '*) words='show check list limits canonical hash uniq pick pack unpack make' ;;
     esac
     mapfile -t COMPREPLY < <(compgen -W "$words" -- "$word")
 }

@@ -80,6 +80,25 @@ def unpacked(data):
     return bytes(out), None
 
 
+def packed(data):
+    """The packed text of whole words, of which no run ends before it has to."""
+    words, text, at = [data[begin:begin + 8] for begin in range(0, len(data), 8)], bytearray(), 0
+    while at < len(words):
+        word = words[at]
+        tag = sum(1 << bit for bit, byte in enumerate(word) if byte)
+        text += bytes([tag]) + word.replace(b"\0", b"")
+        at += 1
+        if tag in (0, 255):
+            zeros = range(8, 9) if tag == 0 else range(2)
+            begin = at
+            while at < len(words) and at - begin < 255 and words[at].count(0) in zeros:
+                at += 1
+            text.append(at - begin)
+            if tag == 255:
+                text += b"".join(words[begin:at])
+    return bytes(text)
+
+
 # Walks.
 
 
@@ -254,12 +273,13 @@ def canonical(value):
             return
         code = {"bits": 1, "bytes": 2, "u16": 3, "u32": 4, "u64": 5}[kind]
         pointer(at, to, 1, code | len(value[1]) << 3)
-        bits = WIDTH_BITS[code]
-        raw = 0
-        for i, item in enumerate(value[1]):
-            raw |= item << bits * i
-        size = -(-len(value[1]) * bits // 64)
-        out.extend(number(raw.to_bytes(8 * size, "little"), 8 * i, 8) for i in range(size))
+        if kind == "bits":
+            raw = bytes(sum(bit << i for i, bit in enumerate(value[1][first:first + 8]))
+                        for first in range(0, len(value[1]), 8))
+        else:
+            raw = b"".join(item.to_bytes(WIDTH_BITS[code] // 8, "little") for item in value[1])
+        raw += bytes(-len(raw) % 8)
+        out.extend(number(raw, i, 8) for i in range(0, len(raw), 8))
 
     lay(0, value)
     return b"".join(word.to_bytes(8, "little") for word in out)
@@ -322,16 +342,50 @@ def messages(data, form, most):
         at = end
 
 
-def run(task, data, form="stream", message_words=8388608, budget=8388608, depth=64, tariff="strict", keep_going=False):
-    """What a command over an archive writes, the line on standard error, and its exit status."""
+def line_of(fault):
+    """The line on standard error of a refusal, from its text, the number of its message and its offset."""
+    text, index, offset = fault
+    return f"capn: message {index} at {offset}: {text}\n"
+
+
+def digest(value):
+    return hashlib.sha256(canonical(value)).hexdigest()
+
+
+def listed(head, walk, segments, with_digest):
+    """The line of `list` for a message that is accepted, after what it begins with."""
+    is_free = walk.capability is None
+    own = is_free and len(segments) == 1 and canonical(walk.value) == segments[0]
+    end = f" sha256 {digest(walk.value) if is_free else '-'}" if with_digest else ""
+    return (f"{head} paid {walk.paid} visits {walk.visits} depth {walk.height}"
+            f" capability {'no' if is_free else walk.capability} canonical {'yes' if own else 'no'}{end}\n").encode()
+
+
+def needed(greatest, found, tariff):
+    """The lines of `limits`: the number of messages, and the greatest figures, each with the number of its message."""
+    most = 2**28
+    words, paid, deep = (greatest[name][0] for name in greatest)
+    lines = [f"messages {found}"]
+    lines += [f"{name} {figure} message {index}" for name, (figure, index) in greatest.items()]
+    end = " --tariff plain" if tariff == "plain" else ""
+    lines.append(f"use --message-words {min(most, max(1, 4 * words))} --budget {min(most, 4 * paid)}"
+                 f" --depth {min(256, max(1, 2 * deep))}{end}")
+    return "".join(f"{line}\n" for line in lines).encode()
+
+
+def run(task, data, form="stream", message_words=8388608, budget=8388608, depth=64, tariff="strict", keep_going=False,
+        with_digest=False, count=False):
+    """What a command over an archive writes, the line on standard error, and its exit status. The task is list, limits,
+    canonical or uniq; `with_digest` is for list, and `count` for uniq."""
     found, fault = messages(data, form, message_words)
     out, passed, greatest = [], [], {"message-words": (0, 0), "budget": (0, 0), "depth": (0, 0)}
+    kept = set()
     for index, (offset, frame, segments) in enumerate(found, 1):
         words = sum(map(len, segments)) // 8
         head = f"{index} at {offset} bytes {len(frame)} segments {len(segments)} words {words}"
         try:
             walk = Walk(segments, budget, depth, tariff)
-            if task == "canonical" and walk.capability is not None:
+            if task in ("canonical", "uniq") and walk.capability is not None:
                 raise Refused(f"capability {walk.capability}")
         except Refused as refused:
             if not keep_going:
@@ -342,30 +396,22 @@ def run(task, data, form="stream", message_words=8388608, budget=8388608, depth=
                 out.append(f"{head} refused {refused}\n".encode())
             continue
         if task == "list":
-            own = walk.capability is None and len(segments) == 1 and canonical(walk.value) == segments[0]
-            capability = "no" if walk.capability is None else walk.capability
-            out.append(
-                f"{head} paid {walk.paid} visits {walk.visits} depth {walk.height} capability {capability}"
-                f" canonical {'yes' if own else 'no'}\n".encode())
+            out.append(listed(head, walk, segments, with_digest))
         if task == "canonical":
             laid = canonical(walk.value)
             out.append(bytes(4) + (len(laid) // 8).to_bytes(4, "little") + laid)
+        if task == "uniq" and digest(walk.value) not in kept:
+            kept.add(digest(walk.value))
+            out.append(b"" if count else frame)
         for name, figure in [("message-words", words), ("budget", walk.paid), ("depth", walk.height)]:
             if not greatest[name][1] or figure > greatest[name][0]:
                 greatest[name] = (figure, index)
     if fault is not None:
-        text, index, offset = fault
-        return b"".join(out), f"capn: message {index} at {offset}: {text}\n", 1
+        return b"".join(out), line_of(fault), 1
     if task == "limits":
-        out.append(f"messages {len(found)}\n".encode())
-        for name, (figure, index) in greatest.items():
-            out.append(f"{name} {figure} message {index}\n".encode())
-        most = 2**28
-        words, paid, deep = (greatest[name][0] for name in greatest)
-        end = " --tariff plain" if tariff == "plain" else ""
-        out.append(
-            f"use --message-words {min(most, max(1, 4 * words))} --budget {min(most, 4 * paid)}"
-            f" --depth {min(256, max(1, 2 * deep))}{end}\n".encode())
+        out.append(needed(greatest, len(found), tariff))
+    if count:
+        out.append(f"{len(kept)} of {len(found) - len(passed)}\n".encode())
     if passed:
         index, offset = passed[0]
         line = f"capn: {len(passed)} of {len(found)} messages refused, the first is {index} at {offset}\n"
@@ -373,5 +419,27 @@ def run(task, data, form="stream", message_words=8388608, budget=8388608, depth=
     return b"".join(out), "", 0
 
 
-def digest(value):
-    return hashlib.sha256(canonical(value)).hexdigest()
+def pick(data, form="stream", message_words=8388608, first=1, last=2**64 - 1):
+    """What `pick` writes, from one number of a message to another, the line on standard error, and its exit status."""
+    if last < first:
+        return b"", "", 0
+    found, fault = messages(data, form, message_words)
+    out = b"".join(frame for _, frame, _ in found[first - 1:last])
+    if fault is None or len(found) >= last:
+        return out, "", 0
+    return out, line_of(fault), 1
+
+
+# Packing and unpacking in pieces.
+
+
+def pack_streaming(data):
+    """What `pack --streaming` writes, the line on standard error, and its exit status."""
+    text = packed(data[:len(data) // 8 * 8])
+    return (text, f"capn: NotWhole({len(data)})\n", 1) if len(data) % 8 else (text, "", 0)
+
+
+def unpack_streaming(data):
+    """What `unpack --streaming` writes, the line on standard error, and its exit status."""
+    words, cut_at = unpacked(data)
+    return (words, "", 0) if cut_at is None else (words, f"capn: packed: Cut at {cut_at}\n", 1)

@@ -1,14 +1,5 @@
-pub mod Sends
-pub mod More
-pub mod Next
-pub mod Added
-pub mod InputRead
-pub mod RunEnds
 pub mod Depths
 pub mod OneSegment
 pub mod Closings
-pub mod FormRuns
-pub mod WholeRead
-pub mod BareEnds
-pub mod PackedMore
-pub mod PackedEnds
+pub mod Finishes
+pub mod Sieves

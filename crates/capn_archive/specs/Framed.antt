@@ -1,8 +1,8 @@
 -- Canonical bytes as a frame of one segment. (Page: serialization over a stream; canonicalization.)
 use Rattle.std.specs.Prelude.{◌≡◌, ℕ, ◌/◌, List, ◌∷◌, ◌++◌, length, Result, Ok, Err}
 use Rattle.capn_stream.specs.Frames.{entry}
-use Rattle.capn_archive.specs.declared.fault.ServeFault.{ServeFault}
-use Rattle.capn_archive.specs.declared.fault.ServeFault.TheVariants as faults
+use Rattle.capn_serve.specs.declared.fault.ServeFault.{ServeFault}
+use Rattle.capn_serve.specs.declared.fault.ServeFault.TheVariants as faults
 
 -- the table of one segment of this number of words: four zero bytes, since there is no second segment, and the number
 abbrev pub head : ℕ → List ℕ

@@ -1,12 +1,13 @@
 -- The lines that are written of messages. (Own.)
 use Rattle.std.specs.Prelude.{ℕ, ◌+◌, ◌*◌, ◌^◌, min, max, List, ◌++◌, codes, Bool, true, false, Option, Some, None}
 use Rattle.std.specs.Fmt.{decimal}
+use Rattle.hex.specs.Hex.{encode_lower}
 use Rattle.capn_value.specs.declared.tariff.Tariff.{Tariff}
 use Rattle.capn_value.specs.declared.tariff.Tariff.TheVariants as tariffs
 use Rattle.capn_canon.specs.declared.refusal.Refusal.{Refusal}
 use Rattle.capn_canon.specs.Told.{refusal_text}
 use Rattle.capn_archive.specs.declared.head.Head.{Head}
-use Rattle.capn_archive.specs.declared.told.Told.{Told}
+use Rattle.capn_archive.specs.declared.findings.Findings.{Findings}
 use Rattle.capn_archive.specs.declared.tally.Greatest.{Greatest}
 use Rattle.capn_archive.specs.declared.needs.Needs.{Needs}
 
@@ -27,17 +28,28 @@ abbrev pub answer_text : Bool → List ℕ
 answer_text true = codes "yes"
 answer_text false = codes "no"
 
--- what is told of a message that is accepted
-abbrev pub told_text : Told → List ℕ
-told_text told =
-    codes "paid " ++ (decimal told.checked.paid ++ (codes " visits " ++ (decimal told.checked.visits
-    ++ (codes " depth " ++ (decimal told.depth ++ (codes " capability "
-    ++ (capability_text told.checked.capability ++ (codes " canonical "
-    ++ answer_text told.checked.is_canonical))))))))
+-- what is found of a message that is accepted
+abbrev pub findings_text : Findings → List ℕ
+findings_text findings =
+    codes "paid " ++ (decimal findings.checked.paid ++ (codes " visits " ++ (decimal findings.checked.visits
+    ++ (codes " depth " ++ (decimal findings.depth ++ (codes " capability "
+    ++ (capability_text findings.checked.capability ++ (codes " canonical "
+    ++ answer_text findings.checked.is_canonical))))))))
 
 -- the line of a message that is accepted
-abbrev pub list_line : Head → Told → List ℕ
-list_line head told = head_text head ++ (codes " " ++ (told_text told ++ codes "\n"))
+abbrev pub list_line : Head → Findings → List ℕ
+list_line head findings = head_text head ++ (codes " " ++ (findings_text findings ++ codes "\n"))
+
+-- the digest of a message in 64 hexadecimal digits, or that there is none
+abbrev pub digest_text : Option (List ℕ) → List ℕ
+digest_text (Some digest) = encode_lower digest
+digest_text None = codes "-"
+
+-- the line of a message that is accepted, with its digest
+abbrev pub digests_line : Head → Findings → Option (List ℕ) → List ℕ
+digests_line head findings digest =
+    head_text head ++ (codes " " ++ (findings_text findings ++ (codes " sha256 " ++ (digest_text digest
+    ++ codes "\n"))))
 
 -- the line of a message that is passed over
 abbrev pub refused_line : Head → Refusal → List ℕ

@@ -1,4 +1,4 @@
--- What is told of a message: where it is and how large, and what it costs to read. (Own.)
+-- What is found of a message: where it is and how large, and what it costs to read. (Own.)
 use Rattle.std.specs.Prelude.{◌≡◌, ◌↔◌, ℕ, List, [], ◌∷◌, length, None}
 use Rattle.std.specs.Bool.{IsTrue}
 use Rattle.capn_words.specs.Message.{total}
@@ -9,9 +9,9 @@ use Rattle.capn_walk.specs.Limits.{Bounds}
 use Rattle.capn_walk.specs.Accepted.{IsValueOf, paid, number_of_visits}
 use Rattle.capn_canon.specs.Layout.{canon}
 use Rattle.capn_canon.specs.declared.checked.Checked.{Checked}
-use Rattle.capn_archive.specs.declared.position.Position.{Position}
+use Rattle.capn_serve.specs.declared.position.Position.{Position}
 use Rattle.capn_archive.specs.declared.head.Head.{Head}
-use Rattle.capn_archive.specs.declared.told.Told.{Told}
+use Rattle.capn_archive.specs.declared.findings.Findings.{Findings}
 use Rattle.capn_archive.specs.Depth.{IsDepth}
 
 -- where the message is, the bytes of its frame, its segments, and the words of its contents in all
@@ -39,6 +39,6 @@ pub record IsChecked (message : List (List ℕ)) (limits : Bounds) (c : Checked)
   pub answer : IsTrue c.is_canonical ↔ IsCanonical message value
 
 -- the same, and how deep the message is
-pub record IsTold (message : List (List ℕ)) (limits : Bounds) (told : Told) : Type 0 where
-  pub checked : IsChecked message limits told.checked
-  pub depth : IsDepth message limits told.depth
+pub record AreFindings (message : List (List ℕ)) (limits : Bounds) (findings : Findings) : Type 0 where
+  pub checked : IsChecked message limits findings.checked
+  pub depth : IsDepth message limits findings.depth

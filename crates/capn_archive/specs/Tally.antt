@@ -1,6 +1,6 @@
 -- What a run keeps of the messages that it has served. (Own.)
 use Rattle.std.specs.Prelude.{ℕ, ◌+◌, ◌-◌, ◌^◌, min, nat_lt, if◌then◌else◌, Option, Some, None}
-use Rattle.capn_archive.specs.declared.position.Position.{Position}
+use Rattle.capn_serve.specs.declared.position.Position.{Position}
 use Rattle.capn_archive.specs.declared.tally.Greatest.{Greatest}
 use Rattle.capn_archive.specs.declared.tally.Skipped.{Skipped}
 use Rattle.capn_archive.specs.declared.tally.Tally.{Tally}
@@ -10,7 +10,7 @@ abbrev pub greater : Option Greatest → ℕ → ℕ → Greatest
 greater None amount index = record { amount = amount; index = index }
 greater (Some g) amount index = if nat_lt g.amount amount then record { amount = amount; index = index } else g
 
--- one more message is passed over, of which the first is told; no count passes 2^64 - 1
+-- one more message is passed over, of which the first is kept; no count passes 2^64 - 1
 abbrev pub one_more : Option Skipped → Position → Skipped
 one_more None at = record { count = 1; first = at }
 one_more (Some s) at = record { count = min (s.count + 1) (2 ^ 64 - 1); first = s.first }

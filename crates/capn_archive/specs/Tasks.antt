@@ -1,5 +1,6 @@
 -- What each task writes of a message and keeps of it, and when it refuses it. (Own.)
-use Rattle.std.specs.Prelude.{◌≡◌, ◌≢◌, ◌⊎◌, ℕ, List, [], ◌++◌, true, false, Result, Ok, Err, ⊤}
+use Rattle.std.specs.Prelude.{◌≡◌, ◌≢◌, ◌⊎◌, ℕ, List, [], ◌++◌, true, false, Option, Result, Ok, Err}
+use Rattle.std.specs.Prelude.{⊤}
 use Rattle.capn_words.specs.Message.{total}
 use Rattle.capn_walk.specs.Limits.{Bounds}
 use Rattle.capn_walk.specs.Accepted.{IsAccepted, paid}
@@ -7,19 +8,20 @@ use Rattle.capn_canon.specs.Denotes.{AnswersMessage}
 use Rattle.capn_canon.specs.Refused.{IsRefusedMessage, IsUnaccepted}
 use Rattle.capn_canon.specs.declared.refusal.Refusal.{Refusal}
 use Rattle.capn_canon.specs.declared.refusal.Refusal.TheVariants as refusals
-use Rattle.capn_archive.specs.declared.position.Position.{Position}
-use Rattle.capn_archive.specs.declared.fault.ServeFault.{ServeFault}
-use Rattle.capn_archive.specs.declared.fault.ServeFault.TheVariants as faults
+use Rattle.capn_serve.specs.declared.position.Position.{Position}
+use Rattle.capn_serve.specs.declared.fault.ServeFault.{ServeFault}
+use Rattle.capn_serve.specs.declared.fault.ServeFault.TheVariants as faults
 use Rattle.capn_archive.specs.declared.order.Task.{Task}
 use Rattle.capn_archive.specs.declared.order.Task.TheVariants as tasks
 use Rattle.capn_archive.specs.declared.order.Archive.{Archive}
-use Rattle.capn_archive.specs.declared.told.Told.{Told}
+use Rattle.capn_archive.specs.declared.findings.Findings.{Findings}
 use Rattle.capn_archive.specs.declared.tally.Tally.{Tally}
 use Rattle.capn_archive.specs.declared.archivist.Archivist.{Archivist}
 use Rattle.capn_archive.specs.Framed.{framed}
 use Rattle.capn_archive.specs.Depth.{IsDepth}
-use Rattle.capn_archive.specs.Message.{head_of, IsTold}
-use Rattle.capn_archive.specs.Lines.{list_line, refused_line}
+use Rattle.capn_archive.specs.Message.{head_of, AreFindings}
+use Rattle.capn_archive.specs.Digest.{IsDigestIfAny}
+use Rattle.capn_archive.specs.Lines.{digests_line, list_line, refused_line}
 use Rattle.capn_archive.specs.Tally.{counted, skipped}
 
 -- what is found; or why it is not, by a property of the reason, unless memory was refused
@@ -31,15 +33,20 @@ Finds is isn't (Err (faults.Refused r)) = isn't r × (r ≢ refusals.Memory)
 -- a message is refused: by its walk, and where its canonical bytes are needed, also for a capability
 abbrev pub IsRefusedBy : Task → List (List ℕ) → Bounds → Refusal → Type 0
 IsRefusedBy tasks.List message limits r = IsUnaccepted message limits r × (r ≢ refusals.Memory)
+IsRefusedBy tasks.Digests message limits r = IsUnaccepted message limits r × (r ≢ refusals.Memory)
 IsRefusedBy tasks.Limits message limits r = IsUnaccepted message limits r × (r ≢ refusals.Memory)
 IsRefusedBy tasks.Canonical message limits r = IsRefusedMessage message limits r × (r ≢ refusals.Memory)
 
--- What a message that is not refused writes, and the tally after it: the line of what is told of it; the frame of its
--- canonical bytes; or nothing, but it is counted.
+-- What a message that is not refused writes, and the tally after it: the line of what is found of it; the same with its
+-- digest; the frame of its canonical bytes; or nothing, but it is counted.
 abbrev pub IsServedBy : Task → Bounds → Tally → Position → List ℕ → List (List ℕ) → List ℕ → Tally → Type 0
 IsServedBy tasks.List limits tally at frame message text tally_after =
-    (told : Told) × IsTold message limits told × (text ≡ list_line (head_of at frame message) told)
-    × (tally_after ≡ tally)
+    (findings : Findings) × AreFindings message limits findings
+    × (text ≡ list_line (head_of at frame message) findings) × (tally_after ≡ tally)
+IsServedBy tasks.Digests limits tally at frame message text tally_after =
+    (findings : Findings) × (digest : Option (List ℕ)) × AreFindings message limits findings
+    × IsDigestIfAny message limits digest
+    × (text ≡ digests_line (head_of at frame message) findings digest) × (tally_after ≡ tally)
 IsServedBy tasks.Canonical limits tally at frame message text tally_after =
     (answer : List ℕ) × (price : ℕ) × AnswersMessage message limits answer price × (text ≡ framed answer)
     × (tally_after ≡ tally)
@@ -50,6 +57,7 @@ IsServedBy tasks.Limits limits tally at frame message text tally_after =
 -- what a message that is passed over writes: its line, or nothing
 abbrev pub skipped_text : Task → Position → List ℕ → List (List ℕ) → Refusal → List ℕ
 skipped_text tasks.List at frame message r = refused_line (head_of at frame message) r
+skipped_text tasks.Digests at frame message r = refused_line (head_of at frame message) r
 skipped_text tasks.Limits at frame message r = []
 skipped_text tasks.Canonical at frame message r = []
 

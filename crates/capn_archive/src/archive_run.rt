@@ -4,19 +4,14 @@ ghost use Rattle.std.specs.Prelude.{◌≡◌, false};
 ghost use Rattle.capn_words.specs.Watching.{inner_of, has_failed};
 ghost use Rattle.capn_archive.specs.Archived as spec;
 ghost use Rattle.capn_archive.specs.Archived.{Archived};
-ghost use Rattle.capn_archive.specs.Closing.{ServesMessages};
+ghost use Rattle.capn_serve.specs.FormRun.{ServesMessages};
 
 use crate::archivist::Archivist;
-use crate::bare_run::run_bare;
 use crate::closing::{fault_of, outcome, write_closing};
-use crate::fault::{ArchiveFault, RunFault};
+use crate::fault::ArchiveFault;
 use crate::order::Archive;
-use crate::packed_run::run_packed;
-use crate::position::Position;
-use crate::service::Run;
-use crate::stream_run::run_stream;
 use crate::tally::no_tally;
-use capn_canon::Form;
+use capn_serve::{Position, Run, RunFault, serve_form};
 use capn_words::Watched;
 use std::alloc::Allocator;
 use std::io::{Read, Write};
@@ -48,26 +43,23 @@ fn serve_messages<R: Read, W: Write, A: Allocator + Copy>(
     requires fresh { run.old ≡ spec.first_run order.now }
     requires reader_fine { has_failed reader.old ≡ false }
     requires writer_fine { has_failed writer.old ≡ false }
-    ensures { ServesMessages order.now order.now.form (R.remaining (inner_of reader.old))
+    ensures { ServesMessages (spec.archive_fold order.now) (spec.first_run order.now) order.now.form
+        (R.remaining (inner_of reader.old))
         (R.remaining (inner_of reader.new))
         (W.contents (inner_of writer.old)) (W.contents (inner_of writer.new)) (has_failed reader.new)
         (has_failed writer.new) result run.new }
 {
     let most = order.limits.message_words();
-    match order.form {
-        Form::Stream => run_stream(alloc, most, u64::MAX, run, reader, writer),
-        Form::Packed => run_packed(alloc, most, u64::MAX, run, reader, writer),
-        Form::Bare => run_bare(alloc, run, reader, writer),
-    }
+    serve_form(alloc, order.form, most, run, reader, writer)
 }
 
 /// Reads the messages of an archive, and writes what its task says: of each message, and at the end.
 ///
-/// It reads as [`run_stream`], [`run_packed`] and [`run_bare`] do, with no lower limit of bytes. The run ends as done;
-/// as `PassedOver` after all of its input, if messages were passed over; or with the first fault: a frame, a group or
-/// a message that is refused, at its position; `InputTooLong`; `Io` exactly if the reader or the writer failed;
-/// `Memory` if a growth was refused. The texts of the messages before a fault have been written, and nothing after
-/// these. It holds what its loop holds, the canonical bytes of one message, and a tally.
+/// It reads as [`serve_form`] does. The run ends as done; as `PassedOver` after all of its input, if messages were
+/// passed over; or with the first fault: a frame, a group or a message that is refused, at its position;
+/// `InputTooLong`; `Io` exactly if the reader or the writer failed; `Memory` if a growth was refused. The texts of the
+/// messages before a fault have been written, and nothing after these. It holds what its loop holds, the canonical
+/// bytes of one message, and a tally.
 pub fn run_archive<R: Read, W: Write, A: Allocator + Copy>(
     alloc: A,
     order: Archive,
@@ -83,7 +75,7 @@ pub fn run_archive<R: Read, W: Write, A: Allocator + Copy>(
     let mut run = first_run(order);
     match serve_messages(alloc, &order, &mut run, reader, writer) {
         Ok(()) => match write_closing(alloc, &order, &run, writer) {
-            Ok(()) => outcome(&run),
+            Ok(()) => outcome(run.service.tally.skipped, run.at.index),
             Err(fault) => Err(fault_of(fault)),
         },
         Err(stopped) => Err(fault_of(stopped)),

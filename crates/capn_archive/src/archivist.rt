@@ -4,19 +4,18 @@ ghost use Rattle.std.specs.Prelude.{◌≡◌, ◌≢◌, ℕ, List};
 ghost use Rattle.capn_canon.specs.declared.refusal.Refusal.TheVariants as refusals;
 ghost use Rattle.capn_archive.specs.Tasks.{Serves, Skips};
 ghost use Rattle.capn_archive.specs.declared.order.Task.TheVariants as tasks;
-ghost use Rattle.capn_archive.specs.declared.position.Position.{Position};
+ghost use Rattle.capn_serve.specs.declared.position.Position.{Position};
 ghost use Rattle.capn_archive.specs.declared.tally.Tally.{Tally};
 
-use crate::fault::ServeFault;
+use crate::digest::digest_if_any;
+use crate::findings::findings_of;
 use crate::framing::put_frame;
 use crate::head::head_of;
-use crate::lines::{put_list_line, put_refused_line};
+use crate::lines::{put_digests_line, put_list_line, put_refused_line};
 use crate::order::{Archive, Task};
-use crate::position::Position;
-use crate::service::Service;
 use crate::tally::{Tally, count, skip};
-use crate::told::told_of;
 use capn_canon::{Refusal, canonical_of};
+use capn_serve::{Position, ServeFault, Service};
 use capn_walk::Limits;
 use capn_words::Space;
 use std::alloc::Allocator;
@@ -24,7 +23,8 @@ use std::alloc::Allocator;
 /// The service of an archive: what is done with each message, and what was kept of those before.
 ///
 /// A message writes what its task says. One that is refused ends the run, or, if the order says to keep going, is
-/// passed over: it is counted, and `list` writes its line. Of a run it keeps a tally, whatever its length.
+/// passed over: it is counted, and `list` writes its line, with digests or without. Of a run it keeps a tally, whatever
+/// its length.
 #[derive(Clone, Copy, Debug, PartialEq, Eq)]
 pub struct Archivist {
     /// What is done with each message.
@@ -51,7 +51,7 @@ fn serve_canonical<S: Space, A: Allocator + Copy>(
     }
 }
 
-/// Appends the line of what is told of a message.
+/// Appends the line of what is found of a message.
 fn serve_list<S: Space, A: Allocator + Copy>(
     alloc: A,
     limits: Limits,
@@ -63,8 +63,25 @@ fn serve_list<S: Space, A: Allocator + Copy>(
     ensures { (tally : Tally) → Serves tasks.List limits tally at frame.now (S.message message.now) text.old.items
         text.new.items result tally }
 {
-    let told = told_of(alloc, message, limits)?;
-    put_list_line(alloc, &head_of(at, frame, message), &told, text)
+    let findings = findings_of(alloc, message, limits)?;
+    put_list_line(alloc, &head_of(at, frame, message), &findings, text)
+}
+
+/// Appends the line of what is found of a message, with its digest.
+fn serve_digests<S: Space, A: Allocator + Copy>(
+    alloc: A,
+    limits: Limits,
+    at: Position,
+    frame: &[u8],
+    message: &S,
+    text: &mut Vec<u8, A>,
+) -> Result<(), ServeFault>
+    ensures { (tally : Tally) → Serves tasks.Digests limits tally at frame.now (S.message message.now) text.old.items
+        text.new.items result tally }
+{
+    let findings = findings_of(alloc, message, limits)?;
+    let digest = digest_if_any(alloc, limits, message)?;
+    put_digests_line(alloc, &head_of(at, frame, message), &findings, digest, text)
 }
 
 /// Counts a message.
@@ -79,9 +96,15 @@ fn serve_limits<S: Space, A: Allocator + Copy>(
     ensures { (text : List ℕ) → Serves tasks.Limits limits tally.old at frame.now (S.message message.now) text text
         result tally.new }
 {
-    let told = told_of(alloc, message, limits)?;
+    let findings = findings_of(alloc, message, limits)?;
     let head = head_of(at, frame, message);
-    count(tally, at.index, head.words, told.checked.paid, told.depth);
+    count(
+        tally,
+        at.index,
+        head.words,
+        findings.checked.paid,
+        findings.depth,
+    );
     Ok(())
 }
 
@@ -100,6 +123,7 @@ fn serve_task<S: Space, A: Allocator + Copy>(
 {
     match order.task {
         Task::List => serve_list(alloc, order.limits, at, frame, message, text),
+        Task::Digests => serve_digests(alloc, order.limits, at, frame, message, text),
         Task::Limits => serve_limits(alloc, order.limits, tally, at, frame, message),
         Task::Canonical => serve_canonical(alloc, order.limits, message, text),
     }
@@ -120,7 +144,7 @@ fn skip_message<S: Space, A: Allocator + Copy>(
         tally.new }
 {
     match task {
-        Task::List => {
+        Task::List | Task::Digests => {
             put_refused_line(alloc, &head_of(at, frame, message), &refusal, text)?;
         }
         Task::Limits | Task::Canonical => {}

@@ -4,20 +4,21 @@ ghost use Rattle.std.specs.Prelude.{◌≡◌, false};
 ghost use Rattle.capn_words.specs.Watching.{inner_of, has_failed};
 ghost use Rattle.capn_archive.specs.Archived as spec;
 ghost use Rattle.capn_archive.specs.Closing.{PutsClosing};
+ghost use Rattle.capn_archive.specs.Finish as finish;
 
 use crate::archivist::Archivist;
-use crate::fault::{ArchiveFault, Passed, RunFault};
+use crate::fault::{ArchiveFault, Passed};
 use crate::needs::{Needs, limits_text};
 use crate::order::{Archive, Task};
-use crate::output::write_all;
-use crate::service::Run;
+use crate::tally::Skipped;
+use capn_serve::{Run, RunFault, write_all};
 use capn_words::Watched;
 use std::alloc::Allocator;
 use std::io::Write;
 
 /// The fault of a run over messages, as one over an archive tells it.
 pub(crate) fn fault_of(fault: RunFault) -> ArchiveFault
-    ensures { result ≡ spec.fault_of fault }
+    ensures { result ≡ finish.fault_of fault }
 {
     match fault {
         RunFault::Memory => ArchiveFault::Memory,
@@ -27,14 +28,14 @@ pub(crate) fn fault_of(fault: RunFault) -> ArchiveFault
     }
 }
 
-/// How a run ends that has served all of its input.
-pub(crate) fn outcome(run: &Run<Archivist>) -> Result<(), ArchiveFault>
-    ensures { result ≡ spec.outcome run.now }
+/// How a run ends that has served all of its input, this number of messages, and has passed these over.
+pub(crate) fn outcome(skipped: Option<Skipped>, messages: u64) -> Result<(), ArchiveFault>
+    ensures { result ≡ finish.outcome_by skipped messages }
 {
-    match run.service.tally.skipped {
+    match skipped {
         Some(skipped) => Err(ArchiveFault::PassedOver(Passed {
             refused: skipped.count,
-            messages: run.at.index,
+            messages,
             first: skipped.first,
         })),
         None => Ok(()),
@@ -64,7 +65,7 @@ pub(crate) fn write_closing<W: Write, A: Allocator + Copy>(
         (W.contents (inner_of writer.new)) (has_failed writer.new) result }
 {
     match order.task {
-        Task::List | Task::Canonical => Ok(()),
+        Task::List | Task::Digests | Task::Canonical => Ok(()),
         Task::Limits => {
             let text = limits_text(alloc, &needs_of(order, run))?;
             write_all(writer, text.as_bytes())

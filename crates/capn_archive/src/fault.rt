@@ -1,29 +1,7 @@
-//! Why a run over a stream ends.
+//! Why a run over an archive does not end as done.
 
-use crate::position::Position;
 use capn_canon::Refusal;
-
-/// Why a service does nothing with a message.
-#[derive(Clone, Copy, Debug, PartialEq, Eq)]
-pub enum ServeFault {
-    /// A growth was refused.
-    Memory,
-    /// The message is refused, or its value is.
-    Refused(Refusal),
-}
-
-/// Why a run over a stream ends before all of its input was served.
-#[derive(Clone, Copy, Debug, PartialEq, Eq)]
-pub enum RunFault {
-    /// A growth was refused.
-    Memory,
-    /// The reader or the writer failed.
-    Io,
-    /// There are more bytes than a run takes.
-    InputTooLong,
-    /// The message at this position is refused, or no message can begin there.
-    Refused(Position, Refusal),
-}
+use capn_serve::Position;
 
 /// The messages that were passed over in a run.
 #[derive(Clone, Copy, Debug, PartialEq, Eq)]

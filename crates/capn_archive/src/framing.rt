@@ -3,7 +3,7 @@
 ghost use Rattle.std.specs.Prelude.{◌≡◌, ◌^◌, ◌<◌, length};
 ghost use Rattle.capn_archive.specs.Framed.{framed, head, PutsFront, PutsText};
 
-use crate::fault::ServeFault;
+use capn_serve::ServeFault;
 use std::alloc::{AllocError, Allocator};
 
 /// The table of one segment of this number of words.

@@ -4,7 +4,7 @@ ghost use Rattle.std.specs.Prelude.{◌≡◌};
 ghost use Rattle.capn_words.specs.Message.{total};
 ghost use Rattle.capn_archive.specs.Message as spec;
 
-use crate::position::{Position, number_of};
+use capn_serve::{Position, number_of};
 use capn_words::Space;
 use std::fmt;
 

@@ -2,11 +2,10 @@
 
 ghost use Rattle.std.specs.Prelude.{◌≡◌, ◌<◌, ◌^◌, IfOk, IfErr, string_bytes};
 ghost use Rattle.capn_archive.specs.Lines as spec;
-ghost use Rattle.capn_archive.specs.declared.fault.RunFault.TheVariants as faults;
+ghost use Rattle.capn_serve.specs.declared.fault.RunFault.TheVariants as faults;
 
-use crate::fault::RunFault;
-use crate::position::number_of;
 use crate::tally::{Greatest, Tally};
+use capn_serve::{RunFault, number_of};
 use capn_value::Tariff;
 use std::alloc::Allocator;
 use std::fmt;

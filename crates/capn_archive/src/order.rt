@@ -7,6 +7,8 @@ use capn_canon::{Form, Limits};
 pub enum Task {
     /// Writes a line for each message: where it is, how large, what it costs, and whether it is canonical.
     List,
+    /// The same, and the SHA-256 of its canonical bytes, or `-` if its value has a capability.
+    Digests,
     /// Writes at the end the limits that all messages need.
     Limits,
     /// Writes the canonical bytes of each message, as a frame of one segment.

@@ -3,7 +3,7 @@
 ghost use Rattle.std.specs.Prelude.{◌≡◌, ◌≤◌};
 ghost use Rattle.capn_archive.specs.Tally as spec;
 
-use crate::position::Position;
+use capn_serve::Position;
 
 /// The greatest amount of a message so far.
 #[derive(Clone, Copy, Debug, PartialEq, Eq)]
@@ -54,7 +54,7 @@ fn greater(so_far: Option<Greatest>, amount: u32, index: u64) -> Greatest
 }
 
 /// One more message that is passed over.
-fn one_more(so_far: Option<Skipped>, at: Position) -> Skipped
+pub(crate) fn one_more(so_far: Option<Skipped>, at: Position) -> Skipped
     ensures { result ≡ spec.one_more so_far at }
 {
     match so_far {

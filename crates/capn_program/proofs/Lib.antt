@@ -1,3 +1,4 @@
 pub mod OneOrder
-pub mod CanonicalMeans
+pub mod NamedOrders
 pub mod Shown
+pub mod Sources

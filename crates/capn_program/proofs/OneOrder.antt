@@ -1,17 +1,26 @@
 -- A subcommand with the values of its options means one order at most.
-use Rattle.std.proofs.Common.{◌≡◌, ℕ, List, Bool, true, false, Option, Some, None, refl, sym, ap, ◌∙◌, codes}
-use Rattle.std.proofs.Common.{slice_index, unwrap_or, arith}
+use Rattle.std.proofs.Common.{◌≡◌, ℕ, ◌+◌, ◌*◌, ◌==◌, ◌||◌, List, Bool, true, false, Option, Some, None, refl, sym, ap}
+use Rattle.std.proofs.Common.{◌∙◌, codes, slice_index, unwrap_or, arith}
 use Rattle.clap.specs.Words.{Row, Text}
 use Rattle.capn_walk.specs.Limits.{Bounds}
 use Rattle.capn_canon.specs.declared.form.Form.{Form}
+use Rattle.capn_canon.specs.declared.form.Form.TheVariants as forms
 use Rattle.capn_tool.specs.Meaning.{Means}
-use Rattle.capn_tool.specs.Laws.OneMeaning.{form_one, limits_one, mark, mark_of, marked, means_one}
+use Rattle.capn_tool.specs.Laws.OneMeaning.{form_one, limits_one, means_one, number_one}
 use Rattle.capn_tool.specs.declared.orders.Command.{Command}
 use Rattle.capn_tool.specs.declared.orders.Command.TheVariants as commands
 use Rattle.capn_archive.specs.declared.order.Archive.{Archive}
 use Rattle.capn_archive.specs.declared.order.Task.{Task}
 use Rattle.capn_archive.specs.declared.order.Task.TheVariants as tasks
-use Rattle.capn_program.specs.Meaning.{AreOptions, FlagIs, HasNoFlag, IsTask, MeansOneOrder, flag_text}
+use Rattle.capn_archive.specs.declared.uniq.Uniq.{Uniq}
+use Rattle.capn_serve.specs.declared.pick.Pick.{Pick}
+use Rattle.capn_serve.specs.declared.pick.StreamForm.{StreamForm}
+use Rattle.capn_serve.specs.declared.pick.StreamForm.TheVariants as stream_forms
+use Rattle.capn_program.specs.Meaning.{AreOptions, FlagIs, HasNoFlag, IsFlow, IsTask, MeansOneOrder, MeansOrder}
+use Rattle.capn_program.specs.Meaning.{PickIs, UniqIs, flag_text, form_of, usual_with}
+use Rattle.capn_program.specs.declared.orders.Flow.{Flow}
+use Rattle.capn_program.specs.declared.orders.Flow.TheVariants as flows
+use Rattle.capn_program.specs.declared.orders.Order.{Order}
 use Rattle.capn_program.specs.declared.orders.Order.TheVariants as orders
 
 -- the first character of a text
@@ -28,37 +37,136 @@ text_one false false e = refl
 pub flag_one : (rows : List Row) (option : Text) (a b : Bool) → FlagIs rows option a → FlagIs rows option b → a ≡ b
 flag_one rows option a b x y = text_one a b (sym x ∙ y)
 
--- of each task
-abbrev mark_of_task : Task → ℕ
-mark_of_task tasks.List = 213
-mark_of_task tasks.Limits = 213
-mark_of_task tasks.Canonical = 196
+-- ---- the names
 
-pub marked_task : (name : Text) (rows : List Row) (task : Task) → IsTask name rows task → mark name ≡ mark_of_task task
-marked_task name rows tasks.List is = ap mark is
-marked_task name rows tasks.Limits is = ap mark is
-marked_task name rows tasks.Canonical is = ap mark is.0
+-- two characters of a text, which tell the names apart
+abbrev pub tell : Text → ℕ
+tell text = slice_index text 1 + 2 * slice_index text 2
 
--- the third character of a name
-abbrev third : Text → ℕ
-third text = slice_index text 2
+-- what the name of a command over messages or bytes tells
+abbrev pub tell_command : Command → ℕ
+tell_command (commands.Show f l) = 326
+tell_command (commands.Check f l) = 306
+tell_command commands.Pack = 295
+tell_command (commands.Unpack m) = 334
+tell_command (commands.Canonical f l) = 317
+tell_command (commands.Hash f l) = 327
 
-task_one : (name : Text) (rows : List Row) (s t : Task) → IsTask name rows s → IsTask name rows t → s ≡ t
-task_one name rows tasks.List tasks.List is also = refl
-task_one name rows tasks.List tasks.Limits is also =
-    absurd (let bad : 115 ≡ 109 = ap third (sym is ∙ also) in omega arith)
-task_one name rows tasks.List tasks.Canonical is also =
-    absurd (let bad : 213 ≡ 196 = ap mark (sym is ∙ also.0) in omega arith)
-task_one name rows tasks.Limits tasks.List is also =
-    absurd (let bad : 109 ≡ 115 = ap third (sym is ∙ also) in omega arith)
-task_one name rows tasks.Limits tasks.Limits is also = refl
-task_one name rows tasks.Limits tasks.Canonical is also =
-    absurd (let bad : 213 ≡ 196 = ap mark (sym is ∙ also.0) in omega arith)
-task_one name rows tasks.Canonical tasks.List is also =
-    absurd (let bad : 196 ≡ 213 = ap mark (sym is.0 ∙ also) in omega arith)
-task_one name rows tasks.Canonical tasks.Limits is also =
-    absurd (let bad : 196 ≡ 213 = ap mark (sym is.0 ∙ also) in omega arith)
-task_one name rows tasks.Canonical tasks.Canonical is also = refl
+-- that of a task
+abbrev pub tell_task : Task → ℕ
+tell_task tasks.List = 335
+tell_task tasks.Digests = 335
+tell_task tasks.Limits = 323
+tell_task tasks.Canonical = 317
+
+-- that of a flow
+abbrev pub tell_flow : Flow → ℕ
+tell_flow flows.Pack = 295
+tell_flow flows.Unpack = 334
+
+-- that of an order
+abbrev pub tell_of : Order → ℕ
+tell_of (orders.Message c) = tell_command c
+tell_of (orders.Archive a) = tell_task a.task
+tell_of (orders.Uniq u) = 320
+tell_of (orders.Pick k) = 303
+tell_of (orders.Flow w) = tell_flow w
+tell_of (orders.Make f) = 311
+
+told_command : (said : Text × List Row) (c : Command) → Means (Some said) c → tell said.0 ≡ tell_command c
+told_command said (commands.Show f l) m = ap tell m.0
+told_command said (commands.Check f l) m = ap tell m.0
+told_command said commands.Pack m = ap tell m
+told_command said (commands.Unpack n) m = ap tell m.0
+told_command said (commands.Canonical f l) m = ap tell m.0
+told_command said (commands.Hash f l) m = ap tell m.0
+
+told_task : (name : Text) (rows : List Row) (task : Task) → IsTask name rows task → tell name ≡ tell_task task
+told_task name rows tasks.List is = ap tell is.0
+told_task name rows tasks.Digests is = ap tell is.0
+told_task name rows tasks.Limits is = ap tell is
+told_task name rows tasks.Canonical is = ap tell is.0
+
+told_flow : (name : Text) (rows : List Row) (w : Flow) → IsFlow name rows w → tell name ≡ tell_flow w
+told_flow name rows flows.Pack is = ap tell is.0
+told_flow name rows flows.Unpack is = ap tell is.0
+
+-- the subcommand is named as its order
+pub told : (said : Text × List Row) (o : Order) → MeansOrder (Some said) o → tell said.0 ≡ tell_of o
+told said (orders.Message c) m = told_command said c m.0
+told said (orders.Archive a) m = told_task said.0 said.1 a.task m.0
+told said (orders.Uniq u) m = ap tell m.0
+told said (orders.Pick k) m = ap tell m.0
+told said (orders.Flow w) m = told_flow said.0 said.1 w m
+told said (orders.Make f) m = ap tell m.0
+
+-- no command over messages or bytes is named so
+abbrev is_no_command : ℕ → Bool
+is_no_command n = n == 303 || (n == 311 || (n == 320 || (n == 323 || n == 335)))
+
+no_command : (c : Command) → is_no_command (tell_command c) ≡ false
+no_command (commands.Show f l) = refl
+no_command (commands.Check f l) = refl
+no_command commands.Pack = refl
+no_command (commands.Unpack n) = refl
+no_command (commands.Canonical f l) = refl
+no_command (commands.Hash f l) = refl
+
+pub never_command : (c : Command) (n : ℕ) → is_no_command n ≡ true → tell_command c ≡ n → ⊥
+never_command c n other e = let bad : false ≡ true = sym (no_command c) ∙ ap is_no_command e ∙ other in absurd (cc)
+
+-- and no task
+abbrev is_no_task : ℕ → Bool
+is_no_task n = n == 303 || (n == 311 || (n == 320 || (n == 295 || n == 334)))
+
+no_task : (t : Task) → is_no_task (tell_task t) ≡ false
+no_task tasks.List = refl
+no_task tasks.Digests = refl
+no_task tasks.Limits = refl
+no_task tasks.Canonical = refl
+
+never_task : (t : Task) (n : ℕ) → is_no_task n ≡ true → tell_task t ≡ n → ⊥
+never_task t n other e = let bad : false ≡ true = sym (no_task t) ∙ ap is_no_task e ∙ other in absurd (cc)
+
+-- and no flow
+abbrev is_no_flow : ℕ → Bool
+is_no_flow n = n == 303 || (n == 311 || n == 320)
+
+no_flow : (w : Flow) → is_no_flow (tell_flow w) ≡ false
+no_flow flows.Pack = refl
+no_flow flows.Unpack = refl
+
+never_flow : (w : Flow) (n : ℕ) → is_no_flow n ≡ true → tell_flow w ≡ n → ⊥
+never_flow w n other e = let bad : false ≡ true = sym (no_flow w) ∙ ap is_no_flow e ∙ other in absurd (cc)
+
+-- ---- two orders of one kind
+
+flow_one : (v w : Flow) → tell_flow v ≡ tell_flow w → v ≡ w
+flow_one flows.Pack flows.Pack e = refl
+flow_one flows.Pack flows.Unpack e = absurd (omega arith)
+flow_one flows.Unpack flows.Pack e = absurd (omega arith)
+flow_one flows.Unpack flows.Unpack e = refl
+
+task_one : (name : Text) (rows : List Row) (s t : Task) → tell_task s ≡ tell_task t → IsTask name rows s
+    → IsTask name rows t → s ≡ t
+task_one name rows tasks.List tasks.List e is also = refl
+task_one name rows tasks.List tasks.Digests e is also =
+    absurd (let bad : false ≡ true = flag_one rows (codes "digest") false true is.1 also.1 in cc)
+task_one name rows tasks.List tasks.Limits e is also = absurd (omega arith)
+task_one name rows tasks.List tasks.Canonical e is also = absurd (omega arith)
+task_one name rows tasks.Digests tasks.List e is also =
+    absurd (let bad : true ≡ false = flag_one rows (codes "digest") true false is.1 also.1 in cc)
+task_one name rows tasks.Digests tasks.Digests e is also = refl
+task_one name rows tasks.Digests tasks.Limits e is also = absurd (omega arith)
+task_one name rows tasks.Digests tasks.Canonical e is also = absurd (omega arith)
+task_one name rows tasks.Limits tasks.List e is also = absurd (omega arith)
+task_one name rows tasks.Limits tasks.Digests e is also = absurd (omega arith)
+task_one name rows tasks.Limits tasks.Limits e is also = refl
+task_one name rows tasks.Limits tasks.Canonical e is also = absurd (omega arith)
+task_one name rows tasks.Canonical tasks.List e is also = absurd (omega arith)
+task_one name rows tasks.Canonical tasks.Digests e is also = absurd (omega arith)
+task_one name rows tasks.Canonical tasks.Limits e is also = absurd (omega arith)
+task_one name rows tasks.Canonical tasks.Canonical e is also = refl
 
 archive_same : (a b : Archive) → a.task ≡ b.task → a.form ≡ b.form → a.limits ≡ b.limits → a.keep_going ≡ b.keep_going
     → a ≡ b
@@ -68,66 +176,134 @@ archive_same a b t f l k =
     ∙ ap (λ (x : Bounds). record { task = b.task; form = b.form; limits = x; keep_going = a.keep_going }) l
     ∙ ap (λ (x : Bool). record { task = b.task; form = b.form; limits = b.limits; keep_going = x }) k
 
-archive_one : (name : Text) (rows : List Row) (a b : Archive) → IsTask name rows a.task → AreOptions rows a
-    → IsTask name rows b.task → AreOptions rows b → a ≡ b
-archive_one name rows a b s (f, l, k) t (g, m, j) =
-    archive_same a b (task_one name rows a.task b.task s t) (form_one a.form b.form (sym f ∙ g))
+archive_one : (name : Text) (rows : List Row) (a b : Archive) → tell_task a.task ≡ tell_task b.task
+    → IsTask name rows a.task → AreOptions rows a → IsTask name rows b.task → AreOptions rows b → a ≡ b
+archive_one name rows a b e s (f, l, k) t (g, m, j) =
+    archive_same a b (task_one name rows a.task b.task e s t) (form_one a.form b.form (sym f ∙ g))
     (limits_one rows a.limits b.limits l m) (flag_one rows (codes "keep-going") a.keep_going b.keep_going k j)
 
+uniq_same : (u v : Uniq) → u.form ≡ v.form → u.limits ≡ v.limits → u.keep_going ≡ v.keep_going → u.count ≡ v.count
+    → u ≡ v
+uniq_same u v f l k c =
+    ap (λ (x : Form). record { form = x; limits = u.limits; keep_going = u.keep_going; count = u.count }) f
+    ∙ ap (λ (x : Bounds). record { form = v.form; limits = x; keep_going = u.keep_going; count = u.count }) l
+    ∙ ap (λ (x : Bool). record { form = v.form; limits = v.limits; keep_going = x; count = u.count }) k
+    ∙ ap (λ (x : Bool). record { form = v.form; limits = v.limits; keep_going = v.keep_going; count = x }) c
+
+uniq_one : (rows : List Row) (u v : Uniq) → UniqIs rows u → UniqIs rows v → u ≡ v
+uniq_one rows u v (f, l, k, c) (g, m, j, d) =
+    uniq_same u v (form_one u.form v.form (sym f ∙ g)) (limits_one rows u.limits v.limits l m)
+    (flag_one rows (codes "keep-going") u.keep_going v.keep_going k j)
+    (flag_one rows (codes "count") u.count v.count c d)
+
+pick_same : (p q : Pick) → p.form ≡ q.form → p.limits ≡ q.limits → p.from ≡ q.from → p.to ≡ q.to → p ≡ q
+pick_same p q f l a b =
+    ap (λ (x : StreamForm). record { form = x; limits = p.limits; from = p.from; to = p.to }) f
+    ∙ ap (λ (x : Bounds). record { form = q.form; limits = x; from = p.from; to = p.to }) l
+    ∙ ap (λ (x : ℕ). record { form = q.form; limits = q.limits; from = x; to = p.to }) a
+    ∙ ap (λ (x : ℕ). record { form = q.form; limits = q.limits; from = q.from; to = x }) b
+
+abbrev mark_of : Form → ℕ
+mark_of forms.Stream = 0
+mark_of forms.Packed = 1
+mark_of forms.Bare = 2
+
+stream_form_one : (f g : StreamForm) → form_of f ≡ form_of g → f ≡ g
+stream_form_one stream_forms.Stream stream_forms.Stream e = refl
+stream_form_one stream_forms.Stream stream_forms.Packed e =
+    absurd (let bad : 0 ≡ 1 = ap (λ (f : Form). mark_of f) e in omega arith)
+stream_form_one stream_forms.Packed stream_forms.Stream e =
+    absurd (let bad : 1 ≡ 0 = ap (λ (f : Form). mark_of f) e in omega arith)
+stream_form_one stream_forms.Packed stream_forms.Packed e = refl
+
+pick_one : (rows : List Row) (p q : Pick) → PickIs rows p → PickIs rows q → p ≡ q
+pick_one rows p q (f, w, usual, a, b) (g, v, usually, c, d) =
+    pick_same p q (stream_form_one p.form q.form (form_one (form_of p.form) (form_of q.form) (sym f ∙ g)))
+    (usual
+    ∙ ap usual_with (number_one rows (codes "message-words") p.limits.message_words q.limits.message_words w.0 v.0)
+    ∙ sym usually)
+    (number_one rows (codes "from") p.from q.from a.0 c.0) (number_one rows (codes "to") p.to q.to b.0 d.0)
+
+-- ---- two orders of two kinds
+
 -- a command over messages and a run over an archive are not named alike, or `--framed` tells them apart
-apart : (name : Text) (rows : List Row) (c : Command) (t : Task) → mark_of c ≡ mark_of_task t → HasNoFlag rows c
+apart : (name : Text) (rows : List Row) (c : Command) (t : Task) → tell_command c ≡ tell_task t → HasNoFlag rows c
     → IsTask name rows t → ⊥
-apart name rows (commands.Show f l) tasks.List e n is = omega arith
-apart name rows (commands.Show f l) tasks.Limits e n is = omega arith
+apart name rows c tasks.List e n is = never_command c 335 refl e
+apart name rows c tasks.Digests e n is = never_command c 335 refl e
+apart name rows c tasks.Limits e n is = never_command c 323 refl e
 apart name rows (commands.Show f l) tasks.Canonical e n is = omega arith
-apart name rows (commands.Check f l) tasks.List e n is = omega arith
-apart name rows (commands.Check f l) tasks.Limits e n is = omega arith
 apart name rows (commands.Check f l) tasks.Canonical e n is = omega arith
-apart name rows commands.Pack tasks.List e n is = omega arith
-apart name rows commands.Pack tasks.Limits e n is = omega arith
 apart name rows commands.Pack tasks.Canonical e n is = omega arith
-apart name rows (commands.Unpack m) tasks.List e n is = omega arith
-apart name rows (commands.Unpack m) tasks.Limits e n is = omega arith
 apart name rows (commands.Unpack m) tasks.Canonical e n is = omega arith
-apart name rows (commands.Hash f l) tasks.List e n is = omega arith
-apart name rows (commands.Hash f l) tasks.Limits e n is = omega arith
 apart name rows (commands.Hash f l) tasks.Canonical e n is = omega arith
-apart name rows (commands.Canonical f l) tasks.List e n is = omega arith
-apart name rows (commands.Canonical f l) tasks.Limits e n is = omega arith
 apart name rows (commands.Canonical f l) tasks.Canonical e n is =
     let bad : false ≡ true = flag_one rows (codes "framed") false true n.0 is.1 in cc
 
-not_both : (s : Text × List Row) (c : Command) (a : Archive) → Means (Some s) c → HasNoFlag s.1 c
-    → IsTask s.0 s.1 a.task → ⊥
-not_both s c a m n is =
-    apart s.0 s.1 c a.task (sym (marked s c m) ∙ marked_task s.0 s.1 a.task is) n is
+-- a command over bytes and a flow are not named alike, or `--streaming` tells them apart
+streams : (name : Text) (rows : List Row) (c : Command) (w : Flow) → tell_command c ≡ tell_flow w → HasNoFlag rows c
+    → IsFlow name rows w → ⊥
+streams name rows commands.Pack flows.Pack e n is =
+    let bad : false ≡ true = flag_one rows (codes "streaming") false true n is.1 in cc
+streams name rows (commands.Unpack m) flows.Unpack e n is =
+    let bad : false ≡ true = flag_one rows (codes "streaming") false true n is.1 in cc
+streams name rows commands.Pack flows.Unpack e n is = omega arith
+streams name rows (commands.Unpack m) flows.Pack e n is = omega arith
+streams name rows (commands.Show f l) flows.Pack e n is = omega arith
+streams name rows (commands.Show f l) flows.Unpack e n is = omega arith
+streams name rows (commands.Check f l) flows.Pack e n is = omega arith
+streams name rows (commands.Check f l) flows.Unpack e n is = omega arith
+streams name rows (commands.Canonical f l) flows.Pack e n is = omega arith
+streams name rows (commands.Canonical f l) flows.Unpack e n is = omega arith
+streams name rows (commands.Hash f l) flows.Pack e n is = omega arith
+streams name rows (commands.Hash f l) flows.Unpack e n is = omega arith
 
--- `make` is the name of no command over messages, and of no run over an archive
-made_no_message : (s : Text × List Row) (c : Command) → s.0 ≡ codes "make" → Means (Some s) c → ⊥
-made_no_message s (commands.Show f l) is m = absurd (let bad : 206 ≡ 219 = ap mark (sym is ∙ m.0) in omega arith)
-made_no_message s (commands.Check f l) is m = absurd (let bad : 206 ≡ 203 = ap mark (sym is ∙ m.0) in omega arith)
-made_no_message s commands.Pack is m = absurd (let bad : 206 ≡ 209 = ap mark (sym is ∙ m) in omega arith)
-made_no_message s (commands.Unpack f) is m = absurd (let bad : 206 ≡ 227 = ap mark (sym is ∙ m.0) in omega arith)
-made_no_message s (commands.Canonical f l) is m =
-    absurd (let bad : 206 ≡ 196 = ap mark (sym is ∙ m.0) in omega arith)
-made_no_message s (commands.Hash f l) is m = absurd (let bad : 206 ≡ 201 = ap mark (sym is ∙ m.0) in omega arith)
+-- a task and a flow are not named alike
+stays : (t : Task) (w : Flow) → tell_task t ≡ tell_flow w → ⊥
+stays t flows.Pack e = never_task t 295 refl e
+stays t flows.Unpack e = never_task t 334 refl e
 
-made_no_archive : (name : Text) (rows : List Row) (t : Task) → name ≡ codes "make" → IsTask name rows t → ⊥
-made_no_archive name rows tasks.List is m = absurd (let bad : 206 ≡ 213 = ap mark (sym is ∙ m) in omega arith)
-made_no_archive name rows tasks.Limits is m = absurd (let bad : 206 ≡ 213 = ap mark (sym is ∙ m) in omega arith)
-made_no_archive name rows tasks.Canonical is m = absurd (let bad : 206 ≡ 196 = ap mark (sym is ∙ m.0) in omega arith)
+same : (s : Text × List Row) (o p : Order) → tell_of o ≡ tell_of p → MeansOrder (Some s) o → MeansOrder (Some s) p
+    → o ≡ p
+same s (orders.Message c) (orders.Message d) e m n =
+    ap (λ (x : Command). orders.Message x) (means_one (Some s) c d m.0 n.0)
+same s (orders.Message c) (orders.Archive b) e m n = absurd (apart s.0 s.1 c b.task e m.1 n.0)
+same s (orders.Message c) (orders.Uniq v) e m n = absurd (never_command c 320 refl e)
+same s (orders.Message c) (orders.Pick k) e m n = absurd (never_command c 303 refl e)
+same s (orders.Message c) (orders.Flow w) e m n = absurd (streams s.0 s.1 c w e m.1 n)
+same s (orders.Message c) (orders.Make g) e m n = absurd (never_command c 311 refl e)
+same s (orders.Archive a) (orders.Message d) e m n = absurd (apart s.0 s.1 d a.task (sym e) n.1 m.0)
+same s (orders.Archive a) (orders.Archive b) e m n =
+    ap (λ (x : Archive). orders.Archive x) (archive_one s.0 s.1 a b e m.0 m.1 n.0 n.1)
+same s (orders.Archive a) (orders.Uniq v) e m n = absurd (never_task a.task 320 refl e)
+same s (orders.Archive a) (orders.Pick k) e m n = absurd (never_task a.task 303 refl e)
+same s (orders.Archive a) (orders.Flow w) e m n = absurd (stays a.task w e)
+same s (orders.Archive a) (orders.Make g) e m n = absurd (never_task a.task 311 refl e)
+same s (orders.Uniq u) (orders.Message d) e m n = absurd (never_command d 320 refl (sym e))
+same s (orders.Uniq u) (orders.Archive b) e m n = absurd (never_task b.task 320 refl (sym e))
+same s (orders.Uniq u) (orders.Uniq v) e m n = ap (λ (x : Uniq). orders.Uniq x) (uniq_one s.1 u v m.1 n.1)
+same s (orders.Uniq u) (orders.Pick k) e m n = absurd (omega arith)
+same s (orders.Uniq u) (orders.Flow w) e m n = absurd (never_flow w 320 refl (sym e))
+same s (orders.Uniq u) (orders.Make g) e m n = absurd (omega arith)
+same s (orders.Pick k) (orders.Message d) e m n = absurd (never_command d 303 refl (sym e))
+same s (orders.Pick k) (orders.Archive b) e m n = absurd (never_task b.task 303 refl (sym e))
+same s (orders.Pick k) (orders.Uniq v) e m n = absurd (omega arith)
+same s (orders.Pick k) (orders.Pick l) e m n = ap (λ (x : Pick). orders.Pick x) (pick_one s.1 k l m.1 n.1)
+same s (orders.Pick k) (orders.Flow w) e m n = absurd (never_flow w 303 refl (sym e))
+same s (orders.Pick k) (orders.Make g) e m n = absurd (omega arith)
+same s (orders.Flow v) (orders.Message d) e m n = absurd (streams s.0 s.1 d v (sym e) n.1 m)
+same s (orders.Flow v) (orders.Archive b) e m n = absurd (stays b.task v (sym e))
+same s (orders.Flow v) (orders.Uniq u) e m n = absurd (never_flow v 320 refl e)
+same s (orders.Flow v) (orders.Pick k) e m n = absurd (never_flow v 303 refl e)
+same s (orders.Flow v) (orders.Flow w) e m n = ap (λ (x : Flow). orders.Flow x) (flow_one v w e)
+same s (orders.Flow v) (orders.Make g) e m n = absurd (never_flow v 311 refl e)
+same s (orders.Make f) (orders.Message d) e m n = absurd (never_command d 311 refl (sym e))
+same s (orders.Make f) (orders.Archive b) e m n = absurd (never_task b.task 311 refl (sym e))
+same s (orders.Make f) (orders.Uniq v) e m n = absurd (omega arith)
+same s (orders.Make f) (orders.Pick k) e m n = absurd (omega arith)
+same s (orders.Make f) (orders.Flow w) e m n = absurd (never_flow w 311 refl (sym e))
+same s (orders.Make f) (orders.Make g) e m n = ap (λ (x : Form). orders.Make x) (form_one f g (sym m.1 ∙ n.1))
 
 pub means_one_order : MeansOneOrder
 means_one_order None o p m n = absurd m
-means_one_order (Some s) (orders.Message c) (orders.Make g) m n = absurd (made_no_message s c n.0 m.0)
-means_one_order (Some s) (orders.Make f) (orders.Message d) m n = absurd (made_no_message s d m.0 n.0)
-means_one_order (Some s) (orders.Archive a) (orders.Make g) m n = absurd (made_no_archive s.0 s.1 a.task n.0 m.0)
-means_one_order (Some s) (orders.Make f) (orders.Archive b) m n = absurd (made_no_archive s.0 s.1 b.task m.0 n.0)
-means_one_order (Some s) (orders.Make f) (orders.Make g) m n =
-    ap (λ (x : Form). orders.Make x) (form_one f g (sym m.1 ∙ n.1))
-means_one_order (Some s) (orders.Message c) (orders.Message d) m n =
-    ap (λ (x : Command). orders.Message x) (means_one (Some s) c d m.0 n.0)
-means_one_order (Some s) (orders.Message c) (orders.Archive b) m n = absurd (not_both s c b m.0 m.1 n.0)
-means_one_order (Some s) (orders.Archive a) (orders.Message d) m n = absurd (not_both s d a n.0 n.1 m.0)
-means_one_order (Some s) (orders.Archive a) (orders.Archive b) m n =
-    ap (λ (x : Archive). orders.Archive x) (archive_one s.0 s.1 a b m.0 m.1 n.0 n.1)
+means_one_order (Some s) o p m n = same s o p (sym (told s o m) ∙ told s p n) m n

@@ -9,13 +9,23 @@ use Rattle.capn_tool.specs.Ends.{CarriesOut, Course, IsUntouched}
 use Rattle.capn_tool.specs.Ends as tool
 use Rattle.capn_tool.specs.Status.{status_of}
 use Rattle.capn_tool.specs.Told.{Tells}
-use Rattle.capn_tool.specs.declared.orders.Command.{Command}
 use Rattle.capn_tool.specs.declared.fault.ToolFault.{ToolFault}
 use Rattle.capn_tool.specs.declared.fault.ToolFault.TheVariants as tool_faults
 use Rattle.capn_archive.specs.Archived.{Archived}
 use Rattle.capn_archive.specs.declared.order.Archive.{Archive}
 use Rattle.capn_archive.specs.declared.fault.ArchiveFault.{ArchiveFault}
 use Rattle.capn_archive.specs.declared.fault.ArchiveFault.TheVariants as faults
+use Rattle.capn_serve.specs.declared.fault.RunFault.{RunFault}
+use Rattle.capn_serve.specs.declared.fault.RunFault.TheVariants as run_faults
+use Rattle.capn_serve.specs.Picked.{Picks}
+use Rattle.capn_serve.specs.declared.pick.Pick.{Pick}
+use Rattle.capn_archive.specs.Uniq.{Sieved}
+use Rattle.capn_archive.specs.declared.uniq.Uniq.{Uniq}
+use Rattle.capn_flow.specs.Flow.{Runs}
+use Rattle.capn_flow.specs.Packing.{packing}
+use Rattle.capn_flow.specs.Unpacking.{unpacking}
+use Rattle.capn_flow.specs.declared.fault.FlowFault.{FlowFault}
+use Rattle.capn_flow.specs.declared.fault.FlowFault.TheVariants as flow_faults
 use Rattle.capn_canon.specs.declared.form.Form.{Form}
 use Rattle.capn_make.specs.Made.{Made}
 use Rattle.capn_make.specs.declared.fault.MakeFault.{MakeFault}
@@ -23,20 +33,12 @@ use Rattle.capn_make.specs.declared.fault.MakeFault.TheVariants as make_faults
 use Rattle.capn_program.specs.Line.{program_line}
 use Rattle.capn_program.specs.Meaning.{MeansOrder}
 use Rattle.capn_program.specs.Misuse.{IsReason, version_line}
-use Rattle.capn_program.specs.Status.{archive_status, make_status}
-use Rattle.capn_program.specs.Told.{TellsArchive, TellsMake}
+use Rattle.capn_program.specs.Status.{archive_status, flow_status, make_status, pick_status}
+use Rattle.capn_program.specs.Told.{TellsArchive, TellsFlow, TellsMake, TellsPick}
+use Rattle.capn_program.specs.declared.orders.Flow.{Flow}
+use Rattle.capn_program.specs.declared.orders.Flow.TheVariants as flows
 use Rattle.capn_program.specs.declared.orders.Order.{Order}
 use Rattle.capn_program.specs.declared.orders.Order.TheVariants as orders
-
--- The words order a command over messages or bytes. It was carried out, over the input and the output. The status is
--- that of how it ended, and so is what was told on the errors.
-pub record EndsMessage (words : List Text) (input output errors : Course) (status : ℕ) : Type 0 where
-  pub command : Command
-  pub outcome : Result (Unit {0}) ToolFault
-  pub means : MeansOrder (subcommand_of program_line words) (orders.Message command)
-  pub run : CarriesOut command input output outcome
-  pub told : Tells outcome errors.before errors.after errors.failed
-  pub is : status ≡ status_of outcome
 
 -- After a flush a run that was done ends as it did, or with the fault of an output that failed, if the flush failed.
 -- Any other run ends as it did.
@@ -44,46 +46,84 @@ abbrev pub EndsFlushed : {F : Type 0} → F → Result (Unit {0}) F → Bool →
 EndsFlushed io (Ok u) old new result = ((result ≡ Ok u) × (new ≡ old)) ⊎ ((result ≡ Err io) × (new ≡ true))
 EndsFlushed io (Err fault) old new result = (result ≡ Err fault) × ((new ≡ old) ⊎ (new ≡ true))
 
--- A run went over an archive, from the input to the output, and ended so. The run itself ended first, and by then the
--- output had these bytes, and had failed or not; then the output was flushed, which writes nothing.
-pub record RunsOver (archive : Archive) (input output : Course) (outcome : Result (Unit {0}) ArchiveFault) : Type 0
-  where
-    pub run : Result (Unit {0}) ArchiveFault
-    pub written : Option (List ℕ)
-    pub failed : Bool
-    pub ran : Archived archive input.before input.after output.before written input.failed failed run
-    pub kept : Keeps written output.after
-    pub flushed : EndsFlushed faults.Io run failed output.failed outcome
+-- what is said of a run: of its reader before and after it, of its writer, whether each has failed, and how it ended
+abbrev pub RunOver : Type 0 → Type 1
+RunOver F = Option (List ℕ) → Option (List ℕ) → Option (List ℕ) → Option (List ℕ) → Bool → Bool
+    → Result (Unit {0}) F → Type 0
 
--- The words order a run over an archive. It went over the input and the output. The status is that of how it ended, and
--- so is what was told on the errors.
-pub record EndsArchive (words : List Text) (input output errors : Course) (status : ℕ) : Type 0 where
-  pub archive : Archive
-  pub outcome : Result (Unit {0}) ArchiveFault
-  pub means : MeansOrder (subcommand_of program_line words) (orders.Archive archive)
-  pub run : RunsOver archive input output outcome
-  pub told : TellsArchive outcome errors.before errors.after errors.failed
-  pub is : status ≡ archive_status outcome
-
--- A run made what the texts of the input say, and wrote it to the output, and ended so; then the output was flushed, as
--- after a run over an archive.
-pub record MakesTexts (form : Form) (input output : Course) (outcome : Result (Unit {0}) MakeFault) : Type 0 where
-  pub run : Result (Unit {0}) MakeFault
+-- A run of which this is said went from the input to the output. The run itself ended first, and by then the output had
+-- these bytes, and had failed or not; then the output was flushed, which writes nothing.
+pub record RunsFlushed {F : Type 0} (io : F) (Runs : RunOver F) (input output : Course)
+    (outcome : Result (Unit {0}) F) : Type 0 where
+  pub run : Result (Unit {0}) F
   pub written : Option (List ℕ)
   pub failed : Bool
-  pub ran : Made form input.before input.after output.before written input.failed failed run
+  pub ran : Runs input.before input.after output.before written input.failed failed run
   pub kept : Keeps written output.after
-  pub flushed : EndsFlushed make_faults.Io run failed output.failed outcome
+  pub flushed : EndsFlushed io run failed output.failed outcome
 
--- The words order that texts are made. So they were, from the input to the output. The status is that of how it ended,
--- and so is what was told on the errors.
-pub record EndsMake (words : List Text) (input output errors : Course) (status : ℕ) : Type 0 where
-  pub form : Form
-  pub outcome : Result (Unit {0}) MakeFault
-  pub means : MeansOrder (subcommand_of program_line words) (orders.Make form)
-  pub run : MakesTexts form input output outcome
-  pub told : TellsMake outcome errors.before errors.after errors.failed
-  pub is : status ≡ make_status outcome
+-- a run went over an archive
+abbrev pub RunsOver : Archive → Course → Course → Result (Unit {0}) ArchiveFault → Type 0
+RunsOver archive = RunsFlushed faults.Io (Archived archive)
+
+-- a run left out doubles, or counted
+abbrev pub LeavesDoublesOut : Uniq → Course → Course → Result (Unit {0}) ArchiveFault → Type 0
+LeavesDoublesOut uniq = RunsFlushed faults.Io (Sieved uniq)
+
+-- a run made what texts say
+abbrev pub MakesTexts : Form → Course → Course → Result (Unit {0}) MakeFault → Type 0
+MakesTexts form = RunsFlushed make_faults.Io (Made form)
+
+-- a run picked messages
+abbrev pub PicksMessages : Pick → Course → Course → Result (Unit {0}) RunFault → Type 0
+PicksMessages pick = RunsFlushed run_faults.Io (Picks pick.limits.message_words pick pick.form)
+
+-- bytes flowed this way
+abbrev pub Flowed : Flow → RunOver FlowFault
+Flowed flows.Pack = Runs packing
+Flowed flows.Unpack = Runs unpacking
+
+-- a run let bytes flow
+abbrev pub LetsFlow : Flow → Course → Course → Result (Unit {0}) FlowFault → Type 0
+LetsFlow flow = RunsFlushed flow_faults.Io (Flowed flow)
+
+-- The words order this. It was carried out, from the input to the output. The status is that of how it ended, and so is
+-- what was told on the errors.
+pub record EndsOrder {O F : Type 0} (name : O → Order)
+    (CarriesOut : O → Course → Course → Result (Unit {0}) F → Type 0)
+    (TellsEnd : Result (Unit {0}) F → Option (List ℕ) → Option (List ℕ) → Bool → Type 0)
+    (status_of_end : Result (Unit {0}) F → ℕ)
+    (words : List Text) (input output errors : Course) (status : ℕ) : Type 0 where
+  pub order : O
+  pub outcome : Result (Unit {0}) F
+  pub means : MeansOrder (subcommand_of program_line words) (name order)
+  pub run : CarriesOut order input output outcome
+  pub told : TellsEnd outcome errors.before errors.after errors.failed
+  pub is : status ≡ status_of_end outcome
+
+-- the words order a command over messages or bytes
+abbrev pub EndsMessage : List Text → Course → Course → Course → ℕ → Type 0
+EndsMessage = EndsOrder (λ command. orders.Message command) CarriesOut Tells status_of
+
+-- the words order a run over an archive
+abbrev pub EndsArchive : List Text → Course → Course → Course → ℕ → Type 0
+EndsArchive = EndsOrder (λ archive. orders.Archive archive) RunsOver TellsArchive archive_status
+
+-- the words order that doubles are left out
+abbrev pub EndsUniq : List Text → Course → Course → Course → ℕ → Type 0
+EndsUniq = EndsOrder (λ uniq. orders.Uniq uniq) LeavesDoublesOut TellsArchive archive_status
+
+-- the words order that messages are picked
+abbrev pub EndsPick : List Text → Course → Course → Course → ℕ → Type 0
+EndsPick = EndsOrder (λ pick. orders.Pick pick) PicksMessages TellsPick pick_status
+
+-- the words order that bytes flow
+abbrev pub EndsFlow : List Text → Course → Course → Course → ℕ → Type 0
+EndsFlow = EndsOrder (λ flow. orders.Flow flow) LetsFlow TellsFlow flow_status
+
+-- the words order that messages are made from texts
+abbrev pub EndsMake : List Text → Course → Course → Course → ℕ → Type 0
+EndsMake = EndsOrder (λ form. orders.Make form) MakesTexts TellsMake make_status
 
 -- The version was shown on the output, and that ended so: its line was written, and the output has not failed; or a
 -- beginning of it, and it has failed.
@@ -123,4 +163,7 @@ abbrev pub Ends : List Text → Course → Course → Course → ℕ → Type 0
 Ends words input output errors status =
     EndsMessage words input output errors status
     ⊎ (EndsArchive words input output errors status
-    ⊎ (EndsMake words input output errors status ⊎ Unordered words input output errors status))
+    ⊎ (EndsUniq words input output errors status
+    ⊎ (EndsPick words input output errors status
+    ⊎ (EndsFlow words input output errors status
+    ⊎ (EndsMake words input output errors status ⊎ Unordered words input output errors status)))))

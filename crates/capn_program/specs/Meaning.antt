@@ -1,12 +1,27 @@
 -- What a subcommand and the values of its options order. (Own.)
-use Rattle.std.specs.Prelude.{◌≡◌, List, Bool, true, false, Option, Some, None, codes, ⊤}
+use Rattle.std.specs.Prelude.{ℕ, ◌≡◌, ◌≤◌, List, Bool, true, false, Option, Some, None, codes, ⊤, find, option_and_then}
+use Rattle.std.specs.Str.{bytes_eq}
 use Rattle.clap.specs.Words.{Row, Text, one_of}
-use Rattle.capn_tool.specs.Meaning.{FormIs, LimitsAre, Means}
+use Rattle.clap.specs.declared.parser.matches.ValueSource.{ValueSource}
+use Rattle.clap.specs.declared.parser.matches.ValueSource.TheVariants as sources
+use Rattle.capn_words.specs.Limits.{most_message_words}
+use Rattle.capn_value.specs.declared.tariff.Tariff.TheVariants as tariffs
+use Rattle.capn_walk.specs.Limits.{Bounds}
+use Rattle.capn_canon.specs.declared.form.Form.{Form}
+use Rattle.capn_canon.specs.declared.form.Form.TheVariants as forms
+use Rattle.capn_tool.specs.Meaning.{FormIs, LimitsAre, Means, NumberIs}
 use Rattle.capn_tool.specs.declared.orders.Command.{Command}
 use Rattle.capn_tool.specs.declared.orders.Command.TheVariants as commands
 use Rattle.capn_archive.specs.declared.order.Archive.{Archive}
 use Rattle.capn_archive.specs.declared.order.Task.{Task}
 use Rattle.capn_archive.specs.declared.order.Task.TheVariants as tasks
+use Rattle.capn_archive.specs.declared.uniq.Uniq.{Uniq}
+use Rattle.capn_serve.specs.declared.pick.Pick.{Pick}
+use Rattle.capn_serve.specs.declared.pick.StreamForm.{StreamForm}
+use Rattle.capn_serve.specs.declared.pick.StreamForm.TheVariants as streams
+use Rattle.capn_program.specs.Line.{most_number}
+use Rattle.capn_program.specs.declared.orders.Flow.{Flow}
+use Rattle.capn_program.specs.declared.orders.Flow.TheVariants as flows
 use Rattle.capn_program.specs.declared.orders.Order.{Order}
 use Rattle.capn_program.specs.declared.orders.Order.TheVariants as orders
 
@@ -24,18 +39,61 @@ abbrev pub AreOptions : List Row → Archive → Type 0
 AreOptions rows archive = FormIs rows archive.form × LimitsAre rows archive.limits
     × FlagIs rows (codes "keep-going") archive.keep_going
 
--- the subcommand of this name is for this task: `canonical` where `--framed` is given
+-- the options of `uniq` have these values
+abbrev pub UniqIs : List Row → Uniq → Type 0
+UniqIs rows uniq = FormIs rows uniq.form × LimitsAre rows uniq.limits
+    × FlagIs rows (codes "keep-going") uniq.keep_going × FlagIs rows (codes "count") uniq.count
+
+-- the option has this number, which is from the least to the most
+abbrev pub NumberIn : List Row → Text → ℕ → ℕ → ℕ → Type 0
+NumberIn rows option least most n = NumberIs rows option n × (least ≤ n) × (n ≤ most)
+
+-- the form of an input that holds a stream so
+abbrev pub form_of : StreamForm → Form
+form_of streams.Stream = forms.Stream
+form_of streams.Packed = forms.Packed
+
+-- the usual limits, with this number of words of a message
+abbrev pub usual_with : ℕ → Bounds
+usual_with words = record { message_words = words; budget = 8388608; depth = 64; tariff = tariffs.Strict }
+
+-- the options of `pick` have these values, and the other limits are the usual ones; it takes no bare input
+abbrev pub PickIs : List Row → Pick → Type 0
+PickIs rows pick = FormIs rows (form_of pick.form)
+    × NumberIn rows (codes "message-words") 1 most_message_words pick.limits.message_words
+    × (pick.limits ≡ usual_with pick.limits.message_words)
+    × NumberIn rows (codes "from") 1 most_number pick.from
+    × NumberIn rows (codes "to") 1 most_number pick.to
+
+-- the subcommand of this name is for this task: `list` with or without `--digest`, `canonical` where `--framed` is
+-- given
 abbrev pub IsTask : Text → List Row → Task → Type 0
-IsTask name rows tasks.List = name ≡ codes "list"
+IsTask name rows tasks.List = (name ≡ codes "list") × FlagIs rows (codes "digest") false
+IsTask name rows tasks.Digests = (name ≡ codes "list") × FlagIs rows (codes "digest") true
 IsTask name rows tasks.Limits = name ≡ codes "limits"
 IsTask name rows tasks.Canonical = (name ≡ codes "canonical") × FlagIs rows (codes "framed") true
 
--- `canonical` is over one message where neither of its flags is given; no other command over messages has one
+-- where the value of the option comes from
+abbrev pub source_of : List Row → Text → Option ValueSource
+source_of rows option = option_and_then (λ row. row.source) (find (λ row. bytes_eq row.id option) rows)
+
+-- the option is not given, and has its usual value
+abbrev pub IsUsual : List Row → Text → Type 0
+IsUsual rows option = source_of rows option ≡ Some sources.DefaultValue
+
+-- the subcommand of this name lets bytes flow this way: `--streaming` is given, and `--message-words` is not
+abbrev pub IsFlow : Text → List Row → Flow → Type 0
+IsFlow name rows flows.Pack = (name ≡ codes "pack") × FlagIs rows (codes "streaming") true
+IsFlow name rows flows.Unpack =
+    (name ≡ codes "unpack") × FlagIs rows (codes "streaming") true × IsUsual rows (codes "message-words")
+
+-- `canonical`, `pack` and `unpack` are commands over one input where none of their flags is given; no other command
+-- over messages has one
 abbrev pub HasNoFlag : List Row → Command → Type 0
 HasNoFlag rows (commands.Show form limits) = ⊤
 HasNoFlag rows (commands.Check form limits) = ⊤
-HasNoFlag rows commands.Pack = ⊤
-HasNoFlag rows (commands.Unpack most) = ⊤
+HasNoFlag rows commands.Pack = FlagIs rows (codes "streaming") false
+HasNoFlag rows (commands.Unpack most) = FlagIs rows (codes "streaming") false
 HasNoFlag rows (commands.Canonical form limits) =
     FlagIs rows (codes "framed") false × FlagIs rows (codes "keep-going") false
 HasNoFlag rows (commands.Hash form limits) = ⊤
@@ -45,6 +103,9 @@ abbrev pub MeansOrder : Option (Text × List Row) → Order → Type 0
 MeansOrder None order = ⊥
 MeansOrder (Some s) (orders.Message command) = Means (Some s) command × HasNoFlag s.1 command
 MeansOrder (Some s) (orders.Archive archive) = IsTask s.0 s.1 archive.task × AreOptions s.1 archive
+MeansOrder (Some s) (orders.Uniq uniq) = (s.0 ≡ codes "uniq") × UniqIs s.1 uniq
+MeansOrder (Some s) (orders.Pick pick) = (s.0 ≡ codes "pick") × PickIs s.1 pick
+MeansOrder (Some s) (orders.Flow flow) = IsFlow s.0 s.1 flow
 MeansOrder (Some s) (orders.Make form) = (s.0 ≡ codes "make") × FormIs s.1 form
 
 -- a meaning is that of one order at most

@@ -1,14 +1,18 @@
--- The texts that tell why a run over an archive did not end as done. (Own.)
+-- The texts that tell why a run did not end as done. (Own.)
 use Rattle.std.specs.Prelude.{ℕ, ◌+◌, ◌≡◌, ◌⊎◌, List, [], ◌∷◌, ◌++◌, codes, Bool, false, Option, Result, Ok, Err}
 use Rattle.std.specs.Fmt.{decimal}
 use Rattle.capn_canon.specs.Told.{refusal_text}
 use Rattle.capn_tool.specs.Told.{TellsLine, fault_line}
 use Rattle.capn_tool.specs.declared.fault.ToolFault.TheVariants as tool_faults
-use Rattle.capn_archive.specs.declared.position.Position.{Position}
+use Rattle.capn_serve.specs.declared.position.Position.{Position}
 use Rattle.capn_archive.specs.declared.fault.ArchiveFault.{ArchiveFault}
 use Rattle.capn_archive.specs.declared.fault.ArchiveFault.TheVariants as faults
-use Rattle.capn_make.specs.Told.{fault_text}
+use Rattle.capn_serve.specs.declared.fault.RunFault.{RunFault}
+use Rattle.capn_serve.specs.declared.fault.RunFault.TheVariants as run_faults
+use Rattle.capn_make.specs.Told as made
 use Rattle.capn_make.specs.declared.fault.MakeFault.{MakeFault}
+use Rattle.capn_flow.specs.Told as flowing
+use Rattle.capn_flow.specs.declared.fault.FlowFault.{FlowFault}
 
 -- the number of a message, counted from 1, and its offset
 abbrev pub place_text : Position → List ℕ
@@ -24,30 +28,40 @@ archive_text (faults.PassedOver passed) =
     decimal passed.refused ++ (codes " of " ++ (decimal passed.messages
     ++ (codes " messages refused, the first is " ++ place_text passed.first)))
 
--- the line that tells it
-abbrev pub archive_fault_line : ArchiveFault → List ℕ
-archive_fault_line fault = codes "capn: " ++ archive_text fault ++ 10 ∷ []
+-- the line that tells this
+abbrev pub told_line : List ℕ → List ℕ
+told_line text = codes "capn: " ++ text ++ 10 ∷ []
 
--- the line of a fault was written, or that of refused memory where there was none for the line
-abbrev pub TellsArchiveFault : ArchiveFault → Option (List ℕ) → Option (List ℕ) → Bool → Type 0
-TellsArchiveFault fault old new failed =
-    TellsLine (archive_fault_line fault) old new failed ⊎ TellsLine (fault_line tool_faults.Memory) old new failed
+-- the line of this text was written, or that of refused memory where there was none for the line
+abbrev pub TellsFault : List ℕ → Option (List ℕ) → Option (List ℕ) → Bool → Type 0
+TellsFault text old new failed =
+    TellsLine (told_line text) old new failed ⊎ TellsLine (fault_line tool_faults.Memory) old new failed
 
--- why a run over an archive ended so has been told: nothing where it is done, and else its fault
+-- why a run ended so has been told: nothing where it is done, and else the text of its fault
+abbrev pub TellsEnd : {F : Type 0} → (F → List ℕ) → Result (Unit {0}) F → Option (List ℕ) → Option (List ℕ) → Bool
+    → Type 0
+TellsEnd text (Ok u) old new failed = (new ≡ old) × (failed ≡ false)
+TellsEnd text (Err fault) old new failed = TellsFault (text fault) old new failed
+
+-- the same of a run over an archive
 abbrev pub TellsArchive : Result (Unit {0}) ArchiveFault → Option (List ℕ) → Option (List ℕ) → Bool → Type 0
-TellsArchive (Ok u) old new failed = (new ≡ old) × (failed ≡ false)
-TellsArchive (Err fault) old new failed = TellsArchiveFault fault old new failed
+TellsArchive = TellsEnd archive_text
 
--- the line that tells why texts were not all made
-abbrev pub make_fault_line : MakeFault → List ℕ
-make_fault_line fault = codes "capn: " ++ fault_text fault ++ 10 ∷ []
-
--- the line of a fault was written, or that of refused memory where there was none for the line
-abbrev pub TellsMakeFault : MakeFault → Option (List ℕ) → Option (List ℕ) → Bool → Type 0
-TellsMakeFault fault old new failed =
-    TellsLine (make_fault_line fault) old new failed ⊎ TellsLine (fault_line tool_faults.Memory) old new failed
-
--- why a run over texts ended so has been told: nothing where it is done, and else its fault
+-- of one over texts
 abbrev pub TellsMake : Result (Unit {0}) MakeFault → Option (List ℕ) → Option (List ℕ) → Bool → Type 0
-TellsMake (Ok u) old new failed = (new ≡ old) × (failed ≡ false)
-TellsMake (Err fault) old new failed = TellsMakeFault fault old new failed
+TellsMake = TellsEnd made.fault_text
+
+-- a fault of a run over messages, as one of a run over an archive
+abbrev pub archive_fault_of : RunFault → ArchiveFault
+archive_fault_of run_faults.Memory = faults.Memory
+archive_fault_of run_faults.Io = faults.Io
+archive_fault_of run_faults.InputTooLong = faults.InputTooLong
+archive_fault_of (run_faults.Refused at refusal) = faults.Refused at refusal
+
+-- of one that picks messages, which has the texts of one over an archive
+abbrev pub TellsPick : Result (Unit {0}) RunFault → Option (List ℕ) → Option (List ℕ) → Bool → Type 0
+TellsPick = TellsEnd (λ fault. archive_text (archive_fault_of fault))
+
+-- and of one that lets bytes flow
+abbrev pub TellsFlow : Result (Unit {0}) FlowFault → Option (List ℕ) → Option (List ℕ) → Bool → Type 0
+TellsFlow = TellsEnd flowing.fault_text

@@ -4,8 +4,9 @@ ghost use Rattle.std.specs.Prelude.{◌≡◌, IfOk, string_bytes, false};
 ghost use Rattle.capn_words.specs.Watching.{inner_of, has_failed};
 ghost use Rattle.capn_program.specs.Status.{archive_status};
 ghost use Rattle.capn_program.specs.Told as spec;
-ghost use Rattle.capn_program.specs.Told.{TellsArchive, TellsArchiveFault};
+ghost use Rattle.capn_program.specs.Told.{TellsArchive, TellsFault};
 
+use crate::telling::tell;
 use capn_archive::{ArchiveFault, Position};
 use capn_tool::{Memory, Watched};
 use std::alloc::Allocator;
@@ -77,22 +78,23 @@ pub fn archive_text<A: Allocator>(alloc: A, fault: &ArchiveFault) -> Result<Stri
 
 /// The line that the program prints for a fault.
 fn archive_line<A: Allocator + Copy>(alloc: A, fault: &ArchiveFault) -> Result<String<A>, Memory>
-    ensures { IfOk result (λ line. string_bytes line ≡ spec.archive_fault_line fault.now) }
+    ensures { IfOk result (λ line. string_bytes line ≡ spec.told_line (spec.archive_text fault.now)) }
 {
     let text = Text(*fault);
     Ok(format!(in alloc; "capn: {text}\n")?)
 }
 
 /// Writes the line of a fault, or that of refused memory where there is none for the line.
-fn tell<E: Write, A: Allocator + Copy>(alloc: A, fault: &ArchiveFault, errors: &mut Watched<E>)
+fn tell_archive<E: Write, A: Allocator + Copy>(
+    alloc: A,
+    fault: &ArchiveFault,
+    errors: &mut Watched<E>,
+)
     requires { has_failed errors.old ≡ false }
-    ensures { TellsArchiveFault fault.now (E.contents (inner_of errors.old)) (E.contents (inner_of errors.new))
-        (has_failed errors.new) }
+    ensures { TellsFault (spec.archive_text fault.now) (E.contents (inner_of errors.old))
+        (E.contents (inner_of errors.new)) (has_failed errors.new) }
 {
-    let _told = match archive_line(alloc, fault) {
-        Ok(line) => errors.write_all(line.as_bytes()),
-        Err(_) => errors.write_all(b"capn: out of memory\n"),
-    };
+    tell(archive_line(alloc, fault), errors);
 }
 
 /// Writes the line that tells why a run over an archive ended so, if it is not done, and answers its exit status. If
@@ -108,7 +110,7 @@ pub fn end_archive<E: Write, A: Allocator + Copy>(
         (has_failed errors.new) }
 {
     if let Err(fault) = outcome {
-        tell(alloc, fault, errors);
+        tell_archive(alloc, fault, errors);
     }
     status_of_archive(outcome)
 }

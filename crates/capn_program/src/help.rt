@@ -41,7 +41,9 @@ number of bytes of the stream before it; of a packed stream they are counted
 unpacked. B is the number of bytes of its frame, S that of its segments and W
 that of its words. P and V are as `check` writes them. D is the least `--depth`
 that admits it. C is the index of its first capability, or `no`. Y is `yes` if
-its contents are the canonical bytes of its value, else `no`.
+its contents are the canonical bytes of its value, else `no`. With `--digest`
+the line goes on with `sha256` and the digest that `hash` writes, or `-` if the
+message has a capability.
 With `--keep-going` the line of a message that is refused ends after W with
 `refused` and the reason.
 Each message is answered as soon as it is complete, and the input may have any
@@ -116,6 +118,77 @@ Examples:
   capn canonical --framed < messages > messages.canonical",
 };
 
+/// `uniq`.
+pub const UNIQ: Page = Page {
+    usage: "capn uniq [OPTIONS] < INPUT",
+    about: "Writes each message whose value no message before it had",
+    more: "Values are compared by the SHA-256 of their canonical bytes, as `hash` writes
+it. A message is written as it stands, with its segment table; of a packed input
+it is written unpacked, and a bare input is written as it is. A message with a
+capability has no canonical bytes and is refused.
+With `--count` nothing is written but a line `U of N` at the end. U messages
+would be written, of N that were not refused.
+Each message is answered as soon as it is complete, and the input may have any
+length. Memory grows by some 50 bytes for each message that is written, or by
+72 if their digests come in ascending order.
+
+Exit status:
+  0  Done
+  1  A message was refused; those kept before it have been written, and with
+     `--keep-going` all that are kept. Without it `--count` wrote nothing
+  2  The command line is wrong
+  3  Reading or writing failed, the input is longer than 2^64 - 1 bytes, or
+     memory ran out
+With 1 and 3 one line on standard error says why; the manual page explains it
+under DIAGNOSTICS.
+
+Examples:
+  capn uniq < messages > distinct
+  capn uniq --count < messages",
+};
+
+/// `pick`.
+pub const PICK: Page = Page {
+    usage: "capn pick [OPTIONS] < INPUT",
+    about: "Writes some of the messages of a stream as they stand",
+    more: "Messages are numbered from 1, as `list` numbers them. Those from `--from` to
+`--to` are written, each with its segment table, byte for byte; of a packed
+stream, unpacked. What a message holds is not looked at, nor what stands after
+the last one. If there are fewer messages, those that are there are written.
+Each message is answered as soon as it is complete, and the input may have any
+length.
+
+Exit status:
+  0  Done
+  1  A segment table was refused, or the input is cut, before the end of the
+     last message; the messages asked for before that have been written
+  2  The command line is wrong
+  3  Reading or writing failed, the input is longer than 2^64 - 1 bytes, or
+     memory ran out
+With 1 and 3 one line on standard error says why; the manual page explains it
+under DIAGNOSTICS.
+
+Example:
+  capn pick --from 3 --to 3 < messages > message",
+};
+
+/// `pack`: as it is without an option, except the usage.
+pub const PACK: Page = Page {
+    usage: "capn pack [OPTIONS] < INPUT",
+    about: "Packs the input, whose bytes are whole words",
+    more: "Exit status:
+  0  Done
+  1  The number of bytes is no multiple of 8, and nothing was written
+  2  The command line is wrong
+  3  Reading or writing failed, the input is longer than 2^32 bytes, or memory
+     ran out
+With 1 and 3 one line on standard error says why; the manual page explains it
+under DIAGNOSTICS.
+
+Example:
+  capn pack < message > message.packed",
+};
+
 /// `make`.
 pub const MAKE: Page = Page {
     usage: "capn make [OPTIONS] < TEXTS",
@@ -162,6 +235,47 @@ and go on with the next one";
 /// `--keep-going`.
 pub const KEEP_GOING: &str = "Pass over a message that is refused, and go on with
 the next one";
+
+/// `--form` of `pick`.
+pub const FORMS_OF_FRAMES: &str = "How the input holds its messages: `stream`, each
+after its segment table; or `packed`, the same,
+packed";
+
+/// `--message-words` of `pick`.
+pub const FRAMED_WORDS: &str = "The most words of a message, from 1 to
+268435456";
+
+/// `--from`.
+pub const FROM: &str = "The number of the first message, from 1";
+
+/// `--to`.
+pub const TO: &str = "The number of the last message; none is written if it
+is below `--from`";
+
+/// What is said of a value that `--form` of `pick` does not take.
+pub const NO_FRAMED_FORM: &str = "--form takes stream or packed";
+
+/// `--digest`.
+pub const DIGEST: &str = "End each line with `sha256` and what `hash` writes of
+the message, or `-` if it has a capability";
+
+/// `--count`.
+pub const COUNT: &str = "Write no message, but at the end a line `U of N`: how
+many would be written, and of how many";
+
+/// `--streaming` of `pack`.
+pub const PACK_STREAMING: &str = "Write while the input comes in, which may have up to
+2^64 - 1 bytes, in at most 2 MiB of memory; what was
+written before a refusal stays written";
+
+/// `--streaming` of `unpack`.
+pub const UNPACK_STREAMING: &str = "Write while the input comes in, which may have up to
+2^64 - 1 bytes and any number of words, in at most
+2 MiB of memory; what was written before a refusal
+stays written. It goes without `--message-words`";
+
+/// What is said of `--message-words` beside `--streaming`.
+pub const WITHOUT_MESSAGE_WORDS: &str = "--streaming goes without --message-words";
 
 /// What is said of `--keep-going` where messages are not framed.
 pub const ONLY_FRAMED: &str = "--keep-going needs --framed";

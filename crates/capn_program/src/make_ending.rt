@@ -2,10 +2,11 @@
 
 ghost use Rattle.std.specs.Prelude.{◌≡◌, IfOk, string_bytes, false};
 ghost use Rattle.capn_words.specs.Watching.{inner_of, has_failed};
+ghost use Rattle.capn_make.specs.Told.{fault_text};
 ghost use Rattle.capn_program.specs.Status.{make_status};
-ghost use Rattle.capn_program.specs.Told as spec;
-ghost use Rattle.capn_program.specs.Told.{TellsMake, TellsMakeFault};
+ghost use Rattle.capn_program.specs.Told.{TellsFault, TellsMake, told_line};
 
+use crate::telling::tell;
 use capn_make::MakeFault;
 use capn_tool::{Memory, Watched};
 use std::alloc::Allocator;
@@ -13,21 +14,9 @@ use std::io::Write;
 
 /// The line that the program prints for a fault of `make`.
 fn make_line<A: Allocator + Copy>(alloc: A, fault: &MakeFault) -> Result<String<A>, Memory>
-    ensures { IfOk result (λ line. string_bytes line ≡ spec.make_fault_line fault.now) }
+    ensures { IfOk result (λ line. string_bytes line ≡ told_line (fault_text fault.now)) }
 {
     Ok(format!(in alloc; "capn: {fault}\n")?)
-}
-
-/// Writes the line of a fault of `make`, or that of refused memory where there is none for the line.
-fn tell_make<E: Write, A: Allocator + Copy>(alloc: A, fault: &MakeFault, errors: &mut Watched<E>)
-    requires { has_failed errors.old ≡ false }
-    ensures { TellsMakeFault fault.now (E.contents (inner_of errors.old)) (E.contents (inner_of errors.new))
-        (has_failed errors.new) }
-{
-    let _told = match make_line(alloc, fault) {
-        Ok(line) => errors.write_all(line.as_bytes()),
-        Err(_) => errors.write_all(b"capn: out of memory\n"),
-    };
 }
 
 /// The exit status of a run over texts: 0 where all are made, else that of its fault.
@@ -38,6 +27,15 @@ fn status_of_make(outcome: &Result<(), MakeFault>) -> u8
         Ok(()) => 0,
         Err(fault) => fault.status(),
     }
+}
+
+/// Writes the line of a fault, or that of refused memory where there is none for the line.
+fn tell_make<E: Write, A: Allocator + Copy>(alloc: A, fault: &MakeFault, errors: &mut Watched<E>)
+    requires { has_failed errors.old ≡ false }
+    ensures { TellsFault (fault_text fault.now) (E.contents (inner_of errors.old)) (E.contents (inner_of errors.new))
+        (has_failed errors.new) }
+{
+    tell(make_line(alloc, fault), errors);
 }
 
 /// Writes the line that tells why a run over texts ended so, if it is not done, and answers its exit status. If there

@@ -1,7 +1,17 @@
 //! What the program can be told to do.
 
-use capn_archive::Archive;
+use capn_archive::{Archive, Uniq};
+use capn_serve::Pick;
 use capn_tool::{Command, Form};
+
+/// Which way bytes flow, of which those that came are written before more are read.
+#[derive(Clone, Copy, Debug, PartialEq, Eq)]
+pub enum Flow {
+    /// They are packed.
+    Pack,
+    /// They are unpacked.
+    Unpack,
+}
 
 /// What a run of the program does with its input.
 #[derive(Clone, Copy, Debug, PartialEq, Eq)]
@@ -10,6 +20,12 @@ pub enum Order {
     Message(Command),
     /// A run over an archive, which may have any length.
     Archive(Archive),
+    /// Writes the messages of an archive without doubles, or counts them.
+    Uniq(Uniq),
+    /// Writes some messages of a stream as they stand.
+    Pick(Pick),
+    /// Packs or unpacks bytes while they come in, in bounded memory.
+    Flow(Flow),
     /// Writes what is made of the texts of an input, in a form.
     Make(Form),
 }

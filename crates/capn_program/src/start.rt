@@ -6,16 +6,21 @@ ghost use Rattle.clap.specs.Words.{kind_of};
 ghost use Rattle.capn_words.specs.Watching.{inner_of, has_failed};
 ghost use Rattle.capn_tool.specs.Ends.{course};
 ghost use Rattle.capn_tool.specs.Misuse.{error_of};
-ghost use Rattle.capn_program.specs.Ends.{Ends, EndsFlushed, EndsUnordered, MakesTexts, RunsOver, ShowsVersion};
+ghost use Rattle.capn_program.specs.Ends.{Ends, EndsFlushed, EndsUnordered, LeavesDoublesOut, MakesTexts, RunsOver};
+ghost use Rattle.capn_program.specs.Ends.{Flowed, LetsFlow, PicksMessages, ShowsVersion};
 ghost use Rattle.capn_program.specs.Misuse.{WishesVersion};
 
 use crate::ending::end_archive;
+use crate::flow_ending::end_flow;
 use crate::help::VERSION_LINE;
 use crate::line::order_of;
 use crate::make_ending::end_make;
-use crate::orders::Order;
-use capn_archive::{Archive, ArchiveFault, run_archive};
+use crate::orders::{Flow, Order};
+use crate::pick_ending::end_pick;
+use capn_archive::{Archive, ArchiveFault, RunFault, Uniq, run_archive, run_uniq};
+use capn_flow::{FlowFault, pack_stream, unpack_stream};
 use capn_make::{MakeFault, make};
+use capn_serve::{Pick, run_pick};
 use capn_tool::parts::{carry_out, flush_behind, write_all};
 use capn_tool::{Form, ToolFault, Usage, Watched, end, parts};
 use clap::error::ErrorKind;
@@ -59,6 +64,79 @@ fn go_over<R: Read, W: Write>(
 {
     let outcome = run_archive(alloc, archive, reader, writer);
     flush_after(outcome, ArchiveFault::Io, writer)
+}
+
+/// Leaves doubles out of an archive, and flushes the output. It ends as the run does, or with `Io` if the run is done
+/// and the flush fails.
+fn leave_doubles_out<R: Read, W: Write>(
+    alloc: Global,
+    uniq: Uniq,
+    reader: &mut Watched<R>,
+    writer: &mut Watched<W>,
+) -> Result<(), ArchiveFault>
+    requires reader_fine { has_failed reader.old ≡ false }
+    requires writer_fine { has_failed writer.old ≡ false }
+    ensures { LeavesDoublesOut uniq
+        (course (R.remaining (inner_of reader.old)) (R.remaining (inner_of reader.new)) (has_failed reader.new))
+        (course (W.contents (inner_of writer.old)) (W.contents (inner_of writer.new)) (has_failed writer.new)) result }
+{
+    let outcome = run_uniq(alloc, uniq, reader, writer);
+    flush_after(outcome, ArchiveFault::Io, writer)
+}
+
+/// Picks messages of a stream, and flushes the output. It ends as the run does, or with `Io` if the run is done and the
+/// flush fails.
+fn pick_messages<R: Read, W: Write>(
+    alloc: Global,
+    pick: Pick,
+    reader: &mut Watched<R>,
+    writer: &mut Watched<W>,
+) -> Result<(), RunFault>
+    requires reader_fine { has_failed reader.old ≡ false }
+    requires writer_fine { has_failed writer.old ≡ false }
+    ensures { PicksMessages pick
+        (course (R.remaining (inner_of reader.old)) (R.remaining (inner_of reader.new)) (has_failed reader.new))
+        (course (W.contents (inner_of writer.old)) (W.contents (inner_of writer.new)) (has_failed writer.new)) result }
+{
+    let outcome = run_pick(alloc, pick, reader, writer);
+    flush_after(outcome, RunFault::Io, writer)
+}
+
+/// Packs or unpacks the input while it comes in.
+fn flow_through<R: Read, W: Write>(
+    alloc: Global,
+    flow: Flow,
+    reader: &mut Watched<R>,
+    writer: &mut Watched<W>,
+) -> Result<(), FlowFault>
+    requires reader_fine { has_failed reader.old ≡ false }
+    requires writer_fine { has_failed writer.old ≡ false }
+    ensures { Flowed flow (R.remaining (inner_of reader.old)) (R.remaining (inner_of reader.new))
+        (W.contents (inner_of writer.old)) (W.contents (inner_of writer.new)) (has_failed reader.new)
+        (has_failed writer.new) result }
+{
+    match flow {
+        Flow::Pack => pack_stream(alloc, reader, writer),
+        Flow::Unpack => unpack_stream(alloc, reader, writer),
+    }
+}
+
+/// Packs or unpacks the input while it comes in, and flushes the output. It ends as the run does, or with `Io` if the
+/// run is done and the flush fails.
+fn let_flow<R: Read, W: Write>(
+    alloc: Global,
+    flow: Flow,
+    reader: &mut Watched<R>,
+    writer: &mut Watched<W>,
+) -> Result<(), FlowFault>
+    requires reader_fine { has_failed reader.old ≡ false }
+    requires writer_fine { has_failed writer.old ≡ false }
+    ensures { LetsFlow flow
+        (course (R.remaining (inner_of reader.old)) (R.remaining (inner_of reader.new)) (has_failed reader.new))
+        (course (W.contents (inner_of writer.old)) (W.contents (inner_of writer.new)) (has_failed writer.new)) result }
+{
+    let outcome = flow_through(alloc, flow, reader, writer);
+    flush_after(outcome, FlowFault::Io, writer)
 }
 
 /// Makes what the texts of the input say, and flushes the output. It ends as the run does, or with `Io` if the run is
@@ -117,11 +195,12 @@ fn end_unordered<W: Write, E: Write>(
 
 /// The whole program, from the words of the command line, the first of them its name, to the exit status.
 ///
-/// It does what the words order, from the reader to the writer: a command as [`capn_tool::run`] promises, a run over an
-/// archive as [`run_archive`] does, or the messages of texts as [`make`] does; and it flushes the writer. If the run is
-/// done and the flush fails, it ends as a failed output does; after any other run a failed flush changes nothing. The
-/// status is 0 if all is done, 1 if the input, or a message of it, is refused, and 3 if memory, the input or the output
-/// failed or the input is too long.
+/// It does what the words order, from the reader to the writer: a command as [`capn_tool::run`] promises, a run over
+/// an archive as [`run_archive`] or [`run_uniq`] does, packing or unpacking as [`pack_stream`] and [`unpack_stream`]
+/// do, or the messages of texts as [`make`] does; and it flushes the writer. If the run is done and the flush fails, it
+/// ends as a failed output does; after any other run a failed flush changes nothing. The status is 0 if all is done, 1
+/// if the input, or a message of it, is refused, and 3 if memory, the input or the output failed or the input is too
+/// long.
 /// With 1 and 3 one line on `errors` says why: `capn: ` and the text of the fault, or `capn: out of memory` if there is
 /// no memory for that text. A command line that orders nothing ends with 2, and `errors` says what is wrong with it.
 /// Help and the version are written to the writer and end with 0, or with 3 if that fails.
@@ -152,6 +231,17 @@ pub fn program<'a, S: AsStr, R: Read, W: Write, E: Write>(
                 &go_over(alloc, archive, reader, writer),
                 errors,
             ),
+            Order::Uniq(uniq) => end_archive(
+                alloc,
+                &leave_doubles_out(alloc, uniq, reader, writer),
+                errors,
+            ),
+            Order::Pick(pick) => end_pick(
+                alloc,
+                &pick_messages(alloc, pick, reader, writer),
+                errors,
+            ),
+            Order::Flow(flow) => end_flow(alloc, &let_flow(alloc, flow, reader, writer), errors),
             Order::Make(form) => end_make(alloc, &make_texts(alloc, form, reader, writer), errors),
         },
         Err(usage) => end_unordered(alloc, &usage, writer, errors),

@@ -1,15 +1,20 @@
 //! The command line: the subcommands, their options, and what help says of each.
 
 ghost use Rattle.std.specs.Prelude.{◌≡◌, IfOk, false};
-ghost use Rattle.clap.specs.Words.{App, app_of, kind_of, rule_of, with_subcommand};
+ghost use Rattle.clap.specs.Words.{app_of, kind_of, rule_of};
 ghost use Rattle.clap.specs.declared.error.ErrorKind.TheVariants as kinds;
 ghost use Rattle.capn_tool.specs.Line.{HasLine};
-ghost use Rattle.capn_program.specs.Line.{archive_line, bytes_line, canonical_line, flag_rule, make_line};
-ghost use Rattle.capn_program.specs.Line.{messages_line, program_line, reading_line, surveying_line, top_line};
+ghost use Rattle.capn_program.specs.Line.{archive_line, bytes_line, canonical_bytes_line, canonical_line, flag_rule};
+ghost use Rattle.capn_program.specs.Line.{flagged_line, make_line, messages_line, packing_line, pick_line};
+ghost use Rattle.capn_program.specs.Line.{place_rule, program_line, reading_line, surveying_line, top_line};
+ghost use Rattle.capn_program.specs.Line.{unpacking_line};
+ghost use Rattle.capn_tool.specs.Line.{words_rule};
 
 use crate::help;
 use capn_tool::help::Page;
 use capn_tool::{help as tool_help, parts};
+use capn_words::MOST_MESSAGE_WORDS;
+use clap::builder::ValueParser;
 use clap::error::ErrorKind;
 use clap::{Arg, ArgAction, Command};
 use std::alloc::{AllocError, Global};
@@ -31,8 +36,14 @@ fn page_of(name: &str) -> Page {
         "list" => help::LIST,
         "limits" => help::LIMITS,
         "canonical" => help::CANONICAL,
+        "uniq" => help::UNIQ,
+        "pick" => help::PICK,
+        "pack" => help::PACK,
+        "unpack" => tool_help::UNPACK,
         "make" => help::MAKE,
-        _ => parts::page_of(name),
+        "show" => tool_help::SHOW,
+        "check" => tool_help::CHECK,
+        _ => tool_help::HASH,
     }
 }
 
@@ -53,6 +64,20 @@ fn archive_command<'a>(alloc: Global, name: &'a str, page: Page) -> Result<Comma
 {
     let command = parts::message_command(alloc, name, page, tool_help::FORMS_OF_MESSAGES)?;
     command.arg(flag(alloc, "keep-going", help::KEEP_GOING))
+}
+
+/// A command over an archive with one more option, of which help says this, and which takes no value.
+fn flagged_command<'a>(
+    alloc: Global,
+    name: &'a str,
+    page: Page,
+    option: &'a str,
+    text: &'a str,
+) -> Result<Command<'a>, AllocError>
+    ensures { IfOk result (λ c. HasLine c (flagged_line name.now option.now)) }
+{
+    let command = archive_command(alloc, name, page)?;
+    command.arg(flag(alloc, option, text))
 }
 
 /// `canonical`, with `--framed` and `--keep-going`.
@@ -83,36 +108,64 @@ fn reading_command<'a>(alloc: Global) -> Result<Command<'a>, AllocError>
     parts::with_messages(with_show, alloc, "check", forms)
 }
 
-/// A program with a command over an archive beside those that it has, if both could be made.
-fn with_archive<'a>(
-    program: Result<Command<'a>, AllocError>,
-    alloc: Global,
-    name: &'a str,
-    page: Page,
-) -> Result<Command<'a>, AllocError>
-    ensures { (top : App) → IfOk program.entry (λ c. app_of c ≡ top)
-        → IfOk result (λ c. app_of c ≡ with_subcommand top (archive_line name.now).top) }
-{
-    let command = archive_command(alloc, name, page);
-    parts::with_command(program, command)
-}
-
 /// The program with the commands that tell what an archive holds and needs.
 fn surveying_command<'a>(alloc: Global) -> Result<Command<'a>, AllocError>
     ensures { IfOk result (λ c. app_of c ≡ surveying_line) }
 {
-    let reading = reading_command(alloc);
-    let with_list = with_archive(reading, alloc, "list", help::LIST);
-    with_archive(with_list, alloc, "limits", help::LIMITS)
+    let list = flagged_command(alloc, "list", help::LIST, "digest", help::DIGEST);
+    let with_list = parts::with_command(reading_command(alloc), list);
+    let limits = archive_command(alloc, "limits", help::LIMITS);
+    parts::with_command(with_list, limits)
+}
+
+/// The program with the commands that make bytes of values beside these.
+fn canonical_bytes_command<'a>(alloc: Global) -> Result<Command<'a>, AllocError>
+    ensures { IfOk result (λ c. app_of c ≡ canonical_bytes_line) }
+{
+    let surveying = surveying_command(alloc);
+    let with_canonical = parts::with_command(surveying, canonical_command(alloc));
+    parts::with_messages(with_canonical, alloc, "hash", tool_help::FORMS_OF_MESSAGES)
+}
+
+/// `--message-words` of `pick`.
+fn words_option<'a>(alloc: Global) -> Arg<'a>
+    ensures rule { rule_of result ≡ words_rule }
+    ensures local { result.global ≡ false }
+{
+    let text = help::FRAMED_WORDS;
+    let option = parts::usual_option(alloc, "message-words", "N", text, "8388608");
+    option.value_parser(ValueParser::signed(1, MOST_MESSAGE_WORDS as i64))
+}
+
+/// An option of this name that takes the number of a message, with its usual value.
+fn place_option<'a>(alloc: Global, name: &'a str, text: &'a str, usual: &'a str) -> Arg<'a>
+    ensures rule { rule_of result ≡ place_rule name.now usual.now }
+    ensures local { result.global ≡ false }
+{
+    let option = parts::usual_option(alloc, name, "N", text, usual);
+    option.value_parser(ValueParser::unsigned(1, u64::MAX))
+}
+
+/// `pick` and its options.
+fn pick_command<'a>(alloc: Global) -> Result<Command<'a>, AllocError>
+    ensures { IfOk result (λ c. HasLine c pick_line) }
+{
+    let options = vec![in alloc;
+        parts::usual_option(alloc, "form", "FORM", help::FORMS_OF_FRAMES, "stream"),
+        words_option(alloc),
+        place_option(alloc, "from", help::FROM, "1"),
+        place_option(alloc, "to", help::TO, "18446744073709551615"),
+    ]?;
+    parts::plain_command(alloc, "pick", help::PICK).args(options)
 }
 
 /// The program with all commands over messages.
 fn messages_command<'a>(alloc: Global) -> Result<Command<'a>, AllocError>
     ensures { IfOk result (λ c. app_of c ≡ messages_line) }
 {
-    let surveying = surveying_command(alloc);
-    let with_canonical = parts::with_command(surveying, canonical_command(alloc));
-    parts::with_messages(with_canonical, alloc, "hash", tool_help::FORMS_OF_MESSAGES)
+    let uniq = flagged_command(alloc, "uniq", help::UNIQ, "count", help::COUNT);
+    let with_uniq = parts::with_command(canonical_bytes_command(alloc), uniq);
+    parts::with_command(with_uniq, pick_command(alloc))
 }
 
 /// `make`, with the form of what it writes.
@@ -123,13 +176,28 @@ fn make_command<'a>(alloc: Global) -> Result<Command<'a>, AllocError>
     parts::plain_command(alloc, "make", help::MAKE).arg(form)
 }
 
+/// `pack`, with `--streaming`.
+fn pack_command<'a>(alloc: Global) -> Result<Command<'a>, AllocError>
+    ensures { IfOk result (λ c. HasLine c packing_line) }
+{
+    let command = parts::plain_command(alloc, "pack", help::PACK);
+    command.arg(flag(alloc, "streaming", help::PACK_STREAMING))
+}
+
+/// `unpack`, with `--streaming`.
+fn unpack_command<'a>(alloc: Global) -> Result<Command<'a>, AllocError>
+    ensures { IfOk result (λ c. HasLine c unpacking_line) }
+{
+    let command = parts::unpack_command(alloc)?;
+    command.arg(flag(alloc, "streaming", help::UNPACK_STREAMING))
+}
+
 /// The program with the commands over bytes beside those over messages.
 fn bytes_command<'a>(alloc: Global) -> Result<Command<'a>, AllocError>
     ensures { IfOk result (λ c. app_of c ≡ bytes_line) }
 {
-    let pack = parts::plain_command(alloc, "pack", tool_help::PACK);
-    let with_pack = parts::with_command(messages_command(alloc), Ok(pack));
-    parts::with_command(with_pack, parts::unpack_command(alloc))
+    let with_pack = parts::with_command(messages_command(alloc), pack_command(alloc));
+    parts::with_command(with_pack, unpack_command(alloc))
 }
 
 /// The whole command line. Refused memory is answered.

@@ -5,41 +5,105 @@ use crate::messages::form_at;
 use crate::runs::command_line;
 use crate::words::{bytes_at, digits_of};
 use anyhow::{Result, anyhow};
-use capn_archive::run_archive;
+use capn_archive::{run_archive, run_uniq};
+use capn_flow::{FlowFault, pack_stream, unpack_stream};
 use capn_make::{MakeFault, make};
-use capn_program::{Archive, ArchiveFault, Order, archive_text, order_of, status_of_archive};
+use capn_program::{
+    ArchiveFault, Flow, Order, RunFault, archive_text, order_of, status_of_archive,
+};
+use capn_serve::run_pick;
 use capn_words::Watched;
 use std::alloc::Global;
 
-/// The run over an archive that a command line orders.
-fn archive_of(alloc: Global, line: &[&str]) -> Result<Archive> {
-    let Ok(order) = order_of(alloc, line) else {
+/// The fault of a run that picks messages, as one of a run over an archive.
+fn archive_fault_of(fault: RunFault) -> ArchiveFault {
+    match fault {
+        RunFault::Memory => ArchiveFault::Memory,
+        RunFault::Io => ArchiveFault::Io,
+        RunFault::InputTooLong => ArchiveFault::InputTooLong,
+        RunFault::Refused(at, refusal) => ArchiveFault::Refused(at, refusal),
+    }
+}
+
+/// The status of a run over an archive, what is written, and the line on standard error.
+fn archive_told(
+    alloc: Global,
+    heap: &Heap,
+    outcome: Result<(), ArchiveFault>,
+    written: &[u8],
+) -> Result<String> {
+    let status = status_of_archive(&outcome);
+    let digits = digits_of(alloc, written)?;
+    match outcome {
+        Ok(()) => Ok(format!(in alloc; "status {status}, {digits}")?),
+        Err(ArchiveFault::Memory) => cut_short(alloc, written),
+        Err(fault) => match archive_text(heap, &fault) {
+            Ok(text) => Ok(format!(in alloc; "status {status}, {digits}, capn: {text}")?),
+            Err(_) => cut_short(alloc, written),
+        },
+    }
+}
+
+/// The same of a run that packs or unpacks.
+fn flow_told(alloc: Global, outcome: Result<(), FlowFault>, written: &[u8]) -> Result<String> {
+    let digits = digits_of(alloc, written)?;
+    match outcome {
+        Ok(()) => Ok(format!(in alloc; "status 0, {digits}")?),
+        Err(FlowFault::Memory) => cut_short(alloc, written),
+        Err(fault) => {
+            let status = fault.status();
+            Ok(format!(in alloc; "status {status}, {digits}, capn: {fault}")?)
+        }
+    }
+}
+
+/// `archive COUNT WORD .. BYTES`: the status, what is written, and the line on standard error, of a run whose input may
+/// have any length.
+pub(crate) fn archive_answer(alloc: Global, heap: &Heap, words: &[&str]) -> Result<String> {
+    let line = command_line(alloc, words)?;
+    let input = bytes_at(alloc, words, line.len().saturating_add(1))?;
+    let Ok(order) = order_of(alloc, line.as_slice()) else {
         return Err(anyhow!("no order"));
     };
+    let mut reader = Watched::new(input.as_slice());
+    let mut writer = Watched::new(Vec::new(alloc));
     match order {
-        Order::Archive(archive) => Ok(archive),
+        Order::Archive(archive) => {
+            let outcome = run_archive(heap, archive, &mut reader, &mut writer);
+            archive_told(alloc, heap, outcome, writer.into_inner().as_slice())
+        }
+        Order::Uniq(uniq) => {
+            let outcome = run_uniq(heap, uniq, &mut reader, &mut writer);
+            archive_told(alloc, heap, outcome, writer.into_inner().as_slice())
+        }
+        Order::Pick(pick) => {
+            let outcome = match run_pick(heap, pick, &mut reader, &mut writer) {
+                Ok(()) => Ok(()),
+                Err(fault) => Err(archive_fault_of(fault)),
+            };
+            archive_told(alloc, heap, outcome, writer.into_inner().as_slice())
+        }
+        Order::Flow(Flow::Pack) => {
+            let outcome = pack_stream(heap, &mut reader, &mut writer);
+            flow_told(alloc, outcome, writer.into_inner().as_slice())
+        }
+        Order::Flow(Flow::Unpack) => {
+            let outcome = unpack_stream(heap, &mut reader, &mut writer);
+            flow_told(alloc, outcome, writer.into_inner().as_slice())
+        }
         _ => Err(anyhow!("no run over an archive")),
     }
 }
 
-/// `archive COUNT WORD .. BYTES`: the status, what is written, and the line on standard error.
-pub(crate) fn archive_answer(alloc: Global, heap: &Heap, words: &[&str]) -> Result<String> {
+/// `order COUNT WORD ..`: the status of a command line that orders nothing, for the whole program.
+pub(crate) fn order_answer(alloc: Global, words: &[&str]) -> Result<String> {
     let line = command_line(alloc, words)?;
-    let input = bytes_at(alloc, words, line.len().saturating_add(1))?;
-    let archive = archive_of(alloc, line.as_slice())?;
-    let mut reader = Watched::new(input.as_slice());
-    let mut writer = Watched::new(Vec::new(alloc));
-    let outcome = run_archive(heap, archive, &mut reader, &mut writer);
-    let status = status_of_archive(&outcome);
-    let written = writer.into_inner();
-    let digits = digits_of(alloc, written.as_slice())?;
-    match outcome {
-        Ok(()) => Ok(format!(in alloc; "status {status}, {digits}")?),
-        Err(ArchiveFault::Memory) => cut_short(alloc, written.as_slice()),
-        Err(fault) => match archive_text(heap, &fault) {
-            Ok(text) => Ok(format!(in alloc; "status {status}, {digits}, capn: {text}")?),
-            Err(_) => cut_short(alloc, written.as_slice()),
-        },
+    match order_of(alloc, line.as_slice()) {
+        Ok(_) => Ok(String::from_str(alloc, "an order")?),
+        Err(usage) => {
+            let status = usage.status();
+            Ok(format!(in alloc; "status {status}")?)
+        }
     }
 }
 

@@ -46,6 +46,7 @@ fn answer(alloc: Global, heap: &Heap, words: &[&str]) -> Result<String> {
         "run" => runs::run_answer(alloc, heap, words),
         "usage" => runs::usage_answer(alloc, words),
         "archive" => archives::archive_answer(alloc, heap, words),
+        "order" => archives::order_answer(alloc, words),
         "make" => archives::make_answer(alloc, heap, words),
         "limits" => messages::limits_answer(alloc, words),
         "resolve" => slots::resolve_answer(alloc, heap, words),

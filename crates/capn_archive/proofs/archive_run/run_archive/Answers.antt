@@ -1,8 +1,8 @@
 use Rattle.std.proofs.Common.{Result, Err, sym, subst}
 use Rattle.capn_words.specs.Watching.{inner_of, has_failed}
-use Rattle.capn_archive.specs.Archived.{Archived}
+use Rattle.capn_archive.specs.Archived.{Archived, archive_finish, archive_fold, first_run}
 use Rattle.capn_archive.specs.declared.fault.ArchiveFault.{ArchiveFault}
-use Rattle.capn_archive.proofs.Closings.{archived_closed, archived_stopped, archived_unclosed}
+use Rattle.capn_archive.proofs.Finishes.{finished_closed, finished_stopped, finished_unclosed}
 use Rattle.capn_archive.proofs.archive_run.run_archive.Goals as goal
 
 abbrev Ending : Type 0
@@ -18,7 +18,8 @@ returns-in-Ok-write_closing g c =
     (g.R.Read.remaining (inner_of c.serve_messages.new.reader)) (g.W.Write.contents (inner_of c.args.writer.now))
     (g.W.Write.contents (inner_of c.write_closing.new.writer)) (has_failed c.serve_messages.new.reader)
     (has_failed c.write_closing.new.writer) r) (sym c.outcome.ensures)
-    (archived_closed c.args.order (g.R.Read.remaining (inner_of c.args.reader.now))
+    (finished_closed (archive_fold c.args.order) (first_run c.args.order) (archive_finish c.args.order)
+    c.args.order.form (g.R.Read.remaining (inner_of c.args.reader.now))
     (g.R.Read.remaining (inner_of c.serve_messages.new.reader)) (g.W.Write.contents (inner_of c.args.writer.now))
     (g.W.Write.contents (inner_of c.serve_messages.new.writer)) (has_failed c.serve_messages.new.reader)
     (has_failed c.serve_messages.new.writer) c.serve_messages.new.run c.in-Ok.ensures
@@ -31,7 +32,8 @@ returns-in-Err-write_closing g c =
     (g.R.Read.remaining (inner_of c.serve_messages.new.reader)) (g.W.Write.contents (inner_of c.args.writer.now))
     (g.W.Write.contents (inner_of c.write_closing.new.writer)) (has_failed c.serve_messages.new.reader)
     (has_failed c.write_closing.new.writer) (stopped e)) (sym c.fault_of.ensures)
-    (archived_unclosed c.args.order (g.R.Read.remaining (inner_of c.args.reader.now))
+    (finished_unclosed (archive_fold c.args.order) (first_run c.args.order) (archive_finish c.args.order)
+    c.args.order.form (g.R.Read.remaining (inner_of c.args.reader.now))
     (g.R.Read.remaining (inner_of c.serve_messages.new.reader)) (g.W.Write.contents (inner_of c.args.writer.now))
     (g.W.Write.contents (inner_of c.serve_messages.new.writer)) (has_failed c.serve_messages.new.reader)
     (has_failed c.serve_messages.new.writer) c.serve_messages.new.run c.in-Ok.ensures
@@ -44,7 +46,8 @@ returns-in-Err g c =
     (g.R.Read.remaining (inner_of c.serve_messages.new.reader)) (g.W.Write.contents (inner_of c.args.writer.now))
     (g.W.Write.contents (inner_of c.serve_messages.new.writer)) (has_failed c.serve_messages.new.reader)
     (has_failed c.serve_messages.new.writer) (stopped e)) (sym c.fault_of-in-Err.ensures)
-    (archived_stopped c.args.order (g.R.Read.remaining (inner_of c.args.reader.now))
+    (finished_stopped (archive_fold c.args.order) (first_run c.args.order) (archive_finish c.args.order)
+    c.args.order.form (g.R.Read.remaining (inner_of c.args.reader.now))
     (g.R.Read.remaining (inner_of c.serve_messages.new.reader)) (g.W.Write.contents (inner_of c.args.writer.now))
     (g.W.Write.contents (inner_of c.serve_messages.new.writer)) (has_failed c.serve_messages.new.reader)
     (has_failed c.serve_messages.new.writer) c.in-Err.stopped c.serve_messages.new.run c.in-Err.ensures)

@@ -1,6 +1,6 @@
 use Rattle.std.proofs.Common.{◌≡◌, inl, inr, true, false}
 use Rattle.clap.specs.Words.{found_of, rows_of}
-use Rattle.capn_program.proofs.CanonicalMeans.{canonical_means}
+use Rattle.capn_program.proofs.NamedOrders.{canonical_means}
 use Rattle.capn_program.proofs.line.canonical_of.Goals as goal
 
 pub returns-in_err-flag_of-clause-served : goal.returns-in_err-flag_of-clause-served

@@ -1,0 +1,169 @@
+"""Frees archives of doubles over the workers of a Dask cluster, each of which runs `capn`.
+
+The files are read as one archive, in the order in which they are given. Of the messages that have the same value the
+first one is kept, as it stands or in canonical form. What is written is what one process of `capn uniq --keep-going`
+writes of the same input, or `capn canonical --framed` of that.
+"""
+
+from __future__ import annotations
+
+import argparse
+import os
+import subprocess
+import sys
+from dataclasses import dataclass, field
+from typing import Any, BinaryIO
+
+from distributed import Client, Future
+
+PASSED_OVER = b" messages refused, the first is "
+
+
+@dataclass(frozen=True)
+class Part:
+    """Whole messages of a file, one after the other: the file, and the bytes that they take of it."""
+
+    path: str
+    offset: int
+    length: int
+
+    def read(self) -> bytes:
+        with open(self.path, "rb") as file:
+            file.seek(self.offset)
+            return file.read(self.length)
+
+
+@dataclass(frozen=True)
+class Message:
+    """A message: where it begins and ends, and its digest, or why it has none."""
+
+    begin: int
+    end: int
+    digest: str
+    refusal: str
+
+
+@dataclass
+class Report:
+    """What was found: the number of messages and of those kept, and of each refused one its number, its offset and the
+    reason."""
+
+    messages: int = 0
+    kept: int = 0
+    refused: list[tuple[int, int, str]] = field(default_factory=list)
+
+
+def capn(*words: str, **given: Any) -> bytes:
+    """What `capn` writes. That it passed over refused messages is no failure, anything else is one."""
+    ran = subprocess.run([os.environ.get("CAPN", "capn"), *words], capture_output=True, check=False, **given)
+    if ran.returncode and PASSED_OVER not in ran.stderr:
+        raise RuntimeError(f"capn {' '.join(words)}: status {ran.returncode}: {ran.stderr.decode().strip()}")
+    return ran.stdout
+
+
+def message_of(line: str) -> Message:
+    """The message of a line of `capn list`."""
+    head, _, refusal = line.partition(" refused ")
+    words = head.split()
+    named = dict(zip(words[1::2], words[2::2]))
+    if named.get("capability", "no") != "no":
+        refusal = f"capability {named['capability']}"
+    begin = int(named["at"])
+    return Message(begin, begin + int(named["bytes"]), named.get("sha256", ""), refusal)
+
+
+def messages_of(listing: bytes) -> list[Message]:
+    return [message_of(line) for line in listing.decode().splitlines()]
+
+
+def cut(path: str, most: int) -> list[Part]:
+    """The parts of a file: whole messages, at most this many bytes of them, or a single longer one."""
+    with open(path, "rb") as file:
+        messages = messages_of(capn("list", "--keep-going", stdin=file))
+    parts, begin, end = [], 0, 0
+    for message in messages:
+        if begin < end and message.end - begin > most:
+            parts.append(Part(path, begin, end - begin))
+            begin = end
+        end = message.end
+    return [*parts, Part(path, begin, end - begin)] if begin < end else parts
+
+
+def digests(part: Part) -> list[Message]:
+    """The messages of a part, checked, with the digest of the canonical bytes of each."""
+    return messages_of(capn("list", "--digest", "--keep-going", input=part.read()))
+
+
+def frames(part: Part, kept: list[Message], is_canonical: bool) -> bytes:
+    """The frames of messages of a part, as they stand or in canonical form."""
+    data = part.read()
+    found = b"".join(data[message.begin:message.end] for message in kept)
+    return capn("canonical", "--framed", input=found) if is_canonical else found
+
+
+class Choice:
+    """Chooses the first message of each value, part by part, and counts."""
+
+    def __init__(self) -> None:
+        self.seen: set[str] = set()
+        self.report = Report()
+        self.offset = 0
+
+    def of(self, part: Part, messages: list[Message]) -> list[Message]:
+        """The messages of the next part that are kept."""
+        kept = []
+        for number, message in enumerate(messages, self.report.messages + 1):
+            if message.refusal:
+                self.report.refused.append((number, self.offset + message.begin, message.refusal))
+            elif message.digest not in self.seen:
+                self.seen.add(message.digest)
+                kept.append(message)
+        self.report.messages += len(messages)
+        self.report.kept += len(kept)
+        self.offset += part.length
+        return kept
+
+
+def tasks(client: Client, *call: Any, **options: Any) -> list[Future]:
+    """A task for each argument of a call. Its key is new, since Dask's keys by content can't tell two parts apart."""
+    return client.map(*call, **options, pure=False)
+
+
+def dedupe(client: Client, paths: list[str], out: BinaryIO, most: int, is_canonical: bool) -> Report:
+    """Writes the first message of each value of these files, in their order."""
+    parts = [part for found in tasks(client, cut, paths, most=most) for part in found.result()]
+    choice = Choice()
+    kept = [choice.of(part, found.result()) for part, found in zip(parts, tasks(client, digests, parts))]
+    for answer in tasks(client, frames, parts, kept, is_canonical=is_canonical):
+        out.write(answer.result())
+    return choice.report
+
+
+def told(report: Report) -> str:
+    """The lines of a report, of which the last one is that of `capn`."""
+    lines = [f"{report.kept} of {report.messages - len(report.refused)}"]
+    lines += [f"message {number} at {offset}: {refusal}" for number, offset, refusal in report.refused]
+    if report.refused:
+        number, offset, _ = report.refused[0]
+        lines.append(f"{len(report.refused)} of {report.messages} messages refused, the first is {number} at {offset}")
+    return "\n".join(lines)
+
+
+def main() -> int:
+    parser = argparse.ArgumentParser(description="Frees archives of doubles over the workers of a Dask cluster.")
+    parser.add_argument("--scheduler", help="the address of the scheduler; without it, this process does it all")
+    parser.add_argument("--canonical", action="store_true", help="write the messages in canonical form")
+    parser.add_argument("--most", type=int, default=1 << 26, help="the most bytes of a part (usual: 64 MiB)")
+    parser.add_argument("out")
+    parser.add_argument("archives", nargs="+")
+    options = parser.parse_args()
+    paths = [os.path.abspath(path) for path in options.archives]
+    client = Client(options.scheduler) if options.scheduler else Client(processes=False, dashboard_address=":0")
+    with client, open(options.out, "wb") as out:
+        report = dedupe(client, paths, out, options.most, options.canonical)
+    print(told(report))
+    return 1 if report.refused else 0
+
+
+if __name__ == "__main__":
+    sys.exit(main())

@@ -1,0 +1,88 @@
+"""Tries the example on a local cluster of two workers, one of which is ended in the middle: trial.py FOLDER.
+
+Fails if what is written or counted of the archives of the folder isn't what one process of `capn` writes and counts.
+"""
+
+from __future__ import annotations
+
+import io
+import logging
+import os
+import signal
+import subprocess
+import sys
+from pathlib import Path
+
+from dedupe import Report, dedupe, told
+from distributed import Client, LocalCluster
+
+# The most bytes of a part, and the number of parts that are written before a worker is ended.
+MOST, BEFORE = 1 << 17, 5
+
+
+class Ending(io.BytesIO):
+    """An output that ends a worker when some parts have been written: the one that has the most answers."""
+
+    def __init__(self, client: Client) -> None:
+        super().__init__()
+        self.client = client
+        self.writes = self.ended = self.lost = 0
+
+    def write(self, data: bytes) -> int:  # type: ignore[override]
+        self.writes += 1
+        if self.writes == BEFORE:
+            held = {address: len(keys) for address, keys in self.client.has_what().items()}
+            address = max(held, key=held.__getitem__)
+            self.ended, self.lost = self.client.run(os.getpid)[address], held[address]
+            os.kill(self.ended, signal.SIGKILL)
+            print(f"dask: a worker of two is ended, with {self.lost} answers of {sum(held.values())}")
+        return super().write(data)
+
+
+def by_one_process(data: bytes, *words: str) -> tuple[bytes, str]:
+    """What one process of `capn` writes, and its line on standard error."""
+    ran = subprocess.run([os.environ["CAPN"], *words], input=data, capture_output=True, check=False)
+    return ran.stdout, ran.stderr.decode().removeprefix("capn: ").strip()
+
+
+def by_command(paths: list[str]) -> tuple[bytes, str]:
+    """What the example's own command writes in canonical form, without other workers, and its last line."""
+    script = Path(__file__).with_name("dedupe.py")
+    words = [sys.executable, "-B", str(script), "--canonical", "--most", str(MOST), "framed", *paths]
+    ran = subprocess.run(words, stdout=subprocess.PIPE, check=False)
+    return Path("framed").read_bytes(), ran.stdout.decode().strip().split("\n")[-1]
+
+
+def is_counted(report: Report, data: bytes) -> bool:
+    """Whether a report has the counts of one process, and its line."""
+    counted, line = by_one_process(data, "uniq", "--count", "--keep-going")
+    lines = told(report).split("\n")
+    return lines[0] == counted.decode().strip() and lines[-1] == line
+
+
+def main() -> int:
+    paths = sorted(map(str, Path(sys.argv[1]).glob("*.messages")))
+    options = {"n_workers": 2, "threads_per_worker": 1, "dashboard_address": ":0", "silence_logs": logging.CRITICAL}
+    with LocalCluster(**options) as cluster, Client(cluster) as client:
+        out = Ending(client)
+        report = dedupe(client, paths, out, MOST, is_canonical=False)
+        client.wait_for_workers(2)
+        is_ended = out.ended not in client.run(os.getpid).values()
+    data = b"".join(Path(path).read_bytes() for path in paths)
+    kept, line = by_one_process(data, "uniq", "--keep-going")
+    canonical, _ = by_one_process(kept, "canonical", "--framed")
+    passed = {
+        "the archive is that of one process": out.getvalue() == kept,
+        "so it is in canonical form": by_command(paths) == (canonical, line),
+        "the counts and refusals are those of one process": is_counted(report, data),
+        "a worker was ended that had answers": out.lost > 0 and is_ended,
+    }
+    print(f"dask: {report.kept} of {report.messages} messages kept, {len(report.refused)} refused")
+    for what, is_so in passed.items():
+        if not is_so:
+            print(f"dask: not so: {what}")
+    return 0 if all(passed.values()) else 1
+
+
+if __name__ == "__main__":
+    sys.exit(main())

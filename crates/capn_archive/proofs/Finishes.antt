@@ -1,0 +1,155 @@
+-- The end of a run over an input that writes something after its last message.
+use Rattle.std.proofs.Common.{◌≡◌, inl, inr, ℕ, ◌+◌, List, [], ◌++◌, length, take, Bool, true, false, Option}
+use Rattle.std.proofs.Common.{None, Some, IfSome, Result, Ok, Err, refl, ap, sym, subst}
+use Rattle.std.proofs.Math.Seq.{take-length, take-append-add}
+use Rattle.std.specs.Io.KnownBytes.{Appends}
+use Rattle.std.proofs.KnownBytes.{Appends-trans}
+use Rattle.capn_words.specs.Watching.{HasBegun}
+use Rattle.capn_canon.specs.declared.form.Form.{Form}
+use Rattle.capn_canon.specs.declared.form.Form.TheVariants as forms
+use Rattle.capn_serve.specs.declared.fault.RunFault.{RunFault}
+use Rattle.capn_archive.specs.declared.fault.ArchiveFault.TheVariants as faults
+use Rattle.capn_archive.specs.Closing.{PutsClosing}
+use Rattle.capn_archive.specs.Finish.{EndsAs, Finish, Finished, HasBegunClosing, fault_of, outcome}
+use Rattle.capn_serve.specs.Fold.{Fold, texts_of}
+use Rattle.capn_serve.specs.FormRun.{HasWritten, MessagesEnd, ServesMessages}
+use Rattle.capn_archive.proofs.Closings.{memory_is_not_io, neither, not_io, same_io, told_by}
+
+module _ {X : Type 0} (f : Fold X) (x : X) (finish : Finish X) (form : Form) where
+  -- ---- a run that a fault ended
+
+  stopped_exact : (e : RunFault) (y : X) (a c d : Option (List ℕ)) → IfSome a (MessagesEnd f x form c d (Err e) y)
+      → IfSome a (EndsAs f x finish form c d (Err (fault_of e)))
+  stopped_exact e y None c d is = tt
+  stopped_exact e y (Some input) c d (inl memory) = inl (ap told_by memory)
+  stopped_exact e y (Some input) c d (inr (inl io)) = inr (inl (ap told_by io))
+  stopped_exact e y (Some input) c d (inr (inr (text, z, are, wrote))) =
+      inr (inr (text, (text, Err e, z, are, (refl, refl)), wrote))
+
+  pub finished_stopped : (a b c d : Option (List ℕ)) (reader writer : Bool) (e : RunFault) (y : X)
+      → ServesMessages f x form a b c d reader writer (Err e) y
+      → Finished f x finish form a b c d reader writer (Err (fault_of e))
+  finished_stopped a b c d reader writer e y run = record {
+    exact = stopped_exact e y a c d run.exact;
+    io = same_io e reader writer run.io;
+    begun = record { bytes = run.begun.bytes; read = run.begun.read; written = inl run.begun.written };
+  }
+
+  -- ---- the end after all messages
+
+  -- a beginning of what is written at the end was written after a text
+  begun_after : (c m d : Option (List ℕ)) (y : X) (text : List ℕ) (count : ℕ) → Appends c m text
+      → Appends m d (take count (finish.closing y)) → HasBegun c d (text ++ finish.closing y)
+  begun_after c m d y text count before wrote = (
+    length text + count,
+    subst (Appends c d) (sym (take-append-add text (finish.closing y) count))
+        (Appends-trans c m d text (take count (finish.closing y)) before wrote),
+  )
+
+  closed_exact : (a c m d : Option (List ℕ)) (y : X) → IfSome a (MessagesEnd f x form c m (Ok tt) y)
+      → Appends m d (finish.closing y) → IfSome a (EndsAs f x finish form c d (outcome f x finish y))
+  closed_exact None c m d y is wrote = tt
+  closed_exact (Some input) c m d y (text, are, before) wrote = inr (inr (
+    text ++ finish.closing y,
+    (text, Ok tt, y, are, (refl, refl)),
+    Appends-trans c m d text (finish.closing y) before wrote,
+  ))
+
+  memory_exact : (a c d : Option (List ℕ)) → IfSome a (EndsAs f x finish form c d (Err faults.Memory))
+  memory_exact None c d = tt
+  memory_exact (Some input) c d = inl refl
+
+  failed_exact : (a c d : Option (List ℕ)) → IfSome a (EndsAs f x finish form c d (Err faults.Io))
+  failed_exact None c d = tt
+  failed_exact (Some input) c d = inr (inl refl)
+
+-- the text of which a beginning was written
+begun_text : {X : Type 0} (f : Fold X) (x : X) (form : Form) (bytes : List ℕ) (c d : Option (List ℕ))
+    → HasWritten f x form bytes c d → (text : List ℕ) × Appends c d text
+begun_text f x forms.Stream bytes c d (parts, rest, y, count, are, wrote) = (take count (texts_of parts), wrote)
+begun_text f x forms.Packed bytes c d (stream, begins, parts, rest, y, count, are, wrote) =
+    (take count (texts_of parts), wrote)
+begun_text f x forms.Bare bytes c d (inl wrote) = ([], wrote)
+begun_text f x forms.Bare bytes c d (inr (text, y, count, writes, wrote)) = (take count text, wrote)
+
+module _ {X : Type 0} (f : Fold X) (x : X) (finish : Finish X) (form : Form) where
+  -- the messages of an input were served, and something of a text was written after theirs
+  begins_closing : (a b c m d : Option (List ℕ)) (reader writer : Bool) (y : X)
+      → ServesMessages f x form a b c m reader writer (Ok tt) y → HasBegun m d (finish.closing y)
+      → HasBegunClosing f x finish form a c d
+  begins_closing None b c m d reader writer y run (count, wrote) =
+      let (text, before) = begun_text f x form run.begun.bytes c m run.begun.written in
+      (text, y, tt, begun_after f x finish form c m d y text count before wrote)
+  begins_closing (Some input) b c m d reader writer y run (count, wrote) =
+      let (text, are, before) = run.exact in
+      (text, y, are, begun_after f x finish form c m d y text count before wrote)
+
+module _ {X : Type 0} (f : Fold X) (x : X) (finish : Finish X) (form : Form) (a b c m : Option (List ℕ))
+    (reader before : Bool) (y : X) (run : ServesMessages f x form a b c m reader before (Ok tt) y) where
+  -- all was written
+  pub finished_closed : (d : Option (List ℕ)) (after : Bool) → Appends m d (finish.closing y) → after ≡ false
+      → Finished f x finish form a b c d reader after (outcome f x finish y)
+  finished_closed d after wrote fine = record {
+    exact = closed_exact f x finish form a c m d y run.exact wrote;
+    io = (
+      λ h. absurd (not_io (finish.skipped y) (f.place y).index h),
+      λ h. absurd (neither reader before after run.io fine h),
+    );
+    begun = record {
+      bytes = run.begun.bytes;
+      read = run.begun.read;
+      written = inr (begins_closing f x finish form a b c m d reader before y run (
+        length (finish.closing y),
+        subst (Appends m d) (sym (take-length (finish.closing y))) wrote,
+      ));
+    };
+  }
+
+  -- memory was refused for what is written at the end
+  unclosed : (d : Option (List ℕ)) (after : Bool) → d ≡ m → after ≡ false
+      → Finished f x finish form a b c d reader after (Err faults.Memory)
+  unclosed d after same fine = record {
+    exact = memory_exact f x finish form a c d;
+    io = (
+      λ h. absurd (memory_is_not_io h),
+      λ h. absurd (neither reader before after run.io fine h),
+    );
+    begun = record {
+      bytes = run.begun.bytes;
+      read = run.begun.read;
+      written = inl (subst (HasWritten f x form run.begun.bytes c) (sym same) run.begun.written);
+    };
+  }
+
+  -- the writer failed within it
+  broken : (d : Option (List ℕ)) (after : Bool) → HasBegun m d (finish.closing y) → after ≡ true
+      → Finished f x finish form a b c d reader after (Err faults.Io)
+  broken d after begun failed = record {
+    exact = failed_exact f x finish form a c d;
+    io = (λ h. inr failed, λ h. refl);
+    begun = record {
+      bytes = run.begun.bytes;
+      read = run.begun.read;
+      written = inr (begins_closing f x finish form a b c m d reader before y run begun);
+    };
+  }
+
+  pub finished_unclosed : (d : Option (List ℕ)) (after : Bool) (fault : RunFault)
+      → PutsClosing (finish.closing y) m d after (Err fault)
+      → Finished f x finish form a b c d reader after (Err (fault_of fault))
+  finished_unclosed d after fault (inl (memory, same, fine)) =
+      subst (λ (e : RunFault). Finished f x finish form a b c d reader after (Err (fault_of e))) (sym memory)
+      (unclosed d after same fine)
+  finished_unclosed d after fault (inr (io, begun, failed)) =
+      subst (λ (e : RunFault). Finished f x finish form a b c d reader after (Err (fault_of e))) (sym io)
+      (broken d after begun failed)
+
+module _ {X : Type 0} where
+  -- the messages were served that an order says, from the state before the first
+  pub of_order : (fold : ℕ → Fold X) (form : Form) (words most : ℕ) (first x : X) → most ≡ words → x ≡ first
+      → (a b c d : Option (List ℕ)) (reader writer : Bool) (r : Result (Unit {0}) RunFault) (y : X)
+      → ServesMessages (fold most) x form a b c d reader writer r y
+      → ServesMessages (fold words) first form a b c d reader writer r y
+  of_order fold form words most first x same fresh a b c d reader writer r y ran =
+      subst (λ (z : X). ServesMessages (fold words) z form a b c d reader writer r y) fresh
+      (subst (λ (n : ℕ). ServesMessages (fold n) x form a b c d reader writer r y) same ran)

@@ -1,0 +1,75 @@
+-- A run over an input that writes something after its last message: the text of its input, how it ends, and what was
+-- written whatever it answers. (Own.)
+use Rattle.std.specs.Prelude.{◌≡◌, ◌⊎◌, ◌↔◌, ℕ, List, ◌++◌, Bool, true, Option, Some, None, IfSome, Result, Ok, Err}
+use Rattle.std.specs.Io.KnownBytes.{Consumes, Appends}
+use Rattle.capn_words.specs.Watching.{HasBegun}
+use Rattle.capn_canon.specs.declared.form.Form.{Form}
+use Rattle.capn_serve.specs.declared.fault.RunFault.{RunFault}
+use Rattle.capn_serve.specs.declared.fault.RunFault.TheVariants as run_faults
+use Rattle.capn_archive.specs.declared.fault.ArchiveFault.{ArchiveFault}
+use Rattle.capn_archive.specs.declared.fault.ArchiveFault.TheVariants as faults
+use Rattle.capn_archive.specs.declared.tally.Skipped.{Skipped}
+use Rattle.capn_serve.specs.Fold.{Fold}
+use Rattle.capn_serve.specs.FormRun.{AreMessages, HasWritten}
+
+-- how a run ends that has served all of its input: done, or with the numbers of the messages that it passed over
+abbrev pub outcome_by : Option Skipped → ℕ → Result (Unit {0}) ArchiveFault
+outcome_by None messages = Ok tt
+outcome_by (Some s) messages =
+    Err (faults.PassedOver (record { refused = s.count; messages = messages; first = s.first }))
+
+-- the fault of a run over messages, as one over an archive tells it
+abbrev pub fault_of : RunFault → ArchiveFault
+fault_of run_faults.Memory = faults.Memory
+fault_of run_faults.Io = faults.Io
+fault_of run_faults.InputTooLong = faults.InputTooLong
+fault_of (run_faults.Refused at r) = faults.Refused at r
+
+-- what a run does after its last message, by its state then: the text that it writes, and which messages it has passed
+-- over
+pub record Finish (X : Type 0) : Type 0 where
+  pub closing : X → List ℕ
+  pub skipped : X → Option Skipped
+
+module _ {X : Type 0} (f : Fold X) (x : X) (finish : Finish X) where
+  -- how a run ends that has served all of its input
+  abbrev pub outcome : X → Result (Unit {0}) ArchiveFault
+  outcome y = outcome_by (finish.skipped y) (f.place y).index
+
+  -- after the text of the messages comes what is written at the end, unless a fault ended them
+  abbrev pub Closes : List ℕ → Result (Unit {0}) RunFault → X → List ℕ → Result (Unit {0}) ArchiveFault → Type 0
+  Closes messages (Ok u) y text ending = (text ≡ messages ++ finish.closing y) × (ending ≡ outcome y)
+  Closes messages (Err fault) y text ending = (text ≡ messages) × (ending ≡ Err (fault_of fault))
+
+  -- the whole text of an input, and how a run over it ends
+  abbrev pub IsWholeText : Form → List ℕ → List ℕ → Result (Unit {0}) ArchiveFault → Type 0
+  IsWholeText form input text ending =
+      (messages : List ℕ) × (served : Result (Unit {0}) RunFault) × (y : X)
+      × AreMessages f x form input messages served y × Closes messages served y text ending
+
+  -- a run has written the text of its input and ended as that does; or memory was refused, or the reader or the writer
+  -- failed
+  abbrev pub EndsAs : Form → Option (List ℕ) → Option (List ℕ) → Result (Unit {0}) ArchiveFault → List ℕ → Type 0
+  EndsAs form old new r input =
+      (r ≡ Err faults.Memory)
+      ⊎ ((r ≡ Err faults.Io) ⊎ ((text : List ℕ) × IsWholeText form input text r × Appends old new text))
+
+  -- the messages of an input were served, which ended with them, and a beginning of their text and of what is written
+  -- at the end was written; the state after an input that is not known is not either
+  abbrev pub HasBegunClosing : Form → Option (List ℕ) → Option (List ℕ) → Option (List ℕ) → Type 0
+  HasBegunClosing form input old new =
+      (messages : List ℕ) × (y : X) × IfSome input (λ bytes. AreMessages f x form bytes messages (Ok tt) y)
+      × HasBegun old new (messages ++ finish.closing y)
+
+  -- a reader gave some bytes, and a writer took a beginning of their text
+  pub record Begins (form : Form) (a b c d : Option (List ℕ)) : Type 0 where
+    pub bytes : List ℕ
+    pub read : Consumes a b bytes
+    pub written : HasWritten f x form bytes c d ⊎ HasBegunClosing form a c d
+
+  -- what a run did, over a reader (from a to b) and a writer (from c to d)
+  pub record Finished (form : Form) (a b c d : Option (List ℕ)) (reader_failed writer_failed : Bool)
+      (r : Result (Unit {0}) ArchiveFault) : Type 0 where
+    pub exact : IfSome a (EndsAs form c d r)
+    pub io : (r ≡ Err faults.Io) ↔ ((reader_failed ≡ true) ⊎ (writer_failed ≡ true))
+    pub begun : Begins form a b c d

@@ -1,0 +1,92 @@
+-- Which messages a sieve keeps: those whose canonical bytes no message before them had, by their SHA-256. (Own.)
+use Rattle.std.specs.Prelude.{◌≡◌, ◌⊎◌, ℕ, ◌+◌, ◌-◌, ◌^◌, min, List, [], ◌++◌, Bool, true, false, Option, None}
+use Rattle.std.specs.Prelude.{Some, Result, Ok, Err}
+use Rattle.std.specs.BTreeSet.{BTreeSet, contains, insert_key}
+use Rattle.std.specs.Cmp.Lexicographic.{slice_cmp}
+use Rattle.std.specs.Ordering.{nat_cmp}
+use Rattle.capn_canon.specs.declared.refusal.Refusal.{Refusal}
+use Rattle.capn_serve.specs.declared.position.Position.{Position}
+use Rattle.capn_serve.specs.declared.fault.ServeFault.{ServeFault}
+use Rattle.capn_serve.specs.declared.fault.ServeFault.TheVariants as faults
+use Rattle.capn_archive.specs.declared.tally.Skipped.{Skipped}
+use Rattle.capn_archive.specs.declared.uniq.Uniq.{Uniq}
+use Rattle.capn_archive.specs.Digest.{IsDigest, IsUndigested}
+use Rattle.capn_archive.specs.Tally.{one_more}
+
+-- what a sieve has kept: its order, the digests of the messages that it has kept, how many it has served, and those
+-- that it has passed over
+pub record Sifted : Type 0 where
+  pub order : Uniq
+  pub digests : BTreeSet (List ℕ)
+  pub served : ℕ
+  pub skipped : Option Skipped
+
+-- nothing has been kept
+abbrev pub first_sieve : Uniq → Sifted
+first_sieve order = record { order = order; digests = record { keys = [] }; served = 0; skipped = None }
+
+-- whether a digest is among these
+abbrev pub has : BTreeSet (List ℕ) → List ℕ → Bool
+has digests digest = contains (slice_cmp nat_cmp) digests digest
+
+-- these digests, and one more, unless it is among them
+abbrev pub and_one : BTreeSet (List ℕ) → List ℕ → BTreeSet (List ℕ)
+and_one digests digest = record { keys = insert_key (slice_cmp nat_cmp) digests.keys digest }
+
+-- one message more; no number passes 2^64 - 1
+abbrev pub one_served : ℕ → ℕ
+one_served served = min (served + 1) (2 ^ 64 - 1)
+
+-- what a message writes, by whether messages are only counted and whether one before had its digest: its frame, as it
+-- stands, or nothing
+abbrev pub sifted_text : Bool → Bool → List ℕ → List ℕ
+sifted_text true is_double frame = []
+sifted_text false true frame = []
+sifted_text false false frame = frame
+
+-- a message with its frame is sifted: it writes its frame unless it is a double, and its digest is noted
+abbrev pub Sifts : Sifted → List ℕ → List (List ℕ) → List ℕ → Sifted → Type 0
+Sifts s frame message text t =
+    (digest : List ℕ) × IsDigest message s.order.limits digest
+    × (text ≡ sifted_text s.order.count (has s.digests digest) frame)
+    × (t ≡ record {
+      order = s.order;
+      digests = and_one s.digests digest;
+      served = one_served s.served;
+      skipped = s.skipped;
+    })
+
+-- a message at a position is passed over: it has no digest, and the run keeps going; it writes nothing, and is not
+-- among those served
+abbrev pub PassesOver : Sifted → Position → List (List ℕ) → List ℕ → Sifted → Type 0
+PassesOver s at message text t =
+    (s.order.keep_going ≡ true) × (r : Refusal) × IsUndigested message s.order.limits r × (text ≡ [])
+    × (t ≡ record {
+      order = s.order;
+      digests = s.digests;
+      served = s.served;
+      skipped = Some (one_more s.skipped at);
+    })
+
+-- from one state to the next, a message is sifted or passed over
+abbrev pub serves : Sifted → Position → List ℕ → List (List ℕ) → List ℕ → Sifted → Type 0
+serves s at frame message text t = Sifts s frame message text t ⊎ PassesOver s at message text t
+
+-- a message that has no digest ends a run that does not keep going
+abbrev pub refuses : Sifted → Position → List ℕ → List (List ℕ) → Refusal → Type 0
+refuses s at frame message r = (s.order.keep_going ≡ false) × IsUndigested message s.order.limits r
+
+-- a digest was noted, and was not among those before, or was; or memory was refused
+abbrev pub Notes : BTreeSet (List ℕ) → BTreeSet (List ℕ) → List ℕ → Result Bool ServeFault → Type 0
+Notes old new digest (Ok is_double) = (is_double ≡ has old digest) × (new ≡ and_one old digest)
+Notes old new digest (Err fault) = fault ≡ faults.Memory
+
+-- a message was sifted; or it has no digest, and the text and the state are as they were; or memory was refused, and
+-- the text is as it was
+abbrev pub TriesToSift : Sifted → List ℕ → List (List ℕ) → List ℕ → List ℕ → Result (Unit {0}) ServeFault → Sifted
+    → Type 0
+TriesToSift s frame message old new (Ok u) t =
+    (text : List ℕ) × Sifts s frame message text t × (new ≡ old ++ text)
+TriesToSift s frame message old new (Err faults.Memory) t = new ≡ old
+TriesToSift s frame message old new (Err (faults.Refused r)) t =
+    IsUndigested message s.order.limits r × (new ≡ old) × (t ≡ s)

@@ -1,0 +1,48 @@
+//! The digest of a message.
+
+ghost use Rattle.capn_canon.specs.Refused.{IsUnaccepted};
+ghost use Rattle.capn_archive.specs.Digest.{IsDigest, IsDigestIfAny, IsUndigested};
+ghost use Rattle.capn_archive.specs.Tasks.{Finds};
+
+use capn_canon::{Refusal, canonical_of};
+use capn_serve::ServeFault;
+use capn_walk::Limits;
+use capn_words::Space;
+use sha2::{Digest, Sha256};
+use std::alloc::Allocator;
+
+/// The digest of a message's canonical bytes.
+pub(crate) fn digest_of<S: Space, A: Allocator + Copy>(
+    alloc: A,
+    limits: Limits,
+    message: &S,
+) -> Result<[u8; 32], ServeFault>
+    ensures { Finds (λ digest. IsDigest (S.message message.now) limits digest)
+        (λ r. IsUndigested (S.message message.now) limits r) result }
+{
+    let _budget = limits.budget();
+    match canonical_of(alloc, message, limits) {
+        Ok(canonical) => Ok(Sha256::digest(&canonical.bytes)),
+        Err(Refusal::Memory) => Err(ServeFault::Memory),
+        Err(refusal) => Err(ServeFault::Refused(refusal)),
+    }
+}
+
+/// The digest of a message, or `None` if its value has a capability; or why its walk refuses it.
+pub(crate) fn digest_if_any<S: Space, A: Allocator + Copy>(
+    alloc: A,
+    limits: Limits,
+    message: &S,
+) -> Result<Option<[u8; 32]>, ServeFault>
+    ensures { Finds (λ digest. IsDigestIfAny (S.message message.now) limits digest)
+        (λ r. IsUnaccepted (S.message message.now) limits r) result }
+{
+    match digest_of(alloc, limits, message) {
+        Ok(digest) => Ok(Some(digest)),
+        Err(ServeFault::Refused(Refusal::Capability(_))) => Ok(None),
+        Err(ServeFault::Refused(Refusal::Walk(stopped))) => {
+            Err(ServeFault::Refused(Refusal::Walk(stopped)))
+        }
+        Err(_) => Err(ServeFault::Memory),
+    }
+}

@@ -1,0 +1,154 @@
+//! The service that leaves doubles out.
+
+ghost use Rattle.std.specs.Prelude.{◌≡◌, length};
+ghost use Rattle.capn_archive.specs.Framed.{PutsText};
+ghost use Rattle.capn_archive.specs.Sieve as spec;
+ghost use Rattle.capn_archive.specs.Sieve.{Notes, TriesToSift};
+
+use crate::digest::digest_of;
+use crate::lines::put_bytes;
+use crate::tally::{Skipped, one_more};
+use crate::uniq::Uniq;
+use capn_serve::{Position, ServeFault, Service};
+use capn_words::Space;
+use std::alloc::Allocator;
+use std::collections::BTreeSet;
+use std::marker::Model;
+
+/// The service that leaves doubles out: it writes the frame of each message, as it stands, whose canonical bytes no
+/// message before had, by their SHA-256.
+///
+/// A message that is refused by its walk, or for a capability, ends the run, or, if the order says to keep going, is
+/// passed over: it writes nothing and is no double of another. Of a run it holds the digest of each message kept, in
+/// a tree of blocks that are at least half full: about 50 bytes each if they come in no order, at most 72 if they
+/// ascend.
+#[derive(Drop)]
+pub struct Sieve<A: Allocator> {
+    order: Uniq,
+    digests: BTreeSet<[u8; 32], A>,
+    served: u64,
+    skipped: Option<Skipped>,
+}
+
+impl<A: Allocator> Model for Sieve<A> {
+    ghost use Rattle.capn_archive.specs.Sieve.{Sifted};
+
+    ghost Value = { Sifted };
+
+    ghost view = { λ s.
+        record { order = s.order; digests = s.digests; served = s.served; skipped = s.skipped } };
+}
+
+/// Notes a digest, and answers whether it was among those before.
+fn note<A: Allocator + Clone>(
+    digests: &mut BTreeSet<[u8; 32], A>,
+    digest: [u8; 32],
+) -> Result<bool, ServeFault>
+    ensures { Notes digests.old digests.new digest result }
+{
+    match digests.insert(digest) {
+        Ok(added) => Ok(!added),
+        Err(_) => Err(ServeFault::Memory),
+    }
+}
+
+/// Appends what a message writes: its frame, unless messages are only counted or it is a double.
+fn put_sifted<A: Allocator>(
+    text: &mut Vec<u8, A>,
+    count: bool,
+    is_double: bool,
+    frame: &[u8],
+) -> Result<(), ServeFault>
+    ensures { PutsText (spec.sifted_text count is_double frame.now) text.old.items text.new.items result }
+{
+    if count || is_double {
+        return Ok(());
+    }
+    put_bytes(text, frame)
+}
+
+impl<B: Allocator> Sieve<B> {
+    /// A sieve that has kept nothing. It takes no memory.
+    pub(crate) fn new(alloc: B, order: Uniq) -> Sieve<B>
+        ensures { result ≡ spec.first_sieve order }
+    {
+        Sieve {
+            order,
+            digests: BTreeSet::new(alloc),
+            served: 0,
+            skipped: None,
+        }
+    }
+
+    /// What it does.
+    pub(crate) fn order(&self) -> Uniq
+        ensures { result ≡ self.now.order }
+    {
+        self.order
+    }
+
+    /// How many messages it has kept.
+    pub(crate) fn kept(&self) -> usize
+        ensures { result ≡ length self.now.digests.keys }
+    {
+        self.digests.len()
+    }
+
+    /// How many messages it has served, those that it has passed over not among them.
+    pub(crate) fn served(&self) -> u64
+        ensures { result ≡ self.now.served }
+    {
+        self.served
+    }
+
+    /// The messages that it has passed over, if any was.
+    pub(crate) fn skipped(&self) -> Option<Skipped>
+        ensures { result ≡ self.now.skipped }
+    {
+        self.skipped
+    }
+}
+
+impl<B: Allocator + Copy> Sieve<B> {
+    /// Sifts a message.
+    fn sift<S: Space, A: Allocator + Copy>(
+        &mut self,
+        alloc: A,
+        frame: &[u8],
+        message: &S,
+        text: &mut Vec<u8, A>,
+    ) -> Result<(), ServeFault>
+        ensures { TriesToSift self.old frame.now (S.message message.now) text.old.items text.new.items result self.new }
+    {
+        let digest = digest_of(alloc, self.order.limits, message)?;
+        let is_double = note(&mut self.digests, digest)?;
+        put_sifted(text, self.order.count, is_double, frame)?;
+        self.served = self.served.saturating_add(1);
+        Ok(())
+    }
+}
+
+impl<B: Allocator + Copy> Service for Sieve<B> {
+    ghost use Rattle.capn_archive.specs.Sieve as spec;
+
+    ghost serves = { spec.serves };
+
+    ghost refuses = { spec.refuses };
+
+    fn serve<S: Space, A: Allocator + Copy>(
+        &mut self,
+        alloc: A,
+        at: Position,
+        frame: &[u8],
+        message: &S,
+        text: &mut Vec<u8, A>,
+    ) -> Result<(), ServeFault> {
+        match self.sift(alloc, frame, message, text) {
+            Err(ServeFault::Refused(_)) if self.order.keep_going => {
+                self.skipped = Some(one_more(self.skipped, at));
+                Ok(())
+            }
+            sifted => sifted,
+        }
+    }
+}

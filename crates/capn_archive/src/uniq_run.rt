@@ -1,0 +1,118 @@
+//! A run that leaves doubles out, from its first byte to its last.
+
+ghost use Rattle.std.specs.Prelude.{◌≡◌, ℕ, false, IfOk, IfErr, string_bytes};
+ghost use Rattle.capn_words.specs.Watching.{inner_of, has_failed};
+ghost use Rattle.capn_archive.specs.Closing.{PutsClosing};
+ghost use Rattle.capn_archive.specs.Finish.{outcome_by};
+ghost use Rattle.capn_archive.specs.Uniq as spec;
+ghost use Rattle.capn_archive.specs.Uniq.{Sieved};
+ghost use Rattle.capn_serve.specs.declared.fault.RunFault.TheVariants as faults;
+
+use crate::closing::{fault_of, outcome};
+use crate::fault::ArchiveFault;
+use crate::sieve::Sieve;
+use crate::uniq::Uniq;
+use capn_serve::{Position, Run, RunFault, serve_form, write_all};
+use capn_words::Watched;
+use std::alloc::Allocator;
+use std::io::{Read, Write};
+
+/// The run of an order, before its first message.
+fn first_run<A: Allocator>(alloc: A, order: Uniq) -> Run<Sieve<A>>
+    ensures { result ≡ spec.first_run order }
+{
+    Run {
+        service: Sieve::new(alloc, order),
+        at: Position {
+            index: 0,
+            offset: 0,
+        },
+    }
+}
+
+/// The line of a count: how many messages are kept, of how many.
+fn count_line<A: Allocator>(alloc: A, kept: usize, served: u64) -> Result<String<A>, RunFault>
+    ensures found { IfOk result (λ line. string_bytes line ≡ spec.count_line kept served) }
+    ensures only { IfErr result (λ e. e ≡ faults.Memory) }
+{
+    match format!(in alloc; "{kept} of {served}\n") {
+        Ok(line) => Ok(line),
+        Err(_) => Err(RunFault::Memory),
+    }
+}
+
+/// Writes what is written after the last message.
+fn write_count<W: Write, A: Allocator + Copy>(
+    alloc: A,
+    run: &Run<Sieve<A>>,
+    writer: &mut Watched<W>,
+) -> Result<(), RunFault>
+    requires { has_failed writer.old ≡ false }
+    ensures { PutsClosing (spec.closing run.now.service) (W.contents (inner_of writer.old))
+        (W.contents (inner_of writer.new)) (has_failed writer.new) result }
+{
+    let sieve = &run.service;
+    if !sieve.order().count {
+        return Ok(());
+    }
+    let line = count_line(alloc, sieve.kept(), sieve.served())?;
+    write_all(writer, line.as_bytes())
+}
+
+/// How a run ends that has served all of its input.
+fn outcome_of<A: Allocator>(run: &Run<Sieve<A>>) -> Result<(), ArchiveFault>
+    ensures { result ≡ outcome_by run.now.service.skipped run.now.at.index }
+{
+    outcome(run.service.skipped(), run.at.index)
+}
+
+/// Has a sieve serve all of an input, and writes what is written after that.
+fn run_sieve<R: Read, W: Write, A: Allocator + Copy>(
+    alloc: A,
+    order: &Uniq,
+    run: &mut Run<Sieve<A>>,
+    reader: &mut Watched<R>,
+    writer: &mut Watched<W>,
+) -> Result<(), ArchiveFault>
+    requires fresh { run.old ≡ spec.first_run order.now }
+    requires reader_fine { has_failed reader.old ≡ false }
+    requires writer_fine { has_failed writer.old ≡ false }
+    ensures { Sieved order.now (R.remaining (inner_of reader.old)) (R.remaining (inner_of reader.new))
+        (W.contents (inner_of writer.old)) (W.contents (inner_of writer.new)) (has_failed reader.new)
+        (has_failed writer.new) result }
+{
+    let most = order.limits.message_words();
+    match serve_form(alloc, order.form, most, run, reader, writer) {
+        Ok(()) => match write_count(alloc, run, writer) {
+            Ok(()) => outcome_of(run),
+            Err(fault) => Err(fault_of(fault)),
+        },
+        Err(stopped) => Err(fault_of(stopped)),
+    }
+}
+
+/// Reads the messages of an archive, and writes the frame of each, as it stands, whose canonical bytes no message
+/// before it had, by their SHA-256; of a packed input the bytes that the frame unpacks to, and of a bare input all of
+/// it. If the order is to count, it writes nothing but at the end a line `U of N`: how many are kept, and how many were
+/// served.
+///
+/// It reads as [`serve_form`] does. The run ends as done; as `PassedOver` after all of its input, if messages were
+/// passed over; or with the first fault: a frame, a group or a message that is refused, at its position;
+/// `InputTooLong`; `Io` exactly if the reader or the writer failed; `Memory` if a growth was refused. The frames kept
+/// before a fault have been written, and nothing after these. It holds what its loop holds, the canonical bytes of one
+/// message, and the digests of those kept.
+pub fn run_uniq<R: Read, W: Write, A: Allocator + Copy>(
+    alloc: A,
+    order: Uniq,
+    reader: &mut Watched<R>,
+    writer: &mut Watched<W>,
+) -> Result<(), ArchiveFault>
+    requires reader_fine { has_failed reader.old ≡ false }
+    requires writer_fine { has_failed writer.old ≡ false }
+    ensures { Sieved order (R.remaining (inner_of reader.old)) (R.remaining (inner_of reader.new))
+        (W.contents (inner_of writer.old)) (W.contents (inner_of writer.new)) (has_failed reader.new)
+        (has_failed writer.new) result }
+{
+    let mut run = first_run(alloc, order);
+    run_sieve(alloc, &order, &mut run, reader, writer)
+}

@@ -1,0 +1,128 @@
+-- What the subcommands order that have more than one order, or one with a flag.
+use Rattle.std.proofs.Common.{◌≡◌, ◌⊎◌, inl, inr, ℕ, List, Bool, true, false, Some, codes, ap, arith, refl, sym}
+use Rattle.clap.specs.Words.{Row}
+use Rattle.capn_tool.specs.Meaning.{Means}
+use Rattle.capn_tool.specs.declared.orders.Command.{Command}
+use Rattle.capn_tool.specs.declared.orders.Command.TheVariants as commands
+use Rattle.capn_archive.specs.declared.order.Archive.{Archive}
+use Rattle.capn_archive.specs.declared.order.Task.{Task}
+use Rattle.capn_archive.specs.declared.order.Task.TheVariants as tasks
+use Rattle.capn_program.specs.Meaning.{AreOptions, FlagIs, IsTask, IsUsual, MeansOrder}
+use Rattle.capn_program.specs.declared.orders.Flow.TheVariants as flows
+use Rattle.capn_program.specs.declared.orders.Order.{Order}
+use Rattle.capn_program.specs.declared.orders.Order.TheVariants as orders
+use Rattle.capn_program.proofs.OneOrder.{never_command, tell_of, tell_task, told}
+
+-- what `list` orders is over an archive, with or without digests
+abbrev pub ListMeans : List Row → Type 0
+ListMeans rows = (a : Archive) × ((digest : Bool) × FlagIs rows (codes "digest") digest) × AreOptions rows a
+
+pub list_means : (rows : List Row) (o : Order) → MeansOrder (Some (codes "list", rows)) o → ListMeans rows
+list_means rows (orders.Message c) m =
+    absurd (never_command c 335 refl (sym (told (codes "list", rows) (orders.Message c) m)))
+list_means rows (orders.Uniq u) m =
+    absurd (let bad : 335 ≡ 320 = told (codes "list", rows) (orders.Uniq u) m in omega arith)
+list_means rows (orders.Pick p) m =
+    absurd (let bad : 335 ≡ 303 = told (codes "list", rows) (orders.Pick p) m in omega arith)
+list_means rows (orders.Flow flows.Pack) m =
+    absurd (let bad : 335 ≡ 295 = told (codes "list", rows) (orders.Flow flows.Pack) m in omega arith)
+list_means rows (orders.Flow flows.Unpack) m =
+    absurd (let bad : 335 ≡ 334 = told (codes "list", rows) (orders.Flow flows.Unpack) m in omega arith)
+list_means rows (orders.Make f) m =
+    absurd (let bad : 335 ≡ 311 = told (codes "list", rows) (orders.Make f) m in omega arith)
+list_means rows (orders.Archive a) m = (a, digest a.task m.0 (told (codes "list", rows) (orders.Archive a) m), m.1)
+  where
+    digest : (task : Task) → IsTask (codes "list") rows task → 335 ≡ tell_task task
+        → (given : Bool) × FlagIs rows (codes "digest") given
+    digest tasks.List is e = (false, is.1)
+    digest tasks.Digests is e = (true, is.1)
+    digest tasks.Limits is e = absurd (omega arith)
+    digest tasks.Canonical is e = absurd (omega arith)
+
+-- what `canonical` orders is over one message, without its flags, or over an archive, with `--framed`
+abbrev pub CanonicalMeans : List Row → Type 0
+CanonicalMeans rows =
+    ((c : Command) × Means (Some (codes "canonical", rows)) c × FlagIs rows (codes "framed") false
+    × FlagIs rows (codes "keep-going") false)
+    ⊎ ((a : Archive) × FlagIs rows (codes "framed") true × AreOptions rows a)
+
+pub canonical_means : (rows : List Row) (o : Order) → MeansOrder (Some (codes "canonical", rows)) o
+    → CanonicalMeans rows
+canonical_means rows o m = go o m (told (codes "canonical", rows) o m)
+  where
+    framed : (task : Task) → IsTask (codes "canonical") rows task → 317 ≡ tell_task task
+        → FlagIs rows (codes "framed") true
+    framed tasks.List is e = absurd (omega arith)
+    framed tasks.Digests is e = absurd (omega arith)
+    framed tasks.Limits is e = absurd (omega arith)
+    framed tasks.Canonical is e = is.1
+
+    go : (o : Order) → MeansOrder (Some (codes "canonical", rows)) o → 317 ≡ tell_of o → CanonicalMeans rows
+    go (orders.Message (commands.Canonical f l)) m e = inl (commands.Canonical f l, m.0, m.1.0, m.1.1)
+    go (orders.Message (commands.Show f l)) m e = absurd (omega arith)
+    go (orders.Message (commands.Check f l)) m e = absurd (omega arith)
+    go (orders.Message commands.Pack) m e = absurd (omega arith)
+    go (orders.Message (commands.Unpack k)) m e = absurd (omega arith)
+    go (orders.Message (commands.Hash f l)) m e = absurd (omega arith)
+    go (orders.Uniq u) m e = absurd (omega arith)
+    go (orders.Pick p) m e = absurd (omega arith)
+    go (orders.Flow flows.Pack) m e = absurd (omega arith)
+    go (orders.Flow flows.Unpack) m e = absurd (omega arith)
+    go (orders.Make f) m e = absurd (omega arith)
+    go (orders.Archive a) m e = inr (a, framed a.task m.0 e, m.1)
+
+-- of `pack` and `unpack` it is told whether `--streaming` is given
+abbrev pub IsToldStreaming : List Row → Type 0
+IsToldStreaming rows = (given : Bool) × FlagIs rows (codes "streaming") given
+
+pub pack_means : (rows : List Row) (o : Order) → MeansOrder (Some (codes "pack", rows)) o → IsToldStreaming rows
+pack_means rows o m = go o m (told (codes "pack", rows) o m)
+  where
+    task : (t : Task) → 295 ≡ tell_task t → ⊥
+    task tasks.List e = omega arith
+    task tasks.Digests e = omega arith
+    task tasks.Limits e = omega arith
+    task tasks.Canonical e = omega arith
+
+    go : (o : Order) → MeansOrder (Some (codes "pack", rows)) o → 295 ≡ tell_of o → IsToldStreaming rows
+    go (orders.Message commands.Pack) m e = (false, m.1)
+    go (orders.Message (commands.Canonical f l)) m e = absurd (omega arith)
+    go (orders.Message (commands.Show f l)) m e = absurd (omega arith)
+    go (orders.Message (commands.Check f l)) m e = absurd (omega arith)
+    go (orders.Message (commands.Unpack k)) m e = absurd (omega arith)
+    go (orders.Message (commands.Hash f l)) m e = absurd (omega arith)
+    go (orders.Uniq u) m e = absurd (omega arith)
+    go (orders.Pick p) m e = absurd (omega arith)
+    go (orders.Make f) m e = absurd (omega arith)
+    go (orders.Archive a) m e = absurd (task a.task e)
+    go (orders.Flow flows.Pack) m e = (true, m.1)
+    go (orders.Flow flows.Unpack) m e = absurd (omega arith)
+
+-- what `unpack` orders is over one input, without `--streaming`, or while bytes come in, without `--message-words`
+abbrev pub UnpackMeans : List Row → Type 0
+UnpackMeans rows =
+    ((c : Command) × Means (Some (codes "unpack", rows)) c × FlagIs rows (codes "streaming") false)
+    ⊎ (FlagIs rows (codes "streaming") true × IsUsual rows (codes "message-words"))
+
+pub unpack_means : (rows : List Row) (o : Order) → MeansOrder (Some (codes "unpack", rows)) o → UnpackMeans rows
+unpack_means rows o m = go o m (told (codes "unpack", rows) o m)
+  where
+    task : (t : Task) → 334 ≡ tell_task t → ⊥
+    task tasks.List e = omega arith
+    task tasks.Digests e = omega arith
+    task tasks.Limits e = omega arith
+    task tasks.Canonical e = omega arith
+
+    go : (o : Order) → MeansOrder (Some (codes "unpack", rows)) o → 334 ≡ tell_of o → UnpackMeans rows
+    go (orders.Message (commands.Unpack k)) m e = inl (commands.Unpack k, m.0, m.1)
+    go (orders.Message commands.Pack) m e = absurd (omega arith)
+    go (orders.Message (commands.Canonical f l)) m e = absurd (omega arith)
+    go (orders.Message (commands.Show f l)) m e = absurd (omega arith)
+    go (orders.Message (commands.Check f l)) m e = absurd (omega arith)
+    go (orders.Message (commands.Hash f l)) m e = absurd (omega arith)
+    go (orders.Uniq u) m e = absurd (omega arith)
+    go (orders.Pick p) m e = absurd (omega arith)
+    go (orders.Make f) m e = absurd (omega arith)
+    go (orders.Archive a) m e = absurd (task a.task e)
+    go (orders.Flow flows.Unpack) m e = inr (m.1, m.2)
+    go (orders.Flow flows.Pack) m e = absurd (omega arith)

@@ -1,0 +1,9 @@
+use Rattle.capn_tool.specs.Line.{unpack_line}
+use Rattle.capn_tool.specs.Laws.CommandLines.{answers_option}
+use Rattle.capn_program.specs.Line.{streaming_rule}
+use Rattle.capn_program.proofs.subcommands.unpack_command.Goals as goal
+
+pub returns : goal.returns
+returns c =
+    answers_option c.in_ok-command.command c.flag.result unpack_line streaming_rule c.arg.result
+    c.in_ok-command.ensures c.flag.ensures.rule c.flag.ensures.local c.arg.ensures

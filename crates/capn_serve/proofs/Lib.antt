@@ -1,0 +1,14 @@
+pub mod Sends
+pub mod More
+pub mod Next
+pub mod Added
+pub mod InputRead
+pub mod RunEnds
+pub mod WholeRead
+pub mod BareEnds
+pub mod PackedMore
+pub mod PackedEnds
+pub mod Picks
+pub mod StreamPicks
+pub mod PackedPicks
+pub mod EachForm

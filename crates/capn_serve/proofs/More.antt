@@ -1,0 +1,227 @@
+-- A stream that is served in chunks: more of it, and where a run stops.
+use Rattle.std.proofs.Common.{◌≡◌, ◌≢◌, ◌⊎◌, inl, inr, ℕ, ◌≤◌, List, [], ◌∷◌, ◌++◌, length, Bool, true, false, Option}
+use Rattle.std.proofs.Common.{Result, Err, refl, ap, sym, subst, ◌∙◌, append-nil, append_assoc, arith, length-append}
+use Rattle.std.proofs.lemmas.Grind.{flat_map-append}
+use Rattle.capn_words.specs.Message.{total}
+use Rattle.capn_stream.specs.Frames.{Frames}
+use Rattle.capn_stream.specs.Stages.{IsStop}
+use Rattle.capn_stream.specs.declared.fault.FrameFault.{FrameFault}
+use Rattle.capn_stream.specs.declared.fault.FrameFault.TheVariants as frame_faults
+use Rattle.capn_stream.specs.Laws.Longer.{IsStop-append}
+use Rattle.capn_canon.specs.declared.refusal.Refusal.{Refusal}
+use Rattle.capn_canon.specs.declared.refusal.Refusal.TheVariants as refusals
+use Rattle.capn_serve.specs.Fold.{Fold, Part, IsPart, AreServed, AreParts, frame_of, text_of, frames_of, texts_of}
+use Rattle.capn_serve.specs.Fold.{IsFolded, end_of}
+use Rattle.capn_serve.specs.Sending.{Outgoing, Adds, Breaks}
+use Rattle.capn_serve.specs.Serving.{AddsMessage, Tells, TellsFront, IsDueSo, Stops, fault_at}
+use Rattle.capn_serve.specs.declared.fault.RunFault.{RunFault}
+use Rattle.capn_serve.specs.declared.fault.RunFault.TheVariants as faults
+use Rattle.capn_serve.proofs.Sends.{adds_more, adds_none, breaks_behind}
+
+module _ {X : Type 0} (f : Fold X) where
+  served_append : (x y z : X) (ps qs : List Part) → AreServed f x ps y → AreServed f y qs z → AreServed f x (ps ++ qs) z
+  served_append x y z [] qs a b = subst (λ (s : X). AreServed f s qs z) (sym a) b
+  served_append x y z (p ∷ ps) qs (mid, is, step, rest) b = (mid, is, step, served_append mid y z ps qs rest b)
+
+  -- parts of a stream, and parts of what was left of it with more after it
+  pub parts_more : (x y z : X) (s mid e rest : List ℕ) (ps qs : List Part) → AreParts f x s ps mid y
+      → AreParts f y (mid ++ e) qs rest z → AreParts f x (s ++ e) (ps ++ qs) rest z
+  parts_more x y z s mid e rest ps qs a b = record {
+    each = served_append x y z ps qs a.each b.each;
+    is =
+        ap (λ (p : List ℕ). p ++ e) a.is
+        ∙ append_assoc (frames_of ps) mid e
+        ∙ ap (λ (p : List ℕ). frames_of ps ++ p) b.is
+        ∙ sym (append_assoc (frames_of ps) (frames_of qs) rest)
+        ∙ ap (λ (p : List ℕ). p ++ rest) (sym (flat_map-append frame_of ps qs));
+  }
+
+  texts_more : (a b c : Outgoing) (ps qs : List Part) → Adds a b (texts_of ps) → Adds b c (texts_of qs)
+      → Adds a c (texts_of (ps ++ qs))
+  texts_more a b c ps qs g h =
+      subst (Adds a c) (sym (flat_map-append text_of ps qs)) (adds_more a b c (texts_of ps) (texts_of qs) g h)
+
+  -- nothing was served, and all is left
+  pub parts_none : (x : X) (stream : List ℕ) → AreParts f x stream [] stream x
+  parts_none x stream = record { each = refl; is = refl }
+
+  pub tells_none : (x : X) (stream : List ℕ) (a : Outgoing) → Tells f x stream stream a a x
+  tells_none x stream a = ([], parts_none x stream, adds_none a)
+
+  pub tells_more : (x y z : X) (s mid e rest : List ℕ) (a b c : Outgoing) → Tells f x s mid a b y
+      → Tells f y (mid ++ e) rest b c z → Tells f x (s ++ e) rest a c z
+  tells_more x y z s mid e rest a b c g h =
+      (g.0 ++ h.0, parts_more x y z s mid e rest g.0 h.0 g.1 h.1, texts_more a b c g.0 h.0 g.2 h.2)
+
+  one_part : (x y : X) (frame : List ℕ) (message : List (List ℕ)) (text e : List ℕ) → Frames frame message
+      → total message ≤ f.most → f.step x frame message text y
+      → AreParts f x (frame ++ e) ((record { frame = frame; message = message; text = text }) ∷ []) e y
+  one_part x y frame message text e is room step = record {
+    each = (y, record { frame = is; room = room }, step, refl);
+    is = ap (λ (p : List ℕ). p ++ e) (sym (append-nil frame));
+  }
+
+  -- a message and its text
+  pub tells_one : (x y : X) (frame : List ℕ) (message : List (List ℕ)) (text : List ℕ) (a b : Outgoing)
+      → Frames frame message
+      → total message ≤ f.most → f.step x frame message text y → Adds a b text → Tells f x frame [] a b y
+  tells_one x y frame message text a b is room step wrote = (
+    (record { frame = frame; message = message; text = text }) ∷ [],
+    subst (λ (p : List ℕ). AreParts f x p ((record { frame = frame; message = message; text = text }) ∷ []) [] y)
+        (append-nil frame) (one_part x y frame message text [] is room step),
+    subst (Adds a b) (sym (append-nil text)) wrote,
+  )
+
+  -- what a stream writes after some of its messages it writes after them in all of it
+  pub due_behind : (x y : X) (s mid e : List ℕ) (a b c : Outgoing) (behind : Option RunFault)
+      (ending : Result (Unit {0}) RunFault) → Tells f x s mid a b y
+      → (text : List ℕ) × (z : X) × IsFolded f y (mid ++ e) behind text ending z × Adds b c text → (text : List ℕ)
+      × (z : X) × IsFolded f x (s ++ e) behind text ending z × Adds a c text
+  due_behind x y s mid e a b c behind ending told (text, z, due, wrote) = (
+    texts_of (told.0 ++ due.parts),
+    z,
+    record {
+      parts = told.0 ++ due.parts;
+      rest = due.rest;
+      are = parts_more x y z s mid e due.rest told.0 due.parts told.1 due.are;
+      joined = refl;
+      ends = due.ends;
+    },
+    texts_more a b c told.0 due.parts told.2 (subst (Adds b c) due.joined wrote),
+  )
+
+  pub front_behind : (x y : X) (s mid e : List ℕ) (a b c : Outgoing) → Tells f x s mid a b y
+      → TellsFront f y (mid ++ e) b c → TellsFront f x (s ++ e) a c
+  front_behind x y s mid e a b c told (parts, rest, z, count, are, wrote) =
+      let behind = breaks_behind a b c (texts_of told.0) (texts_of parts) count told.2 wrote in (
+        told.0 ++ parts,
+        rest,
+        z,
+        behind.0,
+        parts_more x y z s mid e rest told.0 parts told.1 are,
+        subst (Breaks a c behind.0) (sym (flat_map-append text_of told.0 parts)) behind.1,
+      )
+
+  -- where a run stops after some messages of a stream it stops in all of it
+  pub stops_more : (x y : X) (s mid e : List ℕ) (a b c : Outgoing) (failed : Bool) (fault : RunFault)
+      → Tells f x s mid a b y → Stops f y (mid ++ e) b c failed fault → Stops f x (s ++ e) a c failed fault
+  stops_more x y s mid e a b c failed fault told stop = record {
+    told = λ h. (let next = stop.told h in
+        (next.0, next.1, tells_more x y next.1 s mid e next.0 a b c told next.2));
+    front = λ h. front_behind x y s mid e a b c told (stop.front h);
+    io = stop.io;
+    due = elim stop.due [ inl m ↦ inl m | inr rest ↦ inr (elim rest [ inl i ↦ inl i | inr so ↦ inr (so_behind so) ]) ];
+  }
+    where
+      so_behind : IsDueSo f y (mid ++ e) b c fault → IsDueSo f x (s ++ e) a c fault
+      so_behind so more behind =
+          let same = append_assoc mid e more in
+          let part = subst (λ (p : List ℕ). (text : List ℕ) × (z : X) × IsFolded f y p behind text (Err fault) z
+          × Adds b c text) same (so more behind) in
+          let all = due_behind x y s mid (e ++ more) a b c behind (Err fault) told part in
+          subst (λ (p : List ℕ). (text : List ℕ) × (z : X) × IsFolded f x p behind text (Err fault) z
+          × Adds a c text) (sym (append_assoc s e more)) all
+
+  -- memory was refused
+  pub stops_memory : (x : X) (stream : List ℕ) (a : Outgoing) (failed : Bool) → failed ≡ false
+      → Stops f x stream a a failed faults.Memory
+  stops_memory x stream a failed fine = record {
+    told = λ h. (stream, x, tells_none x stream a);
+    front = λ h. absurd (let broken : true ≡ false = sym h ∙ fine in cc);
+    io = (λ h. absurd (cc), λ h. absurd (cc));
+    due = inl refl;
+  }
+
+  -- no frame can follow
+  pub stops_framed : (x : X) (stream : List ℕ) (a : Outgoing) (failed : Bool) (e : FrameFault) → failed ≡ false
+      → e ≢ frame_faults.Memory → IsStop stream f.most e
+      → Stops f x stream a a failed (faults.Refused (f.place x) (refusals.Frame e))
+  stops_framed x stream a failed e fine other stop = record {
+    told = λ h. (stream, x, tells_none x stream a);
+    front = λ h. absurd (let broken : true ≡ false = sym h ∙ fine in cc);
+    io = (λ h. absurd (cc), λ h. absurd (cc));
+    due = inr (inr
+        (λ more behind. (
+          [],
+          x,
+          due more behind e other (IsStop-append stream more f.most e stop),
+          adds_none a,
+        )));
+  }
+    where
+      due : (more : List ℕ) (behind : Option RunFault) (e : FrameFault) → e ≢ frame_faults.Memory
+          → IsStop (stream ++ more) f.most e
+          → IsFolded f x (stream ++ more) behind [] (Err (faults.Refused (f.place x) (refusals.Frame e))) x
+      due more behind frame_faults.Memory other stop = absurd (other refl)
+      due more behind frame_faults.Empty other stop = absurd stop
+      due more behind frame_faults.Cut other stop = absurd stop
+      due more behind frame_faults.Failed other stop = absurd stop
+      due more behind (frame_faults.TooManySegments n) other stop = record {
+        parts = [];
+        rest = stream ++ more;
+        are = parts_none x (stream ++ more);
+        joined = refl;
+        ends = inl (frame_faults.TooManySegments n, other, stop, refl);
+      }
+      due more behind (frame_faults.TooManyWords n) other stop = record {
+        parts = [];
+        rest = stream ++ more;
+        are = parts_none x (stream ++ more);
+        joined = refl;
+        ends = inl (frame_faults.TooManyWords n, other, stop, refl);
+      }
+
+  -- a message is refused, or memory was, or the writer failed
+  pub stops_message : (x y : X) (frame e : List ℕ) (message : List (List ℕ)) (a b : Outgoing) (failed : Bool)
+      (fault : RunFault) → Frames frame message → total message ≤ f.most
+      → AddsMessage f x frame message a b failed (Err fault) y → Stops f x (frame ++ e) a b failed fault
+  stops_message x y frame e message a b failed fault is room (inl (why, kept, fine)) = record {
+    told = λ h. (frame ++ e, x, ([], parts_none x (frame ++ e), kept));
+    front = λ h. absurd (let bad : true ≡ false = sym h ∙ fine in cc);
+    io = (λ h. absurd (no_io why h), λ h. absurd (let bad : true ≡ false = sym h ∙ fine in cc));
+    due = elim why [
+      | inl m ↦ inl m
+      | inr n ↦ inr (inr (λ more behind. ([], x, due n.0 n.1 n.2 more behind, kept)))
+    ];
+  }
+    where
+      no_io : (fault ≡ faults.Memory)
+          ⊎ ((r : Refusal) × f.refuses x frame message r × (fault ≡ faults.Refused (f.place x) r)) → fault ≡ faults.Io
+          → ⊥
+      no_io (inl m) h = let bad : faults.Memory ≡ faults.Io = sym m ∙ h in cc
+      no_io (inr (r, refuses, n)) h = let bad : faults.Refused (f.place x) r ≡ faults.Io = sym n ∙ h in cc
+
+      due : (r : Refusal) → f.refuses x frame message r → fault ≡ faults.Refused (f.place x) r → (more : List ℕ)
+          (behind : Option RunFault) → IsFolded f x ((frame ++ e) ++ more) behind [] (Err fault) x
+      due r refuses n more behind = record {
+        parts = [];
+        rest = (frame ++ e) ++ more;
+        are = parts_none x ((frame ++ e) ++ more);
+        joined = refl;
+        ends =
+            inr (
+              frame,
+              e ++ more,
+              message,
+              r,
+              append_assoc frame e more,
+              is,
+              room,
+              refuses,
+              ap (λ (g : RunFault). Err g) n,
+            );
+      }
+  stops_message x y frame e message a b failed fault is room (inr (text, count, mid, is_io, broken, step, wrote)) =
+      record {
+        told = λ h. absurd (let bad : true ≡ false = sym broken ∙ h in cc);
+        front = λ h. (
+          (record { frame = frame; message = message; text = text }) ∷ [],
+          e,
+          mid,
+          count,
+          one_part x mid frame message text e is room step,
+          subst (Breaks a b count) (sym (append-nil text)) wrote,
+        );
+        io = (λ h. broken, λ h. is_io);
+        due = inr (inl is_io);
+      }

@@ -1,0 +1,382 @@
+-- How a run over a packed stream ends.
+use Rattle.std.proofs.Common.{◌≡◌, ◌≢◌, ◌⊎◌, inl, inr, ℕ, ◌+◌, ◌-◌, ◌<◌, ◌≤◌, min, List, [], ◌++◌, length, take, Bool}
+use Rattle.std.proofs.Common.{true, false, Option, None, Some, IfSome, Result, Ok, Err, refl, ap, sym, subst, ◌∙◌}
+use Rattle.std.proofs.Common.{append_assoc, arith, length-append, length-take-le}
+use Rattle.std.proofs.Math.Seq.{take-length, take_all}
+use Rattle.std.proofs.lemmas.List.{take-append-le}
+use Rattle.std.proofs.lemmas.Grind.{flat_map-append}
+use Rattle.std.specs.Io.KnownBytes.{Appends, Consumes, IsAtEnd, Keeps}
+use Rattle.std.proofs.KnownBytes.{Consumes-nil, Consumes-trans, Consumes-kept}
+use Rattle.capn_pack.specs.Group.{text, content}
+use Rattle.capn_pack.specs.Packs.{texts, contents}
+use Rattle.capn_pack.specs.Stream as packing
+use Rattle.capn_pack.specs.Stream.{Splits}
+use Rattle.capn_pack.specs.Laws.GroupLemmas.{each_append}
+use Rattle.capn_pack.specs.Laws.SplitLaws.{splits_all}
+use Rattle.capn_pack.specs.Laws.StreamLemmas.{nothing_first}
+use Rattle.capn_stream.specs.Framing.{IsUnfinished}
+use Rattle.capn_stream.specs.Reading as frame_rules
+use Rattle.capn_stream.specs.declared.fault.FrameFault.{FrameFault}
+use Rattle.capn_stream.specs.declared.fault.FrameFault.TheVariants as frames
+use Rattle.capn_serve.specs.declared.fault.RunFault.{RunFault}
+use Rattle.capn_serve.specs.declared.fault.RunFault.TheVariants as faults
+use Rattle.capn_serve.specs.Fold.{Fold, IsFolded, end_of, texts_of}
+use Rattle.capn_serve.specs.Sending.{sent}
+use Rattle.capn_serve.specs.Serving.{Tells, TellsFront}
+use Rattle.capn_serve.specs.StreamRun.{Kept, has_more, taken_of}
+use Rattle.capn_serve.specs.PackedRun.{BeginsPacked, EndsPackedAs, HasEndedPacked, HasWrittenPacked, IsDuePacked}
+use Rattle.capn_serve.specs.PackedRun.{RunsPacked, cut_group, most_packed, unless_more}
+use Rattle.capn_serve.specs.PackedServing.{EndsPacked, HaltsPacked, HearsPacked, IsDueWithin, IsUnpacking}
+use Rattle.capn_serve.specs.PackedServing.{Pending, TellsPacked, fresh}
+use Rattle.capn_serve.proofs.InputRead.{kept_all, read_end, read_past, taken_front, taken_more}
+use Rattle.capn_serve.proofs.Sends.{adds_sent}
+use Rattle.capn_serve.proofs.PackedMore.{all_taken, begins_all, not_more, packed_more, packed_none, packed_stop}
+
+abbrev Ending : Type 0
+Ending = Result (Unit {0}) RunFault
+
+abbrev stopped : RunFault → Ending
+stopped fault = Err fault
+
+-- neither has failed
+not_failed : (r w : Bool) → r ≡ false → w ≡ false → (r ≡ true) ⊎ (w ≡ true) → ⊥
+not_failed r w fine good (inl h) = let e : true ≡ false = sym h ∙ fine in cc
+not_failed r w fine good (inr h) = let e : true ≡ false = sym h ∙ good in cc
+
+writer_only : (r w : Bool) → r ≡ false → (r ≡ true) ⊎ (w ≡ true) → w ≡ true
+writer_only r w fine (inl h) = let e : true ≡ false = sym h ∙ fine in absurd (cc)
+writer_only r w fine (inr h) = h
+
+-- the bytes of all whole groups, of which some are known
+pub split_after : (s tail words : List ℕ) → packing.Begins s [] words → (group : List ℕ) × (more : List ℕ) × (at : ℕ)
+    × Splits (s ++ tail) group [] (words ++ more) at
+split_after s tail words b =
+    let r = splits_all (b.rest ++ tail) [] in
+    let q = r.splits in (
+      r.rest,
+      contents q.groups,
+      length (texts (b.groups ++ q.groups)),
+      record {
+        groups = b.groups ++ q.groups;
+        each = each_append b.groups q.groups b.each q.each;
+        text =
+            ap (λ (l : List ℕ). l ++ tail) b.text
+            ∙ append_assoc (texts b.groups) b.rest tail
+            ∙ ap (λ (l : List ℕ). texts b.groups ++ l) q.text
+            ∙ sym (append_assoc (texts b.groups) (texts q.groups) r.rest)
+            ∙ ap (λ (l : List ℕ). l ++ r.rest) (sym (flat_map-append text b.groups q.groups));
+        content = ap (λ (l : List ℕ). l ++ contents q.groups) b.content
+            ∙ sym (flat_map-append content b.groups q.groups);
+        size = refl;
+        open_rest = q.open_rest;
+      },
+    )
+
+module _ {X : Type 0} (f : Fold X) (x : X) (limit : ℕ) where
+  -- ---- a beginning was written
+
+  -- of what some groups unpack to, as far as it is taken, a beginning of the texts was written
+  abbrev pub Fronts : List ℕ → Option (List ℕ) → Option (List ℕ) → Type 0
+  Fronts s c d = (stream : List ℕ) × packing.Begins s [] stream
+      × TellsFront f x (taken_of limit stream) (sent c) (sent d)
+
+  pub wrote_front : (s : List ℕ) (c d : Option (List ℕ)) → Fronts s c d → HasWrittenPacked f x limit s c d
+  wrote_front s c d (stream, begins, (parts, rest, y, count, are, wrote)) =
+      (stream, begins, parts, rest, y, count, are, wrote)
+
+  told_front : (y : X) (stream rest : List ℕ) (c d : Option (List ℕ)) → Tells f x stream rest (sent c) (sent d) y
+      → TellsFront f x stream (sent c) (sent d)
+  told_front y stream rest c d (parts, are, adds) = (
+    parts,
+    rest,
+    y,
+    length (texts_of parts),
+    are,
+    subst (Appends c d) (sym (take-length (texts_of parts))) (adds_sent c d (texts_of parts) adds),
+  )
+
+  pub taken_told : (y : X) (s : List ℕ) (q : Pending) (c d : Option (List ℕ))
+      (told : TellsPacked f x (fresh limit) s q (sent c) (sent d) y)
+      → Tells f x (taken_of limit told.stream) q.rest (sent c) (sent d) y
+  taken_told y s q c d told =
+      subst (λ (l : List ℕ). Tells f x l q.rest (sent c) (sent d) y)
+      (sym (all_taken limit q.left told.stream told.size)) told.told
+
+  pub fronts_told : (y : X) (s : List ℕ) (q : Pending) (c d : Option (List ℕ))
+      → TellsPacked f x (fresh limit) s q (sent c) (sent d) y → Fronts s c d
+  fronts_told y s q c d told = (
+    told.stream,
+    begins_all s q.group.rest told.stream told.len told.split,
+    told_front y (taken_of limit told.stream) q.rest c d (taken_told y s q c d told),
+  )
+
+  pub fronts_stop : (s : List ℕ) (c e : Option (List ℕ)) (failed : Bool) (fault : RunFault)
+      → HaltsPacked f x (fresh limit) s (sent c) (sent e) failed fault → Fronts s c e
+  fronts_stop s c e true fault (stream, begins, halt) = (stream, begins, halt.front refl)
+  fronts_stop s c e false fault (stream, begins, halt) = let all = halt.told refl in
+      (stream, begins, told_front all.1 (taken_of limit stream) all.0 c e all.2)
+
+  begins_packed : (a b c d : Option (List ℕ)) (all s : List ℕ) → Consumes a b all → length all ≤ most_packed + 1
+      → taken_of most_packed all ≡ s → Fronts s c d → BeginsPacked f x limit a b c d
+  begins_packed a b c d all s read bound is front = record {
+    bytes = all;
+    read = read;
+    bounded = bound;
+    written = subst (λ (l : List ℕ). HasWrittenPacked f x limit l c d) (sym is) (wrote_front s c d front);
+  }
+
+  begins_kept : (a b c d : Option (List ℕ)) (kept : List ℕ) (is_longer : Bool)
+      → (bytes : List ℕ) × Kept most_packed a b kept is_longer bytes → Fronts kept c d → BeginsPacked f x limit a b c d
+  begins_kept a b c d kept is_longer (bytes, k) front =
+      begins_packed a b c d bytes kept k.read k.bounded k.are front
+
+  -- ---- how a run ends
+
+  ends_unread : (y : X) (a c d : Option (List ℕ)) (fault : RunFault) → (fault ≡ faults.Memory) ⊎ (fault ≡ faults.Io)
+      → IfSome a (EndsPackedAs f x limit c d (Err fault) y)
+  ends_unread y None c d fault h = tt
+  ends_unread y (Some all) c d fault (inl m) = inl m
+  ends_unread y (Some all) c d fault (inr e) = inr (inl e)
+
+  ends_kept : (y : X) (a b c d : Option (List ℕ)) (kept : List ℕ) (is_longer : Bool) (r : Ending)
+      → (bytes : List ℕ) × Kept most_packed a b kept is_longer bytes
+      → HasEndedPacked f x limit kept is_longer c d r y → IfSome a (EndsPackedAs f x limit c d r y)
+  ends_kept y None b c d kept is_longer r k h = tt
+  ends_kept y (Some all) b c d kept is_longer r (bytes, k) h =
+      let same = kept_all most_packed (Some all) b kept bytes is_longer k in
+      subst (λ (m : Bool). HasEndedPacked f x limit (taken_of most_packed all) m c d r y) (sym same.1)
+      (subst (λ (xs : List ℕ). HasEndedPacked f x limit xs is_longer c d r y) (sym same.0) h)
+
+  -- what is due where no whole frame is left of what was unpacked
+  pub due_open : (y : X) (s : List ℕ) (q : Pending) (is_longer : Bool) (ending : Ending) (e : FrameFault)
+      (c d : Option (List ℕ)) (told : TellsPacked f x (fresh limit) s q (sent c) (sent d) y) → e ≢ frames.Memory
+      → frame_rules.IsRefused q.rest f.most e
+      → ending ≡ end_of (f.place y) e (unless_more is_longer (cut_group (f.place y) q.group.rest told.len))
+      → (text : List ℕ) × IsDuePacked f x limit s is_longer text ending y × Appends c d text
+  due_open y s q is_longer ending e c d told other refused is =
+      let all = taken_told y s q c d told in
+      let behind = unless_more is_longer (cut_group (f.place y) q.group.rest told.len) in
+      let due : IsFolded f x (taken_of limit told.stream) behind (texts_of all.0) ending y = record {
+        parts = all.0;
+        rest = q.rest;
+        are = all.1;
+        joined = refl;
+        ends = inl (e, other, refused, is);
+      } in
+      let no_more = not_more limit q.left told.stream told.size in (
+        texts_of all.0,
+        record {
+          stream = told.stream;
+          group = q.group.rest;
+          offset = told.len;
+          split = told.split;
+          due = subst (λ (m : Bool). IsFolded f x (taken_of limit told.stream) (unless_more m behind) (texts_of all.0)
+              ending y) (sym no_more) due;
+        },
+        adds_sent c d (texts_of all.0) all.2,
+      )
+
+  due_unfinished : (y : X) (s : List ℕ) (q : Pending) (is_longer : Bool) (c d : Option (List ℕ))
+      → TellsPacked f x (fresh limit) s q (sent c) (sent d) y → IsUnfinished q.rest f.most
+      → (ending : Ending) × (text : List ℕ) × IsDuePacked f x limit s is_longer text ending y × Appends c d text
+  due_unfinished y s q is_longer c d told (inl none) =
+      let ending = end_of (f.place y) frames.Empty
+      (unless_more is_longer (cut_group (f.place y) q.group.rest told.len)) in
+      let due = due_open y s q is_longer ending frames.Empty c d told (λ h. cc) none refl in
+      (ending, due.0, due.1, due.2)
+  due_unfinished y s q is_longer c d told (inr cut) =
+      let ending = end_of (f.place y) frames.Cut
+      (unless_more is_longer (cut_group (f.place y) q.group.rest told.len)) in
+      let due = due_open y s q is_longer ending frames.Cut c d told (λ h. cc) cut refl in
+      (ending, due.0, due.1, due.2)
+
+  -- the offset of the unfinished group
+  pub offset_is : (y : X) (s : List ℕ) (q : Pending) (c d : Option (List ℕ))
+      (told : TellsPacked f x (fresh limit) s q (sent c) (sent d) y) → length s ≤ most_packed
+      → q.group.offset ≡ told.len
+  offset_is y s q c d told short =
+      let split = told.split in
+      omega (
+        arith,
+        told.offset,
+        split.size,
+        ap length split.text,
+        length-append (texts split.groups) q.group.rest,
+        short,
+      )
+
+  -- nothing has come
+  pub packed_begin : (a c : Option (List ℕ)) (q : Pending) → q ≡ fresh limit → HearsPacked f x limit a a 0 q c c x
+  packed_begin a c q new =
+      let unpacking : IsUnpacking (fresh limit).group =
+      record { good = refl; group = nothing_first; offset = omega arith } in (
+        [],
+        Consumes-nil a,
+        refl,
+        subst (λ (h : Pending). TellsPacked f x (fresh limit) [] h (sent c) (sent c) x) (sym new)
+            (packed_none f x (fresh limit) (sent c) unpacking),
+      )
+
+  -- the reader failed: all of the text of what it gave is written
+  pub packed_unread : (y : X) (a b b2 c d : Option (List ℕ)) (taken : ℕ) (q : Pending)
+      (reader_failed writer_failed : Bool) → reader_failed ≡ true → taken ≤ most_packed
+      → HearsPacked f x limit a b taken q c d y → IsUnfinished q.rest f.most → Keeps b b2
+      → RunsPacked f x limit a b2 c d reader_failed writer_failed (Err faults.Io) y
+  packed_unread y a b b2 c d taken q reader_failed writer_failed broken short (bytes, read, count, told) part kept =
+      let here = Consumes-kept a b b2 bytes read kept in
+      let all : taken_of most_packed bytes ≡ bytes = take_all most_packed bytes (omega (arith, count, short)) in
+      let due = due_unfinished y bytes q (has_more most_packed bytes) c d told part in
+      record {
+        exact = ends_unread y a c d faults.Io (inr refl);
+        io = (λ h. inl broken, λ h. refl);
+        begun = begins_packed a b2 c d bytes bytes here (omega (arith, count, short)) all
+            (fronts_told y bytes q c d told);
+        heard = λ h. (
+          bytes,
+          due.1,
+          due.0,
+          y,
+          here,
+          subst (λ (p : List ℕ). IsDuePacked f x limit p (has_more most_packed bytes) due.1 due.0 y) (sym all) due.2,
+          due.3,
+        );
+      }
+
+  -- how a run has ended that ends so
+  ended : (y : X) (s : List ℕ) (is_longer : Bool) (c d : Option (List ℕ)) (r : Ending)
+      → (text : List ℕ) × IsDuePacked f x limit s is_longer text r y × Appends c d text
+      → HasEndedPacked f x limit s is_longer c d r y
+  ended y s is_longer c d (Ok u) due = due
+  ended y s is_longer c d (Err fault) due = inr (inr (due.0, y, due.1, due.2))
+
+  pub packed_end : (y : X) (a b b2 c d : Option (List ℕ)) (taken : ℕ) (q : Pending) (buf : List ℕ) (n : ℕ)
+      (reader_failed writer_failed : Bool) (r : Ending) → reader_failed ≡ false → writer_failed ≡ false
+      → taken ≤ most_packed → HearsPacked f x limit a b taken q c d y → n ≡ 0 → Consumes b b2 (take n buf)
+      × (n ≡ 0 → 0 < length buf → IsAtEnd b2) → 0 < length buf
+      → EndsPacked (f.place y) q.group.rest q.group.offset q.rest f.most r
+      → RunsPacked f x limit a b2 c d reader_failed writer_failed r y
+  packed_end y a b b2 c d taken q buf n reader_failed writer_failed r reader_fine writer_fine short (
+    bytes,
+    read,
+    count,
+    told,
+  ) zero more some (e, other, refused, is, no_io) =
+      let kept = read_end most_packed a b b2 bytes buf n zero read more some (omega (arith, count, short)) in
+      let at = offset_is y bytes q c d told (omega (arith, count, short)) in
+      let ending : r ≡ end_of (f.place y) e (cut_group (f.place y) q.group.rest told.len) = is
+      ∙ ap (λ (k : ℕ). end_of (f.place y) e (cut_group (f.place y) q.group.rest k)) at in
+      let due = due_open y bytes q false r e c d told other refused ending in
+      record {
+        exact = ends_kept y a b2 c d bytes false r kept (ended y bytes false c d r due);
+        io = (λ h. absurd (no_io h), λ h. absurd (not_failed reader_failed writer_failed reader_fine writer_fine h));
+        begun = begins_kept a b2 c d bytes false kept (fronts_told y bytes q c d told);
+        heard = λ h. absurd (not_failed reader_failed writer_failed reader_fine writer_fine (inl h));
+      }
+
+  -- a byte past the greatest number was read, after messages that were served
+  pub due_long : (y : X) (s : List ℕ) (q : Pending) (c d : Option (List ℕ))
+      → TellsPacked f x (fresh limit) s q (sent c) (sent d) y → IsUnfinished q.rest f.most → (text : List ℕ)
+      × IsDuePacked f x limit s true text (stopped faults.InputTooLong) y × Appends c d text
+  due_long y s q c d told (inl none) =
+      due_open y s q true (stopped faults.InputTooLong) frames.Empty c d told (λ h. cc) none refl
+  due_long y s q c d told (inr cut) =
+      due_open y s q true (stopped faults.InputTooLong) frames.Cut c d told (λ h. cc) cut refl
+
+  pub packed_long : (y z : X) (a b b2 c d e : Option (List ℕ)) (taken : ℕ) (q r : Pending) (buf tail : List ℕ) (w k : ℕ)
+      (reader_failed writer_failed : Bool) → reader_failed ≡ false → writer_failed ≡ false
+      → taken + w ≡ most_packed → w < k → taken + k ≤ most_packed + 1
+      → HearsPacked f x limit a b taken q c d y → Consumes b b2 (take k buf) → k ≤ length buf
+      → TellsPacked f y q (take w (buf ++ tail)) r (sent d) (sent e) z → IsUnfinished r.rest f.most
+      → RunsPacked f x limit a b2 c e reader_failed writer_failed (Err faults.InputTooLong) z
+  packed_long y z a b b2 c d e taken q r buf tail w k reader_failed writer_failed reader_fine writer_fine full past
+      bound (bytes, read, count, told) more within served part =
+      let kept = read_past most_packed a b b2 bytes buf k w read more within (omega (arith, count, full)) past
+      (omega (arith, count, bound)) in
+      let front = subst (λ (l : List ℕ). TellsPacked f y q l r (sent d) (sent e) z)
+      (take-append-le w buf tail (omega (arith, past, within))) served in
+      let all = packed_more f x y (fresh limit) q bytes (take w buf) (sent c) (sent d) told z r (sent e) front in
+      let due = due_long z (bytes ++ take w buf) r c e all part in
+      record {
+        exact = ends_kept z a b2 c e (bytes ++ take w buf) true (Err faults.InputTooLong) kept
+            (ended z (bytes ++ take w buf) true c e (stopped faults.InputTooLong) due);
+        io = (λ h. absurd (cc), λ h. absurd (not_failed reader_failed writer_failed reader_fine writer_fine h));
+        begun = begins_kept a b2 c e (bytes ++ take w buf) true kept
+            (fronts_told z (bytes ++ take w buf) r c e all);
+        heard = λ h. absurd (not_failed reader_failed writer_failed reader_fine writer_fine (inl h));
+      }
+
+  -- the run stopped within a chunk
+  stopped_packed : (z : X) (a b2 c e : Option (List ℕ)) (all s : List ℕ) (failed : Bool) (fault : RunFault)
+      → Consumes a b2 all → taken_of most_packed all ≡ s
+      → HaltsPacked f x (fresh limit) s (sent c) (sent e) failed fault
+      → IfSome a (EndsPackedAs f x limit c e (Err fault) z)
+  stopped_packed z None b2 c e all s failed fault read is stop = tt
+  stopped_packed z (Some input) None c e all s failed fault read is stop = absurd read
+  stopped_packed z (Some input) (Some left) c e all s failed fault read is (stream, begins, halt) =
+      elim halt.due [
+        | inl m ↦ inl m
+        | inr rest ↦ elim rest [ inl i ↦ inr (inl i) | inr so ↦ inr (inr (due so)) ]
+      ]
+    where
+      due : IsDueWithin f x limit [] stream (sent c) (sent e) fault → (text : List ℕ) × (y : X)
+          × IsDuePacked f x limit (taken_of most_packed input) (has_more most_packed input) text (Err fault) y
+          × Appends c e text
+      due so =
+          let tail = taken_more most_packed all left in
+          let front : taken_of most_packed input ≡ s ++ tail.0 =
+          ap (taken_of most_packed) read ∙ tail.1 ∙ ap (λ (p : List ℕ). p ++ tail.0) is in
+          let split = split_after s tail.0 stream begins in
+          let part = so split.1 in (
+            part.0,
+            part.1,
+            record {
+              stream = stream ++ split.1;
+              group = split.0;
+              offset = split.2;
+              split = subst (λ (p : List ℕ). Splits p split.0 [] (stream ++ split.1) split.2) (sym front) split.3;
+              due = part.2 (unless_more (has_more most_packed input) (cut_group (f.place part.1) split.0 split.2));
+            },
+            adds_sent c e part.0 part.3,
+          )
+
+  pub packed_stopped : (y z : X) (a b b2 c d e : Option (List ℕ)) (taken : ℕ) (q : Pending) (buf tail : List ℕ)
+      (w k : ℕ) (reader_failed writer_failed : Bool) (fault : RunFault) → reader_failed ≡ false → taken ≤ most_packed
+      → w ≡ min k (most_packed - taken) → taken + k ≤ most_packed + 1
+      → HearsPacked f x limit a b taken q c d y → Consumes b b2 (take k buf) → k ≤ length buf
+      → HaltsPacked f y q (take w (buf ++ tail)) (sent d) (sent e) writer_failed fault
+      → RunsPacked f x limit a b2 c e reader_failed writer_failed (Err fault) z
+  packed_stopped y z a b b2 c d e taken q buf tail w k reader_failed writer_failed fault reader_fine short least bound
+      (bytes, read, count, told) more within stop =
+      let all = Consumes-trans a b b2 bytes (take k buf) read more in
+      let front = taken_front most_packed bytes buf taken w k count short least within in
+      let part = subst (λ (p : List ℕ). HaltsPacked f y q p (sent d) (sent e) writer_failed fault)
+      (take-append-le w buf tail (omega (arith, least, within))) stop in
+      let whole = packed_stop f x y (fresh limit) q bytes (take w buf) (sent c) (sent d) told (sent e) writer_failed
+      fault part in
+      record {
+        exact = stopped_packed z a b2 c e (bytes ++ take k buf) (bytes ++ take w buf) writer_failed fault all front
+            whole;
+        io = (
+          λ h. inr (whole.2.io.0 (cc)),
+          λ h. ap stopped (whole.2.io.1 (writer_only reader_failed writer_failed reader_fine h)),
+        );
+        begun = begins_packed a b2 c e (bytes ++ take k buf) (bytes ++ take w buf) all
+            (omega (arith, count, bound, length-append bytes (take k buf), length-take-le k buf within)) front
+            (fronts_stop (bytes ++ take w buf) c e writer_failed fault whole);
+        heard = λ h. absurd (let g : true ≡ false = sym h ∙ reader_fine in cc);
+      }
+
+  -- a chunk was served
+  pub packed_hears : (y z : X) (a b b2 c d e : Option (List ℕ)) (taken : ℕ) (q r : Pending) (buf tail : List ℕ)
+      (w k : ℕ) → w ≡ k → HearsPacked f x limit a b taken q c d y → Consumes b b2 (take k buf) → k ≤ length buf
+      → TellsPacked f y q (take w (buf ++ tail)) r (sent d) (sent e) z
+      → HearsPacked f x limit a b2 (taken + w) r c e z
+  packed_hears y z a b b2 c d e taken q r buf tail w k same (bytes, read, count, told) more within served =
+      let front = subst (λ (p : List ℕ). TellsPacked f y q p r (sent d) (sent e) z)
+      (take-append-le w buf tail (omega (arith, same, within))) served in
+      let part = subst (λ (i : ℕ). TellsPacked f y q (take i buf) r (sent d) (sent e) z) same front in (
+        bytes ++ take k buf,
+        Consumes-trans a b b2 bytes (take k buf) read more,
+        omega (arith, count, same, length-append bytes (take k buf), length-take-le k buf within),
+        packed_more f x y (fresh limit) q bytes (take k buf) (sent c) (sent d) told z r (sent e) part,
+      )

@@ -1,0 +1,526 @@
+-- A packed stream that is served in chunks: more of it, and where a run stops.
+use Rattle.std.proofs.Common.{◌≡◌, ◌≢◌, inl, inr, ℕ, ◌+◌, ◌-◌, ◌<◌, ◌≤◌, min, List, [], ◌++◌, length, take, drop, Bool}
+use Rattle.std.proofs.Common.{true, false, Option, Some, Result, Ok, Err, nat_lt, refl, ap, sym, subst, ◌∙◌}
+use Rattle.std.proofs.Common.{append-nil, append_assoc, arith, length-append}
+use Rattle.std.proofs.lemmas.List.{take-append-drop, take-append-le}
+use Rattle.std.proofs.Math.Seq.{take-add, take-append-add, take_all}
+use Rattle.std.proofs.lemmas.Bool.{cases_lt}
+use Rattle.std.proofs.lemmas.Bool.Decides.{nat_tests}
+use Rattle.std.proofs.lemmas.Grind.{flat_map-append}
+use Rattle.std.specs.Io.KnownBytes.{Appends}
+use Rattle.capn_words.specs.Watching.{HasBegun}
+use Rattle.capn_pack.specs.Group.{text, content}
+use Rattle.capn_pack.specs.Packs.{texts, contents}
+use Rattle.capn_pack.specs.Stream as packing
+use Rattle.capn_pack.specs.Stream.{Feeds, Held, Splits, advanced}
+use Rattle.capn_pack.specs.Laws.GroupLemmas.{each_append}
+use Rattle.capn_pack.specs.Laws.StreamLemmas.{splits_open, splits_then}
+use Rattle.capn_stream.specs.Framing.{Framing, IsUnfinished}
+use Rattle.capn_stream.specs.Reading as frame_rules
+use Rattle.capn_stream.specs.declared.fault.FrameFault.{FrameFault}
+use Rattle.capn_stream.specs.declared.fault.FrameFault.TheVariants as frames
+use Rattle.capn_canon.specs.declared.refusal.Refusal.{Refusal}
+use Rattle.capn_serve.specs.declared.position.Position.{Position}
+use Rattle.capn_serve.specs.declared.service.Run.{Run}
+use Rattle.capn_serve.specs.declared.fault.RunFault.{RunFault}
+use Rattle.capn_serve.specs.declared.fault.RunFault.TheVariants as faults
+use Rattle.capn_serve.specs.Fold.{Fold, Part, AreParts, EndsUnframed, IsFolded, end_of, fold_of, text_of, texts_of}
+use Rattle.capn_serve.specs.Sending.{Outgoing, SendsRest, outgoing, sent}
+use Rattle.capn_serve.specs.Serving.{HasRoom, IsDueSo, Stops, Tells, TellsFront}
+use Rattle.capn_serve.specs.StreamRun.{has_more, taken_of}
+use Rattle.capn_serve.specs.PackedRun.{unless_more}
+use Rattle.capn_serve.specs.PackedServing.{Halts, HaltsPacked, IsDueWithin, IsUnpacking, Pending, ServesPacked}
+use Rattle.capn_serve.specs.PackedServing.{ServesPart, TellsPacked, pending}
+use Rattle.capn_serve.proofs.InputRead.{taken_more}
+use Rattle.capn_serve.proofs.More.{front_behind, parts_more, stops_memory, tells_more, tells_none}
+use Rattle.capn_serve.proofs.Next.{room_told, tells_broken, tells_sent}
+use Rattle.capn_serve.proofs.Sends.{adds_all, adds_more}
+
+abbrev Ending : Type 0
+Ending = Result (Unit {0}) RunFault
+
+abbrev stopped : RunFault → Ending
+stopped fault = Err fault
+
+-- ---- a stop that does not hang on why no more bytes can come
+
+-- another fault
+other_than : (fault : RunFault) → (other : RunFault) × (fault ≡ other → ⊥)
+other_than faults.Memory = (faults.Io, λ e. cc)
+other_than faults.Io = (faults.Memory, λ e. cc)
+other_than faults.InputTooLong = (faults.Memory, λ e. cc)
+other_than (faults.Refused at r) = (faults.Memory, λ e. cc)
+
+module _ {X : Type 0} (f : Fold X) where
+  unframed_any : (y : X) (rest : List ℕ) (other fault : RunFault) (e : FrameFault) → (fault ≡ other → ⊥)
+      → e ≢ frames.Memory → frame_rules.IsRefused rest f.most e
+      → stopped fault ≡ end_of (f.place y) e (Some other)
+      → (behind : Option RunFault) → EndsUnframed f y rest behind (stopped fault)
+  unframed_any y rest other fault frames.Memory apart some refused is behind = absurd (some refl)
+  unframed_any y rest other fault frames.Empty apart some refused is behind = absurd (apart (cc))
+  unframed_any y rest other fault frames.Cut apart some refused is behind = absurd (apart (cc))
+  unframed_any y rest other fault (frames.TooManySegments n) apart some refused is behind =
+      (frames.TooManySegments n, some, refused, is)
+  unframed_any y rest other fault (frames.TooManyWords n) apart some refused is behind =
+      (frames.TooManyWords n, some, refused, is)
+  unframed_any y rest other fault frames.Failed apart some refused is behind = (frames.Failed, some, refused, is)
+
+  folded_any : (x y : X) (bytes text : List ℕ) (other fault : RunFault) → (fault ≡ other → ⊥)
+      → IsFolded f x bytes (Some other) text (stopped fault) y → (behind : Option RunFault)
+      → IsFolded f x bytes behind text (stopped fault) y
+  folded_any x y bytes text other fault apart due behind = record {
+    parts = due.parts;
+    rest = due.rest;
+    are = due.are;
+    joined = due.joined;
+    ends = elim due.ends [
+      | inl why ↦ inl (unframed_any y due.rest other fault why.0 apart why.1 why.2 why.3 behind)
+      | inr why ↦ inr why
+    ];
+  }
+
+  -- the text and the ending of messages that were served, and of what follows them
+  folded_more : (x y z : X) (s mid e more : List ℕ) (ps : List Part) (behind : Option RunFault) (ending : Ending)
+      → AreParts f x s ps mid y → IsFolded f y (mid ++ e) behind more ending z
+      → IsFolded f x (s ++ e) behind (texts_of ps ++ more) ending z
+  folded_more x y z s mid e more ps behind ending are due = record {
+    parts = ps ++ due.parts;
+    rest = due.rest;
+    are = parts_more f x y z s mid e due.rest ps due.parts are due.are;
+    joined = ap (λ (l : List ℕ). texts_of ps ++ l) due.joined ∙ sym (flat_map-append text_of ps due.parts);
+    ends = due.ends;
+  }
+
+-- ---- a number of bytes that are taken
+
+more_of : (room left : ℕ) (v w : List ℕ) → length w + room ≡ left → has_more left (w ++ v) ≡ has_more room v
+more_of room left v w size = longer (length v) (length (w ++ v)) (length-append w v)
+  where
+    longer : (n m : ℕ) → m ≡ length w + n → nat_lt left m ≡ nat_lt room n
+    longer n m is = grind (arith, nat_tests)
+
+taken_after : (room left : ℕ) (v w : List ℕ) → length w + room ≡ left → taken_of left (w ++ v) ≡ w ++ taken_of room v
+taken_after room left v w size =
+    ap (λ (i : ℕ). take i (w ++ v)) (sym size) ∙ take-append-add w v room
+
+pub all_taken : (left room : ℕ) (w : List ℕ) → length w + room ≡ left → taken_of left w ≡ w
+all_taken left room w size = take_all left w (omega (arith, size))
+
+pub not_more : (left room : ℕ) (w : List ℕ) → length w + room ≡ left → has_more left w ≡ false
+not_more left room w size = within (length w) size
+  where
+    within : (n : ℕ) → n + room ≡ left → nat_lt left n ≡ false
+    within n is = grind (arith, nat_tests)
+
+is_more : (left n : ℕ) → left < n → nat_lt left n ≡ true
+is_more left n h = grind (arith, nat_tests)
+
+-- ---- where a run stops
+
+module _ {X : Type 0} (f : Fold X) (x : X) (left : ℕ) (rest stream : List ℕ) (a b : Outgoing) (failed : Bool)
+    (fault : RunFault) where
+  due_within : IsDueSo f x (rest ++ taken_of left stream) a b fault → IsDueWithin f x left rest stream a b fault
+  due_within so more =
+      let tail = taken_more left stream more in
+      let other = other_than fault in
+      let part = so tail.0 (Some other.0) in
+      let same : rest ++ taken_of left (stream ++ more) ≡ (rest ++ taken_of left stream) ++ tail.0 =
+      ap (λ (p : List ℕ). rest ++ p) tail.1 ∙ sym (append_assoc rest (taken_of left stream) tail.0) in (
+        part.0,
+        part.1,
+        λ behind. (let all = unless_more (has_more left (stream ++ more)) behind in
+            subst (λ (p : List ℕ). IsFolded f x p all part.0 (stopped fault) part.1) (sym same)
+            (folded_any f x part.1 ((rest ++ taken_of left stream) ++ tail.0) part.0 other.0 fault other.1 part.2 all)),
+        part.3,
+      )
+
+  -- it stopped within what is taken
+  pub halts_of : Stops f x (rest ++ taken_of left stream) a b failed fault → Halts f x left rest stream a b failed fault
+  halts_of stop = record {
+    told = stop.told;
+    front = stop.front;
+    io = stop.io;
+    due = elim stop.due [
+      | inl m ↦ inl m
+      | inr more ↦ inr (elim more [ inl i ↦ inl i | inr so ↦ inr (due_within so) ])
+    ];
+  }
+
+module _ {X : Type 0} (f : Fold X) (x y : X) (left : ℕ) (rest stream end : List ℕ) (a b : Outgoing) where
+  long_due : (e : FrameFault) → e ≢ frames.Memory → frame_rules.IsRefused end f.most e
+      → stopped faults.InputTooLong ≡ end_of (f.place y) e (Some faults.InputTooLong) → left < length stream
+      → Tells f x (rest ++ taken_of left stream) end a b y → IsDueWithin f x left rest stream a b faults.InputTooLong
+  long_due e other refused is past (parts, are, adds) more =
+      let whole : taken_of left (stream ++ more) ≡ taken_of left stream =
+      take-append-le left stream more (omega (arith, past)) in
+      let longer : has_more left (stream ++ more) ≡ true =
+      is_more left (length (stream ++ more)) (omega (arith, past, length-append stream more)) in (
+        texts_of parts,
+        y,
+        λ behind. (let due : IsFolded f x (rest ++ taken_of left stream) (Some faults.InputTooLong) (texts_of parts)
+            (stopped faults.InputTooLong) y = record {
+              parts = parts;
+              rest = end;
+              are = are;
+              joined = refl;
+              ends = inl (e, other, refused, is);
+            } in
+            subst (λ (p : List ℕ). IsFolded f x (rest ++ p) (unless_more (has_more left (stream ++ more)) behind)
+            (texts_of parts) (stopped faults.InputTooLong) y) (sym whole)
+            (subst (λ (m : Bool). IsFolded f x (rest ++ taken_of left stream) (unless_more m behind)
+            (texts_of parts) (stopped faults.InputTooLong) y) (sym longer) due)),
+        adds,
+      )
+
+  -- it stopped since there are more bytes than are taken
+  pub halts_long : (failed : Bool) → failed ≡ false → left < length stream → IsUnfinished end f.most
+      → Tells f x (rest ++ taken_of left stream) end a b y
+      → Halts f x left rest stream a b failed faults.InputTooLong
+  halts_long failed fine past part told = record {
+    told = λ h. (end, y, told);
+    front = λ h. absurd (let bad : true ≡ false = sym h ∙ fine in cc);
+    io = (λ h. absurd (cc), λ h. absurd (let bad : true ≡ false = sym h ∙ fine in cc));
+    due = inr (inr (elim part [
+      | inl none ↦ long_due frames.Empty (λ e. cc) none refl past told
+      | inr cut ↦ long_due frames.Cut (λ e. cc) cut refl past told
+    ]));
+  }
+
+-- what is taken of unpacked bytes, by its number
+within_taken : (left within count : ℕ) (stream got : List ℕ) → got ≡ stream → count ≡ length stream
+    → within ≡ min left count → take within got ≡ taken_of left stream
+within_taken left within count stream got same size least =
+    ap (take within) same
+    ∙ elim (cases_lt left (length stream)) [
+      | inl past ↦ (let e : within ≡ left = omega (arith, past, size, least) in ap (λ (i : ℕ). take i stream) e)
+      | inr short ↦ take_all within stream (omega (arith, short, size, least)) ∙ sym (take_all left stream short)
+    ]
+
+-- a part was served as far as it is taken
+module _ {X : Type 0} (f : Fold X) (x : X) (left within count : ℕ) (rest stream got : List ℕ) (a b : Outgoing)
+    (failed : Bool) (same : got ≡ stream) (size : count ≡ length stream) (least : within ≡ min left count) where
+  pub part_stops : (fault : RunFault) → Stops f x (rest ++ take within got) a b failed fault
+      → Halts f x left rest stream a b failed fault
+  part_stops fault stop =
+      halts_of f x left rest stream a b failed fault
+      (subst (λ (p : List ℕ). Stops f x (rest ++ p) a b failed fault)
+      (within_taken left within count stream got same size least) stop)
+
+  pub part_long : (y : X) (end : List ℕ) → failed ≡ false → within < count → IsUnfinished end f.most
+      → Tells f x (rest ++ take within got) end a b y → Halts f x left rest stream a b failed faults.InputTooLong
+  part_long y end fine past part told =
+      halts_long f x y left rest stream end a b failed fine (omega (arith, past, size, least)) part
+      (subst (λ (p : List ℕ). Tells f x (rest ++ p) end a b y)
+      (within_taken left within count stream got same size least) told)
+
+-- it stopped after messages that were served
+module _ {X : Type 0} (f : Fold X) (x y : X) (left room : ℕ) (rest mid w v : List ℕ) (a b c : Outgoing)
+    (size : length w + room ≡ left) (served : Tells f x (rest ++ w) mid a b y) where
+  same_taken : (u : List ℕ) → rest ++ taken_of left (w ++ u) ≡ (rest ++ w) ++ taken_of room u
+  same_taken u = ap (λ (p : List ℕ). rest ++ p) (taken_after room left u w size)
+      ∙ sym (append_assoc rest w (taken_of room u))
+
+  due_more : (fault : RunFault) → IsDueWithin f y room mid v b c fault → IsDueWithin f x left rest (w ++ v) a c fault
+  due_more fault so more =
+      let part = so more in
+      let same : rest ++ taken_of left ((w ++ v) ++ more) ≡ (rest ++ w) ++ taken_of room (v ++ more) =
+      ap (λ (p : List ℕ). rest ++ taken_of left p) (append_assoc w v more) ∙ same_taken (v ++ more) in
+      let same_more : has_more left ((w ++ v) ++ more) ≡ has_more room (v ++ more) =
+      ap (λ (p : List ℕ). has_more left p) (append_assoc w v more) ∙ more_of room left (v ++ more) w size in (
+        texts_of served.0 ++ part.0,
+        part.1,
+        λ behind. (let all = folded_more f x y part.1 (rest ++ w) mid (taken_of room (v ++ more)) part.0 served.0
+            (unless_more (has_more room (v ++ more)) behind) (stopped fault) served.1 (part.2 behind) in
+            subst (λ (p : List ℕ). IsFolded f x p (unless_more (has_more left ((w ++ v) ++ more)) behind)
+            (texts_of served.0 ++ part.0) (stopped fault) part.1) (sym same)
+            (subst (λ (m : Bool). IsFolded f x ((rest ++ w) ++ taken_of room (v ++ more)) (unless_more m behind)
+            (texts_of served.0 ++ part.0) (stopped fault) part.1) (sym same_more) all)),
+        adds_more a b c (texts_of served.0) part.0 served.2 part.3,
+      )
+
+  pub halts_more : (failed : Bool) (fault : RunFault) → Halts f y room mid v b c failed fault
+      → Halts f x left rest (w ++ v) a c failed fault
+  halts_more failed fault halt = record {
+    told = λ h. (let next = halt.told h in (
+      next.0,
+      next.1,
+      subst (λ (p : List ℕ). Tells f x p next.0 a c next.1) (sym (same_taken v))
+          (tells_more f x y next.1 (rest ++ w) mid (taken_of room v) next.0 a b c served next.2),
+    ));
+    front = λ h. subst (λ (p : List ℕ). TellsFront f x p a c) (sym (same_taken v))
+        (front_behind f x y (rest ++ w) mid (taken_of room v) a b c served (halt.front h));
+    io = halt.io;
+    due = elim halt.due [
+      | inl m ↦ inl m
+      | inr more ↦ inr (elim more [ inl i ↦ inl i | inr so ↦ inr (due_more fault so) ])
+    ];
+  }
+
+-- ---- what was unpacked
+
+-- after words that were there
+shifted : (stream rest words old : List ℕ) (len : ℕ) → Splits stream rest [] words len
+    → Splits stream rest old (old ++ words) len
+shifted stream rest words old len s = record {
+  groups = s.groups;
+  each = s.each;
+  text = s.text;
+  content = ap (λ (l : List ℕ). old ++ l) s.content;
+  size = s.size;
+  open_rest = s.open_rest;
+}
+
+-- whole groups, and then a beginning of what was left with more after it
+begins_then : (stream rest more words next : List ℕ) (len : ℕ) → Splits stream rest [] words len
+    → packing.Begins (rest ++ more) [] next → packing.Begins (stream ++ more) [] (words ++ next)
+begins_then stream rest more words next len s b = record {
+  groups = s.groups ++ b.groups;
+  rest = b.rest;
+  each = each_append s.groups b.groups s.each b.each;
+  text =
+      ap (λ (l : List ℕ). l ++ more) s.text
+      ∙ append_assoc (texts s.groups) rest more
+      ∙ ap (λ (l : List ℕ). texts s.groups ++ l) b.text
+      ∙ sym (append_assoc (texts s.groups) (texts b.groups) b.rest)
+      ∙ ap (λ (l : List ℕ). l ++ b.rest) (sym (flat_map-append text s.groups b.groups));
+  content =
+      ap (λ (l : List ℕ). l ++ next) s.content
+      ∙ ap (λ (l : List ℕ). contents s.groups ++ l) b.content
+      ∙ sym (flat_map-append content s.groups b.groups);
+}
+
+pub begins_all : (stream rest words : List ℕ) (len : ℕ) → Splits stream rest [] words len
+    → packing.Begins stream [] words
+begins_all stream rest words len s =
+    record { groups = s.groups; rest = rest; each = s.each; text = s.text; content = s.content }
+
+advanced_more : (offset len more : ℕ) → advanced (advanced offset len) more ≡ advanced offset (len + more)
+advanced_more offset len more = omega arith
+
+module _ {X : Type 0} (f : Fold X) (x y : X) (p q : Pending) (s t : List ℕ) (a b : Outgoing)
+    (told : TellsPacked f x p s q a b y) where
+  pub packed_more : (z : X) (r : Pending) (c : Outgoing) → TellsPacked f y q t r b c z
+      → TellsPacked f x p (s ++ t) r a c z
+  packed_more z r c more =
+      let w = told.stream in
+      let v = more.stream in
+      let split = splits_then (p.group.rest ++ s) q.group.rest t r.group.rest [] w (w ++ v) told.len more.len told.split
+      (shifted (q.group.rest ++ t) r.group.rest v w more.len more.split) in
+      record {
+        stream = w ++ v;
+        len = told.len + more.len;
+        split = subst (λ (l : List ℕ). Splits l r.group.rest [] (w ++ v) (told.len + more.len))
+            (append_assoc p.group.rest s t) split;
+        offset = more.offset ∙ ap (λ (n : ℕ). advanced n more.len) told.offset
+            ∙ advanced_more p.group.offset told.len more.len;
+        good = more.good;
+        size = omega (arith, told.size, more.size, length-append w v);
+        told = subst (λ (l : List ℕ). Tells f x l r.rest a c z) (append_assoc p.rest w v)
+            (tells_more f x y z (p.rest ++ w) q.rest v r.rest a b c told.told more.told);
+      }
+
+  pub packed_stop : (c : Outgoing) (failed : Bool) (fault : RunFault) → HaltsPacked f y q t b c failed fault
+      → HaltsPacked f x p (s ++ t) a c failed fault
+  packed_stop c failed fault (v, begins, halt) =
+      let w = told.stream in
+      let all = begins_then (p.group.rest ++ s) q.group.rest t w v told.len told.split begins in (
+        w ++ v,
+        subst (λ (l : List ℕ). packing.Begins l [] (w ++ v)) (append_assoc p.group.rest s t) all,
+        halts_more f x y p.left q.left p.rest q.rest w v a b c told.size told.told failed fault halt,
+      )
+
+module _ {X : Type 0} (f : Fold X) (x : X) (p : Pending) where
+  -- memory was refused while a slice was unpacked
+  pub packed_memory : (bytes : List ℕ) (a : Outgoing) (failed : Bool) → failed ≡ false
+      → HaltsPacked f x p bytes a a failed faults.Memory
+  packed_memory bytes a failed fine = (
+    [],
+    record { groups = []; rest = p.group.rest ++ bytes; each = tt; text = refl; content = refl },
+    halts_of f x p.left p.rest [] a a failed faults.Memory
+        (stops_memory f x (p.rest ++ taken_of p.left []) a failed fine),
+  )
+
+  -- nothing has come
+  pub packed_none : (a : Outgoing) → IsUnpacking p.group → TellsPacked f x p [] p a a x
+  packed_none a unpacking = record {
+    stream = [];
+    len = 0;
+    split = subst (λ (l : List ℕ). Splits l p.group.rest [] [] 0) (sym (append-nil p.group.rest))
+        (splits_open p.group.rest [] [] unpacking.group refl);
+    offset = omega (arith, unpacking.offset);
+    good = unpacking.good;
+    size = omega arith;
+    told = subst (λ (l : List ℕ). Tells f x l p.rest a a x) (sym (append-nil p.rest)) (tells_none f x p.rest a);
+  }
+
+  -- where a run stops over some bytes it stops over more of them
+  pub packed_longer : (s bytes more : List ℕ) (a b : Outgoing) (failed : Bool) (fault : RunFault) → s ++ more ≡ bytes
+      → HaltsPacked f x p s a b failed fault → HaltsPacked f x p bytes a b failed fault
+  packed_longer s bytes more a b failed fault whole (stream, begins, halt) = (
+    stream,
+    record {
+      groups = begins.groups;
+      rest = begins.rest ++ more;
+      each = begins.each;
+      text =
+          ap (λ (l : List ℕ). p.group.rest ++ l) (sym whole)
+          ∙ sym (append_assoc p.group.rest s more)
+          ∙ ap (λ (l : List ℕ). l ++ more) begins.text
+          ∙ append_assoc (texts begins.groups) begins.rest more;
+      content = begins.content;
+    },
+    halt,
+  )
+
+-- a slice was unpacked, and what came was served
+module _ {X : Type 0} (f : Fold X) (x : X) (held next : Held) (before : Framing) (left : ℕ) (bytes old new : List ℕ)
+    (none : old ≡ []) (fed : Feeds held bytes old new next) where
+  split : Splits (held.rest ++ bytes) next.rest [] new fed.len
+  split = subst (λ (l : List ℕ). Splits (held.rest ++ bytes) next.rest l new fed.len) none fed.split
+
+  pub served_slice : (y : X) (after : Framing) (room : ℕ) (a b : Outgoing) (failed : Bool) (r : Ending)
+      (last : Held) → last ≡ next → ServesPart f x left before new a b failed r room after y
+      → ServesPacked f x (pending held before left) bytes a b failed r last after room y
+  served_slice y after room a b failed (Ok u) last same (size, told, listening, fine) = (
+    record {
+      stream = new;
+      len = fed.len;
+      split = subst (λ (h : Held). Splits (held.rest ++ bytes) h.rest [] new fed.len) (sym same) split;
+      offset = ap (λ (h : Held). h.offset) same ∙ fed.offset;
+      good = ap (λ (h : Held). h.failed) same ∙ fed.is_good;
+      size = size;
+      told = told;
+    },
+    listening,
+    fine,
+  )
+  served_slice y after room a b failed (Err fault) last same halt =
+      (new, begins_all (held.rest ++ bytes) next.rest new fed.len split, halt)
+
+-- one slice more
+module _ {X : Type 0} (f : Fold X) (x y : X) (p q : Pending) (bytes : List ℕ) (at end : ℕ) (forward : at ≤ end)
+    (a b : Outgoing) (told : TellsPacked f x p (take at bytes) q a b y) where
+  joined : take at bytes ++ take (end - at) (drop at bytes) ≡ take end bytes
+  joined = let e : at + (end - at) ≡ end = omega (arith, forward) in sym (take-add at (end - at) bytes)
+      ∙ ap (λ (i : ℕ). take i bytes) e
+
+  pub slice_more : (z : X) (r : Pending) (c : Outgoing)
+      → TellsPacked f y q (take (end - at) (drop at bytes)) r b c z → TellsPacked f x p (take end bytes) r a c z
+  slice_more z r c more =
+      subst (λ (l : List ℕ). TellsPacked f x p l r a c z) joined
+      (packed_more f x y p q (take at bytes) (take (end - at) (drop at bytes)) a b told z r c more)
+
+  pub slice_stop : (c : Outgoing) (failed : Bool) (fault : RunFault)
+      → HaltsPacked f y q (take (end - at) (drop at bytes)) b c failed fault
+      → HaltsPacked f x p bytes a c failed fault
+  slice_stop c failed fault stop =
+      let part = packed_stop f x y p q (take at bytes) (take (end - at) (drop at bytes)) a b told c failed fault stop in
+      packed_longer f x p (take at bytes ++ take (end - at) (drop at bytes)) bytes (drop end bytes) a c failed fault
+      (ap (λ (l : List ℕ). l ++ drop end bytes) joined ∙ take-append-drop end bytes) part
+
+-- ---- what is kept is written
+
+module _ {X : Type 0} (f : Fold X) (x : X) (left : ℕ) (rest stream : List ℕ) (c d e : Option (List ℕ)) (text : List ℕ)
+  where
+    halts_sent : (fault : RunFault) → Halts f x left rest stream (sent c) (outgoing d text) false fault
+        → Appends d e text → Halts f x left rest stream (sent c) (sent e) false fault
+    halts_sent fault halt wrote = record {
+      told = λ h. (let all = halt.told refl in
+          (all.0, all.1, tells_sent f x c d e text all.1 (rest ++ taken_of left stream) all.0 all.2 wrote));
+      front = λ h. absurd (cc);
+      io = halt.io;
+      due = elim halt.due [
+        | inl m ↦ inl m
+        | inr more ↦ inr (elim more [ inl i ↦ inl i | inr so ↦ inr (so_sent so) ])
+      ];
+    }
+      where
+        so_sent : IsDueWithin f x left rest stream (sent c) (outgoing d text) fault
+            → IsDueWithin f x left rest stream (sent c) (sent e) fault
+        so_sent so more = let part = so more in
+            (part.0, part.1, part.2, adds_all (sent c) d e text part.0 part.3 wrote)
+
+    -- the writer fails within it
+    halts_broken : (fault : RunFault) → Halts f x left rest stream (sent c) (outgoing d text) false fault
+        → HasBegun d e text → Halts f x left rest stream (sent c) (sent e) true faults.Io
+    halts_broken fault halt wrote =
+        let all = halt.told refl in
+        halts_of f x left rest stream (sent c) (sent e) true faults.Io
+        (tells_broken f x c d e text all.1 (rest ++ taken_of left stream) all.0 all.2 wrote)
+
+    -- it had failed before
+    halts_kept : (fault : RunFault) → e ≡ d → Halts f x left rest stream (sent c) (outgoing d text) true fault
+        → Halts f x left rest stream (sent c) (sent e) true fault
+    halts_kept fault same halt = record {
+      told = λ h. absurd (cc);
+      front = λ h. (let g = halt.front h in
+          let wrote = subst (λ (o : Option (List ℕ)). Appends c o (take g.3 (texts_of g.0))) (sym same) g.5 in
+          (g.0, g.1, g.2, g.3, g.4, wrote));
+      io = halt.io;
+      due = inr (inl (halt.io.1 refl));
+    }
+
+-- packed bytes were served, and then what was kept was written
+module _ {X : Type 0} (f : Fold X) (x y : X) (p : Pending) (next : Held) (after : Framing) (room : ℕ) (bytes : List ℕ)
+    (c d e : Option (List ℕ)) (text : List ℕ) where
+  abbrev Served : Outgoing → Bool → Ending → Type 0
+  Served new failed r = ServesPacked f x p bytes (sent c) new failed r next after room y
+
+  packed_sent : (broken failed : Bool) (served result : Ending) → Served (outgoing d text) broken served
+      → SendsRest served text d e broken failed result → Served (sent e) failed result
+  packed_sent true failed (Ok u) result s r = absurd (let bad : true ≡ false = s.2 in cc)
+  packed_sent true failed (Err fault) result (stream, begins, halt) (same, broken, is) =
+      subst (λ (r : Ending). Served (sent e) failed r) (sym is)
+      (subst (λ (b : Bool). HaltsPacked f x p bytes (sent c) (sent e) b fault) (sym broken)
+      (stream, begins, halts_kept f x p.left p.rest stream c d e text fault same halt))
+  packed_sent false false (Ok u) result (told, listening, ok) (wrote, is) =
+      subst (λ (r : Ending). Served (sent e) false r) (sym is) (
+        record {
+          stream = told.stream;
+          len = told.len;
+          split = told.split;
+          offset = told.offset;
+          good = told.good;
+          size = told.size;
+          told = tells_sent f x c d e text y (p.rest ++ told.stream) after.rest told.told wrote;
+        },
+        listening,
+        refl,
+      )
+  packed_sent false false (Err fault) result (stream, begins, halt) (wrote, is) =
+      subst (λ (r : Ending). Served (sent e) false r) (sym is)
+      (stream, begins, halts_sent f x p.left p.rest stream c d e text fault halt wrote)
+  packed_sent false true (Ok u) result (told, listening, ok) (wrote, is) =
+      let all : p.rest ++ taken_of p.left told.stream ≡ p.rest ++ told.stream =
+      ap (λ (l : List ℕ). p.rest ++ l) (all_taken p.left room told.stream told.size) in
+      subst (λ (r : Ending). Served (sent e) true r) (sym is) (
+        told.stream,
+        begins_all (p.group.rest ++ bytes) next.rest told.stream told.len told.split,
+        halts_of f x p.left p.rest told.stream (sent c) (sent e) true faults.Io
+            (tells_broken f x c d e text y (p.rest ++ taken_of p.left told.stream) after.rest
+            (subst (λ (l : List ℕ). Tells f x l after.rest (sent c) (outgoing d text) y) (sym all) told.told) wrote),
+      )
+  packed_sent false true (Err fault) result (stream, begins, halt) (wrote, is) =
+      subst (λ (r : Ending). Served (sent e) true r) (sym is)
+      (stream, begins, halts_broken f x p.left p.rest stream c d e text fault halt wrote)
+
+  pub packed_chunk : (start kept : List ℕ) (broken failed : Bool) (served result : Ending) → start ≡ []
+      → kept ≡ text
+      → ServesPacked f x p bytes (outgoing c start) (outgoing d text) broken served next after room y
+      → SendsRest served kept d e broken failed result → Served (sent e) failed result
+  packed_chunk start kept broken failed served result none is s r =
+      packed_sent broken failed served result
+      (subst (λ (l : List ℕ). ServesPacked f x p bytes (outgoing c l) (outgoing d text) broken served next after
+      room y) none s)
+      (subst (λ (l : List ℕ). SendsRest served l d e broken failed result) is r)
+
+-- messages that were served leave the room that is not taken
+pub packed_room : {S : Type 0} (serves : S → Position → List ℕ → List (List ℕ) → List ℕ → S → Type 0)
+    (refuses : S → Position → List ℕ → List (List ℕ) → Refusal → Type 0) (most : ℕ) (x y : Run S) (p q : Pending)
+    (bytes : List ℕ) (a b : Outgoing) → TellsPacked (fold_of serves refuses most) x p bytes q a b y
+    → HasRoom x.at (length p.rest + p.left) → HasRoom y.at (length q.rest + q.left)
+packed_room serves refuses most x y p q bytes a b told room =
+    room_told serves refuses most x y (p.rest ++ told.stream) q.rest a b q.left told.told (record {
+      offset = omega (arith, room.offset, told.size, length-append p.rest told.stream);
+      index = room.index;
+    })

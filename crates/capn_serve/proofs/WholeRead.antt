@@ -1,0 +1,116 @@
+-- A reader that gives an input, read by read.
+use Rattle.std.proofs.Common.{◌≡◌, inl, inr, ℕ, ◌+◌, ◌-◌, ◌≤◌, ◌<◌, ◌^◌, List, [], ◌++◌, length, take, refl, sym, ap}
+use Rattle.std.proofs.Common.{subst}
+use Rattle.std.proofs.Common.{◌∙◌, arith, length-append, length-take, length-take-le, append-nil, Option, Bool, true}
+use Rattle.std.proofs.Common.{false}
+use Rattle.std.proofs.Common.{Result, Ok, Err}
+use Rattle.std.specs.Prelude.{min}
+use Rattle.std.proofs.Math.Seq.{take-append-add, take_all}
+use Rattle.std.proofs.lemmas.Bool.{cases_lt}
+use Rattle.std.proofs.lemmas.List.{take-take, take-append-le}
+use Rattle.std.specs.Io.KnownBytes.{Consumes, IsAtEnd}
+use Rattle.std.proofs.KnownBytes.{Consumes-nil, Consumes-trans}
+use Rattle.capn_serve.specs.WholeInput.{HasGiven, HasGivenAll, IsUntaken, TakesAll}
+use Rattle.capn_serve.specs.declared.fault.RunFault.{RunFault}
+use Rattle.capn_serve.specs.declared.fault.RunFault.TheVariants as faults
+
+-- a reader has given this number of bytes, and the first of them are kept, at most this number
+pub record Keeps (old new : Option (List ℕ)) (failed : Bool) (most len : ℕ) (kept : List ℕ) : Type 0 where
+  pub seen : List ℕ
+  pub given : HasGiven old new failed seen
+  pub size : length seen ≡ len
+  pub first : take most seen ≡ kept
+  pub room : length kept ≤ most
+
+-- nothing was read
+pub given_none : (old : Option (List ℕ)) (failed : Bool) → failed ≡ false → HasGiven old old failed []
+given_none old failed fine = record { read = Consumes-nil old; bounded = omega arith; fine = fine }
+
+-- one more read
+pub given_more : (a b c : Option (List ℕ)) (f g : Bool) (seen buf : List ℕ) (n : ℕ) → HasGiven a b f seen
+    → Consumes b c (take n buf) → n ≤ length buf → length seen + n ≤ 2 ^ 32 + 1 → g ≡ false
+    → HasGiven a c g (seen ++ take n buf)
+given_more a b c f g seen buf n h more within bound fine = record {
+  read = Consumes-trans a b c seen (take n buf) h.read more;
+  bounded = omega (arith, bound, length-append seen (take n buf), length-take-le n buf within);
+  fine = fine;
+}
+
+-- the read that found the end
+pub given_all : (a b c : Option (List ℕ)) (f g : Bool) (seen buf : List ℕ) (n : ℕ) → HasGiven a b f seen → n ≡ 0
+    → Consumes b c (take n buf) × (n ≡ 0 → 0 < length buf → IsAtEnd c) → 0 < length buf → length seen ≤ 2 ^ 32
+    → g ≡ false → HasGivenAll a c g seen
+given_all a b c f g seen buf n h zero more some short fine =
+    let none : Consumes b c [] = subst (λ (k : ℕ). Consumes b c (take k buf)) zero more.0 in
+    record {
+      given = record {
+        read = subst (Consumes a c) (append-nil seen) (Consumes-trans a b c seen [] h.read none);
+        bounded = h.bounded;
+        fine = fine;
+      };
+      within = short;
+      ended = more.1 zero some;
+    }
+
+-- the read that failed
+pub given_broken : (a b c : Option (List ℕ)) (f g : Bool) (seen : List ℕ) → HasGiven a b f seen → Consumes a c seen
+    → g ≡ true → IsUntaken a c g faults.Io
+given_broken a b c f g seen h read broken = (seen, inr (read, h.bounded, broken, refl))
+
+-- memory was refused
+pub given_memory : (a b : Option (List ℕ)) (f : Bool) (seen : List ℕ) → HasGiven a b f seen
+    → IsUntaken a b f faults.Memory
+given_memory a b f seen h = (seen, inl (h, inl refl))
+
+-- there are more bytes than an input may have
+pub given_long : (a b : Option (List ℕ)) (f : Bool) (seen : List ℕ) → HasGiven a b f seen → 2 ^ 32 < length seen
+    → IsUntaken a b f faults.InputTooLong
+given_long a b f seen h long = (seen, inl (h, inr (refl, long)))
+
+-- the first bytes as more come
+pub first_more : (most : ℕ) (seen buf tail kept new : List ℕ) (n k : ℕ) → take most seen ≡ kept → n ≤ length buf
+    → k ≡ min n (most - length kept) → new ≡ kept ++ take k (buf ++ tail) → take most (seen ++ take n buf) ≡ new
+first_more most seen buf tail kept new n k first within least is = elim (cases_lt most (length seen)) [
+  | inl past ↦
+      (let full : length kept ≡ most = omega (arith, past, length-take most seen, ap length first) in
+      let none : k ≡ 0 = omega (arith, least, full) in
+      take-append-le most seen (take n buf) (omega (arith, past))
+      ∙ first
+      ∙ sym (append-nil kept)
+      ∙ ap (λ (i : ℕ). kept ++ take i (buf ++ tail)) (sym none)
+      ∙ sym is)
+  | inr short ↦
+      (let all : kept ≡ seen = sym first ∙ take_all most seen short in
+      let room : length seen + (most - length seen) ≡ most = omega (arith, short) in
+      let size : k ≡ min n (most - length seen) = least ∙ ap (λ (xs : List ℕ). min n (most - length xs)) all in
+      ap (λ (i : ℕ). take i (seen ++ take n buf)) (sym room)
+      ∙ take-append-add seen (take n buf) (most - length seen)
+      ∙ ap (λ (xs : List ℕ). seen ++ xs) (front (most - length seen) size)
+      ∙ ap (λ (xs : List ℕ). xs ++ take k (buf ++ tail)) (sym all)
+      ∙ sym is)
+]
+  where
+    front : (room : ℕ) → k ≡ min n room → take room (take n buf) ≡ take k (buf ++ tail)
+    front room size = elim (cases_lt room n) [
+      | inl less ↦
+          take-take room n buf (omega (arith, less))
+          ∙ sym (take-append-le room buf tail (omega (arith, less, within)))
+          ∙ ap (λ (i : ℕ). take i (buf ++ tail)) (sym (omega (arith, size, less)))
+      | inr all ↦
+          take_all room (take n buf) (omega (arith, all, length-take n buf))
+          ∙ sym (take-append-le n buf tail within)
+          ∙ ap (λ (i : ℕ). take i (buf ++ tail)) (sym (omega (arith, size, all)))
+    ]
+
+-- what is answered of an input that was read to its end
+pub takes_so : {T : Type 0} (P : List ℕ → Result T RunFault → Type 0) (a b : Option (List ℕ)) (f : Bool)
+    (r : Result T RunFault) (bytes : List ℕ) → HasGivenAll a b f bytes → P bytes r → TakesAll P a b f r
+takes_so P a b f (Ok x) bytes all p = (bytes, all, p)
+takes_so P a b f (Err fault) bytes all p = inr (bytes, all, p)
+
+-- how many bytes there are once some were kept
+pub size_kept : (xs part new : List ℕ) (k : ℕ) → new ≡ xs ++ take k part → k ≤ length part
+    → length new ≡ length xs + k
+size_kept xs part new k is within =
+    let size = ap (λ (l : List ℕ). length l) is in
+    omega (arith, size, length-append xs (take k part), length-take-le k part within)

@@ -1,0 +1,50 @@
+use Rattle.std.proofs.Common.{◌≡◌, ◌≢◌, inl, inr, ℕ, List, [], ◌∷◌, true, false, Result, Ok, Err, refl, ap}
+use Rattle.capn_pack.specs.declared.fault.UnpackFault.{UnpackFault}
+use Rattle.capn_pack.specs.declared.fault.UnpackFault.TheVariants as cuts
+use Rattle.capn_stream.specs.Framing.{IsUnfinished}
+use Rattle.capn_stream.specs.declared.fault.FrameFault.TheVariants as frames
+use Rattle.capn_canon.specs.declared.refusal.Refusal.TheVariants as refusals
+use Rattle.capn_serve.specs.StreamRun.{EndsInput}
+use Rattle.capn_serve.specs.PackedServing.{EndsPacked}
+use Rattle.capn_serve.specs.declared.position.Position.{Position}
+use Rattle.capn_serve.specs.declared.fault.RunFault.{RunFault}
+use Rattle.capn_serve.specs.declared.fault.RunFault.TheVariants as faults
+use Rattle.capn_serve.proofs.packed_run.end_of_packed.Goals as goal
+
+abbrev Ending : Type 0
+Ending = Result (Unit {0}) RunFault
+
+abbrev stopped : RunFault → Ending
+stopped fault = Err fault
+
+abbrev refused : Position → UnpackFault → Ending
+refused at fault = Err (faults.Refused at (refusals.Packed fault))
+
+-- no group is left: the run ends as what was unpacked does
+whole : (at : Position) (group rest : List ℕ) (offset most : ℕ) (r : Ending) → group ≡ [] → EndsInput at rest most r
+    → EndsPacked at group offset rest most r
+whole at [] rest offset most (Ok u) none ends = (frames.Empty, (λ e. cc), ends, refl, λ e. cc)
+whole at [] rest offset most (Err fault) none (frame, is) =
+    (frames.Cut, (λ e. cc), frame, ap stopped is, λ e. cc)
+whole at (b ∷ group) rest offset most r none ends = absurd (cc)
+
+-- a group is cut
+cut : (at : Position) (group rest : List ℕ) (offset most : ℕ) (fault : UnpackFault) → (group ≡ [] → false ≡ true)
+    → (group ≢ [] → fault ≡ cuts.Cut offset) → IsUnfinished rest most
+    → EndsPacked at group offset rest most (refused at fault)
+cut at [] rest offset most fault whole is unfinished = absurd (let bad = whole refl in cc)
+cut at (b ∷ group) rest offset most fault whole is (inl none) =
+    (frames.Empty, (λ e. cc), none, ap (refused at) (is (λ e. cc)), λ e. cc)
+cut at (b ∷ group) rest offset most fault whole is (inr part) =
+    (frames.Cut, (λ e. cc), part, ap (refused at) (is (λ e. cc)), λ e. cc)
+
+pub returns-in-Ok : goal.returns-in-Ok
+returns-in-Ok g c =
+    whole c.args.at c.args.packed.unpacker.rest c.args.packed.framer.rest c.args.packed.unpacker.offset
+    c.args.packed.framer.most c.end_of_input.result c.in-Ok.ensures.ok.0 c.end_of_input.ensures
+
+pub returns-in-Err : goal.returns-in-Err
+returns-in-Err g c =
+    cut c.args.at c.args.packed.unpacker.rest c.args.packed.framer.rest c.args.packed.unpacker.offset
+    c.args.packed.framer.most c.in-Err.fault (c.in-Err.ensures.whole c.requires.held)
+    (λ full. let is = (c.in-Err.ensures.cut c.requires.held full).0 in cc) c.requires.part

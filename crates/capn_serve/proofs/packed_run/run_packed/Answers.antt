@@ -1,0 +1,166 @@
+use Rattle.std.proofs.Common.{◌≡◌, ◌+◌, ◌<◌, ◌^◌, ◌∙◌, ℕ, List, [], Option, false, drop, length, length-take, ap, sym}
+use Rattle.std.proofs.Common.{subst, arith}
+use Rattle.std.proofs.lemmas.Result.{err_from_is_err_and}
+use Rattle.capn_words.specs.Watching.{inner_of}
+use Rattle.capn_pack.specs.Stream.{Held}
+use Rattle.capn_stream.specs.Framing.{Framing, IsUnfinished}
+use Rattle.capn_serve.specs.declared.position.Position.{Position}
+use Rattle.capn_serve.specs.Fold.{Fold, fold_of}
+use Rattle.capn_serve.specs.Serving.{HasRoom, IsListening}
+use Rattle.capn_serve.specs.StreamRun.{start}
+use Rattle.capn_serve.specs.PackedServing.{EndsPacked, HearsPacked, IsUnpacking, Pending, fresh, pending}
+use Rattle.capn_serve.proofs.InputRead.{has_broken, still_fine}
+use Rattle.capn_serve.proofs.Next.{empty_unfinished}
+use Rattle.capn_serve.proofs.PackedEnds.{packed_begin, packed_end, packed_hears, packed_long, packed_stopped}
+use Rattle.capn_serve.proofs.PackedEnds.{packed_unread}
+use Rattle.capn_serve.proofs.PackedMore.{packed_room}
+use Rattle.capn_serve.proofs.packed_run.run_packed.Goals as goal
+
+new_listening : {X : Type 0} (f : Fold X) (framer : Framing)
+    → framer ≡ record { rest = []; most = f.most; failed = false } → IsListening f framer
+new_listening f framer is = record {
+  good = ap (λ (g : Framing). g.failed) is;
+  part = subst (λ (l : List ℕ). IsUnfinished l framer.most) (sym (ap (λ (g : Framing). g.rest) is))
+      (empty_unfinished framer.most);
+  most = ap (λ (g : Framing). g.most) is;
+}
+
+new_pending : (held : Held) (framer : Framing) (most limit : ℕ)
+    → held ≡ record { rest = []; offset = 0; failed = false }
+    → framer ≡ record { rest = []; most = most; failed = false } → pending held framer limit ≡ fresh limit
+new_pending held framer most limit is new =
+    ap (λ (h : Held). pending h framer limit) is
+    ∙ ap (λ (g : Framing). pending (record { rest = []; offset = 0; failed = false }) g limit) new
+
+new_room : (at : Position) (framer : Framing) (most limit : ℕ) → at ≡ start
+    → framer ≡ record { rest = []; most = most; failed = false } → limit < 2 ^ 64
+    → HasRoom at (length framer.rest + limit)
+new_room at framer most limit fresh is small =
+    let none : length framer.rest ≡ 0 = ap (λ (g : Framing). length g.rest) is in
+    subst (λ (p : Position). HasRoom p (length framer.rest + limit)) (sym fresh)
+    (record { offset = omega (arith, none, small); index = omega arith })
+
+-- an unpacker that has been heard so holds no whole group
+unpacking : {X : Type 0} (f : Fold X) (x y : X) (limit : ℕ) (a b c d : Option (List ℕ)) (taken : ℕ) (q : Pending)
+    → HearsPacked f x limit a b taken q c d y → IsUnpacking q.group
+unpacking f x y limit a b c d taken q (bytes, read, count, told) =
+    record { good = told.good; group = told.split.open_rest; offset = omega (arith, told.offset) }
+
+pub chunks-init : goal.chunks-init
+chunks-init g c = record {
+  reader = c.requires.reader_fine;
+  writer = c.requires.writer_fine;
+  listening = new_listening (fold_of g.S.Service.serves g.S.Service.refuses c.args.most) c.new-2.result c.new-2.ensures;
+  room = new_room c.args.run.now.at c.new-2.result c.args.most c.args.limit c.requires.fresh c.new-2.ensures
+      (omega (arith, c.ranges.limit));
+  within = omega arith;
+  heard = packed_begin (fold_of g.S.Service.serves g.S.Service.refuses c.args.most) c.args.run.now c.args.limit
+      (g.R.Read.remaining (inner_of c.args.reader.now)) (g.W.Write.contents (inner_of c.args.writer.now))
+      (pending c.new.result c.new-2.result c.args.limit)
+      (new_pending c.new.result c.new-2.result c.args.most c.args.limit c.new.ensures c.new-2.ensures);
+}
+
+pub returns-in-Err : goal.returns-in-Err
+returns-in-Err g c =
+    let i = c.chunks.invariant in
+    packed_unread (fold_of g.S.Service.serves g.S.Service.refuses c.args.most) c.args.run.now c.args.limit
+    c.chunks.run _ _ _ _ _ c.chunks.taken
+    (pending c.chunks.packed.unpacker c.chunks.packed.framer c.chunks.packed.left) _ _
+    (has_broken _ _ c.in-Err.ensures.failed) i.within i.heard
+    (subst (λ (m : ℕ). IsUnfinished c.chunks.packed.framer.rest m) i.listening.most i.listening.part)
+    c.in-Err.ensures.bytes
+
+pub returns-in-Ok-eq0 : goal.returns-in-Ok-eq0
+returns-in-Ok-eq0 g c =
+    let i = c.chunks.invariant in
+    let room = length-take (c.min-room.result + 1) c.chunks.buffer in
+    let ends = subst (λ (m : ℕ). EndsPacked c.chunks.run.at c.chunks.packed.unpacker.rest
+    c.chunks.packed.unpacker.offset c.chunks.packed.framer.rest m c.end_of_packed.result) i.listening.most
+    c.end_of_packed.ensures in
+    packed_end (fold_of g.S.Service.serves g.S.Service.refuses c.args.most) c.args.run.now c.args.limit
+    c.chunks.run _ _ _ _ _ c.chunks.taken
+    (pending c.chunks.packed.unpacker c.chunks.packed.framer c.chunks.packed.left)
+    c.read.new.buf c.in-Ok-eq0.field-0 _ _ c.end_of_packed.result
+    (still_fine _ _ i.reader c.in-Ok-eq0.ensures.failed) i.writer i.within i.heard c.in-Ok-eq0.field-0-test
+    c.in-Ok-eq0.ensures.bytes (omega arith) ends
+
+pub returns-in_err-serve_packed-in-Ok : goal.returns-in_err-serve_packed-in-Ok
+returns-in_err-serve_packed-in-Ok g c =
+    let i = c.chunks.invariant in
+    let p = err_from_is_err_and c.from_residual.result c.from_residual.ensures.1 in
+    let bound = c.in-Ok.ensures.bound in
+    let room = length-take (c.min-room.result + 1) c.chunks.buffer in
+    rw (p.1, p.2)
+    (packed_stopped (fold_of g.S.Service.serves g.S.Service.refuses c.args.most) c.args.run.now c.args.limit
+    c.chunks.run c.serve_packed.new.run _ _ _ _ _ _ c.chunks.taken
+    (pending c.chunks.packed.unpacker c.chunks.packed.framer c.chunks.packed.left) c.read.new.buf
+    (drop (c.min-room.result + 1) c.chunks.buffer) c.min-within.result c.in-Ok.count _ _
+    c.in_err-serve_packed-in-Ok.field-0.0 (still_fine _ _ i.reader c.in-Ok.ensures.failed) i.within
+    (omega (arith, c.min-within.ensures)) (omega (arith, bound.0, room, c.min-room.ensures, i.within)) i.heard
+    c.in-Ok.ensures.bytes.0 bound.0 c.in_err-serve_packed-in-Ok.ensures)
+
+pub returns-then-within-count : goal.returns-then-within-count
+returns-then-within-count g c =
+    let i = c.chunks.invariant in
+    let bound = c.in-Ok.ensures.bound in
+    let room = length-take (c.min-room.result + 1) c.chunks.buffer in
+    let served = c.in_ok-serve_packed-in-Ok.ensures in
+    let packed = c.serve_packed.new.packed in
+    packed_long (fold_of g.S.Service.serves g.S.Service.refuses c.args.most) c.args.run.now c.args.limit
+    c.chunks.run c.serve_packed.new.run _ _ _ _ _ _ c.chunks.taken
+    (pending c.chunks.packed.unpacker c.chunks.packed.framer c.chunks.packed.left)
+    (pending packed.unpacker packed.framer packed.left) c.read.new.buf
+    (drop (c.min-room.result + 1) c.chunks.buffer) c.min-within.result c.in-Ok.count _ _
+    (still_fine _ _ i.reader c.in-Ok.ensures.failed) served.2
+    (omega (arith, i.within, c.min-within.ensures, c.if-within-count.true)) c.if-within-count.true
+    (omega (arith, bound.0, room, c.min-room.ensures, i.within)) i.heard c.in-Ok.ensures.bytes.0 bound.0 served.0
+    (subst (λ (m : ℕ). IsUnfinished packed.framer.rest m) served.1.most served.1.part)
+
+pub chunks-preserved : goal.chunks-preserved
+chunks-preserved g c =
+    let i = c.chunks.invariant in
+    let bound = c.in-Ok.ensures.bound in
+    let served = c.in_ok-serve_packed-in-Ok.ensures in
+    let packed = c.serve_packed.new.packed in
+    record {
+      reader = still_fine _ _ i.reader c.in-Ok.ensures.failed;
+      writer = served.2;
+      listening = served.1;
+      room = packed_room g.S.Service.serves g.S.Service.refuses c.args.most c.chunks.run c.serve_packed.new.run
+          (pending c.chunks.packed.unpacker c.chunks.packed.framer c.chunks.packed.left)
+          (pending packed.unpacker packed.framer packed.left) _ _ _
+          served.0 i.room;
+      within = omega (arith, i.within, c.min-within.ensures);
+      heard = packed_hears (fold_of g.S.Service.serves g.S.Service.refuses c.args.most) c.args.run.now
+          c.args.limit c.chunks.run c.serve_packed.new.run _ _ _ _ _ _ c.chunks.taken
+          (pending c.chunks.packed.unpacker c.chunks.packed.framer c.chunks.packed.left)
+          (pending packed.unpacker packed.framer packed.left) c.read.new.buf
+          (drop (c.min-room.result + 1) c.chunks.buffer) c.min-within.result c.in-Ok.count
+          (omega (arith, c.min-within.ensures, c.if-within-count.false)) i.heard c.in-Ok.ensures.bytes.0 bound.0
+          served.0;
+    }
+
+pub serve_packed-requires-clause-fine : goal.serve_packed-requires-clause-fine
+serve_packed-requires-clause-fine g c = c.chunks.invariant.writer
+
+pub serve_packed-requires-clause-room : goal.serve_packed-requires-clause-room
+serve_packed-requires-clause-room g c = c.chunks.invariant.room
+
+pub serve_packed-requires-clause-listening : goal.serve_packed-requires-clause-listening
+serve_packed-requires-clause-listening g c = c.chunks.invariant.listening
+
+pub serve_packed-requires-clause-unpacking : goal.serve_packed-requires-clause-unpacking
+serve_packed-requires-clause-unpacking g c =
+    unpacking (fold_of g.S.Service.serves g.S.Service.refuses c.args.most) c.args.run.now c.chunks.run
+    c.args.limit _ _ _ _ c.chunks.taken
+    (pending c.chunks.packed.unpacker c.chunks.packed.framer c.chunks.packed.left)
+    c.chunks.invariant.heard
+
+pub end_of_packed-requires-clause-held : goal.end_of_packed-requires-clause-held
+end_of_packed-requires-clause-held g c = c.chunks.invariant.heard.3.good
+
+pub end_of_packed-requires-clause-good : goal.end_of_packed-requires-clause-good
+end_of_packed-requires-clause-good g c = c.chunks.invariant.listening.good
+
+pub end_of_packed-requires-clause-part : goal.end_of_packed-requires-clause-part
+end_of_packed-requires-clause-part g c = c.chunks.invariant.listening.part

@@ -1,0 +1,25 @@
+use Rattle.std.proofs.Common.{◌≡◌, ◌≤◌, ◌+◌, ◌-◌, length, take, false}
+use Rattle.capn_words.specs.Watching.{inner_of, has_failed}
+use Rattle.capn_serve.specs.Fold.{fold_of}
+use Rattle.capn_serve.specs.Sending.{outgoing}
+use Rattle.capn_serve.specs.Serving.{HasRoom, IsListening}
+use Rattle.capn_serve.specs.PackedServing.{TellsPacked, pending}
+use Rattle.capn_serve.proofs.packed_run.serve_slices.Given as goal
+
+-- the messages that the bytes so far made whole are served
+abbrev pub invariant-loop-at : goal.invariant-loop-at
+invariant-loop-at g l = record {
+  fine : has_failed l.writer ≡ false;
+  held : l.packed.unpacker.failed ≡ false;
+  listening : IsListening (fold_of g.S.Service.serves g.S.Service.refuses l.most) l.packed.framer;
+  room : HasRoom l.run.at (length l.packed.framer.rest + l.packed.left);
+  within : l.at ≤ length l.bytes;
+  told : TellsPacked (fold_of g.S.Service.serves g.S.Service.refuses l.most) l.fn.run
+      (pending l.fn.packed.unpacker l.fn.packed.framer l.fn.packed.left) (take l.at l.bytes)
+      (pending l.packed.unpacker l.packed.framer l.packed.left)
+      (outgoing (g.W.Write.contents (inner_of l.fn.writer)) l.fn.text.items)
+      (outgoing (g.W.Write.contents (inner_of l.writer)) l.text.items) l.run;
+}
+
+abbrev pub decreases-loop-at : goal.decreases-loop-at
+decreases-loop-at g l = length l.bytes - l.at

@@ -1,0 +1,24 @@
+use Rattle.std.proofs.Common.{◌≡◌, ◌≤◌, ◌+◌, ◌-◌, length, false}
+use Rattle.capn_words.specs.Watching.{inner_of, has_failed}
+use Rattle.capn_serve.specs.PackedServing.{pending}
+use Rattle.capn_serve.specs.Pick.{pick_fold}
+use Rattle.capn_serve.specs.Picked.{HearsPacked, most_taken}
+use Rattle.capn_serve.specs.Serving.{HasRoom, IsListening}
+use Rattle.capn_serve.proofs.pick_run.pick_packed.Given as goal
+
+-- neither has failed, and the whole messages in what the bytes so far unpack to are looked at
+abbrev pub invariant-chunks : goal.invariant-chunks
+invariant-chunks g l = record {
+  reader : has_failed l.reader ≡ false;
+  writer : has_failed l.writer ≡ false;
+  listening : IsListening (pick_fold l.most) l.packed.framer;
+  room : HasRoom l.run.at (length l.packed.framer.rest + l.packed.left);
+  within : l.taken ≤ most_taken;
+  heard : HearsPacked l.most l.fn.pick (g.R.Read.remaining (inner_of l.fn.reader))
+      (g.R.Read.remaining (inner_of l.reader)) l.taken
+      (pending l.packed.unpacker l.packed.framer l.packed.left)
+      (g.W.Write.contents (inner_of l.fn.writer)) (g.W.Write.contents (inner_of l.writer)) l.run;
+}
+
+abbrev pub decreases-chunks : goal.decreases-chunks
+decreases-chunks g l = (most_taken + 1) - l.taken

@@ -1,0 +1,88 @@
+use Rattle.std.proofs.Common.{◌≡◌, ◌<◌, ◌≤◌, ◌-◌, ◌+◌, ◌++◌, ℕ, List, [], Bool, false, Ok, length, take, drop, arith}
+use Rattle.std.proofs.Common.{sym}
+use Rattle.std.proofs.Common.{subst, append-nil, length-drop, length-take, length-append}
+use Rattle.std.proofs.Math.Seq.{take_all}
+use Rattle.std.proofs.lemmas.Result.{err_from_is_err_and}
+use Rattle.capn_stream.specs.Framing.{Framing}
+use Rattle.capn_serve.specs.Fold.{Fold, fold_of}
+use Rattle.capn_serve.specs.Sending.{Outgoing}
+use Rattle.capn_serve.specs.Serving.{IsListening, Serves, Tells}
+use Rattle.capn_serve.proofs.More.{tells_none}
+use Rattle.capn_serve.proofs.Next.{room_told, served_more, served_stop}
+use Rattle.capn_serve.proofs.stream.serve_bytes.Goals as goal
+
+module _ {X : Type 0} (f : Fold X) (x : X) where
+  served_none : (rest : List ℕ) (a : Outgoing) → Tells f x (rest ++ []) rest a a x
+  served_none rest a = subst (λ (p : List ℕ). Tells f x p rest a a x) (sym (append-nil rest)) (tells_none f x rest a)
+
+  -- the loop has come to the end of the bytes
+  served_all : (y : X) (before after : Framing) (bytes : List ℕ) (at : ℕ) (a b : Outgoing) (failed : Bool)
+      → length bytes ≤ at → Tells f x (before.rest ++ take at bytes) after.rest a b y
+      → IsListening f after → failed ≡ false → Serves f x before bytes a b failed (Ok tt) after y
+  served_all y before after bytes at a b failed end told listening fine = (
+    subst (λ (p : List ℕ). Tells f x (before.rest ++ p) after.rest a b y) (take_all at bytes end) told,
+    listening,
+    fine,
+  )
+
+pub loop-at-init : goal.loop-at-init
+loop-at-init g c = record {
+  fine = c.requires.fine;
+  listening = c.requires.listening;
+  within = omega arith;
+  told = served_none (fold_of g.S.Service.serves g.S.Service.refuses c.args.most) c.args.run.now
+      c.args.framer.now.rest _;
+}
+
+pub serve_some-requires-clause-room : goal.serve_some-requires-clause-room
+serve_some-requires-clause-room g c =
+    let i = c.loop-at.invariant in
+    let left = length-take (length c.args.bytes.now - c.loop-at.at) (drop c.loop-at.at c.args.bytes.now) in
+    let size = length-drop c.loop-at.at c.args.bytes.now in
+    let front = length-take c.loop-at.at c.args.bytes.now in
+    let all = length-append c.args.framer.now.rest (take c.loop-at.at c.args.bytes.now) in
+    let room = room_told g.S.Service.serves g.S.Service.refuses c.args.most c.args.run.now c.loop-at.run
+    (c.args.framer.now.rest ++ take c.loop-at.at c.args.bytes.now) c.loop-at.framer.rest _ _
+    (length c.args.bytes.now - c.loop-at.at) i.told
+    (record {
+      offset = omega (arith, c.requires.room.offset, all, front, i.within);
+      index = c.requires.room.index;
+    }) in
+    record { offset = omega (arith, room.offset, left, size); index = room.index }
+
+pub returns-in_err-at : goal.returns-in_err-at
+returns-in_err-at g c =
+    let p = err_from_is_err_and c.from_residual.result c.from_residual.ensures.1 in
+    rw (p.1, p.2)
+    (served_stop (fold_of g.S.Service.serves g.S.Service.refuses c.args.most) c.args.run.now c.loop-at.run
+    c.args.framer.now c.loop-at.framer c.args.bytes.now c.loop-at.at _ _ _ c.loop-at.invariant.told _
+    c.in_err-at.field-0.0 c.in_err-at.ensures)
+
+pub loop-at-preserved : goal.loop-at-preserved
+loop-at-preserved g c =
+    let next = c.in_ok-at.ensures in
+    let i = c.loop-at.invariant in
+    let rest = length-take (length c.args.bytes.now - c.loop-at.at) (drop c.loop-at.at c.args.bytes.now) in
+    record {
+      fine = next.2.2;
+      listening = next.2.1;
+      within = omega (arith, next.0, rest, i.within, length-drop c.loop-at.at c.args.bytes.now);
+      told = served_more (fold_of g.S.Service.serves g.S.Service.refuses c.args.most) c.args.run.now c.loop-at.run
+          c.args.framer.now c.loop-at.framer c.args.bytes.now c.loop-at.at _ _ _ i.told c.serve_some.new.run
+          c.in_ok-at.field-0 c.serve_some.new.framer.rest next.2.0;
+    }
+
+pub loop-at-smaller : goal.loop-at-smaller
+loop-at-smaller g c =
+    let next = c.in_ok-at.ensures in
+    let rest = length-take (length c.args.bytes.now - c.loop-at.at) (drop c.loop-at.at c.args.bytes.now) in
+    let size = length-drop c.loop-at.at c.args.bytes.now in
+    let moved : 0 < c.in_ok-at.field-0 = next.1 (omega (arith, rest, size, c.loop-at-test.true)) in
+    omega (arith, next.0, rest, size, moved, c.loop-at-test.true)
+
+pub returns : goal.returns
+returns g c =
+    let i = c.loop-at.invariant in
+    served_all (fold_of g.S.Service.serves g.S.Service.refuses c.args.most) c.args.run.now c.loop-at.run
+    c.args.framer.now c.loop-at.framer c.args.bytes.now c.loop-at.at _ _ _ c.loop-at-test.false i.told i.listening
+    i.fine

@@ -1,0 +1,21 @@
+use Rattle.std.proofs.Common.{◌≡◌, ◌≤◌, ◌-◌, ◌++◌, length, take, false}
+use Rattle.capn_words.specs.Watching.{inner_of, has_failed}
+use Rattle.capn_serve.specs.Fold.{fold_of}
+use Rattle.capn_serve.specs.Sending.{outgoing}
+use Rattle.capn_serve.specs.Serving.{IsListening, Tells}
+use Rattle.capn_serve.proofs.stream.serve_bytes.Given as goal
+
+-- the messages that the bytes so far made whole are served
+abbrev pub invariant-loop-at : goal.invariant-loop-at
+invariant-loop-at g l = record {
+  fine : has_failed l.writer ≡ false;
+  listening : IsListening (fold_of g.S.Service.serves g.S.Service.refuses l.most) l.framer;
+  within : l.at ≤ length l.bytes;
+  told : Tells (fold_of g.S.Service.serves g.S.Service.refuses l.most) l.fn.run (l.fn.framer.rest ++ take l.at l.bytes)
+      l.framer.rest
+      (outgoing (g.W.Write.contents (inner_of l.fn.writer)) l.fn.text.items)
+      (outgoing (g.W.Write.contents (inner_of l.writer)) l.text.items) l.run;
+}
+
+abbrev pub decreases-loop-at : goal.decreases-loop-at
+decreases-loop-at g l = length l.bytes - l.at

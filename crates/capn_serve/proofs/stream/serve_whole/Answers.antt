@@ -1,0 +1,59 @@
+use Rattle.std.proofs.Common.{◌-◌, ◌+◌, length, take, drop, refl, arith, length-drop, length-take, subst, sym, ◌≡◌}
+use Rattle.std.proofs.lemmas.Result.{err_from_is_err_and}
+use Rattle.capn_serve.specs.Fold.{fold_of}
+use Rattle.capn_serve.proofs.Next.{frame_some, room_step, whole_memory, whole_more, whole_stop}
+use Rattle.capn_serve.proofs.stream.serve_whole.Goals as goal
+
+pub add_message-requires-clause-whole : goal.add_message-requires-clause-whole
+add_message-requires-clause-whole g c =
+    let found = c.in-Ok.ensures.found in
+    frame_some _ _ c.args.most found.frame found.room
+
+pub returns-in_err-add_message-in-Ok : goal.returns-in_err-add_message-in-Ok
+returns-in_err-add_message-in-Ok g c =
+    let p = err_from_is_err_and c.from_residual.result c.from_residual.ensures.1 in
+    rw (p.1, p.2)
+    (whole_stop (fold_of g.S.Service.serves g.S.Service.refuses c.args.most) c.args.run.now c.loop-at.run
+    c.args.bytes.now c.loop-at.at _ _ c.loop-at.invariant.told _ c.in-Ok.taken c.args.most refl c.in-Ok.ensures.found
+    c.add_message.new.run _ _ c.in_err-add_message-in-Ok.field-0.0 (c.in_err-add_message-in-Ok.ensures c.args.most))
+
+pub loop-at-smaller : goal.loop-at-smaller
+loop-at-smaller g c =
+    let found = c.in-Ok.ensures.found in
+    let some = frame_some _ _ c.args.most found.frame found.room in
+    let left = take (length c.args.bytes.now - c.loop-at.at) (drop c.loop-at.at c.args.bytes.now) in
+    let size = length-take c.in-Ok.taken left in
+    omega (arith, some, size, found.inside, c.loop-at-test.true)
+
+pub loop-at-preserved : goal.loop-at-preserved
+loop-at-preserved g c =
+    let next = c.in_ok-add_message-in-Ok.ensures c.args.most in
+    let found = c.in-Ok.ensures.found in
+    let i = c.loop-at.invariant in
+    let left = take (length c.args.bytes.now - c.loop-at.at) (drop c.loop-at.at c.args.bytes.now) in
+    let rest = length-take (length c.args.bytes.now - c.loop-at.at) (drop c.loop-at.at c.args.bytes.now) in
+    let size = length-take c.in-Ok.taken left in
+    let some = frame_some _ _ c.args.most found.frame found.room in
+    let behind = length-drop c.loop-at.at c.args.bytes.now in
+    record {
+      fine = next.3;
+      within = omega (arith, found.inside, rest, i.within, behind);
+      room = room_step g.S.Service.serves g.S.Service.refuses c.args.most c.loop-at.run c.add_message.new.run
+          (take c.in-Ok.taken left) c.in-Ok.message next.0
+          (length c.args.bytes.now - (c.loop-at.at + c.in-Ok.taken)) some next.1
+          (record {
+            offset = omega (arith, i.room.offset, size, found.inside, rest, behind);
+            index = i.room.index;
+          });
+      told = whole_more (fold_of g.S.Service.serves g.S.Service.refuses c.args.most) c.args.run.now c.loop-at.run
+          c.args.bytes.now c.loop-at.at _ _ i.told _ c.in-Ok.taken c.args.most refl found c.add_message.new.run _ next.0
+          next.1 next.2;
+    }
+
+pub returns-in_err-pass-in-Err : goal.returns-in_err-pass-in-Err
+returns-in_err-pass-in-Err g c =
+    let left = c.from_residual-in_err-pass-in-Err.ensures.1 in
+    let p = err_from_is_err_and c.from_residual-in_err-pass-in-Err.result left in
+    rw (p.1, p.2, c.in_err-pass-in-Err.ensures.1)
+    (whole_memory (fold_of g.S.Service.serves g.S.Service.refuses c.args.most) c.args.run.now c.loop-at.run
+    c.args.bytes.now c.loop-at.at _ _ _ c.loop-at.invariant.told c.loop-at.invariant.fine)

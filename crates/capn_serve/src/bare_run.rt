@@ -1,0 +1,103 @@
+//! A run over a bare input: the one message that it is.
+
+ghost use Rattle.std.specs.Prelude.{◌≡◌, ℕ, ◌*◌, ◌<◌, List, length, false, Err};
+ghost use Rattle.capn_words.specs.Limits.{most_words};
+ghost use Rattle.capn_words.specs.Words.{ReadsBare};
+ghost use Rattle.capn_words.specs.Watching.{inner_of, has_failed};
+ghost use Rattle.capn_serve.specs.BareRun.{GivesText, IsShortBare, RunsBare};
+ghost use Rattle.capn_serve.specs.Fold.{fold_of};
+ghost use Rattle.capn_serve.specs.Serving.{HasRoom};
+ghost use Rattle.capn_serve.specs.StreamRun.{start};
+ghost use Rattle.capn_serve.specs.WholeInput.{TakesAll};
+
+use crate::fault::{RunFault, ServeFault};
+use crate::output::write_all;
+use crate::position::Position;
+use crate::service::{Run, Service};
+use crate::whole_input::read_all;
+use capn_canon::Refusal;
+use capn_words::{Bare, BareFault, MOST_WORDS, Watched};
+use std::alloc::Allocator;
+use std::io::{Read, Write};
+
+/// Why this number of bytes is not one segment.
+fn bare_fault(len: u64) -> BareFault
+    requires { 8 * most_words < len }
+    ensures { (bytes : List ℕ) → length bytes ≡ len → ReadsBare bytes (Err result) }
+{
+    if len % 8 == 0 {
+        BareFault::TooLong(len / 8)
+    } else {
+        BareFault::NotWhole(len)
+    }
+}
+
+/// The bytes of a bare input, unless there are more than one segment has.
+fn read_bare<R: Read, A: Allocator>(
+    alloc: A,
+    at: Position,
+    reader: &mut Watched<R>,
+) -> Result<Vec<u8, A>, RunFault>
+    requires { has_failed reader.old ≡ false }
+    ensures { TakesAll (IsShortBare at) (R.remaining (inner_of reader.old)) (R.remaining (inner_of reader.new))
+        (has_failed reader.new) result }
+{
+    let input = read_all(alloc, reader, 8 * MOST_WORDS as usize)?;
+    if input.len <= 8 * MOST_WORDS as usize {
+        return Ok(input.bytes);
+    }
+    let fault = bare_fault(input.len as u64);
+    Err(RunFault::Refused(at, Refusal::Bare(fault)))
+}
+
+/// The text of the one message that these bytes are.
+fn serve_bare<S: Service, A: Allocator + Copy>(
+    alloc: A,
+    run: &mut Run<S>,
+    bytes: &[u8],
+) -> Result<Vec<u8, A>, RunFault>
+    requires { HasRoom run.old.at (length bytes.now) }
+    ensures { (most : ℕ) → GivesText (fold_of S.serves S.refuses most) run.old bytes.now result run.new }
+{
+    let message = match Bare::new(bytes) {
+        Ok(message) => message,
+        Err(fault) => return Err(RunFault::Refused(run.at, Refusal::Bare(fault))),
+    };
+    let mut text = Vec::new(alloc);
+    match run.service.serve(alloc, run.at, bytes, &message, &mut text) {
+        Ok(()) => {
+            run.at = Position {
+                index: run.at.index + 1,
+                offset: run.at.offset + bytes.len() as u64,
+            };
+            Ok(text)
+        }
+        Err(ServeFault::Memory) => Err(RunFault::Memory),
+        Err(ServeFault::Refused(refusal)) => Err(RunFault::Refused(run.at, refusal)),
+    }
+}
+
+/// Reads a bare input to its end, in chunks of at most 65,536 bytes, and has the one message served that it is.
+///
+/// Its frame is the input itself. An input that is not whole words, or has more than 2^28 + 1 of them, is refused
+/// where it begins; of more than 2^32 bytes the run ends as `InputTooLong`. The run ends as done, or with the first
+/// fault: that, or the message is refused; `Io` exactly if the reader or the writer failed; `Memory` if a growth was
+/// refused. Nothing is written before the input has ended. It holds the input, up to 2^28 + 1 words, and the text.
+pub fn run_bare<S: Service, R: Read, W: Write, A: Allocator + Copy>(
+    alloc: A,
+    run: &mut Run<S>,
+    reader: &mut Watched<R>,
+    writer: &mut Watched<W>,
+) -> Result<(), RunFault>
+    requires fresh { run.old.at ≡ start }
+    requires reader_fine { has_failed reader.old ≡ false }
+    requires writer_fine { has_failed writer.old ≡ false }
+    ensures { (most : ℕ) → RunsBare (fold_of S.serves S.refuses most) run.old (R.remaining (inner_of reader.old))
+        (R.remaining (inner_of reader.new))
+        (W.contents (inner_of writer.old)) (W.contents (inner_of writer.new)) (has_failed reader.new)
+        (has_failed writer.new) result run.new }
+{
+    let bytes = read_bare(alloc, run.at, reader)?;
+    let text = serve_bare(alloc, run, &bytes)?;
+    write_all(writer, &text)
+}

@@ -1,0 +1,34 @@
+//! The messages of an input, served one after the other by one loop.
+//!
+//! A [`Service`] is what is done with each message: a fold whose state is the service. [`Run`] is how far it has come.
+//! [`run_stream`], [`run_packed`] and [`run_bare`] are the loops over the three forms, and [`serve_form`] is the loop
+//! of a given form.
+//!
+//! [`run_pick`] writes the frames of some messages as they stand, and does not read on after them.
+#![tactic(auto)]
+
+mod bare_run;
+mod chunk;
+mod fault;
+mod form_run;
+mod message;
+mod output;
+mod packed_run;
+mod pick;
+mod pick_run;
+mod position;
+mod service;
+mod stream;
+mod stream_run;
+mod whole_input;
+
+pub use bare_run::run_bare;
+pub use fault::{RunFault, ServeFault};
+pub use form_run::serve_form;
+pub use output::write_all;
+pub use packed_run::run_packed;
+pub use pick::{Pick, StreamForm};
+pub use pick_run::run_pick;
+pub use position::{Position, number_of};
+pub use service::{Run, Service};
+pub use stream_run::run_stream;

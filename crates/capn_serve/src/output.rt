@@ -1,0 +1,42 @@
+//! The text of a run on its way to the writer.
+
+ghost use Rattle.std.specs.Prelude.{◌≡◌, ◌↔◌, true, false, OnOk, IsErrOf, IsOkUnless};
+ghost use Rattle.std.specs.Io.KnownBytes.{Appends};
+ghost use Rattle.capn_words.specs.Watching.{HasBegun, inner_of, has_failed};
+ghost use Rattle.capn_serve.specs.Sending.{SendsRest};
+
+use crate::fault::RunFault;
+use capn_words::Watched;
+use std::io::Write;
+
+/// Writes all of the text, or a beginning of it if the writer fails.
+pub fn write_all<W: Write>(writer: &mut Watched<W>, text: &[u8]) -> Result<(), RunFault>
+    requires { has_failed writer.old ≡ false }
+    ensures ok { OnOk result (Appends (W.contents (inner_of writer.old)) (W.contents (inner_of writer.new)) text.now) }
+    ensures begun { HasBegun (W.contents (inner_of writer.old)) (W.contents (inner_of writer.new)) text.now }
+    ensures io { IsErrOf result RunFault.Io ↔ (has_failed writer.new ≡ true) }
+    ensures only { IsOkUnless result RunFault.Io }
+{
+    match writer.write_all(text) {
+        Ok(()) => Ok(()),
+        Err(_) => Err(RunFault::Io),
+    }
+}
+
+/// Writes the text that a run has kept, if its writer has not failed before. The run ends as it did, or with `Io` if
+/// the writer fails now.
+pub(crate) fn send_rest<W: Write>(
+    served: Result<(), RunFault>,
+    text: &[u8],
+    writer: &mut Watched<W>,
+) -> Result<(), RunFault>
+    ensures { SendsRest served text.now (W.contents (inner_of writer.old)) (W.contents (inner_of writer.new))
+        (has_failed writer.old)
+        (has_failed writer.new) result }
+{
+    if writer.failed() {
+        return served;
+    }
+    write_all(writer, text)?;
+    served
+}

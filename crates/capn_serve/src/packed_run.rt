@@ -1,0 +1,242 @@
+//! A run over a packed stream, from its first byte to its last.
+
+ghost use Rattle.std.specs.Prelude.{◌≡◌, ◌+◌, ◌≤◌, length, false};
+ghost use Rattle.capn_words.specs.Limits.{most_message_words};
+ghost use Rattle.capn_words.specs.Watching.{inner_of, has_failed};
+ghost use Rattle.capn_stream.specs.Framing.{IsUnfinished};
+ghost use Rattle.capn_serve.specs.Fold.{fold_of};
+ghost use Rattle.capn_serve.specs.PackedRun.{RunsPacked};
+ghost use Rattle.capn_serve.specs.PackedServing.{EndsPacked, IsUnpacking, ServesPacked, ServesPart, pending};
+ghost use Rattle.capn_serve.specs.Sending.{outgoing, sent};
+ghost use Rattle.capn_serve.specs.Serving.{HasRoom, IsListening};
+ghost use Rattle.capn_serve.specs.StreamRun.{start};
+
+use crate::chunk::CHUNK;
+use crate::fault::RunFault;
+use crate::output::send_rest;
+use crate::position::Position;
+use crate::service::{Run, Service};
+use crate::stream::serve_bytes;
+use crate::stream_run::end_of_input;
+use capn_canon::Refusal;
+use capn_pack::Unpacker;
+use capn_stream::Framer;
+use capn_words::Watched;
+use std::alloc::Allocator;
+use std::io::{Read, Write};
+
+/// The most packed bytes that are unpacked at once, of which come at most 1,024 times as many.
+const SLICE: usize = 512;
+
+/// What is held of a packed stream between two of its slices.
+#[derive(Drop)]
+pub(crate) struct Packed<A: Allocator + Copy> {
+    /// Holds an unfinished group.
+    pub unpacker: Unpacker,
+    /// Holds an unfinished message.
+    pub framer: Framer<A>,
+    /// Room for what a slice unpacks to.
+    pub part: Vec<u8, A>,
+    /// How many more bytes are taken of what the stream unpacks to.
+    pub left: u64,
+}
+
+/// Serves all messages that a part makes whole, as far as `left` goes. Of a longer one the rest is not served.
+fn serve_part<S: Service, W: Write, A: Allocator + Copy>(
+    alloc: A,
+    most: u32,
+    run: &mut Run<S>,
+    packed: &mut Packed<A>,
+    text: &mut Vec<u8, A>,
+    writer: &mut Watched<W>,
+) -> Result<(), RunFault>
+    requires small { most ≤ most_message_words }
+    requires fine { has_failed writer.old ≡ false }
+    requires room { HasRoom run.old.at (length packed.old.framer.rest + packed.old.left) }
+    requires listening { IsListening (fold_of S.serves S.refuses most) packed.old.framer }
+    ensures served { ServesPart (fold_of S.serves S.refuses most) run.old packed.old.left packed.old.framer
+        packed.old.part.items (outgoing (W.contents (inner_of writer.old)) text.old.items)
+        (outgoing (W.contents (inner_of writer.new)) text.new.items) (has_failed writer.new) result
+        packed.new.left packed.new.framer run.new }
+    ensures unpacker { packed.new.unpacker ≡ packed.old.unpacker }
+{
+    let count = packed.part.len() as u64;
+    let within = packed.left.min(count);
+    serve_bytes(
+        alloc,
+        most,
+        run,
+        &mut packed.framer,
+        &packed.part[..within as usize],
+        text,
+        writer,
+    )?;
+    if within < count {
+        return Err(RunFault::InputTooLong);
+    }
+    packed.left -= within;
+    Ok(())
+}
+
+/// Serves all messages that a slice makes whole. What it unpacks to is held at once.
+fn serve_slice<S: Service, W: Write, A: Allocator + Copy>(
+    alloc: A,
+    most: u32,
+    run: &mut Run<S>,
+    packed: &mut Packed<A>,
+    bytes: &[u8],
+    text: &mut Vec<u8, A>,
+    writer: &mut Watched<W>,
+) -> Result<(), RunFault>
+    requires small { most ≤ most_message_words }
+    requires fine { has_failed writer.old ≡ false }
+    requires room { HasRoom run.old.at (length packed.old.framer.rest + packed.old.left) }
+    requires listening { IsListening (fold_of S.serves S.refuses most) packed.old.framer }
+    requires held { packed.old.unpacker.failed ≡ false }
+    ensures { ServesPacked (fold_of S.serves S.refuses most) run.old
+        (pending packed.old.unpacker packed.old.framer packed.old.left) bytes.now
+        (outgoing (W.contents (inner_of writer.old)) text.old.items)
+        (outgoing (W.contents (inner_of writer.new)) text.new.items) (has_failed writer.new) result
+        packed.new.unpacker packed.new.framer packed.new.left run.new }
+{
+    packed.part.clear();
+    match packed.unpacker.feed(bytes, &mut packed.part) {
+        Ok(()) => serve_part(alloc, most, run, packed, text, writer),
+        Err(_) => Err(RunFault::Memory),
+    }
+}
+
+/// Serves all messages that packed bytes make whole, slice by slice.
+fn serve_slices<S: Service, W: Write, A: Allocator + Copy>(
+    alloc: A,
+    most: u32,
+    run: &mut Run<S>,
+    packed: &mut Packed<A>,
+    bytes: &[u8],
+    text: &mut Vec<u8, A>,
+    writer: &mut Watched<W>,
+) -> Result<(), RunFault>
+    requires small { most ≤ most_message_words }
+    requires fine { has_failed writer.old ≡ false }
+    requires room { HasRoom run.old.at (length packed.old.framer.rest + packed.old.left) }
+    requires listening { IsListening (fold_of S.serves S.refuses most) packed.old.framer }
+    requires unpacking { IsUnpacking packed.old.unpacker }
+    requires short { length bytes.now ≤ 65536 }
+    ensures { ServesPacked (fold_of S.serves S.refuses most) run.old
+        (pending packed.old.unpacker packed.old.framer packed.old.left) bytes.now
+        (outgoing (W.contents (inner_of writer.old)) text.old.items)
+        (outgoing (W.contents (inner_of writer.new)) text.new.items) (has_failed writer.new) result
+        packed.new.unpacker packed.new.framer packed.new.left run.new }
+{
+    let mut at = 0;
+    while at < bytes.len() {
+        let end = (at + SLICE).min(bytes.len());
+        serve_slice(alloc, most, run, packed, &bytes[at..end], text, writer)?;
+        at = end;
+    }
+    Ok(())
+}
+
+/// Serves all messages that packed bytes make whole, and writes their texts. The text is room for them.
+pub(crate) fn serve_packed<S: Service, W: Write, A: Allocator + Copy>(
+    alloc: A,
+    most: u32,
+    run: &mut Run<S>,
+    packed: &mut Packed<A>,
+    bytes: &[u8],
+    text: &mut Vec<u8, A>,
+    writer: &mut Watched<W>,
+) -> Result<(), RunFault>
+    requires small { most ≤ most_message_words }
+    requires fine { has_failed writer.old ≡ false }
+    requires room { HasRoom run.old.at (length packed.old.framer.rest + packed.old.left) }
+    requires listening { IsListening (fold_of S.serves S.refuses most) packed.old.framer }
+    requires unpacking { IsUnpacking packed.old.unpacker }
+    requires short { length bytes.now ≤ 65536 }
+    ensures { ServesPacked (fold_of S.serves S.refuses most) run.old
+        (pending packed.old.unpacker packed.old.framer packed.old.left) bytes.now
+        (sent (W.contents (inner_of writer.old))) (sent (W.contents (inner_of writer.new)))
+        (has_failed writer.new) result packed.new.unpacker packed.new.framer packed.new.left run.new }
+{
+    text.clear();
+    let served = serve_slices(alloc, most, run, packed, bytes, text, writer);
+    send_rest(served, text, writer)
+}
+
+/// How a run ends at a position whose packed input has ended.
+pub(crate) fn end_of_packed<A: Allocator + Copy>(
+    at: Position,
+    mut packed: Packed<A>,
+) -> Result<(), RunFault>
+    requires held { packed.unpacker.failed ≡ false }
+    requires good { packed.framer.failed ≡ false }
+    requires part { IsUnfinished packed.framer.rest packed.framer.most }
+    ensures { EndsPacked at packed.unpacker.rest packed.unpacker.offset packed.framer.rest packed.framer.most result }
+{
+    match packed.unpacker.finish() {
+        Ok(()) => end_of_input(at, packed.framer),
+        Err(fault) => Err(RunFault::Refused(at, Refusal::Packed(fault))),
+    }
+}
+
+/// Reads a packed stream, in chunks of at most 65,536 bytes, and has each message served that is whole before it reads
+/// again.
+///
+/// A chunk is unpacked in slices of 512 bytes, of which come at most 512 KiB and an unfinished group. Positions are in
+/// what the stream unpacks to; of that at most `limit` bytes are taken, and of the stream itself 2^64 - 1. `most` is
+/// the greatest number of words of a message. The run ends as done, or with the first fault: a frame or a message that
+/// is refused, at its position; `InputTooLong`; a group that is cut at the end of the input, at the position of the
+/// message that has begun or would begin; `Io` exactly if the reader or the writer failed; `Memory` if a growth was
+/// refused. The texts of the messages before it have been written. It holds an unfinished message, what a slice unpacks
+/// to, the texts of a chunk, and what the service holds.
+pub fn run_packed<S: Service, R: Read, W: Write, A: Allocator + Copy>(
+    alloc: A,
+    most: u32,
+    limit: u64,
+    run: &mut Run<S>,
+    reader: &mut Watched<R>,
+    writer: &mut Watched<W>,
+) -> Result<(), RunFault>
+    requires small { most ≤ most_message_words }
+    requires fresh { run.old.at ≡ start }
+    requires reader_fine { has_failed reader.old ≡ false }
+    requires writer_fine { has_failed writer.old ≡ false }
+    ensures { RunsPacked (fold_of S.serves S.refuses most) run.old limit (R.remaining (inner_of reader.old))
+        (R.remaining (inner_of reader.new))
+        (W.contents (inner_of writer.old)) (W.contents (inner_of writer.new)) (has_failed reader.new)
+        (has_failed writer.new) result run.new }
+{
+    let mut packed = Packed {
+        unpacker: Unpacker::new(),
+        framer: Framer::new(alloc, most),
+        part: Vec::new(alloc),
+        left: limit,
+    };
+    let mut text = Vec::new(alloc);
+    let mut buffer = [0; CHUNK as usize];
+    let mut taken = 0;
+    'chunks: loop {
+        let left = u64::MAX - taken;
+        let room = left.min(CHUNK - 1) + 1;
+        match reader.read(&mut buffer[..room as usize]) {
+            Err(_) => return Err(RunFault::Io),
+            Ok(0) => return end_of_packed(run.at, packed),
+            Ok(count) => {
+                let within = left.min(count as u64);
+                serve_packed(
+                    alloc,
+                    most,
+                    run,
+                    &mut packed,
+                    &buffer[..within as usize],
+                    &mut text,
+                    writer,
+                )?;
+                if within < count as u64 {
+                    return Err(RunFault::InputTooLong);
+                }
+                taken += within;
+            }
+        }
+    }
+}

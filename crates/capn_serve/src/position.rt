@@ -1,0 +1,22 @@
+//! Where a message is in a stream.
+
+ghost use Rattle.std.specs.Prelude.{◌≡◌, ◌+◌};
+
+/// Where a message is in a stream. (Own.)
+///
+/// The offset is that of its table, in bytes from the beginning of the stream; of a packed stream, in the bytes that it
+/// unpacks to. Of a bare input both numbers are 0.
+#[derive(Clone, Copy, Debug, PartialEq, Eq)]
+pub struct Position {
+    /// How many messages are before it: its number, counted from 0.
+    pub index: u64,
+    /// How many bytes are before it.
+    pub offset: u64,
+}
+
+/// The number, counted from 1, of the message that is after this number of others.
+pub fn number_of(index: u64) -> u128
+    ensures { result ≡ index + 1 }
+{
+    u128::from(index) + 1
+}

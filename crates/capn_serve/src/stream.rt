@@ -1,0 +1,240 @@
+//! The messages of a stream that comes in chunks.
+
+ghost use Rattle.std.specs.Prelude.{◌≡◌, ◌⊎◌, ◌≤◌, ◌+◌, ◌++◌, ℕ, List, [], length, false};
+ghost use Rattle.capn_words.specs.Limits.{most_message_words};
+ghost use Rattle.capn_words.specs.Watching.{inner_of, has_failed};
+ghost use Rattle.capn_stream.specs.Framing.{IsFrame, IsUnfinished};
+ghost use Rattle.capn_serve.specs.Fold.{fold_of};
+ghost use Rattle.capn_serve.specs.Sending.{outgoing, sent};
+ghost use Rattle.capn_serve.specs.Serving as spec;
+ghost use Rattle.capn_serve.specs.Serving.{HasRoom, IsListening, Passes, Serves, ServesHeld, ServesNext, ServesWhole};
+
+use crate::fault::RunFault;
+use crate::message::add_message;
+use crate::output::send_rest;
+use crate::position::Position;
+use crate::service::{Run, Service};
+use capn_canon::Refusal;
+use capn_stream::{FrameFault, Framer, first};
+use capn_words::Watched;
+use std::alloc::Allocator;
+use std::io::Write;
+
+/// The fault of a run at a position at which a framer has refused.
+pub(crate) fn fault_at(at: Position, fault: FrameFault) -> RunFault
+    ensures { result ≡ spec.fault_at at fault }
+{
+    match fault {
+        FrameFault::Memory => RunFault::Memory,
+        _ => RunFault::Refused(at, Refusal::Frame(fault)),
+    }
+}
+
+/// What a run does where no whole message stands first, for this reason: it goes on, unless memory was refused.
+fn pass(fault: FrameFault) -> Result<(), RunFault>
+    ensures { Passes fault result }
+{
+    match fault {
+        FrameFault::Memory => Err(RunFault::Memory),
+        _ => Ok(()),
+    }
+}
+
+/// Serves the messages that lie whole in these bytes, of which no byte is copied. Answers how many bytes they take. Why
+/// no other follows is for the framer to say.
+fn serve_whole<S: Service, W: Write, A: Allocator + Copy>(
+    alloc: A,
+    most: u32,
+    run: &mut Run<S>,
+    bytes: &[u8],
+    text: &mut Vec<u8, A>,
+    writer: &mut Watched<W>,
+) -> Result<usize, RunFault>
+    requires small { most ≤ most_message_words }
+    requires fine { has_failed writer.old ≡ false }
+    requires room { HasRoom run.old.at (length bytes.now) }
+    ensures { ServesWhole (fold_of S.serves S.refuses most) run.old bytes.now
+        (outgoing (W.contents (inner_of writer.old)) text.old.items)
+        (outgoing (W.contents (inner_of writer.new)) text.new.items) (has_failed writer.new) result run.new }
+{
+    let mut at = 0;
+    while at < bytes.len() {
+        let rest = &bytes[at..];
+        match first(alloc, rest, most) {
+            Ok((message, taken)) => {
+                add_message(alloc, run, &rest[..taken], &message, text, writer)?;
+                at += taken;
+            }
+            Err(fault) => {
+                pass(fault)?;
+                return Ok(at);
+            }
+        }
+    }
+    Ok(at)
+}
+
+/// Takes out the message that a framer holds.
+fn clear<A: Allocator + Copy>(framer: &mut Framer<A>)
+    requires good { framer.old.failed ≡ false }
+    requires whole { IsFrame framer.old.rest framer.old.most }
+    ensures { framer.new ≡ record { rest = []; most = framer.old.most; failed = false } }
+{
+    let _served = framer.take();
+}
+
+/// Serves the message that a framer holds, if it is whole.
+fn serve_held<S: Service, W: Write, A: Allocator + Copy>(
+    alloc: A,
+    most: u32,
+    run: &mut Run<S>,
+    framer: &mut Framer<A>,
+    text: &mut Vec<u8, A>,
+    writer: &mut Watched<W>,
+) -> Result<(), RunFault>
+    requires small { most ≤ most_message_words }
+    requires fine { has_failed writer.old ≡ false }
+    requires room { HasRoom run.old.at (length framer.old.rest) }
+    requires good { framer.old.failed ≡ false }
+    requires same { framer.old.most ≡ most }
+    requires held { IsFrame framer.old.rest most ⊎ IsUnfinished framer.old.rest most }
+    ensures { ServesHeld (fold_of S.serves S.refuses most) run.old framer.old
+        (outgoing (W.contents (inner_of writer.old)) text.old.items)
+        (outgoing (W.contents (inner_of writer.new)) text.new.items) (has_failed writer.new) result framer.new run.new }
+{
+    let held = framer.held();
+    match first(alloc, held, most) {
+        Ok((message, taken)) => {
+            add_message(alloc, run, &held[..taken], &message, text, writer)?;
+        }
+        Err(fault) => return pass(fault),
+    }
+    clear(framer);
+    Ok(())
+}
+
+/// Takes bytes up to the end of a message, and serves that. Answers how many bytes it took.
+fn serve_next<S: Service, W: Write, A: Allocator + Copy>(
+    alloc: A,
+    most: u32,
+    run: &mut Run<S>,
+    framer: &mut Framer<A>,
+    bytes: &[u8],
+    text: &mut Vec<u8, A>,
+    writer: &mut Watched<W>,
+) -> Result<usize, RunFault>
+    requires small { most ≤ most_message_words }
+    requires fine { has_failed writer.old ≡ false }
+    requires room { HasRoom run.old.at (length framer.old.rest + length bytes.now) }
+    requires listening { IsListening (fold_of S.serves S.refuses most) framer.old }
+    ensures { ServesNext (fold_of S.serves S.refuses most) run.old framer.old bytes.now
+        (outgoing (W.contents (inner_of writer.old)) text.old.items)
+        (outgoing (W.contents (inner_of writer.new)) text.new.items) (has_failed writer.new) result framer.new run.new }
+{
+    match framer.feed(bytes) {
+        Ok(taken) => {
+            serve_held(alloc, most, run, framer, text, writer)?;
+            Ok(taken)
+        }
+        Err(fault) => Err(fault_at(run.at, fault)),
+    }
+}
+
+/// Serves the messages that these bytes begin with, or begins the next one. Answers how many bytes it took.
+fn serve_fresh<S: Service, W: Write, A: Allocator + Copy>(
+    alloc: A,
+    most: u32,
+    run: &mut Run<S>,
+    framer: &mut Framer<A>,
+    bytes: &[u8],
+    text: &mut Vec<u8, A>,
+    writer: &mut Watched<W>,
+) -> Result<usize, RunFault>
+    requires small { most ≤ most_message_words }
+    requires fine { has_failed writer.old ≡ false }
+    requires room { HasRoom run.old.at (length framer.old.rest + length bytes.now) }
+    requires listening { IsListening (fold_of S.serves S.refuses most) framer.old }
+    requires empty { framer.old.rest ≡ [] }
+    ensures { ServesNext (fold_of S.serves S.refuses most) run.old framer.old bytes.now
+        (outgoing (W.contents (inner_of writer.old)) text.old.items)
+        (outgoing (W.contents (inner_of writer.new)) text.new.items) (has_failed writer.new) result framer.new run.new }
+{
+    let whole = serve_whole(alloc, most, run, bytes, text, writer)?;
+    if 0 < whole {
+        return Ok(whole);
+    }
+    serve_next(alloc, most, run, framer, bytes, text, writer)
+}
+
+/// Serves the messages that these bytes begin with, or takes bytes up to the end of the one that has begun. Answers how
+/// many bytes it took.
+fn serve_some<S: Service, W: Write, A: Allocator + Copy>(
+    alloc: A,
+    most: u32,
+    run: &mut Run<S>,
+    framer: &mut Framer<A>,
+    bytes: &[u8],
+    text: &mut Vec<u8, A>,
+    writer: &mut Watched<W>,
+) -> Result<usize, RunFault>
+    requires small { most ≤ most_message_words }
+    requires fine { has_failed writer.old ≡ false }
+    requires room { HasRoom run.old.at (length framer.old.rest + length bytes.now) }
+    requires listening { IsListening (fold_of S.serves S.refuses most) framer.old }
+    ensures { ServesNext (fold_of S.serves S.refuses most) run.old framer.old bytes.now
+        (outgoing (W.contents (inner_of writer.old)) text.old.items)
+        (outgoing (W.contents (inner_of writer.new)) text.new.items) (has_failed writer.new) result framer.new run.new }
+{
+    if framer.is_empty() {
+        return serve_fresh(alloc, most, run, framer, bytes, text, writer);
+    }
+    serve_next(alloc, most, run, framer, bytes, text, writer)
+}
+
+/// Serves all messages that these bytes make whole.
+pub(crate) fn serve_bytes<S: Service, W: Write, A: Allocator + Copy>(
+    alloc: A,
+    most: u32,
+    run: &mut Run<S>,
+    framer: &mut Framer<A>,
+    bytes: &[u8],
+    text: &mut Vec<u8, A>,
+    writer: &mut Watched<W>,
+) -> Result<(), RunFault>
+    requires small { most ≤ most_message_words }
+    requires fine { has_failed writer.old ≡ false }
+    requires room { HasRoom run.old.at (length framer.old.rest + length bytes.now) }
+    requires listening { IsListening (fold_of S.serves S.refuses most) framer.old }
+    ensures { Serves (fold_of S.serves S.refuses most) run.old framer.old bytes.now
+        (outgoing (W.contents (inner_of writer.old)) text.old.items)
+        (outgoing (W.contents (inner_of writer.new)) text.new.items) (has_failed writer.new) result framer.new run.new }
+{
+    let mut at = 0;
+    while at < bytes.len() {
+        at += serve_some(alloc, most, run, framer, &bytes[at..], text, writer)?;
+    }
+    Ok(())
+}
+
+/// Serves all messages that these bytes make whole, and writes their texts. The text is room for them.
+pub(crate) fn serve_chunk<S: Service, W: Write, A: Allocator + Copy>(
+    alloc: A,
+    most: u32,
+    run: &mut Run<S>,
+    framer: &mut Framer<A>,
+    bytes: &[u8],
+    text: &mut Vec<u8, A>,
+    writer: &mut Watched<W>,
+) -> Result<(), RunFault>
+    requires small { most ≤ most_message_words }
+    requires fine { has_failed writer.old ≡ false }
+    requires room { HasRoom run.old.at (length framer.old.rest + length bytes.now) }
+    requires listening { IsListening (fold_of S.serves S.refuses most) framer.old }
+    ensures { Serves (fold_of S.serves S.refuses most) run.old framer.old bytes.now
+        (sent (W.contents (inner_of writer.old))) (sent (W.contents (inner_of writer.new)))
+        (has_failed writer.new) result framer.new run.new }
+{
+    text.clear();
+    let served = serve_bytes(alloc, most, run, framer, bytes, text, writer);
+    send_rest(served, text, writer)
+}

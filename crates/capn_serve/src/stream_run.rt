@@ -1,0 +1,87 @@
+//! A run over a stream, from its first byte to its last.
+
+ghost use Rattle.std.specs.Prelude.{◌≡◌, ◌≤◌, false};
+ghost use Rattle.capn_words.specs.Limits.{most_message_words};
+ghost use Rattle.capn_words.specs.Watching.{inner_of, has_failed};
+ghost use Rattle.capn_stream.specs.Framing.{IsUnfinished};
+ghost use Rattle.capn_serve.specs.Fold.{fold_of};
+ghost use Rattle.capn_serve.specs.StreamRun.{EndsInput, Runs, start};
+
+use crate::chunk::CHUNK;
+use crate::fault::RunFault;
+use crate::position::Position;
+use crate::service::{Run, Service};
+use crate::stream::{fault_at, serve_chunk};
+use capn_stream::Framer;
+use capn_words::Watched;
+use std::alloc::Allocator;
+use std::io::{Read, Write};
+
+/// How a run ends at a position whose input has ended.
+pub(crate) fn end_of_input<A: Allocator + Copy>(
+    at: Position,
+    mut framer: Framer<A>,
+) -> Result<(), RunFault>
+    requires good { framer.failed ≡ false }
+    requires part { IsUnfinished framer.rest framer.most }
+    ensures { EndsInput at framer.rest framer.most result }
+{
+    match framer.finish() {
+        Ok(()) => Ok(()),
+        Err(fault) => Err(fault_at(at, fault)),
+    }
+}
+
+/// Reads a stream, in chunks of at most 65,536 bytes, and has each message served that is whole before it reads again.
+///
+/// At most `limit` bytes are taken, and one more is read, to know whether there are more. `most` is the greatest number
+/// of words of a message. The run ends as done, or with the first fault: a frame or a message that is refused, at its
+/// position; `InputTooLong`; `Io` exactly if the reader or the writer failed; `Memory` if a growth was refused. The
+/// texts of the messages before it have been written. It holds an unfinished message, the texts of a chunk, and what
+/// the service holds.
+pub fn run_stream<S: Service, R: Read, W: Write, A: Allocator + Copy>(
+    alloc: A,
+    most: u32,
+    limit: u64,
+    run: &mut Run<S>,
+    reader: &mut Watched<R>,
+    writer: &mut Watched<W>,
+) -> Result<(), RunFault>
+    requires small { most ≤ most_message_words }
+    requires fresh { run.old.at ≡ start }
+    requires reader_fine { has_failed reader.old ≡ false }
+    requires writer_fine { has_failed writer.old ≡ false }
+    ensures { Runs (fold_of S.serves S.refuses most) run.old limit (R.remaining (inner_of reader.old))
+        (R.remaining (inner_of reader.new))
+        (W.contents (inner_of writer.old)) (W.contents (inner_of writer.new)) (has_failed reader.new)
+        (has_failed writer.new) result run.new }
+{
+    let mut framer = Framer::new(alloc, most);
+    let mut text = Vec::new(alloc);
+    let mut buffer = [0; CHUNK as usize];
+    let mut taken = 0;
+    'chunks: loop {
+        let left = limit - taken;
+        let room = left.min(CHUNK - 1) + 1;
+        match reader.read(&mut buffer[..room as usize]) {
+            Err(_) => return Err(RunFault::Io),
+            Ok(0) => return end_of_input(run.at, framer),
+            Ok(count) => {
+                let within = left.min(count as u64);
+                serve_chunk(
+                    alloc,
+                    most,
+                    run,
+                    &mut framer,
+                    &buffer[..within as usize],
+                    &mut text,
+                    writer,
+                )?;
+                if within < count as u64 {
+                    return Err(RunFault::InputTooLong);
+                }
+                taken += within;
+            }
+        }
+    }
+}

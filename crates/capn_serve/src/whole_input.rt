@@ -1,0 +1,53 @@
+//! An input that is read to its end, of which no more is held than needed.
+
+ghost use Rattle.std.specs.Prelude.{◌≡◌, false};
+ghost use Rattle.capn_words.specs.Watching.{inner_of, has_failed};
+ghost use Rattle.capn_serve.specs.WholeInput.{IsBeginning, TakesAll};
+
+use crate::chunk::CHUNK;
+use crate::fault::RunFault;
+use capn_words::Watched;
+use std::alloc::Allocator;
+use std::io::Read;
+
+/// The most bytes of an input that is read to its end.
+const MOST_BYTES: usize = 1 << 32;
+
+/// The bytes that an input begins with, and how many bytes it has.
+#[derive(Drop)]
+pub(crate) struct WholeInput<A: Allocator> {
+    pub bytes: Vec<u8, A>,
+    pub len: usize,
+}
+
+/// Reads an input to its end, and keeps its first bytes, at most this number. What follows is dropped as it comes.
+///
+/// Each call of the reader asks for at most 65,536 bytes, and for no byte past the one that makes the input too long.
+pub(crate) fn read_all<R: Read, A: Allocator>(
+    alloc: A,
+    reader: &mut Watched<R>,
+    most: usize,
+) -> Result<WholeInput<A>, RunFault>
+    requires { has_failed reader.old ≡ false }
+    ensures { TakesAll (IsBeginning most) (R.remaining (inner_of reader.old)) (R.remaining (inner_of reader.new))
+        (has_failed reader.new) result }
+{
+    let mut bytes = Vec::new(alloc);
+    let mut chunk = [0; CHUNK as usize];
+    let mut len = 0;
+    'chunks: while len <= MOST_BYTES {
+        let room = (MOST_BYTES + 1 - len).min(CHUNK as usize);
+        match reader.read(&mut chunk[..room]) {
+            Err(_) => return Err(RunFault::Io),
+            Ok(0) => return Ok(WholeInput { bytes, len }),
+            Ok(count) => {
+                let kept = count.min(most - bytes.len());
+                match bytes.extend_from_slice(&chunk[..kept]) {
+                    Ok(()) => len += count,
+                    Err(_) => return Err(RunFault::Memory),
+                }
+            }
+        }
+    }
+    Err(RunFault::InputTooLong)
+}

@@ -1,0 +1,124 @@
+//! Runs that pick messages which were made by hand.
+
+use capn_canon::{Limits, Refusal};
+use capn_serve::{Pick, Position, RunFault, StreamForm, run_pick};
+use capn_stream::FrameFault;
+use capn_words::Watched;
+use std::alloc::Global;
+use std::io::{self, Read};
+use std::test::Fail;
+
+/// A reader that gives its bytes with the first call, and fails with the next one.
+#[derive(Drop)]
+struct Once<'a> {
+    bytes: &'a [u8],
+    is_over: bool,
+}
+
+impl Read for Once<'_> {
+    fn read(&mut self, buf: &mut [u8]) -> io::Result<usize> {
+        if self.is_over {
+            return Err(io::ErrorKind::Other.into());
+        }
+        self.is_over = true;
+        let count = self.bytes.len().min(buf.len());
+        buf[..count].copy_from_slice(&self.bytes[..count]);
+        Ok(count)
+    }
+}
+
+/// What a run wrote, and how it ended.
+#[derive(Drop)]
+struct Outcome {
+    text: Vec<u8>,
+    ending: Result<(), RunFault>,
+}
+
+/// Picks the messages of these numbers of a reader that fails if it is read again.
+fn picked(alloc: Global, form: StreamForm, from: u64, to: u64, bytes: &[u8]) -> Outcome {
+    let pick = Pick {
+        form,
+        limits: Limits::usual(),
+        from,
+        to,
+    };
+    let mut reader = Watched::new(Once {
+        bytes,
+        is_over: false,
+    });
+    let mut writer = Watched::new(Vec::new(alloc));
+    let ending = run_pick(alloc, pick, &mut reader, &mut writer);
+    Outcome {
+        text: writer.into_inner(),
+        ending,
+    }
+}
+
+/// Frames of 16 bytes, with a null root; of 16 bytes, of two empty segments, with 1 byte of padding that is not zero;
+/// and of 8 bytes, of one empty segment. After them comes the count of a frame with too many segments.
+const FRAMES: [u8; 48] = [
+    0, 0, 0, 0, 1, 0, 0, 0, 0, 0, 0, 0, 0, 0, 0, 0, 1, 0, 0, 0, 0, 0, 0, 0, 0, 0, 0, 0, 9, 0, 0, 0,
+    0, 0, 0, 0, 0, 0, 0, 0, 255, 255, 255, 255, 0, 0, 0, 0,
+];
+
+/// The packed text of the first two, and then a group that is cut.
+const PACKED: [u8; 9] = [0x10, 1, 0, 0, 0x01, 1, 0x10, 9, 0];
+
+/// The frames stand as they are, with their padding, and nothing is read after the last one.
+#[test]
+fn picks_some_messages(rt: HostRuntime) -> Result<(), Fail> {
+    let two = picked(rt.alloc(), StreamForm::Stream, 2, 3, &FRAMES);
+    assert!(rt; two.ending == Ok(()) && two.text.as_slice() == &FRAMES[16..40]);
+    let first = picked(rt.alloc(), StreamForm::Stream, 1, 1, &FRAMES);
+    assert!(rt; first.ending == Ok(()) && first.text.as_slice() == &FRAMES[..16]);
+    Ok(())
+}
+
+/// Of a packed stream the unpacked bytes are written, and a group after them that is cut is not looked at.
+#[test]
+fn picks_packed_messages(rt: HostRuntime) -> Result<(), Fail> {
+    let second = picked(rt.alloc(), StreamForm::Packed, 2, 2, &PACKED);
+    assert!(rt; second.ending == Ok(()) && second.text.as_slice() == &FRAMES[16..32]);
+    Ok(())
+}
+
+/// A reader that would be read after the last message fails.
+#[test]
+fn reads_on_before_the_last_message(rt: HostRuntime) -> Result<(), Fail> {
+    let three = picked(rt.alloc(), StreamForm::Stream, 1, 4, &FRAMES[..40]);
+    assert!(rt; three.ending == Err(RunFault::Io) && three.text.as_slice() == &FRAMES[..40]);
+    Ok(())
+}
+
+/// A frame that is refused before the last message ends the run at its position.
+#[test]
+fn ends_at_a_refused_frame(rt: HostRuntime) -> Result<(), Fail> {
+    let refused = picked(rt.alloc(), StreamForm::Stream, 2, 4, &FRAMES);
+    let at = Position {
+        index: 3,
+        offset: 40,
+    };
+    let fault = Refusal::Frame(FrameFault::TooManySegments(4_294_967_296));
+    assert!(rt; refused.ending == Err(RunFault::Refused(at, fault)));
+    assert!(rt; refused.text.as_slice() == &FRAMES[16..40]);
+    Ok(())
+}
+
+/// Where the last number is less than the first, nothing is read.
+#[test]
+fn reads_nothing_of_no_messages(rt: HostRuntime) -> Result<(), Fail> {
+    let pick = Pick {
+        form: StreamForm::Stream,
+        limits: Limits::usual(),
+        from: 3,
+        to: 2,
+    };
+    let mut reader = Watched::new(Once {
+        bytes: &FRAMES,
+        is_over: true,
+    });
+    let mut writer = Watched::new(Vec::new(rt.alloc()));
+    let ending = run_pick(rt.alloc(), pick, &mut reader, &mut writer);
+    assert!(rt; ending == Ok(()) && writer.into_inner().is_empty());
+    Ok(())
+}

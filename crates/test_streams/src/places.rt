@@ -1,0 +1,102 @@
+//! Runs over packed inputs that were made by hand, by a service that no command has.
+
+ghost use Rattle.std.specs.Prelude.{⊤};
+
+use capn_serve::{Position, Run, RunFault, ServeFault, Service, run_packed};
+use capn_words::{Space, Watched};
+use std::alloc::{Allocator, Global};
+use std::io::{self, Read};
+use std::test::Fail;
+
+/// Where an input begins.
+const START: Position = Position {
+    index: 0,
+    offset: 0,
+};
+
+/// Writes of each message its index, its offset and the number of bytes of its frame, a byte each.
+#[derive(Drop)]
+struct Places;
+
+impl Service for Places {
+    ghost serves = { λ s at frame message text t. ⊤ };
+
+    ghost refuses = { λ s at frame message r. ⊥ };
+
+    fn serve<S: Space, A: Allocator + Copy>(
+        &mut self,
+        _alloc: A,
+        at: Position,
+        frame: &[u8],
+        _message: &S,
+        text: &mut Vec<u8, A>,
+    ) -> Result<(), ServeFault> {
+        let place = [
+            (at.index % 256) as u8,
+            (at.offset % 256) as u8,
+            (frame.len() % 256) as u8,
+        ];
+        match text.extend_from_slice(&place) {
+            Ok(()) => Ok(()),
+            Err(_) => Err(ServeFault::Memory),
+        }
+    }
+}
+
+/// A reader that gives one byte at a time.
+#[derive(Drop)]
+struct Single<'a> {
+    bytes: &'a [u8],
+}
+
+impl<'a> Read for Single<'a> {
+    fn read(&mut self, buf: &mut [u8]) -> io::Result<usize> {
+        match (self.bytes.split_first(), buf.first_mut()) {
+            (Some((byte, rest)), Some(place)) => {
+                *place = *byte;
+                self.bytes = rest;
+                Ok(1)
+            }
+            _ => Ok(0),
+        }
+    }
+}
+
+/// How a run over a packed input ends, and what it writes.
+fn packed<R: Read + Drop>(alloc: Global, input: R, limit: u64) -> (Result<(), RunFault>, Vec<u8>) {
+    let mut run = Run {
+        service: Places,
+        at: START,
+    };
+    let mut reader = Watched::new(input);
+    let mut writer = Watched::new(Vec::new(alloc));
+    let ending = run_packed(alloc, 1_024, limit, &mut run, &mut reader, &mut writer);
+    let Run { service: _, at: _ } = run;
+    (ending, writer.into_inner())
+}
+
+/// The packed text of a frame of 16 bytes, of another, and of one of 8 bytes, which shares a group with the second.
+const THREE: [u8; 8] = [0x10, 1, 0, 0, 0x10, 1, 0, 1];
+
+/// What is written of them.
+const PLACES: [u8; 9] = [0, 0, 16, 1, 16, 16, 2, 32, 8];
+
+/// Offsets are those of what is unpacked, also where each byte comes by itself.
+#[test]
+fn packed_messages_in_many_chunks(rt: HostRuntime) -> Result<(), Fail> {
+    let (ending, text) = packed(rt.alloc(), Single { bytes: &THREE }, u64::MAX);
+    assert!(rt; ending == Ok(()) && text.as_slice() == PLACES.as_slice());
+    Ok(())
+}
+
+/// The limit is of what is unpacked, and the messages within it are served.
+#[test]
+fn more_than_the_limit(rt: HostRuntime) -> Result<(), Fail> {
+    let (within, all) = packed(rt.alloc(), THREE.as_slice(), 40);
+    let (past, some) = packed(rt.alloc(), THREE.as_slice(), 39);
+    assert!(rt; within == Ok(()) && all.as_slice() == PLACES.as_slice());
+    assert!(rt;
+        past == Err(RunFault::InputTooLong) && some.as_slice() == [0, 0, 16, 1, 16, 16].as_slice()
+    );
+    Ok(())
+}
