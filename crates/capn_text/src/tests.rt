@@ -194,7 +194,7 @@ fn lines_of_a_stream(rt: HostRuntime) {
     assert_eq!(rt; fault, Some((1, TextFault::Line(2))));
 }
 
-/// The text of so many structs, each in the one before, and these lines in the last of them.
+/// The text of `levels` structs, each in the one before, and these lines in the last of them.
 fn nested(alloc: Global, levels: u32, last: &[u8]) -> Result<Vec<u8>, Fail> {
     let mut text = Vec::new(alloc);
     for level in 0..levels {
