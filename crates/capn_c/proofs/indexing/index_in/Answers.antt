@@ -1,4 +1,4 @@
--- Of a message that is accepted memory is wanted for entries; a refusal of what is accepted is want of memory.
+-- A message that is accepted needs memory for entries; it is refused only if memory runs out.
 use Rattle.std.proofs.Common.{◌<◌, inl, inr, length, ap, sym, ◌∙◌, arith, Err}
 use Rattle.capn_c.specs.Codes.{code}
 use Rattle.capn_c.proofs.Depths.{some_visit}
