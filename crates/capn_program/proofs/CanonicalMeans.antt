@@ -2,7 +2,7 @@
 use Rattle.std.proofs.Common.{◌≡◌, ◌⊎◌, inl, inr, List, true, false, Some, codes, ap, arith}
 use Rattle.clap.specs.Words.{Row}
 use Rattle.capn_tool.specs.Meaning.{Means}
-use Rattle.capn_tool.specs.Laws.OneMeaning.{mark}
+use Rattle.capn_tool.proofs.shared.OneMeaning.{mark}
 use Rattle.capn_tool.specs.declared.orders.Command.{Command}
 use Rattle.capn_tool.specs.declared.orders.Command.TheVariants as commands
 use Rattle.capn_archive.specs.declared.order.Archive.{Archive}
