@@ -9,13 +9,13 @@ use Rattle.std.specs.Io.KnownBytes.{Appends, Consumes, IsAtEnd, Keeps}
 use Rattle.std.proofs.KnownBytes.{Consumes-nil, Consumes-trans, Consumes-kept}
 use Rattle.capn_pack.specs.Group.{text, content}
 use Rattle.capn_pack.specs.Packs.{texts, contents}
-use Rattle.capn_pack.specs.Stream as packing
-use Rattle.capn_pack.specs.Stream.{Splits}
+use Rattle.capn_pack.specs.PackedPieces as packing
+use Rattle.capn_pack.specs.PackedPieces.{Splits}
 use Rattle.capn_pack.proofs.shared.GroupLemmas.{each_append}
 use Rattle.capn_pack.proofs.shared.SplitLaws.{splits_all}
 use Rattle.capn_pack.proofs.shared.StreamLemmas.{nothing_first}
 use Rattle.capn_stream.specs.Framing.{IsUnfinished}
-use Rattle.capn_stream.specs.Reading as frame_rules
+use Rattle.capn_stream.specs.FrameRefusal as frame_rules
 use Rattle.capn_stream.specs.declared.fault.FrameFault.{FrameFault}
 use Rattle.capn_stream.specs.declared.fault.FrameFault.TheVariants as frames
 use Rattle.capn_archive.specs.declared.fault.RunFault.{RunFault}

@@ -1,7 +1,7 @@
 -- What a run over an archive does with the messages of its input, and then at its end. (No public clause cites this.)
 use Rattle.std.specs.Prelude.{◌≡◌, ◌⊎◌, ◌↔◌, ℕ, List, Bool, true, false, Option, IfSome, Result, Ok, Err}
 use Rattle.std.specs.Io.KnownBytes.{Consumes, Appends}
-use Rattle.capn_words.specs.Watching.{HasBegun}
+use Rattle.capn_words.specs.Watched.{HasBegun}
 use Rattle.capn_archive.specs.declared.fault.RunFault.{RunFault}
 use Rattle.capn_archive.specs.declared.fault.RunFault.TheVariants as faults
 use Rattle.capn_canon.specs.declared.form.Form.{Form}

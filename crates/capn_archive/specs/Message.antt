@@ -4,11 +4,11 @@ use Rattle.std.specs.Bool.{IsTrue}
 use Rattle.capn_words.specs.Message.{total}
 use Rattle.capn_words.specs.Words.{bytes}
 use Rattle.capn_value.specs.Tree.{Tree}
-use Rattle.capn_value.specs.Caps.{first_cap}
+use Rattle.capn_value.specs.FirstCap.{first_cap}
 use Rattle.capn_walk.specs.Limits.{Bounds}
 use Rattle.capn_walk.specs.Accepted.{IsValueOf, paid, number_of_visits}
 use Rattle.capn_canon.specs.Layout.{canon}
-use Rattle.capn_canon.specs.declared.checked.Checked.{Checked}
+use Rattle.capn_canon.specs.declared.surveyed_bare.Checked.{Checked}
 use Rattle.capn_archive.specs.declared.position.Position.{Position}
 use Rattle.capn_archive.specs.declared.head.Head.{Head}
 use Rattle.capn_archive.specs.declared.told.Told.{Told}

@@ -2,10 +2,10 @@
 use Rattle.std.specs.Prelude.{◌≡◌, ◌≢◌, ◌⊎◌, ◌↔◌, ℕ, ◌+◌, ◌<◌, ◌^◌, List, [], ◌++◌, length, Bool, true, false, Option}
 use Rattle.std.specs.Prelude.{Result, Ok, Err}
 use Rattle.std.specs.Io.KnownBytes.{Consumes}
-use Rattle.capn_pack.specs.Stream as packing
-use Rattle.capn_pack.specs.Stream.{Held, NoGroupFirst, Splits, advanced}
+use Rattle.capn_pack.specs.PackedPieces as packing
+use Rattle.capn_pack.specs.PackedPieces.{Held, NoGroupFirst, Splits, advanced}
 use Rattle.capn_stream.specs.Framing.{Framing}
-use Rattle.capn_stream.specs.Reading as frame_rules
+use Rattle.capn_stream.specs.FrameRefusal as frame_rules
 use Rattle.capn_stream.specs.declared.fault.FrameFault.{FrameFault}
 use Rattle.capn_stream.specs.declared.fault.FrameFault.TheVariants as frames
 use Rattle.capn_archive.specs.declared.position.Position.{Position}

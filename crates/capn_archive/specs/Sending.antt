@@ -1,7 +1,7 @@
 -- What a run has handed to its writer, and the text that it keeps to hand over with what comes next. (Own.)
 use Rattle.std.specs.Prelude.{◌≡◌, ◌⊎◌, ℕ, List, [], ◌++◌, take, Bool, true, false, Option, Result, Ok, Err}
 use Rattle.std.specs.Io.KnownBytes.{Appends}
-use Rattle.capn_words.specs.Watching.{HasBegun}
+use Rattle.capn_words.specs.Watched.{HasBegun}
 use Rattle.capn_archive.specs.declared.fault.RunFault.{RunFault}
 use Rattle.capn_archive.specs.declared.fault.RunFault.TheVariants as faults
 

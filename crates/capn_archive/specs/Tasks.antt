@@ -4,7 +4,7 @@ use Rattle.capn_words.specs.Message.{total}
 use Rattle.capn_walk.specs.Limits.{Bounds}
 use Rattle.capn_walk.specs.Accepted.{IsAccepted, paid}
 use Rattle.capn_canon.specs.Denotes.{AnswersMessage}
-use Rattle.capn_canon.specs.Refused.{IsRefusedMessage, IsUnaccepted}
+use Rattle.capn_canon.specs.Refusal.{IsRefusedMessage, IsUnaccepted}
 use Rattle.capn_canon.specs.declared.refusal.Refusal.{Refusal}
 use Rattle.capn_canon.specs.declared.refusal.Refusal.TheVariants as refusals
 use Rattle.capn_archive.specs.declared.position.Position.{Position}

@@ -1,7 +1,7 @@
 //! A run over an archive, from its first byte to its last.
 
 ghost use Rattle.std.specs.Prelude.{◌≡◌, false};
-ghost use Rattle.capn_words.specs.Watching.{inner_of, has_failed};
+ghost use Rattle.capn_words.specs.Watched.{inner_of, has_failed};
 ghost use Rattle.capn_archive.specs.Archived as spec;
 ghost use Rattle.capn_archive.specs.Archived.{Archived};
 ghost use Rattle.capn_archive.specs.Closing.{ServesMessages};

@@ -3,7 +3,7 @@
 ghost use Rattle.std.specs.Prelude.{◌≡◌, ℕ, ◌*◌, ◌<◌, List, length, false, Err};
 ghost use Rattle.capn_words.specs.Limits.{most_words};
 ghost use Rattle.capn_words.specs.Words.{ReadsBare};
-ghost use Rattle.capn_words.specs.Watching.{inner_of, has_failed};
+ghost use Rattle.capn_words.specs.Watched.{inner_of, has_failed};
 ghost use Rattle.capn_archive.specs.BareRun.{GivesText, IsShortBare, RunsBare};
 ghost use Rattle.capn_archive.specs.Fold.{fold_of};
 ghost use Rattle.capn_archive.specs.Serving.{HasRoom};

@@ -1,7 +1,7 @@
 //! What is written after the last message of an archive, and how a run ends.
 
 ghost use Rattle.std.specs.Prelude.{◌≡◌, false};
-ghost use Rattle.capn_words.specs.Watching.{inner_of, has_failed};
+ghost use Rattle.capn_words.specs.Watched.{inner_of, has_failed};
 ghost use Rattle.capn_archive.specs.Archived as spec;
 ghost use Rattle.capn_archive.specs.Closing.{PutsClosing};
 

@@ -1,7 +1,7 @@
 //! One message of a stream, whose text joins what is written next.
 
 ghost use Rattle.std.specs.Prelude.{◌≡◌, ◌≤◌, ℕ, length, false};
-ghost use Rattle.capn_words.specs.Watching.{inner_of, has_failed};
+ghost use Rattle.capn_words.specs.Watched.{inner_of, has_failed};
 ghost use Rattle.capn_archive.specs.Fold.{fold_of};
 ghost use Rattle.capn_archive.specs.Sending.{outgoing};
 ghost use Rattle.capn_archive.specs.Serving.{AddsMessage, HasRoom, PutsMessage};

@@ -1,7 +1,7 @@
 //! What is told of a message that is accepted.
 
 ghost use Rattle.std.specs.Prelude.{◌≡◌, ◌≢◌, [], ◌∷◌, length, IfSome, IfNone};
-ghost use Rattle.capn_canon.specs.Refused.{IsUnaccepted};
+ghost use Rattle.capn_canon.specs.Refusal.{IsUnaccepted};
 ghost use Rattle.capn_archive.specs.Message.{IsChecked, IsTold};
 ghost use Rattle.capn_archive.specs.Tasks.{Finds};
 

@@ -1,7 +1,7 @@
 pub mod Calls
-pub mod Codes
+pub mod StatusCodes
 pub mod Entries
 pub mod Figures
-pub mod Framed
-pub mod Needed
-pub mod Pieces
+pub mod FrameReport
+pub mod FrameNeed
+pub mod UnpackedPieces

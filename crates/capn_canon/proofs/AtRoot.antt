@@ -5,7 +5,7 @@ use Rattle.capn_words.specs.Message.{IsMessage}
 use Rattle.capn_words.specs.Words.{bytes}
 use Rattle.capn_value.specs.Tree.{Tree}
 use Rattle.capn_walk.specs.Stops.{root}
-use Rattle.capn_walk.specs.At.{IsAt}
+use Rattle.capn_walk.specs.ValueAt.{IsAt}
 use Rattle.capn_walk.specs.Accepted.{IsValueOf}
 use Rattle.capn_walk.specs.Limits.{Bounds}
 use Rattle.capn_canon.specs.Layout.{point, words, canon}

@@ -13,7 +13,7 @@ use Rattle.capn_words.proofs.shared.OneSegment.{bare_length, bare_only}
 use Rattle.capn_value.specs.Tree.{Tree, nil, node, voids, bits, bytes, pairs, quads, octs, links, rows, cap, Trees}
 use Rattle.capn_value.specs.Tree.{no_trees, tree, Bodies, no_bodies, body, count, count_rows}
 use Rattle.capn_value.specs.Trim.{kept_words, kept_slots, kept_words_of_rows, kept_slots_of_rows}
-use Rattle.capn_value.specs.Sizes.{cost}
+use Rattle.capn_value.specs.Cost.{cost}
 use Rattle.capn_value.specs.Fits.{Fits}
 use Rattle.capn_value.specs.InRange.{AllBelow, InRange, EachInRange, RowsInRange}
 use Rattle.capn_value.proofs.shared.Ranges.{below-take}

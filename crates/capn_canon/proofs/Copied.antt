@@ -8,7 +8,7 @@ use Rattle.byteorder.specs.Endian.{little_bytes}
 use Rattle.capn_words.specs.Message.{IsMessage, segment_at, bytes_at}
 use Rattle.capn_words.specs.Words.{word_bytes, bytes}
 use Rattle.capn_words.proofs.shared.Words.{bytes-drop, bytes-take, length-bytes}
-use Rattle.capn_walk.specs.At.{words_from}
+use Rattle.capn_walk.specs.ValueAt.{words_from}
 use Rattle.capn_walk.specs.Target.{words_for}
 use Rattle.capn_canon.specs.Layout.{packed}
 use Rattle.capn_canon.specs.Patch.{whole}

@@ -10,7 +10,7 @@ use Rattle.capn_value.proofs.shared.Fitting.{fit_parts}
 use Rattle.capn_value.proofs.shared.Ranges.{in_range-trimmed}
 use Rattle.capn_value.proofs.shared.StaysFit.{fits-trimmed}
 use Rattle.capn_value.proofs.shared.SameTrimmed.{same_exactly_trimmed}
-use Rattle.capn_walk.specs.At.{IsAt}
+use Rattle.capn_walk.specs.ValueAt.{IsAt}
 use Rattle.capn_walk.proofs.shared.Unique.{unique}
 use Rattle.capn_canon.specs.Layout.{words, canon}
 use Rattle.capn_canon.proofs.OneSegment.{here}

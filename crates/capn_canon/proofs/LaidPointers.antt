@@ -10,7 +10,7 @@ use Rattle.capn_value.specs.Tree.{node, Trees, no_trees, tree, count}
 use Rattle.capn_walk.specs.declared.target.Target.TheVariants as targets
 use Rattle.capn_walk.specs.declared.target.Shape.TheVariants as shapes
 use Rattle.capn_walk.specs.Target.{content_words, target}
-use Rattle.capn_walk.specs.At.{AreWords, AreElements, words_from}
+use Rattle.capn_walk.specs.ValueAt.{AreWords, AreElements, words_from}
 use Rattle.capn_canon.proofs.Tight.{Close, TightAt, AreTight}
 use Rattle.capn_canon.specs.Layout.{struct_to, list_to, packed}
 use Rattle.capn_words.proofs.shared.Choices.{if-no}

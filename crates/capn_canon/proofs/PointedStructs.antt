@@ -9,11 +9,11 @@ use Rattle.capn_words.proofs.shared.Pointers.{Fields-only}
 use Rattle.capn_words.specs.declared.pointer.Pointer.TheVariants.{Node}
 use Rattle.capn_value.specs.Tree.{Tree, Trees, no_trees, tree}
 use Rattle.capn_value.specs.Trim.{kept_words}
-use Rattle.capn_value.specs.Sizes.{most_height}
+use Rattle.capn_value.specs.Cost.{most_height}
 use Rattle.capn_walk.specs.declared.target.Shape.TheVariants as shapes
 use Rattle.capn_walk.specs.Target.{moved, target}
-use Rattle.capn_walk.specs.At.{words_from}
-use Rattle.capn_walk.specs.At.{IsInside}
+use Rattle.capn_walk.specs.ValueAt.{words_from}
+use Rattle.capn_walk.specs.ValueAt.{IsInside}
 use Rattle.capn_walk.proofs.shared.Inside.{inside}
 use Rattle.capn_walk.proofs.shared.Segments.{segment-room}
 use Rattle.capn_canon.specs.declared.run.Run.{Run}

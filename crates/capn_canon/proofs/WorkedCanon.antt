@@ -12,7 +12,7 @@ use Rattle.capn_value.specs.Tree.{Tree, node, rows, cap, no_trees, tree, no_bodi
 use Rattle.capn_value.specs.Same.{Same}
 use Rattle.capn_value.specs.declared.tariff.Tariff.TheVariants.{Strict}
 use Rattle.capn_walk.specs.Accepted.{IsAccepted, IsValueOf}
-use Rattle.capn_walk.specs.At.{IsAt}
+use Rattle.capn_walk.specs.ValueAt.{IsAt}
 use Rattle.capn_walk.specs.Limits.{Bounds}
 use Rattle.capn_walk.specs.Stops.{root, root_visits}
 use Rattle.capn_walk.specs.Target.{target}
@@ -23,7 +23,7 @@ use Rattle.capn_canon.specs.declared.refusal.Refusal.TheVariants as refusals
 use Rattle.capn_canon.specs.Denotes.{Denotes, Answers}
 use Rattle.capn_canon.specs.Layout.{words, canon, point}
 use Rattle.capn_canon.specs.Reads.{IsFramed}
-use Rattle.capn_canon.specs.Refused.{IsRefused}
+use Rattle.capn_canon.specs.Refusal.{IsRefused}
 
 -- the usual limits
 abbrev usual : Bounds

@@ -7,12 +7,12 @@ use Rattle.capn_words.proofs.shared.Words.{length-bytes}
 use Rattle.capn_value.specs.Tree.{Tree}
 use Rattle.capn_value.specs.Fits.{Fits}
 use Rattle.capn_value.specs.InRange.{InRange}
-use Rattle.capn_value.specs.Sizes.{cost, height}
+use Rattle.capn_value.specs.Cost.{cost, height}
 use Rattle.capn_value.specs.declared.tariff.Tariff.TheVariants.{Plain}
 use Rattle.capn_walk.specs.Limits.{Bounds}
 use Rattle.capn_canon.specs.Layout.{canon}
 use Rattle.capn_canon.specs.Laws.{CanonIsForm}
-use Rattle.capn_make.specs.Pieces.{framed}
+use Rattle.capn_make.specs.WrittenValue.{framed}
 
 -- limits that a value meets
 limits_of : Tree → Bounds

@@ -10,7 +10,7 @@ use Rattle.capn_stream.specs.Frames.{Frames, FitsTable, entry, table, contents, 
 use Rattle.capn_canon.specs.Layout.{canon}
 use Rattle.capn_canon.specs.Laws.{CanonIsForm}
 use Rattle.capn_make.specs.Laws.{FramedAreFrames}
-use Rattle.capn_make.specs.Pieces.{framed}
+use Rattle.capn_make.specs.WrittenValue.{framed}
 use Rattle.capn_make.proofs.CanonBytes.{canon_bare}
 
 module _ (bytes ws : List ℕ) (bare : IsBare bytes ws) where

@@ -3,8 +3,8 @@ use Rattle.std.proofs.Common.{◌≡◌, ◌⊎◌, inl, inr, List, true, false,
 use Rattle.clap.specs.Words.{Row}
 use Rattle.capn_tool.specs.Meaning.{Means}
 use Rattle.capn_tool.proofs.shared.OneMeaning.{mark}
-use Rattle.capn_tool.specs.declared.orders.Command.{Command}
-use Rattle.capn_tool.specs.declared.orders.Command.TheVariants as commands
+use Rattle.capn_tool.specs.declared.command.Command.{Command}
+use Rattle.capn_tool.specs.declared.command.Command.TheVariants as commands
 use Rattle.capn_archive.specs.declared.order.Archive.{Archive}
 use Rattle.capn_archive.specs.declared.order.Task.{Task}
 use Rattle.capn_archive.specs.declared.order.Task.TheVariants as tasks

@@ -6,8 +6,8 @@ use Rattle.capn_walk.specs.Limits.{Bounds}
 use Rattle.capn_canon.specs.declared.form.Form.{Form}
 use Rattle.capn_tool.specs.Meaning.{Means}
 use Rattle.capn_tool.proofs.shared.OneMeaning.{form_one, limits_one, mark, mark_of, marked, means_one}
-use Rattle.capn_tool.specs.declared.orders.Command.{Command}
-use Rattle.capn_tool.specs.declared.orders.Command.TheVariants as commands
+use Rattle.capn_tool.specs.declared.command.Command.{Command}
+use Rattle.capn_tool.specs.declared.command.Command.TheVariants as commands
 use Rattle.capn_archive.specs.declared.order.Archive.{Archive}
 use Rattle.capn_archive.specs.declared.order.Task.{Task}
 use Rattle.capn_archive.specs.declared.order.Task.TheVariants as tasks

@@ -4,12 +4,12 @@ use Rattle.std.specs.Io.KnownBytes.{Appends, Keeps}
 use Rattle.clap.specs.Words.{Text, subcommand_of, takes}
 use Rattle.clap.specs.declared.error.ErrorKind.{ErrorKind}
 use Rattle.clap.specs.declared.error.ErrorKind.TheVariants as kinds
-use Rattle.capn_words.specs.Watching.{HasBegun}
-use Rattle.capn_tool.specs.Ends.{CarriesOut, Course, IsUntouched}
-use Rattle.capn_tool.specs.Ends as tool
-use Rattle.capn_tool.specs.Status.{status_of}
-use Rattle.capn_tool.specs.Told.{Tells}
-use Rattle.capn_tool.specs.declared.orders.Command.{Command}
+use Rattle.capn_words.specs.Watched.{HasBegun}
+use Rattle.capn_tool.specs.Program.{CarriesOut, Course, IsUntouched}
+use Rattle.capn_tool.specs.Program as tool
+use Rattle.capn_tool.specs.ExitStatus.{status_of}
+use Rattle.capn_tool.specs.FaultText.{Tells}
+use Rattle.capn_tool.specs.declared.command.Command.{Command}
 use Rattle.capn_tool.specs.declared.fault.ToolFault.{ToolFault}
 use Rattle.capn_tool.specs.declared.fault.ToolFault.TheVariants as tool_faults
 use Rattle.capn_archive.specs.Archived.{Archived}
@@ -17,7 +17,7 @@ use Rattle.capn_archive.specs.declared.order.Archive.{Archive}
 use Rattle.capn_archive.specs.declared.fault.ArchiveFault.{ArchiveFault}
 use Rattle.capn_archive.specs.declared.fault.ArchiveFault.TheVariants as faults
 use Rattle.capn_canon.specs.declared.form.Form.{Form}
-use Rattle.capn_make.specs.Made.{Made}
+use Rattle.capn_make.specs.MakeRun.{Made}
 use Rattle.capn_make.specs.declared.fault.MakeFault.{MakeFault}
 use Rattle.capn_make.specs.declared.fault.MakeFault.TheVariants as make_faults
 use Rattle.capn_program.specs.Line.{program_line}

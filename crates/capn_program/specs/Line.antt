@@ -2,7 +2,7 @@
 use Rattle.std.specs.Prelude.{Some, codes, true}
 use Rattle.clap.specs.Words.{App, Rule, Text, new_app, new_rule, with_rule, with_subcommand}
 use Rattle.clap.specs.declared.builder.action.ArgAction.TheVariants as actions
-use Rattle.capn_tool.specs.Line.{form_rule, message_line, pack_line, unpack_line}
+use Rattle.capn_tool.specs.CommandLine.{form_rule, message_line, pack_line, unpack_line}
 
 -- an option of this name that takes no value
 abbrev pub flag_rule : Text → Rule

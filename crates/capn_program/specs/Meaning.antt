@@ -2,8 +2,8 @@
 use Rattle.std.specs.Prelude.{◌≡◌, List, Bool, true, false, Option, Some, None, codes, ⊤}
 use Rattle.clap.specs.Words.{Row, Text, one_of}
 use Rattle.capn_tool.specs.Meaning.{FormIs, LimitsAre, Means}
-use Rattle.capn_tool.specs.declared.orders.Command.{Command}
-use Rattle.capn_tool.specs.declared.orders.Command.TheVariants as commands
+use Rattle.capn_tool.specs.declared.command.Command.{Command}
+use Rattle.capn_tool.specs.declared.command.Command.TheVariants as commands
 use Rattle.capn_archive.specs.declared.order.Archive.{Archive}
 use Rattle.capn_archive.specs.declared.order.Task.{Task}
 use Rattle.capn_archive.specs.declared.order.Task.TheVariants as tasks

@@ -3,8 +3,8 @@ use Rattle.std.specs.Prelude.{◌≡◌, ◌⊎◌, ℕ, List, [], codes, Result
 use Rattle.clap.specs.Words.{IsAmong, Text, fault_of, kind_of, subcommand_of}
 use Rattle.clap.specs.declared.error.ErrorKind.{ErrorKind}
 use Rattle.clap.specs.declared.error.ErrorKind.TheVariants as kinds
-use Rattle.capn_tool.specs.Misuse.{WantsMemory, error_of}
-use Rattle.capn_tool.specs.declared.misuse.Usage.{Usage}
+use Rattle.capn_tool.specs.Usage.{WantsMemory, error_of}
+use Rattle.capn_tool.specs.declared.usage.Usage.{Usage}
 use Rattle.capn_program.specs.Line.{program_line}
 use Rattle.capn_program.specs.Meaning.{MeansOrder}
 use Rattle.capn_program.specs.declared.orders.Order.{Order}

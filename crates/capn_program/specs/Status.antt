@@ -2,7 +2,7 @@
 use Rattle.std.specs.Prelude.{ℕ, Result, Ok, Err}
 use Rattle.capn_archive.specs.declared.fault.ArchiveFault.{ArchiveFault}
 use Rattle.capn_archive.specs.declared.fault.ArchiveFault.TheVariants as faults
-use Rattle.capn_make.specs.Told.{status_of}
+use Rattle.capn_make.specs.FaultText.{status_of}
 use Rattle.capn_make.specs.declared.fault.MakeFault.{MakeFault}
 
 -- 0 where it is done, 1 where a message is refused or was passed over, 3 where it could not be carried out

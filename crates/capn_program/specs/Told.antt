@@ -1,13 +1,13 @@
 -- The texts that tell why a run over an archive did not end as done. (Own.)
 use Rattle.std.specs.Prelude.{ℕ, ◌+◌, ◌≡◌, ◌⊎◌, List, [], ◌∷◌, ◌++◌, codes, Bool, false, Option, Result, Ok, Err}
 use Rattle.std.specs.Fmt.{decimal}
-use Rattle.capn_canon.specs.Told.{refusal_text}
-use Rattle.capn_tool.specs.Told.{TellsLine, fault_line}
+use Rattle.capn_canon.specs.Display.{refusal_text}
+use Rattle.capn_tool.specs.FaultText.{TellsLine, fault_line}
 use Rattle.capn_tool.specs.declared.fault.ToolFault.TheVariants as tool_faults
 use Rattle.capn_archive.specs.declared.position.Position.{Position}
 use Rattle.capn_archive.specs.declared.fault.ArchiveFault.{ArchiveFault}
 use Rattle.capn_archive.specs.declared.fault.ArchiveFault.TheVariants as faults
-use Rattle.capn_make.specs.Told.{fault_text}
+use Rattle.capn_make.specs.FaultText.{fault_text}
 use Rattle.capn_make.specs.declared.fault.MakeFault.{MakeFault}
 
 -- the number of a message, counted from 1, and its offset

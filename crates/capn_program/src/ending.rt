@@ -1,7 +1,7 @@
 //! How a run over an archive ends: its exit status, and the line that tells why.
 
 ghost use Rattle.std.specs.Prelude.{◌≡◌, IfOk, string_bytes, false};
-ghost use Rattle.capn_words.specs.Watching.{inner_of, has_failed};
+ghost use Rattle.capn_words.specs.Watched.{inner_of, has_failed};
 ghost use Rattle.capn_program.specs.Status.{archive_status};
 ghost use Rattle.capn_program.specs.Told as spec;
 ghost use Rattle.capn_program.specs.Told.{TellsArchive, TellsArchiveFault};

@@ -3,7 +3,7 @@
 ghost use Rattle.std.specs.Prelude.{◌≡◌, ◌⊎◌, Bool, true, IfErr, IfOk, IfSome, IsSome, Some, codes, map};
 ghost use Rattle.clap.specs.Words.{FailsBy, HasMatchesOf, fault_of, found_of, kind_of, rows_of, subcommand_of, takes};
 ghost use Rattle.clap.specs.declared.error.ErrorKind.TheVariants as kinds;
-ghost use Rattle.capn_tool.specs.Misuse.{error_of};
+ghost use Rattle.capn_tool.specs.Usage.{error_of};
 ghost use Rattle.capn_archive.specs.declared.order.Archive.{Archive};
 ghost use Rattle.capn_program.specs.Line.{program_line};
 ghost use Rattle.capn_program.specs.Meaning.{AreOptions, FlagIs, MeansOrder};

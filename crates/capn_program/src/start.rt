@@ -3,9 +3,9 @@
 ghost use Rattle.std.specs.Prelude.{◌≡◌, ◌↔◌, Ok, IsTrue, map, false};
 ghost use Rattle.std.specs.Io.KnownBytes.{Keeps};
 ghost use Rattle.clap.specs.Words.{kind_of};
-ghost use Rattle.capn_words.specs.Watching.{inner_of, has_failed};
-ghost use Rattle.capn_tool.specs.Ends.{course};
-ghost use Rattle.capn_tool.specs.Misuse.{error_of};
+ghost use Rattle.capn_words.specs.Watched.{inner_of, has_failed};
+ghost use Rattle.capn_tool.specs.Program.{course};
+ghost use Rattle.capn_tool.specs.Usage.{error_of};
 ghost use Rattle.capn_program.specs.Ends.{Ends, EndsFlushed, EndsUnordered, MakesTexts, RunsOver, ShowsVersion};
 ghost use Rattle.capn_program.specs.Misuse.{WishesVersion};
 

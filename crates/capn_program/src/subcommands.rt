@@ -3,7 +3,7 @@
 ghost use Rattle.std.specs.Prelude.{◌≡◌, IfOk, false};
 ghost use Rattle.clap.specs.Words.{App, app_of, kind_of, rule_of, with_subcommand};
 ghost use Rattle.clap.specs.declared.error.ErrorKind.TheVariants as kinds;
-ghost use Rattle.capn_tool.specs.Line.{HasLine};
+ghost use Rattle.capn_tool.specs.CommandLine.{HasLine};
 ghost use Rattle.capn_program.specs.Line.{archive_line, bytes_line, canonical_line, flag_rule, make_line};
 ghost use Rattle.capn_program.specs.Line.{messages_line, program_line, reading_line, surveying_line, top_line};
 

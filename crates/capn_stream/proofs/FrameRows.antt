@@ -2,7 +2,7 @@
 use Rattle.std.proofs.Common.{◌≡◌, ℕ, List, [], ◌∷◌, refl}
 use Rattle.capn_words.specs.Words.{word_bytes}
 use Rattle.capn_stream.specs.Frames.{entry, frame_text}
-use Rattle.capn_stream.specs.Reading.{announced_segments, announced_words, entry_number, frame_length, head_length}
+use Rattle.capn_stream.specs.FrameRefusal.{announced_segments, announced_words, entry_number, frame_length, head_length}
 
 -- a struct of one word, which is 5
 struct_of_one_word : List (List ℕ)

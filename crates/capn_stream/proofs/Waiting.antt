@@ -9,7 +9,7 @@ use Rattle.capn_words.proofs.shared.Words.{AreBytes-drop, bytes_of_words, words_
 use Rattle.capn_stream.specs.Cuts.{AreEnds, cut}
 use Rattle.capn_stream.specs.Frames.{Frames, StandsFirst}
 use Rattle.capn_stream.specs.Framing.{FeedGives, IsFrame, IsUnfinished, TakeGives}
-use Rattle.capn_stream.specs.Reading.{IsWhole, announced_segments, announced_words, frame_length, head_length}
+use Rattle.capn_stream.specs.FrameRefusal.{IsWhole, announced_segments, announced_words, frame_length, head_length}
 use Rattle.capn_stream.specs.inner.Stages.{Fills, IsDone, IsStage, IsStop, Knows, Rests, announced_ends, need}
 use Rattle.capn_stream.specs.declared.fault.FrameFault.{FrameFault}
 use Rattle.capn_stream.specs.declared.fault.FrameFault.TheVariants.{Memory, Empty, TooManySegments, TooManyWords, Cut}

@@ -9,7 +9,7 @@ use Rattle.capn_walk.specs.Limits.{Bounds}
 use Rattle.capn_canon.specs.declared.form.Form.TheVariants as forms
 use Rattle.capn_canon.specs.declared.refusal.Refusal.TheVariants as refusals
 use Rattle.capn_tool.specs.inner.ReadInput.{HasGivenAll, IsBeginning, IsShortBare, IsUntaken, TakesAll}
-use Rattle.capn_tool.specs.Wholes.{Gives, MakesNothing}
+use Rattle.capn_tool.specs.WholeInput.{Gives, MakesNothing}
 use Rattle.capn_tool.specs.declared.input.Input.{Input}
 use Rattle.capn_tool.specs.declared.plan.Piece.{Piece}
 use Rattle.capn_tool.specs.declared.plan.Whole.{Whole}

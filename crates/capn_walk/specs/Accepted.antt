@@ -2,14 +2,14 @@
 use Rattle.std.specs.Prelude.{◌≡◌, ◌⊎◌, ℕ, ◌+◌, ◌<◌, ◌≤◌, List, length}
 use Rattle.capn_words.specs.Message.{segment_at}
 use Rattle.capn_words.specs.declared.space.Place.{Place}
-use Rattle.capn_value.specs.Sizes.{base}
+use Rattle.capn_value.specs.Cost.{base}
 use Rattle.capn_value.specs.Tree.{Tree}
 use Rattle.capn_walk.specs.declared.target.Fault.{Fault}
 use Rattle.capn_walk.specs.declared.target.Fault.TheVariants as faults
 use Rattle.capn_walk.specs.Visits.{Visit}
 use Rattle.capn_walk.specs.Stops.{IsWithin, IsStop, paid_of, root, root_visits}
 use Rattle.capn_walk.specs.Limits.{Bounds}
-use Rattle.capn_walk.specs.At.{IsAt}
+use Rattle.capn_walk.specs.ValueAt.{IsAt}
 
 -- the visits of a walk from the root, priced by the tariff of the limits and as deep as they go
 abbrev pub visits_within : List (List ℕ) → Bounds → List Visit

@@ -18,7 +18,7 @@ use Rattle.capn_walk.specs.Stops.{root}
 use Rattle.capn_walk.specs.Visits.{Visit, pays, fails}
 use Rattle.capn_walk.specs.Accepted.{IsAccepted, visits_within, paid, number_of_visits}
 use Rattle.capn_walk.specs.Limits.{Bounds}
-use Rattle.capn_walk.specs.Viewed.{slots_below, kind_of_list, IsInMessage}
+use Rattle.capn_walk.specs.View.{slots_below, kind_of_list, IsInMessage}
 
 -- what an entry says of what a pointer names, with the number of entries that the slot takes
 abbrev pub entry_of : Target → ℕ → Entry

@@ -3,6 +3,6 @@ pub mod Words
 pub mod Message
 pub mod Fields
 pub mod Pointers
-pub mod Watching
+pub mod Watched
 pub mod Laws
-pub mod Told
+pub mod Display

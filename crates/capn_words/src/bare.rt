@@ -21,7 +21,7 @@ pub enum BareFault {
 
 impl fmt::Display for BareFault {
     ghost use Rattle.std.specs.Prelude.{Some};
-    ghost use Rattle.capn_words.specs.Told.{bare_text};
+    ghost use Rattle.capn_words.specs.Display.{bare_text};
 
     ghost output = { λ fault. Some (bare_text fault) };
 

@@ -7,7 +7,7 @@ use Rattle.capn_pack.proofs.shared.GroupLaws.{one_reading}
 use Rattle.capn_stream.proofs.shared.FrameLaws.{one_frame, stands_alone}
 use Rattle.capn_value.specs.Tree.{Tree}
 use Rattle.capn_walk.specs.Stops.{root}
-use Rattle.capn_walk.specs.At.{IsAt}
+use Rattle.capn_walk.specs.ValueAt.{IsAt}
 use Rattle.capn_walk.specs.Limits.{Bounds}
 use Rattle.capn_walk.proofs.shared.Unique.{unique}
 use Rattle.capn_canon.specs.declared.form.Form.{Form}

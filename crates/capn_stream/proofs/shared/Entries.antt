@@ -11,7 +11,7 @@ use Rattle.byteorder.specs.Endian.{little_from}
 use Rattle.byteorder.specs.Numbers.{little_from-take, little_number-reads_back}
 use Rattle.capn_words.specs.Words.{AreBytes}
 use Rattle.capn_stream.specs.Frames.{entry}
-use Rattle.capn_stream.specs.Reading.{entry_number, entries}
+use Rattle.capn_stream.specs.FrameRefusal.{entry_number, entries}
 
 -- ---- parts of lists
 

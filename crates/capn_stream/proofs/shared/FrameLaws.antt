@@ -12,8 +12,8 @@ use Rattle.capn_words.specs.Words.{AreBytes, AreWords}
 use Rattle.capn_words.proofs.shared.Words.{bytes-injective, length-bytes}
 use Rattle.capn_stream.specs.Cuts.{cut, ends_from}
 use Rattle.capn_stream.specs.Frames.{FitsTable, Frames, StandsFirst, contents, entry, padding}
-use Rattle.capn_stream.specs.Reading.{IsRefused, IsWhole, announced_segments, announced_words, entries}
-use Rattle.capn_stream.specs.Reading.{entry_number, frame_length, head_length}
+use Rattle.capn_stream.specs.FrameRefusal.{IsRefused, IsWhole, announced_segments, announced_words, entries}
+use Rattle.capn_stream.specs.FrameRefusal.{entry_number, frame_length, head_length}
 use Rattle.capn_stream.specs.declared.fault.FrameFault.{FrameFault}
 use Rattle.capn_stream.specs.declared.fault.FrameFault.TheVariants.{Memory, Empty, TooManySegments, TooManyWords, Cut}
 use Rattle.capn_stream.specs.declared.fault.FrameFault.TheVariants.{Failed}

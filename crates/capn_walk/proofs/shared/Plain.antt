@@ -5,7 +5,7 @@ use Rattle.std.specs.Bool.{⊤}
 use Rattle.std.specs.List.{flat_map}
 use Rattle.capn_words.specs.declared.space.Place.{Place}
 use Rattle.capn_words.proofs.shared.Choices.{pick}
-use Rattle.capn_value.specs.Sizes.{base}
+use Rattle.capn_value.specs.Cost.{base}
 use Rattle.capn_walk.specs.declared.target.Target.{Target}
 use Rattle.capn_walk.specs.declared.target.Target.TheVariants as targets
 use Rattle.capn_walk.specs.declared.target.Fault.{Fault}

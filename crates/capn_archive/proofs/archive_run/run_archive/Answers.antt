@@ -1,5 +1,5 @@
 use Rattle.std.proofs.Common.{Result, Err, sym, subst}
-use Rattle.capn_words.specs.Watching.{inner_of, has_failed}
+use Rattle.capn_words.specs.Watched.{inner_of, has_failed}
 use Rattle.capn_archive.specs.Archived.{Archived}
 use Rattle.capn_archive.specs.declared.fault.ArchiveFault.{ArchiveFault}
 use Rattle.capn_archive.proofs.Closings.{archived_closed, archived_stopped, archived_unclosed}

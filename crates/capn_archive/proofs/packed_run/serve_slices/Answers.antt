@@ -1,7 +1,7 @@
 use Rattle.std.proofs.Common.{ℕ, List, subst, arith}
 use Rattle.std.proofs.Math.Seq.{take_all}
 use Rattle.std.proofs.lemmas.Result.{err_from_is_err_and}
-use Rattle.capn_words.specs.Watching.{inner_of}
+use Rattle.capn_words.specs.Watched.{inner_of}
 use Rattle.capn_archive.specs.Fold.{fold_of}
 use Rattle.capn_archive.specs.Sending.{outgoing}
 use Rattle.capn_archive.specs.PackedServing.{TellsPacked, pending}

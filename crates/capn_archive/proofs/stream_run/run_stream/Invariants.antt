@@ -1,5 +1,5 @@
 use Rattle.std.proofs.Common.{◌≡◌, ◌≤◌, ◌+◌, ◌-◌, false}
-use Rattle.capn_words.specs.Watching.{inner_of, has_failed}
+use Rattle.capn_words.specs.Watched.{inner_of, has_failed}
 use Rattle.capn_archive.specs.Fold.{fold_of}
 use Rattle.capn_archive.specs.Serving.{IsListening}
 use Rattle.capn_archive.specs.StreamRun.{Hears}

@@ -3,11 +3,11 @@ use Rattle.std.proofs.Common.{IsErrAnd, map, refl, sym, ap, subst, ◌∙◌}
 use Rattle.clap.specs.Words.{HasKind, Row, Text, fault_of, kind_of, subcommand_of}
 use Rattle.clap.specs.declared.error.Error.{Error}
 use Rattle.clap.specs.declared.error.ErrorKind.TheVariants as kinds
-use Rattle.capn_tool.specs.declared.misuse.Usage.{Usage}
+use Rattle.capn_tool.specs.declared.usage.Usage.{Usage}
 use Rattle.capn_program.specs.declared.orders.Order.{Order}
 use Rattle.capn_program.specs.Meaning.{MeansOrder}
 use Rattle.capn_program.specs.Line.{program_line}
-use Rattle.capn_tool.specs.Misuse.{error_of}
+use Rattle.capn_tool.specs.Usage.{error_of}
 use Rattle.capn_program.specs.Misuse.{IsReason, Orders}
 use Rattle.capn_program.proofs.OneOrder.{means_one_order}
 use Rattle.capn_tool.proofs.shared.Entered.{entered, not_entered}

@@ -1,5 +1,5 @@
 use Rattle.clap.specs.Words.{kind_of}
-use Rattle.capn_tool.specs.Misuse.{error_of}
+use Rattle.capn_tool.specs.Usage.{error_of}
 use Rattle.capn_program.proofs.Shown.{ends_otherwise, ends_version}
 use Rattle.capn_program.proofs.start.end_unordered.Goals as goal
 

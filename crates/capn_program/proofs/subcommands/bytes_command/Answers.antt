@@ -1,4 +1,4 @@
-use Rattle.capn_tool.specs.Line.{pack_line, unpack_line}
+use Rattle.capn_tool.specs.CommandLine.{pack_line, unpack_line}
 use Rattle.capn_program.specs.Line.{messages_line}
 use Rattle.capn_program.proofs.subcommands.bytes_command.Goals as goal
 
