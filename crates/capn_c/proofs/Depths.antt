@@ -3,7 +3,7 @@ use Rattle.std.proofs.Common.{◌≡◌, inl, inr, ℕ, zero, suc, ◌<◌, List
 use Rattle.capn_words.specs.Message.{segment_at}
 use Rattle.capn_words.specs.declared.space.Place.{Place}
 use Rattle.capn_value.specs.Cost.{base}
-use Rattle.capn_walk.specs.Accepted.{IsAccepted, IsRefused, number_of_visits, visits_within}
+use Rattle.capn_walk.specs.Accepted.{IsAccepted, IsWalkRefused, number_of_visits, visits_within}
 use Rattle.capn_walk.specs.Limits.{Bounds}
 use Rattle.capn_walk.specs.Stops.{IsWithin, root, root_visits, visits_at_root}
 use Rattle.capn_walk.specs.Target.{target}
@@ -68,7 +68,7 @@ some_visit m limits =
 
 -- what is refused is not accepted
 pub refused_not : (m : List (List ℕ)) (limits : Bounds) (e : Fault) (at : Place) (p k : ℕ)
-    → IsRefused m limits e at p k → IsAccepted m limits → ⊥
+    → IsWalkRefused m limits e at p k → IsAccepted m limits → ⊥
 refused_not m limits e at p k (inl none) a = absurd (omega (arith, none.0, a.some))
 refused_not m limits e at p k (inr stop) a =
     never-both limits.budget (visits_within m limits) e at p k a.within stop.1

@@ -12,7 +12,7 @@ ghost use Rattle.capn_canon.specs.MemoryNeed.{MayWantMemory};
 ghost use Rattle.capn_canon.specs.declared.form.Form.TheVariants as forms;
 ghost use Rattle.capn_canon.specs.declared.refusal.Refusal.{Refusal as Refusals};
 ghost use Rattle.capn_c.specs.Calls.{form_named, GiveLimits, IsTariff, bounds_of};
-ghost use Rattle.capn_c.specs.StatusCodes.{Tells, answered, at_number, is_status};
+ghost use Rattle.capn_c.specs.StatusCodes.{Reports, answered, at_number, is_status};
 ghost use Rattle.capn_c.specs.Entries.{IndexedIn, c_index};
 ghost use Rattle.capn_c.specs.Figures.{IsFlat};
 
@@ -21,7 +21,7 @@ use crate::frame_need::head_of;
 use crate::limits::{CapnLimits, flat_form_of, limits_of};
 use crate::report::{CapnReport, answer_of, report_at};
 use crate::status_codes::{BAD_FORM, DONE, NO_ROOM, refuse};
-use capn_canon::{Form, Refusal, account};
+use capn_canon::{Form, Refusal, survey_bytes};
 use capn_stream::first;
 use capn_walk::{Entry, Limits, Surveyed, index_into};
 use capn_words::{Bare, Space};
@@ -147,13 +147,14 @@ fn index_in(
     ensures no_room { result ≡ 1 → length out.old < report.new.visits }
     ensures only { (v : Value) → Denotes form bytes.now limits v → (result ≤ 1) ⊎ (result ≡ 8) }
     ensures listed { IsTrue (is_status result) }
-    ensures refused { 8 ≤ result → (e : Refusals) × Tells result report.new e × IsUnacceptedIn form bytes.now limits e }
+    ensures refused { 8 ≤ result → (e : Refusals) × Reports result report.new e
+        × IsUnacceptedIn form bytes.now limits e }
     ensures wanted { result ≡ 8 → MayWantMemory form bytes.now limits
         ⊎ ((0 < length out.old) × (v : Value) × Denotes form bytes.now limits v) }
     ensures bounded { IsBounded limits.budget report.new.paid report.new.visits }
     ensures kept { result ≢ 0 → out.new ≡ out.old }
 {
-    match account(alloc, form, bytes, limits) {
+    match survey_bytes(alloc, form, bytes, limits) {
         Ok(surveyed) => {
             *report = report_of_index(surveyed);
             if surveyed.visits as usize > out.len() {
@@ -202,7 +203,7 @@ pub extern "C" fn capn_index(
     ensures blank { 2 ≤ result → result ≤ 4 → report.new ≡ at_number 0 }
     ensures listed { IsTrue (is_status result) }
     // What each refusal means; no other status stands for it.
-    ensures refused { 5 ≤ result → (e : Refusals) × Tells result report.new e
+    ensures refused { 5 ≤ result → (e : Refusals) × Reports result report.new e
         × IsUnacceptedIn (form_named form) bytes.now (bounds_of limits.now) e }
     // Memory is needed only where `capn_check` may need it, and for the entries of a message that is accepted.
     ensures wanted { result ≡ 8 → MayWantMemory (form_named form) bytes.now (bounds_of limits.now)

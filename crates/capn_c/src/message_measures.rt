@@ -10,7 +10,7 @@ ghost use Rattle.capn_canon.specs.MemoryNeed.{MayWantMemory};
 ghost use Rattle.capn_canon.specs.declared.form.Form.TheVariants as forms;
 ghost use Rattle.capn_c.specs.Figures.{AreMeasures, IsCanonicalMessage, IsDepth, MeasuresIn, at_depth};
 
-use capn_canon::check;
+use capn_canon::survey_bare;
 use capn_stream::first;
 use capn_walk::{Fault, Limits, Target, resolve, survey};
 use capn_words::{Bare, Place, Space};
@@ -124,7 +124,7 @@ fn is_canonical_bare(alloc: Global, space: &Bare<'_>, limits: Limits) -> Option<
     ensures found { IfSome result (λ yes. IsTrue yes ↔ IsCanonicalMessage (space.now ∷ []) limits) }
     ensures wanted { (v : Value) → IsValueOf (space.now ∷ []) limits v → result ≡ None → 64 < limits.depth }
 {
-    match check(alloc, space, limits) {
+    match survey_bare(alloc, space, limits) {
         Ok(checked) => Some(checked.is_canonical),
         Err(_) => None,
     }

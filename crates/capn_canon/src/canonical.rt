@@ -61,7 +61,7 @@ fn bytes_of<S: Space, A: Allocator>(
 }
 
 /// The canonical bytes of a message, read as it is.
-fn canonical_in<A: Allocator + Copy, S: Space>(
+fn canonical_of_inner<A: Allocator + Copy, S: Space>(
     alloc: A,
     space: &S,
     limits: Limits,
@@ -90,7 +90,7 @@ fn canonical_in<A: Allocator + Copy, S: Space>(
 }
 
 /// The same: a message of one segment is read as its bytes alone, which is faster.
-fn canonical_here<A: Allocator + Copy, S: Space>(
+fn canonical_by_segments<A: Allocator + Copy, S: Space>(
     alloc: A,
     space: &S,
     limits: Limits,
@@ -100,10 +100,10 @@ fn canonical_here<A: Allocator + Copy, S: Space>(
     let words = space.words(0).unwrap_or(0);
     if space.segments() == 1 {
         if let Ok(bare) = Bare::new(space.bytes(ROOT, 8 * words as usize)) {
-            return canonical_in(alloc, &bare, limits);
+            return canonical_of_inner(alloc, &bare, limits);
         }
     }
-    canonical_in(alloc, space, limits)
+    canonical_of_inner(alloc, space, limits)
 }
 
 /// The canonical bytes of the value that a message denotes within the limits.
@@ -144,5 +144,5 @@ pub fn canonical_of<A: Allocator + Copy, S: Space>(
     let _segments = space.segments();
     let _budget = limits.budget();
     let _depth = limits.depth();
-    canonical_here(alloc, space, limits)
+    canonical_by_segments(alloc, space, limits)
 }

@@ -87,7 +87,7 @@ fn in_form<A: Allocator + Copy>(
 ///
 /// It refuses as [`crate::canonicalise`] does, but never for a capability. `Memory` comes only where a growth was
 /// refused: for the table of segments, for what is unpacked, or for a depth above 64.
-pub fn account<A: Allocator + Copy>(
+pub fn survey_bytes<A: Allocator + Copy>(
     alloc: A,
     form: Form,
     bytes: &[u8],

@@ -8,7 +8,7 @@ use Rattle.capn_words.specs.Watched.{HasBegun}
 use Rattle.capn_tool.specs.Program.{CarriesOut, Course, IsUntouched}
 use Rattle.capn_tool.specs.Program as tool
 use Rattle.capn_tool.specs.ExitStatus.{status_of}
-use Rattle.capn_tool.specs.FaultText.{Tells}
+use Rattle.capn_tool.specs.FaultText.{ReportsEnding}
 use Rattle.capn_tool.specs.declared.command.Command.{Command}
 use Rattle.capn_tool.specs.declared.fault.ToolFault.{ToolFault}
 use Rattle.capn_tool.specs.declared.fault.ToolFault.TheVariants as tool_faults
@@ -35,7 +35,7 @@ pub record EndsMessage (words : List Text) (input output errors : Course) (statu
   pub outcome : Result (Unit {0}) ToolFault
   pub means : MeansOrder (subcommand_of program_line words) (orders.Message command)
   pub run : CarriesOut command input output outcome
-  pub told : Tells outcome errors.before errors.after errors.failed
+  pub told : ReportsEnding outcome errors.before errors.after errors.failed
   pub is : status ≡ status_of outcome
 
 -- After a flush a run that was done ends as it did, or with the fault of an output that failed, if the flush failed.
@@ -99,7 +99,7 @@ ShowsVersion output (Err (tool_faults.Refused refusal)) = ⊥
 pub record EndsVersion (output errors : Course) (status : ℕ) : Type 0 where
   pub outcome : Result (Unit {0}) ToolFault
   pub shown : ShowsVersion output outcome
-  pub told : Tells outcome errors.before errors.after errors.failed
+  pub told : ReportsEnding outcome errors.before errors.after errors.failed
   pub is : status ≡ status_of outcome
 
 -- The words order nothing, for a reason of this kind: the version is wished for, or memory was refused, help is wished

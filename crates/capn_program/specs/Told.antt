@@ -2,7 +2,7 @@
 use Rattle.std.specs.Prelude.{ℕ, ◌+◌, ◌≡◌, ◌⊎◌, List, [], ◌∷◌, ◌++◌, codes, Bool, false, Option, Result, Ok, Err}
 use Rattle.std.specs.Fmt.{decimal}
 use Rattle.capn_canon.specs.Display.{refusal_text}
-use Rattle.capn_tool.specs.FaultText.{TellsLine, fault_line}
+use Rattle.capn_tool.specs.FaultText.{WritesLine, fault_line}
 use Rattle.capn_tool.specs.declared.fault.ToolFault.TheVariants as tool_faults
 use Rattle.capn_archive.specs.declared.position.Position.{Position}
 use Rattle.capn_archive.specs.declared.fault.ArchiveFault.{ArchiveFault}
@@ -31,7 +31,7 @@ archive_fault_line fault = codes "capn: " ++ archive_text fault ++ 10 ∷ []
 -- the line of a fault was written, or that of refused memory where there was none for the line
 abbrev pub TellsArchiveFault : ArchiveFault → Option (List ℕ) → Option (List ℕ) → Bool → Type 0
 TellsArchiveFault fault old new failed =
-    TellsLine (archive_fault_line fault) old new failed ⊎ TellsLine (fault_line tool_faults.Memory) old new failed
+    WritesLine (archive_fault_line fault) old new failed ⊎ WritesLine (fault_line tool_faults.Memory) old new failed
 
 -- why a run over an archive ended so has been told: nothing where it is done, and else its fault
 abbrev pub TellsArchive : Result (Unit {0}) ArchiveFault → Option (List ℕ) → Option (List ℕ) → Bool → Type 0
@@ -45,7 +45,7 @@ make_fault_line fault = codes "capn: " ++ fault_text fault ++ 10 ∷ []
 -- the line of a fault was written, or that of refused memory where there was none for the line
 abbrev pub TellsMakeFault : MakeFault → Option (List ℕ) → Option (List ℕ) → Bool → Type 0
 TellsMakeFault fault old new failed =
-    TellsLine (make_fault_line fault) old new failed ⊎ TellsLine (fault_line tool_faults.Memory) old new failed
+    WritesLine (make_fault_line fault) old new failed ⊎ WritesLine (fault_line tool_faults.Memory) old new failed
 
 -- why a run over texts ended so has been told: nothing where it is done, and else its fault
 abbrev pub TellsMake : Result (Unit {0}) MakeFault → Option (List ℕ) → Option (List ℕ) → Bool → Type 0

@@ -49,11 +49,11 @@ IsPiece kinds.Digest message limits text =
 abbrev pub IsStopped : List (List ℕ) → Bounds → ToolFault → Type 0
 IsStopped message limits fault =
     (s : Stopped) × (fault ≡ faults.Refused (refusals.Walk s))
-    × walks.IsRefused message limits s.fault s.place s.paid s.visits
+    × walks.IsWalkRefused message limits s.fault s.place s.paid s.visits
 
 -- why a run stops if its walk has stopped like this: memory ran out if and only if it did for the walk
-abbrev pub TellsStop : Stopped → ToolFault → Type 0
-TellsStop s fault =
+abbrev pub IsStopOf : Stopped → ToolFault → Type 0
+IsStopOf s fault =
     ((s.fault ≡ walk_faults.Memory) × (fault ≡ faults.Memory))
     ⊎ ((s.fault ≢ walk_faults.Memory) × (fault ≡ faults.Refused (refusals.Walk s)))
 

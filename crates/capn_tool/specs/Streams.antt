@@ -77,7 +77,7 @@ behind_packed false (b ∷ rest) at = Some (faults.Refused (refusals.Packed (cut
 -- no whole frame stands first in what is left, and the run ends so
 abbrev pub EndsUnframed : Bounds → List ℕ → Option ToolFault → Result (Unit {0}) ToolFault → Type 0
 EndsUnframed limits rest behind ending =
-    (e : FrameFault) × (e ≢ frame_faults.Memory) × frames.IsRefused rest limits.message_words e
+    (e : FrameFault) × (e ≢ frame_faults.Memory) × frames.IsFrameRefused rest limits.message_words e
     × (ending ≡ end_of e behind)
 
 -- a message stands first in what is left that has no piece, and the run ends with that reason

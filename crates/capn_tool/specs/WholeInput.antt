@@ -32,7 +32,7 @@ abbrev pub MakesNothing : Whole → List ℕ → ToolFault → Type 0
 MakesNothing wholes.Packed bytes fault = (length bytes % 8 ≢ 0) × (fault ≡ faults.NotWhole (length bytes))
 MakesNothing (wholes.Unpacked most) bytes fault =
     (e : UnpackFault) × (fault ≡ faults.Refused (refusals.Packed e)) × (e ≢ unpack_faults.Memory)
-    × packs.IsRefused bytes most e
+    × packs.IsUnpackRefused bytes most e
 MakesNothing (wholes.Canonical form limits) bytes fault =
     (r : Refusal) × (fault ≡ faults.Refused r) × (r ≢ refusals.Memory) × IsRefused form bytes limits r
 MakesNothing (wholes.Bare piece limits) bytes fault =

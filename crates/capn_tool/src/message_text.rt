@@ -11,7 +11,7 @@ ghost use Rattle.capn_tool.specs.declared.plan.Piece.TheVariants as kinds;
 
 use crate::fault::ToolFault;
 use crate::plan::Piece;
-use capn_canon::{Refusal, canonical_of, check};
+use capn_canon::{Refusal, canonical_of, survey_bare};
 use capn_value::{Tree, show};
 use capn_walk::{Limits, survey, walk};
 use capn_words::{Bare, Space};
@@ -123,7 +123,7 @@ fn put_verdict<A: Allocator + Copy>(
 ) -> Result<(), ToolFault>
     ensures { PutsBarePiece kinds.Price space.now limits text.old.items text.new.items result }
 {
-    let checked = check(alloc, space, limits)?;
+    let checked = survey_bare(alloc, space, limits)?;
     if checked.is_canonical {
         return put_priced(text, checked.paid, checked.visits, b" canonical\n");
     }

@@ -10,7 +10,8 @@ use Rattle.capn_text.specs.declared.fault.TextFault.{TextFault}
 use Rattle.capn_text.specs.declared.fault.TextFault.TheVariants as texts
 use Rattle.capn_canon.specs.declared.form.Form.{Form}
 use Rattle.capn_make.specs.WrittenValue.{IsMakeable, IsPiece, AreMade}
-use Rattle.capn_make.specs.MadeInput.{AreFirst, IsRefused, IsNotOne, Follows, Makes, MakesEach, MakesOne, line_after}
+use Rattle.capn_make.specs.MadeInput.{AreFirst, IsTextRefused, IsNotOne, Follows, Makes, MakesEach, MakesOne}
+use Rattle.capn_make.specs.MadeInput.{line_after}
 use Rattle.capn_make.specs.MakeRun.{HasBegunEach, HasBegunOne, HasBegunText}
 use Rattle.capn_make.specs.declared.fault.MakeFault.{MakeFault}
 use Rattle.capn_make.specs.declared.fault.MakeFault.TheVariants as faults
@@ -39,7 +40,7 @@ MakesNext form old new (Ok None) = old.rest ≡ []
 MakesNext form old new (Ok (Some piece)) = (v : Tree) × IsMakeable v
     × (old.rest ≡ show_text v ++ (end_line ++ new.rest)) × IsPiece form v piece.items
     × (new.line + ended_lines new.rest ≡ old.line + ended_lines old.rest)
-MakesNext form old new (Err fault) = (fault ≡ faults.Memory) ⊎ IsRefused old.line old.rest fault
+MakesNext form old new (Err fault) = (fault ≡ faults.Memory) ⊎ IsTextRefused old.line old.rest fault
 
 -- all texts up to a place were made and written
 pub record HasMade (form : Form) (input : List ℕ) (place : Place) (old new : Option (List ℕ)) : Type 0 where

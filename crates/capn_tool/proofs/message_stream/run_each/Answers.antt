@@ -4,7 +4,7 @@ use Rattle.std.proofs.KnownBytes.{Consumes-nil}
 use Rattle.capn_words.specs.Watched.{inner_of}
 use Rattle.capn_walk.specs.Limits.{Bounds}
 use Rattle.capn_stream.specs.Framing.{Framing, IsUnfinished}
-use Rattle.capn_tool.specs.StreamRun.{EndsInput, Hears, Tells}
+use Rattle.capn_tool.specs.StreamRun.{EndsInput, Hears, Writes}
 use Rattle.capn_tool.specs.Outgoing.{sent}
 use Rattle.capn_tool.specs.declared.plan.Piece.{Piece}
 use Rattle.capn_tool.proofs.HeardMore.{tells_none}
@@ -20,7 +20,7 @@ nothing_heard piece limits a c rest is = (
   [],
   Consumes-nil a,
   refl,
-  subst (λ (l : List ℕ). Tells piece limits [] l (sent c) (sent c)) (sym is) (tells_none piece limits [] (sent c)),
+  subst (λ (l : List ℕ). Writes piece limits [] l (sent c) (sent c)) (sym is) (tells_none piece limits [] (sent c)),
 )
 
 pub returns-in-Err : goal.returns-in-Err
