@@ -73,7 +73,7 @@ impl Unpacker {
             → Begins (self.old.rest ++ piece.now) out.old.items out.new.items
             × (self.new.failed ≡ true) }
         // Memory is needed only if a group became whole.
-        ensures wanted { IsErrOf result UnpackFault.Memory → NoGroupFirst (self.old.rest ++ piece.now) → ⊥ }
+        ensures memory { IsErrOf result UnpackFault.Memory → NoGroupFirst (self.old.rest ++ piece.now) → ⊥ }
         // After a refusal nothing changes any more.
         ensures failed { self.old.failed ≡ true → (result ≡ Err UnpackFault.Failed)
             × (out.new.items ≡ out.old.items) × (self.new ≡ self.old) }
