@@ -1,11 +1,11 @@
 #!/usr/bin/env python3
 """Moves and renames files of the libraries, and words of their definitions, by the tables below.
 
-    house.py STEP [TREE]    STEP is `statements`, `rooms` or `words`; TREE is the root of the repository, or `.`
+    house.py STEP [TREE]    STEP is `statements`, `rooms`, `words` or `clauses`; TREE is the root of the repository, or `.`
 
 `statements`: specs/ keeps statements alone. The proofs of laws, specs/Laws/X, go to proofs/shared/X, and what no public
 clause cites goes to specs/inner/X. `rooms`: files of src/, specs/ and proofs/ get the names of the tables, with the
-folders of proofs that belong to them. `words`: definitions, functions and types get theirs.
+folders of proofs that belong to them. `words`: definitions, functions and types get theirs. `clauses`: clauses on memory get one name for each promise.
 
 Each step can be run again: what is not there, or has its new name already, is passed over, and said. So it can be run
 over a tree that has more crates: `statements` goes over all crates that it finds, the tables name theirs. No step runs
@@ -201,6 +201,9 @@ WORDS = [
     ("capn_canon", "specs.inner.WordsOfLayout", "Tells", "AnswersIf"),
     ("capn_canon", "specs.BareVerdict", "IsCheck", "IsBareSurvey"),
     ("capn_canon", "specs.BareVerdict", "Checks", "SaysCanonical"),
+    ("capn_canon", "specs.MemoryNeed", "MayWantMemory", "MayNeedMemory"),
+    ("capn_canon", "specs.MemoryNeed", "MayWantBytes", "MayNeedBytes"),
+    ("capn_canon", "specs.MemoryNeed", "MayWantBytesIn", "MayNeedBytesIn"),
     ("capn_make", "specs.MadeInput", "IsRefused", "IsTextRefused"),
     ("capn_tool", "specs.FaultText", "Tells", "ReportsEnding"),
     ("capn_tool", "specs.FaultText", "TellsLine", "WritesLine"),
@@ -233,6 +236,15 @@ FUNCTIONS = [
     ("capn_c", "is_canonical_call", "judge", "test"),
 ]
 
+# Names of clauses, in this order: crate or None for all, old, new, and what the clause says where not every one of that
+# name is meant. `memory` says where memory may be asked for, `no_memory` where it never is, `begun` what is left without.
+CLAUSES = [
+    ("capn_walk", "memory", "no_memory", "≢ Memory"),
+    ("capn_pack", "memory", "begun", "Append"),
+    (None, "wanted", "memory", ""),
+    (None, "inline", "no_memory", ""),
+]
+
 # Sentences of pages that name files in another way: step, page, old, new.
 SENTENCES = [
     ("rooms", "docs/VERIFY.md", "`walked.rt` of capn_walk", "`walk_answer.rt` of capn_walk"),
@@ -242,6 +254,14 @@ SENTENCES = [
     ("rooms", "docs/CONTRIBUTING.md", "`capn_tool/src/` the same, and `plan.rt`",
      "`capn_tool/src/subcommands.rt`, `command_line.rt`, `command.rt`, `help.rt`, `plan.rt`"),
     ("words", "docs/ARCHITECTURE.md", "`account`, `is_canonical`", "`survey_bytes`, `is_canonical`"),
+    ("words", "docs/PROMISES.md", "- `account` surveys bytes", "- `survey_bytes` surveys bytes"),
+    ("words", "docs/PROMISES.md", "`account` answers for", "`survey_bytes` answers for"),
+    ("words", "docs/PROMISES.md", "`account` wants it only where `MayWantMemory` says",
+     "`survey_bytes` needs it only where `MayNeedMemory` says"),
+    ("words", "docs/PROMISES.md", "`check` tells that of a bare message beside", "`survey_bare` answers that of a bare message beside"),
+    ("words", "docs/CHANGES.md", "`account`, `check` and `is_canonical`", "`survey_bytes`, `survey_bare` and `is_canonical`"),
+    ("words", "docs/DECISIONS.md", "- **What is `account` for?**", "- **What is `survey_bytes` for?**"),
+    ("words", "docs/VERIFY.md", "| `canonical_in`, ", "| `canonical_of_inner`, "),
 ]
 
 # ---- the tree
@@ -778,6 +798,31 @@ def words():
         renamed_function(*entry)
 
 
+# ---- the step `clauses`
+
+def clauses():
+    """Clauses get new names, in contracts, in the goals and answers of proofs, and on the pages that list clauses."""
+    for crate, old, new, says in CLAUSES:
+        count = 0
+        for path in code():
+            if crate and path.split("/")[1] != crate:
+                continue
+            text = read(path)
+            if path.endswith(".rt"):
+                fresh = re.sub(rf"\bensures {old} (\{{(?:[^\n]|\n(?!\s*(?:ensures|requires|\{{|//)))*)",
+                               lambda found: f"ensures {new if says in found[1] else old} {found[1]}", text)
+            else:
+                fresh = re.sub(rf"\b(clause-|ensures\.){old}(?![\w'-])", rf"\g<1>{new}", text)
+            if fresh != text:
+                write(path, fresh)
+                count += 1
+        say(f"{crate or 'all crates'}: the clause {old} is {new}, in {count} files")
+    if any(f"(`{old}`)" in read("docs/PROMISES.md") for old in ("wanted", "inline")):
+        edit(["docs/PROMISES.md"], lambda path, text: text.replace("was appended (`memory`)", "was appended (`begun`)"))
+        edit(["docs/PROMISES.md", "docs/VERIFY.md", "docs/DECISIONS.md"], lambda path, text: re.sub(
+            r"(<!-- reading .*) wanted -->", r"\1 memory -->", text.replace("`wanted`", "`memory`").replace("`inline`", "`no_memory`")))
+
+
 # ---- lines
 
 def split_uses(text):
@@ -871,7 +916,7 @@ def tidy():
                 say(f"{path}:{number}: {len(line)} characters")
 
 
-STEPS = {"statements": statements, "rooms": rooms, "words": words}
+STEPS = {"statements": statements, "rooms": rooms, "words": words, "clauses": clauses}
 
 if __name__ == "__main__":
     if sys.argv[1:2] and sys.argv[1] in STEPS:

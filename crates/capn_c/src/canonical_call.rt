@@ -9,7 +9,7 @@ ghost use Rattle.capn_canon.specs.Denotes.{Denotes};
 ghost use Rattle.capn_canon.specs.Denotes.{Answers};
 ghost use Rattle.capn_canon.specs.Canonicity.{IsCanonicalForm};
 ghost use Rattle.capn_canon.specs.Refusal.{IsRefused};
-ghost use Rattle.capn_canon.specs.MemoryNeed.{MayWantMemory, MayWantBytesIn};
+ghost use Rattle.capn_canon.specs.MemoryNeed.{MayNeedMemory, MayNeedBytesIn};
 ghost use Rattle.capn_canon.specs.declared.refusal.Refusal.{Refusal as Refusals};
 ghost use Rattle.capn_c.specs.Calls.{IsForm, form_named, GiveLimits, IsTariff, bounds_of, Delivers, Serves};
 ghost use Rattle.capn_c.specs.StatusCodes.{Reports, answered, at_number, is_status};
@@ -38,7 +38,7 @@ fn survey_length(
     ensures rest { result ≡ 1 → report.new ≡ answered (8 * (report.new.paid + 1)) report.new.paid 0 }
     ensures listed { IsTrue (is_status result) }
     ensures refused { 8 ≤ result → (e : Refusals) × Reports result report.new e × IsRefused form bytes.now limits e }
-    ensures memory { result ≡ 8 → MayWantMemory form bytes.now limits }
+    ensures memory { result ≡ 8 → MayNeedMemory form bytes.now limits }
     ensures bounded { IsBounded limits.budget report.new.paid report.new.visits }
 {
     match survey_bytes(alloc, form, bytes, limits) {
@@ -71,7 +71,7 @@ fn fill(
     ensures rest { result ≤ 1 → report.new ≡ answered report.new.length report.new.paid 0 }
     ensures listed { IsTrue (is_status result) }
     ensures refused { 8 ≤ result → (e : Refusals) × Reports result report.new e × IsRefused form bytes.now limits e }
-    ensures memory { result ≡ 8 → MayWantBytesIn form bytes.now limits }
+    ensures memory { result ≡ 8 → MayNeedBytesIn form bytes.now limits }
     ensures bounded { IsBounded limits.budget report.new.paid report.new.visits }
     ensures short { result ≤ 1 → report.new.length ≤ 8 * (report.new.paid + 1) }
     ensures kept { result ≢ 0 → out.new ≡ out.old }
@@ -122,9 +122,9 @@ pub extern "C" fn capn_canonical(
     ensures refused { 5 ≤ result → (e : Refusals) × Reports result report.new e
         × IsRefused (form_named form) bytes.now (bounds_of limits.now) e }
     // Memory is needed only where `capn_check` may need it, and, if there is room, for canonical bytes.
-    ensures memory { result ≡ 8 → MayWantBytesIn (form_named form) bytes.now (bounds_of limits.now) }
+    ensures memory { result ≡ 8 → MayNeedBytesIn (form_named form) bytes.now (bounds_of limits.now) }
     ensures measuring { result ≡ 8 → length out.old ≡ 0
-        → MayWantMemory (form_named form) bytes.now (bounds_of limits.now) }
+        → MayNeedMemory (form_named form) bytes.now (bounds_of limits.now) }
     // No walk pays beyond its budget.
     ensures bounded { IsBounded limits.now.budget report.new.paid report.new.visits }
     ensures short { result ≤ 1 → report.new.length ≤ 8 * (report.new.paid + 1) }

@@ -8,7 +8,7 @@ ghost use Rattle.capn_walk.specs.declared.survey_answer.Surveyed.{Surveyed as Su
 ghost use Rattle.capn_canon.specs.Denotes.{Denotes};
 ghost use Rattle.capn_canon.specs.Refusal.{IsUnacceptedIn};
 ghost use Rattle.capn_canon.specs.SurveyedBytes.{Surveys};
-ghost use Rattle.capn_canon.specs.MemoryNeed.{MayWantMemory};
+ghost use Rattle.capn_canon.specs.MemoryNeed.{MayNeedMemory};
 ghost use Rattle.capn_canon.specs.declared.form.Form.TheVariants as forms;
 ghost use Rattle.capn_canon.specs.declared.refusal.Refusal.{Refusal as Refusals};
 ghost use Rattle.capn_c.specs.Calls.{form_named, GiveLimits, IsTariff, bounds_of};
@@ -149,7 +149,7 @@ fn index_in(
     ensures listed { IsTrue (is_status result) }
     ensures refused { 8 ≤ result → (e : Refusals) × Reports result report.new e
         × IsUnacceptedIn form bytes.now limits e }
-    ensures memory { result ≡ 8 → MayWantMemory form bytes.now limits
+    ensures memory { result ≡ 8 → MayNeedMemory form bytes.now limits
         ⊎ ((0 < length out.old) × (v : Value) × Denotes form bytes.now limits v) }
     ensures bounded { IsBounded limits.budget report.new.paid report.new.visits }
     ensures kept { result ≢ 0 → out.new ≡ out.old }
@@ -206,7 +206,7 @@ pub extern "C" fn capn_index(
     ensures refused { 5 ≤ result → (e : Refusals) × Reports result report.new e
         × IsUnacceptedIn (form_named form) bytes.now (bounds_of limits.now) e }
     // Memory is needed only where `capn_check` may need it, and for the entries of a message that is accepted.
-    ensures memory { result ≡ 8 → MayWantMemory (form_named form) bytes.now (bounds_of limits.now)
+    ensures memory { result ≡ 8 → MayNeedMemory (form_named form) bytes.now (bounds_of limits.now)
         ⊎ ((0 < length out.old) × (v : Value) × Denotes (form_named form) bytes.now (bounds_of limits.now) v) }
     // No walk pays beyond its budget.
     ensures bounded { IsBounded limits.now.budget report.new.paid report.new.visits }

@@ -6,7 +6,7 @@ ghost use Rattle.capn_value.specs.Tree.{Tree as Value};
 ghost use Rattle.capn_walk.specs.Accepted.{IsAccepted, IsValueOf};
 ghost use Rattle.capn_walk.specs.Limits.{Bounds};
 ghost use Rattle.capn_canon.specs.Denotes.{Denotes};
-ghost use Rattle.capn_canon.specs.MemoryNeed.{MayWantMemory};
+ghost use Rattle.capn_canon.specs.MemoryNeed.{MayNeedMemory};
 ghost use Rattle.capn_canon.specs.declared.form.Form.TheVariants as forms;
 ghost use Rattle.capn_c.specs.Figures.{AreMeasures, IsCanonicalMessage, IsDepth, MeasuresIn, at_depth};
 
@@ -164,7 +164,7 @@ fn measure<S: Space>(alloc: Global, space: &S, limits: Limits) -> Option<Measure
 pub fn measure_frame(alloc: Global, bytes: &[u8], limits: Limits) -> Option<Measured>
     ensures found { IfSome result (λ m. MeasuresIn forms.Stream bytes.now limits m) }
     ensures memory { (v : Value) → Denotes forms.Stream bytes.now limits v → result ≡ None
-        → MayWantMemory forms.Stream bytes.now limits }
+        → MayNeedMemory forms.Stream bytes.now limits }
 {
     match first(alloc, bytes, limits.message_words()) {
         Ok((message, taken)) => {
@@ -181,7 +181,7 @@ pub fn measure_frame(alloc: Global, bytes: &[u8], limits: Limits) -> Option<Meas
 pub fn measure_bare(alloc: Global, bytes: &[u8], limits: Limits) -> Option<Measured>
     ensures found { IfSome result (λ m. MeasuresIn forms.Bare bytes.now limits m) }
     ensures memory { (v : Value) → Denotes forms.Bare bytes.now limits v → result ≡ None
-        → MayWantMemory forms.Bare bytes.now limits }
+        → MayNeedMemory forms.Bare bytes.now limits }
 {
     match Bare::new(bytes) {
         Ok(space) => measure(alloc, &space, limits),

@@ -5,7 +5,7 @@ ghost use Rattle.capn_value.specs.Tree.{Tree as Value};
 ghost use Rattle.capn_walk.specs.Accepted.{IsBounded};
 ghost use Rattle.capn_canon.specs.Denotes.{Denotes};
 ghost use Rattle.capn_canon.specs.Refusal.{IsUnacceptedIn};
-ghost use Rattle.capn_canon.specs.MemoryNeed.{MayWantMemory};
+ghost use Rattle.capn_canon.specs.MemoryNeed.{MayNeedMemory};
 ghost use Rattle.capn_canon.specs.declared.refusal.Refusal.{Refusal as Refusals};
 ghost use Rattle.capn_canon.specs.declared.form.Form.TheVariants as forms;
 ghost use Rattle.capn_c.specs.Calls.{form_named, GiveLimits, IsTariff, bounds_of};
@@ -26,7 +26,7 @@ fn measure_in(alloc: Global, form: Form, bytes: &[u8], limits: Limits) -> Option
     requires { (form ≡ forms.Stream) ⊎ (form ≡ forms.Bare) }
     ensures found { IfSome result (λ m. MeasuresIn form bytes.now limits m) }
     ensures memory { (v : Value) → Denotes form bytes.now limits v → result ≡ None
-        → MayWantMemory form bytes.now limits }
+        → MayNeedMemory form bytes.now limits }
 {
     match form {
         Form::Stream => measure_frame(alloc, bytes, limits),
@@ -52,7 +52,7 @@ fn survey_in(
     ensures listed { IsTrue (is_status result) }
     ensures refused { 8 ≤ result → (e : Refusals) × Reports result report.new e
         × IsUnacceptedIn form bytes.now limits e }
-    ensures memory { result ≡ 8 → MayWantMemory form bytes.now limits }
+    ensures memory { result ≡ 8 → MayNeedMemory form bytes.now limits }
     ensures bounded { IsBounded limits.budget report.new.paid report.new.visits }
     ensures kept { result ≢ 0 → figures.new ≡ figures.old }
 {
@@ -101,7 +101,7 @@ pub extern "C" fn capn_survey(
     ensures refused { 5 ≤ result → (e : Refusals) × Reports result report.new e
         × IsUnacceptedIn (form_named form) bytes.now (bounds_of limits.now) e }
     // Memory is needed only for a depth above 64, and for where two segments or more end.
-    ensures memory { result ≡ 8 → MayWantMemory (form_named form) bytes.now (bounds_of limits.now) }
+    ensures memory { result ≡ 8 → MayNeedMemory (form_named form) bytes.now (bounds_of limits.now) }
     // No walk pays beyond its budget.
     ensures bounded { IsBounded limits.now.budget report.new.paid report.new.visits }
     // If the call has no answer, the figures are as they were.

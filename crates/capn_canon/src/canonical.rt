@@ -14,7 +14,7 @@ ghost use Rattle.capn_canon.specs.Canonicity.{ReadsBack, PaysItsCost, IsItsOwnFo
 ghost use Rattle.capn_canon.specs.Refusal.{IsRefusedMessage, IsPaidWithin};
 ghost use Rattle.capn_canon.specs.declared.refusal.Refusal.TheVariants as refusals;
 ghost use Rattle.capn_canon.specs.inner.ReadyPlaces.{IsReady};
-ghost use Rattle.capn_canon.specs.MemoryNeed.{MayWantBytes};
+ghost use Rattle.capn_canon.specs.MemoryNeed.{MayNeedBytes};
 
 use crate::draft::Draft;
 use crate::object_layout::lay_slot;
@@ -123,7 +123,7 @@ pub fn canonical_of<A: Allocator + Copy, S: Space>(
     // What each refusal means.
     ensures refused { IfErr result (λ e. IsRefusedMessage (S.message space.now) limits e) }
     // Memory is needed only for a depth above 64 and for canonical bytes.
-    ensures memory { IsErrOf result refusals.Memory → MayWantBytes (S.message space.now) limits }
+    ensures memory { IsErrOf result refusals.Memory → MayNeedBytes (S.message space.now) limits }
     // No walk pays beyond its budget.
     ensures bounded { MatchResult result (λ c. c.paid ≤ limits.budget) (λ e. IsPaidWithin limits.budget e) }
     ensures short { IfOk result (λ c. length c.bytes.items ≤ 8 * (c.paid + 1)) }
