@@ -7,7 +7,7 @@ use Rattle.capn_value.proofs.Fronts.{anew_front-min, front_made, row_made, rows_
 use Rattle.capn_value.proofs.Fronts.{slots_made}
 use Rattle.capn_value.proofs.Depths.{falls, falls_above, steps_down, in_body, in_links, in_rows, in_node, item_below}
 use Rattle.capn_value.proofs.Depths.{row_below}
-use Rattle.capn_value.proofs.kept_lengths.+anew.Goals as goal
+use Rattle.capn_value.proofs.value_copy.+anew.Goals as goal
 
 pub anew-copy_of_plain-requires : goal.anew-copy_of_plain-requires
 anew-copy_of_plain-requires g t c = record {

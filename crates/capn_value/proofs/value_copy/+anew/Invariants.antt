@@ -2,7 +2,7 @@ use Rattle.std.proofs.Common.{◌≡◌, drop}
 use Rattle.capn_value.specs.Tree.{front, joined_rows}
 use Rattle.capn_value.specs.TreeOf.{trees_of, rows_of}
 use Rattle.capn_value.specs.inner.CutCopy.{each_anew, rows_anew}
-use Rattle.capn_value.proofs.kept_lengths.+anew.Given as goal
+use Rattle.capn_value.proofs.value_copy.+anew.Given as goal
 
 abbrev pub invariant-anew_front-loop-i : goal.invariant-anew_front-loop-i
 invariant-anew_front-loop-i g l = trees_of l.out ≡ front l.i (each_anew l.cut (trees_of l.items))

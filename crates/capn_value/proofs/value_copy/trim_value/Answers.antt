@@ -2,7 +2,7 @@ use Rattle.std.proofs.Common.{sym, ap, ◌∙◌}
 use Rattle.capn_value.specs.Trim.{trimmed}
 use Rattle.capn_value.specs.Views.{tree_of-Nil}
 use Rattle.capn_value.proofs.Nulls.{null-is}
-use Rattle.capn_value.proofs.kept_lengths.trim_value.Goals as goal
+use Rattle.capn_value.proofs.value_copy.trim_value.Goals as goal
 
 pub returns-then-is_null-clause-value : goal.returns-then-is_null-clause-value
 returns-then-is_null-clause-value g c = tree_of-Nil _
