@@ -182,6 +182,15 @@ SOURCES = [
     ("capn_c", "codes", "status_codes"),
 ]
 
+# Functions that move to another file of src/, with their proofs: crate, from and to by their new names, functions, what
+# the first line of each file then says.
+SPLITS = [
+    ("capn_value", "kept_lengths", "value_copy",
+     ["trim_value", "kept_of_body", "kept_of_rows", "anew", "anew_body", "anew_front", "anew_rows"],
+     "How much of a data section and of a pointer section is kept.",
+     "Values made in new memory: with every body cut to what it keeps, or whole."),
+]
+
 # Cycles of functions that are proved together: crate, file of src/ by its new name, old, new.
 CYCLES = [
     ("capn_canon", "object_layout", "placing", "objects"),
@@ -209,7 +218,14 @@ WORDS = [
     ("capn_tool", "specs.FaultText", "TellsLine", "WritesLine"),
     ("capn_tool", "specs.FaultText", "TellsFault", "WritesFault"),
     ("capn_tool", "specs.Program", "TellsText", "WritesText"),
+    ("capn_make", "specs.WrittenValue", "IsPiece", "IsWrittenValue"),
     ("capn_tool", "specs.MessageText", "TellsStop", "IsStopOf"),
+    ("capn_tool", "specs.MessageText", "IsPiece", "IsMessageText"),
+    ("capn_tool", "specs.MessageText", "IsNoPiece", "IsNoMessageText"),
+    ("capn_tool", "specs.MessageText", "IsBarePiece", "IsBareMessageText"),
+    ("capn_tool", "specs.MessageText", "PutsPiece", "PutsMessageText"),
+    ("capn_tool", "specs.MessageText", "PutsBarePiece", "PutsBareMessageText"),
+    ("capn_tool", "specs.inner.ServedMessages", "AddsPiece", "AddsMessageText"),
     ("capn_tool", "specs.StreamRun", "Tells", "Writes"),
     ("capn_tool", "specs.StreamRun", "TellsFront", "WritesFront"),
     ("capn_tool", "specs.inner.PackedRun", "TellsPacked", "WritesPacked"),
@@ -222,6 +238,7 @@ WORDS = [
 TYPES = [
     ("capn_walk", "slots_left", "Frame", "SlotsLeft"),
     ("capn_canon", "surveyed_bare", "Checked", "SurveyedBare"),
+    ("capn_tool", "plan", "Piece", "MessageText"),
 ]
 
 # Functions of src/: crate, file by its new name, old, new.
@@ -231,6 +248,13 @@ FUNCTIONS = [
     ("capn_canon", "bare_verdict", "check", "survey_bare"),
     ("capn_canon", "canonical", "canonical_here", "canonical_by_segments"),
     ("capn_canon", "canonical", "canonical_in", "canonical_of_inner"),
+    ("capn_tool", "message_service", "add_piece", "add_message_text"),
+    ("capn_tool", "message_text", "put_piece", "put_message_text"),
+    ("capn_tool", "message_text", "put_bare_piece", "put_bare_message_text"),
+    ("capn_tool", "whole_input", "bare_piece", "bare_message_text"),
+    ("capn_tool", "whole_input", "make_piece", "make_message_text"),
+    ("capn_tool", "message_stream", "serve_piece", "serve_chunk"),
+    ("capn_tool", "pending", "take_piece", "take_chunk"),
     ("capn_c", "canonical_call", "lay", "fill"),
     ("capn_c", "canonical_call", "measure", "survey_length"),
     ("capn_c", "is_canonical_call", "judge", "test"),
@@ -603,10 +627,89 @@ def renamed_cycles(crate):
         edit(code(), lambda path, text: text.replace(before, after))
 
 
+def items_of(text):
+    """The imports of a source file, and its other items, each with its name where it is a function."""
+    parts = re.split(r"\n\n+(?=\S)", text.rstrip("\n"))
+    imports = [line for part in parts if re.match(r"(ghost )?use ", part) for line in re.split(r"\n(?=\S)", part)]
+    items = [part for part in parts if not re.match(r"(ghost )?use |//!", part)]
+    return imports, [(re.search(r"^(?:pub )?fn (\w+)", item, re.M), item) for item in items]
+
+
+def imported(line):
+    """The module of an import, and the names that it brings; of another import, itself and no names."""
+    found = re.fullmatch(r"((?:ghost )?use [\w.:]+?)(\.|::)(?:\{(.*)\}|(\w+));", line, re.S)
+    if not found or " as " in line.partition("{")[0]:
+        return line, []
+    return found[1] + found[2], [item.strip() for item in (found[3] or found[4]).split(",") if item.strip()]
+
+
+def is_named(name, body):
+    """Whether a text has an imported name; an operator has what stands between its operands."""
+    if "◌" in name:
+        return all(part in body for part in name.split("◌"))
+    return bool(re.search(rf"(?<![\w]){re.escape(name.split(' ')[-1])}(?![\w'])", body))
+
+
+def source_of(head, imports, items):
+    """A source file of items, with the imports that they name, one for each module."""
+    body = "\n\n".join(items)
+    brought = {}
+    for line in imports:
+        module, names = imported(line)
+        if names or is_named(re.split(r" as |::|\.", line.rstrip(";"))[-1], body):
+            brought.setdefault(module, [])
+        brought.get(module, []).extend(name for name in names if is_named(name, body) and name not in brought[module])
+    lines = []
+    for module, names in brought.items():
+        if module.endswith((".", "::")):
+            if names:
+                one = names[0] if len(names) == 1 and module.endswith("::") else f"{{{', '.join(names)}}}"
+                lines.append(f"{module}{one};")
+        else:
+            lines.append(module)
+    ghost = [line for line in lines if line.startswith("ghost")]
+    rust = [line for line in lines if not line.startswith("ghost")]
+    return f"//! {head}\n\n" + "\n".join(ghost) + "\n\n" + "\n".join(sorted(rust)) + "\n\n" + body + "\n"
+
+
+def split_sources(crate):
+    """Functions move to another file, with their imports and proofs; those who call them import them from there."""
+    for it, old, new, names, old_head, new_head in SPLITS:
+        src = f"crates/{crate}/src"
+        if it != crate or not os.path.exists(f"{src}/{old}.rt") or f"fn {names[0]}" not in read(f"{src}/{old}.rt"):
+            continue
+        imports, items = items_of(read(f"{src}/{old}.rt"))
+        others, there = items_of(read(f"{src}/{new}.rt"))
+        goes = [item for name, item in items if name and name[1] in names]
+        stays = [(name, item) for name, item in items if not (name and name[1] in names)]
+        called = [name[1] for name, item in stays if name and any(re.search(rf"\b{name[1]}\(", it) for it in goes)]
+        gone = re.compile(rf"use crate::(?:{old}|{new})::")
+        here = [line for line in others + imports if not gone.search(line)]
+        write(f"{src}/{old}.rt", source_of(old_head, [line for line in imports if not gone.search(line)], [item for _, item in stays]))
+        write(f"{src}/{new}.rt", source_of(new_head, [*here, f"use crate::{old}::{{{', '.join(sorted(called))}}};"],
+                                           [item for _, item in there] + goes))
+        for name in names:
+            move(f"crates/{crate}/proofs/{old}/{name}", f"crates/{crate}/proofs/{new}/{name}")
+            move(f"crates/{crate}/proofs/{old}/+{name}", f"crates/{crate}/proofs/{new}/+{name}")
+        moved = "|".join(names)
+        edit(code(), lambda path, text: re.sub(rf"(Rattle\.{crate}\.proofs\.){old}(\.\+?(?:{moved})\b)", rf"\g<1>{new}\2", text))
+        edit([path for path in code() if path.startswith(src)],
+             lambda path, text: re.sub(rf"\buse crate::{old}::({moved});", rf"use crate::{new}::\1;", text))
+
+        def follow(path, text):
+            found = re.search(r"^old: ?(.*?)\n(?=new:)", text, re.M | re.S)
+            is_there = found and found[1].strip("\n") in read(f"{src}/{new}.rt") and found[1].strip("\n") not in read(f"{src}/{old}.rt")
+            return re.sub(rf"^(file: *src/){old}(?=\.rt$)", rf"\g<1>{new}", text, flags=re.M) if is_there else text
+
+        edit([path for path in files(".edit") if path.startswith(f"crates/{crate}/")], follow)
+        say(f"{crate}: {len(names)} functions moved from src/{old}.rt to src/{new}.rt")
+
+
 def rooms():
     for crate in crates():
         done = renamed_files(crate, "specs", SPECS) + renamed_files(crate, "proofs", LEMMAS) + renamed_sources(crate)
         renamed_cycles(crate)
+        split_sources(crate)
         if done:
             say(f"{crate}: {done} files have new names")
 
@@ -850,6 +953,9 @@ def folded(line):
     """A line of a definition, a proof or a clause that is too long, in two: before its last operator that is in the
     fewest parentheses, or before the last such parenthesis."""
     lead = len(line) - len(line.lstrip())
+    stated = re.fullmatch(r"(\s*pub \S+ :) (goal\.\S+)", line)
+    if stated:
+        return [stated[1], " " * (lead + 4) + stated[2]]
     best = {}
     depth = 0
     for at, char in enumerate(line[:MOST]):

@@ -12,12 +12,12 @@ use Rattle.capn_stream.specs.declared.fault.FrameFault.{FrameFault}
 use Rattle.capn_stream.specs.declared.fault.FrameFault.TheVariants as frame_faults
 use Rattle.capn_stream.proofs.shared.Longer.{IsStop-append}
 use Rattle.capn_canon.specs.declared.refusal.Refusal.TheVariants as refusals
-use Rattle.capn_tool.specs.MessageText.{IsPiece, IsNoPiece}
+use Rattle.capn_tool.specs.MessageText.{IsMessageText, IsNoMessageText}
 use Rattle.capn_tool.specs.Streams.{Part, IsPart, AreParts, frame_of, text_of, frames_of, texts_of, IsDueEach}
-use Rattle.capn_tool.specs.inner.ServedMessages.{AddsPiece}
+use Rattle.capn_tool.specs.inner.ServedMessages.{AddsMessageText}
 use Rattle.capn_tool.specs.Outgoing.{Outgoing, Adds, Breaks}
 use Rattle.capn_tool.specs.StreamRun.{Writes, WritesFront, IsDueSo, Stops}
-use Rattle.capn_tool.specs.declared.plan.Piece.{Piece}
+use Rattle.capn_tool.specs.declared.plan.MessageText.{MessageText}
 use Rattle.capn_tool.specs.declared.fault.ToolFault.{ToolFault}
 use Rattle.capn_tool.specs.declared.fault.ToolFault.TheVariants as faults
 use Rattle.capn_tool.proofs.Sends.{adds_more, adds_none, breaks_behind}
@@ -28,7 +28,7 @@ pub every_append : {X : Type 0} (P : X → Type 0) (xs ys : List X) → AllByRec
 every_append P [] ys f g = g
 every_append P (x ∷ xs) ys f g = (f.0, every_append P xs ys f.1 g)
 
-module _ (piece : Piece) (limits : Bounds) where
+module _ (piece : MessageText) (limits : Bounds) where
   -- parts of a stream, and parts of what was left of it with more after it
   pub parts_more : (s mid x rest : List ℕ) (ps qs : List Part) → AreParts piece limits s ps mid
       → AreParts piece limits (mid ++ x) qs rest → AreParts piece limits (s ++ x) (ps ++ qs) rest
@@ -58,7 +58,7 @@ module _ (piece : Piece) (limits : Bounds) where
 
   -- a message and its piece
   pub tells_one : (frame : List ℕ) (message : List (List ℕ)) (text : List ℕ) (a b : Outgoing) → Frames frame message
-      → total message ≤ limits.message_words → IsPiece piece message limits text → Adds a b text
+      → total message ≤ limits.message_words → IsMessageText piece message limits text → Adds a b text
       → Writes piece limits frame [] a b
   tells_one frame message text a b is room p wrote = (
     (record { frame = frame; message = message; text = text }) ∷ [],
@@ -177,7 +177,7 @@ module _ (piece : Piece) (limits : Bounds) where
   -- a message has no piece, or the writer failed
   pub stops_piece : (frame x : List ℕ) (message : List (List ℕ)) (a b : Outgoing) (failed : Bool) (fault : ToolFault)
       → Frames frame message → total message ≤ limits.message_words
-      → AddsPiece piece message limits a b failed (Err fault) → Stops piece limits (frame ++ x) a b failed fault
+      → AddsMessageText piece message limits a b failed (Err fault) → Stops piece limits (frame ++ x) a b failed fault
   stops_piece frame x message a b failed fault is room (inl (why, kept, fine)) = record {
     told = λ h. (frame ++ x, ([], record { each = tt; is = refl }, kept));
     front = λ h. absurd (let bad : true ≡ false = sym h ∙ fine in cc);
@@ -188,7 +188,7 @@ module _ (piece : Piece) (limits : Bounds) where
       told : IsTold fault
       told = elim why [ inl m ↦ told_memory fault m | inr n ↦ told_piece piece message limits fault n ]
 
-      due : IsNoPiece piece message limits fault → (more : List ℕ) (behind : Option ToolFault)
+      due : IsNoMessageText piece message limits fault → (more : List ℕ) (behind : Option ToolFault)
           → IsDueEach piece limits ((frame ++ x) ++ more) behind [] (Err fault)
       due n more behind = record {
         parts = [];

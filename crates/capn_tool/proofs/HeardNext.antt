@@ -14,13 +14,13 @@ use Rattle.capn_stream.specs.Framing.{FeedGives, Feeds, Framing, IsFrame, IsUnfi
 use Rattle.capn_stream.specs.declared.fault.FrameFault.{FrameFault}
 use Rattle.capn_stream.specs.declared.fault.FrameFault.TheVariants as frame_faults
 use Rattle.capn_stream.proofs.shared.Wanting.{unfinished_frame}
-use Rattle.capn_tool.specs.inner.ServedMessages.{AddsPiece}
+use Rattle.capn_tool.specs.inner.ServedMessages.{AddsMessageText}
 use Rattle.capn_tool.specs.Outgoing.{Outgoing, Adds, SendsRest, outgoing, sent}
 use Rattle.capn_tool.specs.Streams.{texts_of}
-use Rattle.capn_tool.specs.MessageText.{IsPiece}
+use Rattle.capn_tool.specs.MessageText.{IsMessageText}
 use Rattle.capn_stream.specs.FrameRefusal as frame_rules
 use Rattle.capn_tool.specs.StreamRun.{HasNoFrame, IsDueSo, IsListening, Serves, ServesNext, Stops, Writes, fault_of}
-use Rattle.capn_tool.specs.declared.plan.Piece.{Piece}
+use Rattle.capn_tool.specs.declared.plan.MessageText.{MessageText}
 use Rattle.capn_tool.specs.declared.fault.ToolFault.{ToolFault}
 use Rattle.capn_tool.specs.declared.fault.ToolFault.TheVariants as faults
 use Rattle.capn_tool.proofs.Sends.{adds_all, breaks_rest}
@@ -42,7 +42,7 @@ new_listening framer limits most is same = record {
   most = ap (λ (f : Framing). f.most) is ∙ same;
 }
 
-module _ (piece : Piece) (limits : Bounds) (before : Framing) (bytes : List ℕ)
+module _ (piece : MessageText) (limits : Bounds) (before : Framing) (bytes : List ℕ)
     (listening : IsListening before limits) where
   -- what is held is no frame
   part : IsUnfinished before.rest before.most
@@ -62,7 +62,7 @@ module _ (piece : Piece) (limits : Bounds) (before : Framing) (bytes : List ℕ)
   -- a message was made whole, and its piece added
   pub next_some : (n : ℕ) (mid after : Framing) (message : List (List ℕ)) (a b : Outgoing) (failed : Bool)
       (u : Unit {0}) → Feeds before bytes n mid → TakeGives mid (Some message) after
-      → AddsPiece piece message limits a b failed (Ok u)
+      → AddsMessageText piece message limits a b failed (Ok u)
       → ServesNext piece limits before bytes a b failed (Ok n) after
   next_some n mid after message a b failed u fed took (text, is, wrote, fine) =
       let frame = subst (λ (p : List ℕ). Frames p message) fed.rest took.0 in
@@ -114,7 +114,7 @@ module _ (piece : Piece) (limits : Bounds) (before : Framing) (bytes : List ℕ)
   -- the message has no piece, or the writer failed
   pub next_stopped : (n : ℕ) (mid after : Framing) (message : List (List ℕ)) (a b : Outgoing) (failed : Bool)
       (fault : ToolFault) → Feeds before bytes n mid → TakeGives mid (Some message) after
-      → AddsPiece piece message limits a b failed (Err fault)
+      → AddsMessageText piece message limits a b failed (Err fault)
       → Stops piece limits (before.rest ++ bytes) a b failed fault
   next_stopped n mid after message a b failed fault fed took wrote =
       let frame = subst (λ (p : List ℕ). Frames p message) fed.rest took.0 in
@@ -147,7 +147,7 @@ module _ (piece : Piece) (limits : Bounds) (before : Framing) (bytes : List ℕ)
 
 -- ---- more of the bytes
 
-module _ (piece : Piece) (limits : Bounds) (first before : Framing) (bytes : List ℕ) (at : ℕ) (a b c : Outgoing)
+module _ (piece : MessageText) (limits : Bounds) (first before : Framing) (bytes : List ℕ) (at : ℕ) (a b c : Outgoing)
     (told : Writes piece limits (first.rest ++ take at bytes) before.rest a b) where
   pub served_stop : (failed : Bool) (fault : ToolFault)
       → Stops piece limits (before.rest ++ take (length bytes - at) (drop at bytes)) b c failed fault
@@ -177,7 +177,7 @@ module _ (piece : Piece) (limits : Bounds) (first before : Framing) (bytes : Lis
 
 -- ---- messages that lie whole in the bytes
 
-module _ (piece : Piece) (limits : Bounds) (bytes : List ℕ) (at : ℕ) (a b : Outgoing)
+module _ (piece : MessageText) (limits : Bounds) (bytes : List ℕ) (at : ℕ) (a b : Outgoing)
     (told : Writes piece limits (take at bytes) [] a b) (message : List (List ℕ)) (taken most : ℕ)
     (same : most ≡ limits.message_words)
     (first : StandsFirst (take (length bytes - at) (drop at bytes)) most message taken) where
@@ -198,7 +198,7 @@ module _ (piece : Piece) (limits : Bounds) (bytes : List ℕ) (at : ℕ) (a b : 
         absurd (unfinished_frame [] limits.message_words (empty_unfinished limits.message_words) (message, bad, room)))
   ]
 
-  pub whole_more : (c : Outgoing) (text : List ℕ) → IsPiece piece message limits text → Adds b c text
+  pub whole_more : (c : Outgoing) (text : List ℕ) → IsMessageText piece message limits text → Adds b c text
       → Writes piece limits (take (at + taken) bytes) [] a c
   whole_more c text is adds =
       let one = tells_one piece limits front message text b c is_front room is adds in
@@ -206,7 +206,7 @@ module _ (piece : Piece) (limits : Bounds) (bytes : List ℕ) (at : ℕ) (a b : 
       (tells_more piece limits (take at bytes) [] front [] a b c told one)
 
   pub whole_stop : (c : Outgoing) (failed : Bool) (fault : ToolFault)
-      → AddsPiece piece message limits b c failed (Err fault) → Stops piece limits bytes a c failed fault
+      → AddsMessageText piece message limits b c failed (Err fault) → Stops piece limits bytes a c failed fault
   whole_stop c failed fault adds =
       let here = stops_piece piece limits front (drop taken (drop at bytes)) message b c failed fault is_front room
       adds in
@@ -216,7 +216,7 @@ module _ (piece : Piece) (limits : Bounds) (bytes : List ℕ) (at : ℕ) (a b : 
       (stops_more piece limits (take at bytes) [] (drop at bytes) a b c failed fault told part)
 
 -- memory was refused after whole messages
-pub whole_memory : (piece : Piece) (limits : Bounds) (bytes : List ℕ) (at : ℕ) (a b : Outgoing)
+pub whole_memory : (piece : MessageText) (limits : Bounds) (bytes : List ℕ) (at : ℕ) (a b : Outgoing)
     → Writes piece limits (take at bytes) [] a b → (failed : Bool) → failed ≡ false
     → Stops piece limits bytes a b failed faults.Memory
 whole_memory piece limits bytes at a b told failed fine =
@@ -243,7 +243,7 @@ some_none n size rest (inl all) other = absurd (other all)
 some_none n size rest (inr none) other = none
 
 -- the message that had begun, and those that lie whole after it
-module _ (piece : Piece) (limits : Bounds) (first after : Framing) (bytes : List ℕ) (n : ℕ) (a b c : Outgoing)
+module _ (piece : MessageText) (limits : Bounds) (first after : Framing) (bytes : List ℕ) (n : ℕ) (a b c : Outgoing)
     (told : Writes piece limits (first.rest ++ take n bytes) after.rest a b) (none : after.rest ≡ []) where
   begun : Writes piece limits (first.rest ++ take n bytes) [] a b
   begun = subst (λ (p : List ℕ). Writes piece limits (first.rest ++ take n bytes) p a b) none told
@@ -272,7 +272,7 @@ module _ (piece : Piece) (limits : Bounds) (first after : Framing) (bytes : List
 
 -- ---- what is kept is written
 
-module _ (piece : Piece) (limits : Bounds) (c d e : Option (List ℕ)) (text : List ℕ) where
+module _ (piece : MessageText) (limits : Bounds) (c d e : Option (List ℕ)) (text : List ℕ) where
   pub tells_sent : (stream rest : List ℕ) → Writes piece limits stream rest (sent c) (outgoing d text)
       → Appends d e text
       → Writes piece limits stream rest (sent c) (sent e)
@@ -323,7 +323,8 @@ module _ (piece : Piece) (limits : Bounds) (c d e : Option (List ℕ)) (text : L
   }
 
 -- bytes were served, and then what was kept was written
-serves_sent : (piece : Piece) (limits : Bounds) (before after : Framing) (bytes : List ℕ) (c d e : Option (List ℕ))
+serves_sent : (piece : MessageText) (limits : Bounds) (before after : Framing) (bytes : List ℕ)
+    (c d e : Option (List ℕ))
     (text : List ℕ) (broken failed : Bool) (served result : Result (Unit {0}) ToolFault)
     → Serves piece limits before bytes (sent c) (outgoing d text) broken served after
     → SendsRest served text d e broken failed result
@@ -352,7 +353,8 @@ serves_sent piece limits before after bytes c d e text false true (Err fault) re
     (sym is)
     (stops_broken piece limits c d e text (before.rest ++ bytes) fault s wrote)
 
-pub serves_piece : (piece : Piece) (limits : Bounds) (before after : Framing) (bytes : List ℕ) (c d e : Option (List ℕ))
+pub serves_piece : (piece : MessageText) (limits : Bounds) (before after : Framing) (bytes : List ℕ)
+    (c d e : Option (List ℕ))
     (start text kept : List ℕ) (broken failed : Bool) (served result : Result (Unit {0}) ToolFault) → start ≡ []
     → kept ≡ text
     → Serves piece limits before bytes (outgoing c start) (outgoing d text) broken served after

@@ -16,7 +16,7 @@ use Rattle.capn_tool.specs.Streams.{AreParts, texts_of, behind_stream, end_of, I
 use Rattle.capn_tool.specs.Text.{HasWritten, PlanBegins, PlanEndsAs, taken_of, has_more}
 use Rattle.capn_tool.specs.Outgoing.{sent}
 use Rattle.capn_tool.specs.StreamRun.{EndsInput, Hears, IsDueSo, Runs, Stops, Writes, WritesFront}
-use Rattle.capn_tool.specs.declared.plan.Piece.{Piece}
+use Rattle.capn_tool.specs.declared.plan.MessageText.{MessageText}
 use Rattle.capn_tool.specs.declared.plan.Plan.TheVariants as plans
 use Rattle.capn_tool.specs.declared.fault.ToolFault.{ToolFault}
 use Rattle.capn_tool.specs.declared.fault.ToolFault.TheVariants as faults
@@ -64,7 +64,7 @@ pub writer_only : (r w : Bool) → r ≡ false → (r ≡ true) ⊎ (w ≡ true)
 writer_only r w fine (inl h) = let e : true ≡ false = sym h ∙ fine in absurd (cc)
 writer_only r w fine (inr h) = h
 
-module _ (piece : Piece) (limits : Bounds) where
+module _ (piece : MessageText) (limits : Bounds) where
   -- all of the pieces is a front of them
   pub tells_front : (stream rest : List ℕ) (c d : Option (List ℕ)) → Writes piece limits stream rest (sent c) (sent d)
       → WritesFront piece limits stream (sent c) (sent d)

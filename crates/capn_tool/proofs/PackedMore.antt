@@ -13,7 +13,7 @@ use Rattle.capn_stream.specs.Framing.{Framing}
 use Rattle.capn_tool.specs.Outgoing.{Outgoing, SendsRest, outgoing, sent}
 use Rattle.capn_tool.specs.StreamRun.{Stops, Writes}
 use Rattle.capn_tool.specs.inner.PackedRun.{IsUnpacking, ServesPacked, StopsPacked, WritesPacked}
-use Rattle.capn_tool.specs.declared.plan.Piece.{Piece}
+use Rattle.capn_tool.specs.declared.plan.MessageText.{MessageText}
 use Rattle.capn_tool.specs.declared.fault.ToolFault.{ToolFault}
 use Rattle.capn_tool.specs.declared.fault.ToolFault.TheVariants as faults
 use Rattle.capn_tool.proofs.HeardMore.{every_append, stops_memory, stops_more, tells_more, tells_none}
@@ -57,7 +57,7 @@ begins_all stream rest words len s =
 advanced_more : (offset len more : ℕ) → advanced (advanced offset len) more ≡ advanced offset (len + more)
 advanced_more offset len more = omega arith
 
-module _ (piece : Piece) (limits : Bounds) (held : Held) (rest x : List ℕ) (mid : Held) (left y : List ℕ)
+module _ (piece : MessageText) (limits : Bounds) (held : Held) (rest x : List ℕ) (mid : Held) (left y : List ℕ)
     (a b : Outgoing) (told : WritesPacked piece limits held rest x mid left a b) where
   pub packed_more : (next : Held) (last : List ℕ) (c : Outgoing) → WritesPacked piece limits mid left y next last b c
       → WritesPacked piece limits held rest (x ++ y) next last a c
@@ -88,7 +88,7 @@ module _ (piece : Piece) (limits : Bounds) (held : Held) (rest x : List ℕ) (mi
       )
 
 -- memory was refused while a slice was unpacked
-pub packed_memory : (piece : Piece) (limits : Bounds) (group rest bytes : List ℕ) (a : Outgoing) (failed : Bool)
+pub packed_memory : (piece : MessageText) (limits : Bounds) (group rest bytes : List ℕ) (a : Outgoing) (failed : Bool)
     → failed ≡ false → StopsPacked piece limits group rest bytes a a failed faults.Memory
 packed_memory piece limits group rest bytes a failed fine = (
   [],
@@ -97,7 +97,8 @@ packed_memory piece limits group rest bytes a failed fine = (
 )
 
 -- bytes were unpacked, and their words were served
-module _ (piece : Piece) (limits : Bounds) (held next : Held) (left bytes old new words : List ℕ) (none : old ≡ [])
+module _ (piece : MessageText) (limits : Bounds) (held next : Held) (left bytes old new words : List ℕ)
+    (none : old ≡ [])
     (same : words ≡ new) (fed : Feeds held bytes old new next) where
   split : Splits (held.rest ++ bytes) next.rest [] words fed.len
   split = subst (λ (l : List ℕ). Splits (held.rest ++ bytes) next.rest [] l fed.len) (sym same)
@@ -114,7 +115,7 @@ module _ (piece : Piece) (limits : Bounds) (held next : Held) (left bytes old ne
       (words, begins_all (held.rest ++ bytes) next.rest words fed.len split, stop)
 
 -- nothing has come
-pub packed_none : (piece : Piece) (limits : Bounds) (held : Held) (rest : List ℕ) (a : Outgoing)
+pub packed_none : (piece : MessageText) (limits : Bounds) (held : Held) (rest : List ℕ) (a : Outgoing)
     → IsUnpacking held → WritesPacked piece limits held rest [] held rest a a
 packed_none piece limits held rest a unpacking = (
   [],
@@ -127,7 +128,7 @@ packed_none piece limits held rest a unpacking = (
 )
 
 -- what stops over some bytes stops over more of them
-pub packed_longer : (piece : Piece) (limits : Bounds) (group rest x bytes more : List ℕ) (a b : Outgoing)
+pub packed_longer : (piece : MessageText) (limits : Bounds) (group rest x bytes more : List ℕ) (a b : Outgoing)
     (failed : Bool) (fault : ToolFault) → x ++ more ≡ bytes → StopsPacked piece limits group rest x a b failed fault
     → StopsPacked piece limits group rest bytes a b failed fault
 packed_longer piece limits group rest x bytes more a b failed fault whole (words, begins, stop) = (
@@ -147,7 +148,7 @@ packed_longer piece limits group rest x bytes more a b failed fault whole (words
 )
 
 -- one slice more
-module _ (piece : Piece) (limits : Bounds) (held : Held) (rest bytes : List ℕ) (at end : ℕ) (forward : at ≤ end)
+module _ (piece : MessageText) (limits : Bounds) (held : Held) (rest bytes : List ℕ) (at end : ℕ) (forward : at ≤ end)
     (mid : Held) (left : List ℕ) (a b : Outgoing)
     (told : WritesPacked piece limits held rest (take at bytes) mid left a b) where
   joined : take at bytes ++ take (end - at) (drop at bytes) ≡ take end bytes
@@ -173,7 +174,7 @@ module _ (piece : Piece) (limits : Bounds) (held : Held) (rest bytes : List ℕ)
       ∙ take-append-drop end bytes) part
 
 -- packed bytes were served, and then what was kept was written
-module _ (piece : Piece) (limits : Bounds) (held next : Held) (before after : Framing) (bytes : List ℕ)
+module _ (piece : MessageText) (limits : Bounds) (held next : Held) (before after : Framing) (bytes : List ℕ)
     (c d e : Option (List ℕ)) (text : List ℕ) where
   abbrev Served : Outgoing → Bool → Result (Unit {0}) ToolFault → Type 0
   Served new failed r = ServesPacked piece limits held before bytes (sent c) new failed r next after

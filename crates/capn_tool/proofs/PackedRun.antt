@@ -18,7 +18,7 @@ use Rattle.capn_tool.specs.Text.{HasWritten, PlanBegins, PlanEndsAs, taken_of, h
 use Rattle.capn_tool.specs.StreamRun.{IsDueSo, Runs, WritesFront}
 use Rattle.capn_tool.specs.Outgoing.{sent}
 use Rattle.capn_tool.specs.inner.PackedRun.{EndsPacked, HearsPacked, IsUnpacking, StopsPacked, WritesPacked, fresh}
-use Rattle.capn_tool.specs.declared.plan.Piece.{Piece}
+use Rattle.capn_tool.specs.declared.plan.MessageText.{MessageText}
 use Rattle.capn_tool.specs.declared.plan.Plan.TheVariants as plans
 use Rattle.capn_tool.specs.declared.fault.ToolFault.{ToolFault}
 use Rattle.capn_tool.specs.declared.fault.ToolFault.TheVariants as faults
@@ -55,7 +55,7 @@ split_behind s tail words b =
       },
     )
 
-module _ (piece : Piece) (limits : Bounds) where
+module _ (piece : MessageText) (limits : Bounds) where
   -- a beginning of the pieces of the messages in the words of some groups was written
   abbrev Fronts : List ℕ → Option (List ℕ) → Option (List ℕ) → Type 0
   Fronts s c d = (words : List ℕ) × Begins s [] words × WritesFront piece limits words (sent c) (sent d)

@@ -8,8 +8,8 @@ use Rattle.capn_walk.specs.declared.walk_answer.Stopped.{Stopped}
 use Rattle.capn_walk.specs.declared.target.Fault.TheVariants as walk_faults
 use Rattle.capn_canon.specs.BareVerdict.{IsBareSurvey}
 use Rattle.capn_canon.specs.declared.surveyed_bare.SurveyedBare.{SurveyedBare}
-use Rattle.capn_tool.specs.MessageText.{AreCanonical, PutsBarePiece, PutsLine, IsStopOf, priced}
-use Rattle.capn_tool.specs.declared.plan.Piece.TheVariants as kinds
+use Rattle.capn_tool.specs.MessageText.{AreCanonical, PutsBareMessageText, PutsLine, IsStopOf, priced}
+use Rattle.capn_tool.specs.declared.plan.MessageText.TheVariants as kinds
 use Rattle.capn_tool.specs.declared.fault.ToolFault.{ToolFault}
 
 module _ (words : List ℕ) (limits : Bounds) (c : SurveyedBare) (told : IsBareSurvey words limits c) where
@@ -26,7 +26,7 @@ module _ (words : List ℕ) (limits : Bounds) (c : SurveyedBare) (told : IsBareS
 
   pub verdict_yes : (old new : List ℕ) (r : Result (Unit {0}) ToolFault) → c.is_canonical ≡ true
       → PutsLine (priced c.paid c.visits (codes " canonical" ++ 10 ∷ [])) old new r
-      → PutsBarePiece kinds.Price words limits old new r
+      → PutsBareMessageText kinds.Price words limits old new r
   verdict_yes old new (Ok u) e put = (
     priced c.paid c.visits (codes " canonical" ++ 10 ∷ []),
     (told.value, told.is, inl (yes e, same_line (codes " canonical" ++ 10 ∷ []))),
@@ -36,7 +36,7 @@ module _ (words : List ℕ) (limits : Bounds) (c : SurveyedBare) (told : IsBareS
 
   pub verdict_no : (old new : List ℕ) (r : Result (Unit {0}) ToolFault) → c.is_canonical ≡ false
       → PutsLine (priced c.paid c.visits (codes " not-canonical" ++ 10 ∷ [])) old new r
-      → PutsBarePiece kinds.Price words limits old new r
+      → PutsBareMessageText kinds.Price words limits old new r
   verdict_no old new (Ok u) e put = (
     priced c.paid c.visits (codes " not-canonical" ++ 10 ∷ []),
     (told.value, told.is, inr (no e, same_line (codes " not-canonical" ++ 10 ∷ []))),
@@ -47,7 +47,7 @@ module _ (words : List ℕ) (limits : Bounds) (c : SurveyedBare) (told : IsBareS
 -- the walk stopped
 pub verdict_stopped : (words : List ℕ) (limits : Bounds) (s : Stopped) (old : List ℕ) (r : Result (Unit {0}) ToolFault)
     → (s.fault ≡ walk_faults.Memory) ⊎ walks.IsWalkRefused (words ∷ []) limits s.fault s.place s.paid s.visits
-    → IsErrAnd r (IsStopOf s) → PutsBarePiece kinds.Price words limits old old r
+    → IsErrAnd r (IsStopOf s) → PutsBareMessageText kinds.Price words limits old old r
 verdict_stopped words limits s old (Ok u) why is = absurd is
 verdict_stopped words limits s old (Err fault) why (inl (memory, is)) = (inl is, refl)
 verdict_stopped words limits s old (Err fault) (inl memory) (inr (other, is)) = absurd (other memory)
