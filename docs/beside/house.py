@@ -951,7 +951,7 @@ START = re.compile(r"\s*(?:(?:pub|abbrev|unfoldable|record|ensures|requires)\s+)
 
 def folded(line):
     """A line of a definition, a proof or a clause that is too long, in two: before its last operator that is in the
-    fewest parentheses, or before the last such parenthesis."""
+    fewest parentheses, or before the last such parenthesis, or else the last such argument."""
     lead = len(line) - len(line.lstrip())
     stated = re.fullmatch(r"(\s*pub \S+ :) (goal\.\S+)", line)
     if stated:
@@ -963,8 +963,10 @@ def folded(line):
             best["operator"] = min(best.get("operator", (depth, 0)), (depth, -at))
         elif at > lead + 20 and line.startswith(" (", at):
             best["parenthesis"] = min(best.get("parenthesis", (depth, 0)), (depth, -at))
+        elif at > lead + 20 and re.match(r" [\w.]", line[at:]):
+            best["argument"] = min(best.get("argument", (depth, 0)), (depth, -at))
         depth += (char == "(") - (char == ")")
-    found = best.get("operator") or best.get("parenthesis")
+    found = best.get("operator") or best.get("parenthesis") or best.get("argument")
     if not found or not found[1]:
         return [line]
     at = -found[1]

@@ -5,7 +5,8 @@ pub returns-in_err-put_message_text : goal.returns-in_err-put_message_text
 returns-in_err-put_message_text g c =
     adds_nothing c.args.service.now.piece (g.S.Space.message c.args.space.now) c.args.service.now.limits _
     c.args.text.now.items
-    c.put_message_text.new.text.items _ c.in_err-put_message_text.field-0.0 c.from_residual.result c.in_err-put_message_text.ensures
+    c.put_message_text.new.text.items _ c.in_err-put_message_text.field-0.0 c.from_residual.result
+    c.in_err-put_message_text.ensures
     c.requires c.from_residual.ensures.1
 
 pub write_all-requires : goal.write_all-requires
@@ -16,7 +17,8 @@ returns-in_err-write_all g c =
     let wrote = c.in_err-write_all.ensures in
     adds_broken c.args.service.now.piece (g.S.Space.message c.args.space.now) c.args.service.now.limits _ _
     c.args.text.now.items
-    c.put_message_text.new.text.items c.deref.result.now _ c.in_err-write_all.field-0.0 c.from_residual-in_err-write_all.result
+    c.put_message_text.new.text.items c.deref.result.now _ c.in_err-write_all.field-0.0
+    c.from_residual-in_err-write_all.result
     c.in_ok-put_message_text.ensures c.deref.ensures.value wrote.begun wrote.io wrote.only
     c.from_residual-in_err-write_all.ensures.1
 
