@@ -104,6 +104,20 @@ SPECS = [
     ("capn_c", "Pieces", "UnpackedPieces"),
 ]
 
+# What is read in one go is one file of specs/: crate, files by their new names, in order of need, the one file, its head.
+MERGES = [
+    ("capn_words", ["Limits", "Words", "Message"], "Message",
+     "Words, bytes and messages: a message is a list of segments, and a segment is a list of words. (Page: messages.)"),
+    ("capn_words", ["Pointers", "Fields"], "Pointers",
+     "The pointer that a word is, and the word of a pointer. `split` ties both, so it is enough to read one. "
+     "(Page: structs, lists, inter-segment pointers, capabilities.)"),
+    ("capn_pack", ["Group", "Packs"], "Packed",
+     "Packed texts are rows of groups. A word is its eight bytes, the least first. (Page: packing.)"),
+    ("capn_walk", ["Stops", "Accepted"], "Accepted",
+     "Which messages are accepted within limits, what they denote and pay, and how the others are refused. "
+     "(Page: security considerations; own.)"),
+]
+
 # Files of lemmas in proofs/.
 LEMMAS = [
     ("capn_pack", "SomeLemmas", "WholeGroupLemmas"),
@@ -199,7 +213,7 @@ CYCLES = [
 
 # Words of definitions: crate, module by its new name, old, new.
 WORDS = [
-    ("capn_words", "specs.Fields", "Fits", "FitsFields"),
+    ("capn_words", "specs.Pointers", "Fits", "FitsFields"),
     ("capn_pack", "specs.UnpackRefusal", "IsRefused", "IsUnpackRefused"),
     ("capn_stream", "specs.FrameRefusal", "IsRefused", "IsFrameRefused"),
     ("capn_stream", "specs.inner.Stages", "IsStop", "IsHeadRefused"),
@@ -277,6 +291,7 @@ SENTENCES = [
      "`specs/Display.antt` of its crate; `specs/FaultText.antt` of capn_tool and capn_make"),
     ("rooms", "docs/CONTRIBUTING.md", "`capn_tool/src/` the same, and `plan.rt`",
      "`capn_tool/src/subcommands.rt`, `command_line.rt`, `command.rt`, `help.rt`, `plan.rt`"),
+    ("rooms", "docs/CONTRIBUTING.md", "`capn_words/specs/Pointers.antt`, `Pointers.antt`", "`capn_words/specs/Pointers.antt`"),
     ("words", "docs/ARCHITECTURE.md", "`account`, `is_canonical`", "`survey_bytes`, `is_canonical`"),
     ("words", "docs/PROMISES.md", "- `account` surveys bytes", "- `survey_bytes` surveys bytes"),
     ("words", "docs/PROMISES.md", "`account` answers for", "`survey_bytes` answers for"),
@@ -627,6 +642,70 @@ def renamed_cycles(crate):
         edit(code(), lambda path, text: text.replace(before, after))
 
 
+def sections(text):
+    """The head of a file of definitions, its imports, and what follows."""
+    lines = text.rstrip("\n").split("\n")
+    at = 0
+    while lines[at].startswith("--"):
+        at += 1
+    first = at
+    while at < len(lines) and (not lines[at] or re.match(r"(unfoldable )?(pub )?use ", lines[at])):
+        at += 1
+    return head_of(text), [line for line in lines[first:at] if line], "\n".join(lines[at:])
+
+
+def merged_specs(crate):
+    """Files that are read in one go become one; each keeps its head as the line above its part."""
+    count = 0
+    for it, names, new, head in MERGES:
+        top = f"crates/{crate}/specs"
+        there = [name for name in names if os.path.exists(f"{top}/{name}.antt")]
+        if it != crate or there in ([], [new]):
+            continue
+        uses, parts = [], []
+        for name in there:
+            says, imports, body = sections(read(f"{top}/{name}.antt"))
+            uses += [line for line in imports if not re.search(rf"Rattle\.{crate}\.specs\.(?:{'|'.join(names)})\.", line)]
+            parts.append(wrapped(f"---- {says[:1].lower()}{says[1:]}") + "\n" + body)
+        for name in there:
+            os.remove(f"{top}/{name}.antt")
+        lib = read(f"{top}/Lib.antt").split("\n")
+        at = min(lib.index(f"pub mod {name}") for name in there)
+        rest = [line for line in lib if line not in [f"pub mod {name}" for name in there]]
+        write(f"{top}/Lib.antt", "\n".join([*rest[:at], f"pub mod {new}", *rest[at:]]))
+        text = wrapped(head) + "\n".join(dict.fromkeys(uses)) + "\n\n" + "\n\n".join(parts) + "\n"
+        for module in dict.fromkeys(re.findall(r"use (Rattle\.[\w.]+)\.\{", text)):
+            text = joined_uses(text, module)
+        write(f"{top}/{new}.antt", text)
+        module = f"Rattle.{crate}.specs.{new}"
+        followed((f"Rattle.{crate}.specs.{name}", module) for name in there if name != new)
+        edit(code(), lambda path, text: joined_uses(text, module) if module in text else text)
+        for name in there:
+            if name != new:
+                on_pages(f"{crate}/specs/{name}.antt", f"{crate}/specs/{new}.antt")
+        say(f"{crate}: {' '.join(there)} are specs/{new}")
+        count += len(there)
+    return count
+
+
+def joined_uses(text, module):
+    """A file with one import of the names of a module, where it has several."""
+    there = re.compile(rf"((?:ghost )?use {re.escape(module)}\.)\{{(.*)\}}(;?)")
+    lines, first, names = [], None, []
+    for line in text.split("\n"):
+        found = there.fullmatch(line)
+        if not found:
+            lines.append(line)
+            continue
+        names += [name for name in found[2].split(", ") if name not in names]
+        if first is None:
+            first = (len(lines), found)
+            lines.append(line)
+    if first:
+        lines[first[0]] = f"{first[1][1]}{{{', '.join(names)}}}{first[1][3]}"
+    return "\n".join(lines)
+
+
 def items_of(text):
     """The imports of a source file, and its other items, each with its name where it is a function."""
     parts = re.split(r"\n\n+(?=\S)", text.rstrip("\n"))
@@ -708,6 +787,7 @@ def split_sources(crate):
 def rooms():
     for crate in crates():
         done = renamed_files(crate, "specs", SPECS) + renamed_files(crate, "proofs", LEMMAS) + renamed_sources(crate)
+        done += merged_specs(crate)
         renamed_cycles(crate)
         split_sources(crate)
         if done:

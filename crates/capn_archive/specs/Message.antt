@@ -1,8 +1,7 @@
 -- What is told of a message: where it is and how large, and what it costs to read. (Own.)
 use Rattle.std.specs.Prelude.{◌≡◌, ◌↔◌, ℕ, List, [], ◌∷◌, length, None}
 use Rattle.std.specs.Bool.{IsTrue}
-use Rattle.capn_words.specs.Message.{total}
-use Rattle.capn_words.specs.Words.{bytes}
+use Rattle.capn_words.specs.Message.{total, bytes}
 use Rattle.capn_value.specs.Tree.{Tree}
 use Rattle.capn_value.specs.FirstCap.{first_cap}
 use Rattle.capn_walk.specs.Limits.{Bounds}

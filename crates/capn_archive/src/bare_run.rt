@@ -1,8 +1,7 @@
 //! A run over a bare input: the one message that it is.
 
 ghost use Rattle.std.specs.Prelude.{◌≡◌, ℕ, ◌*◌, ◌<◌, List, length, false, Err};
-ghost use Rattle.capn_words.specs.Limits.{most_words};
-ghost use Rattle.capn_words.specs.Words.{ReadsBare};
+ghost use Rattle.capn_words.specs.Message.{most_words, ReadsBare};
 ghost use Rattle.capn_words.specs.Watched.{inner_of, has_failed};
 ghost use Rattle.capn_archive.specs.BareRun.{GivesText, IsShortBare, RunsBare};
 ghost use Rattle.capn_archive.specs.Fold.{fold_of};

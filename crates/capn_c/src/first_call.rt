@@ -1,7 +1,7 @@
 //! The first frame of a stream.
 
 ghost use Rattle.std.specs.Prelude.{IsTrue, ◌≡◌, ◌⊎◌, ◌↔◌, ◌≤◌, ℕ, List, IfOk, IfErr, IsErrOf, MatchResult};
-ghost use Rattle.capn_words.specs.Limits.{most_message_words};
+ghost use Rattle.capn_words.specs.Message.{most_message_words};
 ghost use Rattle.capn_stream.specs.Frames.{StandsFirst};
 ghost use Rattle.capn_stream.specs.Framing.{IsUnfinished};
 ghost use Rattle.capn_stream.specs.FrameRefusal.{HasTable, IsFrameRefused};

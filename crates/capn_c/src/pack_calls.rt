@@ -1,7 +1,7 @@
 //! Packing.
 
 ghost use Rattle.std.specs.Prelude.{◌↔◌, IsTrue, ◌≡◌, ◌≢◌, ◌⊎◌, ◌≤◌, ◌<◌, ◌%◌, ◌*◌, ℕ, List, length};
-ghost use Rattle.capn_pack.specs.Packs.{Packs};
+ghost use Rattle.capn_pack.specs.Packed.{Packs};
 ghost use Rattle.capn_pack.specs.Chosen.{Chosen};
 ghost use Rattle.capn_pack.specs.Words.{HasWords};
 ghost use Rattle.capn_pack.specs.UnpackRefusal.{IsUnpackRefused, StartsWithin};

@@ -3,8 +3,8 @@ use Rattle.std.proofs.Common.{◌≡◌, ℕ, zero, suc, ◌+◌, ◌-◌, ◌*�
 use Rattle.std.proofs.Common.{[], ◌∷◌, ◌++◌, length, take, drop, map, pos, refl, arith}
 use Rattle.std.specs.Int.{from_bool}
 use Rattle.std.proofs.Math.Nat.{pow-succ', pow-zero, one-le-pow, mul-le-mul_left}
-use Rattle.capn_words.specs.Fields.{word_of}
-use Rattle.capn_words.specs.Words.{AreWords, IsBare, words_in}
+use Rattle.capn_words.specs.Pointers.{word_of}
+use Rattle.capn_words.specs.Message.{AreWords, IsBare, words_in}
 use Rattle.capn_words.specs.declared.pointer.Pointer.{Pointer}
 use Rattle.capn_words.specs.declared.pointer.Pointer.TheVariants.{Many, Cap}
 use Rattle.capn_words.specs.declared.pointer.Width.{Width}

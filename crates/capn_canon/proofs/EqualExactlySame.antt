@@ -1,6 +1,6 @@
 -- Canonical bytes of two values are equal exactly if the values are the same.
 use Rattle.std.proofs.Common.{◌≡◌, ◌↔◌, ℕ, ◌/◌, ◌^◌, ◌≤◌, List, [], ◌∷◌, length, ap, sym, subst, ◌∙◌, arith}
-use Rattle.capn_words.specs.Words.{bytes, words_in}
+use Rattle.capn_words.specs.Message.{bytes, words_in}
 use Rattle.capn_value.specs.Tree.{Tree}
 use Rattle.capn_value.specs.InRange.{InRange}
 use Rattle.capn_value.specs.Fits.{Fits}

@@ -4,8 +4,7 @@ use Rattle.std.proofs.Common.{subst, Result, IfErr, IsErrOf}
 use Rattle.std.proofs.Math.Nat.{lt_of_not-le}
 use Rattle.std.specs.List.{AllByRecursion}
 use Rattle.std.proofs.lemmas.List.{length-append}
-use Rattle.capn_pack.specs.Group.{Group, IsGroup, content}
-use Rattle.capn_pack.specs.Packs.{Packs, contents, texts}
+use Rattle.capn_pack.specs.Packed.{Group, IsGroup, content, Packs, contents, texts}
 use Rattle.capn_pack.specs.UnpackRefusal.{StartsWithin}
 use Rattle.capn_pack.proofs.shared.GroupLemmas.{length_content}
 use Rattle.capn_stream.specs.Frames.{most_table_words}

@@ -2,8 +2,7 @@
 use Rattle.std.proofs.Common.{◌≡◌, ℕ, ◌+◌, ◌*◌, ◌^◌, ◌<◌, ◌≤◌, List, [], ◌∷◌, length, slice_index, Option, Ok, pos}
 use Rattle.std.proofs.Common.{arith, ◌-◌, ◌/◌, ◌%◌, ◌∙◌}
 use Rattle.capn_words.specs.Message.{segment_at}
-use Rattle.capn_words.specs.Fields.{word_of}
-use Rattle.capn_words.specs.Pointers.{field}
+use Rattle.capn_words.specs.Pointers.{word_of, field}
 use Rattle.capn_words.specs.declared.pointer.Pointer.TheVariants.{Node}
 use Rattle.capn_words.specs.declared.pointer.Width.TheVariants.{Rows}
 use Rattle.capn_value.specs.Tree.{Tree, Bodies, count_rows}

@@ -2,8 +2,7 @@
 use Rattle.std.proofs.Common.{◌≡◌, ◌⊎◌, inl, inr, ℕ, ◌+◌, ◌-◌, ◌/◌, ◌%◌, ◌^◌, ◌<◌, ◌≤◌, ◌==◌, ◌&&◌, ℤ, List, []}
 use Rattle.std.proofs.Common.{◌∷◌, length, take, drop, slice_index, Option, Some, ap, sym, subst, ◌∙◌, arith, refl}
 use Rattle.std.proofs.lemmas.Bool.Decides.{nat_tests}
-use Rattle.capn_words.specs.Fields.{Fields, word_of}
-use Rattle.capn_words.specs.Pointers.{pointer_of}
+use Rattle.capn_words.specs.Pointers.{Fields, word_of, pointer_of}
 use Rattle.capn_words.proofs.shared.Choices.{if-no}
 use Rattle.capn_words.proofs.shared.Pointers.{Fields-only}
 use Rattle.capn_words.specs.declared.pointer.Pointer.TheVariants.{Node}

@@ -10,9 +10,8 @@ use Rattle.capn_value.proofs.shared.Fitting.{fit_parts}
 use Rattle.capn_value.proofs.shared.StaysFit.{fits-trimmed}
 use Rattle.capn_value.proofs.shared.Trimmed.{cost-trimmed, height-trimmed}
 use Rattle.capn_walk.specs.Visits.{visits}
-use Rattle.capn_walk.specs.Stops.{root, visits_at_root, root_visits}
+use Rattle.capn_walk.specs.Accepted.{root, visits_at_root, root_visits, paid}
 use Rattle.capn_walk.specs.ValueAt.{IsAt}
-use Rattle.capn_walk.specs.Accepted.{paid}
 use Rattle.capn_walk.specs.Limits.{Bounds}
 use Rattle.capn_canon.specs.declared.form.Form.TheVariants as forms
 use Rattle.capn_canon.specs.Denotes.{Denotes}

@@ -16,7 +16,7 @@ use Rattle.capn_walk.specs.declared.target.Shape.{Shape}
 use Rattle.capn_walk.specs.declared.target.Shape.TheVariants as shapes
 use Rattle.capn_walk.specs.Target.{target}
 use Rattle.capn_walk.specs.Visits.{Visit, pays, fails, price, places, row_places, slots, visits}
-use Rattle.capn_walk.specs.Stops.{paid_of, AllPay}
+use Rattle.capn_walk.specs.Accepted.{paid_of, AllPay}
 use Rattle.capn_walk.specs.ValueAt.{IsAt, AreAt, RowsAt, StandAt, AreElements, words_from}
 use Rattle.capn_words.proofs.shared.Choices.{pick}
 use Rattle.capn_walk.proofs.shared.Walks.{slot, visits-null, visits-cap, visits-object}

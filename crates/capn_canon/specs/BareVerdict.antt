@@ -1,7 +1,7 @@
 -- What the check of canonical bytes answers.
 use Rattle.std.specs.Prelude.{◌≡◌, ◌↔◌, ℕ, List, [], ◌∷◌, None, Bool}
 use Rattle.std.specs.Bool.{IsTrue}
-use Rattle.capn_words.specs.Words.{bytes}
+use Rattle.capn_words.specs.Message.{bytes}
 use Rattle.capn_value.specs.Tree.{Tree}
 use Rattle.capn_value.specs.FirstCap.{first_cap}
 use Rattle.capn_walk.specs.Accepted.{IsValueOf, paid, number_of_visits}

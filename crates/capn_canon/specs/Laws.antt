@@ -1,6 +1,6 @@
 -- The laws of canonical bytes.
 use Rattle.std.specs.Prelude.{◌≡◌, ◌↔◌, ℕ, ◌*◌, ◌+◌, ◌≤◌, List, None, length, Result, IfOk, IfErr}
-use Rattle.capn_words.specs.Words.{bytes}
+use Rattle.capn_words.specs.Message.{bytes}
 use Rattle.capn_pack.specs.Words.{bytes as packed_bytes}
 use Rattle.capn_value.specs.Tree.{Tree}
 use Rattle.capn_value.specs.FirstCap.{first_cap}

@@ -1,7 +1,7 @@
 -- Why bytes have no canonical bytes, in each form: by their reading, by the walk of the message, by a capability.
 -- (Own: the order of the tests.)
 use Rattle.std.specs.Prelude.{◌≡◌, ◌≢◌, ℕ, ◌+◌, List, Some, Err, ⊤}
-use Rattle.capn_words.specs.Words.{ReadsBare}
+use Rattle.capn_words.specs.Message.{ReadsBare}
 use Rattle.capn_pack.specs.UnpackRefusal as packs
 use Rattle.capn_pack.specs.declared.fault.UnpackFault.TheVariants as unpack_faults
 use Rattle.capn_stream.specs.Frames.{most_table_words}

@@ -3,8 +3,7 @@
 ghost use Rattle.std.specs.Prelude.{◌≡◌, ℕ, ◌+◌, ◌*◌, ◌/◌, ◌^◌, ◌<◌, ◌≤◌, IsTrue, ◌↔◌, [], ◌∷◌, length, take, drop};
 ghost use Rattle.std.specs.Prelude.{slice_index, pos, ◌-◌, ◌%◌};
 ghost use Rattle.capn_words.specs.Message.{IsMessage};
-ghost use Rattle.capn_words.specs.Fields.{word_of};
-ghost use Rattle.capn_words.specs.Pointers.{field};
+ghost use Rattle.capn_words.specs.Pointers.{word_of, field};
 ghost use Rattle.capn_words.specs.declared.pointer.Pointer.TheVariants.{Node};
 ghost use Rattle.capn_words.specs.declared.pointer.Width.TheVariants.{Rows};
 ghost use Rattle.capn_value.specs.Trim.{kept_words};

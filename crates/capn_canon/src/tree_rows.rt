@@ -2,7 +2,7 @@
 
 ghost use Rattle.std.specs.Prelude.{◌≡◌, ◌+◌, ◌^◌, ◌<◌, ◌≤◌, [], ◌∷◌, ◌++◌, length, take, replicate, pos, Some, None};
 ghost use Rattle.std.specs.Prelude.{IfOk, OnOk};
-ghost use Rattle.capn_words.specs.Fields.{word_of};
+ghost use Rattle.capn_words.specs.Pointers.{word_of};
 ghost use Rattle.capn_words.specs.declared.pointer.Pointer.TheVariants.{Node};
 ghost use Rattle.capn_value.specs.TreeOf.{rows_of};
 ghost use Rattle.capn_canon.specs.Patch.{whole};

@@ -4,8 +4,7 @@ use Rattle.std.proofs.Common.{refl, sym, ap, ◌∙◌, subst, arith, append_ass
 use Rattle.std.proofs.Common.{length-take}
 use Rattle.std.proofs.lemmas.List.{append-nil}
 use Rattle.std.specs.List.{AllByRecursion}
-use Rattle.capn_pack.specs.Group.{Group, IsGroup, text, content}
-use Rattle.capn_pack.specs.Packs.{texts, contents, word_count}
+use Rattle.capn_pack.specs.Packed.{Group, IsGroup, text, content, texts, contents, word_count}
 use Rattle.capn_pack.specs.UnpackRefusal.{IsCut, IsTooLong, StartsWithin}
 use Rattle.capn_pack.specs.WholeGroups.{UnpacksSome, AppendsSome, StandsNext, most_group}
 use Rattle.capn_pack.specs.inner.Steps.{Takes, TakesRow}

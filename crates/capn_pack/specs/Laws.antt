@@ -1,6 +1,6 @@
 -- The laws of packed texts.
 use Rattle.std.specs.Prelude.{◌≡◌, ◌≢◌, ℕ, ◌*◌, ◌≤◌, List, length}
-use Rattle.capn_pack.specs.Packs.{Packs}
+use Rattle.capn_pack.specs.Packed.{Packs}
 use Rattle.capn_pack.specs.UnpackRefusal.{IsUnpackRefused}
 use Rattle.capn_pack.specs.PackedPieces.{Splits}
 use Rattle.capn_pack.specs.declared.fault.UnpackFault.{UnpackFault}

@@ -1,6 +1,5 @@
 pub mod inner
-pub mod Group
-pub mod Packs
+pub mod Packed
 pub mod Chosen
 pub mod UnpackRefusal
 pub mod Words

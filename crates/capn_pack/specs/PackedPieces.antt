@@ -1,8 +1,7 @@
 -- A packed text that comes in pieces. (Own.)
 use Rattle.std.specs.Prelude.{ℕ, ◌≡◌, ◌+◌, ◌-◌, ◌^◌, ◌++◌, List, Bool, false, length, min}
 use Rattle.std.specs.List.{AllByRecursion}
-use Rattle.capn_pack.specs.Group.{Group, IsGroup, text}
-use Rattle.capn_pack.specs.Packs.{texts, contents}
+use Rattle.capn_pack.specs.Packed.{Group, IsGroup, text, texts, contents}
 
 -- No whole group stands at the front of these bytes.
 abbrev pub NoGroupFirst : List ℕ → Type 0

@@ -4,8 +4,7 @@ use Rattle.std.specs.Prelude.{count_ones, ⊤}
 use Rattle.std.specs.List.{AllByRecursion}
 use Rattle.capn_pack.specs.declared.fault.UnpackFault.{UnpackFault}
 use Rattle.capn_pack.specs.declared.fault.UnpackFault.TheVariants.{Memory, Cut, TooLong, Failed}
-use Rattle.capn_pack.specs.Group.{Group, IsGroup, text, words}
-use Rattle.capn_pack.specs.Packs.{texts, word_count}
+use Rattle.capn_pack.specs.Packed.{Group, IsGroup, text, words, texts, word_count}
 
 -- How long the head of a group with this tag is: the tag, then a count, the named bytes, or a word and a count.
 abbrev pub head_len : ℕ → ℕ

@@ -1,8 +1,7 @@
 -- The whole groups at the front of some bytes, under a maximum of words. (Own.)
 use Rattle.std.specs.Prelude.{ℕ, ◌≡◌, ◌+◌, ◌<◌, ◌≤◌, ◌++◌, List, [], length, take, drop}
 use Rattle.std.specs.List.{AllByRecursion}
-use Rattle.capn_pack.specs.Group.{Group, IsGroup}
-use Rattle.capn_pack.specs.Packs.{texts, contents, word_count}
+use Rattle.capn_pack.specs.Packed.{Group, IsGroup, texts, contents, word_count}
 use Rattle.capn_pack.specs.UnpackRefusal.{IsCut, IsTooLong}
 use Rattle.capn_pack.specs.declared.whole_groups.Next.{Next}
 use Rattle.capn_pack.specs.declared.whole_groups.Next.TheVariants as nexts

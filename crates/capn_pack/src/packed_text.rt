@@ -1,7 +1,7 @@
 //! Packing.
 ghost use Rattle.std.specs.Prelude.{◌≡◌, ◌≢◌, ◌+◌, ◌%◌, ◌<◌, ◌≤◌, ◌∷◌, ◌++◌, ◌↔◌, length, take, IfOk, IsErrOf, OnErr};
 ghost use Rattle.std.specs.Prelude.{MatchResult, ℕ, List};
-ghost use Rattle.capn_pack.specs.Packs.{Packs};
+ghost use Rattle.capn_pack.specs.Packed.{Packs};
 ghost use Rattle.capn_pack.specs.Chosen.{Chosen};
 
 use crate::fault::PackFault;

@@ -1,6 +1,6 @@
 //! Unpacking.
 ghost use Rattle.std.specs.Prelude.{◌≡◌, ◌*◌, ◌≤◌, length, IfOk, IfErr, IsErrOf, MatchResult, List, ℕ};
-ghost use Rattle.capn_pack.specs.Packs.{Packs};
+ghost use Rattle.capn_pack.specs.Packed.{Packs};
 ghost use Rattle.capn_pack.specs.UnpackRefusal.{IsUnpackRefused, StartsWithin};
 ghost use Rattle.capn_pack.specs.Words.{HasWords};
 

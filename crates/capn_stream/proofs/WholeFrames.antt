@@ -3,8 +3,7 @@ use Rattle.std.proofs.Common.{◌≡◌, ℕ, ◌+◌, ◌-◌, ◌*◌, ◌^◌
 use Rattle.std.proofs.Common.{◌∙◌, arith, append_assoc, length-drop}
 use Rattle.std.specs.List.{flat_map}
 use Rattle.std.proofs.lemmas.List.{length-take-le, take_rest}
-use Rattle.capn_words.specs.Message.{bytes}
-use Rattle.capn_words.specs.Words.{AreBytes, AreWords, IsBare}
+use Rattle.capn_words.specs.Message.{bytes, AreBytes, AreWords, IsBare}
 use Rattle.capn_stream.specs.Cuts.{AreEnds, cut, ends_from}
 use Rattle.capn_stream.specs.Frames.{StandsFirst, contents, entry, padding, table}
 use Rattle.capn_stream.specs.FrameRefusal.{IsWhole, announced_segments, entries, entry_number, frame_length}

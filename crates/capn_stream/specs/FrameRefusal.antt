@@ -2,7 +2,7 @@
 -- the tests is our own.)
 use Rattle.std.specs.Prelude.{◌≡◌, ◌⊎◌, ℕ, zero, suc, ◌+◌, ◌*◌, ◌<◌, ◌≤◌, List, [], ◌∷◌, length, drop, sum, ⊤}
 use Rattle.byteorder.specs.Endian.{little_number}
-use Rattle.capn_words.specs.Limits.{most_segments}
+use Rattle.capn_words.specs.Message.{most_segments}
 use Rattle.capn_stream.specs.Frames.{padding}
 use Rattle.capn_stream.specs.declared.fault.FrameFault.{FrameFault}
 use Rattle.capn_stream.specs.declared.fault.FrameFault.TheVariants.{Memory, Empty, TooManySegments, TooManyWords, Cut}

@@ -1,8 +1,7 @@
 -- A stream of messages that comes in pieces. (Own.)
 use Rattle.std.specs.Prelude.{◌≡◌, ◌⊎◌, ℕ, ◌≤◌, List, [], ◌++◌, length, take, Bool, true, false, Result, Ok, Err}
 use Rattle.std.specs.Prelude.{Option, Some, None}
-use Rattle.capn_words.specs.Limits.{most_message_words}
-use Rattle.capn_words.specs.Message.{total}
+use Rattle.capn_words.specs.Message.{most_message_words, total}
 use Rattle.capn_stream.specs.Frames.{Frames}
 use Rattle.capn_stream.specs.FrameRefusal.{IsFrameRefused}
 use Rattle.capn_stream.specs.inner.Stages.{IsStage, Rests}

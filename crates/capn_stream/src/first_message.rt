@@ -1,7 +1,7 @@
 //! The message that stands first in a stream.
 
 ghost use Rattle.std.specs.Prelude.{◌≡◌, ℕ, ◌≤◌, List, IfOk, IfErr, IsErrOf, MatchResult};
-ghost use Rattle.capn_words.specs.Limits.{most_message_words};
+ghost use Rattle.capn_words.specs.Message.{most_message_words};
 ghost use Rattle.capn_stream.specs.Frames.{StandsFirst};
 ghost use Rattle.capn_stream.specs.FrameRefusal.{HasTable, IsFrameRefused};
 

@@ -2,7 +2,7 @@
 
 ghost use Rattle.std.specs.Prelude.{◌≡◌, ◌↔◌, IsTrue, ℕ, ◌+◌, ◌<◌, ◌≤◌, ◌++◌, List, [], length, false};
 ghost use Rattle.std.specs.Prelude.{IsErrOf};
-ghost use Rattle.capn_words.specs.Limits.{most_message_words};
+ghost use Rattle.capn_words.specs.Message.{most_message_words};
 ghost use Rattle.capn_stream.specs.Framing.{FeedGives, FinishGives, IsFrame, IsUnfinished, TakeGives};
 ghost use Rattle.capn_stream.specs.FrameRefusal.{EndsWithin};
 ghost use Rattle.capn_stream.specs.NextMessage.{most_bytes};

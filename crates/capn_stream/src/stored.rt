@@ -1,7 +1,7 @@
 //! A message that owns its segments.
 
 ghost use Rattle.std.specs.Prelude.{◌≡◌, ℕ, ◌+◌, ◌-◌, ◌*◌, ◌/◌, ◌%◌, ◌<◌, ◌≤◌, List, length, slice_index, take, drop};
-ghost use Rattle.capn_words.specs.Words.{AreBytes, bytes, word_number, words_in};
+ghost use Rattle.capn_words.specs.Message.{AreBytes, bytes, word_number, words_in};
 ghost use Rattle.capn_stream.specs.Cuts.{AreEnds, cut};
 ghost use Rattle.capn_stream.specs.inner.StoredWords.{IsTail};
 
@@ -20,7 +20,7 @@ pub(crate) struct Words<A: Allocator = Global> {
 
 impl<A: Allocator> Model for Words<A> {
     ghost use Rattle.std.specs.Prelude.{◌≡◌, ℕ, ◌/◌, ◌%◌, ◌^◌, ◌<◌, ◌≤◌, List, length, drop};
-    ghost use Rattle.capn_words.specs.Words.{AreBytes, words_in};
+    ghost use Rattle.capn_words.specs.Message.{AreBytes, words_in};
     ghost use Rattle.capn_stream.specs.inner.StoredWords.{IsTail};
 
     ghost Value = { List ℕ };
@@ -39,7 +39,7 @@ fn count_of(frame: &[u8], start: usize) -> usize
 }
 
 /// The word at byte 8 * `index` after `start`.
-#[tactic(auto, unfolding(capn_words::specs::Words::word_number))]
+#[tactic(auto, unfolding(capn_words::specs::Message::word_number))]
 fn word_of(frame: &[u8], start: usize, index: usize) -> u64
     requires { start + (8 * index + 8) ≤ length frame.now }
     ensures { result ≡ word_number (drop (8 * index) (drop start frame.now)) }

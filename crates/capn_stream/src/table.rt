@@ -3,7 +3,7 @@
 ghost use Rattle.std.specs.Prelude.{◌≡◌, ℕ, ◌+◌, ◌*◌, ◌^◌, ◌<◌, ◌≤◌, length, drop, sum, IfOk, IfErr, IsErrOf, OnErr};
 ghost use Rattle.std.specs.Prelude.{vec_capacity};
 ghost use Rattle.capn_stream.specs.Cuts.{ends_from};
-ghost use Rattle.capn_words.specs.Limits.{most_segments, most_message_words};
+ghost use Rattle.capn_words.specs.Message.{most_segments, most_message_words};
 ghost use Rattle.capn_stream.specs.FrameRefusal.{IsFrameRefused, IsWhole, announced_segments, entries, entry_number};
 ghost use Rattle.capn_stream.specs.FrameRefusal.{head_length};
 ghost use Rattle.capn_stream.specs.FrameRefusal.{announced_words};

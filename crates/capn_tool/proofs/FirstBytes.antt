@@ -10,7 +10,7 @@ use Rattle.capn_stream.proofs.shared.FrameLaws.{announces, stands_alone}
 use Rattle.capn_stream.proofs.shared.Longer.{IsStop-append}
 use Rattle.capn_stream.specs.declared.fault.FrameFault.{FrameFault}
 use Rattle.capn_stream.specs.declared.fault.FrameFault.TheVariants as frame_faults
-use Rattle.capn_pack.specs.Packs.{Packs}
+use Rattle.capn_pack.specs.Packed.{Packs}
 use Rattle.capn_pack.specs.declared.fault.UnpackFault.{UnpackFault}
 use Rattle.capn_walk.specs.Limits.{Bounds}
 use Rattle.capn_canon.specs.Denotes.{Answers}

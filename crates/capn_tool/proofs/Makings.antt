@@ -2,7 +2,7 @@
 use Rattle.std.proofs.Common.{◌≡◌, ◌⊎◌, inl, inr, ℕ, ◌+◌, ◌*◌, ◌<◌, ◌≤◌, ◌^◌, List, length, Bool, Option, Result, Ok}
 use Rattle.std.proofs.Common.{Err}
 use Rattle.std.proofs.Common.{Vec, refl, sym, subst, ◌∙◌, arith, take_all}
-use Rattle.capn_words.specs.Words.{ReadsBare}
+use Rattle.capn_words.specs.Message.{ReadsBare}
 use Rattle.capn_words.specs.declared.bare.BareFault.{BareFault}
 use Rattle.capn_stream.specs.Frames.{most_table_words}
 use Rattle.capn_walk.specs.Limits.{Bounds}

@@ -5,8 +5,7 @@ use Rattle.std.proofs.lemmas.List.{take-append-drop}
 use Rattle.std.proofs.Math.Seq.{take-add}
 use Rattle.std.proofs.lemmas.Grind.{flat_map-append}
 use Rattle.capn_walk.specs.Limits.{Bounds}
-use Rattle.capn_pack.specs.Group.{IsGroup, text, content}
-use Rattle.capn_pack.specs.Packs.{texts, contents}
+use Rattle.capn_pack.specs.Packed.{IsGroup, text, content, texts, contents}
 use Rattle.capn_pack.specs.PackedPieces.{Begins, Feeds, Held, Splits, advanced}
 use Rattle.capn_pack.proofs.shared.StreamLemmas.{splits_open, splits_then}
 use Rattle.capn_stream.specs.Framing.{Framing}

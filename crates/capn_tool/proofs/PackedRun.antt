@@ -7,8 +7,7 @@ use Rattle.std.proofs.lemmas.Grind.{flat_map-append}
 use Rattle.std.specs.Io.KnownBytes.{Appends, Consumes, IsAtEnd, Keeps}
 use Rattle.std.proofs.KnownBytes.{Consumes-nil, Consumes-trans, Consumes-kept}
 use Rattle.capn_walk.specs.Limits.{Bounds}
-use Rattle.capn_pack.specs.Group.{IsGroup, text, content}
-use Rattle.capn_pack.specs.Packs.{texts, contents}
+use Rattle.capn_pack.specs.Packed.{IsGroup, text, content, texts, contents}
 use Rattle.capn_pack.specs.PackedPieces.{Begins, Held, Splits}
 use Rattle.capn_pack.proofs.shared.SplitLaws.{splits_all}
 use Rattle.capn_pack.proofs.shared.StreamLemmas.{nothing_first}

@@ -5,8 +5,7 @@ use Rattle.std.proofs.Common.{take-append-drop, length-take, Bool, true, false, 
 use Rattle.std.specs.Prelude.{◌==◌, if◌then◌else◌}
 use Rattle.std.proofs.lemmas.Grind.{flat_map-append}
 use Rattle.std.proofs.lemmas.List.{get_or_append_left}
-use Rattle.capn_pack.specs.Group.{Group, text, content}
-use Rattle.capn_pack.specs.Packs.{Packs, texts, contents}
+use Rattle.capn_pack.specs.Packed.{Group, text, content, Packs, texts, contents}
 use Rattle.capn_pack.specs.UnpackRefusal.{HasHead, IsCut, IsTooLong, Stands, head_len, words_at}
 use Rattle.capn_pack.specs.WholeGroups.{StandsNext, UnpacksSome, most_group}
 use Rattle.capn_pack.proofs.shared.GroupLemmas.{count_append, each_append, length_contents}

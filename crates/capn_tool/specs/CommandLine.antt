@@ -1,6 +1,6 @@
 -- The command line: each subcommand with its options, their ranges and their usual values. (Own.)
 use Rattle.std.specs.Prelude.{◌≡◌, ℤ, pos, Some, codes, [], ◌∷◌, true, false}
-use Rattle.capn_words.specs.Limits.{most_message_words}
+use Rattle.capn_words.specs.Message.{most_message_words}
 use Rattle.capn_value.specs.Cost.{most_cost, most_height}
 use Rattle.clap.specs.Words.{App, Rule, Text, app_of, new_app, new_rule, with_rule, with_subcommand}
 use Rattle.clap.specs.declared.builder.command.Command.{Command}

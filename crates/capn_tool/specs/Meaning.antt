@@ -5,7 +5,7 @@ use Rattle.clap.specs.Words.{Row, Text, first_of, one_of}
 use Rattle.capn_value.specs.declared.tariff.Tariff.{Tariff}
 use Rattle.capn_value.specs.declared.tariff.Tariff.TheVariants as tariffs
 use Rattle.capn_walk.specs.Limits.{Bounds, AreLimits}
-use Rattle.capn_words.specs.Limits.{most_message_words}
+use Rattle.capn_words.specs.Message.{most_message_words}
 use Rattle.capn_stream.specs.Frames.{most_table_words}
 use Rattle.capn_canon.specs.declared.form.Form.{Form}
 use Rattle.capn_canon.specs.declared.form.Form.TheVariants as forms

@@ -1,8 +1,8 @@
 -- What is made of an input that is taken whole, and why nothing is. (Own.)
 use Rattle.std.specs.Prelude.{◌≡◌, ◌≢◌, ◌⊎◌, ℕ, ◌*◌, ◌%◌, ◌≤◌, List, [], ◌∷◌, length, Result, Ok, Err, Vec}
-use Rattle.capn_words.specs.Words.{IsBare, ReadsBare}
+use Rattle.capn_words.specs.Message.{IsBare, ReadsBare}
 use Rattle.capn_words.specs.declared.bare.BareFault.{BareFault}
-use Rattle.capn_pack.specs.Packs.{Packs}
+use Rattle.capn_pack.specs.Packed.{Packs}
 use Rattle.capn_pack.specs.Chosen.{Chosen}
 use Rattle.capn_pack.specs.UnpackRefusal as packs
 use Rattle.capn_pack.specs.declared.fault.UnpackFault.{UnpackFault}

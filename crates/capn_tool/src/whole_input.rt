@@ -1,8 +1,7 @@
 //! What is made of an input that is taken whole.
 
 ghost use Rattle.std.specs.Prelude.{◌≡◌, ℕ, ◌*◌, ◌<◌, List, length, false, Err};
-ghost use Rattle.capn_words.specs.Limits.{most_words};
-ghost use Rattle.capn_words.specs.Words.{ReadsBare};
+ghost use Rattle.capn_words.specs.Message.{most_words, ReadsBare};
 ghost use Rattle.capn_words.specs.Watched.{inner_of, has_failed};
 ghost use Rattle.capn_tool.specs.inner.ReadInput.{IsShortBare, TakesAll};
 ghost use Rattle.capn_tool.specs.WholeInput.{Gives};

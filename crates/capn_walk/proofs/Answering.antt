@@ -9,8 +9,7 @@ use Rattle.capn_walk.specs.declared.target.Target.TheVariants as targets
 use Rattle.capn_walk.specs.Target.{target}
 use Rattle.capn_walk.specs.Visits.{Visit, visits}
 use Rattle.capn_walk.specs.inner.Verdict.{Verdict, accepted, refused}
-use Rattle.capn_walk.specs.Stops.{AllPay, root, root_visits, visits_at_root}
-use Rattle.capn_walk.specs.Accepted.{visits_within}
+use Rattle.capn_walk.specs.Accepted.{AllPay, root, root_visits, visits_at_root, visits_within}
 use Rattle.capn_walk.specs.Laws.{AcceptedAreReadable, ValuesFit, ValuesAreCheap, Apart, StopsAreOne}
 use Rattle.capn_walk.proofs.Exists.{exists-at}
 use Rattle.capn_walk.proofs.shared.Fitting.{fits-root, root-costs}

@@ -14,7 +14,7 @@ use Rattle.capn_walk.specs.declared.target.Shape.{Shape}
 use Rattle.capn_walk.specs.declared.target.Shape.TheVariants as shapes
 use Rattle.capn_walk.specs.Target.{target}
 use Rattle.capn_walk.specs.Visits.{Visit, pays, fails, places, row_places, slots, visits}
-use Rattle.capn_walk.specs.Stops.{AllPay}
+use Rattle.capn_walk.specs.Accepted.{AllPay}
 use Rattle.capn_walk.specs.ValueAt.{IsAt, AreAt, RowsAt}
 use Rattle.capn_walk.specs.Surveyed.{cap_of, first_cap_of}
 use Rattle.capn_walk.proofs.shared.Costs.{all-front, all-back}

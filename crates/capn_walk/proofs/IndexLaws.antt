@@ -15,10 +15,9 @@ use Rattle.capn_walk.specs.declared.target.Shape.TheVariants as shapes
 use Rattle.capn_walk.specs.declared.target.Fault.{Fault}
 use Rattle.capn_walk.specs.Target.{target}
 use Rattle.capn_walk.specs.Visits.{Visit, pays, price, places, row_places, visits, visits_of}
-use Rattle.capn_walk.specs.Stops.{AllPay, root, visits_at_root, root_visits}
+use Rattle.capn_walk.specs.Accepted.{AllPay, root, visits_at_root, root_visits, IsAccepted}
 use Rattle.capn_walk.specs.View.{slots_below, IsInMessage}
 use Rattle.capn_walk.specs.Limits.{Bounds}
-use Rattle.capn_walk.specs.Accepted.{IsAccepted}
 use Rattle.capn_walk.specs.Index.{entry_of, entry_target, kept, kept_of, entered, entries, entries_of, index_of}
 use Rattle.capn_walk.specs.Index.{entry_at, beside, IndexesAreReadable}
 use Rattle.capn_walk.specs.Index.{place_of, IndexesFollowVisits}

@@ -11,8 +11,7 @@ use Rattle.capn_walk.specs.declared.walk_answer.Stopped.{Stopped}
 use Rattle.capn_walk.specs.Target.{target}
 use Rattle.capn_walk.specs.Visits.{Visit, visits}
 use Rattle.capn_walk.specs.inner.Verdict.{judge}
-use Rattle.capn_walk.specs.Stops.{root, may_be_root}
-use Rattle.capn_walk.specs.Accepted.{IsWalkRefused, visits_within}
+use Rattle.capn_walk.specs.Accepted.{root, may_be_root, IsWalkRefused, visits_within}
 use Rattle.capn_walk.specs.Limits.{Bounds}
 use Rattle.capn_walk.specs.Index.{entries, filled, IsIndexed}
 use Rattle.capn_walk.specs.inner.IndexRoom.{laid, Indexes}

@@ -14,8 +14,7 @@ use Rattle.capn_walk.specs.Target.{target}
 use Rattle.capn_walk.specs.Visits.{Visit, pays, visits, visits_of}
 use Rattle.capn_walk.specs.inner.Verdict.{judge, after, accepted}
 use Rattle.capn_walk.specs.inner.Outcomes.{SurveysAs}
-use Rattle.capn_walk.specs.Stops.{root, may_be_root}
-use Rattle.capn_walk.specs.Accepted.{IsValueOf, visits_within}
+use Rattle.capn_walk.specs.Accepted.{root, may_be_root, IsValueOf, visits_within}
 use Rattle.capn_walk.specs.Limits.{Bounds}
 use Rattle.capn_walk.specs.inner.SlotsLeft.{places_of, owed, HasRows}
 use Rattle.capn_walk.specs.Surveyed.{cap_of, first_cap_of, IsSurvey}

@@ -12,9 +12,9 @@ use Rattle.capn_walk.specs.declared.target.Fault.TheVariants as faults
 use Rattle.capn_walk.specs.declared.walk_answer.Stopped.{Stopped}
 use Rattle.capn_walk.specs.Target.{target}
 use Rattle.capn_walk.specs.Visits.{Visit, fails, visits}
-use Rattle.capn_walk.specs.Stops.{IsStop, root, may_be_root, visits_at_root, root_visits}
+use Rattle.capn_walk.specs.Accepted.{IsStop, root, may_be_root, visits_at_root, root_visits, IsAccepted, IsValueOf}
+use Rattle.capn_walk.specs.Accepted.{IsWalkRefused, visits_within, paid, number_of_visits}
 use Rattle.capn_walk.specs.ValueAt.{IsAt}
-use Rattle.capn_walk.specs.Accepted.{IsAccepted, IsValueOf, IsWalkRefused, visits_within, paid, number_of_visits}
 use Rattle.capn_walk.specs.Limits.{Bounds}
 use Rattle.capn_walk.specs.inner.Verdict.{refused, judge}
 use Rattle.capn_walk.specs.inner.Verdict.{Gives, Refuses}

@@ -7,7 +7,7 @@ use Rattle.capn_value.specs.declared.tariff.Tariff.TheVariants.{Strict, Plain}
 use Rattle.capn_walk.specs.declared.target.Fault.TheVariants as faults
 use Rattle.capn_walk.specs.Target.{target}
 use Rattle.capn_walk.specs.Visits.{visits}
-use Rattle.capn_walk.specs.Stops.{root_visits}
+use Rattle.capn_walk.specs.Accepted.{root_visits}
 use Rattle.capn_walk.specs.inner.Verdict.{Verdict, accepted, refused, verdict}
 
 abbrev at : ℕ → ℕ → Place

@@ -13,10 +13,9 @@ use Rattle.capn_walk.specs.declared.target.Fault.{Fault}
 use Rattle.capn_walk.specs.declared.target.Fault.TheVariants as faults
 use Rattle.capn_walk.specs.Target.{target}
 use Rattle.capn_walk.specs.Visits.{Visit}
-use Rattle.capn_walk.specs.Stops.{IsWithin, IsStop}
+use Rattle.capn_walk.specs.Accepted.{IsWithin, IsStop, IsAccepted, IsValueOf, IsWalkRefused, paid}
 use Rattle.capn_walk.specs.ValueAt.{IsAt, AreAt, RowsAt}
 use Rattle.capn_walk.specs.Limits.{Bounds}
-use Rattle.capn_walk.specs.Accepted.{IsAccepted, IsValueOf, IsWalkRefused, paid}
 use Rattle.capn_walk.specs.ValueAt.{IsInside}
 use Rattle.capn_walk.specs.View.{IsInMessage}
 use Rattle.capn_walk.specs.Ways.{OneOfThree}

@@ -1,9 +1,8 @@
 pub mod inner
 pub mod Target
 pub mod Visits
-pub mod Stops
-pub mod ValueAt
 pub mod Accepted
+pub mod ValueAt
 pub mod Limits
 pub mod Shapes
 pub mod Surveyed

@@ -14,7 +14,7 @@ use Rattle.capn_walk.specs.declared.kind.Kind.{Kind}
 use Rattle.capn_walk.specs.declared.kind.Kind.TheVariants as kinds
 use Rattle.capn_walk.specs.Target.{target}
 use Rattle.capn_walk.specs.Visits.{price, slots}
-use Rattle.capn_walk.specs.Stops.{root, may_be_root}
+use Rattle.capn_walk.specs.Accepted.{root, may_be_root}
 use Rattle.capn_walk.specs.ValueAt.{element, words_from}
 use Rattle.capn_walk.specs.Shapes.{IsContent, RowsFit, extent}
 

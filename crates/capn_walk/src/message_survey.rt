@@ -5,14 +5,13 @@ ghost use Rattle.std.specs.Prelude.{IfErr, MatchResult};
 ghost use Rattle.capn_words.specs.Message.{segment_at, IsMessage, IsPlace};
 ghost use Rattle.capn_value.specs.Cost.{most_cost, most_height};
 ghost use Rattle.capn_walk.specs.Target as spec;
-ghost use Rattle.capn_walk.specs.Stops.{root};
+ghost use Rattle.capn_walk.specs.Accepted.{root, IsValueOf, IsWalkRefused, IsBounded};
 ghost use Rattle.capn_walk.specs.Visits.{visits, visits_of};
 ghost use Rattle.capn_walk.specs.inner.Outcomes.{SurveysAs};
 ghost use Rattle.capn_walk.specs.inner.SlotsLeft.{places_of, owed, Lies};
 ghost use Rattle.capn_walk.specs.Surveyed as told;
 ghost use Rattle.capn_value.specs.Tree.{Tree};
 ghost use Rattle.capn_value.specs.FirstCap.{first_cap};
-ghost use Rattle.capn_walk.specs.Accepted.{IsValueOf, IsWalkRefused, IsBounded};
 ghost use Rattle.capn_walk.specs.declared.target.Fault.TheVariants.{Memory};
 
 use crate::content::segment_length;

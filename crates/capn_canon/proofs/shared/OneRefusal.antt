@@ -1,6 +1,6 @@
 -- Bytes are refused for one reason, and not where they are read.
 use Rattle.std.proofs.Common.{◌≡◌, ◌⊎◌, inl, inr, ℕ, ◌+◌, List, length, Some, Err, refl, ap, sym, subst, ◌∙◌, arith}
-use Rattle.capn_words.specs.Words.{ReadsBare}
+use Rattle.capn_words.specs.Message.{ReadsBare}
 use Rattle.capn_words.specs.declared.bare.BareFault.{BareFault}
 use Rattle.capn_words.proofs.shared.OneSegment.{bare_not_refused, one_bare_fault}
 use Rattle.capn_pack.specs.UnpackRefusal as packs
@@ -17,7 +17,7 @@ use Rattle.capn_stream.proofs.shared.FrameLaws as frame_laws
 use Rattle.capn_value.specs.Tree.{Tree}
 use Rattle.capn_value.specs.FirstCap.{first_cap}
 use Rattle.capn_walk.specs.declared.walk_answer.Stopped.{Stopped}
-use Rattle.capn_walk.specs.Stops.{root}
+use Rattle.capn_walk.specs.Accepted.{root}
 use Rattle.capn_walk.specs.inner.Verdict.{refused}
 use Rattle.capn_walk.specs.Accepted as walks
 use Rattle.capn_walk.specs.Limits.{Bounds}

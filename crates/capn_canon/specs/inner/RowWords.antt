@@ -1,7 +1,7 @@
 -- Rows of equal sizes, as the words of a segment have them.
 use Rattle.std.specs.Prelude.{◌≡◌, ℕ, zero, suc, ◌+◌, ◌*◌, ◌^◌, ◌≤◌, max, pos, List, [], ◌∷◌, ◌++◌, length, take, set}
 use Rattle.std.specs.Prelude.{Option, Some}
-use Rattle.capn_words.specs.Fields.{word_of}
+use Rattle.capn_words.specs.Pointers.{word_of}
 use Rattle.capn_words.specs.declared.pointer.Pointer.TheVariants.{Node}
 use Rattle.capn_words.specs.declared.pointer.Width.TheVariants.{Rows}
 use Rattle.capn_value.specs.Tree.{Bodies, count_rows}

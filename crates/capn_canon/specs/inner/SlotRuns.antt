@@ -2,7 +2,7 @@
 use Rattle.std.specs.Prelude.{◌≡◌, ◌↔◌, ℕ, ℤ, ◌+◌, ◌-◌, ◌<◌, ◌≤◌, List, [], ◌∷◌, length, take, drop}
 use Rattle.std.specs.Prelude.{slice_index, Option, Some, None}
 use Rattle.capn_words.specs.Message.{IsMessage}
-use Rattle.capn_words.specs.Fields.{Fields}
+use Rattle.capn_words.specs.Pointers.{Fields}
 use Rattle.capn_words.specs.declared.pointer.Pointer.TheVariants.{Node, Many}
 use Rattle.capn_words.specs.declared.pointer.Width.{Width}
 use Rattle.capn_value.specs.Tree.{Trees, count}

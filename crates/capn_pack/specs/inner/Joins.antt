@@ -1,6 +1,6 @@
 -- An unfinished group and the piece that came, and what is held then.
 use Rattle.std.specs.Prelude.{ℕ, ◌≡◌, ◌<◌, ◌≤◌, ◌++◌, List, length, take, Result, Ok, Err}
-use Rattle.capn_pack.specs.Group.{Group, IsGroup, text, content}
+use Rattle.capn_pack.specs.Packed.{Group, IsGroup, text, content}
 use Rattle.capn_pack.specs.PackedPieces.{Begins, NoGroupFirst, Splits}
 use Rattle.capn_pack.specs.declared.unpack_group.TheConstants.{GROUP}
 use Rattle.capn_pack.specs.declared.text_piece.Fed.{Fed}

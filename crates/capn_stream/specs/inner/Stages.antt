@@ -1,7 +1,6 @@
 -- How far the frame that comes in pieces is known.
 use Rattle.std.specs.Prelude.{◌≡◌, ◌⊎◌, ℕ, ◌<◌, ◌≤◌, List, ◌++◌, length, take, drop, ⊤}
-use Rattle.capn_words.specs.Limits.{most_segments}
-use Rattle.capn_words.specs.Words.{AreBytes}
+use Rattle.capn_words.specs.Message.{most_segments, AreBytes}
 use Rattle.capn_stream.specs.Cuts.{ends_from}
 use Rattle.capn_stream.specs.FrameRefusal.{HasCount, HasHead, IsFrameRefused, announced_segments, announced_words}
 use Rattle.capn_stream.specs.FrameRefusal.{entries}

@@ -11,7 +11,7 @@ use Rattle.capn_value.specs.Cost.{height, greatest, greatest_in_rows, cost, cost
 use Rattle.capn_walk.specs.declared.target.Shape.{Shape}
 use Rattle.capn_walk.specs.declared.target.Shape.TheVariants as shapes
 use Rattle.capn_walk.specs.Visits.{Visit, pays, fails, price, places, row_places, slots, visits}
-use Rattle.capn_walk.specs.Stops.{paid_of, AllPay}
+use Rattle.capn_walk.specs.Accepted.{paid_of, AllPay}
 use Rattle.capn_walk.specs.ValueAt.{IsAt, AreAt, RowsAt, Names}
 use Rattle.capn_words.proofs.shared.Choices.{pick}
 use Rattle.capn_walk.proofs.shared.Inside.{inside}

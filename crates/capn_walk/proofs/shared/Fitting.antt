@@ -17,7 +17,7 @@ use Rattle.capn_value.proofs.shared.Prices.{rows_price-none}
 use Rattle.capn_walk.specs.declared.target.Shape.TheVariants as shapes
 use Rattle.capn_walk.specs.declared.target.Fault.TheVariants as faults
 use Rattle.capn_walk.specs.Visits.{fails, visits}
-use Rattle.capn_walk.specs.Stops.{AllPay, IsWithin, paid_of, root, visits_at_root, root_visits}
+use Rattle.capn_walk.specs.Accepted.{AllPay, IsWithin, paid_of, root, visits_at_root, root_visits}
 use Rattle.capn_walk.specs.ValueAt.{IsAt, AreAt, RowsAt}
 use Rattle.capn_walk.proofs.shared.Inside.{inside}
 use Rattle.capn_walk.proofs.shared.Ranges.{room-of}

@@ -12,9 +12,8 @@ use Rattle.capn_walk.specs.declared.target.Fault.{Fault}
 use Rattle.capn_walk.specs.declared.target.Fault.TheVariants as faults
 use Rattle.capn_walk.specs.Target.{target}
 use Rattle.capn_walk.specs.Visits.{Visit, pays, fails, last_visit, visit, visits, slots}
-use Rattle.capn_walk.specs.Stops.{Ends, paid_of, root, may_be_root, visits_at_root, root_visits}
+use Rattle.capn_walk.specs.Accepted.{Ends, paid_of, root, may_be_root, visits_at_root, root_visits, IsWalkRefused}
 use Rattle.capn_walk.specs.Limits.{Bounds}
-use Rattle.capn_walk.specs.Accepted.{IsWalkRefused}
 use Rattle.capn_walk.proofs.shared.Ways.{never-memory}
 
 -- a visit that isn't refused because memory runs out

@@ -1,6 +1,5 @@
 use Rattle.std.proofs.Common.{◌≤◌, [], ◌∷◌, length, sym, ◌∙◌, arith, refl}
-use Rattle.capn_words.specs.Words.{bytes}
-use Rattle.capn_words.specs.Limits.{most_words}
+use Rattle.capn_words.specs.Message.{bytes, most_words}
 use Rattle.capn_canon.proofs.Headline.{denoted_fits, denoted_in_range}
 use Rattle.capn_canon.proofs.AtRoot.{root-ready}
 use Rattle.capn_canon.proofs.CanonicalWords.{bytes-words}

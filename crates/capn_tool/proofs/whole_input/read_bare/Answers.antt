@@ -1,5 +1,5 @@
 use Rattle.std.proofs.Common.{arith, refl, ◌*◌, ◌≤◌}
-use Rattle.capn_words.specs.Limits.{most_words}
+use Rattle.capn_words.specs.Message.{most_words}
 use Rattle.std.proofs.lemmas.Result.{err_from_is_err_and}
 use Rattle.capn_tool.proofs.Makings.{read_long, read_short, unread_bare}
 use Rattle.capn_tool.proofs.whole_input.read_bare.Goals as goal

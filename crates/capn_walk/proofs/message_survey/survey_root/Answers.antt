@@ -1,5 +1,5 @@
 use Rattle.std.proofs.Common.{◌≡◌}
-use Rattle.capn_walk.specs.Stops.{root}
+use Rattle.capn_walk.specs.Accepted.{root}
 use Rattle.capn_walk.specs.inner.SlotsLeft.{owed}
 use Rattle.capn_walk.proofs.OwedSlots.{done}
 use Rattle.capn_walk.proofs.RootSurveys.{tells-alone}

@@ -1,5 +1,5 @@
 use Rattle.std.proofs.Common.{◌*◌, drop, List, ℕ, ap, sym, ◌∙◌, length-drop, arith}
-use Rattle.capn_words.specs.Words.{word_number}
+use Rattle.capn_words.specs.Message.{word_number}
 use Rattle.capn_words.proofs.shared.OneSegment.{seen_length, seen_word}
 use Rattle.capn_stream.proofs.stored.Words.word.Goals as goal
 

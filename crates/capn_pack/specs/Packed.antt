@@ -1,7 +1,10 @@
--- The tag of a word, one bit for each of its eight bytes, and the three kinds of group. A word is its eight bytes, the
--- least first. (Page: packing.)
+-- Packed texts are rows of groups. A word is its eight bytes, the least first. (Page: packing.)
 use Rattle.std.specs.Prelude.{ℕ, ◌≡◌, ◌+◌, ◌*◌, ◌/◌, ◌%◌, ◌<◌, ◌==◌, if◌then◌else◌, List, [], ◌∷◌, ◌++◌, length}
 use Rattle.std.specs.Prelude.{replicate, ⊤}
+use Rattle.std.specs.List.{flat_map, AllByRecursion}
+
+-- ---- the tag of a word, one bit for each of its eight bytes, and the three kinds of group. A word is its eight bytes,
+-- the least first. (Page: packing.)
 
 -- The tag of some bytes: from the least bit on, 1 exactly where the byte isn't zero.
 abbrev pub tag_of : List ℕ → ℕ
@@ -50,3 +53,25 @@ abbrev pub words : Group → ℕ
 words (Zeros more) = 1 + more
 words (Named tag word) = 1
 words (Raw word count more) = 1 + count
+
+-- ---- packed texts: rows of groups. (Page: packing.)
+
+-- The groups, written one after another.
+abbrev pub texts : List Group → List ℕ
+texts groups = flat_map text groups
+
+-- The bytes of all their words, joined.
+abbrev pub contents : List Group → List ℕ
+contents groups = flat_map content groups
+
+-- How many words a row of groups has.
+abbrev pub word_count : List Group → ℕ
+word_count [] = 0
+word_count (g ∷ gs) = words g + word_count gs
+
+-- The text b packs the words whose bytes are bs: it is a row of groups, and bs are their words joined.
+pub record Packs (b bs : List ℕ) : Type 0 where
+  pub groups : List Group
+  pub each : AllByRecursion IsGroup groups
+  pub text : b ≡ texts groups
+  pub content : bs ≡ contents groups
