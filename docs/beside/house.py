@@ -71,6 +71,7 @@ SPECS = [
     ("capn_stream", "Told", "Display"),
     ("capn_stream", "Reading", "FrameRefusal"),
     ("capn_stream", "Receiving", "NextMessage"),
+    ("capn_stream", "Framing", "StreamPieces"),
     ("capn_value", "Told", "Display"),
     ("capn_value", "Sizes", "Cost"),
     ("capn_value", "Caps", "FirstCap"),

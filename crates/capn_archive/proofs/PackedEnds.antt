@@ -13,7 +13,7 @@ use Rattle.capn_pack.specs.PackedPieces.{Splits}
 use Rattle.capn_pack.proofs.shared.GroupLemmas.{each_append}
 use Rattle.capn_pack.proofs.shared.SplitLaws.{splits_all}
 use Rattle.capn_pack.proofs.shared.StreamLemmas.{nothing_first}
-use Rattle.capn_stream.specs.Framing.{IsUnfinished}
+use Rattle.capn_stream.specs.StreamPieces.{IsUnfinished}
 use Rattle.capn_stream.specs.FrameRefusal as frame_rules
 use Rattle.capn_stream.specs.declared.fault.FrameFault.{FrameFault}
 use Rattle.capn_stream.specs.declared.fault.FrameFault.TheVariants as frames

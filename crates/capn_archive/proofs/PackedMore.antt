@@ -14,7 +14,7 @@ use Rattle.capn_pack.specs.PackedPieces as packing
 use Rattle.capn_pack.specs.PackedPieces.{Feeds, Held, Splits, advanced}
 use Rattle.capn_pack.proofs.shared.GroupLemmas.{each_append}
 use Rattle.capn_pack.proofs.shared.StreamLemmas.{splits_open, splits_then}
-use Rattle.capn_stream.specs.Framing.{Framing, IsUnfinished}
+use Rattle.capn_stream.specs.StreamPieces.{Framing, IsUnfinished}
 use Rattle.capn_stream.specs.FrameRefusal as frame_rules
 use Rattle.capn_stream.specs.declared.fault.FrameFault.{FrameFault}
 use Rattle.capn_stream.specs.declared.fault.FrameFault.TheVariants as frames

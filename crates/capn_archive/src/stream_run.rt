@@ -3,7 +3,7 @@
 ghost use Rattle.std.specs.Prelude.{◌≡◌, ◌≤◌, false};
 ghost use Rattle.capn_words.specs.Message.{most_message_words};
 ghost use Rattle.capn_words.specs.Watched.{inner_of, has_failed};
-ghost use Rattle.capn_stream.specs.Framing.{IsUnfinished};
+ghost use Rattle.capn_stream.specs.StreamPieces.{IsUnfinished};
 ghost use Rattle.capn_archive.specs.Fold.{fold_of};
 ghost use Rattle.capn_archive.specs.StreamRun.{EndsInput, Runs, start};
 

@@ -1,6 +1,6 @@
 -- How many bytes a frame has at least. (Own.)
 use Rattle.std.specs.Prelude.{ℕ, ◌<◌, ◌≤◌, List, ◌++◌, length, nat_lt, if◌then◌else◌}
-use Rattle.capn_stream.specs.Framing.{IsFrame}
+use Rattle.capn_stream.specs.StreamPieces.{IsFrame}
 use Rattle.capn_stream.specs.FrameRefusal.{announced_segments, frame_length, head_length}
 use Rattle.capn_stream.specs.NextMessage.{most_bytes}
 

@@ -3,7 +3,7 @@
 ghost use Rattle.std.specs.Prelude.{IsTrue, ◌≡◌, ◌⊎◌, ◌↔◌, ◌≤◌, ℕ, List, IfOk, IfErr, IsErrOf, MatchResult};
 ghost use Rattle.capn_words.specs.Message.{most_message_words};
 ghost use Rattle.capn_stream.specs.Frames.{StandsFirst};
-ghost use Rattle.capn_stream.specs.Framing.{IsUnfinished};
+ghost use Rattle.capn_stream.specs.StreamPieces.{IsUnfinished};
 ghost use Rattle.capn_stream.specs.FrameRefusal.{HasTable, IsFrameRefused};
 ghost use Rattle.capn_stream.specs.declared.fault.FrameFault.{FrameFault as Faults};
 ghost use Rattle.capn_c.specs.Calls.{GiveLimits, IsTariff};

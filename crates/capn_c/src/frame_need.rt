@@ -2,7 +2,7 @@
 
 ghost use Rattle.std.specs.Prelude.{◌≡◌, ◌+◌, ◌*◌, ◌≤◌, length, drop, sum};
 ghost use Rattle.capn_words.specs.Message.{most_segments, most_message_words};
-ghost use Rattle.capn_stream.specs.Framing.{IsUnfinished};
+ghost use Rattle.capn_stream.specs.StreamPieces.{IsUnfinished};
 ghost use Rattle.capn_stream.specs.FrameRefusal.{entries, entry_number, head_length};
 ghost use Rattle.capn_c.specs.FrameNeed.{needed};
 

@@ -7,7 +7,7 @@ use Rattle.capn_words.specs.Message.{bytes, total, AreWords, words_in}
 use Rattle.capn_words.proofs.shared.Words.{AreBytes-drop, bytes_of_words, words_below}
 use Rattle.capn_stream.specs.Cuts.{AreEnds, cut}
 use Rattle.capn_stream.specs.Frames.{Frames, StandsFirst}
-use Rattle.capn_stream.specs.Framing.{FeedGives, IsFrame, IsUnfinished, TakeGives}
+use Rattle.capn_stream.specs.StreamPieces.{FeedGives, IsFrame, IsUnfinished, TakeGives}
 use Rattle.capn_stream.specs.FrameRefusal.{IsWhole, announced_segments, announced_words, frame_length, head_length}
 use Rattle.capn_stream.specs.inner.Stages.{Fills, IsDone, IsStage, IsHeadRefused, Knows, Rests, announced_ends, need}
 use Rattle.capn_stream.specs.declared.fault.FrameFault.{FrameFault}

@@ -2,7 +2,7 @@ pub mod inner
 pub mod Frames
 pub mod FrameRefusal
 pub mod Cuts
-pub mod Framing
+pub mod StreamPieces
 pub mod NextMessage
 pub mod Laws
 pub mod Display

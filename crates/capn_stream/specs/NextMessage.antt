@@ -4,7 +4,7 @@ use Rattle.std.specs.Prelude.{false, Result, Ok, Err, Option, Some, None}
 use Rattle.std.specs.Io.KnownBytes.{Consumes, IsAtEnd}
 use Rattle.capn_words.specs.Message.{total}
 use Rattle.capn_stream.specs.Frames.{Frames, StandsFirst, most_table_words}
-use Rattle.capn_stream.specs.Framing.{Framing, IsUnfinished}
+use Rattle.capn_stream.specs.StreamPieces.{Framing, IsUnfinished}
 use Rattle.capn_stream.specs.FrameRefusal.{EndsWithin, IsFrameRefused, announced_segments, head_length}
 use Rattle.capn_stream.specs.declared.fault.FrameFault.{FrameFault}
 use Rattle.capn_stream.specs.declared.fault.FrameFault.TheVariants as frames

@@ -3,7 +3,7 @@
 ghost use Rattle.std.specs.Prelude.{◌≡◌, ◌↔◌, IsTrue, ℕ, ◌+◌, ◌<◌, ◌≤◌, ◌++◌, List, [], length, false};
 ghost use Rattle.std.specs.Prelude.{IsErrOf};
 ghost use Rattle.capn_words.specs.Message.{most_message_words};
-ghost use Rattle.capn_stream.specs.Framing.{FeedGives, FinishGives, IsFrame, IsUnfinished, TakeGives};
+ghost use Rattle.capn_stream.specs.StreamPieces.{FeedGives, FinishGives, IsFrame, IsUnfinished, TakeGives};
 ghost use Rattle.capn_stream.specs.FrameRefusal.{EndsWithin};
 ghost use Rattle.capn_stream.specs.NextMessage.{most_bytes};
 
@@ -30,7 +30,7 @@ pub struct Framer<A: Allocator + Copy = Global> {
 }
 
 impl<A: Allocator + Copy> Model for Framer<A> {
-    ghost use Rattle.capn_stream.specs.Framing.{Framing, IsFramer};
+    ghost use Rattle.capn_stream.specs.StreamPieces.{Framing, IsFramer};
 
     ghost Value = { Framing };
 

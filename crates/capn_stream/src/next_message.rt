@@ -3,7 +3,7 @@
 ghost use Rattle.std.specs.Prelude.{◌≡◌, ℕ, ◌<◌, ◌≤◌, ◌++◌, List, length, false, IfSome, IsErrOf};
 ghost use Rattle.capn_words.specs.Message.{most_message_words};
 ghost use Rattle.capn_words.specs.Watched.{has_failed, inner_of};
-ghost use Rattle.capn_stream.specs.Framing.{IsFrame, IsUnfinished};
+ghost use Rattle.capn_stream.specs.StreamPieces.{IsFrame, IsUnfinished};
 ghost use Rattle.capn_stream.specs.NextMessage.{EndGives, OnlyFirst, ReadGives, ReadsFirst, StopsInside, TakesIn};
 
 use crate::fault::{FrameFault, ReadFault};

@@ -8,7 +8,7 @@ use Rattle.capn_walk.specs.Limits.{Bounds}
 use Rattle.capn_pack.specs.Packed.{IsGroup, text, content, texts, contents}
 use Rattle.capn_pack.specs.PackedPieces.{Begins, Feeds, Held, Splits, advanced}
 use Rattle.capn_pack.proofs.shared.StreamLemmas.{splits_open, splits_then}
-use Rattle.capn_stream.specs.Framing.{Framing}
+use Rattle.capn_stream.specs.StreamPieces.{Framing}
 use Rattle.capn_tool.specs.Outgoing.{Outgoing, SendsRest, outgoing, sent}
 use Rattle.capn_tool.specs.StreamRun.{Stops, Writes}
 use Rattle.capn_tool.specs.inner.PackedRun.{IsUnpacking, ServesPacked, StopsPacked, WritesPacked}

@@ -11,7 +11,7 @@ use Rattle.capn_pack.specs.Packed.{IsGroup, text, content, texts, contents}
 use Rattle.capn_pack.specs.PackedPieces.{Begins, Held, Splits}
 use Rattle.capn_pack.proofs.shared.SplitLaws.{splits_all}
 use Rattle.capn_pack.proofs.shared.StreamLemmas.{nothing_first}
-use Rattle.capn_stream.specs.Framing.{IsUnfinished}
+use Rattle.capn_stream.specs.StreamPieces.{IsUnfinished}
 use Rattle.capn_tool.specs.Streams.{texts_of, behind_packed, end_of, IsDueEach, IsDuePacked}
 use Rattle.capn_tool.specs.Text.{HasWritten, PlanBegins, PlanEndsAs, taken_of, has_more}
 use Rattle.capn_tool.specs.StreamRun.{IsDueSo, Runs, WritesFront}

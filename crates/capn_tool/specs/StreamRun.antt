@@ -3,7 +3,7 @@ use Rattle.std.specs.Prelude.{◌≡◌, ◌≢◌, ◌⊎◌, ◌↔◌, ℕ, �
 use Rattle.std.specs.Prelude.{false, Option, IfSome, Result, Ok, Err}
 use Rattle.std.specs.Io.KnownBytes.{Consumes, Appends}
 use Rattle.capn_walk.specs.Limits.{Bounds}
-use Rattle.capn_stream.specs.Framing.{Framing, IsUnfinished}
+use Rattle.capn_stream.specs.StreamPieces.{Framing, IsUnfinished}
 use Rattle.capn_stream.specs.FrameRefusal as frame_rules
 use Rattle.capn_stream.specs.declared.fault.FrameFault.{FrameFault}
 use Rattle.capn_stream.specs.declared.fault.FrameFault.TheVariants as frames

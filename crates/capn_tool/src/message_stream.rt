@@ -3,7 +3,7 @@
 
 ghost use Rattle.std.specs.Prelude.{◌≡◌, ◌⊎◌, ◌≤◌, ◌^◌, [], length, false, IfOk};
 ghost use Rattle.capn_words.specs.Watched.{inner_of, has_failed};
-ghost use Rattle.capn_stream.specs.Framing.{IsUnfinished};
+ghost use Rattle.capn_stream.specs.StreamPieces.{IsUnfinished};
 ghost use Rattle.capn_tool.specs.StreamRun as spec;
 ghost use Rattle.capn_tool.specs.StreamRun.{EndsInput, IsListening, Passes, Runs, Serves, ServesNext, ServesWhole};
 ghost use Rattle.capn_tool.specs.Outgoing.{outgoing, sent};

@@ -2,7 +2,7 @@
 
 ghost use Rattle.std.specs.Prelude.{◌≡◌, ◌≤◌, length, false};
 ghost use Rattle.capn_words.specs.Watched.{inner_of, has_failed};
-ghost use Rattle.capn_stream.specs.Framing.{IsUnfinished};
+ghost use Rattle.capn_stream.specs.StreamPieces.{IsUnfinished};
 ghost use Rattle.capn_tool.specs.StreamRun.{IsListening, Runs};
 ghost use Rattle.capn_tool.specs.inner.PackedRun.{EndsPacked, IsUnpacking, ServesPacked};
 ghost use Rattle.capn_tool.specs.Outgoing.{outgoing, sent};

@@ -3,7 +3,7 @@ use Rattle.std.proofs.Common.{subst, arith}
 use Rattle.std.proofs.lemmas.Result.{err_from_is_err_and}
 use Rattle.capn_words.specs.Watched.{inner_of}
 use Rattle.capn_pack.specs.PackedPieces.{Held}
-use Rattle.capn_stream.specs.Framing.{Framing, IsUnfinished}
+use Rattle.capn_stream.specs.StreamPieces.{Framing, IsUnfinished}
 use Rattle.capn_archive.specs.declared.position.Position.{Position}
 use Rattle.capn_archive.specs.Fold.{Fold, fold_of}
 use Rattle.capn_archive.specs.Serving.{HasRoom, IsListening}

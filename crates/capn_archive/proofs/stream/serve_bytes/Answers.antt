@@ -3,7 +3,7 @@ use Rattle.std.proofs.Common.{sym}
 use Rattle.std.proofs.Common.{subst, append-nil, length-drop, length-take, length-append}
 use Rattle.std.proofs.Math.Seq.{take_all}
 use Rattle.std.proofs.lemmas.Result.{err_from_is_err_and}
-use Rattle.capn_stream.specs.Framing.{Framing}
+use Rattle.capn_stream.specs.StreamPieces.{Framing}
 use Rattle.capn_archive.specs.Fold.{Fold, fold_of}
 use Rattle.capn_archive.specs.Sending.{Outgoing}
 use Rattle.capn_archive.specs.Serving.{IsListening, Serves, Tells}

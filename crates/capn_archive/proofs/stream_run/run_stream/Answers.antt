@@ -3,7 +3,7 @@ use Rattle.std.proofs.Common.{subst, arith}
 use Rattle.std.proofs.lemmas.Result.{err_from_is_err_and}
 use Rattle.std.proofs.KnownBytes.{Consumes-nil}
 use Rattle.capn_words.specs.Watched.{inner_of}
-use Rattle.capn_stream.specs.Framing.{Framing, IsUnfinished}
+use Rattle.capn_stream.specs.StreamPieces.{Framing, IsUnfinished}
 use Rattle.capn_archive.specs.Fold.{Fold, fold_of}
 use Rattle.capn_archive.specs.Sending.{sent}
 use Rattle.capn_archive.specs.Serving.{IsListening, Tells}

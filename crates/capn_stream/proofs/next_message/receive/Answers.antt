@@ -3,7 +3,7 @@ use Rattle.std.proofs.Common.{drop, sym, subst, ◌∙◌, Ok, Err, arith}
 use Rattle.std.proofs.lemmas.Grind.{common_steps}
 use Rattle.std.proofs.lemmas.Result.{err_from_is_err_and}
 use Rattle.capn_words.specs.Watched.{has_failed}
-use Rattle.capn_stream.specs.Framing.{Framing, IsUnfinished}
+use Rattle.capn_stream.specs.StreamPieces.{Framing, IsUnfinished}
 use Rattle.capn_stream.specs.FrameRefusal.{EndsWithin}
 use Rattle.capn_stream.specs.NextMessage.{most_bytes}
 use Rattle.capn_stream.proofs.Received.{received_end, received_err, received_io, received_more, received_none}

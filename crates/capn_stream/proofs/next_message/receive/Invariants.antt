@@ -1,7 +1,7 @@
 use Rattle.std.proofs.Common.{◌≡◌, ◌-◌, length, false}
 use Rattle.std.specs.Io.KnownBytes.{Consumes}
 use Rattle.capn_words.specs.Watched.{has_failed, inner_of}
-use Rattle.capn_stream.specs.Framing.{IsUnfinished}
+use Rattle.capn_stream.specs.StreamPieces.{IsUnfinished}
 use Rattle.capn_stream.specs.NextMessage.{most_bytes}
 use Rattle.capn_stream.proofs.next_message.receive.Given as goal
 

@@ -3,7 +3,7 @@ use Rattle.std.proofs.lemmas.Result.{err_from_is_err_and}
 use Rattle.std.proofs.KnownBytes.{Consumes-nil}
 use Rattle.capn_words.specs.Watched.{inner_of}
 use Rattle.capn_walk.specs.Limits.{Bounds}
-use Rattle.capn_stream.specs.Framing.{Framing, IsUnfinished}
+use Rattle.capn_stream.specs.StreamPieces.{Framing, IsUnfinished}
 use Rattle.capn_tool.specs.StreamRun.{EndsInput, Hears, Writes}
 use Rattle.capn_tool.specs.Outgoing.{sent}
 use Rattle.capn_tool.specs.declared.plan.MessageText.{MessageText}

@@ -4,7 +4,7 @@ use Rattle.std.proofs.Common.{append-nil, length-drop, length-take}
 use Rattle.std.proofs.Math.Seq.{take_all}
 use Rattle.capn_words.specs.Watched.{inner_of, has_failed}
 use Rattle.capn_walk.specs.Limits.{Bounds}
-use Rattle.capn_stream.specs.Framing.{Framing}
+use Rattle.capn_stream.specs.StreamPieces.{Framing}
 use Rattle.capn_tool.specs.StreamRun.{IsListening, Serves, Writes}
 use Rattle.capn_tool.specs.Outgoing.{Outgoing, outgoing}
 use Rattle.capn_tool.specs.declared.plan.MessageText.{MessageText}

@@ -3,7 +3,7 @@ use Rattle.std.proofs.lemmas.Result.{err_from_is_err_and}
 use Rattle.capn_words.specs.Watched.{inner_of}
 use Rattle.capn_walk.specs.Limits.{Bounds}
 use Rattle.capn_pack.specs.PackedPieces.{Held}
-use Rattle.capn_stream.specs.Framing.{Framing, IsUnfinished}
+use Rattle.capn_stream.specs.StreamPieces.{Framing, IsUnfinished}
 use Rattle.capn_tool.specs.inner.PackedRun.{EndsPacked, HearsPacked, IsUnpacking}
 use Rattle.capn_tool.specs.declared.plan.MessageText.{MessageText}
 use Rattle.capn_tool.proofs.PackedRun.{packed_begin, packed_end, packed_hears, packed_long, packed_stopped}

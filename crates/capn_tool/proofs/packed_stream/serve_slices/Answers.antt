@@ -3,7 +3,7 @@ use Rattle.std.proofs.Math.Seq.{take_all}
 use Rattle.capn_words.specs.Watched.{inner_of, has_failed}
 use Rattle.capn_walk.specs.Limits.{Bounds}
 use Rattle.capn_pack.specs.PackedPieces.{Held}
-use Rattle.capn_stream.specs.Framing.{Framing}
+use Rattle.capn_stream.specs.StreamPieces.{Framing}
 use Rattle.capn_tool.specs.StreamRun.{IsListening}
 use Rattle.capn_tool.specs.inner.PackedRun.{ServesPacked, WritesPacked}
 use Rattle.capn_tool.specs.Outgoing.{Outgoing, outgoing}

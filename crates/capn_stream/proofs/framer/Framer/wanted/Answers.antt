@@ -1,5 +1,5 @@
 use Rattle.std.proofs.Common.{◌∙◌, ap, arith}
-use Rattle.capn_stream.specs.Framing.{Framing}
+use Rattle.capn_stream.specs.StreamPieces.{Framing}
 use Rattle.capn_stream.proofs.shared.Wanting.{ends_within, least, need_bound}
 use Rattle.capn_stream.proofs.framer.Framer.wanted.Goals as goal
 
