@@ -280,6 +280,7 @@ FUNCTIONS = [
 CLAUSES = [
     ("capn_walk", "memory", "no_memory", "≢ Memory"),
     ("capn_pack", "memory", "begun", "Append"),
+    ("capn_pack", "memory", "begun", "Begins"),
     (None, "wanted", "memory", ""),
     (None, "inline", "no_memory", ""),
 ]
@@ -986,8 +987,12 @@ def words():
 
 def clauses():
     """Clauses get new names, in contracts, in the goals and answers of proofs, and on the pages that list clauses."""
+    # A crate whose clauses have their new names already has no `wanted` any more.
+    old_names = {path.split("/")[1] for path in code() if path.endswith(".rt") and "ensures wanted {" in read(path)}
     for crate, old, new, says in CLAUSES:
         count = 0
+        if crate and crate not in old_names:
+            continue
         for path in code():
             if crate and path.split("/")[1] != crate:
                 continue
