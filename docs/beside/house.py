@@ -300,6 +300,7 @@ SENTENCES = [
     ("words", "docs/PROMISES.md", "`account` wants it only where `MayWantMemory` says",
      "`survey_bytes` needs it only where `MayNeedMemory` says"),
     ("words", "docs/PROMISES.md", "`check` tells that of a bare message beside", "`survey_bare` answers that of a bare message beside"),
+    ("clauses", "docs/PROMISES.md", "(`fed`, `memory`, `failed`, `kinds`;", "(`fed`, `begun`, `failed`, `kinds`;"),
     ("words", "docs/CHANGES.md", "`account`, `check` and `is_canonical`", "`survey_bytes`, `survey_bare` and `is_canonical`"),
     ("words", "docs/DECISIONS.md", "- **What is `account` for?**", "- **What is `survey_bytes` for?**"),
     ("words", "docs/VERIFY.md", "| `canonical_in`, ", "| `canonical_of_inner`, "),
