@@ -14,8 +14,8 @@ CALLS = re.compile(
 
 
 def cases():
-    """The cases that a call answers, with their answers."""
-    lines = [(STORED / name).read_text().splitlines() for name in ("stdin", "stdout")]
+    """The cases that a call answers, with their answers. Every other line is the name of a case."""
+    lines = [(STORED / name).read_text().splitlines()[1::2] for name in ("stdin", "stdout")]
     return [both for both in zip(*lines, strict=True) if CALLS.fullmatch("|".join(both))]
 
 
