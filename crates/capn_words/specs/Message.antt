@@ -34,7 +34,7 @@ IsPlace message at = at.word < length (segment_at message at.segment)
 abbrev pub word_at : List (List ℕ) → Place → ℕ
 word_at message at = slice_index (segment_at message at.segment) at.word
 
--- so many bytes from the start of a word on stay within its segment
+-- `len` bytes from the start of a word on stay within its segment
 abbrev pub IsRange : List (List ℕ) → Place → ℕ → Type 0
 IsRange message at len = (at.segment < length message)
     × (8 * at.word + len ≤ 8 * length (segment_at message at.segment))

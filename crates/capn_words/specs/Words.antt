@@ -32,7 +32,7 @@ unfoldable pub words_in : ℕ → List ℕ → List ℕ
 words_in zero bs = []
 words_in (suc n) bs = word_number bs ∷ words_in n (drop 8 bs)
 
--- the bytes are those of so many words as a message may have (Own.)
+-- the bytes are those of words, no more of them than a message may have (Own.)
 pub record IsBare (bs ws : List ℕ) : Type 0 where
   pub same : bs ≡ bytes ws
   pub each : AreWords ws

@@ -35,7 +35,7 @@ impl fmt::Display for BareFault {
 
 impl Error for BareFault {}
 
-/// The word that begins at so many times 8 bytes.
+/// The word at byte 8 * `index`.
 #[tactic(auto, unfolding(crate::specs::Words::word_number))]
 fn word_of(bytes: &[u8], index: usize) -> u64
     requires { 8 * index + 8 ≤ length bytes.now }
@@ -44,7 +44,7 @@ fn word_of(bytes: &[u8], index: usize) -> u64
     LittleEndian::read_u64(&bytes[8 * index..])
 }
 
-/// So many bytes from a start on.
+/// `len` bytes from byte `start` on.
 fn part(bytes: &[u8], start: usize, len: usize) -> &[u8]
     requires { start + len ≤ length bytes.now }
     ensures { result.now ≡ take len (drop start bytes.now) }

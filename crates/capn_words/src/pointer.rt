@@ -22,7 +22,7 @@ pub enum Width {
     W64,
     /// One pointer each.
     Link,
-    /// Structs behind a tag word: a composite list.
+    /// Structs after a tag word: a composite list.
     Rows,
 }
 

@@ -36,8 +36,7 @@ pub trait Space {
         requires { IsPlace (message self.now) at }
         ensures { result ≡ word_at (message self.now) at };
 
-    /// So many bytes from the start of a word on: those of the segment's words, the least significant of
-    /// each first.
+    /// `len` bytes from the start of a word on: those of the segment's words, the least significant of each first.
     ///
     /// The segment has to exist, the word may be its end, and the bytes have to stay within it.
     fn bytes(&self, at: Place, len: usize) -> &[u8]
