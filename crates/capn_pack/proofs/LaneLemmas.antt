@@ -238,7 +238,7 @@ few_ones (suc n) tag h = omega (arith, ones_half tag, few_ones n (tag / 2) (omeg
 pub eight_ones : (tag : ℕ) → tag < 256 → count_ones tag ≤ 8
 eight_ones tag h = few_ones 8 tag (omega arith)
 
--- what bytes written behind a front leave of it and of their own front
+-- what bytes written after a front leave of it and of their own front
 pub stored : (old add new text : List ℕ) (at all n end : ℕ) → end ≡ at + n → at ≤ length old → n ≤ all
     → take (at + all) new ≡ take at old ++ add → take n add ≡ text → take end new ≡ take at old ++ text
 stored old add new text at all n end e inside few written is =

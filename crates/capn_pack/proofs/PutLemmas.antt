@@ -16,7 +16,7 @@ use Rattle.capn_pack.proofs.RunLemmas.{tag_zero, named_exact}
 length_word : (bytes : List ℕ) (at : ℕ) → at + 8 ≤ length bytes → length (take 8 (drop at bytes)) ≡ 8
 length_word bytes at h = simp (length-take, length-drop) (omega arith)
 
--- the bytes from there are a word and those behind it
+-- the bytes from there are a word and those after it
 word_then : (bytes : List ℕ) (at : ℕ) → drop at bytes ≡ take 8 (drop at bytes) ++ drop (at + 8) bytes
 word_then bytes at = sym (take-append-drop 8 (drop at bytes))
     ∙ ap (λ l. take 8 (drop at bytes) ++ l) (drop-drop 8 at bytes)
@@ -84,7 +84,7 @@ puts_named bytes at tag old new room is above below e =
       text = e;
     }
 
--- ---- groups one behind another
+-- ---- groups one after another
 
 -- one group more
 pub puts_more : (bytes : List ℕ) (at mid next : ℕ) (old out new : List ℕ) → PutsRow bytes at mid old out
@@ -104,7 +104,7 @@ puts_more bytes at mid next old out new r p = record {
       ∙ ap (λ l. old ++ l) (sym (texts_more r.groups p.group));
 }
 
--- one row behind another, which was gathered apart
+-- one row after another, which was gathered apart
 pub puts_join : (bytes : List ℕ) (at mid next : ℕ) (old out block new : List ℕ) → PutsRow bytes at mid old out
     → PutsRow bytes mid next [] block → new ≡ out ++ block → PutsRow bytes at next old new
 puts_join bytes at mid next old out block new r s grown = record {

@@ -1,4 +1,4 @@
--- Groups one behind another at the front of some bytes.
+-- Groups one after another at the front of some bytes.
 use Rattle.std.proofs.Common.{◌≡◌, ℕ, ◌+◌, ◌-◌, ◌*◌, ◌≤◌, List, [], ◌∷◌, ◌++◌, length, take, drop, slice_range}
 use Rattle.std.proofs.Common.{sym, ap, ◌∙◌, subst, arith, append_assoc, length-append, take-add, take-append-drop}
 use Rattle.std.proofs.Common.{length-take, length-drop, take_all}
@@ -35,7 +35,7 @@ row_next bytes at next old out room count new forward u t =
     let sum : at + (next - at) ≡ next = omega arith in
     subst (λ n. TakesRow bytes n old new) sum (row_more bytes at old out room (next - at) count new u t)
 
--- one row behind another
+-- one row after another
 pub row_join : (bytes : List ℕ) (at : ℕ) (old out : List ℕ) (taken : ℕ) (new : List ℕ) → TakesRow bytes at old out
     → TakesRow (slice_range bytes at (length bytes)) taken out new → TakesRow bytes (at + taken) old new
 row_join bytes at old out taken new u t =

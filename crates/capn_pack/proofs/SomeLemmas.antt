@@ -118,7 +118,7 @@ some_appended bytes at old out room max u = record {
   );
 }
 
--- a group stands first where one stands behind some groups, within the maximum if both are
+-- a group stands first where one stands after some groups, within the maximum if both are
 starts_from : (bytes : List ℕ) (at : ℕ) (gs : List Group) (room max : ℕ) → AllByRecursion IsGroup gs
     → at ≤ length bytes → take at bytes ≡ texts gs → word_count gs + room ≡ max
     → StartsWithin (slice_range bytes at (length bytes)) room → StartsWithin bytes max
@@ -142,7 +142,7 @@ starts_from bytes at (g ∷ gs) room max each within e size s = record {
   fits = omega (arith, size);
 }
 
--- the same of the groups so far
+-- a whole group stands first in the whole text if one does in the rest that the groups so far leave
 pub some_starts : (bytes : List ℕ) (at : ℕ) (old out : List ℕ) (room max : ℕ) → Appended bytes at old out room max
     → StartsWithin (slice_range bytes at (length bytes)) room → StartsWithin bytes max
 some_starts bytes at old out room max u s =

@@ -66,7 +66,7 @@ no_groups bytes at (Zeros more ∷ gs) within e none = absurd (omega (arith, non
 no_groups bytes at (Named tag word ∷ gs) within e none = absurd (omega (arith, none))
 no_groups bytes at (Raw word count more ∷ gs) within e none = absurd (omega (arith, none))
 
--- what stands behind the groups so far, where there is room for it, or the first of them
+-- what stands after the groups so far, where there is room for it, or the first of them
 pub unpacked_starts : (bytes : List ℕ) (at : ℕ) (out : List ℕ) (room max : ℕ) → Unpacked bytes at out room max
     → StartsWithin (slice_range bytes at (length bytes)) room → StartsWithin bytes max
 unpacked_starts bytes at out room max u s = elim (cases_lt 0 (length out)) [
@@ -95,14 +95,14 @@ row_open bytes at (g ∷ gs) each within e none =
     (sym (take-append-drop at bytes) ∙ ap (λ (xs : List ℕ). xs ++ drop at bytes) e
     ∙ append_assoc (text g) (texts gs) (drop at bytes)))
 
--- behind a row
+-- after a row
 pub row_started : (bytes : List ℕ) (at room : ℕ) (old out : List ℕ) → TakesRow bytes at old out
     → StartsWithin (slice_range bytes at (length bytes)) room → NoGroupFirst bytes → ⊥
 row_started bytes at room old out u s none =
     let start : at ≡ 0 = row_open bytes at u.groups u.each u.within u.text none in
     none s.group s.more s.is_group (ap (λ (n : ℕ). drop n bytes) (sym start) ∙ sym (rest_is bytes at) ∙ s.text)
 
--- among the first bytes of a piece behind a rest
+-- among the first bytes of a piece after a rest
 pub joined_started : (rest piece joined : List ℕ) (more room : ℕ) → joined ≡ rest ++ take more piece
     → StartsWithin joined room
     → NoGroupFirst (rest ++ piece) → ⊥

@@ -9,7 +9,7 @@ abbrev weights : ℕ → ℕ → List ℕ
 weights zero w = []
 weights (suc n) w = w ∷ weights n (2 * w)
 
--- the weight behind them
+-- the weight after them
 abbrev behind : ℕ → ℕ → ℕ
 behind zero w = w
 behind (suc n) w = behind n (2 * w)

@@ -15,12 +15,12 @@ zero_count (x ∷ xs) = (if x == 0 then 1 else 0) + zero_count xs
 abbrev pub IsDense : List ℕ → Type 0
 IsDense word = (length word ≡ 8) × (zero_count word ≤ 1)
 
--- These bytes are so many words, each of them dense.
+-- These bytes are n words, each of them dense.
 abbrev pub AllDense : ℕ → List ℕ → Type 0
 AllDense zero bs = bs ≡ []
 AllDense (suc n) bs = IsDense (take 8 bs) × AllDense n (drop 8 bs)
 
--- The packer chooses this group where the words of bs come behind it.
+-- The packer chooses this group if the words of bs come after it.
 abbrev pub IsChoice : Group → List ℕ → Type 0
 -- it goes on as far as zero words do, up to 255 more
 IsChoice (Zeros more) bs = more < 255 → take 8 bs ≡ replicate 8 0 → ⊥
@@ -29,7 +29,7 @@ IsChoice (Named tag word) bs = tag ≡ tag_of word
 -- its first word has no zero byte, and it goes on as far as dense words do, up to 255 more
 IsChoice (Raw word count more) bs = (tag_of word ≡ 255) × AllDense count more × (count < 255 → IsDense (take 8 bs) → ⊥)
 
--- Each group of the row is the packer's choice before those behind it.
+-- Each group of the row is the packer's choice before those after it.
 abbrev pub IsChosenRow : List Group → Type 0
 IsChosenRow [] = ⊤
 IsChosenRow (g ∷ gs) = IsGroup g × IsChoice g (contents gs) × IsChosenRow gs

@@ -18,12 +18,12 @@ use Rattle.capn_pack.specs.declared.fault.UnpackFault.TheVariants.{Memory}
 abbrev pub OneReading : Type 0
 OneReading = (b vs ws : List ℕ) → Packs b vs → Packs b ws → vs ≡ ws
 
--- A text is refused for one reason, but for want of memory.
+-- A text is refused for one reason, unless memory runs out.
 abbrev pub OneRefusal : Type 0
 OneRefusal = (b : List ℕ) (max : ℕ) (e f : UnpackFault) → IsRefused b max e → IsRefused b max f → e ≢ Memory
     → f ≢ Memory → e ≡ f
 
--- A text that packs words within the maximum is refused for want of memory alone.
+-- A text that packs words within the maximum is refused only if memory runs out.
 abbrev pub PackedAreNotRefused : Type 0
 PackedAreNotRefused = (b ws : List ℕ) (max : ℕ) (e : UnpackFault) → Packs b ws → length ws ≤ 8 * max → IsRefused b max e
     → e ≡ Memory

@@ -3,7 +3,7 @@ use Rattle.std.specs.Prelude.{ℕ, ◌≡◌, ◌+◌, List, [], ◌∷◌}
 use Rattle.std.specs.List.{flat_map, AllByRecursion}
 use Rattle.capn_pack.specs.Group.{Group, IsGroup, text, content, words}
 
--- The groups written one behind another.
+-- The groups, written one after another.
 abbrev pub texts : List Group → List ℕ
 texts groups = flat_map text groups
 

@@ -55,7 +55,7 @@ pub record StartsWithin (rest : List ℕ) (room : ℕ) : Type 0 where
   pub text : rest ≡ text group ++ more
   pub fits : words group ≤ room
 
--- The text b is so refused under a maximum of words. Nothing is said of want of memory.
+-- The text b is refused like this under a maximum of words. Nothing is said of running out of memory.
 abbrev pub IsRefused : List ℕ → ℕ → UnpackFault → Type 0
 IsRefused b max Memory = ⊤
 IsRefused b max (Cut at) = Stands IsCut b max at

@@ -12,12 +12,12 @@ spread_places (suc n) tag next =
 abbrev pub spread_row : ℕ → List ℕ
 spread_row tag = spread_places 8 tag 0 ++ replicate 8 128
 
--- Of n bytes of a word from one on: those that the tag names, and zeros behind them.
+-- Of n bytes of a word from one on: those that the tag names, and zeros after them.
 abbrev pub gather_places : ℕ → ℕ → ℕ → List ℕ
 gather_places zero tag at = []
 gather_places (suc n) tag at =
     if tag % 2 == 1 then at ∷ gather_places n (tag / 2) (at + 1) else gather_places n (tag / 2) (at + 1) ++ 128 ∷ []
 
--- The named bytes of a word, behind a lane for the tag.
+-- The named bytes of a word, after a lane for the tag.
 abbrev pub gather_row : ℕ → List ℕ
 gather_row tag = 128 ∷ gather_places 8 tag 0 ++ replicate 7 128

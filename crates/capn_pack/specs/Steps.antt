@@ -10,7 +10,7 @@ use Rattle.capn_pack.specs.declared.unpack_group.Stop.{Stop}
 use Rattle.capn_pack.specs.declared.unpack_group.Stop.TheVariants.{Memory, Cut, TooLong}
 use Rattle.capn_pack.specs.declared.unpack_group.Taken.{Taken}
 
--- The next group of the rest takes so many bytes and has so many words, whose bytes were appended.
+-- The next group of the rest takes `taken` bytes and has `count` words, whose bytes were appended.
 pub record Takes (rest : List ℕ) (room taken count : ℕ) (old new : List ℕ) : Type 0 where
   pub group : Group
   pub is_group : IsGroup group
@@ -28,7 +28,7 @@ TakeGives rest room old (Err Memory) new = StartsWithin rest room × (new ≡ ol
 TakeGives rest room old (Err Cut) new = IsCut room rest × (length rest < GROUP) × (new ≡ old)
 TakeGives rest room old (Err TooLong) new = IsTooLong room rest × (new ≡ old)
 
--- The next groups of the rest take so many bytes, and their words' bytes were appended.
+-- The next groups of the rest take `taken` bytes, and their words' bytes were appended.
 pub record TakesRow (rest : List ℕ) (taken : ℕ) (old new : List ℕ) : Type 0 where
   pub groups : List Group
   pub each : AllByRecursion IsGroup groups

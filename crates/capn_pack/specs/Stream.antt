@@ -32,7 +32,7 @@ pub record Held : Type 0 where
   pub offset : ℕ
   pub failed : Bool
 
--- The offset behind so many bytes; offsets stop at the greatest number of 64 bits.
+-- The offset `len` bytes after another; offsets stop at the greatest number of 64 bits.
 abbrev pub advanced : ℕ → ℕ → ℕ
 advanced offset len = min (offset + len) (2 ^ 64 - 1)
 

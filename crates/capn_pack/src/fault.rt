@@ -1,4 +1,4 @@
-//! Why bytes aren't packed or unpacked. The variants stand in the order in which they are tested, but for memory.
+//! Why bytes aren't packed or unpacked. The variants stand in the order in which they are tested, except for memory.
 ghost use Rattle.std.specs.Prelude.{◌≡◌};
 
 use std::alloc::AllocError;
@@ -10,7 +10,7 @@ use std::fmt;
 pub enum PackFault {
     /// A growth was refused.
     Memory,
-    /// So many bytes aren't whole words: their number is no multiple of eight.
+    /// The bytes aren't whole words: their number, which is given, is no multiple of eight.
     NotWhole(u64),
 }
 

@@ -4,8 +4,8 @@ ghost use Rattle.capn_pack.specs.Rows.{gather_row};
 
 use std::simd::prelude::*;
 
-// Row t moves the bytes of a word that the tag t names behind one another, and leaves lane 0 free for the tag;
-// 128 makes a lane zero.
+// Row t moves the bytes of a word that the tag t names to the front, one after another, and leaves lane 0 free for the
+// tag; 128 makes a lane zero.
 #[rattlefmt::skip]
 static GATHERS: [[u8; 16]; 256] = [
     [128, 128, 128, 128, 128, 128, 128, 128, 128, 128, 128, 128, 128, 128, 128, 128],

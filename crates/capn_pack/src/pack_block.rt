@@ -8,7 +8,7 @@ use crate::lanes::gather;
 use crate::runs::{word_at, zero_run};
 use crate::signs::tag;
 
-/// How many bytes one group may need of a block: a tag and its bytes are written by one store of so many.
+/// How many bytes one group may need of a block: a tag and its bytes are written by one store of that size.
 pub(crate) const LANES: usize = 16;
 
 /// Writes sixteen bytes.
@@ -29,7 +29,7 @@ fn store_pair(block: &mut [u8], at: usize, pair: [u8; 2])
     block[at..at + 2].copy_from_slice(&pair);
 }
 
-/// Writes the tag and the bytes that it names behind those that wait, and answers how many wait then.
+/// Writes the tag and the bytes that it names after the bytes that wait, and answers how many wait then.
 #[inline(always)]
 fn store_named(block: &mut [u8], fill: usize, word: [u8; 8], tag: u8) -> usize
     requires { fill + 16 ≤ length block.old }
@@ -40,7 +40,7 @@ fn store_named(block: &mut [u8], fill: usize, word: [u8; 8], tag: u8) -> usize
     fill + 1 + tag.count_ones() as usize
 }
 
-/// Writes the group that the packer chooses there behind those that wait, unless it is a raw one.
+/// Writes the group that the packer chooses there after the bytes that wait, unless it is a raw one.
 #[inline(always)]
 fn store_group(bytes: &[u8], at: usize, block: &mut [u8], fill: usize) -> Option<Block>
     requires inside { at + 8 ≤ length bytes.now }

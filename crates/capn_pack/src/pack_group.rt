@@ -1,4 +1,4 @@
-//! One group written behind others.
+//! One group, written after others.
 ghost use Rattle.std.specs.Prelude.{◌≡◌, ◌+◌, ◌<◌, ◌≤◌, ◌∷◌, ◌++◌, length, take, drop, IfOk, OnOk};
 ghost use Rattle.capn_pack.specs.Group.{tag_of, named_bytes};
 ghost use Rattle.capn_pack.specs.Steps.{Puts};

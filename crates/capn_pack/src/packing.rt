@@ -9,7 +9,7 @@ use crate::pack_block::{LANES, store_groups};
 use crate::pack_group::put_group;
 use std::alloc::{AllocError, Allocator};
 
-/// A block and the lanes behind it.
+/// A block and the lanes after it.
 const BLOCK: usize = 4096 + LANES;
 
 /// Packs whole words, named words and zero words by the block.
@@ -48,7 +48,7 @@ pub fn pack<A: Allocator + Copy>(alloc: A, bytes: &[u8]) -> Result<Vec<u8, A>, P
     // Two of the packer's texts are equal exactly if their words are.
     ensures unique { (a b vs ws : List ℕ) → Chosen a vs → Chosen b ws
         → ((a ≡ b) ↔ (vs ≡ ws)) }
-    // Memory is wanted for some bytes only.
+    // Memory is needed only if there are bytes.
     ensures wanted { IsErrOf result PackFault.Memory → 0 < length bytes.now }
     ensures whole { length bytes.now % 8 ≡ 0 → OnErr result (result ≡ Err PackFault.Memory) }
     ensures not_whole { length bytes.now % 8 ≢ 0 → result ≡ Err (PackFault.NotWhole (length bytes.now)) }

@@ -6,8 +6,8 @@ use std::simd::prelude::*;
 
 /// The tag of a word, by the sign bits of its lanes.
 ///
-/// It is what [`tag`](crate::tag) answers; but a test of it for zero becomes one comparison of the whole word, so long
-/// runs of zero words are told faster.
+/// It is what [`tag`](crate::tag) answers; but testing it for zero becomes one comparison of the whole word, so long
+/// runs of zero words are found faster.
 #[inline(always)]
 pub(crate) fn tag(bytes: &[u8; 8]) -> u8
     ensures { result ≡ tag_of bytes.now }

@@ -50,9 +50,9 @@ fn stopped(bytes: usize, max_words: u32, room: usize, next: Next) -> Progress
 /// Appends the words of the whole groups that stand first, as long as they come to at most `max_words`. (Own.)
 ///
 /// A text that comes in pieces is unpacked under a maximum by calls of it: each takes what the last call left, and the
-/// piece that came, with the words that the last call left of the maximum. Where the text ends, what is left is
-/// refused as [`unpack`](crate::unpack) refuses it there: `Cut` if a group has begun, and `TooLong` as soon as this
-/// call says so.
+/// piece that came, with the words that the last call left of the maximum. Where the text ends, what is left is refused
+/// as [`unpack`](crate::unpack) refuses it there: `Cut` if a group has begun, and `TooLong` as soon as this call
+/// answers it.
 ///
 /// It takes no memory except what `out` needs for those words. Refusal: `AllocError` if a growth of `out` was refused,
 /// and then a beginning of those words was appended; that needs a whole group within the maximum at the front.

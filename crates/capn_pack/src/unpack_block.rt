@@ -9,7 +9,7 @@ use crate::lanes::spread_far;
 use crate::unpack_group::Taken;
 use std::alloc::{AllocError, Allocator};
 
-/// How many bytes a block needs behind its limit: a few zero words are written by one store of so many.
+/// How many bytes a block needs after its limit: a few zero words are written by one store of that size.
 pub(crate) const SLACK: usize = 64;
 
 /// Writes a word.
@@ -30,8 +30,8 @@ fn store_zeros(block: &mut [u8], at: usize)
     block[at..at + SLACK].copy_from_slice(&[0; SLACK]);
 }
 
-/// Writes the words of the group that begins there behind those that wait, where it is one word that a tag names or
-/// a few zero words, and they stay within the limit.
+/// Writes the words of the group that begins there after the bytes that wait, if it is one word that a tag names or a
+/// few zero words, and they stay within the limit.
 #[inline(always)]
 fn fill_group(text: &[u8], at: usize, block: &mut [u8], fill: usize, limit: usize) -> Option<Block>
     requires far { at + 17 ≤ length text.now }

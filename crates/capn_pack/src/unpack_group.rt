@@ -5,7 +5,7 @@ ghost use Rattle.capn_pack.specs.Steps.{TakeGives};
 use crate::lanes::spread;
 use std::alloc::{AllocError, Allocator};
 
-/// The longest group has so many bytes, and an unfinished one fewer: a tag, a word, a count and 255 words.
+/// How many bytes the longest group has: a tag, a word, a count and 255 words. An unfinished one has fewer.
 pub(crate) const GROUP: usize = 2050;
 
 /// A group has no more words.
@@ -41,7 +41,7 @@ pub(crate) struct Taken {
     pub words: usize,
 }
 
-/// A zero word, and so many more.
+/// A zero word, and as many more as its count says.
 #[inline(always)]
 fn take_zeros<A: Allocator>(rest: &[u8], room: usize, out: &mut Vec<u8, A>) -> Result<Taken, Stop>
     requires some { 0 < length rest.now }
@@ -83,7 +83,7 @@ fn take_named<A: Allocator>(rest: &[u8], room: usize, out: &mut Vec<u8, A>) -> R
     })
 }
 
-/// A word written whole, and so many more.
+/// A word written whole, and as many more as its count says.
 #[inline(always)]
 fn take_raw<A: Allocator>(rest: &[u8], room: usize, out: &mut Vec<u8, A>) -> Result<Taken, Stop>
     requires some { 0 < length rest.now }

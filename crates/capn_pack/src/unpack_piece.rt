@@ -7,7 +7,7 @@ use crate::unpack_block::{SLACK, take_block};
 use crate::unpack_group::{GROUP, Stop, WORDS, take_group};
 use std::alloc::{AllocError, Allocator};
 
-/// Room for an unfinished group and for as many bytes behind it as may make it whole.
+/// Room for an unfinished group and for as many bytes after it as may make it whole.
 pub(crate) const HELD: usize = 4099;
 
 /// Appends the words of each whole group at the front, and answers how many bytes those took. The block is overwritten.
@@ -42,15 +42,15 @@ fn take_groups<A: Allocator>(
     Ok(at)
 }
 
-/// What became of an unfinished group once more bytes came: it is still one, and has as many bytes,
-/// or it took so many bytes of the piece.
+/// What became of an unfinished group once more bytes came: `Open` with the bytes that it has now, or `Whole` with the
+/// bytes of the piece that it took.
 #[derive(Clone, Copy)]
 pub(crate) enum Joined {
     Open(usize),
     Whole(usize),
 }
 
-/// Copies the front of the piece behind the bytes that are held.
+/// Copies the front of the piece after the bytes that are held.
 fn fill(held: &mut [u8], len: usize, piece: &[u8])
     requires { len + length piece.now ≤ length held.old }
     ensures front { take len held.new ≡ take len held.old }
@@ -114,7 +114,7 @@ fn feed_fresh<A: Allocator>(
     })
 }
 
-/// Takes a piece behind the beginning of a group.
+/// Takes a piece after the beginning of a group.
 fn feed_begun<A: Allocator>(
     held: &mut [u8],
     len: usize,
@@ -141,7 +141,7 @@ fn feed_begun<A: Allocator>(
     }
 }
 
-/// Takes a piece behind what is held.
+/// Takes a piece after what is held.
 pub(crate) fn feed_held<A: Allocator>(
     held: &mut [u8],
     len: usize,

@@ -10,8 +10,8 @@ use std::marker::Model;
 /// Unpacks a text that comes in pieces, cut anywhere. (Own.)
 ///
 /// It keeps the bytes of the unfinished group, of which there are at most 2,049, and the offset of that group's tag in
-/// the text; it has its room inside and takes no memory but for what a piece's words need. After any refusal each later
-/// call answers `Failed` and changes nothing.
+/// the text; it has its room inside and takes memory only for a piece's words. After any refusal each later call
+/// answers `Failed` and changes nothing.
 #[derive(Debug, Drop)]
 pub struct Unpacker {
     held: [u8; HELD],
@@ -68,11 +68,11 @@ impl Unpacker {
     ) -> Result<(), UnpackFault>
         // What was held and the piece are whole groups, whose words were appended, and what is held now.
         ensures fed { OnOk result (Feeds self.old piece.now out.old.items out.new.items self.new) }
-        // Without memory a beginning of the words was appended, and the text can't be gone on with.
+        // Without memory a beginning of the words was appended, and the text can't be continued.
         ensures memory { IsErrOf result UnpackFault.Memory
             → Begins (self.old.rest ++ piece.now) out.old.items out.new.items
             × (self.new.failed ≡ true) }
-        // Memory is wanted only where a group became whole.
+        // Memory is needed only if a group became whole.
         ensures wanted { IsErrOf result UnpackFault.Memory → NoGroupFirst (self.old.rest ++ piece.now) → ⊥ }
         // After a refusal nothing changes any more.
         ensures failed { self.old.failed ≡ true → (result ≡ Err UnpackFault.Failed)

@@ -50,7 +50,7 @@ fn unpack_groups<A: Allocator + Copy>(
 ///
 /// It takes what the packer would not write too: set tag bits over zero bytes, short runs, any raw words. (Own.) A text
 /// without bytes packs no words. The answer grows on `alloc` a logarithmic number of times, and only by words that the
-/// text has behind the head of their group and that are within the maximum.
+/// text has after the head of their group and that are within the maximum.
 ///
 /// Refusals, with the offset of the group's tag: `Cut` where the group's head is cut, else `TooLong` where its words
 /// would bring their number above `max_words`, else `Cut` where its raw words are; `Memory` where a growth was
@@ -70,7 +70,7 @@ pub fn unpack<A: Allocator + Copy>(
         → MatchResult result (λ v. v.items ≡ bs) (λ e. e ≡ UnpackFault.Memory) }
     // What each refusal means, and where.
     ensures refused { IfErr result (λ e. IsRefused bytes.now max_words e) }
-    // Memory is wanted only where a whole group within the maximum stands first.
+    // Memory is needed only if a whole group within the maximum stands first.
     ensures wanted { IsErrOf result UnpackFault.Memory → StartsWithin bytes.now max_words }
 {
     match unpack_groups(alloc, bytes, max_words) {

@@ -35,7 +35,7 @@ length_named (suc n) tag (x ∷ xs) long less =
 middle : (tag : ℕ) → 0 < tag → tag < 255 → (eqb tag 0 ≡ false) × (eqb tag 255 ≡ false)
 middle tag above below = (ne_eqb tag 0 (λ e. absurd (omega arith)), ne_eqb tag 255 (λ e. absurd (omega arith)))
 
--- the bytes have a head that tells the length of the group's text and its words
+-- the bytes have a head that gives the length of the group's text and its words
 pub record HeadOf (g : Group) (b : List ℕ) : Type 0 where
   pub head : HasHead b
   pub long : len_at b ≡ length (text g)
@@ -182,7 +182,7 @@ not_refused Q never b bs max at p fits s =
       s.counted,
     )) s.fault
 
--- a text that is read within the maximum is refused for want of memory alone
+-- a text that is read within the maximum is refused only if memory runs out
 pub refused_only : (e : UnpackFault) (b bs : List ℕ) (max : ℕ) → IsRefused b max e → Packs b bs → length bs ≤ 8 * max
     → e ≡ fault.Memory
 refused_only fault.Memory b bs max r p fits = refl

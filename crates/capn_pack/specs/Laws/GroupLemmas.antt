@@ -9,7 +9,7 @@ use Rattle.capn_pack.specs.Group.{Group, text, content, words, IsGroup}
 use Rattle.capn_pack.specs.Packs.{texts, contents, word_count}
 use Rattle.capn_pack.specs.Group.Group.{Zeros, Named, Raw}
 
--- the first item, and those behind it
+-- the first item, and those after it
 pub take_first : (n : ℕ) (xs : List ℕ) → 0 < length xs → take (1 + n) xs ≡ get_or xs 0 0 ∷ take n (drop 1 xs)
 take_first n [] h = absurd (omega arith)
 take_first n (x ∷ xs) h = let e : 1 + n ≡ suc n = omega arith in ap (λ k. take k (x ∷ xs)) e
@@ -41,7 +41,7 @@ take_raw_text xs m h =
     ∙ ap (λ l. take 8 (drop 1 xs) ++ l) (ap (take (1 + n)) (drop-drop 8 1 xs) ∙ take_at_next 9 n xs (omega arith)
     ∙ ap (λ k. get_or xs 9 0 ∷ take k (drop 10 xs)) (sym size)))
 
--- the first bytes behind the tag
+-- the first bytes after the tag
 pub take_tail : (n : ℕ) (xs : List ℕ) → take n (slice_range xs 1 (length xs)) ≡ take n (drop 1 xs)
 take_tail n xs = ap (take n) (take_all (length xs - 1) (drop 1 xs) (omega (arith, length-drop 1 xs)))
 
@@ -71,7 +71,7 @@ length_content (Raw word count more) h = length-append word more ∙ omega (arit
 pub rest_is : (bytes : List ℕ) (at : ℕ) → slice_range bytes at (length bytes) ≡ drop at bytes
 rest_is bytes at = take_all (length bytes - at) (drop at bytes) (omega (arith, length-drop at bytes))
 
--- so many bytes are left
+-- how many bytes there are from `at` on
 pub length_rest : (bytes : List ℕ) (at : ℕ) → length (slice_range bytes at (length bytes)) ≡ length bytes - at
 length_rest bytes at = ap length (rest_is bytes at) ∙ length-drop at bytes
 

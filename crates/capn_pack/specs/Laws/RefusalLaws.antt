@@ -80,7 +80,7 @@ module _ (b : List ℕ) (max : ℕ) where
   one_packed (fault.TooLong at) (fault.TooLong to) r s ne nf =
       ap (λ (n : ℕ). fault.TooLong n) (same_at IsTooLong long-no_group at to r s)
 
--- a packed text is refused for one reason, but for want of memory
+-- a packed text is refused for one reason, unless memory runs out
 pub one_unpack_fault : (b : List ℕ) (max : ℕ) (e f : UnpackFault)
     → IsRefused b max e → IsRefused b max f → (e ≡ fault.Memory → ⊥) → (f ≡ fault.Memory → ⊥) → e ≡ f
 one_unpack_fault b max e f r s ne nf = one_packed b max e f r s ne nf

@@ -64,7 +64,7 @@ past_rest rest piece joined more room taken count old new e none t =
       | inr le ↦ le
     ]
 
--- a group taken of what is held and more ends behind what is held
+-- a group taken of what is held and more ends after what is held
 pub join_past : (held piece joined : List ℕ) (len more room taken count : ℕ) (old new : List ℕ) → len ≤ length held
     → joined ≡ take len held ++ take more piece → NoGroupFirst (take len held) → Takes joined room taken count old new
     → len ≤ taken
