@@ -122,7 +122,7 @@ module _ (ends ws : List ℕ) (is : AreEnds ends ws) (s : ℕ) (here : s < lengt
       sym (ap (λ (xs : List ℕ). take len (drop (8 * k) (bytes xs))) (segment-cut 0 ends ws s within)
       ∙ bytes_of_part start size k len ws room)
 
--- the same of the message that is seen
+-- the message into which words are cut at ends
 module _ (ends ws : List ℕ) (message : List (List ℕ)) (seen : cut 0 ends ws ≡ message) (is : AreEnds ends ws) where
   pub seen_message : IsMessage message
   seen_message = subst IsMessage seen (message-cut ends ws is)

@@ -12,7 +12,7 @@ use Rattle.capn_stream.specs.declared.stage.Stage.{Stage}
 use Rattle.capn_stream.specs.declared.stage.Stage.TheVariants as stages
 use Rattle.capn_stream.specs.Laws.Longer.{IsStage-extends, IsStop-append}
 
--- the bytes behind so many of a piece and some of those that were left
+-- the bytes after those that were taken of a piece, and some of those that were left
 pub record Filled (stage : Stage) (old piece : List ℕ) (most at : ℕ) (new ends : List ℕ) : Type 0 where
   pub inside : at ≤ length piece
   pub text : new ≡ old ++ take at piece
@@ -23,7 +23,7 @@ pub stop_count : (bs : List ℕ) (most : ℕ) (e : FrameFault) → length bs ≡
     → (e ≡ TooManySegments (announced_segments bs)) × (most_segments < announced_segments bs) → IsStop bs most e
 stop_count bs most e here h = rw h.0 (omega arith, refl, h.1)
 
--- the table is waited for behind the count
+-- the table is waited for after the count
 pub is_table : (stage : Stage) (old piece : List ℕ) (most at segments : ℕ) (new ends : List ℕ)
     → Filled stage old piece most at new ends → HasCount new × (segments ≡ announced_segments new) → length new ≡ 4
     → Filled (stages.Table segments) old piece most at new ends
@@ -37,7 +37,7 @@ is_table stage old piece most at segments new ends f counted here = record {
   };
 }
 
--- the contents are waited for behind the table
+-- the contents are waited for after the table
 pub is_contents : (segments : ℕ) (old piece : List ℕ) (most at start end : ℕ) (new ends cuts : List ℕ)
     → Filled (stages.Table segments) old piece most at new ends → Tabled new most start end cuts
     → Filled (stages.Contents start end) old piece most at new cuts
@@ -67,7 +67,7 @@ module _ (stage : Stage) (old piece : List ℕ) (most at n end : ℕ) (mid new e
         is = IsStage-extends stage mid (drop at piece) most n new ends is part;
       }
 
-  -- the whole piece behind what was there
+  -- the whole piece after what was there
   pub filled_all : old ++ piece ≡ new ++ drop (at + n) piece
   filled_all =
       ap (λ (xs : List ℕ). old ++ xs) (sym (take-append-drop (at + n) piece))

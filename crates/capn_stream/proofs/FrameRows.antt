@@ -22,7 +22,7 @@ one_segment_announced : (announced_segments one_segment ≡ 1) × (announced_wor
 unfolding one_segment entry_number
 one_segment_announced = (refl, refl, refl)
 
--- the same struct behind a far pointer: two segments, of one word and of two, and 4 bytes of padding
+-- the same struct after a far pointer: two segments, of one word and of two, and 4 bytes of padding
 two_segments : frame_text ((4294967298 ∷ []) ∷ (4294967296 ∷ 5 ∷ []) ∷ [])
     ≡ 1 ∷ 0 ∷ 0 ∷ 0 ∷ 1 ∷ 0 ∷ 0 ∷ 0 ∷ 2 ∷ 0 ∷ 0 ∷ 0 ∷ 0 ∷ 0 ∷ 0 ∷ 0 ∷ 2 ∷ 0 ∷ 0 ∷ 0 ∷ 1 ∷ 0 ∷ 0 ∷ 0
     ∷ 0 ∷ 0 ∷ 0 ∷ 0 ∷ 1 ∷ 0 ∷ 0 ∷ 0 ∷ 5 ∷ 0 ∷ 0 ∷ 0 ∷ 0 ∷ 0 ∷ 0 ∷ 0 ∷ []

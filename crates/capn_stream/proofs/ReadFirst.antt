@@ -70,7 +70,7 @@ pub read_gives : (old new : Option (List ℕ)) (failed : Bool) (most : ℕ) (r :
     → StopsInside old new failed most r → ReadGives old new failed most r
 read_gives old new failed most r (bytes, received, place) = (bytes, received)
 
--- and wants memory for bytes that are there alone
+-- and needs memory only if there are bytes
 pub wants_first : (old new : Option (List ℕ)) (failed : Bool) (most : ℕ)
     (r : Result (Option (List (List ℕ))) ReadFault)
     → StopsInside old new failed most r → IfSome old (λ input. IsErrOf r faults.Memory → 0 < length input)

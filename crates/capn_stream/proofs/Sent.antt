@@ -50,7 +50,7 @@ sizes_more message s size here is =
     ∙ sym (flat_map_more (λ ws. entry (length ws)) [] (take s message) (segment_at message s))
     ∙ ap (λ (n : ℕ). flat_map (λ ws. entry (length ws)) (take s message) ++ entry n) (sym is)
 
--- the bytes of one segment more, and those behind it
+-- the bytes of one segment more, and those after it
 pub contents_more : (message : List (List ℕ)) (s : ℕ) → s < length message
     → contents (take (s + 1) message) ≡ contents (take s message) ++ bytes (segment_at message s)
 contents_more message s here = ap contents (take_more message s [] here)

@@ -19,7 +19,7 @@ use Rattle.capn_stream.specs.declared.stage.Stage.TheVariants as stages
 use Rattle.capn_stream.specs.Laws.FrameLaws.{frames_all}
 use Rattle.capn_stream.proofs.WholeFrames.{ends_are, stands}
 
--- the words behind the head
+-- the words after the head
 abbrev pub tail : ℕ → List ℕ → List ℕ
 tail start bs = words_in (length (drop start bs) / 8) (drop start bs)
 

@@ -18,7 +18,7 @@ pub record Framing : Type 0 where
   pub most : ℕ
   pub failed : Bool
 
--- the bytes are a frame, of a message of at most so many words
+-- the bytes are a frame, of a message of at most `most` words
 abbrev pub IsFrame : List ℕ → ℕ → Type 0
 IsFrame bs most = (message : List (List ℕ)) × Frames bs message × (total message ≤ most)
 
@@ -73,7 +73,7 @@ FinishGives before (Err (TooManyWords n)) after = ⊥
 FinishGives before (Err Cut) after = Stops before after × IsRefused before.rest before.most Cut
 FinishGives before (Err Failed) after = (before.failed ≡ true) × (after ≡ before)
 
--- the fields of a framer tell how far its frame has come, until a call has refused
+-- the fields of a framer say how far its frame has come, until a call has refused
 pub record IsFramer (frame : List ℕ) (ends : List ℕ) (stage : Stage) (most : ℕ) (failed : Bool) : Type 0 where
   pub small : most ≤ most_message_words
   pub is : failed ≡ false → IsStage stage frame most ends

@@ -11,18 +11,17 @@ use Rattle.capn_stream.specs.Reading.{IsRefused}
 use Rattle.capn_stream.specs.declared.fault.FrameFault.{FrameFault}
 use Rattle.capn_stream.specs.declared.fault.FrameFault.TheVariants.{Memory}
 
--- one message stands first in some bytes at most, and it takes so many of them at most, whatever number of words is
--- allowed
+-- at most one message stands first in some bytes, and it takes one number of them, whatever number of words is allowed
 abbrev pub OneFrame : Type 0
 OneFrame = (bs : List ℕ) (most limit : ℕ) (m n : List (List ℕ)) (taken len : ℕ)
     → StandsFirst bs most m taken → StandsFirst bs limit n len → (m ≡ n) × (taken ≡ len)
 
--- bytes are refused for one reason, but for want of memory
+-- bytes are refused for one reason, unless memory runs out
 abbrev pub OneRefusal : Type 0
 OneRefusal = (bs : List ℕ) (most : ℕ) (e f : FrameFault)
     → IsRefused bs most e → IsRefused bs most f → e ≢ Memory → f ≢ Memory → e ≡ f
 
--- bytes in which a message stands first are refused for want of memory alone
+-- bytes in which a message stands first are refused only if memory runs out
 abbrev pub FramedAreNotRefused : Type 0
 FramedAreNotRefused = (bs : List ℕ) (most : ℕ) (m : List (List ℕ)) (taken : ℕ) (e : FrameFault)
     → StandsFirst bs most m taken → IsRefused bs most e → e ≡ Memory

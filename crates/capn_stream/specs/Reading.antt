@@ -21,11 +21,11 @@ entries (suc n) bs = entry_number bs ∷ entries n (drop 4 bs)
 abbrev pub announced_segments : List ℕ → ℕ
 announced_segments bs = entry_number bs + 1
 
--- how many words are announced: the sum of the sizes behind the count
+-- how many words are announced: the sum of the sizes after the count
 abbrev pub announced_words : List ℕ → ℕ
 announced_words bs = sum (entries (announced_segments bs) (drop 4 bs))
 
--- how many bytes the table of so many segments and its padding take
+-- how many bytes the table of `count` segments and its padding take
 abbrev pub head_length : ℕ → ℕ
 head_length count = 4 + 4 * count + padding count
 
@@ -33,7 +33,7 @@ head_length count = 4 + 4 * count + padding count
 abbrev pub frame_length : List ℕ → ℕ
 frame_length bs = head_length (announced_segments bs) + 8 * announced_words bs
 
--- so many segments are allowed as are announced
+-- the count is there, and announces no more segments than are allowed
 abbrev pub HasCount : List ℕ → Type 0
 HasCount bs = (4 ≤ length bs) × (announced_segments bs ≤ most_segments)
 
@@ -50,24 +50,24 @@ IsWhole bs most = HasHead bs × (announced_words bs ≤ most) × (frame_length b
 abbrev pub HasTable : List ℕ → ℕ → Type 0
 HasTable bs most = IsWhole bs most × (2 ≤ announced_segments bs)
 
--- the count is cut; or so many segments are allowed, and the table or its padding is cut; or so many words are allowed
--- too, and the contents are cut
+-- the count is cut; or the segments announced are allowed, and the table or its padding is cut; or the words announced
+-- are allowed too, and the contents are cut
 abbrev pub IsCut : List ℕ → ℕ → Type 0
 IsCut bs most =
     ((0 < length bs) × (length bs < 4))
     ⊎ (HasCount bs × (length bs < head_length (announced_segments bs)))
     ⊎ (HasHead bs × (announced_words bs ≤ most) × (length bs < frame_length bs))
 
--- the bytes end with the count or before it; or with the table and its padding, where so many segments are allowed; or
--- with the contents, where so many words are allowed too
+-- the bytes end with the count or before it; or with the table and its padding, if the segments announced are allowed;
+-- or with the contents, if the words announced are allowed too
 abbrev pub EndsWithin : List ℕ → ℕ → Type 0
 EndsWithin bs most =
     (length bs ≤ 4)
     ⊎ (HasCount bs × (length bs ≤ head_length (announced_segments bs)))
     ⊎ (HasHead bs × (announced_words bs ≤ most) × (length bs ≤ frame_length bs))
 
--- why bytes are refused under a number of words, each test being made once those before it have passed
--- (want of memory says nothing of the bytes)
+-- why bytes are refused under a number of words, each test being made once those before it have passed (running out of
+-- memory says nothing of the bytes)
 abbrev pub IsRefused : List ℕ → ℕ → FrameFault → Type 0
 IsRefused bs most Memory = ⊤
 IsRefused bs most Empty = length bs ≡ 0

@@ -11,7 +11,7 @@ use Rattle.capn_stream.specs.declared.fault.FrameFault.TheVariants as frames
 use Rattle.capn_stream.specs.declared.fault.ReadFault.{ReadFault}
 use Rattle.capn_stream.specs.declared.fault.ReadFault.TheVariants as faults
 
--- the most bytes of a frame of so many words: those of the longest table, and of the words
+-- the most bytes of a frame of `most` words: those of the longest table, and of the words
 abbrev pub most_bytes : ℕ → ℕ
 most_bytes most = 8 * (most_table_words + most)
 
@@ -44,8 +44,8 @@ abbrev pub ReadGives : Option (List ℕ) → Option (List ℕ) → Bool → ℕ 
 ReadGives old new failed most result = (bytes : List ℕ) × Received old new failed most result bytes
 
 -- Where a read that took these bytes has left its reader: after a refusal it stands inside the message. That is exactly
--- after the count where so many segments are too many, after the table and its padding where so many words are, and at
--- the end of the input where the message is cut. Memory is wanted once a byte has come, and not beyond the message.
+-- after the count if it announces too many segments, after the table and its padding if they announce too many words,
+-- and at the end of the input if the message is cut. Memory is needed once a byte has come, and not beyond the message.
 abbrev pub StandsInside : List ℕ → ℕ → Option (List ℕ) → Result (Option (List (List ℕ))) ReadFault → Type 0
 StandsInside bs most new (Ok answer) = ⊤
 StandsInside bs most new (Err faults.Memory) = (0 < length bs) × EndsWithin bs most
@@ -63,7 +63,7 @@ abbrev pub StopsInside : Option (List ℕ) → Option (List ℕ) → Bool → �
 StopsInside old new failed most result = (bytes : List ℕ) × Received old new failed most result bytes
     × StandsInside bytes most new result
 
--- bytes behind what a framer holds were all taken: they make a message whole, or none, or are refused
+-- bytes that follow what a framer holds were all taken: they make a message whole, or none, or are refused
 abbrev pub TakesIn : Framing → List ℕ → Result (Option (List (List ℕ))) ReadFault → Framing → Type 0
 TakesIn before piece (Ok (Some message)) after = Frames (before.rest ++ piece) message × (total message ≤ before.most)
 TakesIn before piece (Ok None) after =
@@ -102,7 +102,7 @@ ReadsFirst most (Err faults.Memory) input = ⊤
 ReadsFirst most (Err faults.Io) input = ⊤
 ReadsFirst most (Err (faults.Frame e)) input = IsRefused input most e × (e ≢ frames.Memory) × (e ≢ frames.Empty)
 
--- a message that stands first is answered, but for want of memory and a reader that failed
+-- a message that stands first is answered, unless memory runs out or the reader failed
 abbrev pub OnlyFirst : ℕ → Result (Option (List (List ℕ))) ReadFault → List ℕ → Type 0
 OnlyFirst most result input =
     (message : List (List ℕ)) (taken : ℕ) → StandsFirst input most message taken → (result ≡ Ok (Some message))

@@ -21,7 +21,7 @@ need (stages.Contents start end) = end
 abbrev pub announced_ends : List ℕ → List ℕ
 announced_ends bs = ends_from 0 (entries (entry_number bs) (drop 4 bs))
 
--- the part that is waited for is told as the bytes announce it, and none before it was refused
+-- the part that is waited for is the one that the bytes announce, and none before it was refused
 abbrev pub Knows : Stage → List ℕ → ℕ → List ℕ → Type 0
 Knows stages.Count bs most ends = ⊤
 Knows (stages.Table segments) bs most ends = HasCount bs × (segments ≡ announced_segments bs)
@@ -29,7 +29,7 @@ Knows (stages.Contents start end) bs most ends =
     HasHead bs × (announced_words bs ≤ most) × (start ≡ head_length (announced_segments bs)) × (end ≡ frame_length bs)
     × (ends ≡ announced_ends bs)
 
--- so many segments may be announced
+-- the number of segments is one that may be announced
 abbrev pub FitsStage : Stage → Type 0
 FitsStage stages.Count = ⊤
 FitsStage (stages.Table segments) = segments ≤ most_segments
@@ -68,7 +68,7 @@ IsStop bs most (TooManyWords n) = IsRefused bs most (TooManyWords n)
 IsStop bs most Cut = ⊥
 IsStop bs most Failed = ⊥
 
--- the number of parts that are still waited for behind this one
+-- the number of parts that are still waited for after this one
 abbrev pub parts_left : Stage → ℕ
 parts_left stages.Count = 2
 parts_left (stages.Table segments) = 1

@@ -21,9 +21,9 @@ pub enum FrameFault {
     Memory,
     /// There are no bytes.
     Empty,
-    /// So many segments are announced, more than a message may have. Told once the count is there.
+    /// The number of segments announced is more than a message may have. Reported once the count is there.
     TooManySegments(u64),
-    /// So many words are announced, more than are allowed. Told once the table and its padding are there.
+    /// The number of words announced is more than is allowed. Reported once the table and its padding are there.
     TooManyWords(u64),
     /// The bytes end within the count, the table, its padding or the contents.
     Cut,

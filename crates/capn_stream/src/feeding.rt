@@ -16,7 +16,7 @@ use std::mem;
 
 /// Takes messages from a stream that comes in pieces, cut anywhere. (Own.)
 ///
-/// It keeps the bytes that came since the last message was taken, and beside them what their table has told, so that no
+/// It keeps the bytes that came since the last message was taken, and beside them what their table says, so that no
 /// byte is looked at twice. It grows with bytes that came, by 64 at the first of a message, and never by what a table
 /// announces. After any refusal each later `feed` and `finish` answers `Failed`, and `take` answers None.
 #[derive(Debug, Drop)]
@@ -40,7 +40,7 @@ impl<A: Allocator + Copy> Model for Framer<A> {
 }
 
 impl<A: Allocator + Copy> Framer<A> {
-    /// At the beginning of a stream, for messages of at most so many words. It takes no memory.
+    /// At the beginning of a stream, for messages of at most `max_words` words. It takes no memory.
     pub fn new(alloc: A, max_words: u32) -> Framer<A>
         requires { max_words ≤ most_message_words }
         ensures { result ≡ record { rest = []; most = max_words; failed = false } }
@@ -62,7 +62,7 @@ impl<A: Allocator + Copy> Framer<A> {
     #[inline]
     pub fn feed(&mut self, piece: &[u8]) -> Result<usize, FrameFault>
         ensures gives { FeedGives self.old piece.now result self.new }
-        // Memory is wanted only where bytes came that are kept: the piece has some, and no message waits.
+        // Memory is needed only if bytes came that are kept: the piece has some, and no message waits.
         ensures wanted { IsErrOf result FrameFault.Memory
             → (0 < length piece.now) × IsUnfinished self.old.rest self.old.most }
     {
@@ -81,7 +81,7 @@ impl<A: Allocator + Copy> Framer<A> {
         fed
     }
 
-    /// How many bytes the part needs that is waited for: no message is whole before so many more have come.
+    /// How many bytes there have to be for the part that is waited for: no message is whole before that.
     pub(crate) fn wanted(&self) -> usize
         requires { self.now.failed ≡ false }
         ensures least { (more : List ℕ) → IsFrame (self.now.rest ++ more) self.now.most → result ≤ length more }

@@ -36,7 +36,7 @@ pub(crate) fn start_of(ends: &[u32], segment: usize) -> u32
     if segment == 0 { 0 } else { ends[segment - 1] }
 }
 
-/// Where a segment ends: the last one with the words, of which there are so many in all.
+/// Where a segment ends: for the last one, at the end of the message, which has `words` words.
 pub(crate) fn end_of(ends: &[u32], words: u32, segment: usize) -> u32
     requires { segment ≤ length ends.now }
     ensures { result ≡ slice_index (ends.now ++ words ∷ []) segment }

@@ -1,4 +1,4 @@
-//! Messages in a stream: segment tables, and the segments behind them.
+//! Messages in a stream: segment tables, and the segments after them.
 //!
 //! [`first`] reads the message that stands first in some bytes, as a [`Framed`] that borrows them, and
 //! [`frame`] writes a message as such bytes:
@@ -8,10 +8,10 @@
 //! let text = frame(alloc, &message)?;
 //! ```
 //!
-//! Here `text` is the first `taken` bytes of `input`, but for the padding of its table. Any bytes may be
-//! given: `first` answers exactly where a frame within the limits stands first, and else says why none
-//! does. What a table announces is never allocated. [`laws`] has what holds of frames apart from any call: one frame
-//! stands first at most, and bytes are refused for one reason.
+//! Here `text` is the first `taken` bytes of `input`, except for the padding of its table. Any bytes may be given:
+//! `first` answers a message if and only if a frame within the limits stands first, and else says why none does. What a
+//! table announces is never allocated. [`laws`] has what holds of frames apart from any call: one frame stands first at
+//! most, and bytes are refused for one reason.
 #![tactic(auto)]
 
 mod fault;

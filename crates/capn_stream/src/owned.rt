@@ -11,7 +11,7 @@ use capn_words::{Place, Space};
 use std::alloc::{Allocator, Global};
 use std::marker::Model;
 
-/// The words behind the head of a frame that is owned.
+/// The words after the head of a frame that is owned.
 #[derive(Debug, Drop)]
 pub(crate) struct Words<A: Allocator = Global> {
     frame: Vec<u8, A>,
@@ -30,7 +30,7 @@ impl<A: Allocator> Model for Words<A> {
     ghost invariant = { λ w. IsTail w.frame.items w.start };
 }
 
-/// How many words stand behind a start.
+/// How many words stand from `start` on.
 fn count_of(frame: &[u8], start: usize) -> usize
     requires { start ≤ length frame.now }
     ensures { result ≡ length (drop start frame.now) / 8 }
@@ -38,7 +38,7 @@ fn count_of(frame: &[u8], start: usize) -> usize
     (frame.len() - start) / 8
 }
 
-/// The word that begins so many times 8 bytes behind a start.
+/// The word at byte 8 * `index` after `start`.
 #[tactic(auto, unfolding(capn_words::specs::Words::word_number))]
 fn word_of(frame: &[u8], start: usize, index: usize) -> u64
     requires { start + (8 * index + 8) ≤ length frame.now }
@@ -48,7 +48,7 @@ fn word_of(frame: &[u8], start: usize, index: usize) -> u64
     LittleEndian::read_u64(&tail[8 * index..])
 }
 
-/// So many bytes from a place behind a start on.
+/// `len` bytes from byte `from` after `start` on.
 fn part(frame: &[u8], start: usize, from: usize, len: usize) -> &[u8]
     requires { start + (from + len) ≤ length frame.now }
     ensures { result.now ≡ take len (drop from (drop start frame.now)) }
@@ -73,7 +73,7 @@ impl<A: Allocator> Words<A> {
         word_of(&self.frame, self.start, index)
     }
 
-    /// So many bytes from the start of a word on.
+    /// `len` bytes from the start of word `index` on.
     fn bytes(&self, index: usize, len: usize) -> &[u8]
         requires { 8 * index + len ≤ 8 * length self.now }
         ensures { result.now ≡ take len (drop (8 * index) (bytes self.now)) }
@@ -104,7 +104,7 @@ impl<A: Allocator> Model for Stored<A> {
 }
 
 impl<A: Allocator> Stored<A> {
-    /// The words of a frame behind its head, cut at the ends.
+    /// The words of a frame after its head, cut at the ends.
     pub(crate) fn new(frame: Vec<u8, A>, start: usize, ends: Vec<u32, A>) -> Stored<A>
         requires tail { IsTail frame.items start }
         requires ends { AreEnds ends.items (words_in (length (drop start frame.items) / 8) (drop start frame.items)) }

@@ -30,7 +30,7 @@ pub fn first<'a, A: Allocator + Copy>(
         → StandsFirst bytes.now max_words message taken
         → MatchResult result (λ answer. (answer.0 ≡ message) × (answer.1 ≡ taken)) (λ e. e ≡ FrameFault.Memory) }
     ensures refused { IfErr result (λ e. IsRefused bytes.now max_words e) }
-    // Memory is wanted only where a whole frame of two segments or more stands first.
+    // Memory is needed only if a whole frame of two segments or more stands first.
     ensures memory { IsErrOf result FrameFault.Memory → HasTable bytes.now max_words }
 {
     let head = read_head(bytes, max_words)?;

@@ -73,7 +73,7 @@ fn receive<R: Read, A: Allocator + Copy>(
     }
 }
 
-/// The next message of a reader, of at most so many words: its bytes and no others are taken.
+/// The next message of a reader, of at most `max_words` words: its bytes and no others are taken.
 ///
 /// No call asks the reader for more than 16,384 bytes, nor for more than the part of the message that is waited for
 /// still needs. The message grows with bytes that came, never by what its table announces.
@@ -92,7 +92,7 @@ pub fn read_message<R: Read, A: Allocator + Copy>(
     // What it answers, of all that the reader had to give; and that a message that stands first is answered.
     ensures exact { IfSome (R.remaining (inner_of reader.old)) (ReadsFirst max_words result) }
     ensures only { IfSome (R.remaining (inner_of reader.old)) (OnlyFirst max_words result) }
-    // It takes the bytes of that message and no others, and tells a failed reader.
+    // It takes the bytes of that message and no others, and reports a reader that failed.
     ensures gives { ReadGives (R.remaining (inner_of reader.old)) (R.remaining (inner_of reader.new))
         (has_failed reader.new)
         max_words result }
@@ -100,7 +100,7 @@ pub fn read_message<R: Read, A: Allocator + Copy>(
     ensures inside { StopsInside (R.remaining (inner_of reader.old)) (R.remaining (inner_of reader.new))
         (has_failed reader.new)
         max_words result }
-    // Memory is wanted only where the reader has a byte to give.
+    // Memory is needed only if the reader has a byte to give.
     ensures wanted { IfSome (R.remaining (inner_of reader.old))
         (λ input. IsErrOf result ReadFault.Memory → 0 < length input) }
 {

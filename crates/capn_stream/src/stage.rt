@@ -19,7 +19,7 @@ use std::alloc::{AllocError, Allocator, Global};
 pub(crate) enum Stage {
     /// The count of segments.
     Count,
-    /// The table of so many segments, and its padding.
+    /// The table of this many segments, and its padding.
     Table(usize),
     /// The contents, which begin at a byte of the frame and end at another, with the frame.
     Contents(usize, usize),
@@ -50,7 +50,7 @@ pub(crate) fn part_left(stage: Stage, bytes: &[u8]) -> usize
 /// The room for which the first bytes of a frame ask, so that a small one takes memory once.
 const FIRST_ROOM: usize = 64;
 
-/// Room for so many bytes, where they are the first. It never grows what has some, so that those that follow grow it by
+/// Room for `count` bytes, if they are the first. It never grows what has some, so that those that follow grow it by
 /// its own rule.
 #[inline]
 fn make_room<A: Allocator>(bytes: &mut Vec<u8, A>, count: usize) -> Result<(), AllocError>
@@ -64,7 +64,7 @@ fn make_room<A: Allocator>(bytes: &mut Vec<u8, A>, count: usize) -> Result<(), A
     Ok(())
 }
 
-/// Adds bytes of the piece until there are so many, and answers how many it took.
+/// Adds bytes of the piece until there are `end` bytes, and answers how many it took.
 #[inline]
 fn fill_to<A: Allocator>(
     bytes: &mut Vec<u8, A>,

@@ -59,7 +59,7 @@ pub(crate) fn ends_of<A: Allocator>(
     Ok(ends)
 }
 
-/// How many bytes the table of so many segments and its padding take.
+/// How many bytes the table of `count` segments and its padding take.
 pub(crate) fn head_of(count: usize) -> usize
     requires { count ≤ most_segments }
     ensures { result ≡ head_length count }

@@ -47,7 +47,7 @@ fn put_table<S: Space, A: Allocator>(text: &mut Vec<u8, A>, space: &S) -> Result
     Ok(())
 }
 
-/// The padding behind the table of so many segments.
+/// The padding after the table of `segments` segments.
 fn put_padding<A: Allocator>(text: &mut Vec<u8, A>, segments: u32) -> Result<(), AllocError>
     ensures { OnOk result (text.new.items ≡ text.old.items ++ replicate (padding segments) 0) }
 {
@@ -57,7 +57,7 @@ fn put_padding<A: Allocator>(text: &mut Vec<u8, A>, segments: u32) -> Result<(),
     Ok(())
 }
 
-/// The bytes of a segment of so many words.
+/// The bytes of a segment of `words` words.
 pub(crate) fn bytes_of<S: Space>(space: &S, segment: u32, words: u32) -> &[u8]
     requires { words_of (S.message space.now) segment ≡ Some words }
     ensures { result.now ≡ bytes (segment_at (S.message space.now) segment) }

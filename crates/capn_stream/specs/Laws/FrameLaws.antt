@@ -78,7 +78,7 @@ FitsTable-message message h = record {
 
 -- ---- what a frame announces
 
--- the bytes announce a message's segments, their sizes and its words, and its contents stand behind the table
+-- the bytes announce a message's segments, their sizes and its words, and its contents stand after the table
 pub record Announces (bs : List ℕ) (message : List (List ℕ)) (taken : ℕ) : Type 0 where
   pub count : announced_segments bs ≡ length message
   pub sizes : entries (announced_segments bs) (drop 4 bs) ≡ map length message
@@ -176,7 +176,7 @@ whole_of bs most message taken h =
       omega (arith, a.length_is, h.inside),
     )
 
--- what is whole is refused for want of memory alone
+-- what is whole is refused only if memory runs out
 pub refused_whole : (bs : List ℕ) (most : ℕ) (e : FrameFault) → IsWhole bs most → IsRefused bs most e → e ≡ Memory
 refused_whole bs most Memory w r = refl
 refused_whole bs most Empty w r = absurd (omega arith)
@@ -187,7 +187,7 @@ refused_whole bs most Failed w r = absurd r
 
 -- ---- one refusal
 
--- bytes are refused for one reason, but for want of memory
+-- bytes are refused for one reason, unless memory runs out
 pub one_refusal : (bs : List ℕ) (most : ℕ) (e f : FrameFault) → IsRefused bs most e → IsRefused bs most f
     → (e ≡ Memory → ⊥) → (f ≡ Memory → ⊥) → e ≡ f
 one_refusal bs most Memory f r s other also = absurd (other refl)

@@ -27,17 +27,17 @@ entries-append (suc n) bs more h =
     let ih = entries-append n (drop 4 bs) more (omega (arith, length-drop 4 bs)) in
     rw (first, rest, ih) refl
 
--- so many segments
+-- more bytes change nothing of the number of segments
 pub segments-append : (bs more : List ℕ) → 4 ≤ length bs → announced_segments (bs ++ more) ≡ announced_segments bs
 segments-append bs more h = ap (λ (n : ℕ). n + 1) (entry_number-append bs more h)
 
--- so many of their sizes as the table has
+-- nor of the sizes in a table that is there
 pub sizes-append : (n : ℕ) (bs more : List ℕ) → 4 + 4 * n ≤ length bs
     → entries n (drop 4 (bs ++ more)) ≡ entries n (drop 4 bs)
 sizes-append n bs more h =
     rw (drop-append-le 4 bs more (omega arith)) (entries-append n (drop 4 bs) more (omega (arith, length-drop 4 bs)))
 
--- so does the number of words behind a whole table
+-- nor of the number of words after a whole table
 pub words-append : (bs more : List ℕ) → HasHead bs → announced_words (bs ++ more) ≡ announced_words bs
 words-append bs more h =
     ap (λ (n : ℕ). sum (entries n (drop 4 (bs ++ more)))) (segments-append bs more h.0.0)

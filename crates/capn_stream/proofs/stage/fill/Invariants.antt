@@ -3,7 +3,7 @@ use Rattle.capn_stream.specs.Stages.{IsStage, parts_left}
 use Rattle.capn_stream.proofs.Came.{Came}
 use Rattle.capn_stream.proofs.stage.fill.Given as goal
 
--- the bytes of the piece so far stand behind those that were there
+-- the bytes of the piece so far stand after those that were there
 abbrev pub invariant-parts : goal.invariant-parts
 invariant-parts g l = record {
   inside : l.at ≤ length l.piece;
@@ -12,6 +12,6 @@ invariant-parts g l = record {
   came : Came l.fn.stage l.stage l.fn.bytes.items l.bytes.items l.piece;
 }
 
--- the parts behind the one that is waited for
+-- the parts after the one that is waited for
 abbrev pub decreases-parts : goal.decreases-parts
 decreases-parts g l = parts_left l.stage
