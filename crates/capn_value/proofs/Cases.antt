@@ -1,4 +1,4 @@
--- What holds of a value of one kind, or of none of several kinds, as the arms of a match tell it.
+-- What holds of a value of one kind, or of none of several kinds, as the arms of a match show it.
 use Rattle.std.proofs.Common.{◌≡◌, ℕ, List, Bool, true, false, ◌||◌, None, ◌⊎◌, inl, inr, refl, length, ap, ap₂, sym}
 use Rattle.std.proofs.Common.{◌∙◌, nat_lt}
 use Rattle.capn_value.specs.Tree.{Tree, nil, node, voids, bits, bytes, pairs, quads, octs, links, rows, cap}

@@ -57,7 +57,7 @@ pub digits_of-append : (xs ys : List Bool) → digits_of (xs ++ ys) ≡ digits_o
 digits_of-append [] ys = refl
 digits_of-append (x ∷ xs) ys = ap (λ (l : List ℕ). digit x ∷ l) (digits_of-append xs ys)
 
--- a block of them behind what was written, where the digits of all bits were still to come
+-- a block of them after what was written, where the digits of all bits were still to come
 pub digits_of-block : (out more all : List ℕ) (bits block rest : List Bool) → more ≡ out ++ digits_of block
     → bits ≡ block ++ rest → out ++ digits_of bits ≡ all → more ++ digits_of rest ≡ all
 digits_of-block out more all bits block rest e is so_far =
@@ -73,7 +73,7 @@ digits_of-ascii (true ∷ xs) zero = omega arith
 digits_of-ascii (false ∷ xs) zero = omega arith
 digits_of-ascii (x ∷ xs) (suc i) = digits_of-ascii xs i
 
--- one more digit behind those that are written
+-- one more digit after those that are written
 pub digits_of-more : (ds : List ℕ) (bits : List Bool) (i d : ℕ) → i < length ds → i < length bits
     → d ≡ digit (get_or bits i false) → take i ds ≡ digits_of (take i bits)
     → take (i + 1) (set ds i d) ≡ digits_of (take (i + 1) bits)

@@ -1,4 +1,4 @@
--- The first so many trees.
+-- The first n trees of some.
 use Rattle.std.proofs.Common.{◌≡◌, ℕ, zero, suc, ◌+◌, ◌<◌, List, [], ◌∷◌, ◌++◌, length, min, take, drop, refl, sym, ap}
 use Rattle.std.proofs.Common.{ap₂, ◌∙◌, arith, get_or, add-one, Bool, true, false, Option, Some, None}
 use Rattle.std.proofs.lemmas.List.{take_all, take_min, length-take-le}
@@ -76,7 +76,7 @@ module _ {A : Type 0} where
     anew_front-min n = ap (λ k. front (min n k) (each_anew cut (trees_of vs))) (sym count-anew)
         ∙ front-min n (each_anew cut (trees_of vs))
 
--- the next one, made anew and put behind the others
+-- the next one, made in new memory and put after the others
 module _ {A B : Type 0} (cut : Bool) (out : List (Value A)) (items : List (Value B)) (i : ℕ) (v : Value B)
     (so_far : trees_of out ≡ front i (each_anew cut (trees_of items))) (within : i < length items)
     (here : v ≡ get_or items i v) where
@@ -116,7 +116,7 @@ rows_anew-body : (kept : Option (ℕ × ℕ)) (ws : List ℕ) (ss : Trees) (bs :
 rows_anew-body (Some k) ws ss bs = refl
 rows_anew-body None ws ss bs = refl
 
--- the next row, made anew and put behind the others, and all of them
+-- the next row, made in new memory and put after the others, and all of them
 module _ {A B : Type 0} (kept : Option (ℕ × ℕ)) (out : List (Body A)) (rows : List (Body B)) (i : ℕ) {all : Bodies}
     (so_far : joined_rows (rows_of out) (rows_anew kept (rows_of (drop i rows))) ≡ all) where
   row_pushed : (b : Body B) (r : Body A) {more : List (Body A)} → i < length rows → b ≡ get_or rows i b
@@ -144,7 +144,7 @@ module _ {A B : Type 0} (kept : Option (ℕ × ℕ)) (out : List (Body A)) (rows
       sym (joined_rows-none (rows_of out)) ∙ ap (joined_rows (rows_of out)) (sym (rows_anew-none kept))
       ∙ sym (ap (λ bs. joined_rows (rows_of out) (rows_anew kept (rows_of bs))) (drop-past rows i e)) ∙ so_far
 
--- the first so many numbers of a slice, if it has them
+-- the first k numbers of a slice, if it has them
 pub cut_length : (k : ℕ) (s : List ℕ) {m : ℕ} → m ≡ min k (length s) → m ≡ length (take m s)
 cut_length k s {m} e = sym (length-take-le m s (omega arith))
 

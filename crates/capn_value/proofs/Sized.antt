@@ -34,7 +34,7 @@ counted_more words w s n m part rest cap all e f g so_far = omega arith
 none_more : (words rest : ℕ) → rest ≡ 0 → words ≡ words + rest
 none_more words rest e = omega arith
 
--- a number above the cap is told by its capped one
+-- a number above the cap is known by its capped one
 pub above : (m n cap most : ℕ) → most < cap → min m cap ≡ min n cap → nat_lt most m ≡ nat_lt most n
 above m n cap most h e = grind (arith, nat_tests)
 

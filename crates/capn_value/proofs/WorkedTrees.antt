@@ -34,7 +34,7 @@ rows_left_empty = refl
 links_stay : trimmed (links (tree nil (tree nil no_trees))) ≡ links (tree nil (tree nil no_trees))
 links_stay = refl
 
--- a struct that is made anew and not cut is as it was
+-- a struct that is copied and not cut is as it was
 struct_anew : anew false (node (5 ∷ 0 ∷ []) (tree nil no_trees)) ≡ node (5 ∷ 0 ∷ []) (tree nil no_trees)
 struct_anew = refl
 

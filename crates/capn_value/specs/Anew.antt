@@ -1,4 +1,4 @@
--- A value made anew: with every body cut to what it keeps, or as it is. (Own.) No public clause cites this.
+-- A value made in new memory: with every body cut to what it keeps, or as it is. (Own.) No public clause cites this.
 use Rattle.std.specs.Prelude.{ℕ, List, take, Bool, true, false, Option, Some, None}
 use Rattle.capn_value.specs.Tree.{Tree, Trees, Bodies, front}
 use Rattle.capn_value.specs.Trim.{trimmed, trimmed_each, trimmed_rows, kept_words, kept_slots, kept_words_of_rows}
@@ -24,7 +24,7 @@ abbrev pub kept_of_rows : Bool → Bodies → Option (ℕ × ℕ)
 kept_of_rows true bs = Some (kept_words_of_rows bs, kept_slots_of_rows bs)
 kept_of_rows false bs = None
 
--- the words of a body that is cut to so many, or whole
+-- the words of a body that is cut to what is kept, or whole
 abbrev pub words_anew : Option (ℕ × ℕ) → List ℕ → List ℕ
 words_anew (Some kept) ws = take kept.0 ws
 words_anew None ws = ws
@@ -34,7 +34,7 @@ abbrev pub slots_anew : Option (ℕ × ℕ) → Trees → Trees
 slots_anew (Some kept) ss = front kept.1 (trimmed_each ss)
 slots_anew None ss = ss
 
--- rows that are each cut to so many words and slots, or whole
+-- rows that are each cut to the words and slots that are kept, or whole
 abbrev pub rows_anew : Option (ℕ × ℕ) → Bodies → Bodies
 rows_anew (Some kept) bs = trimmed_rows kept.0 kept.1 bs
 rows_anew None bs = bs

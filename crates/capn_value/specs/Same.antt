@@ -13,7 +13,7 @@ abbrev pub AllNull : Trees → Type 0
 AllNull no_trees = ⊤
 AllNull (tree t ts) = (t ≡ nil) × AllNull ts
 
--- of one kind, and equal but for zero words and null slots past a struct's end
+-- of one kind, and equal except for zero words and null slots past a struct's end
 abbrev mutual
   pub Same : Tree → Tree → Type 0
   Same nil nil = ⊤

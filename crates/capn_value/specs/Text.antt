@@ -47,7 +47,7 @@ number_lines level (n ∷ ns) = line level (decimal n) ++ number_lines level ns
 abbrev pub body_line : ℕ → ℕ → ℕ → List ℕ
 body_line level w s = line level (codes "struct " ++ (decimal w ++ 32 ∷ decimal s))
 
--- a first line that tells kind and size, then what it holds one level deeper
+-- a first line with kind and size, then what it holds one level deeper
 abbrev mutual
   pub shown : ℕ → Tree → List ℕ
   shown level nil = line level (codes "null")

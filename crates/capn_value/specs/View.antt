@@ -31,7 +31,7 @@ module _ {A : Type 0} where
   value_step (Value-F.Rows bs) = rows (rows_from bs)
   value_step (Value-F.Cap k) = cap k
 
-  -- the same of a body
+  -- what a body stands for: its words, and its slots as trees
   abbrev pub body_step : Body-F A Tree (List ℕ × Trees) → List ℕ × Trees
   body_step b = (b.words, trees b.slots)
 

@@ -22,7 +22,7 @@ fn copied<T: Copy, A: Allocator, B: Allocator>(
     Items::from_slice(alloc, items.as_slice())
 }
 
-/// Puts what was made behind the others, if it was made. After a refusal the list is as it was.
+/// Puts what was made after the others, if it was made. After a refusal the list is as it was.
 #[inline]
 pub fn push_made<T: Drop, A: Allocator>(
     out: &mut Items<T, A>,

@@ -38,8 +38,8 @@ impl<T, A: Allocator> Items<T, A> {
         }
     }
 
-    /// No elements. Room for so many is asked for at once, so that as many are put in without taking more; for none,
-    /// nothing is.
+    /// No elements. Room for `capacity` of them is asked for at once, so that they are put in without taking more; for
+    /// none, nothing is.
     pub fn with_capacity(alloc: A, capacity: usize) -> Result<Items<T, A>, AllocError>
         ensures ok { IfOk result (λ it. it ≡ []) }
         ensures wanted { OnErr result (0 < capacity) }
@@ -95,7 +95,7 @@ impl<T: Copy, A: Allocator> Items<T, A> {
 }
 
 impl<T: Drop, A: Allocator> Items<T, A> {
-    /// Puts the element behind the others. After a refusal the list is as it was.
+    /// Puts the element after the others. After a refusal the list is as it was.
     pub fn push(&mut self, item: T) -> Result<(), AllocError>
         ensures ok { OnOk result (self.new ≡ self.old ++ item ∷ []) }
         ensures err { OnErr result (self.new ≡ self.old) }

@@ -58,7 +58,7 @@ fn oct_words(xs: &[u64]) -> usize
     xs.len()
 }
 
-// What the rows of a list cost beside its pointer and tag, where they have so many words together.
+// What the rows of a list cost beside its pointer and tag, if they have `words` words together.
 #[tactic(auto, using(std::proofs::lemmas::Grind::common_steps, crate::specs::Laws::Prices::prices))]
 fn capped_rows_price<A: Allocator>(bodies: &[Body<A>], words: usize) -> usize
     requires { words ≡ min (row_words (rows_of bodies.now)) sizes.dear }

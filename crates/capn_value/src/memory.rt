@@ -1,4 +1,4 @@
-//! Want of memory.
+//! Out of memory.
 
 ghost use Rattle.std.specs.Prelude.{Some, codes};
 

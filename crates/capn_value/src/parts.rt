@@ -95,7 +95,7 @@ fn are_ragged<A: Allocator>(bodies: &[Body<A>]) -> bool
     }
 }
 
-// Whether each row has so many words and slots.
+// Whether each row has `words` words and `slots` slots.
 #[tactic(auto, using(std::proofs::lemmas::Grind::common_steps, crate::specs::Views::views))]
 fn are_even<A: Allocator>(bodies: &[Body<A>], words: usize, slots: usize) -> bool
     ensures { result ≡ fits.are_even words slots (rows_of bodies.now) }

@@ -1,4 +1,4 @@
-//! Cutting bodies to what they keep, and making values anew: so cut, or whole.
+//! Cutting bodies to what they keep, and making values in new memory: so cut, or whole.
 
 ghost use Rattle.std.specs.Prelude.{◌≡◌, ◌≢◌, IfOk, OnErr};
 ghost use Rattle.capn_value.specs.View.{tree_of, trees_of, rows_of};
@@ -12,7 +12,7 @@ use crate::items::Items;
 use crate::value::{Body, Value};
 use std::alloc::{AllocError, Allocator};
 
-/// How many words of a data section are kept: the least number behind which every word is 0.
+/// How many words of a data section are kept: the least number after which every word is 0.
 #[tactic(auto, using(std::proofs::lemmas::Grind::common_steps, crate::proofs::Kept::kept))]
 pub fn kept_words(words: &[u64]) -> usize
     ensures { result ≡ cut.kept_words words.now }
@@ -24,7 +24,7 @@ pub fn kept_words(words: &[u64]) -> usize
     n
 }
 
-/// How many slots of a pointer section are kept: the least number behind which every slot is null.
+/// How many slots of a pointer section are kept: the least number after which every slot is null.
 #[tactic(auto, using(std::proofs::lemmas::Grind::common_steps, crate::specs::Views::views, crate::proofs::Kept::kept))]
 pub fn kept_slots<A: Allocator>(slots: &[Value<A>]) -> usize
     ensures { result ≡ cut.kept_slots (trees_of slots.now) }
@@ -97,8 +97,8 @@ fn kept_of_rows<A: Allocator>(rows: &[Body<A>], cut: bool) -> Option<(usize, usi
     Some((kept_words_of_rows(rows), kept_slots_of_rows(rows)))
 }
 
-/// The value anew, over another allocator: with every body cut to what it keeps, or as it is. Null is a value as any
-/// other.
+/// The value in new memory, over another allocator: with every body cut to what it keeps, or as it is. Null is a value
+/// like any other.
 #[cycle(anew)]
 pub fn anew<A: Allocator + Copy, B: Allocator>(
     alloc: A,
@@ -120,7 +120,7 @@ pub fn anew<A: Allocator + Copy, B: Allocator>(
     }
 }
 
-// The body cut to so many words and slots, or whole.
+// The body cut to the words and slots that are kept, or whole.
 #[cycle(anew)]
 fn anew_body<A: Allocator + Copy, B: Allocator>(
     alloc: A,
@@ -137,7 +137,7 @@ fn anew_body<A: Allocator + Copy, B: Allocator>(
     Ok(Body { words, slots })
 }
 
-// The first so many, each anew.
+// The first `most` values, each in new memory.
 #[cycle(anew)]
 fn anew_front<A: Allocator + Copy, B: Allocator>(
     alloc: A,
@@ -155,7 +155,7 @@ fn anew_front<A: Allocator + Copy, B: Allocator>(
     Ok(out)
 }
 
-// The rows, each cut to so many words and slots, or whole.
+// The rows, each cut to the words and slots that are kept, or whole.
 #[cycle(anew)]
 fn anew_rows<A: Allocator + Copy, B: Allocator>(
     alloc: A,

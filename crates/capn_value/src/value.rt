@@ -17,7 +17,7 @@ pub enum Value<A: Allocator = Global> {
     Nil,
     /// A struct.
     Node(Body<A>),
-    /// A list of so many elements of no size.
+    /// A list of this many elements of no size.
     Voids(u32),
     /// A list of single bits.
     Bits(Items<bool, A>),

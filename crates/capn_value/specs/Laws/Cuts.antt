@@ -6,11 +6,11 @@ use Rattle.std.proofs.lemmas.Bool.Decides.{nat_tests}
 use Rattle.capn_value.specs.Tree.{Tree, nil, Trees, no_trees, tree, front, tree_at, is_null}
 use Rattle.capn_value.specs.Trim.{kept_behind, kept_words, kept_slots, trimmed, trimmed_each}
 
--- what is kept of all is at most one more than what is kept behind the first
+-- what is kept of all is at most one more than what is kept after the first
 pub behind_le : (b : Bool) (k n : ℕ) → kept_behind b k ≤ suc n → k ≤ n
 behind_le b k n h = grind (arith, nat_tests)
 
--- nothing is kept where the first goes and nothing is kept behind it
+-- nothing is kept where the first goes and nothing is kept after it
 pub behind_none : (b : Bool) (k : ℕ) → kept_behind b k ≤ 0 → (b ≡ true) × (k ≤ 0)
 behind_none true k h = (refl, grind (arith, nat_tests))
 behind_none false k h = absurd (omega arith)

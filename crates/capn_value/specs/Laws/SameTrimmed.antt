@@ -129,7 +129,7 @@ kept_slots_rows_same (body ws ss bs) (body vs ts cs) h =
     ap₂ max (kept_slots_same ss ts h.1) (kept_slots_rows_same bs cs h.2)
 kept_slots_rows_same _ _ h = absurd h
 
--- each row has at least so many words and slots
+-- each row has at least w words and s slots
 abbrev AtLeast : ℕ → ℕ → Bodies → Type 0
 AtLeast w s no_bodies = Unit {0}
 AtLeast w s (body ws ss bs) = (w ≤ length ws) × (s ≤ count ss) × AtLeast w s bs

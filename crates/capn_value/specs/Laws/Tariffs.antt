@@ -33,7 +33,7 @@ module _ (less more : ℕ) (le : less ≤ more) where
     costs_in_rows-raised no_bodies = omega arith
     costs_in_rows-raised (body ws ss bs) = omega (arith, costs-raised ss, costs_in_rows-raised bs)
 
--- each content but the root's stands behind a slot, which is a word of the content above it
+-- each content except the root's is named by a slot, which is a word of the content above it
 mutual
   pub cost-doubled : (t : Tree) → cost 1 t ≤ 2 * cost 0 t + 1
   cost-doubled nil = omega arith
