@@ -106,7 +106,7 @@ each_showable : (us : List Tree) → AllByRecursion IsShowable us → EachShowab
 each_showable [] all = tt
 each_showable (u ∷ us) all = (all.0, each_showable us all.1)
 
--- words and slots that a text tells
+-- words and slots that a text shows
 abbrev BodyShowable : List ℕ × Trees → Type 0
 BodyShowable b = (length b.0 < 2 ^ 64) × (count b.1 < 2 ^ 64) × AllBelow (2 ^ 64) b.0 × EachShowable b.1
 

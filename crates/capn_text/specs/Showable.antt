@@ -1,4 +1,4 @@
--- Values whose numbers a text tells: each is below what its type holds, and so is each count of what a value holds.
+-- Values whose numbers a text can show: each is below what its type holds, and so is each count of what a value holds.
 use Rattle.std.specs.Prelude.{◌<◌, ◌^◌, length, ⊤}
 use Rattle.capn_value.specs.InRange.{AllBelow}
 use Rattle.capn_value.specs.Tree.{Tree, nil, node, voids, bits, bytes, pairs, quads, octs, links, rows, cap, Trees}

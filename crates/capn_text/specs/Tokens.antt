@@ -22,7 +22,7 @@ abbrev pub Gives : {X Y : Type 0} → (X → Y) → Result X Stop → Option Y �
 Gives view (Ok x) read = read ≡ Some (view x)
 Gives view (Err e) read = Fails e read
 
--- the same of a function that takes no memory
+-- what a function that takes no memory returned is what reading gives
 abbrev pub FailsIdly : {Y : Type 0} → Stop → Option Y → Type 0
 FailsIdly stops.Memory read = ⊥
 FailsIdly (stops.Left n) read = read ≡ None
@@ -75,7 +75,7 @@ abbrev pub bit_at : List ℕ → Option (Bool × List ℕ)
 bit_at [] = None
 bit_at (c ∷ cs) = cond (c == 49) (Some (Bool.true, cs)) (cond (c == 48) (Some (Bool.false, cs)) None)
 
--- so many, one after the other
+-- n of them, one after the other
 module _ {X : Type 0} (one : List ℕ → Option (X × List ℕ)) where
   unfoldable pub many : ℕ → List ℕ → Option (List X × List ℕ)
   many zero text = Some ([], text)
@@ -97,7 +97,7 @@ number_line_at greatest level text =
     indent_at level text >>= λ line. decimal_at line >>= λ n. strip (10 ∷ []) n.1
     >>= λ rest. cond (nat_le n.0 greatest) (Some (n.0, rest)) None
 
--- one line of so many, and none for none
+-- one line of n items, and no line for none
 unfoldable pub row_line_at : {X : Type 0} → (List ℕ → Option (X × List ℕ)) → ℕ → ℕ → List ℕ → Option (List X × List ℕ)
 row_line_at one level n text = cond (n == 0) (Some ([], text))
     (indent_at level text >>= λ line. many one n line >>= λ xs. strip (10 ∷ []) xs.1 >>= λ rest. Some (xs.0, rest))

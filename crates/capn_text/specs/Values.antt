@@ -1,4 +1,4 @@
--- Reading a tree from its text: what the first line tells, then what it holds. (Own.)
+-- Reading a tree from its text: what the first line says, then what it holds. (Own.)
 use Rattle.std.specs.Prelude.{ℕ, zero, suc, ◌+◌, List, [], ◌∷◌, Option, Some, None, nat_le, cond, codes, length}
 use Rattle.std.specs.Prelude.{◌==◌, ◌≤◌, ◌<◌, ◌^◌, ⊤}
 use Rattle.capn_value.specs.Tree.{Tree, nil, node, voids, bits, bytes, pairs, quads, octs, links, rows, cap, Trees}
