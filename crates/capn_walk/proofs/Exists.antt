@@ -66,7 +66,7 @@ module _ (m : List (List ℕ)) where
       let at = ap (λ (xs : List ℕ). slice_index xs i) e in
       at ∙ listed-at (λ i. from_bool (f i)) n i (omega arith) ∙ bit-of (element 64 1 (words_from m s w) i) (omega arith)
 
-  -- so many words that lie inside the segment
+  -- n words that lie inside the segment
   length-words : (s w n : ℕ) → w + n ≤ length (segment_at m s) → length (take n (words_from m s w)) ≡ n
   length-words s w n h = let l = length-drop w (segment_at m s) in length-take-le n (words_from m s w) (omega arith)
 

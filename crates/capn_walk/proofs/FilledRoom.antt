@@ -20,14 +20,14 @@ use Rattle.capn_walk.specs.Laws.Judge.{judge-more, judge-stops, judge-pays, afte
 
 -- ---- a room
 
--- entries behind entries
+-- entries after entries
 pub laid-append : (i : ℕ) (xs ys room : List Entry) → laid i (xs ++ ys) room ≡ laid (i + length xs) ys (laid i xs room)
 laid-append i [] ys room = let z : i + 0 ≡ i = omega arith in rw z refl
 laid-append i (x ∷ xs) ys room =
     let e : i + suc (length xs) ≡ suc i + length xs = omega arith in
     rw e (laid-append (suc i) xs ys (set room i x))
 
--- a span may be set before those entries behind it are put, or after them
+-- a span may be set before those entries after it are put, or after them
 respan-swap : (room : List Entry) (i j n : ℕ) (a : Entry) → i ≢ j
     → respan (set room j a) i n ≡ set (respan room i n) j a
 respan-swap [] i j n a h = refl

@@ -46,11 +46,11 @@ nothing-left f h e =
 pub none-owed : (f : Frame) → f.left ≡ 0 → f.rows ≡ 0 → owed f ≡ 0
 none-owed f l r = rw (l, r) (omega arith)
 
--- a test that isn't met tells of some slot
+-- if the test for the end fails, some slot is left
 pub not-done : (b : Bool) (n : ℕ) → IsTrue b ↔ (n ≡ 0) → b ≡ false → 0 < n
 not-done b zero h e = let t = h.1 refl in absurd cc
 not-done b (suc n) h e = omega arith
 
--- a test that is met tells of none
+-- if it holds, none is left
 pub done : (b : Bool) (n : ℕ) → IsTrue b ↔ (n ≡ 0) → b ≡ true → n ≡ 0
 done b n h e = h.0 e

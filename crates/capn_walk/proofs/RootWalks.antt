@@ -126,7 +126,7 @@ module _ (m : List (List ℕ)) where
   not-refused limits f at p k a (inl r) = let some = a.some in let none = r.0 in omega arith
   not-refused limits f at p k a (inr r) = never-both limits.budget (visits_within m limits) f at p k a.within r.1
 
-  -- so the refusal of one is for want of memory
+  -- so if one is refused, memory ran out
   pub only-memory : (limits : Bounds) (t : Stopped) (v : Tree) → IsValueOf m limits v →
       (t.fault ≡ faults.Memory) ⊎ IsRefused m limits t.fault t.place t.paid t.visits → t.fault ≡ faults.Memory
   only-memory limits t v is (inl x) = x

@@ -60,7 +60,7 @@ module _ (m : List (List ℕ)) (base : ℕ) (at : Place) (depth budget : ℕ) wh
       → judge budget (visits m base depth at) ≡ refused e at 0 1
   step-stops e h = let k = rw h at (answered (target m at) refl) in k
 
--- a step is never refused for want of memory
+-- a step is never refused because memory runs out
 pub stepped-memory : (base depth budget : ℕ) (t : Target) → stepped base depth budget (Ok t) ≡ Err faults.Memory → ⊥
 stepped-memory base depth budget targets.Nil e = absurd cc
 stepped-memory base depth budget (targets.Cap k) e = absurd cc

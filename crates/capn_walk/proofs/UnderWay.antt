@@ -76,7 +76,7 @@ module _ (m : List (List ℕ)) (budget : ℕ) (vs : List Visit) (n : ℕ) where
     pub few : visits + owed ≤ paid + n
     pub first : first_cap_of m vs ≡ option_or cap (first_cap_of m coming)
 
-  -- a visit that pays, with so many slots below it
+  -- a visit that pays, with b slots below it
   pub goes-on : (at : Place) (p : ℕ) (below rest : List Visit) (o b paid visits : ℕ) (cap k : Option ℕ) →
       IsUnderWay (pays at p ∷ (below ++ rest)) (o + 1) paid visits cap → p ≤ budget - paid → b ≤ p
       → cap_of (target m at) ≡ k →

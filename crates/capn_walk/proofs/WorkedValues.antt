@@ -18,7 +18,7 @@ one_word : IsAt ((0x100000000 ∷ 5 ∷ []) ∷ []) (at 0 0) (node (5 ∷ []) no
 unfolding target pointer_of
 one_word = record { segment = 0; start = 1; pads = 0; is = refl; inside = (refl, tt) }
 
--- behind a double far pointer
+-- named through two landing pads
 far : IsAt ((0x100000006 ∷ []) ∷ (0x200000002 ∷ 0x100000000 ∷ []) ∷ (5 ∷ []) ∷ []) (at 0 0) (node (5 ∷ []) no_trees)
 unfolding target pointer_of
 far = record { segment = 2; start = 0; pads = 2; is = refl; inside = (refl, tt) }

@@ -14,7 +14,7 @@ places_of f = places f.segment f.next f.left ++ row_places f.segment (f.next + f
 abbrev pub owed : Frame → ℕ
 owed f = f.left + f.rows * f.slots
 
--- the word behind the last of them
+-- the word after the last of them
 abbrev pub end_of : Frame → ℕ
 end_of f = f.next + f.left + f.rows * (f.words + f.slots)
 
@@ -34,7 +34,7 @@ abbrev pub owed_by : List Waiting → ℕ
 owed_by [] = 0
 owed_by (w ∷ ws) = owed w.frame + owed_by ws
 
--- each may have so many objects below it as the limit has left there, if each stands below the one before it
+-- each may have as many objects below it as the limit leaves there, if each stands below the one before it
 abbrev pub AreShallow : ℕ → List Waiting → Type 0
 AreShallow limit [] = ⊤
 AreShallow limit (w ∷ ws) = (w.depth ≤ limit) × AreShallow (limit - 1) ws

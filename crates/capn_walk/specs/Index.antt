@@ -101,7 +101,7 @@ kept (targets.Content s start (shapes.Many Rows c) pads) = targets.Content s sta
 kept (targets.Content s start shape pads) = targets.Content s start shape 0
 kept found = found
 
--- the same of what a slot names, or its fault
+-- what an entry keeps of what a slot names, or its fault
 abbrev pub kept_of : Result Target Fault → Result Target Fault
 kept_of (Ok found) = Ok (kept found)
 kept_of (Err e) = Err e

@@ -46,12 +46,12 @@ AcceptedAreReadable = (message : List (List ℕ)) (limits : Bounds) → IsAccept
 abbrev pub PlacesHaveOneValue : Type 0
 PlacesHaveOneValue = (message : List (List ℕ)) (at : Place) (v w : Tree) → IsAt message at v → IsAt message at w → v ≡ w
 
--- and at so many slots, and in so many rows, of an object
+-- one row of values at most stands in the slots from a word on
 abbrev pub SlotsHaveOneValue : Type 0
 SlotsHaveOneValue = (message : List (List ℕ)) (vs ws : Trees) (segment word : ℕ) → count vs ≡ count ws
     → AreAt message segment word vs → AreAt message segment word ws → vs ≡ ws
 
--- and in so many rows
+-- one row of bodies at most stands in the rows from a word on
 abbrev pub RowsHaveOneValue : Type 0
 RowsHaveOneValue = (message : List (List ℕ)) (bs cs : Bodies) (words slots segment word : ℕ)
     → count_rows bs ≡ count_rows cs
@@ -101,7 +101,7 @@ abbrev pub StopsAreOne : Type 0
 StopsAreOne = (budget : ℕ) (vs : List Visit) (e f : Fault) (at to : Place) (p q k j : ℕ)
     → IsStop budget vs e at p k → IsStop budget vs f to q j → (e ≡ f) × (at ≡ to) × (p ≡ q) × (k ≡ j)
 
--- a message is refused for what it says, never for want of memory
+-- a message is refused for what its bytes are, never because memory runs out
 abbrev pub RefusedForTheirWords : Type 0
 RefusedForTheirWords = (message : List (List ℕ)) (limits : Bounds) (fault : Fault) (at : Place) (paid visits : ℕ)
     → IsRefused message limits fault at paid visits → fault ≢ faults.Memory

@@ -65,14 +65,14 @@ module _ {A : Type 0} (message : List (List ℕ)) (base depth left : ℕ) where
   WalksObject shape start (Err s) =
       Refuses left (visits_of message base depth (slots start.segment start.word shape)) (slot_count shape) s
 
-  -- so many slots, one behind the other: their values
+  -- n slots, one after the other: their values
   abbrev pub WalksSlots : ℕ → ℕ → ℕ → Result (FoundSlots A) Stopped → Type 0
   WalksSlots segment start n (Ok f) =
       Gives left (visits_of message base depth (places segment start n)) n f.paid f.visits
       × AreAt message segment start (trees_of f.items) × (count (trees_of f.items) ≡ n)
   WalksSlots segment start n (Err s) = Refuses left (visits_of message base depth (places segment start n)) n s
 
-  -- so many rows of a words and b slots, one behind the other: their bodies
+  -- n rows of a words and b slots, one after the other: their bodies
   abbrev pub WalksRows : Place → ℕ → ℕ → ℕ → Result (FoundRows A) Stopped → Type 0
   WalksRows start a b n (Ok f) =
       Gives left (visits_of message base depth (row_places start.segment start.word a b n)) (n * b) f.paid f.visits

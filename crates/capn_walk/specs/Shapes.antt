@@ -40,7 +40,7 @@ abbrev pub AreNumbers : Pointer → Type 0
 AreNumbers (Many o width n) = IsPlain width
 AreNumbers _ = ⊥
 
--- so many words from a place on are within its segment, which exists
+-- n words from a place on are within its segment, which exists
 pub record IsContent (message : List (List ℕ)) (at : Place) (n : ℕ) : Type 0 where
   pub exists : at.segment < length message
   pub within : at.word + n ≤ length (segment_at message at.segment)

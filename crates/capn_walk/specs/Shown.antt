@@ -1,4 +1,4 @@
--- What a view of a slot tells of the value that stands there.
+-- What a view of a slot says of the value that stands there.
 use Rattle.std.specs.Prelude.{◌≡◌, ℕ, zero, suc, ◌<◌, List, [], map, length, slice_index, Ok}
 use Rattle.std.specs.Int.{from_bool}
 use Rattle.capn_words.specs.declared.space.Place.{Place}
@@ -55,7 +55,7 @@ pub record ShowsRows (message : List (List ℕ)) (found : Target) (bs : Bodies) 
   pub rows : rows_in found ≡ count_rows bs
   pub row : (i : ℕ) → i < count_rows bs → ShowsStruct message (row_of found i) (words_of_row bs i) (slots_of_row bs i)
 
--- what a view tells of a target is what this value has
+-- what a view says of a target is what this value has
 abbrev pub Shows : List (List ℕ) → Target → Tree → Type 0
 Shows message found nil = found ≡ targets.Nil
 Shows message found (cap k) = found ≡ targets.Cap k

@@ -26,7 +26,7 @@ pub record IsWithin (budget : ℕ) (vs : List Visit) : Type 0 where
   pub all : AllPay vs
   pub paid : paid_of vs ≤ budget
 
--- a visit at a place that is a fault, or brings the sum, behind visits that paid so much, above the budget
+-- a visit at a place that is a fault, or that brings the sum above the budget, after visits that paid `before` words
 abbrev pub Ends : ℕ → ℕ → Visit → Place → Fault → Type 0
 Ends budget before (fails p e) at fault = (p ≡ at) × (e ≡ fault)
 Ends budget before (pays p n) at fault = (p ≡ at) × (faults.OverBudget ≡ fault) × (budget < before + n)
@@ -57,6 +57,6 @@ module _ (message : List (List ℕ)) (base : ℕ) where
   visits_at_root (Ok found) vs = if may_be_root found then vs else fails root faults.RootKind ∷ []
   visits_at_root (Err e) vs = vs
 
-  -- the visits of the root, at most so many objects deep
+  -- the visits of the root, at most `depth` objects deep
   unfoldable pub root_visits : ℕ → List Visit
   root_visits depth = visits_at_root (target message root) (visits message base depth root)

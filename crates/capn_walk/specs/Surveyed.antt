@@ -1,4 +1,4 @@
--- What a survey tells of a list of visits beside its verdict.
+-- What a survey reports of a list of visits beside its verdict.
 use Rattle.std.specs.Prelude.{◌≡◌, ℕ, List, [], ◌∷◌, Result, Ok, Option, Some, None}
 use Rattle.std.specs.Option.{option_or}
 use Rattle.capn_value.specs.Tree.{Tree}
@@ -23,7 +23,7 @@ first_cap_of message [] = None
 first_cap_of message (pays at n ∷ vs) = option_or (cap_of (target message at)) (first_cap_of message vs)
 first_cap_of message (fails at e ∷ vs) = first_cap_of message vs
 
--- the message is accepted, and a survey tells what its walk pays, how many visits it makes, and the first capability
+-- the message is accepted, and a survey reports what its walk pays, how many visits it makes, and the first capability
 -- of its value
 pub record IsSurvey (message : List (List ℕ)) (limits : Bounds) (s : Surveyed) : Type 0 where
   pub value : Tree

@@ -14,7 +14,7 @@ use Rattle.capn_walk.specs.declared.target.Fault.{Fault}
 use Rattle.capn_walk.specs.declared.target.Fault.TheVariants as faults
 use Rattle.capn_words.specs.Pointers.{field, pointer_of}
 
--- the words that so many bits take
+-- the words that n bits take
 abbrev pub words_for : ℕ → ℕ
 words_for n = (n + 63) / 64
 
@@ -38,7 +38,7 @@ bits_of W16 = 16
 bits_of W32 = 32
 bits_of _ = 64
 
--- where an offset leads from the word behind a pointer, if not before word 0
+-- where an offset leads from the word after a pointer, if not before word 0
 abbrev pub moved : ℕ → ℤ → Result ℕ Fault
 moved w (pos n) = Ok (w + 1 + n)
 moved w (negsuc n) = if nat_lt w n then Err faults.Range else Ok (w - n)
@@ -52,17 +52,17 @@ module _ (message : List (List ℕ)) where
       else Ok (targets.Content s start (shapes.Rows (field 2 30 t) (field 32 16 t) (field 48 16 t) span) pads)
       else Err faults.BadTag
 
-  -- content of so many words
+  -- content of n words
   abbrev pub within : ℕ → ℕ → ℕ → Result Target Fault → Result Target Fault
   within s start n found = if nat_lt (length (segment_at message s)) (start + n) then Err faults.Range else found
 
-  -- a list whose content starts here: rows behind their tag, or elements of one width
+  -- a list whose content starts here: rows after their tag, or elements of one width
   abbrev pub list : ℕ → ℕ → ℕ → Width → ℕ → Result Target Fault
   list s start pads Rows n = within s start (1 + n) (tagged s start pads n (slice_index (segment_at message s) start))
   list s start pads width n =
       within s start (content_words width n) (Ok (targets.Content s start (shapes.Many width n) pads))
 
-  -- a struct of so many words and slots whose content starts here
+  -- a struct of a words and b slots whose content starts here
   abbrev pub struct : ℕ → ℕ → ℕ → ℕ → ℕ → Result Target Fault
   struct s start pads a b = within s start (a + b) (Ok (targets.Content s start (shapes.Node a b) pads))
 
@@ -71,7 +71,7 @@ module _ (message : List (List ℕ)) where
   struct_from s (Ok start) pads a b = struct s start pads a b
   struct_from s (Err e) pads a b = Err e
 
-  -- the same of a list
+  -- a list's pointer to content from a start that is known, if it has one
   abbrev pub list_from : ℕ → Result ℕ Fault → ℕ → Width → ℕ → Result Target Fault
   list_from s (Ok start) pads width n = list s start pads width n
   list_from s (Err e) pads width n = Err e
@@ -108,7 +108,7 @@ module _ (message : List (List ℕ)) where
   abbrev pub pointer_in : ℕ → ℕ → Pointer
   pointer_in s w = pointer_of (slice_index (segment_at message s) w)
 
-  -- a far pointer to a pad of so many words
+  -- a far pointer to a pad of n words
   abbrev pub landing : {A : Type 0} → ℕ → ℕ → ℕ → Result A Fault → Result A Fault
   landing s w n found =
       if nat_lt s (length message)

@@ -14,7 +14,7 @@ pub data Verdict : Type 0 where
   accepted : ℕ → ℕ → Verdict
   refused : Fault → Place → ℕ → ℕ → Verdict
 
--- the same behind k visits that paid p
+-- the same verdict after k visits that paid p
 abbrev pub after : ℕ → ℕ → Verdict → Verdict
 after p k (accepted q j) = accepted (p + q) (k + j)
 after p k (refused e at q j) = refused e at (p + q) (k + j)

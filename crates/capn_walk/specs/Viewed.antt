@@ -31,7 +31,7 @@ abbrev pub toll : ℕ → Target → ℕ
 toll base (targets.Content s start shape pads) = price base shape + pads
 toll base _ = 0
 
--- a step to a slot with that target, at most so many objects deep, and with so much left to pay
+-- a step to a slot with that target, at most `depth` objects deep, with `budget` words left to pay
 abbrev pub stepped : ℕ → ℕ → ℕ → Result Target Fault → Result Target Fault
 stepped base depth budget (Ok (targets.Content s start shape pads)) =
     if depth == 0 then Err faults.TooDeep
@@ -61,7 +61,7 @@ IsInMessage message (targets.Content s start shape pads) =
     IsContent message (record { segment = s; word = start }) (extent shape) × RowsFit shape
 IsInMessage message _ = ⊤
 
--- ---- what a view tells
+-- ---- what a view says
 
 -- the kind of a list, by the width of its elements
 abbrev pub kind_of_list : Width → Kind

@@ -23,7 +23,7 @@ price base (shapes.Many W0 n) = base + n
 price base (shapes.Many width n) = base + content_words width n
 price base (shapes.Rows n a b span) = base + 1 + span + (if a + b == 0 then n else 0)
 
--- n places, one word behind the other
+-- n places, one word after the other
 abbrev pub places : ℕ → ℕ → ℕ → List Place
 places s w zero = []
 places s w (suc n) = (record { segment = s; word = w }) ∷ places s (w + 1) n

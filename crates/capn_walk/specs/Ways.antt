@@ -11,7 +11,7 @@ use Rattle.capn_walk.specs.declared.target.Shape.{Shape}
 use Rattle.capn_walk.specs.declared.target.Shape.TheVariants as shapes
 use Rattle.capn_walk.specs.Target.{content_words, moved, pointer_in}
 
--- the offset of a pointer at word w, counted from behind it, leads to the start
+-- the offset of a pointer at word w, counted from the word after it, leads to the start
 abbrev pub LeadsTo : ℕ → Pointer → ℕ → Type 0
 LeadsTo w (Node offset words slots) start = moved w offset ≡ Ok start
 LeadsTo w (Many offset width n) start = moved w offset ≡ Ok start
@@ -28,7 +28,7 @@ module _ (message : List (List ℕ)) where
   abbrev pub Lies : ℕ → ℕ → ℕ → Type 0
   Lies s start n = start + n ≤ length (segment_at message s)
 
-  -- what the pointer describes, but for its offset, starts there: content of this shape, inside the segment
+  -- what the pointer describes, except its offset, starts there: content of this shape, inside the segment
   abbrev pub Describes : Pointer → ℕ → ℕ → Shape → Type 0
   Describes Nil s start shape = (shape ≡ shapes.Node 0 0) × Lies s start 0
   Describes (Node offset words slots) s start shape = (shape ≡ shapes.Node words slots) × Lies s start (words + slots)

@@ -43,7 +43,7 @@ pub fn list_at<S: Space, A: Allocator + Copy>(
     }
 }
 
-/// So many words.
+/// `count` words.
 #[inline(always)]
 pub fn words_at<S: Space, A: Allocator>(
     alloc: A,
@@ -65,7 +65,7 @@ pub fn words_at<S: Space, A: Allocator>(
     Ok(Items::from_vec(words))
 }
 
-/// So many elements of four bytes.
+/// `count` elements of four bytes.
 fn quads_at<S: Space, A: Allocator>(
     alloc: A,
     space: &S,
@@ -86,7 +86,7 @@ fn quads_at<S: Space, A: Allocator>(
     Ok(Items::from_vec(quads))
 }
 
-/// So many elements of two bytes.
+/// `count` elements of two bytes.
 fn pairs_at<S: Space, A: Allocator>(
     alloc: A,
     space: &S,
@@ -107,7 +107,7 @@ fn pairs_at<S: Space, A: Allocator>(
     Ok(Items::from_vec(pairs))
 }
 
-/// So many bytes, by one copy.
+/// `count` bytes, by one copy.
 fn bytes_at<S: Space, A: Allocator>(
     alloc: A,
     space: &S,
@@ -122,7 +122,7 @@ fn bytes_at<S: Space, A: Allocator>(
     Items::from_slice(alloc, space.bytes(at, count as usize))
 }
 
-/// So many bits, the least significant of each byte first.
+/// `count` bits, the least significant of each byte first.
 fn bits_at<S: Space, A: Allocator>(
     alloc: A,
     space: &S,
@@ -147,7 +147,8 @@ fn bits_at<S: Space, A: Allocator>(
     Ok(Items::from_vec(bits))
 }
 
-/// So many bits of a byte, the least significant first. Inlined, so that the loop over a whole byte is unrolled.
+/// The first `count` bits of a byte, the least significant first. Inlined, so that the loop over a whole byte is
+/// unrolled.
 #[inline(always)]
 fn push_bits<A: Allocator>(bits: &mut Vec<bool, A>, byte: u8, count: usize)
     requires within { count ≤ 8 }

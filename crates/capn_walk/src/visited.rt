@@ -94,7 +94,7 @@ pub fn visit_elsewhere<S: Space>(
     visit_found(space, at, resolve(space, at), depth, left, base)
 }
 
-/// The same of a slot whose target is known.
+/// What a visit of a slot answers whose target is known.
 #[inline(always)]
 pub fn visit_found<S: Space>(
     space: &S,

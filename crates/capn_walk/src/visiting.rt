@@ -50,7 +50,7 @@ fn walk_slot<S: Space, A: Allocator + Copy>(
     }
 }
 
-/// The same of a slot whose pointer names near content.
+/// What a slot denotes whose pointer names near content.
 #[cycle(walk)]
 #[inline(always)]
 fn walk_near<S: Space, A: Allocator + Copy>(
@@ -76,7 +76,7 @@ fn walk_near<S: Space, A: Allocator + Copy>(
     }
 }
 
-/// The same of a slot, whatever it names.
+/// What a slot denotes, whatever it names.
 #[cycle(walk)]
 #[inline(never)]
 fn walk_elsewhere<S: Space, A: Allocator + Copy>(

@@ -17,13 +17,13 @@ use Rattle.capn_words.specs.Laws.Choices.{pick}
 use Rattle.capn_walk.specs.Laws.Inside.{inside}
 use Rattle.capn_walk.specs.Laws.Walks.{slot, visits-deep, visits-object}
 
--- of visits, one behind the other
+-- of visits, one after the other
 pub all-front : (xs ys : List Visit) → AllPay (xs ++ ys) → AllPay xs
 all-front [] ys h = tt
 all-front (pays at n ∷ xs) ys h = all-front xs ys h
 all-front (fails at e ∷ xs) ys h = absurd h
 
--- visits behind others pay where all do
+-- visits after others pay where all do
 pub all-back : (xs ys : List Visit) → AllPay (xs ++ ys) → AllPay ys
 all-back [] ys h = h
 all-back (pays at n ∷ xs) ys h = all-back xs ys h

@@ -87,7 +87,7 @@ bit-in_word w p d i hp hd e =
     ∙ ap (λ (x : ℕ). x % 2) (div-div-eq-div-mul w (256 ^ p) (2 ^ d)
     ∙ ap (λ (x : ℕ). w / x) (bytes-and-bits p d hp ∙ ap (λ (x : ℕ). 2 ^ x) (sym e)))
 
--- ---- the words that so many bytes are read as
+-- ---- the words that bytes are read as
 
 eight-bytes : (w : ℕ) → w < 2 ^ 64 →
     w / 256 ^ 0 % 256 + 256 * (w / 256 ^ 1 % 256 + 256 * (w / 256 ^ 2 % 256 + 256 * (w / 256 ^ 3 % 256
@@ -112,7 +112,7 @@ first_bits-more i x zs xs ys b e before is =
     ∙ ap (λ (l : List ℕ). map from_bool zs ++ l) (ap (λ (y : ℕ). first_bits i x ++ y ∷ []) is
     ∙ sym (map-range_with_len_more bit 0 i i (omega arith)))
 
--- elements, and the next ones behind them
+-- elements, and the next ones after them
 elements-joined : (ws xs ys : List ℕ) → AreElements 64 1 ws xs
     → ((k : ℕ) → k < length ys → slice_index ys k ≡ element 64 1 ws (length xs + k)) → AreElements 64 1 ws (xs ++ ys)
 elements-joined ws xs ys before next i below = grind (arith, common_steps)

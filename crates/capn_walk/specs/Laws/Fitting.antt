@@ -32,7 +32,7 @@ not-long : (t : Tree) → elements t < 2 ^ 29 → words_in_rows t < 2 ^ 29 → i
 not-long t a b =
     or_from _ _ (le-ltb 536870911 (elements t) (omega arith)) (le-ltb 536870911 (words_in_rows t) (omega arith))
 
--- what rows at a place are: narrow where their sizes are, even, and so many words
+-- what rows at a place are: narrow if their sizes are, even, and of a + b words each
 record Rows (a b : ℕ) (bs : Bodies) : Type 0 where
   narrow : has_wide_row bs ≡ false
   even : are_even a b bs ≡ true

@@ -20,13 +20,13 @@ pub after-none : (r : Verdict) → after 0 0 r ≡ r
 after-none (accepted x y) = let a : 0 + x ≡ x = omega arith in let b : 0 + y ≡ y = omega arith in cc
 after-none (refused e at x y) = let a : 0 + x ≡ x = omega arith in let b : 0 + y ≡ y = omega arith in cc
 
--- what a verdict behind other visits came from
+-- what a verdict after other visits came from
 pub after-accepted : (n m p k : ℕ) (r : Verdict) → after n m r ≡ accepted p k → (q j : ℕ) × (r ≡ accepted q j)
     × (p ≡ n + q) × (k ≡ m + j)
 after-accepted n m p k (accepted q j) h = (q, j, refl, cc, cc)
 after-accepted n m p k (refused e at q j) h = absurd cc
 
--- a verdict behind a part is a refusal where the verdict itself is one
+-- a verdict after a part is a refusal where the verdict itself is one
 pub after-refused : (n m : ℕ) (e : Fault) (at : Place) (p k : ℕ) (r : Verdict) → after n m r ≡ refused e at p k
     → (q j : ℕ) × (r ≡ refused e at q j) × (p ≡ n + q) × (k ≡ m + j)
 after-refused n m e at p k (accepted q j) h = absurd cc
@@ -52,7 +52,7 @@ judge-fits b n at vs p k =
     pick (λ (r : Verdict). r ≡ accepted p k
     → n ≤ b) (nat_lt b n) _ _ (λ e. λ h. absurd cc) (λ e. λ h. grind (arith, nat_tests))
 
--- what is judged behind visits that are within the budget
+-- what is judged after visits that are within the budget
 pub judge-more : (b : ℕ) (xs ys : List Visit) (p k : ℕ) → judge b xs ≡ accepted p k
     → judge b (xs ++ ys) ≡ after p k (judge (b - p) ys)
 judge-more b [] ys p k h =
@@ -83,7 +83,7 @@ stops-paid b n x xs ys e at p k ih =
     let two = ap (after n 1) (ih q j is) in
     cc)
 
--- a refusal stays one whatever comes behind it
+-- a refusal stays one whatever comes after it
 pub judge-stops : (b : ℕ) (xs ys : List Visit) (e : Fault) (at : Place) (p k : ℕ) → judge b xs ≡ refused e at p k
     → judge b (xs ++ ys) ≡ refused e at p k
 judge-stops b [] ys e at p k h = absurd cc

@@ -1,4 +1,4 @@
--- No walk stops for want of memory.
+-- No walk stops because memory runs out.
 use Rattle.std.proofs.Common.{◌≡◌, ◌≢◌, inl, inr, refl, ℕ, zero, suc, List, [], ◌∷◌, ◌++◌, Result, Ok, Err, sym, subst}
 use Rattle.std.proofs.Common.{◌∙◌}
 use Rattle.std.specs.Bool.{⊤}
@@ -17,7 +17,7 @@ use Rattle.capn_walk.specs.Limits.{Bounds}
 use Rattle.capn_walk.specs.Accepted.{IsRefused}
 use Rattle.capn_walk.specs.Laws.Ways.{never-memory}
 
--- a visit that isn't refused for want of memory
+-- a visit that isn't refused because memory runs out
 abbrev pub IsPlainVisit : Visit → Type 0
 IsPlainVisit (pays at n) = ⊤
 IsPlainVisit (fails at e) = e ≢ faults.Memory
@@ -71,7 +71,7 @@ plain-end : (budget before : ℕ) (v : Visit) (at : Place) (e : Fault) → IsPla
 plain-end budget before (fails p f) at e h k = λ x. h (k.1 ∙ x)
 plain-end budget before (pays p n) at e h k = λ x. let y = k.1 ∙ x in absurd cc
 
--- a message is refused for what it says, never for want of memory
+-- a message is refused for what its bytes are, never because memory runs out
 pub plain-refusal : (m : List (List ℕ)) (limits : Bounds) (e : Fault) (at : Place) (paid visits : ℕ)
     → IsRefused m limits e at paid visits → e ≢ faults.Memory
 plain-refusal m limits e at paid visits (inl h) = λ x. let y = sym h.1 ∙ x in absurd cc

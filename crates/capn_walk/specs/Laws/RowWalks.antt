@@ -26,7 +26,7 @@ one-more i n k h = let e : n ≡ suc i + (n - suc i) = omega arith in
 pub row-inside : (w n i k next len : ℕ) → i < n → next ≡ w + i * k → w + n * k ≤ len → next + k ≤ len
 row-inside w n i k next len h e l = let m = one-more i n k h in omega arith
 
--- rows behind rows
+-- rows after rows
 pub row_places-add : (s w a b i n : ℕ)
     → row_places s w a b (i + n) ≡ row_places s w a b i ++ row_places s (w + i * (a + b)) a b n
 row_places-add s w a b zero n = let x : 0 + n ≡ n = omega arith in let y : w + 0 * (a + b) ≡ w = omega arith in
@@ -46,7 +46,7 @@ module _ (f : Place → List Visit) (s w a b : ℕ) where
   abbrev pub all_rows : ℕ → List Visit
   all_rows n = flat_map f (row_places s w a b n)
 
-  -- row i, and the rows behind it
+  -- row i, and the rows after it
   rows-split : (i n : ℕ) → i < n
       → all_rows n ≡ all_rows i
       ++ (flat_map f (places s (w + i * (a + b) + a) b)
@@ -90,7 +90,7 @@ module _ (f : Place → List Visit) (s w a b : ℕ) where
       ∙ judge-more left (all_rows i) (here ++ rest) p k g
       ∙ ap (after p k) (judge-stops (left - p) here rest e at q j r)
 
-  -- a row that is refused, behind rows that are accepted
+  -- a row that is refused, after rows that are accepted
   pub rows-refuse : (left i n p k : ℕ) (t : Stopped) → i < n → Gives left (all_rows i) (i * b) p k
       → Refuses (left - p) (flat_map f (places s (w + i * (a + b) + a) b)) b t →
       Refuses left (all_rows n) (n * b)
@@ -106,7 +106,7 @@ module _ (f : Place → List Visit) (s w a b : ℕ) where
   }
 
 module _ (m : List (List ℕ)) where
-  -- one more row that stands behind the others
+  -- one more row that stands after the others
   pub rows_at-next : {A : Type 0} (a b s w : ℕ) (bs : List (Body A)) (c : Body A) → RowsAt m a b s w (rows_of bs)
       → length c.words ≡ a → count (trees_of c.slots) ≡ b →
       AreWords m s (w + count_rows (rows_of bs) * (a + b)) c.words

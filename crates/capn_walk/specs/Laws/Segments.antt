@@ -16,7 +16,7 @@ length_of_none m s h =
     (λ e. λ n. let past : length m ≤ s = grind (arith, nat_tests) in ap length (get_or-eq_default m [] past))
     h
 
--- one that is has as many as it tells
+-- one that is there has the length that is answered
 pub length_of_some : (m : List (List ℕ)) (s n : ℕ) → words_of m s ≡ Some n → length (segment_at m s) ≡ n
 length_of_some m s n h =
     pick (λ (o : Option ℕ). o ≡ Some n

@@ -36,7 +36,7 @@ module _ (m : List (List ℕ)) where
   Says (targets.Cap k) v = v ≡ cap k
   Says (targets.Content s start shape pads) v = IsInside m shape s start v
 
-  -- the target at a value's place says so
+  -- the target at a value's place is that of the value
   said : (v : Tree) (at : Place) → IsAt m at v → (t : Target) × (target m at ≡ Ok t) × Says t v
   said nil at i = (_, i, refl)
   said (cap k) at i = (_, i, refl)

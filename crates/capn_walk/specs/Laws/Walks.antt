@@ -29,7 +29,7 @@ use Rattle.capn_walk.specs.Laws.Judge.{judge-more, judge-stops, judge-pays}
 abbrev pub slot : ℕ → ℕ → Place
 slot s w = record { segment = s; word = w }
 
--- the places of slots, and of more behind them
+-- the places of slots, and of more after them
 pub places-add : (s w i n : ℕ) → places s w (i + n) ≡ places s w i ++ places s (w + i) n
 places-add s w zero n = let a : 0 + n ≡ n = omega arith in let b : w + 0 ≡ w = omega arith in rw (a, b) refl
 places-add s w (suc i) n =
@@ -37,7 +37,7 @@ places-add s w (suc i) n =
     let b : w + 1 + i ≡ w + suc i = omega arith in
     rw a (ap (λ (ps : List Place). slot s w ∷ ps) (rw (← b) (places-add s (w + 1) i n)))
 
--- the places before slot i, its own, and those behind it
+-- the places before slot i, its own, and those after it
 pub places-split : (s w i n : ℕ) → i < n
     → places s w n ≡ places s w i ++ slot s (w + i) ∷ places s (w + i + 1) (n - suc i)
 places-split s w i n h =
@@ -49,7 +49,7 @@ module _ (f : Place → List Visit) (s w : ℕ) where
   abbrev pub all : ℕ → List Visit
   all n = flat_map f (places s w n)
 
-  -- the visits before slot i, those of it, and those behind it
+  -- the visits before slot i, those of it, and those after it
   pub all-split : (i n : ℕ) → i < n
       → all n ≡ all i ++ (f (slot s (w + i)) ++ flat_map f (places s (w + i + 1) (n - suc i)))
   all-split i n h = ap (flat_map f) (places-split s w i n h)
@@ -69,7 +69,7 @@ module _ (f : Place → List Visit) (s w : ℕ) where
     few = let a = g.few in let b = h.few in omega arith;
   }
 
-  -- a refusal behind the first i slots
+  -- a refusal after the first i slots
   refuses-is : (left i n p k : ℕ) (e : Fault) (at : Place) (q j : ℕ) → i < n → judge left (all i) ≡ accepted p k →
       judge (left - p) (f (slot s (w + i))) ≡ refused e at q j → judge left (all n) ≡ refused e at (p + q) (k + j)
   refuses-is left i n p k e at q j h g r =
@@ -78,7 +78,7 @@ module _ (f : Place → List Visit) (s w : ℕ) where
       ∙ judge-more left (all i) (f (slot s (w + i)) ++ rest) p k g
       ∙ ap (after p k) (judge-stops (left - p) (f (slot s (w + i))) rest e at q j r)
 
-  -- a slot that is refused, behind slots that are accepted
+  -- a slot that is refused, after slots that are accepted
   pub refuses-next : (left i n p k : ℕ) (t : Stopped) → i < n → Gives left (all i) i p k
       → Refuses (left - p) (f (slot s (w + i))) 1 t →
       Refuses left (all n) n (record { fault = t.fault; place = t.place; paid = p + t.paid; visits = k + t.visits })
@@ -241,7 +241,7 @@ module _ (m : List (List ℕ)) (s start : ℕ) (shape : Shape) where
       → IsInside m shape s start (links ts)
   inside-links n ts e l h = (e ∙ ap (shapes.Many Link) (sym l), h)
 
-  -- rows that stand behind a tag are the list's
+  -- rows that stand after a tag are the list's
   pub inside-rows : (n a b span : ℕ) (bs : Bodies) → shape ≡ shapes.Rows n a b span → count_rows bs ≡ n
       → RowsAt m a b s (suc start) bs →
       IsInside m shape s start (rows bs)

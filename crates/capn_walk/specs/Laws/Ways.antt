@@ -1,5 +1,5 @@
 -- Content that a pointer names is named by one of three ways, and a capability by the pointer itself. No pointer is
--- refused for want of memory.
+-- refused because memory runs out.
 use Rattle.std.proofs.Common.{◌≡◌, ◌≢◌, inl, inr, ℕ, ◌+◌, ◌*◌, ◌<◌, ◌==◌, nat_lt, ℤ, pos, negsuc, true, false, List}
 use Rattle.std.proofs.Common.{length, slice_index, Result, Ok, Err, refl, arith}
 use Rattle.std.specs.Bool.{⊤}
@@ -22,7 +22,7 @@ use Rattle.capn_walk.specs.Target.{moved, within, list, struct, struct_from, lis
 use Rattle.capn_walk.specs.Target.{two_pads, pointer_in, landing, named, target}
 use Rattle.capn_walk.specs.Ways.{LeadsTo, Describes, Lies, IsPad, OneOfThree}
 
--- a refusal that isn't for want of memory
+-- a refusal that isn't because memory runs out
 abbrev IsPlain : Result ℕ Fault → Type 0
 IsPlain (Ok n) = ⊤
 IsPlain (Err e) = e ≢ faults.Memory
@@ -32,7 +32,7 @@ plain-moved w (pos n) = tt
 plain-moved w (negsuc n) = pick IsPlain (nat_lt w n) _ _ (λ e f. absurd cc) (λ e. tt)
 
 module _ (m : List (List ℕ)) where
-  -- what holds of the content, or of the index of a capability, that is answered; no refusal is for want of memory
+  -- what holds of the content, or of the index of a capability, that is answered; no refusal says that memory ran out
   module _ (P : ℕ → ℕ → Shape → ℕ → Type 0) (Q : ℕ → Type 0) where
     abbrev pub Told : Result Target Fault → Type 0
     Told (Ok (targets.Content s start shape pads)) = P s start shape pads
@@ -77,7 +77,7 @@ module _ (m : List (List ℕ)) where
     told-list_from s (Ok start) pads width n k h = h start refl
     told-list_from s (Err e) pads width n k h = k
 
-    -- of a struct or a list that stands near, or behind a pad of one word
+    -- of a struct or a list that is near, or that a pad of one word names
     pub told-near : (s w pads : ℕ) (p : Pointer)
         → ((start : ℕ) (shape : Shape) → LeadsTo w p start → Describes m p s start shape → P s start shape pads)
         → Told (near m s w pads p)
@@ -150,7 +150,7 @@ module _ (m : List (List ℕ)) where
   unfolding target
   told at = told-named at (pointer_in m at.segment at.word) refl
 
-  -- content is named by one of three ways
+  -- content is named in one of three ways
   pub one-of-three : (at : Place) (s start pads : ℕ) (shape : Shape)
       → target m at ≡ Ok (targets.Content s start shape pads) → OneOfThree m at s start shape pads
   one-of-three at s start pads shape e = let h = rw e at (told at) in h
@@ -159,7 +159,7 @@ module _ (m : List (List ℕ)) where
   pub cap-pointer : (at : Place) (k : ℕ) → target m at ≡ Ok (targets.Cap k) → pointer_in m at.segment at.word ≡ Cap k
   cap-pointer at k e = let h = rw e at (told at) in h
 
-  -- no slot is refused for want of memory
+  -- no slot is refused because memory runs out
   pub never-memory : (at : Place) (e : Fault) → target m at ≡ Err e → e ≢ faults.Memory
   never-memory at e h = let k = rw h at (told at) in k
 
