@@ -1,4 +1,4 @@
--- What a survey of bytes tells is so of their packed text, and of any value that the bytes denote.
+-- What a survey of bytes reports holds of their packed text, and of any value that the bytes denote.
 use Rattle.std.proofs.Common.{◌≡◌, ℕ, ◌+◌, ◌*◌, ◌^◌, ◌≤◌, List, length, ap, arith, ◌∙◌, Result, Ok, Err, MatchResult}
 use Rattle.std.proofs.Common.{IfOk, IfErr}
 use Rattle.std.proofs.lemmas.Result.{IfOk-weaker, IfErr-weaker}
@@ -33,7 +33,7 @@ packed_unaccepted bs text limits (refusals.Trailing at) u h = packed_refused bs 
 packed_unaccepted bs text limits (refusals.Bare e) u h = packed_refused bs text limits (refusals.Bare e) u h
 packed_unaccepted bs text limits (refusals.Packed e) u h = packed_refused bs text limits (refusals.Packed e) u h
 
--- what a call tells or refuses of an unpacked frame is so of its packed text
+-- what a call answers or refuses of an unpacked frame holds of its packed text
 pub packed_surveyed : (r : Result Surveyed Refusal) (bs text : List ℕ) (limits : Bounds)
     → Unpacks bs limits.message_words text →
     AreSurveyed forms.Stream text limits r → AreSurveyed forms.Packed bs limits r
@@ -45,7 +45,7 @@ packed_surveyed r bs text limits u h = record {
   bounded = h.bounded;
 }
 
--- a call that tells and refuses so tells of any value that the bytes denote
+-- a call that answers and refuses like this speaks of any value that the bytes denote
 pub surveyed_only : (r : Result Surveyed Refusal) (form : Form) (bs : List ℕ) (limits : Bounds) →
     IfOk r (λ s. Surveys form bs limits s) → IfErr r (λ e. IsUnacceptedIn form bs limits e) →
     (v : Tree) → Denotes form bs limits v → MatchResult r (λ s. s.capability ≡ first_cap v) (λ e. e ≡ refusals.Memory)

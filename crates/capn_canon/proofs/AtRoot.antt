@@ -1,4 +1,4 @@
--- The value at the root is ready to be laid, and what is laid are its canonical words.
+-- The value at the root is ready to be laid out, and the result is its canonical words.
 use Rattle.std.proofs.Common.{◌≡◌, ℕ, ◌^◌, ◌≤◌, List, [], ◌∷◌, ◌++◌, length, set, ap, ◌∙◌, arith, refl}
 use Rattle.std.proofs.Common.{Option, Some}
 use Rattle.capn_words.specs.Message.{IsMessage}

@@ -79,7 +79,7 @@ module _ (m : List (List ℕ)) where
       let z : n - i ≡ 0 = omega arith in
       sym (append-nil p) ∙ ap (λ (x : ℕ). p ++ row_cells m s w step inset a b x) (sym z) ∙ h
 
-  -- the same of the rows that stand there
+  -- this is what rows that stand there keep of their words
   pub kept-rows-words : (bs : Bodies) (a b s w n : ℕ) → RowsAt m a b s w bs → count_rows bs ≡ n
       → kept_words_of_rows bs ≡ kept_each m s w a (a + b) n
   kept-rows-words no_bodies a b s w zero h e = refl
@@ -105,7 +105,7 @@ module _ (m : List (List ℕ)) where
       (kept-rows-slots bs a b s (w + a + b) n h.4 (omega arith) (omega arith)
       ∙ ap (λ (x : ℕ). kept_each m s x b (a + b) n) z)
 
-  -- behind the kept words of each row stand as many words as it keeps slots
+  -- after the kept words of each row stand as many words as it keeps slots
   pub cells-over : (bs : Bodies) (a b s w n x y : ℕ) → RowsAt m a b s w bs → count_rows bs ≡ n → x ≤ a → y ≤ b
       → w + n * (a + b) ≤ length (segment_at m s) → AreRowsOver x y bs (row_cells m s w (a + b) a x y n)
   cells-over no_bodies a b s w zero x y h e le ly i = refl

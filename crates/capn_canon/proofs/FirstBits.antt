@@ -286,7 +286,7 @@ words-appended ws n p q e eq =
     eq ∙ ap (λ (x : List ℕ). p ++ whole x) (sym (append-nil (take (n / 64) ws))
     ∙ ap (λ (r : ℕ). take (n / 64) ws ++ last_bits r (drop (n / 64) ws)) (sym e))
 
--- a list is laid: its pointer, then its content
+-- a list is laid out: its pointer, then its content
 pub list-laid : (m : List (List ℕ)) (width : Width) (n s w from : ℕ) (p r : List (Option ℕ)) (v : Tree) → IsPlain width
     → ((i : ℕ) → slice_index (words_from m s w) i < 2 ^ 64) →
     words_for (element_bits width * n) ≤ length (words_from m s w)

@@ -1,4 +1,4 @@
--- The first slots, behind which all are null.
+-- The first slots, after which all are null.
 use Rattle.std.proofs.Common.{◌≡◌, ℕ, zero, suc, ◌≤◌, Bool, true, false, List, length, set, Option}
 use Rattle.std.proofs.Common.{Some, refl, ap, sym, ◌∙◌, arith, append-nil}
 use Rattle.std.proofs.lemmas.Bool.Decides.{nat_tests}

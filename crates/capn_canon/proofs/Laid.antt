@@ -73,7 +73,7 @@ laid-past (tree t ts) first p h =
     ∙ append_assoc p (whole (lay t (length p))) (whole (lays ts (length p + size t)))
     ∙ ap (λ (xs : List (Option ℕ)). p ++ xs) (sym (whole-append (lay t (length p)) (lays ts (length p + size t))))
 
--- the first n slots have words or holes, which stand behind q
+-- the first n slots have words or holes, which stand after q
 pub laid-slots-is : (n : ℕ) (ts : Trees) (q hs r : List (Option ℕ)) (m to : ℕ) → Sounds ts → length hs ≡ n
     → n ≤ count ts → length q ≡ m → length q + n + length r ≡ to
     → laid_slots n ts m (q ++ (hs ++ r)) ≡ q ++ (whole (take n (points ts m to)) ++ (r ++ whole (lays ts to)))
@@ -114,7 +114,7 @@ laid-slots-is (suc n) (tree t ts) q (x ∷ hs) r m to h eh le em et =
     (append_assoc r (whole (lay t to)) (whole (lays ts (to + size t)))
     ∙ ap (λ (xs : List (Option ℕ)). r ++ xs) (sym (whole-append (lay t to) (lays ts (to + size t)))))
 
--- n words or holes are left behind p1, and the slots laid
+-- n words or holes are left after p1, and the slots laid out
 pub laid-left : (n : ℕ) (ts : Trees) (p1 hs : List (Option ℕ)) → Sounds ts → length hs ≡ n → n ≤ count ts
     → laid_slots n ts (length p1) (p1 ++ hs) ≡ p1
     ++ whole (take n (points ts (length p1) (length p1 + n)) ++ lays ts (length p1 + n))
@@ -163,14 +163,14 @@ laid-plain t u p q ws e is h =
 pub laid-empty : (t u : Tree) (p : List (Option ℕ)) → t ≡ u → lay u (length p) ≡ [] → p ≡ laid t p
 laid-empty t u p e is = laid-plain t u p p [] e is (sym (append-nil p))
 
--- holes are left behind the own words
+-- holes are left after the own words
 pub ready-holes : (p1 p2 : List (Option ℕ)) (n first : ℕ) → first ≡ length p1 → p2 ≡ p1 ++ replicate n None
     → AreHoles p2 first n
 ready-holes p1 p2 n first ef e2 =
     subst (λ (q : List (Option ℕ)). AreHoles q first n) (sym e2)
     (subst (λ (k : ℕ). AreHoles (p1 ++ replicate n None) k n) (sym ef) (holes-left p1 n))
 
--- the own words are appended and words or holes behind them, so the slots can be laid
+-- the own words are appended and words or holes after them, so the slots can be laid out
 module _ (v : Tree) (p p1 p2 hs : List (Option ℕ)) (n first : ℕ) (sound : Sound v) (room : length p + size v ≤ 2 ^ 29)
     (ef : first ≡ length p1) (eh : length hs ≡ n) (e2 : p2 ≡ p1 ++ hs) where
   pub left-length : length p2 ≡ length p1 + n
@@ -207,7 +207,7 @@ module _ (v : Tree) (p p1 p2 hs : List (Option ℕ)) (n first : ℕ) (sound : So
     pub links-done : laid v p ≡ laid_slots n ts first p2
     links-done = rw (e2, ef, en, e1, ev) (sym (laid-links ts p hs (subst Sound ev sound) (eh ∙ en)))
 
--- a slot is laid
+-- a slot is laid out
 module _ (t : Tree) (ts : Trees) (n first i : ℕ) (p : List (Option ℕ)) (sound : Sounds (tree t ts))
     (room : length p + sizes (tree t ts) ≤ 2 ^ 29) where
   pub past-room : length (laid t p) + sizes ts ≤ 2 ^ 29

@@ -17,7 +17,7 @@ use Rattle.capn_canon.proofs.LayLengths.{length-cut, length-lays}
 use Rattle.capn_canon.proofs.Holes.{hole-append, hole-set, hole-behind, hole-each, length-whole, whole-append}
 use Rattle.capn_canon.proofs.Laid.{length-laid, laid-is, slots-none, slots-past, slots-next, holes-past, laid-slots-is}
 
--- ---- slots that are laid leave other holes as they are
+-- ---- slots that are laid out leave other holes as they are
 
 pub length-slots : (n : ℕ) (ts : Trees) (first : ℕ) (p : List (Option ℕ)) → Sounds ts
     → length (laid_slots n ts first p) ≡ length p + sizes ts
@@ -134,7 +134,7 @@ whole-three q xs ys zs r =
     ∙ sym (append_assoc (whole xs) (whole (ys ++ zs)) r)
     ∙ ap (λ (x : List (Option ℕ)). x ++ r) (sym (whole-append xs (ys ++ zs))))
 
--- the rows have words or holes for their slots, and stand behind q
+-- the rows have words or holes for their slots, and stand after q
 pub laid-rows-is : (a b : ℕ) (bs : Bodies) (q cs r : List (Option ℕ)) (m to : ℕ) → SoundRows bs → AreWide a b bs
     → AreRowsOver a b bs cs → length q ≡ m → length q + length cs + length r ≡ to
     → laid_rows a b bs m (q ++ (cs ++ r)) ≡ q ++ (whole (row_contents a b bs m to) ++ (r ++ whole (lays_in_rows bs to)))
@@ -181,7 +181,7 @@ laid-rows-is a b (body ws ss bs) q cs r m to s h o em et =
     (append_assoc r (whole (lays ss to)) (whole (lays_in_rows bs (to + sizes ss)))
     ∙ ap (λ (x : List (Option ℕ)). r ++ x) (sym (whole-append (lays ss to) (lays_in_rows bs (to + sizes ss)))))
 
--- ---- the tag and the rows are appended, so the slots can be laid
+-- ---- the tag and the rows are appended, so the slots can be laid out
 
 module _ (bs : Bodies) (p p1 : List (Option ℕ)) (n a b start : ℕ) (sound : Sound (rows bs))
     (room : length p + size (rows bs) ≤ 2 ^ 29)
@@ -253,7 +253,7 @@ module _ (bs : Bodies) (p p1 : List (Option ℕ)) (n a b start : ℕ) (sound : S
         (lays_in_rows bs (at + own (rows bs)))))
         ∙ sym (laid-is (rows bs) p)
 
--- ---- one row is laid
+-- ---- one row is laid out
 
 pub one-row-less : (at a b n most : ℕ) → at + suc n * (a + b) ≤ most → at + a + b + n * (a + b) ≤ most
 one-row-less at a b n most h =

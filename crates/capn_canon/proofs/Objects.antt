@@ -1,4 +1,4 @@
--- What is below an object is laid behind its own words.
+-- What is below an object is laid out after its own words.
 use Rattle.std.proofs.Common.{◌≡◌, ℕ, ◌+◌, ◌^◌, ◌<◌, ◌≤◌, List, ◌++◌, length, take, set, Option}
 use Rattle.std.proofs.Common.{Some, refl, ap, ap₂, sym, subst, ◌∙◌, arith, length-append, length-drop}
 use Rattle.std.proofs.lemmas.List.{length-set, length-take-le}

@@ -57,7 +57,7 @@ module _ (ws : List ℕ) where
       (if-no (nat_lt from 0) _ _ (le-ltb from 0 (omega arith)) ∙ ap Ok z)
       ∙ in-reach from 0 _ (omega arith)
 
-  -- the word of a struct names it, at so many words behind the next one
+  -- the word of a struct names it, n words after the next one
   pub names-struct : (from n a b : ℕ) → slice_index ws from ≡ word_of (Node (pos n) a b) → n < 2 ^ 29 → a < 2 ^ 16
       → b < 2 ^ 16 → 0 < a + b →
       from + 1 + n + (a + b) ≤ length ws

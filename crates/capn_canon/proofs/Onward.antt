@@ -1,4 +1,4 @@
--- A run of slots goes on behind its first slot, or, behind its last slot, below it.
+-- A run of slots continues after its first slot, or, after its last slot, below it.
 use Rattle.std.proofs.Common.{◌≡◌, ℕ, suc, ◌+◌, ◌-◌, ◌<◌, ◌≤◌, List, [], ◌∷◌, length, ap, sym, subst}
 use Rattle.std.proofs.Common.{arith, Some}
 use Rattle.capn_value.specs.Tree.{Trees, no_trees, tree, count}
@@ -120,7 +120,7 @@ module _ (all : List ℕ) (r : Run) (some : r.from < r.end) (h : IsRun all r) wh
     pub steps-behind : Steps all r (Some (record { from = r.from + 1; end = r.end; next = k }))
     steps-behind = (omega arith, behind-is, behind-goes)
 
-  -- behind the last slot, the slots of its struct
+  -- after the last slot, the slots of its struct
   module _ (last : r.from + 1 ≡ r.end) (first_slot number : ℕ) (ss : Trees)
       (are : AreAt (all ∷ []) 0 first_slot ss) (many : count ss ≡ number)
       (goes : AreLaidAt all ss first_slot (first_slot + number) → IsLaidAt all first.value r.from r.next)

@@ -12,7 +12,7 @@ use Rattle.capn_canon.proofs.Cut.{kept-part}
 use Rattle.capn_canon.proofs.Holes.{whole-append}
 use Rattle.capn_canon.proofs.Standing.{take-plus}
 
--- two parts that stand one behind the other, the first of them whole, are one piece
+-- two parts that stand one after the other, the first of them whole, are one piece
 pub copy-parts : (m : List (List ℕ)) (s w a b size : ℕ) (p q : List (Option ℕ)) → a ≡ size
     → q ≡ p ++ whole (take (a + b) (words_from m s w))
     → q ≡ (p ++ whole (take a (words_from m s w))) ++ whole (take b (words_from m s (w + size)))

@@ -36,7 +36,7 @@ cells-words zero bs = refl
 cells-words (suc k) bs =
     ap₂ (λ (w : ℕ) (xs : List (Option ℕ)). Some w ∷ xs) (word-number bs) (cells-words k (drop 8 bs))
 
--- ---- zeros behind change no word
+-- ---- zeros at the end change no word
 
 number-zeros : (base n p : ℕ) → number base (take n (replicate p 0)) ≡ 0
 number-zeros base zero p = refl
@@ -150,7 +150,7 @@ AreAllBelow-take base (suc n) [] h i = h i
 AreAllBelow-take base (suc n) (x ∷ xs) h zero = h 0
 AreAllBelow-take base (suc n) (x ∷ xs) h (suc i) = AreAllBelow-take base n xs (λ j. h (suc j)) i
 
--- words of the bytes of numbers are those that pack the numbers, a word having the bytes of so many
+-- words of the bytes of numbers are those that pack the numbers, a word having the bytes of `each` of them
 pub packed-numbers : (w each width k : ℕ) (xs : List ℕ) → 8 ≡ each * w → 256 ^ w ≡ 2 ^ width → AreAllBelow (256 ^ w) xs
     → packed 8 8 k (flat_map (little_bytes w) xs) ≡ packed each width k xs
 packed-numbers w each width zero xs e b h = refl

@@ -27,7 +27,7 @@ use Rattle.capn_canon.proofs.Pointed.{list-leads}
 use Rattle.capn_canon.proofs.PointedLists.{sound-at, few-words, composite-named}
 use Rattle.capn_canon.proofs.Shaped.{inside-of}
 
--- the tests that rows pass which stand as they are laid
+-- the tests that rows pass if they stand as they are laid out
 abbrev pub PassRows : List ℕ → ℕ → ℕ → ℕ → ℕ → ℕ → ℕ → ℕ → Type 0
 PassRows all from next s w n a b =
     (kept_each (all ∷ []) s (w + 1) a (a + b) n ≡ a) × (kept_each (all ∷ []) s (w + 1 + a) b (a + b) n ≡ b)
@@ -86,7 +86,7 @@ module _ (all : List ℕ) (x from next s w n a b span pads k : ℕ) (h : IsList 
     composite-told res t v i = rows-told all n a b span s w from next pads names small within h.order v (inside-at v i)
         (sound-at all from most_height next h.ready v i) h.fits p.0 p.1 p.2 p.3 p.4 res t
 
--- the pointer leads to the next free word where its rows stand as they are laid
+-- the pointer leads to the next free word if its rows stand as they are laid out
 pub composite-leads : (all : List ℕ) (x from next n : ℕ) → IsList all x Rows n from next → (v : Tree)
     → IsAt (all ∷ []) (here from) v → IsLaidAt all v from next → x / 4 % 2 ^ 30 ≡ next - from - 1
 composite-leads all x from next n h v i k =

@@ -1,4 +1,4 @@
--- One row after the other is laid.
+-- One row after the other is laid out.
 use Rattle.std.proofs.Common.{◌≡◌, ℕ, suc, ◌+◌, ◌-◌, ◌*◌, ◌^◌, ◌<◌, ◌≤◌, ◌∷◌, [], List, ◌++◌, length, set}
 use Rattle.std.proofs.Common.{Option, Some, refl, ap, ap₂, sym, subst, ◌∙◌, arith}
 use Rattle.std.specs.Prelude.{pos}
@@ -25,7 +25,7 @@ use Rattle.capn_canon.proofs.Shaped.{IsRows, as-rows}
 use Rattle.capn_canon.proofs.EachRow.{kept_each-le, kept-rows-words, kept-rows-slots, cells-over, one-more-fits}
 use Rattle.capn_canon.proofs.Front.{front-count, front-sizes, front-greatest, front-sound, front-at, front-laid}
 
--- the first of some rows, and those behind it
+-- the first of some rows, and those after it
 pub record IsRow (m : List (List ℕ)) (s w a b number depth x y at : ℕ) (p : List (Option ℕ)) : Type 0 where
   pub words : List ℕ
   pub slots : Trees
@@ -95,7 +95,7 @@ module _ (m : List (List ℕ)) (s w a b n depth x y at : ℕ) (p : List (Option 
   pub rows-begin-ready : RowsReady m s w a b n depth x y at p → RowsReady m s w a b (n - 0) depth x y at p
   rows-begin-ready r = let z : n ≡ n - 0 = omega arith in subst (λ (k : ℕ). RowsReady m s w a b k depth x y at p) z r
 
--- one row has been laid
+-- one row has been laid out
 module _ (m : List (List ℕ)) (s w a b n depth x y at i : ℕ) (p q : List (Option ℕ)) (lt : i < n) (le : y ≤ b)
     (ready : RowsReady m s w a b (n - i) depth x y at p) (h : AreLaid m s (w + a) y (at + x) p q) where
   this : IsRow m s w a b (n - i) depth x y at p
@@ -136,7 +136,7 @@ module _ (m : List (List ℕ)) (s w a b n depth x y at i : ℕ) (p q : List (Opt
         omega arith;
   }
 
--- all rows have been laid
+-- all rows have been laid out
 pub rows-end : (m : List (List ℕ)) (s w w0 a b n x y at at0 i : ℕ) (p z : List (Option ℕ)) → n ≤ i
     → ((cs bs : Bodies) → RowsAt m a b s w cs → count_rows cs ≡ n - i → RowsAt m a b s w0 bs → count_rows bs ≡ n
     → laid_rows x y cs at p ≡ laid_rows x y bs at0 z)
@@ -148,7 +148,7 @@ point-rows : (bs : Bodies) (from to : ℕ) → point (rows bs) from to ≡ list_
 unfolding point
 point-rows bs from to = refl
 
--- the tag and the rows are appended, so the slots can be laid
+-- the tag and the rows are appended, so the slots can be laid out
 module _ (m : List (List ℕ)) (n a b span s w depth from : ℕ) (p : List (Option ℕ))
     (ready : IsReadyInside m (shapes.Rows n a b span) s w depth (length p)) where
   pub here : IsRows m n a b s w ready.value

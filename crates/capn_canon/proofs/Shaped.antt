@@ -47,7 +47,7 @@ module _ (m : List (List ℕ)) where
   null-of at (links ts) e h = let f = h.is in cc
   null-of at (rows bs) e h = let f = h.3.is in cc
 
-  -- the same of a capability
+  -- a place whose target is a capability has that capability as its value
   pub cap-at : (at : Place) (v : Tree) (k : ℕ) → target m at ≡ Ok (targets.Cap k) → IsAt m at v → v ≡ cap k
   cap-at at nil k e h = cc
   cap-at at (cap j) k e h = cc

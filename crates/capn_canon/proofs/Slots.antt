@@ -1,4 +1,4 @@
--- One slot after the other is laid.
+-- One slot after the other is laid out.
 use Rattle.std.proofs.Common.{◌≡◌, ℕ, suc, ◌+◌, ◌-◌, ◌^◌, ◌<◌, ◌≤◌, List, length, set, Option, Some}
 use Rattle.std.proofs.Common.{ap, sym, subst, ◌∙◌, arith, append-nil}
 use Rattle.std.proofs.lemmas.List.{length-set}
@@ -29,7 +29,7 @@ pub laid-cap : (v : Tree) (k : ℕ) (p : List (Option ℕ)) (from : ℕ) → v �
 unfolding laid point
 laid-cap v k p from e = rw e (sym (append-nil (set p from (Some (word_of (Cap k))))))
 
--- the first of some slots, and those behind it
+-- the first of some slots, and those after it
 pub record IsNext (m : List (List ℕ)) (s w number depth n : ℕ) : Type 0 where
   pub value : Tree
   pub others : Trees
@@ -86,7 +86,7 @@ module _ (m : List (List ℕ)) (s w n first depth : ℕ) (p : List (Option ℕ))
     room = r.room;
   }
 
--- one slot has been laid
+-- one slot has been laid out
 module _ (m : List (List ℕ)) (s w n first depth i : ℕ) (p q : List (Option ℕ)) (lt : i < n)
     (ready : AreReady m s (w + i) (n - i) depth (length p))
     (h : IsLaid m (slot s (w + i)) (first + i) p q) where
@@ -140,7 +140,7 @@ module _ (m : List (List ℕ)) (s w n first depth i : ℕ) (p q : List (Option �
             omega arith;
       }
 
--- all slots have been laid
+-- all slots have been laid out
 pub ends-rest : (m : List (List ℕ)) (s w n first i : ℕ) (p z : List (Option ℕ)) → n ≤ i
     → ((us ts : Trees) → AreAt m s (w + i) us → count us ≡ n - i → AreAt m s w ts → count ts ≡ n
     → laid_slots (n - i) us (first + i) p ≡ laid_slots n ts first z)

@@ -75,7 +75,7 @@ module _ (all : List ℕ) (at : ℕ) where
   pub stand-back : (xs ys : List ℕ) → Stand all at (xs ++ ys) → Stand all (at + length xs) ys
   stand-back xs ys h = (both xs ys h).1
 
-  -- one word, and those behind it
+  -- one word, and those after it
   pub stand-cons : (x : ℕ) (xs : List ℕ) → at < length all → slice_index all at ≡ x → Stand all (suc at) xs
       → Stand all at (x ∷ xs)
   stand-cons x xs lt e h = ap (λ (zs : List ℕ). take (suc (length xs)) zs) (drop-cons all at 0 lt)

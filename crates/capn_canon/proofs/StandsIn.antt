@@ -21,7 +21,7 @@ module _ (ws : List ℕ) (at : ℕ) where
     where_at = h.where_at;
   }
 
-  -- the second stands behind it
+  -- the second stands after it
   pub has-back : (xs ys : List ℕ) → Has ws at (xs ++ ys) → Has ws (at + length xs) ys
   has-back xs ys h = record {
     before = h.before ++ xs;

@@ -30,8 +30,8 @@ module _ (m : List (List ℕ)) where
     pub is : target m at ≡ Ok (targets.Content segment start shape 0)
     pub inside : Inside segment start
 
-  -- the value stands at the place, each of its parts behind a near pointer and the words of struct lists being
-  -- those of the rows
+  -- the value stands at the place, each of its parts named by a near pointer, and the words of struct lists being those
+  -- of the rows
   abbrev mutual
     pub TightAt : Place → Tree → Type 0
     TightAt at nil = target m at ≡ Ok targets.Nil

@@ -1,4 +1,4 @@
--- Where memory was wanted, it may be.
+-- Where memory was needed, it may be.
 use Rattle.std.proofs.Common.{◌≡◌, ◌≢◌, ℕ, ◌+◌, ◌*◌, ◌<◌, ◌≤◌, inl, inr, List, [], ◌∷◌, length, arith, ap, refl}
 use Rattle.std.proofs.Common.{subst, Result, IfErr, IsErrOf}
 use Rattle.std.proofs.Math.Nat.{lt_of_not-le}
@@ -17,7 +17,7 @@ use Rattle.capn_canon.specs.declared.refusal.Refusal.TheVariants as refusals
 use Rattle.capn_canon.specs.Reads.{IsFramed, Reads, Unpacks}
 use Rattle.capn_canon.specs.Wanted.{MayWantMemory, MayWantBytes, MayWantBytesIn}
 
--- a call that wants no memory for a depth of at most 64 wanted it for one above that
+-- a call that needs no memory for a depth of at most 64 needed it for one above that
 pub deep : {T : Type 0} (r : Result T Refusal) (depth : ℕ) → (depth ≤ 64 → IfErr r (λ e. e ≢ refusals.Memory))
     → IsErrOf r refusals.Memory → 64 < depth
 deep r depth h e = lt_of_not-le (λ l. subst (λ x. IfErr x (λ e. e ≢ refusals.Memory)) e (h l) refl)
@@ -49,7 +49,7 @@ wanted_some : (text : List ℕ) (limits : Bounds) → MayWantMemory forms.Stream
 wanted_some text limits (inl h) = let l = h.0.0.0.0 in omega arith
 wanted_some text limits (inr h) = framed_some text limits.message_words h.1 h.2
 
--- memory is wanted of a packed text where it is of what it unpacks to
+-- memory is needed for a packed text if it is for what it unpacks to
 pub packed_wanted : (bs text : List ℕ) (limits : Bounds) → Unpacks bs limits.message_words text
     → MayWantMemory forms.Stream text limits → MayWantMemory forms.Packed bs limits
 packed_wanted bs text limits u h =
@@ -57,7 +57,7 @@ packed_wanted bs text limits u h =
 
 -- ---- canonical bytes
 
--- what is wanted of a message is wanted of the bytes that are read bare as it,
+-- what is needed for a message is needed for the bytes that are read bare as it,
 pub bare_bytes_wanted : (bs : List ℕ) (limits : Bounds) (m : List (List ℕ)) → Reads forms.Bare bs limits.message_words m
     → MayWantBytes m limits → MayWantBytesIn forms.Bare bs limits
 bare_bytes_wanted bs limits m r (inl d) = inl (d, m, r)

@@ -18,8 +18,8 @@ pub record Checks (bs : List ℕ) (limits : Bounds) (yes : Bool) : Type 0 where
   pub free : first_cap value ≡ None
   pub answer : IsTrue yes ↔ (canon value ≡ bs)
 
--- the words are an accepted message; the check tells what its walk pays, how many visits it makes and the first
--- capability of its value, and says yes exactly if the value has none and the bytes of the words are its canonical
+-- the words are an accepted message; the check reports what its walk pays, how many visits it makes and the first
+-- capability of its value, and says yes if and only if the value has none and the bytes of the words are its canonical
 -- bytes
 pub record IsCheck (words : List ℕ) (limits : Bounds) (c : Checked) : Type 0 where
   pub value : Tree

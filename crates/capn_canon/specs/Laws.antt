@@ -57,12 +57,12 @@ abbrev pub DenoteOne : Type 0
 DenoteOne = (form : Form) (bs : List ℕ) (limits : Bounds) (v w : Tree) → Denotes form bs limits v
     → Denotes form bs limits w → v ≡ w
 
--- bytes that denote a value without capabilities meet no refusal but want of memory
+-- bytes that denote a value without capabilities are refused only if memory runs out
 abbrev pub DenotedAreNotRefused : Type 0
 DenotedAreNotRefused = (form : Form) (bs : List ℕ) (limits : Bounds) (v : Tree) (r : Refusal)
     → Denotes form bs limits v → first_cap v ≡ None → IsRefused form bs limits r → r ≡ refusals.Memory
 
--- bytes are refused for one reason, but for want of memory
+-- bytes are refused for one reason, unless memory runs out
 abbrev pub RefusedForOneReason : Type 0
 RefusedForOneReason = (form : Form) (bs : List ℕ) (limits : Bounds) (r s : Refusal) → (r ≡ refusals.Memory → ⊥)
     → (s ≡ refusals.Memory → ⊥)

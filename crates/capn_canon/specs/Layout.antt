@@ -68,7 +68,7 @@ point (links ts) from to = list_to from to Link (count ts)
 point (rows bs) from to = list_to from to Rows (count_rows bs * row_size bs)
 point (cap k) from to = word_of (Cap k)
 
--- the pointers to values whose content stands one behind the other, each with all below it (Page: canonicalization,
+-- the pointers to values whose content stands one after the other, each with all below it (Page: canonicalization,
 -- preorder.)
 abbrev pub points : Trees → ℕ → ℕ → List ℕ
 points no_trees from to = []
@@ -79,7 +79,7 @@ abbrev pub number : ℕ → List ℕ → ℕ
 number base [] = 0
 number base (x ∷ xs) = x + base * number base xs
 
--- n words, each of so many elements of so many bits; what is missing in the last one is 0 (Own.)
+-- n words, each of `many` elements of `width` bits; what is missing in the last one is 0 (Own.)
 abbrev pub packed : ℕ → ℕ → ℕ → List ℕ → List ℕ
 packed many width zero xs = []
 packed many width (suc n) xs = number (2 ^ width) (take many xs) ∷ packed many width n (drop many xs)
@@ -90,7 +90,7 @@ row_contents a b no_bodies from to = []
 row_contents a b (body ws ss bs) from to =
     take a ws ++ (take b (points ss (from + a) to) ++ row_contents a b bs (from + a + b) (to + sizes ss))
 
--- a value's content at word `at`, and behind it the content of what is below (Page: canonicalization, preorder.)
+-- a value's content at word `at`, and after it the content of what is below (Page: canonicalization, preorder.)
 abbrev mutual
   pub lay : Tree → ℕ → List ℕ
   lay (node ws ss) at =

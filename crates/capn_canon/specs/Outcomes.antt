@@ -14,7 +14,7 @@ use Rattle.capn_canon.specs.Surveys.{Surveys}
 use Rattle.capn_canon.specs.Refused.{IsRefusedMessage, IsRefused, IsUnacceptedIn, IsPaidWithin}
 use Rattle.capn_canon.specs.Wanted.{MayWantMemory, MayWantBytes, MayWantBytesIn}
 
--- what a call tells of a message is its answer or why it has none, memory is wanted only where it may be, and no walk
+-- what a call reports of a message is its answer or why it has none, memory is needed only where it may be, and no walk
 -- pays beyond its budget
 pub record IsCanonicalised {T : Type 0} (message : List (List ℕ)) (limits : Bounds) (r : Result T Refusal)
     (bytes : T → List ℕ) (price : T → ℕ) : Type 0 where
@@ -25,7 +25,8 @@ pub record IsCanonicalised {T : Type 0} (message : List (List ℕ)) (limits : Bo
   pub wanted : IsErrOf r refusals.Memory → MayWantBytes message limits
   pub bounded : MatchResult r (λ c. price c ≤ limits.budget) (λ e. IsPaidWithin limits.budget e)
 
--- the same of bytes in a form
+-- what a call reports of bytes in a form is their answer or why they have none, memory is needed only where it may be,
+-- and no walk pays beyond its budget
 pub record AreCanonicalised {T : Type 0} (form : Form) (bs : List ℕ) (limits : Bounds) (r : Result T Refusal)
     (bytes : T → List ℕ) (price : T → ℕ) : Type 0 where
   pub found : IfOk r (λ c. Answers form bs limits (bytes c) (price c))
@@ -33,8 +34,8 @@ pub record AreCanonicalised {T : Type 0} (form : Form) (bs : List ℕ) (limits :
   pub wanted : IsErrOf r refusals.Memory → MayWantBytesIn form bs limits
   pub bounded : MatchResult r (λ c. price c ≤ limits.budget) (λ e. IsPaidWithin limits.budget e)
 
--- what is told is a survey of the bytes, a refusal means what it says, memory is wanted only where it may be, and no
--- walk pays beyond its budget
+-- what is answered is a survey of the bytes, a refusal means what it says, memory is needed only where it may be, and
+-- no walk pays beyond its budget
 pub record AreSurveyed (form : Form) (bs : List ℕ) (limits : Bounds) (r : Result Surveyed Refusal) : Type 0 where
   pub found : IfOk r (λ s. Surveys form bs limits s)
   pub refused : IfErr r (λ e. IsUnacceptedIn form bs limits e)

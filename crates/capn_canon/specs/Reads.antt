@@ -8,12 +8,12 @@ use Rattle.capn_stream.specs.Frames.{Frames, StandsFirst, most_table_words}
 use Rattle.capn_canon.specs.declared.form.Form.{Form}
 use Rattle.capn_canon.specs.declared.form.Form.TheVariants as forms
 
--- the bytes are one frame of the message, which has at most so many words
+-- the bytes are one frame of the message, which has at most `most` words
 pub record IsFramed (bs : List ℕ) (most : ℕ) (message : List (List ℕ)) : Type 0 where
   pub frame : Frames bs message
   pub room : total message ≤ most
 
--- the bytes pack a text of at most so many words and those of the longest table
+-- the bytes pack a text of at most `most` words and those of the longest table
 pub record Unpacks (bs : List ℕ) (most : ℕ) (text : List ℕ) : Type 0 where
   pub packs : Packs bs text
   pub room : length text ≤ 8 * (most + most_table_words)
@@ -24,6 +24,6 @@ Reads forms.Bare bs most message = (ws : List ℕ) × IsBare bs ws × (message �
 Reads forms.Stream bs most message = IsFramed bs most message
 Reads forms.Packed bs most message = (text : List ℕ) × Unpacks bs most text × IsFramed text most message
 
--- the frame of a message of at most so many words stands first in the bytes, and more bytes follow from an offset on
+-- the frame of a message of at most `most` words stands first in the bytes, and more bytes follow from an offset on
 abbrev pub Trails : List ℕ → ℕ → ℕ → Type 0
 Trails bs most at = (message : List (List ℕ)) × StandsFirst bs most message at × (at < length bs)

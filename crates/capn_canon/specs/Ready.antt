@@ -10,7 +10,7 @@ use Rattle.capn_canon.specs.Laying.{laid, laid_slots}
 use Rattle.capn_canon.specs.Sound.{Sound, Sounds}
 
 module _ (m : List (List ℕ)) where
-  -- a value stands at a place, at most so many objects high, and there is room for it behind so many words (Own.)
+  -- a value stands at a place, at most `depth` objects high, and there is room for it after n words (Own.)
   pub record IsReady (at : Place) (depth n : ℕ) : Type 0 where
     pub value : Tree
     pub is : IsAt m at value
@@ -18,8 +18,8 @@ module _ (m : List (List ℕ)) where
     pub low : height value ≤ depth
     pub room : n + size value ≤ 2 ^ 29
 
-  -- one value alone stands inside the content that starts at a word, with all below it at most so many objects
-  -- high (Own.)
+  -- one value alone stands inside the content that starts at a word, with all below it at most `depth` objects high
+  -- (Own.)
   pub record IsReadyInside (shape : Shape) (s w depth n : ℕ) : Type 0 where
     pub value : Tree
     pub is : IsInside m shape s w value
@@ -28,7 +28,7 @@ module _ (m : List (List ℕ)) where
     pub low : height value ≤ suc depth
     pub room : n + size value ≤ 2 ^ 29
 
-  -- so many values stand in slots one behind the other (Own.)
+  -- `number` values stand in slots one after the other (Own.)
   pub record AreReady (s w number depth n : ℕ) : Type 0 where
     pub values : Trees
     pub are : AreAt m s w values
@@ -41,11 +41,11 @@ module _ (m : List (List ℕ)) where
   abbrev pub IsLaid : Place → ℕ → List (Option ℕ) → List (Option ℕ) → Type 0
   IsLaid at from p q = (v : Tree) → IsAt m at v → q ≡ laid v (set p from (Some (point v from (length p))))
 
-  -- the same of the value inside content (Own.)
+  -- the pointer to the value inside content has been put into a hole, and its content appended (Own.)
   abbrev pub IsLaidInside : Shape → ℕ → ℕ → ℕ → List (Option ℕ) → List (Option ℕ) → Type 0
   IsLaidInside shape s w from p q = (v : Tree) → IsInside m shape s w v
       → q ≡ laid v (set p from (Some (point v from (length p))))
 
-  -- the same of so many slots, whose holes stand from a word on (Own.)
+  -- the pointers to the values in slots have been put into the holes from a word on, and their contents appended (Own.)
   abbrev pub AreLaid : ℕ → ℕ → ℕ → ℕ → List (Option ℕ) → List (Option ℕ) → Type 0
   AreLaid s w number first p q = (ts : Trees) → AreAt m s w ts → count ts ≡ number → q ≡ laid_slots number ts first p

@@ -17,7 +17,7 @@ use Rattle.capn_canon.specs.declared.refusal.Refusal.{Refusal}
 use Rattle.capn_canon.specs.declared.refusal.Refusal.TheVariants as refusals
 use Rattle.capn_canon.specs.Reads.{Reads, Trails, Unpacks}
 
--- the bytes are no frame of at most so many words, or more than one
+-- the bytes are no frame of at most `most` words, or more than one
 abbrev pub IsMisframed : List ℕ → ℕ → Refusal → Type 0
 IsMisframed bs most (refusals.Frame e) = (e ≢ frame_faults.Memory) × frames.IsRefused bs most e
 IsMisframed bs most (refusals.Trailing at) = Trails bs most at
@@ -32,7 +32,7 @@ IsMisread forms.Packed bs most (refusals.Packed e) = (e ≢ unpack_faults.Memory
     × packs.IsRefused bs (most + most_table_words) e
 IsMisread forms.Packed bs most r = (text : List ℕ) × Unpacks bs most text × IsMisframed text most r
 
--- the message is not accepted, or its value has a capability, the first of which is told; nothing is said of want of
+-- the message is not accepted, or its value has a capability, whose index is given; nothing is said of running out of
 -- memory
 abbrev pub IsRefusedMessage : List (List ℕ) → Bounds → Refusal → Type 0
 IsRefusedMessage message limits (refusals.Walk s) = walks.IsRefused message limits s.fault s.place s.paid s.visits
@@ -52,18 +52,19 @@ IsRefused form bs limits (refusals.Capability k) =
 IsRefused form bs limits refusals.Memory = ⊤
 IsRefused form bs limits r = IsMisread form bs limits.message_words r
 
--- what a refusal tells as paid is within a budget, and the visits are at most one more
+-- what a refusal reports as paid is within a budget, and the visits are at most one more
 abbrev pub IsPaidWithin : ℕ → Refusal → Type 0
 IsPaidWithin budget (refusals.Walk s) = walks.IsBounded budget s.paid s.visits
 IsPaidWithin budget _ = ⊤
 
--- the message is not accepted; nothing is said of want of memory
+-- the message is not accepted; nothing is said of running out of memory
 abbrev pub IsUnaccepted : List (List ℕ) → Bounds → Refusal → Type 0
 IsUnaccepted message limits (refusals.Walk s) = walks.IsRefused message limits s.fault s.place s.paid s.visits
 IsUnaccepted message limits refusals.Memory = ⊤
 IsUnaccepted message limits _ = ⊥
 
--- the bytes are not read, or the message that they are read as is not accepted; nothing is said of want of memory
+-- the bytes are not read, or the message that they are read as is not accepted; nothing is said of running out of
+-- memory
 abbrev pub IsUnacceptedIn : Form → List ℕ → Bounds → Refusal → Type 0
 IsUnacceptedIn form bs limits (refusals.Capability k) = ⊥
 IsUnacceptedIn form bs limits r = IsRefused form bs limits r

@@ -14,13 +14,14 @@ use Rattle.capn_canon.specs.Laying.{laid_rows}
 use Rattle.capn_canon.specs.Sound.{SoundRows}
 
 module _ (m : List (List ℕ)) where
-  -- the greatest length that is kept of so many words, in each of n rows of so many (Own.)
+  -- the greatest length that is kept of a part of n rows: the rows begin every `step` words, the part has `size` words
+  -- (Own.)
   abbrev pub kept_each : ℕ → ℕ → ℕ → ℕ → ℕ → ℕ
   kept_each s w size step zero = 0
   kept_each s w size step (suc n) = max (kept_words (take size (words_from m s w))) (kept_each s (w + step) size step n)
 
-  -- the first words of each of n rows, and behind them the first words of a part that stands so many words further
-  -- in (Own.)
+  -- the first words of each of n rows, each followed by the first words of a part that begins `inset` words further in
+  -- (Own.)
   abbrev pub row_cells : ℕ → ℕ → ℕ → ℕ → ℕ → ℕ → ℕ → List (Option ℕ)
   row_cells s w step inset a b zero = []
   row_cells s w step inset a b (suc n) =
@@ -36,7 +37,7 @@ module _ (m : List (List ℕ)) where
     pub own : q ≡ (set p from (Some (list_to from (length p) Rows (number * (words + slots))))
         ++ Some (word_of (Node (pos number) words slots)) ∷ []) ++ row_cells s w (a + b) a words slots number
 
-  -- so many rows stand one behind the other, and there is room for their slots in a buffer (Own.)
+  -- `number` rows stand one after the other, and there is room for their slots in a buffer (Own.)
   pub record RowsReady (s w a b number depth words slots at : ℕ) (p : List (Option ℕ)) : Type 0 where
     pub values : Bodies
     pub are : RowsAt m a b s w values
@@ -47,7 +48,7 @@ module _ (m : List (List ℕ)) where
     pub room : length p + sizes_in_rows values ≤ 2 ^ 29
     pub inside : at + number * (words + slots) ≤ length p
 
-  -- their slots have been laid (Own.)
+  -- their slots have been laid out (Own.)
   abbrev pub RowsLaid : ℕ → ℕ → ℕ → ℕ → ℕ → ℕ → ℕ → ℕ → List (Option ℕ) → List (Option ℕ) → Type 0
   RowsLaid s w a b number words slots at p q = (bs : Bodies) → RowsAt m a b s w bs → count_rows bs ≡ number
       → q ≡ laid_rows words slots bs at p

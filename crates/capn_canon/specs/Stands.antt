@@ -15,12 +15,12 @@ pub record IsLaidAt (all : List ℕ) (v : Tree) (from to : ℕ) : Type 0 where
   pub pointer : slice_index all from ≡ point v from to
   pub content : Stand all to (lay v to)
 
--- the same of slots (Own.)
+-- the pointers in slots and their contents stand where their layout has them (Own.)
 pub record AreLaidAt (all : List ℕ) (ts : Trees) (from to : ℕ) : Type 0 where
   pub pointers : Stand all from (points ts from to)
   pub contents : Stand all to (lays ts to)
 
--- the same of rows of a words and b slots (Own.)
+-- the rows of a words and b slots and what is below them stand where their layout has them (Own.)
 pub record RowsLaidAt (all : List ℕ) (a b : ℕ) (bs : Bodies) (from to : ℕ) : Type 0 where
   pub rows : Stand all from (row_contents a b bs from to)
   pub contents : Stand all to (lays_in_rows bs to)
@@ -30,7 +30,7 @@ abbrev pub Tells : Type 0 → ℕ → Option ℕ → Type 0
 Tells P n (Some k) = P × (k ≡ n)
 Tells P n None = P → ⊥
 
--- so many rows stand one behind the other, and there is room for what is below them behind so many words (Own.)
+-- `number` rows stand one after the other, and there is room for what is below them after n words (Own.)
 pub record AreReadyRows (m : List (List ℕ)) (s w a b number depth n : ℕ) : Type 0 where
   pub values : Bodies
   pub are : RowsAt m a b s w values

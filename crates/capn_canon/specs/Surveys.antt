@@ -1,4 +1,4 @@
--- What a survey of bytes tells.
+-- What a survey of bytes reports.
 use Rattle.std.specs.Prelude.{ℕ, List}
 use Rattle.capn_walk.specs.declared.surveyed.Surveyed.{Surveyed}
 use Rattle.capn_walk.specs.Limits.{Bounds}

@@ -1,4 +1,4 @@
--- Where memory may be wanted to survey a message, and to lay out its value. (Own.)
+-- Where memory may be needed to survey a message, and to lay out its value. (Own.)
 use Rattle.std.specs.Prelude.{◌≡◌, ◌⊎◌, ℕ, ◌+◌, ◌<◌, List, None}
 use Rattle.capn_pack.specs.Refusal.{StartsWithin}
 use Rattle.capn_stream.specs.Frames.{most_table_words}
@@ -16,18 +16,18 @@ use Rattle.capn_canon.specs.Reads.{Reads}
 abbrev pub MayBeDeep : Form → List ℕ → Bounds → Type 0
 MayBeDeep form bs limits = (64 < limits.depth) × (message : List (List ℕ)) × Reads form bs limits.message_words message
 
--- memory may be wanted: of bare words, where they may be so deep; of a stream, there, and where a whole frame of two
--- segments or more stands first; of a packed text, only where a whole group within the maximum stands first
+-- memory may be needed: of bare words, if they may be so deep; of a stream, there, and if a whole frame of two segments
+-- or more stands first; of a packed text, only if a whole group within the maximum stands first
 abbrev pub MayWantMemory : Form → List ℕ → Bounds → Type 0
 MayWantMemory forms.Bare bs limits = MayBeDeep forms.Bare bs limits
 MayWantMemory forms.Stream bs limits = HasTable bs limits.message_words ⊎ MayBeDeep forms.Stream bs limits
 MayWantMemory forms.Packed bs limits = StartsWithin bs (limits.message_words + most_table_words)
 
--- memory may be wanted to lay out a message: it may be more than 64 objects deep, or has canonical bytes
+-- memory may be needed to lay out a message: it may be more than 64 objects deep, or has canonical bytes
 abbrev pub MayWantBytes : List (List ℕ) → Bounds → Type 0
 MayWantBytes message limits = (64 < limits.depth) ⊎ ((v : Tree) × IsValueOf message limits v × (first_cap v ≡ None))
 
--- the same of bytes that are read in a form: it may be wanted to survey them, or they have canonical bytes
+-- memory may be needed for bytes that are read in a form: it may be needed to survey them, or they have canonical bytes
 abbrev pub MayWantBytesIn : Form → List ℕ → Bounds → Type 0
 MayWantBytesIn form bs limits =
     MayWantMemory form bs limits ⊎ ((v : Tree) × Denotes form bs limits v × (first_cap v ≡ None))

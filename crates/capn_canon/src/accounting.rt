@@ -93,14 +93,14 @@ pub fn account<A: Allocator + Copy>(
     bytes: &[u8],
     limits: Limits,
 ) -> Result<Surveyed, Refusal>
-    // The answer: the bytes are an accepted message, of which price, visits and first capability are told.
+    // The answer: the bytes are an accepted message, and these are its price, its visits and its first capability.
     ensures found { IfOk result (λ s. Surveys form bytes.now limits s) }
     // Bytes that denote a value are answered, unless memory runs out.
     ensures only { (v : Value) → Denotes form bytes.now limits v
         → MatchResult result (λ s. s.capability ≡ first_cap v) (λ e. e ≡ refusals.Memory) }
     // What each refusal means.
     ensures refused { IfErr result (λ e. IsUnacceptedIn form bytes.now limits e) }
-    // Memory is wanted only for a depth above 64, for where two segments or more end, and for what a text packs.
+    // Memory is needed only for a depth above 64, for where two segments or more end, and for what a text packs.
     ensures wanted { IsErrOf result refusals.Memory → MayWantMemory form bytes.now limits }
     // No walk pays beyond its budget.
     ensures bounded { MatchResult result (λ s. IsBounded limits.budget s.paid s.visits)
@@ -109,7 +109,7 @@ pub fn account<A: Allocator + Copy>(
     ensures short { IfOk result (λ s. (v : Value) → Denotes form bytes.now limits v
         → length (canon v) ≤ 8 * (s.paid + 1)) }
 {
-    // What they promise of limits is wanted by the clause on the length.
+    // The clause on the length needs what they promise of limits.
     let _words = limits.message_words();
     let _budget = limits.budget();
     let _depth = limits.depth();

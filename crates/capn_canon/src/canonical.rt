@@ -39,7 +39,7 @@ const ROOT: Place = Place {
     word: 0,
 };
 
-/// The canonical bytes of the value at the root, where the walk paid so many words. There is room at first for as many
+/// The canonical bytes of the value at the root, where the walk paid `paid` words. There is room at first for as many
 /// words and one more, and for no more than the first segment has.
 fn bytes_of<S: Space, A: Allocator>(
     alloc: A,
@@ -122,7 +122,7 @@ pub fn canonical_of<A: Allocator + Copy, S: Space>(
         → MatchResult result (λ c. c.bytes.items ≡ canon v) (λ e. e ≡ refusals.Memory) }
     // What each refusal means.
     ensures refused { IfErr result (λ e. IsRefusedMessage (S.message space.now) limits e) }
-    // Memory is wanted only for a depth above 64 and for canonical bytes.
+    // Memory is needed only for a depth above 64 and for canonical bytes.
     ensures wanted { IsErrOf result refusals.Memory → MayWantBytes (S.message space.now) limits }
     // No walk pays beyond its budget.
     ensures bounded { MatchResult result (λ c. c.paid ≤ limits.budget) (λ e. IsPaidWithin limits.budget e) }
@@ -140,7 +140,7 @@ pub fn canonical_of<A: Allocator + Copy, S: Space>(
     ensures exactly { IfOk result (λ c. (v : Value) → IsValueOf (S.message space.now) limits v
         → IsFormExactlyOf c.bytes.items v) }
 {
-    // What they promise of a message and of limits is wanted by the clauses.
+    // The clauses need what they promise of a message and of limits.
     let _segments = space.segments();
     let _budget = limits.budget();
     let _depth = limits.depth();

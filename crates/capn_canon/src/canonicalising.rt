@@ -89,10 +89,10 @@ fn in_form<A: Allocator + Copy>(
 
 /// The canonical bytes of the value that bytes denote in a form, within the limits.
 ///
-/// The refusals are tested in this order. The bytes are read: `Bare` for the form `Bare`; `Packed`, where at
-/// most the message words and those of the longest table are unpacked; then `Frame` and, where bytes follow
-/// the message, `Trailing`. The message is walked: `Walk`, never for want of memory. Its value is laid out:
-/// `Capability`, with the index of the first in preorder. `Memory` comes only where a growth was refused.
+/// The refusals are tested in this order. The bytes are read: `Bare` for the form `Bare`; `Packed`, where at most the
+/// message words and those of the longest table are unpacked; then `Frame` and, where bytes follow the message,
+/// `Trailing`. The message is walked: `Walk`, never because memory ran out. Its value is laid out: `Capability`, with
+/// the index of the first in preorder. `Memory` comes only where a growth was refused.
 pub fn canonicalise<A: Allocator + Copy>(
     alloc: A,
     form: Form,
@@ -106,7 +106,7 @@ pub fn canonicalise<A: Allocator + Copy>(
         → MatchResult result (λ c. c.bytes.items ≡ canon v) (λ e. e ≡ refusals.Memory) }
     // What each refusal means.
     ensures refused { IfErr result (λ e. IsRefused form bytes.now limits e) }
-    // Memory is wanted only where a survey of the bytes may want it, and for canonical bytes.
+    // Memory is needed only where a survey of the bytes may need it, and for canonical bytes.
     ensures wanted { IsErrOf result refusals.Memory → MayWantBytesIn form bytes.now limits }
     // No walk pays beyond its budget.
     ensures bounded { MatchResult result (λ c. c.paid ≤ limits.budget) (λ e. IsPaidWithin limits.budget e) }

@@ -16,7 +16,7 @@ use crate::run::Run;
 use crate::testing::{are_bits_at, are_rows_at, is_struct_at, leads_to, tag_of, word_at};
 use capn_words::{Bare, Place, Pointer, Width, split};
 
-/// The next free word behind all that is below some slots, where each slot and all below it is that of the canonical
+/// The next free word after all that is below some slots, where each slot and all below it is that of the canonical
 /// layout that begins at the next free word; else none.
 #[cycle(checking)]
 pub fn check_run(space: &Bare<'_>, run: Run) -> Option<u32>
@@ -35,7 +35,7 @@ pub fn check_run(space: &Bare<'_>, run: Run) -> Option<u32>
     Some(left.next)
 }
 
-/// What is left of a run behind its first slot; behind its last slot, the slots of the struct that this one names.
+/// What is left of a run after its first slot; after its last slot, the slots of the struct that this one names.
 #[cycle(checking)]
 #[inline(always)]
 fn step(space: &Bare<'_>, run: Run) -> Option<Run>
@@ -92,8 +92,8 @@ fn step(space: &Bare<'_>, run: Run) -> Option<Run>
     }
 }
 
-/// The next free word behind the list that the pointer at a place names, and behind all below it, where pointer and
-/// content are those of the canonical layout that begins at the next free word; else none.
+/// The next free word after the list that the pointer at a place names, and after all below it, if pointer and content
+/// are those of the canonical layout that begins at the next free word; else none.
 #[cycle(checking)]
 #[inline(always)]
 fn check_many(
@@ -115,7 +115,7 @@ fn check_many(
     }
 }
 
-/// The same of a list of elements without pointers.
+/// The next free word after a list of elements without pointers that stands as it is laid out; else none.
 #[inline(always)]
 fn check_list(
     space: &Bare<'_>,
@@ -140,7 +140,7 @@ fn check_list(
     Some(next + bits.div_ceil(64) as u32)
 }
 
-/// The same of a list of pointers.
+/// The next free word after a list of pointers, and after all below it, if they stand as they are laid out; else none.
 #[cycle(checking)]
 #[inline(never)]
 fn check_links(space: &Bare<'_>, word: u64, count: u32, from: u32, next: u32) -> Option<u32>
@@ -160,7 +160,7 @@ fn check_links(space: &Bare<'_>, word: u64, count: u32, from: u32, next: u32) ->
     check_run(space, below)
 }
 
-/// The same of a list of structs.
+/// The next free word after a list of structs, and after all below it, if they stand as they are laid out; else none.
 #[cycle(checking)]
 #[inline(never)]
 fn check_composite(space: &Bare<'_>, word: u64, span: u32, from: u32, next: u32) -> Option<u32>
@@ -184,7 +184,8 @@ fn check_composite(space: &Bare<'_>, word: u64, span: u32, from: u32, next: u32)
     check_rows(space, first, tag.count, tag.words, tag.slots, end)
 }
 
-/// The same of the slots of so many rows that stand from a word on, below which the next free word is the end.
+/// The next free word after all that is below the slots of `count` rows, which stand from word `first` on, if all of it
+/// stands as it is laid out; else none. What is below the first of them has to begin at `end`.
 #[cycle(checking)]
 fn check_rows(
     space: &Bare<'_>,

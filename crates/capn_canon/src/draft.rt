@@ -11,7 +11,7 @@ use capn_value::Memory;
 use std::alloc::Allocator;
 use std::marker::Model;
 
-/// A list of words, kept as their bytes. A word that isn't known yet is any word: it is put over later.
+/// A list of words, kept as their bytes. A word that isn't known yet is any word: it is written over later.
 #[derive(Drop)]
 pub struct Draft<A: Allocator> {
     bytes: Vec<u8, A>,
@@ -29,7 +29,7 @@ impl<A: Allocator> Model for Draft<A> {
 }
 
 impl<A: Allocator> Draft<A> {
-    /// An empty buffer with room for so many words.
+    /// An empty buffer with room for `words` words.
     pub fn with_room(alloc: A, words: usize) -> Result<Draft<A>, Memory>
         ensures { IfOk result (λ d. d ≡ []) }
     {

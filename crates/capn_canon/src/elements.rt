@@ -9,7 +9,7 @@ use byteorder::{ByteOrder, LittleEndian};
 use capn_value::Memory;
 use std::alloc::Allocator;
 
-/// Appends zeros, so many and then up to a whole word, and answers the place of the first.
+/// Appends `size` zeros and more up to a whole word, and answers the place of the first.
 fn append_room<A: Allocator>(bytes: &mut Vec<u8, A>, size: usize) -> Result<usize, Memory>
     ensures start { IfOk result (λ start. start ≡ length bytes.old.items) }
     ensures small { OnOk result (length bytes.old.items + size < 2 ^ 63) }

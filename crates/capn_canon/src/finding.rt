@@ -8,7 +8,7 @@ ghost use Rattle.capn_walk.specs.declared.target.Target.{Target as Targets};
 use capn_walk::{Shape, Target, resolve};
 use capn_words::{Place, Pointer, Space, Width, split};
 
-/// Where an offset leads from the word behind a pointer.
+/// Where an offset leads from the word after a pointer.
 #[inline(always)]
 fn start_of(word: u32, offset: i32) -> u32
     requires { (start : ℕ) × (spec.moved word offset ≡ Ok start) × (start < 2 ^ 32) }

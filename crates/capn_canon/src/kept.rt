@@ -9,7 +9,7 @@ ghost use Rattle.capn_walk.specs.Shapes.{IsContent};
 
 use capn_words::{Place, Space};
 
-/// How many of so many words are left when the zeros at their end are cut, but no fewer than `least`.
+/// How many of `count` words are left when the zeros at their end are cut, but no fewer than `least`.
 #[inline(always)]
 pub fn kept_above<S: Space>(space: &S, at: Place, count: u32, least: u32) -> u32
     requires message { IsMessage (S.message space.now) }
@@ -31,7 +31,8 @@ pub fn kept_above<S: Space>(space: &S, at: Place, count: u32, least: u32) -> u32
     kept
 }
 
-/// The greatest length that is kept of a part of each of so many rows, which stand so many words apart.
+/// The greatest length that is kept of a part of `count` rows, which begin every `step` words. The part begins `inset`
+/// words into its row and has `size` words.
 pub fn kept_in_rows<S: Space>(
     space: &S,
     start: Place,

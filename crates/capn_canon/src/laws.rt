@@ -23,8 +23,8 @@ pub fn canonicity()
     ensures exactly { EqualExactlySame }
 {}
 
-/// Bytes denote one value at most, which fits, costs at most what its walk pays, and is not refused where
-/// it has no capability. Bytes are refused for one reason, but for want of memory.
+/// Bytes denote one value at most, which fits, costs at most what its walk pays, and is not refused where it has no
+/// capability. Bytes are refused for one reason, unless memory runs out.
 pub fn denotation()
     ensures form { DenotedHaveForms }
     ensures one { DenoteOne }

@@ -1,4 +1,4 @@
-//! The own words of an object, where its slots are still to be put over.
+//! The own words of an object, whose slots are still to be written over.
 
 ghost use Rattle.std.specs.Prelude.{◌≡◌, ℕ, ◌+◌, ◌*◌, ◌^◌, ◌<◌, ◌≤◌, ◌++◌, length, take, set, Some, IfOk, OnOk};
 ghost use Rattle.capn_words.specs.Message.{IsMessage};
@@ -25,8 +25,8 @@ pub struct SlotRun {
     pub count: u32,
 }
 
-/// Appends the first words of two parts of an object, the second of which stands behind the whole of the
-/// first. They are one piece where the first is kept whole.
+/// Appends the first words of two parts of an object, the second of which stands after the whole of the first. They are
+/// one piece if the first is kept whole.
 #[inline(always)]
 fn push_parts<S: Space, A: Allocator>(
     space: &S,
@@ -161,7 +161,7 @@ pub fn open_rows<S: Space, A: Allocator>(
     Ok(rows)
 }
 
-/// Appends what is kept of each of so many rows. Rows that are kept whole are one piece.
+/// Appends what is kept of each of `count` rows. Rows that are kept whole are one piece.
 fn push_rows<S: Space, A: Allocator>(
     space: &S,
     start: Place,

@@ -103,8 +103,7 @@ fn lay_object<S: Space, A: Allocator>(
     }
 }
 
-/// Puts the pointers of so many slots over the words that stand from a word on, and appends their content
-/// with all below it.
+/// Writes the pointers of `count` slots over the words from `first` on, and appends their content with all below it.
 #[cycle(placing)]
 fn lay_slots<S: Space, A: Allocator>(
     space: &S,
@@ -130,8 +129,8 @@ fn lay_slots<S: Space, A: Allocator>(
     Ok(())
 }
 
-/// Puts the pointers of the slots of so many rows over their words, row by row, and appends their content
-/// with all below it.
+/// Writes the pointers of the slots of `count` rows over their words, row by row, and appends their content with all
+/// below it.
 #[cycle(placing)]
 fn lay_rows<S: Space, A: Allocator>(
     space: &S,

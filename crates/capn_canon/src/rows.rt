@@ -31,7 +31,7 @@ pub fn tag_word(count: usize, words: usize, slots: usize) -> u64
     })
 }
 
-/// Appends a row's first words, and a hole for each of so many slots.
+/// Appends a row's first words, and a hole for each of `slots` slots.
 fn push_row<A: Allocator, B: Allocator>(
     patch: &mut Patch<A>,
     row: &Body<B>,
@@ -47,8 +47,7 @@ fn push_row<A: Allocator, B: Allocator>(
     Ok(())
 }
 
-/// Appends the tag and all rows, each cut to so many words and slots, and answers where the first row
-/// stands.
+/// Appends the tag and all rows, each cut to `words` words and `slots` slots, and answers where the first row stands.
 pub fn push_rows<A: Allocator, B: Allocator>(
     patch: &mut Patch<A>,
     rows: &[Body<B>],

@@ -2,19 +2,19 @@
 
 ghost use Rattle.std.specs.Prelude.{◌≡◌, ◌+◌, ◌^◌, ◌<◌};
 
-/// Slots that stand one behind the other, and the next free word, at which what is below them has to begin.
+/// Slots that stand one after the other, and the next free word, at which what is below them has to begin.
 #[derive(Clone, Copy)]
 pub struct Run {
     /// The first slot.
     pub from: u32,
-    /// The word behind the last slot.
+    /// The word after the last slot.
     pub end: u32,
     /// The next free word.
     pub next: u32,
 }
 
 impl Run {
-    /// The slots behind the first, with another next free word.
+    /// The slots after the first, with another next free word.
     #[inline(always)]
     pub fn behind(self, next: u32) -> Run
         requires { self.from < 2 ^ 29 }

@@ -47,7 +47,7 @@ pub fn leads_to(word: u64, from: u32, next: u32) -> bool
     word >> 2 & 0x3fff_ffff == (next - from - 1) as u64
 }
 
-/// Whether so many words from a place on are all kept: the last of them, if any, is not zero.
+/// Whether `count` words from a place on are all kept: the last of them, if any, is not zero.
 #[inline(always)]
 fn is_kept(space: &Bare<'_>, at: u32, count: u32) -> bool
     requires inside { at + count ≤ length space.now }
@@ -60,8 +60,8 @@ fn is_kept(space: &Bare<'_>, at: u32, count: u32) -> bool
 /// The pointer to a struct of no words and no slots: its offset is -1. (Page: canonicalization.)
 const EMPTY: u64 = 0xffff_fffc;
 
-/// Whether the pointer at the first slot of a run, to a struct of so many words and slots, is the one to the next free
-/// word, and the struct keeps all of them.
+/// Whether the pointer at the first slot of a run, to a struct of `words` words and `slots` slots, is the one to the
+/// next free word, and the struct keeps all of them.
 #[inline(always)]
 pub fn is_struct_at(space: &Bare<'_>, word: u64, words: u16, slots: u16, run: Run) -> bool
     requires { IsStruct space.now word words slots run }
@@ -77,7 +77,7 @@ pub fn is_struct_at(space: &Bare<'_>, word: u64, words: u16, slots: u16, run: Ru
     is_kept(space, run.next, words as u32) && is_kept(space, below, slots as u32)
 }
 
-/// Whether the pointer to a list is the one to the next free word, and there is room for so many words.
+/// Whether the pointer to a list is the one to the next free word, and there is room for its `words` words.
 fn is_list_at(space: &Bare<'_>, width: Width, count: u32, words: u32, from: u32, next: u32) -> bool
     requires message { IsMessage (space.now ∷ []) }
     requires few { count < 2 ^ 29 }
@@ -127,8 +127,8 @@ pub fn tag_of(word: u64) -> Tag
     }
 }
 
-/// How many words and slots of each row are kept, where it is all of them, the tag says so, the pointer is
-/// the one to the next free word, and there is room for the rows.
+/// Whether each row keeps all of its words and slots, the tag says so, the pointer is the one to the next free word,
+/// and there is room for the rows.
 pub fn are_rows_at(
     space: &Bare<'_>,
     start: Place,

@@ -1,4 +1,4 @@
--- Bytes that denote a value without capabilities are refused for want of memory alone.
+-- Bytes that denote a value without capabilities are refused only if memory runs out.
 use Rattle.std.proofs.Common.{◌≡◌, inl, inr, ℕ, ◌+◌, List, length, Some, None, refl, ap, sym, subst, ◌∙◌, arith}
 use Rattle.capn_words.specs.Laws.OneSegment.{bare_not_refused}
 use Rattle.capn_pack.specs.Laws.GroupLaws.{refused_only, one_reading}
@@ -72,7 +72,7 @@ accepted-not_refused m limits s h (inr r) =
     sym a ∙ b in
     absurd cc
 
--- bytes that denote a value without capabilities meet no refusal but want of memory
+-- bytes that denote a value without capabilities are refused only if memory runs out
 pub not_refused : (form : Form) (bs : List ℕ) (limits : Bounds) (v : Tree) (r : Refusal) → Denotes form bs limits v
     → first_cap v ≡ None → IsRefused form bs limits r → r ≡ refusals.Memory
 not_refused form bs limits v refusals.Memory h n r = refl

@@ -12,7 +12,7 @@ use Rattle.capn_canon.specs.Refused.{IsUnaccepted, IsUnacceptedIn}
 use Rattle.capn_canon.specs.Laws.OneReading.{one_message}
 use Rattle.capn_canon.specs.Laws.NotRefused.{read-not_misread, accepted-not_refused}
 
--- bytes that denote a value and are not read or not accepted meet want of memory
+-- bytes that denote a value are not read or not accepted only if memory runs out
 pub not_unaccepted : (form : Form) (bs : List ℕ) (limits : Bounds) (v : Tree) (r : Refusal) → Denotes form bs limits v
     → IsUnacceptedIn form bs limits r → r ≡ refusals.Memory
 not_unaccepted form bs limits v refusals.Memory h r = refl

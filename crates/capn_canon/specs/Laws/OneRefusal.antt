@@ -43,7 +43,7 @@ abbrev FramePart : List ℕ → ℕ → Refusal → Type 0
 FramePart bs most r = (e : FrameFault) × (r ≡ refusals.Frame e) × (e ≡ frame_faults.Memory → ⊥)
     × frames.IsRefused bs most e
 
--- it refuses bytes behind a frame
+-- it refuses bytes after a frame
 abbrev TrailPart : List ℕ → ℕ → Refusal → Type 0
 TrailPart bs most r = (at : ℕ) × (r ≡ refusals.Trailing at) × Trails bs most at
 
@@ -165,11 +165,11 @@ module _ (m : List (List ℕ)) (limits : Bounds) where
       ∙ stop-refused limits.budget visits t.fault t.place t.paid t.visits k.1 in
       same_stopped s t (cc) (cc) (cc) (cc)
 
--- it tells where and why the walk of a message stops
+-- it says where and why the walk of a message stops
 abbrev WalkPart : List (List ℕ) → Bounds → Refusal → Type 0
 WalkPart m limits r = (s : Stopped) × (r ≡ refusals.Walk s) × walks.IsRefused m limits s.fault s.place s.paid s.visits
 
--- it tells the first capability of the message's value
+-- it names the first capability of the message's value
 abbrev CapPart : List (List ℕ) → Bounds → Refusal → Type 0
 CapPart m limits r = (k : ℕ) × (r ≡ refusals.Capability k)
     × ((v : Tree) × walks.IsValueOf m limits v × (first_cap v ≡ Some k))
@@ -198,7 +198,7 @@ messages_same m limits r s (inr (j, a, (v, is, c))) (inr (k, b, (w, also, d))) =
     let same : j ≡ k = cc in
     a ∙ ap (λ (x : ℕ). refusals.Capability x) same ∙ sym b
 
--- a message is refused for one reason, but for want of memory
+-- a message is refused for one reason, unless memory runs out
 pub one_message_refusal : (m : List (List ℕ)) (limits : Bounds) (r s : Refusal) → (r ≡ refusals.Memory → ⊥)
     → (s ≡ refusals.Memory → ⊥)
     → IsRefusedMessage m limits r → IsRefusedMessage m limits s → r ≡ s
@@ -234,7 +234,7 @@ refusals_same form bs limits r s nr ns (inr h) (inl (m, k, j)) =
     absurd (not_misread form bs limits.message_words m r k h)
 refusals_same form bs limits r s nr ns (inr h) (inr k) = one_misread form bs limits.message_words r s h k
 
--- bytes are refused for one reason, but for want of memory
+-- bytes are refused for one reason, unless memory runs out
 pub one_refusal : (form : Form) (bs : List ℕ) (limits : Bounds) (r s : Refusal) → (r ≡ refusals.Memory → ⊥)
     → (s ≡ refusals.Memory → ⊥)
     → IsRefused form bs limits r → IsRefused form bs limits s → r ≡ s

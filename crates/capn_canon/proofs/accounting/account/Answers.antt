@@ -1,4 +1,4 @@
--- A survey of bytes tells of the one value that they denote.
+-- A survey of bytes speaks of the one value that they denote.
 use Rattle.std.proofs.Common.{arith}
 use Rattle.capn_canon.proofs.Accounted.{surveyed_only, surveyed_short}
 use Rattle.capn_canon.proofs.accounting.account.Goals as goal

@@ -1,4 +1,4 @@
--- Bare words want memory for a depth above 64 alone.
+-- Bare words need memory only for a depth above 64.
 use Rattle.std.proofs.Common.{rules, [], ◌∷◌, refl}
 use Rattle.capn_canon.proofs.Wanted.{deep}
 use Rattle.capn_canon.proofs.accounting.of_bare.Goals as goal

@@ -1,4 +1,4 @@
--- What is told or refused for the unpacked frame is so for the packed text.
+-- What is answered or refused for the unpacked frame is so for the packed text.
 use Rattle.std.proofs.Common.{arith}
 use Rattle.capn_canon.specs.Reads.{Unpacks}
 use Rattle.capn_canon.proofs.Accounted.{packed_surveyed}
