@@ -17,7 +17,7 @@ use Rattle.capn_tool.specs.Laws.Written.{kept}
 abbrev Ending : Type 0
 Ending = Result (Unit {0}) ToolFault
 
--- how a run ends behind the flush
+-- how a run ends after the flush
 abbrev Flushed : Ending → Ending → Type 0
 Flushed r s = (s ≡ r) ⊎ (s ≡ Err faults.Io)
 

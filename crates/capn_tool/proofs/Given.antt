@@ -16,7 +16,7 @@ use Rattle.capn_tool.specs.Reading.{HasGiven, HasGivenAll, IsUntaken, TakesAll}
 use Rattle.capn_tool.specs.declared.fault.ToolFault.{ToolFault}
 use Rattle.capn_tool.specs.declared.fault.ToolFault.TheVariants as faults
 
--- a reader has given bytes, so many, and the first of them are kept, at most so many
+-- a reader has given `len` bytes, and the first of them are kept, at most `most`
 pub record Kept (old new : Option (List ℕ)) (failed : Bool) (most len : ℕ) (kept : List ℕ) : Type 0 where
   pub seen : List ℕ
   pub given : HasGiven old new failed seen
@@ -24,7 +24,7 @@ pub record Kept (old new : Option (List ℕ)) (failed : Bool) (most len : ℕ) (
   pub first : take most seen ≡ kept
   pub room : length kept ≤ most
 
--- a reader has given bytes, so many, of which these words are unpacked and the beginning of a group is held
+-- a reader has given `taken` bytes, of which these words are unpacked and the beginning of a group is held
 pub record Unpacked (old new : Option (List ℕ)) (failed : Bool) (most taken : ℕ) (words : List ℕ) (len : ℕ)
     (held : List ℕ) (at left : ℕ) (long : Bool) : Type 0 where
   pub seen : List ℕ

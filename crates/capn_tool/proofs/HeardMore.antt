@@ -29,7 +29,7 @@ every_append P [] ys f g = g
 every_append P (x ∷ xs) ys f g = (f.0, every_append P xs ys f.1 g)
 
 module _ (piece : Piece) (limits : Bounds) where
-  -- parts of a stream, and parts of what was left of it with more behind it
+  -- parts of a stream, and parts of what was left of it with more after it
   pub parts_more : (s mid x rest : List ℕ) (ps qs : List Part) → AreParts piece limits s ps mid
       → AreParts piece limits (mid ++ x) qs rest → AreParts piece limits (s ++ x) (ps ++ qs) rest
   parts_more s mid x rest ps qs f g = record {
@@ -69,7 +69,7 @@ module _ (piece : Piece) (limits : Bounds) where
     subst (Adds a b) (sym (append-nil text)) wrote,
   )
 
-  -- what is due behind the parts of a stream is due behind them in all of it
+  -- if output is right for what the parts of a stream leave, the parts' texts and it are right for all of the stream
   pub due_behind : (s mid x : List ℕ) (a b c : Outgoing) (behind : Option ToolFault)
       (ending : Result (Unit {0}) ToolFault) → Tells piece limits s mid a b
       → (text : List ℕ) × IsDueEach piece limits (mid ++ x) behind text ending × Adds b c text → (text : List ℕ)
@@ -97,7 +97,7 @@ module _ (piece : Piece) (limits : Bounds) where
         subst (Breaks a c behind.0) (sym (flat_map-append text_of told.0 parts)) behind.1,
       )
 
-  -- where a run stops behind the parts of a stream it stops in all of it
+  -- if a run stops after the parts of a stream, it stops there in all of it
   pub stops_more : (s mid x : List ℕ) (a b c : Outgoing) (failed : Bool) (fault : ToolFault)
       → Tells piece limits s mid a b → Stops piece limits (mid ++ x) b c failed fault
       → Stops piece limits (s ++ x) a c failed fault

@@ -27,7 +27,7 @@ use Rattle.capn_tool.proofs.Sends.{adds_all, breaks_rest}
 use Rattle.capn_tool.proofs.HeardMore.{tells_more, tells_none, tells_one, stops_framed, stops_memory, stops_more}
 use Rattle.capn_tool.proofs.HeardMore.{stops_piece}
 
--- what is left behind a frame that was taken is no frame
+-- what is left after a frame that was taken is no frame
 empty_unfinished : (most : ℕ) → IsUnfinished [] most
 empty_unfinished most = inl refl
 
@@ -242,7 +242,7 @@ pub some_none : (n size : ℕ) (rest : List ℕ) → (n ≡ size) ⊎ (rest ≡ 
 some_none n size rest (inl all) other = absurd (other all)
 some_none n size rest (inr none) other = none
 
--- the message that had begun, and those that lie whole behind it
+-- the message that had begun, and those that lie whole after it
 module _ (piece : Piece) (limits : Bounds) (first after : Framing) (bytes : List ℕ) (n : ℕ) (a b c : Outgoing)
     (told : Tells piece limits (first.rest ++ take n bytes) after.rest a b) (none : after.rest ≡ []) where
   begun : Tells piece limits (first.rest ++ take n bytes) [] a b

@@ -78,7 +78,7 @@ module _ (piece : Piece) (limits : Bounds) where
   stops_front stream c d true fault stop = stop.front refl
   stops_front stream c d false fault stop = let all = stop.told refl in tells_front stream all.0 c d all.1
 
-  -- a beginning of what is due was written
+  -- a beginning of the output was written
   begins_front : (a b c d : Option (List ℕ)) (all s : List ℕ) → Consumes a b all → length all ≤ 2 ^ 32 + 1
       → taken_of all ≡ s → TellsFront piece limits s (sent c) (sent d) → PlanBegins (plans.Each piece limits) a b c d
   begins_front a b c d all s read bound is (parts, rest, count, are, wrote) = (
@@ -125,7 +125,7 @@ module _ (piece : Piece) (limits : Bounds) where
 
   -- ---- how a run ends
 
-  -- the reader failed: all that is due for what it gave is written
+  -- the reader failed: all of the output for what it gave is written
   pub runs_unread : (a b b2 c d : Option (List ℕ)) (taken : ℕ) (rest : List ℕ) (reader_failed writer_failed : Bool)
       → reader_failed ≡ true → taken ≤ 2 ^ 32 → Hears piece limits a b taken rest c d
       → IsUnfinished rest limits.message_words → Keeps b b2
@@ -195,7 +195,7 @@ module _ (piece : Piece) (limits : Bounds) where
         heard = λ h. absurd (not_failed reader_failed writer_failed reader_fine writer_fine (inl h));
       }
 
-  -- a byte past 2^32 was read, behind messages that were served
+  -- a byte past 2^32 was read, after messages that were served
   pub due_long : (stream rest : List ℕ) (c d : Option (List ℕ)) → Tells piece limits stream rest (sent c) (sent d)
       → IsUnfinished rest limits.message_words → (text : List ℕ)
       × IsDueEach piece limits stream (Some faults.InputTooLong) text (Err faults.InputTooLong) × Appends c d text

@@ -165,7 +165,7 @@ one_due_whole whole bytes false t u (Err f) (Err g) h k =
 -- ---- a stream
 
 module _ (piece : Piece) (limits : Bounds) (last : Option ToolFault) where
-  -- how a run ends behind the parts
+  -- how a run ends after the parts
   abbrev Behind : List ℕ → Result (Unit {0}) ToolFault → Type 0
   Behind rest ending = EndsUnframed limits rest last ending ⊎ EndsRefused piece limits rest ending
 
@@ -257,7 +257,7 @@ one_due (plans.Packed piece limits) bytes is_longer t u r s h k =
     second in
     one_due_each piece limits (behind_packed is_longer k.group k.at) k.words t u r s third k.due
 
--- a run that ended as is due ended so, and wrote that text, whichever is due
+-- a run that ended as it must wrote the text and ended as the input says, whichever text and ending are right
 ends_by : (command : Command) (old new : Option (List ℕ)) (r : Result (Unit {0}) ToolFault) (input t : List ℕ)
     (s : Result (Unit {0}) ToolFault) → EndsAs command old new r input → IsText command input t s → EndsBy t s old new r
 ends_by command old new r input t s (inl m) k = inl m

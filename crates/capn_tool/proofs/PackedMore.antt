@@ -19,7 +19,7 @@ use Rattle.capn_tool.specs.declared.fault.ToolFault.TheVariants as faults
 use Rattle.capn_tool.proofs.HeardMore.{every_append, stops_memory, stops_more, tells_more, tells_none}
 use Rattle.capn_tool.proofs.HeardNext.{stops_broken, stops_kept, stops_sent, tells_broken, tells_sent}
 
--- the words behind those that were there
+-- the words after those that were there
 shifted : (stream rest words old : List ℕ) (len : ℕ) → Splits stream rest [] words len
     → Splits stream rest old (old ++ words) len
 shifted stream rest words old len s = record {
@@ -31,7 +31,7 @@ shifted stream rest words old len s = record {
   open_rest = s.open_rest;
 }
 
--- whole groups, and then a beginning of what was left with more behind it
+-- whole groups, and then a beginning of what was left with more after it
 begins_then : (stream rest more words next : List ℕ) (len : ℕ) → Splits stream rest [] words len
     → Begins (rest ++ more) [] next → Begins (stream ++ more) [] (words ++ next)
 begins_then stream rest more words next len s b = record {

@@ -85,7 +85,7 @@ module _ (piece : Piece) (limits : Bounds) where
     },
   )
 
-  -- what is due for the words is due for the bytes
+  -- the output for the words is the output for the bytes
   due_packed : (s rest : List ℕ) (held : Held) (is_longer : Bool) (ending : Result (Unit {0}) ToolFault)
       (c d : Option (List ℕ)) (told : TellsPacked piece limits fresh [] s held rest (sent c) (sent d))
       → (text : List ℕ) × IsDueEach piece limits told.0 (behind_packed is_longer held.rest told.1) text ending

@@ -1,4 +1,4 @@
--- A run ends as all that its reader had to give is due.
+-- A run ends as it must for all that its reader had to give.
 use Rattle.std.proofs.Common.{◌≡◌, ◌⊎◌, inl, inr, ℕ, ◌+◌, ◌≤◌, ◌^◌, List, [], Bool, Option, None, Some, IfSome, Result}
 use Rattle.std.proofs.Common.{Err, refl, ap, sym, subst}
 use Rattle.std.proofs.KnownBytes.{Appends-nil}
@@ -50,7 +50,7 @@ begins_kept plan old new writer written kept is_longer (bytes, k) h = (
   },
 )
 
--- and a run that ended so ended as all that the reader had to give is due
+-- and a run that ended like this ended as it must for all that the reader had to give
 pub ends_kept : (plan : Plan) (old new writer written : Option (List ℕ)) (kept : List ℕ) (is_longer : Bool)
     (r : Result (Unit {0}) ToolFault) → (bytes : List ℕ) × Kept old new kept is_longer bytes
     → HasEnded plan kept is_longer writer written r → IfSome old (PlanEndsAs plan writer written r)

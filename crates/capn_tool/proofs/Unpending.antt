@@ -31,7 +31,7 @@ begins_pending most = record {
   begun = inl refl;
 }
 
--- the words that a tag announces, by the bytes that tell them
+-- the words that a tag announces, by the bytes that give their number
 abbrev announced : ℕ → ℕ → ℕ → ℕ
 announced tag zeros raw = if tag == 0 then 1 + zeros else (if tag == 255 then 1 + raw else 1)
 
@@ -76,7 +76,7 @@ refused_stays most seen more at s = record {
 
 module _ (most : ℕ) (seen words held piece : List ℕ) (at left : ℕ) (h : Holds most seen words held at left)
     (new : List ℕ) (taken count : ℕ) where
-  -- what is behind the groups that a piece made whole
+  -- what follows the groups that a piece made whole
   split : (groups : List Group) → take taken (held ++ piece) ≡ texts groups
       → seen ++ piece ≡ texts (h.groups ++ groups) ++ drop taken (held ++ piece)
   split groups e =
@@ -137,7 +137,7 @@ module _ (most : ℕ) (seen words held piece : List ℕ) (at left : ℕ) (h : Ho
     fault = u.stops;
   }
 
--- the input ends behind whole groups
+-- the input ends after whole groups
 pub all_unpacked : (most : ℕ) (seen words held : List ℕ) (at left : ℕ) → Holds most seen words held at left
     → length held ≡ 0 → Packs seen words × (length words ≤ 8 * most)
 all_unpacked most seen words held at left h none = (

@@ -1,4 +1,4 @@
--- Faults that lower calls tell.
+-- Faults that lower calls report.
 use Rattle.std.proofs.Common.{◌≡◌, inl, inr, ℕ, List}
 use Rattle.capn_tool.specs.Pieces.{IsNoPiece}
 use Rattle.capn_tool.specs.Wholes.{MakesNothing}
@@ -11,7 +11,7 @@ use Rattle.capn_canon.specs.declared.refusal.Refusal.{Refusal}
 use Rattle.capn_tool.specs.declared.fault.ToolFault.{ToolFault}
 use Rattle.capn_tool.specs.declared.fault.ToolFault.TheVariants as faults
 
--- a fault that a lower call told is none of the reader's and writer's
+-- a fault that a lower call reported is none of the reader's and writer's
 pub record IsTold (fault : ToolFault) : Type 0 where
   pub no_io : fault ≡ faults.Io → ⊥
 
@@ -24,7 +24,7 @@ told_refused fault r e = record { no_io = λ h. cc }
 told_not_whole : (fault : ToolFault) (n : ℕ) → fault ≡ faults.NotWhole n → IsTold fault
 told_not_whole fault n e = record { no_io = λ h. cc }
 
--- why a message has no piece is told,
+-- why a message has no piece is reported,
 pub told_piece : (piece : Piece) (message : List (List ℕ)) (limits : Bounds) (fault : ToolFault)
     → IsNoPiece piece message limits fault → IsTold fault
 told_piece kinds.Text message limits fault h = told_refused fault _ h.1

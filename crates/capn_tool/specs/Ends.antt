@@ -30,7 +30,7 @@ course before after failed = record { before = before; after = after; failed = f
 abbrev pub IsUntouched : Course → Type 0
 IsUntouched end = (end.after ≡ end.before) × (end.failed ≡ false)
 
--- an input has one text and one ending, and these have come, but for want of memory and an input or output that failed
+-- an input has one text and one ending, and these have come, unless memory ran out or an input or output failed
 abbrev pub EndsOnly : Command → Option (List ℕ) → Option (List ℕ) → Result (Unit {0}) ToolFault → List ℕ → Type 0
 EndsOnly command c d outcome input =
     (text : List ℕ) (due : Result (Unit {0}) ToolFault) → IsText command input text due → EndsBy text due c d outcome
@@ -51,8 +51,8 @@ pub record CarriesOut (command : Command) (input output : Course) (outcome : Res
   pub begun : Begins command input.before input.after output.before output.after
   pub heard : input.failed ≡ true → KeepsUp command input.before input.after output.before output.after
 
--- The words order a command. It was carried out, over the input and the output. The status is that of how it ended, and
--- so is what was told on the errors.
+-- The words name a command. It was carried out, over the input and the output. The status is that of how it ended, and
+-- so is what was written to the errors.
 pub record EndsOrdered (words : List Text) (input output errors : Course) (status : ℕ) : Type 0 where
   pub command : Command
   pub outcome : Result (Unit {0}) ToolFault
@@ -73,15 +73,15 @@ ShowsHelp output (Err faults.InputTooLong) = ⊥
 ShowsHelp output (Err (faults.NotWhole n)) = ⊥
 ShowsHelp output (Err (faults.Refused refusal)) = ⊥
 
--- help was wished for: it was shown, and how that ended was told and is the status
+-- help was asked for: it was shown, and how that ended was reported and is the status
 pub record EndsHelp (output errors : Course) (status : ℕ) : Type 0 where
   pub outcome : Result (Unit {0}) ToolFault
   pub shown : ShowsHelp output outcome
   pub told : Tells outcome errors.before errors.after errors.failed
   pub is : status ≡ status_of outcome
 
--- a text was told on the errors, or the line of Memory if there was no memory for the text; or a beginning of that,
--- where the errors have failed
+-- a text was written to the errors, or the line of Memory if there was no memory for the text; or a beginning of that,
+-- if the errors have failed
 abbrev pub TellsText : Course → Type 0
 TellsText errors = ((text : List ℕ) × TellsLine text errors.before errors.after errors.failed)
     ⊎ TellsLine (fault_line faults.Memory) errors.before errors.after errors.failed

@@ -1,4 +1,4 @@
--- A stream of messages that is read in pieces: what has been told of the bytes that came. (Own.)
+-- A stream of messages that is read in pieces: what has been written for the bytes that came. (Own.)
 use Rattle.std.specs.Prelude.{◌≡◌, ◌≢◌, ◌⊎◌, ◌↔◌, ℕ, ◌<◌, ◌≤◌, List, [], ◌++◌, length, take, drop, Bool, true}
 use Rattle.std.specs.Prelude.{false, Option, IfSome, Result, Ok, Err}
 use Rattle.std.specs.Io.KnownBytes.{Consumes, Appends}
@@ -30,13 +30,14 @@ TellsFront piece limits stream old new =
     (parts : List Part) × (rest : List ℕ) × (count : ℕ) × AreParts piece limits stream parts rest
     × Breaks old new count (texts_of parts)
 
--- a stream that begins so, however it goes on, is due the text that was added and this ending
+-- the output for a stream that begins like this, whatever follows, is the text that was added, and this is its ending
 abbrev pub IsDueSo : Piece → Bounds → List ℕ → Outgoing → Outgoing → ToolFault → Type 0
 IsDueSo piece limits stream old new fault =
     (more : List ℕ) (behind : Option ToolFault) → (text : List ℕ)
     × IsDueEach piece limits (stream ++ more) behind text (Err fault) × Adds old new text
 
--- a run over a stream that begins so stopped: memory was refused, the writer failed, or nothing else is due
+-- a run over a stream that begins like this stopped: memory was refused, the writer failed, or there is no more output
+-- for it
 pub record Stops (piece : Piece) (limits : Bounds) (stream : List ℕ) (old new : Outgoing) (failed : Bool)
     (fault : ToolFault) : Type 0 where
   pub told : failed ≡ false → (rest : List ℕ) × Tells piece limits stream rest old new
@@ -59,7 +60,7 @@ pub record IsListening (framer : Framing) (limits : Bounds) : Type 0 where
   pub part : IsUnfinished framer.rest limits.message_words
   pub most : framer.most ≡ limits.message_words
 
--- bytes behind what a framer holds were served: all that they made whole, or up to where the run stopped
+-- bytes that follow what a framer holds were served: all that they made whole, or up to where the run stopped
 abbrev pub Serves : Piece → Bounds → Framing → List ℕ → Outgoing → Outgoing → Bool → Result (Unit {0}) ToolFault
     → Framing → Type 0
 Serves piece limits before bytes old new failed (Ok u) after =
@@ -67,7 +68,7 @@ Serves piece limits before bytes old new failed (Ok u) after =
 Serves piece limits before bytes old new failed (Err fault) after =
     Stops piece limits (before.rest ++ bytes) old new failed fault
 
--- so many bytes were served, up to a whole message or to their end
+-- some of the bytes were served, up to a whole message or to their end; the answer is how many
 abbrev pub ServesNext : Piece → Bounds → Framing → List ℕ → Outgoing → Outgoing → Bool → Result ℕ ToolFault → Framing
     → Type 0
 ServesNext piece limits before bytes old new failed (Ok n) after =
@@ -92,21 +93,21 @@ ServesWhole piece limits bytes old new failed (Ok n) = (n ≤ length bytes) × T
     × (failed ≡ false) × HasNoFrame limits (drop n bytes)
 ServesWhole piece limits bytes old new failed (Err fault) = Stops piece limits bytes old new failed fault
 
--- all that is due for the bytes that a reader gave was written
+-- all of the output for the bytes that a reader gave was written
 abbrev pub HasKeptUp : Plan → Option (List ℕ) → Option (List ℕ) → Option (List ℕ) → Option (List ℕ) → Type 0
 HasKeptUp plan a b c d =
     (bytes : List ℕ) × (text : List ℕ) × (due : Result (Unit {0}) ToolFault) × Consumes a b bytes
     × IsDue plan (taken_of bytes) (has_more bytes) text due
     × Appends c d text
 
--- all that is due for the bytes that a reader gave was written, where they are taken message by message, and nothing
--- where they are taken whole
+-- all of the output for the bytes that a reader gave was written, if they are taken message by message, and nothing if
+-- they are taken whole
 abbrev pub PlanKeepsUp : Plan → Option (List ℕ) → Option (List ℕ) → Option (List ℕ) → Option (List ℕ) → Type 0
 PlanKeepsUp (plans.Whole whole) a b c d = Appends c d []
 PlanKeepsUp (plans.Each piece limits) a b c d = HasKeptUp (plans.Each piece limits) a b c d
 PlanKeepsUp (plans.Packed piece limits) a b c d = HasKeptUp (plans.Packed piece limits) a b c d
 
--- the same of a command, by its plan
+-- a run of a command has kept up with its reader as its plan does
 abbrev pub KeepsUp : Command → Option (List ℕ) → Option (List ℕ) → Option (List ℕ) → Option (List ℕ) → Type 0
 KeepsUp command a b c d = PlanKeepsUp (plan_of command) a b c d
 
@@ -124,7 +125,7 @@ EndsInput rest most (Ok u) = frame_rules.IsRefused rest most frames.Empty
 EndsInput rest most (Err fault) = frame_rules.IsRefused rest most frames.Cut
     × (fault ≡ faults.Refused (refusals.Frame frames.Cut))
 
--- a reader gave bytes, so many, and the pieces of the whole messages in them were written
+-- a reader gave bytes, and their number is known; the pieces of the whole messages in them were written
 abbrev pub Hears : Piece → Bounds → Option (List ℕ) → Option (List ℕ) → ℕ → List ℕ → Option (List ℕ) → Option (List ℕ)
     → Type 0
 Hears piece limits a b taken rest c d = (bytes : List ℕ) × Consumes a b bytes × (length bytes ≡ taken)

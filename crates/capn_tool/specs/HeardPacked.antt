@@ -1,5 +1,5 @@
--- A packed stream that is read in pieces: what has been told of the words of its whole groups. (Own.) No
--- public clause cites this.
+-- A packed stream that is read in pieces: what has been written for the words of its whole groups. (Own.) No public
+-- clause cites this.
 use Rattle.std.specs.Prelude.{◌≡◌, ◌≢◌, ℕ, ◌<◌, ◌^◌, List, [], ◌++◌, length, Bool, false, Option, Result, Ok, Err}
 use Rattle.capn_walk.specs.Limits.{Bounds}
 use Rattle.capn_pack.specs.Stream.{Begins, Held, NoGroupFirst, Splits, advanced}
@@ -21,8 +21,8 @@ pub record IsUnpacking (unpacker : Held) : Type 0 where
   pub group : NoGroupFirst unpacker.rest
   pub offset : unpacker.offset < 2 ^ 64
 
--- bytes behind an unfinished group and an unfinished message: their whole groups have words, of whose whole messages
--- the pieces were added; this is held of the group, and so much of the message, then
+-- bytes that follow an unfinished group and an unfinished message: their whole groups have words, and for the whole
+-- messages of these the pieces were added; then this much is held of the next group, and this much of the next message
 abbrev pub TellsPacked : Piece → Bounds → Held → List ℕ → List ℕ → Held → List ℕ → Outgoing → Outgoing → Type 0
 TellsPacked piece limits held rest bytes next left old new =
     (words : List ℕ) × (len : ℕ) × Splits (held.rest ++ bytes) next.rest [] words len
@@ -47,7 +47,8 @@ ServesPacked piece limits held before bytes old new failed (Err fault) next afte
 abbrev pub fresh : Held
 fresh = record { rest = []; offset = 0; failed = false }
 
--- a reader gave bytes, so many, and the pieces of the whole messages in the words of their whole groups were written
+-- a reader gave bytes, and their number is known; the pieces of the whole messages in the words of their whole groups
+-- were written
 abbrev pub HearsPacked : Piece → Bounds → Option (List ℕ) → Option (List ℕ) → ℕ → Held → List ℕ → Option (List ℕ)
     → Option (List ℕ) → Type 0
 HearsPacked piece limits a b taken held rest c d =

@@ -57,7 +57,7 @@ unpack_line = with_rule (new_app (codes "unpack")) words_rule
 abbrev pub top_line : App
 top_line = let a = new_app (codes "capn") in record a { top = record a.top { subcommand_required = true } }
 
--- the program with the commands that tell what messages hold and cost
+-- the program with the commands that report what messages hold and cost
 abbrev pub reading_line : App
 reading_line =
     let with_show = with_subcommand top_line (message_line (codes "show")).top in

@@ -17,18 +17,18 @@ error_of usage = usage.error
 abbrev pub WantsMemory : Usage → Type 0
 WantsMemory usage = kind_of (error_of usage) ≡ kinds.OutOfMemory
 
--- nothing is wrong with the words: they wish for help
+-- nothing is wrong with the words: they ask for help
 abbrev pub WishesHelp : Usage → Type 0
 WishesHelp usage = kind_of (error_of usage) ≡ kinds.DisplayHelp
 
--- a reason of this kind why the words order nothing: memory was refused; or it is among those of the parser's first
--- step that fails, a wish for help being one; or no step fails, and with the value of an option they mean no command
+-- a reason of this kind why the words name no command: memory was refused; or it is among those of the parser's first
+-- step that fails, a request for help being one; or no step fails, and with the value of an option they mean no command
 abbrev pub IsReason : List Text → ErrorKind → Type 0
 IsReason words kind = (kind ≡ kinds.OutOfMemory) ⊎ (IsAmong kind (fault_of tool_line words)
     ⊎ ((fault_of tool_line words ≡ []) × (kind ≡ kinds.InvalidValue)
     × ((command : Command) → Means (subcommand_of tool_line words) command → ⊥)))
 
--- a call gave the command, or told want of memory
+-- a call gave the command, or reported that memory ran out
 abbrev pub Orders : Command → Result Command Usage → Type 0
 Orders command (Ok given) = given ≡ command
 Orders command (Err usage) = WantsMemory usage

@@ -5,8 +5,8 @@ use Rattle.capn_pack.specs.Group.{Group, IsGroup}
 use Rattle.capn_pack.specs.Packs.{texts, contents, word_count}
 use Rattle.capn_pack.specs.Refusal.{IsCut, IsTooLong, Stands}
 
--- The bytes so far are whole groups, of these words, and then what is held: nothing, or the beginning of a group. So
--- many words are left of the maximum.
+-- The bytes so far are whole groups, of these words, and then what is held: nothing, or the beginning of a group.
+-- `left` words are left of the maximum.
 pub record Holds (most : ℕ) (seen words held : List ℕ) (at left : ℕ) : Type 0 where
   pub groups : List Group
   pub each : AllByRecursion IsGroup groups

@@ -51,7 +51,7 @@ IsStopped message limits fault =
     (s : Stopped) × (fault ≡ faults.Refused (refusals.Walk s))
     × walks.IsRefused message limits s.fault s.place s.paid s.visits
 
--- why a run stops whose walk has stopped so: for want of memory exactly where the walk did
+-- why a run stops if its walk has stopped like this: memory ran out if and only if it did for the walk
 abbrev pub TellsStop : Stopped → ToolFault → Type 0
 TellsStop s fault =
     ((s.fault ≡ walk_faults.Memory) × (fault ≡ faults.Memory))
@@ -69,7 +69,7 @@ abbrev pub AreCanonical : Tree → List ℕ → Type 0
 AreCanonical v words = (first_cap v ≡ None) × (canon v ≡ bytes words)
 
 -- What is written of the one bare message of these words: as of any message, but the line of its price has one word
--- more, which tells whether the words are canonical.
+-- more, which says whether the words are canonical.
 abbrev pub IsBarePiece : Piece → List ℕ → Bounds → List ℕ → Type 0
 IsBarePiece kinds.Text words limits text = IsPiece kinds.Text (words ∷ []) limits text
 IsBarePiece kinds.Price words limits text =
@@ -82,7 +82,7 @@ IsBarePiece kinds.Price words limits text =
     (codes " not-canonical" ++ 10 ∷ []))))
 IsBarePiece kinds.Digest words limits text = IsPiece kinds.Digest (words ∷ []) limits text
 
--- a call appended the piece to a text; or it told why there is none, but for want of memory, and left the text as it
+-- a call appended the piece to a text; or it reported why there is none, unless memory ran out, and left the text as it
 -- was
 abbrev pub PutsPiece : Piece → List (List ℕ) → Bounds → List ℕ → List ℕ → Result (Unit {0}) ToolFault → Type 0
 PutsPiece piece message limits old new (Ok u) = (text : List ℕ) × IsPiece piece message limits text
@@ -90,19 +90,20 @@ PutsPiece piece message limits old new (Ok u) = (text : List ℕ) × IsPiece pie
 PutsPiece piece message limits old new (Err fault) =
     ((fault ≡ faults.Memory) ⊎ IsNoPiece piece message limits fault) × (new ≡ old)
 
--- the same of the one bare message
+-- a call appended the piece of the one bare message to a text; or it reported why there is none, unless memory ran out,
+-- and left the text as it was
 abbrev pub PutsBarePiece : Piece → List ℕ → Bounds → List ℕ → List ℕ → Result (Unit {0}) ToolFault → Type 0
 PutsBarePiece piece words limits old new (Ok u) = (text : List ℕ) × IsBarePiece piece words limits text
     × (new ≡ old ++ text)
 PutsBarePiece piece words limits old new (Err fault) =
     ((fault ≡ faults.Memory) ⊎ IsNoPiece piece (words ∷ []) limits fault) × (new ≡ old)
 
--- a line was appended to a text, or, for want of memory, nothing
+-- a line was appended to a text, or nothing if memory ran out
 abbrev pub PutsLine : List ℕ → List ℕ → List ℕ → Result (Unit {0}) ToolFault → Type 0
 PutsLine line old new (Ok u) = new ≡ old ++ line
 PutsLine line old new (Err fault) = (fault ≡ faults.Memory) × (new ≡ old)
 
--- a line was appended to a text, or, for want of memory, something
+-- a line was appended to a text, or any bytes if memory ran out
 abbrev pub PutsFront : {E : Type 0} → List ℕ → List ℕ → List ℕ → Result (Unit {0}) E → Type 0
 PutsFront line old new (Ok u) = new ≡ old ++ line
 PutsFront line old new (Err e) = (some : List ℕ) × (new ≡ old ++ some)

@@ -50,7 +50,7 @@ TakesAll P old new failed (Ok x) = (bytes : List ℕ) × HasGivenAll old new fai
 TakesAll P old new failed (Err fault) = IsUntaken old new failed fault
     ⊎ ((bytes : List ℕ) × HasGivenAll old new failed bytes × P bytes (Err fault))
 
--- the first bytes, at most so many, and the number of all
+-- the first bytes, at most `most`, and the number of all
 abbrev pub IsBeginning : {A : Type 0} → ℕ → List ℕ → Result (Input A) ToolFault → Type 0
 IsBeginning most bytes (Ok input) = (take most bytes ≡ input.bytes.items) × (length bytes ≡ input.len)
 IsBeginning most bytes (Err fault) = ⊥

@@ -22,7 +22,7 @@ sent taken = outgoing taken []
 abbrev pub Adds : Outgoing → Outgoing → List ℕ → Type 0
 Adds old new text = (written : List ℕ) × Appends old.taken new.taken written × (written ++ new.kept ≡ old.kept ++ text)
 
--- a text was added, and the writer failed behind so many bytes of what was kept and of it
+-- a text was added, and the writer failed after `count` bytes of what was kept and of it
 abbrev pub Breaks : Outgoing → Outgoing → ℕ → List ℕ → Type 0
 Breaks old new count text = Appends old.taken new.taken (take count (old.kept ++ text))
 

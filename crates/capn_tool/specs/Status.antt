@@ -14,7 +14,7 @@ status_of (Err faults.InputTooLong) = 3
 status_of (Err (faults.NotWhole n)) = 1
 status_of (Err (faults.Refused refusal)) = 1
 
--- where the words of the command line order nothing: 3 for want of memory, 0 for a wish for help, 2 for any other
+-- if the words of the command line name no command: 3 if memory ran out, 0 for a request for help, 2 for any other
 -- (Own.)
 abbrev pub usage_status_of : ErrorKind → ℕ
 usage_status_of kinds.OutOfMemory = 3

@@ -35,7 +35,7 @@ text_of part = part.text
 abbrev pub frames_of : List Part → List ℕ
 frames_of parts = flat_map frame_of parts
 
--- the texts, one behind the other
+-- the texts, one after the other
 abbrev pub texts_of : List Part → List ℕ
 texts_of parts = flat_map text_of parts
 
@@ -45,7 +45,7 @@ pub record IsPart (piece : Piece) (limits : Bounds) (part : Part) : Type 0 where
   pub room : total part.message ≤ limits.message_words
   pub text : IsPiece piece part.message limits part.text
 
--- the bytes are a row of frames, each of a message that has a piece, and what is left behind these
+-- the bytes are a row of frames, each of a message that has a piece, and what is left after these
 pub record AreParts (piece : Piece) (limits : Bounds) (bytes : List ℕ) (parts : List Part) (rest : List ℕ) : Type 0
   where
     pub each : AllByRecursion (IsPart piece limits) parts

@@ -40,22 +40,22 @@ IsDue (plans.Packed piece limits) bytes is_longer text ending = IsDuePacked piec
 abbrev pub IsText : Command → List ℕ → List ℕ → Result (Unit {0}) ToolFault → Type 0
 IsText command input text ending = IsDue (plan_of command) (taken_of input) (has_more input) text ending
 
--- a run has written what is due and ended as is due, but for want of memory and a reader or writer that failed
+-- a run has written its output and ended as it must, unless memory ran out or a reader or writer failed
 abbrev pub HasEnded : Plan → List ℕ → Bool → Option (List ℕ) → Option (List ℕ) → Result (Unit {0}) ToolFault → Type 0
 HasEnded plan bytes is_longer old new ending =
     (ending ≡ Err faults.Memory)
     ⊎ ((ending ≡ Err faults.Io) ⊎ ((text : List ℕ) × IsDue plan bytes is_longer text ending × Appends old new text))
 
--- the same of a plan and the whole input
+-- a run of a plan has ended as it must for the whole input
 abbrev pub PlanEndsAs : Plan → Option (List ℕ) → Option (List ℕ) → Result (Unit {0}) ToolFault → List ℕ → Type 0
 PlanEndsAs plan old new ending input = HasEnded plan (taken_of input) (has_more input) old new ending
 
--- the same of a command, by its plan
+-- a run of a command has ended as its plan must
 abbrev pub EndsAs : Command → Option (List ℕ) → Option (List ℕ) → Result (Unit {0}) ToolFault → List ℕ → Type 0
 EndsAs command old new ending input = PlanEndsAs (plan_of command) old new ending input
 
--- a run that ended so wrote this text and ended as is due with it, but for want of memory and a reader or writer
--- that failed
+-- a run that ended like this wrote this text and ended as it must with it, unless memory ran out or a reader or writer
+-- failed
 abbrev pub EndsBy : List ℕ → Result (Unit {0}) ToolFault → Option (List ℕ) → Option (List ℕ)
     → Result (Unit {0}) ToolFault → Type 0
 EndsBy text due old new ending =
@@ -87,6 +87,6 @@ pub record Begun (plan : Plan) (old_reader new_reader old_writer new_writer : Op
 abbrev pub PlanBegins : Plan → Option (List ℕ) → Option (List ℕ) → Option (List ℕ) → Option (List ℕ) → Type 0
 PlanBegins plan a b c d = (bytes : List ℕ) × Begun plan a b c d bytes
 
--- the same of a command, by its plan
+-- a run of a command has written a beginning of its output, by its plan
 abbrev pub Begins : Command → Option (List ℕ) → Option (List ℕ) → Option (List ℕ) → Option (List ℕ) → Type 0
 Begins command a b c d = PlanBegins (plan_of command) a b c d

@@ -1,4 +1,4 @@
--- The texts that tell why a run stopped. (Own.)
+-- The texts that say why a run stopped. (Own.)
 use Rattle.std.specs.Prelude.{ℕ, ◌≡◌, ◌⊎◌, List, [], ◌∷◌, ◌++◌, codes, Bool, true, false, Option, Result, Ok, Err}
 use Rattle.std.specs.Fmt.{decimal}
 use Rattle.std.specs.Io.KnownBytes.{Appends}
@@ -15,7 +15,7 @@ fault_text faults.InputTooLong = codes "input too long"
 fault_text (faults.NotWhole n) = codes "NotWhole(" ++ decimal n ++ codes ")"
 fault_text (faults.Refused refusal) = refusal_text refusal
 
--- the line that tells it
+-- the line that says why a run stopped
 abbrev pub fault_line : ToolFault → List ℕ
 fault_line fault = codes "capn: " ++ fault_text fault ++ 10 ∷ []
 
@@ -24,12 +24,12 @@ abbrev pub TellsLine : List ℕ → Option (List ℕ) → Option (List ℕ) → 
 TellsLine line old new true = HasBegun old new line
 TellsLine line old new false = Appends old new line
 
--- the line of a fault was written, or that of want of memory where the line found none
+-- the line of a fault was written, or the line of Memory if there was no memory for it
 abbrev pub TellsFault : ToolFault → Option (List ℕ) → Option (List ℕ) → Bool → Type 0
 TellsFault fault old new failed =
     TellsLine (fault_line fault) old new failed ⊎ TellsLine (fault_line faults.Memory) old new failed
 
--- why a run ended so has been told: nothing where it is done, and else its fault
+-- why a run ended has been reported: nothing if it is done, and else its fault
 abbrev pub Tells : Result (Unit {0}) ToolFault → Option (List ℕ) → Option (List ℕ) → Bool → Type 0
 Tells (Ok u) old new failed = (new ≡ old) × (failed ≡ false)
 Tells (Err fault) old new failed = TellsFault fault old new failed

@@ -17,7 +17,7 @@ use Rattle.capn_tool.specs.declared.plan.Whole.TheVariants as wholes
 use Rattle.capn_tool.specs.declared.fault.ToolFault.{ToolFault}
 use Rattle.capn_tool.specs.declared.fault.ToolFault.TheVariants as faults
 
--- What is made of the bytes: the packer's text of them; the words that they pack, at most so many; the canonical bytes
+-- What is made of the bytes: the packer's text of them; the words that they pack, at most `most`; the canonical bytes
 -- of the message that they are in a form; or a piece of the bare message that they are.
 abbrev pub Makes : Whole → List ℕ → List ℕ → Type 0
 Makes wholes.Packed bytes text = Chosen text bytes
@@ -39,7 +39,7 @@ MakesNothing (wholes.Bare piece limits) bytes fault =
     ((e : BareFault) × (fault ≡ faults.Refused (refusals.Bare e)) × ReadsBare bytes (Err e))
     ⊎ ((words : List ℕ) × IsBare bytes words × IsNoPiece piece (words ∷ []) limits fault)
 
--- a call gave what is made of the bytes, or told why nothing is, but for want of memory
+-- a call gave what is made of the bytes, or reported why nothing is, unless memory ran out
 abbrev pub Gives : {A : Type 0} → Whole → List ℕ → Result (Vec ℕ A) ToolFault → Type 0
 Gives whole bytes (Ok text) = Makes whole bytes text.items
 Gives whole bytes (Err fault) = (fault ≡ faults.Memory) ⊎ MakesNothing whole bytes fault

@@ -1,4 +1,4 @@
-//! How a run ends: its exit status, and the line that tells why.
+//! How a run ends: its exit status, and the line that says why.
 
 ghost use Rattle.std.specs.Prelude.{◌≡◌, IfOk, string_bytes, codes, false};
 ghost use Rattle.capn_words.specs.Watching.{inner_of, has_failed};
@@ -61,7 +61,7 @@ fn fault_line<A: Allocator + Copy>(alloc: A, fault: &ToolFault) -> Result<String
     Ok(format!(in alloc; "capn: {text}\n")?)
 }
 
-/// Writes the line of a fault, or that of want of memory where the line finds none.
+/// Writes the line of a fault, or the line of Memory if there is no memory for it.
 fn tell<E: Write, A: Allocator + Copy>(alloc: A, fault: &ToolFault, errors: &mut Watched<E>)
     requires { has_failed errors.old ≡ false }
     ensures { TellsFault fault.now (E.contents (inner_of errors.old)) (E.contents (inner_of errors.new))
@@ -73,8 +73,8 @@ fn tell<E: Write, A: Allocator + Copy>(alloc: A, fault: &ToolFault, errors: &mut
     };
 }
 
-/// Writes the line that tells why a run ended so, if it is not done, and answers its exit status. Where the line finds
-/// no memory, that of want of memory is written, and the status stays.
+/// Writes the line that says why a run ended, if it is not done, and answers its exit status. If there is no memory for
+/// the line, that of Memory is written, and the status stays.
 pub fn end<E: Write, A: Allocator + Copy>(
     alloc: A,
     outcome: &Result<(), ToolFault>,

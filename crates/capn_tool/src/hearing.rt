@@ -1,5 +1,5 @@
-//! A stream of messages that is read in pieces: what is due for the messages of one is written at once, before the next
-//! is read.
+//! A stream of messages that is read in pieces: the output for the messages of one piece is written before the next is
+//! read.
 
 ghost use Rattle.std.specs.Prelude.{◌≡◌, ◌⊎◌, ◌≤◌, ◌^◌, [], length, false, IfOk};
 ghost use Rattle.capn_words.specs.Watching.{inner_of, has_failed};

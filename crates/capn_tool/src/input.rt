@@ -22,7 +22,7 @@ pub struct Input<A: Allocator = Global> {
     pub len: usize,
 }
 
-/// Reads an input to its end, and keeps its first bytes, at most so many. What follows is dropped as it comes.
+/// Reads an input to its end, and keeps its first bytes, at most `most`. What follows is dropped as it comes.
 ///
 /// Each call of the reader asks for at most 65,536 bytes, and for no byte past the one that makes the input too long.
 pub fn read_all<R: Read, A: Allocator>(

@@ -1,10 +1,11 @@
-//! The work of the program `capn`: what it is told to do, and each run from all of the input to all of the output.
+//! The work of the program `capn`: what its command line asks for, and each run from all of the input to all of the
+//! output.
 //!
 //! [`program`] is all of it, from the words of the command line to the exit status, over any reader and writers.
-//! [`command_of`] reads the words, and [`run`] carries the command out: it writes exactly the text that its input is
-//! due and ends as is due, and says so by its outcome, of which [`status`] and [`fault_text`] are the exit status and
-//! the text for the user, and [`end`] writes that. `show`, `check` and `hash` take one bare message, or the messages of
-//! a stream, packed or not, as they come in; `canonical` takes one message in any of the three forms.
+//! [`command_of`] reads the words, and [`run`] carries the command out: it writes exactly the text for its input, and
+//! its outcome says how it ended; [`status`] and [`fault_text`] are the exit status and the text for the user, and
+//! [`end`] writes that. `show`, `check` and `hash` take one bare message, or the messages of a stream, packed or not,
+//! as they come in; `canonical` takes one message in any of the three forms.
 //!
 //! ```text
 //! let command = command_of(alloc, &["capn", "canonical", "--form", "bare"])?;

@@ -1,4 +1,4 @@
-//! What the words of the command line tell the tool to do.
+//! What the words of the command line ask the tool to do.
 
 ghost use Rattle.std.specs.Prelude.{◌≡◌, ◌⊎◌, ℕ, ◌<◌, ◌^◌, true, IfErr, IfOk, IfSome, IsSome, Some, codes, map};
 ghost use Rattle.clap.specs.Words.{FailsBy, HasMatchesOf, fault_of, found_of, kind_of, rows_of, subcommand_of, takes};
@@ -155,10 +155,10 @@ fn matches_of<'a, S: AsStr>(alloc: Global, words: &'a [S]) -> Result<ArgMatches<
     }
 }
 
-/// The command that the words order, the first of them being the program's name: the subcommand's, with the form, the
-/// limits and the tariff that its options have, given or usual. A wish for help, a word, an option or a value that is
-/// not known, a number out of its range, a form or a tariff that the command does not take and want of memory are
-/// answered as `Usage`, with the text for the user.
+/// The command that the words name, the first of them being the program's name: the subcommand's, with the form, the
+/// limits and the tariff that its options have, given or usual. A request for help, a word, an option or a value that
+/// is not known, a number out of its range, a form or a tariff that the command does not take and running out of memory
+/// are answered as `Usage`, with the text for the user.
 pub fn command_of<'a, S: AsStr>(alloc: Global, words: &'a [S]) -> Result<Command, Usage>
     // A command that is given is what the words mean.
     ensures means { IfOk result (λ command. Means (subcommand_of tool_line (map S.text words.now)) command) }

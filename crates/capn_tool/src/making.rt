@@ -98,7 +98,7 @@ fn make_packed<R: Read, A: Allocator + Copy>(
     canonical(alloc, Form::Stream, &words, limits)
 }
 
-/// Why so many bytes are not one segment.
+/// Why `len` bytes are not one segment.
 fn bare_fault(len: u64) -> BareFault
     requires { 8 * most_words < len }
     ensures { (bytes : List ℕ) → length bytes ≡ len → ReadsBare bytes (Err result) }

@@ -8,7 +8,7 @@ use crate::help::TITLE;
 use clap::error::ErrorKind;
 use std::alloc::{AllocError, Allocator};
 
-/// Why the words of the command line order nothing: a wish for help, a mistake, or want of memory.
+/// Why a command line names no command: a request for help, a mistake, or no memory.
 #[derive(Drop)]
 pub struct Usage {
     /// What the parser of the command line says of them.
@@ -18,7 +18,7 @@ pub struct Usage {
 impl Usage {
     ghost use Rattle.capn_tool.specs.Misuse.{IsHelp, WantsMemory, WishesHelp, error_of};
 
-    /// The exit status: 3 for want of memory, 0 for a wish for help, 2 for any other.
+    /// The exit status: 3 if memory ran out, 0 for a request for help, 2 for any other.
     pub fn status(&self) -> u8
         ensures { result ≡ usage_status_of (kind_of (error_of self.now)) }
     {

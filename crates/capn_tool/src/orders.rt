@@ -1,4 +1,4 @@
-//! What the tool can be told to do.
+//! What the tool can be asked to do.
 
 use capn_canon::Form;
 use capn_walk::Limits;
@@ -6,13 +6,13 @@ use capn_walk::Limits;
 /// What a run does with its input.
 #[derive(Clone, Copy, Debug, PartialEq, Eq)]
 pub enum Command {
-    /// Writes the text of each message, and a line `end` behind each.
+    /// Writes the text of each message, and a line `end` after each.
     Show(Form, Limits),
-    /// Writes for each message a line that tells what its walk paid and how many visits it made.
+    /// Writes for each message a line with what its walk paid and how many visits it made.
     Check(Form, Limits),
     /// Writes the packed text of the input, which is whole words.
     Pack,
-    /// Writes the words that the input packs, at most so many.
+    /// Writes the words that the input packs, at most this many.
     Unpack(u32),
     /// Writes the canonical bytes of the one message that the whole input is.
     Canonical(Form, Limits),

@@ -33,7 +33,7 @@ pub(crate) struct Pending {
     pub is_long: bool,
 }
 
-/// Copies the piece behind the bytes that are held.
+/// Copies the piece after the bytes that are held.
 fn fill(text: &mut [u8], len: usize, piece: &[u8])
     requires { len + length piece.now ≤ length text.old }
     ensures { take (len + length piece.now) text.new ≡ take len text.old ++ piece.now }
@@ -106,7 +106,7 @@ fn end_pending<A: Allocator>(pending: &Pending, words: Vec<u8, A>) -> Result<Vec
     Ok(words)
 }
 
-/// Reads a packed input to its end, and answers the words that it packs, at most so many.
+/// Reads a packed input to its end, and answers the words that it packs, at most `most`.
 ///
 /// Nothing is held but those words and the beginning of a group. After a group that has more words, what follows is
 /// dropped as it comes.

@@ -45,7 +45,7 @@ fn text_of<S: Space, A: Allocator + Copy>(
     text
 }
 
-/// Appends the text of a message, and the line `end`. Behind nothing the text is handed over, and not copied.
+/// Appends the text of a message, and the line `end`. If nothing is there yet, the text is handed over, and not copied.
 fn put_text<S: Space, A: Allocator + Copy>(
     alloc: A,
     space: &S,
@@ -112,8 +112,8 @@ fn put_price<S: Space, A: Allocator + Copy>(
     put_priced(text, surveyed.paid, surveyed.visits, b"\n")
 }
 
-/// Appends the line of a bare message's price and number of visits, which tells whether its bytes are canonical. It
-/// takes no memory but the line's.
+/// Appends the line of a bare message's price and number of visits, which says whether its bytes are canonical. It
+/// takes memory only for the line.
 fn put_verdict<A: Allocator + Copy>(
     alloc: A,
     space: &Bare<'_>,

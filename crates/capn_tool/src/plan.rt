@@ -23,7 +23,7 @@ pub enum Piece {
 pub enum Whole {
     /// The packed text of its words.
     Packed,
-    /// The words that it packs, at most so many.
+    /// The words that it packs, at most this many.
     Unpacked(u32),
     /// The canonical bytes of the one message that it is.
     Canonical(Form, Limits),

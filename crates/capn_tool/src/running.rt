@@ -114,8 +114,8 @@ pub fn run<R: Read, W: Write, A: Allocator + Copy>(
     // Whatever it answers, a beginning of the text of what it read was written, or nothing.
     ensures begun { Begins command (R.remaining (inner_of reader.old)) (R.remaining (inner_of reader.new))
         (W.contents (inner_of writer.old)) (W.contents (inner_of writer.new)) }
-    // Where the reader failed, all that is due for what it gave was written, if it is taken message by message; if it
-    // is taken whole, nothing was.
+    // If the reader failed, all of the output for what it gave was written, if it is taken message by message; if it is
+    // taken whole, nothing was.
     ensures heard { has_failed reader.new ≡ true
         → KeepsUp command (R.remaining (inner_of reader.old)) (R.remaining (inner_of reader.new))
         (W.contents (inner_of writer.old)) (W.contents (inner_of writer.new)) }

@@ -180,7 +180,7 @@ pub fn with_messages<'a>(
     with_command(program, command)
 }
 
-/// The program with the commands that tell what messages hold and cost.
+/// The program with the commands that report what messages hold and cost.
 fn reading_command<'a>(alloc: Global) -> Result<Command<'a>, AllocError>
     ensures { IfOk result (λ c. app_of c ≡ reading_line) }
 {

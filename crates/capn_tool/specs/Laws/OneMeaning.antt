@@ -13,7 +13,7 @@ use Rattle.capn_tool.specs.declared.orders.Command.{Command}
 use Rattle.capn_tool.specs.declared.orders.Command.TheVariants as commands
 use Rattle.capn_tool.specs.Meaning.{Means, NumberIs, LimitsAre, UnpackedIs, MeansOne, form_name, tariff_name}
 
--- two characters of a text, which tell the names apart
+-- two characters of a text, by which the names differ
 abbrev pub mark : Text → ℕ
 mark text = slice_index text 0 + slice_index text 1
 
@@ -132,7 +132,7 @@ pub means_one : MeansOne
 means_one None c d m n = absurd m
 means_one (Some said) c d m n = same said c d (sym (marked said c m) ∙ marked said d n) m n
 
--- what is named unpack means that, of so many words
+-- what is named unpack means that, with a maximum of words
 pub means_unpack : (name : Text) (rows : List Row) (c : Command) → name ≡ codes "unpack" → Means (Some (name, rows)) c
     → (most : ℕ) × UnpackedIs rows most
 means_unpack name rows (commands.Unpack most) is m = (most, m.1)

@@ -1,4 +1,4 @@
--- What a writer holds after a flush, and what was told by a write.
+-- What a writer holds after a flush, and what a write added.
 use Rattle.std.proofs.Common.{◌≡◌, ◌∙◌, ℕ, List, length, Bool, true, false, Option, Some, None, Result, Ok, Err, OnOk}
 use Rattle.std.proofs.Common.{IsErrOf, is_err, ◌||◌, ◌↔◌, refl, sym, subst}
 use Rattle.std.proofs.Math.Seq.{take-length}
@@ -27,7 +27,7 @@ pub sound : (failed : Bool) → (IsErrOf done faults.Io ↔ (failed ≡ true)) �
 sound false io = refl
 sound true io = absurd (let bad = io.1 refl in cc)
 
--- a text was told, or a beginning of it where the writer has failed
+-- a text was written, or a beginning of it if the writer has failed
 pub told : {T E : Type 0} (text : List ℕ) (c d : Option (List ℕ)) (old new : Bool) (r : Result T E) → old ≡ false
     → OnOk r (Appends c d text) → HasBegun c d text → new ≡ (old || is_err r) → TellsLine text c d new
 told text c d old new (Ok u) fine ok begun is = rw (is, fine) ok

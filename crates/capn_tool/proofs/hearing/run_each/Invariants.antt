@@ -3,7 +3,7 @@ use Rattle.capn_words.specs.Watching.{inner_of, has_failed}
 use Rattle.capn_tool.specs.Heard.{Hears, IsListening}
 use Rattle.capn_tool.proofs.hearing.run_each.Given as goal
 
--- neither has failed, and what is due for the whole messages of the bytes so far is written
+-- neither has failed, and the output for the whole messages of the bytes so far is written
 abbrev pub invariant-pieces : goal.invariant-pieces
 invariant-pieces g l = record {
   reader : has_failed l.reader ≡ false;

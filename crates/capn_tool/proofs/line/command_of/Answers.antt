@@ -31,7 +31,7 @@ pub returns-in-Some-order-clause-only : goal.returns-in-Some-order-clause-only
 returns-in-Some-order-clause-only g c taken command means =
     means_one _ c.in-Some-order.command command (returns-in-Some-order-clause-means g c) means
 
--- an error of clap that is want of memory is told as that
+-- an error of clap that says that memory ran out is reported as that
 told_memory : (command : Command) (e : Error) (r : Result Command Usage) → kind_of e ≡ kinds.OutOfMemory
     → IsErr r × IsErrAnd r (λ usage. error_of usage ≡ e) → Orders command r
 told_memory command e (Ok given) memory (is_err, is) = absurd cc
@@ -66,7 +66,7 @@ meaningless g c command means =
 pub returns-clause-only : goal.returns-clause-only
 returns-clause-only g c taken command means = absurd (meaningless g c command means)
 
--- an error of clap is told with its kind
+-- an error of clap is reported with its kind
 told_reason : (words : List Text) (e : Error) (r : Result Command Usage) → HasKind (fault_of tool_line words) e
     → IsErr r × IsErrAnd r (λ usage. error_of usage ≡ e) → IfErr r (λ usage. IsReason words (kind_of (error_of usage)))
 told_reason words e (Ok given) kind (is_err, is) = tt

@@ -9,7 +9,7 @@ use Rattle.capn_tool.proofs.piece.push_priced.Goals as goal
 more : (old mid new some part : List ℕ) → mid ≡ old ++ some → new ≡ mid ++ part → new ≡ old ++ (some ++ part)
 more old mid new some part e f = f ∙ ap (λ (l : List ℕ). l ++ part) e ∙ append_assoc old some part
 
--- memory was refused behind some parts
+-- memory was refused after some parts
 stopped : {E : Type 0} (line old mid new some : List ℕ) (r : Result (Unit {0}) E) → mid ≡ old ++ some → new ≡ mid
     → IsErr r → PutsFront line old new r
 stopped line old mid new some (Ok u) e f bad = absurd (cc)

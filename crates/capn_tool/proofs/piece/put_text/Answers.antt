@@ -24,7 +24,7 @@ appended : (message : List (List ℕ)) (limits : Bounds) (old new text bytes : L
 appended message limits old new text bytes piece are is =
     (text, piece, is ∙ ap (λ (l : List ℕ). old ++ l) are)
 
--- they were handed over, behind nothing
+-- they were handed over, since nothing was there
 handed_over : (message : List (List ℕ)) (limits : Bounds) (old new text : List ℕ) (len : ℕ)
     → IsPiece kinds.Text message limits text → new ≡ text → len ≡ length old → true ≡ (len == 0)
     → PutsPiece kinds.Text message limits old new (Ok tt)

@@ -4,7 +4,7 @@ use Rattle.capn_tool.specs.Told.{TellsLine, fault_line}
 use Rattle.capn_tool.specs.declared.fault.ToolFault.TheVariants as faults
 use Rattle.capn_tool.proofs.start.tell_mistake.Goals as goal
 
--- a text was told, or Memory's line
+-- a text was written, or Memory's line
 told_text : {A E : Type 0} (errors : Course) (said : Result (String A) E)
     → IfOk said (λ text. TellsLine (string_bytes text) errors.before errors.after errors.failed)
     → IfErr said (λ e. TellsLine (fault_line faults.Memory) errors.before errors.after errors.failed)

@@ -4,7 +4,7 @@ use Rattle.capn_tool.specs.Heard.{IsListening}
 use Rattle.capn_tool.specs.HeardPacked.{HearsPacked}
 use Rattle.capn_tool.proofs.unpacking.run_packed.Given as goal
 
--- neither has failed, and what is due for the whole messages of the bytes so far is written
+-- neither has failed, and the output for the whole messages of the bytes so far is written
 abbrev pub invariant-pieces : goal.invariant-pieces
 invariant-pieces g l = record {
   reader : has_failed l.reader ≡ false;
