@@ -10,7 +10,7 @@ use Rattle.capn_c.specs.Figures.{AreMeasures, FiguresIn, IsDepth, MeasuresIn, to
 use Rattle.capn_c.specs.declared.figures.CapnFigures.{CapnFigures}
 use Rattle.capn_c.specs.declared.measuring.Measured.{Measured}
 
--- the figures tell what was surveyed and measured
+-- the figures are those that were surveyed and measured
 pub record AreOf (s : Surveyed) (q : Measured) (f : CapnFigures) : Type 0 where
   pub words : f.words ≡ q.words
   pub segments : f.segments ≡ q.segments

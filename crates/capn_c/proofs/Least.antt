@@ -61,7 +61,7 @@ is_needed bs most (inr (inr (inr contents))) =
     let e : needed bs ≡ frame_length bs = grind (arith, nat_tests, contents.0.0.0, contents.0.1) in
     subst (IsNeeded bs most) (sym e) (words_needed bs most contents.0 contents.1 contents.2)
 
--- the status 8 tells want of memory
+-- the status 8 says that memory ran out
 pub frame_memory : (e : FrameFault) → frame_code e ≡ 8 → e ≡ frame.Memory
 frame_memory frame.Memory h = refl
 frame_memory frame.Empty h = absurd (omega arith)
@@ -75,7 +75,7 @@ neither : (n status : ℕ) → status ≡ n → (status ≡ 48) ⊎ (status ≡ 
 neither n status e (inl h) a b = a (sym e ∙ h)
 neither n status e (inr h) a b = b (sym e ∙ h)
 
--- what is told of a frame that is not whole is what it needs
+-- the length reported of a frame that is not whole is what it needs
 pub needed_told : (bs : List ℕ) (most status : ℕ) (report : CapnReport) (e : FrameFault)
     → TellsFrame bs status report e → IsRefused bs most e → (status ≡ 48) ⊎ (status ≡ 51)
     → IsNeeded bs most report.length

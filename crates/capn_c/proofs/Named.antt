@@ -28,7 +28,7 @@ fault_of n =
     if n == 74 then walk.OverBudget else (
     walk.Memory)))))))))))
 
--- the refusal that a status and a report tell
+-- the refusal that a status and a report stand for
 refusal_of : ℕ → CapnReport → Refusal
 refusal_of n r =
     if n == 16 then refusals.Bare (bare.NotWhole r.at) else (
@@ -103,7 +103,7 @@ one_refusal status report e f h c r d s =
     ∙ told f (λ x. h (d ∙ x)) in
     sym b ∙ a
 
--- the refusal of packed bytes that a status and a report tell
+-- the refusal of packed bytes that a status and a report stand for
 packed_of : ℕ → CapnReport → UnpackFault
 packed_of n r = if n == 32 then packed.Cut r.at else (if n == 33 then packed.TooLong r.at else packed.Failed)
 

@@ -49,7 +49,7 @@ pub words-at : (m : List (List ℕ)) (s : ℕ) (r : Option ℕ) (n : ℕ) → r 
 words-at m s None n e f = f ∙ sym (length_of_none m s (sym e))
 words-at m s (Some k) n e f = f ∙ sym (length_of_some m s k (sym e))
 
--- a check tells whether a message of one segment is canonical
+-- a check says whether a message of one segment is canonical
 pub canonical-bare : (ws : List ℕ) (limits : Bounds) (c : Checked) → IsCheck ws limits c
     → IsTrue c.is_canonical ↔ IsCanonicalMessage (ws ∷ []) limits
 canonical-bare ws limits c k = (

@@ -1,4 +1,4 @@
--- The status 8 tells want of memory alone: no bytes, and no message, are refused by themselves so.
+-- The status 8 says only that memory ran out: no bytes, and no message, are refused with it.
 use Rattle.std.proofs.Common.{◌≡◌, ℕ, List, refl, arith}
 use Rattle.capn_words.specs.declared.bare.BareFault.{BareFault}
 use Rattle.capn_words.specs.declared.bare.BareFault.TheVariants as bare

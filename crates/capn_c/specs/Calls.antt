@@ -44,12 +44,12 @@ IsWritten answer old new = new ≡ answer ++ drop (length answer) old
 abbrev pub HasNoRoom : List ℕ → List ℕ → List ℕ → Type 0
 HasNoRoom answer old new = (length old < length answer) × (new ≡ old)
 
--- the status of an answer: 0 where it was written, 1 where it has no room; its length is told in both
+-- the status of an answer: 0 if it was written, 1 if it has no room; the report has its length in both
 pub record Delivers (answer : List ℕ) (status told : ℕ) (old new : List ℕ) : Type 0 where
   pub length_is : told ≡ length answer
   pub either : ((status ≡ 0) × IsWritten answer old new) ⊎ ((status ≡ 1) × HasNoRoom answer old new)
 
--- into a buffer of no bytes nothing is laid: the length that is told is 8 for each word paid and 8 more, which is
+-- into a buffer of no bytes nothing is written: the length reported is 8 for each word paid and 8 more, which is
 -- enough; into any other the answer is delivered
 pub record Serves (answer : List ℕ) (status : ℕ) (report : CapnReport) (old new : List ℕ) : Type 0 where
   pub measured : length old ≡ 0

@@ -1,4 +1,4 @@
--- Which status and which numbers tell a refusal. (Own.)
+-- Which status and which numbers report a refusal. (Own.)
 use Rattle.std.specs.Prelude.{◌≡◌, ◌≢◌, ℕ, Bool, ◌||◌, ◌&&◌, nat_eq, nat_lt}
 use Rattle.capn_words.specs.declared.bare.BareFault.{BareFault}
 use Rattle.capn_words.specs.declared.bare.BareFault.TheVariants as bare
@@ -98,13 +98,13 @@ report_of (refusals.Walk s) =
 report_of (refusals.Capability k) = at_number k
 report_of refusals.Memory = at_number 0
 
--- the status and the report tell this refusal, and no other but where memory was refused
+-- the status and the report are those of this refusal, and of no other unless memory was refused
 pub record Tells (status : ℕ) (report : CapnReport) (e : Refusal) : Type 0 where
   pub status_is : status ≡ code e
   pub report_is : report ≡ report_of e
   pub alone : status ≢ 8 → (f : Refusal) → status ≡ code f → report ≡ report_of f → f ≡ e
 
--- the status and the report tell this refusal of packed bytes, and no other but where memory was refused
+-- the status and the report are those of this refusal of packed bytes, and of no other unless memory was refused
 pub record TellsPacked (status : ℕ) (report : CapnReport) (e : UnpackFault) : Type 0 where
   pub status_is : status ≡ packed_code e
   pub report_is : report ≡ at_number (packed_number e)

@@ -42,7 +42,7 @@ c_entry table starts e = record {
   kind = kind_number e.kind;
 }
 
--- the index of a message that stands after a table of so many bytes
+-- the index of a message that stands after a table of `table` bytes
 abbrev pub c_index : ℕ → List (List ℕ) → Bounds → List CapnEntry
 c_index table message limits = map (c_entry table (starts_from 0 message)) (index_of message limits)
 

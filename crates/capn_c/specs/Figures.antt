@@ -1,4 +1,4 @@
--- What is told of a message that is read. (Own.)
+-- What is reported of a message that is read. (Own.)
 use Rattle.std.specs.Prelude.{◌≡◌, ◌⊎◌, ◌↔◌, ℕ, zero, suc, ◌<◌, List, length, Option, Some, None}
 use Rattle.std.specs.Bool.{IsTrue}
 use Rattle.capn_words.specs.Message.{bytes, segment_at, total}
@@ -40,13 +40,13 @@ pub record AreMeasures (message : List (List ℕ)) (limits : Bounds) (m : Measur
   pub depth : IsDepth message limits m.depth
   pub canonical : IsTrue m.canonical ↔ IsCanonicalMessage message limits
 
--- the same of the message that bytes are read as
+-- what the message that bytes are read as comes to
 pub record MeasuresIn (form : Form) (bs : List ℕ) (limits : Bounds) (m : Measured) : Type 0 where
   pub message : List (List ℕ)
   pub reads : Reads form bs limits.message_words message
   pub are : AreMeasures message limits m
 
--- the capability that two numbers tell: whether there is one, and its index
+-- the capability that two numbers stand for: whether there is one, and its index
 abbrev pub told_cap : ℕ → ℕ → Option ℕ
 told_cap zero k = None
 told_cap (suc n) k = Some k

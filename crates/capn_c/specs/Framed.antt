@@ -1,4 +1,4 @@
--- What is told of the frame that begins some bytes. (Own.)
+-- What is reported of the frame that begins some bytes. (Own.)
 use Rattle.std.specs.Prelude.{◌≡◌, ◌≢◌, ℕ, List}
 use Rattle.capn_stream.specs.declared.fault.FrameFault.{FrameFault}
 use Rattle.capn_stream.specs.declared.fault.FrameFault.TheVariants as frame
@@ -15,7 +15,7 @@ frame_report bs (frame.TooManyWords n) = at_number n
 frame_report bs frame.Memory = at_number 0
 frame_report bs frame.Failed = at_number 0
 
--- the status and the report tell this refusal of bytes, and no other but where memory was refused
+-- the status and the report are those of this refusal of bytes, and of no other unless memory was refused
 pub record TellsFrame (bs : List ℕ) (status : ℕ) (report : CapnReport) (e : FrameFault) : Type 0 where
   pub status_is : status ≡ frame_code e
   pub report_is : report ≡ frame_report bs e

@@ -12,8 +12,8 @@ needed bs =
     else (if nat_lt (length bs) (head_length (announced_segments bs)) then head_length (announced_segments bs)
     else frame_length bs)
 
--- no frame that begins with these bytes is shorter; so many of them are not there; and no frame of so many words that
--- may be is longer than the bound
+-- no frame that begins with these bytes is shorter than n bytes; there are fewer; and no frame of at most `most` words
+-- is longer than the bound
 pub record IsNeeded (bs : List ℕ) (most n : ℕ) : Type 0 where
   pub least : (more : List ℕ) → IsFrame (bs ++ more) most → n ≤ length (bs ++ more)
   pub beyond : length bs < n

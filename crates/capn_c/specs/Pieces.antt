@@ -6,7 +6,7 @@ use Rattle.capn_pack.specs.declared.some.Next.TheVariants as nexts
 use Rattle.capn_c.specs.Calls.{IsWritten}
 use Rattle.capn_c.specs.declared.report.CapnReport.{CapnReport}
 
--- how many whole words a buffer of so many bytes has room for, as far as 32 bits count them
+-- how many whole words a buffer of `room` bytes has room for, as far as 32 bits count them
 abbrev pub words_in : ℕ → ℕ
 words_in room = min (room / 8) (2 ^ 32 - 1)
 
@@ -20,7 +20,7 @@ next_code nexts.TooLong = 33
 abbrev pub progressed : ℕ → ℕ → CapnReport
 progressed written taken = record { length = written; at = taken; segment = 0; word = 0; paid = 0; visits = 0 }
 
--- the words of the whole groups that stand first and have room are in the buffer; the report tells how many bytes were
+-- the words of the whole groups that stand first and have room are in the buffer; the report says how many bytes were
 -- written and taken, and the status what stands next
 pub record UnpacksInto (bytes : List ℕ) (status : ℕ) (report : CapnReport) (old new : List ℕ) : Type 0 where
   pub content : List ℕ

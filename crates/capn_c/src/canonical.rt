@@ -22,7 +22,7 @@ use capn_canon::{Form, Refusal, account, canonicalise};
 use capn_walk::Limits;
 use std::alloc::Global;
 
-/// A length that is enough for the canonical bytes of a message, which are not laid.
+/// A length that is enough for the canonical bytes of a message, which are not laid out.
 fn measure(alloc: Global, form: Form, bytes: &[u8], limits: Limits, report: &mut CapnReport) -> u32
     ensures told { (result ≡ 1) ⊎ (8 ≤ result) }
     ensures found { result ≡ 1 → (text : List ℕ) × Answers form bytes.now limits text report.new.paid
@@ -84,7 +84,7 @@ fn lay(
 /// The canonical bytes of a message, into a buffer.
 ///
 /// 0: the answer stands at the start of the buffer. 1: the buffer has no room for it, and is as it was; `length` is
-/// what it needs, exactly; where the buffer has no bytes at all, the message is surveyed and nothing is laid, and
+/// what it needs, exactly; if the buffer has no bytes at all, the message is surveyed and nothing is written, and
 /// `length` is 8 for each word paid and 8 more, which is enough. 2, 3 and 4: the form, a limit or the tariff is out of
 /// its range. 8: memory was refused. Others: the refusal.
 #[unsafe(no_mangle)]
@@ -112,10 +112,10 @@ pub extern "C" fn capn_canonical(
     ensures rest { result ≤ 1 → report.new ≡ answered report.new.length report.new.paid 0 }
     ensures blank { 2 ≤ result → result ≤ 4 → report.new ≡ at_number 0 }
     ensures listed { IsTrue (is_status result) }
-    // What each refusal means, and that no other is told so.
+    // What each refusal means; no other status stands for it.
     ensures refused { 5 ≤ result → (e : Refusals) × Tells result report.new e
         × IsRefused (form_named form) bytes.now (bounds_of limits.now) e }
-    // Memory is wanted only where `capn_check` may want it, and, where there is room, for canonical bytes.
+    // Memory is needed only where `capn_check` may need it, and, if there is room, for canonical bytes.
     ensures wanted { result ≡ 8 → MayWantBytesIn (form_named form) bytes.now (bounds_of limits.now) }
     ensures measuring { result ≡ 8 → length out.old ≡ 0
         → MayWantMemory (form_named form) bytes.now (bounds_of limits.now) }

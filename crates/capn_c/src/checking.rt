@@ -56,18 +56,18 @@ pub extern "C" fn capn_check(
     ensures form { (result ≡ 2) ↔ (IsForm form → ⊥) }
     ensures limits { (result ≡ 3) ↔ (IsForm form × (GiveLimits limits.now → ⊥)) }
     ensures tariff { (result ≡ 4) ↔ (IsForm form × GiveLimits limits.now × (IsTariff limits.now.tariff → ⊥)) }
-    // The bytes are an accepted message; the report tells what its walk pays, how many visits it makes, and no more.
+    // The bytes are an accepted message; the report says what its walk pays, how many visits it makes, and no more.
     ensures found { result ≡ 0 → (s : Survey) × Surveys (form_named form) bytes.now (bounds_of limits.now) s
         × (report.new ≡ answered 0 s.paid s.visits) }
-    // A message that is accepted has that told, unless memory runs out.
+    // This is the answer for a message that is accepted, unless memory runs out.
     ensures only { IsForm form → GiveLimits limits.now → IsTariff limits.now.tariff → (v : Value)
         → Denotes (form_named form) bytes.now (bounds_of limits.now) v → (result ≡ 0) ⊎ (result ≡ 8) }
     ensures blank { 1 ≤ result → result ≤ 4 → report.new ≡ at_number 0 }
     ensures listed { IsTrue (is_status result) }
-    // What each refusal means, and that no other is told so.
+    // What each refusal means; no other status stands for it.
     ensures refused { 5 ≤ result → (e : Refusals) × Tells result report.new e
         × IsUnacceptedIn (form_named form) bytes.now (bounds_of limits.now) e }
-    // Memory is wanted only for a depth above 64, for where two segments or more end, and for what a text packs.
+    // Memory is needed only for a depth above 64, for where two segments or more end, and for what a text packs.
     ensures wanted { result ≡ 8 → MayWantMemory (form_named form) bytes.now (bounds_of limits.now) }
     // No walk pays beyond its budget.
     ensures bounded { IsBounded limits.now.budget report.new.paid report.new.visits }

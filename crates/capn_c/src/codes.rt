@@ -163,7 +163,7 @@ fn report_of_refusal(refusal: Refusal) -> CapnReport
     }
 }
 
-/// Tells a refusal: its numbers in the report, and its status.
+/// Reports a refusal: its numbers in the report, and its status.
 pub fn refuse(refusal: Refusal, report: &mut CapnReport) -> u32
     ensures { Tells result report.new refusal }
 {
@@ -171,7 +171,7 @@ pub fn refuse(refusal: Refusal, report: &mut CapnReport) -> u32
     code_of(refusal)
 }
 
-/// Tells a refusal of packed bytes: its number in the report, and its status.
+/// Reports a refusal of packed bytes: its number in the report, and its status.
 pub fn refuse_packed(fault: UnpackFault, report: &mut CapnReport) -> u32
     ensures { TellsPacked result report.new fault }
 {

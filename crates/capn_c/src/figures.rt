@@ -1,4 +1,4 @@
-//! What a survey tells of a message.
+//! What a survey says of a message.
 
 ghost use Rattle.std.specs.Prelude.{IsTrue, ◌≡◌, ◌↔◌};
 ghost use Rattle.capn_c.specs.Figures.{told_cap};
@@ -6,7 +6,7 @@ ghost use Rattle.capn_c.specs.Figures.{told_cap};
 use crate::measuring::Measured;
 use capn_walk::Surveyed;
 
-/// What a survey tells of a message.
+/// What a survey says of a message.
 #[derive(Clone, Copy)]
 #[repr(C)]
 pub struct CapnFigures {

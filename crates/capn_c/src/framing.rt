@@ -31,7 +31,7 @@ fn report_of_frame(fault: FrameFault, bytes: &[u8], most: u32) -> CapnReport
     }
 }
 
-/// Tells a refusal of bytes: its numbers in the report, and its status.
+/// Reports a refusal of bytes: its numbers in the report, and its status.
 fn refuse_frame(fault: FrameFault, bytes: &[u8], most: u32, report: &mut CapnReport) -> u32
     requires small { most ≤ most_message_words }
     requires refused { IsRefused bytes.now most fault }
@@ -41,7 +41,7 @@ fn refuse_frame(fault: FrameFault, bytes: &[u8], most: u32, report: &mut CapnRep
     code_of_frame(fault)
 }
 
-/// The length of the frame of at most so many words that stands first.
+/// The length of the frame of at most `most` words that stands first.
 fn length_of(alloc: Global, bytes: &[u8], most: u32) -> Result<usize, FrameFault>
     requires small { most ≤ most_message_words }
     ensures found { IfOk result (λ taken. (message : List (List ℕ)) × StandsFirst bytes.now most message taken) }
@@ -54,7 +54,7 @@ fn length_of(alloc: Global, bytes: &[u8], most: u32) -> Result<usize, FrameFault
     Ok(taken)
 }
 
-/// The length of the frame of at most so many words that stands first, or how many bytes it needs.
+/// The length of the frame of at most `most` words that stands first, or how many bytes it needs.
 fn frame(alloc: Global, bytes: &[u8], most: u32, report: &mut CapnReport) -> u32
     requires small { most ≤ most_message_words }
     ensures told { (result ≡ 0) ⊎ (8 ≤ result) }
@@ -105,14 +105,14 @@ pub extern "C" fn capn_first(
     ensures rest { result ≡ 0 → report.new ≡ answered report.new.length 0 0 }
     ensures blank { 1 ≤ result → result ≤ 4 → report.new ≡ at_number 0 }
     ensures listed { IsTrue (is_status result) }
-    // What each refusal means, and that no other is told so.
+    // What each refusal means; no other status stands for it.
     ensures refused { 5 ≤ result → (e : Faults) × TellsFrame bytes.now result report.new e
         × IsRefused bytes.now limits.now.message_words e }
-    // A frame that is not whole: none that begins so is shorter than what is told, which is more than there is, and
-    // within what a frame can have.
+    // A frame that is not whole: none that begins like this is shorter than the length reported, which is more than
+    // there is, and within what a frame can have.
     ensures needed { (result ≡ 48) ⊎ (result ≡ 51)
         → IsNeeded bytes.now limits.now.message_words report.new.length }
-    // Memory is wanted only where a whole frame of two segments or more stands first.
+    // Memory is needed only if a whole frame of two segments or more stands first.
     ensures wanted { result ≡ 8 → HasTable bytes.now limits.now.message_words }
 {
     *report = report_at(0);

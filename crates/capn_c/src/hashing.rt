@@ -82,10 +82,10 @@ pub extern "C" fn capn_hash(
     ensures rest { result ≡ 0 → report.new ≡ answered 0 report.new.paid 0 }
     ensures blank { 1 ≤ result → result ≤ 4 → report.new ≡ at_number 0 }
     ensures listed { IsTrue (is_status result) }
-    // What each refusal means, and that no other is told so.
+    // What each refusal means; no other status stands for it.
     ensures refused { 5 ≤ result → (e : Refusals) × Tells result report.new e
         × IsRefused (form_named form) bytes.now (bounds_of limits.now) e }
-    // Memory is wanted only where `capn_check` may want it, and for canonical bytes.
+    // Memory is needed only where `capn_check` may need it, and for canonical bytes.
     ensures wanted { result ≡ 8 → MayWantBytesIn (form_named form) bytes.now (bounds_of limits.now) }
     // No walk pays beyond its budget.
     ensures bounded { IsBounded limits.now.budget report.new.paid report.new.visits }

@@ -62,7 +62,7 @@ fn write_index<S: Space>(
     }
 }
 
-/// The same of the message of a stream.
+/// Writes the index of the message of a stream; false where the message is refused or memory is.
 fn index_frame(
     alloc: Global,
     bytes: &[u8],
@@ -86,7 +86,7 @@ fn index_frame(
     }
 }
 
-/// The same of bare words.
+/// Writes the index of bare words; false where they are refused or memory is.
 fn index_bare(
     alloc: Global,
     bytes: &[u8],
@@ -192,7 +192,7 @@ pub extern "C" fn capn_index(
     ensures form { (result ≡ 2) ↔ (IsFlat form → ⊥) }
     ensures limits { (result ≡ 3) ↔ (IsFlat form × (GiveLimits limits.now → ⊥)) }
     ensures tariff { (result ≡ 4) ↔ (IsFlat form × GiveLimits limits.now × (IsTariff limits.now.tariff → ⊥)) }
-    // The bytes are an accepted message; the report tells how many entries its index has, and what its walk pays.
+    // The bytes are an accepted message; the report says how many entries its index has, and what its walk pays.
     ensures counted { result ≤ 1 → (s : Survey) × Surveys (form_named form) bytes.now (bounds_of limits.now) s
         × (report.new ≡ answered (24 * s.visits) s.paid s.visits) }
     // That number is the one of all entries of the index, whether they have room or not.
@@ -207,10 +207,10 @@ pub extern "C" fn capn_index(
         → Denotes (form_named form) bytes.now (bounds_of limits.now) v → (result ≤ 1) ⊎ (result ≡ 8) }
     ensures blank { 2 ≤ result → result ≤ 4 → report.new ≡ at_number 0 }
     ensures listed { IsTrue (is_status result) }
-    // What each refusal means, and that no other is told so.
+    // What each refusal means; no other status stands for it.
     ensures refused { 5 ≤ result → (e : Refusals) × Tells result report.new e
         × IsUnacceptedIn (form_named form) bytes.now (bounds_of limits.now) e }
-    // Memory is wanted only where `capn_check` may want it, and for an index that has room.
+    // Memory is needed only where `capn_check` may need it, and for an index that has room.
     ensures wanted { result ≡ 8 → MayWantMemory (form_named form) bytes.now (bounds_of limits.now)
         ⊎ ((n : ℕ) × HasEntries (form_named form) bytes.now (bounds_of limits.now) n × (n ≤ length out.old)) }
     // No walk pays beyond its budget.

@@ -9,7 +9,7 @@ use capn_canon::Form;
 use capn_value::Tariff;
 use capn_walk::Limits;
 
-/// How much a call takes on. Any numbers may be passed: a call tells where one is out of its range.
+/// How much a call takes on. Any numbers may be passed: a call's status says if one is out of its range.
 #[derive(Clone, Copy)]
 #[repr(C)]
 pub struct CapnLimits {

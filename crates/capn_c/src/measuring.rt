@@ -160,7 +160,7 @@ fn measure<S: Space>(alloc: Global, space: &S, limits: Limits) -> Option<Measure
     })
 }
 
-/// The same of the message of a stream.
+/// What the message of a stream comes to beside its price, or `None` if it is refused, or memory was.
 pub fn measure_frame(alloc: Global, bytes: &[u8], limits: Limits) -> Option<Measured>
     ensures found { IfSome result (λ m. MeasuresIn forms.Stream bytes.now limits m) }
     ensures wanted { (v : Value) → Denotes forms.Stream bytes.now limits v → result ≡ None
@@ -177,7 +177,7 @@ pub fn measure_frame(alloc: Global, bytes: &[u8], limits: Limits) -> Option<Meas
     }
 }
 
-/// The same of bare words.
+/// What bare words come to beside their price, or `None` if they are refused, or memory was.
 pub fn measure_bare(alloc: Global, bytes: &[u8], limits: Limits) -> Option<Measured>
     ensures found { IfSome result (λ m. MeasuresIn forms.Bare bytes.now limits m) }
     ensures wanted { (v : Value) → Denotes forms.Bare bytes.now limits v → result ≡ None

@@ -30,7 +30,7 @@ fn total_of(sizes: &[u8], count: usize) -> u64
     total
 }
 
-/// How many bytes the table of so many segments and its padding take.
+/// How many bytes the table of `count` segments and its padding take.
 pub fn head_of(count: usize) -> usize
     requires { count ≤ most_segments }
     ensures { result ≡ head_length count }
@@ -38,7 +38,7 @@ pub fn head_of(count: usize) -> usize
     8 * (count / 2 + 1)
 }
 
-/// How many bytes a frame of at most so many words needs that begins so and is not whole.
+/// How many bytes a frame of at most `most` words needs that begins with these bytes and is not whole.
 pub fn needed_of(bytes: &[u8], most: u32) -> u64
     requires small { most ≤ most_message_words }
     requires unfinished { IsUnfinished bytes.now most }

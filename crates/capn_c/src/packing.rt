@@ -38,7 +38,7 @@ pub extern "C" fn capn_pack(
     // Each refusal.
     ensures whole { length bytes.now % 8 ≡ 0 → (result ≤ 1) ⊎ (result ≡ 8) }
     ensures not_whole { length bytes.now % 8 ≢ 0 → (result ≡ 16) × (report.new ≡ at_number (length bytes.now)) }
-    // Memory is wanted for some bytes only.
+    // Memory is needed only if there are bytes.
     ensures wanted { result ≡ 8 → 0 < length bytes.now }
     // The report of an answer has its length alone; what no status speaks of is 0.
     ensures rest { result ≤ 1 → report.new ≡ answered report.new.length 0 0 }
@@ -61,7 +61,7 @@ pub extern "C" fn capn_pack(
     }
 }
 
-/// The words that a packed text packs, at most so many, into a buffer.
+/// The words that a packed text packs, at most `max_words`, into a buffer.
 ///
 /// 0: the words stand at the start of the buffer. 1: the buffer has no room for them, and is as it was; `length` is
 /// what they need. 8: memory was refused. 32 and 33: the group whose tag stands at `at` is cut, or goes over the
@@ -84,7 +84,7 @@ pub extern "C" fn capn_unpack(
     ensures listed { IsTrue (is_status result) }
     // What each refusal means, and where.
     ensures refused { 2 ≤ result → (e : Faults) × TellsPacked result report.new e × IsRefused bytes.now max_words e }
-    // Memory is wanted only where a whole group within the maximum stands first.
+    // Memory is needed only if a whole group within the maximum stands first.
     ensures wanted { result ≡ 8 → StartsWithin bytes.now max_words }
     // The report of an answer has its length alone.
     ensures rest { result ≤ 1 → report.new ≡ answered report.new.length 0 0 }

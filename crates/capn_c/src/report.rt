@@ -1,9 +1,9 @@
-//! What a call tells beside its status.
+//! What a call reports beside its status.
 
 ghost use Rattle.std.specs.Prelude.{◌≡◌};
 ghost use Rattle.capn_c.specs.Codes.{at_number, answered};
 
-/// What a call tells beside its status. Each call sets every field; one that its status does not speak of is 0.
+/// What a call reports beside its status. Each call sets every field; one that its status does not speak of is 0.
 #[derive(Clone, Copy)]
 #[repr(C)]
 pub struct CapnReport {

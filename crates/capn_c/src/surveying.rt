@@ -71,8 +71,8 @@ fn survey_in(
 /// The figures of a message that is a stream or bare: its words and segments, what its walk pays and visits, the least
 /// depth under which it is accepted, its first capability, and whether its bytes are canonical.
 ///
-/// 0: they are told. 2, 3 and 4: the form is neither, a limit or the tariff is out of its range. 8: memory was refused,
-/// as of `capn_check`. Others: the refusal, which is never that of a capability.
+/// 0: they are there. 2, 3 and 4: the form is neither, a limit or the tariff is out of its range. 8: memory was
+/// refused, as of `capn_check`. Others: the refusal, which is never that of a capability.
 ///
 /// It walks the message three times, and once more for each level of its depth.
 #[unsafe(no_mangle)]
@@ -88,22 +88,22 @@ pub extern "C" fn capn_survey(
     ensures form { (result ≡ 2) ↔ (IsFlat form → ⊥) }
     ensures limits { (result ≡ 3) ↔ (IsFlat form × (GiveLimits limits.now → ⊥)) }
     ensures tariff { (result ≡ 4) ↔ (IsFlat form × GiveLimits limits.now × (IsTariff limits.now.tariff → ⊥)) }
-    // The bytes are an accepted message, and these are its figures; the report tells what its walk pays and visits.
+    // The bytes are an accepted message, and these are its figures; the report says what its walk pays and visits.
     ensures found { result ≡ 0 → FiguresIn (form_named form) bytes.now (bounds_of limits.now) figures.new
         × (report.new ≡ answered 0 figures.new.paid figures.new.visits) }
-    // A message that is accepted has them told, unless memory runs out.
+    // A message that is accepted has them, unless memory runs out.
     ensures only { IsFlat form → GiveLimits limits.now → IsTariff limits.now.tariff → (v : Value)
         → Denotes (form_named form) bytes.now (bounds_of limits.now) v → (result ≡ 0) ⊎ (result ≡ 8) }
     ensures blank { 1 ≤ result → result ≤ 4 → report.new ≡ at_number 0 }
     ensures listed { IsTrue (is_status result) }
-    // What each refusal means, and that no other is told so.
+    // What each refusal means; no other status stands for it.
     ensures refused { 5 ≤ result → (e : Refusals) × Tells result report.new e
         × IsUnacceptedIn (form_named form) bytes.now (bounds_of limits.now) e }
-    // Memory is wanted only for a depth above 64, and for where two segments or more end.
+    // Memory is needed only for a depth above 64, and for where two segments or more end.
     ensures wanted { result ≡ 8 → MayWantMemory (form_named form) bytes.now (bounds_of limits.now) }
     // No walk pays beyond its budget.
     ensures bounded { IsBounded limits.now.budget report.new.paid report.new.visits }
-    // Where nothing is told, the figures are as they were.
+    // If the call has no answer, the figures are as they were.
     ensures kept { result ≢ 0 → figures.new ≡ figures.old }
 {
     *report = report_at(0);

@@ -32,7 +32,7 @@ fn report_of_progress(progress: Progress) -> CapnReport
     }
 }
 
-/// How many words a buffer of so many bytes has room for.
+/// How many words a buffer of `bytes` bytes has room for.
 fn room_of(bytes: usize) -> u32
     ensures { result ≡ words_in bytes }
 {
@@ -62,10 +62,10 @@ pub extern "C" fn capn_unpack_some(
 ) -> u32
     // What is in the buffer, and how far it came.
     ensures some { result ≢ 8 → UnpacksInto bytes.now result report.new out.old out.new }
-    // Memory is wanted only where a whole group that has room stands first.
+    // Memory is needed only if a whole group that has room stands first.
     ensures wanted { result ≡ 8 → StartsWithin bytes.now (words_in (length out.old)) }
     ensures listed { IsTrue (is_status result) }
-    // Without memory nothing is told, and the buffer is as it was.
+    // Without memory nothing is reported, and the buffer is as it was.
     ensures blank { result ≡ 8 → report.new ≡ at_number 0 }
     ensures kept { result ≡ 8 → out.new ≡ out.old }
 {

@@ -63,13 +63,13 @@ pub extern "C" fn capn_is_canonical(
     ensures only { GiveLimits limits.now → IsTariff limits.now.tariff → (v : Value)
         → Denotes forms.Bare bytes.now (bounds_of limits.now) v → first_cap v ≡ None
         → (result ≡ 8) ⊎ ((result ≡ 0) × (canon v ≡ bytes.now)) ⊎ ((result ≡ 5) × (canon v ≢ bytes.now)) }
-    // An answer tells nothing in the report.
+    // The report of an answer is empty.
     ensures blank { result ≤ 5 → report.new ≡ at_number 0 }
     ensures listed { IsTrue (is_status result) }
-    // What each refusal means, and that no other is told so.
+    // What each refusal means; no other status stands for it.
     ensures refused { 6 ≤ result → (e : Refusals) × Tells result report.new e
         × IsRefused forms.Bare bytes.now (bounds_of limits.now) e }
-    // No memory is wanted for a depth of at most 64.
+    // No memory is needed for a depth of at most 64.
     ensures inline { limits.now.depth ≤ 64 → result ≢ 8 }
     // No walk pays beyond its budget.
     ensures bounded { IsBounded limits.now.budget report.new.paid report.new.visits }

@@ -1,4 +1,5 @@
--- A survey tells a price and a length that is enough; a value without capabilities is refused for want of memory alone.
+-- A survey answers a price and a length that is enough; a value without capabilities is refused only if memory runs
+-- out.
 use Rattle.std.proofs.Common.{inl, ap, sym, refl, ◌∙◌, arith, Err}
 use Rattle.capn_canon.specs.Layout.{canon}
 use Rattle.capn_c.specs.declared.report.CapnReport.{CapnReport}

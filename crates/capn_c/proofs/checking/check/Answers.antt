@@ -1,4 +1,4 @@
--- A refusal of what is accepted is want of memory, whose status is 8.
+-- What is accepted is refused only if memory runs out, for which the status is 8.
 use Rattle.std.proofs.Common.{inr, ap, sym, ◌∙◌, Err}
 use Rattle.capn_c.specs.Codes.{code}
 use Rattle.capn_c.proofs.OutOfMemory.{unaccepted_memory}

@@ -1,4 +1,4 @@
--- What is told of the frame that stands first is told of its length.
+-- What holds of the frame that stands first holds of its length.
 use Rattle.std.proofs.Common.{rules}
 use Rattle.capn_c.proofs.framing.length_of.Goals as goal
 

@@ -1,4 +1,4 @@
--- A refusal that is told by 8 is want of memory.
+-- A refusal with the status 8 says that memory ran out.
 use Rattle.std.proofs.Common.{ap, sym, ◌∙◌, Err}
 use Rattle.capn_c.proofs.OutOfMemory.{refused_memory}
 use Rattle.capn_c.proofs.hashing.hash.Goals as goal

@@ -1,4 +1,4 @@
--- The index has as many entries as its survey has visits; a refusal of what is accepted is want of memory.
+-- The index has as many entries as its survey has visits; what is accepted is refused only if memory runs out.
 use Rattle.std.proofs.Common.{◌≤◌, inl, inr, length, ap, sym, ◌∙◌, arith, Err}
 use Rattle.capn_c.specs.Codes.{code}
 use Rattle.capn_c.proofs.Counted.{entries_of_survey, entries_told}

@@ -1,4 +1,4 @@
--- What is refused, and not for want of memory, is not accepted.
+-- What is refused, and not because memory ran out, is not accepted.
 use Rattle.std.proofs.Common.{inl, inr}
 use Rattle.capn_c.proofs.Depths.{refused_not}
 use Rattle.capn_c.proofs.measuring.is_accepted.Goals as goal

@@ -1,4 +1,4 @@
--- A check tells whether the message is canonical.
+-- A check says whether the message is canonical.
 use Rattle.capn_c.proofs.OneBare.{canonical-bare}
 use Rattle.capn_c.proofs.measuring.is_canonical_bare.Goals as goal
 

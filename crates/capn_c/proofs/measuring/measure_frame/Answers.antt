@@ -1,4 +1,4 @@
--- Where nothing is told of bytes that denote a value, memory was refused.
+-- If nothing is answered of bytes that denote a value, memory was refused.
 use Rattle.std.proofs.Common.{ℕ, List, Err, inl, inr, length, ap, subst, sym, arith}
 use Rattle.capn_stream.specs.Frames.{StandsFirst}
 use Rattle.capn_stream.specs.Reading.{HasTable}

@@ -1,4 +1,4 @@
--- In each of the two forms memory is wanted where it may be.
+-- In each of the two forms memory is needed only where it may be.
 use Rattle.std.proofs.Common.{sym, subst}
 use Rattle.capn_canon.specs.Denotes.{Denotes}
 use Rattle.capn_canon.specs.Wanted.{MayWantMemory}

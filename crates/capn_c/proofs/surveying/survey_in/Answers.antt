@@ -1,4 +1,4 @@
--- What is told of a survey and of the measures are the figures; a refusal of what is accepted is want of memory.
+-- The figures are those of a survey and of the measures; what is accepted is refused only if memory runs out.
 use Rattle.std.proofs.Common.{rules, inr, ap, sym, ◌∙◌, Err}
 use Rattle.capn_c.specs.Codes.{code}
 use Rattle.capn_c.proofs.Figured.{figured}

@@ -1,4 +1,4 @@
--- A refusal that is told by 8 is want of memory, which a depth of at most 64 has not.
+-- A refusal with the status 8 says that memory ran out, which it doesn't for a depth of at most 64.
 use Rattle.std.proofs.Common.{sym, ◌∙◌}
 use Rattle.capn_canon.specs.declared.form.Form.TheVariants as forms
 use Rattle.capn_c.proofs.OutOfMemory.{refused_memory}
