@@ -12,7 +12,7 @@ use std::alloc::Global;
 /// The bytes of each message.
 const BYTES: u32 = 1 << 12;
 
-/// Bytes of one segment behind a table.
+/// Bytes of one segment after a table.
 fn framed_again(alloc: Global, bytes: &[u8]) -> Result<Vec<u8>> {
     match Bare::new(bytes) {
         Ok(words) => match frame(alloc, &words) {
@@ -49,7 +49,7 @@ fn first_words(alloc: Global, bytes: &[u8]) -> Result<u32> {
 }
 
 /// Tests that unpacking takes back what packing gives, that the framer gives what `first` gives, and that the walk pays
-/// what the survey tells.
+/// what the survey reports.
 fn check_readings(alloc: Global, bytes: &[u8]) -> Result<()> {
     ensure!(is_unpacked(alloc, bytes)?, "other words");
     let words = first_words(alloc, bytes)?;

@@ -5,7 +5,7 @@ use crate::shapes::{Shape, framed};
 use anyhow::Result;
 use std::alloc::Global;
 
-/// Does an operation so many times. The answer is some number of what came out.
+/// Does an operation `steps` times. The answer is some number of what came out.
 fn repeated(alloc: Global, operation: Operation, input: &Input, steps: u32) -> Result<usize> {
     let mut sum = 0usize;
     for _ in 0..steps {
@@ -14,7 +14,7 @@ fn repeated(alloc: Global, operation: Operation, input: &Input, steps: u32) -> R
     Ok(sum)
 }
 
-/// Makes the input of an operation and does the operation so many times. Prints the bytes by which its cost is told.
+/// Makes the input of an operation and does the operation `steps` times. Prints the bytes by which its cost is given.
 pub(crate) fn count(
     rt: &impl Print,
     alloc: Global,

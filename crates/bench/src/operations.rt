@@ -104,7 +104,7 @@ pub(crate) struct Input {
     bytes: Vec<u8>,
     /// The tree of the message.
     tree: Option<Tree>,
-    /// The bytes by which its cost is told: those of canonical bytes, else of the framed message or the stream.
+    /// The bytes by which its cost is given: those of canonical bytes, else of the framed message or the stream.
     pub size: usize,
 }
 
@@ -258,7 +258,7 @@ fn checked(alloc: Global, stream: &[u8]) -> Result<Vec<u8>> {
     }
 }
 
-/// Bytes of which the cost is told by a size, or else by their own.
+/// Bytes of which the cost is given by a size, or else by their own.
 fn of_bytes(bytes: Result<Vec<u8>>, size: Option<usize>) -> Result<Input> {
     let bytes = bytes?;
     let size = size.unwrap_or(bytes.len());
@@ -269,7 +269,7 @@ fn of_bytes(bytes: Result<Vec<u8>>, size: Option<usize>) -> Result<Input> {
     })
 }
 
-/// A tree of which the cost is told by the size of its framed message.
+/// A tree of which the cost is given by the size of its framed message.
 fn of_tree(alloc: Global, tree: Result<Tree>, size: usize) -> Result<Input> {
     let tree = tree?;
     Ok(Input {

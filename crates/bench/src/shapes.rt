@@ -72,7 +72,7 @@ impl Shape {
     }
 }
 
-/// A framed message of some so many bytes, or a stream of small ones.
+/// A framed message of about `bytes` bytes, or a stream of small ones.
 pub(crate) fn framed(alloc: Global, shape: Shape, bytes: u32) -> Result<Vec<u8>, AllocError> {
     match shape {
         Shape::Wide => flat::wide(alloc, bytes),

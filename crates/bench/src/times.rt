@@ -12,13 +12,13 @@ const SIZES: [u32; 4] = [1 << 10, 1 << 16, 1 << 20, 1 << 24];
 /// The messages of the stream of small ones.
 const MESSAGES: u32 = 1 << 20;
 
-/// The thousandths of a nanosecond a unit, of which there are so many.
+/// The thousandths of a nanosecond a unit, of which there are `units`.
 fn per_unit(nanoseconds: u128, units: usize) -> u64 {
     let thousandths = nanoseconds.saturating_mul(1000) / (units.max(1) as u128);
     u64::try_from(thousandths).unwrap_or(u64::MAX)
 }
 
-/// The time of so many steps of an operation, in thousandths of a nanosecond a byte.
+/// The time of `steps` steps of an operation, in thousandths of a nanosecond a byte.
 fn timed<R: Clock>(
     rt: &R,
     alloc: Global,
@@ -34,7 +34,7 @@ fn timed<R: Clock>(
     Ok(per_unit(start.elapsed(rt)?.as_nanos(), units))
 }
 
-/// The shortest of some times of an operation on an input of some so many bytes. A small one is taken many times over,
+/// The shortest of some times of an operation on an input of about `bytes` bytes. A small one is taken many times over,
 /// so that the clock's own time counts for little.
 fn least_of<R: Clock>(
     rt: &R,

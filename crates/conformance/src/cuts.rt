@@ -11,7 +11,7 @@ use capn_walk::{Limits, walk};
 use capn_words::{Bare, MOST_MESSAGE_WORDS, MOST_SEGMENTS};
 use std::alloc::Global;
 
-/// The first bytes, at most so many.
+/// The first `len` bytes.
 fn start_of(bytes: &[u8], len: usize) -> &[u8] {
     if len <= bytes.len() {
         &bytes[..len]
@@ -70,7 +70,8 @@ fn last_group(text: &[u8]) -> usize {
     at
 }
 
-/// Whether the words of a text's whole groups are told, and where it is cut if it is: by one call, and in one piece.
+/// Whether the words of a text's whole groups are answered, and where it is cut if it is: by one call, and in one
+/// piece.
 fn is_unpacked(alloc: Global, text: &[u8]) -> bool {
     let at = last_group(text);
     let mut unpacker = Unpacker::new();
@@ -195,7 +196,7 @@ fn due_text(alloc: Global, form: Form, bytes: &[u8], limits: Limits) -> Result<S
     }
 }
 
-/// A message that is cut answers what is due.
+/// A message that is cut answers what it must.
 fn cut_once(alloc: Global, form: Form, start: &[u8], limits: Limits) -> Result<()> {
     let told = canonical_text(alloc, form, start, limits)?;
     let due = due_text(alloc, form, start, limits)?;
@@ -207,8 +208,8 @@ fn cut_once(alloc: Global, form: Form, start: &[u8], limits: Limits) -> Result<(
     }
 }
 
-/// Cuts the message of a case at each byte, where the case is one of canonical bytes: each beginning answers what is
-/// due. A text that is longer than its limit is left out.
+/// Cuts the message of a case at each byte, where the case is one of canonical bytes: each beginning answers what it
+/// must. A text that is longer than its limit is left out.
 pub(crate) fn cut_each(alloc: Global, words: &[&str], answer: &str) -> Result<()> {
     let (tariff, words) = tariff_and_call(words);
     if word_at(words, 0)? != "canonicalise" || answer.starts_with("packed: TooLong") {

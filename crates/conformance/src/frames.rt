@@ -22,7 +22,7 @@ pub(crate) fn limit_at(words: &[&str], at: usize) -> Result<u32>
     Ok(limit)
 }
 
-/// The bytes of each segment, each behind a space.
+/// The bytes of each segment, each after a space.
 pub(crate) fn segments_text<S: Space>(alloc: Global, space: &S) -> Result<String> {
     let mut text = String::new(alloc);
     for segment in 0..space.segments() {
@@ -37,7 +37,7 @@ pub(crate) fn segments_text<S: Space>(alloc: Global, space: &S) -> Result<String
     Ok(text)
 }
 
-/// What is told of a message that takes so many bytes.
+/// What is printed of a message that takes `taken` bytes.
 fn taken_text<S: Space>(alloc: Global, message: &S, taken: usize) -> Result<String> {
     let segments = segments_text(alloc, message)?;
     Ok(format!(in alloc; "taken {taken}:{segments}")?)

@@ -9,17 +9,17 @@ use test_allocator::Refusing;
 /// Where the calls of a case take their memory. What a case itself takes, as for its text, is never refused.
 pub(crate) type Heap = Refusing<Global>;
 
-/// How the answer of a case ends whose call answered that memory is wanted. Before it stands what was told or written
+/// How the answer of a case ends whose call answered that memory ran out. Before it stands what was printed or written
 /// by then.
 pub(crate) const MEMORY: &str = "Memory";
 
-/// What was written before memory was wanted, and that it was.
+/// What was written before memory ran out, and that it did.
 pub(crate) fn cut_short(alloc: Global, written: &[u8]) -> Result<String> {
     let digits = hex::encode(alloc, written)?;
     Ok(format!(in alloc; "{digits}{MEMORY}")?)
 }
 
-/// An answer behind its status, if it has one.
+/// An answer after its status, if it has one.
 fn behind_status(text: &str) -> &str {
     match text.strip_prefix("status 0, ") {
         Some(rest) => rest,
@@ -27,7 +27,7 @@ fn behind_status(text: &str) -> &str {
     }
 }
 
-/// Whether a case with a refused growth told a beginning of the answer, and then that memory is wanted.
+/// Whether a case with a refused growth gave a beginning of the answer, and then that memory ran out.
 fn is_cut_short(told: &str, want: &str) -> bool {
     match told.strip_suffix(MEMORY) {
         Some(begun) => want.starts_with(begun) || behind_status(want).starts_with(begun),
@@ -35,8 +35,8 @@ fn is_cut_short(told: &str, want: &str) -> bool {
     }
 }
 
-/// Refuses a growth of a call: it must be answered that memory is wanted and nothing else, and the same call
-/// afterwards, which meets no refusal, must give the answer.
+/// Refuses a growth of a call: it must answer that memory ran out and nothing else, and the same call afterwards, which
+/// meets no refusal, must give the answer.
 fn refuse(alloc: Global, words: &[&str], number: u64, want: &str) -> Result<()> {
     let heap = Heap::nth(alloc, number);
     let told = answer(alloc, &heap, words)?;
@@ -50,8 +50,8 @@ fn refuse(alloc: Global, words: &[&str], number: u64, want: &str) -> Result<()> 
     Ok(())
 }
 
-/// What a call answers, as a line. Each of its growths is refused once, and where its message is cut it answers what is
-/// due.
+/// What a call answers, as a line. Each of its growths is refused once, and where its message is cut it answers what it
+/// must.
 pub(crate) fn answer_each(alloc: Global, line: &str) -> Result<String> {
     let words: Vec<&str> = line.split(' ').collect(alloc)?;
     let ample = Heap::nth(alloc, 0);

@@ -47,7 +47,7 @@ pub(crate) fn limits_answer(alloc: Global, words: &[&str]) -> Result<String> {
     Ok(String::from_str(alloc, text)?)
 }
 
-/// Whether bytes are the layout of a tree; false where memory is wanted.
+/// Whether bytes are the layout of a tree; false if memory ran out.
 fn is_layout(heap: &Heap, tree: &Tree<&Heap>, bytes: &[u8]) -> Result<bool> {
     match layout(heap, tree) {
         Ok(laid) if laid.as_slice() == bytes => Ok(true),
@@ -57,7 +57,7 @@ fn is_layout(heap: &Heap, tree: &Tree<&Heap>, bytes: &[u8]) -> Result<bool> {
     }
 }
 
-/// The same of a tree that was to be made.
+/// Whether bytes are the layout of a tree that was to be made.
 fn is_layout_of_made(heap: &Heap, made: Result<Tree<&Heap>, Memory>, bytes: &[u8]) -> Result<bool> {
     match made {
         Ok(tree) => {
@@ -70,7 +70,7 @@ fn is_layout_of_made(heap: &Heap, made: Result<Tree<&Heap>, Memory>, bytes: &[u8
     }
 }
 
-/// The same of a tree, of its copy, and of its trimmed form.
+/// Whether bytes are the layout of a tree, of its copy, and of its trimmed form.
 fn is_layout_of_each(heap: &Heap, tree: &Tree<&Heap>, bytes: &[u8]) -> Result<bool> {
     Ok(
         is_layout(heap, tree, bytes)?
@@ -79,7 +79,7 @@ fn is_layout_of_each(heap: &Heap, tree: &Tree<&Heap>, bytes: &[u8]) -> Result<bo
     )
 }
 
-/// The same of the tree that a walk of the message makes.
+/// Whether bytes are the layout of the tree that a walk of the message makes.
 fn is_layout_of<S: Space>(heap: &Heap, space: &S, limits: Limits, bytes: &[u8]) -> Result<bool> {
     match walk(heap, space, limits) {
         Ok(walked) => {
@@ -92,7 +92,7 @@ fn is_layout_of<S: Space>(heap: &Heap, space: &S, limits: Limits, bytes: &[u8]) 
     }
 }
 
-/// The same of the message that stands first.
+/// Whether bytes are the layout of the tree of the message that stands first.
 fn is_layout_of_frame(heap: &Heap, stream: &[u8], limits: Limits, bytes: &[u8]) -> Result<bool> {
     match first(heap, stream, MOST_MESSAGE_WORDS) {
         Ok((space, _)) => is_layout_of(heap, &space, limits, bytes),
@@ -101,7 +101,7 @@ fn is_layout_of_frame(heap: &Heap, stream: &[u8], limits: Limits, bytes: &[u8]) 
     }
 }
 
-/// The same of the message that an input is in a form.
+/// Whether bytes are the layout of the tree of the message that an input is in a form.
 fn is_layout_in_form(
     heap: &Heap,
     form: Form,
@@ -142,7 +142,7 @@ pub(crate) fn canonical_text(
     }
 }
 
-/// What canonical bytes are told as, where they are the layout of the tree that a walk of the input makes, of its copy,
+/// What is printed of canonical bytes, if they are the layout of the tree that a walk of the input makes, of its copy,
 /// and of its trimmed form.
 fn laid_text(
     alloc: Global,
@@ -176,7 +176,7 @@ pub(crate) fn canonicalise_answer(
     }
 }
 
-/// What canonical bytes are told as, by whether they have themselves as canonical bytes.
+/// What is printed of canonical bytes, by whether they have themselves as canonical bytes.
 fn again_text(heap: &Heap, once: &[u8], limits: Limits) -> &'static str {
     match canonicalise(heap, Form::Bare, once, limits) {
         Ok(again) if again.bytes.as_slice() == once => "again",
@@ -205,7 +205,7 @@ pub(crate) fn again_answer(
     Ok(String::from_str(alloc, text)?)
 }
 
-/// What canonical bytes are told as, beside those of the first message.
+/// What is printed of canonical bytes, beside those of the first message.
 fn equal_text(first: &[u8], canonical: Result<Canonical<&Heap>, Refusal>) -> Result<&'static str> {
     match canonical {
         Ok(canonical) if canonical.bytes.as_slice() == first => Ok("equal"),
@@ -215,7 +215,7 @@ fn equal_text(first: &[u8], canonical: Result<Canonical<&Heap>, Refusal>) -> Res
     }
 }
 
-/// The same of the message at a place of the line.
+/// What is printed of the canonical bytes of the message at a place of the line, beside those of the first.
 fn equal_at(
     alloc: Global,
     heap: &Heap,
@@ -229,7 +229,7 @@ fn equal_at(
     equal_text(first, canonical)
 }
 
-/// What the messages behind the first are told as: the first that isn't equal, if one isn't.
+/// What is printed of the messages after the first: the first that isn't equal, if one isn't.
 fn equal_each(alloc: Global, heap: &Heap, words: &[&str], first: &[u8]) -> Result<&'static str> {
     for pair in 1..words.len() / 2 {
         let text = equal_at(alloc, heap, words, 2 * pair + 1, first)?;

@@ -24,7 +24,7 @@ fn push_message(alloc: Global, message: &Stored<&Heap>, text: &mut String) -> Re
     push_told(text, told.as_str())
 }
 
-/// What the end of a stream is told.
+/// What is printed of the end of a stream.
 fn ending_text(alloc: Global, ending: Result<(), FrameFault>) -> Result<String> {
     match ending {
         Ok(()) => Ok(String::from_str(alloc, "Ok")?),
@@ -48,7 +48,7 @@ fn taken_text(framer: &mut Framer<&Heap>, alloc: Global) -> Result<String> {
     }
 }
 
-/// What a framer is told, in a word of the line, and what it answers; bytes are those of the next word.
+/// What a framer is to do, by a word of the line, and what it answers; bytes are those of the next word.
 fn framer_text(
     framer: &mut Framer<&Heap>,
     alloc: Global,
@@ -66,7 +66,7 @@ fn framer_text(
     }
 }
 
-/// Where memory was wanted, a framer has to fail from then on.
+/// If memory ran out, a framer has to fail from then on.
 fn has_to_fail(framer: &mut Framer<&Heap>) -> Result<()> {
     match (framer.feed(&[0]), framer.finish(), framer.take()) {
         (Err(FrameFault::Failed), Err(FrameFault::Failed), None) => Ok(()),
@@ -74,7 +74,7 @@ fn has_to_fail(framer: &mut Framer<&Heap>) -> Result<()> {
     }
 }
 
-/// Appends what a framer answers to a step; whether memory was wanted.
+/// Appends what a framer answers to a step; whether memory ran out.
 fn framer_step(
     framer: &mut Framer<&Heap>,
     alloc: Global,
@@ -87,7 +87,7 @@ fn framer_step(
     Ok(told.as_str() == MEMORY)
 }
 
-/// What a framer answers to all steps, or to those up to the one where memory was wanted.
+/// What a framer answers to all steps, or to those up to the one at which memory ran out.
 fn framer_steps(framer: &mut Framer<&Heap>, alloc: Global, words: &[&str]) -> Result<String> {
     let mut text = String::new(alloc);
     let mut is_piece = false;
@@ -145,7 +145,7 @@ fn feed_all(
     Ok(Ok(()))
 }
 
-/// Feeds the bytes, so many at a time, and appends each message that they make whole; how that ends.
+/// Feeds the bytes, `size` at a time, and appends each message that they make whole; how that ends.
 fn feed_pieces(
     framer: &mut Framer<&Heap>,
     alloc: Global,
@@ -182,7 +182,7 @@ fn pieces_text(
     Ok(text)
 }
 
-/// `pieces SIZE MOST_WORDS BYTES`: the messages of the bytes, fed so many at a time, and the ending.
+/// `pieces SIZE MOST_WORDS BYTES`: the messages of the bytes, fed `SIZE` at a time, and the ending.
 pub(crate) fn pieces_answer(alloc: Global, heap: &Heap, words: &[&str]) -> Result<String> {
     let size = number_at(words, 1)? as usize;
     let limit = limit_at(words, 2)?;

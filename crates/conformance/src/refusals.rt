@@ -6,7 +6,7 @@ use capn_walk::{Fault, Stopped};
 use std::alloc::Global;
 use std::fmt::Display;
 
-/// What a fault displays; want of memory, wherever it was met, as the one word by which growths know it.
+/// What a fault displays; if memory ran out, wherever that was, the one word by which growths know it.
 pub(crate) fn told<E: Display + Drop>(alloc: Global, fault: E) -> Result<String> {
     let text = format!(in alloc; "{fault}")?;
     match text.as_str().strip_suffix("out of memory") {

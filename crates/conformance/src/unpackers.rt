@@ -7,7 +7,7 @@ use anyhow::{Result, anyhow, bail};
 use capn_pack::{UnpackFault, Unpacker};
 use std::alloc::Global;
 
-/// Where memory was wanted, an unpacker has to fail from then on.
+/// If memory ran out, an unpacker has to fail from then on.
 fn unpacker_has_to_fail(unpacker: &mut Unpacker, alloc: Global) -> Result<()> {
     let mut unpacked = Vec::new(alloc);
     match (unpacker.feed(&[0, 0], &mut unpacked), unpacker.finish()) {
@@ -26,7 +26,7 @@ fn fed_text(unpacker: &mut Unpacker, alloc: Global, heap: &Heap, piece: &[u8]) -
     }
 }
 
-/// What an unpacker is told, in a word of the line, and what it answers; bytes are those of the next word.
+/// What an unpacker is to do, by a word of the line, and what it answers; bytes are those of the next word.
 fn unpacker_text(
     unpacker: &mut Unpacker,
     alloc: Global,
@@ -47,7 +47,7 @@ fn unpacker_text(
     }
 }
 
-/// Appends what an unpacker answers to a step; whether memory was wanted.
+/// Appends what an unpacker answers to a step; whether memory ran out.
 fn unpacker_step(
     unpacker: &mut Unpacker,
     alloc: Global,

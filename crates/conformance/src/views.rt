@@ -72,7 +72,7 @@ fn view_at<'v, 's, S: Space>(
     }
 }
 
-/// What a step to a view told, and what was paid by then.
+/// What is printed of a step to a view, and what was paid by then.
 fn step_text<'s, S: Space>(
     alloc: Global,
     step: Result<View<'s, S>, Fault>,
@@ -155,7 +155,7 @@ fn words_of_step(step: &str) -> usize {
     }
 }
 
-/// What all steps tell, from the first, which is to the root, on.
+/// What is printed of all steps, from the first, which is to the root, on.
 fn steps_text<S: Space>(
     alloc: Global,
     space: &S,

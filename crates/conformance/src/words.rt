@@ -33,7 +33,7 @@ pub(crate) fn digits_of(alloc: Global, bytes: &[u8]) -> Result<String> {
     Ok(hex::encode(alloc, bytes)?)
 }
 
-/// Appends what one step of a case told.
+/// Appends what is printed of one step of a case.
 pub(crate) fn push_told(text: &mut String, told: &str) -> Result<()> {
     if !text.is_empty() {
         text.push_str(", ")?;

@@ -1,9 +1,9 @@
 //! An example of the libraries: the messages of standard input, each with the digest of its canonical bytes, and
 //! whether its value is that of the message before it.
 //!
-//! Canonical bytes are what one signs, hashes and compares: they are equal exactly where the values are, up to trailing
-//! zero words and trailing null pointers. Who reads messages from strangers sets limits first; a message that is
-//! refused is told in words.
+//! Canonical bytes are what one signs, hashes and compares: they are equal if and only if the values are, up to
+//! trailing zero words and trailing null pointers. Programs that read messages from strangers set limits first; a
+//! message that is refused is reported in words.
 #![tactic(auto)]
 
 use anyhow::Result;

@@ -31,14 +31,14 @@ impl Account {
         }
     }
 
-    /// Whether a growth of so many bytes is refused.
+    /// Whether a growth of `size` bytes is refused.
     pub(crate) fn refuses(self, size: usize) -> bool
         ensures { (result ≡ true) ↔ ((self.left ≡ 1) ⊎ (self.most < size)) }
     {
         self.left == 1 || self.most < size
     }
 
-    /// The account once a growth of so many bytes has come.
+    /// The account once a growth of `size` bytes has come.
     pub(crate) fn counted(self, size: usize) -> Account
         ensures left { result.left ≡ self.left - 1 }
         ensures most { result.most ≡ self.most }

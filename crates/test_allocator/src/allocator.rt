@@ -4,7 +4,7 @@ use crate::account::Account;
 use std::alloc::{AllocError, Allocator};
 use std::cell::Cell;
 
-/// Passes each call on, but for the growths that it refuses.
+/// Passes each call on, except for the growths that it refuses.
 pub struct Refusing<B: Allocator> {
     inner: B,
     account: Cell<Account>,
@@ -55,7 +55,7 @@ impl<B: Allocator> Drop for Refusing<B> {
     }
 }
 
-// Counts a growth of so many bytes, and says whether it is to be refused.
+// Counts a growth of `size` bytes, and says whether it is to be refused.
 fn is_refused(account: &Cell<Account>, size: usize) -> bool {
     let before = account.get();
     account.set(before.counted(size));

@@ -15,14 +15,14 @@ const KINDS: [ErrorKind; 5] = [
     ErrorKind::Other,
 ];
 
-/// What a call is told to answer.
+/// What a call is to answer.
 #[derive(Clone, Copy)]
 enum Answer {
     Bytes(usize),
     Fault(ErrorKind),
 }
 
-/// A reader and writer that answers call by call what it is told, and in the end 0.
+/// A reader and writer that answers each call as its list says, and in the end 0.
 #[derive(Drop)]
 struct Told<'a> {
     answers: &'a [Answer],

@@ -7,7 +7,7 @@ use capn_walk::Limits;
 use std::alloc::Global;
 use std::test::Fail;
 
-// What all calls say of a seed's message in so many segments.
+// What all calls say of a seed's message in `segments` segments.
 fn answer(alloc: Global, seed: u64, segments: u64) -> Result<Answer, Fail> {
     let stream = message(alloc, seed, segments)?;
     agreed(alloc, stream.as_slice(), Limits::usual()).map_err(Fail::new)

@@ -37,7 +37,7 @@ pub(crate) fn agreed(alloc: Global, stream: &[u8], limits: Limits) -> Result<Ans
     Ok(answer)
 }
 
-// Whether a survey tells what a walk paid, visited and met, or where and why it stopped.
+// Whether a survey reports what a walk paid, visited and met, or where and why it stopped.
 fn is_surveyed(surveyed: &Result<Surveyed, Stopped>, walked: &Result<Walked, Stopped>) -> bool {
     match (surveyed, walked) {
         (Ok(told), Ok(walked)) => {

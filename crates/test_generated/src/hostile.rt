@@ -9,7 +9,7 @@ use std::alloc::{AllocError, Global};
 use std::process::Abort;
 use std::test::Fail;
 
-// One of a segment's words, the word behind them, or the greatest number.
+// One of a segment's words, the word after them, or the greatest number.
 fn any_index(random: &mut Random, count: u64, greatest: u64) -> u64 {
     match random.below(24) {
         0 => count,
@@ -62,7 +62,7 @@ fn any_list(random: &mut Random) -> u64 {
     list(code, count)
 }
 
-// A word at a place of a message of so many segments with so many words each.
+// A word at a place of a message of `segments` segments with `words` words each.
 fn any_word(random: &mut Random, segments: u64, words: u64, at: u64) -> u64 {
     match random.below(32) {
         0..=12 => {
@@ -169,7 +169,7 @@ fn ending(rt: &impl Abort, alloc: Global, seed: u64) -> Result<u32, AllocError> 
 
 // All calls agree on messages with cycles, near and far, overlaps, shared rows, tags and offsets at the ends of their
 // ranges, and pads that name pads: in each answer and in each refusal, its place, what was paid and its visits. Each
-// ending is met but want of memory.
+// ending is met except running out of memory.
 #[test]
 fn a_hundred_thousand_messages(rt: HostRuntime) -> Result<(), Fail> {
     let mut met = 0;

@@ -18,7 +18,7 @@ pub(crate) struct Segments {
 }
 
 impl Segments {
-    /// So many, of no words.
+    /// `count` segments of no words.
     pub(crate) fn new(alloc: Global, count: u64) -> Result<Segments, AllocError>
         ensures { IfOk result (λ it. map (λ words. words.items) it.segments.items ≡ replicate count []) }
     {
@@ -93,7 +93,7 @@ fn push_words(bytes: &mut Vec<u8>, words: &[u64]) -> Result<(), AllocError> {
     Ok(())
 }
 
-/// An offset's field: from the word behind a pointer to where the content starts.
+/// An offset's field: from the word after a pointer to where the content starts.
 pub(crate) fn offset_to(start: u64, pointer: u64) -> u64 {
     (start.wrapping_sub(pointer).wrapping_sub(1) & 0x3fff_ffff) << 2
 }
@@ -108,7 +108,7 @@ pub(crate) fn list(code: u64, count: u64) -> u64 {
     (count & 0x1fff_ffff) << 35 | (code & 7) << 32 | 1
 }
 
-/// A tag of so many rows.
+/// A tag of `count` rows.
 pub(crate) fn tag(count: u64, words: u64, slots: u64) -> u64 {
     node(words, slots) | (count & 0x3fff_ffff) << 2
 }

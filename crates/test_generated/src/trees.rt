@@ -56,7 +56,7 @@ fn is_read_back(alloc: Global, tree: &Tree) -> bool {
     }
 }
 
-// With ample memory none of the calls on a layout wants memory.
+// With ample memory none of the calls on a layout runs out of memory.
 #[test]
 fn layouts_of_a_thousand_values(rt: HostRuntime) -> Result<(), Fail> {
     let mut values = 0u64;

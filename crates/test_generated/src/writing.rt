@@ -96,7 +96,7 @@ impl Writing {
         })
     }
 
-    // A composite list, with words of slack behind its rows.
+    // A composite list, with words of slack after its rows.
     fn push_rows(&mut self) -> Result<Object, AllocError> {
         let at = self.place();
         let count = self.value.below(4);
@@ -174,8 +174,8 @@ impl Writing {
     }
 }
 
-/// The stream of a seed's message, in so many segments: the same value in however many. Below the struct or the
-/// list at its root stand fewer than 40 objects.
+/// The stream of a seed's message, in `count` segments: the same value in however many. Below the struct or the list at
+/// its root stand fewer than 40 objects.
 pub(crate) fn message(alloc: Global, seed: u64, count: u64) -> Result<Vec<u8>, AllocError> {
     let mut writing = Writing {
         value: Random::new(seed),

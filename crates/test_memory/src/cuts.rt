@@ -46,7 +46,7 @@ const STREAMS: [&str; 33] = [
     "0000000002000000000000000100000005000000000000000000000003000000000000000200000005000000000000000000000000000000",
 ];
 
-/// What is told of a stream: its messages, framed again, and how it ends.
+/// What is read of a stream: its messages, framed again, and how it ends.
 #[derive(Drop)]
 struct Told {
     frames: Vec<u8>,
@@ -58,7 +58,7 @@ fn rest_of(bytes: &[u8], at: usize) -> &[u8] {
     if at <= bytes.len() { &bytes[at..] } else { &[] }
 }
 
-/// The first bytes, at most so many.
+/// The first `len` bytes.
 fn start_of(bytes: &[u8], len: usize) -> &[u8] {
     if len <= bytes.len() {
         &bytes[..len]
@@ -116,7 +116,7 @@ fn feed_piece(
     Ok(())
 }
 
-/// Takes the messages by a framer that is fed so many bytes at a time, and answers how the stream ends.
+/// Takes the messages by a framer that is fed `size` bytes at a time, and answers how the stream ends.
 fn feed_each(
     alloc: Global,
     bytes: &[u8],
@@ -150,18 +150,18 @@ fn told_in_pieces(alloc: Global, bytes: &[u8], size: usize) -> Told {
     Told { frames, ending }
 }
 
-/// Whether a framer that is fed so many bytes at a time tells the same of some bytes.
+/// Whether a framer that is fed `size` bytes at a time reads some bytes as `first` does.
 fn is_told(alloc: Global, bytes: &[u8], want: &Told, size: usize) -> bool {
     let told = told_in_pieces(alloc, bytes, size);
     told.ending == want.ending && told.frames.as_slice() == want.frames.as_slice()
 }
 
-/// Whether each beginning of a stream is told of as `first` does, in pieces of each size.
+/// Whether each beginning of a stream is read as `first` reads it, in pieces of each size.
 fn are_told(alloc: Global, stream: &[u8]) -> bool {
     are_told_from(alloc, stream, 0)
 }
 
-/// The same of the beginnings that are at least so long.
+/// Whether the beginnings of at least `least` bytes are read as `first` reads them.
 fn are_told_from(alloc: Global, stream: &[u8], least: usize) -> bool {
     for len in least..=stream.len() {
         let bytes = start_of(stream, len);
@@ -184,7 +184,7 @@ fn twice(alloc: Global, digits: &str) -> Result<Vec<u8>, Fail> {
     Ok(bytes)
 }
 
-/// A stream is cut alone and behind itself: each beginning of it is one of the two.
+/// A stream is cut alone and after itself: each beginning of it is one of the two.
 #[test]
 fn streams_cut_at_every_byte(rt: HostRuntime) -> Result<(), Fail> {
     for digits in &STREAMS {
@@ -194,7 +194,7 @@ fn streams_cut_at_every_byte(rt: HostRuntime) -> Result<(), Fail> {
     Ok(())
 }
 
-/// A table of so many segments and one more, of which the first alone has a word, and its null.
+/// A table of `count` segments and one more, of which the first alone has a word, and its null.
 pub(crate) fn long_table(alloc: Global, count: u32) -> Result<Vec<u8>, Fail> {
     let mut bytes = Vec::new(alloc);
     bytes.extend_from_slice(&count.to_le_bytes())?;

@@ -6,7 +6,7 @@ use std::process::Abort;
 use std::test::Fail;
 use test_allocator::Refusing;
 
-/// A framer that was told of 2^28 words.
+/// A framer to which a message of 2^28 words was announced.
 fn waiting<'a>(rt: &impl Abort, heap: &'a Refusing<Global>) -> Framer<&'a Refusing<Global>> {
     let mut framer = Framer::new(heap, 268_435_456);
     let fed = framer.feed(&[0, 0, 0, 0, 0, 0, 0, 0x10]);
@@ -14,7 +14,7 @@ fn waiting<'a>(rt: &impl Abort, heap: &'a Refusing<Global>) -> Framer<&'a Refusi
     framer
 }
 
-/// So many of them.
+/// `count` such framers.
 fn waiting_each<'a>(
     rt: &impl Abort,
     alloc: Global,

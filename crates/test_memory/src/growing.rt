@@ -15,7 +15,7 @@ use std::alloc::{AllocError, Global};
 use std::test::Fail;
 use test_allocator::Refusing;
 
-/// Whether the message that stands first is all of the stream, and has so many segments.
+/// Whether the message that stands first is all of the stream, and has `segments` segments.
 fn is_whole(alloc: Global, stream: &[u8], segments: u32) -> bool {
     match first(alloc, stream, MOST) {
         Ok((message, taken)) => taken == stream.len() && message.segments() == segments,
@@ -179,7 +179,7 @@ fn shown_growths(alloc: Global, stream: &[u8]) -> Option<u64> {
     }
 }
 
-/// To show a message takes a walk, its text, and a few growths for the message and the line behind it.
+/// To show a message takes a walk, its text, and a few growths for the message and the line after it.
 #[test]
 fn a_message_is_walked_once_to_be_shown(rt: HostRuntime) -> Result<(), Fail> {
     let deep = chain(rt.alloc(), 200)?;

@@ -193,8 +193,8 @@ fn each_call(rt: HostRuntime) -> Result<(), Fail> {
     Ok(())
 }
 
-/// Whether no growth had this number, and what showing two messages, each with this text, answers with it refused:
-/// both texts, or that of the first, perhaps a beginning of the second's, and want of memory.
+/// Whether no growth had this number, and what showing two messages, each with this text, answers with it refused: both
+/// texts, or that of the first, perhaps a beginning of the second's, and that memory ran out.
 fn shows_twice(alloc: Global, twice: &[u8], text: &[u8], number: u64) -> (bool, Answer) {
     let short = Refusing::nth(alloc, number);
     let (outcome, shown) = output(alloc, &short, command_of(Order::Show), twice);
@@ -284,7 +284,7 @@ fn a_refused_growth_ends_a_run(rt: HostRuntime) -> Result<(), Fail> {
     Ok(())
 }
 
-/// Whether a chain of 63 structs is canonical and tells its price and its visits.
+/// Whether a chain of 63 structs is canonical, with its price and its visits.
 fn is_told(heap: &Refusing<Global>, deep: &[u8]) -> bool {
     is_canonical(heap, deep, limits(64)) == Ok(true)
         && accounted(heap, Form::Bare, deep, limits(64)) == Ok((253, 127, None))

@@ -41,7 +41,7 @@ pub(crate) fn check_answer(of: &Subject, short: &Refusing<Global>) -> Answer {
     }
 }
 
-/// The price, the visits and the first capability that a survey of bytes tells.
+/// The price, the visits and the first capability that a survey of bytes answers.
 pub(crate) fn accounted<A: Allocator + Copy>(
     alloc: A,
     form: Form,
@@ -52,7 +52,7 @@ pub(crate) fn accounted<A: Allocator + Copy>(
     Ok((told.paid, told.visits, told.capability))
 }
 
-/// What a survey tells of the stream, of its packed text, and of the chain, which is read bare.
+/// What a survey answers for the stream, for its packed text, and for the chain, which is read bare.
 pub(crate) fn account_answer(of: &Subject, short: &Refusing<Global>, form: Form) -> Answer {
     let bytes = match form {
         Form::Stream => of.stream,

@@ -114,7 +114,7 @@ pub(crate) fn layout_answer(of: &Subject, short: &Refusing<Global>) -> Answer {
     }
 }
 
-/// A word and a hole that is filled; no holes are left behind them.
+/// A word and a hole that is filled; no holes are left after them.
 pub(crate) fn patched(short: &Refusing<Global>) -> Result<Vec<u8, &Refusing<Global>>, Memory> {
     let mut patch = Patch::new(short);
     patch.push(1)?;

@@ -22,7 +22,7 @@ pub(crate) fn stream_of(alloc: Global, segment: &[u8]) -> Result<Vec<u8>, AllocE
     Ok(stream)
 }
 
-/// A root, and so many words of all kinds.
+/// A root, and `count` words of all kinds.
 fn segment_of(alloc: Global, root: u64, count: u64) -> Result<Vec<u8>, AllocError> {
     let mut words = Vec::new(alloc);
     words.push(root)?;
@@ -60,7 +60,7 @@ fn through_each(rt: &impl Abort, alloc: Global, segment: &[u8]) -> Result<(), Fa
     stream_through_each(rt, alloc, stream.as_slice())
 }
 
-/// The same of a message by its stream.
+/// No call on the message of a stream asks for more than it may.
 pub(crate) fn stream_through_each(
     rt: &impl Abort,
     alloc: Global,
@@ -145,14 +145,14 @@ fn no_memory_before_it_is_paid(rt: HostRuntime) -> Result<(), Fail> {
     Ok(())
 }
 
-/// Whether `first` tells that a stream is cut, without memory.
+/// Whether `first` answers that a stream is cut, without memory.
 fn is_cut(alloc: Global, stream: &[u8]) -> bool {
     let heap = Refusing::nth(alloc, 0);
     matches!(first(&heap, stream, 268_435_456), Err(FrameFault::Cut)) && heap.count() == 0
 }
 
-/// Whether `unpack` refuses a text so, or takes it where that is None, with the greatest maximum and a growth of at
-/// most so many bytes.
+/// Whether `unpack` refuses a text like this, or takes it if that is None, with the greatest maximum and no growth of
+/// more than `most` bytes.
 fn unpacks_small(alloc: Global, text: &[u8], want: Option<UnpackFault>, most: usize) -> bool {
     let heap = Refusing::nth(alloc, 0);
     let told = match unpack(&heap, text, u32::MAX) {

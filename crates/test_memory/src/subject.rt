@@ -30,12 +30,12 @@ pub(crate) struct Subject<'a> {
     pub chain: Vec<u8>,
 }
 
-/// The limits of a walk to so many objects below one another.
+/// The limits of a walk to `depth` objects below one another.
 pub(crate) fn limits(depth: u32) -> Limits {
     Limits::new(8_388_608, 8_388_608, depth).unwrap_or(Limits::usual())
 }
 
-/// So many structs of two slots, each in the first slot of the one before, with empty structs in the slots that are
+/// `levels` structs of two slots, each in the first slot of the one before, with empty structs in the slots that are
 /// left.
 pub(crate) fn chain(alloc: Global, levels: u32) -> Result<Vec<u8>, AllocError> {
     let mut words = Vec::new(alloc);
@@ -96,7 +96,7 @@ pub(crate) fn judged(is_right: bool) -> Answer {
     }
 }
 
-/// What was wanted is memory, exactly if this holds.
+/// Memory ran out, if and only if this holds.
 pub(crate) fn wanting(is_right: bool) -> Answer {
     if is_right {
         Answer::Memory

@@ -63,8 +63,8 @@ fn hash() -> Run<'static> {
     }
 }
 
-/// How much of the text is due before a call of the reader, of the messages that were whole by then: each that ends
-/// behind so many bytes brings the text to so many.
+/// How much of the text has to be there before a call of the reader, for the messages that were whole by then. Of each
+/// message `whole` has the byte at which it ends and the length of the text with it.
 fn due(whole: &[(u64, usize)], call: u64) -> usize {
     let mut due = 0;
     for (bytes, text) in whole {
@@ -103,7 +103,7 @@ fn reads_so(
     end.asked == 65_536 && is_ended(&end, outcome, text)
 }
 
-/// Fails each call of the reader in turn, the one that finds the end among them: what is due is written.
+/// Fails each call of the reader in turn, the one that finds the end among them: the output for what came is written.
 fn fail_each_read(rt: &impl Abort, alloc: Global, run_of: &Run, whole: &[(u64, usize)]) {
     let calls = run_of.input.len() as u64 + 1;
     for call in 0..=calls + 1 {
@@ -208,7 +208,7 @@ fn a_packed_stream_is_served(rt: HostRuntime) {
 }
 
 /// A packed stream that announces 4,097 segments in its second byte, one that is cut in a group, and one that is cut in
-/// a frame, the two behind a whole message.
+/// a frame, the last two after a whole message.
 const LONG: [u8; 4] = [2, 0x10, 0xff, 0x8a];
 
 const CUT: [u8; 9] = [0x10, 2, 0x10, 1, 1, 5, 0x10, 2, 0x10];

@@ -25,7 +25,7 @@ fn no_calls() -> Calls {
     }
 }
 
-/// A reader of at most so many bytes a call.
+/// A reader of at most `piece` bytes a call.
 #[derive(Drop)]
 struct Source<'a> {
     bytes: &'a [u8],
@@ -70,7 +70,7 @@ impl Write for Sink<'_> {
     }
 }
 
-/// What a run over pieces of so many bytes ended with, and what it wrote.
+/// What a run over pieces of `piece` bytes ended with, and what it wrote.
 fn ended(
     alloc: Global,
     command: Command,
@@ -99,7 +99,7 @@ const FRAMED: [u8; 32] = [
 /// The line of its price.
 const LINE: &[u8] = b"ok paid 3 visits 1\n";
 
-/// So many copies of some bytes.
+/// `count` copies of some bytes.
 fn repeated(alloc: Global, bytes: &[u8], count: u32) -> Option<Vec<u8>> {
     let mut all = Vec::new(alloc);
     for _ in 0..count {
@@ -113,7 +113,7 @@ fn check_stream() -> Command {
     Command::Check(Form::Stream, Limits::usual())
 }
 
-/// Whether `check` of so many messages, in pieces of so many bytes, writes their lines.
+/// Whether `check` of `count` messages, in pieces of `piece` bytes, writes their lines.
 fn is_checked(alloc: Global, count: u32, piece: usize, calls: &Calls) -> bool {
     let Some(lines) = repeated(alloc, LINE, count) else {
         return false;

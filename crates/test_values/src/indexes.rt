@@ -119,13 +119,13 @@ const SHARED_INDEX: [Entry; 3] = [
 /// A room of which nothing is filled.
 const ROOM: [Entry; 6] = [BLANK; 6];
 
-/// What an index of a message tells that is put into a room.
+/// What an index of a message answers that is put into a room.
 fn put(bytes: &[u8], limits: Limits, room: &mut [Entry]) -> Option<Result<Indexed, Stopped>> {
     let bare = Bare::new(bytes).ok()?;
     Some(index_into(&bare, limits, room))
 }
 
-/// Whether the entries are put into a room of so many, as far as it goes, and nothing behind them is touched.
+/// Whether the entries are put into a room of `most` entries, as far as it goes, and nothing after them is touched.
 fn is_put(bytes: &[u8], want: &[Entry], told: Indexed, most: usize) -> bool {
     let mut room = ROOM;
     let most = most.min(6);

@@ -42,7 +42,7 @@ fn structs(rt: HostRuntime) {
     let empty = holder(alloc, data(alloc, &[]));
     assert!(rt; is_laid(alloc, empty, &[0x1_0000_0000_0000, 0xffff_fffc]));
     assert!(rt; is_laid(alloc, holder(alloc, Ok(Value::Nil)), &[0xffff_fffc]));
-    // Of two equal structs each is laid by itself.
+    // Each of two equal structs is laid out by itself.
     let equal = pair(alloc, data(alloc, &[9]), data(alloc, &[9]));
     let want = [0x2_0000_0000_0000, 0x1_0000_0004, 0x1_0000_0004, 9, 9];
     assert!(rt; is_laid(alloc, equal, &want));
@@ -116,7 +116,7 @@ fn each_kind(rt: HostRuntime) {
     assert!(rt; is_refused(alloc, one_of_each(alloc, Value::Cap(2)), 2));
 }
 
-/// The first in preorder is told, and not the one of the nearer slot.
+/// The first in preorder is reported, and not the one of the nearer slot.
 #[test]
 fn capabilities(rt: HostRuntime) {
     let alloc = rt.alloc();

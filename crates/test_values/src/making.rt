@@ -1,4 +1,5 @@
-//! Values that are put together by hand. Each call takes what others gave, so that want of memory is told at the end.
+//! Values that are put together by hand. Each call takes what others gave, so that running out of memory is reported at
+//! the end.
 
 use capn_value::{Body, Items, Misfit, Tree, Value};
 use std::alloc::{AllocError, Global};
@@ -53,7 +54,7 @@ pub(crate) fn two_bodies(
     row(rows, second)
 }
 
-/// Rows with one more behind them.
+/// Rows with one more after them.
 fn row(
     rows: Result<Items<Body>, AllocError>,
     body: Result<Body, AllocError>,
@@ -75,7 +76,7 @@ pub(crate) fn text(alloc: Global, bytes: &[u8]) -> Made {
     Ok(Value::Bytes(Items::from_slice(alloc, bytes)?))
 }
 
-/// Slots with one more behind them. Lists of slots are made by such calls: a function with many `?` is dear to prove.
+/// Slots with one more after them. Lists of slots are made by such calls: a function with many `?` is dear to prove.
 fn with(slots: Result<Vec<Value>, AllocError>, slot: Made) -> Result<Vec<Value>, AllocError> {
     let mut slots = slots?;
     slots.push(slot?)?;

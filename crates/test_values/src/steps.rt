@@ -1,4 +1,4 @@
-//! What steps of views pay and where they lead, and what a survey and a check of a message tell.
+//! What steps of views pay and where they lead, and what a survey and a check of a message report.
 
 use crate::words::bytes_of;
 use capn_canon::{Checked, Refusal, check, survey};
@@ -15,7 +15,7 @@ const SHARED: [u64; 4] = [0x2_0000_0000_0000, 0x1_0000_0004, 0x1_0000_0000, 9];
 /// A stream whose root has a slot, which stands in segment 1.
 const FAR: [u64; 5] = [0x1_0000_0001, 0x2, 0x1_0000_0002, 0x1_0000_0000_0000, 0];
 
-/// What a meter has left behind the root and behind its slot at an index, and where that stands.
+/// What a meter has left after the root and after its slot at an index, and where that stands.
 fn stepped<S: Space>(space: &S, meter: &mut Meter, index: u32) -> Option<(u32, u32, Place)> {
     let root = View::root(space, meter, 64).ok()?;
     let left = meter.left();
@@ -26,7 +26,7 @@ fn stepped<S: Space>(space: &S, meter: &mut Meter, index: u32) -> Option<(u32, u
     Some((left, meter.left(), root.slot_place(index)))
 }
 
-/// What a new meter of so many words has left, behind the root, and behind its second slot, by a tariff.
+/// What a meter has left after the root and after its second slot.
 fn left_of_shared(alloc: Global, mut meter: Meter) -> Option<(u32, u32, Place)> {
     let bytes = bytes_of(alloc, &SHARED).ok()?;
     let bare = Bare::new(bytes.as_slice()).ok()?;
@@ -69,7 +69,7 @@ const CAPABILITY: [u64; 2] = [0x1_0000_0000_0000, 0x2_0000_0003];
 
 const RESERVED: [u64; 2] = [0x1_0000_0000_0000, 7];
 
-/// What a survey and a check tell of a message that is read bare.
+/// What a survey and a check report of a message that is read bare.
 fn told(
     alloc: Global,
     words: &[u64],
@@ -80,7 +80,7 @@ fn told(
     Some((surveyed, check(alloc, &bare, Limits::usual())))
 }
 
-/// Whether both tell this price, so many visits and this first capability, and the check whether the bytes are
+/// Whether both report this price, this number of visits and this first capability, and the check whether the bytes are
 /// canonical.
 fn are_told(
     alloc: Global,

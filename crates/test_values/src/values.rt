@@ -45,13 +45,13 @@ fn expect_same(rt: &impl Abort, one: Made, other: Made, want: bool) {
     }
 }
 
-/// A struct of so many data words.
+/// A struct of `count` data words.
 fn of_words(alloc: Global, count: usize) -> Made {
     let words = vec![in alloc; 0; count]?;
     data(alloc, words.as_slice())
 }
 
-/// So many nulls.
+/// `count` nulls.
 fn nulls(alloc: Global, count: u32) -> Result<Vec<Value>, AllocError> {
     let mut slots = Vec::new(alloc);
     for _ in 0..count {
@@ -60,12 +60,12 @@ fn nulls(alloc: Global, count: u32) -> Result<Vec<Value>, AllocError> {
     Ok(slots)
 }
 
-/// A struct of so many null slots.
+/// A struct of `count` null slots.
 fn of_slots(alloc: Global, count: u32) -> Made {
     Ok(Value::Node(body(alloc, &[], nulls(alloc, count)?)?))
 }
 
-/// So many structs, each but the last with the next as its one slot.
+/// `count` structs, each but the last with the next as its one slot.
 fn nested(alloc: Global, count: u32) -> Made {
     let mut value = data(alloc, &[])?;
     for _ in 1..count {
@@ -113,7 +113,7 @@ fn expect_plain(rt: &impl Abort, made: Made, words: u32) {
     }
 }
 
-/// A struct with a list of so many voids.
+/// A struct with a list of `count` voids.
 fn voids(alloc: Global, count: u32) -> Made {
     holder(alloc, Ok(Value::Voids(count)))
 }
@@ -256,7 +256,7 @@ fn first_capability(rt: HostRuntime) {
     expect_capability(&rt, one_of_each(alloc, Value::Cap(2)), Some(2));
 }
 
-/// Rows, of which one has a zero word behind a word, and the other a null behind a capability.
+/// Rows, of which one has a zero word after a word, and the other a null after a capability.
 fn kept_rows(alloc: Global) -> Result<Items<Body>, AllocError> {
     let mut slots = nulls(alloc, 1)?;
     slots.push(Value::Cap(3))?;

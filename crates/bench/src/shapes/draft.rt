@@ -21,7 +21,7 @@ impl Slot {
     /// Where the pointer to the root stands.
     pub(crate) const ROOT: Slot = Slot { segment: 0, at: 0 };
 
-    /// The word so many words behind it.
+    /// The word `words` words after it.
     pub(crate) fn after(self, words: u32) -> Slot {
         Slot {
             segment: self.segment,
@@ -56,7 +56,7 @@ fn narrow(number: usize) -> u32 {
 }
 
 impl Draft {
-    /// With the pointer to the root alone, in one segment, or in segments of some so many words.
+    /// With the pointer to the root alone, in one segment, or in segments of about `most` words.
     pub(crate) fn new(alloc: Global, most: Option<usize>) -> Result<Draft, AllocError> {
         let mut words = Vec::new(alloc);
         words.push(0)?;
@@ -135,7 +135,7 @@ impl Draft {
         }
     }
 
-    /// Writes the pointer to the object that is next behind a pad of two words, which ends a nearly full segment.
+    /// Writes the pointer to the object that is next after a pad of two words, which ends a nearly full segment.
     fn place_double_far(&mut self, slot: Slot, pointer: u64) -> Result<(), AllocError> {
         let far = self.far();
         self.point(slot, far | 4);
@@ -172,7 +172,7 @@ impl Draft {
         Ok(())
     }
 
-    /// So many words.
+    /// `count` words.
     pub(crate) fn fill(&mut self, content: Content, words: u32) -> Result<(), AllocError> {
         for _ in 0..words {
             let word = self.random.word(content);
@@ -213,7 +213,7 @@ impl Draft {
         Ok(())
     }
 
-    /// A list of 32-bit numbers, so many pairs of them.
+    /// A list of 32-bit numbers, `pairs` pairs of them.
     pub(crate) fn pairs(
         &mut self,
         slot: Slot,
@@ -265,8 +265,8 @@ impl Draft {
         Ok(first)
     }
 
-    /// A root with a list of pointers, as many as there are groups of so many words each in so many bytes. Answers the
-    /// first pointer and their number.
+    /// A root with a list of pointers, as many as `bytes` bytes have groups of `words` words. Answers the first pointer
+    /// and their number.
     pub(crate) fn groups(&mut self, bytes: u32, words: u32) -> Result<(Slot, u32), AllocError>
         requires { 0 < words }
     {
