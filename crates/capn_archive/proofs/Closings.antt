@@ -9,7 +9,7 @@ use Rattle.capn_archive.specs.declared.fault.ArchiveFault.{ArchiveFault}
 use Rattle.capn_archive.specs.declared.fault.ArchiveFault.TheVariants as faults
 use Rattle.capn_archive.specs.declared.tally.Skipped.{Skipped}
 use Rattle.capn_archive.specs.Finish.{fault_of, outcome_by}
-use Rattle.capn_archive.specs.Closing.{PutsClosing}
+use Rattle.capn_archive.specs.inner.Closing.{PutsClosing}
 
 abbrev pub Served : Type 0
 Served = Result (Unit {0}) RunFault

@@ -9,7 +9,7 @@ use Rattle.capn_canon.specs.declared.form.Form.{Form}
 use Rattle.capn_canon.specs.declared.form.Form.TheVariants as forms
 use Rattle.capn_serve.specs.declared.fault.RunFault.{RunFault}
 use Rattle.capn_archive.specs.declared.fault.ArchiveFault.TheVariants as faults
-use Rattle.capn_archive.specs.Closing.{PutsClosing}
+use Rattle.capn_archive.specs.inner.Closing.{PutsClosing}
 use Rattle.capn_archive.specs.Finish.{EndsAs, Finish, Finished, HasBegunClosing, fault_of, outcome}
 use Rattle.capn_serve.specs.Fold.{Fold, texts_of}
 use Rattle.capn_serve.specs.FormRun.{HasWritten, MessagesEnd, ServesMessages}

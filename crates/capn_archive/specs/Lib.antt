@@ -1,3 +1,4 @@
+pub mod inner
 pub mod Framed
 pub mod Depth
 pub mod Message
@@ -7,6 +8,5 @@ pub mod Tally
 pub mod Tasks
 pub mod Finish
 pub mod Archived
-pub mod Closing
 pub mod Sieve
 pub mod Uniq

@@ -3,7 +3,7 @@
 ghost use Rattle.std.specs.Prelude.{◌≡◌, false};
 ghost use Rattle.capn_words.specs.Watching.{inner_of, has_failed};
 ghost use Rattle.capn_archive.specs.Archived as spec;
-ghost use Rattle.capn_archive.specs.Closing.{PutsClosing};
+ghost use Rattle.capn_archive.specs.inner.Closing.{PutsClosing};
 ghost use Rattle.capn_archive.specs.Finish as finish;
 
 use crate::archivist::Archivist;

@@ -2,7 +2,7 @@
 
 ghost use Rattle.std.specs.Prelude.{◌≡◌, ℕ, false, IfOk, IfErr, string_bytes};
 ghost use Rattle.capn_words.specs.Watching.{inner_of, has_failed};
-ghost use Rattle.capn_archive.specs.Closing.{PutsClosing};
+ghost use Rattle.capn_archive.specs.inner.Closing.{PutsClosing};
 ghost use Rattle.capn_archive.specs.Finish.{outcome_by};
 ghost use Rattle.capn_archive.specs.Uniq as spec;
 ghost use Rattle.capn_archive.specs.Uniq.{Sieved};

@@ -8,7 +8,7 @@ use Rattle.capn_walk.specs.Limits.{Bounds}
 use Rattle.capn_walk.specs.Stops.{IsWithin, root, root_visits, visits_at_root}
 use Rattle.capn_walk.specs.Target.{target}
 use Rattle.capn_walk.specs.Visits.{last_visit, visits}
-use Rattle.capn_walk.specs.Laws.Stops.{never-both}
+use Rattle.capn_walk.proofs.shared.Stops.{never-both}
 use Rattle.capn_walk.specs.declared.target.Fault.{Fault}
 use Rattle.capn_walk.specs.declared.target.Target.{Target}
 use Rattle.capn_walk.specs.declared.target.Target.TheVariants as targets

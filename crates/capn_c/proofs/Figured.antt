@@ -4,7 +4,7 @@ use Rattle.std.specs.Bool.{IsTrue}
 use Rattle.capn_walk.specs.Limits.{Bounds}
 use Rattle.capn_walk.specs.declared.surveyed.Surveyed.{Surveyed}
 use Rattle.capn_canon.specs.Surveys.{Surveys}
-use Rattle.capn_canon.specs.Laws.OneReading.{one_message}
+use Rattle.capn_canon.proofs.shared.OneReading.{one_message}
 use Rattle.capn_canon.specs.declared.form.Form.{Form}
 use Rattle.capn_c.specs.Figures.{AreMeasures, FiguresIn, IsDepth, MeasuresIn, told_cap}
 use Rattle.capn_c.specs.declared.figures.CapnFigures.{CapnFigures}

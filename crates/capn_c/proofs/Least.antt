@@ -5,8 +5,8 @@ use Rattle.std.proofs.lemmas.Bool.Decides.{nat_tests}
 use Rattle.capn_stream.specs.Frames.{padding}
 use Rattle.capn_stream.specs.Framing.{IsUnfinished}
 use Rattle.capn_stream.specs.Reading.{HasCount, HasHead, announced_segments, announced_words, frame_length, head_length}
-use Rattle.capn_stream.specs.Laws.Longer.{segments-append, words-append}
-use Rattle.capn_stream.specs.Laws.Wanting.{frame_whole}
+use Rattle.capn_stream.proofs.shared.Longer.{segments-append, words-append}
+use Rattle.capn_stream.proofs.shared.Wanting.{frame_whole}
 use Rattle.capn_stream.specs.Reading.{IsRefused}
 use Rattle.capn_stream.specs.declared.fault.FrameFault.{FrameFault}
 use Rattle.capn_stream.specs.declared.fault.FrameFault.TheVariants as frame

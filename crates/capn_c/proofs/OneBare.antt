@@ -5,13 +5,13 @@ use Rattle.std.specs.Option.{unwrap_or}
 use Rattle.std.proofs.lemmas.List.{take_all}
 use Rattle.capn_words.specs.Message.{IsMessage, segment_at, bytes_at, words_of}
 use Rattle.capn_words.specs.Words.{bytes, IsBare}
-use Rattle.capn_words.specs.Laws.Words.{bytes-injective, length-bytes}
+use Rattle.capn_words.proofs.shared.Words.{bytes-injective, length-bytes}
 use Rattle.capn_walk.specs.Stops.{root}
 use Rattle.std.specs.Bool.{IsTrue}
 use Rattle.capn_value.specs.Caps.{first_cap}
 use Rattle.capn_walk.specs.Limits.{Bounds}
-use Rattle.capn_walk.specs.Laws.Segments.{length_of_none, length_of_some}
-use Rattle.capn_walk.specs.Laws.Unique.{unique}
+use Rattle.capn_walk.proofs.shared.Segments.{length_of_none, length_of_some}
+use Rattle.capn_walk.proofs.shared.Unique.{unique}
 use Rattle.capn_canon.specs.Checks.{IsCheck}
 use Rattle.capn_canon.specs.Layout.{canon}
 use Rattle.capn_canon.specs.declared.checked.Checked.{Checked}

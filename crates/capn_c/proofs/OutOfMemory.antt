@@ -9,7 +9,7 @@ use Rattle.capn_stream.specs.declared.fault.FrameFault.TheVariants as frame
 use Rattle.capn_walk.specs.declared.target.Fault.{Fault}
 use Rattle.capn_walk.specs.declared.target.Fault.TheVariants as walk
 use Rattle.capn_walk.specs.Limits.{Bounds}
-use Rattle.capn_walk.specs.Laws.Plain.{plain-refusal}
+use Rattle.capn_walk.proofs.shared.Plain.{plain-refusal}
 use Rattle.capn_canon.specs.declared.form.Form.{Form}
 use Rattle.capn_canon.specs.declared.form.Form.TheVariants as forms
 use Rattle.capn_canon.specs.declared.refusal.Refusal.{Refusal}

@@ -6,11 +6,11 @@ use Rattle.std.proofs.lemmas.List.{append-nil, drop-append-le, drop-drop, drop_a
 use Rattle.std.proofs.lemmas.List.Sums.{sum_by-cons}
 use Rattle.capn_words.specs.Message.{bytes, bytes_at, segment_at, total}
 use Rattle.capn_words.specs.Words.{IsBare}
-use Rattle.capn_words.specs.Laws.Words.{length-bytes}
+use Rattle.capn_words.proofs.shared.Words.{length-bytes}
 use Rattle.capn_words.specs.declared.space.Place.{Place}
 use Rattle.capn_stream.specs.Frames.{contents}
 use Rattle.capn_stream.specs.Reading.{announced_segments, announced_words, head_length}
-use Rattle.capn_stream.specs.Laws.FrameLaws.{announces, stands_alone}
+use Rattle.capn_stream.proofs.shared.FrameLaws.{announces, stands_alone}
 use Rattle.capn_walk.specs.Index.{IndexesAreReadable, by_kind, entry_at, entry_of, entry_target, index_of}
 use Rattle.capn_walk.specs.Limits.{Bounds}
 use Rattle.capn_walk.specs.Shapes.{IsContent}

@@ -1,7 +1,7 @@
 -- How many bytes the words have that were unpacked, and that they have room.
 use Rattle.std.proofs.Common.{◌≡◌, ℕ, ◌*◌, ◌≤◌, List, [], length, ap, arith}
 use Rattle.capn_pack.specs.Some.{UnpacksSome}
-use Rattle.capn_pack.specs.Laws.GroupLemmas.{length_contents}
+use Rattle.capn_pack.proofs.shared.GroupLemmas.{length_contents}
 use Rattle.capn_pack.specs.declared.some.Next.{Next}
 use Rattle.capn_c.specs.Pieces.{words_in}
 

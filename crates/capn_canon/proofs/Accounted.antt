@@ -13,10 +13,10 @@ use Rattle.capn_canon.specs.declared.refusal.Refusal.TheVariants as refusals
 use Rattle.capn_canon.specs.Reads.{Unpacks}
 use Rattle.capn_canon.specs.Denotes.{Denotes}
 use Rattle.capn_canon.specs.Refused.{IsUnacceptedIn}
-use Rattle.capn_canon.specs.Outcomes.{AreSurveyed}
+use Rattle.capn_canon.specs.inner.Outcomes.{AreSurveyed}
 use Rattle.capn_canon.specs.Surveys.{Surveys}
-use Rattle.capn_canon.specs.Laws.OneReading.{one_value, is_message}
-use Rattle.capn_canon.specs.Laws.NotUnaccepted.{not_unaccepted}
+use Rattle.capn_canon.proofs.shared.OneReading.{one_value, is_message}
+use Rattle.capn_canon.proofs.shared.NotUnaccepted.{not_unaccepted}
 use Rattle.capn_canon.specs.Layout.{canon}
 use Rattle.capn_canon.proofs.Answered.{denoted_here}
 use Rattle.capn_canon.proofs.Headline.{denoted_length}

@@ -5,14 +5,14 @@ use Rattle.capn_value.specs.Tree.{Tree}
 use Rattle.capn_walk.specs.Stops.{root}
 use Rattle.capn_walk.specs.Accepted.{IsValueOf}
 use Rattle.capn_walk.specs.Limits.{Bounds}
-use Rattle.capn_walk.specs.Laws.Unique.{unique}
+use Rattle.capn_walk.proofs.shared.Unique.{unique}
 use Rattle.capn_canon.specs.declared.form.Form.{Form}
 use Rattle.capn_canon.specs.Layout.{canon}
 use Rattle.capn_canon.specs.Denotes.{Denotes, AnswersMessage, Answers}
 use Rattle.capn_canon.specs.Reads.{Reads}
 use Rattle.capn_canon.specs.Canonicity.{IsCanonicalForm}
 use Rattle.capn_canon.proofs.Headline.{denoted_length, form_of_any}
-use Rattle.capn_canon.specs.Laws.OneReading.{is_message, one_message}
+use Rattle.capn_canon.proofs.shared.OneReading.{is_message, one_message}
 
 -- an answer for a message
 module _ (m : List (List ℕ)) (limits : Bounds) (bs : List ℕ) (n : ℕ) (h : AnswersMessage m limits bs n) where

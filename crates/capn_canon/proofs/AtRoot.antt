@@ -9,14 +9,14 @@ use Rattle.capn_walk.specs.At.{IsAt}
 use Rattle.capn_walk.specs.Accepted.{IsValueOf}
 use Rattle.capn_walk.specs.Limits.{Bounds}
 use Rattle.capn_canon.specs.Layout.{point, words, canon}
-use Rattle.capn_canon.specs.Laying.{laid}
+use Rattle.capn_canon.specs.inner.LayoutSteps.{laid}
 use Rattle.capn_canon.specs.Patch.{whole, filled}
 use Rattle.capn_canon.proofs.Headline.{denoted_fits, denoted_in_range, denoted_cost}
 use Rattle.capn_canon.proofs.Holes.{filled-whole}
 use Rattle.capn_canon.proofs.Laid.{laid-words}
 use Rattle.capn_canon.proofs.Room.{room}
 use Rattle.capn_canon.proofs.Sound.{sound}
-use Rattle.capn_canon.specs.Ready.{IsReady, IsLaid}
+use Rattle.capn_canon.specs.inner.ReadyPlaces.{IsReady, IsLaid}
 
 pub root-ready : (m : List (List ℕ)) (limits : Bounds) (v : Tree) → IsMessage m → limits.budget ≤ 2 ^ 28
     → limits.depth ≤ 256 → IsValueOf m limits v → IsReady m root limits.depth 1

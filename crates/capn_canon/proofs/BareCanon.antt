@@ -9,19 +9,19 @@ use Rattle.capn_words.specs.declared.pointer.Pointer.{Pointer}
 use Rattle.capn_words.specs.declared.pointer.Pointer.TheVariants.{Many, Cap}
 use Rattle.capn_words.specs.declared.pointer.Width.{Width}
 use Rattle.capn_words.specs.declared.pointer.Width.TheVariants.{W0, W1, W8, W16, W32, W64, Link, Rows}
-use Rattle.capn_words.specs.Laws.OneSegment.{bare_length, bare_only}
+use Rattle.capn_words.proofs.shared.OneSegment.{bare_length, bare_only}
 use Rattle.capn_value.specs.Tree.{Tree, nil, node, voids, bits, bytes, pairs, quads, octs, links, rows, cap, Trees}
 use Rattle.capn_value.specs.Tree.{no_trees, tree, Bodies, no_bodies, body, count, count_rows}
 use Rattle.capn_value.specs.Trim.{kept_words, kept_slots, kept_words_of_rows, kept_slots_of_rows}
 use Rattle.capn_value.specs.Sizes.{cost}
 use Rattle.capn_value.specs.Fits.{Fits}
 use Rattle.capn_value.specs.InRange.{AllBelow, InRange, EachInRange, RowsInRange}
-use Rattle.capn_value.specs.Laws.Ranges.{below-take}
+use Rattle.capn_value.proofs.shared.Ranges.{below-take}
 use Rattle.capn_canon.specs.Layout.{own, size, sizes, sizes_in_rows, row_size, list_to, struct_to, point, points}
 use Rattle.capn_canon.specs.Layout.{number, packed, row_contents, lay, lays, lays_in_rows, words, canon}
-use Rattle.capn_words.specs.Laws.Choices.{pick}
-use Rattle.capn_words.specs.Laws.Pointers.{word_of-lt}
-use Rattle.capn_canon.specs.Sound.{Sound, Sounds, SoundRows}
+use Rattle.capn_words.proofs.shared.Choices.{pick}
+use Rattle.capn_words.proofs.shared.Pointers.{word_of-lt}
+use Rattle.capn_canon.specs.inner.Sound.{Sound, Sounds, SoundRows}
 use Rattle.capn_canon.proofs.KeptLengths.{kept_words-le, kept_slots-le}
 use Rattle.capn_canon.proofs.Sound.{below, sound}
 use Rattle.capn_canon.proofs.Room.{room}

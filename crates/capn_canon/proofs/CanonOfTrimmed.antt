@@ -12,7 +12,7 @@ use Rattle.capn_value.specs.Trim.{kept_behind, kept_words, kept_slots, kept_word
 use Rattle.capn_value.specs.Trim.{trimmed_each, trimmed_rows}
 use Rattle.capn_canon.specs.Layout.{own, size, sizes, sizes_in_rows, struct_to, list_to, point, points, row_contents}
 use Rattle.capn_canon.specs.Layout.{lay, lays, lays_in_rows, words}
-use Rattle.capn_value.specs.Laws.Trimmed.{count-trimmed_each, count-trimmed_rows}
+use Rattle.capn_value.proofs.shared.Trimmed.{count-trimmed_each, count-trimmed_rows}
 
 take-again : (n : ℕ) (xs : List ℕ) → take n (take n xs) ≡ take n xs
 take-again zero xs = refl

@@ -4,15 +4,15 @@ use Rattle.std.proofs.Common.{ap, sym, subst, ◌∙◌, arith}
 use Rattle.std.proofs.Math.Seq.{take-length}
 use Rattle.std.proofs.lemmas.List.{take_all}
 use Rattle.capn_words.specs.Words.{bytes, IsBare}
-use Rattle.capn_words.specs.Laws.Words.{bytes-injective}
+use Rattle.capn_words.proofs.shared.Words.{bytes-injective}
 use Rattle.capn_value.specs.Tree.{Tree}
 use Rattle.capn_value.specs.Fits.{Fits}
 use Rattle.capn_value.specs.InRange.{InRange}
 use Rattle.capn_canon.specs.Layout.{size, point, lay, words, canon}
-use Rattle.capn_canon.specs.Sound.{Sound}
+use Rattle.capn_canon.specs.inner.Sound.{Sound}
 use Rattle.capn_canon.proofs.Room.{length_words}
 use Rattle.capn_canon.proofs.BareCanon.{words_are_words}
-use Rattle.capn_canon.specs.Stands.{Stand, IsLaidAt}
+use Rattle.capn_canon.specs.inner.WordsOfLayout.{Stand, IsLaidAt}
 use Rattle.capn_canon.proofs.Standing.{stand-cons, stand-head, stand-tail}
 
 module _ (all : List ℕ) (v : Tree) (o : Sound v) (some : 0 < length all) where

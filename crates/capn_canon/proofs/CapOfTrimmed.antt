@@ -6,7 +6,7 @@ use Rattle.capn_value.specs.Tree.{no_trees, tree, Bodies, no_bodies, body, front
 use Rattle.capn_value.specs.Caps.{first_cap, first_in, first_in_rows}
 use Rattle.capn_value.specs.Trim.{kept_slots, kept_words_of_rows, kept_slots_of_rows, trimmed, trimmed_each}
 use Rattle.capn_value.specs.Trim.{trimmed_rows}
-use Rattle.capn_value.specs.Laws.Cuts.{behind_le, behind_none, null_at}
+use Rattle.capn_value.proofs.shared.Cuts.{behind_le, behind_none, null_at}
 
 -- slots of which none is kept have no capability
 none-kept : (ss : Trees) → kept_slots ss ≤ 0 → first_in ss ≡ None

@@ -7,7 +7,7 @@ use Rattle.std.proofs.lemmas.List.{take-take, drop-take}
 use Rattle.capn_words.specs.Words.{word_number, AreBytes}
 use Rattle.capn_words.specs.Message.{word_bytes, bytes}
 use Rattle.capn_canon.specs.Patch.{cell, cells, filled, IsWhole}
-use Rattle.capn_words.specs.Laws.Words.{AreBytes-drop, AreBytes-append, word_bytes-number, length-word_bytes}
+use Rattle.capn_words.proofs.shared.Words.{AreBytes-drop, AreBytes-append, word_bytes-number, length-word_bytes}
 use Rattle.capn_canon.proofs.Bytes.{AreBytes-take, AreBytes-word, number-word}
 
 pub length-cells : (hs : List Bool) (bs : List ℕ) → length (cells hs bs) ≡ length hs

@@ -18,12 +18,12 @@ use Rattle.capn_walk.specs.Target.{target}
 use Rattle.capn_walk.specs.At.{AreAt, AreWords, words_from}
 use Rattle.capn_walk.specs.At.{IsInside}
 use Rattle.capn_canon.specs.Layout.{size, sizes, point, points, lay, lays, struct_to, list_to}
-use Rattle.capn_canon.specs.Sound.{Sound}
+use Rattle.capn_canon.specs.inner.Sound.{Sound}
 use Rattle.capn_canon.proofs.LaidPointers.{struct-names, list-names}
 use Rattle.capn_canon.proofs.KeptLengths.{kept_words-le, kept_slots-le}
 use Rattle.capn_canon.proofs.LayLengths.{length-lay, length-points}
-use Rattle.capn_canon.specs.Ready.{AreReady}
-use Rattle.capn_canon.specs.Stands.{Stand, IsLaidAt, AreLaidAt, Tells}
+use Rattle.capn_canon.specs.inner.ReadyPlaces.{AreReady}
+use Rattle.capn_canon.specs.inner.WordsOfLayout.{Stand, IsLaidAt, AreLaidAt, Tells}
 use Rattle.capn_canon.proofs.Nulls.{kept-slots}
 use Rattle.capn_canon.proofs.Shaped.{IsNode, as-node, IsLinks, as-links}
 use Rattle.capn_canon.proofs.Standing.{stand-none, stand-join, stand-front, stand-back, stand-room, stand-cons}

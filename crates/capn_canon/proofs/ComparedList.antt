@@ -15,12 +15,12 @@ use Rattle.capn_walk.specs.At.{words_from}
 use Rattle.capn_walk.specs.At.{IsInside}
 use Rattle.capn_walk.specs.Shapes.{IsPlain}
 use Rattle.capn_canon.specs.Layout.{size, point, lay, list_to}
-use Rattle.capn_canon.specs.Sound.{Sound}
+use Rattle.capn_canon.specs.inner.Sound.{Sound}
 use Rattle.capn_canon.proofs.OneSegment as one
 use Rattle.capn_canon.proofs.LaidPointers.{list-names}
 use Rattle.capn_canon.proofs.LayLengths.{length-lay}
-use Rattle.capn_canon.specs.Bits.{element_bits, last_bits, first_bits}
-use Rattle.capn_canon.specs.Stands.{Stand, IsLaidAt}
+use Rattle.capn_canon.specs.inner.FirstBits.{element_bits, last_bits, first_bits}
+use Rattle.capn_canon.specs.inner.WordsOfLayout.{Stand, IsLaidAt}
 use Rattle.capn_canon.proofs.FirstBits.{list-of, plain-words}
 use Rattle.capn_canon.proofs.Compared.{laid-room}
 

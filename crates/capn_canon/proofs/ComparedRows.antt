@@ -17,15 +17,15 @@ use Rattle.capn_walk.specs.declared.target.Shape.TheVariants as shapes
 use Rattle.capn_walk.specs.Target.{target}
 use Rattle.capn_walk.specs.At.{AreAt, RowsAt}
 use Rattle.capn_walk.specs.At.{IsInside}
-use Rattle.capn_walk.specs.Laws.Unique.{unique-rows}
+use Rattle.capn_walk.proofs.shared.Unique.{unique-rows}
 use Rattle.capn_canon.specs.Layout.{own, size, sizes, sizes_in_rows, row_size, point, points, lay, lays, row_contents}
 use Rattle.capn_canon.specs.Layout.{lays_in_rows, list_to}
-use Rattle.capn_canon.specs.Sound.{Sound, Sounds, SoundRows, AreWide}
+use Rattle.capn_canon.specs.inner.Sound.{Sound, Sounds, SoundRows, AreWide}
 use Rattle.capn_canon.proofs.LaidPointers.{rows-names}
 use Rattle.capn_canon.proofs.LayLengths.{length-lays, length-points, length-row_contents}
-use Rattle.capn_canon.specs.RowWords.{kept_each}
-use Rattle.capn_canon.specs.Ready.{AreReady}
-use Rattle.capn_canon.specs.Stands.{Stand, IsLaidAt, AreLaidAt, RowsLaidAt, Tells, AreReadyRows}
+use Rattle.capn_canon.specs.inner.RowWords.{kept_each}
+use Rattle.capn_canon.specs.inner.ReadyPlaces.{AreReady}
+use Rattle.capn_canon.specs.inner.WordsOfLayout.{Stand, IsLaidAt, AreLaidAt, RowsLaidAt, Tells, AreReadyRows}
 use Rattle.capn_canon.proofs.EachRow.{kept-rows-words, kept-rows-slots}
 use Rattle.capn_canon.proofs.Shaped.{IsRows, as-rows}
 use Rattle.capn_canon.proofs.Compared.{laid-room}

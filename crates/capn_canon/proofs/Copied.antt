@@ -1,5 +1,5 @@
 -- Bytes of a message that are copied as words.
-use Rattle.capn_walk.specs.Laws.Elements.{length-bytes_at}
+use Rattle.capn_walk.proofs.shared.Elements.{length-bytes_at}
 use Rattle.std.proofs.Common.{◌≡◌, ℕ, zero, suc, ◌+◌, ◌*◌, ◌%◌, ◌^◌, ◌<◌, ◌≤◌, List, [], ◌∷◌, ◌++◌, length, take, drop}
 use Rattle.std.proofs.Common.{slice_index, refl, ap, ap₂, ◌∙◌, arith, length-drop, Option}
 use Rattle.std.proofs.lemmas.List.{length-take-le, get_or-drop}
@@ -7,7 +7,7 @@ use Rattle.std.specs.List.{flat_map}
 use Rattle.byteorder.specs.Endian.{little_bytes}
 use Rattle.capn_words.specs.Message.{IsMessage, segment_at, bytes_at}
 use Rattle.capn_words.specs.Words.{word_bytes, bytes}
-use Rattle.capn_words.specs.Laws.Words.{bytes-drop, bytes-take, length-bytes}
+use Rattle.capn_words.proofs.shared.Words.{bytes-drop, bytes-take, length-bytes}
 use Rattle.capn_walk.specs.At.{words_from}
 use Rattle.capn_walk.specs.Target.{words_for}
 use Rattle.capn_canon.specs.Layout.{packed}

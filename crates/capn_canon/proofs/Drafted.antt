@@ -5,8 +5,8 @@ use Rattle.std.proofs.Common.{Some}
 use Rattle.std.proofs.lemmas.List.{length-replicate, replicate-append-replicate}
 use Rattle.capn_words.specs.Words.{AreBytes}
 use Rattle.capn_words.specs.Message.{word_bytes, bytes}
-use Rattle.capn_words.specs.Laws.Words.{AreBytes-append, length-word_bytes}
-use Rattle.capn_canon.specs.Draft.{drafted, IsDrafted}
+use Rattle.capn_words.proofs.shared.Words.{AreBytes-append, length-word_bytes}
+use Rattle.capn_canon.specs.inner.Draft.{drafted, IsDrafted}
 use Rattle.capn_walk.specs.Target.{words_for}
 use Rattle.capn_canon.specs.Layout.{packed}
 use Rattle.capn_canon.specs.Patch.{cells, whole, filled, IsWhole}

@@ -6,8 +6,8 @@ use Rattle.capn_value.specs.Tree.{Bodies, no_bodies, body, count_rows}
 use Rattle.capn_value.specs.Trim.{kept_words, kept_words_of_rows, kept_slots_of_rows}
 use Rattle.capn_walk.specs.At.{RowsAt, words_from}
 use Rattle.capn_canon.specs.Patch.{whole}
-use Rattle.capn_canon.specs.Laying.{AreRowsOver}
-use Rattle.capn_canon.specs.RowWords.{kept_each, row_cells}
+use Rattle.capn_canon.specs.inner.LayoutSteps.{AreRowsOver}
+use Rattle.capn_canon.specs.inner.RowWords.{kept_each, row_cells}
 use Rattle.capn_canon.proofs.Cut.{part-le, take-less}
 use Rattle.std.proofs.lemmas.List.{drop-drop, length-take-le}
 use Rattle.capn_canon.proofs.Holes.{length-whole, whole-append}

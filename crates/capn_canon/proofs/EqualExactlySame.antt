@@ -6,15 +6,15 @@ use Rattle.capn_value.specs.InRange.{InRange}
 use Rattle.capn_value.specs.Fits.{Fits}
 use Rattle.capn_value.specs.Same.{Same}
 use Rattle.capn_value.specs.Trim.{trimmed}
-use Rattle.capn_value.specs.Laws.Fitting.{fit_parts}
-use Rattle.capn_value.specs.Laws.Ranges.{in_range-trimmed}
-use Rattle.capn_value.specs.Laws.StaysFit.{fits-trimmed}
-use Rattle.capn_value.specs.Laws.SameTrimmed.{same_exactly_trimmed}
+use Rattle.capn_value.proofs.shared.Fitting.{fit_parts}
+use Rattle.capn_value.proofs.shared.Ranges.{in_range-trimmed}
+use Rattle.capn_value.proofs.shared.StaysFit.{fits-trimmed}
+use Rattle.capn_value.proofs.shared.SameTrimmed.{same_exactly_trimmed}
 use Rattle.capn_walk.specs.At.{IsAt}
-use Rattle.capn_walk.specs.Laws.Unique.{unique}
+use Rattle.capn_walk.proofs.shared.Unique.{unique}
 use Rattle.capn_canon.specs.Layout.{words, canon}
 use Rattle.capn_canon.proofs.OneSegment.{here}
-use Rattle.capn_canon.specs.Sound.{Sound}
+use Rattle.capn_canon.specs.inner.Sound.{Sound}
 use Rattle.capn_canon.proofs.Sound.{sound}
 use Rattle.capn_canon.proofs.Room.{room}
 use Rattle.capn_canon.proofs.ReadBack.{read_back}

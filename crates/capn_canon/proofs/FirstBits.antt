@@ -17,11 +17,11 @@ use Rattle.capn_walk.specs.Target.{content_words, words_for}
 use Rattle.capn_walk.specs.At.{IsInside}
 use Rattle.capn_walk.specs.Shapes.{IsPlain}
 use Rattle.capn_canon.specs.Layout.{number, packed, lay, point, list_to}
-use Rattle.capn_canon.specs.Laying.{laid}
+use Rattle.capn_canon.specs.inner.LayoutSteps.{laid}
 use Rattle.capn_canon.specs.Patch.{whole}
 use Rattle.capn_canon.proofs.Holes.{whole-append}
 use Rattle.capn_canon.proofs.Laid.{laid-is}
-use Rattle.capn_canon.specs.Bits.{element_bits, last_bits, first_bits}
+use Rattle.capn_canon.specs.inner.FirstBits.{element_bits, last_bits, first_bits}
 
 pow-positive : (base n : ℕ) → 0 < base → 0 < base ^ n
 pow-positive base zero h = let e = pow-zero base in omega arith

@@ -8,8 +8,8 @@ use Rattle.capn_value.specs.Trim.{kept_behind, kept_slots}
 use Rattle.capn_value.specs.Sizes.{greatest}
 use Rattle.capn_walk.specs.At.{AreAt}
 use Rattle.capn_canon.specs.Layout.{sizes, point}
-use Rattle.capn_canon.specs.Laying.{laid, laid_slots}
-use Rattle.capn_canon.specs.Sound.{Sounds}
+use Rattle.capn_canon.specs.inner.LayoutSteps.{laid, laid_slots}
+use Rattle.capn_canon.specs.inner.Sound.{Sounds}
 use Rattle.capn_canon.proofs.Laid.{laid-is, slots-none, slots-past, slots-next}
 
 pub front-count : (n : ℕ) (ts : Trees) → n ≤ count ts → count (front n ts) ≡ n

@@ -8,14 +8,14 @@ use Rattle.capn_value.specs.Sizes.{base, cost, height}
 use Rattle.capn_walk.specs.Stops.{root}
 use Rattle.capn_walk.specs.Accepted.{IsValueOf, paid}
 use Rattle.capn_walk.specs.Limits.{Bounds, AreLimits}
-use Rattle.capn_walk.specs.Laws.Fitting.{fits-root, root-costs}
-use Rattle.capn_walk.specs.Laws.Unique.{unique}
+use Rattle.capn_walk.proofs.shared.Fitting.{fits-root, root-costs}
+use Rattle.capn_walk.proofs.shared.Unique.{unique}
 use Rattle.capn_canon.specs.Layout.{canon}
 use Rattle.capn_canon.specs.Canonicity.{IsFormExactlyOf, IsCanonicalForm}
 use Rattle.capn_canon.specs.declared.form.Form.{Form}
 use Rattle.capn_canon.specs.Denotes.{Denotes}
 use Rattle.capn_canon.specs.Laws.{HasCanonicalForm}
-use Rattle.capn_canon.specs.Laws.OneReading.{is_message}
+use Rattle.capn_canon.proofs.shared.OneReading.{is_message}
 use Rattle.capn_canon.proofs.InRangeAt.{in_range-at}
 use Rattle.capn_canon.proofs.BareCanon.{canon_length}
 use Rattle.capn_canon.proofs.EqualExactlySame.{canon-trimmed, equal_exactly_same, trimmed_is_same}

@@ -3,7 +3,7 @@ use Rattle.std.proofs.Common.{◌≡◌, ℕ, zero, suc, ◌+◌, ◌-◌, ◌<�
 use Rattle.std.proofs.Common.{ap, subst, arith, Option, Some, None}
 use Rattle.std.proofs.lemmas.Option.{slice_get_within}
 use Rattle.capn_canon.specs.Patch.{whole, filled, IsWhole, IsHole}
-use Rattle.capn_canon.specs.Laying.{AreHoles}
+use Rattle.capn_canon.specs.inner.LayoutSteps.{AreHoles}
 
 pub hole_below : (p : List (Option ℕ)) (at : ℕ) → IsHole p at → at < length p
 hole_below p at h = slice_get_within p at None h

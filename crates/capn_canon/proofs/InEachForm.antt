@@ -18,9 +18,9 @@ use Rattle.capn_canon.specs.Denotes.{Denotes, AnswersMessage, Answers}
 use Rattle.capn_canon.specs.Refused.{IsRefusedMessage, IsRefused, IsPaidWithin}
 use Rattle.capn_canon.specs.Wanted.{MayWantBytes, MayWantBytesIn}
 use Rattle.capn_canon.specs.Canonicity.{IsCanonicalForm}
-use Rattle.capn_canon.specs.Outcomes.{AreCanonicalised}
+use Rattle.capn_canon.specs.inner.Outcomes.{AreCanonicalised}
 use Rattle.capn_canon.proofs.Answered.{answers_only, answers_length, answers_form}
-use Rattle.capn_canon.specs.Laws.NotRefused.{not_refused}
+use Rattle.capn_canon.proofs.shared.NotRefused.{not_refused}
 use Rattle.capn_canon.proofs.Wanted.{packed_bytes_wanted}
 
 -- the words of bare bytes are read

@@ -8,8 +8,8 @@ use Rattle.capn_value.specs.Tree.{Tree, node, links, Trees, no_trees, tree, coun
 use Rattle.capn_value.specs.Trim.{kept_words, kept_slots}
 use Rattle.capn_canon.specs.Patch.{whole, IsHole}
 use Rattle.capn_canon.specs.Layout.{size, sizes, point, points, lay, lays, words}
-use Rattle.capn_canon.specs.Laying.{laid, laid_slots, AreHoles}
-use Rattle.capn_canon.specs.Sound.{Sound, Sounds}
+use Rattle.capn_canon.specs.inner.LayoutSteps.{laid, laid_slots, AreHoles}
+use Rattle.capn_canon.specs.inner.Sound.{Sound, Sounds}
 use Rattle.capn_canon.proofs.KeptLengths.{kept_words-le, kept_slots-le}
 use Rattle.capn_canon.proofs.Holes.{hole-append, hole-set, holes-left, length-whole, whole-append}
 use Rattle.capn_canon.proofs.LayLengths.{length-points, length-lay}

@@ -13,11 +13,11 @@ use Rattle.capn_walk.specs.Target.{content_words, target}
 use Rattle.capn_walk.specs.At.{AreWords, AreElements, words_from}
 use Rattle.capn_canon.proofs.Tight.{Close, TightAt, AreTight}
 use Rattle.capn_canon.specs.Layout.{struct_to, list_to, packed}
-use Rattle.capn_words.specs.Laws.Choices.{if-no}
+use Rattle.capn_words.proofs.shared.Choices.{if-no}
 use Rattle.capn_canon.proofs.OneSegment.{here, names-empty, names-struct, names-list, names-rows, IsPlain}
 use Rattle.capn_canon.proofs.StandsIn.{Has, has-room, has-from}
 use Rattle.capn_canon.proofs.PackedElements.{packed-elements}
-use Rattle.capn_canon.specs.Sound.{AreBelow}
+use Rattle.capn_canon.specs.inner.Sound.{AreBelow}
 use Rattle.capn_canon.proofs.LayLengths.{length-packed}
 
 module _ (all : List ℕ) (small : length all ≤ 2 ^ 29) where

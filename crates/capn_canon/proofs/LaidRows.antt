@@ -11,8 +11,9 @@ use Rattle.capn_value.specs.Trim.{kept_words_of_rows, kept_slots_of_rows}
 use Rattle.capn_canon.specs.Patch.{whole, IsHole}
 use Rattle.capn_canon.specs.Layout.{own, size, sizes, sizes_in_rows, row_size, point, points, row_contents, lays}
 use Rattle.capn_canon.specs.Layout.{lays_in_rows}
-use Rattle.capn_canon.specs.Laying.{laid, laid_slots, laid_rows, row_holes, AreRowsOver, AreHoles, AreRowHoles}
-use Rattle.capn_canon.specs.Sound.{AreWide, Sound, Sounds, SoundRows}
+use Rattle.capn_canon.specs.inner.LayoutSteps.{laid, laid_slots, laid_rows, row_holes, AreRowsOver, AreHoles}
+use Rattle.capn_canon.specs.inner.LayoutSteps.{AreRowHoles}
+use Rattle.capn_canon.specs.inner.Sound.{AreWide, Sound, Sounds, SoundRows}
 use Rattle.capn_canon.proofs.LayLengths.{length-cut, length-lays}
 use Rattle.capn_canon.proofs.Holes.{hole-append, hole-set, hole-behind, hole-each, length-whole, whole-append}
 use Rattle.capn_canon.proofs.Laid.{length-laid, laid-is, slots-none, slots-past, slots-next, holes-past, laid-slots-is}

@@ -8,7 +8,7 @@ use Rattle.capn_value.specs.Tree.{no_trees, tree, Bodies, no_bodies, body, count
 use Rattle.capn_value.specs.Trim.{kept_words, kept_slots, kept_words_of_rows, kept_slots_of_rows}
 use Rattle.capn_canon.specs.Layout.{own, size, sizes, sizes_in_rows, points, row_contents, lay, lays, lays_in_rows}
 use Rattle.capn_canon.specs.Layout.{packed}
-use Rattle.capn_canon.specs.Sound.{AreWide, Sound, Sounds, SoundRows}
+use Rattle.capn_canon.specs.inner.Sound.{AreWide, Sound, Sounds, SoundRows}
 use Rattle.capn_canon.proofs.KeptLengths.{kept_words-le, kept_slots-le}
 
 pub length-packed : (each width n : ℕ) (xs : List ℕ) → length (packed each width n xs) ≡ n

@@ -1,3 +1,4 @@
+pub mod shared
 pub mod Accounted
 pub mod Answered
 pub mod OfMessages

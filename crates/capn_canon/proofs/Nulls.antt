@@ -12,7 +12,7 @@ use Rattle.capn_words.specs.declared.pointer.Pointer.TheVariants.{Nil, Node, Man
 use Rattle.capn_words.specs.declared.pointer.Width.{Width}
 use Rattle.capn_words.specs.declared.pointer.Width.TheVariants.{W0, W1, W8, W16, W32, W64, Link, Rows}
 use Rattle.capn_words.specs.Pointers.{field, pointer_of}
-use Rattle.capn_words.specs.Laws.Choices.{pick}
+use Rattle.capn_words.proofs.shared.Choices.{pick}
 use Rattle.capn_value.specs.Tree.{Tree, nil, node, voids, bits, bytes, pairs, quads, octs, links, rows, cap, Trees}
 use Rattle.capn_value.specs.Tree.{no_trees, tree, count, is_null}
 use Rattle.capn_value.specs.Trim.{kept_behind, kept_words, kept_slots}

@@ -10,14 +10,14 @@ use Rattle.capn_value.specs.Sizes.{height}
 use Rattle.capn_walk.specs.declared.target.Shape.TheVariants as shapes
 use Rattle.capn_walk.specs.At.{words_from}
 use Rattle.capn_canon.specs.Layout.{size, sizes, point, struct_to, list_to}
-use Rattle.capn_canon.specs.Laying.{laid}
+use Rattle.capn_canon.specs.inner.LayoutSteps.{laid}
 use Rattle.capn_canon.specs.Patch.{whole}
-use Rattle.capn_canon.specs.Sound.{Sound}
+use Rattle.capn_canon.specs.inner.Sound.{Sound}
 use Rattle.capn_canon.proofs.KeptLengths.{kept_words-le, kept_slots-le}
 use Rattle.capn_canon.proofs.Holes.{length-whole}
 use Rattle.capn_canon.proofs.Laid.{left-length, node-room, node-done, links-room, links-done}
-use Rattle.capn_canon.specs.Ready.{IsReadyInside, AreReady, IsLaidInside, AreLaid}
-use Rattle.capn_canon.specs.Opened.{IsOpened}
+use Rattle.capn_canon.specs.inner.ReadyPlaces.{IsReadyInside, AreReady, IsLaidInside, AreLaid}
+use Rattle.capn_canon.specs.inner.OwnWords.{IsOpened}
 use Rattle.capn_canon.proofs.Shaped.{IsNode, as-node, IsLinks, as-links}
 use Rattle.capn_canon.proofs.Nulls.{kept-slots}
 use Rattle.capn_canon.proofs.Front.{front-count, front-sizes, front-greatest, front-sound, front-at, front-laid}

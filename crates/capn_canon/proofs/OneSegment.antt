@@ -12,8 +12,8 @@ use Rattle.capn_walk.specs.declared.target.Target.TheVariants as targets
 use Rattle.capn_walk.specs.declared.target.Shape.TheVariants as shapes
 use Rattle.capn_walk.specs.declared.target.Fault.{Fault}
 use Rattle.capn_words.specs.Pointers.{field, pointer_of}
-use Rattle.capn_words.specs.Laws.Choices.{if-yes, if-no, same-yes}
-use Rattle.capn_words.specs.Laws.Pointers.{pointer_of-word_of}
+use Rattle.capn_words.proofs.shared.Choices.{if-yes, if-no, same-yes}
+use Rattle.capn_words.proofs.shared.Pointers.{pointer_of-word_of}
 use Rattle.capn_walk.specs.Target.{content_words, moved, tagged, within, list, struct, named, target}
 use Rattle.std.proofs.lemmas.Bool.{le-ltb}
 

@@ -4,11 +4,11 @@ use Rattle.std.proofs.Common.{arith, Some}
 use Rattle.capn_value.specs.Tree.{Trees, no_trees, tree, count}
 use Rattle.capn_value.specs.Sizes.{most_height}
 use Rattle.capn_walk.specs.At.{AreAt}
-use Rattle.capn_walk.specs.Laws.Unique.{unique-slots}
+use Rattle.capn_walk.proofs.shared.Unique.{unique-slots}
 use Rattle.capn_canon.specs.declared.run.Run.{Run}
 use Rattle.capn_canon.specs.Layout.{size, sizes}
-use Rattle.capn_canon.specs.Runs.{IsRun, AreIn, GoesOn, IsOff, Steps}
-use Rattle.capn_canon.specs.Stands.{IsLaidAt, AreLaidAt}
+use Rattle.capn_canon.specs.inner.SlotRuns.{IsRun, AreIn, GoesOn, IsOff, Steps}
+use Rattle.capn_canon.specs.inner.WordsOfLayout.{IsLaidAt, AreLaidAt}
 use Rattle.capn_canon.proofs.Compared.{laid-room, slots-first, slots-others, slots-both}
 use Rattle.capn_canon.proofs.Slots.{IsNext, next}
 use Rattle.capn_canon.proofs.Standing.{stand-none}

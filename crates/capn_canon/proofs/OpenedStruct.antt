@@ -7,7 +7,7 @@ use Rattle.capn_value.specs.Trim.{kept_words}
 use Rattle.capn_walk.specs.At.{words_from}
 use Rattle.capn_canon.specs.Layout.{struct_to}
 use Rattle.capn_canon.specs.Patch.{whole}
-use Rattle.capn_canon.specs.Opened.{IsOpened}
+use Rattle.capn_canon.specs.inner.OwnWords.{IsOpened}
 use Rattle.capn_canon.proofs.Cut.{kept-part}
 use Rattle.capn_canon.proofs.Holes.{whole-append}
 use Rattle.capn_canon.proofs.Standing.{take-plus}

@@ -11,7 +11,7 @@ use Rattle.byteorder.specs.Numbers.{little_from-cons, little_number-reads_back, 
 use Rattle.capn_words.specs.Words.{word_number, AreBytes}
 use Rattle.capn_canon.specs.Layout.{number, packed}
 use Rattle.capn_canon.specs.Patch.{cells, whole}
-use Rattle.capn_words.specs.Laws.Words.{AreBytes-append}
+use Rattle.capn_words.proofs.shared.Words.{AreBytes-append}
 use Rattle.capn_canon.proofs.Bytes.{low_first-bytes}
 
 -- ---- a word is the number of its bytes

@@ -7,7 +7,7 @@ use Rattle.std.proofs.Math.ListN.{get_or-append}
 use Rattle.std.proofs.lemmas.List.{drop-drop, get_or-drop, get_or-take}
 use Rattle.capn_walk.specs.At.{element, AreElements}
 use Rattle.capn_canon.specs.Layout.{number, packed}
-use Rattle.capn_canon.specs.Sound.{AreBelow}
+use Rattle.capn_canon.specs.inner.Sound.{AreBelow}
 use Rattle.capn_canon.proofs.LayLengths.{length-packed}
 
 -- digit k of the number of a list is its element k

@@ -7,11 +7,11 @@ use Rattle.std.specs.Prelude.{Result, Ok, Err, OnErr}
 use Rattle.capn_words.specs.Words.{word_number, AreBytes}
 use Rattle.capn_words.specs.Message.{word_bytes, bytes}
 use Rattle.capn_canon.specs.Patch.{cells, flags, is_marked, patched, IsPatched, whole, filled, IsWhole}
-use Rattle.capn_words.specs.Laws.Words.{AreBytes-append, length-word_bytes}
+use Rattle.capn_words.proofs.shared.Words.{AreBytes-append, length-word_bytes}
 use Rattle.capn_canon.proofs.Cells.{length-cells, cells-none, cells-append, cells-one, cells-fill, cells-open}
 use Rattle.capn_canon.proofs.Cells.{cells-whole, written-bytes, written-length}
 use Rattle.capn_canon.specs.Layout.{packed}
-use Rattle.capn_canon.specs.Padded.{pad, padded}
+use Rattle.capn_canon.specs.inner.PaddedBytes.{pad, padded}
 use Rattle.capn_canon.proofs.PackedBytes.{cells-words, packed-padded}
 use Rattle.capn_canon.proofs.Flags.{length-flags, flags-same, flags-append, flags-clean, flags-set}
 

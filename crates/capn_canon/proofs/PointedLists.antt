@@ -4,8 +4,8 @@ use Rattle.std.proofs.Common.{ap, sym, drop, refl}
 use Rattle.std.proofs.Common.{◌==◌, nat_lt, if◌then◌else◌, Option, Result, Ok, Err, subst, ◌∙◌, arith}
 use Rattle.capn_words.specs.Message.{segment_at}
 use Rattle.capn_words.specs.Pointers.{field, pointer_of}
-use Rattle.capn_words.specs.Laws.Choices.{pick}
-use Rattle.capn_words.specs.Laws.Pointers.{Fields-only}
+use Rattle.capn_words.proofs.shared.Choices.{pick}
+use Rattle.capn_words.proofs.shared.Pointers.{Fields-only}
 use Rattle.capn_words.specs.declared.pointer.Pointer.TheVariants.{Many}
 use Rattle.capn_words.specs.declared.pointer.Width.{Width}
 use Rattle.capn_words.specs.declared.pointer.Width.TheVariants.{W0, W1, W8, W16, W32, W64, Link, Rows}
@@ -20,15 +20,15 @@ use Rattle.capn_walk.specs.Target.{content_words, moved, tagged, within, list_fr
 use Rattle.capn_walk.specs.At.{IsAt}
 use Rattle.capn_walk.specs.At.{IsInside}
 use Rattle.capn_walk.specs.Shapes.{IsPlain}
-use Rattle.capn_walk.specs.Laws.Inside.{inside}
-use Rattle.capn_walk.specs.Laws.Segments.{segment-room}
-use Rattle.capn_walk.specs.Laws.Unique.{unique}
-use Rattle.capn_canon.specs.Bits.{element_bits, first_bits}
+use Rattle.capn_walk.proofs.shared.Inside.{inside}
+use Rattle.capn_walk.proofs.shared.Segments.{segment-room}
+use Rattle.capn_walk.proofs.shared.Unique.{unique}
+use Rattle.capn_canon.specs.inner.FirstBits.{element_bits, first_bits}
 use Rattle.capn_canon.specs.Layout.{size, sizes, list_to}
-use Rattle.capn_canon.specs.Ready.{IsReady}
-use Rattle.capn_canon.specs.Runs.{IsRun, AreIn, IsList}
-use Rattle.capn_canon.specs.Sound.{Sound}
-use Rattle.capn_canon.specs.Stands.{Stand, IsLaidAt, AreLaidAt, Tells}
+use Rattle.capn_canon.specs.inner.ReadyPlaces.{IsReady}
+use Rattle.capn_canon.specs.inner.SlotRuns.{IsRun, AreIn, IsList}
+use Rattle.capn_canon.specs.inner.Sound.{Sound}
+use Rattle.capn_canon.specs.inner.WordsOfLayout.{Stand, IsLaidAt, AreLaidAt, Tells}
 use Rattle.capn_canon.proofs.Compared.{links-passes, links-told, links-check}
 use Rattle.capn_canon.proofs.ComparedList.{list-size, list-passes, list-stands, list-bits}
 use Rattle.capn_canon.proofs.Copied.{part-below}

@@ -14,13 +14,13 @@ use Rattle.capn_walk.specs.Target.{target}
 use Rattle.capn_walk.specs.At.{IsAt, RowsAt}
 use Rattle.capn_walk.specs.Shapes.{IsContent}
 use Rattle.capn_walk.specs.At.{IsInside}
-use Rattle.capn_walk.specs.Laws.Inside.{inside}
-use Rattle.capn_walk.specs.Laws.Present.{present}
-use Rattle.capn_walk.specs.Laws.Segments.{segment-room}
+use Rattle.capn_walk.proofs.shared.Inside.{inside}
+use Rattle.capn_walk.proofs.shared.Present.{present}
+use Rattle.capn_walk.proofs.shared.Segments.{segment-room}
 use Rattle.capn_canon.specs.Layout.{size, sizes_in_rows, list_to}
-use Rattle.capn_canon.specs.RowWords.{kept_each}
-use Rattle.capn_canon.specs.Runs.{IsList}
-use Rattle.capn_canon.specs.Stands.{IsLaidAt, RowsLaidAt, AreReadyRows, Tells}
+use Rattle.capn_canon.specs.inner.RowWords.{kept_each}
+use Rattle.capn_canon.specs.inner.SlotRuns.{IsList}
+use Rattle.capn_canon.specs.inner.WordsOfLayout.{IsLaidAt, RowsLaidAt, AreReadyRows, Tells}
 use Rattle.capn_canon.proofs.ComparedRows.{rows-passes, rows-check, rows-told, rows-few}
 use Rattle.capn_canon.proofs.OneSegment.{here}
 use Rattle.capn_canon.proofs.Pointed.{list-leads}

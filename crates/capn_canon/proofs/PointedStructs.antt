@@ -4,8 +4,8 @@ use Rattle.std.proofs.Common.{◌∷◌, length, take, drop, slice_index, Option
 use Rattle.std.proofs.lemmas.Bool.Decides.{nat_tests}
 use Rattle.capn_words.specs.Fields.{Fields, word_of}
 use Rattle.capn_words.specs.Pointers.{pointer_of}
-use Rattle.capn_words.specs.Laws.Choices.{if-no}
-use Rattle.capn_words.specs.Laws.Pointers.{Fields-only}
+use Rattle.capn_words.proofs.shared.Choices.{if-no}
+use Rattle.capn_words.proofs.shared.Pointers.{Fields-only}
 use Rattle.capn_words.specs.declared.pointer.Pointer.TheVariants.{Node}
 use Rattle.capn_value.specs.Tree.{Tree, Trees, no_trees, tree}
 use Rattle.capn_value.specs.Trim.{kept_words}
@@ -14,12 +14,12 @@ use Rattle.capn_walk.specs.declared.target.Shape.TheVariants as shapes
 use Rattle.capn_walk.specs.Target.{moved, target}
 use Rattle.capn_walk.specs.At.{words_from}
 use Rattle.capn_walk.specs.At.{IsInside}
-use Rattle.capn_walk.specs.Laws.Inside.{inside}
-use Rattle.capn_walk.specs.Laws.Segments.{segment-room}
+use Rattle.capn_walk.proofs.shared.Inside.{inside}
+use Rattle.capn_walk.proofs.shared.Segments.{segment-room}
 use Rattle.capn_canon.specs.declared.run.Run.{Run}
 use Rattle.capn_canon.specs.Layout.{size, sizes, struct_to}
-use Rattle.capn_canon.specs.Runs.{IsRun, AreIn, Steps, IsStruct, Passes}
-use Rattle.capn_canon.specs.Stands.{IsLaidAt, AreLaidAt, Tells}
+use Rattle.capn_canon.specs.inner.SlotRuns.{IsRun, AreIn, Steps, IsStruct, Passes}
+use Rattle.capn_canon.specs.inner.WordsOfLayout.{IsLaidAt, AreLaidAt, Tells}
 use Rattle.capn_canon.proofs.Compared.{struct-passes, struct-is, struct-told, struct-ready, struct-from-slots}
 use Rattle.capn_canon.proofs.Compared.{struct-to-slots, struct-size, slots-here}
 use Rattle.capn_canon.proofs.FoundNear.{Found, near-struct}

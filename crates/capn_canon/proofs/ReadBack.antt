@@ -8,7 +8,7 @@ use Rattle.capn_words.specs.declared.pointer.Pointer.TheVariants.{Node}
 use Rattle.capn_words.specs.declared.pointer.Width.TheVariants.{W0, W1, W8, W16, W32, W64, Link}
 use Rattle.capn_value.specs.Tree.{Tree, nil, node, voids, bits, bytes, pairs, quads, octs, links, rows, cap, Trees}
 use Rattle.capn_value.specs.Tree.{no_trees, tree, Bodies, no_bodies, body, count, count_rows, front}
-use Rattle.capn_value.specs.Laws.Trimmed.{count-trimmed_each, count-trimmed_rows}
+use Rattle.capn_value.proofs.shared.Trimmed.{count-trimmed_each, count-trimmed_rows}
 use Rattle.capn_value.specs.Trim.{kept_words, kept_slots, kept_words_of_rows, kept_slots_of_rows, trimmed, trimmed_each}
 use Rattle.capn_value.specs.Trim.{trimmed_rows}
 use Rattle.capn_walk.specs.declared.target.Target.TheVariants as targets
@@ -21,7 +21,7 @@ use Rattle.capn_canon.specs.Layout.{own, size, sizes, point, points, row_content
 use Rattle.capn_canon.proofs.OneSegment.{here, names-null, names-cap}
 use Rattle.capn_canon.proofs.LaidPointers.{struct-at, list-names, elements-at, rows-names}
 use Rattle.capn_canon.proofs.StandsIn.{Has, has-front, has-back, has-room, has-words, has-word}
-use Rattle.capn_canon.specs.Sound.{AreBelow, AreWide, Sound, Sounds, SoundRows}
+use Rattle.capn_canon.specs.inner.Sound.{AreBelow, AreWide, Sound, Sounds, SoundRows}
 use Rattle.capn_canon.proofs.KeptLengths.{kept_words-le, kept_slots-le}
 use Rattle.capn_canon.proofs.LayLengths.{length-points, length-cut, length-row_contents, length-lay, length-lays}
 use Rattle.std.specs.Int.{from_bool}

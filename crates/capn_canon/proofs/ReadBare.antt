@@ -1,14 +1,14 @@
 -- Canonical bytes, read bare, denote the trimmed value, and are paid exactly its cost.
 use Rattle.std.proofs.Common.{◌≡◌, ℕ, ◌^◌, ◌≤◌, List, [], ◌∷◌, length, true, refl, ap, sym, ◌∙◌, arith}
-use Rattle.capn_words.specs.Laws.OneSegment.{bare_only}
+use Rattle.capn_words.proofs.shared.OneSegment.{bare_only}
 use Rattle.capn_value.specs.Tree.{Tree, nil, node, voids, bits, bytes, pairs, quads, octs, links, rows, cap}
 use Rattle.capn_value.specs.InRange.{InRange}
 use Rattle.capn_value.specs.Fits.{Fits, is_root}
 use Rattle.capn_value.specs.Sizes.{base, cost, height}
 use Rattle.capn_value.specs.Trim.{trimmed}
-use Rattle.capn_value.specs.Laws.Fitting.{fit_parts}
-use Rattle.capn_value.specs.Laws.StaysFit.{fits-trimmed}
-use Rattle.capn_value.specs.Laws.Trimmed.{cost-trimmed, height-trimmed}
+use Rattle.capn_value.proofs.shared.Fitting.{fit_parts}
+use Rattle.capn_value.proofs.shared.StaysFit.{fits-trimmed}
+use Rattle.capn_value.proofs.shared.Trimmed.{cost-trimmed, height-trimmed}
 use Rattle.capn_walk.specs.Visits.{visits}
 use Rattle.capn_walk.specs.Stops.{root, visits_at_root, root_visits}
 use Rattle.capn_walk.specs.At.{IsAt}

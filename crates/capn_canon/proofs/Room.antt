@@ -6,10 +6,10 @@ use Rattle.capn_value.specs.Tree.{no_trees, tree, Bodies, no_bodies, body, row_w
 use Rattle.capn_value.specs.Sizes.{cost, costs, costs_in_rows, rows_price}
 use Rattle.capn_value.specs.Trim.{kept_words_of_rows, kept_slots_of_rows}
 use Rattle.capn_value.specs.Fits.{Fits}
-use Rattle.capn_value.specs.Laws.Fitting.{fit_parts}
+use Rattle.capn_value.proofs.shared.Fitting.{fit_parts}
 use Rattle.capn_value.specs.InRange.{InRange}
 use Rattle.capn_canon.specs.Layout.{size, sizes, sizes_in_rows, point, lay, words}
-use Rattle.capn_canon.specs.Sound.{Sound, Sounds, SoundRows}
+use Rattle.capn_canon.specs.inner.Sound.{Sound, Sounds, SoundRows}
 use Rattle.capn_canon.proofs.KeptLengths.{kept_words-le, kept_slots-le}
 use Rattle.capn_canon.proofs.LayLengths.{length-lay}
 use Rattle.capn_canon.proofs.Sound.{wide-words, sound}

@@ -12,15 +12,15 @@ use Rattle.capn_value.specs.Trim.{kept_slots, kept_words_of_rows, kept_slots_of_
 use Rattle.capn_value.specs.Sizes.{height, greatest, greatest_in_rows}
 use Rattle.capn_walk.specs.declared.target.Shape.TheVariants as shapes
 use Rattle.capn_walk.specs.At.{AreAt, AreWords, RowsAt}
-use Rattle.capn_walk.specs.Laws.Unique.{unique-rows}
+use Rattle.capn_walk.proofs.shared.Unique.{unique-rows}
 use Rattle.capn_canon.specs.Layout.{size, sizes, sizes_in_rows, row_size, point, list_to}
-use Rattle.capn_canon.specs.Laying.{laid, laid_slots, laid_rows, AreRowsOver}
-use Rattle.capn_canon.specs.Sound.{Sound, Sounds, SoundRows}
+use Rattle.capn_canon.specs.inner.LayoutSteps.{laid, laid_slots, laid_rows, AreRowsOver}
+use Rattle.capn_canon.specs.inner.Sound.{Sound, Sounds, SoundRows}
 use Rattle.capn_canon.proofs.Laid.{slots-none}
 use Rattle.capn_canon.proofs.LaidRows.{begun-rest, begun-fits, begun-room, begun-length, rows-next, rows-none}
 use Rattle.capn_canon.proofs.LaidRows.{length-slots}
-use Rattle.capn_canon.specs.Ready.{IsReadyInside, AreReady, IsLaidInside, AreLaid}
-use Rattle.capn_canon.specs.RowWords.{AreOpened, RowsReady, RowsLaid, row_cells}
+use Rattle.capn_canon.specs.inner.ReadyPlaces.{IsReadyInside, AreReady, IsLaidInside, AreLaid}
+use Rattle.capn_canon.specs.inner.RowWords.{AreOpened, RowsReady, RowsLaid, row_cells}
 use Rattle.capn_canon.proofs.Shaped.{IsRows, as-rows}
 use Rattle.capn_canon.proofs.EachRow.{kept_each-le, kept-rows-words, kept-rows-slots, cells-over, one-more-fits}
 use Rattle.capn_canon.proofs.Front.{front-count, front-sizes, front-greatest, front-sound, front-at, front-laid}

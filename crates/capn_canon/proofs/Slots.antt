@@ -8,12 +8,12 @@ use Rattle.capn_words.specs.declared.pointer.Pointer.TheVariants.{Cap}
 use Rattle.capn_value.specs.Tree.{Tree, nil, cap, Trees, no_trees, tree, count}
 use Rattle.capn_value.specs.Sizes.{height, greatest}
 use Rattle.capn_walk.specs.At.{IsAt, AreAt}
-use Rattle.capn_walk.specs.Laws.Unique.{unique-slots}
+use Rattle.capn_walk.proofs.shared.Unique.{unique-slots}
 use Rattle.capn_canon.specs.Layout.{size, sizes, point}
-use Rattle.capn_canon.specs.Laying.{laid, laid_slots}
-use Rattle.capn_canon.specs.Sound.{Sound, Sounds}
+use Rattle.capn_canon.specs.inner.LayoutSteps.{laid, laid_slots}
+use Rattle.capn_canon.specs.inner.Sound.{Sound, Sounds}
 use Rattle.capn_canon.proofs.Laid.{length-laid, slots-none, slots-next, rest-starts}
-use Rattle.capn_canon.specs.Ready.{IsReady, AreReady, IsLaid, AreLaid}
+use Rattle.capn_canon.specs.inner.ReadyPlaces.{IsReady, AreReady, IsLaid, AreLaid}
 
 abbrev pub slot : ℕ → ℕ → Place
 slot s w = record { segment = s; word = w }

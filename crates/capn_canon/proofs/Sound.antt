@@ -7,9 +7,9 @@ use Rattle.capn_value.specs.Tree.{no_trees, tree, Bodies, no_bodies, body, count
 use Rattle.capn_value.specs.Trim.{kept_words_of_rows, kept_slots_of_rows}
 use Rattle.capn_value.specs.Fits.{Fits, anywhere, anywhere_in, anywhere_in_rows, is_wide, is_wide_body, has_wide_row}
 use Rattle.capn_value.specs.Fits.{is_long, is_ragged, are_even, elements, words_in_rows}
-use Rattle.capn_value.specs.Laws.Fitting.{fit_parts}
+use Rattle.capn_value.proofs.shared.Fitting.{fit_parts}
 use Rattle.capn_value.specs.InRange.{AllBelow, InRange, EachInRange, RowsInRange}
-use Rattle.capn_canon.specs.Sound.{AreBelow, AreWide, Sound, Sounds, SoundRows}
+use Rattle.capn_canon.specs.inner.Sound.{AreBelow, AreWide, Sound, Sounds, SoundRows}
 use Rattle.capn_canon.proofs.KeptLengths.{kept_words-le, kept_slots-le}
 
 -- ---- numbers below a base, by index

@@ -4,7 +4,7 @@ use Rattle.std.proofs.Common.{take, drop, slice_index, refl, ap, ap₂, sym, ◌
 use Rattle.std.proofs.Common.{length-drop, Option, Some, None}
 use Rattle.std.proofs.Math.Seq.{drop-cons}
 use Rattle.std.proofs.lemmas.List.{drop-drop}
-use Rattle.capn_canon.specs.Stands.{Stand, Tells}
+use Rattle.capn_canon.specs.inner.WordsOfLayout.{Stand, Tells}
 
 pub take-plus : (m n : ℕ) (xs : List ℕ) → take (m + n) xs ≡ take m xs ++ take n (drop m xs)
 take-plus zero n xs = let e : 0 + n ≡ n = omega arith in ap (λ (k : ℕ). take k xs) e

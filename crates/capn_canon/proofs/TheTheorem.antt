@@ -17,8 +17,8 @@ use Rattle.capn_canon.specs.declared.canonical.Canonical.{Canonical}
 use Rattle.capn_canon.specs.Denotes.{Denotes, Answers}
 use Rattle.capn_canon.specs.Refused.{IsRefused}
 use Rattle.capn_canon.specs.Theorem.{Answered, EqualExactly, OwnForm, WithinBudget}
-use Rattle.capn_canon.specs.Laws.NotRefused.{not_refused}
-use Rattle.capn_canon.specs.Laws.OneReading.{is_message}
+use Rattle.capn_canon.proofs.shared.NotRefused.{not_refused}
+use Rattle.capn_canon.proofs.shared.OneReading.{is_message}
 use Rattle.capn_canon.proofs.Headline.{denoted_fits, denoted_in_range}
 use Rattle.capn_canon.proofs.EqualExactlySame.{equal_exactly_same}
 use Rattle.capn_canon.proofs.Answered.{answers_only, answers_form}

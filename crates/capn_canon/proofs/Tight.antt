@@ -18,9 +18,9 @@ use Rattle.capn_walk.specs.Target.{target}
 use Rattle.capn_walk.specs.Visits.{Visit, pays, fails, price, places, row_places, slots, visits}
 use Rattle.capn_walk.specs.Stops.{paid_of, AllPay}
 use Rattle.capn_walk.specs.At.{IsAt, AreAt, RowsAt, AreWords, AreElements, words_from}
-use Rattle.capn_words.specs.Laws.Choices.{pick}
-use Rattle.capn_walk.specs.Laws.Walks.{slot, visits-null, visits-cap, visits-object}
-use Rattle.capn_walk.specs.Laws.Costs.{paid-append}
+use Rattle.capn_words.proofs.shared.Choices.{pick}
+use Rattle.capn_walk.proofs.shared.Walks.{slot, visits-null, visits-cap, visits-object}
+use Rattle.capn_walk.proofs.shared.Costs.{paid-append}
 
 module _ (m : List (List ℕ)) where
   -- by a near pointer

@@ -7,9 +7,9 @@ use Rattle.std.proofs.lemmas.List.{length-append}
 use Rattle.capn_pack.specs.Group.{Group, IsGroup, content}
 use Rattle.capn_pack.specs.Packs.{Packs, contents, texts}
 use Rattle.capn_pack.specs.Refusal.{StartsWithin}
-use Rattle.capn_pack.specs.Laws.GroupLemmas.{length_content}
+use Rattle.capn_pack.proofs.shared.GroupLemmas.{length_content}
 use Rattle.capn_stream.specs.Frames.{most_table_words}
-use Rattle.capn_stream.specs.Laws.FrameLaws.{stands_alone, whole_of}
+use Rattle.capn_stream.proofs.shared.FrameLaws.{stands_alone, whole_of}
 use Rattle.capn_walk.specs.Limits.{Bounds}
 use Rattle.capn_canon.specs.declared.form.Form.TheVariants as forms
 use Rattle.capn_canon.specs.declared.refusal.Refusal.{Refusal}

@@ -1,8 +1,4 @@
 -- The laws of canonical bytes.
-pub mod OneReading
-pub mod NotRefused
-pub mod NotUnaccepted
-pub mod OneRefusal
 use Rattle.std.specs.Prelude.{◌≡◌, ◌↔◌, ℕ, ◌*◌, ◌+◌, ◌≤◌, List, None, length, Result, IfOk, IfErr}
 use Rattle.capn_words.specs.Words.{bytes}
 use Rattle.capn_pack.specs.Words.{bytes as packed_bytes}

@@ -7,7 +7,7 @@ ghost use Rattle.capn_walk.specs.Accepted.{IsBounded};
 ghost use Rattle.capn_canon.specs.Denotes.{Denotes};
 ghost use Rattle.capn_canon.specs.Layout.{canon};
 ghost use Rattle.capn_canon.specs.Refused.{IsUnacceptedIn, IsPaidWithin};
-ghost use Rattle.capn_canon.specs.Outcomes.{AreSurveyed};
+ghost use Rattle.capn_canon.specs.inner.Outcomes.{AreSurveyed};
 ghost use Rattle.capn_canon.specs.Surveys.{Surveys};
 ghost use Rattle.capn_canon.specs.Wanted.{MayWantMemory};
 ghost use Rattle.capn_canon.specs.declared.form.Form.TheVariants as forms;

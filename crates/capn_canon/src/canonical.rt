@@ -9,11 +9,11 @@ ghost use Rattle.capn_walk.specs.At.{IsAt};
 ghost use Rattle.capn_walk.specs.Accepted.{IsValueOf};
 ghost use Rattle.capn_canon.specs.Layout.{canon};
 ghost use Rattle.capn_canon.specs.Denotes.{AnswersMessage};
-ghost use Rattle.capn_canon.specs.Outcomes.{IsCanonicalised};
+ghost use Rattle.capn_canon.specs.inner.Outcomes.{IsCanonicalised};
 ghost use Rattle.capn_canon.specs.Canonicity.{ReadsBack, PaysItsCost, IsItsOwnForm, IsFormExactlyOf};
 ghost use Rattle.capn_canon.specs.Refused.{IsRefusedMessage, IsPaidWithin};
 ghost use Rattle.capn_canon.specs.declared.refusal.Refusal.TheVariants as refusals;
-ghost use Rattle.capn_canon.specs.Ready.{IsReady};
+ghost use Rattle.capn_canon.specs.inner.ReadyPlaces.{IsReady};
 ghost use Rattle.capn_canon.specs.Wanted.{MayWantBytes};
 
 use crate::draft::Draft;

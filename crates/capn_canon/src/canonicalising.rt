@@ -5,7 +5,7 @@ ghost use Rattle.capn_value.specs.Tree.{Tree as Value};
 ghost use Rattle.capn_value.specs.Caps.{first_cap};
 ghost use Rattle.capn_canon.specs.Layout.{canon};
 ghost use Rattle.capn_canon.specs.Denotes.{Denotes, Answers};
-ghost use Rattle.capn_canon.specs.Outcomes.{AreCanonicalised};
+ghost use Rattle.capn_canon.specs.inner.Outcomes.{AreCanonicalised};
 ghost use Rattle.capn_canon.specs.Canonicity.{ReadsBack, PaysItsCost, IsItsOwnForm, IsFormExactlyOf};
 ghost use Rattle.capn_canon.specs.Refused.{IsRefused, IsPaidWithin};
 ghost use Rattle.capn_canon.specs.Theorem.{Answered, EqualExactly, OwnForm, WithinBudget};

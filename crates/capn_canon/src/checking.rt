@@ -8,8 +8,8 @@ ghost use Rattle.capn_value.specs.Tree.{Tree, Trees, Bodies, count_rows};
 ghost use Rattle.capn_walk.specs.At.{IsAt, RowsAt};
 ghost use Rattle.capn_walk.specs.Shapes.{IsPlain};
 ghost use Rattle.capn_canon.specs.Layout.{size, sizes, sizes_in_rows};
-ghost use Rattle.capn_canon.specs.Runs.{IsRun, AreIn, IsList, Steps};
-ghost use Rattle.capn_canon.specs.Stands.{IsLaidAt, AreLaidAt, RowsLaidAt, Tells, AreReadyRows};
+ghost use Rattle.capn_canon.specs.inner.SlotRuns.{IsRun, AreIn, IsList, Steps};
+ghost use Rattle.capn_canon.specs.inner.WordsOfLayout.{IsLaidAt, AreLaidAt, RowsLaidAt, Tells, AreReadyRows};
 
 use crate::listing::bits_of;
 use crate::run::Run;

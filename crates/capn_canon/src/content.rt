@@ -7,8 +7,8 @@ ghost use Rattle.capn_value.specs.View.{tree_of, trees_of, rows_of};
 ghost use Rattle.capn_value.specs.Trim.{kept_words as kept_words_of};
 ghost use Rattle.capn_canon.specs.Layout.{size, sizes, point};
 ghost use Rattle.capn_canon.specs.Patch.{IsHole};
-ghost use Rattle.capn_canon.specs.Laying.{laid, laid_slots, AreHoles};
-ghost use Rattle.capn_canon.specs.Sound.{Sound, Sounds};
+ghost use Rattle.capn_canon.specs.inner.LayoutSteps.{laid, laid_slots, AreHoles};
+ghost use Rattle.capn_canon.specs.inner.Sound.{Sound, Sounds};
 
 use crate::bits::extend_bits;
 use crate::patch::Patch;

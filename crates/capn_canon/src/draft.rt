@@ -19,7 +19,7 @@ pub struct Draft<A: Allocator> {
 
 impl<A: Allocator> Model for Draft<A> {
     ghost use Rattle.std.specs.Prelude.{ℕ, List, Option};
-    ghost use Rattle.capn_canon.specs.Draft.{drafted, IsDrafted};
+    ghost use Rattle.capn_canon.specs.inner.Draft.{drafted, IsDrafted};
 
     ghost Value = { List (Option ℕ) };
 

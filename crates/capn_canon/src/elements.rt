@@ -3,7 +3,7 @@
 ghost use Rattle.std.specs.Prelude.{◌≡◌, ◌+◌, ◌*◌, ◌^◌, ◌<◌, ◌++◌, length, replicate, IfOk, OnOk, OnErr};
 ghost use Rattle.std.specs.List.{flat_map};
 ghost use Rattle.byteorder.specs.Endian.{little_bytes};
-ghost use Rattle.capn_canon.specs.Padded.{pad, padded};
+ghost use Rattle.capn_canon.specs.inner.PaddedBytes.{pad, padded};
 
 use byteorder::{ByteOrder, LittleEndian};
 use capn_value::Memory;

@@ -1,7 +1,7 @@
 //! Kept lengths, found in the message itself.
 
 ghost use Rattle.std.specs.Prelude.{◌≡◌, ℕ, ◌+◌, ◌*◌, ◌≤◌, max, take};
-ghost use Rattle.capn_canon.specs.RowWords.{kept_each};
+ghost use Rattle.capn_canon.specs.inner.RowWords.{kept_each};
 ghost use Rattle.capn_words.specs.Message.{IsMessage};
 ghost use Rattle.capn_value.specs.Trim.{kept_words};
 ghost use Rattle.capn_walk.specs.At.{words_from};

@@ -7,8 +7,8 @@ ghost use Rattle.capn_walk.specs.Target.{content_words, words_for};
 ghost use Rattle.capn_walk.specs.Shapes.{IsContent, IsPlain};
 ghost use Rattle.capn_walk.specs.declared.target.Shape.TheVariants.{Many};
 ghost use Rattle.capn_canon.specs.Patch.{whole};
-ghost use Rattle.capn_canon.specs.Bits.{element_bits, first_bits};
-ghost use Rattle.capn_canon.specs.Ready.{IsLaidInside};
+ghost use Rattle.capn_canon.specs.inner.FirstBits.{element_bits, first_bits};
+ghost use Rattle.capn_canon.specs.inner.ReadyPlaces.{IsLaidInside};
 
 use crate::draft::Draft;
 use crate::pointing::list_pointer;

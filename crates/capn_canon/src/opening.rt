@@ -7,8 +7,8 @@ ghost use Rattle.capn_walk.specs.At.{words_from};
 ghost use Rattle.capn_walk.specs.Shapes.{IsContent};
 ghost use Rattle.capn_canon.specs.Patch.{whole};
 ghost use Rattle.capn_canon.specs.Layout.{list_to};
-ghost use Rattle.capn_canon.specs.Opened.{IsOpened};
-ghost use Rattle.capn_canon.specs.RowWords.{AreOpened, row_cells};
+ghost use Rattle.capn_canon.specs.inner.OwnWords.{IsOpened};
+ghost use Rattle.capn_canon.specs.inner.RowWords.{AreOpened, row_cells};
 
 use crate::draft::Draft;
 use crate::kept::{kept_above, kept_in_rows};

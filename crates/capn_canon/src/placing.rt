@@ -3,8 +3,8 @@
 ghost use Rattle.std.specs.Prelude.{ℕ, ◌+◌, ◌*◌, ◌^◌, ◌<◌, ◌≤◌, length, OnOk};
 ghost use Rattle.capn_words.specs.Message.{IsMessage, IsPlace};
 ghost use Rattle.capn_walk.specs.Shapes.{IsContent, RowsFit, extent};
-ghost use Rattle.capn_canon.specs.Ready.{IsReady, IsReadyInside, AreReady, IsLaid, IsLaidInside, AreLaid};
-ghost use Rattle.capn_canon.specs.RowWords.{RowsReady, RowsLaid};
+ghost use Rattle.capn_canon.specs.inner.ReadyPlaces.{IsReady, IsReadyInside, AreReady, IsLaid, IsLaidInside, AreLaid};
+ghost use Rattle.capn_canon.specs.inner.RowWords.{RowsReady, RowsLaid};
 
 use crate::draft::Draft;
 use crate::finding::target_at;

@@ -3,7 +3,7 @@
 ghost use Rattle.std.specs.Prelude.{◌≡◌, ℕ, ◌+◌, ◌*◌, ◌^◌, ◌<◌, ◌≤◌, length};
 ghost use Rattle.capn_value.specs.View.{tree_of};
 ghost use Rattle.capn_canon.specs.Layout.{point, list_to, struct_to};
-ghost use Rattle.capn_canon.specs.Sound.{Sound};
+ghost use Rattle.capn_canon.specs.inner.Sound.{Sound};
 
 use capn_value::{Value, kept_slots, kept_slots_of_rows, kept_words, kept_words_of_rows};
 use capn_words::{Pointer, Width, join};

@@ -6,8 +6,8 @@ ghost use Rattle.capn_words.specs.Fields.{word_of};
 ghost use Rattle.capn_words.specs.declared.pointer.Pointer.TheVariants.{Node};
 ghost use Rattle.capn_value.specs.View.{rows_of};
 ghost use Rattle.capn_canon.specs.Patch.{whole};
-ghost use Rattle.capn_canon.specs.Laying.{row_holes};
-ghost use Rattle.capn_canon.specs.Sound.{AreWide};
+ghost use Rattle.capn_canon.specs.inner.LayoutSteps.{row_holes};
+ghost use Rattle.capn_canon.specs.inner.Sound.{AreWide};
 
 use crate::patch::Patch;
 use capn_value::{Body, Memory};

@@ -11,10 +11,10 @@ ghost use Rattle.capn_value.specs.Trim.{kept_words};
 ghost use Rattle.capn_walk.specs.At.{words_from};
 ghost use Rattle.capn_walk.specs.Shapes.{IsContent};
 ghost use Rattle.capn_canon.specs.Layout.{list_to};
-ghost use Rattle.capn_canon.specs.Bits.{element_bits, first_bits};
-ghost use Rattle.capn_canon.specs.RowWords.{kept_each};
-ghost use Rattle.capn_canon.specs.Runs.{IsStruct, Passes};
-ghost use Rattle.capn_canon.specs.Stands.{Stand};
+ghost use Rattle.capn_canon.specs.inner.FirstBits.{element_bits, first_bits};
+ghost use Rattle.capn_canon.specs.inner.RowWords.{kept_each};
+ghost use Rattle.capn_canon.specs.inner.SlotRuns.{IsStruct, Passes};
+ghost use Rattle.capn_canon.specs.inner.WordsOfLayout.{Stand};
 
 use crate::kept::kept_in_rows;
 use crate::listing::bits_of;

@@ -5,7 +5,7 @@ ghost use Rattle.capn_value.specs.View.{tree_of};
 ghost use Rattle.capn_value.specs.Caps as caps;
 ghost use Rattle.capn_canon.specs.Layout.{size, canon};
 ghost use Rattle.capn_canon.specs.LayoutFault.{IsLayoutFault};
-ghost use Rattle.capn_canon.specs.Sound.{Sound};
+ghost use Rattle.capn_canon.specs.inner.Sound.{Sound};
 
 use crate::content::lay_value;
 use crate::patch::Patch;

@@ -15,7 +15,7 @@ ghost use Rattle.capn_canon.specs.Layout.{canon, words};
 ghost use Rattle.capn_canon.specs.Refused.{IsRefused, IsPaidWithin};
 ghost use Rattle.capn_canon.specs.declared.form.Form.TheVariants as forms;
 ghost use Rattle.capn_canon.specs.declared.refusal.Refusal.TheVariants as refusals;
-ghost use Rattle.capn_canon.specs.Ready.{IsReady};
+ghost use Rattle.capn_canon.specs.inner.ReadyPlaces.{IsReady};
 ghost use Rattle.capn_canon.specs.Checks.{Checks, IsCheck};
 
 use crate::checked::Checked;

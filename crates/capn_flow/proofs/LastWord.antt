@@ -12,8 +12,8 @@ use Rattle.capn_pack.specs.Group.{Group, IsGroup, text, content, words, tag_of}
 use Rattle.capn_pack.specs.Group.Group.{Zeros, Named, Raw}
 use Rattle.capn_pack.specs.Packs.{texts, contents, word_count}
 use Rattle.capn_pack.specs.Chosen.{AllDense, Chosen, IsChoice, IsChosenRow, zero_count}
-use Rattle.capn_pack.specs.Laws.ChosenLaws.{chosen_whole}
-use Rattle.capn_pack.specs.Laws.GroupLemmas.{length_content, length_contents}
+use Rattle.capn_pack.proofs.shared.ChosenLaws.{chosen_whole}
+use Rattle.capn_pack.proofs.shared.GroupLemmas.{length_content, length_contents}
 use Rattle.capn_flow.specs.Packing.{IsSettled, last_word}
 use Rattle.capn_flow.proofs.Settled.{Last, each_front, row_after, settled_front, settled_whole, words_some}
 

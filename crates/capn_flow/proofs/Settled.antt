@@ -15,9 +15,9 @@ use Rattle.capn_pack.specs.Chosen.{Chosen, IsChoice, IsChosenRow, IsDense}
 use Rattle.capn_pack.specs.Some.{StandsNext, UnpacksSome}
 use Rattle.capn_pack.specs.declared.some.Next.{Next}
 use Rattle.capn_pack.specs.declared.some.Next.TheVariants as nexts
-use Rattle.capn_pack.specs.Laws.ChosenLaws.{chosen_whole}
-use Rattle.capn_pack.specs.Laws.GroupLaws.{goes_on, head_of, no_group}
-use Rattle.capn_pack.specs.Laws.GroupLemmas.{count_append, length_content, length_contents, text_some}
+use Rattle.capn_pack.proofs.shared.ChosenLaws.{chosen_whole}
+use Rattle.capn_pack.proofs.shared.GroupLaws.{goes_on, head_of, no_group}
+use Rattle.capn_pack.proofs.shared.GroupLemmas.{count_append, length_content, length_contents, text_some}
 use Rattle.capn_flow.specs.Packing.{IsSettled, Settles, most_held, whole_of}
 
 -- ---- whole words

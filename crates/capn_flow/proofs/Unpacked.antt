@@ -11,8 +11,8 @@ use Rattle.capn_pack.specs.Group.{text, content}
 use Rattle.capn_pack.specs.Packs.{texts, contents}
 use Rattle.capn_pack.specs.Stream as packing
 use Rattle.capn_pack.specs.Stream.{Held, Splits, advanced}
-use Rattle.capn_pack.specs.Laws.GroupLemmas.{each_append}
-use Rattle.capn_pack.specs.Laws.StreamLemmas.{splits_open, splits_then}
+use Rattle.capn_pack.proofs.shared.GroupLemmas.{each_append}
+use Rattle.capn_pack.proofs.shared.StreamLemmas.{splits_open, splits_then}
 use Rattle.capn_flow.specs.declared.fault.FlowFault.{FlowFault}
 use Rattle.capn_flow.specs.declared.fault.FlowFault.TheVariants as faults
 use Rattle.capn_flow.specs.Flow.{Ending, Ends, Stops, most}

@@ -3,7 +3,7 @@ use Rattle.std.proofs.Common.{◌≡◌, ℕ, ◌*◌, ◌/◌, ◌%◌, ◌^◌
 use Rattle.std.proofs.Common.{length-append, refl}
 use Rattle.std.specs.Int.{to_le_bytes, w32}
 use Rattle.capn_words.specs.Words.{IsBare}
-use Rattle.capn_words.specs.Laws.Words.{length-bytes}
+use Rattle.capn_words.proofs.shared.Words.{length-bytes}
 use Rattle.capn_value.specs.Tree.{Tree}
 use Rattle.capn_value.specs.Fits.{Fits}
 use Rattle.capn_value.specs.InRange.{InRange}

@@ -5,7 +5,7 @@ use Rattle.std.proofs.lemmas.List.{append-nil}
 use Rattle.std.specs.Int.{to_le_bytes, w32}
 use Rattle.capn_words.specs.Message.{segment_at}
 use Rattle.capn_words.specs.Words.{IsBare, AreBytes, bytes as joined}
-use Rattle.capn_words.specs.Laws.Words.{length-bytes}
+use Rattle.capn_words.proofs.shared.Words.{length-bytes}
 use Rattle.capn_stream.specs.Frames.{Frames, FitsTable, entry, table, contents, padding}
 use Rattle.capn_canon.specs.Layout.{canon}
 use Rattle.capn_canon.specs.Laws.{CanonIsForm}

@@ -9,7 +9,7 @@ use Rattle.capn_text.specs.Streams.{Place, ended_lines, stream_text}
 use Rattle.capn_canon.specs.declared.form.Form.{Form}
 use Rattle.capn_make.specs.Makes.{IsRefused}
 use Rattle.capn_make.specs.Made.{HasBegunEach}
-use Rattle.capn_make.specs.Sending.{HasMade, MakesNext, SendsEach}
+use Rattle.capn_make.specs.inner.RunParts.{HasMade, MakesNext, SendsEach}
 use Rattle.capn_make.specs.declared.fault.MakeFault.{MakeFault}
 use Rattle.capn_make.specs.declared.fault.MakeFault.TheVariants as faults
 use Rattle.capn_make.proofs.FirstTexts.{lines_append, first_more, made_more}

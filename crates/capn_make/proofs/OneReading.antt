@@ -7,7 +7,7 @@ use Rattle.std.specs.List.{AllByRecursion}
 use Rattle.capn_value.specs.Tree.{Tree}
 use Rattle.capn_value.specs.Caps.{first_cap}
 use Rattle.capn_value.specs.Fits.{Fits, misfit}
-use Rattle.capn_value.specs.Laws.Fitting.{fit_parts}
+use Rattle.capn_value.proofs.shared.Fitting.{fit_parts}
 use Rattle.capn_value.specs.Sizes.{height, most_height}
 use Rattle.capn_value.specs.Text.{show_text}
 use Rattle.capn_value.specs.declared.misfit.Misfit.{Misfit}

@@ -9,7 +9,7 @@ use Rattle.capn_canon.specs.declared.form.Form.{Form}
 use Rattle.capn_canon.specs.declared.form.Form.TheVariants as forms
 use Rattle.capn_make.specs.Makes.{Makes, MakesEach, IsNotOne}
 use Rattle.capn_make.specs.Made.{HasBegunEach, HasBegunText, EndsAs, Made}
-use Rattle.capn_make.specs.Sending.{ReadsAll, Sends}
+use Rattle.capn_make.specs.inner.RunParts.{ReadsAll, Sends}
 use Rattle.capn_make.specs.declared.fault.MakeFault.{MakeFault}
 use Rattle.capn_make.specs.declared.fault.MakeFault.TheVariants as faults
 

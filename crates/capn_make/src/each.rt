@@ -2,7 +2,7 @@
 
 ghost use Rattle.std.specs.Prelude.{◌≡◌, false};
 ghost use Rattle.capn_words.specs.Watching.{inner_of, has_failed};
-ghost use Rattle.capn_make.specs.Sending.{SendsEach};
+ghost use Rattle.capn_make.specs.inner.RunParts.{SendsEach};
 
 use crate::fault::MakeFault;
 use crate::next::next_piece;

@@ -3,7 +3,7 @@
 ghost use Rattle.std.specs.Prelude.{◌≡◌, false};
 ghost use Rattle.capn_words.specs.Watching.{inner_of, has_failed};
 ghost use Rattle.capn_make.specs.Made.{Made};
-ghost use Rattle.capn_make.specs.Sending.{Sends};
+ghost use Rattle.capn_make.specs.inner.RunParts.{Sends};
 
 use crate::each::make_each;
 use crate::fault::MakeFault;

@@ -3,8 +3,8 @@
 ghost use Rattle.std.specs.Prelude.{◌≡◌, None, Some, IfOk, IfErr, ◌⊎◌};
 ghost use Rattle.capn_value.specs.Caps.{first_cap};
 ghost use Rattle.capn_make.specs.Pieces.{IsPiece};
-ghost use Rattle.capn_make.specs.Sending as spec;
-ghost use Rattle.capn_make.specs.Sending.{MakesNext, MakesValue};
+ghost use Rattle.capn_make.specs.inner.RunParts as spec;
+ghost use Rattle.capn_make.specs.inner.RunParts.{MakesNext, MakesValue};
 
 use crate::fault::MakeFault;
 use crate::piece::piece_of;

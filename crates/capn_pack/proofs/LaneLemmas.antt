@@ -15,10 +15,10 @@ use Rattle.std.proofs.Math.Seq.{take-append-add}
 use lib.Lanes.{Each1, pick_l, zip2}
 use mir.Val.{zeroes}
 use Rattle.capn_pack.specs.Group.{named_bytes, IsNamedBy}
-use Rattle.capn_pack.specs.Rows.{spread_places, spread_row, gather_places, gather_row}
+use Rattle.capn_pack.specs.inner.ShuffleRows.{spread_places, spread_row, gather_places, gather_row}
 use Rattle.capn_pack.specs.declared.spread_table.TheConstants.{SPREADS}
 use Rattle.capn_pack.specs.declared.gather_table.TheConstants.{GATHERS}
-use Rattle.capn_pack.specs.Laws.SpreadLemmas.{ones_half, no_ones, parity, named_one, named_none}
+use Rattle.capn_pack.proofs.shared.SpreadLemmas.{ones_half, no_ones, parity, named_one, named_none}
 
 -- ---- each table is its rule at each tag
 

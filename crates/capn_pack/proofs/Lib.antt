@@ -1,3 +1,4 @@
+pub mod shared
 mod TagLemmas
 mod WeightLemmas
 mod RunLemmas

@@ -6,11 +6,11 @@ use Rattle.std.proofs.lemmas.List.{replicate-append-replicate, append-nil, drop_
 use Rattle.capn_pack.specs.Group.{text, content}
 use Rattle.capn_pack.specs.Packs.{texts, contents}
 use Rattle.capn_pack.specs.Chosen.{IsChoice, IsChosenRow, Chosen, IsDense, AllDense}
-use Rattle.capn_pack.specs.Steps.{Puts, PutsRow}
+use Rattle.capn_pack.specs.inner.Steps.{Puts, PutsRow}
 use Rattle.capn_pack.specs.Group.{tag_of, named_bytes}
 use Rattle.capn_pack.specs.Group.Group.{Zeros, Named, Raw}
 use Rattle.std.proofs.lemmas.Grind.{flat_map-append}
-use Rattle.capn_pack.specs.Laws.GroupLemmas.{texts_more, contents_more, count_more, count_append}
+use Rattle.capn_pack.proofs.shared.GroupLemmas.{texts_more, contents_more, count_more, count_append}
 use Rattle.capn_pack.proofs.RunLemmas.{tag_zero, named_exact}
 
 length_word : (bytes : List ℕ) (at : ℕ) → at + 8 ≤ length bytes → length (take 8 (drop at bytes)) ≡ 8

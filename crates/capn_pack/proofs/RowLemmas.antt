@@ -6,9 +6,9 @@ use Rattle.std.proofs.lemmas.Grind.{flat_map-append}
 use Rattle.capn_pack.specs.Group.{text, content}
 use Rattle.capn_pack.specs.Packs.{Packs, texts, contents, word_count}
 use Rattle.capn_pack.specs.Refusal.{Stands}
-use Rattle.capn_pack.specs.Steps.{Takes, TakesRow}
-use Rattle.capn_pack.specs.Laws.GroupLemmas.{texts_more, contents_more, each_more, rest_is, length_content}
-use Rattle.capn_pack.specs.Laws.GroupLemmas.{length_contents, each_append}
+use Rattle.capn_pack.specs.inner.Steps.{Takes, TakesRow}
+use Rattle.capn_pack.proofs.shared.GroupLemmas.{texts_more, contents_more, each_more, rest_is, length_content}
+use Rattle.capn_pack.proofs.shared.GroupLemmas.{length_contents, each_append}
 
 -- one group more
 pub row_more : (bytes : List ℕ) (at : ℕ) (old out : List ℕ) (room taken count : ℕ) (new : List ℕ)

@@ -8,7 +8,7 @@ use Rattle.std.proofs.lemmas.List.{replicate-append-replicate, take-append-le, d
 use Rattle.std.specs.Prelude.{count_ones}
 use Rattle.capn_pack.specs.Group.{tag_of, named_bytes, IsNamedBy}
 use Rattle.capn_pack.specs.Chosen.{zero_count, IsDense, AllDense}
-use Rattle.capn_pack.specs.Laws.SpreadLemmas.{ones_half, no_ones}
+use Rattle.capn_pack.proofs.shared.SpreadLemmas.{ones_half, no_ones}
 
 -- ---- what a tag of zero or of all ones says
 

@@ -8,10 +8,10 @@ use Rattle.capn_pack.specs.Group.{Group, IsGroup, text, content}
 use Rattle.capn_pack.specs.Packs.{texts, contents, word_count}
 use Rattle.capn_pack.specs.Refusal.{IsCut, IsTooLong, StartsWithin}
 use Rattle.capn_pack.specs.Some.{UnpacksSome, AppendsSome, StandsNext, most_group}
-use Rattle.capn_pack.specs.Steps.{Takes, TakesRow}
+use Rattle.capn_pack.specs.inner.Steps.{Takes, TakesRow}
 use Rattle.capn_pack.specs.declared.some.Next.{Next}
 use Rattle.capn_pack.specs.declared.some.Next.TheVariants as nexts
-use Rattle.capn_pack.specs.Laws.GroupLemmas.{length_content, length_contents, rest_is}
+use Rattle.capn_pack.proofs.shared.GroupLemmas.{length_content, length_contents, rest_is}
 use Rattle.capn_pack.proofs.RowLemmas.{row_join, row_more}
 
 -- up to `at` the bytes are groups, their words were appended, and this room is left of the maximum

@@ -7,16 +7,16 @@ use Rattle.std.proofs.lemmas.Result.{err_from_is_err_and}
 use Rattle.std.specs.List.{AllByRecursion}
 use Rattle.capn_pack.specs.Group.{Group, IsGroup, text, words}
 use Rattle.capn_pack.specs.Group.Group.{Zeros, Named, Raw}
-use Rattle.capn_pack.specs.Joins.{Joins}
+use Rattle.capn_pack.specs.inner.Joins.{Joins}
 use Rattle.capn_pack.specs.declared.unpack_piece.Joined.TheVariants as joins
 use Rattle.capn_pack.specs.Packs.{texts, word_count}
 use Rattle.capn_pack.specs.Refusal.{StartsWithin}
-use Rattle.capn_pack.specs.Steps.{TakeGives, TakesRow}
+use Rattle.capn_pack.specs.inner.Steps.{TakeGives, TakesRow}
 use Rattle.capn_pack.specs.Stream.{NoGroupFirst}
 use Rattle.capn_pack.specs.declared.unpack_group.Stop.{Stop}
 use Rattle.capn_pack.specs.declared.unpack_group.Stop.TheVariants.{Memory}
 use Rattle.capn_pack.specs.declared.unpack_group.Taken.{Taken}
-use Rattle.capn_pack.specs.Laws.GroupLemmas.{length_contents, rest_is}
+use Rattle.capn_pack.proofs.shared.GroupLemmas.{length_contents, rest_is}
 use Rattle.capn_pack.proofs.RowLemmas.{Unpacked}
 
 -- memory is refused where the first n bytes are a group's

@@ -10,8 +10,8 @@ use Rattle.capn_pack.specs.Group.{named_bytes, IsNamedBy}
 use Rattle.capn_pack.specs.Group.{Group, IsGroup, text, content}
 use Rattle.capn_pack.specs.Group.Group.{Zeros, Named, Raw}
 use Rattle.capn_pack.specs.Packs.{Packs, texts, contents, word_count}
-use Rattle.capn_pack.specs.Laws.SpreadLemmas.{parity, named_one, named_none}
-use Rattle.capn_pack.specs.Laws.GroupLemmas.{length_contents}
+use Rattle.capn_pack.proofs.shared.SpreadLemmas.{parity, named_one, named_none}
+use Rattle.capn_pack.proofs.shared.GroupLemmas.{length_contents}
 use Rattle.capn_pack.specs.Words.{AreBytes, HasWords}
 
 word_lt : (w : List ℕ) → length w ≡ 8 → ((i : ℕ) → get_or w i 0 < 256) → from_le_bytes w64 w < 2 ^ 64

@@ -1,12 +1,4 @@
 -- The laws of packed texts.
-pub mod ChosenLaws
-pub mod FirstParts
-pub mod GroupLaws
-pub mod GroupLemmas
-pub mod RefusalLaws
-pub mod SplitLaws
-pub mod SpreadLemmas
-pub mod StreamLemmas
 use Rattle.std.specs.Prelude.{◌≡◌, ◌≢◌, ℕ, ◌*◌, ◌≤◌, List, length}
 use Rattle.capn_pack.specs.Packs.{Packs}
 use Rattle.capn_pack.specs.Refusal.{IsRefused}

@@ -1,12 +1,10 @@
+pub mod inner
 pub mod Group
 pub mod Packs
 pub mod Chosen
 pub mod Refusal
 pub mod Words
 pub mod Stream
-pub mod Steps
-pub mod Joins
-pub mod Rows
 pub mod Laws
 pub mod Told
 pub mod Some

@@ -1,6 +1,6 @@
 //! Where the bytes that a tag names come from.
 ghost use Rattle.std.specs.Prelude.{◌≡◌};
-ghost use Rattle.capn_pack.specs.Rows.{gather_row};
+ghost use Rattle.capn_pack.specs.inner.ShuffleRows.{gather_row};
 
 use std::simd::prelude::*;
 

@@ -1,7 +1,7 @@
 //! One group, written after others.
 ghost use Rattle.std.specs.Prelude.{◌≡◌, ◌+◌, ◌<◌, ◌≤◌, ◌∷◌, ◌++◌, length, take, drop, IfOk, OnOk};
 ghost use Rattle.capn_pack.specs.Group.{tag_of, named_bytes};
-ghost use Rattle.capn_pack.specs.Steps.{Puts};
+ghost use Rattle.capn_pack.specs.inner.Steps.{Puts};
 
 use crate::lanes::gather;
 use crate::runs::{raw_run, word_at, zero_run};

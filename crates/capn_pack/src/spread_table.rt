@@ -1,6 +1,6 @@
 //! Where the bytes of a word come from, by its tag.
 ghost use Rattle.std.specs.Prelude.{◌≡◌};
-ghost use Rattle.capn_pack.specs.Rows.{spread_row};
+ghost use Rattle.capn_pack.specs.inner.ShuffleRows.{spread_row};
 
 use std::simd::prelude::*;
 

@@ -2,7 +2,7 @@
 ghost use Rattle.std.specs.Prelude.{◌≡◌, ◌+◌, ◌*◌, ◌<◌, ◌-◌, ◌≤◌, ◌++◌, [], length, take, slice_range, replicate, ℕ};
 ghost use Rattle.std.specs.Prelude.{IfSome, IfNone, IfOk, OnErr};
 ghost use Rattle.capn_pack.specs.Refusal.{StartsWithin};
-ghost use Rattle.capn_pack.specs.Steps.{Takes, TakesRow};
+ghost use Rattle.capn_pack.specs.inner.Steps.{Takes, TakesRow};
 
 use crate::block::Block;
 use crate::lanes::spread_far;

@@ -1,6 +1,6 @@
 //! One group read, and its words appended.
 ghost use Rattle.std.specs.Prelude.{◌≡◌, ◌<◌, length, slice_index};
-ghost use Rattle.capn_pack.specs.Steps.{TakeGives};
+ghost use Rattle.capn_pack.specs.inner.Steps.{TakeGives};
 
 use crate::lanes::spread;
 use std::alloc::{AllocError, Allocator};

@@ -1,7 +1,7 @@
 //! One piece of a packed text, and what is held of the pieces before it.
 ghost use Rattle.std.specs.Prelude.{◌≡◌, ◌+◌, ◌<◌, ◌≤◌, ◌++◌, length, take, drop, IfOk, OnErr};
 ghost use Rattle.capn_pack.specs.Stream.{Splits, Begins, NoGroupFirst};
-ghost use Rattle.capn_pack.specs.Joins.{FeedGives, Joins};
+ghost use Rattle.capn_pack.specs.inner.Joins.{FeedGives, Joins};
 
 use crate::unpack_block::{SLACK, take_block};
 use crate::unpack_group::{GROUP, Stop, WORDS, take_group};

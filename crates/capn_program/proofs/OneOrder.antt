@@ -6,7 +6,7 @@ use Rattle.capn_walk.specs.Limits.{Bounds}
 use Rattle.capn_canon.specs.declared.form.Form.{Form}
 use Rattle.capn_canon.specs.declared.form.Form.TheVariants as forms
 use Rattle.capn_tool.specs.Meaning.{Means}
-use Rattle.capn_tool.specs.Laws.OneMeaning.{form_one, limits_one, means_one, number_one}
+use Rattle.capn_tool.proofs.shared.OneMeaning.{form_one, limits_one, means_one, number_one}
 use Rattle.capn_tool.specs.declared.orders.Command.{Command}
 use Rattle.capn_tool.specs.declared.orders.Command.TheVariants as commands
 use Rattle.capn_archive.specs.declared.order.Archive.{Archive}

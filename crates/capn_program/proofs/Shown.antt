@@ -10,7 +10,7 @@ use Rattle.capn_tool.specs.Ends as tool
 use Rattle.capn_tool.specs.Sending.{EndsFlushed}
 use Rattle.capn_tool.specs.Status.{status_of}
 use Rattle.capn_tool.specs.Told.{Tells}
-use Rattle.capn_tool.specs.Laws.Written.{begun_all, kept, sound}
+use Rattle.capn_tool.proofs.shared.Written.{begun_all, kept, sound}
 use Rattle.capn_tool.specs.declared.fault.ToolFault.{ToolFault}
 use Rattle.capn_tool.specs.declared.fault.ToolFault.TheVariants as faults
 use Rattle.capn_program.specs.Ends.{EndsUnordered, ShowsVersion}

@@ -4,10 +4,10 @@ use Rattle.std.proofs.Common.{Result, Err, refl, ap, sym, subst, ◌∙◌, appe
 use Rattle.std.proofs.lemmas.Grind.{flat_map-append}
 use Rattle.capn_words.specs.Message.{total}
 use Rattle.capn_stream.specs.Frames.{Frames}
-use Rattle.capn_stream.specs.Stages.{IsStop}
+use Rattle.capn_stream.specs.inner.Stages.{IsStop}
 use Rattle.capn_stream.specs.declared.fault.FrameFault.{FrameFault}
 use Rattle.capn_stream.specs.declared.fault.FrameFault.TheVariants as frame_faults
-use Rattle.capn_stream.specs.Laws.Longer.{IsStop-append}
+use Rattle.capn_stream.proofs.shared.Longer.{IsStop-append}
 use Rattle.capn_canon.specs.declared.refusal.Refusal.{Refusal}
 use Rattle.capn_canon.specs.declared.refusal.Refusal.TheVariants as refusals
 use Rattle.capn_serve.specs.Fold.{Fold, Part, IsPart, AreServed, AreParts, frame_of, text_of, frames_of, texts_of}

@@ -13,8 +13,8 @@ use Rattle.capn_stream.specs.Frames.{Frames, StandsFirst}
 use Rattle.capn_stream.specs.Framing.{FeedGives, Feeds, Framing, IsFrame, IsUnfinished, TakeGives}
 use Rattle.capn_stream.specs.declared.fault.FrameFault.{FrameFault}
 use Rattle.capn_stream.specs.declared.fault.FrameFault.TheVariants as frame_faults
-use Rattle.capn_stream.specs.Laws.FrameLaws.{refused_whole, stands_alone, whole_of}
-use Rattle.capn_stream.specs.Laws.Wanting.{frame_whole, unfinished_frame}
+use Rattle.capn_stream.proofs.shared.FrameLaws.{refused_whole, stands_alone, whole_of}
+use Rattle.capn_stream.proofs.shared.Wanting.{frame_whole, unfinished_frame}
 use Rattle.capn_canon.specs.declared.refusal.Refusal.{Refusal}
 use Rattle.capn_serve.specs.declared.position.Position.{Position}
 use Rattle.capn_serve.specs.declared.service.Run.{Run}

@@ -11,9 +11,9 @@ use Rattle.capn_pack.specs.Group.{text, content}
 use Rattle.capn_pack.specs.Packs.{texts, contents}
 use Rattle.capn_pack.specs.Stream as packing
 use Rattle.capn_pack.specs.Stream.{Splits}
-use Rattle.capn_pack.specs.Laws.GroupLemmas.{each_append}
-use Rattle.capn_pack.specs.Laws.SplitLaws.{splits_all}
-use Rattle.capn_pack.specs.Laws.StreamLemmas.{nothing_first}
+use Rattle.capn_pack.proofs.shared.GroupLemmas.{each_append}
+use Rattle.capn_pack.proofs.shared.SplitLaws.{splits_all}
+use Rattle.capn_pack.proofs.shared.StreamLemmas.{nothing_first}
 use Rattle.capn_stream.specs.Framing.{IsUnfinished}
 use Rattle.capn_stream.specs.Reading as frame_rules
 use Rattle.capn_stream.specs.declared.fault.FrameFault.{FrameFault}

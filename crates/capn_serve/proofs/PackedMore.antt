@@ -13,8 +13,8 @@ use Rattle.capn_pack.specs.Group.{text, content}
 use Rattle.capn_pack.specs.Packs.{texts, contents}
 use Rattle.capn_pack.specs.Stream as packing
 use Rattle.capn_pack.specs.Stream.{Feeds, Held, Splits, advanced}
-use Rattle.capn_pack.specs.Laws.GroupLemmas.{each_append}
-use Rattle.capn_pack.specs.Laws.StreamLemmas.{splits_open, splits_then}
+use Rattle.capn_pack.proofs.shared.GroupLemmas.{each_append}
+use Rattle.capn_pack.proofs.shared.StreamLemmas.{splits_open, splits_then}
 use Rattle.capn_stream.specs.Framing.{Framing, IsUnfinished}
 use Rattle.capn_stream.specs.Reading as frame_rules
 use Rattle.capn_stream.specs.declared.fault.FrameFault.{FrameFault}

@@ -8,7 +8,7 @@ use Rattle.std.specs.Io.KnownBytes.{Appends, Consumes, IsAtEnd, Keeps}
 use Rattle.std.proofs.KnownBytes.{Consumes-nil, Consumes-trans, Consumes-kept}
 use Rattle.capn_pack.specs.Packs.{texts}
 use Rattle.capn_pack.specs.Stream as packing
-use Rattle.capn_pack.specs.Laws.StreamLemmas.{nothing_first}
+use Rattle.capn_pack.proofs.shared.StreamLemmas.{nothing_first}
 use Rattle.capn_stream.specs.Framing.{IsUnfinished}
 use Rattle.capn_serve.specs.declared.fault.RunFault.{RunFault}
 use Rattle.capn_serve.specs.declared.fault.RunFault.TheVariants as faults

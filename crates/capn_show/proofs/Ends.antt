@@ -5,7 +5,7 @@ use Rattle.capn_show.specs.declared.fault.ShowFault.{ShowFault}
 use Rattle.capn_show.specs.declared.fault.Broken.{Broken}
 use Rattle.capn_show.specs.declared.fault.Broken.TheVariants as broken
 use Rattle.capn_show.specs.Sheet.{Sheet}
-use Rattle.capn_show.specs.Ready.{IsBegun, IsUnwritten, as_fault}
+use Rattle.capn_show.specs.inner.ReadyPlaces.{IsBegun, IsUnwritten, as_fault}
 
 module _ (m : List (List ℕ)) (limits : Bounds) (p q : Sheet) where
   pub unwritten : (e : Broken) (fault : ShowFault) → fault ≡ as_fault e → IsBegun m limits p q e

@@ -12,7 +12,7 @@ use Rattle.capn_walk.specs.declared.kind.Kind.{Kind}
 use Rattle.capn_walk.specs.declared.kind.Kind.TheVariants as kinds
 use Rattle.capn_walk.specs.Viewed.{kind_of}
 use Rattle.capn_walk.specs.Shown.{Shows, ShowsStruct}
-use Rattle.capn_show.specs.Ready.{struct_at, AreNumbers, AreSlots, AreRowsAt}
+use Rattle.capn_show.specs.inner.ReadyPlaces.{struct_at, AreNumbers, AreSlots, AreRowsAt}
 
 -- the kind of a value
 abbrev kind_in : Tree → Kind

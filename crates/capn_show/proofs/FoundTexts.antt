@@ -12,8 +12,8 @@ use Rattle.capn_walk.specs.declared.target.Shape.TheVariants as shapes
 use Rattle.capn_walk.specs.Shapes.{IsContent, IsPlain, RowsFit, extent}
 use Rattle.capn_walk.specs.Viewed.{IsInMessage}
 use Rattle.capn_walk.specs.Shown.{Shows}
-use Rattle.capn_show.specs.Ready.{IsFound, IsBody, AreReady, AreRows, shown_body}
-use Rattle.capn_show.specs.Ready.{IsFoundShown, IsBodyShown, AreShown, RowsShown, WordsShown}
+use Rattle.capn_show.specs.inner.ReadyPlaces.{IsFound, IsBody, AreReady, AreRows, shown_body}
+use Rattle.capn_show.specs.inner.ReadyPlaces.{IsFoundShown, IsBodyShown, AreShown, RowsShown, WordsShown}
 use Rattle.capn_show.proofs.FoundKinds.{as-nil, as-cap, as-node, as-links, as-rows}
 
 -- a struct, by its three parts

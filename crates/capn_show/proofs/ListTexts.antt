@@ -9,7 +9,7 @@ use Rattle.capn_value.specs.Text.{line, named, one_line, digits_of, number_lines
 use Rattle.capn_walk.specs.declared.target.Target.TheVariants as targets
 use Rattle.capn_walk.specs.declared.target.Shape.TheVariants as shapes
 use Rattle.capn_walk.specs.Shown.{Shows}
-use Rattle.capn_show.specs.Ready.{AreNumbers, IsFoundShown, NumbersShown, BitsShown}
+use Rattle.capn_show.specs.inner.ReadyPlaces.{AreNumbers, IsFoundShown, NumbersShown, BitsShown}
 use Rattle.capn_show.proofs.FoundKinds.{as-voids, as-bits, as-bytes, as-pairs, as-quads, as-octs}
 
 module _ (m : List (List ℕ)) (s w n level : ℕ) (width : Width) (Says : List ℕ → Type 0) where

@@ -12,8 +12,8 @@ use Rattle.capn_walk.specs.declared.target.Target.TheVariants as targets
 use Rattle.capn_walk.specs.declared.target.Fault.{Fault}
 use Rattle.capn_walk.specs.Target.{target}
 use Rattle.capn_walk.specs.Viewed.{IsInMessage}
-use Rattle.capn_walk.specs.Laws.Inside.{inside}
-use Rattle.capn_walk.specs.Laws.Present.{present}
+use Rattle.capn_walk.proofs.shared.Inside.{inside}
+use Rattle.capn_walk.proofs.shared.Present.{present}
 
 pow-times : (k p : ℕ) → 2 ^ (k * p) ≡ (2 ^ k) ^ p
 pow-times k zero = let e : k * 0 ≡ 0 = omega arith in rw e (simp unary_clauses refl)

@@ -6,7 +6,7 @@ use Rattle.capn_value.specs.Tree.{Trees, no_trees, tree, Bodies, no_bodies, body
 use Rattle.capn_value.specs.Sizes.{height, greatest, greatest_in_rows}
 use Rattle.capn_value.specs.Text.{body_line, word_lines, shown, shown_each, shown_rows}
 use Rattle.capn_walk.specs.Shown.{words_of_row, slots_of_row}
-use Rattle.capn_show.specs.Ready.{shown_body}
+use Rattle.capn_show.specs.inner.ReadyPlaces.{shown_body}
 use Rattle.capn_show.proofs.RowFront.{front_rows}
 use Rattle.capn_show.specs.declared.fault.Broken.{Broken}
 use Rattle.capn_show.specs.Sheet.{Sheet, Grows, BreaksOff}

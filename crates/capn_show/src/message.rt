@@ -1,7 +1,7 @@
 //! The text of a message.
 
 ghost use Rattle.std.specs.Prelude.{OnOk, IfErr};
-ghost use Rattle.capn_show.specs.Ready.{IsWritten, IsUnwritten};
+ghost use Rattle.capn_show.specs.inner.ReadyPlaces.{IsWritten, IsUnwritten};
 
 use crate::fault::{ShowFault, fault_of};
 use crate::page::Page;

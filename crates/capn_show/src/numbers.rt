@@ -9,7 +9,7 @@ ghost use Rattle.capn_walk.specs.At.{words_from};
 ghost use Rattle.capn_walk.specs.Shapes.{IsContent};
 ghost use Rattle.capn_walk.specs.Target.{content_words};
 ghost use Rattle.capn_walk.specs.Viewed as seen;
-ghost use Rattle.capn_show.specs.Ready.{HasNumbers, WordsShown, NumbersShown, BitsShown};
+ghost use Rattle.capn_show.specs.inner.ReadyPlaces.{HasNumbers, WordsShown, NumbersShown, BitsShown};
 ghost use Rattle.capn_show.specs.Sheet.{Grows, BreaksOff};
 
 use crate::digits::{digit, per_word};

@@ -8,8 +8,8 @@ ghost use Rattle.capn_walk.specs.Target.{content_words};
 ghost use Rattle.capn_walk.specs.Shapes.{IsContent, IsPlain};
 ghost use Rattle.capn_walk.specs.Viewed.{IsInMessage};
 ghost use Rattle.capn_show.specs.Sheet.{Grows, BreaksOff};
-ghost use Rattle.capn_show.specs.Ready.{IsReady, IsFound, IsBody, AreReady, AreRows};
-ghost use Rattle.capn_show.specs.Ready.{IsShown, IsFoundShown, IsBodyShown, AreShown, RowsShown};
+ghost use Rattle.capn_show.specs.inner.ReadyPlaces.{IsReady, IsFound, IsBody, AreReady, AreRows};
+ghost use Rattle.capn_show.specs.inner.ReadyPlaces.{IsShown, IsFoundShown, IsBodyShown, AreShown, RowsShown};
 
 use crate::fault::Broken;
 use crate::numbers::{show_bits, show_bytes, show_numbers, show_words};

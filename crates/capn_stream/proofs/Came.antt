@@ -1,7 +1,7 @@
 -- Where a piece adds bytes to a frame.
 use Rattle.std.proofs.Common.{◌≡◌, ◌⊎◌, inl, inr, ℕ, ◌-◌, ◌<◌, ◌≤◌, List, length, take, drop, ap, sym, subst, ◌∙◌}
 use Rattle.std.proofs.Common.{arith, length-append, length-drop, length-take}
-use Rattle.capn_stream.specs.Stages.{Extends, IsDone, Rests, need}
+use Rattle.capn_stream.specs.inner.Stages.{Extends, IsDone, Rests, need}
 use Rattle.capn_stream.specs.declared.stage.Stage.{Stage}
 
 -- the piece has bytes, and the part that was waited for at first lacked some

@@ -8,8 +8,8 @@ use Rattle.capn_words.specs.Message.{bytes, segment_at, total, words_of, IsMessa
 use Rattle.std.proofs.lemmas.Bool.{cases_lt, lt-ltb, le-ltb}
 use Rattle.capn_words.specs.Words.{AreWords}
 use Rattle.capn_stream.specs.Cuts.{AreEnds, AreRising, cut}
-use Rattle.capn_stream.specs.Laws.Entries.{below-drop, below-take}
-use Rattle.capn_stream.specs.Laws.SegmentBytes.{bytes_of_part}
+use Rattle.capn_stream.proofs.shared.Entries.{below-drop, below-take}
+use Rattle.capn_stream.proofs.shared.SegmentBytes.{bytes_of_part}
 
 -- ---- a segment of words that are cut
 

@@ -5,12 +5,12 @@ use Rattle.std.proofs.Math.Seq.{take-add}
 use Rattle.std.proofs.lemmas.List.{take_rest, take-append-drop}
 use Rattle.capn_words.specs.Limits.{most_segments}
 use Rattle.capn_stream.specs.Reading.{HasCount, announced_segments, head_length}
-use Rattle.capn_stream.specs.Stages.{Extends, Fills, IsDone, IsStage, IsStop, Tabled, need}
+use Rattle.capn_stream.specs.inner.Stages.{Extends, Fills, IsDone, IsStage, IsStop, Tabled, need}
 use Rattle.capn_stream.specs.declared.fault.FrameFault.{FrameFault}
 use Rattle.capn_stream.specs.declared.fault.FrameFault.TheVariants.{TooManySegments}
 use Rattle.capn_stream.specs.declared.stage.Stage.{Stage}
 use Rattle.capn_stream.specs.declared.stage.Stage.TheVariants as stages
-use Rattle.capn_stream.specs.Laws.Longer.{IsStage-extends, IsStop-append}
+use Rattle.capn_stream.proofs.shared.Longer.{IsStage-extends, IsStop-append}
 
 -- the bytes after those that were taken of a piece, and some of those that were left
 pub record Filled (stage : Stage) (old piece : List ℕ) (most at : ℕ) (new ends : List ℕ) : Type 0 where

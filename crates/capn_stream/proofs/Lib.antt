@@ -1,3 +1,4 @@
+pub mod shared
 pub mod Cutting
 pub mod WholeFrames
 pub mod Filling

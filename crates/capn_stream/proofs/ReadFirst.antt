@@ -10,8 +10,8 @@ use Rattle.capn_stream.specs.Receiving.{OnlyFirst, ReadGives, ReadsFirst, StopsI
 use Rattle.capn_stream.specs.declared.fault.FrameFault.TheVariants as frames
 use Rattle.capn_stream.specs.declared.fault.ReadFault.{ReadFault}
 use Rattle.capn_stream.specs.declared.fault.ReadFault.TheVariants as faults
-use Rattle.capn_stream.specs.Laws.FrameLaws.{one_frame, refused_whole, whole_of}
-use Rattle.capn_stream.specs.Laws.Longer.{IsStop-append}
+use Rattle.capn_stream.proofs.shared.FrameLaws.{one_frame, refused_whole, whole_of}
+use Rattle.capn_stream.proofs.shared.Longer.{IsStop-append}
 
 stands : (bytes rest input : List ℕ) (most : ℕ) (message : List (List ℕ)) → input ≡ bytes ++ rest → Frames bytes message
     → total message ≤ most → StandsFirst input most message (length bytes)

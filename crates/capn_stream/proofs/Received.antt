@@ -12,7 +12,7 @@ use Rattle.capn_stream.specs.Receiving.{EndGives, StopsInside, TakesIn, most_byt
 use Rattle.capn_stream.specs.declared.fault.FrameFault.TheVariants as frames
 use Rattle.capn_stream.specs.declared.fault.ReadFault.{ReadFault}
 use Rattle.capn_stream.specs.declared.fault.ReadFault.TheVariants as faults
-use Rattle.capn_stream.specs.Laws.Wanting.{many_segments_end, many_words_end, taken_whole, unfinished_within}
+use Rattle.capn_stream.proofs.shared.Wanting.{many_segments_end, many_words_end, taken_whole, unfinished_within}
 
 -- bytes that were all needed were all taken
 pub takes_in : (before : Framing) (piece : List ℕ) (n : ℕ) (mid : Framing) (r : Option (List (List ℕ)))

@@ -10,11 +10,11 @@ use Rattle.capn_stream.specs.Frames.{StandsFirst, contents, entry, padding, tabl
 use Rattle.capn_stream.specs.Reading.{IsWhole, announced_segments, entries, entry_number, frame_length, head_length}
 use Rattle.capn_stream.specs.Reading.{announced_words}
 use Rattle.capn_stream.proofs.Cutting.{length-cut, message-cut, total-cut}
-use Rattle.capn_stream.specs.Laws.Ends.{AreRising-ends_from, contents-cut, length-ends_from, lengths-cut}
-use Rattle.capn_stream.specs.Laws.Entries.{entries_more, entry-entries, entry-entry_number, below-drop, below-take}
-use Rattle.capn_stream.specs.Laws.Entries.{length-entries, sum-entries_more, take_then}
-use Rattle.capn_words.specs.Laws.Words.{length-bytes}
-use Rattle.capn_stream.specs.Laws.FrameLaws.{FitsTable-message, table_sizes}
+use Rattle.capn_stream.proofs.shared.Ends.{AreRising-ends_from, contents-cut, length-ends_from, lengths-cut}
+use Rattle.capn_stream.proofs.shared.Entries.{entries_more, entry-entries, entry-entry_number, below-drop, below-take}
+use Rattle.capn_stream.proofs.shared.Entries.{length-entries, sum-entries_more, take_then}
+use Rattle.capn_words.proofs.shared.Words.{length-bytes}
+use Rattle.capn_stream.proofs.shared.FrameLaws.{FitsTable-message, table_sizes}
 
 -- the sizes of all segments but the last
 abbrev pub sizes_before : List ℕ → List ℕ

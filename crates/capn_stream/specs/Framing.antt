@@ -5,7 +5,7 @@ use Rattle.capn_words.specs.Limits.{most_message_words}
 use Rattle.capn_words.specs.Message.{total}
 use Rattle.capn_stream.specs.Frames.{Frames}
 use Rattle.capn_stream.specs.Reading.{IsRefused}
-use Rattle.capn_stream.specs.Stages.{IsStage, Rests}
+use Rattle.capn_stream.specs.inner.Stages.{IsStage, Rests}
 use Rattle.capn_stream.specs.declared.fault.FrameFault.{FrameFault}
 use Rattle.capn_stream.specs.declared.fault.FrameFault.TheVariants.{Memory, Empty, TooManySegments, TooManyWords, Cut}
 use Rattle.capn_stream.specs.declared.fault.FrameFault.TheVariants.{Failed}

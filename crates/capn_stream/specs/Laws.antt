@@ -1,10 +1,4 @@
 -- The laws of frames.
-pub mod Ends
-pub mod Entries
-pub mod FrameLaws
-pub mod Longer
-pub mod SegmentBytes
-pub mod Wanting
 use Rattle.std.specs.Prelude.{◌≡◌, ◌≢◌, ℕ, List}
 use Rattle.capn_stream.specs.Frames.{StandsFirst}
 use Rattle.capn_stream.specs.Reading.{IsRefused}

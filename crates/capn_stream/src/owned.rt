@@ -3,7 +3,7 @@
 ghost use Rattle.std.specs.Prelude.{◌≡◌, ℕ, ◌+◌, ◌-◌, ◌*◌, ◌/◌, ◌%◌, ◌<◌, ◌≤◌, List, length, slice_index, take, drop};
 ghost use Rattle.capn_words.specs.Words.{AreBytes, bytes, word_number, words_in};
 ghost use Rattle.capn_stream.specs.Cuts.{AreEnds, cut};
-ghost use Rattle.capn_stream.specs.Owned.{IsTail};
+ghost use Rattle.capn_stream.specs.inner.StoredWords.{IsTail};
 
 use crate::framed::{end_of, start_of};
 use byteorder::{ByteOrder, LittleEndian};
@@ -21,7 +21,7 @@ pub(crate) struct Words<A: Allocator = Global> {
 impl<A: Allocator> Model for Words<A> {
     ghost use Rattle.std.specs.Prelude.{◌≡◌, ℕ, ◌/◌, ◌%◌, ◌^◌, ◌<◌, ◌≤◌, List, length, drop};
     ghost use Rattle.capn_words.specs.Words.{AreBytes, words_in};
-    ghost use Rattle.capn_stream.specs.Owned.{IsTail};
+    ghost use Rattle.capn_stream.specs.inner.StoredWords.{IsTail};
 
     ghost Value = { List ℕ };
 

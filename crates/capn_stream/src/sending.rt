@@ -4,7 +4,7 @@ ghost use Rattle.std.specs.Prelude.{◌≡◌, ◌↔◌, ◌+◌, ◌-◌, ◌*
 ghost use Rattle.std.specs.Io.KnownBytes.{Appends};
 ghost use Rattle.capn_words.specs.Watching.{HasBegun, has_failed, inner_of};
 ghost use Rattle.capn_stream.specs.Frames.{entry, frame_text};
-ghost use Rattle.capn_stream.specs.Sending.{head_text};
+ghost use Rattle.capn_stream.specs.inner.FrameOutput.{head_text};
 
 use crate::fault::Io;
 use crate::table::MOST_TABLE_WORDS;

@@ -4,8 +4,8 @@ use Rattle.std.proofs.Common.{sym, refl, ap, ◌∙◌, arith}
 use Rattle.std.proofs.lemmas.List.{append-nil}
 use Rattle.capn_value.specs.Tree.{Tree}
 use Rattle.capn_value.specs.Text.{line, show_text}
-use Rattle.capn_text.specs.Tokens.{◌>>=◌}
-use Rattle.capn_text.specs.Values.{head_at, content_at, tree_at}
+use Rattle.capn_text.specs.inner.Tokens.{◌>>=◌}
+use Rattle.capn_text.specs.inner.Values.{head_at, content_at, tree_at}
 use Rattle.capn_text.specs.Streams.{first_lines, ended_lines, BeginsAs}
 use Rattle.capn_text.specs.declared.heads.Head.{Head}
 use Rattle.capn_text.proofs.HeadText.{head_text, head_again, head_takes}

@@ -6,12 +6,12 @@ use Rattle.std.proofs.lemmas.List.{append-nil}
 use Rattle.capn_value.specs.Tree.{Tree}
 use Rattle.capn_value.specs.Sizes.{height, most_height}
 use Rattle.capn_value.specs.Text.{show_text}
-use Rattle.capn_text.specs.Tokens.{strip}
-use Rattle.capn_text.specs.Values.{head_at, tree_at}
+use Rattle.capn_text.specs.inner.Tokens.{strip}
+use Rattle.capn_text.specs.inner.Values.{head_at, tree_at}
 use Rattle.capn_text.proofs.TokenText.{strip_again}
 use Rattle.capn_text.proofs.PartStops.{tree_line_fails}
 use Rattle.capn_text.specs.Showable.{IsShowable}
-use Rattle.capn_text.specs.Stops.{AreLines, Stops, Deepens}
+use Rattle.capn_text.specs.inner.Stops.{AreLines, Stops, Deepens}
 use Rattle.capn_text.specs.Streams.{end_line, first_lines, ended_lines, IsFirstWrong, GoesTooDeep, ended_text}
 use Rattle.capn_text.proofs.TreeOfText.{tree_again, apart}
 use Rattle.capn_text.proofs.TextOfTree.{tree_takes}

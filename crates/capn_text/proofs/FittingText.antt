@@ -9,7 +9,7 @@ use Rattle.capn_value.specs.Text.{show_text}
 use Rattle.capn_value.specs.Sizes.{height, most_height}
 use Rattle.capn_text.specs.declared.fault.TextFault.{TextFault}
 use Rattle.capn_text.specs.declared.fault.TextFault.TheVariants as faults
-use Rattle.capn_text.specs.Values.{tree_at}
+use Rattle.capn_text.specs.inner.Values.{tree_at}
 use Rattle.capn_text.specs.Showable.{IsShowable}
 use Rattle.capn_text.proofs.Steps.{some_is}
 use Rattle.capn_text.proofs.TreeOfText.{tree_again}

@@ -6,9 +6,10 @@ use Rattle.std.specs.Prelude.{nat_le, cond}
 use Rattle.std.proofs.lemmas.Bool.{leb-true, le-leb}
 use Rattle.std.specs.Fmt.{decimal}
 use Rattle.capn_value.specs.Text.{line, named}
-use Rattle.capn_text.specs.Tokens.{◌>>=◌, strip, indent_at, decimal_at}
-use Rattle.capn_text.specs.Values.{greatest_number, Holds, or_else, name_at, sizes_at, named_at, struct_or, null_or}
-use Rattle.capn_text.specs.Values.{head_at}
+use Rattle.capn_text.specs.inner.Tokens.{◌>>=◌, strip, indent_at, decimal_at}
+use Rattle.capn_text.specs.inner.Values.{greatest_number, Holds, or_else, name_at, sizes_at, named_at, struct_or}
+use Rattle.capn_text.specs.inner.Values.{null_or}
+use Rattle.capn_text.specs.inner.Values.{head_at}
 use Rattle.capn_text.specs.declared.heads.Leaf.{Leaf}
 use Rattle.capn_text.specs.declared.heads.Leaf.TheVariants as leaves
 use Rattle.capn_text.specs.declared.heads.Name.{Name}

@@ -11,8 +11,8 @@ use Rattle.std.proofs.lemmas.Fmt.{decimal_by_steps}
 use Rattle.hex.specs.Hex.{encode_lower}
 use Rattle.capn_value.specs.Text.{line, hex16, digits_of, one_line}
 use Rattle.capn_text.specs.Streams.{first_lines, ended_lines}
-use Rattle.capn_text.specs.Stops.{AreLines}
-use Rattle.capn_text.specs.Values.{Holds, greatest_number}
+use Rattle.capn_text.specs.inner.Stops.{AreLines}
+use Rattle.capn_text.specs.inner.Values.{Holds, greatest_number}
 use Rattle.capn_text.specs.declared.heads.Leaf.TheVariants as leaves
 use Rattle.capn_text.specs.declared.heads.Name.{Name}
 use Rattle.capn_text.specs.declared.heads.Name.TheVariants as names

@@ -7,9 +7,9 @@ use Rattle.std.specs.List.{AllByRecursion}
 use Rattle.hex.specs.Hex.{encode_lower}
 use Rattle.capn_value.specs.Text.{line, digits_of, one_line}
 use Rattle.capn_text.specs.Streams.{first_lines, ended_lines}
-use Rattle.capn_text.specs.Stops.{AreLines, Stops, FailsAt, LineFails}
-use Rattle.capn_text.specs.Tokens.{byte_at, bit_at, many, word_line_at, number_line_at, row_line_at}
-use Rattle.capn_text.specs.Values.{Holds, head_at}
+use Rattle.capn_text.specs.inner.Stops.{AreLines, Stops, FailsAt, LineFails}
+use Rattle.capn_text.specs.inner.Tokens.{byte_at, bit_at, many, word_line_at, number_line_at, row_line_at}
+use Rattle.capn_text.specs.inner.Values.{Holds, head_at}
 use Rattle.capn_text.specs.declared.fault.Stop.{Stop}
 use Rattle.capn_text.specs.declared.fault.Stop.TheVariants as stops
 use Rattle.capn_text.specs.declared.heads.Head.{Head}

@@ -5,7 +5,7 @@ use Rattle.std.proofs.Common.{append_assoc, arith, codes}
 use Rattle.std.proofs.lemmas.List.{append-nil}
 use Rattle.capn_text.specs.declared.fault.Stop.{Stop}
 use Rattle.capn_text.specs.declared.fault.Stop.TheVariants as stops
-use Rattle.capn_text.specs.Tokens.{◌>>=◌, Fails, many, strip, indent_at}
+use Rattle.capn_text.specs.inner.Tokens.{◌>>=◌, Fails, many, strip, indent_at}
 
 -- what was read before, and what is still read
 abbrev pub with_front : {X : Type 0} → List X → Option (List X × List ℕ) → Option (List X × List ℕ)

@@ -7,9 +7,9 @@ use Rattle.std.specs.List.{AllByRecursion}
 use Rattle.std.specs.Fmt.{decimal}
 use Rattle.std.proofs.lemmas.Bool.{leb-true, le-leb, eqb-true, ne_eqb}
 use Rattle.capn_value.specs.Text.{line, hex16, one_line, digit}
-use Rattle.capn_text.specs.Tokens.{◌>>=◌, strip, indent_at, decimal_at, bit_at, word_at, many, word_line_at}
-use Rattle.capn_text.specs.Tokens.{number_line_at}
-use Rattle.capn_text.specs.Tokens.{row_line_at}
+use Rattle.capn_text.specs.inner.Tokens.{◌>>=◌, strip, indent_at, decimal_at, bit_at, word_at, many, word_line_at}
+use Rattle.capn_text.specs.inner.Tokens.{number_line_at}
+use Rattle.capn_text.specs.inner.Tokens.{row_line_at}
 use Rattle.capn_text.proofs.Steps.{bind_some, guard_some, chosen, some_is, then, many_again, many_takes}
 use Rattle.capn_text.proofs.TokenText.{strip_takes, indent_takes, indent_again, decimal_takes, decimal_again}
 use Rattle.capn_text.proofs.TokenText.{word_takes, word_again}

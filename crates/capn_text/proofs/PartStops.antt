@@ -6,10 +6,10 @@ use Rattle.std.specs.Prelude.{Result, Ok, Err, IfErr}
 use Rattle.capn_value.specs.Tree.{Tree, node, bits, bytes, pairs, quads, octs, links, rows, Trees}
 use Rattle.capn_value.specs.View.{trees, rows_from}
 use Rattle.capn_text.specs.Streams.{first_lines, ended_lines}
-use Rattle.capn_text.specs.Stops.{Stops, Deepens, FailsAt, GivesAt, LineFails}
-use Rattle.capn_text.specs.Tokens.{◌>>=◌, Gives, Fails, byte_at, bit_at, many, word_line_at, number_line_at}
-use Rattle.capn_text.specs.Tokens.{row_line_at}
-use Rattle.capn_text.specs.Values.{Holds, head_at, leaf_at, body_at, row_of, row_at, content_at, low_at, tree_at}
+use Rattle.capn_text.specs.inner.Stops.{Stops, Deepens, FailsAt, GivesAt, LineFails}
+use Rattle.capn_text.specs.inner.Tokens.{◌>>=◌, Gives, Fails, byte_at, bit_at, many, word_line_at, number_line_at}
+use Rattle.capn_text.specs.inner.Tokens.{row_line_at}
+use Rattle.capn_text.specs.inner.Values.{Holds, head_at, leaf_at, body_at, row_of, row_at, content_at, low_at, tree_at}
 use Rattle.capn_text.specs.declared.fault.Stop.{Stop}
 use Rattle.capn_text.specs.declared.fault.Stop.TheVariants as stops
 use Rattle.capn_text.specs.declared.heads.Leaf.{Leaf}

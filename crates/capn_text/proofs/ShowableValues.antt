@@ -7,7 +7,7 @@ use Rattle.capn_value.specs.Tree.{no_trees, tree, Bodies, no_bodies, body, count
 use Rattle.capn_value.specs.Fits.{Fits, anywhere, anywhere_in, anywhere_in_rows, is_wide, is_wide_body, has_wide_row}
 use Rattle.capn_value.specs.Fits.{is_long}
 use Rattle.capn_value.specs.Fits.{elements, words_in_rows}
-use Rattle.capn_value.specs.Laws.Fitting.{fit_parts}
+use Rattle.capn_value.proofs.shared.Fitting.{fit_parts}
 use Rattle.capn_value.specs.InRange.{InRange, EachInRange, RowsInRange}
 use Rattle.capn_text.specs.Showable.{IsShowable, EachShowable, RowsShowable}
 

@@ -4,9 +4,9 @@ use Rattle.std.proofs.Common.{refl, sym, ap, subst, ◌∙◌, append_assoc, ari
 use Rattle.std.proofs.lemmas.List.{append-nil}
 use Rattle.capn_text.specs.declared.fault.Stop.{Stop}
 use Rattle.capn_text.specs.declared.fault.Stop.TheVariants as stops
-use Rattle.capn_text.specs.Tokens.{◌>>=◌, many, FailsIdly}
+use Rattle.capn_text.specs.inner.Tokens.{◌>>=◌, many, FailsIdly}
 use Rattle.capn_text.specs.Streams.{first_lines, ended_lines}
-use Rattle.capn_text.specs.Stops.{AreLines, GoesOn, Stops, Deepens, FailsAt}
+use Rattle.capn_text.specs.inner.Stops.{AreLines, GoesOn, Stops, Deepens, FailsAt}
 use Rattle.capn_text.proofs.Steps.{bind_some, some_is, then}
 use Rattle.capn_text.proofs.WholeLines.{are_none, are_both, first_front}
 

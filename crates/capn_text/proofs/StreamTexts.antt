@@ -6,10 +6,10 @@ use Rattle.std.specs.List.{AllByRecursion}
 use Rattle.std.proofs.lemmas.List.{length-append}
 use Rattle.capn_value.specs.Tree.{Tree}
 use Rattle.capn_value.specs.Text.{show_text}
-use Rattle.capn_text.specs.Tokens.{strip}
+use Rattle.capn_text.specs.inner.Tokens.{strip}
 use Rattle.capn_text.specs.Showable.{IsShowable}
 use Rattle.capn_text.specs.Streams.{end_line, stream_text, ended_lines}
-use Rattle.capn_text.specs.Values.{tree_at, head_at, named_at, name_at}
+use Rattle.capn_text.specs.inner.Values.{tree_at, head_at, named_at, name_at}
 use Rattle.capn_value.specs.Sizes.{height}
 use Rattle.capn_text.specs.declared.fault.TextFault.TheVariants as faults
 use Rattle.capn_text.proofs.Steps.{some_is}

@@ -12,9 +12,9 @@ use Rattle.capn_value.specs.InRange.{AllBelow}
 use Rattle.capn_text.specs.Showable.{IsShowable, EachShowable, RowsShowable}
 use Rattle.capn_value.specs.Text.{line, body_line, word_lines, number_lines, digits_of, one_line, named, shown}
 use Rattle.capn_value.specs.Text.{show_text}
-use Rattle.capn_text.specs.Tokens.{◌>>=◌, byte_at, bit_at, many, word_line_at, number_line_at, row_line_at}
-use Rattle.capn_text.specs.Values.{head_at, leaf_at, body_at, row_of, row_at, content_at, low_at, tree_at}
-use Rattle.capn_text.specs.Values.{greatest_number, Holds}
+use Rattle.capn_text.specs.inner.Tokens.{◌>>=◌, byte_at, bit_at, many, word_line_at, number_line_at, row_line_at}
+use Rattle.capn_text.specs.inner.Values.{head_at, leaf_at, body_at, row_of, row_at, content_at, low_at, tree_at}
+use Rattle.capn_text.specs.inner.Values.{greatest_number, Holds}
 use Rattle.capn_text.specs.declared.heads.Leaf.{Leaf}
 use Rattle.capn_text.specs.declared.heads.Leaf.TheVariants as leaves
 use Rattle.capn_text.specs.declared.heads.Name.{Name}

@@ -16,8 +16,9 @@ use Rattle.std.proofs.lemmas.Fmt.{decimal_digit, decimal_step, decimal_by_steps}
 use Rattle.std.proofs.lemmas.Nat.{be_bytes_8, from_be_bytes-to_be_bytes_8}
 use Rattle.hex.specs.Hex.{encode_lower, encode_with, lower_digits}
 use Rattle.capn_value.specs.Text.{hex16}
-use Rattle.capn_text.specs.Tokens.{◌>>=◌, strip, indent_at, is_digit, digits_at, decimal_at, nibble, byte_at, many}
-use Rattle.capn_text.specs.Tokens.{word_at}
+use Rattle.capn_text.specs.inner.Tokens.{◌>>=◌, strip, indent_at, is_digit, digits_at, decimal_at, nibble, byte_at}
+use Rattle.capn_text.specs.inner.Tokens.{many}
+use Rattle.capn_text.specs.inner.Tokens.{word_at}
 use Rattle.capn_text.proofs.Steps.{bind_some, guard_some, guard_read, chosen, some_is, many_again, many_takes}
 
 -- ---- fixed text

@@ -7,9 +7,9 @@ use Rattle.capn_value.specs.Tree.{no_trees}
 use Rattle.capn_value.specs.View.{trees, rows_from}
 use Rattle.capn_value.specs.Text.{line, shown}
 use Rattle.capn_text.specs.Streams.{first_lines, ended_lines}
-use Rattle.capn_text.specs.Stops.{AreLines, GoesOn, Stops, Deepens, FailsAt, LineFails}
-use Rattle.capn_text.specs.Tokens.{◌>>=◌, byte_at, bit_at, many, word_line_at, number_line_at, row_line_at}
-use Rattle.capn_text.specs.Values.{Holds, head_at, leaf_at, body_at, row_of, row_at, content_at, low_at, tree_at}
+use Rattle.capn_text.specs.inner.Stops.{AreLines, GoesOn, Stops, Deepens, FailsAt, LineFails}
+use Rattle.capn_text.specs.inner.Tokens.{◌>>=◌, byte_at, bit_at, many, word_line_at, number_line_at, row_line_at}
+use Rattle.capn_text.specs.inner.Values.{Holds, head_at, leaf_at, body_at, row_of, row_at, content_at, low_at, tree_at}
 use Rattle.capn_text.specs.declared.fault.Stop.{Stop}
 use Rattle.capn_text.specs.declared.fault.Stop.TheVariants as stops
 use Rattle.capn_text.specs.declared.heads.Leaf.{Leaf}

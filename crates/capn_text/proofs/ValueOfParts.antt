@@ -8,8 +8,8 @@ use Rattle.std.proofs.lemmas.Grind.{common_steps}
 use Rattle.capn_value.specs.Views.{views, tree_of-Node, tree_of-Links, tree_of-Rows}
 use Rattle.capn_value.specs.declared.value.Value.{Value, Node, Links, Rows}
 use Rattle.capn_value.specs.declared.value.Body.{Body}
-use Rattle.capn_text.specs.Tokens.{◌>>=◌, many}
-use Rattle.capn_text.specs.Values.{head_at, body_at, row_at, content_at, low_at, tree_at}
+use Rattle.capn_text.specs.inner.Tokens.{◌>>=◌, many}
+use Rattle.capn_text.specs.inner.Values.{head_at, body_at, row_at, content_at, low_at, tree_at}
 use Rattle.capn_text.specs.declared.heads.Name.TheVariants as names
 use Rattle.capn_text.specs.declared.heads.Head.{Head}
 use Rattle.capn_text.specs.declared.heads.Head.TheVariants as heads

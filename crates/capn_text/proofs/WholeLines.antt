@@ -4,7 +4,7 @@ use Rattle.std.proofs.Common.{refl, sym, ap, ◌∙◌, append_assoc, arith, ◌
 use Rattle.std.proofs.lemmas.List.{append-nil}
 use Rattle.capn_value.specs.Text.{line}
 use Rattle.capn_text.specs.Streams.{first_lines, ended_lines}
-use Rattle.capn_text.specs.Stops.{AreLines}
+use Rattle.capn_text.specs.inner.Stops.{AreLines}
 use Rattle.capn_text.proofs.LineCounts.{lines_append}
 
 -- ---- whole lines

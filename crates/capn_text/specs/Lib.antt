@@ -1,6 +1,4 @@
-pub mod Tokens
-pub mod Values
+pub mod inner
 pub mod Showable
 pub mod Streams
-pub mod Stops
 pub mod Laws

@@ -2,12 +2,12 @@
 
 ghost use Rattle.std.specs.Prelude.{◌≡◌, ◌+◌, ◌*◌, ◌<◌, ◌^◌, map, IfErr};
 ghost use Rattle.capn_value.specs.View.{tree_of, body_of};
-ghost use Rattle.capn_text.specs.Tokens as tokens;
-ghost use Rattle.capn_text.specs.Tokens.{Gives};
-ghost use Rattle.capn_text.specs.Stops.{GivesAt};
+ghost use Rattle.capn_text.specs.inner.Tokens as tokens;
+ghost use Rattle.capn_text.specs.inner.Tokens.{Gives};
+ghost use Rattle.capn_text.specs.inner.Stops.{GivesAt};
 ghost use Rattle.capn_text.specs.declared.fault.Stop.TheVariants as stops;
-ghost use Rattle.capn_text.specs.Values as values;
-ghost use Rattle.capn_text.specs.Values.{Holds};
+ghost use Rattle.capn_text.specs.inner.Values as values;
+ghost use Rattle.capn_text.specs.inner.Values.{Holds};
 
 use crate::fault::Stop;
 use crate::heads::{Head, Name, head_at};
@@ -85,7 +85,7 @@ fn content_at<'t, A: Allocator + Copy>(
 
 // The words and slots of a struct, whose first line was at this level.
 #[cycle(value_at)]
-#[tactic(auto, unfolding(crate::specs::Values::body_at))]
+#[tactic(auto, unfolding(crate::specs::inner::Values::body_at))]
 fn body_at<'t, A: Allocator + Copy>(
     alloc: A,
     room: u32,
@@ -132,7 +132,7 @@ fn values_at<'t, A: Allocator + Copy>(
 
 // One row.
 #[cycle(value_at)]
-#[tactic(auto, unfolding(crate::specs::Values::row_at))]
+#[tactic(auto, unfolding(crate::specs::inner::Values::row_at))]
 fn row_at<'t, A: Allocator + Copy>(
     alloc: A,
     room: u32,

@@ -1,9 +1,9 @@
 //! The first line of a value.
 
 ghost use Rattle.std.specs.Prelude.{◌≡◌, IfOk, IfErr, length};
-ghost use Rattle.capn_text.specs.Tokens.{GivesIdly};
-ghost use Rattle.capn_text.specs.Values as values;
-ghost use Rattle.capn_text.specs.Values.{Holds};
+ghost use Rattle.capn_text.specs.inner.Tokens.{GivesIdly};
+ghost use Rattle.capn_text.specs.inner.Values as values;
+ghost use Rattle.capn_text.specs.inner.Values.{Holds};
 ghost use Rattle.capn_text.specs.declared.fault.Stop.TheVariants as stops;
 
 use crate::fault::Stop;
@@ -51,7 +51,7 @@ pub fn head_at(level: u32, text: &[u8]) -> Result<(Head, &[u8]), Stop>
     }
 }
 
-#[tactic(auto, unfolding(crate::specs::Values::head_at))]
+#[tactic(auto, unfolding(crate::specs::inner::Values::head_at))]
 fn head_in_line(level: u32, text: &[u8]) -> Result<(Head, &[u8]), Stop>
     ensures value { GivesIdly (λ x. (x.0, x.1.now)) result (values.head_at level text.now) }
     ensures holds { IfOk result (λ x. Holds x.0) }
@@ -66,7 +66,7 @@ fn head_in_line(level: u32, text: &[u8]) -> Result<(Head, &[u8]), Stop>
     }
 }
 
-#[tactic(auto, unfolding(crate::specs::Values::sizes_at))]
+#[tactic(auto, unfolding(crate::specs::inner::Values::sizes_at))]
 fn sizes_at(text: &[u8]) -> Result<(Head, &[u8]), Stop>
     ensures value { GivesIdly (λ x. (x.0, x.1.now)) result (values.sizes_at text.now) }
     ensures holds { IfOk result (λ x. Holds x.0) }
@@ -78,7 +78,7 @@ fn sizes_at(text: &[u8]) -> Result<(Head, &[u8]), Stop>
     Ok((Head::Struct(words, slots), rest))
 }
 
-#[tactic(auto, unfolding(crate::specs::Values::named_at))]
+#[tactic(auto, unfolding(crate::specs::inner::Values::named_at))]
 fn named_at(line: &[u8]) -> Result<(Head, &[u8]), Stop>
     ensures value { GivesIdly (λ x. (x.0, x.1.now)) result (values.named_at line.now) }
     ensures holds { IfOk result (λ x. Holds x.0) }
@@ -101,7 +101,7 @@ fn greatest_number(name: Name) -> u64
     }
 }
 
-#[tactic(auto, unfolding(crate::specs::Values::name_at))]
+#[tactic(auto, unfolding(crate::specs::inner::Values::name_at))]
 fn name_at(line: &[u8]) -> Result<(Name, &[u8]), Stop>
     ensures { GivesIdly (λ x. (x.0, x.1.now)) result (values.name_at line.now) }
 {

@@ -2,10 +2,10 @@
 
 ghost use Rattle.std.specs.Prelude.{◌≡◌, ◌+◌, ◌≤◌, ◌<◌, ◌^◌};
 ghost use Rattle.capn_value.specs.View.{tree_of};
-ghost use Rattle.capn_text.specs.Tokens as tokens;
-ghost use Rattle.capn_text.specs.Tokens.{Gives};
-ghost use Rattle.capn_text.specs.Stops.{GivesAt, GivesLine};
-ghost use Rattle.capn_text.specs.Values as values;
+ghost use Rattle.capn_text.specs.inner.Tokens as tokens;
+ghost use Rattle.capn_text.specs.inner.Tokens.{Gives};
+ghost use Rattle.capn_text.specs.inner.Stops.{GivesAt, GivesLine};
+ghost use Rattle.capn_text.specs.inner.Values as values;
 ghost use Rattle.capn_text.specs.declared.heads.Name.TheVariants as names;
 
 use crate::fault::Stop;
@@ -15,7 +15,7 @@ use capn_value::{Items, Value};
 use std::alloc::Allocator;
 
 /// A list whose elements hold no other value, by their kind and number; its first line was at this level.
-#[tactic(auto, using(crate::proofs::ValueOfParts::steps_and_views), unfolding(crate::specs::Values::leaf_at))]
+#[tactic(auto, using(crate::proofs::ValueOfParts::steps_and_views), unfolding(crate::specs::inner::Values::leaf_at))]
 pub fn leaf_at<'t, A: Allocator>(
     alloc: A,
     level: u32,
@@ -68,7 +68,7 @@ fn bits_at<A: Allocator>(
     }
 }
 
-#[tactic(auto, unfolding(crate::specs::Tokens::row_line_at))]
+#[tactic(auto, unfolding(crate::specs::inner::Tokens::row_line_at))]
 fn bits_in_line<A: Allocator>(
     alloc: A,
     level: u32,
@@ -119,7 +119,7 @@ fn bytes_at<A: Allocator>(
     }
 }
 
-#[tactic(auto, unfolding(crate::specs::Tokens::row_line_at))]
+#[tactic(auto, unfolding(crate::specs::inner::Tokens::row_line_at))]
 fn bytes_in_line<A: Allocator>(
     alloc: A,
     level: u32,

@@ -1,9 +1,9 @@
 //! What stands within a line, read from left to right: what was read, and the bytes after it.
 
 ghost use Rattle.std.specs.Prelude.{◌≡◌, ◌≤◌, ◌<◌, MatchOption, IfOk, IfSome, Some, None};
-ghost use Rattle.capn_text.specs.Tokens as tokens;
-ghost use Rattle.capn_text.specs.Tokens.{Gives, GivesIdly};
-ghost use Rattle.capn_text.specs.Stops.{GivesLine};
+ghost use Rattle.capn_text.specs.inner.Tokens as tokens;
+ghost use Rattle.capn_text.specs.inner.Tokens.{Gives, GivesIdly};
+ghost use Rattle.capn_text.specs.inner.Stops.{GivesLine};
 
 use crate::fault::Stop;
 
@@ -159,7 +159,7 @@ pub fn word_line_at(level: u32, text: &[u8]) -> Result<(u64, &[u8]), Stop>
     }
 }
 
-#[tactic(auto, unfolding(crate::specs::Tokens::word_line_at))]
+#[tactic(auto, unfolding(crate::specs::inner::Tokens::word_line_at))]
 fn word_in_line(level: u32, text: &[u8]) -> Result<(u64, &[u8]), Stop>
     ensures { Gives (λ x. (x.0, x.1.now)) result (tokens.word_line_at level text.now) }
 {
@@ -181,7 +181,7 @@ pub fn number_line_at(greatest: u64, level: u32, text: &[u8]) -> Result<(u64, &[
     }
 }
 
-#[tactic(auto, unfolding(crate::specs::Tokens::number_line_at))]
+#[tactic(auto, unfolding(crate::specs::inner::Tokens::number_line_at))]
 fn number_in_line(greatest: u64, level: u32, text: &[u8]) -> Result<(u64, &[u8]), Stop>
     ensures value { GivesIdly (λ x. (x.0, x.1.now)) result (tokens.number_line_at greatest level text.now) }
     ensures within { IfOk result (λ x. x.0 ≤ greatest) }

@@ -7,12 +7,12 @@ use Rattle.std.proofs.KnownBytes.{Appends-nil}
 use Rattle.capn_words.specs.Watching.{HasBegun}
 use Rattle.capn_walk.specs.Limits.{Bounds}
 use Rattle.capn_tool.specs.Pieces.{IsNoPiece, PutsPiece}
-use Rattle.capn_tool.specs.Served.{AddsPiece}
+use Rattle.capn_tool.specs.inner.ServedMessages.{AddsPiece}
 use Rattle.capn_tool.specs.Sending.{outgoing}
 use Rattle.capn_tool.specs.declared.plan.Piece.{Piece}
 use Rattle.capn_tool.specs.declared.fault.ToolFault.{ToolFault}
 use Rattle.capn_tool.specs.declared.fault.ToolFault.TheVariants as faults
-use Rattle.capn_tool.specs.Laws.Written.{sound}
+use Rattle.capn_tool.proofs.shared.Written.{sound}
 
 abbrev Ending : Type 0
 Ending = Result (Unit {0}) ToolFault

@@ -12,7 +12,7 @@ use Rattle.capn_tool.specs.declared.plan.Plan.{Plan}
 use Rattle.capn_tool.specs.declared.plan.Plan.TheVariants as plans
 use Rattle.capn_tool.specs.declared.fault.ToolFault.{ToolFault}
 use Rattle.capn_tool.specs.declared.fault.ToolFault.TheVariants as faults
-use Rattle.capn_tool.specs.Laws.Written.{kept}
+use Rattle.capn_tool.proofs.shared.Written.{kept}
 
 abbrev Ending : Type 0
 Ending = Result (Unit {0}) ToolFault

@@ -6,8 +6,8 @@ use Rattle.std.proofs.lemmas.Bool.Decides.{nat_tests}
 use Rattle.std.proofs.lemmas.List.{take-take, take_all}
 use Rattle.capn_stream.specs.Frames.{most_table_words, padding, Frames}
 use Rattle.capn_stream.specs.Reading as frames
-use Rattle.capn_stream.specs.Laws.FrameLaws.{announces, stands_alone}
-use Rattle.capn_stream.specs.Laws.Longer.{IsStop-append}
+use Rattle.capn_stream.proofs.shared.FrameLaws.{announces, stands_alone}
+use Rattle.capn_stream.proofs.shared.Longer.{IsStop-append}
 use Rattle.capn_stream.specs.declared.fault.FrameFault.{FrameFault}
 use Rattle.capn_stream.specs.declared.fault.FrameFault.TheVariants as frame_faults
 use Rattle.capn_pack.specs.Packs.{Packs}

@@ -7,14 +7,14 @@ use Rattle.std.specs.List.{AllByRecursion}
 use Rattle.capn_words.specs.Message.{total}
 use Rattle.capn_walk.specs.Limits.{Bounds}
 use Rattle.capn_stream.specs.Frames.{Frames, StandsFirst}
-use Rattle.capn_stream.specs.Stages.{IsStop}
+use Rattle.capn_stream.specs.inner.Stages.{IsStop}
 use Rattle.capn_stream.specs.declared.fault.FrameFault.{FrameFault}
 use Rattle.capn_stream.specs.declared.fault.FrameFault.TheVariants as frame_faults
-use Rattle.capn_stream.specs.Laws.Longer.{IsStop-append}
+use Rattle.capn_stream.proofs.shared.Longer.{IsStop-append}
 use Rattle.capn_canon.specs.declared.refusal.Refusal.TheVariants as refusals
 use Rattle.capn_tool.specs.Pieces.{IsPiece, IsNoPiece}
 use Rattle.capn_tool.specs.Streams.{Part, IsPart, AreParts, frame_of, text_of, frames_of, texts_of, IsDueEach}
-use Rattle.capn_tool.specs.Served.{AddsPiece}
+use Rattle.capn_tool.specs.inner.ServedMessages.{AddsPiece}
 use Rattle.capn_tool.specs.Sending.{Outgoing, Adds, Breaks}
 use Rattle.capn_tool.specs.Heard.{Tells, TellsFront, IsDueSo, Stops}
 use Rattle.capn_tool.specs.declared.plan.Piece.{Piece}

@@ -13,8 +13,8 @@ use Rattle.capn_stream.specs.Frames.{Frames, StandsFirst}
 use Rattle.capn_stream.specs.Framing.{FeedGives, Feeds, Framing, IsFrame, IsUnfinished, TakeGives}
 use Rattle.capn_stream.specs.declared.fault.FrameFault.{FrameFault}
 use Rattle.capn_stream.specs.declared.fault.FrameFault.TheVariants as frame_faults
-use Rattle.capn_stream.specs.Laws.Wanting.{unfinished_frame}
-use Rattle.capn_tool.specs.Served.{AddsPiece}
+use Rattle.capn_stream.proofs.shared.Wanting.{unfinished_frame}
+use Rattle.capn_tool.specs.inner.ServedMessages.{AddsPiece}
 use Rattle.capn_tool.specs.Sending.{Outgoing, Adds, SendsRest, outgoing, sent}
 use Rattle.capn_tool.specs.Streams.{texts_of}
 use Rattle.capn_tool.specs.Pieces.{IsPiece}

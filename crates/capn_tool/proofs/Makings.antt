@@ -8,7 +8,7 @@ use Rattle.capn_stream.specs.Frames.{most_table_words}
 use Rattle.capn_walk.specs.Limits.{Bounds}
 use Rattle.capn_canon.specs.declared.form.Form.TheVariants as forms
 use Rattle.capn_canon.specs.declared.refusal.Refusal.TheVariants as refusals
-use Rattle.capn_tool.specs.Reading.{HasGivenAll, IsBeginning, IsShortBare, IsUntaken, TakesAll}
+use Rattle.capn_tool.specs.inner.ReadInput.{HasGivenAll, IsBeginning, IsShortBare, IsUntaken, TakesAll}
 use Rattle.capn_tool.specs.Wholes.{Gives, MakesNothing}
 use Rattle.capn_tool.specs.declared.input.Input.{Input}
 use Rattle.capn_tool.specs.declared.plan.Piece.{Piece}

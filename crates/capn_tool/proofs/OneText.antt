@@ -6,17 +6,17 @@ use Rattle.std.proofs.Math.Seq.{take-length, take-append-le}
 use Rattle.std.specs.List.{AllByRecursion}
 use Rattle.std.specs.Io.KnownBytes.{Appends}
 use Rattle.capn_words.specs.declared.bare.BareFault.{BareFault}
-use Rattle.capn_words.specs.Laws.OneSegment.{bare_not_refused, one_bare, one_bare_fault}
-use Rattle.capn_pack.specs.Laws.FirstParts.{append_same}
-use Rattle.capn_pack.specs.Laws.GroupLaws.{one_reading, refused_only}
-use Rattle.capn_pack.specs.Laws.RefusalLaws.{one_unpack_fault}
-use Rattle.capn_pack.specs.Laws.ChosenLaws.{chosen_whole}
-use Rattle.capn_pack.specs.Laws.ChosenLaws as chosen
+use Rattle.capn_words.proofs.shared.OneSegment.{bare_not_refused, one_bare, one_bare_fault}
+use Rattle.capn_pack.proofs.shared.FirstParts.{append_same}
+use Rattle.capn_pack.proofs.shared.GroupLaws.{one_reading, refused_only}
+use Rattle.capn_pack.proofs.shared.RefusalLaws.{one_unpack_fault}
+use Rattle.capn_pack.proofs.shared.ChosenLaws.{chosen_whole}
+use Rattle.capn_pack.proofs.shared.ChosenLaws as chosen
 use Rattle.capn_pack.specs.declared.fault.UnpackFault.{UnpackFault}
 use Rattle.capn_stream.specs.Frames.{Frames, StandsFirst}
 use Rattle.capn_stream.specs.declared.fault.FrameFault.{FrameFault}
-use Rattle.capn_stream.specs.Laws.FrameLaws.{one_frame, whole_of, refused_whole}
-use Rattle.capn_stream.specs.Laws.FrameLaws as frame_laws
+use Rattle.capn_stream.proofs.shared.FrameLaws.{one_frame, whole_of, refused_whole}
+use Rattle.capn_stream.proofs.shared.FrameLaws as frame_laws
 use Rattle.capn_value.specs.Text.{show_text}
 use Rattle.capn_value.specs.Tree.{Tree}
 use Rattle.capn_value.specs.Caps.{first_cap}
@@ -24,20 +24,20 @@ use Rattle.capn_walk.specs.Stops.{root}
 use Rattle.capn_walk.specs.declared.walked.Stopped.{Stopped}
 use Rattle.capn_walk.specs.Limits.{Bounds}
 use Rattle.capn_walk.specs.Accepted.{IsValueOf}
-use Rattle.capn_walk.specs.Laws.Unique.{unique}
+use Rattle.capn_walk.proofs.shared.Unique.{unique}
 use Rattle.capn_canon.specs.Layout.{canon}
 use Rattle.capn_canon.specs.Denotes.{Answers}
 use Rattle.capn_canon.specs.Denotes.{Denotes}
 use Rattle.capn_canon.specs.declared.form.Form.{Form}
 use Rattle.capn_canon.specs.declared.refusal.Refusal.{Refusal}
 use Rattle.capn_canon.specs.declared.refusal.Refusal.TheVariants as refusals
-use Rattle.capn_canon.specs.Laws.OneReading.{answers_only}
-use Rattle.capn_canon.specs.Laws.NotRefused.{accepted-not_refused, not_refused}
+use Rattle.capn_canon.proofs.shared.OneReading.{answers_only}
+use Rattle.capn_canon.proofs.shared.NotRefused.{accepted-not_refused, not_refused}
 use Rattle.capn_tool.specs.Pieces.{AreCanonical, IsPiece, IsBarePiece, IsNoPiece, IsStopped, digest_line}
 use Rattle.capn_tool.specs.Wholes.{Makes, MakesNothing}
 use Rattle.capn_tool.specs.Streams.{Part, IsPart, frames_of, texts_of, end_of, EndsUnframed, EndsRefused, IsDueEach}
 use Rattle.capn_tool.specs.Streams.{behind_packed, behind_stream}
-use Rattle.capn_pack.specs.Laws.SplitLaws.{one_split}
+use Rattle.capn_pack.proofs.shared.SplitLaws.{one_split}
 use Rattle.capn_tool.specs.Planned.{plan_of}
 use Rattle.capn_tool.specs.Text.{taken_of, has_more, IsDueWhole, IsDue, IsText, EndsAs, EndsBy}
 use Rattle.capn_tool.specs.declared.orders.Command.{Command}
@@ -49,7 +49,7 @@ use Rattle.capn_tool.specs.declared.plan.Plan.{Plan}
 use Rattle.capn_tool.specs.declared.plan.Plan.TheVariants as plans
 use Rattle.capn_tool.specs.declared.fault.ToolFault.{ToolFault}
 use Rattle.capn_tool.specs.declared.fault.ToolFault.TheVariants as faults
-use Rattle.capn_canon.specs.Laws.OneRefusal.{message_part, one_message_refusal, one_refusal, one_stop}
+use Rattle.capn_canon.proofs.shared.OneRefusal.{message_part, one_message_refusal, one_refusal, one_stop}
 
 -- ---- a message has one piece, or none for one reason
 

@@ -8,11 +8,11 @@ use Rattle.capn_walk.specs.Limits.{Bounds}
 use Rattle.capn_pack.specs.Group.{IsGroup, text, content}
 use Rattle.capn_pack.specs.Packs.{texts, contents}
 use Rattle.capn_pack.specs.Stream.{Begins, Feeds, Held, Splits, advanced}
-use Rattle.capn_pack.specs.Laws.StreamLemmas.{splits_open, splits_then}
+use Rattle.capn_pack.proofs.shared.StreamLemmas.{splits_open, splits_then}
 use Rattle.capn_stream.specs.Framing.{Framing}
 use Rattle.capn_tool.specs.Sending.{Outgoing, SendsRest, outgoing, sent}
 use Rattle.capn_tool.specs.Heard.{Stops, Tells}
-use Rattle.capn_tool.specs.HeardPacked.{IsUnpacking, ServesPacked, StopsPacked, TellsPacked}
+use Rattle.capn_tool.specs.inner.PackedRun.{IsUnpacking, ServesPacked, StopsPacked, TellsPacked}
 use Rattle.capn_tool.specs.declared.plan.Piece.{Piece}
 use Rattle.capn_tool.specs.declared.fault.ToolFault.{ToolFault}
 use Rattle.capn_tool.specs.declared.fault.ToolFault.TheVariants as faults

@@ -8,7 +8,7 @@ use Rattle.capn_tool.specs.Misuse.{IsHelp}
 use Rattle.capn_tool.specs.Sending.{EndsFlushed}
 use Rattle.capn_tool.specs.declared.fault.ToolFault.{ToolFault}
 use Rattle.capn_tool.specs.declared.fault.ToolFault.TheVariants as faults
-use Rattle.capn_tool.specs.Laws.Written.{begun_all, kept, sound}
+use Rattle.capn_tool.proofs.shared.Written.{begun_all, kept, sound}
 
 abbrev Ending : Type 0
 Ending = Result (Unit {0}) ToolFault

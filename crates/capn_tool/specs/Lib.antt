@@ -1,3 +1,4 @@
+pub mod inner
 pub mod Limits
 pub mod Planned
 pub mod Pieces
@@ -5,11 +6,7 @@ pub mod Wholes
 pub mod Streams
 pub mod Text
 pub mod Sending
-pub mod Served
 pub mod Heard
-pub mod HeardPacked
-pub mod Reading
-pub mod Pending
 pub mod Status
 pub mod Misuse
 pub mod Line

@@ -3,7 +3,7 @@
 ghost use Rattle.std.specs.Prelude.{◌≡◌, false};
 ghost use Rattle.capn_words.specs.Watching.{inner_of, has_failed};
 ghost use Rattle.capn_tool.specs.Sending.{outgoing};
-ghost use Rattle.capn_tool.specs.Served.{AddsPiece};
+ghost use Rattle.capn_tool.specs.inner.ServedMessages.{AddsPiece};
 
 use crate::fault::ToolFault;
 use crate::output::write_all;

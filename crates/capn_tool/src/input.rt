@@ -2,7 +2,7 @@
 
 ghost use Rattle.std.specs.Prelude.{◌≡◌, false};
 ghost use Rattle.capn_words.specs.Watching.{inner_of, has_failed};
-ghost use Rattle.capn_tool.specs.Reading.{IsBeginning, TakesAll};
+ghost use Rattle.capn_tool.specs.inner.ReadInput.{IsBeginning, TakesAll};
 
 use crate::fault::ToolFault;
 use capn_words::Watched;

@@ -4,7 +4,7 @@ ghost use Rattle.std.specs.Prelude.{◌≡◌, ℕ, ◌*◌, ◌<◌, List, leng
 ghost use Rattle.capn_words.specs.Limits.{most_words};
 ghost use Rattle.capn_words.specs.Words.{ReadsBare};
 ghost use Rattle.capn_words.specs.Watching.{inner_of, has_failed};
-ghost use Rattle.capn_tool.specs.Reading.{IsShortBare, TakesAll};
+ghost use Rattle.capn_tool.specs.inner.ReadInput.{IsShortBare, TakesAll};
 ghost use Rattle.capn_tool.specs.Wholes.{Gives};
 ghost use Rattle.capn_canon.specs.declared.form.Form.TheVariants as forms;
 ghost use Rattle.capn_tool.specs.declared.plan.Whole.TheVariants as wholes;

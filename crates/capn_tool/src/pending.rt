@@ -3,8 +3,8 @@
 ghost use Rattle.std.specs.Prelude.{◌≡◌, ℕ, ◌+◌, ◌-◌, ◌<◌, ◌≤◌, ◌^◌, ◌++◌, List, length, take, drop, false, OnOk};
 ghost use Rattle.capn_words.specs.Watching.{inner_of, has_failed};
 ghost use Rattle.capn_pack.specs.Some.{most_group};
-ghost use Rattle.capn_tool.specs.Pending.{IsPending};
-ghost use Rattle.capn_tool.specs.Reading.{TakesAll};
+ghost use Rattle.capn_tool.specs.inner.Pending.{IsPending};
+ghost use Rattle.capn_tool.specs.inner.ReadInput.{TakesAll};
 ghost use Rattle.capn_tool.specs.Wholes.{Gives};
 ghost use Rattle.capn_tool.specs.declared.plan.Whole.TheVariants as wholes;
 

@@ -4,7 +4,7 @@ ghost use Rattle.std.specs.Prelude.{◌≡◌, ◌≤◌, length, false};
 ghost use Rattle.capn_words.specs.Watching.{inner_of, has_failed};
 ghost use Rattle.capn_stream.specs.Framing.{IsUnfinished};
 ghost use Rattle.capn_tool.specs.Heard.{IsListening, Runs};
-ghost use Rattle.capn_tool.specs.HeardPacked.{EndsPacked, IsUnpacking, ServesPacked};
+ghost use Rattle.capn_tool.specs.inner.PackedRun.{EndsPacked, IsUnpacking, ServesPacked};
 ghost use Rattle.capn_tool.specs.Sending.{outgoing, sent};
 ghost use Rattle.capn_tool.specs.declared.plan.Plan.TheVariants as plans;
 

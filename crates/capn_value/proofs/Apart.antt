@@ -7,7 +7,7 @@ use Rattle.std.proofs.lemmas.Bool.{and_right, cases_lt}
 use Rattle.capn_value.specs.Tree.{Tree, nil, node, voids, bits, bytes, pairs, quads, octs, links, rows, cap, Trees}
 use Rattle.capn_value.specs.Tree.{no_trees, tree, Bodies, no_bodies, body, count, count_rows}
 use Rattle.capn_value.specs.Tree.{is_null}
-use Rattle.capn_value.specs.SameTest.{test, test_slots, test_each, test_rows, are_null}
+use Rattle.capn_value.specs.inner.SameTest.{test, test_slots, test_each, test_rows, are_null}
 use Rattle.capn_value.specs.View.{tree_of, trees_of, rows_of}
 use Rattle.capn_value.specs.Views.{views, count-trees_of}
 use Rattle.capn_value.specs.Views.{tree_of-Nil, tree_of-Node, tree_of-Voids, tree_of-Bits, tree_of-Bytes, tree_of-Pairs}

@@ -12,7 +12,8 @@ use Rattle.capn_value.specs.declared.value.Value.{Cap}
 use Rattle.capn_value.specs.declared.value.Body.{Body}
 use Rattle.capn_value.specs.Code.{value_of}
 use Rattle.capn_value.specs.Trim.{trimmed}
-use Rattle.capn_value.specs.Anew.{anew, each_anew, kept_of_body, kept_of_rows, words_anew, slots_anew, rows_anew}
+use Rattle.capn_value.specs.inner.CutCopy.{anew, each_anew, kept_of_body, kept_of_rows, words_anew, slots_anew}
+use Rattle.capn_value.specs.inner.CutCopy.{rows_anew}
 use Rattle.capn_value.proofs.Cases.{IsNot, still_not, node_seen, links_seen, rows_seen}
 use Rattle.capn_value.proofs.Fronts.{anew_front-length}
 

@@ -10,11 +10,11 @@ use Rattle.capn_value.specs.Tree.{tree_at}
 use Rattle.capn_value.specs.View.{tree_of, trees_of, rows_of}
 use Rattle.capn_value.specs.Views.{count-trees_of}
 use Rattle.capn_value.specs.Trim.{trimmed, trimmed_each}
-use Rattle.capn_value.specs.Anew.{anew, each_anew, words_anew, slots_anew, rows_anew}
+use Rattle.capn_value.specs.inner.CutCopy.{anew, each_anew, words_anew, slots_anew, rows_anew}
 use Rattle.capn_value.specs.declared.value.Value.{Value}
 use Rattle.capn_value.specs.declared.value.Body.{Body}
 use Rattle.capn_value.proofs.Anywhere.{drop-next, drop-past}
-use Rattle.capn_value.specs.Laws.Trimmed.{count-trimmed_each}
+use Rattle.capn_value.proofs.shared.Trimmed.{count-trimmed_each}
 
 -- one more
 pub front-suc : (i : ℕ) (ts : Trees) → i < count ts

@@ -1,3 +1,4 @@
+pub mod shared
 pub mod Anywhere
 pub mod Apart
 pub mod Cases

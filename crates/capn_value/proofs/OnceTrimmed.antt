@@ -5,7 +5,7 @@ use Rattle.capn_value.specs.Tree.{no_trees, tree, Bodies, no_bodies, body, front
 use Rattle.capn_value.specs.Same.{AllNull, Same, SameSlots, SameEach, SameRows}
 use Rattle.capn_value.specs.Trim.{kept_words, kept_slots, kept_words_of_rows, kept_slots_of_rows, trimmed, trimmed_each}
 use Rattle.capn_value.specs.Trim.{trimmed_rows}
-use Rattle.capn_value.specs.Laws.Cuts.{behind_le, cut_words, none_kept_slots}
+use Rattle.capn_value.proofs.shared.Cuts.{behind_le, cut_words, none_kept_slots}
 
 all_null_from : (ts : Trees) → ((i : ℕ) → tree_at ts i ≡ nil) → AllNull ts
 all_null_from no_trees h = tt

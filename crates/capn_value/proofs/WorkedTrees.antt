@@ -5,7 +5,7 @@ use Rattle.hex.specs.Hex.{encode_with}
 use Rattle.capn_value.specs.Tree.{nil, node, voids, bits, bytes, links, rows, cap, no_trees, tree, no_bodies}
 use Rattle.capn_value.specs.Tree.{body}
 use Rattle.capn_value.specs.Trim.{trimmed}
-use Rattle.capn_value.specs.Anew.{anew, rows_anew}
+use Rattle.capn_value.specs.inner.CutCopy.{anew, rows_anew}
 use Rattle.capn_value.specs.Sizes.{cost, height, rows_price}
 use Rattle.capn_value.specs.Text.{show_text, line}
 use Rattle.capn_value.specs.Fits.{misfit}

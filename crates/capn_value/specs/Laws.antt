@@ -1,12 +1,4 @@
 -- What holds of the definitions, whatever the code does. (Own.)
-pub mod Cuts
-pub mod Fitting
-pub mod Prices
-pub mod Ranges
-pub mod SameTrimmed
-pub mod StaysFit
-pub mod Tariffs
-pub mod Trimmed
 use Rattle.std.specs.Prelude.{◌≡◌, ◌≤◌, ◌↔◌, Some}
 use Rattle.capn_value.specs.Tree.{Tree}
 use Rattle.capn_value.specs.Same.{Same}

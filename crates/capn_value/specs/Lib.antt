@@ -1,3 +1,4 @@
+pub mod inner
 pub mod formers
 pub mod Tree
 pub mod View
@@ -6,9 +7,7 @@ pub mod Code
 pub mod Sizes
 pub mod Fits
 pub mod Same
-pub mod SameTest
 pub mod Trim
-pub mod Anew
 pub mod Laws
 pub mod Text
 pub mod Caps

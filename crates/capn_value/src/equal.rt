@@ -4,7 +4,7 @@ ghost use Rattle.std.specs.Prelude.{◌≡◌, ◌↔◌, ◌&&◌, IsTrue, slic
 ghost use Rattle.capn_value.specs.View.{tree_of, trees_of, rows_of};
 ghost use Rattle.capn_value.specs.Same.{Same};
 ghost use Rattle.capn_value.specs.Tree.{is_null};
-ghost use Rattle.capn_value.specs.SameTest.{test, test_words, test_slots, test_each, test_rows, are_null};
+ghost use Rattle.capn_value.specs.inner.SameTest.{test, test_words, test_slots, test_each, test_rows, are_null};
 
 use crate::value::{Body, Value};
 use std::alloc::Allocator;

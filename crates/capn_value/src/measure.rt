@@ -59,7 +59,7 @@ fn oct_words(xs: &[u64]) -> usize
 }
 
 // What the rows of a list cost beside its pointer and tag, if they have `words` words together.
-#[tactic(auto, using(std::proofs::lemmas::Grind::common_steps, crate::specs::Laws::Prices::prices))]
+#[tactic(auto, using(std::proofs::lemmas::Grind::common_steps, crate::proofs::shared::Prices::prices))]
 fn capped_rows_price<A: Allocator>(bodies: &[Body<A>], words: usize) -> usize
     requires { words ≡ min (row_words (rows_of bodies.now)) sizes.dear }
     ensures { result ≡ min (sizes.rows_price (rows_of bodies.now)) sizes.dear }

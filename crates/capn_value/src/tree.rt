@@ -94,7 +94,7 @@ impl<A: Allocator> Tree<A> {
 
 /// The greatest depth of an object, where the root's is 1 and null and capabilities have none: from 0 to 256.
 /// (Page: security considerations. That rows have the depth of their list is own.) Takes no memory.
-#[tactic(auto, using(crate::specs::Laws::Fitting::fit_parts))]
+#[tactic(auto, using(crate::proofs::shared::Fitting::fit_parts))]
 pub fn height<A: Allocator>(tree: &Tree<A>) -> u32
     ensures exact { result ≡ sizes.height tree.now }
     ensures within { result ≤ sizes.most_height }
@@ -104,7 +104,7 @@ pub fn height<A: Allocator>(tree: &Tree<A>) -> u32
 
 /// What following each pointer once costs, in words, by a tariff: from 0 to 2^28 by the plain one, to 2^29 + 1 by the
 /// strict one. (Own, after the page's security considerations.) Takes no memory.
-#[tactic(auto, using(crate::specs::Laws::Tariffs::affordable))]
+#[tactic(auto, using(crate::proofs::shared::Tariffs::affordable))]
 pub fn cost<A: Allocator>(tree: &Tree<A>, tariff: Tariff) -> u32
     ensures exact { result ≡ sizes.cost (sizes.base tariff) tree.now }
     ensures within { result ≤ 2 * sizes.most_cost + 1 }
@@ -117,7 +117,7 @@ pub fn cost<A: Allocator>(tree: &Tree<A>, tariff: Tariff) -> u32
 /// page: "Canonicalization"). The rows of a list are cut alike, and elements of a list are never cut.
 ///
 /// Answers `Memory` only where a growth was refused, and takes what the answer holds.
-#[tactic(auto, using(crate::specs::Laws::StaysFit::fits))]
+#[tactic(auto, using(crate::proofs::shared::StaysFit::fits))]
 pub fn trim<A: Allocator + Copy, B: Allocator>(alloc: A, tree: &Tree<B>) -> Result<Tree<A>, Memory>
     ensures value { IfOk result (λ r. r ≡ cut.trimmed tree.now) }
     ensures same { IfOk result (λ r. (w : trees.Tree) → Fits w → Same tree.now w ↔ (r ≡ cut.trimmed w)) }
@@ -147,7 +147,7 @@ pub fn copy<A: Allocator + Copy, B: Allocator>(alloc: A, tree: &Tree<B>) -> Resu
 /// by two spaces a level. (Own.)
 ///
 /// Answers `Memory` only where a growth was refused, and takes one string.
-#[tactic(auto, using(crate::specs::Laws::Fitting::fit_parts))]
+#[tactic(auto, using(crate::proofs::shared::Fitting::fit_parts))]
 pub fn show<A: Allocator, B: Allocator>(alloc: A, tree: &Tree<B>) -> Result<String<A>, Memory>
     ensures { IfOk result (λ t. string_bytes t ≡ text.show_text tree.now) }
 {

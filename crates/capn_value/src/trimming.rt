@@ -4,7 +4,7 @@ ghost use Rattle.std.specs.Prelude.{◌≡◌, ◌≢◌, IfOk, OnErr};
 ghost use Rattle.capn_value.specs.View.{tree_of, trees_of, rows_of};
 ghost use Rattle.capn_value.specs.Tree.{nil, front};
 ghost use Rattle.capn_value.specs.Trim as cut;
-ghost use Rattle.capn_value.specs.Anew as made;
+ghost use Rattle.capn_value.specs.inner.CutCopy as made;
 
 use crate::copying::{copy_of_plain, push_made};
 use crate::equal::is_null;

@@ -8,13 +8,13 @@ use Rattle.capn_walk.specs.declared.target.Target.{Target}
 use Rattle.capn_walk.specs.declared.target.Target.TheVariants as targets
 use Rattle.capn_walk.specs.Target.{target}
 use Rattle.capn_walk.specs.Visits.{Visit, visits}
-use Rattle.capn_walk.specs.Verdict.{Verdict, accepted, refused}
+use Rattle.capn_walk.specs.inner.Verdict.{Verdict, accepted, refused}
 use Rattle.capn_walk.specs.Stops.{AllPay, root, root_visits, visits_at_root}
 use Rattle.capn_walk.specs.Accepted.{visits_within}
 use Rattle.capn_walk.specs.Laws.{AcceptedAreReadable, ValuesFit, ValuesAreCheap, Apart, StopsAreOne}
 use Rattle.capn_walk.proofs.Exists.{exists-at}
-use Rattle.capn_walk.specs.Laws.Fitting.{fits-root, root-costs}
-use Rattle.capn_walk.specs.Laws.Stops.{never-both, stop-refused}
+use Rattle.capn_walk.proofs.shared.Fitting.{fits-root, root-costs}
+use Rattle.capn_walk.proofs.shared.Stops.{never-both, stop-refused}
 
 module _ (m : List (List ℕ)) (base : ℕ) where
   all-below : (r : Result Target Fault) (vs : List Visit) → AllPay (visits_at_root m base r vs) → AllPay vs

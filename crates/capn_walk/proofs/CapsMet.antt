@@ -17,8 +17,8 @@ use Rattle.capn_walk.specs.Visits.{Visit, pays, fails, places, row_places, slots
 use Rattle.capn_walk.specs.Stops.{AllPay}
 use Rattle.capn_walk.specs.At.{IsAt, AreAt, RowsAt}
 use Rattle.capn_walk.specs.Surveyed.{cap_of, first_cap_of}
-use Rattle.capn_walk.specs.Laws.Costs.{all-front, all-back}
-use Rattle.capn_walk.specs.Laws.Walks.{slot, visits-null, visits-cap, visits-deep, visits-object}
+use Rattle.capn_walk.proofs.shared.Costs.{all-front, all-back}
+use Rattle.capn_walk.proofs.shared.Walks.{slot, visits-null, visits-cap, visits-deep, visits-object}
 
 option_or-assoc : (a b c : Option ℕ) → option_or a (option_or b c) ≡ option_or (option_or a b) c
 option_or-assoc None b c = refl

@@ -3,7 +3,7 @@ use Rattle.std.proofs.Common.{Bool, true, false, IsTrue, ◌↔◌, ◌≡◌, �
 use Rattle.std.proofs.Common.{refl, arith}
 use Rattle.capn_walk.specs.Visits.{places, row_places}
 use Rattle.capn_walk.specs.declared.frame.Frame.{Frame}
-use Rattle.capn_walk.specs.Frames.{places_of, owed, HasRows}
+use Rattle.capn_walk.specs.inner.SlotsLeft.{places_of, owed, HasRows}
 
 -- rows of no slots have none
 pub no-slots : (s w a n : ℕ) → row_places s w a 0 n ≡ []

@@ -22,8 +22,8 @@ use Rattle.capn_walk.specs.Accepted.{IsAccepted}
 use Rattle.capn_walk.specs.Index.{entry_of, entry_target, kept, kept_of, entered, entries, entries_of, index_of}
 use Rattle.capn_walk.specs.Index.{entry_at, beside, IndexesAreReadable}
 use Rattle.capn_walk.specs.Index.{place_of, IndexesFollowVisits}
-use Rattle.capn_walk.specs.Laws.Costs.{all-front, all-back}
-use Rattle.capn_walk.specs.Laws.Walks.{visits-null, visits-cap, visits-fault, visits-deep, visits-object}
+use Rattle.capn_walk.proofs.shared.Costs.{all-front, all-back}
+use Rattle.capn_walk.proofs.shared.Walks.{visits-null, visits-cap, visits-fault, visits-deep, visits-object}
 use Rattle.capn_walk.proofs.FilledRoom.{entries-leaf, entries-object}
 use Rattle.capn_walk.proofs.Answering.{all-at_root}
 use Rattle.capn_walk.proofs.SeenInside.{found-inside}

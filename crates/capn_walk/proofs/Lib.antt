@@ -1,3 +1,4 @@
+pub mod shared
 pub mod RootWalks
 pub mod ThreeWays
 pub mod WorkedWalks

@@ -10,13 +10,13 @@ use Rattle.capn_walk.specs.declared.target.Fault.TheVariants as faults
 use Rattle.capn_walk.specs.declared.walked.Stopped.{Stopped}
 use Rattle.capn_walk.specs.Target.{target}
 use Rattle.capn_walk.specs.Visits.{Visit, visits}
-use Rattle.capn_walk.specs.Verdict.{judge}
+use Rattle.capn_walk.specs.inner.Verdict.{judge}
 use Rattle.capn_walk.specs.Stops.{root, may_be_root}
 use Rattle.capn_walk.specs.Accepted.{IsRefused, visits_within}
 use Rattle.capn_walk.specs.Limits.{Bounds}
 use Rattle.capn_walk.specs.Index.{entries, filled, IsIndexed}
-use Rattle.capn_walk.specs.IndexRoom.{laid, Indexes}
-use Rattle.capn_walk.specs.Laws.Stops.{accepted-within}
+use Rattle.capn_walk.specs.inner.IndexRoom.{laid, Indexes}
+use Rattle.capn_walk.proofs.shared.Stops.{accepted-within}
 use Rattle.capn_walk.proofs.RootWalks.{from-root, refused-below}
 use Rattle.capn_walk.proofs.FilledRoom.{as-many-entries}
 

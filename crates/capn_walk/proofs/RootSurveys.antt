@@ -12,16 +12,16 @@ use Rattle.capn_walk.specs.declared.target.Target.{Target}
 use Rattle.capn_walk.specs.declared.surveyed.Surveyed.{Surveyed}
 use Rattle.capn_walk.specs.Target.{target}
 use Rattle.capn_walk.specs.Visits.{Visit, pays, visits, visits_of}
-use Rattle.capn_walk.specs.Verdict.{judge, after, accepted}
-use Rattle.capn_walk.specs.Outcomes.{Tells}
+use Rattle.capn_walk.specs.inner.Verdict.{judge, after, accepted}
+use Rattle.capn_walk.specs.inner.Outcomes.{Tells}
 use Rattle.capn_walk.specs.Stops.{root, may_be_root}
 use Rattle.capn_walk.specs.Accepted.{IsValueOf, visits_within}
 use Rattle.capn_walk.specs.Limits.{Bounds}
-use Rattle.capn_walk.specs.Frames.{places_of, owed, HasRows}
+use Rattle.capn_walk.specs.inner.SlotsLeft.{places_of, owed, HasRows}
 use Rattle.capn_walk.specs.Surveyed.{cap_of, first_cap_of, IsSurvey}
 use Rattle.capn_walk.proofs.Framing.{nothing-left}
-use Rattle.capn_walk.specs.Laws.Judge.{judge-pays}
-use Rattle.capn_walk.specs.Laws.Stops.{accepted-within}
+use Rattle.capn_walk.proofs.shared.Judge.{judge-pays}
+use Rattle.capn_walk.proofs.shared.Stops.{accepted-within}
 use Rattle.capn_walk.proofs.RootWalks.{from-root}
 use Rattle.capn_walk.proofs.UnderWay.{option_or-none}
 use Rattle.capn_walk.proofs.CapsMet.{caps-at}

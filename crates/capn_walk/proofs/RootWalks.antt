@@ -16,12 +16,12 @@ use Rattle.capn_walk.specs.Stops.{IsStop, root, may_be_root, visits_at_root, roo
 use Rattle.capn_walk.specs.At.{IsAt}
 use Rattle.capn_walk.specs.Accepted.{IsAccepted, IsValueOf, IsRefused, visits_within, paid, number_of_visits}
 use Rattle.capn_walk.specs.Limits.{Bounds}
-use Rattle.capn_walk.specs.Verdict.{refused, judge}
-use Rattle.capn_walk.specs.Verdict.{Gives, Refuses}
-use Rattle.capn_walk.specs.Laws.Stops.{accepted-within, refused-stop, never-both}
-use Rattle.capn_walk.specs.Laws.Walks.{visits-fault}
-use Rattle.capn_walk.specs.Laws.Unique.{unique}
-use Rattle.capn_walk.specs.Laws.Fitting.{root-costs, fits-root}
+use Rattle.capn_walk.specs.inner.Verdict.{refused, judge}
+use Rattle.capn_walk.specs.inner.Verdict.{Gives, Refuses}
+use Rattle.capn_walk.proofs.shared.Stops.{accepted-within, refused-stop, never-both}
+use Rattle.capn_walk.proofs.shared.Walks.{visits-fault}
+use Rattle.capn_walk.proofs.shared.Unique.{unique}
+use Rattle.capn_walk.proofs.shared.Fitting.{root-costs, fits-root}
 
 -- a walk that stops at its first visit
 pub stops-at-once : (b : ℕ) (at : Place) (e : Fault) (vs : List Visit) → vs ≡ fails at e ∷ [] → IsStop b vs e at 0 1

@@ -3,7 +3,7 @@ use Rattle.std.proofs.Common.{◌≡◌, ℕ, ◌+◌, ◌-◌, ◌<◌, ◌≤�
 use Rattle.std.proofs.Common.{Err, None, refl, ap, sym, subst, ◌∙◌, arith, inr, true}
 use Rattle.std.proofs.lemmas.Bool.Decides.{nat_tests}
 use Rattle.capn_words.specs.declared.space.Place.{Place}
-use Rattle.capn_words.specs.Laws.Choices.{pick}
+use Rattle.capn_words.proofs.shared.Choices.{pick}
 use Rattle.capn_walk.specs.declared.target.Target.{Target}
 use Rattle.capn_walk.specs.declared.target.Target.TheVariants as targets
 use Rattle.capn_walk.specs.declared.target.Shape.{Shape}
@@ -15,19 +15,19 @@ use Rattle.capn_words.specs.declared.pointer.Pointer.TheVariants.{Nil, Node, Man
 use Rattle.capn_words.specs.declared.pointer.Width.TheVariants.{W0, W1, W8, W16, W32, W64, Link, Rows}
 use Rattle.capn_walk.specs.Target.{near, target}
 use Rattle.capn_walk.specs.Ways.{Describes}
-use Rattle.capn_walk.specs.Laws.Ways.{Told, told-near}
+use Rattle.capn_walk.proofs.shared.Ways.{Told, told-near}
 use Rattle.capn_walk.specs.Shapes.{AreNumbers}
 use Rattle.capn_walk.specs.Surveyed.{cap_of}
 use Rattle.std.specs.Bool.{⊤}
 use Rattle.std.specs.Result.{IfOk, IfErr, MatchResult}
 use Rattle.capn_walk.specs.Visits.{pays, price, slots, visits, visits_of}
-use Rattle.capn_walk.specs.Verdict.{judge, refused}
+use Rattle.capn_walk.specs.inner.Verdict.{judge, refused}
 use Rattle.capn_walk.specs.Viewed.{stepped, rooted, stepped_to_root, IsEntered, toll, slots_below}
-use Rattle.capn_walk.specs.Verdict.{Refuses}
+use Rattle.capn_walk.specs.inner.Verdict.{Refuses}
 use Rattle.capn_walk.specs.declared.walked.Stopped.{Stopped}
 use Rattle.capn_walk.specs.Stops.{root, may_be_root}
-use Rattle.capn_walk.specs.Laws.Judge.{judge-over}
-use Rattle.capn_walk.specs.Laws.Walks.{visits-null, visits-cap, visits-fault, visits-deep, visits-object}
+use Rattle.capn_walk.proofs.shared.Judge.{judge-over}
+use Rattle.capn_walk.proofs.shared.Walks.{visits-null, visits-cap, visits-fault, visits-deep, visits-object}
 
 module _ (m : List (List ℕ)) (base : ℕ) (at : Place) (depth budget : ℕ) where
   -- what a step that answers a target says of the visits of its slot

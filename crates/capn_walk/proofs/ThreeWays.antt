@@ -9,7 +9,7 @@ use Rattle.capn_words.specs.declared.pointer.Pointer.{Pointer}
 use Rattle.capn_words.specs.declared.pointer.Pointer.TheVariants.{Nil, Node, Many, Far, Cap, Reserved}
 use Rattle.capn_words.specs.declared.pointer.Width.{Width}
 use Rattle.capn_words.specs.declared.pointer.Width.TheVariants.{W0, W1, W8, W16, W32, W64, Link, Rows}
-use Rattle.capn_words.specs.Laws.Choices.{if-no, if-yes, same-yes}
+use Rattle.capn_words.proofs.shared.Choices.{if-no, if-yes, same-yes}
 use Rattle.capn_walk.specs.declared.target.Target.{Target}
 use Rattle.capn_walk.specs.declared.target.Target.TheVariants as targets
 use Rattle.capn_walk.specs.declared.target.Shape.{Shape}

@@ -12,16 +12,16 @@ use Rattle.capn_walk.specs.declared.frame.Waiting.{Waiting}
 use Rattle.capn_words.specs.Message.{word_at}
 use Rattle.capn_words.specs.Pointers.{pointer_of}
 use Rattle.capn_words.specs.declared.pointer.Pointer.TheVariants.{Nil}
-use Rattle.capn_walk.specs.Laws.Walks.{visits-null}
+use Rattle.capn_walk.proofs.shared.Walks.{visits-null}
 use Rattle.capn_walk.specs.Target.{named, target}
 use Rattle.capn_walk.specs.Visits.{Visit, pays, visits, visits_of}
-use Rattle.capn_walk.specs.Verdict.{refused, after, judge}
-use Rattle.capn_walk.specs.Frames.{places_of, owed, owed_by, Lies, AllLie, AreShallow, visits_left}
+use Rattle.capn_walk.specs.inner.Verdict.{refused, after, judge}
+use Rattle.capn_walk.specs.inner.SlotsLeft.{places_of, owed, owed_by, Lies, AllLie, AreShallow, visits_left}
 use Rattle.capn_walk.specs.Surveyed.{cap_of, first_cap_of}
-use Rattle.capn_walk.specs.Verdict.{Refuses}
-use Rattle.capn_walk.specs.Frames.{HasRows}
+use Rattle.capn_walk.specs.inner.Verdict.{Refuses}
+use Rattle.capn_walk.specs.inner.SlotsLeft.{HasRows}
 use Rattle.capn_walk.proofs.Framing.{nothing-left}
-use Rattle.capn_walk.specs.Laws.Judge.{judge-stops, judge-pays, after-after}
+use Rattle.capn_walk.proofs.shared.Judge.{judge-stops, judge-pays, after-after}
 
 option_or-assoc : (a b c : Option ℕ) → option_or a (option_or b c) ≡ option_or (option_or a b) c
 option_or-assoc None b c = refl

@@ -8,7 +8,7 @@ use Rattle.capn_walk.specs.declared.target.Fault.TheVariants as faults
 use Rattle.capn_walk.specs.Target.{target}
 use Rattle.capn_walk.specs.Visits.{visits}
 use Rattle.capn_walk.specs.Stops.{root_visits}
-use Rattle.capn_walk.specs.Verdict.{Verdict, accepted, refused, verdict}
+use Rattle.capn_walk.specs.inner.Verdict.{Verdict, accepted, refused, verdict}
 
 abbrev at : ℕ → ℕ → Place
 at s w = record { segment = s; word = w }

@@ -1,18 +1,4 @@
 -- The laws of walks, for the crates above.
-pub mod Costs
-pub mod Elements
-pub mod Fitting
-pub mod Inside
-pub mod Judge
-pub mod Plain
-pub mod Present
-pub mod Ranges
-pub mod RowWalks
-pub mod Segments
-pub mod Stops
-pub mod Unique
-pub mod Walks
-pub mod Ways
 use Rattle.std.specs.Prelude.{◌≡◌, ◌≢◌, ◌↔◌, ◌⊎◌, ℕ, ◌≤◌, List, Ok}
 use Rattle.capn_words.specs.Message.{IsMessage, IsPlace}
 use Rattle.capn_words.specs.declared.space.Place.{Place}

@@ -1,3 +1,4 @@
+pub mod inner
 pub mod Target
 pub mod Visits
 pub mod Stops
@@ -5,9 +6,6 @@ pub mod At
 pub mod Accepted
 pub mod Limits
 pub mod Shapes
-pub mod Verdict
-pub mod Outcomes
-pub mod Frames
 pub mod Surveyed
 pub mod Account
 pub mod Viewed
@@ -16,5 +14,4 @@ pub mod Ways
 pub mod Laws
 pub mod Told
 pub mod Index
-pub mod IndexRoom
 pub mod IndexValues

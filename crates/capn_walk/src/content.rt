@@ -8,7 +8,7 @@ use crate::target::{Fault, Shape, Target};
 use capn_words::{Place, Space, Width};
 
 /// The words of a segment, none where there is no such segment.
-#[tactic(auto, using(crate::specs::Laws::Segments::length_of_none, crate::specs::Laws::Segments::length_of_some))]
+#[tactic(auto, using(crate::proofs::shared::Segments::length_of_none, crate::proofs::shared::Segments::length_of_some))]
 #[inline(always)]
 pub fn segment_length<S: Space>(space: &S, segment: u32) -> u32
     ensures { result ≡ length (segment_at (S.message space.now) segment) }

@@ -3,7 +3,7 @@
 ghost use Rattle.std.specs.Prelude.{◌≡◌, ℕ, ◌-◌, ◌<◌, ◌≤◌, ◌+◌, ◌*◌, ◌^◌, [], ◌∷◌, ◌↔◌, IsTrue};
 ghost use Rattle.capn_walk.specs.Visits.{slots};
 ghost use Rattle.capn_walk.specs.Shapes.{slot_count, extent, RowsFit};
-ghost use Rattle.capn_walk.specs.Frames.{places_of, owed, end_of, HasRows};
+ghost use Rattle.capn_walk.specs.inner.SlotsLeft.{places_of, owed, end_of, HasRows};
 
 use crate::target::Shape;
 use capn_words::{Place, Width};

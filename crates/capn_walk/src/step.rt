@@ -3,7 +3,7 @@
 ghost use Rattle.std.specs.Prelude.{◌≡◌, ◌<◌, ◌≤◌, ℕ, Ok, Err, IfOk, MatchResult};
 ghost use Rattle.capn_words.specs.Message.{IsMessage};
 ghost use Rattle.capn_walk.specs.Viewed as seen;
-ghost use Rattle.capn_walk.specs.Frames.{places_of, owed, Lies};
+ghost use Rattle.capn_walk.specs.inner.SlotsLeft.{places_of, owed, Lies};
 
 use crate::frame::Frame;
 use crate::price::price_of;

@@ -5,8 +5,8 @@ ghost use Rattle.capn_words.specs.Message.{segment_at, IsMessage, IsPlace};
 ghost use Rattle.capn_value.specs.Sizes.{most_cost};
 ghost use Rattle.capn_walk.specs.Target as spec;
 ghost use Rattle.capn_walk.specs.Visits.{pays, visits};
-ghost use Rattle.capn_walk.specs.Verdict.{judge, refused};
-ghost use Rattle.capn_walk.specs.Outcomes.{Visits};
+ghost use Rattle.capn_walk.specs.inner.Verdict.{judge, refused};
+ghost use Rattle.capn_walk.specs.inner.Outcomes.{Visits};
 ghost use Rattle.capn_walk.specs.Shapes.{IsPlain, AreNumbers};
 ghost use Rattle.capn_walk.specs.declared.target.Fault.TheVariants.{Memory};
 

@@ -6,7 +6,7 @@ ghost use Rattle.capn_value.specs.Sizes.{most_cost};
 ghost use Rattle.capn_walk.specs.Target as spec;
 ghost use Rattle.capn_walk.specs.declared.target.Fault.TheVariants.{Memory};
 ghost use Rattle.capn_walk.specs.Viewed.{IsEntered, stepped};
-ghost use Rattle.capn_walk.specs.Outcomes.{Walks, WalksObject, WalksRows, WalksSlots};
+ghost use Rattle.capn_walk.specs.inner.Outcomes.{Walks, WalksObject, WalksRows, WalksSlots};
 ghost use Rattle.capn_walk.specs.Shapes.{IsContent, RowsFit, extent, slot_count};
 
 use crate::content::{place, segment_length};

@@ -1,2 +1,3 @@
+pub mod shared
 mod Written
 pub mod PointerRows

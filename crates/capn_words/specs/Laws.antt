@@ -1,9 +1,4 @@
 -- The laws of bytes that are read as one segment.
-pub mod Choices
-pub mod FieldBits
-pub mod OneSegment
-pub mod Pointers
-pub mod Words
 use Rattle.std.specs.Prelude.{◌≡◌, ℕ, List, Err}
 use Rattle.capn_words.specs.Words.{IsBare, ReadsBare}
 use Rattle.capn_words.specs.declared.bare.BareFault.{BareFault}

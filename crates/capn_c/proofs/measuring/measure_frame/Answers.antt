@@ -2,7 +2,7 @@
 use Rattle.std.proofs.Common.{ℕ, List, Err, inl, inr, length, ap, subst, sym, arith}
 use Rattle.capn_stream.specs.Frames.{StandsFirst}
 use Rattle.capn_stream.specs.Reading.{HasTable}
-use Rattle.capn_stream.specs.Laws.FrameLaws.{stands_alone}
+use Rattle.capn_stream.proofs.shared.FrameLaws.{stands_alone}
 use Rattle.capn_walk.specs.Accepted.{IsValueOf}
 use Rattle.capn_c.proofs.measuring.measure_frame.Goals as goal
 

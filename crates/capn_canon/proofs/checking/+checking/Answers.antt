@@ -4,15 +4,15 @@ use Rattle.capn_words.specs.Pointers.{field}
 use Rattle.capn_canon.specs.declared.testing.Tag.{Tag}
 use Rattle.capn_value.specs.Sizes.{most_height}
 use Rattle.capn_canon.specs.declared.run.Run.{Run}
-use Rattle.capn_canon.specs.Runs.{IsStruct, IsList, IsRun, Steps}
+use Rattle.capn_canon.specs.inner.SlotRuns.{IsStruct, IsList, IsRun, Steps}
 use Rattle.capn_value.specs.Tree.{Trees, count}
 use Rattle.capn_walk.specs.At.{AreAt}
 use Rattle.capn_canon.specs.Layout.{sizes}
-use Rattle.capn_canon.specs.Stands.{AreLaidAt}
+use Rattle.capn_canon.specs.inner.WordsOfLayout.{AreLaidAt}
 use Rattle.capn_words.specs.declared.pointer.Width.{Width}
 use Rattle.capn_walk.specs.declared.target.Shape.TheVariants as shapes
 use Rattle.capn_walk.specs.declared.target.Target.TheVariants as targets
-use Rattle.capn_walk.specs.Laws.RowWalks.{row-inside}
+use Rattle.capn_walk.proofs.shared.RowWalks.{row-inside}
 use Rattle.capn_canon.proofs.ComparedRows.{rows-same-begins, row-check, rows-fail, rows-grown, rows-within}
 use Rattle.capn_canon.proofs.ComparedRows.{rows-ready-then, rows-same-then, rows-same-ends}
 use Rattle.capn_canon.proofs.Compared.{not-true, null-told, cap-told}

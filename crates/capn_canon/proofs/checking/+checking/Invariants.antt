@@ -1,7 +1,7 @@
 use Rattle.std.proofs.Common.{◌≡◌, ◌+◌, ◌-◌, ◌*◌, ◌≤◌, [], ◌∷◌, length}
 use Rattle.capn_value.specs.Sizes.{most_height}
-use Rattle.capn_canon.specs.Runs.{IsRun, GoesOn}
-use Rattle.capn_canon.specs.Stands.{AreReadyRows}
+use Rattle.capn_canon.specs.inner.SlotRuns.{IsRun, GoesOn}
+use Rattle.capn_canon.specs.inner.WordsOfLayout.{AreReadyRows}
 use Rattle.capn_canon.proofs.ComparedRows.{SameRows}
 use Rattle.capn_canon.proofs.checking.+checking.Given as goal
 

@@ -1,6 +1,6 @@
 use Rattle.std.proofs.Common.{ℕ, ◌*◌, drop, ap, sym, subst, arith, refl}
-use Rattle.capn_canon.specs.Bits.{first_bits}
-use Rattle.capn_canon.specs.Stands.{Stand}
+use Rattle.capn_canon.specs.inner.FirstBits.{first_bits}
+use Rattle.capn_canon.specs.inner.WordsOfLayout.{Stand}
 use Rattle.capn_canon.proofs.Compared.{not-true}
 use Rattle.capn_canon.proofs.PointedLists.{plain-leads, plain-room, plain-bits, plain-stands}
 use Rattle.capn_canon.proofs.checking.check_list.Goals as goal

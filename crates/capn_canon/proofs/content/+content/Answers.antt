@@ -8,8 +8,8 @@ use Rattle.capn_value.specs.Tree.{nil, node, voids, bits, bytes, pairs, quads, o
 use Rattle.capn_value.specs.declared.value.Value.{the_lemmas}
 use Rattle.capn_canon.specs.Patch.{whole}
 use Rattle.capn_canon.specs.Layout.{size, sizes, sizes_in_rows, lay, point}
-use Rattle.capn_canon.specs.Laying.{laid, laid_slots, laid_rows, row_holes, AreHoles, AreRowHoles}
-use Rattle.capn_canon.specs.Sound.{Sound, Sounds, SoundRows}
+use Rattle.capn_canon.specs.inner.LayoutSteps.{laid, laid_slots, laid_rows, row_holes, AreHoles, AreRowHoles}
+use Rattle.capn_canon.specs.inner.Sound.{Sound, Sounds, SoundRows}
 use Rattle.capn_canon.proofs.Seen.{seen-Nil, seen-Node, seen-Voids, seen-Bits, seen-Bytes, seen-Pairs, seen-Quads}
 use Rattle.capn_canon.proofs.Seen.{seen-Octs, seen-Links, seen-Rows, seen-Cap}
 use Rattle.capn_canon.proofs.Laid.{ready-holes, node-room, node-sound, node-done, links-room, links-sound, links-done}

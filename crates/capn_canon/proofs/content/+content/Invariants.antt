@@ -2,8 +2,8 @@ use Rattle.std.proofs.Common.{◌≡◌, ◌+◌, ◌-◌, ◌*◌, ◌≤◌, �
 use Rattle.capn_value.specs.View.{trees_of, rows_of}
 use Rattle.capn_value.specs.Tree.{rows, count_rows}
 use Rattle.capn_canon.specs.Layout.{sizes, sizes_in_rows}
-use Rattle.capn_canon.specs.Laying.{laid, laid_slots, laid_rows, AreHoles, AreRowHoles}
-use Rattle.capn_canon.specs.Sound.{Sounds, SoundRows}
+use Rattle.capn_canon.specs.inner.LayoutSteps.{laid, laid_slots, laid_rows, AreHoles, AreRowHoles}
+use Rattle.capn_canon.specs.inner.Sound.{Sounds, SoundRows}
 use Rattle.capn_canon.proofs.content.+content.Given as goal
 
 abbrev pub invariant-lay_slots-loop-i : goal.invariant-lay_slots-loop-i

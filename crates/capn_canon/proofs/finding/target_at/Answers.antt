@@ -6,8 +6,8 @@ use Rattle.capn_words.specs.Pointers.{pointer_of}
 use Rattle.capn_walk.specs.Target.{moved}
 use Rattle.capn_walk.specs.declared.target.Target.TheVariants as targets
 use Rattle.capn_walk.specs.declared.target.Shape.TheVariants as shapes
-use Rattle.capn_walk.specs.Laws.Segments.{segment-room}
-use Rattle.capn_walk.specs.Laws.Present.{present}
+use Rattle.capn_walk.proofs.shared.Segments.{segment-room}
+use Rattle.capn_walk.proofs.shared.Present.{present}
 use Rattle.capn_canon.proofs.FoundNear.{near-null, near-struct, near-list, not-composite}
 use Rattle.capn_canon.proofs.finding.target_at.Goals as goal
 

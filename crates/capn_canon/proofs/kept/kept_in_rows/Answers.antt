@@ -1,7 +1,7 @@
 use Rattle.std.proofs.Common.{◌≡◌, ◌+◌, ◌-◌, ◌*◌, ◌∙◌, arith}
 use Rattle.capn_walk.specs.At.{words_from}
-use Rattle.capn_walk.specs.Laws.RowWalks.{row-inside}
-use Rattle.capn_walk.specs.Laws.Segments.{segment-room}
+use Rattle.capn_walk.proofs.shared.RowWalks.{row-inside}
+use Rattle.capn_walk.proofs.shared.Segments.{segment-room}
 use Rattle.capn_canon.proofs.Cut.{part-le}
 use Rattle.capn_canon.proofs.EachRow.{kept-begins, kept-more, kept-full, kept-ends}
 use Rattle.capn_canon.proofs.kept.kept_in_rows.Goals as goal

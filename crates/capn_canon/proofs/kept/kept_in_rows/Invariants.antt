@@ -1,5 +1,5 @@
 use Rattle.std.proofs.Common.{◌≡◌, ◌+◌, ◌-◌, ◌*◌, ◌≤◌, max}
-use Rattle.capn_canon.specs.RowWords.{kept_each}
+use Rattle.capn_canon.specs.inner.RowWords.{kept_each}
 use Rattle.capn_canon.proofs.kept.kept_in_rows.Given as goal
 
 abbrev pub invariant-loop-row : goal.invariant-loop-row

@@ -1,7 +1,7 @@
 use Rattle.capn_canon.proofs.Headline.{denoted_has_form}
-use Rattle.capn_canon.specs.Laws.NotRefused.{not_refused}
-use Rattle.capn_canon.specs.Laws.OneReading.{one_value}
-use Rattle.capn_canon.specs.Laws.OneRefusal.{one_refusal}
+use Rattle.capn_canon.proofs.shared.NotRefused.{not_refused}
+use Rattle.capn_canon.proofs.shared.OneReading.{one_value}
+use Rattle.capn_canon.proofs.shared.OneRefusal.{one_refusal}
 use Rattle.capn_canon.proofs.laws.denotation.Goals as goal
 
 pub returns-clause-form : goal.returns-clause-form

@@ -5,7 +5,7 @@ use Rattle.capn_words.specs.Message.{segment_at}
 use Rattle.capn_walk.specs.At.{words_from}
 use Rattle.capn_canon.specs.Layout.{list_to}
 use Rattle.capn_canon.specs.Patch.{whole}
-use Rattle.capn_canon.specs.Bits.{first_bits}
+use Rattle.capn_canon.specs.inner.FirstBits.{first_bits}
 use Rattle.capn_canon.proofs.Copied.{part-below}
 use Rattle.capn_canon.proofs.FirstBits.{list-laid, plain-words}
 use Rattle.capn_canon.proofs.listing.lay_list.Goals as goal

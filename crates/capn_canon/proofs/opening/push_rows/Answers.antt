@@ -1,7 +1,7 @@
 use Rattle.std.proofs.Common.{◌≡◌, ◌+◌, ◌*◌, ◌∙◌, arith}
 use Rattle.std.proofs.lemmas.Result.{on_ok_weaker}
-use Rattle.capn_walk.specs.Laws.RowWalks.{row-inside}
-use Rattle.capn_walk.specs.Laws.Segments.{segment-room}
+use Rattle.capn_walk.proofs.shared.RowWalks.{row-inside}
+use Rattle.capn_walk.proofs.shared.Segments.{segment-room}
 use Rattle.capn_canon.proofs.Copied.{whole-bytes, copy-of}
 use Rattle.capn_canon.proofs.EachRow.{cells-begin, cells-more, cells-end, cells-piece}
 use Rattle.capn_canon.proofs.opening.push_rows.Goals as goal

@@ -1,5 +1,5 @@
 use Rattle.std.proofs.Common.{◌≡◌, ◌+◌, ◌-◌, ◌*◌, ◌++◌}
-use Rattle.capn_canon.specs.RowWords.{row_cells}
+use Rattle.capn_canon.specs.inner.RowWords.{row_cells}
 use Rattle.capn_canon.proofs.opening.push_rows.Given as goal
 
 abbrev pub invariant-loop-row : goal.invariant-loop-row

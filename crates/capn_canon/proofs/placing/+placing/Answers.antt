@@ -5,14 +5,14 @@ use Rattle.capn_words.specs.Message.{segment_at}
 use Rattle.capn_walk.specs.declared.target.Shape.{Shape}
 use Rattle.capn_walk.specs.declared.target.Shape.TheVariants as shapes
 use Rattle.capn_walk.specs.Shapes.{IsContent, RowsFit, extent}
-use Rattle.capn_walk.specs.Laws.RowWalks.{row-inside}
-use Rattle.capn_walk.specs.Laws.Segments.{segment-room}
-use Rattle.capn_walk.specs.Laws.Inside.{inside}
-use Rattle.capn_walk.specs.Laws.Present.{present}
-use Rattle.capn_walk.specs.Laws.Walks.{is-inside}
-use Rattle.capn_walk.specs.Laws.Unique.{unique}
+use Rattle.capn_walk.proofs.shared.RowWalks.{row-inside}
+use Rattle.capn_walk.proofs.shared.Segments.{segment-room}
+use Rattle.capn_walk.proofs.shared.Inside.{inside}
+use Rattle.capn_walk.proofs.shared.Present.{present}
+use Rattle.capn_walk.proofs.shared.Walks.{is-inside}
+use Rattle.capn_walk.proofs.shared.Unique.{unique}
 use Rattle.capn_words.specs.declared.pointer.Width.{Width}
-use Rattle.capn_canon.specs.Ready.{IsReadyInside, IsLaidInside}
+use Rattle.capn_canon.specs.inner.ReadyPlaces.{IsReadyInside, IsLaidInside}
 use Rattle.capn_canon.proofs.Shaped.{found, null-of, cap-at, inside-of, inside-height}
 use Rattle.capn_canon.proofs.Slots.{laid-null, laid-cap, next, next-ready, begins-rest, begins-ready, then-rest}
 use Rattle.capn_canon.proofs.Slots.{then-inside, then-ready, ends-rest}

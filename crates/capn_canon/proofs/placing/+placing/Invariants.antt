@@ -1,12 +1,12 @@
 use Rattle.std.proofs.Common.{◌≡◌, ◌+◌, ◌-◌, ◌*◌, ◌^◌, ◌≤◌, length}
 use Rattle.capn_value.specs.Tree.{Trees, count}
 use Rattle.capn_walk.specs.At.{AreAt}
-use Rattle.capn_canon.specs.Laying.{laid_slots}
+use Rattle.capn_canon.specs.inner.LayoutSteps.{laid_slots}
 use Rattle.capn_value.specs.Tree.{Bodies, count_rows}
 use Rattle.capn_walk.specs.At.{RowsAt}
-use Rattle.capn_canon.specs.Laying.{laid_rows}
-use Rattle.capn_canon.specs.Ready.{AreReady}
-use Rattle.capn_canon.specs.RowWords.{RowsReady}
+use Rattle.capn_canon.specs.inner.LayoutSteps.{laid_rows}
+use Rattle.capn_canon.specs.inner.ReadyPlaces.{AreReady}
+use Rattle.capn_canon.specs.inner.RowWords.{RowsReady}
 use Rattle.capn_canon.proofs.placing.+placing.Given as goal
 
 abbrev pub decreases-lay_object : goal.decreases-lay_object

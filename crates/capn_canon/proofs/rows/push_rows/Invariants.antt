@@ -1,7 +1,7 @@
 use Rattle.std.proofs.Common.{◌≡◌, ◌++◌, drop}
 use Rattle.capn_value.specs.View.{rows_of}
-use Rattle.capn_canon.specs.Laying.{row_holes}
-use Rattle.capn_canon.specs.Sound.{AreWide}
+use Rattle.capn_canon.specs.inner.LayoutSteps.{row_holes}
+use Rattle.capn_canon.specs.inner.Sound.{AreWide}
 use Rattle.capn_canon.proofs.rows.push_rows.Given as goal
 
 abbrev pub invariant-loop-row : goal.invariant-loop-row

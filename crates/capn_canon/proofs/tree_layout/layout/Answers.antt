@@ -1,6 +1,6 @@
 use Rattle.std.proofs.Common.{◌+◌, ◌^◌, ◌≤◌, sym, subst, arith}
 use Rattle.capn_canon.specs.Layout.{size}
-use Rattle.capn_canon.specs.Sound.{Sound}
+use Rattle.capn_canon.specs.inner.Sound.{Sound}
 use Rattle.capn_canon.proofs.Sound.{sound}
 use Rattle.capn_canon.proofs.Room.{room}
 use Rattle.capn_canon.proofs.tree_layout.layout.Goals as goal

@@ -2,10 +2,10 @@ use Rattle.std.proofs.Common.{◌+◌, [], ◌∷◌, sym, subst, arith, eq-eqb,
 use Rattle.std.proofs.lemmas.Bool.{eqb-true}
 use Rattle.capn_value.specs.Tree.{no_trees, tree}
 use Rattle.capn_walk.specs.Stops.{root}
-use Rattle.capn_walk.specs.Laws.Unique.{unique}
+use Rattle.capn_walk.proofs.shared.Unique.{unique}
 use Rattle.capn_canon.specs.Layout.{size}
-use Rattle.capn_canon.specs.Sound.{Sound}
-use Rattle.capn_canon.specs.Stands.{IsLaidAt}
+use Rattle.capn_canon.specs.inner.Sound.{Sound}
+use Rattle.capn_canon.specs.inner.WordsOfLayout.{IsLaidAt}
 use Rattle.capn_canon.proofs.Compared.{not-true, slots-first, slots-both}
 use Rattle.capn_canon.proofs.CanonicalWords.{words-stand, stand-words}
 use Rattle.capn_canon.proofs.Standing.{stand-none}

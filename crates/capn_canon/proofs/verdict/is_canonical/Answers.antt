@@ -1,6 +1,6 @@
 use Rattle.std.proofs.Common.{[], ◌∷◌, ap, sym, ◌∙◌, refl}
 use Rattle.capn_walk.specs.Stops.{root}
-use Rattle.capn_walk.specs.Laws.Unique.{unique}
+use Rattle.capn_walk.proofs.shared.Unique.{unique}
 use Rattle.capn_canon.specs.declared.form.Form.TheVariants as forms
 use Rattle.capn_canon.specs.Layout.{canon}
 use Rattle.capn_canon.proofs.Answered.{denoted_here}

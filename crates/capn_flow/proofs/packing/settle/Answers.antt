@@ -1,5 +1,5 @@
 use Rattle.std.proofs.Common.{◌*◌, ◌/◌, ◌++◌, ◌<◌, ◌+◌, List, ℕ, ap, ◌∙◌, arith, length, length-take, slice_range, take}
-use Rattle.capn_pack.specs.Laws.GroupLemmas.{rest_is}
+use Rattle.capn_pack.proofs.shared.GroupLemmas.{rest_is}
 use Rattle.capn_flow.proofs.Settled.{settled_held}
 use Rattle.capn_flow.proofs.packing.settle.Goals as goal
 

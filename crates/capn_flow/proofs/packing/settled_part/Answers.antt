@@ -1,6 +1,6 @@
 use Rattle.std.proofs.Common.{◌-◌, length, ap, ◌∙◌}
 use Rattle.capn_pack.specs.Chosen.{zero_count}
-use Rattle.capn_pack.specs.Laws.GroupLemmas.{rest_is}
+use Rattle.capn_pack.proofs.shared.GroupLemmas.{rest_is}
 use Rattle.capn_flow.proofs.LastWord.{named_text}
 use Rattle.capn_flow.proofs.packing.settled_part.Goals as goal
 

@@ -1,5 +1,5 @@
 use Rattle.std.proofs.Common.{arith, refl}
-use Rattle.capn_pack.specs.Laws.ChosenLaws.{chosen_whole}
+use Rattle.capn_pack.proofs.shared.ChosenLaws.{chosen_whole}
 use Rattle.capn_flow.proofs.Settled.{last_inside, last_of, settled_front, settled_tag}
 use Rattle.capn_flow.proofs.packing.unpacked_part.Goals as goal
 

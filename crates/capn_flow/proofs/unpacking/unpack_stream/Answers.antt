@@ -4,7 +4,7 @@ use Rattle.std.proofs.KnownBytes.{Appends-nil, Appends-trans, Consumes-nil}
 use Rattle.std.proofs.lemmas.List.{take-append-le}
 use Rattle.std.proofs.lemmas.Result.{err_from_is_err_and}
 use Rattle.capn_pack.specs.Stream.{Held}
-use Rattle.capn_pack.specs.Laws.StreamLemmas.{nothing_first}
+use Rattle.capn_pack.proofs.shared.StreamLemmas.{nothing_first}
 use Rattle.capn_flow.specs.Flow.{Heard}
 use Rattle.capn_flow.specs.Unpacking.{Unpacks, fresh, unpacking}
 use Rattle.capn_flow.proofs.InputRead.{has_broken, still_fine}

@@ -1,6 +1,6 @@
 use Rattle.std.proofs.Common.{◌≡◌, length, false}
 use Rattle.capn_words.specs.Watching.{inner_of, has_failed}
-use Rattle.capn_make.specs.Sending.{HasMade}
+use Rattle.capn_make.specs.inner.RunParts.{HasMade}
 use Rattle.capn_make.proofs.each.make_each.Given as goal
 
 -- the writer has not failed, and all texts so far are made and written

@@ -1,5 +1,5 @@
-use Rattle.capn_pack.specs.Laws.GroupLaws.{one_reading, refused_only}
-use Rattle.capn_pack.specs.Laws.RefusalLaws.{one_unpack_fault}
+use Rattle.capn_pack.proofs.shared.GroupLaws.{one_reading, refused_only}
+use Rattle.capn_pack.proofs.shared.RefusalLaws.{one_unpack_fault}
 use Rattle.capn_pack.proofs.laws.reading.Goals as goal
 
 pub returns-clause-one : goal.returns-clause-one

@@ -1,4 +1,4 @@
-use Rattle.capn_pack.specs.Laws.SplitLaws.{one_split, splits_all}
+use Rattle.capn_pack.proofs.shared.SplitLaws.{one_split, splits_all}
 use Rattle.capn_pack.proofs.laws.splitting.Goals as goal
 
 pub returns-clause-all : goal.returns-clause-all

@@ -1,5 +1,5 @@
 use Rattle.std.proofs.Common.{length, take, ◌-◌, ◌≤◌, []}
-use Rattle.capn_pack.specs.Steps.{PutsRow}
+use Rattle.capn_pack.specs.inner.Steps.{PutsRow}
 use Rattle.capn_pack.proofs.pack_block.store_groups.Given as goal
 
 abbrev pub invariant-loop-at : goal.invariant-loop-at

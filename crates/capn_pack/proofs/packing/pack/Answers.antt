@@ -1,5 +1,5 @@
 use Rattle.std.proofs.Common.{arith}
-use Rattle.capn_pack.specs.Laws.ChosenLaws.{packs_from_chosen, one_text, texts_same, chosen_whole}
+use Rattle.capn_pack.proofs.shared.ChosenLaws.{packs_from_chosen, one_text, texts_same, chosen_whole}
 use Rattle.capn_pack.proofs.packing.pack.Goals as goal
 
 pub returns-then-bytes-ne0-clause-only : goal.returns-then-bytes-ne0-clause-only

@@ -1,5 +1,5 @@
 use Rattle.std.proofs.Common.{length, take, ◌-◌, ◌≤◌, []}
-use Rattle.capn_pack.specs.Steps.{TakesRow}
+use Rattle.capn_pack.specs.inner.Steps.{TakesRow}
 use Rattle.capn_pack.proofs.unpack_block.fill_block.Given as goal
 
 abbrev pub invariant-loop-at : goal.invariant-loop-at

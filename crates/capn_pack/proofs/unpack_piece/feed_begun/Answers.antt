@@ -1,6 +1,6 @@
 use Rattle.std.proofs.Common.{arith, ◌≡◌, length, take, length-take}
 use Rattle.capn_pack.proofs.StartLemmas.{whole_started}
-use Rattle.capn_pack.specs.Laws.StreamLemmas.{splits_more, begins_more}
+use Rattle.capn_pack.proofs.shared.StreamLemmas.{splits_more, begins_more}
 use Rattle.capn_pack.proofs.unpack_piece.feed_begun.Goals as goal
 
 pub returns-in-Ok : goal.returns-in-Ok

@@ -1,7 +1,7 @@
 use Rattle.std.proofs.Common.{arith, refl, length, inl, inr}
 use Rattle.std.proofs.lemmas.Bool.{cases_lt}
 use Rattle.capn_pack.proofs.StartLemmas.{joined_started}
-use Rattle.capn_pack.specs.Laws.StreamLemmas.{join_past, join_whole, join_open}
+use Rattle.capn_pack.proofs.shared.StreamLemmas.{join_past, join_whole, join_open}
 use Rattle.capn_pack.proofs.unpack_piece.join_first.Goals as goal
 
 pub overflow_sub-result : goal.overflow_sub-result

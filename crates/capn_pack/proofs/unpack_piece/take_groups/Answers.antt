@@ -1,6 +1,6 @@
 use Rattle.capn_pack.proofs.StartLemmas.{row_started}
 use Rattle.capn_pack.proofs.RowLemmas.{row_more, row_join}
-use Rattle.capn_pack.specs.Laws.StreamLemmas.{begins, splits_cut}
+use Rattle.capn_pack.proofs.shared.StreamLemmas.{begins, splits_cut}
 use Rattle.capn_pack.proofs.unpack_piece.take_groups.Goals as goal
 
 pub returns-in-Err-Memory-clause-err : goal.returns-in-Err-Memory-clause-err

@@ -1,5 +1,5 @@
 use Rattle.std.proofs.Common.{length, ◌-◌}
-use Rattle.capn_pack.specs.Steps.{TakesRow}
+use Rattle.capn_pack.specs.inner.Steps.{TakesRow}
 use Rattle.capn_pack.proofs.unpack_piece.take_groups.Given as goal
 
 abbrev pub invariant-loop-at : goal.invariant-loop-at

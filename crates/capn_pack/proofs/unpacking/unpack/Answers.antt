@@ -1,5 +1,5 @@
 use Rattle.std.proofs.Common.{arith}
-use Rattle.capn_pack.specs.Laws.GroupLaws.{one_reading, refused_only}
+use Rattle.capn_pack.proofs.shared.GroupLaws.{one_reading, refused_only}
 use Rattle.capn_pack.proofs.WordLemmas.{packs_words}
 use Rattle.capn_pack.proofs.unpacking.unpack.Goals as goal
 

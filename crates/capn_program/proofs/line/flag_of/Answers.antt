@@ -3,7 +3,7 @@ use Rattle.std.specs.Bool.{MatchBool}
 use Rattle.std.specs.Str.Parse.{ParsesBool, false_text, true_text}
 use Rattle.clap.proofs.WalkLemmas.{one_text-rows}
 use Rattle.clap.specs.Words.{Text, found_of, one_text}
-use Rattle.capn_tool.specs.Laws.ReadValues.{read_some, read_there}
+use Rattle.capn_tool.proofs.shared.ReadValues.{read_some, read_there}
 use Rattle.capn_program.specs.Meaning.{flag_text}
 use Rattle.capn_program.proofs.line.flag_of.Goals as goal
 

@@ -10,7 +10,7 @@ use Rattle.capn_program.specs.Line.{program_line}
 use Rattle.capn_tool.specs.Misuse.{error_of}
 use Rattle.capn_program.specs.Misuse.{IsReason, Orders}
 use Rattle.capn_program.proofs.OneOrder.{means_one_order}
-use Rattle.capn_tool.specs.Laws.Entered.{entered, not_entered}
+use Rattle.capn_tool.proofs.shared.Entered.{entered, not_entered}
 use Rattle.capn_program.proofs.line.order_of.Given.{Over}
 use Rattle.capn_program.proofs.line.order_of.Goals.{in-Some, in-None}
 use Rattle.capn_program.proofs.line.order_of.Goals as goal

@@ -2,7 +2,7 @@ use Rattle.std.proofs.Common.{codes}
 use Rattle.std.proofs.lemmas.Result.{IfOk-at_ok}
 use Rattle.clap.specs.Words.{with_rule}
 use Rattle.capn_tool.specs.Line.{HasLine, message_line}
-use Rattle.capn_tool.specs.Laws.CommandLines.{answers_option}
+use Rattle.capn_tool.proofs.shared.CommandLines.{answers_option}
 use Rattle.capn_program.specs.Line.{framed_rule, keep_going_rule}
 use Rattle.capn_program.proofs.subcommands.canonical_command.Goals as goal
 

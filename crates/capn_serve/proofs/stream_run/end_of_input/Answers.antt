@@ -1,5 +1,5 @@
 use Rattle.std.proofs.Common.{ap, inl, inr, length, List, ℕ}
-use Rattle.capn_stream.specs.Laws.Wanting.{unfinished_frame}
+use Rattle.capn_stream.proofs.shared.Wanting.{unfinished_frame}
 use Rattle.capn_serve.proofs.stream_run.end_of_input.Goals as goal
 
 pub returns-in-Ok : goal.returns-in-Ok

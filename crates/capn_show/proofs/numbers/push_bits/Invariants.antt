@@ -3,7 +3,7 @@ use Rattle.std.specs.Int.{from_bool}
 use Rattle.capn_show.specs.Sheet.{Grows}
 use Rattle.capn_words.specs.declared.pointer.Width.TheVariants as widths
 use Rattle.capn_value.specs.Text.{digits_of}
-use Rattle.capn_show.specs.Ready.{AreNumbers}
+use Rattle.capn_show.specs.inner.ReadyPlaces.{AreNumbers}
 use Rattle.capn_show.proofs.numbers.push_bits.Given as goal
 
 abbrev pub invariant-loop-i : goal.invariant-loop-i

@@ -5,13 +5,13 @@ use Rattle.capn_walk.specs.declared.target.Shape.{Shape}
 use Rattle.capn_walk.specs.declared.target.Shape.TheVariants as shapes
 use Rattle.capn_walk.specs.Shapes.{IsContent, RowsFit, extent}
 use Rattle.capn_walk.specs.Shown.{ShowsStruct, words_of_row, slots_of_row}
-use Rattle.capn_walk.specs.Laws.RowWalks.{row-inside}
-use Rattle.capn_walk.specs.Laws.Segments.{segment-room}
+use Rattle.capn_walk.proofs.shared.RowWalks.{row-inside}
+use Rattle.capn_walk.proofs.shared.Segments.{segment-room}
 use Rattle.capn_words.specs.declared.pointer.Width.{Width}
 use Rattle.capn_value.specs.Tree.{count, count_rows}
 use Rattle.std.specs.Prelude.{⊤}
 use Rattle.capn_show.specs.Sheet.{Grows, BreaksOff}
-use Rattle.capn_show.specs.Ready.{IsBody, struct_at}
+use Rattle.capn_show.specs.inner.ReadyPlaces.{IsBody, struct_at}
 use Rattle.capn_show.proofs.Appended.{passed, same, both, then-broken, broken-before}
 use Rattle.capn_show.proofs.Steps.{no-fault, found-ready, found-shown, slot-ready, row-ready, slots-ready}
 use Rattle.capn_show.proofs.SlotTexts.{each-more, each-all, each-cut, rows-more, rows-all, row-cut}

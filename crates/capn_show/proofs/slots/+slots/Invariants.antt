@@ -2,7 +2,7 @@ use Rattle.std.proofs.Common.{◌≡◌, ◌+◌, ◌*◌}
 use Rattle.capn_show.specs.Sheet.{Grows}
 use Rattle.capn_value.specs.Tree.{Trees, Bodies, count, count_rows, front}
 use Rattle.capn_value.specs.Text.{shown_each, shown_rows}
-use Rattle.capn_show.specs.Ready.{AreSlots, AreRowsAt}
+use Rattle.capn_show.specs.inner.ReadyPlaces.{AreSlots, AreRowsAt}
 use Rattle.capn_show.proofs.RowFront.{front_rows}
 use Rattle.capn_show.proofs.slots.+slots.Given as goal
 

@@ -1,4 +1,4 @@
-use Rattle.capn_stream.specs.Laws.FrameLaws.{one_frame, one_refusal, refused_whole, whole_of}
+use Rattle.capn_stream.proofs.shared.FrameLaws.{one_frame, one_refusal, refused_whole, whole_of}
 use Rattle.capn_stream.proofs.laws.framing.Goals as goal
 
 pub returns-clause-one : goal.returns-clause-one

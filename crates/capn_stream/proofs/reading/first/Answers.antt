@@ -1,6 +1,6 @@
 use Rattle.std.proofs.Common.{◌∙◌, arith}
 use Rattle.std.proofs.lemmas.Result.{err_from_is_err_and}
-use Rattle.capn_stream.specs.Laws.FrameLaws.{one_frame, refused_whole, whole_of}
+use Rattle.capn_stream.proofs.shared.FrameLaws.{one_frame, refused_whole, whole_of}
 use Rattle.capn_stream.proofs.WholeFrames.{read_ends, read_stands, sum-sizes_read}
 use Rattle.capn_stream.proofs.reading.first.Goals as goal
 

@@ -1,5 +1,5 @@
 use Rattle.std.proofs.Common.{inl, inr}
-use Rattle.capn_stream.specs.Laws.Wanting.{unfinished_frame}
+use Rattle.capn_stream.proofs.shared.Wanting.{unfinished_frame}
 use Rattle.capn_stream.proofs.receiving.end_of.Goals as goal
 
 pub returns-in-Ok : goal.returns-in-Ok

@@ -4,7 +4,7 @@ use Rattle.std.proofs.lemmas.List.{take_all}
 use Rattle.std.specs.Io.KnownBytes.{Appends}
 use Rattle.capn_words.specs.Message.{bytes, segment_at}
 use Rattle.capn_stream.specs.Frames.{contents, frame_text, padding, table}
-use Rattle.capn_stream.specs.Sending.{head_text}
+use Rattle.capn_stream.specs.inner.FrameOutput.{head_text}
 use Rattle.capn_stream.proofs.Sent.{begun_all, begun_front, begun_more, contents_more, contents_split}
 use Rattle.capn_stream.proofs.sending.write_message.Goals as goal
 

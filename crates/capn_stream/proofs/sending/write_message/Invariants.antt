@@ -2,7 +2,7 @@ use Rattle.std.proofs.Common.{◌≡◌, ◌++◌, take, false}
 use Rattle.std.specs.Io.KnownBytes.{Appends}
 use Rattle.capn_words.specs.Watching.{has_failed, inner_of}
 use Rattle.capn_stream.specs.Frames.{contents}
-use Rattle.capn_stream.specs.Sending.{head_text}
+use Rattle.capn_stream.specs.inner.FrameOutput.{head_text}
 use Rattle.capn_stream.proofs.sending.write_message.Given as goal
 
 -- the writer has not failed, and holds the head and the bytes of the segments so far

@@ -1,6 +1,6 @@
 use Rattle.std.proofs.Common.{◌≡◌, inr, ◌+◌, ap, sym, subst, ◌∙◌, arith}
 use Rattle.std.proofs.lemmas.Result.{err_from_is_err_and}
-use Rattle.capn_stream.specs.Stages.{need, IsDone}
+use Rattle.capn_stream.specs.inner.Stages.{need, IsDone}
 use Rattle.capn_stream.specs.declared.stage.Stage.{Stage}
 use Rattle.capn_stream.proofs.Came.{lacked_now, lacked_whole}
 use Rattle.capn_stream.proofs.Filling.{Filled, filled, filled_done, filled_short, filled_stop, is_contents}

@@ -1,5 +1,5 @@
 use Rattle.std.proofs.Common.{◌≡◌, ◌≤◌, ◌++◌, length, take}
-use Rattle.capn_stream.specs.Stages.{IsStage, parts_left}
+use Rattle.capn_stream.specs.inner.Stages.{IsStage, parts_left}
 use Rattle.capn_stream.proofs.Came.{Came}
 use Rattle.capn_stream.proofs.stage.fill.Given as goal
 

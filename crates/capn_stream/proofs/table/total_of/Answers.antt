@@ -1,5 +1,5 @@
 use Rattle.std.proofs.Common.{arith}
-use Rattle.capn_stream.specs.Laws.Entries.{sum-entries_more}
+use Rattle.capn_stream.proofs.shared.Entries.{sum-entries_more}
 use Rattle.capn_stream.proofs.table.total_of.Goals as goal
 
 pub loop-index-preserved : goal.loop-index-preserved

@@ -2,8 +2,8 @@ use Rattle.std.proofs.Common.{◌≡◌, ◌++◌, ◌∷◌, [], ◌∙◌, ap,
 use Rattle.std.proofs.lemmas.Result.{err_from_is_err_and}
 use Rattle.std.proofs.lemmas.List.{map_push}
 use Rattle.capn_value.specs.View.{tree_of, body_of}
-use Rattle.capn_text.specs.Tokens.{many}
-use Rattle.capn_text.specs.Values.{head_at, tree_at, row_at}
+use Rattle.capn_text.specs.inner.Tokens.{many}
+use Rattle.capn_text.specs.inner.Values.{head_at, tree_at, row_at}
 use Rattle.capn_text.specs.declared.heads.Head.TheVariants as heads
 use Rattle.capn_text.proofs.Loops.{goes_on, is_done}
 use Rattle.capn_text.proofs.StopLaws.{idle_none, passes_on, one_fails}

@@ -1,7 +1,7 @@
 use Rattle.std.proofs.Common.{◌≡◌, ◌+◌, ◌*◌, ◌-◌, map}
 use Rattle.capn_value.specs.View.{tree_of, body_of}
-use Rattle.capn_text.specs.Tokens.{many}
-use Rattle.capn_text.specs.Values.{tree_at, row_at}
+use Rattle.capn_text.specs.inner.Tokens.{many}
+use Rattle.capn_text.specs.inner.Values.{tree_at, row_at}
 use Rattle.capn_text.proofs.Loops.{with_front}
 use Rattle.capn_text.proofs.StopLaws.{PassesOn}
 use Rattle.capn_text.proofs.TreeStops.{tree_by, row_by}

@@ -1,5 +1,5 @@
 use Rattle.std.proofs.Common.{◌≡◌, ◌-◌}
-use Rattle.capn_text.specs.Tokens.{many, bit_at}
+use Rattle.capn_text.specs.inner.Tokens.{many, bit_at}
 use Rattle.capn_text.proofs.Loops.{with_front}
 use Rattle.capn_text.proofs.leaves.bit_digits_at.Given as goal
 

@@ -1,5 +1,5 @@
 use Rattle.std.proofs.lemmas.Result.{err_from_is_err_and}
-use Rattle.capn_text.specs.Tokens.{many, byte_at}
+use Rattle.capn_text.specs.inner.Tokens.{many, byte_at}
 use Rattle.capn_text.proofs.Loops.{goes_on, ends, is_done}
 use Rattle.capn_text.proofs.leaves.byte_digits_at.Goals as goal
 

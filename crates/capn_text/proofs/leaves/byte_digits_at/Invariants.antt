@@ -1,5 +1,5 @@
 use Rattle.std.proofs.Common.{◌≡◌, ◌-◌}
-use Rattle.capn_text.specs.Tokens.{many, byte_at}
+use Rattle.capn_text.specs.inner.Tokens.{many, byte_at}
 use Rattle.capn_text.proofs.Loops.{with_front}
 use Rattle.capn_text.proofs.leaves.byte_digits_at.Given as goal
 

@@ -1,6 +1,6 @@
 use Rattle.std.proofs.Common.{arith}
 use Rattle.std.proofs.lemmas.Result.{err_from_is_err_and}
-use Rattle.capn_text.specs.Tokens.{many, number_line_at}
+use Rattle.capn_text.specs.inner.Tokens.{many, number_line_at}
 use Rattle.capn_text.proofs.Loops.{goes_on, is_done}
 use Rattle.capn_text.proofs.StopLaws.{passes_on, one_fails}
 use Rattle.capn_text.proofs.LineStops.{number_local, number_full, number_fails}

@@ -1,5 +1,5 @@
 use Rattle.std.proofs.Common.{◌≡◌, ◌-◌}
-use Rattle.capn_text.specs.Tokens.{many, number_line_at}
+use Rattle.capn_text.specs.inner.Tokens.{many, number_line_at}
 use Rattle.capn_text.proofs.Loops.{with_front}
 use Rattle.capn_text.proofs.StopLaws.{PassesOn}
 use Rattle.capn_text.proofs.TreeStops.{numbers_by}

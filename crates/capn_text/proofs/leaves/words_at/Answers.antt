@@ -1,5 +1,5 @@
 use Rattle.std.proofs.lemmas.Result.{err_from_is_err_and}
-use Rattle.capn_text.specs.Tokens.{many, word_line_at}
+use Rattle.capn_text.specs.inner.Tokens.{many, word_line_at}
 use Rattle.capn_text.proofs.Loops.{goes_on, is_done}
 use Rattle.capn_text.proofs.StopLaws.{passes_on, one_fails}
 use Rattle.capn_text.proofs.LineStops.{word_local, word_full, word_fails}

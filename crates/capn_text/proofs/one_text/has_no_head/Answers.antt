@@ -1,4 +1,4 @@
-use Rattle.capn_text.specs.Values.{head_at}
+use Rattle.capn_text.specs.inner.Values.{head_at}
 use Rattle.capn_text.proofs.FirstLine.{begins, begins_none}
 use Rattle.capn_text.proofs.StopLaws.{idle_none}
 use Rattle.capn_text.proofs.one_text.has_no_head.Goals as goal

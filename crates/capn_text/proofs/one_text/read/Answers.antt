@@ -5,7 +5,7 @@ use Rattle.std.proofs.lemmas.Result.{err_from_is_err_and}
 use Rattle.std.proofs.lemmas.List.{append-nil}
 use Rattle.capn_value.specs.View.{tree_of}
 use Rattle.capn_value.specs.Text.{show_text}
-use Rattle.capn_value.specs.Laws.Fitting.{fit_parts}
+use Rattle.capn_value.proofs.shared.Fitting.{fit_parts}
 use Rattle.capn_text.proofs.ShowableValues.{showable-fit}
 use Rattle.capn_text.proofs.FittingText.{all_of, fits_not, line_or_memory, misfit_is}
 use Rattle.capn_text.proofs.one_text.read.Goals as goal

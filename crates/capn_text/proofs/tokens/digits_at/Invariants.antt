@@ -1,5 +1,5 @@
 use Rattle.std.proofs.Common.{◌≡◌, length}
-use Rattle.capn_text.specs.Tokens.{digits_at}
+use Rattle.capn_text.specs.inner.Tokens.{digits_at}
 use Rattle.capn_text.proofs.tokens.digits_at.Given as goal
 
 abbrev pub invariant-loop-rest : goal.invariant-loop-rest

@@ -1,7 +1,7 @@
 use Rattle.std.proofs.Common.{◌≡◌, ◌<◌, ◌-◌, ◌+◌, length, take, arith, ap, ◌∙◌}
 use Rattle.std.proofs.lemmas.List.{length-set, take_more_set, take_all}
 use Rattle.std.proofs.lemmas.Result.{err_from_is_err_and}
-use Rattle.capn_text.specs.Tokens.{many, byte_at}
+use Rattle.capn_text.specs.inner.Tokens.{many, byte_at}
 use Rattle.capn_text.proofs.Loops.{with_front, goes_on, ends, is_done}
 use Rattle.capn_text.proofs.tokens.eight_at.Goals as goal
 

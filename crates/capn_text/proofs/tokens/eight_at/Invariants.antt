@@ -1,5 +1,5 @@
 use Rattle.std.proofs.Common.{◌≡◌, ◌-◌, length, take}
-use Rattle.capn_text.specs.Tokens.{many, byte_at}
+use Rattle.capn_text.specs.inner.Tokens.{many, byte_at}
 use Rattle.capn_text.proofs.Loops.{with_front}
 use Rattle.capn_text.proofs.tokens.eight_at.Given as goal
 

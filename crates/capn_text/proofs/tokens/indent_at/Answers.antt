@@ -1,4 +1,4 @@
-use Rattle.capn_text.specs.Tokens.{indent_at}
+use Rattle.capn_text.specs.inner.Tokens.{indent_at}
 use Rattle.capn_text.proofs.Loops.{indent_more}
 use Rattle.capn_text.proofs.tokens.indent_at.Goals as goal
 

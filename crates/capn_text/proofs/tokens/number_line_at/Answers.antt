@@ -1,5 +1,5 @@
 use Rattle.std.proofs.Common.{refl}
-use Rattle.capn_text.specs.Tokens.{number_line_at}
+use Rattle.capn_text.specs.inner.Tokens.{number_line_at}
 use Rattle.capn_text.proofs.StopLaws.{idle_none}
 use Rattle.capn_text.proofs.tokens.number_line_at.Goals as goal
 

@@ -1,5 +1,5 @@
 use Rattle.std.proofs.Common.{◌≡◌, length}
-use Rattle.capn_text.specs.Tokens.{strip}
+use Rattle.capn_text.specs.inner.Tokens.{strip}
 use Rattle.capn_text.proofs.tokens.skip.Given as goal
 
 abbrev pub invariant-loop-left : goal.invariant-loop-left

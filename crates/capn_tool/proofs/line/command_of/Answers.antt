@@ -8,8 +8,8 @@ use Rattle.capn_tool.specs.declared.orders.Command.{Command}
 use Rattle.capn_tool.specs.Meaning.{Means}
 use Rattle.capn_tool.specs.Line.{tool_line}
 use Rattle.capn_tool.specs.Misuse.{IsReason, Orders, error_of}
-use Rattle.capn_tool.specs.Laws.OneMeaning.{means_one}
-use Rattle.capn_tool.specs.Laws.Entered.{entered, not_entered}
+use Rattle.capn_tool.proofs.shared.OneMeaning.{means_one}
+use Rattle.capn_tool.proofs.shared.Entered.{entered, not_entered}
 use Rattle.capn_tool.proofs.line.command_of.Given.{Over}
 use Rattle.capn_tool.proofs.line.command_of.Goals.{in-Some, in-None}
 use Rattle.capn_tool.proofs.line.command_of.Goals as goal

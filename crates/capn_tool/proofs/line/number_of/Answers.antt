@@ -2,7 +2,7 @@ use Rattle.std.proofs.Common.{◌∙◌, ℕ, ◌<◌, ◌^◌, sym, subst}
 use Rattle.std.specs.Str.Parse.{ParsesUnsigned, ExplainsUnsignedError, HasUnsignedDigitsIfOk}
 use Rattle.clap.proofs.WalkLemmas.{one_text-rows}
 use Rattle.clap.specs.Words.{found_of, one_text}
-use Rattle.capn_tool.specs.Laws.ReadValues.{read_some, read_there}
+use Rattle.capn_tool.proofs.shared.ReadValues.{read_some, read_there}
 use Rattle.capn_tool.proofs.line.number_of.Goals as goal
 
 pub returns-clause-read : goal.returns-clause-read

@@ -1,6 +1,6 @@
 use Rattle.std.proofs.Common.{◌≡◌, true, false}
 use Rattle.clap.specs.Words.{found_of, rows_of}
-use Rattle.capn_tool.specs.Laws.OneMeaning.{means_unpack}
+use Rattle.capn_tool.proofs.shared.OneMeaning.{means_unpack}
 use Rattle.capn_tool.proofs.line.order_of.Goals as goal
 
 pub returns-in_err-unpacked_words_of-in-unpack-clause-served :

@@ -1,7 +1,7 @@
 use Rattle.std.proofs.Common.{ℕ, List, subst}
 use Rattle.capn_words.specs.Watching.{inner_of, has_failed}
 use Rattle.capn_tool.specs.Told.{TellsLine}
-use Rattle.capn_tool.specs.Laws.Written.{told}
+use Rattle.capn_tool.proofs.shared.Written.{told}
 use Rattle.capn_tool.proofs.start.tell_said.Goals as goal
 
 pub returns-in-Ok-clause-text : goal.returns-in-Ok-clause-text

@@ -5,7 +5,7 @@ use Rattle.capn_pack.specs.declared.fault.UnpackFault.{UnpackFault}
 use Rattle.capn_pack.specs.declared.fault.UnpackFault.TheVariants as cuts
 use Rattle.capn_canon.specs.declared.refusal.Refusal.TheVariants as refusals
 use Rattle.capn_tool.specs.Heard.{EndsInput}
-use Rattle.capn_tool.specs.HeardPacked.{EndsPacked}
+use Rattle.capn_tool.specs.inner.PackedRun.{EndsPacked}
 use Rattle.capn_tool.specs.declared.fault.ToolFault.{ToolFault}
 use Rattle.capn_tool.specs.declared.fault.ToolFault.TheVariants as faults
 use Rattle.capn_tool.proofs.unpacking.end_of_packed.Goals as goal

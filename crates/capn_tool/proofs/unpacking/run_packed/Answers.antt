@@ -4,7 +4,7 @@ use Rattle.capn_words.specs.Watching.{inner_of}
 use Rattle.capn_walk.specs.Limits.{Bounds}
 use Rattle.capn_pack.specs.Stream.{Held}
 use Rattle.capn_stream.specs.Framing.{Framing, IsUnfinished}
-use Rattle.capn_tool.specs.HeardPacked.{EndsPacked, HearsPacked, IsUnpacking}
+use Rattle.capn_tool.specs.inner.PackedRun.{EndsPacked, HearsPacked, IsUnpacking}
 use Rattle.capn_tool.specs.declared.plan.Piece.{Piece}
 use Rattle.capn_tool.proofs.PackedRun.{packed_begin, packed_end, packed_hears, packed_long, packed_stopped}
 use Rattle.capn_tool.proofs.PackedRun.{packed_unread}

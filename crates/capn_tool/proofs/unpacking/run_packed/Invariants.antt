@@ -1,7 +1,7 @@
 use Rattle.std.proofs.Common.{◌≡◌, ◌≤◌, ◌+◌, ◌-◌, ◌^◌, false}
 use Rattle.capn_words.specs.Watching.{inner_of, has_failed}
 use Rattle.capn_tool.specs.Heard.{IsListening}
-use Rattle.capn_tool.specs.HeardPacked.{HearsPacked}
+use Rattle.capn_tool.specs.inner.PackedRun.{HearsPacked}
 use Rattle.capn_tool.proofs.unpacking.run_packed.Given as goal
 
 -- neither has failed, and the output for the whole messages of the bytes so far is written

@@ -5,7 +5,7 @@ use Rattle.capn_walk.specs.Limits.{Bounds}
 use Rattle.capn_pack.specs.Stream.{Held}
 use Rattle.capn_stream.specs.Framing.{Framing}
 use Rattle.capn_tool.specs.Heard.{IsListening}
-use Rattle.capn_tool.specs.HeardPacked.{ServesPacked, TellsPacked}
+use Rattle.capn_tool.specs.inner.PackedRun.{ServesPacked, TellsPacked}
 use Rattle.capn_tool.specs.Sending.{Outgoing, outgoing}
 use Rattle.capn_tool.specs.declared.plan.Piece.{Piece}
 use Rattle.capn_tool.specs.declared.fault.ToolFault.TheVariants as faults

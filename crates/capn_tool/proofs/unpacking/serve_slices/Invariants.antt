@@ -2,7 +2,7 @@ use Rattle.std.proofs.Common.{◌≡◌, ◌≤◌, ◌-◌, length, take, false
 use Rattle.capn_words.specs.Watching.{inner_of, has_failed}
 use Rattle.capn_tool.specs.Sending.{outgoing}
 use Rattle.capn_tool.specs.Heard.{IsListening}
-use Rattle.capn_tool.specs.HeardPacked.{TellsPacked}
+use Rattle.capn_tool.specs.inner.PackedRun.{TellsPacked}
 use Rattle.capn_tool.proofs.unpacking.serve_slices.Given as goal
 
 -- the pieces of the messages that the bytes so far made whole are added

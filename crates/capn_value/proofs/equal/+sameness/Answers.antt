@@ -8,7 +8,7 @@ use Rattle.capn_value.proofs.Pairwise.{ended, in_left, in_right, fails, holds, w
 use Rattle.capn_value.proofs.Pairwise.{each_agrees, each_tested, slots_differ, slots_agree, row_differs, row_agrees}
 use Rattle.capn_value.proofs.Pairwise.{rows_tested}
 use Rattle.capn_value.specs.View.{trees_of, rows_of}
-use Rattle.capn_value.specs.SameTest.{test_slots, test_each, test_rows}
+use Rattle.capn_value.specs.inner.SameTest.{test_slots, test_each, test_rows}
 use Rattle.capn_value.proofs.Depths.{falls, falls_above, steps_down, in_body, in_links, in_rows, in_node, item_below}
 use Rattle.capn_value.proofs.Depths.{row_below}
 use Rattle.capn_value.proofs.equal.+sameness.Goals as goal

@@ -1,10 +1,10 @@
 use Rattle.capn_value.specs.Sizes.{base}
-use Rattle.capn_value.specs.Laws.Fitting.{fit_parts, fit_from}
+use Rattle.capn_value.proofs.shared.Fitting.{fit_parts, fit_from}
 use Rattle.capn_value.proofs.FirstMisfit.{first_misfit}
 use Rattle.capn_value.proofs.OnceTrimmed.{same-trimmed}
-use Rattle.capn_value.specs.Laws.StaysFit.{fits-trimmed}
-use Rattle.capn_value.specs.Laws.Trimmed.{cost-trimmed, height-trimmed}
-use Rattle.capn_value.specs.Laws.SameTrimmed.{same_exactly_trimmed}
+use Rattle.capn_value.proofs.shared.StaysFit.{fits-trimmed}
+use Rattle.capn_value.proofs.shared.Trimmed.{cost-trimmed, height-trimmed}
+use Rattle.capn_value.proofs.shared.SameTrimmed.{same_exactly_trimmed}
 use Rattle.capn_value.proofs.laws.trimming.Goals as goal
 
 pub returns-clause-same : goal.returns-clause-same

@@ -3,7 +3,7 @@ use Rattle.capn_value.specs.Tree.{Bodies, count_rows, row_words}
 use Rattle.capn_value.specs.View.{rows_of}
 use Rattle.capn_value.specs.Views.{count_rows-rows_of}
 use Rattle.capn_value.specs.Sizes.{rows_price, dear}
-use Rattle.capn_value.specs.Laws.Prices.{rows_price-none, rows_price-some}
+use Rattle.capn_value.proofs.shared.Prices.{rows_price-none, rows_price-some}
 use Rattle.capn_value.proofs.measure.capped_rows_price.Goals as goal
 
 wordless : (bs : Bodies) (words n r cap : ℕ) → words ≡ min (row_words bs) cap → words ≡ 0 → 0 < cap → n ≡ count_rows bs

@@ -1,5 +1,5 @@
 use Rattle.std.proofs.Common.{◌^◌, arith}
-use Rattle.capn_value.specs.Laws.Ranges.{below_from}
+use Rattle.capn_value.proofs.shared.Ranges.{below_from}
 use Rattle.capn_value.proofs.measure.pair_words.Goals as goal
 
 pub returns-clause-in_range : goal.returns-clause-in_range

@@ -4,11 +4,11 @@ use Rattle.capn_value.specs.Sizes.{base, cost, height}
 use Rattle.capn_value.specs.Trim.{trimmed}
 use Rattle.capn_value.specs.Fits.{Fits}
 use Rattle.capn_value.specs.InRange.{InRange}
-use Rattle.capn_value.specs.Laws.Fitting.{fit_parts}
-use Rattle.capn_value.specs.Laws.Ranges.{in_range-trimmed}
-use Rattle.capn_value.specs.Laws.SameTrimmed.{same_exactly_trimmed}
-use Rattle.capn_value.specs.Laws.StaysFit.{fits-trimmed}
-use Rattle.capn_value.specs.Laws.Trimmed.{cost-trimmed, height-trimmed}
+use Rattle.capn_value.proofs.shared.Fitting.{fit_parts}
+use Rattle.capn_value.proofs.shared.Ranges.{in_range-trimmed}
+use Rattle.capn_value.proofs.shared.SameTrimmed.{same_exactly_trimmed}
+use Rattle.capn_value.proofs.shared.StaysFit.{fits-trimmed}
+use Rattle.capn_value.proofs.shared.Trimmed.{cost-trimmed, height-trimmed}
 use Rattle.capn_value.proofs.tree.trim.Goals as goal
 
 pub invariant_of-result : goal.invariant_of-result

@@ -1,7 +1,7 @@
 use Rattle.std.proofs.Common.{◌≡◌, arith, ap, ◌∙◌, min, length}
 use Rattle.capn_value.specs.Tree.{front, joined_rows}
 use Rattle.capn_value.specs.View.{trees_of, rows_of}
-use Rattle.capn_value.specs.Anew.{each_anew, rows_anew}
+use Rattle.capn_value.specs.inner.CutCopy.{each_anew, rows_anew}
 use Rattle.capn_value.proofs.Copies.{plain_anew, node_made, links_made, rows_made as list_made}
 use Rattle.capn_value.proofs.Fronts.{anew_front-min, front_made, row_made, rows_made, cut_length, words_made}
 use Rattle.capn_value.proofs.Fronts.{slots_made}

@@ -1,7 +1,7 @@
 use Rattle.std.proofs.Common.{◌≡◌, drop}
 use Rattle.capn_value.specs.Tree.{front, joined_rows}
 use Rattle.capn_value.specs.View.{trees_of, rows_of}
-use Rattle.capn_value.specs.Anew.{each_anew, rows_anew}
+use Rattle.capn_value.specs.inner.CutCopy.{each_anew, rows_anew}
 use Rattle.capn_value.proofs.trimming.+anew.Given as goal
 
 abbrev pub invariant-anew_front-loop-i : goal.invariant-anew_front-loop-i

@@ -1,6 +1,6 @@
 use Rattle.capn_walk.proofs.Answering.{apart, one-stop}
-use Rattle.capn_walk.specs.Laws.Plain.{plain-refusal}
-use Rattle.capn_walk.specs.Laws.Stops.{decided}
+use Rattle.capn_walk.proofs.shared.Plain.{plain-refusal}
+use Rattle.capn_walk.proofs.shared.Stops.{decided}
 use Rattle.capn_walk.proofs.laws.verdicts.Goals as goal
 
 pub returns-clause-apart : goal.returns-clause-apart

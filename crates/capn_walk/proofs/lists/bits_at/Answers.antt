@@ -1,6 +1,6 @@
 use Rattle.std.proofs.Common.{◌/◌, ◌%◌, ◌∙◌, arith, refl}
 use Rattle.std.proofs.lemmas.List.{length-take-le, get_or-take}
-use Rattle.capn_walk.specs.Laws.Elements.{length-read, bits-more}
+use Rattle.capn_walk.proofs.shared.Elements.{length-read, bits-more}
 use Rattle.capn_walk.proofs.lists.bits_at.Goals as goal
 use Rattle.capn_walk.proofs.lists.bits_at.Goals.{then-count-gt0, else-count-gt0}
 

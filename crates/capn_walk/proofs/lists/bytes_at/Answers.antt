@@ -1,6 +1,6 @@
 use Rattle.std.proofs.Common.{◌∙◌, arith}
 use Rattle.std.proofs.lemmas.Result.{IfOk-weaker}
-use Rattle.capn_walk.specs.Laws.Elements.{length-read, are-bytes}
+use Rattle.capn_walk.proofs.shared.Elements.{length-read, are-bytes}
 use Rattle.capn_walk.proofs.lists.bytes_at.Goals as goal
 
 pub returns-clause-number : goal.returns-clause-number

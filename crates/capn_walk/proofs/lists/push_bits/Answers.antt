@@ -1,5 +1,5 @@
 use Rattle.std.proofs.Common.{◌∙◌, arith}
-use Rattle.capn_walk.specs.Laws.Elements.{first_bits-more}
+use Rattle.capn_walk.proofs.shared.Elements.{first_bits-more}
 use Rattle.capn_walk.proofs.lists.push_bits.Goals as goal
 
 pub loop-place-preserved : goal.loop-place-preserved

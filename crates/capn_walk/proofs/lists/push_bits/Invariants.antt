@@ -1,6 +1,6 @@
 use Rattle.std.proofs.Common.{◌≡◌, ◌+◌, ◌++◌, length, map, vec_capacity}
 use Rattle.std.specs.Int.{from_bool}
-use Rattle.capn_walk.specs.Laws.Elements.{first_bits}
+use Rattle.capn_walk.proofs.shared.Elements.{first_bits}
 use Rattle.capn_walk.proofs.lists.push_bits.Given as goal
 
 abbrev pub invariant-loop-place : goal.invariant-loop-place

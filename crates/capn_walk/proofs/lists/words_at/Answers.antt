@@ -1,6 +1,6 @@
 use Rattle.std.proofs.Common.{◌≡◌, ◌*◌, arith, length, ◌∙◌}
 use Rattle.byteorder.specs.Endian.{little_number}
-use Rattle.capn_walk.specs.Laws.Elements.{length-read, are-words}
+use Rattle.capn_walk.proofs.shared.Elements.{length-read, are-words}
 use Rattle.capn_walk.proofs.Reading.{rest-holds, read-more}
 use Rattle.capn_walk.proofs.lists.words_at.Goals as goal
 

@@ -1,8 +1,8 @@
 use Rattle.std.proofs.Common.{◌≡◌, ◌+◌, ◌-◌, ◌*◌, length}
 use Rattle.capn_walk.specs.Visits.{visits_of}
-use Rattle.capn_walk.specs.Frames.{places_of, owed, Lies}
+use Rattle.capn_walk.specs.inner.SlotsLeft.{places_of, owed, Lies}
 use Rattle.capn_walk.specs.Index.{entries_of}
-use Rattle.capn_walk.specs.IndexRoom.{laid}
+use Rattle.capn_walk.specs.inner.IndexRoom.{laid}
 use Rattle.capn_walk.proofs.FilledRoom.{IsOnWay}
 use Rattle.capn_walk.proofs.message_index.+index_slots.Given as goal
 

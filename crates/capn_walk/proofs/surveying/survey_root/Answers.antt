@@ -1,6 +1,6 @@
 use Rattle.std.proofs.Common.{◌≡◌}
 use Rattle.capn_walk.specs.Stops.{root}
-use Rattle.capn_walk.specs.Frames.{owed}
+use Rattle.capn_walk.specs.inner.SlotsLeft.{owed}
 use Rattle.capn_walk.proofs.Framing.{done}
 use Rattle.capn_walk.proofs.RootSurveys.{tells-alone}
 use Rattle.capn_walk.proofs.surveying.survey_root.Goals as goal

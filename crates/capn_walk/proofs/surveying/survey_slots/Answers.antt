@@ -1,6 +1,6 @@
 use Rattle.std.proofs.Common.{rules, ◌≡◌, [], None, refl, arith}
 use Rattle.capn_words.specs.declared.pointer.Pointer.TheVariants.{Many}
-use Rattle.capn_walk.specs.Frames.{owed, Lies}
+use Rattle.capn_walk.specs.inner.SlotsLeft.{owed, Lies}
 use Rattle.capn_walk.proofs.Framing.{done, none-owed, not-done}
 use Rattle.capn_walk.proofs.Near.{near-struct, near-list}
 use Rattle.capn_walk.proofs.Stepped.{capless-near}

@@ -1,7 +1,7 @@
 use Rattle.std.proofs.Common.{◌≡◌, ◌+◌, ◌-◌, ◌*◌, ◌≤◌, length}
 use Rattle.capn_words.specs.Message.{segment_at}
 use Rattle.capn_walk.specs.Visits.{visits_of}
-use Rattle.capn_walk.specs.Frames.{places_of, owed}
+use Rattle.capn_walk.specs.inner.SlotsLeft.{places_of, owed}
 use Rattle.capn_walk.proofs.UnderWay.{Surveys, coming}
 use Rattle.capn_walk.proofs.surveying.survey_slots.Given as goal
 

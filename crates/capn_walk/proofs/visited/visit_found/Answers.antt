@@ -2,12 +2,12 @@ use Rattle.std.proofs.Common.{◌≡◌, ◌∙◌, Ok, Err, refl, ap, sym, arit
 use Rattle.capn_walk.specs.declared.target.Target.{Target}
 use Rattle.capn_walk.specs.declared.target.Target.TheVariants as targets
 use Rattle.capn_walk.specs.Surveyed.{cap_of}
-use Rattle.capn_walk.specs.Verdict.{judge}
+use Rattle.capn_walk.specs.inner.Verdict.{judge}
 use Rattle.capn_walk.specs.Viewed.{cap_in, stepped}
-use Rattle.capn_walk.specs.Laws.Ways.{never-memory}
+use Rattle.capn_walk.proofs.shared.Ways.{never-memory}
 use Rattle.capn_walk.proofs.SeenInside.{found-inside}
 use Rattle.capn_walk.proofs.Stepped.{step-pays, step-stops, stepped-memory}
-use Rattle.capn_walk.specs.Laws.Walks.{visits-fault}
+use Rattle.capn_walk.proofs.shared.Walks.{visits-fault}
 use Rattle.capn_walk.proofs.visited.visit_found.Goals as goal
 
 same-cap : (t : Target) → cap_of (Ok t) ≡ cap_in t

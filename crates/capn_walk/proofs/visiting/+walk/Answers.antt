@@ -11,13 +11,14 @@ use Rattle.capn_walk.specs.declared.target.Target.{Target}
 use Rattle.capn_walk.specs.declared.target.Target.TheVariants as targets
 use Rattle.capn_walk.specs.declared.walked.Stopped.{Stopped}
 use Rattle.capn_walk.specs.Shapes.{IsContent, extent, slot_count}
-use Rattle.capn_walk.specs.Laws.Inside.{inside, slots-price}
-use Rattle.capn_walk.specs.Laws.Present.{present}
-use Rattle.capn_walk.specs.Laws.Segments.{segment-room}
-use Rattle.capn_walk.specs.Laws.Walks.{gives-next, refuses-next, at-next, count-next, visits-null, visits-cap}
-use Rattle.capn_walk.specs.Laws.Walks.{visits-fault, gives-object, refuses-object, refuses-here, gives-nothing}
-use Rattle.capn_walk.specs.Laws.Walks.{inside-struct, inside-links, inside-rows, is-inside}
-use Rattle.capn_walk.specs.Laws.RowWalks.{one-more, row-inside, rows-give, rows-refuse, rows_at-step, count_rows-next}
+use Rattle.capn_walk.proofs.shared.Inside.{inside, slots-price}
+use Rattle.capn_walk.proofs.shared.Present.{present}
+use Rattle.capn_walk.proofs.shared.Segments.{segment-room}
+use Rattle.capn_walk.proofs.shared.Walks.{gives-next, refuses-next, at-next, count-next, visits-null, visits-cap}
+use Rattle.capn_walk.proofs.shared.Walks.{visits-fault, gives-object, refuses-object, refuses-here, gives-nothing}
+use Rattle.capn_walk.proofs.shared.Walks.{inside-struct, inside-links, inside-rows, is-inside}
+use Rattle.capn_walk.proofs.shared.RowWalks.{one-more, row-inside, rows-give, rows-refuse, rows_at-step}
+use Rattle.capn_walk.proofs.shared.RowWalks.{count_rows-next}
 use Rattle.capn_walk.proofs.Near.{by-pointer, near-struct, near-list}
 use Rattle.capn_walk.proofs.Room.{room-of}
 use Rattle.capn_walk.proofs.Stepped.{stepped-memory, step-refuses, content-taken}

@@ -3,7 +3,7 @@ use Rattle.capn_value.specs.Tree.{count, count_rows}
 use Rattle.capn_value.specs.View.{trees_of, rows_of}
 use Rattle.capn_walk.specs.Visits.{places, row_places, visits_of}
 use Rattle.capn_walk.specs.At.{AreAt, RowsAt}
-use Rattle.capn_walk.specs.Verdict.{Gives}
+use Rattle.capn_walk.specs.inner.Verdict.{Gives}
 use Rattle.capn_walk.proofs.visiting.+walk.Given as goal
 
 abbrev pub decreases-walk_target : goal.decreases-walk_target

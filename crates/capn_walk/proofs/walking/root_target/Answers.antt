@@ -3,7 +3,7 @@ use Rattle.capn_words.specs.Message.{segment_at}
 use Rattle.capn_walk.specs.Target.{target}
 use Rattle.capn_walk.specs.Stops.{root}
 use Rattle.capn_walk.proofs.RootWalks.{refused-kind, refused-fault}
-use Rattle.capn_walk.specs.Laws.Ways.{never-memory}
+use Rattle.capn_walk.proofs.shared.Ways.{never-memory}
 use Rattle.capn_walk.proofs.walking.root_target.Goals as goal
 
 pub returns-else-may_be_root-clause-refused : goal.returns-else-may_be_root-clause-refused

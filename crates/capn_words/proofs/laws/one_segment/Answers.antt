@@ -1,4 +1,4 @@
-use Rattle.capn_words.specs.Laws.OneSegment.{bare_not_refused, one_bare, one_bare_fault}
+use Rattle.capn_words.proofs.shared.OneSegment.{bare_not_refused, one_bare, one_bare_fault}
 use Rattle.capn_words.proofs.laws.one_segment.Goals as goal
 
 pub returns-clause-one : goal.returns-clause-one

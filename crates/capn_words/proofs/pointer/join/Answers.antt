@@ -1,6 +1,6 @@
 use Rattle.std.proofs.Common.{ap, ◌∙◌}
 use Rattle.capn_words.specs.Pointers.{pointer_of}
-use Rattle.capn_words.specs.Laws.Pointers.{pointer_of-word_of}
+use Rattle.capn_words.proofs.shared.Pointers.{pointer_of-word_of}
 use Rattle.capn_words.proofs.pointer.join.Goals as goal
 
 pub returns-clause-split : goal.returns-clause-split

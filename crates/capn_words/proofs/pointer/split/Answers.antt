@@ -1,5 +1,5 @@
 use Rattle.std.proofs.Common.{sym}
-use Rattle.capn_words.specs.Laws.Pointers.{Fields-only}
+use Rattle.capn_words.proofs.shared.Pointers.{Fields-only}
 use Rattle.capn_words.proofs.pointer.split.Goals as goal
 
 pub returns-clause-read : goal.returns-clause-read

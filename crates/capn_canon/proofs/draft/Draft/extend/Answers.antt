@@ -1,5 +1,5 @@
 use Rattle.std.proofs.Common.{◌*◌, ◌++◌, ◌∙◌, ap, length, List, Option, ℕ}
-use Rattle.capn_canon.specs.Draft.{drafted}
+use Rattle.capn_canon.specs.inner.Draft.{drafted}
 use Rattle.capn_walk.specs.Target.{words_for}
 use Rattle.capn_canon.specs.Layout.{packed}
 use Rattle.capn_canon.specs.Patch.{whole}

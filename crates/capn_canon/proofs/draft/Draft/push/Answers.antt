@@ -1,5 +1,5 @@
 use Rattle.std.proofs.Common.{◌∙◌, ap, List, Option, Some, ℕ, [], ◌∷◌, ◌++◌, arith}
-use Rattle.capn_canon.specs.Draft.{drafted}
+use Rattle.capn_canon.specs.inner.Draft.{drafted}
 use Rattle.capn_canon.proofs.Drafted.{drafted-push}
 use Rattle.capn_canon.proofs.draft.Draft.push.Goals as goal
 

@@ -1,5 +1,5 @@
 use Rattle.std.proofs.Common.{◌∙◌, ap}
-use Rattle.capn_canon.specs.Draft.{drafted}
+use Rattle.capn_canon.specs.inner.Draft.{drafted}
 use Rattle.capn_canon.proofs.Drafted.{drafted-none}
 use Rattle.capn_canon.proofs.draft.Draft.with_room.Goals as goal
 

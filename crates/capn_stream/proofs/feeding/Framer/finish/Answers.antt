@@ -1,5 +1,5 @@
 use Rattle.std.proofs.Common.{inr, refl, sym, subst, ◌∙◌}
-use Rattle.capn_stream.specs.Stages.{IsDone}
+use Rattle.capn_stream.specs.inner.Stages.{IsDone}
 use Rattle.capn_stream.specs.declared.stage.Stage.{Stage}
 use Rattle.capn_stream.proofs.Waiting.{frame_done}
 use Rattle.capn_stream.proofs.feeding.Framer.finish.Goals as goal

@@ -1,5 +1,5 @@
 use Rattle.std.proofs.Common.{sym, subst, ◌∙◌}
-use Rattle.capn_stream.specs.Stages.{IsStage}
+use Rattle.capn_stream.specs.inner.Stages.{IsStage}
 use Rattle.capn_stream.specs.declared.stage.Stage.{Stage}
 use Rattle.capn_stream.proofs.Waiting.{take_gives, waiting_ends}
 use Rattle.capn_stream.proofs.feeding.Framer.take.Goals as goal

@@ -1,6 +1,6 @@
 use Rattle.std.proofs.Common.{◌∙◌, ap, arith}
 use Rattle.capn_stream.specs.Framing.{Framing}
-use Rattle.capn_stream.specs.Laws.Wanting.{ends_within, least, need_bound}
+use Rattle.capn_stream.proofs.shared.Wanting.{ends_within, least, need_bound}
 use Rattle.capn_stream.proofs.feeding.Framer.wanted.Goals as goal
 
 pub returns-clause-least : goal.returns-clause-least

@@ -1,5 +1,5 @@
 use Rattle.std.proofs.Common.{◌*◌, take, drop, List, ℕ, ap, sym, ◌∙◌, length-drop, arith}
-use Rattle.capn_words.specs.Laws.OneSegment.{seen_length, seen_bytes}
+use Rattle.capn_words.proofs.shared.OneSegment.{seen_length, seen_bytes}
 use Rattle.capn_stream.proofs.owned.Words.bytes.Goals as goal
 
 pub overflow_mul-index : goal.overflow_mul-index

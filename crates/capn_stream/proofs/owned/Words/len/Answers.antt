@@ -1,5 +1,5 @@
 use Rattle.std.proofs.Common.{◌/◌, length, drop, List, ℕ, ap, sym, ◌∙◌}
-use Rattle.capn_words.specs.Laws.OneSegment.{seen_length}
+use Rattle.capn_words.proofs.shared.OneSegment.{seen_length}
 use Rattle.capn_stream.proofs.owned.Words.len.Goals as goal
 
 pub count_of-requires : goal.count_of-requires

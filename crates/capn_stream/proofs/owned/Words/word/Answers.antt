@@ -1,6 +1,6 @@
 use Rattle.std.proofs.Common.{◌*◌, drop, List, ℕ, ap, sym, ◌∙◌, length-drop, arith}
 use Rattle.capn_words.specs.Words.{word_number}
-use Rattle.capn_words.specs.Laws.OneSegment.{seen_length, seen_word}
+use Rattle.capn_words.proofs.shared.OneSegment.{seen_length, seen_word}
 use Rattle.capn_stream.proofs.owned.Words.word.Goals as goal
 
 pub word_of-requires : goal.word_of-requires

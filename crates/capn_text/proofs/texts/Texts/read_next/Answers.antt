@@ -2,7 +2,7 @@ use Rattle.std.proofs.Common.{◌+◌, ◌++◌, Some, inl, ap, sym, ◌∙◌, 
 use Rattle.std.proofs.lemmas.Result.{err_from_is_err_and}
 use Rattle.capn_value.specs.View.{tree_of}
 use Rattle.capn_value.specs.Text.{show_text}
-use Rattle.capn_value.specs.Laws.Fitting.{fit_parts}
+use Rattle.capn_value.proofs.shared.Fitting.{fit_parts}
 use Rattle.capn_text.specs.Streams.{end_line, ended_lines, Place}
 use Rattle.capn_text.proofs.ShowableValues.{showable-fit}
 use Rattle.capn_text.proofs.LineCounts.{lines_within}

@@ -7,7 +7,7 @@ use Rattle.capn_walk.specs.declared.target.Target.TheVariants as targets
 use Rattle.capn_walk.specs.declared.target.Shape.TheVariants as shapes
 use Rattle.capn_walk.specs.At.{AreElements}
 use Rattle.capn_walk.specs.Viewed.{Seen, IsInMessage, len_of, content_of}
-use Rattle.capn_walk.specs.Laws.Elements.{length-read, are-bytes}
+use Rattle.capn_walk.proofs.shared.Elements.{length-read, are-bytes}
 use Rattle.capn_walk.proofs.view.View.bytes.Goals as goal
 
 record Read (m : List (List ℕ)) (t : Target) (bs : List ℕ) : Type 0 where

@@ -1,5 +1,5 @@
 use Rattle.std.proofs.Common.{Ok, ap, arith}
-use Rattle.capn_words.specs.Laws.OneSegment.{bare_is, bare_length, bare_only}
+use Rattle.capn_words.proofs.shared.OneSegment.{bare_is, bare_length, bare_only}
 use Rattle.capn_words.proofs.bare.Bare.new.Goals as goal
 
 pub returns-then-length-ne0-clause-only : goal.returns-then-length-ne0-clause-only

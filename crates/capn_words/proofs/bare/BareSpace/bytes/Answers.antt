@@ -1,5 +1,5 @@
 use Rattle.std.proofs.Common.{arith}
-use Rattle.capn_words.specs.Laws.OneSegment.{seen_length, seen_bytes, one_segment}
+use Rattle.capn_words.proofs.shared.OneSegment.{seen_length, seen_bytes, one_segment}
 use Rattle.capn_words.proofs.bare.BareSpace.bytes.Goals as goal
 
 pub part-requires : goal.part-requires

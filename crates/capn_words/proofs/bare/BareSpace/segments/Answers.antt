@@ -1,4 +1,4 @@
-use Rattle.capn_words.specs.Laws.OneSegment.{seen_message}
+use Rattle.capn_words.proofs.shared.OneSegment.{seen_message}
 use Rattle.capn_words.proofs.bare.BareSpace.segments.Goals as goal
 
 pub returns-clause-bounds : goal.returns-clause-bounds

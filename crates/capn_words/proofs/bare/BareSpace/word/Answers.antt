@@ -1,5 +1,5 @@
 use Rattle.std.proofs.Common.{sym, ◌∙◌, arith}
-use Rattle.capn_words.specs.Laws.OneSegment.{seen_length, seen_word, only_place}
+use Rattle.capn_words.proofs.shared.OneSegment.{seen_length, seen_word, only_place}
 use Rattle.capn_words.proofs.bare.BareSpace.word.Goals as goal
 
 pub word_of-requires : goal.word_of-requires

@@ -1,5 +1,5 @@
 use Rattle.std.proofs.Common.{ap, sym, Some}
-use Rattle.capn_words.specs.Laws.OneSegment.{seen_length}
+use Rattle.capn_words.proofs.shared.OneSegment.{seen_length}
 use Rattle.capn_words.proofs.bare.BareSpace.words.Goals as goal
 
 pub returns-then-segment-eq0 : goal.returns-then-segment-eq0

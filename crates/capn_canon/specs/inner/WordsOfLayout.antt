@@ -1,0 +1,40 @@
+-- Words that are the layout of what they are read as.
+use Rattle.std.specs.Prelude.{◌≡◌, ℕ, ◌+◌, ◌^◌, ◌≤◌, List, length, take, drop, slice_index, Option, Some, None}
+use Rattle.capn_value.specs.Tree.{Tree, Trees, Bodies, count_rows}
+use Rattle.capn_value.specs.Sizes.{greatest_in_rows}
+use Rattle.capn_walk.specs.At.{RowsAt}
+use Rattle.capn_canon.specs.Layout.{point, points, lay, lays, row_contents, lays_in_rows, sizes_in_rows}
+use Rattle.capn_canon.specs.inner.Sound.{SoundRows}
+
+-- these words stand from a word on (Own.)
+abbrev pub Stand : List ℕ → ℕ → List ℕ → Type 0
+Stand all at xs = take (length xs) (drop at all) ≡ xs
+
+-- the pointer to a value and its content stand where its layout has them (Own.)
+pub record IsLaidAt (all : List ℕ) (v : Tree) (from to : ℕ) : Type 0 where
+  pub pointer : slice_index all from ≡ point v from to
+  pub content : Stand all to (lay v to)
+
+-- the pointers in slots and their contents stand where their layout has them (Own.)
+pub record AreLaidAt (all : List ℕ) (ts : Trees) (from to : ℕ) : Type 0 where
+  pub pointers : Stand all from (points ts from to)
+  pub contents : Stand all to (lays ts to)
+
+-- the rows of a words and b slots and what is below them stand where their layout has them (Own.)
+pub record RowsLaidAt (all : List ℕ) (a b : ℕ) (bs : Bodies) (from to : ℕ) : Type 0 where
+  pub rows : Stand all from (row_contents a b bs from to)
+  pub contents : Stand all to (lays_in_rows bs to)
+
+-- the answer is the next free word exactly if so (Own.)
+abbrev pub Tells : Type 0 → ℕ → Option ℕ → Type 0
+Tells P n (Some k) = P × (k ≡ n)
+Tells P n None = P → ⊥
+
+-- `number` rows stand one after the other, and there is room for what is below them after n words (Own.)
+pub record AreReadyRows (m : List (List ℕ)) (s w a b number depth n : ℕ) : Type 0 where
+  pub values : Bodies
+  pub are : RowsAt m a b s w values
+  pub count : count_rows values ≡ number
+  pub sound : SoundRows values
+  pub low : greatest_in_rows values ≤ depth
+  pub room : n + sizes_in_rows values ≤ 2 ^ 29

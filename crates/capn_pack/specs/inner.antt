@@ -1,0 +1,4 @@
+-- What no public clause cites.
+pub mod Joins
+pub mod ShuffleRows
+pub mod Steps

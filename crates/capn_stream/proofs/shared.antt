@@ -1,0 +1,7 @@
+-- Lemmas that other crates may cite.
+pub mod Ends
+pub mod Entries
+pub mod FrameLaws
+pub mod Longer
+pub mod SegmentBytes
+pub mod Wanting

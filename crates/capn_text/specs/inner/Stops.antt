@@ -1,0 +1,49 @@
+-- Where reading stops: after whole lines that go on, on a line that doesn't. (Own.)
+use Rattle.std.specs.Prelude.{ℕ, suc, ◌≡◌, ◌<◌, ◌≤◌, ◌+◌, List, [], ◌++◌, length, Option, Some, None, Result, Ok, Err}
+use Rattle.std.specs.Prelude.{⊤}
+use Rattle.capn_text.specs.Streams.{first_lines, ended_lines}
+use Rattle.capn_text.specs.declared.fault.Stop.{Stop}
+use Rattle.capn_text.specs.declared.fault.Stop.TheVariants as stops
+
+-- whole lines, none or more: what is added after them doesn't change them
+abbrev pub AreLines : List ℕ → Type 0
+AreLines x = (n : ℕ) (y : List ℕ) → first_lines (ended_lines x + n) (x ++ y) ≡ x ++ first_lines n y
+
+-- `read r` reads values of a height of at most r
+module _ {X : Type 0} (read : ℕ → List ℕ → Option (X × List ℕ)) (room : ℕ) where
+  -- whole lines that can be completed, if the height is no limit
+  abbrev pub GoesOn : List ℕ → Type 0
+  GoesOn front = AreLines front × (y : List ℕ) × (x : X) × ((r : ℕ) → room < r → read r (front ++ y) ≡ Some (x, []))
+
+  -- lines that go on, and `left` bytes after them, whose first line doesn't go on at any height
+  abbrev pub Stops : List ℕ → ℕ → Type 0
+  Stops text left = (front : List ℕ) × (rest : List ℕ) × (text ≡ front ++ rest) × (length rest ≡ left) × GoesOn front
+      × ((r : ℕ) (z : List ℕ) → room ≤ r → first_lines 1 z ≡ first_lines 1 rest → read r (front ++ z) ≡ None)
+
+  -- lines that go on only with a greater height
+  abbrev pub Deepens : List ℕ → Type 0
+  Deepens text = (front : List ℕ) × (rest : List ℕ) × (text ≡ front ++ rest) × GoesOn front
+      × ((z : List ℕ) → read room (front ++ z) ≡ None)
+
+  -- why nothing is read from a text
+  abbrev pub FailsAt : Stop → List ℕ → Type 0
+  FailsAt stops.Memory text = ⊤
+  FailsAt (stops.Left n) text = Stops text n
+  FailsAt stops.Deep text = Deepens text
+
+-- what a function returned, seen by `view`, is what is read, or it says where reading stops
+abbrev pub GivesAt : {X Y : Type 0} → (X → Y × List ℕ) → Result X Stop → (ℕ → List ℕ → Option (Y × List ℕ)) → ℕ → List ℕ
+    → Type 0
+GivesAt view (Ok x) read room text = read room text ≡ Some (view x)
+GivesAt view (Err e) read room text = FailsAt read room e text
+
+-- why nothing is read from the line at the front
+abbrev pub LineFails : {Y : Type 0} → Stop → (List ℕ → Option Y) → List ℕ → Type 0
+LineFails stops.Memory read text = ⊤
+LineFails (stops.Left n) read text = (read text ≡ None) × (n ≡ length text)
+LineFails stops.Deep read text = ⊥
+
+-- what a function returned, seen by `view`, is what is read from the line at the front
+abbrev pub GivesLine : {X Y : Type 0} → (X → Y) → Result X Stop → (List ℕ → Option Y) → List ℕ → Type 0
+GivesLine view (Ok x) read text = read text ≡ Some (view x)
+GivesLine view (Err e) read text = LineFails e read text

@@ -1,0 +1,5 @@
+-- What no public clause cites.
+pub mod PackedRun
+pub mod Pending
+pub mod ReadInput
+pub mod ServedMessages

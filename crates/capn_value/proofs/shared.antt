@@ -1,0 +1,9 @@
+-- Lemmas that other crates may cite.
+pub mod Cuts
+pub mod Fitting
+pub mod Prices
+pub mod Ranges
+pub mod SameTrimmed
+pub mod StaysFit
+pub mod Tariffs
+pub mod Trimmed

@@ -1,0 +1,67 @@
+-- What a value costs by one tariff and by the other.
+use Rattle.std.proofs.Common.{◌≡◌, ℕ, ◌+◌, ◌*◌, ◌≤◌, arith}
+use Rattle.capn_value.specs.declared.tariff.Tariff.{Tariff}
+use Rattle.capn_value.specs.declared.tariff.Tariff.TheVariants.{Strict, Plain}
+use Rattle.capn_value.specs.Tree.{Tree, nil, node, voids, bits, bytes, pairs, quads, octs, links, rows, cap, Trees}
+use Rattle.capn_value.specs.Tree.{no_trees, tree, Bodies, no_bodies, body, count, row_words}
+use Rattle.capn_value.specs.Sizes.{base, cost, costs, costs_in_rows, most_cost, dear}
+use Rattle.capn_value.specs.Fits.{Fits}
+use Rattle.capn_value.proofs.shared.Fitting.{fit_parts}
+use Rattle.capn_value.proofs.shared.Prices.{row_words-le}
+
+-- where each content costs more beside its size, so does the value
+module _ (less more : ℕ) (le : less ≤ more) where
+  mutual
+    pub cost-raised : (t : Tree) → cost less t ≤ cost more t
+    cost-raised nil = omega arith
+    cost-raised (cap k) = omega arith
+    cost-raised (node ws ss) = omega (arith, le, costs-raised ss)
+    cost-raised (links ts) = omega (arith, le, costs-raised ts)
+    cost-raised (rows bs) = omega (arith, le, costs_in_rows-raised bs)
+    cost-raised (voids n) = omega (arith, le)
+    cost-raised (bits xs) = omega (arith, le)
+    cost-raised (bytes xs) = omega (arith, le)
+    cost-raised (pairs xs) = omega (arith, le)
+    cost-raised (quads xs) = omega (arith, le)
+    cost-raised (octs xs) = omega (arith, le)
+
+    costs-raised : (ts : Trees) → costs less ts ≤ costs more ts
+    costs-raised no_trees = omega arith
+    costs-raised (tree t ts) = omega (arith, cost-raised t, costs-raised ts)
+
+    costs_in_rows-raised : (bs : Bodies) → costs_in_rows less bs ≤ costs_in_rows more bs
+    costs_in_rows-raised no_bodies = omega arith
+    costs_in_rows-raised (body ws ss bs) = omega (arith, costs-raised ss, costs_in_rows-raised bs)
+
+-- each content except the root's is named by a slot, which is a word of the content above it
+mutual
+  pub cost-doubled : (t : Tree) → cost 1 t ≤ 2 * cost 0 t + 1
+  cost-doubled nil = omega arith
+  cost-doubled (cap k) = omega arith
+  cost-doubled (node ws ss) = omega (arith, costs-doubled ss)
+  cost-doubled (links ts) = omega (arith, costs-doubled ts)
+  cost-doubled (rows bs) = omega (arith, costs_in_rows-doubled bs, row_words-le bs)
+  cost-doubled (voids n) = omega arith
+  cost-doubled (bits xs) = omega arith
+  cost-doubled (bytes xs) = omega arith
+  cost-doubled (pairs xs) = omega arith
+  cost-doubled (quads xs) = omega arith
+  cost-doubled (octs xs) = omega arith
+
+  costs-doubled : (ts : Trees) → costs 1 ts ≤ 2 * costs 0 ts + count ts
+  costs-doubled no_trees = omega arith
+  costs-doubled (tree t ts) = omega (arith, cost-doubled t, costs-doubled ts)
+
+  costs_in_rows-doubled : (bs : Bodies) → costs_in_rows 1 bs ≤ 2 * costs_in_rows 0 bs + row_words bs
+  costs_in_rows-doubled no_bodies = omega arith
+  costs_in_rows-doubled (body ws ss bs) = omega (arith, costs-doubled ss, costs_in_rows-doubled bs)
+
+-- a value that fits is counted to the end, by either tariff
+pub affordable : (tariff : Tariff) (t : Tree) → Fits t → cost (base tariff) t + 1 ≤ dear
+affordable Strict t h = let cheap = (fit_parts t h).cheap in omega (arith, cost-doubled t)
+affordable Plain t h = let cheap = (fit_parts t h).cheap in omega arith
+
+-- by the plain one it costs at most what a value may
+pub plainly_cheap : (tariff : Tariff) (t : Tree) → Fits t → tariff ≡ Plain → cost (base tariff) t ≤ most_cost
+plainly_cheap Plain t h e = (fit_parts t h).cheap
+plainly_cheap Strict t h e = absurd cc

@@ -1,0 +1,3 @@
+-- What no public clause cites.
+pub mod CutCopy
+pub mod SameTest

@@ -1,0 +1,217 @@
+-- The value at the root of an accepted message fits, costs at most what was paid, and is no higher than the depth
+-- limit.
+use Rattle.std.proofs.Common.{◌≡◌, inl, inr, ℕ, suc, ◌+◌, ◌*◌, ◌^◌, ◌<◌, ◌≤◌, ◌==◌, ◌&&◌, ◌||◌, Bool, true, false, List}
+use Rattle.std.proofs.Common.{[], ◌∷◌, length, refl, ap, arith}
+use Rattle.std.proofs.lemmas.Bool.{or_from, and_from, and_parts, eqb-true, eq-eqb, le-ltb, not_from_true}
+use Rattle.capn_words.specs.declared.space.Place.{Place}
+use Rattle.capn_words.specs.declared.pointer.Width.TheVariants.{W0, W1, W8, W16, W32, W64, Link}
+use Rattle.capn_value.specs.Tree.{Tree, nil, node, voids, bits, bytes, pairs, quads, octs, links, rows, cap, Trees}
+use Rattle.capn_value.specs.Tree.{no_trees, tree, Bodies, no_bodies, body, count, count_rows, row_words}
+use Rattle.capn_value.specs.Sizes.{cost, costs, costs_in_rows, rows_price, height, most_cost, most_height}
+use Rattle.capn_value.specs.Fits.{Fits, anywhere, anywhere_in, anywhere_in_rows, is_wide, is_wide_body, has_wide_row}
+use Rattle.capn_value.specs.Fits.{is_long, is_ragged, are_even, is_root, elements, words_in_rows}
+use Rattle.capn_value.proofs.shared.Fitting.{fit_from}
+use Rattle.capn_value.proofs.shared.Tariffs.{cost-raised}
+use Rattle.capn_value.proofs.shared.Trimmed.{words-or_none}
+use Rattle.capn_value.proofs.shared.Prices.{rows_price-none}
+use Rattle.capn_walk.specs.declared.target.Shape.TheVariants as shapes
+use Rattle.capn_walk.specs.declared.target.Fault.TheVariants as faults
+use Rattle.capn_walk.specs.Visits.{fails, visits}
+use Rattle.capn_walk.specs.Stops.{AllPay, IsWithin, paid_of, root, visits_at_root, root_visits}
+use Rattle.capn_walk.specs.At.{IsAt, AreAt, RowsAt}
+use Rattle.capn_walk.proofs.shared.Inside.{inside}
+use Rattle.capn_walk.proofs.shared.Ranges.{room-of}
+use Rattle.capn_walk.proofs.shared.Costs.{cost-paid}
+
+-- ---- the tests of one part
+
+not-wide : (ws : List ℕ) (ss : Trees) → length ws < 2 ^ 16 → count ss < 2 ^ 16 → is_wide_body ws ss ≡ false
+not-wide ws ss a b = or_from _ _ (le-ltb 65535 (length ws) (omega arith)) (le-ltb 65535 (count ss) (omega arith))
+
+not-long : (t : Tree) → elements t < 2 ^ 29 → words_in_rows t < 2 ^ 29 → is_long t ≡ false
+not-long t a b =
+    or_from _ _ (le-ltb 536870911 (elements t) (omega arith)) (le-ltb 536870911 (words_in_rows t) (omega arith))
+
+-- what rows at a place are: narrow if their sizes are, even, and of a + b words each
+record Rows (a b : ℕ) (bs : Bodies) : Type 0 where
+  narrow : has_wide_row bs ≡ false
+  even : are_even a b bs ≡ true
+  words : row_words bs ≡ count_rows bs * (a + b)
+
+not-ragged : (a b : ℕ) (bs : Bodies) → are_even a b bs ≡ true → is_ragged (rows bs) ≡ false
+not-ragged a b no_bodies h = refl
+not-ragged a b (body ws ss bs) h = not_from_true _ (even-first a b ws ss bs h)
+  where
+    even-first : (a b : ℕ) (ws : List ℕ) (ss : Trees) (bs : Bodies) → are_even a b (body ws ss bs) ≡ true
+        → are_even (length ws) (count ss) bs ≡ true
+    even-first a b ws ss bs h =
+        let p = and_parts ((length ws == a) && (count ss == b)) (are_even a b bs) h in
+        let q = and_parts (length ws == a) (count ss == b) p.0 in
+        let x = eqb-true (length ws) a q.0 in
+        let y = eqb-true (count ss) b q.1 in
+        rw (x, y) p.1
+
+module _ (m : List (List ℕ)) where
+  rows-of : (bs : Bodies) (a b s w : ℕ) → a < 2 ^ 16 → b < 2 ^ 16 → RowsAt m a b s w bs → Rows a b bs
+  rows-of no_bodies a b s w ha hb h = record { narrow = refl; even = refl; words = omega arith }
+  rows-of (body ws ss bs) a b s w ha hb h =
+      let rest = rows-of bs a b s (w + a + b) ha hb h.4 in
+      let la = h.0 in
+      let lb = h.1 in
+      let n = rest.words in
+      let k : suc (count_rows bs) * (a + b) ≡ a + b + count_rows bs * (a + b) = omega arith in
+      record {
+        narrow = or_from _ _ (not-wide ws ss (omega arith) (omega arith)) rest.narrow;
+        even = and_from _ _ (and_from _ _ (eq-eqb _ _ la) (eq-eqb _ _ lb)) rest.even;
+        words = omega arith;
+      }
+
+  -- rows that cost few words are few, also where they have none
+  few-rows : (bs : Bodies) → is_ragged (rows bs) ≡ false → row_words bs < 2 ^ 29 → rows_price bs < 2 ^ 29
+      → count_rows bs < 2 ^ 29
+  few-rows bs e w p =
+      elim (words-or_none bs e) as (λ _. count_rows bs < 2 ^ 29)
+      [ inl z ↦ omega (arith, rows_price-none bs z) | inr l ↦ omega arith ]
+
+  -- ---- the parts that a value's fitness has at every level
+
+  -- none of the three is found
+  record Parts (wide long ragged : Bool) : Type 0 where
+    narrow : wide ≡ false
+    short : long ≡ false
+    even : ragged ≡ false
+
+  joined : (a b c d e f : Bool) → a ≡ false → b ≡ false → c ≡ false → Parts d e f → Parts (a || d) (b || e) (c || f)
+  joined a b c d e f x y z p =
+      record { narrow = or_from _ _ x p.narrow; short = or_from _ _ y p.short; even = or_from _ _ z p.even }
+
+  module _ (base : ℕ) where
+    mutual
+      parts : (v : Tree) (at : Place) → cost base v < 2 ^ 29 → IsAt m at v
+          → Parts (anywhere is_wide v) (anywhere is_long v) (anywhere is_ragged v)
+      parts nil at l h = record { narrow = refl; short = refl; even = refl }
+      parts (cap k) at l h = record { narrow = refl; short = refl; even = refl }
+      parts (node ws ss) at l h =
+          let r = room-of m at h.segment h.start h.pads (shapes.Node (length ws) (count ss)) h.is in
+          joined _ _ _ _ _ _ (not-wide ws ss r.0 r.1) refl refl
+          (parts-slots ss h.segment (h.start + length ws) (omega arith) h.inside.1)
+      parts (voids n) at l h =
+          let r = room-of m at h.segment h.start h.pads (shapes.Many W0 n) h.is in
+          record { narrow = refl; short = not-long (voids n) r (omega arith); even = refl }
+      parts (bits xs) at l h =
+          let r = room-of m at h.segment h.start h.pads (shapes.Many W1 (length xs)) h.is in
+          record { narrow = refl; short = not-long (bits xs) r (omega arith); even = refl }
+      parts (bytes xs) at l h =
+          let r = room-of m at h.segment h.start h.pads (shapes.Many W8 (length xs)) h.is in
+          record { narrow = refl; short = not-long (bytes xs) r (omega arith); even = refl }
+      parts (pairs xs) at l h =
+          let r = room-of m at h.segment h.start h.pads (shapes.Many W16 (length xs)) h.is in
+          record { narrow = refl; short = not-long (pairs xs) r (omega arith); even = refl }
+      parts (quads xs) at l h =
+          let r = room-of m at h.segment h.start h.pads (shapes.Many W32 (length xs)) h.is in
+          record { narrow = refl; short = not-long (quads xs) r (omega arith); even = refl }
+      parts (octs xs) at l h =
+          let r = room-of m at h.segment h.start h.pads (shapes.Many W64 (length xs)) h.is in
+          record { narrow = refl; short = not-long (octs xs) r (omega arith); even = refl }
+      parts (links ts) at l h =
+          let r = room-of m at h.segment h.start h.pads (shapes.Many Link (count ts)) h.is in
+          joined _ _ _ _ _ _ refl (not-long (links ts) r (omega arith)) refl
+          (parts-slots ts h.segment h.start (omega arith) h.inside)
+      parts (rows bs) at l h =
+          let a = h.0 in
+          let b = h.1 in
+          let span = h.2 in
+          let n = h.3 in
+          let r = room-of m at n.segment n.start n.pads (shapes.Rows (count_rows bs) a b span) n.is in
+          let fit = (inside m at n.segment n.start n.pads (shapes.Rows (count_rows bs) a b span) n.is).1 in
+          let rs = rows-of bs a b n.segment (suc n.start) r.1 r.2 n.inside in
+          let e = not-ragged a b bs rs.even in
+          let k = rs.words in
+          let s = r.3 in
+          let w : row_words bs < 2 ^ 29 = omega arith in
+          let c : count_rows bs < 2 ^ 29 = few-rows bs e w (omega arith) in
+          joined _ _ _ _ _ _ rs.narrow (not-long (rows bs) c w) e
+          (parts-rows bs a b n.segment (suc n.start) (omega arith) n.inside)
+
+      parts-slots : (ts : Trees) (s w : ℕ) → costs base ts < 2 ^ 29 → AreAt m s w ts →
+          Parts (anywhere_in is_wide ts) (anywhere_in is_long ts) (anywhere_in is_ragged ts)
+      parts-slots no_trees s w l h = record { narrow = refl; short = refl; even = refl }
+      parts-slots (tree t ts) s w l h =
+          let p = parts t (record { segment = s; word = w }) (omega arith) h.0 in
+          joined _ _ _ _ _ _ p.narrow p.short p.even (parts-slots ts s (suc w) (omega arith) h.1)
+
+      parts-rows : (bs : Bodies) (a b s w : ℕ) → costs_in_rows base bs < 2 ^ 29 → RowsAt m a b s w bs →
+          Parts (anywhere_in_rows is_wide bs) (anywhere_in_rows is_long bs) (anywhere_in_rows is_ragged bs)
+      parts-rows no_bodies a b s w l h = record { narrow = refl; short = refl; even = refl }
+      parts-rows (body ws ss bs) a b s w l h =
+          let p = parts-slots ss s (w + a) (omega arith) h.3 in
+          joined _ _ _ _ _ _ p.narrow p.short p.even (parts-rows bs a b s (w + a + b) (omega arith) h.4)
+
+    -- ---- the root
+
+    -- a value at the root, where no visit is a fault, is no capability, and the root's visits are those of its slot
+    pub record Root (depth : ℕ) (v : Tree) : Type 0 where
+      pub kind : is_root v ≡ true
+      pub all : AllPay (visits m base depth root)
+      pub same : root_visits m base depth ≡ visits m base depth root
+
+    module _ (depth : ℕ) where
+      as-it-is : (v : Tree) → is_root v ≡ true → root_visits m base depth ≡ visits m base depth root
+          → AllPay (root_visits m base depth) → Root depth v
+      as-it-is v k e h = record { kind = k; all = rw e at h; same = e }
+
+      refused-root : (v : Tree) → root_visits m base depth ≡ fails root faults.RootKind ∷ []
+          → AllPay (root_visits m base depth) → Root depth v
+      refused-root v e h = let f = rw e at h in absurd f
+
+      pub root-of : (v : Tree) → IsAt m root v → AllPay (root_visits m base depth) → Root depth v
+      unfolding root_visits
+      root-of nil h = as-it-is nil refl (ap (λ r. visits_at_root m base r (visits m base depth root)) h)
+      root-of (node ws ss) h =
+          as-it-is (node ws ss) refl (ap (λ r. visits_at_root m base r (visits m base depth root)) h.is)
+      root-of (cap k) h = refused-root (cap k) (ap (λ r. visits_at_root m base r (visits m base depth root)) h)
+      root-of (voids n) h = as-it-is (voids n) refl (ap (λ r. visits_at_root m base r (visits m base depth root)) h.is)
+      root-of (bits xs) h = as-it-is (bits xs) refl (ap (λ r. visits_at_root m base r (visits m base depth root)) h.is)
+      root-of (bytes xs) h =
+          as-it-is (bytes xs) refl (ap (λ r. visits_at_root m base r (visits m base depth root)) h.is)
+      root-of (pairs xs) h =
+          as-it-is (pairs xs) refl (ap (λ r. visits_at_root m base r (visits m base depth root)) h.is)
+      root-of (quads xs) h =
+          as-it-is (quads xs) refl (ap (λ r. visits_at_root m base r (visits m base depth root)) h.is)
+      root-of (octs xs) h = as-it-is (octs xs) refl (ap (λ r. visits_at_root m base r (visits m base depth root)) h.is)
+      root-of (links ts) h =
+          as-it-is (links ts) refl (ap (λ r. visits_at_root m base r (visits m base depth root)) h.is)
+      root-of (rows bs) h =
+          as-it-is (rows bs) refl (ap (λ r. visits_at_root m base r (visits m base depth root)) h.3.is)
+
+      -- the cost of the value at the root is at most what its visits pay, its height at most the depth limit
+      pub root-costs : (v : Tree) → IsAt m root v → AllPay (root_visits m base depth)
+          → (cost base v ≤ paid_of (root_visits m base depth)) × (height v ≤ depth)
+      root-costs v h a =
+          let r = root-of v h a in
+          let c = cost-paid m base v root depth h r.all in
+          let e = ap paid_of r.same in
+          let x = c.0 in
+          let y = c.1 in
+          (omega arith, y)
+
+  -- the value at the root of a message accepted under limits in their ranges fits
+  pub fits-root : (base budget depth : ℕ) (v : Tree) → budget ≤ most_cost → depth ≤ most_height
+      → IsWithin budget (root_visits m base depth) → IsAt m root v → Fits v
+  fits-root base budget depth v lb ld w h =
+      let r = root-of base depth v h w.all in
+      let c = root-costs base depth v h w.all in
+      let plain : cost 0 v ≤ cost base v = cost-raised 0 base (omega arith) v in
+      let x = c.0 in
+      let y = c.1 in
+      let z = w.paid in
+      let p = parts base v root (omega arith) h in
+      fit_from v (record {
+        narrow = p.narrow;
+        short = p.short;
+        even = p.even;
+        cheap = omega arith;
+        low =
+            omega arith;
+        root = r.kind;
+      })

@@ -1,0 +1,5 @@
+-- What no public clause cites.
+pub mod SlotsLeft
+pub mod IndexRoom
+pub mod Outcomes
+pub mod Verdict

@@ -1,0 +1,81 @@
+-- What the inner functions of surveys and walks answer, by cases: what they found, with what it pays and its visits, or
+-- a refusal.
+use Rattle.std.specs.Prelude.{◌≡◌, ◌≢◌, ℕ, ◌-◌, ◌*◌, ◌<◌, ◌≤◌, List, ◌∷◌, Result, Ok, Err}
+use Rattle.capn_words.specs.declared.space.Place.{Place}
+use Rattle.capn_value.specs.Tree.{count, count_rows}
+use Rattle.capn_value.specs.View.{tree_of, trees_of, rows_of}
+use Rattle.capn_walk.specs.declared.found.Found.{Found}
+use Rattle.capn_walk.specs.declared.found.FoundRows.{FoundRows}
+use Rattle.capn_walk.specs.declared.found.FoundSlots.{FoundSlots}
+use Rattle.capn_walk.specs.declared.target.Shape.{Shape}
+use Rattle.capn_walk.specs.declared.target.Fault.{Fault}
+use Rattle.capn_walk.specs.declared.target.Fault.TheVariants as faults
+use Rattle.capn_walk.specs.declared.surveyed.Surveyed.{Surveyed}
+use Rattle.capn_walk.specs.declared.visited.Visited.{Visited}
+use Rattle.capn_walk.specs.declared.walked.Stopped.{Stopped}
+use Rattle.capn_walk.specs.At.{IsAt, AreAt, RowsAt, IsInside}
+use Rattle.capn_walk.specs.inner.SlotsLeft.{Lies, owed, places_of}
+use Rattle.capn_walk.specs.Shapes.{slot_count}
+use Rattle.capn_walk.specs.Surveyed.{cap_of, first_cap_of}
+use Rattle.capn_walk.specs.Target.{target}
+use Rattle.capn_walk.specs.inner.Verdict.{Gives, Refuses, judge, refused}
+use Rattle.capn_walk.specs.Visits.{Visit, pays, places, row_places, slots, visits, visits_of}
+
+-- ---- a survey
+
+module _ (message : List (List ℕ)) (base depth left : ℕ) where
+  -- one visit that is paid: its price, the capability that it meets, and the slots below it
+  pub record IsVisit (at : Place) (v : Visited) : Type 0 where
+    pub visits : visits message base depth at ≡ pays at v.price ∷ visits_of message base (depth - 1) (places_of v.below)
+    pub price : v.price ≤ left
+    pub capability : cap_of (target message at) ≡ v.capability
+    pub below : Lies message v.below
+    pub deep : 0 < owed v.below → 0 < depth
+    pub owed : owed v.below ≤ v.price
+
+  -- one that is refused
+  pub record IsRefusal (at : Place) (e : Fault) : Type 0 where
+    pub refused : judge left (visits message base depth at) ≡ refused e at 0 1
+    pub memory : e ≢ faults.Memory
+
+  -- one visit of a slot, without its value
+  abbrev pub Visits : Place → Result Visited Fault → Type 0
+  Visits at (Ok v) = IsVisit at v
+  Visits at (Err e) = IsRefusal at e
+
+-- the visits of n slots, with all below them: what they pay, how many they are, and the first capability
+abbrev pub Tells : List (List ℕ) → ℕ → ℕ → List Visit → Result Surveyed Stopped → Type 0
+Tells message left n vs (Ok s) = Gives left vs n s.paid s.visits × (first_cap_of message vs ≡ s.capability)
+Tells message left n vs (Err s) = Refuses left vs n s
+
+-- ---- a walk
+
+module _ {A : Type 0} (message : List (List ℕ)) (base depth left : ℕ) where
+  -- a slot: the value at its place
+  abbrev pub Walks : Place → Result (Found A) Stopped → Type 0
+  Walks at (Ok f) = Gives left (visits message base depth at) 1 f.paid f.visits × IsAt message at (tree_of f.value)
+  Walks at (Err s) = Refuses left (visits message base depth at) 1 s
+
+  -- an object of a shape, whose own price has been paid: the value inside it
+  abbrev pub WalksObject : Shape → Place → Result (Found A) Stopped → Type 0
+  WalksObject shape start (Ok f) =
+      Gives left (visits_of message base depth (slots start.segment start.word shape))
+      (slot_count shape) f.paid f.visits
+      × IsInside message shape start.segment start.word (tree_of f.value)
+  WalksObject shape start (Err s) =
+      Refuses left (visits_of message base depth (slots start.segment start.word shape)) (slot_count shape) s
+
+  -- n slots, one after the other: their values
+  abbrev pub WalksSlots : ℕ → ℕ → ℕ → Result (FoundSlots A) Stopped → Type 0
+  WalksSlots segment start n (Ok f) =
+      Gives left (visits_of message base depth (places segment start n)) n f.paid f.visits
+      × AreAt message segment start (trees_of f.items) × (count (trees_of f.items) ≡ n)
+  WalksSlots segment start n (Err s) = Refuses left (visits_of message base depth (places segment start n)) n s
+
+  -- n rows of a words and b slots, one after the other: their bodies
+  abbrev pub WalksRows : Place → ℕ → ℕ → ℕ → Result (FoundRows A) Stopped → Type 0
+  WalksRows start a b n (Ok f) =
+      Gives left (visits_of message base depth (row_places start.segment start.word a b n)) (n * b) f.paid f.visits
+      × RowsAt message a b start.segment start.word (rows_of f.rows) × (count_rows (rows_of f.rows) ≡ n)
+  WalksRows start a b n (Err s) =
+      Refuses left (visits_of message base depth (row_places start.segment start.word a b n)) (n * b) s

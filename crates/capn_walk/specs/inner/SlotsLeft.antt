@@ -1,0 +1,51 @@
+-- The slots that a survey has still to visit: of one object, and of a stack of objects.
+use Rattle.std.specs.Prelude.{ℕ, ◌+◌, ◌-◌, ◌*◌, ◌<◌, ◌≤◌, List, [], ◌∷◌, ◌++◌, length, ⊤}
+use Rattle.capn_words.specs.declared.space.Place.{Place}
+use Rattle.capn_words.specs.Message.{segment_at}
+use Rattle.capn_walk.specs.declared.frame.Frame.{Frame}
+use Rattle.capn_walk.specs.declared.frame.Waiting.{Waiting}
+use Rattle.capn_walk.specs.Visits.{Visit, places, row_places, visits_of}
+
+-- the places of an object's slots that are left, in order
+abbrev pub places_of : Frame → List Place
+places_of f = places f.segment f.next f.left ++ row_places f.segment (f.next + f.left) f.words f.slots f.rows
+
+-- how many they are
+abbrev pub owed : Frame → ℕ
+owed f = f.left + f.rows * f.slots
+
+-- the word after the last of them
+abbrev pub end_of : Frame → ℕ
+end_of f = f.next + f.left + f.rows * (f.words + f.slots)
+
+-- rows that are left have slots
+abbrev pub HasRows : Frame → Type 0
+HasRows f = 0 < f.rows → 0 < f.slots
+
+-- the slots that are left lie inside their segment
+pub record Lies (message : List (List ℕ)) (f : Frame) : Type 0 where
+  pub within : end_of f ≤ length (segment_at message f.segment)
+  pub rows : HasRows f
+
+-- ---- a stack of objects that wait, the first one lowest
+
+-- how many slots are left of all
+abbrev pub owed_by : List Waiting → ℕ
+owed_by [] = 0
+owed_by (w ∷ ws) = owed w.frame + owed_by ws
+
+-- each may have as many objects below it as the limit leaves there, if each stands below the one before it
+abbrev pub AreShallow : ℕ → List Waiting → Type 0
+AreShallow limit [] = ⊤
+AreShallow limit (w ∷ ws) = (w.depth ≤ limit) × AreShallow (limit - 1) ws
+
+module _ (message : List (List ℕ)) where
+  -- the slots that are left of each lie inside their segment
+  abbrev pub AllLie : List Waiting → Type 0
+  AllLie [] = ⊤
+  AllLie (w ∷ ws) = Lies message w.frame × AllLie ws
+
+  -- the visits that are left, those of the last object first
+  abbrev pub visits_left : ℕ → List Waiting → List Visit
+  visits_left base [] = []
+  visits_left base (w ∷ ws) = visits_left base ws ++ visits_of message base w.depth (places_of w.frame)

@@ -1,0 +1,96 @@
+-- A message of one segment, read from its bytes in one way, or refused for one reason.
+use Rattle.std.proofs.Common.{◌≡◌, ℕ, zero, suc, ◌*◌, ◌/◌, ◌%◌, ◌^◌, ◌<◌, ◌≤◌, List, [], ◌∷◌, length, drop, slice_index}
+use Rattle.std.proofs.Common.{Err, refl, ap, sym, subst, ◌∙◌, arith}
+use Rattle.capn_words.specs.Limits.{most_words}
+use Rattle.capn_words.specs.Words.{word_number, words_in, bytes, AreBytes, AreWords, IsBare, ReadsBare}
+use Rattle.capn_words.specs.declared.bare.BareFault.{BareFault}
+use Rattle.capn_words.specs.declared.bare.BareFault.TheVariants.{NotWhole, TooLong}
+use Rattle.capn_words.specs.Message.{IsMessage, segment_at}
+use Rattle.capn_words.proofs.shared.Words.{length-words_in, word_in, words_below, bytes_of_words, length-bytes}
+use Rattle.capn_words.proofs.shared.Words.{words_of_bytes}
+
+-- whole words that are not too many are a segment
+pub bare_is : (bs : List ℕ) → AreBytes bs → length bs % 8 ≡ 0 → length bs / 8 ≤ most_words
+    → IsBare bs (words_in (length bs / 8) bs)
+bare_is bs h whole room = record {
+  same = sym (bytes_of_words (length bs / 8) bs h (omega arith));
+  each = words_below (length bs / 8) bs h;
+  room = rw (length-words_in (length bs / 8) bs) room;
+}
+
+-- bare bytes have 8 for each word
+pub bare_length : (bs ws : List ℕ) → IsBare bs ws → length bs ≡ 8 * length ws
+bare_length bs ws h = ap length h.same ∙ length-bytes ws
+
+-- bytes are those of one list of words at most
+pub bare_only : (bs ws : List ℕ) → IsBare bs ws → words_in (length bs / 8) bs ≡ ws
+bare_only bs ws h =
+    let n : length bs / 8 ≡ length ws = omega (arith, bare_length bs ws h) in
+    rw (n, h.same) (words_of_bytes ws h.each)
+
+-- bytes are read in one way
+pub one_bare : (bs vs ws : List ℕ) → IsBare bs vs → IsBare bs ws → vs ≡ ws
+one_bare bs vs ws h k = sym (bare_only bs vs h) ∙ bare_only bs ws k
+
+-- they are refused for one reason
+pub one_bare_fault : (bs : List ℕ) (e f : BareFault) → ReadsBare bs (Err e) → ReadsBare bs (Err f) → e ≡ f
+one_bare_fault bs (NotWhole m) (NotWhole n) r s = ap (λ (k : ℕ). NotWhole k) (r.0 ∙ sym s.0)
+one_bare_fault bs (NotWhole m) (TooLong n) r s = let l = s.0 in absurd (r.1 (omega arith))
+one_bare_fault bs (TooLong m) (NotWhole n) r s = let l = r.0 in absurd (s.1 (omega arith))
+one_bare_fault bs (TooLong m) (TooLong n) r s =
+    let l = r.0 in
+    let k = s.0 in
+    let same : m ≡ n = omega arith in
+    ap (λ (k : ℕ). TooLong k) same
+
+-- bytes that are read are not refused
+pub bare_not_refused : (bs ws : List ℕ) (e : BareFault) → IsBare bs ws → ReadsBare bs (Err e) → ⊥
+bare_not_refused bs ws (NotWhole n) h r = let l = bare_length bs ws h in r.1 (omega arith)
+bare_not_refused bs ws (TooLong n) h r =
+    let l = bare_length bs ws h in
+    let m = h.room in
+    let a = r.0 in
+    let b = r.1 in
+    absurd (omega arith)
+
+only_segment : (ws : List ℕ) → AreWords ws → (s k : ℕ) → slice_index (segment_at (ws ∷ []) s) k < 2 ^ 64
+only_segment ws each zero k = each k
+only_segment ws each (suc s) k = omega arith
+
+-- the one segment is a message
+pub bare_message : (ws : List ℕ) → AreWords ws → length ws ≤ most_words → IsMessage (ws ∷ [])
+bare_message ws each room = record {
+  some = omega arith;
+  few = omega arith;
+  room = omega arith;
+  each = only_segment ws each;
+}
+
+-- a place in range is in the one segment
+pub only_place : (ws : List ℕ) (s k : ℕ) → k < length (segment_at (ws ∷ []) s) → (s ≡ 0) × (k < length ws)
+only_place ws zero k h = (refl, h)
+only_place ws (suc s) k h = absurd (omega arith)
+
+-- a segment that exists is the one
+pub one_segment : (ws : List ℕ) (s : ℕ) → s < length (ws ∷ []) → s ≡ 0
+one_segment ws s h = omega arith
+
+-- what the words that the bytes are seen as have to do with the bytes
+module _ (bs ws : List ℕ) (is : words_in (length bs / 8) bs ≡ ws) where
+  -- a word for each 8 bytes
+  pub seen_length : length ws ≡ length bs / 8
+  seen_length = ap length (sym is) ∙ length-words_in (length bs / 8) bs
+
+  -- word k is read from its 8 bytes
+  pub seen_word : (k : ℕ) → k < length ws → slice_index ws k ≡ word_number (drop (8 * k) bs)
+  seen_word k h = ap (λ (xs : List ℕ). slice_index xs k) (sym is)
+      ∙ word_in (length bs / 8) k bs (omega (arith, seen_length))
+
+  -- they are a message of one segment
+  pub seen_message : AreBytes bs → length bs / 8 ≤ most_words → IsMessage (ws ∷ [])
+  seen_message h room =
+      bare_message ws (subst AreWords is (words_below (length bs / 8) bs h)) (omega (arith, seen_length))
+
+  -- whose bytes are the bytes
+  pub seen_bytes : AreBytes bs → length bs % 8 ≡ 0 → bytes ws ≡ bs
+  seen_bytes h whole = ap bytes (sym is) ∙ bytes_of_words (length bs / 8) bs h (omega arith)
