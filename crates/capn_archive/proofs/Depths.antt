@@ -5,8 +5,8 @@ use Rattle.capn_walk.specs.Limits.{Bounds}
 use Rattle.capn_walk.specs.Laws.{Apart}
 use Rattle.capn_walk.specs.Accepted.{IsAccepted, IsRefused}
 use Rattle.capn_walk.specs.Surveyed.{IsSurvey}
-use Rattle.capn_walk.specs.declared.surveyed.Surveyed.{Surveyed}
-use Rattle.capn_walk.specs.declared.walked.Stopped.{Stopped}
+use Rattle.capn_walk.specs.declared.survey_answer.Surveyed.{Surveyed}
+use Rattle.capn_walk.specs.declared.walk_answer.Stopped.{Stopped}
 use Rattle.capn_walk.specs.declared.target.Fault.TheVariants as faults
 use Rattle.capn_archive.specs.Depth.{at_depth}
 

@@ -4,9 +4,8 @@ use Rattle.capn_walk.specs.declared.target.Target.{Target}
 use Rattle.capn_walk.specs.declared.target.Target.TheVariants as targets
 use Rattle.capn_walk.specs.declared.target.Fault.{Fault}
 use Rattle.capn_walk.specs.Target.{target}
-use Rattle.capn_walk.specs.Stops.{root}
+use Rattle.capn_walk.specs.Accepted.{root, IsAccepted}
 use Rattle.capn_walk.specs.Limits.{Bounds}
-use Rattle.capn_walk.specs.Accepted.{IsAccepted}
 
 -- the same limits with another depth
 abbrev pub at_depth : Bounds → ℕ → Bounds

@@ -1,12 +1,12 @@
 pub mod inner
-pub mod Framed
+pub mod CanonicalFrame
 pub mod Depth
-pub mod Message
+pub mod Findings
 pub mod Lines
 pub mod Digest
 pub mod Tally
 pub mod Tasks
 pub mod Finish
-pub mod Archived
+pub mod ArchiveRun
 pub mod Sieve
-pub mod Uniq
+pub mod UniqRun

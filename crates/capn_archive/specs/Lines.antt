@@ -5,7 +5,7 @@ use Rattle.hex.specs.Hex.{encode_lower}
 use Rattle.capn_value.specs.declared.tariff.Tariff.{Tariff}
 use Rattle.capn_value.specs.declared.tariff.Tariff.TheVariants as tariffs
 use Rattle.capn_canon.specs.declared.refusal.Refusal.{Refusal}
-use Rattle.capn_canon.specs.Told.{refusal_text}
+use Rattle.capn_canon.specs.Display.{refusal_text}
 use Rattle.capn_archive.specs.declared.head.Head.{Head}
 use Rattle.capn_archive.specs.declared.findings.Findings.{Findings}
 use Rattle.capn_archive.specs.declared.tally.Greatest.{Greatest}

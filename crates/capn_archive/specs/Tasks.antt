@@ -5,21 +5,21 @@ use Rattle.capn_words.specs.Message.{total}
 use Rattle.capn_walk.specs.Limits.{Bounds}
 use Rattle.capn_walk.specs.Accepted.{IsAccepted, paid}
 use Rattle.capn_canon.specs.Denotes.{AnswersMessage}
-use Rattle.capn_canon.specs.Refused.{IsRefusedMessage, IsUnaccepted}
+use Rattle.capn_canon.specs.Refusal.{IsRefusedMessage, IsUnaccepted}
 use Rattle.capn_canon.specs.declared.refusal.Refusal.{Refusal}
 use Rattle.capn_canon.specs.declared.refusal.Refusal.TheVariants as refusals
 use Rattle.capn_serve.specs.declared.position.Position.{Position}
 use Rattle.capn_serve.specs.declared.fault.ServeFault.{ServeFault}
 use Rattle.capn_serve.specs.declared.fault.ServeFault.TheVariants as faults
-use Rattle.capn_archive.specs.declared.order.Task.{Task}
-use Rattle.capn_archive.specs.declared.order.Task.TheVariants as tasks
-use Rattle.capn_archive.specs.declared.order.Archive.{Archive}
+use Rattle.capn_archive.specs.declared.task.Task.{Task}
+use Rattle.capn_archive.specs.declared.task.Task.TheVariants as tasks
+use Rattle.capn_archive.specs.declared.task.Archive.{Archive}
 use Rattle.capn_archive.specs.declared.findings.Findings.{Findings}
 use Rattle.capn_archive.specs.declared.tally.Tally.{Tally}
 use Rattle.capn_archive.specs.declared.archivist.Archivist.{Archivist}
-use Rattle.capn_archive.specs.Framed.{framed}
+use Rattle.capn_archive.specs.CanonicalFrame.{framed}
 use Rattle.capn_archive.specs.Depth.{IsDepth}
-use Rattle.capn_archive.specs.Message.{head_of, AreFindings}
+use Rattle.capn_archive.specs.Findings.{head_of, AreFindings}
 use Rattle.capn_archive.specs.Digest.{IsDigestIfAny}
 use Rattle.capn_archive.specs.Lines.{digests_line, list_line, refused_line}
 use Rattle.capn_archive.specs.Tally.{counted, skipped}

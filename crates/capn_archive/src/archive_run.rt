@@ -1,15 +1,15 @@
 //! A run over an archive, from its first byte to its last.
 
 ghost use Rattle.std.specs.Prelude.{◌≡◌, false};
-ghost use Rattle.capn_words.specs.Watching.{inner_of, has_failed};
-ghost use Rattle.capn_archive.specs.Archived as spec;
-ghost use Rattle.capn_archive.specs.Archived.{Archived};
+ghost use Rattle.capn_words.specs.Watched.{inner_of, has_failed};
+ghost use Rattle.capn_archive.specs.ArchiveRun as spec;
+ghost use Rattle.capn_archive.specs.ArchiveRun.{Archived};
 ghost use Rattle.capn_serve.specs.FormRun.{ServesMessages};
 
 use crate::archivist::Archivist;
-use crate::closing::{fault_of, outcome, write_closing};
+use crate::end_of_archive::{fault_of, outcome, write_closing};
 use crate::fault::ArchiveFault;
-use crate::order::Archive;
+use crate::task::Archive;
 use crate::tally::no_tally;
 use capn_serve::{Position, Run, RunFault, serve_form};
 use capn_words::Watched;

@@ -3,16 +3,16 @@
 ghost use Rattle.std.specs.Prelude.{◌≡◌, ◌≢◌, ℕ, List};
 ghost use Rattle.capn_canon.specs.declared.refusal.Refusal.TheVariants as refusals;
 ghost use Rattle.capn_archive.specs.Tasks.{Serves, Skips};
-ghost use Rattle.capn_archive.specs.declared.order.Task.TheVariants as tasks;
+ghost use Rattle.capn_archive.specs.declared.task.Task.TheVariants as tasks;
 ghost use Rattle.capn_serve.specs.declared.position.Position.{Position};
 ghost use Rattle.capn_archive.specs.declared.tally.Tally.{Tally};
 
 use crate::digest::digest_if_any;
 use crate::findings::findings_of;
-use crate::framing::put_frame;
+use crate::canonical_frame::put_frame;
 use crate::head::head_of;
 use crate::lines::{put_digests_line, put_list_line, put_refused_line};
-use crate::order::{Archive, Task};
+use crate::task::{Archive, Task};
 use crate::tally::{Tally, count, skip};
 use capn_canon::{Refusal, canonical_of};
 use capn_serve::{Position, ServeFault, Service};

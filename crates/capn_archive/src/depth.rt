@@ -2,8 +2,7 @@
 
 ghost use Rattle.std.specs.Prelude.{◌≡◌, ◌↔◌, ◌≤◌, IfOk, IsTrue};
 ghost use Rattle.capn_words.specs.Message.{IsPlace};
-ghost use Rattle.capn_walk.specs.Accepted.{IsAccepted};
-ghost use Rattle.capn_walk.specs.Stops.{root};
+ghost use Rattle.capn_walk.specs.Accepted.{IsAccepted, root};
 ghost use Rattle.capn_walk.specs.Target.{target};
 ghost use Rattle.capn_archive.specs.Depth as spec;
 ghost use Rattle.capn_archive.specs.Depth.{IsDepth, IsLeastDepth, is_null};

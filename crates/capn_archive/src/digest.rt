@@ -1,6 +1,6 @@
 //! The digest of a message.
 
-ghost use Rattle.capn_canon.specs.Refused.{IsUnaccepted};
+ghost use Rattle.capn_canon.specs.Refusal.{IsUnaccepted};
 ghost use Rattle.capn_archive.specs.Digest.{IsDigest, IsDigestIfAny, IsUndigested};
 ghost use Rattle.capn_archive.specs.Tasks.{Finds};
 

@@ -1,8 +1,8 @@
 //! What is found of a message that is accepted.
 
 ghost use Rattle.std.specs.Prelude.{◌≡◌, ◌≢◌, [], ◌∷◌, length, IfSome, IfNone};
-ghost use Rattle.capn_canon.specs.Refused.{IsUnaccepted};
-ghost use Rattle.capn_archive.specs.Message.{IsChecked, AreFindings};
+ghost use Rattle.capn_canon.specs.Refusal.{IsUnaccepted};
+ghost use Rattle.capn_archive.specs.Findings.{IsChecked, AreFindings};
 ghost use Rattle.capn_archive.specs.Tasks.{Finds};
 
 use crate::depth::depth_of;

@@ -2,7 +2,7 @@
 
 ghost use Rattle.std.specs.Prelude.{◌≡◌};
 ghost use Rattle.capn_words.specs.Message.{total};
-ghost use Rattle.capn_archive.specs.Message as spec;
+ghost use Rattle.capn_archive.specs.Findings as spec;
 
 use capn_serve::{Position, number_of};
 use capn_words::Space;

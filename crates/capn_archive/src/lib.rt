@@ -8,18 +8,18 @@
 
 mod archive_run;
 mod archivist;
-mod closing;
+mod canonical_frame;
 mod depth;
 mod digest;
+mod end_of_archive;
 mod fault;
 mod findings;
-mod framing;
 mod head;
 mod lines;
 mod needs;
-mod order;
 mod sieve;
 mod tally;
+mod task;
 mod uniq;
 mod uniq_run;
 
@@ -29,7 +29,7 @@ pub use capn_serve::{
     Position, Run, RunFault, ServeFault, Service, run_bare, run_packed, run_stream,
 };
 pub use fault::{ArchiveFault, Passed};
-pub use order::{Archive, Task};
+pub use task::{Archive, Task};
 pub use sieve::Sieve;
 pub use uniq::Uniq;
 pub use uniq_run::run_uniq;

@@ -1,7 +1,7 @@
 //! The lines that are written of messages.
 
 ghost use Rattle.std.specs.Prelude.{◌≡◌, IfOk, IfErr, string_bytes};
-ghost use Rattle.capn_archive.specs.Framed.{PutsText};
+ghost use Rattle.capn_archive.specs.CanonicalFrame.{PutsText};
 ghost use Rattle.capn_archive.specs.Lines as spec;
 ghost use Rattle.capn_serve.specs.declared.fault.ServeFault.TheVariants as faults;
 

@@ -1,7 +1,7 @@
 //! The service that leaves doubles out.
 
 ghost use Rattle.std.specs.Prelude.{◌≡◌, length};
-ghost use Rattle.capn_archive.specs.Framed.{PutsText};
+ghost use Rattle.capn_archive.specs.CanonicalFrame.{PutsText};
 ghost use Rattle.capn_archive.specs.Sieve as spec;
 ghost use Rattle.capn_archive.specs.Sieve.{Notes, TriesToSift};
 

@@ -1,14 +1,14 @@
 //! A run that leaves doubles out, from its first byte to its last.
 
 ghost use Rattle.std.specs.Prelude.{◌≡◌, ℕ, false, IfOk, IfErr, string_bytes};
-ghost use Rattle.capn_words.specs.Watching.{inner_of, has_failed};
+ghost use Rattle.capn_words.specs.Watched.{inner_of, has_failed};
 ghost use Rattle.capn_archive.specs.inner.Closing.{PutsClosing};
 ghost use Rattle.capn_archive.specs.Finish.{outcome_by};
-ghost use Rattle.capn_archive.specs.Uniq as spec;
-ghost use Rattle.capn_archive.specs.Uniq.{Sieved};
+ghost use Rattle.capn_archive.specs.UniqRun as spec;
+ghost use Rattle.capn_archive.specs.UniqRun.{Sieved};
 ghost use Rattle.capn_serve.specs.declared.fault.RunFault.TheVariants as faults;
 
-use crate::closing::{fault_of, outcome};
+use crate::end_of_archive::{fault_of, outcome};
 use crate::fault::ArchiveFault;
 use crate::sieve::Sieve;
 use crate::uniq::Uniq;

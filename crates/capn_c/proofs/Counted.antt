@@ -7,10 +7,10 @@ use Rattle.capn_walk.specs.Limits.{Bounds}
 use Rattle.capn_walk.specs.Target.{target}
 use Rattle.capn_walk.specs.Visits.{Visit}
 use Rattle.capn_walk.specs.declared.entry.Entry.{Entry}
-use Rattle.capn_walk.specs.declared.surveyed.Surveyed.{Surveyed}
-use Rattle.capn_canon.specs.Surveys.{Surveys}
+use Rattle.capn_walk.specs.declared.survey_answer.Surveyed.{Surveyed}
+use Rattle.capn_canon.specs.SurveyedBytes.{Surveys}
 use Rattle.capn_canon.specs.declared.form.Form.{Form}
-use Rattle.capn_c.specs.Codes.{answered}
+use Rattle.capn_c.specs.StatusCodes.{answered}
 use Rattle.capn_c.specs.Entries.{HasEntries}
 use Rattle.capn_c.specs.declared.report.CapnReport.{CapnReport}
 

@@ -2,10 +2,9 @@
 use Rattle.std.proofs.Common.{◌≡◌, inl, inr, ℕ, ◌<◌, List, length, Result, Ok, Err, refl, arith}
 use Rattle.capn_words.specs.Message.{segment_at}
 use Rattle.capn_words.specs.declared.space.Place.{Place}
-use Rattle.capn_value.specs.Sizes.{base}
-use Rattle.capn_walk.specs.Accepted.{IsAccepted, IsRefused, visits_within}
+use Rattle.capn_value.specs.Cost.{base}
+use Rattle.capn_walk.specs.Accepted.{IsAccepted, IsRefused, visits_within, IsWithin, root, root_visits, visits_at_root}
 use Rattle.capn_walk.specs.Limits.{Bounds}
-use Rattle.capn_walk.specs.Stops.{IsWithin, root, root_visits, visits_at_root}
 use Rattle.capn_walk.specs.Target.{target}
 use Rattle.capn_walk.specs.Visits.{last_visit, visits}
 use Rattle.capn_walk.proofs.shared.Stops.{never-both}

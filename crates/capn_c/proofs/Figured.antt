@@ -2,13 +2,13 @@
 use Rattle.std.proofs.Common.{◌≡◌, ◌↔◌, ℕ, List, subst, sym, ◌∙◌}
 use Rattle.std.specs.Bool.{IsTrue}
 use Rattle.capn_walk.specs.Limits.{Bounds}
-use Rattle.capn_walk.specs.declared.surveyed.Surveyed.{Surveyed}
-use Rattle.capn_canon.specs.Surveys.{Surveys}
+use Rattle.capn_walk.specs.declared.survey_answer.Surveyed.{Surveyed}
+use Rattle.capn_canon.specs.SurveyedBytes.{Surveys}
 use Rattle.capn_canon.proofs.shared.OneReading.{one_message}
 use Rattle.capn_canon.specs.declared.form.Form.{Form}
 use Rattle.capn_c.specs.Figures.{AreMeasures, FiguresIn, IsDepth, MeasuresIn, told_cap}
 use Rattle.capn_c.specs.declared.figures.CapnFigures.{CapnFigures}
-use Rattle.capn_c.specs.declared.measuring.Measured.{Measured}
+use Rattle.capn_c.specs.declared.message_measures.Measured.{Measured}
 
 -- the figures are those that were surveyed and measured
 pub record AreOf (s : Surveyed) (q : Measured) (f : CapnFigures) : Type 0 where

@@ -3,17 +3,18 @@ use Rattle.std.proofs.Common.{◌≡◌, ◌≢◌, ◌⊎◌, ◌∙◌, refl, 
 use Rattle.std.proofs.Common.{sym, subst, arith}
 use Rattle.std.proofs.lemmas.Bool.Decides.{nat_tests}
 use Rattle.capn_stream.specs.Frames.{padding}
-use Rattle.capn_stream.specs.Framing.{IsUnfinished}
-use Rattle.capn_stream.specs.Reading.{HasCount, HasHead, announced_segments, announced_words, frame_length, head_length}
+use Rattle.capn_stream.specs.StreamPieces.{IsUnfinished}
+use Rattle.capn_stream.specs.FrameRefusal.{HasCount, HasHead, announced_segments, announced_words, frame_length}
+use Rattle.capn_stream.specs.FrameRefusal.{head_length}
 use Rattle.capn_stream.proofs.shared.Longer.{segments-append, words-append}
 use Rattle.capn_stream.proofs.shared.Wanting.{frame_whole}
-use Rattle.capn_stream.specs.Reading.{IsRefused}
+use Rattle.capn_stream.specs.FrameRefusal.{IsRefused}
 use Rattle.capn_stream.specs.declared.fault.FrameFault.{FrameFault}
 use Rattle.capn_stream.specs.declared.fault.FrameFault.TheVariants as frame
 use Rattle.capn_c.specs.declared.report.CapnReport.{CapnReport}
-use Rattle.capn_c.specs.Codes.{frame_code}
-use Rattle.capn_c.specs.Framed.{TellsFrame}
-use Rattle.capn_c.specs.Needed.{IsNeeded, needed}
+use Rattle.capn_c.specs.StatusCodes.{frame_code}
+use Rattle.capn_c.specs.FrameReport.{TellsFrame}
+use Rattle.capn_c.specs.FrameNeed.{IsNeeded, needed}
 
 padding_le : (count : ℕ) → padding count ≤ 4
 padding_le count = grind (arith, nat_tests)

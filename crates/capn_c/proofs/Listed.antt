@@ -2,10 +2,10 @@
 use Rattle.std.proofs.Common.{◌≡◌, ℕ, List, IsTrue, false, refl}
 use Rattle.capn_pack.specs.declared.fault.UnpackFault.{UnpackFault}
 use Rattle.capn_pack.specs.declared.fault.UnpackFault.TheVariants as packed
-use Rattle.capn_pack.specs.Refusal as packs
+use Rattle.capn_pack.specs.UnpackRefusal as packs
 use Rattle.capn_stream.specs.declared.fault.FrameFault.{FrameFault}
 use Rattle.capn_stream.specs.declared.fault.FrameFault.TheVariants as frame
-use Rattle.capn_stream.specs.Reading as frames
+use Rattle.capn_stream.specs.FrameRefusal as frames
 use Rattle.capn_words.specs.declared.bare.BareFault.{BareFault}
 use Rattle.capn_words.specs.declared.bare.BareFault.TheVariants as bare
 use Rattle.capn_walk.specs.declared.target.Fault.{Fault}
@@ -15,8 +15,8 @@ use Rattle.capn_canon.specs.declared.form.Form.{Form}
 use Rattle.capn_canon.specs.declared.form.Form.TheVariants as forms
 use Rattle.capn_canon.specs.declared.refusal.Refusal.{Refusal}
 use Rattle.capn_canon.specs.declared.refusal.Refusal.TheVariants as refusals
-use Rattle.capn_canon.specs.Refused.{IsRefused, IsMisframed}
-use Rattle.capn_c.specs.Codes.{is_status, bare_code, packed_code, frame_code, walk_code, code}
+use Rattle.capn_canon.specs.Refusal.{IsRefused, IsMisframed}
+use Rattle.capn_c.specs.StatusCodes.{is_status, bare_code, packed_code, frame_code, walk_code, code}
 
 pub bare_listed : (e : BareFault) → IsTrue (is_status (bare_code e))
 bare_listed (bare.NotWhole n) = refl

@@ -3,18 +3,17 @@ use Rattle.std.proofs.Common.{◌≡◌, ◌↔◌, ℕ, ◌*◌, List, [], ◌�
 use Rattle.std.proofs.Common.{Option, Some, None}
 use Rattle.std.specs.Option.{unwrap_or}
 use Rattle.std.proofs.lemmas.List.{take_all}
-use Rattle.capn_words.specs.Message.{IsMessage, segment_at, bytes_at, words_of}
-use Rattle.capn_words.specs.Words.{bytes, IsBare}
+use Rattle.capn_words.specs.Message.{IsMessage, segment_at, bytes_at, words_of, bytes, IsBare}
 use Rattle.capn_words.proofs.shared.Words.{bytes-injective, length-bytes}
-use Rattle.capn_walk.specs.Stops.{root}
+use Rattle.capn_walk.specs.Accepted.{root}
 use Rattle.std.specs.Bool.{IsTrue}
-use Rattle.capn_value.specs.Caps.{first_cap}
+use Rattle.capn_value.specs.FirstCap.{first_cap}
 use Rattle.capn_walk.specs.Limits.{Bounds}
 use Rattle.capn_walk.proofs.shared.Segments.{length_of_none, length_of_some}
 use Rattle.capn_walk.proofs.shared.Unique.{unique}
-use Rattle.capn_canon.specs.Checks.{IsCheck}
+use Rattle.capn_canon.specs.BareVerdict.{IsCheck}
 use Rattle.capn_canon.specs.Layout.{canon}
-use Rattle.capn_canon.specs.declared.checked.Checked.{Checked}
+use Rattle.capn_canon.specs.declared.surveyed_bare.Checked.{Checked}
 use Rattle.capn_c.specs.Figures.{IsCanonicalMessage}
 
 only-segment : (m : List (List ℕ)) → length m ≡ 1 → m ≡ segment_at m 0 ∷ []

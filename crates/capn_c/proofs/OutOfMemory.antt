@@ -14,8 +14,8 @@ use Rattle.capn_canon.specs.declared.form.Form.{Form}
 use Rattle.capn_canon.specs.declared.form.Form.TheVariants as forms
 use Rattle.capn_canon.specs.declared.refusal.Refusal.{Refusal}
 use Rattle.capn_canon.specs.declared.refusal.Refusal.TheVariants as refusals
-use Rattle.capn_canon.specs.Refused.{IsRefused, IsUnacceptedIn}
-use Rattle.capn_c.specs.Codes.{bare_code, packed_code, frame_code, walk_code, code}
+use Rattle.capn_canon.specs.Refusal.{IsRefused, IsUnacceptedIn}
+use Rattle.capn_c.specs.StatusCodes.{bare_code, packed_code, frame_code, walk_code, code}
 
 -- of packed bytes
 pub packed_memory : (e : UnpackFault) → packed_code e ≡ 8 → e ≡ packed.Memory

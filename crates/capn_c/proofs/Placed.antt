@@ -4,18 +4,17 @@ use Rattle.std.proofs.Common.{get_or, map, refl, ap, sym, subst, ◌∙◌, arit
 use Rattle.std.specs.List.{sum_by}
 use Rattle.std.proofs.lemmas.List.{append-nil, drop-append-le, drop-drop, drop_at, take-append-le, take_all}
 use Rattle.std.proofs.lemmas.List.Sums.{sum_by-cons}
-use Rattle.capn_words.specs.Message.{bytes, bytes_at, segment_at, total}
-use Rattle.capn_words.specs.Words.{IsBare}
+use Rattle.capn_words.specs.Message.{bytes, bytes_at, segment_at, total, IsBare}
 use Rattle.capn_words.proofs.shared.Words.{length-bytes}
 use Rattle.capn_words.specs.declared.space.Place.{Place}
 use Rattle.capn_stream.specs.Frames.{contents}
-use Rattle.capn_stream.specs.Reading.{announced_segments, announced_words, head_length}
+use Rattle.capn_stream.specs.FrameRefusal.{announced_segments, announced_words, head_length}
 use Rattle.capn_stream.proofs.shared.FrameLaws.{announces, stands_alone}
 use Rattle.capn_walk.specs.Index.{IndexesAreReadable, by_kind, entry_at, entry_of, entry_target, index_of}
 use Rattle.capn_walk.specs.Limits.{Bounds}
 use Rattle.capn_walk.specs.Shapes.{IsContent}
 use Rattle.capn_walk.specs.Target.{content_words}
-use Rattle.capn_walk.specs.Viewed.{IsInMessage}
+use Rattle.capn_walk.specs.View.{IsInMessage}
 use Rattle.capn_walk.specs.declared.entry.Entry.{Entry}
 use Rattle.capn_walk.specs.declared.kind.Kind.{Kind}
 use Rattle.capn_walk.specs.declared.kind.Kind.TheVariants as kinds

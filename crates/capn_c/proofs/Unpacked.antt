@@ -1,9 +1,9 @@
 -- How many bytes the words have that were unpacked, and that they have room.
 use Rattle.std.proofs.Common.{◌≡◌, ℕ, ◌*◌, ◌≤◌, List, [], length, ap, arith}
-use Rattle.capn_pack.specs.Some.{UnpacksSome}
+use Rattle.capn_pack.specs.WholeGroups.{UnpacksSome}
 use Rattle.capn_pack.proofs.shared.GroupLemmas.{length_contents}
-use Rattle.capn_pack.specs.declared.some.Next.{Next}
-use Rattle.capn_c.specs.Pieces.{words_in}
+use Rattle.capn_pack.specs.declared.whole_groups.Next.{Next}
+use Rattle.capn_c.specs.UnpackedPieces.{words_in}
 
 -- 8 for each word
 pub content_length : (bytes : List ℕ) (max : ℕ) (content : List ℕ) (taken words : ℕ) (next : Next)

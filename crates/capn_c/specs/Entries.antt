@@ -1,6 +1,6 @@
 -- The index of a message, as C reads it. (Own.)
 use Rattle.std.specs.Prelude.{◌≡◌, ℕ, ◌+◌, ◌*◌, List, [], ◌∷◌, ◌++◌, length, drop, get_or, map}
-use Rattle.capn_stream.specs.Reading.{head_length}
+use Rattle.capn_stream.specs.FrameRefusal.{head_length}
 use Rattle.capn_walk.specs.Accepted.{IsAccepted}
 use Rattle.capn_walk.specs.Index.{index_of}
 use Rattle.capn_walk.specs.Limits.{Bounds}

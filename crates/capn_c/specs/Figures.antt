@@ -3,14 +3,14 @@ use Rattle.std.specs.Prelude.{◌≡◌, ◌⊎◌, ◌↔◌, ℕ, zero, suc, �
 use Rattle.std.specs.Bool.{IsTrue}
 use Rattle.capn_words.specs.Message.{bytes, segment_at, total}
 use Rattle.capn_value.specs.Tree.{Tree}
-use Rattle.capn_value.specs.Caps.{first_cap}
+use Rattle.capn_value.specs.FirstCap.{first_cap}
 use Rattle.capn_walk.specs.Accepted.{IsAccepted, IsValueOf, number_of_visits, paid}
 use Rattle.capn_walk.specs.Limits.{Bounds}
 use Rattle.capn_canon.specs.Layout.{canon}
 use Rattle.capn_canon.specs.Reads.{Reads}
 use Rattle.capn_canon.specs.declared.form.Form.{Form}
 use Rattle.capn_c.specs.declared.figures.CapnFigures.{CapnFigures}
-use Rattle.capn_c.specs.declared.measuring.Measured.{Measured}
+use Rattle.capn_c.specs.declared.message_measures.Measured.{Measured}
 
 -- a number names a form whose bytes are those of the message itself
 abbrev pub IsFlat : ℕ → Type 0

@@ -1,8 +1,8 @@
 pub mod Calls
-pub mod Codes
+pub mod StatusCodes
 pub mod Entries
 pub mod Figures
-pub mod Framed
-pub mod Needed
+pub mod FrameReport
+pub mod FrameNeed
 pub mod Offsets
-pub mod Pieces
+pub mod UnpackedPieces

@@ -3,7 +3,7 @@
 ghost use Rattle.std.specs.Prelude.{IsTrue, ◌≡◌, ◌↔◌};
 ghost use Rattle.capn_c.specs.Figures.{told_cap};
 
-use crate::measuring::Measured;
+use crate::message_measures::Measured;
 use capn_walk::Surveyed;
 
 /// What a survey says of a message.

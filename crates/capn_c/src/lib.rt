@@ -6,24 +6,24 @@
 //! An export requires nothing but what its types say: memory that is there, and no overlap of what is written.
 #![tactic(auto)]
 
-mod canonical;
-mod checking;
-mod codes;
+mod canonical_call;
+mod check_call;
 mod entries;
 mod figures;
-mod framing;
-mod hashing;
-mod indexing;
+mod first_call;
+mod frame_need;
+mod hash_call;
+mod index_call;
+mod is_canonical_call;
 pub mod laws;
 mod limits;
-mod measuring;
-mod needed;
+mod message_measures;
 mod output;
-mod packing;
+mod pack_calls;
 mod report;
-mod surveying;
-mod unpacking;
-mod verdict;
+mod status_codes;
+mod survey_call;
+mod unpack_some_call;
 
 pub use entries::CapnEntry;
 pub use figures::CapnFigures;

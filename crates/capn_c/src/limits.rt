@@ -4,7 +4,7 @@ ghost use Rattle.std.specs.Prelude.{◌≡◌, ◌↔◌, ◌⊎◌, IsSome, IfS
 ghost use Rattle.capn_c.specs.Calls.{IsForm, form_named, IsTariff, tariff_named, GiveLimits, bounds_of};
 ghost use Rattle.capn_c.specs.Figures.{IsFlat};
 
-use crate::codes::{BAD_LIMITS, BAD_TARIFF};
+use crate::status_codes::{BAD_LIMITS, BAD_TARIFF};
 use capn_canon::Form;
 use capn_value::Tariff;
 use capn_walk::Limits;

@@ -3,7 +3,7 @@
 ghost use Rattle.std.specs.Prelude.{◌≡◌, length};
 ghost use Rattle.capn_c.specs.Calls.{Delivers};
 
-use crate::codes::{DONE, NO_ROOM};
+use crate::status_codes::{DONE, NO_ROOM};
 
 /// Writes an answer at the start of a buffer, if it has room for all of it.
 pub fn deliver(answer: &[u8], out: &mut [u8]) -> u32

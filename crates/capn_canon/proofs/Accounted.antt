@@ -3,8 +3,8 @@ use Rattle.std.proofs.Common.{◌≡◌, ℕ, ◌+◌, ◌*◌, ◌^◌, ◌≤�
 use Rattle.std.proofs.Common.{IfOk, IfErr}
 use Rattle.std.proofs.lemmas.Result.{IfOk-weaker, IfErr-weaker}
 use Rattle.capn_value.specs.Tree.{Tree}
-use Rattle.capn_value.specs.Caps.{first_cap}
-use Rattle.capn_walk.specs.declared.surveyed.Surveyed.{Surveyed}
+use Rattle.capn_value.specs.FirstCap.{first_cap}
+use Rattle.capn_walk.specs.declared.survey_answer.Surveyed.{Surveyed}
 use Rattle.capn_walk.specs.Limits.{Bounds}
 use Rattle.capn_canon.specs.declared.form.Form.{Form}
 use Rattle.capn_canon.specs.declared.form.Form.TheVariants as forms
@@ -12,16 +12,16 @@ use Rattle.capn_canon.specs.declared.refusal.Refusal.{Refusal}
 use Rattle.capn_canon.specs.declared.refusal.Refusal.TheVariants as refusals
 use Rattle.capn_canon.specs.Reads.{Unpacks}
 use Rattle.capn_canon.specs.Denotes.{Denotes}
-use Rattle.capn_canon.specs.Refused.{IsUnacceptedIn}
+use Rattle.capn_canon.specs.Refusal.{IsUnacceptedIn}
 use Rattle.capn_canon.specs.inner.Outcomes.{AreSurveyed}
-use Rattle.capn_canon.specs.Surveys.{Surveys}
+use Rattle.capn_canon.specs.SurveyedBytes.{Surveys}
 use Rattle.capn_canon.proofs.shared.OneReading.{one_value, is_message}
 use Rattle.capn_canon.proofs.shared.NotUnaccepted.{not_unaccepted}
 use Rattle.capn_canon.specs.Layout.{canon}
 use Rattle.capn_canon.proofs.Answered.{denoted_here}
 use Rattle.capn_canon.proofs.Headline.{denoted_length}
 use Rattle.capn_canon.proofs.InEachForm.{packed_refused}
-use Rattle.capn_canon.proofs.Wanted.{packed_wanted}
+use Rattle.capn_canon.proofs.MemoryNeeds.{packed_wanted}
 
 packed_unaccepted : (bs text : List ℕ) (limits : Bounds) (r : Refusal) → Unpacks bs limits.message_words text
     → IsUnacceptedIn forms.Stream text limits r → IsUnacceptedIn forms.Packed bs limits r

@@ -1,12 +1,10 @@
 -- The value at the root is ready to be laid out, and the result is its canonical words.
 use Rattle.std.proofs.Common.{◌≡◌, ℕ, ◌^◌, ◌≤◌, List, [], ◌∷◌, ◌++◌, length, set, ap, ◌∙◌, arith, refl}
 use Rattle.std.proofs.Common.{Option, Some}
-use Rattle.capn_words.specs.Message.{IsMessage}
-use Rattle.capn_words.specs.Words.{bytes}
+use Rattle.capn_words.specs.Message.{IsMessage, bytes}
 use Rattle.capn_value.specs.Tree.{Tree}
-use Rattle.capn_walk.specs.Stops.{root}
-use Rattle.capn_walk.specs.At.{IsAt}
-use Rattle.capn_walk.specs.Accepted.{IsValueOf}
+use Rattle.capn_walk.specs.Accepted.{root, IsValueOf}
+use Rattle.capn_walk.specs.ValueAt.{IsAt}
 use Rattle.capn_walk.specs.Limits.{Bounds}
 use Rattle.capn_canon.specs.Layout.{point, words, canon}
 use Rattle.capn_canon.specs.inner.LayoutSteps.{laid}

@@ -3,8 +3,8 @@ use Rattle.std.proofs.Common.{◌≡◌, ℕ, zero, suc, ◌+◌, ◌-◌, ◌*�
 use Rattle.std.proofs.Common.{[], ◌∷◌, ◌++◌, length, take, drop, map, pos, refl, arith}
 use Rattle.std.specs.Int.{from_bool}
 use Rattle.std.proofs.Math.Nat.{pow-succ', pow-zero, one-le-pow, mul-le-mul_left}
-use Rattle.capn_words.specs.Fields.{word_of}
-use Rattle.capn_words.specs.Words.{AreWords, IsBare, words_in}
+use Rattle.capn_words.specs.Pointers.{word_of}
+use Rattle.capn_words.specs.Message.{AreWords, IsBare, words_in}
 use Rattle.capn_words.specs.declared.pointer.Pointer.{Pointer}
 use Rattle.capn_words.specs.declared.pointer.Pointer.TheVariants.{Many, Cap}
 use Rattle.capn_words.specs.declared.pointer.Width.{Width}
@@ -13,7 +13,7 @@ use Rattle.capn_words.proofs.shared.OneSegment.{bare_length, bare_only}
 use Rattle.capn_value.specs.Tree.{Tree, nil, node, voids, bits, bytes, pairs, quads, octs, links, rows, cap, Trees}
 use Rattle.capn_value.specs.Tree.{no_trees, tree, Bodies, no_bodies, body, count, count_rows}
 use Rattle.capn_value.specs.Trim.{kept_words, kept_slots, kept_words_of_rows, kept_slots_of_rows}
-use Rattle.capn_value.specs.Sizes.{cost}
+use Rattle.capn_value.specs.Cost.{cost}
 use Rattle.capn_value.specs.Fits.{Fits}
 use Rattle.capn_value.specs.InRange.{AllBelow, InRange, EachInRange, RowsInRange}
 use Rattle.capn_value.proofs.shared.Ranges.{below-take}

@@ -1,7 +1,7 @@
 -- Parts of words are bytes.
 use Rattle.std.proofs.Common.{◌≡◌, ℕ, zero, suc, ◌^◌, ◌<◌, List, [], ◌∷◌, take, ap, sym, ◌∙◌, arith, append-nil}
 use Rattle.std.specs.Int.{byte_at, bytes_low_first}
-use Rattle.capn_words.specs.Words.{word_number, word_bytes, AreBytes}
+use Rattle.capn_words.specs.Message.{word_number, word_bytes, AreBytes}
 use Rattle.capn_words.proofs.shared.Words.{number-word_bytes}
 
 pub AreBytes-take : (n : ℕ) (bs : List ℕ) → AreBytes bs → AreBytes (take n bs)

@@ -3,7 +3,7 @@ use Rattle.std.proofs.Common.{◌≡◌, ◌↔◌, ℕ, ◌+◌, ◌<◌, ◌�
 use Rattle.std.proofs.Common.{ap, sym, subst, ◌∙◌, arith}
 use Rattle.std.proofs.Math.Seq.{take-length}
 use Rattle.std.proofs.lemmas.List.{take_all}
-use Rattle.capn_words.specs.Words.{bytes, IsBare}
+use Rattle.capn_words.specs.Message.{bytes, IsBare}
 use Rattle.capn_words.proofs.shared.Words.{bytes-injective}
 use Rattle.capn_value.specs.Tree.{Tree}
 use Rattle.capn_value.specs.Fits.{Fits}

@@ -3,7 +3,7 @@ use Rattle.std.proofs.Common.{◌≡◌, ℕ, zero, suc, ◌≤◌, None, refl, 
 use Rattle.std.specs.Option.{option_or}
 use Rattle.capn_value.specs.Tree.{Tree, nil, node, voids, bits, bytes, pairs, quads, octs, links, rows, cap, Trees}
 use Rattle.capn_value.specs.Tree.{no_trees, tree, Bodies, no_bodies, body, front, is_null}
-use Rattle.capn_value.specs.Caps.{first_cap, first_in, first_in_rows}
+use Rattle.capn_value.specs.FirstCap.{first_cap, first_in, first_in_rows}
 use Rattle.capn_value.specs.Trim.{kept_slots, kept_words_of_rows, kept_slots_of_rows, trimmed, trimmed_each}
 use Rattle.capn_value.specs.Trim.{trimmed_rows}
 use Rattle.capn_value.proofs.shared.Cuts.{behind_le, behind_none, null_at}

@@ -4,8 +4,7 @@ use Rattle.std.proofs.Common.{refl, ap, sym, ◌∙◌, arith, append_assoc, app
 use Rattle.std.proofs.Common.{true, false, Option, Some, None}
 use Rattle.std.proofs.lemmas.List.{drop-drop, drop_at, take_at, take-append-drop, nil_from_length, length-take-le}
 use Rattle.std.proofs.lemmas.List.{take-take, drop-take}
-use Rattle.capn_words.specs.Words.{word_number, AreBytes}
-use Rattle.capn_words.specs.Message.{word_bytes, bytes}
+use Rattle.capn_words.specs.Message.{word_number, AreBytes, word_bytes, bytes}
 use Rattle.capn_canon.specs.Patch.{cell, cells, filled, IsWhole}
 use Rattle.capn_words.proofs.shared.Words.{AreBytes-drop, AreBytes-append, word_bytes-number, length-word_bytes}
 use Rattle.capn_canon.proofs.Bytes.{AreBytes-take, AreBytes-word, number-word}

@@ -6,17 +6,17 @@ use Rattle.std.proofs.Common.{Option, false}
 use Rattle.std.specs.Bool.{IsTrue}
 use Rattle.std.proofs.lemmas.List.{take_all}
 use Rattle.capn_words.specs.Message.{segment_at}
-use Rattle.capn_words.specs.Fields.{word_of}
+use Rattle.capn_words.specs.Pointers.{word_of}
 use Rattle.capn_words.specs.declared.pointer.Pointer.TheVariants.{Cap}
 use Rattle.capn_words.specs.declared.pointer.Width.TheVariants.{Link}
 use Rattle.capn_value.specs.Tree.{Tree, nil, cap, node, links, Trees, no_trees, tree, count}
 use Rattle.capn_value.specs.Trim.{kept_words, kept_slots}
-use Rattle.capn_value.specs.Sizes.{height}
+use Rattle.capn_value.specs.Cost.{height}
 use Rattle.capn_walk.specs.declared.target.Target.TheVariants as targets
 use Rattle.capn_walk.specs.declared.target.Shape.TheVariants as shapes
 use Rattle.capn_walk.specs.Target.{target}
-use Rattle.capn_walk.specs.At.{AreAt, AreWords, words_from}
-use Rattle.capn_walk.specs.At.{IsInside}
+use Rattle.capn_walk.specs.ValueAt.{AreAt, AreWords, words_from}
+use Rattle.capn_walk.specs.ValueAt.{IsInside}
 use Rattle.capn_canon.specs.Layout.{size, sizes, point, points, lay, lays, struct_to, list_to}
 use Rattle.capn_canon.specs.inner.Sound.{Sound}
 use Rattle.capn_canon.proofs.LaidPointers.{struct-names, list-names}

@@ -11,8 +11,8 @@ use Rattle.capn_value.specs.Tree.{Tree}
 use Rattle.capn_walk.specs.declared.target.Target.TheVariants as targets
 use Rattle.capn_walk.specs.declared.target.Shape.TheVariants as shapes
 use Rattle.capn_walk.specs.Target.{content_words, target, words_for}
-use Rattle.capn_walk.specs.At.{words_from}
-use Rattle.capn_walk.specs.At.{IsInside}
+use Rattle.capn_walk.specs.ValueAt.{words_from}
+use Rattle.capn_walk.specs.ValueAt.{IsInside}
 use Rattle.capn_walk.specs.Shapes.{IsPlain}
 use Rattle.capn_canon.specs.Layout.{size, point, lay, list_to}
 use Rattle.capn_canon.specs.inner.Sound.{Sound}

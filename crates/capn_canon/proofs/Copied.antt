@@ -5,10 +5,9 @@ use Rattle.std.proofs.Common.{slice_index, refl, ap, ap₂, ◌∙◌, arith, le
 use Rattle.std.proofs.lemmas.List.{length-take-le, get_or-drop}
 use Rattle.std.specs.List.{flat_map}
 use Rattle.byteorder.specs.Endian.{little_bytes}
-use Rattle.capn_words.specs.Message.{IsMessage, segment_at, bytes_at}
-use Rattle.capn_words.specs.Words.{word_bytes, bytes}
+use Rattle.capn_words.specs.Message.{IsMessage, segment_at, bytes_at, word_bytes, bytes}
 use Rattle.capn_words.proofs.shared.Words.{bytes-drop, bytes-take, length-bytes}
-use Rattle.capn_walk.specs.At.{words_from}
+use Rattle.capn_walk.specs.ValueAt.{words_from}
 use Rattle.capn_walk.specs.Target.{words_for}
 use Rattle.capn_canon.specs.Layout.{packed}
 use Rattle.capn_canon.specs.Patch.{whole}

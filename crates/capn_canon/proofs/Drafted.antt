@@ -3,8 +3,7 @@ use Rattle.std.proofs.Common.{◌≡◌, ℕ, zero, suc, ◌+◌, ◌*◌, ◌/�
 use Rattle.std.proofs.Common.{set, replicate, refl, ap, ap₂, sym, subst, ◌∙◌, arith, length-append, Bool, false, Option}
 use Rattle.std.proofs.Common.{Some}
 use Rattle.std.proofs.lemmas.List.{length-replicate, replicate-append-replicate}
-use Rattle.capn_words.specs.Words.{AreBytes}
-use Rattle.capn_words.specs.Message.{word_bytes, bytes}
+use Rattle.capn_words.specs.Message.{AreBytes, word_bytes, bytes}
 use Rattle.capn_words.proofs.shared.Words.{AreBytes-append, length-word_bytes}
 use Rattle.capn_canon.specs.inner.Draft.{drafted, IsDrafted}
 use Rattle.capn_walk.specs.Target.{words_for}

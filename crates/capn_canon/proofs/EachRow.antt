@@ -4,7 +4,7 @@ use Rattle.std.proofs.Common.{ap, ap₂, sym, subst, ◌∙◌, arith, append_as
 use Rattle.capn_words.specs.Message.{segment_at}
 use Rattle.capn_value.specs.Tree.{Bodies, no_bodies, body, count_rows}
 use Rattle.capn_value.specs.Trim.{kept_words, kept_words_of_rows, kept_slots_of_rows}
-use Rattle.capn_walk.specs.At.{RowsAt, words_from}
+use Rattle.capn_walk.specs.ValueAt.{RowsAt, words_from}
 use Rattle.capn_canon.specs.Patch.{whole}
 use Rattle.capn_canon.specs.inner.LayoutSteps.{AreRowsOver}
 use Rattle.capn_canon.specs.inner.RowWords.{kept_each, row_cells}

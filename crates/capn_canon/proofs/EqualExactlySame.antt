@@ -1,6 +1,6 @@
 -- Canonical bytes of two values are equal exactly if the values are the same.
 use Rattle.std.proofs.Common.{◌≡◌, ◌↔◌, ℕ, ◌/◌, ◌^◌, ◌≤◌, List, [], ◌∷◌, length, ap, sym, subst, ◌∙◌, arith}
-use Rattle.capn_words.specs.Words.{bytes, words_in}
+use Rattle.capn_words.specs.Message.{bytes, words_in}
 use Rattle.capn_value.specs.Tree.{Tree}
 use Rattle.capn_value.specs.InRange.{InRange}
 use Rattle.capn_value.specs.Fits.{Fits}
@@ -10,7 +10,7 @@ use Rattle.capn_value.proofs.shared.Fitting.{fit_parts}
 use Rattle.capn_value.proofs.shared.Ranges.{in_range-trimmed}
 use Rattle.capn_value.proofs.shared.StaysFit.{fits-trimmed}
 use Rattle.capn_value.proofs.shared.SameTrimmed.{same_exactly_trimmed}
-use Rattle.capn_walk.specs.At.{IsAt}
+use Rattle.capn_walk.specs.ValueAt.{IsAt}
 use Rattle.capn_walk.proofs.shared.Unique.{unique}
 use Rattle.capn_canon.specs.Layout.{words, canon}
 use Rattle.capn_canon.proofs.OneSegment.{here}

@@ -12,9 +12,9 @@ use Rattle.capn_value.specs.Tree.{Tree, nil, node, voids, bits, bytes, pairs, qu
 use Rattle.capn_words.specs.declared.pointer.Width.{Width}
 use Rattle.capn_words.specs.declared.pointer.Width.TheVariants.{W0, W1, W8, W16, W32, W64, Link, Rows}
 use Rattle.capn_walk.specs.declared.target.Shape.TheVariants as shapes
-use Rattle.capn_walk.specs.At.{AreElements, words_from}
+use Rattle.capn_walk.specs.ValueAt.{AreElements, words_from}
 use Rattle.capn_walk.specs.Target.{content_words, words_for}
-use Rattle.capn_walk.specs.At.{IsInside}
+use Rattle.capn_walk.specs.ValueAt.{IsInside}
 use Rattle.capn_walk.specs.Shapes.{IsPlain}
 use Rattle.capn_canon.specs.Layout.{number, packed, lay, point, list_to}
 use Rattle.capn_canon.specs.inner.LayoutSteps.{laid}

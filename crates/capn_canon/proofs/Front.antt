@@ -5,8 +5,8 @@ use Rattle.std.proofs.lemmas.Bool.Decides.{nat_tests}
 use Rattle.capn_value.specs.Tree.{Tree, nil, node, voids, bits, bytes, pairs, quads, octs, links, rows, cap, Trees}
 use Rattle.capn_value.specs.Tree.{no_trees, tree, count, front, is_null}
 use Rattle.capn_value.specs.Trim.{kept_behind, kept_slots}
-use Rattle.capn_value.specs.Sizes.{greatest}
-use Rattle.capn_walk.specs.At.{AreAt}
+use Rattle.capn_value.specs.Cost.{greatest}
+use Rattle.capn_walk.specs.ValueAt.{AreAt}
 use Rattle.capn_canon.specs.Layout.{sizes, point}
 use Rattle.capn_canon.specs.inner.LayoutSteps.{laid, laid_slots}
 use Rattle.capn_canon.specs.inner.Sound.{Sounds}

@@ -4,9 +4,8 @@ use Rattle.capn_words.specs.Message.{IsMessage}
 use Rattle.capn_value.specs.Tree.{Tree}
 use Rattle.capn_value.specs.InRange.{InRange}
 use Rattle.capn_value.specs.Fits.{Fits}
-use Rattle.capn_value.specs.Sizes.{base, cost, height}
-use Rattle.capn_walk.specs.Stops.{root}
-use Rattle.capn_walk.specs.Accepted.{IsValueOf, paid}
+use Rattle.capn_value.specs.Cost.{base, cost, height}
+use Rattle.capn_walk.specs.Accepted.{root, IsValueOf, paid}
 use Rattle.capn_walk.specs.Limits.{Bounds, AreLimits}
 use Rattle.capn_walk.proofs.shared.Fitting.{fits-root, root-costs}
 use Rattle.capn_walk.proofs.shared.Unique.{unique}

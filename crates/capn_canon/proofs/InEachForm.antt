@@ -3,10 +3,10 @@ use Rattle.std.proofs.Common.{◌≡◌, ℕ, ◌+◌, ◌*◌, ◌^◌, ◌≤�
 use Rattle.std.proofs.Common.{Ok, Err, MatchResult, IfOk, IfErr, IsErrOf, None}
 use Rattle.std.proofs.Math.Seq.{take-length}
 use Rattle.std.proofs.lemmas.Result.{IfOk-weaker, IfErr-weaker}
-use Rattle.capn_words.specs.Words.{IsBare}
+use Rattle.capn_words.specs.Message.{IsBare}
 use Rattle.capn_stream.specs.Frames.{Frames, StandsFirst}
 use Rattle.capn_value.specs.Tree.{Tree}
-use Rattle.capn_value.specs.Caps.{first_cap}
+use Rattle.capn_value.specs.FirstCap.{first_cap}
 use Rattle.capn_walk.specs.Limits.{Bounds}
 use Rattle.capn_canon.specs.declared.form.Form.{Form}
 use Rattle.capn_canon.specs.declared.form.Form.TheVariants as forms
@@ -15,13 +15,13 @@ use Rattle.capn_canon.specs.declared.refusal.Refusal.TheVariants as refusals
 use Rattle.capn_canon.specs.Layout.{canon}
 use Rattle.capn_canon.specs.Reads.{IsFramed, Unpacks, Reads}
 use Rattle.capn_canon.specs.Denotes.{Denotes, AnswersMessage, Answers}
-use Rattle.capn_canon.specs.Refused.{IsRefusedMessage, IsRefused, IsPaidWithin}
-use Rattle.capn_canon.specs.Wanted.{MayWantBytes, MayWantBytesIn}
+use Rattle.capn_canon.specs.Refusal.{IsRefusedMessage, IsRefused, IsPaidWithin}
+use Rattle.capn_canon.specs.MemoryNeed.{MayWantBytes, MayWantBytesIn}
 use Rattle.capn_canon.specs.Canonicity.{IsCanonicalForm}
 use Rattle.capn_canon.specs.inner.Outcomes.{AreCanonicalised}
 use Rattle.capn_canon.proofs.Answered.{answers_only, answers_length, answers_form}
 use Rattle.capn_canon.proofs.shared.NotRefused.{not_refused}
-use Rattle.capn_canon.proofs.Wanted.{packed_bytes_wanted}
+use Rattle.capn_canon.proofs.MemoryNeeds.{packed_bytes_wanted}
 
 -- the words of bare bytes are read
 pub bare_reads : (bs ws : List ℕ) (most : ℕ) → IsBare bs ws → Reads forms.Bare bs most (ws ∷ [])

@@ -2,7 +2,7 @@
 use Rattle.std.proofs.Common.{◌≡◌, ◌⊎◌, inl, inr, ℕ, zero, suc, ◌+◌, ◌-◌, ◌*◌, ◌/◌, ◌^◌, ◌<◌, ◌≤◌, ◌==◌, ◌&&◌, List, []}
 use Rattle.std.proofs.Common.{◌∷◌, length, slice_index, Ok, pos, refl, ap, ap₂, sym, subst, ◌∙◌, arith}
 use Rattle.std.proofs.lemmas.Bool.Decides.{nat_tests}
-use Rattle.capn_words.specs.Fields.{word_of}
+use Rattle.capn_words.specs.Pointers.{word_of}
 use Rattle.capn_words.specs.declared.pointer.Pointer.TheVariants.{Node}
 use Rattle.capn_words.specs.declared.pointer.Width.{Width}
 use Rattle.capn_words.specs.declared.pointer.Width.TheVariants.{Rows}
@@ -10,7 +10,7 @@ use Rattle.capn_value.specs.Tree.{node, Trees, no_trees, tree, count}
 use Rattle.capn_walk.specs.declared.target.Target.TheVariants as targets
 use Rattle.capn_walk.specs.declared.target.Shape.TheVariants as shapes
 use Rattle.capn_walk.specs.Target.{content_words, target}
-use Rattle.capn_walk.specs.At.{AreWords, AreElements, words_from}
+use Rattle.capn_walk.specs.ValueAt.{AreWords, AreElements, words_from}
 use Rattle.capn_canon.proofs.Tight.{Close, TightAt, AreTight}
 use Rattle.capn_canon.specs.Layout.{struct_to, list_to, packed}
 use Rattle.capn_words.proofs.shared.Choices.{if-no}

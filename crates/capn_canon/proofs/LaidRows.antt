@@ -4,7 +4,7 @@ use Rattle.std.proofs.Common.{replicate, refl, ap, ap₂, sym, subst, ◌∙◌,
 use Rattle.std.proofs.Common.{Option, Some, None}
 use Rattle.std.specs.Prelude.{pos}
 use Rattle.std.proofs.lemmas.List.{length-take-le, length-set, length-replicate}
-use Rattle.capn_words.specs.Fields.{word_of}
+use Rattle.capn_words.specs.Pointers.{word_of}
 use Rattle.capn_words.specs.declared.pointer.Pointer.TheVariants.{Node}
 use Rattle.capn_value.specs.Tree.{Tree, rows, Trees, no_trees, tree, Bodies, no_bodies, body, count_rows}
 use Rattle.capn_value.specs.Trim.{kept_words_of_rows, kept_slots_of_rows}

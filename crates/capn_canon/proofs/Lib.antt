@@ -54,7 +54,7 @@ pub mod ComparedList
 pub mod ComparedRows
 pub mod CanonicalWords
 pub mod FoundNear
-pub mod Wanted
+pub mod MemoryNeeds
 pub mod CapOfTrimmed
 pub mod TheTheorem
 pub mod WorkedCanon

@@ -21,7 +21,7 @@ use Rattle.capn_walk.specs.declared.target.Target.TheVariants as targets
 use Rattle.capn_walk.specs.declared.target.Fault.{Fault}
 use Rattle.capn_walk.specs.Target.{moved, tagged, within, list, struct, struct_from, list_from, near, second_pad}
 use Rattle.capn_walk.specs.Target.{is_second_pad, two_pads, pointer_in, landing, named, target}
-use Rattle.capn_walk.specs.At.{IsAt, AreAt, words_from}
+use Rattle.capn_walk.specs.ValueAt.{IsAt, AreAt, words_from}
 
 pointer-other : (w : ℕ) → w ≢ 0 → pointer_of w ≢ Nil
 unfolding pointer_of

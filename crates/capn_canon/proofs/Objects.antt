@@ -6,9 +6,9 @@ use Rattle.capn_words.specs.Message.{segment_at}
 use Rattle.capn_words.specs.declared.pointer.Width.TheVariants.{Link}
 use Rattle.capn_value.specs.Tree.{Tree, node, links, Trees, count, front}
 use Rattle.capn_value.specs.Trim.{kept_words, kept_slots}
-use Rattle.capn_value.specs.Sizes.{height}
+use Rattle.capn_value.specs.Cost.{height}
 use Rattle.capn_walk.specs.declared.target.Shape.TheVariants as shapes
-use Rattle.capn_walk.specs.At.{words_from}
+use Rattle.capn_walk.specs.ValueAt.{words_from}
 use Rattle.capn_canon.specs.Layout.{size, sizes, point, struct_to, list_to}
 use Rattle.capn_canon.specs.inner.LayoutSteps.{laid}
 use Rattle.capn_canon.specs.Patch.{whole}

@@ -1,7 +1,7 @@
 -- What pointers of a message of one segment name.
 use Rattle.std.proofs.Common.{◌≡◌, ℕ, ◌+◌, ◌-◌, ◌*◌, ◌^◌, ◌<◌, ◌≤◌, ◌==◌, nat_lt, List, [], ◌∷◌, length, slice_index}
 use Rattle.std.proofs.Common.{Ok, Result, pos, negsuc, refl, ap, ◌∙◌, arith}
-use Rattle.capn_words.specs.Fields.{word_of}
+use Rattle.capn_words.specs.Pointers.{word_of, field, pointer_of}
 use Rattle.capn_words.specs.declared.space.Place.{Place}
 use Rattle.capn_words.specs.declared.pointer.Pointer.{Pointer}
 use Rattle.capn_words.specs.declared.pointer.Pointer.TheVariants.{Nil, Node, Many, Cap}
@@ -11,7 +11,6 @@ use Rattle.capn_walk.specs.declared.target.Target.{Target}
 use Rattle.capn_walk.specs.declared.target.Target.TheVariants as targets
 use Rattle.capn_walk.specs.declared.target.Shape.TheVariants as shapes
 use Rattle.capn_walk.specs.declared.target.Fault.{Fault}
-use Rattle.capn_words.specs.Pointers.{field, pointer_of}
 use Rattle.capn_words.proofs.shared.Choices.{if-yes, if-no, same-yes}
 use Rattle.capn_words.proofs.shared.Pointers.{pointer_of-word_of}
 use Rattle.capn_walk.specs.Target.{content_words, moved, tagged, within, list, struct, named, target}

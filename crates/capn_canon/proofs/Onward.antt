@@ -2,8 +2,8 @@
 use Rattle.std.proofs.Common.{◌≡◌, ℕ, suc, ◌+◌, ◌-◌, ◌<◌, ◌≤◌, List, [], ◌∷◌, length, ap, sym, subst}
 use Rattle.std.proofs.Common.{arith, Some}
 use Rattle.capn_value.specs.Tree.{Trees, no_trees, tree, count}
-use Rattle.capn_value.specs.Sizes.{most_height}
-use Rattle.capn_walk.specs.At.{AreAt}
+use Rattle.capn_value.specs.Cost.{most_height}
+use Rattle.capn_walk.specs.ValueAt.{AreAt}
 use Rattle.capn_walk.proofs.shared.Unique.{unique-slots}
 use Rattle.capn_canon.specs.declared.run.Run.{Run}
 use Rattle.capn_canon.specs.Layout.{size, sizes}

@@ -4,7 +4,7 @@ use Rattle.std.proofs.Common.{Option, Some}
 use Rattle.std.proofs.lemmas.List.{drop-drop}
 use Rattle.capn_words.specs.Message.{segment_at}
 use Rattle.capn_value.specs.Trim.{kept_words}
-use Rattle.capn_walk.specs.At.{words_from}
+use Rattle.capn_walk.specs.ValueAt.{words_from}
 use Rattle.capn_canon.specs.Layout.{struct_to}
 use Rattle.capn_canon.specs.Patch.{whole}
 use Rattle.capn_canon.specs.inner.OwnWords.{IsOpened}

@@ -8,7 +8,7 @@ use Rattle.std.proofs.lemmas.List.{drop-replicate, get_or-drop, length-replicate
 use Rattle.std.specs.List.{flat_map}
 use Rattle.byteorder.specs.Endian.{little_from, little_bytes}
 use Rattle.byteorder.specs.Numbers.{little_from-cons, little_number-reads_back, length-bytes_low_first}
-use Rattle.capn_words.specs.Words.{word_number, AreBytes}
+use Rattle.capn_words.specs.Message.{word_number, AreBytes}
 use Rattle.capn_canon.specs.Layout.{number, packed}
 use Rattle.capn_canon.specs.Patch.{cells, whole}
 use Rattle.capn_words.proofs.shared.Words.{AreBytes-append}

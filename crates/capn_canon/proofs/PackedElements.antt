@@ -5,7 +5,7 @@ use Rattle.std.proofs.Math.Nat.{div-div-eq-div-mul, pow-succ', pow-zero, zero-di
 use Rattle.std.proofs.Math.Nat.{mod-eq_of_lt, div-eq_of_lt, add-mul-div_left, add-mul-mod_self_left}
 use Rattle.std.proofs.Math.ListN.{get_or-append}
 use Rattle.std.proofs.lemmas.List.{drop-drop, get_or-drop, get_or-take}
-use Rattle.capn_walk.specs.At.{element, AreElements}
+use Rattle.capn_walk.specs.ValueAt.{element, AreElements}
 use Rattle.capn_canon.specs.Layout.{number, packed}
 use Rattle.capn_canon.specs.inner.Sound.{AreBelow}
 use Rattle.capn_canon.proofs.LayLengths.{length-packed}

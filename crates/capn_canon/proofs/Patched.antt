@@ -4,8 +4,7 @@ use Rattle.std.proofs.Common.{drop, set, replicate, refl, ap, ap₂, sym, subst,
 use Rattle.std.proofs.Common.{length-append, Bool, true, false, Option, Some, None}
 use Rattle.std.proofs.lemmas.List.{length-replicate, take_all, set_at, replicate_more}
 use Rattle.std.specs.Prelude.{Result, Ok, Err, OnErr}
-use Rattle.capn_words.specs.Words.{word_number, AreBytes}
-use Rattle.capn_words.specs.Message.{word_bytes, bytes}
+use Rattle.capn_words.specs.Message.{word_number, AreBytes, word_bytes, bytes}
 use Rattle.capn_canon.specs.Patch.{cells, flags, is_marked, patched, IsPatched, whole, filled, IsWhole}
 use Rattle.capn_words.proofs.shared.Words.{AreBytes-append, length-word_bytes}
 use Rattle.capn_canon.proofs.Cells.{length-cells, cells-none, cells-append, cells-one, cells-fill, cells-open}

@@ -2,7 +2,7 @@
 use Rattle.std.proofs.Common.{◌≡◌, ◌≢◌, ◌⊎◌, inl, inr, ℕ, suc, ◌+◌, ◌-◌, ◌*◌, ◌/◌, ◌%◌, ◌^◌, ◌<◌, ◌≤◌, ℤ, pos, negsuc}
 use Rattle.std.proofs.Common.{Bool, true, false, if◌then◌else◌, ◌==◌, ◌&&◌, List, take, drop, slice_index, Ok, refl}
 use Rattle.std.proofs.Common.{arith}
-use Rattle.capn_words.specs.Fields.{Fields, FitsOffset, offset_field, word_of}
+use Rattle.capn_words.specs.Pointers.{Fields, FitsOffset, offset_field, word_of}
 use Rattle.capn_words.proofs.shared.FieldBits.{offset_field-lt, width_code-lt}
 use Rattle.capn_words.specs.declared.pointer.Pointer.{Pointer}
 use Rattle.capn_words.specs.declared.pointer.Pointer.TheVariants.{Nil, Node, Many, Far, Cap, Reserved}

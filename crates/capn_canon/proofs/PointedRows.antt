@@ -2,18 +2,17 @@
 use Rattle.std.proofs.Common.{◌≡◌, ℕ, ◌+◌, ◌*◌, ◌^◌, ◌<◌, ◌≤◌, List, [], ◌∷◌, length, slice_index, Option, Ok, pos}
 use Rattle.std.proofs.Common.{arith, ◌-◌, ◌/◌, ◌%◌, ◌∙◌}
 use Rattle.capn_words.specs.Message.{segment_at}
-use Rattle.capn_words.specs.Fields.{word_of}
-use Rattle.capn_words.specs.Pointers.{field}
+use Rattle.capn_words.specs.Pointers.{word_of, field}
 use Rattle.capn_words.specs.declared.pointer.Pointer.TheVariants.{Node}
 use Rattle.capn_words.specs.declared.pointer.Width.TheVariants.{Rows}
 use Rattle.capn_value.specs.Tree.{Tree, Bodies, count_rows}
-use Rattle.capn_value.specs.Sizes.{most_height}
+use Rattle.capn_value.specs.Cost.{most_height}
 use Rattle.capn_walk.specs.declared.target.Target.TheVariants as targets
 use Rattle.capn_walk.specs.declared.target.Shape.TheVariants as shapes
 use Rattle.capn_walk.specs.Target.{target}
-use Rattle.capn_walk.specs.At.{IsAt, RowsAt}
+use Rattle.capn_walk.specs.ValueAt.{IsAt, RowsAt}
 use Rattle.capn_walk.specs.Shapes.{IsContent}
-use Rattle.capn_walk.specs.At.{IsInside}
+use Rattle.capn_walk.specs.ValueAt.{IsInside}
 use Rattle.capn_walk.proofs.shared.Inside.{inside}
 use Rattle.capn_walk.proofs.shared.Present.{present}
 use Rattle.capn_walk.proofs.shared.Segments.{segment-room}

@@ -2,18 +2,17 @@
 use Rattle.std.proofs.Common.{◌≡◌, ◌⊎◌, inl, inr, ℕ, ◌+◌, ◌-◌, ◌/◌, ◌%◌, ◌^◌, ◌<◌, ◌≤◌, ◌==◌, ◌&&◌, ℤ, List, []}
 use Rattle.std.proofs.Common.{◌∷◌, length, take, drop, slice_index, Option, Some, ap, sym, subst, ◌∙◌, arith, refl}
 use Rattle.std.proofs.lemmas.Bool.Decides.{nat_tests}
-use Rattle.capn_words.specs.Fields.{Fields, word_of}
-use Rattle.capn_words.specs.Pointers.{pointer_of}
+use Rattle.capn_words.specs.Pointers.{Fields, word_of, pointer_of}
 use Rattle.capn_words.proofs.shared.Choices.{if-no}
 use Rattle.capn_words.proofs.shared.Pointers.{Fields-only}
 use Rattle.capn_words.specs.declared.pointer.Pointer.TheVariants.{Node}
 use Rattle.capn_value.specs.Tree.{Tree, Trees, no_trees, tree}
 use Rattle.capn_value.specs.Trim.{kept_words}
-use Rattle.capn_value.specs.Sizes.{most_height}
+use Rattle.capn_value.specs.Cost.{most_height}
 use Rattle.capn_walk.specs.declared.target.Shape.TheVariants as shapes
 use Rattle.capn_walk.specs.Target.{moved, target}
-use Rattle.capn_walk.specs.At.{words_from}
-use Rattle.capn_walk.specs.At.{IsInside}
+use Rattle.capn_walk.specs.ValueAt.{words_from}
+use Rattle.capn_walk.specs.ValueAt.{IsInside}
 use Rattle.capn_walk.proofs.shared.Inside.{inside}
 use Rattle.capn_walk.proofs.shared.Segments.{segment-room}
 use Rattle.capn_canon.specs.declared.run.Run.{Run}

@@ -3,7 +3,7 @@ use Rattle.std.proofs.Common.{◌≡◌, ℕ, zero, suc, ◌+◌, ◌*◌, ◌^�
 use Rattle.std.proofs.Common.{length, take, slice_index, map, Ok, pos, refl, ap, sym, subst, ◌∙◌, arith}
 use Rattle.std.proofs.lemmas.List.{length-take-le, append-nil, length-map}
 use Rattle.std.proofs.Math.Seq.{take-length}
-use Rattle.capn_words.specs.Fields.{word_of}
+use Rattle.capn_words.specs.Pointers.{word_of}
 use Rattle.capn_words.specs.declared.pointer.Pointer.TheVariants.{Node}
 use Rattle.capn_words.specs.declared.pointer.Width.TheVariants.{W0, W1, W8, W16, W32, W64, Link}
 use Rattle.capn_value.specs.Tree.{Tree, nil, node, voids, bits, bytes, pairs, quads, octs, links, rows, cap, Trees}
@@ -13,9 +13,9 @@ use Rattle.capn_value.specs.Trim.{kept_words, kept_slots, kept_words_of_rows, ke
 use Rattle.capn_value.specs.Trim.{trimmed_rows}
 use Rattle.capn_walk.specs.declared.target.Target.TheVariants as targets
 use Rattle.capn_walk.specs.declared.target.Shape.TheVariants as shapes
-use Rattle.capn_walk.specs.At.{IsAt, AreWords}
+use Rattle.capn_walk.specs.ValueAt.{IsAt, AreWords}
 use Rattle.capn_walk.specs.Visits.{visits}
-use Rattle.capn_value.specs.Sizes.{height, cost}
+use Rattle.capn_value.specs.Cost.{height, cost}
 use Rattle.capn_canon.proofs.Tight.{TightAt, AreTight, TightRows, loosen, Pays, exact}
 use Rattle.capn_canon.specs.Layout.{own, size, sizes, point, points, row_contents, lay, lays, lays_in_rows, words}
 use Rattle.capn_canon.proofs.OneSegment.{here, names-null, names-cap}

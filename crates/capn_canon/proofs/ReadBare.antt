@@ -4,15 +4,14 @@ use Rattle.capn_words.proofs.shared.OneSegment.{bare_only}
 use Rattle.capn_value.specs.Tree.{Tree, nil, node, voids, bits, bytes, pairs, quads, octs, links, rows, cap}
 use Rattle.capn_value.specs.InRange.{InRange}
 use Rattle.capn_value.specs.Fits.{Fits, is_root}
-use Rattle.capn_value.specs.Sizes.{base, cost, height}
+use Rattle.capn_value.specs.Cost.{base, cost, height}
 use Rattle.capn_value.specs.Trim.{trimmed}
 use Rattle.capn_value.proofs.shared.Fitting.{fit_parts}
 use Rattle.capn_value.proofs.shared.StaysFit.{fits-trimmed}
 use Rattle.capn_value.proofs.shared.Trimmed.{cost-trimmed, height-trimmed}
 use Rattle.capn_walk.specs.Visits.{visits}
-use Rattle.capn_walk.specs.Stops.{root, visits_at_root, root_visits}
-use Rattle.capn_walk.specs.At.{IsAt}
-use Rattle.capn_walk.specs.Accepted.{paid}
+use Rattle.capn_walk.specs.Accepted.{root, visits_at_root, root_visits, paid}
+use Rattle.capn_walk.specs.ValueAt.{IsAt}
 use Rattle.capn_walk.specs.Limits.{Bounds}
 use Rattle.capn_canon.specs.declared.form.Form.TheVariants as forms
 use Rattle.capn_canon.specs.Denotes.{Denotes}

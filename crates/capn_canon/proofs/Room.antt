@@ -3,7 +3,7 @@ use Rattle.std.proofs.Common.{◌≡◌, ℕ, suc, ◌+◌, ◌^◌, ◌≤◌, 
 use Rattle.std.proofs.lemmas.Bool.Decides.{nat_tests}
 use Rattle.capn_value.specs.Tree.{Tree, nil, node, voids, bits, bytes, pairs, quads, octs, links, rows, cap, Trees}
 use Rattle.capn_value.specs.Tree.{no_trees, tree, Bodies, no_bodies, body, row_words}
-use Rattle.capn_value.specs.Sizes.{cost, costs, costs_in_rows, rows_price}
+use Rattle.capn_value.specs.Cost.{cost, costs, costs_in_rows, rows_price}
 use Rattle.capn_value.specs.Trim.{kept_words_of_rows, kept_slots_of_rows}
 use Rattle.capn_value.specs.Fits.{Fits}
 use Rattle.capn_value.proofs.shared.Fitting.{fit_parts}

@@ -4,14 +4,14 @@ use Rattle.std.proofs.Common.{Option, Some, refl, ap, ap₂, sym, subst, ◌∙�
 use Rattle.std.specs.Prelude.{pos}
 use Rattle.std.proofs.lemmas.List.{length-set}
 use Rattle.capn_words.specs.Message.{segment_at}
-use Rattle.capn_words.specs.Fields.{word_of}
+use Rattle.capn_words.specs.Pointers.{word_of}
 use Rattle.capn_words.specs.declared.pointer.Pointer.TheVariants.{Node}
 use Rattle.capn_words.specs.declared.pointer.Width.TheVariants.{Rows}
 use Rattle.capn_value.specs.Tree.{Tree, rows, Trees, count, front, Bodies, no_bodies, body, count_rows}
 use Rattle.capn_value.specs.Trim.{kept_slots, kept_words_of_rows, kept_slots_of_rows}
-use Rattle.capn_value.specs.Sizes.{height, greatest, greatest_in_rows}
+use Rattle.capn_value.specs.Cost.{height, greatest, greatest_in_rows}
 use Rattle.capn_walk.specs.declared.target.Shape.TheVariants as shapes
-use Rattle.capn_walk.specs.At.{AreAt, AreWords, RowsAt}
+use Rattle.capn_walk.specs.ValueAt.{AreAt, AreWords, RowsAt}
 use Rattle.capn_walk.proofs.shared.Unique.{unique-rows}
 use Rattle.capn_canon.specs.Layout.{size, sizes, sizes_in_rows, row_size, point, list_to}
 use Rattle.capn_canon.specs.inner.LayoutSteps.{laid, laid_slots, laid_rows, AreRowsOver}

@@ -6,14 +6,14 @@ use Rattle.capn_words.specs.declared.pointer.Width.{Width}
 use Rattle.capn_words.specs.declared.pointer.Width.TheVariants.{W0, W1, W8, W16, W32, W64, Link}
 use Rattle.capn_value.specs.Tree.{Tree, nil, node, voids, bits, bytes, pairs, quads, octs, links, rows, cap, Trees}
 use Rattle.capn_value.specs.Tree.{Bodies, count, count_rows}
-use Rattle.capn_value.specs.Sizes.{height}
+use Rattle.capn_value.specs.Cost.{height}
 use Rattle.capn_walk.specs.declared.target.Target.{Target}
 use Rattle.capn_walk.specs.declared.target.Target.TheVariants as targets
 use Rattle.capn_walk.specs.declared.target.Shape.{Shape}
 use Rattle.capn_walk.specs.declared.target.Shape.TheVariants as shapes
 use Rattle.capn_walk.specs.Target.{target}
-use Rattle.capn_walk.specs.At.{IsAt, AreAt, RowsAt, AreWords, AreElements, words_from}
-use Rattle.capn_walk.specs.At.{IsInside}
+use Rattle.capn_walk.specs.ValueAt.{IsAt, AreAt, RowsAt, AreWords, AreElements, words_from}
+use Rattle.capn_walk.specs.ValueAt.{IsInside}
 
 both : (P : ℕ → ℕ → Type 0) (a b c d : ℕ) → a ≡ b → c ≡ d → P a c → P b d
 both P a b c d e f h = subst (λ (x : ℕ). P x d) e (subst (P a) f h)

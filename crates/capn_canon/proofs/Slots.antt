@@ -3,11 +3,11 @@ use Rattle.std.proofs.Common.{◌≡◌, ℕ, suc, ◌+◌, ◌-◌, ◌^◌, �
 use Rattle.std.proofs.Common.{ap, sym, subst, ◌∙◌, arith, append-nil}
 use Rattle.std.proofs.lemmas.List.{length-set}
 use Rattle.capn_words.specs.declared.space.Place.{Place}
-use Rattle.capn_words.specs.Fields.{word_of}
+use Rattle.capn_words.specs.Pointers.{word_of}
 use Rattle.capn_words.specs.declared.pointer.Pointer.TheVariants.{Cap}
 use Rattle.capn_value.specs.Tree.{Tree, nil, cap, Trees, no_trees, tree, count}
-use Rattle.capn_value.specs.Sizes.{height, greatest}
-use Rattle.capn_walk.specs.At.{IsAt, AreAt}
+use Rattle.capn_value.specs.Cost.{height, greatest}
+use Rattle.capn_walk.specs.ValueAt.{IsAt, AreAt}
 use Rattle.capn_walk.proofs.shared.Unique.{unique-slots}
 use Rattle.capn_canon.specs.Layout.{size, sizes, point}
 use Rattle.capn_canon.specs.inner.LayoutSteps.{laid, laid_slots}

@@ -10,14 +10,14 @@ use Rattle.capn_words.specs.declared.space.Place.{Place}
 use Rattle.capn_words.specs.declared.pointer.Width.TheVariants.{W0, W1, W8, W16, W32, W64, Link}
 use Rattle.capn_value.specs.Tree.{Tree, nil, node, voids, bits, bytes, pairs, quads, octs, links, rows, cap, Trees}
 use Rattle.capn_value.specs.Tree.{no_trees, tree, Bodies, no_bodies, body, count, count_rows, row_words}
-use Rattle.capn_value.specs.Sizes.{height, greatest, greatest_in_rows, cost, costs, costs_in_rows, rows_price}
+use Rattle.capn_value.specs.Cost.{height, greatest, greatest_in_rows, cost, costs, costs_in_rows, rows_price}
 use Rattle.capn_walk.specs.declared.target.Target.TheVariants as targets
 use Rattle.capn_walk.specs.declared.target.Shape.{Shape}
 use Rattle.capn_walk.specs.declared.target.Shape.TheVariants as shapes
 use Rattle.capn_walk.specs.Target.{target}
 use Rattle.capn_walk.specs.Visits.{Visit, pays, fails, price, places, row_places, slots, visits}
-use Rattle.capn_walk.specs.Stops.{paid_of, AllPay}
-use Rattle.capn_walk.specs.At.{IsAt, AreAt, RowsAt, AreWords, AreElements, words_from}
+use Rattle.capn_walk.specs.Accepted.{paid_of, AllPay}
+use Rattle.capn_walk.specs.ValueAt.{IsAt, AreAt, RowsAt, AreWords, AreElements, words_from}
 use Rattle.capn_words.proofs.shared.Choices.{pick}
 use Rattle.capn_walk.proofs.shared.Walks.{slot, visits-null, visits-cap, visits-object}
 use Rattle.capn_walk.proofs.shared.Costs.{paid-append}

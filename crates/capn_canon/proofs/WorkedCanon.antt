@@ -1,8 +1,7 @@
 -- Small messages computed from the definitions: from bytes to what they denote, and to its canonical bytes.
 use Rattle.std.proofs.Common.{◌≡◌, ℕ, zero, suc, ◌^◌, ◌<◌, List, [], ◌∷◌, ◌++◌, length, refl, arith, inl, inr}
 use Rattle.std.specs.Prelude.{slice_index}
-use Rattle.capn_words.specs.Words.{IsBare, word_bytes}
-use Rattle.capn_words.specs.Message.{segment_at}
+use Rattle.capn_words.specs.Message.{IsBare, word_bytes, segment_at}
 use Rattle.capn_words.specs.Pointers.{pointer_of}
 use Rattle.capn_words.specs.declared.bare.BareFault.TheVariants.{NotWhole}
 use Rattle.capn_pack.specs.declared.fault.UnpackFault.TheVariants as unpack_faults
@@ -11,10 +10,9 @@ use Rattle.capn_stream.specs.declared.fault.FrameFault.TheVariants as frame_faul
 use Rattle.capn_value.specs.Tree.{Tree, node, rows, cap, no_trees, tree, no_bodies, body}
 use Rattle.capn_value.specs.Same.{Same}
 use Rattle.capn_value.specs.declared.tariff.Tariff.TheVariants.{Strict}
-use Rattle.capn_walk.specs.Accepted.{IsAccepted, IsValueOf}
-use Rattle.capn_walk.specs.At.{IsAt}
+use Rattle.capn_walk.specs.Accepted.{IsAccepted, IsValueOf, root, root_visits}
+use Rattle.capn_walk.specs.ValueAt.{IsAt}
 use Rattle.capn_walk.specs.Limits.{Bounds}
-use Rattle.capn_walk.specs.Stops.{root, root_visits}
 use Rattle.capn_walk.specs.Target.{target}
 use Rattle.capn_walk.specs.Visits.{visits, fails}
 use Rattle.capn_walk.specs.declared.target.Fault.TheVariants as faults
@@ -23,7 +21,7 @@ use Rattle.capn_canon.specs.declared.refusal.Refusal.TheVariants as refusals
 use Rattle.capn_canon.specs.Denotes.{Denotes, Answers}
 use Rattle.capn_canon.specs.Layout.{words, canon, point}
 use Rattle.capn_canon.specs.Reads.{IsFramed}
-use Rattle.capn_canon.specs.Refused.{IsRefused}
+use Rattle.capn_canon.specs.Refusal.{IsRefused}
 
 -- the usual limits
 abbrev usual : Bounds

@@ -4,7 +4,7 @@ use Rattle.capn_value.specs.Tree.{Tree}
 use Rattle.capn_value.specs.InRange.{InRange}
 use Rattle.capn_value.specs.Fits.{Fits}
 use Rattle.capn_value.specs.Same.{Same}
-use Rattle.capn_value.specs.Sizes.{base, cost}
+use Rattle.capn_value.specs.Cost.{base, cost}
 use Rattle.capn_value.specs.Trim.{trimmed}
 use Rattle.capn_walk.specs.Accepted.{paid}
 use Rattle.capn_walk.specs.Limits.{Bounds}

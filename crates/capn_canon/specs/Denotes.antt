@@ -1,7 +1,7 @@
 -- Which value bytes denote within limits, and what is answered of it: its canonical bytes and a price.
 use Rattle.std.specs.Prelude.{◌≡◌, ℕ, List, None}
 use Rattle.capn_value.specs.Tree.{Tree}
-use Rattle.capn_value.specs.Caps.{first_cap}
+use Rattle.capn_value.specs.FirstCap.{first_cap}
 use Rattle.capn_walk.specs.Accepted.{IsValueOf, paid}
 use Rattle.capn_walk.specs.Limits.{Bounds}
 use Rattle.capn_canon.specs.declared.form.Form.{Form}

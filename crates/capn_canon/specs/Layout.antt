@@ -2,8 +2,8 @@
 use Rattle.std.specs.Prelude.{ℕ, zero, suc, ◌+◌, ◌-◌, ◌*◌, ◌^◌, ◌==◌, ◌&&◌, List, [], ◌∷◌, ◌++◌, map, length, take}
 use Rattle.std.specs.Prelude.{drop, pos, negsuc, if◌then◌else◌}
 use Rattle.std.specs.Int.{from_bool}
-use Rattle.capn_words.specs.Words.{bytes}
-use Rattle.capn_words.specs.Fields.{word_of}
+use Rattle.capn_words.specs.Message.{bytes}
+use Rattle.capn_words.specs.Pointers.{word_of}
 use Rattle.capn_words.specs.declared.pointer.Pointer.TheVariants.{Node, Many, Cap}
 use Rattle.capn_words.specs.declared.pointer.Width.{Width}
 use Rattle.capn_words.specs.declared.pointer.Width.TheVariants.{W0, W1, W8, W16, W32, W64, Link, Rows}

@@ -1,7 +1,7 @@
 -- Why a tree has no layout.
 use Rattle.std.specs.Prelude.{◌≡◌, Some, ⊤}
 use Rattle.capn_value.specs.Tree.{Tree}
-use Rattle.capn_value.specs.Caps.{first_cap}
+use Rattle.capn_value.specs.FirstCap.{first_cap}
 use Rattle.capn_canon.specs.declared.tree_layout.LayoutFault.{LayoutFault}
 use Rattle.capn_canon.specs.declared.tree_layout.LayoutFault.TheVariants.{Memory, Capability}
 

@@ -6,9 +6,9 @@ pub mod Layout
 pub mod LayoutFault
 pub mod Patch
 pub mod Reads
-pub mod Refused
-pub mod Checks
-pub mod Surveys
-pub mod Told
-pub mod Wanted
+pub mod Refusal
+pub mod BareVerdict
+pub mod SurveyedBytes
+pub mod Display
+pub mod MemoryNeed
 pub mod Theorem

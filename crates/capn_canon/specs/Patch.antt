@@ -2,7 +2,7 @@
 use Rattle.std.specs.Prelude.{◌≡◌, ℕ, zero, suc, ◌*◌, ◌/◌, ◌%◌, ◌≤◌, ◌==◌, List, [], ◌∷◌, length, take, drop, map, ⊤}
 use Rattle.std.specs.Prelude.{slice_get, slice_index, Bool, true, false, Option, Some, None}
 use Rattle.std.specs.Int.{bit_at}
-use Rattle.capn_words.specs.Words.{word_number, AreBytes}
+use Rattle.capn_words.specs.Message.{word_number, AreBytes}
 
 -- a hole stands there (Own.)
 abbrev pub IsHole : List (Option ℕ) → ℕ → Type 0

@@ -1,9 +1,8 @@
 -- Which message bytes are read as, in each form. (Page: messages, serialization over a stream, packing; the limits
 -- are our own.)
 use Rattle.std.specs.Prelude.{◌≡◌, ℕ, ◌+◌, ◌*◌, ◌<◌, ◌≤◌, List, [], ◌∷◌, length}
-use Rattle.capn_words.specs.Message.{total}
-use Rattle.capn_words.specs.Words.{IsBare}
-use Rattle.capn_pack.specs.Packs.{Packs}
+use Rattle.capn_words.specs.Message.{total, IsBare}
+use Rattle.capn_pack.specs.Packed.{Packs}
 use Rattle.capn_stream.specs.Frames.{Frames, StandsFirst, most_table_words}
 use Rattle.capn_canon.specs.declared.form.Form.{Form}
 use Rattle.capn_canon.specs.declared.form.Form.TheVariants as forms

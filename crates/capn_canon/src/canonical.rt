@@ -3,21 +3,20 @@
 ghost use Rattle.std.specs.Prelude.{◌≡◌, ◌≢◌, ℕ, ◌*◌, ◌+◌, ◌<◌, ◌≤◌, None, length, IfOk, IfErr, IsErrOf, MatchResult};
 ghost use Rattle.capn_words.specs.Message.{IsMessage, segment_at};
 ghost use Rattle.capn_value.specs.Tree.{Tree as Value};
-ghost use Rattle.capn_value.specs.Caps.{first_cap};
-ghost use Rattle.capn_walk.specs.Stops.{root};
-ghost use Rattle.capn_walk.specs.At.{IsAt};
-ghost use Rattle.capn_walk.specs.Accepted.{IsValueOf};
+ghost use Rattle.capn_value.specs.FirstCap.{first_cap};
+ghost use Rattle.capn_walk.specs.Accepted.{root, IsValueOf};
+ghost use Rattle.capn_walk.specs.ValueAt.{IsAt};
 ghost use Rattle.capn_canon.specs.Layout.{canon};
 ghost use Rattle.capn_canon.specs.Denotes.{AnswersMessage};
 ghost use Rattle.capn_canon.specs.inner.Outcomes.{IsCanonicalised};
 ghost use Rattle.capn_canon.specs.Canonicity.{ReadsBack, PaysItsCost, IsItsOwnForm, IsFormExactlyOf};
-ghost use Rattle.capn_canon.specs.Refused.{IsRefusedMessage, IsPaidWithin};
+ghost use Rattle.capn_canon.specs.Refusal.{IsRefusedMessage, IsPaidWithin};
 ghost use Rattle.capn_canon.specs.declared.refusal.Refusal.TheVariants as refusals;
 ghost use Rattle.capn_canon.specs.inner.ReadyPlaces.{IsReady};
-ghost use Rattle.capn_canon.specs.Wanted.{MayWantBytes};
+ghost use Rattle.capn_canon.specs.MemoryNeed.{MayWantBytes};
 
 use crate::draft::Draft;
-use crate::placing::lay_slot;
+use crate::object_layout::lay_slot;
 use crate::refusal::Refusal;
 use capn_value::Memory;
 use capn_walk::{Fault, Limits, survey};

@@ -4,7 +4,7 @@ ghost use Rattle.std.specs.Prelude.{◌≡◌, ℕ, ◌+◌, ◌*◌, ◌≤◌,
 ghost use Rattle.capn_canon.specs.inner.RowWords.{kept_each};
 ghost use Rattle.capn_words.specs.Message.{IsMessage};
 ghost use Rattle.capn_value.specs.Trim.{kept_words};
-ghost use Rattle.capn_walk.specs.At.{words_from};
+ghost use Rattle.capn_walk.specs.ValueAt.{words_from};
 ghost use Rattle.capn_walk.specs.Shapes.{IsContent};
 
 use capn_words::{Place, Space};

@@ -29,43 +29,43 @@
 //! ```
 #![tactic(auto)]
 
-mod accounting;
+mod bare_verdict;
 mod bits;
 mod canonical;
-mod canonicalising;
-mod checked;
-mod checking;
-mod content;
+mod canonical_input;
 mod draft;
 mod elements;
-mod finding;
 mod form;
 mod kept;
+mod known_target;
 pub mod laws;
-mod listing;
+mod layout_test;
+mod list_words;
 mod marks;
-mod opening;
+mod message_survey;
+mod object_layout;
+mod own_words;
+mod own_words_test;
 mod patch;
-mod placing;
-mod pointing;
+mod pointer_words;
 mod refusal;
-mod rows;
 mod run;
-mod surveying;
-mod testing;
+mod survey_input;
+mod surveyed_bare;
+mod tree_content;
 mod tree_layout;
-mod verdict;
+mod tree_rows;
 
-pub use accounting::account;
+pub use survey_input::account;
 pub use canonical::{Canonical, canonical_of};
-pub use canonicalising::canonicalise;
-pub use checked::Checked;
+pub use canonical_input::canonicalise;
+pub use surveyed_bare::Checked;
 pub use form::Form;
 pub use patch::Patch;
 pub use refusal::Refusal;
-pub use surveying::survey;
+pub use message_survey::survey;
 pub use tree_layout::{LayoutFault, layout};
-pub use verdict::{check, is_canonical};
+pub use bare_verdict::{check, is_canonical};
 
 // What the signatures above name.
 pub use capn_pack::UnpackFault;

@@ -30,7 +30,7 @@ pub enum Refusal {
 
 impl fmt::Display for Refusal {
     ghost use Rattle.std.specs.Prelude.{Some};
-    ghost use Rattle.capn_canon.specs.Told.{refusal_text};
+    ghost use Rattle.capn_canon.specs.Display.{refusal_text};
 
     ghost output = { λ fault. Some (refusal_text fault) };
 

@@ -1,15 +1,15 @@
 //! The canonical layout of a tree.
 
 ghost use Rattle.std.specs.Prelude.{◌≡◌, ℕ, ◌+◌, ◌^◌, ◌≤◌, Some, None, IfOk, IfErr, OnOk};
-ghost use Rattle.capn_value.specs.View.{tree_of};
-ghost use Rattle.capn_value.specs.Caps as caps;
+ghost use Rattle.capn_value.specs.TreeOf.{tree_of};
+ghost use Rattle.capn_value.specs.FirstCap as caps;
 ghost use Rattle.capn_canon.specs.Layout.{size, canon};
 ghost use Rattle.capn_canon.specs.LayoutFault.{IsLayoutFault};
 ghost use Rattle.capn_canon.specs.inner.Sound.{Sound};
 
-use crate::content::lay_value;
+use crate::tree_content::lay_value;
 use crate::patch::Patch;
-use crate::pointing::pointer_to;
+use crate::pointer_words::pointer_to;
 use capn_value::{Memory, Tree, Value, first_cap};
 use std::alloc::Allocator;
 use std::error::Error;
@@ -27,7 +27,7 @@ pub enum LayoutFault {
 
 impl fmt::Display for LayoutFault {
     ghost use Rattle.std.specs.Prelude.{Some};
-    ghost use Rattle.capn_canon.specs.Told.{layout_text};
+    ghost use Rattle.capn_canon.specs.Display.{layout_text};
 
     ghost output = { λ fault. Some (layout_text fault) };
 

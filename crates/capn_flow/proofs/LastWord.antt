@@ -8,13 +8,12 @@ use Rattle.std.proofs.lemmas.Bool.{cases_lt, ne_eqb}
 use Rattle.std.proofs.lemmas.List.{drop-replicate, get_or-drop, length-replicate}
 use Rattle.std.proofs.lemmas.Grind.{flat_map-append}
 use Rattle.std.specs.List.{AllByRecursion}
-use Rattle.capn_pack.specs.Group.{Group, IsGroup, text, content, words, tag_of}
-use Rattle.capn_pack.specs.Group.Group.{Zeros, Named, Raw}
-use Rattle.capn_pack.specs.Packs.{texts, contents, word_count}
+use Rattle.capn_pack.specs.Packed.{Group, IsGroup, text, content, words, tag_of, texts, contents, word_count}
+use Rattle.capn_pack.specs.Packed.Group.{Zeros, Named, Raw}
 use Rattle.capn_pack.specs.Chosen.{AllDense, Chosen, IsChoice, IsChosenRow, zero_count}
 use Rattle.capn_pack.proofs.shared.ChosenLaws.{chosen_whole}
 use Rattle.capn_pack.proofs.shared.GroupLemmas.{length_content, length_contents}
-use Rattle.capn_flow.specs.Packing.{IsSettled, last_word}
+use Rattle.capn_flow.specs.PackRun.{IsSettled, last_word}
 use Rattle.capn_flow.proofs.Settled.{Last, each_front, row_after, settled_front, settled_whole, words_some}
 
 -- ---- zero bytes and tags

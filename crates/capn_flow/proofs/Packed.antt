@@ -8,12 +8,12 @@ use Rattle.std.proofs.lemmas.List.{take-append-le}
 use Rattle.std.specs.Io.KnownBytes.{Appends}
 use Rattle.std.proofs.KnownBytes.{Appends-nil, Appends-trans}
 use Rattle.capn_pack.specs.Chosen.{Chosen}
-use Rattle.capn_words.specs.Watching.{HasBegun}
+use Rattle.capn_words.specs.Watched.{HasBegun}
 use Rattle.capn_flow.specs.declared.fault.FlowFault.{FlowFault}
 use Rattle.capn_flow.specs.declared.fault.FlowFault.TheVariants as faults
 use Rattle.capn_flow.specs.Flow.{Ending, Ends, HasEnded, HasWritten, Stops}
-use Rattle.capn_flow.specs.Packing.{IsFront, PacksPart, Settles, most_held, ending_of, packing, packing_last}
-use Rattle.capn_flow.specs.Packing.{whole_of}
+use Rattle.capn_flow.specs.PackRun.{IsFront, PacksPart, Settles, most_held, ending_of, packing, packing_last}
+use Rattle.capn_flow.specs.PackRun.{whole_of}
 
 abbrev stopped : FlowFault → Ending
 stopped fault = Err fault

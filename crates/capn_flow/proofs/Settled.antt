@@ -8,17 +8,16 @@ use Rattle.std.proofs.lemmas.List.{drop-append-le, drop_all, get_or-drop, take-a
 use Rattle.std.proofs.lemmas.Bool.{cases_lt}
 use Rattle.std.proofs.lemmas.Grind.{flat_map-append}
 use Rattle.std.specs.List.{AllByRecursion}
-use Rattle.capn_pack.specs.Group.{Group, IsGroup, text, content, words}
-use Rattle.capn_pack.specs.Group.Group.{Zeros, Named, Raw}
-use Rattle.capn_pack.specs.Packs.{texts, contents, word_count}
+use Rattle.capn_pack.specs.Packed.{Group, IsGroup, text, content, words, texts, contents, word_count}
+use Rattle.capn_pack.specs.Packed.Group.{Zeros, Named, Raw}
 use Rattle.capn_pack.specs.Chosen.{Chosen, IsChoice, IsChosenRow, IsDense}
-use Rattle.capn_pack.specs.Some.{StandsNext, UnpacksSome}
-use Rattle.capn_pack.specs.declared.some.Next.{Next}
-use Rattle.capn_pack.specs.declared.some.Next.TheVariants as nexts
+use Rattle.capn_pack.specs.WholeGroups.{StandsNext, UnpacksSome}
+use Rattle.capn_pack.specs.declared.whole_groups.Next.{Next}
+use Rattle.capn_pack.specs.declared.whole_groups.Next.TheVariants as nexts
 use Rattle.capn_pack.proofs.shared.ChosenLaws.{chosen_whole}
 use Rattle.capn_pack.proofs.shared.GroupLaws.{goes_on, head_of, no_group}
 use Rattle.capn_pack.proofs.shared.GroupLemmas.{count_append, length_content, length_contents, text_some}
-use Rattle.capn_flow.specs.Packing.{IsSettled, Settles, most_held, whole_of}
+use Rattle.capn_flow.specs.PackRun.{IsSettled, Settles, most_held, whole_of}
 
 -- ---- whole words
 

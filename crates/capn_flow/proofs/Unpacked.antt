@@ -7,16 +7,15 @@ use Rattle.std.proofs.lemmas.List.{take-append-le}
 use Rattle.std.proofs.lemmas.Grind.{flat_map-append}
 use Rattle.std.specs.Io.KnownBytes.{Appends}
 use Rattle.std.proofs.KnownBytes.{Appends-trans}
-use Rattle.capn_pack.specs.Group.{text, content}
-use Rattle.capn_pack.specs.Packs.{texts, contents}
-use Rattle.capn_pack.specs.Stream as packing
-use Rattle.capn_pack.specs.Stream.{Held, Splits, advanced}
+use Rattle.capn_pack.specs.Packed.{text, content, texts, contents}
+use Rattle.capn_pack.specs.PackedPieces as packing
+use Rattle.capn_pack.specs.PackedPieces.{Held, Splits, advanced}
 use Rattle.capn_pack.proofs.shared.GroupLemmas.{each_append}
 use Rattle.capn_pack.proofs.shared.StreamLemmas.{splits_open, splits_then}
 use Rattle.capn_flow.specs.declared.fault.FlowFault.{FlowFault}
 use Rattle.capn_flow.specs.declared.fault.FlowFault.TheVariants as faults
 use Rattle.capn_flow.specs.Flow.{Ending, Ends, Stops, most}
-use Rattle.capn_flow.specs.Unpacking.{IsUnpacking, Unpacks, ending_of, fresh, unpacking}
+use Rattle.capn_flow.specs.UnpackRun.{IsUnpacking, Unpacks, ending_of, fresh, unpacking}
 
 -- ---- what was unpacked
 

@@ -1,4 +1,4 @@
-pub mod Told
+pub mod FaultText
 pub mod Flow
-pub mod Unpacking
-pub mod Packing
+pub mod UnpackRun
+pub mod PackRun

@@ -1,7 +1,7 @@
 //! Why a stream isn't packed or unpacked to its end.
 
 ghost use Rattle.std.specs.Prelude.{◌≡◌};
-ghost use Rattle.capn_flow.specs.Told.{status_of};
+ghost use Rattle.capn_flow.specs.FaultText.{status_of};
 
 use std::alloc::AllocError;
 use std::error::Error;
@@ -34,7 +34,7 @@ impl From<AllocError> for FlowFault {
 
 impl fmt::Display for FlowFault {
     ghost use Rattle.std.specs.Prelude.{Some};
-    ghost use Rattle.capn_flow.specs.Told.{fault_text};
+    ghost use Rattle.capn_flow.specs.FaultText.{fault_text};
 
     ghost output = { λ fault. Some (fault_text fault) };
 

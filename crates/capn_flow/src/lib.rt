@@ -11,9 +11,9 @@
 
 mod fault;
 mod output;
-mod packing;
-mod unpacking;
+mod pack_run;
+mod unpack_run;
 
 pub use fault::FlowFault;
-pub use packing::pack_stream;
-pub use unpacking::unpack_stream;
+pub use pack_run::pack_stream;
+pub use unpack_run::unpack_stream;

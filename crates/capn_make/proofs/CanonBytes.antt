@@ -2,17 +2,17 @@
 use Rattle.std.proofs.Common.{◌≡◌, ℕ, ◌*◌, ◌/◌, ◌%◌, ◌^◌, ◌<◌, List, ◌++◌, length, replicate, arith, ap}
 use Rattle.std.proofs.Common.{length-append, refl}
 use Rattle.std.specs.Int.{to_le_bytes, w32}
-use Rattle.capn_words.specs.Words.{IsBare}
+use Rattle.capn_words.specs.Message.{IsBare}
 use Rattle.capn_words.proofs.shared.Words.{length-bytes}
 use Rattle.capn_value.specs.Tree.{Tree}
 use Rattle.capn_value.specs.Fits.{Fits}
 use Rattle.capn_value.specs.InRange.{InRange}
-use Rattle.capn_value.specs.Sizes.{cost, height}
+use Rattle.capn_value.specs.Cost.{cost, height}
 use Rattle.capn_value.specs.declared.tariff.Tariff.TheVariants.{Plain}
 use Rattle.capn_walk.specs.Limits.{Bounds}
 use Rattle.capn_canon.specs.Layout.{canon}
 use Rattle.capn_canon.specs.Laws.{CanonIsForm}
-use Rattle.capn_make.specs.Pieces.{framed}
+use Rattle.capn_make.specs.WrittenValue.{framed}
 
 -- limits that a value meets
 limits_of : Tree → Bounds

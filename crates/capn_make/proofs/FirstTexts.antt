@@ -6,8 +6,8 @@ use Rattle.capn_value.specs.Tree.{Tree}
 use Rattle.capn_value.specs.Text.{show_text}
 use Rattle.capn_text.specs.Streams.{end_line, ended_lines, stream_text}
 use Rattle.capn_canon.specs.declared.form.Form.{Form}
-use Rattle.capn_make.specs.Pieces.{IsMakeable, IsPiece, AreMade}
-use Rattle.capn_make.specs.Makes.{AreFirst}
+use Rattle.capn_make.specs.WrittenValue.{IsMakeable, IsPiece, AreMade}
+use Rattle.capn_make.specs.MadeInput.{AreFirst}
 
 pub lines_append : (x y : List ℕ) → ended_lines (x ++ y) ≡ ended_lines x + ended_lines y
 lines_append [] y = omega arith

@@ -4,11 +4,11 @@ use Rattle.std.proofs.Common.{Option, Some, Ok, Err, refl, sym, ap, subst, â—Œâˆ
 use Rattle.std.proofs.Math.Seq.{take-append-add, take_all}
 use Rattle.std.specs.Io.KnownBytes.{Appends}
 use Rattle.std.proofs.KnownBytes.{Appends-nil, Appends-trans}
-use Rattle.capn_words.specs.Watching.{HasBegun}
+use Rattle.capn_words.specs.Watched.{HasBegun}
 use Rattle.capn_text.specs.Streams.{Place, ended_lines, stream_text}
 use Rattle.capn_canon.specs.declared.form.Form.{Form}
-use Rattle.capn_make.specs.Makes.{IsRefused}
-use Rattle.capn_make.specs.Made.{HasBegunEach}
+use Rattle.capn_make.specs.MadeInput.{IsRefused}
+use Rattle.capn_make.specs.MakeRun.{HasBegunEach}
 use Rattle.capn_make.specs.inner.RunParts.{HasMade, MakesNext, SendsEach}
 use Rattle.capn_make.specs.declared.fault.MakeFault.{MakeFault}
 use Rattle.capn_make.specs.declared.fault.MakeFault.TheVariants as faults

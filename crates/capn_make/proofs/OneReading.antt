@@ -5,17 +5,17 @@ use Rattle.std.proofs.Common.{◌∙◌, append_assoc, arith}
 use Rattle.std.proofs.lemmas.List.{append-nil, length-append}
 use Rattle.std.specs.List.{AllByRecursion}
 use Rattle.capn_value.specs.Tree.{Tree}
-use Rattle.capn_value.specs.Caps.{first_cap}
+use Rattle.capn_value.specs.FirstCap.{first_cap}
 use Rattle.capn_value.specs.Fits.{Fits, misfit}
 use Rattle.capn_value.proofs.shared.Fitting.{fit_parts}
-use Rattle.capn_value.specs.Sizes.{height, most_height}
+use Rattle.capn_value.specs.Cost.{height, most_height}
 use Rattle.capn_value.specs.Text.{show_text}
 use Rattle.capn_value.specs.declared.misfit.Misfit.{Misfit}
 use Rattle.capn_text.specs.Laws.{TextsAreApart, FittingIsShowable}
 use Rattle.capn_text.specs.Showable.{IsShowable}
 use Rattle.capn_text.specs.Streams.{end_line, stream_text, GoesTooDeep}
-use Rattle.capn_make.specs.Pieces.{IsMakeable}
-use Rattle.capn_make.specs.Makes.{IsRefused, EndsAfter, line_after}
+use Rattle.capn_make.specs.WrittenValue.{IsMakeable}
+use Rattle.capn_make.specs.MadeInput.{IsRefused, EndsAfter, line_after}
 use Rattle.capn_make.specs.declared.fault.MakeFault.{MakeFault}
 use Rattle.capn_make.specs.declared.fault.MakeFault.TheVariants as faults
 

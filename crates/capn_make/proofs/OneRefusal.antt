@@ -5,16 +5,16 @@ use Rattle.std.proofs.Common.{◌∙◌, arith}
 use Rattle.std.proofs.lemmas.Bool.{cases_lt}
 use Rattle.std.proofs.lemmas.List.{append-nil, length-append}
 use Rattle.capn_value.specs.Tree.{Tree, nil}
-use Rattle.capn_value.specs.Caps.{first_cap}
+use Rattle.capn_value.specs.FirstCap.{first_cap}
 use Rattle.capn_value.specs.Fits.{misfit}
 use Rattle.capn_value.proofs.shared.Fitting.{fit_parts}
-use Rattle.capn_value.specs.Sizes.{height, most_height}
+use Rattle.capn_value.specs.Cost.{height, most_height}
 use Rattle.capn_value.specs.Text.{show_text}
 use Rattle.capn_value.specs.declared.misfit.Misfit.{Misfit}
 use Rattle.capn_text.specs.Laws.{TextsAreApart, FittingIsShowable}
 use Rattle.capn_text.specs.Showable.{IsShowable}
 use Rattle.capn_text.specs.Streams.{end_line, ended_lines, ended_text, first_lines, IsFirstWrong, GoesTooDeep}
-use Rattle.capn_make.specs.Makes.{IsRefused, EndsAfter, Follows, line_after}
+use Rattle.capn_make.specs.MadeInput.{IsRefused, EndsAfter, Follows, line_after}
 use Rattle.capn_make.specs.declared.fault.MakeFault.{MakeFault}
 use Rattle.capn_make.specs.declared.fault.MakeFault.TheVariants as faults
 use Rattle.capn_make.proofs.OneReading.{fit_not, next_same}

@@ -2,7 +2,7 @@
 use Rattle.std.proofs.Common.{◌≡◌, inr, ℕ, List, [], ◌∷◌, Some, Ok, Err, sym, ap, subst, ◌∙◌, arith, Vec}
 use Rattle.capn_text.specs.Streams.{Place, ended_lines, stream_text}
 use Rattle.capn_canon.specs.declared.form.Form.TheVariants as forms
-use Rattle.capn_make.specs.Makes.{AreFirst, Follows, line_after}
+use Rattle.capn_make.specs.MadeInput.{AreFirst, Follows, line_after}
 use Rattle.capn_make.specs.inner.RunParts.{MakesNext, EndsOne, GivesOne}
 use Rattle.capn_make.specs.declared.fault.MakeFault.{MakeFault}
 use Rattle.capn_make.proofs.FirstTexts.{lines_append, first_more}

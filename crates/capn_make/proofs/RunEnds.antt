@@ -4,11 +4,11 @@ use Rattle.std.proofs.Common.{Option, Some, None, IfSome, Result, Ok, Err, refl,
 use Rattle.std.proofs.Math.Seq.{take_all}
 use Rattle.std.specs.Io.KnownBytes.{Appends, Consumes, IsAtEnd}
 use Rattle.std.proofs.KnownBytes.{Appends-nil, Consumes-whole}
-use Rattle.capn_words.specs.Watching.{HasBegun}
+use Rattle.capn_words.specs.Watched.{HasBegun}
 use Rattle.capn_canon.specs.declared.form.Form.{Form}
 use Rattle.capn_canon.specs.declared.form.Form.TheVariants as forms
-use Rattle.capn_make.specs.Makes.{Makes, MakesEach, IsNotOne}
-use Rattle.capn_make.specs.Made.{HasBegunEach, HasBegunText, EndsAs, Made}
+use Rattle.capn_make.specs.MadeInput.{Makes, MakesEach, IsNotOne}
+use Rattle.capn_make.specs.MakeRun.{HasBegunEach, HasBegunText, EndsAs, Made}
 use Rattle.capn_make.specs.inner.RunParts.{ReadsAll, Sends}
 use Rattle.capn_make.specs.declared.fault.MakeFault.{MakeFault}
 use Rattle.capn_make.specs.declared.fault.MakeFault.TheVariants as faults

@@ -7,8 +7,8 @@ use Rattle.capn_value.specs.Tree.{Tree}
 use Rattle.capn_text.specs.Laws.{TextsAreApart, FittingIsShowable}
 use Rattle.capn_text.specs.Streams.{stream_text}
 use Rattle.capn_canon.specs.Layout.{canon}
-use Rattle.capn_make.specs.Pieces.{IsMakeable, AreMade}
-use Rattle.capn_make.specs.Makes.{AreFirst, IsNotOne, Follows, EndsAfter, line_after}
+use Rattle.capn_make.specs.WrittenValue.{IsMakeable, AreMade}
+use Rattle.capn_make.specs.MadeInput.{AreFirst, IsNotOne, Follows, EndsAfter, line_after}
 use Rattle.capn_make.specs.Laws.{ShownAreMade, ShownAreMadeOnly, OneShownIsMade, OneShownIsMadeOnly, OneMaking}
 use Rattle.capn_make.specs.Laws.{OneTextInFrames}
 use Rattle.capn_make.specs.declared.fault.MakeFault.{MakeFault}

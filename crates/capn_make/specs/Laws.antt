@@ -1,7 +1,7 @@
 -- What holds of the definitions alone. (Own.)
 use Rattle.std.specs.Prelude.{◌≡◌, ◌⊎◌, ℕ, List, [], ◌∷◌, Result, Ok}
 use Rattle.std.specs.List.{AllByRecursion}
-use Rattle.capn_words.specs.Words.{IsBare}
+use Rattle.capn_words.specs.Message.{IsBare}
 use Rattle.capn_stream.specs.Frames.{Frames}
 use Rattle.capn_value.specs.Tree.{Tree}
 use Rattle.capn_value.specs.Fits.{Fits}
@@ -10,8 +10,8 @@ use Rattle.capn_text.specs.Streams.{stream_text, GoesTooDeep}
 use Rattle.capn_canon.specs.Layout.{canon}
 use Rattle.capn_canon.specs.declared.form.Form.{Form}
 use Rattle.capn_canon.specs.declared.form.Form.TheVariants as forms
-use Rattle.capn_make.specs.Pieces.{IsMakeable, AreMade, framed}
-use Rattle.capn_make.specs.Makes.{AreFirst, MakesEach, MakesOne}
+use Rattle.capn_make.specs.WrittenValue.{IsMakeable, AreMade, framed}
+use Rattle.capn_make.specs.MadeInput.{AreFirst, MakesEach, MakesOne}
 use Rattle.capn_make.specs.declared.fault.MakeFault.{MakeFault}
 
 -- of the texts that `show` writes of values that can be made, all are made

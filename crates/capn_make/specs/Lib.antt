@@ -1,6 +1,6 @@
 pub mod inner
-pub mod Told
-pub mod Pieces
-pub mod Makes
-pub mod Made
+pub mod FaultText
+pub mod WrittenValue
+pub mod MadeInput
+pub mod MakeRun
 pub mod Laws

@@ -1,7 +1,7 @@
 //! Why a run of `make` ends without having made all of its input.
 
 ghost use Rattle.std.specs.Prelude.{◌≡◌};
-ghost use Rattle.capn_make.specs.Told.{status_of};
+ghost use Rattle.capn_make.specs.FaultText.{status_of};
 ghost use Rattle.capn_make.specs.declared.fault.MakeFault.TheVariants as faults;
 
 use capn_value::Misfit;
@@ -47,7 +47,7 @@ impl MakeFault {
 /// Shows the text that a program prints after its name.
 impl fmt::Display for MakeFault {
     ghost use Rattle.std.specs.Prelude.{Some};
-    ghost use Rattle.capn_make.specs.Told.{fault_text};
+    ghost use Rattle.capn_make.specs.FaultText.{fault_text};
 
     ghost output = { λ fault. Some (fault_text fault) };
 

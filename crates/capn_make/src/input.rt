@@ -1,7 +1,7 @@
 //! All of the input.
 
 ghost use Rattle.std.specs.Prelude.{◌≡◌, false};
-ghost use Rattle.capn_words.specs.Watching.{inner_of, has_failed};
+ghost use Rattle.capn_words.specs.Watched.{inner_of, has_failed};
 ghost use Rattle.capn_make.specs.inner.RunParts.{ReadsAll};
 
 use crate::fault::MakeFault;

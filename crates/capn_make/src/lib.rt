@@ -5,18 +5,18 @@
 //! [`MakeFault`], which names the line.
 #![tactic(auto)]
 
-mod each;
+mod each_text;
 mod fault;
 mod input;
 pub mod laws;
-mod making;
-mod next;
-mod one;
+mod make_run;
+mod next_text;
+mod one_text;
 mod output;
-mod piece;
+mod written_value;
 
 pub use fault::MakeFault;
-pub use making::make;
+pub use make_run::make;
 
 // What the signatures above name.
 pub use capn_canon::Form;

@@ -2,7 +2,7 @@
 
 ghost use Rattle.std.specs.Prelude.{◌≡◌, true, false, OnOk, OnErr, IsOkUnless};
 ghost use Rattle.std.specs.Io.KnownBytes.{Appends};
-ghost use Rattle.capn_words.specs.Watching.{HasBegun, inner_of, has_failed};
+ghost use Rattle.capn_words.specs.Watched.{HasBegun, inner_of, has_failed};
 
 use crate::fault::MakeFault;
 use capn_words::Watched;

@@ -14,7 +14,7 @@ use Rattle.std.specs.Int.Bits.{bit_or, or_zero_l, or_zero_r}
 use Rattle.std.proofs.Math.Seq.{take-append-add}
 use lib.Lanes.{Each1, pick_l, zip2}
 use mir.Val.{zeroes}
-use Rattle.capn_pack.specs.Group.{named_bytes, IsNamedBy}
+use Rattle.capn_pack.specs.Packed.{named_bytes, IsNamedBy}
 use Rattle.capn_pack.specs.inner.ShuffleRows.{spread_places, spread_row, gather_places, gather_row}
 use Rattle.capn_pack.specs.declared.spread_table.TheConstants.{SPREADS}
 use Rattle.capn_pack.specs.declared.gather_table.TheConstants.{GATHERS}

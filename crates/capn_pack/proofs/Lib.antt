@@ -6,6 +6,6 @@ mod PutLemmas
 mod WordLemmas
 mod LaneLemmas
 mod RowLemmas
-mod SomeLemmas
+mod WholeGroupLemmas
 mod StartLemmas
 pub mod PackedRows

@@ -1,8 +1,8 @@
 -- Words and their packed texts, from the encoding page: the definitions compute to what one reads there.
 use Rattle.std.proofs.Common.{◌≡◌, ℕ, List, [], ◌∷◌, ◌++◌, get_or, replicate, refl, ap, arith}
-use Rattle.capn_pack.specs.Group.Group.{Named, Raw, Zeros}
+use Rattle.capn_pack.specs.Packed.Group.{Named, Raw, Zeros}
 use Rattle.capn_pack.specs.Chosen.{Chosen}
-use Rattle.capn_pack.specs.Group.{IsNamedBy, tag_of}
+use Rattle.capn_pack.specs.Packed.{IsNamedBy, tag_of}
 
 -- 08 00 00 00 03 00 02 00
 first_word : List ℕ

@@ -3,12 +3,10 @@ use Rattle.std.proofs.Common.{◌≡◌, ℕ, ◌+◌, ◌-◌, ◌*◌, ◌<◌
 use Rattle.std.proofs.Common.{replicate, sym, ap, ◌∙◌, subst, arith, append_assoc, take-append-drop, drop-drop}
 use Rattle.std.proofs.Common.{length-take, length-drop}
 use Rattle.std.proofs.lemmas.List.{replicate-append-replicate, append-nil, drop_all}
-use Rattle.capn_pack.specs.Group.{text, content}
-use Rattle.capn_pack.specs.Packs.{texts, contents}
+use Rattle.capn_pack.specs.Packed.{text, content, texts, contents, tag_of, named_bytes}
 use Rattle.capn_pack.specs.Chosen.{IsChoice, IsChosenRow, Chosen, IsDense, AllDense}
 use Rattle.capn_pack.specs.inner.Steps.{Puts, PutsRow}
-use Rattle.capn_pack.specs.Group.{tag_of, named_bytes}
-use Rattle.capn_pack.specs.Group.Group.{Zeros, Named, Raw}
+use Rattle.capn_pack.specs.Packed.Group.{Zeros, Named, Raw}
 use Rattle.std.proofs.lemmas.Grind.{flat_map-append}
 use Rattle.capn_pack.proofs.shared.GroupLemmas.{texts_more, contents_more, count_more, count_append}
 use Rattle.capn_pack.proofs.RunLemmas.{tag_zero, named_exact}

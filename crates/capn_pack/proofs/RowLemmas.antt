@@ -3,9 +3,8 @@ use Rattle.std.proofs.Common.{◌≡◌, ℕ, ◌+◌, ◌-◌, ◌*◌, ◌≤�
 use Rattle.std.proofs.Common.{sym, ap, ◌∙◌, subst, arith, append_assoc, length-append, take-add, take-append-drop}
 use Rattle.std.proofs.Common.{length-take, length-drop, take_all}
 use Rattle.std.proofs.lemmas.Grind.{flat_map-append}
-use Rattle.capn_pack.specs.Group.{text, content}
-use Rattle.capn_pack.specs.Packs.{Packs, texts, contents, word_count}
-use Rattle.capn_pack.specs.Refusal.{Stands}
+use Rattle.capn_pack.specs.Packed.{text, content, Packs, texts, contents, word_count}
+use Rattle.capn_pack.specs.UnpackRefusal.{Stands}
 use Rattle.capn_pack.specs.inner.Steps.{Takes, TakesRow}
 use Rattle.capn_pack.proofs.shared.GroupLemmas.{texts_more, contents_more, each_more, rest_is, length_content}
 use Rattle.capn_pack.proofs.shared.GroupLemmas.{length_contents, each_append}

@@ -6,7 +6,7 @@ use Rattle.std.proofs.Common.{take_all}
 use Rattle.std.proofs.lemmas.Bool.{ne_eqb, lt-ltb}
 use Rattle.std.proofs.lemmas.List.{replicate-append-replicate, take-append-le, drop-append-le, drop_all}
 use Rattle.std.specs.Prelude.{count_ones}
-use Rattle.capn_pack.specs.Group.{tag_of, named_bytes, IsNamedBy}
+use Rattle.capn_pack.specs.Packed.{tag_of, named_bytes, IsNamedBy}
 use Rattle.capn_pack.specs.Chosen.{zero_count, IsDense, AllDense}
 use Rattle.capn_pack.proofs.shared.SpreadLemmas.{ones_half, no_ones}
 

@@ -5,14 +5,13 @@ use Rattle.std.proofs.Common.{take-append-drop, Result, IsErrAnd}
 use Rattle.std.proofs.lemmas.Bool.{cases_lt}
 use Rattle.std.proofs.lemmas.Result.{err_from_is_err_and}
 use Rattle.std.specs.List.{AllByRecursion}
-use Rattle.capn_pack.specs.Group.{Group, IsGroup, text, words}
-use Rattle.capn_pack.specs.Group.Group.{Zeros, Named, Raw}
+use Rattle.capn_pack.specs.Packed.{Group, IsGroup, text, words, texts, word_count}
+use Rattle.capn_pack.specs.Packed.Group.{Zeros, Named, Raw}
 use Rattle.capn_pack.specs.inner.Joins.{Joins}
-use Rattle.capn_pack.specs.declared.unpack_piece.Joined.TheVariants as joins
-use Rattle.capn_pack.specs.Packs.{texts, word_count}
-use Rattle.capn_pack.specs.Refusal.{StartsWithin}
+use Rattle.capn_pack.specs.declared.text_piece.Joined.TheVariants as joins
+use Rattle.capn_pack.specs.UnpackRefusal.{StartsWithin}
 use Rattle.capn_pack.specs.inner.Steps.{TakeGives, TakesRow}
-use Rattle.capn_pack.specs.Stream.{NoGroupFirst}
+use Rattle.capn_pack.specs.PackedPieces.{NoGroupFirst}
 use Rattle.capn_pack.specs.declared.unpack_group.Stop.{Stop}
 use Rattle.capn_pack.specs.declared.unpack_group.Stop.TheVariants.{Memory}
 use Rattle.capn_pack.specs.declared.unpack_group.Taken.{Taken}

@@ -4,7 +4,7 @@ use Rattle.std.proofs.Common.{length, refl, ◌∙◌, arith, w8, replicate}
 use Rattle.std.proofs.lemmas.Simd.{bitmask_splat, mask_l-lt}
 use Rattle.std.proofs.lemmas.List.{length-map}
 use lib.Lanes.{mask_l, top, zip2}
-use Rattle.capn_pack.specs.Group.{tag_of}
+use Rattle.capn_pack.specs.Packed.{tag_of}
 
 abbrev differs : ℕ → ℕ → Bool
 differs a b = not (eqb a b)

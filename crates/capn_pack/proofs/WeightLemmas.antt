@@ -2,7 +2,7 @@
 use Rattle.std.proofs.Common.{◌≡◌, ℕ, zero, suc, ◌+◌, ◌*◌, ◌%◌, ◌≤◌, Bool, true, false, not, cond, eqb, List, []}
 use Rattle.std.proofs.Common.{◌∷◌, map, length, refl, ap, ◌∙◌, arith, replicate}
 use lib.Lanes.{fold_l, sel_l, top, zip2}
-use Rattle.capn_pack.specs.Group.{tag_of}
+use Rattle.capn_pack.specs.Packed.{tag_of}
 
 -- n weights from one on, each twice the one before
 abbrev weights : ℕ → ℕ → List ℕ

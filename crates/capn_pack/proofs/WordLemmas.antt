@@ -6,10 +6,9 @@ use Rattle.std.proofs.lemmas.Bool.{cases_lt}
 use Rattle.std.proofs.lemmas.Nat.{le_bytes_8}
 use Rattle.std.specs.Int.{w64, to_le_bytes, from_le_bytes}
 use Rattle.std.specs.List.{AllByRecursion}
-use Rattle.capn_pack.specs.Group.{named_bytes, IsNamedBy}
-use Rattle.capn_pack.specs.Group.{Group, IsGroup, text, content}
-use Rattle.capn_pack.specs.Group.Group.{Zeros, Named, Raw}
-use Rattle.capn_pack.specs.Packs.{Packs, texts, contents, word_count}
+use Rattle.capn_pack.specs.Packed.{named_bytes, IsNamedBy, Group, IsGroup, text, content, Packs, texts, contents}
+use Rattle.capn_pack.specs.Packed.{word_count}
+use Rattle.capn_pack.specs.Packed.Group.{Zeros, Named, Raw}
 use Rattle.capn_pack.proofs.shared.SpreadLemmas.{parity, named_one, named_none}
 use Rattle.capn_pack.proofs.shared.GroupLemmas.{length_contents}
 use Rattle.capn_pack.specs.Words.{AreBytes, HasWords}

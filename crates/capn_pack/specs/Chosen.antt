@@ -1,10 +1,8 @@
 -- The one text that this packer writes, of the many that pack the same words. (Own.)
 use Rattle.std.specs.Prelude.{ℕ, ◌≡◌, ◌+◌, ◌<◌, ◌≤◌, ◌==◌, if◌then◌else◌, List, [], ◌∷◌, length, replicate, take, drop}
 use Rattle.std.specs.Prelude.{suc, zero, ⊤}
-use Rattle.capn_pack.specs.Group.{tag_of}
-use Rattle.capn_pack.specs.Group.{Group, IsGroup}
-use Rattle.capn_pack.specs.Group.Group.{Zeros, Named, Raw}
-use Rattle.capn_pack.specs.Packs.{texts, contents}
+use Rattle.capn_pack.specs.Packed.{tag_of, Group, IsGroup, texts, contents}
+use Rattle.capn_pack.specs.Packed.Group.{Zeros, Named, Raw}
 
 -- How many of some bytes are zero.
 abbrev pub zero_count : List ℕ → ℕ

@@ -1,8 +1,8 @@
 -- The laws of packed texts.
 use Rattle.std.specs.Prelude.{◌≡◌, ◌≢◌, ℕ, ◌*◌, ◌≤◌, List, length}
-use Rattle.capn_pack.specs.Packs.{Packs}
-use Rattle.capn_pack.specs.Refusal.{IsRefused}
-use Rattle.capn_pack.specs.Stream.{Splits}
+use Rattle.capn_pack.specs.Packed.{Packs}
+use Rattle.capn_pack.specs.UnpackRefusal.{IsRefused}
+use Rattle.capn_pack.specs.PackedPieces.{Splits}
 use Rattle.capn_pack.specs.declared.fault.UnpackFault.{UnpackFault}
 use Rattle.capn_pack.specs.declared.fault.UnpackFault.TheVariants.{Memory}
 

@@ -1,10 +1,9 @@
 pub mod inner
-pub mod Group
-pub mod Packs
+pub mod Packed
 pub mod Chosen
-pub mod Refusal
+pub mod UnpackRefusal
 pub mod Words
-pub mod Stream
+pub mod PackedPieces
 pub mod Laws
-pub mod Told
-pub mod Some
+pub mod Display
+pub mod WholeGroups

@@ -26,7 +26,7 @@ impl From<AllocError> for PackFault {
 
 impl fmt::Display for PackFault {
     ghost use Rattle.std.specs.Prelude.{Some};
-    ghost use Rattle.capn_pack.specs.Told.{pack_text};
+    ghost use Rattle.capn_pack.specs.Display.{pack_text};
 
     ghost output = { λ fault. Some (pack_text fault) };
 
@@ -71,7 +71,7 @@ impl From<AllocError> for UnpackFault {
 
 impl fmt::Display for UnpackFault {
     ghost use Rattle.std.specs.Prelude.{Some};
-    ghost use Rattle.capn_pack.specs.Told.{unpack_text};
+    ghost use Rattle.capn_pack.specs.Display.{unpack_text};
 
     ghost output = { λ fault. Some (unpack_text fault) };
 

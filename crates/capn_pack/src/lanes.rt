@@ -1,6 +1,6 @@
 //! One word and its tag, eight or sixteen lanes at a time.
 ghost use Rattle.std.specs.Prelude.{◌≡◌, ◌+◌, ◌≤◌, ◌∷◌, ◌++◌, length, take, replicate, count_ones, ℕ};
-ghost use Rattle.capn_pack.specs.Group.{tag_of, named_bytes, IsNamedBy};
+ghost use Rattle.capn_pack.specs.Packed.{tag_of, named_bytes, IsNamedBy};
 
 use crate::gather_table::gather_places;
 use crate::spread_table::spread_places;

@@ -1,6 +1,6 @@
 //! Groups written into a block, so that they are appended together.
 ghost use Rattle.std.specs.Prelude.{◌≡◌, ◌+◌, ◌≤◌, ◌∷◌, ◌++◌, [], length, take, IfSome, IfNone};
-ghost use Rattle.capn_pack.specs.Group.{named_bytes};
+ghost use Rattle.capn_pack.specs.Packed.{named_bytes};
 ghost use Rattle.capn_pack.specs.inner.Steps.{Puts, PutsRow};
 
 use crate::block::Block;

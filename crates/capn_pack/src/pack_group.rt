@@ -1,6 +1,6 @@
 //! One group, written after others.
 ghost use Rattle.std.specs.Prelude.{◌≡◌, ◌+◌, ◌<◌, ◌≤◌, ◌∷◌, ◌++◌, length, take, drop, IfOk, OnOk};
-ghost use Rattle.capn_pack.specs.Group.{tag_of, named_bytes};
+ghost use Rattle.capn_pack.specs.Packed.{tag_of, named_bytes};
 ghost use Rattle.capn_pack.specs.inner.Steps.{Puts};
 
 use crate::lanes::gather;

@@ -1,6 +1,6 @@
 //! The tag of a word as the packer takes it.
 ghost use Rattle.std.specs.Prelude.{◌≡◌};
-ghost use Rattle.capn_pack.specs.Group.{tag_of};
+ghost use Rattle.capn_pack.specs.Packed.{tag_of};
 
 use std::simd::prelude::*;
 

@@ -1,7 +1,7 @@
 //! Groups read into a block, so that their words are appended together.
 ghost use Rattle.std.specs.Prelude.{◌≡◌, ◌+◌, ◌*◌, ◌<◌, ◌-◌, ◌≤◌, ◌++◌, [], length, take, slice_range, replicate, ℕ};
 ghost use Rattle.std.specs.Prelude.{IfSome, IfNone, IfOk, OnErr};
-ghost use Rattle.capn_pack.specs.Refusal.{StartsWithin};
+ghost use Rattle.capn_pack.specs.UnpackRefusal.{StartsWithin};
 ghost use Rattle.capn_pack.specs.inner.Steps.{Takes, TakesRow};
 
 use crate::block::Block;

@@ -1,9 +1,9 @@
 //! Unpacking a text that comes in pieces.
 ghost use Rattle.std.specs.Prelude.{◌≡◌, ◌≢◌, ◌++◌, [], true, false, IfErr, OnOk, IsErrOf, IsOk};
-ghost use Rattle.capn_pack.specs.Stream.{Feeds, Begins, NoGroupFirst};
+ghost use Rattle.capn_pack.specs.PackedPieces.{Feeds, Begins, NoGroupFirst};
 
 use crate::fault::UnpackFault;
-use crate::unpack_piece::{HELD, feed_held};
+use crate::text_piece::{HELD, feed_held};
 use std::alloc::Allocator;
 use std::marker::Model;
 
@@ -22,7 +22,7 @@ pub struct Unpacker {
 
 impl Model for Unpacker {
     ghost use Rattle.std.specs.Prelude.{◌<◌, take};
-    ghost use Rattle.capn_pack.specs.Stream.{Held, NoGroupFirst};
+    ghost use Rattle.capn_pack.specs.PackedPieces.{Held, NoGroupFirst};
     ghost use Rattle.capn_pack.specs.declared.unpack_group.TheConstants.{GROUP};
 
     ghost Value = { Held };

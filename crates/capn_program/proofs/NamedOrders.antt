@@ -2,15 +2,15 @@
 use Rattle.std.proofs.Common.{◌≡◌, ◌⊎◌, inl, inr, ℕ, List, Bool, true, false, Some, codes, ap, arith, refl, sym}
 use Rattle.clap.specs.Words.{Row}
 use Rattle.capn_tool.specs.Meaning.{Means}
-use Rattle.capn_tool.specs.declared.orders.Command.{Command}
-use Rattle.capn_tool.specs.declared.orders.Command.TheVariants as commands
-use Rattle.capn_archive.specs.declared.order.Archive.{Archive}
-use Rattle.capn_archive.specs.declared.order.Task.{Task}
-use Rattle.capn_archive.specs.declared.order.Task.TheVariants as tasks
+use Rattle.capn_tool.specs.declared.command.Command.{Command}
+use Rattle.capn_tool.specs.declared.command.Command.TheVariants as commands
+use Rattle.capn_archive.specs.declared.task.Archive.{Archive}
+use Rattle.capn_archive.specs.declared.task.Task.{Task}
+use Rattle.capn_archive.specs.declared.task.Task.TheVariants as tasks
 use Rattle.capn_program.specs.Meaning.{AreOptions, FlagIs, IsTask, IsUsual, MeansOrder}
-use Rattle.capn_program.specs.declared.orders.Flow.TheVariants as flows
-use Rattle.capn_program.specs.declared.orders.Order.{Order}
-use Rattle.capn_program.specs.declared.orders.Order.TheVariants as orders
+use Rattle.capn_program.specs.declared.order.Flow.TheVariants as flows
+use Rattle.capn_program.specs.declared.order.Order.{Order}
+use Rattle.capn_program.specs.declared.order.Order.TheVariants as orders
 use Rattle.capn_program.proofs.OneOrder.{never_command, tell_of, tell_task, told}
 
 -- what `list` orders is over an archive, with or without digests

@@ -7,21 +7,21 @@ use Rattle.capn_canon.specs.declared.form.Form.{Form}
 use Rattle.capn_canon.specs.declared.form.Form.TheVariants as forms
 use Rattle.capn_tool.specs.Meaning.{Means}
 use Rattle.capn_tool.proofs.shared.OneMeaning.{form_one, limits_one, means_one, number_one}
-use Rattle.capn_tool.specs.declared.orders.Command.{Command}
-use Rattle.capn_tool.specs.declared.orders.Command.TheVariants as commands
-use Rattle.capn_archive.specs.declared.order.Archive.{Archive}
-use Rattle.capn_archive.specs.declared.order.Task.{Task}
-use Rattle.capn_archive.specs.declared.order.Task.TheVariants as tasks
+use Rattle.capn_tool.specs.declared.command.Command.{Command}
+use Rattle.capn_tool.specs.declared.command.Command.TheVariants as commands
+use Rattle.capn_archive.specs.declared.task.Archive.{Archive}
+use Rattle.capn_archive.specs.declared.task.Task.{Task}
+use Rattle.capn_archive.specs.declared.task.Task.TheVariants as tasks
 use Rattle.capn_archive.specs.declared.uniq.Uniq.{Uniq}
 use Rattle.capn_serve.specs.declared.pick.Pick.{Pick}
 use Rattle.capn_serve.specs.declared.pick.StreamForm.{StreamForm}
 use Rattle.capn_serve.specs.declared.pick.StreamForm.TheVariants as stream_forms
 use Rattle.capn_program.specs.Meaning.{AreOptions, FlagIs, HasNoFlag, IsFlow, IsTask, MeansOneOrder, MeansOrder}
 use Rattle.capn_program.specs.Meaning.{PickIs, UniqIs, flag_text, form_of, usual_with}
-use Rattle.capn_program.specs.declared.orders.Flow.{Flow}
-use Rattle.capn_program.specs.declared.orders.Flow.TheVariants as flows
-use Rattle.capn_program.specs.declared.orders.Order.{Order}
-use Rattle.capn_program.specs.declared.orders.Order.TheVariants as orders
+use Rattle.capn_program.specs.declared.order.Flow.{Flow}
+use Rattle.capn_program.specs.declared.order.Flow.TheVariants as flows
+use Rattle.capn_program.specs.declared.order.Order.{Order}
+use Rattle.capn_program.specs.declared.order.Order.TheVariants as orders
 
 -- the first character of a text
 abbrev first_in : Option Text → ℕ

@@ -4,17 +4,17 @@ use Rattle.std.proofs.Common.{IsErrOf, ◌↔◌, ap, sym}
 use Rattle.std.specs.Io.KnownBytes.{Appends, Keeps}
 use Rattle.clap.specs.declared.error.ErrorKind.{ErrorKind}
 use Rattle.clap.specs.declared.error.ErrorKind.TheVariants as kinds
-use Rattle.capn_words.specs.Watching.{HasBegun}
-use Rattle.capn_tool.specs.Ends.{Course, course}
-use Rattle.capn_tool.specs.Ends as tool
-use Rattle.capn_tool.specs.Sending.{EndsFlushed}
-use Rattle.capn_tool.specs.Status.{status_of}
-use Rattle.capn_tool.specs.Told.{Tells}
+use Rattle.capn_words.specs.Watched.{HasBegun}
+use Rattle.capn_tool.specs.Program.{Course, course}
+use Rattle.capn_tool.specs.Program as tool
+use Rattle.capn_tool.specs.Outgoing.{EndsFlushed}
+use Rattle.capn_tool.specs.ExitStatus.{status_of}
+use Rattle.capn_tool.specs.FaultText.{Tells}
 use Rattle.capn_tool.proofs.shared.Written.{begun_all, kept, sound}
 use Rattle.capn_tool.specs.declared.fault.ToolFault.{ToolFault}
 use Rattle.capn_tool.specs.declared.fault.ToolFault.TheVariants as faults
-use Rattle.capn_program.specs.Ends.{EndsUnordered, ShowsVersion}
-use Rattle.capn_program.specs.Misuse.{version_line}
+use Rattle.capn_program.specs.Program.{EndsUnordered, ShowsVersion}
+use Rattle.capn_program.specs.Usage.{version_line}
 
 abbrev Ending : Type 0
 Ending = Result (Unit {0}) ToolFault

@@ -1,6 +1,6 @@
-pub mod Line
+pub mod CommandLine
 pub mod Meaning
-pub mod Misuse
-pub mod Status
-pub mod Told
-pub mod Ends
+pub mod Usage
+pub mod ExitStatus
+pub mod FaultText
+pub mod Program

@@ -4,26 +4,26 @@ use Rattle.std.specs.Str.{bytes_eq}
 use Rattle.clap.specs.Words.{Row, Text, one_of}
 use Rattle.clap.specs.declared.parser.matches.ValueSource.{ValueSource}
 use Rattle.clap.specs.declared.parser.matches.ValueSource.TheVariants as sources
-use Rattle.capn_words.specs.Limits.{most_message_words}
+use Rattle.capn_words.specs.Message.{most_message_words}
 use Rattle.capn_value.specs.declared.tariff.Tariff.TheVariants as tariffs
 use Rattle.capn_walk.specs.Limits.{Bounds}
 use Rattle.capn_canon.specs.declared.form.Form.{Form}
 use Rattle.capn_canon.specs.declared.form.Form.TheVariants as forms
 use Rattle.capn_tool.specs.Meaning.{FormIs, LimitsAre, Means, NumberIs}
-use Rattle.capn_tool.specs.declared.orders.Command.{Command}
-use Rattle.capn_tool.specs.declared.orders.Command.TheVariants as commands
-use Rattle.capn_archive.specs.declared.order.Archive.{Archive}
-use Rattle.capn_archive.specs.declared.order.Task.{Task}
-use Rattle.capn_archive.specs.declared.order.Task.TheVariants as tasks
+use Rattle.capn_tool.specs.declared.command.Command.{Command}
+use Rattle.capn_tool.specs.declared.command.Command.TheVariants as commands
+use Rattle.capn_archive.specs.declared.task.Archive.{Archive}
+use Rattle.capn_archive.specs.declared.task.Task.{Task}
+use Rattle.capn_archive.specs.declared.task.Task.TheVariants as tasks
 use Rattle.capn_archive.specs.declared.uniq.Uniq.{Uniq}
 use Rattle.capn_serve.specs.declared.pick.Pick.{Pick}
 use Rattle.capn_serve.specs.declared.pick.StreamForm.{StreamForm}
 use Rattle.capn_serve.specs.declared.pick.StreamForm.TheVariants as streams
-use Rattle.capn_program.specs.Line.{most_number}
-use Rattle.capn_program.specs.declared.orders.Flow.{Flow}
-use Rattle.capn_program.specs.declared.orders.Flow.TheVariants as flows
-use Rattle.capn_program.specs.declared.orders.Order.{Order}
-use Rattle.capn_program.specs.declared.orders.Order.TheVariants as orders
+use Rattle.capn_program.specs.CommandLine.{most_number}
+use Rattle.capn_program.specs.declared.order.Flow.{Flow}
+use Rattle.capn_program.specs.declared.order.Flow.TheVariants as flows
+use Rattle.capn_program.specs.declared.order.Order.{Order}
+use Rattle.capn_program.specs.declared.order.Order.TheVariants as orders
 
 -- the value of a flag that is given, and of one that isn't
 abbrev pub flag_text : Bool → Text

@@ -11,25 +11,25 @@
 //! ```
 #![tactic(auto)]
 
-mod ending;
-mod flow_ending;
+mod archive_exit;
+mod command_line;
+mod entry;
+mod fault_line;
+mod flow_exit;
 mod help;
 pub mod laws;
-mod line;
-mod make_ending;
-mod orders;
-mod pick_ending;
-mod start;
+mod make_exit;
+mod order;
+mod pick_exit;
 mod subcommands;
-mod telling;
 
-pub use ending::{archive_text, end_archive, status_of_archive};
-pub use flow_ending::end_flow;
-pub use line::order_of;
-pub use make_ending::end_make;
-pub use orders::{Flow, Order};
-pub use pick_ending::end_pick;
-pub use start::program;
+pub use archive_exit::{archive_text, end_archive, status_of_archive};
+pub use flow_exit::end_flow;
+pub use command_line::order_of;
+pub use make_exit::end_make;
+pub use order::{Flow, Order};
+pub use pick_exit::end_pick;
+pub use entry::program;
 pub use subcommands::program_command;
 
 // What the signatures above name.

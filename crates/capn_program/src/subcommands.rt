@@ -3,12 +3,13 @@
 ghost use Rattle.std.specs.Prelude.{◌≡◌, IfOk, false};
 ghost use Rattle.clap.specs.Words.{app_of, kind_of, rule_of};
 ghost use Rattle.clap.specs.declared.error.ErrorKind.TheVariants as kinds;
-ghost use Rattle.capn_tool.specs.Line.{HasLine};
-ghost use Rattle.capn_program.specs.Line.{archive_line, bytes_line, canonical_bytes_line, canonical_line, flag_rule};
-ghost use Rattle.capn_program.specs.Line.{flagged_line, make_line, messages_line, packing_line, pick_line};
-ghost use Rattle.capn_program.specs.Line.{place_rule, program_line, reading_line, surveying_line, top_line};
-ghost use Rattle.capn_program.specs.Line.{unpacking_line};
-ghost use Rattle.capn_tool.specs.Line.{words_rule};
+ghost use Rattle.capn_tool.specs.CommandLine.{HasLine};
+ghost use Rattle.capn_program.specs.CommandLine.{archive_line, bytes_line, canonical_bytes_line, canonical_line};
+ghost use Rattle.capn_program.specs.CommandLine.{flag_rule};
+ghost use Rattle.capn_program.specs.CommandLine.{flagged_line, make_line, messages_line, packing_line, pick_line};
+ghost use Rattle.capn_program.specs.CommandLine.{place_rule, program_line, reading_line, surveying_line, top_line};
+ghost use Rattle.capn_program.specs.CommandLine.{unpacking_line};
+ghost use Rattle.capn_tool.specs.CommandLine.{words_rule};
 
 use crate::help;
 use capn_tool::help::Page;

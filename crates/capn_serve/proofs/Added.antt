@@ -3,11 +3,11 @@ use Rattle.std.proofs.Common.{◌≡◌, ◌⊎◌, ◌↔◌, inl, inr, ℕ, Li
 use Rattle.std.proofs.Common.{Err, IsErrAnd, IsErrOf, refl, ap, sym, subst, ◌∙◌, append-nil}
 use Rattle.std.specs.Io.KnownBytes.{Appends}
 use Rattle.std.proofs.KnownBytes.{Appends-nil}
-use Rattle.capn_words.specs.Watching.{HasBegun}
+use Rattle.capn_words.specs.Watched.{HasBegun}
 use Rattle.capn_canon.specs.declared.refusal.Refusal.{Refusal}
 use Rattle.capn_serve.specs.Fold.{Fold}
-use Rattle.capn_serve.specs.Sending.{outgoing}
-use Rattle.capn_serve.specs.Serving.{AddsMessage, PutsMessage}
+use Rattle.capn_serve.specs.Outgoing.{outgoing}
+use Rattle.capn_serve.specs.ChunkRun.{AddsMessage, PutsMessage}
 use Rattle.capn_serve.specs.declared.fault.RunFault.{RunFault}
 use Rattle.capn_serve.specs.declared.fault.RunFault.TheVariants as faults
 

@@ -5,8 +5,8 @@ use Rattle.std.proofs.Common.{◌∙◌, append-nil, arith, length-append}
 use Rattle.std.specs.Io.KnownBytes.{Appends}
 use Rattle.std.proofs.KnownBytes.{Appends-nil}
 use Rattle.std.proofs.Math.Seq.{take_all}
-use Rattle.capn_words.specs.Watching.{HasBegun}
-use Rattle.capn_words.specs.Words.{ReadsBare}
+use Rattle.capn_words.specs.Watched.{HasBegun}
+use Rattle.capn_words.specs.Message.{ReadsBare}
 use Rattle.capn_words.specs.declared.bare.BareFault.{BareFault}
 use Rattle.capn_canon.specs.declared.refusal.Refusal.TheVariants as refusals
 use Rattle.capn_serve.specs.declared.position.Position.{Position}

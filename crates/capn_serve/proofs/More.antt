@@ -12,8 +12,8 @@ use Rattle.capn_canon.specs.declared.refusal.Refusal.{Refusal}
 use Rattle.capn_canon.specs.declared.refusal.Refusal.TheVariants as refusals
 use Rattle.capn_serve.specs.Fold.{Fold, Part, IsPart, AreServed, AreParts, frame_of, text_of, frames_of, texts_of}
 use Rattle.capn_serve.specs.Fold.{IsFolded, end_of}
-use Rattle.capn_serve.specs.Sending.{Outgoing, Adds, Breaks}
-use Rattle.capn_serve.specs.Serving.{AddsMessage, Tells, TellsFront, IsDueSo, Stops, fault_at}
+use Rattle.capn_serve.specs.Outgoing.{Outgoing, Adds, Breaks}
+use Rattle.capn_serve.specs.ChunkRun.{AddsMessage, Tells, TellsFront, IsDueSo, Stops, fault_at}
 use Rattle.capn_serve.specs.declared.fault.RunFault.{RunFault}
 use Rattle.capn_serve.specs.declared.fault.RunFault.TheVariants as faults
 use Rattle.capn_serve.proofs.Sends.{adds_more, adds_none, breaks_behind}

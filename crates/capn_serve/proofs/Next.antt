@@ -7,10 +7,10 @@ use Rattle.std.proofs.Math.Seq.{take-add, take_all}
 use Rattle.std.proofs.lemmas.Bool.{cases_lt}
 use Rattle.std.proofs.lemmas.Grind.{flat_map-append}
 use Rattle.std.specs.Io.KnownBytes.{Appends}
-use Rattle.capn_words.specs.Watching.{HasBegun}
+use Rattle.capn_words.specs.Watched.{HasBegun}
 use Rattle.capn_words.specs.Message.{total}
 use Rattle.capn_stream.specs.Frames.{Frames, StandsFirst}
-use Rattle.capn_stream.specs.Framing.{FeedGives, Feeds, Framing, IsFrame, IsUnfinished, TakeGives}
+use Rattle.capn_stream.specs.StreamPieces.{FeedGives, Feeds, Framing, IsFrame, IsUnfinished, TakeGives}
 use Rattle.capn_stream.specs.declared.fault.FrameFault.{FrameFault}
 use Rattle.capn_stream.specs.declared.fault.FrameFault.TheVariants as frame_faults
 use Rattle.capn_stream.proofs.shared.FrameLaws.{refused_whole, stands_alone, whole_of}
@@ -21,10 +21,10 @@ use Rattle.capn_serve.specs.declared.service.Run.{Run}
 use Rattle.capn_serve.specs.declared.fault.RunFault.{RunFault}
 use Rattle.capn_serve.specs.declared.fault.RunFault.TheVariants as faults
 use Rattle.capn_serve.specs.Fold.{Fold, Part, AreServed, AreParts, after, fold_of, frames_of, texts_of}
-use Rattle.capn_serve.specs.Sending.{Outgoing, Adds, SendsRest, outgoing, sent}
-use Rattle.capn_serve.specs.Serving.{AddsMessage, HasRoom, IsDueSo, IsListening, Passes, Serves, ServesHeld}
-use Rattle.capn_serve.specs.Serving.{ServesNext}
-use Rattle.capn_serve.specs.Serving.{ServesWhole, Stops, Tells, fault_at}
+use Rattle.capn_serve.specs.Outgoing.{Outgoing, Adds, SendsRest, outgoing, sent}
+use Rattle.capn_serve.specs.ChunkRun.{AddsMessage, HasRoom, IsDueSo, IsListening, Passes, Serves, ServesHeld}
+use Rattle.capn_serve.specs.ChunkRun.{ServesNext}
+use Rattle.capn_serve.specs.ChunkRun.{ServesWhole, Stops, Tells, fault_at}
 use Rattle.capn_serve.proofs.Sends.{adds_all, breaks_rest}
 use Rattle.capn_serve.proofs.More.{parts_none, tells_more, tells_none, tells_one, stops_framed, stops_memory}
 use Rattle.capn_serve.proofs.More.{stops_message, stops_more}

@@ -7,27 +7,26 @@ use Rattle.std.proofs.lemmas.List.{take-append-le}
 use Rattle.std.proofs.lemmas.Grind.{flat_map-append}
 use Rattle.std.specs.Io.KnownBytes.{Appends, Consumes, IsAtEnd, Keeps}
 use Rattle.std.proofs.KnownBytes.{Consumes-nil, Consumes-trans, Consumes-kept}
-use Rattle.capn_pack.specs.Group.{text, content}
-use Rattle.capn_pack.specs.Packs.{texts, contents}
-use Rattle.capn_pack.specs.Stream as packing
-use Rattle.capn_pack.specs.Stream.{Splits}
+use Rattle.capn_pack.specs.Packed.{text, content, texts, contents}
+use Rattle.capn_pack.specs.PackedPieces as packing
+use Rattle.capn_pack.specs.PackedPieces.{Splits}
 use Rattle.capn_pack.proofs.shared.GroupLemmas.{each_append}
 use Rattle.capn_pack.proofs.shared.SplitLaws.{splits_all}
 use Rattle.capn_pack.proofs.shared.StreamLemmas.{nothing_first}
-use Rattle.capn_stream.specs.Framing.{IsUnfinished}
-use Rattle.capn_stream.specs.Reading as frame_rules
+use Rattle.capn_stream.specs.StreamPieces.{IsUnfinished}
+use Rattle.capn_stream.specs.FrameRefusal as frame_rules
 use Rattle.capn_stream.specs.declared.fault.FrameFault.{FrameFault}
 use Rattle.capn_stream.specs.declared.fault.FrameFault.TheVariants as frames
 use Rattle.capn_serve.specs.declared.fault.RunFault.{RunFault}
 use Rattle.capn_serve.specs.declared.fault.RunFault.TheVariants as faults
 use Rattle.capn_serve.specs.Fold.{Fold, IsFolded, end_of, texts_of}
-use Rattle.capn_serve.specs.Sending.{sent}
-use Rattle.capn_serve.specs.Serving.{Tells, TellsFront}
+use Rattle.capn_serve.specs.Outgoing.{sent}
+use Rattle.capn_serve.specs.ChunkRun.{Tells, TellsFront}
 use Rattle.capn_serve.specs.StreamRun.{Kept, has_more, taken_of}
 use Rattle.capn_serve.specs.PackedRun.{BeginsPacked, EndsPackedAs, HasEndedPacked, HasWrittenPacked, IsDuePacked}
 use Rattle.capn_serve.specs.PackedRun.{RunsPacked, cut_group, most_packed, unless_more}
-use Rattle.capn_serve.specs.PackedServing.{EndsPacked, HaltsPacked, HearsPacked, IsDueWithin, IsUnpacking}
-use Rattle.capn_serve.specs.PackedServing.{Pending, TellsPacked, fresh}
+use Rattle.capn_serve.specs.PackedChunkRun.{EndsPacked, HaltsPacked, HearsPacked, IsDueWithin, IsUnpacking}
+use Rattle.capn_serve.specs.PackedChunkRun.{Pending, TellsPacked, fresh}
 use Rattle.capn_serve.proofs.InputRead.{kept_all, read_end, read_past, taken_front, taken_more}
 use Rattle.capn_serve.proofs.Sends.{adds_sent}
 use Rattle.capn_serve.proofs.PackedMore.{all_taken, begins_all, not_more, packed_more, packed_none, packed_stop}

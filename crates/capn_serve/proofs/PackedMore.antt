@@ -8,15 +8,14 @@ use Rattle.std.proofs.lemmas.Bool.{cases_lt}
 use Rattle.std.proofs.lemmas.Bool.Decides.{nat_tests}
 use Rattle.std.proofs.lemmas.Grind.{flat_map-append}
 use Rattle.std.specs.Io.KnownBytes.{Appends}
-use Rattle.capn_words.specs.Watching.{HasBegun}
-use Rattle.capn_pack.specs.Group.{text, content}
-use Rattle.capn_pack.specs.Packs.{texts, contents}
-use Rattle.capn_pack.specs.Stream as packing
-use Rattle.capn_pack.specs.Stream.{Feeds, Held, Splits, advanced}
+use Rattle.capn_words.specs.Watched.{HasBegun}
+use Rattle.capn_pack.specs.Packed.{text, content, texts, contents}
+use Rattle.capn_pack.specs.PackedPieces as packing
+use Rattle.capn_pack.specs.PackedPieces.{Feeds, Held, Splits, advanced}
 use Rattle.capn_pack.proofs.shared.GroupLemmas.{each_append}
 use Rattle.capn_pack.proofs.shared.StreamLemmas.{splits_open, splits_then}
-use Rattle.capn_stream.specs.Framing.{Framing, IsUnfinished}
-use Rattle.capn_stream.specs.Reading as frame_rules
+use Rattle.capn_stream.specs.StreamPieces.{Framing, IsUnfinished}
+use Rattle.capn_stream.specs.FrameRefusal as frame_rules
 use Rattle.capn_stream.specs.declared.fault.FrameFault.{FrameFault}
 use Rattle.capn_stream.specs.declared.fault.FrameFault.TheVariants as frames
 use Rattle.capn_canon.specs.declared.refusal.Refusal.{Refusal}
@@ -25,12 +24,12 @@ use Rattle.capn_serve.specs.declared.service.Run.{Run}
 use Rattle.capn_serve.specs.declared.fault.RunFault.{RunFault}
 use Rattle.capn_serve.specs.declared.fault.RunFault.TheVariants as faults
 use Rattle.capn_serve.specs.Fold.{Fold, Part, AreParts, EndsUnframed, IsFolded, end_of, fold_of, text_of, texts_of}
-use Rattle.capn_serve.specs.Sending.{Outgoing, SendsRest, outgoing, sent}
-use Rattle.capn_serve.specs.Serving.{HasRoom, IsDueSo, Stops, Tells, TellsFront}
+use Rattle.capn_serve.specs.Outgoing.{Outgoing, SendsRest, outgoing, sent}
+use Rattle.capn_serve.specs.ChunkRun.{HasRoom, IsDueSo, Stops, Tells, TellsFront}
 use Rattle.capn_serve.specs.StreamRun.{has_more, taken_of}
 use Rattle.capn_serve.specs.PackedRun.{unless_more}
-use Rattle.capn_serve.specs.PackedServing.{Halts, HaltsPacked, IsDueWithin, IsUnpacking, Pending, ServesPacked}
-use Rattle.capn_serve.specs.PackedServing.{ServesPart, TellsPacked, pending}
+use Rattle.capn_serve.specs.PackedChunkRun.{Halts, HaltsPacked, IsDueWithin, IsUnpacking, Pending, ServesPacked}
+use Rattle.capn_serve.specs.PackedChunkRun.{ServesPart, TellsPacked, pending}
 use Rattle.capn_serve.proofs.InputRead.{taken_more}
 use Rattle.capn_serve.proofs.More.{front_behind, parts_more, stops_memory, tells_more, tells_none}
 use Rattle.capn_serve.proofs.Next.{room_told, tells_broken, tells_sent}

@@ -6,10 +6,10 @@ use Rattle.std.proofs.Math.Seq.{take_all}
 use Rattle.std.proofs.lemmas.List.{take-append-le}
 use Rattle.std.specs.Io.KnownBytes.{Appends, Consumes, IsAtEnd, Keeps}
 use Rattle.std.proofs.KnownBytes.{Consumes-nil, Consumes-trans, Consumes-kept}
-use Rattle.capn_pack.specs.Packs.{texts}
-use Rattle.capn_pack.specs.Stream as packing
+use Rattle.capn_pack.specs.Packed.{texts}
+use Rattle.capn_pack.specs.PackedPieces as packing
 use Rattle.capn_pack.proofs.shared.StreamLemmas.{nothing_first}
-use Rattle.capn_stream.specs.Framing.{IsUnfinished}
+use Rattle.capn_stream.specs.StreamPieces.{IsUnfinished}
 use Rattle.capn_serve.specs.declared.fault.RunFault.{RunFault}
 use Rattle.capn_serve.specs.declared.fault.RunFault.TheVariants as faults
 use Rattle.capn_serve.specs.declared.pick.Pick.{Pick}
@@ -18,13 +18,13 @@ use Rattle.capn_serve.specs.declared.position.Position.{Position}
 use Rattle.capn_serve.specs.declared.service.Run.{Run}
 use Rattle.capn_serve.specs.Fold.{Fold, end_of, texts_of}
 use Rattle.capn_serve.specs.Pick.{first_run, last, pick_fold}
-use Rattle.capn_serve.specs.Picked.{EndsAs, HasWritten, HearsPacked, IsPickedOf, IsShort, Picks, full, most_taken}
-use Rattle.capn_serve.specs.Picked.{settled}
+use Rattle.capn_serve.specs.PickRun.{EndsAs, HasWritten, HearsPacked, IsPickedOf, IsShort, Picks, full, most_taken}
+use Rattle.capn_serve.specs.PickRun.{settled}
 use Rattle.capn_serve.specs.PackedRun as packings
 use Rattle.capn_serve.specs.PackedRun.{IsDuePacked, cut_group, unless_more}
-use Rattle.capn_serve.specs.PackedServing.{EndsPacked, HaltsPacked, IsDueWithin, IsUnpacking, Pending}
-use Rattle.capn_serve.specs.PackedServing.{TellsPacked, fresh}
-use Rattle.capn_serve.specs.Sending.{sent}
+use Rattle.capn_serve.specs.PackedChunkRun.{EndsPacked, HaltsPacked, IsDueWithin, IsUnpacking, Pending}
+use Rattle.capn_serve.specs.PackedChunkRun.{TellsPacked, fresh}
+use Rattle.capn_serve.specs.Outgoing.{sent}
 use Rattle.capn_serve.specs.StreamRun.{has_more, taken_of}
 use Rattle.capn_serve.proofs.InputRead.{read_end, read_past, taken_front}
 use Rattle.capn_serve.proofs.PackedEnds.{Fronts, due_long, due_open, fronts_stop, fronts_told, offset_is}

@@ -15,8 +15,8 @@ use Rattle.capn_serve.specs.declared.position.Position.{Position}
 use Rattle.capn_serve.specs.declared.service.Run.{Run}
 use Rattle.capn_serve.specs.Fold.{AreParts, IsFolded, Part, end_of, frames_of, texts_of}
 use Rattle.capn_serve.specs.Pick.{IsEnough, first_run, last, pick_fold}
-use Rattle.capn_serve.specs.Picked.{Begins, EndsAs, HasWritten, IsLazy, IsPickedOf, IsShort, full, most_taken}
-use Rattle.capn_serve.specs.Picked.{settled}
+use Rattle.capn_serve.specs.PickRun.{Begins, EndsAs, HasWritten, IsLazy, IsPickedOf, IsShort, full, most_taken}
+use Rattle.capn_serve.specs.PickRun.{settled}
 use Rattle.capn_serve.specs.StreamRun.{Kept, behind, has_more, taken_of}
 use Rattle.capn_serve.proofs.InputRead.{kept_all, taken_more}
 

@@ -8,8 +8,8 @@ use Rattle.std.proofs.lemmas.List.{take-append-le}
 use Rattle.std.specs.Io.KnownBytes.{Appends, Consumes, IsAtEnd, Keeps}
 use Rattle.std.proofs.KnownBytes.{Consumes-trans, Consumes-kept}
 use Rattle.capn_canon.specs.declared.refusal.Refusal.{Refusal}
-use Rattle.capn_stream.specs.Framing.{IsUnfinished}
-use Rattle.capn_stream.specs.Reading as frame_rules
+use Rattle.capn_stream.specs.StreamPieces.{IsUnfinished}
+use Rattle.capn_stream.specs.FrameRefusal as frame_rules
 use Rattle.capn_stream.specs.declared.fault.FrameFault.{FrameFault}
 use Rattle.capn_stream.specs.declared.fault.FrameFault.TheVariants as frames
 use Rattle.capn_serve.specs.declared.fault.RunFault.{RunFault}
@@ -17,8 +17,8 @@ use Rattle.capn_serve.specs.declared.fault.RunFault.TheVariants as faults
 use Rattle.capn_serve.specs.declared.position.Position.{Position}
 use Rattle.capn_serve.specs.declared.service.Run.{Run}
 use Rattle.capn_serve.specs.Fold.{Fold, AreParts, IsFolded, end_of, fold_of, texts_of}
-use Rattle.capn_serve.specs.Sending.{sent}
-use Rattle.capn_serve.specs.Serving.{HasRoom, IsDueSo, Stops, Tells, TellsFront}
+use Rattle.capn_serve.specs.Outgoing.{sent}
+use Rattle.capn_serve.specs.ChunkRun.{HasRoom, IsDueSo, Stops, Tells, TellsFront}
 use Rattle.capn_serve.specs.StreamRun.{Begins, EndsAs, EndsInput, HasEnded, HasWritten, Hears, IsDue, Kept, Runs}
 use Rattle.capn_serve.specs.StreamRun.{behind, has_more, start, taken_of}
 use Rattle.capn_serve.proofs.More.{stops_more, tells_more}

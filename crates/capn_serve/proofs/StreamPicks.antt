@@ -6,7 +6,7 @@ use Rattle.std.proofs.Math.Seq.{take_all}
 use Rattle.std.proofs.lemmas.List.{take-append-le}
 use Rattle.std.specs.Io.KnownBytes.{Appends, Consumes, IsAtEnd, Keeps}
 use Rattle.std.proofs.KnownBytes.{Consumes-nil, Consumes-trans, Consumes-kept}
-use Rattle.capn_stream.specs.Framing.{IsUnfinished}
+use Rattle.capn_stream.specs.StreamPieces.{IsUnfinished}
 use Rattle.capn_stream.specs.declared.fault.FrameFault.TheVariants as frames
 use Rattle.capn_serve.specs.declared.fault.RunFault.{RunFault}
 use Rattle.capn_serve.specs.declared.fault.RunFault.TheVariants as faults
@@ -16,9 +16,9 @@ use Rattle.capn_serve.specs.declared.service.Run.{Run}
 use Rattle.capn_serve.specs.Fold.{Fold, IsFolded, texts_of}
 use Rattle.capn_serve.specs.Pick.{IsTooFew, first_run, last, pick_fold}
 use Rattle.capn_serve.specs.declared.position.Position.{Position}
-use Rattle.capn_serve.specs.Picked.{EndsAs, HasWritten, Hears, IsPickedOf, Picks, full, most_taken, settled}
-use Rattle.capn_serve.specs.Sending.{sent}
-use Rattle.capn_serve.specs.Serving.{IsDueSo, Stops, Tells}
+use Rattle.capn_serve.specs.PickRun.{EndsAs, HasWritten, Hears, IsPickedOf, Picks, full, most_taken, settled}
+use Rattle.capn_serve.specs.Outgoing.{sent}
+use Rattle.capn_serve.specs.ChunkRun.{IsDueSo, Stops, Tells}
 use Rattle.capn_serve.specs.StreamRun as streams
 use Rattle.capn_serve.specs.StreamRun.{EndsInput, behind, has_more, taken_of}
 use Rattle.capn_serve.proofs.More.{stops_more, tells_more, tells_none}

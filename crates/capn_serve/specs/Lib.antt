@@ -1,12 +1,12 @@
 pub mod Service
 pub mod Fold
-pub mod Sending
-pub mod Serving
+pub mod Outgoing
+pub mod ChunkRun
 pub mod StreamRun
 pub mod WholeInput
 pub mod BareRun
-pub mod PackedServing
+pub mod PackedChunkRun
 pub mod PackedRun
 pub mod Pick
-pub mod Picked
+pub mod PickRun
 pub mod FormRun

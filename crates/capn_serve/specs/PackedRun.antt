@@ -2,7 +2,7 @@
 use Rattle.std.specs.Prelude.{◌≡◌, ◌⊎◌, ◌↔◌, ℕ, ◌+◌, ◌-◌, ◌^◌, ◌≤◌, List, [], ◌∷◌, length, take, Bool, true, false}
 use Rattle.std.specs.Prelude.{Option, Some, None, IfSome, Result, Ok, Err}
 use Rattle.std.specs.Io.KnownBytes.{Consumes, Appends}
-use Rattle.capn_pack.specs.Stream as packing
+use Rattle.capn_pack.specs.PackedPieces as packing
 use Rattle.capn_pack.specs.declared.fault.UnpackFault.TheVariants as cuts
 use Rattle.capn_canon.specs.declared.refusal.Refusal.TheVariants as refusals
 use Rattle.capn_serve.specs.declared.position.Position.{Position}

@@ -3,15 +3,15 @@ use Rattle.std.specs.Prelude.{◌≡◌, ◌⊎◌, ◌↔◌, ℕ, ◌+◌, ◌
 use Rattle.std.specs.Prelude.{Some}
 use Rattle.std.specs.Prelude.{None, IfSome, Result, Ok, Err}
 use Rattle.std.specs.Io.KnownBytes.{Consumes, Appends, IsAtEnd}
-use Rattle.capn_stream.specs.Reading as frame_rules
+use Rattle.capn_stream.specs.FrameRefusal as frame_rules
 use Rattle.capn_stream.specs.declared.fault.FrameFault.TheVariants as frames
 use Rattle.capn_canon.specs.declared.refusal.Refusal.TheVariants as refusals
 use Rattle.capn_serve.specs.declared.position.Position.{Position}
 use Rattle.capn_serve.specs.declared.fault.RunFault.{RunFault}
 use Rattle.capn_serve.specs.declared.fault.RunFault.TheVariants as faults
 use Rattle.capn_serve.specs.Fold.{Fold, Part, AreParts, IsFolded, texts_of}
-use Rattle.capn_serve.specs.Sending.{sent}
-use Rattle.capn_serve.specs.Serving.{Tells}
+use Rattle.capn_serve.specs.Outgoing.{sent}
+use Rattle.capn_serve.specs.ChunkRun.{Tells}
 
 -- the bytes of an input that a run takes, where it takes at most this number
 abbrev pub taken_of : ℕ → List ℕ → List ℕ

@@ -1,12 +1,11 @@
 //! A run over a bare input: the one message that it is.
 
 ghost use Rattle.std.specs.Prelude.{◌≡◌, ℕ, ◌*◌, ◌<◌, List, length, false, Err};
-ghost use Rattle.capn_words.specs.Limits.{most_words};
-ghost use Rattle.capn_words.specs.Words.{ReadsBare};
-ghost use Rattle.capn_words.specs.Watching.{inner_of, has_failed};
+ghost use Rattle.capn_words.specs.Message.{most_words, ReadsBare};
+ghost use Rattle.capn_words.specs.Watched.{inner_of, has_failed};
 ghost use Rattle.capn_serve.specs.BareRun.{GivesText, IsShortBare, RunsBare};
 ghost use Rattle.capn_serve.specs.Fold.{fold_of};
-ghost use Rattle.capn_serve.specs.Serving.{HasRoom};
+ghost use Rattle.capn_serve.specs.ChunkRun.{HasRoom};
 ghost use Rattle.capn_serve.specs.StreamRun.{start};
 ghost use Rattle.capn_serve.specs.WholeInput.{TakesAll};
 

@@ -1,8 +1,8 @@
 //! A run over an input in a form.
 
 ghost use Rattle.std.specs.Prelude.{◌≡◌, ◌≤◌, false};
-ghost use Rattle.capn_words.specs.Limits.{most_message_words};
-ghost use Rattle.capn_words.specs.Watching.{inner_of, has_failed};
+ghost use Rattle.capn_words.specs.Message.{most_message_words};
+ghost use Rattle.capn_words.specs.Watched.{inner_of, has_failed};
 ghost use Rattle.capn_serve.specs.Fold.{fold_of};
 ghost use Rattle.capn_serve.specs.FormRun.{ServesMessages};
 ghost use Rattle.capn_serve.specs.StreamRun.{start};

@@ -1,10 +1,10 @@
 //! One message of a stream, whose text joins what is written next.
 
 ghost use Rattle.std.specs.Prelude.{◌≡◌, ◌≤◌, ℕ, length, false};
-ghost use Rattle.capn_words.specs.Watching.{inner_of, has_failed};
+ghost use Rattle.capn_words.specs.Watched.{inner_of, has_failed};
 ghost use Rattle.capn_serve.specs.Fold.{fold_of};
-ghost use Rattle.capn_serve.specs.Sending.{outgoing};
-ghost use Rattle.capn_serve.specs.Serving.{AddsMessage, HasRoom, PutsMessage};
+ghost use Rattle.capn_serve.specs.Outgoing.{outgoing};
+ghost use Rattle.capn_serve.specs.ChunkRun.{AddsMessage, HasRoom, PutsMessage};
 
 use crate::fault::{RunFault, ServeFault};
 use crate::output::write_all;

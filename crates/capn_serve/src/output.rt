@@ -2,8 +2,8 @@
 
 ghost use Rattle.std.specs.Prelude.{◌≡◌, ◌↔◌, true, false, OnOk, IsErrOf, IsOkUnless};
 ghost use Rattle.std.specs.Io.KnownBytes.{Appends};
-ghost use Rattle.capn_words.specs.Watching.{HasBegun, inner_of, has_failed};
-ghost use Rattle.capn_serve.specs.Sending.{SendsRest};
+ghost use Rattle.capn_words.specs.Watched.{HasBegun, inner_of, has_failed};
+ghost use Rattle.capn_serve.specs.Outgoing.{SendsRest};
 
 use crate::fault::RunFault;
 use capn_words::Watched;

@@ -1,14 +1,14 @@
 //! A run over a packed stream, from its first byte to its last.
 
 ghost use Rattle.std.specs.Prelude.{◌≡◌, ◌+◌, ◌≤◌, length, false};
-ghost use Rattle.capn_words.specs.Limits.{most_message_words};
-ghost use Rattle.capn_words.specs.Watching.{inner_of, has_failed};
-ghost use Rattle.capn_stream.specs.Framing.{IsUnfinished};
+ghost use Rattle.capn_words.specs.Message.{most_message_words};
+ghost use Rattle.capn_words.specs.Watched.{inner_of, has_failed};
+ghost use Rattle.capn_stream.specs.StreamPieces.{IsUnfinished};
 ghost use Rattle.capn_serve.specs.Fold.{fold_of};
 ghost use Rattle.capn_serve.specs.PackedRun.{RunsPacked};
-ghost use Rattle.capn_serve.specs.PackedServing.{EndsPacked, IsUnpacking, ServesPacked, ServesPart, pending};
-ghost use Rattle.capn_serve.specs.Sending.{outgoing, sent};
-ghost use Rattle.capn_serve.specs.Serving.{HasRoom, IsListening};
+ghost use Rattle.capn_serve.specs.PackedChunkRun.{EndsPacked, IsUnpacking, ServesPacked, ServesPart, pending};
+ghost use Rattle.capn_serve.specs.Outgoing.{outgoing, sent};
+ghost use Rattle.capn_serve.specs.ChunkRun.{HasRoom, IsListening};
 ghost use Rattle.capn_serve.specs.StreamRun.{start};
 
 use crate::chunk::CHUNK;

@@ -1,11 +1,11 @@
 //! A run that writes some messages of a stream as they stand.
 
 ghost use Rattle.std.specs.Prelude.{◌≡◌, ◌≤◌, false};
-ghost use Rattle.capn_words.specs.Limits.{most_message_words};
-ghost use Rattle.capn_words.specs.Watching.{inner_of, has_failed};
+ghost use Rattle.capn_words.specs.Message.{most_message_words};
+ghost use Rattle.capn_words.specs.Watched.{inner_of, has_failed};
 ghost use Rattle.capn_serve.specs.Pick as spec;
-ghost use Rattle.capn_serve.specs.Picked.{Picks};
-ghost use Rattle.capn_serve.specs.Picked as endings;
+ghost use Rattle.capn_serve.specs.PickRun.{Picks};
+ghost use Rattle.capn_serve.specs.PickRun as endings;
 ghost use Rattle.capn_serve.specs.declared.pick.StreamForm.TheVariants as forms;
 
 use crate::chunk::CHUNK;

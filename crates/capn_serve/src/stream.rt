@@ -1,13 +1,13 @@
 //! The messages of a stream that comes in chunks.
 
 ghost use Rattle.std.specs.Prelude.{◌≡◌, ◌⊎◌, ◌≤◌, ◌+◌, ◌++◌, ℕ, List, [], length, false};
-ghost use Rattle.capn_words.specs.Limits.{most_message_words};
-ghost use Rattle.capn_words.specs.Watching.{inner_of, has_failed};
-ghost use Rattle.capn_stream.specs.Framing.{IsFrame, IsUnfinished};
+ghost use Rattle.capn_words.specs.Message.{most_message_words};
+ghost use Rattle.capn_words.specs.Watched.{inner_of, has_failed};
+ghost use Rattle.capn_stream.specs.StreamPieces.{IsFrame, IsUnfinished};
 ghost use Rattle.capn_serve.specs.Fold.{fold_of};
-ghost use Rattle.capn_serve.specs.Sending.{outgoing, sent};
-ghost use Rattle.capn_serve.specs.Serving as spec;
-ghost use Rattle.capn_serve.specs.Serving.{HasRoom, IsListening, Passes, Serves, ServesHeld, ServesNext, ServesWhole};
+ghost use Rattle.capn_serve.specs.Outgoing.{outgoing, sent};
+ghost use Rattle.capn_serve.specs.ChunkRun as spec;
+ghost use Rattle.capn_serve.specs.ChunkRun.{HasRoom, IsListening, Passes, Serves, ServesHeld, ServesNext, ServesWhole};
 
 use crate::fault::RunFault;
 use crate::message::add_message;

@@ -1,9 +1,9 @@
 //! A run over a stream, from its first byte to its last.
 
 ghost use Rattle.std.specs.Prelude.{◌≡◌, ◌≤◌, false};
-ghost use Rattle.capn_words.specs.Limits.{most_message_words};
-ghost use Rattle.capn_words.specs.Watching.{inner_of, has_failed};
-ghost use Rattle.capn_stream.specs.Framing.{IsUnfinished};
+ghost use Rattle.capn_words.specs.Message.{most_message_words};
+ghost use Rattle.capn_words.specs.Watched.{inner_of, has_failed};
+ghost use Rattle.capn_stream.specs.StreamPieces.{IsUnfinished};
 ghost use Rattle.capn_serve.specs.Fold.{fold_of};
 ghost use Rattle.capn_serve.specs.StreamRun.{EndsInput, Runs, start};
 

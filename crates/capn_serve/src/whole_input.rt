@@ -1,7 +1,7 @@
 //! An input that is read to its end, of which no more is held than needed.
 
 ghost use Rattle.std.specs.Prelude.{◌≡◌, false};
-ghost use Rattle.capn_words.specs.Watching.{inner_of, has_failed};
+ghost use Rattle.capn_words.specs.Watched.{inner_of, has_failed};
 ghost use Rattle.capn_serve.specs.WholeInput.{IsBeginning, TakesAll};
 
 use crate::chunk::CHUNK;

@@ -4,7 +4,7 @@ use Rattle.std.proofs.Common.{refl, ◌∙◌, sym, ap, subst, append_assoc}
 use Rattle.std.specs.Prelude.{Option, Some, None, Result, Ok, Err, OnOk, IfErr, is_err, true, false, ◌||◌}
 use Rattle.std.specs.Io.KnownBytes.{Appends, append_known}
 use Rattle.std.proofs.lemmas.List.{append-nil, take-append-drop}
-use Rattle.capn_words.specs.Watching.{HasBegun}
+use Rattle.capn_words.specs.Watched.{HasBegun}
 use Rattle.capn_show.specs.declared.fault.Broken.{Broken}
 use Rattle.capn_show.specs.declared.fault.Broken.TheVariants as broken
 use Rattle.capn_show.specs.Sheet.{Sheet, text_of, Grows, HoldsBeginning, IsCause, BreaksOff}

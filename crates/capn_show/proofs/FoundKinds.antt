@@ -10,8 +10,8 @@ use Rattle.capn_walk.specs.declared.target.Target.TheVariants as targets
 use Rattle.capn_walk.specs.declared.target.Shape.TheVariants as shapes
 use Rattle.capn_walk.specs.declared.kind.Kind.{Kind}
 use Rattle.capn_walk.specs.declared.kind.Kind.TheVariants as kinds
-use Rattle.capn_walk.specs.Viewed.{kind_of}
-use Rattle.capn_walk.specs.Shown.{Shows, ShowsStruct}
+use Rattle.capn_walk.specs.View.{kind_of}
+use Rattle.capn_walk.specs.ShownValue.{Shows, ShowsStruct}
 use Rattle.capn_show.specs.inner.ReadyPlaces.{struct_at, AreNumbers, AreSlots, AreRowsAt}
 
 -- the kind of a value

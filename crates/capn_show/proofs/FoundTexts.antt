@@ -3,15 +3,15 @@ use Rattle.std.proofs.Common.{◌≡◌, ℕ, ◌+◌, ◌-◌, ◌≤◌, List,
 use Rattle.capn_words.specs.declared.pointer.Width.{Width}
 use Rattle.capn_words.specs.declared.pointer.Width.TheVariants.{W0, W1, W8, W16, W32, W64, Link, Rows}
 use Rattle.capn_value.specs.Tree.{Tree, nil, node, voids, bits, bytes, pairs, quads, octs, links, rows, cap}
-use Rattle.capn_value.specs.Sizes.{height}
+use Rattle.capn_value.specs.Cost.{height}
 use Rattle.capn_value.specs.Text.{line, named, body_line, word_lines, shown, shown_each, shown_rows}
 use Rattle.capn_walk.specs.declared.target.Target.{Target}
 use Rattle.capn_walk.specs.declared.target.Target.TheVariants as targets
 use Rattle.capn_walk.specs.declared.target.Shape.{Shape}
 use Rattle.capn_walk.specs.declared.target.Shape.TheVariants as shapes
 use Rattle.capn_walk.specs.Shapes.{IsContent, IsPlain, RowsFit, extent}
-use Rattle.capn_walk.specs.Viewed.{IsInMessage}
-use Rattle.capn_walk.specs.Shown.{Shows}
+use Rattle.capn_walk.specs.View.{IsInMessage}
+use Rattle.capn_walk.specs.ShownValue.{Shows}
 use Rattle.capn_show.specs.inner.ReadyPlaces.{IsFound, IsBody, AreReady, AreRows, shown_body}
 use Rattle.capn_show.specs.inner.ReadyPlaces.{IsFoundShown, IsBodyShown, AreShown, RowsShown, WordsShown}
 use Rattle.capn_show.proofs.FoundKinds.{as-nil, as-cap, as-node, as-links, as-rows}

@@ -8,7 +8,7 @@ use Rattle.capn_value.specs.Tree.{Tree}
 use Rattle.capn_value.specs.Text.{line, named, one_line, digits_of, number_lines, shown}
 use Rattle.capn_walk.specs.declared.target.Target.TheVariants as targets
 use Rattle.capn_walk.specs.declared.target.Shape.TheVariants as shapes
-use Rattle.capn_walk.specs.Shown.{Shows}
+use Rattle.capn_walk.specs.ShownValue.{Shows}
 use Rattle.capn_show.specs.inner.ReadyPlaces.{AreNumbers, IsFoundShown, NumbersShown, BitsShown}
 use Rattle.capn_show.proofs.FoundKinds.{as-voids, as-bits, as-bytes, as-pairs, as-quads, as-octs}
 

@@ -11,7 +11,7 @@ use Rattle.capn_walk.specs.declared.target.Target.{Target}
 use Rattle.capn_walk.specs.declared.target.Target.TheVariants as targets
 use Rattle.capn_walk.specs.declared.target.Fault.{Fault}
 use Rattle.capn_walk.specs.Target.{target}
-use Rattle.capn_walk.specs.Viewed.{IsInMessage}
+use Rattle.capn_walk.specs.View.{IsInMessage}
 use Rattle.capn_walk.proofs.shared.Inside.{inside}
 use Rattle.capn_walk.proofs.shared.Present.{present}
 

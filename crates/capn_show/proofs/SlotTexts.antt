@@ -3,9 +3,9 @@ use Rattle.std.proofs.Common.{◌≡◌, ℕ, zero, suc, ◌+◌, ◌<◌, ◌�
 use Rattle.std.proofs.Common.{append_assoc}
 use Rattle.std.proofs.lemmas.List.{append-nil}
 use Rattle.capn_value.specs.Tree.{Trees, no_trees, tree, Bodies, no_bodies, body, count, count_rows, tree_at, front}
-use Rattle.capn_value.specs.Sizes.{height, greatest, greatest_in_rows}
+use Rattle.capn_value.specs.Cost.{height, greatest, greatest_in_rows}
 use Rattle.capn_value.specs.Text.{body_line, word_lines, shown, shown_each, shown_rows}
-use Rattle.capn_walk.specs.Shown.{words_of_row, slots_of_row}
+use Rattle.capn_walk.specs.ShownValue.{words_of_row, slots_of_row}
 use Rattle.capn_show.specs.inner.ReadyPlaces.{shown_body}
 use Rattle.capn_show.proofs.RowFront.{front_rows}
 use Rattle.capn_show.specs.declared.fault.Broken.{Broken}

@@ -7,8 +7,8 @@ use Rattle.capn_walk.specs.declared.target.Target.{Target}
 use Rattle.capn_walk.specs.declared.target.Target.TheVariants as targets
 use Rattle.capn_walk.specs.declared.target.Fault.{Fault}
 use Rattle.capn_walk.specs.Target.{target}
-use Rattle.capn_walk.specs.At.{IsAt}
-use Rattle.capn_walk.specs.Shown.{ViewsShow, words_of_row, slots_of_row}
+use Rattle.capn_walk.specs.ValueAt.{IsAt}
+use Rattle.capn_walk.specs.ShownValue.{ViewsShow, words_of_row, slots_of_row}
 use Rattle.capn_show.specs.inner.ReadyPlaces.{IsReady, IsFound, IsBody, AreReady, AreRows, IsShown, IsFoundShown}
 use Rattle.capn_show.proofs.SlotTexts.{low-at, row-low}
 

@@ -1,7 +1,7 @@
 //! The numbers that a word holds.
 
 ghost use Rattle.std.specs.Prelude.{◌≡◌, ◌<◌};
-ghost use Rattle.capn_walk.specs.Viewed as seen;
+ghost use Rattle.capn_walk.specs.View as seen;
 
 use capn_words::Width;
 

@@ -5,10 +5,10 @@ ghost use Rattle.hex.specs.Hex.{encode_lower};
 ghost use Rattle.capn_words.specs.Message.{IsMessage};
 ghost use Rattle.capn_words.specs.declared.pointer.Width.TheVariants as widths;
 ghost use Rattle.capn_value.specs.Text as text;
-ghost use Rattle.capn_walk.specs.At.{words_from};
+ghost use Rattle.capn_walk.specs.ValueAt.{words_from};
 ghost use Rattle.capn_walk.specs.Shapes.{IsContent};
 ghost use Rattle.capn_walk.specs.Target.{content_words};
-ghost use Rattle.capn_walk.specs.Viewed as seen;
+ghost use Rattle.capn_walk.specs.View as seen;
 ghost use Rattle.capn_show.specs.inner.ReadyPlaces.{HasNumbers, WordsShown, NumbersShown, BitsShown};
 ghost use Rattle.capn_show.specs.Sheet.{Grows, BreaksOff};
 

@@ -5,7 +5,7 @@ ghost use Rattle.std.specs.Prelude.{string_bytes, codes, replicate};
 ghost use Rattle.std.specs.Io.KnownBytes.{Appends, Keeps};
 ghost use Rattle.std.specs.Fmt.{decimal};
 ghost use Rattle.hex.specs.Hex.{encode_lower};
-ghost use Rattle.capn_words.specs.Watching.{HasBegun, inner_of, has_failed};
+ghost use Rattle.capn_words.specs.Watched.{HasBegun, inner_of, has_failed};
 ghost use Rattle.capn_value.specs.Text as text;
 ghost use Rattle.capn_show.specs.declared.fault.Broken.TheVariants as broken;
 ghost use Rattle.capn_show.specs.Sheet.{text_of, Grows, HoldsBeginning, BreaksOff};
@@ -32,7 +32,7 @@ pub struct Page<W: Write, A: Allocator> {
 
 impl<W: Write, A: Allocator> Model for Page<W, A> {
     ghost use Rattle.std.specs.Prelude.{string_bytes};
-    ghost use Rattle.capn_words.specs.Watching.{inner_of, has_failed};
+    ghost use Rattle.capn_words.specs.Watched.{inner_of, has_failed};
     ghost use Rattle.capn_show.specs.Sheet.{Sheet};
 
     ghost Value = { Sheet };

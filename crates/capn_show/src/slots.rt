@@ -6,7 +6,7 @@ ghost use Rattle.capn_walk.specs.declared.target.Target.TheVariants as targets;
 ghost use Rattle.capn_walk.specs.declared.target.Shape.TheVariants as shapes;
 ghost use Rattle.capn_walk.specs.Target.{content_words};
 ghost use Rattle.capn_walk.specs.Shapes.{IsContent, IsPlain};
-ghost use Rattle.capn_walk.specs.Viewed.{IsInMessage};
+ghost use Rattle.capn_walk.specs.View.{IsInMessage};
 ghost use Rattle.capn_show.specs.Sheet.{Grows, BreaksOff};
 ghost use Rattle.capn_show.specs.inner.ReadyPlaces.{IsReady, IsFound, IsBody, AreReady, AreRows};
 ghost use Rattle.capn_show.specs.inner.ReadyPlaces.{IsShown, IsFoundShown, IsBodyShown, AreShown, RowsShown};

@@ -4,9 +4,8 @@ use Rattle.std.proofs.Common.{slice_index, Some, None, refl, ap, sym, subst, inl
 use Rattle.std.proofs.Common.{length-take}
 use Rattle.std.proofs.lemmas.List.{get_or-drop, get_or-take, length-take-le, take_rest}
 use Rattle.std.proofs.lemmas.List.Sums.{sum_by-cons}
-use Rattle.capn_words.specs.Message.{bytes, segment_at, total, words_of, IsMessage}
+use Rattle.capn_words.specs.Message.{bytes, segment_at, total, words_of, IsMessage, AreWords}
 use Rattle.std.proofs.lemmas.Bool.{cases_lt, lt-ltb, le-ltb}
-use Rattle.capn_words.specs.Words.{AreWords}
 use Rattle.capn_stream.specs.Cuts.{AreEnds, AreRising, cut}
 use Rattle.capn_stream.proofs.shared.Entries.{below-drop, below-take}
 use Rattle.capn_stream.proofs.shared.SegmentBytes.{bytes_of_part}

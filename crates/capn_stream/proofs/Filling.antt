@@ -3,8 +3,8 @@ use Rattle.std.proofs.Common.{◌≡◌, inl, inr, ℕ, ◌+◌, ◌-◌, ◌<�
 use Rattle.std.proofs.Common.{refl, ap, sym, subst, ◌∙◌, arith, append_assoc, length-drop}
 use Rattle.std.proofs.Math.Seq.{take-add}
 use Rattle.std.proofs.lemmas.List.{take_rest, take-append-drop}
-use Rattle.capn_words.specs.Limits.{most_segments}
-use Rattle.capn_stream.specs.Reading.{HasCount, announced_segments, head_length}
+use Rattle.capn_words.specs.Message.{most_segments}
+use Rattle.capn_stream.specs.FrameRefusal.{HasCount, announced_segments, head_length}
 use Rattle.capn_stream.specs.inner.Stages.{Extends, Fills, IsDone, IsStage, IsStop, Tabled, need}
 use Rattle.capn_stream.specs.declared.fault.FrameFault.{FrameFault}
 use Rattle.capn_stream.specs.declared.fault.FrameFault.TheVariants.{TooManySegments}

@@ -5,8 +5,8 @@ use Rattle.std.proofs.Common.{length-append}
 use Rattle.std.proofs.lemmas.List.{take_at}
 use Rattle.capn_words.specs.Message.{total}
 use Rattle.capn_stream.specs.Frames.{Frames, StandsFirst}
-use Rattle.capn_stream.specs.Reading.{IsRefused}
-use Rattle.capn_stream.specs.Receiving.{OnlyFirst, ReadGives, ReadsFirst, StopsInside}
+use Rattle.capn_stream.specs.FrameRefusal.{IsRefused}
+use Rattle.capn_stream.specs.NextMessage.{OnlyFirst, ReadGives, ReadsFirst, StopsInside}
 use Rattle.capn_stream.specs.declared.fault.FrameFault.TheVariants as frames
 use Rattle.capn_stream.specs.declared.fault.ReadFault.{ReadFault}
 use Rattle.capn_stream.specs.declared.fault.ReadFault.TheVariants as faults

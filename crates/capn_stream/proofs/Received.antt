@@ -6,9 +6,9 @@ use Rattle.std.specs.Io.KnownBytes.{Consumes, IsAtEnd, Keeps}
 use Rattle.std.proofs.KnownBytes.{Consumes-trans}
 use Rattle.std.proofs.lemmas.List.{take-append-le}
 use Rattle.capn_stream.specs.Frames.{Frames}
-use Rattle.capn_stream.specs.Framing.{Feeds, Framing, IsFrame, IsUnfinished, TakeGives}
-use Rattle.capn_stream.specs.Reading.{EndsWithin, IsRefused}
-use Rattle.capn_stream.specs.Receiving.{EndGives, StopsInside, TakesIn, most_bytes}
+use Rattle.capn_stream.specs.StreamPieces.{Feeds, Framing, IsFrame, IsUnfinished, TakeGives}
+use Rattle.capn_stream.specs.FrameRefusal.{EndsWithin, IsRefused}
+use Rattle.capn_stream.specs.NextMessage.{EndGives, StopsInside, TakesIn, most_bytes}
 use Rattle.capn_stream.specs.declared.fault.FrameFault.TheVariants as frames
 use Rattle.capn_stream.specs.declared.fault.ReadFault.{ReadFault}
 use Rattle.capn_stream.specs.declared.fault.ReadFault.TheVariants as faults

@@ -3,13 +3,12 @@ use Rattle.std.proofs.Common.{◌≡◌, ◌⊎◌, inl, inr, ℕ, ◌*◌, ◌/
 use Rattle.std.proofs.Common.{length, take, drop, Bool, false, Some, Result, Ok, Err, IfOk, IfErr, is_err}
 use Rattle.std.proofs.Common.{refl, ap, sym, subst, ◌∙◌, arith, length-drop}
 use Rattle.std.proofs.lemmas.List.{take_all}
-use Rattle.capn_words.specs.Message.{bytes, total}
-use Rattle.capn_words.specs.Words.{AreWords, words_in}
+use Rattle.capn_words.specs.Message.{bytes, total, AreWords, words_in}
 use Rattle.capn_words.proofs.shared.Words.{AreBytes-drop, bytes_of_words, words_below}
 use Rattle.capn_stream.specs.Cuts.{AreEnds, cut}
 use Rattle.capn_stream.specs.Frames.{Frames, StandsFirst}
-use Rattle.capn_stream.specs.Framing.{FeedGives, IsFrame, IsUnfinished, TakeGives}
-use Rattle.capn_stream.specs.Reading.{IsWhole, announced_segments, announced_words, frame_length, head_length}
+use Rattle.capn_stream.specs.StreamPieces.{FeedGives, IsFrame, IsUnfinished, TakeGives}
+use Rattle.capn_stream.specs.FrameRefusal.{IsWhole, announced_segments, announced_words, frame_length, head_length}
 use Rattle.capn_stream.specs.inner.Stages.{Fills, IsDone, IsStage, IsStop, Knows, Rests, announced_ends, need}
 use Rattle.capn_stream.specs.declared.fault.FrameFault.{FrameFault}
 use Rattle.capn_stream.specs.declared.fault.FrameFault.TheVariants.{Memory, Empty, TooManySegments, TooManyWords, Cut}

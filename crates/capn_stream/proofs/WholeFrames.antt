@@ -3,12 +3,12 @@ use Rattle.std.proofs.Common.{◌≡◌, ℕ, ◌+◌, ◌-◌, ◌*◌, ◌^◌
 use Rattle.std.proofs.Common.{◌∙◌, arith, append_assoc, length-drop}
 use Rattle.std.specs.List.{flat_map}
 use Rattle.std.proofs.lemmas.List.{length-take-le, take_rest}
-use Rattle.capn_words.specs.Message.{bytes}
-use Rattle.capn_words.specs.Words.{AreBytes, AreWords, IsBare}
+use Rattle.capn_words.specs.Message.{bytes, AreBytes, AreWords, IsBare}
 use Rattle.capn_stream.specs.Cuts.{AreEnds, cut, ends_from}
 use Rattle.capn_stream.specs.Frames.{StandsFirst, contents, entry, padding, table}
-use Rattle.capn_stream.specs.Reading.{IsWhole, announced_segments, entries, entry_number, frame_length, head_length}
-use Rattle.capn_stream.specs.Reading.{announced_words}
+use Rattle.capn_stream.specs.FrameRefusal.{IsWhole, announced_segments, entries, entry_number, frame_length}
+use Rattle.capn_stream.specs.FrameRefusal.{head_length}
+use Rattle.capn_stream.specs.FrameRefusal.{announced_words}
 use Rattle.capn_stream.proofs.Cutting.{length-cut, message-cut, total-cut}
 use Rattle.capn_stream.proofs.shared.Ends.{AreRising-ends_from, contents-cut, length-ends_from, lengths-cut}
 use Rattle.capn_stream.proofs.shared.Entries.{entries_more, entry-entries, entry-entry_number, below-drop, below-take}

@@ -1,7 +1,6 @@
 -- Words that are cut into segments.
 use Rattle.std.specs.Prelude.{ℕ, ◌+◌, ◌-◌, ◌<◌, ◌≤◌, List, [], ◌∷◌, length, take, drop}
-use Rattle.capn_words.specs.Words.{AreWords}
-use Rattle.capn_words.specs.Limits.{most_segments, most_words}
+use Rattle.capn_words.specs.Message.{AreWords, most_segments, most_words}
 
 -- the words from a place on, cut: a segment ends at each of the ends, and the last one with the words
 abbrev pub cut : ℕ → List ℕ → List ℕ → List (List ℕ)

@@ -4,9 +4,7 @@ use Rattle.std.specs.Prelude.{◌≡◌, ℕ, ◌+◌, ◌-◌, ◌/◌, ◌%◌
 use Rattle.std.specs.Prelude.{replicate, slice_index}
 use Rattle.std.specs.List.{flat_map}
 use Rattle.byteorder.specs.Endian.{little_bytes}
-use Rattle.capn_words.specs.Limits.{most_segments}
-use Rattle.capn_words.specs.Message.{bytes, segment_at, total}
-use Rattle.capn_words.specs.Words.{AreBytes}
+use Rattle.capn_words.specs.Message.{most_segments, bytes, segment_at, total, AreBytes}
 
 -- the words of the longest table and its padding (Own.)
 abbrev pub most_table_words : ℕ

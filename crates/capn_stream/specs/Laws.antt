@@ -1,7 +1,7 @@
 -- The laws of frames.
 use Rattle.std.specs.Prelude.{◌≡◌, ◌≢◌, ℕ, List}
 use Rattle.capn_stream.specs.Frames.{StandsFirst}
-use Rattle.capn_stream.specs.Reading.{IsRefused}
+use Rattle.capn_stream.specs.FrameRefusal.{IsRefused}
 use Rattle.capn_stream.specs.declared.fault.FrameFault.{FrameFault}
 use Rattle.capn_stream.specs.declared.fault.FrameFault.TheVariants.{Memory}
 

@@ -1,8 +1,8 @@
 pub mod inner
 pub mod Frames
-pub mod Reading
+pub mod FrameRefusal
 pub mod Cuts
-pub mod Framing
-pub mod Receiving
+pub mod StreamPieces
+pub mod NextMessage
 pub mod Laws
-pub mod Told
+pub mod Display

@@ -65,7 +65,7 @@ impl From<io::Error> for Io {
 
 impl fmt::Display for FrameFault {
     ghost use Rattle.std.specs.Prelude.{Some};
-    ghost use Rattle.capn_stream.specs.Told.{frame_text};
+    ghost use Rattle.capn_stream.specs.Display.{frame_text};
 
     ghost output = { λ fault. Some (frame_text fault) };
 
@@ -85,7 +85,7 @@ impl Error for FrameFault {}
 
 impl fmt::Display for ReadFault {
     ghost use Rattle.std.specs.Prelude.{Some};
-    ghost use Rattle.capn_stream.specs.Told.{read_text};
+    ghost use Rattle.capn_stream.specs.Display.{read_text};
 
     ghost output = { λ fault. Some (read_text fault) };
 

@@ -15,23 +15,23 @@
 #![tactic(auto)]
 
 mod fault;
-mod feeding;
+mod first_message;
+mod frame_bytes;
+mod frame_output;
 mod framed;
+mod framer;
 pub mod laws;
-mod owned;
-mod reading;
-mod receiving;
-mod sending;
+mod next_message;
 mod stage;
+mod stored;
 mod table;
-mod writing;
 
 pub use fault::{FrameFault, Io, Memory, ReadFault};
-pub use feeding::Framer;
+pub use framer::Framer;
 pub use framed::Framed;
-pub use owned::Stored;
-pub use reading::first;
-pub use receiving::read_message;
-pub use sending::write_message;
+pub use stored::Stored;
+pub use first_message::first;
+pub use next_message::read_message;
+pub use frame_output::write_message;
 pub use table::MOST_TABLE_WORDS;
-pub use writing::frame;
+pub use frame_bytes::frame;

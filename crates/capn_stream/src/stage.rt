@@ -2,9 +2,8 @@
 
 ghost use Rattle.std.specs.Prelude.{◌≡◌, ℕ, ◌+◌, ◌-◌, ◌*◌, ◌<◌, ◌≤◌, ◌++◌, length, drop, IfOk, IfErr, IsErrOf, OnErr};
 ghost use Rattle.std.specs.Prelude.{vec_capacity};
-ghost use Rattle.capn_words.specs.Words.{AreBytes};
-ghost use Rattle.capn_words.specs.Limits.{most_segments, most_message_words};
-ghost use Rattle.capn_stream.specs.Reading.{HasCount, announced_segments, head_length};
+ghost use Rattle.capn_words.specs.Message.{AreBytes, most_segments, most_message_words};
+ghost use Rattle.capn_stream.specs.FrameRefusal.{HasCount, announced_segments, head_length};
 ghost use Rattle.capn_stream.specs.inner.Stages as spec;
 ghost use Rattle.capn_stream.specs.inner.Stages.{Extends, Fills, FitsStage, IsStage, IsStop, Rests, Tabled};
 ghost use Rattle.capn_stream.specs.declared.fault.FrameFault.TheVariants as faults;

@@ -3,9 +3,10 @@
 ghost use Rattle.std.specs.Prelude.{◌≡◌, ℕ, ◌+◌, ◌*◌, ◌^◌, ◌<◌, ◌≤◌, length, drop, sum, IfOk, IfErr, IsErrOf, OnErr};
 ghost use Rattle.std.specs.Prelude.{vec_capacity};
 ghost use Rattle.capn_stream.specs.Cuts.{ends_from};
-ghost use Rattle.capn_words.specs.Limits.{most_segments, most_message_words};
-ghost use Rattle.capn_stream.specs.Reading.{IsRefused, IsWhole, announced_segments, entries, entry_number, head_length};
-ghost use Rattle.capn_stream.specs.Reading.{announced_words};
+ghost use Rattle.capn_words.specs.Message.{most_segments, most_message_words};
+ghost use Rattle.capn_stream.specs.FrameRefusal.{IsRefused, IsWhole, announced_segments, entries, entry_number};
+ghost use Rattle.capn_stream.specs.FrameRefusal.{head_length};
+ghost use Rattle.capn_stream.specs.FrameRefusal.{announced_words};
 
 use crate::fault::FrameFault;
 use byteorder::{ByteOrder, LittleEndian};
@@ -16,7 +17,7 @@ use std::alloc::{AllocError, Allocator};
 pub const MOST_TABLE_WORDS: u32 = MOST_SEGMENTS / 2 + 1;
 
 /// The number of 4 bytes that begins at byte 4 times the index.
-#[tactic(auto, unfolding(crate::specs::Reading::entry_number))]
+#[tactic(auto, unfolding(crate::specs::FrameRefusal::entry_number))]
 pub(crate) fn entry_at(bytes: &[u8], index: usize) -> u32
     requires { 4 * index + 4 ≤ length bytes.now }
     ensures { result ≡ entry_number (drop (4 * index) bytes.now) }

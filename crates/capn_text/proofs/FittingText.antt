@@ -6,7 +6,7 @@ use Rattle.capn_value.specs.Tree.{Tree}
 use Rattle.capn_value.specs.Fits.{Fits, misfit}
 use Rattle.capn_value.specs.declared.misfit.Misfit.{Misfit}
 use Rattle.capn_value.specs.Text.{show_text}
-use Rattle.capn_value.specs.Sizes.{height, most_height}
+use Rattle.capn_value.specs.Cost.{height, most_height}
 use Rattle.capn_text.specs.declared.fault.TextFault.{TextFault}
 use Rattle.capn_text.specs.declared.fault.TextFault.TheVariants as faults
 use Rattle.capn_text.specs.inner.Values.{tree_at}

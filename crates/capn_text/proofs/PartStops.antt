@@ -4,7 +4,7 @@ use Rattle.std.proofs.Common.{Some, None}
 use Rattle.std.proofs.Common.{refl, sym, ap, subst, ◌∙◌, arith}
 use Rattle.std.specs.Prelude.{Result, Ok, Err, IfErr}
 use Rattle.capn_value.specs.Tree.{Tree, node, bits, bytes, pairs, quads, octs, links, rows, Trees}
-use Rattle.capn_value.specs.View.{trees, rows_from}
+use Rattle.capn_value.specs.TreeOf.{trees, rows_from}
 use Rattle.capn_text.specs.Streams.{first_lines, ended_lines}
 use Rattle.capn_text.specs.inner.Stops.{Stops, Deepens, FailsAt, GivesAt, LineFails}
 use Rattle.capn_text.specs.inner.Tokens.{◌>>=◌, Gives, Fails, byte_at, bit_at, many, word_line_at, number_line_at}

@@ -10,7 +10,7 @@ use Rattle.capn_text.specs.inner.Tokens.{strip}
 use Rattle.capn_text.specs.Showable.{IsShowable}
 use Rattle.capn_text.specs.Streams.{end_line, stream_text, ended_lines}
 use Rattle.capn_text.specs.inner.Values.{tree_at, head_at, named_at, name_at}
-use Rattle.capn_value.specs.Sizes.{height}
+use Rattle.capn_value.specs.Cost.{height}
 use Rattle.capn_text.specs.declared.fault.TextFault.TheVariants as faults
 use Rattle.capn_text.proofs.Steps.{some_is}
 use Rattle.capn_text.proofs.TokenText.{strip_takes, strip_again}

@@ -6,7 +6,7 @@ use Rattle.hex.specs.Hex.{encode_lower}
 use Rattle.capn_value.specs.Tree.{Tree, nil, node, voids, bits, bytes, pairs, quads, octs, links, rows, cap, Trees}
 use Rattle.capn_value.specs.Tree.{count}
 use Rattle.capn_value.specs.Tree.{count_rows}
-use Rattle.capn_value.specs.View.{trees, rows_from}
+use Rattle.capn_value.specs.TreeOf.{trees, rows_from}
 use Rattle.std.specs.List.{AllByRecursion}
 use Rattle.capn_value.specs.InRange.{AllBelow}
 use Rattle.capn_text.specs.Showable.{IsShowable, EachShowable, RowsShowable}

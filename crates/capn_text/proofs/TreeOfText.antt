@@ -9,8 +9,8 @@ use Rattle.std.proofs.lemmas.List.{append-nil}
 use Rattle.hex.specs.Hex.{encode_lower}
 use Rattle.capn_value.specs.Tree.{Tree, nil, node, voids, bits, bytes, pairs, quads, octs, links, rows, cap, Trees}
 use Rattle.capn_value.specs.Tree.{no_trees, tree, Bodies, no_bodies, body, count, count_rows}
-use Rattle.capn_value.specs.View.{trees, rows_from}
-use Rattle.capn_value.specs.Sizes.{height, greatest, greatest_in_rows}
+use Rattle.capn_value.specs.TreeOf.{trees, rows_from}
+use Rattle.capn_value.specs.Cost.{height, greatest, greatest_in_rows}
 use Rattle.capn_value.specs.InRange.{AllBelow}
 use Rattle.capn_value.specs.Text.{line, body_line, word_lines, number_lines, digits_of, one_line, shown, shown_each}
 use Rattle.capn_value.specs.Text.{shown_rows, show_text}

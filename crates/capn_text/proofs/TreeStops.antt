@@ -4,7 +4,7 @@ use Rattle.std.proofs.Common.{refl, sym, ap, subst, ◌∙◌, append_assoc, ari
 use Rattle.std.proofs.lemmas.List.{append-nil}
 use Rattle.capn_value.specs.Tree.{Tree, nil, node, voids, bits, bytes, pairs, quads, octs, links, rows, cap, Trees}
 use Rattle.capn_value.specs.Tree.{no_trees}
-use Rattle.capn_value.specs.View.{trees, rows_from}
+use Rattle.capn_value.specs.TreeOf.{trees, rows_from}
 use Rattle.capn_value.specs.Text.{line, shown}
 use Rattle.capn_text.specs.Streams.{first_lines, ended_lines}
 use Rattle.capn_text.specs.inner.Stops.{AreLines, GoesOn, Stops, Deepens, FailsAt, LineFails}

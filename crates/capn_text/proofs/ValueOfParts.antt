@@ -3,7 +3,7 @@ use Rattle.std.proofs.Common.{◌≡◌, ℕ, zero, suc, None, ◌+◌, ◌-◌,
 use Rattle.std.proofs.Common.{ap₂, ◌∙◌}
 use Rattle.std.proofs.Common.{arith}
 use Rattle.capn_value.specs.Tree.{Tree, tree, body, node, links, rows}
-use Rattle.capn_value.specs.View.{trees, rows_from, tree_of, body_of, trees_of, rows_of}
+use Rattle.capn_value.specs.TreeOf.{trees, rows_from, tree_of, body_of, trees_of, rows_of}
 use Rattle.std.proofs.lemmas.Grind.{common_steps}
 use Rattle.capn_value.specs.Views.{views, tree_of-Node, tree_of-Links, tree_of-Rows}
 use Rattle.capn_value.specs.declared.value.Value.{Value, Node, Links, Rows}

@@ -1,7 +1,7 @@
 -- Texts in a row, each followed by the line `end`, as a stream of messages is shown. (Own.)
 use Rattle.std.specs.Prelude.{ℕ, zero, suc, ◌≡◌, ◌<◌, ◌+◌, List, [], ◌∷◌, ◌++◌, codes, cond, ◌==◌}
 use Rattle.capn_value.specs.Tree.{Tree}
-use Rattle.capn_value.specs.Sizes.{height, most_height}
+use Rattle.capn_value.specs.Cost.{height, most_height}
 use Rattle.capn_value.specs.Text.{show_text}
 use Rattle.capn_text.specs.Showable.{IsShowable}
 

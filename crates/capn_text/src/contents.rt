@@ -1,7 +1,7 @@
 //! Values with what they hold.
 
 ghost use Rattle.std.specs.Prelude.{◌≡◌, ◌+◌, ◌*◌, ◌<◌, ◌^◌, map, IfErr};
-ghost use Rattle.capn_value.specs.View.{tree_of, body_of};
+ghost use Rattle.capn_value.specs.TreeOf.{tree_of, body_of};
 ghost use Rattle.capn_text.specs.inner.Tokens as tokens;
 ghost use Rattle.capn_text.specs.inner.Tokens.{Gives};
 ghost use Rattle.capn_text.specs.inner.Stops.{GivesAt};

@@ -1,7 +1,7 @@
 //! Lists whose elements hold no other value.
 
 ghost use Rattle.std.specs.Prelude.{◌≡◌, ◌+◌, ◌≤◌, ◌<◌, ◌^◌};
-ghost use Rattle.capn_value.specs.View.{tree_of};
+ghost use Rattle.capn_value.specs.TreeOf.{tree_of};
 ghost use Rattle.capn_text.specs.inner.Tokens as tokens;
 ghost use Rattle.capn_text.specs.inner.Tokens.{Gives};
 ghost use Rattle.capn_text.specs.inner.Stops.{GivesAt, GivesLine};

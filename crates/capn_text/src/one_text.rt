@@ -3,8 +3,8 @@
 ghost use Rattle.std.specs.Prelude.{◌≡◌, ◌≢◌, ◌⊎◌, ◌≤◌, ◌+◌, ◌++◌, ℕ, List, [], IfOk, IfErr};
 ghost use Rattle.std.specs.Prelude.{MatchResult, Some, None, true, false};
 ghost use Rattle.capn_value.specs.Tree as trees;
-ghost use Rattle.capn_value.specs.View.{tree_of};
-ghost use Rattle.capn_value.specs.Sizes.{height, most_height};
+ghost use Rattle.capn_value.specs.TreeOf.{tree_of};
+ghost use Rattle.capn_value.specs.Cost.{height, most_height};
 ghost use Rattle.capn_value.specs.Fits.{Fits, misfit};
 ghost use Rattle.capn_value.specs.InRange.{InRange};
 ghost use Rattle.capn_value.specs.Text.{show_text};

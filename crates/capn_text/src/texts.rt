@@ -4,7 +4,7 @@ ghost use Rattle.std.specs.Prelude.{◌≡◌, ◌≢◌, ◌⊎◌, ◌≤◌, 
 ghost use Rattle.std.specs.Prelude.{IfOk, IfErr, OnErr, MatchResult};
 ghost use Rattle.std.specs.Prelude.{MatchOption, Ok, Some, None, true, false};
 ghost use Rattle.capn_value.specs.Tree as trees;
-ghost use Rattle.capn_value.specs.Sizes.{height, most_height};
+ghost use Rattle.capn_value.specs.Cost.{height, most_height};
 ghost use Rattle.capn_value.specs.Fits.{Fits, misfit};
 ghost use Rattle.capn_value.specs.InRange.{InRange};
 ghost use Rattle.capn_value.specs.Text.{show_text};

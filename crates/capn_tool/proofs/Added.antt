@@ -4,11 +4,11 @@ use Rattle.std.proofs.Common.{Err}
 use Rattle.std.proofs.Common.{IsErrAnd, IsErrOf, ap, sym, subst, ◌∙◌, append-nil}
 use Rattle.std.specs.Io.KnownBytes.{Appends}
 use Rattle.std.proofs.KnownBytes.{Appends-nil}
-use Rattle.capn_words.specs.Watching.{HasBegun}
+use Rattle.capn_words.specs.Watched.{HasBegun}
 use Rattle.capn_walk.specs.Limits.{Bounds}
-use Rattle.capn_tool.specs.Pieces.{IsNoPiece, PutsPiece}
+use Rattle.capn_tool.specs.MessageText.{IsNoPiece, PutsPiece}
 use Rattle.capn_tool.specs.inner.ServedMessages.{AddsPiece}
-use Rattle.capn_tool.specs.Sending.{outgoing}
+use Rattle.capn_tool.specs.Outgoing.{outgoing}
 use Rattle.capn_tool.specs.declared.plan.Piece.{Piece}
 use Rattle.capn_tool.specs.declared.fault.ToolFault.{ToolFault}
 use Rattle.capn_tool.specs.declared.fault.ToolFault.TheVariants as faults

@@ -2,12 +2,12 @@
 use Rattle.std.proofs.Common.{◌≡◌, ◌⊎◌, ◌↔◌, inl, inr, ℕ, List, [], Bool, true, Option, Some, None, Result}
 use Rattle.std.proofs.Common.{Ok, Err, IfSome, IsErrOf, refl, sym, subst, ◌∙◌}
 use Rattle.std.specs.Io.KnownBytes.{Keeps}
-use Rattle.capn_tool.specs.Ends.{CarriesOut, EndsOnly, course}
-use Rattle.capn_tool.specs.Heard.{KeepsUp, PlanKeepsUp}
-use Rattle.capn_tool.specs.Planned.{plan_of}
-use Rattle.capn_tool.specs.Sending.{EndsFlushed}
+use Rattle.capn_tool.specs.Program.{CarriesOut, EndsOnly, course}
+use Rattle.capn_tool.specs.StreamRun.{KeepsUp, PlanKeepsUp}
+use Rattle.capn_tool.specs.Plan.{plan_of}
+use Rattle.capn_tool.specs.Outgoing.{EndsFlushed}
 use Rattle.capn_tool.specs.Text.{Begins, EndsAs, EndsBy, HasEnded, IsDue}
-use Rattle.capn_tool.specs.declared.orders.Command.{Command}
+use Rattle.capn_tool.specs.declared.command.Command.{Command}
 use Rattle.capn_tool.specs.declared.plan.Plan.{Plan}
 use Rattle.capn_tool.specs.declared.plan.Plan.TheVariants as plans
 use Rattle.capn_tool.specs.declared.fault.ToolFault.{ToolFault}

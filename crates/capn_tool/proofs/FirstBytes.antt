@@ -5,21 +5,21 @@ use Rattle.std.proofs.lemmas.Bool.{cases_lt}
 use Rattle.std.proofs.lemmas.Bool.Decides.{nat_tests}
 use Rattle.std.proofs.lemmas.List.{take-take, take_all}
 use Rattle.capn_stream.specs.Frames.{most_table_words, padding, Frames}
-use Rattle.capn_stream.specs.Reading as frames
+use Rattle.capn_stream.specs.FrameRefusal as frames
 use Rattle.capn_stream.proofs.shared.FrameLaws.{announces, stands_alone}
 use Rattle.capn_stream.proofs.shared.Longer.{IsStop-append}
 use Rattle.capn_stream.specs.declared.fault.FrameFault.{FrameFault}
 use Rattle.capn_stream.specs.declared.fault.FrameFault.TheVariants as frame_faults
-use Rattle.capn_pack.specs.Packs.{Packs}
+use Rattle.capn_pack.specs.Packed.{Packs}
 use Rattle.capn_pack.specs.declared.fault.UnpackFault.{UnpackFault}
 use Rattle.capn_walk.specs.Limits.{Bounds}
 use Rattle.capn_canon.specs.Denotes.{Answers}
 use Rattle.capn_canon.specs.Reads.{IsFramed, Trails}
-use Rattle.capn_canon.specs.Refused.{IsMisframed, IsRefused}
+use Rattle.capn_canon.specs.Refusal.{IsMisframed, IsRefused}
 use Rattle.capn_canon.specs.declared.form.Form.TheVariants as forms
 use Rattle.capn_canon.specs.declared.refusal.Refusal.{Refusal}
 use Rattle.capn_canon.specs.declared.refusal.Refusal.TheVariants as refusals
-use Rattle.capn_tool.specs.Wholes.{Gives, MakesNothing}
+use Rattle.capn_tool.specs.WholeInput.{Gives, MakesNothing}
 use Rattle.capn_tool.specs.declared.plan.Whole.TheVariants as wholes
 use Rattle.capn_tool.specs.declared.fault.ToolFault.{ToolFault}
 use Rattle.capn_tool.specs.declared.fault.ToolFault.TheVariants as faults

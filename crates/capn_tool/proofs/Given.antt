@@ -10,7 +10,7 @@ use Rattle.std.proofs.lemmas.Bool.{cases_lt}
 use Rattle.std.proofs.lemmas.List.{take-take, take-append-le}
 use Rattle.std.specs.Io.KnownBytes.{Consumes, IsAtEnd}
 use Rattle.std.proofs.KnownBytes.{Consumes-nil, Consumes-trans}
-use Rattle.capn_pack.specs.Some.{most_group}
+use Rattle.capn_pack.specs.WholeGroups.{most_group}
 use Rattle.capn_tool.specs.inner.Pending.{IsPending}
 use Rattle.capn_tool.specs.inner.ReadInput.{HasGiven, HasGivenAll, IsUntaken, TakesAll}
 use Rattle.capn_tool.specs.declared.fault.ToolFault.{ToolFault}

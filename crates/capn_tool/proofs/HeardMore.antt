@@ -12,11 +12,11 @@ use Rattle.capn_stream.specs.declared.fault.FrameFault.{FrameFault}
 use Rattle.capn_stream.specs.declared.fault.FrameFault.TheVariants as frame_faults
 use Rattle.capn_stream.proofs.shared.Longer.{IsStop-append}
 use Rattle.capn_canon.specs.declared.refusal.Refusal.TheVariants as refusals
-use Rattle.capn_tool.specs.Pieces.{IsPiece, IsNoPiece}
+use Rattle.capn_tool.specs.MessageText.{IsPiece, IsNoPiece}
 use Rattle.capn_tool.specs.Streams.{Part, IsPart, AreParts, frame_of, text_of, frames_of, texts_of, IsDueEach}
 use Rattle.capn_tool.specs.inner.ServedMessages.{AddsPiece}
-use Rattle.capn_tool.specs.Sending.{Outgoing, Adds, Breaks}
-use Rattle.capn_tool.specs.Heard.{Tells, TellsFront, IsDueSo, Stops}
+use Rattle.capn_tool.specs.Outgoing.{Outgoing, Adds, Breaks}
+use Rattle.capn_tool.specs.StreamRun.{Tells, TellsFront, IsDueSo, Stops}
 use Rattle.capn_tool.specs.declared.plan.Piece.{Piece}
 use Rattle.capn_tool.specs.declared.fault.ToolFault.{ToolFault}
 use Rattle.capn_tool.specs.declared.fault.ToolFault.TheVariants as faults

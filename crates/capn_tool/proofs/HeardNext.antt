@@ -6,20 +6,20 @@ use Rattle.std.proofs.lemmas.List.{take-append-drop, take_rest}
 use Rattle.std.proofs.Math.Seq.{take-add}
 use Rattle.std.proofs.lemmas.Bool.{cases_lt}
 use Rattle.std.specs.Io.KnownBytes.{Appends}
-use Rattle.capn_words.specs.Watching.{HasBegun}
+use Rattle.capn_words.specs.Watched.{HasBegun}
 use Rattle.capn_words.specs.Message.{total}
 use Rattle.capn_walk.specs.Limits.{Bounds}
 use Rattle.capn_stream.specs.Frames.{Frames, StandsFirst}
-use Rattle.capn_stream.specs.Framing.{FeedGives, Feeds, Framing, IsFrame, IsUnfinished, TakeGives}
+use Rattle.capn_stream.specs.StreamPieces.{FeedGives, Feeds, Framing, IsFrame, IsUnfinished, TakeGives}
 use Rattle.capn_stream.specs.declared.fault.FrameFault.{FrameFault}
 use Rattle.capn_stream.specs.declared.fault.FrameFault.TheVariants as frame_faults
 use Rattle.capn_stream.proofs.shared.Wanting.{unfinished_frame}
 use Rattle.capn_tool.specs.inner.ServedMessages.{AddsPiece}
-use Rattle.capn_tool.specs.Sending.{Outgoing, Adds, SendsRest, outgoing, sent}
+use Rattle.capn_tool.specs.Outgoing.{Outgoing, Adds, SendsRest, outgoing, sent}
 use Rattle.capn_tool.specs.Streams.{texts_of}
-use Rattle.capn_tool.specs.Pieces.{IsPiece}
-use Rattle.capn_stream.specs.Reading as frame_rules
-use Rattle.capn_tool.specs.Heard.{HasNoFrame, IsDueSo, IsListening, Serves, ServesNext, Stops, Tells, fault_of}
+use Rattle.capn_tool.specs.MessageText.{IsPiece}
+use Rattle.capn_stream.specs.FrameRefusal as frame_rules
+use Rattle.capn_tool.specs.StreamRun.{HasNoFrame, IsDueSo, IsListening, Serves, ServesNext, Stops, Tells, fault_of}
 use Rattle.capn_tool.specs.declared.plan.Piece.{Piece}
 use Rattle.capn_tool.specs.declared.fault.ToolFault.{ToolFault}
 use Rattle.capn_tool.specs.declared.fault.ToolFault.TheVariants as faults

@@ -8,14 +8,14 @@ use Rattle.std.proofs.lemmas.Bool.{cases_lt}
 use Rattle.std.specs.Io.KnownBytes.{Appends, Consumes, IsAtEnd, Keeps}
 use Rattle.std.proofs.KnownBytes.{Consumes-trans, Consumes-kept}
 use Rattle.capn_walk.specs.Limits.{Bounds}
-use Rattle.capn_stream.specs.Framing.{IsUnfinished}
-use Rattle.capn_stream.specs.Reading as frame_rules
+use Rattle.capn_stream.specs.StreamPieces.{IsUnfinished}
+use Rattle.capn_stream.specs.FrameRefusal as frame_rules
 use Rattle.capn_stream.specs.declared.fault.FrameFault.{FrameFault}
 use Rattle.capn_stream.specs.declared.fault.FrameFault.TheVariants as frames
 use Rattle.capn_tool.specs.Streams.{AreParts, texts_of, behind_stream, end_of, IsDueEach}
 use Rattle.capn_tool.specs.Text.{HasWritten, PlanBegins, PlanEndsAs, taken_of, has_more}
-use Rattle.capn_tool.specs.Sending.{sent}
-use Rattle.capn_tool.specs.Heard.{EndsInput, Hears, IsDueSo, Runs, Stops, Tells, TellsFront}
+use Rattle.capn_tool.specs.Outgoing.{sent}
+use Rattle.capn_tool.specs.StreamRun.{EndsInput, Hears, IsDueSo, Runs, Stops, Tells, TellsFront}
 use Rattle.capn_tool.specs.declared.plan.Piece.{Piece}
 use Rattle.capn_tool.specs.declared.plan.Plan.TheVariants as plans
 use Rattle.capn_tool.specs.declared.fault.ToolFault.{ToolFault}

@@ -2,14 +2,14 @@
 use Rattle.std.proofs.Common.{◌≡◌, ◌⊎◌, inl, inr, ℕ, ◌+◌, ◌*◌, ◌<◌, ◌≤◌, ◌^◌, List, length, Bool, Option, Result, Ok}
 use Rattle.std.proofs.Common.{Err}
 use Rattle.std.proofs.Common.{Vec, refl, sym, subst, ◌∙◌, arith, take_all}
-use Rattle.capn_words.specs.Words.{ReadsBare}
+use Rattle.capn_words.specs.Message.{ReadsBare}
 use Rattle.capn_words.specs.declared.bare.BareFault.{BareFault}
 use Rattle.capn_stream.specs.Frames.{most_table_words}
 use Rattle.capn_walk.specs.Limits.{Bounds}
 use Rattle.capn_canon.specs.declared.form.Form.TheVariants as forms
 use Rattle.capn_canon.specs.declared.refusal.Refusal.TheVariants as refusals
 use Rattle.capn_tool.specs.inner.ReadInput.{HasGivenAll, IsBeginning, IsShortBare, IsUntaken, TakesAll}
-use Rattle.capn_tool.specs.Wholes.{Gives, MakesNothing}
+use Rattle.capn_tool.specs.WholeInput.{Gives, MakesNothing}
 use Rattle.capn_tool.specs.declared.input.Input.{Input}
 use Rattle.capn_tool.specs.declared.plan.Piece.{Piece}
 use Rattle.capn_tool.specs.declared.plan.Whole.{Whole}

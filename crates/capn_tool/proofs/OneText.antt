@@ -19,11 +19,10 @@ use Rattle.capn_stream.proofs.shared.FrameLaws.{one_frame, whole_of, refused_who
 use Rattle.capn_stream.proofs.shared.FrameLaws as frame_laws
 use Rattle.capn_value.specs.Text.{show_text}
 use Rattle.capn_value.specs.Tree.{Tree}
-use Rattle.capn_value.specs.Caps.{first_cap}
-use Rattle.capn_walk.specs.Stops.{root}
-use Rattle.capn_walk.specs.declared.walked.Stopped.{Stopped}
+use Rattle.capn_value.specs.FirstCap.{first_cap}
+use Rattle.capn_walk.specs.Accepted.{root, IsValueOf}
+use Rattle.capn_walk.specs.declared.walk_answer.Stopped.{Stopped}
 use Rattle.capn_walk.specs.Limits.{Bounds}
-use Rattle.capn_walk.specs.Accepted.{IsValueOf}
 use Rattle.capn_walk.proofs.shared.Unique.{unique}
 use Rattle.capn_canon.specs.Layout.{canon}
 use Rattle.capn_canon.specs.Denotes.{Answers}
@@ -33,14 +32,14 @@ use Rattle.capn_canon.specs.declared.refusal.Refusal.{Refusal}
 use Rattle.capn_canon.specs.declared.refusal.Refusal.TheVariants as refusals
 use Rattle.capn_canon.proofs.shared.OneReading.{answers_only}
 use Rattle.capn_canon.proofs.shared.NotRefused.{accepted-not_refused, not_refused}
-use Rattle.capn_tool.specs.Pieces.{AreCanonical, IsPiece, IsBarePiece, IsNoPiece, IsStopped, digest_line}
-use Rattle.capn_tool.specs.Wholes.{Makes, MakesNothing}
+use Rattle.capn_tool.specs.MessageText.{AreCanonical, IsPiece, IsBarePiece, IsNoPiece, IsStopped, digest_line}
+use Rattle.capn_tool.specs.WholeInput.{Makes, MakesNothing}
 use Rattle.capn_tool.specs.Streams.{Part, IsPart, frames_of, texts_of, end_of, EndsUnframed, EndsRefused, IsDueEach}
 use Rattle.capn_tool.specs.Streams.{behind_packed, behind_stream}
 use Rattle.capn_pack.proofs.shared.SplitLaws.{one_split}
-use Rattle.capn_tool.specs.Planned.{plan_of}
+use Rattle.capn_tool.specs.Plan.{plan_of}
 use Rattle.capn_tool.specs.Text.{taken_of, has_more, IsDueWhole, IsDue, IsText, EndsAs, EndsBy}
-use Rattle.capn_tool.specs.declared.orders.Command.{Command}
+use Rattle.capn_tool.specs.declared.command.Command.{Command}
 use Rattle.capn_tool.specs.declared.plan.Piece.{Piece}
 use Rattle.capn_tool.specs.declared.plan.Piece.TheVariants as kinds
 use Rattle.capn_tool.specs.declared.plan.Whole.{Whole}

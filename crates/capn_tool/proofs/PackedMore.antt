@@ -5,13 +5,12 @@ use Rattle.std.proofs.lemmas.List.{take-append-drop}
 use Rattle.std.proofs.Math.Seq.{take-add}
 use Rattle.std.proofs.lemmas.Grind.{flat_map-append}
 use Rattle.capn_walk.specs.Limits.{Bounds}
-use Rattle.capn_pack.specs.Group.{IsGroup, text, content}
-use Rattle.capn_pack.specs.Packs.{texts, contents}
-use Rattle.capn_pack.specs.Stream.{Begins, Feeds, Held, Splits, advanced}
+use Rattle.capn_pack.specs.Packed.{IsGroup, text, content, texts, contents}
+use Rattle.capn_pack.specs.PackedPieces.{Begins, Feeds, Held, Splits, advanced}
 use Rattle.capn_pack.proofs.shared.StreamLemmas.{splits_open, splits_then}
-use Rattle.capn_stream.specs.Framing.{Framing}
-use Rattle.capn_tool.specs.Sending.{Outgoing, SendsRest, outgoing, sent}
-use Rattle.capn_tool.specs.Heard.{Stops, Tells}
+use Rattle.capn_stream.specs.StreamPieces.{Framing}
+use Rattle.capn_tool.specs.Outgoing.{Outgoing, SendsRest, outgoing, sent}
+use Rattle.capn_tool.specs.StreamRun.{Stops, Tells}
 use Rattle.capn_tool.specs.inner.PackedRun.{IsUnpacking, ServesPacked, StopsPacked, TellsPacked}
 use Rattle.capn_tool.specs.declared.plan.Piece.{Piece}
 use Rattle.capn_tool.specs.declared.fault.ToolFault.{ToolFault}

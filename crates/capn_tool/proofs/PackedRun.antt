@@ -7,16 +7,15 @@ use Rattle.std.proofs.lemmas.Grind.{flat_map-append}
 use Rattle.std.specs.Io.KnownBytes.{Appends, Consumes, IsAtEnd, Keeps}
 use Rattle.std.proofs.KnownBytes.{Consumes-nil, Consumes-trans, Consumes-kept}
 use Rattle.capn_walk.specs.Limits.{Bounds}
-use Rattle.capn_pack.specs.Group.{IsGroup, text, content}
-use Rattle.capn_pack.specs.Packs.{texts, contents}
-use Rattle.capn_pack.specs.Stream.{Begins, Held, Splits}
+use Rattle.capn_pack.specs.Packed.{IsGroup, text, content, texts, contents}
+use Rattle.capn_pack.specs.PackedPieces.{Begins, Held, Splits}
 use Rattle.capn_pack.proofs.shared.SplitLaws.{splits_all}
 use Rattle.capn_pack.proofs.shared.StreamLemmas.{nothing_first}
-use Rattle.capn_stream.specs.Framing.{IsUnfinished}
+use Rattle.capn_stream.specs.StreamPieces.{IsUnfinished}
 use Rattle.capn_tool.specs.Streams.{texts_of, behind_packed, end_of, IsDueEach, IsDuePacked}
 use Rattle.capn_tool.specs.Text.{HasWritten, PlanBegins, PlanEndsAs, taken_of, has_more}
-use Rattle.capn_tool.specs.Heard.{IsDueSo, Runs, TellsFront}
-use Rattle.capn_tool.specs.Sending.{sent}
+use Rattle.capn_tool.specs.StreamRun.{IsDueSo, Runs, TellsFront}
+use Rattle.capn_tool.specs.Outgoing.{sent}
 use Rattle.capn_tool.specs.inner.PackedRun.{EndsPacked, HearsPacked, IsUnpacking, StopsPacked, TellsPacked, fresh}
 use Rattle.capn_tool.specs.declared.plan.Piece.{Piece}
 use Rattle.capn_tool.specs.declared.plan.Plan.TheVariants as plans

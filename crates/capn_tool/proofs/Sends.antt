@@ -4,7 +4,7 @@ use Rattle.std.proofs.Common.{append_assoc}
 use Rattle.std.proofs.Math.Seq.{take-append-add}
 use Rattle.std.specs.Io.KnownBytes.{Appends}
 use Rattle.std.proofs.KnownBytes.{Appends-nil, Appends-trans}
-use Rattle.capn_tool.specs.Sending.{Outgoing, Adds, Breaks, outgoing, sent}
+use Rattle.capn_tool.specs.Outgoing.{Outgoing, Adds, Breaks, outgoing, sent}
 
 pub adds_none : (a : Outgoing) → Adds a a []
 adds_none a = ([], Appends-nil a.taken, sym (append-nil a.kept))

@@ -2,10 +2,10 @@
 use Rattle.std.proofs.Common.{◌≡◌, ◌∙◌, inl, inr, ℕ, List, Bool, true, Option, Result, Ok, Err, IsErr, IsErrAnd}
 use Rattle.std.proofs.Common.{IsErrOf, ◌↔◌, ap}
 use Rattle.std.specs.Io.KnownBytes.{Appends, Keeps}
-use Rattle.capn_words.specs.Watching.{HasBegun}
-use Rattle.capn_tool.specs.Ends.{ShowsHelp, course}
-use Rattle.capn_tool.specs.Misuse.{IsHelp}
-use Rattle.capn_tool.specs.Sending.{EndsFlushed}
+use Rattle.capn_words.specs.Watched.{HasBegun}
+use Rattle.capn_tool.specs.Program.{ShowsHelp, course}
+use Rattle.capn_tool.specs.Usage.{IsHelp}
+use Rattle.capn_tool.specs.Outgoing.{EndsFlushed}
 use Rattle.capn_tool.specs.declared.fault.ToolFault.{ToolFault}
 use Rattle.capn_tool.specs.declared.fault.ToolFault.TheVariants as faults
 use Rattle.capn_tool.proofs.shared.Written.{begun_all, kept, sound}

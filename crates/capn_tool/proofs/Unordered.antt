@@ -2,9 +2,9 @@
 use Rattle.std.proofs.Common.{◌≡◌, ℕ, Bool, true, false, Result, Err, refl, sym, ◌∙◌}
 use Rattle.clap.specs.declared.error.ErrorKind.{ErrorKind}
 use Rattle.clap.specs.declared.error.ErrorKind.TheVariants as kinds
-use Rattle.capn_tool.specs.Ends.{Course, EndsUnordered, IsUntouched, ShowsHelp, TellsText}
-use Rattle.capn_tool.specs.Status.{status_of}
-use Rattle.capn_tool.specs.Told.{Tells}
+use Rattle.capn_tool.specs.Program.{Course, EndsUnordered, IsUntouched, ShowsHelp, TellsText}
+use Rattle.capn_tool.specs.ExitStatus.{status_of}
+use Rattle.capn_tool.specs.FaultText.{Tells}
 use Rattle.capn_tool.specs.declared.fault.ToolFault.{ToolFault}
 use Rattle.capn_tool.specs.declared.fault.ToolFault.TheVariants as faults
 

@@ -5,17 +5,16 @@ use Rattle.std.proofs.Common.{take-append-drop, length-take, Bool, true, false, 
 use Rattle.std.specs.Prelude.{◌==◌, if◌then◌else◌}
 use Rattle.std.proofs.lemmas.Grind.{flat_map-append}
 use Rattle.std.proofs.lemmas.List.{get_or_append_left}
-use Rattle.capn_pack.specs.Group.{Group, text, content}
-use Rattle.capn_pack.specs.Packs.{Packs, texts, contents}
-use Rattle.capn_pack.specs.Refusal.{HasHead, IsCut, IsTooLong, Stands, head_len, words_at}
-use Rattle.capn_pack.specs.Some.{StandsNext, UnpacksSome, most_group}
+use Rattle.capn_pack.specs.Packed.{Group, text, content, Packs, texts, contents}
+use Rattle.capn_pack.specs.UnpackRefusal.{HasHead, IsCut, IsTooLong, Stands, head_len, words_at}
+use Rattle.capn_pack.specs.WholeGroups.{StandsNext, UnpacksSome, most_group}
 use Rattle.capn_pack.proofs.shared.GroupLemmas.{count_append, each_append, length_contents}
-use Rattle.capn_pack.specs.declared.some.Next.{Next}
-use Rattle.capn_pack.specs.declared.some.Next.TheVariants as nexts
+use Rattle.capn_pack.specs.declared.whole_groups.Next.{Next}
+use Rattle.capn_pack.specs.declared.whole_groups.Next.TheVariants as nexts
 use Rattle.capn_pack.specs.declared.fault.UnpackFault.TheVariants as unpack_faults
 use Rattle.capn_canon.specs.declared.refusal.Refusal.TheVariants as refusals
 use Rattle.capn_tool.specs.inner.Pending.{Holds, IsPending}
-use Rattle.capn_tool.specs.Wholes.{Gives}
+use Rattle.capn_tool.specs.WholeInput.{Gives}
 use Rattle.capn_tool.specs.declared.plan.Whole.TheVariants as wholes
 use Rattle.capn_tool.specs.declared.fault.ToolFault.TheVariants as faults
 

@@ -4,11 +4,11 @@ use Rattle.std.proofs.Common.{◌⊎◌, IsErrAnd, refl}
 use Rattle.capn_walk.specs.Limits.{Bounds}
 use Rattle.capn_walk.specs.Accepted.{paid, number_of_visits}
 use Rattle.capn_walk.specs.Accepted as walks
-use Rattle.capn_walk.specs.declared.walked.Stopped.{Stopped}
+use Rattle.capn_walk.specs.declared.walk_answer.Stopped.{Stopped}
 use Rattle.capn_walk.specs.declared.target.Fault.TheVariants as walk_faults
-use Rattle.capn_canon.specs.Checks.{IsCheck}
-use Rattle.capn_canon.specs.declared.checked.Checked.{Checked}
-use Rattle.capn_tool.specs.Pieces.{AreCanonical, PutsBarePiece, PutsLine, TellsStop, priced}
+use Rattle.capn_canon.specs.BareVerdict.{IsCheck}
+use Rattle.capn_canon.specs.declared.surveyed_bare.Checked.{Checked}
+use Rattle.capn_tool.specs.MessageText.{AreCanonical, PutsBarePiece, PutsLine, TellsStop, priced}
 use Rattle.capn_tool.specs.declared.plan.Piece.TheVariants as kinds
 use Rattle.capn_tool.specs.declared.fault.ToolFault.{ToolFault}
 

@@ -5,10 +5,10 @@ use Rattle.std.proofs.Common.{subst, arith, take_all}
 use Rattle.std.proofs.lemmas.Bool.Decides.{nat_tests}
 use Rattle.std.proofs.KnownBytes.{Appends-nil}
 use Rattle.std.specs.Io.KnownBytes.{Appends}
-use Rattle.capn_words.specs.Watching.{HasBegun}
+use Rattle.capn_words.specs.Watched.{HasBegun}
 use Rattle.capn_tool.specs.inner.ReadInput.{HasGiven, HasGivenAll, IsUntaken, TakesAll}
 use Rattle.capn_tool.specs.Text.{HasEnded, PlanBegins, PlanEndsAs, has_more, taken_of}
-use Rattle.capn_tool.specs.Wholes.{Gives, Makes, MakesNothing}
+use Rattle.capn_tool.specs.WholeInput.{Gives, Makes, MakesNothing}
 use Rattle.capn_tool.specs.declared.plan.Whole.{Whole}
 use Rattle.capn_tool.specs.declared.plan.Plan.TheVariants as plans
 use Rattle.capn_tool.specs.declared.fault.ToolFault.{ToolFault}

@@ -1,7 +1,7 @@
 -- Faults that lower calls report.
 use Rattle.std.proofs.Common.{◌≡◌, inl, inr, ℕ, List}
-use Rattle.capn_tool.specs.Pieces.{IsNoPiece}
-use Rattle.capn_tool.specs.Wholes.{MakesNothing}
+use Rattle.capn_tool.specs.MessageText.{IsNoPiece}
+use Rattle.capn_tool.specs.WholeInput.{MakesNothing}
 use Rattle.capn_tool.specs.declared.plan.Piece.{Piece}
 use Rattle.capn_tool.specs.declared.plan.Piece.TheVariants as kinds
 use Rattle.capn_tool.specs.declared.plan.Whole.{Whole}

@@ -3,9 +3,9 @@ use Rattle.std.proofs.Common.{◌≡◌, List, ℕ, refl, true, codes, [], ◌�
 use Rattle.clap.specs.Words.{subcommand_of, takes}
 use Rattle.clap.specs.Takes.{walk_passes}
 use Rattle.clap.specs.Walk.{walked}
-use Rattle.capn_tool.specs.Line.{tool_line}
+use Rattle.capn_tool.specs.CommandLine.{tool_line}
 use Rattle.capn_tool.specs.Meaning.{Means}
-use Rattle.capn_tool.specs.declared.orders.Command.TheVariants as commands
+use Rattle.capn_tool.specs.declared.command.Command.TheVariants as commands
 
 abbrev pack_words : List (List ℕ)
 pack_words = codes "capn" ∷ codes "pack" ∷ []

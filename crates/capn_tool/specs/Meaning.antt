@@ -5,12 +5,12 @@ use Rattle.clap.specs.Words.{Row, Text, first_of, one_of}
 use Rattle.capn_value.specs.declared.tariff.Tariff.{Tariff}
 use Rattle.capn_value.specs.declared.tariff.Tariff.TheVariants as tariffs
 use Rattle.capn_walk.specs.Limits.{Bounds, AreLimits}
-use Rattle.capn_words.specs.Limits.{most_message_words}
+use Rattle.capn_words.specs.Message.{most_message_words}
 use Rattle.capn_stream.specs.Frames.{most_table_words}
 use Rattle.capn_canon.specs.declared.form.Form.{Form}
 use Rattle.capn_canon.specs.declared.form.Form.TheVariants as forms
-use Rattle.capn_tool.specs.declared.orders.Command.{Command}
-use Rattle.capn_tool.specs.declared.orders.Command.TheVariants as commands
+use Rattle.capn_tool.specs.declared.command.Command.{Command}
+use Rattle.capn_tool.specs.declared.command.Command.TheVariants as commands
 
 -- the name of each form
 abbrev pub form_name : Form → Text

@@ -6,13 +6,13 @@ use Rattle.std.specs.List.{flat_map, AllByRecursion}
 use Rattle.capn_words.specs.Message.{total}
 use Rattle.capn_walk.specs.Limits.{Bounds}
 use Rattle.capn_stream.specs.Frames.{Frames, StandsFirst}
-use Rattle.capn_stream.specs.Reading as frames
+use Rattle.capn_stream.specs.FrameRefusal as frames
 use Rattle.capn_stream.specs.declared.fault.FrameFault.{FrameFault}
 use Rattle.capn_stream.specs.declared.fault.FrameFault.TheVariants as frame_faults
 use Rattle.capn_canon.specs.declared.refusal.Refusal.TheVariants as refusals
-use Rattle.capn_pack.specs.Stream.{Splits}
+use Rattle.capn_pack.specs.PackedPieces.{Splits}
 use Rattle.capn_pack.specs.declared.fault.UnpackFault.TheVariants as cuts
-use Rattle.capn_tool.specs.Pieces.{IsPiece, IsNoPiece}
+use Rattle.capn_tool.specs.MessageText.{IsPiece, IsNoPiece}
 use Rattle.capn_tool.specs.declared.plan.Piece.{Piece}
 use Rattle.capn_tool.specs.declared.fault.ToolFault.{ToolFault}
 use Rattle.capn_tool.specs.declared.fault.ToolFault.TheVariants as faults

@@ -3,11 +3,11 @@ use Rattle.std.specs.Prelude.{◌≡◌, ◌⊎◌, ℕ, ◌+◌, ◌≤◌, nat
 use Rattle.std.specs.Prelude.{Ok, Err}
 use Rattle.std.specs.Io.KnownBytes.{Consumes, Appends}
 use Rattle.capn_tool.specs.Limits.{most_input}
-use Rattle.capn_tool.specs.Planned.{plan_of}
-use Rattle.capn_tool.specs.Wholes.{Makes, MakesNothing}
+use Rattle.capn_tool.specs.Plan.{plan_of}
+use Rattle.capn_tool.specs.WholeInput.{Makes, MakesNothing}
 use Rattle.capn_tool.specs.Streams.{Part, AreParts, texts_of, IsDueEach, IsDuePacked, behind_stream}
-use Rattle.capn_pack.specs.Stream as packs
-use Rattle.capn_tool.specs.declared.orders.Command.{Command}
+use Rattle.capn_pack.specs.PackedPieces as packs
+use Rattle.capn_tool.specs.declared.command.Command.{Command}
 use Rattle.capn_tool.specs.declared.plan.Whole.{Whole}
 use Rattle.capn_tool.specs.declared.plan.Plan.{Plan}
 use Rattle.capn_tool.specs.declared.plan.Plan.TheVariants as plans

@@ -47,7 +47,7 @@ impl From<Memory> for ToolFault {
 }
 
 impl From<Stopped> for ToolFault {
-    ghost use Rattle.capn_tool.specs.Pieces.{TellsStop};
+    ghost use Rattle.capn_tool.specs.MessageText.{TellsStop};
 
     ghost from_gives = { TellsStop };
 

@@ -1,7 +1,7 @@
 //! All of the input that a run takes, of which no more is held than needed.
 
 ghost use Rattle.std.specs.Prelude.{◌≡◌, false};
-ghost use Rattle.capn_words.specs.Watching.{inner_of, has_failed};
+ghost use Rattle.capn_words.specs.Watched.{inner_of, has_failed};
 ghost use Rattle.capn_tool.specs.inner.ReadInput.{IsBeginning, TakesAll};
 
 use crate::fault::ToolFault;

@@ -13,34 +13,34 @@
 //! ```
 #![tactic(auto)]
 
-mod each;
-mod ending;
+mod command;
+mod command_line;
+mod command_run;
+mod entry;
+mod exit_status;
 mod fault;
-mod hearing;
 pub mod help;
 mod input;
 pub mod laws;
-mod line;
-mod making;
-mod misuse;
-mod orders;
+mod message_service;
+mod message_stream;
+mod message_text;
 mod output;
+mod packed_stream;
 pub mod parts;
 mod pending;
-mod piece;
 mod plan;
-mod running;
-mod start;
 mod subcommands;
-mod unpacking;
+mod usage;
+mod whole_input;
 
-pub use ending::{end, fault_text, status};
+pub use exit_status::{end, fault_text, status};
 pub use fault::ToolFault;
-pub use line::command_of;
-pub use misuse::Usage;
-pub use orders::Command;
-pub use running::run;
-pub use start::program;
+pub use command_line::command_of;
+pub use usage::Usage;
+pub use command::Command;
+pub use command_run::run;
+pub use entry::program;
 pub use subcommands::tool_command;
 
 // What the signatures above name.

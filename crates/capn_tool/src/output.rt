@@ -2,8 +2,8 @@
 
 ghost use Rattle.std.specs.Prelude.{◌≡◌, ◌↔◌, true, false, OnOk, IsErrOf, IsOkUnless};
 ghost use Rattle.std.specs.Io.KnownBytes.{Appends, Keeps};
-ghost use Rattle.capn_words.specs.Watching.{HasBegun, inner_of, has_failed};
-ghost use Rattle.capn_tool.specs.Sending.{EndsFlushed, SendsRest};
+ghost use Rattle.capn_words.specs.Watched.{HasBegun, inner_of, has_failed};
+ghost use Rattle.capn_tool.specs.Outgoing.{EndsFlushed, SendsRest};
 
 use crate::fault::ToolFault;
 use capn_words::Watched;

@@ -1,11 +1,11 @@
 //! A packed input whose words are unpacked while it comes.
 
 ghost use Rattle.std.specs.Prelude.{◌≡◌, ℕ, ◌+◌, ◌-◌, ◌<◌, ◌≤◌, ◌^◌, ◌++◌, List, length, take, drop, false, OnOk};
-ghost use Rattle.capn_words.specs.Watching.{inner_of, has_failed};
-ghost use Rattle.capn_pack.specs.Some.{most_group};
+ghost use Rattle.capn_words.specs.Watched.{inner_of, has_failed};
+ghost use Rattle.capn_pack.specs.WholeGroups.{most_group};
 ghost use Rattle.capn_tool.specs.inner.Pending.{IsPending};
 ghost use Rattle.capn_tool.specs.inner.ReadInput.{TakesAll};
-ghost use Rattle.capn_tool.specs.Wholes.{Gives};
+ghost use Rattle.capn_tool.specs.WholeInput.{Gives};
 ghost use Rattle.capn_tool.specs.declared.plan.Whole.TheVariants as wholes;
 
 use crate::fault::ToolFault;

@@ -1,9 +1,9 @@
 //! What each command does with its input.
 
 ghost use Rattle.std.specs.Prelude.{◌≡◌};
-ghost use Rattle.capn_tool.specs.Planned as spec;
+ghost use Rattle.capn_tool.specs.Plan as spec;
 
-use crate::orders::Command;
+use crate::command::Command;
 use capn_canon::Form;
 use capn_walk::Limits;
 

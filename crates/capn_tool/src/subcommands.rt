@@ -4,9 +4,9 @@ ghost use Rattle.std.specs.Prelude.{◌≡◌, IfOk, false};
 ghost use Rattle.clap.specs.Words.{App, app_of, kind_of, rule_of, new_app, with_subcommand};
 ghost use Rattle.clap.specs.declared.error.ErrorKind.TheVariants as kinds;
 ghost use Rattle.clap.specs.declared.builder.command.Command.TheViews.{out-Command};
-ghost use Rattle.capn_tool.specs.Line.{HasLine, usual_rule, number_rule, words_rule, budget_rule, depth_rule};
-ghost use Rattle.capn_tool.specs.Line.{message_line, unpack_line, reading_line, messages_line};
-ghost use Rattle.capn_tool.specs.Line.{tool_line};
+ghost use Rattle.capn_tool.specs.CommandLine.{HasLine, usual_rule, number_rule, words_rule, budget_rule, depth_rule};
+ghost use Rattle.capn_tool.specs.CommandLine.{message_line, unpack_line, reading_line, messages_line};
+ghost use Rattle.capn_tool.specs.CommandLine.{tool_line};
 
 use crate::help::{self, Page};
 use capn_value::{MOST_COST, MOST_HEIGHT};

@@ -2,13 +2,13 @@
 use Rattle.std.proofs.Common.{◌≡◌, ℕ, List, Bool, true, false, ◌||◌, None, ◌⊎◌, inl, inr, refl, length, ap, ap₂, sym}
 use Rattle.std.proofs.Common.{◌∙◌, nat_lt}
 use Rattle.capn_value.specs.Tree.{Tree, nil, node, voids, bits, bytes, pairs, quads, octs, links, rows, cap}
-use Rattle.capn_value.specs.View.{tree_of, trees_of, rows_of}
+use Rattle.capn_value.specs.TreeOf.{tree_of, trees_of, rows_of}
 use Rattle.capn_value.specs.Views.{tree_of-Nil, tree_of-Node, tree_of-Voids, tree_of-Bits, tree_of-Bytes, tree_of-Pairs}
 use Rattle.capn_value.specs.Views.{tree_of-Quads, tree_of-Octs, tree_of-Links, tree_of-Rows, tree_of-Cap}
 use Rattle.capn_value.specs.Views.{count-trees_of}
-use Rattle.capn_value.specs.Caps.{first_cap}
+use Rattle.capn_value.specs.FirstCap.{first_cap}
 use Rattle.capn_value.specs.Code.{value_of}
-use Rattle.capn_value.specs.Sizes.{height}
+use Rattle.capn_value.specs.Cost.{height}
 use Rattle.capn_value.specs.Fits.{anywhere, is_wide, is_long, is_ragged, is_root, elements, words_in_rows}
 use Rattle.capn_value.specs.declared.value.Value.{Value, Nil, Node, Voids, Bits, Bytes, Pairs, Quads, Octs, Links, Rows}
 use Rattle.capn_value.specs.declared.value.Value.{Cap}

@@ -4,10 +4,10 @@ use Rattle.std.proofs.Common.{◌∙◌, arith}
 use Rattle.std.proofs.Math.Path.{subst}
 use Rattle.std.specs.Int.{div_ceil}
 use Rattle.capn_value.specs.Tree.{Tree, bits, bytes, pairs, quads, octs, voids, count, row_words}
-use Rattle.capn_value.specs.View.{tree_of, trees_of, rows_of}
+use Rattle.capn_value.specs.TreeOf.{tree_of, trees_of, rows_of}
 use Rattle.capn_value.specs.Views.{tree_of-Node, tree_of-Voids, tree_of-Bits, tree_of-Bytes, tree_of-Pairs}
 use Rattle.capn_value.specs.Views.{tree_of-Quads, tree_of-Octs, tree_of-Links, tree_of-Rows, count-trees_of}
-use Rattle.capn_value.specs.Sizes.{cost, costs, costs_in_rows, rows_price}
+use Rattle.capn_value.specs.Cost.{cost, costs, costs_in_rows, rows_price}
 use Rattle.capn_value.specs.InRange.{AllBelow, InRange, EachInRange, RowsInRange}
 use Rattle.capn_value.specs.declared.value.Value.{Value, Node, Voids, Bits, Bytes, Pairs, Quads, Octs, Links, Rows}
 use Rattle.capn_value.specs.declared.value.Body.{Body}

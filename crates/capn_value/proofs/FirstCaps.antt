@@ -1,8 +1,8 @@
 -- The first capability of a list, one element after another.
 use Rattle.std.proofs.Common.{◌≡◌, ℕ, ◌+◌, ◌<◌, List, length, get_or, drop, Option, Some, None, sym, ap, ◌∙◌}
 use Rattle.std.specs.Option.{option_or}
-use Rattle.capn_value.specs.View.{tree_of, trees_of, rows_of}
-use Rattle.capn_value.specs.Caps.{first_cap, first_in, first_in_rows}
+use Rattle.capn_value.specs.TreeOf.{tree_of, trees_of, rows_of}
+use Rattle.capn_value.specs.FirstCap.{first_cap, first_in, first_in_rows}
 use Rattle.capn_value.specs.declared.value.Value.{Value}
 use Rattle.capn_value.specs.declared.value.Body.{Body}
 use Rattle.capn_value.proofs.Anywhere.{drop-next, drop-past}

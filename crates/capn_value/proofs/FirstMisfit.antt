@@ -1,7 +1,7 @@
 -- The misfit of a value is the first of the six that holds.
 use Rattle.std.proofs.Common.{◌≡◌, ◌↔◌, Bool, true, false, cond, nat_lt, refl, Option, Some, None}
 use Rattle.capn_value.specs.Tree.{Tree}
-use Rattle.capn_value.specs.Sizes.{height, base, cost, most_cost, most_height}
+use Rattle.capn_value.specs.Cost.{height, base, cost, most_cost, most_height}
 use Rattle.capn_value.specs.Fits.{anywhere, is_wide, is_long, is_ragged, is_root, misfit, IsFirst}
 use Rattle.capn_value.specs.declared.tariff.Tariff.TheVariants.{Plain}
 use Rattle.capn_value.specs.declared.misfit.Misfit.{Misfit}

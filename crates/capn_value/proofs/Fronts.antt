@@ -7,7 +7,7 @@ use Rattle.std.specs.Result.{IfOk, IsOkAnd}
 use Rattle.std.specs.Option.{is_some, unwrap_or}
 use Rattle.capn_value.specs.Tree.{Trees, no_trees, tree, Bodies, no_bodies, body, joined, joined_rows, front, count}
 use Rattle.capn_value.specs.Tree.{tree_at}
-use Rattle.capn_value.specs.View.{tree_of, trees_of, rows_of}
+use Rattle.capn_value.specs.TreeOf.{tree_of, trees_of, rows_of}
 use Rattle.capn_value.specs.Views.{count-trees_of}
 use Rattle.capn_value.specs.Trim.{trimmed, trimmed_each}
 use Rattle.capn_value.specs.inner.CutCopy.{anew, each_anew, words_anew, slots_anew, rows_anew}

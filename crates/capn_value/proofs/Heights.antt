@@ -1,8 +1,8 @@
 -- The height of a value, capped, from those of its parts.
 use Rattle.std.proofs.Common.{◌≡◌, ℕ, ◌+◌, ◌<◌, ◌≤◌, List, length, get_or, drop, min, max, refl, ap, ◌∙◌, arith}
-use Rattle.capn_value.specs.View.{tree_of, trees_of, rows_of}
+use Rattle.capn_value.specs.TreeOf.{tree_of, trees_of, rows_of}
 use Rattle.capn_value.specs.Views.{tree_of-Node, tree_of-Links, tree_of-Rows}
-use Rattle.capn_value.specs.Sizes.{height, greatest, greatest_in_rows}
+use Rattle.capn_value.specs.Cost.{height, greatest, greatest_in_rows}
 use Rattle.capn_value.specs.declared.value.Value.{Value, Node, Links, Rows}
 use Rattle.capn_value.specs.declared.value.Body.{Body}
 use Rattle.capn_value.proofs.Anywhere.{drop-next, drop-past}

@@ -1,6 +1,6 @@
 -- A value is given back by its tree.
 use Rattle.std.proofs.Common.{◌≡◌, List, [], ◌∷◌, map, refl, sym, ap, ap₂, ◌∙◌, subst}
-use Rattle.capn_value.specs.View.{tree_of, trees_of, rows_of}
+use Rattle.capn_value.specs.TreeOf.{tree_of, trees_of, rows_of}
 use Rattle.capn_value.specs.Views.{tree_of-Nil, tree_of-Node, tree_of-Voids, tree_of-Bits, tree_of-Bytes, tree_of-Pairs}
 use Rattle.capn_value.specs.Views.{tree_of-Quads, tree_of-Octs, tree_of-Links, tree_of-Rows, tree_of-Cap}
 use Rattle.capn_value.specs.Code.{value_of, values_of, bodies_of}

@@ -1,7 +1,7 @@
 -- A test of two lists, one pair after another, and a test of one.
 use Rattle.std.proofs.Common.{◌≡◌, ℕ, ◌+◌, ◌<◌, ◌≤◌, List, Bool, true, false, ◌&&◌, length, get_or, drop, min, arith}
 use Rattle.std.proofs.Common.{sym, ap, ap₂, ◌∙◌}
-use Rattle.capn_value.specs.View.{tree_of, trees_of, rows_of}
+use Rattle.capn_value.specs.TreeOf.{tree_of, trees_of, rows_of}
 use Rattle.capn_value.specs.Tree.{is_null}
 use Rattle.capn_value.specs.inner.SameTest.{are_null, test, test_words, test_slots, test_each, test_rows}
 use Rattle.capn_value.specs.declared.value.Value.{Value}

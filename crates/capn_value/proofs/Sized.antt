@@ -4,7 +4,7 @@ use Rattle.std.proofs.Common.{drop, min, nat_lt, sym, ap, ap₂, ◌∙◌, arit
 use Rattle.std.proofs.lemmas.Bool.Decides.{nat_tests}
 use Rattle.std.specs.Prelude.{◌==◌}
 use Rattle.capn_value.specs.Tree.{Bodies, count, row_words}
-use Rattle.capn_value.specs.View.{trees_of, rows_of}
+use Rattle.capn_value.specs.TreeOf.{trees_of, rows_of}
 use Rattle.capn_value.specs.Views.{count-trees_of}
 use Rattle.capn_value.specs.Fits.{is_wide_body, has_wide_row, are_even}
 use Rattle.capn_value.specs.declared.value.Body.{Body}

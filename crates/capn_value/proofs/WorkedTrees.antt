@@ -6,7 +6,7 @@ use Rattle.capn_value.specs.Tree.{nil, node, voids, bits, bytes, links, rows, ca
 use Rattle.capn_value.specs.Tree.{body}
 use Rattle.capn_value.specs.Trim.{trimmed}
 use Rattle.capn_value.specs.inner.CutCopy.{anew, rows_anew}
-use Rattle.capn_value.specs.Sizes.{cost, height, rows_price}
+use Rattle.capn_value.specs.Cost.{cost, height, rows_price}
 use Rattle.capn_value.specs.Text.{show_text, line}
 use Rattle.capn_value.specs.Fits.{misfit}
 use Rattle.capn_value.specs.declared.misfit.Misfit.TheVariants.{Long, Ragged, BadRoot}

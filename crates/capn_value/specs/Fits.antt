@@ -5,7 +5,7 @@ use Rattle.std.specs.Prelude.{Some, None, List}
 use Rattle.capn_value.specs.Tree.{Tree, nil, node, voids, bits, bytes, pairs, quads, octs, links, rows, cap, Trees}
 use Rattle.capn_value.specs.Tree.{no_trees, tree, Bodies, no_bodies, body, count, count_rows, row_words}
 use Rattle.capn_value.specs.declared.tariff.Tariff.TheVariants.{Plain}
-use Rattle.capn_value.specs.Sizes.{height, base, cost, most_cost, most_height}
+use Rattle.capn_value.specs.Cost.{height, base, cost, most_cost, most_height}
 use Rattle.capn_value.specs.declared.misfit.Misfit.{Misfit}
 use Rattle.capn_value.specs.declared.misfit.Misfit.TheVariants.{Wide, Long, Ragged, Costly, Tall, BadRoot}
 

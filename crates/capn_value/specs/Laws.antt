@@ -4,7 +4,7 @@ use Rattle.capn_value.specs.Tree.{Tree}
 use Rattle.capn_value.specs.Same.{Same}
 use Rattle.capn_value.specs.Trim.{trimmed}
 use Rattle.capn_value.specs.Fits.{Fits, IsFirst, IsFit, misfit}
-use Rattle.capn_value.specs.Sizes.{base, cost, height}
+use Rattle.capn_value.specs.Cost.{base, cost, height}
 use Rattle.capn_value.specs.declared.misfit.Misfit.{Misfit}
 use Rattle.capn_value.specs.declared.tariff.Tariff.{Tariff}
 

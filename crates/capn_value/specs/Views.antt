@@ -2,7 +2,7 @@
 use Rattle.std.proofs.Common.{◌≡◌, ℕ, List, [], ◌∷◌, map, refl, ap, ap₂, ◌∙◌, rules, Bool, length, suc}
 use Rattle.capn_value.specs.Tree.{nil, node, voids, bits, bytes, pairs, quads, octs, links, rows, cap, tree, body}
 use Rattle.capn_value.specs.Tree.{count, count_rows}
-use Rattle.capn_value.specs.View.{trees, rows_from, tree_of, body_of, trees_of, rows_of}
+use Rattle.capn_value.specs.TreeOf.{trees, rows_from, tree_of, body_of, trees_of, rows_of}
 use Rattle.capn_value.specs.declared.value.Value.{Value, Nil, Node, Voids, Bits, Bytes, Pairs, Quads, Octs, Links, Rows}
 use Rattle.capn_value.specs.declared.value.Value.{Cap, the_lemmas}
 use Rattle.capn_value.specs.declared.value.Body.{Body}

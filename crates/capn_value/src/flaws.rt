@@ -1,13 +1,13 @@
 //! The first reason why a value fits into no message.
 
 ghost use Rattle.std.specs.Prelude.{◌≡◌, ◌||◌, IfNone};
-ghost use Rattle.capn_value.specs.View.{tree_of, trees_of, rows_of};
+ghost use Rattle.capn_value.specs.TreeOf.{tree_of, trees_of, rows_of};
 ghost use Rattle.capn_value.specs.Fits as fits;
 ghost use Rattle.capn_value.specs.InRange.{InRange};
 
-use crate::measure::{MOST_COST, MOST_HEIGHT, capped_cost, capped_height};
+use crate::cost_and_height::{MOST_COST, MOST_HEIGHT, capped_cost, capped_height};
 use crate::misfit::Misfit;
-use crate::parts::{is_long, is_ragged, is_wide};
+use crate::part_flaws::{is_long, is_ragged, is_wide};
 use crate::tariff::Tariff;
 use crate::value::{Body, Value};
 use std::alloc::Allocator;

@@ -23,28 +23,28 @@
 //! ```
 #![tactic(auto)]
 
-mod copying;
-mod equal;
+mod cost_and_height;
 mod flaws;
 mod items;
+mod kept_lengths;
 pub mod laws;
-mod lines;
-mod measure;
 mod memory;
 mod misfit;
-mod parts;
+mod part_flaws;
+mod sameness;
 mod tariff;
 mod text;
+mod text_lines;
 mod tree;
-mod trimming;
 mod value;
+mod value_copy;
 
-pub use equal::same;
+pub use sameness::same;
 pub use items::Items;
-pub use measure::{MOST_COST, MOST_HEIGHT};
+pub use cost_and_height::{MOST_COST, MOST_HEIGHT};
 pub use memory::Memory;
 pub use misfit::Misfit;
 pub use tariff::Tariff;
 pub use tree::{Tree, copy, cost, height, show, trim};
-pub use trimming::{kept_slots, kept_slots_of_rows, kept_words, kept_words_of_rows};
+pub use kept_lengths::{kept_slots, kept_slots_of_rows, kept_words, kept_words_of_rows};
 pub use value::{Body, Value, first_cap};

@@ -23,7 +23,7 @@ pub enum Misfit {
 
 impl fmt::Display for Misfit {
     ghost use Rattle.std.specs.Prelude.{Some};
-    ghost use Rattle.capn_value.specs.Told.{misfit_name};
+    ghost use Rattle.capn_value.specs.Display.{misfit_name};
 
     ghost output = { λ fault. Some (misfit_name fault) };
 

@@ -1,7 +1,7 @@
 //! How the contents of a message are priced.
 
 ghost use Rattle.std.specs.Prelude.{◌≡◌, ◌≤◌};
-ghost use Rattle.capn_value.specs.Sizes as sizes;
+ghost use Rattle.capn_value.specs.Cost as sizes;
 
 /// How visits are priced: each pays the words of the content that its slot leads to, and one for each element that has
 /// no size. (Own, after the page's security considerations.)

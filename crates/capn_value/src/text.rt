@@ -1,12 +1,12 @@
 //! The text of a tree, written into one string.
 
 ghost use Rattle.std.specs.Prelude.{◌≡◌, ◌++◌, ◌+◌, ◌*◌, ◌<◌, ◌^◌, OnOk, string_bytes, length, codes};
-ghost use Rattle.capn_value.specs.View.{tree_of, trees_of, rows_of};
-ghost use Rattle.capn_value.specs.Sizes as sizes;
+ghost use Rattle.capn_value.specs.TreeOf.{tree_of, trees_of, rows_of};
+ghost use Rattle.capn_value.specs.Cost as sizes;
 ghost use Rattle.capn_value.specs.Text as text;
 ghost use Rattle.hex.specs.Hex.{encode_lower};
 
-use crate::lines::{
+use crate::text_lines::{
     bits_line, body_line, bytes_line, named_line, number_line, plain_line, word_line,
 };
 use crate::value::{Body, Value};

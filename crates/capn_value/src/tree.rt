@@ -1,8 +1,8 @@
 //! Values that fit into a message.
 
 ghost use Rattle.std.specs.Prelude.{◌≡◌, ◌↔◌, ◌≢◌, ◌+◌, ◌*◌, ◌≤◌, IfOk, IfErr, OnErr, IsOk, string_bytes};
-ghost use Rattle.capn_value.specs.View.{tree_of};
-ghost use Rattle.capn_value.specs.Sizes as sizes;
+ghost use Rattle.capn_value.specs.TreeOf.{tree_of};
+ghost use Rattle.capn_value.specs.Cost as sizes;
 ghost use Rattle.capn_value.specs.declared.tariff.Tariff.{Tariff};
 ghost use Rattle.capn_value.specs.declared.tariff.Tariff.TheVariants.{Plain};
 ghost use Rattle.capn_value.specs.Trim as cut;
@@ -12,14 +12,14 @@ ghost use Rattle.capn_value.specs.Same.{Same};
 ghost use Rattle.capn_value.specs.InRange.{InRange};
 ghost use Rattle.capn_value.specs.Tree as trees;
 
-use crate::copying::copy_value;
+use crate::value_copy::copy_value;
 use crate::flaws::misfit;
-use crate::measure::{capped_cost, capped_height};
+use crate::cost_and_height::{capped_cost, capped_height};
 use crate::memory::Memory;
 use crate::misfit::Misfit;
 use crate::tariff::Tariff;
 use crate::text::show as show_value;
-use crate::trimming::trim_value;
+use crate::value_copy::trim_value;
 use crate::value::Value;
 use std::alloc::{Allocator, Global};
 use std::marker::Model;
@@ -32,7 +32,7 @@ pub struct Tree<A: Allocator = Global> {
 
 impl<A: Allocator> Model for Tree<A> {
     ghost use Rattle.capn_value.specs.Tree as trees;
-    ghost use Rattle.capn_value.specs.View.{tree_of};
+    ghost use Rattle.capn_value.specs.TreeOf.{tree_of};
     ghost use Rattle.capn_value.specs.Code.{tree_code};
 
     ghost Value = { trees.Tree };

@@ -1,8 +1,8 @@
 //! Values, and the first capability in one.
 
 ghost use Rattle.std.specs.Prelude.{◌≡◌};
-ghost use Rattle.capn_value.specs.View.{tree_of, trees_of, rows_of};
-ghost use Rattle.capn_value.specs.Caps as caps;
+ghost use Rattle.capn_value.specs.TreeOf.{tree_of, trees_of, rows_of};
+ghost use Rattle.capn_value.specs.FirstCap as caps;
 
 use crate::items::Items;
 use std::alloc::{Allocator, Global};

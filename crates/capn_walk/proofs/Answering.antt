@@ -1,7 +1,7 @@
 -- The laws of walks.
 use Rattle.std.proofs.Common.{◌≡◌, inl, inr, ℕ, List, Result, Ok, Err, ap, sym, ◌∙◌, arith}
 use Rattle.capn_words.specs.declared.space.Place.{Place}
-use Rattle.capn_value.specs.Sizes.{base}
+use Rattle.capn_value.specs.Cost.{base}
 use Rattle.capn_walk.specs.declared.target.Fault.{Fault}
 use Rattle.capn_walk.specs.declared.target.Fault.TheVariants as faults
 use Rattle.capn_walk.specs.declared.target.Target.{Target}
@@ -9,8 +9,7 @@ use Rattle.capn_walk.specs.declared.target.Target.TheVariants as targets
 use Rattle.capn_walk.specs.Target.{target}
 use Rattle.capn_walk.specs.Visits.{Visit, visits}
 use Rattle.capn_walk.specs.inner.Verdict.{Verdict, accepted, refused}
-use Rattle.capn_walk.specs.Stops.{AllPay, root, root_visits, visits_at_root}
-use Rattle.capn_walk.specs.Accepted.{visits_within}
+use Rattle.capn_walk.specs.Accepted.{AllPay, root, root_visits, visits_at_root, visits_within}
 use Rattle.capn_walk.specs.Laws.{AcceptedAreReadable, ValuesFit, ValuesAreCheap, Apart, StopsAreOne}
 use Rattle.capn_walk.proofs.Exists.{exists-at}
 use Rattle.capn_walk.proofs.shared.Fitting.{fits-root, root-costs}

@@ -18,8 +18,8 @@ use Rattle.capn_walk.specs.declared.target.Shape.TheVariants as shapes
 use Rattle.capn_walk.specs.declared.target.Fault.{Fault}
 use Rattle.capn_walk.specs.Target.{target}
 use Rattle.capn_walk.specs.Visits.{places, row_places, slots, visits}
-use Rattle.capn_walk.specs.Stops.{AllPay}
-use Rattle.capn_walk.specs.At.{IsAt, AreAt, RowsAt, AreWords, AreElements, element, words_from}
+use Rattle.capn_walk.specs.Accepted.{AllPay}
+use Rattle.capn_walk.specs.ValueAt.{IsAt, AreAt, RowsAt, AreWords, AreElements, element, words_from}
 use Rattle.capn_walk.proofs.shared.Costs.{all-front, all-back}
 use Rattle.capn_walk.proofs.shared.Inside.{inside}
 use Rattle.capn_walk.proofs.shared.Walks.{slot, visits-fault, visits-deep, visits-object}

@@ -9,11 +9,11 @@ use Rattle.capn_walk.specs.declared.target.Target.TheVariants as targets
 use Rattle.capn_walk.specs.declared.target.Shape.TheVariants as shapes
 use Rattle.capn_walk.specs.declared.target.Fault.{Fault}
 use Rattle.capn_walk.specs.declared.target.Fault.TheVariants as faults
-use Rattle.capn_walk.specs.declared.walked.Stopped.{Stopped}
+use Rattle.capn_walk.specs.declared.walk_answer.Stopped.{Stopped}
 use Rattle.capn_walk.specs.Target.{target}
 use Rattle.capn_walk.specs.Visits.{Visit, pays, slots, visits, visit, last_visit}
 use Rattle.capn_walk.specs.inner.Verdict.{Gives, Refuses, accepted, refused, after, judge}
-use Rattle.capn_walk.specs.Viewed.{slots_below}
+use Rattle.capn_walk.specs.View.{slots_below}
 use Rattle.capn_walk.specs.Index.{entry_of, entered, entries_by, entries, entries_of}
 use Rattle.capn_walk.specs.inner.IndexRoom.{laid, respan, IsLaid}
 use Rattle.capn_walk.proofs.shared.Judge.{judge-more, judge-stops, judge-pays, after-after, after-none}

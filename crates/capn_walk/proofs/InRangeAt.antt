@@ -10,7 +10,7 @@ use Rattle.capn_value.specs.Tree.{no_trees, tree, Bodies, no_bodies, body}
 use Rattle.capn_value.specs.InRange.{AllBelow, InRange, EachInRange, RowsInRange}
 use Rattle.capn_value.proofs.shared.Ranges.{below_from, below-take}
 use Rattle.capn_walk.specs.declared.target.Shape.TheVariants as shapes
-use Rattle.capn_walk.specs.At.{AreElements, AreWords, words_from, IsAt, AreAt, RowsAt}
+use Rattle.capn_walk.specs.ValueAt.{AreElements, AreWords, words_from, IsAt, AreAt, RowsAt}
 use Rattle.capn_walk.proofs.shared.Ranges.{room-of, cap-of}
 
 below-drop : (most n : ℕ) (xs : List ℕ) → AllBelow most xs → AllBelow most (drop n xs)

@@ -7,7 +7,7 @@ use Rattle.std.proofs.lemmas.List.{get_or_append_left, get_or-append-add, map-ap
 use Rattle.capn_words.specs.declared.space.Place.{Place}
 use Rattle.capn_words.specs.Message.{segment_at, IsPlace}
 use Rattle.capn_words.specs.declared.pointer.Width.TheVariants.{W0, W1, W8, W16, W32, W64, Link, Rows}
-use Rattle.capn_value.specs.Sizes.{base}
+use Rattle.capn_value.specs.Cost.{base}
 use Rattle.capn_walk.specs.declared.entry.Entry.{Entry}
 use Rattle.capn_walk.specs.declared.target.Target.{Target}
 use Rattle.capn_walk.specs.declared.target.Target.TheVariants as targets
@@ -15,10 +15,9 @@ use Rattle.capn_walk.specs.declared.target.Shape.TheVariants as shapes
 use Rattle.capn_walk.specs.declared.target.Fault.{Fault}
 use Rattle.capn_walk.specs.Target.{target}
 use Rattle.capn_walk.specs.Visits.{Visit, pays, price, places, row_places, visits, visits_of}
-use Rattle.capn_walk.specs.Stops.{AllPay, root, visits_at_root, root_visits}
-use Rattle.capn_walk.specs.Viewed.{slots_below, IsInMessage}
+use Rattle.capn_walk.specs.Accepted.{AllPay, root, visits_at_root, root_visits, IsAccepted}
+use Rattle.capn_walk.specs.View.{slots_below, IsInMessage}
 use Rattle.capn_walk.specs.Limits.{Bounds}
-use Rattle.capn_walk.specs.Accepted.{IsAccepted}
 use Rattle.capn_walk.specs.Index.{entry_of, entry_target, kept, kept_of, entered, entries, entries_of, index_of}
 use Rattle.capn_walk.specs.Index.{entry_at, beside, IndexesAreReadable}
 use Rattle.capn_walk.specs.Index.{place_of, IndexesFollowVisits}

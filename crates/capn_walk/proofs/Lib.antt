@@ -2,9 +2,9 @@ pub mod shared
 pub mod RootWalks
 pub mod ThreeWays
 pub mod WorkedWalks
-pub mod Framing
+pub mod OwedSlots
 pub mod Near
-pub mod Reading
+pub mod NumbersFromBytes
 pub mod Room
 pub mod UnderWay
 pub mod FilledRoom

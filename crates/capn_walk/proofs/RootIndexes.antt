@@ -2,17 +2,16 @@
 use Rattle.std.proofs.Common.{◌≡◌, ◌⊎◌, inl, inr, true, ℕ, suc, ◌<◌, List, [], ◌∷◌, length, set}
 use Rattle.std.proofs.Common.{Ok, Err, refl, ap, sym, ◌∙◌}
 use Rattle.capn_words.specs.Message.{segment_at}
-use Rattle.capn_value.specs.Sizes.{base}
+use Rattle.capn_value.specs.Cost.{base}
 use Rattle.capn_walk.specs.declared.entry.Entry.{Entry}
 use Rattle.capn_walk.specs.declared.entry.Indexed.{Indexed}
 use Rattle.capn_walk.specs.declared.target.Target.{Target}
 use Rattle.capn_walk.specs.declared.target.Fault.TheVariants as faults
-use Rattle.capn_walk.specs.declared.walked.Stopped.{Stopped}
+use Rattle.capn_walk.specs.declared.walk_answer.Stopped.{Stopped}
 use Rattle.capn_walk.specs.Target.{target}
 use Rattle.capn_walk.specs.Visits.{Visit, visits}
 use Rattle.capn_walk.specs.inner.Verdict.{judge}
-use Rattle.capn_walk.specs.Stops.{root, may_be_root}
-use Rattle.capn_walk.specs.Accepted.{IsRefused, visits_within}
+use Rattle.capn_walk.specs.Accepted.{root, may_be_root, IsRefused, visits_within}
 use Rattle.capn_walk.specs.Limits.{Bounds}
 use Rattle.capn_walk.specs.Index.{entries, filled, IsIndexed}
 use Rattle.capn_walk.specs.inner.IndexRoom.{laid, Indexes}

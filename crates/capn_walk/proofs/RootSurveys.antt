@@ -4,22 +4,21 @@ use Rattle.std.proofs.Common.{ap, ap₂, sym, ◌∙◌, arith}
 use Rattle.std.specs.Option.{option_or}
 use Rattle.capn_words.specs.Message.{segment_at}
 use Rattle.capn_words.specs.declared.space.Place.{Place}
-use Rattle.capn_value.specs.Sizes.{base}
+use Rattle.capn_value.specs.Cost.{base}
 use Rattle.capn_value.specs.Tree.{Tree}
-use Rattle.capn_value.specs.Caps.{first_cap}
-use Rattle.capn_walk.specs.declared.frame.Frame.{Frame}
+use Rattle.capn_value.specs.FirstCap.{first_cap}
+use Rattle.capn_walk.specs.declared.slots_left.Frame.{Frame}
 use Rattle.capn_walk.specs.declared.target.Target.{Target}
-use Rattle.capn_walk.specs.declared.surveyed.Surveyed.{Surveyed}
+use Rattle.capn_walk.specs.declared.survey_answer.Surveyed.{Surveyed}
 use Rattle.capn_walk.specs.Target.{target}
 use Rattle.capn_walk.specs.Visits.{Visit, pays, visits, visits_of}
 use Rattle.capn_walk.specs.inner.Verdict.{judge, after, accepted}
 use Rattle.capn_walk.specs.inner.Outcomes.{Tells}
-use Rattle.capn_walk.specs.Stops.{root, may_be_root}
-use Rattle.capn_walk.specs.Accepted.{IsValueOf, visits_within}
+use Rattle.capn_walk.specs.Accepted.{root, may_be_root, IsValueOf, visits_within}
 use Rattle.capn_walk.specs.Limits.{Bounds}
 use Rattle.capn_walk.specs.inner.SlotsLeft.{places_of, owed, HasRows}
 use Rattle.capn_walk.specs.Surveyed.{cap_of, first_cap_of, IsSurvey}
-use Rattle.capn_walk.proofs.Framing.{nothing-left}
+use Rattle.capn_walk.proofs.OwedSlots.{nothing-left}
 use Rattle.capn_walk.proofs.shared.Judge.{judge-pays}
 use Rattle.capn_walk.proofs.shared.Stops.{accepted-within}
 use Rattle.capn_walk.proofs.RootWalks.{from-root}

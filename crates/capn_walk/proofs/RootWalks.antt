@@ -4,17 +4,17 @@ use Rattle.std.proofs.Common.{length, Ok, Err, refl, ap, ◌∙◌, arith}
 use Rattle.capn_words.specs.Message.{segment_at}
 use Rattle.capn_words.specs.declared.space.Place.{Place}
 use Rattle.capn_value.specs.Tree.{Tree}
-use Rattle.capn_value.specs.Sizes.{base, cost, height}
+use Rattle.capn_value.specs.Cost.{base, cost, height}
 use Rattle.capn_value.specs.Fits.{Fits}
 use Rattle.capn_walk.specs.declared.target.Target.{Target}
 use Rattle.capn_walk.specs.declared.target.Fault.{Fault}
 use Rattle.capn_walk.specs.declared.target.Fault.TheVariants as faults
-use Rattle.capn_walk.specs.declared.walked.Stopped.{Stopped}
+use Rattle.capn_walk.specs.declared.walk_answer.Stopped.{Stopped}
 use Rattle.capn_walk.specs.Target.{target}
 use Rattle.capn_walk.specs.Visits.{Visit, fails, visits}
-use Rattle.capn_walk.specs.Stops.{IsStop, root, may_be_root, visits_at_root, root_visits}
-use Rattle.capn_walk.specs.At.{IsAt}
-use Rattle.capn_walk.specs.Accepted.{IsAccepted, IsValueOf, IsRefused, visits_within, paid, number_of_visits}
+use Rattle.capn_walk.specs.Accepted.{IsStop, root, may_be_root, visits_at_root, root_visits, IsAccepted, IsValueOf}
+use Rattle.capn_walk.specs.Accepted.{IsRefused, visits_within, paid, number_of_visits}
+use Rattle.capn_walk.specs.ValueAt.{IsAt}
 use Rattle.capn_walk.specs.Limits.{Bounds}
 use Rattle.capn_walk.specs.inner.Verdict.{refused, judge}
 use Rattle.capn_walk.specs.inner.Verdict.{Gives, Refuses}

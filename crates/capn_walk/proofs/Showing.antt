@@ -11,8 +11,8 @@ use Rattle.capn_walk.specs.declared.target.Target.{Target}
 use Rattle.capn_walk.specs.declared.target.Target.TheVariants as targets
 use Rattle.capn_walk.specs.declared.target.Shape.TheVariants as shapes
 use Rattle.capn_walk.specs.Target.{target}
-use Rattle.capn_walk.specs.At.{IsAt, AreAt, RowsAt, AreWords, words_from}
-use Rattle.capn_walk.specs.Shown.{Shows, ShowsStruct, words_of_row, slots_of_row}
+use Rattle.capn_walk.specs.ValueAt.{IsAt, AreAt, RowsAt, AreWords, words_from}
+use Rattle.capn_walk.specs.ShownValue.{Shows, ShowsStruct, words_of_row, slots_of_row}
 use Rattle.capn_walk.proofs.shared.Walks.{slot}
 
 module _ (m : List (List ℕ)) where

@@ -22,10 +22,10 @@ use Rattle.std.specs.Bool.{⊤}
 use Rattle.std.specs.Result.{IfOk, IfErr, MatchResult}
 use Rattle.capn_walk.specs.Visits.{pays, price, slots, visits, visits_of}
 use Rattle.capn_walk.specs.inner.Verdict.{judge, refused}
-use Rattle.capn_walk.specs.Viewed.{stepped, rooted, stepped_to_root, IsEntered, toll, slots_below}
+use Rattle.capn_walk.specs.View.{stepped, rooted, stepped_to_root, IsEntered, toll, slots_below}
 use Rattle.capn_walk.specs.inner.Verdict.{Refuses}
-use Rattle.capn_walk.specs.declared.walked.Stopped.{Stopped}
-use Rattle.capn_walk.specs.Stops.{root, may_be_root}
+use Rattle.capn_walk.specs.declared.walk_answer.Stopped.{Stopped}
+use Rattle.capn_walk.specs.Accepted.{root, may_be_root}
 use Rattle.capn_walk.proofs.shared.Judge.{judge-over}
 use Rattle.capn_walk.proofs.shared.Walks.{visits-null, visits-cap, visits-fault, visits-deep, visits-object}
 

@@ -7,8 +7,8 @@ use Rattle.std.specs.Option.{option_or}
 use Rattle.capn_words.specs.declared.space.Place.{Place}
 use Rattle.capn_walk.specs.declared.target.Target.TheVariants as targets
 use Rattle.capn_walk.specs.declared.target.Fault.{Fault}
-use Rattle.capn_walk.specs.declared.frame.Frame.{Frame}
-use Rattle.capn_walk.specs.declared.frame.Waiting.{Waiting}
+use Rattle.capn_walk.specs.declared.slots_left.Frame.{Frame}
+use Rattle.capn_walk.specs.declared.slots_left.Waiting.{Waiting}
 use Rattle.capn_words.specs.Message.{word_at}
 use Rattle.capn_words.specs.Pointers.{pointer_of}
 use Rattle.capn_words.specs.declared.pointer.Pointer.TheVariants.{Nil}
@@ -20,7 +20,7 @@ use Rattle.capn_walk.specs.inner.SlotsLeft.{places_of, owed, owed_by, Lies, AllL
 use Rattle.capn_walk.specs.Surveyed.{cap_of, first_cap_of}
 use Rattle.capn_walk.specs.inner.Verdict.{Refuses}
 use Rattle.capn_walk.specs.inner.SlotsLeft.{HasRows}
-use Rattle.capn_walk.proofs.Framing.{nothing-left}
+use Rattle.capn_walk.proofs.OwedSlots.{nothing-left}
 use Rattle.capn_walk.proofs.shared.Judge.{judge-stops, judge-pays, after-after}
 
 option_or-assoc : (a b c : Option ℕ) → option_or a (option_or b c) ≡ option_or (option_or a b) c

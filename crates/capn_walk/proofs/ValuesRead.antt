@@ -15,9 +15,9 @@ use Rattle.capn_walk.specs.declared.target.Shape.TheVariants as shapes
 use Rattle.capn_walk.specs.declared.target.Fault.{Fault}
 use Rattle.capn_walk.specs.Target.{target}
 use Rattle.capn_walk.specs.Visits.{places, row_places}
-use Rattle.capn_walk.specs.Stops.{root}
-use Rattle.capn_walk.specs.At.{IsAt, AreAt, RowsAt}
-use Rattle.capn_walk.specs.Viewed.{slots_below, IsInMessage}
+use Rattle.capn_walk.specs.Accepted.{root}
+use Rattle.capn_walk.specs.ValueAt.{IsAt, AreAt, RowsAt}
+use Rattle.capn_walk.specs.View.{slots_below, IsInMessage}
 use Rattle.capn_walk.specs.Index.{entry_target, entry_at, slots_at, beside, kept, kept_of, IsReadable, index_of}
 use Rattle.capn_walk.specs.IndexValues.{IsReadAt, AreReadAt, RowsReadAt, IndexesSayValues, EntriesSayValues}
 use Rattle.capn_walk.proofs.IndexLaws.{AllPlaces, in-slots, readable, not-empty}

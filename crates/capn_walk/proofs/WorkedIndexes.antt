@@ -7,7 +7,7 @@ use Rattle.capn_walk.specs.declared.entry.Entry.{Entry}
 use Rattle.capn_walk.specs.declared.kind.Kind.TheVariants as kinds
 use Rattle.capn_walk.specs.Target.{target}
 use Rattle.capn_walk.specs.Limits.{Bounds}
-use Rattle.capn_walk.specs.At.{AreElements}
+use Rattle.capn_walk.specs.ValueAt.{AreElements}
 use Rattle.capn_walk.specs.Index.{entries, index_of}
 use Rattle.capn_walk.specs.IndexValues.{IsReadAt}
 

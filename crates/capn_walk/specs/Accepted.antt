@@ -1,15 +1,75 @@
--- Which messages are accepted within limits, what they denote and pay, and how the others are refused.
-use Rattle.std.specs.Prelude.{◌≡◌, ◌⊎◌, ℕ, ◌+◌, ◌<◌, ◌≤◌, List, length}
-use Rattle.capn_words.specs.Message.{segment_at}
+-- Which messages are accepted within limits, what they denote and pay, and how the others are refused. (Page: security
+-- considerations; own.)
+use Rattle.std.specs.Prelude.{◌≡◌, ℕ, ◌+◌, ◌<◌, ◌≤◌, List, [], ◌∷◌, ◌++◌, length, Bool, true, false, Result, Ok, Err}
+use Rattle.std.specs.Prelude.{if◌then◌else◌, ⊤, ◌⊎◌}
 use Rattle.capn_words.specs.declared.space.Place.{Place}
-use Rattle.capn_value.specs.Sizes.{base}
-use Rattle.capn_value.specs.Tree.{Tree}
+use Rattle.capn_walk.specs.declared.target.Target.{Target}
+use Rattle.capn_walk.specs.declared.target.Target.TheVariants as targets
 use Rattle.capn_walk.specs.declared.target.Fault.{Fault}
 use Rattle.capn_walk.specs.declared.target.Fault.TheVariants as faults
-use Rattle.capn_walk.specs.Visits.{Visit}
-use Rattle.capn_walk.specs.Stops.{IsWithin, IsStop, paid_of, root, root_visits}
+use Rattle.capn_walk.specs.Target.{target}
+use Rattle.capn_walk.specs.Visits.{Visit, pays, fails, visits}
+use Rattle.capn_words.specs.Message.{segment_at}
+use Rattle.capn_value.specs.Cost.{base}
+use Rattle.capn_value.specs.Tree.{Tree}
 use Rattle.capn_walk.specs.Limits.{Bounds}
-use Rattle.capn_walk.specs.At.{IsAt}
+use Rattle.capn_walk.specs.ValueAt.{IsAt}
+
+-- ---- which visits are accepted within a budget, and which visit ends a walk. (Page: security considerations; own.)
+
+-- the sum of the prices
+abbrev pub paid_of : List Visit → ℕ
+paid_of [] = 0
+paid_of (pays at n ∷ vs) = n + paid_of vs
+paid_of (fails at e ∷ vs) = paid_of vs
+
+-- no visit is a fault
+abbrev pub AllPay : List Visit → Type 0
+AllPay [] = ⊤
+AllPay (pays at n ∷ vs) = AllPay vs
+AllPay (fails at e ∷ vs) = ⊥
+
+-- no visit is a fault, and the prices sum to at most the budget
+pub record IsWithin (budget : ℕ) (vs : List Visit) : Type 0 where
+  pub all : AllPay vs
+  pub paid : paid_of vs ≤ budget
+
+-- a visit at a place that is a fault, or that brings the sum above the budget, after visits that paid `before` words
+abbrev pub Ends : ℕ → ℕ → Visit → Place → Fault → Type 0
+Ends budget before (fails p e) at fault = (p ≡ at) × (e ≡ fault)
+Ends budget before (pays p n) at fault = (p ≡ at) × (faults.OverBudget ≡ fault) × (budget < before + n)
+
+-- the first such visit: its place, the sum before it, and its number, counted from 1
+pub record IsStop (budget : ℕ) (vs : List Visit) (fault : Fault) (at : Place) (paid visits : ℕ) : Type 0 where
+  pub before : List Visit
+  pub here : Visit
+  pub behind : List Visit
+  pub is : vs ≡ before ++ here ∷ behind
+  pub within : IsWithin budget before
+  pub ends : Ends budget (paid_of before) here at fault
+  pub sum : paid ≡ paid_of before
+  pub number : visits ≡ 1 + length before
+
+-- where the pointer to the root stands
+abbrev pub root : Place
+root = record { segment = 0; word = 0 }
+
+-- what the root of a message may be: anything but a capability (Own.)
+abbrev pub may_be_root : Target → Bool
+may_be_root (targets.Cap index) = false
+may_be_root _ = true
+
+module _ (message : List (List ℕ)) (base : ℕ) where
+  -- whether the root may be what it is, is tested once its target is known
+  abbrev pub visits_at_root : Result Target Fault → List Visit → List Visit
+  visits_at_root (Ok found) vs = if may_be_root found then vs else fails root faults.RootKind ∷ []
+  visits_at_root (Err e) vs = vs
+
+  -- the visits of the root, at most `depth` objects deep
+  unfoldable pub root_visits : ℕ → List Visit
+  root_visits depth = visits_at_root (target message root) (visits message base depth root)
+
+-- ---- which messages are accepted within limits, what they denote and pay, and how the others are refused.
 
 -- the visits of a walk from the root, priced by the tariff of the limits and as deep as they go
 abbrev pub visits_within : List (List ℕ) → Bounds → List Visit

@@ -14,11 +14,10 @@ use Rattle.capn_walk.specs.declared.target.Fault.{Fault}
 use Rattle.capn_walk.specs.declared.kind.Kind.{Kind}
 use Rattle.capn_walk.specs.declared.kind.Kind.TheVariants as kinds
 use Rattle.capn_walk.specs.Target.{target}
-use Rattle.capn_walk.specs.Stops.{root}
+use Rattle.capn_walk.specs.Accepted.{root, IsAccepted, visits_within, paid, number_of_visits}
 use Rattle.capn_walk.specs.Visits.{Visit, pays, fails}
-use Rattle.capn_walk.specs.Accepted.{IsAccepted, visits_within, paid, number_of_visits}
 use Rattle.capn_walk.specs.Limits.{Bounds}
-use Rattle.capn_walk.specs.Viewed.{slots_below, kind_of_list, IsInMessage}
+use Rattle.capn_walk.specs.View.{slots_below, kind_of_list, IsInMessage}
 
 -- what an entry says of what a pointer names, with the number of entries that the slot takes
 abbrev pub entry_of : Target → ℕ → Entry

@@ -13,7 +13,7 @@ use Rattle.capn_walk.specs.declared.target.Shape.TheVariants as shapes
 use Rattle.capn_walk.specs.Target.{target}
 use Rattle.capn_walk.specs.Limits.{Bounds}
 use Rattle.capn_walk.specs.Accepted.{IsAccepted, IsValueOf}
-use Rattle.capn_walk.specs.At.{IsAt, AreWords, AreElements, words_from}
+use Rattle.capn_walk.specs.ValueAt.{IsAt, AreWords, AreElements, words_from}
 use Rattle.capn_walk.specs.Index.{index_of, entry_target, entry_at, beside, kept_of}
 
 module _ (message : List (List ℕ)) (es : List Entry) where

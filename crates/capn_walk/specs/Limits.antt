@@ -1,7 +1,7 @@
 -- The limits of a walk. (Page: security considerations; the numbers are our own.)
 use Rattle.std.specs.Prelude.{ℕ, ◌≤◌}
-use Rattle.capn_words.specs.Limits.{most_message_words}
-use Rattle.capn_value.specs.Sizes.{most_cost, most_height}
+use Rattle.capn_words.specs.Message.{most_message_words}
+use Rattle.capn_value.specs.Cost.{most_cost, most_height}
 use Rattle.capn_value.specs.declared.tariff.Tariff.{Tariff}
 
 -- the most words of one framed message, the most words that a walk pays, how many objects deep it goes, and how it

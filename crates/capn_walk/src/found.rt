@@ -2,7 +2,7 @@
 
 ghost use Rattle.std.specs.Prelude.{◌≡◌};
 ghost use Rattle.capn_value.specs.Tree as trees;
-ghost use Rattle.capn_value.specs.View.{tree_of, trees_of, rows_of};
+ghost use Rattle.capn_value.specs.TreeOf.{tree_of, trees_of, rows_of};
 
 use capn_value::{Body, Items, Value};
 use std::alloc::Allocator;

@@ -1,7 +1,7 @@
 //! What a view shows.
 
 ghost use Rattle.std.specs.Prelude.{◌≡◌};
-ghost use Rattle.capn_walk.specs.Viewed as seen;
+ghost use Rattle.capn_walk.specs.View as seen;
 
 use crate::target::{Shape, Target};
 use capn_words::Width;

@@ -1,8 +1,8 @@
 //! The limits of a walk.
 
 ghost use Rattle.std.specs.Prelude.{◌≡◌, ◌↔◌, ◌≤◌, IsSome, IfSome};
-ghost use Rattle.capn_words.specs.Limits.{most_message_words};
-ghost use Rattle.capn_value.specs.Sizes.{most_cost, most_height};
+ghost use Rattle.capn_words.specs.Message.{most_message_words};
+ghost use Rattle.capn_value.specs.Cost.{most_cost, most_height};
 ghost use Rattle.capn_value.specs.declared.tariff.Tariff.TheVariants as tariffs;
 ghost use Rattle.capn_walk.specs.Limits.{AreLimits};
 

@@ -2,7 +2,7 @@
 
 ghost use Rattle.std.specs.Prelude.{◌≡◌, ◌⊎◌, ◌+◌, ◌<◌, ◌≤◌, ◌^◌, length, set, IfOk, IfErr, IsOk, OnOk, MatchResult};
 ghost use Rattle.capn_words.specs.Message.{segment_at, IsMessage, IsPlace};
-ghost use Rattle.capn_value.specs.Sizes.{most_cost};
+ghost use Rattle.capn_value.specs.Cost.{most_cost};
 ghost use Rattle.capn_walk.specs.Target as spec;
 ghost use Rattle.capn_walk.specs.Visits.{visits, visits_of};
 ghost use Rattle.capn_walk.specs.inner.SlotsLeft.{places_of, owed, Lies};
@@ -14,14 +14,14 @@ ghost use Rattle.capn_walk.specs.declared.target.Fault.TheVariants.{Memory};
 
 use crate::content::segment_length;
 use crate::entry::{Entry, Index, Indexed};
-use crate::frame::Frame;
+use crate::slots_left::Frame;
 use crate::limits::Limits;
-use crate::resolving::{near, resolve};
+use crate::slot_target::{near, resolve};
 use crate::step::{frame_below, price_within};
-use crate::surveying::{size_of, survey};
+use crate::message_survey::{size_of, survey};
 use crate::target::{Fault, Target};
-use crate::walked::{Stopped, out_of_memory, stop};
-use crate::walking::{ROOT, root_target};
+use crate::walk_answer::{Stopped, out_of_memory, stop};
+use crate::message_walk::{ROOT, root_target};
 use capn_words::{Place, Pointer, Space, split};
 use std::alloc::Allocator;
 

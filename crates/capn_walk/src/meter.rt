@@ -1,7 +1,7 @@
 //! What may still be paid.
 
 ghost use Rattle.std.specs.Prelude.{◌≡◌, ◌+◌, ◌≤◌};
-ghost use Rattle.capn_value.specs.Sizes.{most_cost};
+ghost use Rattle.capn_value.specs.Cost.{most_cost};
 ghost use Rattle.capn_value.specs.declared.tariff.Tariff.TheVariants as tariffs;
 ghost use Rattle.capn_walk.specs.Account.{with_paid, left_of};
 
@@ -18,7 +18,7 @@ pub struct Meter {
 
 impl Model for Meter {
     ghost use Rattle.std.specs.Prelude.{◌+◌, ◌≤◌};
-    ghost use Rattle.capn_value.specs.Sizes.{most_cost};
+    ghost use Rattle.capn_value.specs.Cost.{most_cost};
     ghost use Rattle.capn_walk.specs.Account.{Account};
 
     ghost Value = { Account };

@@ -1,7 +1,7 @@
 //! How much a target has of what.
 
 ghost use Rattle.std.specs.Prelude.{◌≡◌};
-ghost use Rattle.capn_walk.specs.Viewed as seen;
+ghost use Rattle.capn_walk.specs.View as seen;
 ghost use Rattle.capn_walk.specs.declared.kind.Kind.TheVariants as kinds;
 
 use crate::target::{Shape, Target};

@@ -2,10 +2,10 @@
 
 ghost use Rattle.std.specs.Prelude.{◌≡◌, ◌<◌, ◌≤◌, ℕ, Ok, Err, IfOk, MatchResult};
 ghost use Rattle.capn_words.specs.Message.{IsMessage};
-ghost use Rattle.capn_walk.specs.Viewed as seen;
+ghost use Rattle.capn_walk.specs.View as seen;
 ghost use Rattle.capn_walk.specs.inner.SlotsLeft.{places_of, owed, Lies};
 
-use crate::frame::Frame;
+use crate::slots_left::Frame;
 use crate::price::price_of;
 use crate::target::{Fault, Target};
 use capn_words::{Place, Space};

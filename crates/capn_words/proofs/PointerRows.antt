@@ -1,8 +1,7 @@
 -- Pointer words as their 8 bytes, and what they say: the definitions compute to what one reads off the page's layouts.
 use Rattle.std.proofs.Common.{◌≡◌, ℕ, List, [], ◌∷◌, true, false, pos, negsuc, refl}
-use Rattle.capn_words.specs.Words.{word_number}
-use Rattle.capn_words.specs.Fields.{word_of}
-use Rattle.capn_words.specs.Pointers.{pointer_of}
+use Rattle.capn_words.specs.Message.{word_number}
+use Rattle.capn_words.specs.Pointers.{word_of, pointer_of}
 use Rattle.capn_words.specs.declared.pointer.Pointer.{Pointer}
 use Rattle.capn_words.specs.declared.pointer.Pointer.TheVariants.{Nil, Node, Many, Far, Cap, Reserved}
 use Rattle.capn_words.specs.declared.pointer.Width.TheVariants.{W0, W1, W8, W16, W32, W64, Link, Rows}

@@ -1,6 +1,6 @@
 -- The laws of bytes that are read as one segment.
 use Rattle.std.specs.Prelude.{◌≡◌, ℕ, List, Err}
-use Rattle.capn_words.specs.Words.{IsBare, ReadsBare}
+use Rattle.capn_words.specs.Message.{IsBare, ReadsBare}
 use Rattle.capn_words.specs.declared.bare.BareFault.{BareFault}
 
 -- bytes are those of one list of words at most

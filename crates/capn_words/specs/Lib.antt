@@ -1,8 +1,5 @@
-pub mod Limits
-pub mod Words
 pub mod Message
-pub mod Fields
 pub mod Pointers
-pub mod Watching
+pub mod Watched
 pub mod Laws
-pub mod Told
+pub mod Display

@@ -1,11 +1,67 @@
--- A message is a list of segments, and a segment is a list of words. (Page: messages.)
-use Rattle.std.specs.Prelude.{ℕ, ◌+◌, ◌*◌, ◌^◌, ◌<◌, ◌≤◌, List, [], length, slice_index, slice_index_or, take, drop}
-use Rattle.std.specs.Prelude.{Option, Some, None, nat_lt, if◌then◌else◌}
-use Rattle.std.specs.List.{sum_by}
-use Rattle.capn_words.specs.Limits.{most_segments, most_words}
+-- Words, bytes and messages: a message is a list of segments, and a segment is a list of words. (Page: messages.)
+use Rattle.std.specs.Prelude.{ℕ, ◌+◌, ◌^◌, ◌≡◌, ◌≢◌, zero, suc, ◌*◌, ◌%◌, ◌<◌, ◌≤◌, List, [], ◌∷◌, length, drop}
+use Rattle.std.specs.Prelude.{slice_index, Result, Ok, Err, slice_index_or, take, Option, Some, None, nat_lt}
+use Rattle.std.specs.Prelude.{if◌then◌else◌}
+use Rattle.std.specs.List.{flat_map, sum_by}
+use Rattle.byteorder.specs.Endian.{little_bytes, little_number}
+use Rattle.capn_words.specs.declared.bare.BareFault.{BareFault}
+use Rattle.capn_words.specs.declared.bare.BareFault.TheVariants.{NotWhole, TooLong}
 use Rattle.capn_words.specs.declared.space.Place.{Place}
-pub use Rattle.capn_words.specs.Words.{bytes}
-unfoldable pub use Rattle.capn_words.specs.Words.{word_bytes}
+
+-- ---- the limits on the size of a message. (Own.)
+
+-- the most segments that a message has
+abbrev pub most_segments : ℕ
+most_segments = 4096
+
+-- the most words that a limit on framed messages allows
+abbrev pub most_message_words : ℕ
+most_message_words = 2 ^ 28
+
+-- the most words that any message has, all segments together: its root pointer, and what one may pay for
+abbrev pub most_words : ℕ
+most_words = most_message_words + 1
+
+-- ---- words and their bytes: a word is 8 bytes, the least significant first. (Page: messages.)
+
+-- each number of a list is a byte
+abbrev pub AreBytes : List ℕ → Type 0
+AreBytes bs = (i : ℕ) → slice_index bs i < 256
+
+-- each number of a list is a word
+abbrev pub AreWords : List ℕ → Type 0
+AreWords ws = (k : ℕ) → slice_index ws k < 2 ^ 64
+
+-- a word as its 8 bytes, the least significant first
+unfoldable pub word_bytes : ℕ → List ℕ
+word_bytes w = little_bytes 8 w
+
+-- the bytes of words, joined in order
+abbrev pub bytes : List ℕ → List ℕ
+bytes ws = flat_map word_bytes ws
+
+-- the word whose bytes are the first 8
+unfoldable pub word_number : List ℕ → ℕ
+word_number bs = little_number 8 bs
+
+-- the first n words of bytes
+unfoldable pub words_in : ℕ → List ℕ → List ℕ
+words_in zero bs = []
+words_in (suc n) bs = word_number bs ∷ words_in n (drop 8 bs)
+
+-- the bytes are those of words, no more of them than a message may have (Own.)
+pub record IsBare (bs ws : List ℕ) : Type 0 where
+  pub same : bs ≡ bytes ws
+  pub each : AreWords ws
+  pub room : length ws ≤ most_words
+
+-- what a reading of bytes as one segment answers: the words, or the first of the two refusals (Own.)
+abbrev pub ReadsBare : List ℕ → Result (List ℕ) BareFault → Type 0
+ReadsBare bs (Ok ws) = IsBare bs ws
+ReadsBare bs (Err (NotWhole n)) = (n ≡ length bs) × (length bs % 8 ≢ 0)
+ReadsBare bs (Err (TooLong n)) = (8 * n ≡ length bs) × (most_words < n)
+
+-- ---- a message is a list of segments, and a segment is a list of words. (Page: messages.)
 
 -- the words of a segment; none where there is no such segment
 abbrev pub segment_at : List (List ℕ) → ℕ → List ℕ

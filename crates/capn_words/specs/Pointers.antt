@@ -1,11 +1,15 @@
--- The pointer that a word is, each field by a quotient and a remainder.
--- (Page: structs, lists, inter-segment pointers, capabilities.)
+-- The pointer that a word is, and the word of a pointer. `split` ties both, so it is enough to read one. (Page:
+-- structs, lists, inter-segment pointers, capabilities.)
 use Rattle.std.specs.Prelude.{ℕ, suc, ◌-◌, ◌/◌, ◌%◌, ◌^◌, nat_lt, ◌==◌, ℤ, pos, negsuc, [], ◌∷◌, slice_index_or}
-use Rattle.std.specs.Prelude.{if◌then◌else◌}
+use Rattle.std.specs.Prelude.{if◌then◌else◌, ◌≡◌, ◌+◌, ◌*◌, ◌<◌, ⊤}
 use Rattle.capn_words.specs.declared.pointer.Pointer.{Pointer}
 use Rattle.capn_words.specs.declared.pointer.Pointer.TheVariants.{Nil, Node, Many, Far, Cap, Reserved}
 use Rattle.capn_words.specs.declared.pointer.Width.{Width}
 use Rattle.capn_words.specs.declared.pointer.Width.TheVariants.{W0, W1, W8, W16, W32, W64, Link, Rows}
+use Rattle.std.specs.Int.{from_bool}
+
+-- ---- the pointer that a word is, each field by a quotient and a remainder. (Page: structs, lists, inter-segment
+-- pointers, capabilities.)
 
 -- the number in n bits of a word, from a bit on
 abbrev pub field : ℕ → ℕ → ℕ → ℕ
@@ -33,3 +37,50 @@ pointer_of w =
     else if w % 4 == 0 then Node (signed (field 2 30 w)) (field 32 16 w) (field 48 16 w)
     else if w % 4 == 1 then Many (signed (field 2 30 w)) (width_of (field 32 3 w)) (field 35 29 w)
     else other_pointer w
+
+-- ---- a pointer word is the sum of its fields, each times the power of two of the bit at which it begins. (Page:
+-- structs, lists, inter-segment pointers, capabilities.)
+
+-- the 3 bits that stand for a width
+abbrev pub width_code : Width → ℕ
+width_code W0 = 0
+width_code W1 = 1
+width_code W8 = 2
+width_code W16 = 3
+width_code W32 = 4
+width_code W64 = 5
+width_code Link = 6
+width_code Rows = 7
+
+-- an offset has 30 bits with its sign: it is from -2^29 to 2^29 - 1
+abbrev pub FitsOffset : ℤ → Type 0
+FitsOffset (pos n) = n < 2 ^ 29
+FitsOffset (negsuc n) = n < 2 ^ 29
+
+-- the 30 bits of an offset: one below 0 is taken with 2^30 added
+abbrev pub offset_field : ℤ → ℕ
+offset_field (pos n) = n
+offset_field (negsuc n) = 2 ^ 30 - suc n
+
+-- each field is in the range of its bits; a struct pointer isn't all zeros, which is null;
+-- a reserved word has bits 0 to 1 equal to 3 and isn't a capability
+abbrev pub Fits : Pointer → Type 0
+Fits Nil = ⊤
+Fits (Node o w s) = FitsOffset o × (w < 2 ^ 16) × (s < 2 ^ 16) × (0 < offset_field o + w + s)
+Fits (Many o k c) = FitsOffset o × (c < 2 ^ 29)
+Fits (Far d w s) = (w < 2 ^ 29) × (s < 2 ^ 32)
+Fits (Cap i) = i < 2 ^ 32
+Fits (Reserved n) = (n < 2 ^ 64) × (n % 4 ≡ 3) × (0 < n / 4 % 2 ^ 30)
+
+-- the word of a pointer: its kind in bits 0 to 1, and its fields above
+abbrev pub word_of : Pointer → ℕ
+word_of Nil = 0
+word_of (Node o w s) = 4 * offset_field o + 2 ^ 32 * w + 2 ^ 48 * s
+word_of (Many o k c) = 1 + 4 * offset_field o + 2 ^ 32 * width_code k + 2 ^ 35 * c
+word_of (Far d w s) = 2 + 4 * from_bool d + 8 * w + 2 ^ 32 * s
+word_of (Cap i) = 3 + 2 ^ 32 * i
+word_of (Reserved n) = n
+
+-- a pointer is what a word says: its fields fit, and the word is their sum
+abbrev pub Fields : ℕ → Pointer → Type 0
+Fields w p = Fits p × (w ≡ word_of p)

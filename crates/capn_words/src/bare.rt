@@ -1,7 +1,7 @@
 //! A message of one segment, read where its bytes lie.
 
 ghost use Rattle.std.specs.Prelude.{◌≡◌, ℕ, ◌<◌, ◌≤◌, ◌*◌, ◌+◌, List, [], ◌∷◌, length, take, drop};
-ghost use Rattle.capn_words.specs.Words.{IsBare, ReadsBare, word_number};
+ghost use Rattle.capn_words.specs.Message.{IsBare, ReadsBare, word_number};
 
 use crate::limits::MOST_WORDS;
 use crate::space::{Place, Space};
@@ -21,7 +21,7 @@ pub enum BareFault {
 
 impl fmt::Display for BareFault {
     ghost use Rattle.std.specs.Prelude.{Some};
-    ghost use Rattle.capn_words.specs.Told.{bare_text};
+    ghost use Rattle.capn_words.specs.Display.{bare_text};
 
     ghost output = { λ fault. Some (bare_text fault) };
 
@@ -36,7 +36,7 @@ impl fmt::Display for BareFault {
 impl Error for BareFault {}
 
 /// The word at byte 8 * `index`.
-#[tactic(auto, unfolding(crate::specs::Words::word_number))]
+#[tactic(auto, unfolding(crate::specs::Message::word_number))]
 fn word_of(bytes: &[u8], index: usize) -> u64
     requires { 8 * index + 8 ≤ length bytes.now }
     ensures { result ≡ word_number (drop (8 * index) bytes.now) }
@@ -60,8 +60,8 @@ pub struct Bare<'a> {
 
 impl<'a> Model for Bare<'a> {
     ghost use Rattle.std.specs.Prelude.{◌≡◌, ℕ, ◌/◌, ◌%◌, ◌≤◌, List, length};
-    ghost use Rattle.capn_words.specs.Limits.{most_words};
-    ghost use Rattle.capn_words.specs.Words.{AreBytes, words_in};
+    ghost use Rattle.capn_words.specs.Message.{most_words};
+    ghost use Rattle.capn_words.specs.Message.{AreBytes, words_in};
 
     ghost Value = { List ℕ };
 

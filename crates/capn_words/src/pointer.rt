@@ -2,8 +2,7 @@
 
 ghost use Rattle.std.specs.Prelude.{◌≡◌, ◌↔◌, ℕ, ◌<◌, ◌^◌, ◌/◌, ◌%◌};
 ghost use Rattle.capn_words.specs.declared.pointer.Pointer.{Pointer};
-ghost use Rattle.capn_words.specs.Fields.{Fields, Fits, FitsOffset, offset_field, width_code, word_of};
-ghost use Rattle.capn_words.specs.Pointers.{pointer_of};
+ghost use Rattle.capn_words.specs.Pointers.{Fields, Fits, FitsOffset, offset_field, width_code, word_of, pointer_of};
 
 /// What the elements of a list are. (Page: lists.)
 #[derive(Clone, Copy, Debug, PartialEq, Eq)]

@@ -3,7 +3,7 @@
 ghost use Rattle.std.specs.Prelude.{◌≡◌, ℕ, ◌<◌, ◌≤◌, Bool, true, false, ◌||◌, is_err, OnOk};
 ghost use Rattle.std.specs.Io.{ReadsAtMost, WritesAtMost};
 ghost use Rattle.std.specs.Io.KnownBytes.{Appends, Keeps, ReadConsumes, WriteAppends};
-ghost use Rattle.capn_words.specs.Watching.{HasBegun, has_failed, inner_of, write_fails};
+ghost use Rattle.capn_words.specs.Watched.{HasBegun, has_failed, inner_of, write_fails};
 
 use std::io::{ErrorKind, Read, Result, Write};
 

@@ -6,7 +6,7 @@ use Rattle.capn_walk.specs.declared.target.Target.TheVariants as targets
 use Rattle.capn_walk.specs.declared.target.Shape.TheVariants as shapes
 use Rattle.capn_walk.specs.declared.kind.Kind.{Kind}
 use Rattle.capn_walk.specs.declared.kind.Kind.TheVariants as kinds
-use Rattle.capn_walk.specs.Viewed.{kind_of, len_of, numbers_in}
+use Rattle.capn_walk.specs.View.{kind_of, len_of, numbers_in}
 
 -- the elements of a list that are no numbers
 abbrev pub others : Kind → ℕ → ℕ

@@ -1,7 +1,7 @@
 //! The calls of frames.
 
 ghost use Rattle.std.specs.Prelude.{◌≤◌, IfOk};
-ghost use Rattle.capn_words.specs.Limits.{most_message_words};
+ghost use Rattle.capn_words.specs.Message.{most_message_words};
 
 use crate::growths::{Heap, MEMORY};
 use crate::refusals::told;

@@ -1,7 +1,7 @@
 //! The calls on streams that come in pieces, and over a reader and a writer.
 
 ghost use Rattle.std.specs.Prelude.{◌≤◌};
-ghost use Rattle.capn_words.specs.Limits.{most_message_words};
+ghost use Rattle.capn_words.specs.Message.{most_message_words};
 
 use crate::frames::{limit_at, segments_text};
 use crate::growths::{Heap, MEMORY};

@@ -1,7 +1,7 @@
 //! Pointer words of each kind, at the ends of their fields' ranges.
 
 ghost use Rattle.std.specs.Prelude.{◌≡◌};
-ghost use Rattle.capn_words.specs.Fields.{Fits};
+ghost use Rattle.capn_words.specs.Pointers.{Fits};
 
 use capn_words::{Pointer, Width, join, split};
 

@@ -5,8 +5,8 @@ use Rattle.capn_pack.proofs.shared.GroupLaws.{refused_only, one_reading}
 use Rattle.capn_stream.specs.Frames.{most_table_words}
 use Rattle.capn_stream.proofs.shared.FrameLaws.{one_frame, stands_alone, whole_of, refused_whole}
 use Rattle.capn_value.specs.Tree.{Tree}
-use Rattle.capn_value.specs.Caps.{first_cap}
-use Rattle.capn_walk.specs.declared.walked.Stopped.{Stopped}
+use Rattle.capn_value.specs.FirstCap.{first_cap}
+use Rattle.capn_walk.specs.declared.walk_answer.Stopped.{Stopped}
 use Rattle.capn_walk.specs.inner.Verdict.{accepted, refused}
 use Rattle.capn_walk.specs.Accepted.{IsAccepted}
 use Rattle.capn_walk.specs.Accepted as walks
@@ -18,7 +18,7 @@ use Rattle.capn_canon.specs.declared.refusal.Refusal.{Refusal}
 use Rattle.capn_canon.specs.declared.refusal.Refusal.TheVariants as refusals
 use Rattle.capn_canon.specs.Reads.{IsFramed, Unpacks, Reads}
 use Rattle.capn_canon.specs.Denotes.{Denotes}
-use Rattle.capn_canon.specs.Refused.{IsMisframed, IsMisread, IsRefusedMessage, IsRefused}
+use Rattle.capn_canon.specs.Refusal.{IsMisframed, IsMisread, IsRefusedMessage, IsRefused}
 use Rattle.capn_canon.proofs.shared.OneReading.{one_message, one_value}
 
 framed-read : (bs : List ℕ) (most : ℕ) (m : List (List ℕ)) (r : Refusal) → IsFramed bs most m → IsMisframed bs most r

@@ -8,7 +8,7 @@ use Rattle.capn_canon.specs.declared.refusal.Refusal.{Refusal}
 use Rattle.capn_canon.specs.declared.refusal.Refusal.TheVariants as refusals
 use Rattle.capn_canon.specs.Reads.{Reads}
 use Rattle.capn_canon.specs.Denotes.{Denotes}
-use Rattle.capn_canon.specs.Refused.{IsUnaccepted, IsUnacceptedIn}
+use Rattle.capn_canon.specs.Refusal.{IsUnaccepted, IsUnacceptedIn}
 use Rattle.capn_canon.proofs.shared.OneReading.{one_message}
 use Rattle.capn_canon.proofs.shared.NotRefused.{read-not_misread, accepted-not_refused}
 

@@ -1,13 +1,12 @@
 -- Bytes in a form are read as one message at most, and it is a message.
 use Rattle.std.proofs.Common.{◌≡◌, ℕ, ◌≤◌, List, [], ◌∷◌, length, ap, sym, subst, ◌∙◌, arith}
-use Rattle.capn_words.specs.Limits.{most_message_words}
-use Rattle.capn_words.specs.Message.{IsMessage}
+use Rattle.capn_words.specs.Message.{most_message_words, IsMessage}
 use Rattle.capn_words.proofs.shared.OneSegment.{bare_only, bare_message}
 use Rattle.capn_pack.proofs.shared.GroupLaws.{one_reading}
 use Rattle.capn_stream.proofs.shared.FrameLaws.{one_frame, stands_alone}
 use Rattle.capn_value.specs.Tree.{Tree}
-use Rattle.capn_walk.specs.Stops.{root}
-use Rattle.capn_walk.specs.At.{IsAt}
+use Rattle.capn_walk.specs.Accepted.{root}
+use Rattle.capn_walk.specs.ValueAt.{IsAt}
 use Rattle.capn_walk.specs.Limits.{Bounds}
 use Rattle.capn_walk.proofs.shared.Unique.{unique}
 use Rattle.capn_canon.specs.declared.form.Form.{Form}

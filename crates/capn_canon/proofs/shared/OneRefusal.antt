@@ -1,23 +1,23 @@
 -- Bytes are refused for one reason, and not where they are read.
 use Rattle.std.proofs.Common.{◌≡◌, ◌⊎◌, inl, inr, ℕ, ◌+◌, List, length, Some, Err, refl, ap, sym, subst, ◌∙◌, arith}
-use Rattle.capn_words.specs.Words.{ReadsBare}
+use Rattle.capn_words.specs.Message.{ReadsBare}
 use Rattle.capn_words.specs.declared.bare.BareFault.{BareFault}
 use Rattle.capn_words.proofs.shared.OneSegment.{bare_not_refused, one_bare_fault}
-use Rattle.capn_pack.specs.Refusal as packs
+use Rattle.capn_pack.specs.UnpackRefusal as packs
 use Rattle.capn_pack.specs.declared.fault.UnpackFault.{UnpackFault}
 use Rattle.capn_pack.specs.declared.fault.UnpackFault.TheVariants as unpack_faults
 use Rattle.capn_pack.proofs.shared.GroupLaws.{one_reading, refused_only}
 use Rattle.capn_pack.proofs.shared.RefusalLaws.{one_unpack_fault}
-use Rattle.capn_stream.specs.Reading as frames
+use Rattle.capn_stream.specs.FrameRefusal as frames
 use Rattle.capn_stream.specs.declared.fault.FrameFault.{FrameFault}
 use Rattle.capn_stream.specs.declared.fault.FrameFault.TheVariants as frame_faults
 use Rattle.capn_stream.specs.Frames.{most_table_words}
 use Rattle.capn_stream.proofs.shared.FrameLaws.{one_frame, stands_alone, whole_of, refused_whole}
 use Rattle.capn_stream.proofs.shared.FrameLaws as frame_laws
 use Rattle.capn_value.specs.Tree.{Tree}
-use Rattle.capn_value.specs.Caps.{first_cap}
-use Rattle.capn_walk.specs.declared.walked.Stopped.{Stopped}
-use Rattle.capn_walk.specs.Stops.{root}
+use Rattle.capn_value.specs.FirstCap.{first_cap}
+use Rattle.capn_walk.specs.declared.walk_answer.Stopped.{Stopped}
+use Rattle.capn_walk.specs.Accepted.{root}
 use Rattle.capn_walk.specs.inner.Verdict.{refused}
 use Rattle.capn_walk.specs.Accepted as walks
 use Rattle.capn_walk.specs.Limits.{Bounds}
@@ -28,7 +28,7 @@ use Rattle.capn_canon.specs.declared.form.Form.TheVariants as forms
 use Rattle.capn_canon.specs.declared.refusal.Refusal.{Refusal}
 use Rattle.capn_canon.specs.declared.refusal.Refusal.TheVariants as refusals
 use Rattle.capn_canon.specs.Reads.{IsFramed, Unpacks, Reads, Trails}
-use Rattle.capn_canon.specs.Refused.{IsMisframed, IsMisread, IsRefusedMessage, IsRefused}
+use Rattle.capn_canon.specs.Refusal.{IsMisframed, IsMisread, IsRefusedMessage, IsRefused}
 use Rattle.capn_canon.proofs.shared.OneReading.{one_message}
 use Rattle.capn_canon.proofs.shared.NotRefused.{accepted-not_refused}
 

@@ -1,6 +1,6 @@
 -- A buffer of words, each of which can be written again, is a list without holes.
 use Rattle.std.specs.Prelude.{◌≡◌, ℕ, ◌/◌, ◌%◌, List, length, replicate, Option, false}
-use Rattle.capn_words.specs.Words.{AreBytes}
+use Rattle.capn_words.specs.Message.{AreBytes}
 use Rattle.capn_canon.specs.Patch.{cells}
 
 -- the list that bytes stand for (Own.)

@@ -1,18 +1,18 @@
 -- What private calls answer and refuse, of a message and of bytes in a form.
 use Rattle.std.specs.Prelude.{◌≡◌, ℕ, ◌≤◌, List, None, Result, IfOk, IfErr, IsErrOf, MatchResult}
 use Rattle.capn_value.specs.Tree.{Tree}
-use Rattle.capn_value.specs.Caps.{first_cap}
+use Rattle.capn_value.specs.FirstCap.{first_cap}
 use Rattle.capn_walk.specs.Accepted.{IsValueOf, IsBounded}
-use Rattle.capn_walk.specs.declared.surveyed.Surveyed.{Surveyed}
+use Rattle.capn_walk.specs.declared.survey_answer.Surveyed.{Surveyed}
 use Rattle.capn_walk.specs.Limits.{Bounds}
 use Rattle.capn_canon.specs.declared.form.Form.{Form}
 use Rattle.capn_canon.specs.declared.refusal.Refusal.{Refusal}
 use Rattle.capn_canon.specs.declared.refusal.Refusal.TheVariants as refusals
 use Rattle.capn_canon.specs.Layout.{canon}
 use Rattle.capn_canon.specs.Denotes.{AnswersMessage, Answers}
-use Rattle.capn_canon.specs.Surveys.{Surveys}
-use Rattle.capn_canon.specs.Refused.{IsRefusedMessage, IsRefused, IsUnacceptedIn, IsPaidWithin}
-use Rattle.capn_canon.specs.Wanted.{MayWantMemory, MayWantBytes, MayWantBytesIn}
+use Rattle.capn_canon.specs.SurveyedBytes.{Surveys}
+use Rattle.capn_canon.specs.Refusal.{IsRefusedMessage, IsRefused, IsUnacceptedIn, IsPaidWithin}
+use Rattle.capn_canon.specs.MemoryNeed.{MayWantMemory, MayWantBytes, MayWantBytesIn}
 
 -- what a call reports of a message is its answer or why it has none, memory is needed only where it may be, and no walk
 -- pays beyond its budget

@@ -2,9 +2,9 @@
 use Rattle.std.specs.Prelude.{◌≡◌, ℕ, suc, ◌+◌, ◌^◌, ◌≤◌, List, length, set, Option, Some}
 use Rattle.capn_words.specs.declared.space.Place.{Place}
 use Rattle.capn_value.specs.Tree.{Tree, Trees, count}
-use Rattle.capn_value.specs.Sizes.{height, greatest}
+use Rattle.capn_value.specs.Cost.{height, greatest}
 use Rattle.capn_walk.specs.declared.target.Shape.{Shape}
-use Rattle.capn_walk.specs.At.{IsAt, AreAt, IsInside}
+use Rattle.capn_walk.specs.ValueAt.{IsAt, AreAt, IsInside}
 use Rattle.capn_canon.specs.Layout.{size, sizes, point}
 use Rattle.capn_canon.specs.inner.LayoutSteps.{laid, laid_slots}
 use Rattle.capn_canon.specs.inner.Sound.{Sound, Sounds}

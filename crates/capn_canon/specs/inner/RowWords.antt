@@ -1,13 +1,13 @@
 -- Rows of equal sizes, as the words of a segment have them.
 use Rattle.std.specs.Prelude.{◌≡◌, ℕ, zero, suc, ◌+◌, ◌*◌, ◌^◌, ◌≤◌, max, pos, List, [], ◌∷◌, ◌++◌, length, take, set}
 use Rattle.std.specs.Prelude.{Option, Some}
-use Rattle.capn_words.specs.Fields.{word_of}
+use Rattle.capn_words.specs.Pointers.{word_of}
 use Rattle.capn_words.specs.declared.pointer.Pointer.TheVariants.{Node}
 use Rattle.capn_words.specs.declared.pointer.Width.TheVariants.{Rows}
 use Rattle.capn_value.specs.Tree.{Bodies, count_rows}
 use Rattle.capn_value.specs.Trim.{kept_words, kept_slots_of_rows}
-use Rattle.capn_value.specs.Sizes.{greatest_in_rows}
-use Rattle.capn_walk.specs.At.{RowsAt, words_from}
+use Rattle.capn_value.specs.Cost.{greatest_in_rows}
+use Rattle.capn_walk.specs.ValueAt.{RowsAt, words_from}
 use Rattle.capn_canon.specs.Patch.{whole}
 use Rattle.capn_canon.specs.Layout.{sizes_in_rows, list_to}
 use Rattle.capn_canon.specs.inner.LayoutSteps.{laid_rows}

@@ -2,13 +2,13 @@
 use Rattle.std.specs.Prelude.{◌≡◌, ◌↔◌, ℕ, ℤ, ◌+◌, ◌-◌, ◌<◌, ◌≤◌, List, [], ◌∷◌, length, take, drop}
 use Rattle.std.specs.Prelude.{slice_index, Option, Some, None}
 use Rattle.capn_words.specs.Message.{IsMessage}
-use Rattle.capn_words.specs.Fields.{Fields}
+use Rattle.capn_words.specs.Pointers.{Fields}
 use Rattle.capn_words.specs.declared.pointer.Pointer.TheVariants.{Node, Many}
 use Rattle.capn_words.specs.declared.pointer.Width.{Width}
 use Rattle.capn_value.specs.Tree.{Trees, count}
 use Rattle.capn_value.specs.Trim.{kept_words}
-use Rattle.capn_value.specs.Sizes.{most_height}
-use Rattle.capn_walk.specs.At.{AreAt}
+use Rattle.capn_value.specs.Cost.{most_height}
+use Rattle.capn_walk.specs.ValueAt.{AreAt}
 use Rattle.capn_canon.specs.declared.run.Run.{Run}
 use Rattle.capn_canon.specs.Layout.{sizes, struct_to}
 use Rattle.capn_canon.specs.inner.ReadyPlaces.{IsReady, AreReady}

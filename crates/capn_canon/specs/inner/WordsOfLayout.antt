@@ -1,8 +1,8 @@
 -- Words that are the layout of what they are read as.
 use Rattle.std.specs.Prelude.{◌≡◌, ℕ, ◌+◌, ◌^◌, ◌≤◌, List, length, take, drop, slice_index, Option, Some, None}
 use Rattle.capn_value.specs.Tree.{Tree, Trees, Bodies, count_rows}
-use Rattle.capn_value.specs.Sizes.{greatest_in_rows}
-use Rattle.capn_walk.specs.At.{RowsAt}
+use Rattle.capn_value.specs.Cost.{greatest_in_rows}
+use Rattle.capn_walk.specs.ValueAt.{RowsAt}
 use Rattle.capn_canon.specs.Layout.{point, points, lay, lays, row_contents, lays_in_rows, sizes_in_rows}
 use Rattle.capn_canon.specs.inner.Sound.{SoundRows}
 

@@ -3,15 +3,15 @@ use Rattle.std.specs.Prelude.{◌≡◌, ◌⊎◌, ℕ, ◌+◌, List, [], ◌+
 use Rattle.std.specs.Prelude.{Vec}
 use Rattle.std.specs.Io.KnownBytes.{Appends, Consumes, IsAtEnd}
 use Rattle.capn_value.specs.Tree.{Tree}
-use Rattle.capn_value.specs.Caps.{first_cap}
+use Rattle.capn_value.specs.FirstCap.{first_cap}
 use Rattle.capn_value.specs.Text.{show_text}
 use Rattle.capn_text.specs.Streams.{Place, end_line, ended_lines}
 use Rattle.capn_text.specs.declared.fault.TextFault.{TextFault}
 use Rattle.capn_text.specs.declared.fault.TextFault.TheVariants as texts
 use Rattle.capn_canon.specs.declared.form.Form.{Form}
-use Rattle.capn_make.specs.Pieces.{IsMakeable, IsPiece, AreMade}
-use Rattle.capn_make.specs.Makes.{AreFirst, IsRefused, IsNotOne, Follows, Makes, MakesEach, MakesOne, line_after}
-use Rattle.capn_make.specs.Made.{HasBegunEach, HasBegunOne, HasBegunText}
+use Rattle.capn_make.specs.WrittenValue.{IsMakeable, IsPiece, AreMade}
+use Rattle.capn_make.specs.MadeInput.{AreFirst, IsRefused, IsNotOne, Follows, Makes, MakesEach, MakesOne, line_after}
+use Rattle.capn_make.specs.MakeRun.{HasBegunEach, HasBegunOne, HasBegunText}
 use Rattle.capn_make.specs.declared.fault.MakeFault.{MakeFault}
 use Rattle.capn_make.specs.declared.fault.MakeFault.TheVariants as faults
 

@@ -4,11 +4,9 @@ use Rattle.std.proofs.Common.{length, take, drop, replicate, refl, sym, ap, â—Œâ
 use Rattle.std.proofs.Common.{length-append, take_all, take-append-drop, drop-drop, length-drop, length-take}
 use Rattle.std.proofs.lemmas.Bool.{cases_lt}
 use Rattle.std.proofs.lemmas.List.{append_cancel_left, replicate-append-replicate, length-replicate, take-append-le}
-use Rattle.capn_pack.specs.Group.{Group, content, IsGroup}
-use Rattle.capn_pack.specs.Packs.{texts, contents, Packs}
+use Rattle.capn_pack.specs.Packed.{Group, content, IsGroup, texts, contents, Packs, tag_of}
 use Rattle.capn_pack.specs.Chosen.{IsChoice, IsChosenRow, Chosen, IsDense, AllDense}
-use Rattle.capn_pack.specs.Group.{tag_of}
-use Rattle.capn_pack.specs.Group.Group.{Zeros, Named, Raw}
+use Rattle.capn_pack.specs.Packed.Group.{Zeros, Named, Raw}
 use Rattle.std.specs.List.{AllByRecursion}
 use Rattle.capn_pack.proofs.shared.FirstParts.{append_same}
 use Rattle.capn_pack.proofs.shared.GroupLemmas.{length_contents}

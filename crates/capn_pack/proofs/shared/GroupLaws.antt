@@ -5,12 +5,11 @@ use Rattle.std.proofs.lemmas.Bool.{ne_eqb}
 use Rattle.std.proofs.lemmas.List.{append-nil}
 use Rattle.std.specs.Prelude.{count_ones}
 use Rattle.std.specs.List.{AllByRecursion}
-use Rattle.capn_pack.specs.Group.{Group, text, words, IsGroup}
-use Rattle.capn_pack.specs.Packs.{texts, contents, word_count, Packs}
-use Rattle.capn_pack.specs.Group.{named_bytes, IsNamedBy}
-use Rattle.capn_pack.specs.Refusal.{words_at, len_at, HasHead, IsCut, IsTooLong, Stands}
-use Rattle.capn_pack.specs.Group.Group.{Zeros, Named, Raw}
-use Rattle.capn_pack.specs.Refusal.{IsRefused}
+use Rattle.capn_pack.specs.Packed.{Group, text, words, IsGroup, texts, contents, word_count, Packs, named_bytes}
+use Rattle.capn_pack.specs.Packed.{IsNamedBy}
+use Rattle.capn_pack.specs.UnpackRefusal.{words_at, len_at, HasHead, IsCut, IsTooLong, Stands}
+use Rattle.capn_pack.specs.Packed.Group.{Zeros, Named, Raw}
+use Rattle.capn_pack.specs.UnpackRefusal.{IsRefused}
 use Rattle.capn_pack.specs.declared.fault.UnpackFault.{UnpackFault}
 use Rattle.capn_pack.specs.declared.fault.UnpackFault.TheVariants as fault
 use Rattle.capn_pack.proofs.shared.FirstParts.{append_same}

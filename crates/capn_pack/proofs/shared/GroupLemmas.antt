@@ -5,9 +5,8 @@ use Rattle.std.proofs.Common.{drop-cons, take_all, replicate, length-append, get
 use Rattle.std.proofs.lemmas.List.{length-replicate, append-nil}
 use Rattle.std.proofs.lemmas.Grind.{flat_map-append}
 use Rattle.std.specs.List.{AllByRecursion}
-use Rattle.capn_pack.specs.Group.{Group, text, content, words, IsGroup}
-use Rattle.capn_pack.specs.Packs.{texts, contents, word_count}
-use Rattle.capn_pack.specs.Group.Group.{Zeros, Named, Raw}
+use Rattle.capn_pack.specs.Packed.{Group, text, content, words, IsGroup, texts, contents, word_count}
+use Rattle.capn_pack.specs.Packed.Group.{Zeros, Named, Raw}
 
 -- the first item, and those after it
 pub take_first : (n : ℕ) (xs : List ℕ) → 0 < length xs → take (1 + n) xs ≡ get_or xs 0 0 ∷ take n (drop 1 xs)

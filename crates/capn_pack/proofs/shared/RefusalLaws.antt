@@ -2,9 +2,8 @@
 use Rattle.std.proofs.Common.{◌≡◌, ℕ, ◌+◌, ◌≤◌, List, [], ◌∷◌, ◌++◌, length, refl, ap, sym, subst, ◌∙◌}
 use Rattle.std.proofs.Common.{append_assoc, arith}
 use Rattle.std.specs.List.{AllByRecursion}
-use Rattle.capn_pack.specs.Group.{Group, IsGroup, text, words}
-use Rattle.capn_pack.specs.Packs.{texts, word_count}
-use Rattle.capn_pack.specs.Refusal.{words_at, IsCut, IsRefused, IsTooLong, Stands}
+use Rattle.capn_pack.specs.Packed.{Group, IsGroup, text, words, texts, word_count}
+use Rattle.capn_pack.specs.UnpackRefusal.{words_at, IsCut, IsRefused, IsTooLong, Stands}
 use Rattle.capn_pack.specs.declared.fault.UnpackFault.{UnpackFault}
 use Rattle.capn_pack.specs.declared.fault.UnpackFault.TheVariants as fault
 use Rattle.capn_pack.proofs.shared.GroupLaws.{no_group, head_of, group_same}

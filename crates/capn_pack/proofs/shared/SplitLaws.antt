@@ -6,11 +6,9 @@ use Rattle.std.proofs.lemmas.Bool.{cases_lt}
 use Rattle.std.proofs.lemmas.Bool.Decides.{nat_tests}
 use Rattle.std.specs.Prelude.{count_ones}
 use Rattle.std.specs.List.{AllByRecursion}
-use Rattle.capn_pack.specs.Group.{Group, IsGroup, text, content}
-use Rattle.capn_pack.specs.Group.Group.{Zeros, Named, Raw}
-use Rattle.capn_pack.specs.Packs.{texts, contents}
-use Rattle.capn_pack.specs.Stream.{Splits, NoGroupFirst}
-use Rattle.capn_pack.specs.Group.{named_bytes, IsNamedBy}
+use Rattle.capn_pack.specs.Packed.{Group, IsGroup, text, content, texts, contents, named_bytes, IsNamedBy}
+use Rattle.capn_pack.specs.Packed.Group.{Zeros, Named, Raw}
+use Rattle.capn_pack.specs.PackedPieces.{Splits, NoGroupFirst}
 use Rattle.capn_pack.proofs.shared.GroupLaws.{group_same, no_group}
 use Rattle.capn_pack.proofs.shared.GroupLemmas.{raw_is_group, take_first, take_raw_text, take_two, text_some}
 use Rattle.capn_pack.proofs.shared.SpreadLemmas.{named_none, named_one, no_ones, ones_half, parity}

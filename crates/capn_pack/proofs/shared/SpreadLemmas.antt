@@ -4,7 +4,7 @@ use Rattle.std.proofs.Common.{◌∙◌, arith}
 use Rattle.std.proofs.lemmas.Bool.Decides.{nat_tests}
 use Rattle.std.proofs.lemmas.Nat.{ones_cat}
 use Rattle.std.specs.Prelude.{count_ones}
-use Rattle.capn_pack.specs.Group.{named_bytes}
+use Rattle.capn_pack.specs.Packed.{named_bytes}
 
 -- a number has the digits of its half and its last
 pub ones_half : (n : ℕ) → count_ones n ≡ n % 2 + count_ones (n / 2)

@@ -6,13 +6,12 @@ use Rattle.std.proofs.lemmas.Bool.{cases_lt}
 use Rattle.std.proofs.lemmas.List.{append-nil, take-append-le, take-take}
 use Rattle.std.proofs.Math.Seq.{take-append-add}
 use Rattle.std.proofs.lemmas.Grind.{flat_map-append}
-use Rattle.capn_pack.specs.Group.{text, content}
-use Rattle.capn_pack.specs.Packs.{texts, contents}
+use Rattle.capn_pack.specs.Packed.{text, content, texts, contents}
 use Rattle.capn_pack.specs.inner.Steps.{Takes, TakesRow}
-use Rattle.capn_pack.specs.Stream.{Splits, Begins, NoGroupFirst}
-use Rattle.capn_pack.specs.Refusal.{IsCut}
+use Rattle.capn_pack.specs.PackedPieces.{Splits, Begins, NoGroupFirst}
+use Rattle.capn_pack.specs.UnpackRefusal.{IsCut}
 use Rattle.capn_pack.specs.inner.Joins.{Joins}
-use Rattle.capn_pack.specs.declared.unpack_piece.Joined.TheVariants as joins
+use Rattle.capn_pack.specs.declared.text_piece.Joined.TheVariants as joins
 use Rattle.capn_pack.proofs.shared.GroupLemmas.{rest_is, each_append, text_some}
 use Rattle.capn_pack.proofs.shared.GroupLaws.{no_group}
 

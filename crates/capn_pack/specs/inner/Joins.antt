@@ -1,11 +1,11 @@
 -- An unfinished group and the piece that came, and what is held then.
 use Rattle.std.specs.Prelude.{ℕ, ◌≡◌, ◌<◌, ◌≤◌, ◌++◌, List, length, take, Result, Ok, Err}
-use Rattle.capn_pack.specs.Group.{Group, IsGroup, text, content}
-use Rattle.capn_pack.specs.Stream.{Begins, NoGroupFirst, Splits}
+use Rattle.capn_pack.specs.Packed.{Group, IsGroup, text, content}
+use Rattle.capn_pack.specs.PackedPieces.{Begins, NoGroupFirst, Splits}
 use Rattle.capn_pack.specs.declared.unpack_group.TheConstants.{GROUP}
-use Rattle.capn_pack.specs.declared.unpack_piece.Fed.{Fed}
-use Rattle.capn_pack.specs.declared.unpack_piece.Joined.{Joined}
-use Rattle.capn_pack.specs.declared.unpack_piece.Joined.TheVariants.{Open, Whole}
+use Rattle.capn_pack.specs.declared.text_piece.Fed.{Fed}
+use Rattle.capn_pack.specs.declared.text_piece.Joined.{Joined}
+use Rattle.capn_pack.specs.declared.text_piece.Joined.TheVariants.{Open, Whole}
 
 -- They are still unfinished and all held, or the front of the piece made the group whole.
 abbrev pub Joins : List ℕ → List ℕ → List ℕ → List ℕ → List ℕ → Joined → Type 0

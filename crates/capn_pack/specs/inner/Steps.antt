@@ -1,10 +1,9 @@
 -- What one step of the code does.
 use Rattle.std.specs.Prelude.{ℕ, ◌≡◌, ◌+◌, ◌*◌, ◌<◌, ◌≤◌, ◌++◌, List, length, take, drop, Result, Ok, Err}
 use Rattle.std.specs.List.{AllByRecursion}
-use Rattle.capn_pack.specs.Group.{Group, IsGroup, text, content, words}
-use Rattle.capn_pack.specs.Packs.{texts, contents, word_count}
+use Rattle.capn_pack.specs.Packed.{Group, IsGroup, text, content, words, texts, contents, word_count}
 use Rattle.capn_pack.specs.Chosen.{IsChoice, IsChosenRow}
-use Rattle.capn_pack.specs.Refusal.{IsCut, IsTooLong, StartsWithin}
+use Rattle.capn_pack.specs.UnpackRefusal.{IsCut, IsTooLong, StartsWithin}
 use Rattle.capn_pack.specs.declared.unpack_group.TheConstants.{GROUP}
 use Rattle.capn_pack.specs.declared.unpack_group.Stop.{Stop}
 use Rattle.capn_pack.specs.declared.unpack_group.Stop.TheVariants.{Memory, Cut, TooLong}

@@ -5,15 +5,15 @@ use Rattle.capn_words.specs.declared.space.Place.{Place}
 use Rattle.capn_words.specs.declared.pointer.Width.{Width}
 use Rattle.capn_words.specs.declared.pointer.Width.TheVariants.{W0, W1, Link, Rows}
 use Rattle.capn_value.specs.Tree.{Tree, Trees, Bodies, count, count_rows, tree_at}
-use Rattle.capn_value.specs.Sizes.{height, greatest, greatest_in_rows}
+use Rattle.capn_value.specs.Cost.{height, greatest, greatest_in_rows}
 use Rattle.capn_value.specs.Text.{body_line, word_lines, shown, shown_each, shown_rows, show_text}
 use Rattle.capn_walk.specs.declared.target.Target.{Target}
 use Rattle.capn_walk.specs.declared.target.Target.TheVariants as targets
 use Rattle.capn_walk.specs.declared.target.Shape.TheVariants as shapes
 use Rattle.capn_walk.specs.declared.target.Fault.TheVariants as faults
-use Rattle.capn_walk.specs.At.{IsAt, words_from}
-use Rattle.capn_walk.specs.Viewed.{number_in}
-use Rattle.capn_walk.specs.Shown.{Shows, ShowsStruct, words_of_row, slots_of_row}
+use Rattle.capn_walk.specs.ValueAt.{IsAt, words_from}
+use Rattle.capn_walk.specs.View.{number_in}
+use Rattle.capn_walk.specs.ShownValue.{Shows, ShowsStruct, words_of_row, slots_of_row}
 use Rattle.capn_walk.specs.Accepted.{IsValueOf, IsRefused}
 use Rattle.capn_walk.specs.Limits.{Bounds}
 use Rattle.capn_show.specs.Sheet.{Sheet, Grows, BreaksOff}

@@ -9,9 +9,9 @@ use Rattle.std.proofs.lemmas.List.Sums.{sum_by_push}
 use Rattle.std.proofs.lemmas.Nat.{le_bytes_4}
 use Rattle.byteorder.specs.Endian.{little_from}
 use Rattle.byteorder.specs.Numbers.{little_from-take, little_number-reads_back}
-use Rattle.capn_words.specs.Words.{AreBytes}
+use Rattle.capn_words.specs.Message.{AreBytes}
 use Rattle.capn_stream.specs.Frames.{entry}
-use Rattle.capn_stream.specs.Reading.{entry_number, entries}
+use Rattle.capn_stream.specs.FrameRefusal.{entry_number, entries}
 
 -- ---- parts of lists
 

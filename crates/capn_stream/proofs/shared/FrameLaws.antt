@@ -7,13 +7,12 @@ use Rattle.std.proofs.lemmas.Grind.{flat_map-append}
 use Rattle.std.proofs.lemmas.List.{drop_at, length-map, length-take-le, take-append-drop, take_all}
 use Rattle.std.proofs.lemmas.List.{take_at}
 use Rattle.std.proofs.lemmas.List.Sums.{sum-map, sum_by-cons}
-use Rattle.capn_words.specs.Message.{bytes, segment_at, total, IsMessage, word_bytes}
-use Rattle.capn_words.specs.Words.{AreBytes, AreWords}
+use Rattle.capn_words.specs.Message.{bytes, segment_at, total, IsMessage, word_bytes, AreBytes, AreWords}
 use Rattle.capn_words.proofs.shared.Words.{bytes-injective, length-bytes}
 use Rattle.capn_stream.specs.Cuts.{cut, ends_from}
 use Rattle.capn_stream.specs.Frames.{FitsTable, Frames, StandsFirst, contents, entry, padding}
-use Rattle.capn_stream.specs.Reading.{IsRefused, IsWhole, announced_segments, announced_words, entries}
-use Rattle.capn_stream.specs.Reading.{entry_number, frame_length, head_length}
+use Rattle.capn_stream.specs.FrameRefusal.{IsRefused, IsWhole, announced_segments, announced_words, entries}
+use Rattle.capn_stream.specs.FrameRefusal.{entry_number, frame_length, head_length}
 use Rattle.capn_stream.specs.declared.fault.FrameFault.{FrameFault}
 use Rattle.capn_stream.specs.declared.fault.FrameFault.TheVariants.{Memory, Empty, TooManySegments, TooManyWords, Cut}
 use Rattle.capn_stream.specs.declared.fault.FrameFault.TheVariants.{Failed}

@@ -4,8 +4,8 @@ use Rattle.std.proofs.Common.{take, drop, sum, refl, ap, sym, subst, ◌∙◌, 
 use Rattle.std.proofs.Common.{length-append, length-drop}
 use Rattle.std.proofs.lemmas.List.{drop-append-le}
 use Rattle.byteorder.specs.Numbers.{little_from-append}
-use Rattle.capn_stream.specs.Reading.{HasCount, HasHead, announced_segments, announced_words, entries}
-use Rattle.capn_stream.specs.Reading.{entry_number, head_length}
+use Rattle.capn_stream.specs.FrameRefusal.{HasCount, HasHead, announced_segments, announced_words, entries}
+use Rattle.capn_stream.specs.FrameRefusal.{entry_number, head_length}
 use Rattle.capn_stream.specs.inner.Stages.{Extends, IsStage, IsStop, Knows, announced_ends, need}
 use Rattle.capn_stream.specs.declared.fault.FrameFault.{FrameFault}
 use Rattle.capn_stream.specs.declared.fault.FrameFault.TheVariants.{Memory, Empty, TooManySegments, TooManyWords, Cut}

@@ -5,10 +5,10 @@ use Rattle.std.proofs.Common.{◌∙◌, arith, length-append, length-take}
 use Rattle.std.proofs.lemmas.List.{take_all}
 use Rattle.std.proofs.lemmas.Bool.Decides.{nat_tests}
 use Rattle.capn_stream.specs.Frames.{padding}
-use Rattle.capn_stream.specs.Framing.{Feeds, Framing, IsFrame, IsUnfinished}
-use Rattle.capn_stream.specs.Reading.{EndsWithin, IsRefused, IsWhole, announced_segments}
-use Rattle.capn_stream.specs.Reading.{head_length}
-use Rattle.capn_stream.specs.Receiving.{most_bytes}
+use Rattle.capn_stream.specs.StreamPieces.{Feeds, Framing, IsFrame, IsUnfinished}
+use Rattle.capn_stream.specs.FrameRefusal.{EndsWithin, IsRefused, IsWhole, announced_segments}
+use Rattle.capn_stream.specs.FrameRefusal.{head_length}
+use Rattle.capn_stream.specs.NextMessage.{most_bytes}
 use Rattle.capn_stream.specs.inner.Stages.{IsStage, need}
 use Rattle.capn_stream.specs.declared.stage.Stage.{Stage}
 use Rattle.capn_stream.specs.declared.stage.Stage.TheVariants as stages

@@ -1,6 +1,6 @@
 -- The words of a frame that is owned.
 use Rattle.std.specs.Prelude.{◌≡◌, ℕ, ◌%◌, ◌≤◌, List, length, drop}
-use Rattle.capn_words.specs.Words.{AreBytes}
+use Rattle.capn_words.specs.Message.{AreBytes}
 
 -- whole words stand after the start
 pub record IsTail (frame : List ℕ) (start : ℕ) : Type 0 where

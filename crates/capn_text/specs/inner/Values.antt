@@ -2,7 +2,7 @@
 use Rattle.std.specs.Prelude.{ℕ, zero, suc, ◌+◌, List, [], ◌∷◌, Option, Some, None, nat_le, cond, codes, length}
 use Rattle.std.specs.Prelude.{◌==◌, ◌≤◌, ◌<◌, ◌^◌, ⊤}
 use Rattle.capn_value.specs.Tree.{Tree, nil, node, voids, bits, bytes, pairs, quads, octs, links, rows, cap, Trees}
-use Rattle.capn_value.specs.View.{trees, rows_from}
+use Rattle.capn_value.specs.TreeOf.{trees, rows_from}
 use Rattle.capn_text.specs.inner.Tokens.{◌>>=◌, strip, indent_at, decimal_at, byte_at, bit_at, many, word_line_at}
 use Rattle.capn_text.specs.inner.Tokens.{number_line_at}
 use Rattle.capn_text.specs.inner.Tokens.{row_line_at}

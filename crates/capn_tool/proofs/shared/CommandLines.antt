@@ -6,7 +6,7 @@ use Rattle.clap.specs.Words.{AddsArg, AddsInTurn, AddsSubcommand, App, Rule, Sha
 use Rattle.clap.specs.Words.{with_subcommand}
 use Rattle.clap.specs.declared.builder.arg.Arg.{Arg}
 use Rattle.clap.specs.declared.builder.command.Command.{Command}
-use Rattle.capn_tool.specs.Line.{HasLine}
+use Rattle.capn_tool.specs.CommandLine.{HasLine}
 
 abbrev top_of : App → Shape
 top_of a = a.top

@@ -9,8 +9,8 @@ use Rattle.capn_value.specs.declared.tariff.Tariff.{Tariff}
 use Rattle.capn_value.specs.declared.tariff.Tariff.TheVariants as tariffs
 use Rattle.capn_canon.specs.declared.form.Form.{Form}
 use Rattle.capn_canon.specs.declared.form.Form.TheVariants as forms
-use Rattle.capn_tool.specs.declared.orders.Command.{Command}
-use Rattle.capn_tool.specs.declared.orders.Command.TheVariants as commands
+use Rattle.capn_tool.specs.declared.command.Command.{Command}
+use Rattle.capn_tool.specs.declared.command.Command.TheVariants as commands
 use Rattle.capn_tool.specs.Meaning.{Means, NumberIs, LimitsAre, UnpackedIs, MeansOne, form_name, tariff_name}
 
 -- two characters of a text, by which the names differ

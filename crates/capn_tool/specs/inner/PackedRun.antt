@@ -1,16 +1,16 @@
 -- A packed stream that is read in pieces: what has been written for the words of its whole groups. (Own.)
 use Rattle.std.specs.Prelude.{◌≡◌, ◌≢◌, ℕ, ◌<◌, ◌^◌, List, [], ◌++◌, length, Bool, false, Option, Result, Ok, Err}
 use Rattle.capn_walk.specs.Limits.{Bounds}
-use Rattle.capn_pack.specs.Stream.{Begins, Held, NoGroupFirst, Splits, advanced}
-use Rattle.capn_stream.specs.Framing.{Framing}
+use Rattle.capn_pack.specs.PackedPieces.{Begins, Held, NoGroupFirst, Splits, advanced}
+use Rattle.capn_stream.specs.StreamPieces.{Framing}
 use Rattle.std.specs.Io.KnownBytes.{Consumes}
-use Rattle.capn_stream.specs.Reading as frame_rules
+use Rattle.capn_stream.specs.FrameRefusal as frame_rules
 use Rattle.capn_stream.specs.declared.fault.FrameFault.{FrameFault}
 use Rattle.capn_stream.specs.declared.fault.FrameFault.TheVariants as frames
 use Rattle.capn_tool.specs.Streams.{behind_packed, end_of}
 use Rattle.capn_tool.specs.declared.fault.ToolFault.TheVariants as faults
-use Rattle.capn_tool.specs.Heard.{IsListening, Stops, Tells}
-use Rattle.capn_tool.specs.Sending.{Outgoing, sent}
+use Rattle.capn_tool.specs.StreamRun.{IsListening, Stops, Tells}
+use Rattle.capn_tool.specs.Outgoing.{Outgoing, sent}
 use Rattle.capn_tool.specs.declared.plan.Piece.{Piece}
 use Rattle.capn_tool.specs.declared.fault.ToolFault.{ToolFault}
 

@@ -1,9 +1,8 @@
 -- A packed input of which some has come, and whose words are unpacked so far.
 use Rattle.std.specs.Prelude.{◌≡◌, ◌⊎◌, ℕ, ◌+◌, List, [], ◌++◌, length, Bool, true, false}
 use Rattle.std.specs.List.{AllByRecursion}
-use Rattle.capn_pack.specs.Group.{Group, IsGroup}
-use Rattle.capn_pack.specs.Packs.{texts, contents, word_count}
-use Rattle.capn_pack.specs.Refusal.{IsCut, IsTooLong, Stands}
+use Rattle.capn_pack.specs.Packed.{Group, IsGroup, texts, contents, word_count}
+use Rattle.capn_pack.specs.UnpackRefusal.{IsCut, IsTooLong, Stands}
 
 -- The bytes so far are whole groups, of these words, and then what is held: nothing, or the beginning of a group.
 -- `left` words are left of the maximum.

@@ -1,8 +1,8 @@
 -- What was written for bytes that have been read.
 use Rattle.std.specs.Prelude.{◌≡◌, ◌⊎◌, ℕ, List, [], Bool, true, false, Result, Ok, Err}
 use Rattle.capn_walk.specs.Limits.{Bounds}
-use Rattle.capn_tool.specs.Pieces.{IsPiece, IsNoPiece}
-use Rattle.capn_tool.specs.Sending.{Outgoing, Adds, Breaks}
+use Rattle.capn_tool.specs.MessageText.{IsPiece, IsNoPiece}
+use Rattle.capn_tool.specs.Outgoing.{Outgoing, Adds, Breaks}
 use Rattle.capn_tool.specs.declared.plan.Piece.{Piece}
 use Rattle.capn_tool.specs.declared.fault.ToolFault.{ToolFault}
 use Rattle.capn_tool.specs.declared.fault.ToolFault.TheVariants as faults

@@ -3,7 +3,7 @@ use Rattle.std.proofs.Common.{◌≡◌, Bool, true, false, cond, nat_lt, refl, 
 use Rattle.std.proofs.lemmas.Bool.{ltb-false, le-ltb}
 use Rattle.capn_value.specs.Tree.{Tree}
 use Rattle.capn_value.specs.declared.tariff.Tariff.TheVariants.{Plain}
-use Rattle.capn_value.specs.Sizes.{height, base, cost, most_cost, most_height}
+use Rattle.capn_value.specs.Cost.{height, base, cost, most_cost, most_height}
 use Rattle.capn_value.specs.Fits.{anywhere, is_wide, is_long, is_ragged, is_root, misfit, Fits, IsFit}
 use Rattle.capn_value.specs.declared.misfit.Misfit.{Misfit}
 use Rattle.capn_value.specs.declared.misfit.Misfit.TheVariants.{Wide, Long, Ragged, Costly, Tall, BadRoot}

@@ -4,7 +4,7 @@ use Rattle.capn_value.specs.declared.tariff.Tariff.{Tariff}
 use Rattle.capn_value.specs.declared.tariff.Tariff.TheVariants.{Strict, Plain}
 use Rattle.capn_value.specs.Tree.{Tree, nil, node, voids, bits, bytes, pairs, quads, octs, links, rows, cap, Trees}
 use Rattle.capn_value.specs.Tree.{no_trees, tree, Bodies, no_bodies, body, count, row_words}
-use Rattle.capn_value.specs.Sizes.{base, cost, costs, costs_in_rows, most_cost, dear}
+use Rattle.capn_value.specs.Cost.{base, cost, costs, costs_in_rows, most_cost, dear}
 use Rattle.capn_value.specs.Fits.{Fits}
 use Rattle.capn_value.proofs.shared.Fitting.{fit_parts}
 use Rattle.capn_value.proofs.shared.Prices.{row_words-le}

@@ -11,11 +11,10 @@ use Rattle.std.proofs.lemmas.List.FromFn.{length-map-range_with_len, get_or-map-
 use Rattle.std.proofs.lemmas.List.FromFn.{map-range_with_len_more}
 use Rattle.std.proofs.lemmas.Grind.{same_number_lists, common_steps}
 use Rattle.byteorder.specs.Endian.{little_number, IsRead}
-use Rattle.capn_words.specs.Message.{segment_at, bytes_at}
-use Rattle.capn_words.specs.Words.{word_bytes, bytes}
+use Rattle.capn_words.specs.Message.{segment_at, bytes_at, word_bytes, bytes}
 use Rattle.capn_words.specs.declared.space.Place.{Place}
 use Rattle.capn_words.proofs.shared.Words.{length-bytes, bytes-drop}
-use Rattle.capn_walk.specs.At.{element, AreElements, words_from}
+use Rattle.capn_walk.specs.ValueAt.{element, AreElements, words_from}
 
 -- a byte of a word
 byte-in_word : (w i : ℕ) (rest : List ℕ) → i < 8 → slice_index (word_bytes w ++ rest) i ≡ w / 256 ^ i % 256

@@ -7,7 +7,7 @@ use Rattle.capn_words.specs.declared.space.Place.{Place}
 use Rattle.capn_words.specs.declared.pointer.Width.TheVariants.{W0, W1, W8, W16, W32, W64, Link}
 use Rattle.capn_value.specs.Tree.{Tree, nil, node, voids, bits, bytes, pairs, quads, octs, links, rows, cap, Trees}
 use Rattle.capn_value.specs.Tree.{no_trees, tree, Bodies, no_bodies, body, count, count_rows, row_words}
-use Rattle.capn_value.specs.Sizes.{cost, costs, costs_in_rows, rows_price, height, most_cost, most_height}
+use Rattle.capn_value.specs.Cost.{cost, costs, costs_in_rows, rows_price, height, most_cost, most_height}
 use Rattle.capn_value.specs.Fits.{Fits, anywhere, anywhere_in, anywhere_in_rows, is_wide, is_wide_body, has_wide_row}
 use Rattle.capn_value.specs.Fits.{is_long, is_ragged, are_even, is_root, elements, words_in_rows}
 use Rattle.capn_value.proofs.shared.Fitting.{fit_from}
@@ -17,8 +17,8 @@ use Rattle.capn_value.proofs.shared.Prices.{rows_price-none}
 use Rattle.capn_walk.specs.declared.target.Shape.TheVariants as shapes
 use Rattle.capn_walk.specs.declared.target.Fault.TheVariants as faults
 use Rattle.capn_walk.specs.Visits.{fails, visits}
-use Rattle.capn_walk.specs.Stops.{AllPay, IsWithin, paid_of, root, visits_at_root, root_visits}
-use Rattle.capn_walk.specs.At.{IsAt, AreAt, RowsAt}
+use Rattle.capn_walk.specs.Accepted.{AllPay, IsWithin, paid_of, root, visits_at_root, root_visits}
+use Rattle.capn_walk.specs.ValueAt.{IsAt, AreAt, RowsAt}
 use Rattle.capn_walk.proofs.shared.Inside.{inside}
 use Rattle.capn_walk.proofs.shared.Ranges.{room-of}
 use Rattle.capn_walk.proofs.shared.Costs.{cost-paid}

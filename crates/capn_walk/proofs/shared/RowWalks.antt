@@ -6,14 +6,14 @@ use Rattle.std.proofs.lemmas.Grind.{flat_map-append}
 use Rattle.std.proofs.lemmas.List.{append-nil}
 use Rattle.capn_words.specs.declared.space.Place.{Place}
 use Rattle.capn_value.specs.Tree.{count, count_rows}
-use Rattle.capn_value.specs.View.{trees_of, rows_of}
+use Rattle.capn_value.specs.TreeOf.{trees_of, rows_of}
 use Rattle.capn_value.specs.declared.value.Body.{Body}
 use Rattle.capn_walk.specs.declared.target.Fault.{Fault}
 use Rattle.capn_walk.specs.declared.target.Fault.TheVariants as faults
-use Rattle.capn_walk.specs.declared.walked.Stopped.{Stopped}
+use Rattle.capn_walk.specs.declared.walk_answer.Stopped.{Stopped}
 use Rattle.capn_walk.specs.Visits.{Visit, places, row_places}
 use Rattle.capn_walk.specs.inner.Verdict.{accepted, refused, after, judge}
-use Rattle.capn_walk.specs.At.{AreAt, RowsAt, AreWords, words_from}
+use Rattle.capn_walk.specs.ValueAt.{AreAt, RowsAt, AreWords, words_from}
 use Rattle.capn_walk.specs.inner.Verdict.{Gives, Refuses}
 use Rattle.capn_walk.proofs.shared.Judge.{judge-more, judge-stops}
 

@@ -3,8 +3,7 @@ use Rattle.std.proofs.Common.{◌≡◌, ℕ, ◌<◌, ◌≤◌, List, [], leng
 use Rattle.std.proofs.lemmas.Bool.Decides.{nat_tests}
 use Rattle.std.proofs.Math.ListN.{get_or-eq_default}
 use Rattle.std.proofs.lemmas.List.Sums.{get_or-le-sum_by}
-use Rattle.capn_words.specs.Limits.{most_words}
-use Rattle.capn_words.specs.Message.{segment_at, words_of, IsMessage}
+use Rattle.capn_words.specs.Message.{most_words, segment_at, words_of, IsMessage}
 use Rattle.capn_words.proofs.shared.Choices.{pick}
 
 -- a segment that is not there has no words

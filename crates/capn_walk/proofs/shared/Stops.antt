@@ -6,7 +6,7 @@ use Rattle.capn_words.specs.declared.space.Place.{Place}
 use Rattle.capn_walk.specs.declared.target.Fault.{Fault}
 use Rattle.capn_walk.specs.declared.target.Fault.TheVariants as faults
 use Rattle.capn_walk.specs.Visits.{Visit, pays, fails}
-use Rattle.capn_walk.specs.Stops.{paid_of, AllPay, IsWithin, IsStop, Ends}
+use Rattle.capn_walk.specs.Accepted.{paid_of, AllPay, IsWithin, IsStop, Ends}
 use Rattle.capn_walk.specs.inner.Verdict.{accepted, refused, after, judge}
 use Rattle.capn_walk.proofs.shared.Judge.{judge-pays, judge-over, judge-more}
 

@@ -11,7 +11,7 @@ use Rattle.capn_walk.specs.declared.target.Target.{Target}
 use Rattle.capn_walk.specs.declared.target.Target.TheVariants as targets
 use Rattle.capn_walk.specs.declared.target.Shape.{Shape}
 use Rattle.capn_walk.specs.Target.{target}
-use Rattle.capn_walk.specs.At.{IsAt, AreAt, RowsAt, IsInside, AreWords, AreElements, words_from}
+use Rattle.capn_walk.specs.ValueAt.{IsAt, AreAt, RowsAt, IsInside, AreWords, AreElements, words_from}
 
 same-bits : (xs ys : List Bool) → map from_bool xs ≡ map from_bool ys → xs ≡ ys
 same-bits [] [] e = refl

@@ -3,7 +3,7 @@ use Rattle.std.specs.Prelude.{◌≡◌, ◌≢◌, ℕ, zero, suc, List, [], �
 use Rattle.capn_walk.specs.declared.entry.Entry.{Entry}
 use Rattle.capn_walk.specs.declared.entry.Indexed.{Indexed}
 use Rattle.capn_walk.specs.declared.target.Fault.TheVariants as faults
-use Rattle.capn_walk.specs.declared.walked.Stopped.{Stopped}
+use Rattle.capn_walk.specs.declared.walk_answer.Stopped.{Stopped}
 use Rattle.capn_walk.specs.inner.Verdict.{Gives, Refuses}
 use Rattle.capn_walk.specs.Visits.{Visit}
 

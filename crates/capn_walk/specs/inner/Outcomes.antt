@@ -3,17 +3,17 @@
 use Rattle.std.specs.Prelude.{◌≡◌, ◌≢◌, ℕ, ◌-◌, ◌*◌, ◌<◌, ◌≤◌, List, ◌∷◌, Result, Ok, Err}
 use Rattle.capn_words.specs.declared.space.Place.{Place}
 use Rattle.capn_value.specs.Tree.{count, count_rows}
-use Rattle.capn_value.specs.View.{tree_of, trees_of, rows_of}
+use Rattle.capn_value.specs.TreeOf.{tree_of, trees_of, rows_of}
 use Rattle.capn_walk.specs.declared.found.Found.{Found}
 use Rattle.capn_walk.specs.declared.found.FoundRows.{FoundRows}
 use Rattle.capn_walk.specs.declared.found.FoundSlots.{FoundSlots}
 use Rattle.capn_walk.specs.declared.target.Shape.{Shape}
 use Rattle.capn_walk.specs.declared.target.Fault.{Fault}
 use Rattle.capn_walk.specs.declared.target.Fault.TheVariants as faults
-use Rattle.capn_walk.specs.declared.surveyed.Surveyed.{Surveyed}
-use Rattle.capn_walk.specs.declared.visited.Visited.{Visited}
-use Rattle.capn_walk.specs.declared.walked.Stopped.{Stopped}
-use Rattle.capn_walk.specs.At.{IsAt, AreAt, RowsAt, IsInside}
+use Rattle.capn_walk.specs.declared.survey_answer.Surveyed.{Surveyed}
+use Rattle.capn_walk.specs.declared.survey_visit.Visited.{Visited}
+use Rattle.capn_walk.specs.declared.walk_answer.Stopped.{Stopped}
+use Rattle.capn_walk.specs.ValueAt.{IsAt, AreAt, RowsAt, IsInside}
 use Rattle.capn_walk.specs.inner.SlotsLeft.{Lies, owed, places_of}
 use Rattle.capn_walk.specs.Shapes.{slot_count}
 use Rattle.capn_walk.specs.Surveyed.{cap_of, first_cap_of}

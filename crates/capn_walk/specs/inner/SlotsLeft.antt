@@ -2,8 +2,8 @@
 use Rattle.std.specs.Prelude.{ℕ, ◌+◌, ◌-◌, ◌*◌, ◌<◌, ◌≤◌, List, [], ◌∷◌, ◌++◌, length, ⊤}
 use Rattle.capn_words.specs.declared.space.Place.{Place}
 use Rattle.capn_words.specs.Message.{segment_at}
-use Rattle.capn_walk.specs.declared.frame.Frame.{Frame}
-use Rattle.capn_walk.specs.declared.frame.Waiting.{Waiting}
+use Rattle.capn_walk.specs.declared.slots_left.Frame.{Frame}
+use Rattle.capn_walk.specs.declared.slots_left.Waiting.{Waiting}
 use Rattle.capn_walk.specs.Visits.{Visit, places, row_places, visits_of}
 
 -- the places of an object's slots that are left, in order

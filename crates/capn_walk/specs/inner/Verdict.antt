@@ -4,9 +4,9 @@ use Rattle.capn_words.specs.Message.{segment_at}
 use Rattle.capn_words.specs.declared.space.Place.{Place}
 use Rattle.capn_walk.specs.declared.target.Fault.{Fault}
 use Rattle.capn_walk.specs.declared.target.Fault.TheVariants as faults
-use Rattle.capn_walk.specs.declared.walked.Stopped.{Stopped}
+use Rattle.capn_walk.specs.declared.walk_answer.Stopped.{Stopped}
 use Rattle.capn_walk.specs.Visits.{Visit, pays, fails}
-use Rattle.capn_walk.specs.Stops.{root, root_visits}
+use Rattle.capn_walk.specs.Accepted.{root, root_visits}
 
 -- accepted: what was paid, and the number of visits; refused: the fault, the place, what was paid before, and the
 -- number of the visit

@@ -2,8 +2,7 @@
 use Rattle.std.proofs.Common.{◌≡◌, ℕ, suc, ◌-◌, ◌^◌, ◌<◌, ◌≤◌, ◌==◌, nat_lt, Bool, true, false, ℤ, pos}
 use Rattle.std.proofs.Common.{negsuc, refl, ap, ◌∙◌, arith}
 use Rattle.std.specs.Int.{from_bool}
-use Rattle.capn_words.specs.Fields.{FitsOffset, offset_field, width_code}
-use Rattle.capn_words.specs.Pointers.{signed, width_of}
+use Rattle.capn_words.specs.Pointers.{FitsOffset, offset_field, width_code, signed, width_of}
 use Rattle.capn_words.specs.declared.pointer.Width.{Width}
 use Rattle.capn_words.specs.declared.pointer.Width.TheVariants.{W0, W1, W8, W16, W32, W64, Link, Rows}
 use Rattle.capn_words.proofs.shared.Choices.{if-yes, if-no, less-yes, less-no}

@@ -1,11 +1,10 @@
 -- A message of one segment, read from its bytes in one way, or refused for one reason.
 use Rattle.std.proofs.Common.{◌≡◌, ℕ, zero, suc, ◌*◌, ◌/◌, ◌%◌, ◌^◌, ◌<◌, ◌≤◌, List, [], ◌∷◌, length, drop, slice_index}
 use Rattle.std.proofs.Common.{Err, refl, ap, sym, subst, ◌∙◌, arith}
-use Rattle.capn_words.specs.Limits.{most_words}
-use Rattle.capn_words.specs.Words.{word_number, words_in, bytes, AreBytes, AreWords, IsBare, ReadsBare}
+use Rattle.capn_words.specs.Message.{most_words, word_number, words_in, bytes, AreBytes, AreWords, IsBare, ReadsBare}
+use Rattle.capn_words.specs.Message.{IsMessage, segment_at}
 use Rattle.capn_words.specs.declared.bare.BareFault.{BareFault}
 use Rattle.capn_words.specs.declared.bare.BareFault.TheVariants.{NotWhole, TooLong}
-use Rattle.capn_words.specs.Message.{IsMessage, segment_at}
 use Rattle.capn_words.proofs.shared.Words.{length-words_in, word_in, words_below, bytes_of_words, length-bytes}
 use Rattle.capn_words.proofs.shared.Words.{words_of_bytes}
 

@@ -1,8 +1,8 @@
 -- A pointer that fits has one word, of which `pointer_of` reads it, and no other pointer has that word.
 use Rattle.std.proofs.Common.{◌≡◌, ◌≢◌, ℕ, ◌+◌, ◌*◌, ◌/◌, ◌%◌, ◌^◌, ◌<◌, ◌==◌, Bool, ℤ, refl, ap, ◌∙◌, arith}
 use Rattle.std.specs.Int.{from_bool}
-use Rattle.capn_words.specs.Fields.{Fields, Fits, FitsOffset, offset_field, width_code, word_of}
-use Rattle.capn_words.specs.Pointers.{field, signed, width_of, other_pointer, pointer_of}
+use Rattle.capn_words.specs.Pointers.{Fields, Fits, FitsOffset, offset_field, width_code, word_of, field, signed}
+use Rattle.capn_words.specs.Pointers.{width_of, other_pointer, pointer_of}
 use Rattle.capn_words.specs.declared.pointer.Pointer.{Pointer}
 use Rattle.capn_words.specs.declared.pointer.Pointer.TheVariants.{Nil, Node, Many, Far, Cap, Reserved}
 use Rattle.capn_words.specs.declared.pointer.Width.{Width}

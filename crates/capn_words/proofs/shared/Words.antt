@@ -8,7 +8,7 @@ use Rattle.std.proofs.lemmas.List.{drop-drop, get_or-drop, drop_at, take-append-
 use Rattle.std.proofs.lemmas.List.{nil_from_length}
 use Rattle.byteorder.specs.Endian.{little_from}
 use Rattle.byteorder.specs.Numbers.{little_from-cons, little_from-lt, little_number-reads_back}
-use Rattle.capn_words.specs.Words.{word_bytes, word_number, words_in, bytes, AreBytes, AreWords}
+use Rattle.capn_words.specs.Message.{word_bytes, word_number, words_in, bytes, AreBytes, AreWords}
 
 -- a byte further on is that byte of what is left
 byte_at-suc : (i x : ℕ) → byte_at (suc i) x ≡ byte_at i (x / 256)

@@ -1,6 +1,6 @@
 use Rattle.std.proofs.Common.{Result, Err, sym, subst}
-use Rattle.capn_words.specs.Watching.{inner_of, has_failed}
-use Rattle.capn_archive.specs.Archived.{Archived, archive_finish, archive_fold, first_run}
+use Rattle.capn_words.specs.Watched.{inner_of, has_failed}
+use Rattle.capn_archive.specs.ArchiveRun.{Archived, archive_finish, archive_fold, first_run}
 use Rattle.capn_archive.specs.declared.fault.ArchiveFault.{ArchiveFault}
 use Rattle.capn_archive.proofs.Finishes.{finished_closed, finished_stopped, finished_unclosed}
 use Rattle.capn_archive.proofs.archive_run.run_archive.Goals as goal

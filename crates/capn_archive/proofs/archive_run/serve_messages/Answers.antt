@@ -1,6 +1,6 @@
 use Rattle.std.proofs.Common.{ℕ}
-use Rattle.capn_words.specs.Watching.{inner_of, has_failed}
-use Rattle.capn_archive.specs.Archived.{first_run}
+use Rattle.capn_words.specs.Watched.{inner_of, has_failed}
+use Rattle.capn_archive.specs.ArchiveRun.{first_run}
 use Rattle.capn_archive.specs.Tasks.{refuses, serves}
 use Rattle.capn_serve.specs.Fold.{fold_of}
 use Rattle.capn_archive.proofs.Finishes.{of_order}

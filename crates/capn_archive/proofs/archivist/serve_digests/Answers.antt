@@ -4,13 +4,13 @@ use Rattle.capn_serve.specs.declared.fault.ServeFault.{ServeFault}
 use Rattle.capn_serve.specs.declared.fault.ServeFault.TheVariants as faults
 use Rattle.capn_serve.specs.declared.position.Position.{Position}
 use Rattle.capn_archive.specs.Digest.{IsDigestIfAny}
-use Rattle.capn_archive.specs.Framed.{PutsText}
+use Rattle.capn_archive.specs.CanonicalFrame.{PutsText}
 use Rattle.capn_archive.specs.Lines.{digests_line}
-use Rattle.capn_archive.specs.Message.{head_of, AreFindings}
+use Rattle.capn_archive.specs.Findings.{head_of, AreFindings}
 use Rattle.capn_archive.specs.Tasks.{Serves}
 use Rattle.capn_archive.specs.declared.findings.Findings.{Findings}
 use Rattle.capn_archive.specs.declared.head.Head.{Head}
-use Rattle.capn_archive.specs.declared.order.Task.TheVariants as tasks
+use Rattle.capn_archive.specs.declared.task.Task.TheVariants as tasks
 use Rattle.capn_archive.specs.declared.tally.Tally.{Tally}
 use Rattle.capn_archive.proofs.archivist.serve_digests.Goals as goal
 

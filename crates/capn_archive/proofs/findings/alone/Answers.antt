@@ -1,6 +1,6 @@
 use Rattle.std.proofs.Common.{ℕ, ◌*◌, ap, ◌∙◌, arith}
 use Rattle.capn_words.specs.Message.{bytes_at}
-use Rattle.capn_walk.specs.Stops.{root}
+use Rattle.capn_walk.specs.Accepted.{root}
 use Rattle.capn_archive.proofs.OneSegment.{first_words, one_segment}
 use Rattle.capn_archive.proofs.findings.alone.Goals as goal
 

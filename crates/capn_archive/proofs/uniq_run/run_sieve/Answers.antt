@@ -1,7 +1,7 @@
 use Rattle.std.proofs.Common.{ℕ, Result, Ok, Err, sym, subst}
-use Rattle.capn_words.specs.Watching.{inner_of, has_failed}
+use Rattle.capn_words.specs.Watched.{inner_of, has_failed}
 use Rattle.capn_archive.specs.Finish.{Finished}
-use Rattle.capn_archive.specs.Uniq.{first_run, sieve_finish, sieve_fold}
+use Rattle.capn_archive.specs.UniqRun.{first_run, sieve_finish, sieve_fold}
 use Rattle.capn_archive.specs.declared.fault.ArchiveFault.{ArchiveFault}
 use Rattle.capn_archive.proofs.Finishes.{finished_closed, finished_stopped, finished_unclosed, of_order}
 use Rattle.capn_archive.specs.Sieve.{refuses, serves}

@@ -1,6 +1,6 @@
 use Rattle.std.proofs.Common.{ℕ, ◌*◌, List, ap, subst, sym, ◌∙◌, arith}
 use Rattle.capn_words.specs.Message.{bytes_at}
-use Rattle.capn_walk.specs.Stops.{root}
+use Rattle.capn_walk.specs.Accepted.{root}
 use Rattle.capn_canon.specs.inner.Outcomes.{IsCanonicalised}
 use Rattle.capn_canon.proofs.OneBare.{one-bare, first-words}
 use Rattle.capn_canon.proofs.canonical.canonical_here.Goals as goal

@@ -1,5 +1,5 @@
 use Rattle.std.proofs.Common.{sym, arith, subst, ℕ}
-use Rattle.capn_walk.specs.Stops.{root}
+use Rattle.capn_walk.specs.Accepted.{root}
 use Rattle.capn_canon.specs.inner.ReadyPlaces.{IsReady}
 use Rattle.capn_canon.proofs.AtRoot.{root-ready}
 use Rattle.capn_canon.proofs.canonical.canonical_in.Goals as goal

@@ -1,5 +1,5 @@
 use Rattle.std.proofs.Common.{◌≡◌, ◌+◌, ◌-◌, ◌*◌, ◌∙◌, arith}
-use Rattle.capn_walk.specs.At.{words_from}
+use Rattle.capn_walk.specs.ValueAt.{words_from}
 use Rattle.capn_walk.proofs.shared.RowWalks.{row-inside}
 use Rattle.capn_walk.proofs.shared.Segments.{segment-room}
 use Rattle.capn_canon.proofs.Cut.{part-le}

@@ -1,5 +1,5 @@
 use Rattle.std.proofs.Common.{ℕ, List, [], ◌∷◌, ◌++◌, Option, Some, sym, ap, ap₂, subst, ◌∙◌}
-use Rattle.capn_value.specs.View.{tree_of}
+use Rattle.capn_value.specs.TreeOf.{tree_of}
 use Rattle.capn_words.specs.Message.{bytes}
 use Rattle.capn_canon.specs.Patch.{filled, IsWhole}
 use Rattle.capn_canon.specs.Layout.{words}

@@ -1,6 +1,6 @@
 use Rattle.std.proofs.Common.{◌≡◌, ◌-◌, ◌^◌, length, false}
 use Rattle.std.specs.Io.KnownBytes.{Consumes}
-use Rattle.capn_words.specs.Watching.{inner_of, has_failed}
+use Rattle.capn_words.specs.Watched.{inner_of, has_failed}
 use Rattle.capn_make.proofs.input.read_all.Given as goal
 
 -- the reader has not failed, and its bytes so far are kept

@@ -1,5 +1,5 @@
 use Rattle.std.proofs.Common.{arith, ap, sym, ◌∙◌, ◌++◌, ◌∷◌, take}
-use Rattle.capn_pack.specs.Group.{tag_of, named_bytes}
+use Rattle.capn_pack.specs.Packed.{tag_of, named_bytes}
 use Rattle.capn_pack.proofs.PutLemmas.{puts_zeros, puts_named}
 use Rattle.capn_pack.proofs.pack_block.store_group.Goals as goal
 

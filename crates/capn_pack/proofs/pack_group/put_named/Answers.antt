@@ -1,6 +1,6 @@
 use Rattle.std.proofs.Common.{ap, ◌∙◌, ◌++◌, ◌∷◌}
 use Rattle.capn_pack.proofs.PutLemmas.{puts_named}
-use Rattle.capn_pack.specs.Group.{named_bytes}
+use Rattle.capn_pack.specs.Packed.{named_bytes}
 use Rattle.capn_pack.proofs.pack_group.put_named.Goals as goal
 
 pub returns : goal.returns

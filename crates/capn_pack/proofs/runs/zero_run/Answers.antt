@@ -1,6 +1,6 @@
 use Rattle.std.proofs.Common.{arith, ap, sym, ◌∙◌, length}
 use Rattle.capn_pack.proofs.RunLemmas.{zero_more, no_word}
-use Rattle.capn_pack.specs.Group.{tag_of}
+use Rattle.capn_pack.specs.Packed.{tag_of}
 use Rattle.capn_pack.proofs.runs.zero_run.Goals as goal
 
 pub loop-count-preserved : goal.loop-count-preserved

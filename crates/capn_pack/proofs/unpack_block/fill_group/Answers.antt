@@ -2,7 +2,7 @@ use Rattle.std.proofs.Common.{arith, ap, sym, subst, ◌≡◌, ◌<◌, ◌≤�
 use Rattle.std.proofs.Common.{slice_range, replicate, ◌+◌, ◌-◌, ◌*◌, ◌^◌}
 use Rattle.std.proofs.lemmas.List.{take-replicate}
 use Rattle.std.specs.Prelude.{count_ones}
-use Rattle.capn_pack.specs.Group.Group.{Zeros, Named}
+use Rattle.capn_pack.specs.Packed.Group.{Zeros, Named}
 use Rattle.capn_pack.specs.inner.Steps.{Takes}
 use Rattle.capn_pack.proofs.shared.GroupLemmas.{take_first, take_tail, take_two, length_rest, byte_of_rest}
 use Rattle.capn_pack.proofs.LaneLemmas.{eight_ones, stored}

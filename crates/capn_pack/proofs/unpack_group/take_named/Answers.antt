@@ -2,7 +2,7 @@ use Rattle.std.proofs.Common.{arith, ap, sym, ◌∙◌, refl, ◌∷◌, ◌+�
 use Rattle.std.specs.Prelude.{count_ones}
 use Rattle.capn_pack.proofs.shared.GroupLemmas.{take_first, take_tail}
 use Rattle.capn_pack.proofs.StartLemmas.{memory_gives}
-use Rattle.capn_pack.specs.Group.Group.{Named}
+use Rattle.capn_pack.specs.Packed.Group.{Named}
 use Rattle.capn_pack.proofs.unpack_group.take_named.Goals as goal
 
 pub returns : goal.returns

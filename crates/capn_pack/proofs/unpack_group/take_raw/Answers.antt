@@ -1,7 +1,7 @@
 use Rattle.std.proofs.Common.{arith, ap, ◌∙◌, refl, ◌∷◌, ◌++◌, get_or, slice_range, append_assoc, ◌+◌, ◌*◌}
 use Rattle.capn_pack.proofs.shared.GroupLemmas.{take_raw_text, raw_is_group}
 use Rattle.capn_pack.proofs.StartLemmas.{memory_gives}
-use Rattle.capn_pack.specs.Group.Group.{Raw}
+use Rattle.capn_pack.specs.Packed.Group.{Raw}
 use Rattle.capn_pack.proofs.unpack_group.take_raw.Goals as goal
 
 pub returns : goal.returns

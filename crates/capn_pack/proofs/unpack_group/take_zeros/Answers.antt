@@ -1,7 +1,7 @@
 use Rattle.std.proofs.Common.{arith, ap, ◌∙◌, refl, ◌∷◌, [], get_or, vec_len, ◌*◌, ◌+◌}
 use Rattle.capn_pack.proofs.shared.GroupLemmas.{take_two, resized}
 use Rattle.capn_pack.proofs.StartLemmas.{memory_gives}
-use Rattle.capn_pack.specs.Group.Group.{Zeros}
+use Rattle.capn_pack.specs.Packed.Group.{Zeros}
 use Rattle.capn_pack.proofs.unpack_group.take_zeros.Goals as goal
 
 pub returns : goal.returns

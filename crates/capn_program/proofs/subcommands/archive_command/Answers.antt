@@ -1,6 +1,6 @@
-use Rattle.capn_tool.specs.Line.{message_line}
+use Rattle.capn_tool.specs.CommandLine.{message_line}
 use Rattle.capn_tool.proofs.shared.CommandLines.{answers_option}
-use Rattle.capn_program.specs.Line.{keep_going_rule}
+use Rattle.capn_program.specs.CommandLine.{keep_going_rule}
 use Rattle.capn_program.proofs.subcommands.archive_command.Goals as goal
 
 pub returns : goal.returns

@@ -1,4 +1,4 @@
-use Rattle.capn_program.specs.Line.{messages_line, packing_line, unpacking_line}
+use Rattle.capn_program.specs.CommandLine.{messages_line, packing_line, unpacking_line}
 use Rattle.capn_program.proofs.subcommands.bytes_command.Goals as goal
 
 pub returns : goal.returns

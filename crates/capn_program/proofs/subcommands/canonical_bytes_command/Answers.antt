@@ -1,4 +1,4 @@
-use Rattle.capn_program.specs.Line.{canonical_line, surveying_line}
+use Rattle.capn_program.specs.CommandLine.{canonical_line, surveying_line}
 use Rattle.capn_program.proofs.subcommands.canonical_bytes_command.Goals as goal
 
 pub returns : goal.returns

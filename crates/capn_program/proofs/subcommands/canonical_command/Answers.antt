@@ -1,9 +1,9 @@
 use Rattle.std.proofs.Common.{codes}
 use Rattle.std.proofs.lemmas.Result.{IfOk-at_ok}
 use Rattle.clap.specs.Words.{with_rule}
-use Rattle.capn_tool.specs.Line.{HasLine, message_line}
+use Rattle.capn_tool.specs.CommandLine.{HasLine, message_line}
 use Rattle.capn_tool.proofs.shared.CommandLines.{answers_option}
-use Rattle.capn_program.specs.Line.{framed_rule, keep_going_rule}
+use Rattle.capn_program.specs.CommandLine.{framed_rule, keep_going_rule}
 use Rattle.capn_program.proofs.subcommands.canonical_command.Goals as goal
 
 pub returns : goal.returns

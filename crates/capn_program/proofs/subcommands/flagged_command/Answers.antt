@@ -1,5 +1,5 @@
 use Rattle.capn_tool.proofs.shared.CommandLines.{answers_option}
-use Rattle.capn_program.specs.Line.{archive_line, flag_rule}
+use Rattle.capn_program.specs.CommandLine.{archive_line, flag_rule}
 use Rattle.capn_program.proofs.subcommands.flagged_command.Goals as goal
 
 pub returns : goal.returns

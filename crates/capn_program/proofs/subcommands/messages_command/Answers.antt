@@ -1,4 +1,4 @@
-use Rattle.capn_program.specs.Line.{canonical_bytes_line, pick_line, uniq_line}
+use Rattle.capn_program.specs.CommandLine.{canonical_bytes_line, pick_line, uniq_line}
 use Rattle.capn_program.proofs.subcommands.messages_command.Goals as goal
 
 pub returns : goal.returns

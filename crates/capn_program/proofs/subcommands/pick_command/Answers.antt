@@ -1,9 +1,9 @@
 use Rattle.std.proofs.Common.{◌≡◌, ap, ap₂, [], ◌∷◌, List, subst, IfOk, codes}
 use Rattle.clap.specs.Words.{AddsArg, AddsInTurn, App, new_app, with_rule}
 use Rattle.clap.specs.declared.builder.arg.Arg.{Arg}
-use Rattle.capn_tool.specs.Line.{HasLine}
+use Rattle.capn_tool.specs.CommandLine.{HasLine}
 use Rattle.capn_tool.proofs.shared.CommandLines.{answers_options, with_options}
-use Rattle.capn_program.specs.Line.{pick_line}
+use Rattle.capn_program.specs.CommandLine.{pick_line}
 use Rattle.capn_program.proofs.subcommands.pick_command.Goals as goal
 
 pub returns : goal.returns

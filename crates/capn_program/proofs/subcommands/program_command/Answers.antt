@@ -1,4 +1,4 @@
-use Rattle.capn_program.specs.Line.{bytes_line, make_line}
+use Rattle.capn_program.specs.CommandLine.{bytes_line, make_line}
 use Rattle.capn_program.proofs.subcommands.program_command.Goals as goal
 
 pub returns : goal.returns

@@ -1,4 +1,4 @@
-use Rattle.capn_program.specs.Line.{top_line}
+use Rattle.capn_program.specs.CommandLine.{top_line}
 use Rattle.capn_program.proofs.subcommands.reading_command.Goals as goal
 
 pub returns : goal.returns

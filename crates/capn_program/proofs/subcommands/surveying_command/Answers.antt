@@ -1,5 +1,5 @@
 use Rattle.std.proofs.Common.{codes}
-use Rattle.capn_program.specs.Line.{archive_line, list_line, reading_line}
+use Rattle.capn_program.specs.CommandLine.{archive_line, list_line, reading_line}
 use Rattle.capn_program.proofs.subcommands.surveying_command.Goals as goal
 
 pub returns : goal.returns

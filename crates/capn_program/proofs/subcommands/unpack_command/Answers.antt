@@ -1,6 +1,6 @@
-use Rattle.capn_tool.specs.Line.{unpack_line}
+use Rattle.capn_tool.specs.CommandLine.{unpack_line}
 use Rattle.capn_tool.proofs.shared.CommandLines.{answers_option}
-use Rattle.capn_program.specs.Line.{streaming_rule}
+use Rattle.capn_program.specs.CommandLine.{streaming_rule}
 use Rattle.capn_program.proofs.subcommands.unpack_command.Goals as goal
 
 pub returns : goal.returns

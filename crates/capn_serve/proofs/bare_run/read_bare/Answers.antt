@@ -1,6 +1,6 @@
 use Rattle.std.proofs.Common.{◌*◌, ◌≤◌, refl, arith}
 use Rattle.std.proofs.lemmas.Result.{err_from_is_err_and}
-use Rattle.capn_words.specs.Limits.{most_words}
+use Rattle.capn_words.specs.Message.{most_words}
 use Rattle.capn_serve.proofs.BareEnds.{read_long, read_short, unread_bare}
 use Rattle.capn_serve.proofs.bare_run.read_bare.Goals as goal
 

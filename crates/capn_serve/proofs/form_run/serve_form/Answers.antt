@@ -1,5 +1,5 @@
 use Rattle.std.proofs.Common.{sym, subst}
-use Rattle.capn_words.specs.Watching.{inner_of, has_failed}
+use Rattle.capn_words.specs.Watched.{inner_of, has_failed}
 use Rattle.capn_canon.specs.declared.form.Form.{Form}
 use Rattle.capn_serve.specs.Fold.{fold_of}
 use Rattle.capn_serve.specs.FormRun.{ServesMessages}

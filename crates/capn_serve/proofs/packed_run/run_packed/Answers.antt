@@ -1,14 +1,14 @@
 use Rattle.std.proofs.Common.{◌≡◌, ◌+◌, ◌<◌, ◌^◌, ◌∙◌, ℕ, List, [], Option, false, drop, length, length-take, ap, sym}
 use Rattle.std.proofs.Common.{subst, arith}
 use Rattle.std.proofs.lemmas.Result.{err_from_is_err_and}
-use Rattle.capn_words.specs.Watching.{inner_of}
-use Rattle.capn_pack.specs.Stream.{Held}
-use Rattle.capn_stream.specs.Framing.{Framing, IsUnfinished}
+use Rattle.capn_words.specs.Watched.{inner_of}
+use Rattle.capn_pack.specs.PackedPieces.{Held}
+use Rattle.capn_stream.specs.StreamPieces.{Framing, IsUnfinished}
 use Rattle.capn_serve.specs.declared.position.Position.{Position}
 use Rattle.capn_serve.specs.Fold.{Fold, fold_of}
-use Rattle.capn_serve.specs.Serving.{HasRoom, IsListening}
+use Rattle.capn_serve.specs.ChunkRun.{HasRoom, IsListening}
 use Rattle.capn_serve.specs.StreamRun.{start}
-use Rattle.capn_serve.specs.PackedServing.{EndsPacked, HearsPacked, IsUnpacking, Pending, fresh, pending}
+use Rattle.capn_serve.specs.PackedChunkRun.{EndsPacked, HearsPacked, IsUnpacking, Pending, fresh, pending}
 use Rattle.capn_serve.proofs.InputRead.{has_broken, still_fine}
 use Rattle.capn_serve.proofs.Next.{empty_unfinished}
 use Rattle.capn_serve.proofs.PackedEnds.{packed_begin, packed_end, packed_hears, packed_long, packed_stopped}

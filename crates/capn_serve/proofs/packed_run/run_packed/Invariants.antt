@@ -1,9 +1,9 @@
 use Rattle.std.proofs.Common.{◌≡◌, ◌≤◌, ◌+◌, ◌-◌, length, false}
-use Rattle.capn_words.specs.Watching.{inner_of, has_failed}
+use Rattle.capn_words.specs.Watched.{inner_of, has_failed}
 use Rattle.capn_serve.specs.Fold.{fold_of}
-use Rattle.capn_serve.specs.Serving.{HasRoom, IsListening}
+use Rattle.capn_serve.specs.ChunkRun.{HasRoom, IsListening}
 use Rattle.capn_serve.specs.PackedRun.{most_packed}
-use Rattle.capn_serve.specs.PackedServing.{HearsPacked, pending}
+use Rattle.capn_serve.specs.PackedChunkRun.{HearsPacked, pending}
 use Rattle.capn_serve.proofs.packed_run.run_packed.Given as goal
 
 -- neither has failed, and the whole messages in what the bytes so far unpack to are served

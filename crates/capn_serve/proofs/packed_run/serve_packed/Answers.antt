@@ -1,5 +1,5 @@
 use Rattle.capn_serve.specs.Fold.{fold_of}
-use Rattle.capn_serve.specs.PackedServing.{pending}
+use Rattle.capn_serve.specs.PackedChunkRun.{pending}
 use Rattle.capn_serve.proofs.PackedMore.{packed_chunk}
 use Rattle.capn_serve.proofs.packed_run.serve_packed.Goals as goal
 

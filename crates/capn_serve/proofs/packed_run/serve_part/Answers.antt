@@ -2,7 +2,7 @@ use Rattle.std.proofs.Common.{ℕ, List, length, ap, subst, arith}
 use Rattle.std.proofs.lemmas.Result.{err_from_is_err_and}
 use Rattle.capn_serve.specs.Fold.{fold_of}
 use Rattle.capn_serve.proofs.PackedMore.{part_long, part_stops}
-use Rattle.capn_stream.specs.Framing.{IsUnfinished}
+use Rattle.capn_stream.specs.StreamPieces.{IsUnfinished}
 use Rattle.capn_serve.proofs.packed_run.serve_part.Goals as goal
 
 pub returns-in_err-serve_bytes-clause-served : goal.returns-in_err-serve_bytes-clause-served

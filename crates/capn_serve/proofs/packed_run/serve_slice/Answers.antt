@@ -1,5 +1,5 @@
 use Rattle.capn_serve.specs.Fold.{fold_of}
-use Rattle.capn_serve.specs.PackedServing.{pending}
+use Rattle.capn_serve.specs.PackedChunkRun.{pending}
 use Rattle.capn_serve.proofs.PackedMore.{packed_memory, served_slice}
 use Rattle.capn_serve.proofs.packed_run.serve_slice.Goals as goal
 

@@ -1,10 +1,10 @@
 use Rattle.std.proofs.Common.{ℕ, List, subst, arith}
 use Rattle.std.proofs.Math.Seq.{take_all}
 use Rattle.std.proofs.lemmas.Result.{err_from_is_err_and}
-use Rattle.capn_words.specs.Watching.{inner_of}
+use Rattle.capn_words.specs.Watched.{inner_of}
 use Rattle.capn_serve.specs.Fold.{fold_of}
-use Rattle.capn_serve.specs.Sending.{outgoing}
-use Rattle.capn_serve.specs.PackedServing.{TellsPacked, pending}
+use Rattle.capn_serve.specs.Outgoing.{outgoing}
+use Rattle.capn_serve.specs.PackedChunkRun.{TellsPacked, pending}
 use Rattle.capn_serve.proofs.PackedMore.{packed_none, packed_room, slice_more, slice_stop}
 use Rattle.capn_serve.proofs.packed_run.serve_slices.Goals as goal
 

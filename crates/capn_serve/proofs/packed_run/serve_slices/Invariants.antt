@@ -1,9 +1,9 @@
 use Rattle.std.proofs.Common.{◌≡◌, ◌≤◌, ◌+◌, ◌-◌, length, take, false}
-use Rattle.capn_words.specs.Watching.{inner_of, has_failed}
+use Rattle.capn_words.specs.Watched.{inner_of, has_failed}
 use Rattle.capn_serve.specs.Fold.{fold_of}
-use Rattle.capn_serve.specs.Sending.{outgoing}
-use Rattle.capn_serve.specs.Serving.{HasRoom, IsListening}
-use Rattle.capn_serve.specs.PackedServing.{TellsPacked, pending}
+use Rattle.capn_serve.specs.Outgoing.{outgoing}
+use Rattle.capn_serve.specs.ChunkRun.{HasRoom, IsListening}
+use Rattle.capn_serve.specs.PackedChunkRun.{TellsPacked, pending}
 use Rattle.capn_serve.proofs.packed_run.serve_slices.Given as goal
 
 -- the messages that the bytes so far made whole are served

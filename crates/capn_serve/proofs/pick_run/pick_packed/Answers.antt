@@ -1,15 +1,15 @@
 use Rattle.std.proofs.Common.{◌≡◌, ◌+◌, ◌≤◌, ◌∙◌, ℕ, List, [], Option, false, drop, length, length-take, ap, sym}
 use Rattle.std.proofs.Common.{subst, arith}
-use Rattle.capn_words.specs.Watching.{inner_of}
-use Rattle.capn_pack.specs.Stream.{Held}
-use Rattle.capn_stream.specs.Framing.{Framing, IsUnfinished}
+use Rattle.capn_words.specs.Watched.{inner_of}
+use Rattle.capn_pack.specs.PackedPieces.{Held}
+use Rattle.capn_stream.specs.StreamPieces.{Framing, IsUnfinished}
 use Rattle.capn_serve.specs.declared.pick.Pick.{Pick}
 use Rattle.capn_serve.specs.declared.service.Run.{Run}
 use Rattle.capn_serve.specs.Fold.{Fold}
 use Rattle.capn_serve.specs.Pick.{first_run, pick_fold, refuses, serves}
-use Rattle.capn_serve.specs.Picked.{HearsPacked, most_taken}
-use Rattle.capn_serve.specs.Serving.{HasRoom, IsListening}
-use Rattle.capn_serve.specs.PackedServing.{EndsPacked, IsUnpacking, Pending, fresh, pending}
+use Rattle.capn_serve.specs.PickRun.{HearsPacked, most_taken}
+use Rattle.capn_serve.specs.ChunkRun.{HasRoom, IsListening}
+use Rattle.capn_serve.specs.PackedChunkRun.{EndsPacked, IsUnpacking, Pending, fresh, pending}
 use Rattle.capn_serve.proofs.InputRead.{has_broken, still_fine}
 use Rattle.capn_serve.proofs.Next.{empty_unfinished}
 use Rattle.capn_serve.proofs.PackedMore.{packed_room}

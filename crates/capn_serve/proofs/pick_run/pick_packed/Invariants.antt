@@ -1,9 +1,9 @@
 use Rattle.std.proofs.Common.{◌≡◌, ◌≤◌, ◌+◌, ◌-◌, length, false}
-use Rattle.capn_words.specs.Watching.{inner_of, has_failed}
-use Rattle.capn_serve.specs.PackedServing.{pending}
+use Rattle.capn_words.specs.Watched.{inner_of, has_failed}
+use Rattle.capn_serve.specs.PackedChunkRun.{pending}
 use Rattle.capn_serve.specs.Pick.{pick_fold}
-use Rattle.capn_serve.specs.Picked.{HearsPacked, most_taken}
-use Rattle.capn_serve.specs.Serving.{HasRoom, IsListening}
+use Rattle.capn_serve.specs.PickRun.{HearsPacked, most_taken}
+use Rattle.capn_serve.specs.ChunkRun.{HasRoom, IsListening}
 use Rattle.capn_serve.proofs.pick_run.pick_packed.Given as goal
 
 -- neither has failed, and the whole messages in what the bytes so far unpack to are looked at

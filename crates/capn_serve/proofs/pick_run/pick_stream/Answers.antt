@@ -1,10 +1,10 @@
 use Rattle.std.proofs.Common.{◌≡◌, ◌+◌, ◌≤◌, ◌++◌, ℕ, List, [], false, drop, length-take, refl, ap, sym}
 use Rattle.std.proofs.Common.{subst, arith}
-use Rattle.capn_words.specs.Watching.{inner_of}
-use Rattle.capn_stream.specs.Framing.{Framing, IsUnfinished}
+use Rattle.capn_words.specs.Watched.{inner_of}
+use Rattle.capn_stream.specs.StreamPieces.{Framing, IsUnfinished}
 use Rattle.capn_serve.specs.Fold.{Fold}
 use Rattle.capn_serve.specs.Pick.{first_run, pick_fold, refuses, serves}
-use Rattle.capn_serve.specs.Serving.{IsListening}
+use Rattle.capn_serve.specs.ChunkRun.{IsListening}
 use Rattle.capn_serve.specs.StreamRun.{EndsInput}
 use Rattle.capn_serve.proofs.InputRead.{has_broken, still_fine}
 use Rattle.capn_serve.proofs.Next.{empty_unfinished}

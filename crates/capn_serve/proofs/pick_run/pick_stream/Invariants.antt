@@ -1,8 +1,8 @@
 use Rattle.std.proofs.Common.{◌≡◌, ◌≤◌, ◌+◌, ◌-◌, false}
-use Rattle.capn_words.specs.Watching.{inner_of, has_failed}
+use Rattle.capn_words.specs.Watched.{inner_of, has_failed}
 use Rattle.capn_serve.specs.Pick.{pick_fold}
-use Rattle.capn_serve.specs.Picked.{Hears, most_taken}
-use Rattle.capn_serve.specs.Serving.{IsListening}
+use Rattle.capn_serve.specs.PickRun.{Hears, most_taken}
+use Rattle.capn_serve.specs.ChunkRun.{IsListening}
 use Rattle.capn_serve.proofs.pick_run.pick_stream.Given as goal
 
 -- neither has failed, and the whole messages of the bytes so far are looked at

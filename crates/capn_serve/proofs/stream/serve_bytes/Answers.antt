@@ -3,10 +3,10 @@ use Rattle.std.proofs.Common.{sym}
 use Rattle.std.proofs.Common.{subst, append-nil, length-drop, length-take, length-append}
 use Rattle.std.proofs.Math.Seq.{take_all}
 use Rattle.std.proofs.lemmas.Result.{err_from_is_err_and}
-use Rattle.capn_stream.specs.Framing.{Framing}
+use Rattle.capn_stream.specs.StreamPieces.{Framing}
 use Rattle.capn_serve.specs.Fold.{Fold, fold_of}
-use Rattle.capn_serve.specs.Sending.{Outgoing}
-use Rattle.capn_serve.specs.Serving.{IsListening, Serves, Tells}
+use Rattle.capn_serve.specs.Outgoing.{Outgoing}
+use Rattle.capn_serve.specs.ChunkRun.{IsListening, Serves, Tells}
 use Rattle.capn_serve.proofs.More.{tells_none}
 use Rattle.capn_serve.proofs.Next.{room_told, served_more, served_stop}
 use Rattle.capn_serve.proofs.stream.serve_bytes.Goals as goal

@@ -1,8 +1,8 @@
 use Rattle.std.proofs.Common.{◌≡◌, ◌≤◌, ◌-◌, ◌++◌, length, take, false}
-use Rattle.capn_words.specs.Watching.{inner_of, has_failed}
+use Rattle.capn_words.specs.Watched.{inner_of, has_failed}
 use Rattle.capn_serve.specs.Fold.{fold_of}
-use Rattle.capn_serve.specs.Sending.{outgoing}
-use Rattle.capn_serve.specs.Serving.{IsListening, Tells}
+use Rattle.capn_serve.specs.Outgoing.{outgoing}
+use Rattle.capn_serve.specs.ChunkRun.{IsListening, Tells}
 use Rattle.capn_serve.proofs.stream.serve_bytes.Given as goal
 
 -- the messages that the bytes so far made whole are served

@@ -1,7 +1,7 @@
 use Rattle.std.proofs.Common.{◌≡◌, ◌⊎◌, List, ℕ, take, refl, subst, sym}
 use Rattle.std.proofs.lemmas.Result.{err_from_is_err_and}
 use Rattle.capn_stream.specs.Frames.{StandsFirst}
-use Rattle.capn_stream.specs.Framing.{IsFrame, IsUnfinished}
+use Rattle.capn_stream.specs.StreamPieces.{IsFrame, IsUnfinished}
 use Rattle.capn_stream.specs.declared.fault.FrameFault.TheVariants as frame_faults
 use Rattle.capn_serve.specs.Fold.{fold_of}
 use Rattle.capn_serve.proofs.Next.{frame_some, held_frame, held_passed, held_some, held_stop, held_whole}

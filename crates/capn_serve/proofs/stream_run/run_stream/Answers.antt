@@ -2,11 +2,11 @@ use Rattle.std.proofs.Common.{◌≡◌, ◌+◌, ◌++◌, ℕ, List, [], Optio
 use Rattle.std.proofs.Common.{subst, arith}
 use Rattle.std.proofs.lemmas.Result.{err_from_is_err_and}
 use Rattle.std.proofs.KnownBytes.{Consumes-nil}
-use Rattle.capn_words.specs.Watching.{inner_of}
-use Rattle.capn_stream.specs.Framing.{Framing, IsUnfinished}
+use Rattle.capn_words.specs.Watched.{inner_of}
+use Rattle.capn_stream.specs.StreamPieces.{Framing, IsUnfinished}
 use Rattle.capn_serve.specs.Fold.{Fold, fold_of}
-use Rattle.capn_serve.specs.Sending.{sent}
-use Rattle.capn_serve.specs.Serving.{IsListening, Tells}
+use Rattle.capn_serve.specs.Outgoing.{sent}
+use Rattle.capn_serve.specs.ChunkRun.{IsListening, Tells}
 use Rattle.capn_serve.specs.StreamRun.{EndsInput, Hears}
 use Rattle.capn_serve.proofs.InputRead.{has_broken, still_fine}
 use Rattle.capn_serve.proofs.More.{tells_none}

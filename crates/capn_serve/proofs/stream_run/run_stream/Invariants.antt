@@ -1,7 +1,7 @@
 use Rattle.std.proofs.Common.{◌≡◌, ◌≤◌, ◌+◌, ◌-◌, false}
-use Rattle.capn_words.specs.Watching.{inner_of, has_failed}
+use Rattle.capn_words.specs.Watched.{inner_of, has_failed}
 use Rattle.capn_serve.specs.Fold.{fold_of}
-use Rattle.capn_serve.specs.Serving.{IsListening}
+use Rattle.capn_serve.specs.ChunkRun.{IsListening}
 use Rattle.capn_serve.specs.StreamRun.{Hears}
 use Rattle.capn_serve.proofs.stream_run.run_stream.Given as goal
 

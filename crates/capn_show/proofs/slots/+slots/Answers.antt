@@ -4,7 +4,7 @@ use Rattle.capn_words.specs.Message.{segment_at}
 use Rattle.capn_walk.specs.declared.target.Shape.{Shape}
 use Rattle.capn_walk.specs.declared.target.Shape.TheVariants as shapes
 use Rattle.capn_walk.specs.Shapes.{IsContent, RowsFit, extent}
-use Rattle.capn_walk.specs.Shown.{ShowsStruct, words_of_row, slots_of_row}
+use Rattle.capn_walk.specs.ShownValue.{ShowsStruct, words_of_row, slots_of_row}
 use Rattle.capn_walk.proofs.shared.RowWalks.{row-inside}
 use Rattle.capn_walk.proofs.shared.Segments.{segment-room}
 use Rattle.capn_words.specs.declared.pointer.Width.{Width}

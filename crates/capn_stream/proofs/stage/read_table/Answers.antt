@@ -1,7 +1,7 @@
 use Rattle.std.proofs.Common.{◌≡◌, ◌-◌, ℕ, List, ap, sum, ◌∙◌, length, take, drop, arith}
 use Rattle.std.proofs.lemmas.List.{take_rest}
 use Rattle.capn_stream.specs.Cuts.{ends_from}
-use Rattle.capn_stream.specs.Reading.{announced_words, announced_segments, entries, head_length}
+use Rattle.capn_stream.specs.FrameRefusal.{announced_words, announced_segments, entries, head_length}
 use Rattle.capn_stream.proofs.WholeFrames.{sizes_read, sum-sizes_read}
 use Rattle.capn_stream.proofs.stage.read_table.Goals as goal
 

@@ -1,7 +1,7 @@
 use Rattle.std.proofs.Common.{◌≡◌, ℕ, ◌+◌, ◌-◌, ◌*◌, List, [], ◌∷◌, ◌++◌, sum, drop, ap, sym, ◌∙◌, arith}
 use Rattle.std.proofs.Common.{length, length-append}
 use Rattle.capn_stream.specs.Cuts.{ends_from}
-use Rattle.capn_stream.specs.Reading.{entries, entry_number}
+use Rattle.capn_stream.specs.FrameRefusal.{entries, entry_number}
 use Rattle.capn_stream.proofs.shared.Entries.{entries_more, sum-entries_le, sum-entries_more}
 use Rattle.capn_stream.proofs.shared.Ends.{ends_from_push}
 use Rattle.capn_stream.proofs.table.ends_of.Goals as goal

@@ -1,6 +1,6 @@
 use Rattle.std.proofs.Common.{◌≡◌, length, sum, vec_capacity}
 use Rattle.capn_stream.specs.Cuts.{ends_from}
-use Rattle.capn_stream.specs.Reading.{entries}
+use Rattle.capn_stream.specs.FrameRefusal.{entries}
 use Rattle.capn_stream.proofs.table.ends_of.Given as goal
 
 -- where the segments so far end, and the last of them

@@ -1,5 +1,5 @@
 use Rattle.std.proofs.Common.{◌≡◌, ◌*◌, ◌^◌, ◌≤◌, sum}
-use Rattle.capn_stream.specs.Reading.{entries}
+use Rattle.capn_stream.specs.FrameRefusal.{entries}
 use Rattle.capn_stream.proofs.table.total_of.Given as goal
 
 -- the sum of the sizes so far, which are below 2^32 each

@@ -1,7 +1,7 @@
 use Rattle.std.proofs.Common.{◌≡◌, ◌++◌, ◌∷◌, [], ◌∙◌, ap, sym, arith, map, Some, refl}
 use Rattle.std.proofs.lemmas.Result.{err_from_is_err_and}
 use Rattle.std.proofs.lemmas.List.{map_push}
-use Rattle.capn_value.specs.View.{tree_of, body_of}
+use Rattle.capn_value.specs.TreeOf.{tree_of, body_of}
 use Rattle.capn_text.specs.inner.Tokens.{many}
 use Rattle.capn_text.specs.inner.Values.{head_at, tree_at, row_at}
 use Rattle.capn_text.specs.declared.heads.Head.TheVariants as heads

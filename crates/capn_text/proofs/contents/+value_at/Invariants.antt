@@ -1,5 +1,5 @@
 use Rattle.std.proofs.Common.{◌≡◌, ◌+◌, ◌*◌, ◌-◌, map}
-use Rattle.capn_value.specs.View.{tree_of, body_of}
+use Rattle.capn_value.specs.TreeOf.{tree_of, body_of}
 use Rattle.capn_text.specs.inner.Tokens.{many}
 use Rattle.capn_text.specs.inner.Values.{tree_at, row_at}
 use Rattle.capn_text.proofs.Loops.{with_front}

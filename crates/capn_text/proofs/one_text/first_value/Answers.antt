@@ -4,7 +4,7 @@ use Rattle.capn_value.specs.Text.{show_text}
 use Rattle.capn_text.specs.Streams.{end_line, ended_text, IsFirstWrong}
 use Rattle.capn_text.proofs.StreamTexts.{line_number}
 use Rattle.capn_text.proofs.FirstWrong.{first_wrong, first_line_wrong, more_wrong, no_end_wrong, deepens}
-use Rattle.capn_value.specs.View.{tree_of}
+use Rattle.capn_value.specs.TreeOf.{tree_of}
 use Rattle.capn_text.proofs.ShowableValues.{in_range}
 use Rattle.capn_text.proofs.TextOfTree.{tree_takes}
 use Rattle.capn_text.proofs.ValueOfParts.{no_head}

@@ -3,7 +3,7 @@ use Rattle.capn_text.specs.Streams.{IsFirstWrong}
 use Rattle.capn_text.proofs.StreamTexts.{line_number, lines_counted}
 use Rattle.std.proofs.lemmas.Result.{err_from_is_err_and}
 use Rattle.std.proofs.lemmas.List.{append-nil}
-use Rattle.capn_value.specs.View.{tree_of}
+use Rattle.capn_value.specs.TreeOf.{tree_of}
 use Rattle.capn_value.specs.Text.{show_text}
 use Rattle.capn_value.proofs.shared.Fitting.{fit_parts}
 use Rattle.capn_text.proofs.ShowableValues.{showable-fit}

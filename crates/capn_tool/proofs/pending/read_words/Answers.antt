@@ -4,7 +4,7 @@ use Rattle.std.proofs.lemmas.List.{take-append-le}
 use Rattle.std.proofs.lemmas.Result.{err_from_is_err_and}
 use Rattle.std.proofs.KnownBytes.{Consumes-kept}
 use Rattle.capn_tool.specs.inner.Pending.{Holds, IsPending}
-use Rattle.capn_tool.specs.Wholes.{Gives}
+use Rattle.capn_tool.specs.WholeInput.{Gives}
 use Rattle.capn_tool.specs.declared.plan.Whole.TheVariants as wholes
 use Rattle.capn_tool.proofs.Given.{given_all, given_broken, given_long, given_memory, given_more, given_none, takes_so}
 use Rattle.capn_tool.proofs.ReadMore.{has_broken, still_fine}

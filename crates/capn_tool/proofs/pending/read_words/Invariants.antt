@@ -1,5 +1,5 @@
 use Rattle.std.proofs.Common.{◌^◌, ◌+◌, ◌-◌, take}
-use Rattle.capn_words.specs.Watching.{inner_of, has_failed}
+use Rattle.capn_words.specs.Watched.{inner_of, has_failed}
 use Rattle.capn_tool.proofs.Given.{Unpacked}
 use Rattle.capn_tool.proofs.pending.read_words.Given as goal
 

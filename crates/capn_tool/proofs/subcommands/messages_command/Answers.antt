@@ -1,4 +1,4 @@
-use Rattle.capn_tool.specs.Line.{reading_line}
+use Rattle.capn_tool.specs.CommandLine.{reading_line}
 use Rattle.capn_tool.proofs.subcommands.messages_command.Goals as goal
 
 pub returns : goal.returns

@@ -1,7 +1,7 @@
 use Rattle.std.proofs.Common.{ap, ◌∙◌, ◌≡◌, true}
 use Rattle.clap.specs.Words.{App, app_of}
 use Rattle.clap.specs.Simple.{app_of_fields}
-use Rattle.capn_tool.specs.Line.{top_line}
+use Rattle.capn_tool.specs.CommandLine.{top_line}
 use Rattle.capn_tool.proofs.subcommands.reading_command.Goals as goal
 
 abbrev required : App → App

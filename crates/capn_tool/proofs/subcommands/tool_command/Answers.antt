@@ -1,4 +1,4 @@
-use Rattle.capn_tool.specs.Line.{messages_line, pack_line, unpack_line}
+use Rattle.capn_tool.specs.CommandLine.{messages_line, pack_line, unpack_line}
 use Rattle.capn_tool.proofs.subcommands.tool_command.Goals as goal
 
 pub returns : goal.returns

@@ -1,6 +1,6 @@
 use Rattle.std.proofs.Common.{codes}
 use Rattle.clap.specs.Words.{new_app}
-use Rattle.capn_tool.specs.Line.{words_rule}
+use Rattle.capn_tool.specs.CommandLine.{words_rule}
 use Rattle.capn_tool.proofs.shared.CommandLines.{answers_option}
 use Rattle.capn_tool.proofs.subcommands.unpack_command.Goals as goal
 

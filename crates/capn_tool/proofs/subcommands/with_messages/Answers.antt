@@ -1,4 +1,4 @@
-use Rattle.capn_tool.specs.Line.{message_line}
+use Rattle.capn_tool.specs.CommandLine.{message_line}
 use Rattle.capn_tool.proofs.subcommands.with_messages.Goals as goal
 
 pub returns : goal.returns

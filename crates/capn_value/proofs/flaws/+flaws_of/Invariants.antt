@@ -1,5 +1,5 @@
 use Rattle.std.proofs.Common.{◌≡◌, ◌||◌, drop}
-use Rattle.capn_value.specs.View.{trees_of, rows_of}
+use Rattle.capn_value.specs.TreeOf.{trees_of, rows_of}
 use Rattle.capn_value.specs.Fits.{anywhere_in, anywhere_in_rows, is_wide, is_long, is_ragged}
 use Rattle.capn_value.proofs.flaws.+flaws_of.Given as goal
 

@@ -1,4 +1,4 @@
-use Rattle.capn_value.specs.Sizes.{base}
+use Rattle.capn_value.specs.Cost.{base}
 use Rattle.capn_value.proofs.shared.Fitting.{fit_parts, fit_from}
 use Rattle.capn_value.proofs.FirstMisfit.{first_misfit}
 use Rattle.capn_value.proofs.OnceTrimmed.{same-trimmed}

@@ -1,6 +1,6 @@
 use Rattle.std.proofs.Common.{◌≡◌, ◌++◌, ◌≤◌, drop, string_bytes}
-use Rattle.capn_value.specs.View.{trees_of, rows_of}
-use Rattle.capn_value.specs.Sizes as sizes
+use Rattle.capn_value.specs.TreeOf.{trees_of, rows_of}
+use Rattle.capn_value.specs.Cost as sizes
 use Rattle.capn_value.specs.Text.{shown_each, shown_rows}
 use Rattle.capn_value.proofs.text.+show.Given as goal
 

@@ -1,6 +1,6 @@
 use Rattle.std.proofs.Common.{◌∙◌, ap, min, ℕ, arith}
-use Rattle.capn_value.specs.View.{tree_of}
-use Rattle.capn_value.specs.Sizes.{cost, dear}
+use Rattle.capn_value.specs.TreeOf.{tree_of}
+use Rattle.capn_value.specs.Cost.{cost, dear}
 use Rattle.capn_value.proofs.shared.Tariffs.{plainly_cheap}
 use Rattle.capn_value.proofs.tree.cost.Goals as goal
 

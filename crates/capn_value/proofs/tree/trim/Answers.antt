@@ -1,6 +1,6 @@
 use Rattle.std.proofs.Common.{◌≡◌, ◌≤◌, sym, ap, subst, ◌∙◌}
-use Rattle.capn_value.specs.View.{tree_of}
-use Rattle.capn_value.specs.Sizes.{base, cost, height}
+use Rattle.capn_value.specs.TreeOf.{tree_of}
+use Rattle.capn_value.specs.Cost.{base, cost, height}
 use Rattle.capn_value.specs.Trim.{trimmed}
 use Rattle.capn_value.specs.Fits.{Fits}
 use Rattle.capn_value.specs.InRange.{InRange}

@@ -1,6 +1,6 @@
 use Rattle.std.proofs.Common.{◌≡◌, Some, None, arith, ap, ◌∙◌}
-use Rattle.capn_value.specs.View.{tree_of, trees_of, rows_of}
-use Rattle.capn_value.specs.Caps.{first_cap, first_in, first_in_rows}
+use Rattle.capn_value.specs.TreeOf.{tree_of, trees_of, rows_of}
+use Rattle.capn_value.specs.FirstCap.{first_cap, first_in, first_in_rows}
 use Rattle.capn_value.proofs.Cases.{no_cap, node_seen, links_seen, rows_seen, cap_seen}
 use Rattle.capn_value.proofs.FirstCaps.{cap_here, cap_later, cap_nowhere, cap_in_row, cap_below, cap_in_no_row}
 use Rattle.capn_value.proofs.Depths.{falls, falls_above, steps_down, in_links, in_rows, in_slots, item_below}

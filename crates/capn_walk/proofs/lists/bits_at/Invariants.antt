@@ -1,6 +1,6 @@
 use Rattle.std.proofs.Common.{◌≡◌, ◌*◌, length, map, vec_capacity}
 use Rattle.std.specs.Int.{from_bool}
-use Rattle.capn_walk.specs.At.{AreElements, words_from}
+use Rattle.capn_walk.specs.ValueAt.{AreElements, words_from}
 use Rattle.capn_walk.proofs.lists.bits_at.Given as goal
 
 abbrev pub invariant-loop-byte : goal.invariant-loop-byte

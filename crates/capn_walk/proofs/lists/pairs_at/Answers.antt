@@ -1,7 +1,7 @@
 use Rattle.std.proofs.Common.{◌≡◌, ◌*◌, arith, length, ◌∙◌}
 use Rattle.byteorder.specs.Endian.{little_number}
 use Rattle.capn_walk.proofs.shared.Elements.{length-read, are-pairs}
-use Rattle.capn_walk.proofs.Reading.{rest-holds, read-more}
+use Rattle.capn_walk.proofs.NumbersFromBytes.{rest-holds, read-more}
 use Rattle.capn_walk.proofs.lists.pairs_at.Goals as goal
 
 pub slice_bounds-read_u16-count : goal.slice_bounds-read_u16-count

@@ -1,6 +1,6 @@
 use Rattle.std.proofs.Common.{◌+◌, ◌++◌, Some, inl, ap, sym, ◌∙◌, arith}
 use Rattle.std.proofs.lemmas.Result.{err_from_is_err_and}
-use Rattle.capn_value.specs.View.{tree_of}
+use Rattle.capn_value.specs.TreeOf.{tree_of}
 use Rattle.capn_value.specs.Text.{show_text}
 use Rattle.capn_value.proofs.shared.Fitting.{fit_parts}
 use Rattle.capn_text.specs.Streams.{end_line, ended_lines, Place}

@@ -5,8 +5,8 @@ use Rattle.capn_words.specs.declared.space.Place.{Place}
 use Rattle.capn_walk.specs.declared.target.Target.{Target}
 use Rattle.capn_walk.specs.declared.target.Target.TheVariants as targets
 use Rattle.capn_walk.specs.declared.target.Shape.TheVariants as shapes
-use Rattle.capn_walk.specs.At.{AreElements}
-use Rattle.capn_walk.specs.Viewed.{Seen, IsInMessage, len_of, content_of}
+use Rattle.capn_walk.specs.ValueAt.{AreElements}
+use Rattle.capn_walk.specs.View.{Seen, IsInMessage, len_of, content_of}
 use Rattle.capn_walk.proofs.shared.Elements.{length-read, are-bytes}
 use Rattle.capn_walk.proofs.view.View.bytes.Goals as goal
 

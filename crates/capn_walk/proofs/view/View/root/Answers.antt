@@ -1,6 +1,6 @@
 use Rattle.std.proofs.Common.{◌<◌, length, arith}
 use Rattle.capn_words.specs.Message.{segment_at}
-use Rattle.capn_walk.specs.Stops.{root}
+use Rattle.capn_walk.specs.Accepted.{root}
 use Rattle.capn_walk.proofs.SeenInside.{found-inside}
 use Rattle.capn_walk.proofs.view.View.root.Goals as goal
 

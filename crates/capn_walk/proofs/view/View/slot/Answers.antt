@@ -1,6 +1,6 @@
 use Rattle.std.proofs.Common.{◌<◌, length, List, ℕ, ap, sym, subst}
 use Rattle.capn_words.specs.Message.{segment_at}
-use Rattle.capn_walk.specs.Viewed.{Seen}
+use Rattle.capn_walk.specs.View.{Seen}
 use Rattle.capn_walk.proofs.SeenInside.{found-inside}
 use Rattle.capn_walk.proofs.view.View.slot.Goals as goal
 

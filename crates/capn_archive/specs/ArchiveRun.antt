@@ -1,0 +1,54 @@
+-- What a run over an archive did: what is written at its end, and the rest by the definition for all runs that write
+-- something there. (Own.)
+use Rattle.std.specs.Prelude.{ℕ, List, [], Bool, Option, Result}
+use Rattle.capn_serve.specs.declared.service.Run.{Run}
+use Rattle.capn_serve.specs.Fold.{Fold, fold_of}
+use Rattle.capn_serve.specs.StreamRun.{start}
+use Rattle.capn_archive.specs.declared.fault.ArchiveFault.{ArchiveFault}
+use Rattle.capn_archive.specs.declared.task.Task.{Task}
+use Rattle.capn_archive.specs.declared.task.Task.TheVariants as tasks
+use Rattle.capn_archive.specs.declared.task.Archive.{Archive}
+use Rattle.capn_archive.specs.declared.archivist.Archivist.{Archivist}
+use Rattle.capn_archive.specs.declared.needs.Needs.{Needs}
+use Rattle.capn_archive.specs.Finish.{Finish, Finished}
+use Rattle.capn_archive.specs.Lines.{limits_text}
+use Rattle.capn_archive.specs.Tally.{no_tally}
+use Rattle.capn_archive.specs.Tasks.{serves, refuses}
+
+-- the fold over the messages of an archive
+abbrev pub archive_fold : Archive → Fold (Run Archivist)
+archive_fold order = fold_of serves refuses order.limits.message_words
+
+-- nothing has been served
+abbrev pub first_run : Archive → Run Archivist
+first_run order = record { service = record { order = order; tally = no_tally }; at = start }
+
+-- what the messages of a run need
+abbrev pub needs_of : Archive → Run Archivist → Needs
+needs_of order run = record {
+  messages = run.at.index;
+  tally = run.service.tally;
+  tariff = order.limits.tariff;
+}
+
+-- what is written after the last message: the lines of `limits`, and nothing by the other tasks
+abbrev pub closing_by : Task → Needs → List ℕ
+closing_by tasks.List needs = []
+closing_by tasks.Digests needs = []
+closing_by tasks.Limits needs = limits_text needs
+closing_by tasks.Canonical needs = []
+
+-- the same by an order
+abbrev pub closing : Archive → Run Archivist → List ℕ
+closing order run = closing_by order.task (needs_of order run)
+
+-- what a run does after its last message
+abbrev pub archive_finish : Archive → Finish (Run Archivist)
+archive_finish order = record { closing = λ y. closing order y; skipped = λ y. y.service.tally.skipped }
+
+-- what a run did, over a reader (from a to b) and a writer (from c to d)
+abbrev pub Archived : Archive → Option (List ℕ) → Option (List ℕ) → Option (List ℕ) → Option (List ℕ) → Bool → Bool
+    → Result (Unit {0}) ArchiveFault → Type 0
+Archived order a b c d reader_failed writer_failed r =
+    Finished (archive_fold order) (first_run order) (archive_finish order) order.form a b c d reader_failed
+    writer_failed r

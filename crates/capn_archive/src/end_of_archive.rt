@@ -1,0 +1,74 @@
+//! What is written after the last message of an archive, and how a run ends.
+
+ghost use Rattle.std.specs.Prelude.{◌≡◌, false};
+ghost use Rattle.capn_words.specs.Watched.{inner_of, has_failed};
+ghost use Rattle.capn_archive.specs.ArchiveRun as spec;
+ghost use Rattle.capn_archive.specs.inner.Closing.{PutsClosing};
+ghost use Rattle.capn_archive.specs.Finish as finish;
+
+use crate::archivist::Archivist;
+use crate::fault::{ArchiveFault, Passed};
+use crate::needs::{Needs, limits_text};
+use crate::task::{Archive, Task};
+use crate::tally::Skipped;
+use capn_serve::{Run, RunFault, write_all};
+use capn_words::Watched;
+use std::alloc::Allocator;
+use std::io::Write;
+
+/// The fault of a run over messages, as one over an archive tells it.
+pub(crate) fn fault_of(fault: RunFault) -> ArchiveFault
+    ensures { result ≡ finish.fault_of fault }
+{
+    match fault {
+        RunFault::Memory => ArchiveFault::Memory,
+        RunFault::Io => ArchiveFault::Io,
+        RunFault::InputTooLong => ArchiveFault::InputTooLong,
+        RunFault::Refused(at, refusal) => ArchiveFault::Refused(at, refusal),
+    }
+}
+
+/// How a run ends that has served all of its input, this number of messages, and has passed these over.
+pub(crate) fn outcome(skipped: Option<Skipped>, messages: u64) -> Result<(), ArchiveFault>
+    ensures { result ≡ finish.outcome_by skipped messages }
+{
+    match skipped {
+        Some(skipped) => Err(ArchiveFault::PassedOver(Passed {
+            refused: skipped.count,
+            messages,
+            first: skipped.first,
+        })),
+        None => Ok(()),
+    }
+}
+
+/// What the messages of a run need.
+fn needs_of(order: &Archive, run: &Run<Archivist>) -> Needs
+    ensures { result ≡ spec.needs_of order.now run.now }
+{
+    Needs {
+        messages: run.at.index,
+        tally: run.service.tally,
+        tariff: order.limits.tariff(),
+    }
+}
+
+/// Writes what is written after the last message.
+pub(crate) fn write_closing<W: Write, A: Allocator + Copy>(
+    alloc: A,
+    order: &Archive,
+    run: &Run<Archivist>,
+    writer: &mut Watched<W>,
+) -> Result<(), RunFault>
+    requires { has_failed writer.old ≡ false }
+    ensures { PutsClosing (spec.closing order.now run.now) (W.contents (inner_of writer.old))
+        (W.contents (inner_of writer.new)) (has_failed writer.new) result }
+{
+    match order.task {
+        Task::List | Task::Digests | Task::Canonical => Ok(()),
+        Task::Limits => {
+            let text = limits_text(alloc, &needs_of(order, run))?;
+            write_all(writer, text.as_bytes())
+        }
+    }
+}

@@ -1,0 +1,41 @@
+-- A survey answers a price and a length that is enough; a value without capabilities is refused only if memory runs
+-- out.
+use Rattle.std.proofs.Common.{inl, ap, sym, refl, ◌∙◌, arith, Err}
+use Rattle.capn_canon.specs.Layout.{canon}
+use Rattle.capn_c.specs.declared.report.CapnReport.{CapnReport}
+use Rattle.capn_c.specs.StatusCodes.{code}
+use Rattle.capn_c.proofs.OutOfMemory.{unaccepted_memory}
+use Rattle.capn_c.proofs.canonical_call.measure.Goals as goal
+
+pub returns-in-None-clause-found : goal.returns-in-None-clause-found
+returns-in-None-clause-found c t =
+    let h = c.in-Ok.ensures.found in
+    let v = h.survey.value in
+    let told = c.answer_of.ensures in
+    let short = c.in-Ok.ensures.short v (record { message = h.message; reads = h.reads; value = h.survey.is }) in
+    let length_is = ap (λ (r : CapnReport). r.length) told in
+    let paid_is = ap (λ (r : CapnReport). r.paid) told in (
+      canon v,
+      record {
+        message = h.message;
+        reads = h.reads;
+        answer = record {
+          value = v;
+          is = h.survey.is;
+          free = sym h.survey.capability ∙ c.in-None.is;
+          canonical = refl;
+          priced = paid_is ∙ h.survey.pays;
+        };
+      },
+      omega (arith, short, length_is),
+    )
+
+pub returns-in-Err-clause-only : goal.returns-in-Err-clause-only
+returns-in-Err-clause-only c v d n = inl (c.refuse-in-Err.ensures.status_is ∙ ap code (c.in-Err.ensures.only v d))
+
+pub returns-in-Err-clause-wanted : goal.returns-in-Err-clause-wanted
+returns-in-Err-clause-wanted c e =
+    c.in-Err.ensures.wanted
+    (ap Err
+    (unaccepted_memory c.args.form c.args.bytes.now c.args.limits c.in-Err.refusal c.in-Err.ensures.refused
+    (sym c.refuse-in-Err.ensures.status_is ∙ e)))

@@ -1,0 +1,23 @@
+-- What is reported of a frame that stands first, and of one that is not whole.
+use Rattle.std.proofs.Common.{inl, inr, ap, refl, sym, ◌∙◌, Err}
+use Rattle.capn_c.specs.declared.report.CapnReport.{CapnReport}
+use Rattle.capn_c.specs.StatusCodes.{frame_code}
+use Rattle.capn_c.proofs.Least.{frame_memory, needed_told}
+use Rattle.capn_c.proofs.first_call.frame.Goals as goal
+
+pub returns-in-Ok-clause-only : goal.returns-in-Ok-clause-only
+returns-in-Ok-clause-only c m n h =
+    inr (refl, ap (λ (r : CapnReport). r.length) c.answer_of.ensures ∙ c.in-Ok.ensures.only m n h)
+
+pub returns-in-Err-clause-only : goal.returns-in-Err-clause-only
+returns-in-Err-clause-only c m n h =
+    inl (c.refuse_frame.ensures.status_is ∙ ap frame_code (c.in-Err.ensures.only m n h))
+
+pub returns-in-Err-clause-needed : goal.returns-in-Err-clause-needed
+returns-in-Err-clause-needed c e =
+    needed_told c.args.bytes.now c.args.most c.refuse_frame.result c.refuse_frame.new.report c.in-Err.fault
+    c.refuse_frame.ensures c.in-Err.ensures.refused e
+
+pub returns-in-Err-clause-wanted : goal.returns-in-Err-clause-wanted
+returns-in-Err-clause-wanted c e =
+    c.in-Err.ensures.wanted (ap Err (frame_memory c.in-Err.fault (sym c.refuse_frame.ensures.status_is ∙ e)))

@@ -1,0 +1,11 @@
+-- A refusal with the status 8 says that memory ran out.
+use Rattle.std.proofs.Common.{ap, sym, ◌∙◌, Err}
+use Rattle.capn_c.proofs.OutOfMemory.{refused_memory}
+use Rattle.capn_c.proofs.hash_call.hash.Goals as goal
+
+pub returns-in-Err-clause-wanted : goal.returns-in-Err-clause-wanted
+returns-in-Err-clause-wanted c e =
+    c.in-Err.ensures.wanted
+    (ap Err
+    (refused_memory c.args.form c.args.bytes.now c.args.limits c.in-Err.refusal c.in-Err.ensures.refused
+    (sym c.refuse.ensures.status_is ∙ e)))

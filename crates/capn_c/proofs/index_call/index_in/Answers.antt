@@ -1,0 +1,35 @@
+-- The index has as many entries as its survey has visits; what is accepted is refused only if memory runs out.
+use Rattle.std.proofs.Common.{◌≤◌, inl, inr, length, ap, sym, ◌∙◌, arith, Err}
+use Rattle.capn_c.specs.StatusCodes.{code}
+use Rattle.capn_c.proofs.Counted.{entries_of_survey, entries_told}
+use Rattle.capn_c.proofs.OutOfMemory.{unaccepted_memory}
+use Rattle.capn_c.proofs.index_call.index_in.Goals as goal
+
+pub returns-then-surveyed-out-clause-entries : goal.returns-then-surveyed-out-clause-entries
+returns-then-surveyed-out-clause-entries c e =
+    entries_told c.indexes.ensures.visits c.args.form c.args.bytes.now c.args.limits c.in-Ok.surveyed
+    c.in-Ok.ensures.found c.report_of_index.result c.report_of_index.ensures
+
+pub returns-then-index_form-clause-entries : goal.returns-then-index_form-clause-entries
+returns-then-index_form-clause-entries c e =
+    entries_told c.indexes.ensures.visits c.args.form c.args.bytes.now c.args.limits c.in-Ok.surveyed
+    c.in-Ok.ensures.found c.report_of_index.result c.report_of_index.ensures
+
+pub returns-else-index_form-clause-wanted : goal.returns-else-index_form-clause-wanted
+returns-else-index_form-clause-wanted c e =
+    let s = c.in-Ok.surveyed in
+    let room : s.visits ≤ length c.args.out.now = omega (arith, c.if-surveyed-out.false) in
+    let has = entries_of_survey c.indexes.ensures.visits c.args.form c.args.bytes.now c.args.limits s
+    c.in-Ok.ensures.found in
+    inr (s.visits, has, room)
+
+pub returns-in-Err-clause-only : goal.returns-in-Err-clause-only
+returns-in-Err-clause-only c v d = inr (c.refuse-in-Err.ensures.status_is ∙ ap code (c.in-Err.ensures.only v d))
+
+pub returns-in-Err-clause-wanted : goal.returns-in-Err-clause-wanted
+returns-in-Err-clause-wanted c e =
+    inl
+    (c.in-Err.ensures.wanted
+    (ap Err
+    (unaccepted_memory c.args.form c.args.bytes.now c.args.limits c.in-Err.refusal c.in-Err.ensures.refused
+    (sym c.refuse-in-Err.ensures.status_is ∙ e))))

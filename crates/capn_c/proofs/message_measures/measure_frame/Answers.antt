@@ -1,0 +1,32 @@
+-- If nothing is answered of bytes that denote a value, memory was refused.
+use Rattle.std.proofs.Common.{ℕ, List, Err, inl, inr, length, ap, subst, sym, arith}
+use Rattle.capn_stream.specs.Frames.{StandsFirst}
+use Rattle.capn_stream.specs.FrameRefusal.{HasTable}
+use Rattle.capn_stream.proofs.shared.FrameLaws.{stands_alone}
+use Rattle.capn_walk.specs.Accepted.{IsValueOf}
+use Rattle.capn_c.proofs.message_measures.measure_frame.Goals as goal
+
+pub returns-then-taken-bytes-clause-wanted : goal.returns-then-taken-bytes-clause-wanted
+returns-then-taken-bytes-clause-wanted c v d e =
+    let bs = c.args.bytes.now in
+    let s = stands_alone bs c.args.limits.message_words d.message d.reads.frame d.reads.room in
+    let P : ℕ → Type 0 = λ most. StandsFirst bs most d.message (length bs) in
+    let same = c.in-Ok.ensures.only d.message (length bs) (subst P (sym c.message_words.ensures.value) s) in
+    absurd (omega (arith, same.1, c.if-taken-bytes.true))
+
+pub returns-else-taken-bytes-clause-wanted : goal.returns-else-taken-bytes-clause-wanted
+returns-else-taken-bytes-clause-wanted c v d e =
+    let bs = c.args.bytes.now in
+    let s = stands_alone bs c.args.limits.message_words d.message d.reads.frame d.reads.room in
+    let P : ℕ → Type 0 = λ most. StandsFirst bs most d.message (length bs) in
+    let same = c.in-Ok.ensures.only d.message (length bs) (subst P (sym c.message_words.ensures.value) s) in
+    let Q : List (List ℕ) → Type 0 = λ m. IsValueOf m c.args.limits v in
+    inr (c.measure.ensures.wanted v (subst Q (sym same.0) d.value) e, d.message, d.reads)
+
+pub returns-in-Err-clause-wanted : goal.returns-in-Err-clause-wanted
+returns-in-Err-clause-wanted c v d e =
+    let bs = c.args.bytes.now in
+    let s = stands_alone bs c.args.limits.message_words d.message d.reads.frame d.reads.room in
+    let P : ℕ → Type 0 = λ most. StandsFirst bs most d.message (length bs) in
+    let same = c.in-Err.ensures.only d.message (length bs) (subst P (sym c.message_words.ensures.value) s) in
+    inl (subst (HasTable bs) c.message_words.ensures.value (c.in-Err.ensures.memory (ap Err same)))

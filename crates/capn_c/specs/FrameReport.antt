@@ -1,0 +1,22 @@
+-- What is reported of the frame that begins some bytes. (Own.)
+use Rattle.std.specs.Prelude.{◌≡◌, ◌≢◌, ℕ, List}
+use Rattle.capn_stream.specs.declared.fault.FrameFault.{FrameFault}
+use Rattle.capn_stream.specs.declared.fault.FrameFault.TheVariants as frame
+use Rattle.capn_c.specs.StatusCodes.{answered, at_number, frame_code}
+use Rattle.capn_c.specs.FrameNeed.{needed}
+use Rattle.capn_c.specs.declared.report.CapnReport.{CapnReport}
+
+-- the report of a refusal: of a frame that is not whole, how many bytes it needs; else its number
+abbrev pub frame_report : List ℕ → FrameFault → CapnReport
+frame_report bs frame.Empty = answered (needed bs) 0 0
+frame_report bs frame.Cut = answered (needed bs) 0 0
+frame_report bs (frame.TooManySegments n) = at_number n
+frame_report bs (frame.TooManyWords n) = at_number n
+frame_report bs frame.Memory = at_number 0
+frame_report bs frame.Failed = at_number 0
+
+-- the status and the report are those of this refusal of bytes, and of no other unless memory was refused
+pub record TellsFrame (bs : List ℕ) (status : ℕ) (report : CapnReport) (e : FrameFault) : Type 0 where
+  pub status_is : status ≡ frame_code e
+  pub report_is : report ≡ frame_report bs e
+  pub alone : status ≢ 8 → (f : FrameFault) → status ≡ frame_code f → report ≡ frame_report bs f → f ≡ e

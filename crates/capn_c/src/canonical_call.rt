@@ -1,0 +1,145 @@
+//! Canonical bytes.
+
+ghost use Rattle.std.specs.Prelude.{IsTrue, ◌≡◌, ◌≢◌, ◌⊎◌, ◌↔◌, ◌≤◌, ◌<◌, ◌+◌, ◌*◌, ℕ, List, None, length, take};
+ghost use Rattle.capn_value.specs.Tree.{Tree as Value};
+ghost use Rattle.capn_value.specs.FirstCap.{first_cap};
+ghost use Rattle.capn_walk.specs.Accepted.{IsBounded};
+ghost use Rattle.capn_canon.specs.Layout.{canon};
+ghost use Rattle.capn_canon.specs.Denotes.{Denotes};
+ghost use Rattle.capn_canon.specs.Denotes.{Answers};
+ghost use Rattle.capn_canon.specs.Canonicity.{IsCanonicalForm};
+ghost use Rattle.capn_canon.specs.Refusal.{IsRefused};
+ghost use Rattle.capn_canon.specs.MemoryNeed.{MayWantMemory, MayWantBytesIn};
+ghost use Rattle.capn_canon.specs.declared.refusal.Refusal.{Refusal as Refusals};
+ghost use Rattle.capn_c.specs.Calls.{IsForm, form_named, GiveLimits, IsTariff, bounds_of, Delivers, Serves};
+ghost use Rattle.capn_c.specs.StatusCodes.{Tells, answered, at_number, is_status};
+
+use crate::status_codes::{BAD_FORM, NO_ROOM, refuse};
+use crate::limits::{CapnLimits, form_of, limits_of};
+use crate::output::deliver;
+use crate::report::{CapnReport, answer_of, report_at};
+use capn_canon::{Form, Refusal, account, canonicalise};
+use capn_walk::Limits;
+use std::alloc::Global;
+
+/// A length that is enough for the canonical bytes of a message, which are not laid out.
+fn measure(alloc: Global, form: Form, bytes: &[u8], limits: Limits, report: &mut CapnReport) -> u32
+    ensures told { (result ≡ 1) ⊎ (8 ≤ result) }
+    ensures found { result ≡ 1 → (text : List ℕ) × Answers form bytes.now limits text report.new.paid
+        × (length text ≤ report.new.length) }
+    ensures only { (v : Value) → Denotes form bytes.now limits v → first_cap v ≡ None
+        → (result ≡ 8) ⊎ ((result ≡ 1) × (length (canon v) ≤ report.new.length)) }
+    ensures rest { result ≡ 1 → report.new ≡ answered (8 * (report.new.paid + 1)) report.new.paid 0 }
+    ensures listed { IsTrue (is_status result) }
+    ensures refused { 8 ≤ result → (e : Refusals) × Tells result report.new e × IsRefused form bytes.now limits e }
+    ensures wanted { result ≡ 8 → MayWantMemory form bytes.now limits }
+    ensures bounded { IsBounded limits.budget report.new.paid report.new.visits }
+{
+    match account(alloc, form, bytes, limits) {
+        Ok(surveyed) => match surveyed.capability {
+            Some(index) => refuse(Refusal::Capability(index), report),
+            None => {
+                let paid = surveyed.paid;
+                *report = answer_of(8 * (paid as u64 + 1), paid, 0);
+                NO_ROOM
+            }
+        },
+        Err(refusal) => refuse(refusal, report),
+    }
+}
+
+/// The canonical bytes of a message, into a buffer.
+fn lay(
+    alloc: Global,
+    form: Form,
+    bytes: &[u8],
+    limits: Limits,
+    out: &mut [u8],
+    report: &mut CapnReport,
+) -> u32
+    ensures told { (result ≤ 1) ⊎ (8 ≤ result) }
+    ensures found { result ≤ 1 → (text : List ℕ) × Answers form bytes.now limits text report.new.paid
+        × Delivers text result report.new.length out.old out.new }
+    ensures only { (v : Value) → Denotes form bytes.now limits v → first_cap v ≡ None
+        → (result ≡ 8) ⊎ Delivers (canon v) result report.new.length out.old out.new }
+    ensures rest { result ≤ 1 → report.new ≡ answered report.new.length report.new.paid 0 }
+    ensures listed { IsTrue (is_status result) }
+    ensures refused { 8 ≤ result → (e : Refusals) × Tells result report.new e × IsRefused form bytes.now limits e }
+    ensures wanted { result ≡ 8 → MayWantBytesIn form bytes.now limits }
+    ensures bounded { IsBounded limits.budget report.new.paid report.new.visits }
+    ensures short { result ≤ 1 → report.new.length ≤ 8 * (report.new.paid + 1) }
+    ensures kept { result ≢ 0 → out.new ≡ out.old }
+    ensures canonical { result ≡ 0 → (v : Value) → Denotes form bytes.now limits v
+        → IsCanonicalForm (take report.new.length out.new) limits v }
+{
+    match canonicalise(alloc, form, bytes, limits) {
+        Ok(canonical) => {
+            *report = answer_of(canonical.bytes.len() as u64, canonical.paid, 0);
+            deliver(canonical.bytes.as_slice(), out)
+        }
+        Err(refusal) => refuse(refusal, report),
+    }
+}
+
+/// The canonical bytes of a message, into a buffer.
+///
+/// 0: the answer stands at the start of the buffer. 1: the buffer has no room for it, and is as it was; `length` is
+/// what it needs, exactly; if the buffer has no bytes at all, the message is surveyed and nothing is written, and
+/// `length` is 8 for each word paid and 8 more, which is enough. 2, 3 and 4: the form, a limit or the tariff is out of
+/// its range. 8: memory was refused. Others: the refusal.
+#[unsafe(no_mangle)]
+pub extern "C" fn capn_canonical(
+    alloc: Global,
+    form: u32,
+    bytes: &[u8],
+    limits: &CapnLimits,
+    out: &mut [u8],
+    report: &mut CapnReport,
+) -> u32
+    // What is ordered is tested first.
+    ensures form { (result ≡ 2) ↔ (IsForm form → ⊥) }
+    ensures limits { (result ≡ 3) ↔ (IsForm form × (GiveLimits limits.now → ⊥)) }
+    ensures tariff { (result ≡ 4) ↔ (IsForm form × GiveLimits limits.now × (IsTariff limits.now.tariff → ⊥)) }
+    // The answer: the canonical bytes of the one value that the bytes denote, and what the walk pays.
+    ensures found { result ≤ 1 → (text : List ℕ)
+        × Answers (form_named form) bytes.now (bounds_of limits.now) text report.new.paid
+        × Serves text result report.new out.old out.new }
+    // A value without capabilities is answered, unless memory runs out.
+    ensures only { IsForm form → GiveLimits limits.now → IsTariff limits.now.tariff → (v : Value)
+        → Denotes (form_named form) bytes.now (bounds_of limits.now) v → first_cap v ≡ None
+        → (result ≡ 8) ⊎ Serves (canon v) result report.new out.old out.new }
+    // The report of an answer has its length and its price; what no status speaks of is 0.
+    ensures rest { result ≤ 1 → report.new ≡ answered report.new.length report.new.paid 0 }
+    ensures blank { 2 ≤ result → result ≤ 4 → report.new ≡ at_number 0 }
+    ensures listed { IsTrue (is_status result) }
+    // What each refusal means; no other status stands for it.
+    ensures refused { 5 ≤ result → (e : Refusals) × Tells result report.new e
+        × IsRefused (form_named form) bytes.now (bounds_of limits.now) e }
+    // Memory is needed only where `capn_check` may need it, and, if there is room, for canonical bytes.
+    ensures wanted { result ≡ 8 → MayWantBytesIn (form_named form) bytes.now (bounds_of limits.now) }
+    ensures measuring { result ≡ 8 → length out.old ≡ 0
+        → MayWantMemory (form_named form) bytes.now (bounds_of limits.now) }
+    // No walk pays beyond its budget.
+    ensures bounded { IsBounded limits.now.budget report.new.paid report.new.visits }
+    ensures short { result ≤ 1 → report.new.length ≤ 8 * (report.new.paid + 1) }
+    // Where nothing is answered, the buffer is as it was.
+    ensures kept { result ≢ 0 → out.new ≡ out.old }
+    // Read bare under the same limits, the answer denotes the trimmed value, which is the same value, and pays exactly
+    // its cost; its canonical bytes are the answer again; and a second value has these exactly if it is the same value.
+    ensures canonical { result ≡ 0 → (v : Value) → Denotes (form_named form) bytes.now (bounds_of limits.now) v
+        → IsCanonicalForm (take report.new.length out.new) (bounds_of limits.now) v }
+{
+    *report = report_at(0);
+    let Some(form) = form_of(form) else {
+        return BAD_FORM;
+    };
+    match limits_of(limits) {
+        Ok(limits) => {
+            if out.is_empty() {
+                return measure(alloc, form, bytes, limits, report);
+            }
+            lay(alloc, form, bytes, limits, out, report)
+        }
+        Err(status) => status,
+    }
+}

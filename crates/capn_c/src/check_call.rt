@@ -1,0 +1,83 @@
+//! Checks of messages.
+
+ghost use Rattle.std.specs.Prelude.{IsTrue, ◌≡◌, ◌⊎◌, ◌↔◌, ◌≤◌};
+ghost use Rattle.capn_value.specs.Tree.{Tree as Value};
+ghost use Rattle.capn_walk.specs.Accepted.{IsBounded};
+ghost use Rattle.capn_walk.specs.declared.survey_answer.Surveyed.{Surveyed as Survey};
+ghost use Rattle.capn_canon.specs.Denotes.{Denotes};
+ghost use Rattle.capn_canon.specs.Refusal.{IsUnacceptedIn};
+ghost use Rattle.capn_canon.specs.SurveyedBytes.{Surveys};
+ghost use Rattle.capn_canon.specs.MemoryNeed.{MayWantMemory};
+ghost use Rattle.capn_canon.specs.declared.refusal.Refusal.{Refusal as Refusals};
+ghost use Rattle.capn_c.specs.Calls.{IsForm, form_named, GiveLimits, IsTariff, bounds_of};
+ghost use Rattle.capn_c.specs.StatusCodes.{Tells, answered, at_number, is_status};
+
+use crate::status_codes::{BAD_FORM, DONE, refuse};
+use crate::limits::{CapnLimits, form_of, limits_of};
+use crate::report::{CapnReport, answer_of, report_at};
+use capn_canon::{Form, account};
+use capn_walk::Limits;
+use std::alloc::Global;
+
+/// What the walk of a message pays and visits.
+fn check(alloc: Global, form: Form, bytes: &[u8], limits: Limits, report: &mut CapnReport) -> u32
+    ensures told { (result ≡ 0) ⊎ (8 ≤ result) }
+    ensures found { result ≡ 0 → (s : Survey) × Surveys form bytes.now limits s
+        × (report.new ≡ answered 0 s.paid s.visits) }
+    ensures only { (v : Value) → Denotes form bytes.now limits v → (result ≡ 0) ⊎ (result ≡ 8) }
+    ensures listed { IsTrue (is_status result) }
+    ensures refused { 8 ≤ result → (e : Refusals) × Tells result report.new e × IsUnacceptedIn form bytes.now limits e }
+    ensures wanted { result ≡ 8 → MayWantMemory form bytes.now limits }
+    ensures bounded { IsBounded limits.budget report.new.paid report.new.visits }
+{
+    match account(alloc, form, bytes, limits) {
+        Ok(surveyed) => {
+            *report = answer_of(0, surveyed.paid, surveyed.visits);
+            DONE
+        }
+        Err(refusal) => refuse(refusal, report),
+    }
+}
+
+/// Whether a message is accepted within limits, and what reading it pays.
+///
+/// 0: it is; `paid` and `visits` are those of its walk. 2, 3 and 4: the form, a limit or the tariff is out of its
+/// range. 8: memory was refused: for where two segments or more end, for what is unpacked, or for a depth above 64.
+/// Others: the refusal, which is never that of a capability.
+#[unsafe(no_mangle)]
+pub extern "C" fn capn_check(
+    alloc: Global,
+    form: u32,
+    bytes: &[u8],
+    limits: &CapnLimits,
+    report: &mut CapnReport,
+) -> u32
+    // What is ordered is tested first.
+    ensures form { (result ≡ 2) ↔ (IsForm form → ⊥) }
+    ensures limits { (result ≡ 3) ↔ (IsForm form × (GiveLimits limits.now → ⊥)) }
+    ensures tariff { (result ≡ 4) ↔ (IsForm form × GiveLimits limits.now × (IsTariff limits.now.tariff → ⊥)) }
+    // The bytes are an accepted message; the report says what its walk pays, how many visits it makes, and no more.
+    ensures found { result ≡ 0 → (s : Survey) × Surveys (form_named form) bytes.now (bounds_of limits.now) s
+        × (report.new ≡ answered 0 s.paid s.visits) }
+    // This is the answer for a message that is accepted, unless memory runs out.
+    ensures only { IsForm form → GiveLimits limits.now → IsTariff limits.now.tariff → (v : Value)
+        → Denotes (form_named form) bytes.now (bounds_of limits.now) v → (result ≡ 0) ⊎ (result ≡ 8) }
+    ensures blank { 1 ≤ result → result ≤ 4 → report.new ≡ at_number 0 }
+    ensures listed { IsTrue (is_status result) }
+    // What each refusal means; no other status stands for it.
+    ensures refused { 5 ≤ result → (e : Refusals) × Tells result report.new e
+        × IsUnacceptedIn (form_named form) bytes.now (bounds_of limits.now) e }
+    // Memory is needed only for a depth above 64, for where two segments or more end, and for what a text packs.
+    ensures wanted { result ≡ 8 → MayWantMemory (form_named form) bytes.now (bounds_of limits.now) }
+    // No walk pays beyond its budget.
+    ensures bounded { IsBounded limits.now.budget report.new.paid report.new.visits }
+{
+    *report = report_at(0);
+    let Some(form) = form_of(form) else {
+        return BAD_FORM;
+    };
+    match limits_of(limits) {
+        Ok(limits) => check(alloc, form, bytes, limits, report),
+        Err(status) => status,
+    }
+}

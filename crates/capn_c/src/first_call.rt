@@ -1,0 +1,123 @@
+//! The first frame of a stream.
+
+ghost use Rattle.std.specs.Prelude.{IsTrue, ◌≡◌, ◌⊎◌, ◌↔◌, ◌≤◌, ℕ, List, IfOk, IfErr, IsErrOf, MatchResult};
+ghost use Rattle.capn_words.specs.Message.{most_message_words};
+ghost use Rattle.capn_stream.specs.Frames.{StandsFirst};
+ghost use Rattle.capn_stream.specs.StreamPieces.{IsUnfinished};
+ghost use Rattle.capn_stream.specs.FrameRefusal.{HasTable, IsRefused};
+ghost use Rattle.capn_stream.specs.declared.fault.FrameFault.{FrameFault as Faults};
+ghost use Rattle.capn_c.specs.Calls.{GiveLimits, IsTariff};
+ghost use Rattle.capn_c.specs.StatusCodes.{answered, at_number, is_status};
+ghost use Rattle.capn_c.specs.FrameReport.{TellsFrame, frame_report};
+ghost use Rattle.capn_c.specs.FrameNeed.{IsNeeded};
+
+use crate::status_codes::{DONE, code_of_frame, number_of_frame};
+use crate::limits::{CapnLimits, limits_of};
+use crate::frame_need::needed_of;
+use crate::report::{CapnReport, answer_of, report_at};
+use capn_stream::{FrameFault, first};
+use std::alloc::Global;
+
+/// The report of a refusal.
+fn report_of_frame(fault: FrameFault, bytes: &[u8], most: u32) -> CapnReport
+    requires small { most ≤ most_message_words }
+    requires refused { IsRefused bytes.now most fault }
+    ensures { result ≡ frame_report bytes.now fault }
+{
+    match fault {
+        FrameFault::Empty => answer_of(needed_of(bytes, most), 0, 0),
+        FrameFault::Cut => answer_of(needed_of(bytes, most), 0, 0),
+        _ => report_at(number_of_frame(fault)),
+    }
+}
+
+/// Reports a refusal of bytes: its numbers in the report, and its status.
+fn refuse_frame(fault: FrameFault, bytes: &[u8], most: u32, report: &mut CapnReport) -> u32
+    requires small { most ≤ most_message_words }
+    requires refused { IsRefused bytes.now most fault }
+    ensures { TellsFrame bytes.now result report.new fault }
+{
+    *report = report_of_frame(fault, bytes, most);
+    code_of_frame(fault)
+}
+
+/// The length of the frame of at most `most` words that stands first.
+fn length_of(alloc: Global, bytes: &[u8], most: u32) -> Result<usize, FrameFault>
+    requires small { most ≤ most_message_words }
+    ensures found { IfOk result (λ taken. (message : List (List ℕ)) × StandsFirst bytes.now most message taken) }
+    ensures only { (message : List (List ℕ)) (taken : ℕ) → StandsFirst bytes.now most message taken
+        → MatchResult result (λ n. n ≡ taken) (λ e. e ≡ FrameFault.Memory) }
+    ensures refused { IfErr result (λ e. IsRefused bytes.now most e) }
+    ensures wanted { IsErrOf result FrameFault.Memory → HasTable bytes.now most }
+{
+    let (_, taken) = first(alloc, bytes, most)?;
+    Ok(taken)
+}
+
+/// The length of the frame of at most `most` words that stands first, or how many bytes it needs.
+fn frame(alloc: Global, bytes: &[u8], most: u32, report: &mut CapnReport) -> u32
+    requires small { most ≤ most_message_words }
+    ensures told { (result ≡ 0) ⊎ (8 ≤ result) }
+    ensures found { result ≡ 0 → (message : List (List ℕ)) × StandsFirst bytes.now most message report.new.length }
+    ensures only { (message : List (List ℕ)) (taken : ℕ) → StandsFirst bytes.now most message taken
+        → (result ≡ 8) ⊎ ((result ≡ 0) × (report.new.length ≡ taken)) }
+    ensures rest { result ≡ 0 → report.new ≡ answered report.new.length 0 0 }
+    ensures listed { IsTrue (is_status result) }
+    ensures refused { 8 ≤ result → (e : Faults) × TellsFrame bytes.now result report.new e
+        × IsRefused bytes.now most e }
+    ensures needed { (result ≡ 48) ⊎ (result ≡ 51) → IsNeeded bytes.now most report.new.length }
+    ensures wanted { result ≡ 8 → HasTable bytes.now most }
+{
+    match length_of(alloc, bytes, most) {
+        Ok(taken) => {
+            *report = answer_of(taken as u64, 0, 0);
+            DONE
+        }
+        Err(fault) => refuse_frame(fault, bytes, most, report),
+    }
+}
+
+/// The length of the frame that stands first in the bytes of a stream, or how many bytes it needs.
+///
+/// 0: `length` bytes are the frame. 3 and 4: a limit or the tariff is out of its range. 8: memory was refused. 48 and
+/// 51: there are no bytes, or the frame is cut; it has at least `length` bytes, counted from its start. 49 and 50: too
+/// many segments or words are announced, `at`.
+///
+/// It takes memory only for where two segments or more end, once their whole frame is there.
+#[unsafe(no_mangle)]
+pub extern "C" fn capn_first(
+    alloc: Global,
+    bytes: &[u8],
+    limits: &CapnLimits,
+    report: &mut CapnReport,
+) -> u32
+    // What is ordered is tested first.
+    ensures limits { (result ≡ 3) ↔ (GiveLimits limits.now → ⊥) }
+    ensures tariff { (result ≡ 4) ↔ (GiveLimits limits.now × (IsTariff limits.now.tariff → ⊥)) }
+    // The answer: a frame stands first, of a message within the limit, and takes this number of bytes.
+    ensures found { result ≡ 0 → (message : List (List ℕ))
+        × StandsFirst bytes.now limits.now.message_words message report.new.length }
+    // Such a frame is answered, unless memory runs out.
+    ensures only { GiveLimits limits.now → IsTariff limits.now.tariff → (message : List (List ℕ)) (taken : ℕ)
+        → StandsFirst bytes.now limits.now.message_words message taken
+        → (result ≡ 8) ⊎ ((result ≡ 0) × (report.new.length ≡ taken)) }
+    // The report of an answer has its length alone; what no status speaks of is 0.
+    ensures rest { result ≡ 0 → report.new ≡ answered report.new.length 0 0 }
+    ensures blank { 1 ≤ result → result ≤ 4 → report.new ≡ at_number 0 }
+    ensures listed { IsTrue (is_status result) }
+    // What each refusal means; no other status stands for it.
+    ensures refused { 5 ≤ result → (e : Faults) × TellsFrame bytes.now result report.new e
+        × IsRefused bytes.now limits.now.message_words e }
+    // A frame that is not whole: none that begins like this is shorter than the length reported, which is more than
+    // there is, and within what a frame can have.
+    ensures needed { (result ≡ 48) ⊎ (result ≡ 51)
+        → IsNeeded bytes.now limits.now.message_words report.new.length }
+    // Memory is needed only if a whole frame of two segments or more stands first.
+    ensures wanted { result ≡ 8 → HasTable bytes.now limits.now.message_words }
+{
+    *report = report_at(0);
+    match limits_of(limits) {
+        Ok(limits) => frame(alloc, bytes, limits.message_words(), report),
+        Err(status) => status,
+    }
+}

@@ -1,0 +1,103 @@
+//! Digests of canonical bytes.
+
+ghost use Rattle.std.specs.Prelude.{IsTrue, ◌≡◌, ◌≢◌, ◌⊎◌, ◌↔◌, ◌≤◌, ℕ, List, None};
+ghost use Rattle.sha2.specs.Sha256.{sha256};
+ghost use Rattle.capn_value.specs.Tree.{Tree as Value};
+ghost use Rattle.capn_value.specs.FirstCap.{first_cap};
+ghost use Rattle.capn_walk.specs.Accepted.{IsBounded};
+ghost use Rattle.capn_canon.specs.Layout.{canon};
+ghost use Rattle.capn_canon.specs.Denotes.{Denotes};
+ghost use Rattle.capn_canon.specs.Denotes.{Answers};
+ghost use Rattle.capn_canon.specs.Refusal.{IsRefused};
+ghost use Rattle.capn_canon.specs.MemoryNeed.{MayWantBytesIn};
+ghost use Rattle.capn_canon.specs.declared.refusal.Refusal.{Refusal as Refusals};
+ghost use Rattle.capn_c.specs.Calls.{IsForm, form_named, GiveLimits, IsTariff, bounds_of};
+ghost use Rattle.capn_c.specs.StatusCodes.{Tells, answered, at_number, is_status};
+
+use crate::status_codes::{BAD_FORM, DONE, refuse};
+use crate::limits::{CapnLimits, form_of, limits_of};
+use crate::report::{CapnReport, answer_of, report_at};
+use capn_canon::{Form, canonicalise};
+use capn_walk::Limits;
+use sha2::{Digest, Sha256};
+use std::alloc::Global;
+
+/// The SHA-256 of the canonical bytes of a message.
+fn hash(
+    alloc: Global,
+    form: Form,
+    bytes: &[u8],
+    limits: Limits,
+    digest: &mut [u8; 32],
+    report: &mut CapnReport,
+) -> u32
+    ensures told { (result ≡ 0) ⊎ (8 ≤ result) }
+    ensures found { result ≡ 0 → (text : List ℕ) × Answers form bytes.now limits text report.new.paid
+        × (digest.new ≡ sha256 text) }
+    ensures only { (v : Value) → Denotes form bytes.now limits v → first_cap v ≡ None
+        → (result ≡ 8) ⊎ ((result ≡ 0) × (digest.new ≡ sha256 (canon v))) }
+    ensures rest { result ≡ 0 → report.new ≡ answered 0 report.new.paid 0 }
+    ensures listed { IsTrue (is_status result) }
+    ensures refused { 8 ≤ result → (e : Refusals) × Tells result report.new e × IsRefused form bytes.now limits e }
+    ensures wanted { result ≡ 8 → MayWantBytesIn form bytes.now limits }
+    ensures bounded { IsBounded limits.budget report.new.paid report.new.visits }
+    ensures kept { result ≢ 0 → digest.new ≡ digest.old }
+{
+    match canonicalise(alloc, form, bytes, limits) {
+        Ok(canonical) => {
+            *report = answer_of(0, canonical.paid, 0);
+            *digest = Sha256::digest(canonical.bytes.as_slice());
+            DONE
+        }
+        Err(refusal) => refuse(refusal, report),
+    }
+}
+
+/// The SHA-256 of the canonical bytes of a message.
+///
+/// 0: the digest is written. 2, 3 and 4: the form, a limit or the tariff is out of its range. 8: memory was refused.
+/// Others: the refusal.
+#[unsafe(no_mangle)]
+pub extern "C" fn capn_hash(
+    alloc: Global,
+    form: u32,
+    bytes: &[u8],
+    limits: &CapnLimits,
+    digest: &mut [u8; 32],
+    report: &mut CapnReport,
+) -> u32
+    // What is ordered is tested first.
+    ensures form { (result ≡ 2) ↔ (IsForm form → ⊥) }
+    ensures limits { (result ≡ 3) ↔ (IsForm form × (GiveLimits limits.now → ⊥)) }
+    ensures tariff { (result ≡ 4) ↔ (IsForm form × GiveLimits limits.now × (IsTariff limits.now.tariff → ⊥)) }
+    // The digest is that of the canonical bytes of the one value that the bytes denote.
+    ensures found { result ≡ 0 → (text : List ℕ)
+        × Answers (form_named form) bytes.now (bounds_of limits.now) text report.new.paid
+        × (digest.new ≡ sha256 text) }
+    // A value without capabilities has its digest answered, unless memory runs out.
+    ensures only { IsForm form → GiveLimits limits.now → IsTariff limits.now.tariff → (v : Value)
+        → Denotes (form_named form) bytes.now (bounds_of limits.now) v → first_cap v ≡ None
+        → (result ≡ 8) ⊎ ((result ≡ 0) × (digest.new ≡ sha256 (canon v))) }
+    // The report of a digest has the price alone; what no status speaks of is 0.
+    ensures rest { result ≡ 0 → report.new ≡ answered 0 report.new.paid 0 }
+    ensures blank { 1 ≤ result → result ≤ 4 → report.new ≡ at_number 0 }
+    ensures listed { IsTrue (is_status result) }
+    // What each refusal means; no other status stands for it.
+    ensures refused { 5 ≤ result → (e : Refusals) × Tells result report.new e
+        × IsRefused (form_named form) bytes.now (bounds_of limits.now) e }
+    // Memory is needed only where `capn_check` may need it, and for canonical bytes.
+    ensures wanted { result ≡ 8 → MayWantBytesIn (form_named form) bytes.now (bounds_of limits.now) }
+    // No walk pays beyond its budget.
+    ensures bounded { IsBounded limits.now.budget report.new.paid report.new.visits }
+    // Where nothing is answered, the buffer is as it was.
+    ensures kept { result ≢ 0 → digest.new ≡ digest.old }
+{
+    *report = report_at(0);
+    let Some(form) = form_of(form) else {
+        return BAD_FORM;
+    };
+    match limits_of(limits) {
+        Ok(limits) => hash(alloc, form, bytes, limits, digest, report),
+        Err(status) => status,
+    }
+}

@@ -1,0 +1,82 @@
+//! Whether bytes are canonical.
+
+ghost use Rattle.std.specs.Prelude.{IsTrue, ◌≡◌, ◌≢◌, ◌⊎◌, ◌↔◌, ◌≤◌, None, true, false};
+ghost use Rattle.capn_value.specs.Tree.{Tree as Value};
+ghost use Rattle.capn_value.specs.FirstCap.{first_cap};
+ghost use Rattle.capn_walk.specs.Accepted.{IsBounded};
+ghost use Rattle.capn_canon.specs.BareVerdict.{Checks};
+ghost use Rattle.capn_canon.specs.Denotes.{Denotes};
+ghost use Rattle.capn_canon.specs.Layout.{canon};
+ghost use Rattle.capn_canon.specs.Refusal.{IsRefused};
+ghost use Rattle.capn_canon.specs.declared.form.Form.TheVariants as forms;
+ghost use Rattle.capn_canon.specs.declared.refusal.Refusal.{Refusal as Refusals};
+ghost use Rattle.capn_c.specs.Calls.{GiveLimits, IsTariff, bounds_of};
+ghost use Rattle.capn_c.specs.StatusCodes.{Tells, at_number, is_status};
+
+use crate::status_codes::{DONE, NOT_CANONICAL, refuse};
+use crate::limits::{CapnLimits, limits_of};
+use crate::report::{CapnReport, report_at};
+use capn_canon::is_canonical;
+use capn_walk::Limits;
+use std::alloc::Global;
+
+/// Whether bytes are the canonical bytes of their value.
+fn judge(alloc: Global, bytes: &[u8], limits: Limits, report: &mut CapnReport) -> u32
+    ensures told { (result ≡ 0) ⊎ (result ≡ 5) ⊎ (8 ≤ result) }
+    ensures yes { result ≡ 0 → Checks bytes.now limits true }
+    ensures no { result ≡ 5 → Checks bytes.now limits false }
+    ensures only { (v : Value) → Denotes forms.Bare bytes.now limits v → first_cap v ≡ None
+        → (result ≡ 8) ⊎ ((result ≡ 0) × (canon v ≡ bytes.now)) ⊎ ((result ≡ 5) × (canon v ≢ bytes.now)) }
+    ensures blank { result ≤ 5 → report.new ≡ at_number 0 }
+    ensures listed { IsTrue (is_status result) }
+    ensures refused { 8 ≤ result → (e : Refusals) × Tells result report.new e
+        × IsRefused forms.Bare bytes.now limits e }
+    ensures inline { limits.depth ≤ 64 → result ≢ 8 }
+    ensures bounded { IsBounded limits.budget report.new.paid report.new.visits }
+{
+    *report = report_at(0);
+    match is_canonical(alloc, bytes, limits) {
+        Ok(true) => DONE,
+        Ok(false) => NOT_CANONICAL,
+        Err(refusal) => refuse(refusal, report),
+    }
+}
+
+/// Whether bytes, read bare within the limits, are the canonical bytes of the value that they denote.
+///
+/// 0: they are. 5: they are not. 3 and 4: a limit or the tariff is out of its range. 8: memory was refused, which it is
+/// only for a depth above 64. Others: the refusal.
+#[unsafe(no_mangle)]
+pub extern "C" fn capn_is_canonical(
+    alloc: Global,
+    bytes: &[u8],
+    limits: &CapnLimits,
+    report: &mut CapnReport,
+) -> u32
+    // What is ordered is tested first.
+    ensures limits { (result ≡ 3) ↔ (GiveLimits limits.now → ⊥) }
+    ensures tariff { (result ≡ 4) ↔ (GiveLimits limits.now × (IsTariff limits.now.tariff → ⊥)) }
+    // The answer is on the one value that the bytes denote, which has no capability.
+    ensures yes { result ≡ 0 → Checks bytes.now (bounds_of limits.now) true }
+    ensures no { result ≡ 5 → Checks bytes.now (bounds_of limits.now) false }
+    // Bytes that denote such a value are answered, unless memory runs out.
+    ensures only { GiveLimits limits.now → IsTariff limits.now.tariff → (v : Value)
+        → Denotes forms.Bare bytes.now (bounds_of limits.now) v → first_cap v ≡ None
+        → (result ≡ 8) ⊎ ((result ≡ 0) × (canon v ≡ bytes.now)) ⊎ ((result ≡ 5) × (canon v ≢ bytes.now)) }
+    // The report of an answer is empty.
+    ensures blank { result ≤ 5 → report.new ≡ at_number 0 }
+    ensures listed { IsTrue (is_status result) }
+    // What each refusal means; no other status stands for it.
+    ensures refused { 6 ≤ result → (e : Refusals) × Tells result report.new e
+        × IsRefused forms.Bare bytes.now (bounds_of limits.now) e }
+    // No memory is needed for a depth of at most 64.
+    ensures inline { limits.now.depth ≤ 64 → result ≢ 8 }
+    // No walk pays beyond its budget.
+    ensures bounded { IsBounded limits.now.budget report.new.paid report.new.visits }
+{
+    *report = report_at(0);
+    match limits_of(limits) {
+        Ok(limits) => judge(alloc, bytes, limits, report),
+        Err(status) => status,
+    }
+}

@@ -1,0 +1,190 @@
+//! What a message comes to beside its price.
+
+ghost use Rattle.std.specs.Prelude.{IsTrue, ◌≡◌, ◌↔◌, ◌<◌, ◌≤◌, [], ◌∷◌, Some, None, true, false, IfSome, length};
+ghost use Rattle.capn_words.specs.Message.{total};
+ghost use Rattle.capn_value.specs.Tree.{Tree as Value};
+ghost use Rattle.capn_walk.specs.Accepted.{IsAccepted, IsValueOf};
+ghost use Rattle.capn_walk.specs.Limits.{Bounds};
+ghost use Rattle.capn_canon.specs.Denotes.{Denotes};
+ghost use Rattle.capn_canon.specs.MemoryNeed.{MayWantMemory};
+ghost use Rattle.capn_canon.specs.declared.form.Form.TheVariants as forms;
+ghost use Rattle.capn_c.specs.Figures.{AreMeasures, IsCanonicalMessage, IsDepth, MeasuresIn, at_depth};
+
+use capn_canon::check;
+use capn_stream::first;
+use capn_walk::{Fault, Limits, Target, resolve, survey};
+use capn_words::{Bare, Place, Space};
+use std::alloc::Global;
+
+/// Where the pointer to the root stands.
+const ROOT: Place = Place {
+    segment: 0,
+    word: 0,
+};
+
+/// What a message comes to beside its price.
+#[derive(Clone, Copy)]
+pub struct Measured {
+    /// The words of all segments.
+    pub words: u32,
+    /// The number of segments.
+    pub segments: u32,
+    /// The least depth under which it is accepted.
+    pub depth: u32,
+    /// Whether it has one segment whose bytes are canonical.
+    pub canonical: bool,
+}
+
+/// The words of all segments.
+#[tactic(auto, using(std::proofs::lemmas::List::Sums::sum_by_more_le, std::proofs::lemmas::List::Sums::fold_more))]
+fn words_of_all<S: Space>(space: &S) -> u32
+    ensures { result ≡ total (S.message space.now) }
+{
+    let mut total = 0;
+    for segment in 0..space.segments() {
+        if let Some(words) = space.words(segment) {
+            total += words;
+        }
+    }
+    total
+}
+
+/// The same limits with a lower depth.
+fn limits_at(limits: Limits, depth: u32) -> Limits
+    requires some { 1 ≤ depth }
+    requires within { depth ≤ limits.depth }
+    ensures { result ≡ at_depth limits depth }
+{
+    let _deepest = limits.depth();
+    match Limits::new(limits.message_words(), limits.budget(), depth) {
+        Some(strict) => strict.with_tariff(limits.tariff()),
+        None => unreachable!(),
+    }
+}
+
+/// Whether it is null.
+fn is_nil(target: Target) -> bool
+    ensures { IsTrue result ↔ (target ≡ Target.Nil) }
+{
+    match target {
+        Target::Nil => true,
+        Target::Cap(_) => false,
+        Target::Content { .. } => false,
+    }
+}
+
+/// Whether a message has a null root, and so is accepted at depth 0.
+fn is_null<S: Space>(space: &S) -> bool
+    ensures { (limits : Bounds) → IsTrue result ↔ IsAccepted (S.message space.now) (at_depth limits 0) }
+{
+    if space.words(0).unwrap_or(0) == 0 {
+        return false;
+    }
+    match resolve(space, ROOT) {
+        Ok(target) => is_nil(target),
+        Err(_) => false,
+    }
+}
+
+/// Whether a message is accepted, or `None` where memory was refused.
+fn is_accepted<S: Space>(alloc: Global, space: &S, limits: Limits) -> Option<bool>
+    ensures yes { result ≡ Some true → IsAccepted (S.message space.now) limits }
+    ensures no { result ≡ Some false → IsAccepted (S.message space.now) limits → ⊥ }
+    ensures wanted { result ≡ None → 64 < limits.depth }
+{
+    match survey(alloc, space, limits) {
+        Ok(_) => Some(true),
+        Err(stopped) => match stopped.fault {
+            Fault::Memory => None,
+            _ => Some(false),
+        },
+    }
+}
+
+/// The least depth under which a message is accepted, or `None` where it is not, or memory was refused.
+fn depth_of<S: Space>(alloc: Global, space: &S, limits: Limits) -> Option<u32>
+    ensures found { IfSome result (λ d. IsDepth (S.message space.now) limits d) }
+    ensures wanted { (v : Value) → IsValueOf (S.message space.now) limits v → result ≡ None → 64 < limits.depth }
+{
+    if is_null(space) {
+        return Some(0);
+    }
+    for depth in 1..limits.depth() + 1 {
+        match is_accepted(alloc, space, limits_at(limits, depth)) {
+            Some(true) => return Some(depth),
+            Some(false) => {}
+            None => return None,
+        }
+    }
+    None
+}
+
+/// Whether the bytes of a message of one segment are canonical, or `None` where memory was refused.
+fn is_canonical_bare(alloc: Global, space: &Bare<'_>, limits: Limits) -> Option<bool>
+    ensures found { IfSome result (λ yes. IsTrue yes ↔ IsCanonicalMessage (space.now ∷ []) limits) }
+    ensures wanted { (v : Value) → IsValueOf (space.now ∷ []) limits v → result ≡ None → 64 < limits.depth }
+{
+    match check(alloc, space, limits) {
+        Ok(checked) => Some(checked.is_canonical),
+        Err(_) => None,
+    }
+}
+
+/// Whether a message has one segment whose bytes are canonical, or `None` where memory was refused.
+fn is_canonical_in<S: Space>(alloc: Global, space: &S, limits: Limits) -> Option<bool>
+    ensures found { IfSome result (λ yes. IsTrue yes ↔ IsCanonicalMessage (S.message space.now) limits) }
+    ensures wanted { (v : Value) → IsValueOf (S.message space.now) limits v → result ≡ None → 64 < limits.depth }
+{
+    if space.segments() > 1 {
+        return Some(false);
+    }
+    let words = space.words(0).unwrap_or(0);
+    match Bare::new(space.bytes(ROOT, 8 * words as usize)) {
+        Ok(bare) => is_canonical_bare(alloc, &bare, limits),
+        Err(_) => unreachable!(),
+    }
+}
+
+/// What a message comes to beside its price, or `None` where it is not accepted, or memory was refused.
+fn measure<S: Space>(alloc: Global, space: &S, limits: Limits) -> Option<Measured>
+    ensures found { IfSome result (λ m. AreMeasures (S.message space.now) limits m) }
+    ensures wanted { (v : Value) → IsValueOf (S.message space.now) limits v → result ≡ None → 64 < limits.depth }
+{
+    let depth = depth_of(alloc, space, limits)?;
+    let canonical = is_canonical_in(alloc, space, limits)?;
+    Some(Measured {
+        words: words_of_all(space),
+        segments: space.segments(),
+        depth,
+        canonical,
+    })
+}
+
+/// What the message of a stream comes to beside its price, or `None` if it is refused, or memory was.
+pub fn measure_frame(alloc: Global, bytes: &[u8], limits: Limits) -> Option<Measured>
+    ensures found { IfSome result (λ m. MeasuresIn forms.Stream bytes.now limits m) }
+    ensures wanted { (v : Value) → Denotes forms.Stream bytes.now limits v → result ≡ None
+        → MayWantMemory forms.Stream bytes.now limits }
+{
+    match first(alloc, bytes, limits.message_words()) {
+        Ok((message, taken)) => {
+            if taken < bytes.len() {
+                return None;
+            }
+            measure(alloc, &message, limits)
+        }
+        Err(_) => None,
+    }
+}
+
+/// What bare words come to beside their price, or `None` if they are refused, or memory was.
+pub fn measure_bare(alloc: Global, bytes: &[u8], limits: Limits) -> Option<Measured>
+    ensures found { IfSome result (λ m. MeasuresIn forms.Bare bytes.now limits m) }
+    ensures wanted { (v : Value) → Denotes forms.Bare bytes.now limits v → result ≡ None
+        → MayWantMemory forms.Bare bytes.now limits }
+{
+    match Bare::new(bytes) {
+        Ok(space) => measure(alloc, &space, limits),
+        Err(_) => None,
+    }
+}

@@ -1,0 +1,117 @@
+//! The figures of messages.
+
+ghost use Rattle.std.specs.Prelude.{IsTrue, ◌≡◌, ◌≢◌, ◌⊎◌, ◌↔◌, ◌≤◌, Some, None, IsSome, IfSome};
+ghost use Rattle.capn_value.specs.Tree.{Tree as Value};
+ghost use Rattle.capn_walk.specs.Accepted.{IsBounded};
+ghost use Rattle.capn_canon.specs.Denotes.{Denotes};
+ghost use Rattle.capn_canon.specs.Refusal.{IsUnacceptedIn};
+ghost use Rattle.capn_canon.specs.MemoryNeed.{MayWantMemory};
+ghost use Rattle.capn_canon.specs.declared.refusal.Refusal.{Refusal as Refusals};
+ghost use Rattle.capn_canon.specs.declared.form.Form.TheVariants as forms;
+ghost use Rattle.capn_c.specs.Calls.{form_named, GiveLimits, IsTariff, bounds_of};
+ghost use Rattle.capn_c.specs.StatusCodes.{Tells, answered, at_number, is_status};
+ghost use Rattle.capn_c.specs.Figures.{FiguresIn, IsFlat, MeasuresIn};
+
+use crate::status_codes::{BAD_FORM, DONE, refuse};
+use crate::figures::{CapnFigures, figures_of};
+use crate::limits::{CapnLimits, flat_form_of, limits_of};
+use crate::message_measures::{Measured, measure_bare, measure_frame};
+use crate::report::{CapnReport, answer_of, report_at};
+use capn_canon::{Form, Refusal, account};
+use capn_walk::Limits;
+use std::alloc::Global;
+
+/// What a message in a form comes to beside its price, or `None` where memory was refused.
+fn measure_in(alloc: Global, form: Form, bytes: &[u8], limits: Limits) -> Option<Measured>
+    requires { (form ≡ forms.Stream) ⊎ (form ≡ forms.Bare) }
+    ensures found { IfSome result (λ m. MeasuresIn form bytes.now limits m) }
+    ensures wanted { (v : Value) → Denotes form bytes.now limits v → result ≡ None
+        → MayWantMemory form bytes.now limits }
+{
+    match form {
+        Form::Stream => measure_frame(alloc, bytes, limits),
+        Form::Bare => measure_bare(alloc, bytes, limits),
+        Form::Packed => None,
+    }
+}
+
+/// The figures of a message in a form.
+fn survey_in(
+    alloc: Global,
+    form: Form,
+    bytes: &[u8],
+    limits: Limits,
+    figures: &mut CapnFigures,
+    report: &mut CapnReport,
+) -> u32
+    requires flat { (form ≡ forms.Stream) ⊎ (form ≡ forms.Bare) }
+    ensures told { (result ≡ 0) ⊎ (8 ≤ result) }
+    ensures found { result ≡ 0 → FiguresIn form bytes.now limits figures.new
+        × (report.new ≡ answered 0 figures.new.paid figures.new.visits) }
+    ensures only { (v : Value) → Denotes form bytes.now limits v → (result ≡ 0) ⊎ (result ≡ 8) }
+    ensures listed { IsTrue (is_status result) }
+    ensures refused { 8 ≤ result → (e : Refusals) × Tells result report.new e × IsUnacceptedIn form bytes.now limits e }
+    ensures wanted { result ≡ 8 → MayWantMemory form bytes.now limits }
+    ensures bounded { IsBounded limits.budget report.new.paid report.new.visits }
+    ensures kept { result ≢ 0 → figures.new ≡ figures.old }
+{
+    match account(alloc, form, bytes, limits) {
+        Ok(surveyed) => match measure_in(alloc, form, bytes, limits) {
+            Some(measured) => {
+                *figures = figures_of(surveyed, measured);
+                *report = answer_of(0, surveyed.paid, surveyed.visits);
+                DONE
+            }
+            None => refuse(Refusal::Memory, report),
+        },
+        Err(refusal) => refuse(refusal, report),
+    }
+}
+
+/// The figures of a message that is a stream or bare: its words and segments, what its walk pays and visits, the least
+/// depth under which it is accepted, its first capability, and whether its bytes are canonical.
+///
+/// 0: they are there. 2, 3 and 4: the form is neither, a limit or the tariff is out of its range. 8: memory was
+/// refused, as of `capn_check`. Others: the refusal, which is never that of a capability.
+///
+/// It walks the message three times, and once more for each level of its depth.
+#[unsafe(no_mangle)]
+pub extern "C" fn capn_survey(
+    alloc: Global,
+    form: u32,
+    bytes: &[u8],
+    limits: &CapnLimits,
+    figures: &mut CapnFigures,
+    report: &mut CapnReport,
+) -> u32
+    // What is ordered is tested first.
+    ensures form { (result ≡ 2) ↔ (IsFlat form → ⊥) }
+    ensures limits { (result ≡ 3) ↔ (IsFlat form × (GiveLimits limits.now → ⊥)) }
+    ensures tariff { (result ≡ 4) ↔ (IsFlat form × GiveLimits limits.now × (IsTariff limits.now.tariff → ⊥)) }
+    // The bytes are an accepted message, and these are its figures; the report says what its walk pays and visits.
+    ensures found { result ≡ 0 → FiguresIn (form_named form) bytes.now (bounds_of limits.now) figures.new
+        × (report.new ≡ answered 0 figures.new.paid figures.new.visits) }
+    // A message that is accepted has them, unless memory runs out.
+    ensures only { IsFlat form → GiveLimits limits.now → IsTariff limits.now.tariff → (v : Value)
+        → Denotes (form_named form) bytes.now (bounds_of limits.now) v → (result ≡ 0) ⊎ (result ≡ 8) }
+    ensures blank { 1 ≤ result → result ≤ 4 → report.new ≡ at_number 0 }
+    ensures listed { IsTrue (is_status result) }
+    // What each refusal means; no other status stands for it.
+    ensures refused { 5 ≤ result → (e : Refusals) × Tells result report.new e
+        × IsUnacceptedIn (form_named form) bytes.now (bounds_of limits.now) e }
+    // Memory is needed only for a depth above 64, and for where two segments or more end.
+    ensures wanted { result ≡ 8 → MayWantMemory (form_named form) bytes.now (bounds_of limits.now) }
+    // No walk pays beyond its budget.
+    ensures bounded { IsBounded limits.now.budget report.new.paid report.new.visits }
+    // If the call has no answer, the figures are as they were.
+    ensures kept { result ≢ 0 → figures.new ≡ figures.old }
+{
+    *report = report_at(0);
+    let Some(form) = flat_form_of(form) else {
+        return BAD_FORM;
+    };
+    match limits_of(limits) {
+        Ok(limits) => survey_in(alloc, form, bytes, limits, figures, report),
+        Err(status) => status,
+    }
+}

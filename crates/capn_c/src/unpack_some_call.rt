@@ -1,0 +1,82 @@
+//! Unpacking in pieces.
+
+ghost use Rattle.std.specs.Prelude.{IsTrue, ◌≡◌, ◌≢◌, ◌≤◌, ◌*◌, length};
+ghost use Rattle.capn_pack.specs.UnpackRefusal.{StartsWithin};
+ghost use Rattle.capn_c.specs.Calls.{IsWritten};
+ghost use Rattle.capn_c.specs.StatusCodes.{at_number, is_status};
+ghost use Rattle.capn_c.specs.UnpackedPieces.{UnpacksInto, next_code, progressed, words_in};
+
+use crate::status_codes::{DONE, MEMORY, PACKED_CUT, PACKED_TOO_LONG};
+use crate::report::{CapnReport, report_at};
+use capn_pack::{Next, Progress, unpack_some};
+use std::alloc::Global;
+
+/// The status of what stands next.
+fn code_of_next(next: Next) -> u32
+    ensures { result ≡ next_code next }
+{
+    match next {
+        Next::End => DONE,
+        Next::Cut => PACKED_CUT,
+        Next::TooLong => PACKED_TOO_LONG,
+    }
+}
+
+/// How far it came, as a report.
+fn report_of_progress(progress: Progress) -> CapnReport
+    ensures { result ≡ progressed (8 * progress.words) progress.bytes }
+{
+    CapnReport {
+        length: 8 * progress.words as u64,
+        ..report_at(progress.bytes as u64)
+    }
+}
+
+/// How many words a buffer of `bytes` bytes has room for.
+fn room_of(bytes: usize) -> u32
+    ensures { result ≡ words_in bytes }
+{
+    (bytes / 8).min(u32::MAX as usize) as u32
+}
+
+/// Writes bytes at the start of a buffer.
+fn put(bytes: &[u8], out: &mut [u8])
+    requires { length bytes.now ≤ length out.old }
+    ensures { IsWritten bytes.now out.old out.new }
+{
+    out[..bytes.len()].copy_from_slice(bytes);
+}
+
+/// The words of the whole groups that stand first in a packed text, as many as have room, into a buffer.
+///
+/// 0: the bytes are whole groups, and all of them were taken. 32: a group is cut, 33: one has no room; `at` is the
+/// offset of its tag. In these three `length` bytes were written and `at` were taken. 8: memory was refused.
+///
+/// It takes memory for the words that it writes.
+#[unsafe(no_mangle)]
+pub extern "C" fn capn_unpack_some(
+    alloc: Global,
+    bytes: &[u8],
+    out: &mut [u8],
+    report: &mut CapnReport,
+) -> u32
+    // What is in the buffer, and how far it came.
+    ensures some { result ≢ 8 → UnpacksInto bytes.now result report.new out.old out.new }
+    // Memory is needed only if a whole group that has room stands first.
+    ensures wanted { result ≡ 8 → StartsWithin bytes.now (words_in (length out.old)) }
+    ensures listed { IsTrue (is_status result) }
+    // Without memory nothing is reported, and the buffer is as it was.
+    ensures blank { result ≡ 8 → report.new ≡ at_number 0 }
+    ensures kept { result ≡ 8 → out.new ≡ out.old }
+{
+    *report = report_at(0);
+    let mut words = Vec::new(alloc);
+    match unpack_some(bytes, room_of(out.len()), &mut words) {
+        Ok(progress) => {
+            put(words.as_slice(), out);
+            *report = report_of_progress(progress);
+            code_of_next(progress.next)
+        }
+        Err(_) => MEMORY,
+    }
+}

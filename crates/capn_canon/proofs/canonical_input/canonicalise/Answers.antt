@@ -1,0 +1,58 @@
+-- The clauses on the bytes follow from what is answered and refused, by the laws of canonical forms.
+use Rattle.std.proofs.Common.{arith}
+use Rattle.capn_canon.proofs.InEachForm.{found_only, found_short, found_form}
+use Rattle.std.proofs.lemmas.Result.{IfOk-weaker}
+use Rattle.capn_canon.proofs.TheTheorem.{answered, equal_exactly, own_form, within_budget}
+use Rattle.capn_canon.proofs.canonical_input.canonicalise.Goals as goal
+
+pub returns-clause-only : goal.returns-clause-only
+returns-clause-only g c =
+    found_only c.in_form.result _ _ c.args.form c.args.bytes.now c.args.limits c.in_form.ensures.found
+    c.in_form.ensures.refused
+
+pub returns-clause-short : goal.returns-clause-short
+returns-clause-short g c =
+    found_short c.in_form.result _ _ c.args.form c.args.bytes.now c.args.limits (omega arith) (omega arith)
+    (omega arith) c.in_form.ensures.found
+
+pub returns-clause-reads_back : goal.returns-clause-reads_back
+returns-clause-reads_back g c =
+    found_form c.in_form.result _ _ c.args.form c.args.bytes.now c.args.limits _ (λ r v h. h.reads_back) (omega arith)
+    (omega arith) (omega arith) c.in_form.ensures.found
+
+pub returns-clause-pays : goal.returns-clause-pays
+returns-clause-pays g c =
+    found_form c.in_form.result _ _ c.args.form c.args.bytes.now c.args.limits _ (λ r v h. h.pays) (omega arith)
+    (omega arith) (omega arith) c.in_form.ensures.found
+
+pub returns-clause-own : goal.returns-clause-own
+returns-clause-own g c =
+    found_form c.in_form.result _ _ c.args.form c.args.bytes.now c.args.limits _ (λ r v h. h.own) (omega arith)
+    (omega arith) (omega arith) c.in_form.ensures.found
+
+pub returns-clause-exactly : goal.returns-clause-exactly
+returns-clause-exactly g c =
+    found_form c.in_form.result _ _ c.args.form c.args.bytes.now c.args.limits _ (λ r v h. h.exactly) (omega arith)
+    (omega arith) (omega arith) c.in_form.ensures.found
+
+pub returns-clause-answered : goal.returns-clause-answered
+returns-clause-answered g c =
+    answered c.args.form c.args.bytes.now c.args.limits c.in_form.result c.in_form.ensures.found
+    c.in_form.ensures.refused
+
+pub returns-clause-equal : goal.returns-clause-equal
+returns-clause-equal g c =
+    IfOk-weaker c.in_form.result _ _
+    (λ x h. equal_exactly c.args.form c.args.bytes.now c.args.limits (omega arith) (omega arith) (omega arith) _ _ h)
+    c.in_form.ensures.found
+
+pub returns-clause-second : goal.returns-clause-second
+returns-clause-second g c =
+    IfOk-weaker c.in_form.result _ _
+    (λ x h. own_form c.args.form c.args.bytes.now c.args.limits (omega arith) (omega arith) (omega arith) x h)
+    c.in_form.ensures.found
+
+pub returns-clause-within : goal.returns-clause-within
+returns-clause-within g c =
+    within_budget c.args.form c.args.bytes.now c.args.limits c.in_form.result c.in_form.ensures.found
+    c.in_form.ensures.refused

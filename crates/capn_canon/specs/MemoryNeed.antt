@@ -1,0 +1,33 @@
+-- Where memory may be needed to survey a message, and to lay out its value. (Own.)
+use Rattle.std.specs.Prelude.{◌≡◌, ◌⊎◌, ℕ, ◌+◌, ◌<◌, List, None}
+use Rattle.capn_pack.specs.UnpackRefusal.{StartsWithin}
+use Rattle.capn_stream.specs.Frames.{most_table_words}
+use Rattle.capn_stream.specs.FrameRefusal.{HasTable}
+use Rattle.capn_value.specs.Tree.{Tree}
+use Rattle.capn_value.specs.FirstCap.{first_cap}
+use Rattle.capn_walk.specs.Accepted.{IsValueOf}
+use Rattle.capn_walk.specs.Limits.{Bounds}
+use Rattle.capn_canon.specs.Denotes.{Denotes}
+use Rattle.capn_canon.specs.declared.form.Form.{Form}
+use Rattle.capn_canon.specs.declared.form.Form.TheVariants as forms
+use Rattle.capn_canon.specs.Reads.{Reads}
+
+-- the bytes are read as a message, which may be more than 64 objects deep
+abbrev pub MayBeDeep : Form → List ℕ → Bounds → Type 0
+MayBeDeep form bs limits = (64 < limits.depth) × (message : List (List ℕ)) × Reads form bs limits.message_words message
+
+-- memory may be needed: of bare words, if they may be so deep; of a stream, there, and if a whole frame of two segments
+-- or more stands first; of a packed text, only if a whole group within the maximum stands first
+abbrev pub MayWantMemory : Form → List ℕ → Bounds → Type 0
+MayWantMemory forms.Bare bs limits = MayBeDeep forms.Bare bs limits
+MayWantMemory forms.Stream bs limits = HasTable bs limits.message_words ⊎ MayBeDeep forms.Stream bs limits
+MayWantMemory forms.Packed bs limits = StartsWithin bs (limits.message_words + most_table_words)
+
+-- memory may be needed to lay out a message: it may be more than 64 objects deep, or has canonical bytes
+abbrev pub MayWantBytes : List (List ℕ) → Bounds → Type 0
+MayWantBytes message limits = (64 < limits.depth) ⊎ ((v : Tree) × IsValueOf message limits v × (first_cap v ≡ None))
+
+-- memory may be needed for bytes that are read in a form: it may be needed to survey them, or they have canonical bytes
+abbrev pub MayWantBytesIn : Form → List ℕ → Bounds → Type 0
+MayWantBytesIn form bs limits =
+    MayWantMemory form bs limits ⊎ ((v : Tree) × Denotes form bs limits v × (first_cap v ≡ None))

@@ -1,0 +1,70 @@
+-- Why bytes have no canonical bytes, in each form: by their reading, by the walk of the message, by a capability.
+-- (Own: the order of the tests.)
+use Rattle.std.specs.Prelude.{◌≡◌, ◌≢◌, ℕ, ◌+◌, List, Some, Err, ⊤}
+use Rattle.capn_words.specs.Message.{ReadsBare}
+use Rattle.capn_pack.specs.UnpackRefusal as packs
+use Rattle.capn_pack.specs.declared.fault.UnpackFault.TheVariants as unpack_faults
+use Rattle.capn_stream.specs.Frames.{most_table_words}
+use Rattle.capn_stream.specs.FrameRefusal as frames
+use Rattle.capn_stream.specs.declared.fault.FrameFault.TheVariants as frame_faults
+use Rattle.capn_value.specs.Tree.{Tree}
+use Rattle.capn_value.specs.FirstCap.{first_cap}
+use Rattle.capn_walk.specs.Accepted as walks
+use Rattle.capn_walk.specs.Limits.{Bounds}
+use Rattle.capn_canon.specs.declared.form.Form.{Form}
+use Rattle.capn_canon.specs.declared.form.Form.TheVariants as forms
+use Rattle.capn_canon.specs.declared.refusal.Refusal.{Refusal}
+use Rattle.capn_canon.specs.declared.refusal.Refusal.TheVariants as refusals
+use Rattle.capn_canon.specs.Reads.{Reads, Trails, Unpacks}
+
+-- the bytes are no frame of at most `most` words, or more than one
+abbrev pub IsMisframed : List ℕ → ℕ → Refusal → Type 0
+IsMisframed bs most (refusals.Frame e) = (e ≢ frame_faults.Memory) × frames.IsRefused bs most e
+IsMisframed bs most (refusals.Trailing at) = Trails bs most at
+IsMisframed bs most _ = ⊥
+
+-- the bytes are not read in the form
+abbrev pub IsMisread : Form → List ℕ → ℕ → Refusal → Type 0
+IsMisread forms.Bare bs most (refusals.Bare e) = ReadsBare bs (Err e)
+IsMisread forms.Bare bs most _ = ⊥
+IsMisread forms.Stream bs most r = IsMisframed bs most r
+IsMisread forms.Packed bs most (refusals.Packed e) = (e ≢ unpack_faults.Memory)
+    × packs.IsRefused bs (most + most_table_words) e
+IsMisread forms.Packed bs most r = (text : List ℕ) × Unpacks bs most text × IsMisframed text most r
+
+-- the message is not accepted, or its value has a capability, whose index is given; nothing is said of running out of
+-- memory
+abbrev pub IsRefusedMessage : List (List ℕ) → Bounds → Refusal → Type 0
+IsRefusedMessage message limits (refusals.Walk s) = walks.IsRefused message limits s.fault s.place s.paid s.visits
+IsRefusedMessage message limits (refusals.Capability k) = (v : Tree) × walks.IsValueOf message limits v
+    × (first_cap v ≡ Some k)
+IsRefusedMessage message limits refusals.Memory = ⊤
+IsRefusedMessage message limits _ = ⊥
+
+-- the bytes are not read, or the message that they are read as is refused
+abbrev pub IsRefused : Form → List ℕ → Bounds → Refusal → Type 0
+IsRefused form bs limits (refusals.Walk s) =
+    (message : List (List ℕ)) × Reads form bs limits.message_words message
+    × IsRefusedMessage message limits (refusals.Walk s)
+IsRefused form bs limits (refusals.Capability k) =
+    (message : List (List ℕ)) × Reads form bs limits.message_words message
+    × IsRefusedMessage message limits (refusals.Capability k)
+IsRefused form bs limits refusals.Memory = ⊤
+IsRefused form bs limits r = IsMisread form bs limits.message_words r
+
+-- what a refusal reports as paid is within a budget, and the visits are at most one more
+abbrev pub IsPaidWithin : ℕ → Refusal → Type 0
+IsPaidWithin budget (refusals.Walk s) = walks.IsBounded budget s.paid s.visits
+IsPaidWithin budget _ = ⊤
+
+-- the message is not accepted; nothing is said of running out of memory
+abbrev pub IsUnaccepted : List (List ℕ) → Bounds → Refusal → Type 0
+IsUnaccepted message limits (refusals.Walk s) = walks.IsRefused message limits s.fault s.place s.paid s.visits
+IsUnaccepted message limits refusals.Memory = ⊤
+IsUnaccepted message limits _ = ⊥
+
+-- the bytes are not read, or the message that they are read as is not accepted; nothing is said of running out of
+-- memory
+abbrev pub IsUnacceptedIn : Form → List ℕ → Bounds → Refusal → Type 0
+IsUnacceptedIn form bs limits (refusals.Capability k) = ⊥
+IsUnacceptedIn form bs limits r = IsRefused form bs limits r

@@ -1,0 +1,13 @@
+-- What a survey of bytes reports.
+use Rattle.std.specs.Prelude.{ℕ, List}
+use Rattle.capn_walk.specs.declared.survey_answer.Surveyed.{Surveyed}
+use Rattle.capn_walk.specs.Limits.{Bounds}
+use Rattle.capn_walk.specs.Surveyed.{IsSurvey}
+use Rattle.capn_canon.specs.declared.form.Form.{Form}
+use Rattle.capn_canon.specs.Reads.{Reads}
+
+-- the bytes are read as an accepted message, of which the survey is
+pub record Surveys (form : Form) (bs : List ℕ) (limits : Bounds) (s : Surveyed) : Type 0 where
+  pub message : List (List ℕ)
+  pub reads : Reads form bs limits.message_words message
+  pub survey : IsSurvey message limits s

@@ -1,0 +1,45 @@
+//! A survey of all that a message holds.
+
+ghost use Rattle.std.specs.Prelude.{◌≡◌, ◌≢◌, ℕ, ◌≤◌, IfOk, IfErr, MatchResult};
+ghost use Rattle.capn_value.specs.Tree.{Tree as Value};
+ghost use Rattle.capn_value.specs.FirstCap.{first_cap};
+ghost use Rattle.capn_walk.specs.Accepted.{IsValueOf, IsBounded};
+ghost use Rattle.capn_walk.specs.Surveyed.{IsSurvey};
+ghost use Rattle.capn_canon.specs.Refusal.{IsUnaccepted, IsPaidWithin};
+ghost use Rattle.capn_canon.specs.declared.refusal.Refusal.TheVariants as refusals;
+
+use crate::refusal::Refusal;
+use capn_walk::{Fault, Limits, Surveyed};
+use capn_words::Space;
+use std::alloc::Allocator;
+
+/// What the walk of a message pays and visits within the limits, and its first capability.
+///
+/// `Walk`: the message is not accepted. `Memory` comes only where a growth was refused, for a depth above 64; no other
+/// refusal comes.
+pub fn survey<A: Allocator + Copy, S: Space>(
+    alloc: A,
+    space: &S,
+    limits: Limits,
+) -> Result<Surveyed, Refusal>
+    // The answer: what the walk of the accepted message pays, its visits, and the first capability of its value.
+    ensures found { IfOk result (λ s. IsSurvey (S.message space.now) limits s) }
+    // An accepted message is answered, unless memory runs out.
+    ensures only { (v : Value) → IsValueOf (S.message space.now) limits v
+        → MatchResult result (λ s. s.capability ≡ first_cap v) (λ e. e ≡ refusals.Memory) }
+    // What each refusal means.
+    ensures refused { IfErr result (λ e. IsUnaccepted (S.message space.now) limits e) }
+    // Memory is needed only for a depth above 64.
+    ensures inline { limits.depth ≤ 64 → IfErr result (λ e. e ≢ refusals.Memory) }
+    // No walk pays beyond its budget.
+    ensures bounded { MatchResult result (λ s. IsBounded limits.budget s.paid s.visits)
+        (λ e. IsPaidWithin limits.budget e) }
+{
+    match capn_walk::survey(alloc, space, limits) {
+        Ok(told) => Ok(told),
+        Err(stopped) => match stopped.fault {
+            Fault::Memory => Err(Refusal::Memory),
+            _ => Err(Refusal::Walk(stopped)),
+        },
+    }
+}

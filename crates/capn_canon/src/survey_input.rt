@@ -1,0 +1,117 @@
+//! A survey of a message in each form.
+
+ghost use Rattle.std.specs.Prelude.{◌≡◌, ◌≤◌, ◌+◌, ◌*◌, length, IfOk, IfErr, IsErrOf, MatchResult};
+ghost use Rattle.capn_value.specs.Tree.{Tree as Value};
+ghost use Rattle.capn_value.specs.FirstCap.{first_cap};
+ghost use Rattle.capn_walk.specs.Accepted.{IsBounded};
+ghost use Rattle.capn_canon.specs.Denotes.{Denotes};
+ghost use Rattle.capn_canon.specs.Layout.{canon};
+ghost use Rattle.capn_canon.specs.Refusal.{IsUnacceptedIn, IsPaidWithin};
+ghost use Rattle.capn_canon.specs.inner.Outcomes.{AreSurveyed};
+ghost use Rattle.capn_canon.specs.SurveyedBytes.{Surveys};
+ghost use Rattle.capn_canon.specs.MemoryNeed.{MayWantMemory};
+ghost use Rattle.capn_canon.specs.declared.form.Form.TheVariants as forms;
+ghost use Rattle.capn_canon.specs.declared.refusal.Refusal.TheVariants as refusals;
+
+use crate::form::Form;
+use crate::refusal::Refusal;
+use crate::message_survey::survey;
+use capn_pack::{UnpackFault, unpack};
+use capn_stream::{FrameFault, MOST_TABLE_WORDS, first};
+use capn_walk::{Limits, Surveyed};
+use capn_words::Bare;
+use std::alloc::Allocator;
+
+/// Of the words of one segment.
+fn of_bare<A: Allocator + Copy>(alloc: A, bytes: &[u8], limits: Limits) -> Result<Surveyed, Refusal>
+    ensures { AreSurveyed forms.Bare bytes.now limits result }
+{
+    match Bare::new(bytes) {
+        Ok(space) => survey(alloc, &space, limits),
+        Err(fault) => Err(Refusal::Bare(fault)),
+    }
+}
+
+/// Of a frame.
+fn of_frame<A: Allocator + Copy>(
+    alloc: A,
+    bytes: &[u8],
+    limits: Limits,
+) -> Result<Surveyed, Refusal>
+    ensures { AreSurveyed forms.Stream bytes.now limits result }
+{
+    match first(alloc, bytes, limits.message_words()) {
+        Ok((message, taken)) => {
+            if taken < bytes.len() {
+                return Err(Refusal::Trailing(taken as u64));
+            }
+            survey(alloc, &message, limits)
+        }
+        Err(FrameFault::Memory) => Err(Refusal::Memory),
+        Err(fault) => Err(Refusal::Frame(fault)),
+    }
+}
+
+/// Of the packed text of a frame.
+fn of_packed<A: Allocator + Copy>(
+    alloc: A,
+    bytes: &[u8],
+    limits: Limits,
+) -> Result<Surveyed, Refusal>
+    ensures { AreSurveyed forms.Packed bytes.now limits result }
+{
+    match unpack(alloc, bytes, limits.message_words() + MOST_TABLE_WORDS) {
+        Ok(text) => of_frame(alloc, text.as_slice(), limits),
+        Err(UnpackFault::Memory) => Err(Refusal::Memory),
+        Err(fault) => Err(Refusal::Packed(fault)),
+    }
+}
+
+/// In the form that is named.
+fn in_form<A: Allocator + Copy>(
+    alloc: A,
+    form: Form,
+    bytes: &[u8],
+    limits: Limits,
+) -> Result<Surveyed, Refusal>
+    ensures { AreSurveyed form bytes.now limits result }
+{
+    match form {
+        Form::Stream => of_frame(alloc, bytes, limits),
+        Form::Packed => of_packed(alloc, bytes, limits),
+        Form::Bare => of_bare(alloc, bytes, limits),
+    }
+}
+
+/// What the walk of the message pays and visits that bytes are in a form, and its first capability, within the limits.
+///
+/// It refuses as [`crate::canonicalise`] does, but never for a capability. `Memory` comes only where a growth was
+/// refused: for the table of segments, for what is unpacked, or for a depth above 64.
+pub fn account<A: Allocator + Copy>(
+    alloc: A,
+    form: Form,
+    bytes: &[u8],
+    limits: Limits,
+) -> Result<Surveyed, Refusal>
+    // The answer: the bytes are an accepted message, and these are its price, its visits and its first capability.
+    ensures found { IfOk result (λ s. Surveys form bytes.now limits s) }
+    // Bytes that denote a value are answered, unless memory runs out.
+    ensures only { (v : Value) → Denotes form bytes.now limits v
+        → MatchResult result (λ s. s.capability ≡ first_cap v) (λ e. e ≡ refusals.Memory) }
+    // What each refusal means.
+    ensures refused { IfErr result (λ e. IsUnacceptedIn form bytes.now limits e) }
+    // Memory is needed only for a depth above 64, for where two segments or more end, and for what a text packs.
+    ensures wanted { IsErrOf result refusals.Memory → MayWantMemory form bytes.now limits }
+    // No walk pays beyond its budget.
+    ensures bounded { MatchResult result (λ s. IsBounded limits.budget s.paid s.visits)
+        (λ e. IsPaidWithin limits.budget e) }
+    // The canonical bytes of the value are at most 8 for each word paid, and 8 more.
+    ensures short { IfOk result (λ s. (v : Value) → Denotes form bytes.now limits v
+        → length (canon v) ≤ 8 * (s.paid + 1)) }
+{
+    // The clause on the length needs what they promise of limits.
+    let _words = limits.message_words();
+    let _budget = limits.budget();
+    let _depth = limits.depth();
+    in_form(alloc, form, bytes, limits)
+}

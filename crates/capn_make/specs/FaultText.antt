@@ -1,0 +1,26 @@
+-- The text of a fault and the exit status of a run that ends with it. (Own.)
+use Rattle.std.specs.Prelude.{ℕ, List, ◌++◌, codes}
+use Rattle.std.specs.Fmt.{decimal}
+use Rattle.capn_value.specs.Display.{misfit_name}
+use Rattle.capn_make.specs.declared.fault.MakeFault.{MakeFault}
+use Rattle.capn_make.specs.declared.fault.MakeFault.TheVariants as faults
+
+-- why a run ended
+abbrev pub fault_text : MakeFault → List ℕ
+fault_text faults.Memory = codes "out of memory"
+fault_text faults.Io = codes "input or output failed"
+fault_text (faults.NotText n) = codes "line " ++ (decimal n ++ codes ": not the text of a value")
+fault_text (faults.Misfit n misfit) = codes "line " ++ (decimal n ++ (codes ": " ++ misfit_name misfit))
+fault_text (faults.Capability n index) = codes "line " ++ (decimal n ++ (codes ": capability " ++ decimal index))
+fault_text (faults.Another n) = codes "line " ++ (decimal n ++ codes ": another text")
+fault_text faults.NoText = codes "line 1: no text"
+
+-- 1 where the input is refused, 3 where memory, the reader or the writer failed
+abbrev pub status_of : MakeFault → ℕ
+status_of faults.Memory = 3
+status_of faults.Io = 3
+status_of (faults.NotText n) = 1
+status_of (faults.Misfit n misfit) = 1
+status_of (faults.Capability n index) = 1
+status_of (faults.Another n) = 1
+status_of faults.NoText = 1

@@ -1,0 +1,46 @@
+-- What a run of `make` did. (Own.)
+use Rattle.std.specs.Prelude.{◌≡◌, ◌⊎◌, ◌↔◌, ℕ, List, [], ◌∷◌, Bool, true, Option, IfSome, Result, Ok, Err}
+use Rattle.std.specs.Io.KnownBytes.{Appends, Consumes}
+use Rattle.capn_words.specs.Watched.{HasBegun}
+use Rattle.capn_value.specs.Tree.{Tree}
+use Rattle.capn_canon.specs.Layout.{canon}
+use Rattle.capn_canon.specs.declared.form.Form.{Form}
+use Rattle.capn_canon.specs.declared.form.Form.TheVariants as forms
+use Rattle.capn_make.specs.WrittenValue.{AreMade}
+use Rattle.capn_make.specs.MadeInput.{AreFirst, Makes}
+use Rattle.capn_make.specs.declared.fault.MakeFault.{MakeFault}
+use Rattle.capn_make.specs.declared.fault.MakeFault.TheVariants as faults
+
+-- a beginning was written of what is made of the first texts of an input
+abbrev pub HasBegunEach : Form → List ℕ → Option (List ℕ) → Option (List ℕ) → Type 0
+HasBegunEach form input c d = (vs : List Tree) × (rest : List ℕ) × (text : List ℕ) × AreFirst vs input rest
+    × AreMade form vs text × HasBegun c d text
+
+-- nothing was written, or a beginning of what is made of the one text that an input is
+abbrev pub HasBegunOne : List ℕ → Option (List ℕ) → Option (List ℕ) → Type 0
+HasBegunOne input c d = Appends c d [] ⊎ ((v : Tree) × AreFirst (v ∷ []) input [] × HasBegun c d (canon v))
+
+-- a beginning was written of what is made of an input in a form
+abbrev pub HasBegunText : Form → List ℕ → Option (List ℕ) → Option (List ℕ) → Type 0
+HasBegunText forms.Stream input c d = HasBegunEach forms.Stream input c d
+HasBegunText forms.Packed input c d = HasBegunEach forms.Packed input c d
+HasBegunText forms.Bare input c d = HasBegunOne input c d
+
+-- what is made of all of an input was written, and the run ended as that does; or memory was refused, or the reader or
+-- the writer failed
+abbrev pub EndsAs : Form → Option (List ℕ) → Option (List ℕ) → Result (Unit {0}) MakeFault → List ℕ → Type 0
+EndsAs form c d (Ok u) input = (text : List ℕ) × Makes form input text (Ok u) × Appends c d text
+EndsAs form c d (Err fault) input = (fault ≡ faults.Memory) ⊎ ((fault ≡ faults.Io)
+    ⊎ ((text : List ℕ) × Makes form input text (Err fault) × Appends c d text))
+
+-- what a run did, over a reader (from a to b) and a writer (from c to d), and how it ended
+pub record Made (form : Form) (a b c d : Option (List ℕ)) (reader_failed writer_failed : Bool)
+    (r : Result (Unit {0}) MakeFault) : Type 0 where
+  -- of an input that is known it has written what is made, and ended as that does
+  pub exact : IfSome a (EndsAs form c d r)
+  -- it ended with Io exactly if one of the two has failed
+  pub io : (r ≡ Err faults.Io) ↔ ((reader_failed ≡ true) ⊎ (writer_failed ≡ true))
+  -- however it ended, a beginning was written of what is made of the bytes that were read
+  pub begun : (bytes : List ℕ) × Consumes a b bytes × HasBegunText form bytes c d
+  -- if the reader failed, nothing was written
+  pub unread : reader_failed ≡ true → Appends c d []

@@ -1,0 +1,60 @@
+//! From the texts of an input to what is made of them.
+
+ghost use Rattle.std.specs.Prelude.{◌≡◌, false};
+ghost use Rattle.capn_words.specs.Watched.{inner_of, has_failed};
+ghost use Rattle.capn_make.specs.MakeRun.{Made};
+ghost use Rattle.capn_make.specs.inner.RunParts.{Sends};
+
+use crate::each_text::make_each;
+use crate::fault::MakeFault;
+use crate::input::read_all;
+use crate::one_text::make_one;
+use capn_canon::Form;
+use capn_words::Watched;
+use std::alloc::Allocator;
+use std::io::{Read, Write};
+
+/// Writes what is made of the texts of an input.
+fn make_all<W: Write, A: Allocator + Copy>(
+    alloc: A,
+    form: Form,
+    input: &[u8],
+    writer: &mut Watched<W>,
+) -> Result<(), MakeFault>
+    requires { has_failed writer.old ≡ false }
+    ensures { Sends form input.now (W.contents (inner_of writer.old)) (W.contents (inner_of writer.new))
+        (has_failed writer.new) result }
+{
+    match form {
+        Form::Stream => make_each(alloc, Form::Stream, input, writer),
+        Form::Packed => make_each(alloc, Form::Packed, input, writer),
+        Form::Bare => make_one(alloc, input, writer),
+    }
+}
+
+/// Reads texts of values to the end of the input, each with its line `end`, and writes the canonical bytes of each
+/// value: in [`Form::Stream`] as a frame of one segment, in [`Form::Packed`] as the packed text of that frame, in
+/// [`Form::Bare`] as they are, of exactly one text. This is the inverse of [`capn_value::show`].
+///
+/// It ends as done, or with the first fault. `NotText`, `Misfit` or `Capability`: the next text is refused, in this
+/// order; those before it have been written. In form `Bare` nothing is written then, and more than one text is
+/// `Another`, or `NotText` if the line after the first text begins none; no text is `NoText`. In the other forms an
+/// input without texts is done. `Io` exactly if the reader or the writer failed; `Memory` if a growth was refused.
+///
+/// The reader is asked for at most 65,536 bytes at once. It holds all of the input, then one value and what is written
+/// of it, which is written before the next text is read. What a text announces is never allocated.
+pub fn make<R: Read, W: Write, A: Allocator + Copy>(
+    alloc: A,
+    form: Form,
+    reader: &mut Watched<R>,
+    writer: &mut Watched<W>,
+) -> Result<(), MakeFault>
+    requires reader_fine { has_failed reader.old ≡ false }
+    requires writer_fine { has_failed writer.old ≡ false }
+    ensures { Made form (R.remaining (inner_of reader.old)) (R.remaining (inner_of reader.new))
+        (W.contents (inner_of writer.old)) (W.contents (inner_of writer.new)) (has_failed reader.new)
+        (has_failed writer.new) result }
+{
+    let input = read_all(alloc, reader)?;
+    make_all(alloc, form, &input, writer)
+}

@@ -1,0 +1,57 @@
+//! The next text of an input, and what is written of its value.
+
+ghost use Rattle.std.specs.Prelude.{◌≡◌, None, Some, IfOk, IfErr, ◌⊎◌};
+ghost use Rattle.capn_value.specs.FirstCap.{first_cap};
+ghost use Rattle.capn_make.specs.WrittenValue.{IsPiece};
+ghost use Rattle.capn_make.specs.inner.RunParts as spec;
+ghost use Rattle.capn_make.specs.inner.RunParts.{MakesNext, MakesValue};
+
+use crate::fault::MakeFault;
+use crate::written_value::piece_of;
+use capn_canon::{Form, LayoutFault};
+use capn_text::{TextFault, Texts};
+use capn_value::Tree;
+use std::alloc::Allocator;
+
+/// Why the next text, from a line on, is not read.
+fn unread(line: u64, fault: TextFault) -> MakeFault
+    ensures { result ≡ spec.unread line fault }
+{
+    match fault {
+        TextFault::Memory => MakeFault::Memory,
+        TextFault::Line(n) => MakeFault::NotText(n),
+        TextFault::Misfit(misfit) => MakeFault::Misfit(line, misfit),
+    }
+}
+
+/// What is written of the tree whose text begins at a line.
+fn made<A: Allocator + Copy>(
+    alloc: A,
+    form: Form,
+    line: u64,
+    tree: Tree<A>,
+) -> Result<Vec<u8, A>, MakeFault>
+    ensures { MakesValue form line tree result }
+{
+    match piece_of(alloc, form, &tree) {
+        Ok(piece) => Ok(piece),
+        Err(LayoutFault::Memory) => Err(MakeFault::Memory),
+        Err(LayoutFault::Capability(index)) => Err(MakeFault::Capability(line, index)),
+    }
+}
+
+/// What is written of the value of the next text, or nothing at the end of the input.
+pub(crate) fn next_piece<A: Allocator + Copy>(
+    alloc: A,
+    form: Form,
+    texts: &mut Texts,
+) -> Result<Option<Vec<u8, A>>, MakeFault>
+    ensures { MakesNext form texts.old texts.new result }
+{
+    let line = texts.line();
+    match texts.read_next(alloc) {
+        Ok(Some(tree)) => Ok(Some(made(alloc, form, line, tree)?)),
+        Ok(None) => Ok(None),
+        Err(fault) => Err(unread(line, fault)),
+    }
+}

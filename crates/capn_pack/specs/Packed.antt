@@ -1,0 +1,77 @@
+-- Packed texts are rows of groups. A word is its eight bytes, the least first. (Page: packing.)
+use Rattle.std.specs.Prelude.{ℕ, ◌≡◌, ◌+◌, ◌*◌, ◌/◌, ◌%◌, ◌<◌, ◌==◌, if◌then◌else◌, List, [], ◌∷◌, ◌++◌, length}
+use Rattle.std.specs.Prelude.{replicate, ⊤}
+use Rattle.std.specs.List.{flat_map, AllByRecursion}
+
+-- ---- the tag of a word, one bit for each of its eight bytes, and the three kinds of group. A word is its eight bytes,
+-- the least first. (Page: packing.)
+
+-- The tag of some bytes: from the least bit on, 1 exactly where the byte isn't zero.
+abbrev pub tag_of : List ℕ → ℕ
+tag_of [] = 0
+tag_of (x ∷ xs) = (if x == 0 then 0 else 1) + 2 * tag_of xs
+
+-- The bytes that a tag names: those whose bit is 1.
+abbrev pub named_bytes : ℕ → List ℕ → List ℕ
+named_bytes tag [] = []
+named_bytes tag (x ∷ xs) = if tag % 2 == 1 then x ∷ named_bytes (tag / 2) xs else named_bytes (tag / 2) xs
+
+-- Each byte that the tag does not name is zero.
+abbrev pub IsNamedBy : ℕ → List ℕ → Type 0
+IsNamedBy tag [] = ⊤
+IsNamedBy tag (x ∷ xs) = (tag % 2 ≡ 0 → x ≡ 0) × IsNamedBy (tag / 2) xs
+
+-- One group of a packed text.
+pub data Group : Type 0 where
+  -- a word of zeros, and this many more
+  Zeros : (more : ℕ) → Group
+  -- one word, of which the bytes that the tag names are written
+  Named : (tag : ℕ) (word : List ℕ) → Group
+  -- one word written whole, and this many more, copied
+  Raw : (word : List ℕ) (count : ℕ) (more : List ℕ) → Group
+
+-- The numbers of a group fit: counts are bytes, words have eight bytes, and what no tag names is zero.
+abbrev pub IsGroup : Group → Type 0
+IsGroup (Zeros more) = more < 256
+IsGroup (Named tag word) = (0 < tag) × (tag < 255) × (length word ≡ 8) × IsNamedBy tag word
+IsGroup (Raw word count more) = (length word ≡ 8) × (count < 256) × (length more ≡ 8 * count)
+
+-- How a group is written: its tag, then what the tag asks for.
+abbrev pub text : Group → List ℕ
+text (Zeros more) = 0 ∷ more ∷ []
+text (Named tag word) = tag ∷ named_bytes tag word
+text (Raw word count more) = 255 ∷ word ++ count ∷ more
+
+-- The bytes of a group's words.
+abbrev pub content : Group → List ℕ
+content (Zeros more) = replicate (8 * (1 + more)) 0
+content (Named tag word) = word
+content (Raw word count more) = word ++ more
+
+-- How many words a group has.
+abbrev pub words : Group → ℕ
+words (Zeros more) = 1 + more
+words (Named tag word) = 1
+words (Raw word count more) = 1 + count
+
+-- ---- packed texts: rows of groups. (Page: packing.)
+
+-- The groups, written one after another.
+abbrev pub texts : List Group → List ℕ
+texts groups = flat_map text groups
+
+-- The bytes of all their words, joined.
+abbrev pub contents : List Group → List ℕ
+contents groups = flat_map content groups
+
+-- How many words a row of groups has.
+abbrev pub word_count : List Group → ℕ
+word_count [] = 0
+word_count (g ∷ gs) = words g + word_count gs
+
+-- The text b packs the words whose bytes are bs: it is a row of groups, and bs are their words joined.
+pub record Packs (b bs : List ℕ) : Type 0 where
+  pub groups : List Group
+  pub each : AllByRecursion IsGroup groups
+  pub text : b ≡ texts groups
+  pub content : bs ≡ contents groups

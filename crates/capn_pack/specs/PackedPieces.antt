@@ -1,0 +1,44 @@
+-- A packed text that comes in pieces. (Own.)
+use Rattle.std.specs.Prelude.{ℕ, ◌≡◌, ◌+◌, ◌-◌, ◌^◌, ◌++◌, List, Bool, false, length, min}
+use Rattle.std.specs.List.{AllByRecursion}
+use Rattle.capn_pack.specs.Packed.{Group, IsGroup, text, texts, contents}
+
+-- No whole group stands at the front of these bytes.
+abbrev pub NoGroupFirst : List ℕ → Type 0
+NoGroupFirst rest = (group : Group) (more : List ℕ) → IsGroup group → rest ≡ text group ++ more → ⊥
+
+-- The stream is whole groups of len bytes, whose words were appended, and then a rest that no group begins.
+pub record Splits (stream rest old new : List ℕ) (len : ℕ) : Type 0 where
+  pub groups : List Group
+  pub each : AllByRecursion IsGroup groups
+  pub text : stream ≡ texts groups ++ rest
+  pub content : new ≡ old ++ contents groups
+  pub size : len ≡ length (texts groups)
+  pub open_rest : NoGroupFirst rest
+
+-- A beginning of the stream's words was appended.
+pub record Begins (stream old new : List ℕ) : Type 0 where
+  pub groups : List Group
+  pub rest : List ℕ
+  pub each : AllByRecursion IsGroup groups
+  pub text : stream ≡ texts groups ++ rest
+  pub content : new ≡ old ++ contents groups
+
+-- What an unpacker holds: the bytes of the unfinished group, where in the stream it begins, and whether a call has
+-- refused.
+pub record Held : Type 0 where
+  pub rest : List ℕ
+  pub offset : ℕ
+  pub failed : Bool
+
+-- The offset `len` bytes after another; offsets stop at the greatest number of 64 bits.
+abbrev pub advanced : ℕ → ℕ → ℕ
+advanced offset len = min (offset + len) (2 ^ 64 - 1)
+
+-- What was held and the piece are whole groups, whose words were appended, and what is held then.
+pub record Feeds (before : Held) (piece old new : List ℕ) (after : Held) : Type 0 where
+  pub len : ℕ
+  pub split : Splits (before.rest ++ piece) after.rest old new len
+  pub offset : after.offset ≡ advanced before.offset len
+  pub was_good : before.failed ≡ false
+  pub is_good : after.failed ≡ false

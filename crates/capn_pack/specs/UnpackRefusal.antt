@@ -1,0 +1,62 @@
+-- What is answered where a text packs no words, or more than the maximum. (Own.)
+use Rattle.std.specs.Prelude.{ℕ, ◌≡◌, ◌⊎◌, ◌+◌, ◌*◌, ◌<◌, ◌≤◌, ◌==◌, if◌then◌else◌, List, ◌++◌, length, slice_index}
+use Rattle.std.specs.Prelude.{count_ones, ⊤}
+use Rattle.std.specs.List.{AllByRecursion}
+use Rattle.capn_pack.specs.declared.fault.UnpackFault.{UnpackFault}
+use Rattle.capn_pack.specs.declared.fault.UnpackFault.TheVariants.{Memory, Cut, TooLong, Failed}
+use Rattle.capn_pack.specs.Packed.{Group, IsGroup, text, words, texts, word_count}
+
+-- How long the head of a group with this tag is: the tag, then a count, the named bytes, or a word and a count.
+abbrev pub head_len : ℕ → ℕ
+head_len tag = if tag == 0 then 2 else (if tag == 255 then 10 else 1 + count_ones tag)
+
+-- The head of the group that begins these bytes is there.
+abbrev pub HasHead : List ℕ → Type 0
+HasHead rest = head_len (slice_index rest 0) ≤ length rest
+
+-- How many words the head announces.
+abbrev pub words_at : List ℕ → ℕ
+words_at rest =
+    let tag = slice_index rest 0 in
+    if tag == 0 then 1 + slice_index rest 1 else (if tag == 255 then 1 + slice_index rest 9 else 1)
+
+-- How many bytes the head announces, itself among them.
+abbrev pub len_at : List ℕ → ℕ
+len_at rest =
+    let tag = slice_index rest 0 in
+    if tag == 255 then 10 + 8 * slice_index rest 9 else head_len tag
+
+-- The group that begins here is cut: its head is, or its words have room and its raw words are cut.
+abbrev pub IsCut : ℕ → List ℕ → Type 0
+IsCut room rest = (0 < length rest)
+    × ((length rest < head_len (slice_index rest 0)) ⊎ ((words_at rest ≤ room) × (length rest < len_at rest)))
+
+-- The group that begins here has its head, which announces more words than there is room for.
+abbrev pub IsTooLong : ℕ → List ℕ → Type 0
+IsTooLong room rest = (0 < length rest) × HasHead rest × (room < words_at rest)
+
+-- Up to this offset the text is whole groups of at most max words, and the fault is that of the rest in the room left.
+pub record Stands (Fault : ℕ → List ℕ → Type 0) (b : List ℕ) (max at : ℕ) : Type 0 where
+  pub groups : List Group
+  pub rest : List ℕ
+  pub each : AllByRecursion IsGroup groups
+  pub text : b ≡ texts groups ++ rest
+  pub offset : at ≡ length (texts groups)
+  pub left : ℕ
+  pub counted : left + word_count groups ≡ max
+  pub fault : Fault left rest
+
+-- A whole group stands first, and has no more words than there is room for.
+pub record StartsWithin (rest : List ℕ) (room : ℕ) : Type 0 where
+  pub group : Group
+  pub more : List ℕ
+  pub is_group : IsGroup group
+  pub text : rest ≡ text group ++ more
+  pub fits : words group ≤ room
+
+-- The text b is refused like this under a maximum of words. Nothing is said of running out of memory.
+abbrev pub IsRefused : List ℕ → ℕ → UnpackFault → Type 0
+IsRefused b max Memory = ⊤
+IsRefused b max (Cut at) = Stands IsCut b max at
+IsRefused b max (TooLong at) = Stands IsTooLong b max at
+IsRefused b max Failed = ⊥

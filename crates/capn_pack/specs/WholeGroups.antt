@@ -1,0 +1,39 @@
+-- The whole groups at the front of some bytes, under a maximum of words. (Own.)
+use Rattle.std.specs.Prelude.{ℕ, ◌≡◌, ◌+◌, ◌<◌, ◌≤◌, ◌++◌, List, [], length, take, drop}
+use Rattle.std.specs.List.{AllByRecursion}
+use Rattle.capn_pack.specs.Packed.{Group, IsGroup, texts, contents, word_count}
+use Rattle.capn_pack.specs.UnpackRefusal.{IsCut, IsTooLong}
+use Rattle.capn_pack.specs.declared.whole_groups.Next.{Next}
+use Rattle.capn_pack.specs.declared.whole_groups.Next.TheVariants as nexts
+
+-- no group has more bytes: a tag, a word, a count and 255 words
+abbrev pub most_group : ℕ
+most_group = 2050
+
+-- what stands next, with room for this many words: nothing; a group that is cut; or one that has more words
+abbrev pub StandsNext : Next → ℕ → List ℕ → Type 0
+StandsNext nexts.End room rest = rest ≡ []
+StandsNext nexts.Cut room rest = IsCut room rest × (length rest < most_group)
+StandsNext nexts.TooLong room rest = IsTooLong room rest
+
+-- The first bytes are whole groups of this many words, within the maximum, which were appended; and this stands next,
+-- with room for what is left of the maximum.
+pub record UnpacksSome (bytes : List ℕ) (max : ℕ) (old new : List ℕ) (taken words : ℕ) (next : Next) : Type 0 where
+  pub groups : List Group
+  pub each : AllByRecursion IsGroup groups
+  pub inside : taken ≤ length bytes
+  pub text : take taken bytes ≡ texts groups
+  pub content : new ≡ old ++ contents groups
+  pub counted : words ≡ word_count groups
+  pub left : ℕ
+  pub fits : words + left ≡ max
+  pub stops : StandsNext next left (drop taken bytes)
+
+-- The words of some of the groups that stand first were appended, within the maximum.
+pub record AppendsSome (bytes : List ℕ) (max : ℕ) (old new : List ℕ) : Type 0 where
+  pub groups : List Group
+  pub rest : List ℕ
+  pub each : AllByRecursion IsGroup groups
+  pub text : bytes ≡ texts groups ++ rest
+  pub content : new ≡ old ++ contents groups
+  pub fits : word_count groups ≤ max

@@ -1,0 +1,63 @@
+//! Packing.
+ghost use Rattle.std.specs.Prelude.{◌≡◌, ◌≢◌, ◌+◌, ◌%◌, ◌<◌, ◌≤◌, ◌∷◌, ◌++◌, ◌↔◌, length, take, IfOk, IsErrOf, OnErr};
+ghost use Rattle.std.specs.Prelude.{MatchResult, ℕ, List};
+ghost use Rattle.capn_pack.specs.Packed.{Packs};
+ghost use Rattle.capn_pack.specs.Chosen.{Chosen};
+
+use crate::fault::PackFault;
+use crate::pack_block::{LANES, store_groups};
+use crate::pack_group::put_group;
+use std::alloc::{AllocError, Allocator};
+
+/// A block and the lanes after it.
+const BLOCK: usize = 4096 + LANES;
+
+/// Packs whole words, named words and zero words by the block.
+fn pack_words<A: Allocator + Copy>(alloc: A, bytes: &[u8]) -> Result<Vec<u8, A>, AllocError>
+    requires { length bytes.now % 8 ≡ 0 }
+    ensures chosen { IfOk result (λ v. Chosen v.items bytes.now) }
+    ensures wanted { OnErr result (0 < length bytes.now) }
+{
+    let mut out = Vec::new(alloc);
+    let mut at = 0;
+    let mut block = [0; BLOCK];
+    while at < bytes.len() {
+        let stored = store_groups(bytes, at, &mut block);
+        out.extend_from_slice(&block[..stored.fill])?;
+        at = stored.at;
+        if at < bytes.len() {
+            at = put_group(bytes, at, &mut out)?;
+        }
+    }
+    Ok(out)
+}
+
+/// The packed text of whole words, which this packer chooses. (Page: packing; where runs end is our own.)
+///
+/// `bytes` are the words' bytes, the least first. The answer grows on `alloc` a logarithmic number of times.
+///
+/// Refusals: `NotWhole` with the number of bytes where that is no multiple of eight, before any growth; `Memory` where
+/// a growth was refused, which takes some bytes.
+pub fn pack<A: Allocator + Copy>(alloc: A, bytes: &[u8]) -> Result<Vec<u8, A>, PackFault>
+    // The answer is the packer's text of these words, and so a packed text of them.
+    ensures packed { IfOk result (λ v. Chosen v.items bytes.now) }
+    ensures packs { IfOk result (λ v. Packs v.items bytes.now) }
+    // The packer has one text for these words: it is answered, unless memory runs out.
+    ensures only { (b : List ℕ) → Chosen b bytes.now
+        → MatchResult result (λ v. v.items ≡ b) (λ e. e ≡ PackFault.Memory) }
+    // Two of the packer's texts are equal exactly if their words are.
+    ensures unique { (a b vs ws : List ℕ) → Chosen a vs → Chosen b ws
+        → ((a ≡ b) ↔ (vs ≡ ws)) }
+    // Memory is needed only if there are bytes.
+    ensures wanted { IsErrOf result PackFault.Memory → 0 < length bytes.now }
+    ensures whole { length bytes.now % 8 ≡ 0 → OnErr result (result ≡ Err PackFault.Memory) }
+    ensures not_whole { length bytes.now % 8 ≢ 0 → result ≡ Err (PackFault.NotWhole (length bytes.now)) }
+{
+    if bytes.len() % 8 != 0 {
+        return Err(PackFault::NotWhole(bytes.len() as u64));
+    }
+    match pack_words(alloc, bytes) {
+        Ok(text) => Ok(text),
+        Err(_) => Err(PackFault::Memory),
+    }
+}

@@ -1,0 +1,161 @@
+//! One piece of a packed text, and what is held of the pieces before it.
+ghost use Rattle.std.specs.Prelude.{◌≡◌, ◌+◌, ◌<◌, ◌≤◌, ◌++◌, length, take, drop, IfOk, OnErr};
+ghost use Rattle.capn_pack.specs.PackedPieces.{Splits, Begins, NoGroupFirst};
+ghost use Rattle.capn_pack.specs.inner.Joins.{FeedGives, Joins};
+
+use crate::unpack_block::{SLACK, take_block};
+use crate::unpack_group::{GROUP, Stop, WORDS, take_group};
+use std::alloc::{AllocError, Allocator};
+
+/// Room for an unfinished group and for as many bytes after it as may make it whole.
+pub(crate) const HELD: usize = 4099;
+
+/// Appends the words of each whole group at the front, and answers how many bytes those took. The block is overwritten.
+fn take_groups<A: Allocator>(
+    bytes: &[u8],
+    block: &mut [u8],
+    out: &mut Vec<u8, A>,
+) -> Result<usize, AllocError>
+    requires { SLACK ≤ length block.old }
+    ensures inside { IfOk result (λ n. n ≤ length bytes.now) }
+    ensures ok { IfOk result (λ n. Splits bytes.now (drop n bytes.now) out.old.items out.new.items n) }
+    ensures short { IfOk result (λ n. length bytes.now < n + GROUP) }
+    ensures err { OnErr result (Begins bytes.now out.old.items out.new.items) }
+    ensures wanted { OnErr result (NoGroupFirst bytes.now → ⊥) }
+{
+    let mut at = 0;
+    while at < bytes.len() {
+        let row = match take_block(&bytes[at..], block.len() / 8, block, out) {
+            Ok(row) => row,
+            Err(error) => return Err(error),
+        };
+        at += row.bytes;
+        if at < bytes.len() {
+            match take_group(&bytes[at..], WORDS, out) {
+                Ok(taken) => at += taken.bytes,
+                Err(Stop::Memory) => return Err(AllocError),
+                Err(Stop::Cut) => return Ok(at),
+                Err(Stop::TooLong) => unreachable!(),
+            }
+        }
+    }
+    Ok(at)
+}
+
+/// What became of an unfinished group once more bytes came: `Open` with the bytes that it has now, or `Whole` with the
+/// bytes of the piece that it took.
+#[derive(Clone, Copy)]
+pub(crate) enum Joined {
+    Open(usize),
+    Whole(usize),
+}
+
+/// Copies the front of the piece after the bytes that are held.
+fn fill(held: &mut [u8], len: usize, piece: &[u8])
+    requires { len + length piece.now ≤ length held.old }
+    ensures front { take len held.new ≡ take len held.old }
+    ensures joined { take (len + length piece.now) held.new ≡ take len held.old ++ piece.now }
+{
+    let end = len + piece.len();
+    held[len..end].copy_from_slice(piece);
+}
+
+/// Joins the unfinished group with the piece.
+fn join_first<A: Allocator>(
+    held: &mut [u8],
+    len: usize,
+    piece: &[u8],
+    out: &mut Vec<u8, A>,
+) -> Result<Joined, AllocError>
+    requires room { length held.old ≡ HELD }
+    requires some { 0 < len }
+    requires most { len < GROUP }
+    requires begun { NoGroupFirst (take len held.old) }
+    ensures front { take len held.new ≡ take len held.old }
+    ensures joined { IfOk result (λ j. Joins (take len held.old) piece.now held.new out.old.items out.new.items j) }
+    ensures err { OnErr result (out.new.items ≡ out.old.items) }
+    ensures wanted { OnErr result (NoGroupFirst (take len held.old ++ piece.now) → ⊥) }
+{
+    let more = piece.len().min(GROUP - 1);
+    let front = &piece[..more];
+    let all = len + front.len();
+    fill(held, len, front);
+    match take_group(&held[..all], WORDS, out) {
+        Ok(taken) => Ok(Joined::Whole(taken.bytes - len)),
+        Err(Stop::Memory) => Err(AllocError),
+        Err(Stop::Cut) => Ok(Joined::Open(all)),
+        Err(Stop::TooLong) => unreachable!(),
+    }
+}
+
+/// How many bytes are held for the next group, and how many the groups took.
+#[derive(Clone, Copy)]
+pub(crate) struct Fed {
+    pub len: usize,
+    pub taken: usize,
+}
+
+/// Takes a piece where nothing is held.
+fn feed_fresh<A: Allocator>(
+    held: &mut [u8],
+    piece: &[u8],
+    out: &mut Vec<u8, A>,
+) -> Result<Fed, AllocError>
+    requires room { length held.old ≡ HELD }
+    ensures gives { FeedGives piece.now out.old.items result held.new out.new.items }
+    ensures inside { IfOk result (λ fed. fed.taken ≤ length piece.now) }
+{
+    let taken = take_groups(piece, held, out)?;
+    let rest = &piece[taken..];
+    fill(held, 0, rest);
+    Ok(Fed {
+        len: rest.len(),
+        taken,
+    })
+}
+
+/// Takes a piece after the beginning of a group.
+fn feed_begun<A: Allocator>(
+    held: &mut [u8],
+    len: usize,
+    piece: &[u8],
+    out: &mut Vec<u8, A>,
+) -> Result<Fed, AllocError>
+    requires room { length held.old ≡ HELD }
+    requires some { 0 < len }
+    requires most { len < GROUP }
+    requires begun { NoGroupFirst (take len held.old) }
+    ensures { FeedGives (take len held.old ++ piece.now) out.old.items result held.new out.new.items }
+{
+    match join_first(held, len, piece, out)? {
+        Joined::Open(all) => Ok(Fed { len: all, taken: 0 }),
+        Joined::Whole(at) => {
+            match feed_fresh(held, &piece[at..], out) {
+                Ok(fed) => Ok(Fed {
+                    len: fed.len,
+                    taken: len + at + fed.taken,
+                }),
+                Err(error) => Err(error),
+            }
+        }
+    }
+}
+
+/// Takes a piece after what is held.
+pub(crate) fn feed_held<A: Allocator>(
+    held: &mut [u8],
+    len: usize,
+    piece: &[u8],
+    out: &mut Vec<u8, A>,
+) -> Result<Fed, AllocError>
+    requires room { length held.old ≡ HELD }
+    requires most { len < GROUP }
+    requires begun { NoGroupFirst (take len held.old) }
+    ensures { FeedGives (take len held.old ++ piece.now) out.old.items result held.new out.new.items }
+{
+    if len == 0 {
+        feed_fresh(held, piece, out)
+    } else {
+        feed_begun(held, len, piece, out)
+    }
+}

@@ -1,0 +1,13 @@
+use Rattle.std.proofs.Common.{◌≡◌, inl, inr, true, false}
+use Rattle.clap.specs.Words.{found_of, rows_of}
+use Rattle.capn_program.proofs.NamedOrders.{canonical_means}
+use Rattle.capn_program.proofs.command_line.canonical_of.Goals as goal
+
+pub returns-in_err-flag_of-clause-served : goal.returns-in_err-flag_of-clause-served
+returns-in_err-flag_of-clause-served c order means =
+    absurd (elim (canonical_means (rows_of (found_of c.args.matches.now)) order means) [
+      | inl (command, is, framed, keep_going) ↦
+          (let bad : false ≡ true = c.in_err-flag_of.ensures.served false framed in cc)
+      | inr (archive, framed, options) ↦
+          (let bad : false ≡ true = c.in_err-flag_of.ensures.served true framed in cc)
+    ])

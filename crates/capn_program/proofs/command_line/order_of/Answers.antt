@@ -1,0 +1,86 @@
+use Rattle.std.proofs.Common.{◌≡◌, inl, inr, List, Option, Some, None, IsSome, Result, Ok, Err, IfErr, IsErr}
+use Rattle.std.proofs.Common.{IsErrAnd, map, refl, sym, ap, subst, ◌∙◌}
+use Rattle.clap.specs.Words.{HasKind, Row, Text, fault_of, kind_of, subcommand_of}
+use Rattle.clap.specs.declared.error.Error.{Error}
+use Rattle.clap.specs.declared.error.ErrorKind.TheVariants as kinds
+use Rattle.capn_tool.specs.declared.usage.Usage.{Usage}
+use Rattle.capn_program.specs.declared.order.Order.{Order}
+use Rattle.capn_program.specs.Meaning.{MeansOrder}
+use Rattle.capn_program.specs.CommandLine.{program_line}
+use Rattle.capn_tool.specs.Usage.{error_of}
+use Rattle.capn_program.specs.Usage.{IsReason, Orders}
+use Rattle.capn_program.proofs.OneOrder.{means_one_order}
+use Rattle.capn_tool.proofs.shared.Entered.{entered, not_entered}
+use Rattle.capn_program.proofs.command_line.order_of.Given.{Over}
+use Rattle.capn_program.proofs.command_line.order_of.Goals.{in-Some, in-None}
+use Rattle.capn_program.proofs.command_line.order_of.Goals as goal
+
+pub returns-in-Some-named-clause-means : goal.returns-in-Some-named-clause-means
+returns-in-Some-named-clause-means g c =
+    let rows = (c.in_ok-matches.ensures.found refl).1 in
+    elim c.match-subcommand.branch [
+      | in-Some w ↦
+          let o = sym w.named-is ∙ c.in-Some-named.is in
+          let means = rw o at w.named_order-named.ensures.means in
+          let is = entered _ _ _ _ c.subcommand.result _ _ w.in-Some.is c.subcommand.ensures.name
+          c.subcommand.ensures.rows in
+          subst (λ (s : Option (Text × List Row)). MeansOrder s c.in-Some-named.order) (sym (sym rows ∙ is)) means
+      | in-None w ↦ absurd (let o = sym w.named-is ∙ c.in-Some-named.is in cc)
+    ]
+
+pub returns-in-Some-named-clause-only : goal.returns-in-Some-named-clause-only
+returns-in-Some-named-clause-only g c taken order means =
+    means_one_order _ c.in-Some-named.order order (returns-in-Some-named-clause-means g c) means
+
+-- an error of clap that is want of memory is told as that
+told_memory : (order : Order) (e : Error) (r : Result Order Usage) → kind_of e ≡ kinds.OutOfMemory
+    → IsErr r × IsErrAnd r (λ usage. error_of usage ≡ e) → Orders order r
+told_memory order e (Ok given) memory (is_err, is) = absurd cc
+told_memory order e (Err usage) memory (is_err, is) = ap kind_of is ∙ memory
+
+pub returns-in_err-matches-clause-only : goal.returns-in_err-matches-clause-only
+returns-in_err-matches-clause-only g c taken order means =
+    told_memory order c.in_err-matches.field-0.0 _ (c.in_err-matches.ensures.passes taken)
+    c.from_residual.ensures
+
+-- a order that is there is not missing
+not_missing : {A : Type 0} (order result : Option A) → order ≡ None → order ≡ result → IsSome result → ⊥
+not_missing order None none is some = cc
+not_missing order (Some x) none is some = cc
+
+-- where no order was found, the words mean none
+meaningless : (g : Over) (c : goal.Joined-matches-2 g) (order : Order)
+    → MeansOrder (subcommand_of program_line (map g.S.AsStr.text c.args.words.now)) order → ⊥
+meaningless g c order means =
+    let rows = (c.in_ok-matches.ensures.found refl).1 in
+    elim c.match-subcommand.branch [
+      | in-Some w ↦
+          let is = entered _ _ _ _ c.subcommand.result _ _ w.in-Some.is c.subcommand.ensures.name
+          c.subcommand.ensures.rows in
+          let said = subst (λ (s : Option (Text × List Row)). MeansOrder s order) (sym rows ∙ is) means in
+          not_missing _ _ c.in-None-named.is w.named-is (w.named_order-named.ensures.served order said)
+      | in-None w ↦
+          let is = not_entered _ _ _ c.subcommand.result _ w.in-None.is c.subcommand.ensures.rows in
+          subst (λ (s : Option (Text × List Row)). MeansOrder s order) (sym rows ∙ is) means
+    ]
+
+pub returns-clause-only : goal.returns-clause-only
+returns-clause-only g c taken order means = absurd (meaningless g c order means)
+
+-- an error of clap is told with its kind
+told_reason : (words : List Text) (e : Error) (r : Result Order Usage) → HasKind (fault_of program_line words) e
+    → IsErr r × IsErrAnd r (λ usage. error_of usage ≡ e) → IfErr r (λ usage. IsReason words (kind_of (error_of usage)))
+told_reason words e (Ok given) kind (is_err, is) = tt
+told_reason words e (Err usage) (inl memory) (is_err, is) = inl (ap kind_of is ∙ memory)
+told_reason words e (Err usage) (inr among) (is_err, is) =
+    subst (λ (x : Error). IsReason words (kind_of x)) (sym is) (inr (inl among))
+
+pub returns-in_err-matches-clause-reason : goal.returns-in_err-matches-clause-reason
+returns-in_err-matches-clause-reason g c =
+    told_reason (map g.S.AsStr.text c.args.words.now) c.in_err-matches.field-0.0 _ c.in_err-matches.ensures.kinds
+    c.from_residual.ensures
+
+pub returns-clause-reason : goal.returns-clause-reason
+returns-clause-reason g c =
+    let none = c.in_ok-matches.ensures.kinds in
+    elim c.meaningless.ensures [ inl memory ↦ inl memory | inr value ↦ inr (inr (none, value, meaningless g c)) ]

@@ -1,0 +1,106 @@
+-- The command line: the six commands over messages and bytes, those over archives, and the options of each. (Own.)
+use Rattle.std.specs.Prelude.{ℕ, ◌-◌, ◌^◌, Some, codes, true}
+use Rattle.clap.specs.Words.{App, Rule, Text, new_app, new_rule, with_rule, with_subcommand}
+use Rattle.clap.specs.declared.builder.action.ArgAction.TheVariants as actions
+use Rattle.clap.specs.declared.builder.value_parser.ValueParser.TheVariants as parsers
+use Rattle.capn_tool.specs.CommandLine.{form_rule, message_line, pack_line, unpack_line, usual_rule, words_rule}
+
+-- an option of this name that takes no value
+abbrev pub flag_rule : Text → Rule
+flag_rule name = record (new_rule name) { long = Some name; action = Some actions.SetTrue }
+
+-- whether a message that is refused is passed over
+abbrev pub keep_going_rule : Rule
+keep_going_rule = flag_rule (codes "keep-going")
+
+-- whether canonical bytes are framed
+abbrev pub framed_rule : Rule
+framed_rule = flag_rule (codes "framed")
+
+-- whether bytes are written while others come in
+abbrev pub streaming_rule : Rule
+streaming_rule = flag_rule (codes "streaming")
+
+-- a command over an archive takes what one over messages takes, and `--keep-going`
+abbrev pub archive_line : Text → App
+archive_line name = with_rule (message_line name) keep_going_rule
+
+-- such a command with one more option, which takes no value
+abbrev pub flagged_line : Text → Text → App
+flagged_line name option = with_rule (archive_line name) (flag_rule option)
+
+-- `list` takes `--digest` beside what such a command takes
+abbrev pub list_line : App
+list_line = flagged_line (codes "list") (codes "digest")
+
+-- `uniq` takes `--count` beside it
+abbrev pub uniq_line : App
+uniq_line = flagged_line (codes "uniq") (codes "count")
+
+-- `canonical` takes `--framed` and `--keep-going` beside what a command over messages takes
+abbrev pub canonical_line : App
+canonical_line = with_rule (with_rule (message_line (codes "canonical")) framed_rule) keep_going_rule
+
+-- the program, which needs a subcommand and has a version
+abbrev pub top_line : App
+top_line =
+    let a = new_app (codes "capn") in
+    record a { top = record a.top { subcommand_required = true; has_version = true } }
+
+-- the program with the commands that tell what messages hold and cost
+abbrev pub reading_line : App
+reading_line =
+    let with_show = with_subcommand top_line (message_line (codes "show")).top in
+    with_subcommand with_show (message_line (codes "check")).top
+
+-- the program with those that tell what an archive holds and needs beside them
+abbrev pub surveying_line : App
+surveying_line =
+    let with_list = with_subcommand reading_line list_line.top in
+    with_subcommand with_list (archive_line (codes "limits")).top
+
+-- the program with those that make bytes of values beside them
+abbrev pub canonical_bytes_line : App
+canonical_bytes_line =
+    let with_canonical = with_subcommand surveying_line canonical_line.top in
+    with_subcommand with_canonical (message_line (codes "hash")).top
+
+-- the greatest number of a message
+abbrev pub most_number : ℕ
+most_number = 2 ^ 64 - 1
+
+-- an option of this name that takes the number of a message, with its usual value
+abbrev pub place_rule : Text → Text → Rule
+place_rule name usual = record (usual_rule name usual) { parser = Some (parsers.Unsigned 1 most_number) }
+
+-- `pick` takes a form, the words of a message, and the numbers of the first and of the last message
+abbrev pub pick_line : App
+pick_line =
+    with_rule
+    (with_rule (with_rule (with_rule (new_app (codes "pick")) form_rule) words_rule)
+    (place_rule (codes "from") (codes "1")))
+    (place_rule (codes "to") (codes "18446744073709551615"))
+
+-- the program with all commands over messages
+abbrev pub messages_line : App
+messages_line = with_subcommand (with_subcommand canonical_bytes_line uniq_line.top) pick_line.top
+
+-- `make` takes the form of what it writes
+abbrev pub make_line : App
+make_line = with_rule (new_app (codes "make")) form_rule
+
+-- `pack` takes `--streaming`
+abbrev pub packing_line : App
+packing_line = with_rule pack_line streaming_rule
+
+-- `unpack` takes it beside the words of a message
+abbrev pub unpacking_line : App
+unpacking_line = with_rule unpack_line streaming_rule
+
+-- the program with the commands over bytes beside these
+abbrev pub bytes_line : App
+bytes_line = with_subcommand (with_subcommand messages_line packing_line.top) unpacking_line.top
+
+-- the whole command line
+abbrev pub program_line : App
+program_line = with_subcommand bytes_line make_line.top

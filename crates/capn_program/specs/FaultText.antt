@@ -1,0 +1,67 @@
+-- The texts that tell why a run did not end as done. (Own.)
+use Rattle.std.specs.Prelude.{ℕ, ◌+◌, ◌≡◌, ◌⊎◌, List, [], ◌∷◌, ◌++◌, codes, Bool, false, Option, Result, Ok, Err}
+use Rattle.std.specs.Fmt.{decimal}
+use Rattle.capn_canon.specs.Display.{refusal_text}
+use Rattle.capn_tool.specs.FaultText.{TellsLine, fault_line}
+use Rattle.capn_tool.specs.declared.fault.ToolFault.TheVariants as tool_faults
+use Rattle.capn_serve.specs.declared.position.Position.{Position}
+use Rattle.capn_archive.specs.declared.fault.ArchiveFault.{ArchiveFault}
+use Rattle.capn_archive.specs.declared.fault.ArchiveFault.TheVariants as faults
+use Rattle.capn_serve.specs.declared.fault.RunFault.{RunFault}
+use Rattle.capn_serve.specs.declared.fault.RunFault.TheVariants as run_faults
+use Rattle.capn_make.specs.FaultText as made
+use Rattle.capn_make.specs.declared.fault.MakeFault.{MakeFault}
+use Rattle.capn_flow.specs.FaultText as flowing
+use Rattle.capn_flow.specs.declared.fault.FlowFault.{FlowFault}
+
+-- the number of a message, counted from 1, and its offset
+abbrev pub place_text : Position → List ℕ
+place_text at = decimal (at.index + 1) ++ codes " at " ++ decimal at.offset
+
+-- why a run over an archive did not end as done
+abbrev pub archive_text : ArchiveFault → List ℕ
+archive_text faults.Memory = codes "out of memory"
+archive_text faults.Io = codes "input or output failed"
+archive_text faults.InputTooLong = codes "input too long"
+archive_text (faults.Refused at refusal) = codes "message " ++ place_text at ++ codes ": " ++ refusal_text refusal
+archive_text (faults.PassedOver passed) =
+    decimal passed.refused ++ (codes " of " ++ (decimal passed.messages
+    ++ (codes " messages refused, the first is " ++ place_text passed.first)))
+
+-- the line that tells this
+abbrev pub told_line : List ℕ → List ℕ
+told_line text = codes "capn: " ++ text ++ 10 ∷ []
+
+-- the line of this text was written, or that of refused memory where there was none for the line
+abbrev pub TellsFault : List ℕ → Option (List ℕ) → Option (List ℕ) → Bool → Type 0
+TellsFault text old new failed =
+    TellsLine (told_line text) old new failed ⊎ TellsLine (fault_line tool_faults.Memory) old new failed
+
+-- why a run ended so has been told: nothing where it is done, and else the text of its fault
+abbrev pub TellsEnd : {F : Type 0} → (F → List ℕ) → Result (Unit {0}) F → Option (List ℕ) → Option (List ℕ) → Bool
+    → Type 0
+TellsEnd text (Ok u) old new failed = (new ≡ old) × (failed ≡ false)
+TellsEnd text (Err fault) old new failed = TellsFault (text fault) old new failed
+
+-- the same of a run over an archive
+abbrev pub TellsArchive : Result (Unit {0}) ArchiveFault → Option (List ℕ) → Option (List ℕ) → Bool → Type 0
+TellsArchive = TellsEnd archive_text
+
+-- of one over texts
+abbrev pub TellsMake : Result (Unit {0}) MakeFault → Option (List ℕ) → Option (List ℕ) → Bool → Type 0
+TellsMake = TellsEnd made.fault_text
+
+-- a fault of a run over messages, as one of a run over an archive
+abbrev pub archive_fault_of : RunFault → ArchiveFault
+archive_fault_of run_faults.Memory = faults.Memory
+archive_fault_of run_faults.Io = faults.Io
+archive_fault_of run_faults.InputTooLong = faults.InputTooLong
+archive_fault_of (run_faults.Refused at refusal) = faults.Refused at refusal
+
+-- of one that picks messages, which has the texts of one over an archive
+abbrev pub TellsPick : Result (Unit {0}) RunFault → Option (List ℕ) → Option (List ℕ) → Bool → Type 0
+TellsPick = TellsEnd (λ fault. archive_text (archive_fault_of fault))
+
+-- and of one that lets bytes flow
+abbrev pub TellsFlow : Result (Unit {0}) FlowFault → Option (List ℕ) → Option (List ℕ) → Bool → Type 0
+TellsFlow = TellsEnd flowing.fault_text

@@ -1,0 +1,307 @@
+//! What the words of the command line tell the program to do.
+
+ghost use Rattle.std.specs.Prelude.{◌≡◌, ◌≤◌, ◌⊎◌, ◌↔◌, ◌<◌, ◌^◌, ℕ, Bool, true, codes, map};
+ghost use Rattle.std.specs.Prelude.{IfErr, IfOk, IfSome, IsSome, IsTrue, Some};
+ghost use Rattle.clap.specs.Words.{FailsBy, HasMatchesOf, fault_of, found_of, kind_of, rows_of, subcommand_of, takes};
+ghost use Rattle.clap.specs.declared.error.ErrorKind.TheVariants as kinds;
+ghost use Rattle.capn_words.specs.Message.{most_message_words};
+ghost use Rattle.capn_tool.specs.Usage.{error_of};
+ghost use Rattle.capn_archive.specs.declared.task.Archive.{Archive};
+ghost use Rattle.capn_tool.specs.Meaning.{FormIs, NumberIs};
+ghost use Rattle.capn_archive.specs.declared.uniq.Uniq.{Uniq};
+ghost use Rattle.capn_serve.specs.declared.pick.Pick.{Pick};
+ghost use Rattle.capn_serve.specs.declared.pick.StreamForm.{StreamForm};
+ghost use Rattle.capn_program.specs.CommandLine.{program_line};
+ghost use Rattle.capn_program.specs.Meaning.{AreOptions, FlagIs, IsUsual, MeansOrder, NumberIn, PickIs, UniqIs};
+ghost use Rattle.capn_program.specs.Meaning.{form_of, source_of, usual_with};
+ghost use Rattle.capn_program.specs.Usage.{IsReason, Orders};
+ghost use Rattle.capn_program.specs.declared.order.Order.{Order};
+
+use crate::help;
+use crate::order::{Flow, Order};
+use crate::subcommands::{mistake, program_command};
+use capn_archive::{Archive, Task, Uniq};
+use capn_serve::{Pick, StreamForm};
+use capn_tool::{Command, Form, Usage, help as tool_help, parts};
+use capn_walk::Limits;
+use capn_words::MOST_MESSAGE_WORDS;
+use clap::ArgMatches;
+use clap::parser::ValueSource;
+use std::alloc::Global;
+use std::convert::AsStr;
+
+/// Whether the flag of this name is given.
+fn flag_of(matches: &ArgMatches, id: &str) -> Option<bool>
+    ensures read { IfSome result (λ given. FlagIs (rows_of (found_of matches.now)) id.now given) }
+    ensures served { (given : Bool) → FlagIs (rows_of (found_of matches.now)) id.now given → IsSome result }
+{
+    let given = matches.get_one::<bool>(id)?;
+    Some(given)
+}
+
+/// Where the value of an option comes from.
+fn origin_of(matches: &ArgMatches, id: &str) -> Option<ValueSource>
+    ensures { result ≡ source_of (rows_of (found_of matches.now)) id.now }
+{
+    matches.value_source(id)
+}
+
+/// Whether an option is not given, and has its usual value.
+fn is_usual(matches: &ArgMatches, id: &str) -> bool
+    ensures { IsTrue result ↔ IsUsual (rows_of (found_of matches.now)) id.now }
+{
+    match origin_of(matches, id) {
+        Some(source) => match source {
+            ValueSource::DefaultValue => true,
+            ValueSource::CommandLine => false,
+        },
+        None => false,
+    }
+}
+
+/// The run over an archive that is for this task and has these options, if they mean one.
+fn archive_of(task: Task, matches: &ArgMatches) -> Option<Archive>
+    ensures task { IfSome result (λ archive. archive.task ≡ task) }
+    ensures options { IfSome result (AreOptions (rows_of (found_of matches.now))) }
+    ensures served { (archive : Archive) → AreOptions (rows_of (found_of matches.now)) archive → IsSome result }
+{
+    let form = parts::form_of(matches)?;
+    let limits = parts::limits_of(matches)?;
+    let keep_going = flag_of(matches, "keep-going")?;
+    Some(Archive {
+        task,
+        form,
+        limits,
+        keep_going,
+    })
+}
+
+/// What `list` orders with these options, if they mean something: with `--digest` the lines have digests.
+fn list_of(matches: &ArgMatches) -> Option<Order>
+    ensures means { IfSome result (MeansOrder (Some (codes "list", rows_of (found_of matches.now)))) }
+    ensures served { (order : Order) → MeansOrder (Some (codes "list", rows_of (found_of matches.now))) order
+        → IsSome result }
+{
+    let task = if flag_of(matches, "digest")? {
+        Task::Digests
+    } else {
+        Task::List
+    };
+    Some(Order::Archive(archive_of(task, matches)?))
+}
+
+/// The run of `uniq` that has these options, if they mean one.
+fn uniq_of(matches: &ArgMatches) -> Option<Uniq>
+    ensures are { IfSome result (UniqIs (rows_of (found_of matches.now))) }
+    ensures served { (uniq : Uniq) → UniqIs (rows_of (found_of matches.now)) uniq → IsSome result }
+{
+    Some(Uniq {
+        form: parts::form_of(matches)?,
+        limits: parts::limits_of(matches)?,
+        keep_going: flag_of(matches, "keep-going")?,
+        count: flag_of(matches, "count")?,
+    })
+}
+
+/// The number that an option has, given or usual.
+fn number_of(matches: &ArgMatches, id: &str) -> Option<u64>
+    ensures read { IfSome result (λ n. NumberIs (rows_of (found_of matches.now)) id.now n) }
+    ensures served { (n : ℕ) → NumberIs (rows_of (found_of matches.now)) id.now n → n < 2 ^ 64 → IsSome result }
+{
+    let number = matches.get_one::<u64>(id)?;
+    Some(number)
+}
+
+/// The number that an option has, given or usual, if it is from the least to the most.
+fn number_in(matches: &ArgMatches, id: &str, least: u64, most: u64) -> Option<u64>
+    ensures read { IfSome result (NumberIn (rows_of (found_of matches.now)) id.now least most) }
+    ensures served { (n : ℕ) → NumberIn (rows_of (found_of matches.now)) id.now least most n → n < 2 ^ 64
+        → IsSome result }
+{
+    let number = number_of(matches, id)?;
+    if least <= number && number <= most {
+        return Some(number);
+    }
+    None
+}
+
+/// The form of a stream that `--form` names, if it names one.
+fn stream_form_of(matches: &ArgMatches) -> Option<StreamForm>
+    ensures named { IfSome result (λ form. FormIs (rows_of (found_of matches.now)) (form_of form)) }
+    ensures served { (form : StreamForm) → FormIs (rows_of (found_of matches.now)) (form_of form) → IsSome result }
+{
+    match parts::form_of(matches)? {
+        Form::Stream => Some(StreamForm::Stream),
+        Form::Packed => Some(StreamForm::Packed),
+        Form::Bare => None,
+    }
+}
+
+/// The usual limits, with this number of words of a message.
+fn limits_with(words: u32) -> Limits
+    requires some { 1 ≤ words }
+    requires few { words ≤ most_message_words }
+    ensures { result ≡ usual_with words }
+{
+    let usual = Limits::usual();
+    match Limits::new(words, usual.budget(), usual.depth()) {
+        Some(limits) => limits,
+        None => usual,
+    }
+}
+
+/// The run of `pick` that has these options, if they mean one.
+fn pick_of(matches: &ArgMatches) -> Option<Pick>
+    ensures are { IfSome result (PickIs (rows_of (found_of matches.now))) }
+    ensures served { (pick : Pick) → PickIs (rows_of (found_of matches.now)) pick → IsSome result }
+{
+    let form = stream_form_of(matches)?;
+    let words = number_in(matches, "message-words", 1, MOST_MESSAGE_WORDS as u64)?;
+    let from = number_in(matches, "from", 1, u64::MAX)?;
+    let to = number_in(matches, "to", 1, u64::MAX)?;
+    Some(Pick {
+        form,
+        limits: limits_with(words as u32),
+        from,
+        to,
+    })
+}
+
+/// What `canonical` orders with these options, if they mean something: with `--framed` a run over an archive, and
+/// without it and `--keep-going` the command over one message.
+fn canonical_of(matches: &ArgMatches) -> Option<Order>
+    ensures means { IfSome result (MeansOrder (Some (codes "canonical", rows_of (found_of matches.now)))) }
+    ensures served { (order : Order) → MeansOrder (Some (codes "canonical", rows_of (found_of matches.now))) order
+        → IsSome result }
+{
+    if flag_of(matches, "framed")? {
+        return Some(Order::Archive(archive_of(Task::Canonical, matches)?));
+    }
+    if flag_of(matches, "keep-going")? {
+        return None;
+    }
+    Some(Order::Message(parts::order_of("canonical", matches)?))
+}
+
+/// What `pack` orders with these options, if they mean something: with `--streaming` it packs while bytes come in.
+fn pack_of(matches: &ArgMatches) -> Option<Order>
+    ensures means { IfSome result (MeansOrder (Some (codes "pack", rows_of (found_of matches.now)))) }
+    ensures served { (order : Order) → MeansOrder (Some (codes "pack", rows_of (found_of matches.now))) order
+        → IsSome result }
+{
+    if flag_of(matches, "streaming")? {
+        return Some(Order::Flow(Flow::Pack));
+    }
+    Some(Order::Message(Command::Pack))
+}
+
+/// What `unpack` orders with these options, if they mean something: with `--streaming`, and without `--message-words`,
+/// it unpacks while bytes come in.
+fn unpack_of(matches: &ArgMatches) -> Option<Order>
+    ensures means { IfSome result (MeansOrder (Some (codes "unpack", rows_of (found_of matches.now)))) }
+    ensures served { (order : Order) → MeansOrder (Some (codes "unpack", rows_of (found_of matches.now))) order
+        → IsSome result }
+{
+    if !flag_of(matches, "streaming")? {
+        return Some(Order::Message(parts::order_of("unpack", matches)?));
+    }
+    if is_usual(matches, "message-words") {
+        return Some(Order::Flow(Flow::Unpack));
+    }
+    None
+}
+
+/// What the subcommand of this name orders with these options, if they mean something.
+fn named_order(name: &str, matches: &ArgMatches) -> Option<Order>
+    ensures means { IfSome result (MeansOrder (Some (name.now, rows_of (found_of matches.now)))) }
+    ensures served { (order : Order) → MeansOrder (Some (name.now, rows_of (found_of matches.now))) order
+        → IsSome result }
+{
+    match name {
+        "list" => list_of(matches),
+        "limits" => Some(Order::Archive(archive_of(Task::Limits, matches)?)),
+        "canonical" => canonical_of(matches),
+        "uniq" => Some(Order::Uniq(uniq_of(matches)?)),
+        "pick" => Some(Order::Pick(pick_of(matches)?)),
+        "pack" => pack_of(matches),
+        "unpack" => unpack_of(matches),
+        "make" => Some(Order::Make(parts::form_of(matches)?)),
+        _ => Some(Order::Message(parts::order_of(name, matches)?)),
+    }
+}
+
+/// What is said of options of this command that mean nothing: of those of `pick` what its `--form` takes, of those of
+/// `unpack` that two don't go together, and of the others what is said of `--form`, or else of `--tariff`, or else of
+/// `--keep-going`.
+fn said_of(name: &str, matches: &ArgMatches) -> &'static str {
+    if name == "pick" {
+        return help::NO_FRAMED_FORM;
+    }
+    if name == "unpack" {
+        return help::WITHOUT_MESSAGE_WORDS;
+    }
+    if parts::form_of(matches).is_none() {
+        return tool_help::NO_SUCH_FORM;
+    }
+    if parts::limits_of(matches).is_none() {
+        return tool_help::NO_SUCH_TARIFF;
+    }
+    help::ONLY_FRAMED
+}
+
+/// The command whose options mean nothing, and what is said of them.
+fn mistake_of<'a>(matches: &'a ArgMatches) -> (&'a str, &'static str) {
+    match matches.subcommand() {
+        Some((name, found)) => (name, said_of(name, found)),
+        None => ("", tool_help::NO_SUCH_FORM),
+    }
+}
+
+/// What is answered where the options of a command mean nothing.
+fn meaningless(alloc: Global, matches: &ArgMatches) -> Usage
+    ensures { (kind_of (error_of result) ≡ kinds.OutOfMemory) ⊎ (kind_of (error_of result) ≡ kinds.InvalidValue) }
+{
+    let (name, text) = mistake_of(matches);
+    match mistake(alloc, name, text) {
+        Ok(error) => error.into(),
+        Err(error) => error.into(),
+    }
+}
+
+/// What the parser finds in the words, the first of them being the program's name.
+fn matches_of<'a, S: AsStr>(alloc: Global, words: &'a [S]) -> Result<ArgMatches<'a>, clap::Error>
+    ensures found { IfOk result (HasMatchesOf program_line (map S.text words.now)) }
+    ensures passes { IfErr result (λ e.
+        takes program_line (map S.text words.now) ≡ true → kind_of e ≡ kinds.OutOfMemory) }
+    ensures kinds { FailsBy (fault_of program_line (map S.text words.now)) result }
+{
+    match program_command(alloc) {
+        Ok(tool) => tool.try_get_matches_from(words),
+        Err(error) => Err(error.into()),
+    }
+}
+
+/// What the words order, the first of them being the program's name: the subcommand's work, with the form, the limits,
+/// the tariff and the flags that its options have, given or usual. A wish for help or for the version, a word, an
+/// option or a value that is not known, a number out of its range, a form or a tariff that the command does not take,
+/// `--keep-going` of `canonical` without `--framed`, `--message-words` of `unpack` beside `--streaming`, and refused
+/// memory are answered as `Usage`, with the text for the user.
+pub fn order_of<'a, S: AsStr>(alloc: Global, words: &'a [S]) -> Result<Order, Usage>
+    // An order that is given is what the words mean.
+    ensures means { IfOk result (MeansOrder (subcommand_of program_line (map S.text words.now))) }
+    // Where the words are taken and mean an order, that very order is given, unless memory is refused.
+    ensures only { takes program_line (map S.text words.now) ≡ true → (order : Order)
+        → MeansOrder (subcommand_of program_line (map S.text words.now)) order → Orders order result }
+    // Where none is given, the kind of the answer is a reason why the words order nothing.
+    ensures reason { IfErr result (λ usage. IsReason (map S.text words.now) (kind_of (error_of usage))) }
+{
+    let matches = matches_of(alloc, words)?;
+    let named = match matches.subcommand() {
+        Some((name, found)) => named_order(name, found),
+        None => None,
+    };
+    match named {
+        Some(order) => Ok(order),
+        None => Err(meaningless(alloc, &matches)),
+    }
+}

@@ -1,0 +1,99 @@
+-- A packed stream that is served in chunks: what has been written of the bytes that came. (Own.)
+use Rattle.std.specs.Prelude.{◌≡◌, ◌≢◌, ◌⊎◌, ◌↔◌, ℕ, ◌+◌, ◌<◌, ◌^◌, List, [], ◌++◌, length, Bool, true, false, Option}
+use Rattle.std.specs.Prelude.{Result, Ok, Err}
+use Rattle.std.specs.Io.KnownBytes.{Consumes}
+use Rattle.capn_pack.specs.PackedPieces as packing
+use Rattle.capn_pack.specs.PackedPieces.{Held, NoGroupFirst, Splits, advanced}
+use Rattle.capn_stream.specs.StreamPieces.{Framing}
+use Rattle.capn_stream.specs.FrameRefusal as frame_rules
+use Rattle.capn_stream.specs.declared.fault.FrameFault.{FrameFault}
+use Rattle.capn_stream.specs.declared.fault.FrameFault.TheVariants as frames
+use Rattle.capn_serve.specs.declared.position.Position.{Position}
+use Rattle.capn_serve.specs.declared.fault.RunFault.{RunFault}
+use Rattle.capn_serve.specs.declared.fault.RunFault.TheVariants as faults
+use Rattle.capn_serve.specs.Fold.{Fold, IsFolded, end_of}
+use Rattle.capn_serve.specs.Outgoing.{Outgoing, Adds, sent}
+use Rattle.capn_serve.specs.ChunkRun.{IsListening, Tells, TellsFront}
+use Rattle.capn_serve.specs.StreamRun.{has_more, taken_of}
+use Rattle.capn_serve.specs.PackedRun.{cut_group, unless_more}
+
+-- an unpacker has not failed, and holds no whole group
+pub record IsUnpacking (held : Held) : Type 0 where
+  pub good : held.failed ≡ false
+  pub group : NoGroupFirst held.rest
+  pub offset : held.offset < 2 ^ 64
+
+-- what is held of a packed stream: an unfinished group, the bytes of an unfinished message, and how many more bytes
+-- are taken of what it unpacks to
+pub record Pending : Type 0 where
+  pub group : Held
+  pub rest : List ℕ
+  pub left : ℕ
+
+-- an unpacker, a framer, and a number of bytes hold that
+abbrev pub pending : Held → Framing → ℕ → Pending
+pending held framer left = record { group = held; rest = framer.rest; left = left }
+
+-- before the first byte of a packed stream
+abbrev pub fresh : ℕ → Pending
+fresh limit = record { group = record { rest = []; offset = 0; failed = false }; rest = []; left = limit }
+
+module _ {X : Type 0} (f : Fold X) where
+  -- whatever follows these unpacked bytes, the run over as many as are taken ends so
+  abbrev pub IsDueWithin : X → ℕ → List ℕ → List ℕ → Outgoing → Outgoing → RunFault → Type 0
+  IsDueWithin x left rest stream old new fault = (more : List ℕ) → (text : List ℕ) × (y : X)
+      × ((behind : Option RunFault) → IsFolded f x (rest ++ taken_of left (stream ++ more))
+      (unless_more (has_more left (stream ++ more)) behind) text (Err fault) y) × Adds old new text
+
+  -- a run over unpacked bytes stopped: memory was refused, the writer failed, or it ends so
+  pub record Halts (x : X) (left : ℕ) (rest stream : List ℕ) (old new : Outgoing) (failed : Bool) (fault : RunFault)
+      : Type 0 where
+    pub told : failed ≡ false → (end : List ℕ) × (y : X) × Tells f x (rest ++ taken_of left stream) end old new y
+    pub front : failed ≡ true → TellsFront f x (rest ++ taken_of left stream) old new
+    pub io : (fault ≡ faults.Io) ↔ (failed ≡ true)
+    pub due : (fault ≡ faults.Memory) ⊎ ((fault ≡ faults.Io) ⊎ IsDueWithin x left rest stream old new fault)
+
+  -- unpacked bytes were served, up to their end, or to where the run stopped
+  abbrev pub ServesPart : X → ℕ → Framing → List ℕ → Outgoing → Outgoing → Bool → Result (Unit {0}) RunFault → ℕ
+      → Framing → X → Type 0
+  ServesPart x left before stream old new failed (Ok u) room after y = (length stream + room ≡ left)
+      × Tells f x (before.rest ++ stream) after.rest old new y × IsListening f after × (failed ≡ false)
+  ServesPart x left before stream old new failed (Err fault) room after y =
+      Halts x left before.rest stream old new failed fault
+
+  -- bytes after what was held: their whole groups unpack to no more than is taken, the whole messages in that were
+  -- served, and this is held then
+  pub record TellsPacked (x : X) (before : Pending) (bytes : List ℕ) (after : Pending) (old new : Outgoing) (y : X)
+      : Type 0 where
+    pub stream : List ℕ
+    pub len : ℕ
+    pub split : Splits (before.group.rest ++ bytes) after.group.rest [] stream len
+    pub offset : after.group.offset ≡ advanced before.group.offset len
+    pub good : after.group.failed ≡ false
+    pub size : length stream + after.left ≡ before.left
+    pub told : Tells f x (before.rest ++ stream) after.rest old new y
+
+  -- the run stopped over what some of the groups unpack to
+  abbrev pub HaltsPacked : X → Pending → List ℕ → Outgoing → Outgoing → Bool → RunFault → Type 0
+  HaltsPacked x before bytes old new failed fault = (stream : List ℕ)
+      × packing.Begins (before.group.rest ++ bytes) [] stream
+      × Halts x before.left before.rest stream old new failed fault
+
+  -- packed bytes were served: all messages that they made whole, or up to where the run stopped
+  abbrev pub ServesPacked : X → Pending → List ℕ → Outgoing → Outgoing → Bool → Result (Unit {0}) RunFault → Held
+      → Framing → ℕ → X → Type 0
+  ServesPacked x before bytes old new failed (Ok u) held framer left y =
+      TellsPacked x before bytes (pending held framer left) old new y × IsListening f framer × (failed ≡ false)
+  ServesPacked x before bytes old new failed (Err fault) held framer left y =
+      HaltsPacked x before bytes old new failed fault
+
+  -- a reader gave bytes, in this number, and the whole messages in what they unpack to were served
+  abbrev pub HearsPacked : X → ℕ → Option (List ℕ) → Option (List ℕ) → ℕ → Pending → Option (List ℕ)
+      → Option (List ℕ) → X → Type 0
+  HearsPacked x limit a b taken after c d y = (bytes : List ℕ) × Consumes a b bytes × (length bytes ≡ taken)
+      × TellsPacked x (fresh limit) bytes after (sent c) (sent d) y
+
+-- the input ended at a position: what is left is no whole frame, and the run ends so
+abbrev pub EndsPacked : Position → List ℕ → ℕ → List ℕ → ℕ → Result (Unit {0}) RunFault → Type 0
+EndsPacked at group offset rest most ending = (e : FrameFault) × (e ≢ frames.Memory)
+    × frame_rules.IsRefused rest most e × (ending ≡ end_of at e (cut_group at group offset)) × (ending ≢ Err faults.Io)

@@ -1,0 +1,109 @@
+-- A run that picks messages: what it writes, how it ends, and how far it reads. (Own.)
+use Rattle.std.specs.Prelude.{◌≡◌, ◌⊎◌, ◌↔◌, ℕ, ◌+◌, ◌-◌, ◌^◌, ◌<◌, ◌≤◌, nat_lt, if◌then◌else◌, List, [], ◌++◌, length}
+use Rattle.std.specs.Prelude.{Bool, true, Option, IfSome, Result, Ok, Err}
+use Rattle.std.specs.Io.KnownBytes.{Consumes, Appends}
+use Rattle.capn_pack.specs.PackedPieces as packing
+use Rattle.capn_serve.specs.declared.fault.RunFault.{RunFault}
+use Rattle.capn_serve.specs.declared.fault.RunFault.TheVariants as faults
+use Rattle.capn_serve.specs.declared.pick.Pick.{Pick}
+use Rattle.capn_serve.specs.declared.pick.StreamForm.{StreamForm}
+use Rattle.capn_serve.specs.declared.pick.StreamForm.TheVariants as forms
+use Rattle.capn_serve.specs.declared.service.Run.{Run}
+use Rattle.capn_serve.specs.Pick.{IsEnough, IsTooFew, first_run, last, pick_fold}
+use Rattle.capn_serve.specs.Outgoing.{sent}
+use Rattle.capn_serve.specs.ChunkRun.{Tells}
+use Rattle.capn_serve.specs.StreamRun as streams
+use Rattle.capn_serve.specs.StreamRun.{has_more, taken_of}
+use Rattle.capn_serve.specs.PackedRun as packings
+use Rattle.capn_serve.specs.PackedChunkRun.{Pending, TellsPacked, fresh}
+
+-- the most bytes that are taken of an input, and of what it unpacks to
+abbrev pub most_taken : ℕ
+most_taken = 2 ^ 64 - 1
+
+-- how a run ends that stopped with a fault: as done, if that is at a position after the last message
+abbrev pub settled : ℕ → RunFault → Result (Unit {0}) RunFault
+settled last (faults.Refused at r) = if nat_lt at.index last then Err (faults.Refused at r) else Ok tt
+settled last faults.Memory = Err faults.Memory
+settled last faults.Io = Err faults.Io
+settled last faults.InputTooLong = Err faults.InputTooLong
+
+-- how a run ends whose input has more bytes than are taken, after this number of messages
+abbrev pub full : ℕ → ℕ → Result (Unit {0}) RunFault
+full last index = if nat_lt index last then Err faults.InputTooLong else Ok tt
+
+module _ (most : ℕ) (p : Pick) where
+  -- This is picked of the bytes that are taken of an input, and a run over them ends so: as done, if the messages up
+  -- to the last are whole; else with the stream.
+  -- Of a packed input the same holds of what its whole groups unpack to. One that unpacks to more bytes than are taken
+  -- may end as too long even if the last message is whole.
+  abbrev pub IsPickedOf : StreamForm → List ℕ → Bool → List ℕ → Result (Unit {0}) RunFault → Type 0
+  IsPickedOf forms.Stream bytes is_longer text ending =
+      (IsEnough most p bytes text × (ending ≡ Ok tt))
+      ⊎ ((y : Run Pick) × streams.IsDue (pick_fold most) (first_run p) most_taken bytes is_longer text ending y
+      × (y.at.index < last p))
+  IsPickedOf forms.Packed bytes is_longer text ending =
+      ((stream : List ℕ) × packing.Begins bytes [] stream × IsEnough most p (taken_of most_taken stream) text
+      × (ending ≡ Ok tt))
+      ⊎ ((y : Run Pick) × packings.IsDuePacked (pick_fold most) (first_run p) most_taken bytes is_longer text ending y
+      × ((y.at.index < last p) ⊎ (ending ≡ Err faults.InputTooLong)))
+
+  -- the same of a whole input
+  abbrev pub IsPicked : StreamForm → List ℕ → List ℕ → Result (Unit {0}) RunFault → Type 0
+  IsPicked form input text ending =
+      IsPickedOf form (taken_of most_taken input) (has_more most_taken input) text ending
+
+  -- a run has written what is picked of its input and ended as that does; or memory was refused, or the reader or the
+  -- writer failed
+  abbrev pub EndsAs : StreamForm → Option (List ℕ) → Option (List ℕ) → Result (Unit {0}) RunFault → List ℕ → Type 0
+  EndsAs form old new r input =
+      (r ≡ Err faults.Memory)
+      ⊎ ((r ≡ Err faults.Io) ⊎ ((text : List ℕ) × IsPicked form input text r × Appends old new text))
+
+  -- in these bytes, or in what their whole groups unpack to, fewer messages are whole than are looked at
+  abbrev pub IsShort : StreamForm → List ℕ → Type 0
+  IsShort forms.Stream bytes = IsTooFew most p bytes
+  IsShort forms.Packed bytes = (stream : List ℕ) × (group : List ℕ) × (offset : ℕ)
+      × packing.Splits bytes group [] stream offset × IsTooFew most p stream
+
+  -- nothing was read after a piece that has enough: of what was read, all but the last piece, which has at most 65,536
+  -- bytes, is short
+  abbrev pub IsLazy : StreamForm → List ℕ → Type 0
+  IsLazy form bytes = (bytes ≡ [])
+      ⊎ ((before : List ℕ) × (piece : List ℕ) × (bytes ≡ before ++ piece) × (length piece ≤ 65536)
+      × IsShort form before)
+
+  -- a beginning of what is picked of these bytes was written
+  abbrev pub HasWritten : StreamForm → List ℕ → Option (List ℕ) → Option (List ℕ) → Type 0
+  HasWritten forms.Stream bytes old new =
+      streams.HasWritten (pick_fold most) (first_run p) most_taken (taken_of most_taken bytes) old new
+  HasWritten forms.Packed bytes old new =
+      packings.HasWrittenPacked (pick_fold most) (first_run p) most_taken (taken_of most_taken bytes) old new
+
+  -- a reader gave some bytes, no more pieces than needed, and a writer took a beginning of what is picked of them
+  pub record Begins (form : StreamForm) (a b c d : Option (List ℕ)) : Type 0 where
+    pub bytes : List ℕ
+    pub read : Consumes a b bytes
+    pub bounded : length bytes ≤ most_taken + 1
+    pub lazy : IsLazy form bytes
+    pub written : HasWritten form bytes c d
+
+  -- what a run did, over a reader (from a to b) and a writer (from c to d)
+  pub record Picks (form : StreamForm) (a b c d : Option (List ℕ)) (reader_failed writer_failed : Bool)
+      (r : Result (Unit {0}) RunFault) : Type 0 where
+    pub exact : IfSome a (EndsAs form c d r)
+    pub io : (r ≡ Err faults.Io) ↔ ((reader_failed ≡ true) ⊎ (writer_failed ≡ true))
+    pub begun : Begins form a b c d
+
+  -- a reader gave bytes, in this number and no more pieces than needed, and the whole messages in them were looked at
+  abbrev pub Hears : Option (List ℕ) → Option (List ℕ) → ℕ → List ℕ → Option (List ℕ) → Option (List ℕ) → Run Pick
+      → Type 0
+  Hears a b taken rest c d y = (bytes : List ℕ) × Consumes a b bytes × (length bytes ≡ taken)
+      × Tells (pick_fold most) (first_run p) bytes rest (sent c) (sent d) y × IsLazy forms.Stream bytes
+
+  -- the same of a packed stream, of which this is held
+  abbrev pub HearsPacked : Option (List ℕ) → Option (List ℕ) → ℕ → Pending → Option (List ℕ) → Option (List ℕ)
+      → Run Pick → Type 0
+  HearsPacked a b taken q c d y = (bytes : List ℕ) × Consumes a b bytes × (length bytes ≡ taken)
+      × TellsPacked (pick_fold most) (first_run p) (fresh most_taken) bytes q (sent c) (sent d) y
+      × IsLazy forms.Packed bytes

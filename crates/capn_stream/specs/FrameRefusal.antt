@@ -1,0 +1,77 @@
+-- What the beginning of a stream announces, and why it is refused. (Page: serialization over a stream; the order of
+-- the tests is our own.)
+use Rattle.std.specs.Prelude.{◌≡◌, ◌⊎◌, ℕ, zero, suc, ◌+◌, ◌*◌, ◌<◌, ◌≤◌, List, [], ◌∷◌, length, drop, sum, ⊤}
+use Rattle.byteorder.specs.Endian.{little_number}
+use Rattle.capn_words.specs.Message.{most_segments}
+use Rattle.capn_stream.specs.Frames.{padding}
+use Rattle.capn_stream.specs.declared.fault.FrameFault.{FrameFault}
+use Rattle.capn_stream.specs.declared.fault.FrameFault.TheVariants.{Memory, Empty, TooManySegments, TooManyWords, Cut}
+use Rattle.capn_stream.specs.declared.fault.FrameFault.TheVariants.{Failed}
+
+-- the number in the first 4 bytes, the least first
+unfoldable pub entry_number : List ℕ → ℕ
+entry_number bs = little_number 4 bs
+
+-- the first n numbers of 4 bytes
+abbrev pub entries : ℕ → List ℕ → List ℕ
+entries zero bs = []
+entries (suc n) bs = entry_number bs ∷ entries n (drop 4 bs)
+
+-- how many segments are announced
+abbrev pub announced_segments : List ℕ → ℕ
+announced_segments bs = entry_number bs + 1
+
+-- how many words are announced: the sum of the sizes after the count
+abbrev pub announced_words : List ℕ → ℕ
+announced_words bs = sum (entries (announced_segments bs) (drop 4 bs))
+
+-- how many bytes the table of `count` segments and its padding take
+abbrev pub head_length : ℕ → ℕ
+head_length count = 4 + 4 * count + padding count
+
+-- how many bytes the announced frame takes
+abbrev pub frame_length : List ℕ → ℕ
+frame_length bs = head_length (announced_segments bs) + 8 * announced_words bs
+
+-- the count is there, and announces no more segments than are allowed
+abbrev pub HasCount : List ℕ → Type 0
+HasCount bs = (4 ≤ length bs) × (announced_segments bs ≤ most_segments)
+
+-- the table and its padding are there
+abbrev pub HasHead : List ℕ → Type 0
+HasHead bs = HasCount bs × (head_length (announced_segments bs) ≤ length bs)
+
+-- the announced frame is there, and has at most `most` words
+abbrev pub IsWhole : List ℕ → ℕ → Type 0
+IsWhole bs most = HasHead bs × (announced_words bs ≤ most) × (frame_length bs ≤ length bs)
+
+-- the announced frame is there and allowed, and its table has more than one segment, so that where they end has to
+-- be kept
+abbrev pub HasTable : List ℕ → ℕ → Type 0
+HasTable bs most = IsWhole bs most × (2 ≤ announced_segments bs)
+
+-- the count is cut; or the segments announced are allowed, and the table or its padding is cut; or the words announced
+-- are allowed too, and the contents are cut
+abbrev pub IsCut : List ℕ → ℕ → Type 0
+IsCut bs most =
+    ((0 < length bs) × (length bs < 4))
+    ⊎ (HasCount bs × (length bs < head_length (announced_segments bs)))
+    ⊎ (HasHead bs × (announced_words bs ≤ most) × (length bs < frame_length bs))
+
+-- the bytes end with the count or before it; or with the table and its padding, if the segments announced are allowed;
+-- or with the contents, if the words announced are allowed too
+abbrev pub EndsWithin : List ℕ → ℕ → Type 0
+EndsWithin bs most =
+    (length bs ≤ 4)
+    ⊎ (HasCount bs × (length bs ≤ head_length (announced_segments bs)))
+    ⊎ (HasHead bs × (announced_words bs ≤ most) × (length bs ≤ frame_length bs))
+
+-- why bytes are refused under a number of words, each test being made once those before it have passed (running out of
+-- memory says nothing of the bytes)
+abbrev pub IsRefused : List ℕ → ℕ → FrameFault → Type 0
+IsRefused bs most Memory = ⊤
+IsRefused bs most Empty = length bs ≡ 0
+IsRefused bs most (TooManySegments n) = (4 ≤ length bs) × (n ≡ announced_segments bs) × (most_segments < n)
+IsRefused bs most (TooManyWords n) = HasHead bs × (n ≡ announced_words bs) × (most < n)
+IsRefused bs most Cut = IsCut bs most
+IsRefused bs most Failed = ⊥

@@ -1,0 +1,109 @@
+-- The next message of a reader. (Own.)
+use Rattle.std.specs.Prelude.{◌≡◌, ◌≢◌, ◌⊎◌, ⊤, ℕ, ◌+◌, ◌*◌, ◌<◌, ◌≤◌, List, [], ◌++◌, length, Bool, true}
+use Rattle.std.specs.Prelude.{false, Result, Ok, Err, Option, Some, None}
+use Rattle.std.specs.Io.KnownBytes.{Consumes, IsAtEnd}
+use Rattle.capn_words.specs.Message.{total}
+use Rattle.capn_stream.specs.Frames.{Frames, StandsFirst, most_table_words}
+use Rattle.capn_stream.specs.StreamPieces.{Framing, IsUnfinished}
+use Rattle.capn_stream.specs.FrameRefusal.{EndsWithin, IsRefused, announced_segments, head_length}
+use Rattle.capn_stream.specs.declared.fault.FrameFault.{FrameFault}
+use Rattle.capn_stream.specs.declared.fault.FrameFault.TheVariants as frames
+use Rattle.capn_stream.specs.declared.fault.ReadFault.{ReadFault}
+use Rattle.capn_stream.specs.declared.fault.ReadFault.TheVariants as faults
+
+-- the most bytes of a frame of `most` words: those of the longest table, and of the words
+abbrev pub most_bytes : ℕ → ℕ
+most_bytes most = 8 * (most_table_words + most)
+
+-- the bytes that a reader gave are no frame, and no more of them are read
+abbrev pub IsUnread : List ℕ → ℕ → Option (List ℕ) → FrameFault → Type 0
+IsUnread bs most new frames.Memory = ⊥
+IsUnread bs most new frames.Empty = ⊥
+IsUnread bs most new (frames.TooManySegments n) = IsRefused bs most (frames.TooManySegments n)
+IsUnread bs most new (frames.TooManyWords n) = IsRefused bs most (frames.TooManyWords n)
+IsUnread bs most new frames.Cut = IsRefused bs most frames.Cut × IsAtEnd new
+IsUnread bs most new frames.Failed = ⊥
+
+-- what a read that gave these bytes answers
+abbrev pub Answers : List ℕ → ℕ → Option (List ℕ) → Bool → Result (Option (List (List ℕ))) ReadFault → Type 0
+Answers bs most new failed (Ok (Some message)) = Frames bs message × (total message ≤ most) × (failed ≡ false)
+Answers bs most new failed (Ok None) = (bs ≡ []) × IsAtEnd new × (failed ≡ false)
+Answers bs most new failed (Err faults.Memory) = failed ≡ false
+Answers bs most new failed (Err faults.Io) = IsUnfinished bs most × (failed ≡ true)
+Answers bs most new failed (Err (faults.Frame e)) = IsUnread bs most new e × (failed ≡ false)
+
+-- a reader gave these bytes, and no more than a frame can have
+pub record Received (old new : Option (List ℕ)) (failed : Bool) (most : ℕ)
+    (result : Result (Option (List (List ℕ))) ReadFault) (bytes : List ℕ) : Type 0 where
+  pub read : Consumes old new bytes
+  pub bounded : length bytes ≤ most_bytes most
+  pub answer : Answers bytes most new failed result
+
+-- a reader gave some bytes, and a read answers what they call for
+abbrev pub ReadGives : Option (List ℕ) → Option (List ℕ) → Bool → ℕ → Result (Option (List (List ℕ))) ReadFault → Type 0
+ReadGives old new failed most result = (bytes : List ℕ) × Received old new failed most result bytes
+
+-- Where a read that took these bytes has left its reader: after a refusal it stands inside the message. That is exactly
+-- after the count if it announces too many segments, after the table and its padding if they announce too many words,
+-- and at the end of the input if the message is cut. Memory is needed once a byte has come, and not beyond the message.
+abbrev pub StandsInside : List ℕ → ℕ → Option (List ℕ) → Result (Option (List (List ℕ))) ReadFault → Type 0
+StandsInside bs most new (Ok answer) = ⊤
+StandsInside bs most new (Err faults.Memory) = (0 < length bs) × EndsWithin bs most
+StandsInside bs most new (Err faults.Io) = EndsWithin bs most
+StandsInside bs most new (Err (faults.Frame frames.Memory)) = ⊥
+StandsInside bs most new (Err (faults.Frame frames.Empty)) = ⊥
+StandsInside bs most new (Err (faults.Frame (frames.TooManySegments n))) = length bs ≡ 4
+StandsInside bs most new (Err (faults.Frame (frames.TooManyWords n))) = length bs ≡ head_length (announced_segments bs)
+StandsInside bs most new (Err (faults.Frame frames.Cut)) = IsAtEnd new
+StandsInside bs most new (Err (faults.Frame frames.Failed)) = ⊥
+
+-- a reader gave some bytes, a read answers what they call for, and a refusal leaves the reader inside the message
+abbrev pub StopsInside : Option (List ℕ) → Option (List ℕ) → Bool → ℕ → Result (Option (List (List ℕ))) ReadFault
+    → Type 0
+StopsInside old new failed most result = (bytes : List ℕ) × Received old new failed most result bytes
+    × StandsInside bytes most new result
+
+-- bytes that follow what a framer holds were all taken: they make a message whole, or none, or are refused
+abbrev pub TakesIn : Framing → List ℕ → Result (Option (List (List ℕ))) ReadFault → Framing → Type 0
+TakesIn before piece (Ok (Some message)) after = Frames (before.rest ++ piece) message × (total message ≤ before.most)
+TakesIn before piece (Ok None) after =
+    (after.rest ≡ before.rest ++ piece) × (after.most ≡ before.most) × (after.failed ≡ false)
+    × IsUnfinished after.rest before.most
+TakesIn before piece (Err faults.Memory) after = ⊤
+TakesIn before piece (Err faults.Io) after = ⊥
+TakesIn before piece (Err (faults.Frame frames.Memory)) after = ⊥
+TakesIn before piece (Err (faults.Frame frames.Empty)) after = ⊥
+TakesIn before piece (Err (faults.Frame (frames.TooManySegments n))) after =
+    IsRefused (before.rest ++ piece) before.most (frames.TooManySegments n)
+TakesIn before piece (Err (faults.Frame (frames.TooManyWords n))) after =
+    IsRefused (before.rest ++ piece) before.most (frames.TooManyWords n)
+TakesIn before piece (Err (faults.Frame frames.Cut)) after = ⊥
+TakesIn before piece (Err (faults.Frame frames.Failed)) after = ⊥
+
+-- no message has begun, or it is cut
+abbrev pub EndGives : List ℕ → ℕ → Result (Option (List (List ℕ))) ReadFault → Type 0
+EndGives rest most (Ok (Some message)) = ⊥
+EndGives rest most (Ok None) = rest ≡ []
+EndGives rest most (Err faults.Memory) = ⊥
+EndGives rest most (Err faults.Io) = ⊥
+EndGives rest most (Err (faults.Frame frames.Memory)) = ⊥
+EndGives rest most (Err (faults.Frame frames.Empty)) = ⊥
+EndGives rest most (Err (faults.Frame (frames.TooManySegments n))) = ⊥
+EndGives rest most (Err (faults.Frame (frames.TooManyWords n))) = ⊥
+EndGives rest most (Err (faults.Frame frames.Cut)) = IsRefused rest most frames.Cut
+EndGives rest most (Err (faults.Frame frames.Failed)) = ⊥
+
+-- What a read answers, of all that the reader had to give: the message that stands first in it; none, where it has no
+-- bytes; or why no message stands first. Nothing is said where memory was refused or the reader failed.
+abbrev pub ReadsFirst : ℕ → Result (Option (List (List ℕ))) ReadFault → List ℕ → Type 0
+ReadsFirst most (Ok (Some message)) input = (taken : ℕ) × StandsFirst input most message taken
+ReadsFirst most (Ok None) input = input ≡ []
+ReadsFirst most (Err faults.Memory) input = ⊤
+ReadsFirst most (Err faults.Io) input = ⊤
+ReadsFirst most (Err (faults.Frame e)) input = IsRefused input most e × (e ≢ frames.Memory) × (e ≢ frames.Empty)
+
+-- a message that stands first is answered, unless memory runs out or the reader failed
+abbrev pub OnlyFirst : ℕ → Result (Option (List (List ℕ))) ReadFault → List ℕ → Type 0
+OnlyFirst most result input =
+    (message : List (List ℕ)) (taken : ℕ) → StandsFirst input most message taken → (result ≡ Ok (Some message))
+    ⊎ ((result ≡ Err faults.Memory) ⊎ (result ≡ Err faults.Io))

@@ -1,0 +1,79 @@
+-- A stream of messages that comes in pieces. (Own.)
+use Rattle.std.specs.Prelude.{◌≡◌, ◌⊎◌, ℕ, ◌≤◌, List, [], ◌++◌, length, take, Bool, true, false, Result, Ok, Err}
+use Rattle.std.specs.Prelude.{Option, Some, None}
+use Rattle.capn_words.specs.Message.{most_message_words, total}
+use Rattle.capn_stream.specs.Frames.{Frames}
+use Rattle.capn_stream.specs.FrameRefusal.{IsRefused}
+use Rattle.capn_stream.specs.inner.Stages.{IsStage, Rests}
+use Rattle.capn_stream.specs.declared.fault.FrameFault.{FrameFault}
+use Rattle.capn_stream.specs.declared.fault.FrameFault.TheVariants.{Memory, Empty, TooManySegments, TooManyWords, Cut}
+use Rattle.capn_stream.specs.declared.fault.FrameFault.TheVariants.{Failed}
+use Rattle.capn_stream.specs.declared.stage.Stage.{Stage}
+
+-- what a framer holds: the bytes since the last message that was taken, how many words a message may have, and whether
+-- a call has refused
+pub record Framing : Type 0 where
+  pub rest : List ℕ
+  pub most : ℕ
+  pub failed : Bool
+
+-- the bytes are a frame, of a message of at most `most` words
+abbrev pub IsFrame : List ℕ → ℕ → Type 0
+IsFrame bs most = (message : List (List ℕ)) × Frames bs message × (total message ≤ most)
+
+-- no frame has begun, or one has and is not whole
+abbrev pub IsUnfinished : List ℕ → ℕ → Type 0
+IsUnfinished bs most = IsRefused bs most Empty ⊎ IsRefused bs most Cut
+
+-- n bytes of a piece were taken: all of them, or as many as make a message whole
+pub record Feeds (before : Framing) (piece : List ℕ) (n : ℕ) (after : Framing) : Type 0 where
+  pub inside : n ≤ length piece
+  pub rest : after.rest ≡ before.rest ++ take n piece
+  pub held : IsFrame after.rest after.most ⊎ IsUnfinished after.rest after.most
+  pub stops : (n ≡ length piece) ⊎ IsFrame after.rest after.most
+  pub same : after.most ≡ before.most
+  pub was_good : before.failed ≡ false
+  pub is_good : after.failed ≡ false
+
+-- a call has refused, and none had before
+pub record Stops (before after : Framing) : Type 0 where
+  pub was_good : before.failed ≡ false
+  pub is_failed : after.failed ≡ true
+
+-- What a feed answers: how many bytes it took; a refusal of the bytes with the piece, which comes once; or that an
+-- earlier call has refused.
+abbrev pub FeedGives : Framing → List ℕ → Result ℕ FrameFault → Framing → Type 0
+FeedGives before piece (Ok n) after = Feeds before piece n after
+FeedGives before piece (Err Memory) after = Stops before after
+FeedGives before piece (Err Empty) after = ⊥
+FeedGives before piece (Err (TooManySegments n)) after = Stops before after
+    × IsRefused (before.rest ++ piece) before.most (TooManySegments n)
+FeedGives before piece (Err (TooManyWords n)) after = Stops before after
+    × IsRefused (before.rest ++ piece) before.most (TooManyWords n)
+FeedGives before piece (Err Cut) after = ⊥
+FeedGives before piece (Err Failed) after = (before.failed ≡ true) × (after ≡ before)
+
+-- what is taken: the message that the bytes are a frame of, and then no bytes are left; or none, and nothing changes
+abbrev pub TakeGives : Framing → Option (List (List ℕ)) → Framing → Type 0
+TakeGives before (Some message) after =
+    Frames before.rest message × (total message ≤ before.most) × (before.failed ≡ false)
+    × (after ≡ record { rest = []; most = before.most; failed = false })
+TakeGives before None after = ((before.failed ≡ true) ⊎ IsUnfinished before.rest before.most) × (after ≡ before)
+
+-- what the end of the stream answers: that none or a whole message is left, or that one is cut, or that an earlier call
+-- has refused
+abbrev pub FinishGives : Framing → Result (Unit {0}) FrameFault → Framing → Type 0
+FinishGives before (Ok u) after = (before.failed ≡ false) × ((before.rest ≡ []) ⊎ IsFrame before.rest before.most)
+    × (after ≡ before)
+FinishGives before (Err Memory) after = ⊥
+FinishGives before (Err Empty) after = ⊥
+FinishGives before (Err (TooManySegments n)) after = ⊥
+FinishGives before (Err (TooManyWords n)) after = ⊥
+FinishGives before (Err Cut) after = Stops before after × IsRefused before.rest before.most Cut
+FinishGives before (Err Failed) after = (before.failed ≡ true) × (after ≡ before)
+
+-- the fields of a framer say how far its frame has come, until a call has refused
+pub record IsFramer (frame : List ℕ) (ends : List ℕ) (stage : Stage) (most : ℕ) (failed : Bool) : Type 0 where
+  pub small : most ≤ most_message_words
+  pub is : failed ≡ false → IsStage stage frame most ends
+  pub rests : failed ≡ false → Rests stage frame

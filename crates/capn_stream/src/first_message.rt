@@ -1,0 +1,44 @@
+//! The message that stands first in a stream.
+
+ghost use Rattle.std.specs.Prelude.{◌≡◌, ℕ, ◌≤◌, List, IfOk, IfErr, IsErrOf, MatchResult};
+ghost use Rattle.capn_words.specs.Message.{most_message_words};
+ghost use Rattle.capn_stream.specs.Frames.{StandsFirst};
+ghost use Rattle.capn_stream.specs.FrameRefusal.{HasTable, IsRefused};
+
+use crate::fault::FrameFault;
+use crate::framed::Framed;
+use crate::table::{ends_of, head_of, read_head};
+use capn_words::Bare;
+use std::alloc::Allocator;
+
+/// The message whose frame stands first in the bytes, and the number of bytes that it takes.
+///
+/// The message borrows the bytes; memory is taken for a table of segments alone, and none where there is
+/// one segment. The refusals are tested in this order: `Empty`; `Cut` within the count;
+/// `TooManySegments`; `Cut` within the table or its padding; `TooManyWords`, with the sum of the sizes,
+/// where it is above `max_words`; `Cut` within the contents. `Memory` comes only where a growth was
+/// refused, after all of these; `Failed` never comes. Padding is ignored.
+/// (Page: serialization over a stream; the order of the tests is our own.)
+pub fn first<'a, A: Allocator + Copy>(
+    alloc: A,
+    bytes: &'a [u8],
+    max_words: u32,
+) -> Result<(Framed<'a, A>, usize), FrameFault>
+    requires { max_words ≤ most_message_words }
+    ensures found { IfOk result (λ answer. StandsFirst bytes.now max_words answer.0 answer.1) }
+    ensures only { (message : List (List ℕ)) (taken : ℕ)
+        → StandsFirst bytes.now max_words message taken
+        → MatchResult result (λ answer. (answer.0 ≡ message) × (answer.1 ≡ taken)) (λ e. e ≡ FrameFault.Memory) }
+    ensures refused { IfErr result (λ e. IsRefused bytes.now max_words e) }
+    // Memory is needed only if a whole frame of two segments or more stands first.
+    ensures memory { IsErrOf result FrameFault.Memory → HasTable bytes.now max_words }
+{
+    let head = read_head(bytes, max_words)?;
+    let start = head_of(head.segments);
+    let end = start + 8 * head.words;
+    let ends = ends_of(alloc, &bytes[4..], head.segments - 1)?;
+    match Bare::new(&bytes[start..end]) {
+        Ok(words) => Ok((Framed::new(words, ends), end)),
+        Err(_) => unreachable!(),
+    }
+}

@@ -1,0 +1,152 @@
+//! Messages from a stream that comes in pieces.
+
+ghost use Rattle.std.specs.Prelude.{◌≡◌, ◌↔◌, IsTrue, ℕ, ◌+◌, ◌<◌, ◌≤◌, ◌++◌, List, [], length, false};
+ghost use Rattle.std.specs.Prelude.{IsErrOf};
+ghost use Rattle.capn_words.specs.Message.{most_message_words};
+ghost use Rattle.capn_stream.specs.StreamPieces.{FeedGives, FinishGives, IsFrame, IsUnfinished, TakeGives};
+ghost use Rattle.capn_stream.specs.FrameRefusal.{EndsWithin};
+ghost use Rattle.capn_stream.specs.NextMessage.{most_bytes};
+
+use crate::fault::FrameFault;
+use crate::stored::Stored;
+use crate::stage::{Stage, fill, part_left};
+use std::alloc::{Allocator, Global};
+use std::marker::Model;
+use std::mem;
+
+/// Takes messages from a stream that comes in pieces, cut anywhere. (Own.)
+///
+/// It keeps the bytes that came since the last message was taken, and beside them what their table says, so that no
+/// byte is looked at twice. It grows with bytes that came, by 64 at the first of a message, and never by what a table
+/// announces. After any refusal each later `feed` and `finish` answers `Failed`, and `take` answers None.
+#[derive(Debug, Drop)]
+pub struct Framer<A: Allocator + Copy = Global> {
+    alloc: A,
+    frame: Vec<u8, A>,
+    ends: Vec<u32, A>,
+    stage: Stage,
+    max_words: u32,
+    failed: bool,
+}
+
+impl<A: Allocator + Copy> Model for Framer<A> {
+    ghost use Rattle.capn_stream.specs.StreamPieces.{Framing, IsFramer};
+
+    ghost Value = { Framing };
+
+    ghost view = { λ f. record { rest = f.frame.items; most = f.max_words; failed = f.failed } };
+
+    ghost invariant = { λ f. IsFramer f.frame.items f.ends.items f.stage f.max_words f.failed };
+}
+
+impl<A: Allocator + Copy> Framer<A> {
+    /// At the beginning of a stream, for messages of at most `max_words` words. It takes no memory.
+    pub fn new(alloc: A, max_words: u32) -> Framer<A>
+        requires { max_words ≤ most_message_words }
+        ensures { result ≡ record { rest = []; most = max_words; failed = false } }
+    {
+        Framer {
+            alloc,
+            frame: Vec::new(alloc),
+            ends: Vec::new(alloc),
+            stage: Stage::Count,
+            max_words,
+            failed: false,
+        }
+    }
+
+    /// Takes bytes of the piece until a message is whole or the piece ends, and answers how many.
+    ///
+    /// While a message waits it takes none. Refusals: `TooManySegments` once the count is there, `TooManyWords` once
+    /// the table and its padding are there, `Memory` where a growth was refused, `Failed` after an earlier refusal.
+    #[inline]
+    pub fn feed(&mut self, piece: &[u8]) -> Result<usize, FrameFault>
+        ensures gives { FeedGives self.old piece.now result self.new }
+        // Memory is needed only if bytes came that are kept: the piece has some, and no message waits.
+        ensures wanted { IsErrOf result FrameFault.Memory
+            → (0 < length piece.now) × IsUnfinished self.old.rest self.old.most }
+    {
+        if self.failed {
+            return Err(FrameFault::Failed);
+        }
+        let fed = fill(
+            self.alloc,
+            &mut self.frame,
+            &mut self.ends,
+            &mut self.stage,
+            piece,
+            self.max_words,
+        );
+        self.failed = fed.is_err();
+        fed
+    }
+
+    /// How many bytes there have to be for the part that is waited for: no message is whole before that.
+    pub(crate) fn wanted(&self) -> usize
+        requires { self.now.failed ≡ false }
+        ensures least { (more : List ℕ) → IsFrame (self.now.rest ++ more) self.now.most → result ≤ length more }
+        ensures some { IsUnfinished self.now.rest self.now.most → 0 < result }
+        ensures bound { length self.now.rest + result ≤ most_bytes self.now.most }
+        ensures within { (more : List ℕ) → length more ≤ result → EndsWithin (self.now.rest ++ more) self.now.most }
+    {
+        part_left(self.stage, &self.frame)
+    }
+
+    /// Whether it holds no byte: none has come since the last message was taken.
+    #[inline]
+    pub fn is_empty(&self) -> bool
+        ensures { IsTrue result ↔ (self.now.rest ≡ []) }
+    {
+        self.frame.is_empty()
+    }
+
+    /// The bytes that came since the last message was taken, while no call has refused: the frame of the message that
+    /// waits, or the beginning of one.
+    #[inline]
+    pub fn held(&self) -> &[u8]
+        ensures { result.now ≡ self.now.rest }
+    {
+        &self.frame
+    }
+
+    /// The message that waits, if one does, once. It takes no memory: the bytes are moved.
+    #[inline]
+    pub fn take(&mut self) -> Option<Stored<A>>
+        ensures { TakeGives self.old result self.new }
+    {
+        if self.failed {
+            return None;
+        }
+        match self.stage {
+            Stage::Contents(start, end) if end == self.frame.len() => {
+                let frame = mem::replace(&mut self.frame, Vec::new(self.alloc));
+                let ends = mem::replace(&mut self.ends, Vec::new(self.alloc));
+                self.stage = Stage::Count;
+                Some(Stored::new(frame, start, ends))
+            }
+            _ => None,
+        }
+    }
+
+    /// The end of the stream.
+    ///
+    /// `Cut` if a message has begun and is not whole, `Failed` after an earlier refusal. After Ok the stream may go on.
+    /// It takes no memory.
+    pub fn finish(&mut self) -> Result<(), FrameFault>
+        ensures { FinishGives self.old result self.new }
+    {
+        if self.failed {
+            return Err(FrameFault::Failed);
+        }
+        match self.stage {
+            Stage::Contents(_, end) if end == self.frame.len() => Ok(()),
+            _ => {
+                if self.frame.is_empty() {
+                    return Ok(());
+                }
+                self.failed = true;
+                Err(FrameFault::Cut)
+            }
+        }
+    }
+}

@@ -1,0 +1,124 @@
+//! From all of the input to all of the output.
+
+ghost use Rattle.std.specs.Prelude.{◌≡◌, ◌↔◌, ◌⊎◌, ℕ, List, [], Result, true, false, IfSome, IsErrOf};
+ghost use Rattle.std.specs.Io.KnownBytes.{Appends};
+ghost use Rattle.capn_words.specs.Watched.{inner_of, has_failed};
+ghost use Rattle.capn_tool.specs.Plan as spec;
+ghost use Rattle.capn_tool.specs.StreamRun.{KeepsUp, Runs};
+ghost use Rattle.capn_tool.specs.Text.{EndsAs, EndsBy, IsText, Begins, PlanEndsAs, PlanBegins};
+ghost use Rattle.capn_tool.specs.declared.fault.ToolFault.{ToolFault};
+ghost use Rattle.capn_tool.specs.declared.plan.Plan.TheVariants as plans;
+
+use crate::message_service::Service;
+use crate::fault::ToolFault;
+use crate::message_stream::run_each;
+use crate::whole_input::make;
+use crate::command::Command;
+use crate::output::write_all;
+use crate::plan::{Plan, Whole, plan_of};
+use crate::packed_stream::run_packed;
+use capn_words::Watched;
+use std::alloc::Allocator;
+use std::io::{Read, Write};
+
+/// Reads all there is, and writes what is made of it.
+fn run_whole<R: Read, W: Write, A: Allocator + Copy>(
+    alloc: A,
+    whole: Whole,
+    reader: &mut Watched<R>,
+    writer: &mut Watched<W>,
+) -> Result<(), ToolFault>
+    requires reader_fine { has_failed reader.old ≡ false }
+    requires writer_fine { has_failed writer.old ≡ false }
+    ensures exact { IfSome (R.remaining (inner_of reader.old))
+        (PlanEndsAs (plans.Whole whole) (W.contents (inner_of writer.old)) (W.contents (inner_of writer.new)) result) }
+    ensures io { IsErrOf result ToolFault.Io ↔ ((has_failed reader.new ≡ true) ⊎ (has_failed writer.new ≡ true)) }
+    ensures begun { PlanBegins (plans.Whole whole) (R.remaining (inner_of reader.old))
+        (R.remaining (inner_of reader.new))
+        (W.contents (inner_of writer.old)) (W.contents (inner_of writer.new)) }
+    ensures unread { has_failed reader.new ≡ true
+        → Appends (W.contents (inner_of writer.old)) (W.contents (inner_of writer.new)) [] }
+{
+    let text = make(alloc, whole, reader)?;
+    write_all(writer, &text)
+}
+
+/// Carries a plan out.
+fn perform<R: Read, W: Write, A: Allocator + Copy>(
+    alloc: A,
+    plan: Plan,
+    reader: &mut Watched<R>,
+    writer: &mut Watched<W>,
+) -> Result<(), ToolFault>
+    requires reader_fine { has_failed reader.old ≡ false }
+    requires writer_fine { has_failed writer.old ≡ false }
+    ensures { Runs plan (R.remaining (inner_of reader.old)) (R.remaining (inner_of reader.new))
+        (W.contents (inner_of writer.old)) (W.contents (inner_of writer.new)) (has_failed reader.new)
+        (has_failed writer.new) result }
+{
+    match plan {
+        Plan::Whole(whole) => run_whole(alloc, whole, reader, writer),
+        Plan::Each(piece, limits) => run_each(
+            &Service {
+                alloc,
+                piece,
+                limits,
+            },
+            reader,
+            writer,
+        ),
+        Plan::Packed(piece, limits) => run_packed(
+            &Service {
+                alloc,
+                piece,
+                limits,
+            },
+            reader,
+            writer,
+        ),
+    }
+}
+
+/// Carries a command out: reads from the reader to its end, then writes the text of the input to the writer.
+///
+/// `pack`, `unpack`, `canonical` and the form bare take the input whole, and write nothing where it is refused. `show`,
+/// `check` and `hash` of a stream, packed or not, take it message by message: before the reader is asked again, the
+/// text of all messages that are whole by then has been written, mostly by one call. Where a message is refused, the
+/// text of those before it has been written.
+///
+/// Refusals: `Memory` where a growth was refused; `Io` exactly where the reader or the writer has failed, and then a
+/// beginning of the text was written; `InputTooLong` for a byte past 2^32; else the command's own. At most 2^32 + 1
+/// bytes are read, at most 65,536 by one call. Over a stream the memory does not grow with the input: 128 KiB, the
+/// texts of what one call read, at most 1 MiB for unpacked words, and what the longest message takes.
+///
+/// Of an input that is taken whole, `canonical` holds the first 8 * (message words + 2,049) bytes and one more, or as
+/// many words of a packed one, and `unpack` its answer; what follows is read and dropped. The form bare holds at most
+/// 2^28 + 1 words, and `pack` all of its input.
+pub fn run<R: Read, W: Write, A: Allocator + Copy>(
+    alloc: A,
+    command: Command,
+    reader: &mut Watched<R>,
+    writer: &mut Watched<W>,
+) -> Result<(), ToolFault>
+    requires reader_fine { has_failed reader.old ≡ false }
+    requires writer_fine { has_failed writer.old ≡ false }
+    // It has written the text of all that the reader had to give, and ends as that says.
+    ensures exact { IfSome (R.remaining (inner_of reader.old))
+        (EndsAs command (W.contents (inner_of writer.old)) (W.contents (inner_of writer.new)) result) }
+    // There is one text and one ending for an input: these come, and nothing else.
+    ensures only { IfSome (R.remaining (inner_of reader.old)) (λ input.
+        (text : List ℕ) (due : Result (Unit {0}) ToolFault) → IsText command input text due →
+        EndsBy text due (W.contents (inner_of writer.old)) (W.contents (inner_of writer.new)) result) }
+    // It answers Io exactly where one of the two has failed.
+    ensures io { IsErrOf result ToolFault.Io ↔ ((has_failed reader.new ≡ true) ⊎ (has_failed writer.new ≡ true)) }
+    // Whatever it answers, a beginning of the text of what it read was written, or nothing.
+    ensures begun { Begins command (R.remaining (inner_of reader.old)) (R.remaining (inner_of reader.new))
+        (W.contents (inner_of writer.old)) (W.contents (inner_of writer.new)) }
+    // If the reader failed, all of the output for what it gave was written, if it is taken message by message; if it is
+    // taken whole, nothing was.
+    ensures heard { has_failed reader.new ≡ true
+        → KeepsUp command (R.remaining (inner_of reader.old)) (R.remaining (inner_of reader.new))
+        (W.contents (inner_of writer.old)) (W.contents (inner_of writer.new)) }
+{
+    perform(alloc, plan_of(command), reader, writer)
+}

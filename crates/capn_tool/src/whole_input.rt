@@ -1,0 +1,205 @@
+//! What is made of an input that is taken whole.
+
+ghost use Rattle.std.specs.Prelude.{◌≡◌, ℕ, ◌*◌, ◌<◌, List, length, false, Err};
+ghost use Rattle.capn_words.specs.Message.{most_words, ReadsBare};
+ghost use Rattle.capn_words.specs.Watched.{inner_of, has_failed};
+ghost use Rattle.capn_tool.specs.inner.ReadInput.{IsShortBare, TakesAll};
+ghost use Rattle.capn_tool.specs.WholeInput.{Gives};
+ghost use Rattle.capn_canon.specs.declared.form.Form.TheVariants as forms;
+ghost use Rattle.capn_tool.specs.declared.plan.Whole.TheVariants as wholes;
+
+use crate::fault::ToolFault;
+use crate::input::{MOST_BYTES, read_all};
+use crate::pending::read_words;
+use crate::message_text::put_bare_piece;
+use crate::plan::{Piece, Whole};
+use capn_canon::{Form, Refusal, canonicalise};
+use capn_pack::{PackFault, pack};
+use capn_stream::MOST_TABLE_WORDS;
+use capn_walk::Limits;
+use capn_words::{Bare, BareFault, MOST_WORDS, Watched};
+use std::alloc::Allocator;
+use std::io::Read;
+
+/// The packed text of words.
+fn packed<A: Allocator + Copy>(alloc: A, bytes: &[u8]) -> Result<Vec<u8, A>, ToolFault>
+    ensures { Gives wholes.Packed bytes.now result }
+{
+    match pack(alloc, bytes) {
+        Ok(text) => Ok(text),
+        Err(PackFault::Memory) => Err(ToolFault::Memory),
+        Err(PackFault::NotWhole(length)) => Err(ToolFault::NotWhole(length)),
+    }
+}
+
+/// The canonical bytes of one message.
+fn canonical<A: Allocator + Copy>(
+    alloc: A,
+    form: Form,
+    bytes: &[u8],
+    limits: Limits,
+) -> Result<Vec<u8, A>, ToolFault>
+    ensures { Gives (wholes.Canonical form limits) bytes.now result }
+{
+    match canonicalise(alloc, form, bytes, limits) {
+        Ok(canonical) => Ok(canonical.bytes),
+        Err(Refusal::Memory) => Err(ToolFault::Memory),
+        Err(refusal) => Err(ToolFault::Refused(refusal)),
+    }
+}
+
+/// The piece of one bare message.
+fn bare_piece<A: Allocator + Copy>(
+    alloc: A,
+    piece: Piece,
+    bytes: &[u8],
+    limits: Limits,
+) -> Result<Vec<u8, A>, ToolFault>
+    ensures { Gives (wholes.Bare piece limits) bytes.now result }
+{
+    match Bare::new(bytes) {
+        Ok(space) => {
+            let mut text = Vec::new(alloc);
+            put_bare_piece(alloc, piece, &space, limits, &mut text)?;
+            Ok(text)
+        }
+        Err(fault) => Err(ToolFault::Refused(Refusal::Bare(fault))),
+    }
+}
+
+/// The canonical bytes of the one message that an input is the frame of. Of the input no more is held than the longest
+/// frame within the limits, and one byte.
+fn make_framed<R: Read, A: Allocator + Copy>(
+    alloc: A,
+    reader: &mut Watched<R>,
+    limits: Limits,
+) -> Result<Vec<u8, A>, ToolFault>
+    requires { has_failed reader.old ≡ false }
+    ensures { TakesAll (Gives (wholes.Canonical forms.Stream limits)) (R.remaining (inner_of reader.old))
+        (R.remaining (inner_of reader.new)) (has_failed reader.new) result }
+{
+    let words = limits.message_words() as usize + MOST_TABLE_WORDS as usize;
+    let input = read_all(alloc, reader, 8 * words + 1)?;
+    canonical(alloc, Form::Stream, &input.bytes, limits)
+}
+
+/// The canonical bytes of the one message that an input packs the frame of. It is unpacked while it is read.
+fn make_packed<R: Read, A: Allocator + Copy>(
+    alloc: A,
+    reader: &mut Watched<R>,
+    limits: Limits,
+) -> Result<Vec<u8, A>, ToolFault>
+    requires { has_failed reader.old ≡ false }
+    ensures { TakesAll (Gives (wholes.Canonical forms.Packed limits)) (R.remaining (inner_of reader.old))
+        (R.remaining (inner_of reader.new)) (has_failed reader.new) result }
+{
+    let words = read_words(alloc, reader, limits.message_words() + MOST_TABLE_WORDS)?;
+    canonical(alloc, Form::Stream, &words, limits)
+}
+
+/// Why `len` bytes are not one segment.
+fn bare_fault(len: u64) -> BareFault
+    requires { 8 * most_words < len }
+    ensures { (bytes : List ℕ) → length bytes ≡ len → ReadsBare bytes (Err result) }
+{
+    if len % 8 == 0 {
+        BareFault::TooLong(len / 8)
+    } else {
+        BareFault::NotWhole(len)
+    }
+}
+
+/// Reads a bare input to its end. Of words past those that a segment may have none is held.
+fn read_bare<R: Read, A: Allocator>(
+    alloc: A,
+    reader: &mut Watched<R>,
+) -> Result<Vec<u8, A>, ToolFault>
+    requires { has_failed reader.old ≡ false }
+    ensures { TakesAll IsShortBare (R.remaining (inner_of reader.old)) (R.remaining (inner_of reader.new))
+        (has_failed reader.new) result }
+{
+    let input = read_all(alloc, reader, 8 * MOST_WORDS as usize)?;
+    if input.len <= 8 * MOST_WORDS as usize {
+        return Ok(input.bytes);
+    }
+    let fault = bare_fault(input.len as u64);
+    Err(ToolFault::Refused(Refusal::Bare(fault)))
+}
+
+/// The packed text of an input's words, which are held whole.
+fn make_text<R: Read, A: Allocator + Copy>(
+    alloc: A,
+    reader: &mut Watched<R>,
+) -> Result<Vec<u8, A>, ToolFault>
+    requires { has_failed reader.old ≡ false }
+    ensures { TakesAll (Gives wholes.Packed) (R.remaining (inner_of reader.old)) (R.remaining (inner_of reader.new))
+        (has_failed reader.new) result }
+{
+    let input = read_all(alloc, reader, MOST_BYTES)?;
+    packed(alloc, &input.bytes)
+}
+
+/// The canonical bytes of the one bare message that an input is.
+fn make_trimmed<R: Read, A: Allocator + Copy>(
+    alloc: A,
+    reader: &mut Watched<R>,
+    limits: Limits,
+) -> Result<Vec<u8, A>, ToolFault>
+    requires { has_failed reader.old ≡ false }
+    ensures { TakesAll (Gives (wholes.Canonical forms.Bare limits)) (R.remaining (inner_of reader.old))
+        (R.remaining (inner_of reader.new)) (has_failed reader.new) result }
+{
+    let bytes = read_bare(alloc, reader)?;
+    canonical(alloc, Form::Bare, &bytes, limits)
+}
+
+/// A piece of the one bare message that an input is.
+fn make_piece<R: Read, A: Allocator + Copy>(
+    alloc: A,
+    reader: &mut Watched<R>,
+    piece: Piece,
+    limits: Limits,
+) -> Result<Vec<u8, A>, ToolFault>
+    requires { has_failed reader.old ≡ false }
+    ensures { TakesAll (Gives (wholes.Bare piece limits)) (R.remaining (inner_of reader.old))
+        (R.remaining (inner_of reader.new)) (has_failed reader.new) result }
+{
+    let bytes = read_bare(alloc, reader)?;
+    bare_piece(alloc, piece, &bytes, limits)
+}
+
+/// The canonical bytes of the one message that an input is in a form.
+fn make_canonical<R: Read, A: Allocator + Copy>(
+    alloc: A,
+    reader: &mut Watched<R>,
+    form: Form,
+    limits: Limits,
+) -> Result<Vec<u8, A>, ToolFault>
+    requires { has_failed reader.old ≡ false }
+    ensures { TakesAll (Gives (wholes.Canonical form limits)) (R.remaining (inner_of reader.old))
+        (R.remaining (inner_of reader.new)) (has_failed reader.new) result }
+{
+    match form {
+        Form::Stream => make_framed(alloc, reader, limits),
+        Form::Packed => make_packed(alloc, reader, limits),
+        Form::Bare => make_trimmed(alloc, reader, limits),
+    }
+}
+
+/// Reads an input to its end, and answers what is made of it.
+pub fn make<R: Read, A: Allocator + Copy>(
+    alloc: A,
+    whole: Whole,
+    reader: &mut Watched<R>,
+) -> Result<Vec<u8, A>, ToolFault>
+    requires { has_failed reader.old ≡ false }
+    ensures { TakesAll (Gives whole) (R.remaining (inner_of reader.old)) (R.remaining (inner_of reader.new))
+        (has_failed reader.new) result }
+{
+    match whole {
+        Whole::Packed => make_text(alloc, reader),
+        Whole::Unpacked(most) => read_words(alloc, reader, most),
+        Whole::Canonical(form, limits) => make_canonical(alloc, reader, form, limits),
+        Whole::Bare(piece, limits) => make_piece(alloc, reader, piece, limits),
+    }
+}

@@ -1,0 +1,34 @@
+use Rattle.std.proofs.Common.{refl}
+use Rattle.capn_value.proofs.Cases.{short, voids_long, bits_long, bytes_long, pairs_long, quads_long, octs_long}
+use Rattle.capn_value.proofs.Cases.{links_long}
+use Rattle.capn_value.proofs.part_flaws.is_long.Goals as goal
+
+pub returns-in-Nil : goal.returns-in-Nil
+returns-in-Nil g c = short _ c.in-Nil.is
+
+pub returns-in-Nil-2 : goal.returns-in-Nil-2
+returns-in-Nil-2 g c = short _ c.in-Nil.is
+
+pub returns-in-Nil-3 : goal.returns-in-Nil-3
+returns-in-Nil-3 g c = short _ c.in-Nil.is
+
+pub returns-in-Voids : goal.returns-in-Voids
+returns-in-Voids g c = voids_long _ c.in-Voids.is refl
+
+pub returns-in-Bits : goal.returns-in-Bits
+returns-in-Bits g c = bits_long _ c.in-Bits.is c.len.ensures
+
+pub returns-in-Bytes : goal.returns-in-Bytes
+returns-in-Bytes g c = bytes_long _ c.in-Bytes.is c.len-in-Bytes.ensures
+
+pub returns-in-Pairs : goal.returns-in-Pairs
+returns-in-Pairs g c = pairs_long _ c.in-Pairs.is c.len-in-Pairs.ensures
+
+pub returns-in-Quads : goal.returns-in-Quads
+returns-in-Quads g c = quads_long _ c.in-Quads.is c.len-in-Quads.ensures
+
+pub returns-in-Octs : goal.returns-in-Octs
+returns-in-Octs g c = octs_long _ c.in-Octs.is c.len-in-Octs.ensures
+
+pub returns-in-Links : goal.returns-in-Links
+returns-in-Links g c = links_long _ _ c.in-Links.is c.len-in-Links.ensures

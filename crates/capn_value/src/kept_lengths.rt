@@ -1,0 +1,57 @@
+//! How much of a data section and of a pointer section is kept.
+
+ghost use Rattle.std.specs.Prelude.{◌≡◌};
+ghost use Rattle.capn_value.specs.TreeOf.{trees_of, rows_of};
+ghost use Rattle.capn_value.specs.Trim as cut;
+
+use crate::sameness::is_null;
+use crate::value::{Body, Value};
+use std::alloc::Allocator;
+
+/// How many words of a data section are kept: the least number after which every word is 0.
+#[tactic(auto, using(std::proofs::lemmas::Grind::common_steps, crate::proofs::Kept::kept))]
+pub fn kept_words(words: &[u64]) -> usize
+    ensures { result ≡ cut.kept_words words.now }
+{
+    let mut n = words.len();
+    while n > 0 && words[n - 1] == 0 {
+        n -= 1;
+    }
+    n
+}
+
+/// How many slots of a pointer section are kept: the least number after which every slot is null.
+#[tactic(auto, using(std::proofs::lemmas::Grind::common_steps, crate::specs::Views::views, crate::proofs::Kept::kept))]
+pub fn kept_slots<A: Allocator>(slots: &[Value<A>]) -> usize
+    ensures { result ≡ cut.kept_slots (trees_of slots.now) }
+{
+    let mut n = slots.len();
+    while n > 0 && is_null(&slots[n - 1]) {
+        n -= 1;
+    }
+    n
+}
+
+/// How many words each row of a list keeps: the most that one of them keeps by itself.
+#[tactic(auto, using(std::proofs::lemmas::Grind::common_steps, crate::specs::Views::views))]
+pub fn kept_words_of_rows<A: Allocator>(rows: &[Body<A>]) -> usize
+    ensures { result ≡ cut.kept_words_of_rows (rows_of rows.now) }
+{
+    let mut most = 0;
+    for row in rows {
+        most = kept_words(row.words.as_slice()).max(most);
+    }
+    most
+}
+
+/// How many slots each row of a list keeps: the most that one of them keeps by itself.
+#[tactic(auto, using(std::proofs::lemmas::Grind::common_steps, crate::specs::Views::views))]
+pub fn kept_slots_of_rows<A: Allocator>(rows: &[Body<A>]) -> usize
+    ensures { result ≡ cut.kept_slots_of_rows (rows_of rows.now) }
+{
+    let mut most = 0;
+    for row in rows {
+        most = kept_slots(row.slots.as_slice()).max(most);
+    }
+    most
+}

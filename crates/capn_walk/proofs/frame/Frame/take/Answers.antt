@@ -1,5 +1,0 @@
-use Rattle.capn_walk.proofs.Framing.{taken}
-use Rattle.capn_walk.proofs.frame.Frame.take.Goals as goal
-
-pub returns-clause-places : goal.returns-clause-places
-returns-clause-places c = taken c.args.self c.requires.some

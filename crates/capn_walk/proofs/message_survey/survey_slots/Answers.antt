@@ -1,0 +1,327 @@
+use Rattle.std.proofs.Common.{rules, ◌≡◌, [], None, refl, arith}
+use Rattle.capn_words.specs.declared.pointer.Pointer.TheVariants.{Many}
+use Rattle.capn_walk.specs.inner.SlotsLeft.{owed, Lies}
+use Rattle.capn_walk.proofs.OwedSlots.{done, none-owed, not-done}
+use Rattle.capn_walk.proofs.Near.{near-struct, near-list}
+use Rattle.capn_walk.proofs.Stepped.{capless-near}
+use Rattle.capn_walk.proofs.UnderWay.{popped, entered, passed, refused-here, as-many, fewer-entered, fewer-passed}
+use Rattle.capn_walk.proofs.UnderWay.{passed-null, fewer-null, null-target, next-row, fewer-rows, IsKept, kept, dropped}
+use Rattle.capn_walk.proofs.UnderWay.{no_frame, option_or-none}
+use Rattle.capn_walk.proofs.message_survey.survey_slots.Goals.{then-not-is_done+in-Ok-push, else-not-is_done}
+use Rattle.capn_walk.proofs.message_survey.survey_slots.Goals.{then-not-is_done-2+in-Ok-push-2, else-not-is_done-2}
+use Rattle.capn_walk.proofs.message_survey.survey_slots.Goals as goal
+
+pub slots-smaller-then-frame-gt0 : goal.slots-smaller-then-frame-gt0
+slots-smaller-then-frame-gt0 g c =
+    let m = g.S.Space.message c.args.space.now in
+    let w = c.slots in
+    let t = c.turned-frame in
+    fewer-rows m c.args.base c.args.budget [] (owed c.args.first) c.args.limit w.depth w.stack.items w.frame t.result
+    t.ensures.places c.if-frame-eq0.true t.ensures.some
+
+pub slots-preserved-then-frame-gt0 : goal.slots-preserved-then-frame-gt0
+slots-preserved-then-frame-gt0 g c =
+    let m = g.S.Space.message c.args.space.now in
+    let w = c.slots in
+    let t = c.turned-frame in
+    let lies : Lies (g.S.Space.message c.args.space.now) c.turned-frame.result = search rules in
+    record {
+      surveys = next-row m c.args.base c.args.budget _ (owed c.args.first) c.args.limit w.depth w.stack.items w.frame
+          t.result w.paid w.visits w.capability
+          t.ensures.places t.ensures.owed lies w.invariant.surveys;
+      room = w.invariant.room;
+      size = rw t.ensures.segment w.invariant.size;
+    }
+
+pub slots-preserved-then-frame-eq0 : goal.slots-preserved-then-frame-eq0
+slots-preserved-then-frame-eq0 g c =
+    let m = g.S.Space.message c.args.space.now in
+    let w = c.slots in
+    let r : c.slots.frame.rows ≡ 0 = omega arith in
+    let z = none-owed c.slots.frame c.if-frame-eq0.true r in
+    record {
+      surveys = popped m c.args.base c.args.budget _ (owed c.args.first) c.args.limit w.depth w.stack.items
+          c.pop.new.self.items w.frame c.in-Some.waiting w.paid w.visits w.capability c.in-Some.ensures.items z
+          w.invariant.surveys;
+      room = omega arith;
+      size = search rules;
+    }
+
+pub slots-smaller-then-frame-eq0 : goal.slots-smaller-then-frame-eq0
+slots-smaller-then-frame-eq0 g c =
+    let m = g.S.Space.message c.args.space.now in
+    let w = c.slots in
+    let r : c.slots.frame.rows ≡ 0 = omega arith in
+    let z = none-owed c.slots.frame c.if-frame-eq0.true r in
+    as-many m c.args.base c.args.budget _ (owed c.args.first) c.args.limit w.depth w.stack.items c.pop.new.self.items
+    w.frame c.in-Some.waiting w.paid w.visits w.capability c.in-Some.ensures.items z c.if-frame-eq0.true
+    w.invariant.surveys
+
+pub slots-preserved-then-word-eq0 : goal.slots-preserved-then-word-eq0
+slots-preserved-then-word-eq0 g c =
+    let m = g.S.Space.message c.args.space.now in
+    let w = c.slots in
+    let t = c.take in
+    let lies : Lies (g.S.Space.message c.args.space.now) c.take.result.1 = search rules in
+    record {
+      surveys = passed-null m c.args.base c.args.budget _ (owed c.args.first) c.args.limit w.depth w.stack.items w.frame
+          t.result.1 t.result.0 w.paid w.visits w.capability
+          w.invariant.surveys t.ensures.places (null-target m t.result.0 (cc)) t.ensures.owed lies;
+      room = w.invariant.room;
+      size = rw t.ensures.segment w.invariant.size;
+    }
+
+pub slots-smaller-then-word-eq0 : goal.slots-smaller-then-word-eq0
+slots-smaller-then-word-eq0 g c =
+    let m = g.S.Space.message c.args.space.now in
+    let w = c.slots in
+    let t = c.take in
+    fewer-null m c.args.base c.args.budget _ (owed c.args.first) c.args.limit w.depth w.stack.items w.frame t.result.1
+    t.result.0 w.paid w.visits w.capability
+    w.invariant.surveys t.ensures.places (null-target m t.result.0 cc)
+
+pub visit_struct-requires-clause-pointer : goal.visit_struct-requires-clause-pointer
+visit_struct-requires-clause-pointer g c =
+    let m = g.S.Space.message c.args.space.now in
+    let at = c.take.result.0 in
+    near-struct m at c.word-word.result c.split-pointer.result c.in-Node.offset c.in-Node.words c.in-Node.slots
+    c.word-word.ensures c.split-pointer.ensures.read c.in-Node.is
+
+pub visit_numbers-requires-clause-pointer : goal.visit_numbers-requires-clause-pointer
+visit_numbers-requires-clause-pointer g c =
+    let m = g.S.Space.message c.args.space.now in
+    let at = c.take.result.0 in
+    near-list m at c.word-word.result c.split-pointer.result c.in-Many.offset c.in-Many.width c.in-Many.count
+    c.word-word.ensures c.split-pointer.ensures.read c.in-Many.is
+
+pub returns-in-Err-clause-tells : goal.returns-in-Err-clause-tells
+returns-in-Err-clause-tells g c =
+    let m = g.S.Space.message c.args.space.now in
+    let w = c.slots in
+    let t = c.take in
+    rw c.stopped.ensures
+    (refused-here m c.args.base c.args.budget _ (owed c.args.first) c.args.limit w.depth w.stack.items w.frame
+    t.result.1 t.result.0 w.paid w.visits w.capability
+    w.invariant.surveys t.ensures.places t.ensures.owed c.in-Err.fault c.in-Err.ensures.refused)
+
+pub slots-preserved-then-is_done : goal.slots-preserved-then-is_done
+slots-preserved-then-is_done g c =
+    let m = g.S.Space.message c.args.space.now in
+    let w = c.slots in
+    let t = c.take in
+    let x = c.in-Ok in
+    let at = c.take.result.0 in
+    let none = capless-near m at _
+    (near-struct m at c.word-word.result c.split-pointer.result c.in-Node.offset c.in-Node.words c.in-Node.slots
+    c.word-word.ensures c.split-pointer.ensures.read c.in-Node.is) in
+    let lies : Lies (g.S.Space.message c.args.space.now) c.take.result.1 = search rules in
+    let z : owed c.in-Ok.found.below ≡ 0 = done c.is_done.result _ c.is_done.ensures c.if-is_done.true in
+    record {
+      surveys = rw option_or-none at
+          (passed m c.args.base c.args.budget _ (owed c.args.first) c.args.limit w.depth w.stack.items w.frame
+          t.result.1 t.result.0 w.paid w.visits w.capability
+          w.invariant.surveys t.ensures.places t.ensures.owed x.found.below x.found.price None x.ensures.visits
+          x.ensures.price x.ensures.owed none
+          lies x.ensures.below.rows z);
+      room = w.invariant.room;
+      size = rw t.ensures.segment w.invariant.size;
+    }
+
+pub slots-smaller-then-is_done : goal.slots-smaller-then-is_done
+slots-smaller-then-is_done g c =
+    let m = g.S.Space.message c.args.space.now in
+    let w = c.slots in
+    let t = c.take in
+    let x = c.in-Ok in
+    let z : owed c.in-Ok.found.below ≡ 0 = done c.is_done.result _ c.is_done.ensures c.if-is_done.true in
+    fewer-passed m c.args.base c.args.budget _ (owed c.args.first) c.args.limit w.depth w.stack.items w.frame t.result.1
+    x.found.below t.result.0 x.found.price w.paid w.visits w.capability
+    w.invariant.surveys t.ensures.places x.ensures.visits x.ensures.below.rows z
+
+pub slots-preserved-in-Node-1 : goal.slots-preserved-in-Node-1
+slots-preserved-in-Node-1 g c =
+    let m = g.S.Space.message c.args.space.now in
+    let w = c.slots in
+    let t = c.take in
+    let x = c.in-Ok in
+    let at = c.take.result.0 in
+    let none = capless-near m at _
+    (near-struct m at c.word-word.result c.split-pointer.result c.in-Node.offset c.in-Node.words c.in-Node.slots
+    c.word-word.ensures c.split-pointer.ensures.read c.in-Node.is) in
+    let lies : Lies (g.S.Space.message c.args.space.now) c.take.result.1 = search rules in
+    let some = not-done _ (owed c.in-Ok.found.below) c.is_done.ensures c.if-is_done.false in
+    let deep = x.ensures.deep some in
+    let k : IsKept (g.S.Space.message c.args.space.now) c.args.base c.slots.depth c.slots.stack.items c.take.result.1
+    c.if-not-is_done.stack.items =
+    elim c.if-not-is_done.branch [
+      | then-not-is_done+in-Ok-push w ↦ kept (rw w.stack-is w.in-Ok-push.ensures.ok)
+      | else-not-is_done w ↦ dropped
+          (done c.is_done-in-Node.result (owed c.take.result.1) c.is_done-in-Node.ensures w.if-not-is_done.false)
+          (rw w.stack-is refl)
+    ]
+    in
+    record {
+      surveys = rw option_or-none at
+          (entered m c.args.base c.args.budget _ (owed c.args.first) c.args.limit w.depth w.stack.items w.frame
+          t.result.1 t.result.0 w.paid w.visits w.capability
+          w.invariant.surveys t.ensures.places t.ensures.owed x.found.below x.found.price None x.ensures.visits
+          x.ensures.price x.ensures.owed none
+          c.if-not-is_done.stack.items k lies x.ensures.below deep);
+      room = elim c.if-not-is_done.branch
+          [ then-not-is_done+in-Ok-push w ↦ search rules | else-not-is_done w ↦ search rules ];
+      size = search rules;
+    }
+
+pub slots-smaller-in-Node-1 : goal.slots-smaller-in-Node-1
+slots-smaller-in-Node-1 g c =
+    let m = g.S.Space.message c.args.space.now in
+    let w = c.slots in
+    let t = c.take in
+    let x = c.in-Ok in
+    let k : IsKept (g.S.Space.message c.args.space.now) c.args.base c.slots.depth c.slots.stack.items c.take.result.1
+    c.if-not-is_done.stack.items =
+    elim c.if-not-is_done.branch [
+      | then-not-is_done+in-Ok-push w ↦ kept (rw w.stack-is w.in-Ok-push.ensures.ok)
+      | else-not-is_done w ↦ dropped
+          (done c.is_done-in-Node.result (owed c.take.result.1) c.is_done-in-Node.ensures w.if-not-is_done.false)
+          (rw w.stack-is refl)
+    ]
+    in
+    fewer-entered m c.args.base c.args.budget _ (owed c.args.first) c.args.limit w.depth w.stack.items w.frame
+    t.result.1 x.found.below t.result.0 x.found.price w.paid w.visits w.capability
+    w.invariant.surveys t.ensures.places x.ensures.visits c.if-not-is_done.stack.items t.ensures.kept k
+
+pub slots-preserved-then-is_done-2 : goal.slots-preserved-then-is_done-2
+slots-preserved-then-is_done-2 g c =
+    let m = g.S.Space.message c.args.space.now in
+    let w = c.slots in
+    let t = c.take in
+    let x = c.in-Ok-visit_elsewhere in
+    let lies : Lies (g.S.Space.message c.args.space.now) c.take.result.1 = search rules in
+    let z : owed c.in-Ok-visit_elsewhere.found.below ≡ 0 =
+    done c.is_done-in_default-pointer.result _ c.is_done-in_default-pointer.ensures c.if-is_done-2.true in
+    record {
+      surveys = rw c.or-capability.ensures
+          (passed m c.args.base c.args.budget _ (owed c.args.first) c.args.limit w.depth w.stack.items w.frame
+          t.result.1 t.result.0 w.paid w.visits w.capability
+          w.invariant.surveys t.ensures.places t.ensures.owed x.found.below x.found.price x.found.capability
+          x.ensures.visits x.ensures.price x.ensures.owed x.ensures.capability
+          lies x.ensures.below.rows z);
+      room = w.invariant.room;
+      size = rw t.ensures.segment w.invariant.size;
+    }
+
+pub slots-smaller-then-is_done-2 : goal.slots-smaller-then-is_done-2
+slots-smaller-then-is_done-2 g c =
+    let m = g.S.Space.message c.args.space.now in
+    let w = c.slots in
+    let t = c.take in
+    let x = c.in-Ok-visit_elsewhere in
+    let z : owed c.in-Ok-visit_elsewhere.found.below ≡ 0 =
+    done c.is_done-in_default-pointer.result _ c.is_done-in_default-pointer.ensures c.if-is_done-2.true in
+    fewer-passed m c.args.base c.args.budget _ (owed c.args.first) c.args.limit w.depth w.stack.items w.frame t.result.1
+    x.found.below t.result.0 x.found.price w.paid w.visits w.capability
+    w.invariant.surveys t.ensures.places x.ensures.visits x.ensures.below.rows z
+
+pub slots-preserved : goal.slots-preserved
+slots-preserved g c =
+    let m = g.S.Space.message c.args.space.now in
+    let w = c.slots in
+    let t = c.take in
+    let x = c.in-Ok-visit_elsewhere in
+    let lies : Lies (g.S.Space.message c.args.space.now) c.take.result.1 = search rules in
+    let some = not-done _ (owed c.in-Ok-visit_elsewhere.found.below) c.is_done-in_default-pointer.ensures
+    c.if-is_done-2.false in
+    let deep = x.ensures.deep some in
+    let k : IsKept (g.S.Space.message c.args.space.now) c.args.base c.slots.depth c.slots.stack.items c.take.result.1
+    c.if-not-is_done-2.stack.items =
+    elim c.if-not-is_done-2.branch [
+      | then-not-is_done-2+in-Ok-push-2 w ↦ kept (rw w.stack-is w.in-Ok-push-2.ensures.ok)
+      | else-not-is_done-2 w ↦ dropped
+          (done c.is_done-in_default-pointer-2.result (owed c.take.result.1) c.is_done-in_default-pointer-2.ensures
+          w.if-not-is_done-2.false) (rw w.stack-is refl)
+    ]
+    in
+    record {
+      surveys = rw c.or-capability.ensures
+          (entered m c.args.base c.args.budget _ (owed c.args.first) c.args.limit w.depth w.stack.items w.frame
+          t.result.1 t.result.0 w.paid w.visits w.capability
+          w.invariant.surveys t.ensures.places t.ensures.owed x.found.below x.found.price x.found.capability
+          x.ensures.visits x.ensures.price x.ensures.owed x.ensures.capability
+          c.if-not-is_done-2.stack.items k lies x.ensures.below deep);
+      room = elim c.if-not-is_done-2.branch
+          [ then-not-is_done-2+in-Ok-push-2 w ↦ search rules | else-not-is_done-2 w ↦ search rules ];
+      size = search rules;
+    }
+
+pub slots-smaller : goal.slots-smaller
+slots-smaller g c =
+    let m = g.S.Space.message c.args.space.now in
+    let w = c.slots in
+    let t = c.take in
+    let x = c.in-Ok-visit_elsewhere in
+    let k : IsKept (g.S.Space.message c.args.space.now) c.args.base c.slots.depth c.slots.stack.items c.take.result.1
+    c.if-not-is_done-2.stack.items =
+    elim c.if-not-is_done-2.branch [
+      | then-not-is_done-2+in-Ok-push-2 w ↦ kept (rw w.stack-is w.in-Ok-push-2.ensures.ok)
+      | else-not-is_done-2 w ↦ dropped
+          (done c.is_done-in_default-pointer-2.result (owed c.take.result.1) c.is_done-in_default-pointer-2.ensures
+          w.if-not-is_done-2.false) (rw w.stack-is refl)
+    ]
+    in
+    fewer-entered m c.args.base c.args.budget _ (owed c.args.first) c.args.limit w.depth w.stack.items w.frame
+    t.result.1 x.found.below t.result.0 x.found.price w.paid w.visits w.capability
+    w.invariant.surveys t.ensures.places x.ensures.visits c.if-not-is_done-2.stack.items t.ensures.kept k
+
+pub returns-in-Err-visit_numbers-clause-tells : goal.returns-in-Err-visit_numbers-clause-tells
+returns-in-Err-visit_numbers-clause-tells g c =
+    let m = g.S.Space.message c.args.space.now in
+    let w = c.slots in
+    let t = c.take in
+    rw c.stopped-in-Err-visit_numbers.ensures
+    (refused-here m c.args.base c.args.budget _ (owed c.args.first) c.args.limit w.depth w.stack.items w.frame
+    t.result.1 t.result.0 w.paid w.visits w.capability
+    w.invariant.surveys t.ensures.places t.ensures.owed c.in-Err-visit_numbers.fault
+    c.in-Err-visit_numbers.ensures.refused)
+
+pub returns-in-Err-visit_elsewhere-clause-tells : goal.returns-in-Err-visit_elsewhere-clause-tells
+returns-in-Err-visit_elsewhere-clause-tells g c =
+    let m = g.S.Space.message c.args.space.now in
+    let w = c.slots in
+    let t = c.take in
+    rw c.stopped-in-Err-visit_elsewhere.ensures
+    (refused-here m c.args.base c.args.budget _ (owed c.args.first) c.args.limit w.depth w.stack.items w.frame
+    t.result.1 t.result.0 w.paid w.visits w.capability
+    w.invariant.surveys t.ensures.places t.ensures.owed c.in-Err-visit_elsewhere.fault
+    c.in-Err-visit_elsewhere.ensures.refused)
+
+pub slots-preserved-then-is_plain : goal.slots-preserved-then-is_plain
+slots-preserved-then-is_plain g c =
+    let m = g.S.Space.message c.args.space.now in
+    let w = c.slots in
+    let t = c.take in
+    let x = c.in-Ok-visit_numbers in
+    let none = capless-near m t.result.0 (Many c.in-Many.offset c.in-Many.width c.in-Many.count)
+    (near-list m t.result.0 c.word-word.result c.split-pointer.result c.in-Many.offset c.in-Many.width
+    c.in-Many.count c.word-word.ensures c.split-pointer.ensures.read c.in-Many.is) in
+    let lies : Lies (g.S.Space.message c.args.space.now) c.take.result.1 = search rules in
+    record {
+      surveys = rw option_or-none at
+          (passed m c.args.base c.args.budget _ (owed c.args.first) c.args.limit w.depth w.stack.items w.frame
+          t.result.1 t.result.0 w.paid w.visits w.capability
+          w.invariant.surveys t.ensures.places t.ensures.owed no_frame x.price None x.ensures.visits x.ensures.price
+          (omega arith) none
+          lies (λ h. absurd (omega arith)) refl);
+      room = w.invariant.room;
+      size = rw t.ensures.segment w.invariant.size;
+    }
+
+pub slots-smaller-then-is_plain : goal.slots-smaller-then-is_plain
+slots-smaller-then-is_plain g c =
+    let m = g.S.Space.message c.args.space.now in
+    let w = c.slots in
+    let t = c.take in
+    let x = c.in-Ok-visit_numbers in
+    fewer-passed m c.args.base c.args.budget _ (owed c.args.first) c.args.limit w.depth w.stack.items w.frame t.result.1
+    no_frame t.result.0 x.price w.paid w.visits w.capability
+    w.invariant.surveys t.ensures.places x.ensures.visits (λ h. absurd (omega arith)) refl

@@ -1,0 +1,21 @@
+use Rattle.std.proofs.Common.{◌≡◌, ◌+◌, ◌-◌, ◌*◌, ◌≤◌, length}
+use Rattle.capn_words.specs.Message.{segment_at}
+use Rattle.capn_walk.specs.Visits.{visits_of}
+use Rattle.capn_walk.specs.inner.SlotsLeft.{places_of, owed}
+use Rattle.capn_walk.proofs.UnderWay.{Surveys, coming}
+use Rattle.capn_walk.proofs.message_survey.survey_slots.Given as goal
+
+abbrev pub decreases-slots : goal.decreases-slots
+decreases-slots g l =
+    3 * length (coming (g.S.Space.message l.space) l.base l.depth l.stack.items l.frame) + length l.stack.items
+    + (1 - l.frame.left)
+
+abbrev pub invariant-slots : goal.invariant-slots
+invariant-slots g l =
+    let m = g.S.Space.message l.space in
+    record {
+      surveys : Surveys m l.base l.budget (visits_of m l.base l.limit (places_of l.fn.first)) (owed l.fn.first) l.limit
+          l.depth l.stack.items l.frame l.paid l.visits l.capability;
+      room : 64 ≤ l.stack.capacity;
+      size : l.size ≡ length (segment_at m l.frame.segment);
+    }

@@ -1,0 +1,50 @@
+use Rattle.std.proofs.Common.{◌≡◌, ◌+◌, ◌*◌, length, vec_capacity}
+use Rattle.capn_value.specs.Tree.{count, count_rows}
+use Rattle.capn_value.specs.TreeOf.{trees_of, rows_of}
+use Rattle.capn_walk.specs.Visits.{places, row_places, visits_of}
+use Rattle.capn_walk.specs.ValueAt.{AreAt, RowsAt}
+use Rattle.capn_walk.specs.inner.Verdict.{Gives}
+use Rattle.capn_walk.proofs.walk_visits.+walk.Given as goal
+
+abbrev pub decreases-walk_target : goal.decreases-walk_target
+decreases-walk_target g l = 7 * l.depth
+
+abbrev pub decreases-walk_near : goal.decreases-walk_near
+decreases-walk_near g l = 7 * l.depth + 1
+
+abbrev pub decreases-walk_elsewhere : goal.decreases-walk_elsewhere
+decreases-walk_elsewhere g l = 7 * l.depth + 2
+
+abbrev pub decreases-walk_slot : goal.decreases-walk_slot
+decreases-walk_slot g l = 7 * l.depth + 3
+
+abbrev pub decreases-walk_slots : goal.decreases-walk_slots
+decreases-walk_slots g l = 7 * l.depth + 4
+
+abbrev pub decreases-walk_rows : goal.decreases-walk_rows
+decreases-walk_rows g l = 7 * l.depth + 5
+
+abbrev pub decreases-object : goal.decreases-object
+decreases-object g l = 7 * l.depth + 6
+
+abbrev pub invariant-walk_slots-loop-i : goal.invariant-walk_slots-loop-i
+invariant-walk_slots-loop-i g l = record {
+  pays : Gives l.left (visits_of (g.S.Space.message l.space) l.base l.depth (places l.segment l.start l.i)) l.i l.paid
+      l.visits;
+  value : AreAt (g.S.Space.message l.space) l.segment l.start (trees_of l.slots.items);
+  number : count (trees_of l.slots.items) ≡ l.i;
+  filled : length l.slots.items ≡ l.i;
+  room : vec_capacity l.slots ≡ l.count;
+}
+
+abbrev pub invariant-walk_rows-loop-i : goal.invariant-walk_rows-loop-i
+invariant-walk_rows-loop-i g l = record {
+  pays : Gives l.left
+      (visits_of (g.S.Space.message l.space) l.base l.depth (row_places l.segment l.fn.start.word l.words l.slots l.i))
+      (l.i * l.slots) l.paid l.visits;
+  value : RowsAt (g.S.Space.message l.space) l.words l.slots l.segment l.fn.start.word (rows_of l.rows.items);
+  number : count_rows (rows_of l.rows.items) ≡ l.i;
+  filled : length l.rows.items ≡ l.i;
+  room : vec_capacity l.rows ≡ l.count;
+  next : l.next ≡ l.fn.start.word + l.i * (l.words + l.slots);
+}

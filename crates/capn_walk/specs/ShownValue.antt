@@ -1,0 +1,74 @@
+-- What a view of a slot says of the value that stands there.
+use Rattle.std.specs.Prelude.{◌≡◌, ℕ, zero, suc, ◌<◌, List, [], map, length, slice_index, Ok}
+use Rattle.std.specs.Int.{from_bool}
+use Rattle.capn_words.specs.declared.space.Place.{Place}
+use Rattle.capn_value.specs.Tree.{Tree, nil, node, voids, bits, bytes, pairs, quads, octs, links, rows, cap, Trees}
+use Rattle.capn_value.specs.Tree.{no_trees, Bodies, no_bodies, body, count, count_rows, tree_at}
+use Rattle.capn_walk.specs.declared.target.Target.{Target}
+use Rattle.capn_walk.specs.declared.target.Target.TheVariants as targets
+use Rattle.capn_walk.specs.declared.kind.Kind.{Kind}
+use Rattle.capn_walk.specs.declared.kind.Kind.TheVariants as kinds
+use Rattle.capn_walk.specs.Target.{target}
+use Rattle.capn_walk.specs.ValueAt.{IsAt}
+use Rattle.capn_walk.specs.View.{kind_of, len_of, words_in, slots_in, links_in, numbers_in, rows_in, step_place}
+use Rattle.capn_walk.specs.View.{content_of, number_of, row_of}
+
+-- the words and the slots of a row
+abbrev pub words_of_row : Bodies → ℕ → List ℕ
+words_of_row no_bodies i = []
+words_of_row (body ws ss bs) zero = ws
+words_of_row (body ws ss bs) (suc i) = words_of_row bs i
+
+-- its slots
+abbrev pub slots_of_row : Bodies → ℕ → Trees
+slots_of_row no_bodies i = no_trees
+slots_of_row (body ws ss bs) zero = ss
+slots_of_row (body ws ss bs) (suc i) = slots_of_row bs i
+
+module _ (message : List (List ℕ)) (found : Target) where
+  -- a struct of these words and slots
+  pub record ShowsStruct (ws : List ℕ) (ss : Trees) : Type 0 where
+    pub kind : kind_of found ≡ kinds.Node
+    pub words : words_in found ≡ length ws
+    pub slots : slots_in found ≡ count ss
+    pub word : (i : ℕ) → i < length ws → slice_index (content_of message found) i ≡ slice_index ws i
+    pub slot : (i : ℕ) → i < count ss → IsAt message (step_place found i) (tree_at ss i)
+
+  -- a list of these numbers
+  pub record ShowsNumbers (k : Kind) (xs : List ℕ) : Type 0 where
+    pub kind : kind_of found ≡ k
+    pub len : len_of found ≡ length xs
+    pub numbers : numbers_in found ≡ length xs
+    pub number : (i : ℕ) → i < length xs → number_of message found i ≡ slice_index xs i
+
+  -- a list of these pointers
+  pub record ShowsLinks (ts : Trees) : Type 0 where
+    pub kind : kind_of found ≡ kinds.Links
+    pub len : len_of found ≡ count ts
+    pub links : links_in found ≡ count ts
+    pub slot : (i : ℕ) → i < count ts → IsAt message (step_place found i) (tree_at ts i)
+
+-- a list of these rows
+pub record ShowsRows (message : List (List ℕ)) (found : Target) (bs : Bodies) : Type 0 where
+  pub kind : kind_of found ≡ kinds.Rows
+  pub len : len_of found ≡ count_rows bs
+  pub rows : rows_in found ≡ count_rows bs
+  pub row : (i : ℕ) → i < count_rows bs → ShowsStruct message (row_of found i) (words_of_row bs i) (slots_of_row bs i)
+
+-- what a view says of a target is what this value has
+abbrev pub Shows : List (List ℕ) → Target → Tree → Type 0
+Shows message found nil = found ≡ targets.Nil
+Shows message found (cap k) = found ≡ targets.Cap k
+Shows message found (node ws ss) = ShowsStruct message found ws ss
+Shows message found (voids n) = (kind_of found ≡ kinds.Voids) × (len_of found ≡ n)
+Shows message found (bits xs) = ShowsNumbers message found kinds.Bits (map from_bool xs)
+Shows message found (bytes xs) = ShowsNumbers message found kinds.Bytes xs
+Shows message found (pairs xs) = ShowsNumbers message found kinds.Pairs xs
+Shows message found (quads xs) = ShowsNumbers message found kinds.Quads xs
+Shows message found (octs xs) = ShowsNumbers message found kinds.Octs xs
+Shows message found (links ts) = ShowsLinks message found ts
+Shows message found (rows bs) = ShowsRows message found bs
+
+-- a view of a slot shows the value that stands there
+abbrev pub ViewsShow : List (List ℕ) → Place → Target → Tree → Type 0
+ViewsShow message at found v = target message at ≡ Ok found → IsAt message at v → Shows message found v

@@ -1,0 +1,178 @@
+-- What a view shows of a message: the target that a step found, and how many objects may stand below it.
+use Rattle.std.specs.Prelude.{ℕ, ◌+◌, ◌*◌, ◌/◌, ◌%◌, ◌^◌, ◌==◌, nat_lt, List, [], length, slice_index, Result, Ok, Err}
+use Rattle.std.specs.Prelude.{Option, Some, None, if◌then◌else◌, ⊤}
+use Rattle.capn_words.specs.Message.{segment_at}
+use Rattle.capn_words.specs.declared.space.Place.{Place}
+use Rattle.capn_words.specs.declared.pointer.Width.{Width}
+use Rattle.capn_words.specs.declared.pointer.Width.TheVariants.{W0, W1, W8, W16, W32, W64, Link, Rows}
+use Rattle.capn_walk.specs.declared.target.Target.{Target}
+use Rattle.capn_walk.specs.declared.target.Target.TheVariants as targets
+use Rattle.capn_walk.specs.declared.target.Shape.TheVariants as shapes
+use Rattle.capn_walk.specs.declared.target.Fault.{Fault}
+use Rattle.capn_walk.specs.declared.target.Fault.TheVariants as faults
+use Rattle.capn_walk.specs.declared.kind.Kind.{Kind}
+use Rattle.capn_walk.specs.declared.kind.Kind.TheVariants as kinds
+use Rattle.capn_walk.specs.Target.{target}
+use Rattle.capn_walk.specs.Visits.{price, slots}
+use Rattle.capn_walk.specs.Accepted.{root, may_be_root}
+use Rattle.capn_walk.specs.ValueAt.{element, words_from}
+use Rattle.capn_walk.specs.Shapes.{IsContent, RowsFit, extent}
+
+-- a message, what was found in it, and how many objects may stand below that
+pub record Seen : Type 0 where
+  pub message : List (List ℕ)
+  pub found : Target
+  pub depth : ℕ
+
+-- ---- steps
+
+-- the price of a step to a target
+abbrev pub toll : ℕ → Target → ℕ
+toll base (targets.Content s start shape pads) = price base shape + pads
+toll base _ = 0
+
+-- a step to a slot with that target, at most `depth` objects deep, with `budget` words left to pay
+abbrev pub stepped : ℕ → ℕ → ℕ → Result Target Fault → Result Target Fault
+stepped base depth budget (Ok (targets.Content s start shape pads)) =
+    if depth == 0 then Err faults.TooDeep
+    else if nat_lt budget (price base shape + pads) then Err faults.OverBudget
+    else Ok (targets.Content s start shape pads)
+stepped base depth budget found = found
+
+-- a step is taken, and leads to content
+abbrev pub IsEntered : Result Target Fault → Type 0
+IsEntered (Ok (targets.Content s start shape pads)) = ⊤
+IsEntered _ = ⊥
+
+-- the target of the root, where the root may be that
+abbrev pub rooted : Result Target Fault → Result Target Fault
+rooted (Ok found) = if may_be_root found then Ok found else Err faults.RootKind
+rooted (Err e) = Err e
+
+-- a step to the root
+abbrev pub stepped_to_root : List (List ℕ) → ℕ → ℕ → ℕ → Result Target Fault
+stepped_to_root message base depth budget =
+    if length (segment_at message 0) == 0 then Err faults.NoRoot else stepped base depth budget
+    (rooted (target message root))
+
+-- content of a message lies inside its segment
+abbrev pub IsInMessage : List (List ℕ) → Target → Type 0
+IsInMessage message (targets.Content s start shape pads) =
+    IsContent message (record { segment = s; word = start }) (extent shape) × RowsFit shape
+IsInMessage message _ = ⊤
+
+-- ---- what a view says
+
+-- the kind of a list, by the width of its elements
+abbrev pub kind_of_list : Width → Kind
+kind_of_list W0 = kinds.Voids
+kind_of_list W1 = kinds.Bits
+kind_of_list W8 = kinds.Bytes
+kind_of_list W16 = kinds.Pairs
+kind_of_list W32 = kinds.Quads
+kind_of_list W64 = kinds.Octs
+kind_of_list Link = kinds.Links
+kind_of_list Rows = kinds.Rows
+
+-- the kind of what a pointer names
+abbrev pub kind_of : Target → Kind
+kind_of targets.Nil = kinds.Nil
+kind_of (targets.Cap k) = kinds.Cap
+kind_of (targets.Content s start (shapes.Node a b) pads) = kinds.Node
+kind_of (targets.Content s start (shapes.Many width n) pads) = kind_of_list width
+kind_of (targets.Content s start (shapes.Rows n a b span) pads) = kinds.Rows
+
+-- the elements of a list
+abbrev pub len_of : Target → ℕ
+len_of (targets.Content s start (shapes.Many width n) pads) = n
+len_of (targets.Content s start (shapes.Rows n a b span) pads) = n
+len_of _ = 0
+
+-- the data words and the slots of a struct
+abbrev pub words_in : Target → ℕ
+words_in (targets.Content s start (shapes.Node a b) pads) = a
+words_in _ = 0
+
+-- its slots
+abbrev pub slots_in : Target → ℕ
+slots_in (targets.Content s start (shapes.Node a b) pads) = b
+slots_in _ = 0
+
+-- the index of a capability
+abbrev pub cap_in : Target → Option ℕ
+cap_in (targets.Cap k) = Some k
+cap_in _ = None
+
+-- the elements of a list of pointers
+abbrev pub links_in : Target → ℕ
+links_in (targets.Content s start (shapes.Many Link n) pads) = n
+links_in _ = 0
+
+-- the slots of a struct, or the elements of a list of pointers
+abbrev pub steps_in : Target → ℕ
+steps_in t = slots_in t + links_in t
+
+-- where one of these stands
+abbrev pub step_place : Target → ℕ → Place
+step_place (targets.Content s start (shapes.Node a b) pads) i = record { segment = s; word = start + a + i }
+step_place (targets.Content s start shape pads) i = record { segment = s; word = start + i }
+step_place _ i = root
+
+-- the words from where the content starts
+abbrev pub content_of : List (List ℕ) → Target → List ℕ
+content_of message (targets.Content s start shape pads) = words_from message s start
+content_of message _ = []
+
+-- element i of a list of numbers
+abbrev pub number_in : Width → List ℕ → ℕ → ℕ
+number_in W1 ws i = element 64 1 ws i
+number_in W8 ws i = element 8 8 ws i
+number_in W16 ws i = element 4 16 ws i
+number_in W32 ws i = element 2 32 ws i
+number_in _ ws i = slice_index ws i
+
+-- how many of them a word holds
+abbrev pub per_word : Width → ℕ
+per_word W1 = 64
+per_word W8 = 8
+per_word W16 = 4
+per_word W32 = 2
+per_word _ = 1
+
+-- the one at a place of a word, counted from the least significant
+abbrev pub digit : Width → ℕ → ℕ → ℕ
+digit W1 w place = w / (2 ^ 1) ^ place % 2 ^ 1
+digit W8 w place = w / (2 ^ 8) ^ place % 2 ^ 8
+digit W16 w place = w / (2 ^ 16) ^ place % 2 ^ 16
+digit W32 w place = w / (2 ^ 32) ^ place % 2 ^ 32
+digit _ w place = w
+
+-- number i of the list that a pointer names
+abbrev pub number_of : List (List ℕ) → Target → ℕ → ℕ
+number_of message (targets.Content s start (shapes.Many width n) pads) i =
+    number_in width (words_from message s start) i
+number_of message _ i = 0
+
+-- how many numbers a list has
+abbrev pub numbers_in : Target → ℕ
+numbers_in (targets.Content s start (shapes.Many W0 n) pads) = 0
+numbers_in (targets.Content s start (shapes.Many Link n) pads) = 0
+numbers_in (targets.Content s start (shapes.Many Rows n) pads) = 0
+numbers_in (targets.Content s start (shapes.Many width n) pads) = n
+numbers_in _ = 0
+
+-- the rows of a composite list
+abbrev pub rows_in : Target → ℕ
+rows_in (targets.Content s start (shapes.Rows n a b span) pads) = n
+rows_in _ = 0
+
+-- one of them, as a struct
+abbrev pub row_of : Target → ℕ → Target
+row_of (targets.Content s start (shapes.Rows n a b span) pads) i =
+    targets.Content s (start + 1 + i * (a + b)) (shapes.Node a b) 0
+row_of found i = found
+
+-- where the slots below a target stand
+abbrev pub slots_below : Target → List Place
+slots_below (targets.Content s start shape pads) = slots s start shape
+slots_below _ = []

@@ -1,0 +1,245 @@
+//! A survey of all that a message holds, without its value.
+
+ghost use Rattle.std.specs.Prelude.{◌≡◌, ◌≢◌, ℕ, ◌<◌, ◌≤◌, ◌+◌, ◌-◌, ◌∷◌, ◌⊎◌, ◌↔◌, [], length, Ok, IsTrue, IfOk};
+ghost use Rattle.std.specs.Prelude.{IfErr, MatchResult};
+ghost use Rattle.capn_words.specs.Message.{segment_at, IsMessage, IsPlace};
+ghost use Rattle.capn_value.specs.Cost.{most_cost, most_height};
+ghost use Rattle.capn_walk.specs.Target as spec;
+ghost use Rattle.capn_walk.specs.Accepted.{root, IsValueOf, IsRefused, IsBounded};
+ghost use Rattle.capn_walk.specs.Visits.{visits, visits_of};
+ghost use Rattle.capn_walk.specs.inner.Outcomes.{Tells};
+ghost use Rattle.capn_walk.specs.inner.SlotsLeft.{places_of, owed, Lies};
+ghost use Rattle.capn_walk.specs.Surveyed as told;
+ghost use Rattle.capn_value.specs.Tree.{Tree};
+ghost use Rattle.capn_value.specs.FirstCap.{first_cap};
+ghost use Rattle.capn_walk.specs.declared.target.Fault.TheVariants.{Memory};
+
+use crate::content::segment_length;
+use crate::slots_left::{Frame, Waiting};
+use crate::limits::Limits;
+use crate::survey_answer::Surveyed;
+use crate::target::{Fault, Target};
+use crate::survey_visit::{is_plain, visit_elsewhere, visit_found, visit_numbers, visit_struct};
+use crate::walk_answer::Stopped;
+use crate::message_walk::{ROOT, root_target};
+use capn_words::{Place, Pointer, Space, split};
+use smallvec::SmallVec;
+use std::alloc::Allocator;
+
+/// What the walk of a message pays and visits within the limits, and its first capability, without its value.
+///
+/// It visits the slots as [`walk`] does and refuses what that refuses, in the same way. It takes no memory for a
+/// depth of at most 64; `Memory` comes only where a growth was refused.
+pub fn survey<S: Space, A: Allocator + Copy>(
+    alloc: A,
+    space: &S,
+    limits: Limits,
+) -> Result<Surveyed, Stopped>
+    // An answer: the message is accepted, and what its walk pays, its visits, and the first capability of its value.
+    ensures found { IfOk result (λ s. told.IsSurvey (S.message space.now) limits s) }
+    // A message that is accepted is answered, or a growth was refused; any other refusal is the first stop.
+    ensures only { (v : Tree) → IsValueOf (S.message space.now) limits v →
+        MatchResult result (λ s. s.capability ≡ first_cap v) (λ s. s.fault ≡ Memory) }
+    ensures refused { IfErr result (λ s.
+        (s.fault ≡ Memory)
+        ⊎ IsRefused (S.message space.now) limits s.fault s.place s.paid s.visits) }
+    // No growth is needed for a depth of at most 64.
+    ensures inline { limits.depth ≤ 64 → IfErr result (λ s. s.fault ≢ Memory) }
+    // No walk pays beyond its budget.
+    ensures bounded { MatchResult result (λ s. IsBounded limits.budget s.paid s.visits)
+        (λ s. IsBounded limits.budget s.paid s.visits) }
+{
+    let _bounds = space.segments();
+    let target = root_target(space)?;
+    let told = survey_root(
+        alloc,
+        space,
+        target,
+        limits.depth(),
+        limits.budget(),
+        limits.tariff().base(),
+    )?;
+    Ok(told)
+}
+
+/// The visit of the root's slot, and then those below it, if there are any: only these need a stack.
+#[inline(always)]
+fn survey_root<S: Space, A: Allocator + Copy>(
+    alloc: A,
+    space: &S,
+    target: Target,
+    depth: u32,
+    budget: u32,
+    base: u32,
+) -> Result<Surveyed, Stopped>
+    requires message { IsMessage (S.message space.now) }
+    requires place { IsPlace (S.message space.now) root }
+    requires target { Ok target ≡ spec.target (S.message space.now) root }
+    requires some { 1 ≤ depth }
+    requires depth { depth ≤ most_height }
+    requires budget { budget ≤ most_cost }
+    ensures tells { Tells (S.message space.now) budget 1 (visits (S.message space.now) base depth root) result }
+    ensures memory { depth ≤ 64 → IfErr result (λ s. s.fault ≢ Memory) }
+{
+    let visited = match visit_found(space, ROOT, Ok(target), depth, budget, base) {
+        Ok(visited) => visited,
+        Err(fault) => return Err(stopped(fault, ROOT, 0, 1)),
+    };
+    if visited.below.is_done() {
+        return Ok(Surveyed {
+            paid: visited.price,
+            visits: 1,
+            capability: visited.capability,
+        });
+    }
+    let left = budget - visited.price;
+    match survey_slots(alloc, space, visited.below, depth - 1, left, base) {
+        Ok(below) => Ok(Surveyed {
+            paid: visited.price + below.paid,
+            visits: 1 + below.visits,
+            capability: visited.capability.or(below.capability),
+        }),
+        Err(refusal) => Err(refusal.behind(visited.price, 1)),
+    }
+}
+
+/// A refusal of a slot, with what was paid before it and its number.
+#[inline(always)]
+fn stopped(fault: Fault, place: Place, paid: u32, visits: u32) -> Stopped
+    ensures { result ≡ record { fault = fault; place = place; paid = paid; visits = visits } }
+{
+    Stopped {
+        fault,
+        place,
+        paid,
+        visits,
+    }
+}
+
+/// The words of a segment, where those of another, or the same, are known.
+#[inline(always)]
+pub fn size_of<S: Space>(space: &S, segment: u32, known: u32, size: u32) -> u32
+    requires { size ≡ length (segment_at (S.message space.now) known) }
+    ensures { result ≡ length (segment_at (S.message space.now) segment) }
+{
+    if segment == known {
+        size
+    } else {
+        segment_length(space, segment)
+    }
+}
+
+/// The visits of the slots of a frame, with all below them.
+fn survey_slots<S: Space, A: Allocator + Copy>(
+    alloc: A,
+    space: &S,
+    first: Frame,
+    limit: u32,
+    budget: u32,
+    base: u32,
+) -> Result<Surveyed, Stopped>
+    requires message { IsMessage (S.message space.now) }
+    requires inside { Lies (S.message space.now) first }
+    requires limit { limit ≤ most_cost }
+    requires budget { budget ≤ most_cost }
+    requires few { owed first ≤ most_cost }
+    ensures tells { Tells (S.message space.now) budget (owed first)
+        (visits_of (S.message space.now) base limit (places_of first)) result }
+    ensures memory { limit ≤ 64 → IfErr result (λ s. s.fault ≢ Memory) }
+{
+    let mut stack: SmallVec<Waiting, 64, &A> = SmallVec::new(&alloc);
+    let mut frame = first;
+    let mut size = segment_length(space, first.segment);
+    let mut depth = limit;
+    let mut paid = 0u32;
+    let mut visits = 0u32;
+    let mut capability = None;
+    'slots: loop {
+        if frame.left == 0 {
+            if frame.rows > 0 {
+                frame = frame.turned();
+                continue;
+            }
+            let Some(waiting) = stack.pop() else {
+                return Ok(Surveyed {
+                    paid,
+                    visits,
+                    capability,
+                });
+            };
+            size = size_of(space, waiting.frame.segment, frame.segment, size);
+            frame = waiting.frame;
+            depth = waiting.depth;
+            continue;
+        }
+        let (at, rest) = frame.take();
+        let word = space.word(at);
+        if word == 0 {
+            visits += 1;
+            frame = rest;
+            continue;
+        }
+        let pointer = split(word);
+        match pointer {
+            Pointer::Node { .. } => {
+                let found = match visit_struct(
+                    space,
+                    at,
+                    size,
+                    pointer,
+                    depth,
+                    budget - paid,
+                    base,
+                ) {
+                    Ok(found) => found,
+                    Err(fault) => return Err(stopped(fault, at, paid, visits + 1)),
+                };
+                paid += found.price;
+                visits += 1;
+                if found.below.is_done() {
+                    frame = rest;
+                    continue;
+                }
+                if !rest.is_done() {
+                    let Ok(()) = stack.push(Waiting { frame: rest, depth }) else {
+                        return Err(stopped(Fault::Memory, at, paid, visits));
+                    };
+                }
+                size = size_of(space, found.below.segment, at.segment, size);
+                frame = found.below;
+                depth -= 1;
+            }
+            Pointer::Many { width, .. } if is_plain(width) => {
+                match visit_numbers(space, at, size, pointer, depth, budget - paid, base) {
+                    Ok(price) => {
+                        paid += price;
+                        visits += 1;
+                        frame = rest;
+                    }
+                    Err(fault) => return Err(stopped(fault, at, paid, visits + 1)),
+                }
+            }
+            _ => {
+                let found = match visit_elsewhere(space, at, depth, budget - paid, base) {
+                    Ok(found) => found,
+                    Err(fault) => return Err(stopped(fault, at, paid, visits + 1)),
+                };
+                paid += found.price;
+                visits += 1;
+                capability = capability.or(found.capability);
+                if found.below.is_done() {
+                    frame = rest;
+                    continue;
+                }
+                if !rest.is_done() {
+                    let Ok(()) = stack.push(Waiting { frame: rest, depth }) else {
+                        return Err(stopped(Fault::Memory, at, paid, visits));
+                    };
+                }
+                size = size_of(space, found.below.segment, at.segment, size);
+                frame = found.below;
+                depth -= 1;
+            }
+        }
+    }
+}

@@ -1,0 +1,125 @@
+//! The walk over a whole message, from its root.
+
+ghost use Rattle.std.specs.Prelude.{◌≡◌, ◌≢◌, ◌⊎◌, ◌<◌, ◌≤◌, Ok, length, true, IfOk, IfErr, OnOk, MatchResult};
+ghost use Rattle.capn_words.specs.Message.{segment_at};
+ghost use Rattle.capn_value.specs.Tree as trees;
+ghost use Rattle.capn_value.specs.Cost.{base, cost, height};
+ghost use Rattle.capn_walk.specs.Target as spec;
+ghost use Rattle.capn_walk.specs.Accepted.{root, IsValueOf, IsRefused, IsBounded, paid, number_of_visits};
+ghost use Rattle.capn_walk.specs.Accepted as accepted;
+ghost use Rattle.capn_walk.specs.Limits.{Bounds};
+ghost use Rattle.capn_walk.specs.View.{IsEntered, stepped_to_root};
+ghost use Rattle.capn_walk.specs.declared.target.Fault.TheVariants.{Memory};
+
+use crate::content::segment_length;
+use crate::limits::Limits;
+use crate::slot_target::resolve;
+use crate::target::{Fault, Shape, Target};
+use crate::walk_visits::walk_target;
+use crate::walk_answer::{Stopped, Walked, stop};
+use capn_value::Tree;
+use capn_words::{Place, Space};
+use std::alloc::Allocator;
+
+/// Where the pointer to the root is.
+pub const ROOT: Place = Place {
+    segment: 0,
+    word: 0,
+};
+
+/// What a message denotes, read from its root within limits, and what that paid.
+///
+/// Slots are visited in preorder, each as often as a pointer leads to it, and each visit pays its price
+/// before anything of its content is read or memory is taken for it. So a hostile message, with cycles or
+/// shared objects, costs at most the budget.
+///
+/// Refused with `NoRoot` at 0:0, paid 0 and visits 0, where segment 0 has no word. Else with the first visit
+/// that is a fault or brings the sum above the budget: the place of its slot, what was paid before it, and
+/// its number. At one visit the faults of `resolve` come first, then `RootKind`, `TooDeep` and `OverBudget`.
+/// `Memory` comes only where a growth was refused, in place of any later answer; its `paid` is at most the
+/// budget, and its `visits` at most one more than that `paid`.
+///
+/// Memory: the tree's own. The stack holds at most as many objects as the depth limit.
+/// (Page: security considerations; the tariffs and the order of the faults are our own.)
+pub fn walk<S: Space, A: Allocator + Copy>(
+    alloc: A,
+    space: &S,
+    limits: Limits,
+) -> Result<Walked<A>, Stopped>
+    // An answer is the value at the root of an accepted message, with the sum of the prices.
+    ensures found { IfOk result (λ w. IsValueOf (S.message space.now) limits w.tree) }
+    ensures pays { IfOk result (λ w. w.paid ≡ paid (S.message space.now) limits) }
+    ensures counts { IfOk result (λ w. w.visits ≡ number_of_visits (S.message space.now) limits) }
+
+    // Such a value is answered, or a growth was refused; any other refusal is the first stop.
+    ensures only { (v : trees.Tree) → IsValueOf (S.message space.now) limits v →
+        MatchResult result (λ w. w.tree ≡ v) (λ s. s.fault ≡ Memory) }
+    ensures refused { IfErr result (λ s.
+        (s.fault ≡ Memory)
+        ⊎ IsRefused (S.message space.now) limits s.fault s.place s.paid s.visits) }
+
+    // Memory is needed only if the root leads to content whose price is within the budget.
+    ensures wanted { IfErr result (λ s. s.fault ≡ Memory →
+        IsEntered (stepped_to_root (S.message space.now) (base limits.tariff) limits.depth limits.budget)) }
+
+    // No walk pays beyond its budget.
+    ensures bounded { MatchResult result (λ w. IsBounded limits.budget w.paid w.visits)
+        (λ s. IsBounded limits.budget s.paid s.visits) }
+
+    // The tree costs no more than what was paid, and is no higher than the limit.
+    ensures thrifty { IfOk result (λ w. cost (base limits.tariff) w.tree ≤ w.paid) }
+    ensures low { IfOk result (λ w. height w.tree ≤ limits.depth) }
+{
+    let _bounds = space.segments();
+    let target = root_target(space)?;
+    let found = walk_target(
+        alloc,
+        space,
+        ROOT,
+        target,
+        limits.depth(),
+        limits.budget(),
+        limits.tariff().base(),
+    )?;
+    Ok(Walked {
+        tree: Tree::of_fit(found.value),
+        paid: found.paid,
+        visits: found.visits,
+    })
+}
+
+/// What the pointer to the root names: anything but a capability.
+pub fn root_target<S: Space>(space: &S) -> Result<Target, Stopped>
+    ensures place { OnOk result (0 < length (segment_at (S.message space.now) 0)) }
+    ensures target { IfOk result (λ t. spec.target (S.message space.now) root ≡ Ok t) }
+    ensures kind { IfOk result (λ t. accepted.may_be_root t ≡ true) }
+    ensures refused { IfErr result (λ s.
+        (limits : Bounds) →
+        IsRefused (S.message space.now) limits s.fault s.place s.paid s.visits) }
+    ensures memory { IfErr result (λ s. s.fault ≢ Memory) }
+    ensures bounded { IfErr result (λ s. IsBounded 0 s.paid s.visits) }
+{
+    if segment_length(space, ROOT.segment) == 0 {
+        return Err(Stopped {
+            visits: 0,
+            ..stop(Fault::NoRoot, ROOT)
+        });
+    }
+    match resolve(space, ROOT) {
+        Ok(target) => {
+            if may_be_root(target) {
+                Ok(target)
+            } else {
+                Err(stop(Fault::RootKind, ROOT))
+            }
+        }
+        Err(fault) => Err(stop(fault, ROOT)),
+    }
+}
+
+/// Whether a target may be that of the root.
+pub fn may_be_root(target: Target) -> bool
+    ensures { result ≡ accepted.may_be_root target }
+{
+    !matches!(target, Target::Cap(_))
+}

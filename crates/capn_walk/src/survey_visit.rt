@@ -1,0 +1,136 @@
+//! One visit of a slot, without its value.
+
+ghost use Rattle.std.specs.Prelude.{◌≡◌, ◌≢◌, ◌≤◌, ◌∷◌, ◌↔◌, [], length, IsTrue, IfOk, IfErr};
+ghost use Rattle.capn_words.specs.Message.{segment_at, IsMessage, IsPlace};
+ghost use Rattle.capn_value.specs.Cost.{most_cost};
+ghost use Rattle.capn_walk.specs.Target as spec;
+ghost use Rattle.capn_walk.specs.Visits.{pays, visits};
+ghost use Rattle.capn_walk.specs.inner.Verdict.{judge, refused};
+ghost use Rattle.capn_walk.specs.inner.Outcomes.{Visits};
+ghost use Rattle.capn_walk.specs.Shapes.{IsPlain, AreNumbers};
+ghost use Rattle.capn_walk.specs.declared.target.Fault.TheVariants.{Memory};
+
+use crate::slots_left::Frame;
+use crate::slot_target::{near, resolve};
+use crate::step::{capability_of, frame_below, price_within};
+use crate::target::{Fault, Target};
+use capn_words::{Place, Pointer, Space, Width};
+
+/// What one visit comes to: its price, the capability that it meets, and the slots below it.
+#[derive(Clone, Copy)]
+pub struct Visited {
+    /// Its price.
+    pub price: u32,
+    /// The capability that it meets.
+    pub capability: Option<u32>,
+    /// The slots below it.
+    pub below: Frame,
+}
+
+/// One visit of a slot whose pointer is that of a near struct, at most `depth` objects deep, where `left` words
+/// are left to pay and each content costs `base` beside its size.
+#[inline(always)]
+pub fn visit_struct<S: Space>(
+    space: &S,
+    at: Place,
+    size: u32,
+    pointer: Pointer,
+    depth: u32,
+    left: u32,
+    base: u32,
+) -> Result<Visited, Fault>
+    requires message { IsMessage (S.message space.now) }
+    requires size { size ≡ length (segment_at (S.message space.now) at.segment) }
+    requires place { IsPlace (S.message space.now) at }
+    requires pointer { spec.near (S.message space.now) at.segment at.word 0 pointer
+        ≡ spec.target (S.message space.now) at }
+    requires left { left ≤ most_cost }
+    ensures { Visits (S.message space.now) base depth left at result }
+{
+    let found = near(space, at.segment, size, at.word, 0, pointer);
+    visit_found(space, at, found, depth, left, base)
+}
+
+/// The price of a visit of a slot whose pointer is that of a near list of numbers.
+#[inline(always)]
+pub fn visit_numbers<S: Space>(
+    space: &S,
+    at: Place,
+    size: u32,
+    pointer: Pointer,
+    depth: u32,
+    left: u32,
+    base: u32,
+) -> Result<u32, Fault>
+    requires size { size ≡ length (segment_at (S.message space.now) at.segment) }
+    requires pointer { spec.near (S.message space.now) at.segment at.word 0 pointer
+        ≡ spec.target (S.message space.now) at }
+    requires numbers { AreNumbers pointer }
+    ensures visits { IfOk result (λ p. visits (S.message space.now) base depth at ≡ pays at p ∷ []) }
+    ensures price { IfOk result (λ p. p ≤ left) }
+    ensures refused { IfErr result (λ e. judge left (visits (S.message space.now) base depth at) ≡ refused e at 0 1) }
+    ensures memory { IfErr result (λ e. e ≢ Memory) }
+{
+    match near(space, at.segment, size, at.word, 0, pointer) {
+        Ok(target) => price_within(target, depth, left, base),
+        Err(fault) => Err(fault),
+    }
+}
+
+/// The same, whatever the slot names.
+#[inline(never)]
+pub fn visit_elsewhere<S: Space>(
+    space: &S,
+    at: Place,
+    depth: u32,
+    left: u32,
+    base: u32,
+) -> Result<Visited, Fault>
+    requires message { IsMessage (S.message space.now) }
+    requires place { IsPlace (S.message space.now) at }
+    requires left { left ≤ most_cost }
+    ensures { Visits (S.message space.now) base depth left at result }
+{
+    visit_found(space, at, resolve(space, at), depth, left, base)
+}
+
+/// What a visit of a slot answers whose target is known.
+#[inline(always)]
+pub fn visit_found<S: Space>(
+    space: &S,
+    at: Place,
+    found: Result<Target, Fault>,
+    depth: u32,
+    left: u32,
+    base: u32,
+) -> Result<Visited, Fault>
+    requires message { IsMessage (S.message space.now) }
+    requires place { IsPlace (S.message space.now) at }
+    requires found { found ≡ spec.target (S.message space.now) at }
+    requires left { left ≤ most_cost }
+    ensures { Visits (S.message space.now) base depth left at result }
+{
+    let target = match found {
+        Ok(target) => target,
+        Err(fault) => return Err(fault),
+    };
+    match price_within(target, depth, left, base) {
+        Ok(price) => Ok(Visited {
+            price,
+            capability: capability_of(target),
+            below: frame_below(space, target),
+        }),
+        Err(fault) => Err(fault),
+    }
+}
+
+/// Whether the elements of a list are numbers.
+#[inline(always)]
+pub fn is_plain(width: Width) -> bool
+    ensures { IsTrue result ↔ IsPlain width }
+{
+    match width {
+        Width::Link | Width::Rows => false,
+        _ => true,
+    }
+}

@@ -1,0 +1,300 @@
+//! The visits of slots, in preorder: what each denotes, what was paid, and how many there were.
+
+ghost use Rattle.std.specs.Prelude.{◌≡◌, ◌≤◌, ◌+◌, ◌*◌, Ok, length, IfErr};
+ghost use Rattle.capn_words.specs.Message.{segment_at, IsMessage, IsPlace};
+ghost use Rattle.capn_value.specs.Cost.{most_cost};
+ghost use Rattle.capn_walk.specs.Target as spec;
+ghost use Rattle.capn_walk.specs.declared.target.Fault.TheVariants.{Memory};
+ghost use Rattle.capn_walk.specs.View.{IsEntered, stepped};
+ghost use Rattle.capn_walk.specs.inner.Outcomes.{Walks, WalksObject, WalksRows, WalksSlots};
+ghost use Rattle.capn_walk.specs.Shapes.{IsContent, RowsFit, extent, slot_count};
+
+use crate::content::{place, segment_length};
+use crate::found::{Found, FoundRows, FoundSlots};
+use crate::lists::{list_at, words_at};
+use crate::slot_target::{near, pointer_at, resolve};
+use crate::step::price_within;
+use crate::target::{Fault, Shape, Target};
+use crate::walk_answer::{Stopped, out_of_memory, stop};
+use capn_value::{Body, Items, Value};
+use capn_words::{Place, Pointer, Space, Width};
+use std::alloc::Allocator;
+
+/// What a slot denotes, at most `depth` objects deep, where `left` words are left to pay and each content costs `base`
+/// beside its size. Near structs and near lists have an arm each, so that each is compiled for its form alone.
+#[cycle(walk)]
+#[inline(always)]
+fn walk_slot<S: Space, A: Allocator + Copy>(
+    alloc: A,
+    space: &S,
+    at: Place,
+    depth: u32,
+    left: u32,
+    base: u32,
+) -> Result<Found<A>, Stopped>
+    requires message { IsMessage (S.message space.now) }
+    requires place { IsPlace (S.message space.now) at }
+    requires left { left ≤ most_cost }
+    ensures { Walks (S.message space.now) base depth left at result }
+{
+    let pointer = pointer_at(space, at.segment, at.word);
+    match pointer {
+        Pointer::Nil => Ok(Found::without_content(Value::Nil)),
+        Pointer::Node { .. } => walk_near(alloc, space, at, pointer, depth, left, base),
+        Pointer::Many { .. } => walk_near(alloc, space, at, pointer, depth, left, base),
+        // Taken out and put in again: then only this arm's answer comes through memory.
+        _ => {
+            let found = walk_elsewhere(alloc, space, at, depth, left, base)?;
+            Ok(found)
+        }
+    }
+}
+
+/// What a slot denotes whose pointer names near content.
+#[cycle(walk)]
+#[inline(always)]
+fn walk_near<S: Space, A: Allocator + Copy>(
+    alloc: A,
+    space: &S,
+    at: Place,
+    pointer: Pointer,
+    depth: u32,
+    left: u32,
+    base: u32,
+) -> Result<Found<A>, Stopped>
+    requires message { IsMessage (S.message space.now) }
+    requires place { IsPlace (S.message space.now) at }
+    requires pointer { spec.near (S.message space.now) at.segment at.word 0 pointer
+        ≡ spec.target (S.message space.now) at }
+    requires left { left ≤ most_cost }
+    ensures { Walks (S.message space.now) base depth left at result }
+{
+    let size = segment_length(space, at.segment);
+    match near(space, at.segment, size, at.word, 0, pointer) {
+        Ok(target) => walk_target(alloc, space, at, target, depth, left, base),
+        Err(fault) => Err(stop(fault, at)),
+    }
+}
+
+/// What a slot denotes, whatever it names.
+#[cycle(walk)]
+#[inline(never)]
+fn walk_elsewhere<S: Space, A: Allocator + Copy>(
+    alloc: A,
+    space: &S,
+    at: Place,
+    depth: u32,
+    left: u32,
+    base: u32,
+) -> Result<Found<A>, Stopped>
+    requires message { IsMessage (S.message space.now) }
+    requires place { IsPlace (S.message space.now) at }
+    requires left { left ≤ most_cost }
+    ensures { Walks (S.message space.now) base depth left at result }
+{
+    match resolve(space, at) {
+        Ok(target) => walk_target(alloc, space, at, target, depth, left, base),
+        Err(fault) => Err(stop(fault, at)),
+    }
+}
+
+/// What a slot denotes whose target is known. Its price is paid before anything of its content is read.
+#[cycle(walk)]
+#[inline(always)]
+pub fn walk_target<S: Space, A: Allocator + Copy>(
+    alloc: A,
+    space: &S,
+    at: Place,
+    target: Target,
+    depth: u32,
+    left: u32,
+    base: u32,
+) -> Result<Found<A>, Stopped>
+    requires message { IsMessage (S.message space.now) }
+    requires place { IsPlace (S.message space.now) at }
+    requires target { spec.target (S.message space.now) at ≡ Ok target }
+    requires left { left ≤ most_cost }
+    ensures answer { Walks (S.message space.now) base depth left at result }
+    // Memory is needed for content only, and only once its price is paid.
+    ensures wanted { IfErr result (λ s. s.fault ≡ Memory → IsEntered (stepped base depth left (Ok target))) }
+{
+    match target {
+        Target::Nil => Ok(Found::without_content(Value::Nil)),
+        Target::Cap(index) => Ok(Found::without_content(Value::Cap(index))),
+        Target::Content {
+            segment,
+            start,
+            shape,
+            pads: _,
+        } => {
+            let price = match price_within(target, depth, left, base) {
+                Ok(price) => price,
+                Err(fault) => return Err(stop(fault, at)),
+            };
+            let start = place(segment, start);
+            let left = left - price;
+            match object(alloc, space, at, start, shape, depth - 1, left, base) {
+                Ok(found) => Ok(Found {
+                    value: found.value,
+                    paid: price + found.paid,
+                    visits: 1 + found.visits,
+                }),
+                Err(stopped) => Err(stopped.behind(price, 1)),
+            }
+        }
+    }
+}
+
+/// The object of the slot at a place, with what is below it. Its own price has been paid.
+#[cycle(walk)]
+#[inline(always)]
+fn object<S: Space, A: Allocator + Copy>(
+    alloc: A,
+    space: &S,
+    at: Place,
+    start: Place,
+    shape: Shape,
+    depth: u32,
+    left: u32,
+    base: u32,
+) -> Result<Found<A>, Stopped>
+    requires message { IsMessage (S.message space.now) }
+    requires content { IsContent (S.message space.now) start (extent shape) }
+    requires rows { RowsFit shape }
+    requires left { left ≤ most_cost }
+    requires count { slot_count shape ≤ most_cost }
+    ensures { WalksObject (S.message space.now) base depth left shape start result }
+{
+    let segment = start.segment;
+    match shape {
+        Shape::Node { words, slots } => {
+            let first = start.word + words as u32;
+            let Ok(words) = words_at(alloc, space, start, words as u32) else {
+                return Err(out_of_memory(at));
+            };
+            let count = slots as u32;
+            let below = walk_slots(alloc, space, segment, first, count, depth, left, base)?;
+            Ok(below.into_struct(words))
+        }
+        Shape::Many { width, count } => match width {
+            Width::Link => {
+                let first = start.word;
+                let below = walk_slots(alloc, space, segment, first, count, depth, left, base)?;
+                Ok(below.into_list())
+            }
+            _ => {
+                let Ok(value) = list_at(alloc, space, start, width, count) else {
+                    return Err(out_of_memory(at));
+                };
+                Ok(Found::without_slots(value))
+            }
+        },
+        Shape::Rows {
+            count,
+            words,
+            slots,
+            span: _,
+        } => {
+            let first = place(segment, start.word + 1);
+            let below = walk_rows(alloc, space, first, count, words, slots, depth, left, base)?;
+            Ok(below.into_list())
+        }
+    }
+}
+
+/// The values of `count` slots, one after the other.
+#[cycle(walk)]
+#[inline(never)]
+fn walk_slots<S: Space, A: Allocator + Copy>(
+    alloc: A,
+    space: &S,
+    segment: u32,
+    start: u32,
+    count: u32,
+    depth: u32,
+    left: u32,
+    base: u32,
+) -> Result<FoundSlots<A>, Stopped>
+    requires message { IsMessage (S.message space.now) }
+    requires inside { start + count ≤ length (segment_at (S.message space.now) segment) }
+    requires left { left ≤ most_cost }
+    ensures { WalksSlots (S.message space.now) base depth left segment start count result }
+{
+    let Ok(mut slots) = Vec::with_capacity(alloc, count as usize) else {
+        return Err(out_of_memory(place(segment, start)));
+    };
+    let mut paid = 0;
+    let mut visits = 0;
+    for i in 0..count {
+        let at = place(segment, start + i);
+        match walk_slot(alloc, space, at, depth, left - paid, base) {
+            Ok(found) => {
+                paid += found.paid;
+                visits += found.visits;
+                slots.push_reserved(found.value);
+            }
+            Err(stopped) => return Err(stopped.behind(paid, visits)),
+        }
+    }
+    Ok(FoundSlots {
+        items: Items::from_vec(slots),
+        paid,
+        visits,
+    })
+}
+
+/// The bodies of `count` rows of the same sizes, one after the other.
+#[cycle(walk)]
+#[inline(never)]
+fn walk_rows<S: Space, A: Allocator + Copy>(
+    alloc: A,
+    space: &S,
+    start: Place,
+    count: u32,
+    words: u16,
+    slots: u16,
+    depth: u32,
+    left: u32,
+    base: u32,
+) -> Result<FoundRows<A>, Stopped>
+    requires message { IsMessage (S.message space.now) }
+    requires content { IsContent (S.message space.now) start (count * (words + slots)) }
+    requires left { left ≤ most_cost }
+    requires count { count * slots ≤ most_cost }
+    ensures { WalksRows (S.message space.now) base depth left start words slots count result }
+{
+    let segment = start.segment;
+    let width = slots as u32;
+    let Ok(mut rows) = Vec::with_capacity(alloc, count as usize) else {
+        return Err(out_of_memory(start));
+    };
+    let mut paid = 0;
+    let mut visits = 0;
+    let mut next = start.word;
+    for i in 0..count {
+        let at = place(segment, next);
+        let Ok(data) = words_at(alloc, space, at, words as u32) else {
+            return Err(out_of_memory(at).behind(paid, visits));
+        };
+        let first = next + words as u32;
+        let room = left - paid;
+        match walk_slots(alloc, space, segment, first, width, depth, room, base) {
+            Ok(below) => {
+                paid += below.paid;
+                visits += below.visits;
+                let body = Body {
+                    words: data,
+                    slots: below.items,
+                };
+                rows.push_reserved(body);
+            }
+            Err(stopped) => return Err(stopped.behind(paid, visits)),
+        }
+        next = first + width;
+    }
+    Ok(FoundRows {
+        rows: Items::from_vec(rows),
+        paid,
+        visits,
+    })
+}
