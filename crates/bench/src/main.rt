@@ -3,8 +3,8 @@
 //! - Without a word: the digest of a little of each shape, and whether the operations agree on it.
 //! - `times`: the shortest times of each operation on each shape at four sizes, in nanoseconds a byte.
 //! - `count OPERATION SHAPE STEPS [BYTES]`: an operation on one shape, 1 MiB of it or `BYTES` bytes, done `STEPS`
-//! times, for a tool that counts instructions: those of a step are the difference of two runs. It prints the bytes by
-//! which the cost is given.
+//!   times, for a tool that counts instructions: those of a step are the difference of two runs. It prints the bytes
+//!   by which the cost is given.
 //! - `write SHAPE BYTES`: about `BYTES` bytes of one shape to standard output, framed.
 #![tactic(auto)]
 

@@ -3,7 +3,7 @@
 //! - [`canonicalise`] answers the canonical bytes of the value that bytes denote, whichever of the three
 //!   forms they are in, and what its walk paid. [`canonical_of`] does so for any message that is a `Space`.
 //! - [`is_canonical`] says whether the bytes of a bare message are its canonical bytes, and makes no copy; [`check`]
-//! also reports its price, its visits and its first capability.
+//!   also reports its price, its visits and its first capability.
 //! - [`account`] and [`survey`] report what the walk of a message pays and visits, and write nothing.
 //! - [`layout`] writes the canonical bytes of a tree: one segment, its objects in preorder, every struct
 //!   cut to what it keeps. A tree with a capability has none, and is refused by the first one's index.
