@@ -3,7 +3,7 @@ use Rattle.std.proofs.Common.{◌≡◌, ◌≢◌, ◌↔◌, ◌⊎◌, inl, i
 use Rattle.std.specs.Bool.{IsTrue}
 use Rattle.capn_walk.specs.Limits.{Bounds}
 use Rattle.capn_walk.specs.Laws.{Apart}
-use Rattle.capn_walk.specs.Accepted.{IsAccepted, IsRefused}
+use Rattle.capn_walk.specs.Accepted.{IsAccepted, IsWalkRefused}
 use Rattle.capn_walk.specs.Surveyed.{IsSurvey}
 use Rattle.capn_walk.specs.declared.survey_answer.Surveyed.{Surveyed}
 use Rattle.capn_walk.specs.declared.walk_answer.Stopped.{Stopped}
@@ -15,7 +15,7 @@ pub is_accepted_yes : (message : List (List ℕ)) (limits : Bounds) (s : Surveye
 is_accepted_yes message limits s told = (λ _. told.is.accepted, λ _. refl)
 
 pub is_accepted_no : (message : List (List ℕ)) (limits : Bounds) (s : Stopped) → Apart → s.fault ≢ faults.Memory
-    → (s.fault ≡ faults.Memory) ⊎ IsRefused message limits s.fault s.place s.paid s.visits
+    → (s.fault ≡ faults.Memory) ⊎ IsWalkRefused message limits s.fault s.place s.paid s.visits
     → IsTrue false ↔ IsAccepted message limits
 is_accepted_no message limits s apart other (inl memory) = absurd (other memory)
 is_accepted_no message limits s apart other (inr refused) =

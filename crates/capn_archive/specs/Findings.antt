@@ -7,7 +7,7 @@ use Rattle.capn_value.specs.FirstCap.{first_cap}
 use Rattle.capn_walk.specs.Limits.{Bounds}
 use Rattle.capn_walk.specs.Accepted.{IsValueOf, paid, number_of_visits}
 use Rattle.capn_canon.specs.Layout.{canon}
-use Rattle.capn_canon.specs.declared.surveyed_bare.Checked.{Checked}
+use Rattle.capn_canon.specs.declared.surveyed_bare.SurveyedBare.{SurveyedBare}
 use Rattle.capn_serve.specs.declared.position.Position.{Position}
 use Rattle.capn_archive.specs.declared.head.Head.{Head}
 use Rattle.capn_archive.specs.declared.findings.Findings.{Findings}
@@ -29,7 +29,7 @@ IsCanonical message v =
 
 -- the message is accepted: what its walk pays, how many visits it makes, the first capability of its value, and whether
 -- the message is canonical
-pub record IsChecked (message : List (List ℕ)) (limits : Bounds) (c : Checked) : Type 0 where
+pub record IsChecked (message : List (List ℕ)) (limits : Bounds) (c : SurveyedBare) : Type 0 where
   pub value : Tree
   pub is : IsValueOf message limits value
   pub pays : c.paid ≡ paid message limits

@@ -6,7 +6,7 @@ ghost use Rattle.capn_archive.specs.Findings.{IsChecked, AreFindings};
 ghost use Rattle.capn_archive.specs.Tasks.{Finds};
 
 use crate::depth::depth_of;
-use capn_canon::{Checked, Refusal, check, survey};
+use capn_canon::{SurveyedBare, Refusal, survey_bare, survey};
 use capn_serve::ServeFault;
 use capn_walk::{Fault, Limits};
 use capn_words::{Bare, Place, Space};
@@ -23,7 +23,7 @@ const ROOT: Place = Place {
 #[derive(Clone, Copy, Debug, PartialEq, Eq)]
 pub struct Findings {
     /// What its walk pays and visits, its first capability, and whether it is canonical.
-    pub checked: Checked,
+    pub checked: SurveyedBare,
     /// The least depth under which it is accepted, or 0 if its root is null.
     pub depth: u32,
 }
@@ -87,12 +87,12 @@ fn check_surveyed<S: Space, A: Allocator + Copy>(
     alloc: A,
     space: &S,
     limits: Limits,
-) -> Result<Checked, ServeFault>
+) -> Result<SurveyedBare, ServeFault>
     requires { length (S.message space.now) ≢ 1 }
     ensures { Finds (IsChecked (S.message space.now) limits) (IsUnaccepted (S.message space.now) limits) result }
 {
     match survey(alloc, space, limits) {
-        Ok(surveyed) => Ok(Checked {
+        Ok(surveyed) => Ok(SurveyedBare {
             paid: surveyed.paid,
             visits: surveyed.visits,
             capability: surveyed.capability,
@@ -108,10 +108,10 @@ fn check_alone<A: Allocator + Copy>(
     alloc: A,
     space: &Bare<'_>,
     limits: Limits,
-) -> Result<Checked, ServeFault>
+) -> Result<SurveyedBare, ServeFault>
     ensures { Finds (IsChecked (space.now ∷ []) limits) (IsUnaccepted (space.now ∷ []) limits) result }
 {
-    match check(alloc, space, limits) {
+    match survey_bare(alloc, space, limits) {
         Ok(checked) => Ok(checked),
         Err(stopped) => match stopped.fault {
             Fault::Memory => Err(ServeFault::Memory),
@@ -141,7 +141,7 @@ fn check_of<S: Space, A: Allocator + Copy>(
     alloc: A,
     space: &S,
     limits: Limits,
-) -> Result<Checked, ServeFault>
+) -> Result<SurveyedBare, ServeFault>
     ensures { Finds (IsChecked (S.message space.now) limits) (IsUnaccepted (S.message space.now) limits) result }
 {
     match alone(space) {

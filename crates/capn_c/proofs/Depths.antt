@@ -3,7 +3,8 @@ use Rattle.std.proofs.Common.{◌≡◌, inl, inr, ℕ, ◌<◌, List, length, R
 use Rattle.capn_words.specs.Message.{segment_at}
 use Rattle.capn_words.specs.declared.space.Place.{Place}
 use Rattle.capn_value.specs.Cost.{base}
-use Rattle.capn_walk.specs.Accepted.{IsAccepted, IsRefused, visits_within, IsWithin, root, root_visits, visits_at_root}
+use Rattle.capn_walk.specs.Accepted.{IsAccepted, IsWalkRefused, visits_within, IsWithin, root, root_visits}
+use Rattle.capn_walk.specs.Accepted.{visits_at_root}
 use Rattle.capn_walk.specs.Limits.{Bounds}
 use Rattle.capn_walk.specs.Target.{target}
 use Rattle.capn_walk.specs.Visits.{last_visit, visits}
@@ -35,7 +36,7 @@ null_only m limits a = only_by m (base limits.tariff) limits.budget (target m ro
 
 -- what is refused is not accepted
 pub refused_not : (m : List (List ℕ)) (limits : Bounds) (e : Fault) (at : Place) (p k : ℕ)
-    → IsRefused m limits e at p k → IsAccepted m limits → ⊥
+    → IsWalkRefused m limits e at p k → IsAccepted m limits → ⊥
 refused_not m limits e at p k (inl none) a = absurd (omega (arith, none.0, a.some))
 refused_not m limits e at p k (inr stop) a =
     never-both limits.budget (visits_within m limits) e at p k a.within stop.1

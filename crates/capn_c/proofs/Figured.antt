@@ -6,7 +6,7 @@ use Rattle.capn_walk.specs.declared.survey_answer.Surveyed.{Surveyed}
 use Rattle.capn_canon.specs.SurveyedBytes.{Surveys}
 use Rattle.capn_canon.proofs.shared.OneReading.{one_message}
 use Rattle.capn_canon.specs.declared.form.Form.{Form}
-use Rattle.capn_c.specs.Figures.{AreMeasures, FiguresIn, IsDepth, MeasuresIn, told_cap}
+use Rattle.capn_c.specs.Figures.{AreMeasures, FiguresIn, IsDepth, MeasuresIn, reported_cap}
 use Rattle.capn_c.specs.declared.figures.CapnFigures.{CapnFigures}
 use Rattle.capn_c.specs.declared.message_measures.Measured.{Measured}
 
@@ -17,7 +17,7 @@ pub record AreOf (s : Surveyed) (q : Measured) (f : CapnFigures) : Type 0 where
   pub paid : f.paid ≡ s.paid
   pub visits : f.visits ≡ s.visits
   pub depth : f.depth ≡ q.depth
-  pub capability : told_cap f.has_capability f.capability ≡ s.capability
+  pub capability : reported_cap f.has_capability f.capability ≡ s.capability
   pub canonical : (f.canonical ≡ 1) ↔ IsTrue q.canonical
 
 pub figured : (form : Form) (bs : List ℕ) (limits : Bounds) (s : Surveyed) (q : Measured) (f : CapnFigures)

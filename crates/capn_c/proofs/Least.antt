@@ -8,12 +8,12 @@ use Rattle.capn_stream.specs.FrameRefusal.{HasCount, HasHead, announced_segments
 use Rattle.capn_stream.specs.FrameRefusal.{head_length}
 use Rattle.capn_stream.proofs.shared.Longer.{segments-append, words-append}
 use Rattle.capn_stream.proofs.shared.Wanting.{frame_whole}
-use Rattle.capn_stream.specs.FrameRefusal.{IsRefused}
+use Rattle.capn_stream.specs.FrameRefusal.{IsFrameRefused}
 use Rattle.capn_stream.specs.declared.fault.FrameFault.{FrameFault}
 use Rattle.capn_stream.specs.declared.fault.FrameFault.TheVariants as frame
 use Rattle.capn_c.specs.declared.report.CapnReport.{CapnReport}
 use Rattle.capn_c.specs.StatusCodes.{frame_code}
-use Rattle.capn_c.specs.FrameReport.{TellsFrame}
+use Rattle.capn_c.specs.FrameReport.{ReportsFrame}
 use Rattle.capn_c.specs.FrameNeed.{IsNeeded, needed}
 
 padding_le : (count : ℕ) → padding count ≤ 4
@@ -78,7 +78,7 @@ neither n status e (inr h) a b = b (sym e ∙ h)
 
 -- the length reported of a frame that is not whole is what it needs
 pub needed_told : (bs : List ℕ) (most status : ℕ) (report : CapnReport) (e : FrameFault)
-    → TellsFrame bs status report e → IsRefused bs most e → (status ≡ 48) ⊎ (status ≡ 51)
+    → ReportsFrame bs status report e → IsFrameRefused bs most e → (status ≡ 48) ⊎ (status ≡ 51)
     → IsNeeded bs most report.length
 needed_told bs most status report frame.Empty t h s =
     subst (IsNeeded bs most) (sym (ap (λ (r : CapnReport). r.length) t.report_is)) (is_needed bs most (inl h))

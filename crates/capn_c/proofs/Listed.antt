@@ -36,14 +36,14 @@ walk_listed walk.TooDeep = refl
 walk_listed walk.OverBudget = refl
 walk_listed walk.Memory = refl
 
-pub packed_listed : (bs : List ℕ) (most : ℕ) (e : UnpackFault) → packs.IsRefused bs most e
+pub packed_listed : (bs : List ℕ) (most : ℕ) (e : UnpackFault) → packs.IsUnpackRefused bs most e
     → IsTrue (is_status (packed_code e))
 packed_listed bs most packed.Memory h = refl
 packed_listed bs most (packed.Cut at) h = refl
 packed_listed bs most (packed.TooLong at) h = refl
 packed_listed bs most packed.Failed h = absurd h
 
-pub frame_listed : (bs : List ℕ) (most : ℕ) (e : FrameFault) → frames.IsRefused bs most e
+pub frame_listed : (bs : List ℕ) (most : ℕ) (e : FrameFault) → frames.IsFrameRefused bs most e
     → IsTrue (is_status (frame_code e))
 frame_listed bs most frame.Memory h = refl
 frame_listed bs most frame.Empty h = refl

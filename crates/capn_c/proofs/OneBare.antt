@@ -11,9 +11,9 @@ use Rattle.capn_value.specs.FirstCap.{first_cap}
 use Rattle.capn_walk.specs.Limits.{Bounds}
 use Rattle.capn_walk.proofs.shared.Segments.{length_of_none, length_of_some}
 use Rattle.capn_walk.proofs.shared.Unique.{unique}
-use Rattle.capn_canon.specs.BareVerdict.{IsCheck}
+use Rattle.capn_canon.specs.BareVerdict.{IsBareSurvey}
 use Rattle.capn_canon.specs.Layout.{canon}
-use Rattle.capn_canon.specs.declared.surveyed_bare.Checked.{Checked}
+use Rattle.capn_canon.specs.declared.surveyed_bare.SurveyedBare.{SurveyedBare}
 use Rattle.capn_c.specs.Figures.{IsCanonicalMessage}
 
 only-segment : (m : List (List ℕ)) → length m ≡ 1 → m ≡ segment_at m 0 ∷ []
@@ -49,7 +49,7 @@ words-at m s None n e f = f ∙ sym (length_of_none m s (sym e))
 words-at m s (Some k) n e f = f ∙ sym (length_of_some m s k (sym e))
 
 -- a check says whether a message of one segment is canonical
-pub canonical-bare : (ws : List ℕ) (limits : Bounds) (c : Checked) → IsCheck ws limits c
+pub canonical-bare : (ws : List ℕ) (limits : Bounds) (c : SurveyedBare) → IsBareSurvey ws limits c
     → IsTrue c.is_canonical ↔ IsCanonicalMessage (ws ∷ []) limits
 canonical-bare ws limits c k = (
   (λ t. record {

@@ -47,9 +47,9 @@ pub record MeasuresIn (form : Form) (bs : List ℕ) (limits : Bounds) (m : Measu
   pub are : AreMeasures message limits m
 
 -- the capability that two numbers stand for: whether there is one, and its index
-abbrev pub told_cap : ℕ → ℕ → Option ℕ
-told_cap zero k = None
-told_cap (suc n) k = Some k
+abbrev pub reported_cap : ℕ → ℕ → Option ℕ
+reported_cap zero k = None
+reported_cap (suc n) k = Some k
 
 -- the figures of an accepted message: its words and segments; what its walk pays and visits; the least depth under
 -- which it is accepted; 1 and the first capability of its value, or 0 and 0; and 1 exactly if it is canonical
@@ -61,7 +61,7 @@ pub record AreFigures (message : List (List ℕ)) (limits : Bounds) (f : CapnFig
   pub pays : f.paid ≡ paid message limits
   pub counts : f.visits ≡ number_of_visits message limits
   pub depth : IsDepth message limits f.depth
-  pub capability : told_cap f.has_capability f.capability ≡ first_cap value
+  pub capability : reported_cap f.has_capability f.capability ≡ first_cap value
   pub canonical : (f.canonical ≡ 1) ↔ IsCanonicalMessage message limits
 
 -- the figures of the message that bytes are read as

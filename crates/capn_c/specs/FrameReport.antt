@@ -16,7 +16,7 @@ frame_report bs frame.Memory = at_number 0
 frame_report bs frame.Failed = at_number 0
 
 -- the status and the report are those of this refusal of bytes, and of no other unless memory was refused
-pub record TellsFrame (bs : List ℕ) (status : ℕ) (report : CapnReport) (e : FrameFault) : Type 0 where
+pub record ReportsFrame (bs : List ℕ) (status : ℕ) (report : CapnReport) (e : FrameFault) : Type 0 where
   pub status_is : status ≡ frame_code e
   pub report_is : report ≡ frame_report bs e
   pub alone : status ≢ 8 → (f : FrameFault) → status ≡ frame_code f → report ≡ frame_report bs f → f ≡ e

@@ -99,13 +99,13 @@ report_of (refusals.Capability k) = at_number k
 report_of refusals.Memory = at_number 0
 
 -- the status and the report are those of this refusal, and of no other unless memory was refused
-pub record Tells (status : ℕ) (report : CapnReport) (e : Refusal) : Type 0 where
+pub record Reports (status : ℕ) (report : CapnReport) (e : Refusal) : Type 0 where
   pub status_is : status ≡ code e
   pub report_is : report ≡ report_of e
   pub alone : status ≢ 8 → (f : Refusal) → status ≡ code f → report ≡ report_of f → f ≡ e
 
 -- the status and the report are those of this refusal of packed bytes, and of no other unless memory was refused
-pub record TellsPacked (status : ℕ) (report : CapnReport) (e : UnpackFault) : Type 0 where
+pub record ReportsPacked (status : ℕ) (report : CapnReport) (e : UnpackFault) : Type 0 where
   pub status_is : status ≡ packed_code e
   pub report_is : report ≡ at_number (packed_number e)
   pub alone : status ≢ 8 → (f : UnpackFault) → status ≡ packed_code f → report ≡ at_number (packed_number f) → f ≡ e

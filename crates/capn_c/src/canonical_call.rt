@@ -9,21 +9,21 @@ ghost use Rattle.capn_canon.specs.Denotes.{Denotes};
 ghost use Rattle.capn_canon.specs.Denotes.{Answers};
 ghost use Rattle.capn_canon.specs.Canonicity.{IsCanonicalForm};
 ghost use Rattle.capn_canon.specs.Refusal.{IsRefused};
-ghost use Rattle.capn_canon.specs.MemoryNeed.{MayWantMemory, MayWantBytesIn};
+ghost use Rattle.capn_canon.specs.MemoryNeed.{MayNeedMemory, MayNeedBytesIn};
 ghost use Rattle.capn_canon.specs.declared.refusal.Refusal.{Refusal as Refusals};
 ghost use Rattle.capn_c.specs.Calls.{IsForm, form_named, GiveLimits, IsTariff, bounds_of, Delivers, Serves};
-ghost use Rattle.capn_c.specs.StatusCodes.{Tells, answered, at_number, is_status};
+ghost use Rattle.capn_c.specs.StatusCodes.{Reports, answered, at_number, is_status};
 
 use crate::status_codes::{BAD_FORM, NO_ROOM, refuse};
 use crate::limits::{CapnLimits, form_of, limits_of};
 use crate::output::deliver;
 use crate::report::{CapnReport, answer_of, report_at};
-use capn_canon::{Form, Refusal, account, canonicalise};
+use capn_canon::{Form, Refusal, survey_bytes, canonicalise};
 use capn_walk::Limits;
 use std::alloc::Global;
 
 /// A length that is enough for the canonical bytes of a message, which are not laid out.
-fn measure(alloc: Global, form: Form, bytes: &[u8], limits: Limits, report: &mut CapnReport) -> u32
+fn survey_length(alloc: Global, form: Form, bytes: &[u8], limits: Limits, report: &mut CapnReport) -> u32
     ensures told { (result ≡ 1) ⊎ (8 ≤ result) }
     ensures found { result ≡ 1 → (text : List ℕ) × Answers form bytes.now limits text report.new.paid
         × (length text ≤ report.new.length) }
@@ -31,11 +31,11 @@ fn measure(alloc: Global, form: Form, bytes: &[u8], limits: Limits, report: &mut
         → (result ≡ 8) ⊎ ((result ≡ 1) × (length (canon v) ≤ report.new.length)) }
     ensures rest { result ≡ 1 → report.new ≡ answered (8 * (report.new.paid + 1)) report.new.paid 0 }
     ensures listed { IsTrue (is_status result) }
-    ensures refused { 8 ≤ result → (e : Refusals) × Tells result report.new e × IsRefused form bytes.now limits e }
-    ensures wanted { result ≡ 8 → MayWantMemory form bytes.now limits }
+    ensures refused { 8 ≤ result → (e : Refusals) × Reports result report.new e × IsRefused form bytes.now limits e }
+    ensures wanted { result ≡ 8 → MayNeedMemory form bytes.now limits }
     ensures bounded { IsBounded limits.budget report.new.paid report.new.visits }
 {
-    match account(alloc, form, bytes, limits) {
+    match survey_bytes(alloc, form, bytes, limits) {
         Ok(surveyed) => match surveyed.capability {
             Some(index) => refuse(Refusal::Capability(index), report),
             None => {
@@ -49,7 +49,7 @@ fn measure(alloc: Global, form: Form, bytes: &[u8], limits: Limits, report: &mut
 }
 
 /// The canonical bytes of a message, into a buffer.
-fn lay(
+fn fill(
     alloc: Global,
     form: Form,
     bytes: &[u8],
@@ -64,8 +64,8 @@ fn lay(
         → (result ≡ 8) ⊎ Delivers (canon v) result report.new.length out.old out.new }
     ensures rest { result ≤ 1 → report.new ≡ answered report.new.length report.new.paid 0 }
     ensures listed { IsTrue (is_status result) }
-    ensures refused { 8 ≤ result → (e : Refusals) × Tells result report.new e × IsRefused form bytes.now limits e }
-    ensures wanted { result ≡ 8 → MayWantBytesIn form bytes.now limits }
+    ensures refused { 8 ≤ result → (e : Refusals) × Reports result report.new e × IsRefused form bytes.now limits e }
+    ensures wanted { result ≡ 8 → MayNeedBytesIn form bytes.now limits }
     ensures bounded { IsBounded limits.budget report.new.paid report.new.visits }
     ensures short { result ≤ 1 → report.new.length ≤ 8 * (report.new.paid + 1) }
     ensures kept { result ≢ 0 → out.new ≡ out.old }
@@ -113,12 +113,12 @@ pub extern "C" fn capn_canonical(
     ensures blank { 2 ≤ result → result ≤ 4 → report.new ≡ at_number 0 }
     ensures listed { IsTrue (is_status result) }
     // What each refusal means; no other status stands for it.
-    ensures refused { 5 ≤ result → (e : Refusals) × Tells result report.new e
+    ensures refused { 5 ≤ result → (e : Refusals) × Reports result report.new e
         × IsRefused (form_named form) bytes.now (bounds_of limits.now) e }
     // Memory is needed only where `capn_check` may need it, and, if there is room, for canonical bytes.
-    ensures wanted { result ≡ 8 → MayWantBytesIn (form_named form) bytes.now (bounds_of limits.now) }
+    ensures wanted { result ≡ 8 → MayNeedBytesIn (form_named form) bytes.now (bounds_of limits.now) }
     ensures measuring { result ≡ 8 → length out.old ≡ 0
-        → MayWantMemory (form_named form) bytes.now (bounds_of limits.now) }
+        → MayNeedMemory (form_named form) bytes.now (bounds_of limits.now) }
     // No walk pays beyond its budget.
     ensures bounded { IsBounded limits.now.budget report.new.paid report.new.visits }
     ensures short { result ≤ 1 → report.new.length ≤ 8 * (report.new.paid + 1) }
@@ -136,9 +136,9 @@ pub extern "C" fn capn_canonical(
     match limits_of(limits) {
         Ok(limits) => {
             if out.is_empty() {
-                return measure(alloc, form, bytes, limits, report);
+                return survey_length(alloc, form, bytes, limits, report);
             }
-            lay(alloc, form, bytes, limits, out, report)
+            fill(alloc, form, bytes, limits, out, report)
         }
         Err(status) => status,
     }

@@ -7,15 +7,15 @@ ghost use Rattle.capn_walk.specs.declared.survey_answer.Surveyed.{Surveyed as Su
 ghost use Rattle.capn_canon.specs.Denotes.{Denotes};
 ghost use Rattle.capn_canon.specs.Refusal.{IsUnacceptedIn};
 ghost use Rattle.capn_canon.specs.SurveyedBytes.{Surveys};
-ghost use Rattle.capn_canon.specs.MemoryNeed.{MayWantMemory};
+ghost use Rattle.capn_canon.specs.MemoryNeed.{MayNeedMemory};
 ghost use Rattle.capn_canon.specs.declared.refusal.Refusal.{Refusal as Refusals};
 ghost use Rattle.capn_c.specs.Calls.{IsForm, form_named, GiveLimits, IsTariff, bounds_of};
-ghost use Rattle.capn_c.specs.StatusCodes.{Tells, answered, at_number, is_status};
+ghost use Rattle.capn_c.specs.StatusCodes.{Reports, answered, at_number, is_status};
 
 use crate::status_codes::{BAD_FORM, DONE, refuse};
 use crate::limits::{CapnLimits, form_of, limits_of};
 use crate::report::{CapnReport, answer_of, report_at};
-use capn_canon::{Form, account};
+use capn_canon::{Form, survey_bytes};
 use capn_walk::Limits;
 use std::alloc::Global;
 
@@ -26,11 +26,12 @@ fn check(alloc: Global, form: Form, bytes: &[u8], limits: Limits, report: &mut C
         × (report.new ≡ answered 0 s.paid s.visits) }
     ensures only { (v : Value) → Denotes form bytes.now limits v → (result ≡ 0) ⊎ (result ≡ 8) }
     ensures listed { IsTrue (is_status result) }
-    ensures refused { 8 ≤ result → (e : Refusals) × Tells result report.new e × IsUnacceptedIn form bytes.now limits e }
-    ensures wanted { result ≡ 8 → MayWantMemory form bytes.now limits }
+    ensures refused { 8 ≤ result → (e : Refusals) × Reports result report.new e
+        × IsUnacceptedIn form bytes.now limits e }
+    ensures wanted { result ≡ 8 → MayNeedMemory form bytes.now limits }
     ensures bounded { IsBounded limits.budget report.new.paid report.new.visits }
 {
-    match account(alloc, form, bytes, limits) {
+    match survey_bytes(alloc, form, bytes, limits) {
         Ok(surveyed) => {
             *report = answer_of(0, surveyed.paid, surveyed.visits);
             DONE
@@ -65,10 +66,10 @@ pub extern "C" fn capn_check(
     ensures blank { 1 ≤ result → result ≤ 4 → report.new ≡ at_number 0 }
     ensures listed { IsTrue (is_status result) }
     // What each refusal means; no other status stands for it.
-    ensures refused { 5 ≤ result → (e : Refusals) × Tells result report.new e
+    ensures refused { 5 ≤ result → (e : Refusals) × Reports result report.new e
         × IsUnacceptedIn (form_named form) bytes.now (bounds_of limits.now) e }
     // Memory is needed only for a depth above 64, for where two segments or more end, and for what a text packs.
-    ensures wanted { result ≡ 8 → MayWantMemory (form_named form) bytes.now (bounds_of limits.now) }
+    ensures wanted { result ≡ 8 → MayNeedMemory (form_named form) bytes.now (bounds_of limits.now) }
     // No walk pays beyond its budget.
     ensures bounded { IsBounded limits.now.budget report.new.paid report.new.visits }
 {

@@ -1,7 +1,7 @@
 //! What a survey says of a message.
 
 ghost use Rattle.std.specs.Prelude.{IsTrue, ◌≡◌, ◌↔◌};
-ghost use Rattle.capn_c.specs.Figures.{told_cap};
+ghost use Rattle.capn_c.specs.Figures.{reported_cap};
 
 use crate::message_measures::Measured;
 use capn_walk::Surveyed;
@@ -35,7 +35,7 @@ pub fn figures_of(surveyed: Surveyed, measured: Measured) -> CapnFigures
     ensures paid { result.paid ≡ surveyed.paid }
     ensures visits { result.visits ≡ surveyed.visits }
     ensures depth { result.depth ≡ measured.depth }
-    ensures capability { told_cap result.has_capability result.capability ≡ surveyed.capability }
+    ensures capability { reported_cap result.has_capability result.capability ≡ surveyed.capability }
     ensures canonical { (result.canonical ≡ 1) ↔ IsTrue measured.canonical }
 {
     let (has_capability, capability) = match surveyed.capability {

@@ -4,11 +4,11 @@ ghost use Rattle.std.specs.Prelude.{IsTrue, ◌≡◌, ◌⊎◌, ◌↔◌, ◌
 ghost use Rattle.capn_words.specs.Message.{most_message_words};
 ghost use Rattle.capn_stream.specs.Frames.{StandsFirst};
 ghost use Rattle.capn_stream.specs.StreamPieces.{IsUnfinished};
-ghost use Rattle.capn_stream.specs.FrameRefusal.{HasTable, IsRefused};
+ghost use Rattle.capn_stream.specs.FrameRefusal.{HasTable, IsFrameRefused};
 ghost use Rattle.capn_stream.specs.declared.fault.FrameFault.{FrameFault as Faults};
 ghost use Rattle.capn_c.specs.Calls.{GiveLimits, IsTariff};
 ghost use Rattle.capn_c.specs.StatusCodes.{answered, at_number, is_status};
-ghost use Rattle.capn_c.specs.FrameReport.{TellsFrame, frame_report};
+ghost use Rattle.capn_c.specs.FrameReport.{ReportsFrame, frame_report};
 ghost use Rattle.capn_c.specs.FrameNeed.{IsNeeded};
 
 use crate::status_codes::{DONE, code_of_frame, number_of_frame};
@@ -21,7 +21,7 @@ use std::alloc::Global;
 /// The report of a refusal.
 fn report_of_frame(fault: FrameFault, bytes: &[u8], most: u32) -> CapnReport
     requires small { most ≤ most_message_words }
-    requires refused { IsRefused bytes.now most fault }
+    requires refused { IsFrameRefused bytes.now most fault }
     ensures { result ≡ frame_report bytes.now fault }
 {
     match fault {
@@ -34,8 +34,8 @@ fn report_of_frame(fault: FrameFault, bytes: &[u8], most: u32) -> CapnReport
 /// Reports a refusal of bytes: its numbers in the report, and its status.
 fn refuse_frame(fault: FrameFault, bytes: &[u8], most: u32, report: &mut CapnReport) -> u32
     requires small { most ≤ most_message_words }
-    requires refused { IsRefused bytes.now most fault }
-    ensures { TellsFrame bytes.now result report.new fault }
+    requires refused { IsFrameRefused bytes.now most fault }
+    ensures { ReportsFrame bytes.now result report.new fault }
 {
     *report = report_of_frame(fault, bytes, most);
     code_of_frame(fault)
@@ -47,7 +47,7 @@ fn length_of(alloc: Global, bytes: &[u8], most: u32) -> Result<usize, FrameFault
     ensures found { IfOk result (λ taken. (message : List (List ℕ)) × StandsFirst bytes.now most message taken) }
     ensures only { (message : List (List ℕ)) (taken : ℕ) → StandsFirst bytes.now most message taken
         → MatchResult result (λ n. n ≡ taken) (λ e. e ≡ FrameFault.Memory) }
-    ensures refused { IfErr result (λ e. IsRefused bytes.now most e) }
+    ensures refused { IfErr result (λ e. IsFrameRefused bytes.now most e) }
     ensures wanted { IsErrOf result FrameFault.Memory → HasTable bytes.now most }
 {
     let (_, taken) = first(alloc, bytes, most)?;
@@ -63,8 +63,8 @@ fn frame(alloc: Global, bytes: &[u8], most: u32, report: &mut CapnReport) -> u32
         → (result ≡ 8) ⊎ ((result ≡ 0) × (report.new.length ≡ taken)) }
     ensures rest { result ≡ 0 → report.new ≡ answered report.new.length 0 0 }
     ensures listed { IsTrue (is_status result) }
-    ensures refused { 8 ≤ result → (e : Faults) × TellsFrame bytes.now result report.new e
-        × IsRefused bytes.now most e }
+    ensures refused { 8 ≤ result → (e : Faults) × ReportsFrame bytes.now result report.new e
+        × IsFrameRefused bytes.now most e }
     ensures needed { (result ≡ 48) ⊎ (result ≡ 51) → IsNeeded bytes.now most report.new.length }
     ensures wanted { result ≡ 8 → HasTable bytes.now most }
 {
@@ -106,8 +106,8 @@ pub extern "C" fn capn_first(
     ensures blank { 1 ≤ result → result ≤ 4 → report.new ≡ at_number 0 }
     ensures listed { IsTrue (is_status result) }
     // What each refusal means; no other status stands for it.
-    ensures refused { 5 ≤ result → (e : Faults) × TellsFrame bytes.now result report.new e
-        × IsRefused bytes.now limits.now.message_words e }
+    ensures refused { 5 ≤ result → (e : Faults) × ReportsFrame bytes.now result report.new e
+        × IsFrameRefused bytes.now limits.now.message_words e }
     // A frame that is not whole: none that begins like this is shorter than the length reported, which is more than
     // there is, and within what a frame can have.
     ensures needed { (result ≡ 48) ⊎ (result ≡ 51)

@@ -9,10 +9,10 @@ ghost use Rattle.capn_canon.specs.Layout.{canon};
 ghost use Rattle.capn_canon.specs.Denotes.{Denotes};
 ghost use Rattle.capn_canon.specs.Denotes.{Answers};
 ghost use Rattle.capn_canon.specs.Refusal.{IsRefused};
-ghost use Rattle.capn_canon.specs.MemoryNeed.{MayWantBytesIn};
+ghost use Rattle.capn_canon.specs.MemoryNeed.{MayNeedBytesIn};
 ghost use Rattle.capn_canon.specs.declared.refusal.Refusal.{Refusal as Refusals};
 ghost use Rattle.capn_c.specs.Calls.{IsForm, form_named, GiveLimits, IsTariff, bounds_of};
-ghost use Rattle.capn_c.specs.StatusCodes.{Tells, answered, at_number, is_status};
+ghost use Rattle.capn_c.specs.StatusCodes.{Reports, answered, at_number, is_status};
 
 use crate::status_codes::{BAD_FORM, DONE, refuse};
 use crate::limits::{CapnLimits, form_of, limits_of};
@@ -38,8 +38,8 @@ fn hash(
         → (result ≡ 8) ⊎ ((result ≡ 0) × (digest.new ≡ sha256 (canon v))) }
     ensures rest { result ≡ 0 → report.new ≡ answered 0 report.new.paid 0 }
     ensures listed { IsTrue (is_status result) }
-    ensures refused { 8 ≤ result → (e : Refusals) × Tells result report.new e × IsRefused form bytes.now limits e }
-    ensures wanted { result ≡ 8 → MayWantBytesIn form bytes.now limits }
+    ensures refused { 8 ≤ result → (e : Refusals) × Reports result report.new e × IsRefused form bytes.now limits e }
+    ensures wanted { result ≡ 8 → MayNeedBytesIn form bytes.now limits }
     ensures bounded { IsBounded limits.budget report.new.paid report.new.visits }
     ensures kept { result ≢ 0 → digest.new ≡ digest.old }
 {
@@ -83,10 +83,10 @@ pub extern "C" fn capn_hash(
     ensures blank { 1 ≤ result → result ≤ 4 → report.new ≡ at_number 0 }
     ensures listed { IsTrue (is_status result) }
     // What each refusal means; no other status stands for it.
-    ensures refused { 5 ≤ result → (e : Refusals) × Tells result report.new e
+    ensures refused { 5 ≤ result → (e : Refusals) × Reports result report.new e
         × IsRefused (form_named form) bytes.now (bounds_of limits.now) e }
     // Memory is needed only where `capn_check` may need it, and for canonical bytes.
-    ensures wanted { result ≡ 8 → MayWantBytesIn (form_named form) bytes.now (bounds_of limits.now) }
+    ensures wanted { result ≡ 8 → MayNeedBytesIn (form_named form) bytes.now (bounds_of limits.now) }
     // No walk pays beyond its budget.
     ensures bounded { IsBounded limits.now.budget report.new.paid report.new.visits }
     // Where nothing is answered, the buffer is as it was.

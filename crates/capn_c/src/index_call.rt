@@ -8,11 +8,11 @@ ghost use Rattle.capn_walk.specs.declared.survey_answer.Surveyed.{Surveyed as Su
 ghost use Rattle.capn_canon.specs.Denotes.{Denotes};
 ghost use Rattle.capn_canon.specs.Refusal.{IsUnacceptedIn};
 ghost use Rattle.capn_canon.specs.SurveyedBytes.{Surveys};
-ghost use Rattle.capn_canon.specs.MemoryNeed.{MayWantMemory};
+ghost use Rattle.capn_canon.specs.MemoryNeed.{MayNeedMemory};
 ghost use Rattle.capn_canon.specs.declared.form.Form.TheVariants as forms;
 ghost use Rattle.capn_canon.specs.declared.refusal.Refusal.{Refusal as Refusals};
 ghost use Rattle.capn_c.specs.Calls.{form_named, GiveLimits, IsTariff, bounds_of};
-ghost use Rattle.capn_c.specs.StatusCodes.{Tells, answered, at_number, is_status};
+ghost use Rattle.capn_c.specs.StatusCodes.{Reports, answered, at_number, is_status};
 ghost use Rattle.capn_c.specs.Entries.{HasEntries, IndexedIn, c_index};
 ghost use Rattle.capn_c.specs.Figures.{IsFlat};
 
@@ -21,7 +21,7 @@ use crate::entries::{CapnEntry, put_entries, starts_of};
 use crate::limits::{CapnLimits, flat_form_of, limits_of};
 use crate::frame_need::head_of;
 use crate::report::{CapnReport, answer_of, report_at};
-use capn_canon::{Form, Refusal, account};
+use capn_canon::{Form, Refusal, survey_bytes};
 use capn_stream::first;
 use capn_walk::laws::indexes;
 use capn_walk::{Entry, Limits, Surveyed, index_into};
@@ -148,15 +148,16 @@ fn index_in(
     ensures no_room { result ≡ 1 → length out.old < report.new.visits }
     ensures only { (v : Value) → Denotes form bytes.now limits v → (result ≤ 1) ⊎ (result ≡ 8) }
     ensures listed { IsTrue (is_status result) }
-    ensures refused { 8 ≤ result → (e : Refusals) × Tells result report.new e × IsUnacceptedIn form bytes.now limits e }
+    ensures refused { 8 ≤ result → (e : Refusals) × Reports result report.new e
+        × IsUnacceptedIn form bytes.now limits e }
     ensures entries { result ≤ 1 → HasEntries form bytes.now limits report.new.visits }
-    ensures wanted { result ≡ 8 → MayWantMemory form bytes.now limits
+    ensures wanted { result ≡ 8 → MayNeedMemory form bytes.now limits
         ⊎ ((n : ℕ) × HasEntries form bytes.now limits n × (n ≤ length out.old)) }
     ensures bounded { IsBounded limits.budget report.new.paid report.new.visits }
     ensures kept { result ≢ 0 → out.new ≡ out.old }
 {
     indexes();
-    match account(alloc, form, bytes, limits) {
+    match survey_bytes(alloc, form, bytes, limits) {
         Ok(surveyed) => {
             *report = report_of_index(surveyed);
             if surveyed.visits as usize > out.len() {
@@ -208,10 +209,10 @@ pub extern "C" fn capn_index(
     ensures blank { 2 ≤ result → result ≤ 4 → report.new ≡ at_number 0 }
     ensures listed { IsTrue (is_status result) }
     // What each refusal means; no other status stands for it.
-    ensures refused { 5 ≤ result → (e : Refusals) × Tells result report.new e
+    ensures refused { 5 ≤ result → (e : Refusals) × Reports result report.new e
         × IsUnacceptedIn (form_named form) bytes.now (bounds_of limits.now) e }
     // Memory is needed only where `capn_check` may need it, and for an index that has room.
-    ensures wanted { result ≡ 8 → MayWantMemory (form_named form) bytes.now (bounds_of limits.now)
+    ensures wanted { result ≡ 8 → MayNeedMemory (form_named form) bytes.now (bounds_of limits.now)
         ⊎ ((n : ℕ) × HasEntries (form_named form) bytes.now (bounds_of limits.now) n × (n ≤ length out.old)) }
     // No walk pays beyond its budget.
     ensures bounded { IsBounded limits.now.budget report.new.paid report.new.visits }

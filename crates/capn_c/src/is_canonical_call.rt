@@ -4,14 +4,14 @@ ghost use Rattle.std.specs.Prelude.{IsTrue, ◌≡◌, ◌≢◌, ◌⊎◌, ◌
 ghost use Rattle.capn_value.specs.Tree.{Tree as Value};
 ghost use Rattle.capn_value.specs.FirstCap.{first_cap};
 ghost use Rattle.capn_walk.specs.Accepted.{IsBounded};
-ghost use Rattle.capn_canon.specs.BareVerdict.{Checks};
+ghost use Rattle.capn_canon.specs.BareVerdict.{SaysCanonical};
 ghost use Rattle.capn_canon.specs.Denotes.{Denotes};
 ghost use Rattle.capn_canon.specs.Layout.{canon};
 ghost use Rattle.capn_canon.specs.Refusal.{IsRefused};
 ghost use Rattle.capn_canon.specs.declared.form.Form.TheVariants as forms;
 ghost use Rattle.capn_canon.specs.declared.refusal.Refusal.{Refusal as Refusals};
 ghost use Rattle.capn_c.specs.Calls.{GiveLimits, IsTariff, bounds_of};
-ghost use Rattle.capn_c.specs.StatusCodes.{Tells, at_number, is_status};
+ghost use Rattle.capn_c.specs.StatusCodes.{Reports, at_number, is_status};
 
 use crate::status_codes::{DONE, NOT_CANONICAL, refuse};
 use crate::limits::{CapnLimits, limits_of};
@@ -21,15 +21,15 @@ use capn_walk::Limits;
 use std::alloc::Global;
 
 /// Whether bytes are the canonical bytes of their value.
-fn judge(alloc: Global, bytes: &[u8], limits: Limits, report: &mut CapnReport) -> u32
+fn test(alloc: Global, bytes: &[u8], limits: Limits, report: &mut CapnReport) -> u32
     ensures told { (result ≡ 0) ⊎ (result ≡ 5) ⊎ (8 ≤ result) }
-    ensures yes { result ≡ 0 → Checks bytes.now limits true }
-    ensures no { result ≡ 5 → Checks bytes.now limits false }
+    ensures yes { result ≡ 0 → SaysCanonical bytes.now limits true }
+    ensures no { result ≡ 5 → SaysCanonical bytes.now limits false }
     ensures only { (v : Value) → Denotes forms.Bare bytes.now limits v → first_cap v ≡ None
         → (result ≡ 8) ⊎ ((result ≡ 0) × (canon v ≡ bytes.now)) ⊎ ((result ≡ 5) × (canon v ≢ bytes.now)) }
     ensures blank { result ≤ 5 → report.new ≡ at_number 0 }
     ensures listed { IsTrue (is_status result) }
-    ensures refused { 8 ≤ result → (e : Refusals) × Tells result report.new e
+    ensures refused { 8 ≤ result → (e : Refusals) × Reports result report.new e
         × IsRefused forms.Bare bytes.now limits e }
     ensures inline { limits.depth ≤ 64 → result ≢ 8 }
     ensures bounded { IsBounded limits.budget report.new.paid report.new.visits }
@@ -57,8 +57,8 @@ pub extern "C" fn capn_is_canonical(
     ensures limits { (result ≡ 3) ↔ (GiveLimits limits.now → ⊥) }
     ensures tariff { (result ≡ 4) ↔ (GiveLimits limits.now × (IsTariff limits.now.tariff → ⊥)) }
     // The answer is on the one value that the bytes denote, which has no capability.
-    ensures yes { result ≡ 0 → Checks bytes.now (bounds_of limits.now) true }
-    ensures no { result ≡ 5 → Checks bytes.now (bounds_of limits.now) false }
+    ensures yes { result ≡ 0 → SaysCanonical bytes.now (bounds_of limits.now) true }
+    ensures no { result ≡ 5 → SaysCanonical bytes.now (bounds_of limits.now) false }
     // Bytes that denote such a value are answered, unless memory runs out.
     ensures only { GiveLimits limits.now → IsTariff limits.now.tariff → (v : Value)
         → Denotes forms.Bare bytes.now (bounds_of limits.now) v → first_cap v ≡ None
@@ -67,7 +67,7 @@ pub extern "C" fn capn_is_canonical(
     ensures blank { result ≤ 5 → report.new ≡ at_number 0 }
     ensures listed { IsTrue (is_status result) }
     // What each refusal means; no other status stands for it.
-    ensures refused { 6 ≤ result → (e : Refusals) × Tells result report.new e
+    ensures refused { 6 ≤ result → (e : Refusals) × Reports result report.new e
         × IsRefused forms.Bare bytes.now (bounds_of limits.now) e }
     // No memory is needed for a depth of at most 64.
     ensures inline { limits.now.depth ≤ 64 → result ≢ 8 }
@@ -76,7 +76,7 @@ pub extern "C" fn capn_is_canonical(
 {
     *report = report_at(0);
     match limits_of(limits) {
-        Ok(limits) => judge(alloc, bytes, limits, report),
+        Ok(limits) => test(alloc, bytes, limits, report),
         Err(status) => status,
     }
 }

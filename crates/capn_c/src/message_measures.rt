@@ -6,11 +6,11 @@ ghost use Rattle.capn_value.specs.Tree.{Tree as Value};
 ghost use Rattle.capn_walk.specs.Accepted.{IsAccepted, IsValueOf};
 ghost use Rattle.capn_walk.specs.Limits.{Bounds};
 ghost use Rattle.capn_canon.specs.Denotes.{Denotes};
-ghost use Rattle.capn_canon.specs.MemoryNeed.{MayWantMemory};
+ghost use Rattle.capn_canon.specs.MemoryNeed.{MayNeedMemory};
 ghost use Rattle.capn_canon.specs.declared.form.Form.TheVariants as forms;
 ghost use Rattle.capn_c.specs.Figures.{AreMeasures, IsCanonicalMessage, IsDepth, MeasuresIn, at_depth};
 
-use capn_canon::check;
+use capn_canon::survey_bare;
 use capn_stream::first;
 use capn_walk::{Fault, Limits, Target, resolve, survey};
 use capn_words::{Bare, Place, Space};
@@ -124,7 +124,7 @@ fn is_canonical_bare(alloc: Global, space: &Bare<'_>, limits: Limits) -> Option<
     ensures found { IfSome result (λ yes. IsTrue yes ↔ IsCanonicalMessage (space.now ∷ []) limits) }
     ensures wanted { (v : Value) → IsValueOf (space.now ∷ []) limits v → result ≡ None → 64 < limits.depth }
 {
-    match check(alloc, space, limits) {
+    match survey_bare(alloc, space, limits) {
         Ok(checked) => Some(checked.is_canonical),
         Err(_) => None,
     }
@@ -164,7 +164,7 @@ fn measure<S: Space>(alloc: Global, space: &S, limits: Limits) -> Option<Measure
 pub fn measure_frame(alloc: Global, bytes: &[u8], limits: Limits) -> Option<Measured>
     ensures found { IfSome result (λ m. MeasuresIn forms.Stream bytes.now limits m) }
     ensures wanted { (v : Value) → Denotes forms.Stream bytes.now limits v → result ≡ None
-        → MayWantMemory forms.Stream bytes.now limits }
+        → MayNeedMemory forms.Stream bytes.now limits }
 {
     match first(alloc, bytes, limits.message_words()) {
         Ok((message, taken)) => {
@@ -181,7 +181,7 @@ pub fn measure_frame(alloc: Global, bytes: &[u8], limits: Limits) -> Option<Meas
 pub fn measure_bare(alloc: Global, bytes: &[u8], limits: Limits) -> Option<Measured>
     ensures found { IfSome result (λ m. MeasuresIn forms.Bare bytes.now limits m) }
     ensures wanted { (v : Value) → Denotes forms.Bare bytes.now limits v → result ≡ None
-        → MayWantMemory forms.Bare bytes.now limits }
+        → MayNeedMemory forms.Bare bytes.now limits }
 {
     match Bare::new(bytes) {
         Ok(space) => measure(alloc, &space, limits),

@@ -4,10 +4,10 @@ ghost use Rattle.std.specs.Prelude.{◌↔◌, IsTrue, ◌≡◌, ◌≢◌, ◌
 ghost use Rattle.capn_pack.specs.Packed.{Packs};
 ghost use Rattle.capn_pack.specs.Chosen.{Chosen};
 ghost use Rattle.capn_pack.specs.Words.{HasWords};
-ghost use Rattle.capn_pack.specs.UnpackRefusal.{IsRefused, StartsWithin};
+ghost use Rattle.capn_pack.specs.UnpackRefusal.{IsUnpackRefused, StartsWithin};
 ghost use Rattle.capn_pack.specs.declared.fault.UnpackFault.{UnpackFault as Faults};
 ghost use Rattle.capn_c.specs.Calls.{Delivers};
-ghost use Rattle.capn_c.specs.StatusCodes.{answered, at_number, TellsPacked, is_status};
+ghost use Rattle.capn_c.specs.StatusCodes.{answered, at_number, ReportsPacked, is_status};
 
 use crate::status_codes::{MEMORY, NOT_WHOLE, refuse_packed};
 use crate::output::deliver;
@@ -83,7 +83,8 @@ pub extern "C" fn capn_unpack(
         → (result ≡ 8) ⊎ Delivers words result report.new.length out.old out.new }
     ensures listed { IsTrue (is_status result) }
     // What each refusal means, and where.
-    ensures refused { 2 ≤ result → (e : Faults) × TellsPacked result report.new e × IsRefused bytes.now max_words e }
+    ensures refused { 2 ≤ result → (e : Faults) × ReportsPacked result report.new e
+        × IsUnpackRefused bytes.now max_words e }
     // Memory is needed only if a whole group within the maximum stands first.
     ensures wanted { result ≡ 8 → StartsWithin bytes.now max_words }
     // The report of an answer has its length alone.

@@ -3,7 +3,7 @@
 ghost use Rattle.std.specs.Prelude.{◌≡◌};
 ghost use Rattle.capn_c.specs.StatusCodes.{bare_code, bare_number, packed_code, packed_number, frame_code};
 ghost use Rattle.capn_c.specs.StatusCodes.{frame_number};
-ghost use Rattle.capn_c.specs.StatusCodes.{walk_code, code, report_of, Tells, TellsPacked};
+ghost use Rattle.capn_c.specs.StatusCodes.{walk_code, code, report_of, Reports, ReportsPacked};
 
 use crate::report::{CapnReport, report_at};
 use capn_canon::Refusal;
@@ -166,7 +166,7 @@ fn report_of_refusal(refusal: Refusal) -> CapnReport
 
 /// Reports a refusal: its numbers in the report, and its status.
 pub fn refuse(refusal: Refusal, report: &mut CapnReport) -> u32
-    ensures { Tells result report.new refusal }
+    ensures { Reports result report.new refusal }
 {
     *report = report_of_refusal(refusal);
     code_of(refusal)
@@ -174,7 +174,7 @@ pub fn refuse(refusal: Refusal, report: &mut CapnReport) -> u32
 
 /// Reports a refusal of packed bytes: its number in the report, and its status.
 pub fn refuse_packed(fault: UnpackFault, report: &mut CapnReport) -> u32
-    ensures { TellsPacked result report.new fault }
+    ensures { ReportsPacked result report.new fault }
 {
     *report = report_at(number_of_packed(fault));
     code_of_packed(fault)

@@ -5,11 +5,11 @@ ghost use Rattle.capn_value.specs.Tree.{Tree as Value};
 ghost use Rattle.capn_walk.specs.Accepted.{IsBounded};
 ghost use Rattle.capn_canon.specs.Denotes.{Denotes};
 ghost use Rattle.capn_canon.specs.Refusal.{IsUnacceptedIn};
-ghost use Rattle.capn_canon.specs.MemoryNeed.{MayWantMemory};
+ghost use Rattle.capn_canon.specs.MemoryNeed.{MayNeedMemory};
 ghost use Rattle.capn_canon.specs.declared.refusal.Refusal.{Refusal as Refusals};
 ghost use Rattle.capn_canon.specs.declared.form.Form.TheVariants as forms;
 ghost use Rattle.capn_c.specs.Calls.{form_named, GiveLimits, IsTariff, bounds_of};
-ghost use Rattle.capn_c.specs.StatusCodes.{Tells, answered, at_number, is_status};
+ghost use Rattle.capn_c.specs.StatusCodes.{Reports, answered, at_number, is_status};
 ghost use Rattle.capn_c.specs.Figures.{FiguresIn, IsFlat, MeasuresIn};
 
 use crate::status_codes::{BAD_FORM, DONE, refuse};
@@ -17,7 +17,7 @@ use crate::figures::{CapnFigures, figures_of};
 use crate::limits::{CapnLimits, flat_form_of, limits_of};
 use crate::message_measures::{Measured, measure_bare, measure_frame};
 use crate::report::{CapnReport, answer_of, report_at};
-use capn_canon::{Form, Refusal, account};
+use capn_canon::{Form, Refusal, survey_bytes};
 use capn_walk::Limits;
 use std::alloc::Global;
 
@@ -26,7 +26,7 @@ fn measure_in(alloc: Global, form: Form, bytes: &[u8], limits: Limits) -> Option
     requires { (form ≡ forms.Stream) ⊎ (form ≡ forms.Bare) }
     ensures found { IfSome result (λ m. MeasuresIn form bytes.now limits m) }
     ensures wanted { (v : Value) → Denotes form bytes.now limits v → result ≡ None
-        → MayWantMemory form bytes.now limits }
+        → MayNeedMemory form bytes.now limits }
 {
     match form {
         Form::Stream => measure_frame(alloc, bytes, limits),
@@ -50,12 +50,13 @@ fn survey_in(
         × (report.new ≡ answered 0 figures.new.paid figures.new.visits) }
     ensures only { (v : Value) → Denotes form bytes.now limits v → (result ≡ 0) ⊎ (result ≡ 8) }
     ensures listed { IsTrue (is_status result) }
-    ensures refused { 8 ≤ result → (e : Refusals) × Tells result report.new e × IsUnacceptedIn form bytes.now limits e }
-    ensures wanted { result ≡ 8 → MayWantMemory form bytes.now limits }
+    ensures refused { 8 ≤ result → (e : Refusals) × Reports result report.new e
+        × IsUnacceptedIn form bytes.now limits e }
+    ensures wanted { result ≡ 8 → MayNeedMemory form bytes.now limits }
     ensures bounded { IsBounded limits.budget report.new.paid report.new.visits }
     ensures kept { result ≢ 0 → figures.new ≡ figures.old }
 {
-    match account(alloc, form, bytes, limits) {
+    match survey_bytes(alloc, form, bytes, limits) {
         Ok(surveyed) => match measure_in(alloc, form, bytes, limits) {
             Some(measured) => {
                 *figures = figures_of(surveyed, measured);
@@ -97,10 +98,10 @@ pub extern "C" fn capn_survey(
     ensures blank { 1 ≤ result → result ≤ 4 → report.new ≡ at_number 0 }
     ensures listed { IsTrue (is_status result) }
     // What each refusal means; no other status stands for it.
-    ensures refused { 5 ≤ result → (e : Refusals) × Tells result report.new e
+    ensures refused { 5 ≤ result → (e : Refusals) × Reports result report.new e
         × IsUnacceptedIn (form_named form) bytes.now (bounds_of limits.now) e }
     // Memory is needed only for a depth above 64, and for where two segments or more end.
-    ensures wanted { result ≡ 8 → MayWantMemory (form_named form) bytes.now (bounds_of limits.now) }
+    ensures wanted { result ≡ 8 → MayNeedMemory (form_named form) bytes.now (bounds_of limits.now) }
     // No walk pays beyond its budget.
     ensures bounded { IsBounded limits.now.budget report.new.paid report.new.visits }
     // If the call has no answer, the figures are as they were.

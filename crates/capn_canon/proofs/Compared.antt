@@ -15,7 +15,7 @@ use Rattle.capn_value.specs.Cost.{height}
 use Rattle.capn_walk.specs.declared.target.Target.TheVariants as targets
 use Rattle.capn_walk.specs.declared.target.Shape.TheVariants as shapes
 use Rattle.capn_walk.specs.Target.{target}
-use Rattle.capn_walk.specs.ValueAt.{AreAt, AreWords, words_from}
+use Rattle.capn_walk.specs.ValueAt.{AreAt, StandAt, words_from}
 use Rattle.capn_walk.specs.ValueAt.{IsInside}
 use Rattle.capn_canon.specs.Layout.{size, sizes, point, points, lay, lays, struct_to, list_to}
 use Rattle.capn_canon.specs.inner.Sound.{Sound}
@@ -23,7 +23,7 @@ use Rattle.capn_canon.proofs.LaidPointers.{struct-names, list-names}
 use Rattle.capn_canon.proofs.KeptLengths.{kept_words-le, kept_slots-le}
 use Rattle.capn_canon.proofs.LayLengths.{length-lay, length-points}
 use Rattle.capn_canon.specs.inner.ReadyPlaces.{AreReady}
-use Rattle.capn_canon.specs.inner.WordsOfLayout.{Stand, IsLaidAt, AreLaidAt, Tells}
+use Rattle.capn_canon.specs.inner.WordsOfLayout.{Stand, IsLaidAt, AreLaidAt, AnswersIf}
 use Rattle.capn_canon.proofs.Nulls.{kept-slots}
 use Rattle.capn_canon.proofs.Shaped.{IsNode, as-node, IsLinks, as-links}
 use Rattle.capn_canon.proofs.Standing.{stand-none, stand-join, stand-front, stand-back, stand-room, stand-cons}
@@ -180,8 +180,8 @@ module _ (all : List ℕ) (a b s w from to pads : ℕ)
 
     words-here : Stand all to struct-is.words
     words-here =
-        let h : AreWords (all ∷ []) 0 w struct-is.words =
-        subst (λ (k : ℕ). AreWords (all ∷ []) k w struct-is.words) first-segment
+        let h : StandAt (all ∷ []) 0 w struct-is.words =
+        subst (λ (k : ℕ). StandAt (all ∷ []) k w struct-is.words) first-segment
         (subst (λ (k : ℕ). take k (words_from (all ∷ []) s w) ≡ struct-is.words) (sym struct-is.number)
         struct-is.own) in
         elim in-place as (λ _. Stand all to struct-is.words) [
@@ -263,8 +263,8 @@ module _ (all : List ℕ) (a b s w from to pads : ℕ)
 
     pub struct-told : (r : Option ℕ)
         → ((ts : Trees) → AreAt (all ∷ []) 0 (to + a) ts → count ts ≡ b
-        → Tells (AreLaidAt all ts (to + a) (to + a + b)) (to + a + b + sizes ts) r) →
-        Tells (IsLaidAt all v from to) (to + size v) r
+        → AnswersIf (AreLaidAt all ts (to + a) (to + a + b)) (to + a + b + sizes ts) r) →
+        AnswersIf (IsLaidAt all v from to) (to + size v) r
     struct-told r h =
         told (AreLaidAt all struct-is.slots (to + a) (to + a + b)) (IsLaidAt all v from to)
         (to + a + b + sizes struct-is.slots) (to + size v) r
@@ -348,8 +348,8 @@ module _ (all : List ℕ) (n s w from to pads : ℕ)
 
     pub links-told : (r : Option ℕ)
         → ((ts : Trees) → AreAt (all ∷ []) 0 to ts → count ts ≡ n
-        → Tells (AreLaidAt all ts to (to + n)) (to + n + sizes ts) r) →
-        Tells (IsLaidAt all v from to) (to + size v) r
+        → AnswersIf (AreLaidAt all ts to (to + n)) (to + n + sizes ts) r) →
+        AnswersIf (IsLaidAt all v from to) (to + size v) r
     links-told r h =
         told (AreLaidAt all links-is.slots to (to + n)) (IsLaidAt all v from to) (to + n + sizes links-is.slots)
         (to + size v) r

@@ -25,7 +25,7 @@ use Rattle.capn_canon.proofs.LaidPointers.{rows-names}
 use Rattle.capn_canon.proofs.LayLengths.{length-lays, length-points, length-row_contents}
 use Rattle.capn_canon.specs.inner.RowWords.{kept_each}
 use Rattle.capn_canon.specs.inner.ReadyPlaces.{AreReady}
-use Rattle.capn_canon.specs.inner.WordsOfLayout.{Stand, IsLaidAt, AreLaidAt, RowsLaidAt, Tells, AreReadyRows}
+use Rattle.capn_canon.specs.inner.WordsOfLayout.{Stand, IsLaidAt, AreLaidAt, RowsLaidAt, AnswersIf, AreReadyRows}
 use Rattle.capn_canon.proofs.EachRow.{kept-rows-words, kept-rows-slots}
 use Rattle.capn_canon.proofs.Shaped.{IsRows, as-rows}
 use Rattle.capn_canon.proofs.Compared.{laid-room}
@@ -388,8 +388,9 @@ module _ (all : List ℕ) (n a b span s w from to pads : ℕ)
 
     pub rows-told : (r : Option ℕ)
         → ((bs : Bodies) → RowsAt (all ∷ []) a b 0 (to + 1) bs → count_rows bs ≡ n
-        → Tells (RowsLaidAt all a b bs (to + 1) (to + 1 + n * (a + b))) (to + 1 + n * (a + b) + sizes_in_rows bs) r) →
-        Tells (IsLaidAt all v from to) (to + size v) r
+        → AnswersIf (RowsLaidAt all a b bs (to + 1) (to + 1 + n * (a + b)))
+        (to + 1 + n * (a + b) + sizes_in_rows bs) r) →
+        AnswersIf (IsLaidAt all v from to) (to + size v) r
     rows-told r h =
         told (RowsLaidAt all a b rows-is.bodies (to + 1) (to + 1 + n * (a + b))) (IsLaidAt all v from to)
         (to + 1 + n * (a + b) + sizes_in_rows rows-is.bodies) (to + size v) r

@@ -16,7 +16,7 @@ use Rattle.capn_canon.specs.Layout.{canon}
 use Rattle.capn_canon.specs.Reads.{IsFramed, Unpacks, Reads}
 use Rattle.capn_canon.specs.Denotes.{Denotes, AnswersMessage, Answers}
 use Rattle.capn_canon.specs.Refusal.{IsRefusedMessage, IsRefused, IsPaidWithin}
-use Rattle.capn_canon.specs.MemoryNeed.{MayWantBytes, MayWantBytesIn}
+use Rattle.capn_canon.specs.MemoryNeed.{MayNeedBytes, MayNeedBytesIn}
 use Rattle.capn_canon.specs.Canonicity.{IsCanonicalForm}
 use Rattle.capn_canon.specs.inner.Outcomes.{AreCanonicalised}
 use Rattle.capn_canon.proofs.Answered.{answers_only, answers_length, answers_form}
@@ -62,9 +62,9 @@ refused_as form bs limits m is (refusals.Packed e) h = absurd h
 -- what a call answers or refuses for a message is so for the bytes that are read as it,
 pub canonicalised_as : {T : Type 0} (r : Result T Refusal) (bytes_of : T → List ℕ) (price_of : T → ℕ) (form : Form)
     (bs : List ℕ) (limits : Bounds) (m : List (List ℕ)) → Reads form bs limits.message_words m
-    → (MayWantBytes m limits → MayWantBytesIn form bs limits)
+    → (MayNeedBytes m limits → MayNeedBytesIn form bs limits)
     → IfOk r (λ c. AnswersMessage m limits (bytes_of c) (price_of c)) → IfErr r (λ e. IsRefusedMessage m limits e)
-    → (IsErrOf r refusals.Memory → MayWantBytes m limits)
+    → (IsErrOf r refusals.Memory → MayNeedBytes m limits)
     → MatchResult r (λ c. price_of c ≤ limits.budget) (λ e. IsPaidWithin limits.budget e)
     → AreCanonicalised form bs limits r bytes_of price_of
 canonicalised_as r bytes_of price_of form bs limits m is want f e w b = record {

@@ -14,7 +14,7 @@ use Rattle.capn_canon.specs.declared.form.Form.TheVariants as forms
 use Rattle.capn_canon.specs.declared.refusal.Refusal.{Refusal}
 use Rattle.capn_canon.specs.declared.refusal.Refusal.TheVariants as refusals
 use Rattle.capn_canon.specs.Reads.{IsFramed, Reads, Unpacks}
-use Rattle.capn_canon.specs.MemoryNeed.{MayWantMemory, MayWantBytes, MayWantBytesIn}
+use Rattle.capn_canon.specs.MemoryNeed.{MayNeedMemory, MayNeedBytes, MayNeedBytesIn}
 
 -- a call that needs no memory for a depth of at most 64 needed it for one above that
 pub deep : {T : Type 0} (r : Result T Refusal) (depth : ℕ) → (depth ≤ 64 → IfErr r (λ e. e ≢ refusals.Memory))
@@ -44,13 +44,13 @@ framed_some bs most m h =
     let l = w.0.0.0 in
     omega arith
 
-wanted_some : (text : List ℕ) (limits : Bounds) → MayWantMemory forms.Stream text limits → 0 < length text
+wanted_some : (text : List ℕ) (limits : Bounds) → MayNeedMemory forms.Stream text limits → 0 < length text
 wanted_some text limits (inl h) = let l = h.0.0.0.0 in omega arith
 wanted_some text limits (inr h) = framed_some text limits.message_words h.1 h.2
 
 -- memory is needed for a packed text if it is for what it unpacks to
 pub packed_wanted : (bs text : List ℕ) (limits : Bounds) → Unpacks bs limits.message_words text
-    → MayWantMemory forms.Stream text limits → MayWantMemory forms.Packed bs limits
+    → MayNeedMemory forms.Stream text limits → MayNeedMemory forms.Packed bs limits
 packed_wanted bs text limits u h =
     starts_within bs text (limits.message_words + most_table_words) u.packs (wanted_some text limits h) u.room
 
@@ -58,20 +58,20 @@ packed_wanted bs text limits u h =
 
 -- what is needed for a message is needed for the bytes that are read bare as it,
 pub bare_bytes_wanted : (bs : List ℕ) (limits : Bounds) (m : List (List ℕ)) → Reads forms.Bare bs limits.message_words m
-    → MayWantBytes m limits → MayWantBytesIn forms.Bare bs limits
+    → MayNeedBytes m limits → MayNeedBytesIn forms.Bare bs limits
 bare_bytes_wanted bs limits m r (inl d) = inl (d, m, r)
 bare_bytes_wanted bs limits m r (inr (v, is, free)) = inr (v, record { message = m; reads = r; value = is }, free)
 
 -- or as its frame,
 pub framed_bytes_wanted : (bs : List ℕ) (limits : Bounds) (m : List (List ℕ))
     → Reads forms.Stream bs limits.message_words m
-    → MayWantBytes m limits → MayWantBytesIn forms.Stream bs limits
+    → MayNeedBytes m limits → MayNeedBytesIn forms.Stream bs limits
 framed_bytes_wanted bs limits m r (inl d) = inl (inr (d, m, r))
 framed_bytes_wanted bs limits m r (inr (v, is, free)) = inr (v, record { message = m; reads = r; value = is }, free)
 
 -- and of a packed text where it is of what it unpacks to
 pub packed_bytes_wanted : (bs text : List ℕ) (limits : Bounds) → Unpacks bs limits.message_words text
-    → MayWantBytesIn forms.Stream text limits → MayWantBytesIn forms.Packed bs limits
+    → MayNeedBytesIn forms.Stream text limits → MayNeedBytesIn forms.Packed bs limits
 packed_bytes_wanted bs text limits u (inl h) = inl (packed_wanted bs text limits u h)
 packed_bytes_wanted bs text limits u (inr (v, d, free)) =
     inr (v, record { message = d.message; reads = (text, u, d.reads); value = d.value }, free)

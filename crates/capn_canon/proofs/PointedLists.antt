@@ -28,7 +28,7 @@ use Rattle.capn_canon.specs.Layout.{size, sizes, list_to}
 use Rattle.capn_canon.specs.inner.ReadyPlaces.{IsReady}
 use Rattle.capn_canon.specs.inner.SlotRuns.{IsRun, AreIn, IsList}
 use Rattle.capn_canon.specs.inner.Sound.{Sound}
-use Rattle.capn_canon.specs.inner.WordsOfLayout.{Stand, IsLaidAt, AreLaidAt, Tells}
+use Rattle.capn_canon.specs.inner.WordsOfLayout.{Stand, IsLaidAt, AreLaidAt, AnswersIf}
 use Rattle.capn_canon.proofs.Compared.{links-passes, links-told, links-check}
 use Rattle.capn_canon.proofs.ComparedList.{list-size, list-passes, list-stands, list-bits}
 use Rattle.capn_canon.proofs.Copied.{part-below}
@@ -185,8 +185,8 @@ module _ (all : List ℕ) (x from next n : ℕ) (h : IsList all x Link n from ne
 
     pub links-answer : (res : Option ℕ)
         → ((ts : Trees) → AreIn all (record { from = next; end = next + n; next = next + n }) ts
-        → Tells (AreLaidAt all ts next (next + n)) (next + n + sizes ts) res)
-        → (v : Tree) → IsAt (all ∷ []) (here from) v → Tells (IsLaidAt all v from next) (next + size v) res
+        → AnswersIf (AreLaidAt all ts next (next + n)) (next + n + sizes ts) res)
+        → (v : Tree) → IsAt (all ∷ []) (here from) v → AnswersIf (IsLaidAt all v from next) (next + size v) res
     links-answer res t v i =
         let l = listed all x from next Link n h link-whole in
         let d : n ≡ next + n - next = omega arith in

@@ -19,7 +19,7 @@ use Rattle.capn_walk.proofs.shared.Segments.{segment-room}
 use Rattle.capn_canon.specs.Layout.{size, sizes_in_rows, list_to}
 use Rattle.capn_canon.specs.inner.RowWords.{kept_each}
 use Rattle.capn_canon.specs.inner.SlotRuns.{IsList}
-use Rattle.capn_canon.specs.inner.WordsOfLayout.{IsLaidAt, RowsLaidAt, AreReadyRows, Tells}
+use Rattle.capn_canon.specs.inner.WordsOfLayout.{IsLaidAt, RowsLaidAt, AreReadyRows, AnswersIf}
 use Rattle.capn_canon.proofs.ComparedRows.{rows-passes, rows-check, rows-told, rows-few}
 use Rattle.capn_canon.proofs.OneSegment.{here}
 use Rattle.capn_canon.proofs.Pointed.{list-leads}
@@ -79,9 +79,9 @@ module _ (all : List ℕ) (x from next s w n a b span pads k : ℕ) (h : IsList 
 
     pub composite-told : (res : Option ℕ)
         → ((bs : Bodies) → RowsAt (all ∷ []) a b 0 (next + 1) bs → count_rows bs ≡ n
-        → Tells (RowsLaidAt all a b bs (next + 1) (next + 1 + n * (a + b)))
+        → AnswersIf (RowsLaidAt all a b bs (next + 1) (next + 1 + n * (a + b)))
         (next + 1 + n * (a + b) + sizes_in_rows bs) res)
-        → (v : Tree) → IsAt (all ∷ []) (here from) v → Tells (IsLaidAt all v from next) (next + size v) res
+        → (v : Tree) → IsAt (all ∷ []) (here from) v → AnswersIf (IsLaidAt all v from next) (next + size v) res
     composite-told res t v i = rows-told all n a b span s w from next pads names small within h.order v (inside-at v i)
         (sound-at all from most_height next h.ready v i) h.fits p.0 p.1 p.2 p.3 p.4 res t
 

@@ -18,7 +18,7 @@ use Rattle.capn_walk.proofs.shared.Segments.{segment-room}
 use Rattle.capn_canon.specs.declared.run.Run.{Run}
 use Rattle.capn_canon.specs.Layout.{size, sizes, struct_to}
 use Rattle.capn_canon.specs.inner.SlotRuns.{IsRun, AreIn, Steps, IsStruct, Passes}
-use Rattle.capn_canon.specs.inner.WordsOfLayout.{IsLaidAt, AreLaidAt, Tells}
+use Rattle.capn_canon.specs.inner.WordsOfLayout.{IsLaidAt, AreLaidAt, AnswersIf}
 use Rattle.capn_canon.proofs.Compared.{struct-passes, struct-is, struct-told, struct-ready, struct-from-slots}
 use Rattle.capn_canon.proofs.Compared.{struct-to-slots, struct-size, slots-here}
 use Rattle.capn_canon.proofs.FoundNear.{Found, near-struct}
@@ -152,8 +152,8 @@ module _ (all : List ℕ) (r : Run) (x a b : ℕ) (h : IsStruct all x a b r) whe
 
     pub below-told : (res : Option ℕ)
         → ((ts : Trees) → AreIn all (record { from = r.next + a; end = r.next + a + b; next = r.next + a + b }) ts
-        → Tells (AreLaidAt all ts (r.next + a) (r.next + a + b)) (r.next + a + b + sizes ts) res)
-        → Tells (IsLaidAt all value r.from r.next) (r.next + size value) res
+        → AnswersIf (AreLaidAt all ts (r.next + a) (r.next + a + b)) (r.next + a + b + sizes ts) res)
+        → AnswersIf (IsLaidAt all value r.from r.next) (r.next + size value) res
     below-told res t =
         let n = first all r h.some h.stands in
         let e : b ≡ r.next + a + b - (r.next + a) = omega arith in
@@ -162,7 +162,7 @@ module _ (all : List ℕ) (r : Run) (x a b : ℕ) (h : IsStruct all x a b r) whe
         (λ ts i c. t ts (record { are = i; count = c ∙ e }))
 
     -- a struct without slots has nothing below it
-    pub none-told : b ≡ 0 → Tells (IsLaidAt all value r.from r.next) (r.next + size value) (Some (r.next + a + b))
+    pub none-told : b ≡ 0 → AnswersIf (IsLaidAt all value r.from r.next) (r.next + size value) (Some (r.next + a + b))
     none-told z = below-told (Some (r.next + a + b)) nothing
       where
         nothing : (ts : Trees)

@@ -13,7 +13,7 @@ use Rattle.capn_value.specs.Trim.{kept_words, kept_slots, kept_words_of_rows, ke
 use Rattle.capn_value.specs.Trim.{trimmed_rows}
 use Rattle.capn_walk.specs.declared.target.Target.TheVariants as targets
 use Rattle.capn_walk.specs.declared.target.Shape.TheVariants as shapes
-use Rattle.capn_walk.specs.ValueAt.{IsAt, AreWords}
+use Rattle.capn_walk.specs.ValueAt.{IsAt, StandAt}
 use Rattle.capn_walk.specs.Visits.{visits}
 use Rattle.capn_value.specs.Cost.{height, cost}
 use Rattle.capn_canon.proofs.Tight.{TightAt, AreTight, TightRows, loosen, Pays, exact}
@@ -46,7 +46,7 @@ module _ (all : List ℕ) (small : length all ≤ 2 ^ 29) where
   only = all ∷ []
 
   row-at : (a b from : ℕ) (xs : List ℕ) (ts : Trees) (bs : Bodies) → length xs ≡ a → count ts ≡ b
-      → AreWords only 0 from xs → AreTight only 0 (from + a) ts →
+      → StandAt only 0 from xs → AreTight only 0 (from + a) ts →
       TightRows only a b 0 (from + a + b) bs → TightRows only a b 0 from (body xs ts bs)
   row-at a b from xs ts bs la lb ws ss h = (la, lb, ws, ss, h)
 

@@ -11,7 +11,7 @@ use Rattle.capn_value.specs.Tree.{Tree, rows, Trees, count, front, Bodies, no_bo
 use Rattle.capn_value.specs.Trim.{kept_slots, kept_words_of_rows, kept_slots_of_rows}
 use Rattle.capn_value.specs.Cost.{height, greatest, greatest_in_rows}
 use Rattle.capn_walk.specs.declared.target.Shape.TheVariants as shapes
-use Rattle.capn_walk.specs.ValueAt.{AreAt, AreWords, RowsAt}
+use Rattle.capn_walk.specs.ValueAt.{AreAt, StandAt, RowsAt}
 use Rattle.capn_walk.proofs.shared.Unique.{unique-rows}
 use Rattle.capn_canon.specs.Layout.{size, sizes, sizes_in_rows, row_size, point, list_to}
 use Rattle.capn_canon.specs.inner.LayoutSteps.{laid, laid_slots, laid_rows, AreRowsOver}
@@ -32,7 +32,7 @@ pub record IsRow (m : List (List ℕ)) (s w a b number depth x y at : ℕ) (p : 
   pub others : Bodies
   pub wide : length words ≡ a
   pub long : count slots ≡ b
-  pub own : AreWords m s w words
+  pub own : StandAt m s w words
   pub below : AreAt m s (w + a) slots
   pub are : RowsAt m a b s (w + a + b) others
   pub count : suc (count_rows others) ≡ number

@@ -12,7 +12,7 @@ use Rattle.capn_walk.specs.declared.target.Target.TheVariants as targets
 use Rattle.capn_walk.specs.declared.target.Shape.{Shape}
 use Rattle.capn_walk.specs.declared.target.Shape.TheVariants as shapes
 use Rattle.capn_walk.specs.Target.{target}
-use Rattle.capn_walk.specs.ValueAt.{IsAt, AreAt, RowsAt, AreWords, AreElements, words_from}
+use Rattle.capn_walk.specs.ValueAt.{IsAt, AreAt, RowsAt, StandAt, AreElements, words_from}
 use Rattle.capn_walk.specs.ValueAt.{IsInside}
 
 both : (P : ℕ → ℕ → Type 0) (a b c d : ℕ) → a ≡ b → c ≡ d → P a c → P b d
@@ -78,7 +78,7 @@ module _ (m : List (List ℕ)) where
       inside-of (cap k) h = cc
       inside-of (node ws ss) h = (
         same-shape h.segment h.start h.pads (shapes.Node (length ws) (count ss)) h.is,
-        both (λ (t u : ℕ). AreWords m t u ws) h.segment s h.start start (same-segment h.segment h.start h.pads _ h.is)
+        both (λ (t u : ℕ). StandAt m t u ws) h.segment s h.start start (same-segment h.segment h.start h.pads _ h.is)
             (same-start h.segment h.start h.pads _ h.is) h.inside.0,
         both (λ (t u : ℕ). AreAt m t (u + length ws) ss) h.segment s h.start start
             (same-segment h.segment h.start h.pads _ h.is) (same-start h.segment h.start h.pads _ h.is) h.inside.1,
@@ -106,7 +106,7 @@ module _ (m : List (List ℕ)) where
       )
       inside-of (octs xs) h = (
         same-shape h.segment h.start h.pads (shapes.Many W64 (length xs)) h.is,
-        both (λ (t u : ℕ). AreWords m t u xs) h.segment s h.start start (same-segment h.segment h.start h.pads _ h.is)
+        both (λ (t u : ℕ). StandAt m t u xs) h.segment s h.start start (same-segment h.segment h.start h.pads _ h.is)
             (same-start h.segment h.start h.pads _ h.is) h.inside,
       )
       inside-of (links ts) h = (

@@ -4,7 +4,7 @@ use Rattle.std.proofs.Common.{take, drop, slice_index, refl, ap, ap₂, sym, ◌
 use Rattle.std.proofs.Common.{length-drop, Option, Some, None}
 use Rattle.std.proofs.Math.Seq.{drop-cons}
 use Rattle.std.proofs.lemmas.List.{drop-drop}
-use Rattle.capn_canon.specs.inner.WordsOfLayout.{Stand, Tells}
+use Rattle.capn_canon.specs.inner.WordsOfLayout.{Stand, AnswersIf}
 
 pub take-plus : (m n : ℕ) (xs : List ℕ) → take (m + n) xs ≡ take m xs ++ take n (drop m xs)
 take-plus zero n xs = let e : 0 + n ≡ n = omega arith in ap (λ (k : ℕ). take k xs) e
@@ -88,6 +88,6 @@ module _ (all : List ℕ) (at : ℕ) where
   stand-tail x xs lt h = let e = sym (ap (λ (zs : List ℕ). take (suc (length xs)) zs) (drop-cons all at 0 lt)) ∙ h in cc
 
 -- the same question has the same answer
-pub told : (P Q : Type 0) (m n : ℕ) (r : Option ℕ) → (P → Q) → (Q → P) → m ≡ n → Tells P m r → Tells Q n r
+pub told : (P Q : Type 0) (m n : ℕ) (r : Option ℕ) → (P → Q) → (Q → P) → m ≡ n → AnswersIf P m r → AnswersIf Q n r
 told P Q m n (Some k) f g e h = (f h.0, h.1 ∙ e)
 told P Q m n None f g e h = λ q. h (g q)

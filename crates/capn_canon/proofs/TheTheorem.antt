@@ -101,7 +101,7 @@ module _ (form : Form) (bs : List ℕ) (limits : Bounds) (few : limits.message_w
 
 -- a walk that is refused paid at most the budget
 refused_within : (m : List (List ℕ)) (limits : Bounds) (s : Stopped)
-    → walks.IsRefused m limits s.fault s.place s.paid s.visits → s.paid ≤ limits.budget
+    → walks.IsWalkRefused m limits s.fault s.place s.paid s.visits → s.paid ≤ limits.budget
 refused_within m limits s (inl (a, b, c, p, q)) = omega arith
 refused_within m limits s (inr (a, h)) =
     let l = h.within.paid in

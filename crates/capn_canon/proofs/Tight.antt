@@ -17,7 +17,7 @@ use Rattle.capn_walk.specs.declared.target.Shape.TheVariants as shapes
 use Rattle.capn_walk.specs.Target.{target}
 use Rattle.capn_walk.specs.Visits.{Visit, pays, fails, price, places, row_places, slots, visits}
 use Rattle.capn_walk.specs.Accepted.{paid_of, AllPay}
-use Rattle.capn_walk.specs.ValueAt.{IsAt, AreAt, RowsAt, AreWords, AreElements, words_from}
+use Rattle.capn_walk.specs.ValueAt.{IsAt, AreAt, RowsAt, StandAt, AreElements, words_from}
 use Rattle.capn_words.proofs.shared.Choices.{pick}
 use Rattle.capn_walk.proofs.shared.Walks.{slot, visits-null, visits-cap, visits-object}
 use Rattle.capn_walk.proofs.shared.Costs.{paid-append}
@@ -37,14 +37,14 @@ module _ (m : List (List ℕ)) where
     TightAt at nil = target m at ≡ Ok targets.Nil
     TightAt at (cap k) = target m at ≡ Ok (targets.Cap k)
     TightAt at (node ws ss) =
-        Close at (shapes.Node (length ws) (count ss)) (λ s w. AreWords m s w ws × AreTight s (w + length ws) ss)
+        Close at (shapes.Node (length ws) (count ss)) (λ s w. StandAt m s w ws × AreTight s (w + length ws) ss)
     TightAt at (voids n) = Close at (shapes.Many W0 n) (λ s w. ⊤)
     TightAt at (bits xs) =
         Close at (shapes.Many W1 (length xs)) (λ s w. AreElements 64 1 (words_from m s w) (map from_bool xs))
     TightAt at (bytes xs) = Close at (shapes.Many W8 (length xs)) (λ s w. AreElements 8 8 (words_from m s w) xs)
     TightAt at (pairs xs) = Close at (shapes.Many W16 (length xs)) (λ s w. AreElements 4 16 (words_from m s w) xs)
     TightAt at (quads xs) = Close at (shapes.Many W32 (length xs)) (λ s w. AreElements 2 32 (words_from m s w) xs)
-    TightAt at (octs xs) = Close at (shapes.Many W64 (length xs)) (λ s w. AreWords m s w xs)
+    TightAt at (octs xs) = Close at (shapes.Many W64 (length xs)) (λ s w. StandAt m s w xs)
     TightAt at (links ts) = Close at (shapes.Many Link (count ts)) (λ s w. AreTight s w ts)
     TightAt at (rows bs) = (a b : ℕ)
         × Close at (shapes.Rows (count_rows bs) a b (count_rows bs * (a + b))) (λ s w. TightRows a b s (suc w) bs)
@@ -56,7 +56,7 @@ module _ (m : List (List ℕ)) where
     pub TightRows : ℕ → ℕ → ℕ → ℕ → Bodies → Type 0
     TightRows a b s w no_bodies = ⊤
     TightRows a b s w (body ws ss bs) =
-        (length ws ≡ a) × (count ss ≡ b) × AreWords m s w ws × AreTight s (w + a) ss × TightRows a b s (w + a + b) bs
+        (length ws ≡ a) × (count ss ≡ b) × StandAt m s w ws × AreTight s (w + a) ss × TightRows a b s (w + a + b) bs
 
   -- what stands so stands there
   mutual

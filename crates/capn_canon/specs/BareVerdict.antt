@@ -6,13 +6,13 @@ use Rattle.capn_value.specs.Tree.{Tree}
 use Rattle.capn_value.specs.FirstCap.{first_cap}
 use Rattle.capn_walk.specs.Accepted.{IsValueOf, paid, number_of_visits}
 use Rattle.capn_walk.specs.Limits.{Bounds}
-use Rattle.capn_canon.specs.declared.surveyed_bare.Checked.{Checked}
+use Rattle.capn_canon.specs.declared.surveyed_bare.SurveyedBare.{SurveyedBare}
 use Rattle.capn_canon.specs.declared.form.Form.TheVariants as forms
 use Rattle.capn_canon.specs.Denotes.{Denotes}
 use Rattle.capn_canon.specs.Layout.{canon}
 
 -- the bytes denote a value without capabilities, and the answer is yes exactly if they are its canonical bytes
-pub record Checks (bs : List ℕ) (limits : Bounds) (yes : Bool) : Type 0 where
+pub record SaysCanonical (bs : List ℕ) (limits : Bounds) (yes : Bool) : Type 0 where
   pub value : Tree
   pub is : Denotes forms.Bare bs limits value
   pub free : first_cap value ≡ None
@@ -21,7 +21,7 @@ pub record Checks (bs : List ℕ) (limits : Bounds) (yes : Bool) : Type 0 where
 -- the words are an accepted message; the check reports what its walk pays, how many visits it makes and the first
 -- capability of its value, and says yes if and only if the value has none and the bytes of the words are its canonical
 -- bytes
-pub record IsCheck (words : List ℕ) (limits : Bounds) (c : Checked) : Type 0 where
+pub record IsBareSurvey (words : List ℕ) (limits : Bounds) (c : SurveyedBare) : Type 0 where
   pub value : Tree
   pub is : IsValueOf (words ∷ []) limits value
   pub pays : c.paid ≡ paid (words ∷ []) limits

@@ -18,16 +18,16 @@ MayBeDeep form bs limits = (64 < limits.depth) × (message : List (List ℕ)) ×
 
 -- memory may be needed: of bare words, if they may be so deep; of a stream, there, and if a whole frame of two segments
 -- or more stands first; of a packed text, only if a whole group within the maximum stands first
-abbrev pub MayWantMemory : Form → List ℕ → Bounds → Type 0
-MayWantMemory forms.Bare bs limits = MayBeDeep forms.Bare bs limits
-MayWantMemory forms.Stream bs limits = HasTable bs limits.message_words ⊎ MayBeDeep forms.Stream bs limits
-MayWantMemory forms.Packed bs limits = StartsWithin bs (limits.message_words + most_table_words)
+abbrev pub MayNeedMemory : Form → List ℕ → Bounds → Type 0
+MayNeedMemory forms.Bare bs limits = MayBeDeep forms.Bare bs limits
+MayNeedMemory forms.Stream bs limits = HasTable bs limits.message_words ⊎ MayBeDeep forms.Stream bs limits
+MayNeedMemory forms.Packed bs limits = StartsWithin bs (limits.message_words + most_table_words)
 
 -- memory may be needed to lay out a message: it may be more than 64 objects deep, or has canonical bytes
-abbrev pub MayWantBytes : List (List ℕ) → Bounds → Type 0
-MayWantBytes message limits = (64 < limits.depth) ⊎ ((v : Tree) × IsValueOf message limits v × (first_cap v ≡ None))
+abbrev pub MayNeedBytes : List (List ℕ) → Bounds → Type 0
+MayNeedBytes message limits = (64 < limits.depth) ⊎ ((v : Tree) × IsValueOf message limits v × (first_cap v ≡ None))
 
 -- memory may be needed for bytes that are read in a form: it may be needed to survey them, or they have canonical bytes
-abbrev pub MayWantBytesIn : Form → List ℕ → Bounds → Type 0
-MayWantBytesIn form bs limits =
-    MayWantMemory form bs limits ⊎ ((v : Tree) × Denotes form bs limits v × (first_cap v ≡ None))
+abbrev pub MayNeedBytesIn : Form → List ℕ → Bounds → Type 0
+MayNeedBytesIn form bs limits =
+    MayNeedMemory form bs limits ⊎ ((v : Tree) × Denotes form bs limits v × (first_cap v ≡ None))

@@ -19,7 +19,7 @@ use Rattle.capn_canon.specs.Reads.{Reads, Trails, Unpacks}
 
 -- the bytes are no frame of at most `most` words, or more than one
 abbrev pub IsMisframed : List ℕ → ℕ → Refusal → Type 0
-IsMisframed bs most (refusals.Frame e) = (e ≢ frame_faults.Memory) × frames.IsRefused bs most e
+IsMisframed bs most (refusals.Frame e) = (e ≢ frame_faults.Memory) × frames.IsFrameRefused bs most e
 IsMisframed bs most (refusals.Trailing at) = Trails bs most at
 IsMisframed bs most _ = ⊥
 
@@ -29,13 +29,13 @@ IsMisread forms.Bare bs most (refusals.Bare e) = ReadsBare bs (Err e)
 IsMisread forms.Bare bs most _ = ⊥
 IsMisread forms.Stream bs most r = IsMisframed bs most r
 IsMisread forms.Packed bs most (refusals.Packed e) = (e ≢ unpack_faults.Memory)
-    × packs.IsRefused bs (most + most_table_words) e
+    × packs.IsUnpackRefused bs (most + most_table_words) e
 IsMisread forms.Packed bs most r = (text : List ℕ) × Unpacks bs most text × IsMisframed text most r
 
 -- the message is not accepted, or its value has a capability, whose index is given; nothing is said of running out of
 -- memory
 abbrev pub IsRefusedMessage : List (List ℕ) → Bounds → Refusal → Type 0
-IsRefusedMessage message limits (refusals.Walk s) = walks.IsRefused message limits s.fault s.place s.paid s.visits
+IsRefusedMessage message limits (refusals.Walk s) = walks.IsWalkRefused message limits s.fault s.place s.paid s.visits
 IsRefusedMessage message limits (refusals.Capability k) = (v : Tree) × walks.IsValueOf message limits v
     × (first_cap v ≡ Some k)
 IsRefusedMessage message limits refusals.Memory = ⊤
@@ -59,7 +59,7 @@ IsPaidWithin budget _ = ⊤
 
 -- the message is not accepted; nothing is said of running out of memory
 abbrev pub IsUnaccepted : List (List ℕ) → Bounds → Refusal → Type 0
-IsUnaccepted message limits (refusals.Walk s) = walks.IsRefused message limits s.fault s.place s.paid s.visits
+IsUnaccepted message limits (refusals.Walk s) = walks.IsWalkRefused message limits s.fault s.place s.paid s.visits
 IsUnaccepted message limits refusals.Memory = ⊤
 IsUnaccepted message limits _ = ⊥
 

@@ -6,7 +6,7 @@ ghost use Rattle.capn_words.specs.Message.{IsMessage};
 ghost use Rattle.capn_value.specs.Tree.{Tree as Value};
 ghost use Rattle.capn_value.specs.FirstCap.{first_cap};
 ghost use Rattle.capn_value.specs.Cost.{most_height};
-ghost use Rattle.capn_walk.specs.Accepted.{root, IsValueOf, IsRefused as IsStopped, IsBounded};
+ghost use Rattle.capn_walk.specs.Accepted.{root, IsValueOf, IsWalkRefused as IsStopped, IsBounded};
 ghost use Rattle.capn_walk.specs.ValueAt.{IsAt};
 ghost use Rattle.capn_walk.specs.declared.target.Fault.TheVariants as faults;
 ghost use Rattle.capn_canon.specs.Denotes.{Denotes};
@@ -15,9 +15,9 @@ ghost use Rattle.capn_canon.specs.Refusal.{IsRefused, IsPaidWithin};
 ghost use Rattle.capn_canon.specs.declared.form.Form.TheVariants as forms;
 ghost use Rattle.capn_canon.specs.declared.refusal.Refusal.TheVariants as refusals;
 ghost use Rattle.capn_canon.specs.inner.ReadyPlaces.{IsReady};
-ghost use Rattle.capn_canon.specs.BareVerdict.{Checks, IsCheck};
+ghost use Rattle.capn_canon.specs.BareVerdict.{SaysCanonical, IsBareSurvey};
 
-use crate::surveyed_bare::Checked;
+use crate::surveyed_bare::SurveyedBare;
 use crate::layout_test::check_run;
 use crate::refusal::Refusal;
 use crate::run::Run;
@@ -49,13 +49,13 @@ pub fn are_canonical(space: &Bare<'_>) -> bool
 ///
 /// It refuses what the walk refuses, in the same way. It takes no memory for a depth of at most 64; `Memory`
 /// comes only where a growth was refused.
-pub fn check<A: Allocator + Copy>(
+pub fn survey_bare<A: Allocator + Copy>(
     alloc: A,
     space: &Bare<'_>,
     limits: Limits,
-) -> Result<Checked, Stopped>
+) -> Result<SurveyedBare, Stopped>
     // An answer: the message is accepted, what its walk pays, and whether its bytes are those of its value.
-    ensures found { IfOk result (λ c. IsCheck space.now limits c) }
+    ensures found { IfOk result (λ c. IsBareSurvey space.now limits c) }
     // A message that is accepted is answered, or a growth was refused;
     ensures only { (v : Value) → IsValueOf (space.now ∷ []) limits v
         → MatchResult result (λ c. c.capability ≡ first_cap v) (λ s. s.fault ≡ faults.Memory) }
@@ -76,7 +76,7 @@ pub fn check<A: Allocator + Copy>(
         Some(_) => false,
         None => are_canonical(space),
     };
-    Ok(Checked {
+    Ok(SurveyedBare {
         paid: told.paid,
         visits: told.visits,
         capability: told.capability,
@@ -91,7 +91,7 @@ pub fn is_canonical<A: Allocator + Copy>(
     limits: Limits,
 ) -> Result<bool, Refusal>
     // The answer is on the one value that the bytes denote, which has no capability.
-    ensures found { IfOk result (λ yes. Checks bytes.now limits yes) }
+    ensures found { IfOk result (λ yes. SaysCanonical bytes.now limits yes) }
     // Bytes that denote such a value are answered, unless memory runs out.
     ensures only { (v : Value) → Denotes forms.Bare bytes.now limits v → first_cap v ≡ None
         → MatchResult result (λ yes. IsTrue yes ↔ (canon v ≡ bytes.now)) (λ e. e ≡ refusals.Memory) }
@@ -102,7 +102,7 @@ pub fn is_canonical<A: Allocator + Copy>(
     ensures inline { limits.depth ≤ 64 → IfErr result (λ e. e ≢ refusals.Memory) }
 {
     match Bare::new(bytes) {
-        Ok(space) => match check(alloc, &space, limits) {
+        Ok(space) => match survey_bare(alloc, &space, limits) {
             Ok(checked) => match checked.capability {
                 Some(index) => Err(Refusal::Capability(index)),
                 None => Ok(checked.is_canonical),

@@ -13,7 +13,7 @@ ghost use Rattle.capn_canon.specs.Canonicity.{ReadsBack, PaysItsCost, IsItsOwnFo
 ghost use Rattle.capn_canon.specs.Refusal.{IsRefusedMessage, IsPaidWithin};
 ghost use Rattle.capn_canon.specs.declared.refusal.Refusal.TheVariants as refusals;
 ghost use Rattle.capn_canon.specs.inner.ReadyPlaces.{IsReady};
-ghost use Rattle.capn_canon.specs.MemoryNeed.{MayWantBytes};
+ghost use Rattle.capn_canon.specs.MemoryNeed.{MayNeedBytes};
 
 use crate::draft::Draft;
 use crate::object_layout::lay_slot;
@@ -60,7 +60,7 @@ fn bytes_of<S: Space, A: Allocator>(
 }
 
 /// The canonical bytes of a message, read as it is.
-fn canonical_in<A: Allocator + Copy, S: Space>(
+fn canonical_of_inner<A: Allocator + Copy, S: Space>(
     alloc: A,
     space: &S,
     limits: Limits,
@@ -89,7 +89,7 @@ fn canonical_in<A: Allocator + Copy, S: Space>(
 }
 
 /// The same: a message of one segment is read as its bytes alone, which is faster.
-fn canonical_here<A: Allocator + Copy, S: Space>(
+fn canonical_by_segments<A: Allocator + Copy, S: Space>(
     alloc: A,
     space: &S,
     limits: Limits,
@@ -99,10 +99,10 @@ fn canonical_here<A: Allocator + Copy, S: Space>(
     let words = space.words(0).unwrap_or(0);
     if space.segments() == 1 {
         if let Ok(bare) = Bare::new(space.bytes(ROOT, 8 * words as usize)) {
-            return canonical_in(alloc, &bare, limits);
+            return canonical_of_inner(alloc, &bare, limits);
         }
     }
-    canonical_in(alloc, space, limits)
+    canonical_of_inner(alloc, space, limits)
 }
 
 /// The canonical bytes of the value that a message denotes within the limits.
@@ -122,7 +122,7 @@ pub fn canonical_of<A: Allocator + Copy, S: Space>(
     // What each refusal means.
     ensures refused { IfErr result (λ e. IsRefusedMessage (S.message space.now) limits e) }
     // Memory is needed only for a depth above 64 and for canonical bytes.
-    ensures wanted { IsErrOf result refusals.Memory → MayWantBytes (S.message space.now) limits }
+    ensures wanted { IsErrOf result refusals.Memory → MayNeedBytes (S.message space.now) limits }
     // No walk pays beyond its budget.
     ensures bounded { MatchResult result (λ c. c.paid ≤ limits.budget) (λ e. IsPaidWithin limits.budget e) }
     ensures short { IfOk result (λ c. length c.bytes.items ≤ 8 * (c.paid + 1)) }
@@ -143,5 +143,5 @@ pub fn canonical_of<A: Allocator + Copy, S: Space>(
     let _segments = space.segments();
     let _budget = limits.budget();
     let _depth = limits.depth();
-    canonical_here(alloc, space, limits)
+    canonical_by_segments(alloc, space, limits)
 }

@@ -9,7 +9,7 @@ ghost use Rattle.capn_canon.specs.inner.Outcomes.{AreCanonicalised};
 ghost use Rattle.capn_canon.specs.Canonicity.{ReadsBack, PaysItsCost, IsItsOwnForm, IsFormExactlyOf};
 ghost use Rattle.capn_canon.specs.Refusal.{IsRefused, IsPaidWithin};
 ghost use Rattle.capn_canon.specs.Theorem.{Answered, EqualExactly, OwnForm, WithinBudget};
-ghost use Rattle.capn_canon.specs.MemoryNeed.{MayWantBytesIn};
+ghost use Rattle.capn_canon.specs.MemoryNeed.{MayNeedBytesIn};
 ghost use Rattle.capn_canon.specs.declared.form.Form.TheVariants as forms;
 ghost use Rattle.capn_canon.specs.declared.refusal.Refusal.TheVariants as refusals;
 
@@ -107,7 +107,7 @@ pub fn canonicalise<A: Allocator + Copy>(
     // What each refusal means.
     ensures refused { IfErr result (λ e. IsRefused form bytes.now limits e) }
     // Memory is needed only where a survey of the bytes may need it, and for canonical bytes.
-    ensures wanted { IsErrOf result refusals.Memory → MayWantBytesIn form bytes.now limits }
+    ensures wanted { IsErrOf result refusals.Memory → MayNeedBytesIn form bytes.now limits }
     // No walk pays beyond its budget.
     ensures bounded { MatchResult result (λ c. c.paid ≤ limits.budget) (λ e. IsPaidWithin limits.budget e) }
     ensures short { IfOk result (λ c. length c.bytes.items ≤ 8 * (c.paid + 1)) }

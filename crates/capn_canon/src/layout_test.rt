@@ -9,7 +9,7 @@ ghost use Rattle.capn_walk.specs.ValueAt.{IsAt, RowsAt};
 ghost use Rattle.capn_walk.specs.Shapes.{IsPlain};
 ghost use Rattle.capn_canon.specs.Layout.{size, sizes, sizes_in_rows};
 ghost use Rattle.capn_canon.specs.inner.SlotRuns.{IsRun, AreIn, IsList, Steps};
-ghost use Rattle.capn_canon.specs.inner.WordsOfLayout.{IsLaidAt, AreLaidAt, RowsLaidAt, Tells, AreReadyRows};
+ghost use Rattle.capn_canon.specs.inner.WordsOfLayout.{IsLaidAt, AreLaidAt, RowsLaidAt, AnswersIf, AreReadyRows};
 
 use crate::list_words::bits_of;
 use crate::run::Run;
@@ -23,7 +23,7 @@ pub fn check_run(space: &Bare<'_>, run: Run) -> Option<u32>
     requires message { IsMessage (space.now ∷ []) }
     requires stands { IsRun space.now run }
     ensures { (ts : Trees) → AreIn space.now run ts
-        → Tells (AreLaidAt space.now ts run.from run.next) (run.next + sizes ts) result }
+        → AnswersIf (AreLaidAt space.now ts run.from run.next) (run.next + sizes ts) result }
 {
     let mut left = run;
     while left.from < left.end {
@@ -106,7 +106,7 @@ fn check_many(
 ) -> Option<u32>
     requires { IsList space.now word width count from next }
     ensures { (v : Tree) → IsAt (space.now ∷ []) (record { segment = 0; word = from }) v
-        → Tells (IsLaidAt space.now v from next) (next + size v) result }
+        → AnswersIf (IsLaidAt space.now v from next) (next + size v) result }
 {
     match width {
         Width::Link => check_links(space, word, count, from, next),
@@ -128,7 +128,7 @@ fn check_list(
     requires list { IsList space.now word width count from next }
     requires plain { IsPlain width }
     ensures { (v : Tree) → IsAt (space.now ∷ []) (record { segment = 0; word = from }) v
-        → Tells (IsLaidAt space.now v from next) (next + size v) result }
+        → AnswersIf (IsLaidAt space.now v from next) (next + size v) result }
 {
     if !leads_to(word, from, next) {
         return None;
@@ -146,7 +146,7 @@ fn check_list(
 fn check_links(space: &Bare<'_>, word: u64, count: u32, from: u32, next: u32) -> Option<u32>
     requires { IsList space.now word widths.Link count from next }
     ensures { (v : Tree) → IsAt (space.now ∷ []) (record { segment = 0; word = from }) v
-        → Tells (IsLaidAt space.now v from next) (next + size v) result }
+        → AnswersIf (IsLaidAt space.now v from next) (next + size v) result }
 {
     if !leads_to(word, from, next) {
         return None;
@@ -166,7 +166,7 @@ fn check_links(space: &Bare<'_>, word: u64, count: u32, from: u32, next: u32) ->
 fn check_composite(space: &Bare<'_>, word: u64, span: u32, from: u32, next: u32) -> Option<u32>
     requires { IsList space.now word widths.Rows span from next }
     ensures { (v : Tree) → IsAt (space.now ∷ []) (record { segment = 0; word = from }) v
-        → Tells (IsLaidAt space.now v from next) (next + size v) result }
+        → AnswersIf (IsLaidAt space.now v from next) (next + size v) result }
 {
     if !leads_to(word, from, next) {
         return None;
@@ -201,7 +201,7 @@ fn check_rows(
     requires fits { end ≤ length space.now }
     requires ready { AreReadyRows (space.now ∷ []) 0 first words slots count most_height end }
     ensures { (bs : Bodies) → RowsAt (space.now ∷ []) words slots 0 first bs → count_rows bs ≡ count
-        → Tells (RowsLaidAt space.now words slots bs first end) (end + sizes_in_rows bs) result }
+        → AnswersIf (RowsLaidAt space.now words slots bs first end) (end + sizes_in_rows bs) result }
 {
     let mut next = end;
     let mut row = first;

@@ -2,9 +2,9 @@
 //!
 //! - [`canonicalise`] answers the canonical bytes of the value that bytes denote, whichever of the three
 //!   forms they are in, and what its walk paid. [`canonical_of`] does so for any message that is a `Space`.
-//! - [`is_canonical`] says whether the bytes of a bare message are its canonical bytes, and makes no copy; [`check`]
-//!   also reports its price, its visits and its first capability.
-//! - [`account`] and [`survey`] report what the walk of a message pays and visits, and write nothing.
+//! - [`is_canonical`] says whether the bytes of a bare message are its canonical bytes, and makes no copy;
+//!   [`survey_bare`] also reports its price, its visits and its first capability.
+//! - [`survey_bytes`] and [`survey`] report what the walk of a message pays and visits, and write nothing.
 //! - [`layout`] writes the canonical bytes of a tree: one segment, its objects in preorder, every struct
 //!   cut to what it keeps. A tree with a capability has none, and is refused by the first one's index.
 //! - [`Patch`] is the buffer that it writes: words, and holes for what is not known yet, as a pointer
@@ -56,16 +56,16 @@ mod tree_content;
 mod tree_layout;
 mod tree_rows;
 
-pub use survey_input::account;
+pub use survey_input::survey_bytes;
 pub use canonical::{Canonical, canonical_of};
 pub use canonical_input::canonicalise;
-pub use surveyed_bare::Checked;
+pub use surveyed_bare::SurveyedBare;
 pub use form::Form;
 pub use patch::Patch;
 pub use refusal::Refusal;
 pub use message_survey::survey;
 pub use tree_layout::{LayoutFault, layout};
-pub use bare_verdict::{check, is_canonical};
+pub use bare_verdict::{survey_bare, is_canonical};
 
 // What the signatures above name.
 pub use capn_pack::UnpackFault;

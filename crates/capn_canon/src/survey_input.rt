@@ -9,7 +9,7 @@ ghost use Rattle.capn_canon.specs.Layout.{canon};
 ghost use Rattle.capn_canon.specs.Refusal.{IsUnacceptedIn, IsPaidWithin};
 ghost use Rattle.capn_canon.specs.inner.Outcomes.{AreSurveyed};
 ghost use Rattle.capn_canon.specs.SurveyedBytes.{Surveys};
-ghost use Rattle.capn_canon.specs.MemoryNeed.{MayWantMemory};
+ghost use Rattle.capn_canon.specs.MemoryNeed.{MayNeedMemory};
 ghost use Rattle.capn_canon.specs.declared.form.Form.TheVariants as forms;
 ghost use Rattle.capn_canon.specs.declared.refusal.Refusal.TheVariants as refusals;
 
@@ -87,7 +87,7 @@ fn in_form<A: Allocator + Copy>(
 ///
 /// It refuses as [`crate::canonicalise`] does, but never for a capability. `Memory` comes only where a growth was
 /// refused: for the table of segments, for what is unpacked, or for a depth above 64.
-pub fn account<A: Allocator + Copy>(
+pub fn survey_bytes<A: Allocator + Copy>(
     alloc: A,
     form: Form,
     bytes: &[u8],
@@ -101,7 +101,7 @@ pub fn account<A: Allocator + Copy>(
     // What each refusal means.
     ensures refused { IfErr result (λ e. IsUnacceptedIn form bytes.now limits e) }
     // Memory is needed only for a depth above 64, for where two segments or more end, and for what a text packs.
-    ensures wanted { IsErrOf result refusals.Memory → MayWantMemory form bytes.now limits }
+    ensures wanted { IsErrOf result refusals.Memory → MayNeedMemory form bytes.now limits }
     // No walk pays beyond its budget.
     ensures bounded { MatchResult result (λ s. IsBounded limits.budget s.paid s.visits)
         (λ e. IsPaidWithin limits.budget e) }

@@ -2,7 +2,7 @@
 
 /// What the walk of a bare message pays, and whether its bytes are canonical.
 #[derive(Clone, Copy, Debug, PartialEq, Eq)]
-pub struct Checked {
+pub struct SurveyedBare {
     /// The words paid, at most the budget.
     pub paid: u32,
     /// The number of visits.

@@ -7,7 +7,7 @@ use Rattle.std.specs.Io.KnownBytes.{Appends, Consumes, IsAtEnd, Keeps}
 use Rattle.std.proofs.KnownBytes.{Appends-trans, Consumes-trans, Consumes-kept}
 use Rattle.capn_flow.specs.declared.fault.FlowFault.{FlowFault}
 use Rattle.capn_flow.specs.declared.fault.FlowFault.TheVariants as faults
-use Rattle.capn_flow.specs.Flow.{Begins, Ending, Ends, EndsAs, Flow, HasEnded, HasWritten, Heard, Kept, Runs, Stops}
+use Rattle.capn_flow.specs.Flow.{Begins, Ending, Ends, EndsAs, Flow, HasEnded, HasWritten, Consumed, Kept, Runs, Stops}
 use Rattle.capn_flow.specs.Flow.{most, taken_of}
 use Rattle.capn_flow.proofs.InputRead.{kept_all, read_end, read_past, taken_front}
 
@@ -24,8 +24,8 @@ writer_only r w fine (inr h) = h
 
 -- one chunk more was heard
 pub heard_more : (P Q : List ℕ → List ℕ → Type 0) (a b b2 c d e : Option (List ℕ)) (taken w k : ℕ) (buf words : List ℕ)
-    → w ≡ k → (h : Heard P a b c d taken) → Consumes b b2 (take k buf) → k ≤ length buf → Appends d e words
-    → Q (h.bytes ++ take k buf) (h.text ++ words) → Heard Q a b2 c e (taken + w)
+    → w ≡ k → (h : Consumed P a b c d taken) → Consumes b b2 (take k buf) → k ≤ length buf → Appends d e words
+    → Q (h.bytes ++ take k buf) (h.text ++ words) → Consumed Q a b2 c e (taken + w)
 heard_more P Q a b b2 c d e taken w k buf words same h more within wrote holds = record {
   bytes = h.bytes ++ take k buf;
   text = h.text ++ words;
@@ -78,7 +78,7 @@ module _ (f : Flow) where
       (begins : (bytes text : List ℕ) → P bytes text → f.begins bytes text) where
     -- the reader failed
     pub run_unread : (a b b2 c d : Option (List ℕ)) (taken : ℕ) (rf wf : Bool) → rf ≡ true → taken ≤ most
-        → Heard P a b c d taken → Keeps b b2 → Runs f a b2 c d rf wf (Err faults.Io)
+        → Consumed P a b c d taken → Keeps b b2 → Runs f a b2 c d rf wf (Err faults.Io)
     run_unread a b b2 c d taken rf wf broken short h kept =
         let here = Consumes-kept a b b2 h.bytes h.read kept in
         let all : taken_of h.bytes ≡ h.bytes = take_all most h.bytes (omega (arith, h.count, short)) in
@@ -92,7 +92,7 @@ module _ (f : Flow) where
 
     -- the input ended
     pub run_ended : (a b b2 c d e : Option (List ℕ)) (taken : ℕ) (buf : List ℕ) (n : ℕ) (rf wf : Bool) (r : Ending)
-        → rf ≡ false → taken ≤ most → (h : Heard P a b c d taken) → n ≡ 0
+        → rf ≡ false → taken ≤ most → (h : Consumed P a b c d taken) → n ≡ 0
         → Consumes b b2 (take n buf) × (n ≡ 0 → 0 < length buf → IsAtEnd b2) → 0 < length buf
         → Ends f h.bytes false c e wf r → Runs f a b2 c e rf wf r
     run_ended a b b2 c d e taken buf n rf wf r fine short h zero more some ends =
@@ -101,7 +101,7 @@ module _ (f : Flow) where
 
     -- a byte past the greatest number was read
     pub run_long : (a b b2 c d e : Option (List ℕ)) (taken : ℕ) (buf : List ℕ) (w k : ℕ) (rf wf : Bool) (r : Ending)
-        → rf ≡ false → taken + w ≡ most → w < k → taken + k ≤ most + 1 → (h : Heard P a b c d taken)
+        → rf ≡ false → taken + w ≡ most → w < k → taken + k ≤ most + 1 → (h : Consumed P a b c d taken)
         → Consumes b b2 (take k buf) → k ≤ length buf → Ends f (h.bytes ++ take w buf) true c e wf r
         → Runs f a b2 c e rf wf r
     run_long a b b2 c d e taken buf w k rf wf r fine full past bound h more within ends =
@@ -112,7 +112,7 @@ module _ (f : Flow) where
     -- the run stopped within a chunk
     pub run_stopped : (a b b2 c d e : Option (List ℕ)) (taken : ℕ) (buf : List ℕ) (w k : ℕ) (rf wf : Bool)
         (fault : FlowFault) → rf ≡ false → taken ≤ most → w ≡ min k (most - taken) → taken + k ≤ most + 1
-        → (h : Heard P a b c d taken) → Consumes b b2 (take k buf) → k ≤ length buf
+        → (h : Consumed P a b c d taken) → Consumes b b2 (take k buf) → k ≤ length buf
         → Stops f (h.bytes ++ take w buf) c e wf fault → Runs f a b2 c e rf wf (Err fault)
     run_stopped a b b2 c d e taken buf w k rf wf fault fine short least bound h more within stop =
         let all = Consumes-trans a b b2 h.bytes (take k buf) h.read more in

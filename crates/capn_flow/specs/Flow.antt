@@ -90,7 +90,7 @@ pub record Kept (old new : Option (List ℕ)) (kept : List ℕ) (is_longer : Boo
   pub ended : is_longer ≡ false → IsAtEnd new
 
 -- a reader gave bytes, in this number, a text was written, and this holds of both
-pub record Heard (P : List ℕ → List ℕ → Type 0) (a b c d : Option (List ℕ)) (taken : ℕ) : Type 0 where
+pub record Consumed (P : List ℕ → List ℕ → Type 0) (a b c d : Option (List ℕ)) (taken : ℕ) : Type 0 where
   pub bytes : List ℕ
   pub text : List ℕ
   pub read : Consumes a b bytes

@@ -6,7 +6,7 @@ use Rattle.capn_value.specs.Tree.{Tree}
 use Rattle.capn_value.specs.Text.{show_text}
 use Rattle.capn_text.specs.Streams.{end_line, ended_lines, stream_text}
 use Rattle.capn_canon.specs.declared.form.Form.{Form}
-use Rattle.capn_make.specs.WrittenValue.{IsMakeable, IsPiece, AreMade}
+use Rattle.capn_make.specs.WrittenValue.{IsMakeable, IsWrittenValue, AreMade}
 use Rattle.capn_make.specs.MadeInput.{AreFirst}
 
 pub lines_append : (x y : List ℕ) → ended_lines (x ++ y) ≡ ended_lines x + ended_lines y
@@ -40,7 +40,7 @@ first_more vs v input rest more first one is = record {
 
 -- what is made of one more is appended
 pub made_more : (form : Form) (vs : List Tree) (text : List ℕ) (v : Tree) (piece : List ℕ) → AreMade form vs text
-    → IsPiece form v piece → AreMade form (vs ++ v ∷ []) (text ++ piece)
+    → IsWrittenValue form v piece → AreMade form (vs ++ v ∷ []) (text ++ piece)
 made_more form [] text v piece made is = (piece, [], is, refl, ap (λ t. t ++ piece) made ∙ sym (append-nil piece))
 made_more form (u ∷ us) text v piece made is = (
   made.0,

@@ -7,7 +7,7 @@ use Rattle.std.proofs.KnownBytes.{Appends-nil, Appends-trans}
 use Rattle.capn_words.specs.Watched.{HasBegun}
 use Rattle.capn_text.specs.Streams.{Place, ended_lines, stream_text}
 use Rattle.capn_canon.specs.declared.form.Form.{Form}
-use Rattle.capn_make.specs.MadeInput.{IsRefused}
+use Rattle.capn_make.specs.MadeInput.{IsTextRefused}
 use Rattle.capn_make.specs.MakeRun.{HasBegunEach}
 use Rattle.capn_make.specs.inner.RunParts.{HasMade, MakesNext, SendsEach}
 use Rattle.capn_make.specs.declared.fault.MakeFault.{MakeFault}
@@ -82,12 +82,12 @@ module _ (form : Form) (input : List ℕ) where
       (length h.text, subst (Appends a b) (sym (take_all (length h.text) h.text (omega arith))) h.written),
     )
 
-    pub sends_refused : (fault : MakeFault) → (fault ≡ faults.Memory) ⊎ IsRefused place.line place.rest fault
+    pub sends_refused : (fault : MakeFault) → (fault ≡ faults.Memory) ⊎ IsTextRefused place.line place.rest fault
         → SendsEach form input a b failed (Err fault)
     sends_refused fault (inl memory) = inl (begun, inr (memory, fine))
     sends_refused fault (inr refused) = inr (
       h.text,
-      (h.values, place.rest, h.first, h.made, subst (λ n. IsRefused n place.rest fault) h.line refused),
+      (h.values, place.rest, h.first, h.made, subst (λ n. IsTextRefused n place.rest fault) h.line refused),
       h.written,
       fine,
     )

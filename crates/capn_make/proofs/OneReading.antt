@@ -15,7 +15,7 @@ use Rattle.capn_text.specs.Laws.{TextsAreApart, FittingIsShowable}
 use Rattle.capn_text.specs.Showable.{IsShowable}
 use Rattle.capn_text.specs.Streams.{end_line, stream_text, GoesTooDeep}
 use Rattle.capn_make.specs.WrittenValue.{IsMakeable}
-use Rattle.capn_make.specs.MadeInput.{IsRefused, EndsAfter, line_after}
+use Rattle.capn_make.specs.MadeInput.{IsTextRefused, EndsAfter, line_after}
 use Rattle.capn_make.specs.declared.fault.MakeFault.{MakeFault}
 use Rattle.capn_make.specs.declared.fault.MakeFault.TheVariants as faults
 
@@ -81,7 +81,7 @@ module _ (apart : TextsAreApart) (shows : FittingIsShowable) where
             absurd (omega arith))
       ]
 
-  pub refused_stuck : (line : ℕ) (rest : List ℕ) (fault : MakeFault) → IsRefused line rest fault → IsStuck rest
+  pub refused_stuck : (line : ℕ) (rest : List ℕ) (fault : MakeFault) → IsTextRefused line rest fault → IsStuck rest
   refused_stuck line rest faults.Memory h v more one e = absurd h
   refused_stuck line rest faults.Io h v more one e = absurd h
   refused_stuck line rest (faults.NotText n) h v more one e =

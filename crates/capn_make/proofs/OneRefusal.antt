@@ -14,7 +14,7 @@ use Rattle.capn_value.specs.declared.misfit.Misfit.{Misfit}
 use Rattle.capn_text.specs.Laws.{TextsAreApart, FittingIsShowable}
 use Rattle.capn_text.specs.Showable.{IsShowable}
 use Rattle.capn_text.specs.Streams.{end_line, ended_lines, ended_text, first_lines, IsFirstWrong, GoesTooDeep}
-use Rattle.capn_make.specs.MadeInput.{IsRefused, EndsAfter, Follows, line_after}
+use Rattle.capn_make.specs.MadeInput.{IsTextRefused, EndsAfter, Follows, line_after}
 use Rattle.capn_make.specs.declared.fault.MakeFault.{MakeFault}
 use Rattle.capn_make.specs.declared.fault.MakeFault.TheVariants as faults
 use Rattle.capn_make.proofs.OneReading.{fit_not, next_same}
@@ -72,7 +72,7 @@ deep_some h =
     let low : height nil ≡ 0 = refl in
     absurd (omega arith)
 
-pub nothing_refused : (line : ℕ) (fault : MakeFault) → IsRefused line [] fault → ⊥
+pub nothing_refused : (line : ℕ) (fault : MakeFault) → IsTextRefused line [] fault → ⊥
 nothing_refused line faults.Memory h = h
 nothing_refused line faults.Io h = h
 nothing_refused line (faults.NotText n) h = h.some refl
@@ -114,8 +114,8 @@ module _ (apart : TextsAreApart) (shows : FittingIsShowable) where
         subst (λ (u : Tree). most_height < height u) (sym p.0) high,
   )
 
-  wrong_misfit : (line : ℕ) (rest : List ℕ) (n k : ℕ) (m : Misfit) → IsRefused line rest (faults.NotText n)
-      → IsRefused line rest (faults.Misfit k m) → GoesTooDeep rest
+  wrong_misfit : (line : ℕ) (rest : List ℕ) (n k : ℕ) (m : Misfit) → IsTextRefused line rest (faults.NotText n)
+      → IsTextRefused line rest (faults.Misfit k m) → GoesTooDeep rest
   wrong_misfit line rest n k m h g = elim g.1 [
     | inl deep ↦ deep.1
     | inr w ↦ elim (cases_lt most_height (height w.0)) [
@@ -124,12 +124,12 @@ module _ (apart : TextsAreApart) (shows : FittingIsShowable) where
     ]
   ]
 
-  wrong_cap : (line : ℕ) (rest : List ℕ) (n k i : ℕ) → IsRefused line rest (faults.NotText n)
-      → IsRefused line rest (faults.Capability k i) → ⊥
+  wrong_cap : (line : ℕ) (rest : List ℕ) (n k i : ℕ) → IsTextRefused line rest (faults.NotText n)
+      → IsTextRefused line rest (faults.Capability k i) → ⊥
   wrong_cap line rest n k i h g = h.none g.1 g.2 (shows g.1 g.3 g.4) (fit_parts g.1 g.3).low g.5
 
-  misfit_cap : (line : ℕ) (rest : List ℕ) (n k i : ℕ) (m : Misfit) → IsRefused line rest (faults.Misfit n m)
-      → IsRefused line rest (faults.Capability k i) → GoesTooDeep rest
+  misfit_cap : (line : ℕ) (rest : List ℕ) (n k i : ℕ) (m : Misfit) → IsTextRefused line rest (faults.Misfit n m)
+      → IsTextRefused line rest (faults.Capability k i) → GoesTooDeep rest
   misfit_cap line rest n k i m h g = elim h.1 [
     | inl deep ↦ deep.1
     | inr w ↦
@@ -137,8 +137,8 @@ module _ (apart : TextsAreApart) (shows : FittingIsShowable) where
         absurd (fit_not g.1 m g.3 (ap misfit p.0 ∙ w.5)))
   ]
 
-  misfits : (line : ℕ) (rest : List ℕ) (n k : ℕ) (m o : Misfit) → IsRefused line rest (faults.Misfit n m)
-      → IsRefused line rest (faults.Misfit k o) → (faults.Misfit n m ≡ faults.Misfit k o) ⊎ GoesTooDeep rest
+  misfits : (line : ℕ) (rest : List ℕ) (n k : ℕ) (m o : Misfit) → IsTextRefused line rest (faults.Misfit n m)
+      → IsTextRefused line rest (faults.Misfit k o) → (faults.Misfit n m ≡ faults.Misfit k o) ⊎ GoesTooDeep rest
   misfits line rest n k m o h g = elim h.1 [
     | inl deep ↦ inr deep.1
     | inr v ↦ elim g.1 [
@@ -151,23 +151,23 @@ module _ (apart : TextsAreApart) (shows : FittingIsShowable) where
     ]
   ]
 
-  caps : (line : ℕ) (rest : List ℕ) (n k i j : ℕ) → IsRefused line rest (faults.Capability n i)
-      → IsRefused line rest (faults.Capability k j) → faults.Capability n i ≡ faults.Capability k j
+  caps : (line : ℕ) (rest : List ℕ) (n k i j : ℕ) → IsTextRefused line rest (faults.Capability n i)
+      → IsTextRefused line rest (faults.Capability k j) → faults.Capability n i ≡ faults.Capability k j
   caps line rest n k i j h g =
       let p = next_same apart shows h.1 g.1 h.2 g.2 rest (shows h.1 h.3 h.4) (shows g.1 g.3 g.4) h.5 g.5 in
       let some : Some i ≡ Some j = sym h.6 ∙ ap first_cap p.0 ∙ g.6 in
       let same : i ≡ j = cc in
       ap₂ (λ a b. faults.Capability a b) (h.0 ∙ sym g.0) same
 
-  wrongs : (line : ℕ) (rest : List ℕ) (n k : ℕ) → IsRefused line rest (faults.NotText n)
-      → IsRefused line rest (faults.NotText k) → faults.NotText n ≡ faults.NotText k
+  wrongs : (line : ℕ) (rest : List ℕ) (n k : ℕ) → IsTextRefused line rest (faults.NotText n)
+      → IsTextRefused line rest (faults.NotText k) → faults.NotText n ≡ faults.NotText k
   wrongs line rest n k h g =
       let same = same_line rest h.first.0 g.first.0 h.first.2 g.first.2 in
       let a = h.first.1 in
       let b = g.first.1 in
       ap (λ a. faults.NotText a) (omega arith)
 
-  one_fault : (line : ℕ) (rest : List ℕ) (f g : MakeFault) → IsRefused line rest f → IsRefused line rest g
+  one_fault : (line : ℕ) (rest : List ℕ) (f g : MakeFault) → IsTextRefused line rest f → IsTextRefused line rest g
       → (f ≡ g) ⊎ GoesTooDeep rest
   one_fault line rest faults.Memory g h k = absurd h
   one_fault line rest faults.Io g h k = absurd h
@@ -199,9 +199,9 @@ module _ (apart : TextsAreApart) (shows : FittingIsShowable) where
       → EndsAfter vs rest s → (r ≡ s) ⊎ GoesTooDeep rest
   one_ending vs rest (Ok u) (Ok w) h k = inl refl
   one_ending vs rest (Ok u) (Err g) h k =
-      absurd (nothing_refused (line_after vs) g (subst (λ t. IsRefused (line_after vs) t g) h k))
+      absurd (nothing_refused (line_after vs) g (subst (λ t. IsTextRefused (line_after vs) t g) h k))
   one_ending vs rest (Err f) (Ok u) h k =
-      absurd (nothing_refused (line_after vs) f (subst (λ t. IsRefused (line_after vs) t f) k h))
+      absurd (nothing_refused (line_after vs) f (subst (λ t. IsTextRefused (line_after vs) t f) k h))
   one_ending vs rest (Err f) (Err g) h k = elim (one_fault (line_after vs) rest f g h k) [
     | inl e ↦ inl (ap (λ x. Err x) e)
     | inr d ↦ inr d

@@ -36,23 +36,23 @@ pub record IsWrong (line : ℕ) (rest : List ℕ) (n : ℕ) : Type 0 where
 
 -- Why the text is refused that is next, from a line on: a line is wrong; or its value has a misfit, or goes too deep,
 -- whatever follows; or its value fits, and has a capability.
-abbrev pub IsRefused : ℕ → List ℕ → MakeFault → Type 0
-IsRefused line rest faults.Memory = ⊥
-IsRefused line rest faults.Io = ⊥
-IsRefused line rest (faults.NotText n) = IsWrong line rest n
-IsRefused line rest (faults.Misfit n m) = (n ≡ line)
+abbrev pub IsTextRefused : ℕ → List ℕ → MakeFault → Type 0
+IsTextRefused line rest faults.Memory = ⊥
+IsTextRefused line rest faults.Io = ⊥
+IsTextRefused line rest (faults.NotText n) = IsWrong line rest n
+IsTextRefused line rest (faults.Misfit n m) = (n ≡ line)
     × (((m ≡ Tall) × GoesTooDeep rest) ⊎ ((v : Tree) × (more : List ℕ) × InRange v × IsShowable v
     × (rest ≡ show_text v ++ (end_line ++ more)) × (misfit v ≡ Some m)))
-IsRefused line rest (faults.Capability n index) = (n ≡ line)
+IsTextRefused line rest (faults.Capability n index) = (n ≡ line)
     × (v : Tree) × (more : List ℕ) × Fits v × InRange v × (rest ≡ show_text v ++ (end_line ++ more))
     × (first_cap v ≡ Some index)
-IsRefused line rest (faults.Another n) = ⊥
-IsRefused line rest faults.NoText = ⊥
+IsTextRefused line rest (faults.Another n) = ⊥
+IsTextRefused line rest faults.NoText = ⊥
 
 -- after the texts that were made nothing is left, or the next one is refused
 abbrev pub EndsAfter : List Tree → List ℕ → Result (Unit {0}) MakeFault → Type 0
 EndsAfter vs rest (Ok u) = rest ≡ []
-EndsAfter vs rest (Err fault) = IsRefused (line_after vs) rest fault
+EndsAfter vs rest (Err fault) = IsTextRefused (line_after vs) rest fault
 
 -- each text up to the end, or up to the first that is refused, is made
 abbrev pub MakesEach : Form → List ℕ → List ℕ → Result (Unit {0}) MakeFault → Type 0
@@ -71,7 +71,7 @@ Follows line rest faults.NoText = ⊥
 
 -- why an input is not one text: it is empty, its first text is refused, or more follows
 abbrev pub IsNotOne : List ℕ → MakeFault → Type 0
-IsNotOne input fault = ((input ≡ []) × (fault ≡ faults.NoText)) ⊎ (IsRefused 1 input fault
+IsNotOne input fault = ((input ≡ []) × (fault ≡ faults.NoText)) ⊎ (IsTextRefused 1 input fault
     ⊎ ((v : Tree) × (rest : List ℕ) × AreFirst (v ∷ []) input rest × Follows (line_after (v ∷ [])) rest fault))
 
 -- an input of exactly one text is made, and of any other nothing is

@@ -27,11 +27,11 @@ IsInForm forms.Packed bytes piece = Chosen piece (framed bytes)
 IsInForm forms.Bare bytes piece = piece ≡ bytes
 
 -- what is written of a value
-abbrev pub IsPiece : Form → Tree → List ℕ → Type 0
-IsPiece form v piece = IsInForm form (canon v) piece
+abbrev pub IsWrittenValue : Form → Tree → List ℕ → Type 0
+IsWrittenValue form v piece = IsInForm form (canon v) piece
 
 -- what is written of these values, one after the other
 abbrev pub AreMade : Form → List Tree → List ℕ → Type 0
 AreMade form [] text = text ≡ []
-AreMade form (v ∷ vs) text = (piece : List ℕ) × (rest : List ℕ) × IsPiece form v piece × AreMade form vs rest
+AreMade form (v ∷ vs) text = (piece : List ℕ) × (rest : List ℕ) × IsWrittenValue form v piece × AreMade form vs rest
     × (text ≡ piece ++ rest)

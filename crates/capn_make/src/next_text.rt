@@ -2,7 +2,7 @@
 
 ghost use Rattle.std.specs.Prelude.{◌≡◌, None, Some, IfOk, IfErr, ◌⊎◌};
 ghost use Rattle.capn_value.specs.FirstCap.{first_cap};
-ghost use Rattle.capn_make.specs.WrittenValue.{IsPiece};
+ghost use Rattle.capn_make.specs.WrittenValue.{IsWrittenValue};
 ghost use Rattle.capn_make.specs.inner.RunParts as spec;
 ghost use Rattle.capn_make.specs.inner.RunParts.{MakesNext, MakesValue};
 

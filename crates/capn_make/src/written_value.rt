@@ -6,7 +6,7 @@ ghost use Rattle.capn_value.specs.FirstCap.{first_cap};
 ghost use Rattle.capn_canon.specs.Layout.{canon};
 ghost use Rattle.capn_canon.specs.LayoutFault.{IsLayoutFault};
 ghost use Rattle.capn_make.specs.WrittenValue as spec;
-ghost use Rattle.capn_make.specs.WrittenValue.{IsInForm, IsPiece};
+ghost use Rattle.capn_make.specs.WrittenValue.{IsInForm, IsWrittenValue};
 
 use capn_canon::laws::canonicity;
 use capn_canon::{Form, LayoutFault, layout};
@@ -81,7 +81,7 @@ pub(crate) fn piece_of<A: Allocator + Copy, B: Allocator>(
     form: Form,
     tree: &Tree<B>,
 ) -> Result<Vec<u8, A>, LayoutFault>
-    ensures found { IfOk result (λ piece. IsPiece form tree.now piece.items) }
+    ensures found { IfOk result (λ piece. IsWrittenValue form tree.now piece.items) }
     ensures free { OnOk result (first_cap tree.now ≡ None) }
     ensures refused { IfErr result (λ fault. IsLayoutFault tree.now fault) }
 {

@@ -1,7 +1,7 @@
 -- The laws of packed texts.
 use Rattle.std.specs.Prelude.{◌≡◌, ◌≢◌, ℕ, ◌*◌, ◌≤◌, List, length}
 use Rattle.capn_pack.specs.Packed.{Packs}
-use Rattle.capn_pack.specs.UnpackRefusal.{IsRefused}
+use Rattle.capn_pack.specs.UnpackRefusal.{IsUnpackRefused}
 use Rattle.capn_pack.specs.PackedPieces.{Splits}
 use Rattle.capn_pack.specs.declared.fault.UnpackFault.{UnpackFault}
 use Rattle.capn_pack.specs.declared.fault.UnpackFault.TheVariants.{Memory}
@@ -12,12 +12,13 @@ OneReading = (b vs ws : List ℕ) → Packs b vs → Packs b ws → vs ≡ ws
 
 -- A text is refused for one reason, unless memory runs out.
 abbrev pub OneRefusal : Type 0
-OneRefusal = (b : List ℕ) (max : ℕ) (e f : UnpackFault) → IsRefused b max e → IsRefused b max f → e ≢ Memory
+OneRefusal = (b : List ℕ) (max : ℕ) (e f : UnpackFault) → IsUnpackRefused b max e → IsUnpackRefused b max f → e ≢ Memory
     → f ≢ Memory → e ≡ f
 
 -- A text that packs words within the maximum is refused only if memory runs out.
 abbrev pub PackedAreNotRefused : Type 0
-PackedAreNotRefused = (b ws : List ℕ) (max : ℕ) (e : UnpackFault) → Packs b ws → length ws ≤ 8 * max → IsRefused b max e
+PackedAreNotRefused = (b ws : List ℕ) (max : ℕ) (e : UnpackFault) → Packs b ws → length ws ≤ 8 * max
+    → IsUnpackRefused b max e
     → e ≡ Memory
 
 -- A text is whole groups and a rest that no group begins.

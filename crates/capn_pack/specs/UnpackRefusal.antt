@@ -55,8 +55,8 @@ pub record StartsWithin (rest : List ℕ) (room : ℕ) : Type 0 where
   pub fits : words group ≤ room
 
 -- The text b is refused like this under a maximum of words. Nothing is said of running out of memory.
-abbrev pub IsRefused : List ℕ → ℕ → UnpackFault → Type 0
-IsRefused b max Memory = ⊤
-IsRefused b max (Cut at) = Stands IsCut b max at
-IsRefused b max (TooLong at) = Stands IsTooLong b max at
-IsRefused b max Failed = ⊥
+abbrev pub IsUnpackRefused : List ℕ → ℕ → UnpackFault → Type 0
+IsUnpackRefused b max Memory = ⊤
+IsUnpackRefused b max (Cut at) = Stands IsCut b max at
+IsUnpackRefused b max (TooLong at) = Stands IsTooLong b max at
+IsUnpackRefused b max Failed = ⊥

@@ -1,7 +1,7 @@
 //! Unpacking.
 ghost use Rattle.std.specs.Prelude.{◌≡◌, ◌*◌, ◌≤◌, length, IfOk, IfErr, IsErrOf, MatchResult, List, ℕ};
 ghost use Rattle.capn_pack.specs.Packed.{Packs};
-ghost use Rattle.capn_pack.specs.UnpackRefusal.{IsRefused, StartsWithin};
+ghost use Rattle.capn_pack.specs.UnpackRefusal.{IsUnpackRefused, StartsWithin};
 ghost use Rattle.capn_pack.specs.Words.{HasWords};
 
 use crate::fault::UnpackFault;
@@ -20,7 +20,7 @@ fn unpack_groups<A: Allocator + Copy>(
 ) -> Result<Vec<u8, A>, UnpackFault>
     ensures found { IfOk result (λ v. Packs bytes.now v.items) }
     ensures within { IfOk result (λ v. length v.items ≤ 8 * max_words) }
-    ensures refused { IfErr result (λ e. IsRefused bytes.now max_words e) }
+    ensures refused { IfErr result (λ e. IsUnpackRefused bytes.now max_words e) }
     ensures wanted { IsErrOf result UnpackFault.Memory → StartsWithin bytes.now max_words }
 {
     let mut out = Vec::new(alloc);
@@ -69,7 +69,7 @@ pub fn unpack<A: Allocator + Copy>(
     ensures only { (bs : List ℕ) → Packs bytes.now bs → length bs ≤ 8 * max_words
         → MatchResult result (λ v. v.items ≡ bs) (λ e. e ≡ UnpackFault.Memory) }
     // What each refusal means, and where.
-    ensures refused { IfErr result (λ e. IsRefused bytes.now max_words e) }
+    ensures refused { IfErr result (λ e. IsUnpackRefused bytes.now max_words e) }
     // Memory is needed only if a whole group within the maximum stands first.
     ensures wanted { IsErrOf result UnpackFault.Memory → StartsWithin bytes.now max_words }
 {

@@ -9,7 +9,7 @@ use Rattle.capn_tool.specs.Program.{Course, course}
 use Rattle.capn_tool.specs.Program as tool
 use Rattle.capn_tool.specs.Outgoing.{EndsFlushed}
 use Rattle.capn_tool.specs.ExitStatus.{status_of}
-use Rattle.capn_tool.specs.FaultText.{Tells}
+use Rattle.capn_tool.specs.FaultText.{ReportsEnding}
 use Rattle.capn_tool.proofs.shared.Written.{begun_all, kept, sound}
 use Rattle.capn_tool.specs.declared.fault.ToolFault.{ToolFault}
 use Rattle.capn_tool.specs.declared.fault.ToolFault.TheVariants as faults
@@ -43,7 +43,7 @@ shown c m d old new r written io k (inr (is, failed)) =
 module _ (kind : ErrorKind) (output errors : Course) (status : ℕ) where
   -- the words wish for the version, and it was shown
   pub ends_version : (outcome : Ending) → kind ≡ kinds.DisplayVersion → ShowsVersion output outcome
-      → Tells outcome errors.before errors.after errors.failed → status ≡ status_of outcome
+      → ReportsEnding outcome errors.before errors.after errors.failed → status ≡ status_of outcome
       → EndsUnordered kind output errors status
   ends_version outcome is shown told ends = record {
     version = λ _. record { outcome = outcome; shown = shown; told = told; is = ends };

@@ -2,7 +2,7 @@
 use Rattle.std.specs.Prelude.{ℕ, ◌+◌, ◌≡◌, ◌⊎◌, List, [], ◌∷◌, ◌++◌, codes, Bool, false, Option, Result, Ok, Err}
 use Rattle.std.specs.Fmt.{decimal}
 use Rattle.capn_canon.specs.Display.{refusal_text}
-use Rattle.capn_tool.specs.FaultText.{TellsLine, fault_line}
+use Rattle.capn_tool.specs.FaultText.{WritesLine, fault_line}
 use Rattle.capn_tool.specs.declared.fault.ToolFault.TheVariants as tool_faults
 use Rattle.capn_serve.specs.declared.position.Position.{Position}
 use Rattle.capn_archive.specs.declared.fault.ArchiveFault.{ArchiveFault}
@@ -29,27 +29,27 @@ archive_text (faults.PassedOver passed) =
     ++ (codes " messages refused, the first is " ++ place_text passed.first)))
 
 -- the line that tells this
-abbrev pub told_line : List ℕ → List ℕ
-told_line text = codes "capn: " ++ text ++ 10 ∷ []
+abbrev pub fault_text_line : List ℕ → List ℕ
+fault_text_line text = codes "capn: " ++ text ++ 10 ∷ []
 
 -- the line of this text was written, or that of refused memory where there was none for the line
-abbrev pub TellsFault : List ℕ → Option (List ℕ) → Option (List ℕ) → Bool → Type 0
-TellsFault text old new failed =
-    TellsLine (told_line text) old new failed ⊎ TellsLine (fault_line tool_faults.Memory) old new failed
+abbrev pub WritesFault : List ℕ → Option (List ℕ) → Option (List ℕ) → Bool → Type 0
+WritesFault text old new failed =
+    WritesLine (fault_text_line text) old new failed ⊎ WritesLine (fault_line tool_faults.Memory) old new failed
 
 -- why a run ended so has been told: nothing where it is done, and else the text of its fault
-abbrev pub TellsEnd : {F : Type 0} → (F → List ℕ) → Result (Unit {0}) F → Option (List ℕ) → Option (List ℕ) → Bool
+abbrev pub WritesEnding : {F : Type 0} → (F → List ℕ) → Result (Unit {0}) F → Option (List ℕ) → Option (List ℕ) → Bool
     → Type 0
-TellsEnd text (Ok u) old new failed = (new ≡ old) × (failed ≡ false)
-TellsEnd text (Err fault) old new failed = TellsFault (text fault) old new failed
+WritesEnding text (Ok u) old new failed = (new ≡ old) × (failed ≡ false)
+WritesEnding text (Err fault) old new failed = WritesFault (text fault) old new failed
 
 -- the same of a run over an archive
-abbrev pub TellsArchive : Result (Unit {0}) ArchiveFault → Option (List ℕ) → Option (List ℕ) → Bool → Type 0
-TellsArchive = TellsEnd archive_text
+abbrev pub WritesArchiveEnding : Result (Unit {0}) ArchiveFault → Option (List ℕ) → Option (List ℕ) → Bool → Type 0
+WritesArchiveEnding = WritesEnding archive_text
 
 -- of one over texts
-abbrev pub TellsMake : Result (Unit {0}) MakeFault → Option (List ℕ) → Option (List ℕ) → Bool → Type 0
-TellsMake = TellsEnd made.fault_text
+abbrev pub WritesMakeEnding : Result (Unit {0}) MakeFault → Option (List ℕ) → Option (List ℕ) → Bool → Type 0
+WritesMakeEnding = WritesEnding made.fault_text
 
 -- a fault of a run over messages, as one of a run over an archive
 abbrev pub archive_fault_of : RunFault → ArchiveFault
@@ -59,9 +59,9 @@ archive_fault_of run_faults.InputTooLong = faults.InputTooLong
 archive_fault_of (run_faults.Refused at refusal) = faults.Refused at refusal
 
 -- of one that picks messages, which has the texts of one over an archive
-abbrev pub TellsPick : Result (Unit {0}) RunFault → Option (List ℕ) → Option (List ℕ) → Bool → Type 0
-TellsPick = TellsEnd (λ fault. archive_text (archive_fault_of fault))
+abbrev pub WritesPickEnding : Result (Unit {0}) RunFault → Option (List ℕ) → Option (List ℕ) → Bool → Type 0
+WritesPickEnding = WritesEnding (λ fault. archive_text (archive_fault_of fault))
 
 -- and of one that lets bytes flow
-abbrev pub TellsFlow : Result (Unit {0}) FlowFault → Option (List ℕ) → Option (List ℕ) → Bool → Type 0
-TellsFlow = TellsEnd flowing.fault_text
+abbrev pub WritesFlowEnding : Result (Unit {0}) FlowFault → Option (List ℕ) → Option (List ℕ) → Bool → Type 0
+WritesFlowEnding = WritesEnding flowing.fault_text

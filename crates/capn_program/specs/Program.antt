@@ -8,7 +8,7 @@ use Rattle.capn_words.specs.Watched.{HasBegun}
 use Rattle.capn_tool.specs.Program.{CarriesOut, Course, IsUntouched}
 use Rattle.capn_tool.specs.Program as tool
 use Rattle.capn_tool.specs.ExitStatus.{status_of}
-use Rattle.capn_tool.specs.FaultText.{Tells}
+use Rattle.capn_tool.specs.FaultText.{ReportsEnding}
 use Rattle.capn_tool.specs.declared.fault.ToolFault.{ToolFault}
 use Rattle.capn_tool.specs.declared.fault.ToolFault.TheVariants as tool_faults
 use Rattle.capn_archive.specs.ArchiveRun.{Archived}
@@ -34,7 +34,7 @@ use Rattle.capn_program.specs.CommandLine.{program_line}
 use Rattle.capn_program.specs.Meaning.{MeansOrder}
 use Rattle.capn_program.specs.Usage.{IsReason, version_line}
 use Rattle.capn_program.specs.ExitStatus.{archive_status, flow_status, make_status, pick_status}
-use Rattle.capn_program.specs.FaultText.{TellsArchive, TellsFlow, TellsMake, TellsPick}
+use Rattle.capn_program.specs.FaultText.{WritesArchiveEnding, WritesFlowEnding, WritesMakeEnding, WritesPickEnding}
 use Rattle.capn_program.specs.declared.order.Flow.{Flow}
 use Rattle.capn_program.specs.declared.order.Flow.TheVariants as flows
 use Rattle.capn_program.specs.declared.order.Order.{Order}
@@ -103,27 +103,27 @@ pub record EndsOrder {O F : Type 0} (name : O → Order)
 
 -- the words order a command over messages or bytes
 abbrev pub EndsMessage : List Text → Course → Course → Course → ℕ → Type 0
-EndsMessage = EndsOrder (λ command. orders.Message command) CarriesOut Tells status_of
+EndsMessage = EndsOrder (λ command. orders.Message command) CarriesOut ReportsEnding status_of
 
 -- the words order a run over an archive
 abbrev pub EndsArchive : List Text → Course → Course → Course → ℕ → Type 0
-EndsArchive = EndsOrder (λ archive. orders.Archive archive) RunsOver TellsArchive archive_status
+EndsArchive = EndsOrder (λ archive. orders.Archive archive) RunsOver WritesArchiveEnding archive_status
 
 -- the words order that doubles are left out
 abbrev pub EndsUniq : List Text → Course → Course → Course → ℕ → Type 0
-EndsUniq = EndsOrder (λ uniq. orders.Uniq uniq) LeavesDoublesOut TellsArchive archive_status
+EndsUniq = EndsOrder (λ uniq. orders.Uniq uniq) LeavesDoublesOut WritesArchiveEnding archive_status
 
 -- the words order that messages are picked
 abbrev pub EndsPick : List Text → Course → Course → Course → ℕ → Type 0
-EndsPick = EndsOrder (λ pick. orders.Pick pick) PicksMessages TellsPick pick_status
+EndsPick = EndsOrder (λ pick. orders.Pick pick) PicksMessages WritesPickEnding pick_status
 
 -- the words order that bytes flow
 abbrev pub EndsFlow : List Text → Course → Course → Course → ℕ → Type 0
-EndsFlow = EndsOrder (λ flow. orders.Flow flow) LetsFlow TellsFlow flow_status
+EndsFlow = EndsOrder (λ flow. orders.Flow flow) LetsFlow WritesFlowEnding flow_status
 
 -- the words order that messages are made from texts
 abbrev pub EndsMake : List Text → Course → Course → Course → ℕ → Type 0
-EndsMake = EndsOrder (λ form. orders.Make form) MakesTexts TellsMake make_status
+EndsMake = EndsOrder (λ form. orders.Make form) MakesTexts WritesMakeEnding make_status
 
 -- The version was shown on the output, and that ended so: its line was written, and the output has not failed; or a
 -- beginning of it, and it has failed.
@@ -139,7 +139,7 @@ ShowsVersion output (Err (tool_faults.Refused refusal)) = ⊥
 pub record EndsVersion (output errors : Course) (status : ℕ) : Type 0 where
   pub outcome : Result (Unit {0}) ToolFault
   pub shown : ShowsVersion output outcome
-  pub told : Tells outcome errors.before errors.after errors.failed
+  pub told : ReportsEnding outcome errors.before errors.after errors.failed
   pub is : status ≡ status_of outcome
 
 -- The words order nothing, for a reason of this kind: the version is wished for, or memory was refused, help is wished

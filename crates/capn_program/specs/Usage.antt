@@ -3,7 +3,7 @@ use Rattle.std.specs.Prelude.{◌≡◌, ◌⊎◌, ℕ, List, [], codes, Result
 use Rattle.clap.specs.Words.{IsAmong, Text, fault_of, kind_of, subcommand_of}
 use Rattle.clap.specs.declared.error.ErrorKind.{ErrorKind}
 use Rattle.clap.specs.declared.error.ErrorKind.TheVariants as kinds
-use Rattle.capn_tool.specs.Usage.{WantsMemory, error_of}
+use Rattle.capn_tool.specs.Usage.{NeedsMemory, error_of}
 use Rattle.capn_tool.specs.declared.usage.Usage.{Usage}
 use Rattle.capn_program.specs.CommandLine.{program_line}
 use Rattle.capn_program.specs.Meaning.{MeansOrder}
@@ -28,4 +28,4 @@ IsReason words kind = (kind ≡ kinds.OutOfMemory) ⊎ (IsAmong kind (fault_of p
 -- a call gave the order, or told that memory was refused
 abbrev pub Orders : Order → Result Order Usage → Type 0
 Orders order (Ok given) = given ≡ order
-Orders order (Err usage) = WantsMemory usage
+Orders order (Err usage) = NeedsMemory usage

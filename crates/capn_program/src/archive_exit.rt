@@ -4,7 +4,7 @@ ghost use Rattle.std.specs.Prelude.{◌≡◌, IfOk, string_bytes, false};
 ghost use Rattle.capn_words.specs.Watched.{inner_of, has_failed};
 ghost use Rattle.capn_program.specs.ExitStatus.{archive_status};
 ghost use Rattle.capn_program.specs.FaultText as spec;
-ghost use Rattle.capn_program.specs.FaultText.{TellsArchive, TellsFault};
+ghost use Rattle.capn_program.specs.FaultText.{WritesArchiveEnding, WritesFault};
 
 use crate::fault_line::tell;
 use capn_archive::{ArchiveFault, Position};
@@ -78,7 +78,7 @@ pub fn archive_text<A: Allocator>(alloc: A, fault: &ArchiveFault) -> Result<Stri
 
 /// The line that the program prints for a fault.
 fn archive_line<A: Allocator + Copy>(alloc: A, fault: &ArchiveFault) -> Result<String<A>, Memory>
-    ensures { IfOk result (λ line. string_bytes line ≡ spec.told_line (spec.archive_text fault.now)) }
+    ensures { IfOk result (λ line. string_bytes line ≡ spec.fault_text_line (spec.archive_text fault.now)) }
 {
     let text = Text(*fault);
     Ok(format!(in alloc; "capn: {text}\n")?)
@@ -91,7 +91,7 @@ fn tell_archive<E: Write, A: Allocator + Copy>(
     errors: &mut Watched<E>,
 )
     requires { has_failed errors.old ≡ false }
-    ensures { TellsFault (spec.archive_text fault.now) (E.contents (inner_of errors.old))
+    ensures { WritesFault (spec.archive_text fault.now) (E.contents (inner_of errors.old))
         (E.contents (inner_of errors.new)) (has_failed errors.new) }
 {
     tell(archive_line(alloc, fault), errors);
@@ -106,7 +106,7 @@ pub fn end_archive<E: Write, A: Allocator + Copy>(
 ) -> u8
     requires { has_failed errors.old ≡ false }
     ensures status { result ≡ archive_status outcome.now }
-    ensures told { TellsArchive outcome.now (E.contents (inner_of errors.old)) (E.contents (inner_of errors.new))
+    ensures told { WritesArchiveEnding outcome.now (E.contents (inner_of errors.old)) (E.contents (inner_of errors.new))
         (has_failed errors.new) }
 {
     if let Err(fault) = outcome {

@@ -4,7 +4,7 @@ ghost use Rattle.std.specs.Prelude.{◌≡◌, IfOk, string_bytes, false};
 ghost use Rattle.capn_words.specs.Watched.{inner_of, has_failed};
 ghost use Rattle.capn_flow.specs.FaultText.{fault_text};
 ghost use Rattle.capn_program.specs.ExitStatus.{flow_status};
-ghost use Rattle.capn_program.specs.FaultText.{TellsFault, TellsFlow, told_line};
+ghost use Rattle.capn_program.specs.FaultText.{WritesFault, WritesFlowEnding, fault_text_line};
 
 use crate::fault_line::tell;
 use capn_flow::FlowFault;
@@ -14,7 +14,7 @@ use std::io::Write;
 
 /// The line that the program prints for a fault of a flow.
 fn flow_line<A: Allocator + Copy>(alloc: A, fault: &FlowFault) -> Result<String<A>, Memory>
-    ensures { IfOk result (λ line. string_bytes line ≡ told_line (fault_text fault.now)) }
+    ensures { IfOk result (λ line. string_bytes line ≡ fault_text_line (fault_text fault.now)) }
 {
     Ok(format!(in alloc; "capn: {fault}\n")?)
 }
@@ -32,7 +32,7 @@ fn status_of_flow(outcome: &Result<(), FlowFault>) -> u8
 /// Writes the line of a fault, or that of refused memory where there is none for the line.
 fn tell_flow<E: Write, A: Allocator + Copy>(alloc: A, fault: &FlowFault, errors: &mut Watched<E>)
     requires { has_failed errors.old ≡ false }
-    ensures { TellsFault (fault_text fault.now) (E.contents (inner_of errors.old)) (E.contents (inner_of errors.new))
+    ensures { WritesFault (fault_text fault.now) (E.contents (inner_of errors.old)) (E.contents (inner_of errors.new))
         (has_failed errors.new) }
 {
     tell(flow_line(alloc, fault), errors);
@@ -47,7 +47,7 @@ pub fn end_flow<E: Write, A: Allocator + Copy>(
 ) -> u8
     requires { has_failed errors.old ≡ false }
     ensures status { result ≡ flow_status outcome.now }
-    ensures told { TellsFlow outcome.now (E.contents (inner_of errors.old)) (E.contents (inner_of errors.new))
+    ensures told { WritesFlowEnding outcome.now (E.contents (inner_of errors.old)) (E.contents (inner_of errors.new))
         (has_failed errors.new) }
 {
     if let Err(fault) = outcome {

@@ -4,7 +4,7 @@ ghost use Rattle.std.specs.Prelude.{◌≡◌, IfOk, string_bytes, false};
 ghost use Rattle.capn_words.specs.Watched.{inner_of, has_failed};
 ghost use Rattle.capn_make.specs.FaultText.{fault_text};
 ghost use Rattle.capn_program.specs.ExitStatus.{make_status};
-ghost use Rattle.capn_program.specs.FaultText.{TellsFault, TellsMake, told_line};
+ghost use Rattle.capn_program.specs.FaultText.{WritesFault, WritesMakeEnding, fault_text_line};
 
 use crate::fault_line::tell;
 use capn_make::MakeFault;
@@ -14,7 +14,7 @@ use std::io::Write;
 
 /// The line that the program prints for a fault of `make`.
 fn make_line<A: Allocator + Copy>(alloc: A, fault: &MakeFault) -> Result<String<A>, Memory>
-    ensures { IfOk result (λ line. string_bytes line ≡ told_line (fault_text fault.now)) }
+    ensures { IfOk result (λ line. string_bytes line ≡ fault_text_line (fault_text fault.now)) }
 {
     Ok(format!(in alloc; "capn: {fault}\n")?)
 }
@@ -32,7 +32,7 @@ fn status_of_make(outcome: &Result<(), MakeFault>) -> u8
 /// Writes the line of a fault, or that of refused memory where there is none for the line.
 fn tell_make<E: Write, A: Allocator + Copy>(alloc: A, fault: &MakeFault, errors: &mut Watched<E>)
     requires { has_failed errors.old ≡ false }
-    ensures { TellsFault (fault_text fault.now) (E.contents (inner_of errors.old)) (E.contents (inner_of errors.new))
+    ensures { WritesFault (fault_text fault.now) (E.contents (inner_of errors.old)) (E.contents (inner_of errors.new))
         (has_failed errors.new) }
 {
     tell(make_line(alloc, fault), errors);
@@ -47,7 +47,7 @@ pub fn end_make<E: Write, A: Allocator + Copy>(
 ) -> u8
     requires { has_failed errors.old ≡ false }
     ensures status { result ≡ make_status outcome.now }
-    ensures told { TellsMake outcome.now (E.contents (inner_of errors.old)) (E.contents (inner_of errors.new))
+    ensures told { WritesMakeEnding outcome.now (E.contents (inner_of errors.old)) (E.contents (inner_of errors.new))
         (has_failed errors.new) }
 {
     if let Err(fault) = outcome {

@@ -4,7 +4,7 @@ ghost use Rattle.std.specs.Prelude.{◌≡◌, false};
 ghost use Rattle.capn_words.specs.Watched.{inner_of, has_failed};
 ghost use Rattle.capn_program.specs.ExitStatus.{pick_status};
 ghost use Rattle.capn_program.specs.FaultText as spec;
-ghost use Rattle.capn_program.specs.FaultText.{TellsPick};
+ghost use Rattle.capn_program.specs.FaultText.{WritesPickEnding};
 
 use crate::archive_exit::end_archive;
 use capn_archive::{ArchiveFault, RunFault};
@@ -33,7 +33,7 @@ pub fn end_pick<E: Write, A: Allocator + Copy>(
 ) -> u8
     requires { has_failed errors.old ≡ false }
     ensures status { result ≡ pick_status outcome.now }
-    ensures told { TellsPick outcome.now (E.contents (inner_of errors.old)) (E.contents (inner_of errors.new))
+    ensures told { WritesPickEnding outcome.now (E.contents (inner_of errors.old)) (E.contents (inner_of errors.new))
         (has_failed errors.new) }
 {
     match outcome {

@@ -4,7 +4,7 @@ use Rattle.std.proofs.Common.{Result, Err, refl, ap, sym, subst, ◌∙◌, appe
 use Rattle.std.proofs.lemmas.Grind.{flat_map-append}
 use Rattle.capn_words.specs.Message.{total}
 use Rattle.capn_stream.specs.Frames.{Frames}
-use Rattle.capn_stream.specs.inner.Stages.{IsStop}
+use Rattle.capn_stream.specs.inner.Stages.{IsHeadRefused}
 use Rattle.capn_stream.specs.declared.fault.FrameFault.{FrameFault}
 use Rattle.capn_stream.specs.declared.fault.FrameFault.TheVariants as frame_faults
 use Rattle.capn_stream.proofs.shared.Longer.{IsStop-append}
@@ -134,7 +134,7 @@ module _ {X : Type 0} (f : Fold X) where
 
   -- no frame can follow
   pub stops_framed : (x : X) (stream : List ℕ) (a : Outgoing) (failed : Bool) (e : FrameFault) → failed ≡ false
-      → e ≢ frame_faults.Memory → IsStop stream f.most e
+      → e ≢ frame_faults.Memory → IsHeadRefused stream f.most e
       → Stops f x stream a a failed (faults.Refused (f.place x) (refusals.Frame e))
   stops_framed x stream a failed e fine other stop = record {
     told = λ h. (stream, x, tells_none x stream a);
@@ -150,7 +150,7 @@ module _ {X : Type 0} (f : Fold X) where
   }
     where
       due : (more : List ℕ) (behind : Option RunFault) (e : FrameFault) → e ≢ frame_faults.Memory
-          → IsStop (stream ++ more) f.most e
+          → IsHeadRefused (stream ++ more) f.most e
           → IsFolded f x (stream ++ more) behind [] (Err (faults.Refused (f.place x) (refusals.Frame e))) x
       due more behind frame_faults.Memory other stop = absurd (other refl)
       due more behind frame_faults.Empty other stop = absurd stop

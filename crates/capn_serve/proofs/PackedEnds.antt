@@ -149,7 +149,7 @@ module _ {X : Type 0} (f : Fold X) (x : X) (limit : ℕ) where
   -- what is due where no whole frame is left of what was unpacked
   pub due_open : (y : X) (s : List ℕ) (q : Pending) (is_longer : Bool) (ending : Ending) (e : FrameFault)
       (c d : Option (List ℕ)) (told : TellsPacked f x (fresh limit) s q (sent c) (sent d) y) → e ≢ frames.Memory
-      → frame_rules.IsRefused q.rest f.most e
+      → frame_rules.IsFrameRefused q.rest f.most e
       → ending ≡ end_of (f.place y) e (unless_more is_longer (cut_group (f.place y) q.group.rest told.len))
       → (text : List ℕ) × IsDuePacked f x limit s is_longer text ending y × Appends c d text
   due_open y s q is_longer ending e c d told other refused is =

@@ -52,7 +52,7 @@ other_than (faults.Refused at r) = (faults.Memory, λ e. cc)
 
 module _ {X : Type 0} (f : Fold X) where
   unframed_any : (y : X) (rest : List ℕ) (other fault : RunFault) (e : FrameFault) → (fault ≡ other → ⊥)
-      → e ≢ frames.Memory → frame_rules.IsRefused rest f.most e
+      → e ≢ frames.Memory → frame_rules.IsFrameRefused rest f.most e
       → stopped fault ≡ end_of (f.place y) e (Some other)
       → (behind : Option RunFault) → EndsUnframed f y rest behind (stopped fault)
   unframed_any y rest other fault frames.Memory apart some refused is behind = absurd (some refl)
@@ -146,7 +146,7 @@ module _ {X : Type 0} (f : Fold X) (x : X) (left : ℕ) (rest stream : List ℕ)
   }
 
 module _ {X : Type 0} (f : Fold X) (x y : X) (left : ℕ) (rest stream end : List ℕ) (a b : Outgoing) where
-  long_due : (e : FrameFault) → e ≢ frames.Memory → frame_rules.IsRefused end f.most e
+  long_due : (e : FrameFault) → e ≢ frames.Memory → frame_rules.IsFrameRefused end f.most e
       → stopped faults.InputTooLong ≡ end_of (f.place y) e (Some faults.InputTooLong) → left < length stream
       → Tells f x (rest ++ taken_of left stream) end a b y → IsDueWithin f x left rest stream a b faults.InputTooLong
   long_due e other refused is past (parts, are, adds) more =

@@ -71,7 +71,7 @@ module _ {X : Type 0} (f : Fold X) (x : X) (limit : ℕ) where
   -- what is left is no whole frame
   pub due_open : (y : X) (stream rest : List ℕ) (more : Option RunFault) (ending : Ending)
       (e : FrameFault) (c d : Option (List ℕ)) → Tells f x stream rest (sent c) (sent d) y → e ≢ frames.Memory
-      → frame_rules.IsRefused rest f.most e → ending ≡ end_of (f.place y) e more
+      → frame_rules.IsFrameRefused rest f.most e → ending ≡ end_of (f.place y) e more
       → (text : List ℕ) × IsFolded f x stream more text ending y × Appends c d text
   due_open y stream rest more ending e c d (parts, are, wrote) other refused is = (
     texts_of parts,

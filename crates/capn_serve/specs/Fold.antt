@@ -93,7 +93,7 @@ module _ {X : Type 0} (f : Fold X) where
   -- no whole frame stands first in what is left, and the run ends so
   abbrev pub EndsUnframed : X → List ℕ → Option RunFault → Result (Unit {0}) RunFault → Type 0
   EndsUnframed x rest behind ending =
-      (e : FrameFault) × (e ≢ frame_faults.Memory) × frames.IsRefused rest f.most e
+      (e : FrameFault) × (e ≢ frame_faults.Memory) × frames.IsFrameRefused rest f.most e
       × (ending ≡ end_of (f.place x) e behind)
 
   -- a message stands first in what is left that is refused, and the run ends with that reason

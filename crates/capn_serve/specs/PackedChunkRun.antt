@@ -96,4 +96,5 @@ module _ {X : Type 0} (f : Fold X) where
 -- the input ended at a position: what is left is no whole frame, and the run ends so
 abbrev pub EndsPacked : Position → List ℕ → ℕ → List ℕ → ℕ → Result (Unit {0}) RunFault → Type 0
 EndsPacked at group offset rest most ending = (e : FrameFault) × (e ≢ frames.Memory)
-    × frame_rules.IsRefused rest most e × (ending ≡ end_of at e (cut_group at group offset)) × (ending ≢ Err faults.Io)
+    × frame_rules.IsFrameRefused rest most e × (ending ≡ end_of at e (cut_group at group offset))
+    × (ending ≢ Err faults.Io)

@@ -92,6 +92,6 @@ Hears f x a b taken rest c d y = (bytes : List ℕ) × Consumes a b bytes × (le
 
 -- the input ended at a position, and no message is cut, or one is
 abbrev pub EndsInput : Position → List ℕ → ℕ → Result (Unit {0}) RunFault → Type 0
-EndsInput at rest most (Ok u) = frame_rules.IsRefused rest most frames.Empty
-EndsInput at rest most (Err fault) = frame_rules.IsRefused rest most frames.Cut
+EndsInput at rest most (Ok u) = frame_rules.IsFrameRefused rest most frames.Empty
+EndsInput at rest most (Err fault) = frame_rules.IsFrameRefused rest most frames.Cut
     × (fault ≡ faults.Refused at (refusals.Frame frames.Cut))

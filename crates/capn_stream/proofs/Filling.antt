@@ -5,7 +5,7 @@ use Rattle.std.proofs.Math.Seq.{take-add}
 use Rattle.std.proofs.lemmas.List.{take_rest, take-append-drop}
 use Rattle.capn_words.specs.Message.{most_segments}
 use Rattle.capn_stream.specs.FrameRefusal.{HasCount, announced_segments, head_length}
-use Rattle.capn_stream.specs.inner.Stages.{Extends, Fills, IsDone, IsStage, IsStop, Tabled, need}
+use Rattle.capn_stream.specs.inner.Stages.{Extends, Fills, IsDone, IsStage, IsHeadRefused, Tabled, need}
 use Rattle.capn_stream.specs.declared.fault.FrameFault.{FrameFault}
 use Rattle.capn_stream.specs.declared.fault.FrameFault.TheVariants.{TooManySegments}
 use Rattle.capn_stream.specs.declared.stage.Stage.{Stage}
@@ -20,7 +20,7 @@ pub record Filled (stage : Stage) (old piece : List ℕ) (most at : ℕ) (new en
 
 -- too many segments are announced
 pub stop_count : (bs : List ℕ) (most : ℕ) (e : FrameFault) → length bs ≡ 4
-    → (e ≡ TooManySegments (announced_segments bs)) × (most_segments < announced_segments bs) → IsStop bs most e
+    → (e ≡ TooManySegments (announced_segments bs)) × (most_segments < announced_segments bs) → IsHeadRefused bs most e
 stop_count bs most e here h = rw h.0 (omega arith, refl, h.1)
 
 -- the table is waited for after the count
@@ -75,9 +75,10 @@ module _ (stage : Stage) (old piece : List ℕ) (most at n end : ℕ) (mid new e
       ∙ ap (λ (xs : List ℕ). xs ++ drop (at + n) piece) (sym filled.text)
 
   -- what is refused by what is there is refused by the whole piece
-  pub filled_stop : (e : FrameFault) → IsStop new most e → IsStop (old ++ piece) most e
+  pub filled_stop : (e : FrameFault) → IsHeadRefused new most e → IsHeadRefused (old ++ piece) most e
   filled_stop e h =
-      subst (λ (bs : List ℕ). IsStop bs most e) (sym filled_all) (IsStop-append new (drop (at + n) piece) most e h)
+      subst (λ (bs : List ℕ). IsHeadRefused bs most e) (sym filled_all)
+          (IsStop-append new (drop (at + n) piece) most e h)
 
   -- the piece ended
   pub filled_short : length new < end → Fills old piece most (at + n) new stage ends

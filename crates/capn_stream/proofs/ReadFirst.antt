@@ -5,7 +5,7 @@ use Rattle.std.proofs.Common.{length-append}
 use Rattle.std.proofs.lemmas.List.{take_at}
 use Rattle.capn_words.specs.Message.{total}
 use Rattle.capn_stream.specs.Frames.{Frames, StandsFirst}
-use Rattle.capn_stream.specs.FrameRefusal.{IsRefused}
+use Rattle.capn_stream.specs.FrameRefusal.{IsFrameRefused}
 use Rattle.capn_stream.specs.NextMessage.{OnlyFirst, ReadGives, ReadsFirst, StopsInside}
 use Rattle.capn_stream.specs.declared.fault.FrameFault.TheVariants as frames
 use Rattle.capn_stream.specs.declared.fault.ReadFault.{ReadFault}
@@ -34,20 +34,20 @@ reads input rest most failed (Err faults.Io) g = tt
 reads input rest most failed (Err (faults.Frame frames.Memory)) (bytes, g) = absurd g.answer.0
 reads input rest most failed (Err (faults.Frame frames.Empty)) (bytes, g) = absurd g.answer.0
 reads input rest most failed (Err (faults.Frame (frames.TooManySegments n))) (bytes, g) = (
-  subst (λ (xs : List ℕ). IsRefused xs most (frames.TooManySegments n)) (sym g.read)
+  subst (λ (xs : List ℕ). IsFrameRefused xs most (frames.TooManySegments n)) (sym g.read)
       (IsStop-append bytes rest most (frames.TooManySegments n) g.answer.0),
   λ h. cc,
   λ h. cc,
 )
 reads input rest most failed (Err (faults.Frame (frames.TooManyWords n))) (bytes, g) = (
-  subst (λ (xs : List ℕ). IsRefused xs most (frames.TooManyWords n)) (sym g.read)
+  subst (λ (xs : List ℕ). IsFrameRefused xs most (frames.TooManyWords n)) (sym g.read)
       (IsStop-append bytes rest most (frames.TooManyWords n) g.answer.0),
   λ h. cc,
   λ h. cc,
 )
 reads input rest most failed (Err (faults.Frame frames.Cut)) (bytes, g) =
     let whole : input ≡ bytes = g.read ∙ ap (λ (xs : List ℕ). bytes ++ xs) g.answer.0.1 ∙ append-nil bytes in
-    (subst (λ (xs : List ℕ). IsRefused xs most frames.Cut) (sym whole) g.answer.0.0, λ h. cc, λ h. cc)
+    (subst (λ (xs : List ℕ). IsFrameRefused xs most frames.Cut) (sym whole) g.answer.0.0, λ h. cc, λ h. cc)
 reads input rest most failed (Err (faults.Frame frames.Failed)) (bytes, g) = absurd g.answer.0
 
 nothing_first : (most : ℕ) (message : List (List ℕ)) (taken : ℕ) (input : List ℕ) → input ≡ []

@@ -7,7 +7,7 @@ use Rattle.std.proofs.KnownBytes.{Consumes-trans}
 use Rattle.std.proofs.lemmas.List.{take-append-le}
 use Rattle.capn_stream.specs.Frames.{Frames}
 use Rattle.capn_stream.specs.StreamPieces.{Feeds, Framing, IsFrame, IsUnfinished, TakeGives}
-use Rattle.capn_stream.specs.FrameRefusal.{EndsWithin, IsRefused}
+use Rattle.capn_stream.specs.FrameRefusal.{EndsWithin, IsFrameRefused}
 use Rattle.capn_stream.specs.NextMessage.{EndGives, StopsInside, TakesIn, most_bytes}
 use Rattle.capn_stream.specs.declared.fault.FrameFault.TheVariants as frames
 use Rattle.capn_stream.specs.declared.fault.ReadFault.{ReadFault}
@@ -98,7 +98,7 @@ module _ (a b c : Option (List ℕ)) (before : Framing) (buf : List ℕ) (count 
     many_segments_end (before.rest ++ take count buf) most n inside took,
   )
   received_err (faults.Frame (frames.TooManyWords n)) took =
-      let refused : IsRefused (before.rest ++ take count buf) most (frames.TooManyWords n) =
+      let refused : IsFrameRefused (before.rest ++ take count buf) most (frames.TooManyWords n) =
       (took.0, took.1, omega (arith, took.2, same)) in (
         before.rest ++ take count buf,
         record { read = both; bounded = short; answer = (refused, fine) },

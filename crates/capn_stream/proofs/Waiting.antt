@@ -9,7 +9,7 @@ use Rattle.capn_stream.specs.Cuts.{AreEnds, cut}
 use Rattle.capn_stream.specs.Frames.{Frames, StandsFirst}
 use Rattle.capn_stream.specs.StreamPieces.{FeedGives, IsFrame, IsUnfinished, TakeGives}
 use Rattle.capn_stream.specs.FrameRefusal.{IsWhole, announced_segments, announced_words, frame_length, head_length}
-use Rattle.capn_stream.specs.inner.Stages.{Fills, IsDone, IsStage, IsStop, Knows, Rests, announced_ends, need}
+use Rattle.capn_stream.specs.inner.Stages.{Fills, IsDone, IsStage, IsHeadRefused, Knows, Rests, announced_ends, need}
 use Rattle.capn_stream.specs.declared.fault.FrameFault.{FrameFault}
 use Rattle.capn_stream.specs.declared.fault.FrameFault.TheVariants.{Memory, Empty, TooManySegments, TooManyWords, Cut}
 use Rattle.capn_stream.specs.declared.fault.FrameFault.TheVariants.{Failed}
@@ -104,7 +104,7 @@ frame_held stage bs most ends small is (inl short) = inr (unfinished_stage stage
 -- what a feed gives, by what became of the fields
 pub feed_gives : (rest piece : List ℕ) (most : ℕ) (r : Result ℕ FrameFault) (stage : Stage) (new ends : List ℕ)
     (before after : Bool) → most ≤ 2 ^ 28 → before ≡ false → after ≡ is_err r
-    → IfOk r (λ n. Fills rest piece most n new stage ends) → IfErr r (λ e. IsStop (rest ++ piece) most e)
+    → IfOk r (λ n. Fills rest piece most n new stage ends) → IfErr r (λ e. IsHeadRefused (rest ++ piece) most e)
     → FeedGives (record { rest = rest; most = most; failed = before }) piece r
     (record { rest = new; most = most; failed = after })
 feed_gives rest piece most (Ok n) stage new ends before after small fine is_failed fills stop = record {

@@ -68,10 +68,10 @@ EndsWithin bs most =
 
 -- why bytes are refused under a number of words, each test being made once those before it have passed (running out of
 -- memory says nothing of the bytes)
-abbrev pub IsRefused : List ℕ → ℕ → FrameFault → Type 0
-IsRefused bs most Memory = ⊤
-IsRefused bs most Empty = length bs ≡ 0
-IsRefused bs most (TooManySegments n) = (4 ≤ length bs) × (n ≡ announced_segments bs) × (most_segments < n)
-IsRefused bs most (TooManyWords n) = HasHead bs × (n ≡ announced_words bs) × (most < n)
-IsRefused bs most Cut = IsCut bs most
-IsRefused bs most Failed = ⊥
+abbrev pub IsFrameRefused : List ℕ → ℕ → FrameFault → Type 0
+IsFrameRefused bs most Memory = ⊤
+IsFrameRefused bs most Empty = length bs ≡ 0
+IsFrameRefused bs most (TooManySegments n) = (4 ≤ length bs) × (n ≡ announced_segments bs) × (most_segments < n)
+IsFrameRefused bs most (TooManyWords n) = HasHead bs × (n ≡ announced_words bs) × (most < n)
+IsFrameRefused bs most Cut = IsCut bs most
+IsFrameRefused bs most Failed = ⊥

@@ -1,7 +1,7 @@
 -- The laws of frames.
 use Rattle.std.specs.Prelude.{◌≡◌, ◌≢◌, ℕ, List}
 use Rattle.capn_stream.specs.Frames.{StandsFirst}
-use Rattle.capn_stream.specs.FrameRefusal.{IsRefused}
+use Rattle.capn_stream.specs.FrameRefusal.{IsFrameRefused}
 use Rattle.capn_stream.specs.declared.fault.FrameFault.{FrameFault}
 use Rattle.capn_stream.specs.declared.fault.FrameFault.TheVariants.{Memory}
 
@@ -13,9 +13,9 @@ OneFrame = (bs : List ℕ) (most limit : ℕ) (m n : List (List ℕ)) (taken len
 -- bytes are refused for one reason, unless memory runs out
 abbrev pub OneRefusal : Type 0
 OneRefusal = (bs : List ℕ) (most : ℕ) (e f : FrameFault)
-    → IsRefused bs most e → IsRefused bs most f → e ≢ Memory → f ≢ Memory → e ≡ f
+    → IsFrameRefused bs most e → IsFrameRefused bs most f → e ≢ Memory → f ≢ Memory → e ≡ f
 
 -- bytes in which a message stands first are refused only if memory runs out
 abbrev pub FramedAreNotRefused : Type 0
 FramedAreNotRefused = (bs : List ℕ) (most : ℕ) (m : List (List ℕ)) (taken : ℕ) (e : FrameFault)
-    → StandsFirst bs most m taken → IsRefused bs most e → e ≡ Memory
+    → StandsFirst bs most m taken → IsFrameRefused bs most e → e ≡ Memory

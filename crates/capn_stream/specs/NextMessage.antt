@@ -5,7 +5,7 @@ use Rattle.std.specs.Io.KnownBytes.{Consumes, IsAtEnd}
 use Rattle.capn_words.specs.Message.{total}
 use Rattle.capn_stream.specs.Frames.{Frames, StandsFirst, most_table_words}
 use Rattle.capn_stream.specs.StreamPieces.{Framing, IsUnfinished}
-use Rattle.capn_stream.specs.FrameRefusal.{EndsWithin, IsRefused, announced_segments, head_length}
+use Rattle.capn_stream.specs.FrameRefusal.{EndsWithin, IsFrameRefused, announced_segments, head_length}
 use Rattle.capn_stream.specs.declared.fault.FrameFault.{FrameFault}
 use Rattle.capn_stream.specs.declared.fault.FrameFault.TheVariants as frames
 use Rattle.capn_stream.specs.declared.fault.ReadFault.{ReadFault}
@@ -19,25 +19,25 @@ most_bytes most = 8 * (most_table_words + most)
 abbrev pub IsUnread : List ℕ → ℕ → Option (List ℕ) → FrameFault → Type 0
 IsUnread bs most new frames.Memory = ⊥
 IsUnread bs most new frames.Empty = ⊥
-IsUnread bs most new (frames.TooManySegments n) = IsRefused bs most (frames.TooManySegments n)
-IsUnread bs most new (frames.TooManyWords n) = IsRefused bs most (frames.TooManyWords n)
-IsUnread bs most new frames.Cut = IsRefused bs most frames.Cut × IsAtEnd new
+IsUnread bs most new (frames.TooManySegments n) = IsFrameRefused bs most (frames.TooManySegments n)
+IsUnread bs most new (frames.TooManyWords n) = IsFrameRefused bs most (frames.TooManyWords n)
+IsUnread bs most new frames.Cut = IsFrameRefused bs most frames.Cut × IsAtEnd new
 IsUnread bs most new frames.Failed = ⊥
 
 -- what a read that gave these bytes answers
-abbrev pub Answers : List ℕ → ℕ → Option (List ℕ) → Bool → Result (Option (List (List ℕ))) ReadFault → Type 0
-Answers bs most new failed (Ok (Some message)) = Frames bs message × (total message ≤ most) × (failed ≡ false)
-Answers bs most new failed (Ok None) = (bs ≡ []) × IsAtEnd new × (failed ≡ false)
-Answers bs most new failed (Err faults.Memory) = failed ≡ false
-Answers bs most new failed (Err faults.Io) = IsUnfinished bs most × (failed ≡ true)
-Answers bs most new failed (Err (faults.Frame e)) = IsUnread bs most new e × (failed ≡ false)
+abbrev pub ReadAnswers : List ℕ → ℕ → Option (List ℕ) → Bool → Result (Option (List (List ℕ))) ReadFault → Type 0
+ReadAnswers bs most new failed (Ok (Some message)) = Frames bs message × (total message ≤ most) × (failed ≡ false)
+ReadAnswers bs most new failed (Ok None) = (bs ≡ []) × IsAtEnd new × (failed ≡ false)
+ReadAnswers bs most new failed (Err faults.Memory) = failed ≡ false
+ReadAnswers bs most new failed (Err faults.Io) = IsUnfinished bs most × (failed ≡ true)
+ReadAnswers bs most new failed (Err (faults.Frame e)) = IsUnread bs most new e × (failed ≡ false)
 
 -- a reader gave these bytes, and no more than a frame can have
 pub record Received (old new : Option (List ℕ)) (failed : Bool) (most : ℕ)
     (result : Result (Option (List (List ℕ))) ReadFault) (bytes : List ℕ) : Type 0 where
   pub read : Consumes old new bytes
   pub bounded : length bytes ≤ most_bytes most
-  pub answer : Answers bytes most new failed result
+  pub answer : ReadAnswers bytes most new failed result
 
 -- a reader gave some bytes, and a read answers what they call for
 abbrev pub ReadGives : Option (List ℕ) → Option (List ℕ) → Bool → ℕ → Result (Option (List (List ℕ))) ReadFault → Type 0
@@ -74,9 +74,9 @@ TakesIn before piece (Err faults.Io) after = ⊥
 TakesIn before piece (Err (faults.Frame frames.Memory)) after = ⊥
 TakesIn before piece (Err (faults.Frame frames.Empty)) after = ⊥
 TakesIn before piece (Err (faults.Frame (frames.TooManySegments n))) after =
-    IsRefused (before.rest ++ piece) before.most (frames.TooManySegments n)
+    IsFrameRefused (before.rest ++ piece) before.most (frames.TooManySegments n)
 TakesIn before piece (Err (faults.Frame (frames.TooManyWords n))) after =
-    IsRefused (before.rest ++ piece) before.most (frames.TooManyWords n)
+    IsFrameRefused (before.rest ++ piece) before.most (frames.TooManyWords n)
 TakesIn before piece (Err (faults.Frame frames.Cut)) after = ⊥
 TakesIn before piece (Err (faults.Frame frames.Failed)) after = ⊥
 
@@ -90,7 +90,7 @@ EndGives rest most (Err (faults.Frame frames.Memory)) = ⊥
 EndGives rest most (Err (faults.Frame frames.Empty)) = ⊥
 EndGives rest most (Err (faults.Frame (frames.TooManySegments n))) = ⊥
 EndGives rest most (Err (faults.Frame (frames.TooManyWords n))) = ⊥
-EndGives rest most (Err (faults.Frame frames.Cut)) = IsRefused rest most frames.Cut
+EndGives rest most (Err (faults.Frame frames.Cut)) = IsFrameRefused rest most frames.Cut
 EndGives rest most (Err (faults.Frame frames.Failed)) = ⊥
 
 -- What a read answers, of all that the reader had to give: the message that stands first in it; none, where it has no
@@ -100,7 +100,7 @@ ReadsFirst most (Ok (Some message)) input = (taken : ℕ) × StandsFirst input m
 ReadsFirst most (Ok None) input = input ≡ []
 ReadsFirst most (Err faults.Memory) input = ⊤
 ReadsFirst most (Err faults.Io) input = ⊤
-ReadsFirst most (Err (faults.Frame e)) input = IsRefused input most e × (e ≢ frames.Memory) × (e ≢ frames.Empty)
+ReadsFirst most (Err (faults.Frame e)) input = IsFrameRefused input most e × (e ≢ frames.Memory) × (e ≢ frames.Empty)
 
 -- a message that stands first is answered, unless memory runs out or the reader failed
 abbrev pub OnlyFirst : ℕ → Result (Option (List (List ℕ))) ReadFault → List ℕ → Type 0

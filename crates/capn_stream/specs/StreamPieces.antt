@@ -3,7 +3,7 @@ use Rattle.std.specs.Prelude.{◌≡◌, ◌⊎◌, ℕ, ◌≤◌, List, [], �
 use Rattle.std.specs.Prelude.{Option, Some, None}
 use Rattle.capn_words.specs.Message.{most_message_words, total}
 use Rattle.capn_stream.specs.Frames.{Frames}
-use Rattle.capn_stream.specs.FrameRefusal.{IsRefused}
+use Rattle.capn_stream.specs.FrameRefusal.{IsFrameRefused}
 use Rattle.capn_stream.specs.inner.Stages.{IsStage, Rests}
 use Rattle.capn_stream.specs.declared.fault.FrameFault.{FrameFault}
 use Rattle.capn_stream.specs.declared.fault.FrameFault.TheVariants.{Memory, Empty, TooManySegments, TooManyWords, Cut}
@@ -23,7 +23,7 @@ IsFrame bs most = (message : List (List ℕ)) × Frames bs message × (total mes
 
 -- no frame has begun, or one has and is not whole
 abbrev pub IsUnfinished : List ℕ → ℕ → Type 0
-IsUnfinished bs most = IsRefused bs most Empty ⊎ IsRefused bs most Cut
+IsUnfinished bs most = IsFrameRefused bs most Empty ⊎ IsFrameRefused bs most Cut
 
 -- n bytes of a piece were taken: all of them, or as many as make a message whole
 pub record Feeds (before : Framing) (piece : List ℕ) (n : ℕ) (after : Framing) : Type 0 where
@@ -47,9 +47,9 @@ FeedGives before piece (Ok n) after = Feeds before piece n after
 FeedGives before piece (Err Memory) after = Stops before after
 FeedGives before piece (Err Empty) after = ⊥
 FeedGives before piece (Err (TooManySegments n)) after = Stops before after
-    × IsRefused (before.rest ++ piece) before.most (TooManySegments n)
+    × IsFrameRefused (before.rest ++ piece) before.most (TooManySegments n)
 FeedGives before piece (Err (TooManyWords n)) after = Stops before after
-    × IsRefused (before.rest ++ piece) before.most (TooManyWords n)
+    × IsFrameRefused (before.rest ++ piece) before.most (TooManyWords n)
 FeedGives before piece (Err Cut) after = ⊥
 FeedGives before piece (Err Failed) after = (before.failed ≡ true) × (after ≡ before)
 
@@ -69,7 +69,7 @@ FinishGives before (Err Memory) after = ⊥
 FinishGives before (Err Empty) after = ⊥
 FinishGives before (Err (TooManySegments n)) after = ⊥
 FinishGives before (Err (TooManyWords n)) after = ⊥
-FinishGives before (Err Cut) after = Stops before after × IsRefused before.rest before.most Cut
+FinishGives before (Err Cut) after = Stops before after × IsFrameRefused before.rest before.most Cut
 FinishGives before (Err Failed) after = (before.failed ≡ true) × (after ≡ before)
 
 -- the fields of a framer say how far its frame has come, until a call has refused

@@ -3,7 +3,7 @@
 ghost use Rattle.std.specs.Prelude.{◌≡◌, ℕ, ◌≤◌, List, IfOk, IfErr, IsErrOf, MatchResult};
 ghost use Rattle.capn_words.specs.Message.{most_message_words};
 ghost use Rattle.capn_stream.specs.Frames.{StandsFirst};
-ghost use Rattle.capn_stream.specs.FrameRefusal.{HasTable, IsRefused};
+ghost use Rattle.capn_stream.specs.FrameRefusal.{HasTable, IsFrameRefused};
 
 use crate::fault::FrameFault;
 use crate::framed::Framed;
@@ -29,7 +29,7 @@ pub fn first<'a, A: Allocator + Copy>(
     ensures only { (message : List (List ℕ)) (taken : ℕ)
         → StandsFirst bytes.now max_words message taken
         → MatchResult result (λ answer. (answer.0 ≡ message) × (answer.1 ≡ taken)) (λ e. e ≡ FrameFault.Memory) }
-    ensures refused { IfErr result (λ e. IsRefused bytes.now max_words e) }
+    ensures refused { IfErr result (λ e. IsFrameRefused bytes.now max_words e) }
     // Memory is needed only if a whole frame of two segments or more stands first.
     ensures memory { IsErrOf result FrameFault.Memory → HasTable bytes.now max_words }
 {

@@ -5,7 +5,7 @@ ghost use Rattle.std.specs.Prelude.{vec_capacity};
 ghost use Rattle.capn_words.specs.Message.{AreBytes, most_segments, most_message_words};
 ghost use Rattle.capn_stream.specs.FrameRefusal.{HasCount, announced_segments, head_length};
 ghost use Rattle.capn_stream.specs.inner.Stages as spec;
-ghost use Rattle.capn_stream.specs.inner.Stages.{Extends, Fills, FitsStage, IsStage, IsStop, Rests, Tabled};
+ghost use Rattle.capn_stream.specs.inner.Stages.{Extends, Fills, FitsStage, IsStage, IsHeadRefused, Rests, Tabled};
 ghost use Rattle.capn_stream.specs.declared.fault.FrameFault.TheVariants as faults;
 
 use crate::fault::FrameFault;
@@ -114,7 +114,7 @@ fn read_table<A: Allocator>(
     requires count { HasCount bytes.now × (segments ≡ announced_segments bytes.now) }
     requires here { length bytes.now ≡ head_length segments }
     ensures tabled { IfOk result (λ b. Tabled bytes.now most b.start b.end b.ends.items) }
-    ensures refused { IfErr result (λ e. IsStop bytes.now most e) }
+    ensures refused { IfErr result (λ e. IsHeadRefused bytes.now most e) }
 {
     let words = total_of(&bytes[4..], segments);
     if words > most as u64 {
@@ -143,7 +143,7 @@ pub(crate) fn fill<A: Allocator + Copy>(
     requires rests { Rests stage.old bytes.old.items }
     ensures filled { IfOk result
         (λ n. Fills bytes.old.items piece.now most n bytes.new.items stage.new ends.new.items) }
-    ensures refused { IfErr result (λ e. IsStop (bytes.old.items ++ piece.now) most e) }
+    ensures refused { IfErr result (λ e. IsHeadRefused (bytes.old.items ++ piece.now) most e) }
     ensures wanted { IsErrOf result FrameFault.Memory
         → (0 < length piece.now) × (length bytes.old.items < spec.need stage.old) }
 {

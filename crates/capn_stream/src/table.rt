@@ -4,7 +4,7 @@ ghost use Rattle.std.specs.Prelude.{◌≡◌, ℕ, ◌+◌, ◌*◌, ◌^◌, �
 ghost use Rattle.std.specs.Prelude.{vec_capacity};
 ghost use Rattle.capn_stream.specs.Cuts.{ends_from};
 ghost use Rattle.capn_words.specs.Message.{most_segments, most_message_words};
-ghost use Rattle.capn_stream.specs.FrameRefusal.{IsRefused, IsWhole, announced_segments, entries, entry_number};
+ghost use Rattle.capn_stream.specs.FrameRefusal.{IsFrameRefused, IsWhole, announced_segments, entries, entry_number};
 ghost use Rattle.capn_stream.specs.FrameRefusal.{head_length};
 ghost use Rattle.capn_stream.specs.FrameRefusal.{announced_words};
 
@@ -83,7 +83,7 @@ pub(crate) fn read_head(bytes: &[u8], max_words: u32) -> Result<Head, FrameFault
     ensures whole { IfOk result (λ head. IsWhole bytes.now max_words) }
     ensures segments { IfOk result (λ head. head.segments ≡ announced_segments bytes.now) }
     ensures words { IfOk result (λ head. head.words ≡ announced_words bytes.now) }
-    ensures refused { IfErr result (λ e. IsRefused bytes.now max_words e) }
+    ensures refused { IfErr result (λ e. IsFrameRefused bytes.now max_words e) }
     ensures no_memory { IsErrOf result FrameFault.Memory → ⊥ }
 {
     if bytes.is_empty() {

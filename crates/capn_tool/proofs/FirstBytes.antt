@@ -51,14 +51,14 @@ module _ (n most : ℕ) (bytes : List ℕ) (enough : 8 * (most + most_table_word
 
   -- bytes that are refused for what stands first are refused with those that follow
   refused_first : (e : FrameFault) → (e ≡ frame_faults.Memory → ⊥) → n < length bytes
-      → frames.IsRefused (take n bytes) most e → frames.IsRefused bytes most e
+      → frames.IsFrameRefused (take n bytes) most e → frames.IsFrameRefused bytes most e
   refused_first frame_faults.Memory other more h = tt
   refused_first frame_faults.Empty other more h = absurd (omega (arith, enough, more, h, length-take n bytes))
   refused_first (frame_faults.TooManySegments k) other more h =
-      subst (λ (bs : List ℕ). frames.IsRefused bs most (frame_faults.TooManySegments k)) (take-append-drop n bytes)
+      subst (λ (bs : List ℕ). frames.IsFrameRefused bs most (frame_faults.TooManySegments k)) (take-append-drop n bytes)
       (IsStop-append (take n bytes) (drop n bytes) most (frame_faults.TooManySegments k) h)
   refused_first (frame_faults.TooManyWords k) other more h =
-      subst (λ (bs : List ℕ). frames.IsRefused bs most (frame_faults.TooManyWords k)) (take-append-drop n bytes)
+      subst (λ (bs : List ℕ). frames.IsFrameRefused bs most (frame_faults.TooManyWords k)) (take-append-drop n bytes)
       (IsStop-append (take n bytes) (drop n bytes) most (frame_faults.TooManyWords k) h)
   refused_first frame_faults.Cut other more h =
       absurd (omega (arith, enough, more, length-take n bytes, cut_length (take n bytes) most h))
@@ -81,7 +81,7 @@ module _ (n most : ℕ) (bytes : List ℕ) (enough : 8 * (most + most_table_word
   misframed_first : (r : Refusal) → IsMisframed (take n bytes) most r → IsMisframed bytes most r
   misframed_first (refusals.Frame e) (other, h) = elim (cases_lt n (length bytes)) [
     | inl more ↦ (other, refused_first e other more h)
-    | inr all ↦ (other, subst (λ (bs : List ℕ). frames.IsRefused bs most e) (take_all n bytes all) h)
+    | inr all ↦ (other, subst (λ (bs : List ℕ). frames.IsFrameRefused bs most e) (take_all n bytes all) h)
   ]
   misframed_first (refusals.Trailing at) h = trails_first at h
   misframed_first refusals.Memory h = h

@@ -7,17 +7,17 @@ use Rattle.std.specs.List.{AllByRecursion}
 use Rattle.capn_words.specs.Message.{total}
 use Rattle.capn_walk.specs.Limits.{Bounds}
 use Rattle.capn_stream.specs.Frames.{Frames, StandsFirst}
-use Rattle.capn_stream.specs.inner.Stages.{IsStop}
+use Rattle.capn_stream.specs.inner.Stages.{IsHeadRefused}
 use Rattle.capn_stream.specs.declared.fault.FrameFault.{FrameFault}
 use Rattle.capn_stream.specs.declared.fault.FrameFault.TheVariants as frame_faults
 use Rattle.capn_stream.proofs.shared.Longer.{IsStop-append}
 use Rattle.capn_canon.specs.declared.refusal.Refusal.TheVariants as refusals
-use Rattle.capn_tool.specs.MessageText.{IsPiece, IsNoPiece}
+use Rattle.capn_tool.specs.MessageText.{IsMessageText, IsNoMessageText}
 use Rattle.capn_tool.specs.Streams.{Part, IsPart, AreParts, frame_of, text_of, frames_of, texts_of, IsDueEach}
-use Rattle.capn_tool.specs.inner.ServedMessages.{AddsPiece}
+use Rattle.capn_tool.specs.inner.ServedMessages.{AddsMessageText}
 use Rattle.capn_tool.specs.Outgoing.{Outgoing, Adds, Breaks}
-use Rattle.capn_tool.specs.StreamRun.{Tells, TellsFront, IsDueSo, Stops}
-use Rattle.capn_tool.specs.declared.plan.Piece.{Piece}
+use Rattle.capn_tool.specs.StreamRun.{Writes, WritesFront, IsDueSo, Stops}
+use Rattle.capn_tool.specs.declared.plan.MessageText.{MessageText}
 use Rattle.capn_tool.specs.declared.fault.ToolFault.{ToolFault}
 use Rattle.capn_tool.specs.declared.fault.ToolFault.TheVariants as faults
 use Rattle.capn_tool.proofs.Sends.{adds_more, adds_none, breaks_behind}
@@ -28,7 +28,7 @@ pub every_append : {X : Type 0} (P : X → Type 0) (xs ys : List X) → AllByRec
 every_append P [] ys f g = g
 every_append P (x ∷ xs) ys f g = (f.0, every_append P xs ys f.1 g)
 
-module _ (piece : Piece) (limits : Bounds) where
+module _ (piece : MessageText) (limits : Bounds) where
   -- parts of a stream, and parts of what was left of it with more after it
   pub parts_more : (s mid x rest : List ℕ) (ps qs : List Part) → AreParts piece limits s ps mid
       → AreParts piece limits (mid ++ x) qs rest → AreParts piece limits (s ++ x) (ps ++ qs) rest
@@ -48,18 +48,18 @@ module _ (piece : Piece) (limits : Bounds) where
       subst (Adds a c) (sym (flat_map-append text_of ps qs)) (adds_more a b c (texts_of ps) (texts_of qs) f g)
 
   -- nothing was added, and all is left
-  pub tells_none : (stream : List ℕ) (a : Outgoing) → Tells piece limits stream stream a a
+  pub tells_none : (stream : List ℕ) (a : Outgoing) → Writes piece limits stream stream a a
   tells_none stream a = ([], record { each = tt; is = refl }, adds_none a)
 
-  pub tells_more : (s mid x rest : List ℕ) (a b c : Outgoing) → Tells piece limits s mid a b
-      → Tells piece limits (mid ++ x) rest b c → Tells piece limits (s ++ x) rest a c
+  pub tells_more : (s mid x rest : List ℕ) (a b c : Outgoing) → Writes piece limits s mid a b
+      → Writes piece limits (mid ++ x) rest b c → Writes piece limits (s ++ x) rest a c
   tells_more s mid x rest a b c f g =
       (f.0 ++ g.0, parts_more s mid x rest f.0 g.0 f.1 g.1, texts_more a b c f.0 g.0 f.2 g.2)
 
   -- a message and its piece
   pub tells_one : (frame : List ℕ) (message : List (List ℕ)) (text : List ℕ) (a b : Outgoing) → Frames frame message
-      → total message ≤ limits.message_words → IsPiece piece message limits text → Adds a b text
-      → Tells piece limits frame [] a b
+      → total message ≤ limits.message_words → IsMessageText piece message limits text → Adds a b text
+      → Writes piece limits frame [] a b
   tells_one frame message text a b is room p wrote = (
     (record { frame = frame; message = message; text = text }) ∷ [],
     record {
@@ -71,7 +71,7 @@ module _ (piece : Piece) (limits : Bounds) where
 
   -- if output is right for what the parts of a stream leave, the parts' texts and it are right for all of the stream
   pub due_behind : (s mid x : List ℕ) (a b c : Outgoing) (behind : Option ToolFault)
-      (ending : Result (Unit {0}) ToolFault) → Tells piece limits s mid a b
+      (ending : Result (Unit {0}) ToolFault) → Writes piece limits s mid a b
       → (text : List ℕ) × IsDueEach piece limits (mid ++ x) behind text ending × Adds b c text → (text : List ℕ)
       × IsDueEach piece limits (s ++ x) behind text ending × Adds a c text
   due_behind s mid x a b c behind ending told (text, due, wrote) = (
@@ -86,8 +86,8 @@ module _ (piece : Piece) (limits : Bounds) where
     texts_more a b c told.0 due.parts told.2 (subst (Adds b c) due.joined wrote),
   )
 
-  pub front_behind : (s mid x : List ℕ) (a b c : Outgoing) → Tells piece limits s mid a b
-      → TellsFront piece limits (mid ++ x) b c → TellsFront piece limits (s ++ x) a c
+  pub front_behind : (s mid x : List ℕ) (a b c : Outgoing) → Writes piece limits s mid a b
+      → WritesFront piece limits (mid ++ x) b c → WritesFront piece limits (s ++ x) a c
   front_behind s mid x a b c told (parts, rest, count, are, wrote) =
       let behind = breaks_behind a b c (texts_of told.0) (texts_of parts) count told.2 wrote in (
         told.0 ++ parts,
@@ -99,7 +99,7 @@ module _ (piece : Piece) (limits : Bounds) where
 
   -- if a run stops after the parts of a stream, it stops there in all of it
   pub stops_more : (s mid x : List ℕ) (a b c : Outgoing) (failed : Bool) (fault : ToolFault)
-      → Tells piece limits s mid a b → Stops piece limits (mid ++ x) b c failed fault
+      → Writes piece limits s mid a b → Stops piece limits (mid ++ x) b c failed fault
       → Stops piece limits (s ++ x) a c failed fault
   stops_more s mid x a b c failed fault told stop = record {
     told = λ h. (let next = stop.told h in (next.0, tells_more s mid x next.0 a b c told next.1));
@@ -129,7 +129,7 @@ module _ (piece : Piece) (limits : Bounds) where
 
   -- no frame can follow
   pub stops_framed : (stream : List ℕ) (a : Outgoing) (failed : Bool) (e : FrameFault) → failed ≡ false
-      → e ≢ frame_faults.Memory → IsStop stream limits.message_words e
+      → e ≢ frame_faults.Memory → IsHeadRefused stream limits.message_words e
       → Stops piece limits stream a a failed (faults.Refused (refusals.Frame e))
   stops_framed stream a failed e fine other stop = record {
     told = λ h. (stream, tells_none stream a);
@@ -144,7 +144,7 @@ module _ (piece : Piece) (limits : Bounds) where
   }
     where
       due : (more : List ℕ) (behind : Option ToolFault) (e : FrameFault) → e ≢ frame_faults.Memory
-          → IsStop (stream ++ more) limits.message_words e
+          → IsHeadRefused (stream ++ more) limits.message_words e
           → IsDueEach piece limits (stream ++ more) behind [] (Err (faults.Refused (refusals.Frame e)))
       due more behind frame_faults.Memory other stop = absurd (other refl)
       due more behind frame_faults.Empty other stop = absurd stop
@@ -177,7 +177,7 @@ module _ (piece : Piece) (limits : Bounds) where
   -- a message has no piece, or the writer failed
   pub stops_piece : (frame x : List ℕ) (message : List (List ℕ)) (a b : Outgoing) (failed : Bool) (fault : ToolFault)
       → Frames frame message → total message ≤ limits.message_words
-      → AddsPiece piece message limits a b failed (Err fault) → Stops piece limits (frame ++ x) a b failed fault
+      → AddsMessageText piece message limits a b failed (Err fault) → Stops piece limits (frame ++ x) a b failed fault
   stops_piece frame x message a b failed fault is room (inl (why, kept, fine)) = record {
     told = λ h. (frame ++ x, ([], record { each = tt; is = refl }, kept));
     front = λ h. absurd (let bad : true ≡ false = sym h ∙ fine in cc);
@@ -188,7 +188,7 @@ module _ (piece : Piece) (limits : Bounds) where
       told : IsTold fault
       told = elim why [ inl m ↦ told_memory fault m | inr n ↦ told_piece piece message limits fault n ]
 
-      due : IsNoPiece piece message limits fault → (more : List ℕ) (behind : Option ToolFault)
+      due : IsNoMessageText piece message limits fault → (more : List ℕ) (behind : Option ToolFault)
           → IsDueEach piece limits ((frame ++ x) ++ more) behind [] (Err fault)
       due n more behind = record {
         parts = [];

@@ -14,13 +14,13 @@ use Rattle.capn_stream.specs.StreamPieces.{FeedGives, Feeds, Framing, IsFrame, I
 use Rattle.capn_stream.specs.declared.fault.FrameFault.{FrameFault}
 use Rattle.capn_stream.specs.declared.fault.FrameFault.TheVariants as frame_faults
 use Rattle.capn_stream.proofs.shared.Wanting.{unfinished_frame}
-use Rattle.capn_tool.specs.inner.ServedMessages.{AddsPiece}
+use Rattle.capn_tool.specs.inner.ServedMessages.{AddsMessageText}
 use Rattle.capn_tool.specs.Outgoing.{Outgoing, Adds, SendsRest, outgoing, sent}
 use Rattle.capn_tool.specs.Streams.{texts_of}
-use Rattle.capn_tool.specs.MessageText.{IsPiece}
+use Rattle.capn_tool.specs.MessageText.{IsMessageText}
 use Rattle.capn_stream.specs.FrameRefusal as frame_rules
-use Rattle.capn_tool.specs.StreamRun.{HasNoFrame, IsDueSo, IsListening, Serves, ServesNext, Stops, Tells, fault_of}
-use Rattle.capn_tool.specs.declared.plan.Piece.{Piece}
+use Rattle.capn_tool.specs.StreamRun.{HasNoFrame, IsDueSo, IsListening, Serves, ServesNext, Stops, Writes, fault_of}
+use Rattle.capn_tool.specs.declared.plan.MessageText.{MessageText}
 use Rattle.capn_tool.specs.declared.fault.ToolFault.{ToolFault}
 use Rattle.capn_tool.specs.declared.fault.ToolFault.TheVariants as faults
 use Rattle.capn_tool.proofs.Sends.{adds_all, breaks_rest}
@@ -42,7 +42,7 @@ new_listening framer limits most is same = record {
   most = ap (λ (f : Framing). f.most) is ∙ same;
 }
 
-module _ (piece : Piece) (limits : Bounds) (before : Framing) (bytes : List ℕ)
+module _ (piece : MessageText) (limits : Bounds) (before : Framing) (bytes : List ℕ)
     (listening : IsListening before limits) where
   -- what is held is no frame
   part : IsUnfinished before.rest before.most
@@ -62,7 +62,7 @@ module _ (piece : Piece) (limits : Bounds) (before : Framing) (bytes : List ℕ)
   -- a message was made whole, and its piece added
   pub next_some : (n : ℕ) (mid after : Framing) (message : List (List ℕ)) (a b : Outgoing) (failed : Bool)
       (u : Unit {0}) → Feeds before bytes n mid → TakeGives mid (Some message) after
-      → AddsPiece piece message limits a b failed (Ok u)
+      → AddsMessageText piece message limits a b failed (Ok u)
       → ServesNext piece limits before bytes a b failed (Ok n) after
   next_some n mid after message a b failed u fed took (text, is, wrote, fine) =
       let frame = subst (λ (p : List ℕ). Frames p message) fed.rest took.0 in
@@ -114,7 +114,7 @@ module _ (piece : Piece) (limits : Bounds) (before : Framing) (bytes : List ℕ)
   -- the message has no piece, or the writer failed
   pub next_stopped : (n : ℕ) (mid after : Framing) (message : List (List ℕ)) (a b : Outgoing) (failed : Bool)
       (fault : ToolFault) → Feeds before bytes n mid → TakeGives mid (Some message) after
-      → AddsPiece piece message limits a b failed (Err fault)
+      → AddsMessageText piece message limits a b failed (Err fault)
       → Stops piece limits (before.rest ++ bytes) a b failed fault
   next_stopped n mid after message a b failed fault fed took wrote =
       let frame = subst (λ (p : List ℕ). Frames p message) fed.rest took.0 in
@@ -147,8 +147,8 @@ module _ (piece : Piece) (limits : Bounds) (before : Framing) (bytes : List ℕ)
 
 -- ---- more of the bytes
 
-module _ (piece : Piece) (limits : Bounds) (first before : Framing) (bytes : List ℕ) (at : ℕ) (a b c : Outgoing)
-    (told : Tells piece limits (first.rest ++ take at bytes) before.rest a b) where
+module _ (piece : MessageText) (limits : Bounds) (first before : Framing) (bytes : List ℕ) (at : ℕ) (a b c : Outgoing)
+    (told : Writes piece limits (first.rest ++ take at bytes) before.rest a b) where
   pub served_stop : (failed : Bool) (fault : ToolFault)
       → Stops piece limits (before.rest ++ take (length bytes - at) (drop at bytes)) b c failed fault
       → Stops piece limits (first.rest ++ bytes) a c failed fault
@@ -163,22 +163,22 @@ module _ (piece : Piece) (limits : Bounds) (first before : Framing) (bytes : Lis
       part)
 
   pub served_more : (n : ℕ) (rest : List ℕ)
-      → Tells piece limits (before.rest ++ take n (take (length bytes - at) (drop at bytes))) rest b c
-      → Tells piece limits (first.rest ++ take (at + n) bytes) rest a c
+      → Writes piece limits (before.rest ++ take n (take (length bytes - at) (drop at bytes))) rest b c
+      → Writes piece limits (first.rest ++ take (at + n) bytes) rest a c
   served_more n rest next =
-      let part = subst (λ (p : List ℕ). Tells piece limits (before.rest ++ take n p) rest b c) (take_rest bytes at)
+      let part = subst (λ (p : List ℕ). Writes piece limits (before.rest ++ take n p) rest b c) (take_rest bytes at)
       next in
       let whole : (first.rest ++ take at bytes) ++ take n (drop at bytes) ≡ first.rest ++ take (at + n) bytes =
       append_assoc first.rest (take at bytes) (take n (drop at bytes))
       ∙ ap (λ (p : List ℕ). first.rest ++ p) (sym (take-add at n bytes)) in
-      subst (λ (p : List ℕ). Tells piece limits p rest a c) whole
+      subst (λ (p : List ℕ). Writes piece limits p rest a c) whole
       (tells_more piece limits (first.rest ++ take at bytes) before.rest (take n (drop at bytes)) rest a b c told
       part)
 
 -- ---- messages that lie whole in the bytes
 
-module _ (piece : Piece) (limits : Bounds) (bytes : List ℕ) (at : ℕ) (a b : Outgoing)
-    (told : Tells piece limits (take at bytes) [] a b) (message : List (List ℕ)) (taken most : ℕ)
+module _ (piece : MessageText) (limits : Bounds) (bytes : List ℕ) (at : ℕ) (a b : Outgoing)
+    (told : Writes piece limits (take at bytes) [] a b) (message : List (List ℕ)) (taken most : ℕ)
     (same : most ≡ limits.message_words)
     (first : StandsFirst (take (length bytes - at) (drop at bytes)) most message taken) where
   abbrev front : List ℕ
@@ -198,15 +198,15 @@ module _ (piece : Piece) (limits : Bounds) (bytes : List ℕ) (at : ℕ) (a b : 
         absurd (unfinished_frame [] limits.message_words (empty_unfinished limits.message_words) (message, bad, room)))
   ]
 
-  pub whole_more : (c : Outgoing) (text : List ℕ) → IsPiece piece message limits text → Adds b c text
-      → Tells piece limits (take (at + taken) bytes) [] a c
+  pub whole_more : (c : Outgoing) (text : List ℕ) → IsMessageText piece message limits text → Adds b c text
+      → Writes piece limits (take (at + taken) bytes) [] a c
   whole_more c text is adds =
       let one = tells_one piece limits front message text b c is_front room is adds in
-      subst (λ (p : List ℕ). Tells piece limits p [] a c) (sym (take-add at taken bytes))
+      subst (λ (p : List ℕ). Writes piece limits p [] a c) (sym (take-add at taken bytes))
       (tells_more piece limits (take at bytes) [] front [] a b c told one)
 
   pub whole_stop : (c : Outgoing) (failed : Bool) (fault : ToolFault)
-      → AddsPiece piece message limits b c failed (Err fault) → Stops piece limits bytes a c failed fault
+      → AddsMessageText piece message limits b c failed (Err fault) → Stops piece limits bytes a c failed fault
   whole_stop c failed fault adds =
       let here = stops_piece piece limits front (drop taken (drop at bytes)) message b c failed fault is_front room
       adds in
@@ -216,8 +216,8 @@ module _ (piece : Piece) (limits : Bounds) (bytes : List ℕ) (at : ℕ) (a b : 
       (stops_more piece limits (take at bytes) [] (drop at bytes) a b c failed fault told part)
 
 -- memory was refused after whole messages
-pub whole_memory : (piece : Piece) (limits : Bounds) (bytes : List ℕ) (at : ℕ) (a b : Outgoing)
-    → Tells piece limits (take at bytes) [] a b → (failed : Bool) → failed ≡ false
+pub whole_memory : (piece : MessageText) (limits : Bounds) (bytes : List ℕ) (at : ℕ) (a b : Outgoing)
+    → Writes piece limits (take at bytes) [] a b → (failed : Bool) → failed ≡ false
     → Stops piece limits bytes a b failed faults.Memory
 whole_memory piece limits bytes at a b told failed fine =
     let here = stops_memory piece limits (drop at bytes) b failed fine in
@@ -226,11 +226,11 @@ whole_memory piece limits bytes at a b told failed fine =
 
 -- no whole message follows: what follows is refused,
 pub none_follows : (limits : Bounds) (bytes : List ℕ) (at most : ℕ) (e : FrameFault) → most ≡ limits.message_words
-    → e ≢ frame_faults.Memory → frame_rules.IsRefused (take (length bytes - at) (drop at bytes)) most e
+    → e ≢ frame_faults.Memory → frame_rules.IsFrameRefused (take (length bytes - at) (drop at bytes)) most e
     → HasNoFrame limits (drop at bytes)
 none_follows limits bytes at most e same other refused =
-    let here = subst (λ (p : List ℕ). frame_rules.IsRefused p most e) (take_rest bytes at) refused in
-    (e, other, subst (λ (m : ℕ). frame_rules.IsRefused (drop at bytes) m e) same here)
+    let here = subst (λ (p : List ℕ). frame_rules.IsFrameRefused p most e) (take_rest bytes at) refused in
+    (e, other, subst (λ (m : ℕ). frame_rules.IsFrameRefused (drop at bytes) m e) same here)
 
 -- or nothing follows
 pub nothing_follows : (limits : Bounds) (bytes : List ℕ) (at : ℕ) → length bytes ≤ at
@@ -243,21 +243,21 @@ some_none n size rest (inl all) other = absurd (other all)
 some_none n size rest (inr none) other = none
 
 -- the message that had begun, and those that lie whole after it
-module _ (piece : Piece) (limits : Bounds) (first after : Framing) (bytes : List ℕ) (n : ℕ) (a b c : Outgoing)
-    (told : Tells piece limits (first.rest ++ take n bytes) after.rest a b) (none : after.rest ≡ []) where
-  begun : Tells piece limits (first.rest ++ take n bytes) [] a b
-  begun = subst (λ (p : List ℕ). Tells piece limits (first.rest ++ take n bytes) p a b) none told
+module _ (piece : MessageText) (limits : Bounds) (first after : Framing) (bytes : List ℕ) (n : ℕ) (a b c : Outgoing)
+    (told : Writes piece limits (first.rest ++ take n bytes) after.rest a b) (none : after.rest ≡ []) where
+  begun : Writes piece limits (first.rest ++ take n bytes) [] a b
+  begun = subst (λ (p : List ℕ). Writes piece limits (first.rest ++ take n bytes) p a b) none told
 
-  pub some_more : (m : ℕ) → Tells piece limits (take m (take (length bytes - n) (drop n bytes))) [] b c
-      → Tells piece limits (first.rest ++ take (n + m) bytes) after.rest a c
+  pub some_more : (m : ℕ) → Writes piece limits (take m (take (length bytes - n) (drop n bytes))) [] b c
+      → Writes piece limits (first.rest ++ take (n + m) bytes) after.rest a c
   some_more m next =
-      let part = subst (λ (p : List ℕ). Tells piece limits (take m p) [] b c) (take_rest bytes n) next in
+      let part = subst (λ (p : List ℕ). Writes piece limits (take m p) [] b c) (take_rest bytes n) next in
       let whole : (first.rest ++ take n bytes) ++ take m (drop n bytes) ≡ first.rest ++ take (n + m) bytes =
       append_assoc first.rest (take n bytes) (take m (drop n bytes))
       ∙ ap (λ (p : List ℕ). first.rest ++ p) (sym (take-add n m bytes)) in
       let all = tells_more piece limits (first.rest ++ take n bytes) [] (take m (drop n bytes)) [] a b c begun part in
-      subst (λ (p : List ℕ). Tells piece limits (first.rest ++ take (n + m) bytes) p a c) (sym none)
-      (subst (λ (p : List ℕ). Tells piece limits p [] a c) whole all)
+      subst (λ (p : List ℕ). Writes piece limits (first.rest ++ take (n + m) bytes) p a c) (sym none)
+      (subst (λ (p : List ℕ). Writes piece limits p [] a c) whole all)
 
   pub some_stop : (failed : Bool) (fault : ToolFault)
       → Stops piece limits (take (length bytes - n) (drop n bytes)) b c failed fault
@@ -272,9 +272,10 @@ module _ (piece : Piece) (limits : Bounds) (first after : Framing) (bytes : List
 
 -- ---- what is kept is written
 
-module _ (piece : Piece) (limits : Bounds) (c d e : Option (List ℕ)) (text : List ℕ) where
-  pub tells_sent : (stream rest : List ℕ) → Tells piece limits stream rest (sent c) (outgoing d text) → Appends d e text
-      → Tells piece limits stream rest (sent c) (sent e)
+module _ (piece : MessageText) (limits : Bounds) (c d e : Option (List ℕ)) (text : List ℕ) where
+  pub tells_sent : (stream rest : List ℕ) → Writes piece limits stream rest (sent c) (outgoing d text)
+      → Appends d e text
+      → Writes piece limits stream rest (sent c) (sent e)
   tells_sent stream rest (parts, are, adds) wrote = (parts, are, adds_all (sent c) d e text (texts_of parts) adds wrote)
 
   pub stops_sent : (stream : List ℕ) (fault : ToolFault)
@@ -293,7 +294,7 @@ module _ (piece : Piece) (limits : Bounds) (c d e : Option (List ℕ)) (text : L
           (part.0, part.1, adds_all (sent c) d e text part.0 part.2 wrote)
 
   -- the writer fails within it
-  pub tells_broken : (stream rest : List ℕ) → Tells piece limits stream rest (sent c) (outgoing d text)
+  pub tells_broken : (stream rest : List ℕ) → Writes piece limits stream rest (sent c) (outgoing d text)
       → HasBegun d e text → Stops piece limits stream (sent c) (sent e) true faults.Io
   tells_broken stream rest (parts, are, adds) (count, wrote) =
       let broken = breaks_rest (sent c) d e text (texts_of parts) count adds wrote in
@@ -322,7 +323,8 @@ module _ (piece : Piece) (limits : Bounds) (c d e : Option (List ℕ)) (text : L
   }
 
 -- bytes were served, and then what was kept was written
-serves_sent : (piece : Piece) (limits : Bounds) (before after : Framing) (bytes : List ℕ) (c d e : Option (List ℕ))
+serves_sent : (piece : MessageText) (limits : Bounds) (before after : Framing) (bytes : List ℕ)
+    (c d e : Option (List ℕ))
     (text : List ℕ) (broken failed : Bool) (served result : Result (Unit {0}) ToolFault)
     → Serves piece limits before bytes (sent c) (outgoing d text) broken served after
     → SendsRest served text d e broken failed result
@@ -351,7 +353,8 @@ serves_sent piece limits before after bytes c d e text false true (Err fault) re
     (sym is)
     (stops_broken piece limits c d e text (before.rest ++ bytes) fault s wrote)
 
-pub serves_piece : (piece : Piece) (limits : Bounds) (before after : Framing) (bytes : List ℕ) (c d e : Option (List ℕ))
+pub serves_piece : (piece : MessageText) (limits : Bounds) (before after : Framing) (bytes : List ℕ)
+    (c d e : Option (List ℕ))
     (start text kept : List ℕ) (broken failed : Bool) (served result : Result (Unit {0}) ToolFault) → start ≡ []
     → kept ≡ text
     → Serves piece limits before bytes (outgoing c start) (outgoing d text) broken served after

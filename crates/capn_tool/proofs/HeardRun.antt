@@ -15,8 +15,8 @@ use Rattle.capn_stream.specs.declared.fault.FrameFault.TheVariants as frames
 use Rattle.capn_tool.specs.Streams.{AreParts, texts_of, behind_stream, end_of, IsDueEach}
 use Rattle.capn_tool.specs.Text.{HasWritten, PlanBegins, PlanEndsAs, taken_of, has_more}
 use Rattle.capn_tool.specs.Outgoing.{sent}
-use Rattle.capn_tool.specs.StreamRun.{EndsInput, Hears, IsDueSo, Runs, Stops, Tells, TellsFront}
-use Rattle.capn_tool.specs.declared.plan.Piece.{Piece}
+use Rattle.capn_tool.specs.StreamRun.{EndsInput, Hears, IsDueSo, Runs, Stops, Writes, WritesFront}
+use Rattle.capn_tool.specs.declared.plan.MessageText.{MessageText}
 use Rattle.capn_tool.specs.declared.plan.Plan.TheVariants as plans
 use Rattle.capn_tool.specs.declared.fault.ToolFault.{ToolFault}
 use Rattle.capn_tool.specs.declared.fault.ToolFault.TheVariants as faults
@@ -64,23 +64,23 @@ pub writer_only : (r w : Bool) → r ≡ false → (r ≡ true) ⊎ (w ≡ true)
 writer_only r w fine (inl h) = let e : true ≡ false = sym h ∙ fine in absurd (cc)
 writer_only r w fine (inr h) = h
 
-module _ (piece : Piece) (limits : Bounds) where
+module _ (piece : MessageText) (limits : Bounds) where
   -- all of the pieces is a front of them
-  pub tells_front : (stream rest : List ℕ) (c d : Option (List ℕ)) → Tells piece limits stream rest (sent c) (sent d)
-      → TellsFront piece limits stream (sent c) (sent d)
+  pub tells_front : (stream rest : List ℕ) (c d : Option (List ℕ)) → Writes piece limits stream rest (sent c) (sent d)
+      → WritesFront piece limits stream (sent c) (sent d)
   tells_front stream rest c d (parts, are, adds) =
       let wrote = adds_sent c d (texts_of parts) adds in
       (parts, rest, length (texts_of parts), are, subst (Appends c d) (sym (take-length (texts_of parts))) wrote)
 
   -- whatever stopped a run, a beginning of the pieces was written
   pub stops_front : (stream : List ℕ) (c d : Option (List ℕ)) (failed : Bool) (fault : ToolFault)
-      → Stops piece limits stream (sent c) (sent d) failed fault → TellsFront piece limits stream (sent c) (sent d)
+      → Stops piece limits stream (sent c) (sent d) failed fault → WritesFront piece limits stream (sent c) (sent d)
   stops_front stream c d true fault stop = stop.front refl
   stops_front stream c d false fault stop = let all = stop.told refl in tells_front stream all.0 c d all.1
 
   -- a beginning of the output was written
   begins_front : (a b c d : Option (List ℕ)) (all s : List ℕ) → Consumes a b all → length all ≤ 2 ^ 32 + 1
-      → taken_of all ≡ s → TellsFront piece limits s (sent c) (sent d) → PlanBegins (plans.Each piece limits) a b c d
+      → taken_of all ≡ s → WritesFront piece limits s (sent c) (sent d) → PlanBegins (plans.Each piece limits) a b c d
   begins_front a b c d all s read bound is (parts, rest, count, are, wrote) = (
     all,
     record {
@@ -97,8 +97,8 @@ module _ (piece : Piece) (limits : Bounds) where
 
   -- what is left is no whole frame
   pub due_open : (stream rest : List ℕ) (behind : Option ToolFault) (ending : Result (Unit {0}) ToolFault)
-      (e : FrameFault) (c d : Option (List ℕ)) → Tells piece limits stream rest (sent c) (sent d) → e ≢ frames.Memory
-      → frame_rules.IsRefused rest limits.message_words e → ending ≡ end_of e behind
+      (e : FrameFault) (c d : Option (List ℕ)) → Writes piece limits stream rest (sent c) (sent d) → e ≢ frames.Memory
+      → frame_rules.IsFrameRefused rest limits.message_words e → ending ≡ end_of e behind
       → (text : List ℕ) × IsDueEach piece limits stream behind text ending × Appends c d text
   due_open stream rest behind ending e c d (parts, are, wrote) other refused is = (
     texts_of parts,
@@ -113,7 +113,7 @@ module _ (piece : Piece) (limits : Bounds) where
   )
 
   pub due_unfinished : (stream rest : List ℕ) (behind : Option ToolFault) (c d : Option (List ℕ))
-      → Tells piece limits stream rest (sent c) (sent d) → IsUnfinished rest limits.message_words
+      → Writes piece limits stream rest (sent c) (sent d) → IsUnfinished rest limits.message_words
       → (ending : Result (Unit {0}) ToolFault) × (text : List ℕ) × IsDueEach piece limits stream behind text ending
       × Appends c d text
   due_unfinished stream rest behind c d told (inl none) =
@@ -151,7 +151,7 @@ module _ (piece : Piece) (limits : Bounds) where
       }
 
   written_front : (s rest : List ℕ) (is_longer : Bool) (c d : Option (List ℕ))
-      → Tells piece limits s rest (sent c) (sent d) → HasWritten (plans.Each piece limits) s is_longer c d
+      → Writes piece limits s rest (sent c) (sent d) → HasWritten (plans.Each piece limits) s is_longer c d
   written_front s rest is_longer c d (parts, are, wrote) = (
     texts_of parts,
     length (texts_of parts),
@@ -161,7 +161,7 @@ module _ (piece : Piece) (limits : Bounds) where
 
   -- the input ended
   pub due_end : (stream rest : List ℕ) (c d : Option (List ℕ)) (r : Result (Unit {0}) ToolFault)
-      → Tells piece limits stream rest (sent c) (sent d) → EndsInput rest limits.message_words r
+      → Writes piece limits stream rest (sent c) (sent d) → EndsInput rest limits.message_words r
       → (text : List ℕ) × IsDueEach piece limits stream None text r × Appends c d text
   due_end stream rest c d (Ok u) told none = due_open stream rest None (Ok u) frames.Empty c d told (λ h. cc) none refl
   due_end stream rest c d (Err fault) told (cut, is) =
@@ -196,7 +196,7 @@ module _ (piece : Piece) (limits : Bounds) where
       }
 
   -- a byte past 2^32 was read, after messages that were served
-  pub due_long : (stream rest : List ℕ) (c d : Option (List ℕ)) → Tells piece limits stream rest (sent c) (sent d)
+  pub due_long : (stream rest : List ℕ) (c d : Option (List ℕ)) → Writes piece limits stream rest (sent c) (sent d)
       → IsUnfinished rest limits.message_words → (text : List ℕ)
       × IsDueEach piece limits stream (Some faults.InputTooLong) text (Err faults.InputTooLong) × Appends c d text
   due_long stream rest c d told (inl none) =
@@ -209,7 +209,7 @@ module _ (piece : Piece) (limits : Bounds) where
       (reader_failed writer_failed : Bool) → reader_failed ≡ false → writer_failed ≡ false → taken + w ≡ 2 ^ 32 → w < k
       → taken + k ≤ 2 ^ 32 + 1
       → Hears piece limits a b taken rest c d → Consumes b b2 (take k buf) → k ≤ length buf
-      → Tells piece limits (rest ++ take w (buf ++ tail)) new (sent d) (sent e)
+      → Writes piece limits (rest ++ take w (buf ++ tail)) new (sent d) (sent e)
       → IsUnfinished new limits.message_words
       → Runs (plans.Each piece limits) a b2 c e reader_failed writer_failed (Err faults.InputTooLong)
   runs_long a b b2 c d e taken rest new buf tail w k reader_failed writer_failed reader_fine writer_fine full past bound
@@ -217,7 +217,7 @@ module _ (piece : Piece) (limits : Bounds) where
       let kept = read_past a b b2 bytes buf k w read more within (omega (arith, count, full)) past
       (omega (arith, count, bound)) in
       let part_told =
-      subst (λ (p : List ℕ). Tells piece limits (rest ++ p) new (sent d) (sent e))
+      subst (λ (p : List ℕ). Writes piece limits (rest ++ p) new (sent d) (sent e))
       (take-append-le w buf tail (omega (arith, past, within))) next in
       let all = tells_more piece limits bytes rest (take w buf) new (sent c) (sent d) (sent e) told part_told in
       record {
@@ -282,12 +282,12 @@ module _ (piece : Piece) (limits : Bounds) where
   -- a piece was served
   pub hears_more : (a b b2 c d e : Option (List ℕ)) (taken : ℕ) (rest new buf tail : List ℕ) (w k : ℕ) → w ≡ k
       → Hears piece limits a b taken rest c d → Consumes b b2 (take k buf) → k ≤ length buf
-      → Tells piece limits (rest ++ take w (buf ++ tail)) new (sent d) (sent e)
+      → Writes piece limits (rest ++ take w (buf ++ tail)) new (sent d) (sent e)
       → Hears piece limits a b2 (taken + k) new c e
   hears_more a b b2 c d e taken rest new buf tail w k same (bytes, read, count, told) more within next =
-      let front = subst (λ (p : List ℕ). Tells piece limits (rest ++ p) new (sent d) (sent e))
+      let front = subst (λ (p : List ℕ). Writes piece limits (rest ++ p) new (sent d) (sent e))
       (take-append-le w buf tail (omega (arith, same, within))) next in
-      let part = subst (λ (i : ℕ). Tells piece limits (rest ++ take i buf) new (sent d) (sent e)) same front in (
+      let part = subst (λ (i : ℕ). Writes piece limits (rest ++ take i buf) new (sent d) (sent e)) same front in (
         bytes ++ take k buf,
         Consumes-trans a b b2 bytes (take k buf) read more,
         omega (arith, count, length-append bytes (take k buf), length-take-le k buf within),

@@ -11,7 +11,7 @@ use Rattle.capn_canon.specs.declared.refusal.Refusal.TheVariants as refusals
 use Rattle.capn_tool.specs.inner.ReadInput.{HasGivenAll, IsBeginning, IsShortBare, IsUntaken, TakesAll}
 use Rattle.capn_tool.specs.WholeInput.{Gives, MakesNothing}
 use Rattle.capn_tool.specs.declared.input.Input.{Input}
-use Rattle.capn_tool.specs.declared.plan.Piece.{Piece}
+use Rattle.capn_tool.specs.declared.plan.MessageText.{MessageText}
 use Rattle.capn_tool.specs.declared.plan.Whole.{Whole}
 use Rattle.capn_tool.specs.declared.plan.Whole.TheVariants as wholes
 use Rattle.capn_tool.specs.declared.fault.ToolFault.{ToolFault}
@@ -65,7 +65,7 @@ module _ (a b : Option (List ℕ)) (f : Bool) (fault : ToolFault) where
       apart : (e : BareFault) → refusals.Bare e ≡ refusals.Memory → ⊥
       apart e same = cc
 
-  pub unmade_piece : (piece : Piece) (limits : Bounds) → TakesNone (λ bytes. FailsBare bytes fault) a b f fault
+  pub unmade_piece : (piece : MessageText) (limits : Bounds) → TakesNone (λ bytes. FailsBare bytes fault) a b f fault
       → TakesNone (λ bytes. Fails (wholes.Bare piece limits) bytes fault) a b f fault
   unmade_piece piece limits h =
       none_else (λ bytes. FailsBare bytes fault) (λ bytes. Fails (wholes.Bare piece limits) bytes fault)

@@ -32,7 +32,8 @@ use Rattle.capn_canon.specs.declared.refusal.Refusal.{Refusal}
 use Rattle.capn_canon.specs.declared.refusal.Refusal.TheVariants as refusals
 use Rattle.capn_canon.proofs.shared.OneReading.{answers_only}
 use Rattle.capn_canon.proofs.shared.NotRefused.{accepted-not_refused, not_refused}
-use Rattle.capn_tool.specs.MessageText.{AreCanonical, IsPiece, IsBarePiece, IsNoPiece, IsStopped, digest_line}
+use Rattle.capn_tool.specs.MessageText.{AreCanonical, IsMessageText, IsBareMessageText, IsNoMessageText, IsStopped}
+use Rattle.capn_tool.specs.MessageText.{digest_line}
 use Rattle.capn_tool.specs.WholeInput.{Makes, MakesNothing}
 use Rattle.capn_tool.specs.Streams.{Part, IsPart, frames_of, texts_of, end_of, EndsUnframed, EndsRefused, IsDueEach}
 use Rattle.capn_tool.specs.Streams.{behind_packed, behind_stream}
@@ -40,8 +41,8 @@ use Rattle.capn_pack.proofs.shared.SplitLaws.{one_split}
 use Rattle.capn_tool.specs.Plan.{plan_of}
 use Rattle.capn_tool.specs.Text.{taken_of, has_more, IsDueWhole, IsDue, IsText, EndsAs, EndsBy}
 use Rattle.capn_tool.specs.declared.command.Command.{Command}
-use Rattle.capn_tool.specs.declared.plan.Piece.{Piece}
-use Rattle.capn_tool.specs.declared.plan.Piece.TheVariants as kinds
+use Rattle.capn_tool.specs.declared.plan.MessageText.{MessageText}
+use Rattle.capn_tool.specs.declared.plan.MessageText.TheVariants as kinds
 use Rattle.capn_tool.specs.declared.plan.Whole.{Whole}
 use Rattle.capn_tool.specs.declared.plan.Whole.TheVariants as wholes
 use Rattle.capn_tool.specs.declared.plan.Plan.{Plan}
@@ -53,7 +54,8 @@ use Rattle.capn_canon.proofs.shared.OneRefusal.{message_part, one_message_refusa
 -- ---- a message has one piece, or none for one reason
 
 module _ (message : List (List ℕ)) (limits : Bounds) where
-  pub one_piece : (piece : Piece) (t u : List ℕ) → IsPiece piece message limits t → IsPiece piece message limits u
+  pub one_piece : (piece : MessageText) (t u : List ℕ) → IsMessageText piece message limits t
+      → IsMessageText piece message limits u
       → t ≡ u
   one_piece kinds.Text t u (v, is, e) (w, also, f) =
       let same : v ≡ w = unique message v w root is.is also.is in
@@ -67,8 +69,8 @@ module _ (message : List (List ℕ)) (limits : Bounds) where
   no_stop : (v : Tree) (fault : ToolFault) → IsValueOf message limits v → IsStopped message limits fault → ⊥
   no_stop v fault is (s, e, h) = accepted-not_refused message limits s is.accepted h
 
-  pub piece_or_none : (piece : Piece) (t : List ℕ) (fault : ToolFault) → IsPiece piece message limits t
-      → IsNoPiece piece message limits fault → ⊥
+  pub piece_or_none : (piece : MessageText) (t : List ℕ) (fault : ToolFault) → IsMessageText piece message limits t
+      → IsNoMessageText piece message limits fault → ⊥
   piece_or_none kinds.Text t fault (v, is, e) h = no_stop v fault is h
   piece_or_none kinds.Price t fault (v, is, e) h = no_stop v fault is h
   piece_or_none kinds.Digest t fault (bytes, price, a, e) (r, f, n, h) =
@@ -84,15 +86,16 @@ module _ (message : List (List ℕ)) (limits : Bounds) where
   stops_same f g (s, e, h) (t, i, k) = e
       ∙ ap (λ (x : Stopped). faults.Refused (refusals.Walk x)) (one_stop message limits s t h k) ∙ sym i
 
-  pub one_no_piece : (piece : Piece) (f g : ToolFault) → IsNoPiece piece message limits f
-      → IsNoPiece piece message limits g → f ≡ g
+  pub one_no_piece : (piece : MessageText) (f g : ToolFault) → IsNoMessageText piece message limits f
+      → IsNoMessageText piece message limits g → f ≡ g
   one_no_piece kinds.Text f g h k = stops_same f g h k
   one_no_piece kinds.Price f g h k = stops_same f g h k
   one_no_piece kinds.Digest f g (r, e, n, h) (s, i, o, k) = e
       ∙ ap (λ (x : Refusal). faults.Refused x) (one_message_refusal message limits r s n o h k) ∙ sym i
 
 module _ (words : List ℕ) (limits : Bounds) where
-  one_bare_piece : (piece : Piece) (t u : List ℕ) → IsBarePiece piece words limits t → IsBarePiece piece words limits u
+  one_bare_piece : (piece : MessageText) (t u : List ℕ) → IsBareMessageText piece words limits t
+      → IsBareMessageText piece words limits u
       → t ≡ u
   one_bare_piece kinds.Text t u h k = one_piece (words ∷ []) limits kinds.Text t u h k
   one_bare_piece kinds.Price t u (v, is, inl (so, e)) (w, also, inl (also_so, f)) = e ∙ sym f
@@ -103,8 +106,8 @@ module _ (words : List ℕ) (limits : Bounds) where
   one_bare_piece kinds.Price t u (v, is, inr (never, e)) (w, also, inr (neither, f)) = e ∙ sym f
   one_bare_piece kinds.Digest t u h k = one_piece (words ∷ []) limits kinds.Digest t u h k
 
-  bare_or_none : (piece : Piece) (t : List ℕ) (fault : ToolFault) → IsBarePiece piece words limits t
-      → IsNoPiece piece (words ∷ []) limits fault → ⊥
+  bare_or_none : (piece : MessageText) (t : List ℕ) (fault : ToolFault) → IsBareMessageText piece words limits t
+      → IsNoMessageText piece (words ∷ []) limits fault → ⊥
   bare_or_none kinds.Text t fault h k = piece_or_none (words ∷ []) limits kinds.Text t fault h k
   bare_or_none kinds.Price t fault (v, is, line) k = no_stop (words ∷ []) limits v fault is k
   bare_or_none kinds.Digest t fault h k = piece_or_none (words ∷ []) limits kinds.Digest t fault h k
@@ -122,7 +125,7 @@ one_made (wholes.Canonical form limits) bytes t u (p, a) (q, b) =
     answers_only form bytes limits t p a b.answer.value (denoted form bytes limits u q b) ∙ sym b.answer.canonical
 one_made (wholes.Bare piece limits) bytes t u (ws, h, i) (vs, k, j) =
     one_bare_piece vs limits piece t u
-    (subst (λ (x : List ℕ). IsBarePiece piece x limits t) (one_bare bytes ws vs h k) i) j
+    (subst (λ (x : List ℕ). IsBareMessageText piece x limits t) (one_bare bytes ws vs h k) i) j
 
 made_or_none : (whole : Whole) (bytes t : List ℕ) (fault : ToolFault) → Makes whole bytes t
     → MakesNothing whole bytes fault → ⊥
@@ -133,7 +136,7 @@ made_or_none (wholes.Canonical form limits) bytes t fault (p, a) (r, f, n, k) =
 made_or_none (wholes.Bare piece limits) bytes t fault (ws, h, i) (inl (e, f, k)) = bare_not_refused bytes ws e h k
 made_or_none (wholes.Bare piece limits) bytes t fault (ws, h, i) (inr (vs, k, j)) =
     bare_or_none vs limits piece t fault
-    (subst (λ (x : List ℕ). IsBarePiece piece x limits t) (one_bare bytes ws vs h k) i) j
+    (subst (λ (x : List ℕ). IsBareMessageText piece x limits t) (one_bare bytes ws vs h k) i) j
 
 one_nothing : (whole : Whole) (bytes : List ℕ) (f g : ToolFault) → MakesNothing whole bytes f
     → MakesNothing whole bytes g → f ≡ g
@@ -150,7 +153,7 @@ one_nothing (wholes.Bare piece limits) bytes f g (inr (ws, h, i)) (inl (e, b, k)
     absurd (bare_not_refused bytes ws e h k)
 one_nothing (wholes.Bare piece limits) bytes f g (inr (ws, h, i)) (inr (vs, k, j)) =
     one_no_piece (vs ∷ []) limits piece f g
-    (subst (λ (x : List ℕ). IsNoPiece piece (x ∷ []) limits f) (one_bare bytes ws vs h k) i) j
+    (subst (λ (x : List ℕ). IsNoMessageText piece (x ∷ []) limits f) (one_bare bytes ws vs h k) i) j
 
 one_due_whole : (whole : Whole) (bytes : List ℕ) (is_longer : Bool) (t u : List ℕ) (r s : Result (Unit {0}) ToolFault)
     → IsDueWhole whole bytes is_longer t r → IsDueWhole whole bytes is_longer u s → (t ≡ u) × (r ≡ s)
@@ -163,7 +166,7 @@ one_due_whole whole bytes false t u (Err f) (Err g) h k =
 
 -- ---- a stream
 
-module _ (piece : Piece) (limits : Bounds) (last : Option ToolFault) where
+module _ (piece : MessageText) (limits : Bounds) (last : Option ToolFault) where
   -- how a run ends after the parts
   abbrev Behind : List ℕ → Result (Unit {0}) ToolFault → Type 0
   Behind rest ending = EndsUnframed limits rest last ending ⊎ EndsRefused piece limits rest ending
@@ -177,7 +180,8 @@ module _ (piece : Piece) (limits : Bounds) (last : Option ToolFault) where
       absurd (n (refused_whole rest limits.message_words e (whole_of rest limits.message_words m taken stands) h))
   one_behind rest r s (inr (m, taken, f, stands, why, a)) (inr (n, to, g, also, ought, b)) =
       let same = (one_frame rest limits.message_words limits.message_words m n taken to stands also).0 in
-      let fault = one_no_piece n limits piece f g (subst (λ (x : List (List ℕ)). IsNoPiece piece x limits f) same why)
+      let fault = one_no_piece n limits piece f g
+          (subst (λ (x : List (List ℕ)). IsNoMessageText piece x limits f) same why)
       ought in
       a ∙ ap (λ (x : ToolFault). Err x) fault ∙ sym b
 
@@ -206,7 +210,7 @@ module _ (piece : Piece) (limits : Bounds) (last : Option ToolFault) where
             let same = (one_frame (part.frame ++ more) limits.message_words limits.message_words m part.message taken
             (length part.frame) stands (part_first part more h)).0 in
             piece_or_none part.message limits piece part.text fault h.text
-            (subst (λ (x : List (List ℕ)). IsNoPiece piece x limits fault) same why)
+            (subst (λ (x : List (List ℕ)). IsNoMessageText piece x limits fault) same why)
       ]
 
   one_row : (ps qs : List Part) (rest other : List ℕ) (r s : Result (Unit {0}) ToolFault)
@@ -227,7 +231,7 @@ module _ (piece : Piece) (limits : Bounds) (last : Option ToolFault) where
       let same = one_frame (p.frame ++ (frames_of ps ++ rest)) limits.message_words limits.message_words p.message
       q.message (length p.frame) (length q.frame) here there in
       let text = one_piece q.message limits piece p.text q.text
-      (subst (λ (x : List (List ℕ)). IsPiece piece x limits p.text) same.0 h.0.text) k.0.text in
+      (subst (λ (x : List (List ℕ)). IsMessageText piece x limits p.text) same.0 h.0.text) k.0.text in
       let behind = (append_same p.frame q.frame (frames_of ps ++ rest) (frames_of qs ++ other) same.1 joined).1 in
       let more = one_row ps qs rest other r s h.1 k.1 behind a b in
       (λ i. text i ++ more.0 i, more.1)

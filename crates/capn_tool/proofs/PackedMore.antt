@@ -10,9 +10,9 @@ use Rattle.capn_pack.specs.PackedPieces.{Begins, Feeds, Held, Splits, advanced}
 use Rattle.capn_pack.proofs.shared.StreamLemmas.{splits_open, splits_then}
 use Rattle.capn_stream.specs.StreamPieces.{Framing}
 use Rattle.capn_tool.specs.Outgoing.{Outgoing, SendsRest, outgoing, sent}
-use Rattle.capn_tool.specs.StreamRun.{Stops, Tells}
-use Rattle.capn_tool.specs.inner.PackedRun.{IsUnpacking, ServesPacked, StopsPacked, TellsPacked}
-use Rattle.capn_tool.specs.declared.plan.Piece.{Piece}
+use Rattle.capn_tool.specs.StreamRun.{Stops, Writes}
+use Rattle.capn_tool.specs.inner.PackedRun.{IsUnpacking, ServesPacked, StopsPacked, WritesPacked}
+use Rattle.capn_tool.specs.declared.plan.MessageText.{MessageText}
 use Rattle.capn_tool.specs.declared.fault.ToolFault.{ToolFault}
 use Rattle.capn_tool.specs.declared.fault.ToolFault.TheVariants as faults
 use Rattle.capn_tool.proofs.HeardMore.{every_append, stops_memory, stops_more, tells_more, tells_none}
@@ -56,10 +56,10 @@ begins_all stream rest words len s =
 advanced_more : (offset len more : ℕ) → advanced (advanced offset len) more ≡ advanced offset (len + more)
 advanced_more offset len more = omega arith
 
-module _ (piece : Piece) (limits : Bounds) (held : Held) (rest x : List ℕ) (mid : Held) (left y : List ℕ)
-    (a b : Outgoing) (told : TellsPacked piece limits held rest x mid left a b) where
-  pub packed_more : (next : Held) (last : List ℕ) (c : Outgoing) → TellsPacked piece limits mid left y next last b c
-      → TellsPacked piece limits held rest (x ++ y) next last a c
+module _ (piece : MessageText) (limits : Bounds) (held : Held) (rest x : List ℕ) (mid : Held) (left y : List ℕ)
+    (a b : Outgoing) (told : WritesPacked piece limits held rest x mid left a b) where
+  pub packed_more : (next : Held) (last : List ℕ) (c : Outgoing) → WritesPacked piece limits mid left y next last b c
+      → WritesPacked piece limits held rest (x ++ y) next last a c
   packed_more next last c more =
       let w = told.0 in
       let v = more.0 in
@@ -71,7 +71,7 @@ module _ (piece : Piece) (limits : Bounds) (held : Held) (rest x : List ℕ) (mi
         subst (λ (l : List ℕ). Splits l next.rest [] (w ++ v) (told.1 + more.1)) (append_assoc held.rest x y) split,
         more.3 ∙ ap (λ (n : ℕ). advanced n more.1) told.3 ∙ advanced_more held.offset told.1 more.1,
         more.4,
-        subst (λ (l : List ℕ). Tells piece limits l last a c) (append_assoc rest w v) told_words,
+        subst (λ (l : List ℕ). Writes piece limits l last a c) (append_assoc rest w v) told_words,
       )
 
   pub packed_stop : (c : Outgoing) (failed : Bool) (fault : ToolFault)
@@ -87,7 +87,7 @@ module _ (piece : Piece) (limits : Bounds) (held : Held) (rest x : List ℕ) (mi
       )
 
 -- memory was refused while a slice was unpacked
-pub packed_memory : (piece : Piece) (limits : Bounds) (group rest bytes : List ℕ) (a : Outgoing) (failed : Bool)
+pub packed_memory : (piece : MessageText) (limits : Bounds) (group rest bytes : List ℕ) (a : Outgoing) (failed : Bool)
     → failed ≡ false → StopsPacked piece limits group rest bytes a a failed faults.Memory
 packed_memory piece limits group rest bytes a failed fine = (
   [],
@@ -96,14 +96,15 @@ packed_memory piece limits group rest bytes a failed fine = (
 )
 
 -- bytes were unpacked, and their words were served
-module _ (piece : Piece) (limits : Bounds) (held next : Held) (left bytes old new words : List ℕ) (none : old ≡ [])
+module _ (piece : MessageText) (limits : Bounds) (held next : Held) (left bytes old new words : List ℕ)
+    (none : old ≡ [])
     (same : words ≡ new) (fed : Feeds held bytes old new next) where
   split : Splits (held.rest ++ bytes) next.rest [] words fed.len
   split = subst (λ (l : List ℕ). Splits (held.rest ++ bytes) next.rest [] l fed.len) (sym same)
       (subst (λ (l : List ℕ). Splits (held.rest ++ bytes) next.rest l new fed.len) none fed.split)
 
-  pub unpacked_tells : (last : List ℕ) (a b : Outgoing) → Tells piece limits (left ++ words) last a b
-      → TellsPacked piece limits held left bytes next last a b
+  pub unpacked_tells : (last : List ℕ) (a b : Outgoing) → Writes piece limits (left ++ words) last a b
+      → WritesPacked piece limits held left bytes next last a b
   unpacked_tells last a b told = (words, fed.len, split, fed.offset, fed.is_good, told)
 
   pub unpacked_stops : (a b : Outgoing) (failed : Bool) (fault : ToolFault)
@@ -113,8 +114,8 @@ module _ (piece : Piece) (limits : Bounds) (held next : Held) (left bytes old ne
       (words, begins_all (held.rest ++ bytes) next.rest words fed.len split, stop)
 
 -- nothing has come
-pub packed_none : (piece : Piece) (limits : Bounds) (held : Held) (rest : List ℕ) (a : Outgoing)
-    → IsUnpacking held → TellsPacked piece limits held rest [] held rest a a
+pub packed_none : (piece : MessageText) (limits : Bounds) (held : Held) (rest : List ℕ) (a : Outgoing)
+    → IsUnpacking held → WritesPacked piece limits held rest [] held rest a a
 packed_none piece limits held rest a unpacking = (
   [],
   0,
@@ -122,11 +123,11 @@ packed_none piece limits held rest a unpacking = (
       (splits_open held.rest [] [] unpacking.group refl),
   omega (arith, unpacking.offset),
   unpacking.held,
-  subst (λ (l : List ℕ). Tells piece limits l rest a a) (sym (append-nil rest)) (tells_none piece limits rest a),
+  subst (λ (l : List ℕ). Writes piece limits l rest a a) (sym (append-nil rest)) (tells_none piece limits rest a),
 )
 
 -- what stops over some bytes stops over more of them
-pub packed_longer : (piece : Piece) (limits : Bounds) (group rest x bytes more : List ℕ) (a b : Outgoing)
+pub packed_longer : (piece : MessageText) (limits : Bounds) (group rest x bytes more : List ℕ) (a b : Outgoing)
     (failed : Bool) (fault : ToolFault) → x ++ more ≡ bytes → StopsPacked piece limits group rest x a b failed fault
     → StopsPacked piece limits group rest bytes a b failed fault
 packed_longer piece limits group rest x bytes more a b failed fault whole (words, begins, stop) = (
@@ -146,18 +147,18 @@ packed_longer piece limits group rest x bytes more a b failed fault whole (words
 )
 
 -- one slice more
-module _ (piece : Piece) (limits : Bounds) (held : Held) (rest bytes : List ℕ) (at end : ℕ) (forward : at ≤ end)
+module _ (piece : MessageText) (limits : Bounds) (held : Held) (rest bytes : List ℕ) (at end : ℕ) (forward : at ≤ end)
     (mid : Held) (left : List ℕ) (a b : Outgoing)
-    (told : TellsPacked piece limits held rest (take at bytes) mid left a b) where
+    (told : WritesPacked piece limits held rest (take at bytes) mid left a b) where
   joined : take at bytes ++ take (end - at) (drop at bytes) ≡ take end bytes
   joined = let e : at + (end - at) ≡ end = omega (arith, forward) in sym (take-add at (end - at) bytes)
       ∙ ap (λ (i : ℕ). take i bytes) e
 
   pub slice_more : (next : Held) (last : List ℕ) (c : Outgoing)
-      → TellsPacked piece limits mid left (take (end - at) (drop at bytes)) next last b c
-      → TellsPacked piece limits held rest (take end bytes) next last a c
+      → WritesPacked piece limits mid left (take (end - at) (drop at bytes)) next last b c
+      → WritesPacked piece limits held rest (take end bytes) next last a c
   slice_more next last c more =
-      subst (λ (l : List ℕ). TellsPacked piece limits held rest l next last a c) joined
+      subst (λ (l : List ℕ). WritesPacked piece limits held rest l next last a c) joined
       (packed_more piece limits held rest (take at bytes) mid left (take (end - at) (drop at bytes)) a b told next
       last c more)
 
@@ -172,7 +173,7 @@ module _ (piece : Piece) (limits : Bounds) (held : Held) (rest bytes : List ℕ)
       ∙ take-append-drop end bytes) part
 
 -- packed bytes were served, and then what was kept was written
-module _ (piece : Piece) (limits : Bounds) (held next : Held) (before after : Framing) (bytes : List ℕ)
+module _ (piece : MessageText) (limits : Bounds) (held next : Held) (before after : Framing) (bytes : List ℕ)
     (c d e : Option (List ℕ)) (text : List ℕ) where
   abbrev Served : Outgoing → Bool → Result (Unit {0}) ToolFault → Type 0
   Served new failed r = ServesPacked piece limits held before bytes (sent c) new failed r next after

@@ -14,10 +14,10 @@ use Rattle.capn_pack.proofs.shared.StreamLemmas.{nothing_first}
 use Rattle.capn_stream.specs.StreamPieces.{IsUnfinished}
 use Rattle.capn_tool.specs.Streams.{texts_of, behind_packed, end_of, IsDueEach, IsDuePacked}
 use Rattle.capn_tool.specs.Text.{HasWritten, PlanBegins, PlanEndsAs, taken_of, has_more}
-use Rattle.capn_tool.specs.StreamRun.{IsDueSo, Runs, TellsFront}
+use Rattle.capn_tool.specs.StreamRun.{IsDueSo, Runs, WritesFront}
 use Rattle.capn_tool.specs.Outgoing.{sent}
-use Rattle.capn_tool.specs.inner.PackedRun.{EndsPacked, HearsPacked, IsUnpacking, StopsPacked, TellsPacked, fresh}
-use Rattle.capn_tool.specs.declared.plan.Piece.{Piece}
+use Rattle.capn_tool.specs.inner.PackedRun.{EndsPacked, HearsPacked, IsUnpacking, StopsPacked, WritesPacked, fresh}
+use Rattle.capn_tool.specs.declared.plan.MessageText.{MessageText}
 use Rattle.capn_tool.specs.declared.plan.Plan.TheVariants as plans
 use Rattle.capn_tool.specs.declared.fault.ToolFault.{ToolFault}
 use Rattle.capn_tool.specs.declared.fault.ToolFault.TheVariants as faults
@@ -54,13 +54,13 @@ split_behind s tail words b =
       },
     )
 
-module _ (piece : Piece) (limits : Bounds) where
+module _ (piece : MessageText) (limits : Bounds) where
   -- a beginning of the pieces of the messages in the words of some groups was written
   abbrev Fronts : List ℕ → Option (List ℕ) → Option (List ℕ) → Type 0
-  Fronts s c d = (words : List ℕ) × Begins s [] words × TellsFront piece limits words (sent c) (sent d)
+  Fronts s c d = (words : List ℕ) × Begins s [] words × WritesFront piece limits words (sent c) (sent d)
 
   fronts_of : (s rest : List ℕ) (held : Held) (c d : Option (List ℕ))
-      → TellsPacked piece limits fresh [] s held rest (sent c) (sent d) → Fronts s c d
+      → WritesPacked piece limits fresh [] s held rest (sent c) (sent d) → Fronts s c d
   fronts_of s rest held c d (words, len, split, offset, good, told) = (
     words,
     record { groups = split.groups; rest = held.rest; each = split.each; text = split.text; content = split.content },
@@ -86,7 +86,7 @@ module _ (piece : Piece) (limits : Bounds) where
 
   -- the output for the words is the output for the bytes
   due_packed : (s rest : List ℕ) (held : Held) (is_longer : Bool) (ending : Result (Unit {0}) ToolFault)
-      (c d : Option (List ℕ)) (told : TellsPacked piece limits fresh [] s held rest (sent c) (sent d))
+      (c d : Option (List ℕ)) (told : WritesPacked piece limits fresh [] s held rest (sent c) (sent d))
       → (text : List ℕ) × IsDueEach piece limits told.0 (behind_packed is_longer held.rest told.1) text ending
       × Appends c d text → (text : List ℕ) × IsDuePacked piece limits s is_longer text ending × Appends c d text
   due_packed s rest held is_longer ending c d told due = (
@@ -103,7 +103,7 @@ module _ (piece : Piece) (limits : Bounds) where
 
   -- the offset of the unfinished group
   offset_is : (s rest : List ℕ) (held : Held) (c d : Option (List ℕ))
-      (told : TellsPacked piece limits fresh [] s held rest (sent c) (sent d)) → length s ≤ 2 ^ 32
+      (told : WritesPacked piece limits fresh [] s held rest (sent c) (sent d)) → length s ≤ 2 ^ 32
       → held.offset ≡ told.1
   offset_is s rest held c d told short =
       let split = told.2 in
@@ -118,8 +118,8 @@ module _ (piece : Piece) (limits : Bounds) where
         [],
         Consumes-nil a,
         refl,
-        subst (λ (l : List ℕ). TellsPacked piece limits fresh [] [] held l (sent c) (sent c)) (sym none)
-            (subst (λ (h : Held). TellsPacked piece limits fresh [] [] h [] (sent c) (sent c)) (sym new) told),
+        subst (λ (l : List ℕ). WritesPacked piece limits fresh [] [] held l (sent c) (sent c)) (sym none)
+            (subst (λ (h : Held). WritesPacked piece limits fresh [] [] h [] (sent c) (sent c)) (sym new) told),
       )
 
   -- ---- how a run ends
@@ -182,14 +182,14 @@ module _ (piece : Piece) (limits : Bounds) where
       (w k : ℕ) (reader_failed writer_failed : Bool) → reader_failed ≡ false → writer_failed ≡ false
       → taken + w ≡ 2 ^ 32 → w < k → taken + k ≤ 2 ^ 32 + 1
       → HearsPacked piece limits a b taken held rest c d → Consumes b b2 (take k buf) → k ≤ length buf
-      → TellsPacked piece limits held rest (take w (buf ++ tail)) next new (sent d) (sent e)
+      → WritesPacked piece limits held rest (take w (buf ++ tail)) next new (sent d) (sent e)
       → IsUnfinished new limits.message_words
       → Runs (plans.Packed piece limits) a b2 c e reader_failed writer_failed (Err faults.InputTooLong)
   packed_long a b b2 c d e taken held next rest new buf tail w k reader_failed writer_failed reader_fine writer_fine
       full past bound (bytes, read, count, told) more within served part =
       let kept = read_past a b b2 bytes buf k w read more within (omega (arith, count, full)) past
       (omega (arith, count, bound)) in
-      let front = subst (λ (p : List ℕ). TellsPacked piece limits held rest p next new (sent d) (sent e))
+      let front = subst (λ (p : List ℕ). WritesPacked piece limits held rest p next new (sent d) (sent e))
       (take-append-le w buf tail (omega (arith, past, within))) served in
       let all = packed_more piece limits fresh [] bytes held rest (take w buf) (sent c) (sent d) told next new (sent e)
       front in
@@ -266,12 +266,12 @@ module _ (piece : Piece) (limits : Bounds) where
 
   pub packed_hears : (a b b2 c d e : Option (List ℕ)) (taken : ℕ) (held next : Held) (rest new buf tail : List ℕ)
       (w k : ℕ) → w ≡ k → HearsPacked piece limits a b taken held rest c d → Consumes b b2 (take k buf) → k ≤ length buf
-      → TellsPacked piece limits held rest (take w (buf ++ tail)) next new (sent d) (sent e)
+      → WritesPacked piece limits held rest (take w (buf ++ tail)) next new (sent d) (sent e)
       → HearsPacked piece limits a b2 (taken + k) next new c e
   packed_hears a b b2 c d e taken held next rest new buf tail w k same (bytes, read, count, told) more within served =
-      let front = subst (λ (p : List ℕ). TellsPacked piece limits held rest p next new (sent d) (sent e))
+      let front = subst (λ (p : List ℕ). WritesPacked piece limits held rest p next new (sent d) (sent e))
       (take-append-le w buf tail (omega (arith, same, within))) served in
-      let part = subst (λ (i : ℕ). TellsPacked piece limits held rest (take i buf) next new (sent d) (sent e)) same
+      let part = subst (λ (i : ℕ). WritesPacked piece limits held rest (take i buf) next new (sent d) (sent e)) same
       front in (
         bytes ++ take k buf,
         Consumes-trans a b b2 bytes (take k buf) read more,

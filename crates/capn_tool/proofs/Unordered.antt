@@ -2,15 +2,15 @@
 use Rattle.std.proofs.Common.{◌≡◌, ℕ, Bool, true, false, Result, Err, refl, sym, ◌∙◌}
 use Rattle.clap.specs.declared.error.ErrorKind.{ErrorKind}
 use Rattle.clap.specs.declared.error.ErrorKind.TheVariants as kinds
-use Rattle.capn_tool.specs.Program.{Course, EndsUnordered, IsUntouched, ShowsHelp, TellsText}
+use Rattle.capn_tool.specs.Program.{Course, EndsUnordered, IsUntouched, ShowsHelp, WritesText}
 use Rattle.capn_tool.specs.ExitStatus.{status_of}
-use Rattle.capn_tool.specs.FaultText.{Tells}
+use Rattle.capn_tool.specs.FaultText.{ReportsEnding}
 use Rattle.capn_tool.specs.declared.fault.ToolFault.{ToolFault}
 use Rattle.capn_tool.specs.declared.fault.ToolFault.TheVariants as faults
 
 module _ (kind : ErrorKind) (output errors : Course) where
   pub ends_memory : (status : ℕ) → kind ≡ kinds.OutOfMemory → IsUntouched output
-      → Tells (Err faults.Memory) errors.before errors.after errors.failed → status ≡ 3
+      → ReportsEnding (Err faults.Memory) errors.before errors.after errors.failed → status ≡ 3
       → EndsUnordered kind output errors status
   ends_memory status is untouched told ends = record {
     memory = λ _. (untouched, told, ends);
@@ -19,7 +19,7 @@ module _ (kind : ErrorKind) (output errors : Course) where
   }
 
   pub ends_help : (status : ℕ) (outcome : Result (Unit {0}) ToolFault) → kind ≡ kinds.DisplayHelp
-      → ShowsHelp output outcome → Tells outcome errors.before errors.after errors.failed
+      → ShowsHelp output outcome → ReportsEnding outcome errors.before errors.after errors.failed
       → status ≡ status_of outcome → EndsUnordered kind output errors status
   ends_help status outcome is shown told ends = record {
     memory = λ other. let bad : kinds.OutOfMemory ≡ kinds.DisplayHelp = sym other ∙ is in absurd (cc);
@@ -29,7 +29,7 @@ module _ (kind : ErrorKind) (output errors : Course) where
 
   -- neither test was met
   pub ends_mistake : (memory help : Bool) → (kind ≡ kinds.OutOfMemory → memory ≡ true) → memory ≡ false
-      → (kind ≡ kinds.DisplayHelp → help ≡ true) → help ≡ false → IsUntouched output → TellsText errors
+      → (kind ≡ kinds.DisplayHelp → help ≡ true) → help ≡ false → IsUntouched output → WritesText errors
       → EndsUnordered kind output errors 2
   ends_mistake memory help memory_is no_memory help_is no_help untouched told = record {
     memory = λ is. let bad : true ≡ false = sym (memory_is is) ∙ no_memory in absurd (cc);

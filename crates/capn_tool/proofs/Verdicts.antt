@@ -6,13 +6,13 @@ use Rattle.capn_walk.specs.Accepted.{paid, number_of_visits}
 use Rattle.capn_walk.specs.Accepted as walks
 use Rattle.capn_walk.specs.declared.walk_answer.Stopped.{Stopped}
 use Rattle.capn_walk.specs.declared.target.Fault.TheVariants as walk_faults
-use Rattle.capn_canon.specs.BareVerdict.{IsCheck}
-use Rattle.capn_canon.specs.declared.surveyed_bare.Checked.{Checked}
-use Rattle.capn_tool.specs.MessageText.{AreCanonical, PutsBarePiece, PutsLine, TellsStop, priced}
-use Rattle.capn_tool.specs.declared.plan.Piece.TheVariants as kinds
+use Rattle.capn_canon.specs.BareVerdict.{IsBareSurvey}
+use Rattle.capn_canon.specs.declared.surveyed_bare.SurveyedBare.{SurveyedBare}
+use Rattle.capn_tool.specs.MessageText.{AreCanonical, PutsBareMessageText, PutsLine, IsStopOf, priced}
+use Rattle.capn_tool.specs.declared.plan.MessageText.TheVariants as kinds
 use Rattle.capn_tool.specs.declared.fault.ToolFault.{ToolFault}
 
-module _ (words : List ℕ) (limits : Bounds) (c : Checked) (told : IsCheck words limits c) where
+module _ (words : List ℕ) (limits : Bounds) (c : SurveyedBare) (told : IsBareSurvey words limits c) where
   same_line : (behind : List ℕ)
       → priced c.paid c.visits behind ≡ priced (paid (words ∷ []) limits) (number_of_visits (words ∷ []) limits) behind
   same_line behind = ap (λ (n : ℕ). priced n c.visits behind) told.pays
@@ -26,7 +26,7 @@ module _ (words : List ℕ) (limits : Bounds) (c : Checked) (told : IsCheck word
 
   pub verdict_yes : (old new : List ℕ) (r : Result (Unit {0}) ToolFault) → c.is_canonical ≡ true
       → PutsLine (priced c.paid c.visits (codes " canonical" ++ 10 ∷ [])) old new r
-      → PutsBarePiece kinds.Price words limits old new r
+      → PutsBareMessageText kinds.Price words limits old new r
   verdict_yes old new (Ok u) e put = (
     priced c.paid c.visits (codes " canonical" ++ 10 ∷ []),
     (told.value, told.is, inl (yes e, same_line (codes " canonical" ++ 10 ∷ []))),
@@ -36,7 +36,7 @@ module _ (words : List ℕ) (limits : Bounds) (c : Checked) (told : IsCheck word
 
   pub verdict_no : (old new : List ℕ) (r : Result (Unit {0}) ToolFault) → c.is_canonical ≡ false
       → PutsLine (priced c.paid c.visits (codes " not-canonical" ++ 10 ∷ [])) old new r
-      → PutsBarePiece kinds.Price words limits old new r
+      → PutsBareMessageText kinds.Price words limits old new r
   verdict_no old new (Ok u) e put = (
     priced c.paid c.visits (codes " not-canonical" ++ 10 ∷ []),
     (told.value, told.is, inr (no e, same_line (codes " not-canonical" ++ 10 ∷ []))),
@@ -46,8 +46,8 @@ module _ (words : List ℕ) (limits : Bounds) (c : Checked) (told : IsCheck word
 
 -- the walk stopped
 pub verdict_stopped : (words : List ℕ) (limits : Bounds) (s : Stopped) (old : List ℕ) (r : Result (Unit {0}) ToolFault)
-    → (s.fault ≡ walk_faults.Memory) ⊎ walks.IsRefused (words ∷ []) limits s.fault s.place s.paid s.visits
-    → IsErrAnd r (TellsStop s) → PutsBarePiece kinds.Price words limits old old r
+    → (s.fault ≡ walk_faults.Memory) ⊎ walks.IsWalkRefused (words ∷ []) limits s.fault s.place s.paid s.visits
+    → IsErrAnd r (IsStopOf s) → PutsBareMessageText kinds.Price words limits old old r
 verdict_stopped words limits s old (Ok u) why is = absurd is
 verdict_stopped words limits s old (Err fault) why (inl (memory, is)) = (inl is, refl)
 verdict_stopped words limits s old (Err fault) (inl memory) (inr (other, is)) = absurd (other memory)

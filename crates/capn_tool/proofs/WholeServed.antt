@@ -1,9 +1,9 @@
 -- Faults that lower calls report.
 use Rattle.std.proofs.Common.{◌≡◌, inl, inr, ℕ, List}
-use Rattle.capn_tool.specs.MessageText.{IsNoPiece}
+use Rattle.capn_tool.specs.MessageText.{IsNoMessageText}
 use Rattle.capn_tool.specs.WholeInput.{MakesNothing}
-use Rattle.capn_tool.specs.declared.plan.Piece.{Piece}
-use Rattle.capn_tool.specs.declared.plan.Piece.TheVariants as kinds
+use Rattle.capn_tool.specs.declared.plan.MessageText.{MessageText}
+use Rattle.capn_tool.specs.declared.plan.MessageText.TheVariants as kinds
 use Rattle.capn_tool.specs.declared.plan.Whole.{Whole}
 use Rattle.capn_tool.specs.declared.plan.Whole.TheVariants as wholes
 use Rattle.capn_walk.specs.Limits.{Bounds}
@@ -25,8 +25,8 @@ told_not_whole : (fault : ToolFault) (n : ℕ) → fault ≡ faults.NotWhole n �
 told_not_whole fault n e = record { no_io = λ h. cc }
 
 -- why a message has no piece is reported,
-pub told_piece : (piece : Piece) (message : List (List ℕ)) (limits : Bounds) (fault : ToolFault)
-    → IsNoPiece piece message limits fault → IsTold fault
+pub told_piece : (piece : MessageText) (message : List (List ℕ)) (limits : Bounds) (fault : ToolFault)
+    → IsNoMessageText piece message limits fault → IsTold fault
 told_piece kinds.Text message limits fault h = told_refused fault _ h.1
 told_piece kinds.Price message limits fault h = told_refused fault _ h.1
 told_piece kinds.Digest message limits fault h = told_refused fault _ h.1

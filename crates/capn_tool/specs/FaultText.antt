@@ -20,16 +20,16 @@ abbrev pub fault_line : ToolFault → List ℕ
 fault_line fault = codes "capn: " ++ fault_text fault ++ 10 ∷ []
 
 -- a line was written, or a beginning of it where the writer has failed
-abbrev pub TellsLine : List ℕ → Option (List ℕ) → Option (List ℕ) → Bool → Type 0
-TellsLine line old new true = HasBegun old new line
-TellsLine line old new false = Appends old new line
+abbrev pub WritesLine : List ℕ → Option (List ℕ) → Option (List ℕ) → Bool → Type 0
+WritesLine line old new true = HasBegun old new line
+WritesLine line old new false = Appends old new line
 
 -- the line of a fault was written, or the line of Memory if there was no memory for it
-abbrev pub TellsFault : ToolFault → Option (List ℕ) → Option (List ℕ) → Bool → Type 0
-TellsFault fault old new failed =
-    TellsLine (fault_line fault) old new failed ⊎ TellsLine (fault_line faults.Memory) old new failed
+abbrev pub WritesFault : ToolFault → Option (List ℕ) → Option (List ℕ) → Bool → Type 0
+WritesFault fault old new failed =
+    WritesLine (fault_line fault) old new failed ⊎ WritesLine (fault_line faults.Memory) old new failed
 
 -- why a run ended has been reported: nothing if it is done, and else its fault
-abbrev pub Tells : Result (Unit {0}) ToolFault → Option (List ℕ) → Option (List ℕ) → Bool → Type 0
-Tells (Ok u) old new failed = (new ≡ old) × (failed ≡ false)
-Tells (Err fault) old new failed = TellsFault fault old new failed
+abbrev pub ReportsEnding : Result (Unit {0}) ToolFault → Option (List ℕ) → Option (List ℕ) → Bool → Type 0
+ReportsEnding (Ok u) old new failed = (new ≡ old) × (failed ≡ false)
+ReportsEnding (Err fault) old new failed = WritesFault fault old new failed

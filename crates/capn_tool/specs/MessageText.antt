@@ -17,8 +17,8 @@ use Rattle.capn_canon.specs.Denotes.{AnswersMessage}
 use Rattle.capn_canon.specs.Refusal.{IsRefusedMessage}
 use Rattle.capn_canon.specs.declared.refusal.Refusal.{Refusal}
 use Rattle.capn_canon.specs.declared.refusal.Refusal.TheVariants as refusals
-use Rattle.capn_tool.specs.declared.plan.Piece.{Piece}
-use Rattle.capn_tool.specs.declared.plan.Piece.TheVariants as kinds
+use Rattle.capn_tool.specs.declared.plan.MessageText.{MessageText}
+use Rattle.capn_tool.specs.declared.plan.MessageText.TheVariants as kinds
 use Rattle.capn_tool.specs.declared.fault.ToolFault.{ToolFault}
 use Rattle.capn_tool.specs.declared.fault.ToolFault.TheVariants as faults
 
@@ -36,32 +36,32 @@ digest_line text = encode_lower (sha256 text) ++ 10 ∷ []
 
 -- What is written of a message that is accepted within the limits: the text of its value, and a line `end`; the line of
 -- its price; or the line of the digest of its canonical bytes.
-abbrev pub IsPiece : Piece → List (List ℕ) → Bounds → List ℕ → Type 0
-IsPiece kinds.Text message limits text =
+abbrev pub IsMessageText : MessageText → List (List ℕ) → Bounds → List ℕ → Type 0
+IsMessageText kinds.Text message limits text =
     (v : Tree) × IsValueOf message limits v × (text ≡ show_text v ++ (codes "end" ++ 10 ∷ []))
-IsPiece kinds.Price message limits text =
+IsMessageText kinds.Price message limits text =
     (v : Tree) × IsValueOf message limits v
     × (text ≡ price_line (paid message limits) (number_of_visits message limits))
-IsPiece kinds.Digest message limits text =
+IsMessageText kinds.Digest message limits text =
     (answer : List ℕ) × (price : ℕ) × AnswersMessage message limits answer price × (text ≡ digest_line answer)
 
 -- the walk of the message is refused so
 abbrev pub IsStopped : List (List ℕ) → Bounds → ToolFault → Type 0
 IsStopped message limits fault =
     (s : Stopped) × (fault ≡ faults.Refused (refusals.Walk s))
-    × walks.IsRefused message limits s.fault s.place s.paid s.visits
+    × walks.IsWalkRefused message limits s.fault s.place s.paid s.visits
 
 -- why a run stops if its walk has stopped like this: memory ran out if and only if it did for the walk
-abbrev pub TellsStop : Stopped → ToolFault → Type 0
-TellsStop s fault =
+abbrev pub IsStopOf : Stopped → ToolFault → Type 0
+IsStopOf s fault =
     ((s.fault ≡ walk_faults.Memory) × (fault ≡ faults.Memory))
     ⊎ ((s.fault ≢ walk_faults.Memory) × (fault ≡ faults.Refused (refusals.Walk s)))
 
 -- why a message has no piece: its walk is refused; for the digest also that its value has a capability
-abbrev pub IsNoPiece : Piece → List (List ℕ) → Bounds → ToolFault → Type 0
-IsNoPiece kinds.Text message limits fault = IsStopped message limits fault
-IsNoPiece kinds.Price message limits fault = IsStopped message limits fault
-IsNoPiece kinds.Digest message limits fault =
+abbrev pub IsNoMessageText : MessageText → List (List ℕ) → Bounds → ToolFault → Type 0
+IsNoMessageText kinds.Text message limits fault = IsStopped message limits fault
+IsNoMessageText kinds.Price message limits fault = IsStopped message limits fault
+IsNoMessageText kinds.Digest message limits fault =
     (r : Refusal) × (fault ≡ faults.Refused r) × (r ≢ refusals.Memory) × IsRefusedMessage message limits r
 
 -- the bytes of the words are the canonical bytes of the value, which has no capability
@@ -70,9 +70,9 @@ AreCanonical v words = (first_cap v ≡ None) × (canon v ≡ bytes words)
 
 -- What is written of the one bare message of these words: as of any message, but the line of its price has one word
 -- more, which says whether the words are canonical.
-abbrev pub IsBarePiece : Piece → List ℕ → Bounds → List ℕ → Type 0
-IsBarePiece kinds.Text words limits text = IsPiece kinds.Text (words ∷ []) limits text
-IsBarePiece kinds.Price words limits text =
+abbrev pub IsBareMessageText : MessageText → List ℕ → Bounds → List ℕ → Type 0
+IsBareMessageText kinds.Text words limits text = IsMessageText kinds.Text (words ∷ []) limits text
+IsBareMessageText kinds.Price words limits text =
     (v : Tree) × IsValueOf (words ∷ []) limits v
     × ((AreCanonical v words
     × (text ≡ priced (paid (words ∷ []) limits) (number_of_visits (words ∷ []) limits)
@@ -80,23 +80,24 @@ IsBarePiece kinds.Price words limits text =
     ⊎ ((AreCanonical v words → ⊥)
     × (text ≡ priced (paid (words ∷ []) limits) (number_of_visits (words ∷ []) limits)
     (codes " not-canonical" ++ 10 ∷ []))))
-IsBarePiece kinds.Digest words limits text = IsPiece kinds.Digest (words ∷ []) limits text
+IsBareMessageText kinds.Digest words limits text = IsMessageText kinds.Digest (words ∷ []) limits text
 
 -- a call appended the piece to a text; or it reported why there is none, unless memory ran out, and left the text as it
 -- was
-abbrev pub PutsPiece : Piece → List (List ℕ) → Bounds → List ℕ → List ℕ → Result (Unit {0}) ToolFault → Type 0
-PutsPiece piece message limits old new (Ok u) = (text : List ℕ) × IsPiece piece message limits text
+abbrev pub PutsMessageText : MessageText → List (List ℕ) → Bounds → List ℕ → List ℕ → Result (Unit {0}) ToolFault
+    → Type 0
+PutsMessageText piece message limits old new (Ok u) = (text : List ℕ) × IsMessageText piece message limits text
     × (new ≡ old ++ text)
-PutsPiece piece message limits old new (Err fault) =
-    ((fault ≡ faults.Memory) ⊎ IsNoPiece piece message limits fault) × (new ≡ old)
+PutsMessageText piece message limits old new (Err fault) =
+    ((fault ≡ faults.Memory) ⊎ IsNoMessageText piece message limits fault) × (new ≡ old)
 
 -- a call appended the piece of the one bare message to a text; or it reported why there is none, unless memory ran out,
 -- and left the text as it was
-abbrev pub PutsBarePiece : Piece → List ℕ → Bounds → List ℕ → List ℕ → Result (Unit {0}) ToolFault → Type 0
-PutsBarePiece piece words limits old new (Ok u) = (text : List ℕ) × IsBarePiece piece words limits text
+abbrev pub PutsBareMessageText : MessageText → List ℕ → Bounds → List ℕ → List ℕ → Result (Unit {0}) ToolFault → Type 0
+PutsBareMessageText piece words limits old new (Ok u) = (text : List ℕ) × IsBareMessageText piece words limits text
     × (new ≡ old ++ text)
-PutsBarePiece piece words limits old new (Err fault) =
-    ((fault ≡ faults.Memory) ⊎ IsNoPiece piece (words ∷ []) limits fault) × (new ≡ old)
+PutsBareMessageText piece words limits old new (Err fault) =
+    ((fault ≡ faults.Memory) ⊎ IsNoMessageText piece (words ∷ []) limits fault) × (new ≡ old)
 
 -- a line was appended to a text, or nothing if memory ran out
 abbrev pub PutsLine : List ℕ → List ℕ → List ℕ → Result (Unit {0}) ToolFault → Type 0

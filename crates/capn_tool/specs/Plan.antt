@@ -4,14 +4,14 @@ use Rattle.capn_canon.specs.declared.form.Form.{Form}
 use Rattle.capn_canon.specs.declared.form.Form.TheVariants as forms
 use Rattle.capn_tool.specs.declared.command.Command.{Command}
 use Rattle.capn_tool.specs.declared.command.Command.TheVariants as commands
-use Rattle.capn_tool.specs.declared.plan.Piece.{Piece}
-use Rattle.capn_tool.specs.declared.plan.Piece.TheVariants as kinds
+use Rattle.capn_tool.specs.declared.plan.MessageText.{MessageText}
+use Rattle.capn_tool.specs.declared.plan.MessageText.TheVariants as kinds
 use Rattle.capn_tool.specs.declared.plan.Whole.TheVariants as wholes
 use Rattle.capn_tool.specs.declared.plan.Plan.{Plan}
 use Rattle.capn_tool.specs.declared.plan.Plan.TheVariants as plans
 
 -- a piece of each message: the one bare message that the input is, or the messages of a stream, packed or not
-abbrev pub pieces_of : Piece → Form → Bounds → Plan
+abbrev pub pieces_of : MessageText → Form → Bounds → Plan
 pieces_of piece forms.Bare limits = plans.Whole (wholes.Bare piece limits)
 pieces_of piece forms.Stream limits = plans.Each piece limits
 pieces_of piece forms.Packed limits = plans.Packed piece limits

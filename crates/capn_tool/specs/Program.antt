@@ -10,7 +10,7 @@ use Rattle.capn_tool.specs.Meaning.{Means}
 use Rattle.capn_tool.specs.Usage.{IsHelp, IsReason}
 use Rattle.capn_tool.specs.Outgoing.{EndsFlushed}
 use Rattle.capn_tool.specs.ExitStatus.{status_of}
-use Rattle.capn_tool.specs.FaultText.{Tells, TellsLine, fault_line}
+use Rattle.capn_tool.specs.FaultText.{ReportsEnding, WritesLine, fault_line}
 use Rattle.capn_tool.specs.Text.{EndsAs, EndsBy, IsText, Begins}
 use Rattle.capn_tool.specs.StreamRun.{KeepsUp}
 use Rattle.capn_tool.specs.declared.command.Command.{Command}
@@ -58,7 +58,7 @@ pub record EndsOrdered (words : List Text) (input output errors : Course) (statu
   pub outcome : Result (Unit {0}) ToolFault
   pub means : Means (subcommand_of tool_line words) command
   pub run : CarriesOut command input output outcome
-  pub told : Tells outcome errors.before errors.after errors.failed
+  pub told : ReportsEnding outcome errors.before errors.after errors.failed
   pub is : status ≡ status_of outcome
 
 -- Help was shown on the output, and ended so: a text of help was written, and the output has not failed; or a beginning
@@ -77,22 +77,22 @@ ShowsHelp output (Err (faults.Refused refusal)) = ⊥
 pub record EndsHelp (output errors : Course) (status : ℕ) : Type 0 where
   pub outcome : Result (Unit {0}) ToolFault
   pub shown : ShowsHelp output outcome
-  pub told : Tells outcome errors.before errors.after errors.failed
+  pub told : ReportsEnding outcome errors.before errors.after errors.failed
   pub is : status ≡ status_of outcome
 
 -- a text was written to the errors, or the line of Memory if there was no memory for the text; or a beginning of that,
 -- if the errors have failed
-abbrev pub TellsText : Course → Type 0
-TellsText errors = ((text : List ℕ) × TellsLine text errors.before errors.after errors.failed)
-    ⊎ TellsLine (fault_line faults.Memory) errors.before errors.after errors.failed
+abbrev pub WritesText : Course → Type 0
+WritesText errors = ((text : List ℕ) × WritesLine text errors.before errors.after errors.failed)
+    ⊎ WritesLine (fault_line faults.Memory) errors.before errors.after errors.failed
 
 -- The words order nothing, for a reason of this kind: memory was refused, help is wished for, or they are a mistake.
 pub record EndsUnordered (kind : ErrorKind) (output errors : Course) (status : ℕ) : Type 0 where
   pub memory : kind ≡ kinds.OutOfMemory
-      → IsUntouched output × Tells (Err faults.Memory) errors.before errors.after errors.failed × (status ≡ 3)
+      → IsUntouched output × ReportsEnding (Err faults.Memory) errors.before errors.after errors.failed × (status ≡ 3)
   pub help : kind ≡ kinds.DisplayHelp → EndsHelp output errors status
   pub mistake : kind ≢ kinds.OutOfMemory → kind ≢ kinds.DisplayHelp
-      → IsUntouched output × TellsText errors × (status ≡ 2)
+      → IsUntouched output × WritesText errors × (status ≡ 2)
 
 -- The words order nothing, for a reason of this kind: where they are taken and mean a command, that memory was refused.
 -- Nothing was read.

@@ -11,7 +11,7 @@ use Rattle.capn_canon.specs.declared.refusal.Refusal.TheVariants as refusals
 use Rattle.capn_tool.specs.Outgoing.{Outgoing, Adds, Breaks, sent}
 use Rattle.capn_tool.specs.Streams.{Part, AreParts, texts_of, IsDueEach}
 use Rattle.capn_tool.specs.Text.{IsDue, PlanEndsAs, PlanBegins, taken_of, has_more}
-use Rattle.capn_tool.specs.declared.plan.Piece.{Piece}
+use Rattle.capn_tool.specs.declared.plan.MessageText.{MessageText}
 use Rattle.capn_tool.specs.declared.plan.Plan.{Plan}
 use Rattle.capn_tool.specs.declared.plan.Plan.TheVariants as plans
 use Rattle.capn_tool.specs.declared.command.Command.{Command}
@@ -20,28 +20,28 @@ use Rattle.capn_tool.specs.declared.fault.ToolFault.{ToolFault}
 use Rattle.capn_tool.specs.declared.fault.ToolFault.TheVariants as faults
 
 -- the pieces of the whole messages of a stream were added, and so much of it is left
-abbrev pub Tells : Piece → Bounds → List ℕ → List ℕ → Outgoing → Outgoing → Type 0
-Tells piece limits stream rest old new = (parts : List Part) × AreParts piece limits stream parts rest
+abbrev pub Writes : MessageText → Bounds → List ℕ → List ℕ → Outgoing → Outgoing → Type 0
+Writes piece limits stream rest old new = (parts : List Part) × AreParts piece limits stream parts rest
     × Adds old new (texts_of parts)
 
 -- the writer failed within the pieces of a stream
-abbrev pub TellsFront : Piece → Bounds → List ℕ → Outgoing → Outgoing → Type 0
-TellsFront piece limits stream old new =
+abbrev pub WritesFront : MessageText → Bounds → List ℕ → Outgoing → Outgoing → Type 0
+WritesFront piece limits stream old new =
     (parts : List Part) × (rest : List ℕ) × (count : ℕ) × AreParts piece limits stream parts rest
     × Breaks old new count (texts_of parts)
 
 -- the output for a stream that begins like this, whatever follows, is the text that was added, and this is its ending
-abbrev pub IsDueSo : Piece → Bounds → List ℕ → Outgoing → Outgoing → ToolFault → Type 0
+abbrev pub IsDueSo : MessageText → Bounds → List ℕ → Outgoing → Outgoing → ToolFault → Type 0
 IsDueSo piece limits stream old new fault =
     (more : List ℕ) (behind : Option ToolFault) → (text : List ℕ)
     × IsDueEach piece limits (stream ++ more) behind text (Err fault) × Adds old new text
 
 -- a run over a stream that begins like this stopped: memory was refused, the writer failed, or there is no more output
 -- for it
-pub record Stops (piece : Piece) (limits : Bounds) (stream : List ℕ) (old new : Outgoing) (failed : Bool)
+pub record Stops (piece : MessageText) (limits : Bounds) (stream : List ℕ) (old new : Outgoing) (failed : Bool)
     (fault : ToolFault) : Type 0 where
-  pub told : failed ≡ false → (rest : List ℕ) × Tells piece limits stream rest old new
-  pub front : failed ≡ true → TellsFront piece limits stream old new
+  pub told : failed ≡ false → (rest : List ℕ) × Writes piece limits stream rest old new
+  pub front : failed ≡ true → WritesFront piece limits stream old new
   pub io : (fault ≡ faults.Io) ↔ (failed ≡ true)
   pub due : (fault ≡ faults.Memory) ⊎ ((fault ≡ faults.Io) ⊎ IsDueSo piece limits stream old new fault)
 
@@ -61,15 +61,16 @@ pub record IsListening (framer : Framing) (limits : Bounds) : Type 0 where
   pub most : framer.most ≡ limits.message_words
 
 -- bytes that follow what a framer holds were served: all that they made whole, or up to where the run stopped
-abbrev pub Serves : Piece → Bounds → Framing → List ℕ → Outgoing → Outgoing → Bool → Result (Unit {0}) ToolFault
+abbrev pub Serves : MessageText → Bounds → Framing → List ℕ → Outgoing → Outgoing → Bool → Result (Unit {0}) ToolFault
     → Framing → Type 0
 Serves piece limits before bytes old new failed (Ok u) after =
-    Tells piece limits (before.rest ++ bytes) after.rest old new × IsListening after limits × (failed ≡ false)
+    Writes piece limits (before.rest ++ bytes) after.rest old new × IsListening after limits × (failed ≡ false)
 Serves piece limits before bytes old new failed (Err fault) after =
     Stops piece limits (before.rest ++ bytes) old new failed fault
 
 -- some of the bytes were served, up to a whole message or to their end; the answer is how many
-abbrev pub ServesNext : Piece → Bounds → Framing → List ℕ → Outgoing → Outgoing → Bool → Result ℕ ToolFault → Framing
+abbrev pub ServesNext : MessageText → Bounds → Framing → List ℕ → Outgoing → Outgoing → Bool → Result ℕ ToolFault
+    → Framing
     → Type 0
 ServesNext piece limits before bytes old new failed (Ok n) after =
     (n ≤ length bytes) × (0 < length bytes → 0 < n)
@@ -85,11 +86,12 @@ Passes fault (Err e) = (fault ≡ frames.Memory) × (e ≡ faults.Memory)
 -- no whole message stands first in these bytes, by what they say and not since memory was refused
 abbrev pub HasNoFrame : Bounds → List ℕ → Type 0
 HasNoFrame limits bytes =
-    (e : FrameFault) × (e ≢ frames.Memory) × frame_rules.IsRefused bytes limits.message_words e
+    (e : FrameFault) × (e ≢ frames.Memory) × frame_rules.IsFrameRefused bytes limits.message_words e
 
 -- the first n bytes are whole messages and were served, and no whole message follows; or the run stopped among them
-abbrev pub ServesWhole : Piece → Bounds → List ℕ → Outgoing → Outgoing → Bool → Result ℕ ToolFault → Type 0
-ServesWhole piece limits bytes old new failed (Ok n) = (n ≤ length bytes) × Tells piece limits (take n bytes) [] old new
+abbrev pub ServesWhole : MessageText → Bounds → List ℕ → Outgoing → Outgoing → Bool → Result ℕ ToolFault → Type 0
+ServesWhole piece limits bytes old new failed (Ok n) = (n ≤ length bytes)
+    × Writes piece limits (take n bytes) [] old new
     × (failed ≡ false) × HasNoFrame limits (drop n bytes)
 ServesWhole piece limits bytes old new failed (Err fault) = Stops piece limits bytes old new failed fault
 
@@ -121,12 +123,13 @@ pub record Runs (plan : Plan) (a b c d : Option (List ℕ)) (reader_failed write
 
 -- the input ended, and no message is cut, or one is
 abbrev pub EndsInput : List ℕ → ℕ → Result (Unit {0}) ToolFault → Type 0
-EndsInput rest most (Ok u) = frame_rules.IsRefused rest most frames.Empty
-EndsInput rest most (Err fault) = frame_rules.IsRefused rest most frames.Cut
+EndsInput rest most (Ok u) = frame_rules.IsFrameRefused rest most frames.Empty
+EndsInput rest most (Err fault) = frame_rules.IsFrameRefused rest most frames.Cut
     × (fault ≡ faults.Refused (refusals.Frame frames.Cut))
 
 -- a reader gave bytes, and their number is known; the pieces of the whole messages in them were written
-abbrev pub Hears : Piece → Bounds → Option (List ℕ) → Option (List ℕ) → ℕ → List ℕ → Option (List ℕ) → Option (List ℕ)
+abbrev pub Hears : MessageText → Bounds → Option (List ℕ) → Option (List ℕ) → ℕ → List ℕ → Option (List ℕ)
+    → Option (List ℕ)
     → Type 0
 Hears piece limits a b taken rest c d = (bytes : List ℕ) × Consumes a b bytes × (length bytes ≡ taken)
-    × Tells piece limits bytes rest (sent c) (sent d)
+    × Writes piece limits bytes rest (sent c) (sent d)

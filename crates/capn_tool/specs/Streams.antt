@@ -12,8 +12,8 @@ use Rattle.capn_stream.specs.declared.fault.FrameFault.TheVariants as frame_faul
 use Rattle.capn_canon.specs.declared.refusal.Refusal.TheVariants as refusals
 use Rattle.capn_pack.specs.PackedPieces.{Splits}
 use Rattle.capn_pack.specs.declared.fault.UnpackFault.TheVariants as cuts
-use Rattle.capn_tool.specs.MessageText.{IsPiece, IsNoPiece}
-use Rattle.capn_tool.specs.declared.plan.Piece.{Piece}
+use Rattle.capn_tool.specs.MessageText.{IsMessageText, IsNoMessageText}
+use Rattle.capn_tool.specs.declared.plan.MessageText.{MessageText}
 use Rattle.capn_tool.specs.declared.fault.ToolFault.{ToolFault}
 use Rattle.capn_tool.specs.declared.fault.ToolFault.TheVariants as faults
 
@@ -40,13 +40,14 @@ abbrev pub texts_of : List Part → List ℕ
 texts_of parts = flat_map text_of parts
 
 -- the frame is that of the message, which has no more words than allowed, and the text is its piece
-pub record IsPart (piece : Piece) (limits : Bounds) (part : Part) : Type 0 where
+pub record IsPart (piece : MessageText) (limits : Bounds) (part : Part) : Type 0 where
   pub frame : Frames part.frame part.message
   pub room : total part.message ≤ limits.message_words
-  pub text : IsPiece piece part.message limits part.text
+  pub text : IsMessageText piece part.message limits part.text
 
 -- the bytes are a row of frames, each of a message that has a piece, and what is left after these
-pub record AreParts (piece : Piece) (limits : Bounds) (bytes : List ℕ) (parts : List Part) (rest : List ℕ) : Type 0
+pub record AreParts (piece : MessageText) (limits : Bounds) (bytes : List ℕ) (parts : List Part)
+    (rest : List ℕ) : Type 0
   where
     pub each : AllByRecursion (IsPart piece limits) parts
     pub is : bytes ≡ frames_of parts ++ rest
@@ -77,18 +78,19 @@ behind_packed false (b ∷ rest) at = Some (faults.Refused (refusals.Packed (cut
 -- no whole frame stands first in what is left, and the run ends so
 abbrev pub EndsUnframed : Bounds → List ℕ → Option ToolFault → Result (Unit {0}) ToolFault → Type 0
 EndsUnframed limits rest behind ending =
-    (e : FrameFault) × (e ≢ frame_faults.Memory) × frames.IsRefused rest limits.message_words e
+    (e : FrameFault) × (e ≢ frame_faults.Memory) × frames.IsFrameRefused rest limits.message_words e
     × (ending ≡ end_of e behind)
 
 -- a message stands first in what is left that has no piece, and the run ends with that reason
-abbrev pub EndsRefused : Piece → Bounds → List ℕ → Result (Unit {0}) ToolFault → Type 0
+abbrev pub EndsRefused : MessageText → Bounds → List ℕ → Result (Unit {0}) ToolFault → Type 0
 EndsRefused piece limits rest ending =
     (message : List (List ℕ)) × (taken : ℕ) × (fault : ToolFault) × StandsFirst rest limits.message_words message taken
-    × IsNoPiece piece message limits fault × (ending ≡ Err fault)
+    × IsNoMessageText piece message limits fault × (ending ≡ Err fault)
 
 -- the text and the ending of a stream of which these bytes are taken: the pieces of its messages, up to the first
 -- that has none
-pub record IsDueEach (piece : Piece) (limits : Bounds) (bytes : List ℕ) (behind : Option ToolFault) (text : List ℕ)
+pub record IsDueEach (piece : MessageText) (limits : Bounds) (bytes : List ℕ) (behind : Option ToolFault)
+    (text : List ℕ)
     (ending : Result (Unit {0}) ToolFault) : Type 0 where
   pub parts : List Part
   pub rest : List ℕ
@@ -97,7 +99,7 @@ pub record IsDueEach (piece : Piece) (limits : Bounds) (bytes : List ℕ) (behin
   pub ends : EndsUnframed limits rest behind ending ⊎ EndsRefused piece limits rest ending
 
 -- the text and the ending of a packed stream of which these bytes are taken: those of the words of its whole groups
-pub record IsDuePacked (piece : Piece) (limits : Bounds) (bytes : List ℕ) (is_longer : Bool) (text : List ℕ)
+pub record IsDuePacked (piece : MessageText) (limits : Bounds) (bytes : List ℕ) (is_longer : Bool) (text : List ℕ)
     (ending : Result (Unit {0}) ToolFault) : Type 0 where
   pub words : List ℕ
   pub group : List ℕ

@@ -14,8 +14,8 @@ abbrev pub error_of : Usage → Error
 error_of usage = usage.error
 
 -- nothing is wrong with the words: memory was refused
-abbrev pub WantsMemory : Usage → Type 0
-WantsMemory usage = kind_of (error_of usage) ≡ kinds.OutOfMemory
+abbrev pub NeedsMemory : Usage → Type 0
+NeedsMemory usage = kind_of (error_of usage) ≡ kinds.OutOfMemory
 
 -- nothing is wrong with the words: they ask for help
 abbrev pub WishesHelp : Usage → Type 0
@@ -31,7 +31,7 @@ IsReason words kind = (kind ≡ kinds.OutOfMemory) ⊎ (IsAmong kind (fault_of t
 -- a call gave the command, or reported that memory ran out
 abbrev pub Orders : Command → Result Command Usage → Type 0
 Orders command (Ok given) = given ≡ command
-Orders command (Err usage) = WantsMemory usage
+Orders command (Err usage) = NeedsMemory usage
 
 -- the first line of every help, which names the version, and an empty line
 abbrev pub help_title : List ℕ

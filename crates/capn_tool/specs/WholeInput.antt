@@ -11,7 +11,7 @@ use Rattle.capn_canon.specs.Denotes.{Answers}
 use Rattle.capn_canon.specs.Refusal.{IsRefused}
 use Rattle.capn_canon.specs.declared.refusal.Refusal.{Refusal}
 use Rattle.capn_canon.specs.declared.refusal.Refusal.TheVariants as refusals
-use Rattle.capn_tool.specs.MessageText.{IsBarePiece, IsNoPiece}
+use Rattle.capn_tool.specs.MessageText.{IsBareMessageText, IsNoMessageText}
 use Rattle.capn_tool.specs.declared.plan.Whole.{Whole}
 use Rattle.capn_tool.specs.declared.plan.Whole.TheVariants as wholes
 use Rattle.capn_tool.specs.declared.fault.ToolFault.{ToolFault}
@@ -24,7 +24,7 @@ Makes wholes.Packed bytes text = Chosen text bytes
 Makes (wholes.Unpacked most) bytes text = Packs bytes text × (length text ≤ 8 * most)
 Makes (wholes.Canonical form limits) bytes text = (price : ℕ) × Answers form bytes limits text price
 Makes (wholes.Bare piece limits) bytes text = (words : List ℕ) × IsBare bytes words
-    × IsBarePiece piece words limits text
+    × IsBareMessageText piece words limits text
 
 -- Why nothing is: the bytes are no whole words; they pack no words, or more; they have no canonical bytes in the form;
 -- or they are no bare message, or one that has no piece.
@@ -32,12 +32,12 @@ abbrev pub MakesNothing : Whole → List ℕ → ToolFault → Type 0
 MakesNothing wholes.Packed bytes fault = (length bytes % 8 ≢ 0) × (fault ≡ faults.NotWhole (length bytes))
 MakesNothing (wholes.Unpacked most) bytes fault =
     (e : UnpackFault) × (fault ≡ faults.Refused (refusals.Packed e)) × (e ≢ unpack_faults.Memory)
-    × packs.IsRefused bytes most e
+    × packs.IsUnpackRefused bytes most e
 MakesNothing (wholes.Canonical form limits) bytes fault =
     (r : Refusal) × (fault ≡ faults.Refused r) × (r ≢ refusals.Memory) × IsRefused form bytes limits r
 MakesNothing (wholes.Bare piece limits) bytes fault =
     ((e : BareFault) × (fault ≡ faults.Refused (refusals.Bare e)) × ReadsBare bytes (Err e))
-    ⊎ ((words : List ℕ) × IsBare bytes words × IsNoPiece piece (words ∷ []) limits fault)
+    ⊎ ((words : List ℕ) × IsBare bytes words × IsNoMessageText piece (words ∷ []) limits fault)
 
 -- a call gave what is made of the bytes, or reported why nothing is, unless memory ran out
 abbrev pub Gives : {A : Type 0} → Whole → List ℕ → Result (Vec ℕ A) ToolFault → Type 0

@@ -3,9 +3,9 @@
 ghost use Rattle.std.specs.Prelude.{◌≡◌, List, ℕ, map, false, IfOk, IfErr, string_bytes};
 ghost use Rattle.clap.specs.Words.{kind_of};
 ghost use Rattle.capn_words.specs.Watched.{inner_of, has_failed};
-ghost use Rattle.capn_tool.specs.Program.{CarriesOut, Ends, EndsUnordered, ShowsHelp, TellsText, course};
+ghost use Rattle.capn_tool.specs.Program.{CarriesOut, Ends, EndsUnordered, ShowsHelp, WritesText, course};
 ghost use Rattle.capn_tool.specs.Usage.{WishesHelp, error_of};
-ghost use Rattle.capn_tool.specs.FaultText.{TellsLine, fault_line};
+ghost use Rattle.capn_tool.specs.FaultText.{WritesLine, fault_line};
 ghost use Rattle.capn_tool.specs.declared.fault.ToolFault.TheVariants as faults;
 
 use crate::exit_status::end;
@@ -60,9 +60,9 @@ fn show_help<W: Write>(
 /// Writes what is said of a mistake, or the line of `Memory` if there was no memory for that.
 fn tell_said<E: Write>(said: Result<String, AllocError>, errors: &mut Watched<E>)
     requires { has_failed errors.old ≡ false }
-    ensures text { IfOk said (λ text. TellsLine (string_bytes text)
+    ensures text { IfOk said (λ text. WritesLine (string_bytes text)
         (E.contents (inner_of errors.old)) (E.contents (inner_of errors.new)) (has_failed errors.new)) }
-    ensures memory { IfErr said (λ _. TellsLine (fault_line faults.Memory)
+    ensures memory { IfErr said (λ _. WritesLine (fault_line faults.Memory)
         (E.contents (inner_of errors.old)) (E.contents (inner_of errors.new)) (has_failed errors.new)) }
 {
     let _told = match said {
@@ -74,7 +74,7 @@ fn tell_said<E: Write>(said: Result<String, AllocError>, errors: &mut Watched<E>
 /// Writes what is said of a mistake, or the line of `Memory` if there is no memory for that.
 fn tell_mistake<E: Write>(alloc: Global, usage: &Usage, errors: &mut Watched<E>)
     requires { has_failed errors.old ≡ false }
-    ensures { TellsText
+    ensures { WritesText
         (course (E.contents (inner_of errors.old)) (E.contents (inner_of errors.new)) (has_failed errors.new)) }
 {
     tell_said(usage.text(alloc), errors);

@@ -4,7 +4,7 @@ ghost use Rattle.std.specs.Prelude.{◌≡◌, IfOk, string_bytes, codes, false}
 ghost use Rattle.capn_words.specs.Watched.{inner_of, has_failed};
 ghost use Rattle.capn_tool.specs.ExitStatus.{status_of};
 ghost use Rattle.capn_tool.specs.FaultText as spec;
-ghost use Rattle.capn_tool.specs.FaultText.{Tells, TellsFault};
+ghost use Rattle.capn_tool.specs.FaultText.{ReportsEnding, WritesFault};
 
 use crate::fault::ToolFault;
 use capn_value::Memory;
@@ -64,7 +64,7 @@ fn fault_line<A: Allocator + Copy>(alloc: A, fault: &ToolFault) -> Result<String
 /// Writes the line of a fault, or the line of Memory if there is no memory for it.
 fn tell<E: Write, A: Allocator + Copy>(alloc: A, fault: &ToolFault, errors: &mut Watched<E>)
     requires { has_failed errors.old ≡ false }
-    ensures { TellsFault fault.now (E.contents (inner_of errors.old)) (E.contents (inner_of errors.new))
+    ensures { WritesFault fault.now (E.contents (inner_of errors.old)) (E.contents (inner_of errors.new))
         (has_failed errors.new) }
 {
     let _told = match fault_line(alloc, fault) {
@@ -82,7 +82,7 @@ pub fn end<E: Write, A: Allocator + Copy>(
 ) -> u8
     requires { has_failed errors.old ≡ false }
     ensures status { result ≡ status_of outcome.now }
-    ensures told { Tells outcome.now (E.contents (inner_of errors.old)) (E.contents (inner_of errors.new))
+    ensures told { ReportsEnding outcome.now (E.contents (inner_of errors.old)) (E.contents (inner_of errors.new))
         (has_failed errors.new) }
 {
     if let Err(fault) = outcome {

@@ -47,9 +47,9 @@ impl From<Memory> for ToolFault {
 }
 
 impl From<Stopped> for ToolFault {
-    ghost use Rattle.capn_tool.specs.MessageText.{TellsStop};
+    ghost use Rattle.capn_tool.specs.MessageText.{IsStopOf};
 
-    ghost from_gives = { TellsStop };
+    ghost from_gives = { IsStopOf };
 
     fn from(stopped: Stopped) -> ToolFault {
         match stopped.fault {

@@ -9,7 +9,7 @@ ghost use Rattle.capn_tool.specs.StreamRun.{EndsInput, IsListening, Passes, Runs
 ghost use Rattle.capn_tool.specs.Outgoing.{outgoing, sent};
 ghost use Rattle.capn_tool.specs.declared.plan.Plan.TheVariants as plans;
 
-use crate::message_service::{Service, add_piece};
+use crate::message_service::{Service, add_message_text};
 use crate::fault::ToolFault;
 use crate::input::{MOST_BYTES, PIECE};
 use crate::output::send_rest;
@@ -48,7 +48,7 @@ fn serve_next<W: Write, A: Allocator + Copy>(
     match framer.feed(bytes) {
         Ok(taken) => {
             if let Some(message) = framer.take() {
-                add_piece(service, &message, text, writer)?;
+                add_message_text(service, &message, text, writer)?;
             }
             Ok(taken)
         }
@@ -83,7 +83,7 @@ fn serve_whole<W: Write, A: Allocator + Copy>(
     while at < bytes.len() {
         match first(service.alloc, &bytes[at..], service.limits.message_words()) {
             Ok((message, taken)) => {
-                add_piece(service, &message, text, writer)?;
+                add_message_text(service, &message, text, writer)?;
                 at += taken;
             }
             Err(fault) => {
@@ -139,7 +139,7 @@ pub(crate) fn serve_bytes<W: Write, A: Allocator + Copy>(
 }
 
 /// Writes the pieces of all messages that these bytes make whole. The text is room for them.
-fn serve_piece<W: Write, A: Allocator + Copy>(
+fn serve_chunk<W: Write, A: Allocator + Copy>(
     service: &Service<A>,
     framer: &mut Framer<A>,
     bytes: &[u8],
@@ -193,7 +193,7 @@ pub fn run_each<R: Read, W: Write, A: Allocator + Copy>(
             Ok(0) => return end_of_input(framer),
             Ok(count) => {
                 let within = count.min(MOST_BYTES - taken);
-                serve_piece(service, &mut framer, &buffer[..within], &mut text, writer)?;
+                serve_chunk(service, &mut framer, &buffer[..within], &mut text, writer)?;
                 if within < count {
                     return Err(ToolFault::InputTooLong);
                 }

@@ -4,14 +4,15 @@ ghost use Rattle.std.specs.Prelude.{◌≡◌, ◌⊎◌, ◌∷◌, ◌++◌, [
 ghost use Rattle.sha2.specs.Sha256.{sha256};
 ghost use Rattle.hex.specs.Hex.{encode_lower};
 ghost use Rattle.capn_value.specs.Text.{show_text};
-ghost use Rattle.capn_tool.specs.MessageText.{IsPiece, PutsPiece, PutsBarePiece, PutsLine, PutsFront, IsStopped};
+ghost use Rattle.capn_tool.specs.MessageText.{IsMessageText, PutsMessageText, PutsBareMessageText, PutsLine, PutsFront};
+ghost use Rattle.capn_tool.specs.MessageText.{IsStopped};
 ghost use Rattle.capn_tool.specs.MessageText.{priced};
 ghost use Rattle.capn_tool.specs.declared.fault.ToolFault.TheVariants as faults;
-ghost use Rattle.capn_tool.specs.declared.plan.Piece.TheVariants as kinds;
+ghost use Rattle.capn_tool.specs.declared.plan.MessageText.TheVariants as kinds;
 
 use crate::fault::ToolFault;
-use crate::plan::Piece;
-use capn_canon::{Refusal, canonical_of, check};
+use crate::plan::MessageText;
+use capn_canon::{Refusal, canonical_of, survey_bare};
 use capn_value::{Tree, show};
 use capn_walk::{Limits, survey, walk};
 use capn_words::{Bare, Space};
@@ -36,7 +37,7 @@ fn text_of<S: Space, A: Allocator + Copy>(
     space: &S,
     limits: Limits,
 ) -> Result<String<A>, ToolFault>
-    ensures found { IfOk result (λ text. IsPiece kinds.Text (S.message space.now) limits (string_bytes text)) }
+    ensures found { IfOk result (λ text. IsMessageText kinds.Text (S.message space.now) limits (string_bytes text)) }
     ensures refused { IfErr result (λ e. (e ≡ faults.Memory) ⊎ IsStopped (S.message space.now) limits e) }
 {
     let walked = walk(alloc, space, limits)?;
@@ -53,7 +54,7 @@ fn put_text<S: Space, A: Allocator + Copy>(
     limits: Limits,
     text: &mut Vec<u8, A>,
 ) -> Result<(), ToolFault>
-    ensures { PutsPiece kinds.Text (S.message space.now) limits text.old.items text.new.items result }
+    ensures { PutsMessageText kinds.Text (S.message space.now) limits text.old.items text.new.items result }
 {
     let shown = text_of(alloc, space, limits)?;
     if text.is_empty() {
@@ -107,7 +108,7 @@ fn put_price<S: Space, A: Allocator + Copy>(
     limits: Limits,
     text: &mut Vec<u8, A>,
 ) -> Result<(), ToolFault>
-    ensures { PutsPiece kinds.Price (S.message space.now) limits text.old.items text.new.items result }
+    ensures { PutsMessageText kinds.Price (S.message space.now) limits text.old.items text.new.items result }
 {
     let surveyed = survey(alloc, space, limits)?;
     put_priced(text, surveyed.paid, surveyed.visits, b"\n")
@@ -121,9 +122,9 @@ fn put_verdict<A: Allocator + Copy>(
     limits: Limits,
     text: &mut Vec<u8, A>,
 ) -> Result<(), ToolFault>
-    ensures { PutsBarePiece kinds.Price space.now limits text.old.items text.new.items result }
+    ensures { PutsBareMessageText kinds.Price space.now limits text.old.items text.new.items result }
 {
-    let checked = check(alloc, space, limits)?;
+    let checked = survey_bare(alloc, space, limits)?;
     if checked.is_canonical {
         return put_priced(text, checked.paid, checked.visits, b" canonical\n");
     }
@@ -158,7 +159,7 @@ fn put_digest<S: Space, A: Allocator + Copy>(
     limits: Limits,
     text: &mut Vec<u8, A>,
 ) -> Result<(), ToolFault>
-    ensures { PutsPiece kinds.Digest (S.message space.now) limits text.old.items text.new.items result }
+    ensures { PutsMessageText kinds.Digest (S.message space.now) limits text.old.items text.new.items result }
 {
     match canonical_of(alloc, space, limits) {
         Ok(canonical) => put_digest_line(&canonical.bytes, text),
@@ -168,35 +169,35 @@ fn put_digest<S: Space, A: Allocator + Copy>(
 }
 
 /// Appends the piece of a message to a text. After a refusal the text is as it was.
-pub fn put_piece<S: Space, A: Allocator + Copy>(
+pub fn put_message_text<S: Space, A: Allocator + Copy>(
     alloc: A,
-    piece: Piece,
+    piece: MessageText,
     space: &S,
     limits: Limits,
     text: &mut Vec<u8, A>,
 ) -> Result<(), ToolFault>
-    ensures { PutsPiece piece (S.message space.now) limits text.old.items text.new.items result }
+    ensures { PutsMessageText piece (S.message space.now) limits text.old.items text.new.items result }
 {
     match piece {
-        Piece::Text => put_text(alloc, space, limits, text),
-        Piece::Price => put_price(alloc, space, limits, text),
-        Piece::Digest => put_digest(alloc, space, limits, text),
+        MessageText::Text => put_text(alloc, space, limits, text),
+        MessageText::Price => put_price(alloc, space, limits, text),
+        MessageText::Digest => put_digest(alloc, space, limits, text),
     }
 }
 
 /// Appends the piece of the one bare message that an input is. After a refusal the text is as it was.
-pub fn put_bare_piece<A: Allocator + Copy>(
+pub fn put_bare_message_text<A: Allocator + Copy>(
     alloc: A,
-    piece: Piece,
+    piece: MessageText,
     space: &Bare<'_>,
     limits: Limits,
     text: &mut Vec<u8, A>,
 ) -> Result<(), ToolFault>
-    ensures { PutsBarePiece piece space.now limits text.old.items text.new.items result }
+    ensures { PutsBareMessageText piece space.now limits text.old.items text.new.items result }
 {
     match piece {
-        Piece::Text => put_text(alloc, space, limits, text),
-        Piece::Price => put_verdict(alloc, space, limits, text),
-        Piece::Digest => put_digest(alloc, space, limits, text),
+        MessageText::Text => put_text(alloc, space, limits, text),
+        MessageText::Price => put_verdict(alloc, space, limits, text),
+        MessageText::Digest => put_digest(alloc, space, limits, text),
     }
 }

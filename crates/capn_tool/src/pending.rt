@@ -52,7 +52,7 @@ fn keep(text: &mut [u8], from: usize, to: usize)
 }
 
 /// Takes the next piece, and appends the words of the groups that are whole by now and within the maximum.
-fn take_piece<A: Allocator>(
+fn take_chunk<A: Allocator>(
     pending: &mut Pending,
     piece: &[u8],
     words: &mut Vec<u8, A>,
@@ -135,7 +135,7 @@ pub fn read_words<R: Read, A: Allocator>(
             Err(_) => return Err(ToolFault::Io),
             Ok(0) => return end_pending(&pending, words),
             Ok(count) => {
-                take_piece(&mut pending, &piece[..count], &mut words)?;
+                take_chunk(&mut pending, &piece[..count], &mut words)?;
                 taken += count;
             }
         }

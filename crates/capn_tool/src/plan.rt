@@ -9,7 +9,7 @@ use capn_walk::Limits;
 
 /// What is written of a message.
 #[derive(Clone, Copy)]
-pub enum Piece {
+pub enum MessageText {
     /// Its text, and a line `end`.
     Text,
     /// The line of what its walk paid and how many visits it made.
@@ -28,7 +28,7 @@ pub enum Whole {
     /// The canonical bytes of the one message that it is.
     Canonical(Form, Limits),
     /// A piece of the one bare message that it is.
-    Bare(Piece, Limits),
+    Bare(MessageText, Limits),
 }
 
 /// How an input is taken.
@@ -37,13 +37,13 @@ pub enum Plan {
     /// As a whole.
     Whole(Whole),
     /// Message by message, from a stream.
-    Each(Piece, Limits),
+    Each(MessageText, Limits),
     /// Message by message, from a packed stream.
-    Packed(Piece, Limits),
+    Packed(MessageText, Limits),
 }
 
 /// How a piece is written of each message of an input in a form.
-fn pieces(piece: Piece, form: Form, limits: Limits) -> Plan
+fn pieces(piece: MessageText, form: Form, limits: Limits) -> Plan
     ensures { result ≡ spec.pieces_of piece form limits }
 {
     match form {
@@ -58,9 +58,9 @@ pub fn plan_of(command: Command) -> Plan
     ensures { result ≡ spec.plan_of command }
 {
     match command {
-        Command::Show(form, limits) => pieces(Piece::Text, form, limits),
-        Command::Check(form, limits) => pieces(Piece::Price, form, limits),
-        Command::Hash(form, limits) => pieces(Piece::Digest, form, limits),
+        Command::Show(form, limits) => pieces(MessageText::Text, form, limits),
+        Command::Check(form, limits) => pieces(MessageText::Price, form, limits),
+        Command::Hash(form, limits) => pieces(MessageText::Digest, form, limits),
         Command::Pack => Plan::Whole(Whole::Packed),
         Command::Unpack(most) => Plan::Whole(Whole::Unpacked(most)),
         Command::Canonical(form, limits) => Plan::Whole(Whole::Canonical(form, limits)),

@@ -16,7 +16,7 @@ pub struct Usage {
 }
 
 impl Usage {
-    ghost use Rattle.capn_tool.specs.Usage.{IsHelp, WantsMemory, WishesHelp, error_of};
+    ghost use Rattle.capn_tool.specs.Usage.{IsHelp, NeedsMemory, WishesHelp, error_of};
 
     /// The exit status: 3 if memory ran out, 0 for a request for help, 2 for any other.
     pub fn status(&self) -> u8
@@ -31,7 +31,7 @@ impl Usage {
 
     /// Whether nothing is wrong with the words, and memory was refused.
     pub fn is_memory(&self) -> bool
-        ensures { IsTrue result ↔ WantsMemory self.now }
+        ensures { IsTrue result ↔ NeedsMemory self.now }
     {
         matches!(self.error.kind(), ErrorKind::OutOfMemory)
     }
@@ -69,9 +69,9 @@ impl From<clap::Error> for Usage {
 }
 
 impl From<AllocError> for Usage {
-    ghost use Rattle.capn_tool.specs.Usage.{WantsMemory};
+    ghost use Rattle.capn_tool.specs.Usage.{NeedsMemory};
 
-    ghost from_gives = { λ _ usage. WantsMemory usage };
+    ghost from_gives = { λ _ usage. NeedsMemory usage };
 
     fn from(error: AllocError) -> Usage {
         Usage {

@@ -11,8 +11,8 @@ ghost use Rattle.capn_tool.specs.declared.plan.Whole.TheVariants as wholes;
 use crate::fault::ToolFault;
 use crate::input::{MOST_BYTES, read_all};
 use crate::pending::read_words;
-use crate::message_text::put_bare_piece;
-use crate::plan::{Piece, Whole};
+use crate::message_text::put_bare_message_text;
+use crate::plan::{MessageText, Whole};
 use capn_canon::{Form, Refusal, canonicalise};
 use capn_pack::{PackFault, pack};
 use capn_stream::MOST_TABLE_WORDS;
@@ -49,9 +49,9 @@ fn canonical<A: Allocator + Copy>(
 }
 
 /// The piece of one bare message.
-fn bare_piece<A: Allocator + Copy>(
+fn bare_message_text<A: Allocator + Copy>(
     alloc: A,
-    piece: Piece,
+    piece: MessageText,
     bytes: &[u8],
     limits: Limits,
 ) -> Result<Vec<u8, A>, ToolFault>
@@ -60,7 +60,7 @@ fn bare_piece<A: Allocator + Copy>(
     match Bare::new(bytes) {
         Ok(space) => {
             let mut text = Vec::new(alloc);
-            put_bare_piece(alloc, piece, &space, limits, &mut text)?;
+            put_bare_message_text(alloc, piece, &space, limits, &mut text)?;
             Ok(text)
         }
         Err(fault) => Err(ToolFault::Refused(Refusal::Bare(fault))),
@@ -154,10 +154,10 @@ fn make_trimmed<R: Read, A: Allocator + Copy>(
 }
 
 /// A piece of the one bare message that an input is.
-fn make_piece<R: Read, A: Allocator + Copy>(
+fn make_message_text<R: Read, A: Allocator + Copy>(
     alloc: A,
     reader: &mut Watched<R>,
-    piece: Piece,
+    piece: MessageText,
     limits: Limits,
 ) -> Result<Vec<u8, A>, ToolFault>
     requires { has_failed reader.old ≡ false }
@@ -165,7 +165,7 @@ fn make_piece<R: Read, A: Allocator + Copy>(
         (R.remaining (inner_of reader.new)) (has_failed reader.new) result }
 {
     let bytes = read_bare(alloc, reader)?;
-    bare_piece(alloc, piece, &bytes, limits)
+    bare_message_text(alloc, piece, &bytes, limits)
 }
 
 /// The canonical bytes of the one message that an input is in a form.
@@ -200,6 +200,6 @@ pub fn make<R: Read, A: Allocator + Copy>(
         Whole::Packed => make_text(alloc, reader),
         Whole::Unpacked(most) => read_words(alloc, reader, most),
         Whole::Canonical(form, limits) => make_canonical(alloc, reader, form, limits),
-        Whole::Bare(piece, limits) => make_piece(alloc, reader, piece, limits),
+        Whole::Bare(piece, limits) => make_message_text(alloc, reader, piece, limits),
     }
 }

@@ -2,7 +2,7 @@
 use Rattle.std.proofs.Common.{Bool, true, false, IsTrue, ◌↔◌, ◌≡◌, ℕ, zero, suc, ◌+◌, ◌-◌, ◌*◌, ◌<◌, [], ◌∷◌, ◌++◌}
 use Rattle.std.proofs.Common.{refl, arith}
 use Rattle.capn_walk.specs.Visits.{places, row_places}
-use Rattle.capn_walk.specs.declared.slots_left.Frame.{Frame}
+use Rattle.capn_walk.specs.declared.slots_left.SlotsLeft.{SlotsLeft}
 use Rattle.capn_walk.specs.inner.SlotsLeft.{places_of, owed, HasRows}
 
 -- rows of no slots have none
@@ -21,7 +21,7 @@ next-place s w zero h = absurd (omega arith)
 next-place s w (suc n) h = let e : suc n - 1 ≡ n = omega arith in rw e refl
 
 -- of a frame whose row in hand has a slot left
-pub taken : (f : Frame) → 0 < f.left →
+pub taken : (f : SlotsLeft) → 0 < f.left →
     places_of f ≡ record {
       segment = f.segment;
       word =
@@ -37,13 +37,13 @@ pub done-rows : (l r b : ℕ) → (0 < r → 0 < b) → l ≡ 0 → (r ≡ 0 →
 done-rows l r b h e = (λ z. rw (e, z) (omega arith), λ z. no-rows r b h (omega arith))
 
 -- no slot is left where none is owed
-pub nothing-left : (f : Frame) → HasRows f → owed f ≡ 0 → places_of f ≡ []
+pub nothing-left : (f : SlotsLeft) → HasRows f → owed f ≡ 0 → places_of f ≡ []
 nothing-left f h e =
     let l : f.left ≡ 0 = omega arith in
     let r : f.rows ≡ 0 = no-rows f.rows f.slots h (omega arith) in
     rw (l, r) refl
 
-pub none-owed : (f : Frame) → f.left ≡ 0 → f.rows ≡ 0 → owed f ≡ 0
+pub none-owed : (f : SlotsLeft) → f.left ≡ 0 → f.rows ≡ 0 → owed f ≡ 0
 none-owed f l r = rw (l, r) (omega arith)
 
 -- if the test for the end fails, some slot is left

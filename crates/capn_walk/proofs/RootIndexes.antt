@@ -11,7 +11,7 @@ use Rattle.capn_walk.specs.declared.walk_answer.Stopped.{Stopped}
 use Rattle.capn_walk.specs.Target.{target}
 use Rattle.capn_walk.specs.Visits.{Visit, visits}
 use Rattle.capn_walk.specs.inner.Verdict.{judge}
-use Rattle.capn_walk.specs.Accepted.{root, may_be_root, IsRefused, visits_within}
+use Rattle.capn_walk.specs.Accepted.{root, may_be_root, IsWalkRefused, visits_within}
 use Rattle.capn_walk.specs.Limits.{Bounds}
 use Rattle.capn_walk.specs.Index.{entries, filled, IsIndexed}
 use Rattle.capn_walk.specs.inner.IndexRoom.{laid, Indexes}
@@ -56,10 +56,10 @@ module _ (m : List (List ℕ)) (limits : Bounds) (some : 0 < length (segment_at 
 
   pub unindexed : (old new : List Entry) (s : Stopped)
       → Indexes limits.budget (visits m (base limits.tariff) limits.depth root) 1 (entries m limits.depth root) 0 old
-      new (Err s) → IsRefused m limits s.fault s.place s.paid s.visits
+      new (Err s) → IsWalkRefused m limits s.fault s.place s.paid s.visits
   unindexed old new s (r, other) = but (refused-below m limits some t e kind s r)
     where
-      but : (s.fault ≡ faults.Memory) ⊎ IsRefused m limits s.fault s.place s.paid s.visits
-          → IsRefused m limits s.fault s.place s.paid s.visits
+      but : (s.fault ≡ faults.Memory) ⊎ IsWalkRefused m limits s.fault s.place s.paid s.visits
+          → IsWalkRefused m limits s.fault s.place s.paid s.visits
       but (inl x) = absurd (other x)
       but (inr is) = is

@@ -7,13 +7,13 @@ use Rattle.capn_words.specs.declared.space.Place.{Place}
 use Rattle.capn_value.specs.Cost.{base}
 use Rattle.capn_value.specs.Tree.{Tree}
 use Rattle.capn_value.specs.FirstCap.{first_cap}
-use Rattle.capn_walk.specs.declared.slots_left.Frame.{Frame}
+use Rattle.capn_walk.specs.declared.slots_left.SlotsLeft.{SlotsLeft}
 use Rattle.capn_walk.specs.declared.target.Target.{Target}
 use Rattle.capn_walk.specs.declared.survey_answer.Surveyed.{Surveyed}
 use Rattle.capn_walk.specs.Target.{target}
 use Rattle.capn_walk.specs.Visits.{Visit, pays, visits, visits_of}
 use Rattle.capn_walk.specs.inner.Verdict.{judge, after, accepted}
-use Rattle.capn_walk.specs.inner.Outcomes.{Tells}
+use Rattle.capn_walk.specs.inner.Outcomes.{SurveysAs}
 use Rattle.capn_walk.specs.Accepted.{root, may_be_root, IsValueOf, visits_within}
 use Rattle.capn_walk.specs.Limits.{Bounds}
 use Rattle.capn_walk.specs.inner.SlotsLeft.{places_of, owed, HasRows}
@@ -28,7 +28,7 @@ use Rattle.capn_walk.proofs.Exists.{exists-at}
 
 module _ (m : List (List ℕ)) (base : ℕ) where
   -- that of a slot that pays, with what the visits below it come to
-  module _ (budget depth : ℕ) (at : Place) (p : ℕ) (below : Frame) (k : Option ℕ)
+  module _ (budget depth : ℕ) (at : Place) (p : ℕ) (below : SlotsLeft) (k : Option ℕ)
       (here : visits m base depth at ≡ pays at p ∷ visits_of m base (depth - 1) (places_of below)) (fits : p ≤ budget)
       (few : owed below ≤ p) (c : cap_of (target m at) ≡ k) where
     abbrev others : List Visit
@@ -42,7 +42,7 @@ module _ (m : List (List ℕ)) (base : ℕ) where
     none-below h z = ap (visits_of m base (depth - 1)) (nothing-left below h z)
 
     pub tells-alone : HasRows below → owed below ≡ 0
-        → Tells m budget 1 (visits m base depth at) (Ok (record { paid = p; visits = 1; capability = k }))
+        → SurveysAs m budget 1 (visits m base depth at) (Ok (record { paid = p; visits = 1; capability = k }))
     tells-alone h z =
         let y : p + 0 ≡ p = omega arith in (
           record {
@@ -58,7 +58,7 @@ module _ (m : List (List ℕ)) (limits : Bounds) (some : 0 < length (segment_at 
     (e : target m root ≡ Ok t)
     (kind : may_be_root t ≡ true) where
   pub surveyed : (s : Surveyed)
-      → Tells m limits.budget 1 (visits m (base limits.tariff) limits.depth root) (Ok s) → IsSurvey m limits s
+      → SurveysAs m limits.budget 1 (visits m (base limits.tariff) limits.depth root) (Ok s) → IsSurvey m limits s
   surveyed s (g, c) =
       let same = from-root m (base limits.tariff) limits.depth t e kind in
       let (w, p, k) =

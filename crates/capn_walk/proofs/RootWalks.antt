@@ -13,7 +13,7 @@ use Rattle.capn_walk.specs.declared.walk_answer.Stopped.{Stopped}
 use Rattle.capn_walk.specs.Target.{target}
 use Rattle.capn_walk.specs.Visits.{Visit, fails, visits}
 use Rattle.capn_walk.specs.Accepted.{IsStop, root, may_be_root, visits_at_root, root_visits, IsAccepted, IsValueOf}
-use Rattle.capn_walk.specs.Accepted.{IsRefused, visits_within, paid, number_of_visits}
+use Rattle.capn_walk.specs.Accepted.{IsWalkRefused, visits_within, paid, number_of_visits}
 use Rattle.capn_walk.specs.ValueAt.{IsAt}
 use Rattle.capn_walk.specs.Limits.{Bounds}
 use Rattle.capn_walk.specs.inner.Verdict.{refused, judge}
@@ -60,19 +60,21 @@ module _ (m : List (List ℕ)) where
 
   at-once : (t : Stopped) (f : Fault) (limits : Bounds) → 0 < length (segment_at m 0)
       → visits_within m limits ≡ fails root f ∷ [] →
-      t ≡ record { fault = f; place = root; paid = 0; visits = 1 } → IsRefused m limits t.fault t.place t.paid t.visits
+      t ≡ record { fault = f; place = root; paid = 0; visits = 1 }
+          → IsWalkRefused m limits t.fault t.place t.paid t.visits
   at-once t f limits some v e = rw e (inr (some, stops-at-once limits.budget root f (visits_within m limits) v))
 
   pub refused-kind : (t : Stopped) (found : Target) (limits : Bounds) → 0 < length (segment_at m 0)
       → target m root ≡ Ok found → may_be_root found ≡ false →
       t ≡ record { fault = faults.RootKind; place = root; paid = 0; visits = 1 }
-      → IsRefused m limits t.fault t.place t.paid t.visits
+      → IsWalkRefused m limits t.fault t.place t.paid t.visits
   refused-kind t found limits some e h =
       at-once t faults.RootKind limits some (wrong-root (base limits.tariff) limits.depth found e h)
 
   pub refused-fault : (t : Stopped) (f : Fault) (limits : Bounds) → 0 < length (segment_at m 0) → target m root ≡ Err f
       →
-      t ≡ record { fault = f; place = root; paid = 0; visits = 1 } → IsRefused m limits t.fault t.place t.paid t.visits
+      t ≡ record { fault = f; place = root; paid = 0; visits = 1 }
+          → IsWalkRefused m limits t.fault t.place t.paid t.visits
   refused-fault t f limits some e = at-once t f limits some (faulty-root (base limits.tariff) limits.depth f e)
 
   -- ---- the whole walk
@@ -106,13 +108,13 @@ module _ (m : List (List ℕ)) where
         }
 
     pub refused-below : (t : Stopped) → Refuses limits.budget (visits m (base limits.tariff) limits.depth root) 1 t →
-        (t.fault ≡ faults.Memory) ⊎ IsRefused m limits t.fault t.place t.paid t.visits
+        (t.fault ≡ faults.Memory) ⊎ IsWalkRefused m limits t.fault t.place t.paid t.visits
     refused-below t r = from r.is
       where
         from : (t.fault ≡ faults.Memory)
             ⊎ (judge limits.budget (visits m (base limits.tariff) limits.depth root)
             ≡ refused t.fault t.place t.paid t.visits) →
-            (t.fault ≡ faults.Memory) ⊎ IsRefused m limits t.fault t.place t.paid t.visits
+            (t.fault ≡ faults.Memory) ⊎ IsWalkRefused m limits t.fault t.place t.paid t.visits
         from (inl x) = inl x
         from (inr x) = inr (inr (
           some,
@@ -122,13 +124,13 @@ module _ (m : List (List ℕ)) where
 
   -- an accepted message isn't refused
   pub not-refused : (limits : Bounds) (f : Fault) (at : Place) (p k : ℕ) → IsAccepted m limits
-      → IsRefused m limits f at p k → ⊥
+      → IsWalkRefused m limits f at p k → ⊥
   not-refused limits f at p k a (inl r) = let some = a.some in let none = r.0 in omega arith
   not-refused limits f at p k a (inr r) = never-both limits.budget (visits_within m limits) f at p k a.within r.1
 
   -- so if one is refused, memory ran out
   pub only-memory : (limits : Bounds) (t : Stopped) (v : Tree) → IsValueOf m limits v →
-      (t.fault ≡ faults.Memory) ⊎ IsRefused m limits t.fault t.place t.paid t.visits → t.fault ≡ faults.Memory
+      (t.fault ≡ faults.Memory) ⊎ IsWalkRefused m limits t.fault t.place t.paid t.visits → t.fault ≡ faults.Memory
   only-memory limits t v is (inl x) = x
   only-memory limits t v is (inr r) = absurd (not-refused limits t.fault t.place t.paid t.visits is.accepted r)
 

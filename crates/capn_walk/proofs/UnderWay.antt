@@ -7,7 +7,7 @@ use Rattle.std.specs.Option.{option_or}
 use Rattle.capn_words.specs.declared.space.Place.{Place}
 use Rattle.capn_walk.specs.declared.target.Target.TheVariants as targets
 use Rattle.capn_walk.specs.declared.target.Fault.{Fault}
-use Rattle.capn_walk.specs.declared.slots_left.Frame.{Frame}
+use Rattle.capn_walk.specs.declared.slots_left.SlotsLeft.{SlotsLeft}
 use Rattle.capn_walk.specs.declared.slots_left.Waiting.{Waiting}
 use Rattle.capn_words.specs.Message.{word_at}
 use Rattle.capn_words.specs.Pointers.{pointer_of}
@@ -105,7 +105,7 @@ module _ (m : List (List ℕ)) (budget : ℕ) (vs : List Visit) (n : ℕ) where
 
 -- ---- a survey with an object in hand and a stack of those above it
 
-abbrev pub no_frame : Frame
+abbrev pub no_frame : SlotsLeft
 no_frame = record { segment = 0; next = 0; left = 0; rows = 0; words = 0; slots = 0 }
 
 null_pointer : pointer_of 0 ≡ Nil
@@ -120,35 +120,35 @@ null-target m at h = ap (λ (w : ℕ). named m at.segment at.word (pointer_of w)
 
 module _ (m : List (List ℕ)) (base : ℕ) where
   -- the visits to come: of the object in hand, then of those that wait
-  abbrev pub coming : ℕ → List Waiting → Frame → List Visit
+  abbrev pub coming : ℕ → List Waiting → SlotsLeft → List Visit
   coming d ws f = visits_of m base d (places_of f) ++ visits_left m base ws
 
-  pub coming-done : (d : ℕ) (ws : List Waiting) (f : Frame) → HasRows f → owed f ≡ 0
+  pub coming-done : (d : ℕ) (ws : List Waiting) (f : SlotsLeft) → HasRows f → owed f ≡ 0
       → coming d ws f ≡ visits_left m base ws
   coming-done d ws f h e = ap (λ (ps : List Place). visits_of m base d ps ++ visits_left m base ws) (nothing-left f h e)
 
-  pub coming-take : (d : ℕ) (ws : List Waiting) (f rest below : Frame) (at : Place) (p : ℕ)
+  pub coming-take : (d : ℕ) (ws : List Waiting) (f rest below : SlotsLeft) (at : Place) (p : ℕ)
       → places_of f ≡ at ∷ places_of rest →
       visits m base d at ≡ pays at p ∷ visits_of m base (d - 1) (places_of below) →
       coming d ws f ≡ pays at p ∷ (visits_of m base (d - 1) (places_of below) ++ coming d ws rest)
   coming-take d ws f rest below at p h e = rw (h, e) (rw append_assoc refl)
 
   -- the same with a visit that is refused
-  pub coming-stop : (d : ℕ) (ws : List Waiting) (f rest : Frame) (at : Place) → places_of f ≡ at ∷ places_of rest →
+  pub coming-stop : (d : ℕ) (ws : List Waiting) (f rest : SlotsLeft) (at : Place) → places_of f ≡ at ∷ places_of rest →
       coming d ws f ≡ visits m base d at ++ coming d ws rest
   coming-stop d ws f rest at h = rw h (rw append_assoc refl)
 
-  pub coming-leaf : (d : ℕ) (ws : List Waiting) (rest below : Frame) → HasRows below → owed below ≡ 0 →
+  pub coming-leaf : (d : ℕ) (ws : List Waiting) (rest below : SlotsLeft) → HasRows below → owed below ≡ 0 →
       visits_of m base (d - 1) (places_of below) ++ coming d ws rest ≡ coming d ws rest
   coming-leaf d ws rest below h e =
       ap (λ (ps : List Place). visits_of m base (d - 1) ps ++ coming d ws rest) (nothing-left below h e)
 
   -- what waits once a slot of the object in hand is gone into: nothing more where no other slot of it is left
-  pub data IsKept (d : ℕ) (ws : List Waiting) (rest : Frame) (new : List Waiting) : Type 0 where
+  pub data IsKept (d : ℕ) (ws : List Waiting) (rest : SlotsLeft) (new : List Waiting) : Type 0 where
     dropped : owed rest ≡ 0 → new ≡ ws → IsKept d ws rest new
     kept : new ≡ ws ++ record { frame = rest; depth = d } ∷ [] → IsKept d ws rest new
 
-  pub coming-kept : (d : ℕ) (ws : List Waiting) (rest below : Frame) (new : List Waiting) → HasRows rest
+  pub coming-kept : (d : ℕ) (ws : List Waiting) (rest below : SlotsLeft) (new : List Waiting) → HasRows rest
       → IsKept d ws rest new →
       visits_of m base (d - 1) (places_of below) ++ coming d ws rest ≡ coming (d - 1) new below
   coming-kept d ws rest below new h (dropped z e) =
@@ -158,18 +158,18 @@ module _ (m : List (List ℕ)) (base : ℕ) where
       ap (λ (vs : List Visit). visits_of m base (d - 1) (places_of below) ++ vs)
       (sym (left-push m base ws (record { frame = rest; depth = d })) ∙ sym (ap (visits_left m base) e))
 
-  owed-kept : (d : ℕ) (ws : List Waiting) (rest : Frame) (new : List Waiting) → IsKept d ws rest new
+  owed-kept : (d : ℕ) (ws : List Waiting) (rest : SlotsLeft) (new : List Waiting) → IsKept d ws rest new
       → owed rest + owed_by ws ≡ owed_by new
   owed-kept d ws rest new (dropped z e) = let k = ap owed_by e in omega arith
   owed-kept d ws rest new (kept e) =
       sym (owed_by-push m ws (record { frame = rest; depth = d })) ∙ sym (ap owed_by e)
 
-  lie-kept : (d : ℕ) (ws : List Waiting) (rest : Frame) (new : List Waiting) → IsKept d ws rest new → AllLie m ws
+  lie-kept : (d : ℕ) (ws : List Waiting) (rest : SlotsLeft) (new : List Waiting) → IsKept d ws rest new → AllLie m ws
       → Lies m rest → AllLie m new
   lie-kept d ws rest new (dropped z e) a l = rw e a
   lie-kept d ws rest new (kept e) a l = rw e (all_lie-push m ws (record { frame = rest; depth = d }) a l)
 
-  shallow-kept : (limit d : ℕ) (ws : List Waiting) (rest : Frame) (new : List Waiting) → IsKept d ws rest new
+  shallow-kept : (limit d : ℕ) (ws : List Waiting) (rest : SlotsLeft) (new : List Waiting) → IsKept d ws rest new
       → AreShallow limit ws →
       d + length ws ≤ limit → AreShallow limit new × (length new ≤ length ws + 1)
   shallow-kept limit d ws rest new (dropped z e) a l = (rw e a, let k = ap length e in omega arith)
@@ -179,7 +179,7 @@ module _ (m : List (List ℕ)) (base : ℕ) where
       (rw e (shallow-push m limit ws w a l), omega arith)
 
   module _ (budget : ℕ) (vs : List Visit) (n limit : ℕ) where
-    pub record Surveys (d : ℕ) (ws : List Waiting) (f : Frame) (paid visits : ℕ) (cap : Option ℕ) : Type 0 where
+    pub record Surveys (d : ℕ) (ws : List Waiting) (f : SlotsLeft) (paid visits : ℕ) (cap : Option ℕ) : Type 0 where
       pub under : IsUnderWay m budget vs n (coming d ws f) (owed f + owed_by ws) paid visits cap
       pub lies : Lies m f
       pub all : AllLie m ws
@@ -187,7 +187,7 @@ module _ (m : List (List ℕ)) (base : ℕ) where
       pub depth : d + length ws ≤ limit
 
     -- the object in hand is done, and the one that waits last is taken from the stack
-    pub popped : (d : ℕ) (old ws : List Waiting) (f : Frame) (w : Waiting) (paid visits : ℕ) (cap : Option ℕ)
+    pub popped : (d : ℕ) (old ws : List Waiting) (f : SlotsLeft) (w : Waiting) (paid visits : ℕ) (cap : Option ℕ)
         → old ≡ ws ++ w ∷ [] → owed f ≡ 0 →
         Surveys d old f paid visits cap → Surveys w.depth ws w.frame paid visits cap
     popped d old ws f w paid visits cap e z s =
@@ -209,7 +209,7 @@ module _ (m : List (List ℕ)) (base : ℕ) where
         }
 
     -- the next row of the object is in hand
-    pub next-row : (d : ℕ) (ws : List Waiting) (f row : Frame) (paid visits : ℕ) (cap : Option ℕ)
+    pub next-row : (d : ℕ) (ws : List Waiting) (f row : SlotsLeft) (paid visits : ℕ) (cap : Option ℕ)
         → places_of row ≡ places_of f → owed row ≡ owed f →
         Lies m row → Surveys d ws f paid visits cap → Surveys d ws row paid visits cap
     next-row d ws f row paid visits cap p o l s = record {
@@ -220,7 +220,7 @@ module _ (m : List (List ℕ)) (base : ℕ) where
       depth = s.depth;
     }
 
-    pub fewer-rows : (d : ℕ) (ws : List Waiting) (f row : Frame) → places_of row ≡ places_of f → f.left ≡ 0
+    pub fewer-rows : (d : ℕ) (ws : List Waiting) (f row : SlotsLeft) → places_of row ≡ places_of f → f.left ≡ 0
         → 0 < row.left →
         3 * length (coming d ws row) + length ws + (1 - row.left) < 3 * length (coming d ws f) + length ws
         + (1 - f.left)
@@ -228,10 +228,10 @@ module _ (m : List (List ℕ)) (base : ℕ) where
         let n = ap (λ (ps : List Place). length (visits_of m base d ps ++ visits_left m base ws)) p in
         omega arith
 
-    module _ (d : ℕ) (ws : List Waiting) (f rest : Frame) (at : Place) (paid made : ℕ) (cap : Option ℕ)
+    module _ (d : ℕ) (ws : List Waiting) (f rest : SlotsLeft) (at : Place) (paid made : ℕ) (cap : Option ℕ)
         (s : Surveys d ws f paid made cap) (next : places_of f ≡ at ∷ places_of rest) (less : owed f ≡ owed rest + 1)
       where
-        module _ (below : Frame) (p : ℕ) (k : Option ℕ)
+        module _ (below : SlotsLeft) (p : ℕ) (k : Option ℕ)
             (here : visits m base d at ≡ pays at p ∷ visits_of m base (d - 1) (places_of below))
             (fits : p ≤ budget - paid) (few : owed below ≤ p) (c : cap_of (target m at) ≡ k) where
           under-next : IsUnderWay m budget vs n (visits_of m base (d - 1) (places_of below) ++ coming d ws rest)
@@ -287,7 +287,7 @@ module _ (m : List (List ℕ)) (base : ℕ) where
 
     -- ---- the visits to come grow fewer
 
-    pub as-many : (d : ℕ) (old ws : List Waiting) (f : Frame) (w : Waiting) (paid made : ℕ) (cap : Option ℕ)
+    pub as-many : (d : ℕ) (old ws : List Waiting) (f : SlotsLeft) (w : Waiting) (paid made : ℕ) (cap : Option ℕ)
         → old ≡ ws ++ w ∷ [] → owed f ≡ 0 → f.left ≡ 0 →
         Surveys d old f paid made cap →
         3 * length (coming w.depth ws w.frame) + length ws + (1 - w.frame.left) < 3 * length (coming d old f)
@@ -299,7 +299,7 @@ module _ (m : List (List ℕ)) (base : ℕ) where
         let n = ap length same in
         omega arith
 
-    module _ (d : ℕ) (ws : List Waiting) (f rest below : Frame) (at : Place) (p paid made : ℕ) (cap : Option ℕ)
+    module _ (d : ℕ) (ws : List Waiting) (f rest below : SlotsLeft) (at : Place) (p paid made : ℕ) (cap : Option ℕ)
         (s : Surveys d ws f paid made cap) (next : places_of f ≡ at ∷ places_of rest)
         (here : visits m base d at ≡ pays at p ∷ visits_of m base (d - 1) (places_of below)) where
       pub fewer-entered : (new : List Waiting) → HasRows rest → IsKept d ws rest new →
@@ -321,7 +321,7 @@ module _ (m : List (List ℕ)) (base : ℕ) where
           omega arith
 
     -- a null slot
-    module _ (d : ℕ) (ws : List Waiting) (f rest : Frame) (at : Place) (paid made : ℕ) (cap : Option ℕ)
+    module _ (d : ℕ) (ws : List Waiting) (f rest : SlotsLeft) (at : Place) (paid made : ℕ) (cap : Option ℕ)
         (s : Surveys d ws f paid made cap) (next : places_of f ≡ at ∷ places_of rest)
         (none : target m at ≡ Ok targets.Nil) where
       pub passed-null : owed f ≡ owed rest + 1 → Lies m rest → Surveys d ws rest paid (made + 1) cap

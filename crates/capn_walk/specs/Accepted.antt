@@ -94,8 +94,8 @@ pub record IsValueOf (message : List (List ℕ)) (limits : Bounds) (v : Tree) : 
   pub is : IsAt message root v
 
 -- the message isn't accepted: it has no root, or the walk stops at the first visit that is a fault or above the budget
-abbrev pub IsRefused : List (List ℕ) → Bounds → Fault → Place → ℕ → ℕ → Type 0
-IsRefused message limits fault at paid visits =
+abbrev pub IsWalkRefused : List (List ℕ) → Bounds → Fault → Place → ℕ → ℕ → Type 0
+IsWalkRefused message limits fault at paid visits =
     ((length (segment_at message 0) ≡ 0) × (fault ≡ faults.NoRoot) × (at ≡ root) × (paid ≡ 0) × (visits ≡ 0))
     ⊎ ((0 < length (segment_at message 0)) × IsStop limits.budget (visits_within message limits) fault at paid visits)
 

@@ -13,7 +13,7 @@ use Rattle.capn_walk.specs.declared.target.Shape.TheVariants as shapes
 use Rattle.capn_walk.specs.Target.{target}
 use Rattle.capn_walk.specs.Limits.{Bounds}
 use Rattle.capn_walk.specs.Accepted.{IsAccepted, IsValueOf}
-use Rattle.capn_walk.specs.ValueAt.{IsAt, AreWords, AreElements, words_from}
+use Rattle.capn_walk.specs.ValueAt.{IsAt, StandAt, AreElements, words_from}
 use Rattle.capn_walk.specs.Index.{index_of, entry_target, entry_at, beside, kept_of}
 
 module _ (message : List (List ℕ)) (es : List Entry) where
@@ -30,7 +30,7 @@ module _ (message : List (List ℕ)) (es : List Entry) where
     IsReadAt i nil = entry_target (entry_at es i) ≡ targets.Nil
     IsReadAt i (cap k) = entry_target (entry_at es i) ≡ targets.Cap k
     IsReadAt i (node ws ss) =
-        EntryNames i (shapes.Node (length ws) (count ss)) (λ s w. AreWords message s w ws × AreReadAt (i + 1) ss)
+        EntryNames i (shapes.Node (length ws) (count ss)) (λ s w. StandAt message s w ws × AreReadAt (i + 1) ss)
     IsReadAt i (voids n) = EntryNames i (shapes.Many W0 n) (λ s w. ⊤)
     IsReadAt i (bits xs) =
         EntryNames i (shapes.Many W1 (length xs)) (λ s w. AreElements 64 1 (words_from message s w) (map from_bool xs))
@@ -40,7 +40,7 @@ module _ (message : List (List ℕ)) (es : List Entry) where
         EntryNames i (shapes.Many W16 (length xs)) (λ s w. AreElements 4 16 (words_from message s w) xs)
     IsReadAt i (quads xs) =
         EntryNames i (shapes.Many W32 (length xs)) (λ s w. AreElements 2 32 (words_from message s w) xs)
-    IsReadAt i (octs xs) = EntryNames i (shapes.Many W64 (length xs)) (λ s w. AreWords message s w xs)
+    IsReadAt i (octs xs) = EntryNames i (shapes.Many W64 (length xs)) (λ s w. StandAt message s w xs)
     IsReadAt i (links ts) = EntryNames i (shapes.Many Link (count ts)) (λ s w. AreReadAt (i + 1) ts)
     IsReadAt i (rows bs) = (a b : ℕ) × EntryNames i (shapes.Rows (count_rows bs) a b (count_rows bs * (a + b)))
         (λ s w. RowsReadAt a b s (suc w) (i + 1) bs)
@@ -53,7 +53,7 @@ module _ (message : List (List ℕ)) (es : List Entry) where
     -- rows of a words and b slots from a word on, one after the other; the first of all their slots has entry i
     pub RowsReadAt : ℕ → ℕ → ℕ → ℕ → ℕ → Bodies → Type 0
     RowsReadAt a b s w i no_bodies = ⊤
-    RowsReadAt a b s w i (body ws ss bs) = (length ws ≡ a) × (count ss ≡ b) × AreWords message s w ws × AreReadAt i ss
+    RowsReadAt a b s w i (body ws ss bs) = (length ws ≡ a) × (count ss ≡ b) × StandAt message s w ws × AreReadAt i ss
         × RowsReadAt a b s (w + a + b) (beside es i b) bs
 
 -- the value of an accepted message is the one that its index says

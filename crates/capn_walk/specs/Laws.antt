@@ -13,7 +13,7 @@ use Rattle.capn_walk.specs.declared.target.Fault.{Fault}
 use Rattle.capn_walk.specs.declared.target.Fault.TheVariants as faults
 use Rattle.capn_walk.specs.Target.{target}
 use Rattle.capn_walk.specs.Visits.{Visit}
-use Rattle.capn_walk.specs.Accepted.{IsWithin, IsStop, IsAccepted, IsValueOf, IsRefused, paid}
+use Rattle.capn_walk.specs.Accepted.{IsWithin, IsStop, IsAccepted, IsValueOf, IsWalkRefused, paid}
 use Rattle.capn_walk.specs.ValueAt.{IsAt, AreAt, RowsAt}
 use Rattle.capn_walk.specs.Limits.{Bounds}
 use Rattle.capn_walk.specs.ValueAt.{IsInside}
@@ -74,7 +74,7 @@ ContentIsValue = (message : List (List ℕ)) (at : Place) (segment start pads : 
 -- no message is both accepted and refused
 abbrev pub Apart : Type 0
 Apart = (message : List (List ℕ)) (limits : Bounds) (fault : Fault) (at : Place) (paid visits : ℕ)
-    → IsAccepted message limits → IsRefused message limits fault at paid visits → ⊥
+    → IsAccepted message limits → IsWalkRefused message limits fault at paid visits → ⊥
 
 -- visits are within a budget, or there is a first one that isn't
 abbrev pub Decided : Type 0
@@ -89,7 +89,7 @@ StopsAreOne = (budget : ℕ) (vs : List Visit) (e f : Fault) (at to : Place) (p 
 -- a message is refused for what its bytes are, never because memory runs out
 abbrev pub RefusedForTheirWords : Type 0
 RefusedForTheirWords = (message : List (List ℕ)) (limits : Bounds) (fault : Fault) (at : Place) (paid visits : ℕ)
-    → IsRefused message limits fault at paid visits → fault ≢ faults.Memory
+    → IsWalkRefused message limits fault at paid visits → fault ≢ faults.Memory
 
 -- the pointer at a place names content exactly by one of three ways: near, by a pad of one word, by a pad of two
 abbrev pub ContentByThreeWays : Type 0

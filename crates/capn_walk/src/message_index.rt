@@ -8,16 +8,16 @@ ghost use Rattle.capn_walk.specs.Visits.{visits, visits_of};
 ghost use Rattle.capn_walk.specs.inner.SlotsLeft.{places_of, owed, Lies};
 ghost use Rattle.capn_walk.specs.Index.{entries, entries_of, index_of, IsIndexed};
 ghost use Rattle.capn_walk.specs.inner.IndexRoom.{Indexes, respan};
-ghost use Rattle.capn_walk.specs.Accepted.{IsAccepted, IsValueOf, IsRefused, IsBounded, paid};
+ghost use Rattle.capn_walk.specs.Accepted.{IsAccepted, IsValueOf, IsWalkRefused, IsBounded, paid};
 ghost use Rattle.capn_value.specs.Tree.{Tree};
 ghost use Rattle.capn_walk.specs.declared.target.Fault.TheVariants.{Memory};
 
 use crate::content::segment_length;
 use crate::entry::{Entry, Index, Indexed};
-use crate::slots_left::Frame;
+use crate::slots_left::SlotsLeft;
 use crate::limits::Limits;
 use crate::slot_target::{near, resolve};
-use crate::step::{frame_below, price_within};
+use crate::step::{slots_below, price_within};
 use crate::message_survey::{size_of, survey};
 use crate::target::{Fault, Target};
 use crate::walk_answer::{Stopped, out_of_memory, stop};
@@ -45,7 +45,7 @@ pub fn index_into<S: Space>(
     ensures found { IfOk result (λ t. IsIndexed (S.message space.now) limits room.old room.new t) }
     // A message that is accepted is answered; any refusal is the first stop.
     ensures only { IsAccepted (S.message space.now) limits → IsOk result }
-    ensures refused { IfErr result (λ s. IsRefused (S.message space.now) limits s.fault s.place s.paid s.visits) }
+    ensures refused { IfErr result (λ s. IsWalkRefused (S.message space.now) limits s.fault s.place s.paid s.visits) }
     // No walk pays beyond its budget.
     ensures bounded { MatchResult result (λ t. IsBounded limits.budget t.paid t.visits)
         (λ s. IsBounded limits.budget s.paid s.visits) }
@@ -85,7 +85,7 @@ pub fn index<S: Space, A: Allocator + Copy>(
     ensures only { (v : Tree) → IsValueOf (S.message space.now) limits v → IfErr result (λ s. s.fault ≡ Memory) }
     ensures refused { IfErr result (λ s.
         (s.fault ≡ Memory)
-        ⊎ IsRefused (S.message space.now) limits s.fault s.place s.paid s.visits) }
+        ⊎ IsWalkRefused (S.message space.now) limits s.fault s.place s.paid s.visits) }
     // For a depth of at most 64 no growth is needed except for the entries: if it is refused, the message is accepted.
     ensures inline { limits.depth ≤ 64 →
         IfErr result (λ s. s.fault ≡ Memory → IsAccepted (S.message space.now) limits) }
@@ -160,7 +160,7 @@ fn index_found<S: Space>(
         Err(fault) => return Err(stop(fault, at)),
     };
     put(room, first, Entry::of(target, 1));
-    let below = frame_below(space, target);
+    let below = slots_below(space, target);
     if below.is_done() {
         return Ok(Indexed {
             paid: price,
@@ -296,7 +296,7 @@ fn index_slot<S: Space>(
 #[inline(never)]
 fn index_frame<S: Space>(
     space: &S,
-    slots: Frame,
+    slots: SlotsLeft,
     size: u32,
     depth: u32,
     left: u32,

@@ -5,9 +5,9 @@ ghost use Rattle.std.specs.Prelude.{IfErr, MatchResult};
 ghost use Rattle.capn_words.specs.Message.{segment_at, IsMessage, IsPlace};
 ghost use Rattle.capn_value.specs.Cost.{most_cost, most_height};
 ghost use Rattle.capn_walk.specs.Target as spec;
-ghost use Rattle.capn_walk.specs.Accepted.{root, IsValueOf, IsRefused, IsBounded};
+ghost use Rattle.capn_walk.specs.Accepted.{root, IsValueOf, IsWalkRefused, IsBounded};
 ghost use Rattle.capn_walk.specs.Visits.{visits, visits_of};
-ghost use Rattle.capn_walk.specs.inner.Outcomes.{Tells};
+ghost use Rattle.capn_walk.specs.inner.Outcomes.{SurveysAs};
 ghost use Rattle.capn_walk.specs.inner.SlotsLeft.{places_of, owed, Lies};
 ghost use Rattle.capn_walk.specs.Surveyed as told;
 ghost use Rattle.capn_value.specs.Tree.{Tree};
@@ -15,7 +15,7 @@ ghost use Rattle.capn_value.specs.FirstCap.{first_cap};
 ghost use Rattle.capn_walk.specs.declared.target.Fault.TheVariants.{Memory};
 
 use crate::content::segment_length;
-use crate::slots_left::{Frame, Waiting};
+use crate::slots_left::{SlotsLeft, Waiting};
 use crate::limits::Limits;
 use crate::survey_answer::Surveyed;
 use crate::target::{Fault, Target};
@@ -42,7 +42,7 @@ pub fn survey<S: Space, A: Allocator + Copy>(
         MatchResult result (λ s. s.capability ≡ first_cap v) (λ s. s.fault ≡ Memory) }
     ensures refused { IfErr result (λ s.
         (s.fault ≡ Memory)
-        ⊎ IsRefused (S.message space.now) limits s.fault s.place s.paid s.visits) }
+        ⊎ IsWalkRefused (S.message space.now) limits s.fault s.place s.paid s.visits) }
     // No growth is needed for a depth of at most 64.
     ensures inline { limits.depth ≤ 64 → IfErr result (λ s. s.fault ≢ Memory) }
     // No walk pays beyond its budget.
@@ -78,7 +78,7 @@ fn survey_root<S: Space, A: Allocator + Copy>(
     requires some { 1 ≤ depth }
     requires depth { depth ≤ most_height }
     requires budget { budget ≤ most_cost }
-    ensures tells { Tells (S.message space.now) budget 1 (visits (S.message space.now) base depth root) result }
+    ensures tells { SurveysAs (S.message space.now) budget 1 (visits (S.message space.now) base depth root) result }
     ensures memory { depth ≤ 64 → IfErr result (λ s. s.fault ≢ Memory) }
 {
     let visited = match visit_found(space, ROOT, Ok(target), depth, budget, base) {
@@ -133,7 +133,7 @@ pub fn size_of<S: Space>(space: &S, segment: u32, known: u32, size: u32) -> u32
 fn survey_slots<S: Space, A: Allocator + Copy>(
     alloc: A,
     space: &S,
-    first: Frame,
+    first: SlotsLeft,
     limit: u32,
     budget: u32,
     base: u32,
@@ -143,7 +143,7 @@ fn survey_slots<S: Space, A: Allocator + Copy>(
     requires limit { limit ≤ most_cost }
     requires budget { budget ≤ most_cost }
     requires few { owed first ≤ most_cost }
-    ensures tells { Tells (S.message space.now) budget (owed first)
+    ensures tells { SurveysAs (S.message space.now) budget (owed first)
         (visits_of (S.message space.now) base limit (places_of first)) result }
     ensures memory { limit ≤ 64 → IfErr result (λ s. s.fault ≢ Memory) }
 {

@@ -5,7 +5,7 @@ ghost use Rattle.capn_words.specs.Message.{segment_at};
 ghost use Rattle.capn_value.specs.Tree as trees;
 ghost use Rattle.capn_value.specs.Cost.{base, cost, height};
 ghost use Rattle.capn_walk.specs.Target as spec;
-ghost use Rattle.capn_walk.specs.Accepted.{root, IsValueOf, IsRefused, IsBounded, paid, number_of_visits};
+ghost use Rattle.capn_walk.specs.Accepted.{root, IsValueOf, IsWalkRefused, IsBounded, paid, number_of_visits};
 ghost use Rattle.capn_walk.specs.Accepted as accepted;
 ghost use Rattle.capn_walk.specs.Limits.{Bounds};
 ghost use Rattle.capn_walk.specs.View.{IsEntered, stepped_to_root};
@@ -56,7 +56,7 @@ pub fn walk<S: Space, A: Allocator + Copy>(
         MatchResult result (λ w. w.tree ≡ v) (λ s. s.fault ≡ Memory) }
     ensures refused { IfErr result (λ s.
         (s.fault ≡ Memory)
-        ⊎ IsRefused (S.message space.now) limits s.fault s.place s.paid s.visits) }
+        ⊎ IsWalkRefused (S.message space.now) limits s.fault s.place s.paid s.visits) }
 
     // Memory is needed only if the root leads to content whose price is within the budget.
     ensures wanted { IfErr result (λ s. s.fault ≡ Memory →
@@ -95,7 +95,7 @@ pub fn root_target<S: Space>(space: &S) -> Result<Target, Stopped>
     ensures kind { IfOk result (λ t. accepted.may_be_root t ≡ true) }
     ensures refused { IfErr result (λ s.
         (limits : Bounds) →
-        IsRefused (S.message space.now) limits s.fault s.place s.paid s.visits) }
+        IsWalkRefused (S.message space.now) limits s.fault s.place s.paid s.visits) }
     ensures memory { IfErr result (λ s. s.fault ≢ Memory) }
     ensures bounded { IfErr result (λ s. IsBounded 0 s.paid s.visits) }
 {

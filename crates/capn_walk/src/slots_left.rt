@@ -11,7 +11,7 @@ use capn_words::{Place, Width};
 /// The slots of an object that are still to be visited, in order: those that are left of the row in hand, then
 /// those of the rows after it. A struct and a list of pointers are one row.
 #[derive(Clone, Copy, Default)]
-pub struct Frame {
+pub struct SlotsLeft {
     /// The segment of the object.
     pub segment: u32,
     /// The word of the next slot, or of the next row if none is left of the row in hand.
@@ -30,21 +30,21 @@ pub struct Frame {
 #[derive(Clone, Copy, Default)]
 pub struct Waiting {
     /// Its slots after that one.
-    pub frame: Frame,
+    pub frame: SlotsLeft,
     /// How many objects may stand one below another, from each of these on.
     pub depth: u32,
 }
 
-impl Frame {
+impl SlotsLeft {
     /// No slots.
     #[inline(always)]
-    pub fn none() -> Frame
+    pub fn none() -> SlotsLeft
         ensures places { places_of result ≡ [] }
         ensures owed { owed result ≡ 0 }
         ensures end { end_of result ≡ 0 }
         ensures rows { HasRows result }
     {
-        Frame {
+        SlotsLeft {
             segment: 0,
             next: 0,
             left: 0,
@@ -56,7 +56,7 @@ impl Frame {
 
     /// The slots of an object whose content starts at a place.
     #[inline(always)]
-    pub fn of_object(start: Place, shape: Shape) -> Frame
+    pub fn of_object(start: Place, shape: Shape) -> SlotsLeft
         requires fits { RowsFit shape }
         requires end { start.word + extent shape < 2 ^ 32 }
         ensures places { places_of result ≡ slots start.segment start.word shape }
@@ -77,7 +77,7 @@ impl Frame {
                 slots,
                 span: _,
             } => {
-                return Frame {
+                return SlotsLeft {
                     segment: start.segment,
                     next: start.word + 1,
                     left: 0,
@@ -88,7 +88,7 @@ impl Frame {
             }
             _ => (start.word, 0),
         };
-        Frame {
+        SlotsLeft {
             segment: start.segment,
             next,
             left,
@@ -109,7 +109,7 @@ impl Frame {
 
     /// The same slots, of which the next row is in hand.
     #[inline(always)]
-    pub fn turned(self) -> Frame
+    pub fn turned(self) -> SlotsLeft
         requires done { self.left ≡ 0 }
         requires some { 0 < self.rows }
         requires rows { HasRows self }
@@ -121,7 +121,7 @@ impl Frame {
         ensures rows { HasRows result }
         ensures some { 0 < result.left }
     {
-        Frame {
+        SlotsLeft {
             segment: self.segment,
             next: self.next + self.words as u32,
             left: self.slots as u32,
@@ -133,7 +133,7 @@ impl Frame {
 
     /// The place of the next slot, and what is left after it.
     #[inline(always)]
-    pub fn take(self) -> (Place, Frame)
+    pub fn take(self) -> (Place, SlotsLeft)
         requires some { 0 < self.left }
         requires rows { HasRows self }
         requires end { end_of self < 2 ^ 32 }
@@ -149,7 +149,7 @@ impl Frame {
             segment: self.segment,
             word: self.next,
         };
-        let rest = Frame {
+        let rest = SlotsLeft {
             next: self.next + 1,
             left: self.left - 1,
             ..self

@@ -5,7 +5,7 @@ ghost use Rattle.capn_words.specs.Message.{IsMessage};
 ghost use Rattle.capn_walk.specs.View as seen;
 ghost use Rattle.capn_walk.specs.inner.SlotsLeft.{places_of, owed, Lies};
 
-use crate::slots_left::Frame;
+use crate::slots_left::SlotsLeft;
 use crate::price::price_of;
 use crate::target::{Fault, Target};
 use capn_words::{Place, Space};
@@ -53,7 +53,7 @@ pub fn capability_of(target: Target) -> Option<u32>
 
 /// The slots below a target.
 #[inline(always)]
-pub fn frame_below<S: Space>(space: &S, target: Target) -> Frame
+pub fn slots_below<S: Space>(space: &S, target: Target) -> SlotsLeft
     requires message { IsMessage (S.message space.now) }
     requires inside { seen.IsInMessage (S.message space.now) target }
     ensures places { places_of result ≡ seen.slots_below target }
@@ -71,8 +71,8 @@ pub fn frame_below<S: Space>(space: &S, target: Target) -> Frame
                 segment,
                 word: start,
             };
-            Frame::of_object(start, shape)
+            SlotsLeft::of_object(start, shape)
         }
-        _ => Frame::none(),
+        _ => SlotsLeft::none(),
     }
 }

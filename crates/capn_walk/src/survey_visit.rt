@@ -10,9 +10,9 @@ ghost use Rattle.capn_walk.specs.inner.Outcomes.{Visits};
 ghost use Rattle.capn_walk.specs.Shapes.{IsPlain, AreNumbers};
 ghost use Rattle.capn_walk.specs.declared.target.Fault.TheVariants.{Memory};
 
-use crate::slots_left::Frame;
+use crate::slots_left::SlotsLeft;
 use crate::slot_target::{near, resolve};
-use crate::step::{capability_of, frame_below, price_within};
+use crate::step::{capability_of, slots_below, price_within};
 use crate::target::{Fault, Target};
 use capn_words::{Place, Pointer, Space, Width};
 
@@ -24,7 +24,7 @@ pub struct Visited {
     /// The capability that it meets.
     pub capability: Option<u32>,
     /// The slots below it.
-    pub below: Frame,
+    pub below: SlotsLeft,
 }
 
 /// One visit of a slot whose pointer is that of a near struct, at most `depth` objects deep, where `left` words
@@ -118,7 +118,7 @@ pub fn visit_found<S: Space>(
         Ok(price) => Ok(Visited {
             price,
             capability: capability_of(target),
-            below: frame_below(space, target),
+            below: slots_below(space, target),
         }),
         Err(fault) => Err(fault),
     }

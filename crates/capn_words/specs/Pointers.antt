@@ -64,13 +64,13 @@ offset_field (negsuc n) = 2 ^ 30 - suc n
 
 -- each field is in the range of its bits; a struct pointer isn't all zeros, which is null;
 -- a reserved word has bits 0 to 1 equal to 3 and isn't a capability
-abbrev pub Fits : Pointer → Type 0
-Fits Nil = ⊤
-Fits (Node o w s) = FitsOffset o × (w < 2 ^ 16) × (s < 2 ^ 16) × (0 < offset_field o + w + s)
-Fits (Many o k c) = FitsOffset o × (c < 2 ^ 29)
-Fits (Far d w s) = (w < 2 ^ 29) × (s < 2 ^ 32)
-Fits (Cap i) = i < 2 ^ 32
-Fits (Reserved n) = (n < 2 ^ 64) × (n % 4 ≡ 3) × (0 < n / 4 % 2 ^ 30)
+abbrev pub FitsFields : Pointer → Type 0
+FitsFields Nil = ⊤
+FitsFields (Node o w s) = FitsOffset o × (w < 2 ^ 16) × (s < 2 ^ 16) × (0 < offset_field o + w + s)
+FitsFields (Many o k c) = FitsOffset o × (c < 2 ^ 29)
+FitsFields (Far d w s) = (w < 2 ^ 29) × (s < 2 ^ 32)
+FitsFields (Cap i) = i < 2 ^ 32
+FitsFields (Reserved n) = (n < 2 ^ 64) × (n % 4 ≡ 3) × (0 < n / 4 % 2 ^ 30)
 
 -- the word of a pointer: its kind in bits 0 to 1, and its fields above
 abbrev pub word_of : Pointer → ℕ
@@ -83,4 +83,4 @@ word_of (Reserved n) = n
 
 -- a pointer is what a word says: its fields fit, and the word is their sum
 abbrev pub Fields : ℕ → Pointer → Type 0
-Fields w p = Fits p × (w ≡ word_of p)
+Fields w p = FitsFields p × (w ≡ word_of p)

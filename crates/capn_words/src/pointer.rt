@@ -2,7 +2,8 @@
 
 ghost use Rattle.std.specs.Prelude.{◌≡◌, ◌↔◌, ℕ, ◌<◌, ◌^◌, ◌/◌, ◌%◌};
 ghost use Rattle.capn_words.specs.declared.pointer.Pointer.{Pointer};
-ghost use Rattle.capn_words.specs.Pointers.{Fields, Fits, FitsOffset, offset_field, width_code, word_of, pointer_of};
+ghost use Rattle.capn_words.specs.Pointers.{Fields, FitsFields, FitsOffset, offset_field, width_code, word_of};
+ghost use Rattle.capn_words.specs.Pointers.{pointer_of};
 
 /// What the elements of a list are. (Page: lists.)
 #[derive(Clone, Copy, Debug, PartialEq, Eq)]
@@ -166,7 +167,7 @@ pub fn split(word: u64) -> Pointer
     ensures read { result ≡ pointer_of word }
 
     // `join` may be called on it, and answers the word.
-    ensures fits { Fits result }
+    ensures fits { FitsFields result }
     ensures joined { word_of result ≡ word }
 {
     fields_of(word)
@@ -174,7 +175,7 @@ pub fn split(word: u64) -> Pointer
 
 /// The sum of the fields, each shifted to its bits.
 fn sum_of(pointer: Pointer) -> u64
-    requires { Fits pointer }
+    requires { FitsFields pointer }
     ensures { result ≡ word_of pointer }
 {
     match pointer {
@@ -205,7 +206,7 @@ fn sum_of(pointer: Pointer) -> u64
 /// reserved word has to be one. `split` gives the pointer back. (Page: structs, lists, inter-segment
 /// pointers, capabilities.)
 pub fn join(pointer: Pointer) -> u64
-    requires { Fits pointer }
+    requires { FitsFields pointer }
     ensures word { result ≡ word_of pointer }
 
     // `split` of the word answers the pointer.

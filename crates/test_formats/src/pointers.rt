@@ -1,7 +1,7 @@
 //! Pointer words of each kind, at the ends of their fields' ranges.
 
 ghost use Rattle.std.specs.Prelude.{◌≡◌};
-ghost use Rattle.capn_words.specs.Pointers.{Fits};
+ghost use Rattle.capn_words.specs.Pointers.{FitsFields};
 
 use capn_words::{Pointer, Width, join, split};
 
@@ -14,7 +14,7 @@ fn joined_again(word: u64) -> u64
 
 /// A pointer that fits is what its word says.
 fn split_again(pointer: Pointer) -> Pointer
-    requires { Fits pointer }
+    requires { FitsFields pointer }
     ensures { result ≡ pointer }
 {
     split(join(pointer))

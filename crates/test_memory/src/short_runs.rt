@@ -2,7 +2,7 @@
 
 use crate::subject::{Answer, Subject, judged, limits, wanting};
 use capn_canon::{
-    Canonical, Form, Refusal, account, canonical_of, canonicalise, is_canonical, layout,
+    Canonical, Form, Refusal, survey_bytes, canonical_of, canonicalise, is_canonical, layout,
 };
 use capn_tool::{Command, ToolFault, fault_text, run};
 use capn_walk::Limits;
@@ -48,7 +48,7 @@ pub(crate) fn accounted<A: Allocator + Copy>(
     bytes: &[u8],
     limits: Limits,
 ) -> Result<(u32, u32, Option<u32>), Refusal> {
-    let told = account(alloc, form, bytes, limits)?;
+    let told = survey_bytes(alloc, form, bytes, limits)?;
     Ok((told.paid, told.visits, told.capability))
 }
 

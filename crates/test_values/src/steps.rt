@@ -1,7 +1,7 @@
 //! What steps of views pay and where they lead, and what a survey and a check of a message report.
 
 use crate::words::bytes_of;
-use capn_canon::{Checked, Refusal, check, survey};
+use capn_canon::{SurveyedBare, Refusal, survey_bare, survey};
 use capn_stream::first;
 use capn_value::Tariff;
 use capn_walk::{Fault, Limits, Meter, Stopped, Surveyed, View};
@@ -73,11 +73,11 @@ const RESERVED: [u64; 2] = [0x1_0000_0000_0000, 7];
 fn told(
     alloc: Global,
     words: &[u64],
-) -> Option<(Result<Surveyed, Refusal>, Result<Checked, Stopped>)> {
+) -> Option<(Result<Surveyed, Refusal>, Result<SurveyedBare, Stopped>)> {
     let bytes = bytes_of(alloc, words).ok()?;
     let bare = Bare::new(bytes.as_slice()).ok()?;
     let surveyed = survey(alloc, &bare, Limits::usual());
-    Some((surveyed, check(alloc, &bare, Limits::usual())))
+    Some((surveyed, survey_bare(alloc, &bare, Limits::usual())))
 }
 
 /// Whether both report this price, this number of visits and this first capability, and the check whether the bytes are

@@ -63,7 +63,7 @@ read-not_misread forms.Packed bs most m refusals.Memory h r = unpacked-read bs m
 
 -- a message that is accepted isn't refused
 pub accepted-not_refused : (m : List (List ℕ)) (limits : Bounds) (s : Stopped) → IsAccepted m limits →
-    walks.IsRefused m limits s.fault s.place s.paid s.visits → ⊥
+    walks.IsWalkRefused m limits s.fault s.place s.paid s.visits → ⊥
 accepted-not_refused m limits s h (inl r) = let a = h.some in let b = r.0 in absurd (omega arith)
 accepted-not_refused m limits s h (inr r) =
     let a = within-accepted limits.budget (walks.visits_within m limits) h.within.all h.within.paid in

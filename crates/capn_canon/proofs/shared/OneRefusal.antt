@@ -41,7 +41,7 @@ BarePart bs r = (e : BareFault) × (r ≡ refusals.Bare e) × ReadsBare bs (Err 
 -- it refuses bytes with which no frame begins
 abbrev FramePart : List ℕ → ℕ → Refusal → Type 0
 FramePart bs most r = (e : FrameFault) × (r ≡ refusals.Frame e) × (e ≡ frame_faults.Memory → ⊥)
-    × frames.IsRefused bs most e
+    × frames.IsFrameRefused bs most e
 
 -- it refuses bytes after a frame
 abbrev TrailPart : List ℕ → ℕ → Refusal → Type 0
@@ -50,7 +50,7 @@ TrailPart bs most r = (at : ℕ) × (r ≡ refusals.Trailing at) × Trails bs mo
 -- it refuses bytes that are no packed text
 abbrev PackedPart : List ℕ → ℕ → Refusal → Type 0
 PackedPart bs most r = (e : UnpackFault) × (r ≡ refusals.Packed e) × (e ≡ unpack_faults.Memory → ⊥)
-    × packs.IsRefused bs (most + most_table_words) e
+    × packs.IsUnpackRefused bs (most + most_table_words) e
 
 -- it refuses what a packed text unpacks to
 abbrev UnpackedPart : List ℕ → ℕ → Refusal → Type 0
@@ -153,8 +153,8 @@ same_stopped s t a b c d = λ i. record { fault = a i; place = b i; paid = c i; 
 
 module _ (m : List (List ℕ)) (limits : Bounds) where
   -- a walk stops at one place
-  pub one_stop : (s t : Stopped) → walks.IsRefused m limits s.fault s.place s.paid s.visits
-      → walks.IsRefused m limits t.fault t.place t.paid t.visits → s ≡ t
+  pub one_stop : (s t : Stopped) → walks.IsWalkRefused m limits s.fault s.place s.paid s.visits
+      → walks.IsWalkRefused m limits t.fault t.place t.paid t.visits → s ≡ t
   one_stop s t (inl h) (inl k) = same_stopped s t (h.1 ∙ sym k.1) (h.2 ∙ sym k.2) (h.3 ∙ sym k.3) (h.4 ∙ sym k.4)
   one_stop s t (inl h) (inr k) = let a = h.0 in let b = k.0 in absurd (omega arith)
   one_stop s t (inr h) (inl k) = let a = h.0 in let b = k.0 in absurd (omega arith)
@@ -167,7 +167,8 @@ module _ (m : List (List ℕ)) (limits : Bounds) where
 
 -- it says where and why the walk of a message stops
 abbrev WalkPart : List (List ℕ) → Bounds → Refusal → Type 0
-WalkPart m limits r = (s : Stopped) × (r ≡ refusals.Walk s) × walks.IsRefused m limits s.fault s.place s.paid s.visits
+WalkPart m limits r = (s : Stopped) × (r ≡ refusals.Walk s)
+    × walks.IsWalkRefused m limits s.fault s.place s.paid s.visits
 
 -- it names the first capability of the message's value
 abbrev CapPart : List (List ℕ) → Bounds → Refusal → Type 0

@@ -12,7 +12,7 @@ use Rattle.capn_canon.specs.Layout.{canon}
 use Rattle.capn_canon.specs.Denotes.{AnswersMessage, Answers}
 use Rattle.capn_canon.specs.SurveyedBytes.{Surveys}
 use Rattle.capn_canon.specs.Refusal.{IsRefusedMessage, IsRefused, IsUnacceptedIn, IsPaidWithin}
-use Rattle.capn_canon.specs.MemoryNeed.{MayWantMemory, MayWantBytes, MayWantBytesIn}
+use Rattle.capn_canon.specs.MemoryNeed.{MayNeedMemory, MayNeedBytes, MayNeedBytesIn}
 
 -- what a call reports of a message is its answer or why it has none, memory is needed only where it may be, and no walk
 -- pays beyond its budget
@@ -22,7 +22,7 @@ pub record IsCanonicalised {T : Type 0} (message : List (List ℕ)) (limits : Bo
   pub only : (v : Tree) → IsValueOf message limits v → first_cap v ≡ None
       → MatchResult r (λ c. bytes c ≡ canon v) (λ e. e ≡ refusals.Memory)
   pub refused : IfErr r (λ e. IsRefusedMessage message limits e)
-  pub wanted : IsErrOf r refusals.Memory → MayWantBytes message limits
+  pub wanted : IsErrOf r refusals.Memory → MayNeedBytes message limits
   pub bounded : MatchResult r (λ c. price c ≤ limits.budget) (λ e. IsPaidWithin limits.budget e)
 
 -- what a call reports of bytes in a form is their answer or why they have none, memory is needed only where it may be,
@@ -31,7 +31,7 @@ pub record AreCanonicalised {T : Type 0} (form : Form) (bs : List ℕ) (limits :
     (bytes : T → List ℕ) (price : T → ℕ) : Type 0 where
   pub found : IfOk r (λ c. Answers form bs limits (bytes c) (price c))
   pub refused : IfErr r (λ e. IsRefused form bs limits e)
-  pub wanted : IsErrOf r refusals.Memory → MayWantBytesIn form bs limits
+  pub wanted : IsErrOf r refusals.Memory → MayNeedBytesIn form bs limits
   pub bounded : MatchResult r (λ c. price c ≤ limits.budget) (λ e. IsPaidWithin limits.budget e)
 
 -- what is answered is a survey of the bytes, a refusal means what it says, memory is needed only where it may be, and
@@ -39,5 +39,5 @@ pub record AreCanonicalised {T : Type 0} (form : Form) (bs : List ℕ) (limits :
 pub record AreSurveyed (form : Form) (bs : List ℕ) (limits : Bounds) (r : Result Surveyed Refusal) : Type 0 where
   pub found : IfOk r (λ s. Surveys form bs limits s)
   pub refused : IfErr r (λ e. IsUnacceptedIn form bs limits e)
-  pub wanted : IsErrOf r refusals.Memory → MayWantMemory form bs limits
+  pub wanted : IsErrOf r refusals.Memory → MayNeedMemory form bs limits
   pub bounded : MatchResult r (λ s. IsBounded limits.budget s.paid s.visits) (λ e. IsPaidWithin limits.budget e)

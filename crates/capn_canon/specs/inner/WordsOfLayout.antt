@@ -26,9 +26,9 @@ pub record RowsLaidAt (all : List ℕ) (a b : ℕ) (bs : Bodies) (from to : ℕ)
   pub contents : Stand all to (lays_in_rows bs to)
 
 -- the answer is the next free word exactly if so (Own.)
-abbrev pub Tells : Type 0 → ℕ → Option ℕ → Type 0
-Tells P n (Some k) = P × (k ≡ n)
-Tells P n None = P → ⊥
+abbrev pub AnswersIf : Type 0 → ℕ → Option ℕ → Type 0
+AnswersIf P n (Some k) = P × (k ≡ n)
+AnswersIf P n None = P → ⊥
 
 -- `number` rows stand one after the other, and there is room for what is below them after n words (Own.)
 pub record AreReadyRows (m : List (List ℕ)) (s w a b number depth n : ℕ) : Type 0 where

@@ -9,8 +9,9 @@ use Rattle.capn_text.specs.Streams.{Place, end_line, ended_lines}
 use Rattle.capn_text.specs.declared.fault.TextFault.{TextFault}
 use Rattle.capn_text.specs.declared.fault.TextFault.TheVariants as texts
 use Rattle.capn_canon.specs.declared.form.Form.{Form}
-use Rattle.capn_make.specs.WrittenValue.{IsMakeable, IsPiece, AreMade}
-use Rattle.capn_make.specs.MadeInput.{AreFirst, IsRefused, IsNotOne, Follows, Makes, MakesEach, MakesOne, line_after}
+use Rattle.capn_make.specs.WrittenValue.{IsMakeable, IsWrittenValue, AreMade}
+use Rattle.capn_make.specs.MadeInput.{AreFirst, IsTextRefused, IsNotOne, Follows, Makes, MakesEach, MakesOne}
+use Rattle.capn_make.specs.MadeInput.{line_after}
 use Rattle.capn_make.specs.MakeRun.{HasBegunEach, HasBegunOne, HasBegunText}
 use Rattle.capn_make.specs.declared.fault.MakeFault.{MakeFault}
 use Rattle.capn_make.specs.declared.fault.MakeFault.TheVariants as faults
@@ -29,7 +30,7 @@ unread line (texts.Misfit m) = faults.Misfit line m
 
 -- what is written of a value whose text begins at a line, or why there is nothing
 abbrev pub MakesValue : {A : Type 0} → Form → ℕ → Tree → Result (Vec ℕ A) MakeFault → Type 0
-MakesValue form line v (Ok piece) = IsPiece form v piece.items × (first_cap v ≡ None)
+MakesValue form line v (Ok piece) = IsWrittenValue form v piece.items × (first_cap v ≡ None)
 MakesValue form line v (Err fault) = (fault ≡ faults.Memory)
     ⊎ ((index : ℕ) × (fault ≡ faults.Capability line index) × (first_cap v ≡ Some index))
 
@@ -37,9 +38,9 @@ MakesValue form line v (Err fault) = (fault ≡ faults.Memory)
 abbrev pub MakesNext : {A : Type 0} → Form → Place → Place → Result (Option (Vec ℕ A)) MakeFault → Type 0
 MakesNext form old new (Ok None) = old.rest ≡ []
 MakesNext form old new (Ok (Some piece)) = (v : Tree) × IsMakeable v
-    × (old.rest ≡ show_text v ++ (end_line ++ new.rest)) × IsPiece form v piece.items
+    × (old.rest ≡ show_text v ++ (end_line ++ new.rest)) × IsWrittenValue form v piece.items
     × (new.line + ended_lines new.rest ≡ old.line + ended_lines old.rest)
-MakesNext form old new (Err fault) = (fault ≡ faults.Memory) ⊎ IsRefused old.line old.rest fault
+MakesNext form old new (Err fault) = (fault ≡ faults.Memory) ⊎ IsTextRefused old.line old.rest fault
 
 -- all texts up to a place were made and written
 pub record HasMade (form : Form) (input : List ℕ) (place : Place) (old new : Option (List ℕ)) : Type 0 where

@@ -9,7 +9,7 @@ use Rattle.capn_pack.specs.Packed.{Group, text, words, IsGroup, texts, contents,
 use Rattle.capn_pack.specs.Packed.{IsNamedBy}
 use Rattle.capn_pack.specs.UnpackRefusal.{words_at, len_at, HasHead, IsCut, IsTooLong, Stands}
 use Rattle.capn_pack.specs.Packed.Group.{Zeros, Named, Raw}
-use Rattle.capn_pack.specs.UnpackRefusal.{IsRefused}
+use Rattle.capn_pack.specs.UnpackRefusal.{IsUnpackRefused}
 use Rattle.capn_pack.specs.declared.fault.UnpackFault.{UnpackFault}
 use Rattle.capn_pack.specs.declared.fault.UnpackFault.TheVariants as fault
 use Rattle.capn_pack.proofs.shared.FirstParts.{append_same}
@@ -182,7 +182,8 @@ not_refused Q never b bs max at p fits s =
     )) s.fault
 
 -- a text that is read within the maximum is refused only if memory runs out
-pub refused_only : (e : UnpackFault) (b bs : List ℕ) (max : ℕ) → IsRefused b max e → Packs b bs → length bs ≤ 8 * max
+pub refused_only : (e : UnpackFault) (b bs : List ℕ) (max : ℕ) → IsUnpackRefused b max e → Packs b bs
+    → length bs ≤ 8 * max
     → e ≡ fault.Memory
 refused_only fault.Memory b bs max r p fits = refl
 refused_only (fault.Cut at) b bs max r p fits =

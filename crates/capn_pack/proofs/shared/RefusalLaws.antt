@@ -3,7 +3,7 @@ use Rattle.std.proofs.Common.{◌≡◌, ℕ, ◌+◌, ◌≤◌, List, [], ◌�
 use Rattle.std.proofs.Common.{append_assoc, arith}
 use Rattle.std.specs.List.{AllByRecursion}
 use Rattle.capn_pack.specs.Packed.{Group, IsGroup, text, words, texts, word_count}
-use Rattle.capn_pack.specs.UnpackRefusal.{words_at, IsCut, IsRefused, IsTooLong, Stands}
+use Rattle.capn_pack.specs.UnpackRefusal.{words_at, IsCut, IsUnpackRefused, IsTooLong, Stands}
 use Rattle.capn_pack.specs.declared.fault.UnpackFault.{UnpackFault}
 use Rattle.capn_pack.specs.declared.fault.UnpackFault.TheVariants as fault
 use Rattle.capn_pack.proofs.shared.GroupLaws.{no_group, head_of, group_same}
@@ -65,7 +65,7 @@ module _ (b : List ℕ) (max : ℕ) where
       grind (arith, cut, t.fault)
 
   one_packed : (e f : UnpackFault)
-      → IsRefused b max e → IsRefused b max f → (e ≡ fault.Memory → ⊥) → (f ≡ fault.Memory → ⊥) → e ≡ f
+      → IsUnpackRefused b max e → IsUnpackRefused b max f → (e ≡ fault.Memory → ⊥) → (f ≡ fault.Memory → ⊥) → e ≡ f
   one_packed fault.Memory f r s ne nf = absurd (ne refl)
   one_packed fault.Failed f r s ne nf = absurd r
   one_packed (fault.Cut at) fault.Memory r s ne nf = absurd (nf refl)
@@ -81,5 +81,5 @@ module _ (b : List ℕ) (max : ℕ) where
 
 -- a packed text is refused for one reason, unless memory runs out
 pub one_unpack_fault : (b : List ℕ) (max : ℕ) (e f : UnpackFault)
-    → IsRefused b max e → IsRefused b max f → (e ≡ fault.Memory → ⊥) → (f ≡ fault.Memory → ⊥) → e ≡ f
+    → IsUnpackRefused b max e → IsUnpackRefused b max f → (e ≡ fault.Memory → ⊥) → (f ≡ fault.Memory → ⊥) → e ≡ f
 one_unpack_fault b max e f r s ne nf = one_packed b max e f r s ne nf

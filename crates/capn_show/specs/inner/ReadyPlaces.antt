@@ -14,7 +14,7 @@ use Rattle.capn_walk.specs.declared.target.Fault.TheVariants as faults
 use Rattle.capn_walk.specs.ValueAt.{IsAt, words_from}
 use Rattle.capn_walk.specs.View.{number_in}
 use Rattle.capn_walk.specs.ShownValue.{Shows, ShowsStruct, words_of_row, slots_of_row}
-use Rattle.capn_walk.specs.Accepted.{IsValueOf, IsRefused}
+use Rattle.capn_walk.specs.Accepted.{IsValueOf, IsWalkRefused}
 use Rattle.capn_walk.specs.Limits.{Bounds}
 use Rattle.capn_show.specs.Sheet.{Sheet, Grows, BreaksOff}
 use Rattle.capn_show.specs.declared.fault.ShowFault.{ShowFault}
@@ -154,6 +154,6 @@ module _ (m : List (List ℕ)) where
   -- it is refused, or a survey was refused memory, and the page is as it was; or the text of its value breaks off
   abbrev pub IsUnwritten : Bounds → ShowFault → Sheet → Sheet → Type 0
   IsUnwritten limits (ends.Stopped s) p q = (q ≡ p)
-      × ((s.fault ≡ faults.Memory) ⊎ IsRefused m limits s.fault s.place s.paid s.visits)
+      × ((s.fault ≡ faults.Memory) ⊎ IsWalkRefused m limits s.fault s.place s.paid s.visits)
   IsUnwritten limits ends.Io p q = IsBegun limits p q broken.Io
   IsUnwritten limits ends.Memory p q = IsBegun limits p q broken.Memory

@@ -11,7 +11,7 @@ use Rattle.capn_words.specs.Message.{bytes, segment_at, total, IsMessage, word_b
 use Rattle.capn_words.proofs.shared.Words.{bytes-injective, length-bytes}
 use Rattle.capn_stream.specs.Cuts.{cut, ends_from}
 use Rattle.capn_stream.specs.Frames.{FitsTable, Frames, StandsFirst, contents, entry, padding}
-use Rattle.capn_stream.specs.FrameRefusal.{IsRefused, IsWhole, announced_segments, announced_words, entries}
+use Rattle.capn_stream.specs.FrameRefusal.{IsFrameRefused, IsWhole, announced_segments, announced_words, entries}
 use Rattle.capn_stream.specs.FrameRefusal.{entry_number, frame_length, head_length}
 use Rattle.capn_stream.specs.declared.fault.FrameFault.{FrameFault}
 use Rattle.capn_stream.specs.declared.fault.FrameFault.TheVariants.{Memory, Empty, TooManySegments, TooManyWords, Cut}
@@ -176,7 +176,7 @@ whole_of bs most message taken h =
     )
 
 -- what is whole is refused only if memory runs out
-pub refused_whole : (bs : List ℕ) (most : ℕ) (e : FrameFault) → IsWhole bs most → IsRefused bs most e → e ≡ Memory
+pub refused_whole : (bs : List ℕ) (most : ℕ) (e : FrameFault) → IsWhole bs most → IsFrameRefused bs most e → e ≡ Memory
 refused_whole bs most Memory w r = refl
 refused_whole bs most Empty w r = absurd (omega arith)
 refused_whole bs most (TooManySegments n) w r = absurd (omega arith)
@@ -187,7 +187,7 @@ refused_whole bs most Failed w r = absurd r
 -- ---- one refusal
 
 -- bytes are refused for one reason, unless memory runs out
-pub one_refusal : (bs : List ℕ) (most : ℕ) (e f : FrameFault) → IsRefused bs most e → IsRefused bs most f
+pub one_refusal : (bs : List ℕ) (most : ℕ) (e f : FrameFault) → IsFrameRefused bs most e → IsFrameRefused bs most f
     → (e ≡ Memory → ⊥) → (f ≡ Memory → ⊥) → e ≡ f
 one_refusal bs most Memory f r s other also = absurd (other refl)
 one_refusal bs most Failed f r s other also = absurd r

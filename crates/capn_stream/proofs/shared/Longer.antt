@@ -6,7 +6,7 @@ use Rattle.std.proofs.lemmas.List.{drop-append-le}
 use Rattle.byteorder.specs.Numbers.{little_from-append}
 use Rattle.capn_stream.specs.FrameRefusal.{HasCount, HasHead, announced_segments, announced_words, entries}
 use Rattle.capn_stream.specs.FrameRefusal.{entry_number, head_length}
-use Rattle.capn_stream.specs.inner.Stages.{Extends, IsStage, IsStop, Knows, announced_ends, need}
+use Rattle.capn_stream.specs.inner.Stages.{Extends, IsStage, IsHeadRefused, Knows, announced_ends, need}
 use Rattle.capn_stream.specs.declared.fault.FrameFault.{FrameFault}
 use Rattle.capn_stream.specs.declared.fault.FrameFault.TheVariants.{Memory, Empty, TooManySegments, TooManyWords, Cut}
 use Rattle.capn_stream.specs.declared.fault.FrameFault.TheVariants.{Failed}
@@ -88,7 +88,8 @@ IsStage-extends stage old piece most n new ends is more = record {
 }
 
 -- bytes that are refused stay so
-pub IsStop-append : (bs more : List ℕ) (most : ℕ) (e : FrameFault) → IsStop bs most e → IsStop (bs ++ more) most e
+pub IsStop-append : (bs more : List ℕ) (most : ℕ) (e : FrameFault) → IsHeadRefused bs most e
+    → IsHeadRefused (bs ++ more) most e
 IsStop-append bs more most Memory h = tt
 IsStop-append bs more most Empty h = h
 IsStop-append bs more most Cut h = h

@@ -6,7 +6,7 @@ use Rattle.std.proofs.lemmas.List.{take_all}
 use Rattle.std.proofs.lemmas.Bool.Decides.{nat_tests}
 use Rattle.capn_stream.specs.Frames.{padding}
 use Rattle.capn_stream.specs.StreamPieces.{Feeds, Framing, IsFrame, IsUnfinished}
-use Rattle.capn_stream.specs.FrameRefusal.{EndsWithin, IsRefused, IsWhole, announced_segments}
+use Rattle.capn_stream.specs.FrameRefusal.{EndsWithin, IsFrameRefused, IsWhole, announced_segments}
 use Rattle.capn_stream.specs.FrameRefusal.{head_length}
 use Rattle.capn_stream.specs.NextMessage.{most_bytes}
 use Rattle.capn_stream.specs.inner.Stages.{IsStage, need}
@@ -83,7 +83,7 @@ unfinished_within bs most (inr (inr (inl table))) = inr (inl (table.0, omega (ar
 unfinished_within bs most (inr (inr (inr contents))) = inr (inr (contents.0, contents.1, omega (arith, contents.2)))
 
 -- too many segments are refused once the count is there, and no sooner
-pub many_segments_end : (bs : List ℕ) (most n : ℕ) → EndsWithin bs most → IsRefused bs most (TooManySegments n)
+pub many_segments_end : (bs : List ℕ) (most n : ℕ) → EndsWithin bs most → IsFrameRefused bs most (TooManySegments n)
     → length bs ≡ 4
 many_segments_end bs most n (inl count) refused = omega (arith, count, refused.0)
 many_segments_end bs most n (inr (inl table)) refused = absurd (omega (arith, table.0.1, refused.1, refused.2))
@@ -91,7 +91,7 @@ many_segments_end bs most n (inr (inr contents)) refused =
     absurd (omega (arith, contents.0.0.1, refused.1, refused.2))
 
 -- too many words, once the table and its padding are
-pub many_words_end : (bs : List ℕ) (most n : ℕ) → EndsWithin bs most → IsRefused bs most (TooManyWords n)
+pub many_words_end : (bs : List ℕ) (most n : ℕ) → EndsWithin bs most → IsFrameRefused bs most (TooManyWords n)
     → length bs ≡ head_length (announced_segments bs)
 many_words_end bs most n (inl count) refused = absurd (omega (arith, count, refused.0.1))
 many_words_end bs most n (inr (inl table)) refused = omega (arith, table.1, refused.0.1)

@@ -2,7 +2,8 @@
 use Rattle.std.specs.Prelude.{◌≡◌, ◌⊎◌, ℕ, ◌<◌, ◌≤◌, List, ◌++◌, length, take, drop, ⊤}
 use Rattle.capn_words.specs.Message.{most_segments, AreBytes}
 use Rattle.capn_stream.specs.Cuts.{ends_from}
-use Rattle.capn_stream.specs.FrameRefusal.{HasCount, HasHead, IsRefused, announced_segments, announced_words, entries}
+use Rattle.capn_stream.specs.FrameRefusal.{HasCount, HasHead, IsFrameRefused, announced_segments, announced_words}
+use Rattle.capn_stream.specs.FrameRefusal.{entries}
 use Rattle.capn_stream.specs.FrameRefusal.{entry_number, frame_length, head_length}
 use Rattle.capn_stream.specs.declared.fault.FrameFault.{FrameFault}
 use Rattle.capn_stream.specs.declared.fault.FrameFault.TheVariants.{Memory, Empty, TooManySegments, TooManyWords, Cut}
@@ -59,13 +60,13 @@ pub record Extends (old piece : List ℕ) (end n : ℕ) (new : List ℕ) : Type 
   pub stops : length new < end → n ≡ length piece
 
 -- why a frame is refused before its contents are waited for
-abbrev pub IsStop : List ℕ → ℕ → FrameFault → Type 0
-IsStop bs most Memory = ⊤
-IsStop bs most Empty = ⊥
-IsStop bs most (TooManySegments n) = IsRefused bs most (TooManySegments n)
-IsStop bs most (TooManyWords n) = IsRefused bs most (TooManyWords n)
-IsStop bs most Cut = ⊥
-IsStop bs most Failed = ⊥
+abbrev pub IsHeadRefused : List ℕ → ℕ → FrameFault → Type 0
+IsHeadRefused bs most Memory = ⊤
+IsHeadRefused bs most Empty = ⊥
+IsHeadRefused bs most (TooManySegments n) = IsFrameRefused bs most (TooManySegments n)
+IsHeadRefused bs most (TooManyWords n) = IsFrameRefused bs most (TooManyWords n)
+IsHeadRefused bs most Cut = ⊥
+IsHeadRefused bs most Failed = ⊥
 
 -- the number of parts that are still waited for after this one
 abbrev pub parts_left : Stage → ℕ

@@ -4,7 +4,7 @@ use Rattle.std.proofs.Common.{IsErrOf, is_err, ◌||◌, ◌↔◌, refl, sym, s
 use Rattle.std.proofs.Math.Seq.{take-length}
 use Rattle.std.specs.Io.KnownBytes.{Appends, Keeps}
 use Rattle.capn_words.specs.Watched.{HasBegun}
-use Rattle.capn_tool.specs.FaultText.{TellsLine}
+use Rattle.capn_tool.specs.FaultText.{WritesLine}
 use Rattle.capn_tool.specs.declared.fault.ToolFault.{ToolFault}
 use Rattle.capn_tool.specs.declared.fault.ToolFault.TheVariants as faults
 
@@ -29,6 +29,6 @@ sound true io = absurd (let bad = io.1 refl in cc)
 
 -- a text was written, or a beginning of it if the writer has failed
 pub told : {T E : Type 0} (text : List ℕ) (c d : Option (List ℕ)) (old new : Bool) (r : Result T E) → old ≡ false
-    → OnOk r (Appends c d text) → HasBegun c d text → new ≡ (old || is_err r) → TellsLine text c d new
+    → OnOk r (Appends c d text) → HasBegun c d text → new ≡ (old || is_err r) → WritesLine text c d new
 told text c d old new (Ok u) fine ok begun is = rw (is, fine) ok
 told text c d old new (Err e) fine ok begun is = rw (is, fine) begun

@@ -9,9 +9,9 @@ use Rattle.capn_stream.specs.declared.fault.FrameFault.{FrameFault}
 use Rattle.capn_stream.specs.declared.fault.FrameFault.TheVariants as frames
 use Rattle.capn_tool.specs.Streams.{behind_packed, end_of}
 use Rattle.capn_tool.specs.declared.fault.ToolFault.TheVariants as faults
-use Rattle.capn_tool.specs.StreamRun.{IsListening, Stops, Tells}
+use Rattle.capn_tool.specs.StreamRun.{IsListening, Stops, Writes}
 use Rattle.capn_tool.specs.Outgoing.{Outgoing, sent}
-use Rattle.capn_tool.specs.declared.plan.Piece.{Piece}
+use Rattle.capn_tool.specs.declared.plan.MessageText.{MessageText}
 use Rattle.capn_tool.specs.declared.fault.ToolFault.{ToolFault}
 
 -- an unpacker has not failed, and holds no whole group
@@ -22,22 +22,23 @@ pub record IsUnpacking (unpacker : Held) : Type 0 where
 
 -- bytes that follow an unfinished group and an unfinished message: their whole groups have words, and for the whole
 -- messages of these the pieces were added; then this much is held of the next group, and this much of the next message
-abbrev pub TellsPacked : Piece → Bounds → Held → List ℕ → List ℕ → Held → List ℕ → Outgoing → Outgoing → Type 0
-TellsPacked piece limits held rest bytes next left old new =
+abbrev pub WritesPacked : MessageText → Bounds → Held → List ℕ → List ℕ → Held → List ℕ → Outgoing → Outgoing → Type 0
+WritesPacked piece limits held rest bytes next left old new =
     (words : List ℕ) × (len : ℕ) × Splits (held.rest ++ bytes) next.rest [] words len
     × (next.offset ≡ advanced held.offset len) × (next.failed ≡ false)
-    × Tells piece limits (rest ++ words) left old new
+    × Writes piece limits (rest ++ words) left old new
 
 -- the run stopped over the words of some of the groups
-abbrev pub StopsPacked : Piece → Bounds → List ℕ → List ℕ → List ℕ → Outgoing → Outgoing → Bool → ToolFault → Type 0
+abbrev pub StopsPacked : MessageText → Bounds → List ℕ → List ℕ → List ℕ → Outgoing → Outgoing → Bool → ToolFault
+    → Type 0
 StopsPacked piece limits group rest bytes old new failed fault =
     (words : List ℕ) × Begins (group ++ bytes) [] words × Stops piece limits (rest ++ words) old new failed fault
 
 -- packed bytes were served: all messages that they made whole, or up to where the run stopped
-abbrev pub ServesPacked : Piece → Bounds → Held → Framing → List ℕ → Outgoing → Outgoing → Bool
+abbrev pub ServesPacked : MessageText → Bounds → Held → Framing → List ℕ → Outgoing → Outgoing → Bool
     → Result (Unit {0}) ToolFault → Held → Framing → Type 0
 ServesPacked piece limits held before bytes old new failed (Ok u) next after =
-    TellsPacked piece limits held before.rest bytes next after.rest old new × IsListening after limits
+    WritesPacked piece limits held before.rest bytes next after.rest old new × IsListening after limits
     × (failed ≡ false)
 ServesPacked piece limits held before bytes old new failed (Err fault) next after =
     StopsPacked piece limits held.rest before.rest bytes old new failed fault
@@ -48,14 +49,14 @@ fresh = record { rest = []; offset = 0; failed = false }
 
 -- a reader gave bytes, and their number is known; the pieces of the whole messages in the words of their whole groups
 -- were written
-abbrev pub HearsPacked : Piece → Bounds → Option (List ℕ) → Option (List ℕ) → ℕ → Held → List ℕ → Option (List ℕ)
+abbrev pub HearsPacked : MessageText → Bounds → Option (List ℕ) → Option (List ℕ) → ℕ → Held → List ℕ → Option (List ℕ)
     → Option (List ℕ) → Type 0
 HearsPacked piece limits a b taken held rest c d =
     (bytes : List ℕ) × Consumes a b bytes × (length bytes ≡ taken)
-    × TellsPacked piece limits fresh [] bytes held rest (sent c) (sent d)
+    × WritesPacked piece limits fresh [] bytes held rest (sent c) (sent d)
 
 -- the input ended: what is left is no whole frame, and the run ends so
 abbrev pub EndsPacked : List ℕ → ℕ → List ℕ → ℕ → Result (Unit {0}) ToolFault → Type 0
 EndsPacked group at rest most ending =
-    (e : FrameFault) × (e ≢ frames.Memory) × frame_rules.IsRefused rest most e
+    (e : FrameFault) × (e ≢ frames.Memory) × frame_rules.IsFrameRefused rest most e
     × (ending ≡ end_of e (behind_packed false group at)) × (ending ≢ Err faults.Io)

@@ -12,7 +12,7 @@ use Rattle.capn_walk.specs.declared.target.Fault.{Fault}
 use Rattle.capn_walk.specs.declared.target.Fault.TheVariants as faults
 use Rattle.capn_walk.specs.Target.{target}
 use Rattle.capn_walk.specs.Visits.{Visit, pays, fails, last_visit, visit, visits, slots}
-use Rattle.capn_walk.specs.Accepted.{Ends, paid_of, root, may_be_root, visits_at_root, root_visits, IsRefused}
+use Rattle.capn_walk.specs.Accepted.{Ends, paid_of, root, may_be_root, visits_at_root, root_visits, IsWalkRefused}
 use Rattle.capn_walk.specs.Limits.{Bounds}
 use Rattle.capn_walk.proofs.shared.Ways.{never-memory}
 
@@ -72,7 +72,7 @@ plain-end budget before (pays p n) at e h k = λ x. let y = k.1 ∙ x in absurd 
 
 -- a message is refused for what its bytes are, never because memory runs out
 pub plain-refusal : (m : List (List ℕ)) (limits : Bounds) (e : Fault) (at : Place) (paid visits : ℕ)
-    → IsRefused m limits e at paid visits → e ≢ faults.Memory
+    → IsWalkRefused m limits e at paid visits → e ≢ faults.Memory
 plain-refusal m limits e at paid visits (inl h) = λ x. let y = sym h.1 ∙ x in absurd cc
 plain-refusal m limits e at paid visits (inr h) =
     let s = h.1 in

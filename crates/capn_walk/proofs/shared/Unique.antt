@@ -11,7 +11,7 @@ use Rattle.capn_walk.specs.declared.target.Target.{Target}
 use Rattle.capn_walk.specs.declared.target.Target.TheVariants as targets
 use Rattle.capn_walk.specs.declared.target.Shape.{Shape}
 use Rattle.capn_walk.specs.Target.{target}
-use Rattle.capn_walk.specs.ValueAt.{IsAt, AreAt, RowsAt, IsInside, AreWords, AreElements, words_from}
+use Rattle.capn_walk.specs.ValueAt.{IsAt, AreAt, RowsAt, IsInside, StandAt, AreElements, words_from}
 
 same-bits : (xs ys : List Bool) → map from_bool xs ≡ map from_bool ys → xs ≡ ys
 same-bits [] [] e = refl
@@ -27,7 +27,7 @@ module _ (m : List (List ℕ)) where
       → AreElements many width (words_from m s w) xs → AreElements many width (words_from m s w) ys → xs ≡ ys
   same-elements many width s w xs ys l h k = same_number_lists xs ys l (λ i b. h i b ∙ sym (k i (omega arith)))
 
-  same-words : (s w : ℕ) (xs ys : List ℕ) → length xs ≡ length ys → AreWords m s w xs → AreWords m s w ys → xs ≡ ys
+  same-words : (s w : ℕ) (xs ys : List ℕ) → length xs ≡ length ys → StandAt m s w xs → StandAt m s w ys → xs ≡ ys
   same-words s w xs ys l h k = sym h ∙ ap (λ (n : ℕ). take n (words_from m s w)) l ∙ k
 
   -- what a target says of the value at its place

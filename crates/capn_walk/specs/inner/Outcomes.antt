@@ -44,9 +44,9 @@ module _ (message : List (List ℕ)) (base depth left : ℕ) where
   Visits at (Err e) = IsRefusal at e
 
 -- the visits of n slots, with all below them: what they pay, how many they are, and the first capability
-abbrev pub Tells : List (List ℕ) → ℕ → ℕ → List Visit → Result Surveyed Stopped → Type 0
-Tells message left n vs (Ok s) = Gives left vs n s.paid s.visits × (first_cap_of message vs ≡ s.capability)
-Tells message left n vs (Err s) = Refuses left vs n s
+abbrev pub SurveysAs : List (List ℕ) → ℕ → ℕ → List Visit → Result Surveyed Stopped → Type 0
+SurveysAs message left n vs (Ok s) = Gives left vs n s.paid s.visits × (first_cap_of message vs ≡ s.capability)
+SurveysAs message left n vs (Err s) = Refuses left vs n s
 
 -- ---- a walk
 

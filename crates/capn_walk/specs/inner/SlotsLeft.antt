@@ -2,28 +2,28 @@
 use Rattle.std.specs.Prelude.{ℕ, ◌+◌, ◌-◌, ◌*◌, ◌<◌, ◌≤◌, List, [], ◌∷◌, ◌++◌, length, ⊤}
 use Rattle.capn_words.specs.declared.space.Place.{Place}
 use Rattle.capn_words.specs.Message.{segment_at}
-use Rattle.capn_walk.specs.declared.slots_left.Frame.{Frame}
+use Rattle.capn_walk.specs.declared.slots_left.SlotsLeft.{SlotsLeft}
 use Rattle.capn_walk.specs.declared.slots_left.Waiting.{Waiting}
 use Rattle.capn_walk.specs.Visits.{Visit, places, row_places, visits_of}
 
 -- the places of an object's slots that are left, in order
-abbrev pub places_of : Frame → List Place
+abbrev pub places_of : SlotsLeft → List Place
 places_of f = places f.segment f.next f.left ++ row_places f.segment (f.next + f.left) f.words f.slots f.rows
 
 -- how many they are
-abbrev pub owed : Frame → ℕ
+abbrev pub owed : SlotsLeft → ℕ
 owed f = f.left + f.rows * f.slots
 
 -- the word after the last of them
-abbrev pub end_of : Frame → ℕ
+abbrev pub end_of : SlotsLeft → ℕ
 end_of f = f.next + f.left + f.rows * (f.words + f.slots)
 
 -- rows that are left have slots
-abbrev pub HasRows : Frame → Type 0
+abbrev pub HasRows : SlotsLeft → Type 0
 HasRows f = 0 < f.rows → 0 < f.slots
 
 -- the slots that are left lie inside their segment
-pub record Lies (message : List (List ℕ)) (f : Frame) : Type 0 where
+pub record Lies (message : List (List ℕ)) (f : SlotsLeft) : Type 0 where
   pub within : end_of f ≤ length (segment_at message f.segment)
   pub rows : HasRows f
 

@@ -1,7 +1,7 @@
 -- A pointer that fits has one word, of which `pointer_of` reads it, and no other pointer has that word.
 use Rattle.std.proofs.Common.{◌≡◌, ◌≢◌, ℕ, ◌+◌, ◌*◌, ◌/◌, ◌%◌, ◌^◌, ◌<◌, ◌==◌, Bool, ℤ, refl, ap, ◌∙◌, arith}
 use Rattle.std.specs.Int.{from_bool}
-use Rattle.capn_words.specs.Pointers.{Fields, Fits, FitsOffset, offset_field, width_code, word_of, field, signed}
+use Rattle.capn_words.specs.Pointers.{Fields, FitsFields, FitsOffset, offset_field, width_code, word_of, field, signed}
 use Rattle.capn_words.specs.Pointers.{width_of, other_pointer, pointer_of}
 use Rattle.capn_words.specs.declared.pointer.Pointer.{Pointer}
 use Rattle.capn_words.specs.declared.pointer.Pointer.TheVariants.{Nil, Node, Many, Far, Cap, Reserved}
@@ -72,7 +72,7 @@ unfolding pointer_of
 null-again = refl
 
 -- the pointer in a pointer's word is that pointer
-pub pointer_of-word_of : (p : Pointer) → Fits p → pointer_of (word_of p) ≡ p
+pub pointer_of-word_of : (p : Pointer) → FitsFields p → pointer_of (word_of p) ≡ p
 pointer_of-word_of Nil h = null-again
 pointer_of-word_of (Node o w s) h = struct-again (word_of (Node o w s)) o w s refl h.0 h.1 h.2 h.3
 pointer_of-word_of (Many o k c) h = list-again (word_of (Many o k c)) o k c refl h.0 h.1
@@ -81,7 +81,7 @@ pointer_of-word_of (Cap i) h = cap-again (word_of (Cap i)) i refl h
 pointer_of-word_of (Reserved n) h = reserved-again n h.1 h.2
 
 -- a pointer's word has 64 bits
-pub word_of-lt : (p : Pointer) → Fits p → word_of p < 2 ^ 64
+pub word_of-lt : (p : Pointer) → FitsFields p → word_of p < 2 ^ 64
 word_of-lt Nil h = omega arith
 word_of-lt (Node o w s) h = let l = offset_field-lt o h.0 in omega (arith, h.1, h.2)
 word_of-lt (Many o k c) h = let l = offset_field-lt o h.0 in let m = width_code-lt k in omega (arith, h.1)

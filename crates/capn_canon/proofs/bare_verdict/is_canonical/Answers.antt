@@ -8,7 +8,7 @@ use Rattle.capn_canon.proofs.bare_verdict.is_canonical.Goals as goal
 
 pub returns-in-None-clause-found : goal.returns-in-None-clause-found
 returns-in-None-clause-found g c =
-    let f = c.in-Ok-check.ensures.found in
+    let f = c.in-Ok-survey_bare.ensures.found in
     let b = c.in-Ok.ensures.exact in
     let free = sym f.capability ∙ c.in-None.is in
     record {
@@ -21,7 +21,7 @@ returns-in-None-clause-found g c =
 pub returns-in-None-clause-only : goal.returns-in-None-clause-only
 returns-in-None-clause-only g c v h n =
     let m = c.in-Ok.space ∷ [] in
-    let f = c.in-Ok-check.ensures.found in
+    let f = c.in-Ok-survey_bare.ensures.found in
     let b = c.in-Ok.ensures.exact in
     let k = denoted_here forms.Bare c.args.bytes.now c.args.limits m v (c.in-Ok.space, b, refl) h in
     let e = ap canon (unique m v f.value root k.is f.is.is) in

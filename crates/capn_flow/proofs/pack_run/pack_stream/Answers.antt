@@ -3,7 +3,7 @@ use Rattle.std.proofs.Common.{take, true, false, sym, refl, subst, arith}
 use Rattle.std.proofs.KnownBytes.{Appends-nil, Consumes-nil, Appends-trans}
 use Rattle.std.proofs.lemmas.List.{take-append-le}
 use Rattle.std.proofs.lemmas.Result.{err_from_is_err_and}
-use Rattle.capn_flow.specs.Flow.{Heard}
+use Rattle.capn_flow.specs.Flow.{Consumed}
 use Rattle.capn_flow.specs.PackRun.{Settles, packing}
 use Rattle.capn_flow.proofs.InputRead.{has_broken, still_fine}
 use Rattle.capn_flow.proofs.RunEnds.{heard_more, run_ended, run_long, run_stopped, run_unread}
@@ -12,7 +12,7 @@ use Rattle.capn_flow.proofs.Packed.{settles_more, settles_none}
 use Rattle.capn_flow.proofs.pack_run.pack_stream.Goals as goal
 
 -- nothing has come
-heard_none : (held : List ℕ) (a c : Option (List ℕ)) → held ≡ [] → Heard (Holds held) a a c c 0
+heard_none : (held : List ℕ) (a c : Option (List ℕ)) → held ≡ [] → Consumed (Holds held) a a c c 0
 heard_none held a c is = record {
   bytes = [];
   text = [];

@@ -5,7 +5,7 @@ use Rattle.std.proofs.lemmas.List.{take-append-le}
 use Rattle.std.proofs.lemmas.Result.{err_from_is_err_and}
 use Rattle.capn_pack.specs.PackedPieces.{Held}
 use Rattle.capn_pack.proofs.shared.StreamLemmas.{nothing_first}
-use Rattle.capn_flow.specs.Flow.{Heard}
+use Rattle.capn_flow.specs.Flow.{Consumed}
 use Rattle.capn_flow.specs.UnpackRun.{Unpacks, fresh, unpacking}
 use Rattle.capn_flow.proofs.InputRead.{has_broken, still_fine}
 use Rattle.capn_flow.proofs.RunEnds.{heard_more, run_ended, run_long, run_stopped, run_unread}
@@ -14,7 +14,7 @@ use Rattle.capn_flow.proofs.Unpacked.{unpacking_ends, unpacks_more, unpacks_none
 use Rattle.capn_flow.proofs.unpack_run.unpack_stream.Goals as goal
 
 -- nothing has come
-heard_none : (held : Held) (a c : Option (List ℕ)) → held ≡ fresh → Heard (FromStart held) a a c c 0
+heard_none : (held : Held) (a c : Option (List ℕ)) → held ≡ fresh → Consumed (FromStart held) a a c c 0
 heard_none held a c is = record {
   bytes = [];
   text = [];

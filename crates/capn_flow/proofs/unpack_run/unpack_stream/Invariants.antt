@@ -1,6 +1,6 @@
 use Rattle.std.proofs.Common.{◌≡◌, ◌≤◌, ◌+◌, ◌-◌, false}
 use Rattle.capn_words.specs.Watched.{inner_of, has_failed}
-use Rattle.capn_flow.specs.Flow.{Heard, most}
+use Rattle.capn_flow.specs.Flow.{Consumed, most}
 use Rattle.capn_flow.proofs.Unpacked.{FromStart}
 use Rattle.capn_flow.proofs.unpack_run.unpack_stream.Given as goal
 
@@ -10,7 +10,7 @@ invariant-chunks g l = record {
   reader : has_failed l.reader ≡ false;
   writer : has_failed l.writer ≡ false;
   within : l.taken ≤ most;
-  heard : Heard (FromStart l.unpacker) (g.R.Read.remaining (inner_of l.fn.reader))
+  heard : Consumed (FromStart l.unpacker) (g.R.Read.remaining (inner_of l.fn.reader))
       (g.R.Read.remaining (inner_of l.reader))
       (g.W.Write.contents (inner_of l.fn.writer)) (g.W.Write.contents (inner_of l.writer)) l.taken;
 }

@@ -1,14 +1,14 @@
 use Rattle.std.proofs.Common.{inl, inr, ℕ, List, Result, Ok, Err, IfOk, IfErr, string_bytes, String}
-use Rattle.capn_tool.specs.Program.{Course, TellsText}
-use Rattle.capn_tool.specs.FaultText.{TellsLine, fault_line}
+use Rattle.capn_tool.specs.Program.{Course, WritesText}
+use Rattle.capn_tool.specs.FaultText.{WritesLine, fault_line}
 use Rattle.capn_tool.specs.declared.fault.ToolFault.TheVariants as faults
 use Rattle.capn_tool.proofs.entry.tell_mistake.Goals as goal
 
 -- a text was written, or Memory's line
 told_text : {A E : Type 0} (errors : Course) (said : Result (String A) E)
-    → IfOk said (λ text. TellsLine (string_bytes text) errors.before errors.after errors.failed)
-    → IfErr said (λ e. TellsLine (fault_line faults.Memory) errors.before errors.after errors.failed)
-    → TellsText errors
+    → IfOk said (λ text. WritesLine (string_bytes text) errors.before errors.after errors.failed)
+    → IfErr said (λ e. WritesLine (fault_line faults.Memory) errors.before errors.after errors.failed)
+    → WritesText errors
 told_text errors (Ok text) told memory = inl (string_bytes text, told)
 told_text errors (Err e) told memory = inr memory
 

@@ -4,9 +4,9 @@ use Rattle.std.proofs.KnownBytes.{Consumes-nil}
 use Rattle.capn_words.specs.Watched.{inner_of}
 use Rattle.capn_walk.specs.Limits.{Bounds}
 use Rattle.capn_stream.specs.StreamPieces.{Framing, IsUnfinished}
-use Rattle.capn_tool.specs.StreamRun.{EndsInput, Hears, Tells}
+use Rattle.capn_tool.specs.StreamRun.{EndsInput, Hears, Writes}
 use Rattle.capn_tool.specs.Outgoing.{sent}
-use Rattle.capn_tool.specs.declared.plan.Piece.{Piece}
+use Rattle.capn_tool.specs.declared.plan.MessageText.{MessageText}
 use Rattle.capn_tool.proofs.HeardMore.{tells_none}
 use Rattle.capn_tool.proofs.ReadMore.{has_broken, still_fine}
 use Rattle.capn_tool.proofs.HeardRun.{hears_more, runs_end, runs_long, runs_stopped, runs_unread}
@@ -14,13 +14,13 @@ use Rattle.capn_tool.proofs.HeardNext.{new_listening}
 use Rattle.capn_tool.proofs.message_stream.run_each.Goals as goal
 
 -- before the first read
-nothing_heard : (piece : Piece) (limits : Bounds) (a c : Option (List ℕ)) (rest : List ℕ) → rest ≡ []
+nothing_heard : (piece : MessageText) (limits : Bounds) (a c : Option (List ℕ)) (rest : List ℕ) → rest ≡ []
     → Hears piece limits a a 0 rest c c
 nothing_heard piece limits a c rest is = (
   [],
   Consumes-nil a,
   refl,
-  subst (λ (l : List ℕ). Tells piece limits [] l (sent c) (sent c)) (sym is) (tells_none piece limits [] (sent c)),
+  subst (λ (l : List ℕ). Writes piece limits [] l (sent c) (sent c)) (sym is) (tells_none piece limits [] (sent c)),
 )
 
 pub returns-in-Err : goal.returns-in-Err
@@ -42,8 +42,8 @@ returns-in-Ok-eq0 g c =
     c.in-Ok-eq0.field-0-test
     c.in-Ok-eq0.ensures.bytes (omega arith) ends
 
-pub returns-in_err-serve_piece-in-Ok : goal.returns-in_err-serve_piece-in-Ok
-returns-in_err-serve_piece-in-Ok g c =
+pub returns-in_err-serve_chunk-in-Ok : goal.returns-in_err-serve_chunk-in-Ok
+returns-in_err-serve_chunk-in-Ok g c =
     let i = c.pieces.invariant in
     let p = err_from_is_err_and c.from_residual.result c.from_residual.ensures.1 in
     let bound = c.in-Ok.ensures.bound in
@@ -52,19 +52,19 @@ returns-in_err-serve_piece-in-Ok g c =
     (runs_stopped c.args.service.now.piece c.args.service.now.limits _ _ _ _ _ _ c.pieces.taken c.pieces.framer.rest
     c.read.new.buf
     (drop c.min-room.result c.pieces.buffer) c.min-within.result c.in-Ok.count _ _
-    c.in_err-serve_piece-in-Ok.field-0.0
+    c.in_err-serve_chunk-in-Ok.field-0.0
     (still_fine _ _ i.reader c.in-Ok.ensures.failed) i.within c.min-within.ensures (omega arith) i.heard
     c.in-Ok.ensures.bytes.0 bound.0
-    c.in_err-serve_piece-in-Ok.ensures)
+    c.in_err-serve_chunk-in-Ok.ensures)
 
 pub returns-then-within-count : goal.returns-then-within-count
 returns-then-within-count g c =
     let i = c.pieces.invariant in
     let bound = c.in-Ok.ensures.bound in
     let room = length-take c.min-room.result c.pieces.buffer in
-    let served = c.in_ok-serve_piece-in-Ok.ensures in
+    let served = c.in_ok-serve_chunk-in-Ok.ensures in
     runs_long c.args.service.now.piece c.args.service.now.limits _ _ _ _ _ _ c.pieces.taken c.pieces.framer.rest
-    c.serve_piece.new.framer.rest
+    c.serve_chunk.new.framer.rest
     c.read.new.buf (drop c.min-room.result c.pieces.buffer) c.min-within.result c.in-Ok.count _ _
     (still_fine _ _ i.reader c.in-Ok.ensures.failed) served.2 (omega arith) c.if-within-count.true (omega arith) i.heard
     c.in-Ok.ensures.bytes.0 bound.0 served.0 served.1.part
@@ -73,7 +73,7 @@ pub pieces-preserved : goal.pieces-preserved
 pieces-preserved g c =
     let i = c.pieces.invariant in
     let bound = c.in-Ok.ensures.bound in
-    let served = c.in_ok-serve_piece-in-Ok.ensures in
+    let served = c.in_ok-serve_chunk-in-Ok.ensures in
     record {
       reader = still_fine _ _ i.reader c.in-Ok.ensures.failed;
       writer = served.2;
@@ -81,15 +81,15 @@ pieces-preserved g c =
       within = omega arith;
       heard = hears_more c.args.service.now.piece c.args.service.now.limits _ _ _ _ _ _ c.pieces.taken
           c.pieces.framer.rest
-          c.serve_piece.new.framer.rest c.read.new.buf (drop c.min-room.result c.pieces.buffer) c.min-within.result
+          c.serve_chunk.new.framer.rest c.read.new.buf (drop c.min-room.result c.pieces.buffer) c.min-within.result
           c.in-Ok.count (omega arith) i.heard c.in-Ok.ensures.bytes.0 bound.0 served.0;
     }
 
-pub serve_piece-requires-clause-fine : goal.serve_piece-requires-clause-fine
-serve_piece-requires-clause-fine g c = c.pieces.invariant.writer
+pub serve_chunk-requires-clause-fine : goal.serve_chunk-requires-clause-fine
+serve_chunk-requires-clause-fine g c = c.pieces.invariant.writer
 
-pub serve_piece-requires-clause-listening : goal.serve_piece-requires-clause-listening
-serve_piece-requires-clause-listening g c = c.pieces.invariant.listening
+pub serve_chunk-requires-clause-listening : goal.serve_chunk-requires-clause-listening
+serve_chunk-requires-clause-listening g c = c.pieces.invariant.listening
 
 pub pieces-init : goal.pieces-init
 pieces-init g c = record {

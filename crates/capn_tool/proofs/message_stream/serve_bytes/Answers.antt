@@ -5,25 +5,25 @@ use Rattle.std.proofs.Math.Seq.{take_all}
 use Rattle.capn_words.specs.Watched.{inner_of, has_failed}
 use Rattle.capn_walk.specs.Limits.{Bounds}
 use Rattle.capn_stream.specs.StreamPieces.{Framing}
-use Rattle.capn_tool.specs.StreamRun.{IsListening, Serves, Tells}
+use Rattle.capn_tool.specs.StreamRun.{IsListening, Serves, Writes}
 use Rattle.capn_tool.specs.Outgoing.{Outgoing, outgoing}
-use Rattle.capn_tool.specs.declared.plan.Piece.{Piece}
+use Rattle.capn_tool.specs.declared.plan.MessageText.{MessageText}
 use Rattle.capn_tool.proofs.HeardMore.{tells_none}
 use Rattle.std.proofs.lemmas.Result.{err_from_is_err_and}
 use Rattle.capn_tool.proofs.HeardNext.{served_more, served_stop}
 use Rattle.capn_tool.proofs.message_stream.serve_bytes.Goals as goal
 
-served_none : (piece : Piece) (limits : Bounds) (rest : List ℕ) (a : Outgoing)
-    → Tells piece limits (rest ++ []) rest a a
+served_none : (piece : MessageText) (limits : Bounds) (rest : List ℕ) (a : Outgoing)
+    → Writes piece limits (rest ++ []) rest a a
 served_none piece limits rest a =
-    subst (λ (p : List ℕ). Tells piece limits p rest a a) (sym (append-nil rest)) (tells_none piece limits rest a)
+    subst (λ (p : List ℕ). Writes piece limits p rest a a) (sym (append-nil rest)) (tells_none piece limits rest a)
 
 -- the loop has come to the end of the bytes
-served_all : (piece : Piece) (limits : Bounds) (before after : Framing) (bytes : List ℕ) (at : ℕ) (a b : Outgoing)
-    (failed : Bool) → length bytes ≤ at → Tells piece limits (before.rest ++ take at bytes) after.rest a b
+served_all : (piece : MessageText) (limits : Bounds) (before after : Framing) (bytes : List ℕ) (at : ℕ) (a b : Outgoing)
+    (failed : Bool) → length bytes ≤ at → Writes piece limits (before.rest ++ take at bytes) after.rest a b
     → IsListening after limits → failed ≡ false → Serves piece limits before bytes a b failed (Ok tt) after
 served_all piece limits before after bytes at a b failed end told listening fine = (
-  subst (λ (p : List ℕ). Tells piece limits (before.rest ++ p) after.rest a b) (take_all at bytes end) told,
+  subst (λ (p : List ℕ). Writes piece limits (before.rest ++ p) after.rest a b) (take_all at bytes end) told,
   listening,
   fine,
 )

@@ -3,15 +3,15 @@ use Rattle.std.proofs.lemmas.Result.{err_from_is_err_and}
 use Rattle.capn_tool.proofs.HeardNext.{none_follows, nothing_follows, whole_memory, whole_more, whole_moves, whole_stop}
 use Rattle.capn_tool.proofs.message_stream.serve_whole.Goals as goal
 
-pub returns-in_err-add_piece-in-Ok : goal.returns-in_err-add_piece-in-Ok
-returns-in_err-add_piece-in-Ok g c =
+pub returns-in_err-add_message_text-in-Ok : goal.returns-in_err-add_message_text-in-Ok
+returns-in_err-add_message_text-in-Ok g c =
     let p = err_from_is_err_and c.from_residual.result c.from_residual.ensures.1 in
     rw (p.1, p.2)
     (whole_stop c.args.service.now.piece c.args.service.now.limits c.args.bytes.now c.loop-at.at _ _
     c.loop-at.invariant.told _
     c.in-Ok.taken
     c.message_words.result c.message_words.ensures.value c.in-Ok.ensures.found _ _
-    c.in_err-add_piece-in-Ok.field-0.0 c.in_err-add_piece-in-Ok.ensures)
+    c.in_err-add_message_text-in-Ok.field-0.0 c.in_err-add_message_text-in-Ok.ensures)
 
 pub loop-at-smaller : goal.loop-at-smaller
 loop-at-smaller g c =
@@ -22,7 +22,7 @@ loop-at-smaller g c =
 
 pub loop-at-preserved : goal.loop-at-preserved
 loop-at-preserved g c =
-    let next = c.in_ok-add_piece-in-Ok.ensures in
+    let next = c.in_ok-add_message_text-in-Ok.ensures in
     let found = c.in-Ok.ensures.found in
     let i = c.loop-at.invariant in
     let rest = length-take (length c.args.bytes.now - c.loop-at.at) (drop c.loop-at.at c.args.bytes.now) in

@@ -3,8 +3,8 @@ use Rattle.std.proofs.Common.{refl, ap, sym, subst, ◌∙◌, arith}
 use Rattle.std.proofs.lemmas.Bool.Decides.{nat_tests}
 use Rattle.std.specs.Bool.{◌==◌}
 use Rattle.capn_walk.specs.Limits.{Bounds}
-use Rattle.capn_tool.specs.MessageText.{IsPiece, IsStopped, PutsPiece}
-use Rattle.capn_tool.specs.declared.plan.Piece.TheVariants as kinds
+use Rattle.capn_tool.specs.MessageText.{IsMessageText, IsStopped, PutsMessageText}
+use Rattle.capn_tool.specs.declared.plan.MessageText.TheVariants as kinds
 use Rattle.capn_tool.specs.declared.fault.ToolFault.{ToolFault}
 use Rattle.capn_tool.specs.declared.fault.ToolFault.TheVariants as faults
 use Rattle.capn_tool.proofs.message_text.put_text.Goals as goal
@@ -12,22 +12,22 @@ use Rattle.capn_tool.proofs.message_text.put_text.Goals as goal
 -- the text was not found
 not_found : (message : List (List ℕ)) (limits : Bounds) (old : List ℕ) (fault : ToolFault)
     (r : Result (Unit {0}) ToolFault) → (fault ≡ faults.Memory) ⊎ IsStopped message limits fault
-    → IsErrAnd r (λ e. e ≡ fault) → PutsPiece kinds.Text message limits old old r
+    → IsErrAnd r (λ e. e ≡ fault) → PutsMessageText kinds.Text message limits old old r
 not_found message limits old fault (Ok u) why is = absurd is
 not_found message limits old fault (Err e) why is =
     (subst (λ (x : ToolFault). (x ≡ faults.Memory) ⊎ IsStopped message limits x) (sym is) why, refl)
 
 -- its bytes were appended
 appended : (message : List (List ℕ)) (limits : Bounds) (old new text bytes : List ℕ)
-    → IsPiece kinds.Text message limits text → bytes ≡ text → new ≡ old ++ bytes
-    → PutsPiece kinds.Text message limits old new (Ok tt)
+    → IsMessageText kinds.Text message limits text → bytes ≡ text → new ≡ old ++ bytes
+    → PutsMessageText kinds.Text message limits old new (Ok tt)
 appended message limits old new text bytes piece are is =
     (text, piece, is ∙ ap (λ (l : List ℕ). old ++ l) are)
 
 -- they were handed over, since nothing was there
 handed_over : (message : List (List ℕ)) (limits : Bounds) (old new text : List ℕ) (len : ℕ)
-    → IsPiece kinds.Text message limits text → new ≡ text → len ≡ length old → true ≡ (len == 0)
-    → PutsPiece kinds.Text message limits old new (Ok tt)
+    → IsMessageText kinds.Text message limits text → new ≡ text → len ≡ length old → true ≡ (len == 0)
+    → PutsMessageText kinds.Text message limits old new (Ok tt)
 handed_over message limits [] new text len piece is size none = (text, piece, is)
 handed_over message limits (b ∷ old) new text len piece is size none =
     absurd (let zero : len ≡ 0 = grind (arith, nat_tests) in omega (arith, zero, size))

@@ -5,7 +5,7 @@ use Rattle.capn_walk.specs.Limits.{Bounds}
 use Rattle.capn_pack.specs.PackedPieces.{Held}
 use Rattle.capn_stream.specs.StreamPieces.{Framing, IsUnfinished}
 use Rattle.capn_tool.specs.inner.PackedRun.{EndsPacked, HearsPacked, IsUnpacking}
-use Rattle.capn_tool.specs.declared.plan.Piece.{Piece}
+use Rattle.capn_tool.specs.declared.plan.MessageText.{MessageText}
 use Rattle.capn_tool.proofs.PackedRun.{packed_begin, packed_end, packed_hears, packed_long, packed_stopped}
 use Rattle.capn_tool.proofs.PackedRun.{packed_unread}
 use Rattle.capn_tool.proofs.HeardNext.{new_listening}
@@ -13,7 +13,7 @@ use Rattle.capn_tool.proofs.ReadMore.{has_broken, still_fine}
 use Rattle.capn_tool.proofs.packed_stream.run_packed.Goals as goal
 
 -- an unpacker that has been heard so holds no whole group
-unpacking : (piece : Piece) (limits : Bounds) (a b : Option (List ℕ)) (taken : ℕ) (held : Held) (rest : List ℕ)
+unpacking : (piece : MessageText) (limits : Bounds) (a b : Option (List ℕ)) (taken : ℕ) (held : Held) (rest : List ℕ)
     (c d : Option (List ℕ)) → HearsPacked piece limits a b taken held rest c d → IsUnpacking held
 unpacking piece limits a b taken held rest c d (bytes, read, count, told) =
     record { held = told.4; group = told.2.open_rest; offset = omega (arith, told.3) }

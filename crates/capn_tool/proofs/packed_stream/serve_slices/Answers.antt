@@ -5,9 +5,9 @@ use Rattle.capn_walk.specs.Limits.{Bounds}
 use Rattle.capn_pack.specs.PackedPieces.{Held}
 use Rattle.capn_stream.specs.StreamPieces.{Framing}
 use Rattle.capn_tool.specs.StreamRun.{IsListening}
-use Rattle.capn_tool.specs.inner.PackedRun.{ServesPacked, TellsPacked}
+use Rattle.capn_tool.specs.inner.PackedRun.{ServesPacked, WritesPacked}
 use Rattle.capn_tool.specs.Outgoing.{Outgoing, outgoing}
-use Rattle.capn_tool.specs.declared.plan.Piece.{Piece}
+use Rattle.capn_tool.specs.declared.plan.MessageText.{MessageText}
 use Rattle.capn_tool.specs.declared.fault.ToolFault.TheVariants as faults
 use Rattle.std.proofs.lemmas.Result.{err_from_is_err_and}
 use Rattle.capn_tool.proofs.PackedMore.{packed_memory, packed_none, slice_more, slice_stop, unpacked_stops}
@@ -15,12 +15,13 @@ use Rattle.capn_tool.proofs.PackedMore.{unpacked_tells}
 use Rattle.capn_tool.proofs.packed_stream.serve_slices.Goals as goal
 
 -- the loop has come to the end of the bytes
-packed_all : (piece : Piece) (limits : Bounds) (held : Held) (before : Framing) (bytes : List ℕ) (at : ℕ) (next : Held)
+packed_all : (piece : MessageText) (limits : Bounds) (held : Held) (before : Framing) (bytes : List ℕ) (at : ℕ)
+    (next : Held)
     (after : Framing) (a b : Outgoing) (failed : Bool) → length bytes ≤ at
-    → TellsPacked piece limits held before.rest (take at bytes) next after.rest a b → IsListening after limits
+    → WritesPacked piece limits held before.rest (take at bytes) next after.rest a b → IsListening after limits
     → failed ≡ false → ServesPacked piece limits held before bytes a b failed (Ok tt) next after
 packed_all piece limits held before bytes at next after a b failed end told listening fine = (
-  subst (λ (x : List ℕ). TellsPacked piece limits held before.rest x next after.rest a b) (take_all at bytes end) told,
+  subst (λ (x : List ℕ). WritesPacked piece limits held before.rest x next after.rest a b) (take_all at bytes end) told,
   listening,
   fine,
 )

@@ -2,7 +2,7 @@ use Rattle.std.proofs.Common.{◌≡◌, ◌≤◌, ◌-◌, length, take, false
 use Rattle.capn_words.specs.Watched.{inner_of, has_failed}
 use Rattle.capn_tool.specs.Outgoing.{outgoing}
 use Rattle.capn_tool.specs.StreamRun.{IsListening}
-use Rattle.capn_tool.specs.inner.PackedRun.{TellsPacked}
+use Rattle.capn_tool.specs.inner.PackedRun.{WritesPacked}
 use Rattle.capn_tool.proofs.packed_stream.serve_slices.Given as goal
 
 -- the pieces of the messages that the bytes so far made whole are added
@@ -12,7 +12,7 @@ invariant-loop-at g l = record {
   held : l.unpacker.failed ≡ false;
   listening : IsListening l.framer l.service.limits;
   within : l.at ≤ length l.bytes;
-  told : TellsPacked l.service.piece l.service.limits l.fn.unpacker l.fn.framer.rest (take l.at l.bytes) l.unpacker
+  told : WritesPacked l.service.piece l.service.limits l.fn.unpacker l.fn.framer.rest (take l.at l.bytes) l.unpacker
       l.framer.rest
       (outgoing (g.W.Write.contents (inner_of l.fn.writer)) l.fn.text.items)
       (outgoing (g.W.Write.contents (inner_of l.writer)) l.text.items);

@@ -40,8 +40,8 @@ returns-in-Ok-eq0 g c =
     (still_fine _ _ i.given.fine c.in-Ok-eq0.ensures.failed))
     (c.end_pending.ensures c.args.most i.seen i.pending)
 
-pub returns-in_err-take_piece-in-Ok : goal.returns-in_err-take_piece-in-Ok
-returns-in_err-take_piece-in-Ok g c =
+pub returns-in_err-take_chunk-in-Ok : goal.returns-in_err-take_chunk-in-Ok
+returns-in_err-take_chunk-in-Ok g c =
     let i = c.pieces.invariant in
     let bound = c.in-Ok.ensures.bound in
     let room = length-take c.min-room.result c.pieces.piece in
@@ -71,7 +71,7 @@ pieces-preserved g c =
     let tail = drop c.min-room.result c.pieces.piece in
     let room = length-take c.min-room.result c.pieces.piece in
     let piece = take-append-le c.in-Ok.count c.read.new.buf tail bound.0 in
-    let new = c.take_piece.new.pending in
+    let new = c.take_chunk.new.pending in
     record {
       seen = i.seen ++ take c.in-Ok.count c.read.new.buf;
       given = given_more _ _ _ _ _ i.seen c.read.new.buf c.in-Ok.count i.given c.in-Ok.ensures.bytes.0 bound.0
@@ -82,10 +82,10 @@ pieces-preserved g c =
         length-append i.seen (take c.in-Ok.count c.read.new.buf),
         length-take-le c.in-Ok.count c.read.new.buf bound.0,
       );
-      pending = subst (λ (xs : List ℕ). IsPending c.args.most (i.seen ++ xs) c.take_piece.new.words.items
+      pending = subst (λ (xs : List ℕ). IsPending c.args.most (i.seen ++ xs) c.take_chunk.new.words.items
           (take new.len new.text) new.at new.left new.is_long) piece
-          (c.in_ok-take_piece-in-Ok.ensures.pending c.args.most i.seen i.pending);
-      short = c.in_ok-take_piece-in-Ok.ensures.held;
+          (c.in_ok-take_chunk-in-Ok.ensures.pending c.args.most i.seen i.pending);
+      short = c.in_ok-take_chunk-in-Ok.ensures.held;
     }
 
 pub returns : goal.returns

@@ -44,9 +44,9 @@ index_found-returns-in-Err-price_within g t c =
           (x.ensures.found ∙ ap Err (ap (λ (s : Stopped). s.fault) (sym s.ensures) ∙ h)),
     )
 
-pub index_found-frame_below-below-requires-clause-inside :
-    goal.index_found-frame_below-below-requires-clause-inside
-index_found-frame_below-below-requires-clause-inside g t c =
+pub index_found-slots_below-below-requires-clause-inside :
+    goal.index_found-slots_below-below-requires-clause-inside
+index_found-slots_below-below-requires-clause-inside g t c =
     found-inside (g.S.Space.message c.args.space.now) c.args.at c.in-Ok.target c.requires.place (sym c.requires.found
     ∙ c.in-Ok.is)
 
@@ -55,11 +55,11 @@ index_found-returns-then-is_done g t c =
     let m = g.S.Space.message c.args.space.now in
     let e = sym c.requires.found ∙ c.in-Ok.is in
     let x = c.in-Ok-price_within in
-    let f = c.frame_below-below.ensures in
+    let f = c.slots_below-below.ensures in
     let p = step-pays m c.args.base c.args.at c.args.depth c.args.left c.in-Ok.target
     (ap (stepped c.args.base c.args.depth c.args.left) e ∙ x.ensures.found) in
     let z = done c.is_done.result _ c.is_done.ensures c.if-is_done.true in
-    let empty = sym f.places ∙ nothing-left c.frame_below-below.result f.lies.rows z in
+    let empty = sym f.places ∙ nothing-left c.slots_below-below.result f.lies.rows z in
     let v = p.is
     ∙ ap₂ (λ (n : ℕ) (ps : List Place). pays c.args.at n ∷ visits_of m c.args.base (c.args.depth - 1) ps)
     (sym x.ensures.price) empty in
@@ -78,15 +78,15 @@ index_found-returns-in-Ok-index_frame g t c =
     let m = g.S.Space.message c.args.space.now in
     let e = sym c.requires.found ∙ c.in-Ok.is in
     let x = c.in-Ok-price_within in
-    let f = c.frame_below-below.ensures in
+    let f = c.slots_below-below.ensures in
     let o = f.owed c.args.base in
     let n = x.ensures.price in
     let d = x.ensures.deep in
     let p = step-pays m c.args.base c.args.at c.args.depth c.args.left c.in-Ok.target
     (ap (stepped c.args.base c.args.depth c.args.left) e ∙ x.ensures.found) in
-    let below = c.frame_below-below.result in
-    let few : owed c.frame_below-below.result ≤ c.in-Ok-price_within.price = omega arith in
-    let some = not-done _ (owed c.frame_below-below.result) c.is_done.ensures c.if-is_done.false in
+    let below = c.slots_below-below.result in
+    let few : owed c.slots_below-below.result ≤ c.in-Ok-price_within.price = omega arith in
+    let some = not-done _ (owed c.slots_below-below.result) c.is_done.ensures c.if-is_done.false in
     let deep = d (omega arith) in
     let v = p.is
     ∙ ap₂ (λ (n : ℕ) (ps : List Place). pays c.args.at n ∷ visits_of m c.args.base (c.args.depth - 1) ps)
@@ -107,18 +107,18 @@ index_found-returns-in-Err-index_frame g t c =
     let m = g.S.Space.message c.args.space.now in
     let e = sym c.requires.found ∙ c.in-Ok.is in
     let x = c.in-Ok-price_within in
-    let f = c.frame_below-below.ensures in
+    let f = c.slots_below-below.ensures in
     let o = f.owed c.args.base in
     let n = x.ensures.price in
     let p = step-pays m c.args.base c.args.at c.args.depth c.args.left c.in-Ok.target
     (ap (stepped c.args.base c.args.depth c.args.left) e ∙ x.ensures.found) in
-    let few : owed c.frame_below-below.result ≤ c.in-Ok-price_within.price = omega arith in
+    let few : owed c.slots_below-below.result ≤ c.in-Ok-price_within.price = omega arith in
     let v = p.is
     ∙ ap₂ (λ (n : ℕ) (ps : List Place). pays c.args.at n ∷ visits_of m c.args.base (c.args.depth - 1) ps)
     (sym n) (sym f.places) in
     let r = c.in-Err-index_frame in
     rw (c.behind.ensures, v) (
-      object-refuses c.args.left x.price c.args.at _ (owed c.frame_below-below.result) x.ensures.within few r.stopped
+      object-refuses c.args.left x.price c.args.at _ (owed c.slots_below-below.result) x.ensures.within few r.stopped
           r.ensures.0,
       r.ensures.1,
     )

@@ -24,8 +24,8 @@ returns-in-Err g c =
       memory = never-memory m c.args.at c.in-Err.fault e;
     }
 
-pub frame_below-requires-clause-inside : goal.frame_below-requires-clause-inside
-frame_below-requires-clause-inside g c =
+pub slots_below-requires-clause-inside : goal.slots_below-requires-clause-inside
+slots_below-requires-clause-inside g c =
     found-inside (g.S.Space.message c.args.space.now) c.args.at c.in-Ok.target c.requires.place (sym c.requires.found
     ∙ c.in-Ok.is)
 
@@ -34,7 +34,7 @@ returns-in-Ok-price_within g c =
     let m = g.S.Space.message c.args.space.now in
     let t = sym c.requires.found ∙ c.in-Ok.is in
     let x = c.in-Ok-price_within.ensures in
-    let f = c.frame_below.ensures in
+    let f = c.slots_below.ensures in
     let o = f.owed c.args.base in
     let n = x.price in
     let d = x.deep in

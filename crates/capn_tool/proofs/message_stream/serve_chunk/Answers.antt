@@ -1,5 +1,5 @@
 use Rattle.capn_tool.proofs.HeardNext.{serves_piece}
-use Rattle.capn_tool.proofs.message_stream.serve_piece.Goals as goal
+use Rattle.capn_tool.proofs.message_stream.serve_chunk.Goals as goal
 
 pub returns : goal.returns
 returns g c =

@@ -2,7 +2,7 @@
 use Rattle.std.proofs.Common.{sym, ◌∙◌}
 use Rattle.capn_canon.specs.declared.form.Form.TheVariants as forms
 use Rattle.capn_c.proofs.OutOfMemory.{refused_memory}
-use Rattle.capn_c.proofs.is_canonical_call.judge.Goals as goal
+use Rattle.capn_c.proofs.is_canonical_call.test.Goals as goal
 
 pub returns-in-Err-clause-inline : goal.returns-in-Err-clause-inline
 returns-in-Err-clause-inline c low e =

@@ -1,7 +1,7 @@
 use Rattle.std.proofs.Common.{◌≡◌, arith}
 use Rattle.std.proofs.lemmas.Bool.Decides.{nat_tests}
 use Rattle.capn_walk.proofs.OwedSlots.{done-rows}
-use Rattle.capn_walk.proofs.slots_left.Frame.is_done.Goals as goal
+use Rattle.capn_walk.proofs.slots_left.SlotsLeft.is_done.Goals as goal
 
 pub returns-then-self-eq0 : goal.returns-then-self-eq0
 returns-then-self-eq0 c =

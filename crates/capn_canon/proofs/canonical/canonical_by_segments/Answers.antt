@@ -3,7 +3,7 @@ use Rattle.capn_words.specs.Message.{bytes_at}
 use Rattle.capn_walk.specs.Accepted.{root}
 use Rattle.capn_canon.specs.inner.Outcomes.{IsCanonicalised}
 use Rattle.capn_canon.proofs.OneBare.{one-bare, first-words}
-use Rattle.capn_canon.proofs.canonical.canonical_here.Goals as goal
+use Rattle.capn_canon.proofs.canonical.canonical_by_segments.Goals as goal
 
 pub returns-in-Ok : goal.returns-in-Ok
 returns-in-Ok g c =
@@ -13,5 +13,5 @@ returns-in-Ok g c =
     let l = c.segments.ensures.count in
     let e = one-bare m c.bytes.result.now c.in-Ok.bare c.segments.ensures.bounds (omega arith) (c.bytes.ensures
     ∙ ap (λ (j : ℕ). bytes_at m root (8 * j)) n) c.in-Ok.ensures.exact in
-    subst (λ (x : List (List ℕ)). IsCanonicalised x c.args.limits c.canonical_in.result (λ a. a.bytes.items)
-    (λ a. a.paid)) (sym e) c.canonical_in.ensures
+    subst (λ (x : List (List ℕ)). IsCanonicalised x c.args.limits c.canonical_of_inner.result (λ a. a.bytes.items)
+    (λ a. a.paid)) (sym e) c.canonical_of_inner.ensures

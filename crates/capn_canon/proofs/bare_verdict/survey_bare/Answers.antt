@@ -3,7 +3,7 @@ use Rattle.capn_words.specs.Message.{bytes, most_words}
 use Rattle.capn_canon.proofs.Headline.{denoted_fits, denoted_in_range}
 use Rattle.capn_canon.proofs.AtRoot.{root-ready}
 use Rattle.capn_canon.proofs.CanonicalWords.{bytes-words}
-use Rattle.capn_canon.proofs.bare_verdict.check.Goals as goal
+use Rattle.capn_canon.proofs.bare_verdict.survey_bare.Goals as goal
 
 pub are_canonical-is_canonical-requires-clause-ready : goal.are_canonical-is_canonical-requires-clause-ready
 are_canonical-is_canonical-requires-clause-ready g c =

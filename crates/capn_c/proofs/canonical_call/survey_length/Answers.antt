@@ -5,7 +5,7 @@ use Rattle.capn_canon.specs.Layout.{canon}
 use Rattle.capn_c.specs.declared.report.CapnReport.{CapnReport}
 use Rattle.capn_c.specs.StatusCodes.{code}
 use Rattle.capn_c.proofs.OutOfMemory.{unaccepted_memory}
-use Rattle.capn_c.proofs.canonical_call.measure.Goals as goal
+use Rattle.capn_c.proofs.canonical_call.survey_length.Goals as goal
 
 pub returns-in-None-clause-found : goal.returns-in-None-clause-found
 returns-in-None-clause-found c t =

@@ -1,7 +1,7 @@
 use Rattle.std.proofs.Common.{ℕ, List, take, drop, [], arith, inr, refl, ap, ◌∙◌}
 use Rattle.capn_pack.specs.declared.whole_groups.Next.TheVariants as nexts
 use Rattle.capn_tool.proofs.Unpending.{taken_end, taken_long, taken_piece}
-use Rattle.capn_tool.proofs.pending.take_piece.Goals as goal
+use Rattle.capn_tool.proofs.pending.take_chunk.Goals as goal
 
 pub returns-in-End-clause-pending : goal.returns-in-End-clause-pending
 returns-in-End-clause-pending g c most seen p =

@@ -2,7 +2,7 @@ use Rattle.std.proofs.Common.{sym, arith, subst, ℕ}
 use Rattle.capn_walk.specs.Accepted.{root}
 use Rattle.capn_canon.specs.inner.ReadyPlaces.{IsReady}
 use Rattle.capn_canon.proofs.AtRoot.{root-ready}
-use Rattle.capn_canon.proofs.canonical.canonical_in.Goals as goal
+use Rattle.capn_canon.proofs.canonical.canonical_of_inner.Goals as goal
 
 pub bytes_of-requires-clause-ready : goal.bytes_of-requires-clause-ready
 bytes_of-requires-clause-ready g c =

@@ -1,6 +1,6 @@
 use Rattle.std.proofs.Common.{◌+◌, sym}
 use Rattle.capn_walk.proofs.OwedSlots.{no-slots}
-use Rattle.capn_walk.proofs.slots_left.Frame.of_object.Goals as goal
+use Rattle.capn_walk.proofs.slots_left.SlotsLeft.of_object.Goals as goal
 
 pub returns-then-slots-eq0-clause-places : goal.returns-then-slots-eq0-clause-places
 returns-then-slots-eq0-clause-places c =

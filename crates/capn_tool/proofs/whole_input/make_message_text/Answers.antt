@@ -1,7 +1,7 @@
 use Rattle.std.proofs.lemmas.Result.{err_from_is_err_and}
 use Rattle.capn_tool.specs.declared.plan.Whole.TheVariants as wholes
 use Rattle.capn_tool.proofs.Makings.{made_bare, unmade_piece}
-use Rattle.capn_tool.proofs.whole_input.make_piece.Goals as goal
+use Rattle.capn_tool.proofs.whole_input.make_message_text.Goals as goal
 
 pub returns-in_err-bytes : goal.returns-in_err-bytes
 returns-in_err-bytes g c =
@@ -10,6 +10,6 @@ returns-in_err-bytes g c =
 
 pub returns : goal.returns
 returns g c =
-    made_bare _ _ _ (wholes.Bare c.args.piece c.args.limits) c.in_ok-bytes.bytes _ c.bare_piece.result
+    made_bare _ _ _ (wholes.Bare c.args.piece c.args.limits) c.in_ok-bytes.bytes _ c.bare_message_text.result
     c.in_ok-bytes.ensures c.deref.ensures.value
-    c.bare_piece.ensures
+    c.bare_message_text.ensures
