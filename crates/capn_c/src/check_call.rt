@@ -28,7 +28,7 @@ fn check(alloc: Global, form: Form, bytes: &[u8], limits: Limits, report: &mut C
     ensures listed { IsTrue (is_status result) }
     ensures refused { 8 ≤ result → (e : Refusals) × Reports result report.new e
         × IsUnacceptedIn form bytes.now limits e }
-    ensures wanted { result ≡ 8 → MayNeedMemory form bytes.now limits }
+    ensures memory { result ≡ 8 → MayNeedMemory form bytes.now limits }
     ensures bounded { IsBounded limits.budget report.new.paid report.new.visits }
 {
     match survey_bytes(alloc, form, bytes, limits) {
@@ -69,7 +69,7 @@ pub extern "C" fn capn_check(
     ensures refused { 5 ≤ result → (e : Refusals) × Reports result report.new e
         × IsUnacceptedIn (form_named form) bytes.now (bounds_of limits.now) e }
     // Memory is needed only for a depth above 64, for where two segments or more end, and for what a text packs.
-    ensures wanted { result ≡ 8 → MayNeedMemory (form_named form) bytes.now (bounds_of limits.now) }
+    ensures memory { result ≡ 8 → MayNeedMemory (form_named form) bytes.now (bounds_of limits.now) }
     // No walk pays beyond its budget.
     ensures bounded { IsBounded limits.now.budget report.new.paid report.new.visits }
 {

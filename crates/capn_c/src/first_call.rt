@@ -48,7 +48,7 @@ fn length_of(alloc: Global, bytes: &[u8], most: u32) -> Result<usize, FrameFault
     ensures only { (message : List (List ℕ)) (taken : ℕ) → StandsFirst bytes.now most message taken
         → MatchResult result (λ n. n ≡ taken) (λ e. e ≡ FrameFault.Memory) }
     ensures refused { IfErr result (λ e. IsFrameRefused bytes.now most e) }
-    ensures wanted { IsErrOf result FrameFault.Memory → HasTable bytes.now most }
+    ensures memory { IsErrOf result FrameFault.Memory → HasTable bytes.now most }
 {
     let (_, taken) = first(alloc, bytes, most)?;
     Ok(taken)
@@ -66,7 +66,7 @@ fn frame(alloc: Global, bytes: &[u8], most: u32, report: &mut CapnReport) -> u32
     ensures refused { 8 ≤ result → (e : Faults) × ReportsFrame bytes.now result report.new e
         × IsFrameRefused bytes.now most e }
     ensures needed { (result ≡ 48) ⊎ (result ≡ 51) → IsNeeded bytes.now most report.new.length }
-    ensures wanted { result ≡ 8 → HasTable bytes.now most }
+    ensures memory { result ≡ 8 → HasTable bytes.now most }
 {
     match length_of(alloc, bytes, most) {
         Ok(taken) => {
@@ -113,7 +113,7 @@ pub extern "C" fn capn_first(
     ensures needed { (result ≡ 48) ⊎ (result ≡ 51)
         → IsNeeded bytes.now limits.now.message_words report.new.length }
     // Memory is needed only if a whole frame of two segments or more stands first.
-    ensures wanted { result ≡ 8 → HasTable bytes.now limits.now.message_words }
+    ensures memory { result ≡ 8 → HasTable bytes.now limits.now.message_words }
 {
     *report = report_at(0);
     match limits_of(limits) {

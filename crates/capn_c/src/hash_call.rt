@@ -39,7 +39,7 @@ fn hash(
     ensures rest { result ≡ 0 → report.new ≡ answered 0 report.new.paid 0 }
     ensures listed { IsTrue (is_status result) }
     ensures refused { 8 ≤ result → (e : Refusals) × Reports result report.new e × IsRefused form bytes.now limits e }
-    ensures wanted { result ≡ 8 → MayNeedBytesIn form bytes.now limits }
+    ensures memory { result ≡ 8 → MayNeedBytesIn form bytes.now limits }
     ensures bounded { IsBounded limits.budget report.new.paid report.new.visits }
     ensures kept { result ≢ 0 → digest.new ≡ digest.old }
 {
@@ -86,7 +86,7 @@ pub extern "C" fn capn_hash(
     ensures refused { 5 ≤ result → (e : Refusals) × Reports result report.new e
         × IsRefused (form_named form) bytes.now (bounds_of limits.now) e }
     // Memory is needed only where `capn_check` may need it, and for canonical bytes.
-    ensures wanted { result ≡ 8 → MayNeedBytesIn (form_named form) bytes.now (bounds_of limits.now) }
+    ensures memory { result ≡ 8 → MayNeedBytesIn (form_named form) bytes.now (bounds_of limits.now) }
     // No walk pays beyond its budget.
     ensures bounded { IsBounded limits.now.budget report.new.paid report.new.visits }
     // Where nothing is answered, the buffer is as it was.

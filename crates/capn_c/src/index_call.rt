@@ -151,7 +151,7 @@ fn index_in(
     ensures refused { 8 ≤ result → (e : Refusals) × Reports result report.new e
         × IsUnacceptedIn form bytes.now limits e }
     ensures entries { result ≤ 1 → HasEntries form bytes.now limits report.new.visits }
-    ensures wanted { result ≡ 8 → MayNeedMemory form bytes.now limits
+    ensures memory { result ≡ 8 → MayNeedMemory form bytes.now limits
         ⊎ ((n : ℕ) × HasEntries form bytes.now limits n × (n ≤ length out.old)) }
     ensures bounded { IsBounded limits.budget report.new.paid report.new.visits }
     ensures kept { result ≢ 0 → out.new ≡ out.old }
@@ -212,7 +212,7 @@ pub extern "C" fn capn_index(
     ensures refused { 5 ≤ result → (e : Refusals) × Reports result report.new e
         × IsUnacceptedIn (form_named form) bytes.now (bounds_of limits.now) e }
     // Memory is needed only where `capn_check` may need it, and for an index that has room.
-    ensures wanted { result ≡ 8 → MayNeedMemory (form_named form) bytes.now (bounds_of limits.now)
+    ensures memory { result ≡ 8 → MayNeedMemory (form_named form) bytes.now (bounds_of limits.now)
         ⊎ ((n : ℕ) × HasEntries (form_named form) bytes.now (bounds_of limits.now) n × (n ≤ length out.old)) }
     // No walk pays beyond its budget.
     ensures bounded { IsBounded limits.now.budget report.new.paid report.new.visits }

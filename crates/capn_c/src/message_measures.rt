@@ -90,7 +90,7 @@ fn is_null<S: Space>(space: &S) -> bool
 fn is_accepted<S: Space>(alloc: Global, space: &S, limits: Limits) -> Option<bool>
     ensures yes { result ≡ Some true → IsAccepted (S.message space.now) limits }
     ensures no { result ≡ Some false → IsAccepted (S.message space.now) limits → ⊥ }
-    ensures wanted { result ≡ None → 64 < limits.depth }
+    ensures memory { result ≡ None → 64 < limits.depth }
 {
     match survey(alloc, space, limits) {
         Ok(_) => Some(true),
@@ -104,7 +104,7 @@ fn is_accepted<S: Space>(alloc: Global, space: &S, limits: Limits) -> Option<boo
 /// The least depth under which a message is accepted, or `None` where it is not, or memory was refused.
 fn depth_of<S: Space>(alloc: Global, space: &S, limits: Limits) -> Option<u32>
     ensures found { IfSome result (λ d. IsDepth (S.message space.now) limits d) }
-    ensures wanted { (v : Value) → IsValueOf (S.message space.now) limits v → result ≡ None → 64 < limits.depth }
+    ensures memory { (v : Value) → IsValueOf (S.message space.now) limits v → result ≡ None → 64 < limits.depth }
 {
     if is_null(space) {
         return Some(0);
@@ -122,7 +122,7 @@ fn depth_of<S: Space>(alloc: Global, space: &S, limits: Limits) -> Option<u32>
 /// Whether the bytes of a message of one segment are canonical, or `None` where memory was refused.
 fn is_canonical_bare(alloc: Global, space: &Bare<'_>, limits: Limits) -> Option<bool>
     ensures found { IfSome result (λ yes. IsTrue yes ↔ IsCanonicalMessage (space.now ∷ []) limits) }
-    ensures wanted { (v : Value) → IsValueOf (space.now ∷ []) limits v → result ≡ None → 64 < limits.depth }
+    ensures memory { (v : Value) → IsValueOf (space.now ∷ []) limits v → result ≡ None → 64 < limits.depth }
 {
     match survey_bare(alloc, space, limits) {
         Ok(checked) => Some(checked.is_canonical),
@@ -133,7 +133,7 @@ fn is_canonical_bare(alloc: Global, space: &Bare<'_>, limits: Limits) -> Option<
 /// Whether a message has one segment whose bytes are canonical, or `None` where memory was refused.
 fn is_canonical_in<S: Space>(alloc: Global, space: &S, limits: Limits) -> Option<bool>
     ensures found { IfSome result (λ yes. IsTrue yes ↔ IsCanonicalMessage (S.message space.now) limits) }
-    ensures wanted { (v : Value) → IsValueOf (S.message space.now) limits v → result ≡ None → 64 < limits.depth }
+    ensures memory { (v : Value) → IsValueOf (S.message space.now) limits v → result ≡ None → 64 < limits.depth }
 {
     if space.segments() > 1 {
         return Some(false);
@@ -148,7 +148,7 @@ fn is_canonical_in<S: Space>(alloc: Global, space: &S, limits: Limits) -> Option
 /// What a message comes to beside its price, or `None` where it is not accepted, or memory was refused.
 fn measure<S: Space>(alloc: Global, space: &S, limits: Limits) -> Option<Measured>
     ensures found { IfSome result (λ m. AreMeasures (S.message space.now) limits m) }
-    ensures wanted { (v : Value) → IsValueOf (S.message space.now) limits v → result ≡ None → 64 < limits.depth }
+    ensures memory { (v : Value) → IsValueOf (S.message space.now) limits v → result ≡ None → 64 < limits.depth }
 {
     let depth = depth_of(alloc, space, limits)?;
     let canonical = is_canonical_in(alloc, space, limits)?;
@@ -163,7 +163,7 @@ fn measure<S: Space>(alloc: Global, space: &S, limits: Limits) -> Option<Measure
 /// What the message of a stream comes to beside its price, or `None` if it is refused, or memory was.
 pub fn measure_frame(alloc: Global, bytes: &[u8], limits: Limits) -> Option<Measured>
     ensures found { IfSome result (λ m. MeasuresIn forms.Stream bytes.now limits m) }
-    ensures wanted { (v : Value) → Denotes forms.Stream bytes.now limits v → result ≡ None
+    ensures memory { (v : Value) → Denotes forms.Stream bytes.now limits v → result ≡ None
         → MayNeedMemory forms.Stream bytes.now limits }
 {
     match first(alloc, bytes, limits.message_words()) {
@@ -180,7 +180,7 @@ pub fn measure_frame(alloc: Global, bytes: &[u8], limits: Limits) -> Option<Meas
 /// What bare words come to beside their price, or `None` if they are refused, or memory was.
 pub fn measure_bare(alloc: Global, bytes: &[u8], limits: Limits) -> Option<Measured>
     ensures found { IfSome result (λ m. MeasuresIn forms.Bare bytes.now limits m) }
-    ensures wanted { (v : Value) → Denotes forms.Bare bytes.now limits v → result ≡ None
+    ensures memory { (v : Value) → Denotes forms.Bare bytes.now limits v → result ≡ None
         → MayNeedMemory forms.Bare bytes.now limits }
 {
     match Bare::new(bytes) {

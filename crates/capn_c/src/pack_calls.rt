@@ -39,7 +39,7 @@ pub extern "C" fn capn_pack(
     ensures whole { length bytes.now % 8 ≡ 0 → (result ≤ 1) ⊎ (result ≡ 8) }
     ensures not_whole { length bytes.now % 8 ≢ 0 → (result ≡ 16) × (report.new ≡ at_number (length bytes.now)) }
     // Memory is needed only if there are bytes.
-    ensures wanted { result ≡ 8 → 0 < length bytes.now }
+    ensures memory { result ≡ 8 → 0 < length bytes.now }
     // The report of an answer has its length alone; what no status speaks of is 0.
     ensures rest { result ≤ 1 → report.new ≡ answered report.new.length 0 0 }
     ensures blank { result ≡ 8 → report.new ≡ at_number 0 }
@@ -86,7 +86,7 @@ pub extern "C" fn capn_unpack(
     ensures refused { 2 ≤ result → (e : Faults) × ReportsPacked result report.new e
         × IsUnpackRefused bytes.now max_words e }
     // Memory is needed only if a whole group within the maximum stands first.
-    ensures wanted { result ≡ 8 → StartsWithin bytes.now max_words }
+    ensures memory { result ≡ 8 → StartsWithin bytes.now max_words }
     // The report of an answer has its length alone.
     ensures rest { result ≤ 1 → report.new ≡ answered report.new.length 0 0 }
     ensures kept { result ≢ 0 → out.new ≡ out.old }

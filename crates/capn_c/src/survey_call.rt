@@ -25,7 +25,7 @@ use std::alloc::Global;
 fn measure_in(alloc: Global, form: Form, bytes: &[u8], limits: Limits) -> Option<Measured>
     requires { (form ≡ forms.Stream) ⊎ (form ≡ forms.Bare) }
     ensures found { IfSome result (λ m. MeasuresIn form bytes.now limits m) }
-    ensures wanted { (v : Value) → Denotes form bytes.now limits v → result ≡ None
+    ensures memory { (v : Value) → Denotes form bytes.now limits v → result ≡ None
         → MayNeedMemory form bytes.now limits }
 {
     match form {
@@ -52,7 +52,7 @@ fn survey_in(
     ensures listed { IsTrue (is_status result) }
     ensures refused { 8 ≤ result → (e : Refusals) × Reports result report.new e
         × IsUnacceptedIn form bytes.now limits e }
-    ensures wanted { result ≡ 8 → MayNeedMemory form bytes.now limits }
+    ensures memory { result ≡ 8 → MayNeedMemory form bytes.now limits }
     ensures bounded { IsBounded limits.budget report.new.paid report.new.visits }
     ensures kept { result ≢ 0 → figures.new ≡ figures.old }
 {
@@ -101,7 +101,7 @@ pub extern "C" fn capn_survey(
     ensures refused { 5 ≤ result → (e : Refusals) × Reports result report.new e
         × IsUnacceptedIn (form_named form) bytes.now (bounds_of limits.now) e }
     // Memory is needed only for a depth above 64, and for where two segments or more end.
-    ensures wanted { result ≡ 8 → MayNeedMemory (form_named form) bytes.now (bounds_of limits.now) }
+    ensures memory { result ≡ 8 → MayNeedMemory (form_named form) bytes.now (bounds_of limits.now) }
     // No walk pays beyond its budget.
     ensures bounded { IsBounded limits.now.budget report.new.paid report.new.visits }
     // If the call has no answer, the figures are as they were.

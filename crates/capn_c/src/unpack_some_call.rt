@@ -63,7 +63,7 @@ pub extern "C" fn capn_unpack_some(
     // What is in the buffer, and how far it came.
     ensures some { result ≢ 8 → UnpacksInto bytes.now result report.new out.old out.new }
     // Memory is needed only if a whole group that has room stands first.
-    ensures wanted { result ≡ 8 → StartsWithin bytes.now (words_in (length out.old)) }
+    ensures memory { result ≡ 8 → StartsWithin bytes.now (words_in (length out.old)) }
     ensures listed { IsTrue (is_status result) }
     // Without memory nothing is reported, and the buffer is as it was.
     ensures blank { result ≡ 8 → report.new ≡ at_number 0 }

@@ -63,7 +63,7 @@ pub fn survey_bare<A: Allocator + Copy>(
     ensures refused { IfErr result (λ s. (s.fault ≡ faults.Memory)
         ⊎ IsStopped (space.now ∷ []) limits s.fault s.place s.paid s.visits) }
     // No growth is needed for a depth of at most 64.
-    ensures inline { limits.depth ≤ 64 → IfErr result (λ s. s.fault ≢ faults.Memory) }
+    ensures no_memory { limits.depth ≤ 64 → IfErr result (λ s. s.fault ≢ faults.Memory) }
     // No walk pays beyond its budget.
     ensures bounded { MatchResult result (λ c. IsBounded limits.budget c.paid c.visits)
         (λ s. IsBounded limits.budget s.paid s.visits) }
@@ -99,7 +99,7 @@ pub fn is_canonical<A: Allocator + Copy>(
     ensures refused { IfErr result (λ e. IsRefused forms.Bare bytes.now limits e) }
     ensures bounded { IfErr result (λ e. IsPaidWithin limits.budget e) }
     // No memory is needed for a depth of at most 64.
-    ensures inline { limits.depth ≤ 64 → IfErr result (λ e. e ≢ refusals.Memory) }
+    ensures no_memory { limits.depth ≤ 64 → IfErr result (λ e. e ≢ refusals.Memory) }
 {
     match Bare::new(bytes) {
         Ok(space) => match survey_bare(alloc, &space, limits) {

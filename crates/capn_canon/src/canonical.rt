@@ -122,7 +122,7 @@ pub fn canonical_of<A: Allocator + Copy, S: Space>(
     // What each refusal means.
     ensures refused { IfErr result (λ e. IsRefusedMessage (S.message space.now) limits e) }
     // Memory is needed only for a depth above 64 and for canonical bytes.
-    ensures wanted { IsErrOf result refusals.Memory → MayNeedBytes (S.message space.now) limits }
+    ensures memory { IsErrOf result refusals.Memory → MayNeedBytes (S.message space.now) limits }
     // No walk pays beyond its budget.
     ensures bounded { MatchResult result (λ c. c.paid ≤ limits.budget) (λ e. IsPaidWithin limits.budget e) }
     ensures short { IfOk result (λ c. length c.bytes.items ≤ 8 * (c.paid + 1)) }

@@ -107,7 +107,7 @@ pub fn canonicalise<A: Allocator + Copy>(
     // What each refusal means.
     ensures refused { IfErr result (λ e. IsRefused form bytes.now limits e) }
     // Memory is needed only where a survey of the bytes may need it, and for canonical bytes.
-    ensures wanted { IsErrOf result refusals.Memory → MayNeedBytesIn form bytes.now limits }
+    ensures memory { IsErrOf result refusals.Memory → MayNeedBytesIn form bytes.now limits }
     // No walk pays beyond its budget.
     ensures bounded { MatchResult result (λ c. c.paid ≤ limits.budget) (λ e. IsPaidWithin limits.budget e) }
     ensures short { IfOk result (λ c. length c.bytes.items ≤ 8 * (c.paid + 1)) }

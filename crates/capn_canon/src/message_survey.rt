@@ -30,7 +30,7 @@ pub fn survey<A: Allocator + Copy, S: Space>(
     // What each refusal means.
     ensures refused { IfErr result (λ e. IsUnaccepted (S.message space.now) limits e) }
     // Memory is needed only for a depth above 64.
-    ensures inline { limits.depth ≤ 64 → IfErr result (λ e. e ≢ refusals.Memory) }
+    ensures no_memory { limits.depth ≤ 64 → IfErr result (λ e. e ≢ refusals.Memory) }
     // No walk pays beyond its budget.
     ensures bounded { MatchResult result (λ s. IsBounded limits.budget s.paid s.visits)
         (λ e. IsPaidWithin limits.budget e) }

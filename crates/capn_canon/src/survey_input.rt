@@ -101,7 +101,7 @@ pub fn survey_bytes<A: Allocator + Copy>(
     // What each refusal means.
     ensures refused { IfErr result (λ e. IsUnacceptedIn form bytes.now limits e) }
     // Memory is needed only for a depth above 64, for where two segments or more end, and for what a text packs.
-    ensures wanted { IsErrOf result refusals.Memory → MayNeedMemory form bytes.now limits }
+    ensures memory { IsErrOf result refusals.Memory → MayNeedMemory form bytes.now limits }
     // No walk pays beyond its budget.
     ensures bounded { MatchResult result (λ s. IsBounded limits.budget s.paid s.visits)
         (λ e. IsPaidWithin limits.budget e) }

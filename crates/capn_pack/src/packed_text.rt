@@ -16,7 +16,7 @@ const BLOCK: usize = 4096 + LANES;
 fn pack_words<A: Allocator + Copy>(alloc: A, bytes: &[u8]) -> Result<Vec<u8, A>, AllocError>
     requires { length bytes.now % 8 ≡ 0 }
     ensures chosen { IfOk result (λ v. Chosen v.items bytes.now) }
-    ensures wanted { OnErr result (0 < length bytes.now) }
+    ensures memory { OnErr result (0 < length bytes.now) }
 {
     let mut out = Vec::new(alloc);
     let mut at = 0;
@@ -49,7 +49,7 @@ pub fn pack<A: Allocator + Copy>(alloc: A, bytes: &[u8]) -> Result<Vec<u8, A>, P
     ensures unique { (a b vs ws : List ℕ) → Chosen a vs → Chosen b ws
         → ((a ≡ b) ↔ (vs ≡ ws)) }
     // Memory is needed only if there are bytes.
-    ensures wanted { IsErrOf result PackFault.Memory → 0 < length bytes.now }
+    ensures memory { IsErrOf result PackFault.Memory → 0 < length bytes.now }
     ensures whole { length bytes.now % 8 ≡ 0 → OnErr result (result ≡ Err PackFault.Memory) }
     ensures not_whole { length bytes.now % 8 ≢ 0 → result ≡ Err (PackFault.NotWhole (length bytes.now)) }
 {

@@ -21,7 +21,7 @@ fn take_groups<A: Allocator>(
     ensures ok { IfOk result (λ n. Splits bytes.now (drop n bytes.now) out.old.items out.new.items n) }
     ensures short { IfOk result (λ n. length bytes.now < n + GROUP) }
     ensures err { OnErr result (Begins bytes.now out.old.items out.new.items) }
-    ensures wanted { OnErr result (NoGroupFirst bytes.now → ⊥) }
+    ensures memory { OnErr result (NoGroupFirst bytes.now → ⊥) }
 {
     let mut at = 0;
     while at < bytes.len() {
@@ -74,7 +74,7 @@ fn join_first<A: Allocator>(
     ensures front { take len held.new ≡ take len held.old }
     ensures joined { IfOk result (λ j. Joins (take len held.old) piece.now held.new out.old.items out.new.items j) }
     ensures err { OnErr result (out.new.items ≡ out.old.items) }
-    ensures wanted { OnErr result (NoGroupFirst (take len held.old ++ piece.now) → ⊥) }
+    ensures memory { OnErr result (NoGroupFirst (take len held.old ++ piece.now) → ⊥) }
 {
     let more = piece.len().min(GROUP - 1);
     let front = &piece[..more];

@@ -105,7 +105,7 @@ pub(crate) fn take_block<A: Allocator>(
     ensures row { IfOk result (λ t. TakesRow rest.now t.bytes out.old.items out.new.items) }
     ensures counted { IfOk result (λ t. length out.new.items ≡ length out.old.items + 8 * t.words) }
     ensures fits { IfOk result (λ t. t.words ≤ room) }
-    ensures wanted { OnErr result (StartsWithin rest.now room) }
+    ensures memory { OnErr result (StartsWithin rest.now room) }
     ensures err { OnErr result (out.new.items ≡ out.old.items) }
 {
     let limit = (8 * room).min(block.len() - SLACK);

@@ -21,7 +21,7 @@ fn unpack_groups<A: Allocator + Copy>(
     ensures found { IfOk result (λ v. Packs bytes.now v.items) }
     ensures within { IfOk result (λ v. length v.items ≤ 8 * max_words) }
     ensures refused { IfErr result (λ e. IsUnpackRefused bytes.now max_words e) }
-    ensures wanted { IsErrOf result UnpackFault.Memory → StartsWithin bytes.now max_words }
+    ensures memory { IsErrOf result UnpackFault.Memory → StartsWithin bytes.now max_words }
 {
     let mut out = Vec::new(alloc);
     let mut room = max_words as usize;
@@ -71,7 +71,7 @@ pub fn unpack<A: Allocator + Copy>(
     // What each refusal means, and where.
     ensures refused { IfErr result (λ e. IsUnpackRefused bytes.now max_words e) }
     // Memory is needed only if a whole group within the maximum stands first.
-    ensures wanted { IsErrOf result UnpackFault.Memory → StartsWithin bytes.now max_words }
+    ensures memory { IsErrOf result UnpackFault.Memory → StartsWithin bytes.now max_words }
 {
     match unpack_groups(alloc, bytes, max_words) {
         Ok(words) => Ok(words),

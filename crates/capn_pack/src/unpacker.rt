@@ -69,11 +69,11 @@ impl Unpacker {
         // What was held and the piece are whole groups, whose words were appended, and what is held now.
         ensures fed { OnOk result (Feeds self.old piece.now out.old.items out.new.items self.new) }
         // Without memory a beginning of the words was appended, and the text can't be continued.
-        ensures memory { IsErrOf result UnpackFault.Memory
+        ensures begun { IsErrOf result UnpackFault.Memory
             → Begins (self.old.rest ++ piece.now) out.old.items out.new.items
             × (self.new.failed ≡ true) }
         // Memory is needed only if a group became whole.
-        ensures wanted { IsErrOf result UnpackFault.Memory → NoGroupFirst (self.old.rest ++ piece.now) → ⊥ }
+        ensures memory { IsErrOf result UnpackFault.Memory → NoGroupFirst (self.old.rest ++ piece.now) → ⊥ }
         // After a refusal nothing changes any more.
         ensures failed { self.old.failed ≡ true → (result ≡ Err UnpackFault.Failed)
             × (out.new.items ≡ out.old.items) × (self.new ≡ self.old) }

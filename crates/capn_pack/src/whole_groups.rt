@@ -65,9 +65,9 @@ pub fn unpack_some<A: Allocator>(
     ensures some { IfOk result (λ p. UnpacksSome bytes.now max_words out.old.items out.new.items p.bytes p.words
         p.next) }
     // Without memory a beginning of the words within the maximum was appended.
-    ensures memory { OnErr result (AppendsSome bytes.now max_words out.old.items out.new.items) }
+    ensures begun { OnErr result (AppendsSome bytes.now max_words out.old.items out.new.items) }
     // Memory is asked for only where a whole group within the maximum stands first.
-    ensures wanted { OnErr result (StartsWithin bytes.now max_words) }
+    ensures memory { OnErr result (StartsWithin bytes.now max_words) }
 {
     let mut block = [0; BLOCK];
     let mut room = max_words as usize;

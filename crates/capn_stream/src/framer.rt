@@ -63,7 +63,7 @@ impl<A: Allocator + Copy> Framer<A> {
     pub fn feed(&mut self, piece: &[u8]) -> Result<usize, FrameFault>
         ensures gives { FeedGives self.old piece.now result self.new }
         // Memory is needed only if bytes came that are kept: the piece has some, and no message waits.
-        ensures wanted { IsErrOf result FrameFault.Memory
+        ensures memory { IsErrOf result FrameFault.Memory
             → (0 < length piece.now) × IsUnfinished self.old.rest self.old.most }
     {
         if self.failed {

@@ -101,7 +101,7 @@ pub fn read_message<R: Read, A: Allocator + Copy>(
         (has_failed reader.new)
         max_words result }
     // Memory is needed only if the reader has a byte to give.
-    ensures wanted { IfSome (R.remaining (inner_of reader.old))
+    ensures memory { IfSome (R.remaining (inner_of reader.old))
         (λ input. IsErrOf result ReadFault.Memory → 0 < length input) }
 {
     receive(alloc, reader, max_words)

@@ -55,7 +55,7 @@ const FIRST_ROOM: usize = 64;
 fn make_room<A: Allocator>(bytes: &mut Vec<u8, A>, count: usize) -> Result<(), AllocError>
     ensures same { bytes.new.items ≡ bytes.old.items }
     ensures kept { 0 < length bytes.old.items → vec_capacity bytes.new ≡ vec_capacity bytes.old }
-    ensures wanted { OnErr result (0 < count) }
+    ensures memory { OnErr result (0 < count) }
 {
     if bytes.is_empty() && count > 0 {
         bytes.reserve(FIRST_ROOM)?;
@@ -73,7 +73,7 @@ fn fill_to<A: Allocator>(
     requires within { length bytes.old.items ≤ end }
     requires below { AreBytes bytes.old.items }
     ensures extends { IfOk result (λ n. Extends bytes.old.items piece.now end n bytes.new.items) }
-    ensures wanted { OnErr result ((0 < length piece.now) × (length bytes.old.items < end)) }
+    ensures memory { OnErr result ((0 < length piece.now) × (length bytes.old.items < end)) }
 {
     let count = (end - bytes.len()).min(piece.len());
     make_room(bytes, count)?;
@@ -144,7 +144,7 @@ pub(crate) fn fill<A: Allocator + Copy>(
     ensures filled { IfOk result
         (λ n. Fills bytes.old.items piece.now most n bytes.new.items stage.new ends.new.items) }
     ensures refused { IfErr result (λ e. IsHeadRefused (bytes.old.items ++ piece.now) most e) }
-    ensures wanted { IsErrOf result FrameFault.Memory
+    ensures memory { IsErrOf result FrameFault.Memory
         → (0 < length piece.now) × (length bytes.old.items < spec.need stage.old) }
 {
     let mut at = 0;

@@ -49,7 +49,7 @@ pub(crate) fn ends_of<A: Allocator>(
     requires room { sum (entries count sizes.now) < 2 ^ 32 }
     ensures ends { IfOk result (λ v. v.items ≡ ends_from 0 (entries count sizes.now)) }
     ensures room { IfOk result (λ v. vec_capacity v ≡ count) }
-    ensures wanted { OnErr result (0 < count) }
+    ensures memory { OnErr result (0 < count) }
 {
     let mut ends = Vec::with_capacity(alloc, count)?;
     let mut end: u32 = 0;

@@ -42,7 +42,7 @@ impl<T, A: Allocator> Items<T, A> {
     /// none, nothing is.
     pub fn with_capacity(alloc: A, capacity: usize) -> Result<Items<T, A>, AllocError>
         ensures ok { IfOk result (λ it. it ≡ []) }
-        ensures wanted { OnErr result (0 < capacity) }
+        ensures memory { OnErr result (0 < capacity) }
     {
         let items = Vec::with_capacity(alloc, capacity)?;
         Ok(Items { items })

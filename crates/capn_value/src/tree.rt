@@ -125,7 +125,7 @@ pub fn trim<A: Allocator + Copy, B: Allocator>(alloc: A, tree: &Tree<B>) -> Resu
         → sizes.cost (sizes.base by) r ≤ sizes.cost (sizes.base by) tree.now) }
     ensures low { IfOk result (λ r. sizes.height r ≤ sizes.height tree.now) }
     // Null takes no memory.
-    ensures wanted { OnErr result (tree.now ≢ trees.nil) }
+    ensures memory { OnErr result (tree.now ≢ trees.nil) }
 {
     let value = trim_value(alloc, &tree.value)?;
     Ok(Tree { value })
@@ -137,7 +137,7 @@ pub fn trim<A: Allocator + Copy, B: Allocator>(alloc: A, tree: &Tree<B>) -> Resu
 pub fn copy<A: Allocator + Copy, B: Allocator>(alloc: A, tree: &Tree<B>) -> Result<Tree<A>, Memory>
     ensures exact { IfOk result (λ r. r ≡ tree.now) }
     // Null takes no memory.
-    ensures wanted { OnErr result (tree.now ≢ trees.nil) }
+    ensures memory { OnErr result (tree.now ≢ trees.nil) }
 {
     let value = copy_value(alloc, &tree.value)?;
     Ok(Tree { value })

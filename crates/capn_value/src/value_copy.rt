@@ -42,7 +42,7 @@ pub fn copy_value<A: Allocator + Copy, B: Allocator>(
     v: &Value<B>,
 ) -> Result<Value<A>, AllocError>
     ensures value { IfOk result (λ r. tree_of r ≡ tree_of v.now) }
-    ensures wanted { OnErr result (tree_of v.now ≢ nil) }
+    ensures memory { OnErr result (tree_of v.now ≢ nil) }
 {
     if is_null(v) {
         return Ok(Value::Nil);
@@ -79,7 +79,7 @@ pub fn trim_value<A: Allocator + Copy, B: Allocator>(
     v: &Value<B>,
 ) -> Result<Value<A>, AllocError>
     ensures value { IfOk result (λ r. tree_of r ≡ cut.trimmed (tree_of v.now)) }
-    ensures wanted { OnErr result (tree_of v.now ≢ nil) }
+    ensures memory { OnErr result (tree_of v.now ≢ nil) }
 {
     if is_null(v) {
         return Ok(Value::Nil);

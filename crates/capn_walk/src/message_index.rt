@@ -87,7 +87,7 @@ pub fn index<S: Space, A: Allocator + Copy>(
         (s.fault ≡ Memory)
         ⊎ IsWalkRefused (S.message space.now) limits s.fault s.place s.paid s.visits) }
     // For a depth of at most 64 no growth is needed except for the entries: if it is refused, the message is accepted.
-    ensures inline { limits.depth ≤ 64 →
+    ensures no_memory { limits.depth ≤ 64 →
         IfErr result (λ s. s.fault ≡ Memory → IsAccepted (S.message space.now) limits) }
     // No walk pays beyond its budget.
     ensures bounded { MatchResult result (λ x. IsBounded limits.budget x.paid (length x.entries.items))

@@ -44,7 +44,7 @@ pub fn survey<S: Space, A: Allocator + Copy>(
         (s.fault ≡ Memory)
         ⊎ IsWalkRefused (S.message space.now) limits s.fault s.place s.paid s.visits) }
     // No growth is needed for a depth of at most 64.
-    ensures inline { limits.depth ≤ 64 → IfErr result (λ s. s.fault ≢ Memory) }
+    ensures no_memory { limits.depth ≤ 64 → IfErr result (λ s. s.fault ≢ Memory) }
     // No walk pays beyond its budget.
     ensures bounded { MatchResult result (λ s. IsBounded limits.budget s.paid s.visits)
         (λ s. IsBounded limits.budget s.paid s.visits) }
@@ -79,7 +79,7 @@ fn survey_root<S: Space, A: Allocator + Copy>(
     requires depth { depth ≤ most_height }
     requires budget { budget ≤ most_cost }
     ensures tells { SurveysAs (S.message space.now) budget 1 (visits (S.message space.now) base depth root) result }
-    ensures memory { depth ≤ 64 → IfErr result (λ s. s.fault ≢ Memory) }
+    ensures no_memory { depth ≤ 64 → IfErr result (λ s. s.fault ≢ Memory) }
 {
     let visited = match visit_found(space, ROOT, Ok(target), depth, budget, base) {
         Ok(visited) => visited,
@@ -145,7 +145,7 @@ fn survey_slots<S: Space, A: Allocator + Copy>(
     requires few { owed first ≤ most_cost }
     ensures tells { SurveysAs (S.message space.now) budget (owed first)
         (visits_of (S.message space.now) base limit (places_of first)) result }
-    ensures memory { limit ≤ 64 → IfErr result (λ s. s.fault ≢ Memory) }
+    ensures no_memory { limit ≤ 64 → IfErr result (λ s. s.fault ≢ Memory) }
 {
     let mut stack: SmallVec<Waiting, 64, &A> = SmallVec::new(&alloc);
     let mut frame = first;

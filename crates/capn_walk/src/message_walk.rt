@@ -59,7 +59,7 @@ pub fn walk<S: Space, A: Allocator + Copy>(
         ⊎ IsWalkRefused (S.message space.now) limits s.fault s.place s.paid s.visits) }
 
     // Memory is needed only if the root leads to content whose price is within the budget.
-    ensures wanted { IfErr result (λ s. s.fault ≡ Memory →
+    ensures memory { IfErr result (λ s. s.fault ≡ Memory →
         IsEntered (stepped_to_root (S.message space.now) (base limits.tariff) limits.depth limits.budget)) }
 
     // No walk pays beyond its budget.
@@ -96,7 +96,7 @@ pub fn root_target<S: Space>(space: &S) -> Result<Target, Stopped>
     ensures refused { IfErr result (λ s.
         (limits : Bounds) →
         IsWalkRefused (S.message space.now) limits s.fault s.place s.paid s.visits) }
-    ensures memory { IfErr result (λ s. s.fault ≢ Memory) }
+    ensures no_memory { IfErr result (λ s. s.fault ≢ Memory) }
     ensures bounded { IfErr result (λ s. IsBounded 0 s.paid s.visits) }
 {
     if segment_length(space, ROOT.segment) == 0 {

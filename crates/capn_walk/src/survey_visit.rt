@@ -69,7 +69,7 @@ pub fn visit_numbers<S: Space>(
     ensures visits { IfOk result (λ p. visits (S.message space.now) base depth at ≡ pays at p ∷ []) }
     ensures price { IfOk result (λ p. p ≤ left) }
     ensures refused { IfErr result (λ e. judge left (visits (S.message space.now) base depth at) ≡ refused e at 0 1) }
-    ensures memory { IfErr result (λ e. e ≢ Memory) }
+    ensures no_memory { IfErr result (λ e. e ≢ Memory) }
 {
     match near(space, at.segment, size, at.word, 0, pointer) {
         Ok(target) => price_within(target, depth, left, base),

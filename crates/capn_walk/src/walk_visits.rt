@@ -116,7 +116,7 @@ pub fn walk_target<S: Space, A: Allocator + Copy>(
     requires left { left ≤ most_cost }
     ensures answer { Walks (S.message space.now) base depth left at result }
     // Memory is needed for content only, and only once its price is paid.
-    ensures wanted { IfErr result (λ s. s.fault ≡ Memory → IsEntered (stepped base depth left (Ok target))) }
+    ensures memory { IfErr result (λ s. s.fault ≡ Memory → IsEntered (stepped base depth left (Ok target))) }
 {
     match target {
         Target::Nil => Ok(Found::without_content(Value::Nil)),

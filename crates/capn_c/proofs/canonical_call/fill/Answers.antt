@@ -21,9 +21,9 @@ returns-in-Ok-clause-canonical c e v d =
     in_buffer (λ b. IsCanonicalForm b c.args.limits v) c.in-Ok.canonical.bytes.items c.deliver.result
     c.answer_of.result.length c.args.out.now c.deliver.new.out (search rules) e is
 
-pub returns-in-Err-clause-wanted : goal.returns-in-Err-clause-wanted
-returns-in-Err-clause-wanted c e =
-    c.in-Err.ensures.wanted
+pub returns-in-Err-clause-memory : goal.returns-in-Err-clause-memory
+returns-in-Err-clause-memory c e =
+    c.in-Err.ensures.memory
     (ap Err
     (refused_memory c.args.form c.args.bytes.now c.args.limits c.in-Err.refusal c.in-Err.ensures.refused
     (sym c.refuse.ensures.status_is ∙ e)))

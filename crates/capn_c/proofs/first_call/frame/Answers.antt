@@ -18,6 +18,6 @@ returns-in-Err-clause-needed c e =
     needed_told c.args.bytes.now c.args.most c.refuse_frame.result c.refuse_frame.new.report c.in-Err.fault
     c.refuse_frame.ensures c.in-Err.ensures.refused e
 
-pub returns-in-Err-clause-wanted : goal.returns-in-Err-clause-wanted
-returns-in-Err-clause-wanted c e =
-    c.in-Err.ensures.wanted (ap Err (frame_memory c.in-Err.fault (sym c.refuse_frame.ensures.status_is ∙ e)))
+pub returns-in-Err-clause-memory : goal.returns-in-Err-clause-memory
+returns-in-Err-clause-memory c e =
+    c.in-Err.ensures.memory (ap Err (frame_memory c.in-Err.fault (sym c.refuse_frame.ensures.status_is ∙ e)))

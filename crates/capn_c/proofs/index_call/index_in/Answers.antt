@@ -15,8 +15,8 @@ returns-then-index_form-clause-entries c e =
     entries_told c.indexes.ensures.visits c.args.form c.args.bytes.now c.args.limits c.in-Ok.surveyed
     c.in-Ok.ensures.found c.report_of_index.result c.report_of_index.ensures
 
-pub returns-else-index_form-clause-wanted : goal.returns-else-index_form-clause-wanted
-returns-else-index_form-clause-wanted c e =
+pub returns-else-index_form-clause-memory : goal.returns-else-index_form-clause-memory
+returns-else-index_form-clause-memory c e =
     let s = c.in-Ok.surveyed in
     let room : s.visits ≤ length c.args.out.now = omega (arith, c.if-surveyed-out.false) in
     let has = entries_of_survey c.indexes.ensures.visits c.args.form c.args.bytes.now c.args.limits s
@@ -26,10 +26,10 @@ returns-else-index_form-clause-wanted c e =
 pub returns-in-Err-clause-only : goal.returns-in-Err-clause-only
 returns-in-Err-clause-only c v d = inr (c.refuse-in-Err.ensures.status_is ∙ ap code (c.in-Err.ensures.only v d))
 
-pub returns-in-Err-clause-wanted : goal.returns-in-Err-clause-wanted
-returns-in-Err-clause-wanted c e =
+pub returns-in-Err-clause-memory : goal.returns-in-Err-clause-memory
+returns-in-Err-clause-memory c e =
     inl
-    (c.in-Err.ensures.wanted
+    (c.in-Err.ensures.memory
     (ap Err
     (unaccepted_memory c.args.form c.args.bytes.now c.args.limits c.in-Err.refusal c.in-Err.ensures.refused
     (sym c.refuse-in-Err.ensures.status_is ∙ e))))

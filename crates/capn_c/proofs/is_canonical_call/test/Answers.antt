@@ -4,8 +4,8 @@ use Rattle.capn_canon.specs.declared.form.Form.TheVariants as forms
 use Rattle.capn_c.proofs.OutOfMemory.{refused_memory}
 use Rattle.capn_c.proofs.is_canonical_call.test.Goals as goal
 
-pub returns-in-Err-clause-inline : goal.returns-in-Err-clause-inline
-returns-in-Err-clause-inline c low e =
-    c.in-Err.ensures.inline low
+pub returns-in-Err-clause-no_memory : goal.returns-in-Err-clause-no_memory
+returns-in-Err-clause-no_memory c low e =
+    c.in-Err.ensures.no_memory low
     (refused_memory forms.Bare c.args.bytes.now c.args.limits c.in-Err.refusal c.in-Err.ensures.refused
     (sym c.refuse.ensures.status_is ∙ e))

@@ -17,12 +17,12 @@ returns-clause-found g c =
     subst (λ (x : List (List ℕ)). IfSome c.is_canonical_bare.result
     (λ yes. IsTrue yes ↔ IsCanonicalMessage x c.args.limits)) (sym e) c.is_canonical_bare.ensures.found
 
-pub returns-clause-wanted : goal.returns-clause-wanted
-returns-clause-wanted g c v is none =
+pub returns-clause-memory : goal.returns-clause-memory
+returns-clause-memory g c v is none =
     let m = g.S.Space.message c.args.space.now in
     let n = first-words m c.words.result c.unwrap_or-words.result c.words.ensures c.unwrap_or-words.ensures in
     let bounds = c.segments.ensures.bounds in
     let one : length m ≡ 1 = omega (arith, c.if-segments-gt1.false, c.segments.ensures.count, bounds.some) in
     let e = one-here m c.bytes.result.now c.in-Ok.bare c.unwrap_or-words.result bounds one n c.bytes.ensures
     c.in-Ok.ensures.exact in
-    c.is_canonical_bare.ensures.wanted v (subst (λ (x : List (List ℕ)). IsValueOf x c.args.limits v) e is) none
+    c.is_canonical_bare.ensures.memory v (subst (λ (x : List (List ℕ)). IsValueOf x c.args.limits v) e is) none

@@ -6,25 +6,25 @@ use Rattle.capn_stream.proofs.shared.FrameLaws.{stands_alone}
 use Rattle.capn_walk.specs.Accepted.{IsValueOf}
 use Rattle.capn_c.proofs.message_measures.measure_frame.Goals as goal
 
-pub returns-then-taken-bytes-clause-wanted : goal.returns-then-taken-bytes-clause-wanted
-returns-then-taken-bytes-clause-wanted c v d e =
+pub returns-then-taken-bytes-clause-memory : goal.returns-then-taken-bytes-clause-memory
+returns-then-taken-bytes-clause-memory c v d e =
     let bs = c.args.bytes.now in
     let s = stands_alone bs c.args.limits.message_words d.message d.reads.frame d.reads.room in
     let P : ℕ → Type 0 = λ most. StandsFirst bs most d.message (length bs) in
     let same = c.in-Ok.ensures.only d.message (length bs) (subst P (sym c.message_words.ensures.value) s) in
     absurd (omega (arith, same.1, c.if-taken-bytes.true))
 
-pub returns-else-taken-bytes-clause-wanted : goal.returns-else-taken-bytes-clause-wanted
-returns-else-taken-bytes-clause-wanted c v d e =
+pub returns-else-taken-bytes-clause-memory : goal.returns-else-taken-bytes-clause-memory
+returns-else-taken-bytes-clause-memory c v d e =
     let bs = c.args.bytes.now in
     let s = stands_alone bs c.args.limits.message_words d.message d.reads.frame d.reads.room in
     let P : ℕ → Type 0 = λ most. StandsFirst bs most d.message (length bs) in
     let same = c.in-Ok.ensures.only d.message (length bs) (subst P (sym c.message_words.ensures.value) s) in
     let Q : List (List ℕ) → Type 0 = λ m. IsValueOf m c.args.limits v in
-    inr (c.measure.ensures.wanted v (subst Q (sym same.0) d.value) e, d.message, d.reads)
+    inr (c.measure.ensures.memory v (subst Q (sym same.0) d.value) e, d.message, d.reads)
 
-pub returns-in-Err-clause-wanted : goal.returns-in-Err-clause-wanted
-returns-in-Err-clause-wanted c v d e =
+pub returns-in-Err-clause-memory : goal.returns-in-Err-clause-memory
+returns-in-Err-clause-memory c v d e =
     let bs = c.args.bytes.now in
     let s = stands_alone bs c.args.limits.message_words d.message d.reads.frame d.reads.room in
     let P : ℕ → Type 0 = λ most. StandsFirst bs most d.message (length bs) in

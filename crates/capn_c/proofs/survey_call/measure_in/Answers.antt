@@ -5,14 +5,14 @@ use Rattle.capn_canon.specs.MemoryNeed.{MayNeedMemory}
 use Rattle.capn_canon.specs.declared.form.Form.{Form}
 use Rattle.capn_c.proofs.survey_call.measure_in.Goals as goal
 
-pub returns-in-Stream-clause-wanted : goal.returns-in-Stream-clause-wanted
-returns-in-Stream-clause-wanted c v d e =
+pub returns-in-Stream-clause-memory : goal.returns-in-Stream-clause-memory
+returns-in-Stream-clause-memory c v d e =
     let P : Form → Type 0 = λ f. Denotes f c.args.bytes.now c.args.limits v in
     let Q : Form → Type 0 = λ f. MayNeedMemory f c.args.bytes.now c.args.limits in
-    subst Q (sym c.in-Stream.is) (c.measure_frame.ensures.wanted v (subst P c.in-Stream.is d) e)
+    subst Q (sym c.in-Stream.is) (c.measure_frame.ensures.memory v (subst P c.in-Stream.is d) e)
 
-pub returns-in-Bare-clause-wanted : goal.returns-in-Bare-clause-wanted
-returns-in-Bare-clause-wanted c v d e =
+pub returns-in-Bare-clause-memory : goal.returns-in-Bare-clause-memory
+returns-in-Bare-clause-memory c v d e =
     let P : Form → Type 0 = λ f. Denotes f c.args.bytes.now c.args.limits v in
     let Q : Form → Type 0 = λ f. MayNeedMemory f c.args.bytes.now c.args.limits in
-    subst Q (sym c.in-Bare.is) (c.measure_bare.ensures.wanted v (subst P c.in-Bare.is d) e)
+    subst Q (sym c.in-Bare.is) (c.measure_bare.ensures.memory v (subst P c.in-Bare.is d) e)

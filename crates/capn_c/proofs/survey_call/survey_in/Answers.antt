@@ -25,9 +25,9 @@ returns-in-Some-clause-found c e =
 pub returns-in-Err-clause-only : goal.returns-in-Err-clause-only
 returns-in-Err-clause-only c v d = inr (c.refuse-in-Err.ensures.status_is ∙ ap code (c.in-Err.ensures.only v d))
 
-pub returns-in-Err-clause-wanted : goal.returns-in-Err-clause-wanted
-returns-in-Err-clause-wanted c e =
-    c.in-Err.ensures.wanted
+pub returns-in-Err-clause-memory : goal.returns-in-Err-clause-memory
+returns-in-Err-clause-memory c e =
+    c.in-Err.ensures.memory
     (ap Err
     (unaccepted_memory c.args.form c.args.bytes.now c.args.limits c.in-Err.refusal c.in-Err.ensures.refused
     (sym c.refuse-in-Err.ensures.status_is ∙ e)))

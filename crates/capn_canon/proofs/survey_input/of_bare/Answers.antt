@@ -8,7 +8,7 @@ returns-in-Ok g c = record {
   found = search rules;
   refused = search rules;
   wanted = λ e. (
-    deep c.survey.result c.args.limits.depth c.survey.ensures.inline e,
+    deep c.survey.result c.args.limits.depth c.survey.ensures.no_memory e,
     c.in-Ok.space ∷ [],
     (c.in-Ok.space, c.in-Ok.ensures.exact, refl),
   );

@@ -20,7 +20,7 @@ returns-in-Err-Cut-clause-joined g c =
     (elim (cases_lt 2049 (length c.args.piece.now)) [ inl h ↦ inr (omega arith) | inr h ↦ inl (omega arith) ])
     (omega arith) c.fill.ensures.joined refl refl cut.1 cut.0 cut.2
 
-pub returns-in-Err-Memory-clause-wanted : goal.returns-in-Err-Memory-clause-wanted
-returns-in-Err-Memory-clause-wanted g c none =
+pub returns-in-Err-Memory-clause-memory : goal.returns-in-Err-Memory-clause-memory
+returns-in-Err-Memory-clause-memory g c none =
     let refused = rw c.in-Err-Memory.field-0-is at c.in-Err-Memory.ensures in
     joined_started _ c.args.piece.now _ c.min-more.result _ c.fill.ensures.joined refused.0 none

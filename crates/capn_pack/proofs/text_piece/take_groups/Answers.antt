@@ -25,10 +25,10 @@ loop-at-preserved-in-Ok-take_group g c =
 pub loop-at-preserved : goal.loop-at-preserved
 loop-at-preserved g c = row_join _ _ _ _ _ _ c.loop-at.invariant c.in-Ok.ensures.row
 
-pub returns-in-Err-clause-wanted : goal.returns-in-Err-clause-wanted
-returns-in-Err-clause-wanted g c none = row_started _ _ _ _ _ c.loop-at.invariant c.in-Err.ensures.wanted none
+pub returns-in-Err-clause-memory : goal.returns-in-Err-clause-memory
+returns-in-Err-clause-memory g c none = row_started _ _ _ _ _ c.loop-at.invariant c.in-Err.ensures.memory none
 
-pub returns-in-Err-Memory-clause-wanted : goal.returns-in-Err-Memory-clause-wanted
-returns-in-Err-Memory-clause-wanted g c none =
+pub returns-in-Err-Memory-clause-memory : goal.returns-in-Err-Memory-clause-memory
+returns-in-Err-Memory-clause-memory g c none =
     let refused = rw c.in-Err-Memory.field-0-is at c.in-Err-Memory.ensures in
     row_started _ _ _ _ _ (row_join _ _ _ _ _ _ c.loop-at.invariant c.in-Ok.ensures.row) refused.0 none

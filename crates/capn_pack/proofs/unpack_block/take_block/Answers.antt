@@ -19,8 +19,8 @@ returns-clause-counted g c =
       length-take filled block,
     )
 
-pub returns-in_err-extend_from_slice-clause-wanted : goal.returns-in_err-extend_from_slice-clause-wanted
-returns-in_err-extend_from_slice-clause-wanted g c =
+pub returns-in_err-extend_from_slice-clause-memory : goal.returns-in_err-extend_from_slice-clause-memory
+returns-in_err-extend_from_slice-clause-memory g c =
     let filled = c.fill_block-filled.result.fill in
     let block = c.fill_block-filled.new.block in
     let size = length-take filled block in

@@ -28,11 +28,11 @@ returns-in-Err-TooLong-clause-refused g c =
 pub returns-clause-within : goal.returns-clause-within
 returns-clause-within g c = (unpacked_all _ _ _ _ _ c.loop-at.invariant c.loop-at-test.false).1
 
-pub returns-in_err-row-clause-wanted : goal.returns-in_err-row-clause-wanted
-returns-in_err-row-clause-wanted g c is = unpacked_starts _ _ _ _ _ c.loop-at.invariant c.in_err-row.ensures.wanted
+pub returns-in_err-row-clause-memory : goal.returns-in_err-row-clause-memory
+returns-in_err-row-clause-memory g c is = unpacked_starts _ _ _ _ _ c.loop-at.invariant c.in_err-row.ensures.memory
 
-pub returns-in-Err-Memory-clause-wanted : goal.returns-in-Err-Memory-clause-wanted
-returns-in-Err-Memory-clause-wanted g c is =
+pub returns-in-Err-Memory-clause-memory : goal.returns-in-Err-Memory-clause-memory
+returns-in-Err-Memory-clause-memory g c is =
     let row = c.in_ok-row.ensures in
     unpacked_starts _ _ _ _ _ (unpacked_row _ _ _ _ _ _ _ _ c.loop-at.invariant row.row row.counted row.fits)
     (rw c.in-Err-Memory.field-0-is at c.in-Err-Memory.ensures).0

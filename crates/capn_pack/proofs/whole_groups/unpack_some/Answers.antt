@@ -23,24 +23,24 @@ loop-at-preserved g c =
     let row = c.in_ok-row.ensures in
     appended_row _ _ _ _ _ _ _ _ _ c.loop-at.invariant row.row row.counted row.fits
 
-pub returns-in_err-row-clause-memory : goal.returns-in_err-row-clause-memory
-returns-in_err-row-clause-memory g c =
+pub returns-in_err-row-clause-begun : goal.returns-in_err-row-clause-begun
+returns-in_err-row-clause-begun g c =
     on_err c.from_residual.result
     (rw c.in_err-row.ensures.err (some_appended _ _ _ _ _ _ c.loop-at.invariant))
 
-pub returns-in_err-row-clause-wanted : goal.returns-in_err-row-clause-wanted
-returns-in_err-row-clause-wanted g c =
-    on_err c.from_residual.result (some_starts _ _ _ _ _ _ c.loop-at.invariant c.in_err-row.ensures.wanted)
+pub returns-in_err-row-clause-memory : goal.returns-in_err-row-clause-memory
+returns-in_err-row-clause-memory g c =
+    on_err c.from_residual.result (some_starts _ _ _ _ _ _ c.loop-at.invariant c.in_err-row.ensures.memory)
 
-pub returns-in-Err-Memory-clause-memory : goal.returns-in-Err-Memory-clause-memory
-returns-in-Err-Memory-clause-memory g c =
+pub returns-in-Err-Memory-clause-begun : goal.returns-in-Err-Memory-clause-begun
+returns-in-Err-Memory-clause-begun g c =
     let row = c.in_ok-row.ensures in
     let refused = rw c.in-Err-Memory.field-0-is at c.in-Err-Memory.ensures in
     rw refused.1
     (some_appended _ _ _ _ _ _ (appended_row _ _ _ _ _ _ _ _ _ c.loop-at.invariant row.row row.counted row.fits))
 
-pub returns-in-Err-Memory-clause-wanted : goal.returns-in-Err-Memory-clause-wanted
-returns-in-Err-Memory-clause-wanted g c =
+pub returns-in-Err-Memory-clause-memory : goal.returns-in-Err-Memory-clause-memory
+returns-in-Err-Memory-clause-memory g c =
     let row = c.in_ok-row.ensures in
     let refused = rw c.in-Err-Memory.field-0-is at c.in-Err-Memory.ensures in
     some_starts _ _ _ _ _ _ (appended_row _ _ _ _ _ _ _ _ _ c.loop-at.invariant row.row row.counted row.fits)

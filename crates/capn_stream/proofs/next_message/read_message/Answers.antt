@@ -12,5 +12,5 @@ returns-clause-only g c =
 pub returns-clause-gives : goal.returns-clause-gives
 returns-clause-gives g c = read_gives _ _ _ c.args.max_words _ c.receive.ensures.gives
 
-pub returns-clause-wanted : goal.returns-clause-wanted
-returns-clause-wanted g c = wants_first _ _ _ c.args.max_words _ c.receive.ensures.gives
+pub returns-clause-memory : goal.returns-clause-memory
+returns-clause-memory g c = wants_first _ _ _ c.args.max_words _ c.receive.ensures.gives

@@ -101,20 +101,20 @@ returns-in-Contents-clause-filled g c =
     c.end_of-end.ensures c.parts.invariant.inside c.parts.invariant.text c.parts.invariant.is
     c.in_ok-at.ensures.extends done
 
-pub returns-in_err-at-clause-wanted : goal.returns-in_err-at-clause-wanted
-returns-in_err-at-clause-wanted g c = λ h.
+pub returns-in_err-at-clause-memory : goal.returns-in_err-at-clause-memory
+returns-in_err-at-clause-memory g c = λ h.
     lacked_now c.args.stage.now c.parts.stage c.args.bytes.now.items c.parts.bytes.items c.args.piece.now c.parts.at
-    c.end_of-end.result c.end_of-end.ensures c.parts.invariant.came c.in_err-at.ensures.wanted
+    c.end_of-end.result c.end_of-end.ensures c.parts.invariant.came c.in_err-at.ensures.memory
 
-pub returns-in_err-segments-in-Count-clause-wanted : goal.returns-in_err-segments-in-Count-clause-wanted
-returns-in_err-segments-in-Count-clause-wanted g c = λ h.
+pub returns-in_err-segments-in-Count-clause-memory : goal.returns-in_err-segments-in-Count-clause-memory
+returns-in_err-segments-in-Count-clause-memory g c = λ h.
     lacked_whole c.args.stage.now c.parts.stage c.args.bytes.now.items c.parts.bytes.items c.args.piece.now
     c.fill_to.new.bytes.items c.parts.at c.in_ok-at.field-0 c.end_of-end.result c.end_of-end.ensures c.requires.rests
     c.parts.invariant.came c.in_ok-at.ensures.extends (omega arith)
     (λ done. subst (λ (s : Stage). IsDone s c.parts.bytes.items) c.in-Count.is done)
 
-pub returns-in_err-bounds-in-Table-clause-wanted : goal.returns-in_err-bounds-in-Table-clause-wanted
-returns-in_err-bounds-in-Table-clause-wanted g c = λ h.
+pub returns-in_err-bounds-in-Table-clause-memory : goal.returns-in_err-bounds-in-Table-clause-memory
+returns-in_err-bounds-in-Table-clause-memory g c = λ h.
     lacked_whole c.args.stage.now c.parts.stage c.args.bytes.now.items c.parts.bytes.items c.args.piece.now
     c.fill_to.new.bytes.items c.parts.at c.in_ok-at.field-0 c.end_of-end.result c.end_of-end.ensures c.requires.rests
     c.parts.invariant.came c.in_ok-at.ensures.extends (omega arith)

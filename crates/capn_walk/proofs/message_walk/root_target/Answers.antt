@@ -21,6 +21,6 @@ returns-in-Err-clause-refused g c limits =
     let e : target (g.S.Space.message c.args.space.now) root ≡ Err c.in-Err.fault = cc in
     refused-fault m c.stop-in-Err.result c.in-Err.fault limits some e c.stop-in-Err.ensures
 
-pub returns-in-Err-clause-memory : goal.returns-in-Err-clause-memory
-returns-in-Err-clause-memory g c f =
+pub returns-in-Err-clause-no_memory : goal.returns-in-Err-clause-no_memory
+returns-in-Err-clause-no_memory g c f =
     never-memory (g.S.Space.message c.args.space.now) root c.in-Err.fault (cc) (cc)

@@ -114,13 +114,13 @@ returns-clause-only g c v is =
     c.of_fit.ensures
     ∙ one-value (g.S.Space.message c.args.space.now) c.args.limits v (tree_of c.in_ok-found.found.value) here is
 
-pub returns-in_err-target-clause-wanted : goal.returns-in_err-target-clause-wanted
-returns-in_err-target-clause-wanted g c =
+pub returns-in_err-target-clause-memory : goal.returns-in_err-target-clause-memory
+returns-in_err-target-clause-memory g c =
     let p = err_from_is_err_and c.from_residual.result c.from_residual.ensures.1 in
-    rw (p.1, p.2) (λ m. absurd (c.in_err-target.ensures.memory m))
+    rw (p.1, p.2) (λ m. absurd (c.in_err-target.ensures.no_memory m))
 
-pub returns-in_err-found-clause-wanted : goal.returns-in_err-found-clause-wanted
-returns-in_err-found-clause-wanted g c =
+pub returns-in_err-found-clause-memory : goal.returns-in_err-found-clause-memory
+returns-in_err-found-clause-memory g c =
     let t = c.in_ok-target.ensures in
     let limits = c.args.limits in
     let p = err_from_is_err_and c.from_residual-in_err-found.result c.from_residual-in_err-found.ensures.1 in
@@ -128,4 +128,4 @@ returns-in_err-found-clause-wanted g c =
     (base limits.tariff) limits.depth limits.budget c.in_ok-target.target
     (c.base.ensures.value
     ∙ ap base c.tariff.ensures) c.depth.ensures.value c.budget.ensures.value t.place t.target t.kind
-    (c.in_err-found.ensures.wanted m))
+    (c.in_err-found.ensures.memory m))

@@ -100,8 +100,8 @@ walk_target-returns-in-Err-clause-answer g t c =
     (targets.Content x.segment x.start x.shape x.pads) c.in-Err.fault c.stop.result
     (c.requires.target ∙ ap Ok x.is) c.in-Err.ensures.found c.stop.ensures
 
-pub walk_target-returns-in-Err-clause-wanted : goal.walk_target-returns-in-Err-clause-wanted
-walk_target-returns-in-Err-clause-wanted g t c m =
+pub walk_target-returns-in-Err-clause-memory : goal.walk_target-returns-in-Err-clause-memory
+walk_target-returns-in-Err-clause-memory g t c m =
     let x = c.in-Content in
     let e = ap (λ (s : Stopped). s.fault) (sym c.stop.ensures) ∙ m in
     absurd (stepped-memory c.args.base c.args.depth c.args.left (targets.Content x.segment x.start x.shape x.pads)
@@ -180,8 +180,8 @@ walk_target-returns-in-Err-object-clause-answer g t c =
     (refuses-object m c.args.base c.args.at x.segment x.start x.pads x.shape e c.args.left c.args.depth k.0 k.1
     c.in-Err-object.stopped h)
 
-pub walk_target-returns-in-Err-object-clause-wanted : goal.walk_target-returns-in-Err-object-clause-wanted
-walk_target-returns-in-Err-object-clause-wanted g t c m =
+pub walk_target-returns-in-Err-object-clause-memory : goal.walk_target-returns-in-Err-object-clause-memory
+walk_target-returns-in-Err-object-clause-memory g t c m =
     let h = ap (λ (r : Target). stepped c.args.base c.args.depth c.args.left (Ok r)) c.in-Content.is
     ∙ c.in-Ok.ensures.found in
     subst IsEntered (sym h) tt

@@ -10,10 +10,10 @@ returns-clause-gives g c =
     c.self.invariant.small c.if-self.false c.is_err-self-inside.ensures.value c.fill-fed.ensures.filled
     c.fill-fed.ensures.refused)
 
-pub returns-clause-wanted : goal.returns-clause-wanted
-returns-clause-wanted g c =
+pub returns-clause-memory : goal.returns-clause-memory
+returns-clause-memory g c =
     rw (← c.self.view_is) (λ h.
-    let lacked = c.fill-fed.ensures.wanted h in (
+    let lacked = c.fill-fed.ensures.memory h in (
       lacked.0,
       unfinished_stage c.self.inside.stage c.self.inside.frame.items c.self.inside.max_words c.self.inside.ends.items
           (c.self.invariant.is c.if-self.false) lacked.1,
