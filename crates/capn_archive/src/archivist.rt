@@ -7,13 +7,13 @@ ghost use Rattle.capn_archive.specs.declared.task.Task.TheVariants as tasks;
 ghost use Rattle.capn_serve.specs.declared.position.Position.{Position};
 ghost use Rattle.capn_archive.specs.declared.tally.Tally.{Tally};
 
+use crate::canonical_frame::put_frame;
 use crate::digest::digest_if_any;
 use crate::findings::findings_of;
-use crate::canonical_frame::put_frame;
 use crate::head::head_of;
 use crate::lines::{put_digests_line, put_list_line, put_refused_line};
-use crate::task::{Archive, Task};
 use crate::tally::{Tally, count, skip};
+use crate::task::{Archive, Task};
 use capn_canon::{Refusal, canonical_of};
 use capn_serve::{Position, ServeFault, Service};
 use capn_walk::Limits;

@@ -6,7 +6,7 @@ ghost use Rattle.capn_archive.specs.Findings.{IsChecked, AreFindings};
 ghost use Rattle.capn_archive.specs.Tasks.{Finds};
 
 use crate::depth::depth_of;
-use capn_canon::{SurveyedBare, Refusal, survey_bare, survey};
+use capn_canon::{Refusal, SurveyedBare, survey, survey_bare};
 use capn_serve::ServeFault;
 use capn_walk::{Fault, Limits};
 use capn_words::{Bare, Place, Space};

@@ -29,7 +29,7 @@ pub use capn_serve::{
     Position, Run, RunFault, ServeFault, Service, run_bare, run_packed, run_stream,
 };
 pub use fault::{ArchiveFault, Passed};
-pub use task::{Archive, Task};
 pub use sieve::Sieve;
+pub use task::{Archive, Task};
 pub use uniq::Uniq;
 pub use uniq_run::run_uniq;

@@ -14,17 +14,23 @@ ghost use Rattle.capn_canon.specs.declared.refusal.Refusal.{Refusal as Refusals}
 ghost use Rattle.capn_c.specs.Calls.{IsForm, form_named, GiveLimits, IsTariff, bounds_of, Delivers, Serves};
 ghost use Rattle.capn_c.specs.StatusCodes.{Reports, answered, at_number, is_status};
 
-use crate::status_codes::{BAD_FORM, NO_ROOM, refuse};
 use crate::limits::{CapnLimits, form_of, limits_of};
 use crate::output::deliver;
 use crate::report::{CapnReport, answer_of, report_at};
-use capn_canon::{Form, Refusal, survey_bytes, canonicalise};
+use crate::status_codes::{BAD_FORM, NO_ROOM, refuse};
+use capn_canon::{Form, Refusal, canonicalise, survey_bytes};
 use capn_walk::Limits;
 use std::alloc::Global;
 
 /// A length that is enough for the canonical bytes of a message, which are not laid out.
-fn survey_length(alloc: Global, form: Form, bytes: &[u8], limits: Limits, report: &mut CapnReport) -> u32
-    ensures told { (result ≡ 1) ⊎ (8 ≤ result) }
+fn survey_length(
+    alloc: Global,
+    form: Form,
+    bytes: &[u8],
+    limits: Limits,
+    report: &mut CapnReport,
+) -> u32
+    ensures possible { (result ≡ 1) ⊎ (8 ≤ result) }
     ensures found { result ≡ 1 → (text : List ℕ) × Answers form bytes.now limits text report.new.paid
         × (length text ≤ report.new.length) }
     ensures only { (v : Value) → Denotes form bytes.now limits v → first_cap v ≡ None
@@ -57,7 +63,7 @@ fn fill(
     out: &mut [u8],
     report: &mut CapnReport,
 ) -> u32
-    ensures told { (result ≤ 1) ⊎ (8 ≤ result) }
+    ensures possible { (result ≤ 1) ⊎ (8 ≤ result) }
     ensures found { result ≤ 1 → (text : List ℕ) × Answers form bytes.now limits text report.new.paid
         × Delivers text result report.new.length out.old out.new }
     ensures only { (v : Value) → Denotes form bytes.now limits v → first_cap v ≡ None

@@ -12,16 +12,16 @@ ghost use Rattle.capn_canon.specs.declared.refusal.Refusal.{Refusal as Refusals}
 ghost use Rattle.capn_c.specs.Calls.{IsForm, form_named, GiveLimits, IsTariff, bounds_of};
 ghost use Rattle.capn_c.specs.StatusCodes.{Reports, answered, at_number, is_status};
 
-use crate::status_codes::{BAD_FORM, DONE, refuse};
 use crate::limits::{CapnLimits, form_of, limits_of};
 use crate::report::{CapnReport, answer_of, report_at};
+use crate::status_codes::{BAD_FORM, DONE, refuse};
 use capn_canon::{Form, survey_bytes};
 use capn_walk::Limits;
 use std::alloc::Global;
 
 /// What the walk of a message pays and visits.
 fn check(alloc: Global, form: Form, bytes: &[u8], limits: Limits, report: &mut CapnReport) -> u32
-    ensures told { (result ≡ 0) ⊎ (8 ≤ result) }
+    ensures possible { (result ≡ 0) ⊎ (8 ≤ result) }
     ensures found { result ≡ 0 → (s : Survey) × Surveys form bytes.now limits s
         × (report.new ≡ answered 0 s.paid s.visits) }
     ensures only { (v : Value) → Denotes form bytes.now limits v → (result ≡ 0) ⊎ (result ≡ 8) }

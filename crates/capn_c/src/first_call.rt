@@ -11,10 +11,10 @@ ghost use Rattle.capn_c.specs.StatusCodes.{answered, at_number, is_status};
 ghost use Rattle.capn_c.specs.FrameReport.{ReportsFrame, frame_report};
 ghost use Rattle.capn_c.specs.FrameNeed.{IsNeeded};
 
-use crate::status_codes::{DONE, code_of_frame, number_of_frame};
-use crate::limits::{CapnLimits, limits_of};
 use crate::frame_need::needed_of;
+use crate::limits::{CapnLimits, limits_of};
 use crate::report::{CapnReport, answer_of, report_at};
+use crate::status_codes::{DONE, code_of_frame, number_of_frame};
 use capn_stream::{FrameFault, first};
 use std::alloc::Global;
 
@@ -57,7 +57,7 @@ fn length_of(alloc: Global, bytes: &[u8], most: u32) -> Result<usize, FrameFault
 /// The length of the frame of at most `most` words that stands first, or how many bytes it needs.
 fn frame(alloc: Global, bytes: &[u8], most: u32, report: &mut CapnReport) -> u32
     requires small { most ≤ most_message_words }
-    ensures told { (result ≡ 0) ⊎ (8 ≤ result) }
+    ensures possible { (result ≡ 0) ⊎ (8 ≤ result) }
     ensures found { result ≡ 0 → (message : List (List ℕ)) × StandsFirst bytes.now most message report.new.length }
     ensures only { (message : List (List ℕ)) (taken : ℕ) → StandsFirst bytes.now most message taken
         → (result ≡ 8) ⊎ ((result ≡ 0) × (report.new.length ≡ taken)) }

@@ -14,9 +14,9 @@ ghost use Rattle.capn_canon.specs.declared.refusal.Refusal.{Refusal as Refusals}
 ghost use Rattle.capn_c.specs.Calls.{IsForm, form_named, GiveLimits, IsTariff, bounds_of};
 ghost use Rattle.capn_c.specs.StatusCodes.{Reports, answered, at_number, is_status};
 
-use crate::status_codes::{BAD_FORM, DONE, refuse};
 use crate::limits::{CapnLimits, form_of, limits_of};
 use crate::report::{CapnReport, answer_of, report_at};
+use crate::status_codes::{BAD_FORM, DONE, refuse};
 use capn_canon::{Form, canonicalise};
 use capn_walk::Limits;
 use sha2::{Digest, Sha256};
@@ -31,7 +31,7 @@ fn hash(
     digest: &mut [u8; 32],
     report: &mut CapnReport,
 ) -> u32
-    ensures told { (result ≡ 0) ⊎ (8 ≤ result) }
+    ensures possible { (result ≡ 0) ⊎ (8 ≤ result) }
     ensures found { result ≡ 0 → (text : List ℕ) × Answers form bytes.now limits text report.new.paid
         × (digest.new ≡ sha256 text) }
     ensures only { (v : Value) → Denotes form bytes.now limits v → first_cap v ≡ None

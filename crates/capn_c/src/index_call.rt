@@ -16,11 +16,11 @@ ghost use Rattle.capn_c.specs.StatusCodes.{Reports, answered, at_number, is_stat
 ghost use Rattle.capn_c.specs.Entries.{HasEntries, IndexedIn, c_index};
 ghost use Rattle.capn_c.specs.Figures.{IsFlat};
 
-use crate::status_codes::{BAD_FORM, DONE, NO_ROOM, refuse};
 use crate::entries::{CapnEntry, put_entries, starts_of};
-use crate::limits::{CapnLimits, flat_form_of, limits_of};
 use crate::frame_need::head_of;
+use crate::limits::{CapnLimits, flat_form_of, limits_of};
 use crate::report::{CapnReport, answer_of, report_at};
+use crate::status_codes::{BAD_FORM, DONE, NO_ROOM, refuse};
 use capn_canon::{Form, Refusal, survey_bytes};
 use capn_stream::first;
 use capn_walk::laws::indexes;
@@ -140,7 +140,7 @@ fn index_in(
     out: &mut [CapnEntry],
     report: &mut CapnReport,
 ) -> u32
-    ensures told { (result ≤ 1) ⊎ (8 ≤ result) }
+    ensures possible { (result ≤ 1) ⊎ (8 ≤ result) }
     ensures counted { result ≤ 1 → (s : Survey) × Surveys form bytes.now limits s
         × (report.new ≡ answered (24 * s.visits) s.paid s.visits) }
     ensures written { result ≡ 0 → (report.new.visits ≤ length out.old)

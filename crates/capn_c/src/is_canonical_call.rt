@@ -13,16 +13,16 @@ ghost use Rattle.capn_canon.specs.declared.refusal.Refusal.{Refusal as Refusals}
 ghost use Rattle.capn_c.specs.Calls.{GiveLimits, IsTariff, bounds_of};
 ghost use Rattle.capn_c.specs.StatusCodes.{Reports, at_number, is_status};
 
-use crate::status_codes::{DONE, NOT_CANONICAL, refuse};
 use crate::limits::{CapnLimits, limits_of};
 use crate::report::{CapnReport, report_at};
+use crate::status_codes::{DONE, NOT_CANONICAL, refuse};
 use capn_canon::is_canonical;
 use capn_walk::Limits;
 use std::alloc::Global;
 
 /// Whether bytes are the canonical bytes of their value.
 fn test(alloc: Global, bytes: &[u8], limits: Limits, report: &mut CapnReport) -> u32
-    ensures told { (result ≡ 0) ⊎ (result ≡ 5) ⊎ (8 ≤ result) }
+    ensures possible { (result ≡ 0) ⊎ (result ≡ 5) ⊎ (8 ≤ result) }
     ensures yes { result ≡ 0 → SaysCanonical bytes.now limits true }
     ensures no { result ≡ 5 → SaysCanonical bytes.now limits false }
     ensures only { (v : Value) → Denotes forms.Bare bytes.now limits v → first_cap v ≡ None

@@ -9,9 +9,9 @@ ghost use Rattle.capn_pack.specs.declared.fault.UnpackFault.{UnpackFault as Faul
 ghost use Rattle.capn_c.specs.Calls.{Delivers};
 ghost use Rattle.capn_c.specs.StatusCodes.{answered, at_number, ReportsPacked, is_status};
 
-use crate::status_codes::{MEMORY, NOT_WHOLE, refuse_packed};
 use crate::output::deliver;
 use crate::report::{CapnReport, answer_of, report_at};
+use crate::status_codes::{MEMORY, NOT_WHOLE, refuse_packed};
 use capn_pack::{PackFault, pack, unpack};
 use std::alloc::Global;
 

@@ -12,11 +12,11 @@ ghost use Rattle.capn_c.specs.Calls.{form_named, GiveLimits, IsTariff, bounds_of
 ghost use Rattle.capn_c.specs.StatusCodes.{Reports, answered, at_number, is_status};
 ghost use Rattle.capn_c.specs.Figures.{FiguresIn, IsFlat, MeasuresIn};
 
-use crate::status_codes::{BAD_FORM, DONE, refuse};
 use crate::figures::{CapnFigures, figures_of};
 use crate::limits::{CapnLimits, flat_form_of, limits_of};
 use crate::message_measures::{Measured, measure_bare, measure_frame};
 use crate::report::{CapnReport, answer_of, report_at};
+use crate::status_codes::{BAD_FORM, DONE, refuse};
 use capn_canon::{Form, Refusal, survey_bytes};
 use capn_walk::Limits;
 use std::alloc::Global;
@@ -45,7 +45,7 @@ fn survey_in(
     report: &mut CapnReport,
 ) -> u32
     requires flat { (form ≡ forms.Stream) ⊎ (form ≡ forms.Bare) }
-    ensures told { (result ≡ 0) ⊎ (8 ≤ result) }
+    ensures possible { (result ≡ 0) ⊎ (8 ≤ result) }
     ensures found { result ≡ 0 → FiguresIn form bytes.now limits figures.new
         × (report.new ≡ answered 0 figures.new.paid figures.new.visits) }
     ensures only { (v : Value) → Denotes form bytes.now limits v → (result ≡ 0) ⊎ (result ≡ 8) }

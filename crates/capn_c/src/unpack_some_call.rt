@@ -6,8 +6,8 @@ ghost use Rattle.capn_c.specs.Calls.{IsWritten};
 ghost use Rattle.capn_c.specs.StatusCodes.{at_number, is_status};
 ghost use Rattle.capn_c.specs.UnpackedPieces.{UnpacksInto, next_code, progressed, words_in};
 
-use crate::status_codes::{DONE, MEMORY, PACKED_CUT, PACKED_TOO_LONG};
 use crate::report::{CapnReport, report_at};
+use crate::status_codes::{DONE, MEMORY, PACKED_CUT, PACKED_TOO_LONG};
 use capn_pack::{Next, Progress, unpack_some};
 use std::alloc::Global;
 

@@ -17,11 +17,11 @@ ghost use Rattle.capn_canon.specs.declared.refusal.Refusal.TheVariants as refusa
 ghost use Rattle.capn_canon.specs.inner.ReadyPlaces.{IsReady};
 ghost use Rattle.capn_canon.specs.BareVerdict.{SaysCanonical, IsBareSurvey};
 
-use crate::surveyed_bare::SurveyedBare;
 use crate::layout_test::check_run;
+use crate::own_words_test::words_of;
 use crate::refusal::Refusal;
 use crate::run::Run;
-use crate::own_words_test::words_of;
+use crate::surveyed_bare::SurveyedBare;
 use capn_walk::{Fault, Limits, Stopped, survey};
 use capn_words::{Bare, Space};
 use std::alloc::Allocator;

@@ -12,8 +12,8 @@ ghost use Rattle.capn_canon.specs.inner.SlotRuns.{IsRun, AreIn, IsList, Steps};
 ghost use Rattle.capn_canon.specs.inner.WordsOfLayout.{IsLaidAt, AreLaidAt, RowsLaidAt, AnswersIf, AreReadyRows};
 
 use crate::list_words::bits_of;
-use crate::run::Run;
 use crate::own_words_test::{are_bits_at, are_rows_at, is_struct_at, leads_to, tag_of, word_at};
+use crate::run::Run;
 use capn_words::{Bare, Place, Pointer, Width, split};
 
 /// The next free word after all that is below some slots, where each slot and all below it is that of the canonical

@@ -56,16 +56,16 @@ mod tree_content;
 mod tree_layout;
 mod tree_rows;
 
-pub use survey_input::survey_bytes;
+pub use bare_verdict::{is_canonical, survey_bare};
 pub use canonical::{Canonical, canonical_of};
 pub use canonical_input::canonicalise;
-pub use surveyed_bare::SurveyedBare;
 pub use form::Form;
+pub use message_survey::survey;
 pub use patch::Patch;
 pub use refusal::Refusal;
-pub use message_survey::survey;
+pub use survey_input::survey_bytes;
+pub use surveyed_bare::SurveyedBare;
 pub use tree_layout::{LayoutFault, layout};
-pub use bare_verdict::{survey_bare, is_canonical};
 
 // What the signatures above name.
 pub use capn_pack::UnpackFault;

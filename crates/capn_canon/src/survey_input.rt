@@ -14,8 +14,8 @@ ghost use Rattle.capn_canon.specs.declared.form.Form.TheVariants as forms;
 ghost use Rattle.capn_canon.specs.declared.refusal.Refusal.TheVariants as refusals;
 
 use crate::form::Form;
-use crate::refusal::Refusal;
 use crate::message_survey::survey;
+use crate::refusal::Refusal;
 use capn_pack::{UnpackFault, unpack};
 use capn_stream::{FrameFault, MOST_TABLE_WORDS, first};
 use capn_walk::{Limits, Surveyed};

@@ -7,9 +7,9 @@ ghost use Rattle.capn_canon.specs.Layout.{size, canon};
 ghost use Rattle.capn_canon.specs.LayoutFault.{IsLayoutFault};
 ghost use Rattle.capn_canon.specs.inner.Sound.{Sound};
 
-use crate::tree_content::lay_value;
 use crate::patch::Patch;
 use crate::pointer_words::pointer_to;
+use crate::tree_content::lay_value;
 use capn_value::{Memory, Tree, Value, first_cap};
 use std::alloc::Allocator;
 use std::error::Error;

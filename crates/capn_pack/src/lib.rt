@@ -35,6 +35,6 @@ mod whole_groups;
 pub use fault::{PackFault, UnpackFault};
 pub use lanes::tag;
 pub use packed_text::pack;
-pub use whole_groups::{Next, Progress, unpack_some};
-pub use unpacker::Unpacker;
 pub use unpacked_words::unpack;
+pub use unpacker::Unpacker;
+pub use whole_groups::{Next, Progress, unpack_some};

@@ -106,7 +106,7 @@ pub fn end_archive<E: Write, A: Allocator + Copy>(
 ) -> u8
     requires { has_failed errors.old ≡ false }
     ensures status { result ≡ archive_status outcome.now }
-    ensures told { WritesArchiveEnding outcome.now (E.contents (inner_of errors.old)) (E.contents (inner_of errors.new))
+    ensures says { WritesArchiveEnding outcome.now (E.contents (inner_of errors.old)) (E.contents (inner_of errors.new))
         (has_failed errors.new) }
 {
     if let Err(fault) = outcome {

@@ -11,9 +11,9 @@ ghost use Rattle.capn_program.specs.Program.{Flowed, LetsFlow, PicksMessages, Sh
 ghost use Rattle.capn_program.specs.Usage.{WishesVersion};
 
 use crate::archive_exit::end_archive;
+use crate::command_line::order_of;
 use crate::flow_exit::end_flow;
 use crate::help::VERSION_LINE;
-use crate::command_line::order_of;
 use crate::make_exit::end_make;
 use crate::order::{Flow, Order};
 use crate::pick_exit::end_pick;

@@ -47,7 +47,7 @@ pub fn end_flow<E: Write, A: Allocator + Copy>(
 ) -> u8
     requires { has_failed errors.old ≡ false }
     ensures status { result ≡ flow_status outcome.now }
-    ensures told { WritesFlowEnding outcome.now (E.contents (inner_of errors.old)) (E.contents (inner_of errors.new))
+    ensures says { WritesFlowEnding outcome.now (E.contents (inner_of errors.old)) (E.contents (inner_of errors.new))
         (has_failed errors.new) }
 {
     if let Err(fault) = outcome {

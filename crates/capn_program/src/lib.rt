@@ -24,12 +24,12 @@ mod pick_exit;
 mod subcommands;
 
 pub use archive_exit::{archive_text, end_archive, status_of_archive};
-pub use flow_exit::end_flow;
 pub use command_line::order_of;
+pub use entry::program;
+pub use flow_exit::end_flow;
 pub use make_exit::end_make;
 pub use order::{Flow, Order};
 pub use pick_exit::end_pick;
-pub use entry::program;
 pub use subcommands::program_command;
 
 // What the signatures above name.

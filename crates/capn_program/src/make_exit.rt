@@ -47,7 +47,7 @@ pub fn end_make<E: Write, A: Allocator + Copy>(
 ) -> u8
     requires { has_failed errors.old ≡ false }
     ensures status { result ≡ make_status outcome.now }
-    ensures told { WritesMakeEnding outcome.now (E.contents (inner_of errors.old)) (E.contents (inner_of errors.new))
+    ensures says { WritesMakeEnding outcome.now (E.contents (inner_of errors.old)) (E.contents (inner_of errors.new))
         (has_failed errors.new) }
 {
     if let Err(fault) = outcome {

@@ -33,7 +33,7 @@ pub fn end_pick<E: Write, A: Allocator + Copy>(
 ) -> u8
     requires { has_failed errors.old ≡ false }
     ensures status { result ≡ pick_status outcome.now }
-    ensures told { WritesPickEnding outcome.now (E.contents (inner_of errors.old)) (E.contents (inner_of errors.new))
+    ensures says { WritesPickEnding outcome.now (E.contents (inner_of errors.old)) (E.contents (inner_of errors.new))
         (has_failed errors.new) }
 {
     match outcome {

@@ -78,7 +78,7 @@ module _ (stage : Stage) (old piece : List ℕ) (most at n end : ℕ) (mid new e
   pub filled_stop : (e : FrameFault) → IsHeadRefused new most e → IsHeadRefused (old ++ piece) most e
   filled_stop e h =
       subst (λ (bs : List ℕ). IsHeadRefused bs most e) (sym filled_all)
-          (IsStop-append new (drop (at + n) piece) most e h)
+      (IsStop-append new (drop (at + n) piece) most e h)
 
   -- the piece ended
   pub filled_short : length new < end → Fills old piece most (at + n) new stage ends

@@ -7,8 +7,8 @@ ghost use Rattle.capn_stream.specs.Frames.{entry, frame_text};
 ghost use Rattle.capn_stream.specs.inner.FrameOutput.{head_text};
 
 use crate::fault::Io;
-use crate::table::MOST_TABLE_WORDS;
 use crate::frame_bytes::bytes_of;
+use crate::table::MOST_TABLE_WORDS;
 use capn_words::{Space, Watched};
 use std::io::Write;
 

@@ -8,8 +8,8 @@ ghost use Rattle.capn_stream.specs.FrameRefusal.{EndsWithin};
 ghost use Rattle.capn_stream.specs.NextMessage.{most_bytes};
 
 use crate::fault::FrameFault;
-use crate::stored::Stored;
 use crate::stage::{Stage, fill, part_left};
+use crate::stored::Stored;
 use std::alloc::{Allocator, Global};
 use std::marker::Model;
 use std::mem;

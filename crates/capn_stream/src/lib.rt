@@ -27,11 +27,11 @@ mod stored;
 mod table;
 
 pub use fault::{FrameFault, Io, Memory, ReadFault};
-pub use framer::Framer;
-pub use framed::Framed;
-pub use stored::Stored;
 pub use first_message::first;
-pub use next_message::read_message;
-pub use frame_output::write_message;
-pub use table::MOST_TABLE_WORDS;
 pub use frame_bytes::frame;
+pub use frame_output::write_message;
+pub use framed::Framed;
+pub use framer::Framer;
+pub use next_message::read_message;
+pub use stored::Stored;
+pub use table::MOST_TABLE_WORDS;

@@ -8,10 +8,10 @@ ghost use Rattle.capn_tool.specs.CommandLine.{tool_line};
 ghost use Rattle.capn_tool.specs.Meaning.{Means, FormIs, TariffIs, LimitsAre, NumberIs, UnpackedIs};
 ghost use Rattle.capn_tool.specs.Usage.{IsReason, Orders, error_of};
 
-use crate::help;
-use crate::usage::Usage;
 use crate::command::Command;
+use crate::help;
 use crate::subcommands::{tool_command, value_error};
+use crate::usage::Usage;
 use capn_canon::Form;
 use capn_stream::MOST_TABLE_WORDS;
 use capn_value::Tariff;

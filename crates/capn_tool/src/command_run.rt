@@ -9,14 +9,14 @@ ghost use Rattle.capn_tool.specs.Text.{EndsAs, EndsBy, IsText, Begins, PlanEndsA
 ghost use Rattle.capn_tool.specs.declared.fault.ToolFault.{ToolFault};
 ghost use Rattle.capn_tool.specs.declared.plan.Plan.TheVariants as plans;
 
-use crate::message_service::Service;
-use crate::fault::ToolFault;
-use crate::message_stream::run_each;
-use crate::whole_input::make;
 use crate::command::Command;
+use crate::fault::ToolFault;
+use crate::message_service::Service;
+use crate::message_stream::run_each;
 use crate::output::write_all;
-use crate::plan::{Plan, Whole, plan_of};
 use crate::packed_stream::run_packed;
+use crate::plan::{Plan, Whole, plan_of};
+use crate::whole_input::make;
 use capn_words::Watched;
 use std::alloc::Allocator;
 use std::io::{Read, Write};

@@ -8,13 +8,13 @@ ghost use Rattle.capn_tool.specs.Usage.{WishesHelp, error_of};
 ghost use Rattle.capn_tool.specs.FaultText.{WritesLine, fault_line};
 ghost use Rattle.capn_tool.specs.declared.fault.ToolFault.TheVariants as faults;
 
+use crate::command::Command;
+use crate::command_line::command_of;
+use crate::command_run::run;
 use crate::exit_status::end;
 use crate::fault::ToolFault;
-use crate::command_line::command_of;
-use crate::usage::Usage;
-use crate::command::Command;
 use crate::output::{flush_behind, write_all};
-use crate::command_run::run;
+use crate::usage::Usage;
 use capn_words::Watched;
 use std::alloc::{AllocError, Global};
 use std::convert::AsStr;

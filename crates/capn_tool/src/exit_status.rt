@@ -82,7 +82,7 @@ pub fn end<E: Write, A: Allocator + Copy>(
 ) -> u8
     requires { has_failed errors.old ≡ false }
     ensures status { result ≡ status_of outcome.now }
-    ensures told { ReportsEnding outcome.now (E.contents (inner_of errors.old)) (E.contents (inner_of errors.new))
+    ensures says { ReportsEnding outcome.now (E.contents (inner_of errors.old)) (E.contents (inner_of errors.new))
         (has_failed errors.new) }
 {
     if let Err(fault) = outcome {

@@ -34,14 +34,14 @@ mod subcommands;
 mod usage;
 mod whole_input;
 
-pub use exit_status::{end, fault_text, status};
-pub use fault::ToolFault;
-pub use command_line::command_of;
-pub use usage::Usage;
 pub use command::Command;
+pub use command_line::command_of;
 pub use command_run::run;
 pub use entry::program;
+pub use exit_status::{end, fault_text, status};
+pub use fault::ToolFault;
 pub use subcommands::tool_command;
+pub use usage::Usage;
 
 // What the signatures above name.
 pub use capn_canon::{Form, Limits, Refusal, Tariff};

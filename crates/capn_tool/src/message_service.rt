@@ -6,8 +6,8 @@ ghost use Rattle.capn_tool.specs.Outgoing.{outgoing};
 ghost use Rattle.capn_tool.specs.inner.ServedMessages.{AddsMessageText};
 
 use crate::fault::ToolFault;
-use crate::output::write_all;
 use crate::message_text::put_message_text;
+use crate::output::write_all;
 use crate::plan::MessageText;
 use capn_walk::Limits;
 use capn_words::{Space, Watched};

@@ -9,9 +9,9 @@ ghost use Rattle.capn_tool.specs.StreamRun.{EndsInput, IsListening, Passes, Runs
 ghost use Rattle.capn_tool.specs.Outgoing.{outgoing, sent};
 ghost use Rattle.capn_tool.specs.declared.plan.Plan.TheVariants as plans;
 
-use crate::message_service::{Service, add_message_text};
 use crate::fault::ToolFault;
 use crate::input::{MOST_BYTES, PIECE};
+use crate::message_service::{Service, add_message_text};
 use crate::output::send_rest;
 use capn_canon::Refusal;
 use capn_stream::{FrameFault, Framer, first};

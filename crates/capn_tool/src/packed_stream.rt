@@ -8,10 +8,10 @@ ghost use Rattle.capn_tool.specs.inner.PackedRun.{EndsPacked, IsUnpacking, Serve
 ghost use Rattle.capn_tool.specs.Outgoing.{outgoing, sent};
 ghost use Rattle.capn_tool.specs.declared.plan.Plan.TheVariants as plans;
 
-use crate::message_service::Service;
 use crate::fault::ToolFault;
-use crate::message_stream::{end_of_input, serve_bytes};
 use crate::input::{MOST_BYTES, PIECE};
+use crate::message_service::Service;
+use crate::message_stream::{end_of_input, serve_bytes};
 use crate::output::send_rest;
 use capn_canon::Refusal;
 use capn_pack::Unpacker;

@@ -10,8 +10,8 @@ ghost use Rattle.capn_tool.specs.declared.plan.Whole.TheVariants as wholes;
 
 use crate::fault::ToolFault;
 use crate::input::{MOST_BYTES, read_all};
-use crate::pending::read_words;
 use crate::message_text::put_bare_message_text;
+use crate::pending::read_words;
 use crate::plan::{MessageText, Whole};
 use capn_canon::{Form, Refusal, canonicalise};
 use capn_pack::{PackFault, pack};

@@ -39,12 +39,12 @@ mod tree;
 mod value;
 mod value_copy;
 
-pub use sameness::same;
-pub use items::Items;
 pub use cost_and_height::{MOST_COST, MOST_HEIGHT};
+pub use items::Items;
+pub use kept_lengths::{kept_slots, kept_slots_of_rows, kept_words, kept_words_of_rows};
 pub use memory::Memory;
 pub use misfit::Misfit;
+pub use sameness::same;
 pub use tariff::Tariff;
 pub use tree::{Tree, copy, cost, height, show, trim};
-pub use kept_lengths::{kept_slots, kept_slots_of_rows, kept_words, kept_words_of_rows};
 pub use value::{Body, Value, first_cap};

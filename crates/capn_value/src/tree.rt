@@ -12,15 +12,14 @@ ghost use Rattle.capn_value.specs.Same.{Same};
 ghost use Rattle.capn_value.specs.InRange.{InRange};
 ghost use Rattle.capn_value.specs.Tree as trees;
 
-use crate::value_copy::copy_value;
-use crate::flaws::misfit;
 use crate::cost_and_height::{capped_cost, capped_height};
+use crate::flaws::misfit;
 use crate::memory::Memory;
 use crate::misfit::Misfit;
 use crate::tariff::Tariff;
 use crate::text::show as show_value;
-use crate::value_copy::trim_value;
 use crate::value::Value;
+use crate::value_copy::{copy_value, trim_value};
 use std::alloc::{Allocator, Global};
 use std::marker::Model;
 

@@ -11,7 +11,7 @@ ghost use Rattle.capn_value.specs.inner.CutCopy as made;
 use crate::items::Items;
 use crate::kept_lengths::{kept_slots, kept_slots_of_rows, kept_words, kept_words_of_rows};
 use crate::sameness::is_null;
-use crate::value::{Value, Body};
+use crate::value::{Body, Value};
 use std::alloc::{AllocError, Allocator};
 
 /// A list of plain elements, copied as a whole.

@@ -61,7 +61,7 @@ module _ (m : List (List ℕ)) where
   at-once : (t : Stopped) (f : Fault) (limits : Bounds) → 0 < length (segment_at m 0)
       → visits_within m limits ≡ fails root f ∷ [] →
       t ≡ record { fault = f; place = root; paid = 0; visits = 1 }
-          → IsWalkRefused m limits t.fault t.place t.paid t.visits
+      → IsWalkRefused m limits t.fault t.place t.paid t.visits
   at-once t f limits some v e = rw e (inr (some, stops-at-once limits.budget root f (visits_within m limits) v))
 
   pub refused-kind : (t : Stopped) (found : Target) (limits : Bounds) → 0 < length (segment_at m 0)
@@ -74,7 +74,7 @@ module _ (m : List (List ℕ)) where
   pub refused-fault : (t : Stopped) (f : Fault) (limits : Bounds) → 0 < length (segment_at m 0) → target m root ≡ Err f
       →
       t ≡ record { fault = f; place = root; paid = 0; visits = 1 }
-          → IsWalkRefused m limits t.fault t.place t.paid t.visits
+      → IsWalkRefused m limits t.fault t.place t.paid t.visits
   refused-fault t f limits some e = at-once t f limits some (faulty-root (base limits.tariff) limits.depth f e)
 
   -- ---- the whole walk

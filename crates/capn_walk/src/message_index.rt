@@ -14,14 +14,14 @@ ghost use Rattle.capn_walk.specs.declared.target.Fault.TheVariants.{Memory};
 
 use crate::content::segment_length;
 use crate::entry::{Entry, Index, Indexed};
-use crate::slots_left::SlotsLeft;
 use crate::limits::Limits;
-use crate::slot_target::{near, resolve};
-use crate::step::{slots_below, price_within};
 use crate::message_survey::{size_of, survey};
+use crate::message_walk::{ROOT, root_target};
+use crate::slot_target::{near, resolve};
+use crate::slots_left::SlotsLeft;
+use crate::step::{price_within, slots_below};
 use crate::target::{Fault, Target};
 use crate::walk_answer::{Stopped, out_of_memory, stop};
-use crate::message_walk::{ROOT, root_target};
 use capn_words::{Place, Pointer, Space, split};
 use std::alloc::Allocator;
 

@@ -15,13 +15,13 @@ ghost use Rattle.capn_value.specs.FirstCap.{first_cap};
 ghost use Rattle.capn_walk.specs.declared.target.Fault.TheVariants.{Memory};
 
 use crate::content::segment_length;
-use crate::slots_left::{SlotsLeft, Waiting};
 use crate::limits::Limits;
-use crate::survey_answer::Surveyed;
-use crate::target::{Fault, Target};
-use crate::survey_visit::{is_plain, visit_elsewhere, visit_found, visit_numbers, visit_struct};
-use crate::walk_answer::Stopped;
 use crate::message_walk::{ROOT, root_target};
+use crate::slots_left::{SlotsLeft, Waiting};
+use crate::survey_answer::Surveyed;
+use crate::survey_visit::{is_plain, visit_elsewhere, visit_found, visit_numbers, visit_struct};
+use crate::target::{Fault, Target};
+use crate::walk_answer::Stopped;
 use capn_words::{Place, Pointer, Space, split};
 use smallvec::SmallVec;
 use std::alloc::Allocator;

@@ -5,8 +5,8 @@ ghost use Rattle.capn_words.specs.Message.{IsMessage};
 ghost use Rattle.capn_walk.specs.View as seen;
 ghost use Rattle.capn_walk.specs.inner.SlotsLeft.{places_of, owed, Lies};
 
-use crate::slots_left::SlotsLeft;
 use crate::price::price_of;
+use crate::slots_left::SlotsLeft;
 use crate::target::{Fault, Target};
 use capn_words::{Place, Space};
 

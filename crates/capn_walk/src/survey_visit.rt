@@ -10,9 +10,9 @@ ghost use Rattle.capn_walk.specs.inner.Outcomes.{Visits};
 ghost use Rattle.capn_walk.specs.Shapes.{IsPlain, AreNumbers};
 ghost use Rattle.capn_walk.specs.declared.target.Fault.TheVariants.{Memory};
 
-use crate::slots_left::SlotsLeft;
 use crate::slot_target::{near, resolve};
-use crate::step::{capability_of, slots_below, price_within};
+use crate::slots_left::SlotsLeft;
+use crate::step::{capability_of, price_within, slots_below};
 use crate::target::{Fault, Target};
 use capn_words::{Place, Pointer, Space, Width};
 

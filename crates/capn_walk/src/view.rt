@@ -13,12 +13,12 @@ ghost use Rattle.capn_walk.specs.declared.kind.Kind.TheVariants as kinds;
 use crate::content::segment_length;
 use crate::digits::{digit, per_word};
 use crate::kind::{Kind, kind_of};
+use crate::message_walk::{ROOT, may_be_root};
 use crate::meter::Meter;
-use crate::slot_target::resolve;
 use crate::sizes::{len_of, slots_in, words_in};
+use crate::slot_target::resolve;
 use crate::step::{capability_of, price_within};
 use crate::target::{Fault, Shape, Target};
-use crate::message_walk::{ROOT, may_be_root};
 use capn_words::{Place, Space, Width};
 use std::marker::Model;
 

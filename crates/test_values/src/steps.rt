@@ -1,7 +1,7 @@
 //! What steps of views pay and where they lead, and what a survey and a check of a message report.
 
 use crate::words::bytes_of;
-use capn_canon::{SurveyedBare, Refusal, survey_bare, survey};
+use capn_canon::{Refusal, SurveyedBare, survey, survey_bare};
 use capn_stream::first;
 use capn_value::Tariff;
 use capn_walk::{Fault, Limits, Meter, Stopped, Surveyed, View};

@@ -10,4 +10,4 @@ returns-in-Ok g c =
     let h = c.canonical_of.ensures in
     let is = bare_reads c.args.bytes.now c.in-Ok.space c.args.limits.message_words c.in-Ok.ensures.exact in
     canonicalised_as c.canonical_of.result _ _ _ c.args.bytes.now c.args.limits m is
-    (bare_bytes_wanted c.args.bytes.now c.args.limits m is) h.found h.refused h.wanted h.bounded
+    (bare_bytes_wanted c.args.bytes.now c.args.limits m is) h.found h.refused h.memory h.bounded

@@ -12,4 +12,4 @@ returns-else-taken-bytes g c =
     subst (λ (n : ℕ). IsFramed c.args.bytes.now n c.in-Ok.message) c.message_words.ensures.value
     (frame_reads c.args.bytes.now _ c.in-Ok.message c.in-Ok.taken c.in-Ok.ensures.found (omega arith)) in
     canonicalised_as c.canonical_of.result _ _ _ c.args.bytes.now c.args.limits c.in-Ok.message is
-    (framed_bytes_wanted c.args.bytes.now c.args.limits c.in-Ok.message is) h.found h.refused h.wanted h.bounded
+    (framed_bytes_wanted c.args.bytes.now c.args.limits c.in-Ok.message is) h.found h.refused h.memory h.bounded

@@ -6,7 +6,7 @@ use Rattle.capn_program.proofs.entry.end_unordered.Goals as goal
 pub returns-then-is_version : goal.returns-then-is_version
 returns-then-is_version g c =
     ends_version (kind_of (error_of c.args.usage.now)) _ _ c.end.result c.show_version.result
-    (c.is_version.ensures.0 c.if-is_version.true) c.show_version.ensures c.end.ensures.told c.end.ensures.status
+    (c.is_version.ensures.0 c.if-is_version.true) c.show_version.ensures c.end.ensures.says c.end.ensures.status
 
 pub returns : goal.returns
 returns g c =

@@ -7,7 +7,7 @@ use Rattle.capn_tool.proofs.entry.end_unordered.Goals as goal
 pub returns-then-is_memory : goal.returns-then-is_memory
 returns-then-is_memory g c =
     ends_memory (kind_of (error_of c.args.usage.now)) _ _ c.end.result (c.is_memory.ensures.0 c.if-is_memory.true)
-    (refl, c.requires.writer_fine) c.end.ensures.told c.end.ensures.status
+    (refl, c.requires.writer_fine) c.end.ensures.says c.end.ensures.status
 
 pub show_help-requires-clause-help : goal.show_help-requires-clause-help
 show_help-requires-clause-help g c = c.is_help.ensures.0 c.if-is_help.true
@@ -16,7 +16,7 @@ pub returns-then-is_help : goal.returns-then-is_help
 returns-then-is_help g c =
     let ended = c.end-then-is_help.ensures in
     ends_help (kind_of (error_of c.args.usage.now)) _ _ c.end-then-is_help.result c.show_help.result
-    (c.is_help.ensures.0 c.if-is_help.true) c.show_help.ensures ended.told ended.status
+    (c.is_help.ensures.0 c.if-is_help.true) c.show_help.ensures ended.says ended.status
 
 pub returns : goal.returns
 returns g c =
