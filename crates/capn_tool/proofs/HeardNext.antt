@@ -1,6 +1,6 @@
 -- Bytes up to the end of a message.
 use Rattle.std.proofs.Common.{◌≡◌, ◌≢◌, ◌⊎◌, inl, inr, ℕ, zero, suc, ◌+◌, ◌-◌, ◌<◌, ◌≤◌, List, [], ◌++◌, length, take}
-use Rattle.std.proofs.Common.{Bool, true, false, Option, None, Some, Result, Ok, Err, refl, ap, sym, subst, ◌∙◌}
+use Rattle.std.proofs.Common.{Bool, true, false, Option, None, Some, Ok, Err, refl, ap, sym, subst, ◌∙◌}
 use Rattle.std.proofs.Common.{drop, append-nil, append_assoc, arith, length-drop}
 use Rattle.std.proofs.lemmas.List.{take-append-drop, take_rest}
 use Rattle.std.proofs.Math.Seq.{take-add}
@@ -15,11 +15,11 @@ use Rattle.capn_stream.specs.declared.fault.FrameFault.{FrameFault}
 use Rattle.capn_stream.specs.declared.fault.FrameFault.TheVariants as frame_faults
 use Rattle.capn_stream.proofs.shared.Wanting.{unfinished_frame}
 use Rattle.capn_tool.specs.inner.ServedMessages.{AddsMessageText}
-use Rattle.capn_tool.specs.Outgoing.{Outgoing, Adds, SendsRest, outgoing, sent}
+use Rattle.capn_tool.specs.Outgoing.{Outgoing, Adds, outgoing, sent}
 use Rattle.capn_tool.specs.Streams.{texts_of}
 use Rattle.capn_tool.specs.MessageText.{IsMessageText}
 use Rattle.capn_stream.specs.FrameRefusal as frame_rules
-use Rattle.capn_tool.specs.StreamRun.{HasNoFrame, IsDueSo, IsListening, Serves, ServesNext, Stops, Writes, fault_of}
+use Rattle.capn_tool.specs.StreamRun.{HasNoFrame, IsDueSo, IsListening, ServesNext, Stops, Writes, fault_of}
 use Rattle.capn_tool.specs.declared.plan.MessageText.{MessageText}
 use Rattle.capn_tool.specs.declared.fault.ToolFault.{ToolFault}
 use Rattle.capn_tool.specs.declared.fault.ToolFault.TheVariants as faults
@@ -321,47 +321,3 @@ module _ (piece : MessageText) (limits : Bounds) (c d e : Option (List ℕ)) (te
     io = stop.io;
     due = inr (inl (stop.io.1 refl));
   }
-
--- bytes were served, and then what was kept was written
-serves_sent : (piece : MessageText) (limits : Bounds) (before after : Framing) (bytes : List ℕ)
-    (c d e : Option (List ℕ))
-    (text : List ℕ) (broken failed : Bool) (served result : Result (Unit {0}) ToolFault)
-    → Serves piece limits before bytes (sent c) (outgoing d text) broken served after
-    → SendsRest served text d e broken failed result
-    → Serves piece limits before bytes (sent c) (sent e) failed result after
-serves_sent piece limits before after bytes c d e text true failed (Ok u) result s r =
-    absurd (let bad : true ≡ false = s.2 in cc)
-serves_sent piece limits before after bytes c d e text true failed (Err fault) result s (same, broken, is) =
-    subst (λ (x : Result (Unit {0}) ToolFault). Serves piece limits before bytes (sent c) (sent e) failed x after)
-    (sym is)
-    (subst (λ (x : Bool). Stops piece limits (before.rest ++ bytes) (sent c) (sent e) x fault) (sym broken)
-    (stops_kept piece limits c d e text (before.rest ++ bytes) fault same s))
-serves_sent piece limits before after bytes c d e text false false (Ok u) result s (wrote, is) =
-    subst (λ (x : Result (Unit {0}) ToolFault). Serves piece limits before bytes (sent c) (sent e) false x after)
-    (sym is)
-    (tells_sent piece limits c d e text (before.rest ++ bytes) after.rest s.0 wrote, s.1, refl)
-serves_sent piece limits before after bytes c d e text false false (Err fault) result s (wrote, is) =
-    subst (λ (x : Result (Unit {0}) ToolFault). Serves piece limits before bytes (sent c) (sent e) false x after)
-    (sym is)
-    (stops_sent piece limits c d e text (before.rest ++ bytes) fault s wrote)
-serves_sent piece limits before after bytes c d e text false true (Ok u) result s (wrote, is) =
-    subst (λ (x : Result (Unit {0}) ToolFault). Serves piece limits before bytes (sent c) (sent e) true x after)
-    (sym is)
-    (tells_broken piece limits c d e text (before.rest ++ bytes) after.rest s.0 wrote)
-serves_sent piece limits before after bytes c d e text false true (Err fault) result s (wrote, is) =
-    subst (λ (x : Result (Unit {0}) ToolFault). Serves piece limits before bytes (sent c) (sent e) true x after)
-    (sym is)
-    (stops_broken piece limits c d e text (before.rest ++ bytes) fault s wrote)
-
-pub serves_piece : (piece : MessageText) (limits : Bounds) (before after : Framing) (bytes : List ℕ)
-    (c d e : Option (List ℕ))
-    (start text kept : List ℕ) (broken failed : Bool) (served result : Result (Unit {0}) ToolFault) → start ≡ []
-    → kept ≡ text
-    → Serves piece limits before bytes (outgoing c start) (outgoing d text) broken served after
-    → SendsRest served kept d e broken failed result
-    → Serves piece limits before bytes (sent c) (sent e) failed result after
-serves_piece piece limits before after bytes c d e start text kept broken failed served result none is s r =
-    serves_sent piece limits before after bytes c d e text broken failed served result
-    (subst (λ (p : List ℕ). Serves piece limits before bytes (outgoing c p) (outgoing d text) broken served after)
-    none s)
-    (subst (λ (p : List ℕ). SendsRest served p d e broken failed result) is r)

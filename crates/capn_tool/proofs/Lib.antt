@@ -10,6 +10,8 @@ pub mod WholeRun
 pub mod OneText
 pub mod Sends
 pub mod Verdicts
+pub mod Served
+pub mod EachServed
 pub mod HeardMore
 pub mod HeardNext
 pub mod HeardRun

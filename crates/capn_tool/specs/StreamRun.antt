@@ -8,6 +8,8 @@ use Rattle.capn_stream.specs.FrameRefusal as frame_rules
 use Rattle.capn_stream.specs.declared.fault.FrameFault.{FrameFault}
 use Rattle.capn_stream.specs.declared.fault.FrameFault.TheVariants as frames
 use Rattle.capn_canon.specs.declared.refusal.Refusal.TheVariants as refusals
+use Rattle.capn_serve.specs.declared.fault.RunFault.{RunFault}
+use Rattle.capn_serve.specs.declared.fault.RunFault.TheVariants as run_faults
 use Rattle.capn_tool.specs.Outgoing.{Outgoing, Adds, Breaks, sent}
 use Rattle.capn_tool.specs.Streams.{Part, AreParts, texts_of, IsDueEach}
 use Rattle.capn_tool.specs.Text.{IsDue, PlanEndsAs, PlanBegins, taken_of, has_more}
@@ -18,6 +20,13 @@ use Rattle.capn_tool.specs.declared.command.Command.{Command}
 use Rattle.capn_tool.specs.Plan.{plan_of}
 use Rattle.capn_tool.specs.declared.fault.ToolFault.{ToolFault}
 use Rattle.capn_tool.specs.declared.fault.ToolFault.TheVariants as faults
+
+-- the fault of a run, without the position of its message
+abbrev pub unplaced : RunFault → ToolFault
+unplaced run_faults.Memory = faults.Memory
+unplaced run_faults.Io = faults.Io
+unplaced run_faults.InputTooLong = faults.InputTooLong
+unplaced (run_faults.Refused at refusal) = faults.Refused refusal
 
 -- the pieces of the whole messages of a stream were added, and so much of it is left
 abbrev pub Writes : MessageText → Bounds → List ℕ → List ℕ → Outgoing → Outgoing → Type 0

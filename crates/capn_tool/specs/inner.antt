@@ -1,5 +1,6 @@
 -- What no public clause cites.
 pub mod PackedRun
+pub mod MessageTexts
 pub mod Pending
 pub mod ReadInput
 pub mod ServedMessages

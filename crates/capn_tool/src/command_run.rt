@@ -58,15 +58,7 @@ fn perform<R: Read, W: Write, A: Allocator + Copy>(
 {
     match plan {
         Plan::Whole(whole) => run_whole(alloc, whole, reader, writer),
-        Plan::Each(piece, limits) => run_each(
-            &Service {
-                alloc,
-                piece,
-                limits,
-            },
-            reader,
-            writer,
-        ),
+        Plan::Each(piece, limits) => run_each(alloc, piece, limits, reader, writer),
         Plan::Packed(piece, limits) => run_packed(
             &Service {
                 alloc,

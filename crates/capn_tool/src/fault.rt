@@ -4,6 +4,7 @@ ghost use Rattle.std.specs.Prelude.{◌≡◌};
 ghost use Rattle.capn_tool.specs.declared.fault.ToolFault.TheVariants as fault;
 
 use capn_canon::Refusal;
+use capn_serve::RunFault;
 use capn_value::Memory;
 use capn_walk::{Fault, Stopped};
 use std::alloc::AllocError;
@@ -55,6 +56,21 @@ impl From<Stopped> for ToolFault {
         match stopped.fault {
             Fault::Memory => ToolFault::Memory,
             _ => ToolFault::Refused(Refusal::Walk(stopped)),
+        }
+    }
+}
+
+impl From<RunFault> for ToolFault {
+    ghost use Rattle.capn_tool.specs.StreamRun.{unplaced};
+
+    ghost from_gives = { λ fault e. e ≡ unplaced fault };
+
+    fn from(fault: RunFault) -> ToolFault {
+        match fault {
+            RunFault::Memory => ToolFault::Memory,
+            RunFault::Io => ToolFault::Io,
+            RunFault::InputTooLong => ToolFault::InputTooLong,
+            RunFault::Refused(_, refusal) => ToolFault::Refused(refusal),
         }
     }
 }

@@ -25,6 +25,7 @@ pub mod laws;
 mod message_service;
 mod message_stream;
 mod message_text;
+mod message_texts;
 mod output;
 mod packed_stream;
 pub mod parts;

@@ -6,15 +6,18 @@ ghost use Rattle.capn_words.specs.Watched.{inner_of, has_failed};
 ghost use Rattle.capn_stream.specs.StreamPieces.{IsUnfinished};
 ghost use Rattle.capn_tool.specs.StreamRun as spec;
 ghost use Rattle.capn_tool.specs.StreamRun.{EndsInput, IsListening, Passes, Runs, Serves, ServesNext, ServesWhole};
-ghost use Rattle.capn_tool.specs.Outgoing.{outgoing, sent};
+ghost use Rattle.capn_tool.specs.Outgoing.{outgoing};
 ghost use Rattle.capn_tool.specs.declared.plan.Plan.TheVariants as plans;
 
 use crate::fault::ToolFault;
-use crate::input::{MOST_BYTES, PIECE};
+use crate::input::MOST_BYTES;
 use crate::message_service::{Service, add_message_text};
-use crate::output::send_rest;
+use crate::message_texts::first_run;
+use crate::plan::MessageText;
 use capn_canon::Refusal;
+use capn_serve::run_stream;
 use capn_stream::{FrameFault, Framer, first};
+use capn_walk::Limits;
 use capn_words::Watched;
 use std::alloc::Allocator;
 use std::io::{Read, Write};
@@ -138,25 +141,6 @@ pub(crate) fn serve_bytes<W: Write, A: Allocator + Copy>(
     Ok(())
 }
 
-/// Writes the pieces of all messages that these bytes make whole. The text is room for them.
-fn serve_chunk<W: Write, A: Allocator + Copy>(
-    service: &Service<A>,
-    framer: &mut Framer<A>,
-    bytes: &[u8],
-    text: &mut Vec<u8, A>,
-    writer: &mut Watched<W>,
-) -> Result<(), ToolFault>
-    requires fine { has_failed writer.old ≡ false }
-    requires listening { IsListening framer.old service.now.limits }
-    ensures { Serves service.now.piece service.now.limits framer.old bytes.now (sent (W.contents (inner_of writer.old)))
-        (sent (W.contents (inner_of writer.new)))
-        (has_failed writer.new) result framer.new }
-{
-    text.clear();
-    let served = serve_bytes(service, framer, bytes, text, writer);
-    send_rest(served, text, writer)
-}
-
 /// How a run ends whose input has ended.
 pub(crate) fn end_of_input<A: Allocator + Copy>(mut framer: Framer<A>) -> Result<(), ToolFault>
     requires good { framer.failed ≡ false }
@@ -169,36 +153,22 @@ pub(crate) fn end_of_input<A: Allocator + Copy>(mut framer: Framer<A>) -> Result
     }
 }
 
-/// Reads a stream piece by piece, and writes the pieces of all messages that are whole before it reads again.
+/// Writes a piece of each message of a stream: of all that are whole, before it reads again.
 pub fn run_each<R: Read, W: Write, A: Allocator + Copy>(
-    service: &Service<A>,
+    alloc: A,
+    piece: MessageText,
+    limits: Limits,
     reader: &mut Watched<R>,
     writer: &mut Watched<W>,
 ) -> Result<(), ToolFault>
     requires reader_fine { has_failed reader.old ≡ false }
     requires writer_fine { has_failed writer.old ≡ false }
-    ensures { Runs (plans.Each service.now.piece service.now.limits) (R.remaining (inner_of reader.old))
-        (R.remaining (inner_of reader.new))
+    ensures { Runs (plans.Each piece limits) (R.remaining (inner_of reader.old)) (R.remaining (inner_of reader.new))
         (W.contents (inner_of writer.old)) (W.contents (inner_of writer.new)) (has_failed reader.new)
         (has_failed writer.new) result }
 {
-    let mut framer = Framer::new(service.alloc, service.limits.message_words());
-    let mut text = Vec::new(service.alloc);
-    let mut buffer = [0; PIECE];
-    let mut taken = 0;
-    'pieces: loop {
-        let room = (MOST_BYTES + 1 - taken).min(PIECE);
-        match reader.read(&mut buffer[..room]) {
-            Err(_) => return Err(ToolFault::Io),
-            Ok(0) => return end_of_input(framer),
-            Ok(count) => {
-                let within = count.min(MOST_BYTES - taken);
-                serve_chunk(service, &mut framer, &buffer[..within], &mut text, writer)?;
-                if within < count {
-                    return Err(ToolFault::InputTooLong);
-                }
-                taken += count;
-            }
-        }
-    }
+    let mut run = first_run(piece, limits);
+    let most = limits.message_words();
+    run_stream(alloc, most, MOST_BYTES as u64, &mut run, reader, writer)?;
+    Ok(())
 }
