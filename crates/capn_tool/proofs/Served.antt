@@ -18,7 +18,7 @@ use Rattle.capn_tool.specs.MessageText.{IsMessageText, IsNoMessageText}
 use Rattle.capn_tool.specs.Streams.{Part, IsPart, AreParts, EndsUnframed, EndsRefused, IsDueEach, end_of, frames_of}
 use Rattle.capn_tool.specs.Streams.{texts_of}
 use Rattle.capn_tool.specs.StreamRun.{unplaced}
-use Rattle.capn_tool.specs.inner.MessageTexts.{message_texts, refuses, serves}
+use Rattle.capn_tool.specs.inner.MessageTexts.{first_run, message_texts, refuses, serves}
 use Rattle.capn_tool.specs.declared.message_texts.MessageTexts.{MessageTexts}
 use Rattle.capn_tool.specs.declared.plan.MessageText.{MessageText}
 use Rattle.capn_tool.specs.declared.fault.ToolFault.{ToolFault}
@@ -92,6 +92,9 @@ module _ (piece : MessageText) (limits : Bounds) where
   -- a run of the service of the piece
   abbrev pub IsOf : Run MessageTexts → Type 0
   IsOf x = x.service ≡ message_texts piece limits
+
+  pub is_first : (x : Run MessageTexts) → x ≡ first_run piece limits → IsOf x
+  is_first x new = ap (λ (y : Run MessageTexts). y.service) new
 
   each_part : (ps : List folds.Part) (x y : Run MessageTexts) → IsOf x → folds.AreServed texts x ps y
       → AllByRecursion (IsPart piece limits) (map same_part ps) × IsOf y

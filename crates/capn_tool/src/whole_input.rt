@@ -168,24 +168,6 @@ fn make_message_text<R: Read, A: Allocator + Copy>(
     bare_message_text(alloc, piece, &bytes, limits)
 }
 
-/// The canonical bytes of the one message that an input is in a form.
-fn make_canonical<R: Read, A: Allocator + Copy>(
-    alloc: A,
-    reader: &mut Watched<R>,
-    form: Form,
-    limits: Limits,
-) -> Result<Vec<u8, A>, ToolFault>
-    requires { has_failed reader.old ≡ false }
-    ensures { TakesAll (Gives (wholes.Canonical form limits)) (R.remaining (inner_of reader.old))
-        (R.remaining (inner_of reader.new)) (has_failed reader.new) result }
-{
-    match form {
-        Form::Stream => make_framed(alloc, reader, limits),
-        Form::Packed => make_packed(alloc, reader, limits),
-        Form::Bare => make_trimmed(alloc, reader, limits),
-    }
-}
-
 /// Reads an input to its end, and answers what is made of it.
 pub fn make<R: Read, A: Allocator + Copy>(
     alloc: A,
@@ -199,7 +181,11 @@ pub fn make<R: Read, A: Allocator + Copy>(
     match whole {
         Whole::Packed => make_text(alloc, reader),
         Whole::Unpacked(most) => read_words(alloc, reader, most),
-        Whole::Canonical(form, limits) => make_canonical(alloc, reader, form, limits),
+        Whole::Canonical(form, limits) => match form {
+            Form::Stream => make_framed(alloc, reader, limits),
+            Form::Packed => make_packed(alloc, reader, limits),
+            Form::Bare => make_trimmed(alloc, reader, limits),
+        },
         Whole::Bare(piece, limits) => make_message_text(alloc, reader, piece, limits),
     }
 }
