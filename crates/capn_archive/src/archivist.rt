@@ -1,7 +1,6 @@
 //! The service of an archive: what is done with each message, and what is kept of it.
 
-ghost use Rattle.std.specs.Prelude.{◌≡◌, ◌≢◌, ℕ, List};
-ghost use Rattle.capn_canon.specs.declared.refusal.Refusal.TheVariants as refusals;
+ghost use Rattle.std.specs.Prelude.{ℕ, List};
 ghost use Rattle.capn_archive.specs.Tasks.{Serves, Skips};
 ghost use Rattle.capn_archive.specs.declared.task.Task.TheVariants as tasks;
 ghost use Rattle.capn_serve.specs.declared.position.Position.{Position};
