@@ -21,12 +21,11 @@ pub trait Service {
     /// In a state, the message at a position, with its frame, is refused.
     ghost refuses: { Self → Position → List ℕ → List (List ℕ) → Refusal → Type 0 };
 
-    /// Adds what the message writes to what is on its way out: the text, which is written next, and the writer.
+    /// Adds what the message writes: to the text, which goes out next, or to the writer after the text.
     ///
-    /// A service may append to the text, and leave the writer to [`flush_long`](crate::flush_long), which it calls at
-    /// its end; or write the text, and then what the message writes, to the writer, so that no long answer is held. A
-    /// refusal comes before the first byte of a message. `Memory` or `Io` may come within its text, of which a beginning
-    /// was added then.
+    /// A service may append to the text, and call [`flush_long`](crate::flush_long) at its end; or it may write the text
+    /// to the writer, and then its own piece by piece, so that no long answer is held. A refusal comes before the first
+    /// byte of the message's text. At `Memory` or `Io` a beginning of that text may have been added.
     fn serve<S: Space, W: Write, A: Allocator + Copy>(
         &mut self,
         alloc: A,
