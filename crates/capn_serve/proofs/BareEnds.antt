@@ -192,16 +192,16 @@ module _ {X : Type 0} (f : Fold X) (x y : X) (a b c : Option (List ℕ)) where
     runs_unserved : (d : Option (List ℕ)) (kept : List ℕ) (fault : RunFault)
         → ServesBare f x bytes (sent c) (outgoing d kept) w (Err fault) y → RunsBare f x a b c d r w (Err fault) y
     runs_unserved d kept fault (inr (why, none, good)) = runs_none d kept fault good (inl why) none
-    runs_unserved d kept (faults.Refused at e) (inl (words, bare, place, refuses, none, good)) =
+    runs_unserved d kept (faults.Refused at e) (inl (words, bare, (place, refuses, none, good))) =
         runs_none d kept (faults.Refused at e) good
         (inr (words, e, bare, refuses, ap (λ (p : Position). faults.Refused p e) place)) none
-    runs_unserved d kept faults.Memory (inl (words, bare, begun, good)) = record {
+    runs_unserved d kept faults.Memory (inl (words, bare, (begun, good))) = record {
       exact = ends_unread d faults.Memory (inl refl);
       io = io_none r w faults.Memory all_given.given.fine good (λ e. cc);
       begun = begins_so d (beginning d kept words bare begun);
       heard = λ e. absurd (read_fine e);
     }
-    runs_unserved d kept faults.Io (inl (words, bare, (text, mid, count, step, wrote), broken)) = record {
+    runs_unserved d kept faults.Io (inl (words, bare, ((text, mid, count, step, wrote), broken))) = record {
       exact = ends_unread d faults.Io (inr refl);
       io = (λ h. inr broken, λ h. refl);
       begun = begins_so d (inr (text, mid, count, (words, bare, step), wrote));
@@ -221,7 +221,7 @@ module _ {X : Type 0} (f : Fold X) (x y : X) (a b c : Option (List ℕ)) where
         → ServesBare f x bytes (sent c) (outgoing d kept) fine (Ok tt) y → OnOk ending (Appends d e kept)
         → HasBegun d e kept → (IsErrOf ending faults.Io ↔ (w ≡ true)) → IsOkUnless ending faults.Io
         → RunsBare f x a b c e r w ending y
-    runs_sent d e kept fine ending (words, bare, text, step, adds, good) ok (count, wrote) io only = record {
+    runs_sent d e kept fine ending (words, bare, (text, step, adds, good)) ok (count, wrote) io only = record {
       exact = sent_ends ending ok only;
       io = sent_io ending io only;
       begun = begins_so e (inr (text, y, begun.0, (words, bare, step), begun.1));

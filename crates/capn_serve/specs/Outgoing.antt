@@ -31,12 +31,13 @@ Breaks old new count text = Appends old.taken new.taken (take count (old.kept ++
 
 -- nothing was added, or a beginning of one of the texts that may be written, each with what it leads to
 abbrev pub AddsBeginning : {X : Type 0} → (List ℕ → X → Type 0) → Outgoing → Outgoing → Type 0
-AddsBeginning writes old new =
+AddsBeginning {X = X} writes old new =
     Adds old new [] ⊎ ((text : List ℕ) × (y : X) × (count : ℕ) × writes text y × Adds old new (take count text))
 
 -- the writer failed within what was kept and one of these texts
 abbrev pub BreaksWithin : {X : Type 0} → (List ℕ → X → Type 0) → Outgoing → Outgoing → Type 0
-BreaksWithin writes old new = (text : List ℕ) × (y : X) × (count : ℕ) × writes text y × Breaks old new count text
+BreaksWithin {X = X} writes old new =
+    (text : List ℕ) × (y : X) × (count : ℕ) × writes text y × Breaks old new count text
 
 -- what was kept was written, or is kept and is short; or the writer failed within it
 abbrev pub Flushes : Outgoing → Outgoing → Bool → Result (Unit {0}) ServeFault → Type 0

@@ -13,6 +13,9 @@ returns-in_err-serve_bare g c =
     c.serve_bare.new.text.items c.in_err-serve_bare.field-0.0 c.new-text.ensures.items
     (c.in_err-serve_bare.ensures most))
 
+pub write_all-requires : goal.write_all-requires
+write_all-requires g c = (c.in_ok-serve_bare.ensures 0).2.3
+
 pub returns : goal.returns
 returns g c =
     λ most.
