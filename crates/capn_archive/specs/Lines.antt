@@ -1,5 +1,5 @@
 -- The lines that are written of messages. (Own.)
-use Rattle.std.specs.Prelude.{ℕ, ◌+◌, List, ◌++◌, codes, Bool, true, false, Option, Some, None}
+use Rattle.std.specs.Prelude.{ℕ, ◌+◌, ◌*◌, ◌^◌, min, max, List, ◌++◌, codes, Bool, true, false, Option, Some, None}
 use Rattle.std.specs.Fmt.{decimal}
 use Rattle.hex.specs.Hex.{encode_lower}
 use Rattle.capn_value.specs.declared.tariff.Tariff.{Tariff}
