@@ -88,5 +88,6 @@ abbrev pub TriesToSift : Sifted → List ℕ → List (List ℕ) → List ℕ �
 TriesToSift s frame message old new (Ok u) t =
     (text : List ℕ) × Sifts s frame message text t × (new ≡ old ++ text)
 TriesToSift s frame message old new (Err faults.Memory) t = new ≡ old
+TriesToSift s frame message old new (Err faults.Io) t = ⊥
 TriesToSift s frame message old new (Err (faults.Refused r)) t =
     IsUndigested message s.order.limits r × (new ≡ old) × (t ≡ s)

@@ -28,6 +28,7 @@ use Rattle.capn_archive.specs.Tally.{counted, skipped}
 abbrev pub Finds : {T : Type 0} → (T → Type 0) → (Refusal → Type 0) → Result T ServeFault → Type 0
 Finds is isn't (Ok x) = is x
 Finds is isn't (Err faults.Memory) = ⊤
+Finds is isn't (Err faults.Io) = ⊥
 Finds is isn't (Err (faults.Refused r)) = isn't r × (r ≢ refusals.Memory)
 
 -- a message is refused: by its walk, and where its canonical bytes are needed, also for a capability
@@ -85,6 +86,7 @@ Serves task limits tally at frame message old new (Ok u) tally_after =
     (text : List ℕ) × IsServedBy task limits tally at frame message text tally_after × (new ≡ old ++ text)
 Serves task limits tally at frame message old new (Err faults.Memory) tally_after =
     (new ≡ old) × (tally_after ≡ tally)
+Serves task limits tally at frame message old new (Err faults.Io) tally_after = ⊥
 Serves task limits tally at frame message old new (Err (faults.Refused r)) tally_after =
     IsRefusedBy task message limits r × (new ≡ old) × (tally_after ≡ tally)
 

@@ -1,9 +1,10 @@
 //! The service of an archive: what is done with each message, and what is kept of it.
 
-ghost use Rattle.std.specs.Prelude.{◌≡◌, ◌≢◌, ℕ, List};
-ghost use Rattle.capn_canon.specs.declared.refusal.Refusal.TheVariants as refusals;
+ghost use Rattle.std.specs.Prelude.{ℕ, List};
+ghost use Rattle.capn_archive.specs.Tasks as spec;
 ghost use Rattle.capn_archive.specs.Tasks.{Serves, Skips};
 ghost use Rattle.capn_archive.specs.declared.task.Task.TheVariants as tasks;
+ghost use Rattle.capn_serve.specs.Service.{PutsMessage};
 ghost use Rattle.capn_serve.specs.declared.position.Position.{Position};
 ghost use Rattle.capn_archive.specs.declared.tally.Tally.{Tally};
 
@@ -15,10 +16,11 @@ use crate::lines::{put_digests_line, put_list_line, put_refused_line};
 use crate::tally::{Tally, count, skip};
 use crate::task::{Archive, Task};
 use capn_canon::{Refusal, canonical_of};
-use capn_serve::{Position, ServeFault, Service};
+use capn_serve::{Position, ServeFault, Service, flush_long};
 use capn_walk::Limits;
-use capn_words::Space;
+use capn_words::{Space, Watched};
 use std::alloc::Allocator;
+use std::io::Write;
 
 /// The service of an archive: what is done with each message, and what was kept of those before.
 ///
@@ -153,21 +155,19 @@ fn skip_message<S: Space, A: Allocator + Copy>(
     Ok(())
 }
 
-impl Service for Archivist {
-    ghost use Rattle.capn_archive.specs.Tasks as spec;
-
-    ghost serves = { spec.serves };
-
-    ghost refuses = { spec.refuses };
-
-    fn serve<S: Space, A: Allocator + Copy>(
+impl Archivist {
+    /// Appends what a message writes, and keeps what is kept of it.
+    fn put_message<S: Space, A: Allocator + Copy>(
         &mut self,
         alloc: A,
         at: Position,
         frame: &[u8],
         message: &S,
         text: &mut Vec<u8, A>,
-    ) -> Result<(), ServeFault> {
+    ) -> Result<(), ServeFault>
+        ensures { PutsMessage spec.serves spec.refuses self.old at frame.now (S.message message.now) text.old.items
+            text.new.items result self.new }
+    {
         let served = serve_task(
             alloc,
             &self.order,
@@ -190,5 +190,26 @@ impl Service for Archivist {
             ),
             served => served,
         }
+    }
+}
+
+impl Service for Archivist {
+    ghost use Rattle.capn_archive.specs.Tasks as spec;
+
+    ghost serves = { spec.serves };
+
+    ghost refuses = { spec.refuses };
+
+    fn serve<S: Space, W: Write, A: Allocator + Copy>(
+        &mut self,
+        alloc: A,
+        at: Position,
+        frame: &[u8],
+        message: &S,
+        text: &mut Vec<u8, A>,
+        writer: &mut Watched<W>,
+    ) -> Result<(), ServeFault> {
+        self.put_message(alloc, at, frame, message, text)?;
+        flush_long(text, writer)
     }
 }

@@ -4,15 +4,17 @@ ghost use Rattle.std.specs.Prelude.{◌≡◌, length};
 ghost use Rattle.capn_archive.specs.CanonicalFrame.{PutsText};
 ghost use Rattle.capn_archive.specs.Sieve as spec;
 ghost use Rattle.capn_archive.specs.Sieve.{Notes, TriesToSift};
+ghost use Rattle.capn_serve.specs.Service.{PutsMessage};
 
 use crate::digest::digest_of;
 use crate::lines::put_bytes;
 use crate::tally::{Skipped, one_more};
 use crate::uniq::Uniq;
-use capn_serve::{Position, ServeFault, Service};
-use capn_words::Space;
+use capn_serve::{Position, ServeFault, Service, flush_long};
+use capn_words::{Space, Watched};
 use std::alloc::Allocator;
 use std::collections::BTreeSet;
+use std::io::Write;
 use std::marker::Model;
 
 /// The service that leaves doubles out: it writes the frame of each message, as it stands, whose canonical bytes no
@@ -126,6 +128,27 @@ impl<B: Allocator + Copy> Sieve<B> {
         self.served = self.served.saturating_add(1);
         Ok(())
     }
+
+    /// Appends what a message writes, or passes it over.
+    fn put_message<S: Space, A: Allocator + Copy>(
+        &mut self,
+        alloc: A,
+        at: Position,
+        frame: &[u8],
+        message: &S,
+        text: &mut Vec<u8, A>,
+    ) -> Result<(), ServeFault>
+        ensures { PutsMessage spec.serves spec.refuses self.old at frame.now (S.message message.now) text.old.items
+            text.new.items result self.new }
+    {
+        match self.sift(alloc, frame, message, text) {
+            Err(ServeFault::Refused(_)) if self.order.keep_going => {
+                self.skipped = Some(one_more(self.skipped, at));
+                Ok(())
+            }
+            sifted => sifted,
+        }
+    }
 }
 
 impl<B: Allocator + Copy> Service for Sieve<B> {
@@ -135,20 +158,16 @@ impl<B: Allocator + Copy> Service for Sieve<B> {
 
     ghost refuses = { spec.refuses };
 
-    fn serve<S: Space, A: Allocator + Copy>(
+    fn serve<S: Space, W: Write, A: Allocator + Copy>(
         &mut self,
         alloc: A,
         at: Position,
         frame: &[u8],
         message: &S,
         text: &mut Vec<u8, A>,
+        writer: &mut Watched<W>,
     ) -> Result<(), ServeFault> {
-        match self.sift(alloc, frame, message, text) {
-            Err(ServeFault::Refused(_)) if self.order.keep_going => {
-                self.skipped = Some(one_more(self.skipped, at));
-                Ok(())
-            }
-            sifted => sifted,
-        }
+        self.put_message(alloc, at, frame, message, text)?;
+        flush_long(text, writer)
     }
 }

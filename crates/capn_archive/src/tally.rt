@@ -1,6 +1,6 @@
 //! What a run keeps of the messages that it has served.
 
-ghost use Rattle.std.specs.Prelude.{◌≡◌, ◌≤◌};
+ghost use Rattle.std.specs.Prelude.{◌≡◌};
 ghost use Rattle.capn_archive.specs.Tally as spec;
 
 use capn_serve::Position;

@@ -1,6 +1,6 @@
 //! A run that leaves doubles out, from its first byte to its last.
 
-ghost use Rattle.std.specs.Prelude.{◌≡◌, ℕ, false, IfOk, IfErr, string_bytes};
+ghost use Rattle.std.specs.Prelude.{◌≡◌, false, IfOk, IfErr, string_bytes};
 ghost use Rattle.capn_words.specs.Watched.{inner_of, has_failed};
 ghost use Rattle.capn_archive.specs.inner.Closing.{PutsClosing};
 ghost use Rattle.capn_archive.specs.Finish.{outcome_by};

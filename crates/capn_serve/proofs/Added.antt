@@ -1,73 +1,46 @@
--- A message's text that joined what is kept, and what was written then.
-use Rattle.std.proofs.Common.{◌≡◌, ◌⊎◌, ◌↔◌, inl, inr, ℕ, List, [], ◌++◌, take, Bool, true, false, Option, Result, Ok}
-use Rattle.std.proofs.Common.{Err, IsErrAnd, IsErrOf, refl, ap, sym, subst, ◌∙◌, append-nil}
-use Rattle.std.specs.Io.KnownBytes.{Appends}
-use Rattle.std.proofs.KnownBytes.{Appends-nil}
-use Rattle.capn_words.specs.Watched.{HasBegun}
+-- A message of a run that its service served, or did not.
+use Rattle.std.proofs.Common.{◌≡◌, inl, inr, ℕ, List, Bool, Result, Err, refl, sym, subst}
 use Rattle.capn_canon.specs.declared.refusal.Refusal.{Refusal}
-use Rattle.capn_serve.specs.Fold.{Fold}
-use Rattle.capn_serve.specs.Outgoing.{outgoing}
-use Rattle.capn_serve.specs.ChunkRun.{AddsMessage, PutsMessage}
+use Rattle.capn_serve.specs.declared.position.Position.{Position}
+use Rattle.capn_serve.specs.declared.service.Run.{Run}
 use Rattle.capn_serve.specs.declared.fault.RunFault.{RunFault}
 use Rattle.capn_serve.specs.declared.fault.RunFault.TheVariants as faults
+use Rattle.capn_serve.specs.declared.fault.ServeFault.{ServeFault}
+use Rattle.capn_serve.specs.declared.fault.ServeFault.TheVariants as serve_faults
+use Rattle.capn_serve.specs.Fold.{after, fold_of}
+use Rattle.capn_serve.specs.Outgoing.{Outgoing}
+use Rattle.capn_serve.specs.ChunkRun.{AddsMessage}
+use Rattle.capn_serve.specs.Service.{DoesService}
 
-abbrev Ending : Type 0
-Ending = Result (Unit {0}) RunFault
-
-abbrev done : Ending
-done = Ok tt
-
-abbrev stopped : RunFault → Ending
+abbrev stopped : {E : Type 0} → E → Result (Unit {0}) E
 stopped fault = Err fault
 
--- a writer that answered no error has not failed
-sound : (failed : Bool) → (IsErrOf done faults.Io ↔ (failed ≡ true)) → failed ≡ false
-sound true io = absurd (let bad = io.1 refl in cc)
-sound false io = refl
+-- the fault of a run at a position, where the service ends the message there so
+abbrev pub told_at : Position → ServeFault → RunFault
+told_at at serve_faults.Memory = faults.Memory
+told_at at serve_faults.Io = faults.Io
+told_at at (serve_faults.Refused r) = faults.Refused at r
 
-module _ {X : Type 0} (f : Fold X) (x y : X) (frame : List ℕ) (message : List (List ℕ)) where
-  -- the message is refused, or memory was
-  pub adds_nothing : (c : Option (List ℕ)) (old new : List ℕ) (failed : Bool) (fault : RunFault) (r : Ending)
-      → PutsMessage f x frame message old new (stopped fault) y → failed ≡ false → IsErrAnd r (λ e. e ≡ fault)
-      → AddsMessage f x frame message (outgoing c old) (outgoing c new) failed r y
-  adds_nothing c old new failed fault (Ok u) put fine is = absurd is
-  adds_nothing c old new failed fault (Err e) (why, same) fine is = inl (
-    subst (λ (g : RunFault). (g ≡ faults.Memory)
-        ⊎ ((r : Refusal) × f.refuses x frame message r × (g ≡ faults.Refused (f.place x) r))) (sym is) why,
-    ([], Appends-nil c, same ∙ sym (append-nil old)),
-    fine,
-  )
+module _ {S : Type 0} (serves : S → Position → List ℕ → List (List ℕ) → List ℕ → S → Type 0)
+    (refuses : S → Position → List ℕ → List (List ℕ) → Refusal → Type 0) (most : ℕ) (x y : Run S) (frame : List ℕ)
+    (message : List (List ℕ)) (a b : Outgoing) (failed : Bool) (t : S) where
+  -- the run after the message
+  abbrev next : S → Run S
+  next u = record { service = u; at = after x.at frame }
 
-  -- the text is kept
-  pub adds_kept : (c : Option (List ℕ)) (old new : List ℕ) (failed : Bool)
-      → PutsMessage f x frame message old new done y → failed ≡ false
-      → AddsMessage f x frame message (outgoing c old) (outgoing c new) failed done y
-  adds_kept c old new failed (text, step, joined) fine = (text, step, ([], Appends-nil c, joined), fine)
+  stops : (fault : ServeFault)
+      → DoesService serves refuses x.service x.at frame message a b failed (stopped fault) t
+      → AddsMessage (fold_of serves refuses most) x frame message a b failed (stopped (told_at x.at fault)) y
+  stops serve_faults.Memory (inl none, fine) = (inl none, fine)
+  stops serve_faults.Memory (inr (text, u, count, step, adds), fine) =
+      (inr (text, next u, count, (step, refl), adds), fine)
+  stops serve_faults.Io ((text, u, count, step, breaks), broken) = ((text, next u, count, (step, refl), breaks), broken)
+  stops (serve_faults.Refused r) (refused, none, fine) = (refl, refused, none, fine)
 
-  -- the text was written
-  pub adds_written : (c d : Option (List ℕ)) (old mid whole new : List ℕ) (failed : Bool)
-      → PutsMessage f x frame message old mid done y → whole ≡ mid → Appends c d whole
-      → (IsErrOf done faults.Io ↔ (failed ≡ true)) → new ≡ []
-      → AddsMessage f x frame message (outgoing c old) (outgoing d new) failed done y
-  adds_written c d old mid whole new failed (text, step, joined) same wrote io none = (
-    text,
-    step,
-    (whole, wrote, ap (λ (l : List ℕ). whole ++ l) none ∙ append-nil whole ∙ same ∙ joined),
-    sound failed io,
-  )
-
-  -- the writer failed within the text
-  pub adds_broken : (c d : Option (List ℕ)) (old new whole : List ℕ) (failed : Bool) (fault : RunFault) (r : Ending)
-      → PutsMessage f x frame message old new done y → whole ≡ new → HasBegun c d whole
-      → (IsErrOf (stopped fault) faults.Io ↔ (failed ≡ true)) → fault ≡ faults.Io → IsErrAnd r (λ e. e ≡ fault)
-      → AddsMessage f x frame message (outgoing c old) (outgoing d new) failed r y
-  adds_broken c d old new whole failed fault (Ok u) put same begun io stop is = absurd is
-  adds_broken c d old new whole failed fault (Err e) (text, step, joined) same (count, begun) io stop is = inr (
-    text,
-    count,
-    y,
-    is ∙ stop,
-    io.0 (ap stopped stop),
-    step,
-    subst (λ (l : List ℕ). Appends c d (take count l)) (same ∙ joined) begun,
-  )
+  -- it was not served to its end
+  pub added_stop : (fault : ServeFault) (told : RunFault) → told ≡ told_at x.at fault
+      → DoesService serves refuses x.service x.at frame message a b failed (stopped fault) t
+      → AddsMessage (fold_of serves refuses most) x frame message a b failed (stopped told) y
+  added_stop fault told is served =
+      subst (λ (g : RunFault). AddsMessage (fold_of serves refuses most) x frame message a b failed (stopped g) y)
+      (sym is) (stops fault served)

@@ -1,12 +1,12 @@
 -- How a run over a bare input ends, from what was read of it.
-use Rattle.std.proofs.Common.{◌≡◌, ◌⊎◌, ◌↔◌, inl, inr, ℕ, ◌<◌, ◌≤◌, List, ◌++◌, length, Bool, true, false, Option}
-use Rattle.std.proofs.Common.{None, Some, IfSome, Result, Ok, Err, Vec, OnOk, IsErrOf, IsOkUnless, refl, ap, sym, subst}
-use Rattle.std.proofs.Common.{◌∙◌, append-nil, arith, length-append}
+use Rattle.std.proofs.Common.{◌≡◌, ◌⊎◌, ◌↔◌, inl, inr, ℕ, ◌<◌, ◌≤◌, List, [], ◌∷◌, ◌++◌, length, take, Bool, true}
+use Rattle.std.proofs.Common.{false, Option, None, Some, IfSome, Result, Ok, Err, Vec, OnOk, IsErrOf, IsOkUnless, refl}
+use Rattle.std.proofs.Common.{ap, sym, subst, ◌∙◌, append-nil, arith, length-append}
 use Rattle.std.specs.Io.KnownBytes.{Appends}
 use Rattle.std.proofs.KnownBytes.{Appends-nil}
-use Rattle.std.proofs.Math.Seq.{take_all}
+use Rattle.std.proofs.Math.Seq.{take-nil, take_all}
 use Rattle.capn_words.specs.Watched.{HasBegun}
-use Rattle.capn_words.specs.Message.{ReadsBare}
+use Rattle.capn_words.specs.Message.{IsBare, ReadsBare}
 use Rattle.capn_words.specs.declared.bare.BareFault.{BareFault}
 use Rattle.capn_canon.specs.declared.refusal.Refusal.TheVariants as refusals
 use Rattle.capn_serve.specs.declared.position.Position.{Position}
@@ -14,9 +14,11 @@ use Rattle.capn_serve.specs.declared.whole_input.WholeInput.{WholeInput}
 use Rattle.capn_serve.specs.declared.fault.RunFault.{RunFault}
 use Rattle.capn_serve.specs.declared.fault.RunFault.TheVariants as faults
 use Rattle.capn_serve.specs.Fold.{Fold}
+use Rattle.capn_serve.specs.Outgoing.{Adds, AddsBeginning, Breaks, outgoing, sent}
 use Rattle.capn_serve.specs.WholeInput.{HasGiven, HasGivenAll, IsBeginning, IsUntaken, TakesAll, most_input}
-use Rattle.capn_serve.specs.BareRun.{Begins, EndsAs, GivesText, IsShortBare, IsUnbare, RefusesBare, RunsBare}
-use Rattle.capn_serve.specs.BareRun.{WritesBare}
+use Rattle.capn_serve.specs.BareRun.{Begins, EndsAs, HasWritten, IsShortBare, IsUnbare, RefusesBare, RunsBare}
+use Rattle.capn_serve.specs.BareRun.{ServesBare}
+use Rattle.capn_serve.proofs.Sends.{adds_all, adds_begun, adds_sent, begun_less, breaks_rest}
 
 abbrev Ending : Type 0
 Ending = Result (Unit {0}) RunFault
@@ -81,17 +83,18 @@ is_longer (Some all) (Some rest) failed bytes h long =
 
 module _ {X : Type 0} (f : Fold X) (x y : X) (a b c : Option (List ℕ)) where
   -- nothing is written of the bytes
-  ends_none : (failed : Bool) (bytes : List ℕ) (fault : RunFault) → HasGivenAll a b failed bytes
-      → IsUnbare (f.place x) bytes fault ⊎ RefusesBare f x bytes fault → IfSome a (EndsAs f x c c (Err fault) y)
-  ends_none failed bytes fault all why =
-      some_so a (λ input. bytes ≡ input) (EndsAs f x c c (Err fault) y)
-      (λ input same. subst (EndsAs f x c c (Err fault) y) same (inr (inr (inr (all.within, why), Appends-nil c))))
+  ends_none : (d : Option (List ℕ)) (failed : Bool) (bytes : List ℕ) (fault : RunFault) → HasGivenAll a b failed bytes
+      → IsUnbare (f.place x) bytes fault ⊎ RefusesBare f x bytes fault → Appends c d []
+      → IfSome a (EndsAs f x c d (Err fault) y)
+  ends_none d failed bytes fault all why wrote =
+      some_so a (λ input. bytes ≡ input) (EndsAs f x c d (Err fault) y)
+      (λ input same. subst (EndsAs f x c d (Err fault) y) same (inr (inr (inr (all.within, why), wrote))))
       (is_given a b failed bytes all)
 
-  ends_unread : (fault : RunFault) → (fault ≡ faults.Memory) ⊎ (fault ≡ faults.Io)
-      → IfSome a (EndsAs f x c c (Err fault) y)
-  ends_unread fault (inl memory) = some_all a (EndsAs f x c c (Err fault) y) (λ input. inl memory)
-  ends_unread fault (inr io) = some_all a (EndsAs f x c c (Err fault) y) (λ input. inr (inl io))
+  ends_unread : (d : Option (List ℕ)) (fault : RunFault) → (fault ≡ faults.Memory) ⊎ (fault ≡ faults.Io)
+      → IfSome a (EndsAs f x c d (Err fault) y)
+  ends_unread d fault (inl memory) = some_all a (EndsAs f x c d (Err fault) y) (λ input. inl memory)
+  ends_unread d fault (inr io) = some_all a (EndsAs f x c d (Err fault) y) (λ input. inr (inl io))
 
   begins_none : (bytes : List ℕ) (failed : Bool) → HasGiven a b failed bytes → Begins f x a b c c
   begins_none bytes failed h =
@@ -119,7 +122,7 @@ module _ {X : Type 0} (f : Fold X) (x y : X) (a b c : Option (List ℕ)) where
   pub runs_unread : (r w : Bool) (fault : RunFault) → w ≡ false → Unread (f.place x) a b r fault
       → RunsBare f x a b c c r w (Err fault) y
   runs_unread r w fault good (inl (bytes, inl (h, inl memory))) = record {
-    exact = ends_unread fault (inl memory);
+    exact = ends_unread c fault (inl memory);
     io = io_none r w fault h.fine good (λ e. let bad : faults.Memory ≡ faults.Io = sym memory ∙ e in cc);
     begun = begins_none bytes r h;
     heard = λ e. Appends-nil c;
@@ -132,13 +135,13 @@ module _ {X : Type 0} (f : Fold X) (x y : X) (a b c : Option (List ℕ)) where
     heard = λ e. Appends-nil c;
   }
   runs_unread r w fault good (inl (bytes, inr (read, bounded, broken, is))) = record {
-    exact = ends_unread fault (inr is);
+    exact = ends_unread c fault (inr is);
     io = (λ h. inl broken, λ h. ap stopped is);
     begun = record { bytes = bytes; read = read; bounded = bounded; written = inl (Appends-nil c) };
     heard = λ e. Appends-nil c;
   }
   runs_unread r w fault good (inr (bytes, all, why)) = record {
-    exact = ends_none r bytes fault all (inl why);
+    exact = ends_none c r bytes fault all (inl why) (Appends-nil c);
     io = io_none r w fault all.given.fine good (known bytes fault (inl why));
     begun = begins_none bytes r all.given;
     heard = λ e. Appends-nil c;
@@ -152,59 +155,106 @@ module _ {X : Type 0} (f : Fold X) (x y : X) (a b c : Option (List ℕ)) where
     all_given : HasGivenAll a b r bytes
     all_given = subst (HasGivenAll a b r) is_all takes.1
 
-    -- its message is refused, or memory was
-    pub runs_refused : (fault : RunFault) → w ≡ false → GivesText f x {A = A} bytes (Err fault) y
-        → RunsBare f x a b c c r w (Err fault) y
-    runs_refused fault good (inl memory) = record {
-      exact = ends_unread fault (inl memory);
-      io = io_none r w fault all_given.given.fine good
-          (λ e. let bad : faults.Memory ≡ faults.Io = sym memory ∙ e in cc);
-      begun = begins_none bytes r all_given.given;
-      heard = λ e. Appends-nil c;
-    }
-    runs_refused fault good (inr why) = record {
-      exact = ends_none r bytes fault all_given why;
-      io = io_none r w fault all_given.given.fine good (known bytes fault why);
-      begun = begins_none bytes r all_given.given;
-      heard = λ e. Appends-nil c;
+    read_fine : r ≡ true → ⊥
+    read_fine e = let bad : true ≡ false = sym e ∙ all_given.given.fine in cc
+
+    begins_so : (d : Option (List ℕ)) → HasWritten f x bytes c d → Begins f x a b c d
+    begins_so d wrote = record {
+      bytes = bytes;
+      read = all_given.given.read;
+      bounded = all_given.given.bounded;
+      written = wrote;
     }
 
-    -- its text was written, or the writer failed
-    pub runs_written : (d : Option (List ℕ)) (text : Vec ℕ A) (sent : List ℕ) (ending : Ending)
-        → GivesText f x bytes (Ok text) y → sent ≡ text.items → OnOk ending (Appends c d sent)
-        → HasBegun c d sent → (IsErrOf ending faults.Io ↔ (w ≡ true)) → IsOkUnless ending faults.Io
-        → RunsBare f x a b c d r w ending y
-    runs_written d text sent ending writes is ok begun io only = record {
-      exact = written_ends ending ok only;
-      io = written_io ending io only;
-      begun = record {
-        bytes = bytes;
-        read = all_given.given.read;
-        bounded = all_given.given.bounded;
-        written = inr (sent, y, begun.0, text_is, begun.1);
-      };
-      heard = λ e. absurd (let bad : true ≡ false = sym e ∙ all_given.given.fine in cc);
+    nothing : (d : Option (List ℕ)) (kept : List ℕ) → Adds (sent c) (outgoing d kept) [] → Appends c d []
+    nothing d kept none =
+        let begun = adds_begun c (outgoing d kept) [] none in subst (Appends c d) (take-nil begun.0) begun.1
+
+    beginning : (d : Option (List ℕ)) (kept words : List ℕ) → IsBare bytes words
+        → AddsBeginning (f.step x bytes (words ∷ [])) (sent c) (outgoing d kept) → HasWritten f x bytes c d
+    beginning d kept words bare (inl none) = inl (nothing d kept none)
+    beginning d kept words bare (inr (text, mid, count, step, adds)) =
+        let begun = begun_less c d count text (adds_begun c (outgoing d kept) (take count text) adds) in
+        inr (text, mid, begun.0, (words, bare, step), begun.1)
+
+    -- nothing is written of it
+    runs_none : (d : Option (List ℕ)) (kept : List ℕ) (fault : RunFault) → w ≡ false
+        → IsUnbare (f.place x) bytes fault ⊎ RefusesBare f x bytes fault → Adds (sent c) (outgoing d kept) []
+        → RunsBare f x a b c d r w (Err fault) y
+    runs_none d kept fault good why none = record {
+      exact = ends_none d r bytes fault all_given why (nothing d kept none);
+      io = io_none r w fault all_given.given.fine good (known bytes fault why);
+      begun = begins_so d (inl (nothing d kept none));
+      heard = λ e. nothing d kept none;
+    }
+
+    -- its message was not served to its end
+    runs_unserved : (d : Option (List ℕ)) (kept : List ℕ) (fault : RunFault)
+        → ServesBare f x bytes (sent c) (outgoing d kept) w (Err fault) y → RunsBare f x a b c d r w (Err fault) y
+    runs_unserved d kept fault (inr (why, none, good)) = runs_none d kept fault good (inl why) none
+    runs_unserved d kept (faults.Refused at e) (inl (words, bare, (place, refuses, none, good))) =
+        runs_none d kept (faults.Refused at e) good
+        (inr (words, e, bare, refuses, ap (λ (p : Position). faults.Refused p e) place)) none
+    runs_unserved d kept faults.Memory (inl (words, bare, (begun, good))) = record {
+      exact = ends_unread d faults.Memory (inl refl);
+      io = io_none r w faults.Memory all_given.given.fine good (λ e. cc);
+      begun = begins_so d (beginning d kept words bare begun);
+      heard = λ e. absurd (read_fine e);
+    }
+    runs_unserved d kept faults.Io (inl (words, bare, ((text, mid, count, step, wrote), broken))) = record {
+      exact = ends_unread d faults.Io (inr refl);
+      io = (λ h. inr broken, λ h. refl);
+      begun = begins_so d (inr (text, mid, count, (words, bare, step), wrote));
+      heard = λ e. absurd (read_fine e);
+    }
+    runs_unserved d kept faults.InputTooLong (inl (words, bare, none)) = absurd none
+
+    pub runs_stopped : (d : Option (List ℕ)) (start kept : List ℕ) (fault : RunFault) → start ≡ []
+        → ServesBare f x bytes (outgoing c start) (outgoing d kept) w (Err fault) y
+        → RunsBare f x a b c d r w (Err fault) y
+    runs_stopped d start kept fault none served =
+        runs_unserved d kept fault
+        (subst (λ (l : List ℕ). ServesBare f x bytes (outgoing c l) (outgoing d kept) w (Err fault) y) none served)
+
+    -- it was served, and what is kept of its text was written, or the writer failed
+    runs_sent : (d e : Option (List ℕ)) (kept : List ℕ) (fine : Bool) (ending : Ending)
+        → ServesBare f x bytes (sent c) (outgoing d kept) fine (Ok tt) y → OnOk ending (Appends d e kept)
+        → HasBegun d e kept → (IsErrOf ending faults.Io ↔ (w ≡ true)) → IsOkUnless ending faults.Io
+        → RunsBare f x a b c e r w ending y
+    runs_sent d e kept fine ending (words, bare, (text, step, adds, good)) ok (count, wrote) io only = record {
+      exact = sent_ends ending ok only;
+      io = sent_io ending io only;
+      begun = begins_so e (inr (text, y, begun.0, (words, bare, step), begun.1));
+      heard = λ h. absurd (read_fine h);
     }
       where
-        text_is : WritesBare f x bytes sent y
-        text_is = subst (λ (t : List ℕ). WritesBare f x bytes t y) (sym is) writes
+        begun : (n : ℕ) × Breaks (sent c) (sent e) n text
+        begun = breaks_rest (sent c) d e kept text count adds wrote
 
-        written_ends : (ending : Ending) → OnOk ending (Appends c d sent) → IsOkUnless ending faults.Io
-            → IfSome a (EndsAs f x c d ending y)
-        written_ends (Ok u) ok only =
-            some_so a (λ input. bytes ≡ input) (EndsAs f x c d (Ok u) y)
-            (λ input same. subst (EndsAs f x c d (Ok u) y) same (sent, all_given.within, text_is, ok))
-            (is_given a b r bytes all_given)
-        written_ends (Err fault) ok only =
-            some_all a (EndsAs f x c d (Err fault) y) (λ input. inr (inl only))
+        sent_ends : (ending : Ending) → OnOk ending (Appends d e kept) → IsOkUnless ending faults.Io
+            → IfSome a (EndsAs f x c e ending y)
+        sent_ends (Ok u) ok only =
+            let all = adds_sent c e text (adds_all (sent c) d e kept text adds ok) in
+            some_so a (λ input. bytes ≡ input) (EndsAs f x c e (Ok u) y)
+            (λ input same. subst (EndsAs f x c e (Ok u) y) same
+            (text, all_given.within, (words, bare, step), all)) (is_given a b r bytes all_given)
+        sent_ends (Err fault) ok only =
+            some_all a (EndsAs f x c e (Err fault) y) (λ input. inr (inl only))
 
-        written_io : (ending : Ending) → (IsErrOf ending faults.Io ↔ (w ≡ true)) → IsOkUnless ending faults.Io
+        sent_io : (ending : Ending) → (IsErrOf ending faults.Io ↔ (w ≡ true)) → IsOkUnless ending faults.Io
             → (ending ≡ Err faults.Io) ↔ ((r ≡ true) ⊎ (w ≡ true))
-        written_io (Ok u) io only = (
+        sent_io (Ok u) io only = (
           λ h. absurd (cc),
-          λ h. absurd (elim h [
-            | inl bad ↦ (let e : true ≡ false = sym bad ∙ all_given.given.fine in cc)
-            | inr bad ↦ (let e = io.1 bad in cc)
-          ]),
+          λ h. absurd (elim h [ inl bad ↦ read_fine bad | inr bad ↦ (let e = io.1 bad in cc) ]),
         )
-        written_io (Err fault) io only = (λ h. inr (io.0 (ap stopped only)), λ h. ap stopped only)
+        sent_io (Err fault) io only = (λ h. inr (io.0 (ap stopped only)), λ h. ap stopped only)
+
+    pub runs_written : (d e : Option (List ℕ)) (start kept piece : List ℕ) (fine : Bool) (ending : Ending)
+        → start ≡ [] → ServesBare f x bytes (outgoing c start) (outgoing d kept) fine (Ok tt) y → piece ≡ kept
+        → OnOk ending (Appends d e piece) → HasBegun d e piece → (IsErrOf ending faults.Io ↔ (w ≡ true))
+        → IsOkUnless ending faults.Io → RunsBare f x a b c e r w ending y
+    runs_written d e start kept piece fine ending none served is ok begun io only =
+        runs_sent d e kept fine ending
+        (subst (λ (l : List ℕ). ServesBare f x bytes (outgoing c l) (outgoing d kept) fine (Ok tt) y) none served)
+        (subst (λ (l : List ℕ). OnOk ending (Appends d e l)) is ok)
+        (subst (λ (l : List ℕ). HasBegun d e l) is begun) io only

@@ -1,3 +1,4 @@
+pub mod shared
 pub mod Sends
 pub mod More
 pub mod Next

@@ -1,6 +1,7 @@
 -- A stream that is served in chunks: more of it, and where a run stops.
-use Rattle.std.proofs.Common.{◌≡◌, ◌≢◌, ◌⊎◌, inl, inr, ℕ, ◌≤◌, List, [], ◌∷◌, ◌++◌, length, Bool, true, false, Option}
-use Rattle.std.proofs.Common.{Result, Err, refl, ap, sym, subst, ◌∙◌, append-nil, append_assoc, arith, length-append}
+use Rattle.std.proofs.Common.{◌≡◌, ◌≢◌, inl, inr, ℕ, ◌+◌, ◌≤◌, List, [], ◌∷◌, ◌++◌, length, take, Bool, true}
+use Rattle.std.proofs.Common.{false, Option, Result, Err, refl, ap, sym, subst, ◌∙◌, append-nil, append_assoc}
+use Rattle.std.proofs.Math.Seq.{take-append-add, take-length}
 use Rattle.std.proofs.lemmas.Grind.{flat_map-append}
 use Rattle.capn_words.specs.Message.{total}
 use Rattle.capn_stream.specs.Frames.{Frames}
@@ -8,15 +9,14 @@ use Rattle.capn_stream.specs.inner.Stages.{IsHeadRefused}
 use Rattle.capn_stream.specs.declared.fault.FrameFault.{FrameFault}
 use Rattle.capn_stream.specs.declared.fault.FrameFault.TheVariants as frame_faults
 use Rattle.capn_stream.proofs.shared.Longer.{IsStop-append}
-use Rattle.capn_canon.specs.declared.refusal.Refusal.{Refusal}
 use Rattle.capn_canon.specs.declared.refusal.Refusal.TheVariants as refusals
-use Rattle.capn_serve.specs.Fold.{Fold, Part, IsPart, AreServed, AreParts, frame_of, text_of, frames_of, texts_of}
-use Rattle.capn_serve.specs.Fold.{IsFolded, end_of}
-use Rattle.capn_serve.specs.Outgoing.{Outgoing, Adds, Breaks}
-use Rattle.capn_serve.specs.ChunkRun.{AddsMessage, Tells, TellsFront, IsDueSo, Stops, fault_at}
+use Rattle.capn_serve.specs.declared.position.Position.{Position}
+use Rattle.capn_serve.specs.Fold.{Fold, Part, AreServed, AreParts, frame_of, text_of, frames_of, texts_of, IsFolded}
+use Rattle.capn_serve.specs.Outgoing.{Outgoing, Adds, AddsBeginning, Breaks, sent}
+use Rattle.capn_serve.specs.ChunkRun.{AddsMessage, Tells, TellsBegun, TellsFront, IsDueSo, Stops}
 use Rattle.capn_serve.specs.declared.fault.RunFault.{RunFault}
 use Rattle.capn_serve.specs.declared.fault.RunFault.TheVariants as faults
-use Rattle.capn_serve.proofs.Sends.{adds_more, adds_none, breaks_behind}
+use Rattle.capn_serve.proofs.Sends.{adds_more, adds_none, adds_sent, breaks_behind}
 
 module _ {X : Type 0} (f : Fold X) where
   served_append : (x y z : X) (ps qs : List Part) → AreServed f x ps y → AreServed f y qs z → AreServed f x (ps ++ qs) z
@@ -72,6 +72,43 @@ module _ {X : Type 0} (f : Fold X) where
     subst (Adds a b) (sym (append-nil text)) wrote,
   )
 
+  -- all of the texts is a beginning of them
+  pub tells_begun : (x y : X) (stream rest : List ℕ) (a b : Outgoing) → Tells f x stream rest a b y
+      → TellsBegun f x stream a b
+  tells_begun x y stream rest a b (parts, are, adds) = (
+    parts,
+    rest,
+    y,
+    length (texts_of parts),
+    are,
+    subst (Adds a b) (sym (take-length (texts_of parts))) adds,
+  )
+
+  begun_none : (x : X) (stream : List ℕ) (a b : Outgoing) → Adds a b [] → TellsBegun f x stream a b
+  begun_none x stream a b adds = ([], stream, x, 0, parts_none x stream, adds)
+
+  -- what was added of what follows some messages was added of all of the stream
+  pub begun_behind : (x y : X) (s mid e : List ℕ) (a b c : Outgoing) → Tells f x s mid a b y
+      → TellsBegun f y (mid ++ e) b c → TellsBegun f x (s ++ e) a c
+  begun_behind x y s mid e a b c told (parts, rest, z, count, are, adds) =
+      let first = texts_of told.0 in
+      let front : first ++ take count (texts_of parts) ≡ take (length first + count) (texts_of (told.0 ++ parts)) =
+      sym (take-append-add first (texts_of parts) count)
+      ∙ ap (λ (p : List ℕ). take (length first + count) p) (sym (flat_map-append text_of told.0 parts)) in (
+        told.0 ++ parts,
+        rest,
+        z,
+        length first + count,
+        parts_more x y z s mid e rest told.0 parts told.1 are,
+        subst (Adds a c) front (adds_more a b c first (take count (texts_of parts)) told.2 adds),
+      )
+
+  -- nothing is kept: what was added was written
+  pub begun_front : (x : X) (stream : List ℕ) (c d : Option (List ℕ)) → TellsBegun f x stream (sent c) (sent d)
+      → TellsFront f x stream (sent c) (sent d)
+  begun_front x stream c d (parts, rest, y, count, are, adds) =
+      (parts, rest, y, count, are, adds_sent c d (take count (texts_of parts)) adds)
+
   -- what a stream writes after some of its messages it writes after them in all of it
   pub due_behind : (x y : X) (s mid e : List ℕ) (a b c : Outgoing) (behind : Option RunFault)
       (ending : Result (Unit {0}) RunFault) → Tells f x s mid a b y
@@ -106,8 +143,7 @@ module _ {X : Type 0} (f : Fold X) where
   pub stops_more : (x y : X) (s mid e : List ℕ) (a b c : Outgoing) (failed : Bool) (fault : RunFault)
       → Tells f x s mid a b y → Stops f y (mid ++ e) b c failed fault → Stops f x (s ++ e) a c failed fault
   stops_more x y s mid e a b c failed fault told stop = record {
-    told = λ h. (let next = stop.told h in
-        (next.0, next.1, tells_more x y next.1 s mid e next.0 a b c told next.2));
+    told = λ h. begun_behind x y s mid e a b c told (stop.told h);
     front = λ h. front_behind x y s mid e a b c told (stop.front h);
     io = stop.io;
     due = elim stop.due [ inl m ↦ inl m | inr rest ↦ inr (elim rest [ inl i ↦ inl i | inr so ↦ inr (so_behind so) ]) ];
@@ -126,7 +162,7 @@ module _ {X : Type 0} (f : Fold X) where
   pub stops_memory : (x : X) (stream : List ℕ) (a : Outgoing) (failed : Bool) → failed ≡ false
       → Stops f x stream a a failed faults.Memory
   stops_memory x stream a failed fine = record {
-    told = λ h. (stream, x, tells_none x stream a);
+    told = λ h. begun_none x stream a a (adds_none a);
     front = λ h. absurd (let broken : true ≡ false = sym h ∙ fine in cc);
     io = (λ h. absurd (cc), λ h. absurd (cc));
     due = inl refl;
@@ -137,7 +173,7 @@ module _ {X : Type 0} (f : Fold X) where
       → e ≢ frame_faults.Memory → IsHeadRefused stream f.most e
       → Stops f x stream a a failed (faults.Refused (f.place x) (refusals.Frame e))
   stops_framed x stream a failed e fine other stop = record {
-    told = λ h. (stream, x, tells_none x stream a);
+    told = λ h. begun_none x stream a a (adds_none a);
     front = λ h. absurd (let broken : true ≡ false = sym h ∙ fine in cc);
     io = (λ h. absurd (cc), λ h. absurd (cc));
     due = inr (inr
@@ -171,29 +207,33 @@ module _ {X : Type 0} (f : Fold X) where
         ends = inl (frame_faults.TooManyWords n, other, stop, refl);
       }
 
+  -- a beginning of the text of the first message was added
+  begun_one : (x : X) (frame e : List ℕ) (message : List (List ℕ)) (a b : Outgoing) → Frames frame message
+      → total message ≤ f.most → AddsBeginning (f.step x frame message) a b → TellsBegun f x (frame ++ e) a b
+  begun_one x frame e message a b is room (inl none) = begun_none x (frame ++ e) a b none
+  begun_one x frame e message a b is room (inr (text, mid, count, step, adds)) = (
+    (record { frame = frame; message = message; text = text }) ∷ [],
+    e,
+    mid,
+    count,
+    one_part x mid frame message text e is room step,
+    subst (λ (t : List ℕ). Adds a b (take count t)) (sym (append-nil text)) adds,
+  )
+
   -- a message is refused, or memory was, or the writer failed
   pub stops_message : (x y : X) (frame e : List ℕ) (message : List (List ℕ)) (a b : Outgoing) (failed : Bool)
       (fault : RunFault) → Frames frame message → total message ≤ f.most
       → AddsMessage f x frame message a b failed (Err fault) y → Stops f x (frame ++ e) a b failed fault
-  stops_message x y frame e message a b failed fault is room (inl (why, kept, fine)) = record {
-    told = λ h. (frame ++ e, x, ([], parts_none x (frame ++ e), kept));
+  stops_message x y frame e message a b failed (faults.Refused at r) is room (place, refuses, none, fine) = record {
+    told = λ h. begun_none x (frame ++ e) a b none;
     front = λ h. absurd (let bad : true ≡ false = sym h ∙ fine in cc);
-    io = (λ h. absurd (no_io why h), λ h. absurd (let bad : true ≡ false = sym h ∙ fine in cc));
-    due = elim why [
-      | inl m ↦ inl m
-      | inr n ↦ inr (inr (λ more behind. ([], x, due n.0 n.1 n.2 more behind, kept)))
-    ];
+    io = (λ h. absurd (cc), λ h. absurd (let bad : true ≡ false = sym h ∙ fine in cc));
+    due = inr (inr (λ more behind. ([], x, due more behind, none)));
   }
     where
-      no_io : (fault ≡ faults.Memory)
-          ⊎ ((r : Refusal) × f.refuses x frame message r × (fault ≡ faults.Refused (f.place x) r)) → fault ≡ faults.Io
-          → ⊥
-      no_io (inl m) h = let bad : faults.Memory ≡ faults.Io = sym m ∙ h in cc
-      no_io (inr (r, refuses, n)) h = let bad : faults.Refused (f.place x) r ≡ faults.Io = sym n ∙ h in cc
-
-      due : (r : Refusal) → f.refuses x frame message r → fault ≡ faults.Refused (f.place x) r → (more : List ℕ)
-          (behind : Option RunFault) → IsFolded f x ((frame ++ e) ++ more) behind [] (Err fault) x
-      due r refuses n more behind = record {
+      due : (more : List ℕ) (behind : Option RunFault)
+          → IsFolded f x ((frame ++ e) ++ more) behind [] (Err (faults.Refused at r)) x
+      due more behind = record {
         parts = [];
         rest = (frame ++ e) ++ more;
         are = parts_none x ((frame ++ e) ++ more);
@@ -208,20 +248,26 @@ module _ {X : Type 0} (f : Fold X) where
               is,
               room,
               refuses,
-              ap (λ (g : RunFault). Err g) n,
+              ap (λ (p : Position). Err (faults.Refused p r)) place,
             );
       }
-  stops_message x y frame e message a b failed fault is room (inr (text, count, mid, is_io, broken, step, wrote)) =
-      record {
-        told = λ h. absurd (let bad : true ≡ false = sym broken ∙ h in cc);
-        front = λ h. (
-          (record { frame = frame; message = message; text = text }) ∷ [],
-          e,
-          mid,
-          count,
-          one_part x mid frame message text e is room step,
-          subst (Breaks a b count) (sym (append-nil text)) wrote,
-        );
-        io = (λ h. broken, λ h. is_io);
-        due = inr (inl is_io);
-      }
+  stops_message x y frame e message a b failed faults.Memory is room (begun, fine) = record {
+    told = λ h. begun_one x frame e message a b is room begun;
+    front = λ h. absurd (let bad : true ≡ false = sym h ∙ fine in cc);
+    io = (λ h. absurd (cc), λ h. absurd (let bad : true ≡ false = sym h ∙ fine in cc));
+    due = inl refl;
+  }
+  stops_message x y frame e message a b failed faults.Io is room ((text, mid, count, step, wrote), broken) = record {
+    told = λ h. absurd (let bad : true ≡ false = sym broken ∙ h in cc);
+    front = λ h. (
+      (record { frame = frame; message = message; text = text }) ∷ [],
+      e,
+      mid,
+      count,
+      one_part x mid frame message text e is room step,
+      subst (Breaks a b count) (sym (append-nil text)) wrote,
+    );
+    io = (λ h. broken, λ h. refl);
+    due = inr (inl refl);
+  }
+  stops_message x y frame e message a b failed faults.InputTooLong is room none = absurd none

@@ -4,8 +4,6 @@ use Rattle.std.proofs.Common.{take, drop, Bool, true, false, Option, None, Some,
 use Rattle.std.proofs.Common.{◌∙◌, append-nil, append_assoc, arith, length-append}
 use Rattle.std.proofs.lemmas.List.{take-append-drop, take_rest}
 use Rattle.std.proofs.Math.Seq.{take-add, take_all}
-use Rattle.std.proofs.lemmas.Bool.{cases_lt}
-use Rattle.std.proofs.lemmas.Grind.{flat_map-append}
 use Rattle.std.specs.Io.KnownBytes.{Appends}
 use Rattle.capn_words.specs.Watched.{HasBegun}
 use Rattle.capn_words.specs.Message.{total}
@@ -20,13 +18,13 @@ use Rattle.capn_serve.specs.declared.position.Position.{Position}
 use Rattle.capn_serve.specs.declared.service.Run.{Run}
 use Rattle.capn_serve.specs.declared.fault.RunFault.{RunFault}
 use Rattle.capn_serve.specs.declared.fault.RunFault.TheVariants as faults
-use Rattle.capn_serve.specs.Fold.{Fold, Part, AreServed, AreParts, after, fold_of, frames_of, texts_of}
+use Rattle.capn_serve.specs.Fold.{Fold, Part, AreServed, after, fold_of, frames_of, texts_of}
 use Rattle.capn_serve.specs.Outgoing.{Outgoing, Adds, SendsRest, outgoing, sent}
 use Rattle.capn_serve.specs.ChunkRun.{AddsMessage, HasRoom, IsDueSo, IsListening, Passes, Serves, ServesHeld}
 use Rattle.capn_serve.specs.ChunkRun.{ServesNext}
-use Rattle.capn_serve.specs.ChunkRun.{ServesWhole, Stops, Tells, fault_at}
-use Rattle.capn_serve.proofs.Sends.{adds_all, breaks_rest}
-use Rattle.capn_serve.proofs.More.{parts_none, tells_more, tells_none, tells_one, stops_framed, stops_memory}
+use Rattle.capn_serve.specs.ChunkRun.{ServesWhole, Stops, Tells, TellsBegun, fault_at}
+use Rattle.capn_serve.proofs.Sends.{adds_all, breaks_less, breaks_rest}
+use Rattle.capn_serve.proofs.More.{tells_begun, tells_more, tells_none, tells_one, stops_framed, stops_memory}
 use Rattle.capn_serve.proofs.More.{stops_message, stops_more}
 
 -- what is left after a frame that was taken is no frame
@@ -331,10 +329,15 @@ module _ {X : Type 0} (f : Fold X) (x : X) (c d e : Option (List ℕ)) (text : L
   tells_sent y stream rest (parts, are, adds) wrote =
       (parts, are, adds_all (sent c) d e text (texts_of parts) adds wrote)
 
+  pub begun_sent : (stream : List ℕ) → TellsBegun f x stream (sent c) (outgoing d text) → Appends d e text
+      → TellsBegun f x stream (sent c) (sent e)
+  begun_sent stream (parts, rest, y, count, are, adds) wrote =
+      (parts, rest, y, count, are, adds_all (sent c) d e text (take count (texts_of parts)) adds wrote)
+
   pub stops_sent : (stream : List ℕ) (fault : RunFault) → Stops f x stream (sent c) (outgoing d text) false fault
       → Appends d e text → Stops f x stream (sent c) (sent e) false fault
   stops_sent stream fault stop wrote = record {
-    told = λ h. (let all = stop.told refl in (all.0, all.1, tells_sent all.1 stream all.0 all.2 wrote));
+    told = λ h. begun_sent stream (stop.told refl) wrote;
     front = λ h. absurd (cc);
     io = stop.io;
     due = elim stop.due [ inl m ↦ inl m | inr rest ↦ inr (elim rest [ inl i ↦ inl i | inr so ↦ inr (so_sent so) ]) ];
@@ -345,10 +348,11 @@ module _ {X : Type 0} (f : Fold X) (x : X) (c d e : Option (List ℕ)) (text : L
           (part.0, part.1, part.2, adds_all (sent c) d e text part.0 part.3 wrote)
 
   -- the writer fails within it
-  pub tells_broken : (y : X) (stream rest : List ℕ) → Tells f x stream rest (sent c) (outgoing d text) y
-      → HasBegun d e text → Stops f x stream (sent c) (sent e) true faults.Io
-  tells_broken y stream rest (parts, are, adds) (count, wrote) =
-      let broken = breaks_rest (sent c) d e text (texts_of parts) count adds wrote in
+  pub begun_broken : (stream : List ℕ) → TellsBegun f x stream (sent c) (outgoing d text) → HasBegun d e text
+      → Stops f x stream (sent c) (sent e) true faults.Io
+  begun_broken stream (parts, rest, y, count, are, adds) (some, wrote) =
+      let begun = breaks_rest (sent c) d e text (take count (texts_of parts)) some adds wrote in
+      let broken = breaks_less (sent c) (sent e) begun.0 count (texts_of parts) begun.1 in
       record {
         told = λ h. absurd (cc);
         front = λ h. (parts, rest, y, broken.0, are, broken.1);
@@ -356,9 +360,14 @@ module _ {X : Type 0} (f : Fold X) (x : X) (c d e : Option (List ℕ)) (text : L
         due = inr (inl refl);
       }
 
+  pub tells_broken : (y : X) (stream rest : List ℕ) → Tells f x stream rest (sent c) (outgoing d text) y
+      → HasBegun d e text → Stops f x stream (sent c) (sent e) true faults.Io
+  tells_broken y stream rest told wrote =
+      begun_broken stream (tells_begun f x y stream rest (sent c) (outgoing d text) told) wrote
+
   pub stops_broken : (stream : List ℕ) (fault : RunFault) → Stops f x stream (sent c) (outgoing d text) false fault
       → HasBegun d e text → Stops f x stream (sent c) (sent e) true faults.Io
-  stops_broken stream fault stop wrote = let all = stop.told refl in tells_broken all.1 stream all.0 all.2 wrote
+  stops_broken stream fault stop wrote = begun_broken stream (stop.told refl) wrote
 
   -- it had failed before
   pub stops_kept : (stream : List ℕ) (fault : RunFault) → e ≡ d

@@ -2,7 +2,7 @@
 use Rattle.std.proofs.Common.{◌≡◌, ◌≢◌, ◌⊎◌, inl, inr, ℕ, ◌+◌, ◌-◌, ◌<◌, ◌≤◌, min, List, [], ◌++◌, length, take, Bool}
 use Rattle.std.proofs.Common.{true, false, Option, None, Some, IfSome, Result, Ok, Err, refl, ap, sym, subst, ◌∙◌}
 use Rattle.std.proofs.Common.{append_assoc, arith, length-append, length-take-le}
-use Rattle.std.proofs.Math.Seq.{take-length, take_all}
+use Rattle.std.proofs.Math.Seq.{take_all}
 use Rattle.std.proofs.lemmas.List.{take-append-le}
 use Rattle.std.proofs.lemmas.Grind.{flat_map-append}
 use Rattle.std.specs.Io.KnownBytes.{Appends, Consumes, IsAtEnd, Keeps}
@@ -29,6 +29,7 @@ use Rattle.capn_serve.specs.PackedChunkRun.{EndsPacked, HaltsPacked, HearsPacked
 use Rattle.capn_serve.specs.PackedChunkRun.{Pending, TellsPacked, fresh}
 use Rattle.capn_serve.proofs.InputRead.{kept_all, read_end, read_past, taken_front, taken_more}
 use Rattle.capn_serve.proofs.Sends.{adds_sent}
+use Rattle.capn_serve.proofs.More.{begun_front, tells_begun}
 use Rattle.capn_serve.proofs.PackedMore.{all_taken, begins_all, not_more, packed_more, packed_none, packed_stop}
 
 abbrev Ending : Type 0
@@ -85,14 +86,8 @@ module _ {X : Type 0} (f : Fold X) (x : X) (limit : ℕ) where
 
   told_front : (y : X) (stream rest : List ℕ) (c d : Option (List ℕ)) → Tells f x stream rest (sent c) (sent d) y
       → TellsFront f x stream (sent c) (sent d)
-  told_front y stream rest c d (parts, are, adds) = (
-    parts,
-    rest,
-    y,
-    length (texts_of parts),
-    are,
-    subst (Appends c d) (sym (take-length (texts_of parts))) (adds_sent c d (texts_of parts) adds),
-  )
+  told_front y stream rest c d told =
+      begun_front f x stream c d (tells_begun f x y stream rest (sent c) (sent d) told)
 
   pub taken_told : (y : X) (s : List ℕ) (q : Pending) (c d : Option (List ℕ))
       (told : TellsPacked f x (fresh limit) s q (sent c) (sent d) y)
@@ -112,8 +107,8 @@ module _ {X : Type 0} (f : Fold X) (x : X) (limit : ℕ) where
   pub fronts_stop : (s : List ℕ) (c e : Option (List ℕ)) (failed : Bool) (fault : RunFault)
       → HaltsPacked f x (fresh limit) s (sent c) (sent e) failed fault → Fronts s c e
   fronts_stop s c e true fault (stream, begins, halt) = (stream, begins, halt.front refl)
-  fronts_stop s c e false fault (stream, begins, halt) = let all = halt.told refl in
-      (stream, begins, told_front all.1 (taken_of limit stream) all.0 c e all.2)
+  fronts_stop s c e false fault (stream, begins, halt) =
+      (stream, begins, begun_front f x (taken_of limit stream) c e (halt.told refl))
 
   begins_packed : (a b c d : Option (List ℕ)) (all s : List ℕ) → Consumes a b all → length all ≤ most_packed + 1
       → taken_of most_packed all ≡ s → Fronts s c d → BeginsPacked f x limit a b c d

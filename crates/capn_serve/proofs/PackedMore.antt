@@ -25,14 +25,15 @@ use Rattle.capn_serve.specs.declared.fault.RunFault.{RunFault}
 use Rattle.capn_serve.specs.declared.fault.RunFault.TheVariants as faults
 use Rattle.capn_serve.specs.Fold.{Fold, Part, AreParts, EndsUnframed, IsFolded, end_of, fold_of, text_of, texts_of}
 use Rattle.capn_serve.specs.Outgoing.{Outgoing, SendsRest, outgoing, sent}
-use Rattle.capn_serve.specs.ChunkRun.{HasRoom, IsDueSo, Stops, Tells, TellsFront}
+use Rattle.capn_serve.specs.ChunkRun.{HasRoom, IsDueSo, Stops, Tells, TellsBegun, TellsFront}
 use Rattle.capn_serve.specs.StreamRun.{has_more, taken_of}
 use Rattle.capn_serve.specs.PackedRun.{unless_more}
 use Rattle.capn_serve.specs.PackedChunkRun.{Halts, HaltsPacked, IsDueWithin, IsUnpacking, Pending, ServesPacked}
 use Rattle.capn_serve.specs.PackedChunkRun.{ServesPart, TellsPacked, pending}
 use Rattle.capn_serve.proofs.InputRead.{taken_more}
-use Rattle.capn_serve.proofs.More.{front_behind, parts_more, stops_memory, tells_more, tells_none}
-use Rattle.capn_serve.proofs.Next.{room_told, tells_broken, tells_sent}
+use Rattle.capn_serve.proofs.More.{begun_behind, front_behind, parts_more, stops_memory, tells_begun, tells_more}
+use Rattle.capn_serve.proofs.More.{tells_none}
+use Rattle.capn_serve.proofs.Next.{begun_broken, begun_sent, room_told, tells_broken, tells_sent}
 use Rattle.capn_serve.proofs.Sends.{adds_all, adds_more}
 
 abbrev Ending : Type 0
@@ -176,7 +177,7 @@ module _ {X : Type 0} (f : Fold X) (x y : X) (left : ℕ) (rest stream end : Lis
       → Tells f x (rest ++ taken_of left stream) end a b y
       → Halts f x left rest stream a b failed faults.InputTooLong
   halts_long failed fine past part told = record {
-    told = λ h. (end, y, told);
+    told = λ h. tells_begun f x y (rest ++ taken_of left stream) end a b told;
     front = λ h. absurd (let bad : true ≡ false = sym h ∙ fine in cc);
     io = (λ h. absurd (cc), λ h. absurd (let bad : true ≡ false = sym h ∙ fine in cc));
     due = inr (inr (elim part [
@@ -240,12 +241,8 @@ module _ {X : Type 0} (f : Fold X) (x y : X) (left room : ℕ) (rest mid w v : L
   pub halts_more : (failed : Bool) (fault : RunFault) → Halts f y room mid v b c failed fault
       → Halts f x left rest (w ++ v) a c failed fault
   halts_more failed fault halt = record {
-    told = λ h. (let next = halt.told h in (
-      next.0,
-      next.1,
-      subst (λ (p : List ℕ). Tells f x p next.0 a c next.1) (sym (same_taken v))
-          (tells_more f x y next.1 (rest ++ w) mid (taken_of room v) next.0 a b c served next.2),
-    ));
+    told = λ h. subst (λ (p : List ℕ). TellsBegun f x p a c) (sym (same_taken v))
+        (begun_behind f x y (rest ++ w) mid (taken_of room v) a b c served (halt.told h));
     front = λ h. subst (λ (p : List ℕ). TellsFront f x p a c) (sym (same_taken v))
         (front_behind f x y (rest ++ w) mid (taken_of room v) a b c served (halt.front h));
     io = halt.io;
@@ -424,8 +421,7 @@ module _ {X : Type 0} (f : Fold X) (x : X) (left : ℕ) (rest stream : List ℕ)
     halts_sent : (fault : RunFault) → Halts f x left rest stream (sent c) (outgoing d text) false fault
         → Appends d e text → Halts f x left rest stream (sent c) (sent e) false fault
     halts_sent fault halt wrote = record {
-      told = λ h. (let all = halt.told refl in
-          (all.0, all.1, tells_sent f x c d e text all.1 (rest ++ taken_of left stream) all.0 all.2 wrote));
+      told = λ h. begun_sent f x c d e text (rest ++ taken_of left stream) (halt.told refl) wrote;
       front = λ h. absurd (cc);
       io = halt.io;
       due = elim halt.due [
@@ -443,9 +439,8 @@ module _ {X : Type 0} (f : Fold X) (x : X) (left : ℕ) (rest stream : List ℕ)
     halts_broken : (fault : RunFault) → Halts f x left rest stream (sent c) (outgoing d text) false fault
         → HasBegun d e text → Halts f x left rest stream (sent c) (sent e) true faults.Io
     halts_broken fault halt wrote =
-        let all = halt.told refl in
         halts_of f x left rest stream (sent c) (sent e) true faults.Io
-        (tells_broken f x c d e text all.1 (rest ++ taken_of left stream) all.0 all.2 wrote)
+        (begun_broken f x c d e text (rest ++ taken_of left stream) (halt.told refl) wrote)
 
     -- it had failed before
     halts_kept : (fault : RunFault) → e ≡ d → Halts f x left rest stream (sent c) (outgoing d text) true fault

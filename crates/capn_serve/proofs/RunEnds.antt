@@ -1,8 +1,8 @@
 -- A run over a stream that is read in chunks.
-use Rattle.std.proofs.Common.{◌≡◌, ◌≢◌, ◌⊎◌, inl, inr, ℕ, ◌+◌, ◌-◌, ◌<◌, ◌≤◌, ◌^◌, min, List, [], ◌++◌, length, take}
+use Rattle.std.proofs.Common.{◌≡◌, ◌≢◌, ◌⊎◌, inl, inr, ℕ, ◌+◌, ◌-◌, ◌<◌, ◌≤◌, ◌^◌, min, List, ◌++◌, length, take}
 use Rattle.std.proofs.Common.{Bool}
 use Rattle.std.proofs.Common.{true, false, Option, None, Some, IfSome, Result, Ok, Err, refl, ap, sym, subst, ◌∙◌}
-use Rattle.std.proofs.Common.{append-nil, arith, length-append, length-take-le}
+use Rattle.std.proofs.Common.{arith, length-append, length-take-le}
 use Rattle.std.proofs.Math.Seq.{take-length, take_all}
 use Rattle.std.proofs.lemmas.List.{take-append-le}
 use Rattle.std.specs.Io.KnownBytes.{Appends, Consumes, IsAtEnd, Keeps}
@@ -21,7 +21,7 @@ use Rattle.capn_serve.specs.Outgoing.{sent}
 use Rattle.capn_serve.specs.ChunkRun.{HasRoom, IsDueSo, Stops, Tells, TellsFront}
 use Rattle.capn_serve.specs.StreamRun.{Begins, EndsAs, EndsInput, HasEnded, HasWritten, Hears, IsDue, Kept, Runs}
 use Rattle.capn_serve.specs.StreamRun.{behind, has_more, start, taken_of}
-use Rattle.capn_serve.proofs.More.{stops_more, tells_more}
+use Rattle.capn_serve.proofs.More.{begun_front, stops_more, tells_begun, tells_more}
 use Rattle.capn_serve.proofs.InputRead.{kept_all, read_end, read_past, taken_front, taken_more}
 use Rattle.capn_serve.proofs.Next.{room_told}
 use Rattle.capn_serve.proofs.Sends.{adds_sent}
@@ -42,21 +42,14 @@ module _ {X : Type 0} (f : Fold X) (x : X) (limit : ℕ) where
   -- all of the texts is a front of them
   tells_front : (y : X) (stream rest : List ℕ) (c d : Option (List ℕ)) → Tells f x stream rest (sent c) (sent d) y
       → TellsFront f x stream (sent c) (sent d)
-  tells_front y stream rest c d (parts, are, adds) =
-      let wrote = adds_sent c d (texts_of parts) adds in (
-        parts,
-        rest,
-        y,
-        length (texts_of parts),
-        are,
-        subst (Appends c d) (sym (take-length (texts_of parts))) wrote,
-      )
+  tells_front y stream rest c d told =
+      begun_front f x stream c d (tells_begun f x y stream rest (sent c) (sent d) told)
 
   -- whatever stopped a run, a beginning of the texts was written
   pub stops_front : (stream : List ℕ) (c d : Option (List ℕ)) (failed : Bool) (fault : RunFault)
       → Stops f x stream (sent c) (sent d) failed fault → TellsFront f x stream (sent c) (sent d)
   stops_front stream c d true fault stop = stop.front refl
-  stops_front stream c d false fault stop = let all = stop.told refl in tells_front all.1 stream all.0 c d all.2
+  stops_front stream c d false fault stop = begun_front f x stream c d (stop.told refl)
 
   -- a beginning of the text was written
   begins_front : (a b c d : Option (List ℕ)) (all s : List ℕ) → Consumes a b all → length all ≤ limit + 1

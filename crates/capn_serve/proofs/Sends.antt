@@ -1,9 +1,12 @@
 -- Text that is added, and written once it is long or a piece of the input has ended.
-use Rattle.std.proofs.Common.{◌≡◌, ℕ, ◌+◌, List, [], ◌++◌, length, take, Option, ap, sym, subst, ◌∙◌, append-nil}
-use Rattle.std.proofs.Common.{append_assoc}
-use Rattle.std.proofs.Math.Seq.{take-append-add}
+use Rattle.std.proofs.Common.{◌≡◌, inl, inr, ℕ, ◌+◌, List, [], ◌++◌, length, take, Option, ap, sym, subst, ◌∙◌}
+use Rattle.std.proofs.Common.{append-nil, append_assoc, arith, length-take}
+use Rattle.std.proofs.Math.Seq.{take-append-add, take-append_seam, take_all}
+use Rattle.std.proofs.lemmas.List.{take-take}
+use Rattle.std.proofs.lemmas.Bool.{cases_lt}
 use Rattle.std.specs.Io.KnownBytes.{Appends}
 use Rattle.std.proofs.KnownBytes.{Appends-nil, Appends-trans}
+use Rattle.capn_words.specs.Watched.{HasBegun}
 use Rattle.capn_serve.specs.Outgoing.{Outgoing, Adds, Breaks, outgoing, sent}
 
 pub adds_none : (a : Outgoing) → Adds a a []
@@ -48,3 +51,32 @@ breaks_rest a d e kept text count (w, f, is) wrote =
     let front : w ++ take count kept ≡ take (length w + count) (a.kept ++ text) =
     sym (take-append-add w kept count) ∙ ap (λ (p : List ℕ). take (length w + count) p) is in
     (length w + count, subst (Appends a.taken e) front (Appends-trans a.taken d e w (take count kept) f wrote))
+
+-- ---- a beginning of a beginning
+
+take_less : (m n : ℕ) (l : List ℕ) → (k : ℕ) × (take m (take n l) ≡ take k l)
+take_less m n l = elim (cases_lt n m) [
+  | inl less ↦ (n, take_all m (take n l) (omega (arith, less, length-take n l)))
+  | inr more ↦ (m, take-take m n l more)
+]
+
+-- the writer failed within a beginning of a text
+pub breaks_less : (a b : Outgoing) (n count : ℕ) (text : List ℕ) → Breaks a b n (take count text) → (k : ℕ)
+    × Breaks a b k text
+breaks_less a b n count text broken =
+    let front : a.kept ++ take count text ≡ take (length a.kept + count) (a.kept ++ text) =
+    sym (take-append-add a.kept text count) in
+    let less = take_less n (length a.kept + count) (a.kept ++ text) in
+    (less.0, subst (Appends a.taken b.taken) (ap (λ (p : List ℕ). take n p) front ∙ less.1) broken)
+
+pub begun_less : (c d : Option (List ℕ)) (count : ℕ) (text : List ℕ) → HasBegun c d (take count text)
+    → HasBegun c d text
+begun_less c d count text (n, wrote) =
+    let less = take_less n count text in (less.0, subst (Appends c d) less.1 wrote)
+
+-- what is kept of a text was not written
+pub adds_begun : (c : Option (List ℕ)) (b : Outgoing) (text : List ℕ) → Adds (sent c) b text → HasBegun c b.taken text
+adds_begun c b text (w, f, is) =
+    let front : w ≡ take (length w) text =
+    sym (take-append_seam w b.kept) ∙ ap (λ (p : List ℕ). take (length w) p) is in
+    (length w, subst (Appends c b.taken) front f)

@@ -20,7 +20,7 @@ use Rattle.capn_serve.specs.PickRun.{EndsAs, HasWritten, Hears, IsPickedOf, Pick
 use Rattle.capn_serve.specs.Outgoing.{sent}
 use Rattle.capn_serve.specs.ChunkRun.{IsDueSo, Stops, Tells}
 use Rattle.capn_serve.specs.StreamRun as streams
-use Rattle.capn_serve.specs.StreamRun.{EndsInput, behind, has_more, taken_of}
+use Rattle.capn_serve.specs.StreamRun.{EndsInput, behind, taken_of}
 use Rattle.capn_serve.proofs.More.{stops_more, tells_more, tells_none}
 use Rattle.capn_serve.proofs.InputRead.{read_end, read_past, taken_front}
 use Rattle.capn_serve.proofs.RunEnds.{due_long, due_open, end_known, stops_front, written_front}

@@ -1,6 +1,6 @@
 -- A run over a bare input: what is written of the one message that it is, how it ends, and the state after it. (Own.)
-use Rattle.std.specs.Prelude.{◌≡◌, ◌⊎◌, ◌↔◌, ℕ, ◌+◌, ◌<◌, ◌≤◌, List, [], ◌∷◌, length, take, Bool, true, Option}
-use Rattle.std.specs.Prelude.{IfSome, Result, Ok, Err, Vec}
+use Rattle.std.specs.Prelude.{◌≡◌, ◌⊎◌, ◌↔◌, ℕ, ◌+◌, ◌<◌, ◌≤◌, List, [], ◌∷◌, length, take, Bool, true}
+use Rattle.std.specs.Prelude.{false, Option, IfSome, Result, Ok, Err, Vec}
 use Rattle.std.specs.Io.KnownBytes.{Consumes, Appends}
 use Rattle.capn_words.specs.Message.{IsBare, ReadsBare}
 use Rattle.capn_words.specs.declared.bare.BareFault.{BareFault}
@@ -10,6 +10,8 @@ use Rattle.capn_serve.specs.declared.position.Position.{Position}
 use Rattle.capn_serve.specs.declared.fault.RunFault.{RunFault}
 use Rattle.capn_serve.specs.declared.fault.RunFault.TheVariants as faults
 use Rattle.capn_serve.specs.Fold.{Fold}
+use Rattle.capn_serve.specs.Outgoing.{Outgoing, Adds}
+use Rattle.capn_serve.specs.ChunkRun.{AddsMessage}
 use Rattle.capn_serve.specs.WholeInput.{most_input}
 
 -- bytes that are no segment are refused at a position, with the reason
@@ -36,11 +38,13 @@ module _ {X : Type 0} (f : Fold X) (x : X) where
   EndsBare bytes fault = ((most_input < length bytes) × (fault ≡ faults.InputTooLong))
       ⊎ ((length bytes ≤ most_input) × (IsUnbare (f.place x) bytes fault ⊎ RefusesBare bytes fault))
 
-  -- the text of the bytes; or why there is none, or that memory was refused
-  abbrev pub GivesText : {A : Type 0} → List ℕ → Result (Vec ℕ A) RunFault → X → Type 0
-  GivesText bytes (Ok text) y = WritesBare bytes text.items y
-  GivesText bytes (Err fault) y =
-      (fault ≡ faults.Memory) ⊎ (IsUnbare (f.place x) bytes fault ⊎ RefusesBare bytes fault)
+  -- the one message of the bytes was served, or they are no segment and nothing was added
+  abbrev pub ServesBare : List ℕ → Outgoing → Outgoing → Bool → Result (Unit {0}) RunFault → X → Type 0
+  ServesBare bytes old new failed (Ok u) y =
+      (words : List ℕ) × IsBare bytes words × AddsMessage f x bytes (words ∷ []) old new failed (Ok u) y
+  ServesBare bytes old new failed (Err fault) y =
+      ((words : List ℕ) × IsBare bytes words × AddsMessage f x bytes (words ∷ []) old new failed (Err fault) y)
+      ⊎ (IsUnbare (f.place x) bytes fault × Adds old new [] × (failed ≡ false))
 
   -- a run has written the text of its input, in the state after it; or nothing of an input that has none, and ended
   -- with the reason; or memory was refused, or the reader or the writer failed

@@ -1,23 +1,26 @@
 -- A stream that is served in chunks: what has been written of the bytes that came. (Own.)
 use Rattle.std.specs.Prelude.{◌≡◌, ◌≢◌, ◌⊎◌, ◌↔◌, ℕ, ◌*◌, ◌+◌, ◌<◌, ◌≤◌, ◌^◌, List, [], ◌++◌, length, take, Bool, true}
-use Rattle.std.specs.Prelude.{false, Option, Some, None, nat_lt, IfSome, Result, Ok, Err}
-use Rattle.std.specs.Io.KnownBytes.{Consumes, Appends}
+use Rattle.std.specs.Prelude.{false, Option, Result, Ok, Err}
 use Rattle.capn_stream.specs.StreamPieces.{Framing, IsUnfinished}
-use Rattle.capn_stream.specs.FrameRefusal as frame_rules
 use Rattle.capn_stream.specs.declared.fault.FrameFault.{FrameFault}
 use Rattle.capn_stream.specs.declared.fault.FrameFault.TheVariants as frames
-use Rattle.capn_canon.specs.declared.refusal.Refusal.{Refusal}
 use Rattle.capn_canon.specs.declared.refusal.Refusal.TheVariants as refusals
 use Rattle.capn_serve.specs.declared.position.Position.{Position}
 use Rattle.capn_serve.specs.declared.fault.RunFault.{RunFault}
 use Rattle.capn_serve.specs.declared.fault.RunFault.TheVariants as faults
-use Rattle.capn_serve.specs.Fold.{Fold, Part, AreParts, IsFolded, texts_of, end_of}
-use Rattle.capn_serve.specs.Outgoing.{Outgoing, Adds, Breaks, sent}
+use Rattle.capn_serve.specs.Fold.{Fold, Part, AreParts, IsFolded, texts_of}
+use Rattle.capn_serve.specs.Outgoing.{Outgoing, Adds, AddsBeginning, Breaks, BreaksWithin}
 
 module _ {X : Type 0} (f : Fold X) where
   -- the whole messages of a stream were served, their texts were added, and this is left of it
   abbrev pub Tells : X → List ℕ → List ℕ → Outgoing → Outgoing → X → Type 0
   Tells x stream rest old new y = (parts : List Part) × AreParts f x stream parts rest y × Adds old new (texts_of parts)
+
+  -- a beginning of the texts of a stream was added
+  abbrev pub TellsBegun : X → List ℕ → Outgoing → Outgoing → Type 0
+  TellsBegun x stream old new =
+      (parts : List Part) × (rest : List ℕ) × (y : X) × (count : ℕ) × AreParts f x stream parts rest y
+      × Adds old new (take count (texts_of parts))
 
   -- the writer failed within the texts of a stream
   abbrev pub TellsFront : X → List ℕ → Outgoing → Outgoing → Type 0
@@ -31,34 +34,27 @@ module _ {X : Type 0} (f : Fold X) where
       (more : List ℕ) (behind : Option RunFault) → (text : List ℕ) × (y : X)
       × IsFolded f x (stream ++ more) behind text (Err fault) y × Adds old new text
 
-  -- a run over a stream that begins so stopped: memory was refused, the writer failed, or the stream ends so
+  -- A run over a stream that begins so stopped: memory was refused, the writer failed, or the stream ends so. A
+  -- beginning of the texts was added, which within a message ends where memory was refused.
   pub record Stops (x : X) (stream : List ℕ) (old new : Outgoing) (failed : Bool) (fault : RunFault) : Type 0 where
-    pub told : failed ≡ false → (rest : List ℕ) × (y : X) × Tells x stream rest old new y
+    pub told : failed ≡ false → TellsBegun x stream old new
     pub front : failed ≡ true → TellsFront x stream old new
     pub io : (fault ≡ faults.Io) ↔ (failed ≡ true)
     pub due : (fault ≡ faults.Memory) ⊎ ((fault ≡ faults.Io) ⊎ IsDueSo x stream old new fault)
 
-  -- a message's text was appended; or the message is refused, or memory was, and the text is as it was
-  abbrev pub PutsMessage : X → List ℕ → List (List ℕ) → List ℕ → List ℕ → Result (Unit {0}) RunFault → X → Type 0
-  PutsMessage x frame message old new (Ok u) y =
-      (text : List ℕ) × f.step x frame message text y × (new ≡ old ++ text)
-  PutsMessage x frame message old new (Err fault) y =
-      ((fault ≡ faults.Memory)
-      ⊎ ((r : Refusal) × f.refuses x frame message r × (fault ≡ faults.Refused (f.place x) r)))
-      × (new ≡ old)
-
-  -- a message's text was added; or nothing, since the message is refused or memory was; or the writer failed within it
+  -- a message's text was added; or nothing, since the message is refused; or memory was refused before the text or
+  -- within it, or the writer failed within it
   abbrev pub AddsMessage : X → List ℕ → List (List ℕ) → Outgoing → Outgoing → Bool → Result (Unit {0}) RunFault → X
       → Type 0
   AddsMessage x frame message old new failed (Ok u) y =
       (text : List ℕ) × f.step x frame message text y × Adds old new text × (failed ≡ false)
-  AddsMessage x frame message old new failed (Err fault) y =
-      (((fault ≡ faults.Memory)
-      ⊎ ((r : Refusal) × f.refuses x frame message r × (fault ≡ faults.Refused (f.place x) r)))
-      × Adds old new [] × (failed ≡ false))
-      ⊎ ((text : List ℕ) × (count : ℕ) × (mid : X) × (fault ≡ faults.Io) × (failed ≡ true)
-      × f.step x frame message text mid
-      × Breaks old new count text)
+  AddsMessage x frame message old new failed (Err (faults.Refused at r)) y =
+      (at ≡ f.place x) × f.refuses x frame message r × Adds old new [] × (failed ≡ false)
+  AddsMessage x frame message old new failed (Err faults.Memory) y =
+      AddsBeginning (f.step x frame message) old new × (failed ≡ false)
+  AddsMessage x frame message old new failed (Err faults.Io) y =
+      BreaksWithin (f.step x frame message) old new × (failed ≡ true)
+  AddsMessage x frame message old new failed (Err faults.InputTooLong) y = ⊥
 
   -- a framer within the limits of a run has not failed, and what it holds is no whole message
   pub record IsListening (framer : Framing) : Type 0 where

@@ -1,7 +1,10 @@
 -- What a run has handed to its writer, and the text that it keeps to hand over with what comes next. (Own.)
-use Rattle.std.specs.Prelude.{◌≡◌, ◌⊎◌, ℕ, List, [], ◌++◌, take, Bool, true, false, Option, Result, Ok, Err}
+use Rattle.std.specs.Prelude.{◌≡◌, ◌⊎◌, ℕ, ◌<◌, List, [], ◌++◌, length, take, Bool, true, false, Option, Result, Ok}
+use Rattle.std.specs.Prelude.{Err}
 use Rattle.std.specs.Io.KnownBytes.{Appends}
 use Rattle.capn_words.specs.Watched.{HasBegun}
+use Rattle.capn_serve.specs.declared.fault.ServeFault.{ServeFault}
+use Rattle.capn_serve.specs.declared.fault.ServeFault.TheVariants as serve_faults
 use Rattle.capn_serve.specs.declared.fault.RunFault.{RunFault}
 use Rattle.capn_serve.specs.declared.fault.RunFault.TheVariants as faults
 
@@ -25,6 +28,22 @@ Adds old new text = (written : List ℕ) × Appends old.taken new.taken written 
 -- a text was added, and the writer failed after this number of bytes of what was kept and of it
 abbrev pub Breaks : Outgoing → Outgoing → ℕ → List ℕ → Type 0
 Breaks old new count text = Appends old.taken new.taken (take count (old.kept ++ text))
+
+-- nothing was added, or a beginning of one of the texts that may be written, each with what it leads to
+abbrev pub AddsBeginning : {X : Type 0} → (List ℕ → X → Type 0) → Outgoing → Outgoing → Type 0
+AddsBeginning {X = X} writes old new =
+    Adds old new [] ⊎ ((text : List ℕ) × (y : X) × (count : ℕ) × writes text y × Adds old new (take count text))
+
+-- the writer failed within what was kept and one of these texts
+abbrev pub BreaksWithin : {X : Type 0} → (List ℕ → X → Type 0) → Outgoing → Outgoing → Type 0
+BreaksWithin {X = X} writes old new =
+    (text : List ℕ) × (y : X) × (count : ℕ) × writes text y × Breaks old new count text
+
+-- what was kept was written, or is kept and is short; or the writer failed within it
+abbrev pub Flushes : Outgoing → Outgoing → Bool → Result (Unit {0}) ServeFault → Type 0
+Flushes old new failed (Ok u) = Adds old new [] × (length new.kept < 65536) × (failed ≡ false)
+Flushes old new failed (Err fault) =
+    (fault ≡ serve_faults.Io) × HasBegun old.taken new.taken old.kept × (failed ≡ true)
 
 -- A run that ended in this way wrote what it kept, and ends so: not if its writer had failed before, and with Io if it
 -- failed now.

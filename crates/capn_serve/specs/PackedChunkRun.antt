@@ -13,7 +13,7 @@ use Rattle.capn_serve.specs.declared.fault.RunFault.{RunFault}
 use Rattle.capn_serve.specs.declared.fault.RunFault.TheVariants as faults
 use Rattle.capn_serve.specs.Fold.{Fold, IsFolded, end_of}
 use Rattle.capn_serve.specs.Outgoing.{Outgoing, Adds, sent}
-use Rattle.capn_serve.specs.ChunkRun.{IsListening, Tells, TellsFront}
+use Rattle.capn_serve.specs.ChunkRun.{IsListening, Tells, TellsBegun, TellsFront}
 use Rattle.capn_serve.specs.StreamRun.{has_more, taken_of}
 use Rattle.capn_serve.specs.PackedRun.{cut_group, unless_more}
 
@@ -48,7 +48,7 @@ module _ {X : Type 0} (f : Fold X) where
   -- a run over unpacked bytes stopped: memory was refused, the writer failed, or it ends so
   pub record Halts (x : X) (left : ℕ) (rest stream : List ℕ) (old new : Outgoing) (failed : Bool) (fault : RunFault)
       : Type 0 where
-    pub told : failed ≡ false → (end : List ℕ) × (y : X) × Tells f x (rest ++ taken_of left stream) end old new y
+    pub told : failed ≡ false → TellsBegun f x (rest ++ taken_of left stream) old new
     pub front : failed ≡ true → TellsFront f x (rest ++ taken_of left stream) old new
     pub io : (fault ≡ faults.Io) ↔ (failed ≡ true)
     pub due : (fault ≡ faults.Memory) ⊎ ((fault ≡ faults.Io) ⊎ IsDueWithin x left rest stream old new fault)

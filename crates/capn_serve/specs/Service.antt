@@ -1,18 +1,33 @@
 -- What a service does with a message. (Own.)
-use Rattle.std.specs.Prelude.{◌≡◌, ◌≢◌, ℕ, List, ◌++◌, Result, Ok, Err}
+use Rattle.std.specs.Prelude.{◌≡◌, ℕ, List, [], ◌++◌, Bool, true, false, Result, Ok, Err}
 use Rattle.capn_canon.specs.declared.refusal.Refusal.{Refusal}
-use Rattle.capn_canon.specs.declared.refusal.Refusal.TheVariants as refusals
 use Rattle.capn_serve.specs.declared.position.Position.{Position}
 use Rattle.capn_serve.specs.declared.fault.ServeFault.{ServeFault}
 use Rattle.capn_serve.specs.declared.fault.ServeFault.TheVariants as faults
+use Rattle.capn_serve.specs.Outgoing.{Outgoing, Adds, AddsBeginning, BreaksWithin}
 
--- a service appended what the message writes, and went to its next state; or the message is refused, or memory was, and
--- the text is as it was
+-- A service added what the message writes, and went to its next state; or the message is refused, and nothing was
+-- added. Or memory was refused, before the text or within it; or the writer failed within it.
 abbrev pub DoesService : {S : Type 0} → (S → Position → List ℕ → List (List ℕ) → List ℕ → S → Type 0)
+    → (S → Position → List ℕ → List (List ℕ) → Refusal → Type 0) → S → Position → List ℕ → List (List ℕ) → Outgoing
+    → Outgoing → Bool → Result (Unit {0}) ServeFault → S → Type 0
+DoesService serves refuses s at frame message old new failed (Ok u) t =
+    (text : List ℕ) × serves s at frame message text t × Adds old new text × (failed ≡ false)
+DoesService serves refuses s at frame message old new failed (Err (faults.Refused r)) t =
+    refuses s at frame message r × Adds old new [] × (failed ≡ false)
+DoesService serves refuses s at frame message old new failed (Err faults.Memory) t =
+    AddsBeginning (serves s at frame message) old new × (failed ≡ false)
+DoesService serves refuses s at frame message old new failed (Err faults.Io) t =
+    BreaksWithin (serves s at frame message) old new × (failed ≡ true)
+
+-- What a service does that writes nothing itself: it appended what the message writes, and went to its next state; or
+-- the message is refused, or memory was, and the text is as it was.
+abbrev pub PutsMessage : {S : Type 0} → (S → Position → List ℕ → List (List ℕ) → List ℕ → S → Type 0)
     → (S → Position → List ℕ → List (List ℕ) → Refusal → Type 0) → S → Position → List ℕ → List (List ℕ) → List ℕ
     → List ℕ → Result (Unit {0}) ServeFault → S → Type 0
-DoesService serves refuses s at frame message old new (Ok u) t =
+PutsMessage serves refuses s at frame message old new (Ok u) t =
     (text : List ℕ) × serves s at frame message text t × (new ≡ old ++ text)
-DoesService serves refuses s at frame message old new (Err faults.Memory) t = new ≡ old
-DoesService serves refuses s at frame message old new (Err (faults.Refused r)) t =
+PutsMessage serves refuses s at frame message old new (Err (faults.Refused r)) t =
     refuses s at frame message r × (new ≡ old)
+PutsMessage serves refuses s at frame message old new (Err faults.Memory) t = new ≡ old
+PutsMessage serves refuses s at frame message old new (Err faults.Io) t = ⊥

@@ -3,8 +3,9 @@
 ghost use Rattle.std.specs.Prelude.{◌≡◌, ℕ, ◌*◌, ◌<◌, List, length, false, Err};
 ghost use Rattle.capn_words.specs.Message.{most_words, ReadsBare};
 ghost use Rattle.capn_words.specs.Watched.{inner_of, has_failed};
-ghost use Rattle.capn_serve.specs.BareRun.{GivesText, IsShortBare, RunsBare};
+ghost use Rattle.capn_serve.specs.BareRun.{IsShortBare, RunsBare, ServesBare};
 ghost use Rattle.capn_serve.specs.Fold.{fold_of};
+ghost use Rattle.capn_serve.specs.Outgoing.{outgoing};
 ghost use Rattle.capn_serve.specs.ChunkRun.{HasRoom};
 ghost use Rattle.capn_serve.specs.StreamRun.{start};
 ghost use Rattle.capn_serve.specs.WholeInput.{TakesAll};
@@ -49,29 +50,37 @@ fn read_bare<R: Read, A: Allocator>(
     Err(RunFault::Refused(at, Refusal::Bare(fault)))
 }
 
-/// The text of the one message that these bytes are.
-fn serve_bare<S: Service, A: Allocator + Copy>(
+/// Has the one message served that these bytes are.
+fn serve_bare<S: Service, W: Write, A: Allocator + Copy>(
     alloc: A,
     run: &mut Run<S>,
     bytes: &[u8],
-) -> Result<Vec<u8, A>, RunFault>
-    requires { HasRoom run.old.at (length bytes.now) }
-    ensures { (most : ℕ) → GivesText (fold_of S.serves S.refuses most) run.old bytes.now result run.new }
+    text: &mut Vec<u8, A>,
+    writer: &mut Watched<W>,
+) -> Result<(), RunFault>
+    requires fine { has_failed writer.old ≡ false }
+    requires room { HasRoom run.old.at (length bytes.now) }
+    ensures { (most : ℕ) → ServesBare (fold_of S.serves S.refuses most) run.old bytes.now
+        (outgoing (W.contents (inner_of writer.old)) text.old.items)
+        (outgoing (W.contents (inner_of writer.new)) text.new.items) (has_failed writer.new) result run.new }
 {
     let message = match Bare::new(bytes) {
         Ok(message) => message,
         Err(fault) => return Err(RunFault::Refused(run.at, Refusal::Bare(fault))),
     };
-    let mut text = Vec::new(alloc);
-    match run.service.serve(alloc, run.at, bytes, &message, &mut text) {
+    match run
+        .service
+        .serve(alloc, run.at, bytes, &message, text, writer)
+    {
         Ok(()) => {
             run.at = Position {
                 index: run.at.index + 1,
                 offset: run.at.offset + bytes.len() as u64,
             };
-            Ok(text)
+            Ok(())
         }
         Err(ServeFault::Memory) => Err(RunFault::Memory),
+        Err(ServeFault::Io) => Err(RunFault::Io),
         Err(ServeFault::Refused(refusal)) => Err(RunFault::Refused(run.at, refusal)),
     }
 }
@@ -81,7 +90,8 @@ fn serve_bare<S: Service, A: Allocator + Copy>(
 /// Its frame is the input itself. An input that is not whole words, or has more than 2^28 + 1 of them, is refused
 /// where it begins; of more than 2^32 bytes the run ends as `InputTooLong`. The run ends as done, or with the first
 /// fault: that, or the message is refused; `Io` exactly if the reader or the writer failed; `Memory` if a growth was
-/// refused. Nothing is written before the input has ended. It holds the input, up to 2^28 + 1 words, and the text.
+/// refused. Nothing is written before the input has ended. It holds the input, up to 2^28 + 1 words, and what the
+/// service holds, with the text that it has not written yet.
 pub fn run_bare<S: Service, R: Read, W: Write, A: Allocator + Copy>(
     alloc: A,
     run: &mut Run<S>,
@@ -97,6 +107,7 @@ pub fn run_bare<S: Service, R: Read, W: Write, A: Allocator + Copy>(
         (has_failed writer.new) result run.new }
 {
     let bytes = read_bare(alloc, run.at, reader)?;
-    let text = serve_bare(alloc, run, &bytes)?;
+    let mut text = Vec::new(alloc);
+    serve_bare(alloc, run, &bytes, &mut text, writer)?;
     write_all(writer, &text)
 }

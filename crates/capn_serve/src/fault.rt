@@ -3,12 +3,14 @@
 use crate::position::Position;
 use capn_canon::Refusal;
 
-/// Why a service does nothing with a message.
+/// Why a service did not serve a message.
 #[derive(Clone, Copy, Debug, PartialEq, Eq)]
 pub enum ServeFault {
-    /// A growth was refused.
+    /// A growth was refused, before the first byte of the message's text or within it.
     Memory,
-    /// The message is refused, or its value is.
+    /// The writer failed, within the text.
+    Io,
+    /// The message is refused, or its value is, before the first byte of its text.
     Refused(Refusal),
 }
 

@@ -25,7 +25,7 @@ mod whole_input;
 pub use bare_run::run_bare;
 pub use fault::{RunFault, ServeFault};
 pub use form_run::serve_form;
-pub use output::write_all;
+pub use output::{flush_long, write_all};
 pub use packed_run::run_packed;
 pub use pick::{Pick, StreamForm};
 pub use pick_run::run_pick;

@@ -1,49 +1,19 @@
 //! One message of a stream, whose text joins what is written next.
 
-ghost use Rattle.std.specs.Prelude.{◌≡◌, ◌≤◌, ℕ, length, false};
+ghost use Rattle.std.specs.Prelude.{◌≡◌, ℕ, length, false};
 ghost use Rattle.capn_words.specs.Watched.{inner_of, has_failed};
 ghost use Rattle.capn_serve.specs.Fold.{fold_of};
 ghost use Rattle.capn_serve.specs.Outgoing.{outgoing};
-ghost use Rattle.capn_serve.specs.ChunkRun.{AddsMessage, HasRoom, PutsMessage};
+ghost use Rattle.capn_serve.specs.ChunkRun.{AddsMessage, HasRoom};
 
 use crate::fault::{RunFault, ServeFault};
-use crate::output::write_all;
 use crate::position::Position;
 use crate::service::{Run, Service};
 use capn_words::{Space, Watched};
 use std::alloc::Allocator;
 use std::io::Write;
 
-/// This number of bytes of text is written at once, or more.
-const ENOUGH: usize = 65_536;
-
 /// Has the message served, and goes on to where the next one begins.
-fn serve<M: Space, S: Service, A: Allocator + Copy>(
-    alloc: A,
-    run: &mut Run<S>,
-    frame: &[u8],
-    message: &M,
-    text: &mut Vec<u8, A>,
-) -> Result<(), RunFault>
-    requires room { HasRoom run.old.at (length frame.now) }
-    requires whole { 4 ≤ length frame.now }
-    ensures { (most : ℕ) → PutsMessage (fold_of S.serves S.refuses most) run.old frame.now (M.message message.now)
-        text.old.items text.new.items result run.new }
-{
-    match run.service.serve(alloc, run.at, frame, message, text) {
-        Ok(()) => {
-            run.at = Position {
-                index: run.at.index + 1,
-                offset: run.at.offset + frame.len() as u64,
-            };
-            Ok(())
-        }
-        Err(ServeFault::Memory) => Err(RunFault::Memory),
-        Err(ServeFault::Refused(refusal)) => Err(RunFault::Refused(run.at, refusal)),
-    }
-}
-
-/// Adds the text of a message, or nothing of one that is refused, and writes the text once it is long.
 pub(crate) fn add_message<M: Space, S: Service, W: Write, A: Allocator + Copy>(
     alloc: A,
     run: &mut Run<S>,
@@ -54,15 +24,23 @@ pub(crate) fn add_message<M: Space, S: Service, W: Write, A: Allocator + Copy>(
 ) -> Result<(), RunFault>
     requires fine { has_failed writer.old ≡ false }
     requires room { HasRoom run.old.at (length frame.now) }
-    requires whole { 4 ≤ length frame.now }
     ensures { (most : ℕ) → AddsMessage (fold_of S.serves S.refuses most) run.old frame.now (M.message message.now)
         (outgoing (W.contents (inner_of writer.old)) text.old.items)
         (outgoing (W.contents (inner_of writer.new)) text.new.items) (has_failed writer.new) result run.new }
 {
-    serve(alloc, run, frame, message, text)?;
-    if text.len() >= ENOUGH {
-        write_all(writer, text)?;
-        text.clear();
+    match run
+        .service
+        .serve(alloc, run.at, frame, message, text, writer)
+    {
+        Ok(()) => {
+            run.at = Position {
+                index: run.at.index + 1,
+                offset: run.at.offset + frame.len() as u64,
+            };
+            Ok(())
+        }
+        Err(ServeFault::Memory) => Err(RunFault::Memory),
+        Err(ServeFault::Io) => Err(RunFault::Io),
+        Err(ServeFault::Refused(refusal)) => Err(RunFault::Refused(run.at, refusal)),
     }
-    Ok(())
 }

@@ -3,11 +3,15 @@
 ghost use Rattle.std.specs.Prelude.{◌≡◌, ◌↔◌, true, false, OnOk, IsErrOf, IsOkUnless};
 ghost use Rattle.std.specs.Io.KnownBytes.{Appends};
 ghost use Rattle.capn_words.specs.Watched.{HasBegun, inner_of, has_failed};
-ghost use Rattle.capn_serve.specs.Outgoing.{SendsRest};
+ghost use Rattle.capn_serve.specs.Outgoing.{Flushes, SendsRest, outgoing};
 
-use crate::fault::RunFault;
+use crate::fault::{RunFault, ServeFault};
 use capn_words::Watched;
+use std::alloc::Allocator;
 use std::io::Write;
+
+/// This number of bytes of text is written at once, or more.
+const ENOUGH: usize = 65_536;
 
 /// Writes all of the text, or a beginning of it if the writer fails.
 pub fn write_all<W: Write>(writer: &mut Watched<W>, text: &[u8]) -> Result<(), RunFault>
@@ -20,6 +24,30 @@ pub fn write_all<W: Write>(writer: &mut Watched<W>, text: &[u8]) -> Result<(), R
     match writer.write_all(text) {
         Ok(()) => Ok(()),
         Err(_) => Err(RunFault::Io),
+    }
+}
+
+/// Writes the text once it is long, from 65,536 bytes on, and holds none of it then.
+///
+/// For a service that appends what a message writes: it calls this at its end. It takes no memory. `Io` if the writer
+/// fails, and then a beginning of the text was written.
+pub fn flush_long<W: Write, A: Allocator>(
+    text: &mut Vec<u8, A>,
+    writer: &mut Watched<W>,
+) -> Result<(), ServeFault>
+    requires { has_failed writer.old ≡ false }
+    ensures { Flushes (outgoing (W.contents (inner_of writer.old)) text.old.items)
+        (outgoing (W.contents (inner_of writer.new)) text.new.items) (has_failed writer.new) result }
+{
+    if text.len() < ENOUGH {
+        return Ok(());
+    }
+    match writer.write_all(text) {
+        Ok(()) => {
+            text.clear();
+            Ok(())
+        }
+        Err(_) => Err(ServeFault::Io),
     }
 }
 

@@ -4,11 +4,13 @@ ghost use Rattle.std.specs.Prelude.{◌≡◌};
 ghost use Rattle.capn_serve.specs.Pick as spec;
 
 use crate::fault::ServeFault;
+use crate::output::flush_long;
 use crate::position::{Position, number_of};
 use crate::service::Service;
 use capn_canon::Limits;
-use capn_words::Space;
+use capn_words::{Space, Watched};
 use std::alloc::Allocator;
+use std::io::Write;
 
 /// How an input holds a stream of messages.
 #[derive(Clone, Copy, Debug, PartialEq, Eq)]
@@ -50,20 +52,21 @@ impl Service for Pick {
 
     ghost refuses = { spec.refuses };
 
-    fn serve<S: Space, A: Allocator + Copy>(
+    fn serve<S: Space, W: Write, A: Allocator + Copy>(
         &mut self,
         _alloc: A,
         at: Position,
         frame: &[u8],
         _message: &S,
         text: &mut Vec<u8, A>,
+        writer: &mut Watched<W>,
     ) -> Result<(), ServeFault> {
         let number = number_of(at.index);
         if number < u128::from(self.from) || u128::from(self.to) < number {
             return Ok(());
         }
         match text.extend_from_slice(frame) {
-            Ok(()) => Ok(()),
+            Ok(()) => flush_long(text, writer),
             Err(_) => Err(ServeFault::Memory),
         }
     }

@@ -1,21 +1,26 @@
 use Rattle.std.proofs.lemmas.Result.{err_from_is_err_and}
 use Rattle.capn_serve.specs.Fold.{fold_of}
-use Rattle.capn_serve.proofs.BareEnds.{runs_refused, runs_written}
+use Rattle.capn_serve.proofs.BareEnds.{runs_stopped, runs_written}
 use Rattle.capn_serve.proofs.bare_run.run_bare.Goals as goal
 
-pub returns-in_err-text : goal.returns-in_err-text
-returns-in_err-text g c =
+pub returns-in_err-serve_bare : goal.returns-in_err-serve_bare
+returns-in_err-serve_bare g c =
     λ most.
-    let p = err_from_is_err_and c.from_residual-in_err-text.result c.from_residual-in_err-text.ensures.1 in
+    let p = err_from_is_err_and c.from_residual-in_err-serve_bare.result c.from_residual-in_err-serve_bare.ensures.1 in
     rw (p.1, p.2)
-    (runs_refused (fold_of g.S.Service.serves g.S.Service.refuses most) c.args.run.now c.serve_bare.new.run _ _ _ _ _
-    c.deref.result.now c.in_ok-bytes.bytes c.in_ok-bytes.ensures c.deref.ensures.value c.in_err-text.field-0.0
-    c.requires.writer_fine (c.in_err-text.ensures most))
+    (runs_stopped (fold_of g.S.Service.serves g.S.Service.refuses most) c.args.run.now c.serve_bare.new.run _ _ _ _ _
+    c.deref.result.now c.in_ok-bytes.bytes c.in_ok-bytes.ensures c.deref.ensures.value _ c.new-text.result.items
+    c.serve_bare.new.text.items c.in_err-serve_bare.field-0.0 c.new-text.ensures.items
+    (c.in_err-serve_bare.ensures most))
+
+pub write_all-requires : goal.write_all-requires
+write_all-requires g c = (c.in_ok-serve_bare.ensures 0).2.3
 
 pub returns : goal.returns
 returns g c =
     λ most.
     runs_written (fold_of g.S.Service.serves g.S.Service.refuses most) c.args.run.now c.serve_bare.new.run _ _ _ _ _
-    c.deref.result.now c.in_ok-bytes.bytes c.in_ok-bytes.ensures c.deref.ensures.value _ c.in_ok-text.text
-    c.deref-2.result.now c.write_all.result (c.in_ok-text.ensures most) c.deref-2.ensures.value c.write_all.ensures.ok
-    c.write_all.ensures.begun c.write_all.ensures.io c.write_all.ensures.only
+    c.deref.result.now c.in_ok-bytes.bytes c.in_ok-bytes.ensures c.deref.ensures.value _ _ c.new-text.result.items
+    c.serve_bare.new.text.items c.deref-2.result.now _ c.write_all.result c.new-text.ensures.items
+    (c.in_ok-serve_bare.ensures most) c.deref-2.ensures.value c.write_all.ensures.ok c.write_all.ensures.begun
+    c.write_all.ensures.io c.write_all.ensures.only

@@ -4,7 +4,7 @@ use Rattle.capn_stream.specs.Frames.{StandsFirst}
 use Rattle.capn_stream.specs.StreamPieces.{IsFrame, IsUnfinished}
 use Rattle.capn_stream.specs.declared.fault.FrameFault.TheVariants as frame_faults
 use Rattle.capn_serve.specs.Fold.{fold_of}
-use Rattle.capn_serve.proofs.Next.{frame_some, held_frame, held_passed, held_some, held_stop, held_whole}
+use Rattle.capn_serve.proofs.Next.{held_frame, held_passed, held_some, held_stop, held_whole}
 use Rattle.capn_serve.proofs.stream.serve_held.Goals as goal
 
 -- a slice of what is held is all of it
@@ -15,11 +15,6 @@ whole held rest most message taken same first is only =
     subst (λ (p : List ℕ). take taken held ≡ p) same
     (held_whole held most message taken first
     (subst (λ (p : List ℕ). IsFrame p most ⊎ IsUnfinished p most) (sym same) is) only)
-
-pub add_message-requires-clause-whole : goal.add_message-requires-clause-whole
-add_message-requires-clause-whole g c =
-    let found = c.in-Ok.ensures.found in
-    frame_some _ _ c.args.most found.frame found.room
 
 pub returns-in_err-add_message-in-Ok : goal.returns-in_err-add_message-in-Ok
 returns-in_err-add_message-in-Ok g c =

@@ -1,13 +1,8 @@
-use Rattle.std.proofs.Common.{◌-◌, ◌+◌, length, take, drop, refl, arith, length-drop, length-take, subst, sym, ◌≡◌}
+use Rattle.std.proofs.Common.{◌-◌, ◌+◌, length, take, drop, refl, arith, length-drop, length-take}
 use Rattle.std.proofs.lemmas.Result.{err_from_is_err_and}
 use Rattle.capn_serve.specs.Fold.{fold_of}
 use Rattle.capn_serve.proofs.Next.{frame_some, room_step, whole_memory, whole_more, whole_stop}
 use Rattle.capn_serve.proofs.stream.serve_whole.Goals as goal
-
-pub add_message-requires-clause-whole : goal.add_message-requires-clause-whole
-add_message-requires-clause-whole g c =
-    let found = c.in-Ok.ensures.found in
-    frame_some _ _ c.args.most found.frame found.room
 
 pub returns-in_err-add_message-in-Ok : goal.returns-in_err-add_message-in-Ok
 returns-in_err-add_message-in-Ok g c =

@@ -1,0 +1,20 @@
+use Rattle.std.proofs.Common.{[], inr, sym, subst, ◌∙◌, append-nil}
+use Rattle.capn_archive.specs.Digest.{IsUndigested}
+use Rattle.capn_archive.specs.Sieve.{Sifted}
+use Rattle.capn_archive.proofs.Sieves.{passes_over, undigested}
+use Rattle.capn_archive.proofs.sieve.Sieve.put_message.Goals as goal
+
+pub returns-in-Err-Refused : goal.returns-in-Err-Refused
+returns-in-Err-Refused g c =
+    let known = undigested c.args.self.now c.sift.new.self c.args.frame.now (g.S.Space.message c.args.message.now)
+    c.args.text.now.items c.sift.new.text.items c.in-Err-Refused.field-0 c.in-Err-Refused.field-0-0
+    c.in-Err-Refused.field-0-is c.in-Err-Refused.ensures in
+    let same = c.self.view_is ∙ known.2 in (
+      [],
+      inr (passes_over c.self.inside.order c.self.inside.digests c.self.inside.served c.self.inside.skipped
+          c.args.self.now same c.args.at (g.S.Space.message c.args.message.now) c.in-Err-Refused.field-0-0
+          (subst (λ (s : Sifted). IsUndigested (g.S.Space.message c.args.message.now) s.order.limits
+          c.in-Err-Refused.field-0-0) (sym same) known.0)
+          c.if-self.true c.one_more.result c.one_more.ensures),
+      known.1 ∙ sym (append-nil c.args.text.now.items),
+    )
