@@ -1,6 +1,7 @@
 mod TextDigits
 mod Shifts
 mod Appended
+mod LineTexts
 mod Grown
 mod Within
 mod RowFront

@@ -1,114 +1,193 @@
-//! The parts of lines, each written straight into the string of a page.
+//! The lines of a text.
 
-ghost use Rattle.std.specs.Prelude.{◌≡◌, ◌<◌, ◌^◌, [], ◌∷◌, ◌++◌, ◌*◌, OnOk, string_bytes, codes, replicate};
-ghost use Rattle.capn_value.specs.Text as text;
+ghost use Rattle.std.specs.Prelude.{◌≡◌, ◌<◌, ◌^◌, [], ◌∷◌, ◌++◌, ◌*◌, IfErr, OnOk, codes, replicate};
+ghost use Rattle.capn_value.specs.Text as form;
 ghost use Rattle.std.specs.Fmt.{decimal};
 ghost use Rattle.hex.specs.Hex.{encode_lower};
+ghost use Rattle.capn_show.specs.Outgoing.{Adds, BreaksOff, outgoing};
 
-use std::alloc::{AllocError, Allocator};
+use crate::fault::Broken;
+use crate::output::put;
+use capn_words::Watched;
+use std::alloc::Allocator;
+use std::io::Write;
 
-/// Two spaces for each level.
-pub fn indent<A: Allocator>(out: &mut String<A>, level: u32) -> Result<(), AllocError>
-    ensures { OnOk result (string_bytes out.new ≡ string_bytes out.old ++ replicate (2 * level) 32) }
+/// The spaces of 32 levels.
+const SPACES: [u8; 64] = [b' '; 64];
+
+/// The spaces of a level.
+pub fn indent<W: Write, A: Allocator>(
+    text: &mut Vec<u8, A>,
+    writer: &mut Watched<W>,
+    level: u32,
+) -> Result<(), Broken>
+    ensures shown { OnOk result (Adds (outgoing W.contents writer.old text.old.items)
+        (outgoing W.contents writer.new text.new.items) (replicate (2 * level) 32)) }
+    ensures cut { IfErr result (λ e. BreaksOff (outgoing W.contents writer.old text.old.items)
+        (outgoing W.contents writer.new text.new.items) e (replicate (2 * level) 32)) }
 {
-    for _i in 0..level {
-        out.push_str("  ")?;
+    let mut done = 0;
+    while level - done > 32 {
+        put(text, writer, &SPACES)?;
+        done += 32;
     }
-    Ok(())
+    put(text, writer, &SPACES[..2 * (level - done) as usize])
+}
+
+/// The end of a line.
+pub fn end_line<W: Write, A: Allocator>(
+    text: &mut Vec<u8, A>,
+    writer: &mut Watched<W>,
+) -> Result<(), Broken>
+    ensures shown { OnOk result (Adds (outgoing W.contents writer.old text.old.items)
+        (outgoing W.contents writer.new text.new.items) (10 ∷ [])) }
+    ensures cut { IfErr result (λ e. BreaksOff (outgoing W.contents writer.old text.old.items)
+        (outgoing W.contents writer.new text.new.items) e (10 ∷ [])) }
+{
+    put(text, writer, b"\n")
+}
+
+/// A number, and a byte after it.
+fn put_number<W: Write, A: Allocator>(
+    text: &mut Vec<u8, A>,
+    writer: &mut Watched<W>,
+    n: u64,
+    after: u8,
+) -> Result<(), Broken>
+    ensures shown { OnOk result (Adds (outgoing W.contents writer.old text.old.items)
+        (outgoing W.contents writer.new text.new.items) (decimal n ++ after ∷ [])) }
+    ensures cut { IfErr result (λ e. BreaksOff (outgoing W.contents writer.old text.old.items)
+        (outgoing W.contents writer.new text.new.items) e (decimal n ++ after ∷ [])) }
+{
+    let mut digits = [after; 21];
+    let start = itoa::write_digits(n, &mut digits, 20);
+    put(text, writer, &digits[start..])
 }
 
 /// A line of one word.
-#[tactic(auto, using(std::proofs::lemmas::Grind::common_steps), unfolding(capn_value::specs::Text::line))]
-pub fn plain_line<A: Allocator>(
-    out: &mut String<A>,
+pub fn plain_line<W: Write, A: Allocator>(
+    text: &mut Vec<u8, A>,
+    writer: &mut Watched<W>,
     level: u32,
     word: &str,
-) -> Result<(), AllocError>
-    ensures { OnOk result (string_bytes out.new ≡ string_bytes out.old ++ text.line level word.now) }
+) -> Result<(), Broken>
+    ensures shown { OnOk result (Adds (outgoing W.contents writer.old text.old.items)
+        (outgoing W.contents writer.new text.new.items) (form.line level word.now)) }
+    ensures cut { IfErr result (λ e. BreaksOff (outgoing W.contents writer.old text.old.items)
+        (outgoing W.contents writer.new text.new.items) e (form.line level word.now)) }
 {
-    indent(out, level)?;
-    writeln!(out, "{word}")
+    indent(text, writer, level)?;
+    put(text, writer, word.as_bytes())?;
+    end_line(text, writer)
 }
 
 /// A line of a word and a number.
-#[tactic(auto, using(std::proofs::lemmas::Grind::common_steps), unfolding(capn_value::specs::Text::line))]
-pub fn named_line<A: Allocator>(
-    out: &mut String<A>,
+pub fn named_line<W: Write, A: Allocator>(
+    text: &mut Vec<u8, A>,
+    writer: &mut Watched<W>,
     level: u32,
     name: &str,
     n: u32,
-) -> Result<(), AllocError>
-    ensures { OnOk result (string_bytes out.new ≡ string_bytes out.old ++ text.line level (text.named name.now n)) }
+) -> Result<(), Broken>
+    ensures shown { OnOk result (Adds (outgoing W.contents writer.old text.old.items)
+        (outgoing W.contents writer.new text.new.items) (form.line level (form.named name.now n))) }
+    ensures cut { IfErr result (λ e. BreaksOff (outgoing W.contents writer.old text.old.items)
+        (outgoing W.contents writer.new text.new.items) e (form.line level (form.named name.now n))) }
 {
-    indent(out, level)?;
-    writeln!(out, "{name} {n}")
+    indent(text, writer, level)?;
+    put(text, writer, name.as_bytes())?;
+    put(text, writer, b" ")?;
+    put_number(text, writer, n as u64, b'\n')
 }
 
 /// The first line of a struct: how many words and slots it has.
-#[tactic(auto, using(std::proofs::lemmas::Grind::common_steps), unfolding(capn_value::specs::Text::line))]
-pub fn body_line<A: Allocator>(
-    out: &mut String<A>,
+pub fn body_line<W: Write, A: Allocator>(
+    text: &mut Vec<u8, A>,
+    writer: &mut Watched<W>,
     level: u32,
     words: u16,
     slots: u16,
-) -> Result<(), AllocError>
-    ensures { OnOk result (string_bytes out.new ≡ string_bytes out.old ++ text.body_line level words slots) }
+) -> Result<(), Broken>
+    ensures shown { OnOk result (Adds (outgoing W.contents writer.old text.old.items)
+        (outgoing W.contents writer.new text.new.items) (form.body_line level words slots)) }
+    ensures cut { IfErr result (λ e. BreaksOff (outgoing W.contents writer.old text.old.items)
+        (outgoing W.contents writer.new text.new.items) e (form.body_line level words slots)) }
 {
-    indent(out, level)?;
-    writeln!(out, "struct {words} {slots}")
+    indent(text, writer, level)?;
+    put(text, writer, b"struct ")?;
+    put_number(text, writer, words as u64, b' ')?;
+    put_number(text, writer, slots as u64, b'\n')
 }
 
 /// A line of one number.
-#[tactic(auto, using(std::proofs::lemmas::Grind::common_steps), unfolding(capn_value::specs::Text::line))]
-pub fn number_line<A: Allocator>(out: &mut String<A>, level: u32, n: u64) -> Result<(), AllocError>
-    ensures { OnOk result (string_bytes out.new ≡ string_bytes out.old ++ text.line level (decimal n)) }
+pub fn number_line<W: Write, A: Allocator>(
+    text: &mut Vec<u8, A>,
+    writer: &mut Watched<W>,
+    level: u32,
+    n: u64,
+) -> Result<(), Broken>
+    ensures shown { OnOk result (Adds (outgoing W.contents writer.old text.old.items)
+        (outgoing W.contents writer.new text.new.items) (form.line level (decimal n))) }
+    ensures cut { IfErr result (λ e. BreaksOff (outgoing W.contents writer.old text.old.items)
+        (outgoing W.contents writer.new text.new.items) e (form.line level (decimal n))) }
 {
-    indent(out, level)?;
-    writeln!(out, "{n}")
+    indent(text, writer, level)?;
+    put_number(text, writer, n, b'\n')
 }
 
-/// The line of one data word, as a number: its most significant digit comes first.
-#[tactic(auto, using(std::proofs::lemmas::Grind::common_steps), unfolding(capn_value::specs::Text::line))]
-pub fn word_line<A: Allocator>(out: &mut String<A>, level: u32, word: u64) -> Result<(), AllocError>
-    ensures { OnOk result
-        (string_bytes out.new ≡ string_bytes out.old ++ text.line level (codes "word " ++ text.hex16 word)) }
+/// The bytes of the line of one data word, as a number: its most significant digit comes first.
+fn word_bytes(word: u64) -> [u8; 22]
+    ensures { result ≡ codes "word " ++ (form.hex16 word ++ 10 ∷ []) }
 {
-    indent(out, level)?;
-    out.push_str("word ")?;
-    push_hex(out, &word.to_be_bytes())?;
-    out.push_str("\n")
+    let mut line = *b"word 0000000000000000\n";
+    // 16 digits have room, so nothing is refused.
+    let _done = hex::encode_to_slice(word.to_be_bytes(), &mut line[5..21]);
+    line
+}
+
+/// The line of one data word.
+pub fn word_line<W: Write, A: Allocator>(
+    text: &mut Vec<u8, A>,
+    writer: &mut Watched<W>,
+    level: u32,
+    word: u64,
+) -> Result<(), Broken>
+    ensures shown { OnOk result (Adds (outgoing W.contents writer.old text.old.items)
+        (outgoing W.contents writer.new text.new.items) (form.line level (codes "word " ++ form.hex16 word))) }
+    ensures cut { IfErr result (λ e. BreaksOff (outgoing W.contents writer.old text.old.items)
+        (outgoing W.contents writer.new text.new.items) e (form.line level (codes "word " ++ form.hex16 word))) }
+{
+    indent(text, writer, level)?;
+    put(text, writer, &word_bytes(word))
 }
 
 /// One digit: whether a bit is set.
-pub fn push_bit<A: Allocator>(out: &mut String<A>, bit: bool) -> Result<(), AllocError>
-    ensures { OnOk result (string_bytes out.new ≡ string_bytes out.old ++ text.digit bit ∷ []) }
+pub fn push_bit<W: Write, A: Allocator>(
+    text: &mut Vec<u8, A>,
+    writer: &mut Watched<W>,
+    bit: bool,
+) -> Result<(), Broken>
+    ensures shown { OnOk result (Adds (outgoing W.contents writer.old text.old.items)
+        (outgoing W.contents writer.new text.new.items) (form.digit bit ∷ [])) }
+    ensures cut { IfErr result (λ e. BreaksOff (outgoing W.contents writer.old text.old.items)
+        (outgoing W.contents writer.new text.new.items) e (form.digit bit ∷ [])) }
 {
-    if bit {
-        out.push_str("1")
-    } else {
-        out.push_str("0")
-    }
-}
-
-// Two digits for each byte.
-#[tactic(auto, using(std::proofs::lemmas::Grind::common_steps, crate::proofs::TextDigits::digits))]
-fn push_hex<A: Allocator>(out: &mut String<A>, bytes: &[u8]) -> Result<(), AllocError>
-    ensures { OnOk result (string_bytes out.new ≡ string_bytes out.old ++ encode_lower bytes.now) }
-{
-    for byte in bytes {
-        push_byte(out, *byte)?;
-    }
-    Ok(())
+    put(text, writer, if bit { b"1" } else { b"0" })
 }
 
 /// The two digits of a byte.
-#[tactic(auto, using(std::proofs::lemmas::Grind::common_steps, crate::proofs::TextDigits::digits))]
-pub fn push_byte<A: Allocator>(out: &mut String<A>, byte: u8) -> Result<(), AllocError>
-    ensures { OnOk result (string_bytes out.new ≡ string_bytes out.old ++ encode_lower (byte ∷ [])) }
+pub fn push_byte<W: Write, A: Allocator>(
+    text: &mut Vec<u8, A>,
+    writer: &mut Watched<W>,
+    byte: u8,
+) -> Result<(), Broken>
+    ensures shown { OnOk result (Adds (outgoing W.contents writer.old text.old.items)
+        (outgoing W.contents writer.new text.new.items) (encode_lower (byte ∷ []))) }
+    ensures cut { IfErr result (λ e. BreaksOff (outgoing W.contents writer.old text.old.items)
+        (outgoing W.contents writer.new text.new.items) e (encode_lower (byte ∷ []))) }
 {
     let mut digits = [0u8; 2];
     // Two digits have room, so nothing is refused.
     let _done = hex::encode_to_slice([byte], &mut digits);
-    out.push(char::from(digits[0]))?;
-    out.push(char::from(digits[1]))
+    put(text, writer, &digits)
 }
