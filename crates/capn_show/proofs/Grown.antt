@@ -5,6 +5,7 @@ use Rattle.std.proofs.Common.{get_or, map, replicate, codes, refl, sym, ap, ◌�
 use Rattle.std.specs.Prelude.{◌==◌}
 use Rattle.std.specs.Int.{from_bool}
 use Rattle.std.specs.Fmt.{decimal}
+use Rattle.std.proofs.Math.Seq.{take-add}
 use Rattle.std.proofs.lemmas.List.{append-nil, take_all, take_more, take-append-drop, get_or-map}
 use Rattle.hex.specs.Hex.{encode_lower}
 use Rattle.capn_value.specs.Text.{line, one_line, hex16, word_lines, number_lines, digit, digits_of}
@@ -39,6 +40,28 @@ module _ {A : Type 0} (F : List A → List ℕ) (joins : (xs ys : List A) → F 
   -- all of them
   all : i ≡ length xs → Adds p q (F (take i xs)) → Adds p q (F xs)
   all e h = otherwise p q (F (take i xs)) (F xs) (ap F (take_all i xs (omega arith))) h
+
+module _ {A : Type 0} (F : List A → List ℕ) (joins : (xs ys : List A) → F (xs ++ ys) ≡ F xs ++ F ys)
+    (p q r : Outgoing) (xs : List A) (i k : ℕ) where
+  -- some elements more
+  block-more : Adds p q (F (take i xs)) → Adds q r (F (take k (drop i xs))) → Adds p r (F (take (i + k) xs))
+  block-more h j =
+      otherwise p r (F (take i xs) ++ F (take k (drop i xs))) (F (take (i + k) xs))
+      (sym (ap F (take-add i k xs) ∙ joins (take i xs) (take k (drop i xs))))
+      (both p q r (F (take i xs)) (F (take k (drop i xs))) h j)
+
+  -- a text that breaks off in them
+  block-cut : (e : Broken) → Adds p q (F (take i xs)) → BreaksOff q r e (F (take k (drop i xs)))
+      → BreaksOff p r e (F xs)
+  block-cut e h j =
+      let front = F (take i xs) in
+      let here = F (take k (drop i xs)) in
+      let rest = F (drop (i + k) xs) in
+      otherwise-broken p r e ((front ++ here) ++ rest) (F xs)
+      (ap (λ (l : List ℕ). l ++ rest) (sym (ap F (take-add i k xs) ∙ joins (take i xs) (take k (drop i xs))))
+      ∙ sym (joins (take (i + k) xs) (drop (i + k) xs))
+      ∙ ap F (take-append-drop (i + k) xs))
+      (broken-before p r e (front ++ here) rest (then-broken p q r e front here h j))
 
 word_lines-joined : (level : ℕ) (xs ys : List ℕ)
     → word_lines level (xs ++ ys) ≡ word_lines level xs ++ word_lines level ys
@@ -111,25 +134,22 @@ module _ (p q : Outgoing) where
         → Adds p q (number_lines level xs)
     numbers-all = all (number_lines level) (number_lines-joined level) p q xs i
 
-  module _ (xs : List ℕ) (i : ℕ) where
-    pub byte-more : (r : Outgoing) (x : ℕ) → i < length xs → x ≡ get_or xs i 0
-        → Adds p q (encode_lower (take i xs)) → Adds q r (encode_lower (x ∷ []))
-        → Adds p r (encode_lower (take (i + 1) xs))
-    byte-more r x below e h k =
-        more encode_lower encode_lower-joined p q xs i r 0 below h
-        (otherwise q r (encode_lower (x ∷ [])) (encode_lower (get_or xs i 0 ∷ []))
-        (ap (λ (n : ℕ). encode_lower (n ∷ [])) e) k)
+  module _ (xs : List ℕ) where
+    pub bytes-more : (r : Outgoing) (i k : ℕ) (digits : List ℕ) → digits ≡ encode_lower (take k (drop i xs))
+        → Adds p q (encode_lower (take i xs)) → Adds q r digits → Adds p r (encode_lower (take (i + k) xs))
+    bytes-more r i k digits e h j =
+        block-more encode_lower encode_lower-joined p q r xs i k h
+        (otherwise q r digits (encode_lower (take k (drop i xs))) e j)
 
-    pub byte-cut : (r : Outgoing) (e : Broken) (x : ℕ) → i < length xs → x ≡ get_or xs i 0
-        → Adds p q (encode_lower (take i xs)) → BreaksOff q r e (encode_lower (x ∷ []))
+    pub bytes-cut : (r : Outgoing) (e : Broken) (i k : ℕ) (digits : List ℕ)
+        → digits ≡ encode_lower (take k (drop i xs)) → Adds p q (encode_lower (take i xs)) → BreaksOff q r e digits
         → BreaksOff p r e (encode_lower xs)
-    byte-cut r e x below is h k =
-        cut encode_lower encode_lower-joined p q xs i r e 0 below h
-        (otherwise-broken q r e (encode_lower (x ∷ [])) (encode_lower (get_or xs i 0 ∷ []))
-        (ap (λ (n : ℕ). encode_lower (n ∷ [])) is) k)
+    bytes-cut r e i k digits is h j =
+        block-cut encode_lower encode_lower-joined p q r xs i k e h
+        (otherwise-broken q r e digits (encode_lower (take k (drop i xs))) is j)
 
-    pub bytes-all : i ≡ length xs → Adds p q (encode_lower (take i xs)) → Adds p q (encode_lower xs)
-    bytes-all = all encode_lower encode_lower-joined p q xs i
+    pub bytes-all : (n : ℕ) → n ≡ length xs → Adds p q (encode_lower (take n xs)) → Adds p q (encode_lower xs)
+    bytes-all n e h = otherwise p q _ _ (ap encode_lower (take_all n xs (omega arith))) h
 
   module _ (xs : List Bool) (i : ℕ) where
     pub bit-more : (r : Outgoing) (x d : Bool) → i < length xs → x ≡ get_or xs i d

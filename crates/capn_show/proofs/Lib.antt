@@ -11,3 +11,5 @@ mod Steps
 mod ListTexts
 mod FoundTexts
 mod Ends
+mod PartSteps
+mod BlockDigits

@@ -3,6 +3,7 @@
 ghost use Rattle.std.specs.Prelude.{◌≡◌, ◌<◌, ◌^◌, [], ◌∷◌, ◌++◌, ◌*◌, IfErr, OnOk, codes, replicate};
 ghost use Rattle.capn_value.specs.Text as form;
 ghost use Rattle.std.specs.Fmt.{decimal};
+ghost use Rattle.std.specs.Int.{to_le_bytes, w64};
 ghost use Rattle.hex.specs.Hex.{encode_lower};
 ghost use Rattle.capn_show.specs.Outgoing.{Adds, BreaksOff, outgoing};
 
@@ -175,19 +176,12 @@ pub fn push_bit<W: Write, A: Allocator>(
     put(text, writer, if bit { b"1" } else { b"0" })
 }
 
-/// The two digits of a byte.
-pub fn push_byte<W: Write, A: Allocator>(
-    text: &mut Vec<u8, A>,
-    writer: &mut Watched<W>,
-    byte: u8,
-) -> Result<(), Broken>
-    ensures shown { OnOk result (Adds (outgoing W.contents writer.old text.old.items)
-        (outgoing W.contents writer.new text.new.items) (encode_lower (byte ∷ []))) }
-    ensures cut { IfErr result (λ e. BreaksOff (outgoing W.contents writer.old text.old.items)
-        (outgoing W.contents writer.new text.new.items) e (encode_lower (byte ∷ []))) }
+/// The digits of the bytes of a word, the least significant byte first.
+pub fn word_digits(word: u64) -> [u8; 16]
+    ensures { result ≡ encode_lower (to_le_bytes w64 word) }
 {
-    let mut digits = [0u8; 2];
-    // Two digits have room, so nothing is refused.
-    let _done = hex::encode_to_slice([byte], &mut digits);
-    put(text, writer, &digits)
+    let mut digits = [0u8; 16];
+    // 16 digits have room, so nothing is refused.
+    let _done = hex::encode_to_slice(word.to_le_bytes(), &mut digits);
+    digits
 }

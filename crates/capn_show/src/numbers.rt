@@ -14,7 +14,8 @@ ghost use Rattle.capn_show.specs.Outgoing.{Adds, BreaksOff, outgoing};
 
 use crate::digits::{digit, per_word};
 use crate::fault::Broken;
-use crate::lines::{end_line, indent, number_line, push_bit, push_byte, word_line};
+use crate::lines::{end_line, indent, number_line, push_bit, word_digits, word_line};
+use crate::output::put;
 use capn_words::{Place, Space, Watched, Width};
 use std::alloc::Allocator;
 use std::io::Write;
@@ -159,7 +160,7 @@ pub fn show_bytes<S: Space, W: Write, A: Allocator>(
     end_line(text, writer)
 }
 
-/// The digits of the bytes of a list.
+/// The digits of the bytes of a list, those of a word at a time.
 fn push_bytes<S: Space, W: Write, A: Allocator>(
     text: &mut Vec<u8, A>,
     writer: &mut Watched<W>,
@@ -176,17 +177,14 @@ fn push_bytes<S: Space, W: Write, A: Allocator>(
         count encode_lower
         (BreaksOff (outgoing W.contents writer.old text.old.items) (outgoing W.contents writer.new text.new.items) e)) }
 {
-    for i in 0..count {
-        push_byte(text, writer, byte_at(space, start, i))?;
+    for i in 0..count / 8 {
+        let word = number_at(space, start, Width::W64, i);
+        put(text, writer, &word_digits(word))?;
     }
-    Ok(())
-}
-
-/// Byte `i` of a list of bytes.
-fn byte_at<S: Space>(space: &S, start: Place, i: u32) -> u8
-    requires message { IsMessage (S.message space.now) }
-    requires there { IsContent (S.message space.now) start (i / 8 + 1) }
-    ensures { result ≡ seen.number_in widths.W8 (words_from (S.message space.now) start.segment start.word) i }
-{
-    number_at(space, start, Width::W8, i) as u8
+    let left = count % 8;
+    if left == 0 {
+        return Ok(());
+    }
+    let last = number_at(space, start, Width::W64, count / 8);
+    put(text, writer, &word_digits(last)[..2 * left as usize])
 }

@@ -1,4 +1,4 @@
-use Rattle.std.proofs.Common.{◌≤◌, arith}
+use Rattle.std.proofs.Common.{arith}
 use Rattle.capn_show.specs.Outgoing.{outgoing}
 use Rattle.capn_value.specs.Text.{show_text}
 use Rattle.capn_show.proofs.Ends.{unwritten}

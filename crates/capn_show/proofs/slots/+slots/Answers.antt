@@ -1,4 +1,4 @@
-use Rattle.std.proofs.Common.{◌≡◌, ℕ, ◌+◌, ◌-◌, ◌*◌, ◌<◌, ◌≤◌, length, ◌++◌, subst, arith, sym, ap, ◌∙◌, Ok, Err}
+use Rattle.std.proofs.Common.{◌≡◌, ℕ, ◌+◌, ◌*◌, ◌<◌, ◌≤◌, length, ◌++◌, subst, arith, sym, ap, ◌∙◌}
 use Rattle.std.proofs.lemmas.Result.{on_ok_weaker, IfErr-weaker}
 use Rattle.capn_words.specs.Message.{segment_at}
 use Rattle.capn_walk.specs.declared.target.Shape.{Shape}
@@ -16,7 +16,7 @@ use Rattle.capn_show.proofs.Appended.{passed, same, both, then-broken, broken-be
 use Rattle.capn_show.proofs.Steps.{no-fault, found-ready, found-shown, slot-ready, row-ready, slots-ready}
 use Rattle.capn_show.proofs.SlotTexts.{each-more, each-all, each-cut, rows-more, rows-all, row-cut}
 use Rattle.capn_show.proofs.FoundTexts.{body-shown, nil-shown, cap-shown, node-shown, list-shown, links-shown}
-use Rattle.capn_show.proofs.FoundTexts.{rows-shown, inside, deep, node-ready, links-ready, rows-ready, plain-of}
+use Rattle.capn_show.proofs.FoundTexts.{rows-shown, inside, deep, node-ready, links-ready, rows-ready}
 use Rattle.capn_show.proofs.slots.+slots.Goals as goal
 
 -- ---- a slot
