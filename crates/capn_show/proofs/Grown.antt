@@ -1,12 +1,10 @@
 -- A loop that appends a text for each element of a list: one more, and all of them.
-use Rattle.std.proofs.Common.{◌≡◌, ℕ, zero, suc, ◌+◌, ◌*◌, ◌<◌, List, [], ◌∷◌, ◌++◌, Bool, true, false}
+use Rattle.std.proofs.Common.{◌≡◌, ℕ, zero, suc, ◌+◌, ◌*◌, ◌<◌, List, [], ◌∷◌, ◌++◌, Bool}
 use Rattle.std.proofs.Common.{length, take, drop}
-use Rattle.std.proofs.Common.{get_or, map, replicate, codes, refl, sym, ap, ◌∙◌, arith, append_assoc}
-use Rattle.std.specs.Prelude.{◌==◌}
-use Rattle.std.specs.Int.{from_bool}
+use Rattle.std.proofs.Common.{get_or, replicate, codes, refl, sym, ap, ◌∙◌, arith, append_assoc}
 use Rattle.std.specs.Fmt.{decimal}
 use Rattle.std.proofs.Math.Seq.{take-add}
-use Rattle.std.proofs.lemmas.List.{append-nil, take_all, take_more, take-append-drop, get_or-map}
+use Rattle.std.proofs.lemmas.List.{append-nil, take_all, take_more, take-append-drop}
 use Rattle.hex.specs.Hex.{encode_lower}
 use Rattle.capn_value.specs.Text.{line, one_line, hex16, word_lines, number_lines, digit, digits_of}
 use Rattle.capn_show.specs.declared.fault.Broken.{Broken}
@@ -151,32 +149,22 @@ module _ (p q : Outgoing) where
     pub bytes-all : (n : ℕ) → n ≡ length xs → Adds p q (encode_lower (take n xs)) → Adds p q (encode_lower xs)
     bytes-all n e h = otherwise p q _ _ (ap encode_lower (take_all n xs (omega arith))) h
 
-  module _ (xs : List Bool) (i : ℕ) where
-    pub bit-more : (r : Outgoing) (x d : Bool) → i < length xs → x ≡ get_or xs i d
-        → Adds p q (digits_of (take i xs)) → Adds q r (digit x ∷ [])
-        → Adds p r (digits_of (take (i + 1) xs))
-    bit-more r x d below e h k =
-        more digits_of digits_of-joined p q xs i r d below h
-        (otherwise q r (digit x ∷ []) (digits_of (get_or xs i d ∷ [])) (ap (λ (b : Bool). digit b ∷ []) e) k)
+  module _ (xs : List Bool) where
+    pub bits-more : (r : Outgoing) (i k : ℕ) (digits : List ℕ) → digits ≡ digits_of (take k (drop i xs))
+        → Adds p q (digits_of (take i xs)) → Adds q r digits → Adds p r (digits_of (take (i + k) xs))
+    bits-more r i k digits e h j =
+        block-more digits_of digits_of-joined p q r xs i k h
+        (otherwise q r digits (digits_of (take k (drop i xs))) e j)
 
-    pub bit-cut : (r : Outgoing) (e : Broken) (x d : Bool) → i < length xs → x ≡ get_or xs i d
-        → Adds p q (digits_of (take i xs)) → BreaksOff q r e (digit x ∷ []) → BreaksOff p r e (digits_of xs)
-    bit-cut r e x d below is h k =
-        cut digits_of digits_of-joined p q xs i r e d below h
-        (otherwise-broken q r e (digit x ∷ []) (digits_of (get_or xs i d ∷ [])) (ap (λ (b : Bool). digit b ∷ []) is) k)
+    pub bits-cut : (r : Outgoing) (e : Broken) (i k : ℕ) (digits : List ℕ)
+        → digits ≡ digits_of (take k (drop i xs)) → Adds p q (digits_of (take i xs)) → BreaksOff q r e digits
+        → BreaksOff p r e (digits_of xs)
+    bits-cut r e i k digits is h j =
+        block-cut digits_of digits_of-joined p q r xs i k e h
+        (otherwise-broken q r e digits (digits_of (take k (drop i xs))) is j)
 
-    pub bits-all : i ≡ length xs → Adds p q (digits_of (take i xs)) → Adds p q (digits_of xs)
-    bits-all = all digits_of digits_of-joined p q xs i
-
--- the bit that a number tells
-pub bit-told : (xs : List Bool) (i n : ℕ) → i < length xs → n ≡ get_or (map from_bool xs) i 0
-    → (n == 1) ≡ get_or xs i false
-bit-told xs i n below e =
-    ap (λ (k : ℕ). k == 1) (e ∙ get_or-map from_bool xs i false 0 below) ∙ is-one (get_or xs i false)
-  where
-    is-one : (b : Bool) → (from_bool b == 1) ≡ b
-    is-one true = refl
-    is-one false = refl
+    pub bits-all : (n : ℕ) → n ≡ length xs → Adds p q (digits_of (take n xs)) → Adds p q (digits_of xs)
+    bits-all n e h = otherwise p q _ _ (ap digits_of (take_all n xs (omega arith))) h
 
 -- a line between its indentation and its end
 lined-is : (level n : ℕ) (x : List ℕ) → 0 < n → replicate (2 * level) 32 ++ (x ++ 10 ∷ []) ≡ one_line level n x

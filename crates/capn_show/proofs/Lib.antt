@@ -13,3 +13,4 @@ mod FoundTexts
 mod Ends
 mod PartSteps
 mod BlockDigits
+mod BitDigits

@@ -1,15 +1,19 @@
 //! The lines of a text.
 
-ghost use Rattle.std.specs.Prelude.{◌≡◌, ◌<◌, ◌^◌, [], ◌∷◌, ◌++◌, ◌*◌, IfErr, OnOk, codes, replicate};
+ghost use Rattle.std.specs.Prelude.{◌≡◌, ℕ, ◌<◌, ◌^◌, [], ◌∷◌, ◌++◌, ◌+◌, ◌*◌, IfErr, OnOk, codes, length, replicate};
+ghost use Rattle.std.specs.Prelude.{slice_index};
 ghost use Rattle.capn_value.specs.Text as form;
+ghost use Rattle.capn_walk.specs.View as seen;
+ghost use Rattle.capn_words.specs.declared.pointer.Width.TheVariants as widths;
 ghost use Rattle.std.specs.Fmt.{decimal};
 ghost use Rattle.std.specs.Int.{to_le_bytes, w64};
 ghost use Rattle.hex.specs.Hex.{encode_lower};
 ghost use Rattle.capn_show.specs.Outgoing.{Adds, BreaksOff, outgoing};
 
+use crate::digits::digit;
 use crate::fault::Broken;
 use crate::output::put;
-use capn_words::Watched;
+use capn_words::{Watched, Width};
 use std::alloc::Allocator;
 use std::io::Write;
 
@@ -162,18 +166,16 @@ pub fn word_line<W: Write, A: Allocator>(
     put(text, writer, &word_bytes(word))
 }
 
-/// One digit: whether a bit is set.
-pub fn push_bit<W: Write, A: Allocator>(
-    text: &mut Vec<u8, A>,
-    writer: &mut Watched<W>,
-    bit: bool,
-) -> Result<(), Broken>
-    ensures shown { OnOk result (Adds (outgoing W.contents writer.old text.old.items)
-        (outgoing W.contents writer.new text.new.items) (form.digit bit ∷ [])) }
-    ensures cut { IfErr result (λ e. BreaksOff (outgoing W.contents writer.old text.old.items)
-        (outgoing W.contents writer.new text.new.items) e (form.digit bit ∷ [])) }
+/// The digits of the bits of a word, the least significant first.
+pub fn word_bits(word: u64) -> [u8; 64]
+    ensures size { length result ≡ 64 }
+    ensures each { (i : ℕ) → i < 64 → slice_index result i ≡ 48 + seen.digit widths.W1 word i }
 {
-    put(text, writer, if bit { b"1" } else { b"0" })
+    let mut digits = [b'0'; 64];
+    for i in 0..64u32 {
+        digits[i as usize] = b'0' + digit(Width::W1, word, i) as u8;
+    }
+    digits
 }
 
 /// The digits of the bytes of a word, the least significant byte first.

@@ -14,7 +14,7 @@ ghost use Rattle.capn_show.specs.Outgoing.{Adds, BreaksOff, outgoing};
 
 use crate::digits::{digit, per_word};
 use crate::fault::Broken;
-use crate::lines::{end_line, indent, number_line, push_bit, word_digits, word_line};
+use crate::lines::{end_line, indent, number_line, word_bits, word_digits, word_line};
 use crate::output::put;
 use capn_words::{Place, Space, Watched, Width};
 use std::alloc::Allocator;
@@ -113,7 +113,7 @@ pub fn show_bits<S: Space, W: Write, A: Allocator>(
     end_line(text, writer)
 }
 
-/// The digits of the bits of a list.
+/// The digits of the bits of a list, those of a word at a time.
 fn push_bits<S: Space, W: Write, A: Allocator>(
     text: &mut Vec<u8, A>,
     writer: &mut Watched<W>,
@@ -128,10 +128,16 @@ fn push_bits<S: Space, W: Write, A: Allocator>(
     ensures cut { IfErr result (λ e. BitsShown (S.message space.now) start.segment start.word count form.digits_of
         (BreaksOff (outgoing W.contents writer.old text.old.items) (outgoing W.contents writer.new text.new.items) e)) }
 {
-    for i in 0..count {
-        push_bit(text, writer, number_at(space, start, Width::W1, i) == 1)?;
+    for i in 0..count / 64 {
+        let word = number_at(space, start, Width::W64, i);
+        put(text, writer, &word_bits(word))?;
     }
-    Ok(())
+    let left = count % 64;
+    if left == 0 {
+        return Ok(());
+    }
+    let last = number_at(space, start, Width::W64, count / 64);
+    put(text, writer, &word_bits(last)[..left as usize])
 }
 
 /// One line of the bytes of a list, unless it is empty.
