@@ -1,5 +1,5 @@
 -- The text of what a pointer names, and what is known of what stands below it.
-use Rattle.std.proofs.Common.{◌≡◌, ℕ, ◌+◌, ◌-◌, ◌≤◌, List, ◌++◌, length, codes, refl, subst, sym, ap, ap₂, ◌∙◌, arith}
+use Rattle.std.proofs.Common.{◌≡◌, ℕ, ◌+◌, ◌-◌, ◌≤◌, List, ◌++◌, codes, refl, subst, sym, ap, ap₂, ◌∙◌, arith}
 use Rattle.capn_words.specs.declared.pointer.Width.{Width}
 use Rattle.capn_words.specs.declared.pointer.Width.TheVariants.{W0, W1, W8, W16, W32, W64, Link, Rows}
 use Rattle.capn_value.specs.Tree.{Tree, nil, node, voids, bits, bytes, pairs, quads, octs, links, rows, cap}
@@ -12,7 +12,7 @@ use Rattle.capn_walk.specs.declared.target.Shape.TheVariants as shapes
 use Rattle.capn_walk.specs.Shapes.{IsContent, IsPlain, RowsFit, extent}
 use Rattle.capn_walk.specs.View.{IsInMessage}
 use Rattle.capn_walk.specs.ShownValue.{Shows}
-use Rattle.capn_show.specs.inner.ReadyPlaces.{IsFound, IsBody, AreReady, AreRows, shown_body}
+use Rattle.capn_show.specs.inner.ReadyPlaces.{IsFound, IsBody, AreReady, AreRows}
 use Rattle.capn_show.specs.inner.ReadyPlaces.{IsFoundShown, IsBodyShown, AreShown, RowsShown, WordsShown}
 use Rattle.capn_show.proofs.FoundKinds.{as-nil, as-cap, as-node, as-links, as-rows}
 

@@ -1,30 +1,29 @@
 -- A loop that appends a text for each element of a list: one more, and all of them.
-use Rattle.std.proofs.Common.{◌≡◌, ℕ, zero, suc, ◌+◌, ◌*◌, ◌<◌, List, [], ◌∷◌, ◌++◌, Bool, true, false}
+use Rattle.std.proofs.Common.{◌≡◌, ℕ, zero, suc, ◌+◌, ◌*◌, ◌<◌, List, [], ◌∷◌, ◌++◌, Bool}
 use Rattle.std.proofs.Common.{length, take, drop}
-use Rattle.std.proofs.Common.{get_or, map, replicate, codes, refl, sym, ap, ◌∙◌, arith, append_assoc}
-use Rattle.std.specs.Prelude.{◌==◌}
-use Rattle.std.specs.Int.{from_bool}
+use Rattle.std.proofs.Common.{get_or, replicate, codes, refl, sym, ap, ◌∙◌, arith, append_assoc}
 use Rattle.std.specs.Fmt.{decimal}
-use Rattle.std.proofs.lemmas.List.{append-nil, take_all, take_more, take-append-drop, get_or-map}
+use Rattle.std.proofs.Math.Seq.{take-add}
+use Rattle.std.proofs.lemmas.List.{append-nil, take_all, take_more, take-append-drop}
 use Rattle.hex.specs.Hex.{encode_lower}
 use Rattle.capn_value.specs.Text.{line, one_line, hex16, word_lines, number_lines, digit, digits_of}
 use Rattle.capn_show.specs.declared.fault.Broken.{Broken}
-use Rattle.capn_show.specs.Sheet.{Sheet, Grows, BreaksOff}
+use Rattle.capn_show.specs.Outgoing.{Outgoing, Adds, BreaksOff}
 use Rattle.capn_show.proofs.Appended.{both, otherwise, otherwise-broken, then-broken, broken-before}
 use Rattle.capn_show.proofs.TextDigits.{encode_lower-none, encode_lower-cons}
 
 module _ {A : Type 0} (F : List A → List ℕ) (joins : (xs ys : List A) → F (xs ++ ys) ≡ F xs ++ F ys)
-    (p q : Sheet) (xs : List A) (i : ℕ) where
+    (p q : Outgoing) (xs : List A) (i : ℕ) where
   -- one element more
-  more : (r : Sheet) (d : A) → i < length xs → Grows p q (F (take i xs))
-      → Grows q r (F (get_or xs i d ∷ [])) → Grows p r (F (take (i + 1) xs))
+  more : (r : Outgoing) (d : A) → i < length xs → Adds p q (F (take i xs))
+      → Adds q r (F (get_or xs i d ∷ [])) → Adds p r (F (take (i + 1) xs))
   more r d below h k =
       otherwise p r (F (take i xs) ++ F (get_or xs i d ∷ [])) (F (take (i + 1) xs))
       (sym (ap F (take_more xs i d below) ∙ joins (take i xs) (get_or xs i d ∷ [])))
       (both p q r (F (take i xs)) (F (get_or xs i d ∷ [])) h k)
 
   -- a text that breaks off in it
-  cut : (r : Sheet) (e : Broken) (d : A) → i < length xs → Grows p q (F (take i xs))
+  cut : (r : Outgoing) (e : Broken) (d : A) → i < length xs → Adds p q (F (take i xs))
       → BreaksOff q r e (F (get_or xs i d ∷ [])) → BreaksOff p r e (F xs)
   cut r e d below h k =
       let front = F (take i xs) in
@@ -37,8 +36,30 @@ module _ {A : Type 0} (F : List A → List ℕ) (joins : (xs ys : List A) → F 
       (broken-before p r e (front ++ here) rest (then-broken p q r e front here h k))
 
   -- all of them
-  all : i ≡ length xs → Grows p q (F (take i xs)) → Grows p q (F xs)
+  all : i ≡ length xs → Adds p q (F (take i xs)) → Adds p q (F xs)
   all e h = otherwise p q (F (take i xs)) (F xs) (ap F (take_all i xs (omega arith))) h
+
+module _ {A : Type 0} (F : List A → List ℕ) (joins : (xs ys : List A) → F (xs ++ ys) ≡ F xs ++ F ys)
+    (p q r : Outgoing) (xs : List A) (i k : ℕ) where
+  -- some elements more
+  block-more : Adds p q (F (take i xs)) → Adds q r (F (take k (drop i xs))) → Adds p r (F (take (i + k) xs))
+  block-more h j =
+      otherwise p r (F (take i xs) ++ F (take k (drop i xs))) (F (take (i + k) xs))
+      (sym (ap F (take-add i k xs) ∙ joins (take i xs) (take k (drop i xs))))
+      (both p q r (F (take i xs)) (F (take k (drop i xs))) h j)
+
+  -- a text that breaks off in them
+  block-cut : (e : Broken) → Adds p q (F (take i xs)) → BreaksOff q r e (F (take k (drop i xs)))
+      → BreaksOff p r e (F xs)
+  block-cut e h j =
+      let front = F (take i xs) in
+      let here = F (take k (drop i xs)) in
+      let rest = F (drop (i + k) xs) in
+      otherwise-broken p r e ((front ++ here) ++ rest) (F xs)
+      (ap (λ (l : List ℕ). l ++ rest) (sym (ap F (take-add i k xs) ∙ joins (take i xs) (take k (drop i xs))))
+      ∙ sym (joins (take (i + k) xs) (drop (i + k) xs))
+      ∙ ap F (take-append-drop (i + k) xs))
+      (broken-before p r e (front ++ here) rest (then-broken p q r e front here h j))
 
 word_lines-joined : (level : ℕ) (xs ys : List ℕ)
     → word_lines level (xs ++ ys) ≡ word_lines level xs ++ word_lines level ys
@@ -68,19 +89,19 @@ encode_lower-joined (x ∷ xs) ys =
     ∙ sym (append_assoc (encode_lower (x ∷ [])) (encode_lower xs) (encode_lower ys))
     ∙ ap (λ (l : List ℕ). l ++ encode_lower ys) (sym (encode_lower-cons x xs))
 
-module _ (p q : Sheet) where
+module _ (p q : Outgoing) where
   module _ (level : ℕ) (xs : List ℕ) (i : ℕ) where
-    pub word-more : (r : Sheet) (x : ℕ) → i < length xs → x ≡ get_or xs i 0
-        → Grows p q (word_lines level (take i xs)) → Grows q r (line level (codes "word " ++ hex16 x))
-        → Grows p r (word_lines level (take (i + 1) xs))
+    pub word-more : (r : Outgoing) (x : ℕ) → i < length xs → x ≡ get_or xs i 0
+        → Adds p q (word_lines level (take i xs)) → Adds q r (line level (codes "word " ++ hex16 x))
+        → Adds p r (word_lines level (take (i + 1) xs))
     word-more r x below e h k =
         more (word_lines level) (word_lines-joined level) p q xs i r 0 below h
         (otherwise q r (line level (codes "word " ++ hex16 x)) (word_lines level (get_or xs i 0 ∷ []))
         (ap (λ (n : ℕ). line level (codes "word " ++ hex16 n)) e
         ∙ sym (append-nil (line level (codes "word " ++ hex16 (get_or xs i 0))))) k)
 
-    pub word-cut : (r : Sheet) (e : Broken) (x : ℕ) → i < length xs → x ≡ get_or xs i 0
-        → Grows p q (word_lines level (take i xs)) → BreaksOff q r e (line level (codes "word " ++ hex16 x))
+    pub word-cut : (r : Outgoing) (e : Broken) (x : ℕ) → i < length xs → x ≡ get_or xs i 0
+        → Adds p q (word_lines level (take i xs)) → BreaksOff q r e (line level (codes "word " ++ hex16 x))
         → BreaksOff p r e (word_lines level xs)
     word-cut r e x below is h k =
         cut (word_lines level) (word_lines-joined level) p q xs i r e 0 below h
@@ -88,75 +109,62 @@ module _ (p q : Sheet) where
         (ap (λ (n : ℕ). line level (codes "word " ++ hex16 n)) is
         ∙ sym (append-nil (line level (codes "word " ++ hex16 (get_or xs i 0))))) k)
 
-    pub words-all : i ≡ length xs → Grows p q (word_lines level (take i xs)) → Grows p q (word_lines level xs)
+    pub words-all : i ≡ length xs → Adds p q (word_lines level (take i xs)) → Adds p q (word_lines level xs)
     words-all = all (word_lines level) (word_lines-joined level) p q xs i
 
-    pub number-more : (r : Sheet) (x : ℕ) → i < length xs → x ≡ get_or xs i 0
-        → Grows p q (number_lines level (take i xs)) → Grows q r (line level (decimal x))
-        → Grows p r (number_lines level (take (i + 1) xs))
+    pub number-more : (r : Outgoing) (x : ℕ) → i < length xs → x ≡ get_or xs i 0
+        → Adds p q (number_lines level (take i xs)) → Adds q r (line level (decimal x))
+        → Adds p r (number_lines level (take (i + 1) xs))
     number-more r x below e h k =
         more (number_lines level) (number_lines-joined level) p q xs i r 0 below h
         (otherwise q r (line level (decimal x)) (number_lines level (get_or xs i 0 ∷ []))
         (ap (λ (n : ℕ). line level (decimal n)) e ∙ sym (append-nil (line level (decimal (get_or xs i 0))))) k)
 
-    pub number-cut : (r : Sheet) (e : Broken) (x : ℕ) → i < length xs → x ≡ get_or xs i 0
-        → Grows p q (number_lines level (take i xs)) → BreaksOff q r e (line level (decimal x))
+    pub number-cut : (r : Outgoing) (e : Broken) (x : ℕ) → i < length xs → x ≡ get_or xs i 0
+        → Adds p q (number_lines level (take i xs)) → BreaksOff q r e (line level (decimal x))
         → BreaksOff p r e (number_lines level xs)
     number-cut r e x below is h k =
         cut (number_lines level) (number_lines-joined level) p q xs i r e 0 below h
         (otherwise-broken q r e (line level (decimal x)) (number_lines level (get_or xs i 0 ∷ []))
         (ap (λ (n : ℕ). line level (decimal n)) is ∙ sym (append-nil (line level (decimal (get_or xs i 0))))) k)
 
-    pub numbers-all : i ≡ length xs → Grows p q (number_lines level (take i xs))
-        → Grows p q (number_lines level xs)
+    pub numbers-all : i ≡ length xs → Adds p q (number_lines level (take i xs))
+        → Adds p q (number_lines level xs)
     numbers-all = all (number_lines level) (number_lines-joined level) p q xs i
 
-  module _ (xs : List ℕ) (i : ℕ) where
-    pub byte-more : (r : Sheet) (x : ℕ) → i < length xs → x ≡ get_or xs i 0
-        → Grows p q (encode_lower (take i xs)) → Grows q r (encode_lower (x ∷ []))
-        → Grows p r (encode_lower (take (i + 1) xs))
-    byte-more r x below e h k =
-        more encode_lower encode_lower-joined p q xs i r 0 below h
-        (otherwise q r (encode_lower (x ∷ [])) (encode_lower (get_or xs i 0 ∷ []))
-        (ap (λ (n : ℕ). encode_lower (n ∷ [])) e) k)
+  module _ (xs : List ℕ) where
+    pub bytes-more : (r : Outgoing) (i k : ℕ) (digits : List ℕ) → digits ≡ encode_lower (take k (drop i xs))
+        → Adds p q (encode_lower (take i xs)) → Adds q r digits → Adds p r (encode_lower (take (i + k) xs))
+    bytes-more r i k digits e h j =
+        block-more encode_lower encode_lower-joined p q r xs i k h
+        (otherwise q r digits (encode_lower (take k (drop i xs))) e j)
 
-    pub byte-cut : (r : Sheet) (e : Broken) (x : ℕ) → i < length xs → x ≡ get_or xs i 0
-        → Grows p q (encode_lower (take i xs)) → BreaksOff q r e (encode_lower (x ∷ []))
+    pub bytes-cut : (r : Outgoing) (e : Broken) (i k : ℕ) (digits : List ℕ)
+        → digits ≡ encode_lower (take k (drop i xs)) → Adds p q (encode_lower (take i xs)) → BreaksOff q r e digits
         → BreaksOff p r e (encode_lower xs)
-    byte-cut r e x below is h k =
-        cut encode_lower encode_lower-joined p q xs i r e 0 below h
-        (otherwise-broken q r e (encode_lower (x ∷ [])) (encode_lower (get_or xs i 0 ∷ []))
-        (ap (λ (n : ℕ). encode_lower (n ∷ [])) is) k)
+    bytes-cut r e i k digits is h j =
+        block-cut encode_lower encode_lower-joined p q r xs i k e h
+        (otherwise-broken q r e digits (encode_lower (take k (drop i xs))) is j)
 
-    pub bytes-all : i ≡ length xs → Grows p q (encode_lower (take i xs)) → Grows p q (encode_lower xs)
-    bytes-all = all encode_lower encode_lower-joined p q xs i
+    pub bytes-all : (n : ℕ) → n ≡ length xs → Adds p q (encode_lower (take n xs)) → Adds p q (encode_lower xs)
+    bytes-all n e h = otherwise p q _ _ (ap encode_lower (take_all n xs (omega arith))) h
 
-  module _ (xs : List Bool) (i : ℕ) where
-    pub bit-more : (r : Sheet) (x d : Bool) → i < length xs → x ≡ get_or xs i d
-        → Grows p q (digits_of (take i xs)) → Grows q r (digit x ∷ [])
-        → Grows p r (digits_of (take (i + 1) xs))
-    bit-more r x d below e h k =
-        more digits_of digits_of-joined p q xs i r d below h
-        (otherwise q r (digit x ∷ []) (digits_of (get_or xs i d ∷ [])) (ap (λ (b : Bool). digit b ∷ []) e) k)
+  module _ (xs : List Bool) where
+    pub bits-more : (r : Outgoing) (i k : ℕ) (digits : List ℕ) → digits ≡ digits_of (take k (drop i xs))
+        → Adds p q (digits_of (take i xs)) → Adds q r digits → Adds p r (digits_of (take (i + k) xs))
+    bits-more r i k digits e h j =
+        block-more digits_of digits_of-joined p q r xs i k h
+        (otherwise q r digits (digits_of (take k (drop i xs))) e j)
 
-    pub bit-cut : (r : Sheet) (e : Broken) (x d : Bool) → i < length xs → x ≡ get_or xs i d
-        → Grows p q (digits_of (take i xs)) → BreaksOff q r e (digit x ∷ []) → BreaksOff p r e (digits_of xs)
-    bit-cut r e x d below is h k =
-        cut digits_of digits_of-joined p q xs i r e d below h
-        (otherwise-broken q r e (digit x ∷ []) (digits_of (get_or xs i d ∷ [])) (ap (λ (b : Bool). digit b ∷ []) is) k)
+    pub bits-cut : (r : Outgoing) (e : Broken) (i k : ℕ) (digits : List ℕ)
+        → digits ≡ digits_of (take k (drop i xs)) → Adds p q (digits_of (take i xs)) → BreaksOff q r e digits
+        → BreaksOff p r e (digits_of xs)
+    bits-cut r e i k digits is h j =
+        block-cut digits_of digits_of-joined p q r xs i k e h
+        (otherwise-broken q r e digits (digits_of (take k (drop i xs))) is j)
 
-    pub bits-all : i ≡ length xs → Grows p q (digits_of (take i xs)) → Grows p q (digits_of xs)
-    bits-all = all digits_of digits_of-joined p q xs i
-
--- the bit that a number tells
-pub bit-told : (xs : List Bool) (i n : ℕ) → i < length xs → n ≡ get_or (map from_bool xs) i 0
-    → (n == 1) ≡ get_or xs i false
-bit-told xs i n below e =
-    ap (λ (k : ℕ). k == 1) (e ∙ get_or-map from_bool xs i false 0 below) ∙ is-one (get_or xs i false)
-  where
-    is-one : (b : Bool) → (from_bool b == 1) ≡ b
-    is-one true = refl
-    is-one false = refl
+    pub bits-all : (n : ℕ) → n ≡ length xs → Adds p q (digits_of (take n xs)) → Adds p q (digits_of xs)
+    bits-all n e h = otherwise p q _ _ (ap digits_of (take_all n xs (omega arith))) h
 
 -- a line between its indentation and its end
 lined-is : (level n : ℕ) (x : List ℕ) → 0 < n → replicate (2 * level) 32 ++ (x ++ 10 ∷ []) ≡ one_line level n x
@@ -164,9 +172,9 @@ unfolding line
 lined-is level zero x some = absurd (omega arith)
 lined-is level (suc n) x some = refl
 
-module _ (level n : ℕ) (x : List ℕ) (some : 0 < n) (p q : Sheet) where
-  pub lined : (r s : Sheet) → Grows p q (replicate (2 * level) 32) → Grows q r x → Grows r s (10 ∷ [])
-      → Grows p s (one_line level n x)
+module _ (level n : ℕ) (x : List ℕ) (some : 0 < n) (p q : Outgoing) where
+  pub lined : (r s : Outgoing) → Adds p q (replicate (2 * level) 32) → Adds q r x → Adds r s (10 ∷ [])
+      → Adds p s (one_line level n x)
   lined r s h k l =
       otherwise p s (replicate (2 * level) 32 ++ (x ++ 10 ∷ [])) (one_line level n x) (lined-is level n x some)
       (both p q s (replicate (2 * level) 32) (x ++ 10 ∷ []) h (both q r s x (10 ∷ []) k l))
@@ -177,14 +185,14 @@ module _ (level n : ℕ) (x : List ℕ) (some : 0 < n) (p q : Sheet) where
       otherwise-broken p q e (replicate (2 * level) 32 ++ (x ++ 10 ∷ [])) (one_line level n x)
       (lined-is level n x some) (broken-before p q e (replicate (2 * level) 32) (x ++ 10 ∷ []) h)
 
-  pub cut-inside : (r : Sheet) (e : Broken) → Grows p q (replicate (2 * level) 32) → BreaksOff q r e x
+  pub cut-inside : (r : Outgoing) (e : Broken) → Adds p q (replicate (2 * level) 32) → BreaksOff q r e x
       → BreaksOff p r e (one_line level n x)
   cut-inside r e h k =
       otherwise-broken p r e (replicate (2 * level) 32 ++ (x ++ 10 ∷ [])) (one_line level n x)
       (lined-is level n x some)
       (then-broken p q r e (replicate (2 * level) 32) (x ++ 10 ∷ []) h (broken-before q r e x (10 ∷ []) k))
 
-  pub cut-last : (r s : Sheet) (e : Broken) → Grows p q (replicate (2 * level) 32) → Grows q r x
+  pub cut-last : (r s : Outgoing) (e : Broken) → Adds p q (replicate (2 * level) 32) → Adds q r x
       → BreaksOff r s e (10 ∷ []) → BreaksOff p s e (one_line level n x)
   cut-last r s e h k l =
       otherwise-broken p s e (replicate (2 * level) 32 ++ (x ++ 10 ∷ [])) (one_line level n x)

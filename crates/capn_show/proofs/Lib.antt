@@ -1,6 +1,7 @@
 mod TextDigits
 mod Shifts
 mod Appended
+mod LineTexts
 mod Grown
 mod Within
 mod RowFront
@@ -10,3 +11,6 @@ mod Steps
 mod ListTexts
 mod FoundTexts
 mod Ends
+mod PartSteps
+mod BlockDigits
+mod BitDigits

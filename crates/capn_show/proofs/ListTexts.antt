@@ -1,6 +1,5 @@
 -- The text of a list of elements without pointers, from its first line and what follows it.
-use Rattle.std.proofs.Common.{◌≡◌, ℕ, ◌+◌, List, Bool, ◌++◌, length, map, codes, subst, sym, ap, ◌∙◌}
-use Rattle.std.specs.Int.{from_bool}
+use Rattle.std.proofs.Common.{◌≡◌, ℕ, ◌+◌, List, ◌++◌, length, codes, subst, sym, ap, ◌∙◌}
 use Rattle.hex.specs.Hex.{encode_lower}
 use Rattle.capn_words.specs.declared.pointer.Width.{Width}
 use Rattle.capn_words.specs.declared.pointer.Width.TheVariants.{W0, W1, W8, W16, W32, W64}

@@ -1,19 +1,10 @@
 -- The number at a place of a word.
-use Rattle.std.proofs.Common.{◌≡◌, ℕ, zero, suc, ◌+◌, ◌*◌, ◌/◌, ◌%◌, ◌^◌, ◌<◌, List, length, Result, Ok, Err, IfOk}
+use Rattle.std.proofs.Common.{◌≡◌, ℕ, zero, suc, ◌+◌, ◌*◌, ◌/◌, ◌%◌, ◌^◌}
 use Rattle.std.proofs.Common.{refl, ap, sym, ◌∙◌, arith, ◌-◌}
 use Rattle.std.specs.Int.Bits.{bit_and}
 use Rattle.std.proofs.lemmas.Nat.{and_mask, pow-add}
 use Rattle.std.proofs.Math.Nat.{pow-suc}
 use native.Mathlib.Numerals.{unary_clauses}
-use Rattle.capn_words.specs.Message.{segment_at}
-use Rattle.capn_words.specs.declared.space.Place.{Place}
-use Rattle.capn_walk.specs.declared.target.Target.{Target}
-use Rattle.capn_walk.specs.declared.target.Target.TheVariants as targets
-use Rattle.capn_walk.specs.declared.target.Fault.{Fault}
-use Rattle.capn_walk.specs.Target.{target}
-use Rattle.capn_walk.specs.View.{IsInMessage}
-use Rattle.capn_walk.proofs.shared.Inside.{inside}
-use Rattle.capn_walk.proofs.shared.Present.{present}
 
 pow-times : (k p : ℕ) → 2 ^ (k * p) ≡ (2 ^ k) ^ p
 pow-times k zero = let e : k * 0 ≡ 0 = omega arith in rw e (simp unary_clauses refl)

@@ -1,5 +1,5 @@
 -- A loop that appends the text of each slot or row: one more, and all of them.
-use Rattle.std.proofs.Common.{◌≡◌, ℕ, zero, suc, ◌+◌, ◌<◌, ◌≤◌, List, [], ◌++◌, length, refl, sym, ap, ◌∙◌, arith}
+use Rattle.std.proofs.Common.{◌≡◌, ℕ, zero, suc, ◌+◌, ◌<◌, ◌≤◌, List, ◌++◌, length, refl, sym, ap, ◌∙◌, arith}
 use Rattle.std.proofs.Common.{append_assoc}
 use Rattle.std.proofs.lemmas.List.{append-nil}
 use Rattle.capn_value.specs.Tree.{Trees, no_trees, tree, Bodies, no_bodies, body, count, count_rows, tree_at, front}
@@ -9,7 +9,7 @@ use Rattle.capn_walk.specs.ShownValue.{words_of_row, slots_of_row}
 use Rattle.capn_show.specs.inner.ReadyPlaces.{shown_body}
 use Rattle.capn_show.proofs.RowFront.{front_rows}
 use Rattle.capn_show.specs.declared.fault.Broken.{Broken}
-use Rattle.capn_show.specs.Sheet.{Sheet, Grows, BreaksOff}
+use Rattle.capn_show.specs.Outgoing.{Outgoing, Adds, BreaksOff}
 use Rattle.capn_show.proofs.Appended.{both, otherwise, otherwise-broken, then-broken, broken-before}
 
 -- ---- slots
@@ -26,17 +26,17 @@ front-all : (ts : Trees) → front (count ts) ts ≡ ts
 front-all no_trees = refl
 front-all (tree t ts) = ap (tree t) (front-all ts)
 
-pub each-more : (p q r : Sheet) (level : ℕ) (ts : Trees) (i : ℕ) → i < count ts
-    → Grows p q (shown_each level (front i ts)) → Grows q r (shown level (tree_at ts i))
-    → Grows p r (shown_each level (front (i + 1) ts))
+pub each-more : (p q r : Outgoing) (level : ℕ) (ts : Trees) (i : ℕ) → i < count ts
+    → Adds p q (shown_each level (front i ts)) → Adds q r (shown level (tree_at ts i))
+    → Adds p r (shown_each level (front (i + 1) ts))
 each-more p q r level ts i below h k =
     let next : suc i ≡ i + 1 = omega arith in
     otherwise p r (shown_each level (front i ts) ++ shown level (tree_at ts i)) (shown_each level (front (i + 1) ts))
     (front-next level ts i below ∙ ap (λ (n : ℕ). shown_each level (front n ts)) next)
     (both p q r (shown_each level (front i ts)) (shown level (tree_at ts i)) h k)
 
-pub each-all : (p q : Sheet) (level : ℕ) (ts : Trees) (i : ℕ) → i ≡ count ts
-    → Grows p q (shown_each level (front i ts)) → Grows p q (shown_each level ts)
+pub each-all : (p q : Outgoing) (level : ℕ) (ts : Trees) (i : ℕ) → i ≡ count ts
+    → Adds p q (shown_each level (front i ts)) → Adds p q (shown_each level ts)
 each-all p q level ts i e h =
     otherwise p q (shown_each level (front i ts)) (shown_each level ts)
     (ap (λ (n : ℕ). shown_each level (front n ts)) e ∙ ap (shown_each level) (front-all ts)) h
@@ -56,8 +56,8 @@ each-split level (tree t ts) (suc i) below =
           ∙ ap (λ (l : List ℕ). shown level t ++ l) x.1,
     )
 
-pub each-cut : (p q r : Sheet) (e : Broken) (level : ℕ) (ts : Trees) (i : ℕ) → i < count ts
-    → Grows p q (shown_each level (front i ts)) → BreaksOff q r e (shown level (tree_at ts i))
+pub each-cut : (p q r : Outgoing) (e : Broken) (level : ℕ) (ts : Trees) (i : ℕ) → i < count ts
+    → Adds p q (shown_each level (front i ts)) → BreaksOff q r e (shown level (tree_at ts i))
     → BreaksOff p r e (shown_each level ts)
 each-cut p q r e level ts i below h k =
     let x = each-split level ts i below in
@@ -99,10 +99,10 @@ rows-front-all : (bs : Bodies) → front_rows (count_rows bs) bs ≡ bs
 rows-front-all no_bodies = refl
 rows-front-all (body ws ss bs) = ap (body ws ss) (rows-front-all bs)
 
-pub rows-more : (p q r : Sheet) (level : ℕ) (bs : Bodies) (i : ℕ) → i < count_rows bs
-    → Grows p q (shown_rows level (front_rows i bs))
-    → Grows q r (shown_body level (words_of_row bs i) (slots_of_row bs i))
-    → Grows p r (shown_rows level (front_rows (i + 1) bs))
+pub rows-more : (p q r : Outgoing) (level : ℕ) (bs : Bodies) (i : ℕ) → i < count_rows bs
+    → Adds p q (shown_rows level (front_rows i bs))
+    → Adds q r (shown_body level (words_of_row bs i) (slots_of_row bs i))
+    → Adds p r (shown_rows level (front_rows (i + 1) bs))
 rows-more p q r level bs i below h k =
     let next : suc i ≡ i + 1 = omega arith in
     let row = shown_body level (words_of_row bs i) (slots_of_row bs i) in
@@ -110,8 +110,8 @@ rows-more p q r level bs i below h k =
     (rows-next level bs i below ∙ ap (λ (n : ℕ). shown_rows level (front_rows n bs)) next)
     (both p q r (shown_rows level (front_rows i bs)) row h k)
 
-pub rows-all : (p q : Sheet) (level : ℕ) (bs : Bodies) (i : ℕ) → i ≡ count_rows bs
-    → Grows p q (shown_rows level (front_rows i bs)) → Grows p q (shown_rows level bs)
+pub rows-all : (p q : Outgoing) (level : ℕ) (bs : Bodies) (i : ℕ) → i ≡ count_rows bs
+    → Adds p q (shown_rows level (front_rows i bs)) → Adds p q (shown_rows level bs)
 rows-all p q level bs i e h =
     otherwise p q (shown_rows level (front_rows i bs)) (shown_rows level bs)
     (ap (λ (n : ℕ). shown_rows level (front_rows n bs)) e ∙ ap (shown_rows level) (rows-front-all bs)) h
@@ -135,8 +135,8 @@ rows-split level (body ws ss bs) (suc i) below =
           ∙ body-first level ws ss bs,
     )
 
-pub row-cut : (p q r : Sheet) (e : Broken) (level : ℕ) (bs : Bodies) (i : ℕ) → i < count_rows bs
-    → Grows p q (shown_rows level (front_rows i bs))
+pub row-cut : (p q r : Outgoing) (e : Broken) (level : ℕ) (bs : Bodies) (i : ℕ) → i < count_rows bs
+    → Adds p q (shown_rows level (front_rows i bs))
     → BreaksOff q r e (shown_body level (words_of_row bs i) (slots_of_row bs i))
     → BreaksOff p r e (shown_rows level bs)
 row-cut p q r e level bs i below h k =

@@ -1,2 +1,4 @@
 pub mod inner
-pub mod Sheet
+pub mod Outgoing
+pub mod Part
+pub mod Written

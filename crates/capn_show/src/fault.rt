@@ -10,13 +10,13 @@ use thiserror::Error;
 /// Why the text of a message is not written, or not the whole of it.
 #[derive(Clone, Copy, Debug, PartialEq, Eq, Error)]
 pub enum ShowFault {
-    /// The message is not accepted within the limits, or the survey was refused memory. Nothing of it was written.
+    /// The message is not accepted within the limits, or the survey was refused memory. Nothing was added.
     #[error("{0}")]
     Stopped(Stopped),
-    /// The writer failed. A beginning of the text was written.
+    /// The writer failed. It has a first part of what was kept and of the message's text.
     #[error("the writer failed")]
     Io,
-    /// The page was refused the memory of its block.
+    /// The text was refused memory. A first part of the message's text was added to it.
     #[error("out of memory")]
     Memory,
 }
@@ -26,7 +26,7 @@ pub enum ShowFault {
 pub enum Broken {
     /// The writer failed.
     Io,
-    /// The page was refused the memory of its block.
+    /// The text was refused memory.
     Memory,
 }
 

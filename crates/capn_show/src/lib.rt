@@ -2,13 +2,17 @@
 //!
 //! [`show_message`] surveys a message within limits. Of one that is refused it writes nothing. Of one that is accepted
 //! it writes what `capn_value::show` writes of the value that `capn_walk::walk` answers: it goes from slot to slot as
-//! the walk did, and each line goes to a [`Page`], which hands its text to a writer in blocks of some 64 KiB. So it
-//! takes the same memory for every message, whatever its value is.
+//! the walk did, and adds each line to a text that the caller keeps. So small texts of many messages make one write. A
+//! text of 65,536 bytes or more is written and emptied, so that it takes the same memory for every message.
+//! [`show_part`] does so for what stands at a way of numbers from the root.
 //!
 //! ```text
-//! let mut page = Page::new(alloc, Watched::new(writer));
-//! show_message(alloc, &mut page, &message, Limits::usual())?;
-//! let writer = page.finish();
+//! let mut text = Vec::new(alloc);
+//! let mut writer = Watched::new(writer);
+//! for message in messages {
+//!     show_message(alloc, &mut text, &mut writer, &message, Limits::usual())?;
+//! }
+//! writer.write_all(&text)?;
 //! ```
 #![tactic(auto)]
 
@@ -17,9 +21,10 @@ mod fault;
 mod lines;
 mod message;
 mod numbers;
-mod page;
+mod output;
+mod part;
 mod slots;
 
 pub use fault::ShowFault;
 pub use message::show_message;
-pub use page::Page;
+pub use part::show_part;

@@ -1,114 +1,189 @@
-//! The parts of lines, each written straight into the string of a page.
+//! The lines of a text.
 
-ghost use Rattle.std.specs.Prelude.{◌≡◌, ◌<◌, ◌^◌, [], ◌∷◌, ◌++◌, ◌*◌, OnOk, string_bytes, codes, replicate};
-ghost use Rattle.capn_value.specs.Text as text;
+ghost use Rattle.std.specs.Prelude.{◌≡◌, ℕ, ◌<◌, ◌^◌, [], ◌∷◌, ◌++◌, ◌+◌, ◌*◌, IfErr, OnOk, codes, length, replicate};
+ghost use Rattle.std.specs.Prelude.{slice_index};
+ghost use Rattle.capn_value.specs.Text as form;
+ghost use Rattle.capn_walk.specs.View as seen;
+ghost use Rattle.capn_words.specs.declared.pointer.Width.TheVariants as widths;
 ghost use Rattle.std.specs.Fmt.{decimal};
+ghost use Rattle.std.specs.Int.{to_le_bytes, w64};
 ghost use Rattle.hex.specs.Hex.{encode_lower};
+ghost use Rattle.capn_show.specs.Outgoing.{Adds, BreaksOff, outgoing};
 
-use std::alloc::{AllocError, Allocator};
+use crate::digits::digit;
+use crate::fault::Broken;
+use crate::output::put;
+use capn_words::{Watched, Width};
+use std::alloc::Allocator;
+use std::io::Write;
 
-/// Two spaces for each level.
-pub fn indent<A: Allocator>(out: &mut String<A>, level: u32) -> Result<(), AllocError>
-    ensures { OnOk result (string_bytes out.new ≡ string_bytes out.old ++ replicate (2 * level) 32) }
+/// The spaces of 32 levels.
+const SPACES: [u8; 64] = [b' '; 64];
+
+/// The spaces of a level.
+pub fn indent<W: Write, A: Allocator>(
+    text: &mut Vec<u8, A>,
+    writer: &mut Watched<W>,
+    level: u32,
+) -> Result<(), Broken>
+    ensures shown { OnOk result (Adds (outgoing W.contents writer.old text.old.items)
+        (outgoing W.contents writer.new text.new.items) (replicate (2 * level) 32)) }
+    ensures cut { IfErr result (λ e. BreaksOff (outgoing W.contents writer.old text.old.items)
+        (outgoing W.contents writer.new text.new.items) e (replicate (2 * level) 32)) }
 {
-    for _i in 0..level {
-        out.push_str("  ")?;
+    let mut done = 0;
+    while level - done > 32 {
+        put(text, writer, &SPACES)?;
+        done += 32;
     }
-    Ok(())
+    put(text, writer, &SPACES[..2 * (level - done) as usize])
+}
+
+/// The end of a line.
+pub fn end_line<W: Write, A: Allocator>(
+    text: &mut Vec<u8, A>,
+    writer: &mut Watched<W>,
+) -> Result<(), Broken>
+    ensures shown { OnOk result (Adds (outgoing W.contents writer.old text.old.items)
+        (outgoing W.contents writer.new text.new.items) (10 ∷ [])) }
+    ensures cut { IfErr result (λ e. BreaksOff (outgoing W.contents writer.old text.old.items)
+        (outgoing W.contents writer.new text.new.items) e (10 ∷ [])) }
+{
+    put(text, writer, b"\n")
+}
+
+/// A number, and a byte after it.
+fn put_number<W: Write, A: Allocator>(
+    text: &mut Vec<u8, A>,
+    writer: &mut Watched<W>,
+    n: u64,
+    after: u8,
+) -> Result<(), Broken>
+    ensures shown { OnOk result (Adds (outgoing W.contents writer.old text.old.items)
+        (outgoing W.contents writer.new text.new.items) (decimal n ++ after ∷ [])) }
+    ensures cut { IfErr result (λ e. BreaksOff (outgoing W.contents writer.old text.old.items)
+        (outgoing W.contents writer.new text.new.items) e (decimal n ++ after ∷ [])) }
+{
+    let mut digits = [after; 21];
+    let start = itoa::write_digits(n, &mut digits, 20);
+    put(text, writer, &digits[start..])
 }
 
 /// A line of one word.
-#[tactic(auto, using(std::proofs::lemmas::Grind::common_steps), unfolding(capn_value::specs::Text::line))]
-pub fn plain_line<A: Allocator>(
-    out: &mut String<A>,
+pub fn plain_line<W: Write, A: Allocator>(
+    text: &mut Vec<u8, A>,
+    writer: &mut Watched<W>,
     level: u32,
     word: &str,
-) -> Result<(), AllocError>
-    ensures { OnOk result (string_bytes out.new ≡ string_bytes out.old ++ text.line level word.now) }
+) -> Result<(), Broken>
+    ensures shown { OnOk result (Adds (outgoing W.contents writer.old text.old.items)
+        (outgoing W.contents writer.new text.new.items) (form.line level word.now)) }
+    ensures cut { IfErr result (λ e. BreaksOff (outgoing W.contents writer.old text.old.items)
+        (outgoing W.contents writer.new text.new.items) e (form.line level word.now)) }
 {
-    indent(out, level)?;
-    writeln!(out, "{word}")
+    indent(text, writer, level)?;
+    put(text, writer, word.as_bytes())?;
+    end_line(text, writer)
 }
 
 /// A line of a word and a number.
-#[tactic(auto, using(std::proofs::lemmas::Grind::common_steps), unfolding(capn_value::specs::Text::line))]
-pub fn named_line<A: Allocator>(
-    out: &mut String<A>,
+pub fn named_line<W: Write, A: Allocator>(
+    text: &mut Vec<u8, A>,
+    writer: &mut Watched<W>,
     level: u32,
     name: &str,
     n: u32,
-) -> Result<(), AllocError>
-    ensures { OnOk result (string_bytes out.new ≡ string_bytes out.old ++ text.line level (text.named name.now n)) }
+) -> Result<(), Broken>
+    ensures shown { OnOk result (Adds (outgoing W.contents writer.old text.old.items)
+        (outgoing W.contents writer.new text.new.items) (form.line level (form.named name.now n))) }
+    ensures cut { IfErr result (λ e. BreaksOff (outgoing W.contents writer.old text.old.items)
+        (outgoing W.contents writer.new text.new.items) e (form.line level (form.named name.now n))) }
 {
-    indent(out, level)?;
-    writeln!(out, "{name} {n}")
+    indent(text, writer, level)?;
+    put(text, writer, name.as_bytes())?;
+    put(text, writer, b" ")?;
+    put_number(text, writer, n as u64, b'\n')
 }
 
 /// The first line of a struct: how many words and slots it has.
-#[tactic(auto, using(std::proofs::lemmas::Grind::common_steps), unfolding(capn_value::specs::Text::line))]
-pub fn body_line<A: Allocator>(
-    out: &mut String<A>,
+pub fn body_line<W: Write, A: Allocator>(
+    text: &mut Vec<u8, A>,
+    writer: &mut Watched<W>,
     level: u32,
     words: u16,
     slots: u16,
-) -> Result<(), AllocError>
-    ensures { OnOk result (string_bytes out.new ≡ string_bytes out.old ++ text.body_line level words slots) }
+) -> Result<(), Broken>
+    ensures shown { OnOk result (Adds (outgoing W.contents writer.old text.old.items)
+        (outgoing W.contents writer.new text.new.items) (form.body_line level words slots)) }
+    ensures cut { IfErr result (λ e. BreaksOff (outgoing W.contents writer.old text.old.items)
+        (outgoing W.contents writer.new text.new.items) e (form.body_line level words slots)) }
 {
-    indent(out, level)?;
-    writeln!(out, "struct {words} {slots}")
+    indent(text, writer, level)?;
+    put(text, writer, b"struct ")?;
+    put_number(text, writer, words as u64, b' ')?;
+    put_number(text, writer, slots as u64, b'\n')
 }
 
 /// A line of one number.
-#[tactic(auto, using(std::proofs::lemmas::Grind::common_steps), unfolding(capn_value::specs::Text::line))]
-pub fn number_line<A: Allocator>(out: &mut String<A>, level: u32, n: u64) -> Result<(), AllocError>
-    ensures { OnOk result (string_bytes out.new ≡ string_bytes out.old ++ text.line level (decimal n)) }
+pub fn number_line<W: Write, A: Allocator>(
+    text: &mut Vec<u8, A>,
+    writer: &mut Watched<W>,
+    level: u32,
+    n: u64,
+) -> Result<(), Broken>
+    ensures shown { OnOk result (Adds (outgoing W.contents writer.old text.old.items)
+        (outgoing W.contents writer.new text.new.items) (form.line level (decimal n))) }
+    ensures cut { IfErr result (λ e. BreaksOff (outgoing W.contents writer.old text.old.items)
+        (outgoing W.contents writer.new text.new.items) e (form.line level (decimal n))) }
 {
-    indent(out, level)?;
-    writeln!(out, "{n}")
+    indent(text, writer, level)?;
+    put_number(text, writer, n, b'\n')
 }
 
-/// The line of one data word, as a number: its most significant digit comes first.
-#[tactic(auto, using(std::proofs::lemmas::Grind::common_steps), unfolding(capn_value::specs::Text::line))]
-pub fn word_line<A: Allocator>(out: &mut String<A>, level: u32, word: u64) -> Result<(), AllocError>
-    ensures { OnOk result
-        (string_bytes out.new ≡ string_bytes out.old ++ text.line level (codes "word " ++ text.hex16 word)) }
+/// The bytes of the line of one data word, as a number: its most significant digit comes first.
+fn word_bytes(word: u64) -> [u8; 22]
+    ensures { result ≡ codes "word " ++ (form.hex16 word ++ 10 ∷ []) }
 {
-    indent(out, level)?;
-    out.push_str("word ")?;
-    push_hex(out, &word.to_be_bytes())?;
-    out.push_str("\n")
+    let mut line = *b"word 0000000000000000\n";
+    // 16 digits have room, so nothing is refused.
+    let _done = hex::encode_to_slice(word.to_be_bytes(), &mut line[5..21]);
+    line
 }
 
-/// One digit: whether a bit is set.
-pub fn push_bit<A: Allocator>(out: &mut String<A>, bit: bool) -> Result<(), AllocError>
-    ensures { OnOk result (string_bytes out.new ≡ string_bytes out.old ++ text.digit bit ∷ []) }
+/// The line of one data word.
+pub fn word_line<W: Write, A: Allocator>(
+    text: &mut Vec<u8, A>,
+    writer: &mut Watched<W>,
+    level: u32,
+    word: u64,
+) -> Result<(), Broken>
+    ensures shown { OnOk result (Adds (outgoing W.contents writer.old text.old.items)
+        (outgoing W.contents writer.new text.new.items) (form.line level (codes "word " ++ form.hex16 word))) }
+    ensures cut { IfErr result (λ e. BreaksOff (outgoing W.contents writer.old text.old.items)
+        (outgoing W.contents writer.new text.new.items) e (form.line level (codes "word " ++ form.hex16 word))) }
 {
-    if bit {
-        out.push_str("1")
-    } else {
-        out.push_str("0")
+    indent(text, writer, level)?;
+    put(text, writer, &word_bytes(word))
+}
+
+/// The digits of the bits of a word, the least significant first.
+pub fn word_bits(word: u64) -> [u8; 64]
+    ensures size { length result ≡ 64 }
+    ensures each { (i : ℕ) → i < 64 → slice_index result i ≡ 48 + seen.digit widths.W1 word i }
+{
+    let mut digits = [b'0'; 64];
+    for i in 0..64u32 {
+        digits[i as usize] = b'0' + digit(Width::W1, word, i) as u8;
     }
+    digits
 }
 
-// Two digits for each byte.
-#[tactic(auto, using(std::proofs::lemmas::Grind::common_steps, crate::proofs::TextDigits::digits))]
-fn push_hex<A: Allocator>(out: &mut String<A>, bytes: &[u8]) -> Result<(), AllocError>
-    ensures { OnOk result (string_bytes out.new ≡ string_bytes out.old ++ encode_lower bytes.now) }
+/// The digits of the bytes of a word, the least significant byte first.
+pub fn word_digits(word: u64) -> [u8; 16]
+    ensures { result ≡ encode_lower (to_le_bytes w64 word) }
 {
-    for byte in bytes {
-        push_byte(out, *byte)?;
-    }
-    Ok(())
-}
-
-/// The two digits of a byte.
-#[tactic(auto, using(std::proofs::lemmas::Grind::common_steps, crate::proofs::TextDigits::digits))]
-pub fn push_byte<A: Allocator>(out: &mut String<A>, byte: u8) -> Result<(), AllocError>
-    ensures { OnOk result (string_bytes out.new ≡ string_bytes out.old ++ encode_lower (byte ∷ [])) }
-{
-    let mut digits = [0u8; 2];
-    // Two digits have room, so nothing is refused.
-    let _done = hex::encode_to_slice([byte], &mut digits);
-    out.push(char::from(digits[0]))?;
-    out.push(char::from(digits[1]))
+    let mut digits = [0u8; 16];
+    // 16 digits have room, so nothing is refused.
+    let _done = hex::encode_to_slice(word.to_le_bytes(), &mut digits);
+    digits
 }

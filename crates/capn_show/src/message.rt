@@ -1,43 +1,48 @@
 //! The text of a message.
 
 ghost use Rattle.std.specs.Prelude.{OnOk, IfErr};
-ghost use Rattle.capn_show.specs.inner.ReadyPlaces.{IsWritten, IsUnwritten};
+ghost use Rattle.capn_value.specs.Text.{show_text};
+ghost use Rattle.capn_show.specs.Outgoing.{outgoing};
+ghost use Rattle.capn_show.specs.Written.{IsWritten, IsUnwritten};
 
 use crate::fault::{ShowFault, fault_of};
-use crate::page::Page;
 use crate::slots::show_slot;
 use capn_walk::laws::values;
 use capn_walk::{Limits, survey};
-use capn_words::{Place, Space};
+use capn_words::{Place, Space, Watched};
 use std::alloc::Allocator;
 use std::io::Write;
 
 /// Where the pointer to the root is.
-const ROOT: Place = Place {
+pub(crate) const ROOT: Place = Place {
     segment: 0,
     word: 0,
 };
 
-/// Appends the text of the value that a message denotes within limits.
+/// Adds the text of the value that a message denotes within limits.
 ///
-/// The message is surveyed first, and nothing is appended of one that is refused. It takes no memory beside the page's
-/// block and what a survey takes, which is none for a depth of at most 64.
+/// The message is surveyed first, and nothing is added of one that is refused. The text is added to one that is kept;
+/// that is written and emptied whenever it has 65,536 bytes or more, and what is left of it is written by the caller.
+/// It takes no memory beside that text and what a survey takes, which is none for a depth of at most 64.
 pub fn show_message<S: Space, W: Write, A: Allocator, B: Allocator + Copy>(
     alloc: B,
-    page: &mut Page<W, A>,
+    text: &mut Vec<u8, A>,
+    writer: &mut Watched<W>,
     space: &S,
     limits: Limits,
 ) -> Result<(), ShowFault>
-    // An answer: the message is accepted, and the text of its value is appended.
-    ensures shown { OnOk result (IsWritten (S.message space.now) limits page.old page.new) }
-    // A refusal is that of a survey, and leaves the page as it was. Otherwise the message is accepted, and the writer
-    // failed, or memory was refused where the page grows: then the writer holds a beginning of the text.
-    ensures refused { IfErr result (λ fault. IsUnwritten (S.message space.now) limits fault page.old page.new) }
+    // An answer: the message is accepted, and the text of its value is added.
+    ensures shown { OnOk result (IsWritten (S.message space.now) limits show_text
+        (outgoing W.contents writer.old text.old.items) (outgoing W.contents writer.new text.new.items)) }
+    // A refusal is that of a survey, and nothing is added. Otherwise the message is accepted, and the writer failed
+    // after a first part of the text, or memory was refused, and a first part of the text is added.
+    ensures refused { IfErr result (λ fault. IsUnwritten (S.message space.now) limits show_text fault
+        (outgoing W.contents writer.old text.old.items) (outgoing W.contents writer.new text.new.items)) }
 {
     values();
     let _bounds = space.segments();
     survey(alloc, space, limits)?;
-    match show_slot(page, space, ROOT, 0, limits.depth()) {
+    match show_slot(text, writer, space, ROOT, 0, limits.depth()) {
         Ok(()) => Ok(()),
         Err(broken) => Err(fault_of(broken)),
     }

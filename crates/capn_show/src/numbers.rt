@@ -4,18 +4,19 @@ ghost use Rattle.std.specs.Prelude.{◌≡◌, ◌+◌, ◌/◌, length, IfErr, 
 ghost use Rattle.hex.specs.Hex.{encode_lower};
 ghost use Rattle.capn_words.specs.Message.{IsMessage};
 ghost use Rattle.capn_words.specs.declared.pointer.Width.TheVariants as widths;
-ghost use Rattle.capn_value.specs.Text as text;
+ghost use Rattle.capn_value.specs.Text as form;
 ghost use Rattle.capn_walk.specs.ValueAt.{words_from};
 ghost use Rattle.capn_walk.specs.Shapes.{IsContent};
 ghost use Rattle.capn_walk.specs.Target.{content_words};
 ghost use Rattle.capn_walk.specs.View as seen;
 ghost use Rattle.capn_show.specs.inner.ReadyPlaces.{HasNumbers, WordsShown, NumbersShown, BitsShown};
-ghost use Rattle.capn_show.specs.Sheet.{Grows, BreaksOff};
+ghost use Rattle.capn_show.specs.Outgoing.{Adds, BreaksOff, outgoing};
 
 use crate::digits::{digit, per_word};
 use crate::fault::Broken;
-use crate::page::Page;
-use capn_words::{Place, Space, Width};
+use crate::lines::{end_line, indent, number_line, word_bits, word_digits, word_line};
+use crate::output::put;
+use capn_words::{Place, Space, Watched, Width};
 use std::alloc::Allocator;
 use std::io::Write;
 
@@ -36,7 +37,8 @@ fn number_at<S: Space>(space: &S, start: Place, width: Width, i: u32) -> u64
 
 /// A line for each data word of a struct.
 pub fn show_words<S: Space, W: Write, A: Allocator>(
-    page: &mut Page<W, A>,
+    text: &mut Vec<u8, A>,
+    writer: &mut Watched<W>,
     space: &S,
     start: Place,
     count: u16,
@@ -45,23 +47,24 @@ pub fn show_words<S: Space, W: Write, A: Allocator>(
     requires message { IsMessage (S.message space.now) }
     requires content { IsContent (S.message space.now) start count }
     ensures shown { OnOk result (WordsShown (S.message space.now) start.segment start.word count level
-        (Grows page.old page.new)) }
+        (Adds (outgoing W.contents writer.old text.old.items) (outgoing W.contents writer.new text.new.items))) }
     ensures cut { IfErr result (λ e. WordsShown (S.message space.now) start.segment start.word count level
-        (BreaksOff page.old page.new e)) }
+        (BreaksOff (outgoing W.contents writer.old text.old.items) (outgoing W.contents writer.new text.new.items) e)) }
 {
     for i in 0..count as u32 {
         let at = Place {
             segment: start.segment,
             word: start.word + i,
         };
-        page.word(level, space.word(at))?;
+        word_line(text, writer, level, space.word(at))?;
     }
     Ok(())
 }
 
 /// A line for each number of a list.
 pub fn show_numbers<S: Space, W: Write, A: Allocator>(
-    page: &mut Page<W, A>,
+    text: &mut Vec<u8, A>,
+    writer: &mut Watched<W>,
     space: &S,
     start: Place,
     width: Width,
@@ -72,21 +75,22 @@ pub fn show_numbers<S: Space, W: Write, A: Allocator>(
     requires content { IsContent (S.message space.now) start (content_words width count) }
     requires plain { HasNumbers width }
     ensures shown { OnOk result (NumbersShown (S.message space.now) start.segment start.word width
-        count (text.number_lines level)
-        (Grows page.old page.new)) }
+        count (form.number_lines level)
+        (Adds (outgoing W.contents writer.old text.old.items) (outgoing W.contents writer.new text.new.items))) }
     ensures cut { IfErr result (λ e. NumbersShown (S.message space.now) start.segment start.word width
-        count (text.number_lines level)
-        (BreaksOff page.old page.new e)) }
+        count (form.number_lines level)
+        (BreaksOff (outgoing W.contents writer.old text.old.items) (outgoing W.contents writer.new text.new.items) e)) }
 {
     for i in 0..count {
-        page.number(level, number_at(space, start, width, i))?;
+        number_line(text, writer, level, number_at(space, start, width, i))?;
     }
     Ok(())
 }
 
 /// One line of the bits of a list, unless it is empty.
 pub fn show_bits<S: Space, W: Write, A: Allocator>(
-    page: &mut Page<W, A>,
+    text: &mut Vec<u8, A>,
+    writer: &mut Watched<W>,
     space: &S,
     start: Place,
     count: u32,
@@ -95,43 +99,51 @@ pub fn show_bits<S: Space, W: Write, A: Allocator>(
     requires message { IsMessage (S.message space.now) }
     requires content { IsContent (S.message space.now) start (content_words widths.W1 count) }
     ensures shown { OnOk result (BitsShown (S.message space.now) start.segment start.word
-        count (λ xs. text.one_line level (length xs) (text.digits_of xs))
-        (Grows page.old page.new)) }
+        count (λ xs. form.one_line level (length xs) (form.digits_of xs))
+        (Adds (outgoing W.contents writer.old text.old.items) (outgoing W.contents writer.new text.new.items))) }
     ensures cut { IfErr result (λ e. BitsShown (S.message space.now) start.segment start.word
-        count (λ xs. text.one_line level (length xs) (text.digits_of xs))
-        (BreaksOff page.old page.new e)) }
+        count (λ xs. form.one_line level (length xs) (form.digits_of xs))
+        (BreaksOff (outgoing W.contents writer.old text.old.items) (outgoing W.contents writer.new text.new.items) e)) }
 {
     if count == 0 {
         return Ok(());
     }
-    page.indent(level)?;
-    push_bits(page, space, start, count)?;
-    page.end()
+    indent(text, writer, level)?;
+    push_bits(text, writer, space, start, count)?;
+    end_line(text, writer)
 }
 
-/// The digits of the bits of a list.
+/// The digits of the bits of a list, those of a word at a time.
 fn push_bits<S: Space, W: Write, A: Allocator>(
-    page: &mut Page<W, A>,
+    text: &mut Vec<u8, A>,
+    writer: &mut Watched<W>,
     space: &S,
     start: Place,
     count: u32,
 ) -> Result<(), Broken>
     requires message { IsMessage (S.message space.now) }
     requires content { IsContent (S.message space.now) start (content_words widths.W1 count) }
-    ensures shown { OnOk result (BitsShown (S.message space.now) start.segment start.word count text.digits_of
-        (Grows page.old page.new)) }
-    ensures cut { IfErr result (λ e. BitsShown (S.message space.now) start.segment start.word count text.digits_of
-        (BreaksOff page.old page.new e)) }
+    ensures shown { OnOk result (BitsShown (S.message space.now) start.segment start.word count form.digits_of
+        (Adds (outgoing W.contents writer.old text.old.items) (outgoing W.contents writer.new text.new.items))) }
+    ensures cut { IfErr result (λ e. BitsShown (S.message space.now) start.segment start.word count form.digits_of
+        (BreaksOff (outgoing W.contents writer.old text.old.items) (outgoing W.contents writer.new text.new.items) e)) }
 {
-    for i in 0..count {
-        page.bit(number_at(space, start, Width::W1, i) == 1)?;
+    for i in 0..count / 64 {
+        let word = number_at(space, start, Width::W64, i);
+        put(text, writer, &word_bits(word))?;
     }
-    Ok(())
+    let left = count % 64;
+    if left == 0 {
+        return Ok(());
+    }
+    let last = number_at(space, start, Width::W64, count / 64);
+    put(text, writer, &word_bits(last)[..left as usize])
 }
 
 /// One line of the bytes of a list, unless it is empty.
 pub fn show_bytes<S: Space, W: Write, A: Allocator>(
-    page: &mut Page<W, A>,
+    text: &mut Vec<u8, A>,
+    writer: &mut Watched<W>,
     space: &S,
     start: Place,
     count: u32,
@@ -140,23 +152,24 @@ pub fn show_bytes<S: Space, W: Write, A: Allocator>(
     requires message { IsMessage (S.message space.now) }
     requires content { IsContent (S.message space.now) start (content_words widths.W8 count) }
     ensures shown { OnOk result (NumbersShown (S.message space.now) start.segment start.word widths.W8
-        count (λ xs. text.one_line level (length xs) (encode_lower xs))
-        (Grows page.old page.new)) }
+        count (λ xs. form.one_line level (length xs) (encode_lower xs))
+        (Adds (outgoing W.contents writer.old text.old.items) (outgoing W.contents writer.new text.new.items))) }
     ensures cut { IfErr result (λ e. NumbersShown (S.message space.now) start.segment start.word widths.W8
-        count (λ xs. text.one_line level (length xs) (encode_lower xs))
-        (BreaksOff page.old page.new e)) }
+        count (λ xs. form.one_line level (length xs) (encode_lower xs))
+        (BreaksOff (outgoing W.contents writer.old text.old.items) (outgoing W.contents writer.new text.new.items) e)) }
 {
     if count == 0 {
         return Ok(());
     }
-    page.indent(level)?;
-    push_bytes(page, space, start, count)?;
-    page.end()
+    indent(text, writer, level)?;
+    push_bytes(text, writer, space, start, count)?;
+    end_line(text, writer)
 }
 
-/// The digits of the bytes of a list.
+/// The digits of the bytes of a list, those of a word at a time.
 fn push_bytes<S: Space, W: Write, A: Allocator>(
-    page: &mut Page<W, A>,
+    text: &mut Vec<u8, A>,
+    writer: &mut Watched<W>,
     space: &S,
     start: Place,
     count: u32,
@@ -165,22 +178,19 @@ fn push_bytes<S: Space, W: Write, A: Allocator>(
     requires content { IsContent (S.message space.now) start (content_words widths.W8 count) }
     ensures shown { OnOk result (NumbersShown (S.message space.now) start.segment start.word widths.W8
         count encode_lower
-        (Grows page.old page.new)) }
+        (Adds (outgoing W.contents writer.old text.old.items) (outgoing W.contents writer.new text.new.items))) }
     ensures cut { IfErr result (λ e. NumbersShown (S.message space.now) start.segment start.word widths.W8
         count encode_lower
-        (BreaksOff page.old page.new e)) }
+        (BreaksOff (outgoing W.contents writer.old text.old.items) (outgoing W.contents writer.new text.new.items) e)) }
 {
-    for i in 0..count {
-        page.byte(byte_at(space, start, i))?;
+    for i in 0..count / 8 {
+        let word = number_at(space, start, Width::W64, i);
+        put(text, writer, &word_digits(word))?;
     }
-    Ok(())
-}
-
-/// Byte `i` of a list of bytes.
-fn byte_at<S: Space>(space: &S, start: Place, i: u32) -> u8
-    requires message { IsMessage (S.message space.now) }
-    requires there { IsContent (S.message space.now) start (i / 8 + 1) }
-    ensures { result ≡ seen.number_in widths.W8 (words_from (S.message space.now) start.segment start.word) i }
-{
-    number_at(space, start, Width::W8, i) as u8
+    let left = count % 8;
+    if left == 0 {
+        return Ok(());
+    }
+    let last = number_at(space, start, Width::W64, count / 8);
+    put(text, writer, &word_digits(last)[..2 * left as usize])
 }

@@ -7,23 +7,24 @@ ghost use Rattle.capn_walk.specs.declared.target.Shape.TheVariants as shapes;
 ghost use Rattle.capn_walk.specs.Target.{content_words};
 ghost use Rattle.capn_walk.specs.Shapes.{IsContent, IsPlain};
 ghost use Rattle.capn_walk.specs.View.{IsInMessage};
-ghost use Rattle.capn_show.specs.Sheet.{Grows, BreaksOff};
+ghost use Rattle.capn_show.specs.Outgoing.{Adds, BreaksOff, outgoing};
 ghost use Rattle.capn_show.specs.inner.ReadyPlaces.{IsReady, IsFound, IsBody, AreReady, AreRows};
 ghost use Rattle.capn_show.specs.inner.ReadyPlaces.{IsShown, IsFoundShown, IsBodyShown, AreShown, RowsShown};
 
 use crate::fault::Broken;
+use crate::lines::{body_line, named_line, plain_line};
 use crate::numbers::{show_bits, show_bytes, show_numbers, show_words};
-use crate::page::Page;
 use capn_walk::laws::views_show_values;
 use capn_walk::{Shape, Target, resolve};
-use capn_words::{Place, Space, Width};
+use capn_words::{Place, Space, Watched, Width};
 use std::alloc::Allocator;
 use std::io::Write;
 
 /// The text of the value that stands at a place.
 #[cycle(slots)]
 pub fn show_slot<S: Space, W: Write, A: Allocator>(
-    page: &mut Page<W, A>,
+    text: &mut Vec<u8, A>,
+    writer: &mut Watched<W>,
     space: &S,
     at: Place,
     level: u32,
@@ -33,12 +34,14 @@ pub fn show_slot<S: Space, W: Write, A: Allocator>(
     requires place { IsPlace (S.message space.now) at }
     requires ready { IsReady (S.message space.now) at depth }
     requires room { level + 2 * depth < 2 ^ 32 }
-    ensures shown { OnOk result (IsShown (S.message space.now) at level (Grows page.old page.new)) }
-    ensures cut { IfErr result (λ e. IsShown (S.message space.now) at level (BreaksOff page.old page.new e)) }
+    ensures shown { OnOk result (IsShown (S.message space.now) at level (Adds
+        (outgoing W.contents writer.old text.old.items) (outgoing W.contents writer.new text.new.items))) }
+    ensures cut { IfErr result (λ e. IsShown (S.message space.now) at level (BreaksOff
+        (outgoing W.contents writer.old text.old.items) (outgoing W.contents writer.new text.new.items) e)) }
 {
     views_show_values();
     match resolve(space, at) {
-        Ok(found) => show_found(page, space, found, level, depth),
+        Ok(found) => show_found(text, writer, space, found, level, depth),
         // A value stands here, so the pointer names something.
         Err(_) => unreachable!(),
     }
@@ -46,8 +49,9 @@ pub fn show_slot<S: Space, W: Write, A: Allocator>(
 
 /// The text of the value that a pointer names.
 #[cycle(slots)]
-fn show_found<S: Space, W: Write, A: Allocator>(
-    page: &mut Page<W, A>,
+pub fn show_found<S: Space, W: Write, A: Allocator>(
+    text: &mut Vec<u8, A>,
+    writer: &mut Watched<W>,
     space: &S,
     found: Target,
     level: u32,
@@ -58,13 +62,15 @@ fn show_found<S: Space, W: Write, A: Allocator>(
     requires ready { IsFound (S.message space.now) found depth }
     requires room { level + 2 * depth < 2 ^ 32 }
     ensures shown { OnOk result
-        (IsFoundShown (S.message space.now) found level (Grows page.old page.new)) }
+        (IsFoundShown (S.message space.now) found level (Adds (outgoing W.contents writer.old text.old.items)
+        (outgoing W.contents writer.new text.new.items))) }
     ensures cut { IfErr result (λ e.
-        IsFoundShown (S.message space.now) found level (BreaksOff page.old page.new e)) }
+        IsFoundShown (S.message space.now) found level (BreaksOff (outgoing W.contents writer.old text.old.items)
+        (outgoing W.contents writer.new text.new.items) e)) }
 {
     match found {
-        Target::Nil => page.plain(level, "null"),
-        Target::Cap(index) => page.named(level, "capability", index),
+        Target::Nil => plain_line(text, writer, level, "null"),
+        Target::Cap(index) => named_line(text, writer, level, "capability", index),
         Target::Content {
             segment,
             start,
@@ -77,14 +83,14 @@ fn show_found<S: Space, W: Write, A: Allocator>(
             };
             match shape {
                 Shape::Node { words, slots } => {
-                    show_body(page, space, start, words, slots, level, depth - 1)
+                    show_body(text, writer, space, start, words, slots, level, depth - 1)
                 }
                 Shape::Many { width, count } => match width {
                     Width::Link => {
-                        page.named(level, "pointers", count)?;
-                        show_slots(page, space, start, count, level + 1, depth - 1)
+                        named_line(text, writer, level, "pointers", count)?;
+                        show_slots(text, writer, space, start, count, level + 1, depth - 1)
                     }
-                    _ => show_list(page, space, start, width, count, level),
+                    _ => show_list(text, writer, space, start, width, count, level),
                 },
                 Shape::Rows {
                     count,
@@ -92,13 +98,14 @@ fn show_found<S: Space, W: Write, A: Allocator>(
                     slots,
                     span: _,
                 } => {
-                    page.named(level, "rows", count)?;
+                    named_line(text, writer, level, "rows", count)?;
                     let first = Place {
                         segment,
                         word: start.word + 1,
                     };
                     show_rows(
-                        page,
+                        text,
+                        writer,
                         space,
                         first,
                         count,
@@ -115,7 +122,8 @@ fn show_found<S: Space, W: Write, A: Allocator>(
 
 /// The text of a list of elements without pointers.
 fn show_list<S: Space, W: Write, A: Allocator>(
-    page: &mut Page<W, A>,
+    text: &mut Vec<u8, A>,
+    writer: &mut Watched<W>,
     space: &S,
     start: Place,
     width: Width,
@@ -128,32 +136,33 @@ fn show_list<S: Space, W: Write, A: Allocator>(
     requires room { level + 1 < 2 ^ 32 }
     ensures shown { OnOk result ((pads : ℕ)
         → IsFoundShown (S.message space.now) (targets.Content start.segment start.word (shapes.Many width count) pads)
-        level (Grows page.old page.new)) }
+        level (Adds (outgoing W.contents writer.old text.old.items) (outgoing W.contents writer.new text.new.items))) }
     ensures cut { IfErr result (λ e. (pads : ℕ)
         → IsFoundShown (S.message space.now) (targets.Content start.segment start.word (shapes.Many width count) pads)
-        level (BreaksOff page.old page.new e)) }
+        level (BreaksOff (outgoing W.contents writer.old text.old.items) (outgoing W.contents writer.new
+        text.new.items) e)) }
 {
     match width {
-        Width::W0 => page.named(level, "void", count),
+        Width::W0 => named_line(text, writer, level, "void", count),
         Width::W1 => {
-            page.named(level, "bits", count)?;
-            show_bits(page, space, start, count, level + 1)
+            named_line(text, writer, level, "bits", count)?;
+            show_bits(text, writer, space, start, count, level + 1)
         }
         Width::W8 => {
-            page.named(level, "bytes", count)?;
-            show_bytes(page, space, start, count, level + 1)
+            named_line(text, writer, level, "bytes", count)?;
+            show_bytes(text, writer, space, start, count, level + 1)
         }
         Width::W16 => {
-            page.named(level, "u16", count)?;
-            show_numbers(page, space, start, width, count, level + 1)
+            named_line(text, writer, level, "u16", count)?;
+            show_numbers(text, writer, space, start, width, count, level + 1)
         }
         Width::W32 => {
-            page.named(level, "u32", count)?;
-            show_numbers(page, space, start, width, count, level + 1)
+            named_line(text, writer, level, "u32", count)?;
+            show_numbers(text, writer, space, start, width, count, level + 1)
         }
         Width::W64 => {
-            page.named(level, "u64", count)?;
-            show_numbers(page, space, start, width, count, level + 1)
+            named_line(text, writer, level, "u64", count)?;
+            show_numbers(text, writer, space, start, width, count, level + 1)
         }
         Width::Link | Width::Rows => unreachable!(),
     }
@@ -162,7 +171,8 @@ fn show_list<S: Space, W: Write, A: Allocator>(
 /// The text of a struct: its first line, its words, and its slots with all below them.
 #[cycle(slots)]
 fn show_body<S: Space, W: Write, A: Allocator>(
-    page: &mut Page<W, A>,
+    text: &mut Vec<u8, A>,
+    writer: &mut Watched<W>,
     space: &S,
     start: Place,
     words: u16,
@@ -175,23 +185,26 @@ fn show_body<S: Space, W: Write, A: Allocator>(
     requires ready { IsBody (S.message space.now) start.segment start.word words slots depth }
     requires room { level + 1 + 2 * depth < 2 ^ 32 }
     ensures shown { OnOk result
-        (IsBodyShown (S.message space.now) start.segment start.word words slots level (Grows page.old page.new)) }
+        (IsBodyShown (S.message space.now) start.segment start.word words slots level (Adds
+        (outgoing W.contents writer.old text.old.items) (outgoing W.contents writer.new text.new.items))) }
     ensures cut { IfErr result (λ e.
-        IsBodyShown (S.message space.now) start.segment start.word words slots level (BreaksOff page.old page.new e)) }
+        IsBodyShown (S.message space.now) start.segment start.word words slots level (BreaksOff
+        (outgoing W.contents writer.old text.old.items) (outgoing W.contents writer.new text.new.items) e)) }
 {
-    page.body(level, words, slots)?;
-    show_words(page, space, start, words, level + 1)?;
+    body_line(text, writer, level, words, slots)?;
+    show_words(text, writer, space, start, words, level + 1)?;
     let first = Place {
         segment: start.segment,
         word: start.word + words as u32,
     };
-    show_slots(page, space, first, slots as u32, level + 1, depth)
+    show_slots(text, writer, space, first, slots as u32, level + 1, depth)
 }
 
 /// The text of what stands in slots, one after the other.
 #[cycle(slots)]
 fn show_slots<S: Space, W: Write, A: Allocator>(
-    page: &mut Page<W, A>,
+    text: &mut Vec<u8, A>,
+    writer: &mut Watched<W>,
     space: &S,
     first: Place,
     count: u32,
@@ -203,16 +216,16 @@ fn show_slots<S: Space, W: Write, A: Allocator>(
     requires ready { AreReady (S.message space.now) first.segment first.word count depth }
     requires room { level + 2 * depth < 2 ^ 32 }
     ensures shown { OnOk result (AreShown (S.message space.now) first.segment first.word count level
-        (Grows page.old page.new)) }
+        (Adds (outgoing W.contents writer.old text.old.items) (outgoing W.contents writer.new text.new.items))) }
     ensures cut { IfErr result (λ e. AreShown (S.message space.now) first.segment first.word count level
-        (BreaksOff page.old page.new e)) }
+        (BreaksOff (outgoing W.contents writer.old text.old.items) (outgoing W.contents writer.new text.new.items) e)) }
 {
     for i in 0..count {
         let at = Place {
             segment: first.segment,
             word: first.word + i,
         };
-        show_slot(page, space, at, level, depth)?;
+        show_slot(text, writer, space, at, level, depth)?;
     }
     Ok(())
 }
@@ -220,7 +233,8 @@ fn show_slots<S: Space, W: Write, A: Allocator>(
 /// The text of rows, one after the other.
 #[cycle(slots)]
 fn show_rows<S: Space, W: Write, A: Allocator>(
-    page: &mut Page<W, A>,
+    text: &mut Vec<u8, A>,
+    writer: &mut Watched<W>,
     space: &S,
     first: Place,
     count: u32,
@@ -234,10 +248,11 @@ fn show_rows<S: Space, W: Write, A: Allocator>(
     requires ready { AreRows (S.message space.now) first.segment first.word count words slots depth }
     requires room { level + 1 + 2 * depth < 2 ^ 32 }
     ensures shown { OnOk result
-        (RowsShown (S.message space.now) first.segment first.word count words slots level (Grows page.old page.new)) }
+        (RowsShown (S.message space.now) first.segment first.word count words slots level (Adds
+        (outgoing W.contents writer.old text.old.items) (outgoing W.contents writer.new text.new.items))) }
     ensures cut { IfErr result (λ e.
         RowsShown (S.message space.now) first.segment first.word count words slots level
-        (BreaksOff page.old page.new e)) }
+        (BreaksOff (outgoing W.contents writer.old text.old.items) (outgoing W.contents writer.new text.new.items) e)) }
 {
     let mut next = first.word;
     for row in 0..count {
@@ -245,7 +260,7 @@ fn show_rows<S: Space, W: Write, A: Allocator>(
             segment: first.segment,
             word: next,
         };
-        show_body(page, space, start, words, slots, level, depth)?;
+        show_body(text, writer, space, start, words, slots, level, depth)?;
         next += words as u32 + slots as u32;
     }
     Ok(())

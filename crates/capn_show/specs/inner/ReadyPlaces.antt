@@ -1,22 +1,21 @@
 -- What stands at places of a message whose text is written, and how a text grows by it.
-use Rattle.std.specs.Prelude.{◌≡◌, ◌⊎◌, ℕ, ◌+◌, ◌*◌, ◌<◌, ◌≤◌, List, Bool, ◌++◌, length, map, slice_index, ⊤}
+use Rattle.std.specs.Prelude.{◌≡◌, ℕ, ◌+◌, ◌*◌, ◌<◌, ◌≤◌, List, Bool, ◌++◌, length, map, slice_index, ⊤, Option}
+use Rattle.std.specs.Prelude.{Some}
 use Rattle.std.specs.Int.{from_bool}
 use Rattle.capn_words.specs.declared.space.Place.{Place}
 use Rattle.capn_words.specs.declared.pointer.Width.{Width}
 use Rattle.capn_words.specs.declared.pointer.Width.TheVariants.{W0, W1, Link, Rows}
 use Rattle.capn_value.specs.Tree.{Tree, Trees, Bodies, count, count_rows, tree_at}
 use Rattle.capn_value.specs.Cost.{height, greatest, greatest_in_rows}
-use Rattle.capn_value.specs.Text.{body_line, word_lines, shown, shown_each, shown_rows, show_text}
+use Rattle.capn_value.specs.Text.{body_line, word_lines, shown, shown_each, shown_rows}
 use Rattle.capn_walk.specs.declared.target.Target.{Target}
 use Rattle.capn_walk.specs.declared.target.Target.TheVariants as targets
 use Rattle.capn_walk.specs.declared.target.Shape.TheVariants as shapes
-use Rattle.capn_walk.specs.declared.target.Fault.TheVariants as faults
 use Rattle.capn_walk.specs.ValueAt.{IsAt, words_from}
 use Rattle.capn_walk.specs.View.{number_in}
 use Rattle.capn_walk.specs.ShownValue.{Shows, ShowsStruct, words_of_row, slots_of_row}
-use Rattle.capn_walk.specs.Accepted.{IsValueOf, IsWalkRefused}
-use Rattle.capn_walk.specs.Limits.{Bounds}
-use Rattle.capn_show.specs.Sheet.{Sheet, Grows, BreaksOff}
+use Rattle.capn_walk.specs.Accepted.{root}
+use Rattle.capn_show.specs.Part.{text_at}
 use Rattle.capn_show.specs.declared.fault.ShowFault.{ShowFault}
 use Rattle.capn_show.specs.declared.fault.ShowFault.TheVariants as ends
 use Rattle.capn_show.specs.declared.fault.Broken.{Broken}
@@ -98,7 +97,22 @@ module _ (m : List (List ℕ)) where
     pub count : count_rows values ≡ number
     pub low : greatest_in_rows values ≤ depth
 
-  -- ---- what is said of the text, as that it is appended, or breaks off
+  -- a value stands at a place
+  abbrev pub Holds : Place → Type 0
+  Holds at = (v : Tree) × IsAt m at v
+
+  -- a pointer names a value
+  abbrev pub HasValue : Target → Type 0
+  HasValue found = (v : Tree) × Shows m found v
+
+  -- what stands below a value is that which a pointer names, and is no higher
+  pub record LeadsTo (v : Tree) (below : Option Tree) (found : Target) : Type 0 where
+    pub value : Tree
+    pub is : below ≡ Some value
+    pub shown : Shows m found value
+    pub low : height value ≤ height v
+
+  -- ---- what is said of the text, as that it is added, or breaks off
 
   -- of that of the value at a place
   abbrev pub IsShown : Place → ℕ → (List ℕ → Type 0) → Type 0
@@ -137,23 +151,6 @@ module _ (m : List (List ℕ)) where
   BitsShown s w number text Says = (xs : List Bool) → AreNumbers s w W1 (map from_bool xs) → length xs ≡ number
       → Says (text xs)
 
-  -- ---- what becomes of a message
-
-  -- it is accepted, and the text of its value is appended
-  pub record IsWritten (limits : Bounds) (p q : Sheet) : Type 0 where
-    pub value : Tree
-    pub is : IsValueOf m limits value
-    pub text : Grows p q (show_text value)
-
-  -- it is accepted, and the text of its value breaks off
-  pub record IsBegun (limits : Bounds) (p q : Sheet) (e : Broken) : Type 0 where
-    pub value : Tree
-    pub is : IsValueOf m limits value
-    pub text : BreaksOff p q e (show_text value)
-
-  -- it is refused, or a survey was refused memory, and the page is as it was; or the text of its value breaks off
-  abbrev pub IsUnwritten : Bounds → ShowFault → Sheet → Sheet → Type 0
-  IsUnwritten limits (ends.Stopped s) p q = (q ≡ p)
-      × ((s.fault ≡ faults.Memory) ⊎ IsWalkRefused m limits s.fault s.place s.paid s.visits)
-  IsUnwritten limits ends.Io p q = IsBegun limits p q broken.Io
-  IsUnwritten limits ends.Memory p q = IsBegun limits p q broken.Memory
+  -- of that of what stands at a way from the root
+  abbrev pub IsPartShown : List ℕ → (List ℕ → Type 0) → Type 0
+  IsPartShown way Says = (v : Tree) → IsAt m root v → Says (text_at way v)

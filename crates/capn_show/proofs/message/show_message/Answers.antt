@@ -1,4 +1,6 @@
-use Rattle.std.proofs.Common.{◌≤◌, arith}
+use Rattle.std.proofs.Common.{arith}
+use Rattle.capn_show.specs.Outgoing.{outgoing}
+use Rattle.capn_value.specs.Text.{show_text}
 use Rattle.capn_show.proofs.Ends.{unwritten}
 use Rattle.capn_show.proofs.message.show_message.Goals as goal
 
@@ -18,6 +20,8 @@ returns-in-Ok-clause-shown g c =
 pub returns-in-Err-clause-refused : goal.returns-in-Err-clause-refused
 returns-in-Err-clause-refused g c =
     let f = c.in_ok-survey.ensures.found in
-    unwritten (g.S.Space.message c.args.space.now) c.args.limits c.args.page.now c.show_slot.new.page c.in-Err.broken
+    unwritten (g.S.Space.message c.args.space.now) c.args.limits show_text
+    (outgoing g.W.Write.contents c.args.writer.now c.args.text.now.items) (outgoing g.W.Write.contents
+    c.show_slot.new.writer c.show_slot.new.text.items) c.in-Err.broken
     c.fault_of.result c.fault_of.ensures
     (record { value = f.value; is = f.is; text = c.in-Err.ensures.cut f.value f.is.is })

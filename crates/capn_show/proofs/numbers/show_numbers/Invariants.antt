@@ -1,5 +1,5 @@
 use Rattle.std.proofs.Common.{◌≡◌, ℕ, List, length, take}
-use Rattle.capn_show.specs.Sheet.{Grows}
+use Rattle.capn_show.specs.Outgoing.{Adds, outgoing}
 use Rattle.capn_value.specs.Text.{number_lines}
 use Rattle.capn_show.specs.inner.ReadyPlaces.{AreNumbers}
 use Rattle.capn_show.proofs.numbers.show_numbers.Given as goal
@@ -7,4 +7,5 @@ use Rattle.capn_show.proofs.numbers.show_numbers.Given as goal
 abbrev pub invariant-loop-i : goal.invariant-loop-i
 invariant-loop-i g l = (xs : List ℕ)
     → AreNumbers (g.S.Space.message l.space) l.start.segment l.start.word l.width xs → length xs ≡ l.count
-    → Grows l.initial.page l.page (number_lines l.level (take l.i xs))
+    → Adds (outgoing g.W.Write.contents l.initial.writer l.initial.text.items)
+    (outgoing g.W.Write.contents l.writer l.text.items) (number_lines l.level (take l.i xs))

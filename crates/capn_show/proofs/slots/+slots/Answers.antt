@@ -1,4 +1,4 @@
-use Rattle.std.proofs.Common.{◌≡◌, ℕ, ◌+◌, ◌-◌, ◌*◌, ◌<◌, ◌≤◌, length, ◌++◌, subst, arith, sym, ap, ◌∙◌, Ok, Err}
+use Rattle.std.proofs.Common.{◌≡◌, ℕ, ◌+◌, ◌*◌, ◌<◌, ◌≤◌, length, ◌++◌, subst, arith, sym, ap, ◌∙◌}
 use Rattle.std.proofs.lemmas.Result.{on_ok_weaker, IfErr-weaker}
 use Rattle.capn_words.specs.Message.{segment_at}
 use Rattle.capn_walk.specs.declared.target.Shape.{Shape}
@@ -10,13 +10,13 @@ use Rattle.capn_walk.proofs.shared.Segments.{segment-room}
 use Rattle.capn_words.specs.declared.pointer.Width.{Width}
 use Rattle.capn_value.specs.Tree.{count, count_rows}
 use Rattle.std.specs.Prelude.{⊤}
-use Rattle.capn_show.specs.Sheet.{Grows, BreaksOff}
+use Rattle.capn_show.specs.Outgoing.{Adds, BreaksOff, outgoing}
 use Rattle.capn_show.specs.inner.ReadyPlaces.{IsBody, struct_at}
 use Rattle.capn_show.proofs.Appended.{passed, same, both, then-broken, broken-before}
 use Rattle.capn_show.proofs.Steps.{no-fault, found-ready, found-shown, slot-ready, row-ready, slots-ready}
 use Rattle.capn_show.proofs.SlotTexts.{each-more, each-all, each-cut, rows-more, rows-all, row-cut}
 use Rattle.capn_show.proofs.FoundTexts.{body-shown, nil-shown, cap-shown, node-shown, list-shown, links-shown}
-use Rattle.capn_show.proofs.FoundTexts.{rows-shown, inside, deep, node-ready, links-ready, rows-ready, plain-of}
+use Rattle.capn_show.proofs.FoundTexts.{rows-shown, inside, deep, node-ready, links-ready, rows-ready}
 use Rattle.capn_show.proofs.slots.+slots.Goals as goal
 
 -- ---- a slot
@@ -68,7 +68,9 @@ pub show_slots-loop-i-preserved : goal.show_slots-loop-i-preserved
 show_slots-loop-i-preserved g t c ts h n =
     let i = c.loop-i.i in
     let lt = c.loop-i-test.true in
-    each-more c.args.page.now c.loop-i.page c.show_slot.new.page c.args.level ts i (omega arith)
+    each-more (outgoing g.W.Write.contents c.args.writer.now c.args.text.now.items)
+    (outgoing g.W.Write.contents c.loop-i.writer c.loop-i.text.items) (outgoing g.W.Write.contents
+    c.show_slot.new.writer c.show_slot.new.text.items) c.args.level ts i (omega arith)
     (c.loop-i.invariant ts h n) (c.in_ok-show_slot.ensures.shown _ (h i (omega arith)))
 
 -- ---- a struct
@@ -162,7 +164,11 @@ show_found-show_rows-requires g t c κs live =
 -- ---- rows
 
 pub show_rows-loop-row-init : goal.show_rows-loop-row-init
-show_rows-loop-row-init g t c = record { next = omega arith; rest = λ bs h n. same c.args.page.now }
+show_rows-loop-row-init g t c = record {
+  next = omega arith;
+  rest = λ bs h n. same
+      (outgoing g.W.Write.contents c.args.writer.now c.args.text.now.items);
+}
 
 pub show_rows-overflow_add-next : goal.show_rows-overflow_add-next
 show_rows-overflow_add-next g t c =
@@ -198,7 +204,9 @@ show_rows-loop-row-preserved g t c =
     record {
       next = let d : (i + 1) * (a + b) ≡ i * (a + b) + (a + b) = omega arith in omega arith;
       rest = λ bs h n. let below : i < count_rows bs = omega arith in
-          rows-more c.args.page.now c.loop-row.page c.show_body.new.page c.args.level bs i below
+          rows-more (outgoing g.W.Write.contents c.args.writer.now c.args.text.now.items)
+          (outgoing g.W.Write.contents c.loop-row.writer c.loop-row.text.items)
+          (outgoing g.W.Write.contents c.show_body.new.writer c.show_body.new.text.items) c.args.level bs i below
           (c.loop-row.invariant.rest bs h n)
           (c.in_ok-show_body.ensures.shown (words_of_row bs i) (slots_of_row bs i)
           (subst (λ (w : ℕ). ShowsStruct m (struct_at s w a b) (words_of_row bs i) (slots_of_row bs i)) (sym next)
@@ -216,7 +224,7 @@ show_slots-overflow_add-at g t c =
     omega arith
 
 pub show_slots-loop-i-init : goal.show_slots-loop-i-init
-show_slots-loop-i-init g t c ts h n = same c.args.page.now
+show_slots-loop-i-init g t c ts h n = same (outgoing g.W.Write.contents c.args.writer.now c.args.text.now.items)
 
 pub show_body-overflow_add-first : goal.show_body-overflow_add-first
 show_body-overflow_add-first g t c =
@@ -241,7 +249,9 @@ pub show_slot-returns-clause-shown : goal.show_slot-returns-clause-shown
 show_slot-returns-clause-shown g t c =
     on_ok_weaker c.show_found.result
     (found-shown (g.S.Space.message c.args.space.now) c.views_show_values.ensures c.args.at c.in-Ok.found c.args.level
-    (Grows c.args.page.now c.show_found.new.page) (sym c.resolve.ensures.exact ∙ c.in-Ok.is))
+    (Adds (outgoing g.W.Write.contents c.args.writer.now c.args.text.now.items)
+    (outgoing g.W.Write.contents c.show_found.new.writer c.show_found.new.text.items))
+    (sym c.resolve.ensures.exact ∙ c.in-Ok.is))
     c.show_found.ensures.shown
 
 pub show_slot-returns-clause-cut : goal.show_slot-returns-clause-cut
@@ -249,42 +259,50 @@ show_slot-returns-clause-cut g t c =
     IfErr-weaker c.show_found.result _ _
     (λ e. found-shown (g.S.Space.message c.args.space.now) c.views_show_values.ensures c.args.at c.in-Ok.found
     c.args.level
-    (BreaksOff c.args.page.now c.show_found.new.page e) (sym c.resolve.ensures.exact ∙ c.in-Ok.is))
+    (BreaksOff (outgoing g.W.Write.contents c.args.writer.now c.args.text.now.items)
+    (outgoing g.W.Write.contents c.show_found.new.writer c.show_found.new.text.items) e)
+    (sym c.resolve.ensures.exact ∙ c.in-Ok.is))
     c.show_found.ensures.cut
 
 pub show_found-returns-in-Nil-clause-shown : goal.show_found-returns-in-Nil-clause-shown
 show_found-returns-in-Nil-clause-shown g t c =
-    on_ok_weaker c.plain.result
-    (nil-shown (g.S.Space.message c.args.space.now) c.args.found c.args.level (Grows c.args.page.now
-    c.plain.new.self) c.in-Nil.is)
-    c.plain.ensures.shown
+    on_ok_weaker c.plain_line.result
+    (nil-shown (g.S.Space.message c.args.space.now) c.args.found c.args.level (Adds
+    (outgoing g.W.Write.contents c.args.writer.now c.args.text.now.items)
+    (outgoing g.W.Write.contents c.plain_line.new.writer c.plain_line.new.text.items)) c.in-Nil.is)
+    c.plain_line.ensures.shown
 
 pub show_found-returns-in-Nil-clause-cut : goal.show_found-returns-in-Nil-clause-cut
 show_found-returns-in-Nil-clause-cut g t c =
-    IfErr-weaker c.plain.result _ _
-    (λ e. nil-shown (g.S.Space.message c.args.space.now) c.args.found c.args.level (BreaksOff c.args.page.now
-    c.plain.new.self e) c.in-Nil.is)
-    c.plain.ensures.cut
+    IfErr-weaker c.plain_line.result _ _
+    (λ e. nil-shown (g.S.Space.message c.args.space.now) c.args.found c.args.level (BreaksOff
+    (outgoing g.W.Write.contents c.args.writer.now c.args.text.now.items)
+    (outgoing g.W.Write.contents c.plain_line.new.writer c.plain_line.new.text.items) e) c.in-Nil.is)
+    c.plain_line.ensures.cut
 
 pub show_found-returns-in-Cap-clause-shown : goal.show_found-returns-in-Cap-clause-shown
 show_found-returns-in-Cap-clause-shown g t c =
-    on_ok_weaker c.named.result
-    (cap-shown (g.S.Space.message c.args.space.now) c.args.found c.args.level (Grows c.args.page.now
-    c.named.new.self) c.in-Cap.index c.in-Cap.is)
-    c.named.ensures.shown
+    on_ok_weaker c.named_line.result
+    (cap-shown (g.S.Space.message c.args.space.now) c.args.found c.args.level (Adds
+    (outgoing g.W.Write.contents c.args.writer.now c.args.text.now.items)
+    (outgoing g.W.Write.contents c.named_line.new.writer c.named_line.new.text.items)) c.in-Cap.index c.in-Cap.is)
+    c.named_line.ensures.shown
 
 pub show_found-returns-in-Cap-clause-cut : goal.show_found-returns-in-Cap-clause-cut
 show_found-returns-in-Cap-clause-cut g t c =
-    IfErr-weaker c.named.result _ _
-    (λ e. cap-shown (g.S.Space.message c.args.space.now) c.args.found c.args.level (BreaksOff c.args.page.now
-    c.named.new.self e) c.in-Cap.index c.in-Cap.is)
-    c.named.ensures.cut
+    IfErr-weaker c.named_line.result _ _
+    (λ e. cap-shown (g.S.Space.message c.args.space.now) c.args.found c.args.level (BreaksOff
+    (outgoing g.W.Write.contents c.args.writer.now c.args.text.now.items)
+    (outgoing g.W.Write.contents c.named_line.new.writer c.named_line.new.text.items) e) c.in-Cap.index c.in-Cap.is)
+    c.named_line.ensures.cut
 
 pub show_found-returns-in-Node-clause-shown : goal.show_found-returns-in-Node-clause-shown
 show_found-returns-in-Node-clause-shown g t c =
     on_ok_weaker c.show_body.result
-    (node-shown (g.S.Space.message c.args.space.now) c.args.found c.args.level (Grows c.args.page.now
-    c.show_body.new.page) c.in-Content.segment c.in-Content.start c.in-Content.pads
+    (node-shown (g.S.Space.message c.args.space.now) c.args.found c.args.level (Adds
+    (outgoing g.W.Write.contents c.args.writer.now c.args.text.now.items)
+    (outgoing g.W.Write.contents c.show_body.new.writer c.show_body.new.text.items)) c.in-Content.segment
+    c.in-Content.start c.in-Content.pads
     c.in-Content.shape c.in-Content.is
     c.in-Node.words c.in-Node.slots c.in-Node.is)
     c.show_body.ensures.shown
@@ -292,8 +310,10 @@ show_found-returns-in-Node-clause-shown g t c =
 pub show_found-returns-in-Node-clause-cut : goal.show_found-returns-in-Node-clause-cut
 show_found-returns-in-Node-clause-cut g t c =
     IfErr-weaker c.show_body.result _ _
-    (λ e. node-shown (g.S.Space.message c.args.space.now) c.args.found c.args.level (BreaksOff c.args.page.now
-    c.show_body.new.page e) c.in-Content.segment c.in-Content.start c.in-Content.pads
+    (λ e. node-shown (g.S.Space.message c.args.space.now) c.args.found c.args.level (BreaksOff
+    (outgoing g.W.Write.contents c.args.writer.now c.args.text.now.items)
+    (outgoing g.W.Write.contents c.show_body.new.writer c.show_body.new.text.items) e) c.in-Content.segment
+    c.in-Content.start c.in-Content.pads
     c.in-Content.shape c.in-Content.is
     c.in-Node.words c.in-Node.slots c.in-Node.is)
     c.show_body.ensures.cut
@@ -301,8 +321,10 @@ show_found-returns-in-Node-clause-cut g t c =
 pub show_found-returns-in_default-clause-shown : goal.show_found-returns-in_default-clause-shown
 show_found-returns-in_default-clause-shown g t c =
     on_ok_weaker c.show_list.result
-    (list-shown (g.S.Space.message c.args.space.now) c.args.found c.args.level (Grows c.args.page.now
-    c.show_list.new.page) c.in-Content.segment c.in-Content.start c.in-Content.pads
+    (list-shown (g.S.Space.message c.args.space.now) c.args.found c.args.level (Adds
+    (outgoing g.W.Write.contents c.args.writer.now c.args.text.now.items)
+    (outgoing g.W.Write.contents c.show_list.new.writer c.show_list.new.text.items)) c.in-Content.segment
+    c.in-Content.start c.in-Content.pads
     c.in-Content.shape c.in-Content.is
     c.in-Many.width c.in-Many.count c.in-Many.is)
     c.show_list.ensures.shown
@@ -310,86 +332,135 @@ show_found-returns-in_default-clause-shown g t c =
 pub show_found-returns-in_default-clause-cut : goal.show_found-returns-in_default-clause-cut
 show_found-returns-in_default-clause-cut g t c =
     IfErr-weaker c.show_list.result _ _
-    (λ e. list-shown (g.S.Space.message c.args.space.now) c.args.found c.args.level (BreaksOff c.args.page.now
-    c.show_list.new.page e) c.in-Content.segment c.in-Content.start c.in-Content.pads
+    (λ e. list-shown (g.S.Space.message c.args.space.now) c.args.found c.args.level (BreaksOff
+    (outgoing g.W.Write.contents c.args.writer.now c.args.text.now.items)
+    (outgoing g.W.Write.contents c.show_list.new.writer c.show_list.new.text.items) e) c.in-Content.segment
+    c.in-Content.start c.in-Content.pads
     c.in-Content.shape c.in-Content.is
     c.in-Many.width c.in-Many.count c.in-Many.is)
     c.show_list.ensures.cut
 
-pub show_found-returns-in_ok-named-in-Link-clause-shown : goal.show_found-returns-in_ok-named-in-Link-clause-shown
-show_found-returns-in_ok-named-in-Link-clause-shown g t c =
+pub show_found-returns-in_ok-named_line-in-Link-clause-shown :
+    goal.show_found-returns-in_ok-named_line-in-Link-clause-shown
+show_found-returns-in_ok-named_line-in-Link-clause-shown g t c =
     on_ok_weaker c.show_slots.result
-    (links-shown (g.S.Space.message c.args.space.now) c.args.found c.args.level (Grows c.args.page.now
-    c.show_slots.new.page) c.in-Content.segment c.in-Content.start c.in-Content.pads
+    (links-shown (g.S.Space.message c.args.space.now) c.args.found c.args.level (Adds
+    (outgoing g.W.Write.contents c.args.writer.now c.args.text.now.items)
+    (outgoing g.W.Write.contents c.show_slots.new.writer c.show_slots.new.text.items)) c.in-Content.segment
+    c.in-Content.start c.in-Content.pads
     c.in-Content.shape c.in-Content.is
-    (Grows c.named-in-Link.new.self c.show_slots.new.page) c.in-Many.width c.in-Many.count c.in-Many.is c.in-Link.is
-    (λ y. both c.args.page.now c.named-in-Link.new.self c.show_slots.new.page _ y c.in_ok-named-in-Link.ensures.shown))
+    (Adds (outgoing g.W.Write.contents c.named_line-in-Link.new.writer c.named_line-in-Link.new.text.items)
+    (outgoing g.W.Write.contents c.show_slots.new.writer c.show_slots.new.text.items)) c.in-Many.width c.in-Many.count
+    c.in-Many.is c.in-Link.is
+    (λ y. both (outgoing g.W.Write.contents c.args.writer.now c.args.text.now.items)
+    (outgoing g.W.Write.contents c.named_line-in-Link.new.writer c.named_line-in-Link.new.text.items)
+    (outgoing g.W.Write.contents c.show_slots.new.writer c.show_slots.new.text.items) _ y
+    c.in_ok-named_line-in-Link.ensures.shown))
     c.show_slots.ensures.shown
 
-pub show_found-returns-in_ok-named-in-Link-clause-cut : goal.show_found-returns-in_ok-named-in-Link-clause-cut
-show_found-returns-in_ok-named-in-Link-clause-cut g t c =
+pub show_found-returns-in_ok-named_line-in-Link-clause-cut : goal.show_found-returns-in_ok-named_line-in-Link-clause-cut
+show_found-returns-in_ok-named_line-in-Link-clause-cut g t c =
     IfErr-weaker c.show_slots.result _ _
-    (λ e. links-shown (g.S.Space.message c.args.space.now) c.args.found c.args.level (BreaksOff c.args.page.now
-    c.show_slots.new.page e) c.in-Content.segment c.in-Content.start c.in-Content.pads
+    (λ e. links-shown (g.S.Space.message c.args.space.now) c.args.found c.args.level (BreaksOff
+    (outgoing g.W.Write.contents c.args.writer.now c.args.text.now.items)
+    (outgoing g.W.Write.contents c.show_slots.new.writer c.show_slots.new.text.items) e) c.in-Content.segment
+    c.in-Content.start c.in-Content.pads
     c.in-Content.shape c.in-Content.is
-    (BreaksOff c.named-in-Link.new.self c.show_slots.new.page e) c.in-Many.width c.in-Many.count c.in-Many.is
+    (BreaksOff (outgoing g.W.Write.contents c.named_line-in-Link.new.writer c.named_line-in-Link.new.text.items)
+    (outgoing g.W.Write.contents c.show_slots.new.writer c.show_slots.new.text.items) e) c.in-Many.width
+    c.in-Many.count c.in-Many.is
     c.in-Link.is
-    (λ y. then-broken c.args.page.now c.named-in-Link.new.self c.show_slots.new.page e _ y
-    c.in_ok-named-in-Link.ensures.shown))
+    (λ y. then-broken (outgoing g.W.Write.contents c.args.writer.now c.args.text.now.items)
+    (outgoing g.W.Write.contents c.named_line-in-Link.new.writer c.named_line-in-Link.new.text.items)
+    (outgoing g.W.Write.contents c.show_slots.new.writer c.show_slots.new.text.items) e _ y
+    c.in_ok-named_line-in-Link.ensures.shown))
     c.show_slots.ensures.cut
 
-pub show_found-returns-in_err-named-in-Link-clause-cut : goal.show_found-returns-in_err-named-in-Link-clause-cut
-show_found-returns-in_err-named-in-Link-clause-cut g t c =
-    passed c.from_residual.result c.in_err-named-in-Link.field-0.0 _ c.from_residual.ensures.1
-    (links-shown (g.S.Space.message c.args.space.now) c.args.found c.args.level (BreaksOff c.args.page.now
-    c.named-in-Link.new.self _) c.in-Content.segment c.in-Content.start c.in-Content.pads
+pub show_found-returns-in_err-named_line-in-Link-clause-cut :
+    goal.show_found-returns-in_err-named_line-in-Link-clause-cut
+show_found-returns-in_err-named_line-in-Link-clause-cut g t c =
+    passed c.from_residual.result c.in_err-named_line-in-Link.field-0.0 _ c.from_residual.ensures.1
+    (links-shown (g.S.Space.message c.args.space.now) c.args.found c.args.level (BreaksOff
+    (outgoing g.W.Write.contents c.args.writer.now c.args.text.now.items)
+    (outgoing g.W.Write.contents c.named_line-in-Link.new.writer c.named_line-in-Link.new.text.items) _)
+    c.in-Content.segment c.in-Content.start c.in-Content.pads
     c.in-Content.shape c.in-Content.is
     (λ y. ⊤) c.in-Many.width c.in-Many.count c.in-Many.is c.in-Link.is
-    (λ y u. broken-before c.args.page.now c.named-in-Link.new.self _ _ y c.in_err-named-in-Link.ensures.cut) (λ ts h
+    (λ y u. broken-before (outgoing g.W.Write.contents c.args.writer.now c.args.text.now.items)
+    (outgoing g.W.Write.contents c.named_line-in-Link.new.writer c.named_line-in-Link.new.text.items) _ _ y
+    c.in_err-named_line-in-Link.ensures.cut) (λ ts h
     n. tt))
 
-pub show_found-returns-in_ok-named-in-Rows-clause-shown : goal.show_found-returns-in_ok-named-in-Rows-clause-shown
-show_found-returns-in_ok-named-in-Rows-clause-shown g t c =
+pub show_found-returns-in_ok-named_line-in-Rows-clause-shown :
+    goal.show_found-returns-in_ok-named_line-in-Rows-clause-shown
+show_found-returns-in_ok-named_line-in-Rows-clause-shown g t c =
     on_ok_weaker c.show_rows.result
-    (rows-shown (g.S.Space.message c.args.space.now) c.args.found c.args.level (Grows c.args.page.now
-    c.show_rows.new.page) c.in-Content.segment c.in-Content.start c.in-Content.pads
+    (rows-shown (g.S.Space.message c.args.space.now) c.args.found c.args.level (Adds
+    (outgoing g.W.Write.contents c.args.writer.now c.args.text.now.items)
+    (outgoing g.W.Write.contents c.show_rows.new.writer c.show_rows.new.text.items)) c.in-Content.segment
+    c.in-Content.start c.in-Content.pads
     c.in-Content.shape c.in-Content.is
-    (Grows c.named-in-Rows.new.self c.show_rows.new.page) c.in-Rows.count c.in-Rows.words c.in-Rows.slots
+    (Adds (outgoing g.W.Write.contents c.named_line-in-Rows.new.writer c.named_line-in-Rows.new.text.items)
+    (outgoing g.W.Write.contents c.show_rows.new.writer c.show_rows.new.text.items)) c.in-Rows.count c.in-Rows.words
+    c.in-Rows.slots
     c.in-Rows.span c.in-Rows.is
-    (λ y. both c.args.page.now c.named-in-Rows.new.self c.show_rows.new.page _ y c.in_ok-named-in-Rows.ensures.shown))
+    (λ y. both (outgoing g.W.Write.contents c.args.writer.now c.args.text.now.items)
+    (outgoing g.W.Write.contents c.named_line-in-Rows.new.writer c.named_line-in-Rows.new.text.items)
+    (outgoing g.W.Write.contents c.show_rows.new.writer c.show_rows.new.text.items) _ y
+    c.in_ok-named_line-in-Rows.ensures.shown))
     c.show_rows.ensures.shown
 
-pub show_found-returns-in_ok-named-in-Rows-clause-cut : goal.show_found-returns-in_ok-named-in-Rows-clause-cut
-show_found-returns-in_ok-named-in-Rows-clause-cut g t c =
+pub show_found-returns-in_ok-named_line-in-Rows-clause-cut : goal.show_found-returns-in_ok-named_line-in-Rows-clause-cut
+show_found-returns-in_ok-named_line-in-Rows-clause-cut g t c =
     IfErr-weaker c.show_rows.result _ _
-    (λ e. rows-shown (g.S.Space.message c.args.space.now) c.args.found c.args.level (BreaksOff c.args.page.now
-    c.show_rows.new.page e) c.in-Content.segment c.in-Content.start c.in-Content.pads
+    (λ e. rows-shown (g.S.Space.message c.args.space.now) c.args.found c.args.level (BreaksOff
+    (outgoing g.W.Write.contents c.args.writer.now c.args.text.now.items)
+    (outgoing g.W.Write.contents c.show_rows.new.writer c.show_rows.new.text.items) e) c.in-Content.segment
+    c.in-Content.start c.in-Content.pads
     c.in-Content.shape c.in-Content.is
-    (BreaksOff c.named-in-Rows.new.self c.show_rows.new.page e) c.in-Rows.count c.in-Rows.words c.in-Rows.slots
+    (BreaksOff (outgoing g.W.Write.contents c.named_line-in-Rows.new.writer c.named_line-in-Rows.new.text.items)
+    (outgoing g.W.Write.contents c.show_rows.new.writer c.show_rows.new.text.items) e) c.in-Rows.count c.in-Rows.words
+    c.in-Rows.slots
     c.in-Rows.span c.in-Rows.is
-    (λ y. then-broken c.args.page.now c.named-in-Rows.new.self c.show_rows.new.page e _ y
-    c.in_ok-named-in-Rows.ensures.shown))
+    (λ y. then-broken (outgoing g.W.Write.contents c.args.writer.now c.args.text.now.items)
+    (outgoing g.W.Write.contents c.named_line-in-Rows.new.writer c.named_line-in-Rows.new.text.items)
+    (outgoing g.W.Write.contents c.show_rows.new.writer c.show_rows.new.text.items) e _ y
+    c.in_ok-named_line-in-Rows.ensures.shown))
     c.show_rows.ensures.cut
 
-pub show_found-returns-in_err-named-in-Rows-clause-cut : goal.show_found-returns-in_err-named-in-Rows-clause-cut
-show_found-returns-in_err-named-in-Rows-clause-cut g t c =
-    passed c.from_residual-in_err-named-in-Rows.result c.in_err-named-in-Rows.field-0.0 _
-    c.from_residual-in_err-named-in-Rows.ensures.1
-    (rows-shown (g.S.Space.message c.args.space.now) c.args.found c.args.level (BreaksOff c.args.page.now
-    c.named-in-Rows.new.self _) c.in-Content.segment c.in-Content.start c.in-Content.pads
+pub show_found-returns-in_err-named_line-in-Rows-clause-cut :
+    goal.show_found-returns-in_err-named_line-in-Rows-clause-cut
+show_found-returns-in_err-named_line-in-Rows-clause-cut g t c =
+    passed c.from_residual-in_err-named_line-in-Rows.result c.in_err-named_line-in-Rows.field-0.0 _
+    c.from_residual-in_err-named_line-in-Rows.ensures.1
+    (rows-shown (g.S.Space.message c.args.space.now) c.args.found c.args.level (BreaksOff
+    (outgoing g.W.Write.contents c.args.writer.now c.args.text.now.items)
+    (outgoing g.W.Write.contents c.named_line-in-Rows.new.writer c.named_line-in-Rows.new.text.items) _)
+    c.in-Content.segment c.in-Content.start c.in-Content.pads
     c.in-Content.shape c.in-Content.is
     (λ y. ⊤) c.in-Rows.count c.in-Rows.words c.in-Rows.slots c.in-Rows.span c.in-Rows.is
-    (λ y u. broken-before c.args.page.now c.named-in-Rows.new.self _ _ y c.in_err-named-in-Rows.ensures.cut) (λ bs h
+    (λ y u. broken-before (outgoing g.W.Write.contents c.args.writer.now c.args.text.now.items)
+    (outgoing g.W.Write.contents c.named_line-in-Rows.new.writer c.named_line-in-Rows.new.text.items) _ _ y
+    c.in_err-named_line-in-Rows.ensures.cut) (λ bs h
     n. tt))
 
 pub show_body-returns-clause-shown : goal.show_body-returns-clause-shown
 show_body-returns-clause-shown g t c =
     on_ok_weaker c.show_slots.result
     (body-shown (g.S.Space.message c.args.space.now) c.args.start.segment c.args.start.word c.args.words c.args.slots
-    c.args.level (Grows c.args.page.now c.show_slots.new.page) (Grows c.body.new.self c.show_words.new.page) (Grows
-    c.show_words.new.page c.show_slots.new.page)
-    (λ x y h k. both c.args.page.now c.body.new.self c.show_slots.new.page _ (x ++ y) c.in_ok-body.ensures.shown
-    (both c.body.new.self c.show_words.new.page c.show_slots.new.page x y h k))
+    c.args.level (Adds (outgoing g.W.Write.contents c.args.writer.now c.args.text.now.items)
+    (outgoing g.W.Write.contents c.show_slots.new.writer c.show_slots.new.text.items)) (Adds
+    (outgoing g.W.Write.contents c.body_line.new.writer c.body_line.new.text.items)
+    (outgoing g.W.Write.contents c.show_words.new.writer c.show_words.new.text.items)) (Adds
+    (outgoing g.W.Write.contents c.show_words.new.writer c.show_words.new.text.items)
+    (outgoing g.W.Write.contents c.show_slots.new.writer c.show_slots.new.text.items))
+    (λ x y h k. both (outgoing g.W.Write.contents c.args.writer.now c.args.text.now.items)
+    (outgoing g.W.Write.contents c.body_line.new.writer c.body_line.new.text.items)
+    (outgoing g.W.Write.contents c.show_slots.new.writer c.show_slots.new.text.items) _
+    (x ++ y) c.in_ok-body_line.ensures.shown
+    (both (outgoing g.W.Write.contents c.body_line.new.writer c.body_line.new.text.items)
+    (outgoing g.W.Write.contents c.show_words.new.writer c.show_words.new.text.items)
+    (outgoing g.W.Write.contents c.show_slots.new.writer c.show_slots.new.text.items) x y h k))
     c.in_ok-show_words.ensures.shown)
     c.show_slots.ensures.shown
 
@@ -398,11 +469,19 @@ show_body-returns-clause-cut g t c =
     IfErr-weaker c.show_slots.result _ _
     (λ e. body-shown (g.S.Space.message c.args.space.now) c.args.start.segment c.args.start.word c.args.words
     c.args.slots
-    c.args.level (BreaksOff c.args.page.now c.show_slots.new.page e) (Grows c.body.new.self c.show_words.new.page)
-    (BreaksOff c.show_words.new.page c.show_slots.new.page e)
-    (λ x y h k. then-broken c.args.page.now c.body.new.self c.show_slots.new.page e _ (x ++ y)
-    c.in_ok-body.ensures.shown
-    (then-broken c.body.new.self c.show_words.new.page c.show_slots.new.page e x y h k))
+    c.args.level (BreaksOff (outgoing g.W.Write.contents c.args.writer.now c.args.text.now.items)
+    (outgoing g.W.Write.contents c.show_slots.new.writer c.show_slots.new.text.items) e) (Adds
+    (outgoing g.W.Write.contents c.body_line.new.writer c.body_line.new.text.items)
+    (outgoing g.W.Write.contents c.show_words.new.writer c.show_words.new.text.items))
+    (BreaksOff (outgoing g.W.Write.contents c.show_words.new.writer c.show_words.new.text.items)
+    (outgoing g.W.Write.contents c.show_slots.new.writer c.show_slots.new.text.items) e)
+    (λ x y h k. then-broken (outgoing g.W.Write.contents c.args.writer.now c.args.text.now.items)
+    (outgoing g.W.Write.contents c.body_line.new.writer c.body_line.new.text.items)
+    (outgoing g.W.Write.contents c.show_slots.new.writer c.show_slots.new.text.items) e _ (x ++ y)
+    c.in_ok-body_line.ensures.shown
+    (then-broken (outgoing g.W.Write.contents c.body_line.new.writer c.body_line.new.text.items)
+    (outgoing g.W.Write.contents c.show_words.new.writer c.show_words.new.text.items)
+    (outgoing g.W.Write.contents c.show_slots.new.writer c.show_slots.new.text.items) e x y h k))
     c.in_ok-show_words.ensures.shown)
     c.show_slots.ensures.cut
 
@@ -411,23 +490,35 @@ show_body-returns-in_err-show_words-clause-cut g t c =
     passed c.from_residual-in_err-show_words.result c.in_err-show_words.field-0.0 _
     c.from_residual-in_err-show_words.ensures.1
     (body-shown (g.S.Space.message c.args.space.now) c.args.start.segment c.args.start.word c.args.words c.args.slots
-    c.args.level (BreaksOff c.args.page.now c.show_words.new.page _) (BreaksOff c.body.new.self c.show_words.new.page
+    c.args.level (BreaksOff (outgoing g.W.Write.contents c.args.writer.now c.args.text.now.items)
+    (outgoing g.W.Write.contents c.show_words.new.writer c.show_words.new.text.items) _) (BreaksOff
+    (outgoing g.W.Write.contents c.body_line.new.writer c.body_line.new.text.items)
+    (outgoing g.W.Write.contents c.show_words.new.writer c.show_words.new.text.items)
     _) (λ y. ⊤)
-    (λ x y h k. then-broken c.args.page.now c.body.new.self c.show_words.new.page _ _ (x ++ y)
-    c.in_ok-body.ensures.shown (broken-before c.body.new.self c.show_words.new.page _ x y h))
+    (λ x y h k. then-broken (outgoing g.W.Write.contents c.args.writer.now c.args.text.now.items)
+    (outgoing g.W.Write.contents c.body_line.new.writer c.body_line.new.text.items)
+    (outgoing g.W.Write.contents c.show_words.new.writer c.show_words.new.text.items) _ _ (x ++ y)
+    c.in_ok-body_line.ensures.shown (broken-before (outgoing g.W.Write.contents c.body_line.new.writer
+    c.body_line.new.text.items) (outgoing g.W.Write.contents c.show_words.new.writer c.show_words.new.text.items) _ x
+    y h))
     c.in_err-show_words.ensures.cut (λ ts h n. tt))
 
-pub show_body-returns-in_err-body-clause-cut : goal.show_body-returns-in_err-body-clause-cut
-show_body-returns-in_err-body-clause-cut g t c =
-    passed c.from_residual.result c.in_err-body.field-0.0 _ c.from_residual.ensures.1
+pub show_body-returns-in_err-body_line-clause-cut : goal.show_body-returns-in_err-body_line-clause-cut
+show_body-returns-in_err-body_line-clause-cut g t c =
+    passed c.from_residual.result c.in_err-body_line.field-0.0 _ c.from_residual.ensures.1
     (body-shown (g.S.Space.message c.args.space.now) c.args.start.segment c.args.start.word c.args.words c.args.slots
-    c.args.level (BreaksOff c.args.page.now c.body.new.self _) (λ y. ⊤) (λ y. ⊤)
-    (λ x y h k. broken-before c.args.page.now c.body.new.self _ _ (x ++ y) c.in_err-body.ensures.cut) (λ ws h n. tt)
+    c.args.level (BreaksOff (outgoing g.W.Write.contents c.args.writer.now c.args.text.now.items)
+    (outgoing g.W.Write.contents c.body_line.new.writer c.body_line.new.text.items) _) (λ y. ⊤) (λ y. ⊤)
+    (λ x y h k. broken-before (outgoing g.W.Write.contents c.args.writer.now c.args.text.now.items)
+    (outgoing g.W.Write.contents c.body_line.new.writer c.body_line.new.text.items) _ _
+    (x ++ y) c.in_err-body_line.ensures.cut) (λ ws h n. tt)
     (λ ts h n. tt))
 
 pub show_slots-returns-clause-shown : goal.show_slots-returns-clause-shown
 show_slots-returns-clause-shown g t c ts h n =
-    each-all c.args.page.now c.loop-i.page c.args.level ts c.loop-i.i (omega arith) (c.loop-i.invariant ts h n)
+    each-all (outgoing g.W.Write.contents c.args.writer.now c.args.text.now.items)
+    (outgoing g.W.Write.contents c.loop-i.writer c.loop-i.text.items) c.args.level ts c.loop-i.i (omega arith)
+    (c.loop-i.invariant ts h n)
 
 pub show_slots-returns-in_err-show_slot-clause-cut : goal.show_slots-returns-in_err-show_slot-clause-cut
 show_slots-returns-in_err-show_slot-clause-cut g t c =
@@ -435,13 +526,17 @@ show_slots-returns-in_err-show_slot-clause-cut g t c =
     (λ ts h n. let i = c.loop-i.i in
     let lt = c.loop-i-test.true in
     let below : i < count ts = omega arith in
-    each-cut c.args.page.now c.loop-i.page c.show_slot.new.page _ c.args.level ts i below
+    each-cut (outgoing g.W.Write.contents c.args.writer.now c.args.text.now.items)
+    (outgoing g.W.Write.contents c.loop-i.writer c.loop-i.text.items) (outgoing g.W.Write.contents
+    c.show_slot.new.writer c.show_slot.new.text.items) _ c.args.level ts i below
     (c.loop-i.invariant ts h n) (c.in_err-show_slot.ensures.cut _ (h i below)))
 
 pub show_rows-returns-clause-shown : goal.show_rows-returns-clause-shown
 show_rows-returns-clause-shown g t c bs h n =
     let f = c.loop-row-test.false in
-    rows-all c.args.page.now c.loop-row.page c.args.level bs c.loop-row.row (omega arith) (c.loop-row.invariant.rest
+    rows-all (outgoing g.W.Write.contents c.args.writer.now c.args.text.now.items)
+    (outgoing g.W.Write.contents c.loop-row.writer c.loop-row.text.items) c.args.level bs c.loop-row.row
+    (omega arith) (c.loop-row.invariant.rest
     bs h n)
 
 pub show_rows-returns-in_err-show_body-clause-cut : goal.show_rows-returns-in_err-show_body-clause-cut
@@ -454,7 +549,9 @@ show_rows-returns-in_err-show_body-clause-cut g t c =
     let i = c.loop-row.row in
     let lt = c.loop-row-test.true in
     let below : i < count_rows bs = omega arith in
-    row-cut c.args.page.now c.loop-row.page c.show_body.new.page _ c.args.level bs i below
+    row-cut (outgoing g.W.Write.contents c.args.writer.now c.args.text.now.items)
+    (outgoing g.W.Write.contents c.loop-row.writer c.loop-row.text.items) (outgoing g.W.Write.contents
+    c.show_body.new.writer c.show_body.new.text.items) _ c.args.level bs i below
     (c.loop-row.invariant.rest bs h n)
     (c.in_err-show_body.ensures.cut (words_of_row bs i) (slots_of_row bs i)
     (subst (λ (w : ℕ). ShowsStruct m (struct_at s w a b) (words_of_row bs i) (slots_of_row bs i))

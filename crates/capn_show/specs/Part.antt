@@ -1,0 +1,62 @@
+-- What stands at a way of numbers from a value, and its text. (Own.)
+use Rattle.std.specs.Prelude.{◌≡◌, ℕ, zero, suc, List, [], ◌∷◌, Option, Some, None, codes, refl}
+use Rattle.capn_value.specs.Tree.{Tree, nil, node, octs, links, rows, cap, Trees, no_trees, tree, Bodies, no_bodies}
+use Rattle.capn_value.specs.Tree.{body}
+use Rattle.capn_value.specs.Text.{line, show_text}
+
+-- the tree of a number, counted from 0
+abbrev pub nth_tree : Trees → ℕ → Option Tree
+nth_tree no_trees i = None
+nth_tree (tree t ts) zero = Some t
+nth_tree (tree t ts) (suc i) = nth_tree ts i
+
+-- the row of a number, as a struct
+abbrev pub nth_row : Bodies → ℕ → Option Tree
+nth_row no_bodies i = None
+nth_row (body ws ss bs) zero = Some (node ws ss)
+nth_row (body ws ss bs) (suc i) = nth_row bs i
+
+-- one step: to a slot of a struct, an element of a list of pointers, or a row of a list of structs
+abbrev pub step_down : Tree → ℕ → Option Tree
+step_down (node ws ss) i = nth_tree ss i
+step_down (links ts) i = nth_tree ts i
+step_down (rows bs) i = nth_row bs i
+step_down _ i = None
+
+-- step by step, as long as something stands there
+abbrev pub follow : List ℕ → Option Tree → Option Tree
+follow [] found = found
+follow (i ∷ way) None = None
+follow (i ∷ way) (Some t) = follow way (step_down t i)
+
+-- what stands at a way from a value, if anything does
+abbrev pub at_way : Tree → List ℕ → Option Tree
+at_way t way = follow way (Some t)
+
+-- the text of what stands there: one line where nothing does
+abbrev pub part_text : Option Tree → List ℕ
+part_text None = line 0 (codes "none")
+part_text (Some t) = show_text t
+
+-- the text of what stands at a way from a value
+abbrev pub text_at : List ℕ → Tree → List ℕ
+text_at way t = part_text (at_way t way)
+
+-- a list of two rows, each with a slot
+abbrev two_rows : Tree
+two_rows = rows (body [] (tree (cap 4) no_trees) (body (7 ∷ []) (tree (octs (8 ∷ [])) no_trees) no_bodies))
+
+first_row : at_way two_rows (0 ∷ []) ≡ Some (node [] (tree (cap 4) no_trees))
+first_row = refl
+
+slot_of_a_row : at_way (node [] (tree nil (tree two_rows no_trees))) (1 ∷ 1 ∷ 0 ∷ []) ≡ Some (octs (8 ∷ []))
+slot_of_a_row = refl
+
+null_is_there : at_way (node [] (tree nil no_trees)) (0 ∷ []) ≡ Some nil
+null_is_there = refl
+
+nothing_below_null : at_way (node [] (tree nil no_trees)) (0 ∷ 0 ∷ []) ≡ None
+nothing_below_null = refl
+
+no_third_row : at_way two_rows (2 ∷ 0 ∷ []) ≡ None
+no_third_row = refl

@@ -1,0 +1,31 @@
+-- What becomes of a message, of whose value a text is made. (Own.)
+use Rattle.std.specs.Prelude.{◌≡◌, ◌⊎◌, ℕ, List}
+use Rattle.capn_value.specs.Tree.{Tree}
+use Rattle.capn_walk.specs.declared.target.Fault.TheVariants as faults
+use Rattle.capn_walk.specs.Accepted.{IsValueOf, IsWalkRefused}
+use Rattle.capn_walk.specs.Limits.{Bounds}
+use Rattle.capn_show.specs.Outgoing.{Outgoing, Adds, BreaksOff}
+use Rattle.capn_show.specs.declared.fault.ShowFault.{ShowFault}
+use Rattle.capn_show.specs.declared.fault.ShowFault.TheVariants as ends
+use Rattle.capn_show.specs.declared.fault.Broken.{Broken}
+use Rattle.capn_show.specs.declared.fault.Broken.TheVariants as broken
+
+module _ (m : List (List ℕ)) (limits : Bounds) (text_of : Tree → List ℕ) where
+  -- it is accepted, and the text of its value is added
+  pub record IsWritten (p q : Outgoing) : Type 0 where
+    pub value : Tree
+    pub is : IsValueOf m limits value
+    pub text : Adds p q (text_of value)
+
+  -- it is accepted, and the text of its value breaks off
+  pub record IsBegun (p q : Outgoing) (e : Broken) : Type 0 where
+    pub value : Tree
+    pub is : IsValueOf m limits value
+    pub text : BreaksOff p q e (text_of value)
+
+  -- it is refused, or a survey was refused memory, and nothing is added; or the text of its value breaks off
+  abbrev pub IsUnwritten : ShowFault → Outgoing → Outgoing → Type 0
+  IsUnwritten (ends.Stopped s) p q = (q ≡ p)
+      × ((s.fault ≡ faults.Memory) ⊎ IsWalkRefused m limits s.fault s.place s.paid s.visits)
+  IsUnwritten ends.Io p q = IsBegun p q broken.Io
+  IsUnwritten ends.Memory p q = IsBegun p q broken.Memory

@@ -1,0 +1,175 @@
+//! The text of what stands at a way from the root of a message.
+
+ghost use Rattle.std.specs.Prelude.{◌≡◌, ℕ, ◌+◌, ◌*◌, ◌<◌, ◌^◌, IfErr, IfNone, IfSome, None, OnOk};
+ghost use Rattle.capn_words.specs.Message.{IsMessage, IsPlace};
+ghost use Rattle.capn_value.specs.Tree.{Tree};
+ghost use Rattle.capn_walk.specs.View.{IsInMessage};
+ghost use Rattle.capn_walk.specs.ValueAt.{IsAt};
+ghost use Rattle.capn_walk.specs.ShownValue.{Shows};
+ghost use Rattle.capn_walk.specs.Accepted.{root};
+ghost use Rattle.capn_show.specs.Outgoing.{Adds, BreaksOff, outgoing};
+ghost use Rattle.capn_show.specs.Part as parts;
+ghost use Rattle.capn_show.specs.inner.ReadyPlaces.{IsReady, Holds, HasValue, LeadsTo, IsPartShown};
+ghost use Rattle.capn_show.specs.Written.{IsWritten, IsUnwritten};
+
+use crate::fault::{Broken, ShowFault, fault_of};
+use crate::lines::plain_line;
+use crate::message::ROOT;
+use crate::slots::show_found;
+use capn_walk::laws::{values, views_show_values};
+use capn_walk::{Limits, Shape, Target, resolve, survey};
+use capn_words::{Place, Space, Watched, Width};
+use std::alloc::Allocator;
+use std::io::Write;
+
+/// Adds the text of what stands at a way of numbers from the root of a message, or the line `none` where nothing does.
+///
+/// A number leads from a struct to a slot, from a list of pointers to an element, and from a list of structs to a row,
+/// which is written as a struct. The whole message is surveyed first, as by [`show_message`](crate::show_message), and
+/// the text is added, kept and written as there.
+pub fn show_part<S: Space, W: Write, A: Allocator, B: Allocator + Copy>(
+    alloc: B,
+    text: &mut Vec<u8, A>,
+    writer: &mut Watched<W>,
+    space: &S,
+    limits: Limits,
+    way: &[u64],
+) -> Result<(), ShowFault>
+    // An answer: the message is accepted, and the text of what stands there is added.
+    ensures shown { OnOk result (IsWritten (S.message space.now) limits (parts.text_at way.now)
+        (outgoing W.contents writer.old text.old.items) (outgoing W.contents writer.new text.new.items)) }
+    // A refusal is as that of `show_message`.
+    ensures refused { IfErr result (λ fault. IsUnwritten (S.message space.now) limits (parts.text_at way.now) fault
+        (outgoing W.contents writer.old text.old.items) (outgoing W.contents writer.new text.new.items)) }
+{
+    values();
+    let _bounds = space.segments();
+    survey(alloc, space, limits)?;
+    match write_part(text, writer, space, way, limits.depth()) {
+        Ok(()) => Ok(()),
+        Err(broken) => Err(fault_of(broken)),
+    }
+}
+
+/// The text of what stands at a way from the root.
+fn write_part<S: Space, W: Write, A: Allocator>(
+    text: &mut Vec<u8, A>,
+    writer: &mut Watched<W>,
+    space: &S,
+    way: &[u64],
+    depth: u32,
+) -> Result<(), Broken>
+    requires message { IsMessage (S.message space.now) }
+    requires place { IsPlace (S.message space.now) root }
+    requires ready { IsReady (S.message space.now) root depth }
+    requires room { 2 * depth < 2 ^ 32 }
+    ensures shown { OnOk result (IsPartShown (S.message space.now) way.now (Adds
+        (outgoing W.contents writer.old text.old.items) (outgoing W.contents writer.new text.new.items))) }
+    ensures cut { IfErr result (λ e. IsPartShown (S.message space.now) way.now (BreaksOff
+        (outgoing W.contents writer.old text.old.items) (outgoing W.contents writer.new text.new.items) e)) }
+{
+    let found = named(space, ROOT);
+    match follow(space, found, way) {
+        Some(part) => show_found(text, writer, space, part, 0, depth),
+        None => plain_line(text, writer, 0, "none"),
+    }
+}
+
+/// What stands at a way from what a pointer names, if anything does.
+fn follow<S: Space>(space: &S, found: Target, way: &[u64]) -> Option<Target>
+    requires message { IsMessage (S.message space.now) }
+    requires inside { IsInMessage (S.message space.now) found }
+    requires value { HasValue (S.message space.now) found }
+    ensures inside { IfSome result (λ t. IsInMessage (S.message space.now) t) }
+    ensures there { IfSome result (λ t. (v : Tree) → Shows (S.message space.now) found v
+        → LeadsTo (S.message space.now) v (parts.at_way v way.now) t) }
+    ensures none { IfNone result ((v : Tree) → Shows (S.message space.now) found v → parts.at_way v way.now ≡ None) }
+{
+    let mut here = found;
+    for i in 0..way.len() {
+        match step_down(space, here, way[i]) {
+            Some(next) => here = next,
+            None => return None,
+        }
+    }
+    Some(here)
+}
+
+/// What stands one step below what a pointer names, if anything does.
+fn step_down<S: Space>(space: &S, found: Target, number: u64) -> Option<Target>
+    requires message { IsMessage (S.message space.now) }
+    requires inside { IsInMessage (S.message space.now) found }
+    requires value { HasValue (S.message space.now) found }
+    ensures inside { IfSome result (λ t. IsInMessage (S.message space.now) t) }
+    ensures there { IfSome result (λ t. (v : Tree) → Shows (S.message space.now) found v
+        → LeadsTo (S.message space.now) v (parts.step_down v number) t) }
+    ensures none { IfNone result ((v : Tree) → Shows (S.message space.now) found v → parts.step_down v number ≡ None) }
+{
+    match found {
+        Target::Nil => None,
+        Target::Cap(_) => None,
+        Target::Content {
+            segment,
+            start,
+            shape,
+            pads: _,
+        } => match shape {
+            Shape::Node { words, slots } => {
+                if number >= slots as u64 {
+                    return None;
+                }
+                let at = Place {
+                    segment,
+                    word: start + words as u32 + number as u32,
+                };
+                Some(named(space, at))
+            }
+            Shape::Many { width, count } => match width {
+                Width::Link => {
+                    if number >= count as u64 {
+                        return None;
+                    }
+                    let at = Place {
+                        segment,
+                        word: start + number as u32,
+                    };
+                    Some(named(space, at))
+                }
+                _ => None,
+            },
+            Shape::Rows {
+                count,
+                words,
+                slots,
+                span: _,
+            } => {
+                if number >= count as u64 {
+                    return None;
+                }
+                let first = start + 1 + number as u32 * (words as u32 + slots as u32);
+                Some(Target::Content {
+                    segment,
+                    start: first,
+                    shape: Shape::Node { words, slots },
+                    pads: 0,
+                })
+            }
+        },
+    }
+}
+
+/// What the pointer at a place names, where a value stands.
+fn named<S: Space>(space: &S, at: Place) -> Target
+    requires message { IsMessage (S.message space.now) }
+    requires place { IsPlace (S.message space.now) at }
+    requires value { Holds (S.message space.now) at }
+    ensures inside { IsInMessage (S.message space.now) result }
+    ensures shown { (v : Tree) → IsAt (S.message space.now) at v → Shows (S.message space.now) result v }
+{
+    views_show_values();
+    match resolve(space, at) {
+        Ok(found) => found,
+        // A value stands here, so the pointer names something.
+        Err(_) => unreachable!(),
+    }
+}
