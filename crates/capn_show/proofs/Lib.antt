@@ -1,6 +1,6 @@
+pub mod shared
 mod TextDigits
 mod Shifts
-mod Appended
 mod LineTexts
 mod Grown
 mod Within

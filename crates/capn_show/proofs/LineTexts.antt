@@ -6,7 +6,7 @@ use Rattle.std.proofs.lemmas.List.{replicate-append-replicate, take-replicate}
 use Rattle.capn_value.specs.Text.{line, named, body_line, hex16}
 use Rattle.capn_show.specs.declared.fault.Broken.{Broken}
 use Rattle.capn_show.specs.Outgoing.{Outgoing, Adds, BreaksOff}
-use Rattle.capn_show.proofs.Appended.{both, otherwise, otherwise-broken, then-broken, broken-before}
+use Rattle.capn_show.proofs.shared.Appended.{both, otherwise, otherwise-broken, then-broken, broken-before}
 
 -- the spaces of some levels, then those of others
 abbrev blanks : ℕ → List ℕ

@@ -10,7 +10,7 @@ use Rattle.capn_show.specs.inner.ReadyPlaces.{shown_body}
 use Rattle.capn_show.proofs.RowFront.{front_rows}
 use Rattle.capn_show.specs.declared.fault.Broken.{Broken}
 use Rattle.capn_show.specs.Outgoing.{Outgoing, Adds, BreaksOff}
-use Rattle.capn_show.proofs.Appended.{both, otherwise, otherwise-broken, then-broken, broken-before}
+use Rattle.capn_show.proofs.shared.Appended.{both, otherwise, otherwise-broken, then-broken, broken-before}
 
 -- ---- slots
 

@@ -11,6 +11,7 @@ pub mod OneText
 pub mod Sends
 pub mod Verdicts
 pub mod Served
+mod ShownMessage
 pub mod EachServed
 pub mod HeardMore
 pub mod HeardNext

@@ -1,15 +1,22 @@
 //! The service that writes something of each message of a stream.
 
-ghost use Rattle.std.specs.Prelude.{◌≡◌, List, ℕ};
+ghost use Rattle.std.specs.Prelude.{◌≡◌, ◌≢◌, ◌×◌, ◌⊎◌, List, ℕ, false};
+ghost use Rattle.capn_words.specs.Watched.{has_failed};
+ghost use Rattle.capn_show.specs.Outgoing.{outgoing};
 ghost use Rattle.capn_serve.specs.Service.{PutsMessage};
 ghost use Rattle.capn_serve.specs.declared.position.Position.{Position};
+ghost use Rattle.capn_serve.specs.declared.fault.ServeFault.TheVariants as serve_faults;
+ghost use Rattle.capn_canon.specs.declared.refusal.Refusal.TheVariants as refusals;
+ghost use Rattle.capn_walk.specs.declared.target.Fault.TheVariants as walk_faults;
 ghost use Rattle.capn_tool.specs.inner.MessageTexts as spec;
 
 use crate::fault::ToolFault;
 use crate::message_text::put_message_text;
 use crate::plan::MessageText;
+use capn_canon::Refusal;
 use capn_serve::{Position, Run, ServeFault, Service, flush_long};
-use capn_walk::Limits;
+use capn_show::{ShowFault, show_message};
+use capn_walk::{Fault, Limits, Stopped};
 use capn_words::{Space, Watched};
 use std::alloc::Allocator;
 use std::io::Write;
@@ -33,6 +40,53 @@ pub(crate) fn first_run(piece: MessageText, limits: Limits) -> Run<MessageTexts>
             index: 0,
             offset: 0,
         },
+    }
+}
+
+/// How a message ends whose survey has stopped.
+fn stop_of(stopped: Stopped) -> ServeFault
+    ensures { ((stopped.fault ≡ walk_faults.Memory) × (result ≡ serve_faults.Memory))
+        ⊎ ((stopped.fault ≢ walk_faults.Memory) × (result ≡ serve_faults.Refused (refusals.Walk stopped))) }
+{
+    match stopped.fault {
+        Fault::Memory => ServeFault::Memory,
+        _ => ServeFault::Refused(Refusal::Walk(stopped)),
+    }
+}
+
+/// Adds a line to the text, or nothing if memory is refused, and writes what is long.
+fn add_line<W: Write, A: Allocator>(
+    line: &[u8],
+    text: &mut Vec<u8, A>,
+    writer: &mut Watched<W>,
+) -> Result<(), ServeFault>
+    requires fine { has_failed writer.old ≡ false }
+    ensures { spec.AddsLine line.now (outgoing W.contents writer.old text.old.items)
+        (outgoing W.contents writer.new text.new.items) result }
+{
+    if text.extend_from_slice(line).is_err() {
+        return Err(ServeFault::Memory);
+    }
+    flush_long(text, writer)
+}
+
+/// Adds the text of a message's value, and the line `end`. Long texts are written while they are made.
+fn add_shown<S: Space, W: Write, A: Allocator + Copy>(
+    alloc: A,
+    message: &S,
+    limits: Limits,
+    text: &mut Vec<u8, A>,
+    writer: &mut Watched<W>,
+) -> Result<(), ServeFault>
+    requires fine { has_failed writer.old ≡ false }
+    ensures { spec.AddsShown (S.message message.now) limits (outgoing W.contents writer.old text.old.items)
+        (outgoing W.contents writer.new text.new.items) result }
+{
+    match show_message(alloc, text, writer, message, limits) {
+        Ok(()) => add_line(b"end\n", text, writer),
+        Err(ShowFault::Stopped(stopped)) => Err(stop_of(stopped)),
+        Err(ShowFault::Io) => Err(ServeFault::Io),
+        Err(ShowFault::Memory) => Err(ServeFault::Memory),
     }
 }
 
@@ -71,7 +125,12 @@ impl Service for MessageTexts {
         text: &mut Vec<u8, A>,
         writer: &mut Watched<W>,
     ) -> Result<(), ServeFault> {
-        self.put_message(alloc, message, text)?;
-        flush_long(text, writer)
+        match self.piece {
+            MessageText::Text => add_shown(alloc, message, self.limits, text, writer),
+            MessageText::Price | MessageText::Digest => {
+                self.put_message(alloc, message, text)?;
+                flush_long(text, writer)
+            }
+        }
     }
 }

@@ -4,7 +4,7 @@ use Rattle.std.specs.Fmt.{decimal}
 use Rattle.capn_value.specs.Text.{body_line}
 use Rattle.capn_show.proofs.LineTexts.{body-lined}
 use Rattle.capn_show.specs.Outgoing.{outgoing}
-use Rattle.capn_show.proofs.Appended.{passed, otherwise, otherwise-broken, both, then-broken, broken-before}
+use Rattle.capn_show.proofs.shared.Appended.{passed, otherwise, otherwise-broken, both, then-broken, broken-before}
 use Rattle.capn_show.proofs.lines.body_line.Goals as goal
 
 pub returns-clause-shown : goal.returns-clause-shown

@@ -1,7 +1,7 @@
 use Rattle.std.proofs.Common.{arith}
 use Rattle.std.proofs.lemmas.Result.{on_ok_weaker, IfErr-weaker}
 use Rattle.capn_show.specs.Outgoing.{outgoing}
-use Rattle.capn_show.proofs.Appended.{passed}
+use Rattle.capn_show.proofs.shared.Appended.{passed}
 use Rattle.capn_show.proofs.LineTexts.{spaces-more, spaces-all, spaces-cut, spaces-cut-last}
 use Rattle.capn_show.proofs.lines.indent.Goals as goal
 

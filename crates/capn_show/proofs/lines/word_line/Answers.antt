@@ -3,7 +3,7 @@ use Rattle.std.proofs.lemmas.Result.{on_ok_weaker, IfErr-weaker}
 use Rattle.capn_value.specs.Text.{line, hex16}
 use Rattle.capn_show.proofs.LineTexts.{word-lined}
 use Rattle.capn_show.specs.Outgoing.{outgoing}
-use Rattle.capn_show.proofs.Appended.{passed, otherwise, otherwise-broken, both, then-broken, broken-before}
+use Rattle.capn_show.proofs.shared.Appended.{passed, otherwise, otherwise-broken, both, then-broken, broken-before}
 use Rattle.capn_show.proofs.lines.word_line.Goals as goal
 
 pub returns-clause-shown : goal.returns-clause-shown

@@ -6,7 +6,7 @@ use Rattle.std.proofs.lemmas.List.{length-map}
 use Rattle.capn_value.specs.Text.{digits_of}
 use Rattle.capn_walk.specs.ValueAt.{words_from}
 use Rattle.capn_show.specs.Outgoing.{outgoing}
-use Rattle.capn_show.proofs.Appended.{passed, same, otherwise}
+use Rattle.capn_show.proofs.shared.Appended.{passed, same, otherwise}
 use Rattle.capn_show.proofs.BitDigits.{whole-bits, first-bits}
 use Rattle.capn_show.proofs.Grown.{bits-more, bits-cut, bits-all}
 use Rattle.capn_show.proofs.numbers.push_bits.Goals as goal

@@ -4,7 +4,7 @@ use Rattle.std.specs.Prelude.{slice_index}
 use Rattle.hex.specs.Hex.{encode_lower}
 use Rattle.capn_walk.specs.ValueAt.{words_from}
 use Rattle.capn_show.specs.Outgoing.{outgoing}
-use Rattle.capn_show.proofs.Appended.{passed, same, otherwise}
+use Rattle.capn_show.proofs.shared.Appended.{passed, same, otherwise}
 use Rattle.capn_show.proofs.TextDigits.{encode_lower-none}
 use Rattle.capn_show.proofs.BlockDigits.{whole-word, first-bytes}
 use Rattle.capn_show.proofs.Grown.{bytes-more, bytes-cut, bytes-all}

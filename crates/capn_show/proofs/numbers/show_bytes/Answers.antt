@@ -2,7 +2,7 @@ use Rattle.std.proofs.Common.{length, arith}
 use Rattle.std.proofs.lemmas.Result.{on_ok_weaker, IfErr-weaker}
 use Rattle.hex.specs.Hex.{encode_lower}
 use Rattle.capn_show.specs.Outgoing.{outgoing}
-use Rattle.capn_show.proofs.Appended.{passed}
+use Rattle.capn_show.proofs.shared.Appended.{passed}
 use Rattle.capn_show.proofs.Grown.{lined, cut-first, cut-inside, cut-last}
 use Rattle.capn_show.proofs.numbers.show_bytes.Goals as goal
 

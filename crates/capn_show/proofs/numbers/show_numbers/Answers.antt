@@ -2,7 +2,7 @@ use Rattle.std.proofs.Common.{◌<◌, length, arith, ◌∙◌}
 use Rattle.capn_show.specs.Outgoing.{outgoing}
 use Rattle.capn_show.proofs.Within.{element-within}
 use Rattle.capn_show.proofs.Grown.{number-more, number-cut, numbers-all}
-use Rattle.capn_show.proofs.Appended.{passed, same}
+use Rattle.capn_show.proofs.shared.Appended.{passed, same}
 use Rattle.capn_show.proofs.numbers.show_numbers.Goals as goal
 
 pub loop-i-init : goal.loop-i-init

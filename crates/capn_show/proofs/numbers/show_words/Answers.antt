@@ -3,7 +3,7 @@ use Rattle.std.proofs.lemmas.List.{get_or-drop}
 use Rattle.capn_words.specs.Message.{segment_at}
 use Rattle.capn_show.specs.Outgoing.{outgoing}
 use Rattle.capn_show.proofs.Grown.{word-more, word-cut, words-all}
-use Rattle.capn_show.proofs.Appended.{passed, same}
+use Rattle.capn_show.proofs.shared.Appended.{passed, same}
 use Rattle.capn_show.proofs.numbers.show_words.Goals as goal
 
 pub loop-i-init : goal.loop-i-init

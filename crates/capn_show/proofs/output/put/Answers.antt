@@ -2,7 +2,7 @@ use Rattle.std.proofs.Common.{refl}
 use Rattle.std.proofs.lemmas.Result.{IfErr-weaker}
 use Rattle.capn_show.specs.declared.fault.Broken.TheVariants as broken
 use Rattle.capn_show.specs.Outgoing.{outgoing}
-use Rattle.capn_show.proofs.Appended.{kept-more, settled-broken, refused}
+use Rattle.capn_show.proofs.shared.Appended.{kept-more, settled-broken, refused}
 use Rattle.capn_show.proofs.output.put.Goals as goal
 
 pub returns-in-Ok-clause-cut : goal.returns-in-Ok-clause-cut

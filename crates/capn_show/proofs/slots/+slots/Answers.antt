@@ -12,7 +12,7 @@ use Rattle.capn_value.specs.Tree.{count, count_rows}
 use Rattle.std.specs.Prelude.{⊤}
 use Rattle.capn_show.specs.Outgoing.{Adds, BreaksOff, outgoing}
 use Rattle.capn_show.specs.inner.ReadyPlaces.{IsBody, struct_at}
-use Rattle.capn_show.proofs.Appended.{passed, same, both, then-broken, broken-before}
+use Rattle.capn_show.proofs.shared.Appended.{passed, same, both, then-broken, broken-before}
 use Rattle.capn_show.proofs.Steps.{no-fault, found-ready, found-shown, slot-ready, row-ready, slots-ready}
 use Rattle.capn_show.proofs.SlotTexts.{each-more, each-all, each-cut, rows-more, rows-all, row-cut}
 use Rattle.capn_show.proofs.FoundTexts.{body-shown, nil-shown, cap-shown, node-shown, list-shown, links-shown}

@@ -1,7 +1,7 @@
 use Rattle.std.proofs.lemmas.Result.{on_ok_weaker, IfErr-weaker}
 use Rattle.std.specs.Prelude.{⊤}
 use Rattle.capn_show.specs.Outgoing.{Adds, BreaksOff, outgoing}
-use Rattle.capn_show.proofs.Appended.{passed, both, then-broken, broken-before}
+use Rattle.capn_show.proofs.shared.Appended.{passed, both, then-broken, broken-before}
 use Rattle.capn_show.proofs.ListTexts.{voids-shown, bits-shown, bytes-shown, pairs-shown, quads-shown, octs-shown}
 use Rattle.capn_show.proofs.slots.show_list.Goals as goal
 
