@@ -26,6 +26,8 @@ listed limits at frame message findings digest head old new (Ok u) are is same p
   put,
 )
 listed limits at frame message findings digest head old new (Err faults.Memory) are is same put tally = (put.1, refl)
+listed limits at frame message findings digest head old new (Err faults.Io) are is same put tally =
+    absurd (let bad = put.0 in cc)
 listed limits at frame message findings digest head old new (Err (faults.Refused e)) are is same put tally =
     absurd (let bad = put.0 in cc)
 

@@ -21,6 +21,8 @@ listed : (limits : Bounds) (at : Position) (frame : List ℕ) (message : List (L
 listed limits at frame message findings head old new (Ok u) is same put tally =
     (list_line head findings, (findings, is, ap (λ (h : Head). list_line h findings) same, refl), put)
 listed limits at frame message findings head old new (Err faults.Memory) is same put tally = (put.1, refl)
+listed limits at frame message findings head old new (Err faults.Io) is same put tally =
+    absurd (let bad = put.0 in cc)
 listed limits at frame message findings head old new (Err (faults.Refused e)) is same put tally =
     absurd (let bad = put.0 in cc)
 

@@ -1,4 +1,4 @@
-use Rattle.std.proofs.Common.{◌≡◌, ◌<◌, ◌≤◌, ◌-◌, ◌+◌, ◌++◌, ℕ, List, [], Bool, false, Ok, length, take, drop, arith}
+use Rattle.std.proofs.Common.{◌≡◌, ◌<◌, ◌≤◌, ◌-◌, ◌++◌, ℕ, List, [], Bool, false, Ok, length, take, drop, arith}
 use Rattle.std.proofs.Common.{sym}
 use Rattle.std.proofs.Common.{subst, append-nil, length-drop, length-take, length-append}
 use Rattle.std.proofs.Math.Seq.{take_all}
