@@ -1,8 +1,6 @@
 //! Runs over packed inputs that were made by hand, by a service that no command has.
 
-ghost use Rattle.std.specs.Prelude.{◌≡◌, List, ℕ, ⊤};
-ghost use Rattle.capn_serve.specs.Service.{PutsMessage};
-ghost use Rattle.test_streams.specs.declared.places.Places.{Places};
+ghost use Rattle.std.specs.Prelude.{⊤};
 
 use capn_serve::{Position, Run, RunFault, ServeFault, Service, flush_long, run_packed};
 use capn_words::{Space, Watched};
@@ -20,26 +18,6 @@ const START: Position = Position {
 #[derive(Drop)]
 struct Places;
 
-/// Appends them, or nothing if memory is refused.
-fn put_place<A: Allocator>(
-    at: Position,
-    frame: &[u8],
-    text: &mut Vec<u8, A>,
-) -> Result<(), ServeFault>
-    ensures { (s : Places) (message : List (List ℕ)) → PutsMessage (λ s at frame message text t. ⊤)
-        (λ s at frame message r. ⊥) s at frame.now message text.old.items text.new.items result s }
-{
-    let place = [
-        (at.index % 256) as u8,
-        (at.offset % 256) as u8,
-        (frame.len() % 256) as u8,
-    ];
-    match text.extend_from_slice(&place) {
-        Ok(()) => Ok(()),
-        Err(_) => Err(ServeFault::Memory),
-    }
-}
-
 impl Service for Places {
     ghost serves = { λ s at frame message text t. ⊤ };
 
@@ -54,8 +32,15 @@ impl Service for Places {
         text: &mut Vec<u8, A>,
         writer: &mut Watched<W>,
     ) -> Result<(), ServeFault> {
-        put_place(at, frame, text)?;
-        flush_long(text, writer)
+        let place = [
+            (at.index % 256) as u8,
+            (at.offset % 256) as u8,
+            (frame.len() % 256) as u8,
+        ];
+        match text.extend_from_slice(&place) {
+            Ok(()) => flush_long(text, writer),
+            Err(_) => Err(ServeFault::Memory),
+        }
     }
 }
 
