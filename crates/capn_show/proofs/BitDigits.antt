@@ -4,7 +4,8 @@ use Rattle.std.proofs.Common.{inl, inr, set, get_or, map, refl, ap, ap₂, sym, 
 use Rattle.std.specs.Prelude.{slice_index}
 use Rattle.std.specs.Int.{from_bool}
 use Rattle.std.proofs.Math.Nat.{eq-or-lt_of_le}
-use Rattle.std.proofs.lemmas.List.{take_all, get_or-set_other, get_or-take, get_or-drop, get_or-map, length-take-le, length-drop}
+use Rattle.std.proofs.lemmas.List.{take_all, get_or-set_other, get_or-take, get_or-drop}
+use Rattle.std.proofs.lemmas.List.{get_or-map, length-take-le, length-drop}
 use Rattle.std.proofs.lemmas.Grind.{same_number_lists, get_or-set_at}
 use Rattle.capn_value.specs.Text.{digit, digits_of}
 use Rattle.capn_walk.specs.ValueAt.{element}
