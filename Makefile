@@ -31,7 +31,7 @@ run: program
 	@echo "in:"; od -An -v -tx1 -w8 $(PROGRAM)/stdin
 	@echo "out:"; $(PROGRAM)/out/capn $$(cat $(PROGRAM)/args) < $(PROGRAM)/stdin | od -An -v -tx1 -w8
 
-# The whole gate: no line is too long; no crate reaches into another one's proofs; README.md names the toolchain that runs;
+# The whole gate: no line is too long; no crate reaches into another one's proofs; README.md names the toolchain that runs; each place has the version of the file VERSION;
 # the tables of docs/VERIFY.md, PROMISES.md, TESTED.md and ARCHITECTURE.md are true; what `rt ci` tries; the program that
 # it built, once or more for each exit status and with too little memory; and the library for C. The libraries that
 # earlier checks built go first: `rt ci` would put them back after it, in the place of its own, over which the library for
@@ -40,6 +40,7 @@ test:
 	.ci/lines
 	.ci/borders
 	.ci/toolchain
+	.ci/version
 	.ci/readings
 	.ci/counts
 	.ci/places
