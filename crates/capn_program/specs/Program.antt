@@ -51,8 +51,8 @@ abbrev pub RunOver : Type 0 → Type 1
 RunOver F = Option (List ℕ) → Option (List ℕ) → Option (List ℕ) → Option (List ℕ) → Bool → Bool
     → Result (Unit {0}) F → Type 0
 
--- A run that meets this statement went from the input to the output. The run itself ended first, and by then the output had
--- these bytes, and had failed or not; then the output was flushed, which writes nothing.
+-- A run that meets this statement went from the input to the output. The run itself ended first, and by then the output
+-- had these bytes, and had failed or not; then the output was flushed, which writes nothing.
 pub record RunsFlushed {F : Type 0} (io : F) (Runs : RunOver F) (input output : Course)
     (outcome : Result (Unit {0}) F) : Type 0 where
   pub run : Result (Unit {0}) F

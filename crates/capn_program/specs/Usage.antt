@@ -18,8 +18,8 @@ abbrev pub version_line : List ℕ
 version_line = codes "capn 0.1.0\n"
 
 -- a reason of this kind why the words order nothing: memory was refused; or it is among those of the parser's first
--- step that fails, a request for help or for the version being one; or no step fails, and with the values of their options
--- they mean nothing
+-- step that fails, a request for help or for the version being one; or no step fails, and with the values of their
+-- options they mean nothing
 abbrev pub IsReason : List Text → ErrorKind → Type 0
 IsReason words kind = (kind ≡ kinds.OutOfMemory) ⊎ (IsAmong kind (fault_of program_line words)
     ⊎ ((fault_of program_line words ≡ []) × (kind ≡ kinds.InvalidValue)
