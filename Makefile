@@ -6,7 +6,7 @@ ANEW ?=
 PROGRAM := crates/capn
 # The kit's folder. Its c/liblibc_c.a has the allocator's code in C: malloc, realloc, free.
 KIT ?= $(dir $(shell rt doc))
-# The library for C. No symbolic link may stand in it, since the gate refuses one anywhere.
+# The library for C. It has no symbolic link, since the gate refuses one anywhere.
 BUILD := build
 SHELL := bash
 .SHELLFLAGS := -o pipefail -c
@@ -34,8 +34,8 @@ run: program
 # The whole gate: no line is too long; no crate reaches into another one's proofs; README.md names the toolchain that runs; each place has the version of the file VERSION;
 # the tables of docs/VERIFY.md, PROMISES.md, TESTED.md and ARCHITECTURE.md are true; what `rt ci` tries; the program that
 # it built, once or more for each exit status and with too little memory; and the library for C. The libraries that
-# earlier checks built go first: `rt ci` would put them back after it, in the place of its own, over which the library for
-# C is built.
+# earlier checks built are removed first: after its run `rt ci` would put them back in place of its own, and the library
+# for C is built over its own.
 test:
 	.ci/lines
 	.ci/borders
