@@ -6,7 +6,7 @@ ANEW ?=
 PROGRAM := crates/capn
 # The kit's folder. Its c/liblibc_c.a has the allocator's code in C: malloc, realloc, free.
 KIT ?= $(dir $(shell rt doc))
-# The library for C. No symbolic link may stand in it, since the gate refuses one anywhere.
+# The library for C. It has no symbolic link, since the gate refuses one anywhere.
 BUILD := build
 SHELL := bash
 .SHELLFLAGS := -o pipefail -c
@@ -31,15 +31,16 @@ run: program
 	@echo "in:"; od -An -v -tx1 -w8 $(PROGRAM)/stdin
 	@echo "out:"; $(PROGRAM)/out/capn $$(cat $(PROGRAM)/args) < $(PROGRAM)/stdin | od -An -v -tx1 -w8
 
-# The whole gate: no line is too long; no crate reaches into another one's proofs; README.md names the toolchain that runs;
+# The whole gate: no line is too long; no crate reaches into another one's proofs; README.md names the toolchain that runs; each place has the version of the file VERSION;
 # the tables of docs/VERIFY.md, PROMISES.md, TESTED.md and ARCHITECTURE.md are true; what `rt ci` tries; the program that
 # it built, once or more for each exit status and with too little memory; and the library for C. The libraries that
-# earlier checks built go first: `rt ci` would put them back after it, in the place of its own, over which the library for
-# C is built.
+# earlier checks built are removed first: after its run `rt ci` would put them back in place of its own, and the library
+# for C is built over its own.
 test:
 	.ci/lines
 	.ci/borders
 	.ci/toolchain
+	.ci/version
 	.ci/readings
 	.ci/counts
 	.ci/places
@@ -66,7 +67,8 @@ interop: $(if $(CAPN),,program library)
 	./interop/callers
 	./interop/run
 	./interop/differences
-	@if command -v python3 > /dev/null; then ./interop/archives; else echo "archives: skipped, since there is no python3"; fi
+	@if command -v python3 > /dev/null; then ./interop/archives && ./interop/memory; \
+	else echo "archives, memory: skipped, since there is no python3"; fi
 	./contrib/dask/run
 	@if command -v python3 > /dev/null; then ./python/tests/run && ./interop/hostile; \
 	else echo "python, hostile: skipped, since there is no python3"; fi

@@ -29,15 +29,15 @@ archive_line name = with_rule (message_line name) keep_going_rule
 abbrev pub flagged_line : Text → Text → App
 flagged_line name option = with_rule (archive_line name) (flag_rule option)
 
--- `list` takes `--digest` beside what such a command takes
+-- `list` takes what such a command takes, and `--digest`
 abbrev pub list_line : App
 list_line = flagged_line (codes "list") (codes "digest")
 
--- `uniq` takes `--count` beside it
+-- `uniq` takes the same, and `--count`
 abbrev pub uniq_line : App
 uniq_line = flagged_line (codes "uniq") (codes "count")
 
--- `canonical` takes `--framed` and `--keep-going` beside what a command over messages takes
+-- `canonical` takes what a command over messages takes, and `--framed` and `--keep-going`
 abbrev pub canonical_line : App
 canonical_line = with_rule (with_rule (message_line (codes "canonical")) framed_rule) keep_going_rule
 
@@ -47,19 +47,19 @@ top_line =
     let a = new_app (codes "capn") in
     record a { top = record a.top { subcommand_required = true; has_version = true } }
 
--- the program with the commands that tell what messages hold and cost
+-- the program with the commands that show what messages hold and cost
 abbrev pub reading_line : App
 reading_line =
     let with_show = with_subcommand top_line (message_line (codes "show")).top in
     with_subcommand with_show (message_line (codes "check")).top
 
--- the program with those that tell what an archive holds and needs beside them
+-- the same with those that show what an archive holds and needs
 abbrev pub surveying_line : App
 surveying_line =
     let with_list = with_subcommand reading_line list_line.top in
     with_subcommand with_list (archive_line (codes "limits")).top
 
--- the program with those that make bytes of values beside them
+-- the same with those that make bytes of values
 abbrev pub canonical_bytes_line : App
 canonical_bytes_line =
     let with_canonical = with_subcommand surveying_line canonical_line.top in
@@ -93,11 +93,11 @@ make_line = with_rule (new_app (codes "make")) form_rule
 abbrev pub packing_line : App
 packing_line = with_rule pack_line streaming_rule
 
--- `unpack` takes it beside the words of a message
+-- `unpack` takes the words of a message, and `--streaming`
 abbrev pub unpacking_line : App
 unpacking_line = with_rule unpack_line streaming_rule
 
--- the program with the commands over bytes beside these
+-- the same with the commands over bytes
 abbrev pub bytes_line : App
 bytes_line = with_subcommand (with_subcommand messages_line packing_line.top) unpacking_line.top
 

@@ -1,4 +1,4 @@
--- The texts that tell why a run did not end as done. (Own.)
+-- The texts that say why a run was not done. (Own.)
 use Rattle.std.specs.Prelude.{ℕ, ◌+◌, ◌≡◌, ◌⊎◌, List, [], ◌∷◌, ◌++◌, codes, Bool, false, Option, Result, Ok, Err}
 use Rattle.std.specs.Fmt.{decimal}
 use Rattle.capn_canon.specs.Display.{refusal_text}
@@ -28,16 +28,16 @@ archive_text (faults.PassedOver passed) =
     decimal passed.refused ++ (codes " of " ++ (decimal passed.messages
     ++ (codes " messages refused, the first is " ++ place_text passed.first)))
 
--- the line that tells this
+-- its line
 abbrev pub fault_text_line : List ℕ → List ℕ
 fault_text_line text = codes "capn: " ++ text ++ 10 ∷ []
 
--- the line of this text was written, or that of refused memory where there was none for the line
+-- the line of this text was written, or that of refused memory if there was none for the line
 abbrev pub WritesFault : List ℕ → Option (List ℕ) → Option (List ℕ) → Bool → Type 0
 WritesFault text old new failed =
     WritesLine (fault_text_line text) old new failed ⊎ WritesLine (fault_line tool_faults.Memory) old new failed
 
--- why a run ended so has been told: nothing where it is done, and else the text of its fault
+-- the ending of a run was written: nothing if it is done, and else the text of its fault
 abbrev pub WritesEnding : {F : Type 0} → (F → List ℕ) → Result (Unit {0}) F → Option (List ℕ) → Option (List ℕ) → Bool
     → Type 0
 WritesEnding text (Ok u) old new failed = (new ≡ old) × (failed ≡ false)

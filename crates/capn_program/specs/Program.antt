@@ -46,13 +46,13 @@ abbrev pub EndsFlushed : {F : Type 0} → F → Result (Unit {0}) F → Bool →
 EndsFlushed io (Ok u) old new result = ((result ≡ Ok u) × (new ≡ old)) ⊎ ((result ≡ Err io) × (new ≡ true))
 EndsFlushed io (Err fault) old new result = (result ≡ Err fault) × ((new ≡ old) ⊎ (new ≡ true))
 
--- what is said of a run: of its reader before and after it, of its writer, whether each has failed, and how it ended
+-- a statement about a run: its reader before and after it, its writer, whether each has failed, and how it ended
 abbrev pub RunOver : Type 0 → Type 1
 RunOver F = Option (List ℕ) → Option (List ℕ) → Option (List ℕ) → Option (List ℕ) → Bool → Bool
     → Result (Unit {0}) F → Type 0
 
--- A run of which this is said went from the input to the output. The run itself ended first, and by then the output had
--- these bytes, and had failed or not; then the output was flushed, which writes nothing.
+-- A run that meets this statement went from the input to the output. The run itself ended first, and by then the output
+-- had these bytes, and had failed or not; then the output was flushed, which writes nothing.
 pub record RunsFlushed {F : Type 0} (io : F) (Runs : RunOver F) (input output : Course)
     (outcome : Result (Unit {0}) F) : Type 0 where
   pub run : Result (Unit {0}) F
@@ -87,18 +87,18 @@ Flowed flows.Unpack = Runs unpacking
 abbrev pub LetsFlow : Flow → Course → Course → Result (Unit {0}) FlowFault → Type 0
 LetsFlow flow = RunsFlushed flow_faults.Io (Flowed flow)
 
--- The words order this. It was carried out, from the input to the output. The status is that of how it ended, and so is
--- what was told on the errors.
+-- The words order this. It was carried out, from the input to the output. The status, and what was written to the
+-- errors, are those of how it ended.
 pub record EndsOrder {O F : Type 0} (name : O → Order)
     (CarriesOut : O → Course → Course → Result (Unit {0}) F → Type 0)
-    (TellsEnd : Result (Unit {0}) F → Option (List ℕ) → Option (List ℕ) → Bool → Type 0)
+    (WritesEnd : Result (Unit {0}) F → Option (List ℕ) → Option (List ℕ) → Bool → Type 0)
     (status_of_end : Result (Unit {0}) F → ℕ)
     (words : List Text) (input output errors : Course) (status : ℕ) : Type 0 where
   pub order : O
   pub outcome : Result (Unit {0}) F
   pub means : MeansOrder (subcommand_of program_line words) (name order)
   pub run : CarriesOut order input output outcome
-  pub told : TellsEnd outcome errors.before errors.after errors.failed
+  pub told : WritesEnd outcome errors.before errors.after errors.failed
   pub is : status ≡ status_of_end outcome
 
 -- the words order a command over messages or bytes
@@ -135,14 +135,14 @@ ShowsVersion output (Err tool_faults.InputTooLong) = ⊥
 ShowsVersion output (Err (tool_faults.NotWhole n)) = ⊥
 ShowsVersion output (Err (tool_faults.Refused refusal)) = ⊥
 
--- the version was wished for: it was shown, and how that ended was told and is the status
+-- the version was asked for: it was shown, and how that ended was reported and is the status
 pub record EndsVersion (output errors : Course) (status : ℕ) : Type 0 where
   pub outcome : Result (Unit {0}) ToolFault
   pub shown : ShowsVersion output outcome
   pub told : ReportsEnding outcome errors.before errors.after errors.failed
   pub is : status ≡ status_of outcome
 
--- The words order nothing, for a reason of this kind: the version is wished for, or memory was refused, help is wished
+-- The words order nothing, for a reason of this kind: the version is asked for, memory was refused, help is asked
 -- for, or they are a mistake.
 pub record EndsUnordered (kind : ErrorKind) (output errors : Course) (status : ℕ) : Type 0 where
   pub version : kind ≡ kinds.DisplayVersion → EndsVersion output errors status

@@ -1,4 +1,4 @@
-//! What the words of the command line tell the program to do.
+//! What the words of the command line order.
 
 ghost use Rattle.std.specs.Prelude.{◌≡◌, ◌≤◌, ◌⊎◌, ◌↔◌, ◌<◌, ◌^◌, ℕ, Bool, true, codes, map};
 ghost use Rattle.std.specs.Prelude.{IfErr, IfOk, IfSome, IsSome, IsTrue, Some};
@@ -230,9 +230,8 @@ fn named_order(name: &str, matches: &ArgMatches) -> Option<Order>
     }
 }
 
-/// What is said of options of this command that mean nothing: of those of `pick` what its `--form` takes, of those of
-/// `unpack` that two don't go together, and of the others what is said of `--form`, or else of `--tariff`, or else of
-/// `--keep-going`.
+/// The message for options of this command that mean nothing: for `pick`, what its `--form` takes; for `unpack`, which
+/// two don't go together; for the others, that on `--form`, or else on `--tariff`, or else on `--keep-going`.
 fn said_of(name: &str, matches: &ArgMatches) -> &'static str {
     if name == "pick" {
         return help::NO_FRAMED_FORM;
@@ -249,7 +248,7 @@ fn said_of(name: &str, matches: &ArgMatches) -> &'static str {
     help::ONLY_FRAMED
 }
 
-/// The command whose options mean nothing, and what is said of them.
+/// The command whose options mean nothing, and the message for them.
 fn mistake_of<'a>(matches: &'a ArgMatches) -> (&'a str, &'static str) {
     match matches.subcommand() {
         Some((name, found)) => (name, said_of(name, found)),
@@ -282,9 +281,9 @@ fn matches_of<'a, S: AsStr>(alloc: Global, words: &'a [S]) -> Result<ArgMatches<
 }
 
 /// What the words order, the first of them being the program's name: the subcommand's work, with the form, the limits,
-/// the tariff and the flags that its options have, given or usual. A wish for help or for the version, a word, an
+/// the tariff and the flags that its options have, given or usual. A request for help or for the version, a word, an
 /// option or a value that is not known, a number out of its range, a form or a tariff that the command does not take,
-/// `--keep-going` of `canonical` without `--framed`, `--message-words` of `unpack` beside `--streaming`, and refused
+/// `--keep-going` of `canonical` without `--framed`, `--message-words` of `unpack` with `--streaming`, and refused
 /// memory are answered as `Usage`, with the text for the user.
 pub fn order_of<'a, S: AsStr>(alloc: Global, words: &'a [S]) -> Result<Order, Usage>
     // An order that is given is what the words mean.

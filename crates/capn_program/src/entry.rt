@@ -157,7 +157,7 @@ fn make_texts<R: Read, W: Write>(
     flush_after(outcome, MakeFault::Io, writer)
 }
 
-/// Whether the words of the command line wish for the version.
+/// Whether the words of the command line ask for the version.
 fn is_version(usage: &Usage) -> bool
     ensures { IsTrue result ↔ WishesVersion usage.now }
 {

@@ -1,4 +1,4 @@
-//! The line that tells why a run did not end as done.
+//! The line that says why a run was not done.
 
 ghost use Rattle.std.specs.Prelude.{◌≡◌, List, ℕ, IfOk, string_bytes, false};
 ghost use Rattle.capn_words.specs.Watched.{inner_of, has_failed};

@@ -1,4 +1,4 @@
-//! How a run that lets bytes flow ends: its exit status, and the line that tells why.
+//! How a run that lets bytes flow ends: its exit status, and the line that says why.
 
 ghost use Rattle.std.specs.Prelude.{◌≡◌, IfOk, string_bytes, false};
 ghost use Rattle.capn_words.specs.Watched.{inner_of, has_failed};
@@ -38,7 +38,7 @@ fn tell_flow<E: Write, A: Allocator + Copy>(alloc: A, fault: &FlowFault, errors:
     tell(flow_line(alloc, fault), errors);
 }
 
-/// Writes the line that tells why a run that lets bytes flow ended so, if it is not done, and answers its exit status.
+/// Writes the line that says why a run that lets bytes flow ended, if it is not done, and answers its exit status.
 /// If there is no memory for the line, that of refused memory is written, and the status stays.
 pub fn end_flow<E: Write, A: Allocator + Copy>(
     alloc: A,

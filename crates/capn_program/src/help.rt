@@ -1,12 +1,12 @@
-//! The texts of help of what the program has beside the commands of `capn_tool`, in lines of at most 80 columns as they
-//! are printed.
+//! The texts of help for what the program has in addition to the commands of `capn_tool`, in lines of at most 80
+//! columns as they are printed.
 
 use capn_tool::help::Page;
 
 /// The version, which is that of the file VERSION.
 pub const VERSION: &str = "0.1.0";
 
-/// The line that tells the version.
+/// The line of the version.
 pub const VERSION_LINE: &[u8] = b"capn 0.1.0\n";
 
 /// The program.
@@ -252,7 +252,7 @@ pub const FROM: &str = "The number of the first message, from 1";
 pub const TO: &str = "The number of the last message; none is written if it
 is below `--from`";
 
-/// What is said of a value that `--form` of `pick` does not take.
+/// The message for a value that `--form` of `pick` does not take.
 pub const NO_FRAMED_FORM: &str = "--form takes stream or packed";
 
 /// `--digest`.
@@ -274,8 +274,8 @@ pub const UNPACK_STREAMING: &str = "Write while the input comes in, which may ha
 2 MiB of memory; what was written before a refusal
 stays written. It goes without `--message-words`";
 
-/// What is said of `--message-words` beside `--streaming`.
+/// The message for `--message-words` together with `--streaming`.
 pub const WITHOUT_MESSAGE_WORDS: &str = "--streaming goes without --message-words";
 
-/// What is said of `--keep-going` where messages are not framed.
+/// The message for `--keep-going` if messages are not framed.
 pub const ONLY_FRAMED: &str = "--keep-going needs --framed";

@@ -4,7 +4,7 @@
 //! [`order_of`] reads the words. They order a command of [`capn_tool`]; a run over an archive, which is a stream of
 //! messages of any length, by [`capn_archive`] or [`capn_serve`]; that bytes are packed or unpacked while they come in,
 //! by [`capn_flow`]; or that messages are made from texts, by [`capn_make`]. [`end_archive`], [`end_flow`] and
-//! [`end_make`] tell how such a run ended.
+//! [`end_make`] report how such a run ended.
 //!
 //! ```text
 //! let order = order_of(alloc, &["capn", "list", "--keep-going"])?;

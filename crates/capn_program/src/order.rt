@@ -1,10 +1,10 @@
-//! What the program can be told to do.
+//! What the program can do.
 
 use capn_archive::{Archive, Uniq};
 use capn_serve::Pick;
 use capn_tool::{Command, Form};
 
-/// Which way bytes flow, of which those that came are written before more are read.
+/// Which way bytes flow. Those that came are written before more are read.
 #[derive(Clone, Copy, Debug, PartialEq, Eq)]
 pub enum Flow {
     /// They are packed.

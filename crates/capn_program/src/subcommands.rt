@@ -100,7 +100,7 @@ fn top_command<'a>(alloc: Global) -> Command<'a>
         .version(help::VERSION)
 }
 
-/// The program with the commands that tell what messages hold and cost.
+/// The program with the commands that show what messages hold and cost.
 fn reading_command<'a>(alloc: Global) -> Result<Command<'a>, AllocError>
     ensures { IfOk result (λ c. app_of c ≡ reading_line) }
 {
@@ -109,7 +109,7 @@ fn reading_command<'a>(alloc: Global) -> Result<Command<'a>, AllocError>
     parts::with_messages(with_show, alloc, "check", forms)
 }
 
-/// The program with the commands that tell what an archive holds and needs.
+/// The program with the commands that show what an archive holds and needs.
 fn surveying_command<'a>(alloc: Global) -> Result<Command<'a>, AllocError>
     ensures { IfOk result (λ c. app_of c ≡ surveying_line) }
 {
@@ -119,7 +119,7 @@ fn surveying_command<'a>(alloc: Global) -> Result<Command<'a>, AllocError>
     parts::with_command(with_list, limits)
 }
 
-/// The program with the commands that make bytes of values beside these.
+/// The same with the commands that make bytes of values.
 fn canonical_bytes_command<'a>(alloc: Global) -> Result<Command<'a>, AllocError>
     ensures { IfOk result (λ c. app_of c ≡ canonical_bytes_line) }
 {
@@ -193,7 +193,7 @@ fn unpack_command<'a>(alloc: Global) -> Result<Command<'a>, AllocError>
     command.arg(flag(alloc, "streaming", help::UNPACK_STREAMING))
 }
 
-/// The program with the commands over bytes beside those over messages.
+/// The program with the commands over messages and those over bytes.
 fn bytes_command<'a>(alloc: Global) -> Result<Command<'a>, AllocError>
     ensures { IfOk result (λ c. app_of c ≡ bytes_line) }
 {

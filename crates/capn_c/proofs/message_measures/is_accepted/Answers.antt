@@ -12,5 +12,5 @@ returns-in_default g c =
         | inl f ↦ c.in_default.not-Memory f
         | inr r ↦ refused_not (g.S.Space.message c.args.space.now) c.args.limits s.fault s.place s.paid s.visits r a
       ]);
-      wanted = λ e. cc;
+      memory = λ e. cc;
     }
