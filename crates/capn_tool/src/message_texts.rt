@@ -1,6 +1,6 @@
 //! The service that writes something of each message of a stream.
 
-ghost use Rattle.std.specs.Prelude.{◌≡◌, ◌≢◌, ◌×◌, ◌⊎◌, List, ℕ, false};
+ghost use Rattle.std.specs.Prelude.{◌≡◌, ◌≢◌, ◌⊎◌, List, ℕ, false};
 ghost use Rattle.capn_words.specs.Watched.{has_failed};
 ghost use Rattle.capn_show.specs.Outgoing.{outgoing};
 ghost use Rattle.capn_serve.specs.Service.{PutsMessage};
