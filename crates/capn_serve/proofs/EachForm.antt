@@ -32,13 +32,14 @@ module _ {X : Type 0} (f : Fold X) (x : X) where
   -- ---- the messages of a packed stream
 
   packed_exact : (a c d : Option (List ℕ)) (r : Served) (y : X)
-      → IfSome a (packings.EndsPackedAs f x most_stream c d r y) → IfSome a (MessagesEnd f x forms.Packed c d r y)
+      → IfSome a (packings.EndsPackedAs f x most_stream most_stream c d r y)
+      → IfSome a (MessagesEnd f x forms.Packed c d r y)
   packed_exact None c d r y is = tt
   packed_exact (Some input) c d (Ok u) y is = is
   packed_exact (Some input) c d (Err e) y is = is
 
   pub serves_packed : (a b c d : Option (List ℕ)) (reader writer : Bool) (r : Served) (y : X)
-      → packings.RunsPacked f x most_stream a b c d reader writer r y
+      → packings.RunsPacked f x most_stream most_stream a b c d reader writer r y
       → ServesMessages f x forms.Packed a b c d reader writer r y
   serves_packed a b c d reader writer r y run = record {
     exact = packed_exact a c d r y run.exact;

@@ -1,6 +1,6 @@
 -- How a run over a packed stream ends.
-use Rattle.std.proofs.Common.{◌≡◌, ◌≢◌, ◌⊎◌, inl, inr, ℕ, ◌+◌, ◌-◌, ◌<◌, ◌≤◌, min, List, [], ◌++◌, length, take, Bool}
-use Rattle.std.proofs.Common.{true, false, Option, None, Some, IfSome, Result, Ok, Err, refl, ap, sym, subst, ◌∙◌}
+use Rattle.std.proofs.Common.{◌≡◌, ◌≢◌, ◌⊎◌, inl, inr, ℕ, ◌+◌, ◌-◌, ◌^◌, ◌<◌, ◌≤◌, min, List, [], ◌++◌, length, take}
+use Rattle.std.proofs.Common.{Bool, true, false, Option, None, Some, IfSome, Result, Ok, Err, refl, ap, sym, subst, ◌∙◌}
 use Rattle.std.proofs.Common.{append_assoc, arith, length-append, length-take-le}
 use Rattle.std.proofs.Math.Seq.{take_all}
 use Rattle.std.proofs.lemmas.List.{take-append-le}
@@ -24,7 +24,7 @@ use Rattle.capn_serve.specs.Outgoing.{sent}
 use Rattle.capn_serve.specs.ChunkRun.{Tells, TellsFront}
 use Rattle.capn_serve.specs.StreamRun.{Kept, has_more, taken_of}
 use Rattle.capn_serve.specs.PackedRun.{BeginsPacked, EndsPackedAs, HasEndedPacked, HasWrittenPacked, IsDuePacked}
-use Rattle.capn_serve.specs.PackedRun.{RunsPacked, cut_group, most_packed, unless_more}
+use Rattle.capn_serve.specs.PackedRun.{RunsPacked, cut_group, unless_more}
 use Rattle.capn_serve.specs.PackedChunkRun.{EndsPacked, HaltsPacked, HearsPacked, IsDueWithin, IsUnpacking}
 use Rattle.capn_serve.specs.PackedChunkRun.{Pending, TellsPacked, fresh}
 use Rattle.capn_serve.proofs.InputRead.{kept_all, read_end, read_past, taken_front, taken_more}
@@ -110,33 +110,36 @@ module _ {X : Type 0} (f : Fold X) (x : X) (limit : ℕ) where
   fronts_stop s c e false fault (stream, begins, halt) =
       (stream, begins, begun_front f x (taken_of limit stream) c e (halt.told refl))
 
-  begins_packed : (a b c d : Option (List ℕ)) (all s : List ℕ) → Consumes a b all → length all ≤ most_packed + 1
-      → taken_of most_packed all ≡ s → Fronts s c d → BeginsPacked f x limit a b c d
-  begins_packed a b c d all s read bound is front = record {
+  begins_packed : (most_packed : ℕ) (a b c d : Option (List ℕ)) (all s : List ℕ) → Consumes a b all
+      → length all ≤ most_packed + 1 → taken_of most_packed all ≡ s → Fronts s c d
+      → BeginsPacked f x most_packed limit a b c d
+  begins_packed most_packed a b c d all s read bound is front = record {
     bytes = all;
     read = read;
     bounded = bound;
     written = subst (λ (l : List ℕ). HasWrittenPacked f x limit l c d) (sym is) (wrote_front s c d front);
   }
 
-  begins_kept : (a b c d : Option (List ℕ)) (kept : List ℕ) (is_longer : Bool)
-      → (bytes : List ℕ) × Kept most_packed a b kept is_longer bytes → Fronts kept c d → BeginsPacked f x limit a b c d
-  begins_kept a b c d kept is_longer (bytes, k) front =
-      begins_packed a b c d bytes kept k.read k.bounded k.are front
+  begins_kept : (most_packed : ℕ) (a b c d : Option (List ℕ)) (kept : List ℕ) (is_longer : Bool)
+      → (bytes : List ℕ) × Kept most_packed a b kept is_longer bytes → Fronts kept c d
+      → BeginsPacked f x most_packed limit a b c d
+  begins_kept most_packed a b c d kept is_longer (bytes, k) front =
+      begins_packed most_packed a b c d bytes kept k.read k.bounded k.are front
 
   -- ---- how a run ends
 
-  ends_unread : (y : X) (a c d : Option (List ℕ)) (fault : RunFault) → (fault ≡ faults.Memory) ⊎ (fault ≡ faults.Io)
-      → IfSome a (EndsPackedAs f x limit c d (Err fault) y)
-  ends_unread y None c d fault h = tt
-  ends_unread y (Some all) c d fault (inl m) = inl m
-  ends_unread y (Some all) c d fault (inr e) = inr (inl e)
+  ends_unread : (most_packed : ℕ) (y : X) (a c d : Option (List ℕ)) (fault : RunFault)
+      → (fault ≡ faults.Memory) ⊎ (fault ≡ faults.Io)
+      → IfSome a (EndsPackedAs f x most_packed limit c d (Err fault) y)
+  ends_unread most_packed y None c d fault h = tt
+  ends_unread most_packed y (Some all) c d fault (inl m) = inl m
+  ends_unread most_packed y (Some all) c d fault (inr e) = inr (inl e)
 
-  ends_kept : (y : X) (a b c d : Option (List ℕ)) (kept : List ℕ) (is_longer : Bool) (r : Ending)
+  ends_kept : (most_packed : ℕ) (y : X) (a b c d : Option (List ℕ)) (kept : List ℕ) (is_longer : Bool) (r : Ending)
       → (bytes : List ℕ) × Kept most_packed a b kept is_longer bytes
-      → HasEndedPacked f x limit kept is_longer c d r y → IfSome a (EndsPackedAs f x limit c d r y)
-  ends_kept y None b c d kept is_longer r k h = tt
-  ends_kept y (Some all) b c d kept is_longer r (bytes, k) h =
+      → HasEndedPacked f x limit kept is_longer c d r y → IfSome a (EndsPackedAs f x most_packed limit c d r y)
+  ends_kept most_packed y None b c d kept is_longer r k h = tt
+  ends_kept most_packed y (Some all) b c d kept is_longer r (bytes, k) h =
       let same = kept_all most_packed (Some all) b kept bytes is_longer k in
       subst (λ (m : Bool). HasEndedPacked f x limit (taken_of most_packed all) m c d r y) (sym same.1)
       (subst (λ (xs : List ℕ). HasEndedPacked f x limit xs is_longer c d r y) (sym same.0) h)
@@ -186,7 +189,7 @@ module _ {X : Type 0} (f : Fold X) (x : X) (limit : ℕ) where
 
   -- the offset of the unfinished group
   pub offset_is : (y : X) (s : List ℕ) (q : Pending) (c d : Option (List ℕ))
-      (told : TellsPacked f x (fresh limit) s q (sent c) (sent d) y) → length s ≤ most_packed
+      (told : TellsPacked f x (fresh limit) s q (sent c) (sent d) y) → length s ≤ 2 ^ 64 - 1
       → q.group.offset ≡ told.len
   offset_is y s q c d told short =
       let split = told.split in
@@ -212,18 +215,19 @@ module _ {X : Type 0} (f : Fold X) (x : X) (limit : ℕ) where
       )
 
   -- the reader failed: all of the text of what it gave is written
-  pub packed_unread : (y : X) (a b b2 c d : Option (List ℕ)) (taken : ℕ) (q : Pending)
+  pub packed_unread : (most_packed : ℕ) (y : X) (a b b2 c d : Option (List ℕ)) (taken : ℕ) (q : Pending)
       (reader_failed writer_failed : Bool) → reader_failed ≡ true → taken ≤ most_packed
       → HearsPacked f x limit a b taken q c d y → IsUnfinished q.rest f.most → Keeps b b2
-      → RunsPacked f x limit a b2 c d reader_failed writer_failed (Err faults.Io) y
-  packed_unread y a b b2 c d taken q reader_failed writer_failed broken short (bytes, read, count, told) part kept =
+      → RunsPacked f x most_packed limit a b2 c d reader_failed writer_failed (Err faults.Io) y
+  packed_unread most_packed y a b b2 c d taken q reader_failed writer_failed broken short
+      (bytes, read, count, told) part kept =
       let here = Consumes-kept a b b2 bytes read kept in
       let all : taken_of most_packed bytes ≡ bytes = take_all most_packed bytes (omega (arith, count, short)) in
       let due = due_unfinished y bytes q (has_more most_packed bytes) c d told part in
       record {
-        exact = ends_unread y a c d faults.Io (inr refl);
+        exact = ends_unread most_packed y a c d faults.Io (inr refl);
         io = (λ h. inl broken, λ h. refl);
-        begun = begins_packed a b2 c d bytes bytes here (omega (arith, count, short)) all
+        begun = begins_packed most_packed a b2 c d bytes bytes here (omega (arith, count, short)) all
             (fronts_told y bytes q c d told);
         heard = λ h. (
           bytes,
@@ -243,27 +247,28 @@ module _ {X : Type 0} (f : Fold X) (x : X) (limit : ℕ) where
   ended y s is_longer c d (Ok u) due = due
   ended y s is_longer c d (Err fault) due = inr (inr (due.0, y, due.1, due.2))
 
-  pub packed_end : (y : X) (a b b2 c d : Option (List ℕ)) (taken : ℕ) (q : Pending) (buf : List ℕ) (n : ℕ)
+  pub packed_end : (most_packed : ℕ) → most_packed ≤ 2 ^ 64 - 1 → (y : X) (a b b2 c d : Option (List ℕ))
+      (taken : ℕ) (q : Pending) (buf : List ℕ) (n : ℕ)
       (reader_failed writer_failed : Bool) (r : Ending) → reader_failed ≡ false → writer_failed ≡ false
       → taken ≤ most_packed → HearsPacked f x limit a b taken q c d y → n ≡ 0 → Consumes b b2 (take n buf)
       × (n ≡ 0 → 0 < length buf → IsAtEnd b2) → 0 < length buf
       → EndsPacked (f.place y) q.group.rest q.group.offset q.rest f.most r
-      → RunsPacked f x limit a b2 c d reader_failed writer_failed r y
-  packed_end y a b b2 c d taken q buf n reader_failed writer_failed r reader_fine writer_fine short (
+      → RunsPacked f x most_packed limit a b2 c d reader_failed writer_failed r y
+  packed_end most_packed fits y a b b2 c d taken q buf n reader_failed writer_failed r reader_fine writer_fine short (
     bytes,
     read,
     count,
     told,
   ) zero more some (e, other, refused, is, no_io) =
       let kept = read_end most_packed a b b2 bytes buf n zero read more some (omega (arith, count, short)) in
-      let at = offset_is y bytes q c d told (omega (arith, count, short)) in
+      let at = offset_is y bytes q c d told (omega (arith, count, short, fits)) in
       let ending : r ≡ end_of (f.place y) e (cut_group (f.place y) q.group.rest told.len) = is
       ∙ ap (λ (k : ℕ). end_of (f.place y) e (cut_group (f.place y) q.group.rest k)) at in
       let due = due_open y bytes q false r e c d told other refused ending in
       record {
-        exact = ends_kept y a b2 c d bytes false r kept (ended y bytes false c d r due);
+        exact = ends_kept most_packed y a b2 c d bytes false r kept (ended y bytes false c d r due);
         io = (λ h. absurd (no_io h), λ h. absurd (not_failed reader_failed writer_failed reader_fine writer_fine h));
-        begun = begins_kept a b2 c d bytes false kept (fronts_told y bytes q c d told);
+        begun = begins_kept most_packed a b2 c d bytes false kept (fronts_told y bytes q c d told);
         heard = λ h. absurd (not_failed reader_failed writer_failed reader_fine writer_fine (inl h));
       }
 
@@ -276,14 +281,15 @@ module _ {X : Type 0} (f : Fold X) (x : X) (limit : ℕ) where
   due_long y s q c d told (inr cut) =
       due_open y s q true (stopped faults.InputTooLong) frames.Cut c d told (λ h. cc) cut refl
 
-  pub packed_long : (y z : X) (a b b2 c d e : Option (List ℕ)) (taken : ℕ) (q r : Pending) (buf tail : List ℕ) (w k : ℕ)
+  pub packed_long : (most_packed : ℕ) (y z : X) (a b b2 c d e : Option (List ℕ)) (taken : ℕ) (q r : Pending)
+      (buf tail : List ℕ) (w k : ℕ)
       (reader_failed writer_failed : Bool) → reader_failed ≡ false → writer_failed ≡ false
       → taken + w ≡ most_packed → w < k → taken + k ≤ most_packed + 1
       → HearsPacked f x limit a b taken q c d y → Consumes b b2 (take k buf) → k ≤ length buf
       → TellsPacked f y q (take w (buf ++ tail)) r (sent d) (sent e) z → IsUnfinished r.rest f.most
-      → RunsPacked f x limit a b2 c e reader_failed writer_failed (Err faults.InputTooLong) z
-  packed_long y z a b b2 c d e taken q r buf tail w k reader_failed writer_failed reader_fine writer_fine full past
-      bound (bytes, read, count, told) more within served part =
+      → RunsPacked f x most_packed limit a b2 c e reader_failed writer_failed (Err faults.InputTooLong) z
+  packed_long most_packed y z a b b2 c d e taken q r buf tail w k reader_failed writer_failed reader_fine writer_fine
+      full past bound (bytes, read, count, told) more within served part =
       let kept = read_past most_packed a b b2 bytes buf k w read more within (omega (arith, count, full)) past
       (omega (arith, count, bound)) in
       let front = subst (λ (l : List ℕ). TellsPacked f y q l r (sent d) (sent e) z)
@@ -291,22 +297,22 @@ module _ {X : Type 0} (f : Fold X) (x : X) (limit : ℕ) where
       let all = packed_more f x y (fresh limit) q bytes (take w buf) (sent c) (sent d) told z r (sent e) front in
       let due = due_long z (bytes ++ take w buf) r c e all part in
       record {
-        exact = ends_kept z a b2 c e (bytes ++ take w buf) true (Err faults.InputTooLong) kept
+        exact = ends_kept most_packed z a b2 c e (bytes ++ take w buf) true (Err faults.InputTooLong) kept
             (ended z (bytes ++ take w buf) true c e (stopped faults.InputTooLong) due);
         io = (λ h. absurd (cc), λ h. absurd (not_failed reader_failed writer_failed reader_fine writer_fine h));
-        begun = begins_kept a b2 c e (bytes ++ take w buf) true kept
+        begun = begins_kept most_packed a b2 c e (bytes ++ take w buf) true kept
             (fronts_told z (bytes ++ take w buf) r c e all);
         heard = λ h. absurd (not_failed reader_failed writer_failed reader_fine writer_fine (inl h));
       }
 
   -- the run stopped within a chunk
-  stopped_packed : (z : X) (a b2 c e : Option (List ℕ)) (all s : List ℕ) (failed : Bool) (fault : RunFault)
-      → Consumes a b2 all → taken_of most_packed all ≡ s
+  stopped_packed : (most_packed : ℕ) (z : X) (a b2 c e : Option (List ℕ)) (all s : List ℕ) (failed : Bool)
+      (fault : RunFault) → Consumes a b2 all → taken_of most_packed all ≡ s
       → HaltsPacked f x (fresh limit) s (sent c) (sent e) failed fault
-      → IfSome a (EndsPackedAs f x limit c e (Err fault) z)
-  stopped_packed z None b2 c e all s failed fault read is stop = tt
-  stopped_packed z (Some input) None c e all s failed fault read is stop = absurd read
-  stopped_packed z (Some input) (Some left) c e all s failed fault read is (stream, begins, halt) =
+      → IfSome a (EndsPackedAs f x most_packed limit c e (Err fault) z)
+  stopped_packed most_packed z None b2 c e all s failed fault read is stop = tt
+  stopped_packed most_packed z (Some input) None c e all s failed fault read is stop = absurd read
+  stopped_packed most_packed z (Some input) (Some left) c e all s failed fault read is (stream, begins, halt) =
       elim halt.due [
         | inl m ↦ inl m
         | inr rest ↦ elim rest [ inl i ↦ inr (inl i) | inr so ↦ inr (inr (due so)) ]
@@ -333,14 +339,15 @@ module _ {X : Type 0} (f : Fold X) (x : X) (limit : ℕ) where
             adds_sent c e part.0 part.3,
           )
 
-  pub packed_stopped : (y z : X) (a b b2 c d e : Option (List ℕ)) (taken : ℕ) (q : Pending) (buf tail : List ℕ)
+  pub packed_stopped : (most_packed : ℕ) (y z : X) (a b b2 c d e : Option (List ℕ)) (taken : ℕ) (q : Pending)
+      (buf tail : List ℕ)
       (w k : ℕ) (reader_failed writer_failed : Bool) (fault : RunFault) → reader_failed ≡ false → taken ≤ most_packed
       → w ≡ min k (most_packed - taken) → taken + k ≤ most_packed + 1
       → HearsPacked f x limit a b taken q c d y → Consumes b b2 (take k buf) → k ≤ length buf
       → HaltsPacked f y q (take w (buf ++ tail)) (sent d) (sent e) writer_failed fault
-      → RunsPacked f x limit a b2 c e reader_failed writer_failed (Err fault) z
-  packed_stopped y z a b b2 c d e taken q buf tail w k reader_failed writer_failed fault reader_fine short least bound
-      (bytes, read, count, told) more within stop =
+      → RunsPacked f x most_packed limit a b2 c e reader_failed writer_failed (Err fault) z
+  packed_stopped most_packed y z a b b2 c d e taken q buf tail w k reader_failed writer_failed fault reader_fine short
+      least bound (bytes, read, count, told) more within stop =
       let all = Consumes-trans a b b2 bytes (take k buf) read more in
       let front = taken_front most_packed bytes buf taken w k count short least within in
       let part = subst (λ (p : List ℕ). HaltsPacked f y q p (sent d) (sent e) writer_failed fault)
@@ -348,13 +355,13 @@ module _ {X : Type 0} (f : Fold X) (x : X) (limit : ℕ) where
       let whole = packed_stop f x y (fresh limit) q bytes (take w buf) (sent c) (sent d) told (sent e) writer_failed
       fault part in
       record {
-        exact = stopped_packed z a b2 c e (bytes ++ take k buf) (bytes ++ take w buf) writer_failed fault all front
-            whole;
+        exact = stopped_packed most_packed z a b2 c e (bytes ++ take k buf) (bytes ++ take w buf) writer_failed fault
+            all front whole;
         io = (
           λ h. inr (whole.2.io.0 (cc)),
           λ h. ap stopped (whole.2.io.1 (writer_only reader_failed writer_failed reader_fine h)),
         );
-        begun = begins_packed a b2 c e (bytes ++ take k buf) (bytes ++ take w buf) all
+        begun = begins_packed most_packed a b2 c e (bytes ++ take k buf) (bytes ++ take w buf) all
             (omega (arith, count, bound, length-append bytes (take k buf), length-take-le k buf within)) front
             (fronts_stop (bytes ++ take w buf) c e writer_failed fault whole);
         heard = λ h. absurd (let g : true ≡ false = sym h ∙ reader_fine in cc);

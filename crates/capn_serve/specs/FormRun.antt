@@ -23,8 +23,8 @@ module _ {X : Type 0} (f : Fold X) (x : X) where
       streams.IsDue f x most_stream (streams.taken_of most_stream input) (streams.has_more most_stream input) text
       ending y
   AreMessages forms.Packed input text ending y =
-      packings.IsDuePacked f x most_stream (streams.taken_of packings.most_packed input)
-      (streams.has_more packings.most_packed input) text ending y
+      packings.IsDuePacked f x most_stream (streams.taken_of most_stream input)
+      (streams.has_more most_stream input) text ending y
   AreMessages forms.Bare input text (Ok u) y = (length input ≤ most_input) × bares.WritesBare f x input text y
   AreMessages forms.Bare input text (Err fault) y = bares.EndsBare f x input fault × (text ≡ [])
 
@@ -33,7 +33,7 @@ module _ {X : Type 0} (f : Fold X) (x : X) where
   HasWritten forms.Stream bytes old new =
       streams.HasWritten f x most_stream (streams.taken_of most_stream bytes) old new
   HasWritten forms.Packed bytes old new =
-      packings.HasWrittenPacked f x most_stream (streams.taken_of packings.most_packed bytes) old new
+      packings.HasWrittenPacked f x most_stream (streams.taken_of most_stream bytes) old new
   HasWritten forms.Bare bytes old new = bares.HasWritten f x bytes old new
 
   -- the text of the messages was written, and they end so; or memory was refused, or the reader or the writer failed

@@ -11,10 +11,6 @@ use Rattle.capn_serve.specs.declared.fault.RunFault.TheVariants as faults
 use Rattle.capn_serve.specs.Fold.{Fold, Part, AreParts, IsFolded, texts_of}
 use Rattle.capn_serve.specs.StreamRun.{has_more, taken_of}
 
--- the most bytes of a packed stream that a run takes, so that the offset of each has 64 bits
-abbrev pub most_packed : ℕ
-most_packed = 2 ^ 64 - 1
-
 -- why no more bytes follow: there are too many, and else as it was
 abbrev pub unless_more : Bool → Option RunFault → Option RunFault
 unless_more true behind = Some faults.InputTooLong
@@ -49,29 +45,31 @@ module _ {X : Type 0} (f : Fold X) (x : X) (limit : ℕ) where
       ⊎ ((e ≡ faults.Io)
       ⊎ ((text : List ℕ) × (z : X) × IsDuePacked bytes is_longer text (Err e) z × Appends old new text))
 
-  -- the same of a whole input
-  abbrev pub EndsPackedAs : Option (List ℕ) → Option (List ℕ) → Result (Unit {0}) RunFault → X → List ℕ → Type 0
-  EndsPackedAs old new ending y input =
-      HasEndedPacked (taken_of most_packed input) (has_more most_packed input) old new ending y
-
   -- of some whole groups that stand first in these bytes, a beginning of the texts of the whole messages was written
   abbrev pub HasWrittenPacked : List ℕ → Option (List ℕ) → Option (List ℕ) → Type 0
   HasWrittenPacked bytes old new = (stream : List ℕ) × packing.Begins bytes [] stream × (parts : List Part)
       × (rest : List ℕ) × (y : X) × (count : ℕ) × AreParts f x (taken_of limit stream) parts rest y
       × Appends old new (take count (texts_of parts))
 
+-- the same of a run that takes at most this number of packed bytes, and as many of those that they unpack to as `limit`
+module _ {X : Type 0} (f : Fold X) (x : X) (most_packed limit : ℕ) where
+  -- the same of a whole input
+  abbrev pub EndsPackedAs : Option (List ℕ) → Option (List ℕ) → Result (Unit {0}) RunFault → X → List ℕ → Type 0
+  EndsPackedAs old new ending y input =
+      HasEndedPacked f x limit (taken_of most_packed input) (has_more most_packed input) old new ending y
+
   -- a reader gave some bytes, at most one more than are taken, and a writer took a beginning of their text
   pub record BeginsPacked (a b c d : Option (List ℕ)) : Type 0 where
     pub bytes : List ℕ
     pub read : Consumes a b bytes
     pub bounded : length bytes ≤ most_packed + 1
-    pub written : HasWrittenPacked (taken_of most_packed bytes) c d
+    pub written : HasWrittenPacked f x limit (taken_of most_packed bytes) c d
 
   -- all of the text of the bytes that a reader gave was written
   abbrev pub KeepsUpPacked : Option (List ℕ) → Option (List ℕ) → Option (List ℕ) → Option (List ℕ) → Type 0
   KeepsUpPacked a b c d = (bytes : List ℕ) × (text : List ℕ) × (ending : Result (Unit {0}) RunFault) × (y : X)
-      × Consumes a b bytes × IsDuePacked (taken_of most_packed bytes) (has_more most_packed bytes) text ending y
-      × Appends c d text
+      × Consumes a b bytes × IsDuePacked f x limit (taken_of most_packed bytes) (has_more most_packed bytes) text
+      ending y × Appends c d text
 
   -- what a run did, over a reader (from a to b) and a writer (from c to d), and the state after it
   pub record RunsPacked (a b c d : Option (List ℕ)) (reader_failed writer_failed : Bool)

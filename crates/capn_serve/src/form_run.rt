@@ -38,7 +38,7 @@ pub fn serve_form<S: Service, R: Read, W: Write, A: Allocator + Copy>(
 {
     match form {
         Form::Stream => run_stream(alloc, most, u64::MAX, run, reader, writer),
-        Form::Packed => run_packed(alloc, most, u64::MAX, run, reader, writer),
+        Form::Packed => run_packed(alloc, most, u64::MAX, u64::MAX, run, reader, writer),
         Form::Bare => run_bare(alloc, run, reader, writer),
     }
 }

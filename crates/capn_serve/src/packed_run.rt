@@ -183,16 +183,17 @@ pub(crate) fn end_of_packed<A: Allocator + Copy>(
 /// again.
 ///
 /// A chunk is unpacked in slices of 512 bytes, of which come at most 512 KiB and an unfinished group. Positions are in
-/// what the stream unpacks to; of that at most `limit` bytes are taken, and of the stream itself 2^64 - 1. `most` is
-/// the greatest number of words of a message. The run ends as done, or with the first fault: a frame or a message that
-/// is refused, at its position; `InputTooLong`; a group that is cut at the end of the input, at the position of the
-/// message that has begun or would begin; `Io` exactly if the reader or the writer failed; `Memory` if a growth was
+/// what the stream unpacks to; of that at most `limit` bytes are taken, and of the stream itself `most_packed`. `most`
+/// is the greatest number of words of a message. The run ends as done, or with the first fault: a frame or a message
+/// that is refused, at its position; `InputTooLong`; a group that is cut at the end of the input, at the position of
+/// the message that has begun or would begin; `Io` exactly if the reader or the writer failed; `Memory` if a growth was
 /// refused. The texts of the messages before it have been written; at `Memory` a beginning of one more may have been
 /// too. It holds an unfinished message, what a slice unpacks to, the texts of a chunk that are not written yet, and
 /// what the service holds.
 pub fn run_packed<S: Service, R: Read, W: Write, A: Allocator + Copy>(
     alloc: A,
     most: u32,
+    most_packed: u64,
     limit: u64,
     run: &mut Run<S>,
     reader: &mut Watched<R>,
@@ -202,8 +203,8 @@ pub fn run_packed<S: Service, R: Read, W: Write, A: Allocator + Copy>(
     requires fresh { run.old.at ≡ start }
     requires reader_fine { has_failed reader.old ≡ false }
     requires writer_fine { has_failed writer.old ≡ false }
-    ensures { RunsPacked (fold_of S.serves S.refuses most) run.old limit (R.remaining (inner_of reader.old))
-        (R.remaining (inner_of reader.new))
+    ensures { RunsPacked (fold_of S.serves S.refuses most) run.old most_packed limit
+        (R.remaining (inner_of reader.old)) (R.remaining (inner_of reader.new))
         (W.contents (inner_of writer.old)) (W.contents (inner_of writer.new)) (has_failed reader.new)
         (has_failed writer.new) result run.new }
 {
@@ -217,7 +218,7 @@ pub fn run_packed<S: Service, R: Read, W: Write, A: Allocator + Copy>(
     let mut buffer = [0; CHUNK as usize];
     let mut taken = 0;
     'chunks: loop {
-        let left = u64::MAX - taken;
+        let left = most_packed - taken;
         let room = left.min(CHUNK - 1) + 1;
         match reader.read(&mut buffer[..room as usize]) {
             Err(_) => return Err(RunFault::Io),

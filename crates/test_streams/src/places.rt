@@ -71,7 +71,15 @@ fn packed<R: Read + Drop>(alloc: Global, input: R, limit: u64) -> (Result<(), Ru
     };
     let mut reader = Watched::new(input);
     let mut writer = Watched::new(Vec::new(alloc));
-    let ending = run_packed(alloc, 1_024, limit, &mut run, &mut reader, &mut writer);
+    let ending = run_packed(
+        alloc,
+        1_024,
+        u64::MAX,
+        limit,
+        &mut run,
+        &mut reader,
+        &mut writer,
+    );
     let Run { service: _, at: _ } = run;
     (ending, writer.into_inner())
 }

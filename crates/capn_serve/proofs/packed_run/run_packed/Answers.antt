@@ -64,6 +64,7 @@ pub returns-in-Err : goal.returns-in-Err
 returns-in-Err g c =
     let i = c.chunks.invariant in
     packed_unread (fold_of g.S.Service.serves g.S.Service.refuses c.args.most) c.args.run.now c.args.limit
+    c.args.most_packed
     c.chunks.run _ _ _ _ _ c.chunks.taken
     (pending c.chunks.packed.unpacker c.chunks.packed.framer c.chunks.packed.left) _ _
     (has_broken _ _ c.in-Err.ensures.failed) i.within i.heard
@@ -78,6 +79,7 @@ returns-in-Ok-eq0 g c =
     c.chunks.packed.unpacker.offset c.chunks.packed.framer.rest m c.end_of_packed.result) i.listening.most
     c.end_of_packed.ensures in
     packed_end (fold_of g.S.Service.serves g.S.Service.refuses c.args.most) c.args.run.now c.args.limit
+    c.args.most_packed (omega (arith, c.ranges.most_packed))
     c.chunks.run _ _ _ _ _ c.chunks.taken
     (pending c.chunks.packed.unpacker c.chunks.packed.framer c.chunks.packed.left)
     c.read.new.buf c.in-Ok-eq0.field-0 _ _ c.end_of_packed.result
@@ -92,6 +94,7 @@ returns-in_err-serve_packed-in-Ok g c =
     let room = length-take (c.min-room.result + 1) c.chunks.buffer in
     rw (p.1, p.2)
     (packed_stopped (fold_of g.S.Service.serves g.S.Service.refuses c.args.most) c.args.run.now c.args.limit
+    c.args.most_packed
     c.chunks.run c.serve_packed.new.run _ _ _ _ _ _ c.chunks.taken
     (pending c.chunks.packed.unpacker c.chunks.packed.framer c.chunks.packed.left) c.read.new.buf
     (drop (c.min-room.result + 1) c.chunks.buffer) c.min-within.result c.in-Ok.count _ _
@@ -107,6 +110,7 @@ returns-then-within-count g c =
     let served = c.in_ok-serve_packed-in-Ok.ensures in
     let packed = c.serve_packed.new.packed in
     packed_long (fold_of g.S.Service.serves g.S.Service.refuses c.args.most) c.args.run.now c.args.limit
+    c.args.most_packed
     c.chunks.run c.serve_packed.new.run _ _ _ _ _ _ c.chunks.taken
     (pending c.chunks.packed.unpacker c.chunks.packed.framer c.chunks.packed.left)
     (pending packed.unpacker packed.framer packed.left) c.read.new.buf

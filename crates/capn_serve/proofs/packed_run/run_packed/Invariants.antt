@@ -2,7 +2,6 @@ use Rattle.std.proofs.Common.{◌≡◌, ◌≤◌, ◌+◌, ◌-◌, length, fa
 use Rattle.capn_words.specs.Watched.{inner_of, has_failed}
 use Rattle.capn_serve.specs.Fold.{fold_of}
 use Rattle.capn_serve.specs.ChunkRun.{HasRoom, IsListening}
-use Rattle.capn_serve.specs.PackedRun.{most_packed}
 use Rattle.capn_serve.specs.PackedChunkRun.{HearsPacked, pending}
 use Rattle.capn_serve.proofs.packed_run.run_packed.Given as goal
 
@@ -13,7 +12,7 @@ invariant-chunks g l = record {
   writer : has_failed l.writer ≡ false;
   listening : IsListening (fold_of g.S.Service.serves g.S.Service.refuses l.most) l.packed.framer;
   room : HasRoom l.run.at (length l.packed.framer.rest + l.packed.left);
-  within : l.taken ≤ most_packed;
+  within : l.taken ≤ l.most_packed;
   heard : HearsPacked (fold_of g.S.Service.serves g.S.Service.refuses l.most) l.fn.run l.limit
       (g.R.Read.remaining (inner_of l.fn.reader)) (g.R.Read.remaining (inner_of l.reader)) l.taken
       (pending l.packed.unpacker l.packed.framer l.packed.left)
@@ -21,4 +20,4 @@ invariant-chunks g l = record {
 }
 
 abbrev pub decreases-chunks : goal.decreases-chunks
-decreases-chunks g l = (most_packed + 1) - l.taken
+decreases-chunks g l = (l.most_packed + 1) - l.taken
