@@ -8,18 +8,12 @@ pub mod WholeServed
 pub mod RunLaw
 pub mod WholeRun
 pub mod OneText
-pub mod Sends
 pub mod Verdicts
 pub mod Served
 mod ShownMessage
 pub mod EachServed
-pub mod HeardMore
-pub mod HeardNext
-pub mod HeardRun
-pub mod PackedMore
-pub mod PackedRun
+pub mod PackedServed
 pub mod WorkedLines
 pub mod Carried
 pub mod Shown
-pub mod Added
 pub mod Unordered

@@ -11,10 +11,8 @@ ghost use Rattle.capn_tool.specs.declared.plan.Plan.TheVariants as plans;
 
 use crate::command::Command;
 use crate::fault::ToolFault;
-use crate::message_service::Service;
-use crate::message_stream::run_each;
+use crate::message_stream::{run_each, run_each_packed};
 use crate::output::write_all;
-use crate::packed_stream::run_packed;
 use crate::plan::{Plan, Whole, plan_of};
 use crate::whole_input::make;
 use capn_words::Watched;
@@ -59,15 +57,7 @@ fn perform<R: Read, W: Write, A: Allocator + Copy>(
     match plan {
         Plan::Whole(whole) => run_whole(alloc, whole, reader, writer),
         Plan::Each(piece, limits) => run_each(alloc, piece, limits, reader, writer),
-        Plan::Packed(piece, limits) => run_packed(
-            &Service {
-                alloc,
-                piece,
-                limits,
-            },
-            reader,
-            writer,
-        ),
+        Plan::Packed(piece, limits) => run_each_packed(alloc, piece, limits, reader, writer),
     }
 }
 

@@ -3,7 +3,7 @@
 ghost use Rattle.std.specs.Prelude.{◌≡◌, ◌↔◌, true, false, OnOk, IsErrOf, IsOkUnless};
 ghost use Rattle.std.specs.Io.KnownBytes.{Appends, Keeps};
 ghost use Rattle.capn_words.specs.Watched.{HasBegun, inner_of, has_failed};
-ghost use Rattle.capn_tool.specs.Outgoing.{EndsFlushed, SendsRest};
+ghost use Rattle.capn_tool.specs.Outgoing.{EndsFlushed};
 
 use crate::fault::ToolFault;
 use capn_words::Watched;
@@ -21,24 +21,6 @@ pub fn write_all<W: Write>(writer: &mut Watched<W>, text: &[u8]) -> Result<(), T
         Ok(()) => Ok(()),
         Err(_) => Err(ToolFault::Io),
     }
-}
-
-/// Writes the text that a run which ended so has kept, where its writer has not failed before. The run ends so, or with
-/// `Io` where the writer fails.
-pub(crate) fn send_rest<W: Write>(
-    served: Result<(), ToolFault>,
-    text: &[u8],
-    writer: &mut Watched<W>,
-) -> Result<(), ToolFault>
-    ensures { SendsRest served text.now (W.contents (inner_of writer.old)) (W.contents (inner_of writer.new))
-        (has_failed writer.old)
-        (has_failed writer.new) result }
-{
-    if writer.failed() {
-        return served;
-    }
-    write_all(writer, text)?;
-    served
 }
 
 /// Flushes the writer after a run that ended so. A run that was done ends with `Io` if the flush fails; any other ends

@@ -24,11 +24,11 @@ run_each-requires-clause-reader_fine g c = c.requires.reader_fine
 pub run_each-requires-clause-writer_fine : goal.run_each-requires-clause-writer_fine
 run_each-requires-clause-writer_fine g c = c.requires.writer_fine
 
-pub run_packed-requires-clause-reader_fine : goal.run_packed-requires-clause-reader_fine
-run_packed-requires-clause-reader_fine g c = c.requires.reader_fine
+pub run_each_packed-requires-clause-reader_fine : goal.run_each_packed-requires-clause-reader_fine
+run_each_packed-requires-clause-reader_fine g c = c.requires.reader_fine
 
-pub run_packed-requires-clause-writer_fine : goal.run_packed-requires-clause-writer_fine
-run_packed-requires-clause-writer_fine g c = c.requires.writer_fine
+pub run_each_packed-requires-clause-writer_fine : goal.run_each_packed-requires-clause-writer_fine
+run_each_packed-requires-clause-writer_fine g c = c.requires.writer_fine
 
 pub returns-in-Whole : goal.returns-in-Whole
 returns-in-Whole g c =
@@ -43,5 +43,5 @@ returns-in-Each g c =
 
 pub returns-in-Packed : goal.returns-in-Packed
 returns-in-Packed g c =
-    runs c.args.plan (plans.Packed c.in-Packed.piece c.in-Packed.limits) _ _ _ _ _ _ c.run_packed.result c.in-Packed.is
-    c.run_packed.ensures
+    runs c.args.plan (plans.Packed c.in-Packed.piece c.in-Packed.limits) _ _ _ _ _ _ c.run_each_packed.result
+    c.in-Packed.is c.run_each_packed.ensures
