@@ -1,6 +1,6 @@
 -- A message whose text is written while it is made, as a message that a service served.
-use Rattle.std.proofs.Common.{◌≡◌, ◌≢◌, ◌⊎◌, inl, inr, ℕ, List, [], ◌∷◌, ◌++◌, Bool, false, codes, Result, Ok, Err}
-use Rattle.std.proofs.Common.{refl, sym, subst, ◌∙◌, append-nil, take}
+use Rattle.std.proofs.Common.{◌≡◌, ◌≢◌, ◌⊎◌, inl, inr, ℕ, List, [], ◌∷◌, ◌++◌, Bool, false, codes, Option, Result}
+use Rattle.std.proofs.Common.{Ok, Err, refl, sym, subst, ◌∙◌, append-nil, take}
 use Rattle.std.specs.Io.KnownBytes.{Appends}
 use Rattle.capn_words.specs.Watched.{HasBegun}
 use Rattle.capn_value.specs.Tree.{Tree}
@@ -41,13 +41,14 @@ pub line_added : (line : List ℕ) (p q r : Outgoing) (end : Ending) → q.taken
     → AddsLine line p r end
 line_added line p q r (Ok u) taken failed kept fine ((w, wrote, is), short, good) = record {
   written = w;
-  taken = subst (λ c. Appends c r.taken w) taken wrote;
+  taken = subst (λ (c : Option (List ℕ)). Appends c r.taken w) taken wrote;
   kept = is ∙ append-nil q.kept ∙ kept;
   failed = good ∙ sym fine;
 }
 line_added line p q r (Err faults.Io) taken failed kept fine (io, (count, wrote), broke) = (
   count,
-  subst (λ c. Appends c r.taken _) taken (subst (λ (l : List ℕ). Appends q.taken r.taken (take count l)) kept wrote),
+  subst (λ (c : Option (List ℕ)). Appends c r.taken (take count (p.kept ++ line))) taken
+      (subst (λ (l : List ℕ). Appends q.taken r.taken (take count l)) kept wrote),
   broke,
 )
 line_added line p q r (Err faults.Memory) taken failed kept fine (io, begun, broke) = absurd (cc)

@@ -64,10 +64,10 @@ fn add_line<W: Write, A: Allocator>(
     ensures { spec.AddsLine line.now (outgoing W.contents writer.old text.old.items)
         (outgoing W.contents writer.new text.new.items) result }
 {
-    if text.extend_from_slice(line).is_err() {
-        return Err(ServeFault::Memory);
+    match text.extend_from_slice(line) {
+        Ok(()) => flush_long(text, writer),
+        Err(_) => Err(ServeFault::Memory),
     }
-    flush_long(text, writer)
 }
 
 /// Adds the text of a message's value, and the line `end`. Long texts are written while they are made.
