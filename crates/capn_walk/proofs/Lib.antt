@@ -7,6 +7,9 @@ pub mod Near
 pub mod NumbersFromBytes
 pub mod Room
 pub mod UnderWay
+pub mod NeverNull
+pub mod DeepVisits
+pub mod Depths
 pub mod FilledRoom
 pub mod RootIndexes
 pub mod IndexLaws
