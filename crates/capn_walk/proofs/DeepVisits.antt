@@ -1,6 +1,6 @@
 -- How many objects stand one below another in a survey under way: what was met, and what is to come.
 use Rattle.std.proofs.Common.{◌≡◌, ℕ, zero, suc, ◌+◌, ◌-◌, ◌<◌, ◌≤◌, max, List, [], ◌∷◌, ◌++◌, Result, Ok, Err, Option}
-use Rattle.std.proofs.Common.{Some, None, refl, ap, ap₂, sym, ◌∙◌, arith}
+use Rattle.std.proofs.Common.{refl, ap, sym, ◌∙◌, arith}
 use Rattle.capn_words.specs.declared.space.Place.{Place}
 use Rattle.capn_walk.specs.declared.target.Target.{Target}
 use Rattle.capn_walk.specs.declared.target.Target.TheVariants as targets
@@ -12,7 +12,7 @@ use Rattle.capn_walk.specs.Target.{target}
 use Rattle.capn_walk.specs.Visits.{Visit, pays, slots, visits}
 use Rattle.capn_walk.specs.Surveyed.{cap_of}
 use Rattle.capn_walk.specs.inner.SlotsLeft.{places_of, owed, HasRows}
-use Rattle.capn_walk.specs.inner.Reach.{below_of, greatest_of, level, reach, reach_of, reached, levels_at}
+use Rattle.capn_walk.specs.inner.Reach.{below_of, level, reach, reach_of, reached, levels_at}
 use Rattle.capn_walk.proofs.OwedSlots.{nothing-left}
 use Rattle.capn_walk.proofs.NeverNull.{IsThere}
 use Rattle.capn_walk.proofs.UnderWay.{IsKept, kept, dropped}

@@ -5,14 +5,13 @@ use Rattle.capn_words.specs.declared.space.Place.{Place}
 use Rattle.capn_value.specs.Cost.{base}
 use Rattle.capn_walk.specs.declared.target.Target.{Target}
 use Rattle.capn_walk.specs.declared.target.Target.TheVariants as targets
-use Rattle.capn_walk.specs.declared.target.Shape.{Shape}
 use Rattle.capn_walk.specs.declared.target.Fault.{Fault}
 use Rattle.capn_walk.specs.Target.{target}
 use Rattle.capn_walk.specs.Visits.{Visit, pays, price, slots, visits, visits_of}
 use Rattle.capn_walk.specs.Accepted.{AllPay, IsAccepted, root, may_be_root, visits_within}
 use Rattle.capn_walk.specs.Limits.{Bounds}
 use Rattle.capn_walk.specs.Depth.{IsDepth, at_depth}
-use Rattle.capn_walk.specs.inner.Reach.{reach, reach_of, greatest_of}
+use Rattle.capn_walk.specs.inner.Reach.{reach, reach_of}
 use Rattle.capn_walk.proofs.DeepVisits.{reach-zero, reach-null, reach-cap, reach-fault, reach-object}
 use Rattle.capn_walk.proofs.RootWalks.{from-root}
 use Rattle.capn_walk.proofs.shared.Costs.{all-front, all-back}

@@ -10,6 +10,7 @@ pub mod UnderWay
 pub mod NeverNull
 pub mod DeepVisits
 pub mod Depths
+pub mod Heights
 pub mod FilledRoom
 pub mod RootIndexes
 pub mod IndexLaws

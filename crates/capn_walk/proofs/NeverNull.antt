@@ -13,7 +13,7 @@ use Rattle.capn_words.proofs.shared.Choices.{pick}
 use Rattle.capn_walk.specs.declared.target.Target.{Target}
 use Rattle.capn_walk.specs.declared.target.Target.TheVariants as targets
 use Rattle.capn_walk.specs.declared.target.Fault.{Fault}
-use Rattle.capn_walk.specs.Target.{within, list, struct, struct_from, list_from, near, second_pad, is_second_pad}
+use Rattle.capn_walk.specs.Target.{within, list, struct_from, list_from, near, second_pad, is_second_pad}
 use Rattle.capn_walk.specs.Target.{moved, two_pads, pointer_in, landing, named, target}
 
 -- what is named, if anything is, isn't null
