@@ -23,5 +23,6 @@ pub mod Stepped
 pub mod Showing
 pub mod WorkedValues
 pub mod WorkedIndexes
+pub mod WorkedDepths
 pub mod InRangeAt
 pub mod Answering
