@@ -65,7 +65,7 @@ pub fn survey<S: Space, A: Allocator + Copy>(
 }
 
 /// What [`survey`] answers, and the least depth under which the message is accepted with the other limits as they are:
-/// 0 if its root is null, else the number of objects that are one below another, the root's among them.
+/// 0 if its root is null, else how many objects are one below another at most, the root's among them.
 ///
 /// It is one walk, as [`survey`] is, and refuses what that refuses, in the same way. It takes no memory for a depth of
 /// at most 64; `Memory` comes only where a growth was refused.
