@@ -12,6 +12,7 @@ pub mod Flags
 pub mod Headline
 pub mod Holes
 pub mod InEachForm
+pub mod InPlace
 pub mod InRangeAt
 pub mod KeptLengths
 pub mod Laid
@@ -21,6 +22,7 @@ pub mod LayLengths
 pub mod OneBare
 pub mod OneSegment
 pub mod PackedBits
+pub mod PassLeads
 pub mod PackedBytes
 pub mod PackedElements
 pub mod Patched
