@@ -23,7 +23,7 @@ use Rattle.capn_walk.specs.ValueAt.{RowsAt, StandAt, IsInside}
 use Rattle.capn_walk.specs.Visits.{Visit, pays, fails, price, places, row_places, slots, visits, visits_of}
 use Rattle.capn_walk.proofs.shared.Costs.{paid-append}
 use Rattle.capn_walk.proofs.shared.Walks.{visits-null, visits-object, is-inside, inside-struct, inside-links, inside-rows}
-use Rattle.capn_canon.specs.Layout.{size, sizes, sizes_in_rows, row_size, struct_to, list_to}
+use Rattle.capn_canon.specs.Layout.{size, sizes, sizes_in_rows, row_size, struct_to, list_to, point}
 use Rattle.capn_canon.specs.inner.InPlace.{Pays, IsInPlace, AreInPlace, RowsInPlace}
 use Rattle.capn_canon.specs.inner.RowWords.{kept_each}
 use Rattle.capn_canon.specs.inner.Sound.{Sound, SoundRows, AreWide}
@@ -66,7 +66,7 @@ module _ (all : List ℕ) (base : ℕ) where
   abbrev only : List (List ℕ)
   only = all ∷ []
 
-  pays-object : (from d start price_below below : ℕ) (shape : Shape)
+  pub pays-object : (from d start price_below below : ℕ) (shape : Shape)
       → target only (here from) ≡ Ok (targets.Content 0 start shape 0) → 0 < d
       → Pays (flat_map (visits only base (d - 1)) (slots 0 start shape)) price_below below
       → Pays (visits only base d (here from)) (price base shape + price_below) (suc below)
@@ -178,6 +178,22 @@ module _ (all : List ℕ) (base : ℕ) where
       struct-ends = ap (λ (x : Trees). to + a + b + sizes x) (sym same-slots)
           ∙ struct-size all a b 0 to from to 0 struct-named small room order (node struct-words ss) inside-it sound-it
           fits ka kb word room
+
+  -- one of no words and no slots, wherever its pointer stands
+  pub empty-in-place : (from to d : ℕ) → from ≤ length all → 0 < d
+      → slice_index all from ≡ word_of (Node (negsuc 0) 0 0) → IsInPlace all base from to d (node [] no_trees) base 0
+  unfolding point
+  empty-in-place from to d room deep word =
+      let e = names-empty all from word room in
+      record {
+        is = record { segment = 0; start = from; pads = 0; is = e; inside = (refl, tt) };
+        laid = record { pointer = word; content = stand-none all to };
+        sound = (omega arith, omega arith, tt);
+        free = refl;
+        pays = pays-as _ (base + 0 + 0 + 0) base 1 1 (omega arith) refl
+            (pays-object from d from 0 0 (shapes.Node 0 0) e deep pays-none);
+        few = omega arith;
+      }
 
   -- ---- a list of pointers
 

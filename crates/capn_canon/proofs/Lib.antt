@@ -34,6 +34,7 @@ pub mod Sound
 pub mod StandsIn
 pub mod Tight
 pub mod Nulls
+pub mod NumbersInPlace
 pub mod Onward
 pub mod Pointed
 pub mod PointedLists
@@ -54,6 +55,7 @@ pub mod Standing
 pub mod Compared
 pub mod ComparedList
 pub mod ComparedRows
+pub mod CanonicalSurvey
 pub mod CanonicalWords
 pub mod FoundNear
 pub mod MemoryNeeds

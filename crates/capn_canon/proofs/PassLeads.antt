@@ -1,6 +1,6 @@
 -- What a pass finds at the slots in hand, from what it finds at the first of them, below it and after it.
 use Rattle.std.proofs.Common.{◌≡◌, ℕ, suc, ◌+◌, ◌-◌, ◌*◌, ◌^◌, ◌<◌, ◌≤◌, ◌==◌, List, [], ◌∷◌, length, take, drop}
-use Rattle.std.proofs.Common.{slice_index, refl, sym, subst, ◌∙◌, arith, pos, if◌then◌else◌}
+use Rattle.std.proofs.Common.{Option, Some, None, IfSome, slice_index, refl, sym, subst, ◌∙◌, arith, pos, negsuc, if◌then◌else◌}
 use Rattle.capn_words.specs.Pointers.{word_of}
 use Rattle.capn_words.specs.declared.pointer.Pointer.TheVariants.{Node}
 use Rattle.capn_words.specs.declared.pointer.Width.TheVariants.{Link, Rows}
@@ -13,8 +13,14 @@ use Rattle.capn_canon.specs.inner.InPlace.{AreInPlace, RowsInPlace, Comes, Finds
 use Rattle.capn_canon.specs.inner.InPlace.{Finds, Leads, IsOpen, HasObject}
 use Rattle.capn_canon.specs.inner.RowWords.{kept_each}
 use Rattle.capn_canon.proofs.InPlace.{null-in-place, no-slots-in-place, slots-in-place, struct-in-place, struct-ends}
+use Rattle.capn_canon.proofs.InPlace.{empty-in-place}
 use Rattle.capn_canon.proofs.InPlace.{links-in-place, no-rows-in-place, rows-in-place, composite-in-place}
 use Rattle.capn_canon.proofs.InPlace.{composite-ends}
+
+-- what is said of an answer, from what is known of it
+pub if-some : {A : Type 0} {P Q : A → Type 0} → (r : Option A) → ((x : A) → P x → Q x) → IfSome r P → IfSome r Q
+if-some (Some x) f h = f x h
+if-some None f h = tt
 
 -- the slots after the first
 abbrev pub behind : Pass → Progress → Pass
@@ -106,6 +112,13 @@ module _ (all : List ℕ) (base : ℕ) where
           };
         }
 
+  -- the pass goes on with those after it
+  pub goes-behind : (p : Pass) → p.from < p.end → IsOpen all p → (g : Progress) → FindsFirst all base p g → (r : Pass)
+      → r ≡ behind p g → (p.from < r.from) × IsOpen all r × Leads all base p r
+  goes-behind p some o g v r e =
+      subst (λ (s : Pass). (p.from < s.from) × IsOpen all s × Leads all base p s) (sym e)
+      (omega arith, behind-opened p some o g v, behind-leads p some o g v)
+
   -- where the first is the last, what is found at it is all
   pub last-leads : (p : Pass) → p.from + 1 ≡ p.end → IsOpen all p → (q : Progress) → FindsFirst all base p q
       → Finds all base p q
@@ -149,6 +162,26 @@ module _ (all : List ℕ) (base : ℕ) where
             visits_are = omega arith;
             fits = y.fits;
             few = y.few;
+          };
+        }
+
+    pub finds-empty : slice_index all p.from ≡ word_of (Node (negsuc 0) 0 0) → (g : Progress) → g.next ≡ p.next
+        → g.left + base ≡ p.left → g.visits ≡ p.visits + 0 → FindsFirst all base p g
+    finds-empty word g gn gl gv =
+        let lt = order in
+        let fits = o.opened.fits in
+        let few = o.opened.few in
+        record {
+          value = node [] no_trees;
+          price = base;
+          below = 0;
+          in_place = empty-in-place all base p.from p.next p.depth (omega arith) o.deep word;
+          comes = record {
+            next_is = omega arith;
+            left_is = omega arith;
+            visits_are = omega arith;
+            fits = omega arith;
+            few = omega arith;
           };
         }
 
