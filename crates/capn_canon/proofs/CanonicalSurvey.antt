@@ -1,5 +1,5 @@
 -- Words whose root is in place, and that end with what is below it, are accepted and canonical.
-use Rattle.std.proofs.Common.{◌≡◌, ℕ, suc, ◌+◌, ◌-◌, ◌<◌, ◌≤◌, true, List, [], ◌∷◌, ◌++◌, length, Option, Some, None}
+use Rattle.std.proofs.Common.{◌≡◌, ℕ, ◌+◌, ◌-◌, ◌<◌, true, List, [], ◌∷◌, ◌++◌, length, Option, Some, None}
 use Rattle.std.proofs.Common.{IsTrue, refl, ap, sym, subst, ◌∙◌, arith}
 use Rattle.std.specs.Option.{option_or}
 use Rattle.std.proofs.lemmas.List.{append-nil}
@@ -61,7 +61,7 @@ module _ (all : List ℕ) (limits : Bounds) (some : 0 < length all) (q : Progres
     (f : FindsSlots all (base limits.tariff) 0 1 1 limits.depth limits.budget 1 q) (ends : q.next ≡ length all)
     (c : SurveyedBare) (paid_is : c.paid ≡ limits.budget - q.left) (visits_are : c.visits ≡ q.visits)
     (capability : c.capability ≡ None) (yes : IsTrue c.is_canonical) where
-  value : Tree
+  abbrev value : Tree
   value = (one-of f.values f.count).0
 
   values : f.values ≡ tree value no_trees

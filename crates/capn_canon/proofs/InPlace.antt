@@ -1,18 +1,16 @@
 -- Objects that stand where their layout has them, put together from their parts, with what their visits pay.
-use Rattle.std.proofs.Common.{◌≡◌, ◌⊎◌, inl, inr, ℕ, zero, suc, ◌+◌, ◌-◌, ◌*◌, ◌^◌, ◌<◌, ◌≤◌, ◌==◌, List, [], ◌∷◌, ◌++◌}
-use Rattle.std.proofs.Common.{length, take, drop, slice_index, Option, Some, None, Ok, refl, ap, ap₂, sym, subst, ◌∙◌}
+use Rattle.std.proofs.Common.{◌≡◌, inl, inr, ℕ, suc, ◌+◌, ◌-◌, ◌*◌, ◌^◌, ◌<◌, ◌≤◌, ◌==◌, List, [], ◌∷◌, ◌++◌}
+use Rattle.std.proofs.Common.{length, take, drop, slice_index, Option, None, Ok, refl, ap, ap₂, sym, subst, ◌∙◌}
 use Rattle.std.proofs.Common.{arith, length-append, length-drop, pos, negsuc, if◌then◌else◌}
 use Rattle.std.specs.List.{flat_map}
 use Rattle.std.specs.Option.{option_or}
 use Rattle.std.proofs.lemmas.List.{length-take-le}
 use Rattle.std.proofs.lemmas.Grind.{flat_map-append}
 use Rattle.capn_words.specs.Pointers.{word_of}
-use Rattle.capn_words.specs.declared.space.Place.{Place}
 use Rattle.capn_words.specs.declared.pointer.Pointer.TheVariants.{Node}
 use Rattle.capn_words.specs.declared.pointer.Width.TheVariants.{Link, Rows}
 use Rattle.capn_value.specs.Tree.{Tree, nil, node, links, rows, Trees, no_trees, tree, Bodies, no_bodies, body, count}
 use Rattle.capn_value.specs.Tree.{count_rows}
-use Rattle.capn_value.specs.FirstCap.{first_in, first_in_rows}
 use Rattle.capn_value.specs.Trim.{kept_words, kept_words_of_rows, kept_slots_of_rows}
 use Rattle.capn_walk.specs.declared.target.Target.TheVariants as targets
 use Rattle.capn_walk.specs.declared.target.Shape.{Shape}
@@ -26,7 +24,7 @@ use Rattle.capn_walk.proofs.shared.Walks.{visits-null, visits-object, is-inside,
 use Rattle.capn_canon.specs.Layout.{size, sizes, sizes_in_rows, row_size, struct_to, list_to, point}
 use Rattle.capn_canon.specs.inner.InPlace.{Pays, IsInPlace, AreInPlace, RowsInPlace}
 use Rattle.capn_canon.specs.inner.RowWords.{kept_each}
-use Rattle.capn_canon.specs.inner.Sound.{Sound, SoundRows, AreWide}
+use Rattle.capn_canon.specs.inner.Sound.{Sound, AreWide}
 use Rattle.capn_canon.specs.inner.WordsOfLayout.{AreLaidAt, RowsLaidAt}
 use Rattle.capn_canon.proofs.Compared.{null-told, slots-both, struct-is, struct-from-slots, struct-size, links-is}
 use Rattle.capn_canon.proofs.Compared.{links-from-slots}
@@ -130,8 +128,11 @@ module _ (all : List ℕ) (base : ℕ) where
     struct-named : target only (here from) ≡ Ok (targets.Content 0 to (shapes.Node a b) 0)
     struct-named =
         let (start, is, is_at) = struct-names all small from to a b order room ha hb word in
-        let e : start ≡ to = elim is_at as (λ _. start ≡ to) [ inl x ↦ x | inr y ↦ let u = y.0 in let v = y.1 in
-        absurd (omega arith) ] in
+        let e : start ≡ to = elim is_at as (λ _. start ≡ to) [
+          | inl x ↦ x
+          | inr y ↦ let u = y.0 in let v = y.1 in
+              absurd (omega arith)
+        ] in
         is ∙ ap (λ (x : ℕ). Ok (targets.Content 0 x (shapes.Node a b) 0)) e
 
     abbrev pub struct-words : List ℕ
@@ -141,43 +142,43 @@ module _ (all : List ℕ) (base : ℕ) where
     long = let l = length-drop to all in length-take-le a (drop to all) (omega arith)
 
     module _ (ss : Trees) (p n : ℕ) (number : count ss ≡ b) (h : AreInPlace all base (to + a) (to + a + b) (d - 1) ss p n)
-        where
-      inside-it : IsInside only (shapes.Node a b) 0 to (node struct-words ss)
-      inside-it = inside-struct only 0 to (shapes.Node a b) a b struct-words ss refl long refl number h.are
+      where
+        inside-it : IsInside only (shapes.Node a b) 0 to (node struct-words ss)
+        inside-it = inside-struct only 0 to (shapes.Node a b) a b struct-words ss refl long refl number h.are
 
-      sound-it : Sound (node struct-words ss)
-      sound-it = let l = long in (omega arith, omega arith, h.sound)
+        sound-it : Sound (node struct-words ss)
+        sound-it = let l = long in (omega arith, omega arith, h.sound)
 
-      fits : to ≤ length all
-      fits = omega arith
+        fits : to ≤ length all
+        fits = omega arith
 
-      same-slots : (struct-is all a b 0 to from to 0 struct-named small room order (node struct-words ss) inside-it
-          sound-it fits).slots ≡ ss
-      same-slots =
-          let e = (struct-is all a b 0 to from to 0 struct-named small room order (node struct-words ss) inside-it
-          sound-it fits).is in
-          cc
+        same-slots : (struct-is all a b 0 to from to 0 struct-named small room order (node struct-words ss) inside-it
+            sound-it fits).slots ≡ ss
+        same-slots =
+            let e = (struct-is all a b 0 to from to 0 struct-named small room order (node struct-words ss) inside-it
+            sound-it fits).is in
+            cc
 
-      pub struct-in-place : IsInPlace all base from to d (node struct-words ss) (base + a + b + p) (b + n)
-      struct-in-place =
-          let below = subst (λ (x : ℕ). Pays (visits_of only base (d - 1) (places 0 (to + a) x)) p (x + n)) number
-          h.pays in
-          let f = h.few in
-          record {
-            is = is-inside only (here from) 0 to 0 (shapes.Node a b) (node struct-words ss) struct-named inside-it;
-            laid = struct-from-slots all a b 0 to from to 0 struct-named small room order (node struct-words ss)
-                inside-it sound-it fits ka kb word room
-                (subst (λ (x : Trees). AreLaidAt all x (to + a) (to + a + b)) (sym same-slots) h.laid);
-            sound = sound-it;
-            free = h.free;
-            pays = pays-object from d to p (b + n) (shapes.Node a b) struct-named deep below;
-            few = omega arith;
-          }
+        pub struct-in-place : IsInPlace all base from to d (node struct-words ss) (base + a + b + p) (b + n)
+        struct-in-place =
+            let below = subst (λ (x : ℕ). Pays (visits_of only base (d - 1) (places 0 (to + a) x)) p (x + n)) number
+            h.pays in
+            let f = h.few in
+            record {
+              is = is-inside only (here from) 0 to 0 (shapes.Node a b) (node struct-words ss) struct-named inside-it;
+              laid = struct-from-slots all a b 0 to from to 0 struct-named small room order (node struct-words ss)
+                  inside-it sound-it fits ka kb word room
+                  (subst (λ (x : Trees). AreLaidAt all x (to + a) (to + a + b)) (sym same-slots) h.laid);
+              sound = sound-it;
+              free = h.free;
+              pays = pays-object from d to p (b + n) (shapes.Node a b) struct-named deep below;
+              few = omega arith;
+            }
 
-      pub struct-ends : to + a + b + sizes ss ≡ to + size (node struct-words ss)
-      struct-ends = ap (λ (x : Trees). to + a + b + sizes x) (sym same-slots)
-          ∙ struct-size all a b 0 to from to 0 struct-named small room order (node struct-words ss) inside-it sound-it
-          fits ka kb word room
+        pub struct-ends : to + a + b + sizes ss ≡ to + size (node struct-words ss)
+        struct-ends = ap (λ (x : Trees). to + a + b + sizes x) (sym same-slots)
+            ∙ struct-size all a b 0 to from to 0 struct-named small room order (node struct-words ss) inside-it sound-it
+            fits ka kb word room
 
   -- one of no words and no slots, wherever its pointer stands
   pub empty-in-place : (from to d : ℕ) → from ≤ length all → 0 < d

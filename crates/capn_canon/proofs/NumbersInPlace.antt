@@ -1,6 +1,6 @@
 -- A list of numbers that stands where its layout has it.
-use Rattle.std.proofs.Common.{◌≡◌, ℕ, zero, suc, ◌+◌, ◌*◌, ◌/◌, ◌%◌, ◌^◌, ◌<◌, ◌≤◌, ◌==◌, Bool, List, [], ◌∷◌, length, take}
-use Rattle.std.proofs.Common.{drop, slice_index, map, None, Ok, refl, ap, sym, subst, ◌∙◌, arith, length-drop}
+use Rattle.std.proofs.Common.{◌≡◌, ℕ, zero, suc, ◌+◌, ◌*◌, ◌^◌, ◌<◌, ◌≤◌, ◌==◌, Bool, List, [], ◌∷◌, length, take}
+use Rattle.std.proofs.Common.{drop, slice_index, map, None, Ok, refl, ap, sym, ◌∙◌, arith, length-drop}
 use Rattle.std.specs.Int.{from_bool}
 use Rattle.std.proofs.lemmas.List.{length-take-le}
 use Rattle.capn_words.specs.Message.{IsMessage}
@@ -18,7 +18,7 @@ use Rattle.capn_walk.proofs.shared.Walks.{is-inside}
 use Rattle.capn_canon.specs.Layout.{size, list_to}
 use Rattle.capn_canon.specs.inner.FirstBits.{element_bits, first_bits}
 use Rattle.capn_canon.specs.inner.InPlace.{IsInPlace}
-use Rattle.capn_canon.specs.inner.Sound.{Sound, AreBelow}
+use Rattle.capn_canon.specs.inner.Sound.{Sound}
 use Rattle.capn_canon.specs.inner.WordsOfLayout.{Stand}
 use Rattle.capn_canon.proofs.ComparedList.{list-size, list-stands, plain-too}
 use Rattle.capn_canon.proofs.Copied.{part-below}

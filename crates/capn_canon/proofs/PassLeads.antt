@@ -9,7 +9,7 @@ use Rattle.capn_value.specs.Trim.{kept_words}
 use Rattle.capn_canon.specs.declared.progress.Progress.{Progress}
 use Rattle.capn_canon.specs.declared.progress.Pass.{Pass}
 use Rattle.capn_canon.specs.Layout.{size, sizes, struct_to, list_to}
-use Rattle.capn_canon.specs.inner.InPlace.{AreInPlace, RowsInPlace, Comes, FindsValue, FindsSlots, FindsRows, FindsFirst}
+use Rattle.capn_canon.specs.inner.InPlace.{AreInPlace, RowsInPlace, FindsSlots, FindsRows, FindsFirst}
 use Rattle.capn_canon.specs.inner.InPlace.{Finds, Leads, IsOpen, HasObject}
 use Rattle.capn_canon.specs.inner.RowWords.{kept_each}
 use Rattle.capn_canon.proofs.InPlace.{null-in-place, no-slots-in-place, slots-in-place, struct-in-place, struct-ends}

@@ -267,7 +267,9 @@ fn check_composite(space: &Bare<'_>, base: u32, span: u32, pass: Pass) -> Option
         segment: 0,
         word: first,
     };
-    if !are_rows_at(space, rows, tag.count, tag.words, tag.slots, pass.from, pass.next) {
+    if !are_rows_at(
+        space, rows, tag.count, tag.words, tag.slots, pass.from, pass.next,
+    ) {
         return None;
     }
     let without_size = if step == 0 { tag.count } else { 0 };

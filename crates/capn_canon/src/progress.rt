@@ -48,12 +48,12 @@ impl Pass {
     pub fn behind(self, progress: Progress) -> Pass
         requires { self.from < 2 ^ 29 }
         ensures { result ≡ record {
-            from = self.from + 1;
-            end = self.end;
-            depth = self.depth;
-            next = progress.next;
-            left = progress.left;
-            visits = progress.visits;
+          from = self.from + 1;
+          end = self.end;
+          depth = self.depth;
+          next = progress.next;
+          left = progress.left;
+          visits = progress.visits;
         } }
     {
         Pass {

@@ -1,7 +1,6 @@
 -- What one pass over words finds whose objects stand where their layout has them: which values these are, and what their
 -- walk pays.
-use Rattle.std.specs.Prelude.{◌≡◌, ◌≢◌, ℕ, suc, ◌+◌, ◌-◌, ◌*◌, ◌^◌, ◌<◌, ◌≤◌, List, [], ◌∷◌, length, slice_index, None}
-use Rattle.capn_words.specs.declared.space.Place.{Place}
+use Rattle.std.specs.Prelude.{◌≡◌, ℕ, suc, ◌+◌, ◌-◌, ◌*◌, ◌^◌, ◌<◌, ◌≤◌, List, [], ◌∷◌, length, slice_index, None}
 use Rattle.capn_words.specs.declared.pointer.Width.{Width}
 use Rattle.capn_value.specs.Tree.{Tree, Trees, Bodies, count, count_rows}
 use Rattle.capn_value.specs.FirstCap.{first_cap, first_in, first_in_rows}

@@ -1,4 +1,4 @@
-use Rattle.std.proofs.Common.{◌≡◌, ◌≢◌, ℕ, suc, ◌+◌, ◌-◌, ◌*◌, ◌^◌, ◌<◌, ◌≤◌, ◌==◌, [], ◌∷◌, length, slice_index, refl}
+use Rattle.std.proofs.Common.{◌≡◌, ◌≢◌, ℕ, suc, ◌+◌, ◌-◌, ◌*◌, ◌^◌, ◌≤◌, ◌==◌, [], ◌∷◌, length, refl}
 use Rattle.std.proofs.Common.{ap, sym, subst, ◌∙◌, arith, if◌then◌else◌}
 use Rattle.std.proofs.lemmas.Bool.Decides.{nat_tests}
 use Rattle.capn_words.specs.Pointers.{field}
@@ -187,9 +187,9 @@ check_composite-returns-in-Some t c =
     elim c.if-step-eq0.branch as (λ _. c.if-step-eq0.without_size
     ≡ (if g.words + g.slots == 0 then g.count else 0)) [
       | check_composite-then-step-eq0 w ↦
-        extra-yes (g.words + g.slots) g.count c.if-step-eq0.without_size w.if-step-eq0.true w.without_size-is
+          extra-yes (g.words + g.slots) g.count c.if-step-eq0.without_size w.if-step-eq0.true w.without_size-is
       | check_composite-else-step-eq0 w ↦
-        extra-no (g.words + g.slots) g.count c.if-step-eq0.without_size w.if-step-eq0.false w.without_size-is
+          extra-no (g.words + g.slots) g.count c.if-step-eq0.without_size w.if-step-eq0.false w.without_size-is
     ] in
     if-some c.check_rows.result
     (finds-composite all c.args.base p o small g.count g.words g.slots c.in-Some.progress (omega arith) (omega arith)

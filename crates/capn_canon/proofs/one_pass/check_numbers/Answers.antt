@@ -1,11 +1,10 @@
-use Rattle.std.proofs.Common.{◌≡◌, ℕ, ◌+◌, ◌*◌, ◌^◌, ◌≤◌, [], ◌∷◌, length, drop, ap, sym, subst, ◌∙◌, arith, refl}
-use Rattle.capn_words.specs.declared.pointer.Width.{Width}
+use Rattle.std.proofs.Common.{◌≡◌, ℕ, ◌+◌, ◌*◌, ◌^◌, ◌≤◌, [], ◌∷◌, length, drop, ap, subst, arith, refl}
 use Rattle.capn_walk.proofs.shared.Segments.{segment-room}
 use Rattle.capn_walk.specs.Visits.{price}
 use Rattle.capn_walk.specs.declared.target.Shape.TheVariants as shapes
-use Rattle.capn_canon.specs.inner.FirstBits.{element_bits, first_bits}
+use Rattle.capn_canon.specs.inner.FirstBits.{first_bits}
 use Rattle.capn_canon.specs.inner.WordsOfLayout.{Stand}
-use Rattle.capn_canon.proofs.NumbersInPlace.{numbers-value, numbers-in-place, numbers-end, price-none, price-some}
+use Rattle.capn_canon.proofs.NumbersInPlace.{numbers-in-place, numbers-end, price-none, price-some}
 use Rattle.capn_canon.proofs.PassLeads.{if-some}
 use Rattle.capn_canon.proofs.one_pass.check_numbers.Goals.{in-W0, in_default}
 use Rattle.capn_canon.proofs.one_pass.check_numbers.Goals as goal
@@ -35,7 +34,7 @@ returns c =
     ≡ c.args.base + c.div_ceil-words.result + c.match-width.without_size) [
       | in-W0 w ↦ let e = price-none c.args.base n k w.in-W0.is in let f = w.without_size-is in omega arith
       | in_default w ↦ let e = price-some c.args.base n k c.requires.plain w.in_default.not-W0 in
-      let f = w.without_size-is in omega arith
+          let f = w.without_size-is in omega arith
     ] in
     let v = numbers-in-place all c.args.base p.from p.next p.depth k n c.requires.message small c.requires.plain
     (omega arith) (omega arith) c.requires.list.few o.deep c.requires.list.word stand in
