@@ -20,7 +20,8 @@ use Rattle.capn_walk.specs.Accepted.{paid_of, AllPay}
 use Rattle.capn_walk.specs.ValueAt.{RowsAt, StandAt, IsInside}
 use Rattle.capn_walk.specs.Visits.{Visit, pays, fails, price, places, row_places, slots, visits, visits_of}
 use Rattle.capn_walk.proofs.shared.Costs.{paid-append}
-use Rattle.capn_walk.proofs.shared.Walks.{visits-null, visits-object, is-inside, inside-struct, inside-links, inside-rows}
+use Rattle.capn_walk.proofs.shared.Walks.{visits-null, visits-object, is-inside, inside-struct, inside-links}
+use Rattle.capn_walk.proofs.shared.Walks.{inside-rows}
 use Rattle.capn_canon.specs.Layout.{size, sizes, sizes_in_rows, row_size, struct_to, list_to, point}
 use Rattle.capn_canon.specs.inner.InPlace.{Pays, IsInPlace, AreInPlace, RowsInPlace}
 use Rattle.capn_canon.specs.inner.RowWords.{kept_each}
@@ -141,44 +142,44 @@ module _ (all : List ℕ) (base : ℕ) where
     long : length struct-words ≡ a
     long = let l = length-drop to all in length-take-le a (drop to all) (omega arith)
 
-    module _ (ss : Trees) (p n : ℕ) (number : count ss ≡ b) (h : AreInPlace all base (to + a) (to + a + b) (d - 1) ss p n)
-      where
-        inside-it : IsInside only (shapes.Node a b) 0 to (node struct-words ss)
-        inside-it = inside-struct only 0 to (shapes.Node a b) a b struct-words ss refl long refl number h.are
+    module _ (ss : Trees) (p n : ℕ) (number : count ss ≡ b)
+        (h : AreInPlace all base (to + a) (to + a + b) (d - 1) ss p n) where
+      inside-it : IsInside only (shapes.Node a b) 0 to (node struct-words ss)
+      inside-it = inside-struct only 0 to (shapes.Node a b) a b struct-words ss refl long refl number h.are
 
-        sound-it : Sound (node struct-words ss)
-        sound-it = let l = long in (omega arith, omega arith, h.sound)
+      sound-it : Sound (node struct-words ss)
+      sound-it = let l = long in (omega arith, omega arith, h.sound)
 
-        fits : to ≤ length all
-        fits = omega arith
+      fits : to ≤ length all
+      fits = omega arith
 
-        same-slots : (struct-is all a b 0 to from to 0 struct-named small room order (node struct-words ss) inside-it
-            sound-it fits).slots ≡ ss
-        same-slots =
-            let e = (struct-is all a b 0 to from to 0 struct-named small room order (node struct-words ss) inside-it
-            sound-it fits).is in
-            cc
+      same-slots : (struct-is all a b 0 to from to 0 struct-named small room order (node struct-words ss) inside-it
+          sound-it fits).slots ≡ ss
+      same-slots =
+          let e = (struct-is all a b 0 to from to 0 struct-named small room order (node struct-words ss) inside-it
+          sound-it fits).is in
+          cc
 
-        pub struct-in-place : IsInPlace all base from to d (node struct-words ss) (base + a + b + p) (b + n)
-        struct-in-place =
-            let below = subst (λ (x : ℕ). Pays (visits_of only base (d - 1) (places 0 (to + a) x)) p (x + n)) number
-            h.pays in
-            let f = h.few in
-            record {
-              is = is-inside only (here from) 0 to 0 (shapes.Node a b) (node struct-words ss) struct-named inside-it;
-              laid = struct-from-slots all a b 0 to from to 0 struct-named small room order (node struct-words ss)
-                  inside-it sound-it fits ka kb word room
-                  (subst (λ (x : Trees). AreLaidAt all x (to + a) (to + a + b)) (sym same-slots) h.laid);
-              sound = sound-it;
-              free = h.free;
-              pays = pays-object from d to p (b + n) (shapes.Node a b) struct-named deep below;
-              few = omega arith;
-            }
+      pub struct-in-place : IsInPlace all base from to d (node struct-words ss) (base + a + b + p) (b + n)
+      struct-in-place =
+          let below = subst (λ (x : ℕ). Pays (visits_of only base (d - 1) (places 0 (to + a) x)) p (x + n)) number
+          h.pays in
+          let f = h.few in
+          record {
+            is = is-inside only (here from) 0 to 0 (shapes.Node a b) (node struct-words ss) struct-named inside-it;
+            laid = struct-from-slots all a b 0 to from to 0 struct-named small room order (node struct-words ss)
+                inside-it sound-it fits ka kb word room
+                (subst (λ (x : Trees). AreLaidAt all x (to + a) (to + a + b)) (sym same-slots) h.laid);
+            sound = sound-it;
+            free = h.free;
+            pays = pays-object from d to p (b + n) (shapes.Node a b) struct-named deep below;
+            few = omega arith;
+          }
 
-        pub struct-ends : to + a + b + sizes ss ≡ to + size (node struct-words ss)
-        struct-ends = ap (λ (x : Trees). to + a + b + sizes x) (sym same-slots)
-            ∙ struct-size all a b 0 to from to 0 struct-named small room order (node struct-words ss) inside-it sound-it
-            fits ka kb word room
+      pub struct-ends : to + a + b + sizes ss ≡ to + size (node struct-words ss)
+      struct-ends = ap (λ (x : Trees). to + a + b + sizes x) (sym same-slots)
+          ∙ struct-size all a b 0 to from to 0 struct-named small room order (node struct-words ss) inside-it sound-it
+          fits ka kb word room
 
   -- one of no words and no slots, wherever its pointer stands
   pub empty-in-place : (from to d : ℕ) → from ≤ length all → 0 < d
@@ -340,7 +341,8 @@ module _ (all : List ℕ) (base from to d n a b : ℕ) (small : length all ≤ 2
   pub composite-in-place : IsInPlace all base from to d (rows bs)
       (base + 1 + n * (a + b) + (if a + b == 0 then n else 0) + p) (n * b + k)
   composite-in-place =
-      let below = subst (λ (x : ℕ). Pays (visits_of (all ∷ []) base (d - 1) (row_places 0 (to + 1) a b x)) p (x * b + k))
+      let below =
+      subst (λ (x : ℕ). Pays (visits_of (all ∷ []) base (d - 1) (row_places 0 (to + 1) a b x)) p (x * b + k))
       number h.pays in
       let f = h.few in
       let m : n * (a + b) ≡ n * a + n * b = omega arith in
@@ -352,7 +354,8 @@ module _ (all : List ℕ) (base from to d n a b : ℕ) (small : length all ≤ 2
             (subst (λ (x : Bodies). RowsLaidAt all a b x (to + 1) (to + 1 + n * (a + b))) (sym same-rows) h.laid);
         sound = composite-sound;
         free = h.free;
-        pays = pays-object all base from d to p (n * b + k) (shapes.Rows n a b (n * (a + b))) composite-named deep below;
+        pays = pays-object all base from d to p (n * b + k) (shapes.Rows n a b (n * (a + b))) composite-named deep
+            below;
         few = omega arith;
       }
 

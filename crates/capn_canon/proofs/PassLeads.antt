@@ -1,6 +1,7 @@
 -- What a pass finds at the slots in hand, from what it finds at the first of them, below it and after it.
 use Rattle.std.proofs.Common.{◌≡◌, ℕ, suc, ◌+◌, ◌-◌, ◌*◌, ◌^◌, ◌<◌, ◌≤◌, ◌==◌, List, [], ◌∷◌, length, take, drop}
-use Rattle.std.proofs.Common.{Option, Some, None, IfSome, slice_index, refl, sym, subst, ◌∙◌, arith, pos, negsuc, if◌then◌else◌}
+use Rattle.std.proofs.Common.{Option, Some, None, IfSome, slice_index, refl, sym, subst, ◌∙◌, arith, pos, negsuc}
+use Rattle.std.proofs.Common.{if◌then◌else◌}
 use Rattle.capn_words.specs.Pointers.{word_of}
 use Rattle.capn_words.specs.declared.pointer.Pointer.TheVariants.{Node}
 use Rattle.capn_words.specs.declared.pointer.Width.TheVariants.{Link, Rows}
@@ -156,7 +157,8 @@ module _ (all : List ℕ) (base : ℕ) where
           in_place = struct-in-place all base p.from p.next p.depth a b small order room ha hb some o.deep word ka kb
               f.values f.price f.below number below;
           comes = record {
-            next_is = yn ∙ subst (λ (k : ℕ). k + sizes f.values ≡ p.next + size (node (take a (drop p.next all)) f.values))
+            next_is = yn ∙ subst (λ (k : ℕ). k + sizes f.values
+                ≡ p.next + size (node (take a (drop p.next all)) f.values))
                 (sym gn) ends;
             left_is = omega arith;
             visits_are = omega arith;
@@ -203,8 +205,8 @@ module _ (all : List ℕ) (base : ℕ) where
           value = links f.values;
           price = base + n + f.price;
           below = n + f.below;
-          in_place = links-in-place all base p.from p.next p.depth n small order room few_of o.deep word f.values f.price
-              f.below number below;
+          in_place = links-in-place all base p.from p.next p.depth n small order room few_of o.deep word f.values
+              f.price f.below number below;
           comes = record {
             next_is = omega arith;
             left_is = omega arith;
@@ -229,8 +231,8 @@ module _ (all : List ℕ) (base : ℕ) where
         let yv = y.visits_are in
         let below = subst (λ (k : ℕ). RowsInPlace all base a b (p.next + 1) k (p.depth - 1) f.values f.price f.below) gn
         f.in_place in
-        let ends = composite-ends all base p.from p.next p.depth n a b small order room few_of ha hb span o.deep word tag
-        ka kb f.values f.price f.below f.count below in
+        let ends = composite-ends all base p.from p.next p.depth n a b small order room few_of ha hb span o.deep word
+        tag ka kb f.values f.price f.below f.count below in
         record {
           value = rows f.values;
           price = base + 1 + n * (a + b) + (if a + b == 0 then n else 0) + f.price;
@@ -288,8 +290,8 @@ module _ (all : List ℕ) (base : ℕ) where
         count = omega arith;
         price = v.price + f.price;
         below = v.below + f.below;
-        in_place = rows-in-place all base a b from next d v.values f.values v.price f.price v.below f.below inside v.count
-            v.in_place rest;
+        in_place = rows-in-place all base a b from next d v.values f.values v.price f.price v.below f.below inside
+            v.count v.in_place rest;
         comes = record {
           next_is = omega arith;
           left_is = omega arith;

@@ -1,5 +1,5 @@
--- What one pass over words finds whose objects stand where their layout has them: which values these are, and what their
--- walk pays.
+-- What one pass over words finds whose objects stand where their layout has them: which values these are, and what
+-- their walk pays.
 use Rattle.std.specs.Prelude.{◌≡◌, ℕ, suc, ◌+◌, ◌-◌, ◌*◌, ◌^◌, ◌<◌, ◌≤◌, List, [], ◌∷◌, length, slice_index, None}
 use Rattle.capn_words.specs.declared.pointer.Width.{Width}
 use Rattle.capn_value.specs.Tree.{Tree, Trees, Bodies, count, count_rows}
@@ -95,8 +95,8 @@ module _ (all : List ℕ) (base : ℕ) where
   abbrev pub Leads : Pass → Pass → Type 0
   Leads p r = (q : Progress) → Finds r q → Finds p q
 
--- the slots in hand stand below the next free word, which is no word past the end, and no more slots were met than words
--- (Own.)
+-- the slots in hand stand below the next free word, which is no word past the end, and no more slots were met than
+-- words (Own.)
 pub record IsOpen (all : List ℕ) (p : Pass) : Type 0 where
   pub order : p.from ≤ p.end
   pub before : p.end ≤ p.next
