@@ -12,6 +12,7 @@ pub mod Flags
 pub mod Headline
 pub mod Holes
 pub mod InEachForm
+pub mod InPlace
 pub mod InRangeAt
 pub mod KeptLengths
 pub mod Laid
@@ -21,6 +22,7 @@ pub mod LayLengths
 pub mod OneBare
 pub mod OneSegment
 pub mod PackedBits
+pub mod PassLeads
 pub mod PackedBytes
 pub mod PackedElements
 pub mod Patched
@@ -32,6 +34,7 @@ pub mod Sound
 pub mod StandsIn
 pub mod Tight
 pub mod Nulls
+pub mod NumbersInPlace
 pub mod Onward
 pub mod Pointed
 pub mod PointedLists
@@ -52,6 +55,7 @@ pub mod Standing
 pub mod Compared
 pub mod ComparedList
 pub mod ComparedRows
+pub mod CanonicalSurvey
 pub mod CanonicalWords
 pub mod FoundNear
 pub mod MemoryNeeds

@@ -18,6 +18,7 @@ ghost use Rattle.capn_canon.specs.inner.ReadyPlaces.{IsReady};
 ghost use Rattle.capn_canon.specs.BareVerdict.{SaysCanonical, IsBareSurvey};
 
 use crate::layout_test::check_run;
+use crate::one_pass::survey_canonical;
 use crate::own_words_test::words_of;
 use crate::refusal::Refusal;
 use crate::run::Run;
@@ -45,7 +46,8 @@ pub fn are_canonical(space: &Bare<'_>) -> bool
 }
 
 /// What the walk of a bare message pays and visits within the limits, its first capability, and whether its
-/// bytes are canonical. The message is surveyed once.
+/// bytes are canonical. Canonical bytes are passed over once; only where the pass finds a word out of place, or a limit
+/// passed, is the message surveyed.
 ///
 /// It refuses what the walk refuses, in the same way. It takes no memory for a depth of at most 64; `Memory`
 /// comes only where a growth was refused.
@@ -71,6 +73,9 @@ pub fn survey_bare<A: Allocator + Copy>(
     let _segments = space.segments();
     let _budget = limits.budget();
     let _depth = limits.depth();
+    if let Some(told) = survey_canonical(space, limits) {
+        return Ok(told);
+    }
     let told = survey(alloc, space, limits)?;
     let is_canonical = match told.capability {
         Some(_) => false,

@@ -48,7 +48,7 @@ pub fn leads_to(word: u64, from: u32, next: u32) -> bool
 
 /// Whether `count` words from a place on are all kept: the last of them, if any, is not zero.
 #[inline(always)]
-fn is_kept(space: &Bare<'_>, at: u32, count: u32) -> bool
+pub fn is_kept(space: &Bare<'_>, at: u32, count: u32) -> bool
     requires inside { at + count ≤ length space.now }
     requires room { length space.now ≤ 2 ^ 29 }
     ensures { IsTrue result ↔ (kept_words (take count (drop at space.now)) ≡ count) }
@@ -57,7 +57,7 @@ fn is_kept(space: &Bare<'_>, at: u32, count: u32) -> bool
 }
 
 /// The pointer to a struct of no words and no slots: its offset is -1. (Page: canonicalization.)
-const EMPTY: u64 = 0xffff_fffc;
+pub const EMPTY: u64 = 0xffff_fffc;
 
 /// Whether the pointer at the first slot of a run, to a struct of `words` words and `slots` slots, is the one to the
 /// next free word, and the struct keeps all of them.

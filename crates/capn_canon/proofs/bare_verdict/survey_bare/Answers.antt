@@ -1,9 +1,17 @@
-use Rattle.std.proofs.Common.{◌≤◌, [], ◌∷◌, length, sym, ◌∙◌, arith, refl}
+use Rattle.std.proofs.Common.{◌≤◌, [], ◌∷◌, length, sym, ◌∙◌, arith, ap, refl}
 use Rattle.capn_words.specs.Message.{bytes, most_words}
+use Rattle.capn_value.specs.FirstCap.{first_cap}
+use Rattle.capn_walk.specs.Accepted.{root}
+use Rattle.capn_walk.proofs.shared.Unique.{unique}
 use Rattle.capn_canon.proofs.Headline.{denoted_fits, denoted_in_range}
 use Rattle.capn_canon.proofs.AtRoot.{root-ready}
 use Rattle.capn_canon.proofs.CanonicalWords.{bytes-words}
 use Rattle.capn_canon.proofs.bare_verdict.survey_bare.Goals as goal
+
+pub returns-in-Some-clause-only : goal.returns-in-Some-clause-only
+returns-in-Some-clause-only g c v h =
+    let f = c.in-Some.ensures.found in
+    f.capability ∙ ap first_cap (unique (c.args.space.now ∷ []) f.value v root f.is.is h.is)
 
 pub are_canonical-is_canonical-requires-clause-ready : goal.are_canonical-is_canonical-requires-clause-ready
 are_canonical-is_canonical-requires-clause-ready g c =
