@@ -15,6 +15,7 @@ mod end_of_archive;
 mod fault;
 mod findings;
 mod head;
+mod line;
 mod lines;
 mod needs;
 mod sieve;
