@@ -9,7 +9,6 @@
 mod archive_run;
 mod archivist;
 mod canonical_frame;
-mod depth;
 mod digest;
 mod end_of_archive;
 mod fault;

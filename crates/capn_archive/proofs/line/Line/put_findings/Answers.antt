@@ -16,4 +16,5 @@ returns-clause-findings c =
     c.put_named.ensures.named in
     let visits = both_before (codes " visits ") (decimal f.checked.visits) _ old _ c.put_named-2.new.self depth
     c.put_named-2.ensures.named in
-    both_before (codes "paid ") (decimal f.checked.paid) _ old _ c.put_named-3.new.self visits c.put_named-3.ensures.named
+    both_before (codes "paid ") (decimal f.checked.paid) _ old _ c.put_named-3.new.self visits
+    c.put_named-3.ensures.named
