@@ -32,7 +32,7 @@ none-first None e = refl
 none-first (Some k) e = e
 
 -- a value without capabilities may be a root
-free-root : (v : Tree) → first_cap v ≡ None → is_root v ≡ true
+pub free-root : (v : Tree) → first_cap v ≡ None → is_root v ≡ true
 free-root nil e = refl
 free-root (node ws ss) e = refl
 free-root (cap k) e = absurd cc

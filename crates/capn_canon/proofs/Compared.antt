@@ -296,7 +296,7 @@ module _ (all : List ℕ) (n s w from to pads : ℕ)
   pub links-few : n < 2 ^ 29
   links-few = let c = links-is.count in let d = links-sound.0 in omega arith
 
-  size-is : size v ≡ n + sizes links-is.slots
+  pub size-is : size v ≡ n + sizes links-is.slots
   size-is = ap size links-is.is ∙ ap (λ (k : ℕ). k + sizes links-is.slots) links-is.count
 
   pointer-is : point v from to ≡ list_to from to Link n

@@ -299,10 +299,10 @@ module _ (all : List ℕ) (n a b span s w from to pads : ℕ)
       (kb : kept_each (all ∷ []) s (w + 1 + a) b (a + b) n ≡ b)
       (p : slice_index all from ≡ list_to from to Rows (n * (a + b)))
       (room : to + (1 + n * (a + b)) ≤ length all) (t : slice_index all to ≡ word_of (Node (pos n) a b)) where
-    kw : kept_words_of_rows rows-is.bodies ≡ a
+    pub kw : kept_words_of_rows rows-is.bodies ≡ a
     kw = ex ∙ ka
 
-    ks : kept_slots_of_rows rows-is.bodies ≡ b
+    pub ks : kept_slots_of_rows rows-is.bodies ≡ b
     ks = ey ∙ kb
 
     total : count_rows rows-is.bodies * row_size rows-is.bodies ≡ n * (a + b)
@@ -382,7 +382,7 @@ module _ (all : List ℕ) (n a b span s w from to pads : ℕ)
               (subst (λ (k : ℕ). Stand all k (rc ++ lr)) u x));
         }
 
-    rows-size : to + 1 + n * (a + b) + sizes_in_rows rows-is.bodies ≡ to + size v
+    pub rows-size : to + 1 + n * (a + b) + sizes_in_rows rows-is.bodies ≡ to + size v
     rows-size = let z : size v ≡ 1 + count_rows rows-is.bodies * row_size rows-is.bodies
         + sizes_in_rows rows-is.bodies = ap size rows-is.is in let q = total in omega arith
 

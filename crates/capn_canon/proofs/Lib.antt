@@ -7,6 +7,12 @@ pub mod Bytes
 pub mod CanonOfTrimmed
 pub mod Cells
 pub mod Drafted
+pub mod DueComposite
+pub mod DueLists
+pub mod DueObjects
+pub mod DueRoot
+pub mod DueSlots
+pub mod DueWords
 pub mod EqualExactlySame
 pub mod Flags
 pub mod Headline

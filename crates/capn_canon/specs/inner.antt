@@ -1,6 +1,7 @@
 -- What no public clause cites.
 pub mod FirstBits
 pub mod Draft
+pub mod Due
 pub mod InPlace
 pub mod LayoutSteps
 pub mod OwnWords

@@ -1,6 +1,6 @@
 //! How far one pass over the words of a layout has come.
 
-ghost use Rattle.std.specs.Prelude.{◌≡◌, ◌+◌, ◌-◌, ◌^◌, ◌<◌, ◌≤◌, IfSome};
+ghost use Rattle.std.specs.Prelude.{◌≡◌, ◌+◌, ◌-◌, ◌^◌, ◌<◌, ◌≤◌, IfSome, IsSome};
 
 /// How far a pass has come.
 #[derive(Clone, Copy)]
@@ -71,8 +71,9 @@ impl Pass {
     #[inline(always)]
     pub fn paid(self, price: u64, end: u32, slots: u32) -> Option<Progress>
         requires { self.visits + slots < 2 ^ 32 }
-        ensures { IfSome result (λ q.
+        ensures found { IfSome result (λ q.
             (q.next ≡ end) × (q.left + price ≡ self.left) × (q.visits ≡ self.visits + slots)) }
+        ensures only { price ≤ self.left → IsSome result }
     {
         if price > self.left as u64 {
             return None;
