@@ -1,7 +1,7 @@
 -- What is due at a slot whose word is the pointer to a list of structs: its tag and rows stand at the next free word,
 -- there is room for them, they can be paid, and what is below them is due.
-use Rattle.std.proofs.Common.{◌≡◌, ℕ, suc, ◌+◌, ◌-◌, ◌*◌, ◌^◌, ◌<◌, ◌≤◌, ◌==◌, List, [], ◌∷◌, length, slice_index, Ok}
-use Rattle.std.proofs.Common.{pos, refl, ap, sym, subst, ◌∙◌, arith, if◌then◌else◌}
+use Rattle.std.proofs.Common.{◌≡◌, ℕ, ◌+◌, ◌-◌, ◌*◌, ◌^◌, ◌<◌, ◌≤◌, List, [], ◌∷◌, length, slice_index, Ok}
+use Rattle.std.proofs.Common.{pos, refl, ap, sym, subst, ◌∙◌, arith}
 use Rattle.capn_words.specs.Message.{segment_at}
 use Rattle.capn_words.specs.Pointers.{field, word_of}
 use Rattle.capn_words.specs.declared.pointer.Pointer.TheVariants.{Node}
@@ -15,7 +15,7 @@ use Rattle.capn_walk.specs.Target.{target}
 use Rattle.capn_walk.specs.ValueAt.{IsInside}
 use Rattle.capn_walk.specs.Visits.{price, row_places, visits_of}
 use Rattle.capn_walk.proofs.shared.Inside.{inside}
-use Rattle.capn_canon.specs.Layout.{sizes_in_rows, list_to, point}
+use Rattle.capn_canon.specs.Layout.{list_to, point}
 use Rattle.capn_canon.specs.inner.Due.{IsDue, DueValue, DueRows}
 use Rattle.capn_canon.specs.inner.RowWords.{kept_each}
 use Rattle.capn_canon.proofs.ComparedRows.{rows-is, rows-sound, rows-passes, rows-here, rows-to-slots, rows-size}
@@ -34,6 +34,7 @@ pub record DueTagged (all : List ℕ) (base from to d left span : ℕ) : Type 0 
   pub narrow : a < 2 ^ 16
   pub short : b < 2 ^ 16
   pub whole : span ≡ n * (a + b)
+  pub word : slice_index all from ≡ list_to from to Rows (n * (a + b))
   pub words_kept : kept_each (all ∷ []) 0 (to + 1) a (a + b) n ≡ a
   pub slots_kept : kept_each (all ∷ []) 0 (to + 1 + a) b (a + b) n ≡ b
   pub room : to + (1 + n * (a + b)) ≤ length all
@@ -53,7 +54,8 @@ module _ (all : List ℕ) (base from to d left span : ℕ) (h : DueValue all bas
 
   list : (bs : Bodies) × (h.value ≡ rows bs)
   list = let f = fits in
-      rows-of (all ∷ []) (here from) from to order (omega arith) Rows span few h.value h.due.free h.due.sound pointed refl
+      rows-of (all ∷ []) (here from) from to order (omega arith) Rows span few h.value h.due.free h.due.sound pointed
+      refl
 
   due : IsDue all base from to d left (rows list.0)
   due = subst (λ (v : Tree). IsDue all base from to d left v) list.1 h.due
@@ -149,6 +151,7 @@ module _ (all : List ℕ) (base from to d left span : ℕ) (h : DueValue all bas
         narrow = narrow;
         short = short;
         whole = omega arith;
+        word = passes.2;
         words_kept = words-kept;
         slots_kept = slots-kept;
         room = passes.3;

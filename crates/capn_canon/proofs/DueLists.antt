@@ -1,11 +1,10 @@
--- What is due at a slot whose word is the pointer to a list: the list stands at the next free word, there is room for it,
--- it can be paid, and what is below it is due.
-use Rattle.std.proofs.Common.{◌≡◌, ℕ, ◌+◌, ◌-◌, ◌*◌, ◌^◌, ◌<◌, ◌≤◌, List, [], ◌∷◌, length, drop, slice_index, Ok, refl}
+-- What is due at a slot whose word is the pointer to a list: the list stands at the next free word, there is room for
+-- it, it can be paid, and what is below it is due.
+use Rattle.std.proofs.Common.{◌≡◌, ℕ, ◌+◌, ◌-◌, ◌*◌, ◌^◌, ◌<◌, ◌≤◌, List, [], ◌∷◌, length, drop, slice_index}
 use Rattle.std.proofs.Common.{ap, sym, subst, ◌∙◌, arith}
 use Rattle.capn_words.specs.Message.{IsMessage, segment_at}
 use Rattle.capn_words.specs.declared.pointer.Width.{Width}
 use Rattle.capn_words.specs.declared.pointer.Width.TheVariants.{Link, Rows}
-use Rattle.capn_value.specs.Tree.{Tree}
 use Rattle.capn_value.specs.FirstCap.{first_cap}
 use Rattle.capn_walk.specs.declared.target.Target.TheVariants as targets
 use Rattle.capn_walk.specs.declared.target.Shape.TheVariants as shapes
@@ -15,7 +14,7 @@ use Rattle.capn_walk.specs.Target.{content_words, target, words_for}
 use Rattle.capn_walk.specs.ValueAt.{IsInside}
 use Rattle.capn_walk.specs.Visits.{price, places, visits_of}
 use Rattle.capn_walk.proofs.shared.Inside.{inside}
-use Rattle.capn_canon.specs.Layout.{sizes, list_to, point}
+use Rattle.capn_canon.specs.Layout.{list_to, point}
 use Rattle.capn_canon.specs.inner.Due.{DueValue, DueSlots}
 use Rattle.capn_canon.specs.inner.FirstBits.{element_bits, first_bits}
 use Rattle.capn_canon.specs.inner.WordsOfLayout.{Stand}
@@ -92,7 +91,8 @@ module _ (all : List ℕ) (base from to d left : ℕ) (h : DueValue all base fro
   fits = list-fits all base from to d left h small order deep Link n few word
 
   room : to + n ≤ length all
-  room = (links-passes all n names.0 names.1 from to names.2 names.3 small order h.value it h.due.sound fits h.due.laid).1
+  room = (links-passes all n names.0 names.1 from to names.2 names.3 small order h.value it h.due.sound fits
+      h.due.laid).1
 
   pub due-links : DueLinks all base to n d left
   due-links =

@@ -1,12 +1,13 @@
 -- Where words are accepted and canonical, the value at their root is due, and nothing stands after it.
-use Rattle.std.proofs.Common.{◌≡◌, ℕ, ◌+◌, ◌^◌, ◌<◌, ◌≤◌, List, [], ◌∷◌, ◌++◌, length, Option, None, refl, ap, sym, subst, arith}
+use Rattle.std.proofs.Common.{◌≡◌, ℕ, ◌+◌, ◌^◌, ◌<◌, ◌≤◌, List, [], ◌∷◌, length, Option, None}
+use Rattle.std.proofs.Common.{refl, ap, sym, subst, arith}
 use Rattle.std.specs.Option.{option_or}
 use Rattle.std.proofs.lemmas.List.{append-nil}
 use Rattle.capn_words.specs.Message.{IsMessage, bytes, most_words}
 use Rattle.capn_value.specs.Tree.{Tree, no_trees, tree}
 use Rattle.capn_value.specs.Cost.{base}
 use Rattle.capn_value.specs.FirstCap.{first_cap}
-use Rattle.capn_walk.specs.Accepted.{root, root_visits, IsValueOf, IsWithin}
+use Rattle.capn_walk.specs.Accepted.{root, IsValueOf, IsWithin}
 use Rattle.capn_walk.specs.Limits.{Bounds}
 use Rattle.capn_walk.specs.Visits.{Visit, visits}
 use Rattle.capn_walk.proofs.shared.Unique.{unique-slots}

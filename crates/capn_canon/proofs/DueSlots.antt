@@ -1,7 +1,6 @@
 -- What is due at slots is due at the first of them, and, once that is found, at those after it.
-use Rattle.std.proofs.Common.{◌≡◌, ℕ, zero, suc, ◌+◌, ◌-◌, ◌<◌, ◌≤◌, List, [], ◌∷◌, ◌++◌, length, take, drop, Option}
+use Rattle.std.proofs.Common.{◌≡◌, ℕ, suc, ◌+◌, ◌-◌, ◌<◌, List, [], ◌∷◌, ◌++◌, length, Option}
 use Rattle.std.proofs.Common.{Some, None, refl, ap, sym, subst, ◌∙◌, arith}
-use Rattle.std.specs.List.{flat_map}
 use Rattle.std.specs.Option.{option_or}
 use Rattle.std.proofs.lemmas.Grind.{flat_map-append}
 use Rattle.capn_value.specs.Tree.{Tree, Trees, no_trees, tree, count, Bodies, no_bodies, body, count_rows}
@@ -13,9 +12,8 @@ use Rattle.capn_walk.proofs.shared.Unique.{unique, unique-slots}
 use Rattle.capn_canon.specs.declared.progress.Progress.{Progress}
 use Rattle.capn_canon.specs.declared.progress.Pass.{Pass}
 use Rattle.capn_canon.specs.Layout.{size, sizes}
-use Rattle.capn_canon.specs.inner.Due.{IsDue, AreDue, RowsAreDue, DueValue, DueSlots, DueRows, DueFirst, Due}
+use Rattle.capn_canon.specs.inner.Due.{IsDue, AreDue, RowsAreDue, DueSlots, DueRows, DueFirst, Due}
 use Rattle.capn_canon.specs.inner.InPlace.{FindsSlots, FindsFirst, IsOpen}
-use Rattle.capn_canon.specs.inner.WordsOfLayout.{AreLaidAt, RowsLaidAt}
 use Rattle.capn_canon.proofs.Compared.{slots-first, slots-others}
 use Rattle.capn_canon.proofs.ComparedRows.{row-first, row-others}
 use Rattle.capn_canon.proofs.OneSegment.{here}

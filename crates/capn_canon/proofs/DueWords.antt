@@ -1,6 +1,6 @@
 -- Which value a word of a layout points to, by its lowest bits, and what its fields are.
 use Rattle.std.proofs.Common.{◌≡◌, ◌≢◌, ◌⊎◌, inl, inr, ℕ, zero, suc, ◌+◌, ◌-◌, ◌*◌, ◌%◌, ◌^◌, ◌<◌, ◌≤◌, ◌==◌, ◌&&◌}
-use Rattle.std.proofs.Common.{Bool, true, false, if◌then◌else◌, List, length, None, Ok, pos, negsuc, refl, ap, sym, subst}
+use Rattle.std.proofs.Common.{Bool, true, false, if◌then◌else◌, List, length, None, Ok, pos, negsuc, refl, ap, sym}
 use Rattle.std.proofs.Common.{◌∙◌, arith}
 use Rattle.std.proofs.lemmas.Bool.Decides.{nat_tests}
 use Rattle.capn_words.specs.Pointers.{word_of, field, pointer_of}

@@ -41,11 +41,6 @@ pub mod StandsIn
 pub mod Tight
 pub mod Nulls
 pub mod NumbersInPlace
-pub mod Onward
-pub mod Pointed
-pub mod PointedLists
-pub mod PointedRows
-pub mod PointedStructs
 pub mod Cut
 pub mod Shaped
 pub mod Front

@@ -9,6 +9,5 @@ pub mod Outcomes
 pub mod PaddedBytes
 pub mod ReadyPlaces
 pub mod RowWords
-pub mod SlotRuns
 pub mod Sound
 pub mod WordsOfLayout

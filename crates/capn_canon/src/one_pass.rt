@@ -23,8 +23,8 @@ use crate::surveyed_bare::SurveyedBare;
 use capn_walk::Limits;
 use capn_words::{Bare, Place, Pointer, Width, split};
 
-/// What the walk of a bare message pays and visits within the limits, if it is accepted, its value has no capability and
-/// its bytes are canonical; else none.
+/// What the walk of a bare message pays and visits within the limits, if it is accepted, its value has no capability
+/// and its bytes are canonical; else none.
 pub fn survey_canonical(space: &Bare<'_>, limits: Limits) -> Option<SurveyedBare>
     requires { IsMessage (space.now ∷ []) }
     ensures found { IfSome result (λ c. IsBareSurvey space.now limits c) }

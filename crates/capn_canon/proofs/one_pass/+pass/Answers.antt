@@ -453,7 +453,8 @@ check_composite-returns-then-tag-clause-only t c h =
           b.if-tag-step.true y.whole
     ])
 
-pub check_composite-returns-then-not-are_rows_at-clause-only : goal.check_composite-returns-then-not-are_rows_at-clause-only
+pub check_composite-returns-then-not-are_rows_at-clause-only
+    : goal.check_composite-returns-then-not-are_rows_at-clause-only
 check_composite-returns-then-not-are_rows_at-clause-only t c h =
     let all = c.args.space.now in
     let p = c.args.pass in
@@ -474,11 +475,10 @@ check_composite-returns-then-not-are_rows_at-clause-only t c h =
     × (kept_each (all ∷ []) 0 (p.next + 1 + a) b (a + b) n ≡ b)
     × (slice_index all p.from ≡ list_to p.from p.next Rows (n * (a + b)))
     × (p.next + (1 + n * (a + b)) ≤ length all) × (slice_index all p.next ≡ word_of (Node (pos n) a b)) in
-    let word = c.requires.list.word ∙ ap (list_to p.from p.next Rows) whole in
     absurd (not-true (c.if-not-are_rows_at.ensures.1
     (subst (λ (n : ℕ). all-kept n c.tag_of-tag.result.words c.tag_of-tag.result.slots) (sym y.count)
     (subst (λ (a : ℕ). all-kept k.n a c.tag_of-tag.result.slots) (sym y.words)
-    (subst (λ (b : ℕ). all-kept k.n k.a b) (sym y.slots) (k.words_kept, k.slots_kept, word, k.room, k.tag))))))
+    (subst (λ (b : ℕ). all-kept k.n k.a b) (sym y.slots) (k.words_kept, k.slots_kept, k.word, k.room, k.tag))))))
 
 pub check_composite-returns-in-None-clause-only : goal.check_composite-returns-in-None-clause-only
 check_composite-returns-in-None-clause-only t c h =

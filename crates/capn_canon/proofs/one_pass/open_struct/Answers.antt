@@ -108,7 +108,8 @@ returns-then-end-words_of-clause-only c nz h =
     let some = k.some in
     elim c.then-end-words_of.branch as (λ _. ⊥) [
       | then-end-words_of-via-then-end-words_of b ↦ let gt = b.if-end-words_of.true in omega arith
-      | then-end-words_of-via-else-end-words_of+then-words-slots-eq0 b ↦ let z = b.if-words-slots-eq0.true in omega arith
+      | then-end-words_of-via-else-end-words_of+then-words-slots-eq0 b ↦
+          let z = b.if-words-slots-eq0.true in omega arith
     ]
 
 pub returns-then-not-is_kept-clause-only : goal.returns-then-not-is_kept-clause-only
