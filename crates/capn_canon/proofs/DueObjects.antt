@@ -5,20 +5,20 @@ use Rattle.std.proofs.Common.{◌∷◌, length, take, drop, slice_index, Ok, re
 use Rattle.capn_words.specs.Message.{segment_at}
 use Rattle.capn_words.specs.Pointers.{field}
 use Rattle.capn_value.specs.Tree.{Tree, nil, node, Trees, count}
+use Rattle.capn_value.specs.FirstCap.{first_cap}
 use Rattle.capn_value.specs.Trim.{kept_words}
 use Rattle.capn_walk.specs.declared.target.Target.TheVariants as targets
 use Rattle.capn_walk.specs.declared.target.Shape.{Shape}
 use Rattle.capn_walk.specs.declared.target.Shape.TheVariants as shapes
 use Rattle.capn_walk.specs.Accepted.{AllPay, IsWithin}
 use Rattle.capn_walk.specs.Target.{target}
-use Rattle.capn_walk.specs.ValueAt.{AreAt, IsInside, words_from}
-use Rattle.capn_walk.specs.Visits.{Visit, price, slots, visits_of}
+use Rattle.capn_walk.specs.ValueAt.{IsInside, words_from}
+use Rattle.capn_walk.specs.Visits.{Visit, price, places, slots, visits_of}
 use Rattle.capn_walk.proofs.shared.Inside.{inside}
 use Rattle.capn_walk.proofs.shared.Walks.{visits-deep, visits-object}
-use Rattle.capn_canon.specs.Layout.{sizes, struct_to, point}
+use Rattle.capn_canon.specs.Layout.{struct_to, point}
 use Rattle.capn_canon.specs.inner.Due.{IsDue, DueValue, DueSlots}
-use Rattle.capn_canon.specs.inner.WordsOfLayout.{AreLaidAt}
-use Rattle.capn_canon.proofs.Compared.{struct-is, struct-passes, struct-to-slots, struct-size}
+use Rattle.capn_canon.proofs.Compared.{struct-is, struct-sound, struct-passes, slots-here, struct-to-slots, struct-size}
 use Rattle.capn_canon.proofs.DueWords.{IsNear, near-word, struct-of, struct-some, struct-fields}
 use Rattle.capn_canon.proofs.DueWords.{content-of, point-nil}
 use Rattle.capn_canon.proofs.LaidPointers.{struct-names}
@@ -148,7 +148,6 @@ module _ (all : List ℕ) (base from to d left : ℕ) (h : DueValue all base fro
       let ends = struct-size all a b x.segment x.start from to x.pads x.is small lies order v it due.sound fits passes.0
       passes.1 passes.2 passes.3 in
       let f = due.fits in
-      let same : is.slots ≡ struct.1 = let e = is.is in cc in
       record {
         a = a;
         b = b;
@@ -161,20 +160,18 @@ module _ (all : List ℕ) (base from to d left : ℕ) (h : DueValue all base fro
         slots_kept = below-kept;
         cheap = paid.0;
         below = record {
-          values = struct.1;
-          count = refl;
+          values = is.slots;
+          count = is.count;
           due = record {
-            are = subst (λ (w : ℕ). AreAt (all ∷ []) 0 (w + a) struct.1) first-start
-                (subst (λ (s : ℕ). AreAt (all ∷ []) s (x.start + a) struct.1)
-                first-segment x.inside.1);
-            laid = subst (λ (ts : Trees). AreLaidAt all ts (to + a)
-                (to + a + b)) same
-                (struct-to-slots all a b x.segment x.start from to x.pads x.is small lies order v it due.sound fits
-                passes.0 passes.1 passes.2 passes.3 due.laid);
-            sound = due.sound.2;
-            free = due.free;
-            fits = let z = ap sizes same in omega arith;
-            pays = paid.1;
+            are = slots-here all a b x.segment x.start from to x.pads x.is small lies order v it due.sound fits passes.0
+                passes.1 passes.2 passes.3;
+            laid = struct-to-slots all a b x.segment x.start from to x.pads x.is small lies order v it due.sound fits
+                passes.0 passes.1 passes.2 passes.3 due.laid;
+            sound = (struct-sound all a b x.segment x.start from to x.pads x.is small lies order v it due.sound fits).2;
+            free = sym (ap first_cap is.is) ∙ due.free;
+            fits = omega arith;
+            pays = subst (λ (k : ℕ). IsWithin (left - (base + a + b))
+                (visits_of (all ∷ []) base (d - 1) (places 0 (to + a) k))) (sym is.count) paid.1;
           };
         };
       }

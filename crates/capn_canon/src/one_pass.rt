@@ -3,8 +3,8 @@
 //! Every object of a layout stands at the next free word, so where each pointer is the one to that word, nothing is out
 //! of range and nothing is read twice: the pass follows the words in order, and needs no survey before it.
 
-ghost use Rattle.std.specs.Prelude.{◌≡◌, ◌↔◌, ℕ, ◌+◌, ◌-◌, ◌*◌, ◌/◌, ◌%◌, ◌^◌, ◌<◌, ◌≤◌, [], ◌∷◌, length, slice_index};
-ghost use Rattle.std.specs.Prelude.{IsTrue, IfSome, IsSome, None};
+ghost use Rattle.std.specs.Prelude.{◌≡◌, ◌+◌, ◌-◌, ◌*◌, ◌%◌, ◌^◌, ◌<◌, [], ◌∷◌, slice_index};
+ghost use Rattle.std.specs.Prelude.{IfSome, IsSome, None};
 ghost use Rattle.capn_words.specs.Message.{IsMessage, bytes};
 ghost use Rattle.capn_words.specs.declared.pointer.Width.TheVariants.{Link, Rows};
 ghost use Rattle.capn_value.specs.Tree.{Tree as Value};
@@ -13,12 +13,13 @@ ghost use Rattle.capn_walk.specs.Accepted.{IsValueOf, IsBounded};
 ghost use Rattle.capn_walk.specs.Shapes.{IsPlain};
 ghost use Rattle.capn_canon.specs.BareVerdict.{IsBareSurvey};
 ghost use Rattle.capn_canon.specs.Layout.{canon};
-ghost use Rattle.capn_canon.specs.inner.Due.{Due, DueFirst, DueIn, DueRows};
+ghost use Rattle.capn_canon.specs.inner.Due.{Due, DueFirst, DueIn, DueRows, DueRowsIn};
 ghost use Rattle.capn_canon.specs.inner.InPlace.{IsOpen, HasObject, HasList, Leads, Finds, FindsFirst, FindsRows};
+ghost use Rattle.capn_canon.specs.inner.InPlace.{FindsInRows};
 
 use crate::list_words::bits_of;
 use crate::own_words_test::{EMPTY, are_bits_at, are_rows_at, is_kept, tag_of, word_at, words_of};
-use crate::progress::{Pass, Progress};
+use crate::progress::{Pass, Progress, RowPass};
 use crate::surveyed_bare::SurveyedBare;
 use capn_walk::Limits;
 use capn_words::{Bare, Place, Pointer, Width, split};
@@ -268,6 +269,35 @@ fn check_composite(space: &Bare<'_>, base: u32, span: u32, pass: Pass) -> Option
     ensures found { IfSome result (λ q. FindsFirst space.now base pass q) }
     ensures only { DueFirst space.now base pass → IsSome result }
 {
+    match open_composite(space, base, span, pass) {
+        Some(rows) => {
+            if rows.tag.slots == 0 {
+                return Some(rows.pass.here());
+            }
+            check_rows(
+                space,
+                base,
+                rows.tag.count,
+                rows.tag.words,
+                rows.tag.slots,
+                rows.pass,
+            )
+        }
+        None => None,
+    }
+}
+
+/// The rows of the list of structs at the next free word to which the first slot in hand points, if all of their words
+/// and slots are kept.
+#[inline(always)]
+fn open_composite(space: &Bare<'_>, base: u32, span: u32, pass: Pass) -> Option<RowPass>
+    requires message { IsMessage (space.now ∷ []) }
+    requires list { HasList space.now pass Rows span }
+    ensures found { IfSome result (λ r. (pass.from < r.pass.from) × IsOpen space.now r.pass
+        × (r.pass.from + r.tag.count * (r.tag.words + r.tag.slots) ≡ r.pass.end)
+        × ((q : Progress) → FindsInRows space.now base r q → FindsFirst space.now base pass q)) }
+    ensures only { DueFirst space.now base pass → DueRowsIn space.now base result }
+{
     let first = pass.next + 1;
     let end = first + span;
     if end > words_of(space) {
@@ -290,13 +320,9 @@ fn check_composite(space: &Bare<'_>, base: u32, span: u32, pass: Pass) -> Option
     let without_size = if step == 0 { tag.count } else { 0 };
     let price = base as u64 + 1 + span as u64 + without_size as u64;
     match pass.paid(price, end, tag.count * tag.slots as u32) {
-        Some(progress) => check_rows(
-            space,
-            base,
-            tag.count,
-            tag.words,
-            tag.slots,
-            Pass {
+        Some(progress) => Some(RowPass {
+            tag,
+            pass: Pass {
                 from: first,
                 end,
                 depth: pass.depth - 1,
@@ -304,7 +330,7 @@ fn check_composite(space: &Bare<'_>, base: u32, span: u32, pass: Pass) -> Option
                 left: progress.left,
                 visits: progress.visits,
             },
-        ),
+        }),
         None => None,
     }
 }

@@ -2,6 +2,8 @@
 
 ghost use Rattle.std.specs.Prelude.{◌≡◌, ◌+◌, ◌-◌, ◌^◌, ◌<◌, ◌≤◌, IfSome, IsSome};
 
+use crate::own_words_test::Tag;
+
 /// How far a pass has come.
 #[derive(Clone, Copy)]
 pub struct Progress {
@@ -28,6 +30,15 @@ pub struct Pass {
     pub left: u32,
     /// The number of slots met, these among them.
     pub visits: u32,
+}
+
+/// Rows of equal sizes whose slots are still to be checked.
+#[derive(Clone, Copy)]
+pub struct RowPass {
+    /// How many rows there are, and how many words and slots each of them has.
+    pub tag: Tag,
+    /// The words of the rows, and how far the pass has come that checks their slots.
+    pub pass: Pass,
 }
 
 impl Pass {

@@ -7,6 +7,7 @@ use Rattle.capn_walk.specs.Accepted.{IsWithin}
 use Rattle.capn_walk.specs.ValueAt.{IsAt, AreAt, RowsAt}
 use Rattle.capn_walk.specs.Visits.{places, row_places, visits, visits_of}
 use Rattle.capn_canon.specs.declared.progress.Pass.{Pass}
+use Rattle.capn_canon.specs.declared.progress.RowPass.{RowPass}
 use Rattle.capn_canon.specs.Layout.{size, sizes, sizes_in_rows}
 use Rattle.capn_canon.specs.inner.Sound.{Sound, Sounds, SoundRows}
 use Rattle.capn_canon.specs.inner.WordsOfLayout.{IsLaidAt, AreLaidAt, RowsLaidAt}
@@ -69,3 +70,9 @@ module _ (all : List ℕ) (base : ℕ) where
   abbrev pub DueIn : Option Pass → Type 0
   DueIn (Some r) = Due r
   DueIn None = ⊥
+
+  -- at the slots of the rows in hand, if there are any (Own.)
+  abbrev pub DueRowsIn : Option RowPass → Type 0
+  DueRowsIn (Some r) =
+      DueRows r.tag.words r.tag.slots r.pass.from r.tag.count r.pass.next r.pass.depth r.pass.left
+  DueRowsIn None = ⊥
