@@ -9,13 +9,13 @@ use Rattle.capn_value.specs.Tree.{Trees, no_trees, tree, count}
 use Rattle.capn_value.specs.Cost.{base}
 use Rattle.capn_value.specs.FirstCap.{first_cap}
 use Rattle.capn_value.specs.Fits.{is_root}
-use Rattle.capn_walk.specs.Accepted.{root, root_visits, IsBounded}
+use Rattle.capn_walk.specs.Accepted.{root, root_visits}
 use Rattle.capn_walk.specs.Limits.{Bounds}
 use Rattle.capn_walk.specs.Visits.{Visit, visits}
 use Rattle.capn_canon.specs.declared.progress.Progress.{Progress}
 use Rattle.capn_canon.specs.declared.surveyed_bare.SurveyedBare.{SurveyedBare}
 use Rattle.capn_canon.specs.BareVerdict.{IsBareSurvey}
-use Rattle.capn_canon.specs.Layout.{size, words, canon}
+use Rattle.capn_canon.specs.Layout.{size, words}
 use Rattle.capn_canon.specs.inner.InPlace.{Pays, AreInPlace, FindsSlots}
 use Rattle.capn_canon.proofs.CanonicalWords.{words-stand}
 use Rattle.capn_canon.proofs.Compared.{slots-first}
@@ -32,7 +32,7 @@ none-first None e = refl
 none-first (Some k) e = e
 
 -- a value without capabilities may be a root
-free-root : (v : Tree) → first_cap v ≡ None → is_root v ≡ true
+pub free-root : (v : Tree) → first_cap v ≡ None → is_root v ≡ true
 free-root nil e = refl
 free-root (node ws ss) e = refl
 free-root (cap k) e = absurd cc
@@ -109,10 +109,3 @@ module _ (all : List ℕ) (limits : Bounds) (some : 0 < length all) (q : Progres
         capability = capability ∙ sym free;
         answer = ((λ t. (free, ap bytes words-are)), (λ e. yes));
       }
-
-  pub canonical-bounded : IsBounded limits.budget c.paid c.visits
-  canonical-bounded =
-      let l = f.comes.left_is in
-      let n = f.comes.visits_are in
-      let k = f.in_place.few in
-      record { within = omega arith; few = omega arith }

@@ -7,6 +7,12 @@ pub mod Bytes
 pub mod CanonOfTrimmed
 pub mod Cells
 pub mod Drafted
+pub mod DueComposite
+pub mod DueLists
+pub mod DueObjects
+pub mod DueRoot
+pub mod DueSlots
+pub mod DueWords
 pub mod EqualExactlySame
 pub mod Flags
 pub mod Headline
@@ -35,11 +41,6 @@ pub mod StandsIn
 pub mod Tight
 pub mod Nulls
 pub mod NumbersInPlace
-pub mod Onward
-pub mod Pointed
-pub mod PointedLists
-pub mod PointedRows
-pub mod PointedStructs
 pub mod Cut
 pub mod Shaped
 pub mod Front

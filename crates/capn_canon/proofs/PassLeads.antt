@@ -1,5 +1,5 @@
 -- What a pass finds at the slots in hand, from what it finds at the first of them, below it and after it.
-use Rattle.std.proofs.Common.{◌≡◌, ℕ, suc, ◌+◌, ◌-◌, ◌*◌, ◌^◌, ◌<◌, ◌≤◌, ◌==◌, List, [], ◌∷◌, length, take, drop}
+use Rattle.std.proofs.Common.{◌≡◌, ℕ, zero, suc, ◌+◌, ◌-◌, ◌*◌, ◌^◌, ◌<◌, ◌≤◌, ◌==◌, List, [], ◌∷◌, length, take, drop}
 use Rattle.std.proofs.Common.{Option, Some, None, IfSome, slice_index, refl, sym, subst, ◌∙◌, arith, pos, negsuc}
 use Rattle.std.proofs.Common.{if◌then◌else◌}
 use Rattle.capn_words.specs.Pointers.{word_of}
@@ -300,3 +300,26 @@ module _ (all : List ℕ) (base : ℕ) where
           few = y.few;
         };
       }
+
+  -- where rows have no slots, nothing is found below them
+  pub finds-bare-rows : (a b from n d : ℕ) (g : Progress) → b ≡ 0 → from + n * a ≤ length all → g.next ≤ length all
+      → g.visits ≤ g.next → FindsRows all base a b from n g.next d g.left g.visits g
+  finds-bare-rows a b from zero d g e room fits few = finds-no-rows a b from d g fits few
+  finds-bare-rows a b from (suc n) d g e room fits few =
+      let m : suc n * a ≡ a + n * a = omega arith in
+      let none : FindsSlots all base (from + a) b g.next d g.left g.visits g = record {
+        values = no_trees;
+        count = sym e;
+        price = 0;
+        below = 0;
+        in_place = no-slots-in-place all base (from + a) g.next d;
+        comes = record {
+          next_is = omega arith;
+          left_is = omega arith;
+          visits_are = omega arith;
+          fits = fits;
+          few = few;
+        };
+      } in
+      finds-row a b from n d g.next g.left g.visits g g (omega arith) none
+      (finds-bare-rows a b (from + a + b) n d g e (omega arith) fits few)

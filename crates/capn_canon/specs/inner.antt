@@ -1,6 +1,7 @@
 -- What no public clause cites.
 pub mod FirstBits
 pub mod Draft
+pub mod Due
 pub mod InPlace
 pub mod LayoutSteps
 pub mod OwnWords
@@ -8,6 +9,5 @@ pub mod Outcomes
 pub mod PaddedBytes
 pub mod ReadyPlaces
 pub mod RowWords
-pub mod SlotRuns
 pub mod Sound
 pub mod WordsOfLayout

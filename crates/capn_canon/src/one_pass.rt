@@ -3,26 +3,34 @@
 //! Every object of a layout stands at the next free word, so where each pointer is the one to that word, nothing is out
 //! of range and nothing is read twice: the pass follows the words in order, and needs no survey before it.
 
-ghost use Rattle.std.specs.Prelude.{◌≡◌, ◌↔◌, ℕ, ◌+◌, ◌-◌, ◌*◌, ◌/◌, ◌%◌, ◌^◌, ◌<◌, ◌≤◌, [], ◌∷◌, length, slice_index};
-ghost use Rattle.std.specs.Prelude.{IsTrue, IfSome};
-ghost use Rattle.capn_words.specs.Message.{IsMessage};
+ghost use Rattle.std.specs.Prelude.{◌≡◌, ◌+◌, ◌-◌, ◌*◌, ◌%◌, ◌^◌, ◌<◌, [], ◌∷◌, slice_index};
+ghost use Rattle.std.specs.Prelude.{IfSome, IsSome, None};
+ghost use Rattle.capn_words.specs.Message.{IsMessage, bytes};
 ghost use Rattle.capn_words.specs.declared.pointer.Width.TheVariants.{Link, Rows};
-ghost use Rattle.capn_walk.specs.Accepted.{IsBounded};
+ghost use Rattle.capn_value.specs.Tree.{Tree as Value};
+ghost use Rattle.capn_value.specs.FirstCap.{first_cap};
+ghost use Rattle.capn_walk.specs.Accepted.{IsValueOf, IsBounded};
 ghost use Rattle.capn_walk.specs.Shapes.{IsPlain};
 ghost use Rattle.capn_canon.specs.BareVerdict.{IsBareSurvey};
+ghost use Rattle.capn_canon.specs.Layout.{canon};
+ghost use Rattle.capn_canon.specs.inner.Due.{Due, DueFirst, DueIn, DueRows, DueRowsIn};
 ghost use Rattle.capn_canon.specs.inner.InPlace.{IsOpen, HasObject, HasList, Leads, Finds, FindsFirst, FindsRows};
+ghost use Rattle.capn_canon.specs.inner.InPlace.{FindsInRows};
 
 use crate::list_words::bits_of;
 use crate::own_words_test::{EMPTY, are_bits_at, are_rows_at, is_kept, tag_of, word_at, words_of};
-use crate::progress::{Pass, Progress};
+use crate::progress::{Pass, Progress, RowPass};
 use crate::surveyed_bare::SurveyedBare;
 use capn_walk::Limits;
 use capn_words::{Bare, Place, Pointer, Width, split};
 
-/// What the walk of a bare message pays and visits within the limits, where its bytes are canonical. None says nothing.
+/// What the walk of a bare message pays and visits within the limits, if it is accepted, its value has no capability
+/// and its bytes are canonical; else none.
 pub fn survey_canonical(space: &Bare<'_>, limits: Limits) -> Option<SurveyedBare>
     requires { IsMessage (space.now ∷ []) }
     ensures found { IfSome result (λ c. IsBareSurvey space.now limits c) }
+    ensures only { (v : Value) → IsValueOf (space.now ∷ []) limits v → first_cap v ≡ None → canon v ≡ bytes space.now
+        → IsSome result }
     ensures bounded { IfSome result (λ c. IsBounded limits.budget c.paid c.visits) }
 {
     let size = words_of(space);
@@ -60,7 +68,8 @@ pub fn survey_canonical(space: &Bare<'_>, limits: Limits) -> Option<SurveyedBare
 fn check_slots(space: &Bare<'_>, base: u32, pass: Pass) -> Option<Progress>
     requires message { IsMessage (space.now ∷ []) }
     requires opened { IsOpen space.now pass }
-    ensures { IfSome result (λ q. Finds space.now base pass q) }
+    ensures found { IfSome result (λ q. Finds space.now base pass q) }
+    ensures only { Due space.now base pass → IsSome result }
 {
     let mut left = pass;
     while left.from < left.end {
@@ -79,7 +88,8 @@ fn check_slot(space: &Bare<'_>, base: u32, pass: Pass) -> Option<Pass>
     requires message { IsMessage (space.now ∷ []) }
     requires opened { IsOpen space.now pass }
     requires some { pass.from < pass.end }
-    ensures { IfSome result (λ r. (pass.from < r.from) × IsOpen space.now r × Leads space.now base pass r) }
+    ensures found { IfSome result (λ r. (pass.from < r.from) × IsOpen space.now r × Leads space.now base pass r) }
+    ensures only { Due space.now base pass → DueIn space.now base result }
 {
     let word = word_at(space, pass.from);
     if word == 0 {
@@ -116,7 +126,8 @@ fn check_struct(space: &Bare<'_>, base: u32, word: u64, pass: Pass) -> Option<Pa
     requires object { HasObject space.now pass }
     requires word { word ≡ slice_index space.now pass.from }
     requires near { word % 2 ^ 32 ≡ 4 * (pass.next - pass.from - 1) }
-    ensures { IfSome result (λ r. (pass.from < r.from) × IsOpen space.now r × Leads space.now base pass r) }
+    ensures found { IfSome result (λ r. (pass.from < r.from) × IsOpen space.now r × Leads space.now base pass r) }
+    ensures only { 0 < word → Due space.now base pass → DueIn space.now base result }
 {
     let Some(below) = open_struct(space, base, word, pass) else {
         return None;
@@ -141,8 +152,9 @@ fn open_struct(space: &Bare<'_>, base: u32, word: u64, pass: Pass) -> Option<Pas
     requires object { HasObject space.now pass }
     requires word { word ≡ slice_index space.now pass.from }
     requires near { word % 2 ^ 32 ≡ 4 * (pass.next - pass.from - 1) }
-    ensures { IfSome result (λ r. (pass.from < r.from) × IsOpen space.now r
+    ensures found { IfSome result (λ r. (pass.from < r.from) × IsOpen space.now r
         × ((q : Progress) → Finds space.now base r q → FindsFirst space.now base pass q)) }
+    ensures only { 0 < word → DueFirst space.now base pass → DueIn space.now base result }
 {
     let tag = tag_of(word);
     let words = tag.words as u32;
@@ -177,7 +189,8 @@ fn check_list(space: &Bare<'_>, base: u32, word: u64, pass: Pass) -> Option<Prog
     requires object { HasObject space.now pass }
     requires word { word ≡ slice_index space.now pass.from }
     requires near { word % 2 ^ 32 ≡ 4 * (pass.next - pass.from - 1) + 1 }
-    ensures { IfSome result (λ q. FindsFirst space.now base pass q) }
+    ensures found { IfSome result (λ q. FindsFirst space.now base pass q) }
+    ensures only { DueFirst space.now base pass → IsSome result }
 {
     match split(word) {
         Pointer::Many {
@@ -205,7 +218,8 @@ fn check_numbers(
     requires message { IsMessage (space.now ∷ []) }
     requires list { HasList space.now pass width count }
     requires plain { IsPlain width }
-    ensures { IfSome result (λ q. FindsFirst space.now base pass q) }
+    ensures found { IfSome result (λ q. FindsFirst space.now base pass q) }
+    ensures only { DueFirst space.now base pass → IsSome result }
 {
     let bits = bits_of(width) * count as u64;
     let words = bits.div_ceil(64);
@@ -223,7 +237,8 @@ fn check_numbers(
 fn check_links(space: &Bare<'_>, base: u32, count: u32, pass: Pass) -> Option<Progress>
     requires message { IsMessage (space.now ∷ []) }
     requires list { HasList space.now pass Link count }
-    ensures { IfSome result (λ q. FindsFirst space.now base pass q) }
+    ensures found { IfSome result (λ q. FindsFirst space.now base pass q) }
+    ensures only { DueFirst space.now base pass → IsSome result }
 {
     let end = pass.next + count;
     if end > words_of(space) {
@@ -251,7 +266,37 @@ fn check_links(space: &Bare<'_>, base: u32, count: u32, pass: Pass) -> Option<Pr
 fn check_composite(space: &Bare<'_>, base: u32, span: u32, pass: Pass) -> Option<Progress>
     requires message { IsMessage (space.now ∷ []) }
     requires list { HasList space.now pass Rows span }
-    ensures { IfSome result (λ q. FindsFirst space.now base pass q) }
+    ensures found { IfSome result (λ q. FindsFirst space.now base pass q) }
+    ensures only { DueFirst space.now base pass → IsSome result }
+{
+    match open_composite(space, base, span, pass) {
+        Some(rows) => {
+            if rows.tag.slots == 0 {
+                return Some(rows.pass.here());
+            }
+            check_rows(
+                space,
+                base,
+                rows.tag.count,
+                rows.tag.words,
+                rows.tag.slots,
+                rows.pass,
+            )
+        }
+        None => None,
+    }
+}
+
+/// The rows of the list of structs at the next free word to which the first slot in hand points, if all of their words
+/// and slots are kept.
+#[inline(always)]
+fn open_composite(space: &Bare<'_>, base: u32, span: u32, pass: Pass) -> Option<RowPass>
+    requires message { IsMessage (space.now ∷ []) }
+    requires list { HasList space.now pass Rows span }
+    ensures found { IfSome result (λ r. (pass.from < r.pass.from) × IsOpen space.now r.pass
+        × (r.pass.from + r.tag.count * (r.tag.words + r.tag.slots) ≡ r.pass.end)
+        × ((q : Progress) → FindsInRows space.now base r q → FindsFirst space.now base pass q)) }
+    ensures only { DueFirst space.now base pass → DueRowsIn space.now base result }
 {
     let first = pass.next + 1;
     let end = first + span;
@@ -275,13 +320,9 @@ fn check_composite(space: &Bare<'_>, base: u32, span: u32, pass: Pass) -> Option
     let without_size = if step == 0 { tag.count } else { 0 };
     let price = base as u64 + 1 + span as u64 + without_size as u64;
     match pass.paid(price, end, tag.count * tag.slots as u32) {
-        Some(progress) => check_rows(
-            space,
-            base,
-            tag.count,
-            tag.words,
-            tag.slots,
-            Pass {
+        Some(progress) => Some(RowPass {
+            tag,
+            pass: Pass {
                 from: first,
                 end,
                 depth: pass.depth - 1,
@@ -289,7 +330,7 @@ fn check_composite(space: &Bare<'_>, base: u32, span: u32, pass: Pass) -> Option
                 left: progress.left,
                 visits: progress.visits,
             },
-        ),
+        }),
         None => None,
     }
 }
@@ -307,8 +348,9 @@ fn check_rows(
     requires message { IsMessage (space.now ∷ []) }
     requires opened { IsOpen space.now pass }
     requires inside { pass.from + count * (words + slots) ≡ pass.end }
-    ensures { IfSome result (λ q.
+    ensures found { IfSome result (λ q.
         FindsRows space.now base words slots pass.from count pass.next pass.depth pass.left pass.visits q) }
+    ensures only { DueRows space.now base words slots pass.from count pass.next pass.depth pass.left → IsSome result }
 {
     let mut progress = pass.here();
     let mut row = pass.from;

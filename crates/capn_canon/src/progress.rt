@@ -1,6 +1,8 @@
 //! How far one pass over the words of a layout has come.
 
-ghost use Rattle.std.specs.Prelude.{◌≡◌, ◌+◌, ◌-◌, ◌^◌, ◌<◌, ◌≤◌, IfSome};
+ghost use Rattle.std.specs.Prelude.{◌≡◌, ◌+◌, ◌-◌, ◌^◌, ◌<◌, ◌≤◌, IfSome, IsSome};
+
+use crate::own_words_test::Tag;
 
 /// How far a pass has come.
 #[derive(Clone, Copy)]
@@ -28,6 +30,15 @@ pub struct Pass {
     pub left: u32,
     /// The number of slots met, these among them.
     pub visits: u32,
+}
+
+/// Rows of equal sizes whose slots are still to be checked.
+#[derive(Clone, Copy)]
+pub struct RowPass {
+    /// How many rows there are, and how many words and slots each of them has.
+    pub tag: Tag,
+    /// The words of the rows, and how far the pass has come that checks their slots.
+    pub pass: Pass,
 }
 
 impl Pass {
@@ -71,8 +82,9 @@ impl Pass {
     #[inline(always)]
     pub fn paid(self, price: u64, end: u32, slots: u32) -> Option<Progress>
         requires { self.visits + slots < 2 ^ 32 }
-        ensures { IfSome result (λ q.
+        ensures found { IfSome result (λ q.
             (q.next ≡ end) × (q.left + price ≡ self.left) × (q.visits ≡ self.visits + slots)) }
+        ensures only { price ≤ self.left → IsSome result }
     {
         if price > self.left as u64 {
             return None;

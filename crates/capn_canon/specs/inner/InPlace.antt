@@ -9,6 +9,7 @@ use Rattle.capn_walk.specs.ValueAt.{IsAt, AreAt, RowsAt}
 use Rattle.capn_walk.specs.Visits.{Visit, places, row_places, visits, visits_of}
 use Rattle.capn_canon.specs.declared.progress.Progress.{Progress}
 use Rattle.capn_canon.specs.declared.progress.Pass.{Pass}
+use Rattle.capn_canon.specs.declared.progress.RowPass.{RowPass}
 use Rattle.capn_canon.specs.Layout.{size, sizes, sizes_in_rows, list_to}
 use Rattle.capn_canon.specs.inner.Sound.{Sound, Sounds, SoundRows}
 use Rattle.capn_canon.specs.inner.WordsOfLayout.{IsLaidAt, AreLaidAt, RowsLaidAt}
@@ -90,6 +91,11 @@ module _ (all : List ℕ) (base : ℕ) where
   -- at all slots in hand (Own.)
   abbrev pub Finds : Pass → Progress → Type 0
   Finds p = FindsSlots p.from (p.end - p.from) p.next p.depth p.left p.visits
+
+  -- at the slots of all rows in hand (Own.)
+  abbrev pub FindsInRows : RowPass → Progress → Type 0
+  FindsInRows r = FindsRows r.tag.words r.tag.slots r.pass.from r.tag.count r.pass.next r.pass.depth r.pass.left
+      r.pass.visits
 
   -- what is found at the slots of a later pass is found at those of this one (Own.)
   abbrev pub Leads : Pass → Pass → Type 0

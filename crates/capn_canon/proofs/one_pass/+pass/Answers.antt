@@ -1,16 +1,20 @@
-use Rattle.std.proofs.Common.{◌≡◌, ◌≢◌, ℕ, suc, ◌+◌, ◌-◌, ◌*◌, ◌^◌, ◌≤◌, ◌==◌, [], ◌∷◌, length, refl}
-use Rattle.std.proofs.Common.{ap, sym, subst, ◌∙◌, arith, if◌then◌else◌}
-use Rattle.std.proofs.lemmas.Bool.Decides.{nat_tests}
-use Rattle.capn_words.specs.Pointers.{field}
-use Rattle.capn_words.proofs.shared.Choices.{if-yes, if-no, same-yes}
+use Rattle.std.proofs.Common.{◌≡◌, inl, inr, ℕ, suc, ◌+◌, ◌-◌, ◌*◌, ◌^◌, ◌<◌, ◌≤◌, List, [], ◌∷◌, length}
+use Rattle.std.proofs.Common.{refl, ◌%◌}
+use Rattle.std.proofs.Common.{ap, sym, subst, ◌∙◌, arith}
+use Rattle.std.proofs.lemmas.Nat.{and_mask}
+use Rattle.capn_walk.specs.declared.target.Shape.TheVariants as shapes
 use Rattle.capn_walk.proofs.shared.RowWalks.{row-inside}
 use Rattle.capn_walk.proofs.shared.Segments.{segment-room}
-use Rattle.capn_canon.specs.declared.own_words_test.Tag.{Tag}
 use Rattle.capn_canon.specs.declared.progress.Progress.{Progress}
-use Rattle.capn_canon.specs.inner.InPlace.{FindsSlots, FindsRows, Finds, HasObject}
+use Rattle.capn_canon.specs.declared.progress.Pass.{Pass}
+use Rattle.capn_canon.specs.inner.InPlace.{FindsSlots, FindsRows, FindsFirst, Finds, HasObject, IsOpen, Leads}
+use Rattle.capn_canon.specs.inner.Due.{Due, DueSlots, DueRows}
+use Rattle.capn_canon.proofs.DueLists.{due-links}
+use Rattle.capn_canon.proofs.DueObjects.{due-deep, due-near, due-price}
+use Rattle.capn_canon.proofs.DueSlots.{due-first, goes-due, same-due, row-due, rows-due}
+use Rattle.capn_canon.proofs.OneSegment.{names-empty}
 use Rattle.capn_canon.proofs.PassLeads.{if-some, behind, come, finds-none, finds-null, finds-empty, finds-links}
-use Rattle.capn_canon.proofs.PassLeads.{finds-composite, finds-no-rows, finds-row, goes-behind, last-leads}
-use Rattle.capn_canon.proofs.one_pass.+pass.Goals.{check_composite-then-step-eq0, check_composite-else-step-eq0}
+use Rattle.capn_canon.proofs.PassLeads.{finds-bare-rows, finds-no-rows, finds-row, goes-behind, last-leads}
 use Rattle.capn_canon.proofs.one_pass.+pass.Goals as goal
 
 -- ---- slots
@@ -21,9 +25,27 @@ check_slots-returns t c =
     let r = c.loop-left.left in
     let v = c.loop-left.invariant in
     let found = v.leads (come r) (finds-none c.args.space.now c.args.base r c.loop-left-test.false v.opened) in
-    subst (λ (q : Progress). Finds c.args.space.now c.args.base p q) (sym c.here.ensures) found
+    record {
+      found = subst (λ (q : Progress). Finds c.args.space.now c.args.base p q) (sym c.here.ensures) found;
+      only = λ h. refl;
+    }
+
+pub check_slots-returns-in-None-clause-only : goal.check_slots-returns-in-None-clause-only
+check_slots-returns-in-None-clause-only t c h = absurd (c.in-None.ensures.only (c.loop-left.invariant.due h))
 
 -- ---- a slot
+
+-- the pass goes on with the slots after the first
+record GoesOn (all : List ℕ) (base : ℕ) (p r : Pass) : Type 0 where
+  found : (p.from < r.from) × IsOpen all r × Leads all base p r
+  only : Due all base p → Due all base r
+
+goes-on : (all : List ℕ) (base : ℕ) (p : Pass) → p.from < p.end → IsOpen all p → (g : Progress)
+    → FindsFirst all base p g → (r : Pass) → r ≡ behind p g → GoesOn all base p r
+goes-on all base p some o g f r e = record {
+  found = goes-behind all base p some o g f r e;
+  only = λ h. goes-due all base p some o h g f r e;
+}
 
 pub check_slot-returns-then-word-eq0 : goal.check_slot-returns-then-word-eq0
 check_slot-returns-then-word-eq0 t c =
@@ -31,13 +53,29 @@ check_slot-returns-then-word-eq0 t c =
     let p = c.args.pass in
     let o = c.requires.opened in
     let z = sym c.word_at-word.ensures ∙ c.if-word-eq0.true in
-    goes-behind all c.args.base p c.requires.some o (come p) (finds-null all c.args.base p o z) c.behind.result
-    (c.behind.ensures ∙ ap (behind p) c.here.ensures)
+    let go = goes-on all c.args.base p c.requires.some o (come p) (finds-null all c.args.base p o z) c.behind.result
+    (c.behind.ensures ∙ ap (behind p) c.here.ensures) in
+    record { found = go.found; only = go.only }
+
+pub check_slot-returns-then-pass-eq0-clause-only : goal.check_slot-returns-then-pass-eq0-clause-only
+check_slot-returns-then-pass-eq0-clause-only t c h =
+    let all = c.args.space.now in
+    let p = c.args.pass in
+    due-deep all c.args.base p.from p.next p.depth p.left
+    (due-first all c.args.base p c.requires.some c.requires.opened h)
+    (λ z. c.if-word-eq0.false (c.word_at-word.ensures ∙ z)) c.if-pass-eq0.true
 
 pub check_slot-returns-in-Some : goal.check_slot-returns-in-Some
 check_slot-returns-in-Some t c =
-    goes-behind c.args.space.now c.args.base c.args.pass c.requires.some c.requires.opened c.in-Some.progress
-    c.in-Some.ensures c.behind-in-Some.result c.behind-in-Some.ensures
+    let go = goes-on c.args.space.now c.args.base c.args.pass c.requires.some c.requires.opened c.in-Some.progress
+    c.in-Some.ensures.found c.behind-in-Some.result c.behind-in-Some.ensures in
+    record { found = go.found; only = go.only }
+
+pub check_slot-returns-in-None-clause-only : goal.check_slot-returns-in-None-clause-only
+check_slot-returns-in-None-clause-only t c h =
+    let e = c.in-None.ensures.only
+    (due-first c.args.space.now c.args.base c.args.pass c.requires.some c.requires.opened h) in
+    absurd (cc)
 
 pub check_slot-returns-in-Some-paid : goal.check_slot-returns-in-Some-paid
 check_slot-returns-in-Some-paid t c =
@@ -51,38 +89,92 @@ check_slot-returns-in-Some-paid t c =
     let o : HasObject all p = record { some = s; opened = opened; deep = omega arith } in
     let room = segment-room (all ∷ []) 0 c.requires.message (omega arith) in
     let small : length all ≤ 2 ^ 29 = omega arith in
-    let h = c.in-Some-paid.ensures in
-    goes-behind all c.args.base p s opened c.in-Some-paid.progress
+    let h = c.in-Some-paid.ensures.found in
+    let go = goes-on all c.args.base p s opened c.in-Some-paid.progress
     (finds-empty all c.args.base p o small (sym c.word_at-word.ensures ∙ c.if-word-eq-EMPTY.true)
-    c.in-Some-paid.progress h.0 h.1 h.2) c.behind-in-Some-paid.result c.behind-in-Some-paid.ensures
+    c.in-Some-paid.progress h.0 h.1 h.2) c.behind-in-Some-paid.result c.behind-in-Some-paid.ensures in
+    record { found = go.found; only = go.only }
+
+pub check_slot-returns-in-None-paid-clause-only : goal.check_slot-returns-in-None-paid-clause-only
+check_slot-returns-in-None-paid-clause-only t c h =
+    let all = c.args.space.now in
+    let p = c.args.pass in
+    let s = c.requires.some in
+    let before = c.requires.opened.before in
+    let fits = c.requires.opened.fits in
+    let ne = c.if-pass-eq0.false in
+    let first = due-first all c.args.base p s c.requires.opened h in
+    let named = names-empty all p.from (sym c.word_at-word.ensures ∙ c.if-word-eq-EMPTY.true) (omega arith) in
+    let cheap = (due-price all c.args.base p.from p.next p.depth p.left first p.from (shapes.Node 0 0) named
+    (omega arith)).0 in
+    let e = c.in-None-paid.ensures.only (omega arith) in
+    absurd (cc)
+
+pub check_slot-returns-clause-only : goal.check_slot-returns-clause-only
+check_slot-returns-clause-only t c h =
+    let all = c.args.space.now in
+    let p = c.args.pass in
+    let s = c.requires.some in
+    let before = c.requires.opened.before in
+    let fits = c.requires.opened.fits in
+    let room = segment-room (all ∷ []) 0 c.requires.message (omega arith) in
+    let near = due-near all c.args.base p.from p.next p.depth p.left (due-first all c.args.base p s c.requires.opened h)
+    (omega arith) (omega arith) (λ z. c.if-word-eq0.false (c.word_at-word.ensures ∙ z)) in
+    let e = c.word_at-word.ensures in
+    let m = and_mask c.word_at-word.result 32 ∙ ap (λ (x : ℕ). x % 2 ^ 32) e in
+    elim near as (λ _. ⊥) [
+      | inl x ↦ c.if-word-eq-EMPTY.false (e ∙ x)
+      | inr y ↦ elim y as (λ _. ⊥) [ inl u ↦ c.if-low-near.false (m ∙ u) | inr u ↦ c.if-low-near-2.false (m ∙ u) ]
+    ]
 
 -- ---- a struct
 
 pub check_struct-returns-then-pass : goal.check_struct-returns-then-pass
 check_struct-returns-then-pass t c =
-    let e = c.in-Some.ensures in (
-      e.0,
-      e.1,
-      (λ q f. last-leads c.args.space.now c.args.base c.args.pass c.if-pass.true c.requires.object.opened q (e.2 q f)),
-    )
+    let e = c.in-Some.ensures.found in
+    record {
+      found = (
+        e.0,
+        e.1,
+        (λ q f. last-leads c.args.space.now c.args.base c.args.pass c.if-pass.true c.requires.object.opened q
+            (e.2 q f)),
+      );
+      only = λ nz h. c.in-Some.ensures.only nz
+          (due-first c.args.space.now c.args.base c.args.pass c.requires.object.some c.requires.object.opened h);
+    }
+
+pub check_struct-returns-in_default-clause-only : goal.check_struct-returns-in_default-clause-only
+check_struct-returns-in_default-clause-only t c nz h = c.in_default.ensures.only nz
+    (due-first c.args.space.now c.args.base c.args.pass c.requires.object.some c.requires.object.opened h)
+
+pub check_struct-returns-in-None-clause-only : goal.check_struct-returns-in-None-clause-only
+check_struct-returns-in-None-clause-only t c nz h =
+    let e = c.in-None.ensures.only (c.in-Some.ensures.only nz
+    (due-first c.args.space.now c.args.base c.args.pass c.requires.object.some c.requires.object.opened h)) in
+    absurd (cc)
 
 pub check_struct-returns-then-below : goal.check_struct-returns-then-below
 check_struct-returns-then-below t c =
     let all = c.args.space.now in
     let p = c.args.pass in
     let b = c.in-Some.below in
-    let e = c.in-Some.ensures in
+    let e = c.in-Some.ensures.found in
     let le = c.if-below.true in
-    goes-behind all c.args.base p c.requires.object.some c.requires.object.opened (come b)
+    let o = c.requires.object in
+    let go = goes-on all c.args.base p o.some o.opened (come b)
     (e.2 (come b) (finds-none all c.args.base b (omega arith) e.1)) c.behind.result
-    (c.behind.ensures ∙ ap (behind p) c.here.ensures)
+    (c.behind.ensures ∙ ap (behind p) c.here.ensures) in
+    record { found = go.found; only = λ nz. go.only }
 
 pub check_struct-returns-in-Some-check_slots : goal.check_struct-returns-in-Some-check_slots
 check_struct-returns-in-Some-check_slots t c =
-    let e = c.in-Some.ensures in
+    let e = c.in-Some.ensures.found in
     let g = c.in-Some-check_slots.progress in
-    goes-behind c.args.space.now c.args.base c.args.pass c.requires.object.some c.requires.object.opened g
-    (e.2 g c.in-Some-check_slots.ensures) c.behind-in-Some-check_slots.result c.behind-in-Some-check_slots.ensures
+    let o = c.requires.object in
+    let go = goes-on c.args.space.now c.args.base c.args.pass o.some o.opened g
+    (e.2 g c.in-Some-check_slots.ensures.found) c.behind-in-Some-check_slots.result
+    c.behind-in-Some-check_slots.ensures in
+    record { found = go.found; only = λ nz. go.only }
 
 -- ---- a list of pointers
 
@@ -98,10 +190,53 @@ check_links-returns-in-Some t c =
     let small : length all ≤ 2 ^ 29 = omega arith in
     let w = c.words_of.ensures in
     let le = c.if-end-words_of.false in
-    let h = c.in-Some.ensures in
-    if-some c.check_slots.result
-    (finds-links all c.args.base p o small c.args.count c.in-Some.progress (omega arith) c.requires.list.few
-    c.requires.list.word h.0 h.1 h.2) c.check_slots.ensures
+    let g = c.in-Some.progress in
+    let n = c.args.count in
+    let h = c.in-Some.ensures.found in
+    let gn = h.0 in
+    let gl = h.1 in
+    record {
+      found = if-some c.check_slots.result
+          (finds-links all c.args.base p o small n g (omega arith) c.requires.list.few c.requires.list.word h.0 h.1 h.2)
+          c.check_slots.ensures.found;
+      only = λ f.
+          let k = due-links all c.args.base p.from p.next p.depth p.left f small (omega arith) o.deep n
+          c.requires.list.few c.requires.list.word in
+          let cheap = k.cheap in
+          c.check_slots.ensures.only
+          (same-due all c.args.base p.next p.next n (p.next + n - p.next) (p.next + n) g.next (p.depth - 1)
+          (p.left - (c.args.base + n)) g.left refl (omega arith) (omega arith) (omega arith) k.below);
+    }
+
+pub check_links-returns-then-end-words_of-clause-only : goal.check_links-returns-then-end-words_of-clause-only
+check_links-returns-then-end-words_of-clause-only t c h =
+    let all = c.args.space.now in
+    let p = c.args.pass in
+    let o = c.requires.list.object in
+    let s = o.some in
+    let before = o.opened.before in
+    let fits = o.opened.fits in
+    let room = segment-room (all ∷ []) 0 c.requires.message (omega arith) in
+    let w = c.words_of.ensures in
+    let gt = c.if-end-words_of.true in
+    let k = due-links all c.args.base p.from p.next p.depth p.left h (omega arith) (omega arith) o.deep c.args.count
+    c.requires.list.few c.requires.list.word in
+    let r = k.room in
+    absurd (omega arith)
+
+pub check_links-returns-in-None-clause-only : goal.check_links-returns-in-None-clause-only
+check_links-returns-in-None-clause-only t c h =
+    let all = c.args.space.now in
+    let p = c.args.pass in
+    let o = c.requires.list.object in
+    let s = o.some in
+    let before = o.opened.before in
+    let fits = o.opened.fits in
+    let room = segment-room (all ∷ []) 0 c.requires.message (omega arith) in
+    let k = due-links all c.args.base p.from p.next p.depth p.left h (omega arith) (omega arith) o.deep c.args.count
+    c.requires.list.few c.requires.list.word in
+    let e = c.in-None.ensures.only k.cheap in
+    absurd (cc)
 
 -- ---- the slots of rows
 
@@ -122,7 +257,7 @@ check_rows-loop-i-preserved t c =
     let found : FindsSlots all b (c.loop-i.row + a.words) a.slots c.loop-i.progress.next a.pass.depth
     c.loop-i.progress.left c.loop-i.progress.visits c.in-Some.behind =
     subst (λ (k : ℕ). FindsSlots all b (c.loop-i.row + a.words) k c.loop-i.progress.next a.pass.depth
-    c.loop-i.progress.left c.loop-i.progress.visits c.in-Some.behind) e c.in-Some.ensures in
+    c.loop-i.progress.left c.loop-i.progress.visits c.in-Some.behind) e c.in-Some.ensures.found in
     let next_is = found.comes.next_is in
     let one : suc (a.count - (i + 1)) ≡ a.count - i = omega arith in
     record {
@@ -136,7 +271,26 @@ check_rows-loop-i-preserved t c =
           c.loop-i.progress.left c.loop-i.progress.visits q) one
           (finds-row all b a.words a.slots c.loop-i.row (a.count - (i + 1)) a.pass.depth c.loop-i.progress.next
           c.loop-i.progress.left c.loop-i.progress.visits c.in-Some.behind q (omega arith) found f));
+      due = λ h. subst (λ (k : ℕ). DueRows all b a.words a.slots (c.loop-i.row + a.words + a.slots) k
+          c.in-Some.behind.next a.pass.depth c.in-Some.behind.left) (omega arith)
+          (rows-due all b a.words a.slots c.loop-i.row (a.count - i) c.loop-i.progress.next a.pass.depth
+          c.loop-i.progress.left (v.due h) (omega arith) c.loop-i.progress.visits c.in-Some.behind found);
     }
+
+pub check_rows-returns-in-None-clause-only : goal.check_rows-returns-in-None-clause-only
+check_rows-returns-in-None-clause-only t c h =
+    let all = c.args.space.now in
+    let a = c.args in
+    let i = c.loop-i.i in
+    let lt = c.loop-i-test.true in
+    let v = c.loop-i.invariant in
+    let row = row-due all a.base a.words a.slots c.loop-i.row (a.count - i) c.loop-i.progress.next a.pass.depth
+    c.loop-i.progress.left (v.due h) (omega arith) in
+    let e : a.slots ≡ c.loop-i.row + a.words + a.slots - (c.loop-i.row + a.words) = omega arith in
+    let f = c.in-None.ensures.only
+    (subst (λ (k : ℕ). DueSlots all a.base (c.loop-i.row + a.words) k c.loop-i.progress.next a.pass.depth
+    c.loop-i.progress.left) e row) in
+    absurd (cc)
 
 pub check_rows-returns : goal.check_rows-returns
 check_rows-returns t c =
@@ -146,52 +300,40 @@ check_rows-returns t c =
     let g = c.loop-i.progress in
     let le = c.loop-i-test.false in
     let e : 0 ≡ a.count - c.loop-i.i = omega arith in
-    v.leads g
-    (subst (λ (k : ℕ). FindsRows all a.base a.words a.slots c.loop-i.row k g.next a.pass.depth g.left g.visits g) e
-    (finds-no-rows all a.base a.words a.slots c.loop-i.row a.pass.depth g v.fits v.few))
+    record {
+      found = v.leads g
+          (subst (λ (k : ℕ). FindsRows all a.base a.words a.slots c.loop-i.row k g.next a.pass.depth g.left g.visits g)
+          e (finds-no-rows all a.base a.words a.slots c.loop-i.row a.pass.depth g v.fits v.few));
+      only = λ h. refl;
+    }
 
 -- ---- a list of structs
 
--- the elements without a size
-extra-yes : (s n w : ℕ) → s ≡ 0 → w ≡ n → w ≡ (if s == 0 then n else 0)
-extra-yes s n w z e = e ∙ sym (if-yes (s == 0) n 0 (same-yes s 0 z))
-
-extra-no : (s n w : ℕ) → s ≢ 0 → w ≡ 0 → w ≡ (if s == 0 then n else 0)
-extra-no s n w z e = e ∙ sym (if-no (s == 0) n 0 (grind (arith, nat_tests)))
-
-pub check_composite-returns-in-Some : goal.check_composite-returns-in-Some
-check_composite-returns-in-Some t c =
+pub check_composite-returns-then-rows-eq0 : goal.check_composite-returns-then-rows-eq0
+check_composite-returns-then-rows-eq0 t c =
     let all = c.args.space.now in
-    let p = c.args.pass in
-    let o = c.requires.list.object in
-    let s = o.some in
-    let before = o.opened.before in
-    let fits = o.opened.fits in
-    let room = segment-room (all ∷ []) 0 c.requires.message (omega arith) in
-    let small : length all ≤ 2 ^ 29 = omega arith in
-    let w = c.words_of.ensures in
-    let le = c.if-end-words_of.false in
-    let g = c.tag_of-tag.result in
-    let few = c.if-tag.false in
-    let span = c.if-tag-step.false in
-    let short = c.requires.list.few in
-    let five = c.if-not-are_rows_at.ensures.0 refl in
-    let x = c.word_at.result in
-    let ea : g.words ≡ field 32 16 x = ap (λ (k : Tag). k.words) c.tag_of-tag.ensures in
-    let eb : g.slots ≡ field 48 16 x = ap (λ (k : Tag). k.slots) c.tag_of-tag.ensures in
-    let h = c.in-Some.ensures in
-    let gn = h.0 in
-    let gl = h.1 in
-    let gv = h.2 in
-    let extra : c.if-step-eq0.without_size ≡ (if g.words + g.slots == 0 then g.count else 0) =
-    elim c.if-step-eq0.branch as (λ _. c.if-step-eq0.without_size
-    ≡ (if g.words + g.slots == 0 then g.count else 0)) [
-      | check_composite-then-step-eq0 w ↦
-          extra-yes (g.words + g.slots) g.count c.if-step-eq0.without_size w.if-step-eq0.true w.without_size-is
-      | check_composite-else-step-eq0 w ↦
-          extra-no (g.words + g.slots) g.count c.if-step-eq0.without_size w.if-step-eq0.false w.without_size-is
-    ] in
-    if-some c.check_rows.result
-    (finds-composite all c.args.base p o small g.count g.words g.slots c.in-Some.progress (omega arith) (omega arith)
-    (omega arith) (omega arith) (omega arith) five.2 five.4 five.0 five.1 (omega arith) (omega arith) gv)
-    c.check_rows.ensures
+    let b = c.args.base in
+    let r = c.in-Some.rows in
+    let e = c.in-Some.ensures.found in
+    let open_of = e.1 in
+    let before = open_of.before in
+    let fits = open_of.fits in
+    let inside = e.2 in
+    let none = c.if-rows-eq0.true in
+    let each : r.tag.count * (r.tag.words + r.tag.slots) ≡ r.tag.count * r.tag.words =
+    ap (λ (k : ℕ). r.tag.count * k) (omega arith) in
+    record {
+      found = subst (λ (q : Progress). FindsFirst all b c.args.pass q) (sym c.here.ensures)
+          (e.3 (come r.pass) (finds-bare-rows all b r.tag.words r.tag.slots r.pass.from r.tag.count r.pass.depth
+          (come r.pass) none (omega arith) fits open_of.few));
+      only = λ h. refl;
+    }
+
+pub check_composite-returns-else-rows-eq0 : goal.check_composite-returns-else-rows-eq0
+check_composite-returns-else-rows-eq0 t c = record {
+  found = if-some c.check_rows.result c.in-Some.ensures.found.3 c.check_rows.ensures.found;
+  only = λ h. c.check_rows.ensures.only (c.in-Some.ensures.only h);
+}
+
+pub check_composite-returns-in-None-clause-only : goal.check_composite-returns-in-None-clause-only
+check_composite-returns-in-None-clause-only t c h = absurd (c.in-None.ensures.only h)

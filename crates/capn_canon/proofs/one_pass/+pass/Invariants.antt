@@ -1,5 +1,6 @@
 use Rattle.std.proofs.Common.{◌≡◌, ◌+◌, ◌-◌, ◌*◌, ◌≤◌, length}
 use Rattle.capn_canon.specs.declared.progress.Progress.{Progress}
+use Rattle.capn_canon.specs.inner.Due.{Due, DueRows}
 use Rattle.capn_canon.specs.inner.InPlace.{IsOpen, Leads, FindsRows}
 use Rattle.capn_canon.proofs.one_pass.+pass.Given as goal
 
@@ -35,6 +36,8 @@ invariant-check_rows-loop-i l = record {
       l.progress.visits q
       → FindsRows l.space l.base l.words l.slots l.pass.from l.count l.pass.next l.pass.depth l.pass.left
       l.pass.visits q;
+  due : DueRows l.space l.base l.words l.slots l.pass.from l.count l.pass.next l.pass.depth l.pass.left
+      → DueRows l.space l.base l.words l.slots l.row (l.count - l.i) l.progress.next l.pass.depth l.progress.left;
 }
 
 abbrev pub invariant-check_slots-loop-left : goal.invariant-check_slots-loop-left
@@ -42,6 +45,7 @@ invariant-check_slots-loop-left l = record {
   later : l.fn.pass.from ≤ l.left.from;
   opened : IsOpen l.space l.left;
   leads : Leads l.space l.base l.fn.pass l.left;
+  due : Due l.space l.base l.fn.pass → Due l.space l.base l.left;
 }
 
 abbrev pub decreases-check_slots-loop-left : goal.decreases-check_slots-loop-left
