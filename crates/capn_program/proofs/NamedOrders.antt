@@ -1,5 +1,5 @@
 -- What the subcommands order that have more than one order, or one with a flag.
-use Rattle.std.proofs.Common.{◌≡◌, ◌⊎◌, inl, inr, ℕ, List, Bool, true, false, Some, None, codes, ap, arith, refl, sym}
+use Rattle.std.proofs.Common.{◌≡◌, ◌⊎◌, inl, inr, List, Bool, true, false, Some, None, codes, arith, refl, sym}
 use Rattle.clap.specs.Words.{Row, first_of}
 use Rattle.capn_tool.specs.Meaning.{Means}
 use Rattle.capn_tool.specs.declared.command.Command.{Command}

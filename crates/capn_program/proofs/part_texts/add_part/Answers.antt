@@ -3,7 +3,7 @@ use Rattle.capn_show.specs.Outgoing.{outgoing}
 use Rattle.capn_show.specs.Part.{text_at}
 use Rattle.capn_show.specs.Written.{IsUnwritten}
 use Rattle.capn_show.specs.declared.fault.ShowFault.{ShowFault}
-use Rattle.capn_program.proofs.PartServed.{part_io, part_line, part_memory, part_stop}
+use Rattle.capn_program.proofs.PartServed.{part_io, part_line, part_memory}
 use Rattle.capn_program.proofs.part_texts.add_part.Goals as goal
 
 pub returns-in-Ok : goal.returns-in-Ok
