@@ -1,4 +1,6 @@
 pub mod inner
+pub mod Json
 pub mod Outgoing
 pub mod Part
+pub mod Quoting
 pub mod Written
