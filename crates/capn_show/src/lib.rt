@@ -16,6 +16,7 @@
 //! ```
 #![tactic(auto)]
 
+mod bytes;
 mod digits;
 mod fault;
 mod lines;
@@ -24,7 +25,9 @@ mod numbers;
 mod output;
 mod part;
 mod slots;
+mod style;
 
 pub use fault::ShowFault;
 pub use message::show_message;
 pub use part::show_part;
+pub use style::ByteStyle;

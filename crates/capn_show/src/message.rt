@@ -7,6 +7,7 @@ ghost use Rattle.capn_show.specs.Written.{IsWritten, IsUnwritten};
 
 use crate::fault::{ShowFault, fault_of};
 use crate::slots::show_slot;
+use crate::style::ByteStyle;
 use capn_walk::laws::values;
 use capn_walk::{Limits, survey};
 use capn_words::{Place, Space, Watched};
@@ -42,7 +43,15 @@ pub fn show_message<S: Space, W: Write, A: Allocator, B: Allocator + Copy>(
     values();
     let _bounds = space.segments();
     survey(alloc, space, limits)?;
-    match show_slot(text, writer, space, ROOT, 0, limits.depth()) {
+    match show_slot(
+        text,
+        writer,
+        space,
+        ROOT,
+        0,
+        limits.depth(),
+        ByteStyle::Digits,
+    ) {
         Ok(()) => Ok(()),
         Err(broken) => Err(fault_of(broken)),
     }

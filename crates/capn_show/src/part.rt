@@ -9,6 +9,7 @@ ghost use Rattle.capn_walk.specs.ShownValue.{Shows};
 ghost use Rattle.capn_walk.specs.Accepted.{root};
 ghost use Rattle.capn_show.specs.Outgoing.{Adds, BreaksOff, outgoing};
 ghost use Rattle.capn_show.specs.Part as parts;
+ghost use Rattle.capn_show.specs.Quoting.{bytes_of, text_at_by};
 ghost use Rattle.capn_show.specs.inner.ReadyPlaces.{IsReady, Holds, HasValue, LeadsTo, IsPartShown};
 ghost use Rattle.capn_show.specs.Written.{IsWritten, IsUnwritten};
 
@@ -16,6 +17,7 @@ use crate::fault::{Broken, ShowFault, fault_of};
 use crate::lines::plain_line;
 use crate::message::ROOT;
 use crate::slots::show_found;
+use crate::style::ByteStyle;
 use capn_walk::laws::{values, views_show_values};
 use capn_walk::{Limits, Shape, Target, resolve, survey};
 use capn_words::{Place, Space, Watched, Width};
@@ -26,7 +28,7 @@ use std::io::Write;
 ///
 /// A number leads from a struct to a slot, from a list of pointers to an element, and from a list of structs to a row,
 /// which is written as a struct. The whole message is surveyed first, as by [`show_message`](crate::show_message), and
-/// the text is added, kept and written as there.
+/// the text is added, kept and written as there. Lists of bytes are written in a style.
 pub fn show_part<S: Space, W: Write, A: Allocator, B: Allocator + Copy>(
     alloc: B,
     text: &mut Vec<u8, A>,
@@ -34,18 +36,19 @@ pub fn show_part<S: Space, W: Write, A: Allocator, B: Allocator + Copy>(
     space: &S,
     limits: Limits,
     way: &[u64],
+    style: ByteStyle,
 ) -> Result<(), ShowFault>
     // An answer: the message is accepted, and the text of what stands there is added.
-    ensures shown { OnOk result (IsWritten (S.message space.now) limits (parts.text_at way.now)
+    ensures shown { OnOk result (IsWritten (S.message space.now) limits (text_at_by (bytes_of style) way.now)
         (outgoing W.contents writer.old text.old.items) (outgoing W.contents writer.new text.new.items)) }
     // A refusal is as that of `show_message`.
-    ensures refused { IfErr result (λ fault. IsUnwritten (S.message space.now) limits (parts.text_at way.now) fault
+    ensures refused { IfErr result (λ fault. IsUnwritten (S.message space.now) limits (text_at_by (bytes_of style) way.now) fault
         (outgoing W.contents writer.old text.old.items) (outgoing W.contents writer.new text.new.items)) }
 {
     values();
     let _bounds = space.segments();
     survey(alloc, space, limits)?;
-    match write_part(text, writer, space, way, limits.depth()) {
+    match write_part(text, writer, space, way, limits.depth(), style) {
         Ok(()) => Ok(()),
         Err(broken) => Err(fault_of(broken)),
     }
@@ -58,19 +61,20 @@ fn write_part<S: Space, W: Write, A: Allocator>(
     space: &S,
     way: &[u64],
     depth: u32,
+    style: ByteStyle,
 ) -> Result<(), Broken>
     requires message { IsMessage (S.message space.now) }
     requires place { IsPlace (S.message space.now) root }
     requires ready { IsReady (S.message space.now) root depth }
     requires room { 2 * depth < 2 ^ 32 }
-    ensures shown { OnOk result (IsPartShown (S.message space.now) way.now (Adds
+    ensures shown { OnOk result (IsPartShown (S.message space.now) (bytes_of style) way.now (Adds
         (outgoing W.contents writer.old text.old.items) (outgoing W.contents writer.new text.new.items))) }
-    ensures cut { IfErr result (λ e. IsPartShown (S.message space.now) way.now (BreaksOff
+    ensures cut { IfErr result (λ e. IsPartShown (S.message space.now) (bytes_of style) way.now (BreaksOff
         (outgoing W.contents writer.old text.old.items) (outgoing W.contents writer.new text.new.items) e)) }
 {
     let found = named(space, ROOT);
     match follow(space, found, way) {
-        Some(part) => show_found(text, writer, space, part, 0, depth),
+        Some(part) => show_found(text, writer, space, part, 0, depth, style),
         None => plain_line(text, writer, 0, "none"),
     }
 }

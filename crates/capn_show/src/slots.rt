@@ -8,12 +8,15 @@ ghost use Rattle.capn_walk.specs.Target.{content_words};
 ghost use Rattle.capn_walk.specs.Shapes.{IsContent, IsPlain};
 ghost use Rattle.capn_walk.specs.View.{IsInMessage};
 ghost use Rattle.capn_show.specs.Outgoing.{Adds, BreaksOff, outgoing};
+ghost use Rattle.capn_show.specs.Quoting.{bytes_of};
 ghost use Rattle.capn_show.specs.inner.ReadyPlaces.{IsReady, IsFound, IsBody, AreReady, AreRows};
 ghost use Rattle.capn_show.specs.inner.ReadyPlaces.{IsShown, IsFoundShown, IsBodyShown, AreShown, RowsShown};
 
 use crate::fault::Broken;
 use crate::lines::{body_line, named_line, plain_line};
-use crate::numbers::{show_bits, show_bytes, show_numbers, show_words};
+use crate::bytes::show_byte_list;
+use crate::numbers::{show_bits, show_numbers, show_words};
+use crate::style::ByteStyle;
 use capn_walk::laws::views_show_values;
 use capn_walk::{Shape, Target, resolve};
 use capn_words::{Place, Space, Watched, Width};
@@ -29,19 +32,20 @@ pub fn show_slot<S: Space, W: Write, A: Allocator>(
     at: Place,
     level: u32,
     depth: u32,
+    style: ByteStyle,
 ) -> Result<(), Broken>
     requires message { IsMessage (S.message space.now) }
     requires place { IsPlace (S.message space.now) at }
     requires ready { IsReady (S.message space.now) at depth }
     requires room { level + 2 * depth < 2 ^ 32 }
-    ensures shown { OnOk result (IsShown (S.message space.now) at level (Adds
+    ensures shown { OnOk result (IsShown (S.message space.now) (bytes_of style) at level (Adds
         (outgoing W.contents writer.old text.old.items) (outgoing W.contents writer.new text.new.items))) }
-    ensures cut { IfErr result (λ e. IsShown (S.message space.now) at level (BreaksOff
+    ensures cut { IfErr result (λ e. IsShown (S.message space.now) (bytes_of style) at level (BreaksOff
         (outgoing W.contents writer.old text.old.items) (outgoing W.contents writer.new text.new.items) e)) }
 {
     views_show_values();
     match resolve(space, at) {
-        Ok(found) => show_found(text, writer, space, found, level, depth),
+        Ok(found) => show_found(text, writer, space, found, level, depth, style),
         // A value stands here, so the pointer names something.
         Err(_) => unreachable!(),
     }
@@ -56,16 +60,17 @@ pub fn show_found<S: Space, W: Write, A: Allocator>(
     found: Target,
     level: u32,
     depth: u32,
+    style: ByteStyle,
 ) -> Result<(), Broken>
     requires message { IsMessage (S.message space.now) }
     requires inside { IsInMessage (S.message space.now) found }
     requires ready { IsFound (S.message space.now) found depth }
     requires room { level + 2 * depth < 2 ^ 32 }
     ensures shown { OnOk result
-        (IsFoundShown (S.message space.now) found level (Adds (outgoing W.contents writer.old text.old.items)
+        (IsFoundShown (S.message space.now) (bytes_of style) found level (Adds (outgoing W.contents writer.old text.old.items)
         (outgoing W.contents writer.new text.new.items))) }
     ensures cut { IfErr result (λ e.
-        IsFoundShown (S.message space.now) found level (BreaksOff (outgoing W.contents writer.old text.old.items)
+        IsFoundShown (S.message space.now) (bytes_of style) found level (BreaksOff (outgoing W.contents writer.old text.old.items)
         (outgoing W.contents writer.new text.new.items) e)) }
 {
     match found {
@@ -83,14 +88,14 @@ pub fn show_found<S: Space, W: Write, A: Allocator>(
             };
             match shape {
                 Shape::Node { words, slots } => {
-                    show_body(text, writer, space, start, words, slots, level, depth - 1)
+                    show_body(text, writer, space, start, words, slots, level, depth - 1, style)
                 }
                 Shape::Many { width, count } => match width {
                     Width::Link => {
                         named_line(text, writer, level, "pointers", count)?;
-                        show_slots(text, writer, space, start, count, level + 1, depth - 1)
+                        show_slots(text, writer, space, start, count, level + 1, depth - 1, style)
                     }
-                    _ => show_list(text, writer, space, start, width, count, level),
+                    _ => show_list(text, writer, space, start, width, count, level, style),
                 },
                 Shape::Rows {
                     count,
@@ -113,6 +118,7 @@ pub fn show_found<S: Space, W: Write, A: Allocator>(
                         slots,
                         level + 1,
                         depth - 1,
+                        style,
                     )
                 }
             }
@@ -129,16 +135,17 @@ fn show_list<S: Space, W: Write, A: Allocator>(
     width: Width,
     count: u32,
     level: u32,
+    style: ByteStyle,
 ) -> Result<(), Broken>
     requires message { IsMessage (S.message space.now) }
     requires content { IsContent (S.message space.now) start (content_words width count) }
     requires plain { IsPlain width }
     requires room { level + 1 < 2 ^ 32 }
     ensures shown { OnOk result ((pads : ℕ)
-        → IsFoundShown (S.message space.now) (targets.Content start.segment start.word (shapes.Many width count) pads)
+        → IsFoundShown (S.message space.now) (bytes_of style) (targets.Content start.segment start.word (shapes.Many width count) pads)
         level (Adds (outgoing W.contents writer.old text.old.items) (outgoing W.contents writer.new text.new.items))) }
     ensures cut { IfErr result (λ e. (pads : ℕ)
-        → IsFoundShown (S.message space.now) (targets.Content start.segment start.word (shapes.Many width count) pads)
+        → IsFoundShown (S.message space.now) (bytes_of style) (targets.Content start.segment start.word (shapes.Many width count) pads)
         level (BreaksOff (outgoing W.contents writer.old text.old.items) (outgoing W.contents writer.new
         text.new.items) e)) }
 {
@@ -148,10 +155,7 @@ fn show_list<S: Space, W: Write, A: Allocator>(
             named_line(text, writer, level, "bits", count)?;
             show_bits(text, writer, space, start, count, level + 1)
         }
-        Width::W8 => {
-            named_line(text, writer, level, "bytes", count)?;
-            show_bytes(text, writer, space, start, count, level + 1)
-        }
+        Width::W8 => show_byte_list(text, writer, space, start, count, level, style),
         Width::W16 => {
             named_line(text, writer, level, "u16", count)?;
             show_numbers(text, writer, space, start, width, count, level + 1)
@@ -179,16 +183,17 @@ fn show_body<S: Space, W: Write, A: Allocator>(
     slots: u16,
     level: u32,
     depth: u32,
+    style: ByteStyle,
 ) -> Result<(), Broken>
     requires message { IsMessage (S.message space.now) }
     requires content { IsContent (S.message space.now) start (words + slots) }
     requires ready { IsBody (S.message space.now) start.segment start.word words slots depth }
     requires room { level + 1 + 2 * depth < 2 ^ 32 }
     ensures shown { OnOk result
-        (IsBodyShown (S.message space.now) start.segment start.word words slots level (Adds
+        (IsBodyShown (S.message space.now) (bytes_of style) start.segment start.word words slots level (Adds
         (outgoing W.contents writer.old text.old.items) (outgoing W.contents writer.new text.new.items))) }
     ensures cut { IfErr result (λ e.
-        IsBodyShown (S.message space.now) start.segment start.word words slots level (BreaksOff
+        IsBodyShown (S.message space.now) (bytes_of style) start.segment start.word words slots level (BreaksOff
         (outgoing W.contents writer.old text.old.items) (outgoing W.contents writer.new text.new.items) e)) }
 {
     body_line(text, writer, level, words, slots)?;
@@ -197,7 +202,7 @@ fn show_body<S: Space, W: Write, A: Allocator>(
         segment: start.segment,
         word: start.word + words as u32,
     };
-    show_slots(text, writer, space, first, slots as u32, level + 1, depth)
+    show_slots(text, writer, space, first, slots as u32, level + 1, depth, style)
 }
 
 /// The text of what stands in slots, one after the other.
@@ -210,14 +215,15 @@ fn show_slots<S: Space, W: Write, A: Allocator>(
     count: u32,
     level: u32,
     depth: u32,
+    style: ByteStyle,
 ) -> Result<(), Broken>
     requires message { IsMessage (S.message space.now) }
     requires content { IsContent (S.message space.now) first count }
     requires ready { AreReady (S.message space.now) first.segment first.word count depth }
     requires room { level + 2 * depth < 2 ^ 32 }
-    ensures shown { OnOk result (AreShown (S.message space.now) first.segment first.word count level
+    ensures shown { OnOk result (AreShown (S.message space.now) (bytes_of style) first.segment first.word count level
         (Adds (outgoing W.contents writer.old text.old.items) (outgoing W.contents writer.new text.new.items))) }
-    ensures cut { IfErr result (λ e. AreShown (S.message space.now) first.segment first.word count level
+    ensures cut { IfErr result (λ e. AreShown (S.message space.now) (bytes_of style) first.segment first.word count level
         (BreaksOff (outgoing W.contents writer.old text.old.items) (outgoing W.contents writer.new text.new.items) e)) }
 {
     for i in 0..count {
@@ -225,7 +231,7 @@ fn show_slots<S: Space, W: Write, A: Allocator>(
             segment: first.segment,
             word: first.word + i,
         };
-        show_slot(text, writer, space, at, level, depth)?;
+        show_slot(text, writer, space, at, level, depth, style)?;
     }
     Ok(())
 }
@@ -242,16 +248,17 @@ fn show_rows<S: Space, W: Write, A: Allocator>(
     slots: u16,
     level: u32,
     depth: u32,
+    style: ByteStyle,
 ) -> Result<(), Broken>
     requires message { IsMessage (S.message space.now) }
     requires content { IsContent (S.message space.now) first (count * (words + slots)) }
     requires ready { AreRows (S.message space.now) first.segment first.word count words slots depth }
     requires room { level + 1 + 2 * depth < 2 ^ 32 }
     ensures shown { OnOk result
-        (RowsShown (S.message space.now) first.segment first.word count words slots level (Adds
+        (RowsShown (S.message space.now) (bytes_of style) first.segment first.word count words slots level (Adds
         (outgoing W.contents writer.old text.old.items) (outgoing W.contents writer.new text.new.items))) }
     ensures cut { IfErr result (λ e.
-        RowsShown (S.message space.now) first.segment first.word count words slots level
+        RowsShown (S.message space.now) (bytes_of style) first.segment first.word count words slots level
         (BreaksOff (outgoing W.contents writer.old text.old.items) (outgoing W.contents writer.new text.new.items) e)) }
 {
     let mut next = first.word;
@@ -260,7 +267,7 @@ fn show_rows<S: Space, W: Write, A: Allocator>(
             segment: first.segment,
             word: next,
         };
-        show_body(text, writer, space, start, words, slots, level, depth)?;
+        show_body(text, writer, space, start, words, slots, level, depth, style)?;
         next += words as u32 + slots as u32;
     }
     Ok(())
