@@ -18,6 +18,6 @@ goes-on b (c ∷ cs) (inr (z, e)) = absurd (cc)
 
 -- one with which it doesn't
 pub stops : (b : ℕ) (bs : List ℕ) → is_printable b ≡ false → (b ≡ 0 → bs ≡ [] → ⊥) → ends_text (b ∷ bs) ≡ false
-stops zero [] p no = absurd (no refl refl)
-stops (suc b) [] p no = ap (λ (x : Bool). x || suc b == 0) p
-stops b (c ∷ cs) p no = ap (λ (x : Bool). x && is_text (c ∷ cs)) p
+stops zero [] p never = absurd (never refl refl)
+stops (suc b) [] p never = ap (λ (x : Bool). x || suc b == 0) p
+stops b (c ∷ cs) p never = ap (λ (x : Bool). x && is_text (c ∷ cs)) p

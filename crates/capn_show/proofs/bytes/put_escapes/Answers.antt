@@ -15,8 +15,8 @@ loop-i-preserved g c xs h n =
     let below : i < length xs = omega arith in
     escapes-more (outgoing g.W.Write.contents c.args.writer.now c.args.text.now.items)
     (outgoing g.W.Write.contents c.loop-i.writer c.loop-i.text.items) xs i
-    (outgoing g.W.Write.contents c.put_escaped.new.writer c.put_escaped.new.text.items) c.number_at.result below
-    (c.number_at.ensures ∙ h i below) (c.loop-i.invariant xs h n) c.in_ok-put_escaped.ensures.shown
+    (outgoing g.W.Write.contents c.put_escaped.new.writer c.put_escaped.new.text.items) c.number_at-byte.result below
+    (c.number_at-byte.ensures ∙ h i below) (c.loop-i.invariant xs h n) c.in_ok-put_escaped.ensures.shown
 
 pub returns-clause-shown : goal.returns-clause-shown
 returns-clause-shown g c xs h n =
@@ -24,8 +24,8 @@ returns-clause-shown g c xs h n =
     (outgoing g.W.Write.contents c.loop-i.writer c.loop-i.text.items) xs c.loop-i.i (omega arith)
     (c.loop-i.invariant xs h n)
 
-pub number_at-requires-clause-there : goal.number_at-requires-clause-there
-number_at-requires-clause-there g c =
+pub number_at-byte-requires-clause-there : goal.number_at-byte-requires-clause-there
+number_at-byte-requires-clause-there g c =
     let within = c.requires.content.within in
     let k = element-within widths.W8 c.args.count c.loop-i.i tt (omega arith) in
     record { exists = c.requires.content.exists; within = omega arith }
@@ -37,5 +37,5 @@ returns-in_err-put_escaped-clause-cut g c =
     let below : i < length xs = omega arith in
     escapes-cut (outgoing g.W.Write.contents c.args.writer.now c.args.text.now.items)
     (outgoing g.W.Write.contents c.loop-i.writer c.loop-i.text.items) xs i
-    (outgoing g.W.Write.contents c.put_escaped.new.writer c.put_escaped.new.text.items) _ c.number_at.result below
-    (c.number_at.ensures ∙ h i below) (c.loop-i.invariant xs h n) c.in_err-put_escaped.ensures.cut)
+    (outgoing g.W.Write.contents c.put_escaped.new.writer c.put_escaped.new.text.items) _ c.number_at-byte.result below
+    (c.number_at-byte.ensures ∙ h i below) (c.loop-i.invariant xs h n) c.in_err-put_escaped.ensures.cut)

@@ -249,7 +249,7 @@ show_found-overflow_add-first g t c =
 pub show_slot-returns-clause-shown : goal.show_slot-returns-clause-shown
 show_slot-returns-clause-shown g t c =
     on_ok_weaker c.show_found.result
-    (found-shown (bytes_of c.args.style) (g.S.Space.message c.args.space.now) c.views_show_values.ensures c.args.at c.in-Ok.found c.args.level
+    (found-shown (g.S.Space.message c.args.space.now) (bytes_of c.args.style) c.views_show_values.ensures c.args.at c.in-Ok.found c.args.level
     (Adds (outgoing g.W.Write.contents c.args.writer.now c.args.text.now.items)
     (outgoing g.W.Write.contents c.show_found.new.writer c.show_found.new.text.items))
     (sym c.resolve.ensures.exact ∙ c.in-Ok.is))
@@ -258,7 +258,7 @@ show_slot-returns-clause-shown g t c =
 pub show_slot-returns-clause-cut : goal.show_slot-returns-clause-cut
 show_slot-returns-clause-cut g t c =
     IfErr-weaker c.show_found.result _ _
-    (λ e. found-shown (bytes_of c.args.style) (g.S.Space.message c.args.space.now) c.views_show_values.ensures c.args.at c.in-Ok.found
+    (λ e. found-shown (g.S.Space.message c.args.space.now) (bytes_of c.args.style) c.views_show_values.ensures c.args.at c.in-Ok.found
     c.args.level
     (BreaksOff (outgoing g.W.Write.contents c.args.writer.now c.args.text.now.items)
     (outgoing g.W.Write.contents c.show_found.new.writer c.show_found.new.text.items) e)
