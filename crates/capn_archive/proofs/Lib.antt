@@ -1,5 +1,6 @@
-pub mod Depths
 pub mod OneSegment
+pub mod LineParts
+pub mod BareChecks
 pub mod Closings
 pub mod Finishes
 pub mod Sieves

@@ -4,6 +4,7 @@ use Rattle.std.specs.Prelude.{⊤}
 use Rattle.capn_words.specs.Message.{total}
 use Rattle.capn_walk.specs.Limits.{Bounds}
 use Rattle.capn_walk.specs.Accepted.{IsAccepted, paid}
+use Rattle.capn_walk.specs.Depth.{IsDepth}
 use Rattle.capn_canon.specs.Denotes.{AnswersMessage}
 use Rattle.capn_canon.specs.Refusal.{IsRefusedMessage, IsUnaccepted}
 use Rattle.capn_canon.specs.declared.refusal.Refusal.{Refusal}
@@ -18,7 +19,6 @@ use Rattle.capn_archive.specs.declared.findings.Findings.{Findings}
 use Rattle.capn_archive.specs.declared.tally.Tally.{Tally}
 use Rattle.capn_archive.specs.declared.archivist.Archivist.{Archivist}
 use Rattle.capn_archive.specs.CanonicalFrame.{framed}
-use Rattle.capn_archive.specs.Depth.{IsDepth}
 use Rattle.capn_archive.specs.Findings.{head_of, AreFindings}
 use Rattle.capn_archive.specs.Digest.{IsDigestIfAny}
 use Rattle.capn_archive.specs.Lines.{digests_line, list_line, refused_line}

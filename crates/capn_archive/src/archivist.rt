@@ -66,7 +66,7 @@ fn serve_list<S: Space, A: Allocator + Copy>(
         text.new.items result tally }
 {
     let findings = findings_of(alloc, message, limits)?;
-    put_list_line(alloc, &head_of(at, frame, message), &findings, text)
+    put_list_line(&head_of(at, frame, message), &findings, text)
 }
 
 /// Appends the line of what is found of a message, with its digest.
@@ -83,7 +83,7 @@ fn serve_digests<S: Space, A: Allocator + Copy>(
 {
     let findings = findings_of(alloc, message, limits)?;
     let digest = digest_if_any(alloc, limits, message)?;
-    put_digests_line(alloc, &head_of(at, frame, message), &findings, digest, text)
+    put_digests_line(&head_of(at, frame, message), &findings, digest, text)
 }
 
 /// Counts a message.

@@ -1,10 +1,11 @@
 //! Canonical bytes as a frame of one segment.
 
 ghost use Rattle.std.specs.Prelude.{◌≡◌, ◌^◌, ◌<◌, length};
-ghost use Rattle.capn_archive.specs.CanonicalFrame.{framed, head, PutsFront, PutsText};
+ghost use Rattle.capn_archive.specs.CanonicalFrame.{framed, head, PutsText};
 
+use crate::lines::put_both;
 use capn_serve::ServeFault;
-use std::alloc::{AllocError, Allocator};
+use std::alloc::Allocator;
 
 /// The table of one segment of this number of words.
 #[tactic(auto, unfolding(capn_stream::specs::Frames::entry))]
@@ -15,25 +16,11 @@ fn head_of(words: u32) -> [u8; 8]
     [0, 0, 0, 0, a, b, c, d]
 }
 
-/// Appends the frame of one segment with these bytes. Where memory is refused, a beginning may stand there.
-fn push_frame<A: Allocator>(text: &mut Vec<u8, A>, bytes: &[u8]) -> Result<(), AllocError>
-    requires { length bytes.now < 2 ^ 34 }
-    ensures { PutsFront (framed bytes.now) text.old.items text.new.items result }
-{
-    let head = head_of((bytes.len() / 8) as u32);
-    text.extend_from_slice(&head)?;
-    text.extend_from_slice(bytes)
-}
-
-/// Appends it, or nothing where memory is refused.
+/// Appends the frame of one segment with these bytes, or nothing where memory is refused.
 pub(crate) fn put_frame<A: Allocator>(text: &mut Vec<u8, A>, bytes: &[u8]) -> Result<(), ServeFault>
     requires { length bytes.now < 2 ^ 34 }
     ensures { PutsText (framed bytes.now) text.old.items text.new.items result }
 {
-    let kept = text.len();
-    if push_frame(text, bytes).is_err() {
-        text.truncate(kept);
-        return Err(ServeFault::Memory);
-    }
-    Ok(())
+    let head = head_of((bytes.len() / 8) as u32);
+    put_both(text, &head, bytes)
 }

@@ -1,14 +1,15 @@
 -- What the subcommands order that have more than one order, or one with a flag.
-use Rattle.std.proofs.Common.{◌≡◌, ◌⊎◌, inl, inr, ℕ, List, Bool, true, false, Some, codes, ap, arith, refl, sym}
-use Rattle.clap.specs.Words.{Row}
+use Rattle.std.proofs.Common.{◌≡◌, ◌⊎◌, inl, inr, List, Bool, true, false, Some, None, codes, arith, refl, sym}
+use Rattle.clap.specs.Words.{Row, first_of}
 use Rattle.capn_tool.specs.Meaning.{Means}
 use Rattle.capn_tool.specs.declared.command.Command.{Command}
 use Rattle.capn_tool.specs.declared.command.Command.TheVariants as commands
 use Rattle.capn_archive.specs.declared.task.Archive.{Archive}
 use Rattle.capn_archive.specs.declared.task.Task.{Task}
 use Rattle.capn_archive.specs.declared.task.Task.TheVariants as tasks
-use Rattle.capn_program.specs.Meaning.{AreOptions, FlagIs, IsTask, IsUsual, MeansOrder}
+use Rattle.capn_program.specs.Meaning.{AreOptions, FlagIs, IsTask, IsUsual, MeansOrder, ShowIs}
 use Rattle.capn_program.specs.declared.order.Flow.TheVariants as flows
+use Rattle.capn_program.specs.declared.order.Show.{Show}
 use Rattle.capn_program.specs.declared.order.Order.{Order}
 use Rattle.capn_program.specs.declared.order.Order.TheVariants as orders
 use Rattle.capn_program.proofs.OneOrder.{never_command, tell_of, tell_task, told}
@@ -20,6 +21,8 @@ ListMeans rows = (a : Archive) × ((digest : Bool) × FlagIs rows (codes "digest
 pub list_means : (rows : List Row) (o : Order) → MeansOrder (Some (codes "list", rows)) o → ListMeans rows
 list_means rows (orders.Message c) m =
     absurd (never_command c 335 refl (sym (told (codes "list", rows) (orders.Message c) m)))
+list_means rows (orders.Show s) m =
+    absurd (let bad : 335 ≡ 326 = told (codes "list", rows) (orders.Show s) m in omega arith)
 list_means rows (orders.Uniq u) m =
     absurd (let bad : 335 ≡ 320 = told (codes "list", rows) (orders.Uniq u) m in omega arith)
 list_means rows (orders.Pick p) m =
@@ -64,6 +67,7 @@ canonical_means rows o m = go o m (told (codes "canonical", rows) o m)
     go (orders.Message commands.Pack) m e = absurd (omega arith)
     go (orders.Message (commands.Unpack k)) m e = absurd (omega arith)
     go (orders.Message (commands.Hash f l)) m e = absurd (omega arith)
+    go (orders.Show s) m e = absurd (omega arith)
     go (orders.Uniq u) m e = absurd (omega arith)
     go (orders.Pick p) m e = absurd (omega arith)
     go (orders.Flow flows.Pack) m e = absurd (omega arith)
@@ -91,6 +95,7 @@ pack_means rows o m = go o m (told (codes "pack", rows) o m)
     go (orders.Message (commands.Check f l)) m e = absurd (omega arith)
     go (orders.Message (commands.Unpack k)) m e = absurd (omega arith)
     go (orders.Message (commands.Hash f l)) m e = absurd (omega arith)
+    go (orders.Show s) m e = absurd (omega arith)
     go (orders.Uniq u) m e = absurd (omega arith)
     go (orders.Pick p) m e = absurd (omega arith)
     go (orders.Make f) m e = absurd (omega arith)
@@ -120,9 +125,40 @@ unpack_means rows o m = go o m (told (codes "unpack", rows) o m)
     go (orders.Message (commands.Show f l)) m e = absurd (omega arith)
     go (orders.Message (commands.Check f l)) m e = absurd (omega arith)
     go (orders.Message (commands.Hash f l)) m e = absurd (omega arith)
+    go (orders.Show s) m e = absurd (omega arith)
     go (orders.Uniq u) m e = absurd (omega arith)
     go (orders.Pick p) m e = absurd (omega arith)
     go (orders.Make f) m e = absurd (omega arith)
     go (orders.Archive a) m e = absurd (task a.task e)
     go (orders.Flow flows.Unpack) m e = inr (m.1, m.2)
     go (orders.Flow flows.Pack) m e = absurd (omega arith)
+
+-- what `show` orders is over whole messages, without `--at`, or over parts of them, with it
+abbrev pub ShowMeans : List Row → Type 0
+ShowMeans rows =
+    ((c : Command) × Means (Some (codes "show", rows)) c × (first_of (codes "at") rows ≡ None))
+    ⊎ ((s : Show) × ShowIs rows s)
+
+pub show_means : (rows : List Row) (o : Order) → MeansOrder (Some (codes "show", rows)) o → ShowMeans rows
+show_means rows o m = go o m (told (codes "show", rows) o m)
+  where
+    task : (t : Task) → 326 ≡ tell_task t → ⊥
+    task tasks.List e = omega arith
+    task tasks.Digests e = omega arith
+    task tasks.Limits e = omega arith
+    task tasks.Canonical e = omega arith
+
+    go : (o : Order) → MeansOrder (Some (codes "show", rows)) o → 326 ≡ tell_of o → ShowMeans rows
+    go (orders.Message (commands.Show f l)) m e = inl (commands.Show f l, m.0, m.1)
+    go (orders.Message (commands.Check f l)) m e = absurd (omega arith)
+    go (orders.Message commands.Pack) m e = absurd (omega arith)
+    go (orders.Message (commands.Unpack k)) m e = absurd (omega arith)
+    go (orders.Message (commands.Canonical f l)) m e = absurd (omega arith)
+    go (orders.Message (commands.Hash f l)) m e = absurd (omega arith)
+    go (orders.Show s) m e = inr (s, m.1)
+    go (orders.Uniq u) m e = absurd (omega arith)
+    go (orders.Pick p) m e = absurd (omega arith)
+    go (orders.Flow flows.Pack) m e = absurd (omega arith)
+    go (orders.Flow flows.Unpack) m e = absurd (omega arith)
+    go (orders.Make f) m e = absurd (omega arith)
+    go (orders.Archive a) m e = absurd (task a.task e)

@@ -16,10 +16,11 @@ use Rattle.capn_archive.specs.declared.uniq.Uniq.{Uniq}
 use Rattle.capn_serve.specs.declared.pick.Pick.{Pick}
 use Rattle.capn_serve.specs.declared.pick.StreamForm.{StreamForm}
 use Rattle.capn_serve.specs.declared.pick.StreamForm.TheVariants as stream_forms
-use Rattle.capn_program.specs.Meaning.{AreOptions, FlagIs, HasNoFlag, IsFlow, IsTask, MeansOneOrder, MeansOrder}
-use Rattle.capn_program.specs.Meaning.{PickIs, UniqIs, flag_text, form_of, usual_with}
+use Rattle.capn_program.specs.Meaning.{AreOptions, AreSame, FlagIs, HasNoFlag, IsFlow, IsTask, MeansOneOrder}
+use Rattle.capn_program.specs.Meaning.{MeansOrder, PickIs, ShowIs, UniqIs, flag_text, form_of, usual_with}
 use Rattle.capn_program.specs.declared.order.Flow.{Flow}
 use Rattle.capn_program.specs.declared.order.Flow.TheVariants as flows
+use Rattle.capn_program.specs.declared.order.Show.{Show}
 use Rattle.capn_program.specs.declared.order.Order.{Order}
 use Rattle.capn_program.specs.declared.order.Order.TheVariants as orders
 
@@ -67,6 +68,7 @@ tell_flow flows.Unpack = 334
 -- that of an order
 abbrev pub tell_of : Order → ℕ
 tell_of (orders.Message c) = tell_command c
+tell_of (orders.Show s) = 326
 tell_of (orders.Archive a) = tell_task a.task
 tell_of (orders.Uniq u) = 320
 tell_of (orders.Pick k) = 303
@@ -94,6 +96,7 @@ told_flow name rows flows.Unpack is = ap tell is.0
 -- the subcommand is named as its order
 pub told : (said : Text × List Row) (o : Order) → MeansOrder (Some said) o → tell said.0 ≡ tell_of o
 told said (orders.Message c) m = told_command said c m.0
+told said (orders.Show s) m = ap tell m.0
 told said (orders.Archive a) m = told_task said.0 said.1 a.task m.0
 told said (orders.Uniq u) m = ap tell m.0
 told said (orders.Pick k) m = ap tell m.0
@@ -117,7 +120,7 @@ never_command c n other e = let bad : false ≡ true = sym (no_command c) ∙ ap
 
 -- and no task
 abbrev is_no_task : ℕ → Bool
-is_no_task n = n == 303 || (n == 311 || (n == 320 || (n == 295 || n == 334)))
+is_no_task n = n == 303 || (n == 311 || (n == 320 || (n == 326 || (n == 295 || n == 334))))
 
 no_task : (t : Task) → is_no_task (tell_task t) ≡ false
 no_task tasks.List = refl
@@ -130,7 +133,7 @@ never_task t n other e = let bad : false ≡ true = sym (no_task t) ∙ ap is_no
 
 -- and no flow
 abbrev is_no_flow : ℕ → Bool
-is_no_flow n = n == 303 || (n == 311 || n == 320)
+is_no_flow n = n == 303 || (n == 311 || (n == 320 || n == 326))
 
 no_flow : (w : Flow) → is_no_flow (tell_flow w) ≡ false
 no_flow flows.Pack = refl
@@ -224,7 +227,24 @@ pick_one rows p q (f, w, usual, a, b) (g, v, usually, c, d) =
     ∙ sym usually)
     (number_one rows (codes "from") p.from q.from a.0 c.0) (number_one rows (codes "to") p.to q.to b.0 d.0)
 
+show_one : (rows : List Row) (s t : Show) → ShowIs rows s → ShowIs rows t → AreSame (orders.Show s) (orders.Show t)
+show_one rows s t (f, l, w, way) (g, m, v, also) =
+    (form_one s.form t.form (sym f ∙ g), limits_one rows s.limits t.limits l m, some_one _ _ (sym w ∙ v))
+  where
+    some_one : (a b : Text) → Some a ≡ Some b → a ≡ b
+    some_one a b e = ap (λ (o : Option Text). unwrap_or o (codes "")) e
+
 -- ---- two orders of two kinds
+
+-- of a command over messages it is told whether parts are shown
+shows : (rows : List Row) (c : Command) (s : Show) → tell_command c ≡ 326 → HasNoFlag rows c → ShowIs rows s → ⊥
+shows rows (commands.Show f l) s e none is =
+    let bad : None ≡ Some s.way.now = sym none ∙ is.2 in absurd cc
+shows rows (commands.Check f l) s e none is = omega arith
+shows rows commands.Pack s e none is = omega arith
+shows rows (commands.Unpack m) s e none is = omega arith
+shows rows (commands.Canonical f l) s e none is = omega arith
+shows rows (commands.Hash f l) s e none is = omega arith
 
 -- a command over messages and a run over an archive are not named alike, or `--framed` tells them apart
 apart : (name : Text) (rows : List Row) (c : Command) (t : Task) → tell_command c ≡ tell_task t → HasNoFlag rows c
@@ -264,15 +284,24 @@ stays t flows.Pack e = never_task t 295 refl e
 stays t flows.Unpack e = never_task t 334 refl e
 
 same : (s : Text × List Row) (o p : Order) → tell_of o ≡ tell_of p → MeansOrder (Some s) o → MeansOrder (Some s) p
-    → o ≡ p
+    → AreSame o p
 same s (orders.Message c) (orders.Message d) e m n =
     ap (λ (x : Command). orders.Message x) (means_one (Some s) c d m.0 n.0)
+same s (orders.Message c) (orders.Show t) e m n = absurd (shows s.1 c t e m.1 n.1)
 same s (orders.Message c) (orders.Archive b) e m n = absurd (apart s.0 s.1 c b.task e m.1 n.0)
 same s (orders.Message c) (orders.Uniq v) e m n = absurd (never_command c 320 refl e)
 same s (orders.Message c) (orders.Pick k) e m n = absurd (never_command c 303 refl e)
 same s (orders.Message c) (orders.Flow w) e m n = absurd (streams s.0 s.1 c w e m.1 n)
 same s (orders.Message c) (orders.Make g) e m n = absurd (never_command c 311 refl e)
+same s (orders.Show r) (orders.Message d) e m n = absurd (shows s.1 d r (sym e) n.1 m.1)
+same s (orders.Show r) (orders.Show t) e m n = show_one s.1 r t m.1 n.1
+same s (orders.Show r) (orders.Archive b) e m n = absurd (never_task b.task 326 refl (sym e))
+same s (orders.Show r) (orders.Uniq v) e m n = absurd (omega arith)
+same s (orders.Show r) (orders.Pick k) e m n = absurd (omega arith)
+same s (orders.Show r) (orders.Flow w) e m n = absurd (never_flow w 326 refl (sym e))
+same s (orders.Show r) (orders.Make g) e m n = absurd (omega arith)
 same s (orders.Archive a) (orders.Message d) e m n = absurd (apart s.0 s.1 d a.task (sym e) n.1 m.0)
+same s (orders.Archive a) (orders.Show t) e m n = absurd (never_task a.task 326 refl e)
 same s (orders.Archive a) (orders.Archive b) e m n =
     ap (λ (x : Archive). orders.Archive x) (archive_one s.0 s.1 a b e m.0 m.1 n.0 n.1)
 same s (orders.Archive a) (orders.Uniq v) e m n = absurd (never_task a.task 320 refl e)
@@ -280,24 +309,28 @@ same s (orders.Archive a) (orders.Pick k) e m n = absurd (never_task a.task 303 
 same s (orders.Archive a) (orders.Flow w) e m n = absurd (stays a.task w e)
 same s (orders.Archive a) (orders.Make g) e m n = absurd (never_task a.task 311 refl e)
 same s (orders.Uniq u) (orders.Message d) e m n = absurd (never_command d 320 refl (sym e))
+same s (orders.Uniq u) (orders.Show t) e m n = absurd (omega arith)
 same s (orders.Uniq u) (orders.Archive b) e m n = absurd (never_task b.task 320 refl (sym e))
 same s (orders.Uniq u) (orders.Uniq v) e m n = ap (λ (x : Uniq). orders.Uniq x) (uniq_one s.1 u v m.1 n.1)
 same s (orders.Uniq u) (orders.Pick k) e m n = absurd (omega arith)
 same s (orders.Uniq u) (orders.Flow w) e m n = absurd (never_flow w 320 refl (sym e))
 same s (orders.Uniq u) (orders.Make g) e m n = absurd (omega arith)
 same s (orders.Pick k) (orders.Message d) e m n = absurd (never_command d 303 refl (sym e))
+same s (orders.Pick k) (orders.Show t) e m n = absurd (omega arith)
 same s (orders.Pick k) (orders.Archive b) e m n = absurd (never_task b.task 303 refl (sym e))
 same s (orders.Pick k) (orders.Uniq v) e m n = absurd (omega arith)
 same s (orders.Pick k) (orders.Pick l) e m n = ap (λ (x : Pick). orders.Pick x) (pick_one s.1 k l m.1 n.1)
 same s (orders.Pick k) (orders.Flow w) e m n = absurd (never_flow w 303 refl (sym e))
 same s (orders.Pick k) (orders.Make g) e m n = absurd (omega arith)
 same s (orders.Flow v) (orders.Message d) e m n = absurd (streams s.0 s.1 d v (sym e) n.1 m)
+same s (orders.Flow v) (orders.Show t) e m n = absurd (never_flow v 326 refl e)
 same s (orders.Flow v) (orders.Archive b) e m n = absurd (stays b.task v (sym e))
 same s (orders.Flow v) (orders.Uniq u) e m n = absurd (never_flow v 320 refl e)
 same s (orders.Flow v) (orders.Pick k) e m n = absurd (never_flow v 303 refl e)
 same s (orders.Flow v) (orders.Flow w) e m n = ap (λ (x : Flow). orders.Flow x) (flow_one v w e)
 same s (orders.Flow v) (orders.Make g) e m n = absurd (never_flow v 311 refl e)
 same s (orders.Make f) (orders.Message d) e m n = absurd (never_command d 311 refl (sym e))
+same s (orders.Make f) (orders.Show t) e m n = absurd (omega arith)
 same s (orders.Make f) (orders.Archive b) e m n = absurd (never_task b.task 311 refl (sym e))
 same s (orders.Make f) (orders.Uniq v) e m n = absurd (omega arith)
 same s (orders.Make f) (orders.Pick k) e m n = absurd (omega arith)

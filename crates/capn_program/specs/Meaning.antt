@@ -1,7 +1,8 @@
 -- What a subcommand and the values of its options order. (Own.)
 use Rattle.std.specs.Prelude.{ℕ, ◌≡◌, ◌≤◌, List, Bool, true, false, Option, Some, None, codes, ⊤, find, option_and_then}
+use Rattle.std.specs.Prelude.{IsSome}
 use Rattle.std.specs.Str.{bytes_eq}
-use Rattle.clap.specs.Words.{Row, Text, one_of}
+use Rattle.clap.specs.Words.{Row, Text, first_of, one_of}
 use Rattle.clap.specs.declared.parser.matches.ValueSource.{ValueSource}
 use Rattle.clap.specs.declared.parser.matches.ValueSource.TheVariants as sources
 use Rattle.capn_words.specs.Message.{most_message_words}
@@ -20,8 +21,10 @@ use Rattle.capn_serve.specs.declared.pick.Pick.{Pick}
 use Rattle.capn_serve.specs.declared.pick.StreamForm.{StreamForm}
 use Rattle.capn_serve.specs.declared.pick.StreamForm.TheVariants as streams
 use Rattle.capn_program.specs.CommandLine.{most_number}
+use Rattle.capn_program.specs.Way.{way_of}
 use Rattle.capn_program.specs.declared.order.Flow.{Flow}
 use Rattle.capn_program.specs.declared.order.Flow.TheVariants as flows
+use Rattle.capn_program.specs.declared.order.Show.{Show}
 use Rattle.capn_program.specs.declared.order.Order.{Order}
 use Rattle.capn_program.specs.declared.order.Order.TheVariants as orders
 
@@ -87,10 +90,15 @@ IsFlow name rows flows.Pack = (name ≡ codes "pack") × FlagIs rows (codes "str
 IsFlow name rows flows.Unpack =
     (name ≡ codes "unpack") × FlagIs rows (codes "streaming") true × IsUsual rows (codes "message-words")
 
--- `canonical`, `pack` and `unpack` are commands over one input where none of their flags is given; no other command
--- over messages has one
+-- the options of `show` have these values: `--at` is given, and its value is a way
+abbrev pub ShowIs : List Row → Show → Type 0
+ShowIs rows show = FormIs rows show.form × LimitsAre rows show.limits
+    × (first_of (codes "at") rows ≡ Some show.way.now) × IsSome (way_of show.way.now)
+
+-- `canonical`, `pack` and `unpack` are commands over one input where none of their flags is given, and `show` shows
+-- all of a message where `--at` isn't; no other command over messages has such an option
 abbrev pub HasNoFlag : List Row → Command → Type 0
-HasNoFlag rows (commands.Show form limits) = ⊤
+HasNoFlag rows (commands.Show form limits) = first_of (codes "at") rows ≡ None
 HasNoFlag rows (commands.Check form limits) = ⊤
 HasNoFlag rows commands.Pack = FlagIs rows (codes "streaming") false
 HasNoFlag rows (commands.Unpack most) = FlagIs rows (codes "streaming") false
@@ -102,12 +110,18 @@ HasNoFlag rows (commands.Hash form limits) = ⊤
 abbrev pub MeansOrder : Option (Text × List Row) → Order → Type 0
 MeansOrder None order = ⊥
 MeansOrder (Some s) (orders.Message command) = Means (Some s) command × HasNoFlag s.1 command
+MeansOrder (Some s) (orders.Show show) = (s.0 ≡ codes "show") × ShowIs s.1 show
 MeansOrder (Some s) (orders.Archive archive) = IsTask s.0 s.1 archive.task × AreOptions s.1 archive
 MeansOrder (Some s) (orders.Uniq uniq) = (s.0 ≡ codes "uniq") × UniqIs s.1 uniq
 MeansOrder (Some s) (orders.Pick pick) = (s.0 ≡ codes "pick") × PickIs s.1 pick
 MeansOrder (Some s) (orders.Flow flow) = IsFlow s.0 s.1 flow
 MeansOrder (Some s) (orders.Make form) = (s.0 ≡ codes "make") × FormIs s.1 form
 
+-- two orders are the same: where parts of messages are shown, their texts of the way are equal, wherever these stand
+abbrev pub AreSame : Order → Order → Type 0
+AreSame (orders.Show s) (orders.Show t) = (s.form ≡ t.form) × (s.limits ≡ t.limits) × (s.way.now ≡ t.way.now)
+AreSame o p = o ≡ p
+
 -- a meaning is that of one order at most
 abbrev pub MeansOneOrder : Type 0
-MeansOneOrder = (said : Option (Text × List Row)) (o p : Order) → MeansOrder said o → MeansOrder said p → o ≡ p
+MeansOneOrder = (said : Option (Text × List Row)) (o p : Order) → MeansOrder said o → MeansOrder said p → AreSame o p

@@ -2,7 +2,7 @@
 
 use capn_program::{
     Archive, ArchiveFault, Command, Flow, Form, Limits, MakeFault, Order, Passed, Pick, Position,
-    Refusal, StreamForm, Tariff, Task, Uniq, Watched, archive_text, end_make, order_of,
+    Refusal, Show, StreamForm, Tariff, Task, Uniq, Watched, archive_text, end_make, order_of,
 };
 use std::alloc::Global;
 use std::process::Abort;
@@ -22,13 +22,18 @@ fn expect_usage(rt: &impl Abort, alloc: Global, words: &[&str], status: u8) {
 }
 
 /// A run over a stream with usual limits.
-fn over(task: Task, keep_going: bool) -> Order {
+fn over(task: Task, keep_going: bool) -> Order<'static> {
     Order::Archive(Archive {
         task,
         form: Form::Stream,
         limits: Limits::usual(),
         keep_going,
     })
+}
+
+/// Bytes that flow one way.
+fn flowing(flow: Flow) -> Order<'static> {
+    Order::Flow(flow)
 }
 
 #[test]
@@ -79,6 +84,32 @@ fn their_options_are_as_they_were(rt: HostRuntime) {
         &words,
         Order::Message(Command::Unpack(2_050)),
     );
+}
+
+#[test]
+fn parts_are_shown_at_a_way(rt: HostRuntime) {
+    let (form, limits) = (Form::Packed, Limits::usual());
+    for way in ["0", "0.3.1", "007", "18446744073709551615"] {
+        let words = ["capn", "show", "--form", "packed", "--at", way];
+        expect(
+            &rt,
+            rt.alloc(),
+            &words,
+            Order::Show(Show { form, limits, way }),
+        );
+    }
+    for way in [
+        "",
+        ".",
+        "0.",
+        ".0",
+        "0..1",
+        "+1",
+        "0,1",
+        "18446744073709551616",
+    ] {
+        expect_usage(&rt, rt.alloc(), &["capn", "show", "--at", way], 2);
+    }
 }
 
 #[test]
@@ -224,10 +255,10 @@ fn doubles_are_left_out_or_counted(rt: HostRuntime) {
 
 #[test]
 fn bytes_flow_without_a_most(rt: HostRuntime) {
-    for (name, flow) in [("pack", Flow::Pack), ("unpack", Flow::Unpack)] {
-        let words = ["capn", name, "--streaming"];
-        expect(&rt, rt.alloc(), &words, Order::Flow(flow));
-    }
+    let words = ["capn", "pack", "--streaming"];
+    expect(&rt, rt.alloc(), &words, flowing(Flow::Pack));
+    let words = ["capn", "unpack", "--streaming"];
+    expect(&rt, rt.alloc(), &words, flowing(Flow::Unpack));
     let words = [
         "capn",
         "unpack",
