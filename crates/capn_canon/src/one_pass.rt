@@ -25,7 +25,9 @@ use capn_walk::Limits;
 use capn_words::{Bare, Place, Pointer, Width, split};
 
 /// What the walk of a bare message pays and visits within the limits, if it is accepted, its value has no capability
-/// and its bytes are canonical; else none.
+/// and its bytes are canonical; otherwise nothing. (Own.)
+///
+/// It takes no memory. Where it answers nothing, [`survey_bare`](crate::survey_bare) tells why.
 pub fn survey_canonical(space: &Bare<'_>, limits: Limits) -> Option<SurveyedBare>
     requires { IsMessage (space.now ∷ []) }
     ensures found { IfSome result (λ c. IsBareSurvey space.now limits c) }
