@@ -11,6 +11,8 @@ mod Steps
 mod ListTexts
 mod FoundTexts
 mod Ends
+mod PlainTexts
+mod TextBytes
 mod PartSteps
 mod BlockDigits
 mod BitDigits

@@ -21,7 +21,7 @@ use std::alloc::Allocator;
 use std::io::Write;
 
 /// Element `i` of a list of bits, bytes, pairs, quads or octs whose content starts at a place.
-fn number_at<S: Space>(space: &S, start: Place, width: Width, i: u32) -> u64
+pub fn number_at<S: Space>(space: &S, start: Place, width: Width, i: u32) -> u64
     requires message { IsMessage (S.message space.now) }
     requires there { IsContent (S.message space.now) start (i / seen.per_word width + 1) }
     requires plain { HasNumbers width }

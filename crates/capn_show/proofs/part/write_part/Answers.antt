@@ -3,7 +3,7 @@ use Rattle.std.proofs.lemmas.Result.{on_ok_weaker, IfErr-weaker}
 use Rattle.std.specs.Prelude.{Option}
 use Rattle.capn_value.specs.Tree.{Tree}
 use Rattle.capn_show.specs.Outgoing.{Adds, BreaksOff, outgoing}
-use Rattle.capn_show.specs.Part.{part_text}
+use Rattle.capn_show.specs.Quoting.{bytes_of, part_text_by}
 use Rattle.capn_show.proofs.part.write_part.Goals as goal
 
 pub named-found-requires-clause-value : goal.named-found-requires-clause-value
@@ -27,7 +27,7 @@ returns-in-Some-clause-shown g c =
     let new = outgoing g.W.Write.contents c.show_found.new.writer c.show_found.new.text.items in
     on_ok_weaker c.show_found.result
     (λ k v is. let x = c.in-Some.ensures.there v (c.named-found.ensures.shown v is) in
-    subst (λ (o : Option Tree). Adds old new (part_text o)) (sym x.is) (k x.value x.shown))
+    subst (λ (o : Option Tree). Adds old new (part_text_by (bytes_of c.args.style) o)) (sym x.is) (k x.value x.shown))
     c.show_found.ensures.shown
 
 pub returns-in-Some-clause-cut : goal.returns-in-Some-clause-cut
@@ -36,7 +36,7 @@ returns-in-Some-clause-cut g c =
     let new = outgoing g.W.Write.contents c.show_found.new.writer c.show_found.new.text.items in
     IfErr-weaker c.show_found.result _ _
     (λ e k v is. let x = c.in-Some.ensures.there v (c.named-found.ensures.shown v is) in
-    subst (λ (o : Option Tree). BreaksOff old new e (part_text o)) (sym x.is) (k x.value x.shown))
+    subst (λ (o : Option Tree). BreaksOff old new e (part_text_by (bytes_of c.args.style) o)) (sym x.is) (k x.value x.shown))
     c.show_found.ensures.cut
 
 pub returns-in-None-clause-shown : goal.returns-in-None-clause-shown
@@ -44,7 +44,7 @@ returns-in-None-clause-shown g c =
     let old = outgoing g.W.Write.contents c.args.writer.now c.args.text.now.items in
     let new = outgoing g.W.Write.contents c.plain_line.new.writer c.plain_line.new.text.items in
     on_ok_weaker c.plain_line.result
-    (λ k v is. subst (λ (o : Option Tree). Adds old new (part_text o))
+    (λ k v is. subst (λ (o : Option Tree). Adds old new (part_text_by (bytes_of c.args.style) o))
     (sym (c.in-None.ensures.none v (c.named-found.ensures.shown v is))) k)
     c.plain_line.ensures.shown
 
@@ -53,6 +53,6 @@ returns-in-None-clause-cut g c =
     let old = outgoing g.W.Write.contents c.args.writer.now c.args.text.now.items in
     let new = outgoing g.W.Write.contents c.plain_line.new.writer c.plain_line.new.text.items in
     IfErr-weaker c.plain_line.result _ _
-    (λ e k v is. subst (λ (o : Option Tree). BreaksOff old new e (part_text o))
+    (λ e k v is. subst (λ (o : Option Tree). BreaksOff old new e (part_text_by (bytes_of c.args.style) o))
     (sym (c.in-None.ensures.none v (c.named-found.ensures.shown v is))) k)
     c.plain_line.ensures.cut
