@@ -29,21 +29,6 @@ module _ (by : ℕ → List ℕ → List ℕ) where
       subst Says (ap₂ (λ (x y : ℕ). body_line level x y ++ (own ++ below)) h.words h.slots)
       (step own below (words ws h.word (sym h.words)) (slots ss h.slot (sym h.slots)))
 
-  -- content has a height
-  high : (m : List (List ℕ)) (s w pads : ℕ) (shape : Shape) (v : Tree)
-      → Shows m (targets.Content s w shape pads) v → 1 ≤ height v
-  high m s w pads shape nil h = absurd (cc)
-  high m s w pads shape (cap k) h = absurd (cc)
-  high m s w pads shape (node ws ss) h = omega arith
-  high m s w pads shape (voids n) h = omega arith
-  high m s w pads shape (bits xs) h = omega arith
-  high m s w pads shape (bytes xs) h = omega arith
-  high m s w pads shape (pairs xs) h = omega arith
-  high m s w pads shape (quads xs) h = omega arith
-  high m s w pads shape (octs xs) h = omega arith
-  high m s w pads shape (links ts) h = omega arith
-  high m s w pads shape (rows bs) h = omega arith
-
   module _ (m : List (List ℕ)) (found : Target) (level : ℕ) (Says : List ℕ → Type 0) where
     pub nil-shown : found ≡ targets.Nil → Says (line level (codes "null")) → IsFoundShown m by found level Says
     nil-shown e h v i =
@@ -57,7 +42,8 @@ module _ (by : ℕ → List ℕ → List ℕ) where
         subst Says (sym (ap (shown_by by level) is)) h
 
     module _ (s w pads : ℕ) (shape : Shape) (e : found ≡ targets.Content s w shape pads) where
-      named-by : (other : Shape) (v : Tree) → shape ≡ other → Shows m found v → Shows m (targets.Content s w other pads) v
+      named-by : (other : Shape) (v : Tree) → shape ≡ other → Shows m found v → Shows m
+          (targets.Content s w other pads) v
       named-by other v f i =
           subst (λ (t : Target). Shows m t v) (e ∙ ap (λ (x : Shape). targets.Content s w x pads) f) i
 
@@ -96,53 +82,68 @@ module _ (by : ℕ → List ℕ → List ℕ) where
             ∙ sym (ap (shown_by by level) x.is))
             (step below (k x.bodies x.are x.number))
 
-  -- what is known below what a pointer names
-  module _ (m : List (List ℕ)) (found : Target) (s w pads : ℕ) (shape : Shape)
-      (e : found ≡ targets.Content s w shape pads) where
-    pub inside : IsInMessage m found → IsContent m (record { segment = s; word = w }) (extent shape) × RowsFit shape
-    inside h = subst (λ (t : Target). IsInMessage m t) e h
+-- content has a height
+high : (m : List (List ℕ)) (s w pads : ℕ) (shape : Shape) (v : Tree)
+    → Shows m (targets.Content s w shape pads) v → 1 ≤ height v
+high m s w pads shape nil h = absurd (cc)
+high m s w pads shape (cap k) h = absurd (cc)
+high m s w pads shape (node ws ss) h = omega arith
+high m s w pads shape (voids n) h = omega arith
+high m s w pads shape (bits xs) h = omega arith
+high m s w pads shape (bytes xs) h = omega arith
+high m s w pads shape (pairs xs) h = omega arith
+high m s w pads shape (quads xs) h = omega arith
+high m s w pads shape (octs xs) h = omega arith
+high m s w pads shape (links ts) h = omega arith
+high m s w pads shape (rows bs) h = omega arith
 
-    module _ (depth : ℕ) (ready : IsFound m found depth) where
-      pub deep : 1 ≤ depth
-      deep =
-          let k = high m s w pads shape ready.value (subst (λ (t : Target). Shows m t ready.value) e ready.is) in
-          let l = ready.low in
-          omega arith
+-- what is known below what a pointer names
+module _ (m : List (List ℕ)) (found : Target) (s w pads : ℕ) (shape : Shape)
+    (e : found ≡ targets.Content s w shape pads) where
+  pub inside : IsInMessage m found → IsContent m (record { segment = s; word = w }) (extent shape) × RowsFit shape
+  inside h = subst (λ (t : Target). IsInMessage m t) e h
 
-      here : (other : Shape) → shape ≡ other → Shows m (targets.Content s w other pads) ready.value
-      here other f =
-          subst (λ (t : Target). Shows m t ready.value) (e ∙ ap (λ (x : Shape). targets.Content s w x pads) f) ready.is
+  module _ (depth : ℕ) (ready : IsFound m found depth) where
+    pub deep : 1 ≤ depth
+    deep =
+        let k = high m s w pads shape ready.value (subst (λ (t : Target). Shows m t ready.value) e ready.is) in
+        let l = ready.low in
+        omega arith
 
-      pub node-ready : (a b : ℕ) → shape ≡ shapes.Node a b → IsBody m s w a b (depth - 1)
-      node-ready a b f =
-          let x = as-node m s w pads a b ready.value (here (shapes.Node a b) f) in
-          let h = ap height x.is in
-          let l = ready.low in
-          record { words = x.words; slots = x.slots; is = x.are; low = omega arith }
+    here : (other : Shape) → shape ≡ other → Shows m (targets.Content s w other pads) ready.value
+    here other f =
+        subst (λ (t : Target). Shows m t ready.value) (e ∙ ap (λ (x : Shape). targets.Content s w x pads) f) ready.is
 
-      pub links-ready : (width : Width) (n : ℕ) → shape ≡ shapes.Many width n → width ≡ Link
-          → AreReady m s w n (depth - 1)
-      links-ready width n f g =
-          let x = as-links m s w pads n ready.value (here (shapes.Many Link n) (f
-          ∙ ap (λ (y : Width). shapes.Many y n) g)) in
-          let h = ap height x.is in
-          let l = ready.low in
-          record { values = x.slots; are = x.are; count = x.number; low = omega arith }
+    pub node-ready : (a b : ℕ) → shape ≡ shapes.Node a b → IsBody m s w a b (depth - 1)
+    node-ready a b f =
+        let x = as-node m s w pads a b ready.value (here (shapes.Node a b) f) in
+        let h = ap height x.is in
+        let l = ready.low in
+        record { words = x.words; slots = x.slots; is = x.are; low = omega arith }
 
-      pub rows-ready : (n a b span : ℕ) → shape ≡ shapes.Rows n a b span → AreRows m s (w + 1) n a b (depth - 1)
-      rows-ready n a b span f =
-          let x = as-rows m s w pads n a b span ready.value (here (shapes.Rows n a b span) f) in
-          let h = ap height x.is in
-          let l = ready.low in
-          record { values = x.bodies; are = x.are; count = x.number; low = omega arith }
+    pub links-ready : (width : Width) (n : ℕ) → shape ≡ shapes.Many width n → width ≡ Link
+        → AreReady m s w n (depth - 1)
+    links-ready width n f g =
+        let x = as-links m s w pads n ready.value (here (shapes.Many Link n) (f
+        ∙ ap (λ (y : Width). shapes.Many y n) g)) in
+        let h = ap height x.is in
+        let l = ready.low in
+        record { values = x.slots; are = x.are; count = x.number; low = omega arith }
 
-  -- elements of a list whose pointer is near, and not to pointers
-  pub plain-of : (width : Width) (n : ℕ) → RowsFit (shapes.Many width n) → (width ≡ Link → ⊥) → IsPlain width
-  plain-of W0 n fit other = tt
-  plain-of W1 n fit other = tt
-  plain-of W8 n fit other = tt
-  plain-of W16 n fit other = tt
-  plain-of W32 n fit other = tt
-  plain-of W64 n fit other = tt
-  plain-of Link n fit other = other refl
-  plain-of Rows n fit other = fit
+    pub rows-ready : (n a b span : ℕ) → shape ≡ shapes.Rows n a b span → AreRows m s (w + 1) n a b (depth - 1)
+    rows-ready n a b span f =
+        let x = as-rows m s w pads n a b span ready.value (here (shapes.Rows n a b span) f) in
+        let h = ap height x.is in
+        let l = ready.low in
+        record { values = x.bodies; are = x.are; count = x.number; low = omega arith }
+
+-- elements of a list whose pointer is near, and not to pointers
+pub plain-of : (width : Width) (n : ℕ) → RowsFit (shapes.Many width n) → (width ≡ Link → ⊥) → IsPlain width
+plain-of W0 n fit other = tt
+plain-of W1 n fit other = tt
+plain-of W8 n fit other = tt
+plain-of W16 n fit other = tt
+plain-of W32 n fit other = tt
+plain-of W64 n fit other = tt
+plain-of Link n fit other = other refl
+plain-of Rows n fit other = fit

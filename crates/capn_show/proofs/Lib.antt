@@ -13,6 +13,7 @@ mod FoundTexts
 mod Ends
 mod PlainTexts
 mod TextBytes
+mod ReadBytes
 mod PartSteps
 mod BlockDigits
 mod BitDigits

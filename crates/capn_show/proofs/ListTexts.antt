@@ -38,7 +38,8 @@ module _ (by : ℕ → List ℕ → List ℕ) where
           let x = as-bits m s w pads n v (known W1 pads v e i) in
           let rest = one_line (level + 1) (length x.digits) (digits_of x.digits) in
           subst Says
-          (ap (λ (j : ℕ). line level (named (codes "bits") j) ++ rest) (sym x.count) ∙ sym (ap (shown_by by level) x.is))
+          (ap (λ (j : ℕ). line level (named (codes "bits") j) ++ rest) (sym x.count)
+          ∙ sym (ap (shown_by by level) x.is))
           (step rest (k x.digits x.are x.count))
 
       pub pairs-shown : width ≡ W16 → ((y : List ℕ) → Below y → Says (line level (named (codes "u16") n) ++ y))

@@ -123,7 +123,7 @@ module _ (m : List (List ℕ)) where
           let number = x.are.slots in
           let there : i < count x.slots = omega arith in
           let high = ap height x.is in
-          let low = low-at (λ level xs. xs) x.slots i there in
+          let low = low-at x.slots i there in
           record {
             value = tree_at x.slots i;
             is = ap (λ (u : Tree). step_down u i) x.is ∙ nth-there x.slots i there;
@@ -157,7 +157,7 @@ module _ (m : List (List ℕ)) where
           let number = x.number in
           let there : i < count x.slots = omega arith in
           let high = ap height x.is in
-          let low = low-at (λ level xs. xs) x.slots i there in
+          let low = low-at x.slots i there in
           record {
             value = tree_at x.slots i;
             is = ap (λ (u : Tree). step_down u i) x.is ∙ nth-there x.slots i there;
@@ -180,7 +180,7 @@ module _ (m : List (List ℕ)) where
           let number = x.number in
           let there : i < count_rows x.bodies = omega arith in
           let high = ap height x.is in
-          let low = row-low (λ level xs. xs) x.bodies i there in
+          let low = row-low x.bodies i there in
           record {
             value = node (words_of_row x.bodies i) (slots_of_row x.bodies i);
             is = ap (λ (u : Tree). step_down u i) x.is ∙ row-there x.bodies i there;

@@ -13,27 +13,45 @@ use Rattle.capn_show.specs.declared.fault.Broken.{Broken}
 use Rattle.capn_show.specs.Outgoing.{Outgoing, Adds, BreaksOff}
 use Rattle.capn_show.proofs.shared.Appended.{both, otherwise, otherwise-broken, then-broken, broken-before}
 
+front-all : (ts : Trees) → front (count ts) ts ≡ ts
+front-all no_trees = refl
+front-all (tree t ts) = ap (tree t) (front-all ts)
+
+pub low-at : (ts : Trees) (i : ℕ) → i < count ts → height (tree_at ts i) ≤ greatest ts
+low-at no_trees i below = absurd (omega arith)
+low-at (tree t ts) zero below = omega arith
+low-at (tree t ts) (suc i) below = let k = low-at ts i (omega arith) in omega arith
+
+rows-front-all : (bs : Bodies) → front_rows (count_rows bs) bs ≡ bs
+rows-front-all no_bodies = refl
+rows-front-all (body ws ss bs) = ap (body ws ss) (rows-front-all bs)
+
+pub row-low : (bs : Bodies) (i : ℕ) → i < count_rows bs → greatest (slots_of_row bs i) ≤ greatest_in_rows bs
+row-low no_bodies i below = absurd (omega arith)
+row-low (body ws ss bs) zero below = omega arith
+row-low (body ws ss bs) (suc i) below = let k = row-low bs i (omega arith) in omega arith
+
+-- ---- the text, by how lists of bytes are written
+
 module _ (by : ℕ → List ℕ → List ℕ) where
   -- ---- slots
 
   front-next : (level : ℕ) (ts : Trees) (i : ℕ) → i < count ts
-      → shown_each_by by level (front i ts) ++ shown_by by level (tree_at ts i) ≡ shown_each_by by level (front (suc i) ts)
+      → shown_each_by by level (front i ts) ++ shown_by by level (tree_at ts i)
+      ≡ shown_each_by by level (front (suc i) ts)
   front-next level no_trees i below = absurd (omega arith)
   front-next level (tree t ts) zero below = sym (append-nil (shown_by by level t))
   front-next level (tree t ts) (suc i) below =
       append_assoc (shown_by by level t) (shown_each_by by level (front i ts)) (shown_by by level (tree_at ts i))
       ∙ ap (λ (l : List ℕ). shown_by by level t ++ l) (front-next level ts i (omega arith))
 
-  front-all : (ts : Trees) → front (count ts) ts ≡ ts
-  front-all no_trees = refl
-  front-all (tree t ts) = ap (tree t) (front-all ts)
-
   pub each-more : (p q r : Outgoing) (level : ℕ) (ts : Trees) (i : ℕ) → i < count ts
       → Adds p q (shown_each_by by level (front i ts)) → Adds q r (shown_by by level (tree_at ts i))
       → Adds p r (shown_each_by by level (front (i + 1) ts))
   each-more p q r level ts i below h k =
       let next : suc i ≡ i + 1 = omega arith in
-      otherwise p r (shown_each_by by level (front i ts) ++ shown_by by level (tree_at ts i)) (shown_each_by by level (front (i + 1) ts))
+      otherwise p r (shown_each_by by level (front i ts) ++ shown_by by level (tree_at ts i))
+      (shown_each_by by level (front (i + 1) ts))
       (front-next level ts i below ∙ ap (λ (n : ℕ). shown_each_by by level (front n ts)) next)
       (both p q r (shown_each_by by level (front i ts)) (shown_by by level (tree_at ts i)) h k)
 
@@ -68,11 +86,6 @@ module _ (by : ℕ → List ℕ → List ℕ) where
       otherwise-broken p r e ((f ++ here) ++ x.0) (shown_each_by by level ts) x.1
       (broken-before p r e (f ++ here) x.0 (then-broken p q r e f here h k))
 
-  pub low-at : (ts : Trees) (i : ℕ) → i < count ts → height (tree_at ts i) ≤ greatest ts
-  low-at no_trees i below = absurd (omega arith)
-  low-at (tree t ts) zero below = omega arith
-  low-at (tree t ts) (suc i) below = let k = low-at ts i (omega arith) in omega arith
-
   -- ---- rows
 
   body-first : (level : ℕ) (ws : List ℕ) (ss : Trees) (bs : Bodies)
@@ -97,10 +110,6 @@ module _ (by : ℕ → List ℕ → List ℕ) where
       ∙ ap (λ (l : List ℕ). shown_body by level ws ss ++ l) (rows-next level bs i (omega arith))
       ∙ body-first level ws ss (front_rows (suc i) bs)
 
-  rows-front-all : (bs : Bodies) → front_rows (count_rows bs) bs ≡ bs
-  rows-front-all no_bodies = refl
-  rows-front-all (body ws ss bs) = ap (body ws ss) (rows-front-all bs)
-
   pub rows-more : (p q r : Outgoing) (level : ℕ) (bs : Bodies) (i : ℕ) → i < count_rows bs
       → Adds p q (shown_rows_by by level (front_rows i bs))
       → Adds q r (shown_body by level (words_of_row bs i) (slots_of_row bs i))
@@ -120,7 +129,8 @@ module _ (by : ℕ → List ℕ → List ℕ) where
 
   -- what comes before row i, its own text, and what comes after it
   rows-split : (level : ℕ) (bs : Bodies) (i : ℕ) → i < count_rows bs → (rest : List ℕ)
-      × ((shown_rows_by by level (front_rows i bs) ++ shown_body by level (words_of_row bs i) (slots_of_row bs i)) ++ rest
+      × ((shown_rows_by by level (front_rows i bs) ++ shown_body by level (words_of_row bs i) (slots_of_row bs i))
+      ++ rest
       ≡ shown_rows_by by level bs)
   rows-split level no_bodies i below = absurd (omega arith)
   rows-split level (body ws ss bs) zero below = (shown_rows_by by level bs, body-first level ws ss bs)
@@ -147,8 +157,3 @@ module _ (by : ℕ → List ℕ → List ℕ) where
       let here = shown_body by level (words_of_row bs i) (slots_of_row bs i) in
       otherwise-broken p r e ((f ++ here) ++ x.0) (shown_rows_by by level bs) x.1
       (broken-before p r e (f ++ here) x.0 (then-broken p q r e f here h k))
-
-  pub row-low : (bs : Bodies) (i : ℕ) → i < count_rows bs → greatest (slots_of_row bs i) ≤ greatest_in_rows bs
-  row-low no_bodies i below = absurd (omega arith)
-  row-low (body ws ss bs) zero below = omega arith
-  row-low (body ws ss bs) (suc i) below = let k = row-low bs i (omega arith) in omega arith

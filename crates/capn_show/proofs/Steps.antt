@@ -36,7 +36,8 @@ module _ (m : List (List ℕ)) where
       (at : Place) (t : Target) (depth : ℕ) → target m at ≡ Ok t → IsReady m at depth → IsFound m t depth
   found-ready laws at t depth e r = record { value = r.value; is = laws m at t r.value e r.is; low = r.low }
 
-  pub found-shown : (by : ℕ → List ℕ → List ℕ) (laws : (message : List (List ℕ)) (at : Place) (t : Target) (v : Tree) → ViewsShow message at t v)
+  pub found-shown : (by : ℕ → List ℕ → List ℕ) (laws : (message : List (List ℕ)) (at : Place) (t : Target) (v : Tree)
+      → ViewsShow message at t v)
       (at : Place) (t : Target) (level : ℕ) (Says : List ℕ → Type 0) → target m at ≡ Ok t
       → IsFoundShown m by t level Says → IsShown m by at level Says
   found-shown by laws at t level Says e h v i = h v (laws m at t v e i)
@@ -47,7 +48,7 @@ module _ (m : List (List ℕ)) where
   slot-ready s w number depth i below r =
       let n = r.count in
       let there : i < count r.values = omega arith in
-      let k = low-at (λ level xs. xs) r.values i there in
+      let k = low-at r.values i there in
       let l = r.low in
       record { value = tree_at r.values i; is = r.are i there; low = omega arith }
 
@@ -57,7 +58,7 @@ module _ (m : List (List ℕ)) where
   row-ready s w number a b depth i below r =
       let n = r.count in
       let there : i < count_rows r.values = omega arith in
-      let k = row-low (λ level xs. xs) r.values i there in
+      let k = row-low r.values i there in
       let l = r.low in
       record {
         words = words_of_row r.values i;

@@ -63,10 +63,12 @@ pub fn show_found<S: Space, W: Write, A: Allocator, const QUOTED: bool>(
     requires ready { IsFound (S.message space.now) found depth }
     requires room { level + 2 * depth < 2 ^ 32 }
     ensures shown { OnOk result
-        (IsFoundShown (S.message space.now) (bytes_of QUOTED) found level (Adds (outgoing W.contents writer.old text.old.items)
+        (IsFoundShown (S.message space.now) (bytes_of QUOTED) found level
+        (Adds (outgoing W.contents writer.old text.old.items)
         (outgoing W.contents writer.new text.new.items))) }
     ensures cut { IfErr result (λ e.
-        IsFoundShown (S.message space.now) (bytes_of QUOTED) found level (BreaksOff (outgoing W.contents writer.old text.old.items)
+        IsFoundShown (S.message space.now) (bytes_of QUOTED) found level
+        (BreaksOff (outgoing W.contents writer.old text.old.items)
         (outgoing W.contents writer.new text.new.items) e)) }
 {
     match found {
@@ -155,10 +157,12 @@ fn show_list<S: Space, W: Write, A: Allocator, const QUOTED: bool>(
     requires plain { IsPlain width }
     requires room { level + 1 < 2 ^ 32 }
     ensures shown { OnOk result ((pads : ℕ)
-        → IsFoundShown (S.message space.now) (bytes_of QUOTED) (targets.Content start.segment start.word (shapes.Many width count) pads)
+        → IsFoundShown (S.message space.now) (bytes_of QUOTED) (targets.Content start.segment start.word
+        (shapes.Many width count) pads)
         level (Adds (outgoing W.contents writer.old text.old.items) (outgoing W.contents writer.new text.new.items))) }
     ensures cut { IfErr result (λ e. (pads : ℕ)
-        → IsFoundShown (S.message space.now) (bytes_of QUOTED) (targets.Content start.segment start.word (shapes.Many width count) pads)
+        → IsFoundShown (S.message space.now) (bytes_of QUOTED) (targets.Content start.segment start.word
+        (shapes.Many width count) pads)
         level (BreaksOff (outgoing W.contents writer.old text.old.items) (outgoing W.contents writer.new
         text.new.items) e)) }
 {
@@ -234,7 +238,8 @@ fn show_slots<S: Space, W: Write, A: Allocator, const QUOTED: bool>(
     requires room { level + 2 * depth < 2 ^ 32 }
     ensures shown { OnOk result (AreShown (S.message space.now) (bytes_of QUOTED) first.segment first.word count level
         (Adds (outgoing W.contents writer.old text.old.items) (outgoing W.contents writer.new text.new.items))) }
-    ensures cut { IfErr result (λ e. AreShown (S.message space.now) (bytes_of QUOTED) first.segment first.word count level
+    ensures cut { IfErr result (λ e. AreShown (S.message space.now) (bytes_of QUOTED) first.segment first.word
+        count level
         (BreaksOff (outgoing W.contents writer.old text.old.items) (outgoing W.contents writer.new text.new.items) e)) }
 {
     for i in 0..count {

@@ -145,7 +145,8 @@ module _ (m : List (List ℕ)) where
 
   -- of those of slots
   abbrev pub AreShown : (ℕ → List ℕ → List ℕ) → ℕ → ℕ → ℕ → ℕ → (List ℕ → Type 0) → Type 0
-  AreShown by s w number level Says = (ts : Trees) → AreSlots s w ts → count ts ≡ number → Says (shown_each_by by level ts)
+  AreShown by s w number level Says = (ts : Trees) → AreSlots s w ts → count ts ≡ number
+      → Says (shown_each_by by level ts)
 
   -- of those of rows
   abbrev pub RowsShown : (ℕ → List ℕ → List ℕ) → ℕ → ℕ → ℕ → ℕ → ℕ → ℕ → (List ℕ → Type 0) → Type 0
