@@ -18,6 +18,9 @@
 
 mod digits;
 mod fault;
+mod json;
+mod json_items;
+mod json_lists;
 mod lines;
 mod message;
 mod numbers;
