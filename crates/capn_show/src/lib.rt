@@ -19,6 +19,9 @@
 mod bytes;
 mod digits;
 mod fault;
+mod json;
+mod json_items;
+mod json_lists;
 mod lines;
 mod message;
 mod numbers;

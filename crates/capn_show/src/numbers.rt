@@ -114,7 +114,7 @@ pub fn show_bits<S: Space, W: Write, A: Allocator>(
 }
 
 /// The digits of the bits of a list, those of a word at a time.
-fn push_bits<S: Space, W: Write, A: Allocator>(
+pub fn push_bits<S: Space, W: Write, A: Allocator>(
     text: &mut Vec<u8, A>,
     writer: &mut Watched<W>,
     space: &S,
@@ -167,7 +167,7 @@ pub fn show_bytes<S: Space, W: Write, A: Allocator>(
 }
 
 /// The digits of the bytes of a list, those of a word at a time.
-fn push_bytes<S: Space, W: Write, A: Allocator>(
+pub fn push_bytes<S: Space, W: Write, A: Allocator>(
     text: &mut Vec<u8, A>,
     writer: &mut Watched<W>,
     space: &S,
