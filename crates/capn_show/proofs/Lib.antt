@@ -2,6 +2,7 @@ pub mod shared
 mod TextDigits
 mod Shifts
 mod LineTexts
+mod TextBytes
 mod Grown
 mod Within
 mod RowFront
@@ -12,7 +13,6 @@ mod ListTexts
 mod FoundTexts
 mod Ends
 mod PlainTexts
-mod TextBytes
 mod ReadBytes
 mod PartSteps
 mod BlockDigits
