@@ -14,3 +14,6 @@ mod Ends
 mod PartSteps
 mod BlockDigits
 mod BitDigits
+mod JsonItems
+mod JsonTexts
+mod JsonValues
