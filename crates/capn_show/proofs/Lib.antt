@@ -17,3 +17,6 @@ mod ReadBytes
 mod PartSteps
 mod BlockDigits
 mod BitDigits
+mod JsonItems
+mod JsonTexts
+mod JsonValues
