@@ -6,6 +6,7 @@ mod TextBytes
 mod Grown
 mod Within
 mod RowFront
+mod Chosen
 mod SlotTexts
 mod FoundKinds
 mod Steps

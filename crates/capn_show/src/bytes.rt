@@ -82,13 +82,15 @@ fn bare_run(bytes: &[u8]) -> usize
     ensures within { result ≤ length bytes.now }
     ensures bare { quoting.escapes (take result bytes.now) ≡ take result bytes.now }
 {
-    let most = bytes.len().min(PIECE);
-    for i in 0..most {
+    for i in 0..bytes.len() {
         if is_escaped(bytes[i]) {
             return i;
         }
+        if i == PIECE {
+            return i;
+        }
     }
-    most
+    bytes.len()
 }
 
 /// The bytes of a text as they stand between quotes: those that stand as they are at once, and the one after them.

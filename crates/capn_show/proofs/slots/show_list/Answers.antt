@@ -4,12 +4,12 @@ use Rattle.capn_show.specs.Outgoing.{Adds, BreaksOff, outgoing}
 use Rattle.capn_show.proofs.shared.Appended.{passed, both, then-broken, broken-before}
 use Rattle.capn_show.proofs.ListTexts.{voids-shown, bits-shown, bytes-shown, pairs-shown, quads-shown, octs-shown}
 use Rattle.capn_show.proofs.slots.show_list.Goals as goal
-use Rattle.capn_show.specs.inner.ReadyPlaces.{bytes_of}
+use Rattle.capn_show.proofs.Chosen.{by_bits}
 
 pub returns-in-W0-clause-shown : goal.returns-in-W0-clause-shown
 returns-in-W0-clause-shown g c =
     on_ok_weaker c.named_line.result
-    (voids-shown (bytes_of g.QUOTED) (g.S.Space.message c.args.space.now) c.args.start.segment c.args.start.word
+    (voids-shown (by_bits g.row.QUOTED) (g.S.Space.message c.args.space.now) c.args.start.segment c.args.start.word
     c.args.count c.args.level
     c.args.width (Adds (outgoing g.W.Write.contents c.args.writer.now c.args.text.now.items)
     (outgoing g.W.Write.contents c.named_line.new.writer c.named_line.new.text.items)) c.in-W0.is)
@@ -18,7 +18,7 @@ returns-in-W0-clause-shown g c =
 pub returns-in-W0-clause-cut : goal.returns-in-W0-clause-cut
 returns-in-W0-clause-cut g c =
     IfErr-weaker c.named_line.result _ _
-    (λ e. voids-shown (bytes_of g.QUOTED) (g.S.Space.message c.args.space.now) c.args.start.segment c.args.start.word
+    (λ e. voids-shown (by_bits g.row.QUOTED) (g.S.Space.message c.args.space.now) c.args.start.segment c.args.start.word
     c.args.count
     c.args.level
     c.args.width (BreaksOff (outgoing g.W.Write.contents c.args.writer.now c.args.text.now.items)
@@ -28,7 +28,7 @@ returns-in-W0-clause-cut g c =
 pub returns-in_ok-named_line-in-W1-clause-shown : goal.returns-in_ok-named_line-in-W1-clause-shown
 returns-in_ok-named_line-in-W1-clause-shown g c =
     on_ok_weaker c.show_bits.result
-    (bits-shown (bytes_of g.QUOTED) (g.S.Space.message c.args.space.now) c.args.start.segment c.args.start.word
+    (bits-shown (by_bits g.row.QUOTED) (g.S.Space.message c.args.space.now) c.args.start.segment c.args.start.word
     c.args.count c.args.level
     c.args.width (Adds (outgoing g.W.Write.contents c.args.writer.now c.args.text.now.items)
     (outgoing g.W.Write.contents c.show_bits.new.writer c.show_bits.new.text.items)) (Adds
@@ -44,7 +44,7 @@ returns-in_ok-named_line-in-W1-clause-shown g c =
 pub returns-in_ok-named_line-in-W1-clause-cut : goal.returns-in_ok-named_line-in-W1-clause-cut
 returns-in_ok-named_line-in-W1-clause-cut g c =
     IfErr-weaker c.show_bits.result _ _
-    (λ e. bits-shown (bytes_of g.QUOTED) (g.S.Space.message c.args.space.now) c.args.start.segment c.args.start.word
+    (λ e. bits-shown (by_bits g.row.QUOTED) (g.S.Space.message c.args.space.now) c.args.start.segment c.args.start.word
     c.args.count
     c.args.level
     c.args.width (BreaksOff (outgoing g.W.Write.contents c.args.writer.now c.args.text.now.items)
@@ -60,7 +60,7 @@ returns-in_ok-named_line-in-W1-clause-cut g c =
 pub returns-in_err-named_line-in-W1-clause-cut : goal.returns-in_err-named_line-in-W1-clause-cut
 returns-in_err-named_line-in-W1-clause-cut g c =
     passed c.from_residual.result c.in_err-named_line-in-W1.field-0.0 _ c.from_residual.ensures.1
-    (bits-shown (bytes_of g.QUOTED) (g.S.Space.message c.args.space.now) c.args.start.segment c.args.start.word
+    (bits-shown (by_bits g.row.QUOTED) (g.S.Space.message c.args.space.now) c.args.start.segment c.args.start.word
     c.args.count c.args.level
     c.args.width (BreaksOff (outgoing g.W.Write.contents c.args.writer.now c.args.text.now.items)
     (outgoing g.W.Write.contents c.named_line-in-W1.new.writer c.named_line-in-W1.new.text.items) _) (λ y. ⊤) c.in-W1.is
@@ -71,7 +71,7 @@ returns-in_err-named_line-in-W1-clause-cut g c =
 pub returns-in-W8-clause-shown : goal.returns-in-W8-clause-shown
 returns-in-W8-clause-shown g c =
     on_ok_weaker c.show_byte_list.result
-    (bytes-shown (bytes_of g.QUOTED) (g.S.Space.message c.args.space.now) c.args.start.segment c.args.start.word
+    (bytes-shown (by_bits g.row.QUOTED) (g.S.Space.message c.args.space.now) c.args.start.segment c.args.start.word
     c.args.count c.args.level c.args.width (Adds (outgoing g.W.Write.contents c.args.writer.now c.args.text.now.items)
     (outgoing g.W.Write.contents c.show_byte_list.new.writer c.show_byte_list.new.text.items)) c.in-W8.is)
     c.show_byte_list.ensures.shown
@@ -79,7 +79,7 @@ returns-in-W8-clause-shown g c =
 pub returns-in-W8-clause-cut : goal.returns-in-W8-clause-cut
 returns-in-W8-clause-cut g c =
     IfErr-weaker c.show_byte_list.result _ _
-    (λ e. bytes-shown (bytes_of g.QUOTED) (g.S.Space.message c.args.space.now) c.args.start.segment
+    (λ e. bytes-shown (by_bits g.row.QUOTED) (g.S.Space.message c.args.space.now) c.args.start.segment
     c.args.start.word c.args.count c.args.level c.args.width (BreaksOff
     (outgoing g.W.Write.contents c.args.writer.now c.args.text.now.items)
     (outgoing g.W.Write.contents c.show_byte_list.new.writer c.show_byte_list.new.text.items) e) c.in-W8.is)
@@ -88,7 +88,7 @@ returns-in-W8-clause-cut g c =
 pub returns-in_ok-named_line-in-W16-clause-shown : goal.returns-in_ok-named_line-in-W16-clause-shown
 returns-in_ok-named_line-in-W16-clause-shown g c =
     on_ok_weaker c.show_numbers.result
-    (pairs-shown (bytes_of g.QUOTED) (g.S.Space.message c.args.space.now) c.args.start.segment c.args.start.word
+    (pairs-shown (by_bits g.row.QUOTED) (g.S.Space.message c.args.space.now) c.args.start.segment c.args.start.word
     c.args.count c.args.level
     c.args.width (Adds (outgoing g.W.Write.contents c.args.writer.now c.args.text.now.items)
     (outgoing g.W.Write.contents c.show_numbers.new.writer c.show_numbers.new.text.items)) (Adds
@@ -103,7 +103,7 @@ returns-in_ok-named_line-in-W16-clause-shown g c =
 pub returns-in_ok-named_line-in-W16-clause-cut : goal.returns-in_ok-named_line-in-W16-clause-cut
 returns-in_ok-named_line-in-W16-clause-cut g c =
     IfErr-weaker c.show_numbers.result _ _
-    (λ e. pairs-shown (bytes_of g.QUOTED) (g.S.Space.message c.args.space.now) c.args.start.segment c.args.start.word
+    (λ e. pairs-shown (by_bits g.row.QUOTED) (g.S.Space.message c.args.space.now) c.args.start.segment c.args.start.word
     c.args.count
     c.args.level
     c.args.width (BreaksOff (outgoing g.W.Write.contents c.args.writer.now c.args.text.now.items)
@@ -120,7 +120,7 @@ pub returns-in_err-named_line-in-W16-clause-cut : goal.returns-in_err-named_line
 returns-in_err-named_line-in-W16-clause-cut g c =
     passed c.from_residual-in_err-named_line-in-W16.result c.in_err-named_line-in-W16.field-0.0 _
     c.from_residual-in_err-named_line-in-W16.ensures.1
-    (pairs-shown (bytes_of g.QUOTED) (g.S.Space.message c.args.space.now) c.args.start.segment c.args.start.word
+    (pairs-shown (by_bits g.row.QUOTED) (g.S.Space.message c.args.space.now) c.args.start.segment c.args.start.word
     c.args.count c.args.level
     c.args.width (BreaksOff (outgoing g.W.Write.contents c.args.writer.now c.args.text.now.items)
     (outgoing g.W.Write.contents c.named_line-in-W16.new.writer c.named_line-in-W16.new.text.items) _)
@@ -133,7 +133,7 @@ returns-in_err-named_line-in-W16-clause-cut g c =
 pub returns-in_ok-named_line-in-W32-clause-shown : goal.returns-in_ok-named_line-in-W32-clause-shown
 returns-in_ok-named_line-in-W32-clause-shown g c =
     on_ok_weaker c.show_numbers-in-W32.result
-    (quads-shown (bytes_of g.QUOTED) (g.S.Space.message c.args.space.now) c.args.start.segment c.args.start.word
+    (quads-shown (by_bits g.row.QUOTED) (g.S.Space.message c.args.space.now) c.args.start.segment c.args.start.word
     c.args.count c.args.level
     c.args.width (Adds (outgoing g.W.Write.contents c.args.writer.now c.args.text.now.items)
     (outgoing g.W.Write.contents c.show_numbers-in-W32.new.writer c.show_numbers-in-W32.new.text.items)) (Adds
@@ -148,7 +148,7 @@ returns-in_ok-named_line-in-W32-clause-shown g c =
 pub returns-in_ok-named_line-in-W32-clause-cut : goal.returns-in_ok-named_line-in-W32-clause-cut
 returns-in_ok-named_line-in-W32-clause-cut g c =
     IfErr-weaker c.show_numbers-in-W32.result _ _
-    (λ e. quads-shown (bytes_of g.QUOTED) (g.S.Space.message c.args.space.now) c.args.start.segment c.args.start.word
+    (λ e. quads-shown (by_bits g.row.QUOTED) (g.S.Space.message c.args.space.now) c.args.start.segment c.args.start.word
     c.args.count
     c.args.level
     c.args.width (BreaksOff (outgoing g.W.Write.contents c.args.writer.now c.args.text.now.items)
@@ -165,7 +165,7 @@ pub returns-in_err-named_line-in-W32-clause-cut : goal.returns-in_err-named_line
 returns-in_err-named_line-in-W32-clause-cut g c =
     passed c.from_residual-in_err-named_line-in-W32.result c.in_err-named_line-in-W32.field-0.0 _
     c.from_residual-in_err-named_line-in-W32.ensures.1
-    (quads-shown (bytes_of g.QUOTED) (g.S.Space.message c.args.space.now) c.args.start.segment c.args.start.word
+    (quads-shown (by_bits g.row.QUOTED) (g.S.Space.message c.args.space.now) c.args.start.segment c.args.start.word
     c.args.count c.args.level
     c.args.width (BreaksOff (outgoing g.W.Write.contents c.args.writer.now c.args.text.now.items)
     (outgoing g.W.Write.contents c.named_line-in-W32.new.writer c.named_line-in-W32.new.text.items) _)
@@ -178,7 +178,7 @@ returns-in_err-named_line-in-W32-clause-cut g c =
 pub returns-in_ok-named_line-in-W64-clause-shown : goal.returns-in_ok-named_line-in-W64-clause-shown
 returns-in_ok-named_line-in-W64-clause-shown g c =
     on_ok_weaker c.show_numbers-in-W64.result
-    (octs-shown (bytes_of g.QUOTED) (g.S.Space.message c.args.space.now) c.args.start.segment c.args.start.word
+    (octs-shown (by_bits g.row.QUOTED) (g.S.Space.message c.args.space.now) c.args.start.segment c.args.start.word
     c.args.count c.args.level
     c.args.width (Adds (outgoing g.W.Write.contents c.args.writer.now c.args.text.now.items)
     (outgoing g.W.Write.contents c.show_numbers-in-W64.new.writer c.show_numbers-in-W64.new.text.items)) (Adds
@@ -193,7 +193,7 @@ returns-in_ok-named_line-in-W64-clause-shown g c =
 pub returns-in_ok-named_line-in-W64-clause-cut : goal.returns-in_ok-named_line-in-W64-clause-cut
 returns-in_ok-named_line-in-W64-clause-cut g c =
     IfErr-weaker c.show_numbers-in-W64.result _ _
-    (λ e. octs-shown (bytes_of g.QUOTED) (g.S.Space.message c.args.space.now) c.args.start.segment c.args.start.word
+    (λ e. octs-shown (by_bits g.row.QUOTED) (g.S.Space.message c.args.space.now) c.args.start.segment c.args.start.word
     c.args.count
     c.args.level
     c.args.width (BreaksOff (outgoing g.W.Write.contents c.args.writer.now c.args.text.now.items)
@@ -210,7 +210,7 @@ pub returns-in_err-named_line-in-W64-clause-cut : goal.returns-in_err-named_line
 returns-in_err-named_line-in-W64-clause-cut g c =
     passed c.from_residual-in_err-named_line-in-W64.result c.in_err-named_line-in-W64.field-0.0 _
     c.from_residual-in_err-named_line-in-W64.ensures.1
-    (octs-shown (bytes_of g.QUOTED) (g.S.Space.message c.args.space.now) c.args.start.segment c.args.start.word
+    (octs-shown (by_bits g.row.QUOTED) (g.S.Space.message c.args.space.now) c.args.start.segment c.args.start.word
     c.args.count c.args.level
     c.args.width (BreaksOff (outgoing g.W.Write.contents c.args.writer.now c.args.text.now.items)
     (outgoing g.W.Write.contents c.named_line-in-W64.new.writer c.named_line-in-W64.new.text.items) _)
