@@ -50,8 +50,7 @@ module _ (m : List (List ℕ)) (s w n : ℕ) (width : Width) (Says : List ℕ �
       (h x.numbers x.are x.count)
 
   -- what is said of the numbers of a list of a known width
-  numbers-of : (head : List ℕ) (other : Width) → width ≡ other → NumbersShown m s w width n (values_text head width)
-      Says
+  numbers-of : (head : List ℕ) (other : Width) → width ≡ other → NumbersShown m s w width n (values_text head width) Says
       → NumbersShown m s w other n (values_text head other) Says
   numbers-of head other e = subst (λ (x : Width). NumbersShown m s w x n (values_text head x) Says) e
 

@@ -31,8 +31,7 @@ loop-i-preserved g c xs h n =
     let lt = c.loop-i-test.true in
     let below : i < length xs = omega arith in
     let all = length-map xs (number_item (is_quoted c.args.width)) in
-    item-more begun now [] (map (number_item (is_quoted c.args.width)) xs) i (omega arith) (c.loop-i.invariant xs h n)
-    parted new
+    item-more begun now [] (map (number_item (is_quoted c.args.width)) xs) i (omega arith) (c.loop-i.invariant xs h n) parted new
     (number_item c.is_quoted.result c.number_at.result)
     (ap (λ (b : Bool). number_item b c.number_at.result) c.is_quoted.ensures
     ∙ item-at (number_item (is_quoted c.args.width)) xs i c.number_at.result below (c.number_at.ensures ∙ h i below))
@@ -47,9 +46,7 @@ returns-clause-shown g c =
     let new = outgoing g.W.Write.contents c.put-2.new.writer c.put-2.new.text.items in
     let end = c.loop-i-test.false in
     let all = length-map xs (number_item (is_quoted c.args.width)) in
-    items-end old now c.args.head.now (map (number_item (is_quoted c.args.width)) xs) c.loop-i.i (omega arith)
-    (both old begun now c.args.head.now (with_commas (take c.loop-i.i
-    (map (number_item (is_quoted c.args.width)) xs))) c.in_ok-put.ensures.shown
+    items-end old now c.args.head.now (map (number_item (is_quoted c.args.width)) xs) c.loop-i.i (omega arith) (both old begun now c.args.head.now (with_commas (take c.loop-i.i (map (number_item (is_quoted c.args.width)) xs))) c.in_ok-put.ensures.shown
     (c.loop-i.invariant xs h n)) new (codes "]}") k)
     c.put-2.ensures.shown
 
@@ -62,9 +59,7 @@ returns-clause-cut g c =
     let new = outgoing g.W.Write.contents c.put-2.new.writer c.put-2.new.text.items in
     let end = c.loop-i-test.false in
     let all = length-map xs (number_item (is_quoted c.args.width)) in
-    cut-end old now c.args.head.now (map (number_item (is_quoted c.args.width)) xs) c.loop-i.i (omega arith)
-    (both old begun now c.args.head.now (with_commas (take c.loop-i.i (map (number_item (is_quoted c.args.width)) xs)))
-    c.in_ok-put.ensures.shown
+    cut-end old now c.args.head.now (map (number_item (is_quoted c.args.width)) xs) c.loop-i.i (omega arith) (both old begun now c.args.head.now (with_commas (take c.loop-i.i (map (number_item (is_quoted c.args.width)) xs))) c.in_ok-put.ensures.shown
     (c.loop-i.invariant xs h n)) new e (codes "]}") k)
     c.put-2.ensures.cut
 
@@ -73,13 +68,11 @@ returns-in_err-put-clause-cut g c =
     let old = outgoing g.W.Write.contents c.args.writer.now c.args.text.now.items in
     let begun = outgoing g.W.Write.contents c.put.new.writer c.put.new.text.items in
     passed c.from_residual.result c.in_err-put.field-0.0 _ c.from_residual.ensures.1
-    (λ xs h n. broken-before old begun _ c.args.head.now (with_commas (map (number_item (is_quoted c.args.width)) xs)
-    ++ codes "]}") c.in_err-put.ensures.cut)
+    (λ xs h n. broken-before old begun _ c.args.head.now (with_commas (map (number_item (is_quoted c.args.width)) xs) ++ codes "]}") c.in_err-put.ensures.cut)
 
 pub returns-in_err-separate-clause-cut : goal.returns-in_err-separate-clause-cut
 returns-in_err-separate-clause-cut g c =
-    passed c.from_residual-in_err-separate.result c.in_err-separate.field-0.0 _
-    c.from_residual-in_err-separate.ensures.1
+    passed c.from_residual-in_err-separate.result c.in_err-separate.field-0.0 _ c.from_residual-in_err-separate.ensures.1
     (λ xs h n. let old = outgoing g.W.Write.contents c.args.writer.now c.args.text.now.items in
     let begun = outgoing g.W.Write.contents c.put.new.writer c.put.new.text.items in
     let now = outgoing g.W.Write.contents c.loop-i.writer c.loop-i.text.items in
@@ -87,16 +80,13 @@ returns-in_err-separate-clause-cut g c =
     let i = c.loop-i.i in
     let lt = c.loop-i-test.true in
     let all = length-map xs (number_item (is_quoted c.args.width)) in
-    cut-comma old now c.args.head.now (map (number_item (is_quoted c.args.width)) xs) i (omega arith)
-    (both old begun now c.args.head.now (with_commas (take c.loop-i.i (map (number_item (is_quoted c.args.width)) xs)))
-    c.in_ok-put.ensures.shown
+    cut-comma old now c.args.head.now (map (number_item (is_quoted c.args.width)) xs) i (omega arith) (both old begun now c.args.head.now (with_commas (take c.loop-i.i (map (number_item (is_quoted c.args.width)) xs))) c.in_ok-put.ensures.shown
     (c.loop-i.invariant xs h n)) parted _ (codes "]}")
     c.in_err-separate.ensures.cut)
 
 pub returns-in_err-put_value-clause-cut : goal.returns-in_err-put_value-clause-cut
 returns-in_err-put_value-clause-cut g c =
-    passed c.from_residual-in_err-put_value.result c.in_err-put_value.field-0.0 _
-    c.from_residual-in_err-put_value.ensures.1
+    passed c.from_residual-in_err-put_value.result c.in_err-put_value.field-0.0 _ c.from_residual-in_err-put_value.ensures.1
     (λ xs h n. let old = outgoing g.W.Write.contents c.args.writer.now c.args.text.now.items in
     let begun = outgoing g.W.Write.contents c.put.new.writer c.put.new.text.items in
     let now = outgoing g.W.Write.contents c.loop-i.writer c.loop-i.text.items in
@@ -106,9 +96,7 @@ returns-in_err-put_value-clause-cut g c =
     let lt = c.loop-i-test.true in
     let below : i < length xs = omega arith in
     let all = length-map xs (number_item (is_quoted c.args.width)) in
-    cut-item old now c.args.head.now (map (number_item (is_quoted c.args.width)) xs) i (omega arith)
-    (both old begun now c.args.head.now (with_commas (take c.loop-i.i (map (number_item (is_quoted c.args.width)) xs)))
-    c.in_ok-put.ensures.shown
+    cut-item old now c.args.head.now (map (number_item (is_quoted c.args.width)) xs) i (omega arith) (both old begun now c.args.head.now (with_commas (take c.loop-i.i (map (number_item (is_quoted c.args.width)) xs))) c.in_ok-put.ensures.shown
     (c.loop-i.invariant xs h n)) parted new _
     (number_item c.is_quoted.result c.number_at.result) (codes "]}")
     (ap (λ (b : Bool). number_item b c.number_at.result) c.is_quoted.ensures
