@@ -42,7 +42,8 @@ commas-rest (x ∷ xs) k =
 
 module _ (p q : Outgoing) (head : List ℕ) (xs : List (List ℕ)) where
   module _ (i : ℕ) (below : i < length xs) (so_far : Adds p q (head ++ with_commas (take i xs))) where
-    next-text : (head ++ with_commas (take i xs)) ++ (comma i ++ get_or xs i []) ≡ head ++ with_commas (take (suc i) xs)
+    next-text : (head ++ with_commas (take i xs)) ++ (comma i ++ get_or xs i [])
+        ≡ head ++ with_commas (take (suc i) xs)
     next-text =
         append_assoc head (with_commas (take i xs)) (comma i ++ get_or xs i [])
         ∙ ap (λ (l : List ℕ). head ++ l) (commas-next xs i below)

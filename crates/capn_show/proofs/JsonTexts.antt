@@ -1,14 +1,13 @@
 -- The JSON of values by its parts, and the texts of items by their numbers.
 use Rattle.std.proofs.Common.{◌≡◌, ℕ, zero, suc, ◌+◌, ◌-◌, ◌<◌, ◌≤◌, List, [], ◌∷◌, ◌++◌, length, get_or, map, codes}
-use Rattle.std.proofs.Common.{Bool, true, false, take, drop, replicate, refl, sym, ap, ap₂, ◌∙◌, arith, append_assoc}
+use Rattle.std.proofs.Common.{take, drop, replicate, refl, sym, ap, ap₂, ◌∙◌, arith, append_assoc}
 use Rattle.std.specs.Fmt.{decimal}
 use Rattle.std.proofs.lemmas.List.{append-nil, get_or-map, take_all, take-append-drop, take-replicate}
 use Rattle.std.proofs.lemmas.List.{replicate-append-replicate}
 use Rattle.capn_value.specs.Tree.{Trees, no_trees, tree, Bodies, no_bodies, body, count, count_rows, tree_at}
-use Rattle.capn_value.specs.Tree.{node}
 use Rattle.capn_walk.specs.ShownValue.{words_of_row, slots_of_row}
 use Rattle.capn_show.specs.Json.{with_commas, word_text, number_text, struct_text, json_of, each_json, each_row}
-use Rattle.capn_show.specs.inner.JsonPlaces.{comma, number_item, items_text, words_front}
+use Rattle.capn_show.specs.inner.JsonPlaces.{items_text, words_front}
 
 -- a struct
 pub struct-parts : (ws : List ℕ) (slots : List (List ℕ))
@@ -26,14 +25,6 @@ pub closed : (head x : List ℕ) (c : ℕ) → head ++ (x ++ (c ∷ 125 ∷ []))
 closed head x c = ap (λ (l : List ℕ). head ++ l) (sym (append_assoc x (c ∷ []) (125 ∷ [])))
 
 -- ---- items
-
-pub comma-none : (i : ℕ) → i ≡ 0 → [] ≡ comma i
-comma-none zero e = refl
-comma-none (suc i) e = absurd (omega arith)
-
-pub comma-some : (i : ℕ) → (i ≡ 0 → ⊥) → 44 ∷ [] ≡ comma i
-comma-some zero e = absurd (e refl)
-comma-some (suc i) e = refl
 
 pub item-at : (each : ℕ → List ℕ) (xs : List ℕ) (i x : ℕ) → i < length xs → x ≡ get_or xs i 0
     → each x ≡ get_or (map each xs) i []

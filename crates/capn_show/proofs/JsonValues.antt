@@ -1,5 +1,5 @@
 -- The JSON of what a pointer names.
-use Rattle.std.proofs.Common.{◌≡◌, ℕ, ◌+◌, List, [], ◌∷◌, ◌++◌, codes, map, refl, subst, sym, ap, ◌∙◌}
+use Rattle.std.proofs.Common.{◌≡◌, ℕ, ◌+◌, List, [], ◌∷◌, ◌++◌, codes, map, subst, sym, ap, ◌∙◌}
 use Rattle.std.specs.Fmt.{decimal}
 use Rattle.hex.specs.Hex.{encode_lower}
 use Rattle.capn_words.specs.declared.space.Place.{Place}
@@ -50,7 +50,8 @@ module _ (m : List (List ℕ)) (s w n : ℕ) (width : Width) (Says : List ℕ �
       (h x.numbers x.are x.count)
 
   -- what is said of the numbers of a list of a known width
-  numbers-of : (head : List ℕ) (other : Width) → width ≡ other → NumbersShown m s w width n (values_text head width) Says
+  numbers-of : (head : List ℕ) (other : Width) → width ≡ other
+      → NumbersShown m s w width n (values_text head width) Says
       → NumbersShown m s w other n (values_text head other) Says
   numbers-of head other e = subst (λ (x : Width). NumbersShown m s w x n (values_text head x) Says) e
 
@@ -108,7 +109,8 @@ module _ (m : List (List ℕ)) (found : Target) (Says : List ℕ → Type 0) whe
       subst Says (sym (ap json_of is)) h
 
   module _ (s w pads : ℕ) (shape : Shape) (e : found ≡ targets.Content s w shape pads) where
-    named-by : (other : Shape) (v : Tree) → shape ≡ other → Shows m found v → Shows m (targets.Content s w other pads) v
+    named-by : (other : Shape) (v : Tree) → shape ≡ other → Shows m found v
+        → Shows m (targets.Content s w other pads) v
     named-by other v f i =
         subst (λ (t : Target). Shows m t v) (e ∙ ap (λ (x : Shape). targets.Content s w x pads) f) i
 

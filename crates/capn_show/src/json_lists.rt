@@ -164,7 +164,12 @@ fn json_numbers<S: Space, W: Write, A: Allocator>(
     put(text, writer, head)?;
     for i in 0..count {
         separate(text, writer, i)?;
-        put_value(text, writer, is_quoted(width), number_at(space, start, width, i))?;
+        put_value(
+            text,
+            writer,
+            is_quoted(width),
+            number_at(space, start, width, i),
+        )?;
     }
     put(text, writer, b"]}")
 }

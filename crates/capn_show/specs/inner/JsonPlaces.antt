@@ -1,5 +1,5 @@
 -- How a text grows by the JSON of what stands at places of a message.
-use Rattle.std.specs.Prelude.{◌≡◌, ℕ, zero, suc, ◌+◌, List, [], ◌∷◌, ◌++◌, codes, length, map, Bool, true}
+use Rattle.std.specs.Prelude.{◌≡◌, ℕ, zero, suc, List, [], ◌∷◌, ◌++◌, codes, length, map, Bool, true}
 use Rattle.std.specs.Prelude.{false}
 use Rattle.std.specs.Fmt.{decimal}
 use Rattle.capn_words.specs.declared.space.Place.{Place}

@@ -98,11 +98,12 @@ json_slots-returns-clause-shown g t c =
     (λ k ts h n. let old = outgoing g.W.Write.contents c.args.writer.now c.args.text.now.items in
     let begun = outgoing g.W.Write.contents c.put.new.writer c.put.new.text.items in
     let now = outgoing g.W.Write.contents c.loop-i.writer c.loop-i.text.items in
+    let so_far = both old begun now c.args.head.now (with_commas (take c.loop-i.i (each_json ts)))
+    c.in_ok-put.ensures.shown (c.loop-i.invariant ts h n) in
     let new = outgoing g.W.Write.contents c.put-2.new.writer c.put-2.new.text.items in
     let end = c.loop-i-test.false in
     let all = slots-length ts in
-    items-end old now c.args.head.now (each_json ts) c.loop-i.i (omega arith) (both old begun now c.args.head.now (with_commas (take c.loop-i.i (each_json ts))) c.in_ok-put.ensures.shown
-    (c.loop-i.invariant ts h n)) new (codes "]}") k)
+    items-end old now c.args.head.now (each_json ts) c.loop-i.i (omega arith) so_far new (codes "]}") k)
     c.put-2.ensures.shown
 
 pub json_slots-returns-clause-cut : goal.json_slots-returns-clause-cut
@@ -111,11 +112,12 @@ json_slots-returns-clause-cut g t c =
     (λ e k ts h n. let old = outgoing g.W.Write.contents c.args.writer.now c.args.text.now.items in
     let begun = outgoing g.W.Write.contents c.put.new.writer c.put.new.text.items in
     let now = outgoing g.W.Write.contents c.loop-i.writer c.loop-i.text.items in
+    let so_far = both old begun now c.args.head.now (with_commas (take c.loop-i.i (each_json ts)))
+    c.in_ok-put.ensures.shown (c.loop-i.invariant ts h n) in
     let new = outgoing g.W.Write.contents c.put-2.new.writer c.put-2.new.text.items in
     let end = c.loop-i-test.false in
     let all = slots-length ts in
-    cut-end old now c.args.head.now (each_json ts) c.loop-i.i (omega arith) (both old begun now c.args.head.now (with_commas (take c.loop-i.i (each_json ts))) c.in_ok-put.ensures.shown
-    (c.loop-i.invariant ts h n)) new e (codes "]}") k)
+    cut-end old now c.args.head.now (each_json ts) c.loop-i.i (omega arith) so_far new e (codes "]}") k)
     c.put-2.ensures.cut
 
 pub json_slots-returns-in_err-put-clause-cut : goal.json_slots-returns-in_err-put-clause-cut
@@ -127,32 +129,36 @@ json_slots-returns-in_err-put-clause-cut g t c =
 
 pub json_slots-returns-in_err-separate-clause-cut : goal.json_slots-returns-in_err-separate-clause-cut
 json_slots-returns-in_err-separate-clause-cut g t c =
-    passed c.from_residual-in_err-separate.result c.in_err-separate.field-0.0 _ c.from_residual-in_err-separate.ensures.1
+    passed c.from_residual-in_err-separate.result c.in_err-separate.field-0.0 _
+    c.from_residual-in_err-separate.ensures.1
     (λ ts h n. let old = outgoing g.W.Write.contents c.args.writer.now c.args.text.now.items in
     let begun = outgoing g.W.Write.contents c.put.new.writer c.put.new.text.items in
     let now = outgoing g.W.Write.contents c.loop-i.writer c.loop-i.text.items in
+    let so_far = both old begun now c.args.head.now (with_commas (take c.loop-i.i (each_json ts)))
+    c.in_ok-put.ensures.shown (c.loop-i.invariant ts h n) in
     let parted = outgoing g.W.Write.contents c.separate.new.writer c.separate.new.text.items in
     let i = c.loop-i.i in
     let lt = c.loop-i-test.true in
     let all = slots-length ts in
-    cut-comma old now c.args.head.now (each_json ts) i (omega arith) (both old begun now c.args.head.now (with_commas (take c.loop-i.i (each_json ts))) c.in_ok-put.ensures.shown
-    (c.loop-i.invariant ts h n)) parted _ (codes "]}")
+    cut-comma old now c.args.head.now (each_json ts) i (omega arith) so_far parted _ (codes "]}")
     c.in_err-separate.ensures.cut)
 
 pub json_slots-returns-in_err-json_slot-clause-cut : goal.json_slots-returns-in_err-json_slot-clause-cut
 json_slots-returns-in_err-json_slot-clause-cut g t c =
-    passed c.from_residual-in_err-json_slot.result c.in_err-json_slot.field-0.0 _ c.from_residual-in_err-json_slot.ensures.1
+    passed c.from_residual-in_err-json_slot.result c.in_err-json_slot.field-0.0 _
+    c.from_residual-in_err-json_slot.ensures.1
     (λ ts h n. let old = outgoing g.W.Write.contents c.args.writer.now c.args.text.now.items in
     let begun = outgoing g.W.Write.contents c.put.new.writer c.put.new.text.items in
     let now = outgoing g.W.Write.contents c.loop-i.writer c.loop-i.text.items in
+    let so_far = both old begun now c.args.head.now (with_commas (take c.loop-i.i (each_json ts)))
+    c.in_ok-put.ensures.shown (c.loop-i.invariant ts h n) in
     let parted = outgoing g.W.Write.contents c.separate.new.writer c.separate.new.text.items in
     let new = outgoing g.W.Write.contents c.json_slot.new.writer c.json_slot.new.text.items in
     let i = c.loop-i.i in
     let lt = c.loop-i-test.true in
     let below : i < count ts = omega arith in
     let all = slots-length ts in
-    cut-item old now c.args.head.now (each_json ts) i (omega arith) (both old begun now c.args.head.now (with_commas (take c.loop-i.i (each_json ts))) c.in_ok-put.ensures.shown
-    (c.loop-i.invariant ts h n)) parted new _
+    cut-item old now c.args.head.now (each_json ts) i (omega arith) so_far parted new _
     (json_of (tree_at ts i)) (codes "]}") (slot-at ts i below) c.in_ok-separate.ensures.shown
     (c.in_err-json_slot.ensures.cut _ (h i below)))
 
@@ -191,7 +197,8 @@ json_row-returns-clause-cut g t c =
     let own = outgoing g.W.Write.contents c.json_words.new.writer c.json_words.new.text.items in
     let new = outgoing g.W.Write.contents c.json_slots.new.writer c.json_slots.new.text.items in
     IfErr-weaker c.json_slots.result _ _
-    (λ e. row-json (g.S.Space.message c.args.space.now) c.args.start.segment c.args.start.word c.args.words c.args.slots
+    (λ e. row-json (g.S.Space.message c.args.space.now) c.args.start.segment c.args.start.word c.args.words
+    c.args.slots
     (BreaksOff old new e) (Adds old own) (BreaksOff own new e) (then-broken old own new e)
     c.in_ok-json_words.ensures.shown)
     c.json_slots.ensures.cut
@@ -333,7 +340,8 @@ json_found-returns-in-Node-clause-cut g t c =
     let new = outgoing g.W.Write.contents c.json_row.new.writer c.json_row.new.text.items in
     let x = c.in-Content in
     IfErr-weaker c.json_row.result _ _
-    (λ e. node-json (g.S.Space.message c.args.space.now) c.args.found (BreaksOff old new e) x.segment x.start x.pads x.shape x.is
+    (λ e. node-json (g.S.Space.message c.args.space.now) c.args.found (BreaksOff old new e) x.segment x.start x.pads
+    x.shape x.is
     c.in-Node.words c.in-Node.slots c.in-Node.is)
     c.json_row.ensures.cut
 
@@ -353,7 +361,8 @@ json_found-returns-in_default-clause-cut g t c =
     let new = outgoing g.W.Write.contents c.json_list.new.writer c.json_list.new.text.items in
     let x = c.in-Content in
     IfErr-weaker c.json_list.result _ _
-    (λ e. list-json (g.S.Space.message c.args.space.now) c.args.found (BreaksOff old new e) x.segment x.start x.pads x.shape x.is
+    (λ e. list-json (g.S.Space.message c.args.space.now) c.args.found (BreaksOff old new e) x.segment x.start x.pads
+    x.shape x.is
     c.in-Many.width c.in-Many.count c.in-Many.is)
     c.json_list.ensures.cut
 
@@ -373,7 +382,8 @@ json_found-returns-in-Link-clause-cut g t c =
     let new = outgoing g.W.Write.contents c.json_slots.new.writer c.json_slots.new.text.items in
     let x = c.in-Content in
     IfErr-weaker c.json_slots.result _ _
-    (λ e. links-json (g.S.Space.message c.args.space.now) c.args.found (BreaksOff old new e) x.segment x.start x.pads x.shape x.is
+    (λ e. links-json (g.S.Space.message c.args.space.now) c.args.found (BreaksOff old new e) x.segment x.start x.pads
+    x.shape x.is
     c.in-Many.width c.in-Many.count c.in-Many.is c.in-Link.is)
     c.json_slots.ensures.cut
 
@@ -393,7 +403,8 @@ json_found-returns-in-Rows-clause-cut g t c =
     let new = outgoing g.W.Write.contents c.json_rows.new.writer c.json_rows.new.text.items in
     let x = c.in-Content in
     IfErr-weaker c.json_rows.result _ _
-    (λ e. rows-json (g.S.Space.message c.args.space.now) c.args.found (BreaksOff old new e) x.segment x.start x.pads x.shape x.is
+    (λ e. rows-json (g.S.Space.message c.args.space.now) c.args.found (BreaksOff old new e) x.segment x.start x.pads
+    x.shape x.is
     c.in-Rows.count c.in-Rows.words c.in-Rows.slots c.in-Rows.span c.in-Rows.is)
     c.json_rows.ensures.cut
 
@@ -402,7 +413,8 @@ json_found-returns-in-Rows-clause-cut g t c =
 pub json_rows-overflow_add-next : goal.json_rows-overflow_add-next
 json_rows-overflow_add-next g t c =
     let m = g.S.Space.message c.args.space.now in
-    let room = row-inside c.args.first.word c.args.count c.loop-row.row (c.args.words + c.args.slots) c.loop-row.next _
+    let room = row-inside c.args.first.word c.args.count c.loop-row.row (c.args.words + c.args.slots) c.loop-row.next
+    _
     c.loop-row-test.true c.loop-row.invariant.next c.requires.content.within in
     let all = segment-room m c.args.first.segment c.requires.message c.requires.content.exists in
     omega arith
@@ -412,7 +424,8 @@ json_rows-json_row-requires g t c κs live =
     let m = g.S.Space.message c.args.space.now in
     let s = c.args.first.segment in
     let next = c.loop-row.invariant.next in
-    let within = row-inside c.args.first.word c.args.count c.loop-row.row (c.args.words + c.args.slots) c.loop-row.next
+    let within = row-inside c.args.first.word c.args.count c.loop-row.row (c.args.words + c.args.slots)
+    c.loop-row.next
     _ c.loop-row-test.true next c.requires.content.within in
     let content : IsContent m (record { segment = s; word = c.loop-row.next }) (c.args.words + c.args.slots) =
     record { exists = c.requires.content.exists; within = within } in
@@ -446,10 +459,11 @@ json_rows-loop-row-preserved g t c =
       rest = λ bs h n. let below : i < count_rows bs = omega arith in
           let all = rows-length bs in
           item-more begun now [] (each_row bs) i (omega arith) (c.loop-row.invariant.rest bs h n) parted new
-          (struct_text (words_of_row bs i) (each_json (slots_of_row bs i))) (row-at bs i below) c.in_ok-separate.ensures.shown
+          (struct_text (words_of_row bs i) (each_json (slots_of_row bs i))) (row-at bs i below)
+          c.in_ok-separate.ensures.shown
           (c.in_ok-json_row.ensures.shown (words_of_row bs i) (slots_of_row bs i)
           (subst (λ (w : ℕ). ShowsStruct m (struct_at s w a b) (words_of_row bs i) (slots_of_row bs i)) (sym next)
-    (h i below)));
+          (h i below)));
     }
 
 pub json_rows-returns-clause-shown : goal.json_rows-returns-clause-shown
@@ -458,11 +472,12 @@ json_rows-returns-clause-shown g t c =
     (λ k bs h n. let old = outgoing g.W.Write.contents c.args.writer.now c.args.text.now.items in
     let begun = outgoing g.W.Write.contents c.put.new.writer c.put.new.text.items in
     let now = outgoing g.W.Write.contents c.loop-row.writer c.loop-row.text.items in
+    let so_far = both old begun now (codes "{\"rows\":[") (with_commas (take c.loop-row.row (each_row bs)))
+    c.in_ok-put.ensures.shown (c.loop-row.invariant.rest bs h n) in
     let new = outgoing g.W.Write.contents c.put-2.new.writer c.put-2.new.text.items in
     let end = c.loop-row-test.false in
     let all = rows-length bs in
-    items-end old now (codes "{\"rows\":[") (each_row bs) c.loop-row.row (omega arith) (both old begun now (codes "{\"rows\":[") (with_commas (take c.loop-row.row (each_row bs))) c.in_ok-put.ensures.shown
-    (c.loop-row.invariant.rest bs h n)) new (codes "]}") k)
+    items-end old now (codes "{\"rows\":[") (each_row bs) c.loop-row.row (omega arith) so_far new (codes "]}") k)
     c.put-2.ensures.shown
 
 pub json_rows-returns-clause-cut : goal.json_rows-returns-clause-cut
@@ -471,11 +486,12 @@ json_rows-returns-clause-cut g t c =
     (λ e k bs h n. let old = outgoing g.W.Write.contents c.args.writer.now c.args.text.now.items in
     let begun = outgoing g.W.Write.contents c.put.new.writer c.put.new.text.items in
     let now = outgoing g.W.Write.contents c.loop-row.writer c.loop-row.text.items in
+    let so_far = both old begun now (codes "{\"rows\":[") (with_commas (take c.loop-row.row (each_row bs)))
+    c.in_ok-put.ensures.shown (c.loop-row.invariant.rest bs h n) in
     let new = outgoing g.W.Write.contents c.put-2.new.writer c.put-2.new.text.items in
     let end = c.loop-row-test.false in
     let all = rows-length bs in
-    cut-end old now (codes "{\"rows\":[") (each_row bs) c.loop-row.row (omega arith) (both old begun now (codes "{\"rows\":[") (with_commas (take c.loop-row.row (each_row bs))) c.in_ok-put.ensures.shown
-    (c.loop-row.invariant.rest bs h n)) new e (codes "]}") k)
+    cut-end old now (codes "{\"rows\":[") (each_row bs) c.loop-row.row (omega arith) so_far new e (codes "]}") k)
     c.put-2.ensures.cut
 
 pub json_rows-returns-in_err-put-clause-cut : goal.json_rows-returns-in_err-put-clause-cut
@@ -483,25 +499,29 @@ json_rows-returns-in_err-put-clause-cut g t c =
     passed c.from_residual.result c.in_err-put.field-0.0 _ c.from_residual.ensures.1
     (λ bs h n. let old = outgoing g.W.Write.contents c.args.writer.now c.args.text.now.items in
     let begun = outgoing g.W.Write.contents c.put.new.writer c.put.new.text.items in
-    broken-before old begun _ (codes "{\"rows\":[") (with_commas (each_row bs) ++ codes "]}") c.in_err-put.ensures.cut)
+    broken-before old begun _ (codes "{\"rows\":[") (with_commas (each_row bs) ++ codes "]}")
+    c.in_err-put.ensures.cut)
 
 pub json_rows-returns-in_err-separate-clause-cut : goal.json_rows-returns-in_err-separate-clause-cut
 json_rows-returns-in_err-separate-clause-cut g t c =
-    passed c.from_residual-in_err-separate.result c.in_err-separate.field-0.0 _ c.from_residual-in_err-separate.ensures.1
+    passed c.from_residual-in_err-separate.result c.in_err-separate.field-0.0 _
+    c.from_residual-in_err-separate.ensures.1
     (λ bs h n. let old = outgoing g.W.Write.contents c.args.writer.now c.args.text.now.items in
     let begun = outgoing g.W.Write.contents c.put.new.writer c.put.new.text.items in
     let now = outgoing g.W.Write.contents c.loop-row.writer c.loop-row.text.items in
+    let so_far = both old begun now (codes "{\"rows\":[") (with_commas (take c.loop-row.row (each_row bs)))
+    c.in_ok-put.ensures.shown (c.loop-row.invariant.rest bs h n) in
     let parted = outgoing g.W.Write.contents c.separate.new.writer c.separate.new.text.items in
     let i = c.loop-row.row in
     let lt = c.loop-row-test.true in
     let all = rows-length bs in
-    cut-comma old now (codes "{\"rows\":[") (each_row bs) i (omega arith) (both old begun now (codes "{\"rows\":[") (with_commas (take c.loop-row.row (each_row bs))) c.in_ok-put.ensures.shown
-    (c.loop-row.invariant.rest bs h n)) parted _ (codes "]}")
+    cut-comma old now (codes "{\"rows\":[") (each_row bs) i (omega arith) so_far parted _ (codes "]}")
     c.in_err-separate.ensures.cut)
 
 pub json_rows-returns-in_err-json_row-clause-cut : goal.json_rows-returns-in_err-json_row-clause-cut
 json_rows-returns-in_err-json_row-clause-cut g t c =
-    passed c.from_residual-in_err-json_row.result c.in_err-json_row.field-0.0 _ c.from_residual-in_err-json_row.ensures.1
+    passed c.from_residual-in_err-json_row.result c.in_err-json_row.field-0.0 _
+    c.from_residual-in_err-json_row.ensures.1
     (λ bs h n. let m = g.S.Space.message c.args.space.now in
     let s = c.args.first.segment in
     let a = c.args.words in
@@ -512,13 +532,15 @@ json_rows-returns-in_err-json_row-clause-cut g t c =
     let old = outgoing g.W.Write.contents c.args.writer.now c.args.text.now.items in
     let begun = outgoing g.W.Write.contents c.put.new.writer c.put.new.text.items in
     let now = outgoing g.W.Write.contents c.loop-row.writer c.loop-row.text.items in
+    let so_far = both old begun now (codes "{\"rows\":[") (with_commas (take c.loop-row.row (each_row bs)))
+    c.in_ok-put.ensures.shown (c.loop-row.invariant.rest bs h n) in
     let parted = outgoing g.W.Write.contents c.separate.new.writer c.separate.new.text.items in
     let new = outgoing g.W.Write.contents c.json_row.new.writer c.json_row.new.text.items in
     let below : i < count_rows bs = omega arith in
     let all = rows-length bs in
-    cut-item old now (codes "{\"rows\":[") (each_row bs) i (omega arith) (both old begun now (codes "{\"rows\":[") (with_commas (take c.loop-row.row (each_row bs))) c.in_ok-put.ensures.shown
-    (c.loop-row.invariant.rest bs h n)) parted new _
-    (struct_text (words_of_row bs i) (each_json (slots_of_row bs i))) (codes "]}") (row-at bs i below) c.in_ok-separate.ensures.shown
+    cut-item old now (codes "{\"rows\":[") (each_row bs) i (omega arith) so_far parted new _
+    (struct_text (words_of_row bs i) (each_json (slots_of_row bs i))) (codes "]}") (row-at bs i below)
+    c.in_ok-separate.ensures.shown
     (c.in_err-json_row.ensures.cut (words_of_row bs i) (slots_of_row bs i)
     (subst (λ (w : ℕ). ShowsStruct m (struct_at s w a b) (words_of_row bs i) (slots_of_row bs i)) (sym next)
     (h i below))))

@@ -16,7 +16,8 @@ returns-clause-shown g c =
     let old = outgoing g.W.Write.contents c.args.writer.now c.args.text.now.items in
     let new = outgoing g.W.Write.contents c.put.new.writer c.put.new.text.items in
     on_ok_weaker c.put.result
-    (otherwise old new _ (decimal c.args.n) (plain-digits w.new.buf c.args.n w.result 20 w.ensures.written w.ensures.start))
+    (otherwise old new _ (decimal c.args.n) (plain-digits w.new.buf c.args.n w.result 20 w.ensures.written
+    w.ensures.start))
     c.put.ensures.shown
 
 pub returns-clause-cut : goal.returns-clause-cut

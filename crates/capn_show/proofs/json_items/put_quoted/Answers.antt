@@ -1,4 +1,4 @@
-use Rattle.std.proofs.Common.{rules, arith, ◌-◌, ◌≤◌, ◌<◌, ◌≡◌, ◌+◌, length, ◌∙◌}
+use Rattle.std.proofs.Common.{rules, arith, ◌≤◌, length}
 use Rattle.std.specs.Fmt.{decimal}
 use Rattle.std.proofs.lemmas.Fmt.{length-decimal-le}
 use Rattle.std.proofs.lemmas.Result.{on_ok_weaker, IfErr-weaker}

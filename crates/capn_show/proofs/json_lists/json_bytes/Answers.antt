@@ -33,7 +33,8 @@ returns-in_err-put-clause-cut g c =
     let old = outgoing g.W.Write.contents c.args.writer.now c.args.text.now.items in
     let begun = outgoing g.W.Write.contents c.put.new.writer c.put.new.text.items in
     passed c.from_residual.result c.in_err-put.field-0.0 _ c.from_residual.ensures.1
-    (λ xs h n. broken-before old begun _ (codes "{\"bytes\":\"") (encode_lower xs ++ (codes "\"}")) c.in_err-put.ensures.cut)
+    (λ xs h n. broken-before old begun _ (codes "{\"bytes\":\"") (encode_lower xs ++ (codes "\"}"))
+    c.in_err-put.ensures.cut)
 
 pub returns-in_err-push_bytes-clause-cut : goal.returns-in_err-push_bytes-clause-cut
 returns-in_err-push_bytes-clause-cut g c =

@@ -18,7 +18,8 @@ returns-in-W0-clause-cut g c =
     let old = outgoing g.W.Write.contents c.args.writer.now c.args.text.now.items in
     let new = outgoing g.W.Write.contents c.json_member.new.writer c.json_member.new.text.items in
     IfErr-weaker c.json_member.result _ _
-    (λ e. voids-json m c.args.start.segment c.args.start.word c.args.count c.args.width (BreaksOff old new e) c.in-W0.is)
+    (λ e. voids-json m c.args.start.segment c.args.start.word c.args.count c.args.width (BreaksOff old new e)
+    c.in-W0.is)
     c.json_member.ensures.cut
 
 pub returns-in-W1-clause-shown : goal.returns-in-W1-clause-shown
@@ -36,7 +37,8 @@ returns-in-W1-clause-cut g c =
     let old = outgoing g.W.Write.contents c.args.writer.now c.args.text.now.items in
     let new = outgoing g.W.Write.contents c.json_bits.new.writer c.json_bits.new.text.items in
     IfErr-weaker c.json_bits.result _ _
-    (λ e. bits-json m c.args.start.segment c.args.start.word c.args.count c.args.width (BreaksOff old new e) c.in-W1.is)
+    (λ e. bits-json m c.args.start.segment c.args.start.word c.args.count c.args.width (BreaksOff old new e)
+    c.in-W1.is)
     c.json_bits.ensures.cut
 
 pub returns-in-W8-clause-shown : goal.returns-in-W8-clause-shown
@@ -54,7 +56,8 @@ returns-in-W8-clause-cut g c =
     let old = outgoing g.W.Write.contents c.args.writer.now c.args.text.now.items in
     let new = outgoing g.W.Write.contents c.json_bytes.new.writer c.json_bytes.new.text.items in
     IfErr-weaker c.json_bytes.result _ _
-    (λ e. bytes-json m c.args.start.segment c.args.start.word c.args.count c.args.width (BreaksOff old new e) c.in-W8.is)
+    (λ e. bytes-json m c.args.start.segment c.args.start.word c.args.count c.args.width (BreaksOff old new e)
+    c.in-W8.is)
     c.json_bytes.ensures.cut
 
 pub returns-in-W16-clause-shown : goal.returns-in-W16-clause-shown
@@ -72,7 +75,8 @@ returns-in-W16-clause-cut g c =
     let old = outgoing g.W.Write.contents c.args.writer.now c.args.text.now.items in
     let new = outgoing g.W.Write.contents c.json_numbers.new.writer c.json_numbers.new.text.items in
     IfErr-weaker c.json_numbers.result _ _
-    (λ e. pairs-json m c.args.start.segment c.args.start.word c.args.count c.args.width (BreaksOff old new e) c.in-W16.is)
+    (λ e. pairs-json m c.args.start.segment c.args.start.word c.args.count c.args.width (BreaksOff old new e)
+    c.in-W16.is)
     c.json_numbers.ensures.cut
 
 pub returns-in-W32-clause-shown : goal.returns-in-W32-clause-shown
@@ -90,7 +94,8 @@ returns-in-W32-clause-cut g c =
     let old = outgoing g.W.Write.contents c.args.writer.now c.args.text.now.items in
     let new = outgoing g.W.Write.contents c.json_numbers-in-W32.new.writer c.json_numbers-in-W32.new.text.items in
     IfErr-weaker c.json_numbers-in-W32.result _ _
-    (λ e. quads-json m c.args.start.segment c.args.start.word c.args.count c.args.width (BreaksOff old new e) c.in-W32.is)
+    (λ e. quads-json m c.args.start.segment c.args.start.word c.args.count c.args.width (BreaksOff old new e)
+    c.in-W32.is)
     c.json_numbers-in-W32.ensures.cut
 
 pub returns-in-W64-clause-shown : goal.returns-in-W64-clause-shown
@@ -108,5 +113,6 @@ returns-in-W64-clause-cut g c =
     let old = outgoing g.W.Write.contents c.args.writer.now c.args.text.now.items in
     let new = outgoing g.W.Write.contents c.json_numbers-in-W64.new.writer c.json_numbers-in-W64.new.text.items in
     IfErr-weaker c.json_numbers-in-W64.result _ _
-    (λ e. octs-json m c.args.start.segment c.args.start.word c.args.count c.args.width (BreaksOff old new e) c.in-W64.is)
+    (λ e. octs-json m c.args.start.segment c.args.start.word c.args.count c.args.width (BreaksOff old new e)
+    c.in-W64.is)
     c.json_numbers-in-W64.ensures.cut

@@ -1,4 +1,4 @@
-use Rattle.std.proofs.Common.{◌≡◌, ℕ, ◌<◌, Bool, [], ◌++◌, length, map, take, codes, arith, ap, ◌∙◌}
+use Rattle.std.proofs.Common.{◌<◌, Bool, [], ◌++◌, length, map, take, codes, arith, ap, ◌∙◌}
 use Rattle.std.proofs.lemmas.Result.{on_ok_weaker, IfErr-weaker}
 use Rattle.std.proofs.lemmas.List.{length-map}
 use Rattle.capn_show.specs.Outgoing.{outgoing}
@@ -31,7 +31,8 @@ loop-i-preserved g c xs h n =
     let lt = c.loop-i-test.true in
     let below : i < length xs = omega arith in
     let all = length-map xs (number_item (is_quoted c.args.width)) in
-    item-more begun now [] (map (number_item (is_quoted c.args.width)) xs) i (omega arith) (c.loop-i.invariant xs h n) parted new
+    item-more begun now [] (map (number_item (is_quoted c.args.width)) xs) i (omega arith) (c.loop-i.invariant xs h n)
+    parted new
     (number_item c.is_quoted.result c.number_at.result)
     (ap (λ (b : Bool). number_item b c.number_at.result) c.is_quoted.ensures
     ∙ item-at (number_item (is_quoted c.args.width)) xs i c.number_at.result below (c.number_at.ensures ∙ h i below))
@@ -43,11 +44,14 @@ returns-clause-shown g c =
     (λ k xs h n. let old = outgoing g.W.Write.contents c.args.writer.now c.args.text.now.items in
     let begun = outgoing g.W.Write.contents c.put.new.writer c.put.new.text.items in
     let now = outgoing g.W.Write.contents c.loop-i.writer c.loop-i.text.items in
+    let so_far = both old begun now c.args.head.now (with_commas (take c.loop-i.i (map (number_item (is_quoted
+    c.args.width)) xs)))
+    c.in_ok-put.ensures.shown (c.loop-i.invariant xs h n) in
     let new = outgoing g.W.Write.contents c.put-2.new.writer c.put-2.new.text.items in
     let end = c.loop-i-test.false in
     let all = length-map xs (number_item (is_quoted c.args.width)) in
-    items-end old now c.args.head.now (map (number_item (is_quoted c.args.width)) xs) c.loop-i.i (omega arith) (both old begun now c.args.head.now (with_commas (take c.loop-i.i (map (number_item (is_quoted c.args.width)) xs))) c.in_ok-put.ensures.shown
-    (c.loop-i.invariant xs h n)) new (codes "]}") k)
+    items-end old now c.args.head.now (map (number_item (is_quoted c.args.width)) xs) c.loop-i.i (omega arith) so_far
+    new (codes "]}") k)
     c.put-2.ensures.shown
 
 pub returns-clause-cut : goal.returns-clause-cut
@@ -56,11 +60,14 @@ returns-clause-cut g c =
     (λ e k xs h n. let old = outgoing g.W.Write.contents c.args.writer.now c.args.text.now.items in
     let begun = outgoing g.W.Write.contents c.put.new.writer c.put.new.text.items in
     let now = outgoing g.W.Write.contents c.loop-i.writer c.loop-i.text.items in
+    let so_far = both old begun now c.args.head.now (with_commas (take c.loop-i.i (map (number_item (is_quoted
+    c.args.width)) xs)))
+    c.in_ok-put.ensures.shown (c.loop-i.invariant xs h n) in
     let new = outgoing g.W.Write.contents c.put-2.new.writer c.put-2.new.text.items in
     let end = c.loop-i-test.false in
     let all = length-map xs (number_item (is_quoted c.args.width)) in
-    cut-end old now c.args.head.now (map (number_item (is_quoted c.args.width)) xs) c.loop-i.i (omega arith) (both old begun now c.args.head.now (with_commas (take c.loop-i.i (map (number_item (is_quoted c.args.width)) xs))) c.in_ok-put.ensures.shown
-    (c.loop-i.invariant xs h n)) new e (codes "]}") k)
+    cut-end old now c.args.head.now (map (number_item (is_quoted c.args.width)) xs) c.loop-i.i (omega arith) so_far
+    new e (codes "]}") k)
     c.put-2.ensures.cut
 
 pub returns-in_err-put-clause-cut : goal.returns-in_err-put-clause-cut
@@ -68,36 +75,45 @@ returns-in_err-put-clause-cut g c =
     let old = outgoing g.W.Write.contents c.args.writer.now c.args.text.now.items in
     let begun = outgoing g.W.Write.contents c.put.new.writer c.put.new.text.items in
     passed c.from_residual.result c.in_err-put.field-0.0 _ c.from_residual.ensures.1
-    (λ xs h n. broken-before old begun _ c.args.head.now (with_commas (map (number_item (is_quoted c.args.width)) xs) ++ codes "]}") c.in_err-put.ensures.cut)
+    (λ xs h n. broken-before old begun _ c.args.head.now (with_commas (map (number_item (is_quoted c.args.width)) xs)
+    ++ codes "]}") c.in_err-put.ensures.cut)
 
 pub returns-in_err-separate-clause-cut : goal.returns-in_err-separate-clause-cut
 returns-in_err-separate-clause-cut g c =
-    passed c.from_residual-in_err-separate.result c.in_err-separate.field-0.0 _ c.from_residual-in_err-separate.ensures.1
+    passed c.from_residual-in_err-separate.result c.in_err-separate.field-0.0 _
+    c.from_residual-in_err-separate.ensures.1
     (λ xs h n. let old = outgoing g.W.Write.contents c.args.writer.now c.args.text.now.items in
     let begun = outgoing g.W.Write.contents c.put.new.writer c.put.new.text.items in
     let now = outgoing g.W.Write.contents c.loop-i.writer c.loop-i.text.items in
+    let so_far = both old begun now c.args.head.now (with_commas (take c.loop-i.i (map (number_item (is_quoted
+    c.args.width)) xs)))
+    c.in_ok-put.ensures.shown (c.loop-i.invariant xs h n) in
     let parted = outgoing g.W.Write.contents c.separate.new.writer c.separate.new.text.items in
     let i = c.loop-i.i in
     let lt = c.loop-i-test.true in
     let all = length-map xs (number_item (is_quoted c.args.width)) in
-    cut-comma old now c.args.head.now (map (number_item (is_quoted c.args.width)) xs) i (omega arith) (both old begun now c.args.head.now (with_commas (take c.loop-i.i (map (number_item (is_quoted c.args.width)) xs))) c.in_ok-put.ensures.shown
-    (c.loop-i.invariant xs h n)) parted _ (codes "]}")
+    cut-comma old now c.args.head.now (map (number_item (is_quoted c.args.width)) xs) i (omega arith) so_far parted _
+    (codes "]}")
     c.in_err-separate.ensures.cut)
 
 pub returns-in_err-put_value-clause-cut : goal.returns-in_err-put_value-clause-cut
 returns-in_err-put_value-clause-cut g c =
-    passed c.from_residual-in_err-put_value.result c.in_err-put_value.field-0.0 _ c.from_residual-in_err-put_value.ensures.1
+    passed c.from_residual-in_err-put_value.result c.in_err-put_value.field-0.0 _
+    c.from_residual-in_err-put_value.ensures.1
     (λ xs h n. let old = outgoing g.W.Write.contents c.args.writer.now c.args.text.now.items in
     let begun = outgoing g.W.Write.contents c.put.new.writer c.put.new.text.items in
     let now = outgoing g.W.Write.contents c.loop-i.writer c.loop-i.text.items in
+    let so_far = both old begun now c.args.head.now (with_commas (take c.loop-i.i (map (number_item (is_quoted
+    c.args.width)) xs)))
+    c.in_ok-put.ensures.shown (c.loop-i.invariant xs h n) in
     let parted = outgoing g.W.Write.contents c.separate.new.writer c.separate.new.text.items in
     let new = outgoing g.W.Write.contents c.put_value.new.writer c.put_value.new.text.items in
     let i = c.loop-i.i in
     let lt = c.loop-i-test.true in
     let below : i < length xs = omega arith in
     let all = length-map xs (number_item (is_quoted c.args.width)) in
-    cut-item old now c.args.head.now (map (number_item (is_quoted c.args.width)) xs) i (omega arith) (both old begun now c.args.head.now (with_commas (take c.loop-i.i (map (number_item (is_quoted c.args.width)) xs))) c.in_ok-put.ensures.shown
-    (c.loop-i.invariant xs h n)) parted new _
+    cut-item old now c.args.head.now (map (number_item (is_quoted c.args.width)) xs) i (omega arith) so_far parted new
+    _
     (number_item c.is_quoted.result c.number_at.result) (codes "]}")
     (ap (λ (b : Bool). number_item b c.number_at.result) c.is_quoted.ensures
     ∙ item-at (number_item (is_quoted c.args.width)) xs i c.number_at.result below (c.number_at.ensures ∙ h i below))
