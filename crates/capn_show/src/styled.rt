@@ -1,6 +1,6 @@
 //! The text of what stands somewhere, in a style.
 
-ghost use Rattle.std.specs.Prelude.{◌≡◌, ◌*◌, ◌<◌, ◌^◌, None, IfErr, OnOk};
+ghost use Rattle.std.specs.Prelude.{◌*◌, ◌<◌, ◌^◌, None, IfErr, OnOk};
 ghost use Rattle.capn_words.specs.Message.{IsMessage};
 ghost use Rattle.capn_walk.specs.View.{IsInMessage};
 ghost use Rattle.capn_show.specs.Outgoing.{Adds, BreaksOff, outgoing};

@@ -1,4 +1,4 @@
-use Rattle.std.proofs.Common.{sym, ◌∙◌, arith}
+use Rattle.std.proofs.Common.{sym, ◌∙◌}
 use Rattle.capn_show.proofs.TextBytes.{bare-more}
 use Rattle.capn_show.proofs.bytes.bare_run.Goals as goal
 

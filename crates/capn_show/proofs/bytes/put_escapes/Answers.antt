@@ -1,4 +1,4 @@
-use Rattle.std.proofs.Common.{◌≡◌, ◌+◌, ◌<◌, ℕ, length, drop, take, ap, arith, length-drop}
+use Rattle.std.proofs.Common.{◌≡◌, ◌+◌, ◌<◌, ℕ, length, take, ap, arith, length-drop}
 use Rattle.std.proofs.lemmas.List.{get_or-drop}
 use Rattle.capn_show.specs.Outgoing.{outgoing}
 use Rattle.capn_show.specs.Quoting.{escapes}
