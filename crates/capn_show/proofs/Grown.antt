@@ -111,17 +111,17 @@ module _ (p q : Outgoing) where
     escapes-all = all escapes escapes-joined p q xs i
 
     -- bytes that stand as they are
-    pub bare-more : (r : Outgoing) (k : ℕ) → escapes (take k (drop i xs)) ≡ take k (drop i xs)
-        → Adds p q (escapes (take i xs)) → Adds q r (take k (drop i xs)) → Adds p r (escapes (take (i + k) xs))
-    bare-more r k e h j =
-        block-more escapes escapes-joined p q r xs i k h
-        (otherwise q r (take k (drop i xs)) (escapes (take k (drop i xs))) (sym e) j)
+    module _ (r : Outgoing) (k : ℕ) (rest : List ℕ) (left : rest ≡ drop i xs)
+        (bare : escapes (take k rest) ≡ take k rest) where
+      run-is : take k rest ≡ escapes (take k (drop i xs))
+      run-is = sym bare ∙ ap (λ (l : List ℕ). escapes (take k l)) left
 
-    pub bare-cut : (r : Outgoing) (e : Broken) (k : ℕ) → escapes (take k (drop i xs)) ≡ take k (drop i xs)
-        → Adds p q (escapes (take i xs)) → BreaksOff q r e (take k (drop i xs)) → BreaksOff p r e (escapes xs)
-    bare-cut r e k is h j =
-        block-cut escapes escapes-joined p q r xs i k e h
-        (otherwise-broken q r e (take k (drop i xs)) (escapes (take k (drop i xs))) (sym is) j)
+      pub bare-more : Adds p q (escapes (take i xs)) → Adds q r (take k rest) → Adds p r (escapes (take (i + k) xs))
+      bare-more h j = block-more escapes escapes-joined p q r xs i k h (otherwise q r _ _ run-is j)
+
+      pub bare-cut : (e : Broken) → Adds p q (escapes (take i xs)) → BreaksOff q r e (take k rest)
+          → BreaksOff p r e (escapes xs)
+      bare-cut e h j = block-cut escapes escapes-joined p q r xs i k e h (otherwise-broken q r e _ _ run-is j)
 
 module _ (p q : Outgoing) where
   module _ (level : ℕ) (xs : List ℕ) (i : ℕ) where

@@ -1,3 +1,4 @@
+use mathlib.Core.List.{not-mem-nil}
 use Rattle.std.proofs.Common.{◌≡◌, ℕ, ◌+◌, ◌*◌, ◌<◌, ◌≤◌, length, ◌++◌, subst, arith, sym, ap, ◌∙◌}
 use Rattle.std.proofs.lemmas.Result.{on_ok_weaker, IfErr-weaker}
 use Rattle.capn_words.specs.Message.{segment_at}
@@ -33,9 +34,9 @@ show_slot-show_found-requires g t c κs live =
         (
           live.1.0,
           (
-            live.1.1.0,
+            live.1.1,
             (
-              live.1.1.1,
+              λ a m. absurd (not-mem-nil m),
               (
                 c.requires.message,
                 (
@@ -72,9 +73,9 @@ show_slots-show_slot-requires g t c κs live =
         (
           live.1.0,
           (
-            live.1.1.0,
+            live.1.1,
             (
-              live.1.1.1,
+              λ a m. absurd (not-mem-nil m),
               (
                 c.requires.message,
                 (omega arith, (ready, c.requires.room)),
@@ -110,9 +111,9 @@ show_body-show_slots-requires g t c κs live =
         (
           live.1.0,
           (
-            live.1.1.0,
+            live.1.1,
             (
-              live.1.1.1,
+              λ a m. absurd (not-mem-nil m),
               (
                 c.requires.message,
                 (content, (ready, c.requires.room)),
@@ -167,9 +168,9 @@ show_found-show_body-requires g t c κs live =
         (
           live.1.0,
           (
-            live.1.1.0,
+            live.1.1,
             (
-              live.1.1.1,
+              λ a m. absurd (not-mem-nil m),
               (
                 c.requires.message,
                 (content, (ready, omega arith)),
@@ -202,9 +203,9 @@ show_found-show_slots-requires g t c κs live =
         (
           live.1.0,
           (
-            live.1.1.0,
+            live.1.1,
             (
-              live.1.1.1,
+              λ a m. absurd (not-mem-nil m),
               (
                 c.requires.message,
                 (content, (ready, omega arith)),
@@ -237,9 +238,9 @@ show_found-show_rows-requires g t c κs live =
         (
           live.1.0,
           (
-            live.1.1.0,
+            live.1.1,
             (
-              live.1.1.1,
+              λ a m. absurd (not-mem-nil m),
               (
                 c.requires.message,
                 (content, (ready, omega arith)),
@@ -285,9 +286,9 @@ show_rows-show_body-requires g t c κs live =
         (
           live.1.0,
           (
-            live.1.1.0,
+            live.1.1,
             (
-              live.1.1.1,
+              λ a m. absurd (not-mem-nil m),
               (
                 c.requires.message,
                 (content, (ready, c.requires.room)),
