@@ -71,14 +71,20 @@ module _ (limits : Bounds) (tally : Tally) (at : Position) (frame : List ℕ) (m
       ((framed answer, tally, count, (answer, price, is, refl, refl), breaks), broken)
   frame_added answer price is a b failed (Err (faults.Refused r)) none = absurd none
 
-  -- what was appended to the text was added to what goes out
-  pub served_added : (task : Task) (after : Tally) (c : Option (List ℕ)) (old new : List ℕ) (failed : Bool)
-      → failed ≡ false → (r : Ending) → Serves task limits tally at frame message old new r after
+  appended : (task : Task) (after : Tally) (c : Option (List ℕ)) (old new : List ℕ) (failed : Bool) → failed ≡ false
+      → (r : Ending) → Serves task limits tally at frame message old new r after
       → AddsServed task limits tally at frame message (outgoing c old) (outgoing c new) failed r after
-  served_added task after c old new failed fine (Ok u) (text, is, joined) =
-      (text, is, ([], Appends-nil c, joined), fine)
-  served_added task after c old new failed fine (Err faults.Memory) (same, kept) =
+  appended task after c old new failed fine (Ok u) (text, is, joined) = (text, is, ([], Appends-nil c, joined), fine)
+  appended task after c old new failed fine (Err faults.Memory) (same, kept) =
       (inl ([], Appends-nil c, same ∙ sym (append-nil old)), fine)
-  served_added task after c old new failed fine (Err faults.Io) none = absurd none
-  served_added task after c old new failed fine (Err (faults.Refused r)) (refused, same, kept) =
+  appended task after c old new failed fine (Err faults.Io) none = absurd none
+  appended task after c old new failed fine (Err (faults.Refused r)) (refused, same, kept) =
       (refused, ap (outgoing c) same, kept, fine)
+
+  -- what a task appended to the text was added to what goes out
+  pub served_added : (task seen : Task) → task ≡ seen → (after : Tally) (c : Option (List ℕ)) (old new : List ℕ)
+      (failed : Bool) → failed ≡ false → (r : Ending) → Serves seen limits tally at frame message old new r after
+      → AddsServed task limits tally at frame message (outgoing c old) (outgoing c new) failed r after
+  served_added task seen is after c old new failed fine r served =
+      subst (λ (k : Task). AddsServed k limits tally at frame message (outgoing c old) (outgoing c new) failed r after)
+      (sym is) (appended seen after c old new failed fine r served)

@@ -1,6 +1,7 @@
 //! A message of one segment.
 
-ghost use Rattle.std.specs.Prelude.{◌≡◌, ◌≢◌, ℕ, ◌^◌, ◌<◌, [], ◌∷◌, length, IfSome, IfNone};
+ghost use Rattle.std.specs.Prelude.{◌≡◌, ◌≢◌, ℕ, ◌^◌, ◌<◌, List, [], ◌∷◌, length, IfSome, IfNone, IsTrue};
+ghost use Rattle.capn_words.specs.Message.{IsBare};
 ghost use Rattle.capn_canon.specs.Denotes.{AnswersMessage};
 ghost use Rattle.capn_archive.specs.inner.OneSegment.{IsOnlySegment};
 
@@ -31,28 +32,45 @@ pub(crate) fn alone<S: Space>(space: &S) -> Option<Bare<'_>>
     ensures one { IfSome result (λ words. S.message space.now ≡ words ∷ []) }
     ensures other { IfNone result (length (S.message space.now) ≢ 1) }
 {
-    let bytes = only_bytes(space)?;
-    match Bare::new(bytes) {
-        Ok(bare) => Some(bare),
-        Err(_) => None,
+    match only_bytes(space) {
+        Some(bytes) => match Bare::new(bytes) {
+            Ok(bare) => Some(bare),
+            Err(_) => None,
+        },
+        None => None,
     }
 }
 
-/// The bytes of a message of one segment, if they are its canonical bytes. One pass over them tells, and no memory is
-/// taken.
-pub(crate) fn own_canonical<S: Space>(space: &S, limits: Limits) -> Option<&[u8]>
-    ensures own { IfSome result (λ bytes. (price : ℕ) × AnswersMessage (S.message space.now) limits bytes.now price) }
-    ensures short { IfSome result (λ bytes. length bytes.now < 2 ^ 34) }
+/// Whether these are the canonical bytes of the message of one segment that they are. One pass over them tells.
+fn are_own(bytes: &[u8], limits: Limits) -> bool
+    ensures { IsTrue result → (words : List ℕ) → IsBare bytes.now words → (price : ℕ)
+        × AnswersMessage (words ∷ []) limits bytes.now price }
 {
-    let bytes = only_bytes(space)?;
     match Bare::new(bytes) {
         Ok(bare) => {
             let _segments = bare.segments();
             match survey_canonical(&bare, limits) {
-                Some(checked) if checked.is_canonical => Some(bytes),
-                _ => None,
+                Some(checked) => checked.is_canonical,
+                None => false,
             }
         }
-        Err(_) => None,
+        Err(_) => false,
+    }
+}
+
+/// The bytes of a message of one segment, if they are its canonical bytes. It takes no memory.
+pub(crate) fn own_canonical<S: Space>(space: &S, limits: Limits) -> Option<&[u8]>
+    ensures own { IfSome result (λ bytes. (price : ℕ) × AnswersMessage (S.message space.now) limits bytes.now price) }
+    ensures short { IfSome result (λ bytes. length bytes.now < 2 ^ 34) }
+{
+    match only_bytes(space) {
+        Some(bytes) => {
+            if are_own(bytes, limits) {
+                Some(bytes)
+            } else {
+                None
+            }
+        }
+        None => None,
     }
 }
