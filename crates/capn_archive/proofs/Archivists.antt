@@ -37,7 +37,7 @@ module _ (order : Archive) (tally : Tally) (at : Position) (frame : List ℕ) (m
   served_does after a b failed (Err faults.Io) ((text, t, count, is, breaks), broken) ends =
       ((text, archivist order t, count, (refl, inl is), breaks), broken)
   served_does after a b failed (Err (faults.Refused e)) (refused, same, kept, fine) ends =
-      ((ends e refl, refused), subst (Adds a) (sym same) ([], Appends-nil a.taken, sym (append-nil a.kept)), fine)
+      ((ends e refl, refused), subst (λ (x : Outgoing). Adds a x []) (sym same) ([], Appends-nil a.taken, sym (append-nil a.kept)), fine)
 
   -- it is refused, and was passed over
   pub skipped_does : (mid after : Tally) (a : Outgoing) (c : Option (List ℕ)) (old new : List ℕ) (failed : Bool)

@@ -46,7 +46,7 @@ pub not_checked : (words : List ℕ) (limits : Bounds) (s : Surveyed) (depth : �
     → f.depth ≡ depth
     → ((v : Tree) → IsValueOf (words ∷ []) limits v → first_cap v ≡ None → canon v ≡ bytes words
     → is_some none ≡ true) → AreFindings (words ∷ []) limits f
-not_checked words limits s depth f told deep pays counts capability no is only = record {
+not_checked words limits s depth f told deep pays counts capability isn't is only = record {
   checked = record {
     value = told.value;
     is = told.is;
@@ -54,7 +54,7 @@ not_checked words limits s depth f told deep pays counts capability no is only =
     counts = counts ∙ told.counts;
     capability = capability ∙ told.capability;
     answer = (
-      (λ so. absurd (let bad : true ≡ false = sym so ∙ no in cc)),
+      (λ so. absurd (let bad : true ≡ false = sym so ∙ isn't in cc)),
       (λ is. absurd (not_none (only told.value told.is is.2
       (is.3 ∙ ap bytes (sym (same_words words is.0 is.1)))))),
     );

@@ -1,5 +1,6 @@
 -- A message that a sieve serves.
 use Rattle.std.proofs.Common.{◌≡◌, inl, inr, ℕ, List, [], Bool, true, false, Option, Some, Result, Ok, Err, refl}
+use Rattle.std.proofs.Common.{IsErrAnd}
 use Rattle.std.proofs.Common.{ap, sym, subst, ◌∙◌}
 use Rattle.std.specs.BTreeSet.{BTreeSet}
 use Rattle.capn_canon.specs.declared.refusal.Refusal.{Refusal}
@@ -73,7 +74,7 @@ module _ (s : Sifted) (frame : List ℕ) (message : List (List ℕ)) (a b : Outg
   tried_does t at (Err faults.Io) ((text, u, count, is, breaks), broken) ends =
       ((text, u, count, inl is, breaks), broken)
   tried_does t at (Err (faults.Refused e)) (undigested, same, kept, fine) ends =
-      ((ends e refl, undigested), subst (Adds a) (sym same) (added_none a), fine)
+      ((ends e refl, undigested), subst (λ (x : Outgoing). Adds a x []) (sym same) (added_none a), fine)
 
   -- what is known of a message that was not sifted since it has no digest
   pub undigested : (t : Sifted) (fault : ServeFault) (r : Refusal) → fault ≡ faults.Refused r
@@ -81,3 +82,11 @@ module _ (s : Sifted) (frame : List ℕ) (message : List (List ℕ)) (a b : Outg
       → IsUndigested message s.order.limits r × (b ≡ a) × (t ≡ s) × (failed ≡ false)
   undigested t fault r same tried =
       subst (λ (e : ServeFault). TriesToSift s frame message a b failed (stopped e) t) same tried
+
+  -- memory was refused before anything was added
+  pub memory_refused : (t : Sifted) (fault : ServeFault) (r : Ending) → IsErrAnd r (λ e. e ≡ fault)
+      → fault ≡ faults.Memory → Adds a b [] → failed ≡ false → TriesToSift s frame message a b failed r t
+  memory_refused t fault (Ok u) told is none fine = absurd told
+  memory_refused t fault (Err faults.Memory) told is none fine = (inl none, fine)
+  memory_refused t fault (Err faults.Io) told is none fine = absurd (cc)
+  memory_refused t fault (Err (faults.Refused r)) told is none fine = absurd (cc)

@@ -1,6 +1,6 @@
 use Rattle.std.proofs.Common.{[], inr, sym, subst, ◌∙◌}
 use Rattle.capn_words.specs.Watched.{inner_of, has_failed}
-use Rattle.capn_serve.specs.Outgoing.{Adds, outgoing}
+use Rattle.capn_serve.specs.Outgoing.{Outgoing, Adds, outgoing}
 use Rattle.capn_serve.proofs.shared.Adding.{added_none}
 use Rattle.capn_archive.specs.Digest.{IsUndigested}
 use Rattle.capn_archive.specs.Sieve.{Sifted}
@@ -21,6 +21,6 @@ returns-in-Err-Refused g c =
           (subst (λ (s : Sifted). IsUndigested (g.S.Space.message c.args.message.now) s.order.limits
           c.in-Err-Refused.field-0-0) (sym same) known.0)
           c.if-self.true c.one_more.result c.one_more.ensures),
-      subst (Adds old) (sym known.1) (added_none old),
+      subst (λ (x : Outgoing). Adds old x []) (sym known.1) (added_none old),
       known.3,
     )
