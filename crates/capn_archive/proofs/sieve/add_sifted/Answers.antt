@@ -20,4 +20,7 @@ returns g c =
     (outgoing (g.W.Write.contents (inner_of c.add_bytes.new.writer)) c.add_bytes.new.text.items)
     (has_failed c.add_bytes.new.writer) c.add_bytes.result)
     (whole c.args.count c.args.is_double c.args.frame.now c.if-count.false c.if-is_double.false)
-    (text_added c.args.frame.now _ _ _ c.add_bytes.result c.add_bytes.ensures)
+    (text_added c.args.frame.now
+    (outgoing (g.W.Write.contents (inner_of c.args.writer.now)) c.args.text.now.items)
+    (outgoing (g.W.Write.contents (inner_of c.add_bytes.new.writer)) c.add_bytes.new.text.items)
+    (has_failed c.add_bytes.new.writer) c.add_bytes.result c.add_bytes.ensures)

@@ -1,4 +1,4 @@
-use Rattle.std.proofs.Common.{◌≡◌, ap}
+use Rattle.std.proofs.Common.{rules}
 use Rattle.capn_words.specs.Watched.{inner_of, has_failed}
 use Rattle.capn_serve.specs.Outgoing.{outgoing}
 use Rattle.capn_archive.proofs.Archivists.{served_does}
@@ -12,4 +12,5 @@ returns-in_default-2 g c =
     c.serve_task-served.new.tally
     (outgoing (g.W.Write.contents (inner_of c.args.writer.now)) c.args.text.now.items)
     (outgoing (g.W.Write.contents (inner_of c.serve_task-served.new.writer)) c.serve_task-served.new.text.items)
-    (has_failed c.serve_task-served.new.writer) c.serve_task-served.result c.serve_task-served.ensures ?
+    (has_failed c.serve_task-served.new.writer) c.serve_task-served.result c.serve_task-served.ensures
+    (search (rules, is))

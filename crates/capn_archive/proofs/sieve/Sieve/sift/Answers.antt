@@ -20,5 +20,5 @@ pub returns-in_err-is_double : goal.returns-in_err-is_double
 returns-in_err-is_double g c =
     let a = outgoing (g.W.Write.contents (inner_of c.args.writer.now)) c.args.text.now.items in
     memory_refused c.args.self.now c.args.frame.now (g.S.Space.message c.args.message.now) a a
-    (has_failed c.args.writer.now) _ c.in_err-is_double.field-0.0 c.from_residual-2.result
-    c.from_residual-2.ensures.1 c.in_err-is_double.ensures (added_none a) c.requires
+    (has_failed c.args.writer.now) _ c.in_err-is_double.field-0.0 c.from_residual-in_err-is_double.result
+    c.from_residual-in_err-is_double.ensures.1 c.in_err-is_double.ensures (added_none a) c.requires
