@@ -1,23 +1,18 @@
 //! What is found of a message that is accepted.
 
-ghost use Rattle.std.specs.Prelude.{◌≡◌, ◌≢◌, [], ◌∷◌, length, false, IfSome, IfNone};
+ghost use Rattle.std.specs.Prelude.{◌≡◌, ◌≢◌, [], ◌∷◌, length, false};
 ghost use Rattle.capn_walk.specs.Depth.{IsDepth};
 ghost use Rattle.capn_walk.specs.Surveyed.{IsSurvey};
 ghost use Rattle.capn_canon.specs.Refusal.{IsUnaccepted};
 ghost use Rattle.capn_archive.specs.Findings.{AreFindings};
 ghost use Rattle.capn_archive.specs.Tasks.{Finds};
 
-use capn_canon::{Refusal, SurveyedBare, survey_bare};
+use crate::one_segment::alone;
+use capn_canon::{Refusal, SurveyedBare, survey_canonical};
 use capn_serve::ServeFault;
 use capn_walk::{Fault, Limits, Measured, survey_depth};
-use capn_words::{Bare, Place, Space};
+use capn_words::{Bare, Space};
 use std::alloc::Allocator;
-
-/// Where the pointer to the root is.
-const ROOT: Place = Place {
-    segment: 0,
-    word: 0,
-};
 
 /// What is found of a message that is accepted.
 #[derive(Clone, Copy, Debug, PartialEq, Eq)]
@@ -79,8 +74,8 @@ fn find_in_segments<S: Space, A: Allocator + Copy>(
     Ok(not_canonical(measured))
 }
 
-/// What is found of a message of one segment. One that has a capability is not canonical; of others the bytes are
-/// checked once the message is accepted.
+/// What is found of a message of one segment. One that has a capability is not canonical; the bytes of others are
+/// checked by one pass, once the message is accepted.
 fn find_in_segment<A: Allocator + Copy>(
     alloc: A,
     space: &Bare<'_>,
@@ -92,28 +87,13 @@ fn find_in_segment<A: Allocator + Copy>(
     if measured.survey.capability.is_some() {
         return Ok(not_canonical(measured));
     }
-    match survey_bare(alloc, space, limits) {
-        Ok(checked) => Ok(Findings {
+    let _segments = space.segments();
+    match survey_canonical(space, limits) {
+        Some(checked) => Ok(Findings {
             checked,
             depth: measured.depth,
         }),
-        // The message is accepted, so only memory is refused.
-        Err(_) => Err(ServeFault::Memory),
-    }
-}
-
-/// A message of one segment as that alone, or `None` if it has more than one.
-fn alone<S: Space>(space: &S) -> Option<Bare<'_>>
-    ensures one { IfSome result (λ words. S.message space.now ≡ words ∷ []) }
-    ensures other { IfNone result (length (S.message space.now) ≢ 1) }
-{
-    let words = space.words(0).unwrap_or(0);
-    if space.segments() != 1 {
-        return None;
-    }
-    match Bare::new(space.bytes(ROOT, 8 * words as usize)) {
-        Ok(bare) => Some(bare),
-        Err(_) => None,
+        None => Ok(not_canonical(measured)),
     }
 }
 

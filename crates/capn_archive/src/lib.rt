@@ -17,6 +17,7 @@ mod head;
 mod line;
 mod lines;
 mod needs;
+mod one_segment;
 mod sieve;
 mod tally;
 mod task;

@@ -61,7 +61,7 @@ fn refusal_end<A: Allocator>(alloc: A, refusal: &Refusal) -> Result<String<A>, S
 }
 
 /// Appends some bytes, or nothing where memory is refused.
-pub(crate) fn put_bytes<A: Allocator>(text: &mut Vec<u8, A>, bytes: &[u8]) -> Result<(), ServeFault>
+fn put_bytes<A: Allocator>(text: &mut Vec<u8, A>, bytes: &[u8]) -> Result<(), ServeFault>
     ensures { PutsText bytes.now text.old.items text.new.items result }
 {
     match text.extend_from_slice(bytes) {
@@ -83,7 +83,7 @@ fn push_both<A: Allocator>(
 }
 
 /// Appends them, or nothing where memory is refused.
-pub(crate) fn put_both<A: Allocator>(
+fn put_both<A: Allocator>(
     text: &mut Vec<u8, A>,
     front: &[u8],
     back: &[u8],
