@@ -32,9 +32,7 @@ run_each_packed-requires-clause-writer_fine g c = c.requires.writer_fine
 
 pub returns-in-Whole : goal.returns-in-Whole
 returns-in-Whole g c =
-    let run = c.run_whole.ensures in
-    runs c.args.plan (plans.Whole c.in-Whole.whole) _ _ _ _ _ _ c.run_whole.result c.in-Whole.is
-    record { exact = run.exact; io = run.io; begun = run.begun; heard = run.unread }
+    runs c.args.plan (plans.Whole c.in-Whole.whole) _ _ _ _ _ _ c.run_whole.result c.in-Whole.is c.run_whole.ensures
 
 pub returns-in-Each : goal.returns-in-Each
 returns-in-Each g c =

@@ -5,7 +5,7 @@ use Rattle.capn_tool.specs.MessageText.{IsNoMessageText, PutsMessageText}
 use Rattle.capn_tool.specs.declared.plan.MessageText.{MessageText}
 use Rattle.capn_tool.specs.declared.fault.ToolFault.{ToolFault}
 use Rattle.capn_tool.specs.declared.fault.ToolFault.TheVariants as faults
-use Rattle.capn_tool.proofs.message_texts.MessageTexts.put_message.Goals as goal
+use Rattle.capn_tool.proofs.message_texts.served.Goals as goal
 
 -- a message that is refused has no piece
 refused : (piece : MessageText) (message : List (List ℕ)) (limits : Bounds) (old new : List ℕ) (fault : ToolFault)
@@ -16,13 +16,14 @@ refused piece message limits old new fault r is (inr why, same) =
     (subst (λ (f : ToolFault). IsNoMessageText piece message limits f) is why, same)
 
 pub returns-in-Ok : goal.returns-in-Ok
-returns-in-Ok g c at frame = let put = c.in-Ok.ensures in (put.0, (put.1, refl), put.2)
+returns-in-Ok g c s at frame message old new given =
+    let put = rw c.in-Ok.is at given in
+    (put.0, (put.1, refl), put.2)
 
 pub returns-in-Err-Refused : goal.returns-in-Err-Refused
-returns-in-Err-Refused g c at frame =
-    refused c.args.self.now.piece (g.S.Space.message c.args.message.now) c.args.self.now.limits c.args.text.now.items
-    c.put_message_text.new.text.items c.in-Err-Refused.field-0 c.in-Err-Refused.refusal c.in-Err-Refused.field-0-is
-    c.in-Err-Refused.ensures
+returns-in-Err-Refused g c s at frame message old new given =
+    refused s.piece message s.limits old new c.in-Err-Refused.field-0 c.in-Err-Refused.refusal
+    c.in-Err-Refused.field-0-is (rw c.in-Err-Refused.is at given)
 
 pub returns-in-Err : goal.returns-in-Err
-returns-in-Err g c at frame = c.in-Err.ensures.1
+returns-in-Err g c s at frame message old new given = (rw c.in-Err.is at given).1
