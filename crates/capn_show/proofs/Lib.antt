@@ -11,6 +11,9 @@ mod Steps
 mod ListTexts
 mod FoundTexts
 mod Ends
+mod PlainTexts
+mod TextBytes
+mod ReadBytes
 mod PartSteps
 mod BlockDigits
 mod BitDigits

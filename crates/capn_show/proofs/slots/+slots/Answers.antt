@@ -18,6 +18,7 @@ use Rattle.capn_show.proofs.SlotTexts.{each-more, each-all, each-cut, rows-more,
 use Rattle.capn_show.proofs.FoundTexts.{body-shown, nil-shown, cap-shown, node-shown, list-shown, links-shown}
 use Rattle.capn_show.proofs.FoundTexts.{rows-shown, inside, deep, node-ready, links-ready, rows-ready}
 use Rattle.capn_show.proofs.slots.+slots.Goals as goal
+use Rattle.capn_show.specs.inner.ReadyPlaces.{bytes_of}
 
 -- ---- a slot
 
@@ -68,7 +69,7 @@ pub show_slots-loop-i-preserved : goal.show_slots-loop-i-preserved
 show_slots-loop-i-preserved g t c ts h n =
     let i = c.loop-i.i in
     let lt = c.loop-i-test.true in
-    each-more (outgoing g.W.Write.contents c.args.writer.now c.args.text.now.items)
+    each-more (bytes_of g.QUOTED) (outgoing g.W.Write.contents c.args.writer.now c.args.text.now.items)
     (outgoing g.W.Write.contents c.loop-i.writer c.loop-i.text.items) (outgoing g.W.Write.contents
     c.show_slot.new.writer c.show_slot.new.text.items) c.args.level ts i (omega arith)
     (c.loop-i.invariant ts h n) (c.in_ok-show_slot.ensures.shown _ (h i (omega arith)))
@@ -204,7 +205,7 @@ show_rows-loop-row-preserved g t c =
     record {
       next = let d : (i + 1) * (a + b) ≡ i * (a + b) + (a + b) = omega arith in omega arith;
       rest = λ bs h n. let below : i < count_rows bs = omega arith in
-          rows-more (outgoing g.W.Write.contents c.args.writer.now c.args.text.now.items)
+          rows-more (bytes_of g.QUOTED) (outgoing g.W.Write.contents c.args.writer.now c.args.text.now.items)
           (outgoing g.W.Write.contents c.loop-row.writer c.loop-row.text.items)
           (outgoing g.W.Write.contents c.show_body.new.writer c.show_body.new.text.items) c.args.level bs i below
           (c.loop-row.invariant.rest bs h n)
@@ -248,7 +249,8 @@ show_found-overflow_add-first g t c =
 pub show_slot-returns-clause-shown : goal.show_slot-returns-clause-shown
 show_slot-returns-clause-shown g t c =
     on_ok_weaker c.show_found.result
-    (found-shown (g.S.Space.message c.args.space.now) c.views_show_values.ensures c.args.at c.in-Ok.found c.args.level
+    (found-shown (g.S.Space.message c.args.space.now) (bytes_of g.QUOTED) c.views_show_values.ensures c.args.at
+    c.in-Ok.found c.args.level
     (Adds (outgoing g.W.Write.contents c.args.writer.now c.args.text.now.items)
     (outgoing g.W.Write.contents c.show_found.new.writer c.show_found.new.text.items))
     (sym c.resolve.ensures.exact ∙ c.in-Ok.is))
@@ -257,7 +259,8 @@ show_slot-returns-clause-shown g t c =
 pub show_slot-returns-clause-cut : goal.show_slot-returns-clause-cut
 show_slot-returns-clause-cut g t c =
     IfErr-weaker c.show_found.result _ _
-    (λ e. found-shown (g.S.Space.message c.args.space.now) c.views_show_values.ensures c.args.at c.in-Ok.found
+    (λ e. found-shown (g.S.Space.message c.args.space.now) (bytes_of g.QUOTED) c.views_show_values.ensures c.args.at
+    c.in-Ok.found
     c.args.level
     (BreaksOff (outgoing g.W.Write.contents c.args.writer.now c.args.text.now.items)
     (outgoing g.W.Write.contents c.show_found.new.writer c.show_found.new.text.items) e)
@@ -267,7 +270,7 @@ show_slot-returns-clause-cut g t c =
 pub show_found-returns-in-Nil-clause-shown : goal.show_found-returns-in-Nil-clause-shown
 show_found-returns-in-Nil-clause-shown g t c =
     on_ok_weaker c.plain_line.result
-    (nil-shown (g.S.Space.message c.args.space.now) c.args.found c.args.level (Adds
+    (nil-shown (bytes_of g.QUOTED) (g.S.Space.message c.args.space.now) c.args.found c.args.level (Adds
     (outgoing g.W.Write.contents c.args.writer.now c.args.text.now.items)
     (outgoing g.W.Write.contents c.plain_line.new.writer c.plain_line.new.text.items)) c.in-Nil.is)
     c.plain_line.ensures.shown
@@ -275,7 +278,7 @@ show_found-returns-in-Nil-clause-shown g t c =
 pub show_found-returns-in-Nil-clause-cut : goal.show_found-returns-in-Nil-clause-cut
 show_found-returns-in-Nil-clause-cut g t c =
     IfErr-weaker c.plain_line.result _ _
-    (λ e. nil-shown (g.S.Space.message c.args.space.now) c.args.found c.args.level (BreaksOff
+    (λ e. nil-shown (bytes_of g.QUOTED) (g.S.Space.message c.args.space.now) c.args.found c.args.level (BreaksOff
     (outgoing g.W.Write.contents c.args.writer.now c.args.text.now.items)
     (outgoing g.W.Write.contents c.plain_line.new.writer c.plain_line.new.text.items) e) c.in-Nil.is)
     c.plain_line.ensures.cut
@@ -283,7 +286,7 @@ show_found-returns-in-Nil-clause-cut g t c =
 pub show_found-returns-in-Cap-clause-shown : goal.show_found-returns-in-Cap-clause-shown
 show_found-returns-in-Cap-clause-shown g t c =
     on_ok_weaker c.named_line.result
-    (cap-shown (g.S.Space.message c.args.space.now) c.args.found c.args.level (Adds
+    (cap-shown (bytes_of g.QUOTED) (g.S.Space.message c.args.space.now) c.args.found c.args.level (Adds
     (outgoing g.W.Write.contents c.args.writer.now c.args.text.now.items)
     (outgoing g.W.Write.contents c.named_line.new.writer c.named_line.new.text.items)) c.in-Cap.index c.in-Cap.is)
     c.named_line.ensures.shown
@@ -291,7 +294,7 @@ show_found-returns-in-Cap-clause-shown g t c =
 pub show_found-returns-in-Cap-clause-cut : goal.show_found-returns-in-Cap-clause-cut
 show_found-returns-in-Cap-clause-cut g t c =
     IfErr-weaker c.named_line.result _ _
-    (λ e. cap-shown (g.S.Space.message c.args.space.now) c.args.found c.args.level (BreaksOff
+    (λ e. cap-shown (bytes_of g.QUOTED) (g.S.Space.message c.args.space.now) c.args.found c.args.level (BreaksOff
     (outgoing g.W.Write.contents c.args.writer.now c.args.text.now.items)
     (outgoing g.W.Write.contents c.named_line.new.writer c.named_line.new.text.items) e) c.in-Cap.index c.in-Cap.is)
     c.named_line.ensures.cut
@@ -299,7 +302,7 @@ show_found-returns-in-Cap-clause-cut g t c =
 pub show_found-returns-in-Node-clause-shown : goal.show_found-returns-in-Node-clause-shown
 show_found-returns-in-Node-clause-shown g t c =
     on_ok_weaker c.show_body.result
-    (node-shown (g.S.Space.message c.args.space.now) c.args.found c.args.level (Adds
+    (node-shown (bytes_of g.QUOTED) (g.S.Space.message c.args.space.now) c.args.found c.args.level (Adds
     (outgoing g.W.Write.contents c.args.writer.now c.args.text.now.items)
     (outgoing g.W.Write.contents c.show_body.new.writer c.show_body.new.text.items)) c.in-Content.segment
     c.in-Content.start c.in-Content.pads
@@ -310,7 +313,7 @@ show_found-returns-in-Node-clause-shown g t c =
 pub show_found-returns-in-Node-clause-cut : goal.show_found-returns-in-Node-clause-cut
 show_found-returns-in-Node-clause-cut g t c =
     IfErr-weaker c.show_body.result _ _
-    (λ e. node-shown (g.S.Space.message c.args.space.now) c.args.found c.args.level (BreaksOff
+    (λ e. node-shown (bytes_of g.QUOTED) (g.S.Space.message c.args.space.now) c.args.found c.args.level (BreaksOff
     (outgoing g.W.Write.contents c.args.writer.now c.args.text.now.items)
     (outgoing g.W.Write.contents c.show_body.new.writer c.show_body.new.text.items) e) c.in-Content.segment
     c.in-Content.start c.in-Content.pads
@@ -321,7 +324,7 @@ show_found-returns-in-Node-clause-cut g t c =
 pub show_found-returns-in_default-clause-shown : goal.show_found-returns-in_default-clause-shown
 show_found-returns-in_default-clause-shown g t c =
     on_ok_weaker c.show_list.result
-    (list-shown (g.S.Space.message c.args.space.now) c.args.found c.args.level (Adds
+    (list-shown (bytes_of g.QUOTED) (g.S.Space.message c.args.space.now) c.args.found c.args.level (Adds
     (outgoing g.W.Write.contents c.args.writer.now c.args.text.now.items)
     (outgoing g.W.Write.contents c.show_list.new.writer c.show_list.new.text.items)) c.in-Content.segment
     c.in-Content.start c.in-Content.pads
@@ -332,7 +335,7 @@ show_found-returns-in_default-clause-shown g t c =
 pub show_found-returns-in_default-clause-cut : goal.show_found-returns-in_default-clause-cut
 show_found-returns-in_default-clause-cut g t c =
     IfErr-weaker c.show_list.result _ _
-    (λ e. list-shown (g.S.Space.message c.args.space.now) c.args.found c.args.level (BreaksOff
+    (λ e. list-shown (bytes_of g.QUOTED) (g.S.Space.message c.args.space.now) c.args.found c.args.level (BreaksOff
     (outgoing g.W.Write.contents c.args.writer.now c.args.text.now.items)
     (outgoing g.W.Write.contents c.show_list.new.writer c.show_list.new.text.items) e) c.in-Content.segment
     c.in-Content.start c.in-Content.pads
@@ -344,7 +347,7 @@ pub show_found-returns-in_ok-named_line-in-Link-clause-shown :
     goal.show_found-returns-in_ok-named_line-in-Link-clause-shown
 show_found-returns-in_ok-named_line-in-Link-clause-shown g t c =
     on_ok_weaker c.show_slots.result
-    (links-shown (g.S.Space.message c.args.space.now) c.args.found c.args.level (Adds
+    (links-shown (bytes_of g.QUOTED) (g.S.Space.message c.args.space.now) c.args.found c.args.level (Adds
     (outgoing g.W.Write.contents c.args.writer.now c.args.text.now.items)
     (outgoing g.W.Write.contents c.show_slots.new.writer c.show_slots.new.text.items)) c.in-Content.segment
     c.in-Content.start c.in-Content.pads
@@ -361,7 +364,7 @@ show_found-returns-in_ok-named_line-in-Link-clause-shown g t c =
 pub show_found-returns-in_ok-named_line-in-Link-clause-cut : goal.show_found-returns-in_ok-named_line-in-Link-clause-cut
 show_found-returns-in_ok-named_line-in-Link-clause-cut g t c =
     IfErr-weaker c.show_slots.result _ _
-    (λ e. links-shown (g.S.Space.message c.args.space.now) c.args.found c.args.level (BreaksOff
+    (λ e. links-shown (bytes_of g.QUOTED) (g.S.Space.message c.args.space.now) c.args.found c.args.level (BreaksOff
     (outgoing g.W.Write.contents c.args.writer.now c.args.text.now.items)
     (outgoing g.W.Write.contents c.show_slots.new.writer c.show_slots.new.text.items) e) c.in-Content.segment
     c.in-Content.start c.in-Content.pads
@@ -380,7 +383,7 @@ pub show_found-returns-in_err-named_line-in-Link-clause-cut :
     goal.show_found-returns-in_err-named_line-in-Link-clause-cut
 show_found-returns-in_err-named_line-in-Link-clause-cut g t c =
     passed c.from_residual.result c.in_err-named_line-in-Link.field-0.0 _ c.from_residual.ensures.1
-    (links-shown (g.S.Space.message c.args.space.now) c.args.found c.args.level (BreaksOff
+    (links-shown (bytes_of g.QUOTED) (g.S.Space.message c.args.space.now) c.args.found c.args.level (BreaksOff
     (outgoing g.W.Write.contents c.args.writer.now c.args.text.now.items)
     (outgoing g.W.Write.contents c.named_line-in-Link.new.writer c.named_line-in-Link.new.text.items) _)
     c.in-Content.segment c.in-Content.start c.in-Content.pads
@@ -395,7 +398,7 @@ pub show_found-returns-in_ok-named_line-in-Rows-clause-shown :
     goal.show_found-returns-in_ok-named_line-in-Rows-clause-shown
 show_found-returns-in_ok-named_line-in-Rows-clause-shown g t c =
     on_ok_weaker c.show_rows.result
-    (rows-shown (g.S.Space.message c.args.space.now) c.args.found c.args.level (Adds
+    (rows-shown (bytes_of g.QUOTED) (g.S.Space.message c.args.space.now) c.args.found c.args.level (Adds
     (outgoing g.W.Write.contents c.args.writer.now c.args.text.now.items)
     (outgoing g.W.Write.contents c.show_rows.new.writer c.show_rows.new.text.items)) c.in-Content.segment
     c.in-Content.start c.in-Content.pads
@@ -413,7 +416,7 @@ show_found-returns-in_ok-named_line-in-Rows-clause-shown g t c =
 pub show_found-returns-in_ok-named_line-in-Rows-clause-cut : goal.show_found-returns-in_ok-named_line-in-Rows-clause-cut
 show_found-returns-in_ok-named_line-in-Rows-clause-cut g t c =
     IfErr-weaker c.show_rows.result _ _
-    (λ e. rows-shown (g.S.Space.message c.args.space.now) c.args.found c.args.level (BreaksOff
+    (λ e. rows-shown (bytes_of g.QUOTED) (g.S.Space.message c.args.space.now) c.args.found c.args.level (BreaksOff
     (outgoing g.W.Write.contents c.args.writer.now c.args.text.now.items)
     (outgoing g.W.Write.contents c.show_rows.new.writer c.show_rows.new.text.items) e) c.in-Content.segment
     c.in-Content.start c.in-Content.pads
@@ -433,7 +436,7 @@ pub show_found-returns-in_err-named_line-in-Rows-clause-cut :
 show_found-returns-in_err-named_line-in-Rows-clause-cut g t c =
     passed c.from_residual-in_err-named_line-in-Rows.result c.in_err-named_line-in-Rows.field-0.0 _
     c.from_residual-in_err-named_line-in-Rows.ensures.1
-    (rows-shown (g.S.Space.message c.args.space.now) c.args.found c.args.level (BreaksOff
+    (rows-shown (bytes_of g.QUOTED) (g.S.Space.message c.args.space.now) c.args.found c.args.level (BreaksOff
     (outgoing g.W.Write.contents c.args.writer.now c.args.text.now.items)
     (outgoing g.W.Write.contents c.named_line-in-Rows.new.writer c.named_line-in-Rows.new.text.items) _)
     c.in-Content.segment c.in-Content.start c.in-Content.pads
@@ -447,7 +450,8 @@ show_found-returns-in_err-named_line-in-Rows-clause-cut g t c =
 pub show_body-returns-clause-shown : goal.show_body-returns-clause-shown
 show_body-returns-clause-shown g t c =
     on_ok_weaker c.show_slots.result
-    (body-shown (g.S.Space.message c.args.space.now) c.args.start.segment c.args.start.word c.args.words c.args.slots
+    (body-shown (bytes_of g.QUOTED) (g.S.Space.message c.args.space.now) c.args.start.segment c.args.start.word
+    c.args.words c.args.slots
     c.args.level (Adds (outgoing g.W.Write.contents c.args.writer.now c.args.text.now.items)
     (outgoing g.W.Write.contents c.show_slots.new.writer c.show_slots.new.text.items)) (Adds
     (outgoing g.W.Write.contents c.body_line.new.writer c.body_line.new.text.items)
@@ -467,7 +471,8 @@ show_body-returns-clause-shown g t c =
 pub show_body-returns-clause-cut : goal.show_body-returns-clause-cut
 show_body-returns-clause-cut g t c =
     IfErr-weaker c.show_slots.result _ _
-    (λ e. body-shown (g.S.Space.message c.args.space.now) c.args.start.segment c.args.start.word c.args.words
+    (λ e. body-shown (bytes_of g.QUOTED) (g.S.Space.message c.args.space.now) c.args.start.segment c.args.start.word
+    c.args.words
     c.args.slots
     c.args.level (BreaksOff (outgoing g.W.Write.contents c.args.writer.now c.args.text.now.items)
     (outgoing g.W.Write.contents c.show_slots.new.writer c.show_slots.new.text.items) e) (Adds
@@ -489,7 +494,8 @@ pub show_body-returns-in_err-show_words-clause-cut : goal.show_body-returns-in_e
 show_body-returns-in_err-show_words-clause-cut g t c =
     passed c.from_residual-in_err-show_words.result c.in_err-show_words.field-0.0 _
     c.from_residual-in_err-show_words.ensures.1
-    (body-shown (g.S.Space.message c.args.space.now) c.args.start.segment c.args.start.word c.args.words c.args.slots
+    (body-shown (bytes_of g.QUOTED) (g.S.Space.message c.args.space.now) c.args.start.segment c.args.start.word
+    c.args.words c.args.slots
     c.args.level (BreaksOff (outgoing g.W.Write.contents c.args.writer.now c.args.text.now.items)
     (outgoing g.W.Write.contents c.show_words.new.writer c.show_words.new.text.items) _) (BreaksOff
     (outgoing g.W.Write.contents c.body_line.new.writer c.body_line.new.text.items)
@@ -506,7 +512,8 @@ show_body-returns-in_err-show_words-clause-cut g t c =
 pub show_body-returns-in_err-body_line-clause-cut : goal.show_body-returns-in_err-body_line-clause-cut
 show_body-returns-in_err-body_line-clause-cut g t c =
     passed c.from_residual.result c.in_err-body_line.field-0.0 _ c.from_residual.ensures.1
-    (body-shown (g.S.Space.message c.args.space.now) c.args.start.segment c.args.start.word c.args.words c.args.slots
+    (body-shown (bytes_of g.QUOTED) (g.S.Space.message c.args.space.now) c.args.start.segment c.args.start.word
+    c.args.words c.args.slots
     c.args.level (BreaksOff (outgoing g.W.Write.contents c.args.writer.now c.args.text.now.items)
     (outgoing g.W.Write.contents c.body_line.new.writer c.body_line.new.text.items) _) (λ y. ⊤) (λ y. ⊤)
     (λ x y h k. broken-before (outgoing g.W.Write.contents c.args.writer.now c.args.text.now.items)
@@ -516,7 +523,7 @@ show_body-returns-in_err-body_line-clause-cut g t c =
 
 pub show_slots-returns-clause-shown : goal.show_slots-returns-clause-shown
 show_slots-returns-clause-shown g t c ts h n =
-    each-all (outgoing g.W.Write.contents c.args.writer.now c.args.text.now.items)
+    each-all (bytes_of g.QUOTED) (outgoing g.W.Write.contents c.args.writer.now c.args.text.now.items)
     (outgoing g.W.Write.contents c.loop-i.writer c.loop-i.text.items) c.args.level ts c.loop-i.i (omega arith)
     (c.loop-i.invariant ts h n)
 
@@ -526,7 +533,7 @@ show_slots-returns-in_err-show_slot-clause-cut g t c =
     (λ ts h n. let i = c.loop-i.i in
     let lt = c.loop-i-test.true in
     let below : i < count ts = omega arith in
-    each-cut (outgoing g.W.Write.contents c.args.writer.now c.args.text.now.items)
+    each-cut (bytes_of g.QUOTED) (outgoing g.W.Write.contents c.args.writer.now c.args.text.now.items)
     (outgoing g.W.Write.contents c.loop-i.writer c.loop-i.text.items) (outgoing g.W.Write.contents
     c.show_slot.new.writer c.show_slot.new.text.items) _ c.args.level ts i below
     (c.loop-i.invariant ts h n) (c.in_err-show_slot.ensures.cut _ (h i below)))
@@ -534,7 +541,7 @@ show_slots-returns-in_err-show_slot-clause-cut g t c =
 pub show_rows-returns-clause-shown : goal.show_rows-returns-clause-shown
 show_rows-returns-clause-shown g t c bs h n =
     let f = c.loop-row-test.false in
-    rows-all (outgoing g.W.Write.contents c.args.writer.now c.args.text.now.items)
+    rows-all (bytes_of g.QUOTED) (outgoing g.W.Write.contents c.args.writer.now c.args.text.now.items)
     (outgoing g.W.Write.contents c.loop-row.writer c.loop-row.text.items) c.args.level bs c.loop-row.row
     (omega arith) (c.loop-row.invariant.rest
     bs h n)
@@ -549,7 +556,7 @@ show_rows-returns-in_err-show_body-clause-cut g t c =
     let i = c.loop-row.row in
     let lt = c.loop-row-test.true in
     let below : i < count_rows bs = omega arith in
-    row-cut (outgoing g.W.Write.contents c.args.writer.now c.args.text.now.items)
+    row-cut (bytes_of g.QUOTED) (outgoing g.W.Write.contents c.args.writer.now c.args.text.now.items)
     (outgoing g.W.Write.contents c.loop-row.writer c.loop-row.text.items) (outgoing g.W.Write.contents
     c.show_body.new.writer c.show_body.new.text.items) _ c.args.level bs i below
     (c.loop-row.invariant.rest bs h n)
