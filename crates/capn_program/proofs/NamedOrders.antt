@@ -7,7 +7,8 @@ use Rattle.capn_tool.specs.declared.command.Command.TheVariants as commands
 use Rattle.capn_archive.specs.declared.task.Archive.{Archive}
 use Rattle.capn_archive.specs.declared.task.Task.{Task}
 use Rattle.capn_archive.specs.declared.task.Task.TheVariants as tasks
-use Rattle.capn_program.specs.Meaning.{AreOptions, FlagIs, IsTask, IsUsual, MeansOrder, ShowIs}
+use Rattle.capn_show.specs.declared.style.Style.TheVariants as styles
+use Rattle.capn_program.specs.Meaning.{AreOptions, FlagIs, IsTask, IsUsual, MeansOrder, ShowIs, StyleIs}
 use Rattle.capn_program.specs.declared.order.Flow.TheVariants as flows
 use Rattle.capn_program.specs.declared.order.Show.{Show}
 use Rattle.capn_program.specs.declared.order.Order.{Order}
@@ -133,10 +134,11 @@ unpack_means rows o m = go o m (told (codes "unpack", rows) o m)
     go (orders.Flow flows.Unpack) m e = inr (m.1, m.2)
     go (orders.Flow flows.Pack) m e = absurd (omega arith)
 
--- what `show` orders is over whole messages, without `--at`, or over parts of them, with it
+-- what `show` orders is the plain text of whole messages, without `--at` and a flag, or parts or a style, with one
 abbrev pub ShowMeans : List Row → Type 0
 ShowMeans rows =
-    ((c : Command) × Means (Some (codes "show", rows)) c × (first_of (codes "at") rows ≡ None))
+    ((c : Command) × Means (Some (codes "show", rows)) c × (first_of (codes "at") rows ≡ None)
+    × StyleIs rows styles.Lines)
     ⊎ ((s : Show) × ShowIs rows s)
 
 pub show_means : (rows : List Row) (o : Order) → MeansOrder (Some (codes "show", rows)) o → ShowMeans rows
@@ -149,7 +151,7 @@ show_means rows o m = go o m (told (codes "show", rows) o m)
     task tasks.Canonical e = omega arith
 
     go : (o : Order) → MeansOrder (Some (codes "show", rows)) o → 326 ≡ tell_of o → ShowMeans rows
-    go (orders.Message (commands.Show f l)) m e = inl (commands.Show f l, m.0, m.1)
+    go (orders.Message (commands.Show f l)) m e = inl (commands.Show f l, m.0, m.1.0, m.1.1)
     go (orders.Message (commands.Check f l)) m e = absurd (omega arith)
     go (orders.Message commands.Pack) m e = absurd (omega arith)
     go (orders.Message (commands.Unpack k)) m e = absurd (omega arith)

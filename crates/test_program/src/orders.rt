@@ -2,7 +2,8 @@
 
 use capn_program::{
     Archive, ArchiveFault, Command, Flow, Form, Limits, MakeFault, Order, Passed, Pick, Position,
-    Refusal, Show, StreamForm, Tariff, Task, Uniq, Watched, archive_text, end_make, order_of,
+    Refusal, Show, StreamForm, Style, Tariff, Task, Uniq, Watched, archive_text, end_make,
+    order_of,
 };
 use std::alloc::Global;
 use std::process::Abort;
@@ -86,17 +87,21 @@ fn their_options_are_as_they_were(rt: HostRuntime) {
     );
 }
 
+/// What of a packed stream is shown in a style, at a way if there is one.
+fn showing(style: Style, way: Option<&str>) -> Order<'_> {
+    Order::Show(Show {
+        form: Form::Packed,
+        limits: Limits::usual(),
+        style,
+        way,
+    })
+}
+
 #[test]
 fn parts_are_shown_at_a_way(rt: HostRuntime) {
-    let (form, limits) = (Form::Packed, Limits::usual());
     for way in ["0", "0.3.1", "007", "18446744073709551615"] {
         let words = ["capn", "show", "--form", "packed", "--at", way];
-        expect(
-            &rt,
-            rt.alloc(),
-            &words,
-            Order::Show(Show { form, limits, way }),
-        );
+        expect(&rt, rt.alloc(), &words, showing(Style::Lines, Some(way)));
     }
     for way in [
         "",
@@ -109,6 +114,27 @@ fn parts_are_shown_at_a_way(rt: HostRuntime) {
         "18446744073709551616",
     ] {
         expect_usage(&rt, rt.alloc(), &["capn", "show", "--at", way], 2);
+        expect_usage(&rt, rt.alloc(), &["capn", "show", "--json", "--at", way], 2);
+    }
+}
+
+#[test]
+fn messages_are_shown_in_a_style(rt: HostRuntime) {
+    for (option, style) in [("--text", Style::Quoted), ("--json", Style::Json)] {
+        let words = ["capn", "show", "--form=packed", option];
+        expect(&rt, rt.alloc(), &words, showing(style, None));
+        let words = ["capn", "show", option, "--at=0.1", "--form=packed"];
+        expect(&rt, rt.alloc(), &words, showing(style, Some("0.1")));
+    }
+    for words in [
+        &["capn", "show", "--text", "--json"][..],
+        &["capn", "show", "--json", "--at", "0", "--text"][..],
+        &["capn", "show", "--text", "--text"][..],
+        &["capn", "show", "--json=1"][..],
+        &["capn", "check", "--json"][..],
+        &["capn", "list", "--text"][..],
+    ] {
+        expect_usage(&rt, rt.alloc(), words, 2);
     }
 }
 
