@@ -37,16 +37,16 @@ pub const SHOW: Page = Page {
     about: "Writes the value of each message as text, and then the line `end`",
     more: "Each message is answered as soon as it is complete.
 With `--text` a list of bytes that is a text is one line, as `bytes 3 \"hi\\0\"`:
-each byte but the last is from 0x20 to 0x7e, and the last is so too or is zero. A
-quote is written `\\\"`, a backslash `\\\\` and the last zero `\\0`.
+each byte but the last is from 0x20 to 0x7e, and the last is so too or is zero.
+A quote is written `\\\"`, a backslash `\\\\` and the last zero `\\0`.
 With `--json` each message is one line of JSON without blanks, and no line `end`
 follows.
 With `--at` only what stands at a place in each message is written, as a text of
 its own, or the line `none` if nothing stands there. The place is a way from the
 root, numbers below 2^64 parted by dots: in a struct the number of a pointer, in
 a list of pointers that of an element, in a list of structs that of a struct,
-each counted from 0. With `--json` the line is empty if nothing stands there. The
-whole message is checked first.
+each counted from 0. With `--json` the line is empty if nothing stands there.
+The whole message is checked first.
 
 Exit status:
   0  Done
