@@ -4,6 +4,7 @@ ghost use Rattle.std.specs.Prelude.{◌≡◌, codes, IfNone, IfSome, IsSome, No
 ghost use Rattle.clap.specs.Words.{first_of, found_of, rows_of};
 ghost use Rattle.capn_show.specs.declared.style.Style.{Style};
 ghost use Rattle.capn_program.specs.Meaning.{MeansOrder, StyleIs};
+ghost use Rattle.capn_program.specs.inner.Styles as spec;
 ghost use Rattle.capn_program.specs.declared.order.Order.{Order};
 
 use crate::command_line::flag_of;
@@ -22,6 +23,19 @@ fn way_in<'a>(matches: &ArgMatches<'a>) -> Option<&'a str>
     matches.get_str("at")
 }
 
+/// The style of two flags, if they go together.
+fn style_for(text: bool, json: bool) -> Option<Style>
+    ensures { result ≡ spec.style_for text json }
+{
+    if text {
+        if json { None } else { Some(Style::Quoted) }
+    } else if json {
+        Some(Style::Json)
+    } else {
+        Some(Style::Lines)
+    }
+}
+
 /// The style that `--text` and `--json` order, if they go together.
 fn style_of(matches: &ArgMatches) -> Option<Style>
     ensures read { IfSome result (StyleIs (rows_of (found_of matches.now))) }
@@ -29,16 +43,7 @@ fn style_of(matches: &ArgMatches) -> Option<Style>
 {
     let text = flag_of(matches, "text")?;
     let json = flag_of(matches, "json")?;
-    if text && json {
-        return None;
-    }
-    if text {
-        return Some(Style::Quoted);
-    }
-    if json {
-        return Some(Style::Json);
-    }
-    Some(Style::Lines)
+    style_for(text, json)
 }
 
 /// What `show` orders with these options, if they mean something: with `--at`, whose value is a way, that parts of
@@ -53,15 +58,17 @@ pub(crate) fn show_of<'a>(matches: &ArgMatches<'a>) -> Option<Order<'a>>
     let style = style_of(matches)?;
     match way_in(matches) {
         Some(way) => {
-            if !is_way(way) {
-                return None;
+            if is_way(way) {
+                let way = Some(way);
+                Some(Order::Show(Show {
+                    form,
+                    limits,
+                    style,
+                    way,
+                }))
+            } else {
+                None
             }
-            Some(Order::Show(Show {
-                form,
-                limits,
-                style,
-                way: Some(way),
-            }))
         }
         None => match style {
             Style::Lines => Some(Order::Message(Command::Show(form, limits))),

@@ -49,9 +49,12 @@ module _ (piece : MessageText) (limits : Bounds) (other : piece ≢ kinds.Price)
 
   makes : (bytes text : List ℕ) (y : Run MessageTexts)
       → served.WritesBare (fold_of serves refuses most) x bytes text y → Makes one bytes text
-  makes bytes text y (words, is, step) =
-      (words, is, bare_text piece words limits text other
-      (subst (λ (s : MessageTexts). IsMessageText s.piece (words ∷ []) s.limits text) of step.0.0))
+  makes bytes text y (words, is, step) = (
+    words,
+    is,
+    bare_text piece words limits text other
+        (subst (λ (s : MessageTexts). IsMessageText s.piece (words ∷ []) s.limits text) of step.0.0),
+  )
 
   makes_none : (bytes : List ℕ) (fault : RunFault) → served.IsUnbare x.at bytes fault
       ⊎ served.RefusesBare (fold_of serves refuses most) x bytes fault → MakesNothing one bytes (unplaced fault)
@@ -106,7 +109,7 @@ module _ (piece : MessageText) (limits : Bounds) (other : piece ≢ kinds.Price)
       → PlanBegins (plans.Whole one) a b c d
   begins a b c d h = (
     h.bytes,
-    record { read = h.read; bounded = h.bounded; written = written h.bytes c d h.written; },
+    record { read = h.read; bounded = h.bounded; written = written h.bytes c d h.written },
   )
 
   pub bare_served : (a b c d : Option (List ℕ)) (reader_failed writer_failed : Bool) (r : Ending)

@@ -35,8 +35,10 @@ fn write_made<W: Write, A: Allocator>(
         → Runs (plans.Whole whole) a b (W.contents (inner_of writer.old)) (W.contents (inner_of writer.new)) unread
         (has_failed writer.new) result }
 {
-    let text = made?;
-    write_all(writer, &text)
+    match made {
+        Ok(text) => write_all(writer, &text),
+        Err(fault) => Err(fault),
+    }
 }
 
 /// Writes a piece of the one bare message that an input is.
@@ -56,7 +58,8 @@ fn run_bare_piece<R: Read, W: Write, A: Allocator + Copy>(
 {
     match piece {
         MessageText::Price => write_made(make_verdict(alloc, reader, limits), writer),
-        MessageText::Text | MessageText::Digest => run_one(alloc, piece, limits, reader, writer),
+        MessageText::Text => run_one(alloc, piece, limits, reader, writer),
+        MessageText::Digest => run_one(alloc, piece, limits, reader, writer),
     }
 }
 

@@ -16,14 +16,14 @@ refused piece message limits old new fault r is (inr why, same) =
     (subst (λ (f : ToolFault). IsNoMessageText piece message limits f) is why, same)
 
 pub returns-in-Ok : goal.returns-in-Ok
-returns-in-Ok g c s at frame message old new given =
+returns-in-Ok c s at frame message old new given =
     let put = rw c.in-Ok.is at given in
     (put.0, (put.1, refl), put.2)
 
 pub returns-in-Err-Refused : goal.returns-in-Err-Refused
-returns-in-Err-Refused g c s at frame message old new given =
+returns-in-Err-Refused c s at frame message old new given =
     refused s.piece message s.limits old new c.in-Err-Refused.field-0 c.in-Err-Refused.refusal
     c.in-Err-Refused.field-0-is (rw c.in-Err-Refused.is at given)
 
 pub returns-in-Err : goal.returns-in-Err
-returns-in-Err g c s at frame message old new given = (rw c.in-Err.is at given).1
+returns-in-Err c s at frame message old new given = (rw c.in-Err.is at given).1
