@@ -1,6 +1,7 @@
 -- The text of a way: the numbers that lead from the root of a message to what stands below it. (Own.)
 use Rattle.std.specs.Prelude.{◌≡◌, ℕ, ◌+◌, ◌-◌, ◌*◌, ◌^◌, ◌==◌, ◌&&◌, nat_le, nat_lt, List, [], ◌∷◌, Option, Some, None}
-use Rattle.std.specs.Prelude.{Bor, codes, cond, option_and_then, option_map, unwrap_or, refl}
+use Rattle.std.specs.Prelude.{codes, cond, option_and_then, option_map, unwrap_or, refl}
+use Rattle.std.specs.Borrow.{Bor}
 use Rattle.clap.specs.Words.{Text}
 
 -- the number whose digits so far make this one, or that has none yet, with one digit more, if it is one and the number

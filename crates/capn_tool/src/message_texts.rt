@@ -93,6 +93,18 @@ fn add_shown<S: Space, W: Write, A: Allocator + Copy>(
     }
 }
 
+/// How a message ends whose piece was not put for this reason.
+fn served_fault(fault: ToolFault) -> ServeFault
+    ensures { result ≡ spec.served_fault fault }
+{
+    match fault {
+        ToolFault::Refused(refusal) => ServeFault::Refused(refusal),
+        ToolFault::Memory | ToolFault::Io | ToolFault::InputTooLong | ToolFault::NotWhole(_) => {
+            ServeFault::Memory
+        }
+    }
+}
+
 /// How a message ends whose piece was put, or has none.
 fn served(put: Result<(), ToolFault>) -> Result<(), ServeFault>
     ensures { (s : MessageTexts) (at : Position) (frame : List ℕ) (message : List (List ℕ)) (old new : List ℕ)
@@ -101,8 +113,7 @@ fn served(put: Result<(), ToolFault>) -> Result<(), ServeFault>
 {
     match put {
         Ok(()) => Ok(()),
-        Err(ToolFault::Refused(refusal)) => Err(ServeFault::Refused(refusal)),
-        Err(_) => Err(ServeFault::Memory),
+        Err(fault) => Err(served_fault(fault)),
     }
 }
 
