@@ -12,6 +12,7 @@ use Rattle.capn_show.specs.declared.fault.Broken.{Broken}
 use Rattle.capn_show.specs.Outgoing.{Outgoing, Adds, BreaksOff}
 use Rattle.capn_show.proofs.shared.Appended.{both, otherwise, otherwise-broken, then-broken, broken-before}
 use Rattle.capn_show.proofs.TextDigits.{encode_lower-none, encode_lower-cons}
+use Rattle.capn_show.proofs.TextBytes.{escapes-joined}
 
 module _ {A : Type 0} (F : List A → List ℕ) (joins : (xs ys : List A) → F (xs ++ ys) ≡ F xs ++ F ys)
     (p q : Outgoing) (xs : List A) (i : ℕ) where
@@ -90,12 +91,6 @@ encode_lower-joined (x ∷ xs) ys =
     ∙ sym (append_assoc (encode_lower (x ∷ [])) (encode_lower xs) (encode_lower ys))
     ∙ ap (λ (l : List ℕ). l ++ encode_lower ys) (sym (encode_lower-cons x xs))
 
-escapes-joined : (xs ys : List ℕ) → escapes (xs ++ ys) ≡ escapes xs ++ escapes ys
-escapes-joined [] ys = refl
-escapes-joined (x ∷ xs) ys =
-    ap (λ (l : List ℕ). escaped x ++ l) (escapes-joined xs ys)
-    ∙ sym (append_assoc (escaped x) (escapes xs) (escapes ys))
-
 module _ (p q : Outgoing) where
   module _ (xs : List ℕ) (i : ℕ) where
     pub escapes-more : (r : Outgoing) (x : ℕ) → i < length xs → x ≡ get_or xs i 0 → Adds p q (escapes (take i xs))
@@ -114,6 +109,19 @@ module _ (p q : Outgoing) where
 
     pub escapes-all : i ≡ length xs → Adds p q (escapes (take i xs)) → Adds p q (escapes xs)
     escapes-all = all escapes escapes-joined p q xs i
+
+    -- bytes that stand as they are
+    pub bare-more : (r : Outgoing) (k : ℕ) → escapes (take k (drop i xs)) ≡ take k (drop i xs)
+        → Adds p q (escapes (take i xs)) → Adds q r (take k (drop i xs)) → Adds p r (escapes (take (i + k) xs))
+    bare-more r k e h j =
+        block-more escapes escapes-joined p q r xs i k h
+        (otherwise q r (take k (drop i xs)) (escapes (take k (drop i xs))) (sym e) j)
+
+    pub bare-cut : (r : Outgoing) (e : Broken) (k : ℕ) → escapes (take k (drop i xs)) ≡ take k (drop i xs)
+        → Adds p q (escapes (take i xs)) → BreaksOff q r e (take k (drop i xs)) → BreaksOff p r e (escapes xs)
+    bare-cut r e k is h j =
+        block-cut escapes escapes-joined p q r xs i k e h
+        (otherwise-broken q r e (take k (drop i xs)) (escapes (take k (drop i xs))) (sym is) j)
 
 module _ (p q : Outgoing) where
   module _ (level : ℕ) (xs : List ℕ) (i : ℕ) where

@@ -2,6 +2,7 @@ pub mod shared
 mod TextDigits
 mod Shifts
 mod LineTexts
+mod TextBytes
 mod Grown
 mod Within
 mod RowFront
@@ -12,8 +13,10 @@ mod ListTexts
 mod FoundTexts
 mod Ends
 mod PlainTexts
-mod TextBytes
 mod ReadBytes
 mod PartSteps
 mod BlockDigits
 mod BitDigits
+mod JsonItems
+mod JsonTexts
+mod JsonValues

@@ -1,5 +1,5 @@
 -- Bytes that are read from a message are the numbers of a list of bytes.
-use Rattle.std.proofs.Common.{◌≡◌, ℕ, ◌+◌, ◌*◌, ◌≤◌, List, length, sym, ◌∙◌}
+use Rattle.std.proofs.Common.{◌≡◌, ℕ, ◌+◌, ◌*◌, ◌≤◌, List, length, sym, ◌∙◌, arith}
 use Rattle.std.proofs.lemmas.Grind.{same_number_lists}
 use Rattle.capn_words.specs.Message.{segment_at, bytes_at}
 use Rattle.capn_words.specs.declared.space.Place.{Place}

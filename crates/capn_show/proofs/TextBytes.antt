@@ -1,35 +1,50 @@
 -- Whether bytes are a text, one byte further, and how they stand between quotes.
-use Rattle.std.proofs.Common.{◌≡◌, ◌⊎◌, inl, inr, ℕ, zero, suc, ◌+◌, ◌-◌, ◌<◌, ◌≤◌, ◌==◌, ◌&&◌, ◌||◌, List, []}
-use Rattle.std.proofs.Common.{◌∷◌, ◌++◌, Bool, true, false, if◌then◌else◌, length, take, drop, get_or, ap, ap₂, sym}
-use Rattle.std.proofs.Common.{refl, ◌∙◌, arith, length-drop}
-use Rattle.std.proofs.lemmas.List.{get_or-drop, get_or-take, length-take-le}
+use Rattle.std.proofs.Common.{◌≡◌, ℕ, zero, suc, ◌+◌, ◌<◌, ◌==◌, ◌&&◌, ◌||◌, List, [], ◌∷◌, ◌++◌, Bool, true, false}
+use Rattle.std.proofs.Common.{if◌then◌else◌, length, take, drop, get_or, ap, ap₂, sym, refl, ◌∙◌, arith, append_assoc}
+use Rattle.std.proofs.lemmas.List.{append-nil, take_more}
 use Rattle.capn_show.specs.Quoting.{is_printable, is_text, escaped, escapes}
 use Rattle.capn_show.specs.inner.ReadyPlaces.{is_escaped}
 
--- whether these bytes end a text, which they do if none is left
-abbrev pub ends_text : List ℕ → Bool
-ends_text [] = true
-ends_text (b ∷ bs) = is_text (b ∷ bs)
+-- the bytes from one on that is not the last
+text-from : (xs : List ℕ) (i : ℕ) → suc i < length xs
+    → is_text (drop i xs) ≡ (is_printable (get_or xs i 0) && is_text (drop (suc i) xs))
+text-from [] i h = absurd (omega arith)
+text-from (b ∷ []) i h = absurd (omega arith)
+text-from (b ∷ c ∷ cs) zero h = refl
+text-from (b ∷ c ∷ cs) (suc i) h = text-from (c ∷ cs) i (omega arith)
 
--- a byte with which a text goes on
-pub goes-on : (b : ℕ) (bs : List ℕ) → (is_printable b ≡ true) ⊎ ((b ≡ 0) × (bs ≡ []))
-    → ends_text (b ∷ bs) ≡ ends_text bs
-goes-on b [] (inl p) = ap (λ (x : Bool). x || b == 0) p
-goes-on b [] (inr (z, e)) = ap (λ (n : ℕ). is_printable n || n == 0) z
-goes-on b (c ∷ cs) (inl p) = ap (λ (x : Bool). x && is_text (c ∷ cs)) p
-goes-on b (c ∷ cs) (inr (z, e)) = absurd (cc)
+-- the last byte
+text-last : (xs : List ℕ) (i : ℕ) → suc i ≡ length xs
+    → is_text (drop i xs) ≡ (is_printable (get_or xs i 0) || get_or xs i 0 == 0)
+text-last [] i h = absurd (omega arith)
+text-last (b ∷ []) zero h = refl
+text-last (b ∷ []) (suc i) h = absurd (omega arith)
+text-last (b ∷ c ∷ cs) zero h = absurd (omega arith)
+text-last (b ∷ c ∷ cs) (suc i) h = text-last (c ∷ cs) i (omega arith)
 
--- one with which it doesn't
-pub stops : (b : ℕ) (bs : List ℕ) → is_printable b ≡ false → (b ≡ 0 → bs ≡ [] → ⊥) → ends_text (b ∷ bs) ≡ false
-stops zero [] p never = absurd (never refl refl)
-stops (suc b) [] p never = ap (λ (x : Bool). x || suc b == 0) p
-stops b (c ∷ cs) p never = ap (λ (x : Bool). x && is_text (c ∷ cs)) p
+module _ (xs : List ℕ) (i : ℕ) (so_far : is_text xs ≡ is_text (drop i xs)) where
+  -- a byte with which a text goes on
+  pub goes-on : suc i < length xs → is_printable (get_or xs i 0) ≡ true → is_text xs ≡ is_text (drop (i + 1) xs)
+  goes-on h p =
+      let next : suc i ≡ i + 1 = omega arith in
+      so_far ∙ text-from xs i h ∙ ap (λ (x : Bool). x && is_text (drop (suc i) xs)) p
+      ∙ ap (λ (k : ℕ). is_text (drop k xs)) next
+
+  -- one with which it doesn't
+  pub stops : suc i < length xs → is_printable (get_or xs i 0) ≡ false → is_text xs ≡ false
+  stops h p = so_far ∙ text-from xs i h ∙ ap (λ (x : Bool). x && is_text (drop (suc i) xs)) p
+
+  -- the last one decides
+  pub ends : suc i ≡ length xs → is_text xs ≡ (is_printable (get_or xs i 0) || get_or xs i 0 == 0)
+  ends h = so_far ∙ text-last xs i h
 
 -- ---- between quotes
 
--- these bytes stand there as they are
-abbrev pub AreBare : List ℕ → ℕ → ℕ → Type 0
-AreBare xs done i = (k : ℕ) → done ≤ k → k < i → is_escaped (get_or xs k 0) ≡ false
+pub escapes-joined : (xs ys : List ℕ) → escapes (xs ++ ys) ≡ escapes xs ++ escapes ys
+escapes-joined [] ys = refl
+escapes-joined (x ∷ xs) ys =
+    ap (λ (l : List ℕ). escaped x ++ l) (escapes-joined xs ys)
+    ∙ sym (append_assoc (escaped x) (escapes xs) (escapes ys))
 
 bare-by : (x y z : Bool) (b : ℕ) → (x || (y || z)) ≡ false →
     (if x then 92 ∷ 34 ∷ [] else if y then 92 ∷ 92 ∷ [] else if z then 92 ∷ 48 ∷ [] else b ∷ []) ≡ b ∷ []
@@ -38,21 +53,13 @@ bare-by false false true b h = absurd (cc)
 bare-by false true z b h = absurd (cc)
 bare-by true y z b h = absurd (cc)
 
-bare-one : (b : ℕ) → is_escaped b ≡ false → escaped b ≡ b ∷ []
-bare-one b h = bare-by (b == 34) (b == 92) (b == 0) b h
-
-bare-all : (ys : List ℕ) → ((k : ℕ) → k < length ys → is_escaped (get_or ys k 0) ≡ false) → escapes ys ≡ ys
-bare-all [] h = refl
-bare-all (y ∷ ys) h =
-    ap₂ (λ (a b : List ℕ). a ++ b) (bare-one y (h 0 (omega arith)))
-    (bare-all ys (λ k below. h (suc k) (omega arith)))
-
-pub bare-run : (xs : List ℕ) (done i : ℕ) → done ≤ i → i ≤ length xs → AreBare xs done i
-    → escapes (take (i - done) (drop done xs)) ≡ take (i - done) (drop done xs)
-bare-run xs done i low high h =
-    let rest = length-drop done xs in
-    let run = take (i - done) (drop done xs) in
-    let size : length run ≡ i - done = length-take-le (i - done) (drop done xs) (omega arith) in
-    bare-all run
-    (λ k below. ap is_escaped (get_or-take (i - done) (drop done xs) k 0 (omega arith) ∙ get_or-drop done xs k 0)
-    ∙ h (done + k) (omega arith) (omega arith))
+-- bytes that stand as they are, and one more
+pub bare-more : (xs : List ℕ) (i : ℕ) → i < length xs → is_escaped (get_or xs i 0) ≡ false
+    → escapes (take i xs) ≡ take i xs → escapes (take (i + 1) xs) ≡ take (i + 1) xs
+bare-more xs i below bare h =
+    let x = get_or xs i 0 in
+    let more = take_more xs i 0 below in
+    ap escapes more
+    ∙ escapes-joined (take i xs) (x ∷ [])
+    ∙ ap₂ (λ (a b : List ℕ). a ++ b) h (append-nil (escaped x) ∙ bare-by (x == 34) (x == 92) (x == 0) x bare)
+    ∙ sym more

@@ -72,20 +72,23 @@ json_line t = json_of t ++ 10 ∷ []
 no_slots : json_of (node [] no_trees) ≡ codes "{\"words\":[],\"slots\":[]}"
 no_slots = refl
 
-a_word : json_of (node (5 ∷ []) no_trees) ≡ codes "{\"words\":[\"0000000000000005\"],\"slots\":[]}"
-a_word = refl
+one_after_the_other : with_commas (codes "1" ∷ codes "2" ∷ codes "3" ∷ []) ≡ codes "1,2,3"
+one_after_the_other = refl
+
+between_quotes : quoted (codes "12") ≡ codes "\"12\""
+between_quotes = refl
 
 two_slots : json_of (node [] (tree nil (tree (bits (true ∷ false ∷ [])) no_trees)))
     ≡ codes "{\"words\":[],\"slots\":[null,{\"bits\":\"10\"}]}"
 two_slots = refl
 
-numbers : json_of (links (tree (pairs (1 ∷ 2 ∷ [])) (tree (octs (1 ∷ 2 ∷ 3 ∷ [])) no_trees)))
-    ≡ codes "{\"pointers\":[{\"u16\":[1,2]},{\"u64\":[\"1\",\"2\",\"3\"]}]}"
-numbers = refl
+empty_lists : json_of (links (tree (pairs []) (tree (octs []) no_trees)))
+    ≡ codes "{\"pointers\":[{\"u16\":[]},{\"u64\":[]}]}"
+empty_lists = refl
 
-no_rows : json_of (rows no_bodies) ≡ codes "{\"rows\":[]}"
-no_rows = refl
-
-a_row : json_of (rows (body [] (tree (cap 2) no_trees) no_bodies))
-    ≡ codes "{\"rows\":[{\"words\":[],\"slots\":[{\"capability\":2}]}]}"
+a_row : json_of (rows (body [] (tree nil no_trees) no_bodies))
+    ≡ codes "{\"rows\":[{\"words\":[],\"slots\":[null]}]}"
 a_row = refl
+
+no_rows : json_line (rows no_bodies) ≡ codes "{\"rows\":[]}\n"
+no_rows = refl

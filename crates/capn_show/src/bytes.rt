@@ -1,6 +1,6 @@
 //! Lists of bytes: their digits, or what is a text between quotes.
 
-ghost use Rattle.std.specs.Prelude.{◌≡◌, ℕ, ◌<◌, ◌+◌, ◌^◌, ◌&&◌, length, IfErr, OnOk};
+ghost use Rattle.std.specs.Prelude.{◌≡◌, ◌<◌, ◌≤◌, ◌+◌, ◌^◌, ◌||◌, ◌==◌, length, take, IfErr, OnOk};
 ghost use Rattle.capn_words.specs.Message.{IsMessage};
 ghost use Rattle.capn_words.specs.declared.pointer.Width.TheVariants as widths;
 ghost use Rattle.capn_walk.specs.Shapes.{IsContent};
@@ -28,6 +28,13 @@ fn is_printable(byte: u8) -> bool
     32 <= byte && byte <= 126
 }
 
+/// Whether a text can end with a byte.
+fn ends_text(byte: u8) -> bool
+    ensures { result ≡ (quoting.is_printable byte || byte == 0) }
+{
+    is_printable(byte) || byte == 0
+}
+
 /// Whether bytes are a text: each but the last is printable, and the last is so too or is zero.
 fn is_text(bytes: &[u8]) -> bool
     ensures { result ≡ quoting.is_text bytes.now }
@@ -35,13 +42,13 @@ fn is_text(bytes: &[u8]) -> bool
     if bytes.is_empty() {
         return false;
     }
-    for i in 0..bytes.len() {
-        let ends = bytes[i] == 0 && i + 1 == bytes.len();
-        if !is_printable(bytes[i]) && !ends {
+    let last = bytes.len() - 1;
+    for i in 0..last {
+        if !is_printable(bytes[i]) {
             return false;
         }
     }
-    true
+    ends_text(bytes[last])
 }
 
 /// Whether a byte of a text stands otherwise between quotes.
@@ -70,7 +77,21 @@ fn put_escaped<W: Write, A: Allocator>(
     }
 }
 
-/// The bytes of a text as they stand between quotes, those that stand as they are at once.
+/// How many bytes from the first on stand as they are between quotes, at most those of a piece.
+fn bare_run(bytes: &[u8]) -> usize
+    ensures within { result ≤ length bytes.now }
+    ensures bare { quoting.escapes (take result bytes.now) ≡ take result bytes.now }
+{
+    let most = bytes.len().min(PIECE);
+    for i in 0..most {
+        if is_escaped(bytes[i]) {
+            return i;
+        }
+    }
+    most
+}
+
+/// The bytes of a text as they stand between quotes: those that stand as they are at once, and the one after them.
 fn put_escapes<W: Write, A: Allocator>(
     text: &mut Vec<u8, A>,
     writer: &mut Watched<W>,
@@ -82,14 +103,17 @@ fn put_escapes<W: Write, A: Allocator>(
         (outgoing W.contents writer.new text.new.items) e (quoting.escapes bytes.now)) }
 {
     let mut done = 0;
-    for i in 0..bytes.len() {
-        if is_escaped(bytes[i]) || i - done == PIECE {
-            put(text, writer, &bytes[done..i])?;
-            put_escaped(text, writer, bytes[i])?;
-            done = i + 1;
+    while done < bytes.len() {
+        let rest = &bytes[done..];
+        let run = bare_run(rest);
+        put(text, writer, &rest[..run])?;
+        if run == rest.len() {
+            return Ok(());
         }
+        put_escaped(text, writer, rest[run])?;
+        done += run + 1;
     }
-    put(text, writer, &bytes[done..])
+    Ok(())
 }
 
 /// The beginning of the line of a text, up to its first quote.

@@ -1,6 +1,6 @@
 //! The JSON of what stands in the slots of a message, and of all below it.
 
-ghost use Rattle.std.specs.Prelude.{◌≡◌, ℕ, ◌+◌, ◌*◌, IfErr, OnOk};
+ghost use Rattle.std.specs.Prelude.{◌+◌, ◌*◌, IfErr, OnOk};
 ghost use Rattle.capn_words.specs.Message.{IsMessage, IsPlace};
 ghost use Rattle.capn_walk.specs.Shapes.{IsContent};
 ghost use Rattle.capn_walk.specs.View.{IsInMessage};

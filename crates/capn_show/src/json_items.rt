@@ -1,11 +1,10 @@
-//! The items of an array of JSON: each but the first comes after a comma.
+//! The items of an array of JSON, and the commas between them.
 
-ghost use Rattle.std.specs.Prelude.{◌≡◌, ◌∷◌, ◌++◌, IfErr, OnOk};
+ghost use Rattle.std.specs.Prelude.{◌≡◌, IfErr, OnOk};
 ghost use Rattle.std.specs.Fmt.{decimal};
-ghost use Rattle.capn_words.specs.declared.pointer.Width.TheVariants as widths;
-ghost use Rattle.capn_value.specs.Text as form;
-ghost use Rattle.capn_show.specs.Json.{quoted};
-ghost use Rattle.capn_show.specs.inner.JsonPlaces.{comma, value_text};
+ghost use Rattle.capn_show.specs.Json.{number_text, word_text};
+ghost use Rattle.capn_show.specs.inner.JsonPlaces as places;
+ghost use Rattle.capn_show.specs.inner.JsonPlaces.{comma, number_item};
 ghost use Rattle.capn_show.specs.Outgoing.{Adds, BreaksOff, outgoing};
 
 use crate::fault::Broken;
@@ -15,6 +14,7 @@ use std::alloc::Allocator;
 use std::io::Write;
 
 /// A comma, unless the item is the first.
+#[inline]
 pub fn separate<W: Write, A: Allocator>(
     text: &mut Vec<u8, A>,
     writer: &mut Watched<W>,
@@ -35,69 +35,69 @@ pub fn separate<W: Write, A: Allocator>(
 fn put_plain<W: Write, A: Allocator>(
     text: &mut Vec<u8, A>,
     writer: &mut Watched<W>,
-    item: u32,
     n: u64,
 ) -> Result<(), Broken>
     ensures shown { OnOk result (Adds (outgoing W.contents writer.old text.old.items)
-        (outgoing W.contents writer.new text.new.items) (comma item ++ decimal n)) }
+        (outgoing W.contents writer.new text.new.items) (decimal n)) }
     ensures cut { IfErr result (λ e. BreaksOff (outgoing W.contents writer.old text.old.items)
-        (outgoing W.contents writer.new text.new.items) e (comma item ++ decimal n)) }
+        (outgoing W.contents writer.new text.new.items) e (decimal n)) }
 {
-    let mut digits = [b','; 21];
-    let start = itoa::write_digits(n, &mut digits, 21);
-    if item == 0 {
-        return put(text, writer, &digits[start..]);
-    }
-    put(text, writer, &digits[start - 1..])
+    let mut digits = [b'0'; 20];
+    let start = itoa::write_digits(n, &mut digits, 20);
+    put(text, writer, &digits[start..])
 }
 
 /// A number between quotes.
 fn put_quoted<W: Write, A: Allocator>(
     text: &mut Vec<u8, A>,
     writer: &mut Watched<W>,
-    item: u32,
     n: u64,
 ) -> Result<(), Broken>
     ensures shown { OnOk result (Adds (outgoing W.contents writer.old text.old.items)
-        (outgoing W.contents writer.new text.new.items) (comma item ++ quoted (decimal n))) }
+        (outgoing W.contents writer.new text.new.items) (number_text n)) }
     ensures cut { IfErr result (λ e. BreaksOff (outgoing W.contents writer.old text.old.items)
-        (outgoing W.contents writer.new text.new.items) e (comma item ++ quoted (decimal n))) }
+        (outgoing W.contents writer.new text.new.items) e (number_text n)) }
 {
-    let mut digits = [b'"'; 23];
-    let start = itoa::write_digits(n, &mut digits, 22);
-    if item == 0 {
-        return put(text, writer, &digits[start - 1..]);
-    }
-    digits[start - 2] = b',';
-    put(text, writer, &digits[start - 2..])
+    let mut digits = [b'"'; 22];
+    let start = itoa::write_digits(n, &mut digits, 21);
+    put(text, writer, &digits[start - 1..])
 }
 
-/// A number of a list: those of 64 bits stand between quotes.
+/// A number, between quotes or not.
 pub fn put_value<W: Write, A: Allocator>(
     text: &mut Vec<u8, A>,
     writer: &mut Watched<W>,
-    item: u32,
-    width: Width,
+    quoted: bool,
     n: u64,
 ) -> Result<(), Broken>
     ensures shown { OnOk result (Adds (outgoing W.contents writer.old text.old.items)
-        (outgoing W.contents writer.new text.new.items) (comma item ++ value_text width n)) }
+        (outgoing W.contents writer.new text.new.items) (number_item quoted n)) }
     ensures cut { IfErr result (λ e. BreaksOff (outgoing W.contents writer.old text.old.items)
-        (outgoing W.contents writer.new text.new.items) e (comma item ++ value_text width n)) }
+        (outgoing W.contents writer.new text.new.items) e (number_item quoted n)) }
+{
+    if quoted {
+        return put_quoted(text, writer, n);
+    }
+    put_plain(text, writer, n)
+}
+
+/// Whether the numbers of a list of that width stand between quotes.
+pub fn is_quoted(width: Width) -> bool
+    ensures { result ≡ places.is_quoted width }
 {
     match width {
-        Width::W64 => put_quoted(text, writer, item, n),
-        _ => put_plain(text, writer, item, n),
+        Width::W64 => true,
+        _ => false,
     }
 }
 
-/// The bytes of a data word between quotes, after a comma.
-fn word_item(word: u64) -> [u8; 19]
-    ensures { result ≡ 44 ∷ quoted (form.hex16 word) }
+/// The bytes of a data word between quotes.
+fn word_bytes(word: u64) -> [u8; 18]
+    ensures { result ≡ word_text word }
 {
-    let mut item = *b",\"0000000000000000\"";
+    let mut item = *b"\"0000000000000000\"";
     // 16 digits have room, so nothing is refused.
-    let _done = hex::encode_to_slice(word.to_be_bytes(), &mut item[2..18]);
+    let _done = hex::encode_to_slice(word.to_be_bytes(), &mut item[1..17]);
     item
 }
 
@@ -105,17 +105,12 @@ fn word_item(word: u64) -> [u8; 19]
 pub fn put_word<W: Write, A: Allocator>(
     text: &mut Vec<u8, A>,
     writer: &mut Watched<W>,
-    item: u32,
     word: u64,
 ) -> Result<(), Broken>
     ensures shown { OnOk result (Adds (outgoing W.contents writer.old text.old.items)
-        (outgoing W.contents writer.new text.new.items) (comma item ++ quoted (form.hex16 word))) }
+        (outgoing W.contents writer.new text.new.items) (word_text word)) }
     ensures cut { IfErr result (λ e. BreaksOff (outgoing W.contents writer.old text.old.items)
-        (outgoing W.contents writer.new text.new.items) e (comma item ++ quoted (form.hex16 word))) }
+        (outgoing W.contents writer.new text.new.items) e (word_text word)) }
 {
-    let bytes = word_item(word);
-    if item == 0 {
-        return put(text, writer, &bytes[1..]);
-    }
-    put(text, writer, &bytes)
+    put(text, writer, &word_bytes(word))
 }

@@ -1,6 +1,6 @@
 //! The JSON of data words and of lists of elements without pointers, read from the words of the message.
 
-ghost use Rattle.std.specs.Prelude.{◌≡◌, ℕ, ◌∷◌, [], ◌++◌, codes, map, IfErr, OnOk};
+ghost use Rattle.std.specs.Prelude.{ℕ, ◌∷◌, [], ◌++◌, codes, IfErr, OnOk};
 ghost use Rattle.std.specs.Fmt.{decimal};
 ghost use Rattle.hex.specs.Hex.{encode_lower};
 ghost use Rattle.capn_words.specs.Message.{IsMessage};
@@ -11,11 +11,11 @@ ghost use Rattle.capn_walk.specs.declared.target.Shape.TheVariants as shapes;
 ghost use Rattle.capn_walk.specs.Shapes.{IsContent, IsPlain};
 ghost use Rattle.capn_walk.specs.Target.{content_words};
 ghost use Rattle.capn_show.specs.inner.ReadyPlaces.{HasNumbers, NumbersShown, BitsShown};
-ghost use Rattle.capn_show.specs.inner.JsonPlaces.{WordsInJson, IsFoundInJson, words_front, values_text};
+ghost use Rattle.capn_show.specs.inner.JsonPlaces.{WordsInJson, IsFoundInJson, values_text};
 ghost use Rattle.capn_show.specs.Outgoing.{Adds, BreaksOff, outgoing};
 
 use crate::fault::Broken;
-use crate::json_items::{put_value, put_word};
+use crate::json_items::{is_quoted, put_value, put_word, separate};
 use crate::lines::put_number;
 use crate::numbers::{number_at, push_bits, push_bytes};
 use crate::output::put;
@@ -44,7 +44,8 @@ pub fn json_words<S: Space, W: Write, A: Allocator>(
             segment: start.segment,
             word: start.word + i,
         };
-        put_word(text, writer, i, space.word(at))?;
+        separate(text, writer, i)?;
+        put_word(text, writer, space.word(at))?;
     }
     Ok(())
 }
@@ -162,7 +163,8 @@ fn json_numbers<S: Space, W: Write, A: Allocator>(
 {
     put(text, writer, head)?;
     for i in 0..count {
-        put_value(text, writer, i, width, number_at(space, start, width, i))?;
+        separate(text, writer, i)?;
+        put_value(text, writer, is_quoted(width), number_at(space, start, width, i))?;
     }
     put(text, writer, b"]}")
 }

@@ -70,7 +70,7 @@ fn write_part<S: Space, W: Write, A: Allocator>(
     requires room { 2 * depth < 2 ^ 32 }
     ensures shown { OnOk result (IsPartShown (S.message space.now) style way.now (Adds
         (outgoing W.contents writer.old text.old.items) (outgoing W.contents writer.new text.new.items))) }
-    ensures cut { IfErr result (λ e. IsPartShown (S.message space.now) (bytes_of style) way.now (BreaksOff
+    ensures cut { IfErr result (λ e. IsPartShown (S.message space.now) style way.now (BreaksOff
         (outgoing W.contents writer.old text.old.items) (outgoing W.contents writer.new text.new.items) e)) }
 {
     let found = named(space, ROOT);

@@ -1,5 +1,6 @@
 -- How a text grows by the JSON of what stands at places of a message.
-use Rattle.std.specs.Prelude.{◌≡◌, ℕ, zero, suc, ◌+◌, List, [], ◌∷◌, ◌++◌, codes, length, map}
+use Rattle.std.specs.Prelude.{◌≡◌, ℕ, zero, suc, ◌+◌, List, [], ◌∷◌, ◌++◌, codes, length, map, Bool, true}
+use Rattle.std.specs.Prelude.{false}
 use Rattle.std.specs.Fmt.{decimal}
 use Rattle.capn_words.specs.declared.space.Place.{Place}
 use Rattle.capn_words.specs.declared.pointer.Width.{Width}
@@ -16,10 +17,15 @@ abbrev pub comma : ℕ → List ℕ
 comma zero = []
 comma (suc i) = 44 ∷ []
 
--- a number of a list
-abbrev pub value_text : Width → ℕ → List ℕ
-value_text W64 n = number_text n
-value_text _ n = decimal n
+-- whether the numbers of a list stand between quotes
+abbrev pub is_quoted : Width → Bool
+is_quoted W64 = true
+is_quoted _ = false
+
+-- a number, between quotes or not
+abbrev pub number_item : Bool → ℕ → List ℕ
+number_item true = number_text
+number_item false = decimal
 
 -- an array and the end of its object, by what comes before its first item
 abbrev pub items_text : List ℕ → List (List ℕ) → List ℕ
@@ -27,7 +33,7 @@ items_text head xs = head ++ (with_commas xs ++ codes "]}")
 
 -- that of numbers
 abbrev pub values_text : List ℕ → Width → List ℕ → List ℕ
-values_text head width xs = items_text head (map (value_text width) xs)
+values_text head width xs = items_text head (map (number_item (is_quoted width)) xs)
 
 -- a struct as far as its words
 abbrev pub words_front : List ℕ → List ℕ
