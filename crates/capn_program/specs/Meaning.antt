@@ -1,6 +1,6 @@
 -- What a subcommand and the values of its options order. (Own.)
-use Rattle.std.specs.Prelude.{ℕ, ◌≡◌, ◌≢◌, ◌≤◌, List, Bool, true, false, Option, Some, None, codes, ⊤, find, option_and_then}
-use Rattle.std.specs.Prelude.{IsSome}
+use Rattle.std.specs.Prelude.{ℕ, ◌≡◌, ◌≢◌, ◌≤◌, List, Bool, true, false, Option, Some, None, codes, ⊤, find, IsSome}
+use Rattle.std.specs.Prelude.{option_and_then}
 use Rattle.std.specs.Borrow.{Bor}
 use Rattle.std.specs.Str.{bytes_eq}
 use Rattle.clap.specs.Words.{Row, Text, first_of, one_of}

@@ -289,8 +289,9 @@ fn matches_of<'a, S: AsStr>(alloc: Global, words: &'a [S]) -> Result<ArgMatches<
 /// What the words order, the first of them being the program's name: the subcommand's work, with the form, the limits,
 /// the tariff and the flags that its options have, given or usual. A request for help or for the version, a word, an
 /// option or a value that is not known, a number out of its range, a form or a tariff that the command does not take,
-/// a value of `--at` that is no way, `--text` with `--json`, `--keep-going` of `canonical` without `--framed`, `--message-words` of `unpack`
-/// with `--streaming`, and refused memory are answered as `Usage`, with the text for the user.
+/// a value of `--at` that is no way, `--text` with `--json`, `--keep-going` of `canonical` without `--framed`,
+/// `--message-words` of `unpack` with `--streaming`, and refused memory are answered as `Usage`, with the text for the
+/// user.
 pub fn order_of<'a, S: AsStr>(alloc: Global, words: &'a [S]) -> Result<Order<'a>, Usage>
     // An order that is given is what the words mean.
     ensures means { IfOk result (MeansOrder (subcommand_of program_line (map S.text words.now))) }

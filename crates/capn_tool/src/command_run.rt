@@ -116,8 +116,8 @@ fn perform<R: Read, W: Write, A: Allocator + Copy>(
 /// Refusals: `Memory` where a growth was refused; `Io` exactly where the reader or the writer has failed;
 /// `InputTooLong` for a byte past 2^32; else the command's own. After `Memory` and `Io` a beginning of the text was
 /// written, or nothing. At most 2^32 + 1 bytes are read, at most 65,536 by one call. Over a stream the memory does not
-/// grow with the input: 128 KiB, the texts of what one call read, at most 1 MiB for unpacked words, and what the longest
-/// message takes.
+/// grow with the input: 128 KiB, the texts of what one call read, at most 1 MiB for unpacked words, and what the
+/// longest message takes.
 ///
 /// Of an input that is taken whole, `canonical` holds the first 8 * (message words + 2,049) bytes and one more, or as
 /// many words of a packed one, and `unpack` its answer; what follows is read and dropped. The form bare holds at most

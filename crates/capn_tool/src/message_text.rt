@@ -47,8 +47,8 @@ fn put_priced<A: Allocator>(
     Ok(())
 }
 
-/// Appends the line of what the walk of a message paid, in words, and how many visits it made. After a fault the text is
-/// as it was.
+/// Appends the line of what the walk of a message paid, in words, and how many visits it made. After a fault the text
+/// is as it was.
 pub fn put_price<S: Space, A: Allocator + Copy>(
     alloc: A,
     space: &S,

@@ -23,7 +23,8 @@ returns-in-Err-Io g c =
     let p = outgoing g.W.Write.contents c.args.writer.now c.args.text.now.items in
     let q = outgoing g.W.Write.contents c.show_part.new.writer c.show_part.new.text.items in
     let of = styled c.args.style c.args.way.now in
-    part_io m c.args.limits c.args.style c.args.way.now p q (subst (λ (f : ShowFault). IsUnwritten m c.args.limits of f p q)
+    part_io m c.args.limits c.args.style c.args.way.now p q
+    (subst (λ (f : ShowFault). IsUnwritten m c.args.limits of f p q)
     c.in-Err-Io.field-0-is c.in-Err-Io.ensures.refused)
 
 pub returns-in-Err-Memory : goal.returns-in-Err-Memory
@@ -32,5 +33,6 @@ returns-in-Err-Memory g c =
     let p = outgoing g.W.Write.contents c.args.writer.now c.args.text.now.items in
     let q = outgoing g.W.Write.contents c.show_part.new.writer c.show_part.new.text.items in
     let of = styled c.args.style c.args.way.now in
-    part_memory m c.args.limits c.args.style c.args.way.now p q (subst (λ (f : ShowFault). IsUnwritten m c.args.limits of f p q)
+    part_memory m c.args.limits c.args.style c.args.way.now p q
+    (subst (λ (f : ShowFault). IsUnwritten m c.args.limits of f p q)
     c.in-Err-Memory.field-0-is c.in-Err-Memory.ensures.refused)

@@ -22,7 +22,8 @@ run_each_packed-requires-clause-writer_fine g c = c.requires.writer_fine
 
 pub returns-in-Whole : goal.returns-in-Whole
 returns-in-Whole g c =
-    runs_planned c.args.plan (plans.Whole c.in-Whole.whole) _ _ _ _ _ _ c.run_whole.result c.in-Whole.is c.run_whole.ensures
+    runs_planned c.args.plan (plans.Whole c.in-Whole.whole) _ _ _ _ _ _ c.run_whole.result c.in-Whole.is
+    c.run_whole.ensures
 
 pub returns-in-Each : goal.returns-in-Each
 returns-in-Each g c =
