@@ -185,8 +185,8 @@ show_means rows o m = go o m (told (codes "show", rows) o m)
       style = s.style;
       form_is = m.1.0;
       limits_are = m.1.1;
-      style_is = m.1.2.0;
-      way = way_means rows s.style s.way m.1.2.1;
+      style_is = m.1.2;
+      way = way_means rows s.style s.way m.1.3;
     }
     go (orders.Uniq u) m e = absurd (omega arith)
     go (orders.Pick p) m e = absurd (omega arith)

@@ -273,7 +273,7 @@ no_show rows style None none lines is other = other.1 (style_one rows style styl
 no_show rows style (Some way) none lines is other = let bad : None ≡ Some way.now = sym none ∙ other.0 in absurd cc
 
 shows : (rows : List Row) (c : Command) (s : Show) → tell_command c ≡ 326 → HasNoFlag rows c → ShowIs rows s → ⊥
-shows rows (commands.Show f l) s e none is = no_show rows s.style s.way none.0 none.1 is.2.0 is.2.1
+shows rows (commands.Show f l) s e none is = no_show rows s.style s.way none.0 none.1 is.2 is.3
 shows rows (commands.Check f l) s e none is = omega arith
 shows rows commands.Pack s e none is = omega arith
 shows rows (commands.Unpack m) s e none is = omega arith

@@ -1,8 +1,9 @@
 //! What the options of `show` order.
 
-ghost use Rattle.std.specs.Prelude.{◌≡◌, codes, IfNone, IfSome, IsSome, None, Some};
-ghost use Rattle.clap.specs.Words.{first_of, found_of, rows_of};
+ghost use Rattle.std.specs.Prelude.{◌≡◌, List, codes, IfNone, IfSome, IsSome, None, Some};
+ghost use Rattle.clap.specs.Words.{Row, first_of, found_of, rows_of};
 ghost use Rattle.capn_show.specs.declared.style.Style.{Style};
+ghost use Rattle.capn_tool.specs.Meaning.{FormIs, LimitsAre};
 ghost use Rattle.capn_program.specs.Meaning.{MeansOrder, StyleIs};
 ghost use Rattle.capn_program.specs.inner.Styles as spec;
 ghost use Rattle.capn_program.specs.declared.order.Order.{Order};
@@ -12,7 +13,7 @@ use crate::help;
 use crate::order::{Order, Show};
 use crate::way::is_way;
 use capn_show::Style;
-use capn_tool::{Command, parts};
+use capn_tool::{Command, Form, Limits, parts};
 use clap::ArgMatches;
 
 /// The way that `--at` gives, if it is given.
@@ -46,6 +47,24 @@ fn style_of(matches: &ArgMatches) -> Option<Style>
     style_for(text, json)
 }
 
+/// What `show` orders without `--at`, in a style: all of each message.
+fn whole_order<'a>(form: Form, limits: Limits, style: Style) -> Order<'a>
+    ensures { (rows : List Row) → FormIs rows form → LimitsAre rows limits → StyleIs rows style
+        → first_of (codes "at") rows ≡ None → MeansOrder (Some (codes "show", rows)) result }
+{
+    let show = Show {
+        form,
+        limits,
+        style,
+        way: None,
+    };
+    match style {
+        Style::Lines => Order::Message(Command::Show(form, limits)),
+        Style::Quoted => Order::Show(show),
+        Style::Json => Order::Show(show),
+    }
+}
+
 /// What `show` orders with these options, if they mean something: with `--at`, whose value is a way, that parts of
 /// messages are shown; with `--text` or `--json` that messages or parts are shown in another style.
 pub(crate) fn show_of<'a>(matches: &ArgMatches<'a>) -> Option<Order<'a>>
@@ -70,15 +89,7 @@ pub(crate) fn show_of<'a>(matches: &ArgMatches<'a>) -> Option<Order<'a>>
                 None
             }
         }
-        None => match style {
-            Style::Lines => Some(Order::Message(Command::Show(form, limits))),
-            Style::Quoted | Style::Json => Some(Order::Show(Show {
-                form,
-                limits,
-                style,
-                way: None,
-            })),
-        },
+        None => Some(whole_order(form, limits, style)),
     }
 }
 
