@@ -44,7 +44,7 @@ pub(crate) fn numbers_of<A: Allocator>(
     alloc: A,
     way: Option<&str>,
 ) -> Result<Vec<u64, A>, AllocError>
-    ensures { IfOk result (λ numbers. (are : List ℕ) → spec.numbers_of way ≡ Some are → numbers.items ≡ are) }
+    ensures { IfOk result (λ numbers. (are : List ℕ) → spec.numbers_of way.entry ≡ Some are → numbers.items ≡ are) }
 {
     match way {
         Some(text) => numbers_in(alloc, text),
