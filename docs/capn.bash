@@ -48,7 +48,7 @@ _capn() {
         'pick --to') words='' ;;
         'unpack --message-words') words='' ;;
         'make --form') words='stream packed bare' ;;
-        'show '*) words='--form --message-words --budget --depth --tariff --at --help' ;;
+        'show '*) words='--form --message-words --budget --depth --tariff --at --text --json --help' ;;
         'check '*) words='--form --message-words --budget --depth --tariff --help' ;;
         'list '*) words='--form --message-words --budget --depth --tariff --keep-going --digest --help' ;;
         'limits '*) words='--form --message-words --budget --depth --tariff --keep-going --help' ;;

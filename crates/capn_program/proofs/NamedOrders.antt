@@ -1,15 +1,20 @@
 -- What the subcommands order that have more than one order, or one with a flag.
-use Rattle.std.proofs.Common.{◌≡◌, ◌⊎◌, inl, inr, List, Bool, true, false, Some, None, codes, arith, refl, sym}
-use Rattle.clap.specs.Words.{Row, first_of}
-use Rattle.capn_tool.specs.Meaning.{Means}
+use Rattle.std.proofs.Common.{◌≡◌, ◌⊎◌, inl, inr, Bor, List, Bool, true, false, Option, Some, None, IsSome, codes}
+use Rattle.std.proofs.Common.{arith, refl, sym}
+use Rattle.clap.specs.Words.{Row, Text, first_of}
+use Rattle.capn_walk.specs.Limits.{Bounds}
+use Rattle.capn_canon.specs.declared.form.Form.{Form}
+use Rattle.capn_tool.specs.Meaning.{FormIs, LimitsAre, Means}
 use Rattle.capn_tool.specs.declared.command.Command.{Command}
 use Rattle.capn_tool.specs.declared.command.Command.TheVariants as commands
 use Rattle.capn_archive.specs.declared.task.Archive.{Archive}
 use Rattle.capn_archive.specs.declared.task.Task.{Task}
 use Rattle.capn_archive.specs.declared.task.Task.TheVariants as tasks
-use Rattle.capn_program.specs.Meaning.{AreOptions, FlagIs, IsTask, IsUsual, MeansOrder, ShowIs}
+use Rattle.capn_show.specs.declared.style.Style.{Style}
+use Rattle.capn_show.specs.declared.style.Style.TheVariants as styles
+use Rattle.capn_program.specs.Meaning.{AreOptions, FlagIs, IsTask, IsUsual, MeansOrder, StyleIs, WayIs}
+use Rattle.capn_program.specs.Way.{way_of}
 use Rattle.capn_program.specs.declared.order.Flow.TheVariants as flows
-use Rattle.capn_program.specs.declared.order.Show.{Show}
 use Rattle.capn_program.specs.declared.order.Order.{Order}
 use Rattle.capn_program.specs.declared.order.Order.TheVariants as orders
 use Rattle.capn_program.proofs.OneOrder.{never_command, tell_of, tell_task, told}
@@ -133,11 +138,22 @@ unpack_means rows o m = go o m (told (codes "unpack", rows) o m)
     go (orders.Flow flows.Unpack) m e = inr (m.1, m.2)
     go (orders.Flow flows.Pack) m e = absurd (omega arith)
 
--- what `show` orders is over whole messages, without `--at`, or over parts of them, with it
-abbrev pub ShowMeans : List Row → Type 0
-ShowMeans rows =
-    ((c : Command) × Means (Some (codes "show", rows)) c × (first_of (codes "at") rows ≡ None))
-    ⊎ ((s : Show) × ShowIs rows s)
+-- what `show` orders has a form, limits, a style, and no way or a way
+pub record ShowMeans (rows : List Row) : Type 0 where
+  pub form : Form
+  pub limits : Bounds
+  pub style : Style
+  pub form_is : FormIs rows form
+  pub limits_are : LimitsAre rows limits
+  pub style_is : StyleIs rows style
+  pub way : (first_of (codes "at") rows ≡ None)
+      ⊎ ((text : Text) × (first_of (codes "at") rows ≡ Some text) × IsSome (way_of text))
+
+way_means : (rows : List Row) (style : Style) (way : Option (Bor Text)) → WayIs rows style way
+    → (first_of (codes "at") rows ≡ None)
+    ⊎ ((text : Text) × (first_of (codes "at") rows ≡ Some text) × IsSome (way_of text))
+way_means rows style None is = inl is.0
+way_means rows style (Some way) is = inr (way.now, is.0, is.1)
 
 pub show_means : (rows : List Row) (o : Order) → MeansOrder (Some (codes "show", rows)) o → ShowMeans rows
 show_means rows o m = go o m (told (codes "show", rows) o m)
@@ -149,13 +165,29 @@ show_means rows o m = go o m (told (codes "show", rows) o m)
     task tasks.Canonical e = omega arith
 
     go : (o : Order) → MeansOrder (Some (codes "show", rows)) o → 326 ≡ tell_of o → ShowMeans rows
-    go (orders.Message (commands.Show f l)) m e = inl (commands.Show f l, m.0, m.1)
+    go (orders.Message (commands.Show f l)) m e = record {
+      form = f;
+      limits = l;
+      style = styles.Lines;
+      form_is = m.0.1;
+      limits_are = m.0.2;
+      style_is = m.1.1;
+      way = inl m.1.0;
+    }
     go (orders.Message (commands.Check f l)) m e = absurd (omega arith)
     go (orders.Message commands.Pack) m e = absurd (omega arith)
     go (orders.Message (commands.Unpack k)) m e = absurd (omega arith)
     go (orders.Message (commands.Canonical f l)) m e = absurd (omega arith)
     go (orders.Message (commands.Hash f l)) m e = absurd (omega arith)
-    go (orders.Show s) m e = inr (s, m.1)
+    go (orders.Show s) m e = record {
+      form = s.form;
+      limits = s.limits;
+      style = s.style;
+      form_is = m.1.0;
+      limits_are = m.1.1;
+      style_is = m.1.2;
+      way = way_means rows s.style s.way m.1.3;
+    }
     go (orders.Uniq u) m e = absurd (omega arith)
     go (orders.Pick p) m e = absurd (omega arith)
     go (orders.Flow flows.Pack) m e = absurd (omega arith)

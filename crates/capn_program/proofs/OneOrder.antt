@@ -1,7 +1,9 @@
 -- A subcommand with the values of its options means one order at most.
 use Rattle.std.proofs.Common.{◌≡◌, ℕ, ◌+◌, ◌*◌, ◌==◌, ◌||◌, List, Bool, true, false, Option, Some, None, refl, sym, ap}
-use Rattle.std.proofs.Common.{◌∙◌, codes, slice_index, unwrap_or, arith}
-use Rattle.clap.specs.Words.{Row, Text}
+use Rattle.std.proofs.Common.{◌∙◌, Bor, codes, slice_index, unwrap_or, arith}
+use Rattle.clap.specs.Words.{Row, Text, first_of}
+use Rattle.capn_show.specs.declared.style.Style.{Style}
+use Rattle.capn_show.specs.declared.style.Style.TheVariants as styles
 use Rattle.capn_walk.specs.Limits.{Bounds}
 use Rattle.capn_canon.specs.declared.form.Form.{Form}
 use Rattle.capn_canon.specs.declared.form.Form.TheVariants as forms
@@ -16,8 +18,9 @@ use Rattle.capn_archive.specs.declared.uniq.Uniq.{Uniq}
 use Rattle.capn_serve.specs.declared.pick.Pick.{Pick}
 use Rattle.capn_serve.specs.declared.pick.StreamForm.{StreamForm}
 use Rattle.capn_serve.specs.declared.pick.StreamForm.TheVariants as stream_forms
-use Rattle.capn_program.specs.Meaning.{AreOptions, AreSame, FlagIs, HasNoFlag, IsFlow, IsTask, MeansOneOrder}
-use Rattle.capn_program.specs.Meaning.{MeansOrder, PickIs, ShowIs, UniqIs, flag_text, form_of, usual_with}
+use Rattle.capn_program.specs.Meaning.{AreOptions, AreSame, FlagIs, HasNoFlag, IsFlow, IsSameWay, IsTask}
+use Rattle.capn_program.specs.Meaning.{MeansOneOrder, MeansOrder, PickIs, ShowIs, StyleIs, UniqIs, WayIs, flag_text}
+use Rattle.capn_program.specs.Meaning.{form_of, usual_with}
 use Rattle.capn_program.specs.declared.order.Flow.{Flow}
 use Rattle.capn_program.specs.declared.order.Flow.TheVariants as flows
 use Rattle.capn_program.specs.declared.order.Show.{Show}
@@ -227,19 +230,50 @@ pick_one rows p q (f, w, usual, a, b) (g, v, usually, c, d) =
     ∙ sym usually)
     (number_one rows (codes "from") p.from q.from a.0 c.0) (number_one rows (codes "to") p.to q.to b.0 d.0)
 
+-- a style is told by its flags
+style_one : (rows : List Row) (s t : Style) → StyleIs rows s → StyleIs rows t → s ≡ t
+style_one rows styles.Lines styles.Lines a b = refl
+style_one rows styles.Lines styles.Quoted a b =
+    absurd (let bad : false ≡ true = flag_one rows (codes "text") false true a.0 b.0 in cc)
+style_one rows styles.Lines styles.Json a b =
+    absurd (let bad : false ≡ true = flag_one rows (codes "json") false true a.1 b.1 in cc)
+style_one rows styles.Quoted styles.Lines a b =
+    absurd (let bad : true ≡ false = flag_one rows (codes "text") true false a.0 b.0 in cc)
+style_one rows styles.Quoted styles.Quoted a b = refl
+style_one rows styles.Quoted styles.Json a b =
+    absurd (let bad : true ≡ false = flag_one rows (codes "text") true false a.0 b.0 in cc)
+style_one rows styles.Json styles.Lines a b =
+    absurd (let bad : true ≡ false = flag_one rows (codes "json") true false a.1 b.1 in cc)
+style_one rows styles.Json styles.Quoted a b =
+    absurd (let bad : false ≡ true = flag_one rows (codes "text") false true a.0 b.0 in cc)
+style_one rows styles.Json styles.Json a b = refl
+
+-- and a way by the value of `--at`
+way_one : (rows : List Row) (f g : Style) (v w : Option (Bor Text)) → WayIs rows f v → WayIs rows g w → IsSameWay v w
+way_one rows f g None None is also = tt
+way_one rows f g None (Some w) is also = let bad : None ≡ Some w.now = sym is.0 ∙ also.0 in absurd cc
+way_one rows f g (Some v) None is also = let bad : Some v.now ≡ None = sym is.0 ∙ also.0 in absurd cc
+way_one rows f g (Some v) (Some w) is also =
+    ap (λ (o : Option Text). unwrap_or o (codes "")) (sym is.0 ∙ also.0)
+
 show_one : (rows : List Row) (s t : Show) → ShowIs rows s → ShowIs rows t → AreSame (orders.Show s) (orders.Show t)
-show_one rows s t (f, l, w, way) (g, m, v, also) =
-    (form_one s.form t.form (sym f ∙ g), limits_one rows s.limits t.limits l m, some_one _ _ (sym w ∙ v))
-  where
-    some_one : (a b : Text) → Some a ≡ Some b → a ≡ b
-    some_one a b e = ap (λ (o : Option Text). unwrap_or o (codes "")) e
+show_one rows s t (f, l, style, way) (g, m, other, also) = (
+  form_one s.form t.form (sym f ∙ g),
+  limits_one rows s.limits t.limits l m,
+  style_one rows s.style t.style style other,
+  way_one rows s.style t.style s.way t.way way also,
+)
 
 -- ---- two orders of two kinds
 
--- of a command over messages it is told whether parts are shown
+-- of a command over messages it is told whether parts or a style are shown
+no_show : (rows : List Row) (style : Style) (way : Option (Bor Text)) → first_of (codes "at") rows ≡ None
+    → StyleIs rows styles.Lines → StyleIs rows style → WayIs rows style way → ⊥
+no_show rows style None none lines is other = other.1 (style_one rows style styles.Lines is lines)
+no_show rows style (Some way) none lines is other = let bad : None ≡ Some way.now = sym none ∙ other.0 in absurd cc
+
 shows : (rows : List Row) (c : Command) (s : Show) → tell_command c ≡ 326 → HasNoFlag rows c → ShowIs rows s → ⊥
-shows rows (commands.Show f l) s e none is =
-    let bad : None ≡ Some s.way.now = sym none ∙ is.2 in absurd cc
+shows rows (commands.Show f l) s e none is = no_show rows s.style s.way none.0 none.1 is.2 is.3
 shows rows (commands.Check f l) s e none is = omega arith
 shows rows commands.Pack s e none is = omega arith
 shows rows (commands.Unpack m) s e none is = omega arith

@@ -15,13 +15,14 @@ first_run s = record { service = s; at = start }
 
 pub parts_served : (show : Show) (way : List ℕ) (s : PartTexts) (most : ℕ) (a b c d : Option (List ℕ))
     (reader_failed writer_failed : Bool) (ending : Result (Unit {0}) RunFault) (y : Run PartTexts)
-    (r : Result (Unit {0}) ToolFault) → s.way.now ≡ way → s.limits ≡ show.limits
+    (r : Result (Unit {0}) ToolFault) → s.way.now ≡ way → s.style ≡ show.style → s.limits ≡ show.limits
     → most ≡ show.limits.message_words
     → ServesMessages (fold_of serves refuses most) (first_run s) show.form a b c d reader_failed writer_failed ending y
     → r ≡ unplaced_end ending → Served show way a b c d reader_failed writer_failed r
-parts_served show way s most a b c d reader_failed writer_failed ending y r numbers limits words run is = record {
+parts_served show way s most a b c d reader_failed writer_failed ending y r numbers style limits words run is = record {
   service = s;
   numbers = numbers;
+  style = style;
   limits = limits;
   ending = ending;
   last = y;

@@ -8,7 +8,8 @@ use Rattle.capn_walk.specs.declared.walk_answer.Stopped.{Stopped}
 use Rattle.capn_walk.specs.declared.target.Fault.TheVariants as walk_faults
 use Rattle.capn_canon.specs.declared.refusal.Refusal.TheVariants as refusals
 use Rattle.capn_show.specs.Outgoing.{Outgoing, Adds}
-use Rattle.capn_show.specs.Part.{text_at}
+use Rattle.capn_show.specs.Styled.{styled}
+use Rattle.capn_show.specs.declared.style.Style.{Style}
 use Rattle.capn_show.specs.Written.{IsWritten, IsUnwritten}
 use Rattle.capn_show.specs.declared.fault.Broken.TheVariants as broken
 use Rattle.capn_show.specs.declared.fault.ShowFault.TheVariants as ends
@@ -18,8 +19,8 @@ use Rattle.capn_serve.specs.Service.{DoesService}
 use Rattle.capn_serve.specs.declared.position.Position.{Position}
 use Rattle.capn_serve.specs.declared.fault.ServeFault.{ServeFault}
 use Rattle.capn_serve.specs.declared.fault.ServeFault.TheVariants as faults
-use Rattle.capn_program.specs.PartRun.{refuses, serves}
-use Rattle.capn_program.specs.inner.PartTexts.{AddsLine, AddsPart, end_line}
+use Rattle.capn_program.specs.PartRun.{end_of, ended_part, refuses, serves}
+use Rattle.capn_program.specs.inner.PartTexts.{AddsEnd, AddsPart}
 use Rattle.capn_program.specs.declared.part_texts.PartTexts.{PartTexts}
 
 abbrev Ending : Type 0
@@ -28,44 +29,44 @@ Ending = Result (Unit {0}) ServeFault
 abbrev stopped : ServeFault → Ending
 stopped fault = Err fault
 
--- ---- one line
+-- ---- what ends a text
 
 -- it is kept, and then what is long was written
-pub line_added : (p q r : Outgoing) (end : Ending) → q.taken ≡ p.taken → q.failed ≡ p.failed
-    → q.kept ≡ p.kept ++ end_line → p.failed ≡ false
+pub end_added : (line : List ℕ) (p q r : Outgoing) (end : Ending) → q.taken ≡ p.taken → q.failed ≡ p.failed
+    → q.kept ≡ p.kept ++ line → p.failed ≡ false
     → served.Flushes (served.outgoing q.taken q.kept) (served.outgoing r.taken r.kept) r.failed end
-    → AddsLine p r end
-line_added p q r (Ok u) taken failed kept fine ((w, wrote, is), short, good) = record {
+    → AddsEnd line p r end
+end_added line p q r (Ok u) taken failed kept fine ((w, wrote, is), short, good) = record {
   written = w;
   taken = subst (λ (c : Option (List ℕ)). Appends c r.taken w) taken wrote;
   kept = is ∙ append-nil q.kept ∙ kept;
   failed = good ∙ sym fine;
 }
-line_added p q r (Err faults.Io) taken failed kept fine (io, (count, wrote), broke) = (
+end_added line p q r (Err faults.Io) taken failed kept fine (io, (count, wrote), broke) = (
   count,
-  subst (λ (c : Option (List ℕ)). Appends c r.taken (take count (p.kept ++ end_line))) taken
+  subst (λ (c : Option (List ℕ)). Appends c r.taken (take count (p.kept ++ line))) taken
       (subst (λ (l : List ℕ). Appends q.taken r.taken (take count l)) kept wrote),
   broke,
 )
-line_added p q r (Err faults.Memory) taken failed kept fine (io, begun, broke) = absurd (cc)
-line_added p q r (Err (faults.Refused f)) taken failed kept fine (io, begun, broke) = absurd (cc)
+end_added line p q r (Err faults.Memory) taken failed kept fine (io, begun, broke) = absurd (cc)
+end_added line p q r (Err (faults.Refused f)) taken failed kept fine (io, begun, broke) = absurd (cc)
 
-module _ (m : List (List ℕ)) (limits : Bounds) (way : List ℕ) where
-  -- ---- the text of a message, and then a line
+module _ (m : List (List ℕ)) (limits : Bounds) (style : Style) (way : List ℕ) where
+  -- ---- the text of a message, and then what ends it
 
-  pub part_line : (p q r : Outgoing) (end : Ending) → IsWritten m limits (text_at way) p q
-      → AddsLine q r end → AddsPart m limits way p r end
+  pub part_line : (p q r : Outgoing) (end : Ending) → IsWritten m limits (styled style way) p q
+      → AddsEnd (end_of style) q r end → AddsPart m limits style way p r end
   part_line p q r (Ok u) shown line =
-      (shown.value, shown.is, both p q r (text_at way shown.value) end_line shown.text line)
+      (shown.value, shown.is, both p q r (styled style way shown.value) (end_of style) shown.text line)
   part_line p q r (Err faults.Memory) shown line = inr (
     shown.value,
     shown.is,
-    then-broken p q r broken.Memory (text_at way shown.value) end_line shown.text line,
+    then-broken p q r broken.Memory (styled style way shown.value) (end_of style) shown.text line,
   )
   part_line p q r (Err faults.Io) shown line = (
     shown.value,
     shown.is,
-    then-broken p q r broken.Io (text_at way shown.value) end_line shown.text line,
+    then-broken p q r broken.Io (styled style way shown.value) (end_of style) shown.text line,
   )
   part_line p q r (Err (faults.Refused f)) shown line = absurd line
 
@@ -74,29 +75,29 @@ module _ (m : List (List ℕ)) (limits : Bounds) (way : List ℕ) where
   pub part_stop : (s : Stopped) (p q : Outgoing) (fault : ServeFault)
       → ((s.fault ≡ walk_faults.Memory) × (fault ≡ faults.Memory))
       ⊎ ((s.fault ≢ walk_faults.Memory) × (fault ≡ faults.Refused (refusals.Walk s)))
-      → IsUnwritten m limits (text_at way) (ends.Stopped s) p q → AddsPart m limits way p q (stopped fault)
+      → IsUnwritten m limits (styled style way) (ends.Stopped s) p q → AddsPart m limits style way p q (stopped fault)
   part_stop s p q fault (inl (memory, is)) (unmoved, why) =
-      subst (λ (f : ServeFault). AddsPart m limits way p q (stopped f)) (sym is)
+      subst (λ (f : ServeFault). AddsPart m limits style way p q (stopped f)) (sym is)
       (inl (subst (λ (o : Outgoing). Adds p o []) (sym unmoved) (same p)))
   part_stop s p q fault (inr (other, is)) (unmoved, inl memory) = absurd (other memory)
   part_stop s p q fault (inr (other, is)) (unmoved, inr refusal) =
-      subst (λ (f : ServeFault). AddsPart m limits way p q (stopped f)) (sym is)
+      subst (λ (f : ServeFault). AddsPart m limits style way p q (stopped f)) (sym is)
       ((s, refl, refusal), subst (λ (o : Outgoing). Adds p o []) (sym unmoved) (same p))
 
-  pub part_io : (p q : Outgoing) → IsUnwritten m limits (text_at way) ends.Io p q
-      → AddsPart m limits way p q (stopped faults.Io)
+  pub part_io : (p q : Outgoing) → IsUnwritten m limits (styled style way) ends.Io p q
+      → AddsPart m limits style way p q (stopped faults.Io)
   part_io p q begun = (
     begun.value,
     begun.is,
-    broken-before p q broken.Io (text_at way begun.value) end_line begun.text,
+    broken-before p q broken.Io (styled style way begun.value) (end_of style) begun.text,
   )
 
-  pub part_memory : (p q : Outgoing) → IsUnwritten m limits (text_at way) ends.Memory p q
-      → AddsPart m limits way p q (stopped faults.Memory)
+  pub part_memory : (p q : Outgoing) → IsUnwritten m limits (styled style way) ends.Memory p q
+      → AddsPart m limits style way p q (stopped faults.Memory)
   part_memory p q begun = inr (
     begun.value,
     begun.is,
-    broken-before p q broken.Memory (text_at way begun.value) end_line begun.text,
+    broken-before p q broken.Memory (styled style way begun.value) (end_of style) begun.text,
   )
 
 -- ---- as a service does it
@@ -112,9 +113,9 @@ module _ (m : List (List ℕ)) (s : PartTexts) (at : Position) (frame : List ℕ
   adds text h = (h.written, h.taken, h.kept)
 
   abbrev text_of : Tree → List ℕ
-  text_of v = text_at s.way.now v ++ end_line
+  text_of v = ended_part s.style s.way.now v
 
-  pub does_part : (end : Ending) → p.failed ≡ false → AddsPart m s.limits s.way.now p q end
+  pub does_part : (end : Ending) → p.failed ≡ false → AddsPart m s.limits s.style s.way.now p q end
       → DoesService serves refuses s at frame m old new q.failed end s
   does_part (Ok u) fine (v, of, h) = (text_of v, ((v, of, refl), refl), adds (text_of v) h, h.failed ∙ fine)
   does_part (Err faults.Memory) fine (inl h) = (inl (adds [] h), h.failed ∙ fine)

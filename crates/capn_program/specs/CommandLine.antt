@@ -41,9 +41,16 @@ uniq_line = flagged_line (codes "uniq") (codes "count")
 abbrev pub way_rule : Rule
 way_rule = record (new_rule (codes "at")) { long = Some (codes "at"); value_names = 1 }
 
--- `show` takes what a command over messages takes, and `--at`
+-- whether lists of bytes that are texts are written so, and whether values are written in JSON
+abbrev pub text_rule : Rule
+text_rule = flag_rule (codes "text")
+
+abbrev pub json_rule : Rule
+json_rule = flag_rule (codes "json")
+
+-- `show` takes what a command over messages takes, and `--at`, `--text` and `--json`
 abbrev pub show_line : App
-show_line = with_rule (message_line (codes "show")) way_rule
+show_line = with_rule (with_rule (with_rule (message_line (codes "show")) way_rule) text_rule) json_rule
 
 -- `canonical` takes what a command over messages takes, and `--framed` and `--keep-going`
 abbrev pub canonical_line : App

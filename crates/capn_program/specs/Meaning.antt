@@ -1,6 +1,7 @@
 -- What a subcommand and the values of its options order. (Own.)
-use Rattle.std.specs.Prelude.{ℕ, ◌≡◌, ◌≤◌, List, Bool, true, false, Option, Some, None, codes, ⊤, find, option_and_then}
-use Rattle.std.specs.Prelude.{IsSome}
+use Rattle.std.specs.Prelude.{ℕ, ◌≡◌, ◌≢◌, ◌≤◌, List, Bool, true, false, Option, Some, None, codes, ⊤, find, IsSome}
+use Rattle.std.specs.Prelude.{option_and_then}
+use Rattle.std.specs.Borrow.{Bor}
 use Rattle.std.specs.Str.{bytes_eq}
 use Rattle.clap.specs.Words.{Row, Text, first_of, one_of}
 use Rattle.clap.specs.declared.parser.matches.ValueSource.{ValueSource}
@@ -17,6 +18,8 @@ use Rattle.capn_archive.specs.declared.task.Archive.{Archive}
 use Rattle.capn_archive.specs.declared.task.Task.{Task}
 use Rattle.capn_archive.specs.declared.task.Task.TheVariants as tasks
 use Rattle.capn_archive.specs.declared.uniq.Uniq.{Uniq}
+use Rattle.capn_show.specs.declared.style.Style.{Style}
+use Rattle.capn_show.specs.declared.style.Style.TheVariants as styles
 use Rattle.capn_serve.specs.declared.pick.Pick.{Pick}
 use Rattle.capn_serve.specs.declared.pick.StreamForm.{StreamForm}
 use Rattle.capn_serve.specs.declared.pick.StreamForm.TheVariants as streams
@@ -90,15 +93,26 @@ IsFlow name rows flows.Pack = (name ≡ codes "pack") × FlagIs rows (codes "str
 IsFlow name rows flows.Unpack =
     (name ≡ codes "unpack") × FlagIs rows (codes "streaming") true × IsUsual rows (codes "message-words")
 
--- the options of `show` have these values: `--at` is given, and its value is a way
+-- the style that two flags order, which don't go together
+abbrev pub StyleIs : List Row → Style → Type 0
+StyleIs rows styles.Lines = FlagIs rows (codes "text") false × FlagIs rows (codes "json") false
+StyleIs rows styles.Quoted = FlagIs rows (codes "text") true × FlagIs rows (codes "json") false
+StyleIs rows styles.Json = FlagIs rows (codes "text") false × FlagIs rows (codes "json") true
+
+-- `--at` is given, and its value is a way; or it isn't, and the style is another than that of a plain `show`
+abbrev pub WayIs : List Row → Style → Option (Bor Text) → Type 0
+WayIs rows style None = (first_of (codes "at") rows ≡ None) × (style ≢ styles.Lines)
+WayIs rows style (Some way) = (first_of (codes "at") rows ≡ Some way.now) × IsSome (way_of way.now)
+
+-- the options of `show` have these values: one of `--at`, `--text` and `--json` is given
 abbrev pub ShowIs : List Row → Show → Type 0
 ShowIs rows show = FormIs rows show.form × LimitsAre rows show.limits
-    × (first_of (codes "at") rows ≡ Some show.way.now) × IsSome (way_of show.way.now)
+    × StyleIs rows show.style × WayIs rows show.style show.way
 
--- `canonical`, `pack` and `unpack` are commands over one input where none of their flags is given, and `show` shows
--- all of a message where `--at` isn't; no other command over messages has such an option
+-- `canonical`, `pack` and `unpack` are commands over one input where none of their flags is given, and `show` where
+-- neither a flag nor `--at` is; no other command over messages has such an option
 abbrev pub HasNoFlag : List Row → Command → Type 0
-HasNoFlag rows (commands.Show form limits) = first_of (codes "at") rows ≡ None
+HasNoFlag rows (commands.Show form limits) = (first_of (codes "at") rows ≡ None) × StyleIs rows styles.Lines
 HasNoFlag rows (commands.Check form limits) = ⊤
 HasNoFlag rows commands.Pack = FlagIs rows (codes "streaming") false
 HasNoFlag rows (commands.Unpack most) = FlagIs rows (codes "streaming") false
@@ -117,9 +131,17 @@ MeansOrder (Some s) (orders.Pick pick) = (s.0 ≡ codes "pick") × PickIs s.1 pi
 MeansOrder (Some s) (orders.Flow flow) = IsFlow s.0 s.1 flow
 MeansOrder (Some s) (orders.Make form) = (s.0 ≡ codes "make") × FormIs s.1 form
 
--- two orders are the same: where parts of messages are shown, their texts of the way are equal, wherever these stand
+-- no way, or two whose texts are equal, wherever these stand
+abbrev pub IsSameWay : Option (Bor Text) → Option (Bor Text) → Type 0
+IsSameWay None None = ⊤
+IsSameWay None (Some way) = ⊥
+IsSameWay (Some way) None = ⊥
+IsSameWay (Some way) (Some other) = way.now ≡ other.now
+
+-- two orders are the same: where messages or parts of them are shown, so are the texts of the ways
 abbrev pub AreSame : Order → Order → Type 0
-AreSame (orders.Show s) (orders.Show t) = (s.form ≡ t.form) × (s.limits ≡ t.limits) × (s.way.now ≡ t.way.now)
+AreSame (orders.Show s) (orders.Show t) =
+    (s.form ≡ t.form) × (s.limits ≡ t.limits) × (s.style ≡ t.style) × IsSameWay s.way t.way
 AreSame o p = o ≡ p
 
 -- a meaning is that of one order at most

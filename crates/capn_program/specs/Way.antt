@@ -1,6 +1,7 @@
 -- The text of a way: the numbers that lead from the root of a message to what stands below it. (Own.)
 use Rattle.std.specs.Prelude.{◌≡◌, ℕ, ◌+◌, ◌-◌, ◌*◌, ◌^◌, ◌==◌, ◌&&◌, nat_le, nat_lt, List, [], ◌∷◌, Option, Some, None}
 use Rattle.std.specs.Prelude.{codes, cond, option_and_then, option_map, unwrap_or, refl}
+use Rattle.std.specs.Borrow.{Bor}
 use Rattle.clap.specs.Words.{Text}
 
 -- the number whose digits so far make this one, or that has none yet, with one digit more, if it is one and the number
@@ -20,6 +21,11 @@ way_from begun (c ∷ rest) = cond (c == 46)
 -- the numbers of a text, which are below 2^64, and parted by single dots
 abbrev pub way_of : Text → Option (List ℕ)
 way_of text = way_from None text
+
+-- the numbers of a way that is given, if it is one, and none where no way is
+abbrev pub numbers_of : Option (Bor Text) → Option (List ℕ)
+numbers_of None = Some []
+numbers_of (Some text) = way_of text.now
 
 three_numbers : way_of (codes "0.3.18446744073709551615") ≡ Some (0 ∷ 3 ∷ 18446744073709551615 ∷ [])
 three_numbers = refl

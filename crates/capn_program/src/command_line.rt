@@ -1,9 +1,8 @@
 //! What the words of the command line order.
 
 ghost use Rattle.std.specs.Prelude.{◌≡◌, ◌≤◌, ◌⊎◌, ◌↔◌, ◌<◌, ◌^◌, ℕ, Bool, true, codes, map};
-ghost use Rattle.std.specs.Prelude.{IfErr, IfNone, IfOk, IfSome, IsSome, IsTrue, None, Some};
+ghost use Rattle.std.specs.Prelude.{IfErr, IfOk, IfSome, IsSome, IsTrue, Some};
 ghost use Rattle.clap.specs.Words.{FailsBy, HasMatchesOf, fault_of, found_of, kind_of, rows_of, subcommand_of, takes};
-ghost use Rattle.clap.specs.Words.{first_of};
 ghost use Rattle.clap.specs.declared.error.ErrorKind.TheVariants as kinds;
 ghost use Rattle.capn_words.specs.Message.{most_message_words};
 ghost use Rattle.capn_tool.specs.Usage.{error_of};
@@ -19,9 +18,9 @@ ghost use Rattle.capn_program.specs.Usage.{IsReason, Orders};
 ghost use Rattle.capn_program.specs.declared.order.Order.{Order};
 
 use crate::help;
-use crate::order::{Flow, Order, Show};
+use crate::order::{Flow, Order};
+use crate::show_options::{said_of_show, show_of};
 use crate::subcommands::{mistake, program_command};
-use crate::way::is_way;
 use capn_archive::{Archive, Task, Uniq};
 use capn_serve::{Pick, StreamForm};
 use capn_tool::{Command, Form, Usage, help as tool_help, parts};
@@ -33,7 +32,7 @@ use std::alloc::Global;
 use std::convert::AsStr;
 
 /// Whether the flag of this name is given.
-fn flag_of(matches: &ArgMatches, id: &str) -> Option<bool>
+pub(crate) fn flag_of(matches: &ArgMatches, id: &str) -> Option<bool>
     ensures read { IfSome result (λ given. FlagIs (rows_of (found_of matches.now)) id.now given) }
     ensures served { (given : Bool) → FlagIs (rows_of (found_of matches.now)) id.now given → IsSome result }
 {
@@ -76,35 +75,6 @@ fn archive_of(task: Task, matches: &ArgMatches) -> Option<Archive>
         limits,
         keep_going,
     })
-}
-
-/// The way that `--at` gives, if it is given.
-fn way_in<'a>(matches: &ArgMatches<'a>) -> Option<&'a str>
-    ensures given { IfSome result (λ way. first_of (codes "at") (rows_of (found_of matches.now)) ≡ Some way.now) }
-    ensures none { IfNone result (first_of (codes "at") (rows_of (found_of matches.now)) ≡ None) }
-{
-    matches.get_str("at")
-}
-
-/// What `show` orders with these options, if they mean something: with `--at`, whose value is a way, that parts of
-/// messages are shown.
-fn show_of<'a>(matches: &ArgMatches<'a>) -> Option<Order<'a>>
-    ensures means { IfSome result (MeansOrder (Some (codes "show", rows_of (found_of matches.now)))) }
-    ensures served { (order : Order) → MeansOrder (Some (codes "show", rows_of (found_of matches.now))) order
-        → IsSome result }
-{
-    match way_in(matches) {
-        Some(way) => {
-            let form = parts::form_of(matches)?;
-            let limits = parts::limits_of(matches)?;
-            if is_way(way) {
-                Some(Order::Show(Show { form, limits, way }))
-            } else {
-                None
-            }
-        }
-        None => Some(Order::Message(parts::order_of("show", matches)?)),
-    }
 }
 
 /// What `list` orders with these options, if they mean something: with `--digest` the lines have digests.
@@ -263,8 +233,8 @@ fn named_order<'a>(name: &str, matches: &ArgMatches<'a>) -> Option<Order<'a>>
 }
 
 /// The message for options of this command that mean nothing: for `pick`, what its `--form` takes; for `unpack`, which
-/// two don't go together; for the others, that on `--form`, or else on `--tariff`, or else on `--at` of `show`, and on
-/// `--keep-going` of `canonical`.
+/// two don't go together; for the others, that on `--form`, or else on `--tariff`, or else on `--json` and `--at` of
+/// `show`, and on `--keep-going` of `canonical`.
 fn said_of(name: &str, matches: &ArgMatches) -> &'static str {
     if name == "pick" {
         return help::NO_FRAMED_FORM;
@@ -279,7 +249,7 @@ fn said_of(name: &str, matches: &ArgMatches) -> &'static str {
         return tool_help::NO_SUCH_TARIFF;
     }
     if name == "show" {
-        return help::NO_WAY;
+        return said_of_show(matches);
     }
     help::ONLY_FRAMED
 }
@@ -319,8 +289,9 @@ fn matches_of<'a, S: AsStr>(alloc: Global, words: &'a [S]) -> Result<ArgMatches<
 /// What the words order, the first of them being the program's name: the subcommand's work, with the form, the limits,
 /// the tariff and the flags that its options have, given or usual. A request for help or for the version, a word, an
 /// option or a value that is not known, a number out of its range, a form or a tariff that the command does not take,
-/// a value of `--at` that is no way, `--keep-going` of `canonical` without `--framed`, `--message-words` of `unpack`
-/// with `--streaming`, and refused memory are answered as `Usage`, with the text for the user.
+/// a value of `--at` that is no way, `--text` with `--json`, `--keep-going` of `canonical` without `--framed`,
+/// `--message-words` of `unpack` with `--streaming`, and refused memory are answered as `Usage`, with the text for the
+/// user.
 pub fn order_of<'a, S: AsStr>(alloc: Global, words: &'a [S]) -> Result<Order<'a>, Usage>
     // An order that is given is what the words mean.
     ensures means { IfOk result (MeansOrder (subcommand_of program_line (map S.text words.now))) }

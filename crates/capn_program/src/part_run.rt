@@ -1,4 +1,4 @@
-//! A run that shows parts of messages.
+//! A run that shows messages in a style, or parts of them.
 
 ghost use Rattle.std.specs.Prelude.{◌≡◌, false};
 ghost use Rattle.capn_words.specs.Watched.{inner_of, has_failed};
@@ -12,11 +12,12 @@ use capn_tool::{ToolFault, Watched};
 use std::alloc::Allocator;
 use std::io::{Read, Write};
 
-/// Writes of each message of an input the text of what stands at a way from its root, and then the line `end`; where
-/// nothing stands there, that text is the line `none`. A message is answered as soon as it is complete. The run ends as
-/// done, or with the first fault: a frame, a group or a message that is refused; `InputTooLong`; `Io` exactly if the
-/// reader or the writer failed; `Memory` if a growth was refused. A message is refused as by `show`, since all of it is
-/// surveyed first.
+/// Writes of each message of an input, in a style, the text of what stands at a way from its root, or of all of it.
+///
+/// Then comes the line `end`, but not after JSON. Where nothing stands at the way, the text is the line `none`, or in
+/// JSON an empty line. A message is answered as soon as it is complete. The run ends as done, or with the first fault:
+/// a frame, a group or a message that is refused; `InputTooLong`; `Io` exactly if the reader or the writer failed;
+/// `Memory` if a growth was refused. A message is refused as by `show`, since all of it is surveyed first.
 pub fn show_parts<R: Read, W: Write, A: Allocator + Copy>(
     alloc: A,
     show: &Show,
@@ -34,6 +35,7 @@ pub fn show_parts<R: Read, W: Write, A: Allocator + Copy>(
     let mut run = Run {
         service: PartTexts {
             way: &way,
+            style: show.style,
             limits: show.limits,
         },
         at: Position {

@@ -70,13 +70,15 @@ fn way_option<'a>(alloc: Global) -> Arg<'a>
         .help(help::AT)
 }
 
-/// `show`, with `--at`.
+/// `show`, with `--at`, `--text` and `--json`.
 fn show_command<'a>(alloc: Global) -> Result<Command<'a>, AllocError>
     ensures { IfOk result (λ c. HasLine c show_line) }
 {
     let forms = tool_help::FORMS_OF_MESSAGES;
     let command = parts::message_command(alloc, "show", help::SHOW, forms)?;
-    command.arg(way_option(alloc))
+    let with_at = command.arg(way_option(alloc))?;
+    let with_text = with_at.arg(flag(alloc, "text", help::TEXT))?;
+    with_text.arg(flag(alloc, "json", help::JSON))
 }
 
 /// A command over an archive: with the options of one over messages, and `--keep-going`.

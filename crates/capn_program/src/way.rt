@@ -39,8 +39,21 @@ pub(crate) fn is_way(text: &str) -> bool
     begun.is_some()
 }
 
-/// The numbers of a way.
-pub(crate) fn numbers_of<A: Allocator>(alloc: A, text: &str) -> Result<Vec<u64, A>, AllocError>
+/// The numbers of a way, or none where no way is given.
+pub(crate) fn numbers_of<A: Allocator>(
+    alloc: A,
+    way: Option<&str>,
+) -> Result<Vec<u64, A>, AllocError>
+    ensures { IfOk result (λ numbers. (are : List ℕ) → spec.numbers_of way.entry ≡ Some are → numbers.items ≡ are) }
+{
+    match way {
+        Some(text) => numbers_in(alloc, text),
+        None => Ok(Vec::new(alloc)),
+    }
+}
+
+/// The numbers of the text of a way.
+fn numbers_in<A: Allocator>(alloc: A, text: &str) -> Result<Vec<u64, A>, AllocError>
     ensures { IfOk result (λ numbers. (way : List ℕ) → spec.way_of text.now ≡ Some way → numbers.items ≡ way) }
 {
     let mut numbers = Vec::new(alloc);

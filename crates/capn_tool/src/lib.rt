@@ -13,6 +13,7 @@
 //! ```
 #![tactic(auto)]
 
+mod bare_message;
 mod command;
 mod command_line;
 mod command_run;

@@ -1,6 +1,6 @@
 //! What the words of the command line order.
 
-use capn_program::{Command, Flow, Form, Limits, Order, Tariff, order_of};
+use capn_program::{Command, Flow, Form, Limits, Order, Style, Tariff, order_of};
 use std::alloc::Global;
 use std::process::Abort;
 
@@ -13,11 +13,14 @@ fn is_command(alloc: Global, words: &[&str], want: Command) -> bool {
     }
 }
 
-/// Whether the words order that what stands at a way is shown.
-fn is_shown(alloc: Global, words: &[&str], form: Form, limits: Limits, way: &str) -> bool {
+/// Whether the words order that what of a packed stream stands at a way, or all of it, is shown in a style.
+fn is_shown(alloc: Global, words: &[&str], style: Style, way: Option<&str>) -> bool {
     let told = order_of(alloc, words);
     match &told {
-        Ok(Order::Show(show)) => show.form == form && show.limits == limits && show.way == way,
+        Ok(Order::Show(show)) => show.form == Form::Packed
+            && show.limits == Limits::usual()
+            && show.style == style
+            && show.way == way,
         _ => false,
     }
 }
@@ -98,11 +101,10 @@ fn their_options_are_as_they_were(rt: HostRuntime) {
 
 #[test]
 fn parts_are_shown_at_a_way(rt: HostRuntime) {
-    let (form, limits) = (Form::Packed, Limits::usual());
     for way in ["0", "0.3.1", "007", "18446744073709551615"] {
         let words = ["capn", "show", "--form", "packed", "--at", way];
         assert!(rt;
-            is_shown(rt.alloc(), &words, form, limits, way),
+            is_shown(rt.alloc(), &words, Style::Lines, Some(way)),
             "{words:?}"
         );
     }
@@ -117,6 +119,30 @@ fn parts_are_shown_at_a_way(rt: HostRuntime) {
         "18446744073709551616",
     ] {
         expect_usage(&rt, rt.alloc(), &["capn", "show", "--at", way], 2);
+        expect_usage(&rt, rt.alloc(), &["capn", "show", "--json", "--at", way], 2);
+    }
+}
+
+#[test]
+fn messages_are_shown_in_a_style(rt: HostRuntime) {
+    for (option, style) in [("--text", Style::Quoted), ("--json", Style::Json)] {
+        let words = ["capn", "show", "--form=packed", option];
+        assert!(rt; is_shown(rt.alloc(), &words, style, None), "{words:?}");
+        let words = ["capn", "show", option, "--at=0.1", "--form=packed"];
+        assert!(rt;
+            is_shown(rt.alloc(), &words, style, Some("0.1")),
+            "{words:?}"
+        );
+    }
+    for words in [
+        &["capn", "show", "--text", "--json"][..],
+        &["capn", "show", "--json", "--at", "0", "--text"][..],
+        &["capn", "show", "--text", "--text"][..],
+        &["capn", "show", "--json=1"][..],
+        &["capn", "check", "--json"][..],
+        &["capn", "list", "--text"][..],
+    ] {
+        expect_usage(&rt, rt.alloc(), words, 2);
     }
 }
 

@@ -1,7 +1,7 @@
 use Rattle.std.proofs.Common.{◌≡◌, ◌∙◌, Option, Some, None, Bor, IfSome, IfNone, codes, option_map, sym}
 use Rattle.clap.proofs.WalkLemmas.{first_value-rows}
 use Rattle.clap.specs.Words.{Text, found_of}
-use Rattle.capn_program.proofs.command_line.way_in.Goals as goal
+use Rattle.capn_program.proofs.show_options.way_in.Goals as goal
 
 -- what a text that was read says of the one that is there
 given : (o : Option (Bor Text)) (there : Option Text) → option_map (λ s. s.now) o ≡ there
