@@ -1,5 +1,5 @@
 -- A message that an archivist serves or passes over.
-use Rattle.std.proofs.Common.{◌≡◌, inl, inr, ℕ, List, [], ◌++◌, Bool, true, false, Option, Result, Ok, Err, refl, sym}
+use Rattle.std.proofs.Common.{◌≡◌, inl, inr, ℕ, List, [], Bool, true, false, Option, Result, Ok, Err, refl, sym}
 use Rattle.std.proofs.Common.{ap, subst, ◌∙◌, append-nil}
 use Rattle.std.proofs.KnownBytes.{Appends-nil}
 use Rattle.capn_canon.specs.declared.refusal.Refusal.{Refusal}
@@ -55,7 +55,7 @@ module _ (order : Archive) (tally : Tally) (at : Position) (frame : List ℕ) (m
   )
   skipped_does mid after a c old new failed e (Err faults.Memory) (refused, same, kept, fine) going (is, put) = (
     inl (subst (λ (x : Outgoing). Adds x (outgoing c new) []) same
-    ([], Appends-nil c, put ∙ sym (append-nil old))),
+        ([], Appends-nil c, put ∙ sym (append-nil old))),
     fine,
   )
   skipped_does mid after a c old new failed e (Err faults.Io) served going (is, put) = absurd (cc)

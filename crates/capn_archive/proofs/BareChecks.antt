@@ -56,7 +56,7 @@ not_checked words limits s depth f told deep pays counts capability isn't is onl
     answer = (
       (λ so. absurd (let bad : true ≡ false = sym so ∙ isn't in cc)),
       (λ is. absurd (not_none (only told.value told.is is.2
-      (is.3 ∙ ap bytes (sym (same_words words is.0 is.1)))))),
+          (is.3 ∙ ap bytes (sym (same_words words is.0 is.1)))))),
     );
   };
   depth = subst (IsDepth (words ∷ []) limits) (sym is) deep;

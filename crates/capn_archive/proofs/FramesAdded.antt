@@ -8,7 +8,7 @@ use Rattle.capn_canon.specs.Denotes.{AnswersMessage}
 use Rattle.capn_serve.specs.declared.position.Position.{Position}
 use Rattle.capn_serve.specs.declared.fault.ServeFault.{ServeFault}
 use Rattle.capn_serve.specs.declared.fault.ServeFault.TheVariants as faults
-use Rattle.capn_serve.specs.Outgoing.{Outgoing, Adds, AddsBytes, Breaks, outgoing}
+use Rattle.capn_serve.specs.Outgoing.{Outgoing, Adds, AddsBytes, outgoing}
 use Rattle.capn_serve.proofs.shared.Adding.{added_both, broken_after, broken_before}
 use Rattle.capn_archive.specs.CanonicalFrame.{AddsText, framed}
 use Rattle.capn_archive.specs.Tasks.{AddsServed, Serves}
