@@ -4,7 +4,7 @@ use Rattle.capn_show.specs.Styled.{styled}
 use Rattle.capn_show.specs.Written.{IsUnwritten}
 use Rattle.capn_show.specs.declared.fault.ShowFault.{ShowFault}
 use Rattle.capn_program.specs.inner.PartTexts.{AddsEnd}
-use Rattle.capn_program.proofs.PartServed.{part_io, part_line, part_memory}
+use Rattle.capn_program.proofs.PartServed.{part_io, part_line, part_memory, part_stop}
 use Rattle.capn_program.proofs.part_texts.add_part.Goals as goal
 
 pub returns-in-Ok : goal.returns-in-Ok
@@ -36,3 +36,14 @@ returns-in-Err-Memory g c =
     part_memory m c.args.limits c.args.style c.args.way.now p q
     (subst (λ (f : ShowFault). IsUnwritten m c.args.limits of f p q)
     c.in-Err-Memory.field-0-is c.in-Err-Memory.ensures.refused)
+
+pub returns-in-Err-Stopped : goal.returns-in-Err-Stopped
+returns-in-Err-Stopped g c =
+    let m = g.S.Space.message c.args.message.now in
+    let p = outgoing g.W.Write.contents c.args.writer.now c.args.text.now.items in
+    let q = outgoing g.W.Write.contents c.show_part.new.writer c.show_part.new.text.items in
+    let of = styled c.args.style c.args.way.now in
+    part_stop m c.args.limits c.args.style c.args.way.now c.in-Err-Stopped.stopped p q c.stop_of.result
+    c.stop_of.ensures
+    (subst (λ (f : ShowFault). IsUnwritten m c.args.limits of f p q)
+    c.in-Err-Stopped.field-0-is c.in-Err-Stopped.ensures.refused)

@@ -10,8 +10,8 @@ returns-in-Lines c rows form limits style none =
 
 pub returns-in-Quoted : goal.returns-in-Quoted
 returns-in-Quoted c rows form limits style none =
-    (refl, form, limits, style, none, λ e. let bad : styles.Quoted ≡ styles.Lines = sym c.in-Quoted.is ∙ e in cc)
+    (refl, (form, limits, style, (none, λ e. let bad : styles.Quoted ≡ styles.Lines = sym c.in-Quoted.is ∙ e in cc)))
 
 pub returns-in-Json : goal.returns-in-Json
 returns-in-Json c rows form limits style none =
-    (refl, form, limits, style, none, λ e. let bad : styles.Json ≡ styles.Lines = sym c.in-Json.is ∙ e in cc)
+    (refl, (form, limits, style, (none, λ e. let bad : styles.Json ≡ styles.Lines = sym c.in-Json.is ∙ e in cc)))
