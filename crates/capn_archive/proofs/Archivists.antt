@@ -36,13 +36,17 @@ module _ (order : Archive) (tally : Tally) (at : Position) (frame : List ℕ) (m
       (inr (text, archivist order t, count, (refl, inl is), adds), fine)
   served_does after a b failed (Err faults.Io) ((text, t, count, is, breaks), broken) ends =
       ((text, archivist order t, count, (refl, inl is), breaks), broken)
-  served_does after a b failed (Err (faults.Refused e)) (refused, same, kept, fine) ends =
-      ((ends e refl, refused), subst (λ (x : Outgoing). Adds a x []) (sym same) ([], Appends-nil a.taken, sym (append-nil a.kept)), fine)
+  served_does after a b failed (Err (faults.Refused e)) (refused, same, kept, fine) ends = (
+    (ends e refl, refused),
+    subst (λ (x : Outgoing). Adds a x []) (sym same) ([], Appends-nil a.taken, sym (append-nil a.kept)),
+    fine,
+  )
 
   -- it is refused, and was passed over
   pub skipped_does : (mid after : Tally) (a : Outgoing) (c : Option (List ℕ)) (old new : List ℕ) (failed : Bool)
       (e : Refusal) (r : Ending)
-      → AddsServed order.task order.limits tally at frame message a (outgoing c old) failed (stopped (faults.Refused e)) mid
+      → AddsServed order.task order.limits tally at frame message a (outgoing c old) failed
+      (stopped (faults.Refused e)) mid
       → order.keep_going ≡ true → Skips order.task mid at frame message e old new r after
       → DoesService serves refuses (archivist order tally) at frame message a (outgoing c new) failed r
       (archivist order after)

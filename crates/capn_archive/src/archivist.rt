@@ -38,8 +38,8 @@ pub struct Archivist {
     pub tally: Tally,
 }
 
-/// Adds the frame of a message's canonical bytes. Those of a message that is canonical are its own: one pass finds them,
-/// and no copy is made of them.
+/// Adds the frame of a message's canonical bytes. Those of a message that is canonical are its own: one pass finds
+/// them, and no copy is made of them.
 fn serve_canonical<S: Space, W: Write, A: Allocator + Copy>(
     alloc: A,
     limits: Limits,

@@ -10,6 +10,8 @@ returns-in-Some g c = record {
 pub returns-in-None : goal.returns-in-None
 returns-in-None g c =
     not_checked c.args.space.now c.args.limits c.in_ok-measured.measured.survey c.in_ok-measured.measured.depth
-    c.not_canonical-in-None.result c.in_ok-measured.ensures.0 c.in_ok-measured.ensures.1 c.not_canonical-in-None.ensures.paid
-    c.not_canonical-in-None.ensures.visits c.not_canonical-in-None.ensures.capability c.not_canonical-in-None.ensures.canonical
+    c.not_canonical-in-None.result c.in_ok-measured.ensures.0 c.in_ok-measured.ensures.1
+    c.not_canonical-in-None.ensures.paid
+    c.not_canonical-in-None.ensures.visits c.not_canonical-in-None.ensures.capability
+    c.not_canonical-in-None.ensures.canonical
     c.not_canonical-in-None.ensures.depth c.in-None.ensures.only
