@@ -30,6 +30,7 @@ mod output;
 pub mod parts;
 mod pending;
 mod plan;
+mod price_line;
 mod subcommands;
 mod usage;
 mod whole_input;

@@ -1,50 +1,34 @@
 //! What is written of one message.
 
-ghost use Rattle.std.specs.Prelude.{◌≡◌, ◌∷◌, ◌++◌, []};
+ghost use Rattle.std.specs.Prelude.{◌≡◌, ◌≤◌, ◌∷◌, ◌++◌, [], length};
 ghost use Rattle.sha2.specs.Sha256.{sha256};
 ghost use Rattle.hex.specs.Hex.{encode_lower};
-ghost use Rattle.capn_tool.specs.MessageText.{PutsMessageText, PutsBareMessageText, PutsLine, PutsFront, priced};
+ghost use Rattle.capn_tool.specs.MessageText.{PutsMessageText, PutsBareMessageText, PutsLine, priced};
 ghost use Rattle.capn_tool.specs.declared.plan.MessageText.TheVariants as kinds;
 
 use crate::fault::ToolFault;
+use crate::price_line::PriceLine;
 use capn_canon::{Refusal, canonical_of, survey_bare};
 use capn_walk::{Limits, survey};
 use capn_words::{Bare, Space};
 use sha2::{Digest, Sha256};
-use std::alloc::{AllocError, Allocator};
+use std::alloc::Allocator;
 
-/// Appends a price, a number of visits and what ends their line. Where memory is refused, a beginning may stand there.
-fn push_priced<A: Allocator>(
-    text: &mut Vec<u8, A>,
-    paid: u32,
-    visits: u32,
-    behind: &[u8],
-) -> Result<(), AllocError>
-    ensures { PutsFront (priced paid visits behind.now) text.old.items text.new.items result }
-{
-    let mut digits = itoa::Buffer::new();
-    text.extend_from_slice(b"ok paid ")?;
-    text.extend_from_slice(digits.format(paid).as_bytes())?;
-    text.extend_from_slice(b" visits ")?;
-    text.extend_from_slice(digits.format(visits).as_bytes())?;
-    text.extend_from_slice(behind)
-}
-
-/// Appends them, or nothing where memory is refused.
+/// Appends the line of a price and a number of visits, which ends in these bytes, or nothing where memory is refused.
 fn put_priced<A: Allocator>(
     text: &mut Vec<u8, A>,
     paid: u32,
     visits: u32,
-    behind: &[u8],
+    end: &[u8],
 ) -> Result<(), ToolFault>
-    ensures { PutsLine (priced paid visits behind.now) text.old.items text.new.items result }
+    requires { length end.now ≤ 16 }
+    ensures { PutsLine (priced paid visits end.now) text.old.items text.new.items result }
 {
-    let kept = text.len();
-    if push_priced(text, paid, visits, behind).is_err() {
-        text.truncate(kept);
-        return Err(ToolFault::Memory);
+    let line = PriceLine::new(paid, visits, end);
+    match text.extend_from_slice(line.as_bytes()) {
+        Ok(()) => Ok(()),
+        Err(_) => Err(ToolFault::Memory),
     }
-    Ok(())
 }
 
 /// Appends the line of what the walk of a message paid, in words, and how many visits it made. After a fault the text
