@@ -44,6 +44,6 @@ returns-in-Err-Stopped g c =
     let q = outgoing g.W.Write.contents c.show_part.new.writer c.show_part.new.text.items in
     let of = styled c.args.style c.args.way.now in
     part_stop m c.args.limits c.args.style c.args.way.now c.in-Err-Stopped.stopped p q c.stop_of.result
-    c.stop_of.ensures
+    (rw c.in-Err-Stopped.field-0-is at c.stop_of.ensures)
     (subst (λ (f : ShowFault). IsUnwritten m c.args.limits of f p q)
     c.in-Err-Stopped.field-0-is c.in-Err-Stopped.ensures.refused)
