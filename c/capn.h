@@ -15,8 +15,8 @@
  *
  * A call reads bytes, writes into a buffer of the caller's, and keeps nothing: no state, no handle, nothing to free.
  * Calls may run in any threads at once, also on the same input. A call takes memory by malloc, and gives it back before
- * it returns. It takes at most 16 KiB of stack, and 272 bytes more for each level of depth that the limits allow:
- * 84 KiB at depth 256.
+ * it returns. It takes at most 16 KiB of stack, and 256 bytes more for each level of depth that the limits allow:
+ * 80 KiB at depth 256.
  *
  * Each call answers a status and fills its report in; a field that the status does not speak of is 0. */
 #ifndef CAPN_H

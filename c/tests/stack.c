@@ -86,7 +86,7 @@ int main(void) {
         }
     int failed = 0;
     for (int d = 0; d < 4; d++) {
-        size_t stated = 16384 + 272 * (size_t)depths[d];
+        size_t stated = 16384 + 256 * (size_t)depths[d];
         printf("stack: at most %zu bytes at depth %u, of %zu that are stated\n", most[d], depths[d], stated);
         failed |= most[d] > stated;
     }
