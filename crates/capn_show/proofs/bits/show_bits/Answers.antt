@@ -4,7 +4,7 @@ use Rattle.capn_value.specs.Text.{digits_of}
 use Rattle.capn_show.specs.Outgoing.{outgoing}
 use Rattle.capn_show.proofs.shared.Appended.{passed}
 use Rattle.capn_show.proofs.Grown.{lined, cut-first, cut-inside, cut-last}
-use Rattle.capn_show.proofs.numbers.show_bits.Goals as goal
+use Rattle.capn_show.proofs.bits.show_bits.Goals as goal
 
 pub returns-clause-shown : goal.returns-clause-shown
 returns-clause-shown g c =

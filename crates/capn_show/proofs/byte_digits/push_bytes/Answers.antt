@@ -8,7 +8,7 @@ use Rattle.capn_show.proofs.shared.Appended.{passed, same, otherwise}
 use Rattle.capn_show.proofs.TextDigits.{encode_lower-none}
 use Rattle.capn_show.proofs.BlockDigits.{whole-word, first-bytes}
 use Rattle.capn_show.proofs.Grown.{bytes-more, bytes-cut, bytes-all}
-use Rattle.capn_show.proofs.numbers.push_bytes.Goals as goal
+use Rattle.capn_show.proofs.byte_digits.push_bytes.Goals as goal
 
 pub loop-i-init : goal.loop-i-init
 loop-i-init g c xs h n =

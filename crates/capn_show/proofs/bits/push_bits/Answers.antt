@@ -9,7 +9,7 @@ use Rattle.capn_show.specs.Outgoing.{outgoing}
 use Rattle.capn_show.proofs.shared.Appended.{passed, same, otherwise}
 use Rattle.capn_show.proofs.BitDigits.{whole-bits, first-bits}
 use Rattle.capn_show.proofs.Grown.{bits-more, bits-cut, bits-all}
-use Rattle.capn_show.proofs.numbers.push_bits.Goals as goal
+use Rattle.capn_show.proofs.bits.push_bits.Goals as goal
 
 pub loop-i-init : goal.loop-i-init
 loop-i-init g c xs h n =
