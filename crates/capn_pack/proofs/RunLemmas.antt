@@ -1,8 +1,8 @@
 -- Runs of words, and the bytes that a tag names.
 use Rattle.std.proofs.Common.{◌≡◌, ℕ, zero, suc, ◌+◌, ◌-◌, ◌*◌, ◌/◌, ◌%◌, ◌^◌, ◌<◌, ◌≤◌, true, false, eqb, ltb, List}
-use Rattle.std.proofs.Common.{[], ◌∷◌, ◌++◌, length, take, drop, slice_range, replicate, filter, refl, sym, ap, ◌∙◌, subst}
-use Rattle.std.proofs.Common.{arith, append_assoc, take-add, take-append-drop, drop-drop, length-take, length-drop}
-use Rattle.std.proofs.Common.{take_all}
+use Rattle.std.proofs.Common.{[], ◌∷◌, ◌++◌, length, take, drop, slice_range, replicate, filter, refl, sym, ap, ◌∙◌}
+use Rattle.std.proofs.Common.{subst, arith, append_assoc, take-add, take-append-drop, drop-drop, length-take}
+use Rattle.std.proofs.Common.{length-drop, take_all}
 use Rattle.std.proofs.lemmas.Bool.{ne_eqb, lt-ltb}
 use Rattle.std.proofs.lemmas.List.{replicate-append-replicate, take-append-le, drop-append-le, drop_all}
 use Rattle.std.proofs.Math.Nat.{two-pow-succ}

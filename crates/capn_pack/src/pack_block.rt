@@ -89,8 +89,8 @@ fn store_zeros(bytes: &[u8], at: usize, block: &mut [u8], fill: usize) -> Block
     }
 }
 
-/// Writes the group that the packer chooses there after the bytes that wait, unless it is a raw one that is long or that
-/// stands near the end.
+/// Writes the group that the packer chooses there after the bytes that wait, unless it is a raw one that is long or
+/// near the end.
 #[inline(always)]
 fn store_group(bytes: &[u8], at: usize, block: &mut [u8], fill: usize) -> Option<Block>
     requires inside { at + 8 ≤ length bytes.now }
@@ -113,7 +113,7 @@ fn store_group(bytes: &[u8], at: usize, block: &mut [u8], fill: usize) -> Option
 }
 
 /// Writes the groups that the packer chooses from there on, as far as the block goes, or up to a
-/// raw one that is long or that stands near the end.
+/// raw one that is long or near the end.
 pub(crate) fn store_groups(bytes: &[u8], start: usize, block: &mut [u8]) -> Block
     requires inside { start ≤ length bytes.now }
     requires room { ROOM ≤ length block.old }

@@ -65,8 +65,8 @@ fn four_at(bytes: &[u8], at: usize) -> [u8; 32]
     words
 }
 
-/// How many of the next words have at most one zero byte, up to four, and up to a number: it is four at once where these
-/// have no zero byte.
+/// How many of the next words have at most one zero byte, up to four and up to a number. Where four have no zero byte,
+/// that is seen at once.
 #[inline(always)]
 fn raw_step(bytes: &[u8], at: usize, limit: usize) -> usize
     requires inside { at ≤ length bytes.now }

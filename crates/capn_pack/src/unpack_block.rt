@@ -88,8 +88,8 @@ fn fill_raw(text: &[u8], at: usize, block: &mut [u8], fill: usize, limit: usize)
     })
 }
 
-/// Writes the words of the group that begins there after the bytes that wait, if they are few and stay within the limit.
-/// A raw group near the end is left.
+/// Writes the words of the group that begins there after the bytes that wait, if they are few and stay within the
+/// limit. A raw group near the end is left.
 #[inline(always)]
 fn fill_group(text: &[u8], at: usize, block: &mut [u8], fill: usize, limit: usize) -> Option<Block>
     requires far { at + 17 ≤ length text.now }
