@@ -1,15 +1,16 @@
 //! Groups read into a block, so that their words are appended together.
-ghost use Rattle.std.specs.Prelude.{◌≡◌, ◌+◌, ◌*◌, ◌<◌, ◌-◌, ◌≤◌, ◌++◌, [], length, take, slice_range, replicate, ℕ};
+ghost use Rattle.std.specs.Prelude.{◌≡◌, ◌+◌, ◌*◌, ◌<◌, ◌-◌, ◌≤◌, ◌++◌, [], length, take, slice_index, slice_range};
+ghost use Rattle.std.specs.Prelude.{replicate, ℕ};
 ghost use Rattle.std.specs.Prelude.{IfSome, IfNone, IfOk, OnErr};
 ghost use Rattle.capn_pack.specs.UnpackRefusal.{StartsWithin};
 ghost use Rattle.capn_pack.specs.inner.Steps.{Takes, TakesRow};
 
-use crate::block::Block;
+use crate::block::{Block, store_bytes};
 use crate::lanes::spread_far;
 use crate::unpack_group::Taken;
 use std::alloc::{AllocError, Allocator};
 
-/// How many bytes a block needs after its limit: a few zero words are written by one store of that size.
+/// How many bytes a block needs after its limit: a few words, zero or raw, are written by one store of that size.
 pub(crate) const SLACK: usize = 64;
 
 /// Writes a word.
@@ -30,8 +31,65 @@ fn store_zeros(block: &mut [u8], at: usize)
     block[at..at + SLACK].copy_from_slice(&[0; SLACK]);
 }
 
-/// Writes the words of the group that begins there after the bytes that wait, if it is one word that a tag names or a
-/// few zero words, and they stay within the limit.
+/// Writes the zero words of the group that begins there after the bytes that wait, if they are few and stay within the
+/// limit.
+#[inline(always)]
+fn fill_zeros(text: &[u8], at: usize, block: &mut [u8], fill: usize, limit: usize) -> Option<Block>
+    requires far { at + 17 ≤ length text.now }
+    requires tag { slice_index (slice_range text.now at (length text.now)) 0 ≡ 0 }
+    requires room { fill + 8 ≤ limit }
+    requires slack { limit + SLACK ≤ length block.old }
+    ensures within { IfSome result (λ f. f.fill ≤ limit) }
+    ensures forward { IfSome result (λ f. at ≤ f.at) }
+    ensures some { IfSome result (λ f. (count : ℕ)
+        × Takes (slice_range text.now at (length text.now)) 8 (f.at - at) count
+        (take fill block.old) (take f.fill block.new)) }
+    ensures none { IfNone result (block.new ≡ block.old) }
+{
+    let rest = &text[at..];
+    let more = 8 * rest[1] as usize;
+    let end = fill + 8 + more;
+    if 8 + more > SLACK || end > limit {
+        return None;
+    }
+    store_zeros(block, fill);
+    Some(Block {
+        at: at + 2,
+        fill: end,
+    })
+}
+
+/// Writes the words of the raw group that begins there after the bytes that wait, if they are few and stay within the
+/// limit, and enough bytes stand after its head.
+#[inline(always)]
+fn fill_raw(text: &[u8], at: usize, block: &mut [u8], fill: usize, limit: usize) -> Option<Block>
+    requires far { at + 17 ≤ length text.now }
+    requires tag { slice_index (slice_range text.now at (length text.now)) 0 ≡ 255 }
+    requires room { fill + 8 ≤ limit }
+    requires slack { limit + SLACK ≤ length block.old }
+    ensures within { IfSome result (λ f. f.fill ≤ limit) }
+    ensures forward { IfSome result (λ f. at ≤ f.at) }
+    ensures some { IfSome result (λ f. (count : ℕ)
+        × Takes (slice_range text.now at (length text.now)) 8 (f.at - at) count
+        (take fill block.old) (take f.fill block.new)) }
+    ensures none { IfNone result (block.new ≡ block.old) }
+{
+    let rest = &text[at..];
+    let more = 8 * rest[9] as usize;
+    let end = fill + 8 + more;
+    if 8 + more > SLACK || rest.len() < 10 + SLACK || end > limit {
+        return None;
+    }
+    store_bytes(block, fill, &rest[1..9]);
+    store_bytes(block, fill + 8, &rest[10..10 + SLACK]);
+    Some(Block {
+        at: at + 10 + more,
+        fill: end,
+    })
+}
+
+/// Writes the words of the group that begins there after the bytes that wait, if they are few and stay within the
+/// limit. A raw group near the end is left.
 #[inline(always)]
 fn fill_group(text: &[u8], at: usize, block: &mut [u8], fill: usize, limit: usize) -> Option<Block>
     requires far { at + 17 ≤ length text.now }
@@ -45,21 +103,10 @@ fn fill_group(text: &[u8], at: usize, block: &mut [u8], fill: usize, limit: usiz
     ensures none { IfNone result (block.new ≡ block.old) }
 {
     let rest = &text[at..];
-    match rest[0] {
-        0 => {
-            let more = 8 * rest[1] as usize;
-            let end = fill + 8 + more;
-            if 8 + more > SLACK || end > limit {
-                return None;
-            }
-            store_zeros(block, fill);
-            Some(Block {
-                at: at + 2,
-                fill: end,
-            })
-        }
-        255 => None,
-        tag => {
+    let tag = rest[0];
+    // One test, by which most groups go.
+    match tag {
+        1..=254 => {
             let word = spread_far(tag, &rest[1..]);
             store_word(block, fill, word);
             // The next tag waits for this sum: one step from the count of bits to the offset.
@@ -68,6 +115,8 @@ fn fill_group(text: &[u8], at: usize, block: &mut [u8], fill: usize, limit: usiz
                 fill: fill + 8,
             })
         }
+        0 => fill_zeros(text, at, block, fill, limit),
+        _ => fill_raw(text, at, block, fill, limit),
     }
 }
 
