@@ -44,20 +44,23 @@ module _ (m : List (List ℕ)) (start : Place) (message : IsMessage m) where
       → IsInside m (shapes.Node a b) start.segment start.word v
       → (bs : Bodies) × IsStruct v bs × AreRows m start 1 a b bs
   struct-rows a b v content narrow h =
-      let x = as-node m a b start.segment start.word v h in
-      (body x.words x.slots no_bodies, (x.words, x.slots, x.is, refl), record {
-        message = message;
-        content = let w = content.within in record { exists = content.exists; within = omega arith };
-        number = refl;
-        narrow = narrow;
-        rows = (
-          x.number,
-          x.count,
-          subst (λ (k : ℕ). take k (words_from m start.segment start.word) ≡ x.words) (sym x.number) x.own,
-          x.below,
-          tt,
-        );
-      })
+      let x = as-node m a b start.segment start.word v h in (
+        body x.words x.slots no_bodies,
+        (x.words, x.slots, x.is, refl),
+        record {
+          message = message;
+          content = let w = content.within in record { exists = content.exists; within = omega arith };
+          number = refl;
+          narrow = narrow;
+          rows = (
+            x.number,
+            x.count,
+            subst (λ (k : ℕ). take k (words_from m start.segment start.word) ≡ x.words) (sym x.number) x.own,
+            x.below,
+            tt,
+          );
+        },
+      )
 
   pub links-rows : (n : ℕ) (v : Tree) → IsContent m start n → IsInside m (shapes.Many Link n) start.segment start.word v
       → (bs : Bodies) × AreLinks n v bs × AreRows m start 1 0 n bs
@@ -65,14 +68,17 @@ module _ (m : List (List ℕ)) (start : Place) (message : IsMessage m) where
       let x = as-links m n start.segment start.word v h in
       let z : start.word ≡ start.word + 0 = omega arith in
       let w = content.within in
-      let all = segment-room m start.segment message content.exists in
-      (body [] x.slots no_bodies, (x.slots, x.is, x.count, refl), record {
-        message = message;
-        content = record { exists = content.exists; within = omega arith };
-        number = refl;
-        narrow = omega arith;
-        rows = (refl, x.count, refl, subst (λ (k : ℕ). AreAt m start.segment k x.slots) z x.below, tt);
-      })
+      let all = segment-room m start.segment message content.exists in (
+        body [] x.slots no_bodies,
+        (x.slots, x.is, x.count, refl),
+        record {
+          message = message;
+          content = record { exists = content.exists; within = omega arith };
+          number = refl;
+          narrow = omega arith;
+          rows = (refl, x.count, refl, subst (λ (k : ℕ). AreAt m start.segment k x.slots) z x.below, tt);
+        },
+      )
 
   pub all-rows : (n a b span : ℕ) (v : Tree) → IsContent m start (1 + span) → n * (a + b) ≤ span → a + b < 2 ^ 30
       → IsInside m (shapes.Rows n a b span) start.segment start.word v
@@ -80,14 +86,17 @@ module _ (m : List (List ℕ)) (start : Place) (message : IsMessage m) where
       × AreRows m (record { segment = start.segment; word = start.word + 1 }) n a b bs
   all-rows n a b span v content fits narrow h =
       let x = as-rows m n a b span start.segment start.word v h in
-      let w = content.within in
-      (x.bodies, (x.is, x.count), record {
-        message = message;
-        content = record { exists = content.exists; within = omega arith };
-        number = x.count;
-        narrow = narrow;
-        rows = x.below;
-      })
+      let w = content.within in (
+        x.bodies,
+        (x.is, x.count),
+        record {
+          message = message;
+          content = record { exists = content.exists; within = omega arith };
+          number = x.count;
+          narrow = narrow;
+          rows = x.below;
+        },
+      )
 
   pub numbers-packed : (width : Width) (n bits : ℕ) (v : Tree) → IsPlain width → n < 2 ^ 29
       → bits ≡ element_bits width * n → IsContent m start (content_words width n)
@@ -98,17 +107,21 @@ module _ (m : List (List ℕ)) (start : Place) (message : IsMessage m) where
       let w = content.within in
       let d = length-drop start.word (segment_at m start.segment) in
       let l = list-of m width n start.segment start.word plain (part-below m start.segment start.word message)
-      (omega arith) v h in
-      (first_bits bits (words_from m start.segment start.word), record {
-        message = message;
-        content = record { exists = content.exists; within = let f = ap words_for e in omega arith };
-        few = let f = short width n few in omega arith;
-        is = refl;
-      }, record {
-        few = few;
-        pointer = l.1;
-        content = λ at. l.0 at ∙ ap (λ (j : ℕ). first_bits j (words_from m start.segment start.word)) (sym e);
-      })
+      (omega arith) v h in (
+        first_bits bits (words_from m start.segment start.word),
+        record {
+          message = message;
+          content = record { exists = content.exists; within = let f = ap words_for e in omega arith };
+          few = let f = short width n few in omega arith;
+          is = refl;
+        },
+        record {
+          few = few;
+          pointer = l.1;
+          content = λ at. l.0 at ∙ ap (λ (j : ℕ). first_bits j (words_from m start.segment start.word)) (sym e);
+        },
+      )
+
 -- the slots of a row of a message have values
 slot-at : (m : List (List ℕ)) (s w : ℕ) (ts : Trees) (k : ℕ) → AreAt m s w ts → k < count ts
     → IsAt m (record { segment = s; word = w + k }) (tree_at ts k)

@@ -89,75 +89,75 @@ slots-end n i ts first p le =
 module _ {S R : Type 0} (has : S → ℕ → Tree → Type 0) (are : R → Bodies → Type 0) (rows : R) (source : S)
     (n a b depth i : ℕ) (lt : i < n)
     (slots : (bs : Bodies) → are rows bs → (k : ℕ) → k < count (slots_at bs i) → has source k (tree_at (slots_at bs i) k))
-    where
-  module _ (len : ℕ) (r : RowsReady are rows i n a b depth len) where
-    here : i < count_rows r.values
-    here = let c = r.count in omega arith
+  where
+    module _ (len : ℕ) (r : RowsReady are rows i n a b depth len) where
+      here : i < count_rows r.values
+      here = let c = r.count in omega arith
 
-    pub row-sizes : sizes_in_rows (rows_past i r.values)
-        ≡ sizes (slots_at r.values i) + sizes_in_rows (rows_past (suc i) r.values)
-    row-sizes = ap sizes_in_rows (row-at a b i r.values here r.wide r.sound).next
+      pub row-sizes : sizes_in_rows (rows_past i r.values)
+          ≡ sizes (slots_at r.values i) + sizes_in_rows (rows_past (suc i) r.values)
+      row-sizes = ap sizes_in_rows (row-at a b i r.values here r.wide r.sound).next
 
-    pub row-ready : AreReady has source 0 b depth len
-    row-ready =
-        let x = row-at a b i r.values here r.wide r.sound in
-        record {
-          values = slots_at r.values i;
-          are = λ k l. slots r.values r.is k (let m = x.long in omega arith);
-          count = x.long;
-          sound = x.sound;
-          low = let l = x.low in let m = r.low in omega arith;
-          room = let e = row-sizes in let m = r.room in omega arith;
-        }
+      pub row-ready : AreReady has source 0 b depth len
+      row-ready =
+          let x = row-at a b i r.values here r.wide r.sound in
+          record {
+            values = slots_at r.values i;
+            are = λ k l. slots r.values r.is k (let m = x.long in omega arith);
+            count = x.long;
+            sound = x.sound;
+            low = let l = x.low in let m = r.low in omega arith;
+            room = let e = row-sizes in let m = r.room in omega arith;
+          }
 
-  module _ (next : ℕ) (p q : List ℕ) (r : RowsReady are rows i n a b depth (length p))
-      (h : AreLaid has source b (next + a) p q) where
-    laid-is-row : (bs : Bodies) → are rows bs → count_rows bs ≡ n → AreWide a b bs → SoundRows bs
-        → q ≡ laid_slots b (slots_at bs i) (next + a) p
-    laid-is-row bs is c w s =
-        let x = row-at a b i bs (omega arith) w s in
-        h (slots_at bs i) x.long (λ k l. slots bs is k (let m = x.long in omega arith))
+    module _ (next : ℕ) (p q : List ℕ) (r : RowsReady are rows i n a b depth (length p))
+        (h : AreLaid has source b (next + a) p q) where
+      laid-is-row : (bs : Bodies) → are rows bs → count_rows bs ≡ n → AreWide a b bs → SoundRows bs
+          → q ≡ laid_slots b (slots_at bs i) (next + a) p
+      laid-is-row bs is c w s =
+          let x = row-at a b i bs (omega arith) w s in
+          h (slots_at bs i) x.long (λ k l. slots bs is k (let m = x.long in omega arith))
 
-    grown-row : (length p ≤ length q) × (length q ≤ length p + sizes (slots_at r.values i))
-    grown-row =
-        let x = row-at a b i r.values (here (length p) r) r.wide r.sound in
-        let e = laid-is-row r.values r.is r.count r.wide r.sound in
-        let l = length-slots b (slots_at r.values i) (next + a) p x.sound in
-        (omega (arith, ap length e, l.0), omega (arith, ap length e, l.1))
+      grown-row : (length p ≤ length q) × (length q ≤ length p + sizes (slots_at r.values i))
+      grown-row =
+          let x = row-at a b i r.values (here (length p) r) r.wide r.sound in
+          let e = laid-is-row r.values r.is r.count r.wide r.sound in
+          let l = length-slots b (slots_at r.values i) (next + a) p x.sound in
+          (omega (arith, ap length e, l.0), omega (arith, ap length e, l.1))
 
-    pub row-then-inside : next + (n - i) * (a + b) ≤ length p → next + a + b + (n - (i + 1)) * (a + b) ≤ length q
-    row-then-inside le =
-        let g = grown-row.0 in
-        let z : n - i ≡ suc (n - (i + 1)) = omega arith in
-        let e : (n - i) * (a + b) ≡ suc (n - (i + 1)) * (a + b) = ap (λ (k : ℕ). k * (a + b)) z in
-        let d : suc (n - (i + 1)) * (a + b) ≡ a + b + (n - (i + 1)) * (a + b) = omega arith in
-        omega arith
+      pub row-then-inside : next + (n - i) * (a + b) ≤ length p → next + a + b + (n - (i + 1)) * (a + b) ≤ length q
+      row-then-inside le =
+          let g = grown-row.0 in
+          let z : n - i ≡ suc (n - (i + 1)) = omega arith in
+          let e : (n - i) * (a + b) ≡ suc (n - (i + 1)) * (a + b) = ap (λ (k : ℕ). k * (a + b)) z in
+          let d : suc (n - (i + 1)) * (a + b) ≡ a + b + (n - (i + 1)) * (a + b) = omega arith in
+          omega arith
 
-    pub row-then-ready : RowsReady are rows (i + 1) n a b depth (length q)
-    row-then-ready = record {
-      values = r.values;
-      is = r.is;
-      count = r.count;
-      wide = r.wide;
-      sound = r.sound;
-      low = r.low;
-      room =
+      pub row-then-ready : RowsReady are rows (i + 1) n a b depth (length q)
+      row-then-ready = record {
+        values = r.values;
+        is = r.is;
+        count = r.count;
+        wide = r.wide;
+        sound = r.sound;
+        low = r.low;
+        room =
+            let z : i + 1 ≡ suc i = omega arith in
+            let e = row-sizes (length p) r in
+            let g = grown-row.1 in
+            let m = r.room in
+            subst (λ (j : ℕ). length q + sizes_in_rows (rows_past j r.values) ≤ 2 ^ 29) (sym z) (omega arith);
+      }
+
+      pub row-then-rest : (bs : Bodies) → are rows bs → count_rows bs ≡ n → AreWide a b bs → SoundRows bs
+          → laid_rows a b (rows_past (i + 1) bs) (next + a + b) q ≡ laid_rows a b (rows_past i bs) next p
+      row-then-rest bs is c w s =
           let z : i + 1 ≡ suc i = omega arith in
-          let e = row-sizes (length p) r in
-          let g = grown-row.1 in
-          let m = r.room in
-          subst (λ (j : ℕ). length q + sizes_in_rows (rows_past j r.values) ≤ 2 ^ 29) (sym z) (omega arith);
-    }
-
-    pub row-then-rest : (bs : Bodies) → are rows bs → count_rows bs ≡ n → AreWide a b bs → SoundRows bs
-        → laid_rows a b (rows_past (i + 1) bs) (next + a + b) q ≡ laid_rows a b (rows_past i bs) next p
-    row-then-rest bs is c w s =
-        let z : i + 1 ≡ suc i = omega arith in
-        let x = row-at a b i bs (omega arith) w s in
-        ap (λ (j : ℕ). laid_rows a b (rows_past j bs) (next + a + b) q) z
-        ∙ ap (laid_rows a b (rows_past (suc i) bs) (next + a + b)) (laid-is-row bs is c w s)
-        ∙ sym (rows-next a b x.words (slots_at bs i) (rows_past (suc i) bs) next p)
-        ∙ ap (λ (y : Bodies). laid_rows a b y next p) (sym x.next)
+          let x = row-at a b i bs (omega arith) w s in
+          ap (λ (j : ℕ). laid_rows a b (rows_past j bs) (next + a + b) q) z
+          ∙ ap (laid_rows a b (rows_past (suc i) bs) (next + a + b)) (laid-is-row bs is c w s)
+          ∙ sym (rows-next a b x.words (slots_at bs i) (rows_past (suc i) bs) next p)
+          ∙ ap (λ (y : Bodies). laid_rows a b y next p) (sym x.next)
 
 pub rows-over : (i : ℕ) (bs : Bodies) → count_rows bs ≤ i → rows_past i bs ≡ no_bodies
 rows-over zero no_bodies h = refl

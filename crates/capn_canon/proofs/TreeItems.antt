@@ -110,13 +110,16 @@ module _ {B : Type 0} (v : Tree) where
       let a = s.0 in
       let b = s.1 in
       let x = kept_words-le ws in
-      let y = kept_slots-le ss in
-      (body ws ss no_bodies, (ws, ss, e, refl), record {
-        are = sym ed;
-        sound = (s.2, tt);
-        words = omega arith;
-        slots = omega arith;
-      })
+      let y = kept_slots-le ss in (
+        body ws ss no_bodies,
+        (ws, ss, e, refl),
+        record {
+          are = sym ed;
+          sound = (s.2, tt);
+          words = omega arith;
+          slots = omega arith;
+        },
+      )
 
   -- a list of pointers, as one row
   pub links-item : (vs : List (Value B)) (d : TreeRows B) (n : ℕ) → v ≡ links (trees_of vs) → Sound v → n ≡ length vs
@@ -126,13 +129,16 @@ module _ {B : Type 0} (v : Tree) where
       let s = subst Sound e sound in
       let a = s.0 in
       let y = kept_slots-le ts in
-      let c = count-trees_of vs in
-      (body [] ts no_bodies, (ts, e, c ∙ sym en, refl), record {
-        are = sym ed;
-        sound = (s.1, tt);
-        words = omega arith;
-        slots = omega arith;
-      })
+      let c = count-trees_of vs in (
+        body [] ts no_bodies,
+        (ts, e, c ∙ sym en, refl),
+        record {
+          are = sym ed;
+          sound = (s.1, tt);
+          words = omega arith;
+          slots = omega arith;
+        },
+      )
 
   -- a list of structs
   pub rows-item : (rs : List (Body B)) (d : TreeRows B) (n : ℕ) → v ≡ rows (rows_of rs) → Sound v → n ≡ length rs
@@ -140,13 +146,16 @@ module _ {B : Type 0} (v : Tree) where
   rows-item rs d n e sound en ed =
       let s = subst Sound e sound in
       let a = s.1 in
-      let b = s.2 in
-      (rows_of rs, (e, count_rows-rows_of rs ∙ sym en), record {
-        are = sym ed;
-        sound = s.5;
-        words = omega arith;
-        slots = omega arith;
-      })
+      let b = s.2 in (
+        rows_of rs,
+        (e, count_rows-rows_of rs ∙ sym en),
+        record {
+          are = sym ed;
+          sound = s.5;
+          words = omega arith;
+          slots = omega arith;
+        },
+      )
 
 -- zeros stand in place of the slots of each row
 pub zeros-over : (a b : ℕ) (bs : Bodies) → AreRowsOver a b bs (zero_rows a b bs)
@@ -172,8 +181,13 @@ pub row-grown : (a b : ℕ) (ws : List ℕ) (ts : Trees) (p q : List ℕ) → q 
     → IsGrown a b (body ws ts no_bodies) p q
 row-grown a b ws ts p q e = record {
   cells = take a ws ++ replicate b 0;
-  over = (replicate b 0, [], ap (λ (x : List ℕ). take a ws ++ x) (sym (append-nil (replicate b 0))),
-    length-replicate {A = ℕ} b 0, refl);
+  over = (
+    replicate b 0,
+    [],
+    ap (λ (x : List ℕ). take a ws ++ x) (sym (append-nil (replicate b 0))),
+    length-replicate {A = ℕ} b 0,
+    refl,
+  );
   grown = e;
 }
 

@@ -51,7 +51,12 @@ fn bytes_of<S: Space, A: Allocator>(
 {
     let words = space.words(0).unwrap_or(0);
     let room = words.min(paid.saturating_add(1));
-    canonical_bytes(alloc, MessageSlots { space, start: ROOT }, depth, room as usize)
+    canonical_bytes(
+        alloc,
+        MessageSlots { space, start: ROOT },
+        depth,
+        room as usize,
+    )
 }
 
 /// The canonical bytes of a message, read as it is.

@@ -48,6 +48,7 @@ pub struct MessageRows<'a, S> {
 
 impl<'a, S: Space> Source for MessageSlots<'a, S> {
     type Numbers = MessageBits<'a, S>;
+
     type Rows = MessageRows<'a, S>;
 
     ghost has = { λ s k v. HasSlot (S.message s.space.now) s.start.segment (s.start.word + k) v };
@@ -97,7 +98,9 @@ impl<'a, S: Space> Source for MessageSlots<'a, S> {
     #[inline(always)]
     fn kept_slots(rows: MessageRows<'a, S>) -> u32 {
         let step = rows.words + rows.slots;
-        kept_in_rows(rows.space, rows.start, rows.count, step, rows.words, rows.slots)
+        kept_in_rows(
+            rows.space, rows.start, rows.count, step, rows.words, rows.slots,
+        )
     }
 
     #[inline(always)]

@@ -69,7 +69,15 @@ fn lay_slot<S: Source, A: Allocator>(
         }
         Item::Rows(rows, count) => {
             let own = open_rows::<S, A>(rows, count, from, draft)?;
-            lay_rows::<S, A>(rows, count, own.words, own.slots, own.first, depth - 1, draft)
+            lay_rows::<S, A>(
+                rows,
+                count,
+                own.words,
+                own.slots,
+                own.first,
+                depth - 1,
+                draft,
+            )
         }
     }
 }

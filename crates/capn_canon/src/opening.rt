@@ -40,7 +40,11 @@ pub fn open_struct<S: Source, A: Allocator>(
     let word = struct_pointer(from, first, words as usize, slots as usize);
     draft.put(from, word);
     S::append_rows(row, words, slots, draft)?;
-    Ok(Opened { first, words, slots })
+    Ok(Opened {
+        first,
+        words,
+        slots,
+    })
 }
 
 /// Puts the pointer to a list of pointers, and appends words in place of its slots.
@@ -90,5 +94,9 @@ pub fn open_rows<S: Source, A: Allocator>(
     draft.push(tag_word(count as usize, words as usize, slots as usize))?;
     let first = draft.len();
     S::append_rows(rows, words, slots, draft)?;
-    Ok(Opened { first, words, slots })
+    Ok(Opened {
+        first,
+        words,
+        slots,
+    })
 }

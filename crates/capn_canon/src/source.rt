@@ -53,7 +53,10 @@ pub trait Source: Copy {
         ensures { (v : Tree) → has self slot v → IsItem packs are result v };
 
     /// Appends the words in which numbers are packed; bits past the last number are 0.
-    fn append_numbers<A: Allocator>(numbers: Self::Numbers, draft: &mut Draft<A>) -> Result<(), Memory>
+    fn append_numbers<A: Allocator>(
+        numbers: Self::Numbers,
+        draft: &mut Draft<A>,
+    ) -> Result<(), Memory>
         requires { (ws : List ℕ) × packs numbers ws }
         ensures { OnOk result ((ws : List ℕ) → packs numbers ws → draft.new ≡ draft.old ++ ws) };
 

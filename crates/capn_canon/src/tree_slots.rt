@@ -45,6 +45,7 @@ pub enum TreeSlots<'a, B: Allocator> {
 
 impl<'a, B: Allocator> Source for TreeSlots<'a, B> {
     type Numbers = TreeNumbers<'a>;
+
     type Rows = TreeRows<'a, B>;
 
     ghost has = { λ s k v. HasValue (values_of s) k v };

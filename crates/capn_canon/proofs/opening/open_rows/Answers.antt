@@ -54,8 +54,7 @@ append_rows-requires g c =
     let a = c.kept_words-words.ensures x.1 x.3 in
     let b = c.kept_slots-slots.ensures x.1 x.3 in
     let s = rows-short c.args.count x.0 x.1 x.2 x.4 c.kept_words-words.result c.kept_slots-slots.result a b in
-    let n = s.2 in
-    (
+    let n = s.2 in (
       x.1,
       x.3,
       rows-wide c.args.count x.0 x.1 x.2 x.4 c.kept_words-words.result c.kept_slots-slots.result a b,

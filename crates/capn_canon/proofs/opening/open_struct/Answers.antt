@@ -28,8 +28,7 @@ append_rows-requires g c =
     let a = c.kept_words-words.ensures x.1 x.3 in
     let b = c.kept_slots-slots.ensures x.1 x.3 in
     let s = struct-short x.0 x.1 x.2 x.4 c.kept_words-words.result c.kept_slots-slots.result a b in
-    let n = s.1 in
-    (
+    let n = s.1 in (
       x.1,
       x.3,
       struct-wide x.0 x.1 x.2 x.4 c.kept_words-words.result c.kept_slots-slots.result a b,

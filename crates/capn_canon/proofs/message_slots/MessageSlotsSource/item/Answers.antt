@@ -74,11 +74,13 @@ item_at-requires-clause-room g c =
 
 pub item_at-requires-clause-some : goal.item_at-requires-clause-some
 item_at-requires-clause-some g c =
-    let x = c.in-Content in
-    (c.requires.0, inside-of (g.S.Space.message c.args.self.space.now) (record {
-      segment = c.args.self.start.segment;
-      word = c.args.self.start.word + c.args.slot;
-    }) x.segment x.start x.pads x.shape (c.target_at.ensures ∙ ap Ok x.is) c.requires.0 c.requires.1.at)
+    let x = c.in-Content in (
+      c.requires.0,
+      inside-of (g.S.Space.message c.args.self.space.now) (record {
+        segment = c.args.self.start.segment;
+        word = c.args.self.start.word + c.args.slot;
+      }) x.segment x.start x.pads x.shape (c.target_at.ensures ∙ ap Ok x.is) c.requires.0 c.requires.1.at,
+    )
 
 pub returns-in-Content : goal.returns-in-Content
 returns-in-Content g c v h =
