@@ -67,8 +67,8 @@ interop: $(if $(CAPN),,program library)
 	./interop/callers
 	./interop/run
 	./interop/differences
-	@if command -v python3 > /dev/null; then ./interop/archives && ./interop/memory; \
-	else echo "archives, memory: skipped, since there is no python3"; fi
+	@if command -v python3 > /dev/null; then ./interop/archives && ./interop/texts && ./interop/memory; \
+	else echo "archives, texts, memory: skipped, since there is no python3"; fi
 	./contrib/dask/run
 	@if command -v python3 > /dev/null; then ./python/tests/run && ./interop/hostile; \
 	else echo "python, hostile: skipped, since there is no python3"; fi

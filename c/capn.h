@@ -208,8 +208,8 @@ capn_status capn_unpack_some(const uint8_t *bytes, size_t size, uint8_t *out, si
 
 /* The figures of one message, of CAPN_STREAM or CAPN_BARE; with CAPN_PACKED it answers CAPN_BAD_FORM: unpack it first.
  * It accepts and refuses what capn_check does, and takes memory where that does; the report tells `paid` and `visits`.
- * Unless it answers CAPN_OK, the figures are as they were. It walks a message up to twice and once more for each level of
- * its depth: use capn_check if what it tells is enough. */
+ * Unless it answers CAPN_OK, the figures are as they were. It walks a message up to three times: use capn_check if what
+ * it tells is enough. */
 capn_status capn_survey(uint32_t form, const uint8_t *bytes, size_t size, const capn_limits *limits,
                         capn_figures *figures, capn_report *report);
 

@@ -11,6 +11,7 @@ _capn() {
         'show --budget') words='' ;;
         'show --depth') words='' ;;
         'show --tariff') words='strict plain' ;;
+        'show --at') words='' ;;
         'check --form') words='stream packed bare' ;;
         'check --message-words') words='' ;;
         'check --budget') words='' ;;
@@ -47,7 +48,7 @@ _capn() {
         'pick --to') words='' ;;
         'unpack --message-words') words='' ;;
         'make --form') words='stream packed bare' ;;
-        'show '*) words='--form --message-words --budget --depth --tariff --help' ;;
+        'show '*) words='--form --message-words --budget --depth --tariff --at --text --json --help' ;;
         'check '*) words='--form --message-words --budget --depth --tariff --help' ;;
         'list '*) words='--form --message-words --budget --depth --tariff --keep-going --digest --help' ;;
         'limits '*) words='--form --message-words --budget --depth --tariff --keep-going --help' ;;

@@ -5,6 +5,7 @@ slow, and it is not proved. `interop/archives` compares the two.
 """
 
 import hashlib
+import json
 import sys
 
 sys.setrecursionlimit(10_000)
@@ -288,8 +289,18 @@ def canonical(value):
 # Texts.
 
 
-def shown(value, level=0):
-    """The text of a value, as `show` writes it."""
+def quoted(items):
+    """What stands between quotes for a list of bytes that is a text, or None for any other."""
+    if not items or not all(0x20 <= byte <= 0x7E for byte in items[:-1]):
+        return None
+    if items[-1] and not 0x20 <= items[-1] <= 0x7E:
+        return None
+    escapes = {ord('"'): '\\"', ord("\\"): "\\\\", 0: "\\0"}
+    return "".join(escapes.get(byte, chr(byte)) for byte in items)
+
+
+def shown(value, level=0, with_texts=False):
+    """The text of a value, as `show` writes it, or with texts as `show --text` does."""
     kind, pad = value[0], "  " * level
     if kind == "null":
         return f"{pad}null\n"
@@ -297,7 +308,7 @@ def shown(value, level=0):
         return f"{pad}capability {value[1]}\n"
     if kind == "struct":
         lines = "".join(f"{pad}  word {word:016x}\n" for word in value[1])
-        slots = "".join(shown(slot, level + 1) for slot in value[2])
+        slots = "".join(shown(slot, level + 1, with_texts) for slot in value[2])
         return f"{pad}struct {len(value[1])} {len(value[2])}\n{lines}{slots}"
     if kind == "void":
         return f"{pad}void {value[1]}\n"
@@ -305,10 +316,63 @@ def shown(value, level=0):
     if kind == "bits":
         return head + (f"{pad}  {''.join(map(str, items))}\n" if items else "")
     if kind == "bytes":
+        text = quoted(items) if with_texts else None
+        if text is not None:
+            return f'{pad}bytes {len(items)} "{text}"\n'
         return head + (f"{pad}  {bytes(items).hex()}\n" if items else "")
     if kind in ("pointers", "rows"):
-        return head + "".join(shown(item, level + 1) for item in items)
+        return head + "".join(shown(item, level + 1, with_texts) for item in items)
     return head + "".join(f"{pad}  {item}\n" for item in items)
+
+
+def plain_of(value):
+    """A value as what `json` writes."""
+    kind = value[0]
+    if kind == "null":
+        return None
+    if kind == "struct":
+        return {"words": [f"{word:016x}" for word in value[1]], "slots": [plain_of(slot) for slot in value[2]]}
+    if kind in ("pointers", "rows"):
+        return {kind: [plain_of(item) for item in value[1]]}
+    if kind == "bits":
+        return {kind: "".join(map(str, value[1]))}
+    if kind == "bytes":
+        return {kind: bytes(value[1]).hex()}
+    if kind == "u64":
+        return {kind: [str(item) for item in value[1]]}
+    return {kind: value[1]}
+
+
+def stands(value, way):
+    """What stands at a way of numbers from a value, or None."""
+    for step in way:
+        if value[0] not in ("struct", "pointers", "rows"):
+            return None
+        below = value[2] if value[0] == "struct" else value[1]
+        if step >= len(below):
+            return None
+        value = below[step]
+    return value
+
+
+def styled(value, style):
+    """The text of what stands somewhere, if anything does, in a style: plain, text or json. What ends it follows."""
+    if style == "json":
+        return "\n" if value is None else json.dumps(plain_of(value), separators=(",", ":")) + "\n"
+    return ("none\n" if value is None else shown(value, 0, style == "text")) + "end\n"
+
+
+def show(data, form="stream", message_words=8388608, budget=8388608, depth=64, tariff="strict", style="plain", way=()):
+    """What `show` writes in a style, at a way or of all, the line on standard error, and its exit status."""
+    found, fault = messages(data, form, message_words)
+    out = []
+    for _, _, segments in found:
+        try:
+            walk = Walk(segments, budget, depth, tariff)
+        except Refused as refused:
+            return "".join(out).encode(), f"capn: {refused}\n", 1
+        out.append(styled(stands(walk.value, way), style))
+    return "".join(out).encode(), f"capn: {fault[0]}\n" if fault else "", 1 if fault else 0
 
 
 # Commands over archives.

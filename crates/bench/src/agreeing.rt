@@ -1,6 +1,6 @@
 //! Whether the operations agree with one another on a little of each shape.
 
-use crate::operations::{
+use crate::calls::{
     canonical, digest, message, packed, paid, received, test, unpacked, walked, words_of,
 };
 use crate::shapes::{Shape, framed};

@@ -9,6 +9,7 @@
 #![tactic(auto)]
 
 mod agreeing;
+mod calls;
 mod counting;
 mod operations;
 mod shapes;

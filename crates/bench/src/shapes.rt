@@ -5,6 +5,7 @@ mod flat;
 mod mixed;
 mod nested;
 mod random;
+mod slot;
 mod small;
 
 use std::alloc::{AllocError, Global};

@@ -1,5 +1,8 @@
-pub mod Depths
 pub mod OneSegment
+pub mod FramesAdded
+pub mod Archivists
+pub mod LineParts
+pub mod BareChecks
 pub mod Closings
 pub mod Finishes
 pub mod Sieves

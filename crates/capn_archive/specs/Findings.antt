@@ -6,12 +6,12 @@ use Rattle.capn_value.specs.Tree.{Tree}
 use Rattle.capn_value.specs.FirstCap.{first_cap}
 use Rattle.capn_walk.specs.Limits.{Bounds}
 use Rattle.capn_walk.specs.Accepted.{IsValueOf, paid, number_of_visits}
+use Rattle.capn_walk.specs.Depth.{IsDepth}
 use Rattle.capn_canon.specs.Layout.{canon}
 use Rattle.capn_canon.specs.declared.surveyed_bare.SurveyedBare.{SurveyedBare}
 use Rattle.capn_serve.specs.declared.position.Position.{Position}
 use Rattle.capn_archive.specs.declared.head.Head.{Head}
 use Rattle.capn_archive.specs.declared.findings.Findings.{Findings}
-use Rattle.capn_archive.specs.Depth.{IsDepth}
 
 -- where the message is, the bytes of its frame, its segments, and the words of its contents in all
 abbrev pub head_of : Position → List ℕ → List (List ℕ) → Head

@@ -1,6 +1,5 @@
 pub mod inner
 pub mod CanonicalFrame
-pub mod Depth
 pub mod Findings
 pub mod Lines
 pub mod Digest

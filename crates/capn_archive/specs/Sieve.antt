@@ -1,5 +1,5 @@
 -- Which messages a sieve keeps: those whose canonical bytes no message before them had, by their SHA-256. (Own.)
-use Rattle.std.specs.Prelude.{◌≡◌, ◌⊎◌, ℕ, ◌+◌, ◌-◌, ◌^◌, min, List, [], ◌++◌, Bool, true, false, Option, None}
+use Rattle.std.specs.Prelude.{◌≡◌, ◌⊎◌, ℕ, ◌+◌, ◌-◌, ◌^◌, min, List, [], Bool, true, false, Option, None}
 use Rattle.std.specs.Prelude.{Some, Result, Ok, Err}
 use Rattle.std.specs.BTreeSet.{BTreeSet, contains, insert_key}
 use Rattle.std.specs.Cmp.Lexicographic.{slice_cmp}
@@ -8,6 +8,7 @@ use Rattle.capn_canon.specs.declared.refusal.Refusal.{Refusal}
 use Rattle.capn_serve.specs.declared.position.Position.{Position}
 use Rattle.capn_serve.specs.declared.fault.ServeFault.{ServeFault}
 use Rattle.capn_serve.specs.declared.fault.ServeFault.TheVariants as faults
+use Rattle.capn_serve.specs.Outgoing.{Outgoing, Adds, AddsBeginning, BreaksWithin}
 use Rattle.capn_archive.specs.declared.tally.Skipped.{Skipped}
 use Rattle.capn_archive.specs.declared.uniq.Uniq.{Uniq}
 use Rattle.capn_archive.specs.Digest.{IsDigest, IsUndigested}
@@ -81,13 +82,15 @@ abbrev pub Notes : BTreeSet (List ℕ) → BTreeSet (List ℕ) → List ℕ → 
 Notes old new digest (Ok is_double) = (is_double ≡ has old digest) × (new ≡ and_one old digest)
 Notes old new digest (Err fault) = fault ≡ faults.Memory
 
--- a message was sifted; or it has no digest, and the text and the state are as they were; or memory was refused, and
--- the text is as it was
-abbrev pub TriesToSift : Sifted → List ℕ → List (List ℕ) → List ℕ → List ℕ → Result (Unit {0}) ServeFault → Sifted
-    → Type 0
-TriesToSift s frame message old new (Ok u) t =
-    (text : List ℕ) × Sifts s frame message text t × (new ≡ old ++ text)
-TriesToSift s frame message old new (Err faults.Memory) t = new ≡ old
-TriesToSift s frame message old new (Err faults.Io) t = ⊥
-TriesToSift s frame message old new (Err (faults.Refused r)) t =
-    IsUndigested message s.order.limits r × (new ≡ old) × (t ≡ s)
+-- A message was sifted; or it has no digest, and what goes out and the state are as they were. Or memory was refused,
+-- before what it writes or within it; or the writer failed within it.
+abbrev pub TriesToSift : Sifted → List ℕ → List (List ℕ) → Outgoing → Outgoing → Bool → Result (Unit {0}) ServeFault
+    → Sifted → Type 0
+TriesToSift s frame message old new failed (Ok u) t =
+    (text : List ℕ) × Sifts s frame message text t × Adds old new text × (failed ≡ false)
+TriesToSift s frame message old new failed (Err faults.Memory) t =
+    AddsBeginning (Sifts s frame message) old new × (failed ≡ false)
+TriesToSift s frame message old new failed (Err faults.Io) t =
+    BreaksWithin (Sifts s frame message) old new × (failed ≡ true)
+TriesToSift s frame message old new failed (Err (faults.Refused r)) t =
+    IsUndigested message s.order.limits r × (new ≡ old) × (t ≡ s) × (failed ≡ false)

@@ -1,9 +1,10 @@
 -- What each task writes of a message and keeps of it, and when it refuses it. (Own.)
-use Rattle.std.specs.Prelude.{◌≡◌, ◌≢◌, ◌⊎◌, ℕ, List, [], ◌++◌, true, false, Option, Result, Ok, Err}
+use Rattle.std.specs.Prelude.{◌≡◌, ◌≢◌, ◌⊎◌, ℕ, List, [], ◌++◌, Bool, true, false, Option, Result, Ok, Err}
 use Rattle.std.specs.Prelude.{⊤}
 use Rattle.capn_words.specs.Message.{total}
 use Rattle.capn_walk.specs.Limits.{Bounds}
 use Rattle.capn_walk.specs.Accepted.{IsAccepted, paid}
+use Rattle.capn_walk.specs.Depth.{IsDepth}
 use Rattle.capn_canon.specs.Denotes.{AnswersMessage}
 use Rattle.capn_canon.specs.Refusal.{IsRefusedMessage, IsUnaccepted}
 use Rattle.capn_canon.specs.declared.refusal.Refusal.{Refusal}
@@ -11,6 +12,7 @@ use Rattle.capn_canon.specs.declared.refusal.Refusal.TheVariants as refusals
 use Rattle.capn_serve.specs.declared.position.Position.{Position}
 use Rattle.capn_serve.specs.declared.fault.ServeFault.{ServeFault}
 use Rattle.capn_serve.specs.declared.fault.ServeFault.TheVariants as faults
+use Rattle.capn_serve.specs.Outgoing.{Outgoing, Adds, AddsBeginning, BreaksWithin}
 use Rattle.capn_archive.specs.declared.task.Task.{Task}
 use Rattle.capn_archive.specs.declared.task.Task.TheVariants as tasks
 use Rattle.capn_archive.specs.declared.task.Archive.{Archive}
@@ -18,7 +20,6 @@ use Rattle.capn_archive.specs.declared.findings.Findings.{Findings}
 use Rattle.capn_archive.specs.declared.tally.Tally.{Tally}
 use Rattle.capn_archive.specs.declared.archivist.Archivist.{Archivist}
 use Rattle.capn_archive.specs.CanonicalFrame.{framed}
-use Rattle.capn_archive.specs.Depth.{IsDepth}
 use Rattle.capn_archive.specs.Findings.{head_of, AreFindings}
 use Rattle.capn_archive.specs.Digest.{IsDigestIfAny}
 use Rattle.capn_archive.specs.Lines.{digests_line, list_line, refused_line}
@@ -89,6 +90,20 @@ Serves task limits tally at frame message old new (Err faults.Memory) tally_afte
 Serves task limits tally at frame message old new (Err faults.Io) tally_after = ⊥
 Serves task limits tally at frame message old new (Err (faults.Refused r)) tally_after =
     IsRefusedBy task message limits r × (new ≡ old) × (tally_after ≡ tally)
+
+-- A message was served, and its text was added to what goes out; or it is refused, and that and the tally are as they
+-- were. Or memory was refused, before the text or within it; or the writer failed within it.
+abbrev pub AddsServed : Task → Bounds → Tally → Position → List ℕ → List (List ℕ) → Outgoing → Outgoing → Bool
+    → Result (Unit {0}) ServeFault → Tally → Type 0
+AddsServed task limits tally at frame message old new failed (Ok u) tally_after =
+    (text : List ℕ) × IsServedBy task limits tally at frame message text tally_after × Adds old new text
+    × (failed ≡ false)
+AddsServed task limits tally at frame message old new failed (Err faults.Memory) tally_after =
+    AddsBeginning (IsServedBy task limits tally at frame message) old new × (failed ≡ false)
+AddsServed task limits tally at frame message old new failed (Err faults.Io) tally_after =
+    BreaksWithin (IsServedBy task limits tally at frame message) old new × (failed ≡ true)
+AddsServed task limits tally at frame message old new failed (Err (faults.Refused r)) tally_after =
+    IsRefusedBy task message limits r × (new ≡ old) × (tally_after ≡ tally) × (failed ≡ false)
 
 -- a message was passed over; or memory was refused, and the text is as it was
 abbrev pub Skips : Task → Tally → Position → List ℕ → List (List ℕ) → Refusal → List ℕ → List ℕ

@@ -1,2 +1,4 @@
 -- What no public clause cites.
 pub mod Closing
+pub mod LineRoom
+pub mod OneSegment

@@ -1,18 +1,21 @@
 //! The service of an archive: what is done with each message, and what is kept of it.
 
-ghost use Rattle.std.specs.Prelude.{ℕ, List};
+ghost use Rattle.std.specs.Prelude.{◌≡◌, ℕ, List, false};
+ghost use Rattle.capn_words.specs.Watched.{inner_of, has_failed};
 ghost use Rattle.capn_archive.specs.Tasks as spec;
-ghost use Rattle.capn_archive.specs.Tasks.{Serves, Skips};
+ghost use Rattle.capn_archive.specs.Tasks.{AddsServed, Serves, Skips};
 ghost use Rattle.capn_archive.specs.declared.task.Task.TheVariants as tasks;
-ghost use Rattle.capn_serve.specs.Service.{PutsMessage};
+ghost use Rattle.capn_serve.specs.Outgoing.{outgoing};
+ghost use Rattle.capn_serve.specs.Service.{DoesService};
 ghost use Rattle.capn_serve.specs.declared.position.Position.{Position};
 ghost use Rattle.capn_archive.specs.declared.tally.Tally.{Tally};
 
-use crate::canonical_frame::put_frame;
+use crate::canonical_frame::add_frame;
 use crate::digest::digest_if_any;
 use crate::findings::findings_of;
 use crate::head::head_of;
 use crate::lines::{put_digests_line, put_list_line, put_refused_line};
+use crate::one_segment::own_canonical;
 use crate::tally::{Tally, count, skip};
 use crate::task::{Archive, Task};
 use capn_canon::{Refusal, canonical_of};
@@ -35,19 +38,26 @@ pub struct Archivist {
     pub tally: Tally,
 }
 
-/// Appends the frame of a message's canonical bytes.
-fn serve_canonical<S: Space, A: Allocator + Copy>(
+/// Adds the frame of a message's canonical bytes. Those of a message that is canonical are its own: one pass finds
+/// them, and no copy is made of them.
+fn serve_canonical<S: Space, W: Write, A: Allocator + Copy>(
     alloc: A,
     limits: Limits,
     message: &S,
     text: &mut Vec<u8, A>,
+    writer: &mut Watched<W>,
 ) -> Result<(), ServeFault>
-    ensures { (tally : Tally) (at : Position) (frame : List ℕ) → Serves tasks.Canonical limits tally at frame
-        (S.message message.now) text.old.items text.new.items result tally }
+    requires { has_failed writer.old ≡ false }
+    ensures { (tally : Tally) (at : Position) (frame : List ℕ) → AddsServed tasks.Canonical limits tally at frame
+        (S.message message.now) (outgoing (W.contents (inner_of writer.old)) text.old.items)
+        (outgoing (W.contents (inner_of writer.new)) text.new.items) (has_failed writer.new) result tally }
 {
+    if let Some(bytes) = own_canonical(message, limits) {
+        return add_frame(bytes, text, writer);
+    }
     let _budget = limits.budget();
     match canonical_of(alloc, message, limits) {
-        Ok(canonical) => put_frame(text, &canonical.bytes),
+        Ok(canonical) => add_frame(&canonical.bytes, text, writer),
         Err(Refusal::Memory) => Err(ServeFault::Memory),
         Err(refusal) => Err(ServeFault::Refused(refusal)),
     }
@@ -66,7 +76,7 @@ fn serve_list<S: Space, A: Allocator + Copy>(
         text.new.items result tally }
 {
     let findings = findings_of(alloc, message, limits)?;
-    put_list_line(alloc, &head_of(at, frame, message), &findings, text)
+    put_list_line(&head_of(at, frame, message), &findings, text)
 }
 
 /// Appends the line of what is found of a message, with its digest.
@@ -83,7 +93,7 @@ fn serve_digests<S: Space, A: Allocator + Copy>(
 {
     let findings = findings_of(alloc, message, limits)?;
     let digest = digest_if_any(alloc, limits, message)?;
-    put_digests_line(alloc, &head_of(at, frame, message), &findings, digest, text)
+    put_digests_line(&head_of(at, frame, message), &findings, digest, text)
 }
 
 /// Counts a message.
@@ -111,7 +121,7 @@ fn serve_limits<S: Space, A: Allocator + Copy>(
 }
 
 /// Serves a message as a task says.
-fn serve_task<S: Space, A: Allocator + Copy>(
+fn serve_task<S: Space, W: Write, A: Allocator + Copy>(
     alloc: A,
     order: &Archive,
     tally: &mut Tally,
@@ -119,15 +129,18 @@ fn serve_task<S: Space, A: Allocator + Copy>(
     frame: &[u8],
     message: &S,
     text: &mut Vec<u8, A>,
+    writer: &mut Watched<W>,
 ) -> Result<(), ServeFault>
-    ensures { Serves order.now.task order.now.limits tally.old at frame.now (S.message message.now) text.old.items
-        text.new.items result tally.new }
+    requires { has_failed writer.old ≡ false }
+    ensures { AddsServed order.now.task order.now.limits tally.old at frame.now (S.message message.now)
+        (outgoing (W.contents (inner_of writer.old)) text.old.items)
+        (outgoing (W.contents (inner_of writer.new)) text.new.items) (has_failed writer.new) result tally.new }
 {
     match order.task {
         Task::List => serve_list(alloc, order.limits, at, frame, message, text),
         Task::Digests => serve_digests(alloc, order.limits, at, frame, message, text),
         Task::Limits => serve_limits(alloc, order.limits, tally, at, frame, message),
-        Task::Canonical => serve_canonical(alloc, order.limits, message, text),
+        Task::Canonical => serve_canonical(alloc, order.limits, message, text, writer),
     }
 }
 
@@ -156,17 +169,20 @@ fn skip_message<S: Space, A: Allocator + Copy>(
 }
 
 impl Archivist {
-    /// Appends what a message writes, and keeps what is kept of it.
-    fn put_message<S: Space, A: Allocator + Copy>(
+    /// Adds what a message writes, and keeps what is kept of it.
+    fn add_message<S: Space, W: Write, A: Allocator + Copy>(
         &mut self,
         alloc: A,
         at: Position,
         frame: &[u8],
         message: &S,
         text: &mut Vec<u8, A>,
+        writer: &mut Watched<W>,
     ) -> Result<(), ServeFault>
-        ensures { PutsMessage spec.serves spec.refuses self.old at frame.now (S.message message.now) text.old.items
-            text.new.items result self.new }
+        requires { has_failed writer.old ≡ false }
+        ensures { DoesService spec.serves spec.refuses self.old at frame.now (S.message message.now)
+            (outgoing (W.contents (inner_of writer.old)) text.old.items)
+            (outgoing (W.contents (inner_of writer.new)) text.new.items) (has_failed writer.new) result self.new }
     {
         let served = serve_task(
             alloc,
@@ -176,6 +192,7 @@ impl Archivist {
             frame,
             message,
             text,
+            writer,
         );
         match served {
             Err(ServeFault::Refused(refusal)) if self.order.keep_going => skip_message(
@@ -209,7 +226,7 @@ impl Service for Archivist {
         text: &mut Vec<u8, A>,
         writer: &mut Watched<W>,
     ) -> Result<(), ServeFault> {
-        self.put_message(alloc, at, frame, message, text)?;
+        self.add_message(alloc, at, frame, message, text, writer)?;
         flush_long(text, writer)
     }
 }

@@ -1,10 +1,14 @@
 //! Canonical bytes as a frame of one segment.
 
-ghost use Rattle.std.specs.Prelude.{◌≡◌, ◌^◌, ◌<◌, length};
-ghost use Rattle.capn_archive.specs.CanonicalFrame.{framed, head, PutsFront, PutsText};
+ghost use Rattle.std.specs.Prelude.{◌≡◌, ◌^◌, ◌<◌, length, false};
+ghost use Rattle.capn_words.specs.Watched.{inner_of, has_failed};
+ghost use Rattle.capn_serve.specs.Outgoing.{outgoing};
+ghost use Rattle.capn_archive.specs.CanonicalFrame.{AddsText, framed, head};
 
-use capn_serve::ServeFault;
-use std::alloc::{AllocError, Allocator};
+use capn_serve::{ServeFault, add_bytes};
+use capn_words::Watched;
+use std::alloc::Allocator;
+use std::io::Write;
 
 /// The table of one segment of this number of words.
 #[tactic(auto, unfolding(capn_stream::specs::Frames::entry))]
@@ -15,25 +19,18 @@ fn head_of(words: u32) -> [u8; 8]
     [0, 0, 0, 0, a, b, c, d]
 }
 
-/// Appends the frame of one segment with these bytes. Where memory is refused, a beginning may stand there.
-fn push_frame<A: Allocator>(text: &mut Vec<u8, A>, bytes: &[u8]) -> Result<(), AllocError>
-    requires { length bytes.now < 2 ^ 34 }
-    ensures { PutsFront (framed bytes.now) text.old.items text.new.items result }
+/// Adds the frame of one segment with these bytes, which are not copied if they are long.
+pub(crate) fn add_frame<W: Write, A: Allocator>(
+    bytes: &[u8],
+    text: &mut Vec<u8, A>,
+    writer: &mut Watched<W>,
+) -> Result<(), ServeFault>
+    requires short { length bytes.now < 2 ^ 34 }
+    requires fine { has_failed writer.old ≡ false }
+    ensures { AddsText (framed bytes.now) (outgoing (W.contents (inner_of writer.old)) text.old.items)
+        (outgoing (W.contents (inner_of writer.new)) text.new.items) (has_failed writer.new) result }
 {
     let head = head_of((bytes.len() / 8) as u32);
-    text.extend_from_slice(&head)?;
-    text.extend_from_slice(bytes)
-}
-
-/// Appends it, or nothing where memory is refused.
-pub(crate) fn put_frame<A: Allocator>(text: &mut Vec<u8, A>, bytes: &[u8]) -> Result<(), ServeFault>
-    requires { length bytes.now < 2 ^ 34 }
-    ensures { PutsText (framed bytes.now) text.old.items text.new.items result }
-{
-    let kept = text.len();
-    if push_frame(text, bytes).is_err() {
-        text.truncate(kept);
-        return Err(ServeFault::Memory);
-    }
-    Ok(())
+    add_bytes(&head, text, writer)?;
+    add_bytes(bytes, text, writer)
 }

@@ -4,9 +4,8 @@ ghost use Rattle.std.specs.Prelude.{◌≡◌};
 ghost use Rattle.capn_words.specs.Message.{total};
 ghost use Rattle.capn_archive.specs.Findings as spec;
 
-use capn_serve::{Position, number_of};
+use capn_serve::Position;
 use capn_words::Space;
-use std::fmt;
 
 /// Where a message is, and how large.
 #[derive(Clone, Copy, Debug, PartialEq, Eq)]
@@ -19,22 +18,6 @@ pub struct Head {
     pub segments: u32,
     /// How many words its segments have in all.
     pub words: u32,
-}
-
-impl fmt::Display for Head {
-    ghost use Rattle.std.specs.Prelude.{Some};
-    ghost use Rattle.capn_archive.specs.Lines.{head_text};
-
-    ghost output = { λ head. Some (head_text head) };
-
-    fn fmt<W: fmt::Write>(&self, f: &mut fmt::Formatter<W>) -> fmt::Result {
-        let number = number_of(self.at.index);
-        write!(
-            f,
-            "{number} at {} bytes {} segments {} words {}",
-            self.at.offset, self.bytes, self.segments, self.words
-        )
-    }
 }
 
 /// The words of all segments.

@@ -9,14 +9,15 @@
 mod archive_run;
 mod archivist;
 mod canonical_frame;
-mod depth;
 mod digest;
 mod end_of_archive;
 mod fault;
 mod findings;
 mod head;
+mod line;
 mod lines;
 mod needs;
+mod one_segment;
 mod sieve;
 mod tally;
 mod task;

@@ -1,82 +1,67 @@
 //! The lines that are written of messages.
 
-ghost use Rattle.std.specs.Prelude.{◌≡◌, IfOk, IfErr, string_bytes};
-ghost use Rattle.capn_archive.specs.CanonicalFrame.{PutsText};
+ghost use Rattle.std.specs.Prelude.{◌≡◌, ◌++◌, codes, IfOk, IfErr, string_bytes};
+ghost use Rattle.capn_canon.specs.Display.{refusal_text};
+ghost use Rattle.capn_archive.specs.CanonicalFrame.{PutsFront, PutsText};
 ghost use Rattle.capn_archive.specs.Lines as spec;
 ghost use Rattle.capn_serve.specs.declared.fault.ServeFault.TheVariants as faults;
 
 use crate::findings::Findings;
 use crate::head::Head;
+use crate::line::Line;
 use capn_canon::Refusal;
 use capn_serve::ServeFault;
-use std::alloc::Allocator;
+use std::alloc::{AllocError, Allocator};
 
 /// The line of a message that is accepted.
-fn list_line<A: Allocator>(
-    alloc: A,
-    head: &Head,
-    findings: &Findings,
-) -> Result<String<A>, ServeFault>
-    ensures found { IfOk result (λ line. string_bytes line ≡ spec.list_line head.now findings.now) }
-    ensures only { IfErr result (λ e. e ≡ faults.Memory) }
+fn list_line(head: &Head, findings: &Findings) -> Line
+    ensures { result ≡ spec.list_line head.now findings.now }
 {
-    match format!(in alloc; "{head} {findings}\n") {
-        Ok(line) => Ok(line),
-        Err(_) => Err(ServeFault::Memory),
-    }
-}
-
-/// The digest of a message in 64 hexadecimal digits, or `-` if there is none.
-fn digest_text<A: Allocator>(alloc: A, digest: Option<[u8; 32]>) -> Result<String<A>, ServeFault>
-    ensures found { IfOk result (λ text. string_bytes text ≡ spec.digest_text digest) }
-    ensures only { IfErr result (λ e. e ≡ faults.Memory) }
-{
-    match digest {
-        Some(digest) => match hex::encode(alloc, digest.as_slice()) {
-            Ok(text) => Ok(text),
-            Err(_) => Err(ServeFault::Memory),
-        },
-        None => match format!(in alloc; "-") {
-            Ok(text) => Ok(text),
-            Err(_) => Err(ServeFault::Memory),
-        },
-    }
+    let mut line = Line::new();
+    line.put(b"\n");
+    line.put_findings(findings);
+    line.put(b" ");
+    line.put_head(head);
+    line
 }
 
 /// The line of a message that is accepted, with its digest.
-fn digests_line<A: Allocator + Copy>(
-    alloc: A,
-    head: &Head,
-    findings: &Findings,
-    digest: Option<[u8; 32]>,
-) -> Result<String<A>, ServeFault>
-    ensures found { IfOk result (λ line. string_bytes line ≡ spec.digests_line head.now findings.now digest) }
-    ensures only { IfErr result (λ e. e ≡ faults.Memory) }
+fn digests_line(head: &Head, findings: &Findings, digest: Option<[u8; 32]>) -> Line
+    ensures { result ≡ spec.digests_line head.now findings.now digest }
 {
-    let digest = digest_text(alloc, digest)?;
-    match format!(in alloc; "{head} {findings} sha256 {digest}\n") {
-        Ok(line) => Ok(line),
-        Err(_) => Err(ServeFault::Memory),
-    }
+    let mut line = Line::new();
+    line.put(b"\n");
+    line.put_digest(digest);
+    line.put(b" sha256 ");
+    line.put_findings(findings);
+    line.put(b" ");
+    line.put_head(head);
+    line
 }
 
-/// The line of a message that is passed over.
-fn refused_line<A: Allocator>(
-    alloc: A,
-    head: &Head,
-    refusal: &Refusal,
-) -> Result<String<A>, ServeFault>
-    ensures found { IfOk result (λ line. string_bytes line ≡ spec.refused_line head.now refusal.now) }
+/// Where a message is, and how large.
+fn head_text(head: &Head) -> Line
+    ensures { result ≡ spec.head_text head.now }
+{
+    let mut line = Line::new();
+    line.put_head(head);
+    line
+}
+
+/// The end of the line of a message that is passed over: why it is refused.
+fn refusal_end<A: Allocator>(alloc: A, refusal: &Refusal) -> Result<String<A>, ServeFault>
+    ensures found { IfOk result (λ text. string_bytes text ≡ codes " refused " ++ (refusal_text refusal.now
+        ++ codes "\n")) }
     ensures only { IfErr result (λ e. e ≡ faults.Memory) }
 {
-    match format!(in alloc; "{head} refused {refusal}\n") {
-        Ok(line) => Ok(line),
+    match format!(in alloc; " refused {refusal}\n") {
+        Ok(text) => Ok(text),
         Err(_) => Err(ServeFault::Memory),
     }
 }
 
 /// Appends some bytes, or nothing where memory is refused.
-pub(crate) fn put_bytes<A: Allocator>(text: &mut Vec<u8, A>, bytes: &[u8]) -> Result<(), ServeFault>
+fn put_bytes<A: Allocator>(text: &mut Vec<u8, A>, bytes: &[u8]) -> Result<(), ServeFault>
     ensures { PutsText bytes.now text.old.items text.new.items result }
 {
     match text.extend_from_slice(bytes) {
@@ -85,22 +70,47 @@ pub(crate) fn put_bytes<A: Allocator>(text: &mut Vec<u8, A>, bytes: &[u8]) -> Re
     }
 }
 
+/// Appends some bytes and others. Where memory is refused, a beginning may stand there.
+fn push_both<A: Allocator>(
+    text: &mut Vec<u8, A>,
+    front: &[u8],
+    back: &[u8],
+) -> Result<(), AllocError>
+    ensures { PutsFront (front.now ++ back.now) text.old.items text.new.items result }
+{
+    text.extend_from_slice(front)?;
+    text.extend_from_slice(back)
+}
+
+/// Appends them, or nothing where memory is refused.
+fn put_both<A: Allocator>(
+    text: &mut Vec<u8, A>,
+    front: &[u8],
+    back: &[u8],
+) -> Result<(), ServeFault>
+    ensures { PutsText (front.now ++ back.now) text.old.items text.new.items result }
+{
+    let kept = text.len();
+    if push_both(text, front, back).is_err() {
+        text.truncate(kept);
+        return Err(ServeFault::Memory);
+    }
+    Ok(())
+}
+
 /// Appends the line of a message that is accepted, or nothing where memory is refused.
-pub(crate) fn put_list_line<A: Allocator + Copy>(
-    alloc: A,
+pub(crate) fn put_list_line<A: Allocator>(
     head: &Head,
     findings: &Findings,
     text: &mut Vec<u8, A>,
 ) -> Result<(), ServeFault>
     ensures { PutsText (spec.list_line head.now findings.now) text.old.items text.new.items result }
 {
-    let line = list_line(alloc, head, findings)?;
-    put_bytes(text, line.as_bytes())
+    put_bytes(text, list_line(head, findings).as_bytes())
 }
 
 /// Appends the line of a message that is accepted, with its digest, or nothing where memory is refused.
-pub(crate) fn put_digests_line<A: Allocator + Copy>(
-    alloc: A,
+pub(crate) fn put_digests_line<A: Allocator>(
     head: &Head,
     findings: &Findings,
     digest: Option<[u8; 32]>,
@@ -108,8 +118,7 @@ pub(crate) fn put_digests_line<A: Allocator + Copy>(
 ) -> Result<(), ServeFault>
     ensures { PutsText (spec.digests_line head.now findings.now digest) text.old.items text.new.items result }
 {
-    let line = digests_line(alloc, head, findings, digest)?;
-    put_bytes(text, line.as_bytes())
+    put_bytes(text, digests_line(head, findings, digest).as_bytes())
 }
 
 /// Appends the line of a message that is passed over, or nothing where memory is refused.
@@ -121,6 +130,6 @@ pub(crate) fn put_refused_line<A: Allocator + Copy>(
 ) -> Result<(), ServeFault>
     ensures { PutsText (spec.refused_line head.now refusal.now) text.old.items text.new.items result }
 {
-    let line = refused_line(alloc, head, refusal)?;
-    put_bytes(text, line.as_bytes())
+    let end = refusal_end(alloc, refusal)?;
+    put_both(text, head_text(head).as_bytes(), end.as_bytes())
 }

@@ -1,16 +1,16 @@
 //! The service that leaves doubles out.
 
-ghost use Rattle.std.specs.Prelude.{◌≡◌, length};
-ghost use Rattle.capn_archive.specs.CanonicalFrame.{PutsText};
+ghost use Rattle.std.specs.Prelude.{◌≡◌, length, false};
+ghost use Rattle.capn_words.specs.Watched.{inner_of, has_failed};
+ghost use Rattle.capn_archive.specs.CanonicalFrame.{AddsText};
 ghost use Rattle.capn_archive.specs.Sieve as spec;
 ghost use Rattle.capn_archive.specs.Sieve.{Notes, TriesToSift};
-ghost use Rattle.capn_serve.specs.Service.{PutsMessage};
+ghost use Rattle.capn_serve.specs.Outgoing.{outgoing};
 
 use crate::digest::digest_of;
-use crate::lines::put_bytes;
 use crate::tally::{Skipped, one_more};
 use crate::uniq::Uniq;
-use capn_serve::{Position, ServeFault, Service, flush_long};
+use capn_serve::{Position, ServeFault, Service, add_bytes};
 use capn_words::{Space, Watched};
 use std::alloc::Allocator;
 use std::collections::BTreeSet;
@@ -54,19 +54,23 @@ fn note<A: Allocator + Clone>(
     }
 }
 
-/// Appends what a message writes: its frame, unless messages are only counted or it is a double.
-fn put_sifted<A: Allocator>(
-    text: &mut Vec<u8, A>,
+/// Adds what a message writes: its frame, unless messages are only counted or it is a double.
+fn add_sifted<W: Write, A: Allocator>(
     count: bool,
     is_double: bool,
     frame: &[u8],
+    text: &mut Vec<u8, A>,
+    writer: &mut Watched<W>,
 ) -> Result<(), ServeFault>
-    ensures { PutsText (spec.sifted_text count is_double frame.now) text.old.items text.new.items result }
+    requires { has_failed writer.old ≡ false }
+    ensures { AddsText (spec.sifted_text count is_double frame.now)
+        (outgoing (W.contents (inner_of writer.old)) text.old.items)
+        (outgoing (W.contents (inner_of writer.new)) text.new.items) (has_failed writer.new) result }
 {
     if count || is_double {
         return Ok(());
     }
-    put_bytes(text, frame)
+    add_bytes(frame, text, writer)
 }
 
 impl<B: Allocator> Sieve<B> {
@@ -113,41 +117,23 @@ impl<B: Allocator> Sieve<B> {
 
 impl<B: Allocator + Copy> Sieve<B> {
     /// Sifts a message.
-    fn sift<S: Space, A: Allocator + Copy>(
+    fn sift<S: Space, W: Write, A: Allocator + Copy>(
         &mut self,
         alloc: A,
         frame: &[u8],
         message: &S,
         text: &mut Vec<u8, A>,
+        writer: &mut Watched<W>,
     ) -> Result<(), ServeFault>
-        ensures { TriesToSift self.old frame.now (S.message message.now) text.old.items text.new.items result self.new }
+        requires { has_failed writer.old ≡ false }
+        ensures { TriesToSift self.old frame.now (S.message message.now)
+            (outgoing (W.contents (inner_of writer.old)) text.old.items)
+            (outgoing (W.contents (inner_of writer.new)) text.new.items) (has_failed writer.new) result self.new }
     {
         let digest = digest_of(alloc, self.order.limits, message)?;
         let is_double = note(&mut self.digests, digest)?;
-        put_sifted(text, self.order.count, is_double, frame)?;
         self.served = self.served.saturating_add(1);
-        Ok(())
-    }
-
-    /// Appends what a message writes, or passes it over.
-    fn put_message<S: Space, A: Allocator + Copy>(
-        &mut self,
-        alloc: A,
-        at: Position,
-        frame: &[u8],
-        message: &S,
-        text: &mut Vec<u8, A>,
-    ) -> Result<(), ServeFault>
-        ensures { PutsMessage spec.serves spec.refuses self.old at frame.now (S.message message.now) text.old.items
-            text.new.items result self.new }
-    {
-        match self.sift(alloc, frame, message, text) {
-            Err(ServeFault::Refused(_)) if self.order.keep_going => {
-                self.skipped = Some(one_more(self.skipped, at));
-                Ok(())
-            }
-            sifted => sifted,
-        }
+        add_sifted(self.order.count, is_double, frame, text, writer)
     }
 }
 
@@ -167,7 +153,12 @@ impl<B: Allocator + Copy> Service for Sieve<B> {
         text: &mut Vec<u8, A>,
         writer: &mut Watched<W>,
     ) -> Result<(), ServeFault> {
-        self.put_message(alloc, at, frame, message, text)?;
-        flush_long(text, writer)
+        match self.sift(alloc, frame, message, text, writer) {
+            Err(ServeFault::Refused(_)) if self.order.keep_going => {
+                self.skipped = Some(one_more(self.skipped, at));
+                Ok(())
+            }
+            sifted => sifted,
+        }
     }
 }

@@ -1,12 +1,13 @@
 -- What is surveyed and measured of one message are its figures.
 use Rattle.std.proofs.Common.{◌≡◌, ◌↔◌, ℕ, List, subst, sym, ◌∙◌}
 use Rattle.std.specs.Bool.{IsTrue}
+use Rattle.capn_walk.specs.Depth.{IsDepth}
 use Rattle.capn_walk.specs.Limits.{Bounds}
 use Rattle.capn_walk.specs.declared.survey_answer.Surveyed.{Surveyed}
 use Rattle.capn_canon.specs.SurveyedBytes.{Surveys}
 use Rattle.capn_canon.proofs.shared.OneReading.{one_message}
 use Rattle.capn_canon.specs.declared.form.Form.{Form}
-use Rattle.capn_c.specs.Figures.{AreMeasures, FiguresIn, IsDepth, MeasuresIn, reported_cap}
+use Rattle.capn_c.specs.Figures.{AreMeasures, FiguresIn, MeasuresIn, reported_cap}
 use Rattle.capn_c.specs.declared.figures.CapnFigures.{CapnFigures}
 use Rattle.capn_c.specs.declared.message_measures.Measured.{Measured}
 

@@ -1,6 +1,5 @@
 pub mod Counted
 pub mod Delivered
-pub mod Depths
 pub mod Entered
 pub mod Figured
 pub mod Least

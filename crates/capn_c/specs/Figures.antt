@@ -1,10 +1,11 @@
 -- What is reported of a message that is read. (Own.)
-use Rattle.std.specs.Prelude.{◌≡◌, ◌⊎◌, ◌↔◌, ℕ, zero, suc, ◌<◌, List, length, Option, Some, None}
+use Rattle.std.specs.Prelude.{◌≡◌, ◌⊎◌, ◌↔◌, ℕ, zero, suc, List, length, Option, Some, None}
 use Rattle.std.specs.Bool.{IsTrue}
 use Rattle.capn_words.specs.Message.{bytes, segment_at, total}
 use Rattle.capn_value.specs.Tree.{Tree}
 use Rattle.capn_value.specs.FirstCap.{first_cap}
-use Rattle.capn_walk.specs.Accepted.{IsAccepted, IsValueOf, number_of_visits, paid}
+use Rattle.capn_walk.specs.Accepted.{IsValueOf, number_of_visits, paid}
+use Rattle.capn_walk.specs.Depth.{IsDepth}
 use Rattle.capn_walk.specs.Limits.{Bounds}
 use Rattle.capn_canon.specs.Layout.{canon}
 use Rattle.capn_canon.specs.Reads.{Reads}
@@ -15,15 +16,6 @@ use Rattle.capn_c.specs.declared.message_measures.Measured.{Measured}
 -- a number names a form whose bytes are those of the message itself
 abbrev pub IsFlat : ℕ → Type 0
 IsFlat n = (n ≡ 0) ⊎ (n ≡ 2)
-
--- the same limits with another depth
-abbrev pub at_depth : Bounds → ℕ → Bounds
-at_depth l d = record { message_words = l.message_words; budget = l.budget; depth = d; tariff = l.tariff }
-
--- the least depth under which a message is accepted: 0 for a null root alone
-pub record IsDepth (message : List (List ℕ)) (limits : Bounds) (d : ℕ) : Type 0 where
-  pub enough : IsAccepted message (at_depth limits d)
-  pub least : (e : ℕ) → e < d → IsAccepted message (at_depth limits e) → ⊥
 
 -- the message has one segment, whose bytes are the canonical bytes of its value
 pub record IsCanonicalMessage (message : List (List ℕ)) (limits : Bounds) : Type 0 where

@@ -1,18 +1,18 @@
 //! What a message comes to beside its price.
 
-ghost use Rattle.std.specs.Prelude.{IsTrue, ◌≡◌, ◌↔◌, ◌<◌, ◌≤◌, [], ◌∷◌, Some, None, true, false, IfSome, length};
+ghost use Rattle.std.specs.Prelude.{IsTrue, ◌≡◌, ◌↔◌, ◌<◌, [], ◌∷◌, None, IfSome};
 ghost use Rattle.capn_words.specs.Message.{total};
 ghost use Rattle.capn_value.specs.Tree.{Tree as Value};
-ghost use Rattle.capn_walk.specs.Accepted.{IsAccepted, IsValueOf};
-ghost use Rattle.capn_walk.specs.Limits.{Bounds};
+ghost use Rattle.capn_walk.specs.Accepted.{IsValueOf};
+ghost use Rattle.capn_walk.specs.Depth.{IsDepth};
 ghost use Rattle.capn_canon.specs.Denotes.{Denotes};
 ghost use Rattle.capn_canon.specs.MemoryNeed.{MayNeedMemory};
 ghost use Rattle.capn_canon.specs.declared.form.Form.TheVariants as forms;
-ghost use Rattle.capn_c.specs.Figures.{AreMeasures, IsCanonicalMessage, IsDepth, MeasuresIn, at_depth};
+ghost use Rattle.capn_c.specs.Figures.{AreMeasures, IsCanonicalMessage, MeasuresIn};
 
 use capn_canon::survey_bare;
 use capn_stream::first;
-use capn_walk::{Fault, Limits, Target, resolve, survey};
+use capn_walk::{Limits, survey_depth};
 use capn_words::{Bare, Place, Space};
 use std::alloc::Global;
 
@@ -49,74 +49,15 @@ fn words_of_all<S: Space>(space: &S) -> u32
     total
 }
 
-/// The same limits with a lower depth.
-fn limits_at(limits: Limits, depth: u32) -> Limits
-    requires some { 1 ≤ depth }
-    requires within { depth ≤ limits.depth }
-    ensures { result ≡ at_depth limits depth }
-{
-    let _deepest = limits.depth();
-    match Limits::new(limits.message_words(), limits.budget(), depth) {
-        Some(strict) => strict.with_tariff(limits.tariff()),
-        None => unreachable!(),
-    }
-}
-
-/// Whether it is null.
-fn is_nil(target: Target) -> bool
-    ensures { IsTrue result ↔ (target ≡ Target.Nil) }
-{
-    match target {
-        Target::Nil => true,
-        Target::Cap(_) => false,
-        Target::Content { .. } => false,
-    }
-}
-
-/// Whether a message has a null root, and so is accepted at depth 0.
-fn is_null<S: Space>(space: &S) -> bool
-    ensures { (limits : Bounds) → IsTrue result ↔ IsAccepted (S.message space.now) (at_depth limits 0) }
-{
-    if space.words(0).unwrap_or(0) == 0 {
-        return false;
-    }
-    match resolve(space, ROOT) {
-        Ok(target) => is_nil(target),
-        Err(_) => false,
-    }
-}
-
-/// Whether a message is accepted, or `None` where memory was refused.
-fn is_accepted<S: Space>(alloc: Global, space: &S, limits: Limits) -> Option<bool>
-    ensures yes { result ≡ Some true → IsAccepted (S.message space.now) limits }
-    ensures no { result ≡ Some false → IsAccepted (S.message space.now) limits → ⊥ }
-    ensures memory { result ≡ None → 64 < limits.depth }
-{
-    match survey(alloc, space, limits) {
-        Ok(_) => Some(true),
-        Err(stopped) => match stopped.fault {
-            Fault::Memory => None,
-            _ => Some(false),
-        },
-    }
-}
-
 /// The least depth under which a message is accepted, or `None` where it is not, or memory was refused.
 fn depth_of<S: Space>(alloc: Global, space: &S, limits: Limits) -> Option<u32>
     ensures found { IfSome result (λ d. IsDepth (S.message space.now) limits d) }
     ensures memory { (v : Value) → IsValueOf (S.message space.now) limits v → result ≡ None → 64 < limits.depth }
 {
-    if is_null(space) {
-        return Some(0);
+    match survey_depth(alloc, space, limits) {
+        Ok(told) => Some(told.depth),
+        Err(_) => None,
     }
-    for depth in 1..limits.depth() + 1 {
-        match is_accepted(alloc, space, limits_at(limits, depth)) {
-            Some(true) => return Some(depth),
-            Some(false) => {}
-            None => return None,
-        }
-    }
-    None
 }
 
 /// Whether the bytes of a message of one segment are canonical, or `None` where memory was refused.

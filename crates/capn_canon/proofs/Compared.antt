@@ -2,16 +2,13 @@
 -- below it.
 use Rattle.std.proofs.Common.{◌≡◌, ◌⊎◌, inl, inr, ℕ, zero, suc, ◌+◌, ◌^◌, ◌<◌, ◌≤◌, List, [], ◌∷◌, ◌++◌}
 use Rattle.std.proofs.Common.{length, take, slice_index, Ok, refl, ap, ap₂, sym, subst, ◌∙◌, arith}
-use Rattle.std.proofs.Common.{Option, false}
+use Rattle.std.proofs.Common.{false}
 use Rattle.std.specs.Bool.{IsTrue}
 use Rattle.std.proofs.lemmas.List.{take_all}
 use Rattle.capn_words.specs.Message.{segment_at}
-use Rattle.capn_words.specs.Pointers.{word_of}
-use Rattle.capn_words.specs.declared.pointer.Pointer.TheVariants.{Cap}
 use Rattle.capn_words.specs.declared.pointer.Width.TheVariants.{Link}
-use Rattle.capn_value.specs.Tree.{Tree, nil, cap, node, links, Trees, no_trees, tree, count}
+use Rattle.capn_value.specs.Tree.{Tree, nil, node, links, Trees, no_trees, tree, count}
 use Rattle.capn_value.specs.Trim.{kept_words, kept_slots}
-use Rattle.capn_value.specs.Cost.{height}
 use Rattle.capn_walk.specs.declared.target.Target.TheVariants as targets
 use Rattle.capn_walk.specs.declared.target.Shape.TheVariants as shapes
 use Rattle.capn_walk.specs.Target.{target}
@@ -22,12 +19,11 @@ use Rattle.capn_canon.specs.inner.Sound.{Sound}
 use Rattle.capn_canon.proofs.LaidPointers.{struct-names, list-names}
 use Rattle.capn_canon.proofs.KeptLengths.{kept_words-le, kept_slots-le}
 use Rattle.capn_canon.proofs.LayLengths.{length-lay, length-points}
-use Rattle.capn_canon.specs.inner.ReadyPlaces.{AreReady}
-use Rattle.capn_canon.specs.inner.WordsOfLayout.{Stand, IsLaidAt, AreLaidAt, AnswersIf}
+use Rattle.capn_canon.specs.inner.WordsOfLayout.{Stand, IsLaidAt, AreLaidAt}
 use Rattle.capn_canon.proofs.Nulls.{kept-slots}
 use Rattle.capn_canon.proofs.Shaped.{IsNode, as-node, IsLinks, as-links}
 use Rattle.capn_canon.proofs.Standing.{stand-none, stand-join, stand-front, stand-back, stand-room, stand-cons}
-use Rattle.capn_canon.proofs.Standing.{stand-head, stand-tail, told}
+use Rattle.capn_canon.proofs.Standing.{stand-head, stand-tail}
 
 point-node : (ws : List ℕ) (ss : Trees) (from to : ℕ)
     → point (node ws ss) from to ≡ struct_to from to (kept_words ws) (kept_slots ss)
@@ -56,13 +52,6 @@ pub null-told : (all : List ℕ) (v : Tree) (from to : ℕ) → v ≡ nil → sl
     × (to ≡ to + size v)
 unfolding point
 null-told all v from to e z =
-    subst (λ (x : Tree). IsLaidAt all x from to × (to ≡ to + size x)) (sym e)
-    (record { pointer = z; content = stand-none all to }, omega arith)
-
-pub cap-told : (all : List ℕ) (v : Tree) (k from to : ℕ) → v ≡ cap k → slice_index all from ≡ word_of (Cap k)
-    → IsLaidAt all v from to × (to ≡ to + size v)
-unfolding point
-cap-told all v k from to e z =
     subst (λ (x : Tree). IsLaidAt all x from to × (to ≡ to + size x)) (sym e)
     (record { pointer = z; content = stand-none all to }, omega arith)
 
@@ -261,26 +250,6 @@ module _ (all : List ℕ) (a b s w from to pads : ℕ)
     struct-size = let z : size v ≡ kept_words struct-is.words + kept_slots struct-is.slots + sizes struct-is.slots =
         ap size struct-is.is in let x = kw in let y = ks in omega arith
 
-    pub struct-told : (r : Option ℕ)
-        → ((ts : Trees) → AreAt (all ∷ []) 0 (to + a) ts → count ts ≡ b
-        → AnswersIf (AreLaidAt all ts (to + a) (to + a + b)) (to + a + b + sizes ts) r) →
-        AnswersIf (IsLaidAt all v from to) (to + size v) r
-    struct-told r h =
-        told (AreLaidAt all struct-is.slots (to + a) (to + a + b)) (IsLaidAt all v from to)
-        (to + a + b + sizes struct-is.slots) (to + size v) r
-        struct-from-slots struct-to-slots struct-size (h struct-is.slots slots-here struct-is.count)
-
-    pub struct-ready : (depth : ℕ) → height v ≤ suc depth → to + size v ≤ 2 ^ 29
-        → AreReady (all ∷ []) 0 (to + a) b depth (to + a + b)
-    struct-ready depth low r = record {
-      values = struct-is.slots;
-      are = slots-here;
-      count = struct-is.count;
-      sound = struct-sound.2;
-      low = let z = ap height struct-is.is in omega arith;
-      room = let z = struct-size in omega arith;
-    }
-
 -- ---- a list of pointers
 
 module _ (all : List ℕ) (n s w from to pads : ℕ)
@@ -296,7 +265,7 @@ module _ (all : List ℕ) (n s w from to pads : ℕ)
   pub links-few : n < 2 ^ 29
   links-few = let c = links-is.count in let d = links-sound.0 in omega arith
 
-  size-is : size v ≡ n + sizes links-is.slots
+  pub size-is : size v ≡ n + sizes links-is.slots
   size-is = ap size links-is.is ∙ ap (λ (k : ℕ). k + sizes links-is.slots) links-is.count
 
   pointer-is : point v from to ≡ list_to from to Link n
@@ -344,24 +313,4 @@ module _ (all : List ℕ) (n s w from to pads : ℕ)
       content = subst (Stand all to) (sym links-lay)
           (stand-join all to (points links-is.slots to (to + n)) (lays links-is.slots (to + n)) h.pointers
           (subst (λ (k : ℕ). Stand all (to + k) (lays links-is.slots (to + n))) (sym links-length) h.contents));
-    }
-
-    pub links-told : (r : Option ℕ)
-        → ((ts : Trees) → AreAt (all ∷ []) 0 to ts → count ts ≡ n
-        → AnswersIf (AreLaidAt all ts to (to + n)) (to + n + sizes ts) r) →
-        AnswersIf (IsLaidAt all v from to) (to + size v) r
-    links-told r h =
-        told (AreLaidAt all links-is.slots to (to + n)) (IsLaidAt all v from to) (to + n + sizes links-is.slots)
-        (to + size v) r
-        links-from-slots links-to-slots (let z = size-is in omega arith) (h links-is.slots links-here links-is.count)
-
-    pub links-check : (depth : ℕ) → height v ≤ suc depth → to + size v ≤ 2 ^ 29
-        → AreReady (all ∷ []) 0 to n depth (to + n)
-    links-check depth low r = record {
-      values = links-is.slots;
-      are = links-here;
-      count = links-is.count;
-      sound = links-sound.1;
-      low = let z = ap height links-is.is in omega arith;
-      room = let z = size-is in omega arith;
     }

@@ -35,7 +35,7 @@ length-first n ws h =
     let c = length-last (n % 64) (drop (n / 64) ws) (omega arith) in
     omega arith
 
-plain-too : (k : Width) → IsPlain k → one.IsPlain k
+pub plain-too : (k : Width) → IsPlain k → one.IsPlain k
 plain-too W0 h = tt
 plain-too W1 h = tt
 plain-too W8 h = tt

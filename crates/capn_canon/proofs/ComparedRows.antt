@@ -1,36 +1,32 @@
 -- Rows stand as their layout exactly if they keep all their words and slots, at the next free word, and so on below
 -- them.
-use Rattle.std.proofs.Common.{◌≡◌, ◌↔◌, ℕ, zero, suc, ◌+◌, ◌-◌, ◌*◌, ◌^◌, ◌<◌, ◌≤◌, List, [], ◌∷◌, ◌++◌}
+use Rattle.std.proofs.Common.{◌≡◌, ℕ, suc, ◌+◌, ◌*◌, ◌^◌, ◌<◌, ◌≤◌, List, [], ◌∷◌, ◌++◌}
 use Rattle.std.proofs.Common.{length, slice_index, Ok, refl, ap, ap₂, sym, subst, ◌∙◌, arith}
-use Rattle.std.proofs.Common.{Option}
 use Rattle.std.specs.Prelude.{pos}
 use Rattle.std.proofs.lemmas.List.{take_all}
 use Rattle.capn_words.specs.Message.{segment_at}
 use Rattle.capn_words.specs.Pointers.{word_of}
 use Rattle.capn_words.specs.declared.pointer.Pointer.TheVariants.{Node}
 use Rattle.capn_words.specs.declared.pointer.Width.TheVariants.{Rows}
-use Rattle.capn_value.specs.Tree.{Tree, rows, Trees, count, Bodies, no_bodies, body, count_rows}
+use Rattle.capn_value.specs.Tree.{Tree, rows, Trees, count, Bodies, body, count_rows}
 use Rattle.capn_value.specs.Trim.{kept_words_of_rows, kept_slots_of_rows}
-use Rattle.capn_value.specs.Cost.{height, greatest, greatest_in_rows}
 use Rattle.capn_walk.specs.declared.target.Target.TheVariants as targets
 use Rattle.capn_walk.specs.declared.target.Shape.TheVariants as shapes
 use Rattle.capn_walk.specs.Target.{target}
-use Rattle.capn_walk.specs.ValueAt.{AreAt, RowsAt}
+use Rattle.capn_walk.specs.ValueAt.{RowsAt}
 use Rattle.capn_walk.specs.ValueAt.{IsInside}
-use Rattle.capn_walk.proofs.shared.Unique.{unique-rows}
 use Rattle.capn_canon.specs.Layout.{own, size, sizes, sizes_in_rows, row_size, point, points, lay, lays, row_contents}
 use Rattle.capn_canon.specs.Layout.{lays_in_rows, list_to}
-use Rattle.capn_canon.specs.inner.Sound.{Sound, Sounds, SoundRows, AreWide}
+use Rattle.capn_canon.specs.inner.Sound.{Sound, Sounds, AreWide}
 use Rattle.capn_canon.proofs.LaidPointers.{rows-names}
 use Rattle.capn_canon.proofs.LayLengths.{length-lays, length-points, length-row_contents}
 use Rattle.capn_canon.specs.inner.RowWords.{kept_each}
-use Rattle.capn_canon.specs.inner.ReadyPlaces.{AreReady}
-use Rattle.capn_canon.specs.inner.WordsOfLayout.{Stand, IsLaidAt, AreLaidAt, RowsLaidAt, AnswersIf, AreReadyRows}
+use Rattle.capn_canon.specs.inner.WordsOfLayout.{Stand, IsLaidAt, AreLaidAt, RowsLaidAt}
 use Rattle.capn_canon.proofs.EachRow.{kept-rows-words, kept-rows-slots}
 use Rattle.capn_canon.proofs.Shaped.{IsRows, as-rows}
 use Rattle.capn_canon.proofs.Compared.{laid-room}
-use Rattle.capn_canon.proofs.Standing.{stand-none, stand-join, stand-front, stand-back, stand-room, stand-cons}
-use Rattle.capn_canon.proofs.Standing.{stand-head, stand-tail, told}
+use Rattle.capn_canon.proofs.Standing.{stand-join, stand-front, stand-back, stand-cons}
+use Rattle.capn_canon.proofs.Standing.{stand-head, stand-tail}
 
 -- ---- a row before the others
 
@@ -85,148 +81,6 @@ module _ (all : List ℕ) (a b : ℕ) (ws : List ℕ) (ss : Trees) (bs : Bodies)
             (subst (λ (j : ℕ). Stand all (to + j) (lays_in_rows bs (to + sizes ss))) (sym (length-lays ss to o))
             k.contents);
       }
-
--- ---- the loop over rows
-
-abbrev pub SameRows : List ℕ → ℕ → ℕ → ℕ → ℕ → ℕ → ℕ → ℕ → ℕ → Type 0
-SameRows all a b n first end i row at =
-    (cs bs : Bodies) → RowsAt (all ∷ []) a b 0 row cs → count_rows cs ≡ n - i → RowsAt (all ∷ []) a b 0 first bs
-    → count_rows bs ≡ n
-    → (RowsLaidAt all a b bs first end ↔ RowsLaidAt all a b cs row at)
-    × (at + sizes_in_rows cs ≡ end + sizes_in_rows bs)
-
-pub rows-same-begins : (all : List ℕ) (a b n first end : ℕ) → SameRows all a b n first end 0 first end
-rows-same-begins all a b n first end cs bs hc ec hb eb =
-    let e : cs ≡ bs = unique-rows (all ∷ []) cs bs a b 0 first (omega arith) hc hb in (
-      (
-        (λ h. subst (λ (x : Bodies). RowsLaidAt all a b x first end) (sym e) h),
-        (λ h. subst (λ (x : Bodies). RowsLaidAt all a b x first end) e h),
-      ),
-      ap (λ (x : Bodies). end + sizes_in_rows x) e,
-    )
-
-pub record IsThis (all : List ℕ) (a b row number depth at : ℕ) : Type 0 where
-  pub words : List ℕ
-  pub slots : Trees
-  pub others : Bodies
-  pub wide : length words ≡ a
-  pub long : count slots ≡ b
-  pub own : Stand all row words
-  pub below : AreAt (all ∷ []) 0 (row + a) slots
-  pub are : RowsAt (all ∷ []) a b 0 (row + a + b) others
-  pub count : suc (count_rows others) ≡ number
-  pub sound : Sounds slots
-  pub sounds : SoundRows others
-  pub low : greatest slots ≤ depth
-  pub lows : greatest_in_rows others ≤ depth
-  pub room : at + sizes slots + sizes_in_rows others ≤ 2 ^ 29
-
-this-of : (all : List ℕ) (a b row number depth at : ℕ) (bs : Bodies) → RowsAt (all ∷ []) a b 0 row bs
-    → count_rows bs ≡ number → 0 < number → SoundRows bs → greatest_in_rows bs ≤ depth →
-    at + sizes_in_rows bs ≤ 2 ^ 29 → IsThis all a b row number depth at
-this-of all a b row number depth at no_bodies h e lt o g r = absurd (omega arith)
-this-of all a b row number depth at (body ws ss bs) h e lt o g r = record {
-  words = ws;
-  slots = ss;
-  others = bs;
-  wide = h.0;
-  long = h.1;
-  own = h.2;
-  below = h.3;
-  are = h.4;
-  count = e;
-  sound = o.0;
-  sounds = o.1;
-  low = omega arith;
-  lows = omega arith;
-  room = omega arith;
-}
-
-module _ (all : List ℕ) (a b n first end depth i row at : ℕ) (lt : i < n)
-    (ready : AreReadyRows (all ∷ []) 0 row a b (n - i) depth at) (same : SameRows all a b n first end i row at) where
-  pub this : IsThis all a b row (n - i) depth at
-  this = this-of all a b row (n - i) depth at ready.values ready.are ready.count (omega arith) ready.sound ready.low
-      ready.room
-
-  pub row-check : AreReady (all ∷ []) 0 (row + a) b depth at
-  row-check = record {
-    values = this.slots;
-    are = this.below;
-    count = this.long;
-    sound = this.sound;
-    low =
-        this.low;
-    room = let r = this.room in omega arith;
-  }
-
-  module _ (h : (ts : Trees) → AreAt (all ∷ []) 0 (row + a) ts → count ts ≡ b → AreLaidAt all ts (row + a) at → ⊥) where
-    pub rows-fail : (bs : Bodies) → RowsAt (all ∷ []) a b 0 first bs → count_rows bs ≡ n
-        → RowsLaidAt all a b bs first end → ⊥
-    rows-fail bs hb eb x =
-        let c = this.count in
-        let s = same (body this.words this.slots this.others) bs (this.wide, this.long, this.own, this.below, this.are)
-        (omega arith) hb eb in
-        h this.slots this.below this.long
-        (row-first all a b this.words this.slots this.others row at this.wide this.long this.own this.sound
-        (s.0.0 x))
-
-  module _ (k : ℕ) (h : (ts : Trees) → AreAt (all ∷ []) 0 (row + a) ts → count ts ≡ b → AreLaidAt all ts (row + a) at
-      × (k ≡ at + sizes ts)) where
-    laid-this : AreLaidAt all this.slots (row + a) at × (k ≡ at + sizes this.slots)
-    laid-this = h this.slots this.below this.long
-
-    pub rows-grown : at ≤ k
-    rows-grown = let e = laid-this.1 in omega arith
-
-    pub rows-within : at ≤ length all → k ≤ length all
-    rows-within le = inside (sizes this.slots) (length-lays this.slots at this.sound)
-      where
-        inside : (n : ℕ) → length (lays this.slots at) ≡ n → k ≤ length all
-        inside n e = let f = laid-this.1 in let g = length-lays this.slots at this.sound in
-            bounded (length (lays this.slots at)) refl
-          where
-            bounded : (j : ℕ) → length (lays this.slots at) ≡ j → k ≤ length all
-            bounded zero z = let f = laid-this.1 in let g = length-lays this.slots at this.sound in omega arith
-            bounded (suc j) z = let f = laid-this.1 in let g = length-lays this.slots at this.sound in let r =
-                stand-room all at (lays this.slots at) (omega arith) laid-this.0.contents in omega arith
-
-    pub rows-ready-then : AreReadyRows (all ∷ []) 0 (row + (a + b)) a b (n - (i + 1)) depth k
-    rows-ready-then = record {
-      values = this.others;
-      are = let d : row + a + b ≡ row + (a + b) = omega arith in
-          subst (λ (x : ℕ). RowsAt (all ∷ []) a b 0 x this.others) d this.are;
-      count = let c = this.count in omega arith;
-      sound = this.sounds;
-      low = this.lows;
-      room = let r = this.room in let e = laid-this.1 in omega arith;
-    }
-
-    pub rows-same-then : SameRows all a b n first end (i + 1) (row + (a + b)) k
-    rows-same-then cs bs hc ec hb eb =
-        let d : row + (a + b) ≡ row + a + b = omega arith in
-        let full : RowsAt (all ∷ []) a b 0 row (body this.words this.slots cs) =
-        (this.wide, this.long, this.own, this.below, subst (λ (x : ℕ). RowsAt (all ∷ []) a b 0 x cs) d hc) in
-        let s = same (body this.words this.slots cs) bs full (omega arith) hb eb in
-        let e = laid-this.1 in
-        let f = s.1 in (
-          (
-            (λ (x : RowsLaidAt all a b bs first end). rw (d, e)
-                (row-others all a b this.words this.slots cs row at this.wide this.long this.own this.sound (s.0.0 x))),
-            (λ (x : RowsLaidAt all a b cs (row + (a + b)) k). s.0.1
-                (row-both all a b this.words this.slots cs row at this.wide this.long this.own this.sound laid-this.0
-                (subst (λ (y : ℕ). RowsLaidAt all a b cs (row + a + b) y) e
-                (subst (λ (y : ℕ). RowsLaidAt all a b cs y k) d x)))),
-          ),
-          omega arith,
-        )
-
-pub rows-same-ends : (all : List ℕ) (a b n first end i row at : ℕ) → n ≤ i → SameRows all a b n first end i row at
-    → (bs : Bodies) → RowsAt (all ∷ []) a b 0 first bs → count_rows bs ≡ n →
-    RowsLaidAt all a b bs first end × (at ≡ end + sizes_in_rows bs)
-rows-same-ends all a b n first end i row at le same bs hb eb =
-    let s = same no_bodies bs tt (omega arith) hb eb in
-    let e = s.1 in
-    (s.0.1 (record { rows = stand-none all row; contents = stand-none all at }), omega arith)
 
 -- ---- the tag and the rows
 
@@ -299,10 +153,10 @@ module _ (all : List ℕ) (n a b span s w from to pads : ℕ)
       (kb : kept_each (all ∷ []) s (w + 1 + a) b (a + b) n ≡ b)
       (p : slice_index all from ≡ list_to from to Rows (n * (a + b)))
       (room : to + (1 + n * (a + b)) ≤ length all) (t : slice_index all to ≡ word_of (Node (pos n) a b)) where
-    kw : kept_words_of_rows rows-is.bodies ≡ a
+    pub kw : kept_words_of_rows rows-is.bodies ≡ a
     kw = ex ∙ ka
 
-    ks : kept_slots_of_rows rows-is.bodies ≡ b
+    pub ks : kept_slots_of_rows rows-is.bodies ≡ b
     ks = ey ∙ kb
 
     total : count_rows rows-is.bodies * row_size rows-is.bodies ≡ n * (a + b)
@@ -382,27 +236,6 @@ module _ (all : List ℕ) (n a b span s w from to pads : ℕ)
               (subst (λ (k : ℕ). Stand all k (rc ++ lr)) u x));
         }
 
-    rows-size : to + 1 + n * (a + b) + sizes_in_rows rows-is.bodies ≡ to + size v
+    pub rows-size : to + 1 + n * (a + b) + sizes_in_rows rows-is.bodies ≡ to + size v
     rows-size = let z : size v ≡ 1 + count_rows rows-is.bodies * row_size rows-is.bodies
         + sizes_in_rows rows-is.bodies = ap size rows-is.is in let q = total in omega arith
-
-    pub rows-told : (r : Option ℕ)
-        → ((bs : Bodies) → RowsAt (all ∷ []) a b 0 (to + 1) bs → count_rows bs ≡ n
-        → AnswersIf (RowsLaidAt all a b bs (to + 1) (to + 1 + n * (a + b)))
-        (to + 1 + n * (a + b) + sizes_in_rows bs) r) →
-        AnswersIf (IsLaidAt all v from to) (to + size v) r
-    rows-told r h =
-        told (RowsLaidAt all a b rows-is.bodies (to + 1) (to + 1 + n * (a + b))) (IsLaidAt all v from to)
-        (to + 1 + n * (a + b) + sizes_in_rows rows-is.bodies) (to + size v) r
-        rows-from-slots rows-to-slots rows-size (h rows-is.bodies rows-here rows-is.count)
-
-    pub rows-check : (depth : ℕ) → height v ≤ suc depth → to + size v ≤ 2 ^ 29
-        → AreReadyRows (all ∷ []) 0 (to + 1) a b n depth (to + 1 + n * (a + b))
-    rows-check depth low r = record {
-      values = rows-is.bodies;
-      are = rows-here;
-      count = rows-is.count;
-      sound = rows-sound.5;
-      low = let z = ap height rows-is.is in omega arith;
-      room = let z = rows-size in omega arith;
-    }

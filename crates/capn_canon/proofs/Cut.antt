@@ -94,3 +94,15 @@ take-less (suc k) (suc n) (x ∷ xs) h = ap (λ (ys : List ℕ). x ∷ ys) (take
 -- what is kept of a part are the first words
 pub kept-part : (n : ℕ) (xs : List ℕ) → take (kept_words (take n xs)) (take n xs) ≡ take (kept_words (take n xs)) xs
 kept-part n xs = take-less (kept_words (take n xs)) n xs (part-le n xs)
+
+-- all of some words are kept exactly if the last of them isn't zero
+module _ (seg : List ℕ) (w count : ℕ) (some : 0 < count) where
+  pub all-kept : slice_index seg (w + (count - 1)) ≢ 0 → kept_words (take count (drop w seg)) ≡ count
+  all-kept h =
+      let e = kept-found seg w count 0 count some (omega arith) (λ k l m. absurd (omega arith)) h in
+      omega arith
+
+  pub last-kept : kept_words (take count (drop w seg)) ≡ count → slice_index seg (w + (count - 1)) ≡ 0 → ⊥
+  last-kept e z =
+      let c = cut seg w count (count - 1) (λ k l m. let d : k ≡ count - 1 = omega arith in rw d z) in
+      omega arith

@@ -7,11 +7,18 @@ pub mod Bytes
 pub mod CanonOfTrimmed
 pub mod Cells
 pub mod Drafted
+pub mod DueComposite
+pub mod DueLists
+pub mod DueObjects
+pub mod DueRoot
+pub mod DueSlots
+pub mod DueWords
 pub mod EqualExactlySame
 pub mod Flags
 pub mod Headline
 pub mod Holes
 pub mod InEachForm
+pub mod InPlace
 pub mod InRangeAt
 pub mod KeptLengths
 pub mod Laid
@@ -21,6 +28,7 @@ pub mod LayLengths
 pub mod OneBare
 pub mod OneSegment
 pub mod PackedBits
+pub mod PassLeads
 pub mod PackedBytes
 pub mod PackedElements
 pub mod Patched
@@ -32,11 +40,7 @@ pub mod Sound
 pub mod StandsIn
 pub mod Tight
 pub mod Nulls
-pub mod Onward
-pub mod Pointed
-pub mod PointedLists
-pub mod PointedRows
-pub mod PointedStructs
+pub mod NumbersInPlace
 pub mod Cut
 pub mod Shaped
 pub mod Front
@@ -52,6 +56,7 @@ pub mod Standing
 pub mod Compared
 pub mod ComparedList
 pub mod ComparedRows
+pub mod CanonicalSurvey
 pub mod CanonicalWords
 pub mod FoundNear
 pub mod MemoryNeeds

@@ -24,7 +24,7 @@ use Rattle.capn_canon.proofs.ReadBack.{read_back, pays_cost}
 use Rattle.capn_canon.proofs.BareCanon.{canon_is_bare, words_in_canon}
 
 -- the root's visits are those of its slot, where a value that may be a root stands there
-root-alone : (m : List (List ℕ)) (base depth : ℕ) (v : Tree) → is_root v ≡ true → IsAt m root v
+pub root-alone : (m : List (List ℕ)) (base depth : ℕ) (v : Tree) → is_root v ≡ true → IsAt m root v
     → root_visits m base depth ≡ visits m base depth root
 unfolding root_visits
 root-alone m base depth nil k h = ap (λ r. visits_at_root m base r (visits m base depth root)) h

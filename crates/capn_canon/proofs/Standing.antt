@@ -1,10 +1,10 @@
 -- Words that stand in others, cut and joined.
 use Rattle.std.proofs.Common.{◌≡◌, ℕ, zero, suc, ◌+◌, ◌<◌, ◌≤◌, List, [], ◌∷◌, ◌++◌, length}
 use Rattle.std.proofs.Common.{take, drop, slice_index, refl, ap, ap₂, sym, ◌∙◌, arith, length-append}
-use Rattle.std.proofs.Common.{length-drop, Option, Some, None}
+use Rattle.std.proofs.Common.{length-drop}
 use Rattle.std.proofs.Math.Seq.{drop-cons}
 use Rattle.std.proofs.lemmas.List.{drop-drop}
-use Rattle.capn_canon.specs.inner.WordsOfLayout.{Stand, AnswersIf}
+use Rattle.capn_canon.specs.inner.WordsOfLayout.{Stand}
 
 pub take-plus : (m n : ℕ) (xs : List ℕ) → take (m + n) xs ≡ take m xs ++ take n (drop m xs)
 take-plus zero n xs = let e : 0 + n ≡ n = omega arith in ap (λ (k : ℕ). take k xs) e
@@ -86,8 +86,3 @@ module _ (all : List ℕ) (at : ℕ) where
 
   pub stand-tail : (x : ℕ) (xs : List ℕ) → at < length all → Stand all at (x ∷ xs) → Stand all (suc at) xs
   stand-tail x xs lt h = let e = sym (ap (λ (zs : List ℕ). take (suc (length xs)) zs) (drop-cons all at 0 lt)) ∙ h in cc
-
--- the same question has the same answer
-pub told : (P Q : Type 0) (m n : ℕ) (r : Option ℕ) → (P → Q) → (Q → P) → m ≡ n → AnswersIf P m r → AnswersIf Q n r
-told P Q m n (Some k) f g e h = (f h.0, h.1 ∙ e)
-told P Q m n None f g e h = λ q. h (g q)

@@ -1,51 +1,27 @@
 //! Whether bytes are canonical, without a buffer.
 
-ghost use Rattle.std.specs.Prelude.{◌≡◌, ◌↔◌, ◌≢◌, ℕ, ◌+◌, ◌<◌, ◌≤◌, [], ◌∷◌, ◌⊎◌, None, length, IsTrue, IfOk, IfErr};
+ghost use Rattle.std.specs.Prelude.{◌≡◌, ◌↔◌, ◌≢◌, ◌+◌, ◌<◌, ◌≤◌, [], ◌∷◌, ◌⊎◌, None, IsTrue, IfOk, IfErr};
 ghost use Rattle.std.specs.Prelude.{MatchResult};
-ghost use Rattle.capn_words.specs.Message.{IsMessage};
 ghost use Rattle.capn_value.specs.Tree.{Tree as Value};
 ghost use Rattle.capn_value.specs.FirstCap.{first_cap};
-ghost use Rattle.capn_value.specs.Cost.{most_height};
-ghost use Rattle.capn_walk.specs.Accepted.{root, IsValueOf, IsWalkRefused as IsStopped, IsBounded};
-ghost use Rattle.capn_walk.specs.ValueAt.{IsAt};
+ghost use Rattle.capn_walk.specs.Accepted.{IsValueOf, IsWalkRefused as IsStopped, IsBounded};
 ghost use Rattle.capn_walk.specs.declared.target.Fault.TheVariants as faults;
 ghost use Rattle.capn_canon.specs.Denotes.{Denotes};
-ghost use Rattle.capn_canon.specs.Layout.{canon, words};
+ghost use Rattle.capn_canon.specs.Layout.{canon};
 ghost use Rattle.capn_canon.specs.Refusal.{IsRefused, IsPaidWithin};
 ghost use Rattle.capn_canon.specs.declared.form.Form.TheVariants as forms;
 ghost use Rattle.capn_canon.specs.declared.refusal.Refusal.TheVariants as refusals;
-ghost use Rattle.capn_canon.specs.inner.ReadyPlaces.{IsReady};
 ghost use Rattle.capn_canon.specs.BareVerdict.{SaysCanonical, IsBareSurvey};
 
-use crate::layout_test::check_run;
-use crate::own_words_test::words_of;
+use crate::one_pass::survey_canonical;
 use crate::refusal::Refusal;
-use crate::run::Run;
 use crate::surveyed_bare::SurveyedBare;
 use capn_walk::{Fault, Limits, Stopped, survey};
 use capn_words::{Bare, Space};
 use std::alloc::Allocator;
 
-/// Whether the words are the canonical words of the value at their root.
-pub fn are_canonical(space: &Bare<'_>) -> bool
-    requires message { IsMessage (space.now ∷ []) }
-    requires some { 0 < length space.now }
-    requires ready { IsReady (space.now ∷ []) root most_height 1 }
-    ensures { (v : Value) → IsAt (space.now ∷ []) root v → IsTrue result ↔ (words v ≡ space.now) }
-{
-    let root = Run {
-        from: 0,
-        end: 1,
-        next: 1,
-    };
-    match check_run(space, root) {
-        Some(end) => end == words_of(space),
-        None => false,
-    }
-}
-
 /// What the walk of a bare message pays and visits within the limits, its first capability, and whether its
-/// bytes are canonical. The message is surveyed once.
+/// bytes are canonical. One pass over the words tells that; the message is surveyed only where they aren't.
 ///
 /// It refuses what the walk refuses, in the same way. It takes no memory for a depth of at most 64; `Memory`
 /// comes only where a growth was refused.
@@ -69,18 +45,15 @@ pub fn survey_bare<A: Allocator + Copy>(
         (λ s. IsBounded limits.budget s.paid s.visits) }
 {
     let _segments = space.segments();
-    let _budget = limits.budget();
-    let _depth = limits.depth();
+    if let Some(told) = survey_canonical(space, limits) {
+        return Ok(told);
+    }
     let told = survey(alloc, space, limits)?;
-    let is_canonical = match told.capability {
-        Some(_) => false,
-        None => are_canonical(space),
-    };
     Ok(SurveyedBare {
         paid: told.paid,
         visits: told.visits,
         capability: told.capability,
-        is_canonical,
+        is_canonical: false,
     })
 }
 

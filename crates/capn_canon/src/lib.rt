@@ -3,7 +3,8 @@
 //! - [`canonicalise`] answers the canonical bytes of the value that bytes denote, whichever of the three
 //!   forms they are in, and what its walk paid. [`canonical_of`] does so for any message that is a `Space`.
 //! - [`is_canonical`] says whether the bytes of a bare message are its canonical bytes, and makes no copy;
-//!   [`survey_bare`] also reports its price, its visits and its first capability.
+//!   [`survey_bare`] also reports its price, its visits and its first capability. [`survey_canonical`] is the one pass
+//!   that they make first: it reports on canonical bytes alone.
 //! - [`survey_bytes`] and [`survey`] report what the walk of a message pays and visits, and write nothing.
 //! - [`layout`] writes the canonical bytes of a tree: one segment, its objects in preorder, every struct
 //!   cut to what it keeps. A tree with a capability has none, and is refused by the first one's index.
@@ -39,17 +40,18 @@ mod form;
 mod kept;
 mod known_target;
 pub mod laws;
-mod layout_test;
-mod list_words;
 mod marks;
 mod message_survey;
+mod number_list_words;
 mod object_layout;
+mod one_pass;
 mod own_words;
 mod own_words_test;
 mod patch;
 mod pointer_words;
+mod progress;
 mod refusal;
-mod run;
+mod struct_list_words;
 mod survey_input;
 mod surveyed_bare;
 mod tree_content;
@@ -61,6 +63,7 @@ pub use canonical::{Canonical, canonical_of};
 pub use canonical_input::canonicalise;
 pub use form::Form;
 pub use message_survey::survey;
+pub use one_pass::survey_canonical;
 pub use patch::Patch;
 pub use refusal::Refusal;
 pub use survey_input::survey_bytes;

@@ -8,8 +8,9 @@ ghost use Rattle.capn_canon.specs.inner.RowWords.{RowsReady, RowsLaid};
 
 use crate::draft::Draft;
 use crate::known_target::target_at;
-use crate::list_words::lay_list;
-use crate::own_words::{RowRun, open_links, open_rows, open_struct};
+use crate::number_list_words::lay_list;
+use crate::own_words::{open_links, open_struct};
+use crate::struct_list_words::{RowRun, open_rows};
 use capn_value::Memory;
 use capn_walk::{Shape, Target};
 use capn_words::{Place, Pointer, Space, Width, join};

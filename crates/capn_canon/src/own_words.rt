@@ -1,4 +1,4 @@
-//! The own words of an object, whose slots are still to be written over.
+//! The own words of a struct and of a list of pointers, whose slots are still to be written over.
 
 ghost use Rattle.std.specs.Prelude.{◌≡◌, ℕ, ◌+◌, ◌*◌, ◌^◌, ◌<◌, ◌≤◌, ◌++◌, length, take, set, Some, IfOk, OnOk};
 ghost use Rattle.capn_words.specs.Message.{IsMessage};
@@ -8,12 +8,10 @@ ghost use Rattle.capn_walk.specs.Shapes.{IsContent};
 ghost use Rattle.capn_canon.specs.Patch.{whole};
 ghost use Rattle.capn_canon.specs.Layout.{list_to};
 ghost use Rattle.capn_canon.specs.inner.OwnWords.{IsOpened};
-ghost use Rattle.capn_canon.specs.inner.RowWords.{AreOpened, row_cells};
 
 use crate::draft::Draft;
-use crate::kept::{kept_above, kept_in_rows};
+use crate::kept::kept_above;
 use crate::pointer_words::{list_pointer, struct_pointer};
-use crate::tree_rows::tag_word;
 use capn_value::Memory;
 use capn_words::{Place, Space, Width};
 use std::alloc::Allocator;
@@ -28,7 +26,7 @@ pub struct SlotRun {
 /// Appends the first words of two parts of an object, the second of which stands after the whole of the first. They are
 /// one piece if the first is kept whole.
 #[inline(always)]
-fn push_parts<S: Space, A: Allocator>(
+pub fn push_parts<S: Space, A: Allocator>(
     space: &S,
     start: Place,
     size: u32,
@@ -115,82 +113,4 @@ pub fn open_links<S: Space, A: Allocator>(
     draft.put(from, word);
     draft.extend(space.bytes(start, 8 * count as usize))?;
     Ok(first)
-}
-
-/// Where the first row stands, and how many words and slots of each row are kept.
-#[derive(Clone, Copy)]
-pub struct RowRun {
-    pub first: usize,
-    pub words: u32,
-    pub slots: u32,
-}
-
-/// Puts the pointer to a list of structs, and appends its tag, what is kept of the words of each row, and
-/// the slots that are kept, as they stand.
-pub fn open_rows<S: Space, A: Allocator>(
-    space: &S,
-    start: Place,
-    count: u32,
-    words: u16,
-    slots: u16,
-    from: usize,
-    draft: &mut Draft<A>,
-) -> Result<RowRun, Memory>
-    requires message { IsMessage (S.message space.now) }
-    requires content { IsContent (S.message space.now) start (count * (words + slots)) }
-    requires few { count < 2 ^ 29 }
-    requires span { count * (words + slots) < 2 ^ 29 }
-    requires order { from < length draft.old }
-    requires room { length draft.old ≤ 2 ^ 29 }
-    ensures { IfOk result (λ rows. AreOpened (S.message space.now) start.segment start.word count words slots
-        from draft.old draft.new rows.first rows.words rows.slots) }
-{
-    let step = words as u32 + slots as u32;
-    let kept = kept_in_rows(space, start, count, step, 0, words as u32);
-    let below = kept_in_rows(space, start, count, step, words as u32, slots as u32);
-    let size = count as usize * (kept as usize + below as usize);
-    let word = list_pointer(from, draft.len(), Width::Rows, size);
-    draft.put(from, word);
-    draft.push(tag_word(count as usize, kept as usize, below as usize))?;
-    let rows = RowRun {
-        first: draft.len(),
-        words: kept,
-        slots: below,
-    };
-    push_rows(space, start, count, words, slots, rows, draft)?;
-    Ok(rows)
-}
-
-/// Appends what is kept of each of `count` rows. Rows that are kept whole are one piece.
-fn push_rows<S: Space, A: Allocator>(
-    space: &S,
-    start: Place,
-    count: u32,
-    words: u16,
-    slots: u16,
-    rows: RowRun,
-    draft: &mut Draft<A>,
-) -> Result<(), Memory>
-    requires message { IsMessage (S.message space.now) }
-    requires content { IsContent (S.message space.now) start (count * (words + slots)) }
-    requires words { rows.words ≤ words }
-    requires slots { rows.slots ≤ slots }
-    ensures { OnOk result (draft.new ≡ draft.old
-        ++ row_cells (S.message space.now) start.segment start.word (words + slots) words rows.words rows.slots count) }
-{
-    let step = words as u32 + slots as u32;
-    if rows.words + rows.slots == step {
-        let size = count * step;
-        return draft.extend(space.bytes(start, 8 * size as usize));
-    }
-    let mut next = start.word;
-    for row in 0..count {
-        let at = Place {
-            segment: start.segment,
-            word: next,
-        };
-        push_parts(space, at, words as u32, rows.words, rows.slots, draft)?;
-        next += step;
-    }
-    Ok(())
 }

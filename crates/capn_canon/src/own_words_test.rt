@@ -1,24 +1,21 @@
 //! Whether an object's own words are those of its canonical layout.
 
-ghost use Rattle.std.specs.Prelude.{◌≡◌, ℕ, ◌+◌, ◌*◌, ◌/◌, ◌^◌, ◌<◌, ◌≤◌, IsTrue, ◌↔◌, [], ◌∷◌, length, take, drop};
+ghost use Rattle.std.specs.Prelude.{◌≡◌, ◌+◌, ◌*◌, ◌/◌, ◌^◌, ◌<◌, ◌≤◌, IsTrue, ◌↔◌, [], ◌∷◌, length, take, drop};
 ghost use Rattle.std.specs.Prelude.{slice_index, pos, ◌-◌, ◌%◌};
 ghost use Rattle.capn_words.specs.Message.{IsMessage};
 ghost use Rattle.capn_words.specs.Pointers.{word_of, field};
 ghost use Rattle.capn_words.specs.declared.pointer.Pointer.TheVariants.{Node};
 ghost use Rattle.capn_words.specs.declared.pointer.Width.TheVariants.{Rows};
 ghost use Rattle.capn_value.specs.Trim.{kept_words};
-ghost use Rattle.capn_walk.specs.ValueAt.{words_from};
 ghost use Rattle.capn_walk.specs.Shapes.{IsContent};
 ghost use Rattle.capn_canon.specs.Layout.{list_to};
-ghost use Rattle.capn_canon.specs.inner.FirstBits.{element_bits, first_bits};
+ghost use Rattle.capn_canon.specs.inner.FirstBits.{first_bits};
 ghost use Rattle.capn_canon.specs.inner.RowWords.{kept_each};
-ghost use Rattle.capn_canon.specs.inner.SlotRuns.{IsStruct, Passes};
 ghost use Rattle.capn_canon.specs.inner.WordsOfLayout.{Stand};
 
 use crate::kept::kept_in_rows;
-use crate::list_words::bits_of;
+use crate::number_list_words::bits_of;
 use crate::pointer_words::list_pointer;
-use crate::run::Run;
 use crate::tree_rows::tag_word;
 use capn_words::{Bare, Place, Space, Width};
 
@@ -37,18 +34,9 @@ pub fn word_at(space: &Bare<'_>, word: u32) -> u64
     space.word(Place { segment: 0, word })
 }
 
-/// Whether a near pointer at a place leads to the next free word, by its offset.
-#[inline(always)]
-pub fn leads_to(word: u64, from: u32, next: u32) -> bool
-    requires order { from < next }
-    ensures { IsTrue result ↔ (word / 4 % 2 ^ 30 ≡ next - from - 1) }
-{
-    word >> 2 & 0x3fff_ffff == (next - from - 1) as u64
-}
-
 /// Whether `count` words from a place on are all kept: the last of them, if any, is not zero.
 #[inline(always)]
-fn is_kept(space: &Bare<'_>, at: u32, count: u32) -> bool
+pub fn is_kept(space: &Bare<'_>, at: u32, count: u32) -> bool
     requires inside { at + count ≤ length space.now }
     requires room { length space.now ≤ 2 ^ 29 }
     ensures { IsTrue result ↔ (kept_words (take count (drop at space.now)) ≡ count) }
@@ -57,24 +45,7 @@ fn is_kept(space: &Bare<'_>, at: u32, count: u32) -> bool
 }
 
 /// The pointer to a struct of no words and no slots: its offset is -1. (Page: canonicalization.)
-const EMPTY: u64 = 0xffff_fffc;
-
-/// Whether the pointer at the first slot of a run, to a struct of `words` words and `slots` slots, is the one to the
-/// next free word, and the struct keeps all of them.
-#[inline(always)]
-pub fn is_struct_at(space: &Bare<'_>, word: u64, words: u16, slots: u16, run: Run) -> bool
-    requires { IsStruct space.now word words slots run }
-    ensures { IsTrue result ↔ Passes space.now words slots run }
-{
-    if words as u32 + slots as u32 == 0 {
-        return word == EMPTY;
-    }
-    if !leads_to(word, run.from, run.next) {
-        return false;
-    }
-    let below = run.next + words as u32;
-    is_kept(space, run.next, words as u32) && is_kept(space, below, slots as u32)
-}
+pub const EMPTY: u64 = 0xffff_fffc;
 
 /// Whether the pointer to a list is the one to the next free word, and there is room for its `words` words.
 fn is_list_at(space: &Bare<'_>, width: Width, count: u32, words: u32, from: u32, next: u32) -> bool

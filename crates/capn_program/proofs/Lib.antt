@@ -2,3 +2,6 @@ pub mod OneOrder
 pub mod NamedOrders
 pub mod Shown
 pub mod Sources
+pub mod Ways
+pub mod PartServed
+pub mod PartRuns

@@ -1,13 +1,19 @@
 -- What the subcommands order that have more than one order, or one with a flag.
-use Rattle.std.proofs.Common.{◌≡◌, ◌⊎◌, inl, inr, ℕ, List, Bool, true, false, Some, codes, ap, arith, refl, sym}
-use Rattle.clap.specs.Words.{Row}
-use Rattle.capn_tool.specs.Meaning.{Means}
+use Rattle.std.proofs.Common.{◌≡◌, ◌⊎◌, inl, inr, Bor, List, Bool, true, false, Option, Some, None, IsSome, codes}
+use Rattle.std.proofs.Common.{arith, refl, sym}
+use Rattle.clap.specs.Words.{Row, Text, first_of}
+use Rattle.capn_walk.specs.Limits.{Bounds}
+use Rattle.capn_canon.specs.declared.form.Form.{Form}
+use Rattle.capn_tool.specs.Meaning.{FormIs, LimitsAre, Means}
 use Rattle.capn_tool.specs.declared.command.Command.{Command}
 use Rattle.capn_tool.specs.declared.command.Command.TheVariants as commands
 use Rattle.capn_archive.specs.declared.task.Archive.{Archive}
 use Rattle.capn_archive.specs.declared.task.Task.{Task}
 use Rattle.capn_archive.specs.declared.task.Task.TheVariants as tasks
-use Rattle.capn_program.specs.Meaning.{AreOptions, FlagIs, IsTask, IsUsual, MeansOrder}
+use Rattle.capn_show.specs.declared.style.Style.{Style}
+use Rattle.capn_show.specs.declared.style.Style.TheVariants as styles
+use Rattle.capn_program.specs.Meaning.{AreOptions, FlagIs, IsTask, IsUsual, MeansOrder, StyleIs, WayIs}
+use Rattle.capn_program.specs.Way.{way_of}
 use Rattle.capn_program.specs.declared.order.Flow.TheVariants as flows
 use Rattle.capn_program.specs.declared.order.Order.{Order}
 use Rattle.capn_program.specs.declared.order.Order.TheVariants as orders
@@ -20,6 +26,8 @@ ListMeans rows = (a : Archive) × ((digest : Bool) × FlagIs rows (codes "digest
 pub list_means : (rows : List Row) (o : Order) → MeansOrder (Some (codes "list", rows)) o → ListMeans rows
 list_means rows (orders.Message c) m =
     absurd (never_command c 335 refl (sym (told (codes "list", rows) (orders.Message c) m)))
+list_means rows (orders.Show s) m =
+    absurd (let bad : 335 ≡ 326 = told (codes "list", rows) (orders.Show s) m in omega arith)
 list_means rows (orders.Uniq u) m =
     absurd (let bad : 335 ≡ 320 = told (codes "list", rows) (orders.Uniq u) m in omega arith)
 list_means rows (orders.Pick p) m =
@@ -64,6 +72,7 @@ canonical_means rows o m = go o m (told (codes "canonical", rows) o m)
     go (orders.Message commands.Pack) m e = absurd (omega arith)
     go (orders.Message (commands.Unpack k)) m e = absurd (omega arith)
     go (orders.Message (commands.Hash f l)) m e = absurd (omega arith)
+    go (orders.Show s) m e = absurd (omega arith)
     go (orders.Uniq u) m e = absurd (omega arith)
     go (orders.Pick p) m e = absurd (omega arith)
     go (orders.Flow flows.Pack) m e = absurd (omega arith)
@@ -91,6 +100,7 @@ pack_means rows o m = go o m (told (codes "pack", rows) o m)
     go (orders.Message (commands.Check f l)) m e = absurd (omega arith)
     go (orders.Message (commands.Unpack k)) m e = absurd (omega arith)
     go (orders.Message (commands.Hash f l)) m e = absurd (omega arith)
+    go (orders.Show s) m e = absurd (omega arith)
     go (orders.Uniq u) m e = absurd (omega arith)
     go (orders.Pick p) m e = absurd (omega arith)
     go (orders.Make f) m e = absurd (omega arith)
@@ -120,9 +130,67 @@ unpack_means rows o m = go o m (told (codes "unpack", rows) o m)
     go (orders.Message (commands.Show f l)) m e = absurd (omega arith)
     go (orders.Message (commands.Check f l)) m e = absurd (omega arith)
     go (orders.Message (commands.Hash f l)) m e = absurd (omega arith)
+    go (orders.Show s) m e = absurd (omega arith)
     go (orders.Uniq u) m e = absurd (omega arith)
     go (orders.Pick p) m e = absurd (omega arith)
     go (orders.Make f) m e = absurd (omega arith)
     go (orders.Archive a) m e = absurd (task a.task e)
     go (orders.Flow flows.Unpack) m e = inr (m.1, m.2)
     go (orders.Flow flows.Pack) m e = absurd (omega arith)
+
+-- what `show` orders has a form, limits, a style, and no way or a way
+pub record ShowMeans (rows : List Row) : Type 0 where
+  pub form : Form
+  pub limits : Bounds
+  pub style : Style
+  pub form_is : FormIs rows form
+  pub limits_are : LimitsAre rows limits
+  pub style_is : StyleIs rows style
+  pub way : (first_of (codes "at") rows ≡ None)
+      ⊎ ((text : Text) × (first_of (codes "at") rows ≡ Some text) × IsSome (way_of text))
+
+way_means : (rows : List Row) (style : Style) (way : Option (Bor Text)) → WayIs rows style way
+    → (first_of (codes "at") rows ≡ None)
+    ⊎ ((text : Text) × (first_of (codes "at") rows ≡ Some text) × IsSome (way_of text))
+way_means rows style None is = inl is.0
+way_means rows style (Some way) is = inr (way.now, is.0, is.1)
+
+pub show_means : (rows : List Row) (o : Order) → MeansOrder (Some (codes "show", rows)) o → ShowMeans rows
+show_means rows o m = go o m (told (codes "show", rows) o m)
+  where
+    task : (t : Task) → 326 ≡ tell_task t → ⊥
+    task tasks.List e = omega arith
+    task tasks.Digests e = omega arith
+    task tasks.Limits e = omega arith
+    task tasks.Canonical e = omega arith
+
+    go : (o : Order) → MeansOrder (Some (codes "show", rows)) o → 326 ≡ tell_of o → ShowMeans rows
+    go (orders.Message (commands.Show f l)) m e = record {
+      form = f;
+      limits = l;
+      style = styles.Lines;
+      form_is = m.0.1;
+      limits_are = m.0.2;
+      style_is = m.1.1;
+      way = inl m.1.0;
+    }
+    go (orders.Message (commands.Check f l)) m e = absurd (omega arith)
+    go (orders.Message commands.Pack) m e = absurd (omega arith)
+    go (orders.Message (commands.Unpack k)) m e = absurd (omega arith)
+    go (orders.Message (commands.Canonical f l)) m e = absurd (omega arith)
+    go (orders.Message (commands.Hash f l)) m e = absurd (omega arith)
+    go (orders.Show s) m e = record {
+      form = s.form;
+      limits = s.limits;
+      style = s.style;
+      form_is = m.1.0;
+      limits_are = m.1.1;
+      style_is = m.1.2;
+      way = way_means rows s.style s.way m.1.3;
+    }
+    go (orders.Uniq u) m e = absurd (omega arith)
+    go (orders.Pick p) m e = absurd (omega arith)
+    go (orders.Flow flows.Pack) m e = absurd (omega arith)
+    go (orders.Flow flows.Unpack) m e = absurd (omega arith)
+    go (orders.Make f) m e = absurd (omega arith)
+    go (orders.Archive a) m e = absurd (task a.task e)

@@ -1,7 +1,9 @@
 -- A subcommand with the values of its options means one order at most.
 use Rattle.std.proofs.Common.{◌≡◌, ℕ, ◌+◌, ◌*◌, ◌==◌, ◌||◌, List, Bool, true, false, Option, Some, None, refl, sym, ap}
-use Rattle.std.proofs.Common.{◌∙◌, codes, slice_index, unwrap_or, arith}
-use Rattle.clap.specs.Words.{Row, Text}
+use Rattle.std.proofs.Common.{◌∙◌, Bor, codes, slice_index, unwrap_or, arith}
+use Rattle.clap.specs.Words.{Row, Text, first_of}
+use Rattle.capn_show.specs.declared.style.Style.{Style}
+use Rattle.capn_show.specs.declared.style.Style.TheVariants as styles
 use Rattle.capn_walk.specs.Limits.{Bounds}
 use Rattle.capn_canon.specs.declared.form.Form.{Form}
 use Rattle.capn_canon.specs.declared.form.Form.TheVariants as forms
@@ -16,10 +18,12 @@ use Rattle.capn_archive.specs.declared.uniq.Uniq.{Uniq}
 use Rattle.capn_serve.specs.declared.pick.Pick.{Pick}
 use Rattle.capn_serve.specs.declared.pick.StreamForm.{StreamForm}
 use Rattle.capn_serve.specs.declared.pick.StreamForm.TheVariants as stream_forms
-use Rattle.capn_program.specs.Meaning.{AreOptions, FlagIs, HasNoFlag, IsFlow, IsTask, MeansOneOrder, MeansOrder}
-use Rattle.capn_program.specs.Meaning.{PickIs, UniqIs, flag_text, form_of, usual_with}
+use Rattle.capn_program.specs.Meaning.{AreOptions, AreSame, FlagIs, HasNoFlag, IsFlow, IsSameWay, IsTask}
+use Rattle.capn_program.specs.Meaning.{MeansOneOrder, MeansOrder, PickIs, ShowIs, StyleIs, UniqIs, WayIs, flag_text}
+use Rattle.capn_program.specs.Meaning.{form_of, usual_with}
 use Rattle.capn_program.specs.declared.order.Flow.{Flow}
 use Rattle.capn_program.specs.declared.order.Flow.TheVariants as flows
+use Rattle.capn_program.specs.declared.order.Show.{Show}
 use Rattle.capn_program.specs.declared.order.Order.{Order}
 use Rattle.capn_program.specs.declared.order.Order.TheVariants as orders
 
@@ -67,6 +71,7 @@ tell_flow flows.Unpack = 334
 -- that of an order
 abbrev pub tell_of : Order → ℕ
 tell_of (orders.Message c) = tell_command c
+tell_of (orders.Show s) = 326
 tell_of (orders.Archive a) = tell_task a.task
 tell_of (orders.Uniq u) = 320
 tell_of (orders.Pick k) = 303
@@ -94,6 +99,7 @@ told_flow name rows flows.Unpack is = ap tell is.0
 -- the subcommand is named as its order
 pub told : (said : Text × List Row) (o : Order) → MeansOrder (Some said) o → tell said.0 ≡ tell_of o
 told said (orders.Message c) m = told_command said c m.0
+told said (orders.Show s) m = ap tell m.0
 told said (orders.Archive a) m = told_task said.0 said.1 a.task m.0
 told said (orders.Uniq u) m = ap tell m.0
 told said (orders.Pick k) m = ap tell m.0
@@ -117,7 +123,7 @@ never_command c n other e = let bad : false ≡ true = sym (no_command c) ∙ ap
 
 -- and no task
 abbrev is_no_task : ℕ → Bool
-is_no_task n = n == 303 || (n == 311 || (n == 320 || (n == 295 || n == 334)))
+is_no_task n = n == 303 || (n == 311 || (n == 320 || (n == 326 || (n == 295 || n == 334))))
 
 no_task : (t : Task) → is_no_task (tell_task t) ≡ false
 no_task tasks.List = refl
@@ -130,7 +136,7 @@ never_task t n other e = let bad : false ≡ true = sym (no_task t) ∙ ap is_no
 
 -- and no flow
 abbrev is_no_flow : ℕ → Bool
-is_no_flow n = n == 303 || (n == 311 || n == 320)
+is_no_flow n = n == 303 || (n == 311 || (n == 320 || n == 326))
 
 no_flow : (w : Flow) → is_no_flow (tell_flow w) ≡ false
 no_flow flows.Pack = refl
@@ -224,7 +230,55 @@ pick_one rows p q (f, w, usual, a, b) (g, v, usually, c, d) =
     ∙ sym usually)
     (number_one rows (codes "from") p.from q.from a.0 c.0) (number_one rows (codes "to") p.to q.to b.0 d.0)
 
+-- a style is told by its flags
+style_one : (rows : List Row) (s t : Style) → StyleIs rows s → StyleIs rows t → s ≡ t
+style_one rows styles.Lines styles.Lines a b = refl
+style_one rows styles.Lines styles.Quoted a b =
+    absurd (let bad : false ≡ true = flag_one rows (codes "text") false true a.0 b.0 in cc)
+style_one rows styles.Lines styles.Json a b =
+    absurd (let bad : false ≡ true = flag_one rows (codes "json") false true a.1 b.1 in cc)
+style_one rows styles.Quoted styles.Lines a b =
+    absurd (let bad : true ≡ false = flag_one rows (codes "text") true false a.0 b.0 in cc)
+style_one rows styles.Quoted styles.Quoted a b = refl
+style_one rows styles.Quoted styles.Json a b =
+    absurd (let bad : true ≡ false = flag_one rows (codes "text") true false a.0 b.0 in cc)
+style_one rows styles.Json styles.Lines a b =
+    absurd (let bad : true ≡ false = flag_one rows (codes "json") true false a.1 b.1 in cc)
+style_one rows styles.Json styles.Quoted a b =
+    absurd (let bad : false ≡ true = flag_one rows (codes "text") false true a.0 b.0 in cc)
+style_one rows styles.Json styles.Json a b = refl
+
+-- and a way by the value of `--at`
+way_one : (rows : List Row) (f g : Style) (v w : Option (Bor Text)) → WayIs rows f v → WayIs rows g w → IsSameWay v w
+way_one rows f g None None is also = tt
+way_one rows f g None (Some w) is also = let bad : None ≡ Some w.now = sym is.0 ∙ also.0 in absurd cc
+way_one rows f g (Some v) None is also = let bad : Some v.now ≡ None = sym is.0 ∙ also.0 in absurd cc
+way_one rows f g (Some v) (Some w) is also =
+    ap (λ (o : Option Text). unwrap_or o (codes "")) (sym is.0 ∙ also.0)
+
+show_one : (rows : List Row) (s t : Show) → ShowIs rows s → ShowIs rows t → AreSame (orders.Show s) (orders.Show t)
+show_one rows s t (f, l, style, way) (g, m, other, also) = (
+  form_one s.form t.form (sym f ∙ g),
+  limits_one rows s.limits t.limits l m,
+  style_one rows s.style t.style style other,
+  way_one rows s.style t.style s.way t.way way also,
+)
+
 -- ---- two orders of two kinds
+
+-- of a command over messages it is told whether parts or a style are shown
+no_show : (rows : List Row) (style : Style) (way : Option (Bor Text)) → first_of (codes "at") rows ≡ None
+    → StyleIs rows styles.Lines → StyleIs rows style → WayIs rows style way → ⊥
+no_show rows style None none lines is other = other.1 (style_one rows style styles.Lines is lines)
+no_show rows style (Some way) none lines is other = let bad : None ≡ Some way.now = sym none ∙ other.0 in absurd cc
+
+shows : (rows : List Row) (c : Command) (s : Show) → tell_command c ≡ 326 → HasNoFlag rows c → ShowIs rows s → ⊥
+shows rows (commands.Show f l) s e none is = no_show rows s.style s.way none.0 none.1 is.2 is.3
+shows rows (commands.Check f l) s e none is = omega arith
+shows rows commands.Pack s e none is = omega arith
+shows rows (commands.Unpack m) s e none is = omega arith
+shows rows (commands.Canonical f l) s e none is = omega arith
+shows rows (commands.Hash f l) s e none is = omega arith
 
 -- a command over messages and a run over an archive are not named alike, or `--framed` tells them apart
 apart : (name : Text) (rows : List Row) (c : Command) (t : Task) → tell_command c ≡ tell_task t → HasNoFlag rows c
@@ -264,15 +318,24 @@ stays t flows.Pack e = never_task t 295 refl e
 stays t flows.Unpack e = never_task t 334 refl e
 
 same : (s : Text × List Row) (o p : Order) → tell_of o ≡ tell_of p → MeansOrder (Some s) o → MeansOrder (Some s) p
-    → o ≡ p
+    → AreSame o p
 same s (orders.Message c) (orders.Message d) e m n =
     ap (λ (x : Command). orders.Message x) (means_one (Some s) c d m.0 n.0)
+same s (orders.Message c) (orders.Show t) e m n = absurd (shows s.1 c t e m.1 n.1)
 same s (orders.Message c) (orders.Archive b) e m n = absurd (apart s.0 s.1 c b.task e m.1 n.0)
 same s (orders.Message c) (orders.Uniq v) e m n = absurd (never_command c 320 refl e)
 same s (orders.Message c) (orders.Pick k) e m n = absurd (never_command c 303 refl e)
 same s (orders.Message c) (orders.Flow w) e m n = absurd (streams s.0 s.1 c w e m.1 n)
 same s (orders.Message c) (orders.Make g) e m n = absurd (never_command c 311 refl e)
+same s (orders.Show r) (orders.Message d) e m n = absurd (shows s.1 d r (sym e) n.1 m.1)
+same s (orders.Show r) (orders.Show t) e m n = show_one s.1 r t m.1 n.1
+same s (orders.Show r) (orders.Archive b) e m n = absurd (never_task b.task 326 refl (sym e))
+same s (orders.Show r) (orders.Uniq v) e m n = absurd (omega arith)
+same s (orders.Show r) (orders.Pick k) e m n = absurd (omega arith)
+same s (orders.Show r) (orders.Flow w) e m n = absurd (never_flow w 326 refl (sym e))
+same s (orders.Show r) (orders.Make g) e m n = absurd (omega arith)
 same s (orders.Archive a) (orders.Message d) e m n = absurd (apart s.0 s.1 d a.task (sym e) n.1 m.0)
+same s (orders.Archive a) (orders.Show t) e m n = absurd (never_task a.task 326 refl e)
 same s (orders.Archive a) (orders.Archive b) e m n =
     ap (λ (x : Archive). orders.Archive x) (archive_one s.0 s.1 a b e m.0 m.1 n.0 n.1)
 same s (orders.Archive a) (orders.Uniq v) e m n = absurd (never_task a.task 320 refl e)
@@ -280,24 +343,28 @@ same s (orders.Archive a) (orders.Pick k) e m n = absurd (never_task a.task 303 
 same s (orders.Archive a) (orders.Flow w) e m n = absurd (stays a.task w e)
 same s (orders.Archive a) (orders.Make g) e m n = absurd (never_task a.task 311 refl e)
 same s (orders.Uniq u) (orders.Message d) e m n = absurd (never_command d 320 refl (sym e))
+same s (orders.Uniq u) (orders.Show t) e m n = absurd (omega arith)
 same s (orders.Uniq u) (orders.Archive b) e m n = absurd (never_task b.task 320 refl (sym e))
 same s (orders.Uniq u) (orders.Uniq v) e m n = ap (λ (x : Uniq). orders.Uniq x) (uniq_one s.1 u v m.1 n.1)
 same s (orders.Uniq u) (orders.Pick k) e m n = absurd (omega arith)
 same s (orders.Uniq u) (orders.Flow w) e m n = absurd (never_flow w 320 refl (sym e))
 same s (orders.Uniq u) (orders.Make g) e m n = absurd (omega arith)
 same s (orders.Pick k) (orders.Message d) e m n = absurd (never_command d 303 refl (sym e))
+same s (orders.Pick k) (orders.Show t) e m n = absurd (omega arith)
 same s (orders.Pick k) (orders.Archive b) e m n = absurd (never_task b.task 303 refl (sym e))
 same s (orders.Pick k) (orders.Uniq v) e m n = absurd (omega arith)
 same s (orders.Pick k) (orders.Pick l) e m n = ap (λ (x : Pick). orders.Pick x) (pick_one s.1 k l m.1 n.1)
 same s (orders.Pick k) (orders.Flow w) e m n = absurd (never_flow w 303 refl (sym e))
 same s (orders.Pick k) (orders.Make g) e m n = absurd (omega arith)
 same s (orders.Flow v) (orders.Message d) e m n = absurd (streams s.0 s.1 d v (sym e) n.1 m)
+same s (orders.Flow v) (orders.Show t) e m n = absurd (never_flow v 326 refl e)
 same s (orders.Flow v) (orders.Archive b) e m n = absurd (stays b.task v (sym e))
 same s (orders.Flow v) (orders.Uniq u) e m n = absurd (never_flow v 320 refl e)
 same s (orders.Flow v) (orders.Pick k) e m n = absurd (never_flow v 303 refl e)
 same s (orders.Flow v) (orders.Flow w) e m n = ap (λ (x : Flow). orders.Flow x) (flow_one v w e)
 same s (orders.Flow v) (orders.Make g) e m n = absurd (never_flow v 311 refl e)
 same s (orders.Make f) (orders.Message d) e m n = absurd (never_command d 311 refl (sym e))
+same s (orders.Make f) (orders.Show t) e m n = absurd (omega arith)
 same s (orders.Make f) (orders.Archive b) e m n = absurd (never_task b.task 311 refl (sym e))
 same s (orders.Make f) (orders.Uniq v) e m n = absurd (omega arith)
 same s (orders.Make f) (orders.Pick k) e m n = absurd (omega arith)

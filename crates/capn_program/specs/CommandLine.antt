@@ -37,6 +37,21 @@ list_line = flagged_line (codes "list") (codes "digest")
 abbrev pub uniq_line : App
 uniq_line = flagged_line (codes "uniq") (codes "count")
 
+-- the way from the root to what is shown, which has no usual value
+abbrev pub way_rule : Rule
+way_rule = record (new_rule (codes "at")) { long = Some (codes "at"); value_names = 1 }
+
+-- whether lists of bytes that are texts are written so, and whether values are written in JSON
+abbrev pub text_rule : Rule
+text_rule = flag_rule (codes "text")
+
+abbrev pub json_rule : Rule
+json_rule = flag_rule (codes "json")
+
+-- `show` takes what a command over messages takes, and `--at`, `--text` and `--json`
+abbrev pub show_line : App
+show_line = with_rule (with_rule (with_rule (message_line (codes "show")) way_rule) text_rule) json_rule
+
 -- `canonical` takes what a command over messages takes, and `--framed` and `--keep-going`
 abbrev pub canonical_line : App
 canonical_line = with_rule (with_rule (message_line (codes "canonical")) framed_rule) keep_going_rule
@@ -50,7 +65,7 @@ top_line =
 -- the program with the commands that show what messages hold and cost
 abbrev pub reading_line : App
 reading_line =
-    let with_show = with_subcommand top_line (message_line (codes "show")).top in
+    let with_show = with_subcommand top_line show_line.top in
     with_subcommand with_show (message_line (codes "check")).top
 
 -- the same with those that show what an archive holds and needs

@@ -1,6 +1,9 @@
 pub mod CommandLine
+pub mod Way
 pub mod Meaning
 pub mod Usage
 pub mod ExitStatus
 pub mod FaultText
+pub mod PartRun
 pub mod Program
+pub mod inner

@@ -1,7 +1,9 @@
 -- What a subcommand and the values of its options order. (Own.)
-use Rattle.std.specs.Prelude.{ℕ, ◌≡◌, ◌≤◌, List, Bool, true, false, Option, Some, None, codes, ⊤, find, option_and_then}
+use Rattle.std.specs.Prelude.{ℕ, ◌≡◌, ◌≢◌, ◌≤◌, List, Bool, true, false, Option, Some, None, codes, ⊤, find, IsSome}
+use Rattle.std.specs.Prelude.{option_and_then}
+use Rattle.std.specs.Borrow.{Bor}
 use Rattle.std.specs.Str.{bytes_eq}
-use Rattle.clap.specs.Words.{Row, Text, one_of}
+use Rattle.clap.specs.Words.{Row, Text, first_of, one_of}
 use Rattle.clap.specs.declared.parser.matches.ValueSource.{ValueSource}
 use Rattle.clap.specs.declared.parser.matches.ValueSource.TheVariants as sources
 use Rattle.capn_words.specs.Message.{most_message_words}
@@ -16,12 +18,16 @@ use Rattle.capn_archive.specs.declared.task.Archive.{Archive}
 use Rattle.capn_archive.specs.declared.task.Task.{Task}
 use Rattle.capn_archive.specs.declared.task.Task.TheVariants as tasks
 use Rattle.capn_archive.specs.declared.uniq.Uniq.{Uniq}
+use Rattle.capn_show.specs.declared.style.Style.{Style}
+use Rattle.capn_show.specs.declared.style.Style.TheVariants as styles
 use Rattle.capn_serve.specs.declared.pick.Pick.{Pick}
 use Rattle.capn_serve.specs.declared.pick.StreamForm.{StreamForm}
 use Rattle.capn_serve.specs.declared.pick.StreamForm.TheVariants as streams
 use Rattle.capn_program.specs.CommandLine.{most_number}
+use Rattle.capn_program.specs.Way.{way_of}
 use Rattle.capn_program.specs.declared.order.Flow.{Flow}
 use Rattle.capn_program.specs.declared.order.Flow.TheVariants as flows
+use Rattle.capn_program.specs.declared.order.Show.{Show}
 use Rattle.capn_program.specs.declared.order.Order.{Order}
 use Rattle.capn_program.specs.declared.order.Order.TheVariants as orders
 
@@ -87,10 +93,26 @@ IsFlow name rows flows.Pack = (name ≡ codes "pack") × FlagIs rows (codes "str
 IsFlow name rows flows.Unpack =
     (name ≡ codes "unpack") × FlagIs rows (codes "streaming") true × IsUsual rows (codes "message-words")
 
--- `canonical`, `pack` and `unpack` are commands over one input where none of their flags is given; no other command
--- over messages has one
+-- the style that two flags order, which don't go together
+abbrev pub StyleIs : List Row → Style → Type 0
+StyleIs rows styles.Lines = FlagIs rows (codes "text") false × FlagIs rows (codes "json") false
+StyleIs rows styles.Quoted = FlagIs rows (codes "text") true × FlagIs rows (codes "json") false
+StyleIs rows styles.Json = FlagIs rows (codes "text") false × FlagIs rows (codes "json") true
+
+-- `--at` is given, and its value is a way; or it isn't, and the style is another than that of a plain `show`
+abbrev pub WayIs : List Row → Style → Option (Bor Text) → Type 0
+WayIs rows style None = (first_of (codes "at") rows ≡ None) × (style ≢ styles.Lines)
+WayIs rows style (Some way) = (first_of (codes "at") rows ≡ Some way.now) × IsSome (way_of way.now)
+
+-- the options of `show` have these values: one of `--at`, `--text` and `--json` is given
+abbrev pub ShowIs : List Row → Show → Type 0
+ShowIs rows show = FormIs rows show.form × LimitsAre rows show.limits
+    × StyleIs rows show.style × WayIs rows show.style show.way
+
+-- `canonical`, `pack` and `unpack` are commands over one input where none of their flags is given, and `show` where
+-- neither a flag nor `--at` is; no other command over messages has such an option
 abbrev pub HasNoFlag : List Row → Command → Type 0
-HasNoFlag rows (commands.Show form limits) = ⊤
+HasNoFlag rows (commands.Show form limits) = (first_of (codes "at") rows ≡ None) × StyleIs rows styles.Lines
 HasNoFlag rows (commands.Check form limits) = ⊤
 HasNoFlag rows commands.Pack = FlagIs rows (codes "streaming") false
 HasNoFlag rows (commands.Unpack most) = FlagIs rows (codes "streaming") false
@@ -102,12 +124,26 @@ HasNoFlag rows (commands.Hash form limits) = ⊤
 abbrev pub MeansOrder : Option (Text × List Row) → Order → Type 0
 MeansOrder None order = ⊥
 MeansOrder (Some s) (orders.Message command) = Means (Some s) command × HasNoFlag s.1 command
+MeansOrder (Some s) (orders.Show show) = (s.0 ≡ codes "show") × ShowIs s.1 show
 MeansOrder (Some s) (orders.Archive archive) = IsTask s.0 s.1 archive.task × AreOptions s.1 archive
 MeansOrder (Some s) (orders.Uniq uniq) = (s.0 ≡ codes "uniq") × UniqIs s.1 uniq
 MeansOrder (Some s) (orders.Pick pick) = (s.0 ≡ codes "pick") × PickIs s.1 pick
 MeansOrder (Some s) (orders.Flow flow) = IsFlow s.0 s.1 flow
 MeansOrder (Some s) (orders.Make form) = (s.0 ≡ codes "make") × FormIs s.1 form
 
+-- no way, or two whose texts are equal, wherever these stand
+abbrev pub IsSameWay : Option (Bor Text) → Option (Bor Text) → Type 0
+IsSameWay None None = ⊤
+IsSameWay None (Some way) = ⊥
+IsSameWay (Some way) None = ⊥
+IsSameWay (Some way) (Some other) = way.now ≡ other.now
+
+-- two orders are the same: where messages or parts of them are shown, so are the texts of the ways
+abbrev pub AreSame : Order → Order → Type 0
+AreSame (orders.Show s) (orders.Show t) =
+    (s.form ≡ t.form) × (s.limits ≡ t.limits) × (s.style ≡ t.style) × IsSameWay s.way t.way
+AreSame o p = o ≡ p
+
 -- a meaning is that of one order at most
 abbrev pub MeansOneOrder : Type 0
-MeansOneOrder = (said : Option (Text × List Row)) (o p : Order) → MeansOrder said o → MeansOrder said p → o ≡ p
+MeansOneOrder = (said : Option (Text × List Row)) (o p : Order) → MeansOrder said o → MeansOrder said p → AreSame o p

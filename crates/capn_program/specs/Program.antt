@@ -32,11 +32,13 @@ use Rattle.capn_make.specs.declared.fault.MakeFault.{MakeFault}
 use Rattle.capn_make.specs.declared.fault.MakeFault.TheVariants as make_faults
 use Rattle.capn_program.specs.CommandLine.{program_line}
 use Rattle.capn_program.specs.Meaning.{MeansOrder}
+use Rattle.capn_program.specs.PartRun.{PartsShown}
 use Rattle.capn_program.specs.Usage.{IsReason, version_line}
 use Rattle.capn_program.specs.ExitStatus.{archive_status, flow_status, make_status, pick_status}
 use Rattle.capn_program.specs.FaultText.{WritesArchiveEnding, WritesFlowEnding, WritesMakeEnding, WritesPickEnding}
 use Rattle.capn_program.specs.declared.order.Flow.{Flow}
 use Rattle.capn_program.specs.declared.order.Flow.TheVariants as flows
+use Rattle.capn_program.specs.declared.order.Show.{Show}
 use Rattle.capn_program.specs.declared.order.Order.{Order}
 use Rattle.capn_program.specs.declared.order.Order.TheVariants as orders
 
@@ -61,6 +63,10 @@ pub record RunsFlushed {F : Type 0} (io : F) (Runs : RunOver F) (input output : 
   pub ran : Runs input.before input.after output.before written input.failed failed run
   pub kept : Keeps written output.after
   pub flushed : EndsFlushed io run failed output.failed outcome
+
+-- a run showed parts of messages
+abbrev pub ShowsParts : Show → Course → Course → Result (Unit {0}) ToolFault → Type 0
+ShowsParts show = RunsFlushed tool_faults.Io (PartsShown show)
 
 -- a run went over an archive
 abbrev pub RunsOver : Archive → Course → Course → Result (Unit {0}) ArchiveFault → Type 0
@@ -104,6 +110,10 @@ pub record EndsOrder {O F : Type 0} (name : O → Order)
 -- the words order a command over messages or bytes
 abbrev pub EndsMessage : List Text → Course → Course → Course → ℕ → Type 0
 EndsMessage = EndsOrder (λ command. orders.Message command) CarriesOut ReportsEnding status_of
+
+-- the words order that parts of messages are shown
+abbrev pub EndsShow : List Text → Course → Course → Course → ℕ → Type 0
+EndsShow = EndsOrder (λ show. orders.Show show) ShowsParts ReportsEnding status_of
 
 -- the words order a run over an archive
 abbrev pub EndsArchive : List Text → Course → Course → Course → ℕ → Type 0
@@ -162,8 +172,9 @@ pub record Unordered (words : List Text) (input output errors : Course) (status 
 abbrev pub Ends : List Text → Course → Course → Course → ℕ → Type 0
 Ends words input output errors status =
     EndsMessage words input output errors status
+    ⊎ (EndsShow words input output errors status
     ⊎ (EndsArchive words input output errors status
     ⊎ (EndsUniq words input output errors status
     ⊎ (EndsPick words input output errors status
     ⊎ (EndsFlow words input output errors status
-    ⊎ (EndsMake words input output errors status ⊎ Unordered words input output errors status)))))
+    ⊎ (EndsMake words input output errors status ⊎ Unordered words input output errors status))))))

@@ -6,7 +6,7 @@ use Rattle.clap.specs.declared.error.ErrorKind.TheVariants as kinds
 use Rattle.capn_tool.specs.Usage.{NeedsMemory, error_of}
 use Rattle.capn_tool.specs.declared.usage.Usage.{Usage}
 use Rattle.capn_program.specs.CommandLine.{program_line}
-use Rattle.capn_program.specs.Meaning.{MeansOrder}
+use Rattle.capn_program.specs.Meaning.{AreSame, MeansOrder}
 use Rattle.capn_program.specs.declared.order.Order.{Order}
 
 -- nothing is wrong with the words: they ask for the version
@@ -27,5 +27,5 @@ IsReason words kind = (kind ≡ kinds.OutOfMemory) ⊎ (IsAmong kind (fault_of p
 
 -- a call gave the order, or answered that memory was refused
 abbrev pub Orders : Order → Result Order Usage → Type 0
-Orders order (Ok given) = given ≡ order
+Orders order (Ok given) = AreSame given order
 Orders order (Err usage) = NeedsMemory usage

@@ -19,6 +19,7 @@ ghost use Rattle.capn_program.specs.declared.order.Order.{Order};
 
 use crate::help;
 use crate::order::{Flow, Order};
+use crate::show_options::{said_of_show, show_of};
 use crate::subcommands::{mistake, program_command};
 use capn_archive::{Archive, Task, Uniq};
 use capn_serve::{Pick, StreamForm};
@@ -31,7 +32,7 @@ use std::alloc::Global;
 use std::convert::AsStr;
 
 /// Whether the flag of this name is given.
-fn flag_of(matches: &ArgMatches, id: &str) -> Option<bool>
+pub(crate) fn flag_of(matches: &ArgMatches, id: &str) -> Option<bool>
     ensures read { IfSome result (λ given. FlagIs (rows_of (found_of matches.now)) id.now given) }
     ensures served { (given : Bool) → FlagIs (rows_of (found_of matches.now)) id.now given → IsSome result }
 {
@@ -77,7 +78,7 @@ fn archive_of(task: Task, matches: &ArgMatches) -> Option<Archive>
 }
 
 /// What `list` orders with these options, if they mean something: with `--digest` the lines have digests.
-fn list_of(matches: &ArgMatches) -> Option<Order>
+fn list_of<'a>(matches: &ArgMatches<'a>) -> Option<Order<'a>>
     ensures means { IfSome result (MeansOrder (Some (codes "list", rows_of (found_of matches.now)))) }
     ensures served { (order : Order) → MeansOrder (Some (codes "list", rows_of (found_of matches.now))) order
         → IsSome result }
@@ -169,7 +170,7 @@ fn pick_of(matches: &ArgMatches) -> Option<Pick>
 
 /// What `canonical` orders with these options, if they mean something: with `--framed` a run over an archive, and
 /// without it and `--keep-going` the command over one message.
-fn canonical_of(matches: &ArgMatches) -> Option<Order>
+fn canonical_of<'a>(matches: &ArgMatches<'a>) -> Option<Order<'a>>
     ensures means { IfSome result (MeansOrder (Some (codes "canonical", rows_of (found_of matches.now)))) }
     ensures served { (order : Order) → MeansOrder (Some (codes "canonical", rows_of (found_of matches.now))) order
         → IsSome result }
@@ -184,7 +185,7 @@ fn canonical_of(matches: &ArgMatches) -> Option<Order>
 }
 
 /// What `pack` orders with these options, if they mean something: with `--streaming` it packs while bytes come in.
-fn pack_of(matches: &ArgMatches) -> Option<Order>
+fn pack_of<'a>(matches: &ArgMatches<'a>) -> Option<Order<'a>>
     ensures means { IfSome result (MeansOrder (Some (codes "pack", rows_of (found_of matches.now)))) }
     ensures served { (order : Order) → MeansOrder (Some (codes "pack", rows_of (found_of matches.now))) order
         → IsSome result }
@@ -197,7 +198,7 @@ fn pack_of(matches: &ArgMatches) -> Option<Order>
 
 /// What `unpack` orders with these options, if they mean something: with `--streaming`, and without `--message-words`,
 /// it unpacks while bytes come in.
-fn unpack_of(matches: &ArgMatches) -> Option<Order>
+fn unpack_of<'a>(matches: &ArgMatches<'a>) -> Option<Order<'a>>
     ensures means { IfSome result (MeansOrder (Some (codes "unpack", rows_of (found_of matches.now)))) }
     ensures served { (order : Order) → MeansOrder (Some (codes "unpack", rows_of (found_of matches.now))) order
         → IsSome result }
@@ -212,12 +213,13 @@ fn unpack_of(matches: &ArgMatches) -> Option<Order>
 }
 
 /// What the subcommand of this name orders with these options, if they mean something.
-fn named_order(name: &str, matches: &ArgMatches) -> Option<Order>
+fn named_order<'a>(name: &str, matches: &ArgMatches<'a>) -> Option<Order<'a>>
     ensures means { IfSome result (MeansOrder (Some (name.now, rows_of (found_of matches.now)))) }
     ensures served { (order : Order) → MeansOrder (Some (name.now, rows_of (found_of matches.now))) order
         → IsSome result }
 {
     match name {
+        "show" => show_of(matches),
         "list" => list_of(matches),
         "limits" => Some(Order::Archive(archive_of(Task::Limits, matches)?)),
         "canonical" => canonical_of(matches),
@@ -231,7 +233,8 @@ fn named_order(name: &str, matches: &ArgMatches) -> Option<Order>
 }
 
 /// The message for options of this command that mean nothing: for `pick`, what its `--form` takes; for `unpack`, which
-/// two don't go together; for the others, that on `--form`, or else on `--tariff`, or else on `--keep-going`.
+/// two don't go together; for the others, that on `--form`, or else on `--tariff`, or else on `--json` and `--at` of
+/// `show`, and on `--keep-going` of `canonical`.
 fn said_of(name: &str, matches: &ArgMatches) -> &'static str {
     if name == "pick" {
         return help::NO_FRAMED_FORM;
@@ -244,6 +247,9 @@ fn said_of(name: &str, matches: &ArgMatches) -> &'static str {
     }
     if parts::limits_of(matches).is_none() {
         return tool_help::NO_SUCH_TARIFF;
+    }
+    if name == "show" {
+        return said_of_show(matches);
     }
     help::ONLY_FRAMED
 }
@@ -283,12 +289,13 @@ fn matches_of<'a, S: AsStr>(alloc: Global, words: &'a [S]) -> Result<ArgMatches<
 /// What the words order, the first of them being the program's name: the subcommand's work, with the form, the limits,
 /// the tariff and the flags that its options have, given or usual. A request for help or for the version, a word, an
 /// option or a value that is not known, a number out of its range, a form or a tariff that the command does not take,
-/// `--keep-going` of `canonical` without `--framed`, `--message-words` of `unpack` with `--streaming`, and refused
-/// memory are answered as `Usage`, with the text for the user.
-pub fn order_of<'a, S: AsStr>(alloc: Global, words: &'a [S]) -> Result<Order, Usage>
+/// a value of `--at` that is no way, `--text` with `--json`, `--keep-going` of `canonical` without `--framed`,
+/// `--message-words` of `unpack` with `--streaming`, and refused memory are answered as `Usage`, with the text for the
+/// user.
+pub fn order_of<'a, S: AsStr>(alloc: Global, words: &'a [S]) -> Result<Order<'a>, Usage>
     // An order that is given is what the words mean.
     ensures means { IfOk result (MeansOrder (subcommand_of program_line (map S.text words.now))) }
-    // Where the words are taken and mean an order, that very order is given, unless memory is refused.
+    // Where the words are taken and mean an order, that order is given, unless memory is refused.
     ensures only { takes program_line (map S.text words.now) ≡ true → (order : Order)
         → MeansOrder (subcommand_of program_line (map S.text words.now)) order → Orders order result }
     // Where none is given, the kind of the answer is a reason why the words order nothing.

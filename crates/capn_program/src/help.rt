@@ -31,6 +31,55 @@ Example:
   capn show < message",
 };
 
+/// `show`.
+pub const SHOW: Page = Page {
+    usage: "capn show [OPTIONS] < INPUT",
+    about: "Writes the value of each message as text, and then the line `end`",
+    more: "Each message is answered as soon as it is complete.
+With `--text` a list of bytes that is a text is one line, as `bytes 3 \"hi\\0\"`:
+each byte but the last is from 0x20 to 0x7e, and the last is so too or is zero.
+A quote is written `\\\"`, a backslash `\\\\` and the last zero `\\0`.
+With `--json` each message is one line of JSON without blanks, and no line `end`
+follows.
+With `--at` only what stands at a place in each message is written, as a text of
+its own, or the line `none` if nothing stands there. The place is a way from the
+root, numbers below 2^64 parted by dots: in a struct the number of a pointer, in
+a list of pointers that of an element, in a list of structs that of a struct,
+each counted from 0. With `--json` the line is empty if nothing stands there.
+The whole message is checked first.
+
+Exit status:
+  0  Done
+  1  A message was refused; those before it have been written
+  2  The command line is wrong
+  3  Reading or writing failed, the input is longer than 2^32 bytes, or with
+     `--at`, `--text` or `--json` than 2^64 - 1, or memory ran out
+With 1 and 3 one line on standard error says why; the manual page explains it
+under DIAGNOSTICS.
+
+Examples:
+  capn show < message
+  capn show --at 0.3.1 < message
+  capn show --json < messages",
+};
+
+/// `--at`.
+pub const AT: &str = "The way from the root to what is written: numbers
+parted by dots, as `0.3.1`";
+
+/// `--text`.
+pub const TEXT: &str = "Write a list of bytes that is a text between quotes";
+
+/// `--json`.
+pub const JSON: &str = "Write each message as a line of JSON; it goes without
+`--text`";
+
+/// The message for `--json` together with `--text`.
+pub const WITHOUT_TEXT: &str = "--json goes without --text";
+
+/// The message for a value that `--at` does not take.
+pub const NO_WAY: &str = "--at takes numbers below 2^64, parted by dots";
+
 /// `list`.
 pub const LIST: Page = Page {
     usage: "capn list [OPTIONS] < INPUT",

@@ -1,10 +1,10 @@
 //! The program `capn`: its whole command line, and each of its runs from all of the input to all of the output.
 //!
 //! [`program`] is all of it, from the words of the command line to the exit status, over any reader and writers.
-//! [`order_of`] reads the words. They order a command of [`capn_tool`]; a run over an archive, which is a stream of
-//! messages of any length, by [`capn_archive`] or [`capn_serve`]; that bytes are packed or unpacked while they come in,
-//! by [`capn_flow`]; or that messages are made from texts, by [`capn_make`]. [`end_archive`], [`end_flow`] and
-//! [`end_make`] report how such a run ended.
+//! [`order_of`] reads the words. They order a command of [`capn_tool`]; that messages, or parts of them, are shown in a
+//! style, by [`show_parts`]; a run over an archive, which is a stream of messages of any length, by [`capn_archive`] or
+//! [`capn_serve`]; that bytes are packed or unpacked while they come in, by [`capn_flow`]; or that messages are made
+//! from texts, by [`capn_make`]. [`end_archive`], [`end_flow`] and [`end_make`] report how such a run ended.
 //!
 //! ```text
 //! let order = order_of(alloc, &["capn", "list", "--keep-going"])?;
@@ -20,15 +20,20 @@ mod help;
 pub mod laws;
 mod make_exit;
 mod order;
+mod part_run;
+mod part_texts;
 mod pick_exit;
+mod show_options;
 mod subcommands;
+mod way;
 
 pub use archive_exit::{archive_text, end_archive, status_of_archive};
 pub use command_line::order_of;
 pub use entry::program;
 pub use flow_exit::end_flow;
 pub use make_exit::end_make;
-pub use order::{Flow, Order};
+pub use order::{Flow, Order, Show};
+pub use part_run::show_parts;
 pub use pick_exit::end_pick;
 pub use subcommands::program_command;
 
@@ -37,4 +42,5 @@ pub use capn_archive::{Archive, ArchiveFault, Passed, Position, RunFault, Task, 
 pub use capn_flow::FlowFault;
 pub use capn_make::{MakeFault, Misfit};
 pub use capn_serve::{Pick, StreamForm};
+pub use capn_show::Style;
 pub use capn_tool::{Command, Form, Limits, Memory, Refusal, Tariff, ToolFault, Usage, Watched};

@@ -2,7 +2,8 @@
 
 use capn_archive::{Archive, Uniq};
 use capn_serve::Pick;
-use capn_tool::{Command, Form};
+use capn_show::Style;
+use capn_tool::{Command, Form, Limits};
 
 /// Which way bytes flow. Those that came are written before more are read.
 #[derive(Clone, Copy, Debug, PartialEq, Eq)]
@@ -13,11 +14,26 @@ pub enum Flow {
     Unpack,
 }
 
+/// What of each message is shown, and how: all of it, or what stands at a way from its root.
+#[derive(Clone, Copy, Debug, PartialEq, Eq)]
+pub struct Show<'a> {
+    /// How the input holds its messages.
+    pub form: Form,
+    /// The limits of a message.
+    pub limits: Limits,
+    /// How the text is written.
+    pub style: Style,
+    /// The way: numbers parted by dots. Without one, all of the message is shown.
+    pub way: Option<&'a str>,
+}
+
 /// What a run of the program does with its input.
 #[derive(Clone, Copy, Debug, PartialEq, Eq)]
-pub enum Order {
+pub enum Order<'a> {
     /// A command over messages or bytes, whose input has a greatest length.
     Message(Command),
+    /// Shows each message of an input, which may have any length, in a style, or what stands at a way from its root.
+    Show(Show<'a>),
     /// A run over an archive, which may have any length.
     Archive(Archive),
     /// Writes the messages of an archive without doubles, or counts them.

@@ -8,7 +8,7 @@ ghost use Rattle.capn_program.specs.CommandLine.{archive_line, bytes_line, canon
 ghost use Rattle.capn_program.specs.CommandLine.{flag_rule};
 ghost use Rattle.capn_program.specs.CommandLine.{flagged_line, make_line, messages_line, packing_line, pick_line};
 ghost use Rattle.capn_program.specs.CommandLine.{place_rule, program_line, reading_line, surveying_line, top_line};
-ghost use Rattle.capn_program.specs.CommandLine.{unpacking_line};
+ghost use Rattle.capn_program.specs.CommandLine.{show_line, unpacking_line, way_rule};
 ghost use Rattle.capn_tool.specs.CommandLine.{words_rule};
 
 use crate::help;
@@ -42,7 +42,7 @@ fn page_of(name: &str) -> Page {
         "pack" => help::PACK,
         "unpack" => tool_help::UNPACK,
         "make" => help::MAKE,
-        "show" => tool_help::SHOW,
+        "show" => help::SHOW,
         "check" => tool_help::CHECK,
         _ => tool_help::HASH,
     }
@@ -57,6 +57,28 @@ pub(crate) fn mistake(alloc: Global, name: &str, text: &str) -> Result<clap::Err
     // One call is cheaper to check than fields that are dropped one by one.
     drop(command);
     error
+}
+
+/// `--at`, whose value is the way to what is shown.
+fn way_option<'a>(alloc: Global) -> Arg<'a>
+    ensures rule { rule_of result ≡ way_rule }
+    ensures local { result.global ≡ false }
+{
+    Arg::new(alloc, "at")
+        .long("at")
+        .value_name("P")
+        .help(help::AT)
+}
+
+/// `show`, with `--at`, `--text` and `--json`.
+fn show_command<'a>(alloc: Global) -> Result<Command<'a>, AllocError>
+    ensures { IfOk result (λ c. HasLine c show_line) }
+{
+    let forms = tool_help::FORMS_OF_MESSAGES;
+    let command = parts::message_command(alloc, "show", help::SHOW, forms)?;
+    let with_at = command.arg(way_option(alloc))?;
+    let with_text = with_at.arg(flag(alloc, "text", help::TEXT))?;
+    with_text.arg(flag(alloc, "json", help::JSON))
 }
 
 /// A command over an archive: with the options of one over messages, and `--keep-going`.
@@ -104,9 +126,8 @@ fn top_command<'a>(alloc: Global) -> Command<'a>
 fn reading_command<'a>(alloc: Global) -> Result<Command<'a>, AllocError>
     ensures { IfOk result (λ c. app_of c ≡ reading_line) }
 {
-    let forms = tool_help::FORMS_OF_MESSAGES;
-    let with_show = parts::with_messages(Ok(top_command(alloc)), alloc, "show", forms);
-    parts::with_messages(with_show, alloc, "check", forms)
+    let with_show = parts::with_command(Ok(top_command(alloc)), show_command(alloc));
+    parts::with_messages(with_show, alloc, "check", tool_help::FORMS_OF_MESSAGES)
 }
 
 /// The program with the commands that show what an archive holds and needs.

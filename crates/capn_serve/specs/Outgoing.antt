@@ -1,6 +1,6 @@
 -- What a run has handed to its writer, and the text that it keeps to hand over with what comes next. (Own.)
-use Rattle.std.specs.Prelude.{◌≡◌, ◌⊎◌, ℕ, ◌<◌, List, [], ◌++◌, length, take, Bool, true, false, Option, Result, Ok}
-use Rattle.std.specs.Prelude.{Err}
+use Rattle.std.specs.Prelude.{◌≡◌, ◌⊎◌, ℕ, ◌+◌, ◌<◌, List, [], ◌++◌, length, take, Bool, true, false, Option}
+use Rattle.std.specs.Prelude.{Result, Ok, Err}
 use Rattle.std.specs.Io.KnownBytes.{Appends}
 use Rattle.capn_words.specs.Watched.{HasBegun}
 use Rattle.capn_serve.specs.declared.fault.ServeFault.{ServeFault}
@@ -44,6 +44,22 @@ abbrev pub Flushes : Outgoing → Outgoing → Bool → Result (Unit {0}) ServeF
 Flushes old new failed (Ok u) = Adds old new [] × (length new.kept < 65536) × (failed ≡ false)
 Flushes old new failed (Err fault) =
     (fault ≡ serve_faults.Io) × HasBegun old.taken new.taken old.kept × (failed ≡ true)
+
+-- what was kept was written, then these bytes, and nothing is kept; or the writer failed within these
+abbrev pub Sends : List ℕ → Outgoing → Outgoing → Bool → Result (Unit {0}) ServeFault → Type 0
+Sends bytes old new failed (Ok u) =
+    Appends old.taken new.taken (old.kept ++ bytes) × (new.kept ≡ []) × (failed ≡ false)
+Sends bytes old new failed (Err fault) =
+    (fault ≡ serve_faults.Io) × HasBegun old.taken new.taken (old.kept ++ bytes) × (failed ≡ true)
+
+-- All of these bytes were added, and what is kept is short. Or memory was refused, which comes for short ones alone,
+-- and nothing was added. Or the writer failed within what was kept and these.
+abbrev pub AddsBytes : List ℕ → Outgoing → Outgoing → Bool → Result (Unit {0}) ServeFault → Type 0
+AddsBytes bytes old new failed (Ok u) = Adds old new bytes × (length new.kept < 65536) × (failed ≡ false)
+AddsBytes bytes old new failed (Err serve_faults.Memory) =
+    Adds old new [] × (length old.kept + length bytes < 65536) × (failed ≡ false)
+AddsBytes bytes old new failed (Err serve_faults.Io) = ((count : ℕ) × Breaks old new count bytes) × (failed ≡ true)
+AddsBytes bytes old new failed (Err (serve_faults.Refused r)) = ⊥
 
 -- A run that ended in this way wrote what it kept, and ends so: not if its writer had failed before, and with Io if it
 -- failed now.

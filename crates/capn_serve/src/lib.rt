@@ -7,6 +7,7 @@
 //! [`run_pick`] writes the frames of some messages as they stand, and does not read on after them.
 #![tactic(auto)]
 
+mod adding;
 mod bare_run;
 mod chunk;
 mod fault;
@@ -22,6 +23,7 @@ mod stream;
 mod stream_run;
 mod whole_input;
 
+pub use adding::add_bytes;
 pub use bare_run::run_bare;
 pub use fault::{RunFault, ServeFault};
 pub use form_run::serve_form;

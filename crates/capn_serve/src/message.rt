@@ -14,6 +14,7 @@ use std::alloc::Allocator;
 use std::io::Write;
 
 /// Has the message served, and goes on to where the next one begins.
+#[inline(always)]
 pub(crate) fn add_message<M: Space, S: Service, W: Write, A: Allocator + Copy>(
     alloc: A,
     run: &mut Run<S>,

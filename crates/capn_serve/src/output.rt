@@ -11,7 +11,7 @@ use std::alloc::Allocator;
 use std::io::Write;
 
 /// This number of bytes of text is written at once, or more.
-const ENOUGH: usize = 65_536;
+pub(crate) const ENOUGH: usize = 65_536;
 
 /// Writes all of the text, or a beginning of it if the writer fails.
 pub fn write_all<W: Write>(writer: &mut Watched<W>, text: &[u8]) -> Result<(), RunFault>

@@ -3,8 +3,8 @@
 ghost use Rattle.std.specs.Prelude.{◌≡◌};
 ghost use Rattle.capn_serve.specs.Pick as spec;
 
+use crate::adding::add_bytes;
 use crate::fault::ServeFault;
-use crate::output::flush_long;
 use crate::position::{Position, number_of};
 use crate::service::Service;
 use capn_canon::Limits;
@@ -65,9 +65,6 @@ impl Service for Pick {
         if number < u128::from(self.from) || u128::from(self.to) < number {
             return Ok(());
         }
-        match text.extend_from_slice(frame) {
-            Ok(()) => flush_long(text, writer),
-            Err(_) => Err(ServeFault::Memory),
-        }
+        add_bytes(frame, text, writer)
     }
 }

@@ -23,9 +23,10 @@ pub trait Service {
 
     /// Adds what the message writes: to the text, which goes out next, or to the writer after the text.
     ///
-    /// A service may append to the text, and call [`flush_long`](crate::flush_long) at its end; or it may write the
-    /// text to the writer, and then its own piece by piece, so that no long answer is held. A refusal comes before the
-    /// first byte of the message's text. At `Memory` or `Io` a beginning of that text may have been added.
+    /// A service may append to the text, and call [`flush_long`](crate::flush_long) at its end; or it may add what is
+    /// there already by [`add_bytes`](crate::add_bytes); or it may write the text to the writer, and then its own piece
+    /// by piece, so that no long answer is held. A refusal comes before the first byte of the message's text. At
+    /// `Memory` or `Io` a beginning of that text may have been added.
     fn serve<S: Space, W: Write, A: Allocator + Copy>(
         &mut self,
         alloc: A,

@@ -42,6 +42,7 @@ fn pass(fault: FrameFault) -> Result<(), RunFault>
 
 /// Serves the messages that lie whole in these bytes, of which no byte is copied. Answers how many bytes they take. Why
 /// no other follows is for the framer to say.
+#[inline(always)]
 fn serve_whole<S: Service, W: Write, A: Allocator + Copy>(
     alloc: A,
     most: u32,

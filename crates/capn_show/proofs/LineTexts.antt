@@ -4,6 +4,7 @@ use Rattle.std.proofs.Common.{refl, ◌∙◌, sym, ap, arith, append_assoc, cod
 use Rattle.std.specs.Fmt.{decimal}
 use Rattle.std.proofs.lemmas.List.{replicate-append-replicate, take-replicate}
 use Rattle.capn_value.specs.Text.{line, named, body_line, hex16}
+use Rattle.capn_show.specs.inner.ReadyPlaces.{quoted_front}
 use Rattle.capn_show.specs.declared.fault.Broken.{Broken}
 use Rattle.capn_show.specs.Outgoing.{Outgoing, Adds, BreaksOff}
 use Rattle.capn_show.proofs.shared.Appended.{both, otherwise, otherwise-broken, then-broken, broken-before}
@@ -67,6 +68,19 @@ body-lined level w s =
     ∙ sym (append_assoc (decimal w) (32 ∷ decimal s) (10 ∷ [])))
     ∙ sym (append_assoc (codes "struct ") (decimal w ++ 32 ∷ decimal s) (10 ∷ [])))
     ∙ lined level (codes "struct " ++ (decimal w ++ 32 ∷ decimal s))
+
+pub quoted-lined : (level n : ℕ) (text : List ℕ) → quoted_front level n ++ (text ++ 34 ∷ 10 ∷ [])
+    ≡ line level (named (codes "bytes") n ++ 32 ∷ 34 ∷ (text ++ 34 ∷ []))
+quoted-lined level n text =
+    let all = text ++ 34 ∷ 10 ∷ [] in
+    let said = 32 ∷ 34 ∷ (text ++ 34 ∷ []) in
+    append_assoc (replicate (2 * level) 32) (codes "bytes " ++ ((decimal n ++ 32 ∷ []) ++ 34 ∷ [])) all
+    ∙ ap (λ (l : List ℕ). replicate (2 * level) 32 ++ (codes "bytes " ++ l))
+    (append_assoc (decimal n ++ 32 ∷ []) (34 ∷ []) all
+    ∙ append_assoc (decimal n) (32 ∷ []) (34 ∷ all)
+    ∙ ap (λ (l : List ℕ). decimal n ++ 32 ∷ 34 ∷ l) (sym (append_assoc text (34 ∷ []) (10 ∷ [])))
+    ∙ sym (append_assoc (decimal n) said (10 ∷ [])))
+    ∙ lined level (named (codes "bytes") n ++ said)
 
 pub word-lined : (level w : ℕ)
     → replicate (2 * level) 32 ++ (codes "word " ++ (hex16 w ++ 10 ∷ [])) ≡ line level (codes "word " ++ hex16 w)

@@ -1,75 +1,73 @@
 -- The text of a list of elements without pointers, from its first line and what follows it.
 use Rattle.std.proofs.Common.{◌≡◌, ℕ, ◌+◌, List, ◌++◌, length, codes, subst, sym, ap, ◌∙◌}
-use Rattle.hex.specs.Hex.{encode_lower}
 use Rattle.capn_words.specs.declared.pointer.Width.{Width}
 use Rattle.capn_words.specs.declared.pointer.Width.TheVariants.{W0, W1, W8, W16, W32, W64}
 use Rattle.capn_value.specs.Tree.{Tree}
-use Rattle.capn_value.specs.Text.{line, named, one_line, digits_of, number_lines, shown}
+use Rattle.capn_value.specs.Text.{line, named, one_line, digits_of, number_lines}
+use Rattle.capn_show.specs.Quoting.{shown_by}
 use Rattle.capn_walk.specs.declared.target.Target.TheVariants as targets
 use Rattle.capn_walk.specs.declared.target.Shape.TheVariants as shapes
 use Rattle.capn_walk.specs.ShownValue.{Shows}
 use Rattle.capn_show.specs.inner.ReadyPlaces.{AreNumbers, IsFoundShown, NumbersShown, BitsShown}
 use Rattle.capn_show.proofs.FoundKinds.{as-voids, as-bits, as-bytes, as-pairs, as-quads, as-octs}
 
-module _ (m : List (List ℕ)) (s w n level : ℕ) (width : Width) (Says : List ℕ → Type 0) where
-  -- whatever pads led to the list, this is said of its text
-  abbrev IsListShown : Type 0
-  IsListShown = (pads : ℕ) → IsFoundShown m (targets.Content s w (shapes.Many width n) pads) level Says
+module _ (by : ℕ → List ℕ → List ℕ) where
+  module _ (m : List (List ℕ)) (s w n level : ℕ) (width : Width) (Says : List ℕ → Type 0) where
+    -- whatever pads led to the list, this is said of its text
+    abbrev IsListShown : Type 0
+    IsListShown = (pads : ℕ) → IsFoundShown m by (targets.Content s w (shapes.Many width n) pads) level Says
 
-  known : (other : Width) (pads : ℕ) (v : Tree) → width ≡ other
-      → Shows m (targets.Content s w (shapes.Many width n) pads) v
-      → Shows m (targets.Content s w (shapes.Many other n) pads) v
-  known other pads v e = subst (λ (x : Width). Shows m (targets.Content s w (shapes.Many x n) pads) v) e
+    known : (other : Width) (pads : ℕ) (v : Tree) → width ≡ other
+        → Shows m (targets.Content s w (shapes.Many width n) pads) v
+        → Shows m (targets.Content s w (shapes.Many other n) pads) v
+    known other pads v e = subst (λ (x : Width). Shows m (targets.Content s w (shapes.Many x n) pads) v) e
 
-  pub voids-shown : width ≡ W0 → Says (line level (named (codes "void") n)) → IsListShown
-  voids-shown e h pads v i =
-      subst Says (sym (ap (shown level) (as-voids m s w pads n v (known W0 pads v e i)))) h
+    pub voids-shown : width ≡ W0 → Says (line level (named (codes "void") n)) → IsListShown
+    voids-shown e h pads v i =
+        subst Says (sym (ap (shown_by by level) (as-voids m s w pads n v (known W0 pads v e i)))) h
 
-  module _ (Below : List ℕ → Type 0) where
-    pub bits-shown : width ≡ W1 → ((y : List ℕ) → Below y → Says (line level (named (codes "bits") n) ++ y))
-        → BitsShown m s w n (λ xs. one_line (level + 1) (length xs) (digits_of xs)) Below → IsListShown
-    bits-shown e step k pads v i =
-        let x = as-bits m s w pads n v (known W1 pads v e i) in
-        let rest = one_line (level + 1) (length x.digits) (digits_of x.digits) in
-        subst Says
-        (ap (λ (j : ℕ). line level (named (codes "bits") j) ++ rest) (sym x.count) ∙ sym (ap (shown level) x.is))
-        (step rest (k x.digits x.are x.count))
-
-    pub bytes-shown : width ≡ W8 → ((y : List ℕ) → Below y → Says (line level (named (codes "bytes") n) ++ y))
-        → NumbersShown m s w W8 n (λ xs. one_line (level + 1) (length xs) (encode_lower xs)) Below → IsListShown
-    bytes-shown e step k pads v i =
+    pub bytes-shown : width ≡ W8 → NumbersShown m s w W8 n (by level) Says → IsListShown
+    bytes-shown e k pads v i =
         let x = as-bytes m s w pads n v (known W8 pads v e i) in
-        let rest = one_line (level + 1) (length x.numbers) (encode_lower x.numbers) in
-        subst Says
-        (ap (λ (j : ℕ). line level (named (codes "bytes") j) ++ rest) (sym x.count) ∙ sym (ap (shown level) x.is))
-        (step rest (k x.numbers x.are x.count))
+        subst Says (sym (ap (shown_by by level) x.is)) (k x.numbers x.are x.count)
 
-    pub pairs-shown : width ≡ W16 → ((y : List ℕ) → Below y → Says (line level (named (codes "u16") n) ++ y))
-        → NumbersShown m s w width n (number_lines (level + 1)) Below → IsListShown
-    pairs-shown e step k pads v i =
-        let x = as-pairs m s w pads n v (known W16 pads v e i) in
-        let rest = number_lines (level + 1) x.numbers in
-        let are = subst (λ (y : Width). AreNumbers m s w y x.numbers) (sym e) x.are in
-        subst Says
-        (ap (λ (j : ℕ). line level (named (codes "u16") j) ++ rest) (sym x.count) ∙ sym (ap (shown level) x.is))
-        (step rest (k x.numbers are x.count))
+    module _ (Below : List ℕ → Type 0) where
+      pub bits-shown : width ≡ W1 → ((y : List ℕ) → Below y → Says (line level (named (codes "bits") n) ++ y))
+          → BitsShown m s w n (λ xs. one_line (level + 1) (length xs) (digits_of xs)) Below → IsListShown
+      bits-shown e step k pads v i =
+          let x = as-bits m s w pads n v (known W1 pads v e i) in
+          let rest = one_line (level + 1) (length x.digits) (digits_of x.digits) in
+          subst Says
+          (ap (λ (j : ℕ). line level (named (codes "bits") j) ++ rest) (sym x.count)
+          ∙ sym (ap (shown_by by level) x.is))
+          (step rest (k x.digits x.are x.count))
 
-    pub quads-shown : width ≡ W32 → ((y : List ℕ) → Below y → Says (line level (named (codes "u32") n) ++ y))
-        → NumbersShown m s w width n (number_lines (level + 1)) Below → IsListShown
-    quads-shown e step k pads v i =
-        let x = as-quads m s w pads n v (known W32 pads v e i) in
-        let rest = number_lines (level + 1) x.numbers in
-        let are = subst (λ (y : Width). AreNumbers m s w y x.numbers) (sym e) x.are in
-        subst Says
-        (ap (λ (j : ℕ). line level (named (codes "u32") j) ++ rest) (sym x.count) ∙ sym (ap (shown level) x.is))
-        (step rest (k x.numbers are x.count))
+      pub pairs-shown : width ≡ W16 → ((y : List ℕ) → Below y → Says (line level (named (codes "u16") n) ++ y))
+          → NumbersShown m s w width n (number_lines (level + 1)) Below → IsListShown
+      pairs-shown e step k pads v i =
+          let x = as-pairs m s w pads n v (known W16 pads v e i) in
+          let rest = number_lines (level + 1) x.numbers in
+          let are = subst (λ (y : Width). AreNumbers m s w y x.numbers) (sym e) x.are in
+          subst Says
+          (ap (λ (j : ℕ). line level (named (codes "u16") j) ++ rest) (sym x.count) ∙ sym (ap (shown_by by level) x.is))
+          (step rest (k x.numbers are x.count))
 
-    pub octs-shown : width ≡ W64 → ((y : List ℕ) → Below y → Says (line level (named (codes "u64") n) ++ y))
-        → NumbersShown m s w width n (number_lines (level + 1)) Below → IsListShown
-    octs-shown e step k pads v i =
-        let x = as-octs m s w pads n v (known W64 pads v e i) in
-        let rest = number_lines (level + 1) x.numbers in
-        let are = subst (λ (y : Width). AreNumbers m s w y x.numbers) (sym e) x.are in
-        subst Says
-        (ap (λ (j : ℕ). line level (named (codes "u64") j) ++ rest) (sym x.count) ∙ sym (ap (shown level) x.is))
-        (step rest (k x.numbers are x.count))
+      pub quads-shown : width ≡ W32 → ((y : List ℕ) → Below y → Says (line level (named (codes "u32") n) ++ y))
+          → NumbersShown m s w width n (number_lines (level + 1)) Below → IsListShown
+      quads-shown e step k pads v i =
+          let x = as-quads m s w pads n v (known W32 pads v e i) in
+          let rest = number_lines (level + 1) x.numbers in
+          let are = subst (λ (y : Width). AreNumbers m s w y x.numbers) (sym e) x.are in
+          subst Says
+          (ap (λ (j : ℕ). line level (named (codes "u32") j) ++ rest) (sym x.count) ∙ sym (ap (shown_by by level) x.is))
+          (step rest (k x.numbers are x.count))
+
+      pub octs-shown : width ≡ W64 → ((y : List ℕ) → Below y → Says (line level (named (codes "u64") n) ++ y))
+          → NumbersShown m s w width n (number_lines (level + 1)) Below → IsListShown
+      octs-shown e step k pads v i =
+          let x = as-octs m s w pads n v (known W64 pads v e i) in
+          let rest = number_lines (level + 1) x.numbers in
+          let are = subst (λ (y : Width). AreNumbers m s w y x.numbers) (sym e) x.are in
+          subst Says
+          (ap (λ (j : ℕ). line level (named (codes "u64") j) ++ rest) (sym x.count) ∙ sym (ap (shown_by by level) x.is))
+          (step rest (k x.numbers are x.count))

@@ -36,10 +36,11 @@ module _ (m : List (List ℕ)) where
       (at : Place) (t : Target) (depth : ℕ) → target m at ≡ Ok t → IsReady m at depth → IsFound m t depth
   found-ready laws at t depth e r = record { value = r.value; is = laws m at t r.value e r.is; low = r.low }
 
-  pub found-shown : (laws : (message : List (List ℕ)) (at : Place) (t : Target) (v : Tree) → ViewsShow message at t v)
+  pub found-shown : (by : ℕ → List ℕ → List ℕ) (laws : (message : List (List ℕ)) (at : Place) (t : Target) (v : Tree)
+      → ViewsShow message at t v)
       (at : Place) (t : Target) (level : ℕ) (Says : List ℕ → Type 0) → target m at ≡ Ok t
-      → IsFoundShown m t level Says → IsShown m at level Says
-  found-shown laws at t level Says e h v i = h v (laws m at t v e i)
+      → IsFoundShown m by t level Says → IsShown m by at level Says
+  found-shown by laws at t level Says e h v i = h v (laws m at t v e i)
 
   -- one of several slots
   pub slot-ready : (s w number depth i : ℕ) → i < number → AreReady m s w number depth

@@ -53,7 +53,7 @@ pub fn end_line<W: Write, A: Allocator>(
 }
 
 /// A number, and a byte after it.
-fn put_number<W: Write, A: Allocator>(
+pub fn put_number<W: Write, A: Allocator>(
     text: &mut Vec<u8, A>,
     writer: &mut Watched<W>,
     n: u64,

@@ -42,7 +42,7 @@ pub fn show_message<S: Space, W: Write, A: Allocator, B: Allocator + Copy>(
     values();
     let _bounds = space.segments();
     survey(alloc, space, limits)?;
-    match show_slot(text, writer, space, ROOT, 0, limits.depth()) {
+    match show_slot::<_, _, _, false>(text, writer, space, ROOT, 0, limits.depth()) {
         Ok(()) => Ok(()),
         Err(broken) => Err(fault_of(broken)),
     }

@@ -21,7 +21,7 @@ use std::alloc::Allocator;
 use std::io::Write;
 
 /// Element `i` of a list of bits, bytes, pairs, quads or octs whose content starts at a place.
-fn number_at<S: Space>(space: &S, start: Place, width: Width, i: u32) -> u64
+pub fn number_at<S: Space>(space: &S, start: Place, width: Width, i: u32) -> u64
     requires message { IsMessage (S.message space.now) }
     requires there { IsContent (S.message space.now) start (i / seen.per_word width + 1) }
     requires plain { HasNumbers width }
@@ -114,7 +114,7 @@ pub fn show_bits<S: Space, W: Write, A: Allocator>(
 }
 
 /// The digits of the bits of a list, those of a word at a time.
-fn push_bits<S: Space, W: Write, A: Allocator>(
+pub fn push_bits<S: Space, W: Write, A: Allocator>(
     text: &mut Vec<u8, A>,
     writer: &mut Watched<W>,
     space: &S,
@@ -167,7 +167,7 @@ pub fn show_bytes<S: Space, W: Write, A: Allocator>(
 }
 
 /// The digits of the bytes of a list, those of a word at a time.
-fn push_bytes<S: Space, W: Write, A: Allocator>(
+pub fn push_bytes<S: Space, W: Write, A: Allocator>(
     text: &mut Vec<u8, A>,
     writer: &mut Watched<W>,
     space: &S,

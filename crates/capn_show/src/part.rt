@@ -10,19 +10,22 @@ ghost use Rattle.capn_walk.specs.Accepted.{root};
 ghost use Rattle.capn_show.specs.Outgoing.{Adds, BreaksOff, outgoing};
 ghost use Rattle.capn_show.specs.Part as parts;
 ghost use Rattle.capn_show.specs.inner.ReadyPlaces.{IsReady, Holds, HasValue, LeadsTo, IsPartShown};
+ghost use Rattle.capn_show.specs.Styled.{styled};
 ghost use Rattle.capn_show.specs.Written.{IsWritten, IsUnwritten};
 
 use crate::fault::{Broken, ShowFault, fault_of};
-use crate::lines::plain_line;
 use crate::message::ROOT;
-use crate::slots::show_found;
+use crate::style::Style;
+use crate::styled::{show_nothing, show_there};
 use capn_walk::laws::{values, views_show_values};
 use capn_walk::{Limits, Shape, Target, resolve, survey};
 use capn_words::{Place, Space, Watched, Width};
 use std::alloc::Allocator;
 use std::io::Write;
 
-/// Adds the text of what stands at a way of numbers from the root of a message, or the line `none` where nothing does.
+/// Adds the text of what stands at a way of numbers from the root of a message, in a style.
+///
+/// Where nothing stands there, it is the line `none`, or in JSON an empty line.
 ///
 /// A number leads from a struct to a slot, from a list of pointers to an element, and from a list of structs to a row,
 /// which is written as a struct. The whole message is surveyed first, as by [`show_message`](crate::show_message), and
@@ -33,19 +36,20 @@ pub fn show_part<S: Space, W: Write, A: Allocator, B: Allocator + Copy>(
     writer: &mut Watched<W>,
     space: &S,
     limits: Limits,
+    style: Style,
     way: &[u64],
 ) -> Result<(), ShowFault>
     // An answer: the message is accepted, and the text of what stands there is added.
-    ensures shown { OnOk result (IsWritten (S.message space.now) limits (parts.text_at way.now)
+    ensures shown { OnOk result (IsWritten (S.message space.now) limits (styled style way.now)
         (outgoing W.contents writer.old text.old.items) (outgoing W.contents writer.new text.new.items)) }
     // A refusal is as that of `show_message`.
-    ensures refused { IfErr result (λ fault. IsUnwritten (S.message space.now) limits (parts.text_at way.now) fault
+    ensures refused { IfErr result (λ fault. IsUnwritten (S.message space.now) limits (styled style way.now) fault
         (outgoing W.contents writer.old text.old.items) (outgoing W.contents writer.new text.new.items)) }
 {
     values();
     let _bounds = space.segments();
     survey(alloc, space, limits)?;
-    match write_part(text, writer, space, way, limits.depth()) {
+    match write_part(text, writer, space, style, way, limits.depth()) {
         Ok(()) => Ok(()),
         Err(broken) => Err(fault_of(broken)),
     }
@@ -56,6 +60,7 @@ fn write_part<S: Space, W: Write, A: Allocator>(
     text: &mut Vec<u8, A>,
     writer: &mut Watched<W>,
     space: &S,
+    style: Style,
     way: &[u64],
     depth: u32,
 ) -> Result<(), Broken>
@@ -63,15 +68,15 @@ fn write_part<S: Space, W: Write, A: Allocator>(
     requires place { IsPlace (S.message space.now) root }
     requires ready { IsReady (S.message space.now) root depth }
     requires room { 2 * depth < 2 ^ 32 }
-    ensures shown { OnOk result (IsPartShown (S.message space.now) way.now (Adds
+    ensures shown { OnOk result (IsPartShown (S.message space.now) style way.now (Adds
         (outgoing W.contents writer.old text.old.items) (outgoing W.contents writer.new text.new.items))) }
-    ensures cut { IfErr result (λ e. IsPartShown (S.message space.now) way.now (BreaksOff
+    ensures cut { IfErr result (λ e. IsPartShown (S.message space.now) style way.now (BreaksOff
         (outgoing W.contents writer.old text.old.items) (outgoing W.contents writer.new text.new.items) e)) }
 {
     let found = named(space, ROOT);
     match follow(space, found, way) {
-        Some(part) => show_found(text, writer, space, part, 0, depth),
-        None => plain_line(text, writer, 0, "none"),
+        Some(part) => show_there(text, writer, space, style, part, depth),
+        None => show_nothing(text, writer, style),
     }
 }
 

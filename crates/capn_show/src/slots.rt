@@ -8,12 +8,13 @@ ghost use Rattle.capn_walk.specs.Target.{content_words};
 ghost use Rattle.capn_walk.specs.Shapes.{IsContent, IsPlain};
 ghost use Rattle.capn_walk.specs.View.{IsInMessage};
 ghost use Rattle.capn_show.specs.Outgoing.{Adds, BreaksOff, outgoing};
-ghost use Rattle.capn_show.specs.inner.ReadyPlaces.{IsReady, IsFound, IsBody, AreReady, AreRows};
+ghost use Rattle.capn_show.specs.inner.ReadyPlaces.{IsReady, IsFound, IsBody, AreReady, AreRows, bytes_of};
 ghost use Rattle.capn_show.specs.inner.ReadyPlaces.{IsShown, IsFoundShown, IsBodyShown, AreShown, RowsShown};
 
+use crate::bytes::show_byte_list;
 use crate::fault::Broken;
 use crate::lines::{body_line, named_line, plain_line};
-use crate::numbers::{show_bits, show_bytes, show_numbers, show_words};
+use crate::numbers::{show_bits, show_numbers, show_words};
 use capn_walk::laws::views_show_values;
 use capn_walk::{Shape, Target, resolve};
 use capn_words::{Place, Space, Watched, Width};
@@ -22,7 +23,7 @@ use std::io::Write;
 
 /// The text of the value that stands at a place.
 #[cycle(slots)]
-pub fn show_slot<S: Space, W: Write, A: Allocator>(
+pub fn show_slot<S: Space, W: Write, A: Allocator, const QUOTED: bool>(
     text: &mut Vec<u8, A>,
     writer: &mut Watched<W>,
     space: &S,
@@ -34,14 +35,14 @@ pub fn show_slot<S: Space, W: Write, A: Allocator>(
     requires place { IsPlace (S.message space.now) at }
     requires ready { IsReady (S.message space.now) at depth }
     requires room { level + 2 * depth < 2 ^ 32 }
-    ensures shown { OnOk result (IsShown (S.message space.now) at level (Adds
+    ensures shown { OnOk result (IsShown (S.message space.now) (bytes_of QUOTED) at level (Adds
         (outgoing W.contents writer.old text.old.items) (outgoing W.contents writer.new text.new.items))) }
-    ensures cut { IfErr result (λ e. IsShown (S.message space.now) at level (BreaksOff
+    ensures cut { IfErr result (λ e. IsShown (S.message space.now) (bytes_of QUOTED) at level (BreaksOff
         (outgoing W.contents writer.old text.old.items) (outgoing W.contents writer.new text.new.items) e)) }
 {
     views_show_values();
     match resolve(space, at) {
-        Ok(found) => show_found(text, writer, space, found, level, depth),
+        Ok(found) => show_found::<_, _, _, QUOTED>(text, writer, space, found, level, depth),
         // A value stands here, so the pointer names something.
         Err(_) => unreachable!(),
     }
@@ -49,7 +50,7 @@ pub fn show_slot<S: Space, W: Write, A: Allocator>(
 
 /// The text of the value that a pointer names.
 #[cycle(slots)]
-pub fn show_found<S: Space, W: Write, A: Allocator>(
+pub fn show_found<S: Space, W: Write, A: Allocator, const QUOTED: bool>(
     text: &mut Vec<u8, A>,
     writer: &mut Watched<W>,
     space: &S,
@@ -62,10 +63,12 @@ pub fn show_found<S: Space, W: Write, A: Allocator>(
     requires ready { IsFound (S.message space.now) found depth }
     requires room { level + 2 * depth < 2 ^ 32 }
     ensures shown { OnOk result
-        (IsFoundShown (S.message space.now) found level (Adds (outgoing W.contents writer.old text.old.items)
+        (IsFoundShown (S.message space.now) (bytes_of QUOTED) found level
+        (Adds (outgoing W.contents writer.old text.old.items)
         (outgoing W.contents writer.new text.new.items))) }
     ensures cut { IfErr result (λ e.
-        IsFoundShown (S.message space.now) found level (BreaksOff (outgoing W.contents writer.old text.old.items)
+        IsFoundShown (S.message space.now) (bytes_of QUOTED) found level
+        (BreaksOff (outgoing W.contents writer.old text.old.items)
         (outgoing W.contents writer.new text.new.items) e)) }
 {
     match found {
@@ -83,14 +86,33 @@ pub fn show_found<S: Space, W: Write, A: Allocator>(
             };
             match shape {
                 Shape::Node { words, slots } => {
-                    show_body(text, writer, space, start, words, slots, level, depth - 1)
+                    show_body::<_, _, _, QUOTED>(
+                        text,
+                        writer,
+                        space,
+                        start,
+                        words,
+                        slots,
+                        level,
+                        depth - 1,
+                    )
                 }
                 Shape::Many { width, count } => match width {
                     Width::Link => {
                         named_line(text, writer, level, "pointers", count)?;
-                        show_slots(text, writer, space, start, count, level + 1, depth - 1)
+                        show_slots::<_, _, _, QUOTED>(
+                            text,
+                            writer,
+                            space,
+                            start,
+                            count,
+                            level + 1,
+                            depth - 1,
+                        )
                     }
-                    _ => show_list(text, writer, space, start, width, count, level),
+                    _ => show_list::<_, _, _, QUOTED>(
+                        text, writer, space, start, width, count, level,
+                    ),
                 },
                 Shape::Rows {
                     count,
@@ -103,7 +125,7 @@ pub fn show_found<S: Space, W: Write, A: Allocator>(
                         segment,
                         word: start.word + 1,
                     };
-                    show_rows(
+                    show_rows::<_, _, _, QUOTED>(
                         text,
                         writer,
                         space,
@@ -121,7 +143,7 @@ pub fn show_found<S: Space, W: Write, A: Allocator>(
 }
 
 /// The text of a list of elements without pointers.
-fn show_list<S: Space, W: Write, A: Allocator>(
+fn show_list<S: Space, W: Write, A: Allocator, const QUOTED: bool>(
     text: &mut Vec<u8, A>,
     writer: &mut Watched<W>,
     space: &S,
@@ -135,10 +157,12 @@ fn show_list<S: Space, W: Write, A: Allocator>(
     requires plain { IsPlain width }
     requires room { level + 1 < 2 ^ 32 }
     ensures shown { OnOk result ((pads : ℕ)
-        → IsFoundShown (S.message space.now) (targets.Content start.segment start.word (shapes.Many width count) pads)
+        → IsFoundShown (S.message space.now) (bytes_of QUOTED) (targets.Content start.segment start.word
+        (shapes.Many width count) pads)
         level (Adds (outgoing W.contents writer.old text.old.items) (outgoing W.contents writer.new text.new.items))) }
     ensures cut { IfErr result (λ e. (pads : ℕ)
-        → IsFoundShown (S.message space.now) (targets.Content start.segment start.word (shapes.Many width count) pads)
+        → IsFoundShown (S.message space.now) (bytes_of QUOTED) (targets.Content start.segment start.word
+        (shapes.Many width count) pads)
         level (BreaksOff (outgoing W.contents writer.old text.old.items) (outgoing W.contents writer.new
         text.new.items) e)) }
 {
@@ -148,10 +172,7 @@ fn show_list<S: Space, W: Write, A: Allocator>(
             named_line(text, writer, level, "bits", count)?;
             show_bits(text, writer, space, start, count, level + 1)
         }
-        Width::W8 => {
-            named_line(text, writer, level, "bytes", count)?;
-            show_bytes(text, writer, space, start, count, level + 1)
-        }
+        Width::W8 => show_byte_list::<_, _, _, QUOTED>(text, writer, space, start, count, level),
         Width::W16 => {
             named_line(text, writer, level, "u16", count)?;
             show_numbers(text, writer, space, start, width, count, level + 1)
@@ -170,7 +191,7 @@ fn show_list<S: Space, W: Write, A: Allocator>(
 
 /// The text of a struct: its first line, its words, and its slots with all below them.
 #[cycle(slots)]
-fn show_body<S: Space, W: Write, A: Allocator>(
+fn show_body<S: Space, W: Write, A: Allocator, const QUOTED: bool>(
     text: &mut Vec<u8, A>,
     writer: &mut Watched<W>,
     space: &S,
@@ -185,10 +206,10 @@ fn show_body<S: Space, W: Write, A: Allocator>(
     requires ready { IsBody (S.message space.now) start.segment start.word words slots depth }
     requires room { level + 1 + 2 * depth < 2 ^ 32 }
     ensures shown { OnOk result
-        (IsBodyShown (S.message space.now) start.segment start.word words slots level (Adds
+        (IsBodyShown (S.message space.now) (bytes_of QUOTED) start.segment start.word words slots level (Adds
         (outgoing W.contents writer.old text.old.items) (outgoing W.contents writer.new text.new.items))) }
     ensures cut { IfErr result (λ e.
-        IsBodyShown (S.message space.now) start.segment start.word words slots level (BreaksOff
+        IsBodyShown (S.message space.now) (bytes_of QUOTED) start.segment start.word words slots level (BreaksOff
         (outgoing W.contents writer.old text.old.items) (outgoing W.contents writer.new text.new.items) e)) }
 {
     body_line(text, writer, level, words, slots)?;
@@ -197,12 +218,12 @@ fn show_body<S: Space, W: Write, A: Allocator>(
         segment: start.segment,
         word: start.word + words as u32,
     };
-    show_slots(text, writer, space, first, slots as u32, level + 1, depth)
+    show_slots::<_, _, _, QUOTED>(text, writer, space, first, slots as u32, level + 1, depth)
 }
 
 /// The text of what stands in slots, one after the other.
 #[cycle(slots)]
-fn show_slots<S: Space, W: Write, A: Allocator>(
+fn show_slots<S: Space, W: Write, A: Allocator, const QUOTED: bool>(
     text: &mut Vec<u8, A>,
     writer: &mut Watched<W>,
     space: &S,
@@ -215,9 +236,10 @@ fn show_slots<S: Space, W: Write, A: Allocator>(
     requires content { IsContent (S.message space.now) first count }
     requires ready { AreReady (S.message space.now) first.segment first.word count depth }
     requires room { level + 2 * depth < 2 ^ 32 }
-    ensures shown { OnOk result (AreShown (S.message space.now) first.segment first.word count level
+    ensures shown { OnOk result (AreShown (S.message space.now) (bytes_of QUOTED) first.segment first.word count level
         (Adds (outgoing W.contents writer.old text.old.items) (outgoing W.contents writer.new text.new.items))) }
-    ensures cut { IfErr result (λ e. AreShown (S.message space.now) first.segment first.word count level
+    ensures cut { IfErr result (λ e. AreShown (S.message space.now) (bytes_of QUOTED) first.segment first.word
+        count level
         (BreaksOff (outgoing W.contents writer.old text.old.items) (outgoing W.contents writer.new text.new.items) e)) }
 {
     for i in 0..count {
@@ -225,14 +247,14 @@ fn show_slots<S: Space, W: Write, A: Allocator>(
             segment: first.segment,
             word: first.word + i,
         };
-        show_slot(text, writer, space, at, level, depth)?;
+        show_slot::<_, _, _, QUOTED>(text, writer, space, at, level, depth)?;
     }
     Ok(())
 }
 
 /// The text of rows, one after the other.
 #[cycle(slots)]
-fn show_rows<S: Space, W: Write, A: Allocator>(
+fn show_rows<S: Space, W: Write, A: Allocator, const QUOTED: bool>(
     text: &mut Vec<u8, A>,
     writer: &mut Watched<W>,
     space: &S,
@@ -248,10 +270,10 @@ fn show_rows<S: Space, W: Write, A: Allocator>(
     requires ready { AreRows (S.message space.now) first.segment first.word count words slots depth }
     requires room { level + 1 + 2 * depth < 2 ^ 32 }
     ensures shown { OnOk result
-        (RowsShown (S.message space.now) first.segment first.word count words slots level (Adds
+        (RowsShown (S.message space.now) (bytes_of QUOTED) first.segment first.word count words slots level (Adds
         (outgoing W.contents writer.old text.old.items) (outgoing W.contents writer.new text.new.items))) }
     ensures cut { IfErr result (λ e.
-        RowsShown (S.message space.now) first.segment first.word count words slots level
+        RowsShown (S.message space.now) (bytes_of QUOTED) first.segment first.word count words slots level
         (BreaksOff (outgoing W.contents writer.old text.old.items) (outgoing W.contents writer.new text.new.items) e)) }
 {
     let mut next = first.word;
@@ -260,7 +282,7 @@ fn show_rows<S: Space, W: Write, A: Allocator>(
             segment: first.segment,
             word: next,
         };
-        show_body(text, writer, space, start, words, slots, level, depth)?;
+        show_body::<_, _, _, QUOTED>(text, writer, space, start, words, slots, level, depth)?;
         next += words as u32 + slots as u32;
     }
     Ok(())

@@ -12,6 +12,7 @@ pub mod Verdicts
 pub mod Served
 mod ShownMessage
 pub mod EachServed
+pub mod BareServed
 pub mod PackedServed
 pub mod WorkedLines
 pub mod Carried

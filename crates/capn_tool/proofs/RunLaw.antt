@@ -3,6 +3,7 @@ use Rattle.std.proofs.Common.{◌≡◌, ◌⊎◌, inl, inr, ℕ, ◌+◌, ◌�
 use Rattle.std.proofs.Common.{Err, refl, ap, sym, subst}
 use Rattle.std.proofs.KnownBytes.{Appends-nil}
 use Rattle.capn_tool.specs.Text.{taken_of, has_more, HasEnded, HasWritten, IsFront, PlanEndsAs, PlanBegins}
+use Rattle.capn_tool.specs.StreamRun.{Runs}
 use Rattle.capn_tool.specs.inner.ReadInput.{HasRead, Kept}
 use Rattle.capn_tool.specs.declared.plan.Plan.{Plan}
 use Rattle.capn_tool.specs.declared.plan.Plan.TheVariants as plans
@@ -71,3 +72,10 @@ ends_unread plan (Some all) writer written fault (inr e) = inr (inl (ap (λ (f :
 pub ends_planned : (plan other : Plan) (known old new : Option (List ℕ)) (r : Result (Unit {0}) ToolFault)
     → plan ≡ other → IfSome known (PlanEndsAs plan old new r) → IfSome known (PlanEndsAs other old new r)
 ends_planned plan other known old new r e h = subst (λ (p : Plan). IfSome known (PlanEndsAs p old new r)) e h
+
+-- a run of a plan is one of any plan that equals it
+pub runs_planned : (plan this : Plan) (a b c d : Option (List ℕ)) (reader_failed writer_failed : Bool)
+    (r : Result (Unit {0}) ToolFault) → plan ≡ this → Runs this a b c d reader_failed writer_failed r
+    → Runs plan a b c d reader_failed writer_failed r
+runs_planned plan this a b c d reader_failed writer_failed r is run =
+    subst (λ (p : Plan). Runs p a b c d reader_failed writer_failed r) (sym is) run

@@ -19,10 +19,10 @@ use Rattle.capn_tool.proofs.WholeServed.{told_whole}
 abbrev Ending : Type 0
 Ending = Result (Unit {0}) ToolFault
 
-is_more : (bytes : List ℕ) → 2 ^ 32 < length bytes → has_more bytes ≡ true
+pub is_more : (bytes : List ℕ) → 2 ^ 32 < length bytes → has_more bytes ≡ true
 is_more bytes h = grind (arith, nat_tests)
 
-is_all : (bytes : List ℕ) → length bytes ≤ 2 ^ 32 → has_more bytes ≡ false
+pub is_all : (bytes : List ℕ) → length bytes ≤ 2 ^ 32 → has_more bytes ≡ false
 is_all bytes h = grind (arith, nat_tests)
 
 -- an input was not taken, or nothing is made of it

@@ -103,8 +103,3 @@ PutsBareMessageText piece words limits old new (Err fault) =
 abbrev pub PutsLine : List ℕ → List ℕ → List ℕ → Result (Unit {0}) ToolFault → Type 0
 PutsLine line old new (Ok u) = new ≡ old ++ line
 PutsLine line old new (Err fault) = (fault ≡ faults.Memory) × (new ≡ old)
-
--- a line was appended to a text, or any bytes if memory ran out
-abbrev pub PutsFront : {E : Type 0} → List ℕ → List ℕ → List ℕ → Result (Unit {0}) E → Type 0
-PutsFront line old new (Ok u) = new ≡ old ++ line
-PutsFront line old new (Err e) = (some : List ℕ) × (new ≡ old ++ some)

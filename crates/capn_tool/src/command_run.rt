@@ -1,25 +1,69 @@
 //! From all of the input to all of the output.
 
-ghost use Rattle.std.specs.Prelude.{◌≡◌, ◌↔◌, ◌⊎◌, ℕ, List, [], Result, true, false, IfSome, IsErrOf};
-ghost use Rattle.std.specs.Io.KnownBytes.{Appends};
+ghost use Rattle.std.specs.Prelude.{◌≡◌, ◌↔◌, ◌⊎◌, ℕ, Bool, List, Option, Result, true, false, IfSome, IsErrOf};
 ghost use Rattle.capn_words.specs.Watched.{inner_of, has_failed};
 ghost use Rattle.capn_tool.specs.Plan as spec;
 ghost use Rattle.capn_tool.specs.StreamRun.{KeepsUp, Runs};
-ghost use Rattle.capn_tool.specs.Text.{EndsAs, EndsBy, IsText, Begins, PlanEndsAs, PlanBegins};
+ghost use Rattle.capn_tool.specs.Text.{EndsAs, EndsBy, IsText, Begins};
+ghost use Rattle.capn_tool.specs.WholeInput.{Gives};
+ghost use Rattle.capn_tool.specs.inner.ReadInput.{TakesAll};
 ghost use Rattle.capn_tool.specs.declared.fault.ToolFault.{ToolFault};
 ghost use Rattle.capn_tool.specs.declared.plan.Plan.TheVariants as plans;
+ghost use Rattle.capn_tool.specs.declared.plan.Whole.{Whole};
+ghost use Rattle.capn_tool.specs.declared.plan.Whole.TheVariants as wholes;
 
+use crate::bare_message::run_one;
 use crate::command::Command;
 use crate::fault::ToolFault;
 use crate::message_stream::{run_each, run_each_packed};
 use crate::output::write_all;
-use crate::plan::{Plan, Whole, plan_of};
-use crate::whole_input::make;
+use crate::pending::read_words;
+use crate::plan::{MessageText, Plan, Whole, plan_of};
+use crate::whole_input::{make_canonical, make_text, make_verdict};
+use capn_walk::Limits;
 use capn_words::Watched;
 use std::alloc::Allocator;
 use std::io::{Read, Write};
 
-/// Reads all there is, and writes what is made of it.
+/// Writes what was made of an input, if anything was.
+fn write_made<W: Write, A: Allocator>(
+    made: Result<Vec<u8, A>, ToolFault>,
+    writer: &mut Watched<W>,
+) -> Result<(), ToolFault>
+    requires { has_failed writer.old ≡ false }
+    ensures { (whole : Whole) (a b : Option (List ℕ)) (unread : Bool) → TakesAll (Gives whole) a b unread made
+        → Runs (plans.Whole whole) a b (W.contents (inner_of writer.old)) (W.contents (inner_of writer.new)) unread
+        (has_failed writer.new) result }
+{
+    match made {
+        Ok(text) => write_all(writer, &text),
+        Err(fault) => Err(fault),
+    }
+}
+
+/// Writes a piece of the one bare message that an input is.
+fn run_bare_piece<R: Read, W: Write, A: Allocator + Copy>(
+    alloc: A,
+    piece: MessageText,
+    limits: Limits,
+    reader: &mut Watched<R>,
+    writer: &mut Watched<W>,
+) -> Result<(), ToolFault>
+    requires reader_fine { has_failed reader.old ≡ false }
+    requires writer_fine { has_failed writer.old ≡ false }
+    ensures { Runs (plans.Whole (wholes.Bare piece limits)) (R.remaining (inner_of reader.old))
+        (R.remaining (inner_of reader.new))
+        (W.contents (inner_of writer.old)) (W.contents (inner_of writer.new)) (has_failed reader.new)
+        (has_failed writer.new) result }
+{
+    match piece {
+        MessageText::Price => write_made(make_verdict(alloc, reader, limits), writer),
+        MessageText::Text => run_one(alloc, piece, limits, reader, writer),
+        MessageText::Digest => run_one(alloc, piece, limits, reader, writer),
+    }
+}
+
+/// Writes what an input is taken whole for.
 fn run_whole<R: Read, W: Write, A: Allocator + Copy>(
     alloc: A,
     whole: Whole,
@@ -28,17 +72,18 @@ fn run_whole<R: Read, W: Write, A: Allocator + Copy>(
 ) -> Result<(), ToolFault>
     requires reader_fine { has_failed reader.old ≡ false }
     requires writer_fine { has_failed writer.old ≡ false }
-    ensures exact { IfSome (R.remaining (inner_of reader.old))
-        (PlanEndsAs (plans.Whole whole) (W.contents (inner_of writer.old)) (W.contents (inner_of writer.new)) result) }
-    ensures io { IsErrOf result ToolFault.Io ↔ ((has_failed reader.new ≡ true) ⊎ (has_failed writer.new ≡ true)) }
-    ensures begun { PlanBegins (plans.Whole whole) (R.remaining (inner_of reader.old))
-        (R.remaining (inner_of reader.new))
-        (W.contents (inner_of writer.old)) (W.contents (inner_of writer.new)) }
-    ensures unread { has_failed reader.new ≡ true
-        → Appends (W.contents (inner_of writer.old)) (W.contents (inner_of writer.new)) [] }
+    ensures { Runs (plans.Whole whole) (R.remaining (inner_of reader.old)) (R.remaining (inner_of reader.new))
+        (W.contents (inner_of writer.old)) (W.contents (inner_of writer.new)) (has_failed reader.new)
+        (has_failed writer.new) result }
 {
-    let text = make(alloc, whole, reader)?;
-    write_all(writer, &text)
+    match whole {
+        Whole::Packed => write_made(make_text(alloc, reader), writer),
+        Whole::Unpacked(most) => write_made(read_words(alloc, reader, most), writer),
+        Whole::Canonical(form, limits) => {
+            write_made(make_canonical(alloc, reader, form, limits), writer)
+        }
+        Whole::Bare(piece, limits) => run_bare_piece(alloc, piece, limits, reader, writer),
+    }
 }
 
 /// Carries a plan out.
@@ -68,10 +113,11 @@ fn perform<R: Read, W: Write, A: Allocator + Copy>(
 /// text of all messages that are whole by then has been written, mostly by one call. Where a message is refused, the
 /// text of those before it has been written.
 ///
-/// Refusals: `Memory` where a growth was refused; `Io` exactly where the reader or the writer has failed, and then a
-/// beginning of the text was written; `InputTooLong` for a byte past 2^32; else the command's own. At most 2^32 + 1
-/// bytes are read, at most 65,536 by one call. Over a stream the memory does not grow with the input: 128 KiB, the
-/// texts of what one call read, at most 1 MiB for unpacked words, and what the longest message takes.
+/// Refusals: `Memory` where a growth was refused; `Io` exactly where the reader or the writer has failed;
+/// `InputTooLong` for a byte past 2^32; else the command's own. After `Memory` and `Io` a beginning of the text was
+/// written, or nothing. At most 2^32 + 1 bytes are read, at most 65,536 by one call. Over a stream the memory does not
+/// grow with the input: 128 KiB, the texts of what one call read, at most 1 MiB for unpacked words, and what the
+/// longest message takes.
 ///
 /// Of an input that is taken whole, `canonical` holds the first 8 * (message words + 2,049) bytes and one more, or as
 /// many words of a packed one, and `unpack` its answer; what follows is read and dropped. The form bare holds at most

@@ -5,7 +5,6 @@ ghost use Rattle.capn_tool.specs.declared.fault.ToolFault.TheVariants as fault;
 
 use capn_canon::Refusal;
 use capn_serve::RunFault;
-use capn_value::Memory;
 use capn_walk::{Fault, Stopped};
 use std::alloc::AllocError;
 use thiserror::Error;
@@ -35,14 +34,6 @@ impl From<AllocError> for ToolFault {
     ghost from_gives = { λ _ e. e ≡ fault.Memory };
 
     fn from(_error: AllocError) -> ToolFault {
-        ToolFault::Memory
-    }
-}
-
-impl From<Memory> for ToolFault {
-    ghost from_gives = { λ _ e. e ≡ fault.Memory };
-
-    fn from(_error: Memory) -> ToolFault {
         ToolFault::Memory
     }
 }

@@ -13,6 +13,7 @@
 //! ```
 #![tactic(auto)]
 
+mod bare_message;
 mod command;
 mod command_line;
 mod command_run;
@@ -29,6 +30,7 @@ mod output;
 pub mod parts;
 mod pending;
 mod plan;
+mod price_line;
 mod subcommands;
 mod usage;
 mod whole_input;

@@ -1,108 +1,39 @@
 //! What is written of one message.
 
-ghost use Rattle.std.specs.Prelude.{◌≡◌, ◌⊎◌, ◌∷◌, ◌++◌, [], codes, string_bytes, IfOk, IfErr};
+ghost use Rattle.std.specs.Prelude.{◌≡◌, ◌≤◌, ◌∷◌, ◌++◌, [], length};
 ghost use Rattle.sha2.specs.Sha256.{sha256};
 ghost use Rattle.hex.specs.Hex.{encode_lower};
-ghost use Rattle.capn_value.specs.Text.{show_text};
-ghost use Rattle.capn_tool.specs.MessageText.{IsMessageText, PutsMessageText, PutsBareMessageText, PutsLine, PutsFront};
-ghost use Rattle.capn_tool.specs.MessageText.{IsStopped};
-ghost use Rattle.capn_tool.specs.MessageText.{priced};
-ghost use Rattle.capn_tool.specs.declared.fault.ToolFault.TheVariants as faults;
+ghost use Rattle.capn_tool.specs.MessageText.{PutsMessageText, PutsBareMessageText, PutsLine, priced};
 ghost use Rattle.capn_tool.specs.declared.plan.MessageText.TheVariants as kinds;
 
 use crate::fault::ToolFault;
-use crate::plan::MessageText;
+use crate::price_line::PriceLine;
 use capn_canon::{Refusal, canonical_of, survey_bare};
-use capn_value::{Tree, show};
-use capn_walk::{Limits, survey, walk};
+use capn_walk::{Limits, survey};
 use capn_words::{Bare, Space};
 use sha2::{Digest, Sha256};
-use std::alloc::{AllocError, Allocator};
+use std::alloc::Allocator;
 
-/// The text of a tree, and the line `end`.
-fn ended_text<A: Allocator, B: Allocator>(alloc: A, tree: &Tree<B>) -> Result<String<A>, ToolFault>
-    ensures found { IfOk result (λ text. string_bytes text ≡ show_text tree.now ++ (codes "end" ++ 10 ∷ [])) }
-    ensures only { IfErr result (λ e. e ≡ faults.Memory) }
-{
-    let mut text = show(alloc, tree)?;
-    match text.push_str("end\n") {
-        Ok(()) => Ok(text),
-        Err(_) => Err(ToolFault::Memory),
-    }
-}
-
-/// The text of a message's value, and the line `end`.
-fn text_of<S: Space, A: Allocator + Copy>(
-    alloc: A,
-    space: &S,
-    limits: Limits,
-) -> Result<String<A>, ToolFault>
-    ensures found { IfOk result (λ text. IsMessageText kinds.Text (S.message space.now) limits (string_bytes text)) }
-    ensures refused { IfErr result (λ e. (e ≡ faults.Memory) ⊎ IsStopped (S.message space.now) limits e) }
-{
-    let walked = walk(alloc, space, limits)?;
-    let text = ended_text(alloc, &walked.tree);
-    // One call is cheaper to check than fields that are dropped one by one.
-    drop(walked);
-    text
-}
-
-/// Appends the text of a message, and the line `end`. If nothing is there yet, the text is handed over, and not copied.
-fn put_text<S: Space, A: Allocator + Copy>(
-    alloc: A,
-    space: &S,
-    limits: Limits,
+/// Appends the line of a price and a number of visits, which ends in these bytes, or nothing where memory is refused.
+fn put_priced<A: Allocator>(
     text: &mut Vec<u8, A>,
+    paid: u32,
+    visits: u32,
+    end: &[u8],
 ) -> Result<(), ToolFault>
-    ensures { PutsMessageText kinds.Text (S.message space.now) limits text.old.items text.new.items result }
+    requires { length end.now ≤ 16 }
+    ensures { PutsLine (priced paid visits end.now) text.old.items text.new.items result }
 {
-    let shown = text_of(alloc, space, limits)?;
-    if text.is_empty() {
-        *text = shown.into_bytes();
-        return Ok(());
-    }
-    match text.extend_from_slice(shown.as_bytes()) {
+    let line = PriceLine::new(paid, visits, end);
+    match text.extend_from_slice(line.as_bytes()) {
         Ok(()) => Ok(()),
         Err(_) => Err(ToolFault::Memory),
     }
 }
 
-/// Appends a price, a number of visits and what ends their line. Where memory is refused, a beginning may stand there.
-fn push_priced<A: Allocator>(
-    text: &mut Vec<u8, A>,
-    paid: u32,
-    visits: u32,
-    behind: &[u8],
-) -> Result<(), AllocError>
-    ensures { PutsFront (priced paid visits behind.now) text.old.items text.new.items result }
-{
-    let mut digits = itoa::Buffer::new();
-    text.extend_from_slice(b"ok paid ")?;
-    text.extend_from_slice(digits.format(paid).as_bytes())?;
-    text.extend_from_slice(b" visits ")?;
-    text.extend_from_slice(digits.format(visits).as_bytes())?;
-    text.extend_from_slice(behind)
-}
-
-/// Appends them, or nothing where memory is refused.
-fn put_priced<A: Allocator>(
-    text: &mut Vec<u8, A>,
-    paid: u32,
-    visits: u32,
-    behind: &[u8],
-) -> Result<(), ToolFault>
-    ensures { PutsLine (priced paid visits behind.now) text.old.items text.new.items result }
-{
-    let kept = text.len();
-    if push_priced(text, paid, visits, behind).is_err() {
-        text.truncate(kept);
-        return Err(ToolFault::Memory);
-    }
-    Ok(())
-}
-
-/// Appends the line of what the walk of a message paid, in words, and how many visits it made.
-fn put_price<S: Space, A: Allocator + Copy>(
+/// Appends the line of what the walk of a message paid, in words, and how many visits it made. After a fault the text
+/// is as it was.
+pub fn put_price<S: Space, A: Allocator + Copy>(
     alloc: A,
     space: &S,
     limits: Limits,
@@ -115,8 +46,8 @@ fn put_price<S: Space, A: Allocator + Copy>(
 }
 
 /// Appends the line of a bare message's price and number of visits, which says whether its bytes are canonical. It
-/// takes memory only for the line.
-fn put_verdict<A: Allocator + Copy>(
+/// takes memory only for the line. After a fault the text is as it was.
+pub fn put_verdict<A: Allocator + Copy>(
     alloc: A,
     space: &Bare<'_>,
     limits: Limits,
@@ -152,8 +83,8 @@ fn put_digest_line<A: Allocator>(bytes: &[u8], text: &mut Vec<u8, A>) -> Result<
     }
 }
 
-/// Appends the line of the digest of a message's canonical bytes.
-fn put_digest<S: Space, A: Allocator + Copy>(
+/// Appends the line of the digest of a message's canonical bytes. After a fault the text is as it was.
+pub fn put_digest<S: Space, A: Allocator + Copy>(
     alloc: A,
     space: &S,
     limits: Limits,
@@ -165,39 +96,5 @@ fn put_digest<S: Space, A: Allocator + Copy>(
         Ok(canonical) => put_digest_line(&canonical.bytes, text),
         Err(Refusal::Memory) => Err(ToolFault::Memory),
         Err(refusal) => Err(ToolFault::Refused(refusal)),
-    }
-}
-
-/// Appends the piece of a message to a text. After a refusal the text is as it was.
-pub fn put_message_text<S: Space, A: Allocator + Copy>(
-    alloc: A,
-    piece: MessageText,
-    space: &S,
-    limits: Limits,
-    text: &mut Vec<u8, A>,
-) -> Result<(), ToolFault>
-    ensures { PutsMessageText piece (S.message space.now) limits text.old.items text.new.items result }
-{
-    match piece {
-        MessageText::Text => put_text(alloc, space, limits, text),
-        MessageText::Price => put_price(alloc, space, limits, text),
-        MessageText::Digest => put_digest(alloc, space, limits, text),
-    }
-}
-
-/// Appends the piece of the one bare message that an input is. After a refusal the text is as it was.
-pub fn put_bare_message_text<A: Allocator + Copy>(
-    alloc: A,
-    piece: MessageText,
-    space: &Bare<'_>,
-    limits: Limits,
-    text: &mut Vec<u8, A>,
-) -> Result<(), ToolFault>
-    ensures { PutsBareMessageText piece space.now limits text.old.items text.new.items result }
-{
-    match piece {
-        MessageText::Text => put_text(alloc, space, limits, text),
-        MessageText::Price => put_verdict(alloc, space, limits, text),
-        MessageText::Digest => put_digest(alloc, space, limits, text),
     }
 }

@@ -1,17 +1,20 @@
-//! The service that writes something of each message of a stream.
+//! The service that writes something of each message of a stream, or of the one of a bare input.
 
 ghost use Rattle.std.specs.Prelude.{◌≡◌, ◌≢◌, ◌⊎◌, List, ℕ, false};
-ghost use Rattle.capn_words.specs.Watched.{has_failed};
+ghost use Rattle.capn_words.specs.Watched.{inner_of, has_failed};
 ghost use Rattle.capn_show.specs.Outgoing.{outgoing};
-ghost use Rattle.capn_serve.specs.Service.{PutsMessage};
+ghost use Rattle.capn_serve.specs.Outgoing as sent;
+ghost use Rattle.capn_serve.specs.Service.{DoesService, PutsMessage};
 ghost use Rattle.capn_serve.specs.declared.position.Position.{Position};
 ghost use Rattle.capn_serve.specs.declared.fault.ServeFault.TheVariants as serve_faults;
 ghost use Rattle.capn_canon.specs.declared.refusal.Refusal.TheVariants as refusals;
 ghost use Rattle.capn_walk.specs.declared.target.Fault.TheVariants as walk_faults;
+ghost use Rattle.capn_tool.specs.MessageText.{PutsMessageText};
 ghost use Rattle.capn_tool.specs.inner.MessageTexts as spec;
+ghost use Rattle.capn_tool.specs.declared.message_texts.MessageTexts.{MessageTexts};
 
 use crate::fault::ToolFault;
-use crate::message_text::put_message_text;
+use crate::message_text::{put_digest, put_price};
 use crate::plan::MessageText;
 use capn_canon::Refusal;
 use capn_serve::{Position, Run, ServeFault, Service, flush_long};
@@ -21,7 +24,7 @@ use capn_words::{Space, Watched};
 use std::alloc::Allocator;
 use std::io::Write;
 
-/// What is written of each message of a stream, within limits. Nothing is kept of the messages before.
+/// What is written of each message, within limits. Nothing is kept of the messages before.
 #[derive(Clone, Copy)]
 pub struct MessageTexts {
     /// What is written of a message.
@@ -30,7 +33,7 @@ pub struct MessageTexts {
     pub limits: Limits,
 }
 
-/// The run over a stream, before its first message.
+/// The run over an input, before its first message.
 pub(crate) fn first_run(piece: MessageText, limits: Limits) -> Run<MessageTexts>
     ensures { result ≡ spec.first_run piece limits }
 {
@@ -90,23 +93,45 @@ fn add_shown<S: Space, W: Write, A: Allocator + Copy>(
     }
 }
 
-impl MessageTexts {
-    /// Appends the piece of a message. After a fault the text is as it was.
-    fn put_message<S: Space, A: Allocator + Copy>(
-        &self,
-        alloc: A,
-        message: &S,
-        text: &mut Vec<u8, A>,
-    ) -> Result<(), ServeFault>
-        ensures { (at : Position) (frame : List ℕ) → PutsMessage spec.serves spec.refuses self.now at frame
-            (S.message message.now) text.old.items text.new.items result self.now }
-    {
-        match put_message_text(alloc, self.piece, message, self.limits, text) {
-            Ok(()) => Ok(()),
-            Err(ToolFault::Refused(refusal)) => Err(ServeFault::Refused(refusal)),
-            Err(_) => Err(ServeFault::Memory),
+/// How a message ends whose piece was not put for this reason.
+fn served_fault(fault: ToolFault) -> ServeFault
+    ensures { result ≡ spec.served_fault fault }
+{
+    match fault {
+        ToolFault::Refused(refusal) => ServeFault::Refused(refusal),
+        ToolFault::Memory | ToolFault::Io | ToolFault::InputTooLong | ToolFault::NotWhole(_) => {
+            ServeFault::Memory
         }
     }
+}
+
+/// How a message ends whose piece was put, or has none.
+fn served(put: Result<(), ToolFault>) -> Result<(), ServeFault>
+    ensures { (s : MessageTexts) (at : Position) (frame : List ℕ) (message : List (List ℕ)) (old new : List ℕ)
+        → PutsMessageText s.piece message s.limits old new put
+        → PutsMessage spec.serves spec.refuses s at frame message old new result s }
+{
+    match put {
+        Ok(()) => Ok(()),
+        Err(fault) => Err(served_fault(fault)),
+    }
+}
+
+/// Ends a message whose piece was put, or has none, and writes what is long.
+fn end_piece<W: Write, A: Allocator>(
+    put: Result<(), ToolFault>,
+    text: &mut Vec<u8, A>,
+    writer: &mut Watched<W>,
+) -> Result<(), ServeFault>
+    requires fine { has_failed writer.old ≡ false }
+    ensures { (s : MessageTexts) (at : Position) (frame : List ℕ) (message : List (List ℕ)) (before : List ℕ)
+        → PutsMessageText s.piece message s.limits before text.old.items put
+        → DoesService spec.serves spec.refuses s at frame message
+        (sent.outgoing (W.contents (inner_of writer.old)) before)
+        (sent.outgoing (W.contents (inner_of writer.new)) text.new.items) (has_failed writer.new) result s }
+{
+    served(put)?;
+    flush_long(text, writer)
 }
 
 impl Service for MessageTexts {
@@ -127,9 +152,13 @@ impl Service for MessageTexts {
     ) -> Result<(), ServeFault> {
         match self.piece {
             MessageText::Text => add_shown(alloc, message, self.limits, text, writer),
-            MessageText::Price | MessageText::Digest => {
-                self.put_message(alloc, message, text)?;
-                flush_long(text, writer)
+            MessageText::Price => {
+                let put = put_price(alloc, message, self.limits, text);
+                end_piece(put, text, writer)
+            }
+            MessageText::Digest => {
+                let put = put_digest(alloc, message, self.limits, text);
+                end_piece(put, text, writer)
             }
         }
     }

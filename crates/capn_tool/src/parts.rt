@@ -4,6 +4,5 @@ pub use crate::command_line::{form_of, limits_of, order_of};
 pub use crate::entry::{carry_out, end_unordered};
 pub use crate::output::{flush_behind, write_all};
 pub use crate::subcommands::{
-    message_command, page_of, plain_command, unpack_command, usual_option, with_command,
-    with_messages,
+    message_command, plain_command, unpack_command, usual_option, with_command, with_messages,
 };

@@ -83,7 +83,7 @@ fn depth_option<'a>(alloc: Global) -> Arg<'a>
 }
 
 /// The page of help of a command over messages.
-pub fn page_of(name: &str) -> Page {
+fn page_of(name: &str) -> Page {
     match name {
         "show" => help::SHOW,
         "check" => help::CHECK,

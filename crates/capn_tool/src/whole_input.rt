@@ -6,13 +6,13 @@ ghost use Rattle.capn_words.specs.Watched.{inner_of, has_failed};
 ghost use Rattle.capn_tool.specs.inner.ReadInput.{IsShortBare, TakesAll};
 ghost use Rattle.capn_tool.specs.WholeInput.{Gives};
 ghost use Rattle.capn_canon.specs.declared.form.Form.TheVariants as forms;
+ghost use Rattle.capn_tool.specs.declared.plan.MessageText.TheVariants as kinds;
 ghost use Rattle.capn_tool.specs.declared.plan.Whole.TheVariants as wholes;
 
 use crate::fault::ToolFault;
 use crate::input::{MOST_BYTES, read_all};
-use crate::message_text::put_bare_message_text;
+use crate::message_text::put_verdict;
 use crate::pending::read_words;
-use crate::plan::{MessageText, Whole};
 use capn_canon::{Form, Refusal, canonicalise};
 use capn_pack::{PackFault, pack};
 use capn_stream::MOST_TABLE_WORDS;
@@ -48,19 +48,18 @@ fn canonical<A: Allocator + Copy>(
     }
 }
 
-/// The piece of one bare message.
-fn bare_message_text<A: Allocator + Copy>(
+/// The line of one bare message's price, which says whether its bytes are canonical.
+fn verdict<A: Allocator + Copy>(
     alloc: A,
-    piece: MessageText,
     bytes: &[u8],
     limits: Limits,
 ) -> Result<Vec<u8, A>, ToolFault>
-    ensures { Gives (wholes.Bare piece limits) bytes.now result }
+    ensures { Gives (wholes.Bare kinds.Price limits) bytes.now result }
 {
     match Bare::new(bytes) {
         Ok(space) => {
             let mut text = Vec::new(alloc);
-            put_bare_message_text(alloc, piece, &space, limits, &mut text)?;
+            put_verdict(alloc, &space, limits, &mut text)?;
             Ok(text)
         }
         Err(fault) => Err(ToolFault::Refused(Refusal::Bare(fault))),
@@ -127,7 +126,7 @@ fn read_bare<R: Read, A: Allocator>(
 }
 
 /// The packed text of an input's words, which are held whole.
-fn make_text<R: Read, A: Allocator + Copy>(
+pub fn make_text<R: Read, A: Allocator + Copy>(
     alloc: A,
     reader: &mut Watched<R>,
 ) -> Result<Vec<u8, A>, ToolFault>
@@ -153,39 +152,34 @@ fn make_trimmed<R: Read, A: Allocator + Copy>(
     canonical(alloc, Form::Bare, &bytes, limits)
 }
 
-/// A piece of the one bare message that an input is.
-fn make_message_text<R: Read, A: Allocator + Copy>(
+/// The line of the price of the one bare message that an input is.
+pub fn make_verdict<R: Read, A: Allocator + Copy>(
     alloc: A,
     reader: &mut Watched<R>,
-    piece: MessageText,
     limits: Limits,
 ) -> Result<Vec<u8, A>, ToolFault>
     requires { has_failed reader.old ≡ false }
-    ensures { TakesAll (Gives (wholes.Bare piece limits)) (R.remaining (inner_of reader.old))
+    ensures { TakesAll (Gives (wholes.Bare kinds.Price limits)) (R.remaining (inner_of reader.old))
         (R.remaining (inner_of reader.new)) (has_failed reader.new) result }
 {
     let bytes = read_bare(alloc, reader)?;
-    bare_message_text(alloc, piece, &bytes, limits)
+    verdict(alloc, &bytes, limits)
 }
 
-/// Reads an input to its end, and answers what is made of it.
-pub fn make<R: Read, A: Allocator + Copy>(
+/// The canonical bytes of the one message that an input is in a form.
+pub fn make_canonical<R: Read, A: Allocator + Copy>(
     alloc: A,
-    whole: Whole,
     reader: &mut Watched<R>,
+    form: Form,
+    limits: Limits,
 ) -> Result<Vec<u8, A>, ToolFault>
     requires { has_failed reader.old ≡ false }
-    ensures { TakesAll (Gives whole) (R.remaining (inner_of reader.old)) (R.remaining (inner_of reader.new))
-        (has_failed reader.new) result }
+    ensures { TakesAll (Gives (wholes.Canonical form limits)) (R.remaining (inner_of reader.old))
+        (R.remaining (inner_of reader.new)) (has_failed reader.new) result }
 {
-    match whole {
-        Whole::Packed => make_text(alloc, reader),
-        Whole::Unpacked(most) => read_words(alloc, reader, most),
-        Whole::Canonical(form, limits) => match form {
-            Form::Stream => make_framed(alloc, reader, limits),
-            Form::Packed => make_packed(alloc, reader, limits),
-            Form::Bare => make_trimmed(alloc, reader, limits),
-        },
-        Whole::Bare(piece, limits) => make_message_text(alloc, reader, piece, limits),
+    match form {
+        Form::Stream => make_framed(alloc, reader, limits),
+        Form::Packed => make_packed(alloc, reader, limits),
+        Form::Bare => make_trimmed(alloc, reader, limits),
     }
 }

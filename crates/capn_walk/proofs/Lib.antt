@@ -7,6 +7,10 @@ pub mod Near
 pub mod NumbersFromBytes
 pub mod Room
 pub mod UnderWay
+pub mod NeverNull
+pub mod DeepVisits
+pub mod Depths
+pub mod Heights
 pub mod FilledRoom
 pub mod RootIndexes
 pub mod IndexLaws
@@ -19,5 +23,6 @@ pub mod Stepped
 pub mod Showing
 pub mod WorkedValues
 pub mod WorkedIndexes
+pub mod WorkedDepths
 pub mod InRangeAt
 pub mod Answering

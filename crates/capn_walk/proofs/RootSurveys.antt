@@ -9,7 +9,7 @@ use Rattle.capn_value.specs.Tree.{Tree}
 use Rattle.capn_value.specs.FirstCap.{first_cap}
 use Rattle.capn_walk.specs.declared.slots_left.SlotsLeft.{SlotsLeft}
 use Rattle.capn_walk.specs.declared.target.Target.{Target}
-use Rattle.capn_walk.specs.declared.survey_answer.Surveyed.{Surveyed}
+use Rattle.capn_walk.specs.declared.survey_answer.Measured.{Measured}
 use Rattle.capn_walk.specs.Target.{target}
 use Rattle.capn_walk.specs.Visits.{Visit, pays, visits, visits_of}
 use Rattle.capn_walk.specs.inner.Verdict.{judge, after, accepted}
@@ -41,9 +41,10 @@ module _ (m : List (List ℕ)) (base : ℕ) where
     none-below : HasRows below → owed below ≡ 0 → others ≡ []
     none-below h z = ap (visits_of m base (depth - 1)) (nothing-left below h z)
 
-    pub tells-alone : HasRows below → owed below ≡ 0
-        → SurveysAs m budget 1 (visits m base depth at) (Ok (record { paid = p; visits = 1; capability = k }))
-    tells-alone h z =
+    pub tells-alone : (levels : ℕ) → HasRows below → owed below ≡ 0
+        → SurveysAs m budget 1 (visits m base depth at)
+        (Ok (record { survey = record { paid = p; visits = 1; capability = k }; depth = levels }))
+    tells-alone levels h z =
         let y : p + 0 ≡ p = omega arith in (
           record {
             is = both ∙ ap (λ (vs : List Visit). after p 1 (judge (budget - p) vs)) (none-below h z)
@@ -57,13 +58,14 @@ module _ (m : List (List ℕ)) (base : ℕ) where
 module _ (m : List (List ℕ)) (limits : Bounds) (some : 0 < length (segment_at m 0)) (t : Target)
     (e : target m root ≡ Ok t)
     (kind : may_be_root t ≡ true) where
-  pub surveyed : (s : Surveyed)
-      → SurveysAs m limits.budget 1 (visits m (base limits.tariff) limits.depth root) (Ok s) → IsSurvey m limits s
+  pub surveyed : (s : Measured)
+      → SurveysAs m limits.budget 1 (visits m (base limits.tariff) limits.depth root) (Ok s)
+      → IsSurvey m limits s.survey
   surveyed s (g, c) =
       let same = from-root m (base limits.tariff) limits.depth t e kind in
       let (w, p, k) =
-      accepted-within limits.budget (visits_within m limits) s.paid s.visits (ap (judge limits.budget) same
-      ∙ g.is) in
+      accepted-within limits.budget (visits_within m limits) s.survey.paid s.survey.visits
+      (ap (judge limits.budget) same ∙ g.is) in
       let all = rw same at w.all in
       let (v, i) = exists-at m (base limits.tariff) limits.depth root all in
       let first = caps-at m (base limits.tariff) v root limits.depth i all in

@@ -45,14 +45,14 @@ module _ (m : List (List ℕ)) where
       ap (λ r. visits_at_root m base r (visits m base d root)) e
       ∙ ap (λ (b : Bool). if b then visits m base d root else fails root faults.RootKind ∷ []) h
 
-  wrong-root : (base d : ℕ) (t : Target) → target m root ≡ Ok t → may_be_root t ≡ false
+  pub wrong-root : (base d : ℕ) (t : Target) → target m root ≡ Ok t → may_be_root t ≡ false
       → root_visits m base d ≡ fails root faults.RootKind ∷ []
   unfolding root_visits
   wrong-root base d t e h =
       ap (λ r. visits_at_root m base r (visits m base d root)) e
       ∙ ap (λ (b : Bool). if b then visits m base d root else fails root faults.RootKind ∷ []) h
 
-  faulty-root : (base d : ℕ) (f : Fault) → target m root ≡ Err f → root_visits m base d ≡ fails root f ∷ []
+  pub faulty-root : (base d : ℕ) (f : Fault) → target m root ≡ Err f → root_visits m base d ≡ fails root f ∷ []
   unfolding root_visits
   faulty-root base d f e = ap (λ r. visits_at_root m base r (visits m base d root)) e ∙ visits-fault m base root d f e
 

@@ -22,6 +22,7 @@ use Rattle.std.specs.Bool.{⊤}
 use Rattle.std.specs.Result.{IfOk, IfErr, MatchResult}
 use Rattle.capn_walk.specs.Visits.{pays, price, slots, visits, visits_of}
 use Rattle.capn_walk.specs.inner.Verdict.{judge, refused}
+use Rattle.capn_walk.specs.inner.Reach.{below_of}
 use Rattle.capn_walk.specs.View.{stepped, rooted, stepped_to_root, IsEntered, toll, slots_below}
 use Rattle.capn_walk.specs.inner.Verdict.{Refuses}
 use Rattle.capn_walk.specs.declared.walk_answer.Stopped.{Stopped}
@@ -154,6 +155,16 @@ module _ (m : List (List ℕ)) where
   numbers-below s w pads p (targets.Content t start shape n) h e =
       let k = rw e at (told-near m (λ s start shape pads. slots s start shape ≡ []) (λ k. ⊤) s w pads p
       (λ start shape l d. number-slots p s start shape h d)) in k
+
+  none-of : (at : Place) (p : Pointer) → AreNumbers p → (r : Result Target Fault) → near m at.segment at.word 0 p ≡ r
+      → below_of r ≡ []
+  none-of at p h (Ok t) e = numbers-below at.segment at.word 0 p t h e
+  none-of at p h (Err f) e = refl
+
+  -- nothing is below such a list
+  pub numbers-none : (at : Place) (p : Pointer) → AreNumbers p → near m at.segment at.word 0 p ≡ target m at
+      → below_of (target m at) ≡ []
+  numbers-none at p h e = none-of at p h (target m at) e
 
   -- a visit of such a list, where its target is known
   module _ (base : ℕ) (at : Place) (depth left : ℕ) (p : Pointer) where

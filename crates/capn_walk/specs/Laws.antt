@@ -15,6 +15,7 @@ use Rattle.capn_walk.specs.Target.{target}
 use Rattle.capn_walk.specs.Visits.{Visit}
 use Rattle.capn_walk.specs.Accepted.{IsWithin, IsStop, IsAccepted, IsValueOf, IsWalkRefused, paid}
 use Rattle.capn_walk.specs.ValueAt.{IsAt, AreAt, RowsAt}
+use Rattle.capn_walk.specs.Depth.{IsDepth}
 use Rattle.capn_walk.specs.Limits.{Bounds}
 use Rattle.capn_walk.specs.ValueAt.{IsInside}
 use Rattle.capn_walk.specs.View.{IsInMessage}
@@ -55,6 +56,11 @@ ValuesFit = (message : List (List ℕ)) (limits : Bounds) (v : Tree) → limits.
 abbrev pub ValuesAreCheap : Type 0
 ValuesAreCheap = (message : List (List ℕ)) (limits : Bounds) (v : Tree) → IsValueOf message limits v
     → (cost (base limits.tariff) v ≤ paid message limits) × (height v ≤ limits.depth)
+
+-- the least depth under which a message is accepted is the height of its value
+abbrev pub DepthsAreHeights : Type 0
+DepthsAreHeights = (message : List (List ℕ)) (limits : Bounds) (v : Tree) (depth : ℕ) → IsValueOf message limits v
+    → IsDepth message limits depth → depth ≡ height v
 
 -- ---- targets
 

@@ -2,6 +2,7 @@ pub mod inner
 pub mod Target
 pub mod Visits
 pub mod Accepted
+pub mod Depth
 pub mod ValueAt
 pub mod Limits
 pub mod Shapes

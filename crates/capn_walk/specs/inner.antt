@@ -1,5 +1,6 @@
 -- What no public clause cites.
 pub mod SlotsLeft
+pub mod Reach
 pub mod IndexRoom
 pub mod Outcomes
 pub mod Verdict

@@ -16,7 +16,7 @@ pub fn views_show_values()
 
 /// A message that is accepted has a value at its root. At most one value is at a place, one list of values in a number
 /// of slots, and one list of bodies in a number of rows; numbers are in range. The value of an accepted message fits,
-/// and costs at most what was paid.
+/// and costs at most what was paid. The least depth under which a message is accepted is the height of its value.
 pub fn values()
     ensures readable { laws.AcceptedAreReadable }
     ensures one { laws.PlacesHaveOneValue }
@@ -25,6 +25,7 @@ pub fn values()
     ensures in_range { laws.ValuesAreInRange }
     ensures fit { laws.ValuesFit }
     ensures cheap { laws.ValuesAreCheap }
+    ensures deep { laws.DepthsAreHeights }
 {}
 
 /// What the pointer at a place of a message names lies inside its segment, which exists; a value whose content is

@@ -5,8 +5,9 @@
 //! - [`walk`] answers the value that a message denotes within [`Limits`], with what reading it paid, or where
 //!   and why it stopped. Each visit of a slot pays its price before its content is read, so a message that
 //!   leads in circles or shares its objects costs at most the budget.
-//! - [`survey`] answers the same price and refusal and makes no tree. [`index`] and [`index_into`] add an entry for
-//!   each slot that was visited, by which the message can be read in place with no further test.
+//! - [`survey`] answers the same price and refusal and makes no tree, and [`survey_depth`] also the least depth that
+//!   admits the message. [`index`] and [`index_into`] add an entry for each slot that was visited, by which the message
+//!   can be read in place with no further test.
 //! - [`View`] goes from one object to those below it, and pays from a [`Meter`] for each.
 //!
 //! All take any `Space`: a bare segment, a framed message, one that owns its segments.
@@ -46,11 +47,11 @@ pub use entry::{Entry, Index, Indexed};
 pub use kind::Kind;
 pub use limits::Limits;
 pub use message_index::{index, index_into};
-pub use message_survey::survey;
+pub use message_survey::{survey, survey_depth};
 pub use message_walk::walk;
 pub use meter::Meter;
 pub use slot_target::resolve;
-pub use survey_answer::Surveyed;
+pub use survey_answer::{Measured, Surveyed};
 pub use target::{Fault, Shape, Target};
 pub use view::View;
 pub use walk_answer::{Stopped, Walked};

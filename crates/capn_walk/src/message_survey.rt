@@ -1,14 +1,16 @@
 //! A survey of all that a message holds, without its value.
 
 ghost use Rattle.std.specs.Prelude.{◌≡◌, ◌≢◌, ℕ, ◌<◌, ◌≤◌, ◌+◌, ◌-◌, ◌∷◌, ◌⊎◌, ◌↔◌, [], length, Ok, IsTrue, IfOk};
-ghost use Rattle.std.specs.Prelude.{IfErr, MatchResult};
+ghost use Rattle.std.specs.Prelude.{IfErr, MatchResult, max};
 ghost use Rattle.capn_words.specs.Message.{segment_at, IsMessage, IsPlace};
 ghost use Rattle.capn_value.specs.Cost.{most_cost, most_height};
 ghost use Rattle.capn_walk.specs.Target as spec;
 ghost use Rattle.capn_walk.specs.Accepted.{root, IsValueOf, IsWalkRefused, IsBounded};
 ghost use Rattle.capn_walk.specs.Visits.{visits, visits_of};
+ghost use Rattle.capn_walk.specs.Depth.{IsDepth};
 ghost use Rattle.capn_walk.specs.inner.Outcomes.{SurveysAs};
 ghost use Rattle.capn_walk.specs.inner.SlotsLeft.{places_of, owed, Lies};
+ghost use Rattle.capn_walk.specs.inner.Reach.{reach, reach_of, level, levels_at};
 ghost use Rattle.capn_walk.specs.Surveyed as told;
 ghost use Rattle.capn_value.specs.Tree.{Tree};
 ghost use Rattle.capn_value.specs.FirstCap.{first_cap};
@@ -18,7 +20,7 @@ use crate::content::segment_length;
 use crate::limits::Limits;
 use crate::message_walk::{ROOT, root_target};
 use crate::slots_left::{SlotsLeft, Waiting};
-use crate::survey_answer::Surveyed;
+use crate::survey_answer::{Measured, Surveyed};
 use crate::survey_visit::{is_plain, visit_elsewhere, visit_found, visit_numbers, visit_struct};
 use crate::target::{Fault, Target};
 use crate::walk_answer::Stopped;
@@ -51,7 +53,47 @@ pub fn survey<S: Space, A: Allocator + Copy>(
 {
     let _bounds = space.segments();
     let target = root_target(space)?;
-    let told = survey_root(
+    let told = survey_root::<S, A, false>(
+        alloc,
+        space,
+        target,
+        limits.depth(),
+        limits.budget(),
+        limits.tariff().base(),
+    )?;
+    Ok(told.survey)
+}
+
+/// What [`survey`] answers, and the least depth under which the message is accepted with the other limits as they are:
+/// 0 if its root is null, else how many objects are one below another at most, the root's among them.
+///
+/// It is one walk, as [`survey`] is, and refuses what that refuses, in the same way. It takes no memory for a depth of
+/// at most 64; `Memory` comes only where a growth was refused.
+pub fn survey_depth<S: Space, A: Allocator + Copy>(
+    alloc: A,
+    space: &S,
+    limits: Limits,
+) -> Result<Measured, Stopped>
+    // An answer: the message is accepted, and what its walk pays, its visits, and the first capability of its value.
+    ensures found { IfOk result (λ m. told.IsSurvey (S.message space.now) limits m.survey) }
+    // Under this depth the message is accepted, and under no lower one.
+    ensures depth { IfOk result (λ m. IsDepth (S.message space.now) limits m.depth) }
+    ensures within { IfOk result (λ m. m.depth ≤ limits.depth) }
+    // A message that is accepted is answered, or a growth was refused; any other refusal is the first stop.
+    ensures only { (v : Tree) → IsValueOf (S.message space.now) limits v →
+        MatchResult result (λ m. m.survey.capability ≡ first_cap v) (λ s. s.fault ≡ Memory) }
+    ensures refused { IfErr result (λ s.
+        (s.fault ≡ Memory)
+        ⊎ IsWalkRefused (S.message space.now) limits s.fault s.place s.paid s.visits) }
+    // No growth is needed for a depth of at most 64.
+    ensures no_memory { limits.depth ≤ 64 → IfErr result (λ s. s.fault ≢ Memory) }
+    // No walk pays beyond its budget.
+    ensures bounded { MatchResult result (λ m. IsBounded limits.budget m.survey.paid m.survey.visits)
+        (λ s. IsBounded limits.budget s.paid s.visits) }
+{
+    let _bounds = space.segments();
+    let target = root_target(space)?;
+    let told = survey_root::<S, A, true>(
         alloc,
         space,
         target,
@@ -62,16 +104,17 @@ pub fn survey<S: Space, A: Allocator + Copy>(
     Ok(told)
 }
 
-/// The visit of the root's slot, and then those below it, if there are any: only these need a stack.
+/// The visit of the root's slot, and then those below it, if there are any: only these need a stack. Where `DEEP`, it
+/// learns how deep they are.
 #[inline(always)]
-fn survey_root<S: Space, A: Allocator + Copy>(
+fn survey_root<S: Space, A: Allocator + Copy, const DEEP: bool>(
     alloc: A,
     space: &S,
     target: Target,
     depth: u32,
     budget: u32,
     base: u32,
-) -> Result<Surveyed, Stopped>
+) -> Result<Measured, Stopped>
     requires message { IsMessage (S.message space.now) }
     requires place { IsPlace (S.message space.now) root }
     requires target { Ok target ≡ spec.target (S.message space.now) root }
@@ -79,6 +122,7 @@ fn survey_root<S: Space, A: Allocator + Copy>(
     requires depth { depth ≤ most_height }
     requires budget { budget ≤ most_cost }
     ensures tells { SurveysAs (S.message space.now) budget 1 (visits (S.message space.now) base depth root) result }
+    ensures depth { IsTrue DEEP → IfOk result (λ m. m.depth ≡ reach (S.message space.now) depth root) }
     ensures no_memory { depth ≤ 64 → IfErr result (λ s. s.fault ≢ Memory) }
 {
     let visited = match visit_found(space, ROOT, Ok(target), depth, budget, base) {
@@ -86,20 +130,41 @@ fn survey_root<S: Space, A: Allocator + Copy>(
         Err(fault) => return Err(stopped(fault, ROOT, 0, 1)),
     };
     if visited.below.is_done() {
-        return Ok(Surveyed {
+        let survey = Surveyed {
             paid: visited.price,
             visits: 1,
             capability: visited.capability,
+        };
+        return Ok(Measured {
+            survey,
+            depth: levels(target),
         });
     }
     let left = budget - visited.price;
-    match survey_slots(alloc, space, visited.below, depth - 1, left, base) {
-        Ok(below) => Ok(Surveyed {
-            paid: visited.price + below.paid,
-            visits: 1 + below.visits,
-            capability: visited.capability.or(below.capability),
-        }),
+    match survey_slots::<S, A, DEEP>(alloc, space, visited.below, depth - 1, left, base) {
+        Ok(below) => {
+            let survey = Surveyed {
+                paid: visited.price + below.survey.paid,
+                visits: 1 + below.survey.visits,
+                capability: visited.capability.or(below.survey.capability),
+            };
+            Ok(Measured {
+                survey,
+                depth: levels(target) + below.depth,
+            })
+        }
         Err(refusal) => Err(refusal.behind(visited.price, 1)),
+    }
+}
+
+/// How deep a target is by itself: 1 for content, else 0.
+#[inline(always)]
+fn levels(target: Target) -> u32
+    ensures { result ≡ level target }
+{
+    match target {
+        Target::Content { .. } => 1,
+        _ => 0,
     }
 }
 
@@ -129,15 +194,31 @@ pub fn size_of<S: Space>(space: &S, segment: u32, known: u32, size: u32) -> u32
     }
 }
 
-/// The visits of the slots of a frame, with all below them.
-fn survey_slots<S: Space, A: Allocator + Copy>(
+/// The lesser of two depths of which one is that of a visit, if this is a visit of content; the other where the depth
+/// isn't asked for.
+#[inline(always)]
+fn lowered<const DEEP: bool>(least: u32, depth: u32, capability: Option<u32>) -> u32
+    ensures deep { (limit : ℕ) → IsTrue DEEP →
+        limit + 1 - result ≡ max (limit + 1 - least) (levels_at limit depth capability) }
+    ensures no_more { result ≤ least }
+{
+    if DEEP && capability.is_none() && depth < least {
+        depth
+    } else {
+        least
+    }
+}
+
+/// The visits of the slots of a frame, with all below them. Where `DEEP`, it learns how deep they are: it keeps the
+/// least depth that was left where content was met.
+fn survey_slots<S: Space, A: Allocator + Copy, const DEEP: bool>(
     alloc: A,
     space: &S,
     first: SlotsLeft,
     limit: u32,
     budget: u32,
     base: u32,
-) -> Result<Surveyed, Stopped>
+) -> Result<Measured, Stopped>
     requires message { IsMessage (S.message space.now) }
     requires inside { Lies (S.message space.now) first }
     requires limit { limit ≤ most_cost }
@@ -145,12 +226,16 @@ fn survey_slots<S: Space, A: Allocator + Copy>(
     requires few { owed first ≤ most_cost }
     ensures tells { SurveysAs (S.message space.now) budget (owed first)
         (visits_of (S.message space.now) base limit (places_of first)) result }
+    ensures depth { IsTrue DEEP →
+        IfOk result (λ m. m.depth ≡ reach_of (S.message space.now) limit (places_of first)) }
+    ensures shallow { IfOk result (λ m. m.depth ≤ limit + 1) }
     ensures no_memory { limit ≤ 64 → IfErr result (λ s. s.fault ≢ Memory) }
 {
     let mut stack: SmallVec<Waiting, 64, &A> = SmallVec::new(&alloc);
     let mut frame = first;
     let mut size = segment_length(space, first.segment);
     let mut depth = limit;
+    let mut least = limit + 1;
     let mut paid = 0u32;
     let mut visits = 0u32;
     let mut capability = None;
@@ -161,10 +246,14 @@ fn survey_slots<S: Space, A: Allocator + Copy>(
                 continue;
             }
             let Some(waiting) = stack.pop() else {
-                return Ok(Surveyed {
+                let survey = Surveyed {
                     paid,
                     visits,
                     capability,
+                };
+                return Ok(Measured {
+                    survey,
+                    depth: limit + 1 - least,
                 });
             };
             size = size_of(space, waiting.frame.segment, frame.segment, size);
@@ -196,6 +285,7 @@ fn survey_slots<S: Space, A: Allocator + Copy>(
                 };
                 paid += found.price;
                 visits += 1;
+                least = lowered::<DEEP>(least, depth, None);
                 if found.below.is_done() {
                     frame = rest;
                     continue;
@@ -214,6 +304,7 @@ fn survey_slots<S: Space, A: Allocator + Copy>(
                     Ok(price) => {
                         paid += price;
                         visits += 1;
+                        least = lowered::<DEEP>(least, depth, None);
                         frame = rest;
                     }
                     Err(fault) => return Err(stopped(fault, at, paid, visits + 1)),
@@ -227,6 +318,7 @@ fn survey_slots<S: Space, A: Allocator + Copy>(
                 paid += found.price;
                 visits += 1;
                 capability = capability.or(found.capability);
+                least = lowered::<DEEP>(least, depth, found.capability);
                 if found.below.is_done() {
                     frame = rest;
                     continue;

@@ -89,6 +89,7 @@ pub fn walk<S: Space, A: Allocator + Copy>(
 }
 
 /// What the pointer to the root names: anything but a capability.
+#[inline(always)]
 pub fn root_target<S: Space>(space: &S) -> Result<Target, Stopped>
     ensures place { OnOk result (0 < length (segment_at (S.message space.now) 0)) }
     ensures target { IfOk result (λ t. spec.target (S.message space.now) root ≡ Ok t) }

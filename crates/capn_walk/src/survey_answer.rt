@@ -10,3 +10,12 @@ pub struct Surveyed {
     /// The index of the first capability in preorder.
     pub capability: Option<u32>,
 }
+
+/// What a survey answers that also learns how deep a message is.
+#[derive(Clone, Copy, Debug, PartialEq, Eq)]
+pub struct Measured {
+    /// What its walk pays and visits, and the first capability that it meets.
+    pub survey: Surveyed,
+    /// The least depth under which it is accepted, or 0 if its root is null.
+    pub depth: u32,
+}

@@ -2,14 +2,14 @@
 
 use crate::growths::{Heap, cut_short};
 use crate::messages::form_at;
-use crate::runs::command_line;
+use crate::runs::{command_line, tool_told};
 use crate::words::{bytes_at, digits_of};
 use anyhow::{Result, anyhow};
 use capn_archive::{run_archive, run_uniq};
 use capn_flow::{FlowFault, pack_stream, unpack_stream};
 use capn_make::{MakeFault, make};
 use capn_program::{
-    ArchiveFault, Flow, Order, RunFault, archive_text, order_of, status_of_archive,
+    ArchiveFault, Flow, Order, RunFault, archive_text, order_of, show_parts, status_of_archive,
 };
 use capn_serve::run_pick;
 use capn_words::Watched;
@@ -68,6 +68,10 @@ pub(crate) fn archive_answer(alloc: Global, heap: &Heap, words: &[&str]) -> Resu
     let mut reader = Watched::new(input.as_slice());
     let mut writer = Watched::new(Vec::new(alloc));
     match order {
+        Order::Show(show) => {
+            let outcome = show_parts(heap, &show, &mut reader, &mut writer);
+            tool_told(alloc, heap, outcome, writer.into_inner().as_slice())
+        }
         Order::Archive(archive) => {
             let outcome = run_archive(heap, archive, &mut reader, &mut writer);
             archive_told(alloc, heap, outcome, writer.into_inner().as_slice())

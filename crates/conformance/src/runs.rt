@@ -28,15 +28,24 @@ pub(crate) fn run_answer(alloc: Global, heap: &Heap, words: &[&str]) -> Result<S
     let mut reader = Watched::new(input.as_slice());
     let mut writer = Watched::new(Vec::new(alloc));
     let outcome = run(heap, command, &mut reader, &mut writer);
+    tool_told(alloc, heap, outcome, writer.into_inner().as_slice())
+}
+
+/// The status of a run that ended so, what is written, and the line on standard error.
+pub(crate) fn tool_told(
+    alloc: Global,
+    heap: &Heap,
+    outcome: Result<(), ToolFault>,
+    written: &[u8],
+) -> Result<String> {
     let status = status(&outcome);
-    let written = writer.into_inner();
-    let digits = digits_of(alloc, written.as_slice())?;
+    let digits = digits_of(alloc, written)?;
     match outcome {
         Ok(()) => Ok(format!(in alloc; "status {status}, {digits}")?),
-        Err(ToolFault::Memory) if status == 3 => cut_short(alloc, written.as_slice()),
+        Err(ToolFault::Memory) if status == 3 => cut_short(alloc, written),
         Err(fault) => match fault_text(heap, &fault) {
             Ok(text) => Ok(format!(in alloc; "status {status}, {digits}, capn: {text}")?),
-            Err(_) => cut_short(alloc, written.as_slice()),
+            Err(_) => cut_short(alloc, written),
         },
     }
 }

@@ -4,12 +4,11 @@ use crate::short_runs::*;
 use crate::short_streams::*;
 use crate::short_texts::*;
 use crate::short_values::*;
-use crate::subject::{Answer, Subject, chain, judged, limits, packed_of, subject_of, wanting};
+use crate::subject::{Answer, Subject, judged, limits, packed_of, subject_of, wanting};
 use crate::words::bytes_of;
-use capn_canon::{Form, Refusal, is_canonical};
+use capn_canon::Form;
 use capn_tool::{Command, ToolFault};
 use capn_value::{copy, trim};
-use capn_walk::Fault;
 use std::alloc::Global;
 use std::process::Abort;
 use std::test::Fail;
@@ -281,37 +280,5 @@ fn a_refused_growth_ends_a_run(rt: HostRuntime) -> Result<(), Fail> {
         let growths = growths_of(rt.alloc(), &command, input);
         assert!(rt; matches!(growths, Some(count) if 3 <= count), "{command:?}");
     }
-    Ok(())
-}
-
-/// Whether a chain of 63 structs is canonical, with its price and its visits.
-fn is_told(heap: &Refusing<Global>, deep: &[u8]) -> bool {
-    is_canonical(heap, deep, limits(64)) == Ok(true)
-        && accounted(heap, Form::Bare, deep, limits(64)) == Ok((253, 127, None))
-}
-
-/// Whether a chain of 64 structs is refused as too deep at its last object, and as it is with ample memory.
-fn is_too_deep(heap: &Refusing<Global>, alloc: Global, deeper: &[u8]) -> bool {
-    let is_stopped = match is_canonical(heap, deeper, limits(64)) {
-        Err(Refusal::Walk(stopped)) => stopped.fault == Fault::TooDeep
-            && stopped.place.word == 127
-            && stopped.paid == 192
-            && stopped.visits == 65,
-        _ => false,
-    };
-    let refusal = accounted(heap, Form::Bare, deeper, limits(64));
-    is_stopped && refusal == accounted(alloc, Form::Bare, deeper, limits(64))
-}
-
-/// The usual depth of 64 objects is checked without memory, and the first object that is deeper is refused as such.
-#[test]
-fn no_memory_for_64_objects(rt: HostRuntime) -> Result<(), Fail> {
-    let deep = chain(rt.alloc(), 63)?;
-    let deeper = chain(rt.alloc(), 64)?;
-    let heap = Refusing::nth(rt.alloc(), 0);
-    heap.refuse_each();
-    assert!(rt; is_told(&heap, deep.as_slice()));
-    assert!(rt; is_too_deep(&heap, rt.alloc(), deeper.as_slice()));
-    assert!(rt; heap.count() == 0);
     Ok(())
 }

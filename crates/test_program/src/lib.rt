@@ -4,4 +4,8 @@
 #![tactic(auto)]
 
 #[cfg(test)]
+mod archive_orders;
+#[cfg(test)]
+mod fault_lines;
+#[cfg(test)]
 mod orders;

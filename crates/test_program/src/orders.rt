@@ -1,34 +1,54 @@
-//! What the words of the command line order, and what is written where a run ends.
+//! What the words of the command line order.
 
-use capn_program::{
-    Archive, ArchiveFault, Command, Flow, Form, Limits, MakeFault, Order, Passed, Pick, Position,
-    Refusal, StreamForm, Tariff, Task, Uniq, Watched, archive_text, end_make, order_of,
-};
+use capn_program::{Command, Flow, Form, Limits, Order, Style, Tariff, order_of};
 use std::alloc::Global;
 use std::process::Abort;
 
-/// The words order this.
-fn expect(rt: &impl Abort, alloc: Global, words: &[&str], want: Order) {
-    let told = order_of(alloc, words).ok();
-    assert!(rt; told == Some(want), "{words:?}");
+/// Whether the words order this command over messages.
+fn is_command(alloc: Global, words: &[&str], want: Command) -> bool {
+    let told = order_of(alloc, words);
+    match &told {
+        Ok(Order::Message(command)) => *command == want,
+        _ => false,
+    }
+}
+
+/// Whether the words order that what of a packed stream stands at a way, or all of it, is shown in a style.
+fn is_shown(alloc: Global, words: &[&str], style: Style, way: Option<&str>) -> bool {
+    let told = order_of(alloc, words);
+    match &told {
+        Ok(Order::Show(show)) => show.form == Form::Packed
+            && show.limits == Limits::usual()
+            && show.style == style
+            && show.way == way,
+        _ => false,
+    }
+}
+
+/// Whether the words have bytes flow this way.
+fn is_flow(alloc: Global, words: &[&str], want: Flow) -> bool {
+    let told = order_of(alloc, words);
+    match &told {
+        Ok(Order::Flow(flow)) => *flow == want,
+        _ => false,
+    }
+}
+
+/// Whether the words have messages made in this form.
+fn is_made(alloc: Global, words: &[&str], want: Form) -> bool {
+    let told = order_of(alloc, words);
+    match &told {
+        Ok(Order::Make(form)) => *form == want,
+        _ => false,
+    }
 }
 
 /// The words order nothing, and the exit status is this.
-fn expect_usage(rt: &impl Abort, alloc: Global, words: &[&str], status: u8) {
+pub(crate) fn expect_usage(rt: &impl Abort, alloc: Global, words: &[&str], status: u8) {
     match order_of(alloc, words) {
         Ok(_) => assert!(rt; false, "{words:?}"),
         Err(usage) => assert!(rt; usage.status() == status, "{words:?}"),
     }
-}
-
-/// A run over a stream with usual limits.
-fn over(task: Task, keep_going: bool) -> Order {
-    Order::Archive(Archive {
-        task,
-        form: Form::Stream,
-        limits: Limits::usual(),
-        keep_going,
-    })
 }
 
 #[test]
@@ -42,7 +62,7 @@ fn commands_over_messages_are_as_they_were(rt: HostRuntime) {
         ("pack", Command::Pack),
         ("unpack", Command::Unpack(8_390_657)),
     ] {
-        expect(&rt, rt.alloc(), &["capn", name], Order::Message(want));
+        assert!(rt; is_command(rt.alloc(), &["capn", name], want), "{name}");
     }
 }
 
@@ -70,71 +90,59 @@ fn their_options_are_as_they_were(rt: HostRuntime) {
             "--tariff",
             "plain",
         ];
-        expect(&rt, rt.alloc(), &words, Order::Message(want));
+        assert!(rt; is_command(rt.alloc(), &words, want), "{words:?}");
     }
     let words = ["capn", "unpack", "--message-words=1"];
-    expect(
-        &rt,
-        rt.alloc(),
-        &words,
-        Order::Message(Command::Unpack(2_050)),
+    assert!(rt;
+        is_command(rt.alloc(), &words, Command::Unpack(2_050)),
+        "{words:?}"
     );
 }
 
 #[test]
-fn runs_over_archives(rt: HostRuntime) {
-    for (name, task) in [("list", Task::List), ("limits", Task::Limits)] {
-        expect(&rt, rt.alloc(), &["capn", name], over(task, false));
-        expect(
-            &rt,
-            rt.alloc(),
-            &["capn", name, "--keep-going"],
-            over(task, true),
+fn parts_are_shown_at_a_way(rt: HostRuntime) {
+    for way in ["0", "0.3.1", "007", "18446744073709551615"] {
+        let words = ["capn", "show", "--form", "packed", "--at", way];
+        assert!(rt;
+            is_shown(rt.alloc(), &words, Style::Lines, Some(way)),
+            "{words:?}"
         );
     }
-    let words = ["capn", "list", "--digest"];
-    expect(&rt, rt.alloc(), &words, over(Task::Digests, false));
-    for (words, keep_going) in [
-        (&["capn", "canonical", "--framed"][..], false),
-        (&["capn", "canonical", "--framed", "--keep-going"][..], true),
-        (&["capn", "canonical", "--keep-going", "--framed"][..], true),
+    for way in [
+        "",
+        ".",
+        "0.",
+        ".0",
+        "0..1",
+        "+1",
+        "0,1",
+        "18446744073709551616",
     ] {
-        expect(&rt, rt.alloc(), words, over(Task::Canonical, keep_going));
+        expect_usage(&rt, rt.alloc(), &["capn", "show", "--at", way], 2);
+        expect_usage(&rt, rt.alloc(), &["capn", "show", "--json", "--at", way], 2);
     }
 }
 
 #[test]
-fn options_of_runs_over_archives(rt: HostRuntime) {
-    let limits = Limits::new(1, 2, 3).unwrap_or(Limits::usual());
-    for (name, flag, task) in [
-        ("list", "--keep-going", Task::List),
-        ("limits", "--keep-going", Task::Limits),
-        ("canonical", "--framed", Task::Canonical),
+fn messages_are_shown_in_a_style(rt: HostRuntime) {
+    for (option, style) in [("--text", Style::Quoted), ("--json", Style::Json)] {
+        let words = ["capn", "show", "--form=packed", option];
+        assert!(rt; is_shown(rt.alloc(), &words, style, None), "{words:?}");
+        let words = ["capn", "show", option, "--at=0.1", "--form=packed"];
+        assert!(rt;
+            is_shown(rt.alloc(), &words, style, Some("0.1")),
+            "{words:?}"
+        );
+    }
+    for words in [
+        &["capn", "show", "--text", "--json"][..],
+        &["capn", "show", "--json", "--at", "0", "--text"][..],
+        &["capn", "show", "--text", "--text"][..],
+        &["capn", "show", "--json=1"][..],
+        &["capn", "check", "--json"][..],
+        &["capn", "list", "--text"][..],
     ] {
-        for (form, value) in [
-            ("stream", Form::Stream),
-            ("packed", Form::Packed),
-            ("bare", Form::Bare),
-        ] {
-            let words = [
-                "capn",
-                name,
-                "--form",
-                form,
-                "--message-words=1",
-                "--budget=2",
-                flag,
-                "--depth=3",
-                "--tariff=plain",
-            ];
-            let want = Archive {
-                task,
-                form: value,
-                limits: limits.with_tariff(Tariff::Plain),
-                keep_going: flag == "--keep-going",
-            };
-            expect(&rt, rt.alloc(), &words, Order::Archive(want));
-        }
+        expect_usage(&rt, rt.alloc(), words, 2);
     }
 }
 
@@ -209,25 +217,11 @@ fn help_names_each_command(rt: HostRuntime) {
 }
 
 #[test]
-fn doubles_are_left_out_or_counted(rt: HostRuntime) {
-    for (flag, keep_going, count) in [("--keep-going", true, false), ("--count", false, true)] {
-        let want = Uniq {
-            form: Form::Bare,
-            limits: Limits::usual(),
-            keep_going,
-            count,
-        };
-        let words = ["capn", "uniq", "--form=bare", flag];
-        expect(&rt, rt.alloc(), &words, Order::Uniq(want));
-    }
-}
-
-#[test]
 fn bytes_flow_without_a_most(rt: HostRuntime) {
-    for (name, flow) in [("pack", Flow::Pack), ("unpack", Flow::Unpack)] {
-        let words = ["capn", name, "--streaming"];
-        expect(&rt, rt.alloc(), &words, Order::Flow(flow));
-    }
+    let words = ["capn", "pack", "--streaming"];
+    assert!(rt; is_flow(rt.alloc(), &words, Flow::Pack), "{words:?}");
+    let words = ["capn", "unpack", "--streaming"];
+    assert!(rt; is_flow(rt.alloc(), &words, Flow::Unpack), "{words:?}");
     let words = [
         "capn",
         "unpack",
@@ -239,38 +233,10 @@ fn bytes_flow_without_a_most(rt: HostRuntime) {
 }
 
 #[test]
-fn messages_are_picked_by_their_numbers(rt: HostRuntime) {
-    let want = Pick {
-        form: StreamForm::Packed,
-        limits: Limits::new(7, 8_388_608, 64).unwrap_or(Limits::usual()),
-        from: 2,
-        to: u64::MAX,
-    };
-    let words = [
-        "capn",
-        "pick",
-        "--form=packed",
-        "--message-words=7",
-        "--from=2",
-    ];
-    expect(&rt, rt.alloc(), &words, Order::Pick(want));
-    for option in [
-        "--from=0",
-        "--to=-1",
-        "--to=18446744073709551616",
-        "--form=bare",
-    ] {
-        expect_usage(&rt, rt.alloc(), &["capn", "pick", option], 2);
-    }
-}
-
-#[test]
 fn make_takes_the_form_of_what_it_writes(rt: HostRuntime) {
-    expect(
-        &rt,
-        rt.alloc(),
-        &["capn", "make"],
-        Order::Make(Form::Stream),
+    assert!(rt;
+        is_made(rt.alloc(), &["capn", "make"], Form::Stream),
+        "make"
     );
     for (name, form) in [
         ("stream", Form::Stream),
@@ -278,53 +244,8 @@ fn make_takes_the_form_of_what_it_writes(rt: HostRuntime) {
         ("bare", Form::Bare),
     ] {
         let words = ["capn", "make", "--form", name];
-        expect(&rt, rt.alloc(), &words, Order::Make(form));
+        assert!(rt; is_made(rt.alloc(), &words, form), "{words:?}");
     }
     expect_usage(&rt, rt.alloc(), &["capn", "make", "--form", "text"], 2);
     expect_usage(&rt, rt.alloc(), &["capn", "make", "--budget", "3"], 2);
-}
-
-#[test]
-fn a_run_over_texts_ends_with_its_line(rt: HostRuntime) {
-    for (outcome, status, line) in [
-        (Ok(()), 0, ""),
-        (Err(MakeFault::NoText), 1, "capn: line 1: no text\n"),
-        (Err(MakeFault::Io), 3, "capn: input or output failed\n"),
-    ] {
-        let mut errors = Watched::new(Vec::new(rt.alloc()));
-        assert!(rt;
-            end_make(rt.alloc(), &outcome, &mut errors) == status,
-            "{line}"
-        );
-        assert!(rt; errors.into_inner().as_slice() == line.as_bytes(), "{line}");
-    }
-}
-
-#[test]
-fn lines_of_faults(rt: HostRuntime) {
-    let first = Position {
-        index: 2,
-        offset: 40,
-    };
-    let passed = Passed {
-        refused: 3,
-        messages: 12,
-        first,
-    };
-    for (fault, want) in [
-        (ArchiveFault::Memory, "out of memory"),
-        (ArchiveFault::Io, "input or output failed"),
-        (ArchiveFault::InputTooLong, "input too long"),
-        (
-            ArchiveFault::Refused(first, Refusal::Capability(2)),
-            "message 3 at 40: capability 2",
-        ),
-        (
-            ArchiveFault::PassedOver(passed),
-            "3 of 12 messages refused, the first is 3 at 40",
-        ),
-    ] {
-        let text = archive_text(rt.alloc(), &fault).expect(&rt, "memory");
-        assert!(rt; text.as_str() == want, "{want}");
-    }
 }

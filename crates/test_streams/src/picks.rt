@@ -122,3 +122,33 @@ fn reads_nothing_of_no_messages(rt: HostRuntime) -> Result<(), Fail> {
     assert!(rt; ending == Ok(()) && writer.into_inner().is_empty());
     Ok(())
 }
+
+/// A frame of words that are zero.
+fn zeros(alloc: Global, words: u32) -> Result<Vec<u8>, Fail> {
+    let mut frame = Vec::from_slice(alloc, &[0; 4])?;
+    frame.extend_from_slice(&words.to_le_bytes())?;
+    for _ in 0..words {
+        frame.extend_from_slice(&[0; 8])?;
+    }
+    Ok(frame)
+}
+
+/// A frame of more than 65,536 bytes is written between the short ones before and after it.
+#[test]
+fn picks_a_long_message(rt: HostRuntime) -> Result<(), Fail> {
+    let long = zeros(rt.alloc(), 9_000)?;
+    let mut stream = Vec::from_slice(rt.alloc(), &FRAMES[..16])?;
+    stream.extend_from_slice(long.as_slice())?;
+    stream.extend_from_slice(&FRAMES[..16])?;
+    let pick = Pick {
+        form: StreamForm::Stream,
+        limits: Limits::usual(),
+        from: 1,
+        to: 3,
+    };
+    let mut reader = Watched::new(stream.as_slice());
+    let mut writer = Watched::new(Vec::new(rt.alloc()));
+    let ending = run_pick(rt.alloc(), pick, &mut reader, &mut writer);
+    assert!(rt; ending == Ok(()) && writer.into_inner().as_slice() == stream.as_slice());
+    Ok(())
+}

@@ -1,7 +1,7 @@
 //! What steps of views pay and where they lead, and what a survey and a check of a message report.
 
 use crate::words::bytes_of;
-use capn_canon::{Refusal, SurveyedBare, survey, survey_bare};
+use capn_canon::{Refusal, SurveyedBare, survey, survey_bare, survey_canonical};
 use capn_stream::first;
 use capn_value::Tariff;
 use capn_walk::{Fault, Limits, Meter, Stopped, Surveyed, View};
@@ -105,6 +105,28 @@ fn what_a_message_holds(rt: HostRuntime) {
     assert!(rt; are_told(rt.alloc(), &[0x2_0000_0000, 5, 0], (3, 1, None), false));
     assert!(rt; are_told(rt.alloc(), &SHARED, (7, 3, None), false));
     assert!(rt; are_told(rt.alloc(), &CAPABILITY, (2, 2, Some(2)), false));
+}
+
+/// What one pass reports of a message that is read bare.
+fn passed(alloc: Global, words: &[u64]) -> Option<SurveyedBare> {
+    let bytes = bytes_of(alloc, words).ok()?;
+    let bare = Bare::new(bytes.as_slice()).ok()?;
+    let _segments = bare.segments();
+    survey_canonical(&bare, Limits::usual())
+}
+
+/// One pass reports on canonical bytes, and on no others.
+#[test]
+fn what_one_pass_tells(rt: HostRuntime) {
+    let told = SurveyedBare {
+        paid: 2,
+        visits: 1,
+        capability: None,
+        is_canonical: true,
+    };
+    assert!(rt; passed(rt.alloc(), &[0x1_0000_0000, 5]) == Some(told));
+    assert!(rt; passed(rt.alloc(), &[0x2_0000_0000, 5, 0]).is_none());
+    assert!(rt; passed(rt.alloc(), &CAPABILITY).is_none());
 }
 
 #[test]

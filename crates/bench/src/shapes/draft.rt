@@ -3,32 +3,11 @@
 ghost use Rattle.std.specs.Prelude.{◌<◌};
 
 use crate::shapes::random::{Content, Random};
+use crate::shapes::slot::Slot;
 use std::alloc::{AllocError, Global};
 
 /// The pointer to a struct without words and slots, which is not null.
 const EMPTY: u64 = 0xffff_fffc;
-
-/// A word of a draft.
-#[derive(Clone, Copy)]
-pub(crate) struct Slot {
-    /// The segments before its own.
-    segment: usize,
-    /// The words before it, in all segments.
-    at: usize,
-}
-
-impl Slot {
-    /// Where the pointer to the root stands.
-    pub(crate) const ROOT: Slot = Slot { segment: 0, at: 0 };
-
-    /// The word `words` words after it.
-    pub(crate) fn after(self, words: u32) -> Slot {
-        Slot {
-            segment: self.segment,
-            at: self.at.saturating_add(words as usize),
-        }
-    }
-}
 
 /// How a pointer leads to its object.
 enum Route {

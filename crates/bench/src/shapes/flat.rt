@@ -1,7 +1,8 @@
 //! Shapes with few pointers.
 
-use crate::shapes::draft::{Draft, Slot};
+use crate::shapes::draft::Draft;
 use crate::shapes::random::Content;
+use crate::shapes::slot::Slot;
 use std::alloc::{AllocError, Global};
 
 /// Structs of 16 to 128 data words.

@@ -1,7 +1,8 @@
 //! A bit of everything.
 
-use crate::shapes::draft::{Draft, Slot};
+use crate::shapes::draft::Draft;
 use crate::shapes::random::Content;
+use crate::shapes::slot::Slot;
 use std::alloc::{AllocError, Global};
 
 /// Null, a text, a small struct or a list of numbers.

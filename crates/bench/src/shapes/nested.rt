@@ -1,7 +1,8 @@
 //! Shapes of small structs.
 
-use crate::shapes::draft::{Draft, Slot};
+use crate::shapes::draft::Draft;
 use crate::shapes::random::Content;
+use crate::shapes::slot::Slot;
 use std::alloc::{AllocError, Global};
 
 /// From 10 to 50 structs, each in the last slot of the one above.

@@ -1,10 +1,7 @@
 -- Words that are the layout of what they are read as.
-use Rattle.std.specs.Prelude.{◌≡◌, ℕ, ◌+◌, ◌^◌, ◌≤◌, List, length, take, drop, slice_index, Option, Some, None}
-use Rattle.capn_value.specs.Tree.{Tree, Trees, Bodies, count_rows}
-use Rattle.capn_value.specs.Cost.{greatest_in_rows}
-use Rattle.capn_walk.specs.ValueAt.{RowsAt}
-use Rattle.capn_canon.specs.Layout.{point, points, lay, lays, row_contents, lays_in_rows, sizes_in_rows}
-use Rattle.capn_canon.specs.inner.Sound.{SoundRows}
+use Rattle.std.specs.Prelude.{◌≡◌, ℕ, List, length, take, drop, slice_index}
+use Rattle.capn_value.specs.Tree.{Tree, Trees, Bodies}
+use Rattle.capn_canon.specs.Layout.{point, points, lay, lays, row_contents, lays_in_rows}
 
 -- these words stand from a word on (Own.)
 abbrev pub Stand : List ℕ → ℕ → List ℕ → Type 0
@@ -24,17 +21,3 @@ pub record AreLaidAt (all : List ℕ) (ts : Trees) (from to : ℕ) : Type 0 wher
 pub record RowsLaidAt (all : List ℕ) (a b : ℕ) (bs : Bodies) (from to : ℕ) : Type 0 where
   pub rows : Stand all from (row_contents a b bs from to)
   pub contents : Stand all to (lays_in_rows bs to)
-
--- the answer is the next free word exactly if so (Own.)
-abbrev pub AnswersIf : Type 0 → ℕ → Option ℕ → Type 0
-AnswersIf P n (Some k) = P × (k ≡ n)
-AnswersIf P n None = P → ⊥
-
--- `number` rows stand one after the other, and there is room for what is below them after n words (Own.)
-pub record AreReadyRows (m : List (List ℕ)) (s w a b number depth n : ℕ) : Type 0 where
-  pub values : Bodies
-  pub are : RowsAt m a b s w values
-  pub count : count_rows values ≡ number
-  pub sound : SoundRows values
-  pub low : greatest_in_rows values ≤ depth
-  pub room : n + sizes_in_rows values ≤ 2 ^ 29

@@ -1,13 +1,14 @@
 -- What stands at places of a message whose text is written, and how a text grows by it.
 use Rattle.std.specs.Prelude.{◌≡◌, ℕ, ◌+◌, ◌*◌, ◌<◌, ◌≤◌, List, Bool, ◌++◌, length, map, slice_index, ⊤, Option}
-use Rattle.std.specs.Prelude.{Some}
+use Rattle.std.specs.Prelude.{Some, [], ◌∷◌, codes, replicate, true, false, ◌||◌, ◌==◌}
+use Rattle.std.specs.Fmt.{decimal}
 use Rattle.std.specs.Int.{from_bool}
 use Rattle.capn_words.specs.declared.space.Place.{Place}
 use Rattle.capn_words.specs.declared.pointer.Width.{Width}
 use Rattle.capn_words.specs.declared.pointer.Width.TheVariants.{W0, W1, Link, Rows}
 use Rattle.capn_value.specs.Tree.{Tree, Trees, Bodies, count, count_rows, tree_at}
 use Rattle.capn_value.specs.Cost.{height, greatest, greatest_in_rows}
-use Rattle.capn_value.specs.Text.{body_line, word_lines, shown, shown_each, shown_rows}
+use Rattle.capn_value.specs.Text.{body_line, word_lines}
 use Rattle.capn_walk.specs.declared.target.Target.{Target}
 use Rattle.capn_walk.specs.declared.target.Target.TheVariants as targets
 use Rattle.capn_walk.specs.declared.target.Shape.TheVariants as shapes
@@ -15,7 +16,9 @@ use Rattle.capn_walk.specs.ValueAt.{IsAt, words_from}
 use Rattle.capn_walk.specs.View.{number_in}
 use Rattle.capn_walk.specs.ShownValue.{Shows, ShowsStruct, words_of_row, slots_of_row}
 use Rattle.capn_walk.specs.Accepted.{root}
-use Rattle.capn_show.specs.Part.{text_at}
+use Rattle.capn_show.specs.Quoting.{plain_bytes, quoted_bytes, shown_by, shown_each_by, shown_rows_by}
+use Rattle.capn_show.specs.Styled.{part_in, styled}
+use Rattle.capn_show.specs.declared.style.Style.{Style}
 use Rattle.capn_show.specs.declared.fault.ShowFault.{ShowFault}
 use Rattle.capn_show.specs.declared.fault.ShowFault.TheVariants as ends
 use Rattle.capn_show.specs.declared.fault.Broken.{Broken}
@@ -38,9 +41,22 @@ abbrev pub struct_at : ℕ → ℕ → ℕ → ℕ → Target
 struct_at s w a b = targets.Content s w (shapes.Node a b) 0
 
 -- the text of a struct
-abbrev pub shown_body : ℕ → List ℕ → Trees → List ℕ
-shown_body level ws ss = body_line level (length ws) (count ss)
-    ++ (word_lines (level + 1) ws ++ shown_each (level + 1) ss)
+abbrev pub shown_body : (ℕ → List ℕ → List ℕ) → ℕ → List ℕ → Trees → List ℕ
+shown_body by level ws ss = body_line level (length ws) (count ss)
+    ++ (word_lines (level + 1) ws ++ shown_each_by by (level + 1) ss)
+
+-- how a list of bytes is written, by whether a text stands between quotes
+abbrev pub bytes_of : Bool → ℕ → List ℕ → List ℕ
+bytes_of false = plain_bytes
+bytes_of true = quoted_bytes
+
+-- whether a byte of a text stands otherwise between quotes
+abbrev pub is_escaped : ℕ → Bool
+is_escaped b = b == 34 || (b == 92 || b == 0)
+
+-- the beginning of the line of this number of bytes, up to the first quote of their text
+abbrev pub quoted_front : ℕ → ℕ → List ℕ
+quoted_front level n = replicate (2 * level) 32 ++ (codes "bytes " ++ ((decimal n ++ 32 ∷ []) ++ 34 ∷ []))
 
 module _ (m : List (List ℕ)) where
   -- ---- what stands there
@@ -112,29 +128,30 @@ module _ (m : List (List ℕ)) where
     pub shown : Shows m found value
     pub low : height value ≤ height v
 
-  -- ---- what is said of the text, as that it is added, or breaks off
+  -- ---- what is said of the text, as that it is added, or breaks off, by how lists of bytes are written
 
   -- of that of the value at a place
-  abbrev pub IsShown : Place → ℕ → (List ℕ → Type 0) → Type 0
-  IsShown at level Says = (v : Tree) → IsAt m at v → Says (shown level v)
+  abbrev pub IsShown : (ℕ → List ℕ → List ℕ) → Place → ℕ → (List ℕ → Type 0) → Type 0
+  IsShown by at level Says = (v : Tree) → IsAt m at v → Says (shown_by by level v)
 
   -- of that of the value which a pointer names
-  abbrev pub IsFoundShown : Target → ℕ → (List ℕ → Type 0) → Type 0
-  IsFoundShown found level Says = (v : Tree) → Shows m found v → Says (shown level v)
+  abbrev pub IsFoundShown : (ℕ → List ℕ → List ℕ) → Target → ℕ → (List ℕ → Type 0) → Type 0
+  IsFoundShown by found level Says = (v : Tree) → Shows m found v → Says (shown_by by level v)
 
   -- of that of a struct
-  abbrev pub IsBodyShown : ℕ → ℕ → ℕ → ℕ → ℕ → (List ℕ → Type 0) → Type 0
-  IsBodyShown s w a b level Says = (ws : List ℕ) (ss : Trees) → ShowsStruct m (struct_at s w a b) ws ss
-      → Says (shown_body level ws ss)
+  abbrev pub IsBodyShown : (ℕ → List ℕ → List ℕ) → ℕ → ℕ → ℕ → ℕ → ℕ → (List ℕ → Type 0) → Type 0
+  IsBodyShown by s w a b level Says = (ws : List ℕ) (ss : Trees) → ShowsStruct m (struct_at s w a b) ws ss
+      → Says (shown_body by level ws ss)
 
   -- of those of slots
-  abbrev pub AreShown : ℕ → ℕ → ℕ → ℕ → (List ℕ → Type 0) → Type 0
-  AreShown s w number level Says = (ts : Trees) → AreSlots s w ts → count ts ≡ number → Says (shown_each level ts)
+  abbrev pub AreShown : (ℕ → List ℕ → List ℕ) → ℕ → ℕ → ℕ → ℕ → (List ℕ → Type 0) → Type 0
+  AreShown by s w number level Says = (ts : Trees) → AreSlots s w ts → count ts ≡ number
+      → Says (shown_each_by by level ts)
 
   -- of those of rows
-  abbrev pub RowsShown : ℕ → ℕ → ℕ → ℕ → ℕ → ℕ → (List ℕ → Type 0) → Type 0
-  RowsShown s w number a b level Says = (bs : Bodies) → AreRowsAt s w a b bs → count_rows bs ≡ number
-      → Says (shown_rows level bs)
+  abbrev pub RowsShown : (ℕ → List ℕ → List ℕ) → ℕ → ℕ → ℕ → ℕ → ℕ → ℕ → (List ℕ → Type 0) → Type 0
+  RowsShown by s w number a b level Says = (bs : Bodies) → AreRowsAt s w a b bs → count_rows bs ≡ number
+      → Says (shown_rows_by by level bs)
 
   -- of that of data words
   abbrev pub WordsShown : ℕ → ℕ → ℕ → ℕ → (List ℕ → Type 0) → Type 0
@@ -151,6 +168,10 @@ module _ (m : List (List ℕ)) where
   BitsShown s w number text Says = (xs : List Bool) → AreNumbers s w W1 (map from_bool xs) → length xs ≡ number
       → Says (text xs)
 
+  -- of that of what a pointer names, in a style
+  abbrev pub IsThereShown : Style → Target → (List ℕ → Type 0) → Type 0
+  IsThereShown style found Says = (v : Tree) → Shows m found v → Says (part_in style (Some v))
+
   -- of that of what stands at a way from the root
-  abbrev pub IsPartShown : List ℕ → (List ℕ → Type 0) → Type 0
-  IsPartShown way Says = (v : Tree) → IsAt m root v → Says (text_at way v)
+  abbrev pub IsPartShown : Style → List ℕ → (List ℕ → Type 0) → Type 0
+  IsPartShown style way Says = (v : Tree) → IsAt m root v → Says (styled style way v)

@@ -1,4 +1,4 @@
--- The service that writes something of each message of a stream.
+-- The service that writes something of each message of a stream, or of the one of a bare input.
 use Rattle.std.specs.Prelude.{◌≡◌, ◌⊎◌, ℕ, List, [], ◌∷◌, ◌++◌, codes, Result, Ok, Err}
 use Rattle.capn_value.specs.Tree.{Tree}
 use Rattle.capn_value.specs.Text.{show_text}
@@ -15,6 +15,7 @@ use Rattle.capn_show.specs.declared.fault.Broken.TheVariants as broken
 use Rattle.capn_tool.specs.MessageText.{IsMessageText, IsNoMessageText, IsStopped}
 use Rattle.capn_tool.specs.declared.message_texts.MessageTexts.{MessageTexts}
 use Rattle.capn_tool.specs.declared.plan.MessageText.{MessageText}
+use Rattle.capn_tool.specs.declared.fault.ToolFault.{ToolFault}
 use Rattle.capn_tool.specs.declared.fault.ToolFault.TheVariants as faults
 
 -- the service of a piece within limits
@@ -29,7 +30,16 @@ serves s at frame message text t = IsMessageText s.piece message s.limits text �
 abbrev pub refuses : MessageTexts → Position → List ℕ → List (List ℕ) → Refusal → Type 0
 refuses s at frame message r = IsNoMessageText s.piece message s.limits (faults.Refused r)
 
--- the run over a stream, before its first message
+-- how a message ends whose piece was not put for this reason: of its own faults it has a refusal, and else that memory
+-- was refused
+abbrev pub served_fault : ToolFault → ServeFault
+served_fault (faults.Refused r) = serve_faults.Refused r
+served_fault faults.Memory = serve_faults.Memory
+served_fault faults.Io = serve_faults.Memory
+served_fault faults.InputTooLong = serve_faults.Memory
+served_fault (faults.NotWhole n) = serve_faults.Memory
+
+-- the run over an input, before its first message
 abbrev pub first_run : MessageText → Bounds → Run MessageTexts
 first_run piece limits = record { service = message_texts piece limits; at = start }
 

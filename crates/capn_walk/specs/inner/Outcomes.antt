@@ -10,11 +10,12 @@ use Rattle.capn_walk.specs.declared.found.FoundSlots.{FoundSlots}
 use Rattle.capn_walk.specs.declared.target.Shape.{Shape}
 use Rattle.capn_walk.specs.declared.target.Fault.{Fault}
 use Rattle.capn_walk.specs.declared.target.Fault.TheVariants as faults
-use Rattle.capn_walk.specs.declared.survey_answer.Surveyed.{Surveyed}
+use Rattle.capn_walk.specs.declared.survey_answer.Measured.{Measured}
 use Rattle.capn_walk.specs.declared.survey_visit.Visited.{Visited}
 use Rattle.capn_walk.specs.declared.walk_answer.Stopped.{Stopped}
 use Rattle.capn_walk.specs.ValueAt.{IsAt, AreAt, RowsAt, IsInside}
 use Rattle.capn_walk.specs.inner.SlotsLeft.{Lies, owed, places_of}
+use Rattle.capn_walk.specs.inner.Reach.{below_of}
 use Rattle.capn_walk.specs.Shapes.{slot_count}
 use Rattle.capn_walk.specs.Surveyed.{cap_of, first_cap_of}
 use Rattle.capn_walk.specs.Target.{target}
@@ -29,6 +30,7 @@ module _ (message : List (List ℕ)) (base depth left : ℕ) where
     pub visits : visits message base depth at ≡ pays at v.price ∷ visits_of message base (depth - 1) (places_of v.below)
     pub price : v.price ≤ left
     pub capability : cap_of (target message at) ≡ v.capability
+    pub places : below_of (target message at) ≡ places_of v.below
     pub below : Lies message v.below
     pub deep : 0 < owed v.below → 0 < depth
     pub owed : owed v.below ≤ v.price
@@ -44,8 +46,9 @@ module _ (message : List (List ℕ)) (base depth left : ℕ) where
   Visits at (Err e) = IsRefusal at e
 
 -- the visits of n slots, with all below them: what they pay, how many they are, and the first capability
-abbrev pub SurveysAs : List (List ℕ) → ℕ → ℕ → List Visit → Result Surveyed Stopped → Type 0
-SurveysAs message left n vs (Ok s) = Gives left vs n s.paid s.visits × (first_cap_of message vs ≡ s.capability)
+abbrev pub SurveysAs : List (List ℕ) → ℕ → ℕ → List Visit → Result Measured Stopped → Type 0
+SurveysAs message left n vs (Ok m) =
+    Gives left vs n m.survey.paid m.survey.visits × (first_cap_of message vs ≡ m.survey.capability)
 SurveysAs message left n vs (Err s) = Refuses left vs n s
 
 -- ---- a walk

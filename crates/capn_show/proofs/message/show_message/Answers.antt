@@ -2,6 +2,8 @@ use Rattle.std.proofs.Common.{arith}
 use Rattle.capn_show.specs.Outgoing.{outgoing}
 use Rattle.capn_value.specs.Text.{show_text}
 use Rattle.capn_show.proofs.Ends.{unwritten}
+use Rattle.capn_show.proofs.PlainTexts.{plain-shown}
+use Rattle.capn_show.proofs.shared.Appended.{otherwise, otherwise-broken}
 use Rattle.capn_show.proofs.message.show_message.Goals as goal
 
 pub show_slot-requires-clause-ready : goal.show_slot-requires-clause-ready
@@ -15,7 +17,10 @@ show_slot-requires-clause-ready g c =
 pub returns-in-Ok-clause-shown : goal.returns-in-Ok-clause-shown
 returns-in-Ok-clause-shown g c =
     let f = c.in_ok-survey.ensures.found in
-    record { value = f.value; is = f.is; text = c.in-Ok.ensures.shown f.value f.is.is }
+    let p = outgoing g.W.Write.contents c.args.writer.now c.args.text.now.items in
+    let q = outgoing g.W.Write.contents c.show_slot.new.writer c.show_slot.new.text.items in
+    let text = otherwise p q _ _ (plain-shown 0 f.value) (c.in-Ok.ensures.shown f.value f.is.is) in
+    record { value = f.value; is = f.is; text = text }
 
 pub returns-in-Err-clause-refused : goal.returns-in-Err-clause-refused
 returns-in-Err-clause-refused g c =
@@ -24,4 +29,10 @@ returns-in-Err-clause-refused g c =
     (outgoing g.W.Write.contents c.args.writer.now c.args.text.now.items) (outgoing g.W.Write.contents
     c.show_slot.new.writer c.show_slot.new.text.items) c.in-Err.broken
     c.fault_of.result c.fault_of.ensures
-    (record { value = f.value; is = f.is; text = c.in-Err.ensures.cut f.value f.is.is })
+    (record {
+      value = f.value;
+      is = f.is;
+      text = otherwise-broken (outgoing g.W.Write.contents c.args.writer.now c.args.text.now.items)
+          (outgoing g.W.Write.contents c.show_slot.new.writer c.show_slot.new.text.items) c.in-Err.broken _ _
+          (plain-shown 0 f.value) (c.in-Err.ensures.cut f.value f.is.is);
+    })

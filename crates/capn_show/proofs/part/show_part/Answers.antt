@@ -1,6 +1,6 @@
 use Rattle.std.proofs.Common.{arith}
 use Rattle.capn_show.specs.Outgoing.{outgoing}
-use Rattle.capn_show.specs.Part.{text_at}
+use Rattle.capn_show.specs.Styled.{styled}
 use Rattle.capn_show.proofs.Ends.{unwritten}
 use Rattle.capn_show.proofs.part.show_part.Goals as goal
 
@@ -20,7 +20,7 @@ returns-in-Ok-clause-shown g c =
 pub returns-in-Err-clause-refused : goal.returns-in-Err-clause-refused
 returns-in-Err-clause-refused g c =
     let f = c.in_ok-survey.ensures.found in
-    unwritten (g.S.Space.message c.args.space.now) c.args.limits (text_at c.args.way.now)
+    unwritten (g.S.Space.message c.args.space.now) c.args.limits (styled c.args.style c.args.way.now)
     (outgoing g.W.Write.contents c.args.writer.now c.args.text.now.items)
     (outgoing g.W.Write.contents c.write_part.new.writer c.write_part.new.text.items) c.in-Err.broken
     c.fault_of.result c.fault_of.ensures

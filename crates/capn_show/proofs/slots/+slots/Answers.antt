@@ -1,3 +1,4 @@
+use mathlib.Core.List.{not-mem-nil}
 use Rattle.std.proofs.Common.{◌≡◌, ℕ, ◌+◌, ◌*◌, ◌<◌, ◌≤◌, length, ◌++◌, subst, arith, sym, ap, ◌∙◌}
 use Rattle.std.proofs.lemmas.Result.{on_ok_weaker, IfErr-weaker}
 use Rattle.capn_words.specs.Message.{segment_at}
@@ -18,6 +19,7 @@ use Rattle.capn_show.proofs.SlotTexts.{each-more, each-all, each-cut, rows-more,
 use Rattle.capn_show.proofs.FoundTexts.{body-shown, nil-shown, cap-shown, node-shown, list-shown, links-shown}
 use Rattle.capn_show.proofs.FoundTexts.{rows-shown, inside, deep, node-ready, links-ready, rows-ready}
 use Rattle.capn_show.proofs.slots.+slots.Goals as goal
+use Rattle.capn_show.proofs.Chosen.{by_bits}
 
 -- ---- a slot
 
@@ -34,12 +36,15 @@ show_slot-show_found-requires g t c κs live =
           (
             live.1.1,
             (
-              c.requires.message,
+              λ a m. absurd (not-mem-nil m),
               (
-                c.in-Ok.ensures.inside,
+                c.requires.message,
                 (
-                  ready,
-                  c.requires.room,
+                  c.in-Ok.ensures.inside,
+                  (
+                    ready,
+                    c.requires.room,
+                  ),
                 ),
               ),
             ),
@@ -61,14 +66,31 @@ show_slots-show_slot-requires g t c κs live =
     let within = c.requires.content.within in
     let lt = c.loop-i-test.true in
     let ready = slot-ready m c.args.first.segment c.args.first.word c.args.count c.args.depth c.loop-i.i lt
-    c.requires.ready in
-    (omega arith, (live.0, (live.1.0, (live.1.1, (c.requires.message, (omega arith, (ready, c.requires.room)))))))
+    c.requires.ready in (
+      omega arith,
+      (
+        live.0,
+        (
+          live.1.0,
+          (
+            live.1.1,
+            (
+              λ a m. absurd (not-mem-nil m),
+              (
+                c.requires.message,
+                (omega arith, (ready, c.requires.room)),
+              ),
+            ),
+          ),
+        ),
+      ),
+    )
 
 pub show_slots-loop-i-preserved : goal.show_slots-loop-i-preserved
 show_slots-loop-i-preserved g t c ts h n =
     let i = c.loop-i.i in
     let lt = c.loop-i-test.true in
-    each-more (outgoing g.W.Write.contents c.args.writer.now c.args.text.now.items)
+    each-more (by_bits g.row.QUOTED) (outgoing g.W.Write.contents c.args.writer.now c.args.text.now.items)
     (outgoing g.W.Write.contents c.loop-i.writer c.loop-i.text.items) (outgoing g.W.Write.contents
     c.show_slot.new.writer c.show_slot.new.text.items) c.args.level ts i (omega arith)
     (c.loop-i.invariant ts h n) (c.in_ok-show_slot.ensures.shown _ (h i (omega arith)))
@@ -82,8 +104,25 @@ show_body-show_slots-requires g t c κs live =
     let ready = slots-ready m c.args.start.segment c.args.start.word c.args.words c.args.slots c.args.depth
     c.requires.ready in
     let content : IsContent m (record { segment = c.args.start.segment; word = c.args.start.word + c.args.words })
-    c.args.slots = record { exists = c.requires.content.exists; within = omega arith } in
-    (omega arith, (live.0, (live.1.0, (live.1.1, (c.requires.message, (content, (ready, c.requires.room)))))))
+    c.args.slots = record { exists = c.requires.content.exists; within = omega arith } in (
+      omega arith,
+      (
+        live.0,
+        (
+          live.1.0,
+          (
+            live.1.1,
+            (
+              λ a m. absurd (not-mem-nil m),
+              (
+                c.requires.message,
+                (content, (ready, c.requires.room)),
+              ),
+            ),
+          ),
+        ),
+      ),
+    )
 
 -- ---- what a pointer names
 
@@ -122,8 +161,25 @@ show_found-show_body-requires g t c κs live =
       within = subst (λ (sh : Shape). x.start + extent sh ≤ length (segment_at m x.segment)) k.is i.0.within;
     } in
     let ready = node-ready m c.args.found x.segment x.start x.pads x.shape x.is c.args.depth c.requires.ready k.words
-    k.slots k.is in
-    (omega arith, (live.0, (live.1.0, (live.1.1, (c.requires.message, (content, (ready, omega arith)))))))
+    k.slots k.is in (
+      omega arith,
+      (
+        live.0,
+        (
+          live.1.0,
+          (
+            live.1.1,
+            (
+              λ a m. absurd (not-mem-nil m),
+              (
+                c.requires.message,
+                (content, (ready, omega arith)),
+              ),
+            ),
+          ),
+        ),
+      ),
+    )
 
 -- a list of pointers
 
@@ -140,8 +196,25 @@ show_found-show_slots-requires g t c κs live =
       within = subst (λ (sh : Shape). x.start + extent sh ≤ length (segment_at m x.segment)) is i.0.within;
     } in
     let ready = links-ready m c.args.found x.segment x.start x.pads x.shape x.is c.args.depth c.requires.ready k.width
-    k.count k.is c.in-Link.is in
-    (omega arith, (live.0, (live.1.0, (live.1.1, (c.requires.message, (content, (ready, omega arith)))))))
+    k.count k.is c.in-Link.is in (
+      omega arith,
+      (
+        live.0,
+        (
+          live.1.0,
+          (
+            live.1.1,
+            (
+              λ a m. absurd (not-mem-nil m),
+              (
+                c.requires.message,
+                (content, (ready, omega arith)),
+              ),
+            ),
+          ),
+        ),
+      ),
+    )
 
 -- a list of structs
 
@@ -158,8 +231,25 @@ show_found-show_rows-requires g t c κs live =
     let content : IsContent m (record { segment = x.segment; word = x.start + 1 }) (k.count * (k.words + k.slots)) =
     record { exists = i.0.exists; within = room } in
     let ready = rows-ready m c.args.found x.segment x.start x.pads x.shape x.is c.args.depth c.requires.ready k.count
-    k.words k.slots k.span k.is in
-    (omega arith, (live.0, (live.1.0, (live.1.1, (c.requires.message, (content, (ready, omega arith)))))))
+    k.words k.slots k.span k.is in (
+      omega arith,
+      (
+        live.0,
+        (
+          live.1.0,
+          (
+            live.1.1,
+            (
+              λ a m. absurd (not-mem-nil m),
+              (
+                c.requires.message,
+                (content, (ready, omega arith)),
+              ),
+            ),
+          ),
+        ),
+      ),
+    )
 
 -- ---- rows
 
@@ -189,8 +279,25 @@ show_rows-show_body-requires g t c κs live =
     record { exists = c.requires.content.exists; within = within } in
     let ready = subst (λ (w : ℕ). IsBody m s w c.args.words c.args.slots c.args.depth) (sym next)
     (row-ready m s c.args.first.word c.args.count c.args.words c.args.slots c.args.depth c.loop-row.row
-    c.loop-row-test.true c.requires.ready) in
-    (omega arith, (live.0, (live.1.0, (live.1.1, (c.requires.message, (content, (ready, c.requires.room)))))))
+    c.loop-row-test.true c.requires.ready) in (
+      omega arith,
+      (
+        live.0,
+        (
+          live.1.0,
+          (
+            live.1.1,
+            (
+              λ a m. absurd (not-mem-nil m),
+              (
+                c.requires.message,
+                (content, (ready, c.requires.room)),
+              ),
+            ),
+          ),
+        ),
+      ),
+    )
 
 pub show_rows-loop-row-preserved : goal.show_rows-loop-row-preserved
 show_rows-loop-row-preserved g t c =
@@ -204,7 +311,7 @@ show_rows-loop-row-preserved g t c =
     record {
       next = let d : (i + 1) * (a + b) ≡ i * (a + b) + (a + b) = omega arith in omega arith;
       rest = λ bs h n. let below : i < count_rows bs = omega arith in
-          rows-more (outgoing g.W.Write.contents c.args.writer.now c.args.text.now.items)
+          rows-more (by_bits g.row.QUOTED) (outgoing g.W.Write.contents c.args.writer.now c.args.text.now.items)
           (outgoing g.W.Write.contents c.loop-row.writer c.loop-row.text.items)
           (outgoing g.W.Write.contents c.show_body.new.writer c.show_body.new.text.items) c.args.level bs i below
           (c.loop-row.invariant.rest bs h n)
@@ -248,7 +355,8 @@ show_found-overflow_add-first g t c =
 pub show_slot-returns-clause-shown : goal.show_slot-returns-clause-shown
 show_slot-returns-clause-shown g t c =
     on_ok_weaker c.show_found.result
-    (found-shown (g.S.Space.message c.args.space.now) c.views_show_values.ensures c.args.at c.in-Ok.found c.args.level
+    (found-shown (g.S.Space.message c.args.space.now) (by_bits g.row.QUOTED) c.views_show_values.ensures c.args.at
+    c.in-Ok.found c.args.level
     (Adds (outgoing g.W.Write.contents c.args.writer.now c.args.text.now.items)
     (outgoing g.W.Write.contents c.show_found.new.writer c.show_found.new.text.items))
     (sym c.resolve.ensures.exact ∙ c.in-Ok.is))
@@ -257,7 +365,8 @@ show_slot-returns-clause-shown g t c =
 pub show_slot-returns-clause-cut : goal.show_slot-returns-clause-cut
 show_slot-returns-clause-cut g t c =
     IfErr-weaker c.show_found.result _ _
-    (λ e. found-shown (g.S.Space.message c.args.space.now) c.views_show_values.ensures c.args.at c.in-Ok.found
+    (λ e. found-shown (g.S.Space.message c.args.space.now) (by_bits g.row.QUOTED) c.views_show_values.ensures c.args.at
+    c.in-Ok.found
     c.args.level
     (BreaksOff (outgoing g.W.Write.contents c.args.writer.now c.args.text.now.items)
     (outgoing g.W.Write.contents c.show_found.new.writer c.show_found.new.text.items) e)
@@ -267,7 +376,7 @@ show_slot-returns-clause-cut g t c =
 pub show_found-returns-in-Nil-clause-shown : goal.show_found-returns-in-Nil-clause-shown
 show_found-returns-in-Nil-clause-shown g t c =
     on_ok_weaker c.plain_line.result
-    (nil-shown (g.S.Space.message c.args.space.now) c.args.found c.args.level (Adds
+    (nil-shown (by_bits g.row.QUOTED) (g.S.Space.message c.args.space.now) c.args.found c.args.level (Adds
     (outgoing g.W.Write.contents c.args.writer.now c.args.text.now.items)
     (outgoing g.W.Write.contents c.plain_line.new.writer c.plain_line.new.text.items)) c.in-Nil.is)
     c.plain_line.ensures.shown
@@ -275,7 +384,7 @@ show_found-returns-in-Nil-clause-shown g t c =
 pub show_found-returns-in-Nil-clause-cut : goal.show_found-returns-in-Nil-clause-cut
 show_found-returns-in-Nil-clause-cut g t c =
     IfErr-weaker c.plain_line.result _ _
-    (λ e. nil-shown (g.S.Space.message c.args.space.now) c.args.found c.args.level (BreaksOff
+    (λ e. nil-shown (by_bits g.row.QUOTED) (g.S.Space.message c.args.space.now) c.args.found c.args.level (BreaksOff
     (outgoing g.W.Write.contents c.args.writer.now c.args.text.now.items)
     (outgoing g.W.Write.contents c.plain_line.new.writer c.plain_line.new.text.items) e) c.in-Nil.is)
     c.plain_line.ensures.cut
@@ -283,7 +392,7 @@ show_found-returns-in-Nil-clause-cut g t c =
 pub show_found-returns-in-Cap-clause-shown : goal.show_found-returns-in-Cap-clause-shown
 show_found-returns-in-Cap-clause-shown g t c =
     on_ok_weaker c.named_line.result
-    (cap-shown (g.S.Space.message c.args.space.now) c.args.found c.args.level (Adds
+    (cap-shown (by_bits g.row.QUOTED) (g.S.Space.message c.args.space.now) c.args.found c.args.level (Adds
     (outgoing g.W.Write.contents c.args.writer.now c.args.text.now.items)
     (outgoing g.W.Write.contents c.named_line.new.writer c.named_line.new.text.items)) c.in-Cap.index c.in-Cap.is)
     c.named_line.ensures.shown
@@ -291,7 +400,7 @@ show_found-returns-in-Cap-clause-shown g t c =
 pub show_found-returns-in-Cap-clause-cut : goal.show_found-returns-in-Cap-clause-cut
 show_found-returns-in-Cap-clause-cut g t c =
     IfErr-weaker c.named_line.result _ _
-    (λ e. cap-shown (g.S.Space.message c.args.space.now) c.args.found c.args.level (BreaksOff
+    (λ e. cap-shown (by_bits g.row.QUOTED) (g.S.Space.message c.args.space.now) c.args.found c.args.level (BreaksOff
     (outgoing g.W.Write.contents c.args.writer.now c.args.text.now.items)
     (outgoing g.W.Write.contents c.named_line.new.writer c.named_line.new.text.items) e) c.in-Cap.index c.in-Cap.is)
     c.named_line.ensures.cut
@@ -299,7 +408,7 @@ show_found-returns-in-Cap-clause-cut g t c =
 pub show_found-returns-in-Node-clause-shown : goal.show_found-returns-in-Node-clause-shown
 show_found-returns-in-Node-clause-shown g t c =
     on_ok_weaker c.show_body.result
-    (node-shown (g.S.Space.message c.args.space.now) c.args.found c.args.level (Adds
+    (node-shown (by_bits g.row.QUOTED) (g.S.Space.message c.args.space.now) c.args.found c.args.level (Adds
     (outgoing g.W.Write.contents c.args.writer.now c.args.text.now.items)
     (outgoing g.W.Write.contents c.show_body.new.writer c.show_body.new.text.items)) c.in-Content.segment
     c.in-Content.start c.in-Content.pads
@@ -310,7 +419,7 @@ show_found-returns-in-Node-clause-shown g t c =
 pub show_found-returns-in-Node-clause-cut : goal.show_found-returns-in-Node-clause-cut
 show_found-returns-in-Node-clause-cut g t c =
     IfErr-weaker c.show_body.result _ _
-    (λ e. node-shown (g.S.Space.message c.args.space.now) c.args.found c.args.level (BreaksOff
+    (λ e. node-shown (by_bits g.row.QUOTED) (g.S.Space.message c.args.space.now) c.args.found c.args.level (BreaksOff
     (outgoing g.W.Write.contents c.args.writer.now c.args.text.now.items)
     (outgoing g.W.Write.contents c.show_body.new.writer c.show_body.new.text.items) e) c.in-Content.segment
     c.in-Content.start c.in-Content.pads
@@ -321,7 +430,7 @@ show_found-returns-in-Node-clause-cut g t c =
 pub show_found-returns-in_default-clause-shown : goal.show_found-returns-in_default-clause-shown
 show_found-returns-in_default-clause-shown g t c =
     on_ok_weaker c.show_list.result
-    (list-shown (g.S.Space.message c.args.space.now) c.args.found c.args.level (Adds
+    (list-shown (by_bits g.row.QUOTED) (g.S.Space.message c.args.space.now) c.args.found c.args.level (Adds
     (outgoing g.W.Write.contents c.args.writer.now c.args.text.now.items)
     (outgoing g.W.Write.contents c.show_list.new.writer c.show_list.new.text.items)) c.in-Content.segment
     c.in-Content.start c.in-Content.pads
@@ -332,7 +441,7 @@ show_found-returns-in_default-clause-shown g t c =
 pub show_found-returns-in_default-clause-cut : goal.show_found-returns-in_default-clause-cut
 show_found-returns-in_default-clause-cut g t c =
     IfErr-weaker c.show_list.result _ _
-    (λ e. list-shown (g.S.Space.message c.args.space.now) c.args.found c.args.level (BreaksOff
+    (λ e. list-shown (by_bits g.row.QUOTED) (g.S.Space.message c.args.space.now) c.args.found c.args.level (BreaksOff
     (outgoing g.W.Write.contents c.args.writer.now c.args.text.now.items)
     (outgoing g.W.Write.contents c.show_list.new.writer c.show_list.new.text.items) e) c.in-Content.segment
     c.in-Content.start c.in-Content.pads
@@ -344,7 +453,7 @@ pub show_found-returns-in_ok-named_line-in-Link-clause-shown :
     goal.show_found-returns-in_ok-named_line-in-Link-clause-shown
 show_found-returns-in_ok-named_line-in-Link-clause-shown g t c =
     on_ok_weaker c.show_slots.result
-    (links-shown (g.S.Space.message c.args.space.now) c.args.found c.args.level (Adds
+    (links-shown (by_bits g.row.QUOTED) (g.S.Space.message c.args.space.now) c.args.found c.args.level (Adds
     (outgoing g.W.Write.contents c.args.writer.now c.args.text.now.items)
     (outgoing g.W.Write.contents c.show_slots.new.writer c.show_slots.new.text.items)) c.in-Content.segment
     c.in-Content.start c.in-Content.pads
@@ -361,7 +470,7 @@ show_found-returns-in_ok-named_line-in-Link-clause-shown g t c =
 pub show_found-returns-in_ok-named_line-in-Link-clause-cut : goal.show_found-returns-in_ok-named_line-in-Link-clause-cut
 show_found-returns-in_ok-named_line-in-Link-clause-cut g t c =
     IfErr-weaker c.show_slots.result _ _
-    (λ e. links-shown (g.S.Space.message c.args.space.now) c.args.found c.args.level (BreaksOff
+    (λ e. links-shown (by_bits g.row.QUOTED) (g.S.Space.message c.args.space.now) c.args.found c.args.level (BreaksOff
     (outgoing g.W.Write.contents c.args.writer.now c.args.text.now.items)
     (outgoing g.W.Write.contents c.show_slots.new.writer c.show_slots.new.text.items) e) c.in-Content.segment
     c.in-Content.start c.in-Content.pads
@@ -380,7 +489,7 @@ pub show_found-returns-in_err-named_line-in-Link-clause-cut :
     goal.show_found-returns-in_err-named_line-in-Link-clause-cut
 show_found-returns-in_err-named_line-in-Link-clause-cut g t c =
     passed c.from_residual.result c.in_err-named_line-in-Link.field-0.0 _ c.from_residual.ensures.1
-    (links-shown (g.S.Space.message c.args.space.now) c.args.found c.args.level (BreaksOff
+    (links-shown (by_bits g.row.QUOTED) (g.S.Space.message c.args.space.now) c.args.found c.args.level (BreaksOff
     (outgoing g.W.Write.contents c.args.writer.now c.args.text.now.items)
     (outgoing g.W.Write.contents c.named_line-in-Link.new.writer c.named_line-in-Link.new.text.items) _)
     c.in-Content.segment c.in-Content.start c.in-Content.pads
@@ -395,7 +504,7 @@ pub show_found-returns-in_ok-named_line-in-Rows-clause-shown :
     goal.show_found-returns-in_ok-named_line-in-Rows-clause-shown
 show_found-returns-in_ok-named_line-in-Rows-clause-shown g t c =
     on_ok_weaker c.show_rows.result
-    (rows-shown (g.S.Space.message c.args.space.now) c.args.found c.args.level (Adds
+    (rows-shown (by_bits g.row.QUOTED) (g.S.Space.message c.args.space.now) c.args.found c.args.level (Adds
     (outgoing g.W.Write.contents c.args.writer.now c.args.text.now.items)
     (outgoing g.W.Write.contents c.show_rows.new.writer c.show_rows.new.text.items)) c.in-Content.segment
     c.in-Content.start c.in-Content.pads
@@ -413,7 +522,7 @@ show_found-returns-in_ok-named_line-in-Rows-clause-shown g t c =
 pub show_found-returns-in_ok-named_line-in-Rows-clause-cut : goal.show_found-returns-in_ok-named_line-in-Rows-clause-cut
 show_found-returns-in_ok-named_line-in-Rows-clause-cut g t c =
     IfErr-weaker c.show_rows.result _ _
-    (λ e. rows-shown (g.S.Space.message c.args.space.now) c.args.found c.args.level (BreaksOff
+    (λ e. rows-shown (by_bits g.row.QUOTED) (g.S.Space.message c.args.space.now) c.args.found c.args.level (BreaksOff
     (outgoing g.W.Write.contents c.args.writer.now c.args.text.now.items)
     (outgoing g.W.Write.contents c.show_rows.new.writer c.show_rows.new.text.items) e) c.in-Content.segment
     c.in-Content.start c.in-Content.pads
@@ -433,7 +542,7 @@ pub show_found-returns-in_err-named_line-in-Rows-clause-cut :
 show_found-returns-in_err-named_line-in-Rows-clause-cut g t c =
     passed c.from_residual-in_err-named_line-in-Rows.result c.in_err-named_line-in-Rows.field-0.0 _
     c.from_residual-in_err-named_line-in-Rows.ensures.1
-    (rows-shown (g.S.Space.message c.args.space.now) c.args.found c.args.level (BreaksOff
+    (rows-shown (by_bits g.row.QUOTED) (g.S.Space.message c.args.space.now) c.args.found c.args.level (BreaksOff
     (outgoing g.W.Write.contents c.args.writer.now c.args.text.now.items)
     (outgoing g.W.Write.contents c.named_line-in-Rows.new.writer c.named_line-in-Rows.new.text.items) _)
     c.in-Content.segment c.in-Content.start c.in-Content.pads
@@ -447,7 +556,8 @@ show_found-returns-in_err-named_line-in-Rows-clause-cut g t c =
 pub show_body-returns-clause-shown : goal.show_body-returns-clause-shown
 show_body-returns-clause-shown g t c =
     on_ok_weaker c.show_slots.result
-    (body-shown (g.S.Space.message c.args.space.now) c.args.start.segment c.args.start.word c.args.words c.args.slots
+    (body-shown (by_bits g.row.QUOTED) (g.S.Space.message c.args.space.now) c.args.start.segment c.args.start.word
+    c.args.words c.args.slots
     c.args.level (Adds (outgoing g.W.Write.contents c.args.writer.now c.args.text.now.items)
     (outgoing g.W.Write.contents c.show_slots.new.writer c.show_slots.new.text.items)) (Adds
     (outgoing g.W.Write.contents c.body_line.new.writer c.body_line.new.text.items)
@@ -467,7 +577,8 @@ show_body-returns-clause-shown g t c =
 pub show_body-returns-clause-cut : goal.show_body-returns-clause-cut
 show_body-returns-clause-cut g t c =
     IfErr-weaker c.show_slots.result _ _
-    (λ e. body-shown (g.S.Space.message c.args.space.now) c.args.start.segment c.args.start.word c.args.words
+    (λ e. body-shown (by_bits g.row.QUOTED) (g.S.Space.message c.args.space.now) c.args.start.segment c.args.start.word
+    c.args.words
     c.args.slots
     c.args.level (BreaksOff (outgoing g.W.Write.contents c.args.writer.now c.args.text.now.items)
     (outgoing g.W.Write.contents c.show_slots.new.writer c.show_slots.new.text.items) e) (Adds
@@ -489,7 +600,8 @@ pub show_body-returns-in_err-show_words-clause-cut : goal.show_body-returns-in_e
 show_body-returns-in_err-show_words-clause-cut g t c =
     passed c.from_residual-in_err-show_words.result c.in_err-show_words.field-0.0 _
     c.from_residual-in_err-show_words.ensures.1
-    (body-shown (g.S.Space.message c.args.space.now) c.args.start.segment c.args.start.word c.args.words c.args.slots
+    (body-shown (by_bits g.row.QUOTED) (g.S.Space.message c.args.space.now) c.args.start.segment c.args.start.word
+    c.args.words c.args.slots
     c.args.level (BreaksOff (outgoing g.W.Write.contents c.args.writer.now c.args.text.now.items)
     (outgoing g.W.Write.contents c.show_words.new.writer c.show_words.new.text.items) _) (BreaksOff
     (outgoing g.W.Write.contents c.body_line.new.writer c.body_line.new.text.items)
@@ -506,7 +618,8 @@ show_body-returns-in_err-show_words-clause-cut g t c =
 pub show_body-returns-in_err-body_line-clause-cut : goal.show_body-returns-in_err-body_line-clause-cut
 show_body-returns-in_err-body_line-clause-cut g t c =
     passed c.from_residual.result c.in_err-body_line.field-0.0 _ c.from_residual.ensures.1
-    (body-shown (g.S.Space.message c.args.space.now) c.args.start.segment c.args.start.word c.args.words c.args.slots
+    (body-shown (by_bits g.row.QUOTED) (g.S.Space.message c.args.space.now) c.args.start.segment c.args.start.word
+    c.args.words c.args.slots
     c.args.level (BreaksOff (outgoing g.W.Write.contents c.args.writer.now c.args.text.now.items)
     (outgoing g.W.Write.contents c.body_line.new.writer c.body_line.new.text.items) _) (λ y. ⊤) (λ y. ⊤)
     (λ x y h k. broken-before (outgoing g.W.Write.contents c.args.writer.now c.args.text.now.items)
@@ -516,7 +629,7 @@ show_body-returns-in_err-body_line-clause-cut g t c =
 
 pub show_slots-returns-clause-shown : goal.show_slots-returns-clause-shown
 show_slots-returns-clause-shown g t c ts h n =
-    each-all (outgoing g.W.Write.contents c.args.writer.now c.args.text.now.items)
+    each-all (by_bits g.row.QUOTED) (outgoing g.W.Write.contents c.args.writer.now c.args.text.now.items)
     (outgoing g.W.Write.contents c.loop-i.writer c.loop-i.text.items) c.args.level ts c.loop-i.i (omega arith)
     (c.loop-i.invariant ts h n)
 
@@ -526,7 +639,7 @@ show_slots-returns-in_err-show_slot-clause-cut g t c =
     (λ ts h n. let i = c.loop-i.i in
     let lt = c.loop-i-test.true in
     let below : i < count ts = omega arith in
-    each-cut (outgoing g.W.Write.contents c.args.writer.now c.args.text.now.items)
+    each-cut (by_bits g.row.QUOTED) (outgoing g.W.Write.contents c.args.writer.now c.args.text.now.items)
     (outgoing g.W.Write.contents c.loop-i.writer c.loop-i.text.items) (outgoing g.W.Write.contents
     c.show_slot.new.writer c.show_slot.new.text.items) _ c.args.level ts i below
     (c.loop-i.invariant ts h n) (c.in_err-show_slot.ensures.cut _ (h i below)))
@@ -534,7 +647,7 @@ show_slots-returns-in_err-show_slot-clause-cut g t c =
 pub show_rows-returns-clause-shown : goal.show_rows-returns-clause-shown
 show_rows-returns-clause-shown g t c bs h n =
     let f = c.loop-row-test.false in
-    rows-all (outgoing g.W.Write.contents c.args.writer.now c.args.text.now.items)
+    rows-all (by_bits g.row.QUOTED) (outgoing g.W.Write.contents c.args.writer.now c.args.text.now.items)
     (outgoing g.W.Write.contents c.loop-row.writer c.loop-row.text.items) c.args.level bs c.loop-row.row
     (omega arith) (c.loop-row.invariant.rest
     bs h n)
@@ -549,7 +662,7 @@ show_rows-returns-in_err-show_body-clause-cut g t c =
     let i = c.loop-row.row in
     let lt = c.loop-row-test.true in
     let below : i < count_rows bs = omega arith in
-    row-cut (outgoing g.W.Write.contents c.args.writer.now c.args.text.now.items)
+    row-cut (by_bits g.row.QUOTED) (outgoing g.W.Write.contents c.args.writer.now c.args.text.now.items)
     (outgoing g.W.Write.contents c.loop-row.writer c.loop-row.text.items) (outgoing g.W.Write.contents
     c.show_body.new.writer c.show_body.new.text.items) _ c.args.level bs i below
     (c.loop-row.invariant.rest bs h n)

@@ -4,11 +4,13 @@ use Rattle.capn_show.specs.Outgoing.{Adds, BreaksOff, outgoing}
 use Rattle.capn_show.proofs.shared.Appended.{passed, both, then-broken, broken-before}
 use Rattle.capn_show.proofs.ListTexts.{voids-shown, bits-shown, bytes-shown, pairs-shown, quads-shown, octs-shown}
 use Rattle.capn_show.proofs.slots.show_list.Goals as goal
+use Rattle.capn_show.proofs.Chosen.{by_bits}
 
 pub returns-in-W0-clause-shown : goal.returns-in-W0-clause-shown
 returns-in-W0-clause-shown g c =
     on_ok_weaker c.named_line.result
-    (voids-shown (g.S.Space.message c.args.space.now) c.args.start.segment c.args.start.word c.args.count c.args.level
+    (voids-shown (by_bits g.row.QUOTED) (g.S.Space.message c.args.space.now) c.args.start.segment c.args.start.word
+    c.args.count c.args.level
     c.args.width (Adds (outgoing g.W.Write.contents c.args.writer.now c.args.text.now.items)
     (outgoing g.W.Write.contents c.named_line.new.writer c.named_line.new.text.items)) c.in-W0.is)
     c.named_line.ensures.shown
@@ -16,7 +18,8 @@ returns-in-W0-clause-shown g c =
 pub returns-in-W0-clause-cut : goal.returns-in-W0-clause-cut
 returns-in-W0-clause-cut g c =
     IfErr-weaker c.named_line.result _ _
-    (λ e. voids-shown (g.S.Space.message c.args.space.now) c.args.start.segment c.args.start.word c.args.count
+    (λ e. voids-shown (by_bits g.row.QUOTED) (g.S.Space.message c.args.space.now) c.args.start.segment c.args.start.word
+    c.args.count
     c.args.level
     c.args.width (BreaksOff (outgoing g.W.Write.contents c.args.writer.now c.args.text.now.items)
     (outgoing g.W.Write.contents c.named_line.new.writer c.named_line.new.text.items) e) c.in-W0.is)
@@ -25,7 +28,8 @@ returns-in-W0-clause-cut g c =
 pub returns-in_ok-named_line-in-W1-clause-shown : goal.returns-in_ok-named_line-in-W1-clause-shown
 returns-in_ok-named_line-in-W1-clause-shown g c =
     on_ok_weaker c.show_bits.result
-    (bits-shown (g.S.Space.message c.args.space.now) c.args.start.segment c.args.start.word c.args.count c.args.level
+    (bits-shown (by_bits g.row.QUOTED) (g.S.Space.message c.args.space.now) c.args.start.segment c.args.start.word
+    c.args.count c.args.level
     c.args.width (Adds (outgoing g.W.Write.contents c.args.writer.now c.args.text.now.items)
     (outgoing g.W.Write.contents c.show_bits.new.writer c.show_bits.new.text.items)) (Adds
     (outgoing g.W.Write.contents c.named_line-in-W1.new.writer c.named_line-in-W1.new.text.items)
@@ -40,7 +44,8 @@ returns-in_ok-named_line-in-W1-clause-shown g c =
 pub returns-in_ok-named_line-in-W1-clause-cut : goal.returns-in_ok-named_line-in-W1-clause-cut
 returns-in_ok-named_line-in-W1-clause-cut g c =
     IfErr-weaker c.show_bits.result _ _
-    (λ e. bits-shown (g.S.Space.message c.args.space.now) c.args.start.segment c.args.start.word c.args.count
+    (λ e. bits-shown (by_bits g.row.QUOTED) (g.S.Space.message c.args.space.now) c.args.start.segment c.args.start.word
+    c.args.count
     c.args.level
     c.args.width (BreaksOff (outgoing g.W.Write.contents c.args.writer.now c.args.text.now.items)
     (outgoing g.W.Write.contents c.show_bits.new.writer c.show_bits.new.text.items) e) (BreaksOff
@@ -55,58 +60,36 @@ returns-in_ok-named_line-in-W1-clause-cut g c =
 pub returns-in_err-named_line-in-W1-clause-cut : goal.returns-in_err-named_line-in-W1-clause-cut
 returns-in_err-named_line-in-W1-clause-cut g c =
     passed c.from_residual.result c.in_err-named_line-in-W1.field-0.0 _ c.from_residual.ensures.1
-    (bits-shown (g.S.Space.message c.args.space.now) c.args.start.segment c.args.start.word c.args.count c.args.level
+    (bits-shown (by_bits g.row.QUOTED) (g.S.Space.message c.args.space.now) c.args.start.segment c.args.start.word
+    c.args.count c.args.level
     c.args.width (BreaksOff (outgoing g.W.Write.contents c.args.writer.now c.args.text.now.items)
     (outgoing g.W.Write.contents c.named_line-in-W1.new.writer c.named_line-in-W1.new.text.items) _) (λ y. ⊤) c.in-W1.is
     (λ y u. broken-before (outgoing g.W.Write.contents c.args.writer.now c.args.text.now.items)
     (outgoing g.W.Write.contents c.named_line-in-W1.new.writer c.named_line-in-W1.new.text.items) _ _ y
     c.in_err-named_line-in-W1.ensures.cut) (λ xs h n. tt))
 
-pub returns-in_ok-named_line-in-W8-clause-shown : goal.returns-in_ok-named_line-in-W8-clause-shown
-returns-in_ok-named_line-in-W8-clause-shown g c =
-    on_ok_weaker c.show_bytes.result
-    (bytes-shown (g.S.Space.message c.args.space.now) c.args.start.segment c.args.start.word c.args.count c.args.level
-    c.args.width (Adds (outgoing g.W.Write.contents c.args.writer.now c.args.text.now.items)
-    (outgoing g.W.Write.contents c.show_bytes.new.writer c.show_bytes.new.text.items)) (Adds
-    (outgoing g.W.Write.contents c.named_line-in-W8.new.writer c.named_line-in-W8.new.text.items)
-    (outgoing g.W.Write.contents c.show_bytes.new.writer c.show_bytes.new.text.items))
-    c.in-W8.is
-    (λ y. both (outgoing g.W.Write.contents c.args.writer.now c.args.text.now.items)
-    (outgoing g.W.Write.contents c.named_line-in-W8.new.writer c.named_line-in-W8.new.text.items)
-    (outgoing g.W.Write.contents c.show_bytes.new.writer c.show_bytes.new.text.items) _ y
-    c.in_ok-named_line-in-W8.ensures.shown))
-    c.show_bytes.ensures.shown
+pub returns-in-W8-clause-shown : goal.returns-in-W8-clause-shown
+returns-in-W8-clause-shown g c =
+    on_ok_weaker c.show_byte_list.result
+    (bytes-shown (by_bits g.row.QUOTED) (g.S.Space.message c.args.space.now) c.args.start.segment c.args.start.word
+    c.args.count c.args.level c.args.width (Adds (outgoing g.W.Write.contents c.args.writer.now c.args.text.now.items)
+    (outgoing g.W.Write.contents c.show_byte_list.new.writer c.show_byte_list.new.text.items)) c.in-W8.is)
+    c.show_byte_list.ensures.shown
 
-pub returns-in_ok-named_line-in-W8-clause-cut : goal.returns-in_ok-named_line-in-W8-clause-cut
-returns-in_ok-named_line-in-W8-clause-cut g c =
-    IfErr-weaker c.show_bytes.result _ _
-    (λ e. bytes-shown (g.S.Space.message c.args.space.now) c.args.start.segment c.args.start.word c.args.count
-    c.args.level
-    c.args.width (BreaksOff (outgoing g.W.Write.contents c.args.writer.now c.args.text.now.items)
-    (outgoing g.W.Write.contents c.show_bytes.new.writer c.show_bytes.new.text.items) e) (BreaksOff
-    (outgoing g.W.Write.contents c.named_line-in-W8.new.writer c.named_line-in-W8.new.text.items)
-    (outgoing g.W.Write.contents c.show_bytes.new.writer c.show_bytes.new.text.items) e) c.in-W8.is
-    (λ y. then-broken (outgoing g.W.Write.contents c.args.writer.now c.args.text.now.items)
-    (outgoing g.W.Write.contents c.named_line-in-W8.new.writer c.named_line-in-W8.new.text.items)
-    (outgoing g.W.Write.contents c.show_bytes.new.writer c.show_bytes.new.text.items) e _ y
-    c.in_ok-named_line-in-W8.ensures.shown))
-    c.show_bytes.ensures.cut
-
-pub returns-in_err-named_line-in-W8-clause-cut : goal.returns-in_err-named_line-in-W8-clause-cut
-returns-in_err-named_line-in-W8-clause-cut g c =
-    passed c.from_residual-in_err-named_line-in-W8.result c.in_err-named_line-in-W8.field-0.0 _
-    c.from_residual-in_err-named_line-in-W8.ensures.1
-    (bytes-shown (g.S.Space.message c.args.space.now) c.args.start.segment c.args.start.word c.args.count c.args.level
-    c.args.width (BreaksOff (outgoing g.W.Write.contents c.args.writer.now c.args.text.now.items)
-    (outgoing g.W.Write.contents c.named_line-in-W8.new.writer c.named_line-in-W8.new.text.items) _) (λ y. ⊤) c.in-W8.is
-    (λ y u. broken-before (outgoing g.W.Write.contents c.args.writer.now c.args.text.now.items)
-    (outgoing g.W.Write.contents c.named_line-in-W8.new.writer c.named_line-in-W8.new.text.items) _ _ y
-    c.in_err-named_line-in-W8.ensures.cut) (λ xs h n. tt))
+pub returns-in-W8-clause-cut : goal.returns-in-W8-clause-cut
+returns-in-W8-clause-cut g c =
+    IfErr-weaker c.show_byte_list.result _ _
+    (λ e. bytes-shown (by_bits g.row.QUOTED) (g.S.Space.message c.args.space.now) c.args.start.segment
+    c.args.start.word c.args.count c.args.level c.args.width (BreaksOff
+    (outgoing g.W.Write.contents c.args.writer.now c.args.text.now.items)
+    (outgoing g.W.Write.contents c.show_byte_list.new.writer c.show_byte_list.new.text.items) e) c.in-W8.is)
+    c.show_byte_list.ensures.cut
 
 pub returns-in_ok-named_line-in-W16-clause-shown : goal.returns-in_ok-named_line-in-W16-clause-shown
 returns-in_ok-named_line-in-W16-clause-shown g c =
     on_ok_weaker c.show_numbers.result
-    (pairs-shown (g.S.Space.message c.args.space.now) c.args.start.segment c.args.start.word c.args.count c.args.level
+    (pairs-shown (by_bits g.row.QUOTED) (g.S.Space.message c.args.space.now) c.args.start.segment c.args.start.word
+    c.args.count c.args.level
     c.args.width (Adds (outgoing g.W.Write.contents c.args.writer.now c.args.text.now.items)
     (outgoing g.W.Write.contents c.show_numbers.new.writer c.show_numbers.new.text.items)) (Adds
     (outgoing g.W.Write.contents c.named_line-in-W16.new.writer c.named_line-in-W16.new.text.items)
@@ -120,7 +103,8 @@ returns-in_ok-named_line-in-W16-clause-shown g c =
 pub returns-in_ok-named_line-in-W16-clause-cut : goal.returns-in_ok-named_line-in-W16-clause-cut
 returns-in_ok-named_line-in-W16-clause-cut g c =
     IfErr-weaker c.show_numbers.result _ _
-    (λ e. pairs-shown (g.S.Space.message c.args.space.now) c.args.start.segment c.args.start.word c.args.count
+    (λ e. pairs-shown (by_bits g.row.QUOTED) (g.S.Space.message c.args.space.now) c.args.start.segment c.args.start.word
+    c.args.count
     c.args.level
     c.args.width (BreaksOff (outgoing g.W.Write.contents c.args.writer.now c.args.text.now.items)
     (outgoing g.W.Write.contents c.show_numbers.new.writer c.show_numbers.new.text.items) e) (BreaksOff
@@ -136,7 +120,8 @@ pub returns-in_err-named_line-in-W16-clause-cut : goal.returns-in_err-named_line
 returns-in_err-named_line-in-W16-clause-cut g c =
     passed c.from_residual-in_err-named_line-in-W16.result c.in_err-named_line-in-W16.field-0.0 _
     c.from_residual-in_err-named_line-in-W16.ensures.1
-    (pairs-shown (g.S.Space.message c.args.space.now) c.args.start.segment c.args.start.word c.args.count c.args.level
+    (pairs-shown (by_bits g.row.QUOTED) (g.S.Space.message c.args.space.now) c.args.start.segment c.args.start.word
+    c.args.count c.args.level
     c.args.width (BreaksOff (outgoing g.W.Write.contents c.args.writer.now c.args.text.now.items)
     (outgoing g.W.Write.contents c.named_line-in-W16.new.writer c.named_line-in-W16.new.text.items) _)
     (λ y. ⊤) c.in-W16.is
@@ -148,7 +133,8 @@ returns-in_err-named_line-in-W16-clause-cut g c =
 pub returns-in_ok-named_line-in-W32-clause-shown : goal.returns-in_ok-named_line-in-W32-clause-shown
 returns-in_ok-named_line-in-W32-clause-shown g c =
     on_ok_weaker c.show_numbers-in-W32.result
-    (quads-shown (g.S.Space.message c.args.space.now) c.args.start.segment c.args.start.word c.args.count c.args.level
+    (quads-shown (by_bits g.row.QUOTED) (g.S.Space.message c.args.space.now) c.args.start.segment c.args.start.word
+    c.args.count c.args.level
     c.args.width (Adds (outgoing g.W.Write.contents c.args.writer.now c.args.text.now.items)
     (outgoing g.W.Write.contents c.show_numbers-in-W32.new.writer c.show_numbers-in-W32.new.text.items)) (Adds
     (outgoing g.W.Write.contents c.named_line-in-W32.new.writer c.named_line-in-W32.new.text.items)
@@ -162,7 +148,8 @@ returns-in_ok-named_line-in-W32-clause-shown g c =
 pub returns-in_ok-named_line-in-W32-clause-cut : goal.returns-in_ok-named_line-in-W32-clause-cut
 returns-in_ok-named_line-in-W32-clause-cut g c =
     IfErr-weaker c.show_numbers-in-W32.result _ _
-    (λ e. quads-shown (g.S.Space.message c.args.space.now) c.args.start.segment c.args.start.word c.args.count
+    (λ e. quads-shown (by_bits g.row.QUOTED) (g.S.Space.message c.args.space.now) c.args.start.segment c.args.start.word
+    c.args.count
     c.args.level
     c.args.width (BreaksOff (outgoing g.W.Write.contents c.args.writer.now c.args.text.now.items)
     (outgoing g.W.Write.contents c.show_numbers-in-W32.new.writer c.show_numbers-in-W32.new.text.items) e) (BreaksOff
@@ -178,7 +165,8 @@ pub returns-in_err-named_line-in-W32-clause-cut : goal.returns-in_err-named_line
 returns-in_err-named_line-in-W32-clause-cut g c =
     passed c.from_residual-in_err-named_line-in-W32.result c.in_err-named_line-in-W32.field-0.0 _
     c.from_residual-in_err-named_line-in-W32.ensures.1
-    (quads-shown (g.S.Space.message c.args.space.now) c.args.start.segment c.args.start.word c.args.count c.args.level
+    (quads-shown (by_bits g.row.QUOTED) (g.S.Space.message c.args.space.now) c.args.start.segment c.args.start.word
+    c.args.count c.args.level
     c.args.width (BreaksOff (outgoing g.W.Write.contents c.args.writer.now c.args.text.now.items)
     (outgoing g.W.Write.contents c.named_line-in-W32.new.writer c.named_line-in-W32.new.text.items) _)
     (λ y. ⊤) c.in-W32.is
@@ -190,7 +178,8 @@ returns-in_err-named_line-in-W32-clause-cut g c =
 pub returns-in_ok-named_line-in-W64-clause-shown : goal.returns-in_ok-named_line-in-W64-clause-shown
 returns-in_ok-named_line-in-W64-clause-shown g c =
     on_ok_weaker c.show_numbers-in-W64.result
-    (octs-shown (g.S.Space.message c.args.space.now) c.args.start.segment c.args.start.word c.args.count c.args.level
+    (octs-shown (by_bits g.row.QUOTED) (g.S.Space.message c.args.space.now) c.args.start.segment c.args.start.word
+    c.args.count c.args.level
     c.args.width (Adds (outgoing g.W.Write.contents c.args.writer.now c.args.text.now.items)
     (outgoing g.W.Write.contents c.show_numbers-in-W64.new.writer c.show_numbers-in-W64.new.text.items)) (Adds
     (outgoing g.W.Write.contents c.named_line-in-W64.new.writer c.named_line-in-W64.new.text.items)
@@ -204,7 +193,8 @@ returns-in_ok-named_line-in-W64-clause-shown g c =
 pub returns-in_ok-named_line-in-W64-clause-cut : goal.returns-in_ok-named_line-in-W64-clause-cut
 returns-in_ok-named_line-in-W64-clause-cut g c =
     IfErr-weaker c.show_numbers-in-W64.result _ _
-    (λ e. octs-shown (g.S.Space.message c.args.space.now) c.args.start.segment c.args.start.word c.args.count
+    (λ e. octs-shown (by_bits g.row.QUOTED) (g.S.Space.message c.args.space.now) c.args.start.segment c.args.start.word
+    c.args.count
     c.args.level
     c.args.width (BreaksOff (outgoing g.W.Write.contents c.args.writer.now c.args.text.now.items)
     (outgoing g.W.Write.contents c.show_numbers-in-W64.new.writer c.show_numbers-in-W64.new.text.items) e) (BreaksOff
@@ -220,7 +210,8 @@ pub returns-in_err-named_line-in-W64-clause-cut : goal.returns-in_err-named_line
 returns-in_err-named_line-in-W64-clause-cut g c =
     passed c.from_residual-in_err-named_line-in-W64.result c.in_err-named_line-in-W64.field-0.0 _
     c.from_residual-in_err-named_line-in-W64.ensures.1
-    (octs-shown (g.S.Space.message c.args.space.now) c.args.start.segment c.args.start.word c.args.count c.args.level
+    (octs-shown (by_bits g.row.QUOTED) (g.S.Space.message c.args.space.now) c.args.start.segment c.args.start.word
+    c.args.count c.args.level
     c.args.width (BreaksOff (outgoing g.W.Write.contents c.args.writer.now c.args.text.now.items)
     (outgoing g.W.Write.contents c.named_line-in-W64.new.writer c.named_line-in-W64.new.text.items) _)
     (λ y. ⊤) c.in-W64.is

@@ -1,4 +1,5 @@
 use Rattle.capn_walk.proofs.Answering.{readable, fits, cheap}
+use Rattle.capn_walk.proofs.Heights.{depths-heights}
 use Rattle.capn_walk.proofs.InRangeAt.{in_range-at}
 use Rattle.capn_walk.proofs.shared.Unique.{unique, unique-slots, unique-rows}
 use Rattle.capn_walk.proofs.laws.values.Goals as goal
@@ -23,3 +24,6 @@ returns-clause-fit c = fits
 
 pub returns-clause-cheap : goal.returns-clause-cheap
 returns-clause-cheap c = cheap
+
+pub returns-clause-deep : goal.returns-clause-deep
+returns-clause-deep c = depths-heights

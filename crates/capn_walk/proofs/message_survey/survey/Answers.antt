@@ -48,4 +48,4 @@ returns-clause-only g c v is =
     let t = c.in_ok-target in
     let x = c.in_ok-told in
     let cap = rw (c.depth.ensures.value, c.base.ensures.value, c.tariff.ensures) at x.ensures.tells.1 in
-    one-cap m c.args.limits t.ensures.place t.target t.ensures.target t.ensures.kind x.told.capability v is cap
+    one-cap m c.args.limits t.ensures.place t.target t.ensures.target t.ensures.kind x.told.survey.capability v is cap

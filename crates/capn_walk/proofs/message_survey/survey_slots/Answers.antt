@@ -1,9 +1,13 @@
-use Rattle.std.proofs.Common.{rules, ◌≡◌, [], None, refl, arith}
+use Rattle.std.proofs.Common.{rules, ◌≡◌, ◌≤◌, [], None, refl, arith}
 use Rattle.capn_words.specs.declared.pointer.Pointer.TheVariants.{Many}
-use Rattle.capn_walk.specs.inner.SlotsLeft.{owed, Lies}
+use Rattle.capn_walk.specs.Shapes.{AreNumbers}
+use Rattle.capn_walk.specs.inner.SlotsLeft.{owed, places_of, Lies}
+use Rattle.capn_walk.specs.inner.Reach.{reach_of}
+use Rattle.capn_walk.proofs.NeverNull.{there}
+use Rattle.capn_walk.proofs.DeepVisits.{deep-row, deep-popped, deep-null, deep-passed, deep-entered, deep-end}
 use Rattle.capn_walk.proofs.OwedSlots.{done, none-owed, not-done}
 use Rattle.capn_walk.proofs.Near.{near-struct, near-list}
-use Rattle.capn_walk.proofs.Stepped.{capless-near}
+use Rattle.capn_walk.proofs.Stepped.{capless-near, numbers-none}
 use Rattle.capn_walk.proofs.UnderWay.{popped, entered, passed, refused-here, as-many, fewer-entered, fewer-passed}
 use Rattle.capn_walk.proofs.UnderWay.{passed-null, fewer-null, null-target, next-row, fewer-rows, IsKept, kept, dropped}
 use Rattle.capn_walk.proofs.UnderWay.{no_frame, option_or-none}
@@ -25,12 +29,16 @@ slots-preserved-then-frame-gt0 g c =
     let w = c.slots in
     let t = c.turned-frame in
     let lies : Lies (g.S.Space.message c.args.space.now) c.turned-frame.result = search rules in
+    let n = reach_of (g.S.Space.message c.args.space.now) c.args.limit (places_of c.args.first) in
     record {
       surveys = next-row m c.args.base c.args.budget _ (owed c.args.first) c.args.limit w.depth w.stack.items w.frame
           t.result w.paid w.visits w.capability
           t.ensures.places t.ensures.owed lies w.invariant.surveys;
       room = w.invariant.room;
       size = rw t.ensures.segment w.invariant.size;
+      deep = λ on. deep-row m c.args.base c.args.limit n w.least w.depth w.stack.items w.frame t.result
+          t.ensures.places (w.invariant.deep on);
+      least = w.invariant.least;
     }
 
 pub slots-preserved-then-frame-eq0 : goal.slots-preserved-then-frame-eq0
@@ -39,12 +47,16 @@ slots-preserved-then-frame-eq0 g c =
     let w = c.slots in
     let r : c.slots.frame.rows ≡ 0 = omega arith in
     let z = none-owed c.slots.frame c.if-frame-eq0.true r in
+    let n = reach_of (g.S.Space.message c.args.space.now) c.args.limit (places_of c.args.first) in
     record {
       surveys = popped m c.args.base c.args.budget _ (owed c.args.first) c.args.limit w.depth w.stack.items
           c.pop.new.self.items w.frame c.in-Some.waiting w.paid w.visits w.capability c.in-Some.ensures.items z
           w.invariant.surveys;
       room = omega arith;
       size = search rules;
+      deep = λ on. deep-popped m c.args.base c.args.limit n w.least w.depth w.stack.items c.pop.new.self.items w.frame
+          c.in-Some.waiting c.in-Some.ensures.items w.invariant.surveys.lies.rows z (w.invariant.deep on);
+      least = w.invariant.least;
     }
 
 pub slots-smaller-then-frame-eq0 : goal.slots-smaller-then-frame-eq0
@@ -63,12 +75,16 @@ slots-preserved-then-word-eq0 g c =
     let w = c.slots in
     let t = c.take in
     let lies : Lies (g.S.Space.message c.args.space.now) c.take.result.1 = search rules in
+    let n = reach_of (g.S.Space.message c.args.space.now) c.args.limit (places_of c.args.first) in
     record {
       surveys = passed-null m c.args.base c.args.budget _ (owed c.args.first) c.args.limit w.depth w.stack.items w.frame
           t.result.1 t.result.0 w.paid w.visits w.capability
           w.invariant.surveys t.ensures.places (null-target m t.result.0 (cc)) t.ensures.owed lies;
       room = w.invariant.room;
       size = rw t.ensures.segment w.invariant.size;
+      deep = λ on. deep-null m c.args.base c.args.limit n w.least w.depth w.stack.items w.frame t.result.1 t.result.0
+          t.ensures.places (null-target m t.result.0 (cc)) (w.invariant.deep on);
+      least = w.invariant.least;
     }
 
 pub slots-smaller-then-word-eq0 : goal.slots-smaller-then-word-eq0
@@ -116,6 +132,14 @@ slots-preserved-then-is_done g c =
     c.word-word.ensures c.split-pointer.ensures.read c.in-Node.is) in
     let lies : Lies (g.S.Space.message c.args.space.now) c.take.result.1 = search rules in
     let z : owed c.in-Ok.found.below ≡ 0 = done c.is_done.result _ c.is_done.ensures c.if-is_done.true in
+    let n = reach_of (g.S.Space.message c.args.space.now) c.args.limit (places_of c.args.first) in
+    let levels = w.invariant.surveys.depth in
+    let low : c.slots.depth ≤ c.args.limit = omega arith in
+    let nonzero : c.word-word.result ≡ 0 → ⊥ = λ z. absurd (omega arith) in
+    let is = there m c.take.result.0 c.word-word.result c.split-pointer.result c.word-word.ensures
+    c.split-pointer.ensures.read c.split-pointer.ensures.joined nonzero in
+    let fewer = c.lowered-least.ensures.no_more in
+    let few = w.invariant.least in
     record {
       surveys = rw option_or-none at
           (passed m c.args.base c.args.budget _ (owed c.args.first) c.args.limit w.depth w.stack.items w.frame
@@ -125,6 +149,13 @@ slots-preserved-then-is_done g c =
           lies x.ensures.below.rows z);
       room = w.invariant.room;
       size = rw t.ensures.segment w.invariant.size;
+      deep = λ on. deep-passed m c.args.base c.args.limit n w.least c.lowered-least.result
+          w.depth w.stack.items w.frame
+          t.result.1 x.found.below t.result.0 x.found.price _ None (w.invariant.deep on) low
+          t.ensures.places x.ensures.visits is none x.ensures.places
+          (c.lowered-least.ensures.deep c.args.limit on)
+          x.ensures.below.rows z;
+      least = omega arith;
     }
 
 pub slots-smaller-then-is_done : goal.slots-smaller-then-is_done
@@ -160,6 +191,14 @@ slots-preserved-in-Node-1 g c =
           (rw w.stack-is refl)
     ]
     in
+    let n = reach_of (g.S.Space.message c.args.space.now) c.args.limit (places_of c.args.first) in
+    let levels = w.invariant.surveys.depth in
+    let low : c.slots.depth ≤ c.args.limit = omega arith in
+    let nonzero : c.word-word.result ≡ 0 → ⊥ = λ z. absurd (omega arith) in
+    let is = there m c.take.result.0 c.word-word.result c.split-pointer.result c.word-word.ensures
+    c.split-pointer.ensures.read c.split-pointer.ensures.joined nonzero in
+    let fewer = c.lowered-least.ensures.no_more in
+    let few = w.invariant.least in
     record {
       surveys = rw option_or-none at
           (entered m c.args.base c.args.budget _ (owed c.args.first) c.args.limit w.depth w.stack.items w.frame
@@ -170,6 +209,13 @@ slots-preserved-in-Node-1 g c =
       room = elim c.if-not-is_done.branch
           [ then-not-is_done+in-Ok-push w ↦ search rules | else-not-is_done w ↦ search rules ];
       size = search rules;
+      deep = λ on. deep-entered m c.args.base c.args.limit n w.least c.lowered-least.result
+          w.depth w.stack.items w.frame
+          t.result.1 x.found.below t.result.0 x.found.price _ None (w.invariant.deep on) low
+          t.ensures.places x.ensures.visits is none x.ensures.places
+          (c.lowered-least.ensures.deep c.args.limit on)
+          c.if-not-is_done.stack.items t.ensures.kept k;
+      least = omega arith;
     }
 
 pub slots-smaller-in-Node-1 : goal.slots-smaller-in-Node-1
@@ -200,6 +246,14 @@ slots-preserved-then-is_done-2 g c =
     let lies : Lies (g.S.Space.message c.args.space.now) c.take.result.1 = search rules in
     let z : owed c.in-Ok-visit_elsewhere.found.below ≡ 0 =
     done c.is_done-in_default-pointer.result _ c.is_done-in_default-pointer.ensures c.if-is_done-2.true in
+    let n = reach_of (g.S.Space.message c.args.space.now) c.args.limit (places_of c.args.first) in
+    let levels = w.invariant.surveys.depth in
+    let low : c.slots.depth ≤ c.args.limit = omega arith in
+    let nonzero : c.word-word.result ≡ 0 → ⊥ = λ z. absurd (omega arith) in
+    let is = there m c.take.result.0 c.word-word.result c.split-pointer.result c.word-word.ensures
+    c.split-pointer.ensures.read c.split-pointer.ensures.joined nonzero in
+    let fewer = c.lowered-least-in_default-pointer.ensures.no_more in
+    let few = w.invariant.least in
     record {
       surveys = rw c.or-capability.ensures
           (passed m c.args.base c.args.budget _ (owed c.args.first) c.args.limit w.depth w.stack.items w.frame
@@ -209,6 +263,13 @@ slots-preserved-then-is_done-2 g c =
           lies x.ensures.below.rows z);
       room = w.invariant.room;
       size = rw t.ensures.segment w.invariant.size;
+      deep = λ on. deep-passed m c.args.base c.args.limit n w.least c.lowered-least-in_default-pointer.result
+          w.depth w.stack.items w.frame
+          t.result.1 x.found.below t.result.0 x.found.price _ x.found.capability (w.invariant.deep on) low
+          t.ensures.places x.ensures.visits is x.ensures.capability x.ensures.places
+          (c.lowered-least-in_default-pointer.ensures.deep c.args.limit on)
+          x.ensures.below.rows z;
+      least = omega arith;
     }
 
 pub slots-smaller-then-is_done-2 : goal.slots-smaller-then-is_done-2
@@ -242,6 +303,14 @@ slots-preserved g c =
           w.if-not-is_done-2.false) (rw w.stack-is refl)
     ]
     in
+    let n = reach_of (g.S.Space.message c.args.space.now) c.args.limit (places_of c.args.first) in
+    let levels = w.invariant.surveys.depth in
+    let low : c.slots.depth ≤ c.args.limit = omega arith in
+    let nonzero : c.word-word.result ≡ 0 → ⊥ = λ z. absurd (omega arith) in
+    let is = there m c.take.result.0 c.word-word.result c.split-pointer.result c.word-word.ensures
+    c.split-pointer.ensures.read c.split-pointer.ensures.joined nonzero in
+    let fewer = c.lowered-least-in_default-pointer.ensures.no_more in
+    let few = w.invariant.least in
     record {
       surveys = rw c.or-capability.ensures
           (entered m c.args.base c.args.budget _ (owed c.args.first) c.args.limit w.depth w.stack.items w.frame
@@ -252,6 +321,13 @@ slots-preserved g c =
       room = elim c.if-not-is_done-2.branch
           [ then-not-is_done-2+in-Ok-push-2 w ↦ search rules | else-not-is_done-2 w ↦ search rules ];
       size = search rules;
+      deep = λ on. deep-entered m c.args.base c.args.limit n w.least c.lowered-least-in_default-pointer.result
+          w.depth w.stack.items w.frame
+          t.result.1 x.found.below t.result.0 x.found.price _ x.found.capability (w.invariant.deep on) low
+          t.ensures.places x.ensures.visits is x.ensures.capability x.ensures.places
+          (c.lowered-least-in_default-pointer.ensures.deep c.args.limit on)
+          c.if-not-is_done-2.stack.items t.ensures.kept k;
+      least = omega arith;
     }
 
 pub slots-smaller : goal.slots-smaller
@@ -305,6 +381,18 @@ slots-preserved-then-is_plain g c =
     (near-list m t.result.0 c.word-word.result c.split-pointer.result c.in-Many.offset c.in-Many.width
     c.in-Many.count c.word-word.ensures c.split-pointer.ensures.read c.in-Many.is) in
     let lies : Lies (g.S.Space.message c.args.space.now) c.take.result.1 = search rules in
+    let n = reach_of (g.S.Space.message c.args.space.now) c.args.limit (places_of c.args.first) in
+    let levels = w.invariant.surveys.depth in
+    let low : c.slots.depth ≤ c.args.limit = omega arith in
+    let nonzero : c.word-word.result ≡ 0 → ⊥ = λ z. absurd (omega arith) in
+    let is = there m c.take.result.0 c.word-word.result c.split-pointer.result c.word-word.ensures
+    c.split-pointer.ensures.read c.split-pointer.ensures.joined nonzero in
+    let number : AreNumbers (Many c.in-Many.offset c.in-Many.width c.in-Many.count) = search rules in
+    let nothing = numbers-none m t.result.0 (Many c.in-Many.offset c.in-Many.width c.in-Many.count) number
+    (near-list m t.result.0 c.word-word.result c.split-pointer.result c.in-Many.offset c.in-Many.width
+    c.in-Many.count c.word-word.ensures c.split-pointer.ensures.read c.in-Many.is) in
+    let fewer = c.lowered-least-in-Ok-visit_numbers.ensures.no_more in
+    let few = w.invariant.least in
     record {
       surveys = rw option_or-none at
           (passed m c.args.base c.args.budget _ (owed c.args.first) c.args.limit w.depth w.stack.items w.frame
@@ -314,6 +402,13 @@ slots-preserved-then-is_plain g c =
           lies (λ h. absurd (omega arith)) refl);
       room = w.invariant.room;
       size = rw t.ensures.segment w.invariant.size;
+      deep = λ on. deep-passed m c.args.base c.args.limit n w.least c.lowered-least-in-Ok-visit_numbers.result
+          w.depth w.stack.items w.frame
+          t.result.1 no_frame t.result.0 x.price _ None (w.invariant.deep on) low
+          t.ensures.places x.ensures.visits is none nothing
+          (c.lowered-least-in-Ok-visit_numbers.ensures.deep c.args.limit on)
+          (λ h. absurd (omega arith)) refl;
+      least = omega arith;
     }
 
 pub slots-smaller-then-is_plain : goal.slots-smaller-then-is_plain
@@ -325,3 +420,14 @@ slots-smaller-then-is_plain g c =
     fewer-passed m c.args.base c.args.budget _ (owed c.args.first) c.args.limit w.depth w.stack.items w.frame t.result.1
     no_frame t.result.0 x.price w.paid w.visits w.capability
     w.invariant.surveys t.ensures.places x.ensures.visits (λ h. absurd (omega arith)) refl
+
+pub returns-in_default-clause-depth : goal.returns-in_default-clause-depth
+returns-in_default-clause-depth g c on =
+    let m = g.S.Space.message c.args.space.now in
+    let w = c.slots in
+    let n = reach_of (g.S.Space.message c.args.space.now) c.args.limit (places_of c.args.first) in
+    let r : c.slots.frame.rows ≡ 0 = omega arith in
+    let z = none-owed c.slots.frame c.if-frame-eq0.true r in
+    let e : c.slots.stack.items ≡ [] = search rules in
+    deep-end m c.args.base c.args.limit n w.least w.depth w.stack.items w.frame e w.invariant.surveys.lies.rows z
+    (w.invariant.deep on)

@@ -1,8 +1,10 @@
-use Rattle.std.proofs.Common.{◌≡◌, ◌+◌, ◌-◌, ◌*◌, ◌≤◌, length}
+use Rattle.std.proofs.Common.{◌≡◌, ◌+◌, ◌-◌, ◌*◌, ◌≤◌, length, not, nat_eq, IsTrue}
 use Rattle.capn_words.specs.Message.{segment_at}
 use Rattle.capn_walk.specs.Visits.{visits_of}
 use Rattle.capn_walk.specs.inner.SlotsLeft.{places_of, owed}
+use Rattle.capn_walk.specs.inner.Reach.{reach_of}
 use Rattle.capn_walk.proofs.UnderWay.{Surveys, coming}
+use Rattle.capn_walk.proofs.DeepVisits.{IsDeep}
 use Rattle.capn_walk.proofs.message_survey.survey_slots.Given as goal
 
 abbrev pub decreases-slots : goal.decreases-slots
@@ -18,4 +20,7 @@ invariant-slots g l =
           l.depth l.stack.items l.frame l.paid l.visits l.capability;
       room : 64 ≤ l.stack.capacity;
       size : l.size ≡ length (segment_at m l.frame.segment);
+      deep : IsTrue (not (nat_eq g.row.DEEP 0)) → IsDeep m l.base l.limit (reach_of m l.limit (places_of l.fn.first))
+          l.least l.depth l.stack.items l.frame;
+      least : l.least ≤ l.limit + 1;
     }

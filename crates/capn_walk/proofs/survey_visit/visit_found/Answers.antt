@@ -3,6 +3,7 @@ use Rattle.capn_walk.specs.declared.target.Target.{Target}
 use Rattle.capn_walk.specs.declared.target.Target.TheVariants as targets
 use Rattle.capn_walk.specs.Surveyed.{cap_of}
 use Rattle.capn_walk.specs.inner.Verdict.{judge}
+use Rattle.capn_walk.specs.inner.Reach.{below_of}
 use Rattle.capn_walk.specs.View.{cap_in, stepped}
 use Rattle.capn_walk.proofs.shared.Ways.{never-memory}
 use Rattle.capn_walk.proofs.SeenInside.{found-inside}
@@ -44,6 +45,7 @@ returns-in-Ok-price_within g c =
       visits = rw (f.places, n) p.is;
       price = x.within;
       capability = ap cap_of t ∙ same-cap c.in-Ok.target ∙ sym c.capability_of.ensures;
+      places = ap below_of t ∙ sym f.places;
       below = f.lies;
       deep = λ some. d (omega arith);
       owed = omega arith;

@@ -1,16 +1,26 @@
-use Rattle.capn_archive.specs.Sieve.{refuses, serves}
-use Rattle.capn_serve.proofs.shared.Appending.{does_flush, does_nothing}
+use Rattle.std.proofs.Common.{[], inr, sym, subst, ◌∙◌}
+use Rattle.capn_words.specs.Watched.{inner_of, has_failed}
+use Rattle.capn_serve.specs.Outgoing.{Outgoing, Adds, outgoing}
+use Rattle.capn_serve.proofs.shared.Adding.{added_none}
+use Rattle.capn_archive.specs.Digest.{IsUndigested}
+use Rattle.capn_archive.specs.Sieve.{Sifted}
+use Rattle.capn_archive.proofs.Sieves.{passes_over, undigested}
 use Rattle.capn_archive.proofs.sieve.SieveService.serve.Goals as goal
 
-pub returns-in_err-put_message : goal.returns-in_err-put_message
-returns-in_err-put_message g c =
-    does_nothing serves refuses c.args.self.now c.put_message.new.self c.args.at c.args.frame.now
-    (g.S.Space.message c.args.message.now) _ c.args.text.now.items c.put_message.new.text.items _
-    c.in_err-put_message.field-0.0 c.from_residual.result c.from_residual.ensures.1 c.requires.fine
-    c.in_err-put_message.ensures
-
-pub returns : goal.returns
-returns g c =
-    does_flush serves refuses c.args.self.now c.put_message.new.self c.args.at c.args.frame.now
-    (g.S.Space.message c.args.message.now) _ c.args.text.now.items c.put_message.new.text.items _
-    c.flush_long.new.text.items _ c.flush_long.result c.in_ok-put_message.ensures c.flush_long.ensures
+pub returns-in-Err-Refused : goal.returns-in-Err-Refused
+returns-in-Err-Refused g c =
+    let old = outgoing (g.W.Write.contents (inner_of c.args.writer.now)) c.args.text.now.items in
+    let new = outgoing (g.W.Write.contents (inner_of c.sift.new.writer)) c.sift.new.text.items in
+    let known = undigested c.args.self.now c.args.frame.now (g.S.Space.message c.args.message.now) old new
+    (has_failed c.sift.new.writer) c.sift.new.self c.in-Err-Refused.field-0 c.in-Err-Refused.field-0-0
+    c.in-Err-Refused.field-0-is c.in-Err-Refused.ensures in
+    let same = c.self.view_is ∙ known.2 in (
+      [],
+      inr (passes_over c.self.inside.order c.self.inside.digests c.self.inside.served c.self.inside.skipped
+          c.args.self.now same c.args.at (g.S.Space.message c.args.message.now) c.in-Err-Refused.field-0-0
+          (subst (λ (s : Sifted). IsUndigested (g.S.Space.message c.args.message.now) s.order.limits
+          c.in-Err-Refused.field-0-0) (sym same) known.0)
+          c.if-self.true c.one_more.result c.one_more.ensures),
+      subst (λ (x : Outgoing). Adds old x []) (sym known.1) (added_none old),
+      known.3,
+    )

@@ -1,10 +1,20 @@
-use Rattle.std.proofs.Common.{ap}
+use Rattle.std.proofs.Common.{◌≡◌, ℕ, List, Result, ap, sym, subst}
 use Rattle.capn_show.specs.Outgoing.{outgoing}
-use Rattle.capn_serve.proofs.shared.Appending.{does_flush, does_nothing}
-use Rattle.capn_tool.specs.inner.MessageTexts.{message_texts, refuses, serves}
+use Rattle.capn_tool.specs.MessageText.{PutsMessageText}
+use Rattle.capn_tool.specs.inner.MessageTexts.{message_texts}
+use Rattle.capn_tool.specs.declared.message_texts.MessageTexts.{MessageTexts}
 use Rattle.capn_tool.specs.declared.plan.MessageText.{MessageText}
+use Rattle.capn_tool.specs.declared.plan.MessageText.TheVariants as kinds
+use Rattle.capn_tool.specs.declared.fault.ToolFault.{ToolFault}
 use Rattle.capn_tool.proofs.ShownMessage.{does_shown}
 use Rattle.capn_tool.proofs.message_texts.MessageTextsService.serve.Goals as goal
+
+-- the piece of the service was put
+puts : (this : MessageText) (s : MessageTexts) (message : List (List ℕ)) (old new : List ℕ)
+    (r : Result (Unit {0}) ToolFault) → s.piece ≡ this → PutsMessageText this message s.limits old new r
+    → PutsMessageText s.piece message s.limits old new r
+puts this s message old new r is put =
+    subst (λ (k : MessageText). PutsMessageText k message s.limits old new r) (sym is) put
 
 pub returns-in-Text : goal.returns-in-Text
 returns-in-Text g c =
@@ -14,16 +24,16 @@ returns-in-Text g c =
     (ap (λ (k : MessageText). message_texts k c.args.self.now.limits) c.in-Text.is) c.requires.fine
     c.add_shown.ensures
 
-pub returns-in_err-put_message-in-Price : goal.returns-in_err-put_message-in-Price
-returns-in_err-put_message-in-Price g c =
-    does_nothing serves refuses c.args.self.now c.args.self.now c.args._at c.args._frame.now
-    (g.S.Space.message c.args.message.now) _ c.args.text.now.items c.put_message.new.text.items _
-    c.in_err-put_message-in-Price.field-0.0 c.from_residual.result c.from_residual.ensures.1 c.requires.fine
-    (c.in_err-put_message-in-Price.ensures c.args._at c.args._frame.now)
+pub returns-in-Price : goal.returns-in-Price
+returns-in-Price g c =
+    c.end_piece.ensures c.args.self.now c.args._at c.args._frame.now (g.S.Space.message c.args.message.now)
+    c.args.text.now.items
+    (puts kinds.Price c.args.self.now (g.S.Space.message c.args.message.now) c.args.text.now.items
+    c.put_price-put.new.text.items c.put_price-put.result c.in-Price.is c.put_price-put.ensures)
 
-pub returns-in_ok-put_message-in-Price : goal.returns-in_ok-put_message-in-Price
-returns-in_ok-put_message-in-Price g c =
-    does_flush serves refuses c.args.self.now c.args.self.now c.args._at c.args._frame.now
-    (g.S.Space.message c.args.message.now) _ c.args.text.now.items c.put_message.new.text.items _
-    c.flush_long.new.text.items _ c.flush_long.result
-    (c.in_ok-put_message-in-Price.ensures c.args._at c.args._frame.now) c.flush_long.ensures
+pub returns-in-Digest : goal.returns-in-Digest
+returns-in-Digest g c =
+    c.end_piece-in-Digest.ensures c.args.self.now c.args._at c.args._frame.now
+    (g.S.Space.message c.args.message.now) c.args.text.now.items
+    (puts kinds.Digest c.args.self.now (g.S.Space.message c.args.message.now) c.args.text.now.items
+    c.put_digest-put.new.text.items c.put_digest-put.result c.in-Digest.is c.put_digest-put.ensures)

@@ -1,0 +1,14 @@
+-- Parts of a line that are put before others.
+use Rattle.std.proofs.Common.{◌≡◌, ℕ, List, ◌++◌, refl, ap, sym, ◌∙◌, append_assoc}
+
+-- a part before what was put before the rest
+pub before : (part done rest line new : List ℕ) → line ≡ done ++ rest → new ≡ part ++ line
+    → new ≡ (part ++ done) ++ rest
+before part done rest line new was put =
+    put ∙ ap (λ (l : List ℕ). part ++ l) was ∙ sym (append_assoc part done rest)
+
+-- two parts
+pub both_before : (name part done rest line new : List ℕ) → line ≡ done ++ rest → new ≡ name ++ (part ++ line)
+    → new ≡ (name ++ (part ++ done)) ++ rest
+both_before name part done rest line new was put =
+    before name (part ++ done) rest (part ++ line) new (before part done rest line (part ++ line) was refl) put

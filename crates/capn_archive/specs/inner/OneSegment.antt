@@ -1,0 +1,7 @@
+-- A message of one segment.
+use Rattle.std.specs.Prelude.{◌≡◌, ℕ, List, [], ◌∷◌}
+use Rattle.capn_words.specs.Message.{IsBare}
+
+-- the message has one segment, whose bytes these are
+abbrev pub IsOnlySegment : List (List ℕ) → List ℕ → Type 0
+IsOnlySegment message bs = (words : List ℕ) × (message ≡ words ∷ []) × IsBare bs words

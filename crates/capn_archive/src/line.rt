@@ -1,0 +1,150 @@
+//! A line that is written from its end to its beginning.
+
+ghost use Rattle.std.specs.Prelude.{◌≡◌, ◌+◌, ◌≤◌, [], ◌++◌, length};
+ghost use Rattle.std.specs.Fmt.{decimal};
+ghost use Rattle.capn_archive.specs.Lines as spec;
+ghost use Rattle.capn_archive.specs.inner.LineRoom.{most_line};
+
+use crate::findings::Findings;
+use crate::head::Head;
+use capn_serve::number_of;
+use std::marker::Model;
+
+/// The most bytes of a line.
+const ROOM: usize = 352;
+
+/// A line that is written from its end to its beginning, as the digits of a number are. It takes no memory.
+#[derive(Drop)]
+pub struct Line {
+    bytes: [u8; ROOM],
+    start: usize,
+}
+
+impl Model for Line {
+    ghost use Rattle.std.specs.Prelude.{ℕ, ◌≤◌, List, drop};
+    ghost use Rattle.capn_archive.specs.inner.LineRoom.{most_line};
+
+    ghost Value = { List ℕ };
+
+    ghost view = { λ line. drop line.start line.bytes };
+
+    ghost invariant = { λ line. line.start ≤ most_line };
+}
+
+impl Line {
+    /// A line of which nothing is written.
+    pub(crate) fn new() -> Line
+        ensures { result ≡ [] }
+    {
+        Line {
+            bytes: [0; ROOM],
+            start: ROOM,
+        }
+    }
+
+    /// What is written of it.
+    pub(crate) fn as_bytes(&self) -> &[u8]
+        ensures { result.now ≡ self.now }
+    {
+        &self.bytes[self.start..]
+    }
+
+    /// Writes bytes before it.
+    pub(crate) fn put(&mut self, part: &[u8])
+        requires { length part.now + length self.old ≤ most_line }
+        ensures { self.new ≡ part.now ++ self.old }
+    {
+        let start = self.start - part.len();
+        self.bytes[start..self.start].copy_from_slice(part);
+        self.start = start;
+    }
+
+    /// Writes a number before it.
+    fn put_number(&mut self, n: u64)
+        requires { 20 + length self.old ≤ most_line }
+        ensures number { self.new ≡ decimal n ++ self.old }
+        ensures few { length self.new ≤ 20 + length self.old }
+    {
+        self.start = itoa::write_digits(n, &mut self.bytes, self.start);
+    }
+
+    /// Writes a name and a number before it.
+    fn put_named(&mut self, name: &[u8], n: u64)
+        requires { length name.now + 20 + length self.old ≤ most_line }
+        ensures named { self.new ≡ name.now ++ (decimal n ++ self.old) }
+        ensures few { length self.new ≤ length name.now + 20 + length self.old }
+    {
+        self.put_number(n);
+        self.put(name);
+    }
+
+    /// Writes before it where a message is, and how large.
+    pub(crate) fn put_head(&mut self, head: &Head)
+        requires { 148 + length self.old ≤ most_line }
+        ensures { self.new ≡ spec.head_text head.now ++ self.old }
+    {
+        let mut digits = itoa::Buffer::new();
+        self.put_named(b" words ", head.words as u64);
+        self.put_named(b" segments ", head.segments as u64);
+        self.put_named(b" bytes ", head.bytes);
+        self.put_named(b" at ", head.at.offset);
+        self.put(digits.format(number_of(head.at.index)).as_bytes());
+    }
+
+    /// Writes before it the index of a capability, or that there is none.
+    fn put_capability(&mut self, capability: Option<u32>)
+        requires { 20 + length self.old ≤ most_line }
+        ensures capability { self.new ≡ spec.capability_text capability ++ self.old }
+        ensures few { length self.new ≤ 20 + length self.old }
+    {
+        match capability {
+            Some(index) => self.put_number(index as u64),
+            None => self.put(b"no"),
+        }
+    }
+
+    /// Writes before it whether something is so.
+    fn put_answer(&mut self, answer: bool)
+        requires { 3 + length self.old ≤ most_line }
+        ensures answer { self.new ≡ spec.answer_text answer ++ self.old }
+        ensures few { length self.new ≤ 3 + length self.old }
+    {
+        if answer {
+            self.put(b"yes");
+        } else {
+            self.put(b"no");
+        }
+    }
+
+    /// Writes before it what is found of a message.
+    pub(crate) fn put_findings(&mut self, findings: &Findings)
+        requires { 126 + length self.old ≤ most_line }
+        ensures findings { self.new ≡ spec.findings_text findings.now ++ self.old }
+        ensures few { length self.new ≤ 126 + length self.old }
+    {
+        self.put_answer(findings.checked.is_canonical);
+        self.put(b" canonical ");
+        self.put_capability(findings.checked.capability);
+        self.put(b" capability ");
+        self.put_named(b" depth ", findings.depth as u64);
+        self.put_named(b" visits ", findings.checked.visits as u64);
+        self.put_named(b"paid ", findings.checked.paid as u64);
+    }
+
+    /// Writes before it a digest in 64 hexadecimal digits, or `-` if there is none.
+    pub(crate) fn put_digest(&mut self, digest: Option<[u8; 32]>)
+        requires { 64 + length self.old ≤ most_line }
+        ensures digest { self.new ≡ spec.digest_text digest ++ self.old }
+        ensures few { length self.new ≤ 64 + length self.old }
+    {
+        match digest {
+            Some(digest) => {
+                let mut digits = [0; 64];
+                // 64 digits have room, so nothing is refused.
+                let _done = hex::encode_to_slice(digest.as_slice(), &mut digits);
+                self.put(&digits);
+            }
+            None => self.put(b"-"),
+        }
+    }
+}

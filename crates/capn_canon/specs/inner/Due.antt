@@ -1,0 +1,78 @@
+-- What stands at slots as a canonical layout has it, within the depth and the words that are left: what one pass over
+-- words has to find.
+use Rattle.std.specs.Prelude.{◌≡◌, ℕ, ◌+◌, ◌-◌, ◌≤◌, List, [], ◌∷◌, length, Option, Some, None}
+use Rattle.capn_value.specs.Tree.{Tree, Trees, Bodies, count, count_rows}
+use Rattle.capn_value.specs.FirstCap.{first_cap, first_in, first_in_rows}
+use Rattle.capn_walk.specs.Accepted.{IsWithin}
+use Rattle.capn_walk.specs.ValueAt.{IsAt, AreAt, RowsAt}
+use Rattle.capn_walk.specs.Visits.{places, row_places, visits, visits_of}
+use Rattle.capn_canon.specs.declared.progress.Pass.{Pass}
+use Rattle.capn_canon.specs.declared.progress.RowPass.{RowPass}
+use Rattle.capn_canon.specs.Layout.{size, sizes, sizes_in_rows}
+use Rattle.capn_canon.specs.inner.Sound.{Sound, Sounds, SoundRows}
+use Rattle.capn_canon.specs.inner.WordsOfLayout.{IsLaidAt, AreLaidAt, RowsLaidAt}
+
+module _ (all : List ℕ) (base : ℕ) where
+  -- a value without capabilities stands at a slot, and its content where its layout has it; its walk, at most `depth`
+  -- objects deep, pays no more than is left (Own.)
+  pub record IsDue (from to depth left : ℕ) (v : Tree) : Type 0 where
+    pub is : IsAt (all ∷ []) (record { segment = 0; word = from }) v
+    pub laid : IsLaidAt all v from to
+    pub sound : Sound v
+    pub free : first_cap v ≡ None
+    pub fits : to + size v ≤ length all
+    pub pays : IsWithin left (visits (all ∷ []) base depth (record { segment = 0; word = from }))
+
+  -- so do those at slots one after the other (Own.)
+  pub record AreDue (from to depth left : ℕ) (ts : Trees) : Type 0 where
+    pub are : AreAt (all ∷ []) 0 from ts
+    pub laid : AreLaidAt all ts from to
+    pub sound : Sounds ts
+    pub free : first_in ts ≡ None
+    pub fits : to + sizes ts ≤ length all
+    pub pays : IsWithin left (visits_of (all ∷ []) base depth (places 0 from (count ts)))
+
+  -- and those at the slots of rows of a words and b slots (Own.)
+  pub record RowsAreDue (a b from to depth left : ℕ) (bs : Bodies) : Type 0 where
+    pub are : RowsAt (all ∷ []) a b 0 from bs
+    pub laid : RowsLaidAt all a b bs from to
+    pub sound : SoundRows bs
+    pub free : first_in_rows bs ≡ None
+    pub fits : to + sizes_in_rows bs ≤ length all
+    pub pays : IsWithin left (visits_of (all ∷ []) base depth (row_places 0 from a b (count_rows bs)))
+
+  -- some value is due at a slot (Own.)
+  pub record DueValue (from to depth left : ℕ) : Type 0 where
+    pub value : Tree
+    pub due : IsDue from to depth left value
+
+  -- some values are due at `number` slots (Own.)
+  pub record DueSlots (from number to depth left : ℕ) : Type 0 where
+    pub values : Trees
+    pub count : count values ≡ number
+    pub due : AreDue from to depth left values
+
+  -- and at the slots of `number` rows (Own.)
+  pub record DueRows (a b from number to depth left : ℕ) : Type 0 where
+    pub values : Bodies
+    pub count : count_rows values ≡ number
+    pub due : RowsAreDue a b from to depth left values
+
+  -- at the first slot in hand (Own.)
+  abbrev pub DueFirst : Pass → Type 0
+  DueFirst p = DueValue p.from p.next p.depth p.left
+
+  -- at all slots in hand (Own.)
+  abbrev pub Due : Pass → Type 0
+  Due p = DueSlots p.from (p.end - p.from) p.next p.depth p.left
+
+  -- at those of the pass that goes on, if one does (Own.)
+  abbrev pub DueIn : Option Pass → Type 0
+  DueIn (Some r) = Due r
+  DueIn None = ⊥
+
+  -- at the slots of the rows in hand, if there are any (Own.)
+  abbrev pub DueRowsIn : Option RowPass → Type 0
+  DueRowsIn (Some r) =
+      DueRows r.tag.words r.tag.slots r.pass.from r.tag.count r.pass.next r.pass.depth r.pass.left
+  DueRowsIn None = ⊥

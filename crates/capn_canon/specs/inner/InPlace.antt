@@ -1,0 +1,122 @@
+-- What one pass over words finds whose objects stand where their layout has them: which values these are, and what
+-- their walk pays.
+use Rattle.std.specs.Prelude.{◌≡◌, ℕ, suc, ◌+◌, ◌-◌, ◌*◌, ◌^◌, ◌<◌, ◌≤◌, List, [], ◌∷◌, length, slice_index, None}
+use Rattle.capn_words.specs.declared.pointer.Width.{Width}
+use Rattle.capn_value.specs.Tree.{Tree, Trees, Bodies, count, count_rows}
+use Rattle.capn_value.specs.FirstCap.{first_cap, first_in, first_in_rows}
+use Rattle.capn_walk.specs.Accepted.{paid_of, AllPay}
+use Rattle.capn_walk.specs.ValueAt.{IsAt, AreAt, RowsAt}
+use Rattle.capn_walk.specs.Visits.{Visit, places, row_places, visits, visits_of}
+use Rattle.capn_canon.specs.declared.progress.Progress.{Progress}
+use Rattle.capn_canon.specs.declared.progress.Pass.{Pass}
+use Rattle.capn_canon.specs.declared.progress.RowPass.{RowPass}
+use Rattle.capn_canon.specs.Layout.{size, sizes, sizes_in_rows, list_to}
+use Rattle.capn_canon.specs.inner.Sound.{Sound, Sounds, SoundRows}
+use Rattle.capn_canon.specs.inner.WordsOfLayout.{IsLaidAt, AreLaidAt, RowsLaidAt}
+
+-- visits without a fault: what they pay, and how many they are (Own.)
+pub record Pays (vs : List Visit) (price number : ℕ) : Type 0 where
+  pub all : AllPay vs
+  pub sum : paid_of vs ≡ price
+  pub many : length vs ≡ number
+
+module _ (all : List ℕ) (base : ℕ) where
+  -- a value without capabilities stands at a slot, and its content where its layout has it; its walk, at most `depth`
+  -- objects deep, pays a price and makes so many visits below the slot, no more than it pays (Own.)
+  pub record IsInPlace (from to depth : ℕ) (v : Tree) (price below : ℕ) : Type 0 where
+    pub is : IsAt (all ∷ []) (record { segment = 0; word = from }) v
+    pub laid : IsLaidAt all v from to
+    pub sound : Sound v
+    pub free : first_cap v ≡ None
+    pub pays : Pays (visits (all ∷ []) base depth (record { segment = 0; word = from })) price (suc below)
+    pub few : below ≤ price
+
+  -- so do those at slots one after the other (Own.)
+  pub record AreInPlace (from to depth : ℕ) (ts : Trees) (price below : ℕ) : Type 0 where
+    pub are : AreAt (all ∷ []) 0 from ts
+    pub laid : AreLaidAt all ts from to
+    pub sound : Sounds ts
+    pub free : first_in ts ≡ None
+    pub pays : Pays (visits_of (all ∷ []) base depth (places 0 from (count ts))) price (count ts + below)
+    pub few : below ≤ price
+
+  -- and those at the slots of rows of a words and b slots (Own.)
+  pub record RowsInPlace (a b from to depth : ℕ) (bs : Bodies) (price below : ℕ) : Type 0 where
+    pub are : RowsAt (all ∷ []) a b 0 from bs
+    pub laid : RowsLaidAt all a b bs from to
+    pub sound : SoundRows bs
+    pub free : first_in_rows bs ≡ None
+    pub pays : Pays (visits_of (all ∷ []) base depth (row_places 0 from a b (count_rows bs))) price
+        (count_rows bs * b + below)
+    pub few : below ≤ price
+
+  -- a pass has come so many words further, and has paid and counted what it met there (Own.)
+  pub record Comes (next left visits size price below : ℕ) (q : Progress) : Type 0 where
+    pub next_is : q.next ≡ next + size
+    pub left_is : q.left + price ≡ left
+    pub visits_are : q.visits ≡ visits + below
+    pub fits : q.next ≤ length all
+    pub few : q.visits ≤ q.next
+
+  -- a value is in place at a slot, after which a pass has come so far (Own.)
+  pub record FindsValue (from to depth left visits : ℕ) (q : Progress) : Type 0 where
+    pub value : Tree
+    pub price : ℕ
+    pub below : ℕ
+    pub in_place : IsInPlace from to depth value price below
+    pub comes : Comes to left visits (size value) price below q
+
+  -- values are in place at `number` slots, after which a pass has come so far (Own.)
+  pub record FindsSlots (from number to depth left visits : ℕ) (q : Progress) : Type 0 where
+    pub values : Trees
+    pub count : count values ≡ number
+    pub price : ℕ
+    pub below : ℕ
+    pub in_place : AreInPlace from to depth values price below
+    pub comes : Comes to left visits (sizes values) price below q
+
+  -- and at the slots of `number` rows (Own.)
+  pub record FindsRows (a b from number to depth left visits : ℕ) (q : Progress) : Type 0 where
+    pub values : Bodies
+    pub count : count_rows values ≡ number
+    pub price : ℕ
+    pub below : ℕ
+    pub in_place : RowsInPlace a b from to depth values price below
+    pub comes : Comes to left visits (sizes_in_rows values) price below q
+
+  -- at the first slot in hand (Own.)
+  abbrev pub FindsFirst : Pass → Progress → Type 0
+  FindsFirst p = FindsValue p.from p.next p.depth p.left p.visits
+
+  -- at all slots in hand (Own.)
+  abbrev pub Finds : Pass → Progress → Type 0
+  Finds p = FindsSlots p.from (p.end - p.from) p.next p.depth p.left p.visits
+
+  -- at the slots of all rows in hand (Own.)
+  abbrev pub FindsInRows : RowPass → Progress → Type 0
+  FindsInRows r = FindsRows r.tag.words r.tag.slots r.pass.from r.tag.count r.pass.next r.pass.depth r.pass.left
+      r.pass.visits
+
+  -- what is found at the slots of a later pass is found at those of this one (Own.)
+  abbrev pub Leads : Pass → Pass → Type 0
+  Leads p r = (q : Progress) → Finds r q → Finds p q
+
+-- the slots in hand stand below the next free word, which is no word past the end, and no more slots were met than
+-- words (Own.)
+pub record IsOpen (all : List ℕ) (p : Pass) : Type 0 where
+  pub order : p.from ≤ p.end
+  pub before : p.end ≤ p.next
+  pub fits : p.next ≤ length all
+  pub few : p.visits ≤ p.next
+
+-- the first slot in hand isn't null, and may have an object (Own.)
+pub record HasObject (all : List ℕ) (p : Pass) : Type 0 where
+  pub some : p.from < p.end
+  pub opened : IsOpen all p
+  pub deep : 0 < p.depth
+
+-- its word is the pointer to a list at the next free word (Own.)
+pub record HasList (all : List ℕ) (p : Pass) (width : Width) (n : ℕ) : Type 0 where
+  pub object : HasObject all p
+  pub word : slice_index all p.from ≡ list_to p.from p.next width n
+  pub few : n < 2 ^ 29

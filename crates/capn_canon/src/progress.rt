@@ -1,0 +1,98 @@
+//! How far one pass over the words of a layout has come.
+
+ghost use Rattle.std.specs.Prelude.{◌≡◌, ◌+◌, ◌-◌, ◌^◌, ◌<◌, ◌≤◌, IfSome, IsSome};
+
+use crate::own_words_test::Tag;
+
+/// How far a pass has come.
+#[derive(Clone, Copy)]
+pub struct Progress {
+    /// The next free word.
+    pub next: u32,
+    /// The words that may still be paid.
+    pub left: u32,
+    /// The number of slots met.
+    pub visits: u32,
+}
+
+/// Slots of one object that are still to be checked, and how far the pass has come that checks them.
+#[derive(Clone, Copy)]
+pub struct Pass {
+    /// The first slot.
+    pub from: u32,
+    /// The word after the last slot.
+    pub end: u32,
+    /// How many objects may stand one below another, from each of these on.
+    pub depth: u32,
+    /// The next free word, at which what is below them has to begin.
+    pub next: u32,
+    /// The words that may still be paid.
+    pub left: u32,
+    /// The number of slots met, these among them.
+    pub visits: u32,
+}
+
+/// Rows of equal sizes whose slots are still to be checked.
+#[derive(Clone, Copy)]
+pub struct RowPass {
+    /// How many rows there are, and how many words and slots each of them has.
+    pub tag: Tag,
+    /// The words of the rows, and how far the pass has come that checks their slots.
+    pub pass: Pass,
+}
+
+impl Pass {
+    /// How far it has come.
+    #[inline(always)]
+    pub fn here(self) -> Progress
+        ensures { result ≡ record { next = self.next; left = self.left; visits = self.visits } }
+    {
+        Progress {
+            next: self.next,
+            left: self.left,
+            visits: self.visits,
+        }
+    }
+
+    /// The slots after the first, once all below that is checked.
+    #[inline(always)]
+    pub fn behind(self, progress: Progress) -> Pass
+        requires { self.from < 2 ^ 29 }
+        ensures { result ≡ record {
+          from = self.from + 1;
+          end = self.end;
+          depth = self.depth;
+          next = progress.next;
+          left = progress.left;
+          visits = progress.visits;
+        } }
+    {
+        Pass {
+            from: self.from + 1,
+            end: self.end,
+            depth: self.depth,
+            next: progress.next,
+            left: progress.left,
+            visits: progress.visits,
+        }
+    }
+
+    /// How far it has come once an object is paid that ends at a word and has so many slots; none if it costs more than
+    /// is left.
+    #[inline(always)]
+    pub fn paid(self, price: u64, end: u32, slots: u32) -> Option<Progress>
+        requires { self.visits + slots < 2 ^ 32 }
+        ensures found { IfSome result (λ q.
+            (q.next ≡ end) × (q.left + price ≡ self.left) × (q.visits ≡ self.visits + slots)) }
+        ensures only { price ≤ self.left → IsSome result }
+    {
+        if price > self.left as u64 {
+            return None;
+        }
+        Some(Progress {
+            next: end,
+            left: self.left - price as u32,
+            visits: self.visits + slots,
+        })
+    }
+}

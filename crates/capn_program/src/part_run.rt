@@ -1,0 +1,48 @@
+//! A run that shows messages in a style, or parts of them.
+
+ghost use Rattle.std.specs.Prelude.{◌≡◌, false};
+ghost use Rattle.capn_words.specs.Watched.{inner_of, has_failed};
+ghost use Rattle.capn_program.specs.PartRun.{PartsShown};
+
+use crate::order::Show;
+use crate::part_texts::PartTexts;
+use crate::way::numbers_of;
+use capn_serve::{Position, Run, serve_form};
+use capn_tool::{ToolFault, Watched};
+use std::alloc::Allocator;
+use std::io::{Read, Write};
+
+/// Writes of each message of an input, in a style, the text of what stands at a way from its root, or of all of it.
+///
+/// Then comes the line `end`, but not after JSON. Where nothing stands at the way, the text is the line `none`, or in
+/// JSON an empty line. A message is answered as soon as it is complete. The run ends as done, or with the first fault:
+/// a frame, a group or a message that is refused; `InputTooLong`; `Io` exactly if the reader or the writer failed;
+/// `Memory` if a growth was refused. A message is refused as by `show`, since all of it is surveyed first.
+pub fn show_parts<R: Read, W: Write, A: Allocator + Copy>(
+    alloc: A,
+    show: &Show,
+    reader: &mut Watched<R>,
+    writer: &mut Watched<W>,
+) -> Result<(), ToolFault>
+    requires reader_fine { has_failed reader.old ≡ false }
+    requires writer_fine { has_failed writer.old ≡ false }
+    ensures { PartsShown show.now (R.remaining (inner_of reader.old)) (R.remaining (inner_of reader.new))
+        (W.contents (inner_of writer.old)) (W.contents (inner_of writer.new)) (has_failed reader.new)
+        (has_failed writer.new) result }
+{
+    let way = numbers_of(alloc, show.way)?;
+    let most = show.limits.message_words();
+    let mut run = Run {
+        service: PartTexts {
+            way: &way,
+            style: show.style,
+            limits: show.limits,
+        },
+        at: Position {
+            index: 0,
+            offset: 0,
+        },
+    };
+    serve_form(alloc, show.form, most, &mut run, reader, writer)?;
+    Ok(())
+}

@@ -1,0 +1,65 @@
+-- Whether bytes are a text, one byte further, and how they stand between quotes.
+use Rattle.std.proofs.Common.{◌≡◌, ℕ, zero, suc, ◌+◌, ◌<◌, ◌==◌, ◌&&◌, ◌||◌, List, [], ◌∷◌, ◌++◌, Bool, true, false}
+use Rattle.std.proofs.Common.{if◌then◌else◌, length, take, drop, get_or, ap, ap₂, sym, refl, ◌∙◌, arith, append_assoc}
+use Rattle.std.proofs.lemmas.List.{append-nil, take_more}
+use Rattle.capn_show.specs.Quoting.{is_printable, is_text, escaped, escapes}
+use Rattle.capn_show.specs.inner.ReadyPlaces.{is_escaped}
+
+-- the bytes from one on that is not the last
+text-from : (xs : List ℕ) (i : ℕ) → suc i < length xs
+    → is_text (drop i xs) ≡ (is_printable (get_or xs i 0) && is_text (drop (suc i) xs))
+text-from [] i h = absurd (omega arith)
+text-from (b ∷ []) i h = absurd (omega arith)
+text-from (b ∷ c ∷ cs) zero h = refl
+text-from (b ∷ c ∷ cs) (suc i) h = text-from (c ∷ cs) i (omega arith)
+
+-- the last byte
+text-last : (xs : List ℕ) (i : ℕ) → suc i ≡ length xs
+    → is_text (drop i xs) ≡ (is_printable (get_or xs i 0) || get_or xs i 0 == 0)
+text-last [] i h = absurd (omega arith)
+text-last (b ∷ []) zero h = refl
+text-last (b ∷ []) (suc i) h = absurd (omega arith)
+text-last (b ∷ c ∷ cs) zero h = absurd (omega arith)
+text-last (b ∷ c ∷ cs) (suc i) h = text-last (c ∷ cs) i (omega arith)
+
+module _ (xs : List ℕ) (i : ℕ) (so_far : is_text xs ≡ is_text (drop i xs)) where
+  -- a byte with which a text goes on
+  pub goes-on : suc i < length xs → is_printable (get_or xs i 0) ≡ true → is_text xs ≡ is_text (drop (i + 1) xs)
+  goes-on h p =
+      let next : suc i ≡ i + 1 = omega arith in
+      so_far ∙ text-from xs i h ∙ ap (λ (x : Bool). x && is_text (drop (suc i) xs)) p
+      ∙ ap (λ (k : ℕ). is_text (drop k xs)) next
+
+  -- one with which it doesn't
+  pub stops : suc i < length xs → is_printable (get_or xs i 0) ≡ false → is_text xs ≡ false
+  stops h p = so_far ∙ text-from xs i h ∙ ap (λ (x : Bool). x && is_text (drop (suc i) xs)) p
+
+  -- the last one decides
+  pub ends : suc i ≡ length xs → is_text xs ≡ (is_printable (get_or xs i 0) || get_or xs i 0 == 0)
+  ends h = so_far ∙ text-last xs i h
+
+-- ---- between quotes
+
+pub escapes-joined : (xs ys : List ℕ) → escapes (xs ++ ys) ≡ escapes xs ++ escapes ys
+escapes-joined [] ys = refl
+escapes-joined (x ∷ xs) ys =
+    ap (λ (l : List ℕ). escaped x ++ l) (escapes-joined xs ys)
+    ∙ sym (append_assoc (escaped x) (escapes xs) (escapes ys))
+
+bare-by : (x y z : Bool) (b : ℕ) → (x || (y || z)) ≡ false →
+    (if x then 92 ∷ 34 ∷ [] else if y then 92 ∷ 92 ∷ [] else if z then 92 ∷ 48 ∷ [] else b ∷ []) ≡ b ∷ []
+bare-by false false false b h = refl
+bare-by false false true b h = absurd (cc)
+bare-by false true z b h = absurd (cc)
+bare-by true y z b h = absurd (cc)
+
+-- bytes that stand as they are, and one more
+pub bare-more : (xs : List ℕ) (i : ℕ) → i < length xs → is_escaped (get_or xs i 0) ≡ false
+    → escapes (take i xs) ≡ take i xs → escapes (take (i + 1) xs) ≡ take (i + 1) xs
+bare-more xs i below bare h =
+    let x = get_or xs i 0 in
+    let more = take_more xs i 0 below in
+    ap escapes more
+    ∙ escapes-joined (take i xs) (x ∷ [])
+    ∙ ap₂ (λ (a b : List ℕ). a ++ b) h (append-nil (escaped x) ∙ bare-by (x == 34) (x == 92) (x == 0) x bare)
+    ∙ sym more

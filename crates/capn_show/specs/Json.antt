@@ -1,0 +1,94 @@
+-- The JSON of a tree: one line without blanks. (Own.)
+use Rattle.std.specs.Prelude.{◌≡◌, ℕ, List, [], ◌∷◌, ◌++◌, codes, map, true, false, refl}
+use Rattle.std.specs.Fmt.{decimal}
+use Rattle.hex.specs.Hex.{encode_lower}
+use Rattle.capn_value.specs.Tree.{Tree, nil, node, voids, bits, bytes, pairs, quads, octs, links, rows, cap, Trees}
+use Rattle.capn_value.specs.Tree.{no_trees, tree, Bodies, no_bodies, body}
+use Rattle.capn_value.specs.Text.{hex16, digits_of}
+
+-- between quotes
+abbrev pub quoted : List ℕ → List ℕ
+quoted text = 34 ∷ (text ++ 34 ∷ [])
+
+-- each after a comma
+abbrev pub after_commas : List (List ℕ) → List ℕ
+after_commas [] = []
+after_commas (x ∷ xs) = 44 ∷ (x ++ after_commas xs)
+
+-- with commas between them
+abbrev pub with_commas : List (List ℕ) → List ℕ
+with_commas [] = []
+with_commas (x ∷ xs) = x ++ after_commas xs
+
+-- an array, by the texts of its items
+abbrev pub array : List (List ℕ) → List ℕ
+array xs = 91 ∷ (with_commas xs ++ 93 ∷ [])
+
+-- an object of one member
+abbrev pub member : List ℕ → List ℕ → List ℕ
+member name value = 123 ∷ (quoted name ++ (58 ∷ (value ++ 125 ∷ [])))
+
+-- a data word, and a number that a reader might round: as texts
+abbrev pub word_text : ℕ → List ℕ
+word_text w = quoted (hex16 w)
+
+abbrev pub number_text : ℕ → List ℕ
+number_text n = quoted (decimal n)
+
+-- a struct, by its words and the texts of its slots
+abbrev pub struct_text : List ℕ → List (List ℕ) → List ℕ
+struct_text ws slots =
+    codes "{\"words\":" ++ (array (map word_text ws) ++ (codes ",\"slots\":" ++ (array slots ++ codes "}")))
+
+-- a value: null, or an object that is named after its kind
+abbrev mutual
+  pub json_of : Tree → List ℕ
+  json_of nil = codes "null"
+  json_of (node ws ss) = struct_text ws (each_json ss)
+  json_of (voids n) = member (codes "void") (decimal n)
+  json_of (bits xs) = member (codes "bits") (quoted (digits_of xs))
+  json_of (bytes xs) = member (codes "bytes") (quoted (encode_lower xs))
+  json_of (pairs xs) = member (codes "u16") (array (map decimal xs))
+  json_of (quads xs) = member (codes "u32") (array (map decimal xs))
+  json_of (octs xs) = member (codes "u64") (array (map number_text xs))
+  json_of (links ts) = member (codes "pointers") (array (each_json ts))
+  json_of (rows bs) = member (codes "rows") (array (each_row bs))
+  json_of (cap k) = member (codes "capability") (decimal k)
+
+  -- that of each tree
+  pub each_json : Trees → List (List ℕ)
+  each_json no_trees = []
+  each_json (tree t ts) = json_of t ∷ each_json ts
+
+  -- that of each row, as of a struct
+  pub each_row : Bodies → List (List ℕ)
+  each_row no_bodies = []
+  each_row (body ws ss bs) = struct_text ws (each_json ss) ∷ each_row bs
+
+-- a line
+abbrev pub json_line : Tree → List ℕ
+json_line t = json_of t ++ 10 ∷ []
+
+no_slots : json_of (node [] no_trees) ≡ codes "{\"words\":[],\"slots\":[]}"
+no_slots = refl
+
+one_after_the_other : with_commas (codes "1" ∷ codes "2" ∷ codes "3" ∷ []) ≡ codes "1,2,3"
+one_after_the_other = refl
+
+between_quotes : quoted (codes "12") ≡ codes "\"12\""
+between_quotes = refl
+
+two_slots : json_of (node [] (tree nil (tree (bits (true ∷ false ∷ [])) no_trees)))
+    ≡ codes "{\"words\":[],\"slots\":[null,{\"bits\":\"10\"}]}"
+two_slots = refl
+
+empty_lists : json_of (links (tree (pairs []) (tree (octs []) no_trees)))
+    ≡ codes "{\"pointers\":[{\"u16\":[]},{\"u64\":[]}]}"
+empty_lists = refl
+
+a_row : json_of (rows (body [] (tree nil no_trees) no_bodies))
+    ≡ codes "{\"rows\":[{\"words\":[],\"slots\":[null]}]}"
+a_row = refl
+
+no_rows : json_line (rows no_bodies) ≡ codes "{\"rows\":[]}\n"
+no_rows = refl

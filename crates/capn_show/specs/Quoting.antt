@@ -1,0 +1,75 @@
+-- The text of a tree by how lists of bytes are written: as digits, or those of printable bytes between quotes. (Own.)
+use Rattle.std.specs.Prelude.{◌≡◌, ℕ, ◌+◌, List, [], ◌∷◌, ◌++◌, length, codes, Bool, true, false, ◌&&◌, ◌||◌, ◌==◌}
+use Rattle.std.specs.Prelude.{nat_le, if◌then◌else◌, refl}
+use Rattle.hex.specs.Hex.{encode_lower}
+use Rattle.capn_value.specs.Tree.{Tree, nil, node, voids, bits, bytes, pairs, quads, octs, links, rows, cap, Trees}
+use Rattle.capn_value.specs.Tree.{no_trees, tree, Bodies, no_bodies, body, count, count_rows}
+use Rattle.capn_value.specs.Text.{line, named, one_line, body_line, word_lines, number_lines, digits_of}
+
+-- a byte from 0x20 to 0x7e
+abbrev pub is_printable : ℕ → Bool
+is_printable b = nat_le 32 b && nat_le b 126
+
+-- bytes of which each but the last is printable, and the last is so too or is zero
+abbrev pub is_text : List ℕ → Bool
+is_text [] = false
+is_text (b ∷ []) = is_printable b || b == 0
+is_text (b ∷ c ∷ bs) = is_printable b && is_text (c ∷ bs)
+
+-- a byte of a text as it stands between quotes
+abbrev pub escaped : ℕ → List ℕ
+escaped b = if b == 34 then 92 ∷ 34 ∷ [] else if b == 92 then 92 ∷ 92 ∷ [] else if b == 0 then 92 ∷ 48 ∷ [] else b ∷ []
+
+abbrev pub escapes : List ℕ → List ℕ
+escapes [] = []
+escapes (b ∷ bs) = escaped b ++ escapes bs
+
+-- the lines of a list of bytes: digits below its first line
+abbrev pub plain_bytes : ℕ → List ℕ → List ℕ
+plain_bytes level xs =
+    line level (named (codes "bytes") (length xs)) ++ one_line (level + 1) (length xs) (encode_lower xs)
+
+-- a text on one line
+abbrev pub quoted_line : ℕ → List ℕ → List ℕ
+quoted_line level xs = line level (named (codes "bytes") (length xs) ++ 32 ∷ 34 ∷ (escapes xs ++ 34 ∷ []))
+
+-- a text on one line, or the digits of what is none
+abbrev pub quoted_bytes : ℕ → List ℕ → List ℕ
+quoted_bytes level xs = if is_text xs then quoted_line level xs else plain_bytes level xs
+
+-- the text of a tree, by how a list of bytes is written
+module _ (bytes_at : ℕ → List ℕ → List ℕ) where
+  abbrev mutual
+    pub shown_by : ℕ → Tree → List ℕ
+    shown_by level nil = line level (codes "null")
+    shown_by level (node ws ss) =
+        body_line level (length ws) (count ss) ++ (word_lines (level + 1) ws ++ shown_each_by (level + 1) ss)
+    shown_by level (voids n) = line level (named (codes "void") n)
+    shown_by level (bits xs) =
+        line level (named (codes "bits") (length xs)) ++ one_line (level + 1) (length xs) (digits_of xs)
+    shown_by level (bytes xs) = bytes_at level xs
+    shown_by level (pairs xs) = line level (named (codes "u16") (length xs)) ++ number_lines (level + 1) xs
+    shown_by level (quads xs) = line level (named (codes "u32") (length xs)) ++ number_lines (level + 1) xs
+    shown_by level (octs xs) = line level (named (codes "u64") (length xs)) ++ number_lines (level + 1) xs
+    shown_by level (links ts) = line level (named (codes "pointers") (count ts)) ++ shown_each_by (level + 1) ts
+    shown_by level (rows bs) = line level (named (codes "rows") (count_rows bs)) ++ shown_rows_by (level + 1) bs
+    shown_by level (cap k) = line level (named (codes "capability") k)
+
+    pub shown_each_by : ℕ → Trees → List ℕ
+    shown_each_by level no_trees = []
+    shown_each_by level (tree t ts) = shown_by level t ++ shown_each_by level ts
+
+    pub shown_rows_by : ℕ → Bodies → List ℕ
+    shown_rows_by level no_bodies = []
+    shown_rows_by level (body ws ss bs) =
+        body_line level (length ws) (count ss)
+        ++ (word_lines (level + 1) ws ++ (shown_each_by (level + 1) ss ++ shown_rows_by level bs))
+
+a_text : is_text (104 ∷ 105 ∷ 0 ∷ []) ≡ true
+a_text = refl
+
+no_text : is_text (104 ∷ 0 ∷ 105 ∷ []) ≡ false
+no_text = refl
+
+with_escapes : escapes (34 ∷ 92 ∷ 104 ∷ 0 ∷ []) ≡ codes "\\\"\\\\h\\0"
+with_escapes = refl

@@ -1,0 +1,44 @@
+-- The text of what stands at a way of numbers from a value, in a style. (Own.)
+use Rattle.std.specs.Prelude.{◌≡◌, ℕ, List, [], ◌∷◌, ◌++◌, Option, Some, None, codes, refl}
+use Rattle.capn_value.specs.Tree.{Tree, nil, node, bytes, no_trees, tree}
+use Rattle.capn_value.specs.Text.{line, named, shown}
+use Rattle.capn_show.specs.Part.{at_way, part_text, text_at}
+use Rattle.capn_show.specs.Quoting.{quoted_bytes, shown_by}
+use Rattle.capn_show.specs.Json.{json_line}
+use Rattle.capn_show.specs.declared.style.Style.{Style}
+use Rattle.capn_show.specs.declared.style.Style.TheVariants as styles
+
+-- the text of what stands somewhere, in a style: one line where nothing does
+abbrev pub part_in : Style → Option Tree → List ℕ
+part_in styles.Lines part = part_text part
+part_in styles.Quoted None = line 0 (codes "none")
+part_in styles.Quoted (Some t) = shown_by quoted_bytes 0 t
+part_in styles.Json None = 10 ∷ []
+part_in styles.Json (Some t) = json_line t
+
+-- the text of what stands at a way from a value, in a style
+abbrev pub styled : Style → List ℕ → Tree → List ℕ
+styled style way t = part_in style (at_way t way)
+
+-- a slot with the bytes of a text
+abbrev with_text : Tree
+with_text = node [] (tree (bytes (104 ∷ 34 ∷ 0 ∷ [])) no_trees)
+
+in_lines : (way : List ℕ) (t : Tree) → styled styles.Lines way t ≡ text_at way t
+in_lines way t = refl
+
+between_quotes : styled styles.Quoted (0 ∷ []) with_text
+    ≡ line 0 (named (codes "bytes") 3 ++ codes " \"h\\\"\\0\"")
+between_quotes = refl
+
+no_text : styled styles.Quoted [] (bytes (255 ∷ [])) ≡ shown 0 (bytes (255 ∷ []))
+no_text = refl
+
+nothing_there : styled styles.Quoted (1 ∷ []) with_text ≡ line 0 (codes "none")
+nothing_there = refl
+
+null_in_json : styled styles.Json [] nil ≡ codes "null\n"
+null_in_json = refl
+
+nothing_in_json : styled styles.Json (1 ∷ []) with_text ≡ codes "\n"
+nothing_in_json = refl

@@ -1,0 +1,69 @@
+-- How a text grows by the JSON of what stands at places of a message.
+use Rattle.std.specs.Prelude.{◌≡◌, ℕ, zero, suc, List, [], ◌∷◌, ◌++◌, codes, length, map, Bool, true}
+use Rattle.std.specs.Prelude.{false}
+use Rattle.std.specs.Fmt.{decimal}
+use Rattle.capn_words.specs.declared.space.Place.{Place}
+use Rattle.capn_words.specs.declared.pointer.Width.{Width}
+use Rattle.capn_words.specs.declared.pointer.Width.TheVariants.{W64}
+use Rattle.capn_value.specs.Tree.{Tree, node, Trees, Bodies, count, count_rows}
+use Rattle.capn_walk.specs.declared.target.Target.{Target}
+use Rattle.capn_walk.specs.ValueAt.{IsAt}
+use Rattle.capn_walk.specs.ShownValue.{Shows, ShowsStruct}
+use Rattle.capn_show.specs.Json.{with_commas, word_text, number_text, json_of, each_json, each_row}
+use Rattle.capn_show.specs.inner.ReadyPlaces.{struct_at, AreDataWords, AreSlots, AreRowsAt}
+
+-- what comes before an item
+abbrev pub comma : ℕ → List ℕ
+comma zero = []
+comma (suc i) = 44 ∷ []
+
+-- whether the numbers of a list stand between quotes
+abbrev pub is_quoted : Width → Bool
+is_quoted W64 = true
+is_quoted _ = false
+
+-- a number, between quotes or not
+abbrev pub number_item : Bool → ℕ → List ℕ
+number_item true = number_text
+number_item false = decimal
+
+-- an array and the end of its object, by what comes before its first item
+abbrev pub items_text : List ℕ → List (List ℕ) → List ℕ
+items_text head xs = head ++ (with_commas xs ++ codes "]}")
+
+-- that of numbers
+abbrev pub values_text : List ℕ → Width → List ℕ → List ℕ
+values_text head width xs = items_text head (map (number_item (is_quoted width)) xs)
+
+-- a struct as far as its words
+abbrev pub words_front : List ℕ → List ℕ
+words_front ws = codes "{\"words\":[" ++ with_commas (map word_text ws)
+
+module _ (m : List (List ℕ)) where
+  -- what is said of the JSON of the value at a place
+  abbrev pub IsInJson : Place → (List ℕ → Type 0) → Type 0
+  IsInJson at Says = (v : Tree) → IsAt m at v → Says (json_of v)
+
+  -- of that of the value which a pointer names
+  abbrev pub IsFoundInJson : Target → (List ℕ → Type 0) → Type 0
+  IsFoundInJson found Says = (v : Tree) → Shows m found v → Says (json_of v)
+
+  -- of that of a struct
+  abbrev pub IsRowInJson : ℕ → ℕ → ℕ → ℕ → (List ℕ → Type 0) → Type 0
+  IsRowInJson s w a b Says = (ws : List ℕ) (ss : Trees) → ShowsStruct m (struct_at s w a b) ws ss
+      → Says (json_of (node ws ss))
+
+  -- of those of slots
+  abbrev pub AreInJson : ℕ → ℕ → ℕ → List ℕ → (List ℕ → Type 0) → Type 0
+  AreInJson s w number head Says = (ts : Trees) → AreSlots m s w ts → count ts ≡ number
+      → Says (items_text head (each_json ts))
+
+  -- of those of rows
+  abbrev pub RowsInJson : ℕ → ℕ → ℕ → ℕ → ℕ → (List ℕ → Type 0) → Type 0
+  RowsInJson s w number a b Says = (bs : Bodies) → AreRowsAt m s w a b bs → count_rows bs ≡ number
+      → Says (items_text (codes "{\"rows\":[") (each_row bs))
+
+  -- of those of data words
+  abbrev pub WordsInJson : ℕ → ℕ → ℕ → (List ℕ → Type 0) → Type 0
+  WordsInJson s w number Says = (ws : List ℕ) → AreDataWords m s w ws → length ws ≡ number
+      → Says (words_front ws)

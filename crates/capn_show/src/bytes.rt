@@ -1,0 +1,230 @@
+//! Lists of bytes: their digits, or what is a text between quotes.
+
+ghost use Rattle.std.specs.Prelude.{◌≡◌, ◌<◌, ◌≤◌, ◌+◌, ◌^◌, ◌||◌, ◌==◌, length, take, IfErr, OnOk};
+ghost use Rattle.capn_words.specs.Message.{IsMessage};
+ghost use Rattle.capn_words.specs.declared.pointer.Width.TheVariants as widths;
+ghost use Rattle.capn_walk.specs.Shapes.{IsContent};
+ghost use Rattle.capn_walk.specs.Target.{content_words};
+ghost use Rattle.capn_show.specs.Outgoing.{Adds, BreaksOff, outgoing};
+ghost use Rattle.capn_show.specs.Quoting as quoting;
+ghost use Rattle.capn_show.specs.inner.ReadyPlaces as places;
+ghost use Rattle.capn_show.specs.inner.ReadyPlaces.{NumbersShown};
+
+use crate::fault::Broken;
+use crate::lines::{indent, named_line, put_number};
+use crate::numbers::show_bytes;
+use crate::output::put;
+use capn_words::{Place, Space, Watched};
+use std::alloc::Allocator;
+use std::io::Write;
+
+/// The most bytes of a text that are added at once.
+const PIECE: usize = 4096;
+
+/// Whether a byte is from 0x20 to 0x7e.
+fn is_printable(byte: u8) -> bool
+    ensures { result ≡ quoting.is_printable byte }
+{
+    32 <= byte && byte <= 126
+}
+
+/// Whether a text can end with a byte.
+fn ends_text(byte: u8) -> bool
+    ensures { result ≡ (quoting.is_printable byte || byte == 0) }
+{
+    is_printable(byte) || byte == 0
+}
+
+/// Whether bytes are a text: each but the last is printable, and the last is so too or is zero.
+fn is_text(bytes: &[u8]) -> bool
+    ensures { result ≡ quoting.is_text bytes.now }
+{
+    if bytes.is_empty() {
+        return false;
+    }
+    let last = bytes.len() - 1;
+    for i in 0..last {
+        if !is_printable(bytes[i]) {
+            return false;
+        }
+    }
+    ends_text(bytes[last])
+}
+
+/// Whether a byte of a text stands otherwise between quotes.
+fn is_escaped(byte: u8) -> bool
+    ensures { result ≡ places.is_escaped byte }
+{
+    byte == b'"' || byte == b'\\' || byte == 0
+}
+
+/// A byte of a text as it stands between quotes.
+fn put_escaped<W: Write, A: Allocator>(
+    text: &mut Vec<u8, A>,
+    writer: &mut Watched<W>,
+    byte: u8,
+) -> Result<(), Broken>
+    ensures shown { OnOk result (Adds (outgoing W.contents writer.old text.old.items)
+        (outgoing W.contents writer.new text.new.items) (quoting.escaped byte)) }
+    ensures cut { IfErr result (λ e. BreaksOff (outgoing W.contents writer.old text.old.items)
+        (outgoing W.contents writer.new text.new.items) e (quoting.escaped byte)) }
+{
+    match byte {
+        b'"' => put(text, writer, b"\\\""),
+        b'\\' => put(text, writer, b"\\\\"),
+        0 => put(text, writer, b"\\0"),
+        _ => put(text, writer, &[byte]),
+    }
+}
+
+/// How many bytes from the first on stand as they are between quotes, at most those of a piece.
+fn bare_run(bytes: &[u8]) -> usize
+    ensures within { result ≤ length bytes.now }
+    ensures bare { quoting.escapes (take result bytes.now) ≡ take result bytes.now }
+{
+    for i in 0..bytes.len() {
+        if is_escaped(bytes[i]) {
+            return i;
+        }
+        if i == PIECE {
+            return i;
+        }
+    }
+    bytes.len()
+}
+
+/// The bytes of a text as they stand between quotes: those that stand as they are at once, and the one after them.
+fn put_escapes<W: Write, A: Allocator>(
+    text: &mut Vec<u8, A>,
+    writer: &mut Watched<W>,
+    bytes: &[u8],
+) -> Result<(), Broken>
+    ensures shown { OnOk result (Adds (outgoing W.contents writer.old text.old.items)
+        (outgoing W.contents writer.new text.new.items) (quoting.escapes bytes.now)) }
+    ensures cut { IfErr result (λ e. BreaksOff (outgoing W.contents writer.old text.old.items)
+        (outgoing W.contents writer.new text.new.items) e (quoting.escapes bytes.now)) }
+{
+    let mut done = 0;
+    while done < bytes.len() {
+        let rest = &bytes[done..];
+        let run = bare_run(rest);
+        put(text, writer, &rest[..run])?;
+        if run == rest.len() {
+            return Ok(());
+        }
+        put_escaped(text, writer, rest[run])?;
+        done += run + 1;
+    }
+    Ok(())
+}
+
+/// The beginning of the line of a text, up to its first quote.
+fn quoted_front<W: Write, A: Allocator>(
+    text: &mut Vec<u8, A>,
+    writer: &mut Watched<W>,
+    level: u32,
+    count: usize,
+) -> Result<(), Broken>
+    ensures shown { OnOk result (Adds (outgoing W.contents writer.old text.old.items)
+        (outgoing W.contents writer.new text.new.items) (places.quoted_front level count)) }
+    ensures cut { IfErr result (λ e. BreaksOff (outgoing W.contents writer.old text.old.items)
+        (outgoing W.contents writer.new text.new.items) e (places.quoted_front level count)) }
+{
+    indent(text, writer, level)?;
+    put(text, writer, b"bytes ")?;
+    put_number(text, writer, count as u64, b' ')?;
+    put(text, writer, b"\"")
+}
+
+/// The one line of a list of bytes that is a text.
+fn show_quoted<W: Write, A: Allocator>(
+    text: &mut Vec<u8, A>,
+    writer: &mut Watched<W>,
+    bytes: &[u8],
+    level: u32,
+) -> Result<(), Broken>
+    ensures shown { OnOk result (Adds (outgoing W.contents writer.old text.old.items)
+        (outgoing W.contents writer.new text.new.items) (quoting.quoted_line level bytes.now)) }
+    ensures cut { IfErr result (λ e. BreaksOff (outgoing W.contents writer.old text.old.items)
+        (outgoing W.contents writer.new text.new.items) e (quoting.quoted_line level bytes.now)) }
+{
+    quoted_front(text, writer, level, bytes.len())?;
+    put_escapes(text, writer, bytes)?;
+    put(text, writer, b"\"\n")
+}
+
+/// The lines of a list of bytes in digits.
+fn show_digits<S: Space, W: Write, A: Allocator>(
+    text: &mut Vec<u8, A>,
+    writer: &mut Watched<W>,
+    space: &S,
+    start: Place,
+    count: u32,
+    level: u32,
+) -> Result<(), Broken>
+    requires message { IsMessage (S.message space.now) }
+    requires content { IsContent (S.message space.now) start (content_words widths.W8 count) }
+    requires room { level + 1 < 2 ^ 32 }
+    ensures shown { OnOk result (NumbersShown (S.message space.now) start.segment start.word widths.W8
+        count (quoting.plain_bytes level)
+        (Adds (outgoing W.contents writer.old text.old.items) (outgoing W.contents writer.new text.new.items))) }
+    ensures cut { IfErr result (λ e. NumbersShown (S.message space.now) start.segment start.word widths.W8
+        count (quoting.plain_bytes level)
+        (BreaksOff (outgoing W.contents writer.old text.old.items) (outgoing W.contents writer.new text.new.items) e)) }
+{
+    named_line(text, writer, level, "bytes", count)?;
+    show_bytes(text, writer, space, start, count, level + 1)
+}
+
+/// The one line of a list of bytes that is a text, or the digits of one that is none.
+fn show_text_or_digits<S: Space, W: Write, A: Allocator>(
+    text: &mut Vec<u8, A>,
+    writer: &mut Watched<W>,
+    space: &S,
+    start: Place,
+    count: u32,
+    level: u32,
+) -> Result<(), Broken>
+    requires message { IsMessage (S.message space.now) }
+    requires content { IsContent (S.message space.now) start (content_words widths.W8 count) }
+    requires room { level + 1 < 2 ^ 32 }
+    ensures shown { OnOk result (NumbersShown (S.message space.now) start.segment start.word widths.W8
+        count (quoting.quoted_bytes level)
+        (Adds (outgoing W.contents writer.old text.old.items) (outgoing W.contents writer.new text.new.items))) }
+    ensures cut { IfErr result (λ e. NumbersShown (S.message space.now) start.segment start.word widths.W8
+        count (quoting.quoted_bytes level)
+        (BreaksOff (outgoing W.contents writer.old text.old.items) (outgoing W.contents writer.new text.new.items) e)) }
+{
+    let bytes = space.bytes(start, count as usize);
+    if is_text(bytes) {
+        show_quoted(text, writer, bytes, level)
+    } else {
+        show_digits(text, writer, space, start, count, level)
+    }
+}
+
+/// The lines of a list of bytes, between quotes where it is a text and quotes are wanted.
+pub fn show_byte_list<S: Space, W: Write, A: Allocator, const QUOTED: bool>(
+    text: &mut Vec<u8, A>,
+    writer: &mut Watched<W>,
+    space: &S,
+    start: Place,
+    count: u32,
+    level: u32,
+) -> Result<(), Broken>
+    requires message { IsMessage (S.message space.now) }
+    requires content { IsContent (S.message space.now) start (content_words widths.W8 count) }
+    requires room { level + 1 < 2 ^ 32 }
+    ensures shown { OnOk result (NumbersShown (S.message space.now) start.segment start.word widths.W8
+        count (places.bytes_of QUOTED level)
+        (Adds (outgoing W.contents writer.old text.old.items) (outgoing W.contents writer.new text.new.items))) }
+    ensures cut { IfErr result (λ e. NumbersShown (S.message space.now) start.segment start.word widths.W8
+        count (places.bytes_of QUOTED level)
+        (BreaksOff (outgoing W.contents writer.old text.old.items) (outgoing W.contents writer.new text.new.items) e)) }
+{
+    if QUOTED {
+        show_text_or_digits(text, writer, space, start, count, level)
+    } else {
+        show_digits(text, writer, space, start, count, level)
+    }
+}

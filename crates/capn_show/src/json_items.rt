@@ -1,0 +1,116 @@
+//! The items of an array of JSON, and the commas between them.
+
+ghost use Rattle.std.specs.Prelude.{◌≡◌, IfErr, OnOk};
+ghost use Rattle.std.specs.Fmt.{decimal};
+ghost use Rattle.capn_show.specs.Json.{number_text, word_text};
+ghost use Rattle.capn_show.specs.inner.JsonPlaces as places;
+ghost use Rattle.capn_show.specs.inner.JsonPlaces.{comma, number_item};
+ghost use Rattle.capn_show.specs.Outgoing.{Adds, BreaksOff, outgoing};
+
+use crate::fault::Broken;
+use crate::output::put;
+use capn_words::{Watched, Width};
+use std::alloc::Allocator;
+use std::io::Write;
+
+/// A comma, unless the item is the first.
+#[inline]
+pub fn separate<W: Write, A: Allocator>(
+    text: &mut Vec<u8, A>,
+    writer: &mut Watched<W>,
+    item: u32,
+) -> Result<(), Broken>
+    ensures shown { OnOk result (Adds (outgoing W.contents writer.old text.old.items)
+        (outgoing W.contents writer.new text.new.items) (comma item)) }
+    ensures cut { IfErr result (λ e. BreaksOff (outgoing W.contents writer.old text.old.items)
+        (outgoing W.contents writer.new text.new.items) e (comma item)) }
+{
+    if item == 0 {
+        return Ok(());
+    }
+    put(text, writer, b",")
+}
+
+/// A number.
+fn put_plain<W: Write, A: Allocator>(
+    text: &mut Vec<u8, A>,
+    writer: &mut Watched<W>,
+    n: u64,
+) -> Result<(), Broken>
+    ensures shown { OnOk result (Adds (outgoing W.contents writer.old text.old.items)
+        (outgoing W.contents writer.new text.new.items) (decimal n)) }
+    ensures cut { IfErr result (λ e. BreaksOff (outgoing W.contents writer.old text.old.items)
+        (outgoing W.contents writer.new text.new.items) e (decimal n)) }
+{
+    let mut digits = [b'0'; 20];
+    let start = itoa::write_digits(n, &mut digits, 20);
+    put(text, writer, &digits[start..])
+}
+
+/// A number between quotes.
+fn put_quoted<W: Write, A: Allocator>(
+    text: &mut Vec<u8, A>,
+    writer: &mut Watched<W>,
+    n: u64,
+) -> Result<(), Broken>
+    ensures shown { OnOk result (Adds (outgoing W.contents writer.old text.old.items)
+        (outgoing W.contents writer.new text.new.items) (number_text n)) }
+    ensures cut { IfErr result (λ e. BreaksOff (outgoing W.contents writer.old text.old.items)
+        (outgoing W.contents writer.new text.new.items) e (number_text n)) }
+{
+    let mut digits = [b'"'; 22];
+    let start = itoa::write_digits(n, &mut digits, 21);
+    put(text, writer, &digits[start - 1..])
+}
+
+/// A number, between quotes or not.
+pub fn put_value<W: Write, A: Allocator>(
+    text: &mut Vec<u8, A>,
+    writer: &mut Watched<W>,
+    quoted: bool,
+    n: u64,
+) -> Result<(), Broken>
+    ensures shown { OnOk result (Adds (outgoing W.contents writer.old text.old.items)
+        (outgoing W.contents writer.new text.new.items) (number_item quoted n)) }
+    ensures cut { IfErr result (λ e. BreaksOff (outgoing W.contents writer.old text.old.items)
+        (outgoing W.contents writer.new text.new.items) e (number_item quoted n)) }
+{
+    if quoted {
+        return put_quoted(text, writer, n);
+    }
+    put_plain(text, writer, n)
+}
+
+/// Whether the numbers of a list of that width stand between quotes.
+pub fn is_quoted(width: Width) -> bool
+    ensures { result ≡ places.is_quoted width }
+{
+    match width {
+        Width::W64 => true,
+        _ => false,
+    }
+}
+
+/// The bytes of a data word between quotes.
+fn word_bytes(word: u64) -> [u8; 18]
+    ensures { result ≡ word_text word }
+{
+    let mut item = *b"\"0000000000000000\"";
+    // 16 digits have room, so nothing is refused.
+    let _done = hex::encode_to_slice(word.to_be_bytes(), &mut item[1..17]);
+    item
+}
+
+/// A data word between quotes.
+pub fn put_word<W: Write, A: Allocator>(
+    text: &mut Vec<u8, A>,
+    writer: &mut Watched<W>,
+    word: u64,
+) -> Result<(), Broken>
+    ensures shown { OnOk result (Adds (outgoing W.contents writer.old text.old.items)
+        (outgoing W.contents writer.new text.new.items) (word_text word)) }
+    ensures cut { IfErr result (λ e. BreaksOff (outgoing W.contents writer.old text.old.items)
+        (outgoing W.contents writer.new text.new.items) e (word_text word)) }
+{
+    put(text, writer, &word_bytes(word))
+}

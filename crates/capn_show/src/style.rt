@@ -1,0 +1,13 @@
+//! How the text of a value is written.
+
+/// How the text of a value is written.
+#[derive(Clone, Copy, Debug, PartialEq, Eq)]
+pub enum Style {
+    /// Lines, with the digits of each list of bytes.
+    Lines,
+    /// The same, but a list of bytes that is a text stands between quotes: every byte but the last is from 0x20 to
+    /// 0x7e, and the last is so too or is zero.
+    Quoted,
+    /// One line of JSON.
+    Json,
+}

@@ -1,0 +1,81 @@
+//! The text of what stands somewhere, in a style.
+
+ghost use Rattle.std.specs.Prelude.{◌*◌, ◌<◌, ◌^◌, None, IfErr, OnOk};
+ghost use Rattle.capn_words.specs.Message.{IsMessage};
+ghost use Rattle.capn_walk.specs.View.{IsInMessage};
+ghost use Rattle.capn_show.specs.Outgoing.{Adds, BreaksOff, outgoing};
+ghost use Rattle.capn_show.specs.Styled.{part_in};
+ghost use Rattle.capn_show.specs.declared.style.Style.TheVariants as styles;
+ghost use Rattle.capn_show.specs.inner.ReadyPlaces.{IsFound, IsThereShown};
+
+use crate::fault::Broken;
+use crate::json::json_found;
+use crate::lines::{end_line, plain_line};
+use crate::slots::show_found;
+use crate::style::Style;
+use capn_walk::Target;
+use capn_words::{Space, Watched};
+use std::alloc::Allocator;
+use std::io::Write;
+
+/// The text of the value that a pointer names, in a style.
+pub fn show_there<S: Space, W: Write, A: Allocator>(
+    text: &mut Vec<u8, A>,
+    writer: &mut Watched<W>,
+    space: &S,
+    style: Style,
+    found: Target,
+    depth: u32,
+) -> Result<(), Broken>
+    requires message { IsMessage (S.message space.now) }
+    requires inside { IsInMessage (S.message space.now) found }
+    requires ready { IsFound (S.message space.now) found depth }
+    requires room { 2 * depth < 2 ^ 32 }
+    ensures shown { OnOk result (IsThereShown (S.message space.now) style found (Adds
+        (outgoing W.contents writer.old text.old.items) (outgoing W.contents writer.new text.new.items))) }
+    ensures cut { IfErr result (λ e. IsThereShown (S.message space.now) style found (BreaksOff
+        (outgoing W.contents writer.old text.old.items) (outgoing W.contents writer.new text.new.items) e)) }
+{
+    match style {
+        Style::Lines => show_found::<_, _, _, false>(text, writer, space, found, 0, depth),
+        Style::Quoted => show_found::<_, _, _, true>(text, writer, space, found, 0, depth),
+        Style::Json => show_json(text, writer, space, found, depth),
+    }
+}
+
+/// The line of JSON of the value that a pointer names.
+fn show_json<S: Space, W: Write, A: Allocator>(
+    text: &mut Vec<u8, A>,
+    writer: &mut Watched<W>,
+    space: &S,
+    found: Target,
+    depth: u32,
+) -> Result<(), Broken>
+    requires message { IsMessage (S.message space.now) }
+    requires inside { IsInMessage (S.message space.now) found }
+    requires ready { IsFound (S.message space.now) found depth }
+    ensures shown { OnOk result (IsThereShown (S.message space.now) styles.Json found (Adds
+        (outgoing W.contents writer.old text.old.items) (outgoing W.contents writer.new text.new.items))) }
+    ensures cut { IfErr result (λ e. IsThereShown (S.message space.now) styles.Json found (BreaksOff
+        (outgoing W.contents writer.old text.old.items) (outgoing W.contents writer.new text.new.items) e)) }
+{
+    json_found(text, writer, space, found, depth)?;
+    end_line(text, writer)
+}
+
+/// The line of what does not stand there, in a style.
+pub fn show_nothing<W: Write, A: Allocator>(
+    text: &mut Vec<u8, A>,
+    writer: &mut Watched<W>,
+    style: Style,
+) -> Result<(), Broken>
+    ensures shown { OnOk result (Adds (outgoing W.contents writer.old text.old.items)
+        (outgoing W.contents writer.new text.new.items) (part_in style None)) }
+    ensures cut { IfErr result (λ e. BreaksOff (outgoing W.contents writer.old text.old.items)
+        (outgoing W.contents writer.new text.new.items) e (part_in style None)) }
+{
+    match style {
+        Style::Lines | Style::Quoted => plain_line(text, writer, 0, "none"),
+        Style::Json => end_line(text, writer),
+    }
+}

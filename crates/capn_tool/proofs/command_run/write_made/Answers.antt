@@ -1,0 +1,55 @@
+use Rattle.std.proofs.Common.{◌≡◌, ◌⊎◌, ◌↔◌, inl, inr, Bool, true, false, Result, Err, IsErrOf}
+use Rattle.std.proofs.Common.{ap, refl, sym, ◌∙◌}
+use Rattle.std.proofs.KnownBytes.{Appends-nil}
+use Rattle.capn_tool.specs.declared.fault.ToolFault.{ToolFault}
+use Rattle.capn_tool.specs.declared.fault.ToolFault.TheVariants as faults
+use Rattle.capn_tool.proofs.WholeRun.{made_begins, made_ends, made_fine, unmade_begins, unmade_ends, unmade_io}
+use Rattle.capn_tool.proofs.command_run.write_made.Goals as goal
+
+abbrev Ending : Type 0
+Ending = Result (Unit {0}) ToolFault
+
+-- nothing was made: the reader decides
+unmade : (fault : ToolFault) (r : Ending) (reader writer : Bool) → ((fault ≡ faults.Io) ↔ (reader ≡ true))
+    → writer ≡ false → r ≡ Err fault → IsErrOf r faults.Io ↔ ((reader ≡ true) ⊎ (writer ≡ true))
+unmade fault r reader writer io fine is = (λ h. inl (io.0 (cc)), from)
+  where
+    from : (reader ≡ true) ⊎ (writer ≡ true) → IsErrOf r faults.Io
+    from (inl h) = is ∙ ap (λ (f : ToolFault). Err f) (io.1 h)
+    from (inr h) = absurd (let bad : true ≡ false = sym h ∙ fine in cc)
+
+-- it was made: the writer does
+made : (r : Ending) (reader writer : Bool) → reader ≡ false → (IsErrOf r faults.Io ↔ (writer ≡ true))
+    → IsErrOf r faults.Io ↔ ((reader ≡ true) ⊎ (writer ≡ true))
+made r reader writer fine io = (λ h. inr (io.0 h), from)
+  where
+    from : (reader ≡ true) ⊎ (writer ≡ true) → IsErrOf r faults.Io
+    from (inl h) = absurd (let bad : true ≡ false = sym h ∙ fine in cc)
+    from (inr h) = io.1 h
+
+pub returns-in-Err : goal.returns-in-Err
+returns-in-Err g c whole a b unread given =
+    let none = rw c.in-Err.is at given in
+    record {
+      exact = unmade_ends whole a b _ unread c.in-Err.fault none;
+      io =
+          unmade c.in-Err.fault (Err c.in-Err.fault) unread _ (unmade_io whole a b unread c.in-Err.fault none)
+          c.requires refl;
+      begun = unmade_begins whole a b _ unread c.in-Err.fault none;
+      heard = λ failed. Appends-nil _;
+    }
+
+pub returns-in-Ok : goal.returns-in-Ok
+returns-in-Ok g c whole a b unread given =
+    let all = rw c.in-Ok.is at given in
+    let fine = made_fine whole a b unread c.in-Ok.text all in
+    record {
+      exact =
+          made_ends whole a b _ unread c.in-Ok.text _ c.write_all.result all
+          (rw c.deref.ensures.value at c.write_all.ensures.ok) c.write_all.ensures.only;
+      io = made c.write_all.result unread _ fine c.write_all.ensures.io;
+      begun =
+          made_begins whole a b _ unread c.in-Ok.text _ all
+          (rw c.deref.ensures.value at c.write_all.ensures.begun);
+      heard = λ failed. absurd (let bad = sym failed ∙ fine in cc);
+    }

@@ -1,0 +1,18 @@
+-- How deep a message is. (Page: security considerations; own.)
+use Rattle.std.specs.Prelude.{ℕ, ◌<◌, List}
+use Rattle.capn_walk.specs.Limits.{Bounds}
+use Rattle.capn_walk.specs.Accepted.{IsAccepted}
+
+-- the same limits with another depth
+abbrev pub at_depth : Bounds → ℕ → Bounds
+at_depth limits n = record {
+  message_words = limits.message_words;
+  budget = limits.budget;
+  depth = n;
+  tariff = limits.tariff;
+}
+
+-- the least depth under which a message is accepted, with the other limits as they are: 0 for a null root alone
+pub record IsDepth (message : List (List ℕ)) (limits : Bounds) (depth : ℕ) : Type 0 where
+  pub accepted : IsAccepted message (at_depth limits depth)
+  pub least : (n : ℕ) → n < depth → IsAccepted message (at_depth limits n) → ⊥

@@ -1,0 +1,45 @@
+-- How many objects stand one below another, from a place on.
+use Rattle.std.specs.Prelude.{ℕ, zero, suc, ◌+◌, ◌-◌, max, List, [], ◌∷◌, Result, Ok, Err, Option, Some, None}
+use Rattle.capn_words.specs.declared.space.Place.{Place}
+use Rattle.capn_walk.specs.declared.target.Target.{Target}
+use Rattle.capn_walk.specs.declared.target.Target.TheVariants as targets
+use Rattle.capn_walk.specs.declared.target.Fault.{Fault}
+use Rattle.capn_walk.specs.Target.{target}
+use Rattle.capn_walk.specs.View.{slots_below}
+
+-- the slots below what a pointer names
+abbrev pub below_of : Result Target Fault → List Place
+below_of (Ok t) = slots_below t
+below_of (Err e) = []
+
+-- what a target adds: 1 for content, else nothing
+abbrev pub level : Target → ℕ
+level (targets.Content s start shape pads) = 1
+level _ = 0
+
+-- the greatest of what is said of places
+abbrev pub greatest_of : (Place → ℕ) → List Place → ℕ
+greatest_of f [] = 0
+greatest_of f (p ∷ ps) = max (f p) (greatest_of f ps)
+
+-- with what is below it
+abbrev pub reached : (Place → ℕ) → Result Target Fault → ℕ
+reached below (Ok (targets.Content s start shape pads)) =
+    1 + greatest_of below (slots_below (targets.Content s start shape pads))
+reached below found = 0
+
+module _ (message : List (List ℕ)) where
+  -- of a slot, where at most d objects are visited one below another
+  unfoldable pub reach : ℕ → Place → ℕ
+  reach zero at = 0
+  reach (suc d) at = reached (reach d) (target message at)
+
+  -- of several slots: the greatest
+  abbrev pub reach_of : ℕ → List Place → ℕ
+  reach_of d ps = greatest_of (reach d) ps
+
+-- how many objects stand one below another down to that of a visit, where so many may and the depth left is known: none
+-- where it is a visit of a capability
+abbrev pub levels_at : ℕ → ℕ → Option ℕ → ℕ
+levels_at limit depth None = limit + 1 - depth
+levels_at limit depth (Some k) = 0

@@ -1,0 +1,151 @@
+//! What the words of the command line order of archives.
+
+use crate::orders::expect_usage;
+use capn_program::{Archive, Form, Limits, Order, Pick, StreamForm, Tariff, Task, Uniq, order_of};
+use std::alloc::Global;
+use std::process::Abort;
+
+/// Whether the words order this run over an archive.
+fn is_archive(alloc: Global, words: &[&str], want: Archive) -> bool {
+    let told = order_of(alloc, words);
+    match &told {
+        Ok(Order::Archive(archive)) => *archive == want,
+        _ => false,
+    }
+}
+
+/// Whether the words order this run without doubles.
+fn is_uniq(alloc: Global, words: &[&str], want: Uniq) -> bool {
+    let told = order_of(alloc, words);
+    match &told {
+        Ok(Order::Uniq(uniq)) => *uniq == want,
+        _ => false,
+    }
+}
+
+/// Whether the words pick these messages.
+fn is_pick(alloc: Global, words: &[&str], want: Pick) -> bool {
+    let told = order_of(alloc, words);
+    match &told {
+        Ok(Order::Pick(pick)) => *pick == want,
+        _ => false,
+    }
+}
+
+/// A run over a stream with usual limits.
+fn over(task: Task, keep_going: bool) -> Archive {
+    Archive {
+        task,
+        form: Form::Stream,
+        limits: Limits::usual(),
+        keep_going,
+    }
+}
+
+#[test]
+fn runs_over_archives(rt: HostRuntime) {
+    for (name, task) in [("list", Task::List), ("limits", Task::Limits)] {
+        assert!(rt;
+            is_archive(rt.alloc(), &["capn", name], over(task, false)),
+            "{name}"
+        );
+        assert!(rt;
+            is_archive(
+                rt.alloc(),
+                &["capn", name, "--keep-going"],
+                over(task, true)
+            ),
+            "{name}"
+        );
+    }
+    let words = ["capn", "list", "--digest"];
+    assert!(rt;
+        is_archive(rt.alloc(), &words, over(Task::Digests, false)),
+        "{words:?}"
+    );
+    for (words, keep_going) in [
+        (&["capn", "canonical", "--framed"][..], false),
+        (&["capn", "canonical", "--framed", "--keep-going"][..], true),
+        (&["capn", "canonical", "--keep-going", "--framed"][..], true),
+    ] {
+        assert!(rt;
+            is_archive(rt.alloc(), words, over(Task::Canonical, keep_going)),
+            "{words:?}"
+        );
+    }
+}
+
+#[test]
+fn options_of_runs_over_archives(rt: HostRuntime) {
+    let limits = Limits::new(1, 2, 3).unwrap_or(Limits::usual());
+    for (name, flag, task) in [
+        ("list", "--keep-going", Task::List),
+        ("limits", "--keep-going", Task::Limits),
+        ("canonical", "--framed", Task::Canonical),
+    ] {
+        for (form, value) in [
+            ("stream", Form::Stream),
+            ("packed", Form::Packed),
+            ("bare", Form::Bare),
+        ] {
+            let words = [
+                "capn",
+                name,
+                "--form",
+                form,
+                "--message-words=1",
+                "--budget=2",
+                flag,
+                "--depth=3",
+                "--tariff=plain",
+            ];
+            let want = Archive {
+                task,
+                form: value,
+                limits: limits.with_tariff(Tariff::Plain),
+                keep_going: flag == "--keep-going",
+            };
+            assert!(rt; is_archive(rt.alloc(), &words, want), "{words:?}");
+        }
+    }
+}
+
+#[test]
+fn doubles_are_left_out_or_counted(rt: HostRuntime) {
+    for (flag, keep_going, count) in [("--keep-going", true, false), ("--count", false, true)] {
+        let want = Uniq {
+            form: Form::Bare,
+            limits: Limits::usual(),
+            keep_going,
+            count,
+        };
+        let words = ["capn", "uniq", "--form=bare", flag];
+        assert!(rt; is_uniq(rt.alloc(), &words, want), "{words:?}");
+    }
+}
+
+#[test]
+fn messages_are_picked_by_their_numbers(rt: HostRuntime) {
+    let want = Pick {
+        form: StreamForm::Packed,
+        limits: Limits::new(7, 8_388_608, 64).unwrap_or(Limits::usual()),
+        from: 2,
+        to: u64::MAX,
+    };
+    let words = [
+        "capn",
+        "pick",
+        "--form=packed",
+        "--message-words=7",
+        "--from=2",
+    ];
+    assert!(rt; is_pick(rt.alloc(), &words, want), "{words:?}");
+    for option in [
+        "--from=0",
+        "--to=-1",
+        "--to=18446744073709551616",
+        "--form=bare",
+    ] {
+        expect_usage(&rt, rt.alloc(), &["capn", "pick", option], 2);
+    }
+}

@@ -1,0 +1,79 @@
+//! The least depth under which a message is accepted.
+
+use crate::words::bytes_of;
+use capn_walk::{Fault, Limits, Stopped, Surveyed, survey, survey_depth};
+use capn_words::{Bare, Place};
+use std::alloc::Global;
+use std::test::Fail;
+
+/// What a survey answers of a message within the usual limits with another depth; none if that is out of its range.
+fn surveyed_at(alloc: Global, space: &Bare<'_>, depth: u32) -> Option<Result<Surveyed, Stopped>> {
+    let usual = Limits::usual();
+    let limits = Limits::new(usual.message_words(), usual.budget(), depth)?;
+    Some(survey(alloc, space, limits))
+}
+
+/// Whether one survey says that a message is of this depth, another accepts it under this depth, and one more finds it
+/// too deep under the depth below, if there is one.
+fn is_deep(alloc: Global, words: &[u64], depth: u32) -> Result<bool, Fail> {
+    let bytes = bytes_of(alloc, words)?;
+    let Ok(bare) = Bare::new(bytes.as_slice()) else {
+        return Ok(false);
+    };
+    let Ok(measured) = survey_depth(alloc, &bare, Limits::usual()) else {
+        return Ok(false);
+    };
+    let is_enough = match surveyed_at(alloc, &bare, depth.max(1)) {
+        Some(Ok(surveyed)) => surveyed == measured.survey,
+        _ => false,
+    };
+    let is_least = match surveyed_at(alloc, &bare, depth.saturating_sub(1)) {
+        Some(Ok(_)) => false,
+        Some(Err(stopped)) => stopped.fault == Fault::TooDeep,
+        // No limits have the depth 0.
+        None => depth < 2,
+    };
+    Ok(measured.depth == depth && is_enough && is_least)
+}
+
+#[test]
+fn each_depth(rt: HostRuntime) -> Result<(), Fail> {
+    // Null, and a struct that is empty.
+    assert!(rt; is_deep(rt.alloc(), &[0], 0)?);
+    assert!(rt; is_deep(rt.alloc(), &[0xffff_fffc], 1)?);
+    // A slot that is null, and one that is a capability.
+    assert!(rt; is_deep(rt.alloc(), &[0x1_0000_0000_0000, 0], 1)?);
+    assert!(rt; is_deep(rt.alloc(), &[0x1_0000_0000_0000, 0x2_0000_0003], 1)?);
+    // Two slots that lead to the same struct, and one that leads to three bytes.
+    let shared = [0x2_0000_0000_0000, 0x1_0000_0004, 0x1_0000_0000, 9];
+    assert!(rt; is_deep(rt.alloc(), &shared, 2)?);
+    assert!(rt;
+        is_deep(
+            rt.alloc(),
+            &[0x1_0000_0000_0000, 0x1a_0000_0001, 0x63_6261],
+            2
+        )?
+    );
+    Ok(())
+}
+
+/// A struct whose slot leads to the struct itself is too deep under any depth.
+#[test]
+fn a_struct_in_its_own_slot(rt: HostRuntime) -> Result<(), Fail> {
+    let bytes = bytes_of(rt.alloc(), &[0x1_0000_ffff_fffc])?;
+    let Ok(bare) = Bare::new(bytes.as_slice()) else {
+        return Err(Fail::new("no words"));
+    };
+    let want = Stopped {
+        fault: Fault::TooDeep,
+        place: Place {
+            segment: 0,
+            word: 0,
+        },
+        paid: 128,
+        visits: 65,
+    };
+    let told = survey_depth(rt.alloc(), &bare, Limits::usual());
+    assert!(rt; matches!(told, Err(stopped) if stopped == want));
+    Ok(())
+}
