@@ -1,6 +1,7 @@
 //! The laws of texts, as a function that does nothing.
 
 ghost use Rattle.capn_text.specs.Laws.{TextsAreApart, FittingIsShowable, OneValue, OneStream, StreamGoesOn};
+ghost use Rattle.capn_text.specs.Laws.{OneWrongLine, WrongIsNotDeep, DeepIsHigh};
 
 /// Values whose texts begin one text are equal, and so is what stands after them: no text of a value begins that of
 /// another. So one text has one value that fits and is in range.
@@ -15,4 +16,12 @@ pub fn texts()
 pub fn streams()
     ensures one { OneStream }
     ensures goes_on { StreamGoesOn }
+{}
+
+/// A text that is refused has one fault: one line is the first that doesn't go on, or the text goes too deep, or its
+/// value is of at most 256 levels.
+pub fn refusals()
+    ensures wrong { OneWrongLine }
+    ensures deep { WrongIsNotDeep }
+    ensures high { DeepIsHigh }
 {}

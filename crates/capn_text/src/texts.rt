@@ -111,11 +111,12 @@ impl<'t> Texts<'t> {
         // A line that is refused is the first that doesn't go on with a text and its end.
         ensures first { IfErr result (λ e. (n : ℕ) → e ≡ faults.Line n →
             (k : ℕ) × (n + 1 ≡ self.old.line + k) × IsFirstWrong ended_text k self.old.rest) }
-        // A misfit is that of the value whose text stands next with its end, or the text goes too deep, whatever
-        // follows.
+        // A misfit is that of the value of at most 256 levels whose text stands next with its end, or the text goes
+        // too deep, whatever follows.
         ensures misfit { IfErr result (λ e. (m : Misfit) → e ≡ faults.Misfit m →
             ((m ≡ Tall) × GoesTooDeep self.old.rest) ⊎ ((v : trees.Tree) × (rest : List ℕ) × InRange v
-            × IsShowable v × (self.old.rest ≡ show_text v ++ (end_line ++ rest)) × (misfit v ≡ Some m))) }
+            × IsShowable v × (height v ≤ most_height) × (self.old.rest ≡ show_text v ++ (end_line ++ rest))
+            × (misfit v ≡ Some m))) }
     {
         if self.rest.is_empty() {
             return Ok(None);
