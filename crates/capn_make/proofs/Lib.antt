@@ -7,4 +7,5 @@ pub mod OnlyText
 pub mod RunEnds
 pub mod OneReading
 pub mod OneRefusal
+pub mod OneBare
 pub mod ShownTexts

@@ -1,12 +1,12 @@
 -- What holds of the definitions alone. (Own.)
-use Rattle.std.specs.Prelude.{◌≡◌, ◌⊎◌, ℕ, List, [], ◌∷◌, Result, Ok}
+use Rattle.std.specs.Prelude.{◌≡◌, ℕ, List, [], ◌∷◌, Result, Ok}
 use Rattle.std.specs.List.{AllByRecursion}
 use Rattle.capn_words.specs.Message.{IsBare}
 use Rattle.capn_stream.specs.Frames.{Frames}
 use Rattle.capn_value.specs.Tree.{Tree}
 use Rattle.capn_value.specs.Fits.{Fits}
 use Rattle.capn_value.specs.InRange.{InRange}
-use Rattle.capn_text.specs.Streams.{stream_text, GoesTooDeep}
+use Rattle.capn_text.specs.Streams.{stream_text}
 use Rattle.capn_canon.specs.Layout.{canon}
 use Rattle.capn_canon.specs.declared.form.Form.{Form}
 use Rattle.capn_canon.specs.declared.form.Form.TheVariants as forms
@@ -34,13 +34,17 @@ abbrev pub OneShownIsMadeOnly : Type 0
 OneShownIsMadeOnly = (v : Tree) (text : List ℕ) (ending : Result (Unit {0}) MakeFault) → IsMakeable v
     → MakesOne (stream_text (v ∷ [])) text ending → (ending ≡ Ok tt) × (text ≡ canon v)
 
--- An input is made in one way: its texts are those of the same values, and it ends with one fault, unless the text that
--- is refused goes too deep.
+-- an input is made in one way: its texts are those of the same values, and it ends in one way, as done or with one fault
 abbrev pub OneMaking : Type 0
 OneMaking = (form : Form) (input text other : List ℕ) (r s : Result (Unit {0}) MakeFault)
     → MakesEach form input text r → MakesEach form input other s
     → (vs : List Tree) × (rest : List ℕ) × AreFirst vs input rest × AreMade form vs text × AreMade form vs other
-    × ((r ≡ s) ⊎ GoesTooDeep rest)
+    × (r ≡ s)
+
+-- so is one in form bare
+abbrev pub OneBareMaking : Type 0
+OneBareMaking = (input text other : List ℕ) (r s : Result (Unit {0}) MakeFault) → MakesOne input text r
+    → MakesOne input other s → (text ≡ other) × (r ≡ s)
 
 -- what is written of a value in frames is a frame of one segment, whose bytes are the canonical ones
 abbrev pub FramedAreFrames : Type 0

@@ -1,10 +1,10 @@
 //! The laws of what is made, as functions that do nothing.
 
 ghost use Rattle.capn_make.specs.Laws.{ShownAreMade, ShownAreMadeOnly, OneShownIsMade, OneShownIsMadeOnly};
-ghost use Rattle.capn_make.specs.Laws.{FramedAreFrames, OneMaking, OneTextInFrames};
+ghost use Rattle.capn_make.specs.Laws.{FramedAreFrames, OneMaking, OneBareMaking, OneTextInFrames};
 
 use capn_canon::laws::canonicity;
-use capn_text::laws::texts;
+use capn_text::laws::{refusals, texts};
 
 /// The texts that [`capn_value::show`] writes, each with its line `end`, are made again: of values that fit and have no
 /// capability nothing but their canonical bytes, in order.
@@ -15,14 +15,17 @@ pub fn showing()
     ensures one_only { OneShownIsMadeOnly }
 {
     texts();
+    refusals();
 }
 
-/// An input is made in one way.
+/// An input is made in one way, and ends as done or with one fault.
 pub fn making()
     ensures one { OneMaking }
+    ensures bare { OneBareMaking }
     ensures text { OneTextInFrames }
 {
     texts();
+    refusals();
 }
 
 /// What is written of a value in [`crate::Form::Stream`] is a frame of one segment, as [`capn_canon`] reads it.
