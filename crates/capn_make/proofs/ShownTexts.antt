@@ -47,7 +47,8 @@ module _ (apart : TextsAreApart) (shows : FittingIsShowable) (high : DeepIsHigh)
 
     pub one_making : OneMaking
     one_making form input text other r s h k =
-        let same = same_firsts apart shows h.0 k.0 h.1 k.1 h.2.each k.2.each (stuck_after apart shows high h.0 h.1 r h.4)
+        let same = same_firsts apart shows h.0 k.0 h.1 k.1 h.2.each k.2.each
+        (stuck_after apart shows high h.0 h.1 r h.4)
         (stuck_after apart shows high k.0 k.1 s k.4) (sym h.2.are ∙ k.2.are) in
         let again = subst (λ ws. EndsAfter ws k.1 s) (sym same.0) k.4 in (
           h.0,

@@ -34,7 +34,8 @@ abbrev pub OneShownIsMadeOnly : Type 0
 OneShownIsMadeOnly = (v : Tree) (text : List ℕ) (ending : Result (Unit {0}) MakeFault) → IsMakeable v
     → MakesOne (stream_text (v ∷ [])) text ending → (ending ≡ Ok tt) × (text ≡ canon v)
 
--- an input is made in one way: its texts are those of the same values, and it ends in one way, as done or with one fault
+-- An input is made in one way: its texts are those of the same values, and it ends in one way, as done or with one
+-- fault.
 abbrev pub OneMaking : Type 0
 OneMaking = (form : Form) (input text other : List ℕ) (r s : Result (Unit {0}) MakeFault)
     → MakesEach form input text r → MakesEach form input other s
