@@ -45,16 +45,21 @@ int main(void) {
     static const uint32_t depths[] = {1, 64, 65, 256};
     size_t most[4] = {0};
     for (int d = 0; d < 4; d++)
-        for (int kind = 0; kind < 3; kind++) {
+        for (int kind = 0; kind < 6; kind++) {
             depth = depths[d];
+            /* The first of one or two slots, or of rows of one slot, leads down; a second has an empty struct. */
+            int is_wide = kind > 2, shape = kind % 3;
+            uint32_t many = is_wide ? 2 : 1, down = 0;
             size_t at = 0;
-            put(at++, 0, 0x10000); /* a struct of one pointer */
+            put(at++, 0, shape == 0 ? many << 16 : 0x10000);
             for (uint32_t i = 1; i < depth; i++) {
-                if (kind == 0) put(at++, 0, 0x10000);
-                else if (kind == 1) put(at++, 1, 14); /* a list of one pointer */
-                else { put(at++, 1, 15); put(at++, 4, 0x10000); } /* a composite list of one such struct */
+                if (shape == 0) put(at++, is_wide ? 4 : 0, many << 16);
+                else put(at++, down + 1, many << 3 | (shape == 1 ? 6 : 7));
+                if (is_wide && (shape == 0 || i > 1)) put(at++, 0xfffffffc, 0);
+                if (shape == 2) put(at++, many << 2, 0x10000);
+                if (is_wide) down = 4;
             }
-            put(at++, 0, 0);
+            for (uint32_t i = 0; i < many; i++) put(at++, 0, 0);
             size = 8 * at;
             memset(framed, 0, 8);
             framed[4] = (uint8_t)at;

@@ -48,7 +48,7 @@ pub fn survey_canonical(space: &Bare<'_>, limits: Limits) -> Option<SurveyedBare
         left: budget,
         visits: 1,
     };
-    match check_slots(space, limits.tariff().base(), root) {
+    match check_object(space, limits.tariff().base(), root) {
         Some(progress) => {
             if progress.next != size {
                 return None;
@@ -64,9 +64,24 @@ pub fn survey_canonical(space: &Bare<'_>, limits: Limits) -> Option<SurveyedBare
     }
 }
 
-/// How far the pass has come once all is checked that is below the slots in hand; none where a word isn't in place,
-/// where a capability stands, or where the depth or what may be paid is passed.
+/// How far the pass has come once all is checked that is below the slots of an object; none where a word isn't in
+/// place, where a capability stands, or where the depth or what may be paid is passed.
+///
+/// Each level of depth takes one frame of the stack: that of this function, or of [`check_rows`].
 #[cycle(pass)]
+#[inline(never)]
+fn check_object(space: &Bare<'_>, base: u32, pass: Pass) -> Option<Progress>
+    requires message { IsMessage (space.now ∷ []) }
+    requires opened { IsOpen space.now pass }
+    ensures found { IfSome result (λ q. Finds space.now base pass q) }
+    ensures only { Due space.now base pass → IsSome result }
+{
+    check_slots(space, base, pass)
+}
+
+/// The same below the slots in hand.
+#[cycle(pass)]
+#[inline(always)]
 fn check_slots(space: &Bare<'_>, base: u32, pass: Pass) -> Option<Progress>
     requires message { IsMessage (space.now ∷ []) }
     requires opened { IsOpen space.now pass }
@@ -106,10 +121,7 @@ fn check_slot(space: &Bare<'_>, base: u32, pass: Pass) -> Option<Pass>
         return check_struct(space, base, word, pass);
     }
     if low == near + 1 {
-        return match check_list(space, base, word, pass) {
-            Some(progress) => Some(pass.behind(progress)),
-            None => None,
-        };
+        return check_list(space, base, word, pass);
     }
     if word == EMPTY {
         return match pass.paid(base as u64, pass.next, 0) {
@@ -131,16 +143,31 @@ fn check_struct(space: &Bare<'_>, base: u32, word: u64, pass: Pass) -> Option<Pa
     ensures found { IfSome result (λ r. (pass.from < r.from) × IsOpen space.now r × Leads space.now base pass r) }
     ensures only { 0 < word → Due space.now base pass → DueIn space.now base result }
 {
-    let Some(below) = open_struct(space, base, word, pass) else {
-        return None;
-    };
+    match open_struct(space, base, word, pass) {
+        Some(below) => check_below(space, base, pass, below),
+        None => None,
+    }
+}
+
+/// The same once the slots of the object are known to which the first slot in hand points.
+#[cycle(pass)]
+#[inline(always)]
+fn check_below(space: &Bare<'_>, base: u32, pass: Pass, below: Pass) -> Option<Pass>
+    requires message { IsMessage (space.now ∷ []) }
+    requires object { HasObject space.now pass }
+    requires later { pass.from < below.from }
+    requires opened { IsOpen space.now below }
+    requires named { (q : Progress) → Finds space.now base below q → FindsFirst space.now base pass q }
+    ensures found { IfSome result (λ r. (pass.from < r.from) × IsOpen space.now r × Leads space.now base pass r) }
+    ensures only { Due space.now base below → Due space.now base pass → DueIn space.now base result }
+{
     if pass.from + 1 == pass.end {
         return Some(below);
     }
     if below.from == below.end {
         return Some(pass.behind(below.here()));
     }
-    match check_slots(space, base, below) {
+    match check_object(space, base, below) {
         Some(progress) => Some(pass.behind(progress)),
         None => None,
     }
@@ -182,33 +209,42 @@ fn open_struct(space: &Bare<'_>, base: u32, word: u64, pass: Pass) -> Option<Pas
     }
 }
 
-/// How far the pass has come after the list at the next free word to which the first slot in hand points, and after all
-/// below it.
+/// The same where the first slot in hand is the pointer to a list at the next free word.
 #[cycle(pass)]
 #[inline(always)]
-fn check_list(space: &Bare<'_>, base: u32, word: u64, pass: Pass) -> Option<Progress>
+fn check_list(space: &Bare<'_>, base: u32, word: u64, pass: Pass) -> Option<Pass>
     requires message { IsMessage (space.now ∷ []) }
     requires object { HasObject space.now pass }
     requires word { word ≡ slice_index space.now pass.from }
     requires near { word % 2 ^ 32 ≡ 4 * (pass.next - pass.from - 1) + 1 }
-    ensures found { IfSome result (λ q. FindsFirst space.now base pass q) }
-    ensures only { DueFirst space.now base pass → IsSome result }
+    ensures found { IfSome result (λ r. (pass.from < r.from) × IsOpen space.now r × Leads space.now base pass r) }
+    ensures only { Due space.now base pass → DueIn space.now base result }
 {
-    match split(word) {
-        Pointer::Many {
-            offset: _,
-            width,
-            count,
-        } => match width {
-            Width::Link => check_links(space, base, count, pass),
-            Width::Rows => check_composite(space, base, count, pass),
-            _ => check_numbers(space, base, width, count, pass),
+    let Pointer::Many {
+        offset: _,
+        width,
+        count,
+    } = split(word)
+    else {
+        return None;
+    };
+    match width {
+        Width::Link => match open_pointers(space, base, count, pass) {
+            Some(below) => check_below(space, base, pass, below),
+            None => None,
         },
-        _ => None,
+        Width::Rows => match check_composite(space, base, count, pass) {
+            Some(progress) => Some(pass.behind(progress)),
+            None => None,
+        },
+        _ => match check_numbers(space, base, width, count, pass) {
+            Some(progress) => Some(pass.behind(progress)),
+            None => None,
+        },
     }
 }
 
-/// The same where its elements are numbers.
+/// How far the pass has come after the list of numbers at the next free word to which the first slot in hand points.
 #[inline(always)]
 fn check_numbers(
     space: &Bare<'_>,
@@ -233,38 +269,36 @@ fn check_numbers(
     pass.paid(base as u64 + words + without_size as u64, end as u32, 0)
 }
 
-/// The same where its elements are pointers.
-#[cycle(pass)]
-#[inline(never)]
-fn check_links(space: &Bare<'_>, base: u32, count: u32, pass: Pass) -> Option<Progress>
+/// The elements of the list of pointers at the next free word to which the first slot in hand points.
+#[inline(always)]
+fn open_pointers(space: &Bare<'_>, base: u32, count: u32, pass: Pass) -> Option<Pass>
     requires message { IsMessage (space.now ∷ []) }
     requires list { HasList space.now pass Link count }
-    ensures found { IfSome result (λ q. FindsFirst space.now base pass q) }
-    ensures only { DueFirst space.now base pass → IsSome result }
+    ensures found { IfSome result (λ r. (pass.from < r.from) × IsOpen space.now r
+        × ((q : Progress) → Finds space.now base r q → FindsFirst space.now base pass q)) }
+    ensures only { DueFirst space.now base pass → DueIn space.now base result }
 {
     let end = pass.next + count;
     if end > words_of(space) {
         return None;
     }
     match pass.paid(base as u64 + count as u64, end, count) {
-        Some(progress) => {
-            let below = Pass {
-                from: pass.next,
-                end,
-                depth: pass.depth - 1,
-                next: progress.next,
-                left: progress.left,
-                visits: progress.visits,
-            };
-            check_slots(space, base, below)
-        }
+        Some(progress) => Some(Pass {
+            from: pass.next,
+            end,
+            depth: pass.depth - 1,
+            next: progress.next,
+            left: progress.left,
+            visits: progress.visits,
+        }),
         None => None,
     }
 }
 
-/// The same where its elements are structs.
+/// How far the pass has come after the list of structs at the next free word to which the first slot in hand points,
+/// and after all below it.
 #[cycle(pass)]
-#[inline(never)]
+#[inline(always)]
 fn check_composite(space: &Bare<'_>, base: u32, span: u32, pass: Pass) -> Option<Progress>
     requires message { IsMessage (space.now ∷ []) }
     requires list { HasList space.now pass Rows span }
@@ -291,7 +325,7 @@ fn check_composite(space: &Bare<'_>, base: u32, span: u32, pass: Pass) -> Option
 
 /// The rows of the list of structs at the next free word to which the first slot in hand points, if all of their words
 /// and slots are kept.
-#[inline(always)]
+#[inline(never)]
 fn open_composite(space: &Bare<'_>, base: u32, span: u32, pass: Pass) -> Option<RowPass>
     requires message { IsMessage (space.now ∷ []) }
     requires list { HasList space.now pass Rows span }
@@ -339,6 +373,7 @@ fn open_composite(space: &Bare<'_>, base: u32, span: u32, pass: Pass) -> Option<
 
 /// How far the pass has come after all that is below the slots of `count` rows, which are the words in hand.
 #[cycle(pass)]
+#[inline(never)]
 fn check_rows(
     space: &Bare<'_>,
     base: u32,

@@ -28,7 +28,8 @@ fn is_too_deep(heap: &Refusing<Global>, alloc: Global, deeper: &[u8]) -> bool {
     is_stopped && refusal == accounted(alloc, Form::Bare, deeper, limits(64))
 }
 
-/// The usual depth of 64 objects is checked without memory, and the first object that is deeper is refused as such.
+/// The usual depth of 64 objects is checked without memory, and the first object that is deeper is refused as such. If
+/// the limit lets it be, the bytes are found canonical without memory, too.
 #[test]
 fn no_memory_for_64_objects(rt: HostRuntime) -> Result<(), Fail> {
     let deep = chain(rt.alloc(), 63)?;
@@ -37,6 +38,7 @@ fn no_memory_for_64_objects(rt: HostRuntime) -> Result<(), Fail> {
     heap.refuse_each();
     assert!(rt; is_told(&heap, deep.as_slice()));
     assert!(rt; is_too_deep(&heap, rt.alloc(), deeper.as_slice()));
+    assert!(rt; is_canonical(&heap, deeper.as_slice(), limits(256)) == Ok(true));
     assert!(rt; heap.count() == 0);
     Ok(())
 }

@@ -33,10 +33,10 @@ pub(crate) fn judged_canonical(
     }
 }
 
-/// That the chain is canonical.
+/// That the chain and a word after it are not canonical: a survey follows the pass that finds that.
 pub(crate) fn check_answer(of: &Subject, short: &Refusing<Global>) -> Answer {
-    match is_canonical(short, of.chain.as_slice(), limits(256)) {
-        Ok(is_canonical) => judged(is_canonical),
+    match is_canonical(short, of.longer.as_slice(), limits(256)) {
+        Ok(is_canonical) => judged(!is_canonical),
         Err(refusal) => wanting(matches!(refusal, Refusal::Memory)),
     }
 }

@@ -28,6 +28,7 @@ pub(crate) struct Subject<'a> {
     pub packed: Vec<u8>,
     pub walked: Walked,
     pub chain: Vec<u8>,
+    pub longer: Vec<u8>,
 }
 
 /// The limits of a walk to `depth` objects below one another.
@@ -45,6 +46,13 @@ pub(crate) fn chain(alloc: Global, levels: u32) -> Result<Vec<u8>, AllocError> {
     }
     words.extend_from_slice(&[0xffff_fffc, 0xffff_fffc])?;
     bytes_of(alloc, words.as_slice())
+}
+
+/// These bytes and a word after them, which no object has.
+fn longer(alloc: Global, bytes: &[u8]) -> Result<Vec<u8>, AllocError> {
+    let mut longer = Vec::from_slice(alloc, bytes)?;
+    longer.extend_from_slice(&[0; 8])?;
+    Ok(longer)
 }
 
 /// The packed text of a stream.
@@ -74,6 +82,7 @@ fn walked_of<S: Space>(alloc: Global, message: &S) -> Result<Walked, Fail> {
 /// What the calls are tried on, of a stream.
 pub(crate) fn subject_of(alloc: Global, stream: &[u8]) -> Result<Subject<'_>, Fail> {
     let chain = chain(alloc, 70)?;
+    let longer = longer(alloc, chain.as_slice())?;
     let packed = packed_of(alloc, stream)?;
     let message = message_of(alloc, stream)?;
     let walked = walked_of(alloc, &message)?;
@@ -84,6 +93,7 @@ pub(crate) fn subject_of(alloc: Global, stream: &[u8]) -> Result<Subject<'_>, Fa
         packed,
         walked,
         chain,
+        longer,
     })
 }
 

@@ -9,11 +9,10 @@ use Rattle.capn_canon.specs.declared.progress.Progress.{Progress}
 use Rattle.capn_canon.specs.declared.progress.Pass.{Pass}
 use Rattle.capn_canon.specs.inner.InPlace.{FindsSlots, FindsRows, FindsFirst, Finds, HasObject, IsOpen, Leads}
 use Rattle.capn_canon.specs.inner.Due.{Due, DueSlots, DueRows}
-use Rattle.capn_canon.proofs.DueLists.{due-links}
 use Rattle.capn_canon.proofs.DueObjects.{due-deep, due-near, due-price}
-use Rattle.capn_canon.proofs.DueSlots.{due-first, goes-due, same-due, row-due, rows-due}
+use Rattle.capn_canon.proofs.DueSlots.{due-first, goes-due, row-due, rows-due}
 use Rattle.capn_canon.proofs.OneSegment.{names-empty}
-use Rattle.capn_canon.proofs.PassLeads.{if-some, behind, come, finds-none, finds-null, finds-empty, finds-links}
+use Rattle.capn_canon.proofs.PassLeads.{if-some, behind, come, finds-none, finds-null, finds-empty}
 use Rattle.capn_canon.proofs.PassLeads.{finds-bare-rows, finds-no-rows, finds-row, goes-behind, last-leads}
 use Rattle.capn_canon.proofs.one_pass.+pass.Goals as goal
 
@@ -67,18 +66,6 @@ check_slot-returns-then-pass-eq0-clause-only t c h =
 
 pub check_slot-returns-in-Some : goal.check_slot-returns-in-Some
 check_slot-returns-in-Some t c =
-    let go = goes-on c.args.space.now c.args.base c.args.pass c.requires.some c.requires.opened c.in-Some.progress
-    c.in-Some.ensures.found c.behind-in-Some.result c.behind-in-Some.ensures in
-    record { found = go.found; only = go.only }
-
-pub check_slot-returns-in-None-clause-only : goal.check_slot-returns-in-None-clause-only
-check_slot-returns-in-None-clause-only t c h =
-    let e = c.in-None.ensures.only
-    (due-first c.args.space.now c.args.base c.args.pass c.requires.some c.requires.opened h) in
-    absurd (cc)
-
-pub check_slot-returns-in-Some-paid : goal.check_slot-returns-in-Some-paid
-check_slot-returns-in-Some-paid t c =
     let all = c.args.space.now in
     let p = c.args.pass in
     let opened = c.requires.opened in
@@ -89,14 +76,14 @@ check_slot-returns-in-Some-paid t c =
     let o : HasObject all p = record { some = s; opened = opened; deep = omega arith } in
     let room = segment-room (all ∷ []) 0 c.requires.message (omega arith) in
     let small : length all ≤ 2 ^ 29 = omega arith in
-    let h = c.in-Some-paid.ensures.found in
-    let go = goes-on all c.args.base p s opened c.in-Some-paid.progress
+    let h = c.in-Some.ensures.found in
+    let go = goes-on all c.args.base p s opened c.in-Some.progress
     (finds-empty all c.args.base p o small (sym c.word_at-word.ensures ∙ c.if-word-eq-EMPTY.true)
-    c.in-Some-paid.progress h.0 h.1 h.2) c.behind-in-Some-paid.result c.behind-in-Some-paid.ensures in
+    c.in-Some.progress h.0 h.1 h.2) c.behind-in-Some.result c.behind-in-Some.ensures in
     record { found = go.found; only = go.only }
 
-pub check_slot-returns-in-None-paid-clause-only : goal.check_slot-returns-in-None-paid-clause-only
-check_slot-returns-in-None-paid-clause-only t c h =
+pub check_slot-returns-in-None-clause-only : goal.check_slot-returns-in-None-clause-only
+check_slot-returns-in-None-clause-only t c h =
     let all = c.args.space.now in
     let p = c.args.pass in
     let s = c.requires.some in
@@ -107,7 +94,7 @@ check_slot-returns-in-None-paid-clause-only t c h =
     let named = names-empty all p.from (sym c.word_at-word.ensures ∙ c.if-word-eq-EMPTY.true) (omega arith) in
     let cheap = (due-price all c.args.base p.from p.next p.depth p.left first p.from (shapes.Node 0 0) named
     (omega arith)).0 in
-    let e = c.in-None-paid.ensures.only (omega arith) in
+    let e = c.in-None.ensures.only (omega arith) in
     absurd (cc)
 
 pub check_slot-returns-clause-only : goal.check_slot-returns-clause-only
@@ -129,113 +116,95 @@ check_slot-returns-clause-only t c h =
 
 -- ---- a struct
 
-pub check_struct-returns-then-pass : goal.check_struct-returns-then-pass
-check_struct-returns-then-pass t c =
-    let e = c.in-Some.ensures.found in
-    record {
-      found = (
-        e.0,
-        e.1,
-        (λ q f. last-leads c.args.space.now c.args.base c.args.pass c.if-pass.true c.requires.object.opened q
-            (e.2 q f)),
-      );
-      only = λ nz h. c.in-Some.ensures.only nz
-          (due-first c.args.space.now c.args.base c.args.pass c.requires.object.some c.requires.object.opened h);
-    }
-
-pub check_struct-returns-in_default-clause-only : goal.check_struct-returns-in_default-clause-only
-check_struct-returns-in_default-clause-only t c nz h = c.in_default.ensures.only nz
+pub check_struct-returns-in-None-clause-only : goal.check_struct-returns-in-None-clause-only
+check_struct-returns-in-None-clause-only t c nz h = c.in-None.ensures.only nz
     (due-first c.args.space.now c.args.base c.args.pass c.requires.object.some c.requires.object.opened h)
 
-pub check_struct-returns-in-None-clause-only : goal.check_struct-returns-in-None-clause-only
-check_struct-returns-in-None-clause-only t c nz h =
-    let e = c.in-None.ensures.only (c.in-Some.ensures.only nz
-    (due-first c.args.space.now c.args.base c.args.pass c.requires.object.some c.requires.object.opened h)) in
+pub check_struct-returns-in-Some : goal.check_struct-returns-in-Some
+check_struct-returns-in-Some t c = record {
+  found = c.check_below.ensures.found;
+  only = λ nz h. c.check_below.ensures.only
+      (c.in-Some.ensures.only nz
+      (due-first c.args.space.now c.args.base c.args.pass c.requires.object.some c.requires.object.opened h)) h;
+}
+
+-- ---- the slots of an object
+
+pub check_below-returns-then-pass : goal.check_below-returns-then-pass
+check_below-returns-then-pass t c = record {
+  found = (
+    c.requires.later,
+    c.requires.opened,
+    (λ q f. last-leads c.args.space.now c.args.base c.args.pass c.if-pass.true c.requires.object.opened q
+        (c.requires.named q f)),
+  );
+  only = λ d h. d;
+}
+
+pub check_below-returns-in-None-clause-only : goal.check_below-returns-in-None-clause-only
+check_below-returns-in-None-clause-only t c d h =
+    let e = c.in-None.ensures.only d in
     absurd (cc)
 
-pub check_struct-returns-then-below : goal.check_struct-returns-then-below
-check_struct-returns-then-below t c =
+pub check_below-returns-then-below : goal.check_below-returns-then-below
+check_below-returns-then-below t c =
     let all = c.args.space.now in
     let p = c.args.pass in
-    let b = c.in-Some.below in
-    let e = c.in-Some.ensures.found in
+    let b = c.args.below in
     let le = c.if-below.true in
     let o = c.requires.object in
     let go = goes-on all c.args.base p o.some o.opened (come b)
-    (e.2 (come b) (finds-none all c.args.base b (omega arith) e.1)) c.behind.result
+    (c.requires.named (come b) (finds-none all c.args.base b (omega arith) c.requires.opened)) c.behind.result
     (c.behind.ensures ∙ ap (behind p) c.here.ensures) in
-    record { found = go.found; only = λ nz. go.only }
+    record { found = go.found; only = λ d. go.only }
 
-pub check_struct-returns-in-Some-check_slots : goal.check_struct-returns-in-Some-check_slots
-check_struct-returns-in-Some-check_slots t c =
-    let e = c.in-Some.ensures.found in
-    let g = c.in-Some-check_slots.progress in
+pub check_below-returns-in-Some : goal.check_below-returns-in-Some
+check_below-returns-in-Some t c =
+    let g = c.in-Some.progress in
     let o = c.requires.object in
     let go = goes-on c.args.space.now c.args.base c.args.pass o.some o.opened g
-    (e.2 g c.in-Some-check_slots.ensures.found) c.behind-in-Some-check_slots.result
-    c.behind-in-Some-check_slots.ensures in
-    record { found = go.found; only = λ nz. go.only }
+    (c.requires.named g c.in-Some.ensures.found) c.behind-in-Some.result c.behind-in-Some.ensures in
+    record { found = go.found; only = λ d. go.only }
 
--- ---- a list of pointers
+-- ---- a list
 
-pub check_links-returns-in-Some : goal.check_links-returns-in-Some
-check_links-returns-in-Some t c =
-    let all = c.args.space.now in
-    let p = c.args.pass in
-    let o = c.requires.list.object in
-    let s = o.some in
-    let before = o.opened.before in
-    let fits = o.opened.fits in
-    let room = segment-room (all ∷ []) 0 c.requires.message (omega arith) in
-    let small : length all ≤ 2 ^ 29 = omega arith in
-    let w = c.words_of.ensures in
-    let le = c.if-end-words_of.false in
-    let g = c.in-Some.progress in
-    let n = c.args.count in
-    let h = c.in-Some.ensures.found in
-    let gn = h.0 in
-    let gl = h.1 in
-    record {
-      found = if-some c.check_slots.result
-          (finds-links all c.args.base p o small n g (omega arith) c.requires.list.few c.requires.list.word h.0 h.1 h.2)
-          c.check_slots.ensures.found;
-      only = λ f.
-          let k = due-links all c.args.base p.from p.next p.depth p.left f small (omega arith) o.deep n
-          c.requires.list.few c.requires.list.word in
-          let cheap = k.cheap in
-          c.check_slots.ensures.only
-          (same-due all c.args.base p.next p.next n (p.next + n - p.next) (p.next + n) g.next (p.depth - 1)
-          (p.left - (c.args.base + n)) g.left refl (omega arith) (omega arith) (omega arith) k.below);
-    }
+pub check_list-returns-in-Some : goal.check_list-returns-in-Some
+check_list-returns-in-Some t c = record {
+  found = c.check_below.ensures.found;
+  only = λ h. c.check_below.ensures.only
+      (c.in-Some.ensures.only
+      (due-first c.args.space.now c.args.base c.args.pass c.requires.object.some c.requires.object.opened h)) h;
+}
 
-pub check_links-returns-then-end-words_of-clause-only : goal.check_links-returns-then-end-words_of-clause-only
-check_links-returns-then-end-words_of-clause-only t c h =
-    let all = c.args.space.now in
-    let p = c.args.pass in
-    let o = c.requires.list.object in
-    let s = o.some in
-    let before = o.opened.before in
-    let fits = o.opened.fits in
-    let room = segment-room (all ∷ []) 0 c.requires.message (omega arith) in
-    let w = c.words_of.ensures in
-    let gt = c.if-end-words_of.true in
-    let k = due-links all c.args.base p.from p.next p.depth p.left h (omega arith) (omega arith) o.deep c.args.count
-    c.requires.list.few c.requires.list.word in
-    let r = k.room in
-    absurd (omega arith)
+pub check_list-returns-in-None-clause-only : goal.check_list-returns-in-None-clause-only
+check_list-returns-in-None-clause-only t c h = c.in-None.ensures.only
+    (due-first c.args.space.now c.args.base c.args.pass c.requires.object.some c.requires.object.opened h)
 
-pub check_links-returns-in-None-clause-only : goal.check_links-returns-in-None-clause-only
-check_links-returns-in-None-clause-only t c h =
-    let all = c.args.space.now in
-    let p = c.args.pass in
-    let o = c.requires.list.object in
-    let s = o.some in
-    let before = o.opened.before in
-    let fits = o.opened.fits in
-    let room = segment-room (all ∷ []) 0 c.requires.message (omega arith) in
-    let k = due-links all c.args.base p.from p.next p.depth p.left h (omega arith) (omega arith) o.deep c.args.count
-    c.requires.list.few c.requires.list.word in
-    let e = c.in-None.ensures.only k.cheap in
+pub check_list-returns-in-Some-check_composite : goal.check_list-returns-in-Some-check_composite
+check_list-returns-in-Some-check_composite t c =
+    let o = c.requires.object in
+    let go = goes-on c.args.space.now c.args.base c.args.pass o.some o.opened c.in-Some-check_composite.progress
+    c.in-Some-check_composite.ensures.found c.behind.result c.behind.ensures in
+    record { found = go.found; only = go.only }
+
+pub check_list-returns-in-Some-check_numbers : goal.check_list-returns-in-Some-check_numbers
+check_list-returns-in-Some-check_numbers t c =
+    let o = c.requires.object in
+    let go = goes-on c.args.space.now c.args.base c.args.pass o.some o.opened c.in-Some-check_numbers.progress
+    c.in-Some-check_numbers.ensures.found c.behind-in-Some-check_numbers.result
+    c.behind-in-Some-check_numbers.ensures in
+    record { found = go.found; only = go.only }
+
+pub check_list-returns-in-None-check_composite-clause-only : goal.check_list-returns-in-None-check_composite-clause-only
+check_list-returns-in-None-check_composite-clause-only t c h =
+    let e = c.in-None-check_composite.ensures.only
+    (due-first c.args.space.now c.args.base c.args.pass c.requires.object.some c.requires.object.opened h) in
+    absurd (cc)
+
+pub check_list-returns-in-None-check_numbers-clause-only : goal.check_list-returns-in-None-check_numbers-clause-only
+check_list-returns-in-None-check_numbers-clause-only t c h =
+    let e = c.in-None-check_numbers.ensures.only
+    (due-first c.args.space.now c.args.base c.args.pass c.requires.object.some c.requires.object.opened h) in
     absurd (cc)
 
 -- ---- the slots of rows

@@ -4,14 +4,17 @@ use Rattle.capn_canon.specs.inner.Due.{Due, DueRows}
 use Rattle.capn_canon.specs.inner.InPlace.{IsOpen, Leads, FindsRows}
 use Rattle.capn_canon.proofs.one_pass.+pass.Given as goal
 
+abbrev pub decreases-check_below : goal.decreases-check_below
+decreases-check_below l = 5 * (length l.space.now - l.pass.from)
+
 abbrev pub decreases-check_composite : goal.decreases-check_composite
 decreases-check_composite l = 5 * (length l.space.now - l.pass.from)
 
-abbrev pub decreases-check_links : goal.decreases-check_links
-decreases-check_links l = 5 * (length l.space.now - l.pass.from)
-
 abbrev pub decreases-check_list : goal.decreases-check_list
 decreases-check_list l = 5 * (length l.space.now - l.pass.from) + 1
+
+abbrev pub decreases-check_object : goal.decreases-check_object
+decreases-check_object l = 5 * (length l.space.now - l.pass.from) + 4
 
 abbrev pub decreases-check_rows : goal.decreases-check_rows
 decreases-check_rows l = 5 * (length l.space.now - l.pass.from) + 4
