@@ -12,5 +12,5 @@ returns-clause-some c =
     puts_raw bytes at more _ _ c.requires.inside c.requires.tag (omega arith) run.inside run.dense
     (λ less. run.last (omega arith))
     (raw_packed bytes c.args.block.now c.store_bytes.new.block c.store_bytes-2.new.block c.store_bytes-3.new.block
-    c.store_bytes-4.new.block at more c.args.fill (omega arith) (omega arith) (omega arith) c.store_bytes.ensures
-    c.store_bytes-2.ensures c.store_bytes-3.ensures c.store_bytes-4.ensures)
+    c.store_bytes-4.new.block at more c.args.fill (omega arith) (omega arith) (omega arith) (omega arith)
+    c.store_bytes.ensures c.store_bytes-2.ensures c.store_bytes-3.ensures c.store_bytes-4.ensures)
