@@ -51,9 +51,9 @@ fn store_raw(bytes: &[u8], at: usize, block: &mut [u8], fill: usize) -> Option<B
     if more == 8 {
         return None;
     }
-    store_bytes(block, fill, &[255]);
-    // The word and any eight bytes: a store of the word alone would take it out of its lanes for every group.
-    store_bytes(block, fill + 1, &bytes[at..at + 16]);
+    // The word stays in its lanes, as where a group has no more than it.
+    let word = word_at(bytes, at);
+    store(block, fill, gather(word, 255));
     store_bytes(block, fill + 9, &[more as u8]);
     store_bytes(block, fill + 10, &bytes[start..start + SPAN]);
     Some(Block {
@@ -103,8 +103,8 @@ fn store_group(bytes: &[u8], at: usize, block: &mut [u8], fill: usize) -> Option
     let word = word_at(bytes, at);
     let tag = tag(&word);
     match tag {
-        0 => Some(store_zeros(bytes, at, block, fill)),
         255 => store_raw(bytes, at, block, fill),
+        0 => Some(store_zeros(bytes, at, block, fill)),
         _ => Some(Block {
             fill: store_named(block, fill, word, tag),
             at: at + 8,
