@@ -1,7 +1,11 @@
 -- A span of bytes is written whole, and a front of it counts.
-use Rattle.std.proofs.Common.{◌≡◌, ℕ, ◌+◌, ◌-◌, ◌*◌, ◌≤◌, List, [], ◌∷◌, ◌++◌, length, take, drop, slice_range, sym, ap}
-use Rattle.std.proofs.Common.{◌∙◌, arith, append_assoc, length-take, length-drop}
+use Rattle.std.proofs.Common.{◌≡◌, ℕ, zero, suc, ◌+◌, ◌-◌, ◌*◌, ◌/◌, ◌^◌, ◌≤◌, List, [], ◌∷◌, ◌++◌, length, take, drop}
+use Rattle.std.proofs.Common.{slice_range, refl, sym, ap, ◌∙◌, arith, append_assoc, length-take, length-drop}
 use Rattle.std.proofs.lemmas.List.{take-take}
+use Rattle.std.proofs.Math.Nat.{two-pow-succ}
+use Rattle.std.specs.Prelude.{count_ones}
+use Rattle.capn_pack.specs.Packed.{named_bytes}
+use Rattle.capn_pack.proofs.shared.SpreadLemmas.{named_one}
 use Rattle.capn_pack.proofs.LaneLemmas.{stored}
 
 -- the front of a range
@@ -22,30 +26,42 @@ span_stored xs old new a at n few far inside s =
     stored old span new (slice_range xs a (a + n)) at 64 n (at + n) (omega arith) inside few
     (ap (λ k. take k new) all ∙ s) (span_front xs a n 64 few)
 
--- what four writes leave: the tag, the first word, the number of those after it, and a span that begins with them
-pub raw_packed : (bytes old a b c new : List ℕ) (at more fill : ℕ) → more ≤ 8 → at + 8 + 64 ≤ length bytes
-    → fill + 10 ≤ length c → take (fill + 1) a ≡ take fill old ++ 255 ∷ []
-    → take (fill + 1 + length (slice_range bytes at (at + 8))) b ≡ take (fill + 1) a ++ slice_range bytes at (at + 8)
+-- a tag of ones names each byte
+ones_name : (n tag : ℕ) (xs : List ℕ) → length xs ≡ n → tag + 1 ≡ 2 ^ n → named_bytes tag xs ≡ xs
+ones_name n tag [] long h = refl
+ones_name zero tag (x ∷ xs) long h = absurd (omega arith)
+ones_name (suc n) tag (x ∷ xs) long h =
+    named_one tag x xs (omega (arith, h, two-pow-succ n))
+    ∙ ap (λ l. x ∷ l) (ones_name n (tag / 2) xs (omega arith) (omega (arith, h, two-pow-succ n)))
+
+-- what a write of sixteen lanes leaves: the tag and the word
+pub raw_head : (bytes old lanes new : List ℕ) (at fill : ℕ) → at + 8 ≤ length bytes → fill ≤ length old
+    → take (fill + 16) new ≡ take fill old ++ lanes
+    → take (1 + count_ones 255) lanes ≡ 255 ∷ named_bytes 255 (take 8 (drop at bytes))
+    → take (fill + 9) new ≡ take fill old ++ 255 ∷ take 8 (drop at bytes)
+unfolding lib.Count.ones
+raw_head bytes old lanes new at fill room inside written front =
+    let word = take 8 (drop at bytes) in
+    let long : length word ≡ 8 = simp (length-take, length-drop) (omega arith) in
+    let whole : 255 ∷ named_bytes 255 word ≡ 255 ∷ word = ap (λ l. 255 ∷ l) (ones_name 8 255 word long refl) in
+    stored old lanes new (255 ∷ word) fill 16 9 (fill + 9) refl inside (omega arith) written (front ∙ whole)
+
+-- what three writes leave: the tag and the first word, the number of those after it, and a span that begins with them
+pub raw_packed : (bytes old b c new : List ℕ) (at more fill : ℕ) → more ≤ 8 → at + 8 + 64 ≤ length bytes
+    → fill + 10 ≤ length c → take (fill + 9) b ≡ take fill old ++ 255 ∷ take 8 (drop at bytes)
     → take (fill + 9 + 1) c ≡ take (fill + 9) b ++ more ∷ []
     → take (fill + 10 + length (slice_range bytes (at + 8) (at + 8 + 64))) new
     ≡ take (fill + 10) c ++ slice_range bytes (at + 8) (at + 8 + 64)
     → take (fill + 10 + 8 * more) new
     ≡ take fill old ++ (255 ∷ take 8 (drop at bytes) ++ more ∷ slice_range bytes (at + 8) (at + 8 + 8 * more))
-raw_packed bytes old a b c new at more fill few far inside p q r s =
-    let first = slice_range bytes at (at + 8) in
-    let word = take 8 (drop at bytes) in
+raw_packed bytes old b c new at more fill few far inside q r s =
     let copied = slice_range bytes (at + 8) (at + 8 + 8 * more) in
-    let size : at + 8 - at ≡ 8 = omega arith in
-    let is : first ≡ word = ap (λ n. take n (drop at bytes)) size in
-    let eight : length first ≡ 8 = simp (length-take, length-drop) (omega arith) in
-    let nine : fill + 9 ≡ fill + 1 + length first = omega (arith, eight) in
     let ten : fill + 10 ≡ fill + 9 + 1 = omega arith in
     span_stored bytes c new (at + 8) (fill + 10) (8 * more) (omega arith) far inside s
-    ∙ ap (λ l. l ++ copied) (ap (λ k. take k c) ten ∙ r
-    ∙ ap (λ l. l ++ more ∷ []) (ap (λ k. take k b) nine ∙ q ∙ (λ i. p i ++ is i)))
-    ∙ regroup (take fill old) word copied
+    ∙ ap (λ l. l ++ copied) (ap (λ k. take k c) ten ∙ r ∙ ap (λ l. l ++ more ∷ []) q)
+    ∙ regroup (take fill old) (take 8 (drop at bytes)) copied
   where
-    regroup : (xs ys zs : List ℕ) → (((xs ++ 255 ∷ []) ++ ys) ++ more ∷ []) ++ zs ≡ xs ++ (255 ∷ ys ++ more ∷ zs)
+    regroup : (xs ys zs : List ℕ) → ((xs ++ 255 ∷ ys) ++ more ∷ []) ++ zs ≡ xs ++ (255 ∷ ys ++ more ∷ zs)
     regroup xs ys zs = simp append_assoc
 
 -- what two writes leave: the first word, and a span that begins with those after it

@@ -51,8 +51,9 @@ fn store_raw(bytes: &[u8], at: usize, block: &mut [u8], fill: usize) -> Option<B
     if more == 8 {
         return None;
     }
-    store_bytes(block, fill, &[255]);
-    store_bytes(block, fill + 1, &bytes[at..start]);
+    // The word stays in its lanes, as where a group has no more than it.
+    let word = word_at(bytes, at);
+    store(block, fill, gather(word, 255));
     store_bytes(block, fill + 9, &[more as u8]);
     store_bytes(block, fill + 10, &bytes[start..start + SPAN]);
     Some(Block {
@@ -101,14 +102,13 @@ fn store_group(bytes: &[u8], at: usize, block: &mut [u8], fill: usize) -> Option
 {
     let word = word_at(bytes, at);
     let tag = tag(&word);
-    // One test, by which most words go: neither no byte is zero nor each.
     match tag {
-        1..=254 => Some(Block {
+        255 => store_raw(bytes, at, block, fill),
+        0 => Some(store_zeros(bytes, at, block, fill)),
+        _ => Some(Block {
             fill: store_named(block, fill, word, tag),
             at: at + 8,
         }),
-        0 => Some(store_zeros(bytes, at, block, fill)),
-        _ => store_raw(bytes, at, block, fill),
     }
 }
 

@@ -2,7 +2,7 @@ use Rattle.std.proofs.Common.{arith, ap, subst, ◌≡◌, ◌<◌, ◌∙◌, r
 use Rattle.std.proofs.Common.{◌+◌, ◌-◌, ◌*◌, ◌^◌, ◌≤◌}
 use Rattle.capn_pack.specs.Packed.Group.{Raw}
 use Rattle.capn_pack.specs.inner.Steps.{Takes}
-use Rattle.capn_pack.proofs.shared.GroupLemmas.{take_raw_text, raw_is_group, length_rest, byte_of_rest}
+use Rattle.capn_pack.proofs.shared.GroupLemmas.{take_raw_text, raw_is_group, byte_of_rest}
 use Rattle.capn_pack.proofs.SpanLemmas.{raw_unpacked}
 use Rattle.capn_pack.proofs.unpack_block.fill_raw.Goals as goal
 
