@@ -34,7 +34,7 @@ unpacking = record { gives = IsUnpacked; settles = UnpacksTo; begins = λ bytes 
 
 -- the most words that are held at once
 abbrev pub most_words : ℕ
-most_words = 65536
+most_words = 16384
 
 -- The words of the first whole groups were written, of as many as are held at once, and this stands next; or the run
 -- stopped among these bytes.

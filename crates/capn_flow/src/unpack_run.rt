@@ -19,7 +19,7 @@ const CHUNK: usize = 65_536;
 const UNFINISHED: usize = 2049;
 
 /// The most words that are held at once. No group has as many.
-const WORDS: u32 = 65_536;
+const WORDS: u32 = 16_384;
 
 /// Writes the words of the whole groups that stand first, of as many as are held at once.
 fn write_some<W: Write, A: Allocator + Copy>(
@@ -75,8 +75,8 @@ fn end_of_unpacking(rest: &[u8], offset: u64) -> Result<(), FlowFault>
 /// maximum of words. The run ends as done, or with the first fault: `Io` exactly if the reader or the writer failed;
 /// `Memory` if a growth was refused; `InputTooLong` if there are more bytes; `Cut`, with the offset of its tag, if the
 /// input ends within a group. The words of whole groups before it were written; after `Memory` and `Io` a beginning of
-/// them. It holds a chunk, an unfinished group of at most 2,049 bytes, and up to 65,536 words, which it writes at once,
-/// in room that grows by doubling: at most 2 MiB, whatever comes.
+/// them. It holds a chunk, an unfinished group of at most 2,049 bytes, and up to 16,384 words, which it writes at once,
+/// in room that grows by doubling: less than 512 KiB, whatever comes.
 pub fn unpack_stream<R: Read, W: Write, A: Allocator + Copy>(
     alloc: A,
     reader: &mut Watched<R>,
