@@ -46,7 +46,10 @@ fn make_all<W: Write, A: Allocator + Copy>(
 /// of it, which is written before the next text is read. What a text announces is never allocated.
 ///
 /// An input that is refused whatever follows isn't read to its end: if n bytes are enough to refuse it, by a text that
-/// stands there with its line `end` or by a wrong line with its line end, at most 4 n + 65,536 bytes are taken.
+/// stands there with its line `end`, by one that goes too deep, or by a wrong line with its line end, at most
+/// 4 n + 65,536 bytes are taken. To test for that, the texts so far are read each time there are four times as many
+/// bytes. A wrong line without its line end may be the beginning of one that isn't wrong, so a single line is read
+/// however long it is.
 pub fn make<R: Read, W: Write, A: Allocator + Copy>(
     alloc: A,
     form: Form,
