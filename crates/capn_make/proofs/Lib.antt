@@ -9,3 +9,8 @@ pub mod OneReading
 pub mod OneRefusal
 pub mod OneBare
 pub mod ShownTexts
+pub mod WhateverFollows
+pub mod Endings
+pub mod PassedTexts
+pub mod TestedInput
+pub mod ToldRefusal

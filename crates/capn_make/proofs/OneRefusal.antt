@@ -29,7 +29,7 @@ text_some v more e =
     let z : length {A = ℕ} [] ≡ 0 = refl in
     absurd (omega arith)
 
-nil_front : (x y : List ℕ) → [] ≡ x ++ y → x ≡ []
+pub nil_front : (x y : List ℕ) → [] ≡ x ++ y → x ≡ []
 nil_front [] y e = refl
 nil_front (x ∷ xs) y e = absurd cc
 

@@ -1,5 +1,5 @@
 -- How a run ends that has read its input, or has not.
-use Rattle.std.proofs.Common.{◌≡◌, ◌⊎◌, inl, inr, ◌↔◌, ℕ, List, [], length, Bool, true, false}
+use Rattle.std.proofs.Common.{◌≡◌, ◌⊎◌, inl, inr, ◌↔◌, ℕ, List, [], ◌++◌, length, Bool, true, false}
 use Rattle.std.proofs.Common.{Option, Some, None, IfSome, Result, Ok, Err, refl, sym, ap, subst, arith}
 use Rattle.std.proofs.Math.Seq.{take_all}
 use Rattle.std.specs.Io.KnownBytes.{Appends, Consumes, IsAtEnd}
@@ -9,7 +9,9 @@ use Rattle.capn_canon.specs.declared.form.Form.{Form}
 use Rattle.capn_canon.specs.declared.form.Form.TheVariants as forms
 use Rattle.capn_make.specs.MadeInput.{Makes, MakesEach, IsNotOne}
 use Rattle.capn_make.specs.MakeRun.{HasBegunEach, HasBegunText, EndsAs, Made}
-use Rattle.capn_make.specs.inner.RunParts.{ReadsAll, Sends}
+use Rattle.capn_make.specs.Endings.{IsWhole, IsRefusedForGood}
+use Rattle.capn_make.specs.Laws.{FaultStays, OneEnding, MakingEnds}
+use Rattle.capn_make.specs.inner.RunParts.{ReadsInput, Sends}
 use Rattle.capn_make.specs.declared.fault.MakeFault.{MakeFault}
 use Rattle.capn_make.specs.declared.fault.MakeFault.TheVariants as faults
 
@@ -32,21 +34,21 @@ unread_ends form (Some input) c fault (inl memory) = inl memory
 unread_ends form (Some input) c fault (inr io) = inr (inl io)
 
 pub unread_made : (A : Type 0) (form : Form) (a b c : Option (List ℕ)) (read wrote : Bool) (fault : MakeFault)
-    → ReadsAll {A = A} a b read (Err fault) → wrote ≡ false → Made form a b c c read wrote (Err fault)
-unread_made A form a b c read wrote fault (bytes, consumed, inl (memory, fine)) kept = record {
+    → ReadsInput {A = A} form a b read (Err fault) → wrote ≡ false → Made form a b c c read wrote (Err fault)
+unread_made A form a b c read wrote fault (bytes, consumed, time, inl (memory, fine)) kept = record {
   exact = unread_ends form a c fault (inl memory);
   io = (λ e. absurd cc, λ f. absurd (nobody read wrote fine kept f));
   begun = (bytes, consumed, none_begun form bytes c);
   unread = λ e. Appends-nil c;
 }
-unread_made A form a b c read wrote fault (bytes, consumed, inr (io, broken)) wrote_fine = record {
+unread_made A form a b c read wrote fault (bytes, consumed, time, inr (io, broken)) wrote_fine = record {
   exact = unread_ends form a c fault (inr io);
   io = (λ e. inl broken, λ f. ap (λ x. Err x) io);
   begun = (bytes, consumed, none_begun form bytes c);
   unread = λ e. Appends-nil c;
 }
 
--- ---- all was read
+-- ---- all was read, or enough
 
 all_begun : (a b : Option (List ℕ)) (text : List ℕ) → Appends a b text → HasBegun a b text
 all_begun a b text written =
@@ -74,13 +76,44 @@ not_io forms.Stream input text h = h.4
 not_io forms.Packed input text h = h.4
 not_io forms.Bare input text h = none_io input h.1
 
-module _ (form : Form) (bytes : List ℕ) (a b c d : Option (List ℕ)) (read wrote : Bool) (consumed : Consumes a b bytes)
-    (ended : IsAtEnd b) (fine : read ≡ false) where
+-- what holds of the bytes that were read, whatever follows, holds of all
+known_whole : (a b : Option (List ℕ)) (bytes : List ℕ) (P : List ℕ → Type 0) → Consumes a b bytes
+    → ((more : List ℕ) → P (bytes ++ more)) → IfSome a P
+known_whole None b bytes P consumed h = tt
+known_whole (Some x) None bytes P consumed h = absurd consumed
+known_whole (Some x) (Some y) bytes P consumed h = subst P (sym consumed) (h y)
+
+module _ (stays : FaultStays) (one : OneEnding) (ends : MakingEnds) (form : Form) (bytes : List ℕ)
+    (c d : Option (List ℕ)) (good : IsRefusedForGood form bytes) where
+  -- a run over bytes that are refused whatever follows ends as over all
+  ends_on : (r : Result (Unit {0}) MakeFault) (more : List ℕ) → EndsAs form c d r bytes
+      → EndsAs form c d r (bytes ++ more)
+  ends_on (Ok u) more (text, makes, written) =
+      let e = one form bytes (Ok u) (Err good.0) (ends form bytes text (Ok u) makes) good.1 in
+      absurd cc
+  ends_on (Err fault) more (inl memory) = inl memory
+  ends_on (Err fault) more (inr (inl io)) = inr (inl io)
+  ends_on (Err fault) more (inr (inr (text, makes, written))) =
+      let e = one form bytes (Err fault) (Err good.0) (ends form bytes text (Err fault) makes) good.1 in
+      let same : fault ≡ good.0 = cc in
+      let whole = subst (IsWhole bytes) (sym same) good.2 in
+      inr (inr (text, stays form bytes more text fault whole makes, written))
+
+module _ (stays : FaultStays) (one : OneEnding) (ends : MakingEnds) (form : Form) (bytes : List ℕ)
+    (a b c d : Option (List ℕ)) (read wrote : Bool) (consumed : Consumes a b bytes)
+    (ended : IsAtEnd b ⊎ IsRefusedForGood form bytes) (fine : read ≡ false) where
+  ends_all : (r : Result (Unit {0}) MakeFault) → EndsAs form c d r bytes → IfSome a (EndsAs form c d r)
+  ends_all r h = elim ended [
+    | inl over ↦ Consumes-whole a b bytes (EndsAs form c d r) consumed over h
+    | inr good ↦ known_whole a b bytes (EndsAs form c d r) consumed (λ more.
+        ends_on stays one ends form bytes c d good r more h)
+  ]
+
   sent_made : (r : Result (Unit {0}) MakeFault) → EndsAs form c d r bytes
       → ((r ≡ Err faults.Io) ↔ ((read ≡ true) ⊎ (wrote ≡ true)))
       → HasBegunText form bytes c d → Made form a b c d read wrote r
-  sent_made r ends io begun = record {
-    exact = Consumes-whole a b bytes (EndsAs form c d r) consumed ended ends;
+  sent_made r made io begun = record {
+    exact = ends_all r made;
     io = io;
     begun = (bytes, consumed, begun);
     unread = λ e. absurd cc;

@@ -13,6 +13,7 @@ mod make_run;
 mod next_text;
 mod one_text;
 mod output;
+mod refusal;
 mod written_value;
 
 pub use fault::MakeFault;

@@ -2,12 +2,13 @@
 
 ghost use Rattle.std.specs.Prelude.{◌≡◌, false};
 ghost use Rattle.capn_words.specs.Watched.{inner_of, has_failed};
-ghost use Rattle.capn_make.specs.MakeRun.{Made};
+ghost use Rattle.capn_make.specs.MakeRun.{Made, StopsInTime};
 ghost use Rattle.capn_make.specs.inner.RunParts.{Sends};
 
 use crate::each_text::make_each;
 use crate::fault::MakeFault;
-use crate::input::read_all;
+use crate::input::read_input;
+use crate::laws::refusing;
 use crate::one_text::make_one;
 use capn_canon::Form;
 use capn_words::Watched;
@@ -43,6 +44,12 @@ fn make_all<W: Write, A: Allocator + Copy>(
 ///
 /// The reader is asked for at most 65,536 bytes at once. It holds all of the input, then one value and what is written
 /// of it, which is written before the next text is read. What a text announces is never allocated.
+///
+/// An input that is refused whatever follows isn't read to its end: if n bytes are enough to refuse it, by a text that
+/// stands there with its line `end`, by one that goes too deep, or by a wrong line with its line end, at most
+/// 4 n + 65,536 bytes are taken. To test for that, the texts so far are read each time there are four times as many
+/// bytes. A wrong line without its line end may be the beginning of one that isn't wrong, so a single line is read
+/// however long it is.
 pub fn make<R: Read, W: Write, A: Allocator + Copy>(
     alloc: A,
     form: Form,
@@ -51,10 +58,13 @@ pub fn make<R: Read, W: Write, A: Allocator + Copy>(
 ) -> Result<(), MakeFault>
     requires reader_fine { has_failed reader.old ≡ false }
     requires writer_fine { has_failed writer.old ≡ false }
-    ensures { Made form (R.remaining (inner_of reader.old)) (R.remaining (inner_of reader.new))
+    ensures made { Made form (R.remaining (inner_of reader.old)) (R.remaining (inner_of reader.new))
         (W.contents (inner_of writer.old)) (W.contents (inner_of writer.new)) (has_failed reader.new)
         (has_failed writer.new) result }
+    // However it ended, little more was read than was needed to know that the input is refused.
+    ensures stops { StopsInTime form (R.remaining (inner_of reader.old)) (R.remaining (inner_of reader.new)) }
 {
-    let input = read_all(alloc, reader)?;
+    refusing();
+    let input = read_input(alloc, form, reader)?;
     make_all(alloc, form, &input, writer)
 }

@@ -14,7 +14,7 @@ use capn_value::Tree;
 use std::alloc::Allocator;
 
 /// Why the next text, from a line on, is not read.
-fn unread(line: u64, fault: TextFault) -> MakeFault
+pub(crate) fn unread(line: u64, fault: TextFault) -> MakeFault
     ensures { result ≡ spec.unread line fault }
 {
     match fault {

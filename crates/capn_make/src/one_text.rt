@@ -14,7 +14,7 @@ use std::alloc::Allocator;
 use std::io::Write;
 
 /// Refuses what follows the one text, by its first line. What comes after that line isn't looked at.
-fn end_of_one(texts: &Texts) -> Result<(), MakeFault>
+pub(crate) fn end_of_one(texts: &Texts) -> Result<(), MakeFault>
     ensures { EndsOne texts.now result }
 {
     if texts.is_done() {

@@ -20,3 +20,4 @@ pub mod TreeStops
 pub mod PartStops
 pub mod FirstWrong
 pub mod WrongOrDeep
+pub mod WhateverFollows

@@ -40,7 +40,7 @@ by_end true n m x y low h = h n (omega arith)
 by_end false n m x y low h = h (suc n) (omega arith)
 
 -- lines that stand in x
-within : (n : ℕ) (x y : List ℕ) → n ≤ ended_lines x → first_lines n (x ++ y) ≡ first_lines n x
+pub within : (n : ℕ) (x y : List ℕ) → n ≤ ended_lines x → first_lines n (x ++ y) ≡ first_lines n x
 within zero x y low = refl
 within (suc n) [] y low = absurd (omega arith)
 within (suc n) (c ∷ cs) y low =
@@ -53,7 +53,7 @@ by_rest true n m x y more h = h n (omega arith)
 by_rest false n m x y more h = h (suc n) (omega arith)
 
 -- more lines than x has are all of x, and what follows
-beyond : (n : ℕ) (x y : List ℕ) → ended_lines x < n → (z : List ℕ) × (first_lines n (x ++ y) ≡ x ++ z)
+pub beyond : (n : ℕ) (x y : List ℕ) → ended_lines x < n → (z : List ℕ) × (first_lines n (x ++ y) ≡ x ++ z)
 beyond n [] y more = (first_lines n y, refl)
 beyond zero (c ∷ cs) y more = absurd (omega arith)
 beyond (suc n) (c ∷ cs) y more =
@@ -66,7 +66,7 @@ count_by : (k : Bool) (n m : ℕ) (x : ℕ → List ℕ) → suc n ≤ cond k 1 
 count_by true n m x low h = let e = h n (omega arith) in omega arith
 count_by false n m x low h = let e = h (suc n) (omega arith) in omega arith
 
-counted : (n : ℕ) (x : List ℕ) → n ≤ ended_lines x → ended_lines (first_lines n x) ≡ n
+pub counted : (n : ℕ) (x : List ℕ) → n ≤ ended_lines x → ended_lines (first_lines n x) ≡ n
 counted zero x low = refl
 counted (suc n) [] low = absurd (omega arith)
 counted (suc n) (c ∷ cs) low =

@@ -2,6 +2,7 @@
 
 ghost use Rattle.capn_text.specs.Laws.{TextsAreApart, FittingIsShowable, OneValue, OneStream, StreamGoesOn};
 ghost use Rattle.capn_text.specs.Laws.{OneWrongLine, WrongIsNotDeep, DeepIsHigh};
+ghost use Rattle.capn_text.specs.Laws.{WrongLineStays, NoTextGoesOn, DeepStays, NoBeginningComes};
 
 /// Values whose texts begin one text are equal, and so is what stands after them: no text of a value begins that of
 /// another. So one text has one value that fits and is in range.
@@ -24,4 +25,13 @@ pub fn refusals()
     ensures wrong { OneWrongLine }
     ensures deep { WrongIsNotDeep }
     ensures high { DeepIsHigh }
+{}
+
+/// What whole lines say of a text stays so whatever follows: that one of them is the first that doesn't go on, that the
+/// text goes too deep, and that the first of them is that of no value.
+pub fn whole_lines()
+    ensures wrong { WrongLineStays }
+    ensures none { NoTextGoesOn }
+    ensures deep { DeepStays }
+    ensures first { NoBeginningComes }
 {}

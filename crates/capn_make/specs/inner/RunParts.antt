@@ -1,6 +1,6 @@
 -- What the parts of a run do.
-use Rattle.std.specs.Prelude.{◌≡◌, ◌⊎◌, ℕ, ◌+◌, List, [], ◌++◌, Bool, true, false, Option, Some, None, Result, Ok, Err}
-use Rattle.std.specs.Prelude.{Vec}
+use Rattle.std.specs.Prelude.{◌≡◌, ◌⊎◌, ◌≤◌, ◌<◌, ⊤, ℕ, ◌+◌, List, [], ◌++◌, length, Bool, true, false}
+use Rattle.std.specs.Prelude.{Option, Some, None, Result, Ok, Err, Vec}
 use Rattle.std.specs.Io.KnownBytes.{Appends, Consumes, IsAtEnd}
 use Rattle.capn_value.specs.Tree.{Tree}
 use Rattle.capn_value.specs.FirstCap.{first_cap}
@@ -12,15 +12,58 @@ use Rattle.capn_canon.specs.declared.form.Form.{Form}
 use Rattle.capn_make.specs.WrittenValue.{IsMakeable, IsWrittenValue, AreMade}
 use Rattle.capn_make.specs.MadeInput.{AreFirst, IsTextRefused, IsNotOne, Follows, Makes, MakesEach, MakesOne}
 use Rattle.capn_make.specs.MadeInput.{line_after}
-use Rattle.capn_make.specs.MakeRun.{HasBegunEach, HasBegunOne, HasBegunText}
+use Rattle.capn_make.specs.MakeRun.{HasBegunEach, HasBegunOne, HasBegunText, AreInTime}
+use Rattle.capn_make.specs.Endings.{IsRefusedForGood}
 use Rattle.capn_make.specs.declared.fault.MakeFault.{MakeFault}
 use Rattle.capn_make.specs.declared.fault.MakeFault.TheVariants as faults
 
--- a reader gave all of its bytes; or it failed, or memory was refused, after some of them
-abbrev pub ReadsAll : {A : Type 0} → Option (List ℕ) → Option (List ℕ) → Bool → Result (Vec ℕ A) MakeFault → Type 0
-ReadsAll a b failed (Ok input) = Consumes a b input.items × IsAtEnd b × (failed ≡ false)
-ReadsAll a b failed (Err fault) = (bytes : List ℕ) × Consumes a b bytes
-    × (((fault ≡ faults.Memory) × (failed ≡ false)) ⊎ ((fault ≡ faults.Io) × (failed ≡ true)))
+-- the reader has failed, or memory was refused
+abbrev pub HasNotRead : Bool → MakeFault → Type 0
+HasNotRead failed fault = ((fault ≡ faults.Memory) × (failed ≡ false)) ⊎ ((fault ≡ faults.Io) × (failed ≡ true))
+
+-- A reader gave some more bytes of an input, or none at its end; or it failed, or memory was refused, after some.
+abbrev pub GivesBytes : Option (List ℕ) → Bool → List ℕ → List ℕ → List ℕ → Result Bool MakeFault → Type 0
+GivesBytes b failed old new bytes (Ok true) = (new ≡ old ++ bytes) × (0 < length bytes) × (failed ≡ false)
+GivesBytes b failed old new bytes (Ok false) = (new ≡ old) × (bytes ≡ []) × IsAtEnd b × (failed ≡ false)
+GivesBytes b failed old new bytes (Err fault) = HasNotRead failed fault
+
+-- so by one call, of at most this many bytes
+abbrev pub ReadsChunk : Option (List ℕ) → Option (List ℕ) → Bool → List ℕ → List ℕ → Result Bool MakeFault → Type 0
+ReadsChunk a b failed old new r = (bytes : List ℕ) × Consumes a b bytes × (length bytes ≤ 65536)
+    × GivesBytes b failed old new bytes r
+
+-- so many of an input's first bytes were tested, and are not refused whatever follows
+pub record HasTested (form : Form) (tested : ℕ) (input : List ℕ) : Type 0 where
+  pub front : List ℕ
+  pub rest : List ℕ
+  pub are : input ≡ front ++ rest
+  pub size : length front ≡ tested
+  pub not_yet : IsRefusedForGood form front → ⊥
+
+-- all bytes of a reader were read, or some that are refused whatever follows; or it failed, or memory was refused
+abbrev pub EndsReading : {A : Type 0} → Form → Option (List ℕ) → Bool → List ℕ → Result (Vec ℕ A) MakeFault → Type 0
+EndsReading form b failed bytes (Ok input) =
+    (input.items ≡ bytes) × (IsAtEnd b ⊎ IsRefusedForGood form bytes) × (failed ≡ false)
+EndsReading form b failed bytes (Err fault) = HasNotRead failed fault
+
+-- and no more than in time
+abbrev pub ReadsInput : {A : Type 0} → Form → Option (List ℕ) → Option (List ℕ) → Bool → Result (Vec ℕ A) MakeFault
+    → Type 0
+ReadsInput form a b failed r = (bytes : List ℕ) × Consumes a b bytes × AreInTime form bytes
+    × EndsReading form b failed bytes r
+
+-- whether an input is refused whatever follows, unless memory was refused
+abbrev pub TellsRefusal : {E : Type 0} → Form → List ℕ → Result Bool E → Type 0
+TellsRefusal form input (Ok true) = IsRefusedForGood form input
+TellsRefusal form input (Ok false) = IsRefusedForGood form input → ⊥
+TellsRefusal form input (Err e) = ⊤
+
+-- the next text can be made, and the place is after it; or nothing is left; or it is refused, or memory was
+abbrev pub PassesNext : Place → Place → Result Bool MakeFault → Type 0
+PassesNext old new (Ok true) = (v : Tree) × IsMakeable v × (old.rest ≡ show_text v ++ (end_line ++ new.rest))
+    × (new.line + ended_lines new.rest ≡ old.line + ended_lines old.rest)
+PassesNext old new (Ok false) = old.rest ≡ []
+PassesNext old new (Err fault) = (fault ≡ faults.Memory) ⊎ IsTextRefused old.line old.rest fault
 
 -- why the next text, from a line on, is not read
 abbrev pub unread : ℕ → TextFault → MakeFault
@@ -41,6 +84,12 @@ MakesNext form old new (Ok (Some piece)) = (v : Tree) × IsMakeable v
     × (old.rest ≡ show_text v ++ (end_line ++ new.rest)) × IsWrittenValue form v piece.items
     × (new.line + ended_lines new.rest ≡ old.line + ended_lines old.rest)
 MakesNext form old new (Err fault) = (fault ≡ faults.Memory) ⊎ IsTextRefused old.line old.rest fault
+
+-- all texts up to a place can be made
+pub record HasPassed (input : List ℕ) (place : Place) : Type 0 where
+  pub values : List Tree
+  pub first : AreFirst values input place.rest
+  pub line : place.line ≡ line_after values
 
 -- all texts up to a place were made and written
 pub record HasMade (form : Form) (input : List ℕ) (place : Place) (old new : Option (List ℕ)) : Type 0 where
