@@ -1,11 +1,12 @@
 -- The words that the bytes of a buffer stand for, as they change.
-use Rattle.std.proofs.Common.{◌≡◌, ℕ, zero, suc, ◌+◌, ◌-◌, ◌*◌, ◌/◌, ◌%◌, ◌^◌, ◌<◌, ◌≤◌, List, [], ◌∷◌, ◌++◌, length, take, drop}
+use Rattle.std.proofs.Common.{◌≡◌, ℕ, zero, suc, ◌+◌, ◌-◌, ◌*◌, ◌/◌, ◌%◌, ◌^◌, ◌<◌, ◌≤◌, List, [], ◌∷◌, ◌++◌, length}
+use Rattle.std.proofs.Common.{take, drop}
 use Rattle.std.proofs.Common.{set, slice_index, replicate, refl, ap, ap₂, sym, subst, ◌∙◌, arith, append_assoc}
-use Rattle.std.proofs.Common.{append-nil}
-use Rattle.std.proofs.Common.{length-append, length-drop}
+use Rattle.std.proofs.Common.{append-nil, length-append, length-drop}
 use Rattle.std.proofs.lemmas.List.{length-take-le, length-replicate}
 use Rattle.capn_words.specs.Message.{AreBytes, AreWords, word_bytes, bytes, words_in}
-use Rattle.capn_words.proofs.shared.Words.{AreBytes-append, AreBytes-drop, length-word_bytes, length-words_in, words_below}
+use Rattle.capn_words.proofs.shared.Words.{AreBytes-append, AreBytes-drop, length-word_bytes, length-words_in}
+use Rattle.capn_words.proofs.shared.Words.{words_below}
 use Rattle.capn_words.proofs.shared.Words.{bytes_of_words, words_of_bytes, length-bytes, bytes-take, bytes-drop}
 use Rattle.capn_canon.specs.Layout.{packed}
 use Rattle.capn_canon.specs.inner.Draft.{drafted, IsDrafted}
@@ -23,7 +24,8 @@ drafted-none = refl
 bytes-append : (xs ys : List ℕ) → bytes (xs ++ ys) ≡ bytes xs ++ bytes ys
 bytes-append [] ys = refl
 bytes-append (x ∷ xs) ys =
-    ap (λ (zs : List ℕ). word_bytes x ++ zs) (bytes-append xs ys) ∙ sym (append_assoc (word_bytes x) (bytes xs) (bytes ys))
+    ap (λ (zs : List ℕ). word_bytes x ++ zs) (bytes-append xs ys)
+    ∙ sym (append_assoc (word_bytes x) (bytes xs) (bytes ys))
 
 -- the words of bytes are those whose bytes they are
 drafted-of : (ws bs : List ℕ) → AreWords ws → bs ≡ bytes ws → drafted bs ≡ ws
@@ -86,7 +88,8 @@ module _ (bs : List ℕ) (is : IsDrafted bs) where
           omega arith;
       bytes =
           subst AreBytes (sym written)
-          (AreBytes-append (take (8 * at) bs) (word_bytes w ++ drop (8 * at + 8) bs) (AreBytes-take (8 * at) bs is.bytes)
+          (AreBytes-append (take (8 * at) bs) (word_bytes w ++ drop (8 * at + 8) bs)
+          (AreBytes-take (8 * at) bs is.bytes)
           (AreBytes-append (word_bytes w) (drop (8 * at + 8) bs) (AreBytes-word w)
           (AreBytes-drop (8 * at + 8) bs is.bytes)));
     }

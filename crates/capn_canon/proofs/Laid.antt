@@ -144,7 +144,8 @@ laid-slots-is (suc n) (tree t ts) q (x ∷ hs) r m to h k eh le em et =
     let q1 = q ++ (w ∷ []) in
     let r1 = r ++ lay t to in
     let lq1 : length q1 ≡ suc m = length-append q (w ∷ []) ∙ omega arith in
-    let lr1 : length r1 ≡ length r + size t = length-append r (lay t to) ∙ (let b = length-lay t to h.0 in omega arith) in
+    let lr1 : length r1 ≡ length r + size t = length-append r (lay t to)
+    ∙ (let b = length-lay t to h.0 in omega arith) in
     let set_is : set p m (point t m (length p)) ≡ p1 =
     ap (λ (k : ℕ). set p m (point t m k)) lp ∙ ap (λ (k : ℕ). set p k w) (sym em) ∙ set-front q (hs ++ r) x w in
     let moved : laid t p1 ≡ q1 ++ (hs ++ r1) =

@@ -1,6 +1,6 @@
 -- The own words of an object are appended.
-use Rattle.std.proofs.Common.{◌≡◌, ℕ, ◌+◌, ◌*◌, ◌^◌, ◌<◌, ◌≤◌, List, [], ◌∷◌, ◌++◌, length, set, refl, ap, ap₂, sym, subst}
-use Rattle.std.proofs.Common.{◌∙◌, arith, append-nil, length-append}
+use Rattle.std.proofs.Common.{◌≡◌, ℕ, ◌+◌, ◌*◌, ◌^◌, ◌<◌, ◌≤◌, List, [], ◌∷◌, ◌++◌, length, set, refl, ap, ap₂, sym}
+use Rattle.std.proofs.Common.{subst, ◌∙◌, arith, append-nil, length-append}
 use Rattle.std.specs.Prelude.{pos}
 use Rattle.capn_words.specs.Pointers.{word_of}
 use Rattle.capn_words.specs.declared.pointer.Pointer.TheVariants.{Node}
@@ -12,7 +12,8 @@ use Rattle.capn_canon.specs.inner.Ready.{IsBlock, IsOpened}
 use Rattle.capn_canon.specs.inner.Sound.{AreWide, Sound}
 use Rattle.capn_canon.specs.inner.Source.{IsStruct, AreLinks, AreStructs, IsGrown}
 use Rattle.capn_canon.proofs.KeptLengths.{kept_words-le, kept_slots-le}
-use Rattle.capn_canon.proofs.Blocks.{struct-block, links-block, rows-block, tag_of_rows, point-struct, point-links, point-rows}
+use Rattle.capn_canon.proofs.Blocks.{struct-block, links-block, rows-block, tag_of_rows, point-struct, point-links}
+use Rattle.capn_canon.proofs.Blocks.{point-rows}
 
 block-at : (v : Tree) (tag : List ℕ) (a b x y : ℕ) (bs : Bodies) → IsBlock v tag a b bs → x ≡ a → y ≡ b
     → IsBlock v tag x y bs
@@ -101,7 +102,8 @@ module _ (n : ℕ) (v : Tree) (bs : Bodies) (h : AreStructs n v bs) (sound : Sou
       let tagged : tag ≡ tag_of_rows bs =
       et ∙ ap (λ (j : ℕ). word_of (Node (pos j) a b)) (sym h.1)
       ∙ ap₂ (λ (x y : ℕ). word_of (Node (pos (count_rows bs)) x y)) ea eb in
-      let k : n * (a + b) ≡ n * (kept_words_of_rows bs + kept_slots_of_rows bs) = ap (λ (x : ℕ). n * x) (ap₂ ◌+◌ ea eb) in
+      let k : n * (a + b) ≡ n * (kept_words_of_rows bs + kept_slots_of_rows bs) =
+      ap (λ (x : ℕ). n * x) (ap₂ ◌+◌ ea eb) in
       opened v bs (tag_of_rows bs ∷ []) from word first a b p r t
       (block-at v (tag_of_rows bs ∷ []) _ _ a b bs (rows-block n v bs h sound) ea eb)
       (ew ∙ ap (list_to from (length p) Rows) k ∙ sym (point-rows n v bs from (length p) h))

@@ -1,6 +1,6 @@
 -- One slot after the other is laid out, and one row after the other.
-use Rattle.std.proofs.Common.{◌≡◌, ℕ, zero, suc, ◌+◌, ◌-◌, ◌*◌, ◌^◌, ◌<◌, ◌≤◌, List, [], ◌∷◌, ◌++◌, length, set, refl, ap}
-use Rattle.std.proofs.Common.{sym, subst, ◌∙◌, arith, append-nil}
+use Rattle.std.proofs.Common.{◌≡◌, ℕ, zero, suc, ◌+◌, ◌-◌, ◌*◌, ◌^◌, ◌<◌, ◌≤◌, List, [], ◌∷◌, ◌++◌, length, set, refl}
+use Rattle.std.proofs.Common.{ap, sym, subst, ◌∙◌, arith, append-nil}
 use Rattle.std.proofs.lemmas.List.{length-set}
 use Rattle.capn_words.specs.Pointers.{word_of}
 use Rattle.capn_words.specs.declared.pointer.Pointer.TheVariants.{Cap}
@@ -11,8 +11,8 @@ use Rattle.capn_canon.specs.Layout.{size, sizes, sizes_in_rows, point, lay, word
 use Rattle.capn_canon.specs.inner.LayoutSteps.{laid, laid_slots, laid_rows, past, rows_past, slots_at}
 use Rattle.capn_canon.specs.inner.Ready.{IsReady, AreReady, IsLaid, AreLaid, RowsReady, RowsLaid}
 use Rattle.capn_canon.specs.inner.Sound.{AreWide, Sound, Sounds, SoundRows}
-use Rattle.capn_canon.proofs.Laid.{laid-is, length-laid, slots-none, slots-next, rows-none, rows-next, past-next, sound-at}
-use Rattle.capn_canon.proofs.Laid.{height-at, row-at, length-slots}
+use Rattle.capn_canon.proofs.Laid.{laid-is, length-laid, slots-none, slots-next, rows-none, rows-next, past-next}
+use Rattle.capn_canon.proofs.Laid.{sound-at, height-at, row-at, length-slots}
 
 -- the next slot
 module _ {S : Type 0} (has : S → ℕ → Tree → Type 0) (source : S) (n depth i : ℕ) (lt : i < n) where
@@ -34,7 +34,8 @@ module _ {S : Type 0} (has : S → ℕ → Tree → Type 0) (source : S) (n dept
     grown : length q ≡ length p + size (tree_at r.values i)
     grown =
         let t = tree_at r.values i in
-        let l = length-laid t (set p (first + i) (point t (first + i) (length p))) (sound-at i r.values (let d = r.count in omega arith) r.sound) in
+        let l = length-laid t (set p (first + i) (point t (first + i) (length p)))
+        (sound-at i r.values (let d = r.count in omega arith) r.sound) in
         let k = length-set p (first + i) (point t (first + i) (length p)) in
         ap length (h t (r.are i lt)) ∙ omega arith
 
@@ -80,7 +81,8 @@ slots-start n ts first p =
     let b : first + 0 ≡ first = omega arith in
     ap (λ (j : ℕ). laid_slots j ts (first + 0) p) a ∙ ap (λ (j : ℕ). laid_slots n ts j p) b
 
-pub slots-end : (n i : ℕ) (ts : Trees) (first : ℕ) (p : List ℕ) → n ≤ i → laid_slots (n - i) (past i ts) (first + i) p ≡ p
+pub slots-end : (n i : ℕ) (ts : Trees) (first : ℕ) (p : List ℕ) → n ≤ i
+    → laid_slots (n - i) (past i ts) (first + i) p ≡ p
 slots-end n i ts first p le =
     let z : n - i ≡ 0 = omega arith in
     ap (λ (j : ℕ). laid_slots j (past i ts) (first + i) p) z ∙ slots-none (past i ts) (first + i) p
@@ -88,7 +90,8 @@ slots-end n i ts first p le =
 -- the next row
 module _ {S R : Type 0} (has : S → ℕ → Tree → Type 0) (are : R → Bodies → Type 0) (rows : R) (source : S)
     (n a b depth i : ℕ) (lt : i < n)
-    (slots : (bs : Bodies) → are rows bs → (k : ℕ) → k < count (slots_at bs i) → has source k (tree_at (slots_at bs i) k))
+    (slots : (bs : Bodies) → are rows bs → (k : ℕ) → k < count (slots_at bs i)
+    → has source k (tree_at (slots_at bs i) k))
   where
     module _ (len : ℕ) (r : RowsReady are rows i n a b depth len) where
       here : i < count_rows r.values

@@ -1,11 +1,11 @@
 -- What a value is, as what is laid out.
-use Rattle.std.proofs.Common.{◌≡◌, ℕ, zero, suc, ◌+◌, ◌*◌, ◌^◌, ◌<◌, ◌≤◌, List, [], ◌∷◌, ◌++◌, length, take, map, replicate}
-use Rattle.std.proofs.Common.{refl, ap, sym, subst, ◌∙◌, arith, append_assoc, append-nil, get_or, Bool}
+use Rattle.std.proofs.Common.{◌≡◌, ℕ, zero, suc, ◌+◌, ◌*◌, ◌^◌, ◌<◌, ◌≤◌, List, [], ◌∷◌, ◌++◌, length, take, map}
+use Rattle.std.proofs.Common.{replicate, refl, ap, sym, subst, ◌∙◌, arith, append_assoc, append-nil, get_or, Bool}
 use Rattle.std.proofs.lemmas.List.{length-replicate}
 use Rattle.std.specs.Int.{from_bool}
 use Rattle.capn_words.specs.declared.pointer.Width.TheVariants.{W0, W1, W8, W16, W32, W64}
-use Rattle.capn_value.specs.Tree.{Tree, node, voids, bits, bytes, pairs, quads, octs, links, rows, Trees, no_trees, tree}
-use Rattle.capn_value.specs.Tree.{tree_at, count, Bodies, no_bodies, body, count_rows}
+use Rattle.capn_value.specs.Tree.{Tree, node, voids, bits, bytes, pairs, quads, octs, links, rows, Trees, no_trees}
+use Rattle.capn_value.specs.Tree.{tree, tree_at, count, Bodies, no_bodies, body, count_rows}
 use Rattle.capn_value.specs.TreeOf.{tree_of, trees_of, rows_of}
 use Rattle.capn_value.specs.Trim.{kept_words, kept_slots, kept_words_of_rows, kept_slots_of_rows}
 use Rattle.capn_value.specs.Views.{count-trees_of, count_rows-rows_of}
@@ -166,10 +166,17 @@ zeros-over a b (body ws ss bs) =
 pub zeros-grown : (a b : ℕ) (bs : Bodies) (p q : List ℕ) → q ≡ p ++ zero_rows a b bs → IsGrown a b bs p q
 zeros-grown a b bs p q e = record { cells = zero_rows a b bs; over = zeros-over a b bs; grown = e }
 
-pub slots-grown : (a b : ℕ) (ts : Trees) (p q : List ℕ) → q ≡ p ++ replicate b 0 → IsGrown a b (body [] ts no_bodies) p q
+pub slots-grown : (a b : ℕ) (ts : Trees) (p q : List ℕ) → q ≡ p ++ replicate b 0
+    → IsGrown a b (body [] ts no_bodies) p q
 slots-grown a b ts p q e = record {
   cells = replicate b 0;
-  over = (replicate b 0, [], sym (append-nil (replicate b 0)) ∙ none a (replicate b 0 ++ []), length-replicate {A = ℕ} b 0, refl);
+  over = (
+    replicate b 0,
+    [],
+    sym (append-nil (replicate b 0)) ∙ none a (replicate b 0 ++ []),
+    length-replicate {A = ℕ} b 0,
+    refl,
+  );
   grown = e;
 }
   where

@@ -137,7 +137,8 @@ impl<'a, S: Space> Source for MessageSlots<'a, S> {
         }
     }
 
-    ghost one = { λ s k v w hv hw. unique (S.message s.space.now) v w (record { segment = s.start.segment; word = s.start.word + k }) hv.at hw.at };
+    ghost one = { λ s k v w hv hw. unique (S.message s.space.now) v w
+        (record { segment = s.start.segment; word = s.start.word + k }) hv.at hw.at };
 }
 
 /// What an object of a shape is.

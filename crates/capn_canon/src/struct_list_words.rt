@@ -41,8 +41,8 @@ fn push_parts<S: Space, A: Allocator>(
     draft.extend(space.bytes(below, 8 * slots as usize))
 }
 
-/// Appends `kept` of the `words` words and `below` of the `slots` slots of each of `count` rows, as they stand. Rows that
-/// are kept whole are one piece.
+/// Appends `kept` of the `words` words and `below` of the `slots` slots of each of `count` rows, as they stand. Rows
+/// that are kept whole are one piece.
 #[inline(always)]
 pub fn push_rows<S: Space, A: Allocator>(
     space: &S,

@@ -1,12 +1,15 @@
-use Rattle.std.proofs.Common.{◌≡◌, ℕ, suc, ◌+◌, ◌-◌, ◌*◌, ◌^◌, ◌<◌, ◌≤◌, List, length, set, ap, sym, subst, ◌∙◌, arith, refl}
+use Rattle.std.proofs.Common.{◌≡◌, ℕ, suc, ◌+◌, ◌-◌, ◌*◌, ◌^◌, ◌<◌, ◌≤◌, List, length, set, ap, sym, subst, ◌∙◌, arith}
+use Rattle.std.proofs.Common.{refl}
 use Rattle.std.proofs.lemmas.Result.{on_ok_weaker}
 use Rattle.capn_value.specs.Tree.{Tree}
 use Rattle.capn_canon.specs.declared.source.Item.{Item}
 use Rattle.capn_canon.specs.Layout.{point, list_to}
 use Rattle.capn_canon.specs.inner.LayoutSteps.{laid}
 use Rattle.capn_canon.specs.inner.Source.{IsItem}
-use Rattle.capn_canon.proofs.Blocks.{opened-room, opened-first, one-ready, one-laid, all-ready, all-inside, all-laid, struct-one, links-one}
-use Rattle.capn_canon.proofs.Stepwise.{next-ready, then-inside, then-ready, then-rest, slots-start, slots-end, row-ready}
+use Rattle.capn_canon.proofs.Blocks.{opened-room, opened-first, one-ready, one-laid, all-ready, all-inside, all-laid}
+use Rattle.capn_canon.proofs.Blocks.{struct-one, links-one}
+use Rattle.capn_canon.proofs.Stepwise.{next-ready, then-inside, then-ready, then-rest, slots-start, slots-end}
+use Rattle.capn_canon.proofs.Stepwise.{row-ready}
 use Rattle.capn_canon.proofs.Stepwise.{row-then-inside, row-then-ready, row-then-rest, rows-end, rows-empty, laid-plain}
 use Rattle.capn_canon.proofs.Stepwise.{laid-nil, laid-cap, one-more}
 use Rattle.capn_canon.proofs.object_layout.+objects.Goals as goal
@@ -98,10 +101,12 @@ lay_slot-lay_slots-requires g t c κs live =
     let low = o.block.low in
     let high = c.requires.ready.low in
     let are = c.slots.ensures x.0 x.2 in
-    let ready = one-ready v x.0 c.args.from c.args.draft.now c.open_struct.new.draft r.first r.words r.slots c.args.depth o c.requires.ready.room
+    let ready = one-ready v x.0 c.args.from c.args.draft.now c.open_struct.new.draft r.first r.words r.slots
+    c.args.depth o c.requires.ready.room
     c.requires.ready.low
     g.S.Source.has c.slots.result one are in
-    let inside = opened-first v x.0 c.args.from c.args.draft.now c.open_struct.new.draft r.first r.words r.slots c.args.depth o c.requires.ready.room
+    let inside = opened-first v x.0 c.args.from c.args.draft.now c.open_struct.new.draft r.first r.words r.slots
+    c.args.depth o c.requires.ready.room
     c.requires.ready.low one in
     (omega arith, (live.0, (live.1.0, (live.1.1.0, (live.1.1.1, (ready, omega arith))))))
 
@@ -117,10 +122,12 @@ lay_slot-returns-in_ok-own-in-Struct g t c =
     let one = struct-one v x.0 x.1 in
     let are = c.slots.ensures x.0 x.2 in
     let e = g.met.S.Source.one c.args.source c.args.slot w v h c.requires.ready.is in
-    one-laid v x.0 c.args.from c.args.draft.now c.open_struct.new.draft r.first r.words r.slots c.args.depth o c.requires.ready.room
+    one-laid v x.0 c.args.from c.args.draft.now c.open_struct.new.draft r.first r.words r.slots c.args.depth o
+    c.requires.ready.room
     c.requires.ready.low
     g.S.Source.has c.slots.result one are c.lay_slots.new.draft l
-    ∙ ap (λ (y : Tree). laid y (set c.args.draft.now c.args.from (point y c.args.from (length c.args.draft.now)))) (sym e))
+    ∙ ap (λ (y : Tree). laid y (set c.args.draft.now c.args.from (point y c.args.from (length c.args.draft.now))))
+    (sym e))
     c.lay_slots.ensures
 
 -- ---- a list of pointers
@@ -164,10 +171,12 @@ lay_slot-lay_slots-requires-in-Links g t c κs live =
     let low = o.block.low in
     let high = c.requires.ready.low in
     let are = c.slots-in-Links.ensures x.0 x.2 in
-    let ready = one-ready v x.0 c.args.from c.args.draft.now c.open_links.new.draft r.first r.words r.slots c.args.depth o c.requires.ready.room
+    let ready = one-ready v x.0 c.args.from c.args.draft.now c.open_links.new.draft r.first r.words r.slots
+    c.args.depth o c.requires.ready.room
     c.requires.ready.low
     g.S.Source.has c.slots-in-Links.result one are in
-    let inside = opened-first v x.0 c.args.from c.args.draft.now c.open_links.new.draft r.first r.words r.slots c.args.depth o c.requires.ready.room
+    let inside = opened-first v x.0 c.args.from c.args.draft.now c.open_links.new.draft r.first r.words r.slots
+    c.args.depth o c.requires.ready.room
     c.requires.ready.low one in
     (omega arith, (live.0, (live.1.0, (live.1.1.0, (live.1.1.1, (ready, omega arith))))))
 
@@ -183,10 +192,12 @@ lay_slot-returns-in_ok-own-in-Links g t c =
     let one = links-one c.in-Links.count v x.0 x.1 in
     let are = c.slots-in-Links.ensures x.0 x.2 in
     let e = g.met.S.Source.one c.args.source c.args.slot w v h c.requires.ready.is in
-    one-laid v x.0 c.args.from c.args.draft.now c.open_links.new.draft r.first r.words r.slots c.args.depth o c.requires.ready.room
+    one-laid v x.0 c.args.from c.args.draft.now c.open_links.new.draft r.first r.words r.slots c.args.depth o
+    c.requires.ready.room
     c.requires.ready.low
     g.S.Source.has c.slots-in-Links.result one are c.lay_slots-in-Links.new.draft l
-    ∙ ap (λ (y : Tree). laid y (set c.args.draft.now c.args.from (point y c.args.from (length c.args.draft.now)))) (sym e))
+    ∙ ap (λ (y : Tree). laid y (set c.args.draft.now c.args.from (point y c.args.from (length c.args.draft.now))))
+    (sym e))
     c.lay_slots-in-Links.ensures
 
 -- ---- a list of structs
@@ -207,11 +218,12 @@ lay_slot-lay_rows-requires g t c κs live =
     let o = c.in_ok-own-in-Rows.ensures v x.0 x.1 x.2 c.requires.ready.sound in
     let low = o.block.low in
     let high = c.requires.ready.low in
-    let ready = all-ready v x.0 c.args.from c.args.draft.now c.open_rows.new.draft r.first r.words r.slots c.args.depth o c.requires.ready.room
+    let ready = all-ready v x.0 c.args.from c.args.draft.now c.open_rows.new.draft r.first r.words r.slots
+    c.args.depth o c.requires.ready.room
     c.requires.ready.low
     g.S.Source.are c.in-Rows.rows c.in-Rows.count x.1.1 x.2 in
-    let inside = all-inside v x.0 c.args.from c.args.draft.now c.open_rows.new.draft r.first r.words r.slots c.args.depth o c.requires.ready.room
-    c.requires.ready.low
+    let inside = all-inside v x.0 c.args.from c.args.draft.now c.open_rows.new.draft r.first r.words r.slots
+    c.args.depth o c.requires.ready.room c.requires.ready.low
     g.S.Source.are c.in-Rows.rows c.in-Rows.count x.1.1 x.2 in
     (omega arith, (live.0, (live.1.0, (live.1.1.0, (live.1.1.1, (ready, inside))))))
 
@@ -225,10 +237,11 @@ lay_slot-returns-in_ok-own-in-Rows g t c =
     let r = c.in_ok-own-in-Rows.own in
     let o = c.in_ok-own-in-Rows.ensures v x.0 x.1 x.2 c.requires.ready.sound in
     let e = g.met.S.Source.one c.args.source c.args.slot w v h c.requires.ready.is in
-    all-laid v x.0 c.args.from c.args.draft.now c.open_rows.new.draft r.first r.words r.slots c.args.depth o c.requires.ready.room
-    c.requires.ready.low
+    all-laid v x.0 c.args.from c.args.draft.now c.open_rows.new.draft r.first r.words r.slots c.args.depth o
+    c.requires.ready.room c.requires.ready.low
     g.S.Source.are c.in-Rows.rows c.in-Rows.count x.1.1 x.2 c.lay_rows.new.draft l
-    ∙ ap (λ (y : Tree). laid y (set c.args.draft.now c.args.from (point y c.args.from (length c.args.draft.now)))) (sym e))
+    ∙ ap (λ (y : Tree). laid y (set c.args.draft.now c.args.from (point y c.args.from (length c.args.draft.now))))
+    (sym e))
     c.lay_rows.ensures
 
 -- ---- slots
@@ -316,8 +329,8 @@ pub lay_rows-lay_slots-requires : goal.lay_rows-lay_slots-requires
 lay_rows-lay_slots-requires g t c κs live =
     let h = one-more c.loop-row.next c.args.words c.args.slots c.args.count c.loop-row.row (length c.loop-row.draft)
     c.loop-row-test.true c.loop-row.invariant.inside in
-    let ready = row-ready g.S.Source.has g.S.Source.are c.args.rows c.slots.result c.args.count c.args.words c.args.slots
-    c.args.depth c.loop-row.row c.loop-row-test.true c.slots.ensures (length c.loop-row.draft)
+    let ready = row-ready g.S.Source.has g.S.Source.are c.args.rows c.slots.result c.args.count c.args.words
+    c.args.slots c.args.depth c.loop-row.row c.loop-row-test.true c.slots.ensures (length c.loop-row.draft)
     c.loop-row.invariant.ready in
     (omega arith, (live.0, (live.1.0, (live.1.1.0, (live.1.1.1, (ready, omega arith))))))
 

@@ -68,7 +68,8 @@ returns g c v bs h is s =
     (c.kept_words-words.ensures bs is) (c.kept_slots-slots.ensures bs is) c.args.from c.list_pointer-word.result
     c.tag_word.result c.len-first.result c.args.draft.now c.put.new.self c.push.new.self c.append_rows.new.draft
     (c.list_pointer-word.ensures
-    ∙ ap (λ (j : ℕ). list_to c.args.from j Rows (c.args.count * (c.kept_words-words.result + c.kept_slots-slots.result)))
+    ∙ ap (λ (j : ℕ). list_to c.args.from j Rows
+    (c.args.count * (c.kept_words-words.result + c.kept_slots-slots.result)))
     c.len.ensures)
     c.tag_word.ensures c.put.ensures c.in_ok-push.ensures
     (c.in_ok-append_rows.ensures bs is (rows-wide c.args.count v bs h s c.kept_words-words.result

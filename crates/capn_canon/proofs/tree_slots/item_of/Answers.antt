@@ -5,8 +5,8 @@ use Rattle.capn_value.specs.Views.{tree_of-Nil, tree_of-Node, tree_of-Voids, tre
 use Rattle.capn_value.specs.Views.{tree_of-Quads, tree_of-Octs, tree_of-Links, tree_of-Rows, tree_of-Cap}
 use Rattle.capn_value.specs.Views.{count-trees_of, count_rows-rows_of}
 use Rattle.capn_canon.specs.inner.Sound.{Sound}
-use Rattle.capn_canon.proofs.TreeItems.{struct-item, links-item, rows-item, voids-list, bits-list, bytes-list, pairs-list}
-use Rattle.capn_canon.proofs.TreeItems.{quads-list, octs-list}
+use Rattle.capn_canon.proofs.TreeItems.{struct-item, links-item, rows-item, voids-list, bits-list, bytes-list}
+use Rattle.capn_canon.proofs.TreeItems.{pairs-list, quads-list, octs-list}
 use Rattle.capn_canon.proofs.tree_slots.item_of.Goals as goal
 
 pub returns-in-Node : goal.returns-in-Node
@@ -15,8 +15,12 @@ returns-in-Node g c =
     c.requires refl
 
 pub returns-in-Voids : goal.returns-in-Voids
-returns-in-Voids g c =
-    ([], refl, voids-list (tree_of c.args.value.now) c.in-Voids.count (ap tree_of c.in-Voids.is ∙ tree_of-Voids _ c.in-Voids.count) c.requires)
+returns-in-Voids g c = (
+  [],
+  refl,
+  voids-list (tree_of c.args.value.now) c.in-Voids.count
+      (ap tree_of c.in-Voids.is ∙ tree_of-Voids _ c.in-Voids.count) c.requires,
+)
 
 pub returns-in-Bits : goal.returns-in-Bits
 returns-in-Bits g c =
@@ -46,7 +50,8 @@ returns-in-Octs g c =
 pub returns-in-Links : goal.returns-in-Links
 returns-in-Links g c =
     links-item (tree_of c.args.value.now) c.as_slice-slots.result.now _ _
-    (ap tree_of c.in-Links.is ∙ tree_of-Links c.in-Links.items ∙ ap (λ x. links (trees_of x)) (sym c.as_slice-slots.ensures))
+    (ap tree_of c.in-Links.is ∙ tree_of-Links c.in-Links.items
+    ∙ ap (λ x. links (trees_of x)) (sym c.as_slice-slots.ensures))
     c.requires refl refl
 
 pub returns-in-Rows : goal.returns-in-Rows

@@ -13,7 +13,8 @@ invariant_of-self-2 g c =
 pub returns : goal.returns
 returns g c =
     let xs = c.args.xs.now in
-    drafted-padded c.self.inside.bytes.items xs c.append_bytes.new.bytes.items (words_for (8 * length xs)) c.self.invariant
+    drafted-padded c.self.inside.bytes.items xs c.append_bytes.new.bytes.items (words_for (8 * length xs))
+    c.self.invariant
     (λ i. omega (arith, c.type_inv.xs i)) (omega arith) c.in_ok-append_bytes.ensures.ok
     (packed 8 8 (words_for (8 * length xs)) xs) refl
     ∙ ap (λ (ws : List ℕ). ws ++ packed 8 8 (words_for (8 * length xs)) xs) c.self.view_is

@@ -14,7 +14,8 @@ item_of-requires g c =
 pub returns-in-Root : goal.returns-in-Root
 returns-in-Root g c v x =
     let h = subst (λ s. HasValue (values_of s) c.args.slot v) c.in-Root.is x in
-    subst (λ (t : Tree). IsItem PacksNumbers AreBodies c.item_of.result t) (sym (root-is c.in-Root.value.now c.args.slot v h))
+    subst (λ (t : Tree). IsItem PacksNumbers AreBodies c.item_of.result t)
+    (sym (root-is c.in-Root.value.now c.args.slot v h))
     c.item_of.ensures
 
 pub offset_bounds-values-slot : goal.offset_bounds-values-slot
@@ -32,7 +33,8 @@ bounds-values-slot g c =
 pub item_of-requires-in-Slots : goal.item_of-requires-in-Slots
 item_of-requires-in-Slots g c =
     let h = subst (λ s. HasValue (values_of s) c.args.slot c.requires.0) c.in-Slots.is c.requires.1 in
-    subst Sound (slot-is c.in-Slots.values.now c.args.slot c.requires.0 c.index-values-slot.result c.index-values-slot.is h) h.sound
+    subst Sound (slot-is c.in-Slots.values.now c.args.slot c.requires.0 c.index-values-slot.result
+    c.index-values-slot.is h) h.sound
 
 pub returns-in-Slots : goal.returns-in-Slots
 returns-in-Slots g c v x =
