@@ -30,10 +30,8 @@ pub fn canonical_bytes<S: Source, A: Allocator>(
     Ok(draft.finish())
 }
 
-/// Puts the pointer to the value in a slot, and appends its content with all below it, at most `depth` objects deep. It
-/// is compiled into the loop over slots, so that a call is made for each object, and none for a null slot.
+/// Puts the pointer to the value in a slot, and appends its content with all below it, at most `depth` objects deep.
 #[cycle(objects)]
-#[inline(always)]
 fn lay_slot<S: Source, A: Allocator>(
     source: S,
     slot: u32,
