@@ -73,7 +73,8 @@ pub fn open_links<S: Source, A: Allocator>(
 }
 
 /// Puts the pointer to a list of structs, and appends its tag and what is kept of each row. All rows are cut alike.
-#[inline(always)]
+/// It is a call of its own, so that what it needs on the stack is not kept at each level of depth.
+#[inline(never)]
 pub fn open_rows<S: Source, A: Allocator>(
     rows: S::Rows,
     count: u32,
