@@ -1,8 +1,8 @@
 //! The line of a price, written from its end to its beginning.
 
-ghost use Rattle.std.specs.Prelude.{◌≡◌, ◌+◌, ◌≤◌, [], ◌++◌, length};
+ghost use Rattle.std.specs.Prelude.{◌≡◌, ◌+◌, ◌<◌, ◌≤◌, [], ◌++◌, length};
 ghost use Rattle.std.specs.Fmt.{decimal};
-ghost use Rattle.capn_tool.specs.MessageText.{priced};
+ghost use Rattle.capn_tool.specs.MessageText.{price_line, priced};
 ghost use Rattle.capn_tool.specs.inner.PriceRoom.{most_line};
 
 use std::marker::Model;
@@ -75,4 +75,18 @@ impl PriceLine {
     {
         self.start = itoa::write_digits(n as u64, &mut self.bytes, self.start);
     }
+}
+
+/// The line of a price and a number of visits of one digit each, as those of a small message are. It has no part whose
+/// length has to be looked at.
+#[inline(always)]
+pub fn short_line(paid: u32, visits: u32) -> [u8; 19]
+    requires paid { paid < 10 }
+    requires visits { visits < 10 }
+    ensures { result ≡ price_line paid visits }
+{
+    let mut line = *b"ok paid 0 visits 0\n";
+    line[8] = b'0' + paid as u8;
+    line[17] = b'0' + visits as u8;
+    line
 }
