@@ -3,7 +3,7 @@ pub mod Failures
 pub mod FramesOfCanon
 pub mod FirstTexts
 pub mod NextTexts
-pub mod OnlyText
+pub mod OneText
 pub mod RunEnds
 pub mod OneReading
 pub mod OneRefusal
@@ -11,6 +11,5 @@ pub mod OneBare
 pub mod ShownTexts
 pub mod WhateverFollows
 pub mod Endings
-pub mod PassedTexts
 pub mod TestedInput
-pub mod ToldRefusal
+pub mod FoundRefusal

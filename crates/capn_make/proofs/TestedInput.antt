@@ -1,18 +1,20 @@
--- An input that is tested as it grows.
+-- An input that is made, and tested, as it grows.
 use Rattle.std.proofs.Common.{◌≡◌, inl, inr, ℕ, ◌+◌, ◌*◌, ◌≤◌, List, [], ◌++◌, length, take, drop, Bool, true, false}
-use Rattle.std.proofs.Common.{Option, Ok, Err, refl, sym, ap, subst, ◌∙◌, append_assoc, arith, Vec}
+use Rattle.std.proofs.Common.{Option, Some, None, Result, Ok, Err, refl, sym, ap, subst, ◌∙◌, append_assoc, arith}
 use Rattle.std.proofs.lemmas.Bool.{cases_lt}
 use Rattle.std.proofs.lemmas.List.{append-nil, length-append, take-append-drop, take-append-le}
-use Rattle.std.specs.Io.KnownBytes.{Consumes}
+use Rattle.std.specs.Io.KnownBytes.{Consumes, IsAtEnd}
 use Rattle.std.proofs.KnownBytes.{Consumes-trans}
+use Rattle.capn_text.specs.Streams.{Place, stream_text}
 use Rattle.capn_canon.specs.declared.form.Form.{Form}
 use Rattle.capn_canon.specs.declared.form.Form.TheVariants as forms
 use Rattle.capn_make.specs.Endings.{IsWhole, IsRefusedForGood}
 use Rattle.capn_make.specs.MakeRun.{AreInTime}
 use Rattle.capn_make.specs.Laws.{RefusalStays, OneEnding}
-use Rattle.capn_make.specs.inner.RunParts.{HasTested, ReadsChunk, ReadsInput}
+use Rattle.capn_make.specs.inner.RunParts.{HasMade, HasTested, HasNotRead, ReadsChunk}
 use Rattle.capn_make.specs.declared.fault.MakeFault.{MakeFault}
 use Rattle.capn_make.specs.declared.fault.MakeFault.TheVariants as faults
+use Rattle.capn_make.proofs.WhateverFollows.{first_on}
 
 -- an empty input is not refused for good
 nothing_refused : OneEnding → (form : Form) → IsRefusedForGood form [] → ⊥
@@ -25,82 +27,109 @@ nothing_refused one forms.Bare h =
     let same : faults.NoText ≡ h.0 = cc in
     subst (λ f. IsWhole [] f) (sym same) h.2
 
-pub none_tested : OneEnding → (form : Form) → HasTested form 0 []
-none_tested one form = record { front = []; rest = []; are = refl; size = refl; not_yet = nothing_refused one form }
+pub none_tested : OneEnding → (form : Form) → HasTested form 0 [] []
+none_tested one form = record { front = []; more = []; are = refl; size = refl; not_yet = nothing_refused one form }
 
-module _ (form : Form) (tested : ℕ) (input : List ℕ) where
-  pub more_tested : (more : List ℕ) → HasTested form tested input → HasTested form tested (input ++ more)
-  more_tested more h = record {
-    front = h.front;
-    rest = h.rest ++ more;
-    are = ap (λ t. t ++ more) h.are ∙ append_assoc h.front h.rest more;
-    size = h.size;
-    not_yet = h.not_yet;
-  }
+-- all was tested that is there
+pub all_tested : (form : Form) (input rest : List ℕ) → (IsRefusedForGood form input → ⊥)
+    → HasTested form (length rest) input rest
+all_tested form input rest not_yet = record {
+  front = input;
+  more = [];
+  are = sym (append-nil input);
+  size = refl;
+  not_yet = not_yet;
+}
 
-  pub all_tested : tested ≡ length input → (IsRefusedForGood form input → ⊥) → HasTested form tested input
-  all_tested size not_yet = record {
-    front = input;
-    rest = [];
-    are = sym (append-nil input);
-    size = sym size;
-    not_yet = not_yet;
-  }
+-- more has come
+pub more_tested : (form : Form) (tested : ℕ) (input rest more : List ℕ) → HasTested form tested input rest
+    → HasTested form tested (input ++ more) (rest ++ more)
+more_tested form tested input rest more h =
+    let size = h.size in
+    let all = length-append input more in
+    let left = length-append rest more in
+    record {
+      front = h.front;
+      more = h.more ++ more;
+      are = ap (λ t. t ++ more) h.are ∙ append_assoc h.front h.more more;
+      size = omega arith;
+      not_yet = h.not_yet;
+    }
 
-  pub in_time : RefusalStays → HasTested form tested input → length input ≤ 4 * tested + 65536 → AreInTime form input
-  in_time stays h short n good = elim (cases_lt n tested) [
-    | inl less ↦
-        (let size = h.size in
-        let same = ap (take n) h.are ∙ take-append-le n h.front h.rest (omega arith) in
-        let all = stays form (take n h.front) (drop n h.front) (subst (IsRefusedForGood form) same good) in
-        absurd (h.not_yet (subst (IsRefusedForGood form) (take-append-drop n h.front) all)))
-    | inr more ↦ omega arith
-  ]
+-- a place after which more has come
+pub made_on : (form : Form) (input made rest more : List ℕ) (line : ℕ)
+    → HasMade form input (record { rest = rest; line = line }) made
+    → HasMade form (input ++ more) (record { rest = rest ++ more; line = line }) made
+made_on form input made rest more line h = record {
+  values = h.values;
+  first = first_on h.values input rest more h.first;
+  are = h.are;
+  line = h.line;
+  few = h.few;
+}
+
+-- what is left is no more than the input
+left_within : (form : Form) (input made : List ℕ) (place : Place) → HasMade form input place made
+    → length place.rest ≤ length input
+left_within form input made place h =
+    let parts = ap length h.first.are ∙ length-append (stream_text h.values) place.rest in omega arith
+
+-- what was read and made so far, and more of it that has come
+pub record HasRead (form : Form) (a c : Option (List ℕ)) (failed : Bool) (made rest : List ℕ) (line tested count : ℕ)
+    : Type 0 where
+  pub bytes : List ℕ
+  pub read : Consumes a c bytes
+  pub time : AreInTime form bytes
+  pub made_so_far : HasMade form bytes (record { rest = rest; line = line }) made
+  pub tested_so_far : HasTested form tested bytes rest
+  pub at_end : count ≡ 0 → IsAtEnd c
+  pub fine : failed ≡ false
 
 module _ (stays : RefusalStays) (form : Form) (tested : ℕ) (a b c : Option (List ℕ)) (failed : Bool)
-    (old new : List ℕ) (read : Consumes a b old) (h : HasTested form tested old) (short : length old ≤ 4 * tested) where
-  -- with the bytes of one more call
-  read_on : (more : List ℕ) → Consumes b c more → Consumes a c (old ++ more)
-  read_on more given = Consumes-trans a b c old more read given
-
-  time_on : (more : List ℕ) → length more ≤ 65536 → AreInTime form (old ++ more)
-  time_on more few =
-      let size = length-append old more in
-      in_time form tested (old ++ more) stays (more_tested form tested old more h) (omega arith)
+    (input made rest new : List ℕ) (line : ℕ) (read : Consumes a b input)
+    (m : HasMade form input (record { rest = rest; line = line }) made) (h : HasTested form tested input rest)
+    (short : length rest ≤ 4 * tested) where
+  -- What is left is not much more than was tested of it. So all that was read is no more than in time, with the bytes
+  -- of one more call.
+  in_time : (more : List ℕ) → length more ≤ 65536 → AreInTime form (input ++ more)
+  in_time more few n good = elim (cases_lt n (length h.front)) [
+    | inl less ↦
+        (let cut = ap (λ t. t ++ more) h.are ∙ append_assoc h.front h.more more in
+        let same = ap (take n) cut ∙ take-append-le n h.front (h.more ++ more) (omega arith) in
+        let all = stays form (take n h.front) (drop n h.front) (subst (IsRefusedForGood form) same good) in
+        absurd (h.not_yet (subst (IsRefusedForGood form) (take-append-drop n h.front) all)))
+    | inr further ↦
+        (let size = h.size in
+        let all = length-append input more in
+        let within = left_within form input made (record { rest = rest; line = line }) m in
+        omega arith)
+  ]
 
   -- the reader failed, or memory was refused
-  pub failed_at : (A : Type 0) (fault : MakeFault) → ReadsChunk b c failed old new (Err fault)
-      → ReadsInput {A = A} form a c failed (Err fault)
-  failed_at A fault step = (old ++ step.0, read_on step.0 step.1, time_on step.0 step.2, step.3)
+  pub failed_at : (fault : MakeFault) → ReadsChunk b c failed rest new (Err fault)
+      → (bytes : List ℕ) × Consumes a c bytes × AreInTime form bytes × HasNotRead failed fault
+  failed_at fault step =
+      (input ++ step.0, Consumes-trans a b c input step.0 read step.1, in_time step.0 step.2, step.3)
 
-  -- the end was reached
-  pub ended_at : (A : Type 0) (input : Vec ℕ A) → input.items ≡ new → ReadsChunk b c failed old new (Ok false)
-      → ReadsInput {A = A} form a c failed (Ok input)
-  ended_at A input is step =
-      let g = step.3 in
-      let all : input.items ≡ old ++ step.0 =
-      is ∙ g.0 ∙ sym (append-nil old) ∙ ap (λ t. old ++ t) (sym g.1) in
-      (old ++ step.0, read_on step.0 step.1, time_on step.0 step.2, (all, inl g.2, g.3))
+  -- it gave bytes, or none at its end
+  pub read_at : (count : ℕ) → ReadsChunk b c failed rest new (Ok count)
+      → HasRead form a c failed made new line tested count
+  read_at count step =
+      let is = step.3.0 in
+      record {
+        bytes = input ++ step.0;
+        read = Consumes-trans a b c input step.0 read step.1;
+        time = in_time step.0 step.2;
+        made_so_far = subst (λ t. HasMade form (input ++ step.0) (record { rest = t; line = line }) made) (sym is)
+            (made_on form input made rest step.0 line m);
+        tested_so_far = subst (HasTested form tested (input ++ step.0)) (sym is)
+            (more_tested form tested input rest step.0 h);
+        at_end = step.3.2;
+        fine = step.3.3;
+      }
 
-  module _ (step : ReadsChunk b c failed old new (Ok true)) where
-    -- memory was refused in a test
-    pub untested_at : (A : Type 0) → ReadsInput {A = A} form a c failed (Err faults.Memory)
-    untested_at A =
-        (old ++ step.0, read_on step.0 step.1, time_on step.0 step.2, inl (refl, step.3.2))
-
-    -- what was read is refused for good
-    pub refused_at : (A : Type 0) (input : Vec ℕ A) → input.items ≡ new → IsRefusedForGood form new
-        → ReadsInput {A = A} form a c failed (Ok input)
-    refused_at A input is good =
-        let g = step.3 in (
-          old ++ step.0,
-          read_on step.0 step.1,
-          time_on step.0 step.2,
-          (is ∙ g.0, inr (subst (IsRefusedForGood form) g.0 good), g.2),
-        )
-
-    pub read_more : Consumes a c new
-    read_more = subst (Consumes a c) (sym step.3.0) (read_on step.0 step.1)
-
-    pub tested_more : HasTested form tested new
-    tested_more = subst (HasTested form tested) (sym step.3.0) (more_tested form tested old step.0 h)
+-- memory was refused after that
+pub refused_at : (form : Form) (a c : Option (List ℕ)) (failed : Bool) (made rest : List ℕ) (line tested count : ℕ)
+    → HasRead form a c failed made rest line tested count
+    → (bytes : List ℕ) × Consumes a c bytes × AreInTime form bytes × HasNotRead failed faults.Memory
+refused_at form a c failed made rest line tested count r = (r.bytes, r.read, r.time, inl (refl, r.fine))

@@ -1,7 +1,6 @@
 -- A fault of what stands in an input whole stays whatever follows.
 use Rattle.std.proofs.Common.{◌≡◌, inl, inr, ℕ, ◌+◌, ◌≤◌, List, [], ◌∷◌, ◌++◌, Err, refl, sym, ap, subst, ◌∙◌}
 use Rattle.std.proofs.Common.{append_assoc, arith}
-use Rattle.std.specs.Prelude.{⊤}
 use Rattle.capn_value.specs.Tree.{Tree}
 use Rattle.capn_value.specs.Text.{show_text}
 use Rattle.capn_text.specs.Laws.{WrongLineStays, NoTextGoesOn, DeepStays, NoBeginningComes}
@@ -11,22 +10,13 @@ use Rattle.capn_canon.specs.declared.form.Form.TheVariants as forms
 use Rattle.capn_make.specs.MadeInput.{AreFirst, IsTextRefused, Follows, IsNotOne, MakesEach, line_after}
 use Rattle.capn_make.specs.Endings.{Ends, EndsEach, IsWhole}
 use Rattle.capn_make.specs.Laws.{FaultStays, RefusalStays}
+use Rattle.capn_make.specs.inner.RunParts.{IsWholeFrom}
 use Rattle.capn_make.specs.declared.fault.MakeFault.{MakeFault}
 use Rattle.capn_make.specs.declared.fault.MakeFault.TheVariants as faults
 use Rattle.capn_make.proofs.FirstTexts.{lines_append}
 use Rattle.capn_make.proofs.OneRefusal.{nil_front}
 
--- what a fault is about stands whole in what is left, from a line on
-abbrev IsWholeFrom : ℕ → List ℕ → MakeFault → Type 0
-IsWholeFrom line rest faults.Memory = ⊤
-IsWholeFrom line rest faults.Io = ⊤
-IsWholeFrom line rest (faults.NotText n) = n + 1 ≤ line + ended_lines rest
-IsWholeFrom line rest (faults.Misfit n m) = ⊤
-IsWholeFrom line rest (faults.Capability n index) = ⊤
-IsWholeFrom line rest (faults.Another n) = ⊤
-IsWholeFrom line rest faults.NoText = ⊤
-
-whole_from : (vs : List Tree) (input rest : List ℕ) (fault : MakeFault) → AreFirst vs input rest
+pub whole_from : (vs : List Tree) (input rest : List ℕ) (fault : MakeFault) → AreFirst vs input rest
     → IsWhole input fault → IsWholeFrom (line_after vs) rest fault
 whole_from vs input rest faults.Memory first whole = tt
 whole_from vs input rest faults.Io first whole = tt
@@ -35,7 +25,18 @@ whole_from vs input rest (faults.NotText n) first whole =
 whole_from vs input rest (faults.Misfit n m) first whole = tt
 whole_from vs input rest (faults.Capability n index) first whole = tt
 whole_from vs input rest (faults.Another n) first whole = tt
-whole_from vs input rest faults.NoText first whole = tt
+whole_from vs input rest faults.NoText first whole = whole
+
+pub whole_to : (vs : List Tree) (input rest : List ℕ) (fault : MakeFault) → AreFirst vs input rest
+    → IsWholeFrom (line_after vs) rest fault → IsWhole input fault
+whole_to vs input rest faults.Memory first whole = tt
+whole_to vs input rest faults.Io first whole = tt
+whole_to vs input rest (faults.NotText n) first whole =
+    let e = ap ended_lines first.are ∙ lines_append (stream_text vs) rest in omega arith
+whole_to vs input rest (faults.Misfit n m) first whole = tt
+whole_to vs input rest (faults.Capability n index) first whole = tt
+whole_to vs input rest (faults.Another n) first whole = tt
+whole_to vs input rest faults.NoText first whole = whole
 
 whole_on : (input more : List ℕ) (fault : MakeFault) → IsWhole input fault → IsWhole (input ++ more) fault
 whole_on input more faults.Memory h = tt
@@ -52,7 +53,7 @@ text_on v rest x more e =
     ap (λ t. t ++ more) e ∙ append_assoc (show_text v) (end_line ++ x) more
     ∙ ap (λ t. show_text v ++ t) (append_assoc end_line x more)
 
-first_on : (vs : List Tree) (input rest more : List ℕ) → AreFirst vs input rest
+pub first_on : (vs : List Tree) (input rest more : List ℕ) → AreFirst vs input rest
     → AreFirst vs (input ++ more) (rest ++ more)
 first_on vs input rest more first = record {
   each = first.each;
