@@ -1,13 +1,12 @@
 -- Whether an input is refused for good, by how it ends.
-use Rattle.std.proofs.Common.{◌≡◌, ◌⊎◌, inl, inr, ℕ, ◌+◌, ◌≤◌, List, Bool, true, false, Some, None, Result, Ok, Err}
-use Rattle.std.proofs.Common.{refl, sym, ap, subst, ◌∙◌, arith}
-use Rattle.capn_text.specs.Streams.{Place, ended_lines, stream_text}
+use Rattle.std.proofs.Common.{◌≡◌, inl, inr, ℕ, List, Some, None, Result, Ok, Err}
+use Rattle.std.proofs.Common.{sym, subst}
+use Rattle.capn_text.specs.Streams.{Place}
 use Rattle.capn_canon.specs.declared.form.Form.{Form}
 use Rattle.capn_canon.specs.declared.form.Form.TheVariants as forms
-use Rattle.capn_make.specs.MadeInput.{line_after}
-use Rattle.capn_make.specs.Endings.{Ends, IsWhole, IsRefusedForGood}
+use Rattle.capn_make.specs.Endings.{Ends, IsWhole}
 use Rattle.capn_make.specs.Laws.{OneEnding}
-use Rattle.capn_make.specs.inner.RunParts.{HasMade, HasCapability, IsMadeSo, IsWholeFrom, GoesOn, TellsRefusal}
+use Rattle.capn_make.specs.inner.RunParts.{IsMadeSo, IsWholeFrom, GoesOn, TellsRefusal}
 use Rattle.capn_make.specs.declared.fault.MakeFault.{MakeFault}
 use Rattle.capn_make.specs.declared.fault.MakeFault.TheVariants as faults
 use Rattle.capn_make.proofs.WhateverFollows.{whole_from, whole_to}

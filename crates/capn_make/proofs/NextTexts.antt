@@ -1,17 +1,15 @@
 -- The texts of an input, made one after the other: before the first, one more, and how that ends.
-use Rattle.std.proofs.Common.{◌≡◌, ◌⊎◌, inl, inr, ℕ, ◌+◌, ◌≤◌, List, [], ◌∷◌, ◌++◌, length, drop}
-use Rattle.std.proofs.Common.{Some, None, Result, Ok, Err, refl, sym, ap, ap₂, subst, ◌∙◌, append_assoc, arith, Vec}
+use Rattle.std.proofs.Common.{◌≡◌, inl, inr, ℕ, ◌+◌, ◌≤◌, List, [], ◌∷◌, ◌++◌, length, drop}
+use Rattle.std.proofs.Common.{Some, Result, Ok, Err, refl, sym, ap, ap₂, subst, ◌∙◌, append_assoc, arith, Vec}
 use Rattle.std.proofs.lemmas.List.{length-append}
 use Rattle.capn_value.specs.Tree.{Tree}
 use Rattle.capn_value.specs.Text.{show_text}
 use Rattle.capn_text.specs.Streams.{Place, end_line, ended_lines, stream_text}
 use Rattle.capn_canon.specs.declared.form.Form.{Form}
 use Rattle.capn_canon.specs.declared.form.Form.TheVariants as forms
-use Rattle.capn_make.specs.WrittenValue.{AreMade}
-use Rattle.capn_make.specs.MadeInput.{AreFirst, IsTextRefused, MakesEach}
-use Rattle.capn_make.specs.inner.RunParts.{HasMade, HasCapability, IsMadeSo, GoesOn, IsAfter, MakesNext}
+use Rattle.capn_make.specs.MadeInput.{IsTextRefused, MakesEach}
+use Rattle.capn_make.specs.inner.RunParts.{HasMade, IsMadeSo, GoesOn, IsAfter, MakesNext}
 use Rattle.capn_make.specs.declared.fault.MakeFault.{MakeFault}
-use Rattle.capn_make.specs.declared.fault.MakeFault.TheVariants as faults
 use Rattle.capn_make.proofs.FirstTexts.{lines_append, first_more, made_more}
 
 -- ---- places

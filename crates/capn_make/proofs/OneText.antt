@@ -1,15 +1,14 @@
 -- The one text that is asked for, and what follows it.
-use Rattle.std.proofs.Common.{◌≡◌, ◌⊎◌, inl, inr, ℕ, ◌+◌, ◌≤◌, List, [], ◌∷◌, ◌++◌, length, true, Some, None}
+use Rattle.std.proofs.Common.{◌≡◌, inl, inr, ℕ, ◌+◌, ◌≤◌, List, [], ◌∷◌, ◌++◌, length, Some}
 use Rattle.std.proofs.Common.{Result, Ok, Err, refl, sym, ap, subst, ◌∙◌, arith, Vec}
 use Rattle.std.proofs.lemmas.List.{append-nil}
 use Rattle.capn_value.specs.Tree.{Tree}
 use Rattle.capn_value.specs.Text.{show_text}
 use Rattle.capn_text.specs.Streams.{Place, end_line, ended_lines, stream_text}
-use Rattle.capn_canon.specs.Layout.{canon}
 use Rattle.capn_canon.specs.declared.form.Form.TheVariants as forms
 use Rattle.capn_make.specs.WrittenValue.{AreMade}
-use Rattle.capn_make.specs.MadeInput.{AreFirst, Follows, IsNotOne, IsTextRefused, line_after}
-use Rattle.capn_make.specs.inner.RunParts.{HasMade, HasCapability, GoesOn, IsAfter, MakesNext, EndsOne}
+use Rattle.capn_make.specs.MadeInput.{AreFirst, Follows, IsTextRefused, line_after}
+use Rattle.capn_make.specs.inner.RunParts.{HasMade, GoesOn, MakesNext, EndsOne}
 use Rattle.capn_make.specs.declared.fault.MakeFault.{MakeFault}
 use Rattle.capn_make.specs.declared.fault.MakeFault.TheVariants as faults
 use Rattle.capn_make.proofs.FirstTexts.{lines_append}

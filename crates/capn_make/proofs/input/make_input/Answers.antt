@@ -1,10 +1,10 @@
-use Rattle.std.proofs.Common.{ℕ, List, [], ◌++◌, ◌+◌, ◌*◌, ◌≤◌, length, refl, sym, ap, subst, ◌∙◌, inl, inr, arith}
+use Rattle.std.proofs.Common.{[], length, ap, ◌∙◌, inl, inr, arith}
 use Rattle.std.proofs.lemmas.Result.{err_from_is_err_and}
 use Rattle.std.proofs.KnownBytes.{Consumes-nil}
 use Rattle.capn_make.specs.Endings.{IsRefusedForGood}
 use Rattle.capn_make.proofs.NextTexts.{none_made}
 use Rattle.capn_make.proofs.FoundRefusal.{so_ends}
-use Rattle.capn_make.proofs.TestedInput.{HasRead, none_tested, all_tested, failed_at, read_at, refused_at}
+use Rattle.capn_make.proofs.TestedInput.{none_tested, all_tested, failed_at, read_at, refused_at}
 use Rattle.capn_make.proofs.input.make_input.Goals as goal
 
 pub chunks-init : goal.chunks-init
@@ -73,7 +73,8 @@ returns-in-Some-2 g c =
     c.in_ok-count.count c.in_ok-count.ensures in
     let found = rw c.in-Some-2.is at c.in_ok-fault.ensures in
     let told = found r.bytes r.made_so_far in
-    let good : IsRefusedForGood c.args.form r.bytes = (c.in-Some-2.fault, so_ends c.args.form r.bytes _ _ told.0, told.1) in
+    let good : IsRefusedForGood c.args.form r.bytes =
+    (c.in-Some-2.fault, so_ends c.args.form r.bytes _ _ told.0, told.1) in
     (r.bytes, r.read, r.time, (c.end.ensures r.bytes told.0, inr good, r.fine))
 
 pub chunks-preserved-then-tested-len : goal.chunks-preserved-then-tested-len

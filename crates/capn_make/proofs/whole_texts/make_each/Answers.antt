@@ -6,7 +6,8 @@ use Rattle.capn_make.proofs.whole_texts.make_each.Goals as goal
 
 pub returns-in_err-piece-clause-after : goal.returns-in_err-piece-clause-after
 returns-in_err-piece-clause-after g c =
-    place_after c.args.texts.now c.texts.texts c.next_piece.new.texts c.texts.invariant.after c.in_err-piece.ensures.after
+    place_after c.args.texts.now c.texts.texts c.next_piece.new.texts c.texts.invariant.after
+    c.in_err-piece.ensures.after
 
 pub returns-in_err-piece-clause-made : goal.returns-in_err-piece-clause-made
 returns-in_err-piece-clause-made g c = λ input h.
@@ -16,7 +17,8 @@ returns-in_err-piece-clause-made g c = λ input h.
 
 pub returns-in_err-extend_from_slice-clause-after : goal.returns-in_err-extend_from_slice-clause-after
 returns-in_err-extend_from_slice-clause-after g c =
-    place_after c.args.texts.now c.texts.texts c.next_piece.new.texts c.texts.invariant.after c.in_ok-piece.ensures.after
+    place_after c.args.texts.now c.texts.texts c.next_piece.new.texts c.texts.invariant.after
+    c.in_ok-piece.ensures.after
 
 pub texts-preserved : goal.texts-preserved
 texts-preserved g c =

@@ -1,4 +1,4 @@
-use Rattle.std.proofs.Common.{◌≡◌, ◌+◌, length, ap, sym, subst, ◌∙◌, arith}
+use Rattle.std.proofs.Common.{ap, sym, subst, ◌∙◌, arith}
 use Rattle.capn_text.specs.Streams.{Place}
 use Rattle.capn_make.specs.inner.RunParts.{HasMade, GoesOn, IsAfter}
 use Rattle.capn_make.proofs.NextTexts.{place_is, left_after, dropped_after}
