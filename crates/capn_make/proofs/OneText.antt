@@ -58,8 +58,8 @@ module _ (input : List ℕ) (place : Place) (made : List ℕ) (h : HasMade forms
           | inr same ↦ inr (subst (λ p. HasMade forms.Bare input p made) (sym same) h)
         ],
         inr (inl (subst (λ t. IsTextRefused 1 t fault) (sym all) (
-          subst (λ n. IsTextRefused n place.rest fault) first refused
-        ))),
+            subst (λ n. IsTextRefused n place.rest fault) first refused
+            ))),
       )
 
   -- one text was made, and so the input ends

@@ -8,4 +8,6 @@ mod endless;
 #[cfg(test)]
 mod making;
 #[cfg(test)]
+mod pieces;
+#[cfg(test)]
 mod reading;

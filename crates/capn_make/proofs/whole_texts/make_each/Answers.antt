@@ -29,8 +29,8 @@ texts-preserved g c =
           c.in_ok-piece.ensures.after;
       made = λ input h.
           subst (HasMade c.args.form input c.next_piece.new.texts) (sym items) (
-            one_more c.args.form input _ c.texts.texts c.next_piece.new.texts c.texts.made.items c.in-Some.piece
-            (c.texts.invariant.made input h) next (λ e. absurd (c.requires.framed e))
+          one_more c.args.form input _ c.texts.texts c.next_piece.new.texts c.texts.made.items c.in-Some.piece
+          (c.texts.invariant.made input h) next (λ e. absurd (c.requires.framed e))
           );
     }
 
