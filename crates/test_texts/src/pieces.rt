@@ -62,7 +62,7 @@ fn long_texts_in_pieces(rt: HostRuntime) -> Result<(), Fail> {
             assert!(rt; same.as_slice() == written.as_slice());
         }
         // Without its last line end the last text isn't one, and the two before it have been written.
-        let short = &input[..input.len() - 1];
+        let short = &input[..input.len().saturating_sub(1)];
         let (fault, begun) = run_in_pieces(alloc, form, short, 65_536);
         assert!(rt; fault == Err(MakeFault::NotText(10)), "{fault:?}");
         assert!(rt; begun.len() < written.len());
