@@ -54,6 +54,13 @@ pub(crate) fn canonical(alloc: Global, framed: &[u8]) -> Result<Vec<u8>> {
     }
 }
 
+/// The canonical bytes of a framed message, and a word after them that no object has.
+pub(crate) fn longer(alloc: Global, framed: &[u8]) -> Result<Vec<u8>> {
+    let mut bytes = canonical(alloc, framed)?;
+    bytes.extend_from_slice(&[0; 8])?;
+    Ok(bytes)
+}
+
 /// Whether bytes are canonical.
 pub(crate) fn test(alloc: Global, bytes: &[u8]) -> Result<bool> {
     is_canonical(alloc, bytes, Limits::usual()).map_err(|_| anyhow!("not read"))

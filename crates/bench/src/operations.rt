@@ -1,8 +1,8 @@
 //! What is measured.
 
 use crate::calls::{
-    canonical, checked, copied, first_byte, indexed, packed, paid, received, roomed, segments_of,
-    told, tree_of, unpacked, walked,
+    canonical, checked, copied, first_byte, indexed, longer, packed, paid, received, roomed,
+    segments_of, told, tree_of, unpacked, walked,
 };
 use anyhow::{Result, anyhow};
 use capn_value::{Tree, show};
@@ -29,6 +29,8 @@ pub(crate) enum Operation {
     Canonical,
     /// Whether canonical bytes are canonical.
     IsCanonical,
+    /// Whether canonical bytes and a word after them are canonical.
+    NotCanonical,
     /// The SHA-256 of the message's canonical bytes.
     Hash,
     /// The text of a tree.
@@ -43,7 +45,7 @@ pub(crate) enum Operation {
 
 impl Operation {
     /// Those of one message.
-    pub(crate) const ALL: [Operation; 13] = [
+    pub(crate) const ALL: [Operation; 14] = [
         Operation::Copy,
         Operation::First,
         Operation::Framer,
@@ -53,6 +55,7 @@ impl Operation {
         Operation::Walk,
         Operation::Canonical,
         Operation::IsCanonical,
+        Operation::NotCanonical,
         Operation::Hash,
         Operation::Show,
         Operation::Pack,
@@ -71,6 +74,7 @@ impl Operation {
             Operation::Walk => "walk",
             Operation::Canonical => "canonical",
             Operation::IsCanonical => "is_canonical",
+            Operation::NotCanonical => "not_canonical",
             Operation::Hash => "hash",
             Operation::Show => "show",
             Operation::Pack => "pack",
@@ -139,6 +143,7 @@ impl Input {
         let size = framed.len();
         match operation {
             Operation::IsCanonical => of_bytes(canonical(alloc, &framed), None),
+            Operation::NotCanonical => of_bytes(longer(alloc, &framed), None),
             Operation::Unpack => of_bytes(packed(alloc, &framed), Some(size)),
             Operation::Show => of_tree(alloc, tree_of(alloc, &framed), size),
             _ => of_bytes(Ok(framed), Some(size)),
@@ -170,6 +175,7 @@ impl Input {
             Operation::Walk => number_of(walked(alloc, bytes)),
             Operation::Canonical => len_of(canonical(alloc, bytes)),
             Operation::IsCanonical => number_of(told(alloc, bytes)),
+            Operation::NotCanonical => number_of(told(alloc, bytes)),
             Operation::Hash => number_of(first_byte(alloc, bytes)),
             Operation::Show => self.text(alloc),
             Operation::Pack => len_of(packed(alloc, bytes)),

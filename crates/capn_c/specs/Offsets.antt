@@ -14,7 +14,7 @@ use Rattle.capn_canon.specs.declared.form.Form.TheVariants as forms
 use Rattle.capn_c.specs.Entries.{IndexedIn, c_entry, starts_from, table_length}
 use Rattle.capn_c.specs.declared.entries.CapnEntry.{CapnEntry}
 
--- the bytes of so many words of a message, from a place on, stand in these bytes, from an offset on
+-- the bytes of some words of a message, from a place on, stand in these bytes, from an offset on
 pub record StandAt (bs : List ℕ) (offset : ℕ) (message : List (List ℕ)) (at : Place) (words : ℕ) : Type 0 where
   pub inside : offset + 8 * words ≤ length bs
   pub same : take (8 * words) (drop offset bs) ≡ bytes_at message at (8 * words)

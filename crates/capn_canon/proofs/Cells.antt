@@ -55,22 +55,6 @@ cells-one h w lt =
     ∙ cells-cons h [] (word_bytes w) [] (length-word_bytes w)
     ∙ rw (number-word w lt, cells-none []) refl
 
--- the rest is forgotten
-pub cells-take : (n : ℕ) (hs : List Bool) (bs : List ℕ) → length bs ≡ 8 * length hs → n ≤ length hs
-    → cells (take n hs) (take (8 * n) bs) ≡ take n (cells hs bs)
-cells-take zero hs bs l le = cells-none (take 0 bs)
-cells-take (suc n) [] bs l le = absurd (omega arith)
-cells-take (suc n) (h ∷ hs) bs l le =
-    let e : 8 * suc n ≡ 8 + 8 * n = omega arith in
-    let ih = cells-take n hs (drop 8 bs) (rest_length h hs bs l) (omega arith) in
-    ap (λ (k : ℕ). cells (h ∷ take n hs) (take k bs)) e
-    ∙ cells-step h (take n hs) (take (8 + 8 * n) bs)
-    ∙ ap (λ (xs : List ℕ). cell h (word_number xs) ∷ cells (take n hs) (drop 8 (take (8 + 8 * n) bs)))
-    (take-take 8 (8 + 8 * n) bs (omega arith))
-    ∙ ap (λ (xs : List ℕ). cell h (word_number (take 8 bs)) ∷ cells (take n hs) xs) (drop-take 8 (8 * n) bs)
-    ∙ ap (λ (xs : List (Option ℕ)). cell h (word_number (take 8 bs)) ∷ xs) ih
-    ∙ ap (λ (xs : List (Option ℕ)). take (suc n) xs) (sym (cells-step h hs bs))
-
 -- the bytes of a word are written over 8 bytes
 pub written-bytes : (start w : ℕ) (bs : List ℕ) → AreBytes bs
     → AreBytes (take start bs ++ (word_bytes w ++ drop (start + 8) bs))

@@ -91,10 +91,6 @@ take-less (suc k) zero xs h = absurd (omega arith)
 take-less (suc k) (suc n) [] h = refl
 take-less (suc k) (suc n) (x ∷ xs) h = ap (λ (ys : List ℕ). x ∷ ys) (take-less k n xs (omega arith))
 
--- what is kept of a part are the first words
-pub kept-part : (n : ℕ) (xs : List ℕ) → take (kept_words (take n xs)) (take n xs) ≡ take (kept_words (take n xs)) xs
-kept-part n xs = take-less (kept_words (take n xs)) n xs (part-le n xs)
-
 -- all of some words are kept exactly if the last of them isn't zero
 module _ (seg : List ℕ) (w count : ℕ) (some : 0 < count) where
   pub all-kept : slice_index seg (w + (count - 1)) ≢ 0 → kept_words (take count (drop w seg)) ≡ count

@@ -1,4 +1,4 @@
--- Where words are accepted and canonical, the value at their root is due, and nothing stands after it.
+-- Where words are accepted and canonical, the pass has to find the value at their root, and nothing stands after it.
 use Rattle.std.proofs.Common.{◌≡◌, ℕ, ◌+◌, ◌^◌, ◌<◌, ◌≤◌, List, [], ◌∷◌, length, Option, None}
 use Rattle.std.proofs.Common.{refl, ap, sym, subst, arith}
 use Rattle.std.specs.Option.{option_or}
@@ -49,7 +49,7 @@ module _ (all : List ℕ) (limits : Bounds) (v : Tree) (is : IsMessage (all ∷ 
   visited = subst (λ (vs : List Visit). IsWithin limits.budget vs)
       (root-alone (all ∷ []) (base limits.tariff) limits.depth v (free-root v free) h.is) h.accepted.within
 
-  -- the value at the root is due
+  -- the pass has to find the value at the root
   pub due-root : DueSlots all (base limits.tariff) 0 1 1 limits.depth limits.budget
   due-root =
       let vs = visits (all ∷ []) (base limits.tariff) limits.depth root in

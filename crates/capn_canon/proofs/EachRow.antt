@@ -1,16 +1,15 @@
 -- Rows of equal sizes, one after the other.
 use Rattle.std.proofs.Common.{◌≡◌, ℕ, zero, suc, ◌+◌, ◌-◌, ◌*◌, ◌<◌, ◌≤◌, max, List, ◌++◌, length, take, refl}
-use Rattle.std.proofs.Common.{ap, ap₂, sym, subst, ◌∙◌, arith, append_assoc, append-nil, length-drop, Option}
+use Rattle.std.proofs.Common.{ap, ap₂, sym, subst, ◌∙◌, arith, append_assoc, append-nil, length-drop}
 use Rattle.capn_words.specs.Message.{segment_at}
 use Rattle.capn_value.specs.Tree.{Bodies, no_bodies, body, count_rows}
 use Rattle.capn_value.specs.Trim.{kept_words, kept_words_of_rows, kept_slots_of_rows}
 use Rattle.capn_walk.specs.ValueAt.{RowsAt, words_from}
-use Rattle.capn_canon.specs.Patch.{whole}
 use Rattle.capn_canon.specs.inner.LayoutSteps.{AreRowsOver}
+use Rattle.capn_canon.specs.inner.Sound.{AreWide}
 use Rattle.capn_canon.specs.inner.RowWords.{kept_each, row_cells}
 use Rattle.capn_canon.proofs.Cut.{part-le, take-less}
 use Rattle.std.proofs.lemmas.List.{drop-drop, length-take-le}
-use Rattle.capn_canon.proofs.Holes.{length-whole, whole-append}
 use Rattle.capn_canon.proofs.Nulls.{kept-slots}
 use Rattle.capn_canon.proofs.Standing.{take-plus}
 
@@ -55,25 +54,25 @@ module _ (m : List (List ℕ)) where
       omega arith
 
   -- the cells of rows, from the front
-  pub cells-begin : (s w step inset a b n : ℕ) (p : List (Option ℕ))
+  pub cells-begin : (s w step inset a b n : ℕ) (p : List ℕ)
       → p ++ row_cells m s w step inset a b (n - 0) ≡ p ++ row_cells m s w step inset a b n
   cells-begin s w step inset a b n p = let z : n - 0 ≡ n = omega arith in
       ap (λ (x : ℕ). p ++ row_cells m s w step inset a b x) z
 
-  pub cells-more : (s w step inset a b n i : ℕ) (p q : List (Option ℕ)) → i < n
-      → q ≡ (p ++ whole (take a (words_from m s w))) ++ whole (take b (words_from m s (w + inset))) →
+  pub cells-more : (s w step inset a b n i : ℕ) (p q : List ℕ) → i < n
+      → q ≡ (p ++ take a (words_from m s w)) ++ take b (words_from m s (w + inset)) →
       q ++ row_cells m s (w + step) step inset a b (n - (i + 1)) ≡ p ++ row_cells m s w step inset a b (n - i)
   cells-more s w step inset a b n i p q lt eq =
       let k : suc (n - (i + 1)) ≡ n - i = omega arith in
       let rest = row_cells m s (w + step) step inset a b (n - (i + 1)) in
-      let own = whole (take a (words_from m s w)) in
-      let slots = whole (take b (words_from m s (w + inset))) in
-      ap (λ (x : List (Option ℕ)). x ++ rest) eq
+      let own = take a (words_from m s w) in
+      let slots = take b (words_from m s (w + inset)) in
+      ap (λ (x : List ℕ). x ++ rest) eq
       ∙ append_assoc (p ++ own) slots rest
       ∙ append_assoc p own (slots ++ rest)
       ∙ ap (λ (x : ℕ). p ++ row_cells m s w step inset a b x) k
 
-  pub cells-end : (s w step inset a b n i : ℕ) (p q : List (Option ℕ)) → n ≤ i
+  pub cells-end : (s w step inset a b n i : ℕ) (p q : List ℕ) → n ≤ i
       → p ++ row_cells m s w step inset a b (n - i) ≡ q → p ≡ q
   cells-end s w step inset a b n i p q le h =
       let z : n - i ≡ 0 = omega arith in
@@ -105,59 +104,50 @@ module _ (m : List (List ℕ)) where
       (kept-rows-slots bs a b s (w + a + b) n h.4 (omega arith) (omega arith)
       ∙ ap (λ (x : ℕ). kept_each m s x b (a + b) n) z)
 
-  -- after the kept words of each row stand as many words as it keeps slots
-  pub cells-over : (bs : Bodies) (a b s w n x y : ℕ) → RowsAt m a b s w bs → count_rows bs ≡ n → x ≤ a → y ≤ b
+  -- after the first words of each row stand as many words as it has slots
+  pub cells-over : (bs : Bodies) (a b s w n x y : ℕ) → RowsAt m a b s w bs → count_rows bs ≡ n → AreWide x y bs
       → w + n * (a + b) ≤ length (segment_at m s) → AreRowsOver x y bs (row_cells m s w (a + b) a x y n)
-  cells-over no_bodies a b s w zero x y h e le ly i = refl
-  cells-over no_bodies a b s w (suc n) x y h e le ly i = absurd (omega arith)
-  cells-over (body ws ss bs) a b s w zero x y h e le ly i = absurd (omega arith)
-  cells-over (body ws ss bs) a b s w (suc n) x y h e le ly i =
+  cells-over no_bodies a b s w zero x y h e wide i = refl
+  cells-over no_bodies a b s w (suc n) x y h e wide i = absurd (omega arith)
+  cells-over (body ws ss bs) a b s w zero x y h e wide i = absurd (omega arith)
+  cells-over (body ws ss bs) a b s w (suc n) x y h e wide i =
       let z : w + (a + b) ≡ w + a + b = omega arith in
       let d : suc n * (a + b) ≡ a + b + n * (a + b) = omega arith in
       let own : take a (words_from m s w) ≡ ws = subst (λ (k : ℕ). take k (words_from m s w) ≡ ws) h.0 h.2 in
-      let cut : take x (words_from m s w) ≡ take x ws = sym (take-less x a (words_from m s w) le) ∙ ap (take x) own in
-      let hs = whole (take y (words_from m s (w + a))) in
+      let lx = wide.0 in
+      let ly = wide.1 in
+      let la = h.0 in
+      let lb = h.1 in
+      let cut : take x (words_from m s w) ≡ take x ws =
+      sym (take-less x a (words_from m s w) (omega arith)) ∙ ap (take x) own in
+      let hs = take y (words_from m s (w + a)) in
       let rest = row_cells m s (w + (a + b)) (a + b) a x y n in
       let below = length-drop (w + a) (segment_at m s) in
-      let long : length hs ≡ y = length-whole (take y (words_from m s (w + a)))
-      ∙ length-take-le y (words_from m s (w + a)) (omega arith) in
+      let long : length hs ≡ y = length-take-le y (words_from m s (w + a)) (omega arith) in
       let after : RowsAt m a b s (w + (a + b)) bs = subst (λ (k : ℕ). RowsAt m a b s k bs) (sym z) h.4 in (
         hs,
         rest,
-        ap (λ (u : List ℕ). whole u ++ (hs ++ rest)) cut,
+        ap (λ (u : List ℕ). u ++ (hs ++ rest)) cut,
         long,
-        cells-over bs a b s (w + (a + b)) n x y after (omega arith) le ly (omega arith),
+        cells-over bs a b s (w + (a + b)) n x y after (omega arith) wide.2 (omega arith),
       )
 
-pub less-times : (n x y most : ℕ) → x ≤ y → n * y < most → n * x < most
-less-times zero x y most le h = omega arith
-less-times (suc n) x y most le h =
-    let a : suc n * x ≡ x + n * x = omega arith in
-    let b : suc n * y ≡ y + n * y = omega arith in
-    let c = times-le n x y le in
-    omega arith
-  where
-    times-le : (n x y : ℕ) → x ≤ y → n * x ≤ n * y
-    times-le zero x y le = omega arith
-    times-le (suc n) x y le =
-        let a : suc n * x ≡ x + n * x = omega arith in
-        let b : suc n * y ≡ y + n * y = omega arith in
-        let c = times-le n x y le in
-        omega arith
-
-pub one-more-fits : (hole x y n i most : ℕ) → i < n → hole + (n - i) * (x + y) ≤ most
-    → hole + x + y + (n - (i + 1)) * (x + y) ≤ most
-one-more-fits hole x y n i most lt h =
-    let a : n - i ≡ suc (n - (i + 1)) = omega arith in
-    let e : (n - i) * (x + y) ≡ suc (n - (i + 1)) * (x + y) = ap (λ (k : ℕ). k * (x + y)) a in
-    let b : suc (n - (i + 1)) * (x + y) ≡ x + y + (n - (i + 1)) * (x + y) = omega arith in
-    omega arith
+  -- parts that each row has are parts of a row
+  pub wide-part : (bs : Bodies) (a b s w x y : ℕ) → RowsAt m a b s w bs → 0 < count_rows bs → AreWide x y bs
+      → (x ≤ a) × (y ≤ b)
+  wide-part no_bodies a b s w x y h lt wide = absurd (omega arith)
+  wide-part (body ws ss bs) a b s w x y h lt wide =
+      let lx = wide.0 in
+      let ly = wide.1 in
+      let la = h.0 in
+      let lb = h.1 in
+      (omega arith, omega arith)
 
 -- rows that are kept whole are one piece
 pub cells-whole : (m : List (List ℕ)) (s w a b n : ℕ)
-    → row_cells m s w (a + b) a a b n ≡ whole (take (n * (a + b)) (words_from m s w))
+    → row_cells m s w (a + b) a a b n ≡ take (n * (a + b)) (words_from m s w)
 cells-whole m s w a b zero = let z : 0 * (a + b) ≡ 0 = omega arith in
-    ap (λ (k : ℕ). whole (take k (words_from m s w))) (sym z)
+    ap (λ (k : ℕ). take k (words_from m s w)) (sym z)
 cells-whole m s w a b (suc n) =
     let z : a + b + n * (a + b) ≡ suc n * (a + b) = omega arith in
     let own = take a (words_from m s w) in
@@ -166,21 +156,33 @@ cells-whole m s w a b (suc n) =
     let both : own ++ slots ≡ take step (words_from m s w) =
     ap (λ (xs : List ℕ). own ++ take b xs) (sym (drop-drop a w (segment_at m s)))
     ∙ sym (take-plus a b (words_from m s w)) in
-    ap (λ (x : List (Option ℕ)). whole own ++ (whole slots ++ x)) (cells-whole m s (w + step) a b n)
-    ∙ ap (λ (x : List (Option ℕ)). whole own ++ x)
-    (sym (whole-append slots (take (n * step) (words_from m s (w + step)))))
-    ∙ sym (whole-append own (slots ++ take (n * step) (words_from m s (w + step))))
-    ∙ ap whole (sym (append_assoc own slots (take (n * step) (words_from m s (w + step)))))
-    ∙ ap (λ (xs : List ℕ). whole (xs ++ take (n * step) (words_from m s (w + step)))) both
-    ∙ ap (λ (xs : List ℕ). whole (take step (words_from m s w) ++ take (n * step) xs))
+    ap (λ (x : List ℕ). own ++ (slots ++ x)) (cells-whole m s (w + step) a b n)
+    ∙ sym (append_assoc own slots (take (n * step) (words_from m s (w + step))))
+    ∙ ap (λ (xs : List ℕ). xs ++ take (n * step) (words_from m s (w + step))) both
+    ∙ ap (λ (xs : List ℕ). take step (words_from m s w) ++ take (n * step) xs)
     (sym (drop-drop step w (segment_at m s)))
-    ∙ ap whole (sym (take-plus step (n * step) (words_from m s w)))
-    ∙ ap (λ (k : ℕ). whole (take k (words_from m s w))) z
+    ∙ sym (take-plus step (n * step) (words_from m s w))
+    ∙ ap (λ (k : ℕ). take k (words_from m s w)) z
 
-pub cells-piece : (m : List (List ℕ)) (s w step inset a b n : ℕ) (p q : List (Option ℕ)) → a ≡ inset → a + b ≡ step
-    → q ≡ p ++ whole (take (n * step) (words_from m s w)) →
-    q ≡ p ++ row_cells m s w step inset a b n
-cells-piece m s w step inset a b n p q ei es e =
-    e ∙ ap (λ (k : ℕ). p ++ whole (take (n * k) (words_from m s w))) (sym es)
-    ∙ ap (λ (x : List (Option ℕ)). p ++ x) (sym (cells-whole m s w a b n))
-    ∙ ap₂ (λ (x y : ℕ). p ++ row_cells m s w x y a b n) es ei
+pub cells-piece : (m : List (List ℕ)) (s w step inset a b n : ℕ) (p q : List ℕ)
+    → (0 < n → (a ≡ inset) × (a + b ≡ step)) → q ≡ p ++ take (n * step) (words_from m s w)
+    → q ≡ p ++ row_cells m s w step inset a b n
+cells-piece m s w step inset a b zero p q h e =
+    let z : 0 * step ≡ 0 = omega arith in
+    e ∙ ap (λ (k : ℕ). p ++ take k (words_from m s w)) z
+cells-piece m s w step inset a b (suc n) p q h e =
+    let k = h (omega arith) in
+    e ∙ ap (λ (x : ℕ). p ++ take (suc n * x) (words_from m s w)) (sym k.1)
+    ∙ ap (λ (x : List ℕ). p ++ x) (sym (cells-whole m s w a b (suc n)))
+    ∙ ap₂ (λ (x y : ℕ). p ++ row_cells m s w x y a b (suc n)) k.1 k.0
+
+-- two parts that stand one after the other, the first of them whole, are one piece
+pub copy-parts : (m : List (List ℕ)) (s w a b size : ℕ) (p q : List ℕ) → a ≡ size
+    → q ≡ p ++ take (a + b) (words_from m s w)
+    → q ≡ (p ++ take a (words_from m s w)) ++ take b (words_from m s (w + size))
+copy-parts m s w a b size p q ea e =
+    let xs = words_from m s w in
+    e ∙ ap (λ (ys : List ℕ). p ++ ys) (take-plus a b xs
+    ∙ ap (λ (ys : List ℕ). take a xs ++ take b ys) (drop-drop a w (segment_at m s)))
+    ∙ sym (append_assoc p (take a xs) (take b (words_from m s (w + a))))
+    ∙ ap (λ (k : ℕ). (p ++ take a xs) ++ take b (words_from m s (w + k))) ea

@@ -1,7 +1,7 @@
 -- Elements that are packed into words are the first bits of the words that they are read from.
 use Rattle.std.proofs.Common.{◌≡◌, ◌≢◌, ℕ, zero, suc, ◌+◌, ◌*◌, ◌/◌, ◌%◌, ◌^◌, ◌<◌, ◌≤◌, List, []}
-use Rattle.std.proofs.Common.{◌∷◌, ◌++◌, length, take, drop, set, map, slice_index, refl, ap, ap₂, sym, subst, ◌∙◌}
-use Rattle.std.proofs.Common.{arith, append-nil, append_assoc, length-drop, Option, Some}
+use Rattle.std.proofs.Common.{◌∷◌, ◌++◌, length, take, drop, map, slice_index, refl, ap, ap₂, sym, subst, ◌∙◌}
+use Rattle.std.proofs.Common.{arith, append-nil, append_assoc, length-drop}
 use Rattle.std.specs.Int.{from_bool}
 use Rattle.std.proofs.Math.Nat.{div-div-eq-div-mul, pow-succ', pow-zero, mod-lt, mod-eq_of_lt, div-eq_of_lt}
 use Rattle.std.proofs.Math.Nat.{add-div_right, add-mod_right, div-add-mod}
@@ -17,10 +17,6 @@ use Rattle.capn_walk.specs.Target.{content_words, words_for}
 use Rattle.capn_walk.specs.ValueAt.{IsInside}
 use Rattle.capn_walk.specs.Shapes.{IsPlain}
 use Rattle.capn_canon.specs.Layout.{number, packed, lay, point, list_to}
-use Rattle.capn_canon.specs.inner.LayoutSteps.{laid}
-use Rattle.capn_canon.specs.Patch.{whole}
-use Rattle.capn_canon.proofs.Holes.{whole-append}
-use Rattle.capn_canon.proofs.Laid.{laid-is}
 use Rattle.capn_canon.specs.inner.FirstBits.{element_bits, last_bits, first_bits}
 
 pow-positive : (base n : ℕ) → 0 < base → 0 < base ^ n
@@ -265,40 +261,24 @@ some-last zero ws h = absurd (omega arith)
 some-last (suc n) ws h = refl
 
 -- whole words are appended, and the first bits of the next
-pub bits-appended : (seg : List ℕ) (w n word mask : ℕ) (p q r : List (Option ℕ)) → n % 64 ≢ 0
-    → q ≡ p ++ whole (take (n / 64) (drop w seg)) → word ≡ slice_index seg (w + n / 64) → mask ≡ 2 ^ (n % 64) →
-    r ≡ q ++ Some (word % mask) ∷ [] → r ≡ p ++ whole (first_bits n (drop w seg))
+pub bits-appended : (seg : List ℕ) (w n word mask : ℕ) (p q r : List ℕ) → n % 64 ≢ 0
+    → q ≡ p ++ take (n / 64) (drop w seg) → word ≡ slice_index seg (w + n / 64) → mask ≡ 2 ^ (n % 64) →
+    r ≡ q ++ word % mask ∷ [] → r ≡ p ++ first_bits n (drop w seg)
 bits-appended seg w n word mask p q r ne eq ew em er =
     let z : w + (n / 64 + 0) ≡ w + n / 64 = omega arith in
     let at : slice_index (drop (n / 64) (drop w seg)) 0 ≡ word = get_or-drop (n / 64) (drop w seg) 0 0
     ∙ get_or-drop w seg (n / 64 + 0) 0 ∙ ap (slice_index seg) z ∙ sym ew in
     let last : last_bits (n % 64) (drop (n / 64) (drop w seg)) ≡ word % mask ∷ [] =
     some-last (n % 64) (drop (n / 64) (drop w seg)) (omega arith) ∙ ap₂ (λ (x y : ℕ). x % y ∷ []) at (sym em) in
-    er ∙ ap (λ (x : List (Option ℕ)). x ++ Some (word % mask) ∷ []) eq
-    ∙ append_assoc p (whole (take (n / 64) (drop w seg))) (Some (word % mask) ∷ [])
-    ∙ ap (λ (x : List (Option ℕ)). p ++ x)
-    (sym (whole-append (take (n / 64) (drop w seg)) (word % mask ∷ []))
-    ∙ ap (λ (x : List ℕ). whole (take (n / 64) (drop w seg) ++ x)) (sym last))
+    er ∙ ap (λ (x : List ℕ). x ++ word % mask ∷ []) eq
+    ∙ append_assoc p (take (n / 64) (drop w seg)) (word % mask ∷ [])
+    ∙ ap (λ (x : List ℕ). p ++ (take (n / 64) (drop w seg) ++ x)) (sym last)
 
-pub words-appended : (ws : List ℕ) (n : ℕ) (p q : List (Option ℕ)) → n % 64 ≡ 0 → q ≡ p ++ whole (take (n / 64) ws)
-    → q ≡ p ++ whole (first_bits n ws)
+pub words-appended : (ws : List ℕ) (n : ℕ) (p q : List ℕ) → n % 64 ≡ 0 → q ≡ p ++ take (n / 64) ws
+    → q ≡ p ++ first_bits n ws
 words-appended ws n p q e eq =
-    eq ∙ ap (λ (x : List ℕ). p ++ whole x) (sym (append-nil (take (n / 64) ws))
+    eq ∙ ap (λ (x : List ℕ). p ++ x) (sym (append-nil (take (n / 64) ws))
     ∙ ap (λ (r : ℕ). take (n / 64) ws ++ last_bits r (drop (n / 64) ws)) (sym e))
-
--- a list is laid out: its pointer, then its content
-pub list-laid : (m : List (List ℕ)) (width : Width) (n s w from : ℕ) (p r : List (Option ℕ)) (v : Tree) → IsPlain width
-    → ((i : ℕ) → slice_index (words_from m s w) i < 2 ^ 64) →
-    words_for (element_bits width * n) ≤ length (words_from m s w)
-    → r ≡ set p from (Some (list_to from (length p) width n))
-    ++ whole (first_bits (element_bits width * n) (words_from m s w)) →
-    IsInside m (shapes.Many width n) s w v → r ≡ laid v (set p from (Some (point v from (length p))))
-list-laid m width n s w from p r v plain below inside e h =
-    let l = list-of m width n s w plain below inside v h in
-    let q = set p from (Some (point v from (length p))) in
-    e
-    ∙ ap₂ (λ (x : ℕ) (y : List ℕ). set p from (Some x) ++ whole y) (sym (l.1 from (length p))) (sym (l.0 (length q)))
-    ∙ sym (laid-is v q)
 
 pub plain-words : (width : Width) (n : ℕ) → IsPlain width → words_for (element_bits width * n) ≡ content_words width n
 plain-words W0 n h = omega arith

@@ -3,7 +3,6 @@ use Rattle.std.proofs.Common.{ℕ, suc, ◌≤◌, ◌==◌, Bool, List, [], ◌
 use Rattle.std.proofs.lemmas.Bool.Decides.{nat_tests}
 use Rattle.capn_value.specs.Tree.{Trees, no_trees, tree, count, is_null}
 use Rattle.capn_value.specs.Trim.{kept_behind, kept_words, kept_slots}
-use Rattle.capn_value.specs.Views.{views}
 
 kept-le : (b : Bool) (n m : ℕ) → n ≤ m → kept_behind b n ≤ suc m
 kept-le b n m h = grind (arith, nat_tests)
@@ -15,8 +14,3 @@ kept_words-le (w ∷ ws) = kept-le (w == 0) (kept_words ws) (length ws) (kept_wo
 pub kept_slots-le : (ss : Trees) → kept_slots ss ≤ count ss
 kept_slots-le no_trees = omega arith
 kept_slots-le (tree t ts) = kept-le (is_null t) (kept_slots ts) (count ts) (kept_slots-le ts)
-
-pub ruleset bounds = (kept_words-le, kept_slots-le)
-
--- the same beside what a value is seen as
-pub ruleset views_and_bounds = (views, kept_words-le, kept_slots-le)

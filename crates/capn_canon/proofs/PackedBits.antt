@@ -1,12 +1,10 @@
 -- Packed lists of bits.
 use Rattle.std.proofs.Common.{◌≡◌, ℕ, suc, ◌+◌, ◌-◌, ◌*◌, ◌^◌, ◌<◌, ◌≤◌, min, List, [], ◌∷◌, ◌++◌, length, take, drop}
-use Rattle.std.proofs.Common.{map, get_or, ap, sym, ◌∙◌, arith, append_assoc, length-drop, Bool, true, false, Option}
-use Rattle.std.proofs.Common.{Some}
+use Rattle.std.proofs.Common.{map, get_or, ap, sym, ◌∙◌, arith, length-drop, Bool, true, false}
 use Rattle.std.proofs.Math.Nat.{pow-succ', pow-le-pow_right}
 use Rattle.std.proofs.lemmas.List.{drop_more, drop-map, drop-drop, take-map, take_min}
 use Rattle.std.specs.Int.{from_bool}
 use Rattle.capn_canon.specs.Layout.{number, packed}
-use Rattle.capn_canon.specs.Patch.{whole}
 
 -- the number of the bits from the one before on
 pub bits-next : (bits : List Bool) (i : ℕ) → i < length bits
@@ -56,7 +54,3 @@ chunk-is bits start end e =
     ap (λ (k : ℕ). map from_bool (take k (drop start bits))) m
     ∙ ap (map from_bool) (take_min 64 (drop start bits))
     ∙ sym (take-map from_bool 64 (drop start bits))
-
--- a word is appended, and the words that are left follow
-pub word-then : (p : List (Option ℕ)) (w : ℕ) (ws : List ℕ) → (p ++ Some w ∷ []) ++ whole ws ≡ p ++ whole (w ∷ ws)
-word-then p w ws = append_assoc p (Some w ∷ []) (whole ws)

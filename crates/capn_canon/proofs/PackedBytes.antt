@@ -8,7 +8,7 @@ use Rattle.std.proofs.lemmas.List.{drop-replicate, get_or-drop, length-replicate
 use Rattle.std.specs.List.{flat_map}
 use Rattle.byteorder.specs.Endian.{little_from, little_bytes}
 use Rattle.byteorder.specs.Numbers.{little_from-cons, little_number-reads_back, length-bytes_low_first}
-use Rattle.capn_words.specs.Message.{word_number, AreBytes}
+use Rattle.capn_words.specs.Message.{word_number, words_in, AreBytes}
 use Rattle.capn_canon.specs.Layout.{number, packed}
 use Rattle.capn_canon.specs.Patch.{cells, whole}
 use Rattle.capn_words.proofs.shared.Words.{AreBytes-append}
@@ -35,6 +35,12 @@ unfolding cells
 cells-words zero bs = refl
 cells-words (suc k) bs =
     ap₂ (λ (w : ℕ) (xs : List (Option ℕ)). Some w ∷ xs) (word-number bs) (cells-words k (drop 8 bs))
+
+pub words-packed : (k : ℕ) (bs : List ℕ) → words_in k bs ≡ packed 8 8 k bs
+unfolding words_in word_number
+words-packed zero bs = refl
+words-packed (suc k) bs =
+    ap₂ (λ (w : ℕ) (xs : List ℕ). w ∷ xs) (little_from-number 8 bs) (words-packed k (drop 8 bs))
 
 -- ---- zeros at the end change no word
 

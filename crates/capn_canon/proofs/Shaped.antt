@@ -6,7 +6,6 @@ use Rattle.capn_words.specs.declared.pointer.Width.{Width}
 use Rattle.capn_words.specs.declared.pointer.Width.TheVariants.{W0, W1, W8, W16, W32, W64, Link}
 use Rattle.capn_value.specs.Tree.{Tree, nil, node, voids, bits, bytes, pairs, quads, octs, links, rows, cap, Trees}
 use Rattle.capn_value.specs.Tree.{Bodies, count, count_rows}
-use Rattle.capn_value.specs.Cost.{height}
 use Rattle.capn_walk.specs.declared.target.Target.{Target}
 use Rattle.capn_walk.specs.declared.target.Target.TheVariants as targets
 use Rattle.capn_walk.specs.declared.target.Shape.{Shape}
@@ -122,20 +121,6 @@ module _ (m : List (List ℕ)) where
         both (λ (t u : ℕ). RowsAt m h.0 h.1 t (suc u) bs) n.segment s n.start start
             (same-segment n.segment n.start n.pads _ n.is) (same-start n.segment n.start n.pads _ n.is) n.inside,
       )
-
--- content has a height
-pub inside-height : (m : List (List ℕ)) (shape : Shape) (s w : ℕ) (v : Tree) → IsInside m shape s w v → 1 ≤ height v
-inside-height m shape s w nil h = absurd h
-inside-height m shape s w (cap k) h = absurd h
-inside-height m shape s w (node ws ss) h = omega arith
-inside-height m shape s w (voids n) h = omega arith
-inside-height m shape s w (bits xs) h = omega arith
-inside-height m shape s w (bytes xs) h = omega arith
-inside-height m shape s w (pairs xs) h = omega arith
-inside-height m shape s w (quads xs) h = omega arith
-inside-height m shape s w (octs xs) h = omega arith
-inside-height m shape s w (links ts) h = omega arith
-inside-height m shape s w (rows bs) h = omega arith
 
 -- a struct's words and slots
 pub record IsNode (m : List (List ℕ)) (a b s w : ℕ) (v : Tree) : Type 0 where

@@ -4,10 +4,12 @@ pub mod Draft
 pub mod Due
 pub mod InPlace
 pub mod LayoutSteps
-pub mod OwnWords
+pub mod MessageSlots
 pub mod Outcomes
 pub mod PaddedBytes
-pub mod ReadyPlaces
+pub mod Ready
 pub mod RowWords
 pub mod Sound
+pub mod Source
+pub mod TreeSlots
 pub mod WordsOfLayout

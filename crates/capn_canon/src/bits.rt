@@ -4,9 +4,8 @@ ghost use Rattle.std.specs.Prelude.{◌≡◌, ◌++◌, ◌≤◌, length, map,
 ghost use Rattle.std.specs.Int.{from_bool};
 ghost use Rattle.capn_walk.specs.Target.{words_for};
 ghost use Rattle.capn_canon.specs.Layout.{number, packed};
-ghost use Rattle.capn_canon.specs.Patch.{whole};
 
-use crate::patch::Patch;
+use crate::draft::Draft;
 use capn_value::Memory;
 use std::alloc::Allocator;
 
@@ -24,16 +23,16 @@ fn word_of_bits(bits: &[bool]) -> u64
 }
 
 /// Appends the words of packed bits, 64 a word.
-pub fn extend_bits<A: Allocator>(patch: &mut Patch<A>, bits: &[bool]) -> Result<(), Memory>
-    ensures { OnOk result (patch.new
-        ≡ patch.old ++ whole (packed 64 1 (words_for (length bits.now)) (map from_bool bits.now))) }
+pub fn extend_bits<A: Allocator>(draft: &mut Draft<A>, bits: &[bool]) -> Result<(), Memory>
+    ensures { OnOk result (draft.new
+        ≡ draft.old ++ packed 64 1 (words_for (length bits.now)) (map from_bool bits.now)) }
 {
     let len = bits.len();
     let words = len.div_ceil(64);
     for i in 0..words {
         let start = 64 * i;
         let end = len.min(start + 64);
-        patch.push(word_of_bits(&bits[start..end]))?;
+        draft.push(word_of_bits(&bits[start..end]))?;
     }
     Ok(())
 }

@@ -1,7 +1,6 @@
 //! Canonical bytes of messages, without a tree.
 
-ghost use Rattle.std.specs.Prelude.{◌≡◌, ◌≢◌, ℕ, ◌*◌, ◌+◌, ◌<◌, ◌≤◌, None, length, IfOk, IfErr, IsErrOf, MatchResult};
-ghost use Rattle.capn_words.specs.Message.{IsMessage, segment_at};
+ghost use Rattle.std.specs.Prelude.{◌≡◌, ◌*◌, ◌+◌, ◌≤◌, None, length, IfOk, IfErr, IsErrOf, MatchResult};
 ghost use Rattle.capn_value.specs.Tree.{Tree as Value};
 ghost use Rattle.capn_value.specs.FirstCap.{first_cap};
 ghost use Rattle.capn_walk.specs.Accepted.{root, IsValueOf};
@@ -12,11 +11,12 @@ ghost use Rattle.capn_canon.specs.inner.Outcomes.{IsCanonicalised};
 ghost use Rattle.capn_canon.specs.Canonicity.{ReadsBack, PaysItsCost, IsItsOwnForm, IsFormExactlyOf};
 ghost use Rattle.capn_canon.specs.Refusal.{IsRefusedMessage, IsPaidWithin};
 ghost use Rattle.capn_canon.specs.declared.refusal.Refusal.TheVariants as refusals;
-ghost use Rattle.capn_canon.specs.inner.ReadyPlaces.{IsReady};
+ghost use Rattle.capn_canon.specs.inner.MessageSlots.{HasSlot};
+ghost use Rattle.capn_canon.specs.inner.Ready.{IsReady};
 ghost use Rattle.capn_canon.specs.MemoryNeed.{MayNeedBytes};
 
-use crate::draft::Draft;
-use crate::object_layout::lay_slot;
+use crate::message_slots::MessageSlots;
+use crate::object_layout::canonical_bytes;
 use crate::refusal::Refusal;
 use capn_value::Memory;
 use capn_walk::{Fault, Limits, survey};
@@ -46,17 +46,17 @@ fn bytes_of<S: Space, A: Allocator>(
     depth: u32,
     paid: u32,
 ) -> Result<Vec<u8, A>, Memory>
-    requires message { IsMessage (S.message space.now) }
-    requires some { 0 < length (segment_at (S.message space.now) 0) }
-    requires ready { IsReady (S.message space.now) root depth 1 }
+    requires { IsReady (HasSlot (S.message space.now)) 0 0 depth 1 }
     ensures { IfOk result (λ bytes. (v : Value) → IsAt (S.message space.now) root v → bytes.items ≡ canon v) }
 {
     let words = space.words(0).unwrap_or(0);
     let room = words.min(paid.saturating_add(1));
-    let mut draft = Draft::with_room(alloc, room as usize)?;
-    draft.push(0)?;
-    lay_slot(space, ROOT, 0, depth, &mut draft)?;
-    Ok(draft.finish())
+    canonical_bytes(
+        alloc,
+        MessageSlots { space, start: ROOT },
+        depth,
+        room as usize,
+    )
 }
 
 /// The canonical bytes of a message, read as it is.

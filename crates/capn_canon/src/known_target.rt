@@ -18,7 +18,8 @@ fn start_of(word: u32, offset: i32) -> u32
     if start < 0 { 0 } else { start as u32 }
 }
 
-/// What the pointer at a place names. It is known to name something, so nothing is tested again.
+/// What the pointer at a place names. It is known to name something, so nothing is tested again. A call has its answer
+/// in a place of its own: then only that one comes through memory.
 #[inline(always)]
 pub fn target_at<S: Space>(space: &S, at: Place) -> Target
     requires message { IsMessage (S.message space.now) }
@@ -43,7 +44,10 @@ pub fn target_at<S: Space>(space: &S, at: Place) -> Target
             width,
             count,
         } => match width {
-            Width::Rows => resolved(space, at),
+            Width::Rows => {
+                let target = resolved(space, at);
+                target
+            }
             _ => Target::Content {
                 segment: at.segment,
                 start: start_of(at.word, offset),
@@ -51,7 +55,10 @@ pub fn target_at<S: Space>(space: &S, at: Place) -> Target
                 pads: 0,
             },
         },
-        _ => resolved(space, at),
+        _ => {
+            let target = resolved(space, at);
+            target
+        }
     }
 }
 

@@ -8,8 +8,8 @@
 //! - [`survey_bytes`] and [`survey`] report what the walk of a message pays and visits, and write nothing.
 //! - [`layout`] writes the canonical bytes of a tree: one segment, its objects in preorder, every struct
 //!   cut to what it keeps. A tree with a capability has none, and is refused by the first one's index.
-//! - [`Patch`] is the buffer that it writes: words, and holes for what is not known yet, as a pointer
-//!   whose object has no place so far.
+//! - [`Patch`] is a buffer of words and of holes for what is not known yet, as a pointer whose object has no place so
+//!   far. Nothing here writes to it.
 //!
 //! For any bytes, form and limits, unless memory runs out, `canonicalise` succeeds if and only if the bytes denote a
 //! message without capabilities that is accepted within the limits. Two answers, from any two forms, inputs and limits,
@@ -19,8 +19,9 @@
 //! budget. The clauses `answered`, `equal`, `second` and `within` of `canonicalise` say so, in the definitions of
 //! `specs/Theorem.antt`; [`laws::theorem`] says it of all answers.
 //!
-//! `layout` takes memory for the bytes that it answers, and a bit beside each word. Where a growth is
-//! refused the answer is `Memory`.
+//! A tree and a message are laid out by one writer, over what they have in common: slots with their values.
+//!
+//! `layout` takes memory for the bytes that it answers. Where a growth is refused the answer is `Memory`.
 //!
 //! ```rust
 //! let input = [0, 0, 0, 0, 2, 0, 0, 0, 5, 0, 0, 0, 0, 0, 0, 0, 0, 0, 0, 0, 0, 0, 0, 0];
@@ -41,22 +42,23 @@ mod kept;
 mod known_target;
 pub mod laws;
 mod marks;
+mod message_slots;
 mod message_survey;
 mod number_list_words;
 mod object_layout;
 mod one_pass;
-mod own_words;
+mod opening;
 mod own_words_test;
 mod patch;
 mod pointer_words;
 mod progress;
 mod refusal;
+mod source;
 mod struct_list_words;
 mod survey_input;
 mod surveyed_bare;
-mod tree_content;
 mod tree_layout;
-mod tree_rows;
+mod tree_slots;
 
 pub use bare_verdict::{is_canonical, survey_bare};
 pub use canonical::{Canonical, canonical_of};

@@ -1,173 +1,131 @@
-//! The content of the value at a place of a message, and of all below it, in canonical order.
+//! The content of values, each object with all below it before the next.
 
-ghost use Rattle.std.specs.Prelude.{ℕ, ◌+◌, ◌*◌, ◌^◌, ◌<◌, ◌≤◌, length, OnOk};
-ghost use Rattle.capn_words.specs.Message.{IsMessage, IsPlace};
-ghost use Rattle.capn_walk.specs.Shapes.{IsContent, RowsFit, extent};
-ghost use Rattle.capn_canon.specs.inner.ReadyPlaces.{IsReady, IsReadyInside, AreReady, IsLaid, IsLaidInside, AreLaid};
-ghost use Rattle.capn_canon.specs.inner.RowWords.{RowsReady, RowsLaid};
+ghost use Rattle.std.specs.Prelude.{◌≡◌, ℕ, ◌+◌, ◌*◌, ◌^◌, ◌<◌, ◌≤◌, List, length, IfOk, OnOk};
+ghost use Rattle.capn_value.specs.Tree.{Tree as Value};
+ghost use Rattle.capn_canon.specs.Layout.{canon};
+ghost use Rattle.capn_canon.specs.inner.Ready.{IsReady, AreReady, RowsReady, IsLaid, AreLaid, RowsLaid};
 
 use crate::draft::Draft;
-use crate::known_target::target_at;
-use crate::number_list_words::lay_list;
-use crate::own_words::{open_links, open_struct};
-use crate::struct_list_words::{RowRun, open_rows};
+use crate::opening::{open_links, open_rows, open_struct};
+use crate::pointer_words::list_pointer;
+use crate::source::{Item, Source};
 use capn_value::Memory;
-use capn_walk::{Shape, Target};
-use capn_words::{Place, Pointer, Space, Width, join};
+use capn_words::{Pointer, join};
 use std::alloc::Allocator;
 
-/// Puts the pointer to the value at a place, and appends its content with all below it.
+/// The canonical bytes of the value in the first slot: the pointer to it, then its content. There is room at first for
+/// `room` words.
+pub fn canonical_bytes<S: Source, A: Allocator>(
+    alloc: A,
+    source: S,
+    depth: u32,
+    room: usize,
+) -> Result<Vec<u8, A>, Memory>
+    requires { IsReady S.has source 0 depth 1 }
+    ensures { IfOk result (λ bytes. (v : Value) → S.has source 0 v → bytes.items ≡ canon v) }
+{
+    let mut draft = Draft::with_room(alloc, room)?;
+    draft.push(0)?;
+    lay_slot(source, 0, 0, depth, &mut draft)?;
+    Ok(draft.finish())
+}
+
+/// Puts the pointer to the value in a slot, and appends its content with all below it, at most `depth` objects deep.
 #[cycle(objects)]
-pub fn lay_slot<S: Space, A: Allocator>(
-    space: &S,
-    at: Place,
+fn lay_slot<S: Source, A: Allocator>(
+    source: S,
+    slot: u32,
     from: usize,
     depth: u32,
     draft: &mut Draft<A>,
 ) -> Result<(), Memory>
-    requires message { IsMessage (S.message space.now) }
-    requires place { IsPlace (S.message space.now) at }
-    requires ready { IsReady (S.message space.now) at depth (length draft.old) }
+    requires ready { IsReady S.has source slot depth (length draft.old) }
     requires inside { from < length draft.old }
-    ensures { OnOk result (IsLaid (S.message space.now) at from draft.old draft.new) }
+    ensures { OnOk result (IsLaid S.has source slot from draft.old draft.new) }
 {
-    match target_at(space, at) {
-        Target::Nil => {
+    match source.item(slot) {
+        Item::Nil => {
             draft.put(from, 0);
             Ok(())
         }
-        Target::Cap(index) => {
+        Item::Cap(index) => {
             draft.put(from, join(Pointer::Cap(index)));
             Ok(())
         }
-        Target::Content {
-            segment,
-            start,
-            shape,
-            pads: _,
-        } => {
-            let start = Place {
-                segment,
-                word: start,
-            };
-            lay_object(space, start, shape, from, depth - 1, draft)
+        Item::Numbers(numbers, width, count) => {
+            let word = list_pointer(from, draft.len(), width, count as usize);
+            draft.put(from, word);
+            S::append_numbers(numbers, draft)
+        }
+        Item::Struct(row) => {
+            let own = open_struct::<S, A>(row, from, draft)?;
+            let first = own.first + own.words as usize;
+            lay_slots(S::slots(row, 0), own.slots, first, depth - 1, draft)
+        }
+        Item::Links(row, count) => {
+            let own = open_links::<S, A>(row, count, from, draft)?;
+            let first = own.first + own.words as usize;
+            lay_slots(S::slots(row, 0), own.slots, first, depth - 1, draft)
+        }
+        Item::Rows(rows, count) => {
+            let own = open_rows::<S, A>(rows, count, from, draft)?;
+            lay_rows::<S, A>(
+                rows,
+                count,
+                own.words,
+                own.slots,
+                own.first,
+                depth - 1,
+                draft,
+            )
         }
     }
 }
 
-/// Puts the pointer to an object, and appends its content with all below it.
+/// Writes the pointers of the first `count` slots over the words from `first` on, and appends their content with all
+/// below it.
 #[cycle(objects)]
-fn lay_object<S: Space, A: Allocator>(
-    space: &S,
-    start: Place,
-    shape: Shape,
-    from: usize,
-    depth: u32,
-    draft: &mut Draft<A>,
-) -> Result<(), Memory>
-    requires message { IsMessage (S.message space.now) }
-    requires content { IsContent (S.message space.now) start (extent shape) }
-    requires rows { RowsFit shape }
-    requires ready { IsReadyInside (S.message space.now) shape start.segment start.word depth (length draft.old) }
-    requires inside { from < length draft.old }
-    ensures { OnOk result (IsLaidInside (S.message space.now) shape start.segment start.word from draft.old draft.new) }
-{
-    match shape {
-        Shape::Node { words, slots } => {
-            let opened = open_struct(space, start, words, slots, from, draft)?;
-            let below = Place {
-                segment: start.segment,
-                word: start.word + words as u32,
-            };
-            lay_slots(space, below, opened.count, opened.first, depth, draft)
-        }
-        Shape::Many { width, count } => match width {
-            Width::Link => {
-                let first = open_links(space, start, count, from, draft)?;
-                lay_slots(space, start, count, first, depth, draft)
-            }
-            _ => lay_list(space, start, width, count, from, draft),
-        },
-        Shape::Rows {
-            count,
-            words,
-            slots,
-            span: _,
-        } => {
-            let below = Place {
-                segment: start.segment,
-                word: start.word + 1,
-            };
-            let rows = open_rows(space, below, count, words, slots, from, draft)?;
-            lay_rows(space, below, count, words, slots, rows, depth, draft)
-        }
-    }
-}
-
-/// Writes the pointers of `count` slots over the words from `first` on, and appends their content with all below it.
-#[cycle(objects)]
-fn lay_slots<S: Space, A: Allocator>(
-    space: &S,
-    start: Place,
+fn lay_slots<S: Source, A: Allocator>(
+    source: S,
     count: u32,
     first: usize,
     depth: u32,
     draft: &mut Draft<A>,
 ) -> Result<(), Memory>
-    requires message { IsMessage (S.message space.now) }
-    requires content { IsContent (S.message space.now) start count }
-    requires ready { AreReady (S.message space.now) start.segment start.word count depth (length draft.old) }
+    requires ready { AreReady S.has source 0 count depth (length draft.old) }
     requires inside { first + count ≤ length draft.old }
-    ensures { OnOk result (AreLaid (S.message space.now) start.segment start.word count first draft.old draft.new) }
+    ensures { OnOk result (AreLaid S.has source count first draft.old draft.new) }
 {
-    for i in 0..count {
-        let at = Place {
-            segment: start.segment,
-            word: start.word + i,
-        };
-        lay_slot(space, at, first + i as usize, depth, draft)?;
+    for slot in 0..count {
+        lay_slot(source, slot, first + slot as usize, depth, draft)?;
     }
     Ok(())
 }
 
 /// Writes the pointers of the slots of `count` rows over their words, row by row, and appends their content with all
-/// below it.
+/// below it. The rows begin at `first`, each with `words` words and `slots` slots.
 #[cycle(objects)]
-fn lay_rows<S: Space, A: Allocator>(
-    space: &S,
-    start: Place,
+fn lay_rows<S: Source, A: Allocator>(
+    rows: S::Rows,
     count: u32,
-    words: u16,
-    slots: u16,
-    rows: RowRun,
+    words: u32,
+    slots: u32,
+    first: usize,
     depth: u32,
     draft: &mut Draft<A>,
 ) -> Result<(), Memory>
-    requires message { IsMessage (S.message space.now) }
-    requires content { IsContent (S.message space.now) start (count * (words + slots)) }
-    requires part { rows.slots ≤ slots }
-    requires fits { rows.first + count * (rows.words + rows.slots) ≤ 2 ^ 29 }
-    requires ready { RowsReady (S.message space.now) start.segment start.word words slots count depth rows.words
-        rows.slots
-        rows.first draft.old }
-    ensures { OnOk result
-        (RowsLaid (S.message space.now) start.segment start.word words slots count rows.words rows.slots rows.first
-        draft.old draft.new) }
+    requires ready { RowsReady S.are rows 0 count words slots depth (length draft.old) }
+    requires inside { first + count * (words + slots) ≤ length draft.old }
+    ensures { OnOk result (RowsLaid S.are rows count words slots first draft.old draft.new) }
 {
-    if rows.slots == 0 {
+    if slots == 0 {
         return Ok(());
     }
-    let mut next = start.word;
-    let mut own = rows.first;
+    let mut next = first;
     for row in 0..count {
-        let below = Place {
-            segment: start.segment,
-            word: next + words as u32,
-        };
-        let first = own + rows.words as usize;
-        lay_slots(space, below, rows.slots, first, depth, draft)?;
-        next += words as u32 + slots as u32;
-        own = first + rows.slots as usize;
+        let from = next + words as usize;
+        lay_slots(S::slots(rows, row), slots, from, depth, draft)?;
+        next = from + slots as usize;
     }
     Ok(())
 }

@@ -15,8 +15,7 @@ ghost use Rattle.capn_canon.specs.inner.WordsOfLayout.{Stand};
 
 use crate::kept::kept_in_rows;
 use crate::number_list_words::bits_of;
-use crate::pointer_words::list_pointer;
-use crate::tree_rows::tag_word;
+use crate::pointer_words::{list_pointer, tag_word};
 use capn_words::{Bare, Place, Space, Width};
 
 /// The number of words.

@@ -7,7 +7,7 @@ ghost use Rattle.capn_canon.specs.Patch.{IsHole, IsWhole, filled, whole};
 ghost use Rattle.capn_walk.specs.Target.{words_for};
 ghost use Rattle.capn_canon.specs.Layout.{packed};
 
-use crate::elements::{append_bytes, append_octs, append_pairs, append_quads};
+use crate::elements::append_bytes;
 use crate::marks::{cover, mark, unmark};
 use byteorder::{ByteOrder, LittleEndian};
 use capn_value::Memory;
@@ -140,41 +140,6 @@ impl<A: Allocator> Patch<A> {
         let words = self.bytes.len() / 8;
         cover(&mut self.holes, words.saturating_add(xs.len().div_ceil(8)))?;
         append_bytes(&mut self.bytes, xs)?;
-        Ok(())
-    }
-
-    /// Appends the words of packed 16-bit numbers, four a word. On Memory nothing has changed.
-    pub(crate) fn extend_pairs(&mut self, xs: &[u16]) -> Result<(), Memory>
-        ensures ok { OnOk result (self.new
-            ≡ self.old ++ whole (packed 4 16 (words_for (16 * length xs.now)) xs.now)) }
-        ensures err { OnErr result (self.new ≡ self.old) }
-    {
-        let words = self.bytes.len() / 8;
-        cover(&mut self.holes, words.saturating_add(xs.len().div_ceil(4)))?;
-        append_pairs(&mut self.bytes, xs)?;
-        Ok(())
-    }
-
-    /// Appends the words of packed 32-bit numbers, two a word. On Memory nothing has changed.
-    pub(crate) fn extend_quads(&mut self, xs: &[u32]) -> Result<(), Memory>
-        ensures ok { OnOk result (self.new
-            ≡ self.old ++ whole (packed 2 32 (words_for (32 * length xs.now)) xs.now)) }
-        ensures err { OnErr result (self.new ≡ self.old) }
-    {
-        let words = self.bytes.len() / 8;
-        cover(&mut self.holes, words.saturating_add(xs.len().div_ceil(2)))?;
-        append_quads(&mut self.bytes, xs)?;
-        Ok(())
-    }
-
-    /// Appends words. On Memory nothing has changed.
-    pub(crate) fn extend(&mut self, xs: &[u64]) -> Result<(), Memory>
-        ensures ok { OnOk result (self.new ≡ self.old ++ whole xs.now) }
-        ensures err { OnErr result (self.new ≡ self.old) }
-    {
-        let words = self.bytes.len() / 8;
-        cover(&mut self.holes, words.saturating_add(xs.len()))?;
-        append_octs(&mut self.bytes, xs)?;
         Ok(())
     }
 

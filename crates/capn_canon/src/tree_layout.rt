@@ -1,16 +1,13 @@
 //! The canonical layout of a tree.
 
-ghost use Rattle.std.specs.Prelude.{◌≡◌, ℕ, ◌+◌, ◌^◌, ◌≤◌, Some, None, IfOk, IfErr, OnOk};
-ghost use Rattle.capn_value.specs.TreeOf.{tree_of};
+ghost use Rattle.std.specs.Prelude.{◌≡◌, ℕ, Some, None, IfOk, IfErr, OnOk};
 ghost use Rattle.capn_value.specs.FirstCap as caps;
-ghost use Rattle.capn_canon.specs.Layout.{size, canon};
+ghost use Rattle.capn_canon.specs.Layout.{canon};
 ghost use Rattle.capn_canon.specs.LayoutFault.{IsLayoutFault};
-ghost use Rattle.capn_canon.specs.inner.Sound.{Sound};
 
-use crate::patch::Patch;
-use crate::pointer_words::pointer_to;
-use crate::tree_content::lay_value;
-use capn_value::{Memory, Tree, Value, first_cap};
+use crate::object_layout::canonical_bytes;
+use crate::tree_slots::TreeSlots;
+use capn_value::{Memory, Tree, first_cap};
 use std::alloc::Allocator;
 use std::error::Error;
 use std::fmt;
@@ -41,31 +38,15 @@ impl fmt::Display for LayoutFault {
 
 impl Error for LayoutFault {}
 
-/// The canonical bytes of a value: the pointer to it, then its content.
-#[tactic(auto, using(crate::proofs::Holes::hole_below))]
-fn layout_value<A: Allocator + Copy, B: Allocator>(
-    alloc: A,
-    value: &Value<B>,
-) -> Result<Vec<u8, A>, Memory>
-    requires room { 1 + size (tree_of value.now) ≤ 2 ^ 29 }
-    requires sound { Sound (tree_of value.now) }
-    ensures { IfOk result (λ bytes. bytes.items ≡ canon (tree_of value.now)) }
-{
-    let mut patch = Patch::new(alloc);
-    patch.push(pointer_to(value, 0, 1))?;
-    lay_value(&mut patch, value)?;
-    match patch.finish() {
-        Ok(bytes) => Ok(bytes),
-        Err((_patch, memory)) => Err(memory),
-    }
-}
+/// The greatest height of a tree.
+const MOST_HEIGHT: u32 = 256;
 
 /// The canonical bytes of a tree: one segment, its objects in preorder, every struct cut to what it
 /// keeps.
 ///
 /// `Capability` comes exactly where the tree has one, with the index of the first in preorder, before any
 /// memory is taken. `Memory` comes only where a growth was refused. The bytes are written into one buffer,
-/// which is the answer; beside it stands one bit for each word until the end.
+/// which is the answer.
 ///
 /// Page: canonicalization. Own: bits past a list's last element are 0, and a list without content points
 /// at the next free word.
@@ -83,7 +64,7 @@ pub fn layout<A: Allocator + Copy, B: Allocator>(
     if let Some(index) = first_cap(value) {
         return Err(LayoutFault::Capability(index));
     }
-    match layout_value(alloc, value) {
+    match canonical_bytes(alloc, TreeSlots::Root(value), MOST_HEIGHT, 0) {
         Ok(bytes) => Ok(bytes),
         Err(Memory) => Err(LayoutFault::Memory),
     }

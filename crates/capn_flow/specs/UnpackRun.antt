@@ -1,8 +1,11 @@
 -- Unpacking a stream: what its whole groups unpack to, and a group that is cut. (Page: packing; the rest is own.)
-use Rattle.std.specs.Prelude.{◌≡◌, ℕ, ◌<◌, ◌^◌, List, [], ◌∷◌, ◌++◌, Bool, true, false, Option, Ok, Err}
+use Rattle.std.specs.Prelude.{◌≡◌, ℕ, ◌+◌, ◌<◌, List, [], ◌∷◌, length, drop, Bool, true, false, Option, Result, Ok, Err}
 use Rattle.std.specs.Io.KnownBytes.{Appends}
 use Rattle.capn_pack.specs.PackedPieces as packing
-use Rattle.capn_pack.specs.PackedPieces.{Held, NoGroupFirst, Splits, advanced}
+use Rattle.capn_pack.specs.PackedPieces.{Splits}
+use Rattle.capn_pack.specs.WholeGroups.{UnpacksSome, most_group}
+use Rattle.capn_pack.specs.declared.whole_groups.Progress.{Progress}
+use Rattle.capn_flow.specs.declared.fault.FlowFault.{FlowFault}
 use Rattle.capn_flow.specs.declared.fault.FlowFault.TheVariants as faults
 use Rattle.capn_flow.specs.Flow.{Ending, Flow, Stops}
 
@@ -29,25 +32,22 @@ unpacking = record { gives = IsUnpacked; settles = UnpacksTo; begins = λ bytes 
 
 -- ---- how far unpacking has come
 
--- before the first byte of a packed stream
-abbrev pub fresh : Held
-fresh = record { rest = []; offset = 0; failed = false }
+-- the most words that are held at once
+abbrev pub most_words : ℕ
+most_words = 16384
 
--- bytes after what was held: the words of the groups that they made whole, and what is held then
-pub record Unpacks (before : Held) (bytes words : List ℕ) (after : Held) : Type 0 where
-  pub len : ℕ
-  pub split : Splits (before.rest ++ bytes) after.rest [] words len
-  pub offset : after.offset ≡ advanced before.offset len
-  pub good : after.failed ≡ false
+-- The words of the first whole groups were written, of as many as are held at once, and this stands next; or the run
+-- stopped among these bytes.
+abbrev pub WritesSome : List ℕ → Option (List ℕ) → Option (List ℕ) → Bool → Result Progress FlowFault → Type 0
+WritesSome bytes c d failed (Ok p) =
+    (words : List ℕ) × UnpacksSome bytes most_words [] words p.bytes p.words p.next × Appends c d words
+    × (failed ≡ false)
+WritesSome bytes c d failed (Err fault) = Stops unpacking bytes c d failed fault
 
--- the words of the groups that these bytes made whole were written, or the run stopped among them
-abbrev pub UnpacksPart : Held → List ℕ → Option (List ℕ) → Option (List ℕ) → Bool → Ending → Held → Type 0
-UnpacksPart before bytes c d failed (Ok u) after =
-    (words : List ℕ) × Unpacks before bytes words after × Appends c d words × (failed ≡ false)
-UnpacksPart before bytes c d failed (Err fault) after = Stops unpacking (before.rest ++ bytes) c d failed fault
-
--- an unpacker has not failed, and holds no whole group
-pub record IsUnpacking (held : Held) : Type 0 where
-  pub good : held.failed ≡ false
-  pub group : NoGroupFirst held.rest
-  pub offset : held.offset < 2 ^ 64
+-- The words of all whole groups that stand first were written, which take so many bytes; or the run stopped among these
+-- bytes.
+abbrev pub WritesGroups : List ℕ → Option (List ℕ) → Option (List ℕ) → Bool → Result ℕ FlowFault → Type 0
+WritesGroups bytes c d failed (Ok at) =
+    (words : List ℕ) × Splits bytes (drop at bytes) [] words at × (length bytes < at + most_group) × Appends c d words
+    × (failed ≡ false)
+WritesGroups bytes c d failed (Err fault) = Stops unpacking bytes c d failed fault

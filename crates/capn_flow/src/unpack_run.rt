@@ -1,74 +1,71 @@
 //! Unpacking of a stream, from its first byte to its last.
 
-ghost use Rattle.std.specs.Prelude.{◌≡◌, ◌≤◌, length, false};
+ghost use Rattle.std.specs.Prelude.{◌≡◌, false};
 ghost use Rattle.capn_words.specs.Watched.{inner_of, has_failed};
 ghost use Rattle.capn_flow.specs.Flow.{Runs};
-ghost use Rattle.capn_flow.specs.UnpackRun.{IsUnpacking, UnpacksPart, ending_of, unpacking};
+ghost use Rattle.capn_flow.specs.UnpackRun.{WritesGroups, WritesSome, ending_of, unpacking};
 
 use crate::fault::FlowFault;
 use crate::output::write_all;
-use capn_pack::{UnpackFault, Unpacker};
+use capn_pack::{Next, Progress, unpack_some};
 use capn_words::Watched;
 use std::alloc::Allocator;
 use std::io::{Read, Write};
 
 /// The most bytes that one call of a reader is asked for.
-const CHUNK: u64 = 65_536;
+const CHUNK: usize = 65_536;
 
-/// The most packed bytes that are unpacked at once, of which come at most 1,024 times as many.
-const SLICE: usize = 512;
+/// An unfinished group has no more bytes.
+const UNFINISHED: usize = 2049;
 
-/// Writes the words of all groups that a slice makes whole. What it unpacks to is held at once.
-fn unpack_slice<W: Write, A: Allocator + Copy>(
-    unpacker: &mut Unpacker,
+/// The most words that are held at once. No group has as many.
+const WORDS: u32 = 16_384;
+
+/// Writes the words of the whole groups that stand first, of as many as are held at once.
+fn write_some<W: Write, A: Allocator + Copy>(
     bytes: &[u8],
     words: &mut Vec<u8, A>,
     writer: &mut Watched<W>,
-) -> Result<(), FlowFault>
+) -> Result<Progress, FlowFault>
     requires fine { has_failed writer.old ≡ false }
-    requires held { unpacker.old.failed ≡ false }
-    ensures { UnpacksPart unpacker.old bytes.now (W.contents (inner_of writer.old)) (W.contents (inner_of writer.new))
-        (has_failed writer.new) result unpacker.new }
+    ensures { WritesSome bytes.now (W.contents (inner_of writer.old)) (W.contents (inner_of writer.new))
+        (has_failed writer.new) result }
 {
     words.clear();
-    match unpacker.feed(bytes, words) {
-        Ok(()) => write_all(writer, words),
-        Err(_) => Err(FlowFault::Memory),
-    }
+    let progress = unpack_some(bytes, WORDS, words)?;
+    write_all(writer, words)?;
+    Ok(progress)
 }
 
-/// Writes the words of all groups that a chunk makes whole, slice by slice.
-fn unpack_chunk<W: Write, A: Allocator + Copy>(
-    unpacker: &mut Unpacker,
+/// Writes the words of all whole groups that stand first, and answers how many bytes those groups take.
+fn write_groups<W: Write, A: Allocator + Copy>(
     bytes: &[u8],
     words: &mut Vec<u8, A>,
     writer: &mut Watched<W>,
-) -> Result<(), FlowFault>
+) -> Result<usize, FlowFault>
     requires fine { has_failed writer.old ≡ false }
-    requires unpacking { IsUnpacking unpacker.old }
-    requires short { length bytes.now ≤ 65536 }
-    ensures { UnpacksPart unpacker.old bytes.now (W.contents (inner_of writer.old)) (W.contents (inner_of writer.new))
-        (has_failed writer.new) result unpacker.new }
+    ensures { WritesGroups bytes.now (W.contents (inner_of writer.old)) (W.contents (inner_of writer.new))
+        (has_failed writer.new) result }
 {
     let mut at = 0;
-    while at < bytes.len() {
-        let end = (at + SLICE).min(bytes.len());
-        unpack_slice(unpacker, &bytes[at..end], words, writer)?;
-        at = end;
+    'parts: loop {
+        let progress = write_some(&bytes[at..], words, writer)?;
+        at += progress.bytes;
+        match progress.next {
+            Next::TooLong => {}
+            Next::End | Next::Cut => return Ok(at),
+        }
     }
-    Ok(())
 }
 
-/// How unpacking ends where the input has ended.
-fn end_of_unpacking(mut unpacker: Unpacker) -> Result<(), FlowFault>
-    requires held { unpacker.failed ≡ false }
-    ensures { result ≡ ending_of false unpacker.rest unpacker.offset }
+/// How unpacking ends where the input has ended, and these bytes of it are in no whole group.
+fn end_of_unpacking(rest: &[u8], offset: u64) -> Result<(), FlowFault>
+    ensures { result ≡ ending_of false rest.now offset }
 {
-    match unpacker.finish() {
-        Ok(()) => Ok(()),
-        Err(UnpackFault::Cut { at }) => Err(FlowFault::Cut(at)),
-        Err(_) => unreachable!(),
+    if rest.is_empty() {
+        return Ok(());
     }
+    Err(FlowFault::Cut(offset))
 }
 
 /// Unpacks a stream: writes the words of its whole groups, in chunks of at most 65,536 bytes of it, and those of each
@@ -78,7 +75,8 @@ fn end_of_unpacking(mut unpacker: Unpacker) -> Result<(), FlowFault>
 /// maximum of words. The run ends as done, or with the first fault: `Io` exactly if the reader or the writer failed;
 /// `Memory` if a growth was refused; `InputTooLong` if there are more bytes; `Cut`, with the offset of its tag, if the
 /// input ends within a group. The words of whole groups before it were written; after `Memory` and `Io` a beginning of
-/// them. It holds a chunk, an unfinished group, and what 512 bytes unpack to: at most 2 MiB.
+/// them. It holds a chunk, an unfinished group of at most 2,049 bytes, and up to 16,384 words, which it writes at once,
+/// in room that grows by doubling: less than 512 KiB, whatever comes.
 pub fn unpack_stream<R: Read, W: Write, A: Allocator + Copy>(
     alloc: A,
     reader: &mut Watched<R>,
@@ -90,28 +88,26 @@ pub fn unpack_stream<R: Read, W: Write, A: Allocator + Copy>(
         (W.contents (inner_of writer.old)) (W.contents (inner_of writer.new)) (has_failed reader.new)
         (has_failed writer.new) result }
 {
-    let mut unpacker = Unpacker::new();
     let mut words = Vec::new(alloc);
-    let mut buffer = [0; CHUNK as usize];
+    let mut buffer = [0; UNFINISHED + CHUNK];
+    let mut held = 0;
     let mut taken = 0;
     'chunks: loop {
         let left = u64::MAX - taken;
-        let room = left.min(CHUNK - 1) + 1;
-        match reader.read(&mut buffer[..room as usize]) {
+        let room = left.min(CHUNK as u64 - 1) + 1;
+        match reader.read(&mut buffer[held..held + room as usize]) {
             Err(_) => return Err(FlowFault::Io),
-            Ok(0) => return end_of_unpacking(unpacker),
+            Ok(0) => return end_of_unpacking(&buffer[..held], taken - held as u64),
             Ok(count) => {
                 let within = left.min(count as u64);
-                unpack_chunk(
-                    &mut unpacker,
-                    &buffer[..within as usize],
-                    &mut words,
-                    writer,
-                )?;
+                let end = held + within as usize;
+                let at = write_groups(&buffer[..end], &mut words, writer)?;
                 if within < count as u64 {
                     return Err(FlowFault::InputTooLong);
                 }
                 taken += within;
+                buffer.copy_within(at..end, 0);
+                held = end - at;
             }
         }
     }

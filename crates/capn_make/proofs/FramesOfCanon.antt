@@ -1,11 +1,11 @@
 -- What is written in frames are frames.
-use Rattle.std.proofs.Common.{◌≡◌, ℕ, zero, suc, ◌*◌, ◌/◌, ◌^◌, ◌<◌, List, [], ◌∷◌, ◌++◌, length, replicate}
+use Rattle.std.proofs.Common.{◌≡◌, ℕ, zero, suc, ◌/◌, ◌^◌, ◌<◌, List, [], ◌∷◌, ◌++◌, length, replicate}
 use Rattle.std.proofs.Common.{slice_index, refl, sym, ap, ap₂, ◌∙◌, arith}
 use Rattle.std.proofs.lemmas.List.{append-nil}
 use Rattle.std.specs.Int.{to_le_bytes, w32}
 use Rattle.capn_words.specs.Message.{segment_at, IsBare, AreBytes, bytes as joined}
 use Rattle.capn_words.proofs.shared.Words.{length-bytes}
-use Rattle.capn_stream.specs.Frames.{Frames, FitsTable, entry, table, contents, padding}
+use Rattle.capn_stream.specs.Frames.{Frames, entry, table, contents}
 use Rattle.capn_canon.specs.Layout.{canon}
 use Rattle.capn_canon.specs.Laws.{CanonIsForm}
 use Rattle.capn_make.specs.Laws.{FramedAreFrames}

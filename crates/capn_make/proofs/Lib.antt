@@ -3,8 +3,13 @@ pub mod Failures
 pub mod FramesOfCanon
 pub mod FirstTexts
 pub mod NextTexts
-pub mod OnlyText
+pub mod OneText
 pub mod RunEnds
 pub mod OneReading
 pub mod OneRefusal
+pub mod OneBare
 pub mod ShownTexts
+pub mod WhateverFollows
+pub mod Endings
+pub mod TestedInput
+pub mod FoundRefusal

@@ -1,36 +1,22 @@
 -- An input is read in one way: its texts are those of the same values, and what is left is refused for one reason.
-use Rattle.std.proofs.Common.{◌≡◌, ◌⊎◌, inl, inr, ℕ, ◌≤◌, List, [], ◌∷◌, ◌++◌, length}
+use Rattle.std.proofs.Common.{◌≡◌, inl, inr, ℕ, List, [], ◌∷◌, ◌++◌, length}
 use Rattle.std.proofs.Common.{Some, Result, Ok, Err, refl, sym, ap, ap₂, subst}
 use Rattle.std.proofs.Common.{◌∙◌, append_assoc, arith}
-use Rattle.std.proofs.lemmas.List.{append-nil, length-append}
+use Rattle.std.proofs.lemmas.List.{length-append}
 use Rattle.std.specs.List.{AllByRecursion}
 use Rattle.capn_value.specs.Tree.{Tree}
 use Rattle.capn_value.specs.FirstCap.{first_cap}
 use Rattle.capn_value.specs.Fits.{Fits, misfit}
 use Rattle.capn_value.proofs.shared.Fitting.{fit_parts}
-use Rattle.capn_value.specs.Cost.{height, most_height}
 use Rattle.capn_value.specs.Text.{show_text}
 use Rattle.capn_value.specs.declared.misfit.Misfit.{Misfit}
-use Rattle.capn_text.specs.Laws.{TextsAreApart, FittingIsShowable}
+use Rattle.capn_text.specs.Laws.{TextsAreApart, FittingIsShowable, DeepIsHigh}
 use Rattle.capn_text.specs.Showable.{IsShowable}
-use Rattle.capn_text.specs.Streams.{end_line, stream_text, GoesTooDeep}
+use Rattle.capn_text.specs.Streams.{end_line, stream_text}
 use Rattle.capn_make.specs.WrittenValue.{IsMakeable}
 use Rattle.capn_make.specs.MadeInput.{IsTextRefused, EndsAfter, line_after}
 use Rattle.capn_make.specs.declared.fault.MakeFault.{MakeFault}
 use Rattle.capn_make.specs.declared.fault.MakeFault.TheVariants as faults
-
--- of two beginnings of one list one begins the other
-fronts : (a b c d : List ℕ) → a ++ b ≡ c ++ d
-    → ((z : List ℕ) × (c ≡ a ++ z)) ⊎ ((z : List ℕ) × (a ≡ c ++ z))
-fronts [] b c d e = inl (c, refl)
-fronts (x ∷ xs) b [] d e = inr (x ∷ xs, refl)
-fronts (x ∷ xs) b (y ∷ ys) d e =
-    let same : x ≡ y = cc in
-    let rest : xs ++ b ≡ ys ++ d = cc in
-    elim (fronts xs b ys d rest) [
-      | inl p ↦ inl (p.0, ap₂ (λ h t. h ∷ t) (sym same) p.1)
-      | inr p ↦ inr (p.0, ap₂ (λ h t. h ∷ t) same p.1)
-    ]
 
 past_end : (x y : List ℕ) → end_line ++ x ≡ end_line ++ y → x ≡ y
 past_end x y e = cc
@@ -63,47 +49,33 @@ module _ (apart : TextsAreApart) (shows : FittingIsShowable) where
   pub shown : (v : Tree) → IsMakeable v → IsShowable v
   shown v one = shows v one.fits one.in_range
 
-  -- a text that goes too deep is that of no value of at most 256 levels
-  deep_stuck : (t : List ℕ) → GoesTooDeep t → (v : Tree) (x : List ℕ) → IsShowable v → height v ≤ most_height
-      → t ≡ show_text v ++ x → ⊥
-  deep_stuck t deep v x sv low e =
-      let front = deep.0 in
-      let u = deep.3 in
-      let more = deep.4 in
-      elim (fronts front deep.1 (show_text v) x (sym deep.2 ∙ e)) [
-        | inl p ↦ (let high = deep.7 v p.0 sv p.1 in absurd (omega arith))
-        | inr p ↦
-            (let whole : show_text u ++ [] ≡ show_text v ++ (p.0 ++ more) =
-            append-nil (show_text u) ∙ deep.6 ∙ ap (λ f. f ++ more) p.1 ∙ append_assoc (show_text v) p.0 more in
-            let same = apart 0 u v [] (p.0 ++ more) deep.5 sv whole in
-            let high = deep.7 u more deep.5 deep.6 in
-            let equal = ap height same.0 in
-            absurd (omega arith))
-      ]
+  module _ (high : DeepIsHigh) where
+    pub refused_stuck : (line : ℕ) (rest : List ℕ) (fault : MakeFault) → IsTextRefused line rest fault → IsStuck rest
+    refused_stuck line rest faults.Memory h v more one e = absurd h
+    refused_stuck line rest faults.Io h v more one e = absurd h
+    refused_stuck line rest (faults.NotText n) h v more one e =
+        h.none v more (shown v one) (fit_parts v one.fits).low e
+    refused_stuck line rest (faults.Misfit n m) h v more one e = elim h.1 [
+      | inl deep ↦
+          (let tall = high v rest (end_line ++ more) deep.1 (shown v one) e in
+          let low = (fit_parts v one.fits).low in
+          absurd (omega arith))
+      | inr w ↦
+          (let p = next_same v w.0 more w.1 rest (shown v one) w.3 e w.5 in
+          fit_not v m one.fits (ap misfit p.0 ∙ w.6))
+    ]
+    refused_stuck line rest (faults.Capability n index) h v more one e =
+        let p = next_same v h.1 more h.2 rest (shown v one) (shows h.1 h.3 h.4) e h.5 in
+        let free = one.free in
+        let cap = ap first_cap p.0 ∙ h.6 in
+        absurd cc
+    refused_stuck line rest (faults.Another n) h v more one e = absurd h
+    refused_stuck line rest faults.NoText h v more one e = absurd h
 
-  pub refused_stuck : (line : ℕ) (rest : List ℕ) (fault : MakeFault) → IsTextRefused line rest fault → IsStuck rest
-  refused_stuck line rest faults.Memory h v more one e = absurd h
-  refused_stuck line rest faults.Io h v more one e = absurd h
-  refused_stuck line rest (faults.NotText n) h v more one e =
-      h.none v more (shown v one) (fit_parts v one.fits).low e
-  refused_stuck line rest (faults.Misfit n m) h v more one e = elim h.1 [
-    | inl deep ↦ deep_stuck rest deep.1 v (end_line ++ more) (shown v one) (fit_parts v one.fits).low e
-    | inr w ↦
-        (let p = next_same v w.0 more w.1 rest (shown v one) w.3 e w.4 in
-        fit_not v m one.fits (ap misfit p.0 ∙ w.5))
-  ]
-  refused_stuck line rest (faults.Capability n index) h v more one e =
-      let p = next_same v h.1 more h.2 rest (shown v one) (shows h.1 h.3 h.4) e h.5 in
-      let free = one.free in
-      let cap = ap first_cap p.0 ∙ h.6 in
-      absurd cc
-  refused_stuck line rest (faults.Another n) h v more one e = absurd h
-  refused_stuck line rest faults.NoText h v more one e = absurd h
-
-  pub stuck_after : (vs : List Tree) (rest : List ℕ) (r : Result (Unit {0}) MakeFault) → EndsAfter vs rest r
-      → IsStuck rest
-  stuck_after vs rest (Ok u) e = subst IsStuck (sym e) nothing_stuck
-  stuck_after vs rest (Err fault) h = refused_stuck (line_after vs) rest fault h
+    pub stuck_after : (vs : List Tree) (rest : List ℕ) (r : Result (Unit {0}) MakeFault) → EndsAfter vs rest r
+        → IsStuck rest
+    stuck_after vs rest (Ok u) e = subst IsStuck (sym e) nothing_stuck
+    stuck_after vs rest (Err fault) h = refused_stuck (line_after vs) rest fault h
 
   pub next_of : (v : Tree) (vs : List Tree) (rest : List ℕ)
       → stream_text (v ∷ vs) ++ rest ≡ show_text v ++ (end_line ++ (stream_text vs ++ rest))

@@ -1,17 +1,18 @@
 -- What holds of the definitions alone. (Own.)
-use Rattle.std.specs.Prelude.{◌≡◌, ◌⊎◌, ℕ, List, [], ◌∷◌, Result, Ok}
+use Rattle.std.specs.Prelude.{◌≡◌, ℕ, List, [], ◌∷◌, ◌++◌, Result, Ok, Err}
 use Rattle.std.specs.List.{AllByRecursion}
 use Rattle.capn_words.specs.Message.{IsBare}
 use Rattle.capn_stream.specs.Frames.{Frames}
 use Rattle.capn_value.specs.Tree.{Tree}
 use Rattle.capn_value.specs.Fits.{Fits}
 use Rattle.capn_value.specs.InRange.{InRange}
-use Rattle.capn_text.specs.Streams.{stream_text, GoesTooDeep}
+use Rattle.capn_text.specs.Streams.{stream_text}
 use Rattle.capn_canon.specs.Layout.{canon}
 use Rattle.capn_canon.specs.declared.form.Form.{Form}
 use Rattle.capn_canon.specs.declared.form.Form.TheVariants as forms
 use Rattle.capn_make.specs.WrittenValue.{IsMakeable, AreMade, framed}
-use Rattle.capn_make.specs.MadeInput.{AreFirst, MakesEach, MakesOne}
+use Rattle.capn_make.specs.MadeInput.{AreFirst, Makes, MakesEach, MakesOne}
+use Rattle.capn_make.specs.Endings.{Ends, IsWhole, IsRefusedForGood}
 use Rattle.capn_make.specs.declared.fault.MakeFault.{MakeFault}
 
 -- of the texts that `show` writes of values that can be made, all are made
@@ -34,13 +35,38 @@ abbrev pub OneShownIsMadeOnly : Type 0
 OneShownIsMadeOnly = (v : Tree) (text : List ℕ) (ending : Result (Unit {0}) MakeFault) → IsMakeable v
     → MakesOne (stream_text (v ∷ [])) text ending → (ending ≡ Ok tt) × (text ≡ canon v)
 
--- An input is made in one way: its texts are those of the same values, and it ends with one fault, unless the text that
--- is refused goes too deep.
+-- An input is made in one way: its texts are those of the same values, and it ends in one way, as done or with one
+-- fault.
 abbrev pub OneMaking : Type 0
 OneMaking = (form : Form) (input text other : List ℕ) (r s : Result (Unit {0}) MakeFault)
     → MakesEach form input text r → MakesEach form input other s
     → (vs : List Tree) × (rest : List ℕ) × AreFirst vs input rest × AreMade form vs text × AreMade form vs other
-    × ((r ≡ s) ⊎ GoesTooDeep rest)
+    × (r ≡ s)
+
+-- so is one in form bare
+abbrev pub OneBareMaking : Type 0
+OneBareMaking = (input text other : List ℕ) (r s : Result (Unit {0}) MakeFault) → MakesOne input text r
+    → MakesOne input other s → (text ≡ other) × (r ≡ s)
+
+-- a fault of what stands in an input whole, and what is made before it, are those of the input whatever follows
+abbrev pub FaultStays : Type 0
+FaultStays = (form : Form) (input more text : List ℕ) (fault : MakeFault) → IsWhole input fault
+    → Makes form input text (Err fault) → Makes form (input ++ more) text (Err fault)
+
+-- an input that is refused for good is so whatever follows
+abbrev pub RefusalStays : Type 0
+RefusalStays = (form : Form) (input more : List ℕ) → IsRefusedForGood form input
+    → IsRefusedForGood form (input ++ more)
+
+-- an input ends in one way
+abbrev pub OneEnding : Type 0
+OneEnding = (form : Form) (input : List ℕ) (r s : Result (Unit {0}) MakeFault) → Ends form input r → Ends form input s
+    → r ≡ s
+
+-- and so does what is made of it
+abbrev pub MakingEnds : Type 0
+MakingEnds = (form : Form) (input text : List ℕ) (r : Result (Unit {0}) MakeFault) → Makes form input text r
+    → Ends form input r
 
 -- what is written of a value in frames is a frame of one segment, whose bytes are the canonical ones
 abbrev pub FramedAreFrames : Type 0

@@ -2,5 +2,6 @@ pub mod inner
 pub mod FaultText
 pub mod WrittenValue
 pub mod MadeInput
+pub mod Endings
 pub mod MakeRun
 pub mod Laws

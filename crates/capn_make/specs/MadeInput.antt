@@ -34,15 +34,15 @@ pub record IsWrong (line : ℕ) (rest : List ℕ) (n : ℕ) : Type 0 where
       → rest ≢ show_text v ++ (end_line ++ more)
   pub first : (k : ℕ) × (n + 1 ≡ line + k) × IsFirstWrong ended_text k rest
 
--- Why the text is refused that is next, from a line on: a line is wrong; or its value has a misfit, or goes too deep,
--- whatever follows; or its value fits, and has a capability.
+-- Why the text is refused that is next, from a line on: a line is wrong; or it goes too deep, whatever follows; or its
+-- value is of at most 256 levels and has a misfit; or its value fits, and has a capability.
 abbrev pub IsTextRefused : ℕ → List ℕ → MakeFault → Type 0
 IsTextRefused line rest faults.Memory = ⊥
 IsTextRefused line rest faults.Io = ⊥
 IsTextRefused line rest (faults.NotText n) = IsWrong line rest n
 IsTextRefused line rest (faults.Misfit n m) = (n ≡ line)
     × (((m ≡ Tall) × GoesTooDeep rest) ⊎ ((v : Tree) × (more : List ℕ) × InRange v × IsShowable v
-    × (rest ≡ show_text v ++ (end_line ++ more)) × (misfit v ≡ Some m)))
+    × (height v ≤ most_height) × (rest ≡ show_text v ++ (end_line ++ more)) × (misfit v ≡ Some m)))
 IsTextRefused line rest (faults.Capability n index) = (n ≡ line)
     × (v : Tree) × (more : List ℕ) × Fits v × InRange v × (rest ≡ show_text v ++ (end_line ++ more))
     × (first_cap v ≡ Some index)

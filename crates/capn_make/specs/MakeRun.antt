@@ -1,5 +1,6 @@
 -- What a run of `make` did. (Own.)
-use Rattle.std.specs.Prelude.{◌≡◌, ◌⊎◌, ◌↔◌, ℕ, List, [], ◌∷◌, Bool, true, Option, IfSome, Result, Ok, Err}
+use Rattle.std.specs.Prelude.{◌≡◌, ◌⊎◌, ◌↔◌, ◌≤◌, ◌+◌, ◌*◌, ℕ, List, [], ◌∷◌, length, take, Bool, true, Option}
+use Rattle.std.specs.Prelude.{IfSome, Result, Ok, Err}
 use Rattle.std.specs.Io.KnownBytes.{Appends, Consumes}
 use Rattle.capn_words.specs.Watched.{HasBegun}
 use Rattle.capn_value.specs.Tree.{Tree}
@@ -8,6 +9,7 @@ use Rattle.capn_canon.specs.declared.form.Form.{Form}
 use Rattle.capn_canon.specs.declared.form.Form.TheVariants as forms
 use Rattle.capn_make.specs.WrittenValue.{AreMade}
 use Rattle.capn_make.specs.MadeInput.{AreFirst, Makes}
+use Rattle.capn_make.specs.Endings.{IsRefusedForGood}
 use Rattle.capn_make.specs.declared.fault.MakeFault.{MakeFault}
 use Rattle.capn_make.specs.declared.fault.MakeFault.TheVariants as faults
 
@@ -44,3 +46,11 @@ pub record Made (form : Form) (a b c d : Option (List ℕ)) (reader_failed write
   pub begun : (bytes : List ℕ) × Consumes a b bytes × HasBegunText form bytes c d
   -- if the reader failed, nothing was written
   pub unread : reader_failed ≡ true → Appends c d []
+
+-- If the first n of these bytes are refused whatever follows, there are at most four times as many and 65,536 more.
+abbrev pub AreInTime : Form → List ℕ → Type 0
+AreInTime form bytes = (n : ℕ) → IsRefusedForGood form (take n bytes) → length bytes ≤ 4 * n + 65536
+
+-- the bytes that were read are no more than that
+abbrev pub StopsInTime : Form → Option (List ℕ) → Option (List ℕ) → Type 0
+StopsInTime form a b = (bytes : List ℕ) × Consumes a b bytes × AreInTime form bytes

@@ -1,10 +1,11 @@
 //! The laws of what is made, as functions that do nothing.
 
 ghost use Rattle.capn_make.specs.Laws.{ShownAreMade, ShownAreMadeOnly, OneShownIsMade, OneShownIsMadeOnly};
-ghost use Rattle.capn_make.specs.Laws.{FramedAreFrames, OneMaking, OneTextInFrames};
+ghost use Rattle.capn_make.specs.Laws.{FramedAreFrames, OneMaking, OneBareMaking, OneTextInFrames};
+ghost use Rattle.capn_make.specs.Laws.{FaultStays, RefusalStays, OneEnding, MakingEnds};
 
 use capn_canon::laws::canonicity;
-use capn_text::laws::texts;
+use capn_text::laws::{refusals, texts, whole_lines};
 
 /// The texts that [`capn_value::show`] writes, each with its line `end`, are made again: of values that fit and have no
 /// capability nothing but their canonical bytes, in order.
@@ -15,14 +16,30 @@ pub fn showing()
     ensures one_only { OneShownIsMadeOnly }
 {
     texts();
+    refusals();
 }
 
-/// An input is made in one way.
+/// An input is made in one way, and ends as done or with one fault.
 pub fn making()
     ensures one { OneMaking }
+    ensures bare { OneBareMaking }
     ensures text { OneTextInFrames }
 {
     texts();
+    refusals();
+}
+
+/// An input that is refused by what stands there whole, a text or a wrong line with its line end, is refused so
+/// whatever follows it.
+pub fn refusing()
+    ensures stays { FaultStays }
+    ensures goes_on { RefusalStays }
+    ensures one { OneEnding }
+    ensures ends { MakingEnds }
+{
+    texts();
+    refusals();
+    whole_lines();
 }
 
 /// What is written of a value in [`crate::Form::Stream`] is a frame of one segment, as [`capn_canon`] reads it.

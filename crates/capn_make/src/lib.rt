@@ -5,14 +5,14 @@
 //! [`MakeFault`], which names the line.
 #![tactic(auto)]
 
-mod each_text;
 mod fault;
 mod input;
 pub mod laws;
 mod make_run;
 mod next_text;
-mod one_text;
 mod output;
+mod progress;
+mod whole_texts;
 mod written_value;
 
 pub use fault::MakeFault;

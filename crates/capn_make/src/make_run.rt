@@ -2,35 +2,16 @@
 
 ghost use Rattle.std.specs.Prelude.{◌≡◌, false};
 ghost use Rattle.capn_words.specs.Watched.{inner_of, has_failed};
-ghost use Rattle.capn_make.specs.MakeRun.{Made};
-ghost use Rattle.capn_make.specs.inner.RunParts.{Sends};
+ghost use Rattle.capn_make.specs.MakeRun.{Made, StopsInTime};
 
-use crate::each_text::make_each;
 use crate::fault::MakeFault;
-use crate::input::read_all;
-use crate::one_text::make_one;
+use crate::input::make_input;
+use crate::laws::refusing;
+use crate::output::write_all;
 use capn_canon::Form;
 use capn_words::Watched;
 use std::alloc::Allocator;
 use std::io::{Read, Write};
-
-/// Writes what is made of the texts of an input.
-fn make_all<W: Write, A: Allocator + Copy>(
-    alloc: A,
-    form: Form,
-    input: &[u8],
-    writer: &mut Watched<W>,
-) -> Result<(), MakeFault>
-    requires { has_failed writer.old ≡ false }
-    ensures { Sends form input.now (W.contents (inner_of writer.old)) (W.contents (inner_of writer.new))
-        (has_failed writer.new) result }
-{
-    match form {
-        Form::Stream => make_each(alloc, Form::Stream, input, writer),
-        Form::Packed => make_each(alloc, Form::Packed, input, writer),
-        Form::Bare => make_one(alloc, input, writer),
-    }
-}
 
 /// Reads texts of values to the end of the input, each with its line `end`, and writes the canonical bytes of each
 /// value: in [`Form::Stream`] as a frame of one segment, in [`Form::Packed`] as the packed text of that frame, in
@@ -41,8 +22,15 @@ fn make_all<W: Write, A: Allocator + Copy>(
 /// `Another`, or `NotText` if the line after the first text begins none; no text is `NoText`. In the other forms an
 /// input without texts is done. `Io` exactly if the reader or the writer failed; `Memory` if a growth was refused.
 ///
-/// The reader is asked for at most 65,536 bytes at once. It holds all of the input, then one value and what is written
-/// of it, which is written before the next text is read. What a text announces is never allocated.
+/// The reader is asked for at most 65,536 bytes at once. What is made of the texts so far is held until the end of the
+/// input, beside the text that is unfinished, one value and what is written of it. What a text announces is never
+/// allocated.
+///
+/// An input that is refused whatever follows isn't read to its end: if n bytes are enough to refuse it, by a text that
+/// stands there with its line `end`, by one that goes too deep, or by a wrong line with its line end, at most
+/// 4 n + 65,536 bytes are taken. To test for that, an unfinished text is read again each time there are four times as
+/// many bytes of it. A wrong line without its line end may be the beginning of one that isn't wrong, so a single line
+/// is read however long it is.
 pub fn make<R: Read, W: Write, A: Allocator + Copy>(
     alloc: A,
     form: Form,
@@ -51,10 +39,14 @@ pub fn make<R: Read, W: Write, A: Allocator + Copy>(
 ) -> Result<(), MakeFault>
     requires reader_fine { has_failed reader.old ≡ false }
     requires writer_fine { has_failed writer.old ≡ false }
-    ensures { Made form (R.remaining (inner_of reader.old)) (R.remaining (inner_of reader.new))
+    ensures made { Made form (R.remaining (inner_of reader.old)) (R.remaining (inner_of reader.new))
         (W.contents (inner_of writer.old)) (W.contents (inner_of writer.new)) (has_failed reader.new)
         (has_failed writer.new) result }
+    // However it ended, little more was read than was needed to know that the input is refused.
+    ensures stops { StopsInTime form (R.remaining (inner_of reader.old)) (R.remaining (inner_of reader.new)) }
 {
-    let input = read_all(alloc, reader)?;
-    make_all(alloc, form, &input, writer)
+    refusing();
+    let outcome = make_input(alloc, form, reader)?;
+    write_all(writer, &outcome.text)?;
+    outcome.ending
 }

@@ -4,7 +4,7 @@ ghost use Rattle.std.specs.Prelude.{◌≡◌, None, Some, IfOk, IfErr, ◌⊎�
 ghost use Rattle.capn_value.specs.FirstCap.{first_cap};
 ghost use Rattle.capn_make.specs.WrittenValue.{IsWrittenValue};
 ghost use Rattle.capn_make.specs.inner.RunParts as spec;
-ghost use Rattle.capn_make.specs.inner.RunParts.{MakesNext, MakesValue};
+ghost use Rattle.capn_make.specs.inner.RunParts.{IsAfter, MakesNext, MakesValue};
 
 use crate::fault::MakeFault;
 use crate::written_value::piece_of;
@@ -14,7 +14,7 @@ use capn_value::Tree;
 use std::alloc::Allocator;
 
 /// Why the next text, from a line on, is not read.
-fn unread(line: u64, fault: TextFault) -> MakeFault
+pub(crate) fn unread(line: u64, fault: TextFault) -> MakeFault
     ensures { result ≡ spec.unread line fault }
 {
     match fault {
@@ -46,7 +46,8 @@ pub(crate) fn next_piece<A: Allocator + Copy>(
     form: Form,
     texts: &mut Texts,
 ) -> Result<Option<Vec<u8, A>>, MakeFault>
-    ensures { MakesNext form texts.old texts.new result }
+    ensures after { IsAfter texts.old texts.new }
+    ensures made { MakesNext form texts.old texts.new result }
 {
     let line = texts.line();
     match texts.read_next(alloc) {

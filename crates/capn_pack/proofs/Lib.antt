@@ -3,6 +3,7 @@ mod TagLemmas
 mod WeightLemmas
 mod RunLemmas
 mod PutLemmas
+mod SpanLemmas
 mod WordLemmas
 mod LaneLemmas
 mod RowLemmas

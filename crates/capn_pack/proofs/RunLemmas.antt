@@ -1,10 +1,11 @@
 -- Runs of words, and the bytes that a tag names.
-use Rattle.std.proofs.Common.{◌≡◌, ℕ, zero, suc, ◌+◌, ◌-◌, ◌*◌, ◌/◌, ◌%◌, ◌<◌, ◌≤◌, true, false, eqb, ltb, List, []}
-use Rattle.std.proofs.Common.{◌∷◌, ◌++◌, length, take, drop, slice_range, replicate, filter, refl, sym, ap, ◌∙◌, subst}
-use Rattle.std.proofs.Common.{arith, append_assoc, take-add, take-append-drop, drop-drop, length-take, length-drop}
-use Rattle.std.proofs.Common.{take_all}
+use Rattle.std.proofs.Common.{◌≡◌, ℕ, zero, suc, ◌+◌, ◌-◌, ◌*◌, ◌/◌, ◌%◌, ◌^◌, ◌<◌, ◌≤◌, true, false, eqb, ltb, List}
+use Rattle.std.proofs.Common.{[], ◌∷◌, ◌++◌, length, take, drop, slice_range, replicate, filter, refl, sym, ap, ◌∙◌}
+use Rattle.std.proofs.Common.{subst, arith, append_assoc, take-add, take-append-drop, drop-drop, length-take}
+use Rattle.std.proofs.Common.{length-drop, take_all}
 use Rattle.std.proofs.lemmas.Bool.{ne_eqb, lt-ltb}
 use Rattle.std.proofs.lemmas.List.{replicate-append-replicate, take-append-le, drop-append-le, drop_all}
+use Rattle.std.proofs.Math.Nat.{two-pow-succ}
 use Rattle.std.specs.Prelude.{count_ones}
 use Rattle.capn_pack.specs.Packed.{tag_of, named_bytes, IsNamedBy}
 use Rattle.capn_pack.specs.Chosen.{zero_count, IsDense, AllDense}
@@ -89,46 +90,106 @@ zero_more bytes start count z less room h =
 
 -- ---- dense words
 
-dense_append : (n : ℕ) (bs w : List ℕ) → AllDense n bs → length bs ≡ 8 * n → IsDense w → AllDense (n + 1) (bs ++ w)
-dense_append zero bs w h long d =
-    let whole : take 8 w ≡ w = take_all 8 w (omega (arith, d.0)) in
-    let none : drop 8 w ≡ [] = drop_all 8 w (omega (arith, d.0)) in
-    rw h (subst IsDense (sym whole) d, none)
-dense_append (suc n) bs w h long d =
+dense_join : (n m : ℕ) (bs cs : List ℕ) → AllDense n bs → length bs ≡ 8 * n → AllDense m cs
+    → AllDense (n + m) (bs ++ cs)
+dense_join zero m bs cs h long d =
+    let on : 0 + m ≡ m = omega arith in
+    subst (λ k. AllDense k (bs ++ cs)) (sym on) (subst (λ l. AllDense m (l ++ cs)) (sym h) d)
+dense_join (suc n) m bs cs h long d =
     let le : 8 ≤ length bs = omega arith in
     let rest : length (drop 8 bs) ≡ 8 * n = length-drop 8 bs ∙ omega arith in
-    let on : suc n + 1 ≡ suc (n + 1) = omega arith in
-    subst (λ k. AllDense k (bs ++ w)) (sym on) (
-      subst IsDense (sym (take-append-le 8 bs w le)) h.0,
-      subst (AllDense (n + 1)) (sym (drop-append-le 8 bs w le)) (dense_append n (drop 8 bs) w h.1 rest d),
+    let on : suc n + m ≡ suc (n + m) = omega arith in
+    subst (λ k. AllDense k (bs ++ cs)) (sym on) (
+      subst IsDense (sym (take-append-le 8 bs cs le)) h.0,
+      subst (AllDense (n + m)) (sym (drop-append-le 8 bs cs le)) (dense_join n m (drop 8 bs) cs h.1 rest d),
     )
 
-pub record DenseTo (bytes : List ℕ) (start count : ℕ) : Type 0 where
-  pub most : count ≤ 255
+one_dense : (w : List ℕ) → IsDense w → AllDense 1 w
+one_dense w d = (subst IsDense (sym (take_all 8 w (omega (arith, d.0)))) d, drop_all 8 w (omega (arith, d.0)))
+
+pub record DenseTo (bytes : List ℕ) (start limit count : ℕ) : Type 0 where
+  pub most : count ≤ limit
   pub inside : start + 8 * count ≤ length bytes
   pub dense : AllDense count (slice_range bytes start (start + 8 * count))
 
-pub dense_more : (bytes : List ℕ) (start count : ℕ) → DenseTo bytes start count → count < 255
-    → start + 8 * count + 8 ≤ length bytes → 7 ≤ count_ones (tag_of (take 8 (drop (start + 8 * count) bytes)))
-    → DenseTo bytes start (count + 1)
-dense_more bytes start count d less room h =
+-- some words more
+pub dense_steps : (bytes : List ℕ) (start limit count step : ℕ) → DenseTo bytes start limit count
+    → step ≤ limit - count → (start + 8 * count) + 8 * step ≤ length bytes
+    → AllDense step (slice_range bytes (start + 8 * count) ((start + 8 * count) + 8 * step))
+    → DenseTo bytes start limit (count + step)
+dense_steps bytes start limit count step d most room more =
     let p = start + 8 * count in
-    let word = take 8 (drop p bytes) in
     let bs = slice_range bytes start p in
-    let long : length word ≡ 8 = simp (length-take, length-drop) (omega arith) in
+    let cs = slice_range bytes p (p + 8 * step) in
     let size : length bs ≡ 8 * count = simp (length-take, length-drop) (omega arith) in
-    let dense : IsDense word = (long, omega (arith, ones_tag word)) in
-    let end : start + 8 * (count + 1) - start ≡ 8 * count + 8 = omega arith in
     let here : p - start ≡ 8 * count = omega arith in
-    let grown : slice_range bytes start (start + 8 * (count + 1)) ≡ bs ++ word = ap (λ n. take n (drop start bytes)) end
-    ∙ take-add (8 * count) 8 (drop start bytes)
-    ∙ ap (λ l. take (8 * count) (drop start bytes) ++ take 8 l) (drop-drop (8 * count) start bytes)
-    ∙ ap (λ n. take n (drop start bytes) ++ word) (sym here) in
+    let there : p + 8 * step - p ≡ 8 * step = omega arith in
+    let end : start + 8 * (count + step) - start ≡ 8 * count + 8 * step = omega arith in
+    let grown : slice_range bytes start (start + 8 * (count + step)) ≡ bs ++ cs =
+    ap (λ n. take n (drop start bytes)) end
+    ∙ take-add (8 * count) (8 * step) (drop start bytes)
+    ∙ ap (λ l. take (8 * count) (drop start bytes) ++ take (8 * step) l) (drop-drop (8 * count) start bytes)
+    ∙ (λ i. take (sym here i) (drop start bytes) ++ take (sym there i) (drop p bytes)) in
     record {
       most = omega arith;
       inside = omega arith;
-      dense = subst (AllDense (count + 1)) (sym grown) (dense_append count bs word d.dense size dense);
+      dense = subst (AllDense (count + step)) (sym grown) (dense_join count step bs cs d.dense size more);
     }
+
+-- one word more
+pub dense_more : (bytes : List ℕ) (start limit count : ℕ) → DenseTo bytes start limit count → count < limit
+    → start + 8 * count + 8 ≤ length bytes → 7 ≤ count_ones (tag_of (take 8 (drop (start + 8 * count) bytes)))
+    → DenseTo bytes start limit (count + 1)
+dense_more bytes start limit count d less room h =
+    let p = start + 8 * count in
+    let word = take 8 (drop p bytes) in
+    let long : length word ≡ 8 = simp (length-take, length-drop) (omega arith) in
+    let dense : IsDense word = (long, omega (arith, ones_tag word)) in
+    let size : p + 8 * 1 - p ≡ 8 = omega arith in
+    let here : slice_range bytes p (p + 8 * 1) ≡ word = ap (λ n. take n (drop p bytes)) size in
+    dense_steps bytes start limit count 1 d (omega arith) (omega arith)
+    (subst (AllDense 1) (sym here) (one_dense word dense))
+
+-- ---- words without a zero byte
+
+zeros_split : (n : ℕ) (xs : List ℕ) → zero_count (take n xs) + zero_count (drop n xs) ≡ zero_count xs
+zeros_split zero xs = omega arith
+zeros_split (suc n) [] = omega arith
+zeros_split (suc n) (x ∷ xs) = omega (arith, zeros_split n xs)
+
+-- the tags of words whose bytes all count
+full_tag : (n : ℕ) (xs : List ℕ) → length xs ≡ n → 1 + tag_of xs ≡ 2 ^ n → zero_count xs ≡ 0
+full_tag n [] long h = refl
+full_tag zero (x ∷ xs) long h = absurd (omega arith)
+full_tag (suc n) (zero ∷ xs) long h = absurd (omega (arith, h, two-pow-succ n))
+full_tag (suc n) (suc x ∷ xs) long h =
+    let rest = full_tag n xs (omega arith) (omega (arith, h, two-pow-succ n, tag_some x xs)) in
+    rw (nonzero x).0 (omega (arith, rest))
+
+full_dense : (n : ℕ) (xs : List ℕ) → length xs ≡ 8 * n → zero_count xs ≡ 0 → AllDense n xs
+full_dense zero [] long none = refl
+full_dense zero (x ∷ xs) long none = absurd (omega arith)
+full_dense (suc n) xs long none =
+    let split = zeros_split 8 xs in
+    let first : length (take 8 xs) ≡ 8 = simp length-take (omega arith) in
+    let rest : length (drop 8 xs) ≡ 8 * n = length-drop 8 xs ∙ omega arith in
+    ((first, omega (arith, split)), full_dense n (drop 8 xs) rest (omega (arith, split)))
+
+pub four_dense : (bytes : List ℕ) (at : ℕ) → at + 32 ≤ length bytes → tag_of (take 32 (drop at bytes)) ≡ 4294967295
+    → AllDense 4 (slice_range bytes at (at + 8 * 4))
+four_dense bytes at room h =
+    let xs = take 32 (drop at bytes) in
+    let long : length xs ≡ 32 = simp (length-take, length-drop) (omega arith) in
+    let size : at + 8 * 4 - at ≡ 32 = omega arith in
+    let none : zero_count xs ≡ 0 = full_tag 32 xs long (omega (arith, h)) in
+    subst (AllDense 4) (sym (ap (λ n. take n (drop at bytes)) size)) (full_dense 4 xs long none)
+
+-- the word after no words
+pub none_at : (bytes : List ℕ) (at n : ℕ) → n ≡ 0 → IsDense (take 8 (drop at bytes))
+    → IsDense (take 8 (drop (at + 8 * n) bytes))
+none_at bytes at n none d =
+    let here : at ≡ at + 8 * n = omega arith in
+    subst (λ k. IsDense (take 8 (drop k bytes))) here d
 
 -- ---- the bytes that are named
 

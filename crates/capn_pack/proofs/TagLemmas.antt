@@ -22,7 +22,17 @@ pub mask_tag : (xs : List ℕ) → length xs ≡ 8
     → mask_l (map (top 7) (zip2 (λ a b. cond (differs a b) 255 0) xs (replicate 8 0))) % 2 ^ 64 ≡ tag_of xs
 mask_tag xs long = bitmask_splat w8 differs xs 8 0 long (omega arith) ∙ mask_is xs
 
+-- the same of four words
+pub mask_four : (xs : List ℕ) → length xs ≡ 32
+    → mask_l (map (top 7) (zip2 (λ a b. cond (differs a b) 255 0) xs (replicate 32 0))) % 2 ^ 64 ≡ tag_of xs
+mask_four xs long = bitmask_splat w8 differs xs 32 0 long (omega arith) ∙ mask_is xs
+
 pub tag_lt : (xs : List ℕ) → length xs ≡ 8 → tag_of xs < 256
 tag_lt xs long =
     rw (← mask_is xs) (let n : length (map (λ x. differs x 0) xs) ≡ 8 = length-map xs (λ x. differs x 0) ∙ long in
+    rw n at (mask_l-lt (map (λ x. differs x 0) xs)))
+
+pub four_lt : (xs : List ℕ) → length xs ≡ 32 → tag_of xs < 2 ^ 32
+four_lt xs long =
+    rw (← mask_is xs) (let n : length (map (λ x. differs x 0) xs) ≡ 32 = length-map xs (λ x. differs x 0) ∙ long in
     rw n at (mask_l-lt (map (λ x. differs x 0) xs)))

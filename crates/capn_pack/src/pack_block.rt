@@ -1,15 +1,19 @@
 //! Groups written into a block, so that they are appended together.
-ghost use Rattle.std.specs.Prelude.{◌≡◌, ◌+◌, ◌≤◌, ◌∷◌, ◌++◌, [], length, take, IfSome, IfNone};
-ghost use Rattle.capn_pack.specs.Packed.{named_bytes};
+ghost use Rattle.std.specs.Prelude.{◌≡◌, ◌+◌, ◌≤◌, ◌∷◌, ◌++◌, [], length, take, drop, IfSome, IfNone};
+ghost use Rattle.capn_pack.specs.Packed.{named_bytes, tag_of};
 ghost use Rattle.capn_pack.specs.inner.Steps.{Puts, PutsRow};
 
-use crate::block::Block;
+use crate::block::{Block, store_bytes};
 use crate::lanes::gather;
-use crate::runs::{word_at, zero_run};
+use crate::runs::{raw_run, word_at, zero_run};
 use crate::signs::tag;
 
-/// How many bytes one group may need of a block: a tag and its bytes are written by one store of that size.
-pub(crate) const LANES: usize = 16;
+/// How many bytes are written at once after the head of a raw group: those of the words that follow its first one, of
+/// which there are fewer than eight, and any.
+const SPAN: usize = 64;
+
+/// How many bytes one group may need of a block: the head of a raw group has ten.
+pub(crate) const ROOM: usize = 10 + SPAN;
 
 /// Writes sixteen bytes.
 #[inline(always)]
@@ -29,6 +33,35 @@ fn store_pair(block: &mut [u8], at: usize, pair: [u8; 2])
     block[at..at + 2].copy_from_slice(&pair);
 }
 
+/// Writes a raw group of at most eight words after the bytes that wait, if a span of bytes stands after its first word.
+#[inline(always)]
+fn store_raw(bytes: &[u8], at: usize, block: &mut [u8], fill: usize) -> Option<Block>
+    requires inside { at + 8 ≤ length bytes.now }
+    requires tag { tag_of (take 8 (drop at bytes.now)) ≡ 255 }
+    requires room { fill + ROOM ≤ length block.old }
+    ensures within { IfSome result (λ s. s.fill ≤ fill + ROOM) }
+    ensures some { IfSome result (λ s. Puts bytes.now at s.at (take fill block.old) (take s.fill block.new)) }
+    ensures none { IfNone result (block.new ≡ block.old) }
+{
+    let start = at + 8;
+    if bytes.len() < start + SPAN {
+        return None;
+    }
+    let more = raw_run(bytes, start, 8);
+    if more == 8 {
+        return None;
+    }
+    // The word stays in its lanes, as where a group has no more than it.
+    let word = word_at(bytes, at);
+    store(block, fill, gather(word, 255));
+    store_bytes(block, fill + 9, &[more as u8]);
+    store_bytes(block, fill + 10, &bytes[start..start + SPAN]);
+    Some(Block {
+        at: start + 8 * more,
+        fill: fill + 10 + 8 * more,
+    })
+}
+
 /// Writes the tag and the bytes that it names after the bytes that wait, and answers how many wait then.
 #[inline(always)]
 fn store_named(block: &mut [u8], fill: usize, word: [u8; 8], tag: u8) -> usize
@@ -40,41 +73,54 @@ fn store_named(block: &mut [u8], fill: usize, word: [u8; 8], tag: u8) -> usize
     fill + 1 + tag.count_ones() as usize
 }
 
-/// Writes the group that the packer chooses there after the bytes that wait, unless it is a raw one.
+/// Writes the group of a zero word, and of as many more as come, after the bytes that wait.
+#[inline(always)]
+fn store_zeros(bytes: &[u8], at: usize, block: &mut [u8], fill: usize) -> Block
+    requires inside { at + 8 ≤ length bytes.now }
+    requires tag { tag_of (take 8 (drop at bytes.now)) ≡ 0 }
+    requires room { fill + ROOM ≤ length block.old }
+    ensures within { result.fill ≤ fill + ROOM }
+    ensures some { Puts bytes.now at result.at (take fill block.old) (take result.fill block.new) }
+{
+    let more = zero_run(bytes, at + 8);
+    store_pair(block, fill, [0, more as u8]);
+    Block {
+        at: at + 8 + 8 * more,
+        fill: fill + 2,
+    }
+}
+
+/// Writes the group that the packer chooses there after the bytes that wait, unless it is a raw one that is long or
+/// near the end.
 #[inline(always)]
 fn store_group(bytes: &[u8], at: usize, block: &mut [u8], fill: usize) -> Option<Block>
     requires inside { at + 8 ≤ length bytes.now }
-    requires room { fill + 16 ≤ length block.old }
-    ensures within { IfSome result (λ s. s.fill ≤ fill + 16) }
+    requires room { fill + ROOM ≤ length block.old }
+    ensures within { IfSome result (λ s. s.fill ≤ fill + ROOM) }
     ensures some { IfSome result (λ s. Puts bytes.now at s.at (take fill block.old) (take s.fill block.new)) }
     ensures none { IfNone result (block.new ≡ block.old) }
 {
     let word = word_at(bytes, at);
-    match tag(&word) {
-        0 => {
-            let more = zero_run(bytes, at + 8);
-            store_pair(block, fill, [0, more as u8]);
-            Some(Block {
-                at: at + 8 + 8 * more,
-                fill: fill + 2,
-            })
-        }
-        255 => None,
-        tag => Some(Block {
+    let tag = tag(&word);
+    match tag {
+        255 => store_raw(bytes, at, block, fill),
+        0 => Some(store_zeros(bytes, at, block, fill)),
+        _ => Some(Block {
             fill: store_named(block, fill, word, tag),
             at: at + 8,
         }),
     }
 }
 
-/// Writes the groups that the packer chooses from there on, up to a raw one or as far as the block goes.
+/// Writes the groups that the packer chooses from there on, as far as the block goes, or up to a
+/// raw one that is long or near the end.
 pub(crate) fn store_groups(bytes: &[u8], start: usize, block: &mut [u8]) -> Block
     requires inside { start ≤ length bytes.now }
-    requires room { 16 ≤ length block.old }
+    requires room { ROOM ≤ length block.old }
     ensures within { result.fill ≤ length block.new }
     ensures row { PutsRow bytes.now start result.at [] (take result.fill block.new) }
 {
-    let limit = block.len() - LANES;
+    let limit = block.len() - ROOM;
     let whole = bytes.len().saturating_sub(7);
     let mut at = start;
     let mut fill = 0;

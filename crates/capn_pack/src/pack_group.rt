@@ -4,7 +4,7 @@ ghost use Rattle.capn_pack.specs.Packed.{tag_of, named_bytes};
 ghost use Rattle.capn_pack.specs.inner.Steps.{Puts};
 
 use crate::lanes::gather;
-use crate::runs::{raw_run, word_at, zero_run};
+use crate::runs::{long_run, word_at, zero_run};
 use crate::signs::tag;
 use std::alloc::{AllocError, Allocator};
 
@@ -43,7 +43,7 @@ fn put_raw<A: Allocator>(bytes: &[u8], at: usize, out: &mut Vec<u8, A>) -> Resul
     ensures { IfOk result (λ next. Puts bytes.now at next out.old.items out.new.items) }
 {
     let start = at + 8;
-    let more = raw_run(bytes, start);
+    let more = long_run(bytes, start);
     let end = start + 8 * more;
     out.reserve(10 + 8 * more)?;
     out.extend_from_slice(&[255])?;

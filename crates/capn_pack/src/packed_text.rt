@@ -5,14 +5,14 @@ ghost use Rattle.capn_pack.specs.Packed.{Packs};
 ghost use Rattle.capn_pack.specs.Chosen.{Chosen};
 
 use crate::fault::PackFault;
-use crate::pack_block::{LANES, store_groups};
+use crate::pack_block::{ROOM, store_groups};
 use crate::pack_group::put_group;
 use std::alloc::{AllocError, Allocator};
 
-/// A block and the lanes after it.
-const BLOCK: usize = 4096 + LANES;
+/// A block and the room for a group after it.
+const BLOCK: usize = 4096 + ROOM;
 
-/// Packs whole words, named words and zero words by the block.
+/// Packs whole words, small groups by the block.
 fn pack_words<A: Allocator + Copy>(alloc: A, bytes: &[u8]) -> Result<Vec<u8, A>, AllocError>
     requires { length bytes.now % 8 ≡ 0 }
     ensures chosen { IfOk result (λ v. Chosen v.items bytes.now) }

@@ -2,7 +2,7 @@
 ghost use Rattle.std.specs.Prelude.{◌≡◌, ◌+◌, ◌*◌, ◌<◌, ◌≤◌, ◌++◌, length, take, drop, slice_range, replicate};
 ghost use Rattle.capn_pack.specs.Chosen.{IsDense, AllDense};
 
-use crate::signs::tag;
+use crate::signs::{four_tags, tag};
 
 /// The word that begins there.
 #[inline(always)]
@@ -34,9 +34,57 @@ pub(crate) fn zero_run(bytes: &[u8], start: usize) -> usize
     count
 }
 
-/// How many of the words from there have at most one zero byte, up to 255.
+/// How many of the words from there have at most one zero byte, up to a number.
 #[inline(always)]
-pub(crate) fn raw_run(bytes: &[u8], start: usize) -> usize
+pub(crate) fn raw_run(bytes: &[u8], start: usize, limit: usize) -> usize
+    requires inside { start ≤ length bytes.now }
+    requires few { limit ≤ 255 }
+    ensures most { result ≤ limit }
+    ensures inside { start + 8 * result ≤ length bytes.now }
+    ensures dense { AllDense result (slice_range bytes.now start (start + 8 * result)) }
+    ensures last { result < limit → IsDense (take 8 (drop (start + 8 * result) bytes.now)) → ⊥ }
+{
+    let mut count = 0;
+    while count < limit && start + 8 * count + 8 <= bytes.len() {
+        if tag(&word_at(bytes, start + 8 * count)).count_ones() < 7 {
+            return count;
+        }
+        count += 1;
+    }
+    count
+}
+
+/// The four words that begin there.
+#[inline(always)]
+fn four_at(bytes: &[u8], at: usize) -> [u8; 32]
+    requires { at + 32 ≤ length bytes.now }
+    ensures { result ≡ take 32 (drop at bytes.now) }
+{
+    let mut words = [0; 32];
+    words.copy_from_slice(&bytes[at..at + 32]);
+    words
+}
+
+/// How many of the next words have at most one zero byte, up to four and up to a number. Where four have no zero byte,
+/// that is seen at once.
+#[inline(always)]
+fn raw_step(bytes: &[u8], at: usize, limit: usize) -> usize
+    requires inside { at ≤ length bytes.now }
+    requires some { 0 < limit }
+    ensures most { result ≤ limit }
+    ensures inside { at + 8 * result ≤ length bytes.now }
+    ensures dense { AllDense result (slice_range bytes.now at (at + 8 * result)) }
+    ensures last { result ≡ 0 → IsDense (take 8 (drop at bytes.now)) → ⊥ }
+{
+    if limit < 4 || bytes.len() < at + 32 || four_tags(&four_at(bytes, at)) != 4_294_967_295 {
+        return raw_run(bytes, at, limit.min(4));
+    }
+    4
+}
+
+/// How many of the words from there have at most one zero byte, up to 255, four at a time where that is seen at once.
+#[inline(always)]
+pub(crate) fn long_run(bytes: &[u8], start: usize) -> usize
     requires { start ≤ length bytes.now }
     ensures most { result ≤ 255 }
     ensures inside { start + 8 * result ≤ length bytes.now }
@@ -44,11 +92,12 @@ pub(crate) fn raw_run(bytes: &[u8], start: usize) -> usize
     ensures last { result < 255 → IsDense (take 8 (drop (start + 8 * result) bytes.now)) → ⊥ }
 {
     let mut count = 0;
-    while count < 255 && start + 8 * count + 8 <= bytes.len() {
-        if tag(&word_at(bytes, start + 8 * count)).count_ones() < 7 {
+    while count < 255 {
+        let step = raw_step(bytes, start + 8 * count, 255 - count);
+        if step == 0 {
             return count;
         }
-        count += 1;
+        count += step;
     }
     count
 }

@@ -1,4 +1,4 @@
-//! The tag of a word as the packer takes it.
+//! The tag of a word as the packer takes it, and the tags of four words.
 ghost use Rattle.std.specs.Prelude.{◌≡◌};
 ghost use Rattle.capn_pack.specs.Packed.{tag_of};
 
@@ -15,4 +15,14 @@ pub(crate) fn tag(bytes: &[u8; 8]) -> u8
     u8x8::from_array(*bytes)
         .simd_ne(u8x8::splat(0))
         .to_bitmask() as u8
+}
+
+/// The tags of four words, those of the first word least.
+#[inline(always)]
+pub(crate) fn four_tags(bytes: &[u8; 32]) -> u32
+    ensures { result ≡ tag_of bytes.now }
+{
+    u8x32::from_array(*bytes)
+        .simd_ne(u8x32::splat(0))
+        .to_bitmask() as u32
 }

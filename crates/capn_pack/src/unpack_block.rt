@@ -1,16 +1,20 @@
 //! Groups read into a block, so that their words are appended together.
-ghost use Rattle.std.specs.Prelude.{◌≡◌, ◌+◌, ◌*◌, ◌<◌, ◌-◌, ◌≤◌, ◌++◌, [], length, take, slice_range, replicate, ℕ};
+ghost use Rattle.std.specs.Prelude.{◌≡◌, ◌+◌, ◌*◌, ◌<◌, ◌-◌, ◌≤◌, ◌++◌, [], length, take, slice_index, slice_range};
+ghost use Rattle.std.specs.Prelude.{replicate, ℕ};
 ghost use Rattle.std.specs.Prelude.{IfSome, IfNone, IfOk, OnErr};
 ghost use Rattle.capn_pack.specs.UnpackRefusal.{StartsWithin};
 ghost use Rattle.capn_pack.specs.inner.Steps.{Takes, TakesRow};
 
-use crate::block::Block;
+use crate::block::{Block, store_bytes};
 use crate::lanes::spread_far;
 use crate::unpack_group::Taken;
 use std::alloc::{AllocError, Allocator};
 
-/// How many bytes a block needs after its limit: a few zero words are written by one store of that size.
+/// How many bytes a block needs after its limit: a few words, zero or raw, are written by one store of that size.
 pub(crate) const SLACK: usize = 64;
+
+/// How many bytes one step may read: the head of a raw group and as many bytes as a few words have.
+const REACH: usize = 10 + SLACK;
 
 /// Writes a word.
 #[inline(always)]
@@ -30,15 +34,113 @@ fn store_zeros(block: &mut [u8], at: usize)
     block[at..at + SLACK].copy_from_slice(&[0; SLACK]);
 }
 
-/// Writes the words of the group that begins there after the bytes that wait, if it is one word that a tag names or a
-/// few zero words, and they stay within the limit.
+/// Writes the zero words of the group that begins there after the bytes that wait, if they are few.
 #[inline(always)]
-fn fill_group(text: &[u8], at: usize, block: &mut [u8], fill: usize, limit: usize) -> Option<Block>
+fn fill_zeros(text: &[u8], at: usize, block: &mut [u8], fill: usize) -> Option<Block>
+    requires far { at + 17 ≤ length text.now }
+    requires tag { slice_index (slice_range text.now at (length text.now)) 0 ≡ 0 }
+    requires room { fill + SLACK ≤ length block.old }
+    ensures within { IfSome result (λ f. f.fill ≤ fill + SLACK) }
+    ensures forward { IfSome result (λ f. at < f.at) }
+    ensures reach { IfSome result (λ f. f.at ≤ at + REACH) }
+    ensures some { IfSome result (λ f. (count : ℕ)
+        × Takes (slice_range text.now at (length text.now)) 8 (f.at - at) count
+        (take fill block.old) (take f.fill block.new)) }
+    ensures none { IfNone result (block.new ≡ block.old) }
+{
+    let rest = &text[at..];
+    let more = rest[1] as usize;
+    if more > 7 {
+        return None;
+    }
+    store_zeros(block, fill);
+    Some(Block {
+        at: at + 2,
+        fill: fill + 8 + 8 * more,
+    })
+}
+
+/// Writes the words of the raw group that begins there after the bytes that wait, if they are few.
+#[inline(always)]
+fn fill_raw(text: &[u8], at: usize, block: &mut [u8], fill: usize) -> Option<Block>
+    requires far { at + REACH ≤ length text.now }
+    requires tag { slice_index (slice_range text.now at (length text.now)) 0 ≡ 255 }
+    requires room { fill + 8 + SLACK ≤ length block.old }
+    ensures within { IfSome result (λ f. f.fill ≤ fill + SLACK) }
+    ensures forward { IfSome result (λ f. at < f.at) }
+    ensures reach { IfSome result (λ f. f.at ≤ at + REACH) }
+    ensures some { IfSome result (λ f. (count : ℕ)
+        × Takes (slice_range text.now at (length text.now)) 8 (f.at - at) count
+        (take fill block.old) (take f.fill block.new)) }
+    ensures none { IfNone result (block.new ≡ block.old) }
+{
+    let rest = &text[at..];
+    let more = rest[9] as usize;
+    if more > 7 {
+        return None;
+    }
+    store_bytes(block, fill, &rest[1..9]);
+    store_bytes(block, fill + 8, &rest[10..10 + SLACK]);
+    Some(Block {
+        at: at + 10 + 8 * more,
+        fill: fill + 8 + 8 * more,
+    })
+}
+
+/// Writes the word of the group that begins there after the bytes that wait.
+#[inline(always)]
+fn fill_named(text: &[u8], at: usize, block: &mut [u8], fill: usize) -> Block
+    requires far { at + 17 ≤ length text.now }
+    requires above { 0 < slice_index (slice_range text.now at (length text.now)) 0 }
+    requires below { slice_index (slice_range text.now at (length text.now)) 0 < 255 }
+    requires room { fill + 8 ≤ length block.old }
+    ensures filled { result.fill ≡ fill + 8 }
+    ensures forward { at < result.at }
+    ensures reach { result.at ≤ at + REACH }
+    ensures takes { Takes (slice_range text.now at (length text.now)) 8 (result.at - at) 1
+        (take fill block.old) (take result.fill block.new) }
+{
+    let rest = &text[at..];
+    let tag = rest[0];
+    let word = spread_far(tag, &rest[1..]);
+    store_word(block, fill, word);
+    // The next tag waits for this sum: one step from the count of bits to the offset.
+    Block {
+        at: at + 1 + tag.count_ones() as usize,
+        fill: fill + 8,
+    }
+}
+
+/// Writes the words of the group that begins there after the bytes that wait, if they are few.
+#[inline(always)]
+fn fill_group(text: &[u8], at: usize, block: &mut [u8], fill: usize) -> Option<Block>
+    requires far { at + REACH ≤ length text.now }
+    requires room { fill + 8 + SLACK ≤ length block.old }
+    ensures within { IfSome result (λ f. f.fill ≤ fill + SLACK) }
+    ensures forward { IfSome result (λ f. at < f.at) }
+    ensures reach { IfSome result (λ f. f.at ≤ at + REACH) }
+    ensures some { IfSome result (λ f. (count : ℕ)
+        × Takes (slice_range text.now at (length text.now)) 8 (f.at - at) count
+        (take fill block.old) (take f.fill block.new)) }
+    ensures none { IfNone result (block.new ≡ block.old) }
+{
+    let rest = &text[at..];
+    // One test, by which most groups go.
+    match rest[0] {
+        1..=254 => Some(fill_named(text, at, block, fill)),
+        0 => fill_zeros(text, at, block, fill),
+        _ => fill_raw(text, at, block, fill),
+    }
+}
+
+/// The same near the end of the text or of the block, and of no raw group.
+#[inline(always)]
+fn fill_last(text: &[u8], at: usize, block: &mut [u8], fill: usize, limit: usize) -> Option<Block>
     requires far { at + 17 ≤ length text.now }
     requires room { fill + 8 ≤ limit }
     requires slack { limit + SLACK ≤ length block.old }
     ensures within { IfSome result (λ f. f.fill ≤ limit) }
-    ensures forward { IfSome result (λ f. at ≤ f.at) }
+    ensures forward { IfSome result (λ f. at < f.at) }
     ensures some { IfSome result (λ f. (count : ℕ)
         × Takes (slice_range text.now at (length text.now)) 8 (f.at - at) count
         (take fill block.old) (take f.fill block.new)) }
@@ -46,43 +148,82 @@ fn fill_group(text: &[u8], at: usize, block: &mut [u8], fill: usize, limit: usiz
 {
     let rest = &text[at..];
     match rest[0] {
-        0 => {
-            let more = 8 * rest[1] as usize;
-            let end = fill + 8 + more;
-            if 8 + more > SLACK || end > limit {
-                return None;
-            }
-            store_zeros(block, fill);
-            Some(Block {
-                at: at + 2,
-                fill: end,
-            })
-        }
-        255 => None,
-        tag => {
-            let word = spread_far(tag, &rest[1..]);
-            store_word(block, fill, word);
-            // The next tag waits for this sum: one step from the count of bits to the offset.
-            Some(Block {
-                at: at + 1 + tag.count_ones() as usize,
-                fill: fill + 8,
-            })
-        }
+        1..=254 => Some(fill_named(text, at, block, fill)),
+        0 => if fill + SLACK <= limit {
+            fill_zeros(text, at, block, fill)
+        } else {
+            None
+        },
+        _ => None,
     }
 }
 
-/// Fills the block with the words of the groups that stand first, as far as it goes.
-fn fill_block(text: &[u8], block: &mut [u8], limit: usize) -> Block
-    requires { limit + SLACK ≤ length block.old }
+/// How far some steps came, and how many of them are left.
+#[derive(Clone, Copy)]
+struct Stretch {
+    reached: Block,
+    left: usize,
+}
+
+/// Fills the block with the words of as many groups, or of those before one of more words: each of them has its bytes
+/// and its room, so that nothing is tested but its kind.
+#[inline(always)]
+fn fill_steps(text: &[u8], from: Block, block: &mut [u8], steps: usize) -> Stretch
+    requires far { from.at + REACH * steps ≤ length text.now }
+    requires room { from.fill + SLACK * steps + 8 ≤ length block.old }
+    requires row { TakesRow text.now from.at [] (take from.fill block.old) }
+    ensures row { TakesRow text.now result.reached.at [] (take result.reached.fill block.new) }
+    ensures within { result.reached.fill ≤ from.fill + SLACK * steps }
+    ensures forward { result.left ≡ 0 → from.at + steps ≤ result.reached.at }
+{
+    let mut at = from.at;
+    let mut fill = from.fill;
+    let mut left = steps;
+    while left > 0 {
+        match fill_group(text, at, block, fill) {
+            Some(filled) => {
+                at = filled.at;
+                fill = filled.fill;
+                left -= 1;
+            }
+            None => return Stretch {
+                reached: Block { at, fill },
+                left,
+            },
+        }
+    }
+    Stretch {
+        reached: Block { at, fill },
+        left,
+    }
+}
+
+/// How many groups of a few words have their bytes and their room for sure.
+#[inline(always)]
+fn sure_steps(len: usize, limit: usize, from: Block) -> usize
+    requires inside { from.at ≤ len }
+    requires within { from.fill ≤ limit }
+    ensures far { from.at + REACH * result ≤ len }
+    ensures room { from.fill + SLACK * result ≤ limit }
+{
+    ((len - from.at) / 128).min((limit - from.fill) / SLACK)
+}
+
+/// Fills the block with the words of the groups that come, near the end of the text or of the block.
+#[inline(always)]
+fn fill_rest(text: &[u8], from: Block, block: &mut [u8], limit: usize) -> Block
+    requires slack { limit + SLACK ≤ length block.old }
+    requires within { from.fill ≤ limit }
+    requires row { TakesRow text.now from.at [] (take from.fill block.old) }
     ensures within { result.fill ≤ limit }
     ensures row { TakesRow text.now result.at [] (take result.fill block.new) }
 {
     let far = text.len().saturating_sub(16);
     let room = limit.saturating_sub(7);
-    let mut at = 0;
-    let mut fill = 0;
+    let mut at = from.at;
+    let mut fill = from.fill;
     while at < far && fill < room {
-        match fill_group(text, at, block, fill, limit) {
+        match fill_last(text, at, block, fill, limit) {
             Some(filled) => {
                 at = filled.at;
                 fill = filled.fill;
@@ -91,6 +232,25 @@ fn fill_block(text: &[u8], block: &mut [u8], limit: usize) -> Block
         }
     }
     Block { at, fill }
+}
+
+/// Fills the block with the words of the groups that stand first, as far as it goes.
+fn fill_block(text: &[u8], block: &mut [u8], limit: usize) -> Block
+    requires { limit + SLACK ≤ length block.old }
+    ensures within { result.fill ≤ limit }
+    ensures row { TakesRow text.now result.at [] (take result.fill block.new) }
+{
+    let mut from = Block { at: 0, fill: 0 };
+    let mut steps = sure_steps(text.len(), limit, from);
+    while steps > 0 {
+        let stretch = fill_steps(text, from, block, steps);
+        from = stretch.reached;
+        if stretch.left > 0 {
+            return from;
+        }
+        steps = sure_steps(text.len(), limit, from);
+    }
+    fill_rest(text, from, block, limit)
 }
 
 /// Appends the words of the groups that stand first, as many as a block holds and there is room for; it may be none.
@@ -110,6 +270,13 @@ pub(crate) fn take_block<A: Allocator>(
 {
     let limit = (8 * room).min(block.len() - SLACK);
     let filled = fill_block(rest, block, limit);
+    // An empty copy would still be a call, for every long group.
+    if filled.fill == 0 {
+        return Ok(Taken {
+            bytes: filled.at,
+            words: 0,
+        });
+    }
     out.extend_from_slice(&block[..filled.fill])?;
     Ok(Taken {
         bytes: filled.at,

@@ -144,7 +144,7 @@ module _ {X : Type 0} (f : Fold X) (x : X) (limit : ℕ) where
       subst (λ (m : Bool). HasEndedPacked f x limit (taken_of most_packed all) m c d r y) (sym same.1)
       (subst (λ (xs : List ℕ). HasEndedPacked f x limit xs is_longer c d r y) (sym same.0) h)
 
-  -- what is due where no whole frame is left of what was unpacked
+  -- what has to hold where no whole frame is left of what was unpacked
   pub due_open : (y : X) (s : List ℕ) (q : Pending) (is_longer : Bool) (ending : Ending) (e : FrameFault)
       (c d : Option (List ℕ)) (told : TellsPacked f x (fresh limit) s q (sent c) (sent d) y) → e ≢ frames.Memory
       → frame_rules.IsFrameRefused q.rest f.most e

@@ -40,7 +40,7 @@ eight : (w : ℕ) → length (to_le_bytes w64 w) ≡ 8
 eight w = refl
 
 module _ (ws xs : List ℕ) (i : ℕ) (are : (k : ℕ) → k < length xs → element 8 8 ws k ≡ slice_index xs k) where
-  -- the first bytes of a word are so many elements
+  -- the first bytes of a word are as many elements, from the first of the word on
   same-bytes : (left w : ℕ) → w ≡ slice_index ws i → left ≤ 8 → 8 * i + left ≤ length xs
       → take left (to_le_bytes w64 w) ≡ take left (drop (8 * i) xs)
   same-bytes left w e few room =

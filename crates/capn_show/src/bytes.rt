@@ -10,9 +10,9 @@ ghost use Rattle.capn_show.specs.Quoting as quoting;
 ghost use Rattle.capn_show.specs.inner.ReadyPlaces as places;
 ghost use Rattle.capn_show.specs.inner.ReadyPlaces.{NumbersShown};
 
+use crate::byte_digits::show_bytes;
 use crate::fault::Broken;
 use crate::lines::{indent, named_line, put_number};
-use crate::numbers::show_bytes;
 use crate::output::put;
 use capn_words::{Place, Space, Watched};
 use std::alloc::Allocator;

@@ -14,10 +14,12 @@ ghost use Rattle.capn_show.specs.inner.ReadyPlaces.{HasNumbers, NumbersShown, Bi
 ghost use Rattle.capn_show.specs.inner.JsonPlaces.{WordsInJson, IsFoundInJson, values_text};
 ghost use Rattle.capn_show.specs.Outgoing.{Adds, BreaksOff, outgoing};
 
+use crate::bits::push_bits;
+use crate::byte_digits::push_bytes;
 use crate::fault::Broken;
 use crate::json_items::{is_quoted, put_value, put_word, separate};
 use crate::lines::put_number;
-use crate::numbers::{number_at, push_bits, push_bytes};
+use crate::numbers::number_at;
 use crate::output::put;
 use capn_words::{Place, Space, Watched, Width};
 use std::alloc::Allocator;

@@ -16,6 +16,8 @@
 //! ```
 #![tactic(auto)]
 
+mod bits;
+mod byte_digits;
 mod bytes;
 mod digits;
 mod fault;

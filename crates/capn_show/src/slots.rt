@@ -11,10 +11,11 @@ ghost use Rattle.capn_show.specs.Outgoing.{Adds, BreaksOff, outgoing};
 ghost use Rattle.capn_show.specs.inner.ReadyPlaces.{IsReady, IsFound, IsBody, AreReady, AreRows, bytes_of};
 ghost use Rattle.capn_show.specs.inner.ReadyPlaces.{IsShown, IsFoundShown, IsBodyShown, AreShown, RowsShown};
 
+use crate::bits::show_bits;
 use crate::bytes::show_byte_list;
 use crate::fault::Broken;
 use crate::lines::{body_line, named_line, plain_line};
-use crate::numbers::{show_bits, show_numbers, show_words};
+use crate::numbers::{show_numbers, show_words};
 use capn_walk::laws::views_show_values;
 use capn_walk::{Shape, Target, resolve};
 use capn_words::{Place, Space, Watched, Width};

@@ -50,5 +50,5 @@ same_first (c ∷ cs) x y some =
 -- a first line that was not read is that of no value
 pub begins_none : (t : List ℕ) → head_at 0 t ≡ None → (v : Tree) → BeginsAs t v → ⊥
 begins_none t none v h =
-    (first_line_wrong show_text [] (λ w. sym (append-nil (show_text w))) t none).5 v h.0
+    (first_line_wrong show_text [] (λ w. sym (append-nil (show_text w))) t none).6 v h.0
     (ap (first_lines 1) h.5 ∙ same_first h.1 h.3 h.2 h.6 ∙ ap (first_lines 1) (sym h.4))

@@ -1,10 +1,10 @@
 -- The first line that doesn't go on with a text, and texts that go too deep.
-use Rattle.std.proofs.Common.{◌≡◌, ◌≤◌, ◌<◌, ◌+◌, ◌-◌, ℕ, zero, suc, List, [], ◌∷◌, ◌++◌, length, take, Some, None}
-use Rattle.std.proofs.Common.{refl, sym, ap, subst, ◌∙◌, append_assoc, arith, ◌⊎◌, inl, inr}
+use Rattle.std.proofs.Common.{◌≡◌, ◌≤◌, ◌+◌, ◌-◌, ℕ, List, [], ◌∷◌, ◌++◌, length, take, Some, None}
+use Rattle.std.proofs.Common.{refl, sym, ap, subst, ◌∙◌, append_assoc, arith}
 use Rattle.std.proofs.Math.Nat.{lt_of_not-le}
 use Rattle.std.proofs.lemmas.List.{append-nil}
 use Rattle.capn_value.specs.Tree.{Tree}
-use Rattle.capn_value.specs.Cost.{height, most_height}
+use Rattle.capn_value.specs.Cost.{height}
 use Rattle.capn_value.specs.Text.{show_text}
 use Rattle.capn_text.specs.inner.Tokens.{strip}
 use Rattle.capn_text.specs.inner.Values.{head_at, tree_at}
@@ -16,6 +16,8 @@ use Rattle.capn_text.specs.Streams.{end_line, first_lines, ended_lines, IsFirstW
 use Rattle.capn_text.proofs.TreeOfText.{tree_again, apart}
 use Rattle.capn_text.proofs.TextOfTree.{tree_takes}
 use Rattle.capn_text.proofs.FittingText.{before}
+use Rattle.capn_text.proofs.Heights.{tree_low}
+use Rattle.capn_text.proofs.LineCounts.{lines_append}
 use Rattle.capn_text.proofs.WholeLines.{same_front, first_front}
 use Rattle.capn_text.proofs.TreeStops.{tree_by, tree_local}
 
@@ -25,10 +27,10 @@ exact_front front y lines =
     ap (λ n. first_lines n (front ++ y)) k ∙ lines 0 y ∙ append-nil front
 
 -- a value that goes on with whole lines
-completed : (front y : List ℕ) (v : Tree) → tree_at 257 0 (front ++ y) ≡ Some (v, [])
+completed : (room : ℕ) (front y : List ℕ) (v : Tree) → tree_at room 0 (front ++ y) ≡ Some (v, [])
     → (show_text v ≡ front ++ y) × IsShowable v
-completed front y v e =
-    let p = tree_takes 257 0 (front ++ y) v [] e in
+completed room front y v e =
+    let p = tree_takes room 0 (front ++ y) v [] e in
     (sym (p.0 ∙ append-nil (show_text v)), p.1)
 
 -- texts with something after them
@@ -39,7 +41,9 @@ module _ (spell : Tree → List ℕ) (tail : List ℕ) (is : (v : Tree) → spel
       let front = h.0 in
       let n : ended_lines (take (length t - left) t) ≡ ended_lines front =
       ap ended_lines (ap (λ m. take (length t - m) t) (sym h.3) ∙ before t front h.1 h.2) in
-      let done = completed front h.4.1 h.4.2 (h.4.3 257 (omega arith)) in
+      let whole = h.4.3 256 (omega arith) in
+      let done = completed 256 front h.4.1 h.4.2 whole in
+      let low = tree_low 256 0 (front ++ h.4.1) h.4.2 [] whole in
       let begins : first_lines (ended_lines front) (spell h.4.2) ≡ first_lines (ended_lines front) t =
       ap (first_lines (ended_lines front)) (is h.4.2 ∙ ap (λ x. x ++ tail) done.0 ∙ append_assoc front h.4.1 tail)
       ∙ exact_front front (h.4.1 ++ tail) h.4.0
@@ -52,7 +56,7 @@ module _ (spell : Tree → List ℕ) (tail : List ℕ) (is : (v : Tree) → spel
       let read = sym (tree_again r 0 w tail (omega arith) s) ∙ ap (tree_at r 0) (sym (is w) ∙ q.1)
       ∙ h.5 r q.0 (omega arith) q.2 in
       absurd cc) in
-      subst (λ m. IsFirstWrong spell (m + 1) t) (sym n) (ended_lines front, refl, h.4.2, done.1, begins, none)
+      subst (λ m. IsFirstWrong spell (m + 1) t) (sym n) (ended_lines front, refl, h.4.2, done.1, low, begins, none)
 
 -- ---- after the text of a value
 
@@ -64,7 +68,7 @@ nothing_first (c ∷ cs) more e = absurd cc
 whole_text : (t : List ℕ) (v : Tree) (after : List ℕ) → tree_at 256 0 t ≡ Some (v, after) → AreLines (show_text v)
 whole_text t v after e =
     let p = tree_local 256 0 t v after e in
-    let q = completed p.0 [] v (p.3 257 [] (omega arith)) in
+    let q = completed 256 p.0 [] v (p.3 256 [] (omega arith)) in
     subst AreLines (sym (q.0 ∙ append-nil p.0)) p.2
 
 module _ (t : List ℕ) (v : Tree) (after : List ℕ) (e : tree_at 256 0 t ≡ Some (v, after)) where
@@ -82,6 +86,7 @@ module _ (t : List ℕ) (v : Tree) (after : List ℕ) (e : tree_at 256 0 t ≡ S
         refl,
         v,
         p.1,
+        tree_low 256 0 t v after e,
         begins,
         λ w s h.
             let q = same_front front after (spell w) lines (h ∙ ap (first_lines (k + 1)) p.0) in
@@ -112,9 +117,16 @@ first_line_wrong spell tail is t none =
 pub deepens : (t : List ℕ) → Deepens (tree_by 0) 256 t → GoesTooDeep t
 deepens t h =
     let front = h.0 in
-    let done = completed front h.3.1 h.3.2 (h.3.3 257 (omega arith)) in
-    let high : (w : Tree) (z : List ℕ) → IsShowable w → show_text w ≡ front ++ z → (low : height w ≤ 256) → ⊥ =
-    (λ w z s e low.
-    let read = sym (tree_again 256 0 w [] low s) ∙ ap (tree_at 256 0) (append-nil (show_text w) ∙ e) ∙ h.4 z in
+    let n = ended_lines front in
+    let done = completed 257 front h.3.1 h.3.2 (h.3.3 257 (omega arith)) in
+    let exact : first_lines n t ≡ front = ap (first_lines n) h.2 ∙ exact_front front h.1 h.3.0 in
+    let begins : first_lines n (show_text h.3.2) ≡ first_lines n t =
+    ap (first_lines n) done.0 ∙ exact_front front h.3.1 h.3.0 ∙ sym exact in
+    let high : (w : Tree) → IsShowable w → first_lines n (show_text w) ≡ first_lines n t → (low : height w ≤ 256) → ⊥ =
+    (λ w s e low.
+    let f = first_front n (show_text w) in
+    let whole : show_text w ≡ front ++ f.0 = f.1 ∙ ap (λ x. x ++ f.0) (e ∙ exact) in
+    let read = sym (tree_again 256 0 w [] low s) ∙ ap (tree_at 256 0) (append-nil (show_text w) ∙ whole) ∙ h.4 f.0 in
     absurd cc) in
-    (front, h.1, h.2, h.3.2, h.3.1, done.1, done.0, λ w z s e. lt_of_not-le (high w z s e))
+    let count : ended_lines t ≡ n + ended_lines h.1 = ap ended_lines h.2 ∙ lines_append front h.1 in
+    (n, omega arith, h.3.2, done.1, begins, λ w s e. lt_of_not-le (high w s e))

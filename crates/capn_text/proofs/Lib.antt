@@ -6,6 +6,7 @@ pub mod HeadText
 pub mod ShowableValues
 pub mod TreeOfText
 pub mod TextOfTree
+pub mod Heights
 pub mod ValueOfParts
 pub mod FittingText
 pub mod LineCounts
@@ -18,3 +19,5 @@ pub mod LineStops
 pub mod TreeStops
 pub mod PartStops
 pub mod FirstWrong
+pub mod WrongOrDeep
+pub mod WhateverFollows

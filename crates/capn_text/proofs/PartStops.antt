@@ -37,14 +37,14 @@ module _ (level n : ℕ) (e : Stop) (t : List ℕ) where
       → FailsAt (λ r. leaf_at level leaves.Bits n) 0 e t
   unfolding leaf_at
   bits_fail_here h =
-      first_fails (λ r. row_line_at bit_at (level + 1) n) (λ xs. given (bits xs)) 0 (bits_local (level + 1) n 1)
+      first_fails (λ r. row_line_at bit_at (level + 1) n) (λ xs. given (bits xs)) 0 (bits_local (level + 1) n)
       (λ xs. full_given (bits xs)) e t (bits_fail (level + 1) n 0 e t h)
 
   pub bytes_fail_here : LineFails e (row_line_at byte_at (level + 1) n) t
       → FailsAt (λ r. leaf_at level leaves.Bytes n) 0 e t
   unfolding leaf_at
   bytes_fail_here h =
-      first_fails (λ r. row_line_at byte_at (level + 1) n) (λ xs. given (bytes xs)) 0 (bytes_local (level + 1) n 1)
+      first_fails (λ r. row_line_at byte_at (level + 1) n) (λ xs. given (bytes xs)) 0 (bytes_local (level + 1) n)
       (λ xs. full_given (bytes xs)) e t (bytes_fail (level + 1) n 0 e t h)
 
   numbers_fail : (greatest : ℕ) (make : List ℕ → Tree) → greatest < 2 ^ 64
@@ -52,7 +52,7 @@ module _ (level n : ℕ) (e : Stop) (t : List ℕ) where
       → FailsAt (both (all (numbers_by greatest (level + 1)) n) (λ xs. given (make xs))) 0 e t
   numbers_fail greatest make top h =
       first_fails (all (numbers_by greatest (level + 1)) n) (λ xs. given (make xs)) 0
-      (local_all (numbers_by greatest (level + 1)) 1 (number_local (level + 1) greatest top 1) n)
+      (λ r. local_all (numbers_by greatest (level + 1)) r (number_local (level + 1) greatest top r) n)
       (λ xs. full_given (make xs)) e t h
 
   pub pairs_fail : FailsAt (all (numbers_by 65535 (level + 1)) n) 0 e t
@@ -76,7 +76,7 @@ module _ (room level : ℕ) (e : Stop) (t : List ℕ) where
   unfolding body_at
   words_fail w s h =
       first_fails (all (words_by (level + 1)) w) (slots_by level s) room
-      (local_all (words_by (level + 1)) (suc room) (word_local (level + 1) (suc room)) w) (slots_full level s) e t
+      (λ r. local_all (words_by (level + 1)) r (word_local (level + 1) r) w) (slots_full level s) e t
       (any_room (many (word_line_at (level + 1)) w) room e t h)
 
   -- its slots do
@@ -87,7 +87,7 @@ module _ (room level : ℕ) (e : Stop) (t : List ℕ) where
       second_fails (all (words_by (level + 1)) w) (slots_by level s) room
       (local_all (words_by (level + 1)) room (word_local (level + 1) room) w) t ws after is e
       (first_fails (all (tree_by (level + 1)) s) (λ ss. given (ws, trees ss)) room
-      (local_all (tree_by (level + 1)) (suc room) (tree_local (suc room) (level + 1)) s)
+      (λ r. local_all (tree_by (level + 1)) r (tree_local r (level + 1)) s)
       (λ ss. full_given (ws, trees ss)) e after h)
 
   -- what a value holds fails, by its first line
@@ -96,7 +96,7 @@ module _ (room level : ℕ) (e : Stop) (t : List ℕ) where
   struct_fails h w s is f =
       subst (λ k. FailsAt (content_by level k) room e t) (sym is)
       (first_fails (body_by level w s) (λ b. given (node b.0 b.1)) room
-      (body_local (suc room) (tree_local (suc room)) level w s)
+      (λ r. body_local r (tree_local r) level w s)
       (λ b. full_given (node b.0 b.1)) e t f)
 
   pub links_fail : (h : Head) (n : ℕ) → h ≡ heads.Named names.Links n → FailsAt (all (tree_by (level + 1)) n) room e t
@@ -104,7 +104,7 @@ module _ (room level : ℕ) (e : Stop) (t : List ℕ) where
   links_fail h n is f =
       subst (λ k. FailsAt (content_by level k) room e t) (sym is)
       (first_fails (all (tree_by (level + 1)) n) (λ ts. given (links (trees ts))) room
-      (local_all (tree_by (level + 1)) (suc room) (tree_local (suc room) (level + 1)) n)
+      (λ r. local_all (tree_by (level + 1)) r (tree_local r (level + 1)) n)
       (λ ts. full_given (links (trees ts))) e t f)
 
   pub rows_fail : (h : Head) (n : ℕ) → h ≡ heads.Named names.Rows n → FailsAt (all (row_by (level + 1)) n) room e t
@@ -112,7 +112,7 @@ module _ (room level : ℕ) (e : Stop) (t : List ℕ) where
   rows_fail h n is f =
       subst (λ k. FailsAt (content_by level k) room e t) (sym is)
       (first_fails (all (row_by (level + 1)) n) (λ bs. given (rows (rows_from bs))) room
-      (local_all (row_by (level + 1)) (suc room) (row_local (suc room) (tree_local (suc room)) (level + 1)) n)
+      (λ r. local_all (row_by (level + 1)) r (row_local r (tree_local r) (level + 1)) n)
       (λ bs. full_given (rows (rows_from bs))) e t f)
 
 -- what is read of a list without values, as what is read of a value
@@ -140,12 +140,6 @@ module _ (level : ℕ) where
   headed = both (λ r. head_at level) (content_by level)
 
   -- what holds of contents holds of values one higher
-  over : (m : ℕ) (s : List ℕ) (v : Option (Tree × List ℕ)) → ((r : ℕ) → m < r → headed r s ≡ v)
-      → (r : ℕ) → suc m < r → tree_at r level s ≡ v
-  unfolding tree_at
-  over m s v h zero low = absurd (omega arith)
-  over m s v h (suc r) low = h r (omega arith)
-
   from : (m : ℕ) (s : List ℕ) (v : Option (Tree × List ℕ)) → ((r : ℕ) → m ≤ r → headed r s ≡ v)
       → (r : ℕ) → suc m ≤ r → tree_at r level s ≡ v
   unfolding tree_at
@@ -160,11 +154,11 @@ module _ (level : ℕ) where
     h.1,
     h.2,
     h.3,
-    (h.4.0, h.4.1, h.4.2, over m (h.0 ++ h.4.1) (Some (h.4.2, [])) h.4.3),
+    (h.4.0, h.4.1, h.4.2, from m (h.0 ++ h.4.1) (Some (h.4.2, [])) h.4.3),
     λ r z low same. from m (h.0 ++ z) None (λ k least. h.5 k z least same) r low,
   )
   one_higher m stops.Deep t h =
-      (h.0, h.1, h.2, (h.3.0, h.3.1, h.3.2, over m (h.0 ++ h.3.1) (Some (h.3.2, [])) h.3.3), h.4)
+      (h.0, h.1, h.2, (h.3.0, h.3.1, h.3.2, from (suc m) (h.0 ++ h.3.1) (Some (h.3.2, [])) h.3.3), h.4)
 
   too_deep : (t after : List ℕ) (h : Head) → head_at level t ≡ Some (h, after) → low_at h after ≡ None
       → Deepens (tree_by level) 0 t

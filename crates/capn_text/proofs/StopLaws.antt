@@ -42,10 +42,10 @@ pub full_given : {Y : Type 0} (y : Y) → Full (given y)
 full_given y = ([], y, λ r. refl)
 
 -- what is read of all of a text is read of it before another
-pub past : {X : Type 0} (f : Reads X) (room : ℕ) (w : List ℕ) (x : X) → Local f (suc room)
-    → ((r : ℕ) → room < r → f r w ≡ Some (x, [])) → (r : ℕ) (z : List ℕ) → room < r → f r (w ++ z) ≡ Some (x, z)
-past f room w x near h r z low =
-    let p = near w x [] (h (suc room) (omega arith)) in
+pub past : {X : Type 0} (f : Reads X) (least : ℕ) (w : List ℕ) (x : X) → Local f least
+    → ((r : ℕ) → least ≤ r → f r w ≡ Some (x, [])) → (r : ℕ) (z : List ℕ) → least ≤ r → f r (w ++ z) ≡ Some (x, z)
+past f least w x near h r z low =
+    let p = near w x [] (h least (omega arith)) in
     let is : w ≡ p.0 = p.1 ∙ append-nil p.0 in
     ap (λ t. f r (t ++ z)) is ∙ p.3 r z (omega arith)
 
@@ -74,20 +74,20 @@ module _ {X Y : Type 0} (f : Reads X) (g : X → Reads Y) (room : ℕ) where
             ∙ q.3 r z low,
       )
 
-  goes_on_first : Local f (suc room) → ((x : X) → Full (g x)) → (front : List ℕ) → GoesOn f room front
-      → GoesOn (both f g) room front
-  goes_on_first near fulls front on =
+  goes_on_first : (least : ℕ) → Local f least → ((x : X) → Full (g x)) → (front : List ℕ) → GoesOn f least front
+      → GoesOn (both f g) least front
+  goes_on_first least near fulls front on =
       let second = fulls on.2 in (
         on.0,
         on.1 ++ second.0,
         second.1,
         λ r low. ap (both f g r) (sym (append_assoc front on.1 second.0))
-            ∙ ap (λ o. o >>= λ x. g x.0 r x.1) (past f room (front ++ on.1) on.2 near on.3 r second.0 low)
+            ∙ ap (λ o. o >>= λ x. g x.0 r x.1) (past f least (front ++ on.1) on.2 near on.3 r second.0 low)
             ∙ second.2 r,
       )
 
   -- the first fails
-  pub first_fails : Local f (suc room) → ((x : X) → Full (g x)) → (e : Stop) (t : List ℕ) → FailsAt f room e t
+  pub first_fails : ((r : ℕ) → Local f r) → ((x : X) → Full (g x)) → (e : Stop) (t : List ℕ) → FailsAt f room e t
       → FailsAt (both f g) room e t
   first_fails near fulls stops.Memory t h = tt
   first_fails near fulls (stops.Left n) t h = (
@@ -95,14 +95,14 @@ module _ {X Y : Type 0} (f : Reads X) (g : X → Reads Y) (room : ℕ) where
     h.1,
     h.2,
     h.3,
-    goes_on_first near fulls h.0 h.4,
+    goes_on_first room (near room) fulls h.0 h.4,
     λ r z low same. ap (λ o. o >>= λ x. g x.0 r x.1) (h.5 r z low same),
   )
   first_fails near fulls stops.Deep t h = (
     h.0,
     h.1,
     h.2,
-    goes_on_first near fulls h.0 h.3,
+    goes_on_first (suc room) (near (suc room)) fulls h.0 h.3,
     λ z. ap (λ o. o >>= λ x. g x.0 room x.1) (h.4 z),
   )
 
@@ -182,7 +182,7 @@ module _ {X : Type 0} (one : Reads X) (near : (r : ℕ) → Local one r) where
         let n = count - (i + 1) in
         let k : suc n ≡ count - i = omega arith in
         let later : FailsAt (others one n x) room e after =
-        first_fails (all one n) (λ xs. given (x ∷ xs)) room (local_all one (suc room) (near (suc room)) n)
+        first_fails (all one n) (λ xs. given (x ∷ xs)) room (λ r. local_all one r (near r) n)
         (λ xs. full_given (x ∷ xs)) e after h in
         let here : FailsAt (all one (suc n)) room e rest =
         second_fails one (others one n) room (near room) rest x after is e later in
@@ -196,7 +196,7 @@ module _ {X : Type 0} (one : Reads X) (near : (r : ℕ) → Local one r) where
         let n = count - (i + 1) in
         let k : suc n ≡ count - i = omega arith in
         let here : FailsAt (all one (suc n)) room e rest =
-        first_fails one (others one n) room (near (suc room)) (full_others n (full_all full n)) e rest h in
+        first_fails one (others one n) room near (full_others n (full_all full n)) e rest h in
         so_far e (subst (λ m. FailsAt (all one m) room e rest) k here)
 
 -- ---- one line
@@ -255,7 +255,7 @@ any_room f room (stops.Left n) t h = (
   h.1,
   h.2,
   h.3,
-  (h.4.0, h.4.1, h.4.2, λ r low. h.4.3 1 (omega arith)),
+  (h.4.0, h.4.1, h.4.2, λ r low. h.4.3 0 (omega arith)),
   λ r z low same. h.5 0 z (omega arith) same,
 )
 any_room f room stops.Deep t h = (h.0, h.1, h.2, (h.3.0, h.3.1, h.3.2, λ r low. h.3.3 1 (omega arith)), h.4)

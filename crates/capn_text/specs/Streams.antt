@@ -1,5 +1,5 @@
 -- Texts in a row, each followed by the line `end`, as a stream of messages is shown. (Own.)
-use Rattle.std.specs.Prelude.{ℕ, zero, suc, ◌≡◌, ◌<◌, ◌+◌, List, [], ◌∷◌, ◌++◌, codes, cond, ◌==◌}
+use Rattle.std.specs.Prelude.{ℕ, zero, suc, ◌≡◌, ◌≤◌, ◌<◌, ◌+◌, List, [], ◌∷◌, ◌++◌, codes, cond, ◌==◌}
 use Rattle.capn_value.specs.Tree.{Tree}
 use Rattle.capn_value.specs.Cost.{height, most_height}
 use Rattle.capn_value.specs.Text.{show_text}
@@ -35,17 +35,18 @@ abbrev pub BeginsAs : List ℕ → Tree → Type 0
 BeginsAs text v = IsShowable v × (front : List ℕ) × (rest : List ℕ) × (more : List ℕ) × (text ≡ front ++ rest)
     × (show_text v ≡ front ++ more) × (0 < ended_lines front)
 
--- Line n is the first that doesn't go on: some value, spelled so, has the lines before it, and none has that line, too.
+-- Line n is the first that doesn't go on: some value of at most 256 levels, spelled so, has the lines before it, and no
+-- value of any height has that line, too.
 abbrev pub IsFirstWrong : (Tree → List ℕ) → ℕ → List ℕ → Type 0
 IsFirstWrong spell n text = (k : ℕ) × (n ≡ k + 1)
-    × (v : Tree) × IsShowable v × (first_lines k (spell v) ≡ first_lines k text)
+    × (v : Tree) × IsShowable v × (height v ≤ most_height) × (first_lines k (spell v) ≡ first_lines k text)
     × ((w : Tree) → IsShowable w → first_lines n (spell w) ≡ first_lines n text → ⊥)
 
--- Whatever follows, the text goes too deep: a value begins with its first bytes, and each that does is too high.
+-- Whatever follows its first n lines, the text goes too deep: a value has these lines, and each that does is too high.
 abbrev pub GoesTooDeep : List ℕ → Type 0
-GoesTooDeep text = (front : List ℕ) × (rest : List ℕ) × (text ≡ front ++ rest)
-    × (v : Tree) × (more : List ℕ) × IsShowable v × (show_text v ≡ front ++ more)
-    × ((w : Tree) (z : List ℕ) → IsShowable w → show_text w ≡ front ++ z → most_height < height w)
+GoesTooDeep text = (n : ℕ) × (n ≤ ended_lines text)
+    × (v : Tree) × IsShowable v × (first_lines n (show_text v) ≡ first_lines n text)
+    × ((w : Tree) → IsShowable w → first_lines n (show_text w) ≡ first_lines n text → most_height < height w)
 
 -- a text and its end
 abbrev pub ended_text : Tree → List ℕ

@@ -1,6 +1,8 @@
 //! The laws of texts, as a function that does nothing.
 
 ghost use Rattle.capn_text.specs.Laws.{TextsAreApart, FittingIsShowable, OneValue, OneStream, StreamGoesOn};
+ghost use Rattle.capn_text.specs.Laws.{OneWrongLine, WrongIsNotDeep, DeepIsHigh};
+ghost use Rattle.capn_text.specs.Laws.{WrongLineStays, NoTextGoesOn, DeepStays, NoBeginningComes};
 
 /// Values whose texts begin one text are equal, and so is what stands after them: no text of a value begins that of
 /// another. So one text has one value that fits and is in range.
@@ -15,4 +17,21 @@ pub fn texts()
 pub fn streams()
     ensures one { OneStream }
     ensures goes_on { StreamGoesOn }
+{}
+
+/// A text that is refused has one fault: one line is the first that doesn't go on, or the text goes too deep, or its
+/// value is of at most 256 levels.
+pub fn refusals()
+    ensures wrong { OneWrongLine }
+    ensures deep { WrongIsNotDeep }
+    ensures high { DeepIsHigh }
+{}
+
+/// What whole lines say of a text stays so whatever follows: that one of them is the first that doesn't go on, that the
+/// text goes too deep, and that the first of them is that of no value.
+pub fn whole_lines()
+    ensures wrong { WrongLineStays }
+    ensures none { NoTextGoesOn }
+    ensures deep { DeepStays }
+    ensures first { NoBeginningComes }
 {}

@@ -18,5 +18,6 @@ mod texts;
 mod tokens;
 
 pub use fault::TextFault;
+pub use lines::lines_in;
 pub use one_text::read;
 pub use texts::Texts;

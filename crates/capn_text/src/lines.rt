@@ -3,7 +3,7 @@
 ghost use Rattle.std.specs.Prelude.{◌≡◌, ◌+◌, ◌-◌, ◌≤◌, length, take};
 ghost use Rattle.capn_text.specs.Streams.{ended_lines};
 
-/// How many lines end within these bytes.
+/// How many lines end within these bytes: a last one without its line end is not counted. Takes no memory.
 #[tactic(auto, using(crate::proofs::LineCounts::lines_within))]
 pub fn lines_in(bytes: &[u8]) -> u64
     ensures exact { result ≡ ended_lines bytes.now }

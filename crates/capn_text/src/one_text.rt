@@ -42,10 +42,11 @@ pub fn read<A: Allocator + Copy>(alloc: A, text: &[u8]) -> Result<Tree<A>, TextF
     ensures begun { IfErr result (λ e. e ≢ faults.Line 1 → (v : trees.Tree) × BeginsAs text.now v) }
     // A line that is refused is the first that doesn't go on with a text.
     ensures first { IfErr result (λ e. (n : ℕ) → e ≡ faults.Line n → IsFirstWrong show_text n text.now) }
-    // A misfit is that of the value which has this text, or the text goes too deep, whatever follows.
+    // A misfit is that of the value of at most 256 levels which has this text, or the text goes too deep, whatever
+    // follows.
     ensures misfit { IfErr result (λ e. (m : Misfit) → e ≡ faults.Misfit m →
-        ((m ≡ Tall) × GoesTooDeep text.now)
-        ⊎ ((v : trees.Tree) × InRange v × IsShowable v × (text.now ≡ show_text v) × (misfit v ≡ Some m))) }
+        ((m ≡ Tall) × GoesTooDeep text.now) ⊎ ((v : trees.Tree) × InRange v × IsShowable v
+        × (height v ≤ most_height) × (text.now ≡ show_text v) × (misfit v ≡ Some m))) }
 {
     let (value, rest) = first_value(alloc, text)?;
     if has_more(rest) {
@@ -75,6 +76,7 @@ pub fn first_value<A: Allocator + Copy>(
     ensures found { IfOk result (λ x. text.now ≡ show_text (tree_of x.0) ++ x.1.now) }
     ensures range { IfOk result (λ x. InRange (tree_of x.0)) }
     ensures showable { IfOk result (λ x. IsShowable (tree_of x.0)) }
+    ensures low { IfOk result (λ x. height (tree_of x.0) ≤ most_height) }
     // A value of at most 256 levels whose text is at the front is read, unless memory runs out.
     ensures only { (v : trees.Tree) (rest : List ℕ) → IsShowable v → height v ≤ most_height →
         text.now ≡ show_text v ++ rest →

@@ -1,7 +1,7 @@
 //! The texts of a stream, one after the other.
 
-ghost use Rattle.std.specs.Prelude.{◌≡◌, ◌≢◌, ◌⊎◌, ◌≤◌, ◌<◌, ◌+◌, ◌-◌, ◌^◌, ◌++◌, ℕ, List, []};
-ghost use Rattle.std.specs.Prelude.{IfOk, IfErr, OnErr, MatchResult};
+ghost use Rattle.std.specs.Prelude.{◌≡◌, ◌≢◌, ◌⊎◌, ◌≤◌, ◌<◌, ◌+◌, ◌-◌, ◌^◌, ◌++◌, ℕ, List, [], length};
+ghost use Rattle.std.specs.Prelude.{IfOk, IfErr, OnErr, IfSome, IsSome, MatchResult};
 ghost use Rattle.std.specs.Prelude.{MatchOption, Ok, Some, None, true, false};
 ghost use Rattle.capn_value.specs.Tree as trees;
 ghost use Rattle.capn_value.specs.Cost.{height, most_height};
@@ -51,11 +51,30 @@ impl<'t> Texts<'t> {
         }
     }
 
+    /// The texts of what is left of an input from the beginning of this line on, or none where the number of its last
+    /// line might pass 64 bits. Takes no memory.
+    pub fn from_line(input: &'t [u8], line: u64) -> Option<Texts<'t>>
+        ensures found { IfSome result (λ t. t ≡ record { rest = input.now; line = line }) }
+        ensures only { line + length input.now < 2 ^ 64 → IsSome result }
+    {
+        if line > u64::MAX - input.len() as u64 {
+            return None;
+        }
+        Some(Texts { rest: input, line })
+    }
+
     /// The line, counted from 1 over the whole input, at which the next text begins, or the line after the last.
     pub fn line(&self) -> u64
         ensures { result ≡ self.now.line }
     {
         self.line
+    }
+
+    /// How many bytes are left. Takes no memory.
+    pub fn left(&self) -> usize
+        ensures { result ≡ length self.now.rest }
+    {
+        self.rest.len()
     }
 
     /// Whether the end of the input is reached. Takes no memory.
@@ -111,11 +130,12 @@ impl<'t> Texts<'t> {
         // A line that is refused is the first that doesn't go on with a text and its end.
         ensures first { IfErr result (λ e. (n : ℕ) → e ≡ faults.Line n →
             (k : ℕ) × (n + 1 ≡ self.old.line + k) × IsFirstWrong ended_text k self.old.rest) }
-        // A misfit is that of the value whose text stands next with its end, or the text goes too deep, whatever
-        // follows.
+        // A misfit is that of the value of at most 256 levels whose text stands next with its end, or the text goes
+        // too deep, whatever follows.
         ensures misfit { IfErr result (λ e. (m : Misfit) → e ≡ faults.Misfit m →
             ((m ≡ Tall) × GoesTooDeep self.old.rest) ⊎ ((v : trees.Tree) × (rest : List ℕ) × InRange v
-            × IsShowable v × (self.old.rest ≡ show_text v ++ (end_line ++ rest)) × (misfit v ≡ Some m))) }
+            × IsShowable v × (height v ≤ most_height) × (self.old.rest ≡ show_text v ++ (end_line ++ rest))
+            × (misfit v ≡ Some m))) }
     {
         if self.rest.is_empty() {
             return Ok(None);

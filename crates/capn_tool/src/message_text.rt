@@ -15,6 +15,7 @@ use sha2::{Digest, Sha256};
 use std::alloc::Allocator;
 
 /// Appends the line of a price and a number of visits, which ends in these bytes, or nothing where memory is refused.
+#[inline(always)]
 fn put_priced<A: Allocator>(
     text: &mut Vec<u8, A>,
     paid: u32,
@@ -33,6 +34,7 @@ fn put_priced<A: Allocator>(
 
 /// Appends the line of what the walk of a message paid, in words, and how many visits it made. After a fault the text
 /// is as it was.
+#[inline(always)]
 pub fn put_price<S: Space, A: Allocator + Copy>(
     alloc: A,
     space: &S,

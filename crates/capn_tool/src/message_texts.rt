@@ -106,6 +106,7 @@ fn served_fault(fault: ToolFault) -> ServeFault
 }
 
 /// How a message ends whose piece was put, or has none.
+#[inline(always)]
 fn served(put: Result<(), ToolFault>) -> Result<(), ServeFault>
     ensures { (s : MessageTexts) (at : Position) (frame : List ℕ) (message : List (List ℕ)) (old new : List ℕ)
         → PutsMessageText s.piece message s.limits old new put
@@ -118,6 +119,7 @@ fn served(put: Result<(), ToolFault>) -> Result<(), ServeFault>
 }
 
 /// Ends a message whose piece was put, or has none, and writes what is long.
+#[inline(always)]
 fn end_piece<W: Write, A: Allocator>(
     put: Result<(), ToolFault>,
     text: &mut Vec<u8, A>,

@@ -4,6 +4,10 @@
 #![tactic(auto)]
 
 #[cfg(test)]
+mod endless;
+#[cfg(test)]
 mod making;
+#[cfg(test)]
+mod pieces;
 #[cfg(test)]
 mod reading;

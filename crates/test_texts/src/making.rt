@@ -8,7 +8,7 @@ use std::alloc::Global;
 use std::test::Fail;
 
 /// How a run over an input ends, and what it wrote.
-fn run(alloc: Global, form: Form, input: &[u8]) -> (Result<(), MakeFault>, Vec<u8>) {
+pub(crate) fn run(alloc: Global, form: Form, input: &[u8]) -> (Result<(), MakeFault>, Vec<u8>) {
     let mut reader = Watched::new(input);
     let mut writer = Watched::new(Vec::new(alloc));
     let outcome = make(alloc, form, &mut reader, &mut writer);
@@ -28,18 +28,18 @@ fn makes(alloc: Global, form: Form, input: &[u8], text: &[u8]) -> bool {
     outcome == Ok(()) && written.as_slice() == text
 }
 
-const NULL: &[u8] = b"null\nend\n";
+pub(crate) const NULL: &[u8] = b"null\nend\n";
 
 const NULL_FRAME: &[u8] = b"\0\0\0\0\x01\0\0\0\0\0\0\0\0\0\0\0";
 
 const NULL_PACKED: &[u8] = b"\x10\x01\0\0";
 
 /// A struct whose last word is zero and whose last slot is null.
-const PADDED: &[u8] =
+pub(crate) const PADDED: &[u8] =
     b"struct 2 1\n  word 0000000000000005\n  word 0000000000000000\n  null\nend\n";
 
 /// Inputs with their forms, and what is written for them.
-const MADE: [(Form, &[u8], &[u8]); 8] = [
+pub(crate) const MADE: [(Form, &[u8], &[u8]); 8] = [
     (Form::Stream, NULL, NULL_FRAME),
     (Form::Packed, NULL, NULL_PACKED),
     (Form::Bare, NULL, b"\0\0\0\0\0\0\0\0"),

@@ -139,6 +139,26 @@ fn texts_of_a_stream(rt: HostRuntime) {
     assert!(rt; matches!(texts.read_next(alloc), Ok(None)));
 }
 
+#[test]
+fn rest_of_a_stream(rt: HostRuntime) {
+    let alloc = rt.alloc();
+    let mut all = Texts::new(STREAM);
+    assert_eq!(rt; all.left(), STREAM.len());
+    assert!(rt; matches!(all.read_next(alloc), Ok(Some(_))));
+    assert_eq!(rt; all.left(), STREAM.len() - 9);
+    let Some(mut texts) = Texts::from_line(&STREAM[9..], 3) else {
+        assert!(rt; false);
+        return;
+    };
+    assert_eq!(rt; texts.line(), 3);
+    assert!(rt; matches!(texts.read_next(alloc), Ok(Some(_))));
+    assert_eq!(rt; texts.line(), 6);
+    assert_eq!(rt; texts.left(), 0);
+    let most = u64::MAX - STREAM.len() as u64;
+    assert!(rt; Texts::from_line(STREAM, most).is_some());
+    assert!(rt; Texts::from_line(STREAM, most + 1).is_none());
+}
+
 /// The fault that ends a stream, and the line at which its text begins.
 fn stream_fault(alloc: Global, input: &[u8]) -> Option<(u64, TextFault)> {
     let mut texts = Texts::new(input);

@@ -1,11 +1,10 @@
--- A buffer of words, each of which can be written again, is a list without holes.
-use Rattle.std.specs.Prelude.{◌≡◌, ℕ, ◌/◌, ◌%◌, List, length, replicate, Option, false}
-use Rattle.capn_words.specs.Message.{AreBytes}
-use Rattle.capn_canon.specs.Patch.{cells}
+-- A buffer of words, each of which can be written again, is the list of its words.
+use Rattle.std.specs.Prelude.{◌≡◌, ℕ, ◌/◌, ◌%◌, List, length}
+use Rattle.capn_words.specs.Message.{AreBytes, words_in}
 
--- the list that bytes stand for (Own.)
-abbrev pub drafted : List ℕ → List (Option ℕ)
-drafted bs = cells (replicate (length bs / 8) false) bs
+-- the words whose bytes these are (Own.)
+abbrev pub drafted : List ℕ → List ℕ
+drafted bs = words_in (length bs / 8) bs
 
 -- whole words (Own.)
 pub record IsDrafted (bs : List ℕ) : Type 0 where

@@ -1,7 +1,7 @@
 -- What the parts of a run do.
-use Rattle.std.specs.Prelude.{◌≡◌, ◌⊎◌, ℕ, ◌+◌, List, [], ◌++◌, Bool, true, false, Option, Some, None, Result, Ok, Err}
-use Rattle.std.specs.Prelude.{Vec}
-use Rattle.std.specs.Io.KnownBytes.{Appends, Consumes, IsAtEnd}
+use Rattle.std.specs.Prelude.{◌≡◌, ◌⊎◌, ◌≤◌, ◌<◌, ⊤, ℕ, ◌+◌, List, [], ◌++◌, length, Bool, true, false}
+use Rattle.std.specs.Prelude.{Option, Some, None, Result, Ok, Err, Vec}
+use Rattle.std.specs.Io.KnownBytes.{Consumes, IsAtEnd}
 use Rattle.capn_value.specs.Tree.{Tree}
 use Rattle.capn_value.specs.FirstCap.{first_cap}
 use Rattle.capn_value.specs.Text.{show_text}
@@ -9,18 +9,83 @@ use Rattle.capn_text.specs.Streams.{Place, end_line, ended_lines}
 use Rattle.capn_text.specs.declared.fault.TextFault.{TextFault}
 use Rattle.capn_text.specs.declared.fault.TextFault.TheVariants as texts
 use Rattle.capn_canon.specs.declared.form.Form.{Form}
+use Rattle.capn_canon.specs.declared.form.Form.TheVariants as forms
 use Rattle.capn_make.specs.WrittenValue.{IsMakeable, IsWrittenValue, AreMade}
 use Rattle.capn_make.specs.MadeInput.{AreFirst, IsTextRefused, IsNotOne, Follows, Makes, MakesEach, MakesOne}
 use Rattle.capn_make.specs.MadeInput.{line_after}
-use Rattle.capn_make.specs.MakeRun.{HasBegunEach, HasBegunOne, HasBegunText}
+use Rattle.capn_make.specs.Endings.{IsWhole, IsRefusedForGood}
 use Rattle.capn_make.specs.declared.fault.MakeFault.{MakeFault}
 use Rattle.capn_make.specs.declared.fault.MakeFault.TheVariants as faults
 
--- a reader gave all of its bytes; or it failed, or memory was refused, after some of them
-abbrev pub ReadsAll : {A : Type 0} → Option (List ℕ) → Option (List ℕ) → Bool → Result (Vec ℕ A) MakeFault → Type 0
-ReadsAll a b failed (Ok input) = Consumes a b input.items × IsAtEnd b × (failed ≡ false)
-ReadsAll a b failed (Err fault) = (bytes : List ℕ) × Consumes a b bytes
-    × (((fault ≡ faults.Memory) × (failed ≡ false)) ⊎ ((fault ≡ faults.Io) × (failed ≡ true)))
+-- the reader has failed, or memory was refused
+abbrev pub HasNotRead : Bool → MakeFault → Type 0
+HasNotRead failed fault = ((fault ≡ faults.Memory) × (failed ≡ false)) ⊎ ((fault ≡ faults.Io) × (failed ≡ true))
+
+-- A reader gave so many more bytes of an input, none only at its end; or it failed, or memory was refused, after some.
+abbrev pub GivesBytes : Option (List ℕ) → Bool → List ℕ → List ℕ → List ℕ → Result ℕ MakeFault → Type 0
+GivesBytes b failed old new bytes (Ok count) = (new ≡ old ++ bytes) × (count ≡ length bytes) × (count ≡ 0 → IsAtEnd b)
+    × (failed ≡ false)
+GivesBytes b failed old new bytes (Err fault) = HasNotRead failed fault
+
+-- so by one call, of at most this many bytes
+abbrev pub ReadsChunk : Option (List ℕ) → Option (List ℕ) → Bool → List ℕ → List ℕ → Result ℕ MakeFault → Type 0
+ReadsChunk a b failed old new r = (bytes : List ℕ) × Consumes a b bytes × (length bytes ≤ 65536)
+    × GivesBytes b failed old new bytes r
+
+-- Of the first texts of an input this was made, in form bare of one at most, and here is what comes after them.
+pub record HasMade (form : Form) (input : List ℕ) (place : Place) (made : List ℕ) : Type 0 where
+  pub values : List Tree
+  pub first : AreFirst values input place.rest
+  pub are : AreMade form values made
+  pub line : place.line ≡ line_after values
+  pub few : form ≡ forms.Bare → length values ≤ 1
+
+-- Of an input, if nothing follows, this was made, and so it ends. In form bare what was made is written only if it ends
+-- well.
+abbrev pub IsMadeSo : Form → List ℕ → List ℕ → Result (Unit {0}) MakeFault → Type 0
+IsMadeSo forms.Stream input made r = MakesEach forms.Stream input made r
+IsMadeSo forms.Packed input made r = MakesEach forms.Packed input made r
+IsMadeSo forms.Bare input made (Ok u) = MakesOne input made (Ok u)
+IsMadeSo forms.Bare input made (Err fault) = IsNotOne input fault
+
+-- a text is refused for a capability
+abbrev pub HasCapability : MakeFault → Type 0
+HasCapability fault = (n : ℕ) × (index : ℕ) × (fault ≡ faults.Capability n index)
+
+-- So it is made on, up to a place; or memory was refused. A capability is refused whatever follows: after it there is
+-- no place.
+abbrev pub GoesOn : Form → List ℕ → Place → List ℕ → Result (Unit {0}) MakeFault → Type 0
+GoesOn form input place made (Ok u) = HasMade form input place made × IsMadeSo form input made (Ok u)
+GoesOn form input place made (Err fault) = (fault ≡ faults.Memory)
+    ⊎ ((HasCapability fault ⊎ HasMade form input place made) × IsMadeSo form input made (Err fault))
+
+-- what a fault is about stands whole in what is left, from a line on
+abbrev pub IsWholeFrom : ℕ → List ℕ → MakeFault → Type 0
+IsWholeFrom line rest faults.Memory = ⊤
+IsWholeFrom line rest faults.Io = ⊤
+IsWholeFrom line rest (faults.NotText n) = n < line + ended_lines rest
+IsWholeFrom line rest (faults.Misfit n m) = ⊤
+IsWholeFrom line rest (faults.Capability n index) = ⊤
+IsWholeFrom line rest (faults.Another n) = ⊤
+IsWholeFrom line rest faults.NoText = ⊥
+
+-- An input is refused whatever follows, and this was made of it; or it isn't, and so it is made up to a place.
+abbrev pub TellsRefusal : Form → List ℕ → Place → List ℕ → Option MakeFault → Type 0
+TellsRefusal form input place made (Some fault) = IsMadeSo form input made (Err fault) × IsWhole input fault
+TellsRefusal form input place made None = HasMade form input place made × (IsRefusedForGood form input → ⊥)
+
+-- So many of the bytes that are left were tested, with all before them: they are not refused whatever follows.
+pub record HasTested (form : Form) (tested : ℕ) (input rest : List ℕ) : Type 0 where
+  pub front : List ℕ
+  pub more : List ℕ
+  pub are : input ≡ front ++ more
+  pub size : length front + length rest ≡ length input + tested
+  pub not_yet : IsRefusedForGood form front → ⊥
+
+-- this was made of all bytes of a reader, or of some that are refused whatever follows
+abbrev pub EndsMaking : Form → Option (List ℕ) → Bool → List ℕ → List ℕ → Result (Unit {0}) MakeFault → Type 0
+EndsMaking form b failed bytes text ending =
+    Makes form bytes text ending × (IsAtEnd b ⊎ IsRefusedForGood form bytes) × (failed ≡ false)
 
 -- why the next text, from a line on, is not read
 abbrev pub unread : ℕ → TextFault → MakeFault
@@ -34,50 +99,21 @@ MakesValue form line v (Ok piece) = IsWrittenValue form v piece.items × (first_
 MakesValue form line v (Err fault) = (fault ≡ faults.Memory)
     ⊎ ((index : ℕ) × (fault ≡ faults.Capability line index) × (first_cap v ≡ Some index))
 
--- the next text was made, and the place is after it; or nothing is left; or it is refused, or memory was
+-- a place is the same, or after some bytes
+abbrev pub IsAfter : Place → Place → Type 0
+IsAfter old new = (front : List ℕ) × (old.rest ≡ front ++ new.rest)
+
+-- The next text was made, and the place is after it; or nothing is left; or it is refused, and the place is the same,
+-- unless that is for a capability; or memory was refused.
 abbrev pub MakesNext : {A : Type 0} → Form → Place → Place → Result (Option (Vec ℕ A)) MakeFault → Type 0
-MakesNext form old new (Ok None) = old.rest ≡ []
+MakesNext form old new (Ok None) = (old.rest ≡ []) × (new ≡ old)
 MakesNext form old new (Ok (Some piece)) = (v : Tree) × IsMakeable v
     × (old.rest ≡ show_text v ++ (end_line ++ new.rest)) × IsWrittenValue form v piece.items
     × (new.line + ended_lines new.rest ≡ old.line + ended_lines old.rest)
-MakesNext form old new (Err fault) = (fault ≡ faults.Memory) ⊎ IsTextRefused old.line old.rest fault
-
--- all texts up to a place were made and written
-pub record HasMade (form : Form) (input : List ℕ) (place : Place) (old new : Option (List ℕ)) : Type 0 where
-  pub values : List Tree
-  pub text : List ℕ
-  pub first : AreFirst values input place.rest
-  pub made : AreMade form values text
-  pub line : place.line ≡ line_after values
-  pub written : Appends old new text
+MakesNext form old new (Err fault) = (fault ≡ faults.Memory)
+    ⊎ ((HasCapability fault ⊎ (new ≡ old)) × IsTextRefused old.line old.rest fault)
 
 -- nothing follows, or this does
 abbrev pub EndsOne : Place → Result (Unit {0}) MakeFault → Type 0
 EndsOne place (Ok u) = place.rest ≡ []
 EndsOne place (Err fault) = Follows place.line place.rest fault
-
--- one text was made, or memory was refused, or the input is not one text
-abbrev pub GivesOne : {A : Type 0} → List ℕ → Result (Vec ℕ A) MakeFault → Type 0
-GivesOne input (Ok text) = MakesOne input text.items (Ok tt)
-GivesOne input (Err fault) = (fault ≡ faults.Memory) ⊎ IsNotOne input fault
-
--- What P makes of an input was written, and the run ended as that does; or the writer failed, or memory was refused,
--- and what was written is as Q says.
-abbrev pub SendsAs : (List ℕ → Result (Unit {0}) MakeFault → Type 0) → Type 0 → Option (List ℕ) → Option (List ℕ) → Bool
-    → Result (Unit {0}) MakeFault → Type 0
-SendsAs P Q c d failed (Ok u) = (text : List ℕ) × P text (Ok u) × Appends c d text × (failed ≡ false)
-SendsAs P Q c d failed (Err fault) =
-    (Q × (((fault ≡ faults.Io) × (failed ≡ true)) ⊎ ((fault ≡ faults.Memory) × (failed ≡ false))))
-    ⊎ ((text : List ℕ) × P text (Err fault) × Appends c d text × (failed ≡ false))
-
--- so of each text
-abbrev pub SendsEach : Form → List ℕ → Option (List ℕ) → Option (List ℕ) → Bool → Result (Unit {0}) MakeFault → Type 0
-SendsEach form input c d failed r = SendsAs (MakesEach form input) (HasBegunEach form input c d) c d failed r
-
--- so of one text
-abbrev pub SendsOne : List ℕ → Option (List ℕ) → Option (List ℕ) → Bool → Result (Unit {0}) MakeFault → Type 0
-SendsOne input c d failed r = SendsAs (MakesOne input) (HasBegunOne input c d) c d failed r
-
--- so in a form
-abbrev pub Sends : Form → List ℕ → Option (List ℕ) → Option (List ℕ) → Bool → Result (Unit {0}) MakeFault → Type 0
-Sends form input c d failed r = SendsAs (Makes form input) (HasBegunText form input c d) c d failed r

@@ -1,5 +1,5 @@
 -- Where reading stops: after whole lines that go on, on a line that doesn't. (Own.)
-use Rattle.std.specs.Prelude.{ℕ, suc, ◌≡◌, ◌<◌, ◌≤◌, ◌+◌, List, [], ◌++◌, length, Option, Some, None, Result, Ok, Err}
+use Rattle.std.specs.Prelude.{ℕ, suc, ◌≡◌, ◌≤◌, ◌+◌, List, [], ◌++◌, length, Option, Some, None, Result, Ok, Err}
 use Rattle.std.specs.Prelude.{⊤}
 use Rattle.capn_text.specs.Streams.{first_lines, ended_lines}
 use Rattle.capn_text.specs.declared.fault.Stop.{Stop}
@@ -9,21 +9,23 @@ use Rattle.capn_text.specs.declared.fault.Stop.TheVariants as stops
 abbrev pub AreLines : List ℕ → Type 0
 AreLines x = (n : ℕ) (y : List ℕ) → first_lines (ended_lines x + n) (x ++ y) ≡ x ++ first_lines n y
 
--- `read r` reads values of a height of at most r
-module _ {X : Type 0} (read : ℕ → List ℕ → Option (X × List ℕ)) (room : ℕ) where
-  -- whole lines that can be completed, if the height is no limit
-  abbrev pub GoesOn : List ℕ → Type 0
-  GoesOn front = AreLines front × (y : List ℕ) × (x : X) × ((r : ℕ) → room < r → read r (front ++ y) ≡ Some (x, []))
+-- Whole lines that can be completed to a value of a height of at most `least`; `read r` reads values of a height of at
+-- most r.
+abbrev pub GoesOn : {X : Type 0} → (ℕ → List ℕ → Option (X × List ℕ)) → ℕ → List ℕ → Type 0
+GoesOn {X} read least front = AreLines front × (y : List ℕ) × (x : X)
+    × ((r : ℕ) → least ≤ r → read r (front ++ y) ≡ Some (x, []))
 
+module _ {X : Type 0} (read : ℕ → List ℕ → Option (X × List ℕ)) (room : ℕ) where
   -- lines that go on, and `left` bytes after them, whose first line doesn't go on at any height
   abbrev pub Stops : List ℕ → ℕ → Type 0
-  Stops text left = (front : List ℕ) × (rest : List ℕ) × (text ≡ front ++ rest) × (length rest ≡ left) × GoesOn front
+  Stops text left = (front : List ℕ) × (rest : List ℕ) × (text ≡ front ++ rest) × (length rest ≡ left)
+      × GoesOn read room front
       × ((r : ℕ) (z : List ℕ) → room ≤ r → first_lines 1 z ≡ first_lines 1 rest → read r (front ++ z) ≡ None)
 
   -- lines that go on only with a greater height
   abbrev pub Deepens : List ℕ → Type 0
-  Deepens text = (front : List ℕ) × (rest : List ℕ) × (text ≡ front ++ rest) × GoesOn front
-      × ((z : List ℕ) → read room (front ++ z) ≡ None)
+  Deepens text = (front : List ℕ) × (rest : List ℕ) × (text ≡ front ++ rest)
+      × GoesOn read (suc room) front × ((z : List ℕ) → read room (front ++ z) ≡ None)
 
   -- why nothing is read from a text
   abbrev pub FailsAt : Stop → List ℕ → Type 0

@@ -1,10 +1,14 @@
-use Rattle.std.proofs.Common.{ℕ, List, [], ◌∷◌, ◌++◌, ap, ◌∙◌, Option, Some}
-use Rattle.capn_canon.proofs.AtRoot.{root-bytes}
+use Rattle.std.proofs.lemmas.Result.{IfOk-weaker}
 use Rattle.capn_canon.proofs.canonical.bytes_of.Goals as goal
 
+pub canonical_bytes-requires : goal.canonical_bytes-requires
+canonical_bytes-requires g c =
+    let r = c.requires in
+    record { value = r.value; is = r.is; sound = r.sound; low = r.low; room = r.room }
+
 pub returns : goal.returns
-returns g c v h =
-    c.finish.ensures
-    ∙ root-bytes (g.S.Space.message c.args.space.now) c.push.new.self c.lay_slot.new.draft
-    (c.in_ok-push.ensures.ok
-    ∙ ap (λ (x : List (Option ℕ)). x ++ Some 0 ∷ []) c.in_ok-draft.ensures) c.in_ok-lay_slot.ensures v h
+returns g c =
+    let h = c.requires.is in
+    IfOk-weaker c.canonical_bytes.result _ _
+    (λ bytes laid v is. laid v (record { message = h.message; exists = h.exists; place = h.place; at = is }))
+    c.canonical_bytes.ensures

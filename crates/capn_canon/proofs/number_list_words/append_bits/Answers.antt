@@ -15,8 +15,8 @@ returns-in_ok-push g c =
     bits-appended (segment_at m s) w c.args.bits c.word.result (1 * 2 ^ (c.args.bits % 64) % 2 ^ 64) c.args.draft.now
     c.extend.new.self c.push.new.self c.if-rest-ne0.true
     (copy-of m s w (c.args.bits / 64) c.args.draft.now c.extend.new.self c.bytes.result.now c.requires.message
-    (omega arith) c.bytes.ensures c.in_ok-extend.ensures.ok)
-    c.word.ensures (shifted-one (c.args.bits % 64) (omega arith)) c.in_ok-push.ensures.ok
+    (omega arith) c.bytes.ensures c.in_ok-extend.ensures)
+    c.word.ensures (shifted-one (c.args.bits % 64) (omega arith)) c.in_ok-push.ensures
 
 pub returns-else-rest-ne0 : goal.returns-else-rest-ne0
 returns-else-rest-ne0 g c =
@@ -26,7 +26,7 @@ returns-else-rest-ne0 g c =
     let h = c.requires.content.within in
     words-appended (words_from m s w) c.args.bits c.args.draft.now c.extend.new.self c.if-rest-ne0.false
     (copy-of m s w (c.args.bits / 64) c.args.draft.now c.extend.new.self c.bytes.result.now c.requires.message
-    (omega arith) c.bytes.ensures c.in_ok-extend.ensures.ok)
+    (omega arith) c.bytes.ensures c.in_ok-extend.ensures)
 
 pub extend-requires : goal.extend-requires
 extend-requires g c =

@@ -1,437 +1,361 @@
-use Rattle.std.proofs.Common.{◌≡◌, ◌+◌, ◌-◌, ◌*◌, ◌^◌, ◌≤◌, length, set, Some, Ok, sym, ap}
-use Rattle.std.proofs.Common.{subst, ◌∙◌, arith}
+use Rattle.std.proofs.Common.{◌≡◌, ℕ, suc, ◌+◌, ◌-◌, ◌*◌, ◌^◌, ◌<◌, ◌≤◌, List, length, set, ap, sym, subst, ◌∙◌, arith}
+use Rattle.std.proofs.Common.{refl}
 use Rattle.std.proofs.lemmas.Result.{on_ok_weaker}
-use Rattle.capn_words.specs.Message.{segment_at}
-use Rattle.capn_walk.specs.declared.target.Shape.{Shape}
-use Rattle.capn_walk.specs.declared.target.Shape.TheVariants as shapes
-use Rattle.capn_walk.specs.Shapes.{IsContent, RowsFit, extent}
-use Rattle.capn_walk.proofs.shared.RowWalks.{row-inside}
-use Rattle.capn_walk.proofs.shared.Segments.{segment-room}
-use Rattle.capn_walk.proofs.shared.Inside.{inside}
-use Rattle.capn_walk.proofs.shared.Present.{present}
-use Rattle.capn_walk.proofs.shared.Walks.{is-inside}
-use Rattle.capn_walk.proofs.shared.Unique.{unique}
-use Rattle.capn_words.specs.declared.pointer.Width.{Width}
-use Rattle.capn_canon.specs.inner.ReadyPlaces.{IsReadyInside, IsLaidInside}
-use Rattle.capn_canon.proofs.Shaped.{found, null-of, cap-at, inside-of, inside-height}
-use Rattle.capn_canon.proofs.Slots.{laid-null, laid-cap, next, next-ready, begins-rest, begins-ready, then-rest}
-use Rattle.capn_canon.proofs.Slots.{then-inside, then-ready, ends-rest}
-use Rattle.capn_canon.proofs.Objects.{node-few, node-inside, node-ready, node-laid, links-inside}
-use Rattle.capn_canon.proofs.Objects.{links-ready, links-laid}
-use Rattle.capn_canon.proofs.EachRow.{one-more-fits}
-use Rattle.capn_canon.proofs.RowByRow.{next-row, row-ready, rows-begin, rows-begin-ready, rows-then, rows-then-ready}
-use Rattle.capn_canon.proofs.RowByRow.{rows-end, rows-few, rows-part, rows-fits, rows-ready, rows-laid, rows-nothing}
+use Rattle.capn_value.specs.Tree.{Tree}
+use Rattle.capn_canon.specs.declared.source.Item.{Item}
+use Rattle.capn_canon.specs.Layout.{point, list_to}
+use Rattle.capn_canon.specs.inner.LayoutSteps.{laid}
+use Rattle.capn_canon.specs.inner.Source.{IsItem}
+use Rattle.capn_canon.proofs.Blocks.{opened-room, opened-first, one-ready, one-laid, all-ready, all-inside, all-laid}
+use Rattle.capn_canon.proofs.Blocks.{struct-one, links-one}
+use Rattle.capn_canon.proofs.Stepwise.{next-ready, then-inside, then-ready, then-rest, slots-start, slots-end}
+use Rattle.capn_canon.proofs.Stepwise.{row-ready}
+use Rattle.capn_canon.proofs.Stepwise.{row-then-inside, row-then-ready, row-then-rest, rows-end, rows-empty, laid-plain}
+use Rattle.capn_canon.proofs.Stepwise.{laid-nil, laid-cap, one-more}
 use Rattle.capn_canon.proofs.object_layout.+objects.Goals as goal
 
-pub lay_slot-target_at-requires-clause-found : goal.lay_slot-target_at-requires-clause-found
-lay_slot-target_at-requires-clause-found g t c =
-    found (g.S.Space.message c.args.space.now) c.args.at c.requires.ready.value c.requires.ready.is
+-- ---- a slot
 
-pub lay_slot-overflow_sub-depth : goal.lay_slot-overflow_sub-depth
-lay_slot-overflow_sub-depth g t c =
-    let m = g.S.Space.message c.args.space.now in
-    let x = c.in-Content in
-    let r = c.requires.ready in
-    let h = inside-height m x.shape x.segment x.start r.value
-    (inside-of m c.args.at x.segment x.start x.pads x.shape (c.target_at.ensures ∙ ap Ok x.is) r.value r.is) in
-    let l = r.low in
-    omega arith
-
-pub lay_slot-lay_object-requires : goal.lay_slot-lay_object-requires
-lay_slot-lay_object-requires g t c κs live =
-    let m = g.S.Space.message c.args.space.now in
-    let x = c.in-Content in
-    let e = c.target_at.ensures ∙ ap Ok x.is in
-    let i = inside m c.args.at x.segment x.start x.pads x.shape e in
-    let r = c.requires.ready in
-    let here = inside-of m c.args.at x.segment x.start x.pads x.shape e r.value r.is in
-    let h = inside-height m x.shape x.segment x.start r.value here in
-    let ready : IsReadyInside m x.shape x.segment x.start (c.args.depth - 1) (length c.args.draft.now) =
-    record {
-      value = r.value;
-      is = here;
-      only = λ v k. unique m v r.value c.args.at (is-inside m c.args.at x.segment x.start x.pads x.shape v e k) r.is;
-      sound = r.sound;
-      low = let l = r.low in omega arith;
-      room = r.room;
-    } in
-    let content : IsContent m (record { segment = x.segment; word = x.start }) (extent x.shape) =
-    record { exists = present m c.args.at x.segment x.start x.pads x.shape c.requires.place e; within = i.0 } in
-    (omega arith, (live.0, (live.1, (c.requires.message, (content, (i.1, (ready, c.requires.inside)))))))
+pub lay_slot-item-requires : goal.lay_slot-item-requires
+lay_slot-item-requires g t c = (c.requires.ready.value, c.requires.ready.is)
 
 pub lay_slot-returns-in-Nil : goal.lay_slot-returns-in-Nil
 lay_slot-returns-in-Nil g t c v h =
-    c.put.ensures
-    ∙ laid-null v c.args.draft.now c.args.from
-    (null-of (g.S.Space.message c.args.space.now) c.args.at v (c.target_at.ensures ∙ ap Ok c.in-Nil.is) h)
+    let e = subst (λ (x : Item g.row.S-Numbers.Denot g.row.S-Rows.Denot). IsItem g.S.Source.packs g.S.Source.are x v)
+    c.in-Nil.is (c.item.ensures v h) in
+    laid-nil v c.args.from c.args.draft.now c.put.new.self e c.put.ensures
 
 pub lay_slot-returns-in-Cap : goal.lay_slot-returns-in-Cap
 lay_slot-returns-in-Cap g t c v h =
-    c.put-in-Cap.ensures ∙ ap (λ x. set c.args.draft.now c.args.from (Some x)) c.join.ensures.word
-    ∙ laid-cap v c.in-Cap.index c.args.draft.now c.args.from
-    (cap-at (g.S.Space.message c.args.space.now) c.args.at v c.in-Cap.index (c.target_at.ensures
-    ∙ ap Ok c.in-Cap.is) h)
+    let e = subst (λ (x : Item g.row.S-Numbers.Denot g.row.S-Rows.Denot). IsItem g.S.Source.packs g.S.Source.are x v)
+    c.in-Cap.is (c.item.ensures v h) in
+    laid-cap v c.in-Cap.index c.join.result c.args.from c.args.draft.now c.put-in-Cap.new.self e c.join.ensures.word
+    c.put-in-Cap.ensures
 
-pub lay_slots-loop-i-init : goal.lay_slots-loop-i-init
-lay_slots-loop-i-init g t c =
-    let m = g.S.Space.message c.args.space.now in
-    record {
-      rest = begins-rest m c.args.start.segment c.args.start.word c.args.count c.args.first c.args.depth
-          c.args.draft.now;
-      inside = c.requires.inside;
-      ready = begins-ready m c.args.start.segment c.args.start.word c.args.count c.args.first c.args.depth
-          c.args.draft.now c.requires.ready;
-    }
+pub lay_slot-list_pointer-word-requires-clause-few : goal.lay_slot-list_pointer-word-requires-clause-few
+lay_slot-list_pointer-word-requires-clause-few g t c =
+    let v = c.requires.ready.value in
+    let x = subst (λ (x : Item g.row.S-Numbers.Denot g.row.S-Rows.Denot). IsItem g.S.Source.packs g.S.Source.are x v)
+    c.in-Numbers.is (c.item.ensures v c.requires.ready.is) in
+    x.2.few
+
+pub lay_slot-append_numbers-requires : goal.lay_slot-append_numbers-requires
+lay_slot-append_numbers-requires g t c =
+    let v = c.requires.ready.value in
+    let x = subst (λ (x : Item g.row.S-Numbers.Denot g.row.S-Rows.Denot). IsItem g.S.Source.packs g.S.Source.are x v)
+    c.in-Numbers.is (c.item.ensures v c.requires.ready.is) in
+    (x.0, x.1)
+
+pub lay_slot-returns-in-Numbers : goal.lay_slot-returns-in-Numbers
+lay_slot-returns-in-Numbers g t c =
+    on_ok_weaker c.append_numbers.result
+    (λ l v h.
+    let x = subst (λ (y : Item g.row.S-Numbers.Denot g.row.S-Rows.Denot). IsItem g.S.Source.packs g.S.Source.are y v)
+    c.in-Numbers.is (c.item.ensures v h) in
+    laid-plain v c.args.from c.list_pointer-word.result x.0 c.args.draft.now c.put-in-Numbers.new.self
+    c.append_numbers.new.draft
+    (x.2.pointer c.args.from (length c.args.draft.now)
+    ∙ sym (c.list_pointer-word.ensures
+    ∙ ap (λ (to : ℕ). list_to c.args.from to c.in-Numbers.width c.in-Numbers.count) c.len.ensures))
+    x.2.content c.put-in-Numbers.ensures (l x.0 x.1))
+    c.append_numbers.ensures
+
+-- ---- a struct
+
+pub lay_slot-open_struct-requires-clause-some : goal.lay_slot-open_struct-requires-clause-some
+lay_slot-open_struct-requires-clause-some g t c =
+    let v = c.requires.ready.value in
+    let x = subst (λ (x : Item g.row.S-Numbers.Denot g.row.S-Rows.Denot). IsItem g.S.Source.packs g.S.Source.are x v)
+    c.in-Struct.is (c.item.ensures v c.requires.ready.is) in
+    (v, x.0, x.1, x.2, c.requires.ready.sound)
+
+pub lay_slot-overflow_add-first : goal.lay_slot-overflow_add-first
+lay_slot-overflow_add-first g t c =
+    let v = c.requires.ready.value in
+    let x = subst (λ (x : Item g.row.S-Numbers.Denot g.row.S-Rows.Denot). IsItem g.S.Source.packs g.S.Source.are x v)
+    c.in-Struct.is (c.item.ensures v c.requires.ready.is) in
+    let r = c.in_ok-own-in-Struct.own in
+    let o = c.in_ok-own-in-Struct.ensures v x.0 x.1 x.2 c.requires.ready.sound in
+    let inside = opened-first v x.0 c.args.from c.args.draft.now c.open_struct.new.draft r.first r.words r.slots
+    c.args.depth o c.requires.ready.room c.requires.ready.low (struct-one v x.0 x.1) in
+    let room = opened-room v x.0 c.args.from c.args.draft.now c.open_struct.new.draft r.first r.words r.slots
+    c.args.depth o c.requires.ready.room c.requires.ready.low in
+    omega arith
+
+pub lay_slot-slots-requires : goal.lay_slot-slots-requires
+lay_slot-slots-requires g t c =
+    let v = c.requires.ready.value in
+    let x = subst (λ (x : Item g.row.S-Numbers.Denot g.row.S-Rows.Denot). IsItem g.S.Source.packs g.S.Source.are x v)
+    c.in-Struct.is (c.item.ensures v c.requires.ready.is) in
+    let one = struct-one v x.0 x.1 in
+    (x.0, x.2, omega arith)
+
+pub lay_slot-lay_slots-requires : goal.lay_slot-lay_slots-requires
+lay_slot-lay_slots-requires g t c κs live =
+    let v = c.requires.ready.value in
+    let x = subst (λ (x : Item g.row.S-Numbers.Denot g.row.S-Rows.Denot). IsItem g.S.Source.packs g.S.Source.are x v)
+    c.in-Struct.is (c.item.ensures v c.requires.ready.is) in
+    let r = c.in_ok-own-in-Struct.own in
+    let o = c.in_ok-own-in-Struct.ensures v x.0 x.1 x.2 c.requires.ready.sound in
+    let one = struct-one v x.0 x.1 in
+    let low = o.block.low in
+    let high = c.requires.ready.low in
+    let are = c.slots.ensures x.0 x.2 in
+    let ready = one-ready v x.0 c.args.from c.args.draft.now c.open_struct.new.draft r.first r.words r.slots
+    c.args.depth o c.requires.ready.room
+    c.requires.ready.low
+    g.S.Source.has c.slots.result one are in
+    let inside = opened-first v x.0 c.args.from c.args.draft.now c.open_struct.new.draft r.first r.words r.slots
+    c.args.depth o c.requires.ready.room
+    c.requires.ready.low one in
+    (omega arith, (live.0, (live.1.0, (live.1.1.0, (live.1.1.1, (ready, omega arith))))))
+
+pub lay_slot-returns-in_ok-own-in-Struct : goal.lay_slot-returns-in_ok-own-in-Struct
+lay_slot-returns-in_ok-own-in-Struct g t c =
+    on_ok_weaker c.lay_slots.result
+    (λ l w h.
+    let v = c.requires.ready.value in
+    let x = subst (λ (x : Item g.row.S-Numbers.Denot g.row.S-Rows.Denot). IsItem g.S.Source.packs g.S.Source.are x v)
+    c.in-Struct.is (c.item.ensures v c.requires.ready.is) in
+    let r = c.in_ok-own-in-Struct.own in
+    let o = c.in_ok-own-in-Struct.ensures v x.0 x.1 x.2 c.requires.ready.sound in
+    let one = struct-one v x.0 x.1 in
+    let are = c.slots.ensures x.0 x.2 in
+    let e = g.met.S.Source.one c.args.source c.args.slot w v h c.requires.ready.is in
+    one-laid v x.0 c.args.from c.args.draft.now c.open_struct.new.draft r.first r.words r.slots c.args.depth o
+    c.requires.ready.room
+    c.requires.ready.low
+    g.S.Source.has c.slots.result one are c.lay_slots.new.draft l
+    ∙ ap (λ (y : Tree). laid y (set c.args.draft.now c.args.from (point y c.args.from (length c.args.draft.now))))
+    (sym e))
+    c.lay_slots.ensures
+
+-- ---- a list of pointers
+
+pub lay_slot-open_links-requires-clause-some : goal.lay_slot-open_links-requires-clause-some
+lay_slot-open_links-requires-clause-some g t c =
+    let v = c.requires.ready.value in
+    let x = subst (λ (x : Item g.row.S-Numbers.Denot g.row.S-Rows.Denot). IsItem g.S.Source.packs g.S.Source.are x v)
+    c.in-Links.is (c.item.ensures v c.requires.ready.is) in
+    (v, x.0, x.1, x.2, c.requires.ready.sound)
+
+pub lay_slot-overflow_add-first-in-Links : goal.lay_slot-overflow_add-first-in-Links
+lay_slot-overflow_add-first-in-Links g t c =
+    let v = c.requires.ready.value in
+    let x = subst (λ (x : Item g.row.S-Numbers.Denot g.row.S-Rows.Denot). IsItem g.S.Source.packs g.S.Source.are x v)
+    c.in-Links.is (c.item.ensures v c.requires.ready.is) in
+    let r = c.in_ok-own-in-Links.own in
+    let o = c.in_ok-own-in-Links.ensures v x.0 x.1 x.2 c.requires.ready.sound in
+    let inside = opened-first v x.0 c.args.from c.args.draft.now c.open_links.new.draft r.first r.words r.slots
+    c.args.depth o c.requires.ready.room c.requires.ready.low (links-one c.in-Links.count v x.0 x.1) in
+    let room = opened-room v x.0 c.args.from c.args.draft.now c.open_links.new.draft r.first r.words r.slots
+    c.args.depth o c.requires.ready.room c.requires.ready.low in
+    omega arith
+
+pub lay_slot-slots-requires-in-Links : goal.lay_slot-slots-requires-in-Links
+lay_slot-slots-requires-in-Links g t c =
+    let v = c.requires.ready.value in
+    let x = subst (λ (x : Item g.row.S-Numbers.Denot g.row.S-Rows.Denot). IsItem g.S.Source.packs g.S.Source.are x v)
+    c.in-Links.is (c.item.ensures v c.requires.ready.is) in
+    let one = links-one c.in-Links.count v x.0 x.1 in
+    (x.0, x.2, omega arith)
+
+pub lay_slot-lay_slots-requires-in-Links : goal.lay_slot-lay_slots-requires-in-Links
+lay_slot-lay_slots-requires-in-Links g t c κs live =
+    let v = c.requires.ready.value in
+    let x = subst (λ (x : Item g.row.S-Numbers.Denot g.row.S-Rows.Denot). IsItem g.S.Source.packs g.S.Source.are x v)
+    c.in-Links.is (c.item.ensures v c.requires.ready.is) in
+    let r = c.in_ok-own-in-Links.own in
+    let o = c.in_ok-own-in-Links.ensures v x.0 x.1 x.2 c.requires.ready.sound in
+    let one = links-one c.in-Links.count v x.0 x.1 in
+    let low = o.block.low in
+    let high = c.requires.ready.low in
+    let are = c.slots-in-Links.ensures x.0 x.2 in
+    let ready = one-ready v x.0 c.args.from c.args.draft.now c.open_links.new.draft r.first r.words r.slots
+    c.args.depth o c.requires.ready.room
+    c.requires.ready.low
+    g.S.Source.has c.slots-in-Links.result one are in
+    let inside = opened-first v x.0 c.args.from c.args.draft.now c.open_links.new.draft r.first r.words r.slots
+    c.args.depth o c.requires.ready.room
+    c.requires.ready.low one in
+    (omega arith, (live.0, (live.1.0, (live.1.1.0, (live.1.1.1, (ready, omega arith))))))
+
+pub lay_slot-returns-in_ok-own-in-Links : goal.lay_slot-returns-in_ok-own-in-Links
+lay_slot-returns-in_ok-own-in-Links g t c =
+    on_ok_weaker c.lay_slots-in-Links.result
+    (λ l w h.
+    let v = c.requires.ready.value in
+    let x = subst (λ (x : Item g.row.S-Numbers.Denot g.row.S-Rows.Denot). IsItem g.S.Source.packs g.S.Source.are x v)
+    c.in-Links.is (c.item.ensures v c.requires.ready.is) in
+    let r = c.in_ok-own-in-Links.own in
+    let o = c.in_ok-own-in-Links.ensures v x.0 x.1 x.2 c.requires.ready.sound in
+    let one = links-one c.in-Links.count v x.0 x.1 in
+    let are = c.slots-in-Links.ensures x.0 x.2 in
+    let e = g.met.S.Source.one c.args.source c.args.slot w v h c.requires.ready.is in
+    one-laid v x.0 c.args.from c.args.draft.now c.open_links.new.draft r.first r.words r.slots c.args.depth o
+    c.requires.ready.room
+    c.requires.ready.low
+    g.S.Source.has c.slots-in-Links.result one are c.lay_slots-in-Links.new.draft l
+    ∙ ap (λ (y : Tree). laid y (set c.args.draft.now c.args.from (point y c.args.from (length c.args.draft.now))))
+    (sym e))
+    c.lay_slots-in-Links.ensures
+
+-- ---- a list of structs
+
+pub lay_slot-open_rows-requires-clause-some : goal.lay_slot-open_rows-requires-clause-some
+lay_slot-open_rows-requires-clause-some g t c =
+    let v = c.requires.ready.value in
+    let x = subst (λ (x : Item g.row.S-Numbers.Denot g.row.S-Rows.Denot). IsItem g.S.Source.packs g.S.Source.are x v)
+    c.in-Rows.is (c.item.ensures v c.requires.ready.is) in
+    (v, x.0, x.1, x.2, c.requires.ready.sound)
+
+pub lay_slot-lay_rows-requires : goal.lay_slot-lay_rows-requires
+lay_slot-lay_rows-requires g t c κs live =
+    let v = c.requires.ready.value in
+    let x = subst (λ (x : Item g.row.S-Numbers.Denot g.row.S-Rows.Denot). IsItem g.S.Source.packs g.S.Source.are x v)
+    c.in-Rows.is (c.item.ensures v c.requires.ready.is) in
+    let r = c.in_ok-own-in-Rows.own in
+    let o = c.in_ok-own-in-Rows.ensures v x.0 x.1 x.2 c.requires.ready.sound in
+    let low = o.block.low in
+    let high = c.requires.ready.low in
+    let ready = all-ready v x.0 c.args.from c.args.draft.now c.open_rows.new.draft r.first r.words r.slots
+    c.args.depth o c.requires.ready.room
+    c.requires.ready.low
+    g.S.Source.are c.in-Rows.rows c.in-Rows.count x.1.1 x.2 in
+    let inside = all-inside v x.0 c.args.from c.args.draft.now c.open_rows.new.draft r.first r.words r.slots
+    c.args.depth o c.requires.ready.room c.requires.ready.low
+    g.S.Source.are c.in-Rows.rows c.in-Rows.count x.1.1 x.2 in
+    (omega arith, (live.0, (live.1.0, (live.1.1.0, (live.1.1.1, (ready, inside))))))
+
+pub lay_slot-returns-in_ok-own-in-Rows : goal.lay_slot-returns-in_ok-own-in-Rows
+lay_slot-returns-in_ok-own-in-Rows g t c =
+    on_ok_weaker c.lay_rows.result
+    (λ l w h.
+    let v = c.requires.ready.value in
+    let x = subst (λ (x : Item g.row.S-Numbers.Denot g.row.S-Rows.Denot). IsItem g.S.Source.packs g.S.Source.are x v)
+    c.in-Rows.is (c.item.ensures v c.requires.ready.is) in
+    let r = c.in_ok-own-in-Rows.own in
+    let o = c.in_ok-own-in-Rows.ensures v x.0 x.1 x.2 c.requires.ready.sound in
+    let e = g.met.S.Source.one c.args.source c.args.slot w v h c.requires.ready.is in
+    all-laid v x.0 c.args.from c.args.draft.now c.open_rows.new.draft r.first r.words r.slots c.args.depth o
+    c.requires.ready.room c.requires.ready.low
+    g.S.Source.are c.in-Rows.rows c.in-Rows.count x.1.1 x.2 c.lay_rows.new.draft l
+    ∙ ap (λ (y : Tree). laid y (set c.args.draft.now c.args.from (point y c.args.from (length c.args.draft.now))))
+    (sym e))
+    c.lay_rows.ensures
+
+-- ---- slots
+
+pub lay_slots-loop-slot-init : goal.lay_slots-loop-slot-init
+lay_slots-loop-slot-init g t c = record {
+  rest = λ ts n are. slots-start c.args.count ts c.args.first c.args.draft.now;
+  inside = c.requires.inside;
+  ready = c.requires.ready;
+}
 
 pub lay_slots-overflow_add-first : goal.lay_slots-overflow_add-first
 lay_slots-overflow_add-first g t c =
-    let n = c.loop-i-test.true in
-    let h = c.loop-i.invariant.inside in
-    let r = c.loop-i.invariant.ready.room in
+    let lt = c.loop-slot-test.true in
+    let h = c.loop-slot.invariant.inside in
+    let r = c.loop-slot.invariant.ready.room in
     omega arith
 
 pub lay_slots-lay_slot-requires : goal.lay_slots-lay_slot-requires
 lay_slots-lay_slot-requires g t c κs live =
-    let m = g.S.Space.message c.args.space.now in
-    let s = c.args.start.segment in
-    let lt = c.loop-i-test.true in
-    let i = c.loop-i.i in
-    let within = c.requires.content.within in
-    let x = next m s (c.args.start.word + i) (c.args.count - i) c.args.depth (length c.loop-i.draft)
-    c.loop-i.invariant.ready (omega arith) in
-    let ready = next-ready m s (c.args.start.word + i) (c.args.count - i) c.args.depth (length c.loop-i.draft) x in
-    let inside = c.loop-i.invariant.inside in
-    (omega arith, (live.0, (live.1, (c.requires.message, (omega arith, (ready, omega arith))))))
+    let i = c.loop-slot.slot in
+    let lt = c.loop-slot-test.true in
+    let inside = c.loop-slot.invariant.inside in
+    let ready = next-ready g.S.Source.has c.args.source c.args.count c.args.depth i lt (length c.loop-slot.draft)
+    c.loop-slot.invariant.ready in
+    (omega arith, (live.0, (live.1.0, (live.1.1.0, (live.1.1.1, (ready, omega arith))))))
 
-pub lay_slots-loop-i-preserved : goal.lay_slots-loop-i-preserved
-lay_slots-loop-i-preserved g t c =
-    let m = g.S.Space.message c.args.space.now in
-    let s = c.args.start.segment in
-    let w = c.args.start.word in
-    let p = c.loop-i.draft in
+pub lay_slots-loop-slot-preserved : goal.lay_slots-loop-slot-preserved
+lay_slots-loop-slot-preserved g t c =
+    let n = c.args.count in
+    let d = c.args.depth in
+    let i = c.loop-slot.slot in
+    let lt = c.loop-slot-test.true in
+    let p = c.loop-slot.draft in
     let q = c.lay_slot.new.draft in
-    let v = c.loop-i.invariant in
+    let v = c.loop-slot.invariant in
+    let h = c.in_ok-lay_slot.ensures in
     record {
-      rest = then-rest m s w c.args.count c.args.first c.args.depth c.loop-i.i p q c.loop-i-test.true v.ready
-          c.in_ok-lay_slot.ensures c.args.draft.now v.rest;
-      inside = then-inside m s w c.args.count c.args.first c.args.depth c.loop-i.i p q c.loop-i-test.true v.ready
-          c.in_ok-lay_slot.ensures (c.args.first + c.args.count) v.inside;
-      ready = then-ready m s w c.args.count c.args.first c.args.depth c.loop-i.i p q c.loop-i-test.true v.ready
-          c.in_ok-lay_slot.ensures;
+      rest = λ ts m are. then-rest g.S.Source.has c.args.source n d i lt c.args.first p q v.ready h ts m are
+          ∙ v.rest ts m are;
+      inside = then-inside g.S.Source.has c.args.source n d i lt c.args.first p q v.ready h (c.args.first + n) v.inside;
+      ready = then-ready g.S.Source.has c.args.source n d i lt c.args.first p q v.ready h;
     }
 
 pub lay_slots-returns : goal.lay_slots-returns
-lay_slots-returns g t c =
-    ends-rest (g.S.Space.message c.args.space.now) c.args.start.segment c.args.start.word c.args.count c.args.first
-    c.loop-i.i c.loop-i.draft c.args.draft.now
-    c.loop-i-test.false c.loop-i.invariant.rest
-
--- ---- an object
-
-pub lay_object-lay_slots-requires : goal.lay_object-lay_slots-requires
-lay_object-lay_slots-requires g t c κs live =
-    let m = g.S.Space.message c.args.space.now in
-    let s = c.args.start.segment in
-    let w = c.args.start.word in
-    let x = c.in-Node in
-    let ready = subst (λ (sh : Shape). IsReadyInside m sh s w c.args.depth (length c.args.draft.now)) x.is
-    c.requires.ready in
-    let inside = subst (λ (sh : Shape). w + extent sh ≤ length (segment_at m s)) x.is c.requires.content.within in
-    let o = c.in_ok-opened-in-Node.ensures in
-    let run = c.in_ok-opened-in-Node.opened in
-    let few = node-few m x.words x.slots s w c.args.depth c.args.from c.args.draft.now c.open_struct.new.draft run.first
-    run.count ready inside o in
-    let content : IsContent m (record { segment = s; word = w + x.words }) run.count =
-    record { exists = c.requires.content.exists; within = omega arith } in (
-      omega arith,
-      (
-        live.0,
-        (
-          live.1,
-          (
-            c.requires.message,
-            (
-              content,
-              (
-                node-ready m x.words x.slots s w c.args.depth c.args.from c.args.draft.now c.open_struct.new.draft
-                    run.first run.count ready inside o,
-                node-inside m x.words x.slots s w c.args.depth c.args.from c.args.draft.now c.open_struct.new.draft
-                    run.first run.count ready inside o,
-              ),
-            ),
-          ),
-        ),
-      ),
-    )
-
-pub lay_object-returns-in_ok-opened-in-Node : goal.lay_object-returns-in_ok-opened-in-Node
-lay_object-returns-in_ok-opened-in-Node g t c =
-    let m = g.S.Space.message c.args.space.now in
-    let s = c.args.start.segment in
-    let w = c.args.start.word in
-    let x = c.in-Node in
-    let ready = subst (λ (sh : Shape). IsReadyInside m sh s w c.args.depth (length c.args.draft.now)) x.is
-    c.requires.ready in
-    let inside = subst (λ (sh : Shape). w + extent sh ≤ length (segment_at m s)) x.is c.requires.content.within in
-    let o = c.in_ok-opened-in-Node.ensures in
-    let run = c.in_ok-opened-in-Node.opened in
-    on_ok_weaker c.lay_slots.result
-    (λ l. subst (λ (sh : Shape). IsLaidInside m sh s w c.args.from c.args.draft.now c.lay_slots.new.draft) (sym x.is)
-    (node-laid m x.words x.slots s w c.args.depth c.args.from c.args.draft.now c.open_struct.new.draft run.first
-    run.count ready inside o c.lay_slots.new.draft l))
-    c.lay_slots.ensures
-
-pub lay_object-lay_slots-requires-in-Link : goal.lay_object-lay_slots-requires-in-Link
-lay_object-lay_slots-requires-in-Link g t c κs live =
-    let m = g.S.Space.message c.args.space.now in
-    let s = c.args.start.segment in
-    let w = c.args.start.word in
-    let n = c.in-Many.count in
-    let is = c.in-Many.is ∙ ap (λ (k : Width). shapes.Many k n) c.in-Link.is in
-    let ready = subst (λ (sh : Shape). IsReadyInside m sh s w c.args.depth (length c.args.draft.now)) is
-    c.requires.ready in
-    let inside = subst (λ (sh : Shape). w + extent sh ≤ length (segment_at m s)) is c.requires.content.within in
-    let o = c.in_ok-first-in-Link.ensures in
-    let first = c.in_ok-first-in-Link.first in
-    let content : IsContent m c.args.start n = record { exists = c.requires.content.exists; within = inside } in (
-      omega arith,
-      (
-        live.0,
-        (
-          live.1,
-          (
-            c.requires.message,
-            (
-              content,
-              (
-                links-ready m n s w c.args.depth c.args.from c.args.draft.now c.open_links.new.draft first ready inside
-                    o.first o.slots,
-                links-inside m n s w c.args.depth c.args.from c.args.draft.now c.open_links.new.draft first ready inside
-                    o.first o.slots,
-              ),
-            ),
-          ),
-        ),
-      ),
-    )
-
-pub lay_object-returns-in_ok-first-in-Link : goal.lay_object-returns-in_ok-first-in-Link
-lay_object-returns-in_ok-first-in-Link g t c =
-    let m = g.S.Space.message c.args.space.now in
-    let s = c.args.start.segment in
-    let w = c.args.start.word in
-    let n = c.in-Many.count in
-    let is = c.in-Many.is ∙ ap (λ (k : Width). shapes.Many k n) c.in-Link.is in
-    let ready = subst (λ (sh : Shape). IsReadyInside m sh s w c.args.depth (length c.args.draft.now)) is
-    c.requires.ready in
-    let inside = subst (λ (sh : Shape). w + extent sh ≤ length (segment_at m s)) is c.requires.content.within in
-    let o = c.in_ok-first-in-Link.ensures in
-    let first = c.in_ok-first-in-Link.first in
-    on_ok_weaker c.lay_slots-in-Link.result
-    (λ l. subst (λ (sh : Shape). IsLaidInside m sh s w c.args.from c.args.draft.now c.lay_slots-in-Link.new.draft)
-    (sym is)
-    (links-laid m n s w c.args.depth c.args.from c.args.draft.now c.open_links.new.draft first ready inside o.first
-    o.slots c.lay_slots-in-Link.new.draft l))
-    c.lay_slots-in-Link.ensures
+lay_slots-returns g t c ts m are =
+    sym (slots-end c.args.count c.loop-slot.slot ts c.args.first c.loop-slot.draft c.loop-slot-test.false)
+    ∙ c.loop-slot.invariant.rest ts m are
 
 -- ---- rows
 
-pub lay_rows-loop-row-init : goal.lay_rows-loop-row-init
-lay_rows-loop-row-init g t c =
-    let m = g.S.Space.message c.args.space.now in
-    let s = c.args.start.segment in
-    record {
-      next = omega arith;
-      fits = let f = c.requires.fits in let z : c.args.count - 0 ≡ c.args.count = omega arith in rw z f;
-      ready = rows-begin-ready m s c.args.start.word c.args.words c.args.slots c.args.count c.args.depth
-          c.args.rows.words c.args.rows.slots c.args.rows.first c.args.draft.now c.requires.ready;
-      rest = rows-begin m s c.args.start.word c.args.words c.args.slots c.args.count c.args.depth c.args.rows.words
-          c.args.rows.slots c.args.rows.first c.args.draft.now;
-    }
+pub lay_rows-returns-then-slots-eq0 : goal.lay_rows-returns-then-slots-eq0
+lay_rows-returns-then-slots-eq0 g t c bs is e w s =
+    rows-empty c.args.words c.args.slots bs c.args.first c.args.draft.now c.if-slots-eq0.true
 
-pub lay_rows-overflow_add-below : goal.lay_rows-overflow_add-below
-lay_rows-overflow_add-below g t c =
-    let m = g.S.Space.message c.args.space.now in
-    let room = row-inside c.args.start.word c.args.count c.loop-row.row (c.args.words + c.args.slots) c.loop-row.next _
-    c.loop-row-test.true c.loop-row.invariant.next c.requires.content.within in
-    let all = segment-room m c.args.start.segment c.requires.message c.requires.content.exists in
+pub lay_rows-loop-row-init : goal.lay_rows-loop-row-init
+lay_rows-loop-row-init g t c = record {
+  rest = λ bs is e w s. refl;
+  inside = let h = c.requires.inside in let z : c.args.count - 0 ≡ c.args.count = omega arith in rw z h;
+  ready = c.requires.ready;
+}
+
+pub lay_rows-overflow_add-from : goal.lay_rows-overflow_add-from
+lay_rows-overflow_add-from g t c =
+    let h = one-more c.loop-row.next c.args.words c.args.slots c.args.count c.loop-row.row (length c.loop-row.draft)
+    c.loop-row-test.true c.loop-row.invariant.inside in
+    let r = c.loop-row.invariant.ready.room in
     omega arith
 
 pub lay_rows-overflow_add-next : goal.lay_rows-overflow_add-next
 lay_rows-overflow_add-next g t c =
-    let m = g.S.Space.message c.args.space.now in
-    let room = row-inside c.args.start.word c.args.count c.loop-row.row (c.args.words + c.args.slots) c.loop-row.next _
-    c.loop-row-test.true c.loop-row.invariant.next c.requires.content.within in
-    let all = segment-room m c.args.start.segment c.requires.message c.requires.content.exists in
+    let h = one-more c.loop-row.next c.args.words c.args.slots c.args.count c.loop-row.row (length c.loop-row.draft)
+    c.loop-row-test.true c.loop-row.invariant.inside in
+    let r = c.loop-row.invariant.ready.room in
     omega arith
 
-pub lay_rows-overflow_add-first : goal.lay_rows-overflow_add-first
-lay_rows-overflow_add-first g t c =
-    let f = one-more-fits c.loop-row.own c.args.rows.words c.args.rows.slots c.args.count c.loop-row.row (2 ^ 29)
-    c.loop-row-test.true c.loop-row.invariant.fits in
-    omega arith
-
-pub lay_rows-overflow_add-own : goal.lay_rows-overflow_add-own
-lay_rows-overflow_add-own g t c =
-    let f = one-more-fits c.loop-row.own c.args.rows.words c.args.rows.slots c.args.count c.loop-row.row (2 ^ 29)
-    c.loop-row-test.true c.loop-row.invariant.fits in
-    omega arith
+pub lay_rows-slots-requires : goal.lay_rows-slots-requires
+lay_rows-slots-requires g t c =
+    let r = c.loop-row.invariant.ready in
+    let n = r.count in
+    let lt = c.loop-row-test.true in
+    (r.values, r.is, omega arith)
 
 pub lay_rows-lay_slots-requires : goal.lay_rows-lay_slots-requires
 lay_rows-lay_slots-requires g t c κs live =
-    let m = g.S.Space.message c.args.space.now in
-    let s = c.args.start.segment in
-    let i = c.loop-row.row in
-    let v = c.loop-row.invariant in
-    let lt = c.loop-row-test.true in
-    let part = c.requires.part in
-    let room = row-inside c.args.start.word c.args.count c.loop-row.row (c.args.words + c.args.slots) c.loop-row.next _
-    c.loop-row-test.true c.loop-row.invariant.next c.requires.content.within in
-    let x = next-row m s c.loop-row.next c.args.words c.args.slots (c.args.count - i) c.args.depth c.args.rows.words
-    c.args.rows.slots c.loop-row.own c.loop-row.draft v.ready (omega arith) in
-    let more = one-more-fits c.loop-row.own c.args.rows.words c.args.rows.slots c.args.count i (length c.loop-row.draft)
-    lt v.ready.inside in
-    let content : IsContent m (record { segment = s; word = c.loop-row.next + c.args.words }) c.args.rows.slots =
-    record { exists = c.requires.content.exists; within = omega arith } in (
-      omega arith,
-      (
-        live.0,
-        (
-          live.1,
-          (
-            c.requires.message,
-            (
-              content,
-              (
-                row-ready m s c.loop-row.next c.args.words c.args.slots (c.args.count - i) c.args.depth
-                    c.args.rows.words c.args.rows.slots c.loop-row.own c.loop-row.draft part x,
-                omega arith,
-              ),
-            ),
-          ),
-        ),
-      ),
-    )
+    let h = one-more c.loop-row.next c.args.words c.args.slots c.args.count c.loop-row.row (length c.loop-row.draft)
+    c.loop-row-test.true c.loop-row.invariant.inside in
+    let ready = row-ready g.S.Source.has g.S.Source.are c.args.rows c.slots.result c.args.count c.args.words
+    c.args.slots c.args.depth c.loop-row.row c.loop-row-test.true c.slots.ensures (length c.loop-row.draft)
+    c.loop-row.invariant.ready in
+    (omega arith, (live.0, (live.1.0, (live.1.1.0, (live.1.1.1, (ready, omega arith))))))
 
 pub lay_rows-loop-row-preserved : goal.lay_rows-loop-row-preserved
 lay_rows-loop-row-preserved g t c =
-    let m = g.S.Space.message c.args.space.now in
-    let s = c.args.start.segment in
+    let n = c.args.count in
+    let a = c.args.words in
+    let b = c.args.slots in
+    let i = c.loop-row.row in
+    let lt = c.loop-row-test.true in
+    let p = c.loop-row.draft in
+    let q = c.lay_slots.new.draft in
     let v = c.loop-row.invariant in
-    let n = v.next in
-    let k = c.args.words + c.args.slots in
+    let h = c.in_ok-lay_slots.ensures in
     record {
-      next = let d : (c.loop-row.row + 1) * (c.args.words + c.args.slots)
-          ≡ c.loop-row.row * (c.args.words + c.args.slots) + (c.args.words + c.args.slots) = omega arith in omega arith;
-      fits = one-more-fits c.loop-row.own c.args.rows.words c.args.rows.slots c.args.count c.loop-row.row (2 ^ 29)
-          c.loop-row-test.true v.fits;
-      ready = rows-then-ready m s c.loop-row.next c.args.words c.args.slots c.args.count c.args.depth c.args.rows.words
-          c.args.rows.slots c.loop-row.own c.loop-row.row c.loop-row.draft c.lay_slots.new.draft
-          c.loop-row-test.true c.requires.part v.ready c.in_ok-lay_slots.ensures;
-      rest = rows-then m s c.loop-row.next c.args.words c.args.slots c.args.count c.args.depth c.args.rows.words
-          c.args.rows.slots c.loop-row.own c.loop-row.row c.loop-row.draft c.lay_slots.new.draft
-          c.loop-row-test.true c.requires.part v.ready c.in_ok-lay_slots.ensures c.args.start.word c.args.rows.first
-          c.args.draft.now v.rest;
+      rest = λ bs is e w s. row-then-rest g.S.Source.has g.S.Source.are c.args.rows c.slots.result n a b c.args.depth i
+          lt c.slots.ensures c.loop-row.next p q v.ready h bs is e w s ∙ v.rest bs is e w s;
+      inside = row-then-inside g.S.Source.has g.S.Source.are c.args.rows c.slots.result n a b c.args.depth i lt
+          c.slots.ensures c.loop-row.next p q v.ready h v.inside;
+      ready = row-then-ready g.S.Source.has g.S.Source.are c.args.rows c.slots.result n a b c.args.depth i lt
+          c.slots.ensures c.loop-row.next p q v.ready h;
     }
 
 pub lay_rows-returns : goal.lay_rows-returns
-lay_rows-returns g t c =
-    rows-end (g.S.Space.message c.args.space.now) c.args.start.segment c.loop-row.next c.args.start.word c.args.words
-    c.args.slots c.args.count c.args.rows.words c.args.rows.slots c.loop-row.own c.args.rows.first
-    c.loop-row.row c.loop-row.draft c.args.draft.now c.loop-row-test.false c.loop-row.invariant.rest
-
-pub lay_object-open_rows-requires-clause-few : goal.lay_object-open_rows-requires-clause-few
-lay_object-open_rows-requires-clause-few g t c =
-    let m = g.S.Space.message c.args.space.now in
-    let s = c.args.start.segment in
-    let w = c.args.start.word in
-    let x = c.in-Rows in
-    let ready = subst (λ (sh : Shape). IsReadyInside m sh s w c.args.depth (length c.args.draft.now)) x.is
-    c.requires.ready in
-    rows-few m x.count x.words x.slots x.span s w c.args.depth c.args.from c.args.draft.now ready
-
-pub lay_object-open_rows-requires-clause-span : goal.lay_object-open_rows-requires-clause-span
-lay_object-open_rows-requires-clause-span g t c =
-    let m = g.S.Space.message c.args.space.now in
-    let s = c.args.start.segment in
-    let w = c.args.start.word in
-    let x = c.in-Rows in
-    let rows = subst RowsFit x.is c.requires.rows in
-    let inside = subst (λ (sh : Shape). w + extent sh ≤ length (segment_at m s)) x.is c.requires.content.within in
-    let all = segment-room m s c.requires.message c.requires.content.exists in
-    omega arith
-
-pub lay_object-open_rows-requires-clause-content : goal.lay_object-open_rows-requires-clause-content
-lay_object-open_rows-requires-clause-content g t c =
-    let m = g.S.Space.message c.args.space.now in
-    let s = c.args.start.segment in
-    let w = c.args.start.word in
-    let x = c.in-Rows in
-    let rows = subst RowsFit x.is c.requires.rows in
-    let inside = subst (λ (sh : Shape). w + extent sh ≤ length (segment_at m s)) x.is c.requires.content.within in
-    record { exists = c.requires.content.exists; within = omega arith }
-
-pub lay_object-lay_rows-requires : goal.lay_object-lay_rows-requires
-lay_object-lay_rows-requires g t c κs live =
-    let m = g.S.Space.message c.args.space.now in
-    let s = c.args.start.segment in
-    let w = c.args.start.word in
-    let x = c.in-Rows in
-    let r = c.in_ok-rows-in-Rows.rows in
-    let o = c.in_ok-rows-in-Rows.ensures in
-    let rows = subst RowsFit x.is c.requires.rows in
-    let ready = subst (λ (sh : Shape). IsReadyInside m sh s w c.args.depth (length c.args.draft.now)) x.is
-    c.requires.ready in
-    let inside = subst (λ (sh : Shape). w + extent sh ≤ length (segment_at m s)) x.is c.requires.content.within in
-    let within : w + 1 + x.count * (x.words + x.slots) ≤ length (segment_at m s) = omega arith in
-    let content : IsContent m (record { segment = s; word = w + 1 }) (x.count * (x.words + x.slots)) =
-    record { exists = c.requires.content.exists; within = within } in (
-      omega arith,
-      (
-        live.0,
-        (
-          live.1,
-          (
-            c.requires.message,
-            (
-              content,
-              (
-                rows-part m x.count x.words x.slots x.span s w c.args.depth c.args.from c.args.draft.now ready
-                    c.open_rows.new.draft r.first r.words r.slots within o,
-                (
-                  rows-fits m x.count x.words x.slots x.span s w c.args.depth c.args.from c.args.draft.now ready
-                      c.open_rows.new.draft r.first r.words r.slots within o,
-                  rows-ready m x.count x.words x.slots x.span s w c.args.depth c.args.from c.args.draft.now ready
-                      c.open_rows.new.draft r.first r.words r.slots within o,
-                ),
-              ),
-            ),
-          ),
-        ),
-      ),
-    )
-
-pub lay_object-returns-in_ok-rows-in-Rows : goal.lay_object-returns-in_ok-rows-in-Rows
-lay_object-returns-in_ok-rows-in-Rows g t c =
-    let m = g.S.Space.message c.args.space.now in
-    let s = c.args.start.segment in
-    let w = c.args.start.word in
-    let x = c.in-Rows in
-    let r = c.in_ok-rows-in-Rows.rows in
-    let o = c.in_ok-rows-in-Rows.ensures in
-    let rows = subst RowsFit x.is c.requires.rows in
-    let ready = subst (λ (sh : Shape). IsReadyInside m sh s w c.args.depth (length c.args.draft.now)) x.is
-    c.requires.ready in
-    let inside = subst (λ (sh : Shape). w + extent sh ≤ length (segment_at m s)) x.is c.requires.content.within in
-    let within : w + 1 + x.count * (x.words + x.slots) ≤ length (segment_at m s) = omega arith in
-    on_ok_weaker c.lay_rows.result
-    (λ l. subst (λ (sh : Shape). IsLaidInside m sh s w c.args.from c.args.draft.now c.lay_rows.new.draft) (sym x.is)
-    (rows-laid m x.count x.words x.slots x.span s w c.args.depth c.args.from c.args.draft.now ready
-    c.open_rows.new.draft r.first r.words r.slots within o c.lay_rows.new.draft l))
-    c.lay_rows.ensures
-
-pub lay_rows-returns-then-rows-eq0 : goal.lay_rows-returns-then-rows-eq0
-lay_rows-returns-then-rows-eq0 g t c =
-    rows-nothing (g.S.Space.message c.args.space.now) c.args.start.segment c.args.start.word c.args.words c.args.slots
-    c.args.count c.args.depth c.args.rows.words c.args.rows.slots c.args.rows.first c.args.draft.now
-    c.if-rows-eq0.true c.requires.ready
+lay_rows-returns g t c bs is e w s =
+    sym (rows-end c.args.words c.args.slots c.loop-row.row bs c.loop-row.next c.loop-row.draft
+    (let f = c.loop-row-test.false in omega arith))
+    ∙ c.loop-row.invariant.rest bs is e w s

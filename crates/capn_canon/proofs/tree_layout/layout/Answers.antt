@@ -1,19 +1,35 @@
-use Rattle.std.proofs.Common.{◌+◌, ◌^◌, ◌≤◌, sym, subst, arith}
+use Rattle.std.proofs.Common.{ℕ, ◌+◌, ◌^◌, ◌≤◌, length, ap, refl, sym, subst, ◌∙◌, arith}
+use Rattle.capn_value.specs.Cost.{height}
+use Rattle.capn_value.specs.Tree.{Tree}
+use Rattle.capn_value.proofs.shared.Fitting.{fit_parts}
 use Rattle.capn_canon.specs.Layout.{size}
 use Rattle.capn_canon.specs.inner.Sound.{Sound}
 use Rattle.capn_canon.proofs.Sound.{sound}
 use Rattle.capn_canon.proofs.Room.{room}
+use Rattle.capn_canon.proofs.TreeItems.{only-value}
 use Rattle.capn_canon.proofs.tree_layout.layout.Goals as goal
 
-pub layout_value-requires : goal.layout_value-requires
-layout_value-requires g c =
+pub canonical_bytes-requires : goal.canonical_bytes-requires
+canonical_bytes-requires g c =
     let t = c.args.tree.now in
-    let s = sound t c.value-value.ensures.fits c.value-value.ensures.in_range in
-    let r = room t c.value-value.ensures.fits c.value-value.ensures.in_range in
-    let n = r.0 in
-    let m = r.2 in
-    let z : 1 + size t ≤ 2 ^ 29 = omega arith in
+    let f = c.value-value.ensures.fits in
+    let r = c.value-value.ensures.in_range in
+    let s = sound t f r in
+    let k = room t f r in
+    let n = k.0 in
+    let m = k.2 in
+    let low = (fit_parts t f).low in
     record {
-      room = subst (λ x. 1 + size x ≤ 2 ^ 29) (sym c.value-value.ensures.value) z;
-      sound = subst Sound (sym c.value-value.ensures.value) s;
+      value = t;
+      is = only-value t c.value-value.result.now c.value-value.ensures.value s;
+      sound = s;
+      low = omega arith;
+      room = omega arith;
     }
+
+pub returns-in-Ok-clause-found : goal.returns-in-Ok-clause-found
+returns-in-Ok-clause-found g c =
+    let t = c.args.tree.now in
+    c.in-Ok.ensures t
+    (only-value t c.value-value.result.now c.value-value.ensures.value
+    (sound t c.value-value.ensures.fits c.value-value.ensures.in_range))

@@ -1,5 +1,6 @@
-use Rattle.std.proofs.Common.{◌≡◌, ◌≤◌, ◌+◌, ◌-◌, false}
+use Rattle.std.proofs.Common.{◌≡◌, ◌≤◌, ◌<◌, ◌+◌, ◌-◌, take, false}
 use Rattle.capn_words.specs.Watched.{inner_of, has_failed}
+use Rattle.capn_pack.specs.WholeGroups.{most_group}
 use Rattle.capn_flow.specs.Flow.{Consumed, most}
 use Rattle.capn_flow.proofs.Unpacked.{FromStart}
 use Rattle.capn_flow.proofs.unpack_run.unpack_stream.Given as goal
@@ -10,7 +11,8 @@ invariant-chunks g l = record {
   reader : has_failed l.reader ≡ false;
   writer : has_failed l.writer ≡ false;
   within : l.taken ≤ most;
-  heard : Consumed (FromStart l.unpacker) (g.R.Read.remaining (inner_of l.fn.reader))
+  short : l.held < most_group;
+  heard : Consumed (FromStart (take l.held l.buffer)) (g.R.Read.remaining (inner_of l.fn.reader))
       (g.R.Read.remaining (inner_of l.reader))
       (g.W.Write.contents (inner_of l.fn.writer)) (g.W.Write.contents (inner_of l.writer)) l.taken;
 }

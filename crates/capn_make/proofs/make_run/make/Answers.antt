@@ -1,16 +1,43 @@
-use Rattle.std.proofs.Common.{ℕ}
 use Rattle.std.proofs.lemmas.Result.{err_from_is_err_and}
-use Rattle.capn_make.proofs.RunEnds.{read_made, unread_made}
+use Rattle.capn_make.proofs.RunEnds.{unread_made, all_written, part_written}
 use Rattle.capn_make.proofs.make_run.make.Goals as goal
 
-pub returns-in_err-input : goal.returns-in_err-input
-returns-in_err-input g c =
+pub returns-in_err-outcome-clause-made : goal.returns-in_err-outcome-clause-made
+returns-in_err-outcome-clause-made g c =
+    let read = c.in_err-outcome.ensures in
     let p = err_from_is_err_and c.from_residual.result c.from_residual.ensures.1 in
-    rw (p.1, p.2) (unread_made ℕ c.args.form _ _ _ _ _ c.in_err-input.field-0.0 c.in_err-input.ensures
+    rw (p.1, p.2) (unread_made c.args.form _ _ _ read.0 _ _ c.in_err-outcome.field-0.0 read.1 read.3
     c.requires.writer_fine)
 
-pub returns : goal.returns
-returns g c =
-    let read = c.in_ok-input.ensures in
-    let sent = rw c.deref.ensures.value at c.make_all.ensures in
-    read_made c.args.form c.in_ok-input.input.items _ _ _ _ _ _ read.0 read.1 read.2 c.make_all.result sent
+pub returns-in_err-outcome-clause-stops : goal.returns-in_err-outcome-clause-stops
+returns-in_err-outcome-clause-stops g c =
+    let read = c.in_err-outcome.ensures in
+    (read.0, read.1, read.2)
+
+pub returns-in_err-write_all-clause-made : goal.returns-in_err-write_all-clause-made
+returns-in_err-write_all-clause-made g c =
+    let read = c.in_ok-outcome.ensures in
+    let law = c.refusing.ensures in
+    let p = err_from_is_err_and c.from_residual-in_err-write_all.result c.from_residual-in_err-write_all.ensures.1 in
+    let begun = rw c.deref.ensures.value at c.in_err-write_all.ensures.begun in
+    rw (p.1, p.2) (part_written law.stays law.one law.ends c.args.form read.0 _ _ _ _ _ _ read.1 read.3.1 read.3.2
+    c.in_ok-outcome.outcome.text.items c.in_ok-outcome.outcome.ending read.3.0 c.in_err-write_all.field-0.0 begun
+    c.in_err-write_all.ensures.broken c.in_err-write_all.ensures.only)
+
+pub returns-in_err-write_all-clause-stops : goal.returns-in_err-write_all-clause-stops
+returns-in_err-write_all-clause-stops g c =
+    let read = c.in_ok-outcome.ensures in
+    (read.0, read.1, read.2)
+
+pub returns-clause-made : goal.returns-clause-made
+returns-clause-made g c =
+    let read = c.in_ok-outcome.ensures in
+    let law = c.refusing.ensures in
+    let written = rw c.deref.ensures.value at c.in_ok-write_all.ensures.ok in
+    all_written law.stays law.one law.ends c.args.form read.0 _ _ _ _ _ _ read.1 read.3.1 read.3.2
+    c.in_ok-outcome.outcome.text.items c.in_ok-outcome.outcome.ending read.3.0 written c.in_ok-write_all.ensures.fine
+
+pub returns-clause-stops : goal.returns-clause-stops
+returns-clause-stops g c =
+    let read = c.in_ok-outcome.ensures in
+    (read.0, read.1, read.2)

@@ -7,7 +7,7 @@ returns-then-tag-lt7-clause-last c less d = not_dense _ (rw (c.tag.ensures, c.wo
 
 pub loop-count-preserved : goal.loop-count-preserved
 loop-count-preserved c =
-    dense_more _ _ _ c.loop-count.invariant (omega arith) (omega arith)
+    dense_more _ _ _ _ c.loop-count.invariant (omega arith) (omega arith)
     (rw (c.tag.ensures, c.word_at.ensures) at c.if-tag-lt7.false)
 
 pub returns-else-start-count-clause-last : goal.returns-else-start-count-clause-last

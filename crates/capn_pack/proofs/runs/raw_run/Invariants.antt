@@ -3,7 +3,7 @@ use Rattle.capn_pack.proofs.RunLemmas.{DenseTo}
 use Rattle.capn_pack.proofs.runs.raw_run.Given as goal
 
 abbrev pub invariant-loop-count : goal.invariant-loop-count
-invariant-loop-count l = DenseTo l.bytes l.start l.count
+invariant-loop-count l = DenseTo l.bytes l.start l.limit l.count
 
 abbrev pub decreases-loop-count : goal.decreases-loop-count
-decreases-loop-count l = 255 - l.count
+decreases-loop-count l = l.limit - l.count

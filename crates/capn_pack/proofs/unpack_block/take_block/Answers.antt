@@ -1,4 +1,5 @@
-use Rattle.std.proofs.Common.{arith, ap, length, take, length-append, length-take}
+use Rattle.std.proofs.Common.{arith, ap, sym, ◌∙◌, ◌++◌, length, take, length-append, length-take}
+use Rattle.std.proofs.lemmas.List.{append-nil}
 use Rattle.std.proofs.lemmas.Result.{err_from_is_err_and}
 use Rattle.capn_pack.proofs.StartLemmas.{row_starts}
 use Rattle.capn_pack.proofs.RowLemmas.{row_behind, row_whole}
@@ -30,3 +31,10 @@ returns-in_err-extend_from_slice-clause-memory g c =
     c.fill_block-filled.ensures.row
     (omega (arith, c.in_err-extend_from_slice.ensures.full, c.args.out.now.ok.1))
     (omega (arith, size, c.fill_block-filled.ensures.within, c.min-limit.ensures)))
+
+pub returns-then-filled-eq0-clause-row : goal.returns-then-filled-eq0-clause-row
+returns-then-filled-eq0-clause-row g c =
+    let out = c.args.out.now.items in
+    let block = c.fill_block-filled.new.block in
+    row_behind _ _ _ _ _ c.fill_block-filled.ensures.row
+    (sym (append-nil out) ∙ ap (λ n. out ++ take n block) (sym c.if-filled-eq0.true))

@@ -9,6 +9,7 @@ use Rattle.capn_text.proofs.ShowableValues.{in_range}
 use Rattle.capn_text.proofs.TextOfTree.{tree_takes}
 use Rattle.capn_text.proofs.ValueOfParts.{no_head}
 use Rattle.capn_text.proofs.FittingText.{no_first, is_first}
+use Rattle.capn_text.proofs.Heights.{tree_low}
 use Rattle.capn_text.proofs.PartStops.{stops_none, deepens_none}
 use Rattle.capn_text.proofs.one_text.first_value.Goals as goal
 
@@ -29,6 +30,10 @@ returns-in-Ok-clause-range g c =
 pub returns-in-Ok-clause-showable : goal.returns-in-Ok-clause-showable
 returns-in-Ok-clause-showable g c =
     (tree_takes 256 0 c.args.text.now (tree_of c.in-Ok.value) c.in-Ok.rest.now c.in-Ok.ensures).1
+
+pub returns-in-Ok-clause-low : goal.returns-in-Ok-clause-low
+returns-in-Ok-clause-low g c =
+    tree_low 256 0 c.args.text.now (tree_of c.in-Ok.value) c.in-Ok.rest.now c.in-Ok.ensures
 
 pub returns-in-Ok-clause-only : goal.returns-in-Ok-clause-only
 returns-in-Ok-clause-only g c v rest s low e =

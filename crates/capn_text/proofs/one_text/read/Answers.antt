@@ -46,6 +46,7 @@ returns-in_err-tree-clause-misfit g c =
       tree_of c.in_ok-value.value,
       c.in_ok-value.ensures.range,
       c.in_ok-value.ensures.showable,
+      c.in_ok-value.ensures.low,
       c.in_ok-value.ensures.found ∙ ap (λ r. show_text (tree_of c.in_ok-value.value) ++ r)
           (c.if-has_more.ensures.over refl)
           ∙ append-nil (show_text (tree_of c.in_ok-value.value)),

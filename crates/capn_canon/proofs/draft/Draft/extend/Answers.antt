@@ -1,14 +1,14 @@
-use Rattle.std.proofs.Common.{◌*◌, ◌++◌, ◌∙◌, ap, length, List, Option, ℕ}
+use Rattle.std.proofs.Common.{◌*◌, ◌/◌, ◌++◌, ◌∙◌, ap, length, List, ℕ, arith}
+use Rattle.capn_words.specs.Message.{words_in}
 use Rattle.capn_canon.specs.inner.Draft.{drafted}
-use Rattle.capn_walk.specs.Target.{words_for}
-use Rattle.capn_canon.specs.Layout.{packed}
-use Rattle.capn_canon.specs.Patch.{whole}
-use Rattle.capn_canon.proofs.Drafted.{drafted-words}
+use Rattle.capn_canon.proofs.Drafted.{drafted-append}
 use Rattle.capn_canon.proofs.draft.Draft.extend.Goals as goal
 
-pub returns-clause-ok : goal.returns-clause-ok
-returns-clause-ok g c =
+pub returns : goal.returns
+returns g c =
+    let xs = c.args.xs.now in
+    let h = c.requires in
     ap drafted c.in_ok-extend_from_slice.ensures.items
-    ∙ drafted-words c.self.inside.bytes.items c.args.xs.now c.self.invariant c.requires
-    ∙ ap (λ (xs : List (Option ℕ)). xs ++ whole (packed 8 8 (words_for (8 * length c.args.xs.now)) c.args.xs.now))
-    c.self.view_is
+    ∙ drafted-append c.self.inside.bytes.items c.self.invariant (length xs / 8) xs (omega arith)
+    (λ i. omega (arith, c.type_inv.xs i))
+    ∙ ap (λ (ws : List ℕ). ws ++ words_in (length xs / 8) xs) c.self.view_is

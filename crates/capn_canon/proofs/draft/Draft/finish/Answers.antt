@@ -1,9 +1,7 @@
-use Rattle.std.proofs.Common.{◌∙◌, ap, List, Option, ℕ}
+use Rattle.std.proofs.Common.{◌∙◌, ap, List, ℕ}
 use Rattle.capn_words.specs.Message.{bytes}
-use Rattle.capn_canon.specs.Patch.{filled}
 use Rattle.capn_canon.proofs.Drafted.{drafted-bytes}
 use Rattle.capn_canon.proofs.draft.Draft.finish.Goals as goal
 
 pub returns : goal.returns
-returns g c = drafted-bytes c.self.inside.bytes.items c.self.invariant
-    ∙ ap (λ (xs : List (Option ℕ)). bytes (filled xs)) c.self.view_is
+returns g c = drafted-bytes c.self.inside.bytes.items c.self.invariant ∙ ap bytes c.self.view_is

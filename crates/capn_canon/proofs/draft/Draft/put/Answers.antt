@@ -1,4 +1,4 @@
-use Rattle.std.proofs.Common.{◌∙◌, ap, List, Option, Some, ℕ, length, set, arith}
+use Rattle.std.proofs.Common.{◌∙◌, ap, List, ℕ, length, set, arith}
 use Rattle.capn_canon.proofs.Drafted.{length-drafted, is-put, drafted-put}
 use Rattle.capn_canon.proofs.draft.Draft.put.Goals as goal
 
@@ -24,7 +24,7 @@ invariant_of-self g c =
     let n = length-drafted c.self.inside.bytes.items in
     let v = ap length c.self.view_is in
     let h = c.requires in
-    is-put c.self.inside.bytes.items c.write_at.new.bytes.items c.args.at c.args.word c.self.invariant (omega arith)
+    is-put c.self.inside.bytes.items c.self.invariant c.write_at.new.bytes.items c.args.at c.args.word (omega arith)
     (omega arith) c.write_at.ensures
 
 pub returns : goal.returns
@@ -32,6 +32,6 @@ returns g c =
     let n = length-drafted c.self.inside.bytes.items in
     let v = ap length c.self.view_is in
     let h = c.requires in
-    drafted-put c.self.inside.bytes.items c.write_at.new.bytes.items c.args.at c.args.word c.self.invariant
+    drafted-put c.self.inside.bytes.items c.self.invariant c.write_at.new.bytes.items c.args.at c.args.word
     (omega arith) (omega arith) c.write_at.ensures
-    ∙ ap (λ (xs : List (Option ℕ)). set xs c.args.at (Some c.args.word)) c.self.view_is
+    ∙ ap (λ (xs : List ℕ). set xs c.args.at c.args.word) c.self.view_is

@@ -1,4 +1,5 @@
-use Rattle.std.proofs.Common.{◌∙◌, ap}
+use Rattle.std.proofs.Common.{◌∙◌, ap, refl}
+use Rattle.capn_words.specs.Message.{words_in}
 use Rattle.capn_canon.specs.inner.Draft.{drafted}
 use Rattle.capn_canon.proofs.Drafted.{drafted-none}
 use Rattle.capn_canon.proofs.draft.Draft.with_room.Goals as goal

@@ -1,0 +1,135 @@
+-- An input that is made, and tested, as it grows.
+use Rattle.std.proofs.Common.{◌≡◌, inl, inr, ℕ, ◌*◌, ◌≤◌, List, [], ◌++◌, length, take, drop, Bool, false}
+use Rattle.std.proofs.Common.{Option, Ok, Err, refl, sym, ap, subst, ◌∙◌, append_assoc, arith}
+use Rattle.std.proofs.lemmas.Bool.{cases_lt}
+use Rattle.std.proofs.lemmas.List.{append-nil, length-append, take-append-drop, take-append-le}
+use Rattle.std.specs.Io.KnownBytes.{Consumes, IsAtEnd}
+use Rattle.std.proofs.KnownBytes.{Consumes-trans}
+use Rattle.capn_text.specs.Streams.{Place, stream_text}
+use Rattle.capn_canon.specs.declared.form.Form.{Form}
+use Rattle.capn_canon.specs.declared.form.Form.TheVariants as forms
+use Rattle.capn_make.specs.Endings.{IsWhole, IsRefusedForGood}
+use Rattle.capn_make.specs.MakeRun.{AreInTime}
+use Rattle.capn_make.specs.Laws.{RefusalStays, OneEnding}
+use Rattle.capn_make.specs.inner.RunParts.{HasMade, HasTested, HasNotRead, ReadsChunk}
+use Rattle.capn_make.specs.declared.fault.MakeFault.{MakeFault}
+use Rattle.capn_make.specs.declared.fault.MakeFault.TheVariants as faults
+use Rattle.capn_make.proofs.WhateverFollows.{first_on}
+
+-- an empty input is not refused for good
+nothing_refused : OneEnding → (form : Form) → IsRefusedForGood form [] → ⊥
+nothing_refused one forms.Stream h =
+    let e = one forms.Stream [] (Ok tt) (Err h.0) ([], [], record { each = tt; are = refl }, refl) h.1 in absurd cc
+nothing_refused one forms.Packed h =
+    let e = one forms.Packed [] (Ok tt) (Err h.0) ([], [], record { each = tt; are = refl }, refl) h.1 in absurd cc
+nothing_refused one forms.Bare h =
+    let e = one forms.Bare [] (Err faults.NoText) (Err h.0) (inl (refl, refl)) h.1 in
+    let same : faults.NoText ≡ h.0 = cc in
+    subst (λ f. IsWhole [] f) (sym same) h.2
+
+pub none_tested : OneEnding → (form : Form) → HasTested form 0 [] []
+none_tested one form = record { front = []; more = []; are = refl; size = refl; not_yet = nothing_refused one form }
+
+-- all was tested that is there
+pub all_tested : (form : Form) (input rest : List ℕ) → (IsRefusedForGood form input → ⊥)
+    → HasTested form (length rest) input rest
+all_tested form input rest not_yet = record {
+  front = input;
+  more = [];
+  are = sym (append-nil input);
+  size = refl;
+  not_yet = not_yet;
+}
+
+-- more has come
+pub more_tested : (form : Form) (tested : ℕ) (input rest more : List ℕ) → HasTested form tested input rest
+    → HasTested form tested (input ++ more) (rest ++ more)
+more_tested form tested input rest more h =
+    let size = h.size in
+    let all = length-append input more in
+    let left = length-append rest more in
+    record {
+      front = h.front;
+      more = h.more ++ more;
+      are = ap (λ t. t ++ more) h.are ∙ append_assoc h.front h.more more;
+      size = omega arith;
+      not_yet = h.not_yet;
+    }
+
+-- a place after which more has come
+pub made_on : (form : Form) (input made rest more : List ℕ) (line : ℕ)
+    → HasMade form input (record { rest = rest; line = line }) made
+    → HasMade form (input ++ more) (record { rest = rest ++ more; line = line }) made
+made_on form input made rest more line h = record {
+  values = h.values;
+  first = first_on h.values input rest more h.first;
+  are = h.are;
+  line = h.line;
+  few = h.few;
+}
+
+-- what is left is no more than the input
+left_within : (form : Form) (input made : List ℕ) (place : Place) → HasMade form input place made
+    → length place.rest ≤ length input
+left_within form input made place h =
+    let parts = ap length h.first.are ∙ length-append (stream_text h.values) place.rest in omega arith
+
+-- what was read and made so far, and more of it that has come
+pub record HasRead (form : Form) (a c : Option (List ℕ)) (failed : Bool) (made rest : List ℕ) (line tested count : ℕ)
+    : Type 0 where
+  pub bytes : List ℕ
+  pub read : Consumes a c bytes
+  pub time : AreInTime form bytes
+  pub made_so_far : HasMade form bytes (record { rest = rest; line = line }) made
+  pub tested_so_far : HasTested form tested bytes rest
+  pub at_end : count ≡ 0 → IsAtEnd c
+  pub fine : failed ≡ false
+
+module _ (stays : RefusalStays) (form : Form) (tested : ℕ) (a b c : Option (List ℕ)) (failed : Bool)
+    (input made rest new : List ℕ) (line : ℕ) (read : Consumes a b input)
+    (m : HasMade form input (record { rest = rest; line = line }) made) (h : HasTested form tested input rest)
+    (short : length rest ≤ 4 * tested) where
+  -- What is left is not much more than was tested of it. So all that was read is no more than in time, with the bytes
+  -- of one more call.
+  in_time : (more : List ℕ) → length more ≤ 65536 → AreInTime form (input ++ more)
+  in_time more few n good = elim (cases_lt n (length h.front)) [
+    | inl less ↦
+        (let cut = ap (λ t. t ++ more) h.are ∙ append_assoc h.front h.more more in
+        let same = ap (take n) cut ∙ take-append-le n h.front (h.more ++ more) (omega arith) in
+        let all = stays form (take n h.front) (drop n h.front) (subst (IsRefusedForGood form) same good) in
+        absurd (h.not_yet (subst (IsRefusedForGood form) (take-append-drop n h.front) all)))
+    | inr further ↦
+        (let size = h.size in
+        let all = length-append input more in
+        let within = left_within form input made (record { rest = rest; line = line }) m in
+        omega arith)
+  ]
+
+  -- the reader failed, or memory was refused
+  pub failed_at : (fault : MakeFault) → ReadsChunk b c failed rest new (Err fault)
+      → (bytes : List ℕ) × Consumes a c bytes × AreInTime form bytes × HasNotRead failed fault
+  failed_at fault step =
+      (input ++ step.0, Consumes-trans a b c input step.0 read step.1, in_time step.0 step.2, step.3)
+
+  -- it gave bytes, or none at its end
+  pub read_at : (count : ℕ) → ReadsChunk b c failed rest new (Ok count)
+      → HasRead form a c failed made new line tested count
+  read_at count step =
+      let is = step.3.0 in
+      record {
+        bytes = input ++ step.0;
+        read = Consumes-trans a b c input step.0 read step.1;
+        time = in_time step.0 step.2;
+        made_so_far = subst (λ t. HasMade form (input ++ step.0) (record { rest = t; line = line }) made) (sym is)
+            (made_on form input made rest step.0 line m);
+        tested_so_far = subst (HasTested form tested (input ++ step.0)) (sym is)
+            (more_tested form tested input rest step.0 h);
+        at_end = step.3.2;
+        fine = step.3.3;
+      }
+
+-- memory was refused after that
+pub refused_at : (form : Form) (a c : Option (List ℕ)) (failed : Bool) (made rest : List ℕ) (line tested count : ℕ)
+    → HasRead form a c failed made rest line tested count
+    → (bytes : List ℕ) × Consumes a c bytes × AreInTime form bytes × HasNotRead failed faults.Memory
+refused_at form a c failed made rest line tested count r = (r.bytes, r.read, r.time, inl (refl, r.fine))

@@ -1,5 +1,0 @@
-use Rattle.std.proofs.Common.{refl}
-use Rattle.capn_make.proofs.one_text.end_of_one.Goals as goal
-
-pub returns-else-begins : goal.returns-else-begins
-returns-else-begins c = (c.line-else-begins.ensures, c.if-is_done.ensures.more refl, c.if-begins.ensures.other refl)

@@ -1,0 +1,13 @@
+use Rattle.std.proofs.Common.{ℕ, List, length}
+use Rattle.capn_make.specs.inner.RunParts.{HasMade, IsAfter}
+use Rattle.capn_make.proofs.whole_texts.make_each.Given as goal
+
+-- of an input that was made up to the first place, each text up to this one is made
+abbrev pub invariant-texts : goal.invariant-texts
+invariant-texts g l = record {
+  after : IsAfter l.fn.texts l.texts;
+  made : (input : List ℕ) → HasMade l.form input l.fn.texts l.fn.made.items → HasMade l.form input l.texts l.made.items;
+}
+
+abbrev pub decreases-texts : goal.decreases-texts
+decreases-texts g l = length l.texts.rest

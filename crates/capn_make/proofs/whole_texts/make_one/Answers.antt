@@ -1,0 +1,10 @@
+use Rattle.std.proofs.Common.{arith}
+use Rattle.capn_make.proofs.OneText.{ends_so}
+use Rattle.capn_make.proofs.whole_texts.make_one.Goals as goal
+
+pub returns-clause-made : goal.returns-clause-made
+returns-clause-made g c = λ input h.
+    ends_so input c.args.texts.now c.args.made.now.items h c.end_of_one.result (λ e.
+    let line = c.line.ensures in
+    let later = c.if-line-eq1.false in
+    absurd (omega arith)) c.end_of_one.ensures

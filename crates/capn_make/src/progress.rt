@@ -1,0 +1,128 @@
+//! How far an input is made that comes piece by piece.
+
+ghost use Rattle.std.specs.Prelude.{◌≡◌, ◌≤◌, ℕ, List, length, drop, true, false, IfOk};
+ghost use Rattle.capn_make.specs.inner.RunParts.{GoesOn, HasMade, IsMadeSo, IsWholeFrom, TellsRefusal};
+ghost use Rattle.capn_make.specs.MadeInput.{Makes};
+
+use crate::fault::MakeFault;
+use crate::laws::refusing;
+use crate::whole_texts::make_texts;
+use capn_canon::Form;
+use capn_text::{Texts, lines_in};
+use std::alloc::{AllocError, Allocator};
+
+/// What was made of an input so far, and what is left of it.
+#[derive(Drop)]
+pub(crate) struct Progress<A: Allocator> {
+    /// What was made of its first texts.
+    pub(crate) made: Vec<u8, A>,
+    /// What comes after them.
+    pub(crate) rest: Vec<u8, A>,
+    /// The line of the input at which that begins.
+    pub(crate) line: u64,
+}
+
+/// What is to be written of an input, and how it ends.
+#[derive(Drop)]
+pub(crate) struct Outcome<A: Allocator> {
+    pub(crate) text: Vec<u8, A>,
+    pub(crate) ending: Result<(), MakeFault>,
+}
+
+/// Drops the first bytes.
+fn drop_front<A: Allocator>(bytes: &mut Vec<u8, A>, count: usize)
+    requires { count ≤ length bytes.old.items }
+    ensures { bytes.new.items ≡ drop count bytes.old.items }
+{
+    let len = bytes.len();
+    bytes.copy_within(count..len, 0);
+    bytes.truncate(len - count);
+}
+
+/// Whether what a fault is about stands whole in what is left, from a line on. A wrong line without its line end may be
+/// the beginning of one that isn't wrong.
+fn is_whole(rest: &[u8], line: u64, fault: MakeFault) -> bool
+    ensures whole { result ≡ true → IsWholeFrom line rest.now fault }
+    ensures cut { result ≡ false → IsWholeFrom line rest.now fault → ⊥ }
+{
+    match fault {
+        MakeFault::NotText(wrong) => wrong < line || wrong - line < lines_in(rest),
+        MakeFault::NoText => false,
+        _ => true,
+    }
+}
+
+impl<A: Allocator + Copy> Progress<A> {
+    /// Makes the texts that stand whole by now, and keeps what is left. Answers how the input ends if nothing follows.
+    fn go_on(&mut self, alloc: A, form: Form) -> Result<(), MakeFault>
+        ensures { (input : List ℕ)
+            → HasMade form input (record { rest = self.old.rest.items; line = self.old.line }) self.old.made.items
+            → GoesOn form input (record { rest = self.new.rest.items; line = self.new.line }) self.new.made.items
+            result }
+    {
+        let Some(mut texts) = Texts::from_line(&self.rest, self.line) else {
+            return Err(MakeFault::Memory);
+        };
+        let ending = make_texts(alloc, form, &mut texts, &mut self.made);
+        let line = texts.line();
+        let count = self.rest.len() - texts.left();
+        drop_front(&mut self.rest, count);
+        self.line = line;
+        ending
+    }
+
+    /// Makes the texts that stand whole by now, and keeps what is left. Answers why the input is refused whatever
+    /// follows, if it is.
+    pub(crate) fn find_refusal(
+        &mut self,
+        alloc: A,
+        form: Form,
+    ) -> Result<Option<MakeFault>, AllocError>
+        ensures { IfOk result (λ told. (input : List ℕ)
+            → HasMade form input (record { rest = self.old.rest.items; line = self.old.line }) self.old.made.items
+            → TellsRefusal form input (record { rest = self.new.rest.items; line = self.new.line })
+            self.new.made.items told) }
+    {
+        refusing();
+        match self.go_on(alloc, form) {
+            Ok(()) => Ok(None),
+            Err(fault) => match fault {
+                MakeFault::Memory => Err(AllocError),
+                other => {
+                    if is_whole(&self.rest, self.line, other) {
+                        Ok(Some(other))
+                    } else {
+                        Ok(None)
+                    }
+                }
+            },
+        }
+    }
+
+    /// What is to be written of an input that ends so. In form bare that is nothing, unless it ends well.
+    pub(crate) fn end(self, form: Form, ending: Result<(), MakeFault>) -> Outcome<A>
+        ensures { (input : List ℕ) → IsMadeSo form input self.made.items ending
+            → Makes form input result.text.items result.ending }
+    {
+        let mut text = self.made;
+        if let (Form::Bare, Err(_)) = (form, ending) {
+            text.clear();
+        }
+        Outcome { text, ending }
+    }
+
+    /// What is to be written of an input to which nothing follows.
+    pub(crate) fn finish(mut self, alloc: A, form: Form) -> Result<Outcome<A>, AllocError>
+        ensures { IfOk result (λ outcome. (input : List ℕ)
+            → HasMade form input (record { rest = self.rest.items; line = self.line }) self.made.items
+            → Makes form input outcome.text.items outcome.ending) }
+    {
+        match self.go_on(alloc, form) {
+            Ok(()) => Ok(self.end(form, Ok(()))),
+            Err(fault) => match fault {
+                MakeFault::Memory => Err(AllocError),
+                other => Ok(self.end(form, Err(other))),
+            },
+        }
+    }
+}

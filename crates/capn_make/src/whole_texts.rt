@@ -1,0 +1,96 @@
+//! The texts that stand whole in what is left of an input.
+
+ghost use Rattle.std.specs.Prelude.{◌≡◌, ℕ, List};
+ghost use Rattle.capn_canon.specs.declared.form.Form.TheVariants as forms;
+ghost use Rattle.capn_make.specs.inner.RunParts.{EndsOne, GoesOn, HasMade, IsAfter};
+
+use crate::fault::MakeFault;
+use crate::next_text::next_piece;
+use capn_canon::Form;
+use capn_text::Texts;
+use std::alloc::Allocator;
+
+/// Makes each text up to the end, or up to the first that is refused.
+fn make_each<A: Allocator + Copy>(
+    alloc: A,
+    form: Form,
+    texts: &mut Texts,
+    made: &mut Vec<u8, A>,
+) -> Result<(), MakeFault>
+    requires framed { form ≡ forms.Bare → ⊥ }
+    ensures after { IsAfter texts.old texts.new }
+    ensures made { (input : List ℕ) → HasMade form input texts.old made.old.items
+        → GoesOn form input texts.new made.new.items result }
+{
+    'texts: while let Some(piece) = next_piece(alloc, form, texts)? {
+        made.extend_from_slice(&piece)?;
+    }
+    Ok(())
+}
+
+/// Refuses what follows the one text, by its first line. What comes after that line isn't looked at.
+fn end_of_one(texts: &Texts) -> Result<(), MakeFault>
+    ensures { EndsOne texts.now result }
+{
+    if texts.is_done() {
+        return Ok(());
+    }
+    if texts.begins() {
+        Err(MakeFault::Another(texts.line()))
+    } else {
+        Err(MakeFault::NotText(texts.line()))
+    }
+}
+
+/// Makes the first text of an input, and refuses what follows it.
+fn make_first<A: Allocator + Copy>(
+    alloc: A,
+    texts: &mut Texts,
+    made: &mut Vec<u8, A>,
+) -> Result<(), MakeFault>
+    requires first { texts.old.line ≡ 1 }
+    ensures after { IsAfter texts.old texts.new }
+    ensures made { (input : List ℕ) → HasMade forms.Bare input texts.old made.old.items
+        → GoesOn forms.Bare input texts.new made.new.items result }
+{
+    let Some(piece) = next_piece(alloc, Form::Bare, texts)? else {
+        return Err(MakeFault::NoText);
+    };
+    made.extend_from_slice(&piece)?;
+    end_of_one(texts)
+}
+
+/// Makes the one text, unless it is made already, and refuses what follows it.
+fn make_one<A: Allocator + Copy>(
+    alloc: A,
+    texts: &mut Texts,
+    made: &mut Vec<u8, A>,
+) -> Result<(), MakeFault>
+    ensures after { IsAfter texts.old texts.new }
+    ensures made { (input : List ℕ) → HasMade forms.Bare input texts.old made.old.items
+        → GoesOn forms.Bare input texts.new made.new.items result }
+{
+    // A text has two lines or more: at the first line none is made.
+    if texts.line() == 1 {
+        return make_first(alloc, texts, made);
+    }
+    end_of_one(texts)
+}
+
+/// Makes the texts that are next, as far as a form takes them, and tells how the input ends that they are left of.
+pub(crate) fn make_texts<A: Allocator + Copy>(
+    alloc: A,
+    form: Form,
+    texts: &mut Texts,
+    made: &mut Vec<u8, A>,
+) -> Result<(), MakeFault>
+    ensures after { IsAfter texts.old texts.new }
+    ensures made { (input : List ℕ) → HasMade form input texts.old made.old.items
+        → GoesOn form input texts.new made.new.items result }
+{
+    match form {
+        Form::Stream => make_each(alloc, Form::Stream, texts, made),
+        Form::Packed => make_each(alloc, Form::Packed, texts, made),
+        Form::Bare => make_one(alloc, texts, made),
+    }
+}

@@ -1,7 +1,0 @@
-use Rattle.capn_pack.proofs.RowLemmas.{row_next}
-use Rattle.capn_pack.proofs.unpack_block.fill_block.Goals as goal
-
-pub loop-at-preserved : goal.loop-at-preserved
-loop-at-preserved c =
-    let group = c.in-Some.ensures.some in
-    (row_next _ _ _ _ _ 8 group.0 _ c.in-Some.ensures.forward c.loop-at.invariant.0 group.1, c.in-Some.ensures.within)

@@ -1,0 +1,12 @@
+use Rattle.std.proofs.Common.{arith}
+use Rattle.capn_pack.proofs.RowLemmas.{row_next}
+use Rattle.capn_pack.proofs.unpack_block.fill_steps.Goals as goal
+
+pub loop-left-preserved : goal.loop-left-preserved
+loop-left-preserved c =
+    let group = c.in-Some.ensures.some in (
+      row_next _ _ _ _ _ 8 group.0 _ (omega (arith, c.in-Some.ensures.forward)) c.loop-left.invariant.0 group.1,
+      omega (arith, c.in-Some.ensures.reach),
+      omega (arith, c.in-Some.ensures.within),
+      omega (arith, c.in-Some.ensures.forward),
+    )

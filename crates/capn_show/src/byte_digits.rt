@@ -1,0 +1,74 @@
+//! Lists of bytes: their digits on one line.
+
+ghost use Rattle.std.specs.Prelude.{length, IfErr, OnOk};
+ghost use Rattle.hex.specs.Hex.{encode_lower};
+ghost use Rattle.capn_words.specs.Message.{IsMessage};
+ghost use Rattle.capn_words.specs.declared.pointer.Width.TheVariants as widths;
+ghost use Rattle.capn_value.specs.Text as form;
+ghost use Rattle.capn_walk.specs.Shapes.{IsContent};
+ghost use Rattle.capn_walk.specs.Target.{content_words};
+ghost use Rattle.capn_show.specs.inner.ReadyPlaces.{NumbersShown};
+ghost use Rattle.capn_show.specs.Outgoing.{Adds, BreaksOff, outgoing};
+
+use crate::fault::Broken;
+use crate::lines::{end_line, indent, word_digits};
+use crate::numbers::number_at;
+use crate::output::put;
+use capn_words::{Place, Space, Watched, Width};
+use std::alloc::Allocator;
+use std::io::Write;
+
+/// One line of the bytes of a list, unless it is empty.
+pub fn show_bytes<S: Space, W: Write, A: Allocator>(
+    text: &mut Vec<u8, A>,
+    writer: &mut Watched<W>,
+    space: &S,
+    start: Place,
+    count: u32,
+    level: u32,
+) -> Result<(), Broken>
+    requires message { IsMessage (S.message space.now) }
+    requires content { IsContent (S.message space.now) start (content_words widths.W8 count) }
+    ensures shown { OnOk result (NumbersShown (S.message space.now) start.segment start.word widths.W8
+        count (λ xs. form.one_line level (length xs) (encode_lower xs))
+        (Adds (outgoing W.contents writer.old text.old.items) (outgoing W.contents writer.new text.new.items))) }
+    ensures cut { IfErr result (λ e. NumbersShown (S.message space.now) start.segment start.word widths.W8
+        count (λ xs. form.one_line level (length xs) (encode_lower xs))
+        (BreaksOff (outgoing W.contents writer.old text.old.items) (outgoing W.contents writer.new text.new.items) e)) }
+{
+    if count == 0 {
+        return Ok(());
+    }
+    indent(text, writer, level)?;
+    push_bytes(text, writer, space, start, count)?;
+    end_line(text, writer)
+}
+
+/// The digits of the bytes of a list, those of a word at a time.
+pub fn push_bytes<S: Space, W: Write, A: Allocator>(
+    text: &mut Vec<u8, A>,
+    writer: &mut Watched<W>,
+    space: &S,
+    start: Place,
+    count: u32,
+) -> Result<(), Broken>
+    requires message { IsMessage (S.message space.now) }
+    requires content { IsContent (S.message space.now) start (content_words widths.W8 count) }
+    ensures shown { OnOk result (NumbersShown (S.message space.now) start.segment start.word widths.W8
+        count encode_lower
+        (Adds (outgoing W.contents writer.old text.old.items) (outgoing W.contents writer.new text.new.items))) }
+    ensures cut { IfErr result (λ e. NumbersShown (S.message space.now) start.segment start.word widths.W8
+        count encode_lower
+        (BreaksOff (outgoing W.contents writer.old text.old.items) (outgoing W.contents writer.new text.new.items) e)) }
+{
+    for i in 0..count / 8 {
+        let word = number_at(space, start, Width::W64, i);
+        put(text, writer, &word_digits(word))?;
+    }
+    let left = count % 8;
+    if left == 0 {
+        return Ok(());
+    }
+    let last = number_at(space, start, Width::W64, count / 8);
+    put(text, writer, &word_digits(last)[..2 * left as usize])
+}
