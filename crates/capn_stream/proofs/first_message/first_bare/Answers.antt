@@ -2,18 +2,14 @@ use Rattle.std.proofs.Common.{List, ℕ, [], ◌∷◌, ap, refl, arith}
 use Rattle.capn_words.specs.Message.{segment_at}
 use Rattle.capn_stream.proofs.OneSegment.{HasOne, has_one, one_stands}
 use Rattle.capn_stream.proofs.shared.FrameLaws.{one_frame}
-use Rattle.capn_stream.proofs.first_message.first_bare.Goals.{then-bytes-lt8-via-then-bytes-lt8}
-use Rattle.capn_stream.proofs.first_message.first_bare.Goals.{then-bytes-lt8-via-else-bytes-lt8+then-entry_at-ne0}
-use Rattle.capn_stream.proofs.first_message.first_bare.Goals.{then-words-max_words-via-then-words-max_words}
-use Rattle.capn_stream.proofs.first_message.first_bare.Goals.{then-words-max_words-via-else-words-max_words+then-end-bytes}
 use Rattle.capn_stream.proofs.first_message.first_bare.Goals as goal
 
 pub returns-then-bytes-lt8-clause-only : goal.returns-then-bytes-lt8-clause-only
 returns-then-bytes-lt8-clause-only c words taken h =
     let has = has_one c.args.bytes.now c.args.max_words words taken h in
     elim c.then-bytes-lt8.branch [
-      then-bytes-lt8-via-then-bytes-lt8 w ↦ absurd (omega (arith, has.table, w.if-bytes-lt8.true))
-      | then-bytes-lt8-via-else-bytes-lt8+then-entry_at-ne0 w ↦
+      goal.then-bytes-lt8-via-then-bytes-lt8 w ↦ absurd (omega (arith, has.table, w.if-bytes-lt8.true))
+      | goal.then-bytes-lt8-via-else-bytes-lt8+then-entry_at-ne0 w ↦
       absurd (omega (arith, has.one, w.entry_at.ensures, w.if-entry_at-ne0.true))
     ]
 
@@ -21,9 +17,9 @@ pub returns-then-words-max_words-clause-only : goal.returns-then-words-max_words
 returns-then-words-max_words-clause-only c words taken h =
     let has = has_one c.args.bytes.now c.args.max_words words taken h in
     elim c.then-words-max_words.branch [
-      then-words-max_words-via-then-words-max_words w ↦
+      goal.then-words-max_words-via-then-words-max_words w ↦
       absurd (omega (arith, has.room, c.entry_at-words.ensures, w.if-words-max_words.true))
-      | then-words-max_words-via-else-words-max_words+then-end-bytes w ↦
+      | goal.then-words-max_words-via-else-words-max_words+then-end-bytes w ↦
       absurd (omega (arith, has.contents, c.entry_at-words.ensures, w.if-end-bytes.true))
     ]
 
