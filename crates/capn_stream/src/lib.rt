@@ -27,7 +27,7 @@ mod stored;
 mod table;
 
 pub use fault::{FrameFault, Io, Memory, ReadFault};
-pub use first_message::first;
+pub use first_message::{first, first_bare};
 pub use frame_bytes::frame;
 pub use frame_output::write_message;
 pub use framed::Framed;
