@@ -1,15 +1,17 @@
--- Words whose root is in place, and that end with what is below it, are accepted and canonical.
-use Rattle.std.proofs.Common.{◌≡◌, ℕ, ◌+◌, ◌-◌, ◌<◌, true, List, [], ◌∷◌, ◌++◌, length, Option, Some, None}
-use Rattle.std.proofs.Common.{IsTrue, refl, ap, sym, subst, ◌∙◌, arith}
+-- Words whose root is in place, and that end with what is below it, are accepted and canonical, and as deep as the
+-- pass came.
+use Rattle.std.proofs.Common.{◌≡◌, ℕ, ◌+◌, ◌-◌, ◌^◌, ◌<◌, ◌≤◌, Bool, true, List, [], ◌∷◌, ◌++◌, length, Option, Some}
+use Rattle.std.proofs.Common.{None, IsTrue, refl, ap, sym, subst, ◌∙◌, arith}
 use Rattle.std.specs.Option.{option_or}
 use Rattle.std.proofs.lemmas.List.{append-nil}
-use Rattle.capn_words.specs.Message.{bytes}
+use Rattle.capn_words.specs.Message.{IsMessage, bytes}
 use Rattle.capn_value.specs.Tree.{Tree, nil, node, voids, bits, bytes as octets, pairs, quads, octs, links, rows, cap}
 use Rattle.capn_value.specs.Tree.{Trees, no_trees, tree, count}
-use Rattle.capn_value.specs.Cost.{base}
+use Rattle.capn_value.specs.Cost.{base, height, greatest}
 use Rattle.capn_value.specs.FirstCap.{first_cap}
 use Rattle.capn_value.specs.Fits.{is_root}
-use Rattle.capn_walk.specs.Accepted.{root, root_visits}
+use Rattle.capn_walk.specs.Accepted.{root, root_visits, IsValueOf}
+use Rattle.capn_walk.specs.Depth.{IsDepth}
 use Rattle.capn_walk.specs.Limits.{Bounds}
 use Rattle.capn_walk.specs.Visits.{Visit, visits}
 use Rattle.capn_canon.specs.declared.progress.Progress.{Progress}
@@ -19,6 +21,8 @@ use Rattle.capn_canon.specs.Layout.{size, words}
 use Rattle.capn_canon.specs.inner.InPlace.{Pays, AreInPlace, FindsSlots}
 use Rattle.capn_canon.proofs.CanonicalWords.{words-stand}
 use Rattle.capn_canon.proofs.Compared.{slots-first}
+use Rattle.capn_canon.proofs.DepthOfCanonical.{depth-of-canonical}
+use Rattle.capn_canon.proofs.Headline.{denoted_cost}
 use Rattle.capn_canon.proofs.ReadBare.{root-alone}
 
 -- one value
@@ -49,18 +53,17 @@ pays-nil : (vs : List Visit) (p n : ℕ) → Pays (vs ++ []) p n → Pays vs p n
 pays-nil vs p n h = subst (λ (us : List Visit). Pays us p n) (append-nil vs) h
 
 -- what is found under the numbers that limits have is found under the limits
-pub under-limits : (all : List ℕ) (limits : Bounds) (b d l : ℕ) (q : Progress) → b ≡ base limits.tariff
-    → d ≡ limits.depth → l ≡ limits.budget → FindsSlots all b 0 1 1 d l 1 q
-    → FindsSlots all (base limits.tariff) 0 1 1 limits.depth limits.budget 1 q
-under-limits all limits b d l q eb ed el f =
-    subst (λ (x : ℕ). FindsSlots all x 0 1 1 limits.depth limits.budget 1 q) eb
-    (subst (λ (x : ℕ). FindsSlots all b 0 1 1 x limits.budget 1 q) ed
-    (subst (λ (x : ℕ). FindsSlots all b 0 1 1 d x 1 q) el f))
+pub under-limits : (all : List ℕ) (limits : Bounds) (deep : Bool) (b d l : ℕ) (q : Progress) (low : ℕ)
+    → b ≡ base limits.tariff → d ≡ limits.depth → l ≡ limits.budget → FindsSlots all b deep 0 1 1 d l 1 d q low
+    → FindsSlots all (base limits.tariff) deep 0 1 1 limits.depth limits.budget 1 limits.depth q low
+under-limits all limits deep b d l q low eb ed el f =
+    subst (λ (x : ℕ). FindsSlots all x deep 0 1 1 limits.depth limits.budget 1 limits.depth q low) eb
+    (subst (λ (x : ℕ). FindsSlots all b deep 0 1 1 x limits.budget 1 x q low) ed
+    (subst (λ (x : ℕ). FindsSlots all b deep 0 1 1 d x 1 d q low) el f))
 
-module _ (all : List ℕ) (limits : Bounds) (some : 0 < length all) (q : Progress)
-    (f : FindsSlots all (base limits.tariff) 0 1 1 limits.depth limits.budget 1 q) (ends : q.next ≡ length all)
-    (c : SurveyedBare) (paid_is : c.paid ≡ limits.budget - q.left) (visits_are : c.visits ≡ q.visits)
-    (capability : c.capability ≡ None) (yes : IsTrue c.is_canonical) where
+module _ (all : List ℕ) (limits : Bounds) (deep : Bool) (some : 0 < length all) (q : Progress) (low : ℕ)
+    (f : FindsSlots all (base limits.tariff) deep 0 1 1 limits.depth limits.budget 1 limits.depth q low)
+    (ends : q.next ≡ length all) where
   abbrev value : Tree
   value = (one-of f.values f.count).0
 
@@ -91,21 +94,41 @@ module _ (all : List ℕ) (limits : Bounds) (some : 0 < length all) (q : Progres
       subst (λ (us : List Visit). Pays us f.price (1 + f.below)) (sym alone)
       (pays-nil vs f.price (1 + f.below) in_place.pays)
 
+  at-root : IsValueOf (all ∷ []) limits value
+  at-root =
+      let s = visited.sum in
+      let l = f.comes.left_is in
+      record {
+        accepted = record { some = some; within = record { all = visited.all; paid = omega arith } };
+        is = in_place.are.0;
+      }
+
   -- what is counted so is what a survey of the words finds
-  pub canonical-survey : IsBareSurvey all limits c
-  canonical-survey =
+  pub canonical-survey : (c : SurveyedBare) → c.paid ≡ limits.budget - q.left → c.visits ≡ q.visits
+      → c.capability ≡ None → IsTrue c.is_canonical → IsBareSurvey all limits c
+  canonical-survey c paid_is visits_are capability says =
       let s = visited.sum in
       let m = visited.many in
       let l = f.comes.left_is in
       let n = f.comes.visits_are in
       record {
         value = value;
-        is = record {
-          accepted = record { some = some; within = record { all = visited.all; paid = omega arith } };
-          is = in_place.are.0;
-        };
+        is = at-root;
         pays = omega arith;
         counts = omega arith;
         capability = capability ∙ sym free;
-        answer = ((λ t. (free, ap bytes words-are)), (λ e. yes));
+        answer = ((λ t. (free, ap bytes words-are)), (λ e. says));
       }
+
+  -- and where the pass learned how deep it came, it was as deep as the words are
+  pub canonical-depth : IsMessage (all ∷ []) → limits.budget ≤ 2 ^ 28 → limits.depth ≤ 256 → IsTrue deep
+      → IsDepth (all ∷ []) limits (limits.depth - low) × (low ≤ limits.depth)
+  canonical-depth is small shallow on =
+      let l = f.lowered on (omega arith) in
+      let e = ap greatest values in
+      let tall = (denoted_cost (all ∷ []) limits value is small shallow at-root).2 in
+      let h : height value ≡ limits.depth - low = omega arith in (
+        subst (λ (n : ℕ). IsDepth (all ∷ []) limits n) h
+            (depth-of-canonical all limits value is small shallow at-root words-are),
+        omega arith,
+      )

@@ -1,5 +1,5 @@
 -- Where words are accepted and canonical, the pass has to find the value at their root, and nothing stands after it.
-use Rattle.std.proofs.Common.{◌≡◌, ℕ, ◌+◌, ◌^◌, ◌<◌, ◌≤◌, List, [], ◌∷◌, length, Option, None}
+use Rattle.std.proofs.Common.{◌≡◌, ℕ, ◌+◌, ◌^◌, ◌<◌, ◌≤◌, Bool, List, [], ◌∷◌, length, Option, None}
 use Rattle.std.proofs.Common.{refl, ap, sym, subst, arith}
 use Rattle.std.specs.Option.{option_or}
 use Rattle.std.proofs.lemmas.List.{append-nil}
@@ -77,7 +77,8 @@ module _ (all : List ℕ) (limits : Bounds) (v : Tree) (is : IsMessage (all ∷ 
       (subst (λ (x : ℕ). DueSlots all (base limits.tariff) 0 1 1 limits.depth x) (sym el) due-root))
 
   -- what is found there ends with the words
-  pub root-ends : (depth left : ℕ) (q : Progress) → FindsSlots all (base limits.tariff) 0 1 1 depth left 1 q
+  pub root-ends : {deep : Bool} {least low : ℕ} (depth left : ℕ) (q : Progress)
+      → FindsSlots all (base limits.tariff) deep 0 1 1 depth left 1 least q low
       → q.next ≡ length all
   root-ends depth left q f =
       let c = f.count in

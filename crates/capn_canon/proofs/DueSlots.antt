@@ -1,5 +1,5 @@
 -- What is due at slots is due at the first of them, and, once that is found, at those after it.
-use Rattle.std.proofs.Common.{◌≡◌, ℕ, suc, ◌+◌, ◌-◌, ◌<◌, List, [], ◌∷◌, ◌++◌, length, Option}
+use Rattle.std.proofs.Common.{◌≡◌, ℕ, suc, ◌+◌, ◌-◌, ◌<◌, Bool, List, [], ◌∷◌, ◌++◌, length, Option}
 use Rattle.std.proofs.Common.{Some, None, refl, ap, sym, subst, ◌∙◌, arith}
 use Rattle.std.specs.Option.{option_or}
 use Rattle.std.proofs.lemmas.Grind.{flat_map-append}
@@ -100,7 +100,8 @@ module _ (all : List ℕ) (base : ℕ) where
     }
 
     -- once a value is found at the first slot, the others are due after it
-    pub due-behind : (g : Progress) → FindsFirst all base p g → Due all base (behind p g)
+    pub due-behind : {deep : Bool} {least low : ℕ} (g : Progress) → FindsFirst all base deep p least g low
+        → Due all base (behind p g)
     due-behind g f =
         let same = unique only f.value parts.0 (here p.from) f.in_place.is whole.are.0 in
         let n : p.next + size parts.0 ≡ g.next = let a = f.comes.next_is in let b = ap size same in omega arith in
@@ -114,7 +115,8 @@ module _ (all : List ℕ) (base : ℕ) where
               f.comes.left_is);
         }
 
-    pub goes-due : (g : Progress) → FindsFirst all base p g → (r : Pass) → r ≡ behind p g → Due all base r
+    pub goes-due : {deep : Bool} {least low : ℕ} (g : Progress) → FindsFirst all base deep p least g low → (r : Pass)
+        → r ≡ behind p g → Due all base r
     goes-due g f r e = subst (λ (s : Pass). Due all base s) (sym e) (due-behind g f)
 
   -- by equal numbers
@@ -183,7 +185,8 @@ module _ (all : List ℕ) (base : ℕ) where
         }
 
     -- once values are found at the slots of the first row, the others are due after them
-    pub rows-due : (met : ℕ) (g : Progress) → FindsSlots all base (from + a) b to d left met g
+    pub rows-due : {deep : Bool} {least low : ℕ} (met : ℕ) (g : Progress)
+        → FindsSlots all base deep (from + a) b to d left met least g low
         → DueRows all base a b (from + a + b) (n - 1) g.next d g.left
     rows-due met g f =
         let i = full.are in

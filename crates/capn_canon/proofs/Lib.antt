@@ -58,5 +58,6 @@ pub mod CanonicalWords
 pub mod FoundNear
 pub mod MemoryNeeds
 pub mod CapOfTrimmed
+pub mod DepthOfCanonical
 pub mod TheTheorem
 pub mod WorkedCanon

@@ -7,6 +7,7 @@ use Rattle.capn_words.specs.Message.{IsMessage}
 use Rattle.capn_words.specs.declared.pointer.Width.{Width}
 use Rattle.capn_words.specs.declared.pointer.Width.TheVariants.{W0, W1, W8, W16, W32, W64, Link, Rows}
 use Rattle.capn_value.specs.Tree.{Tree, voids, bits, bytes, pairs, quads, octs}
+use Rattle.capn_value.specs.Cost.{height}
 use Rattle.capn_value.specs.FirstCap.{first_cap}
 use Rattle.capn_walk.specs.declared.target.Target.TheVariants as targets
 use Rattle.capn_walk.specs.declared.target.Shape.TheVariants as shapes
@@ -81,10 +82,17 @@ pub record Numbers (all : List ℕ) (width : Width) (n to : ℕ) : Type 0 where
   pub inside : IsInside (all ∷ []) (shapes.Many width n) 0 to value
   pub sound : Sound value
   pub free : first_cap value ≡ None
+  pub high : height value ≡ 1
 
 numbers-of : (all : List ℕ) (width : Width) (n to : ℕ) → IsPlain width → n < 2 ^ 29
     → to + words_for (element_bits width * n) ≤ length all → Numbers all width n to
-numbers-of all W0 n to plain few room = record { value = voids n; inside = refl; sound = few; free = refl }
+numbers-of all W0 n to plain few room = record {
+  value = voids n;
+  inside = refl;
+  sound = few;
+  free = refl;
+  high = refl;
+}
 numbers-of all W1 n to plain few room =
     let ws = drop to all in
     let l = length-listed (λ i. element 64 1 ws i == 1) n in
@@ -93,6 +101,7 @@ numbers-of all W1 n to plain few room =
       inside = (ap (shapes.Many W1) (sym l), bits-listed ws n);
       sound = omega arith;
       free = refl;
+      high = refl;
     }
 numbers-of all W8 n to plain few room =
     let ws = drop to all in
@@ -102,6 +111,7 @@ numbers-of all W8 n to plain few room =
       inside = (ap (shapes.Many W8) (sym l), elements-listed 8 8 ws n);
       sound = (omega arith, (λ i. listed-below (element 8 8 ws) (2 ^ 8) n i (omega arith) (λ j. omega arith)));
       free = refl;
+      high = refl;
     }
 numbers-of all W16 n to plain few room =
     let ws = drop to all in
@@ -111,6 +121,7 @@ numbers-of all W16 n to plain few room =
       inside = (ap (shapes.Many W16) (sym l), elements-listed 4 16 ws n);
       sound = (omega arith, (λ i. listed-below (element 4 16 ws) (2 ^ 16) n i (omega arith) (λ j. omega arith)));
       free = refl;
+      high = refl;
     }
 numbers-of all W32 n to plain few room =
     let ws = drop to all in
@@ -120,6 +131,7 @@ numbers-of all W32 n to plain few room =
       inside = (ap (shapes.Many W32) (sym l), elements-listed 2 32 ws n);
       sound = (omega arith, (λ i. listed-below (element 2 32 ws) (2 ^ 32) n i (omega arith) (λ j. omega arith)));
       free = refl;
+      high = refl;
     }
 numbers-of all W64 n to plain few room =
     let ws = drop to all in
@@ -130,6 +142,7 @@ numbers-of all W64 n to plain few room =
       inside = (ap (shapes.Many W64) (sym l), ap (λ (k : ℕ). take k ws) l);
       sound = omega arith;
       free = refl;
+      high = refl;
     }
 numbers-of all Link n to plain few room = absurd plain
 numbers-of all Rows n to plain few room = absurd plain
@@ -181,6 +194,9 @@ module _ (all : List ℕ) (base from to d : ℕ) (width : Width) (n : ℕ) (mess
             (pays-object all base from d to 0 0 (shapes.Many width n) named deep (rw e pays-none));
         few = omega arith;
       }
+
+  pub numbers-high : height numbers-value ≡ 1
+  numbers-high = numbers.high
 
   pub numbers-end : size numbers-value ≡ words_for (element_bits width * n)
   numbers-end = list-size all width n 0 to from to 0 named plain few small (part-below (all ∷ []) 0 to message)

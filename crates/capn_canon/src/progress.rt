@@ -1,6 +1,6 @@
 //! How far one pass over the words of a layout has come.
 
-ghost use Rattle.std.specs.Prelude.{◌≡◌, ◌+◌, ◌-◌, ◌^◌, ◌<◌, ◌≤◌, IfSome, IsSome};
+ghost use Rattle.std.specs.Prelude.{◌≡◌, ◌+◌, ◌-◌, ◌^◌, ◌<◌, ◌≤◌, IfSome, IsSome, IsTrue, min};
 
 use crate::own_words_test::Tag;
 
@@ -39,6 +39,16 @@ pub struct RowPass {
     pub tag: Tag,
     /// The words of the rows, and how far the pass has come that checks their slots.
     pub pass: Pass,
+}
+
+/// Lowers the least depth that was left to that below an object, where it is asked for.
+#[inline(always)]
+pub fn lower<const DEEP: bool>(least: &mut u32, depth: u32)
+    ensures { IsTrue DEEP → least.new ≡ min least.old depth }
+{
+    if DEEP && depth < *least {
+        *least = depth;
+    }
 }
 
 impl Pass {

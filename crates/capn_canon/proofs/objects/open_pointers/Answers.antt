@@ -3,7 +3,7 @@ use Rattle.capn_walk.proofs.shared.Segments.{segment-room}
 use Rattle.capn_canon.proofs.DueLists.{due-links}
 use Rattle.capn_canon.proofs.DueSlots.{same-due}
 use Rattle.capn_canon.proofs.PassLeads.{finds-links}
-use Rattle.capn_canon.proofs.one_pass.open_pointers.Goals as goal
+use Rattle.capn_canon.proofs.objects.open_pointers.Goals as goal
 
 pub returns-in-Some : goal.returns-in-Some
 returns-in-Some c =
@@ -28,8 +28,8 @@ returns-in-Some c =
       found = (
         omega arith,
         record { order = omega arith; before = omega arith; fits = omega arith; few = omega arith },
-        (λ q f. finds-links all c.args.base p o small n g (omega arith) c.requires.list.few c.requires.list.word gn gl
-            gv q f),
+        (λ deep. finds-links all c.args.base deep p o small n g (omega arith) c.requires.list.few c.requires.list.word
+            gn gl gv),
       );
       only = λ f.
           let k = due-links all c.args.base p.from p.next p.depth p.left f small (omega arith) o.deep n

@@ -19,10 +19,10 @@ use Rattle.capn_canon.proofs.Compared.{not-true}
 use Rattle.capn_canon.proofs.DueComposite.{DueTagged, due-tagged, tag-fields}
 use Rattle.capn_canon.proofs.DueSlots.{same-rows-due}
 use Rattle.capn_canon.proofs.PassLeads.{finds-composite}
-use Rattle.capn_canon.proofs.one_pass.open_composite.Goals.{then-step-eq0, else-step-eq0}
-use Rattle.capn_canon.proofs.one_pass.open_composite.Goals.{then-tag-via-then-tag}
-use Rattle.capn_canon.proofs.one_pass.open_composite.Goals.{then-tag-via-else-tag+then-tag-step}
-use Rattle.capn_canon.proofs.one_pass.open_composite.Goals as goal
+use Rattle.capn_canon.proofs.objects.open_composite.Goals.{then-step-eq0, else-step-eq0}
+use Rattle.capn_canon.proofs.objects.open_composite.Goals.{then-tag-via-then-tag}
+use Rattle.capn_canon.proofs.objects.open_composite.Goals.{then-tag-via-else-tag+then-tag-step}
+use Rattle.capn_canon.proofs.objects.open_composite.Goals as goal
 
 -- the elements without a size
 extra-yes : (s n w : ℕ) → s ≡ 0 → w ≡ n → w ≡ (if s == 0 then n else 0)
@@ -94,9 +94,9 @@ returns-in-Some c =
         omega arith,
         record { order = omega arith; before = omega arith; fits = omega arith; few = omega arith },
         omega arith,
-        (λ q f. finds-composite all c.args.base p o small g.count g.words g.slots c.in-Some.progress (omega arith)
+        (λ deep. finds-composite all c.args.base deep p o small g.count g.words g.slots c.in-Some.progress (omega arith)
             (omega arith) (omega arith) (omega arith) (omega arith) five.2 five.4 five.0 five.1 (omega arith)
-            (omega arith) gv q f),
+            (omega arith) gv),
       );
       only = λ f.
           let y = tagged all c.args.base p c.args.span x g o small short c.requires.list.word c.word_at.ensures

@@ -15,11 +15,11 @@ use Rattle.capn_canon.proofs.Compared.{not-true}
 use Rattle.capn_canon.proofs.DueObjects.{DueStruct, due-struct, struct-tag}
 use Rattle.capn_canon.proofs.DueSlots.{same-due}
 use Rattle.capn_canon.proofs.PassLeads.{finds-struct}
-use Rattle.capn_canon.proofs.one_pass.open_struct.Goals.{then-end-words_of-via-then-end-words_of}
-use Rattle.capn_canon.proofs.one_pass.open_struct.Goals.{then-end-words_of-via-else-end-words_of+then-words-slots-eq0}
-use Rattle.capn_canon.proofs.one_pass.open_struct.Goals.{then-not-is_kept-via-then-not-is_kept}
-use Rattle.capn_canon.proofs.one_pass.open_struct.Goals.{then-not-is_kept-via-else-not-is_kept+then-not-is_kept-2}
-use Rattle.capn_canon.proofs.one_pass.open_struct.Goals as goal
+use Rattle.capn_canon.proofs.objects.open_struct.Goals.{then-end-words_of-via-then-end-words_of}
+use Rattle.capn_canon.proofs.objects.open_struct.Goals.{then-end-words_of-via-else-end-words_of+then-words-slots-eq0}
+use Rattle.capn_canon.proofs.objects.open_struct.Goals.{then-not-is_kept-via-then-not-is_kept}
+use Rattle.capn_canon.proofs.objects.open_struct.Goals.{then-not-is_kept-via-else-not-is_kept+then-not-is_kept-2}
+use Rattle.capn_canon.proofs.objects.open_struct.Goals as goal
 
 -- a word whose low half says so is the pointer to a struct at the next free word
 struct-word : (x from next a b : ℕ) → x < 2 ^ 64 → from < next → next ≤ 2 ^ 29 → x % 2 ^ 32 ≡ 4 * (next - from - 1)
@@ -79,8 +79,8 @@ returns-in-Some c =
       found = (
         omega arith,
         record { order = omega arith; before = omega arith; fits = omega arith; few = omega arith },
-        (λ q f. finds-struct all c.args.base p o (omega arith) a b g (omega arith) (omega arith) (omega arith) some word
-            (c.if-not-is_kept.ensures.0 refl) (c.if-not-is_kept-2.ensures.0 refl) gn gl gv q f),
+        (λ deep. finds-struct all c.args.base deep p o (omega arith) a b g (omega arith) (omega arith) (omega arith)
+            some word (c.if-not-is_kept.ensures.0 refl) (c.if-not-is_kept-2.ensures.0 refl) gn gl gv),
       );
       only = λ nz h.
           let t = tagged all c.args.base p c.args.word c.tag_of-tag.result o c.requires.message c.requires.word

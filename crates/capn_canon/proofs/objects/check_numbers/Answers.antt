@@ -1,19 +1,20 @@
-use Rattle.std.proofs.Common.{◌≡◌, ℕ, ◌+◌, ◌*◌, ◌^◌, ◌≤◌, [], ◌∷◌, length, drop, ap, sym, subst, arith, refl}
+use Rattle.std.proofs.Common.{◌≡◌, ℕ, ◌+◌, ◌*◌, ◌^◌, ◌<◌, ◌≤◌, [], ◌∷◌, length, drop, ap, sym, subst, arith, refl}
 use Rattle.capn_walk.proofs.shared.Segments.{segment-room}
 use Rattle.capn_words.specs.declared.pointer.Width.TheVariants.{Rows}
 use Rattle.capn_walk.specs.Shapes.{IsPlain}
 use Rattle.capn_walk.specs.Visits.{price}
 use Rattle.capn_walk.specs.declared.target.Shape.TheVariants as shapes
-use Rattle.capn_canon.specs.inner.FirstBits.{first_bits}
+use Rattle.capn_walk.specs.Target.{words_for}
+use Rattle.capn_canon.specs.inner.FirstBits.{element_bits, first_bits}
 use Rattle.capn_canon.specs.inner.WordsOfLayout.{Stand}
 use Rattle.capn_canon.proofs.Compared.{not-true}
 use Rattle.capn_canon.proofs.DueLists.{numbers-room, numbers-stand, numbers-cheap}
-use Rattle.capn_canon.proofs.NumbersInPlace.{numbers-in-place, numbers-end, price-none, price-some}
+use Rattle.capn_canon.proofs.NumbersInPlace.{numbers-in-place, numbers-end, numbers-high, price-none, price-some}
 use Rattle.capn_canon.proofs.PassLeads.{if-some}
-use Rattle.capn_canon.proofs.one_pass.check_numbers.Goals.{in-W0, in_default}
-use Rattle.capn_canon.proofs.one_pass.check_numbers.Goals.{then-end-words_of-via-then-end-words_of}
-use Rattle.capn_canon.proofs.one_pass.check_numbers.Goals.{then-end-words_of-via-else-end-words_of+then-not-are_bits_at}
-use Rattle.capn_canon.proofs.one_pass.check_numbers.Goals as goal
+use Rattle.capn_canon.proofs.objects.check_numbers.Goals.{in-W0, in_default}
+use Rattle.capn_canon.proofs.objects.check_numbers.Goals.{then-end-words_of-via-then-end-words_of}
+use Rattle.capn_canon.proofs.objects.check_numbers.Goals.{then-end-words_of-via-else-end-words_of+then-not-are_bits_at}
+use Rattle.capn_canon.proofs.objects.check_numbers.Goals as goal
 
 pub returns : goal.returns
 returns c =
@@ -42,13 +43,17 @@ returns c =
       | in_default w ↦ let e = price-some c.args.base n k c.requires.plain w.in_default.not-W0 in
           let f = w.without_size-is in omega arith
     ] in
-    let v = numbers-in-place all c.args.base p.from p.next p.depth k n c.requires.message small c.requires.plain
-    (omega arith) (omega arith) c.requires.list.few o.deep c.requires.list.word stand in
-    let ends = numbers-end all c.args.base p.from p.next p.depth k n c.requires.message small c.requires.plain
-    (omega arith) (omega arith) c.requires.list.few o.deep c.requires.list.word stand in
+    let order : p.from < p.next = omega arith in
+    let room : p.next + words_for (element_bits k * n) ≤ length all = omega arith in
+    let v = numbers-in-place all c.args.base p.from p.next p.depth k n c.requires.message small c.requires.plain order
+    room c.requires.list.few o.deep c.requires.list.word stand in
+    let ends = numbers-end all c.args.base p.from p.next p.depth k n c.requires.message small c.requires.plain order
+    room c.requires.list.few o.deep c.requires.list.word stand in
+    let high = numbers-high all c.args.base p.from p.next p.depth k n c.requires.message small c.requires.plain order
+    room c.requires.list.few o.deep c.requires.list.word stand in
     record {
       found = if-some c.paid.result
-          (λ q h. let gn = h.0 in let gl = h.1 in let gv = h.2 in
+          (λ q h deep least low is. let gn = h.0 in let gl = h.1 in let gv = h.2 in
           record {
             value = _;
             price = price c.args.base (shapes.Many k n);
@@ -61,6 +66,7 @@ returns c =
               fits = omega arith;
               few = omega arith;
             };
+            lowered = λ on le. let e = is on in omega arith;
           })
           c.paid.ensures.found;
       only = λ h. c.paid.ensures.only
