@@ -48,9 +48,18 @@ const TWO: [u8; 16] = [1, 0, 0, 0, 0, 0, 0, 0, 0, 0, 0, 0, 0, 0, 0, 0];
 #[test]
 fn a_message_of_one_segment_is_read_bare(rt: HostRuntime) {
     assert!(rt; bare_sizes(&FRAMED, 2) == Some((Some(2), 24)));
-    assert!(rt; bare_sizes(&TWO[4..], 2) == Some((Some(0), 8)), "a segment of no word");
-    assert!(rt; bare_sizes(&FRAMED, 1).is_none(), "more words than are allowed");
-    assert!(rt; bare_sizes(&FRAMED[..23], 2).is_none(), "cut in its contents");
+    assert!(rt;
+        bare_sizes(&TWO[4..], 2) == Some((Some(0), 8)),
+        "a segment of no word"
+    );
+    assert!(rt;
+        bare_sizes(&FRAMED, 1).is_none(),
+        "more words than are allowed"
+    );
+    assert!(rt;
+        bare_sizes(&FRAMED[..23], 2).is_none(),
+        "cut in its contents"
+    );
     assert!(rt; bare_sizes(&FRAMED[..7], 2).is_none(), "cut in its table");
     assert!(rt; bare_sizes(&[], 2).is_none());
     assert!(rt; bare_sizes(&TWO, 2).is_none(), "two segments");

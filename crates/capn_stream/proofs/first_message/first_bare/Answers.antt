@@ -8,19 +8,19 @@ pub returns-then-bytes-lt8-clause-only : goal.returns-then-bytes-lt8-clause-only
 returns-then-bytes-lt8-clause-only c words taken h =
     let has = has_one c.args.bytes.now c.args.max_words words taken h in
     elim c.then-bytes-lt8.branch [
-      goal.then-bytes-lt8-via-then-bytes-lt8 w ↦ absurd (omega (arith, has.table, w.if-bytes-lt8.true))
+      | goal.then-bytes-lt8-via-then-bytes-lt8 w ↦ absurd (omega (arith, has.table, w.if-bytes-lt8.true))
       | goal.then-bytes-lt8-via-else-bytes-lt8+then-entry_at-ne0 w ↦
-      absurd (omega (arith, has.one, w.entry_at.ensures, w.if-entry_at-ne0.true))
+          absurd (omega (arith, has.one, w.entry_at.ensures, w.if-entry_at-ne0.true))
     ]
 
 pub returns-then-words-max_words-clause-only : goal.returns-then-words-max_words-clause-only
 returns-then-words-max_words-clause-only c words taken h =
     let has = has_one c.args.bytes.now c.args.max_words words taken h in
     elim c.then-words-max_words.branch [
-      goal.then-words-max_words-via-then-words-max_words w ↦
-      absurd (omega (arith, has.room, c.entry_at-words.ensures, w.if-words-max_words.true))
+      | goal.then-words-max_words-via-then-words-max_words w ↦
+          absurd (omega (arith, has.room, c.entry_at-words.ensures, w.if-words-max_words.true))
       | goal.then-words-max_words-via-else-words-max_words+then-end-bytes w ↦
-      absurd (omega (arith, has.contents, c.entry_at-words.ensures, w.if-end-bytes.true))
+          absurd (omega (arith, has.contents, c.entry_at-words.ensures, w.if-end-bytes.true))
     ]
 
 pub returns-clause-found : goal.returns-clause-found
