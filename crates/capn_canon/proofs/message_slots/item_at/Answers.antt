@@ -8,7 +8,7 @@ use Rattle.capn_walk.specs.Shapes.{IsContent, RowsFit, extent}
 use Rattle.capn_walk.specs.ValueAt.{IsInside}
 use Rattle.capn_walk.proofs.shared.Ranges.{HasRoom}
 use Rattle.capn_walk.proofs.shared.Segments.{segment-room}
-use Rattle.capn_canon.proofs.MessageItems.{struct-rows, links-rows, all-rows, numbers-packed, plain-width}
+use Rattle.capn_canon.proofs.writer.MessageItems.{struct-rows, links-rows, all-rows, numbers-packed, plain-width}
 use Rattle.capn_canon.proofs.message_slots.item_at.Goals as goal
 
 pub returns-in-Node : goal.returns-in-Node

@@ -5,7 +5,7 @@ use Rattle.capn_canon.specs.declared.tree_slots.TreeRows.{TreeRows}
 use Rattle.capn_canon.specs.inner.Sound.{AreWide}
 use Rattle.capn_canon.specs.inner.Source.{IsGrown}
 use Rattle.capn_canon.specs.inner.TreeSlots.{AreBodies, bodies_of}
-use Rattle.capn_canon.proofs.TreeItems.{zeros-grown, slots-grown, row-grown}
+use Rattle.capn_canon.proofs.writer.TreeItems.{zeros-grown, slots-grown, row-grown}
 use Rattle.capn_canon.proofs.tree_slots.TreeSlotsSource.append_rows.Goals as goal
 
 pub returns-in-Bodies : goal.returns-in-Bodies
