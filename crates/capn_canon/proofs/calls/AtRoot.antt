@@ -2,7 +2,7 @@
 use Rattle.std.proofs.Common.{ℕ, ◌^◌, ◌≤◌, List, arith}
 use Rattle.capn_words.specs.Message.{IsMessage}
 use Rattle.capn_value.specs.Tree.{Tree}
-use Rattle.capn_walk.specs.Accepted.{root, IsValueOf}
+use Rattle.capn_walk.specs.Accepted.{IsValueOf}
 use Rattle.capn_walk.specs.Limits.{Bounds}
 use Rattle.capn_canon.specs.inner.MessageSlots.{HasSlot}
 use Rattle.capn_canon.specs.inner.Ready.{IsReady}

@@ -1,8 +1,8 @@
 -- Bytes of a message that are copied as words.
 use Rattle.capn_walk.proofs.shared.Elements.{length-bytes_at}
 use Rattle.std.proofs.Common.{◌≡◌, ℕ, zero, suc, ◌+◌, ◌*◌, ◌/◌, ◌%◌, ◌^◌, ◌<◌, ◌≤◌, List, [], ◌∷◌, ◌++◌, length, take}
-use Rattle.std.proofs.Common.{drop, slice_index, ap, ap₂, ◌∙◌, arith, length-drop}
-use Rattle.std.proofs.lemmas.List.{length-take-le, get_or-drop}
+use Rattle.std.proofs.Common.{drop, slice_index, ap, ap₂, ◌∙◌, arith}
+use Rattle.std.proofs.lemmas.List.{get_or-drop}
 use Rattle.capn_words.specs.Message.{IsMessage, segment_at, bytes_at, bytes, words_in}
 use Rattle.capn_words.proofs.shared.Words.{bytes-drop, bytes-take, length-bytes, words_of_bytes}
 use Rattle.capn_walk.specs.ValueAt.{words_from}

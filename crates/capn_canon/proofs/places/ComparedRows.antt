@@ -183,9 +183,6 @@ module _ (all : List ℕ) (n a b span s w from to pads : ℕ)
     wide = subst (λ (x : ℕ). AreWide x b rows-is.bodies) kw
         (subst (λ (x : ℕ). AreWide (kept_words_of_rows rows-is.bodies) x rows-is.bodies) ks rows-sound.4)
 
-    end : ℕ
-    end = to + 1 + n * (a + b)
-
     rows-length : length (row_contents a b rows-is.bodies (to + 1) (to + 1 + n * (a + b))) ≡ n * (a + b)
     rows-length = length-row_contents a b rows-is.bodies (to + 1) (to + 1 + n * (a + b)) wide
         ∙ ap (λ (k : ℕ). k * (a + b)) rows-is.count

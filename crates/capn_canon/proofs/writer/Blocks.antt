@@ -1,5 +1,5 @@
 -- Objects whose content is rows of words and slots.
-use Rattle.std.proofs.Common.{◌≡◌, ℕ, suc, ◌+◌, ◌-◌, ◌*◌, ◌^◌, ◌<◌, ◌≤◌, List, [], ◌∷◌, ◌++◌, length, take, set, refl}
+use Rattle.std.proofs.Common.{◌≡◌, ℕ, suc, ◌+◌, ◌-◌, ◌*◌, ◌^◌, ◌<◌, ◌≤◌, List, [], ◌∷◌, ◌++◌, length, take, set}
 use Rattle.std.proofs.Common.{ap, ap₂, sym, subst, ◌∙◌, arith, append_assoc, append-nil, length-append}
 use Rattle.std.proofs.lemmas.List.{length-set}
 use Rattle.std.proofs.Math.Seq.{take-length}
@@ -10,11 +10,11 @@ use Rattle.capn_words.specs.declared.pointer.Width.TheVariants.{Link, Rows}
 use Rattle.capn_value.specs.Tree.{Tree, node, links, rows, Trees, count, Bodies, no_bodies, body, count_rows, tree_at}
 use Rattle.capn_value.specs.Trim.{kept_words, kept_slots, kept_words_of_rows, kept_slots_of_rows}
 use Rattle.capn_value.specs.Cost.{height}
-use Rattle.capn_canon.specs.Layout.{own, size, sizes, row_size, point, points, struct_to, list_to, row_contents, lay}
+use Rattle.capn_canon.specs.Layout.{size, sizes, point, points, struct_to, list_to, row_contents}
 use Rattle.capn_canon.specs.Layout.{lays, lays_in_rows, sizes_in_rows}
 use Rattle.capn_canon.specs.inner.LayoutSteps.{laid, laid_slots, laid_rows, slots_at}
 use Rattle.capn_canon.specs.inner.Ready.{IsBlock, IsOpened, AreReady, AreLaid, RowsReady, RowsLaid}
-use Rattle.capn_canon.specs.inner.Sound.{AreWide, Sound}
+use Rattle.capn_canon.specs.inner.Sound.{Sound}
 use Rattle.capn_canon.specs.inner.Source.{IsStruct, AreLinks, AreStructs}
 use Rattle.capn_canon.proofs.layouts.KeptLengths.{kept_words-le, kept_slots-le}
 use Rattle.capn_canon.proofs.layouts.LayLengths.{length-points}

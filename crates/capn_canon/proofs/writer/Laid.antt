@@ -7,7 +7,7 @@ use Rattle.capn_value.specs.Tree.{Tree, nil, node, voids, bits, bytes, pairs, qu
 use Rattle.capn_value.specs.Tree.{no_trees, tree, tree_at, Bodies, no_bodies, body, count, count_rows, is_null}
 use Rattle.capn_value.specs.Trim.{kept_behind, kept_slots, kept_slots_of_rows}
 use Rattle.capn_value.specs.Cost.{greatest, greatest_in_rows, height}
-use Rattle.capn_canon.specs.Layout.{size, sizes, sizes_in_rows, point, points, lay, lays, row_contents, lays_in_rows}
+use Rattle.capn_canon.specs.Layout.{size, sizes, point, points, lay, lays, row_contents, lays_in_rows}
 use Rattle.capn_canon.specs.inner.LayoutSteps.{laid, laid_slots, laid_rows, AreRowsOver, past, rows_past, slots_at}
 use Rattle.capn_canon.specs.inner.Sound.{AreWide, Sound, Sounds, SoundRows}
 use Rattle.capn_canon.proofs.layouts.LayLengths.{length-lay, length-lays, length-cut}

@@ -1,5 +1,5 @@
 -- What stands inside content of a message, as what is laid out.
-use Rattle.std.proofs.Common.{◌≡◌, ℕ, zero, suc, ◌+◌, ◌*◌, ◌^◌, ◌<◌, ◌≤◌, List, [], length, take, refl, ap, sym, subst}
+use Rattle.std.proofs.Common.{◌≡◌, ℕ, zero, suc, ◌+◌, ◌*◌, ◌^◌, ◌<◌, ◌≤◌, List, [], take, refl, ap, sym, subst}
 use Rattle.std.proofs.Common.{◌∙◌, arith, length-drop}
 use Rattle.capn_words.specs.Message.{IsMessage, segment_at}
 use Rattle.capn_words.specs.declared.space.Place.{Place}
@@ -7,7 +7,7 @@ use Rattle.capn_words.specs.declared.pointer.Width.{Width}
 use Rattle.capn_words.specs.declared.pointer.Width.TheVariants.{W0, W1, W8, W16, W32, W64, Link, Rows}
 use Rattle.capn_value.specs.Tree.{Tree, Trees, tree, no_trees, tree_at, Bodies, no_bodies, body, count, count_rows}
 use Rattle.capn_walk.specs.declared.target.Shape.TheVariants as shapes
-use Rattle.capn_walk.specs.ValueAt.{IsAt, AreAt, RowsAt, IsInside, words_from, StandAt}
+use Rattle.capn_walk.specs.ValueAt.{IsAt, AreAt, RowsAt, IsInside, words_from}
 use Rattle.capn_walk.specs.Shapes.{IsContent, IsPlain, RowsFit}
 use Rattle.capn_walk.specs.Target.{content_words, words_for}
 use Rattle.capn_walk.proofs.shared.Segments.{segment-room}

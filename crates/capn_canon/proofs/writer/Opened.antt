@@ -1,11 +1,11 @@
 -- The own words of an object are appended.
-use Rattle.std.proofs.Common.{◌≡◌, ℕ, ◌+◌, ◌*◌, ◌^◌, ◌<◌, ◌≤◌, List, [], ◌∷◌, ◌++◌, length, set, refl, ap, ap₂, sym}
+use Rattle.std.proofs.Common.{◌≡◌, ℕ, ◌+◌, ◌*◌, ◌^◌, ◌<◌, List, [], ◌∷◌, ◌++◌, length, set, ap, ap₂, sym}
 use Rattle.std.proofs.Common.{subst, ◌∙◌, arith, append-nil, length-append}
 use Rattle.std.specs.Prelude.{pos}
 use Rattle.capn_words.specs.Pointers.{word_of}
 use Rattle.capn_words.specs.declared.pointer.Pointer.TheVariants.{Node}
 use Rattle.capn_words.specs.declared.pointer.Width.TheVariants.{Link, Rows}
-use Rattle.capn_value.specs.Tree.{Tree, node, links, rows, count, Bodies, no_bodies, body, count_rows}
+use Rattle.capn_value.specs.Tree.{Tree, Bodies, no_bodies, body, count_rows}
 use Rattle.capn_value.specs.Trim.{kept_words_of_rows, kept_slots_of_rows}
 use Rattle.capn_canon.specs.Layout.{point, struct_to, list_to}
 use Rattle.capn_canon.specs.inner.Ready.{IsBlock, IsOpened}

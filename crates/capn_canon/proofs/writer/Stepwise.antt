@@ -4,13 +4,12 @@ use Rattle.std.proofs.Common.{ap, sym, subst, ◌∙◌, arith, append-nil}
 use Rattle.std.proofs.lemmas.List.{length-set}
 use Rattle.capn_words.specs.Pointers.{word_of}
 use Rattle.capn_words.specs.declared.pointer.Pointer.TheVariants.{Cap}
-use Rattle.capn_value.specs.Tree.{Tree, nil, cap, Trees, tree, tree_at, count, no_trees, Bodies, no_bodies, body}
+use Rattle.capn_value.specs.Tree.{Tree, nil, cap, Trees, tree_at, count, Bodies, no_bodies, body}
 use Rattle.capn_value.specs.Tree.{count_rows}
-use Rattle.capn_value.specs.Cost.{height, greatest}
 use Rattle.capn_canon.specs.Layout.{size, sizes, sizes_in_rows, point, lay, words}
 use Rattle.capn_canon.specs.inner.LayoutSteps.{laid, laid_slots, laid_rows, past, rows_past, slots_at}
-use Rattle.capn_canon.specs.inner.Ready.{IsReady, AreReady, IsLaid, AreLaid, RowsReady, RowsLaid}
-use Rattle.capn_canon.specs.inner.Sound.{AreWide, Sound, Sounds, SoundRows}
+use Rattle.capn_canon.specs.inner.Ready.{IsReady, AreReady, IsLaid, AreLaid, RowsReady}
+use Rattle.capn_canon.specs.inner.Sound.{AreWide, SoundRows}
 use Rattle.capn_canon.proofs.writer.Laid.{laid-is, length-laid, slots-none, slots-next, rows-none, rows-next, past-next}
 use Rattle.capn_canon.proofs.writer.Laid.{sound-at, height-at, row-at, length-slots}
 

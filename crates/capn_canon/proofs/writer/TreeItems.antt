@@ -1,20 +1,19 @@
 -- What a value is, as what is laid out.
-use Rattle.std.proofs.Common.{◌≡◌, ℕ, zero, suc, ◌+◌, ◌*◌, ◌^◌, ◌<◌, ◌≤◌, List, [], ◌∷◌, ◌++◌, length, take, map}
-use Rattle.std.proofs.Common.{replicate, refl, ap, sym, subst, ◌∙◌, arith, append_assoc, append-nil, get_or, Bool}
+use Rattle.std.proofs.Common.{◌≡◌, ℕ, zero, suc, ◌*◌, ◌<◌, List, [], ◌∷◌, ◌++◌, length, take, map}
+use Rattle.std.proofs.Common.{replicate, refl, ap, sym, subst, ◌∙◌, arith, append-nil, get_or, Bool}
 use Rattle.std.proofs.lemmas.List.{length-replicate}
 use Rattle.std.specs.Int.{from_bool}
 use Rattle.capn_words.specs.declared.pointer.Width.TheVariants.{W0, W1, W8, W16, W32, W64}
 use Rattle.capn_value.specs.Tree.{Tree, node, voids, bits, bytes, pairs, quads, octs, links, rows, Trees, no_trees}
 use Rattle.capn_value.specs.Tree.{tree, tree_at, count, Bodies, no_bodies, body, count_rows}
 use Rattle.capn_value.specs.TreeOf.{tree_of, trees_of, rows_of}
-use Rattle.capn_value.specs.Trim.{kept_words, kept_slots, kept_words_of_rows, kept_slots_of_rows}
 use Rattle.capn_value.specs.Views.{count-trees_of, count_rows-rows_of}
 use Rattle.capn_value.specs.declared.value.Value.{Value}
 use Rattle.capn_value.specs.declared.value.Body.{Body}
 use Rattle.capn_walk.specs.Target.{words_for}
 use Rattle.capn_canon.specs.Layout.{packed, point, lay}
 use Rattle.capn_canon.specs.inner.LayoutSteps.{AreRowsOver, zero_rows, slots_at}
-use Rattle.capn_canon.specs.inner.Sound.{AreWide, Sound, Sounds, SoundRows}
+use Rattle.capn_canon.specs.inner.Sound.{Sound, Sounds, SoundRows}
 use Rattle.capn_canon.specs.declared.tree_slots.TreeRows.{TreeRows}
 use Rattle.capn_canon.specs.inner.Source.{IsListOf, IsGrown, IsStruct, AreLinks, AreStructs}
 use Rattle.capn_canon.specs.inner.TreeSlots.{HasValue, AreBodies, bodies_of}

@@ -1,4 +1,4 @@
-use Rattle.std.proofs.Common.{◌*◌, ◌++◌, ◌∙◌, ap, refl, length, List, ℕ, arith}
+use Rattle.std.proofs.Common.{◌++◌, ◌∙◌, ap, refl, length, List, ℕ, arith}
 use Rattle.std.specs.List.{flat_map}
 use Rattle.byteorder.specs.Endian.{little_bytes}
 use Rattle.capn_canon.proofs.writer.Drafted.{is-padded, drafted-padded}

@@ -1,4 +1,3 @@
-use Rattle.std.proofs.Common.{◌+◌, ◌-◌, arith}
 use Rattle.capn_canon.proofs.writer.Drafted.{zeros-more, zeros-end}
 use Rattle.capn_canon.proofs.draft.Draft.extend_zeros.Goals as goal
 

@@ -1,5 +1,4 @@
-use Rattle.std.proofs.Common.{◌∙◌, ap, refl}
-use Rattle.capn_words.specs.Message.{words_in}
+use Rattle.std.proofs.Common.{◌∙◌, ap}
 use Rattle.capn_canon.specs.inner.Draft.{drafted}
 use Rattle.capn_canon.proofs.writer.Drafted.{drafted-none}
 use Rattle.capn_canon.proofs.draft.Draft.with_room.Goals as goal

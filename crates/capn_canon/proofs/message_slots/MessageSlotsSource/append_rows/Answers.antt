@@ -1,4 +1,4 @@
-use Rattle.std.proofs.Common.{◌≡◌, ◌+◌, ◌*◌, ◌<◌, arith, sym, subst, ℕ}
+use Rattle.std.proofs.Common.{◌+◌, arith}
 use Rattle.std.proofs.lemmas.Result.{on_ok_weaker}
 use Rattle.capn_canon.specs.inner.RowWords.{row_cells}
 use Rattle.capn_canon.proofs.content.EachRow.{cells-over, wide-part}

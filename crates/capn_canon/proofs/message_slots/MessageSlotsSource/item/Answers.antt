@@ -1,4 +1,4 @@
-use Rattle.std.proofs.Common.{ℕ, ◌+◌, Ok, ap, ◌∙◌, arith}
+use Rattle.std.proofs.Common.{◌+◌, Ok, ap, ◌∙◌, arith}
 use Rattle.capn_words.specs.declared.space.Place.{Place}
 use Rattle.capn_walk.proofs.shared.Inside.{inside}
 use Rattle.capn_walk.proofs.shared.Present.{present}

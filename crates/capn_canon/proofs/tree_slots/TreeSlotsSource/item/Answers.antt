@@ -1,4 +1,4 @@
-use Rattle.std.proofs.Common.{◌≡◌, ◌<◌, ◌≤◌, ◌∙◌, ap, arith, refl, subst, sym, length}
+use Rattle.std.proofs.Common.{arith, subst, sym}
 use Rattle.capn_value.specs.Tree.{Tree}
 use Rattle.capn_canon.specs.inner.Sound.{Sound}
 use Rattle.capn_canon.specs.inner.TreeSlots.{HasValue, values_of, PacksNumbers, AreBodies}

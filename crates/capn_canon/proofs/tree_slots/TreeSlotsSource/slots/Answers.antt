@@ -1,4 +1,4 @@
-use Rattle.std.proofs.Common.{◌≡◌, ◌<◌, ◌≤◌, ◌∙◌, ap, arith, refl, length, []}
+use Rattle.std.proofs.Common.{◌∙◌, ap, arith, refl, []}
 use Rattle.capn_value.specs.Tree.{count_rows}
 use Rattle.capn_value.specs.Views.{count_rows-rows_of}
 use Rattle.capn_canon.specs.inner.TreeSlots.{bodies_of}
