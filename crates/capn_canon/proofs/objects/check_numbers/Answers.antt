@@ -7,10 +7,10 @@ use Rattle.capn_walk.specs.declared.target.Shape.TheVariants as shapes
 use Rattle.capn_walk.specs.Target.{words_for}
 use Rattle.capn_canon.specs.inner.FirstBits.{element_bits, first_bits}
 use Rattle.capn_canon.specs.inner.WordsOfLayout.{Stand}
-use Rattle.capn_canon.proofs.Compared.{not-true}
-use Rattle.capn_canon.proofs.DueLists.{numbers-room, numbers-stand, numbers-cheap}
-use Rattle.capn_canon.proofs.NumbersInPlace.{numbers-in-place, numbers-end, numbers-high, price-none, price-some}
-use Rattle.capn_canon.proofs.PassLeads.{if-some}
+use Rattle.capn_canon.proofs.places.Compared.{not-true}
+use Rattle.capn_canon.proofs.check.DueLists.{numbers-room, numbers-stand, numbers-cheap}
+use Rattle.capn_canon.proofs.places.NumbersInPlace.{numbers-in-place, numbers-end, numbers-high, price-none, price-some}
+use Rattle.capn_canon.proofs.check.PassLeads.{if-some}
 use Rattle.capn_canon.proofs.objects.check_numbers.Goals.{in-W0, in_default}
 use Rattle.capn_canon.proofs.objects.check_numbers.Goals.{then-end-words_of-via-then-end-words_of}
 use Rattle.capn_canon.proofs.objects.check_numbers.Goals.{then-end-words_of-via-else-end-words_of+then-not-are_bits_at}

@@ -15,10 +15,10 @@ use Rattle.capn_walk.specs.Visits.{price}
 use Rattle.capn_canon.specs.Layout.{list_to}
 use Rattle.capn_canon.specs.inner.Due.{DueFirst}
 use Rattle.capn_canon.specs.inner.RowWords.{kept_each}
-use Rattle.capn_canon.proofs.Compared.{not-true}
-use Rattle.capn_canon.proofs.DueComposite.{DueTagged, due-tagged, tag-fields}
-use Rattle.capn_canon.proofs.DueSlots.{same-rows-due}
-use Rattle.capn_canon.proofs.PassLeads.{finds-composite}
+use Rattle.capn_canon.proofs.places.Compared.{not-true}
+use Rattle.capn_canon.proofs.check.DueComposite.{DueTagged, due-tagged, tag-fields}
+use Rattle.capn_canon.proofs.check.DueSlots.{same-rows-due}
+use Rattle.capn_canon.proofs.check.PassLeads.{finds-composite}
 use Rattle.capn_canon.proofs.objects.open_composite.Goals.{then-step-eq0, else-step-eq0}
 use Rattle.capn_canon.proofs.objects.open_composite.Goals.{then-tag-via-then-tag}
 use Rattle.capn_canon.proofs.objects.open_composite.Goals.{then-tag-via-else-tag+then-tag-step}

@@ -1,8 +1,8 @@
 use Rattle.std.proofs.Common.{◌+◌, ◌-◌, ◌^◌, ◌≤◌, [], ◌∷◌, length, refl, arith}
 use Rattle.capn_walk.proofs.shared.Segments.{segment-room}
-use Rattle.capn_canon.proofs.DueLists.{due-links}
-use Rattle.capn_canon.proofs.DueSlots.{same-due}
-use Rattle.capn_canon.proofs.PassLeads.{finds-links}
+use Rattle.capn_canon.proofs.check.DueLists.{due-links}
+use Rattle.capn_canon.proofs.check.DueSlots.{same-due}
+use Rattle.capn_canon.proofs.check.PassLeads.{finds-links}
 use Rattle.capn_canon.proofs.objects.open_pointers.Goals as goal
 
 pub returns-in-Some : goal.returns-in-Some

@@ -11,10 +11,10 @@ use Rattle.capn_canon.specs.declared.progress.Pass.{Pass}
 use Rattle.capn_canon.specs.Layout.{struct_to}
 use Rattle.capn_canon.specs.inner.Due.{DueFirst}
 use Rattle.capn_canon.specs.inner.InPlace.{HasObject}
-use Rattle.capn_canon.proofs.Compared.{not-true}
-use Rattle.capn_canon.proofs.DueObjects.{DueStruct, due-struct, struct-tag}
-use Rattle.capn_canon.proofs.DueSlots.{same-due}
-use Rattle.capn_canon.proofs.PassLeads.{finds-struct}
+use Rattle.capn_canon.proofs.places.Compared.{not-true}
+use Rattle.capn_canon.proofs.check.DueObjects.{DueStruct, due-struct, struct-tag}
+use Rattle.capn_canon.proofs.check.DueSlots.{same-due}
+use Rattle.capn_canon.proofs.check.PassLeads.{finds-struct}
 use Rattle.capn_canon.proofs.objects.open_struct.Goals.{then-end-words_of-via-then-end-words_of}
 use Rattle.capn_canon.proofs.objects.open_struct.Goals.{then-end-words_of-via-else-end-words_of+then-words-slots-eq0}
 use Rattle.capn_canon.proofs.objects.open_struct.Goals.{then-not-is_kept-via-then-not-is_kept}

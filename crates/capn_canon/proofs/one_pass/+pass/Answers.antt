@@ -8,11 +8,11 @@ use Rattle.capn_canon.specs.declared.progress.Progress.{Progress}
 use Rattle.capn_canon.specs.declared.progress.Pass.{Pass}
 use Rattle.capn_canon.specs.inner.InPlace.{FindsSlots, FindsRows, FindsFirst, Finds, HasObject, IsOpen, Leads}
 use Rattle.capn_canon.specs.inner.Due.{Due, DueSlots, DueRows}
-use Rattle.capn_canon.proofs.DueObjects.{due-deep, due-near, due-price}
-use Rattle.capn_canon.proofs.DueSlots.{due-first, goes-due, row-due, rows-due}
-use Rattle.capn_canon.proofs.OneSegment.{names-empty}
-use Rattle.capn_canon.proofs.PassLeads.{if-some, behind, come, finds-none, finds-null, finds-empty}
-use Rattle.capn_canon.proofs.PassLeads.{finds-bare-rows, finds-no-rows, finds-row, goes-behind, last-leads}
+use Rattle.capn_canon.proofs.check.DueObjects.{due-deep, due-near, due-price}
+use Rattle.capn_canon.proofs.check.DueSlots.{due-first, goes-due, row-due, rows-due}
+use Rattle.capn_canon.proofs.reading.OneSegment.{names-empty}
+use Rattle.capn_canon.proofs.check.PassLeads.{if-some, behind, come, finds-none, finds-null, finds-empty}
+use Rattle.capn_canon.proofs.check.PassLeads.{finds-bare-rows, finds-no-rows, finds-row, goes-behind, last-leads}
 use Rattle.capn_canon.proofs.one_pass.+pass.Goals as goal
 
 -- ---- slots

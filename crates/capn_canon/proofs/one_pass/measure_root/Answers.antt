@@ -2,8 +2,8 @@ use Rattle.std.proofs.Common.{ℕ, ◌-◌, ◌<◌, [], ◌∷◌, length, true
 use Rattle.capn_value.specs.Cost.{base}
 use Rattle.capn_value.specs.declared.tariff.Tariff.{Tariff}
 use Rattle.capn_walk.specs.Depth.{IsDepth}
-use Rattle.capn_canon.proofs.CanonicalSurvey.{under-limits, canonical-survey, canonical-depth}
-use Rattle.capn_canon.proofs.DueRoot.{root-due, root-ends}
+use Rattle.capn_canon.proofs.check.CanonicalSurvey.{under-limits, canonical-survey, canonical-depth}
+use Rattle.capn_canon.proofs.check.DueRoot.{root-due, root-ends}
 use Rattle.capn_canon.proofs.one_pass.measure_root.Goals as goal
 
 pub returns-then-progress-size-clause-only : goal.returns-then-progress-size-clause-only
