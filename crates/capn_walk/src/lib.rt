@@ -22,6 +22,7 @@
 mod content;
 mod digits;
 mod entry;
+mod flat_root;
 mod found;
 mod kind;
 pub mod laws;
