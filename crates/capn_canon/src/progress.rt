@@ -87,8 +87,8 @@ impl Pass {
         }
     }
 
-    /// How far it has come once an object is paid that ends at a word and has so many slots; none if it costs more than
-    /// is left.
+    /// How far it has come once an object is paid that ends at a word and has this many slots; none if it costs more
+    /// than is left.
     #[inline(always)]
     pub fn paid(self, price: u64, end: u32, slots: u32) -> Option<Progress>
         requires { self.visits + slots < 2 ^ 32 }

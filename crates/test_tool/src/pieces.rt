@@ -140,7 +140,7 @@ fn ten_thousand_messages_are_written_at_once(rt: HostRuntime) {
     assert!(rt; calls.reads.get() == 6 && calls.writes.get() == 5);
 }
 
-/// Structs of so many words and null slots, as they are framed: with 1 to pay for each, these are at the borders
+/// Structs of this many words and null slots, as they are framed: with 1 to pay for each, these are at the borders
 /// between numbers of one digit and of more.
 const SIZES: [(u8, u8); 6] = [(8, 0), (9, 0), (98, 0), (99, 0), (0, 8), (0, 9)];
 
@@ -152,7 +152,7 @@ ok paid 100 visits 1\n\
 ok paid 9 visits 9\n\
 ok paid 10 visits 10\n";
 
-/// Appends the frame of a struct of so many words and null slots.
+/// Appends the frame of a struct of this many words and null slots.
 fn add_struct(stream: &mut Vec<u8>, words: u8, slots: u8) -> Result<(), AllocError> {
     let content = u16::from(words) + u16::from(slots);
     let [low, high] = (content + 1).to_le_bytes();

@@ -1,5 +1,5 @@
--- What is due at a slot whose word is the pointer to a list: the list stands at the next free word, there is room for
--- it, it can be paid, and what is below it is due.
+-- What is expected at a slot whose word is the pointer to a list: the list stands at the next free word, there is room
+-- for it, it can be paid, and what is below it is expected.
 use Rattle.std.proofs.Common.{◌≡◌, ℕ, ◌+◌, ◌-◌, ◌*◌, ◌^◌, ◌<◌, ◌≤◌, List, [], ◌∷◌, length, drop, slice_index}
 use Rattle.std.proofs.Common.{ap, sym, subst, ◌∙◌, arith}
 use Rattle.capn_words.specs.Message.{IsMessage, segment_at}
@@ -68,7 +68,7 @@ module _ (all : List ℕ) (base from to d left : ℕ) (h : DueValue all base fro
           (due-price all base from to d left h to (shapes.Many width n)
           (list-names all small from to n width (plain-too width plain) order (omega arith) few word) deep).0
 
--- a list of pointers is due at the next free word
+-- a list of pointers is expected at the next free word
 pub record DueLinks (all : List ℕ) (base to n d left : ℕ) : Type 0 where
   pub room : to + n ≤ length all
   pub cheap : base + n ≤ left

@@ -1,5 +1,5 @@
--- What is due at a slot whose word says what object it points to: the object stands at the next free word, there is
--- room for it, it can be paid, and what is below it is due.
+-- What is expected at a slot whose word says what object it points to: the object stands at the next free word, there
+-- is room for it, it can be paid, and what is below it is expected.
 use Rattle.std.proofs.Common.{◌≡◌, ◌≢◌, inl, inr, ℕ, ◌+◌, ◌-◌, ◌*◌, ◌%◌, ◌^◌, ◌<◌, ◌≤◌, List, []}
 use Rattle.std.proofs.Common.{◌∷◌, length, take, drop, slice_index, Ok, refl, ap, sym, subst, ◌∙◌, arith}
 use Rattle.capn_words.specs.Message.{segment_at}
@@ -32,7 +32,7 @@ module _ (all : List ℕ) (base from to d left : ℕ) (h : DueValue all base fro
   not-nil : slice_index all from ≢ 0 → h.value ≡ nil → ⊥
   not-nil ne e = ne (h.due.laid.pointer ∙ point-nil h.value from to e)
 
-  -- no object is due where no depth is left
+  -- no object is expected where no depth is left
   pub due-deep : slice_index all from ≢ 0 → d ≡ 0 → ⊥
   due-deep ne z =
       let c = content-of only (here from) h.value h.due.is h.due.free (not-nil ne) in
@@ -57,7 +57,7 @@ module _ (all : List ℕ) (base from to d left : ℕ) (h : DueValue all base fro
 
 -- ---- a struct
 
--- a struct of a words and b slots is due at the next free word
+-- a struct of a words and b slots is expected at the next free word
 pub record DueStruct (all : List ℕ) (base from to d left : ℕ) : Type 0 where
   pub a : ℕ
   pub b : ℕ

@@ -1,4 +1,4 @@
--- What is due at slots is due at the first of them, and, once that is found, at those after it.
+-- What is expected at slots is expected at the first of them, and, once that is found, at those after it.
 use Rattle.std.proofs.Common.{◌≡◌, ℕ, suc, ◌+◌, ◌-◌, ◌<◌, Bool, List, [], ◌∷◌, ◌++◌, length, Option}
 use Rattle.std.proofs.Common.{Some, None, refl, ap, sym, subst, ◌∙◌, arith}
 use Rattle.std.specs.Option.{option_or}
@@ -99,7 +99,7 @@ module _ (all : List ℕ) (base : ℕ) where
       due = first-due p.from p.next p.depth p.left parts.0 parts.1 inside whole;
     }
 
-    -- once a value is found at the first slot, the others are due after it
+    -- once a value is found at the first slot, the others are expected after it
     pub due-behind : {deep : Bool} {least low : ℕ} (g : Progress) → FindsFirst all base deep p least g low
         → Due all base (behind p g)
     due-behind g f =
@@ -184,7 +184,7 @@ module _ (all : List ℕ) (base : ℕ) where
           };
         }
 
-    -- once values are found at the slots of the first row, the others are due after them
+    -- once values are found at the slots of the first row, the others are expected after them
     pub rows-due : {deep : Bool} {least low : ℕ} (met : ℕ) (g : Progress)
         → FindsSlots all base deep (from + a) b to d left met least g low
         → DueRows all base a b (from + a + b) (n - 1) g.next d g.left

@@ -24,7 +24,7 @@ pub record Pays (vs : List Visit) (price number : ℕ) : Type 0 where
 
 module _ (all : List ℕ) (base : ℕ) where
   -- a value without capabilities stands at a slot, and its content where its layout has it; its walk, at most `depth`
-  -- objects deep, pays a price and makes so many visits below the slot, no more than it pays (Own.)
+  -- objects deep, pays a price and makes this many visits below the slot, no more than it pays (Own.)
   pub record IsInPlace (from to depth : ℕ) (v : Tree) (price below : ℕ) : Type 0 where
     pub is : IsAt (all ∷ []) (record { segment = 0; word = from }) v
     pub laid : IsLaidAt all v from to
@@ -52,7 +52,7 @@ module _ (all : List ℕ) (base : ℕ) where
         (count_rows bs * b + below)
     pub few : below ≤ price
 
-  -- a pass has come so many words further, and has paid and counted what it met there (Own.)
+  -- a pass has come this many words further, and has paid and counted what it met there (Own.)
   pub record Comes (next left visits size price below : ℕ) (q : Progress) : Type 0 where
     pub next_is : q.next ≡ next + size
     pub left_is : q.left + price ≡ left

@@ -29,7 +29,7 @@ struct-word x from next a b lt order room low ea eb some =
     let n : next - from - 1 ≡ next - (from + 1) = omega arith in
     f ∙ sym (ap word_of (if-no ((a == 0) && (b == 0)) _ _ (grind (arith, nat_tests))) ∙ omega arith)
 
--- the struct that is due is the one that the tag says
+-- the struct that is expected is the one that the tag says
 record IsTagged (all : List ℕ) (base : ℕ) (p : Pass) (g : Tag) : Type 0 where
   due : DueStruct all base p.from p.next p.depth p.left
   words : g.words ≡ due.a
