@@ -22,7 +22,6 @@
 mod content;
 mod digits;
 mod entry;
-mod flat_root;
 mod found;
 mod kind;
 pub mod laws;

@@ -17,7 +17,6 @@ ghost use Rattle.capn_value.specs.FirstCap.{first_cap};
 ghost use Rattle.capn_walk.specs.declared.target.Fault.TheVariants.{Memory};
 
 use crate::content::segment_length;
-use crate::flat_root::flat_root;
 use crate::limits::Limits;
 use crate::message_walk::{ROOT, root_target};
 use crate::slots_left::{SlotsLeft, Waiting};
@@ -33,7 +32,6 @@ use std::alloc::Allocator;
 ///
 /// It visits the slots as [`walk`] does and refuses what that refuses, in the same way. It takes no memory for a
 /// depth of at most 64; `Memory` comes only where a growth was refused.
-#[inline(always)]
 pub fn survey<S: Space, A: Allocator + Copy>(
     alloc: A,
     space: &S,
@@ -50,36 +48,6 @@ pub fn survey<S: Space, A: Allocator + Copy>(
     // No growth is needed for a depth of at most 64.
     ensures no_memory { limits.depth ≤ 64 → IfErr result (λ s. s.fault ≢ Memory) }
     // No walk pays beyond its budget.
-    ensures bounded { MatchResult result (λ s. IsBounded limits.budget s.paid s.visits)
-        (λ s. IsBounded limits.budget s.paid s.visits) }
-{
-    let _bounds = space.segments();
-    let flat = flat_root(
-        space,
-        limits.depth(),
-        limits.budget(),
-        limits.tariff().base(),
-    );
-    if let Some((_, surveyed)) = flat {
-        return Ok(surveyed);
-    }
-    survey_whole(alloc, space, limits)
-}
-
-/// What [`survey`] answers, for any root. It is not compiled into callers, as what a small message takes is.
-#[inline(never)]
-fn survey_whole<S: Space, A: Allocator + Copy>(
-    alloc: A,
-    space: &S,
-    limits: Limits,
-) -> Result<Surveyed, Stopped>
-    ensures found { IfOk result (λ s. told.IsSurvey (S.message space.now) limits s) }
-    ensures only { (v : Tree) → IsValueOf (S.message space.now) limits v →
-        MatchResult result (λ s. s.capability ≡ first_cap v) (λ s. s.fault ≡ Memory) }
-    ensures refused { IfErr result (λ s.
-        (s.fault ≡ Memory)
-        ⊎ IsWalkRefused (S.message space.now) limits s.fault s.place s.paid s.visits) }
-    ensures no_memory { limits.depth ≤ 64 → IfErr result (λ s. s.fault ≢ Memory) }
     ensures bounded { MatchResult result (λ s. IsBounded limits.budget s.paid s.visits)
         (λ s. IsBounded limits.budget s.paid s.visits) }
 {

@@ -1,18 +1,51 @@
+use Rattle.std.proofs.Common.{inr}
+use Rattle.std.proofs.lemmas.Result.{err_from_is_err_and}
+use Rattle.capn_walk.proofs.RootWalks.{refused-below, only-memory}
 use Rattle.capn_walk.proofs.RootSurveys.{surveyed, one-cap}
 use Rattle.capn_walk.proofs.message_survey.survey.Goals as goal
 
-pub returns-in-Some-clause-found : goal.returns-in-Some-clause-found
-returns-in-Some-clause-found g c =
+pub returns-in_err-target-clause-only : goal.returns-in_err-target-clause-only
+returns-in_err-target-clause-only g c v is =
+    let p = err_from_is_err_and c.from_residual.result c.from_residual.ensures.1 in
+    rw (p.1, p.2)
+    (only-memory (g.S.Space.message c.args.space.now) c.args.limits c.in_err-target.field-0.0 v is
+    (inr (c.in_err-target.ensures.refused c.args.limits)))
+
+pub returns-in_err-told-clause-refused : goal.returns-in_err-told-clause-refused
+returns-in_err-told-clause-refused g c =
     let m = g.S.Space.message c.args.space.now in
-    let x = c.in-Some in
+    let t = c.in_ok-target in
+    let r = rw (c.depth.ensures.value, c.budget.ensures.value, c.base.ensures.value, c.tariff.ensures) at
+    c.in_err-told.ensures.tells in
+    let e = refused-below m c.args.limits t.ensures.place t.target t.ensures.target t.ensures.kind
+    c.in_err-told.field-0.0 r in
+    let p = err_from_is_err_and c.from_residual-in_err-told.result c.from_residual-in_err-told.ensures.1 in
+    rw (p.1, p.2) e
+
+pub returns-in_err-told-clause-only : goal.returns-in_err-told-clause-only
+returns-in_err-told-clause-only g c v is =
+    let m = g.S.Space.message c.args.space.now in
+    let t = c.in_ok-target in
+    let r = rw (c.depth.ensures.value, c.budget.ensures.value, c.base.ensures.value, c.tariff.ensures) at
+    c.in_err-told.ensures.tells in
+    let e = refused-below m c.args.limits t.ensures.place t.target t.ensures.target t.ensures.kind
+    c.in_err-told.field-0.0 r in
+    let p = err_from_is_err_and c.from_residual-in_err-told.result c.from_residual-in_err-told.ensures.1 in
+    rw (p.1, p.2) (only-memory m c.args.limits c.in_err-told.field-0.0 v is e)
+
+pub returns-clause-found : goal.returns-clause-found
+returns-clause-found g c =
+    let m = g.S.Space.message c.args.space.now in
+    let t = c.in_ok-target in
+    let x = c.in_ok-told in
     let tells = rw (c.depth.ensures.value, c.budget.ensures.value, c.base.ensures.value, c.tariff.ensures) at
     x.ensures.tells in
-    surveyed m c.args.limits x.ensures.place x.field-0-0 x.ensures.target x.ensures.kind
-    (record { survey = x.surveyed; depth = 1 }) tells
+    surveyed m c.args.limits t.ensures.place t.target t.ensures.target t.ensures.kind x.told tells
 
-pub returns-in-Some-clause-only : goal.returns-in-Some-clause-only
-returns-in-Some-clause-only g c v is =
+pub returns-clause-only : goal.returns-clause-only
+returns-clause-only g c v is =
     let m = g.S.Space.message c.args.space.now in
-    let x = c.in-Some in
+    let t = c.in_ok-target in
+    let x = c.in_ok-told in
     let cap = rw (c.depth.ensures.value, c.base.ensures.value, c.tariff.ensures) at x.ensures.tells.1 in
-    one-cap m c.args.limits x.ensures.place x.field-0-0 x.ensures.target x.ensures.kind x.surveyed.capability v is cap
+    one-cap m c.args.limits t.ensures.place t.target t.ensures.target t.ensures.kind x.told.survey.capability v is cap
