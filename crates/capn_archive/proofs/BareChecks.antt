@@ -1,5 +1,5 @@
 -- What the check of a message of one segment finds.
-use Rattle.std.proofs.Common.{◌≡◌, ◌∙◌, ℕ, List, [], ◌∷◌, true, false, Option, None, is_some, refl, ap, sym, subst}
+use Rattle.std.proofs.Common.{◌≡◌, ◌∙◌, ℕ, List, [], ◌∷◌, length, true, false, Option, None, is_some, refl, ap, sym}
 use Rattle.capn_words.specs.Message.{bytes}
 use Rattle.capn_value.specs.Tree.{Tree}
 use Rattle.capn_value.specs.FirstCap.{first_cap}
@@ -10,9 +10,9 @@ use Rattle.capn_walk.specs.Surveyed.{IsSurvey}
 use Rattle.capn_walk.specs.declared.survey_answer.Surveyed.{Surveyed}
 use Rattle.capn_canon.specs.Layout.{canon}
 use Rattle.capn_canon.specs.BareVerdict.{IsBareSurvey}
+use Rattle.capn_canon.specs.declared.surveyed_bare.MeasuredBare.{MeasuredBare}
 use Rattle.capn_canon.specs.declared.surveyed_bare.SurveyedBare.{SurveyedBare}
-use Rattle.capn_archive.specs.declared.findings.Findings.{Findings}
-use Rattle.capn_archive.specs.Findings.{AreFindings, IsChecked}
+use Rattle.capn_archive.specs.Findings.{AreFindings, IsCanonical, IsChecked}
 
 same_words : (ws vs : List ℕ) → ◌≡◌ {A = List (List ℕ)} (ws ∷ []) (vs ∷ []) → ws ≡ vs
 same_words ws vs same = cc
@@ -32,32 +32,44 @@ bare_checked words limits c told = record {
   );
 }
 
+-- one that has not one segment is not canonical
+pub not_one : (message : List (List ℕ)) (v : Tree) → (length message ≡ 1 → ⊥) → IsCanonical message v → ⊥
+not_one message v not is = not (ap length is.1)
+
 -- there is no survey
-abbrev none : Option SurveyedBare
+abbrev none : Option MeasuredBare
 none = None
 
 not_none : is_some none ≡ true → ⊥
 not_none is = absurd (cc)
 
--- a message of one segment is not canonical, since no survey of it says so
-pub not_checked : (words : List ℕ) (limits : Bounds) (s : Surveyed) (depth : ℕ) (f : Findings)
-    → IsSurvey (words ∷ []) limits s → IsDepth (words ∷ []) limits depth → f.checked.paid ≡ s.paid
-    → f.checked.visits ≡ s.visits → f.checked.capability ≡ s.capability → f.checked.is_canonical ≡ false
-    → f.depth ≡ depth
+-- nor is one of one segment of which no survey says so
+pub not_told : (words : List ℕ) (limits : Bounds)
     → ((v : Tree) → IsValueOf (words ∷ []) limits v → first_cap v ≡ None → canon v ≡ bytes words
-    → is_some none ≡ true) → AreFindings (words ∷ []) limits f
-not_checked words limits s depth f told deep pays counts capability isn't is only = record {
+    → is_some none ≡ true) → (v : Tree) → IsValueOf (words ∷ []) limits v → IsCanonical (words ∷ []) v → ⊥
+not_told words limits only v told is =
+    not_none (only v told is.2 (is.3 ∙ ap bytes (sym (same_words words is.0 is.1))))
+
+-- what a survey tells is found of a message that is not canonical
+pub not_checked : (message : List (List ℕ)) (limits : Bounds) (s : Surveyed) (depth : ℕ) → IsSurvey message limits s
+    → IsDepth message limits depth → ((v : Tree) → IsValueOf message limits v → IsCanonical message v → ⊥)
+    → AreFindings message limits (record {
+      checked = record {
+        paid = s.paid;
+        visits = s.visits;
+        capability = s.capability;
+        is_canonical = false;
+      };
+      depth = depth;
+    })
+not_checked message limits s depth told deep not = record {
   checked = record {
     value = told.value;
     is = told.is;
-    pays = pays ∙ told.pays;
-    counts = counts ∙ told.counts;
-    capability = capability ∙ told.capability;
-    answer = (
-      (λ so. absurd (let bad : true ≡ false = sym so ∙ isn't in cc)),
-      (λ is. absurd (not_none (only told.value told.is is.2
-          (is.3 ∙ ap bytes (sym (same_words words is.0 is.1)))))),
-    );
+    pays = told.pays;
+    counts = told.counts;
+    capability = told.capability;
+    answer = ((λ so. absurd cc), (λ is. absurd (not told.value told.is is)));
   };
-  depth = subst (IsDepth (words ∷ []) limits) (sym is) deep;
+  depth = deep;
 }

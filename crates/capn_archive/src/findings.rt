@@ -1,14 +1,16 @@
 //! What is found of a message that is accepted.
 
-ghost use Rattle.std.specs.Prelude.{◌≡◌, ◌≢◌, [], ◌∷◌, length, false};
+ghost use Rattle.std.specs.Prelude.{[], ◌∷◌};
+ghost use Rattle.capn_value.specs.Tree.{Tree as Value};
+ghost use Rattle.capn_walk.specs.Accepted.{IsValueOf};
 ghost use Rattle.capn_walk.specs.Depth.{IsDepth};
 ghost use Rattle.capn_walk.specs.Surveyed.{IsSurvey};
 ghost use Rattle.capn_canon.specs.Refusal.{IsUnaccepted};
-ghost use Rattle.capn_archive.specs.Findings.{AreFindings};
+ghost use Rattle.capn_archive.specs.Findings.{AreFindings, IsCanonical};
 ghost use Rattle.capn_archive.specs.Tasks.{Finds};
 
 use crate::one_segment::alone;
-use capn_canon::{Refusal, SurveyedBare, survey_canonical};
+use capn_canon::{Refusal, SurveyedBare, measure_canonical};
 use capn_serve::ServeFault;
 use capn_walk::{Fault, Limits, Measured, survey_depth};
 use capn_words::{Bare, Space};
@@ -41,41 +43,28 @@ fn measure<S: Space, A: Allocator + Copy>(
     }
 }
 
-/// What is found of a message that is not canonical.
-fn not_canonical(measured: Measured) -> Findings
-    ensures paid { result.checked.paid ≡ measured.survey.paid }
-    ensures visits { result.checked.visits ≡ measured.survey.visits }
-    ensures capability { result.checked.capability ≡ measured.survey.capability }
-    ensures canonical { result.checked.is_canonical ≡ false }
-    ensures depth { result.depth ≡ measured.depth }
-{
-    let Measured { survey, depth } = measured;
-    Findings {
-        checked: SurveyedBare {
-            paid: survey.paid,
-            visits: survey.visits,
-            capability: survey.capability,
-            is_canonical: false,
-        },
-        depth,
-    }
-}
-
-/// What is found of a message that has more than one segment, and so is not canonical.
-fn find_in_segments<S: Space, A: Allocator + Copy>(
+/// What a survey finds of a message that is not canonical.
+fn find_not_canonical<S: Space, A: Allocator + Copy>(
     alloc: A,
     space: &S,
     limits: Limits,
 ) -> Result<Findings, ServeFault>
-    requires { length (S.message space.now) ≢ 1 }
+    requires { (v : Value) → IsValueOf (S.message space.now) limits v → IsCanonical (S.message space.now) v → ⊥ }
     ensures { Finds (AreFindings (S.message space.now) limits) (IsUnaccepted (S.message space.now) limits) result }
 {
     let measured = measure(alloc, space, limits)?;
-    Ok(not_canonical(measured))
+    Ok(Findings {
+        checked: SurveyedBare {
+            paid: measured.survey.paid,
+            visits: measured.survey.visits,
+            capability: measured.survey.capability,
+            is_canonical: false,
+        },
+        depth: measured.depth,
+    })
 }
 
-/// What is found of a message of one segment. One that has a capability is not canonical; the bytes of others are
-/// checked by one pass, once the message is accepted.
+/// What is found of a message of one segment: by one pass if its bytes are canonical, else by a survey.
 fn find_in_segment<A: Allocator + Copy>(
     alloc: A,
     space: &Bare<'_>,
@@ -83,17 +72,13 @@ fn find_in_segment<A: Allocator + Copy>(
 ) -> Result<Findings, ServeFault>
     ensures { Finds (AreFindings (space.now ∷ []) limits) (IsUnaccepted (space.now ∷ []) limits) result }
 {
-    let measured = measure(alloc, space, limits)?;
-    if measured.survey.capability.is_some() {
-        return Ok(not_canonical(measured));
-    }
     let _segments = space.segments();
-    match survey_canonical(space, limits) {
-        Some(checked) => Ok(Findings {
-            checked,
-            depth: measured.depth,
+    match measure_canonical(space, limits) {
+        Some(told) => Ok(Findings {
+            checked: told.survey,
+            depth: told.depth,
         }),
-        None => Ok(not_canonical(measured)),
+        None => find_not_canonical(alloc, space, limits),
     }
 }
 
@@ -108,6 +93,6 @@ pub(crate) fn findings_of<S: Space, A: Allocator + Copy>(
 {
     match alone(space) {
         Some(bare) => find_in_segment(alloc, &bare, limits),
-        None => find_in_segments(alloc, space, limits),
+        None => find_not_canonical(alloc, space, limits),
     }
 }

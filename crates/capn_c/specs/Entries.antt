@@ -60,7 +60,7 @@ pub record IndexedIn (form : Form) (bs : List ℕ) (limits : Bounds) (old new : 
   pub entries : new ≡ c_index (table_length form message) message limits
       ++ drop (length (index_of message limits)) old
 
--- the bytes are read as an accepted message, whose index has so many entries
+-- the bytes are read as an accepted message, whose index has this many entries
 pub record HasEntries (form : Form) (bs : List ℕ) (limits : Bounds) (count : ℕ) : Type 0 where
   pub message : List (List ℕ)
   pub reads : Reads form bs limits.message_words message

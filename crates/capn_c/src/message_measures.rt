@@ -1,6 +1,6 @@
 //! What a message comes to beside its price.
 
-ghost use Rattle.std.specs.Prelude.{IsTrue, ◌≡◌, ◌↔◌, ◌<◌, [], ◌∷◌, None, IfSome};
+ghost use Rattle.std.specs.Prelude.{◌≡◌, ◌<◌, [], ◌∷◌, None, IfSome, IsSome};
 ghost use Rattle.capn_words.specs.Message.{total};
 ghost use Rattle.capn_value.specs.Tree.{Tree as Value};
 ghost use Rattle.capn_walk.specs.Accepted.{IsValueOf};
@@ -10,7 +10,7 @@ ghost use Rattle.capn_canon.specs.MemoryNeed.{MayNeedMemory};
 ghost use Rattle.capn_canon.specs.declared.form.Form.TheVariants as forms;
 ghost use Rattle.capn_c.specs.Figures.{AreMeasures, IsCanonicalMessage, MeasuresIn};
 
-use capn_canon::survey_bare;
+use capn_canon::measure_canonical;
 use capn_stream::first;
 use capn_walk::{Limits, survey_depth};
 use capn_words::{Bare, Place, Space};
@@ -60,28 +60,33 @@ fn depth_of<S: Space>(alloc: Global, space: &S, limits: Limits) -> Option<u32>
     }
 }
 
-/// Whether the bytes of a message of one segment are canonical, or `None` where memory was refused.
-fn is_canonical_bare(alloc: Global, space: &Bare<'_>, limits: Limits) -> Option<bool>
-    ensures found { IfSome result (λ yes. IsTrue yes ↔ IsCanonicalMessage (space.now ∷ []) limits) }
-    ensures memory { (v : Value) → IsValueOf (space.now ∷ []) limits v → result ≡ None → 64 < limits.depth }
+/// The depth of bare words whose bytes are canonical, or `None` where they are not. One pass over them tells.
+fn canonical_depth_bare(space: &Bare<'_>, limits: Limits) -> Option<u32>
+    ensures found { IfSome result (λ d. IsDepth (space.now ∷ []) limits d
+        × IsCanonicalMessage (space.now ∷ []) limits) }
+    ensures only { IsCanonicalMessage (space.now ∷ []) limits → IsSome result }
 {
-    match survey_bare(alloc, space, limits) {
-        Ok(checked) => Some(checked.is_canonical),
-        Err(_) => None,
+    let _segments = space.segments();
+    let told = measure_canonical(space, limits)?;
+    if told.survey.is_canonical {
+        Some(told.depth)
+    } else {
+        None
     }
 }
 
-/// Whether a message has one segment whose bytes are canonical, or `None` where memory was refused.
-fn is_canonical_in<S: Space>(alloc: Global, space: &S, limits: Limits) -> Option<bool>
-    ensures found { IfSome result (λ yes. IsTrue yes ↔ IsCanonicalMessage (S.message space.now) limits) }
-    ensures memory { (v : Value) → IsValueOf (S.message space.now) limits v → result ≡ None → 64 < limits.depth }
+/// The depth of a message of one segment whose bytes are canonical, or `None` where it is no such message.
+fn canonical_depth<S: Space>(space: &S, limits: Limits) -> Option<u32>
+    ensures found { IfSome result (λ d. IsDepth (S.message space.now) limits d
+        × IsCanonicalMessage (S.message space.now) limits) }
+    ensures only { IsCanonicalMessage (S.message space.now) limits → IsSome result }
 {
     if space.segments() > 1 {
-        return Some(false);
+        return None;
     }
     let words = space.words(0).unwrap_or(0);
     match Bare::new(space.bytes(ROOT, 8 * words as usize)) {
-        Ok(bare) => is_canonical_bare(alloc, &bare, limits),
+        Ok(bare) => canonical_depth_bare(&bare, limits),
         Err(_) => unreachable!(),
     }
 }
@@ -91,13 +96,16 @@ fn measure<S: Space>(alloc: Global, space: &S, limits: Limits) -> Option<Measure
     ensures found { IfSome result (λ m. AreMeasures (S.message space.now) limits m) }
     ensures memory { (v : Value) → IsValueOf (S.message space.now) limits v → result ≡ None → 64 < limits.depth }
 {
-    let depth = depth_of(alloc, space, limits)?;
-    let canonical = is_canonical_in(alloc, space, limits)?;
+    let canonical = canonical_depth(space, limits);
+    let depth = match canonical {
+        Some(depth) => depth,
+        None => depth_of(alloc, space, limits)?,
+    };
     Some(Measured {
         words: words_of_all(space),
         segments: space.segments(),
         depth,
-        canonical,
+        canonical: canonical.is_some(),
     })
 }
 

@@ -75,7 +75,7 @@ fn survey_in(
 /// 0: they are there. 2, 3 and 4: the form is neither, a limit or the tariff is out of its range. 8: memory was
 /// refused, as of `capn_check`. Others: the refusal, which is never that of a capability.
 ///
-/// It walks a message of one segment three times, and others twice.
+/// It walks a message of one segment three times, or twice if its bytes are canonical, and others twice.
 #[unsafe(no_mangle)]
 pub extern "C" fn capn_survey(
     alloc: Global,

@@ -4,7 +4,8 @@
 //!   forms they are in, and what its walk paid. [`canonical_of`] does so for any message that is a `Space`.
 //! - [`is_canonical`] says whether the bytes of a bare message are its canonical bytes, and makes no copy;
 //!   [`survey_bare`] also reports its price, its visits and its first capability. [`survey_canonical`] is the one pass
-//!   that they make first: it reports on canonical bytes alone.
+//!   that they make first: it reports on canonical bytes alone. [`measure_canonical`] is the same pass, and also tells
+//!   how deep they are.
 //! - [`survey_bytes`] and [`survey`] report what the walk of a message pays and visits, and write nothing.
 //! - [`layout`] writes the canonical bytes of a tree: one segment, its objects in preorder, every struct
 //!   cut to what it keeps. A tree with a capability has none, and is refused by the first one's index.
@@ -46,6 +47,7 @@ mod message_slots;
 mod message_survey;
 mod number_list_words;
 mod object_layout;
+mod objects;
 mod one_pass;
 mod opening;
 mod own_words_test;
@@ -65,11 +67,11 @@ pub use canonical::{Canonical, canonical_of};
 pub use canonical_input::canonicalise;
 pub use form::Form;
 pub use message_survey::survey;
-pub use one_pass::survey_canonical;
+pub use one_pass::{measure_canonical, survey_canonical};
 pub use patch::Patch;
 pub use refusal::Refusal;
 pub use survey_input::survey_bytes;
-pub use surveyed_bare::SurveyedBare;
+pub use surveyed_bare::{MeasuredBare, SurveyedBare};
 pub use tree_layout::{LayoutFault, layout};
 
 // What the signatures above name.

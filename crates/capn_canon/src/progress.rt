@@ -1,6 +1,6 @@
 //! How far one pass over the words of a layout has come.
 
-ghost use Rattle.std.specs.Prelude.{◌≡◌, ◌+◌, ◌-◌, ◌^◌, ◌<◌, ◌≤◌, IfSome, IsSome};
+ghost use Rattle.std.specs.Prelude.{◌≡◌, ◌+◌, ◌-◌, ◌^◌, ◌<◌, ◌≤◌, IfSome, IsSome, IsTrue, min};
 
 use crate::own_words_test::Tag;
 
@@ -41,6 +41,16 @@ pub struct RowPass {
     pub pass: Pass,
 }
 
+/// Lowers the least depth that was left to that below an object, where it is asked for.
+#[inline(always)]
+pub fn lower<const DEEP: bool>(least: &mut u32, depth: u32)
+    ensures { IsTrue DEEP → least.new ≡ min least.old depth }
+{
+    if DEEP && depth < *least {
+        *least = depth;
+    }
+}
+
 impl Pass {
     /// How far it has come.
     #[inline(always)]
@@ -77,8 +87,8 @@ impl Pass {
         }
     }
 
-    /// How far it has come once an object is paid that ends at a word and has so many slots; none if it costs more than
-    /// is left.
+    /// How far it has come once an object is paid that ends at a word and has this many slots; none if it costs more
+    /// than is left.
     #[inline(always)]
     pub fn paid(self, price: u64, end: u32, slots: u32) -> Option<Progress>
         requires { self.visits + slots < 2 ^ 32 }

@@ -12,3 +12,12 @@ pub struct SurveyedBare {
     /// Whether the value has no capability and the bytes are its canonical bytes.
     pub is_canonical: bool,
 }
+
+/// What the check of canonical bytes answers, and how deep they are.
+#[derive(Clone, Copy, Debug, PartialEq, Eq)]
+pub struct MeasuredBare {
+    /// What their walk pays and visits.
+    pub survey: SurveyedBare,
+    /// The least depth under which they are accepted with the other limits as they are.
+    pub depth: u32,
+}

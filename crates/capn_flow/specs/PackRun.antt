@@ -48,7 +48,7 @@ packing = record { gives = λ bytes. IsPacked (length bytes) bytes; settles = Se
 abbrev pub packing_last : ℕ → Flow
 packing_last count = record { gives = IsPacked count; settles = SettlesMost; begins = IsFront }
 
--- the bytes of 255 words: a run of so many may go on
+-- the bytes of 255 words: a run of this length may go on
 abbrev pub most_open : ℕ
 most_open = 2040
 

@@ -44,8 +44,8 @@ WritesSome bytes c d failed (Ok p) =
     × (failed ≡ false)
 WritesSome bytes c d failed (Err fault) = Stops unpacking bytes c d failed fault
 
--- The words of all whole groups that stand first were written, which take so many bytes; or the run stopped among these
--- bytes.
+-- The words of all whole groups that stand first were written, which take this many bytes; or the run stopped among
+-- these bytes.
 abbrev pub WritesGroups : List ℕ → Option (List ℕ) → Option (List ℕ) → Bool → Result ℕ FlowFault → Type 0
 WritesGroups bytes c d failed (Ok at) =
     (words : List ℕ) × Splits bytes (drop at bytes) [] words at × (length bytes < at + most_group) × Appends c d words

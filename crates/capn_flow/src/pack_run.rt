@@ -29,7 +29,7 @@ const CHUNK: u64 = 65_536;
 /// The most words of a group.
 const RUN: u32 = 256;
 
-/// The bytes of 255 words: a run of so many may go on.
+/// The bytes of 255 words: a run of this length may go on.
 const OPEN: usize = 2040;
 
 /// How many bytes of a packed text are settled, whatever follows, and how many bytes of the words that it packs.

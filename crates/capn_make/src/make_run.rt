@@ -20,7 +20,8 @@ use std::io::{Read, Write};
 /// It ends as done, or with the first fault. `NotText`, `Misfit` or `Capability`: the next text is refused, in this
 /// order; those before it have been written. In form `Bare` nothing is written then, and more than one text is
 /// `Another`, or `NotText` if the line after the first text begins none; no text is `NoText`. In the other forms an
-/// input without texts is done. `Io` exactly if the reader or the writer failed; `Memory` if a growth was refused.
+/// input without texts is done. `Io` exactly if the reader or the writer failed; `Memory` if a growth was refused,
+/// or the input has 2^64 bytes, which takes centuries.
 ///
 /// The reader is asked for at most 65,536 bytes at once. What is made of the texts so far is held until the end of the
 /// input, beside the text that is unfinished, one value and what is written of it. What a text announces is never

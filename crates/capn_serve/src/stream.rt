@@ -1,13 +1,14 @@
 //! The messages of a stream that comes in chunks.
 
-ghost use Rattle.std.specs.Prelude.{◌≡◌, ◌⊎◌, ◌≤◌, ◌+◌, [], length, false};
+ghost use Rattle.std.specs.Prelude.{◌≡◌, ◌⊎◌, ℕ, ◌≤◌, ◌+◌, [], length, false};
 ghost use Rattle.capn_words.specs.Message.{most_message_words};
 ghost use Rattle.capn_words.specs.Watched.{inner_of, has_failed};
 ghost use Rattle.capn_stream.specs.StreamPieces.{IsFrame, IsUnfinished};
 ghost use Rattle.capn_serve.specs.Fold.{fold_of};
 ghost use Rattle.capn_serve.specs.Outgoing.{outgoing, sent};
 ghost use Rattle.capn_serve.specs.ChunkRun as spec;
-ghost use Rattle.capn_serve.specs.ChunkRun.{HasRoom, IsListening, Passes, Serves, ServesHeld, ServesNext, ServesWhole};
+ghost use Rattle.capn_serve.specs.ChunkRun.{AddsMessage, HasRoom, IsListening, Passes, Serves, ServesHeld, ServesNext};
+ghost use Rattle.capn_serve.specs.ChunkRun.{ServesWhole};
 
 use crate::fault::RunFault;
 use crate::message::add_message;
@@ -15,7 +16,7 @@ use crate::output::send_rest;
 use crate::position::Position;
 use crate::service::{Run, Service};
 use capn_canon::Refusal;
-use capn_stream::{FrameFault, Framer, first};
+use capn_stream::{FrameFault, Framed, Framer, first, first_bare};
 use capn_words::Watched;
 use std::alloc::Allocator;
 use std::io::Write;
@@ -40,6 +41,26 @@ fn pass(fault: FrameFault) -> Result<(), RunFault>
     }
 }
 
+/// Has a message of any number of segments served, and goes on to where the next one begins. It is not compiled into
+/// the loop over messages, which is short for those of one segment.
+#[inline(never)]
+fn add_framed<S: Service, W: Write, A: Allocator + Copy>(
+    alloc: A,
+    run: &mut Run<S>,
+    frame: &[u8],
+    message: &Framed<'_, A>,
+    text: &mut Vec<u8, A>,
+    writer: &mut Watched<W>,
+) -> Result<(), RunFault>
+    requires fine { has_failed writer.old ≡ false }
+    requires room { HasRoom run.old.at (length frame.now) }
+    ensures { (most : ℕ) → AddsMessage (fold_of S.serves S.refuses most) run.old frame.now message.now
+        (outgoing (W.contents (inner_of writer.old)) text.old.items)
+        (outgoing (W.contents (inner_of writer.new)) text.new.items) (has_failed writer.new) result run.new }
+{
+    add_message(alloc, run, frame, message, text, writer)
+}
+
 /// Serves the messages that lie whole in these bytes, of which no byte is copied. Answers how many bytes they take. Why
 /// no other follows is for the framer to say.
 #[inline(always)]
@@ -61,9 +82,14 @@ fn serve_whole<S: Service, W: Write, A: Allocator + Copy>(
     let mut at = 0;
     while at < bytes.len() {
         let rest = &bytes[at..];
+        if let Some((message, size)) = first_bare(rest, most) {
+            add_message(alloc, run, &rest[..size], &message, text, writer)?;
+            at += size;
+            continue;
+        }
         match first(alloc, rest, most) {
             Ok((message, taken)) => {
-                add_message(alloc, run, &rest[..taken], &message, text, writer)?;
+                add_framed(alloc, run, &rest[..taken], &message, text, writer)?;
                 at += taken;
             }
             Err(fault) => {
@@ -106,7 +132,7 @@ fn serve_held<S: Service, W: Write, A: Allocator + Copy>(
     let held = framer.held();
     match first(alloc, held, most) {
         Ok((message, taken)) => {
-            add_message(alloc, run, &held[..taken], &message, text, writer)?;
+            add_framed(alloc, run, &held[..taken], &message, text, writer)?;
         }
         Err(fault) => return pass(fault),
     }

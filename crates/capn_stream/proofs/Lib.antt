@@ -8,3 +8,4 @@ pub mod Received
 pub mod Sent
 pub mod ReadFirst
 pub mod FrameRows
+pub mod OneSegment

@@ -1,13 +1,13 @@
 //! The message that stands first in a stream.
 
-ghost use Rattle.std.specs.Prelude.{◌≡◌, ℕ, ◌≤◌, List, IfOk, IfErr, IsErrOf, MatchResult};
+ghost use Rattle.std.specs.Prelude.{◌≡◌, ℕ, ◌≤◌, List, [], ◌∷◌, Some, IfSome, IfOk, IfErr, IsErrOf, MatchResult};
 ghost use Rattle.capn_words.specs.Message.{most_message_words};
 ghost use Rattle.capn_stream.specs.Frames.{StandsFirst};
 ghost use Rattle.capn_stream.specs.FrameRefusal.{HasTable, IsFrameRefused};
 
 use crate::fault::FrameFault;
 use crate::framed::Framed;
-use crate::table::{ends_of, head_of, read_head};
+use crate::table::{ends_of, entry_at, head_of, read_head};
 use capn_words::Bare;
 use std::alloc::Allocator;
 
@@ -39,6 +39,33 @@ pub fn first<'a, A: Allocator + Copy>(
     let ends = ends_of(alloc, &bytes[4..], head.segments - 1)?;
     match Bare::new(&bytes[start..end]) {
         Ok(words) => Ok((Framed::new(words, ends), end)),
+        Err(_) => unreachable!(),
+    }
+}
+
+/// The message of one segment whose frame stands first in the bytes, and the number of bytes that it takes.
+///
+/// It answers what [`first`] answers where the message has one segment, and takes no memory. `None` exactly where no
+/// such message stands first; why none does is for `first` to say.
+/// (Page: serialization over a stream.)
+#[inline(always)]
+pub fn first_bare<'a>(bytes: &'a [u8], max_words: u32) -> Option<(Bare<'a>, usize)>
+    requires { max_words ≤ most_message_words }
+    ensures found { IfSome result (λ answer. StandsFirst bytes.now max_words (answer.0 ∷ []) answer.1) }
+    ensures only { (words : List ℕ) (taken : ℕ)
+        → StandsFirst bytes.now max_words (words ∷ []) taken
+        → result ≡ Some (words, taken) }
+{
+    if bytes.len() < 8 || entry_at(bytes, 0) != 0 {
+        return None;
+    }
+    let words = entry_at(bytes, 1);
+    let end = 8 + 8 * words as usize;
+    if words > max_words || end > bytes.len() {
+        return None;
+    }
+    match Bare::new(&bytes[8..end]) {
+        Ok(message) => Some((message, end)),
         Err(_) => unreachable!(),
     }
 }

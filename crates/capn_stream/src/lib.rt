@@ -1,7 +1,7 @@
 //! Messages in a stream: segment tables, and the segments after them.
 //!
-//! [`first`] reads the message that stands first in some bytes, as a [`Framed`] that borrows them, and
-//! [`frame`] writes a message as such bytes:
+//! [`first`] reads the message that stands first in some bytes, as a [`Framed`] that borrows them, [`first_bare`] one
+//! of one segment as its words alone, and [`frame`] writes a message as such bytes:
 //!
 //! ```text
 //! let (message, taken) = first(alloc, &input, 8_388_608)?;
@@ -27,7 +27,7 @@ mod stored;
 mod table;
 
 pub use fault::{FrameFault, Io, Memory, ReadFault};
-pub use first_message::first;
+pub use first_message::{first, first_bare};
 pub use frame_bytes::frame;
 pub use frame_output::write_message;
 pub use framed::Framed;

@@ -51,7 +51,7 @@ pub fn run_each_packed<R: Read, W: Write, A: Allocator + Copy>(
 {
     let mut run = first_run(piece, limits);
     let most = limits.message_words();
-    // What so many packed bytes unpack to is taken whole.
+    // What this many packed bytes unpack to is taken whole.
     run_packed(
         alloc,
         most,

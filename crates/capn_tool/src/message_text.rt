@@ -3,11 +3,11 @@
 ghost use Rattle.std.specs.Prelude.{◌≡◌, ◌≤◌, ◌∷◌, ◌++◌, [], length};
 ghost use Rattle.sha2.specs.Sha256.{sha256};
 ghost use Rattle.hex.specs.Hex.{encode_lower};
-ghost use Rattle.capn_tool.specs.MessageText.{PutsMessageText, PutsBareMessageText, PutsLine, priced};
+ghost use Rattle.capn_tool.specs.MessageText.{PutsMessageText, PutsBareMessageText, PutsLine, price_line, priced};
 ghost use Rattle.capn_tool.specs.declared.plan.MessageText.TheVariants as kinds;
 
 use crate::fault::ToolFault;
-use crate::price_line::PriceLine;
+use crate::price_line::{PriceLine, short_line};
 use capn_canon::{Refusal, canonical_of, survey_bare};
 use capn_walk::{Limits, survey};
 use capn_words::{Bare, Space};
@@ -25,11 +25,29 @@ fn put_priced<A: Allocator>(
     requires { length end.now ≤ 16 }
     ensures { PutsLine (priced paid visits end.now) text.old.items text.new.items result }
 {
-    let line = PriceLine::new(paid, visits, end);
-    match text.extend_from_slice(line.as_bytes()) {
+    match PriceLine::append(text, paid, visits, end) {
         Ok(()) => Ok(()),
         Err(_) => Err(ToolFault::Memory),
     }
+}
+
+/// Appends the line of a price and a number of visits, or nothing where memory is refused.
+#[inline(always)]
+fn put_price_line<A: Allocator>(
+    text: &mut Vec<u8, A>,
+    paid: u32,
+    visits: u32,
+) -> Result<(), ToolFault>
+    ensures { PutsLine (price_line paid visits) text.old.items text.new.items result }
+{
+    if paid < 10 && visits < 10 {
+        let line = short_line(paid, visits);
+        return match text.extend_from_slice(&line) {
+            Ok(()) => Ok(()),
+            Err(_) => Err(ToolFault::Memory),
+        };
+    }
+    put_priced(text, paid, visits, b"\n")
 }
 
 /// Appends the line of what the walk of a message paid, in words, and how many visits it made. After a fault the text
@@ -44,7 +62,7 @@ pub fn put_price<S: Space, A: Allocator + Copy>(
     ensures { PutsMessageText kinds.Price (S.message space.now) limits text.old.items text.new.items result }
 {
     let surveyed = survey(alloc, space, limits)?;
-    put_priced(text, surveyed.paid, surveyed.visits, b"\n")
+    put_price_line(text, surveyed.paid, surveyed.visits)
 }
 
 /// Appends the line of a bare message's price and number of visits, which says whether its bytes are canonical. It

@@ -143,6 +143,7 @@ impl Service for MessageTexts {
 
     ghost refuses = { spec.refuses };
 
+    #[inline(always)]
     fn serve<S: Space, W: Write, A: Allocator + Copy>(
         &mut self,
         alloc: A,

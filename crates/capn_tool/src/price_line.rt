@@ -1,10 +1,11 @@
 //! The line of a price, written from its end to its beginning.
 
-ghost use Rattle.std.specs.Prelude.{◌≡◌, ◌+◌, ◌≤◌, [], ◌++◌, length};
+ghost use Rattle.std.specs.Prelude.{◌≡◌, ◌+◌, ◌<◌, ◌≤◌, [], ◌++◌, length, OnOk, OnErr};
 ghost use Rattle.std.specs.Fmt.{decimal};
-ghost use Rattle.capn_tool.specs.MessageText.{priced};
+ghost use Rattle.capn_tool.specs.MessageText.{price_line, priced};
 ghost use Rattle.capn_tool.specs.inner.PriceRoom.{most_line};
 
+use std::alloc::{AllocError, Allocator};
 use std::marker::Model;
 
 /// The most bytes of a line.
@@ -29,11 +30,17 @@ impl Model for PriceLine {
 }
 
 impl PriceLine {
-    /// The line of a price and a number of visits, which ends in these bytes.
+    /// Appends the line of a price and a number of visits, which ends in these bytes. Nothing where memory is refused.
     #[inline(always)]
-    pub fn new(paid: u32, visits: u32, end: &[u8]) -> PriceLine
+    pub fn append<A: Allocator>(
+        text: &mut Vec<u8, A>,
+        paid: u32,
+        visits: u32,
+        end: &[u8],
+    ) -> Result<(), AllocError>
         requires { length end.now ≤ 16 }
-        ensures { result ≡ priced paid visits end.now }
+        ensures ok { OnOk result (text.new.items ≡ text.old.items ++ priced paid visits end.now) }
+        ensures err { OnErr result (text.new.items ≡ text.old.items) }
     {
         let mut line = PriceLine {
             bytes: [0; ROOM],
@@ -44,7 +51,7 @@ impl PriceLine {
         line.put(b" visits ");
         line.put_number(paid);
         line.put(b"ok paid ");
-        line
+        text.extend_from_slice(line.as_bytes())
     }
 
     /// What is written of it.
@@ -75,4 +82,18 @@ impl PriceLine {
     {
         self.start = itoa::write_digits(n as u64, &mut self.bytes, self.start);
     }
+}
+
+/// The line of a price and a number of visits of one digit each, as those of a small message are. It has no part whose
+/// length has to be looked at.
+#[inline(always)]
+pub fn short_line(paid: u32, visits: u32) -> [u8; 19]
+    requires paid { paid < 10 }
+    requires visits { visits < 10 }
+    ensures { result ≡ price_line paid visits }
+{
+    let mut line = *b"ok paid 0 visits 0\n";
+    line[8] = b'0' + paid as u8;
+    line[17] = b'0' + visits as u8;
+    line
 }

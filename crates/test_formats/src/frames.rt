@@ -1,7 +1,10 @@
-//! The frame of a message that is read bare, and when a framer is empty.
+//! The frame of a message that is read bare, a frame of one segment that is, and when a framer is empty.
 
-use capn_stream::{Framer, frame};
-use capn_words::Bare;
+ghost use Rattle.std.specs.Prelude.{◌≤◌};
+ghost use Rattle.capn_words.specs.Message.{most_message_words};
+
+use capn_stream::{Framer, first_bare, frame};
+use capn_words::{Bare, Space};
 
 /// A struct of the word 5, framed.
 const FRAMED: [u8; 24] = [
@@ -29,4 +32,35 @@ fn a_framer_is_empty_but_for_what_it_holds(rt: HostRuntime) {
     ];
     assert_eq!(rt; states, [true, true, false]);
     assert!(rt; framer.take().is_some() && framer.is_empty());
+}
+
+/// How many words and bytes the message of one segment takes that stands first in some bytes.
+fn bare_sizes(bytes: &[u8], max_words: u32) -> Option<(Option<u32>, usize)>
+    requires { max_words ≤ most_message_words }
+{
+    let (message, taken) = first_bare(bytes, max_words)?;
+    Some((message.words(0), taken))
+}
+
+/// A frame of two segments, of no word each.
+const TWO: [u8; 16] = [1, 0, 0, 0, 0, 0, 0, 0, 0, 0, 0, 0, 0, 0, 0, 0];
+
+#[test]
+fn a_message_of_one_segment_is_read_bare(rt: HostRuntime) {
+    assert!(rt; bare_sizes(&FRAMED, 2) == Some((Some(2), 24)));
+    assert!(rt;
+        bare_sizes(&TWO[4..], 2) == Some((Some(0), 8)),
+        "a segment of no word"
+    );
+    assert!(rt;
+        bare_sizes(&FRAMED, 1).is_none(),
+        "more words than are allowed"
+    );
+    assert!(rt;
+        bare_sizes(&FRAMED[..23], 2).is_none(),
+        "cut in its contents"
+    );
+    assert!(rt; bare_sizes(&FRAMED[..7], 2).is_none(), "cut in its table");
+    assert!(rt; bare_sizes(&[], 2).is_none());
+    assert!(rt; bare_sizes(&TWO, 2).is_none(), "two segments");
 }

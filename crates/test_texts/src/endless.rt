@@ -4,7 +4,7 @@ use capn_make::{Form, MakeFault, Misfit, Watched, make};
 use std::alloc::Global;
 use std::io::{self, Read};
 
-/// A reader that gives a text and then another one again and again, at most so many bytes a call. It ends after a
+/// A reader that gives a text and then another one again and again, at most this many bytes a call. It ends after a
 /// million bytes, which no run takes.
 #[derive(Drop)]
 struct Endless<'a> {

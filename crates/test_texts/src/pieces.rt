@@ -6,7 +6,7 @@ use std::alloc::Global;
 use std::io::{self, Read, Write};
 use std::test::Fail;
 
-/// A reader that gives at most so many bytes a call.
+/// A reader that gives at most this many bytes a call.
 #[derive(Drop)]
 struct Pieces<'a> {
     rest: &'a [u8],

@@ -2,9 +2,10 @@
 
 use capn_canon::Form;
 use capn_tool::*;
+use capn_value::Tariff;
 use capn_walk::Limits;
 use capn_words::Watched;
-use std::alloc::Global;
+use std::alloc::{AllocError, Global};
 use std::cell::Cell;
 use std::io::{self, Read, Write};
 
@@ -137,4 +138,63 @@ fn ten_thousand_messages_are_written_at_once(rt: HostRuntime) {
     let calls = no_calls();
     assert!(rt; is_checked(rt.alloc(), 10_000, 65_536, &calls));
     assert!(rt; calls.reads.get() == 6 && calls.writes.get() == 5);
+}
+
+/// Structs of this many words and null slots, as they are framed: with 1 to pay for each, these are at the borders
+/// between numbers of one digit and of more.
+const SIZES: [(u8, u8); 6] = [(8, 0), (9, 0), (98, 0), (99, 0), (0, 8), (0, 9)];
+
+/// The lines of their prices.
+const LINES: &[u8] = b"ok paid 9 visits 1\n\
+ok paid 10 visits 1\n\
+ok paid 99 visits 1\n\
+ok paid 100 visits 1\n\
+ok paid 9 visits 9\n\
+ok paid 10 visits 10\n";
+
+/// Appends the frame of a struct of this many words and null slots.
+fn add_struct(stream: &mut Vec<u8>, words: u8, slots: u8) -> Result<(), AllocError> {
+    let content = u16::from(words) + u16::from(slots);
+    let [low, high] = (content + 1).to_le_bytes();
+    let head = [0, 0, 0, 0, low, high, 0, 0, 0, 0, 0, 0, words, 0, slots, 0];
+    stream.extend_from_slice(&head)?;
+    for _ in 0..content {
+        stream.extend_from_slice(&[0; 8])?;
+    }
+    Ok(())
+}
+
+/// The stream of these structs.
+fn structs(alloc: Global, sizes: &[(u8, u8)]) -> Result<Vec<u8>, AllocError> {
+    let mut stream = Vec::new(alloc);
+    for &(words, slots) in sizes {
+        add_struct(&mut stream, words, slots)?;
+    }
+    Ok(stream)
+}
+
+#[test]
+fn lines_have_numbers_of_one_digit_and_of_more(rt: HostRuntime) {
+    let calls = no_calls();
+    let Ok(stream) = structs(rt.alloc(), &SIZES) else {
+        assert!(rt; false, "out of memory");
+        return;
+    };
+    let (outcome, written) = ended(rt.alloc(), check_stream(), &stream, 65_536, &calls);
+    assert!(rt; outcome == Ok(()));
+    assert_eq!(rt; written.as_slice(), LINES);
+}
+
+#[test]
+fn a_number_of_visits_may_be_longer_than_a_price(rt: HostRuntime) {
+    let calls = no_calls();
+    let Ok(stream) = structs(rt.alloc(), &[(0, 9)]) else {
+        assert!(rt; false, "out of memory");
+        return;
+    };
+    let plain = Limits::usual().with_tariff(Tariff::Plain);
+    let command = Command::Check(Form::Stream, plain);
+    let (outcome, written) = ended(rt.alloc(), command, &stream, 65_536, &calls);
+    assert!(rt; outcome == Ok(()));
+    assert_eq!(rt; written.as_slice(), b"ok paid 9 visits 10\n".as_slice());
 }

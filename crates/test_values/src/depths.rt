@@ -1,8 +1,9 @@
 //! The least depth under which a message is accepted.
 
 use crate::words::bytes_of;
+use capn_canon::{MeasuredBare, measure_canonical};
 use capn_walk::{Fault, Limits, Stopped, Surveyed, survey, survey_depth};
-use capn_words::{Bare, Place};
+use capn_words::{Bare, Place, Space};
 use std::alloc::Global;
 use std::test::Fail;
 
@@ -76,4 +77,50 @@ fn a_struct_in_its_own_slot(rt: HostRuntime) -> Result<(), Fail> {
     let told = survey_depth(rt.alloc(), &bare, Limits::usual());
     assert!(rt; matches!(told, Err(stopped) if stopped == want));
     Ok(())
+}
+
+/// What one pass measures of a message that is read bare, within the usual limits with another depth.
+fn measured_at(alloc: Global, words: &[u64], depth: u32) -> Option<MeasuredBare> {
+    let bytes = bytes_of(alloc, words).ok()?;
+    let bare = Bare::new(bytes.as_slice()).ok()?;
+    let usual = Limits::usual();
+    let limits = Limits::new(usual.message_words(), usual.budget(), depth)?;
+    let _segments = bare.segments();
+    measure_canonical(&bare, limits)
+}
+
+/// One pass learns the depth of canonical bytes, whether or not the deepest object is the last one; of no other bytes,
+/// and not past its limits.
+#[test]
+fn one_pass_learns_the_depth(rt: HostRuntime) {
+    // Two slots that lead to a struct with a struct below it, and to a struct with none.
+    let slots = [
+        0x2_0000_0000_0000,
+        0x1_0000_0000_0004,
+        0x1_0000_0008,
+        0x1_0000_0000,
+        7,
+        9,
+    ];
+    // The same below two rows of one slot each.
+    let rows = [
+        0x17_0000_0001,
+        0x1_0000_0000_0008,
+        0x1_0000_0000_0004,
+        0x1_0000_0008,
+        0x1_0000_0000,
+        7,
+        9,
+    ];
+    assert!(rt;
+        measured_at(rt.alloc(), &slots, 64).is_some_and(|told| told.depth == 3
+            && told.survey.paid == 9)
+    );
+    assert!(rt; measured_at(rt.alloc(), &slots, 3).is_some_and(|told| told.depth == 3));
+    assert!(rt; measured_at(rt.alloc(), &slots, 2).is_none());
+    assert!(rt; measured_at(rt.alloc(), &rows, 64).is_some_and(|told| told.depth == 3));
+    assert!(rt; measured_at(rt.alloc(), &rows, 2).is_none());
+    assert!(rt; measured_at(rt.alloc(), &[0], 64).is_some_and(|told| told.depth == 0));
+    // A struct that ends with a zero word.
+    assert!(rt; measured_at(rt.alloc(), &[0x2_0000_0000, 5, 0], 64).is_none());
 }

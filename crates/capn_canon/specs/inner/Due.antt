@@ -41,12 +41,12 @@ module _ (all : List ℕ) (base : ℕ) where
     pub fits : to + sizes_in_rows bs ≤ length all
     pub pays : IsWithin left (visits_of (all ∷ []) base depth (row_places 0 from a b (count_rows bs)))
 
-  -- some value is due at a slot (Own.)
+  -- some value is expected at a slot (Own.)
   pub record DueValue (from to depth left : ℕ) : Type 0 where
     pub value : Tree
     pub due : IsDue from to depth left value
 
-  -- some values are due at `number` slots (Own.)
+  -- some values are expected at `number` slots (Own.)
   pub record DueSlots (from number to depth left : ℕ) : Type 0 where
     pub values : Trees
     pub count : count values ≡ number

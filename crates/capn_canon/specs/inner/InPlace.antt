@@ -1,8 +1,10 @@
--- What one pass over words finds whose objects stand where their layout has them: which values these are, and what
--- their walk pays.
-use Rattle.std.specs.Prelude.{◌≡◌, ℕ, suc, ◌+◌, ◌-◌, ◌*◌, ◌^◌, ◌<◌, ◌≤◌, List, [], ◌∷◌, length, slice_index, None}
+-- What one pass over words finds whose objects stand where their layout has them: which values these are, what their
+-- walk pays, and how high they are.
+use Rattle.std.specs.Prelude.{◌≡◌, ℕ, suc, ◌+◌, ◌-◌, ◌*◌, ◌^◌, ◌<◌, ◌≤◌, min, Bool, IsTrue, List, [], ◌∷◌, length}
+use Rattle.std.specs.Prelude.{slice_index, None}
 use Rattle.capn_words.specs.declared.pointer.Width.{Width}
 use Rattle.capn_value.specs.Tree.{Tree, Trees, Bodies, count, count_rows}
+use Rattle.capn_value.specs.Cost.{height, greatest, greatest_in_rows}
 use Rattle.capn_value.specs.FirstCap.{first_cap, first_in, first_in_rows}
 use Rattle.capn_walk.specs.Accepted.{paid_of, AllPay}
 use Rattle.capn_walk.specs.ValueAt.{IsAt, AreAt, RowsAt}
@@ -22,7 +24,7 @@ pub record Pays (vs : List Visit) (price number : ℕ) : Type 0 where
 
 module _ (all : List ℕ) (base : ℕ) where
   -- a value without capabilities stands at a slot, and its content where its layout has it; its walk, at most `depth`
-  -- objects deep, pays a price and makes so many visits below the slot, no more than it pays (Own.)
+  -- objects deep, pays a price and makes this many visits below the slot, no more than it pays (Own.)
   pub record IsInPlace (from to depth : ℕ) (v : Tree) (price below : ℕ) : Type 0 where
     pub is : IsAt (all ∷ []) (record { segment = 0; word = from }) v
     pub laid : IsLaidAt all v from to
@@ -50,7 +52,7 @@ module _ (all : List ℕ) (base : ℕ) where
         (count_rows bs * b + below)
     pub few : below ≤ price
 
-  -- a pass has come so many words further, and has paid and counted what it met there (Own.)
+  -- a pass has come this many words further, and has paid and counted what it met there (Own.)
   pub record Comes (next left visits size price below : ℕ) (q : Progress) : Type 0 where
     pub next_is : q.next ≡ next + size
     pub left_is : q.left + price ≡ left
@@ -58,48 +60,76 @@ module _ (all : List ℕ) (base : ℕ) where
     pub fits : q.next ≤ length all
     pub few : q.visits ≤ q.next
 
-  -- a value is in place at a slot, after which a pass has come so far (Own.)
-  pub record FindsValue (from to depth left visits : ℕ) (q : Progress) : Type 0 where
+-- where a pass learns how deep it comes, objects so high lower the least depth that was left (Own.)
+abbrev pub IsLowered : Bool → ℕ → ℕ → ℕ → ℕ → Type 0
+IsLowered deep depth height least low = IsTrue deep → least ≤ depth → low ≡ min least (depth - height)
+
+module _ (all : List ℕ) (base : ℕ) (deep : Bool) where
+  -- a value is in place at a slot, after which a pass has come so far, and has lowered the least depth left (Own.)
+  pub record FindsValue (from to depth left visits least : ℕ) (q : Progress) (low : ℕ) : Type 0 where
     pub value : Tree
     pub price : ℕ
     pub below : ℕ
-    pub in_place : IsInPlace from to depth value price below
-    pub comes : Comes to left visits (size value) price below q
+    pub in_place : IsInPlace all base from to depth value price below
+    pub comes : Comes all base to left visits (size value) price below q
+    pub lowered : IsLowered deep depth (height value) least low
 
   -- values are in place at `number` slots, after which a pass has come so far (Own.)
-  pub record FindsSlots (from number to depth left visits : ℕ) (q : Progress) : Type 0 where
+  pub record FindsSlots (from number to depth left visits least : ℕ) (q : Progress) (low : ℕ) : Type 0 where
     pub values : Trees
     pub count : count values ≡ number
     pub price : ℕ
     pub below : ℕ
-    pub in_place : AreInPlace from to depth values price below
-    pub comes : Comes to left visits (sizes values) price below q
+    pub in_place : AreInPlace all base from to depth values price below
+    pub comes : Comes all base to left visits (sizes values) price below q
+    pub lowered : IsLowered deep depth (greatest values) least low
 
   -- and at the slots of `number` rows (Own.)
-  pub record FindsRows (a b from number to depth left visits : ℕ) (q : Progress) : Type 0 where
+  pub record FindsRows (a b from number to depth left visits least : ℕ) (q : Progress) (low : ℕ) : Type 0 where
     pub values : Bodies
     pub count : count_rows values ≡ number
     pub price : ℕ
     pub below : ℕ
-    pub in_place : RowsInPlace a b from to depth values price below
-    pub comes : Comes to left visits (sizes_in_rows values) price below q
+    pub in_place : RowsInPlace all base a b from to depth values price below
+    pub comes : Comes all base to left visits (sizes_in_rows values) price below q
+    pub lowered : IsLowered deep depth (greatest_in_rows values) least low
 
-  -- at the first slot in hand (Own.)
-  abbrev pub FindsFirst : Pass → Progress → Type 0
-  FindsFirst p = FindsValue p.from p.next p.depth p.left p.visits
+  -- at the first slot in hand, where the least depth left was so (Own.)
+  abbrev pub FindsFirst : Pass → ℕ → Progress → ℕ → Type 0
+  FindsFirst p least = FindsValue p.from p.next p.depth p.left p.visits least
 
   -- at all slots in hand (Own.)
-  abbrev pub Finds : Pass → Progress → Type 0
-  Finds p = FindsSlots p.from (p.end - p.from) p.next p.depth p.left p.visits
+  abbrev pub Finds : Pass → ℕ → Progress → ℕ → Type 0
+  Finds p least = FindsSlots p.from (p.end - p.from) p.next p.depth p.left p.visits least
 
   -- at the slots of all rows in hand (Own.)
-  abbrev pub FindsInRows : RowPass → Progress → Type 0
-  FindsInRows r = FindsRows r.tag.words r.tag.slots r.pass.from r.tag.count r.pass.next r.pass.depth r.pass.left
-      r.pass.visits
+  abbrev pub FindsInRows : RowPass → ℕ → Progress → ℕ → Type 0
+  FindsInRows r least = FindsRows r.tag.words r.tag.slots r.pass.from r.tag.count r.pass.next r.pass.depth r.pass.left
+      r.pass.visits least
 
   -- what is found at the slots of a later pass is found at those of this one (Own.)
-  abbrev pub Leads : Pass → Pass → Type 0
-  Leads p r = (q : Progress) → Finds r q → Finds p q
+  abbrev pub Leads : Pass → ℕ → Pass → ℕ → Type 0
+  Leads p least r later = (q : Progress) (low : ℕ) → Finds r later q low → Finds p least q low
+
+-- the least depth left, once it is lowered to one that is left (Own.)
+abbrev pub IsLeast : Bool → ℕ → ℕ → ℕ → Type 0
+IsLeast deep depth least low = IsTrue deep → low ≡ min least depth
+
+module _ (all : List ℕ) (base : ℕ) where
+  -- an object without slots is in place at the first slot in hand (Own.)
+  abbrev pub FindsPlain : Pass → Progress → Type 0
+  FindsPlain p q = (deep : Bool) (least low : ℕ) → IsLeast deep (p.depth - 1) least low
+      → FindsFirst all base deep p least q low
+
+  -- what is found at the slots of an object lets it be found at the first slot in hand, which points to it (Own.)
+  abbrev pub Opens : Pass → Pass → Type 0
+  Opens p r = (deep : Bool) (least here : ℕ) (q : Progress) (low : ℕ) → IsLeast deep r.depth least here
+      → Finds all base deep r here q low → FindsFirst all base deep p least q low
+
+  -- so does what is found at the slots of its rows (Own.)
+  abbrev pub OpensRows : Pass → RowPass → Type 0
+  OpensRows p r = (deep : Bool) (least here : ℕ) (q : Progress) (low : ℕ) → IsLeast deep r.pass.depth least here
+      → FindsInRows all base deep r here q low → FindsFirst all base deep p least q low
 
 -- the slots in hand stand below the next free word, which is no word past the end, and no more slots were met than
 -- words (Own.)

@@ -21,7 +21,8 @@ use Rattle.capn_make.specs.declared.fault.MakeFault.TheVariants as faults
 abbrev pub HasNotRead : Bool → MakeFault → Type 0
 HasNotRead failed fault = ((fault ≡ faults.Memory) × (failed ≡ false)) ⊎ ((fault ≡ faults.Io) × (failed ≡ true))
 
--- A reader gave so many more bytes of an input, none only at its end; or it failed, or memory was refused, after some.
+-- A reader gave this many more bytes of an input, none only at its end; or it failed, or memory was refused, after
+-- some.
 abbrev pub GivesBytes : Option (List ℕ) → Bool → List ℕ → List ℕ → List ℕ → Result ℕ MakeFault → Type 0
 GivesBytes b failed old new bytes (Ok count) = (new ≡ old ++ bytes) × (count ≡ length bytes) × (count ≡ 0 → IsAtEnd b)
     × (failed ≡ false)
@@ -74,7 +75,7 @@ abbrev pub TellsRefusal : Form → List ℕ → Place → List ℕ → Option Ma
 TellsRefusal form input place made (Some fault) = IsMadeSo form input made (Err fault) × IsWhole input fault
 TellsRefusal form input place made None = HasMade form input place made × (IsRefusedForGood form input → ⊥)
 
--- So many of the bytes that are left were tested, with all before them: they are not refused whatever follows.
+-- This many of the bytes that are left were tested, with all before them: they are not refused whatever follows.
 pub record HasTested (form : Form) (tested : ℕ) (input rest : List ℕ) : Type 0 where
   pub front : List ℕ
   pub more : List ℕ

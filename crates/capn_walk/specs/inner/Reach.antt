@@ -38,8 +38,8 @@ module _ (message : List (List ℕ)) where
   abbrev pub reach_of : ℕ → List Place → ℕ
   reach_of d ps = greatest_of (reach d) ps
 
--- how many objects stand one below another down to that of a visit, where so many may and the depth left is known: none
--- where it is a visit of a capability
+-- how many objects stand one below another down to that of a visit, where this many may and the depth left is known:
+-- none where it is a visit of a capability
 abbrev pub levels_at : ℕ → ℕ → Option ℕ → ℕ
 levels_at limit depth None = limit + 1 - depth
 levels_at limit depth (Some k) = 0

@@ -2,7 +2,7 @@ use Rattle.std.proofs.Common.{[], ◌∷◌, ap, ◌∙◌}
 use Rattle.capn_value.specs.FirstCap.{first_cap}
 use Rattle.capn_walk.specs.Accepted.{root}
 use Rattle.capn_walk.proofs.shared.Unique.{unique}
-use Rattle.capn_canon.proofs.Compared.{not-true}
+use Rattle.capn_canon.proofs.places.Compared.{not-true}
 use Rattle.capn_canon.proofs.bare_verdict.survey_bare.Goals as goal
 
 pub returns-in-Some-clause-only : goal.returns-in-Some-clause-only

@@ -1,7 +1,7 @@
 use Rattle.std.proofs.Common.{◌∙◌, ◌+◌, ◌-◌, ◌*◌, ◌++◌, [], ◌∷◌, ap, sym, ℕ, drop, map, List, append_assoc}
 use Rattle.std.specs.Int.{from_bool}
 use Rattle.capn_canon.specs.Layout.{number, packed}
-use Rattle.capn_canon.proofs.PackedBits.{packed-next, chunk-is}
+use Rattle.capn_canon.proofs.layouts.PackedBits.{packed-next, chunk-is}
 use Rattle.capn_canon.proofs.bits.extend_bits.Goals as goal
 
 pub loop-i-preserved : goal.loop-i-preserved

@@ -2,7 +2,7 @@ use Rattle.std.proofs.Common.{◌≡◌, ◌∙◌, ◌-◌, ap, sym, ℕ, lengt
 use Rattle.std.proofs.lemmas.List.{drop_all}
 use Rattle.std.specs.Int.{from_bool}
 use Rattle.capn_canon.specs.Layout.{number}
-use Rattle.capn_canon.proofs.PackedBits.{bits-next, bit-below, fits-word, one-bit}
+use Rattle.capn_canon.proofs.layouts.PackedBits.{bits-next, bit-below, fits-word, one-bit}
 use Rattle.capn_canon.proofs.bits.word_of_bits.Goals as goal
 
 pub loop-i-init : goal.loop-i-init

@@ -1,5 +1,5 @@
 use Rattle.std.proofs.Common.{arith}
-use Rattle.capn_canon.proofs.OfMessages.{answered_short, answered_form}
+use Rattle.capn_canon.proofs.calls.OfMessages.{answered_short, answered_form}
 use Rattle.capn_canon.proofs.canonical.canonical_of.Goals as goal
 
 pub returns-clause-short : goal.returns-clause-short

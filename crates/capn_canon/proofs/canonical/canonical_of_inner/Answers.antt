@@ -1,7 +1,7 @@
 use Rattle.std.proofs.Common.{sym, arith, subst, ℕ}
 use Rattle.capn_canon.specs.inner.MessageSlots.{HasSlot}
 use Rattle.capn_canon.specs.inner.Ready.{IsReady}
-use Rattle.capn_canon.proofs.AtRoot.{root-ready}
+use Rattle.capn_canon.proofs.calls.AtRoot.{root-ready}
 use Rattle.capn_canon.proofs.canonical.canonical_of_inner.Goals as goal
 
 pub bytes_of-requires : goal.bytes_of-requires

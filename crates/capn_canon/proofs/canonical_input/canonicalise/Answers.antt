@@ -1,8 +1,8 @@
 -- The clauses on the bytes follow from what is answered and refused, by the laws of canonical forms.
 use Rattle.std.proofs.Common.{arith}
-use Rattle.capn_canon.proofs.InEachForm.{found_only, found_short, found_form}
+use Rattle.capn_canon.proofs.calls.InEachForm.{found_only, found_short, found_form}
 use Rattle.std.proofs.lemmas.Result.{IfOk-weaker}
-use Rattle.capn_canon.proofs.TheTheorem.{answered, equal_exactly, own_form, within_budget}
+use Rattle.capn_canon.proofs.theorem.TheTheorem.{answered, equal_exactly, own_form, within_budget}
 use Rattle.capn_canon.proofs.canonical_input.canonicalise.Goals as goal
 
 pub returns-clause-only : goal.returns-clause-only

@@ -1,7 +1,7 @@
 -- What is answered or refused for the message is so for its words.
 use Rattle.std.proofs.Common.{[], ◌∷◌}
-use Rattle.capn_canon.proofs.InEachForm.{bare_reads, canonicalised_as}
-use Rattle.capn_canon.proofs.MemoryNeeds.{bare_bytes_wanted}
+use Rattle.capn_canon.proofs.calls.InEachForm.{bare_reads, canonicalised_as}
+use Rattle.capn_canon.proofs.calls.MemoryNeeds.{bare_bytes_wanted}
 use Rattle.capn_canon.proofs.canonical_input.of_bare.Goals as goal
 
 pub returns-in-Ok : goal.returns-in-Ok

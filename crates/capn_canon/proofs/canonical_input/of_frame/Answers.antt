@@ -1,8 +1,8 @@
 -- What is answered or refused for the message is so for its frame.
 use Rattle.std.proofs.Common.{subst, ℕ, arith}
 use Rattle.capn_canon.specs.Reads.{IsFramed}
-use Rattle.capn_canon.proofs.InEachForm.{frame_reads, canonicalised_as}
-use Rattle.capn_canon.proofs.MemoryNeeds.{framed_bytes_wanted}
+use Rattle.capn_canon.proofs.calls.InEachForm.{frame_reads, canonicalised_as}
+use Rattle.capn_canon.proofs.calls.MemoryNeeds.{framed_bytes_wanted}
 use Rattle.capn_canon.proofs.canonical_input.of_frame.Goals as goal
 
 pub returns-else-taken-bytes : goal.returns-else-taken-bytes

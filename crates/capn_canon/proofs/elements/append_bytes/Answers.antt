@@ -1,6 +1,6 @@
 use Rattle.std.proofs.Common.{◌∙◌, ap, List, ℕ, ◌++◌, length, replicate}
 use Rattle.capn_canon.specs.inner.PaddedBytes.{pad}
-use Rattle.capn_canon.proofs.PackedBytes.{written_over}
+use Rattle.capn_canon.proofs.layouts.PackedBytes.{written_over}
 use Rattle.capn_canon.proofs.elements.append_bytes.Goals as goal
 
 pub returns-clause-ok : goal.returns-clause-ok

@@ -2,7 +2,7 @@ use Rattle.std.proofs.Common.{◌≡◌, ◌∙◌, ap, sym, List, ℕ, ◌++◌
 use Rattle.std.specs.List.{flat_map}
 use Rattle.byteorder.specs.Endian.{little_bytes}
 use Rattle.capn_canon.specs.inner.PaddedBytes.{pad}
-use Rattle.capn_canon.proofs.PackedBytes.{written_over, length-numbers}
+use Rattle.capn_canon.proofs.layouts.PackedBytes.{written_over, length-numbers}
 use Rattle.capn_canon.proofs.elements.append_octs.Goals as goal
 
 pub returns-clause-ok : goal.returns-clause-ok

@@ -1,6 +1,6 @@
 use Rattle.std.proofs.Common.{◌≢◌, ◌+◌, ◌-◌, ◌∙◌, slice_index}
 use Rattle.capn_words.specs.Message.{segment_at}
-use Rattle.capn_canon.proofs.Cut.{kept-found, kept-least}
+use Rattle.capn_canon.proofs.layouts.Cut.{kept-found, kept-least}
 use Rattle.capn_canon.proofs.kept.kept_above.Goals as goal
 
 pub returns-then-word-ne0 : goal.returns-then-word-ne0

@@ -1,6 +1,6 @@
 use Rattle.std.proofs.Common.{◌≤◌}
 use Rattle.capn_words.specs.Message.{segment_at}
-use Rattle.capn_canon.proofs.Cut.{AreZeros}
+use Rattle.capn_canon.proofs.layouts.Cut.{AreZeros}
 use Rattle.capn_canon.proofs.kept.kept_above.Given as goal
 
 abbrev pub invariant-loop-kept : goal.invariant-loop-kept

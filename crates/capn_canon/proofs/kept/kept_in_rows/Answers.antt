@@ -2,8 +2,8 @@ use Rattle.std.proofs.Common.{◌≡◌, ◌+◌, ◌-◌, ◌*◌, ◌∙◌, a
 use Rattle.capn_walk.specs.ValueAt.{words_from}
 use Rattle.capn_walk.proofs.shared.RowWalks.{row-inside}
 use Rattle.capn_walk.proofs.shared.Segments.{segment-room}
-use Rattle.capn_canon.proofs.Cut.{part-le}
-use Rattle.capn_canon.proofs.EachRow.{kept-begins, kept-more, kept-full, kept-ends}
+use Rattle.capn_canon.proofs.layouts.Cut.{part-le}
+use Rattle.capn_canon.proofs.content.EachRow.{kept-begins, kept-more, kept-full, kept-ends}
 use Rattle.capn_canon.proofs.kept.kept_in_rows.Goals as goal
 
 pub loop-row-init : goal.loop-row-init

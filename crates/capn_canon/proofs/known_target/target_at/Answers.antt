@@ -8,7 +8,7 @@ use Rattle.capn_walk.specs.declared.target.Target.TheVariants as targets
 use Rattle.capn_walk.specs.declared.target.Shape.TheVariants as shapes
 use Rattle.capn_walk.proofs.shared.Segments.{segment-room}
 use Rattle.capn_walk.proofs.shared.Present.{present}
-use Rattle.capn_canon.proofs.FoundNear.{near-null, near-struct, near-list, not-composite}
+use Rattle.capn_canon.proofs.check.FoundNear.{near-null, near-struct, near-list, not-composite}
 use Rattle.capn_canon.proofs.known_target.target_at.Goals as goal
 
 pub returns-in-Nil : goal.returns-in-Nil

@@ -1,5 +1,5 @@
-use Rattle.capn_canon.proofs.EqualExactlySame.{equal_exactly_same}
-use Rattle.capn_canon.proofs.Headline.{canonical_form}
+use Rattle.capn_canon.proofs.theorem.EqualExactlySame.{equal_exactly_same}
+use Rattle.capn_canon.proofs.theorem.Headline.{canonical_form}
 use Rattle.capn_canon.proofs.laws.canonicity.Goals as goal
 
 pub returns-clause-form : goal.returns-clause-form

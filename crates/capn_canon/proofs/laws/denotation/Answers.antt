@@ -1,4 +1,4 @@
-use Rattle.capn_canon.proofs.Headline.{denoted_has_form}
+use Rattle.capn_canon.proofs.theorem.Headline.{denoted_has_form}
 use Rattle.capn_canon.proofs.shared.NotRefused.{not_refused}
 use Rattle.capn_canon.proofs.shared.OneReading.{one_value}
 use Rattle.capn_canon.proofs.shared.OneRefusal.{one_refusal}

@@ -1,5 +1,5 @@
 use Rattle.std.proofs.lemmas.Result.{IfOk-weaker}
-use Rattle.capn_canon.proofs.TheTheorem.{answered, equal_exactly, own_form, within_budget}
+use Rattle.capn_canon.proofs.theorem.TheTheorem.{answered, equal_exactly, own_form, within_budget}
 use Rattle.capn_canon.proofs.laws.theorem.Goals as goal
 
 pub returns-clause-answered : goal.returns-clause-answered

@@ -3,7 +3,7 @@ use Rattle.std.specs.Prelude.{◌==◌, slice_index, bit_and}
 use Rattle.std.specs.Int.{w64, bit_at}
 use Rattle.std.proofs.lemmas.List.{get_or_read}
 use Rattle.std.proofs.lemmas.Nat.Bits.{bit_at_clear_same, bit_at_clear_other}
-use Rattle.capn_canon.proofs.Flags.{marked-here, marked-others}
+use Rattle.capn_canon.proofs.writer.Flags.{marked-here, marked-others}
 use Rattle.capn_canon.proofs.marks.unmark.Goals as goal
 
 pub returns-clause-here : goal.returns-clause-here

@@ -1,14 +1,11 @@
-use Rattle.std.proofs.Common.{◌≡◌, ℕ, ◌+◌, ◌*◌, ◌^◌, ◌<◌, ◌≤◌, ap, subst, ◌∙◌, arith, length}
-use Rattle.capn_words.specs.Message.{segment_at}
+use Rattle.std.proofs.Common.{ℕ, ◌*◌, ap, subst, ◌∙◌, arith}
 use Rattle.capn_words.specs.declared.pointer.Width.{Width}
-use Rattle.capn_words.specs.declared.pointer.Width.TheVariants.{Link}
 use Rattle.capn_walk.specs.declared.target.Shape.{Shape}
 use Rattle.capn_walk.specs.declared.target.Shape.TheVariants as shapes
 use Rattle.capn_walk.specs.Shapes.{IsContent, RowsFit, extent}
 use Rattle.capn_walk.specs.ValueAt.{IsInside}
 use Rattle.capn_walk.proofs.shared.Ranges.{HasRoom}
-use Rattle.capn_walk.proofs.shared.Segments.{segment-room}
-use Rattle.capn_canon.proofs.MessageItems.{struct-rows, links-rows, all-rows, numbers-packed, plain-width}
+use Rattle.capn_canon.proofs.writer.MessageItems.{struct-rows, links-rows, all-rows, numbers-packed, plain-width}
 use Rattle.capn_canon.proofs.message_slots.item_at.Goals as goal
 
 pub returns-in-Node : goal.returns-in-Node

@@ -1,9 +1,9 @@
 use Rattle.std.proofs.Common.{◌*◌, ◌/◌, ◌%◌, ◌^◌, arith}
 use Rattle.capn_words.specs.Message.{segment_at}
 use Rattle.capn_walk.specs.ValueAt.{words_from}
-use Rattle.capn_canon.proofs.Copied.{whole-bytes}
-use Rattle.capn_canon.proofs.Copied.{copy-of}
-use Rattle.capn_canon.proofs.FirstBits.{bits-appended, words-appended, shifted-one}
+use Rattle.capn_canon.proofs.content.Copied.{whole-bytes}
+use Rattle.capn_canon.proofs.content.Copied.{copy-of}
+use Rattle.capn_canon.proofs.content.FirstBits.{bits-appended, words-appended, shifted-one}
 use Rattle.capn_canon.proofs.number_list_words.append_bits.Goals as goal
 
 pub returns-in_ok-push : goal.returns-in_ok-push

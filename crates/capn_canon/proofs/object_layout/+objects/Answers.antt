@@ -1,4 +1,4 @@
-use Rattle.std.proofs.Common.{◌≡◌, ℕ, suc, ◌+◌, ◌-◌, ◌*◌, ◌^◌, ◌<◌, ◌≤◌, List, length, set, ap, sym, subst, ◌∙◌, arith}
+use Rattle.std.proofs.Common.{◌≡◌, ℕ, ◌+◌, ◌-◌, length, set, ap, sym, subst, ◌∙◌, arith}
 use Rattle.std.proofs.Common.{refl}
 use Rattle.std.proofs.lemmas.Result.{on_ok_weaker}
 use Rattle.capn_value.specs.Tree.{Tree}
@@ -6,12 +6,14 @@ use Rattle.capn_canon.specs.declared.source.Item.{Item}
 use Rattle.capn_canon.specs.Layout.{point, list_to}
 use Rattle.capn_canon.specs.inner.LayoutSteps.{laid}
 use Rattle.capn_canon.specs.inner.Source.{IsItem}
-use Rattle.capn_canon.proofs.Blocks.{opened-room, opened-first, one-ready, one-laid, all-ready, all-inside, all-laid}
-use Rattle.capn_canon.proofs.Blocks.{struct-one, links-one}
-use Rattle.capn_canon.proofs.Stepwise.{next-ready, then-inside, then-ready, then-rest, slots-start, slots-end}
-use Rattle.capn_canon.proofs.Stepwise.{row-ready}
-use Rattle.capn_canon.proofs.Stepwise.{row-then-inside, row-then-ready, row-then-rest, rows-end, rows-empty, laid-plain}
-use Rattle.capn_canon.proofs.Stepwise.{laid-nil, laid-cap, one-more}
+use Rattle.capn_canon.proofs.writer.Blocks.{opened-room, opened-first, one-ready, one-laid, all-ready, all-inside}
+use Rattle.capn_canon.proofs.writer.Blocks.{all-laid}
+use Rattle.capn_canon.proofs.writer.Blocks.{struct-one, links-one}
+use Rattle.capn_canon.proofs.writer.Stepwise.{next-ready, then-inside, then-ready, then-rest, slots-start, slots-end}
+use Rattle.capn_canon.proofs.writer.Stepwise.{row-ready}
+use Rattle.capn_canon.proofs.writer.Stepwise.{row-then-inside, row-then-ready, row-then-rest, rows-end, rows-empty}
+use Rattle.capn_canon.proofs.writer.Stepwise.{laid-plain}
+use Rattle.capn_canon.proofs.writer.Stepwise.{laid-nil, laid-cap, one-more}
 use Rattle.capn_canon.proofs.object_layout.+objects.Goals as goal
 
 -- ---- a slot

@@ -1,7 +1,7 @@
 use Rattle.std.proofs.Common.{ℕ, [], ◌∷◌, ◌++◌, List, length, ap, sym, subst, ◌∙◌, arith}
 use Rattle.capn_words.specs.Message.{bytes}
 use Rattle.capn_canon.specs.inner.Ready.{IsReady}
-use Rattle.capn_canon.proofs.Stepwise.{laid-words}
+use Rattle.capn_canon.proofs.writer.Stepwise.{laid-words}
 use Rattle.capn_canon.proofs.object_layout.canonical_bytes.Goals as goal
 
 pub lay_slot-requires-clause-ready : goal.lay_slot-requires-clause-ready

@@ -1,7 +1,6 @@
 use Rattle.std.proofs.Common.{◌≡◌, inl, inr, ℕ, suc, ◌+◌, ◌-◌, ◌*◌, ◌^◌, ◌<◌, ◌≤◌, List, [], ◌∷◌, length}
-use Rattle.std.proofs.Common.{refl, ◌%◌}
+use Rattle.std.proofs.Common.{refl, ◌%◌, Bool, not, nat_eq}
 use Rattle.std.proofs.Common.{ap, sym, subst, ◌∙◌, arith}
-use Rattle.std.proofs.lemmas.Nat.{and_mask}
 use Rattle.capn_walk.specs.declared.target.Shape.TheVariants as shapes
 use Rattle.capn_walk.proofs.shared.RowWalks.{row-inside}
 use Rattle.capn_walk.proofs.shared.Segments.{segment-room}
@@ -9,55 +8,63 @@ use Rattle.capn_canon.specs.declared.progress.Progress.{Progress}
 use Rattle.capn_canon.specs.declared.progress.Pass.{Pass}
 use Rattle.capn_canon.specs.inner.InPlace.{FindsSlots, FindsRows, FindsFirst, Finds, HasObject, IsOpen, Leads}
 use Rattle.capn_canon.specs.inner.Due.{Due, DueSlots, DueRows}
-use Rattle.capn_canon.proofs.DueObjects.{due-deep, due-near, due-price}
-use Rattle.capn_canon.proofs.DueSlots.{due-first, goes-due, row-due, rows-due}
-use Rattle.capn_canon.proofs.OneSegment.{names-empty}
-use Rattle.capn_canon.proofs.PassLeads.{if-some, behind, come, finds-none, finds-null, finds-empty}
-use Rattle.capn_canon.proofs.PassLeads.{finds-bare-rows, finds-no-rows, finds-row, goes-behind, last-leads}
+use Rattle.capn_canon.proofs.check.DueObjects.{due-deep, due-near, due-price}
+use Rattle.capn_canon.proofs.check.DueSlots.{due-first, goes-due, row-due, rows-due}
+use Rattle.capn_canon.proofs.reading.OneSegment.{names-empty}
+use Rattle.capn_canon.proofs.check.PassLeads.{if-some, behind, come, finds-none, finds-null, finds-empty}
+use Rattle.capn_canon.proofs.check.PassLeads.{finds-bare-rows, finds-no-rows, finds-row, goes-behind, last-leads}
 use Rattle.capn_canon.proofs.one_pass.+pass.Goals as goal
 
 -- ---- slots
 
 pub check_slots-returns : goal.check_slots-returns
-check_slots-returns t c =
+check_slots-returns g t c =
     let p = c.args.pass in
     let r = c.loop-left.left in
     let v = c.loop-left.invariant in
-    let found = v.leads (come r) (finds-none c.args.space.now c.args.base r c.loop-left-test.false v.opened) in
+    let deep = not (nat_eq g.row.DEEP 0) in
+    let low = c.loop-left.least in
+    let found = v.leads (come r) low
+    (finds-none c.args.space.now c.args.base deep r low c.loop-left-test.false v.opened) in
     record {
-      found = subst (λ (q : Progress). Finds c.args.space.now c.args.base p q) (sym c.here.ensures) found;
+      found = subst (λ (q : Progress). Finds c.args.space.now c.args.base deep p c.args.least.now q low)
+          (sym c.here.ensures) found;
       only = λ h. refl;
     }
 
 pub check_slots-returns-in-None-clause-only : goal.check_slots-returns-in-None-clause-only
-check_slots-returns-in-None-clause-only t c h = absurd (c.in-None.ensures.only (c.loop-left.invariant.due h))
+check_slots-returns-in-None-clause-only g t c h = absurd (c.in-None.ensures.only (c.loop-left.invariant.due h))
 
 -- ---- a slot
 
 -- the pass goes on with the slots after the first
-record GoesOn (all : List ℕ) (base : ℕ) (p r : Pass) : Type 0 where
-  found : (p.from < r.from) × IsOpen all r × Leads all base p r
+record GoesOn (all : List ℕ) (base : ℕ) (deep : Bool) (p : Pass) (least : ℕ) (r : Pass) (here : ℕ) : Type 0 where
+  found : (p.from < r.from) × IsOpen all r × Leads all base deep p least r here
   only : Due all base p → Due all base r
 
-goes-on : (all : List ℕ) (base : ℕ) (p : Pass) → p.from < p.end → IsOpen all p → (g : Progress)
-    → FindsFirst all base p g → (r : Pass) → r ≡ behind p g → GoesOn all base p r
-goes-on all base p some o g f r e = record {
-  found = goes-behind all base p some o g f r e;
-  only = λ h. goes-due all base p some o h g f r e;
+goes-on : (all : List ℕ) (base : ℕ) (deep : Bool) (p : Pass) (least here : ℕ) → p.from < p.end → IsOpen all p
+    → (q : Progress) → FindsFirst all base deep p least q here → (r : Pass) → r ≡ behind p q
+    → GoesOn all base deep p least r here
+goes-on all base deep p least here some o q f r e = record {
+  found = goes-behind all base deep p least here some o q f r e;
+  only = λ h. goes-due all base p some o h q f r e;
 }
 
 pub check_slot-returns-then-word-eq0 : goal.check_slot-returns-then-word-eq0
-check_slot-returns-then-word-eq0 t c =
+check_slot-returns-then-word-eq0 g t c =
     let all = c.args.space.now in
     let p = c.args.pass in
     let o = c.requires.opened in
     let z = sym c.word_at-word.ensures ∙ c.if-word-eq0.true in
-    let go = goes-on all c.args.base p c.requires.some o (come p) (finds-null all c.args.base p o z) c.behind.result
+    let deep = not (nat_eq g.row.DEEP 0) in
+    let least = c.args.least.now in
+    let go = goes-on all c.args.base deep p least least c.requires.some o (come p)
+    (finds-null all c.args.base deep p least o z) c.behind.result
     (c.behind.ensures ∙ ap (behind p) c.here.ensures) in
     record { found = go.found; only = go.only }
 
 pub check_slot-returns-then-pass-eq0-clause-only : goal.check_slot-returns-then-pass-eq0-clause-only
-check_slot-returns-then-pass-eq0-clause-only t c h =
+check_slot-returns-then-pass-eq0-clause-only g t c h =
     let all = c.args.space.now in
     let p = c.args.pass in
     due-deep all c.args.base p.from p.next p.depth p.left
@@ -65,7 +72,7 @@ check_slot-returns-then-pass-eq0-clause-only t c h =
     (λ z. c.if-word-eq0.false (c.word_at-word.ensures ∙ z)) c.if-pass-eq0.true
 
 pub check_slot-returns-in-Some : goal.check_slot-returns-in-Some
-check_slot-returns-in-Some t c =
+check_slot-returns-in-Some g t c =
     let all = c.args.space.now in
     let p = c.args.pass in
     let opened = c.requires.opened in
@@ -77,13 +84,15 @@ check_slot-returns-in-Some t c =
     let room = segment-room (all ∷ []) 0 c.requires.message (omega arith) in
     let small : length all ≤ 2 ^ 29 = omega arith in
     let h = c.in-Some.ensures.found in
-    let go = goes-on all c.args.base p s opened c.in-Some.progress
-    (finds-empty all c.args.base p o small (sym c.word_at-word.ensures ∙ c.if-word-eq-EMPTY.true)
-    c.in-Some.progress h.0 h.1 h.2) c.behind-in-Some.result c.behind-in-Some.ensures in
+    let deep = not (nat_eq g.row.DEEP 0) in
+    let go = goes-on all c.args.base deep p c.args.least.now c.lower.new.least s opened c.in-Some.progress
+    (finds-empty all c.args.base deep p o small (sym c.word_at-word.ensures ∙ c.if-word-eq-EMPTY.true)
+    c.in-Some.progress h.0 h.1 h.2 c.args.least.now c.lower.new.least c.lower.ensures) c.behind-in-Some.result
+    c.behind-in-Some.ensures in
     record { found = go.found; only = go.only }
 
 pub check_slot-returns-in-None-clause-only : goal.check_slot-returns-in-None-clause-only
-check_slot-returns-in-None-clause-only t c h =
+check_slot-returns-in-None-clause-only g t c h =
     let all = c.args.space.now in
     let p = c.args.pass in
     let s = c.requires.some in
@@ -98,7 +107,7 @@ check_slot-returns-in-None-clause-only t c h =
     absurd (cc)
 
 pub check_slot-returns-clause-only : goal.check_slot-returns-clause-only
-check_slot-returns-clause-only t c h =
+check_slot-returns-clause-only g t c h =
     let all = c.args.space.now in
     let p = c.args.pass in
     let s = c.requires.some in
@@ -108,7 +117,7 @@ check_slot-returns-clause-only t c h =
     let near = due-near all c.args.base p.from p.next p.depth p.left (due-first all c.args.base p s c.requires.opened h)
     (omega arith) (omega arith) (λ z. c.if-word-eq0.false (c.word_at-word.ensures ∙ z)) in
     let e = c.word_at-word.ensures in
-    let m = and_mask c.word_at-word.result 32 ∙ ap (λ (x : ℕ). x % 2 ^ 32) e in
+    let m = ap (λ (x : ℕ). x % 2 ^ 32) e in
     elim near as (λ _. ⊥) [
       | inl x ↦ c.if-word-eq-EMPTY.false (e ∙ x)
       | inr y ↦ elim y as (λ _. ⊥) [ inl u ↦ c.if-low-near.false (m ∙ u) | inr u ↦ c.if-low-near-2.false (m ∙ u) ]
@@ -117,11 +126,11 @@ check_slot-returns-clause-only t c h =
 -- ---- a struct
 
 pub check_struct-returns-in-None-clause-only : goal.check_struct-returns-in-None-clause-only
-check_struct-returns-in-None-clause-only t c nz h = c.in-None.ensures.only nz
+check_struct-returns-in-None-clause-only g t c nz h = c.in-None.ensures.only nz
     (due-first c.args.space.now c.args.base c.args.pass c.requires.object.some c.requires.object.opened h)
 
 pub check_struct-returns-in-Some : goal.check_struct-returns-in-Some
-check_struct-returns-in-Some t c = record {
+check_struct-returns-in-Some g t c = record {
   found = c.check_below.ensures.found;
   only = λ nz h. c.check_below.ensures.only
       (c.in-Some.ensures.only nz
@@ -131,45 +140,52 @@ check_struct-returns-in-Some t c = record {
 -- ---- the slots of an object
 
 pub check_below-returns-then-pass : goal.check_below-returns-then-pass
-check_below-returns-then-pass t c = record {
+check_below-returns-then-pass g t c = record {
   found = (
     c.requires.later,
     c.requires.opened,
-    (λ q f. last-leads c.args.space.now c.args.base c.args.pass c.if-pass.true c.requires.object.opened q
-        (c.requires.named q f)),
+    (λ q low f. last-leads c.args.space.now c.args.base (not (nat_eq g.row.DEEP 0)) c.args.pass c.args.least.now
+        c.if-pass.true c.requires.object.opened q low
+        (c.requires.named (not (nat_eq g.row.DEEP 0)) c.args.least.now c.lower.new.least q low c.lower.ensures f)),
   );
   only = λ d h. d;
 }
 
 pub check_below-returns-in-None-clause-only : goal.check_below-returns-in-None-clause-only
-check_below-returns-in-None-clause-only t c d h =
+check_below-returns-in-None-clause-only g t c d h =
     let e = c.in-None.ensures.only d in
     absurd (cc)
 
 pub check_below-returns-then-below : goal.check_below-returns-then-below
-check_below-returns-then-below t c =
+check_below-returns-then-below g t c =
     let all = c.args.space.now in
     let p = c.args.pass in
     let b = c.args.below in
     let le = c.if-below.true in
     let o = c.requires.object in
-    let go = goes-on all c.args.base p o.some o.opened (come b)
-    (c.requires.named (come b) (finds-none all c.args.base b (omega arith) c.requires.opened)) c.behind.result
+    let deep = not (nat_eq g.row.DEEP 0) in
+    let here = c.lower.new.least in
+    let go = goes-on all c.args.base deep p c.args.least.now here o.some o.opened (come b)
+    (c.requires.named deep c.args.least.now here (come b) here c.lower.ensures
+    (finds-none all c.args.base deep b here (omega arith) c.requires.opened)) c.behind.result
     (c.behind.ensures ∙ ap (behind p) c.here.ensures) in
     record { found = go.found; only = λ d. go.only }
 
 pub check_below-returns-in-Some : goal.check_below-returns-in-Some
-check_below-returns-in-Some t c =
-    let g = c.in-Some.progress in
+check_below-returns-in-Some g t c =
+    let q = c.in-Some.progress in
     let o = c.requires.object in
-    let go = goes-on c.args.space.now c.args.base c.args.pass o.some o.opened g
-    (c.requires.named g c.in-Some.ensures.found) c.behind-in-Some.result c.behind-in-Some.ensures in
+    let deep = not (nat_eq g.row.DEEP 0) in
+    let low = c.check_object.new.least in
+    let go = goes-on c.args.space.now c.args.base deep c.args.pass c.args.least.now low o.some o.opened q
+    (c.requires.named deep c.args.least.now c.lower.new.least q low c.lower.ensures c.in-Some.ensures.found)
+    c.behind-in-Some.result c.behind-in-Some.ensures in
     record { found = go.found; only = λ d. go.only }
 
 -- ---- a list
 
 pub check_list-returns-in-Some : goal.check_list-returns-in-Some
-check_list-returns-in-Some t c = record {
+check_list-returns-in-Some g t c = record {
   found = c.check_below.ensures.found;
   only = λ h. c.check_below.ensures.only
       (c.in-Some.ensures.only
@@ -177,32 +193,37 @@ check_list-returns-in-Some t c = record {
 }
 
 pub check_list-returns-in-None-clause-only : goal.check_list-returns-in-None-clause-only
-check_list-returns-in-None-clause-only t c h = c.in-None.ensures.only
+check_list-returns-in-None-clause-only g t c h = c.in-None.ensures.only
     (due-first c.args.space.now c.args.base c.args.pass c.requires.object.some c.requires.object.opened h)
 
 pub check_list-returns-in-Some-check_composite : goal.check_list-returns-in-Some-check_composite
-check_list-returns-in-Some-check_composite t c =
+check_list-returns-in-Some-check_composite g t c =
     let o = c.requires.object in
-    let go = goes-on c.args.space.now c.args.base c.args.pass o.some o.opened c.in-Some-check_composite.progress
+    let go = goes-on c.args.space.now c.args.base (not (nat_eq g.row.DEEP 0)) c.args.pass c.args.least.now
+    c.check_composite.new.least o.some o.opened c.in-Some-check_composite.progress
     c.in-Some-check_composite.ensures.found c.behind.result c.behind.ensures in
     record { found = go.found; only = go.only }
 
 pub check_list-returns-in-Some-check_numbers : goal.check_list-returns-in-Some-check_numbers
-check_list-returns-in-Some-check_numbers t c =
+check_list-returns-in-Some-check_numbers g t c =
     let o = c.requires.object in
-    let go = goes-on c.args.space.now c.args.base c.args.pass o.some o.opened c.in-Some-check_numbers.progress
-    c.in-Some-check_numbers.ensures.found c.behind-in-Some-check_numbers.result
+    let deep = not (nat_eq g.row.DEEP 0) in
+    let least = c.args.least.now in
+    let low = c.lower.new.least in
+    let go = goes-on c.args.space.now c.args.base deep c.args.pass least low o.some o.opened
+    c.in-Some-check_numbers.progress
+    (c.in-Some-check_numbers.ensures.found deep least low c.lower.ensures) c.behind-in-Some-check_numbers.result
     c.behind-in-Some-check_numbers.ensures in
     record { found = go.found; only = go.only }
 
 pub check_list-returns-in-None-check_composite-clause-only : goal.check_list-returns-in-None-check_composite-clause-only
-check_list-returns-in-None-check_composite-clause-only t c h =
+check_list-returns-in-None-check_composite-clause-only g t c h =
     let e = c.in-None-check_composite.ensures.only
     (due-first c.args.space.now c.args.base c.args.pass c.requires.object.some c.requires.object.opened h) in
     absurd (cc)
 
 pub check_list-returns-in-None-check_numbers-clause-only : goal.check_list-returns-in-None-check_numbers-clause-only
-check_list-returns-in-None-check_numbers-clause-only t c h =
+check_list-returns-in-None-check_numbers-clause-only g t c h =
     let e = c.in-None-check_numbers.ensures.only
     (due-first c.args.space.now c.args.base c.args.pass c.requires.object.some c.requires.object.opened h) in
     absurd (cc)
@@ -210,7 +231,7 @@ check_list-returns-in-None-check_numbers-clause-only t c h =
 -- ---- the slots of rows
 
 pub check_rows-loop-i-preserved : goal.check_rows-loop-i-preserved
-check_rows-loop-i-preserved t c =
+check_rows-loop-i-preserved g t c =
     let all = c.args.space.now in
     let a = c.args in
     let b = c.args.base in
@@ -223,10 +244,13 @@ check_rows-loop-i-preserved t c =
     let inside = row-inside a.pass.from a.count i (a.words + a.slots) c.loop-i.row a.pass.end lt v.place
     (let e = c.requires.inside in omega arith) in
     let e : c.loop-i.row + a.words + a.slots - (c.loop-i.row + a.words) ≡ a.slots = omega arith in
-    let found : FindsSlots all b (c.loop-i.row + a.words) a.slots c.loop-i.progress.next a.pass.depth
-    c.loop-i.progress.left c.loop-i.progress.visits c.in-Some.behind =
-    subst (λ (k : ℕ). FindsSlots all b (c.loop-i.row + a.words) k c.loop-i.progress.next a.pass.depth
-    c.loop-i.progress.left c.loop-i.progress.visits c.in-Some.behind) e c.in-Some.ensures.found in
+    let deep = not (nat_eq g.row.DEEP 0) in
+    let least = c.loop-i.least in
+    let here = c.check_slots.new.least in
+    let found : FindsSlots all b deep (c.loop-i.row + a.words) a.slots c.loop-i.progress.next a.pass.depth
+    c.loop-i.progress.left c.loop-i.progress.visits least c.in-Some.behind here =
+    subst (λ (k : ℕ). FindsSlots all b deep (c.loop-i.row + a.words) k c.loop-i.progress.next a.pass.depth
+    c.loop-i.progress.left c.loop-i.progress.visits least c.in-Some.behind here) e c.in-Some.ensures.found in
     let next_is = found.comes.next_is in
     let one : suc (a.count - (i + 1)) ≡ a.count - i = omega arith in
     record {
@@ -235,11 +259,11 @@ check_rows-loop-i-preserved t c =
       order = omega arith;
       fits = found.comes.fits;
       few = found.comes.few;
-      leads = λ q f. v.leads q
-          (subst (λ (k : ℕ). FindsRows all b a.words a.slots c.loop-i.row k c.loop-i.progress.next a.pass.depth
-          c.loop-i.progress.left c.loop-i.progress.visits q) one
-          (finds-row all b a.words a.slots c.loop-i.row (a.count - (i + 1)) a.pass.depth c.loop-i.progress.next
-          c.loop-i.progress.left c.loop-i.progress.visits c.in-Some.behind q (omega arith) found f));
+      leads = λ q low f. v.leads q low
+          (subst (λ (k : ℕ). FindsRows all b deep a.words a.slots c.loop-i.row k c.loop-i.progress.next a.pass.depth
+          c.loop-i.progress.left c.loop-i.progress.visits least q low) one
+          (finds-row all b deep a.words a.slots c.loop-i.row (a.count - (i + 1)) a.pass.depth c.loop-i.progress.next
+          c.loop-i.progress.left c.loop-i.progress.visits least c.in-Some.behind here q low (omega arith) found f));
       due = λ h. subst (λ (k : ℕ). DueRows all b a.words a.slots (c.loop-i.row + a.words + a.slots) k
           c.in-Some.behind.next a.pass.depth c.in-Some.behind.left) (omega arith)
           (rows-due all b a.words a.slots c.loop-i.row (a.count - i) c.loop-i.progress.next a.pass.depth
@@ -247,7 +271,7 @@ check_rows-loop-i-preserved t c =
     }
 
 pub check_rows-returns-in-None-clause-only : goal.check_rows-returns-in-None-clause-only
-check_rows-returns-in-None-clause-only t c h =
+check_rows-returns-in-None-clause-only g t c h =
     let all = c.args.space.now in
     let a = c.args in
     let i = c.loop-i.i in
@@ -262,24 +286,27 @@ check_rows-returns-in-None-clause-only t c h =
     absurd (cc)
 
 pub check_rows-returns : goal.check_rows-returns
-check_rows-returns t c =
+check_rows-returns g t c =
     let all = c.args.space.now in
     let a = c.args in
     let v = c.loop-i.invariant in
-    let g = c.loop-i.progress in
+    let q = c.loop-i.progress in
+    let low = c.loop-i.least in
+    let deep = not (nat_eq g.row.DEEP 0) in
     let le = c.loop-i-test.false in
     let e : 0 ≡ a.count - c.loop-i.i = omega arith in
     record {
-      found = v.leads g
-          (subst (λ (k : ℕ). FindsRows all a.base a.words a.slots c.loop-i.row k g.next a.pass.depth g.left g.visits g)
-          e (finds-no-rows all a.base a.words a.slots c.loop-i.row a.pass.depth g v.fits v.few));
+      found = v.leads q low
+          (subst (λ (k : ℕ). FindsRows all a.base deep a.words a.slots c.loop-i.row k q.next a.pass.depth q.left
+          q.visits low q low) e
+          (finds-no-rows all a.base deep a.words a.slots c.loop-i.row a.pass.depth low q v.fits v.few));
       only = λ h. refl;
     }
 
 -- ---- a list of structs
 
 pub check_composite-returns-then-rows-eq0 : goal.check_composite-returns-then-rows-eq0
-check_composite-returns-then-rows-eq0 t c =
+check_composite-returns-then-rows-eq0 g t c =
     let all = c.args.space.now in
     let b = c.args.base in
     let r = c.in-Some.rows in
@@ -291,18 +318,25 @@ check_composite-returns-then-rows-eq0 t c =
     let none = c.if-rows-eq0.true in
     let each : r.tag.count * (r.tag.words + r.tag.slots) ≡ r.tag.count * r.tag.words =
     ap (λ (k : ℕ). r.tag.count * k) (omega arith) in
+    let deep = not (nat_eq g.row.DEEP 0) in
+    let least = c.args.least.now in
+    let low = c.lower.new.least in
     record {
-      found = subst (λ (q : Progress). FindsFirst all b c.args.pass q) (sym c.here.ensures)
-          (e.3 (come r.pass) (finds-bare-rows all b r.tag.words r.tag.slots r.pass.from r.tag.count r.pass.depth
-          (come r.pass) none (omega arith) fits open_of.few));
+      found = subst (λ (q : Progress). FindsFirst all b deep c.args.pass least q low) (sym c.here.ensures)
+          (e.3 deep least low (come r.pass) low c.lower.ensures
+          (finds-bare-rows all b deep r.tag.words r.tag.slots r.pass.from r.tag.count r.pass.depth low (come r.pass)
+          none (omega arith) fits open_of.few));
       only = λ h. refl;
     }
 
 pub check_composite-returns-else-rows-eq0 : goal.check_composite-returns-else-rows-eq0
-check_composite-returns-else-rows-eq0 t c = record {
-  found = if-some c.check_rows.result c.in-Some.ensures.found.3 c.check_rows.ensures.found;
+check_composite-returns-else-rows-eq0 g t c = record {
+  found = if-some c.check_rows.result
+      (λ q. c.in-Some.ensures.found.3 (not (nat_eq g.row.DEEP 0)) c.args.least.now c.lower.new.least q
+      c.check_rows.new.least c.lower.ensures)
+      c.check_rows.ensures.found;
   only = λ h. c.check_rows.ensures.only (c.in-Some.ensures.only h);
 }
 
 pub check_composite-returns-in-None-clause-only : goal.check_composite-returns-in-None-clause-only
-check_composite-returns-in-None-clause-only t c h = absurd (c.in-None.ensures.only h)
+check_composite-returns-in-None-clause-only g t c h = absurd (c.in-None.ensures.only h)

@@ -1,55 +1,55 @@
-use Rattle.std.proofs.Common.{◌≡◌, ◌+◌, ◌-◌, ◌*◌, ◌≤◌, length}
+use Rattle.std.proofs.Common.{◌≡◌, ℕ, ◌+◌, ◌-◌, ◌*◌, ◌≤◌, length, not, nat_eq}
 use Rattle.capn_canon.specs.declared.progress.Progress.{Progress}
 use Rattle.capn_canon.specs.inner.Due.{Due, DueRows}
 use Rattle.capn_canon.specs.inner.InPlace.{IsOpen, Leads, FindsRows}
 use Rattle.capn_canon.proofs.one_pass.+pass.Given as goal
 
 abbrev pub decreases-check_below : goal.decreases-check_below
-decreases-check_below l = 5 * (length l.space.now - l.pass.from)
+decreases-check_below g l = 5 * (length l.space.now - l.pass.from)
 
 abbrev pub decreases-check_composite : goal.decreases-check_composite
-decreases-check_composite l = 5 * (length l.space.now - l.pass.from)
+decreases-check_composite g l = 5 * (length l.space.now - l.pass.from)
 
 abbrev pub decreases-check_list : goal.decreases-check_list
-decreases-check_list l = 5 * (length l.space.now - l.pass.from) + 1
+decreases-check_list g l = 5 * (length l.space.now - l.pass.from) + 1
 
 abbrev pub decreases-check_object : goal.decreases-check_object
-decreases-check_object l = 5 * (length l.space.now - l.pass.from) + 4
+decreases-check_object g l = 5 * (length l.space.now - l.pass.from) + 4
 
 abbrev pub decreases-check_rows : goal.decreases-check_rows
-decreases-check_rows l = 5 * (length l.space.now - l.pass.from) + 4
+decreases-check_rows g l = 5 * (length l.space.now - l.pass.from) + 4
 
 abbrev pub decreases-check_slot : goal.decreases-check_slot
-decreases-check_slot l = 5 * (length l.space.now - l.pass.from) + 2
+decreases-check_slot g l = 5 * (length l.space.now - l.pass.from) + 2
 
 abbrev pub decreases-check_slots : goal.decreases-check_slots
-decreases-check_slots l = 5 * (length l.space.now - l.pass.from) + 3
+decreases-check_slots g l = 5 * (length l.space.now - l.pass.from) + 3
 
 abbrev pub decreases-check_struct : goal.decreases-check_struct
-decreases-check_struct l = 5 * (length l.space.now - l.pass.from) + 1
+decreases-check_struct g l = 5 * (length l.space.now - l.pass.from) + 1
 
 abbrev pub invariant-check_rows-loop-i : goal.invariant-check_rows-loop-i
-invariant-check_rows-loop-i l = record {
+invariant-check_rows-loop-i g l = record {
   place : l.row ≡ l.pass.from + l.i * (l.words + l.slots);
   order : l.pass.end ≤ l.progress.next;
   fits : l.progress.next ≤ length l.space;
   few : l.progress.visits ≤ l.progress.next;
-  leads : (q : Progress)
-      → FindsRows l.space l.base l.words l.slots l.row (l.count - l.i) l.progress.next l.pass.depth l.progress.left
-      l.progress.visits q
-      → FindsRows l.space l.base l.words l.slots l.pass.from l.count l.pass.next l.pass.depth l.pass.left
-      l.pass.visits q;
+  leads : (q : Progress) (low : ℕ)
+      → FindsRows l.space l.base (not (nat_eq g.row.DEEP 0)) l.words l.slots l.row (l.count - l.i) l.progress.next
+      l.pass.depth l.progress.left l.progress.visits l.least q low
+      → FindsRows l.space l.base (not (nat_eq g.row.DEEP 0)) l.words l.slots l.pass.from l.count l.pass.next
+      l.pass.depth l.pass.left l.pass.visits l.initial.least q low;
   due : DueRows l.space l.base l.words l.slots l.pass.from l.count l.pass.next l.pass.depth l.pass.left
       → DueRows l.space l.base l.words l.slots l.row (l.count - l.i) l.progress.next l.pass.depth l.progress.left;
 }
 
 abbrev pub invariant-check_slots-loop-left : goal.invariant-check_slots-loop-left
-invariant-check_slots-loop-left l = record {
+invariant-check_slots-loop-left g l = record {
   later : l.fn.pass.from ≤ l.left.from;
   opened : IsOpen l.space l.left;
-  leads : Leads l.space l.base l.fn.pass l.left;
+  leads : Leads l.space l.base (not (nat_eq g.row.DEEP 0)) l.fn.pass l.initial.least l.left l.least;
   due : Due l.space l.base l.fn.pass → Due l.space l.base l.left;
 }
 
 abbrev pub decreases-check_slots-loop-left : goal.decreases-check_slots-loop-left
-decreases-check_slots-loop-left l = length l.space - l.left.from
+decreases-check_slots-loop-left g l = length l.space - l.left.from

@@ -2,7 +2,7 @@ use Rattle.std.proofs.Common.{ℕ, ap, ◌∙◌, sym, subst, arith}
 use Rattle.capn_words.specs.declared.pointer.Width.TheVariants.{Link}
 use Rattle.capn_canon.specs.Layout.{list_to}
 use Rattle.capn_canon.specs.inner.Ready.{IsOpened}
-use Rattle.capn_canon.proofs.Opened.{links-few, links-wide, links-opened}
+use Rattle.capn_canon.proofs.writer.Opened.{links-few, links-wide, links-opened}
 use Rattle.capn_canon.proofs.opening.open_links.Goals as goal
 
 pub list_pointer-word-requires-clause-few : goal.list_pointer-word-requires-clause-few

@@ -3,7 +3,7 @@ use Rattle.std.proofs.lemmas.List.{length-set}
 use Rattle.capn_words.specs.declared.pointer.Width.TheVariants.{Rows}
 use Rattle.capn_canon.specs.Layout.{list_to}
 use Rattle.std.proofs.Common.{length}
-use Rattle.capn_canon.proofs.Opened.{rows-short, rows-wide, rows-opened}
+use Rattle.capn_canon.proofs.writer.Opened.{rows-short, rows-wide, rows-opened}
 use Rattle.capn_canon.proofs.opening.open_rows.Goals as goal
 
 pub kept_words-words-requires : goal.kept_words-words-requires

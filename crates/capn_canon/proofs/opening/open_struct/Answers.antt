@@ -1,7 +1,7 @@
 use Rattle.std.proofs.Common.{ℕ, ap, ◌∙◌, sym, subst, arith}
 use Rattle.capn_canon.specs.Layout.{struct_to}
 use Rattle.capn_canon.specs.inner.Ready.{IsOpened}
-use Rattle.capn_canon.proofs.Opened.{struct-short, struct-wide, struct-opened}
+use Rattle.capn_canon.proofs.writer.Opened.{struct-short, struct-wide, struct-opened}
 use Rattle.capn_canon.proofs.opening.open_struct.Goals as goal
 
 pub kept_words-words-requires : goal.kept_words-words-requires

@@ -1,8 +1,8 @@
 use Rattle.std.proofs.Common.{ℕ, ◌+◌, List, take, ap, ◌++◌, ◌∙◌, arith}
 use Rattle.std.proofs.lemmas.Result.{on_ok_weaker}
 use Rattle.capn_walk.specs.ValueAt.{words_from}
-use Rattle.capn_canon.proofs.Copied.{whole-bytes, copy-of}
-use Rattle.capn_canon.proofs.EachRow.{copy-parts}
+use Rattle.capn_canon.proofs.content.Copied.{whole-bytes, copy-of}
+use Rattle.capn_canon.proofs.content.EachRow.{copy-parts}
 use Rattle.capn_canon.proofs.struct_list_words.push_parts.Goals as goal
 
 pub extend-requires : goal.extend-requires

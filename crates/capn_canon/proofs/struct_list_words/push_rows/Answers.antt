@@ -1,9 +1,9 @@
-use Rattle.std.proofs.Common.{◌≡◌, ◌+◌, ◌*◌, ◌<◌, ◌∙◌, arith}
+use Rattle.std.proofs.Common.{◌≡◌, ◌+◌, ◌*◌, ◌∙◌, arith}
 use Rattle.std.proofs.lemmas.Result.{on_ok_weaker}
 use Rattle.capn_walk.proofs.shared.RowWalks.{row-inside}
 use Rattle.capn_walk.proofs.shared.Segments.{segment-room}
-use Rattle.capn_canon.proofs.Copied.{whole-bytes, copy-of}
-use Rattle.capn_canon.proofs.EachRow.{cells-begin, cells-more, cells-end, cells-piece}
+use Rattle.capn_canon.proofs.content.Copied.{whole-bytes, copy-of}
+use Rattle.capn_canon.proofs.content.EachRow.{cells-begin, cells-more, cells-end, cells-piece}
 use Rattle.capn_canon.proofs.struct_list_words.push_rows.Goals as goal
 
 pub extend-requires : goal.extend-requires

@@ -1,6 +1,6 @@
 -- Bare words need memory only for a depth above 64.
 use Rattle.std.proofs.Common.{rules, [], ◌∷◌, refl}
-use Rattle.capn_canon.proofs.MemoryNeeds.{deep}
+use Rattle.capn_canon.proofs.calls.MemoryNeeds.{deep}
 use Rattle.capn_canon.proofs.survey_input.of_bare.Goals as goal
 
 pub returns-in-Ok : goal.returns-in-Ok

@@ -1,7 +1,7 @@
 -- What is answered or refused for the unpacked frame is so for the packed text.
 use Rattle.std.proofs.Common.{arith}
 use Rattle.capn_canon.specs.Reads.{Unpacks}
-use Rattle.capn_canon.proofs.Accounted.{packed_surveyed}
+use Rattle.capn_canon.proofs.calls.Accounted.{packed_surveyed}
 use Rattle.capn_canon.proofs.survey_input.of_packed.Goals as goal
 
 pub returns-in-Ok : goal.returns-in-Ok

@@ -1,6 +1,6 @@
 -- A survey of bytes speaks of the one value that they denote.
 use Rattle.std.proofs.Common.{arith}
-use Rattle.capn_canon.proofs.Accounted.{surveyed_only, surveyed_short}
+use Rattle.capn_canon.proofs.calls.Accounted.{surveyed_only, surveyed_short}
 use Rattle.capn_canon.proofs.survey_input.survey_bytes.Goals as goal
 
 pub returns-clause-only : goal.returns-clause-only

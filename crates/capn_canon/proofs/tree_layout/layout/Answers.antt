@@ -1,12 +1,8 @@
-use Rattle.std.proofs.Common.{ℕ, ◌+◌, ◌^◌, ◌≤◌, length, ap, refl, sym, subst, ◌∙◌, arith}
-use Rattle.capn_value.specs.Cost.{height}
-use Rattle.capn_value.specs.Tree.{Tree}
+use Rattle.std.proofs.Common.{arith}
 use Rattle.capn_value.proofs.shared.Fitting.{fit_parts}
-use Rattle.capn_canon.specs.Layout.{size}
-use Rattle.capn_canon.specs.inner.Sound.{Sound}
-use Rattle.capn_canon.proofs.Sound.{sound}
-use Rattle.capn_canon.proofs.Room.{room}
-use Rattle.capn_canon.proofs.TreeItems.{only-value}
+use Rattle.capn_canon.proofs.layouts.Sound.{sound}
+use Rattle.capn_canon.proofs.layouts.Room.{room}
+use Rattle.capn_canon.proofs.writer.TreeItems.{only-value}
 use Rattle.capn_canon.proofs.tree_layout.layout.Goals as goal
 
 pub canonical_bytes-requires : goal.canonical_bytes-requires

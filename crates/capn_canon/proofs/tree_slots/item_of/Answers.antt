@@ -1,12 +1,10 @@
-use Rattle.std.proofs.Common.{◌≡◌, ◌∙◌, ◌^◌, ◌<◌, ap, sym, subst, refl, arith, length, []}
-use Rattle.capn_value.specs.Tree.{node, links, rows, no_bodies, body, count, bits, bytes, pairs, quads, octs}
+use Rattle.std.proofs.Common.{◌∙◌, ap, sym, refl, []}
+use Rattle.capn_value.specs.Tree.{links, rows, bits, bytes, pairs, quads, octs}
 use Rattle.capn_value.specs.TreeOf.{tree_of, trees_of, rows_of}
-use Rattle.capn_value.specs.Views.{tree_of-Nil, tree_of-Node, tree_of-Voids, tree_of-Bits, tree_of-Bytes, tree_of-Pairs}
-use Rattle.capn_value.specs.Views.{tree_of-Quads, tree_of-Octs, tree_of-Links, tree_of-Rows, tree_of-Cap}
-use Rattle.capn_value.specs.Views.{count-trees_of, count_rows-rows_of}
-use Rattle.capn_canon.specs.inner.Sound.{Sound}
-use Rattle.capn_canon.proofs.TreeItems.{struct-item, links-item, rows-item, voids-list, bits-list, bytes-list}
-use Rattle.capn_canon.proofs.TreeItems.{pairs-list, quads-list, octs-list}
+use Rattle.capn_value.specs.Views.{tree_of-Node, tree_of-Voids, tree_of-Bits, tree_of-Bytes, tree_of-Pairs}
+use Rattle.capn_value.specs.Views.{tree_of-Quads, tree_of-Octs, tree_of-Links, tree_of-Rows}
+use Rattle.capn_canon.proofs.writer.TreeItems.{struct-item, links-item, rows-item, voids-list, bits-list, bytes-list}
+use Rattle.capn_canon.proofs.writer.TreeItems.{pairs-list, quads-list, octs-list}
 use Rattle.capn_canon.proofs.tree_slots.item_of.Goals as goal
 
 pub returns-in-Node : goal.returns-in-Node

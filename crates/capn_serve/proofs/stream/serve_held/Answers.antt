@@ -16,16 +16,16 @@ whole held rest most message taken same first is only =
     (held_whole held most message taken first
     (subst (λ (p : List ℕ). IsFrame p most ⊎ IsUnfinished p most) (sym same) is) only)
 
-pub returns-in_err-add_message-in-Ok : goal.returns-in_err-add_message-in-Ok
-returns-in_err-add_message-in-Ok g c =
+pub returns-in_err-add_framed-in-Ok : goal.returns-in_err-add_framed-in-Ok
+returns-in_err-add_framed-in-Ok g c =
     let p = err_from_is_err_and c.from_residual.result c.from_residual.ensures.1 in
     let found = c.in-Ok.ensures.found in
     let all = whole _ c.args.framer.now.rest c.args.most _ c.in-Ok.taken c.held-held.ensures found c.requires.held
     c.in-Ok.ensures.only in
     rw (p.1, p.2)
     (held_stop (fold_of g.S.Service.serves g.S.Service.refuses c.args.most) c.args.run.now c.args.framer.now
-    c.requires.good c.requires.same c.add_message.new.run _ _ _ _ _ c.in_err-add_message-in-Ok.field-0.0 all found.frame
-    found.room (c.in_err-add_message-in-Ok.ensures c.args.most))
+    c.requires.good c.requires.same c.add_framed.new.run _ _ _ _ _ c.in_err-add_framed-in-Ok.field-0.0 all found.frame
+    found.room (c.in_err-add_framed-in-Ok.ensures c.args.most))
 
 pub returns-in-Err : goal.returns-in-Err
 returns-in-Err g c =
@@ -50,6 +50,6 @@ returns g c =
     let all = whole _ c.args.framer.now.rest c.args.most _ c.in-Ok.taken c.held-held.ensures found c.requires.held
     c.in-Ok.ensures.only in
     held_some (fold_of g.S.Service.serves g.S.Service.refuses c.args.most) c.args.run.now c.args.framer.now
-    c.requires.good c.requires.same c.add_message.new.run c.clear.new.framer _ c.in-Ok.message _ _ _
-    c.in_ok-add_message-in-Ok.field-0 all found.frame found.room (c.in_ok-add_message-in-Ok.ensures c.args.most)
+    c.requires.good c.requires.same c.add_framed.new.run c.clear.new.framer _ c.in-Ok.message _ _ _
+    c.in_ok-add_framed-in-Ok.field-0 all found.frame found.room (c.in_ok-add_framed-in-Ok.ensures c.args.most)
     c.clear.ensures

@@ -1,7 +1,7 @@
-use Rattle.std.proofs.Common.{◌*◌, ◌/◌, ◌++◌, ◌∙◌, ap, length, List, ℕ, arith}
+use Rattle.std.proofs.Common.{◌/◌, ◌++◌, ◌∙◌, ap, length, List, ℕ, arith}
 use Rattle.capn_words.specs.Message.{words_in}
 use Rattle.capn_canon.specs.inner.Draft.{drafted}
-use Rattle.capn_canon.proofs.Drafted.{drafted-append}
+use Rattle.capn_canon.proofs.writer.Drafted.{drafted-append}
 use Rattle.capn_canon.proofs.draft.Draft.extend.Goals as goal
 
 pub returns : goal.returns

@@ -1,7 +1,7 @@
 use Rattle.std.proofs.Common.{◌*◌, ◌++◌, ◌∙◌, ap, refl, length, List, ℕ, arith}
 use Rattle.capn_walk.specs.Target.{words_for}
 use Rattle.capn_canon.specs.Layout.{packed}
-use Rattle.capn_canon.proofs.Drafted.{is-padded, drafted-padded}
+use Rattle.capn_canon.proofs.writer.Drafted.{is-padded, drafted-padded}
 use Rattle.capn_canon.proofs.draft.Draft.extend_bytes.Goals as goal
 
 pub invariant_of-self-2 : goal.invariant_of-self-2

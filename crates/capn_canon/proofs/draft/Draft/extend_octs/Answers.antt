@@ -1,8 +1,8 @@
-use Rattle.std.proofs.Common.{◌*◌, ◌++◌, ◌∙◌, ap, refl, length, List, ℕ, arith}
+use Rattle.std.proofs.Common.{◌++◌, ◌∙◌, ap, refl, length, List, ℕ, arith}
 use Rattle.std.specs.List.{flat_map}
 use Rattle.byteorder.specs.Endian.{little_bytes}
-use Rattle.capn_canon.proofs.Drafted.{is-padded, drafted-padded}
-use Rattle.capn_canon.proofs.PackedBytes.{packed-numbers, packed-words, length-numbers, AreBytes-numbers}
+use Rattle.capn_canon.proofs.writer.Drafted.{is-padded, drafted-padded}
+use Rattle.capn_canon.proofs.layouts.PackedBytes.{packed-numbers, packed-words, length-numbers, AreBytes-numbers}
 use Rattle.capn_canon.proofs.draft.Draft.extend_octs.Goals as goal
 
 pub invariant_of-self-2 : goal.invariant_of-self-2

@@ -3,8 +3,8 @@ use Rattle.std.specs.List.{flat_map}
 use Rattle.byteorder.specs.Endian.{little_bytes}
 use Rattle.capn_walk.specs.Target.{words_for}
 use Rattle.capn_canon.specs.Layout.{packed}
-use Rattle.capn_canon.proofs.Drafted.{is-padded, drafted-padded}
-use Rattle.capn_canon.proofs.PackedBytes.{packed-numbers, length-numbers, AreBytes-numbers}
+use Rattle.capn_canon.proofs.writer.Drafted.{is-padded, drafted-padded}
+use Rattle.capn_canon.proofs.layouts.PackedBytes.{packed-numbers, length-numbers, AreBytes-numbers}
 use Rattle.capn_canon.proofs.draft.Draft.extend_pairs.Goals as goal
 
 pub invariant_of-self-2 : goal.invariant_of-self-2

@@ -1,5 +1,4 @@
-use Rattle.std.proofs.Common.{◌+◌, ◌-◌, arith}
-use Rattle.capn_canon.proofs.Drafted.{zeros-more, zeros-end}
+use Rattle.capn_canon.proofs.writer.Drafted.{zeros-more, zeros-end}
 use Rattle.capn_canon.proofs.draft.Draft.extend_zeros.Goals as goal
 
 pub loop-preserved : goal.loop-preserved

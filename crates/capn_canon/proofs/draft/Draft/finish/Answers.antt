@@ -1,6 +1,6 @@
-use Rattle.std.proofs.Common.{◌∙◌, ap, List, ℕ}
+use Rattle.std.proofs.Common.{◌∙◌, ap}
 use Rattle.capn_words.specs.Message.{bytes}
-use Rattle.capn_canon.proofs.Drafted.{drafted-bytes}
+use Rattle.capn_canon.proofs.writer.Drafted.{drafted-bytes}
 use Rattle.capn_canon.proofs.draft.Draft.finish.Goals as goal
 
 pub returns : goal.returns

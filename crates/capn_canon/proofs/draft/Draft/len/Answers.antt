@@ -1,5 +1,5 @@
 use Rattle.std.proofs.Common.{◌/◌, ◌∙◌, ap, sym, length, ℕ}
-use Rattle.capn_canon.proofs.Drafted.{length-drafted}
+use Rattle.capn_canon.proofs.writer.Drafted.{length-drafted}
 use Rattle.capn_canon.proofs.draft.Draft.len.Goals as goal
 
 pub returns : goal.returns

@@ -1,6 +1,6 @@
 use Rattle.std.proofs.Common.{◌∙◌, ap, List, ℕ, [], ◌∷◌, ◌++◌, arith}
 use Rattle.capn_canon.specs.inner.Draft.{drafted}
-use Rattle.capn_canon.proofs.Drafted.{drafted-push}
+use Rattle.capn_canon.proofs.writer.Drafted.{drafted-push}
 use Rattle.capn_canon.proofs.draft.Draft.push.Goals as goal
 
 pub returns : goal.returns

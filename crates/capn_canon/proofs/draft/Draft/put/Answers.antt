@@ -1,5 +1,5 @@
 use Rattle.std.proofs.Common.{◌∙◌, ap, List, ℕ, length, set, arith}
-use Rattle.capn_canon.proofs.Drafted.{length-drafted, is-put, drafted-put}
+use Rattle.capn_canon.proofs.writer.Drafted.{length-drafted, is-put, drafted-put}
 use Rattle.capn_canon.proofs.draft.Draft.put.Goals as goal
 
 pub overflow_mul-at : goal.overflow_mul-at

@@ -1,7 +1,6 @@
-use Rattle.std.proofs.Common.{◌∙◌, ap, refl}
-use Rattle.capn_words.specs.Message.{words_in}
+use Rattle.std.proofs.Common.{◌∙◌, ap}
 use Rattle.capn_canon.specs.inner.Draft.{drafted}
-use Rattle.capn_canon.proofs.Drafted.{drafted-none}
+use Rattle.capn_canon.proofs.writer.Drafted.{drafted-none}
 use Rattle.capn_canon.proofs.draft.Draft.with_room.Goals as goal
 
 pub returns : goal.returns

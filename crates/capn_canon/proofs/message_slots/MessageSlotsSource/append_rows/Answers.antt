@@ -1,7 +1,7 @@
-use Rattle.std.proofs.Common.{◌≡◌, ◌+◌, ◌*◌, ◌<◌, arith, sym, subst, ℕ}
+use Rattle.std.proofs.Common.{◌+◌, arith}
 use Rattle.std.proofs.lemmas.Result.{on_ok_weaker}
 use Rattle.capn_canon.specs.inner.RowWords.{row_cells}
-use Rattle.capn_canon.proofs.EachRow.{cells-over, wide-part}
+use Rattle.capn_canon.proofs.content.EachRow.{cells-over, wide-part}
 use Rattle.capn_canon.proofs.message_slots.MessageSlotsSource.append_rows.Goals as goal
 
 pub push_rows-requires-clause-message : goal.push_rows-requires-clause-message

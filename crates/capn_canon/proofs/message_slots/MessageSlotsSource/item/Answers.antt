@@ -1,10 +1,10 @@
-use Rattle.std.proofs.Common.{ℕ, ◌+◌, Ok, ap, ◌∙◌, arith}
+use Rattle.std.proofs.Common.{◌+◌, Ok, ap, ◌∙◌, arith}
 use Rattle.capn_words.specs.declared.space.Place.{Place}
 use Rattle.capn_walk.proofs.shared.Inside.{inside}
 use Rattle.capn_walk.proofs.shared.Present.{present}
 use Rattle.capn_walk.proofs.shared.Ranges.{room-of}
 use Rattle.capn_walk.proofs.shared.Segments.{segment-room}
-use Rattle.capn_canon.proofs.Shaped.{found, null-of, cap-at, inside-of}
+use Rattle.capn_canon.proofs.content.Shaped.{found, null-of, cap-at, inside-of}
 use Rattle.capn_canon.proofs.message_slots.MessageSlotsSource.item.Goals as goal
 
 pub overflow_add-at : goal.overflow_add-at

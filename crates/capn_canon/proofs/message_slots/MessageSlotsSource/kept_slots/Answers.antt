@@ -1,7 +1,7 @@
 use Rattle.std.proofs.Common.{◌≡◌, ◌+◌, ◌*◌, ◌≤◌, length, ap, sym, ◌∙◌, arith}
 use Rattle.capn_words.specs.Message.{segment_at}
 use Rattle.capn_walk.proofs.shared.Segments.{segment-room}
-use Rattle.capn_canon.proofs.EachRow.{kept-rows-slots}
+use Rattle.capn_canon.proofs.content.EachRow.{kept-rows-slots}
 use Rattle.capn_canon.proofs.message_slots.MessageSlotsSource.kept_slots.Goals as goal
 
 pub overflow_add-step : goal.overflow_add-step

@@ -1,6 +1,6 @@
 use Rattle.std.proofs.Common.{◌≡◌, ◌+◌, ◌*◌, ap, sym, ◌∙◌, arith}
 use Rattle.capn_canon.specs.inner.RowWords.{kept_each}
-use Rattle.capn_canon.proofs.EachRow.{kept-rows-words}
+use Rattle.capn_canon.proofs.content.EachRow.{kept-rows-words}
 use Rattle.capn_canon.proofs.message_slots.MessageSlotsSource.kept_words.Goals as goal
 
 pub overflow_add-step : goal.overflow_add-step

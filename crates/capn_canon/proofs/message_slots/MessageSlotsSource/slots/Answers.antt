@@ -1,6 +1,5 @@
-use Rattle.std.proofs.Common.{◌≡◌, ◌+◌, ◌*◌, ◌<◌, ◌≤◌, arith}
-use Rattle.capn_walk.proofs.shared.Segments.{segment-room}
-use Rattle.capn_canon.proofs.MessageItems.{slots-of-row, row-within}
+use Rattle.std.proofs.Common.{arith}
+use Rattle.capn_canon.proofs.writer.MessageItems.{slots-of-row}
 use Rattle.capn_canon.proofs.message_slots.MessageSlotsSource.slots.Goals as goal
 
 pub returns : goal.returns

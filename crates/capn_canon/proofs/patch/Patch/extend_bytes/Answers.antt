@@ -2,7 +2,7 @@ use Rattle.std.proofs.Common.{◌*◌, ◌∙◌, ap, refl, length}
 use Rattle.std.proofs.Common.{arith}
 use Rattle.capn_walk.specs.Target.{words_for}
 use Rattle.capn_canon.specs.Patch.{patched}
-use Rattle.capn_canon.proofs.Patched.{patched-same, grown-length, is-grown, patched-grown, OnErr-always}
+use Rattle.capn_canon.proofs.writer.Patched.{patched-same, grown-length, is-grown, patched-grown, OnErr-always}
 use Rattle.capn_canon.proofs.patch.Patch.extend_bytes.Goals as goal
 
 pub returns-in_err-cover-clause-err : goal.returns-in_err-cover-clause-err

@@ -1,6 +1,6 @@
 use Rattle.std.proofs.Common.{◌/◌, ◌<◌, ◌∙◌, ap, List, Option, Some, None, ℕ, length, set, arith}
 use Rattle.std.proofs.lemmas.Option.{slice_get_within}
-use Rattle.capn_canon.proofs.Patched.{length-patched, is-filled, patched-fill}
+use Rattle.capn_canon.proofs.writer.Patched.{length-patched, is-filled, patched-fill}
 use Rattle.capn_canon.proofs.patch.Patch.fill.Goals as goal
 
 pub overflow_mul-at : goal.overflow_mul-at

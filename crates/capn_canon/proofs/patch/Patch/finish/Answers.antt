@@ -1,7 +1,7 @@
 use Rattle.std.proofs.Common.{◌∙◌, ap, sym, subst, List, Option, ℕ}
 use Rattle.capn_words.specs.Message.{bytes}
 use Rattle.capn_canon.specs.Patch.{IsWhole, filled}
-use Rattle.capn_canon.proofs.Patched.{patched-whole}
+use Rattle.capn_canon.proofs.writer.Patched.{patched-whole}
 use Rattle.capn_canon.proofs.patch.Patch.finish.Goals as goal
 
 pub returns-clause-ok : goal.returns-clause-ok

@@ -1,7 +1,7 @@
 use Rattle.std.proofs.Common.{◌≡◌, ◌+◌, ◌-◌, ◌++◌, ◌∙◌, ap, ap₂, sym, List, Option, Some, None, ℕ, length, replicate}
 use Rattle.std.proofs.Common.{append-nil, length-append, set, arith}
 use Rattle.std.proofs.lemmas.List.{length-replicate}
-use Rattle.capn_canon.proofs.Patched.{next_hole}
+use Rattle.capn_canon.proofs.writer.Patched.{next_hole}
 use Rattle.capn_canon.proofs.patch.Patch.leave.Goals as goal
 
 pub loop-i-init : goal.loop-i-init

@@ -1,5 +1,5 @@
 use Rattle.std.proofs.Common.{◌/◌, ◌∙◌, ap, sym, length, ℕ}
-use Rattle.capn_canon.proofs.Patched.{length-patched}
+use Rattle.capn_canon.proofs.writer.Patched.{length-patched}
 use Rattle.capn_canon.proofs.patch.Patch.len.Goals as goal
 
 pub returns : goal.returns

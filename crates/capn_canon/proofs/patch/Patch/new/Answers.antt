@@ -1,6 +1,6 @@
 use Rattle.std.proofs.Common.{◌∙◌, ap₂}
 use Rattle.capn_canon.specs.Patch.{patched}
-use Rattle.capn_canon.proofs.Patched.{patched-none}
+use Rattle.capn_canon.proofs.writer.Patched.{patched-none}
 use Rattle.capn_canon.proofs.patch.Patch.new.Goals as goal
 
 pub returns : goal.returns

@@ -1,5 +1,5 @@
 use Rattle.std.proofs.Common.{◌/◌, ◌<◌, ◌∙◌, ap, List, Option, None, ℕ, length, set, arith}
-use Rattle.capn_canon.proofs.Patched.{length-patched, is-marked, patched-open}
+use Rattle.capn_canon.proofs.writer.Patched.{length-patched, is-marked, patched-open}
 use Rattle.capn_canon.proofs.patch.Patch.open.Goals as goal
 
 pub mark-requires : goal.mark-requires

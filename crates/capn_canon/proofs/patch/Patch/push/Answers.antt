@@ -1,6 +1,6 @@
 use Rattle.std.proofs.Common.{◌∙◌, ap, List, Option, Some, ℕ, [], ◌∷◌, ◌++◌, arith}
 use Rattle.capn_canon.specs.Patch.{patched}
-use Rattle.capn_canon.proofs.Patched.{patched-same, patched-push, OnErr-always}
+use Rattle.capn_canon.proofs.writer.Patched.{patched-same, patched-push, OnErr-always}
 use Rattle.capn_canon.proofs.patch.Patch.push.Goals as goal
 
 pub returns-in_err-cover-clause-err : goal.returns-in_err-cover-clause-err

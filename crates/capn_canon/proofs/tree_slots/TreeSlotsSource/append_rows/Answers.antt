@@ -1,11 +1,10 @@
-use Rattle.std.proofs.Common.{◌≡◌, ◌++◌, ◌∙◌, ap, sym, subst, List, ℕ}
+use Rattle.std.proofs.Common.{◌∙◌, ap, sym, subst}
 use Rattle.std.proofs.lemmas.Result.{on_ok_weaker}
 use Rattle.capn_value.specs.Tree.{Bodies}
-use Rattle.capn_canon.specs.declared.tree_slots.TreeRows.{TreeRows}
 use Rattle.capn_canon.specs.inner.Sound.{AreWide}
 use Rattle.capn_canon.specs.inner.Source.{IsGrown}
-use Rattle.capn_canon.specs.inner.TreeSlots.{AreBodies, bodies_of}
-use Rattle.capn_canon.proofs.TreeItems.{zeros-grown, slots-grown, row-grown}
+use Rattle.capn_canon.specs.inner.TreeSlots.{bodies_of}
+use Rattle.capn_canon.proofs.writer.TreeItems.{zeros-grown, slots-grown, row-grown}
 use Rattle.capn_canon.proofs.tree_slots.TreeSlotsSource.append_rows.Goals as goal
 
 pub returns-in-Bodies : goal.returns-in-Bodies

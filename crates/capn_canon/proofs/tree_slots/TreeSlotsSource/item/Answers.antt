@@ -1,9 +1,9 @@
-use Rattle.std.proofs.Common.{◌≡◌, ◌<◌, ◌≤◌, ◌∙◌, ap, arith, refl, subst, sym, length}
+use Rattle.std.proofs.Common.{arith, subst, sym}
 use Rattle.capn_value.specs.Tree.{Tree}
 use Rattle.capn_canon.specs.inner.Sound.{Sound}
 use Rattle.capn_canon.specs.inner.TreeSlots.{HasValue, values_of, PacksNumbers, AreBodies}
 use Rattle.capn_canon.specs.inner.Source.{IsItem}
-use Rattle.capn_canon.proofs.TreeItems.{root-is, slot-is}
+use Rattle.capn_canon.proofs.writer.TreeItems.{root-is, slot-is}
 use Rattle.capn_canon.proofs.tree_slots.TreeSlotsSource.item.Goals as goal
 
 pub item_of-requires : goal.item_of-requires

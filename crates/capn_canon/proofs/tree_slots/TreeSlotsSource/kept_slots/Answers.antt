@@ -1,5 +1,4 @@
-use Rattle.std.proofs.Common.{◌≡◌, ◌^◌, ◌<◌, ◌∙◌, ap, sym, subst, refl, arith, ℕ}
-use Rattle.capn_value.specs.Tree.{Bodies}
+use Rattle.std.proofs.Common.{◌∙◌, ap, arith}
 use Rattle.capn_value.specs.Trim.{kept_slots, kept_slots_of_rows}
 use Rattle.capn_value.specs.TreeOf.{trees_of}
 use Rattle.capn_canon.specs.inner.TreeSlots.{bodies_of}

@@ -1,5 +1,4 @@
-use Rattle.std.proofs.Common.{◌≡◌, ◌^◌, ◌<◌, ◌∙◌, ap, sym, subst, refl, arith, ℕ}
-use Rattle.capn_value.specs.Tree.{Bodies}
+use Rattle.std.proofs.Common.{◌∙◌, ap, arith}
 use Rattle.capn_value.specs.Trim.{kept_words, kept_words_of_rows}
 use Rattle.capn_canon.specs.inner.TreeSlots.{bodies_of}
 use Rattle.capn_canon.proofs.tree_slots.TreeSlotsSource.kept_words.Goals as goal

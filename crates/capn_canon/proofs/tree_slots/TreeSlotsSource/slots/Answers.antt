@@ -1,8 +1,8 @@
-use Rattle.std.proofs.Common.{◌≡◌, ◌<◌, ◌≤◌, ◌∙◌, ap, arith, refl, length, []}
+use Rattle.std.proofs.Common.{◌∙◌, ap, arith, refl, []}
 use Rattle.capn_value.specs.Tree.{count_rows}
 use Rattle.capn_value.specs.Views.{count_rows-rows_of}
 use Rattle.capn_canon.specs.inner.TreeSlots.{bodies_of}
-use Rattle.capn_canon.proofs.TreeItems.{rows-slots, row-slots}
+use Rattle.capn_canon.proofs.writer.TreeItems.{rows-slots, row-slots}
 use Rattle.capn_canon.proofs.tree_slots.TreeSlotsSource.slots.Goals as goal
 
 pub offset_bounds-bodies-row : goal.offset_bounds-bodies-row

@@ -1,0 +1,8 @@
+-- What the calls answer or refuse, for a message and for bytes in each form.
+pub mod AtRoot
+pub mod OfMessages
+pub mod OneBare
+pub mod Answered
+pub mod InEachForm
+pub mod Accounted
+pub mod MemoryNeeds

@@ -1,0 +1,119 @@
+-- What is answered or refused for a message is so for bytes that are read as it.
+use Rattle.std.proofs.Common.{◌≡◌, ℕ, ◌+◌, ◌*◌, ◌^◌, ◌≤◌, List, [], ◌∷◌, length, take, ap, subst, ◌∙◌, arith, Result}
+use Rattle.std.proofs.Common.{Ok, Err, MatchResult, IfOk, IfErr, IsErrOf, None}
+use Rattle.std.proofs.Math.Seq.{take-length}
+use Rattle.std.proofs.lemmas.Result.{IfOk-weaker, IfErr-weaker}
+use Rattle.capn_words.specs.Message.{IsBare}
+use Rattle.capn_stream.specs.Frames.{Frames, StandsFirst}
+use Rattle.capn_value.specs.Tree.{Tree}
+use Rattle.capn_value.specs.FirstCap.{first_cap}
+use Rattle.capn_walk.specs.Limits.{Bounds}
+use Rattle.capn_canon.specs.declared.form.Form.{Form}
+use Rattle.capn_canon.specs.declared.form.Form.TheVariants as forms
+use Rattle.capn_canon.specs.declared.refusal.Refusal.{Refusal}
+use Rattle.capn_canon.specs.declared.refusal.Refusal.TheVariants as refusals
+use Rattle.capn_canon.specs.Layout.{canon}
+use Rattle.capn_canon.specs.Reads.{IsFramed, Unpacks, Reads}
+use Rattle.capn_canon.specs.Denotes.{Denotes, AnswersMessage, Answers}
+use Rattle.capn_canon.specs.Refusal.{IsRefusedMessage, IsRefused, IsPaidWithin}
+use Rattle.capn_canon.specs.MemoryNeed.{MayNeedBytes, MayNeedBytesIn}
+use Rattle.capn_canon.specs.Canonicity.{IsCanonicalForm}
+use Rattle.capn_canon.specs.inner.Outcomes.{AreCanonicalised}
+use Rattle.capn_canon.proofs.calls.Answered.{answers_only, answers_length, answers_form}
+use Rattle.capn_canon.proofs.shared.NotRefused.{not_refused}
+use Rattle.capn_canon.proofs.calls.MemoryNeeds.{packed_bytes_wanted}
+
+-- the words of bare bytes are read
+pub bare_reads : (bs ws : List ℕ) (most : ℕ) → IsBare bs ws → Reads forms.Bare bs most (ws ∷ [])
+bare_reads bs ws most h = (ws, h, λ i. ws ∷ [])
+
+-- a frame that stands first and takes all bytes is read
+pub frame_reads : (bs : List ℕ) (most : ℕ) (m : List (List ℕ)) (taken : ℕ) → StandsFirst bs most m taken
+    → length bs ≤ taken → IsFramed bs most m
+frame_reads bs most m taken h l =
+    let e : taken ≡ length bs = let i = h.inside in omega arith in
+    let all : take taken bs ≡ bs = ap (λ (n : ℕ). take n bs) e ∙ take-length bs in
+    record { frame = subst (λ (xs : List ℕ). Frames xs m) all h.frame; room = h.room }
+
+-- what is refused for an unpacked frame is refused for its packed text
+pub packed_refused : (bs text : List ℕ) (limits : Bounds) (r : Refusal) → Unpacks bs limits.message_words text
+    → IsRefused forms.Stream text limits r → IsRefused forms.Packed bs limits r
+packed_refused bs text limits (refusals.Walk s) u (m, i, h) = (m, (text, u, i), h)
+packed_refused bs text limits (refusals.Capability k) u (m, i, h) = (m, (text, u, i), h)
+packed_refused bs text limits refusals.Memory u h = tt
+packed_refused bs text limits (refusals.Frame e) u h = (text, u, h)
+packed_refused bs text limits (refusals.Trailing at) u h = (text, u, h)
+packed_refused bs text limits (refusals.Bare e) u h = absurd h
+packed_refused bs text limits (refusals.Packed e) u h = absurd h
+
+-- why a message is refused is why the bytes are that are read as it
+refused_as : (form : Form) (bs : List ℕ) (limits : Bounds) (m : List (List ℕ)) → Reads form bs limits.message_words m
+    → (e : Refusal) → IsRefusedMessage m limits e → IsRefused form bs limits e
+refused_as form bs limits m is (refusals.Walk s) h = (m, is, h)
+refused_as form bs limits m is (refusals.Capability k) h = (m, is, h)
+refused_as form bs limits m is refusals.Memory h = tt
+refused_as form bs limits m is (refusals.Frame e) h = absurd h
+refused_as form bs limits m is (refusals.Trailing at) h = absurd h
+refused_as form bs limits m is (refusals.Bare e) h = absurd h
+refused_as form bs limits m is (refusals.Packed e) h = absurd h
+
+-- ---- results of calls
+
+-- what a call answers or refuses for a message is so for the bytes that are read as it,
+pub canonicalised_as : {T : Type 0} (r : Result T Refusal) (bytes_of : T → List ℕ) (price_of : T → ℕ) (form : Form)
+    (bs : List ℕ) (limits : Bounds) (m : List (List ℕ)) → Reads form bs limits.message_words m
+    → (MayNeedBytes m limits → MayNeedBytesIn form bs limits)
+    → IfOk r (λ c. AnswersMessage m limits (bytes_of c) (price_of c)) → IfErr r (λ e. IsRefusedMessage m limits e)
+    → (IsErrOf r refusals.Memory → MayNeedBytes m limits)
+    → MatchResult r (λ c. price_of c ≤ limits.budget) (λ e. IsPaidWithin limits.budget e)
+    → AreCanonicalised form bs limits r bytes_of price_of
+canonicalised_as r bytes_of price_of form bs limits m is want f e w b = record {
+  found = IfOk-weaker r _ _ (λ c h. record { message = m; reads = is; answer = h }) f;
+  refused = IfErr-weaker r _ _ (refused_as form bs limits m is) e;
+  wanted = λ x. want (w x);
+  bounded = b;
+}
+
+-- and what one does for an unpacked frame is so for its packed text
+pub packed_canonicalised : {T : Type 0} (r : Result T Refusal) (bytes_of : T → List ℕ) (price_of : T → ℕ)
+    (bs text : List ℕ) (limits : Bounds) → Unpacks bs limits.message_words text →
+    AreCanonicalised forms.Stream text limits r bytes_of price_of
+    → AreCanonicalised forms.Packed bs limits r bytes_of price_of
+packed_canonicalised r bytes_of price_of bs text limits u h = record {
+  found = IfOk-weaker r _ _ (λ c a. record { message = a.message; reads = (text, u, a.reads); answer = a.answer })
+      h.found;
+  refused = IfErr-weaker r _ _ (λ e. packed_refused bs text limits e u) h.refused;
+  wanted = λ e. packed_bytes_wanted bs text limits u (h.wanted e);
+  bounded = h.bounded;
+}
+
+-- a call that answers and refuses so answers the canonical bytes of any value without capabilities that the bytes
+-- denote
+pub found_only : {T : Type 0} (r : Result T Refusal) (bytes_of : T → List ℕ) (price_of : T
+    → ℕ) (form : Form) (bs : List ℕ) (limits : Bounds) →
+    IfOk r (λ c. Answers form bs limits (bytes_of c) (price_of c)) → IfErr r (λ e. IsRefused form bs limits e) →
+    (v : Tree) → Denotes form bs limits v → first_cap v ≡ None
+    → MatchResult r (λ c. bytes_of c ≡ canon v) (λ e. e ≡ refusals.Memory)
+found_only (Ok c) bytes_of price_of form bs limits h g v d n =
+    answers_only form bs limits (bytes_of c) (price_of c) h v d
+found_only (Err e) bytes_of price_of form bs limits h g v d n = not_refused form bs limits v e d n g
+
+-- its answer is at most 8 bytes for each word paid and 8 more,
+pub found_short : {T : Type 0} (r : Result T Refusal) (bytes_of : T → List ℕ) (price_of : T
+    → ℕ) (form : Form) (bs : List ℕ) (limits : Bounds) →
+    limits.message_words ≤ 2 ^ 28 → limits.budget ≤ 2 ^ 28 → limits.depth ≤ 256 →
+    IfOk r (λ c. Answers form bs limits (bytes_of c) (price_of c))
+    → IfOk r (λ c. length (bytes_of c) ≤ 8 * (price_of c + 1))
+found_short r bytes_of price_of form bs limits few small shallow =
+    IfOk-weaker r _ _ (λ c h. answers_length form bs limits (bytes_of c) (price_of c) h few small shallow)
+
+-- and has all that a canonical form has
+pub found_form : {T : Type 0} (r : Result T Refusal) (bytes_of : T → List ℕ) (price_of : T
+    → ℕ) (form : Form) (bs : List ℕ) (limits : Bounds) (Q : T → Tree → Type 0) →
+    ((c : T) (v : Tree) → IsCanonicalForm (bytes_of c) limits v → Q c v) →
+    limits.message_words ≤ 2 ^ 28 → limits.budget ≤ 2 ^ 28 → limits.depth ≤ 256 →
+    IfOk r (λ c. Answers form bs limits (bytes_of c) (price_of c))
+    → IfOk r (λ c. (v : Tree) → Denotes form bs limits v → Q c v)
+found_form r bytes_of price_of form bs limits Q part few small shallow =
+    IfOk-weaker r _ _
+    (λ c h v d. part c v (answers_form form bs limits (bytes_of c) (price_of c) h few small shallow v d))

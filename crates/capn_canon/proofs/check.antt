@@ -1,0 +1,11 @@
+-- The check that makes no copy: what is expected at each slot, and what the pass over the words finds.
+pub mod DueWords
+pub mod DueSlots
+pub mod DueObjects
+pub mod DueLists
+pub mod DueComposite
+pub mod DueRoot
+pub mod FoundNear
+pub mod PassLeads
+pub mod CanonicalSurvey
+pub mod DepthOfCanonical

@@ -1,0 +1,226 @@
+-- A list of numbers that stands where its layout has it.
+use Rattle.std.proofs.Common.{◌≡◌, ℕ, zero, suc, ◌+◌, ◌*◌, ◌^◌, ◌<◌, ◌≤◌, ◌==◌, Bool, List, [], ◌∷◌, length, take}
+use Rattle.std.proofs.Common.{drop, slice_index, map, None, Ok, refl, ap, sym, ◌∙◌, arith, length-drop}
+use Rattle.std.specs.Int.{from_bool}
+use Rattle.std.proofs.lemmas.List.{length-take-le}
+use Rattle.capn_words.specs.Message.{IsMessage}
+use Rattle.capn_words.specs.declared.pointer.Width.{Width}
+use Rattle.capn_words.specs.declared.pointer.Width.TheVariants.{W0, W1, W8, W16, W32, W64, Link, Rows}
+use Rattle.capn_value.specs.Tree.{Tree, voids, bits, bytes, pairs, quads, octs}
+use Rattle.capn_value.specs.Cost.{height}
+use Rattle.capn_value.specs.FirstCap.{first_cap}
+use Rattle.capn_walk.specs.declared.target.Target.TheVariants as targets
+use Rattle.capn_walk.specs.declared.target.Shape.TheVariants as shapes
+use Rattle.capn_walk.specs.Target.{target, words_for}
+use Rattle.capn_walk.specs.Shapes.{IsPlain}
+use Rattle.capn_walk.specs.ValueAt.{element, AreElements, IsInside}
+use Rattle.capn_walk.specs.Visits.{price}
+use Rattle.capn_walk.proofs.shared.Walks.{is-inside}
+use Rattle.capn_canon.specs.Layout.{size, list_to}
+use Rattle.capn_canon.specs.inner.FirstBits.{element_bits, first_bits}
+use Rattle.capn_canon.specs.inner.InPlace.{IsInPlace}
+use Rattle.capn_canon.specs.inner.Sound.{Sound}
+use Rattle.capn_canon.specs.inner.WordsOfLayout.{Stand}
+use Rattle.capn_canon.proofs.places.ComparedList.{list-size, list-stands, plain-too}
+use Rattle.capn_canon.proofs.content.Copied.{part-below}
+use Rattle.capn_canon.proofs.content.FirstBits.{plain-words}
+use Rattle.capn_canon.proofs.places.InPlace.{pays-none, pays-as, pays-object}
+use Rattle.capn_canon.proofs.reading.LaidPointers.{list-names}
+use Rattle.capn_canon.proofs.reading.OneSegment.{here}
+
+-- ---- a list of what each index has
+
+abbrev listed : {A : Type 0} → (ℕ → A) → ℕ → List A
+listed f zero = []
+listed f (suc n) = f 0 ∷ listed (λ i. f (suc i)) n
+
+length-listed : {A : Type 0} → (f : ℕ → A) (n : ℕ) → length (listed f n) ≡ n
+length-listed f zero = refl
+length-listed f (suc n) = ap suc (length-listed (λ i. f (suc i)) n)
+
+listed-at : (f : ℕ → ℕ) (n i : ℕ) → i < n → slice_index (listed f n) i ≡ f i
+listed-at f zero i h = absurd (omega arith)
+listed-at f (suc n) zero h = refl
+listed-at f (suc n) (suc i) h = listed-at (λ j. f (suc j)) n i (omega arith)
+
+listed-below : (f : ℕ → ℕ) (bound n i : ℕ) → 0 < bound → ((j : ℕ) → f j < bound) → slice_index (listed f n) i < bound
+listed-below f bound zero i some h = some
+listed-below f bound (suc n) zero some h = h 0
+listed-below f bound (suc n) (suc i) some h = listed-below (λ j. f (suc j)) bound n i some (λ j. h (suc j))
+
+map-listed : (f : ℕ → Bool) (n : ℕ) → map from_bool (listed f n) ≡ listed (λ i. from_bool (f i)) n
+map-listed f zero = refl
+map-listed f (suc n) = ap (λ (xs : List ℕ). from_bool (f 0) ∷ xs) (map-listed (λ i. f (suc i)) n)
+
+-- a number below 2 as a bit
+bit-of : (n : ℕ) → n < 2 → from_bool (n == 1) ≡ n
+bit-of zero h = refl
+bit-of (suc zero) h = refl
+bit-of (suc (suc n)) h = absurd (omega arith)
+
+elements-listed : (each width : ℕ) (ws : List ℕ) (n : ℕ)
+    → AreElements each width ws (listed (element each width ws) n)
+elements-listed each width ws n i h =
+    let l = length-listed (element each width ws) n in
+    listed-at (element each width ws) n i (omega arith)
+
+bits-listed : (ws : List ℕ) (n : ℕ)
+    → AreElements 64 1 ws (map from_bool (listed (λ i. element 64 1 ws i == 1) n))
+bits-listed ws n i h =
+    let f : ℕ → Bool = λ i. element 64 1 ws i == 1 in
+    let e = map-listed f n in
+    let l = length-listed (λ i. from_bool (f i)) n in
+    let k = ap length e in
+    let at = ap (λ (xs : List ℕ). slice_index xs i) e in
+    at ∙ listed-at (λ i. from_bool (f i)) n i (omega arith) ∙ bit-of (element 64 1 ws i) (omega arith)
+
+-- ---- the value
+
+-- a list of that many numbers stands inside its content
+pub record Numbers (all : List ℕ) (width : Width) (n to : ℕ) : Type 0 where
+  pub value : Tree
+  pub inside : IsInside (all ∷ []) (shapes.Many width n) 0 to value
+  pub sound : Sound value
+  pub free : first_cap value ≡ None
+  pub high : height value ≡ 1
+
+numbers-of : (all : List ℕ) (width : Width) (n to : ℕ) → IsPlain width → n < 2 ^ 29
+    → to + words_for (element_bits width * n) ≤ length all → Numbers all width n to
+numbers-of all W0 n to plain few room = record {
+  value = voids n;
+  inside = refl;
+  sound = few;
+  free = refl;
+  high = refl;
+}
+numbers-of all W1 n to plain few room =
+    let ws = drop to all in
+    let l = length-listed (λ i. element 64 1 ws i == 1) n in
+    record {
+      value = bits (listed (λ i. element 64 1 ws i == 1) n);
+      inside = (ap (shapes.Many W1) (sym l), bits-listed ws n);
+      sound = omega arith;
+      free = refl;
+      high = refl;
+    }
+numbers-of all W8 n to plain few room =
+    let ws = drop to all in
+    let l = length-listed (element 8 8 ws) n in
+    record {
+      value = bytes (listed (element 8 8 ws) n);
+      inside = (ap (shapes.Many W8) (sym l), elements-listed 8 8 ws n);
+      sound = (omega arith, (λ i. listed-below (element 8 8 ws) (2 ^ 8) n i (omega arith) (λ j. omega arith)));
+      free = refl;
+      high = refl;
+    }
+numbers-of all W16 n to plain few room =
+    let ws = drop to all in
+    let l = length-listed (element 4 16 ws) n in
+    record {
+      value = pairs (listed (element 4 16 ws) n);
+      inside = (ap (shapes.Many W16) (sym l), elements-listed 4 16 ws n);
+      sound = (omega arith, (λ i. listed-below (element 4 16 ws) (2 ^ 16) n i (omega arith) (λ j. omega arith)));
+      free = refl;
+      high = refl;
+    }
+numbers-of all W32 n to plain few room =
+    let ws = drop to all in
+    let l = length-listed (element 2 32 ws) n in
+    record {
+      value = quads (listed (element 2 32 ws) n);
+      inside = (ap (shapes.Many W32) (sym l), elements-listed 2 32 ws n);
+      sound = (omega arith, (λ i. listed-below (element 2 32 ws) (2 ^ 32) n i (omega arith) (λ j. omega arith)));
+      free = refl;
+      high = refl;
+    }
+numbers-of all W64 n to plain few room =
+    let ws = drop to all in
+    let d = length-drop to all in
+    let l : length (take n ws) ≡ n = length-take-le n ws (omega arith) in
+    record {
+      value = octs (take n ws);
+      inside = (ap (shapes.Many W64) (sym l), ap (λ (k : ℕ). take k ws) l);
+      sound = omega arith;
+      free = refl;
+      high = refl;
+    }
+numbers-of all Link n to plain few room = absurd plain
+numbers-of all Rows n to plain few room = absurd plain
+
+-- ---- in place
+
+module _ (all : List ℕ) (base from to d : ℕ) (width : Width) (n : ℕ) (message : IsMessage (all ∷ []))
+    (small : length all ≤ 2 ^ 29) (plain : IsPlain width) (order : from < to)
+    (room : to + words_for (element_bits width * n) ≤ length all) (few : n < 2 ^ 29) (deep : 0 < d)
+    (word : slice_index all from ≡ list_to from to width n)
+    (stand : Stand all to (first_bits (element_bits width * n) (drop to all))) where
+  named : target (all ∷ []) (here from) ≡ Ok (targets.Content 0 to (shapes.Many width n) 0)
+  named = let k = plain-words width n plain in
+      list-names all small from to n width (plain-too width plain) order (omega arith) few word
+
+  pub numbers : Numbers all width n to
+  numbers = numbers-of all width n to plain few room
+
+  abbrev pub numbers-value : Tree
+  numbers-value = numbers.value
+
+  no-slots : (k : Width) → IsPlain k → Rattle.capn_walk.specs.Visits.slots 0 to (shapes.Many k n) ≡ []
+  no-slots W0 h = refl
+  no-slots W1 h = refl
+  no-slots W8 h = refl
+  no-slots W16 h = refl
+  no-slots W32 h = refl
+  no-slots W64 h = refl
+  no-slots Link h = absurd h
+  no-slots Rows h = absurd h
+
+  content-room : to + Rattle.capn_walk.specs.Target.content_words width n ≤ length all
+  content-room = let k = plain-words width n plain in omega arith
+
+  fits : to ≤ length all
+  fits = omega arith
+
+  pub numbers-in-place : IsInPlace all base from to d numbers-value (price base (shapes.Many width n)) 0
+  numbers-in-place =
+      let e = no-slots width plain in
+      record {
+        is = is-inside (all ∷ []) (here from) 0 to 0 (shapes.Many width n) numbers.value named numbers.inside;
+        laid = list-stands all width n 0 to from to 0 named plain few small (part-below (all ∷ []) 0 to message)
+            content-room order numbers.value numbers.inside numbers.sound fits word room stand;
+        sound = numbers.sound;
+        free = numbers.free;
+        pays = pays-as _ (price base (shapes.Many width n) + 0) (price base (shapes.Many width n)) 1 1 (omega arith)
+            refl
+            (pays-object all base from d to 0 0 (shapes.Many width n) named deep (rw e pays-none));
+        few = omega arith;
+      }
+
+  pub numbers-high : height numbers-value ≡ 1
+  numbers-high = numbers.high
+
+  pub numbers-end : size numbers-value ≡ words_for (element_bits width * n)
+  numbers-end = list-size all width n 0 to from to 0 named plain few small (part-below (all ∷ []) 0 to message)
+      content-room order numbers.value numbers.inside numbers.sound fits
+
+-- what such a list costs: its words, and each element that has no size
+pub price-none : (base n : ℕ) (width : Width) → width ≡ W0
+    → price base (shapes.Many width n) ≡ base + words_for (element_bits width * n) + n
+price-none base n W0 h = omega arith
+price-none base n W1 h = absurd cc
+price-none base n W8 h = absurd cc
+price-none base n W16 h = absurd cc
+price-none base n W32 h = absurd cc
+price-none base n W64 h = absurd cc
+price-none base n Link h = absurd cc
+price-none base n Rows h = absurd cc
+
+pub price-some : (base n : ℕ) (width : Width) → IsPlain width → (width ≡ W0 → ⊥)
+    → price base (shapes.Many width n) ≡ base + words_for (element_bits width * n) + 0
+price-some base n W0 plain h = absurd (h refl)
+price-some base n W1 plain h = omega arith
+price-some base n W8 plain h = omega arith
+price-some base n W16 plain h = omega arith
+price-some base n W32 plain h = omega arith
+price-some base n W64 plain h = omega arith
+price-some base n Link plain h = absurd plain
+price-some base n Rows plain h = absurd plain

@@ -1,0 +1,9 @@
+-- Canonical bytes are a canonical form, equal exactly where the values are the same; and worked messages.
+pub mod BareCanon
+pub mod CanonOfTrimmed
+pub mod CapOfTrimmed
+pub mod InRangeAt
+pub mod EqualExactlySame
+pub mod Headline
+pub mod TheTheorem
+pub mod WorkedCanon
