@@ -1,6 +1,6 @@
 -- What the subcommands order that have more than one order, or one with a flag.
 use Rattle.std.proofs.Common.{◌≡◌, ◌⊎◌, inl, inr, Bor, List, Bool, true, false, Option, Some, None, IsSome, codes}
-use Rattle.std.proofs.Common.{arith, refl, sym}
+use Rattle.std.proofs.Common.{arith, refl, sym, ap, ℕ, ◌==◌, ◌||◌}
 use Rattle.clap.specs.Words.{Row, Text, first_of}
 use Rattle.capn_walk.specs.Limits.{Bounds}
 use Rattle.capn_canon.specs.declared.form.Form.{Form}
@@ -50,8 +50,8 @@ list_means rows (orders.Archive a) m = (a, digest a.task m.0 (told (codes "list"
 -- what `canonical` orders is over one message, without its flags, or over an archive, with `--framed`
 abbrev pub CanonicalMeans : List Row → Type 0
 CanonicalMeans rows =
-    ((c : Command) × Means (Some (codes "canonical", rows)) c × FlagIs rows (codes "framed") false
-    × FlagIs rows (codes "keep-going") false)
+    ((form : Form) × (limits : Bounds) × FormIs rows form × LimitsAre rows limits
+    × FlagIs rows (codes "framed") false × FlagIs rows (codes "keep-going") false)
     ⊎ ((a : Archive) × FlagIs rows (codes "framed") true × AreOptions rows a)
 
 pub canonical_means : (rows : List Row) (o : Order) → MeansOrder (Some (codes "canonical", rows)) o
@@ -66,7 +66,7 @@ canonical_means rows o m = go o m (told (codes "canonical", rows) o m)
     framed tasks.Canonical is e = is.1
 
     go : (o : Order) → MeansOrder (Some (codes "canonical", rows)) o → 317 ≡ tell_of o → CanonicalMeans rows
-    go (orders.Message (commands.Canonical f l)) m e = inl (commands.Canonical f l, m.0, m.1.0, m.1.1)
+    go (orders.Message (commands.Canonical f l)) m e = inl (f, l, m.0.1, m.0.2, m.1.0, m.1.1)
     go (orders.Message (commands.Show f l)) m e = absurd (omega arith)
     go (orders.Message (commands.Check f l)) m e = absurd (omega arith)
     go (orders.Message commands.Pack) m e = absurd (omega arith)
@@ -79,6 +79,81 @@ canonical_means rows o m = go o m (told (codes "canonical", rows) o m)
     go (orders.Flow flows.Unpack) m e = absurd (omega arith)
     go (orders.Make f) m e = absurd (omega arith)
     go (orders.Archive a) m e = inr (a, framed a.task m.0 e, m.1)
+
+-- what `check` and `hash` order has a form and limits
+abbrev pub SurveyMeans : List Row → Type 0
+SurveyMeans rows = (form : Form) × (limits : Bounds) × FormIs rows form × LimitsAre rows limits
+
+-- the two characters of their names
+abbrev is_survey : ℕ → Bool
+is_survey n = n == 306 || n == 327
+
+survey_means : (name : Text) (rows : List Row) (o : Order) → MeansOrder (Some (name, rows)) o
+    → is_survey (tell_of o) ≡ true → SurveyMeans rows
+survey_means name rows o m e = go o m e
+  where
+    other : false ≡ true → SurveyMeans rows
+    other e = absurd (cc)
+
+    task : (t : Task) → is_survey (tell_task t) ≡ true → SurveyMeans rows
+    task tasks.List e = other e
+    task tasks.Digests e = other e
+    task tasks.Limits e = other e
+    task tasks.Canonical e = other e
+
+    go : (o : Order) → MeansOrder (Some (name, rows)) o → is_survey (tell_of o) ≡ true → SurveyMeans rows
+    go (orders.Message (commands.Show f l)) m e = (f, l, m.0.1, m.0.2)
+    go (orders.Message (commands.Check f l)) m e = (f, l, m.0.1, m.0.2)
+    go (orders.Message (commands.Canonical f l)) m e = (f, l, m.0.1, m.0.2)
+    go (orders.Message (commands.Hash f l)) m e = (f, l, m.0.1, m.0.2)
+    go (orders.Message commands.Pack) m e = other e
+    go (orders.Message (commands.Unpack k)) m e = other e
+    go (orders.Show s) m e = other e
+    go (orders.Uniq u) m e = other e
+    go (orders.Pick p) m e = other e
+    go (orders.Flow flows.Pack) m e = other e
+    go (orders.Flow flows.Unpack) m e = other e
+    go (orders.Make f) m e = other e
+    go (orders.Archive a) m e = task a.task e
+
+pub check_means : (rows : List Row) (o : Order) → MeansOrder (Some (codes "check", rows)) o → SurveyMeans rows
+check_means rows o m =
+    survey_means (codes "check") rows o m (sym (ap is_survey (told (codes "check", rows) o m)))
+
+pub hash_means : (rows : List Row) (o : Order) → MeansOrder (Some (codes "hash", rows)) o → SurveyMeans rows
+hash_means rows o m =
+    survey_means (codes "hash") rows o m (sym (ap is_survey (told (codes "hash", rows) o m)))
+
+-- the names of the subcommands
+abbrev pub IsName : Text → Type 0
+IsName name =
+    (name ≡ codes "show") ⊎ ((name ≡ codes "check") ⊎ ((name ≡ codes "list") ⊎ ((name ≡ codes "limits")
+    ⊎ ((name ≡ codes "canonical") ⊎ ((name ≡ codes "uniq") ⊎ ((name ≡ codes "pick") ⊎ ((name ≡ codes "pack")
+    ⊎ ((name ≡ codes "unpack") ⊎ ((name ≡ codes "make") ⊎ (name ≡ codes "hash"))))))))))
+
+pub named : (name : Text) (rows : List Row) (o : Order) → MeansOrder (Some (name, rows)) o → IsName name
+named name rows o m = go o m
+  where
+    task : (t : Task) → IsTask name rows t → IsName name
+    task tasks.List is = inr (inr (inl is.0))
+    task tasks.Digests is = inr (inr (inl is.0))
+    task tasks.Limits is = inr (inr (inr (inl is)))
+    task tasks.Canonical is = inr (inr (inr (inr (inl is.0))))
+
+    go : (o : Order) → MeansOrder (Some (name, rows)) o → IsName name
+    go (orders.Message (commands.Show f l)) m = inl m.0.0
+    go (orders.Message (commands.Check f l)) m = inr (inl m.0.0)
+    go (orders.Message commands.Pack) m = inr (inr (inr (inr (inr (inr (inr (inl m.0)))))))
+    go (orders.Message (commands.Unpack k)) m = inr (inr (inr (inr (inr (inr (inr (inr (inl m.0.0))))))))
+    go (orders.Message (commands.Canonical f l)) m = inr (inr (inr (inr (inl m.0.0))))
+    go (orders.Message (commands.Hash f l)) m = inr (inr (inr (inr (inr (inr (inr (inr (inr (inr m.0.0)))))))))
+    go (orders.Show s) m = inl m.0
+    go (orders.Archive a) m = task a.task m.0
+    go (orders.Uniq u) m = inr (inr (inr (inr (inr (inl m.0)))))
+    go (orders.Pick p) m = inr (inr (inr (inr (inr (inr (inl m.0))))))
+    go (orders.Flow flows.Pack) m = inr (inr (inr (inr (inr (inr (inr (inl m.0)))))))
+    go (orders.Flow flows.Unpack) m = inr (inr (inr (inr (inr (inr (inr (inr (inl m.0))))))))
+    go (orders.Make f) m = inr (inr (inr (inr (inr (inr (inr (inr (inr (inl m.0)))))))))
 
 -- of `pack` and `unpack` it is told whether `--streaming` is given
 abbrev pub IsToldStreaming : List Row → Type 0

@@ -1,64 +1,30 @@
 //! What the words of the command line order.
 
-ghost use Rattle.std.specs.Prelude.{◌≡◌, ◌≤◌, ◌⊎◌, ◌↔◌, ◌<◌, ◌^◌, ℕ, Bool, true, codes, map};
-ghost use Rattle.std.specs.Prelude.{IfErr, IfOk, IfSome, IsSome, IsTrue, Some};
-ghost use Rattle.clap.specs.Words.{FailsBy, HasMatchesOf, fault_of, found_of, kind_of, rows_of, subcommand_of, takes};
+ghost use Rattle.std.specs.Prelude.{◌≡◌, ◌⊎◌, true, codes, map};
+ghost use Rattle.std.specs.Prelude.{IfErr, IfOk, IfSome, IsSome, Some};
+ghost use Rattle.clap.specs.Words.{found_of, kind_of, rows_of, subcommand_of, takes};
 ghost use Rattle.clap.specs.declared.error.ErrorKind.TheVariants as kinds;
-ghost use Rattle.capn_words.specs.Message.{most_message_words};
 ghost use Rattle.capn_tool.specs.Usage.{error_of};
 ghost use Rattle.capn_archive.specs.declared.task.Archive.{Archive};
-ghost use Rattle.capn_tool.specs.Meaning.{FormIs, NumberIs};
 ghost use Rattle.capn_archive.specs.declared.uniq.Uniq.{Uniq};
 ghost use Rattle.capn_serve.specs.declared.pick.Pick.{Pick};
-ghost use Rattle.capn_serve.specs.declared.pick.StreamForm.{StreamForm};
 ghost use Rattle.capn_program.specs.CommandLine.{program_line};
-ghost use Rattle.capn_program.specs.Meaning.{AreOptions, FlagIs, IsUsual, MeansOrder, NumberIn, PickIs, UniqIs};
-ghost use Rattle.capn_program.specs.Meaning.{form_of, source_of, usual_with};
+ghost use Rattle.capn_program.specs.Meaning.{AreOptions, MeansOrder, PickIs, UniqIs};
 ghost use Rattle.capn_program.specs.Usage.{IsReason, Orders};
 ghost use Rattle.capn_program.specs.declared.order.Order.{Order};
 
-use crate::help;
+use crate::option_help;
+use crate::option_values::{flag_of, is_usual, limits_with, number_in, stream_form_of};
 use crate::order::{Flow, Order};
 use crate::show_options::{said_of_show, show_of};
 use crate::subcommands::{mistake, program_command};
 use capn_archive::{Archive, Task, Uniq};
-use capn_serve::{Pick, StreamForm};
-use capn_tool::{Command, Form, Usage, help as tool_help, parts};
-use capn_walk::Limits;
+use capn_serve::Pick;
+use capn_tool::{Command, Usage, help as tool_help, parts};
 use capn_words::MOST_MESSAGE_WORDS;
 use clap::ArgMatches;
-use clap::parser::ValueSource;
 use std::alloc::Global;
 use std::convert::AsStr;
-
-/// Whether the flag of this name is given.
-pub(crate) fn flag_of(matches: &ArgMatches, id: &str) -> Option<bool>
-    ensures read { IfSome result (λ given. FlagIs (rows_of (found_of matches.now)) id.now given) }
-    ensures served { (given : Bool) → FlagIs (rows_of (found_of matches.now)) id.now given → IsSome result }
-{
-    let given = matches.get_one::<bool>(id)?;
-    Some(given)
-}
-
-/// Where the value of an option comes from.
-fn origin_of(matches: &ArgMatches, id: &str) -> Option<ValueSource>
-    ensures { result ≡ source_of (rows_of (found_of matches.now)) id.now }
-{
-    matches.value_source(id)
-}
-
-/// Whether an option is not given, and has its usual value.
-fn is_usual(matches: &ArgMatches, id: &str) -> bool
-    ensures { IsTrue result ↔ IsUsual (rows_of (found_of matches.now)) id.now }
-{
-    match origin_of(matches, id) {
-        Some(source) => match source {
-            ValueSource::DefaultValue => true,
-            ValueSource::CommandLine => false,
-        },
-        None => false,
-    }
-}
 
 /// The run over an archive that is for this task and has these options, if they mean one.
 fn archive_of(task: Task, matches: &ArgMatches) -> Option<Archive>
@@ -104,53 +70,6 @@ fn uniq_of(matches: &ArgMatches) -> Option<Uniq>
     })
 }
 
-/// The number that an option has, given or usual.
-fn number_of(matches: &ArgMatches, id: &str) -> Option<u64>
-    ensures read { IfSome result (λ n. NumberIs (rows_of (found_of matches.now)) id.now n) }
-    ensures served { (n : ℕ) → NumberIs (rows_of (found_of matches.now)) id.now n → n < 2 ^ 64 → IsSome result }
-{
-    let number = matches.get_one::<u64>(id)?;
-    Some(number)
-}
-
-/// The number that an option has, given or usual, if it is from the least to the most.
-fn number_in(matches: &ArgMatches, id: &str, least: u64, most: u64) -> Option<u64>
-    ensures read { IfSome result (NumberIn (rows_of (found_of matches.now)) id.now least most) }
-    ensures served { (n : ℕ) → NumberIn (rows_of (found_of matches.now)) id.now least most n → n < 2 ^ 64
-        → IsSome result }
-{
-    let number = number_of(matches, id)?;
-    if least <= number && number <= most {
-        return Some(number);
-    }
-    None
-}
-
-/// The form of a stream that `--form` names, if it names one.
-fn stream_form_of(matches: &ArgMatches) -> Option<StreamForm>
-    ensures named { IfSome result (λ form. FormIs (rows_of (found_of matches.now)) (form_of form)) }
-    ensures served { (form : StreamForm) → FormIs (rows_of (found_of matches.now)) (form_of form) → IsSome result }
-{
-    match parts::form_of(matches)? {
-        Form::Stream => Some(StreamForm::Stream),
-        Form::Packed => Some(StreamForm::Packed),
-        Form::Bare => None,
-    }
-}
-
-/// The usual limits, with this number of words of a message.
-fn limits_with(words: u32) -> Limits
-    requires some { 1 ≤ words }
-    requires few { words ≤ most_message_words }
-    ensures { result ≡ usual_with words }
-{
-    let usual = Limits::usual();
-    match Limits::new(words, usual.budget(), usual.depth()) {
-        Some(limits) => limits,
-        None => usual,
-    }
-}
-
 /// The run of `pick` that has these options, if they mean one.
 fn pick_of(matches: &ArgMatches) -> Option<Pick>
     ensures are { IfSome result (PickIs (rows_of (found_of matches.now))) }
@@ -181,7 +100,9 @@ fn canonical_of<'a>(matches: &ArgMatches<'a>) -> Option<Order<'a>>
     if flag_of(matches, "keep-going")? {
         return None;
     }
-    Some(Order::Message(parts::order_of("canonical", matches)?))
+    let form = parts::form_of(matches)?;
+    let limits = parts::limits_of(matches)?;
+    Some(Order::Message(Command::Canonical(form, limits)))
 }
 
 /// What `pack` orders with these options, if they mean something: with `--streaming` it packs while bytes come in.
@@ -220,6 +141,11 @@ fn named_order<'a>(name: &str, matches: &ArgMatches<'a>) -> Option<Order<'a>>
 {
     match name {
         "show" => show_of(matches),
+        "check" => {
+            let form = parts::form_of(matches)?;
+            let limits = parts::limits_of(matches)?;
+            Some(Order::Message(Command::Check(form, limits)))
+        }
         "list" => list_of(matches),
         "limits" => Some(Order::Archive(archive_of(Task::Limits, matches)?)),
         "canonical" => canonical_of(matches),
@@ -228,7 +154,12 @@ fn named_order<'a>(name: &str, matches: &ArgMatches<'a>) -> Option<Order<'a>>
         "pack" => pack_of(matches),
         "unpack" => unpack_of(matches),
         "make" => Some(Order::Make(parts::form_of(matches)?)),
-        _ => Some(Order::Message(parts::order_of(name, matches)?)),
+        "hash" => {
+            let form = parts::form_of(matches)?;
+            let limits = parts::limits_of(matches)?;
+            Some(Order::Message(Command::Hash(form, limits)))
+        }
+        _ => None,
     }
 }
 
@@ -237,10 +168,10 @@ fn named_order<'a>(name: &str, matches: &ArgMatches<'a>) -> Option<Order<'a>>
 /// `show`, and on `--keep-going` of `canonical`.
 fn said_of(name: &str, matches: &ArgMatches) -> &'static str {
     if name == "pick" {
-        return help::NO_FRAMED_FORM;
+        return option_help::NO_FRAMED_FORM;
     }
     if name == "unpack" {
-        return help::WITHOUT_MESSAGE_WORDS;
+        return option_help::WITHOUT_MESSAGE_WORDS;
     }
     if parts::form_of(matches).is_none() {
         return tool_help::NO_SUCH_FORM;
@@ -251,7 +182,7 @@ fn said_of(name: &str, matches: &ArgMatches) -> &'static str {
     if name == "show" {
         return said_of_show(matches);
     }
-    help::ONLY_FRAMED
+    option_help::ONLY_FRAMED
 }
 
 /// The command whose options mean nothing, and the message for them.
@@ -273,19 +204,6 @@ fn meaningless(alloc: Global, matches: &ArgMatches) -> Usage
     }
 }
 
-/// What the parser finds in the words, the first of them being the program's name.
-fn matches_of<'a, S: AsStr>(alloc: Global, words: &'a [S]) -> Result<ArgMatches<'a>, clap::Error>
-    ensures found { IfOk result (HasMatchesOf program_line (map S.text words.now)) }
-    ensures passes { IfErr result (λ e.
-        takes program_line (map S.text words.now) ≡ true → kind_of e ≡ kinds.OutOfMemory) }
-    ensures kinds { FailsBy (fault_of program_line (map S.text words.now)) result }
-{
-    match program_command(alloc) {
-        Ok(tool) => tool.try_get_matches_from(words),
-        Err(error) => Err(error.into()),
-    }
-}
-
 /// What the words order, the first of them being the program's name: the subcommand's work, with the form, the limits,
 /// the tariff and the flags that its options have, given or usual. A request for help or for the version, a word, an
 /// option or a value that is not known, a number out of its range, a form or a tariff that the command does not take,
@@ -301,7 +219,8 @@ pub fn order_of<'a, S: AsStr>(alloc: Global, words: &'a [S]) -> Result<Order<'a>
     // Where none is given, the kind of the answer is a reason why the words order nothing.
     ensures reason { IfErr result (λ usage. IsReason (map S.text words.now) (kind_of (error_of usage))) }
 {
-    let matches = matches_of(alloc, words)?;
+    let tool = program_command(alloc)?;
+    let matches = tool.try_get_matches_from(words)?;
     let named = match matches.subcommand() {
         Some((name, found)) => named_order(name, found),
         None => None,

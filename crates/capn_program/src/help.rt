@@ -1,5 +1,5 @@
-//! The texts of help for what the program has in addition to the commands of `capn_tool`, in lines of at most 80
-//! columns as they are printed.
+//! The pages of help for the program and for the commands that `capn_tool` doesn't have or has with fewer options, in
+//! lines of at most 80 columns as they are printed.
 
 use capn_tool::help::Page;
 
@@ -62,23 +62,6 @@ Examples:
   capn show --at 0.3.1 < message
   capn show --json < messages",
 };
-
-/// `--at`.
-pub const AT: &str = "The way from the root to what is written: numbers
-parted by dots, as `0.3.1`";
-
-/// `--text`.
-pub const TEXT: &str = "Write a list of bytes that is a text between quotes";
-
-/// `--json`.
-pub const JSON: &str = "Write each message as a line of JSON; it goes without
-`--text`";
-
-/// The message for `--json` together with `--text`.
-pub const WITHOUT_TEXT: &str = "--json goes without --text";
-
-/// The message for a value that `--at` does not take.
-pub const NO_WAY: &str = "--at takes numbers below 2^64, parted by dots";
 
 /// `list`.
 pub const LIST: Page = Page {
@@ -260,71 +243,3 @@ under DIAGNOSTICS.
 Example:
   printf 'struct 1 0\\n  word 0000000000000005\\nend\\n' | capn make > message",
 };
-
-/// `--form` of `make`.
-pub const FORMS_OF_MADE: &str = "How messages are written: `stream`, each after its
-segment table; `packed`, the same, packed; or `bare`,
-one message with no table, like canonical
-bytes";
-
-/// `--form` of `canonical`.
-pub const FORMS_OF_CANONICAL: &str = "How the input holds its message, or its messages:
-`stream`, each after its segment table; `packed`, the
-same, packed; or `bare`, one message with no table,
-like canonical bytes";
-
-/// `--framed`.
-pub const FRAMED: &str = "Take every message of the input, and write a frame of
-one segment for each";
-
-/// `--keep-going` of `canonical`.
-pub const KEEP_FRAMING: &str = "With `--framed`: pass over a message that is refused,
-and go on with the next one";
-
-/// `--keep-going`.
-pub const KEEP_GOING: &str = "Pass over a message that is refused, and go on with
-the next one";
-
-/// `--form` of `pick`.
-pub const FORMS_OF_FRAMES: &str = "How the input holds its messages: `stream`, each
-after its segment table; or `packed`, the same,
-packed";
-
-/// `--message-words` of `pick`.
-pub const FRAMED_WORDS: &str = "The most words of a message, from 1 to
-268435456";
-
-/// `--from`.
-pub const FROM: &str = "The number of the first message, from 1";
-
-/// `--to`.
-pub const TO: &str = "The number of the last message; none is written if it
-is below `--from`";
-
-/// The message for a value that `--form` of `pick` does not take.
-pub const NO_FRAMED_FORM: &str = "--form takes stream or packed";
-
-/// `--digest`.
-pub const DIGEST: &str = "End each line with `sha256` and what `hash` writes of
-the message, or `-` if it has a capability";
-
-/// `--count`.
-pub const COUNT: &str = "Write no message, but at the end a line `U of N`: how
-many would be written, and of how many";
-
-/// `--streaming` of `pack`.
-pub const PACK_STREAMING: &str = "Write while the input comes in, which may have up to
-2^64 - 1 bytes, in at most 2 MiB of memory; what was
-written before a refusal stays written";
-
-/// `--streaming` of `unpack`.
-pub const UNPACK_STREAMING: &str = "Write while the input comes in, which may have up to
-2^64 - 1 bytes and any number of words, in at most
-2 MiB of memory; what was written before a refusal
-stays written. It goes without `--message-words`";
-
-/// The message for `--message-words` together with `--streaming`.
-pub const WITHOUT_MESSAGE_WORDS: &str = "--streaming goes without --message-words";
-
-/// The message for `--keep-going` if messages are not framed.
-pub const ONLY_FRAMED: &str = "--keep-going needs --framed";

@@ -19,6 +19,8 @@ mod flow_exit;
 mod help;
 pub mod laws;
 mod make_exit;
+mod option_help;
+mod option_values;
 mod order;
 mod part_run;
 mod part_texts;

@@ -8,8 +8,8 @@ ghost use Rattle.capn_program.specs.Meaning.{MeansOrder, StyleIs};
 ghost use Rattle.capn_program.specs.inner.Styles as spec;
 ghost use Rattle.capn_program.specs.declared.order.Order.{Order};
 
-use crate::command_line::flag_of;
-use crate::help;
+use crate::option_help;
+use crate::option_values::flag_of;
 use crate::order::{Order, Show};
 use crate::way::is_way;
 use capn_show::Style;
@@ -96,7 +96,7 @@ pub(crate) fn show_of<'a>(matches: &ArgMatches<'a>) -> Option<Order<'a>>
 /// The message for options of `show` that mean nothing although its form and its limits do.
 pub(crate) fn said_of_show(matches: &ArgMatches) -> &'static str {
     if style_of(matches).is_none() {
-        return help::WITHOUT_TEXT;
+        return option_help::WITHOUT_TEXT;
     }
-    help::NO_WAY
+    option_help::NO_WAY
 }

@@ -11,7 +11,7 @@ ghost use Rattle.capn_program.specs.CommandLine.{place_rule, program_line, readi
 ghost use Rattle.capn_program.specs.CommandLine.{show_line, unpacking_line, way_rule};
 ghost use Rattle.capn_tool.specs.CommandLine.{words_rule};
 
-use crate::help;
+use crate::{help, option_help};
 use capn_tool::help::Page;
 use capn_tool::{help as tool_help, parts};
 use capn_words::MOST_MESSAGE_WORDS;
@@ -67,7 +67,7 @@ fn way_option<'a>(alloc: Global) -> Arg<'a>
     Arg::new(alloc, "at")
         .long("at")
         .value_name("P")
-        .help(help::AT)
+        .help(option_help::AT)
 }
 
 /// `show`, with `--at`, `--text` and `--json`.
@@ -77,8 +77,8 @@ fn show_command<'a>(alloc: Global) -> Result<Command<'a>, AllocError>
     let forms = tool_help::FORMS_OF_MESSAGES;
     let command = parts::message_command(alloc, "show", help::SHOW, forms)?;
     let with_at = command.arg(way_option(alloc))?;
-    let with_text = with_at.arg(flag(alloc, "text", help::TEXT))?;
-    with_text.arg(flag(alloc, "json", help::JSON))
+    let with_text = with_at.arg(flag(alloc, "text", option_help::TEXT))?;
+    with_text.arg(flag(alloc, "json", option_help::JSON))
 }
 
 /// A command over an archive: with the options of one over messages, and `--keep-going`.
@@ -86,7 +86,7 @@ fn archive_command<'a>(alloc: Global, name: &'a str, page: Page) -> Result<Comma
     ensures { IfOk result (λ c. HasLine c (archive_line name.now)) }
 {
     let command = parts::message_command(alloc, name, page, tool_help::FORMS_OF_MESSAGES)?;
-    command.arg(flag(alloc, "keep-going", help::KEEP_GOING))
+    command.arg(flag(alloc, "keep-going", option_help::KEEP_GOING))
 }
 
 /// A command over an archive with one more option, of which help says this, and which takes no value.
@@ -107,10 +107,10 @@ fn flagged_command<'a>(
 fn canonical_command<'a>(alloc: Global) -> Result<Command<'a>, AllocError>
     ensures { IfOk result (λ c. HasLine c canonical_line) }
 {
-    let (page, forms) = (help::CANONICAL, help::FORMS_OF_CANONICAL);
+    let (page, forms) = (help::CANONICAL, option_help::FORMS_OF_CANONICAL);
     let command = parts::message_command(alloc, "canonical", page, forms)?;
-    let framed = command.arg(flag(alloc, "framed", help::FRAMED))?;
-    framed.arg(flag(alloc, "keep-going", help::KEEP_FRAMING))
+    let framed = command.arg(flag(alloc, "framed", option_help::FRAMED))?;
+    framed.arg(flag(alloc, "keep-going", option_help::KEEP_FRAMING))
 }
 
 /// The program without a command.
@@ -134,7 +134,7 @@ fn reading_command<'a>(alloc: Global) -> Result<Command<'a>, AllocError>
 fn surveying_command<'a>(alloc: Global) -> Result<Command<'a>, AllocError>
     ensures { IfOk result (λ c. app_of c ≡ surveying_line) }
 {
-    let list = flagged_command(alloc, "list", help::LIST, "digest", help::DIGEST);
+    let list = flagged_command(alloc, "list", help::LIST, "digest", option_help::DIGEST);
     let with_list = parts::with_command(reading_command(alloc), list);
     let limits = archive_command(alloc, "limits", help::LIMITS);
     parts::with_command(with_list, limits)
@@ -154,7 +154,7 @@ fn words_option<'a>(alloc: Global) -> Arg<'a>
     ensures rule { rule_of result ≡ words_rule }
     ensures local { result.global ≡ false }
 {
-    let text = help::FRAMED_WORDS;
+    let text = option_help::FRAMED_WORDS;
     let option = parts::usual_option(alloc, "message-words", "N", text, "8388608");
     option.value_parser(ValueParser::signed(1, MOST_MESSAGE_WORDS as i64))
 }
@@ -173,10 +173,16 @@ fn pick_command<'a>(alloc: Global) -> Result<Command<'a>, AllocError>
     ensures { IfOk result (λ c. HasLine c pick_line) }
 {
     let options = vec![in alloc;
-        parts::usual_option(alloc, "form", "FORM", help::FORMS_OF_FRAMES, "stream"),
+        parts::usual_option(
+            alloc,
+            "form",
+            "FORM",
+            option_help::FORMS_OF_FRAMES,
+            "stream"
+        ),
         words_option(alloc),
-        place_option(alloc, "from", help::FROM, "1"),
-        place_option(alloc, "to", help::TO, "18446744073709551615"),
+        place_option(alloc, "from", option_help::FROM, "1"),
+        place_option(alloc, "to", option_help::TO, "18446744073709551615"),
     ]?;
     parts::plain_command(alloc, "pick", help::PICK).args(options)
 }
@@ -185,7 +191,7 @@ fn pick_command<'a>(alloc: Global) -> Result<Command<'a>, AllocError>
 fn messages_command<'a>(alloc: Global) -> Result<Command<'a>, AllocError>
     ensures { IfOk result (λ c. app_of c ≡ messages_line) }
 {
-    let uniq = flagged_command(alloc, "uniq", help::UNIQ, "count", help::COUNT);
+    let uniq = flagged_command(alloc, "uniq", help::UNIQ, "count", option_help::COUNT);
     let with_uniq = parts::with_command(canonical_bytes_command(alloc), uniq);
     parts::with_command(with_uniq, pick_command(alloc))
 }
@@ -194,7 +200,7 @@ fn messages_command<'a>(alloc: Global) -> Result<Command<'a>, AllocError>
 fn make_command<'a>(alloc: Global) -> Result<Command<'a>, AllocError>
     ensures { IfOk result (λ c. HasLine c make_line) }
 {
-    let form = parts::usual_option(alloc, "form", "FORM", help::FORMS_OF_MADE, "stream");
+    let form = parts::usual_option(alloc, "form", "FORM", option_help::FORMS_OF_MADE, "stream");
     parts::plain_command(alloc, "make", help::MAKE).arg(form)
 }
 
@@ -203,7 +209,7 @@ fn pack_command<'a>(alloc: Global) -> Result<Command<'a>, AllocError>
     ensures { IfOk result (λ c. HasLine c packing_line) }
 {
     let command = parts::plain_command(alloc, "pack", help::PACK);
-    command.arg(flag(alloc, "streaming", help::PACK_STREAMING))
+    command.arg(flag(alloc, "streaming", option_help::PACK_STREAMING))
 }
 
 /// `unpack`, with `--streaming`.
@@ -211,7 +217,7 @@ fn unpack_command<'a>(alloc: Global) -> Result<Command<'a>, AllocError>
     ensures { IfOk result (λ c. HasLine c unpacking_line) }
 {
     let command = parts::unpack_command(alloc)?;
-    command.arg(flag(alloc, "streaming", help::UNPACK_STREAMING))
+    command.arg(flag(alloc, "streaming", option_help::UNPACK_STREAMING))
 }
 
 /// The program with the commands over messages and those over bytes.

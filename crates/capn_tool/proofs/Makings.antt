@@ -1,15 +1,18 @@
 -- What is made of an input, from what was read of it.
 use Rattle.std.proofs.Common.{◌≡◌, ◌⊎◌, inl, inr, ℕ, ◌+◌, ◌*◌, ◌<◌, ◌≤◌, ◌^◌, List, length, Bool, Option, Result, Ok}
-use Rattle.std.proofs.Common.{Err}
+use Rattle.std.proofs.Common.{Err, IsErr, IsErrAnd}
 use Rattle.std.proofs.Common.{Vec, refl, sym, subst, ◌∙◌, arith, take_all}
 use Rattle.capn_words.specs.Message.{ReadsBare}
 use Rattle.capn_words.specs.declared.bare.BareFault.{BareFault}
 use Rattle.capn_stream.specs.Frames.{most_table_words}
 use Rattle.capn_walk.specs.Limits.{Bounds}
+use Rattle.capn_canon.specs.Refusal.{IsRefused}
+use Rattle.capn_canon.specs.declared.form.Form.{Form}
 use Rattle.capn_canon.specs.declared.form.Form.TheVariants as forms
+use Rattle.capn_canon.specs.declared.refusal.Refusal.{Refusal}
 use Rattle.capn_canon.specs.declared.refusal.Refusal.TheVariants as refusals
 use Rattle.capn_tool.specs.inner.ReadInput.{HasGivenAll, IsBeginning, IsShortBare, IsUntaken, TakesAll}
-use Rattle.capn_tool.specs.WholeInput.{Gives, MakesNothing}
+use Rattle.capn_tool.specs.WholeInput.{Gives, IsFaultOf, MakesNothing}
 use Rattle.capn_tool.specs.declared.input.Input.{Input}
 use Rattle.capn_tool.specs.declared.plan.MessageText.{MessageText}
 use Rattle.capn_tool.specs.declared.plan.Whole.{Whole}
@@ -70,6 +73,14 @@ module _ (a b : Option (List ℕ)) (f : Bool) (fault : ToolFault) where
   unmade_piece piece limits h =
       none_else (λ bytes. FailsBare bytes fault) (λ bytes. Fails (wholes.Bare piece limits) bytes fault)
       (λ bytes why. inr (inl why)) h
+
+-- bytes that have no canonical bytes
+pub gives_refused : {A : Type 0} (form : Form) (bytes : List ℕ) (limits : Bounds) (r : Refusal)
+    (result : Result (Vec ℕ A) ToolFault) → IsRefused form bytes limits r
+    → IsErr result × IsErrAnd result (IsFaultOf r) → Gives (wholes.Canonical form limits) bytes result
+gives_refused form bytes limits r (Ok text) refused (is_err, is) = absurd cc
+gives_refused form bytes limits r (Err fault) refused (is_err, inl (memory, is)) = inl is
+gives_refused form bytes limits r (Err fault) refused (is_err, inr (other, is)) = inr (r, is, other, refused)
 
 module _ {A : Type 0} (a b : Option (List ℕ)) (f : Bool) where
   -- all of it is held

@@ -17,6 +17,11 @@ use Rattle.capn_tool.specs.declared.plan.Whole.TheVariants as wholes
 use Rattle.capn_tool.specs.declared.fault.ToolFault.{ToolFault}
 use Rattle.capn_tool.specs.declared.fault.ToolFault.TheVariants as faults
 
+-- the fault of a run if an input is refused so: memory was refused if and only if it was for the answer
+abbrev pub IsFaultOf : Refusal → ToolFault → Type 0
+IsFaultOf r fault =
+    ((r ≡ refusals.Memory) × (fault ≡ faults.Memory)) ⊎ ((r ≢ refusals.Memory) × (fault ≡ faults.Refused r))
+
 -- What is made of the bytes: the packer's text of them; the words that they pack, at most `most`; the canonical bytes
 -- of the message that they are in a form; or a piece of the bare message that they are.
 abbrev pub Makes : Whole → List ℕ → List ℕ → Type 0

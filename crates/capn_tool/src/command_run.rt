@@ -16,7 +16,6 @@ use crate::bare_message::run_one;
 use crate::command::Command;
 use crate::fault::ToolFault;
 use crate::message_stream::{run_each, run_each_packed};
-use crate::output::write_all;
 use crate::pending::read_words;
 use crate::plan::{MessageText, Plan, Whole, plan_of};
 use crate::whole_input::{make_canonical, make_text, make_verdict};
@@ -36,7 +35,10 @@ fn write_made<W: Write, A: Allocator>(
         (has_failed writer.new) result }
 {
     match made {
-        Ok(text) => write_all(writer, &text),
+        Ok(text) => {
+            writer.write_all(&text)?;
+            Ok(())
+        }
         Err(fault) => Err(fault),
     }
 }
@@ -63,29 +65,6 @@ fn run_bare_piece<R: Read, W: Write, A: Allocator + Copy>(
     }
 }
 
-/// Writes what an input is taken whole for.
-fn run_whole<R: Read, W: Write, A: Allocator + Copy>(
-    alloc: A,
-    whole: Whole,
-    reader: &mut Watched<R>,
-    writer: &mut Watched<W>,
-) -> Result<(), ToolFault>
-    requires reader_fine { has_failed reader.old ≡ false }
-    requires writer_fine { has_failed writer.old ≡ false }
-    ensures { Runs (plans.Whole whole) (R.remaining (inner_of reader.old)) (R.remaining (inner_of reader.new))
-        (W.contents (inner_of writer.old)) (W.contents (inner_of writer.new)) (has_failed reader.new)
-        (has_failed writer.new) result }
-{
-    match whole {
-        Whole::Packed => write_made(make_text(alloc, reader), writer),
-        Whole::Unpacked(most) => write_made(read_words(alloc, reader, most), writer),
-        Whole::Canonical(form, limits) => {
-            write_made(make_canonical(alloc, reader, form, limits), writer)
-        }
-        Whole::Bare(piece, limits) => run_bare_piece(alloc, piece, limits, reader, writer),
-    }
-}
-
 /// Carries a plan out.
 fn perform<R: Read, W: Write, A: Allocator + Copy>(
     alloc: A,
@@ -100,7 +79,14 @@ fn perform<R: Read, W: Write, A: Allocator + Copy>(
         (has_failed writer.new) result }
 {
     match plan {
-        Plan::Whole(whole) => run_whole(alloc, whole, reader, writer),
+        Plan::Whole(whole) => match whole {
+            Whole::Packed => write_made(make_text(alloc, reader), writer),
+            Whole::Unpacked(most) => write_made(read_words(alloc, reader, most), writer),
+            Whole::Canonical(form, limits) => {
+                write_made(make_canonical(alloc, reader, form, limits), writer)
+            }
+            Whole::Bare(piece, limits) => run_bare_piece(alloc, piece, limits, reader, writer),
+        },
         Plan::Each(piece, limits) => run_each(alloc, piece, limits, reader, writer),
         Plan::Packed(piece, limits) => run_each_packed(alloc, piece, limits, reader, writer),
     }

@@ -7,6 +7,7 @@ use capn_canon::Refusal;
 use capn_serve::RunFault;
 use capn_walk::{Fault, Stopped};
 use std::alloc::AllocError;
+use std::io;
 use thiserror::Error;
 
 /// Why a run stops. `{}` shows the name of the variant alone; [`fault_text`](crate::fault_text) is the text for the
@@ -35,6 +36,27 @@ impl From<AllocError> for ToolFault {
 
     fn from(_error: AllocError) -> ToolFault {
         ToolFault::Memory
+    }
+}
+
+impl From<io::Error> for ToolFault {
+    ghost from_gives = { λ _ e. e ≡ fault.Io };
+
+    fn from(_error: io::Error) -> ToolFault {
+        ToolFault::Io
+    }
+}
+
+impl From<Refusal> for ToolFault {
+    ghost use Rattle.capn_tool.specs.WholeInput.{IsFaultOf};
+
+    ghost from_gives = { IsFaultOf };
+
+    fn from(refusal: Refusal) -> ToolFault {
+        match refusal {
+            Refusal::Memory => ToolFault::Memory,
+            _ => ToolFault::Refused(refusal),
+        }
     }
 }
 

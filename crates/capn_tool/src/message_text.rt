@@ -8,7 +8,7 @@ ghost use Rattle.capn_tool.specs.declared.plan.MessageText.TheVariants as kinds;
 
 use crate::fault::ToolFault;
 use crate::price_line::{PriceLine, short_line};
-use capn_canon::{Refusal, canonical_of, survey_bare};
+use capn_canon::{canonical_of, survey_bare};
 use capn_walk::{Limits, survey};
 use capn_words::{Bare, Space};
 use sha2::{Digest, Sha256};
@@ -112,9 +112,6 @@ pub fn put_digest<S: Space, A: Allocator + Copy>(
 ) -> Result<(), ToolFault>
     ensures { PutsMessageText kinds.Digest (S.message space.now) limits text.old.items text.new.items result }
 {
-    match canonical_of(alloc, space, limits) {
-        Ok(canonical) => put_digest_line(&canonical.bytes, text),
-        Err(Refusal::Memory) => Err(ToolFault::Memory),
-        Err(refusal) => Err(ToolFault::Refused(refusal)),
-    }
+    let canonical = canonical_of(alloc, space, limits)?;
+    put_digest_line(&canonical.bytes, text)
 }

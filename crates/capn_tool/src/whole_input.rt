@@ -32,22 +32,6 @@ fn packed<A: Allocator + Copy>(alloc: A, bytes: &[u8]) -> Result<Vec<u8, A>, Too
     }
 }
 
-/// The canonical bytes of one message.
-fn canonical<A: Allocator + Copy>(
-    alloc: A,
-    form: Form,
-    bytes: &[u8],
-    limits: Limits,
-) -> Result<Vec<u8, A>, ToolFault>
-    ensures { Gives (wholes.Canonical form limits) bytes.now result }
-{
-    match canonicalise(alloc, form, bytes, limits) {
-        Ok(canonical) => Ok(canonical.bytes),
-        Err(Refusal::Memory) => Err(ToolFault::Memory),
-        Err(refusal) => Err(ToolFault::Refused(refusal)),
-    }
-}
-
 /// The line of one bare message's price, which says whether its bytes are canonical.
 fn verdict<A: Allocator + Copy>(
     alloc: A,
@@ -79,7 +63,8 @@ fn make_framed<R: Read, A: Allocator + Copy>(
 {
     let words = limits.message_words() as usize + MOST_TABLE_WORDS as usize;
     let input = read_all(alloc, reader, 8 * words + 1)?;
-    canonical(alloc, Form::Stream, &input.bytes, limits)
+    let canonical = canonicalise(alloc, Form::Stream, &input.bytes, limits)?;
+    Ok(canonical.bytes)
 }
 
 /// The canonical bytes of the one message that an input packs the frame of. It is unpacked while it is read.
@@ -93,7 +78,8 @@ fn make_packed<R: Read, A: Allocator + Copy>(
         (R.remaining (inner_of reader.new)) (has_failed reader.new) result }
 {
     let words = read_words(alloc, reader, limits.message_words() + MOST_TABLE_WORDS)?;
-    canonical(alloc, Form::Stream, &words, limits)
+    let canonical = canonicalise(alloc, Form::Stream, &words, limits)?;
+    Ok(canonical.bytes)
 }
 
 /// Why `len` bytes are not one segment.
@@ -149,7 +135,8 @@ fn make_trimmed<R: Read, A: Allocator + Copy>(
         (R.remaining (inner_of reader.new)) (has_failed reader.new) result }
 {
     let bytes = read_bare(alloc, reader)?;
-    canonical(alloc, Form::Bare, &bytes, limits)
+    let canonical = canonicalise(alloc, Form::Bare, &bytes, limits)?;
+    Ok(canonical.bytes)
 }
 
 /// The line of the price of the one bare message that an input is.

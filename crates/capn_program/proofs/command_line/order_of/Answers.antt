@@ -1,13 +1,14 @@
-use Rattle.std.proofs.Common.{◌≡◌, inl, inr, List, Option, Some, None, IsSome, Result, Ok, Err, IfErr, IsErr}
+use Rattle.std.proofs.Common.{◌≡◌, inl, inr, List, Option, Some, None, IsSome, Result, Ok, Err, IfErr, IsErr, [], true}
 use Rattle.std.proofs.Common.{IsErrAnd, map, refl, sym, ap, subst, ◌∙◌}
-use Rattle.clap.specs.Words.{HasKind, Row, Text, fault_of, kind_of, subcommand_of}
+use Rattle.clap.specs.Words.{App, HasKind, HasMatchesOf, Row, Text, app_of, fault_of, is_simple_and_free, kind_of}
+use Rattle.clap.specs.Words.{subcommand_of, takes}
 use Rattle.clap.specs.declared.error.Error.{Error}
 use Rattle.clap.specs.declared.error.ErrorKind.TheVariants as kinds
 use Rattle.capn_tool.specs.declared.usage.Usage.{Usage}
 use Rattle.capn_program.specs.declared.order.Order.{Order}
 use Rattle.capn_program.specs.Meaning.{MeansOrder}
 use Rattle.capn_program.specs.CommandLine.{program_line}
-use Rattle.capn_tool.specs.Usage.{error_of}
+use Rattle.capn_tool.specs.Usage.{NeedsMemory, error_of}
 use Rattle.capn_program.specs.Usage.{IsReason, Orders}
 use Rattle.capn_program.proofs.OneOrder.{means_one_order}
 use Rattle.capn_tool.proofs.shared.Entered.{entered, not_entered}
@@ -17,7 +18,9 @@ use Rattle.capn_program.proofs.command_line.order_of.Goals as goal
 
 pub returns-in-Some-named-clause-means : goal.returns-in-Some-named-clause-means
 returns-in-Some-named-clause-means g c =
-    let rows = (c.in_ok-matches.ensures.found refl).1 in
+    let found = subst (λ (a : App). HasMatchesOf a (map g.S.AsStr.text c.args.words.now) c.in_ok-matches.matches)
+    c.in_ok-tool.ensures c.in_ok-matches.ensures.matches in
+    let rows = (found refl).1 in
     elim c.match-subcommand.branch [
       | in-Some w ↦
           let o = sym w.named-is ∙ c.in-Some-named.is in
@@ -40,8 +43,17 @@ told_memory order e (Err usage) memory (is_err, is) = ap kind_of is ∙ memory
 
 pub returns-in_err-matches-clause-only : goal.returns-in_err-matches-clause-only
 returns-in_err-matches-clause-only g c taken order means =
-    told_memory order c.in_err-matches.field-0.0 _ (c.in_err-matches.ensures.passes taken)
-    c.from_residual.ensures
+    let passes = subst (λ (a : App). takes a (map g.S.AsStr.text c.args.words.now) ≡ true
+    → kind_of c.in_err-matches.field-0.0 ≡ kinds.OutOfMemory) c.in_ok-tool.ensures c.in_err-matches.ensures.passes in
+    told_memory order c.in_err-matches.field-0.0 _ (passes taken) c.from_residual-in_err-matches.ensures
+
+-- there was no memory for the parser
+no_parser : (order : Order) (r : Result Order Usage) → IsErr r × IsErrAnd r NeedsMemory → Orders order r
+no_parser order (Ok given) (is_err, is) = absurd cc
+no_parser order (Err usage) (is_err, is) = is
+
+pub returns-in_err-tool-clause-only : goal.returns-in_err-tool-clause-only
+returns-in_err-tool-clause-only g c taken order means = no_parser order _ c.from_residual.ensures
 
 -- a order that is there is not missing
 not_missing : {A : Type 0} (order result : Option A) → order ≡ None → order ≡ result → IsSome result → ⊥
@@ -52,7 +64,9 @@ not_missing order (Some x) none is some = cc
 meaningless : (g : Over) (c : goal.Joined-matches-2 g) (order : Order)
     → MeansOrder (subcommand_of program_line (map g.S.AsStr.text c.args.words.now)) order → ⊥
 meaningless g c order means =
-    let rows = (c.in_ok-matches.ensures.found refl).1 in
+    let found = subst (λ (a : App). HasMatchesOf a (map g.S.AsStr.text c.args.words.now) c.in_ok-matches.matches)
+    c.in_ok-tool.ensures c.in_ok-matches.ensures.matches in
+    let rows = (found refl).1 in
     elim c.match-subcommand.branch [
       | in-Some w ↦
           let is = entered _ _ _ _ c.subcommand.result _ _ w.in-Some.is c.subcommand.ensures.name
@@ -77,10 +91,22 @@ told_reason words e (Err usage) (inr among) (is_err, is) =
 
 pub returns-in_err-matches-clause-reason : goal.returns-in_err-matches-clause-reason
 returns-in_err-matches-clause-reason g c =
-    told_reason (map g.S.AsStr.text c.args.words.now) c.in_err-matches.field-0.0 _ c.in_err-matches.ensures.kinds
-    c.from_residual.ensures
+    let kinds = subst (λ (a : App). is_simple_and_free a ≡ true
+    → HasKind (fault_of a (map g.S.AsStr.text c.args.words.now)) c.in_err-matches.field-0.0) c.in_ok-tool.ensures
+    c.in_err-matches.ensures.kinds in
+    told_reason (map g.S.AsStr.text c.args.words.now) c.in_err-matches.field-0.0 _ (kinds refl)
+    c.from_residual-in_err-matches.ensures
+
+no_parser_reason : (words : List Text) (r : Result Order Usage) → IsErr r × IsErrAnd r NeedsMemory
+    → IfErr r (λ usage. IsReason words (kind_of (error_of usage)))
+no_parser_reason words (Ok given) (is_err, is) = tt
+no_parser_reason words (Err usage) (is_err, is) = inl is
+
+pub returns-in_err-tool-clause-reason : goal.returns-in_err-tool-clause-reason
+returns-in_err-tool-clause-reason g c = no_parser_reason (map g.S.AsStr.text c.args.words.now) _ c.from_residual.ensures
 
 pub returns-clause-reason : goal.returns-clause-reason
 returns-clause-reason g c =
-    let none = c.in_ok-matches.ensures.kinds in
+    let none = subst (λ (a : App). is_simple_and_free a ≡ true
+    → fault_of a (map g.S.AsStr.text c.args.words.now) ≡ []) c.in_ok-tool.ensures c.in_ok-matches.ensures.kinds refl in
     elim c.meaningless.ensures [ inl memory ↦ inl memory | inr value ↦ inr (inr (none, value, meaningless g c)) ]

@@ -1,4 +1,5 @@
-use Rattle.std.proofs.Common.{◌≡◌, ◌⊎◌, ◌↔◌, inl, inr, Bool, true, false, Result, Err, IsErrOf}
+use Rattle.std.proofs.Common.{◌≡◌, ◌⊎◌, ◌↔◌, ◌||◌, inl, inr, Bool, true, false, Result, Ok, Err, IsErrOf}
+use Rattle.std.proofs.lemmas.Result.{err_from_is_err_and}
 use Rattle.std.proofs.Common.{ap, refl, sym, ◌∙◌}
 use Rattle.std.proofs.KnownBytes.{Appends-nil}
 use Rattle.capn_tool.specs.declared.fault.ToolFault.{ToolFault}
@@ -39,17 +40,36 @@ returns-in-Err g c whole a b unread given =
       heard = λ failed. Appends-nil _;
     }
 
-pub returns-in-Ok : goal.returns-in-Ok
-returns-in-Ok g c whole a b unread given =
+-- a writer that had not failed has if the call failed, and has not if it did not
+has_failed_by : (old new : Bool) → new ≡ (old || true) → old ≡ false → new ≡ true
+has_failed_by old new is fine = is ∙ ap (λ (was : Bool). was || true) fine
+
+is_as_before : (old new : Bool) → new ≡ (old || false) → old ≡ false → new ≡ false
+is_as_before old new is fine = is ∙ ap (λ (was : Bool). was || false) fine
+
+pub returns-in_err-write_all-in-Ok : goal.returns-in_err-write_all-in-Ok
+returns-in_err-write_all-in-Ok g c whole a b unread given =
     let all = rw c.in-Ok.is at given in
     let fine = made_fine whole a b unread c.in-Ok.text all in
+    let wrote = c.in_err-write_all-in-Ok.ensures in
+    let p = err_from_is_err_and c.from_residual.result c.from_residual.ensures.1 in
+    rw (p.1, p.2)
+    (record {
+      exact = made_ends whole a b _ unread c.in-Ok.text _ (Err faults.Io) all tt refl;
+      io = made (Err faults.Io) unread _ fine (λ is. has_failed_by _ _ wrote.failed c.requires, λ is. refl);
+      begun = made_begins whole a b _ unread c.in-Ok.text _ all (rw c.deref.ensures.value at wrote.begun);
+      heard = λ failed. absurd (let bad = sym failed ∙ fine in cc);
+    })
+
+pub returns-in_ok-write_all-in-Ok : goal.returns-in_ok-write_all-in-Ok
+returns-in_ok-write_all-in-Ok g c whole a b unread given =
+    let all = rw c.in-Ok.is at given in
+    let fine = made_fine whole a b unread c.in-Ok.text all in
+    let wrote = c.in_ok-write_all-in-Ok.ensures in
+    let as_before = is_as_before _ _ wrote.failed c.requires in
     record {
-      exact =
-          made_ends whole a b _ unread c.in-Ok.text _ c.write_all.result all
-          (rw c.deref.ensures.value at c.write_all.ensures.ok) c.write_all.ensures.only;
-      io = made c.write_all.result unread _ fine c.write_all.ensures.io;
-      begun =
-          made_begins whole a b _ unread c.in-Ok.text _ all
-          (rw c.deref.ensures.value at c.write_all.ensures.begun);
+      exact = made_ends whole a b _ unread c.in-Ok.text _ (Ok tt) all (rw c.deref.ensures.value at wrote.ok) tt;
+      io = made (Ok tt) unread _ fine (λ is. absurd cc, λ is. absurd (let bad = sym is ∙ as_before in cc));
+      begun = made_begins whole a b _ unread c.in-Ok.text _ all (rw c.deref.ensures.value at wrote.begun);
       heard = λ failed. absurd (let bad = sym failed ∙ fine in cc);
     }

@@ -1,6 +1,7 @@
-use Rattle.std.proofs.Common.{arith}
+use Rattle.std.proofs.Common.{Ok, arith}
 use Rattle.std.proofs.lemmas.Result.{err_from_is_err_and}
-use Rattle.capn_tool.proofs.Makings.{made_packed, unmade_packed}
+use Rattle.capn_canon.specs.declared.form.Form.TheVariants as forms
+use Rattle.capn_tool.proofs.Makings.{gives_refused, made_packed, unmade_packed}
 use Rattle.capn_tool.proofs.whole_input.make_packed.Goals as goal
 
 pub returns-in_err-words : goal.returns-in_err-words
@@ -10,7 +11,15 @@ returns-in_err-words g c =
     (unmade_packed _ _ _ c.in_err-words.field-0.0 c.args.limits _ (omega (arith, c.message_words.ensures.value))
     c.in_err-words.ensures)
 
+pub returns-in_err-canonical : goal.returns-in_err-canonical
+returns-in_err-canonical g c =
+    made_packed _ _ _ c.args.limits _ c.in_ok-words.words _ c.from_residual-in_err-canonical.result
+    (omega (arith, c.message_words.ensures.value)) c.in_ok-words.ensures c.deref.ensures.value
+    (gives_refused forms.Stream _ c.args.limits c.in_err-canonical.field-0.0 _ c.in_err-canonical.ensures.refused
+    c.from_residual-in_err-canonical.ensures)
+
 pub returns : goal.returns
 returns g c =
-    made_packed _ _ _ c.args.limits _ c.in_ok-words.words _ c.canonical.result
-    (omega (arith, c.message_words.ensures.value)) c.in_ok-words.ensures c.deref.ensures.value c.canonical.ensures
+    made_packed _ _ _ c.args.limits _ c.in_ok-words.words _ (Ok c.in_ok-canonical.canonical.bytes)
+    (omega (arith, c.message_words.ensures.value)) c.in_ok-words.ensures c.deref.ensures.value
+    (c.in_ok-canonical.canonical.paid, c.in_ok-canonical.ensures.found)

@@ -1,5 +1,5 @@
 use Rattle.std.proofs.Common.{◌≡◌, true, false}
-use Rattle.capn_program.proofs.command_line.number_in.Goals as goal
+use Rattle.capn_program.proofs.option_values.number_in.Goals as goal
 
 pub returns-in_err-number-clause-served : goal.returns-in_err-number-clause-served
 returns-in_err-number-clause-served c n (is, low, high) small =

@@ -5,7 +5,7 @@ use Rattle.clap.proofs.WalkLemmas.{one_text-rows}
 use Rattle.clap.specs.Words.{Text, found_of, one_text}
 use Rattle.capn_tool.proofs.shared.ReadValues.{read_some, read_there}
 use Rattle.capn_program.specs.Meaning.{flag_text}
-use Rattle.capn_program.proofs.command_line.flag_of.Goals as goal
+use Rattle.capn_program.proofs.option_values.flag_of.Goals as goal
 
 -- a text that reads as a flag is that flag's
 text_of : (text : Text) (given : Bool) → MatchBool given (text ≡ true_text) (text ≡ false_text) → text ≡ flag_text given

@@ -3,7 +3,7 @@ use Rattle.std.specs.Str.Parse.{ParsesUnsigned, ExplainsUnsignedError, HasUnsign
 use Rattle.clap.proofs.WalkLemmas.{one_text-rows}
 use Rattle.clap.specs.Words.{found_of, one_text}
 use Rattle.capn_tool.proofs.shared.ReadValues.{read_some, read_there}
-use Rattle.capn_program.proofs.command_line.number_of.Goals as goal
+use Rattle.capn_program.proofs.option_values.number_of.Goals as goal
 
 pub returns-clause-read : goal.returns-clause-read
 returns-clause-read c =
