@@ -24,12 +24,3 @@ pub(crate) fn text_room<A: Allocator>(
     let times = all.saturating_sub(at).div_ceil(at.max(8)).min(TIMES);
     count.saturating_add(text.saturating_mul(times))
 }
-
-/// The room for so many bytes of words, which stand first in the rest of a text, or for as many as the rest has itself,
-/// within the maximum: ten bytes of groups have at least eight bytes of words.
-#[inline(always)]
-pub(crate) fn words_room(count: usize, rest: &[u8], room: usize) -> usize
-    ensures { count ≤ result }
-{
-    count.max(8 * (rest.len() / 8).min(room))
-}

@@ -7,7 +7,6 @@ ghost use Rattle.capn_pack.specs.inner.Steps.{Takes, TakesRow};
 
 use crate::block::{Block, store_bytes};
 use crate::lanes::spread_far;
-use crate::room::words_room;
 use crate::unpack_group::Taken;
 use std::alloc::{AllocError, Allocator};
 
@@ -278,7 +277,6 @@ pub(crate) fn take_block<A: Allocator>(
             words: 0,
         });
     }
-    out.reserve(words_room(filled.fill, rest, room))?;
     out.extend_from_slice(&block[..filled.fill])?;
     Ok(Taken {
         bytes: filled.at,

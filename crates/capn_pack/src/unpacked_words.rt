@@ -50,8 +50,7 @@ fn unpack_groups<A: Allocator + Copy>(
 ///
 /// It takes what the packer would not write too: set tag bits over zero bytes, short runs, any raw words. (Own.) A text
 /// without bytes packs no words. The answer grows on `alloc` a logarithmic number of times, and only by words that the
-/// text has after the head of their group and that are within the maximum. It gets room for as many bytes as the text
-/// has left then, of which ten have at least eight bytes of words, or for twice what it has.
+/// text has after the head of their group and that are within the maximum.
 ///
 /// Refusals, with the offset of the group's tag: `Cut` where the group's head is cut, else `TooLong` where its words
 /// would bring their number above `max_words`, else `Cut` where its raw words are; `Memory` where a growth was
