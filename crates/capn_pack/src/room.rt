@@ -1,0 +1,26 @@
+//! How much room is asked for at once, so that a long answer is seldom moved as it grows.
+ghost use Rattle.std.specs.Prelude.{◌≤◌};
+
+use std::alloc::Allocator;
+
+/// A text grows by this many times itself at most.
+const TIMES: usize = 64;
+
+/// The room for so many bytes of text, with which the words up to `at` are packed; where there is none yet, also the
+/// room for the text of the words after them, as if those packed like the words before.
+#[inline(always)]
+pub(crate) fn text_room<A: Allocator>(
+    out: &Vec<u8, A>,
+    count: usize,
+    at: usize,
+    all: usize,
+) -> usize
+    ensures { count ≤ result }
+{
+    if count <= out.capacity() - out.len() {
+        return count;
+    }
+    let text = out.len().saturating_add(count);
+    let times = all.saturating_sub(at).div_ceil(at.max(8)).min(TIMES);
+    count.saturating_add(text.saturating_mul(times))
+}
