@@ -3,16 +3,13 @@
 ghost use Rattle.std.specs.Prelude.{◌≡◌, ◌*◌, ◌+◌, ◌≤◌, None, length, IfOk, IfErr, IsErrOf, MatchResult};
 ghost use Rattle.capn_value.specs.Tree.{Tree as Value};
 ghost use Rattle.capn_value.specs.FirstCap.{first_cap};
-ghost use Rattle.capn_walk.specs.Accepted.{root, IsValueOf};
-ghost use Rattle.capn_walk.specs.ValueAt.{IsAt};
+ghost use Rattle.capn_walk.specs.Accepted.{IsValueOf};
 ghost use Rattle.capn_canon.specs.Layout.{canon};
 ghost use Rattle.capn_canon.specs.Denotes.{AnswersMessage};
 ghost use Rattle.capn_canon.specs.inner.Outcomes.{IsCanonicalised};
 ghost use Rattle.capn_canon.specs.Canonicity.{ReadsBack, PaysItsCost, IsItsOwnForm, IsFormExactlyOf};
 ghost use Rattle.capn_canon.specs.Refusal.{IsRefusedMessage, IsPaidWithin};
 ghost use Rattle.capn_canon.specs.declared.refusal.Refusal.TheVariants as refusals;
-ghost use Rattle.capn_canon.specs.inner.MessageSlots.{HasSlot};
-ghost use Rattle.capn_canon.specs.inner.Ready.{IsReady};
 ghost use Rattle.capn_canon.specs.MemoryNeed.{MayNeedBytes};
 
 use crate::message_slots::MessageSlots;
@@ -38,28 +35,8 @@ const ROOT: Place = Place {
     word: 0,
 };
 
-/// The canonical bytes of the value at the root, where the walk paid `paid` words. There is room at first for as many
-/// words and one more, and for no more than the first segment has.
-fn bytes_of<S: Space, A: Allocator>(
-    alloc: A,
-    space: &S,
-    depth: u32,
-    paid: u32,
-) -> Result<Vec<u8, A>, Memory>
-    requires { IsReady (HasSlot (S.message space.now)) 0 0 depth 1 }
-    ensures { IfOk result (λ bytes. (v : Value) → IsAt (S.message space.now) root v → bytes.items ≡ canon v) }
-{
-    let words = space.words(0).unwrap_or(0);
-    let room = words.min(paid.saturating_add(1));
-    canonical_bytes(
-        alloc,
-        MessageSlots { space, start: ROOT },
-        depth,
-        room as usize,
-    )
-}
-
-/// The canonical bytes of a message, read as it is.
+/// The canonical bytes of a message, read as it is. There is room at first for as many words as the walk paid and one
+/// more, and for no more than the first segment has.
 fn canonical_of_inner<A: Allocator + Copy, S: Space>(
     alloc: A,
     space: &S,
@@ -73,13 +50,18 @@ fn canonical_of_inner<A: Allocator + Copy, S: Space>(
     match survey(alloc, space, limits) {
         Ok(surveyed) => match surveyed.capability {
             Some(index) => Err(Refusal::Capability(index)),
-            None => match bytes_of(alloc, space, depth, surveyed.paid) {
-                Ok(bytes) => Ok(Canonical {
-                    bytes,
-                    paid: surveyed.paid,
-                }),
-                Err(Memory) => Err(Refusal::Memory),
-            },
+            None => {
+                let words = space.words(0).unwrap_or(0);
+                let room = words.min(surveyed.paid.saturating_add(1));
+                let slots = MessageSlots { space, start: ROOT };
+                match canonical_bytes(alloc, slots, depth, room as usize) {
+                    Ok(bytes) => Ok(Canonical {
+                        bytes,
+                        paid: surveyed.paid,
+                    }),
+                    Err(Memory) => Err(Refusal::Memory),
+                }
+            }
         },
         Err(stopped) => match stopped.fault {
             Fault::Memory => Err(Refusal::Memory),

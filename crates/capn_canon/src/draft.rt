@@ -56,12 +56,22 @@ impl<A: Allocator> Draft<A> {
         Ok(())
     }
 
-    /// Appends whole words, given by their bytes.
+    /// Appends whole words, given by their bytes. Two or three, as small structs have them, are copied without a call,
+    /// since their number is known.
     #[inline(always)]
     pub fn extend(&mut self, xs: &[u8]) -> Result<(), Memory>
         requires { length xs.now % 8 ≡ 0 }
         ensures { OnOk result (self.new ≡ self.old ++ words_in (length xs.now / 8) xs.now) }
     {
+        let size = xs.len();
+        if size == 16 {
+            self.bytes.extend_from_slice(xs)?;
+            return Ok(());
+        }
+        if size == 24 {
+            self.bytes.extend_from_slice(xs)?;
+            return Ok(());
+        }
         self.bytes.extend_from_slice(xs)?;
         Ok(())
     }

@@ -33,6 +33,7 @@ pub fn kept_above<S: Space>(space: &S, at: Place, count: u32, least: u32) -> u32
 
 /// The greatest length that is kept of a part of `count` rows, which begin every `step` words. The part begins `inset`
 /// words into its row and has `size` words.
+#[inline(always)]
 pub fn kept_in_rows<S: Space>(
     space: &S,
     start: Place,

@@ -5,6 +5,7 @@ ghost use Rattle.capn_words.specs.Message.{IsMessage, IsPlace};
 ghost use Rattle.capn_walk.specs.Target as spec;
 ghost use Rattle.capn_walk.specs.declared.target.Target.{Target as Targets};
 
+use crate::own_words_test::tag_of;
 use capn_walk::{Shape, Target, resolve};
 use capn_words::{Place, Pointer, Space, Width, split};
 
@@ -45,8 +46,24 @@ pub fn target_at<S: Space>(space: &S, at: Place) -> Target
             count,
         } => match width {
             Width::Rows => {
-                let target = resolved(space, at);
-                target
+                let start = start_of(at.word, offset);
+                let content = Place {
+                    segment: at.segment,
+                    word: start,
+                };
+                let word = space.word(content);
+                let tag = tag_of(word);
+                Target::Content {
+                    segment: at.segment,
+                    start,
+                    shape: Shape::Rows {
+                        count: tag.count,
+                        words: tag.words,
+                        slots: tag.slots,
+                        span: count,
+                    },
+                    pads: 0,
+                }
             }
             _ => Target::Content {
                 segment: at.segment,

@@ -11,10 +11,10 @@ ghost use Rattle.capn_canon.specs.inner.MessageSlots.{HasSlot, PacksBits, AreRow
 ghost use Rattle.capn_canon.specs.inner.Source.{IsItem};
 
 use crate::draft::Draft;
-use crate::kept::{kept_above, kept_in_rows};
+use crate::kept::kept_in_rows;
 use crate::known_target::target_at;
 use crate::number_list_words::{append_bits, bits_of};
-use crate::source::{Item, Source};
+use crate::source::{Item, Kept, Source};
 use crate::struct_list_words::push_rows;
 use capn_value::Memory;
 use capn_walk::{Shape, Target};
@@ -90,27 +90,13 @@ impl<'a, S: Space> Source for MessageSlots<'a, S> {
     }
 
     #[inline(always)]
-    fn kept_words(rows: MessageRows<'a, S>) -> u32 {
-        if rows.count == 1 {
-            return kept_above(rows.space, rows.start, rows.words, 0);
-        }
+    fn kept(rows: MessageRows<'a, S>) -> Kept {
         let step = rows.words + rows.slots;
-        kept_in_rows(rows.space, rows.start, rows.count, step, 0, rows.words)
-    }
-
-    #[inline(always)]
-    fn kept_slots(rows: MessageRows<'a, S>) -> u32 {
-        if rows.count == 1 {
-            let below = Place {
-                segment: rows.start.segment,
-                word: rows.start.word + rows.words,
-            };
-            return kept_above(rows.space, below, rows.slots, 0);
-        }
-        let step = rows.words + rows.slots;
-        kept_in_rows(
+        let words = kept_in_rows(rows.space, rows.start, rows.count, step, 0, rows.words);
+        let slots = kept_in_rows(
             rows.space, rows.start, rows.count, step, rows.words, rows.slots,
-        )
+        );
+        Kept { words, slots }
     }
 
     #[inline(always)]

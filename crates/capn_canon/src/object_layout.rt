@@ -31,7 +31,9 @@ pub fn canonical_bytes<S: Source, A: Allocator>(
 }
 
 /// Puts the pointer to the value in a slot, and appends its content with all below it, at most `depth` objects deep.
+/// Only an object with slots takes a frame of the stack: that of [`lay_slots`].
 #[cycle(objects)]
+#[inline(always)]
 fn lay_slot<S: Source, A: Allocator>(
     source: S,
     slot: u32,
@@ -59,6 +61,9 @@ fn lay_slot<S: Source, A: Allocator>(
         }
         Item::Struct(row) => {
             let own = open_struct::<S, A>(row, from, draft)?;
+            if own.slots == 0 {
+                return Ok(());
+            }
             let first = own.first + own.words as usize;
             lay_slots(S::slots(row, 0), own.slots, first, depth - 1, draft)
         }

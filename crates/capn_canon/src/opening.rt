@@ -34,16 +34,15 @@ pub fn open_struct<S: Source, A: Allocator>(
     ensures { IfOk result (λ own. (v : Tree) (bs : Bodies) → IsStruct v bs → S.are row bs → Sound v
         → IsOpened v bs from draft.old draft.new own.first own.words own.slots) }
 {
-    let words = S::kept_words(row);
-    let slots = S::kept_slots(row);
+    let kept = S::kept(row);
     let first = draft.len();
-    let word = struct_pointer(from, first, words as usize, slots as usize);
+    let word = struct_pointer(from, first, kept.words as usize, kept.slots as usize);
     draft.put(from, word);
-    S::append_rows(row, words, slots, draft)?;
+    S::append_rows(row, kept.words, kept.slots, draft)?;
     Ok(Opened {
         first,
-        words,
-        slots,
+        words: kept.words,
+        slots: kept.slots,
     })
 }
 
@@ -87,17 +86,18 @@ pub fn open_rows<S: Source, A: Allocator>(
     ensures { IfOk result (λ own. (v : Tree) (bs : Bodies) → AreStructs count v bs → S.are rows bs → Sound v
         → IsOpened v bs from draft.old draft.new own.first own.words own.slots) }
 {
-    let words = S::kept_words(rows);
-    let slots = S::kept_slots(rows);
-    let size = count as usize * (words as usize + slots as usize);
+    let kept = S::kept(rows);
+    let words = kept.words as usize;
+    let slots = kept.slots as usize;
+    let size = count as usize * (words + slots);
     let word = list_pointer(from, draft.len(), Width::Rows, size);
     draft.put(from, word);
-    draft.push(tag_word(count as usize, words as usize, slots as usize))?;
+    draft.push(tag_word(count as usize, words, slots))?;
     let first = draft.len();
-    S::append_rows(rows, words, slots, draft)?;
+    S::append_rows(rows, kept.words, kept.slots, draft)?;
     Ok(Opened {
         first,
-        words,
-        slots,
+        words: kept.words,
+        slots: kept.slots,
     })
 }

@@ -29,6 +29,13 @@ pub enum Item<N, R> {
     Rows(R, u32),
 }
 
+/// How many words and slots are kept of each row.
+#[derive(Clone, Copy)]
+pub struct Kept {
+    pub words: u32,
+    pub slots: u32,
+}
+
 /// Slots one after the other, each with its value.
 ///
 /// There are two: the slots of a [`Value`](capn_value::Value), and words of a message that was surveyed.
@@ -60,15 +67,11 @@ pub trait Source: Copy {
         requires { (ws : List ℕ) × packs numbers ws }
         ensures { OnOk result ((ws : List ℕ) → packs numbers ws → draft.new ≡ draft.old ++ ws) };
 
-    /// How many words are kept of each row, when all rows are cut alike.
-    fn kept_words(rows: Self::Rows) -> u32
+    /// How much of each row is kept, when all rows are cut alike.
+    fn kept(rows: Self::Rows) -> Kept
         requires { (bs : Bodies) × are rows bs }
-        ensures { (bs : Bodies) → are rows bs → result ≡ kept_words_of_rows bs };
-
-    /// How many slots are kept of each row, when all rows are cut alike.
-    fn kept_slots(rows: Self::Rows) -> u32
-        requires { (bs : Bodies) × are rows bs }
-        ensures { (bs : Bodies) → are rows bs → result ≡ kept_slots_of_rows bs };
+        ensures { (bs : Bodies) → are rows bs
+            → (result.words ≡ kept_words_of_rows bs) × (result.slots ≡ kept_slots_of_rows bs) };
 
     /// Appends the first words of each row, each followed by any words in place of its first slots.
     fn append_rows<A: Allocator>(

@@ -10,7 +10,7 @@ ghost use Rattle.capn_canon.specs.inner.TreeSlots.{HasValue, PacksNumbers, AreBo
 
 use crate::bits::extend_bits;
 use crate::draft::Draft;
-use crate::source::{Item, Source};
+use crate::source::{Item, Kept, Source};
 use capn_value::{
     Body, Memory, Value, kept_slots, kept_slots_of_rows, kept_words, kept_words_of_rows,
 };
@@ -75,19 +75,20 @@ impl<'a, B: Allocator> Source for TreeSlots<'a, B> {
         }
     }
 
-    fn kept_words(rows: TreeRows<'a, B>) -> u32 {
+    fn kept(rows: TreeRows<'a, B>) -> Kept {
         match rows {
-            TreeRows::Bodies(bodies) => kept_words_of_rows(bodies) as u32,
-            TreeRows::Body(body) => kept_words(body.words.as_slice()) as u32,
-            TreeRows::Slots(_) => 0,
-        }
-    }
-
-    fn kept_slots(rows: TreeRows<'a, B>) -> u32 {
-        match rows {
-            TreeRows::Bodies(bodies) => kept_slots_of_rows(bodies) as u32,
-            TreeRows::Body(body) => kept_slots(body.slots.as_slice()) as u32,
-            TreeRows::Slots(slots) => kept_slots(slots) as u32,
+            TreeRows::Bodies(bodies) => Kept {
+                words: kept_words_of_rows(bodies) as u32,
+                slots: kept_slots_of_rows(bodies) as u32,
+            },
+            TreeRows::Body(body) => Kept {
+                words: kept_words(body.words.as_slice()) as u32,
+                slots: kept_slots(body.slots.as_slice()) as u32,
+            },
+            TreeRows::Slots(slots) => Kept {
+                words: 0,
+                slots: kept_slots(slots) as u32,
+            },
         }
     }
 

@@ -1,9 +1,11 @@
 -- What a near pointer names that is known to name something.
-use Rattle.std.proofs.Common.{◌≡◌, ℕ, ◌+◌, ◌≤◌, nat_lt, ℤ, Bool, true, false, List, length, Result, Ok, Err}
+use Rattle.std.proofs.Common.{◌≡◌, ℕ, ◌+◌, ◌*◌, ◌<◌, ◌≤◌, ◌==◌, nat_lt, ℤ, Bool, true, false, List, length, Result, Ok}
+use Rattle.std.proofs.Common.{Err, slice_index}
 use Rattle.std.proofs.Common.{refl, ap, sym, ◌∙◌, arith, if◌then◌else◌}
 use Rattle.std.specs.Bool.{⊤}
 use Rattle.std.proofs.lemmas.Bool.Decides.{nat_tests}
 use Rattle.capn_words.specs.Message.{segment_at}
+use Rattle.capn_words.specs.Pointers.{field}
 use Rattle.capn_words.specs.declared.space.Place.{Place}
 use Rattle.capn_words.specs.declared.pointer.Pointer.TheVariants.{Nil, Node, Many}
 use Rattle.capn_words.specs.declared.pointer.Width.{Width}
@@ -65,6 +67,40 @@ module _ (m : List (List ℕ)) where
   list-found (Ok start) s pads Link n t p e = plain-found s start pads n (content_words Link n) Link t e
   list-found (Ok start) s pads Rows n t p e = absurd (p tt)
 
+  -- rows whose tag stands at a word of the segment
+  abbrev pub rows_at : ℕ → ℕ → ℕ → ℕ → Target
+  rows_at s start pads n =
+      let tag = slice_index (segment_at m s) start in
+      targets.Content s start (shapes.Rows (field 2 30 tag) (field 32 16 tag) (field 48 16 tag) n) pads
+
+  pub record FoundRows (s pads n : ℕ) (moves : Result ℕ Fault) (found : Result Target Fault) : Type 0 where
+    pub start : ℕ
+    pub moved_to : moves ≡ Ok start
+    pub inside : start < length (segment_at m s)
+    pub is : found ≡ Ok (rows_at s start pads n)
+
+  tests-pass : (a b c : Bool) (x t : Target)
+      → (if a then Err faults.Range else if b then if c then Err faults.TagOverrun else Ok x else Err faults.BadTag)
+      ≡ Ok t
+      → (a ≡ false)
+      × ((if a then Err faults.Range else if b then if c then Err faults.TagOverrun else Ok x else Err faults.BadTag)
+      ≡ Ok x)
+  tests-pass true b c x t e = absurd (cc)
+  tests-pass false true true x t e = absurd (cc)
+  tests-pass false true false x t e = (refl, refl)
+  tests-pass false false c x t e = absurd (cc)
+
+  rows-found : (r : Result ℕ Fault) (s pads n : ℕ) (t : Target) → list_from m s r pads Rows n ≡ Ok t
+      → FoundRows s pads n r (list_from m s r pads Rows n)
+  rows-found (Err f) s pads n t e = absurd (cc)
+  rows-found (Ok start) s pads n t e =
+      let tag = slice_index (segment_at m s) start in
+      let all = length (segment_at m s) in
+      let k = tests-pass (nat_lt all (start + (1 + n))) (field 0 2 tag == 0)
+      (nat_lt n (field 2 30 tag * (field 32 16 tag + field 48 16 tag))) (rows_at s start pads n) t e in
+      let q = k.0 in
+      record { start = start; moved_to = refl; inside = grind (arith, nat_tests); is = k.1 }
+
   module _ (at : Place) (t : Target) (e : target m at ≡ Ok t) where
     pub near-null : pointer_in m at.segment at.word ≡ Nil → target m at ≡ Ok targets.Nil
     unfolding target
@@ -85,6 +121,14 @@ module _ (m : List (List ℕ)) where
     near-list o width n p q =
         let f : target m at ≡ list_from m at.segment (moved at.word o) 0 width n = ap (named m at.segment at.word) q in
         let r = list-found (moved at.word o) at.segment 0 width n t p (sym f ∙ e) in
+        record { start = r.start; moved_to = r.moved_to; inside = r.inside; is = f ∙ r.is }
+
+    pub near-rows : (o : ℤ) (n : ℕ) → pointer_in m at.segment at.word ≡ Many o Rows n
+        → FoundRows at.segment 0 n (moved at.word o) (target m at)
+    unfolding target
+    near-rows o n q =
+        let f : target m at ≡ list_from m at.segment (moved at.word o) 0 Rows n = ap (named m at.segment at.word) q in
+        let r = rows-found (moved at.word o) at.segment 0 n t (sym f ∙ e) in
         record { start = r.start; moved_to = r.moved_to; inside = r.inside; is = f ∙ r.is }
 
 pub not-composite : (w : Width) → (w ≡ Rows → ⊥) → IsComposite w → ⊥

@@ -1,14 +1,19 @@
-use Rattle.std.proofs.Common.{rules, ◌≡◌, ℕ, Ok, ap, sym, ◌∙◌}
+use Rattle.std.proofs.Common.{rules, ◌≡◌, ◌<◌, ℕ, Ok, ap, length, subst, sym, ◌∙◌}
 use Rattle.std.proofs.Common.{arith, w32}
 use Rattle.std.proofs.lemmas.Int.{to_z-of_z}
 use Rattle.std.specs.Int.RustNames.{FitsSigned}
-use Rattle.capn_words.specs.Pointers.{pointer_of}
+use Rattle.capn_words.specs.Message.{segment_at}
+use Rattle.capn_words.specs.Pointers.{field, pointer_of}
+use Rattle.capn_words.specs.declared.pointer.Width.{Width}
+use Rattle.capn_words.specs.declared.pointer.Pointer.TheVariants.{Many}
 use Rattle.capn_walk.specs.Target.{moved}
 use Rattle.capn_walk.specs.declared.target.Target.TheVariants as targets
 use Rattle.capn_walk.specs.declared.target.Shape.TheVariants as shapes
 use Rattle.capn_walk.proofs.shared.Segments.{segment-room}
 use Rattle.capn_walk.proofs.shared.Present.{present}
-use Rattle.capn_canon.proofs.check.FoundNear.{near-null, near-struct, near-list, not-composite}
+use Rattle.capn_canon.proofs.check.FoundNear.{near-null, near-struct, near-list, near-rows, rows_at}
+use Rattle.capn_canon.proofs.check.FoundNear.{not-composite}
+use Rattle.capn_canon.specs.declared.own_words_test.Tag.{Tag}
 use Rattle.capn_canon.proofs.known_target.target_at.Goals as goal
 
 pub returns-in-Nil : goal.returns-in-Nil
@@ -67,3 +72,52 @@ returns-in_default-width g c =
     let e = sym c.start_of-in_default-width.ensures ∙ ap (moved c.args.at.word) z ∙ f.moved_to in
     let same : f.start ≡ c.start_of-in_default-width.result = cc in
     f.is ∙ ap (λ (s : ℕ). Ok (targets.Content c.args.at.segment s (shapes.Many x.width x.count) 0)) same
+
+-- ---- a list of structs
+
+pub start_of-start-requires : goal.start_of-start-requires
+start_of-start-requires g c =
+    let m = g.S.Space.message c.args.space.now in
+    let x = c.in-Many in
+    let fits : FitsSigned w32 x.offset = search rules in
+    let z = to_z-of_z w32 x.offset fits in
+    let f = near-rows m c.args.at c.requires.found.0 c.requires.found.1 x.offset x.count
+    (ap pointer_of (sym c.word.ensures) ∙ sym c.split.ensures.read ∙ x.is
+    ∙ ap (λ (k : Width). Many x.offset k x.count) c.in-Rows.is) in
+    let i = f.inside in
+    let r = segment-room m c.args.at.segment c.requires.message
+    (present m c.args.at c.args.at.segment f.start 0 _ c.requires.place f.is) in
+    (f.start, ap (moved c.args.at.word) z ∙ f.moved_to, omega arith)
+
+pub word-word-requires : goal.word-word-requires
+word-word-requires g c =
+    let m = g.S.Space.message c.args.space.now in
+    let x = c.in-Many in
+    let fits : FitsSigned w32 x.offset = search rules in
+    let z = to_z-of_z w32 x.offset fits in
+    let f = near-rows m c.args.at c.requires.found.0 c.requires.found.1 x.offset x.count
+    (ap pointer_of (sym c.word.ensures) ∙ sym c.split.ensures.read ∙ x.is
+    ∙ ap (λ (k : Width). Many x.offset k x.count) c.in-Rows.is) in
+    let e = sym c.start_of-start.ensures ∙ ap (moved c.args.at.word) z ∙ f.moved_to in
+    let same : f.start ≡ c.start_of-start.result = cc in
+    subst (λ (s : ℕ). s < length (segment_at m c.args.at.segment)) same f.inside
+
+pub returns-in-Rows : goal.returns-in-Rows
+returns-in-Rows g c =
+    let m = g.S.Space.message c.args.space.now in
+    let s = c.args.at.segment in
+    let x = c.in-Many in
+    let fits : FitsSigned w32 x.offset = search rules in
+    let z = to_z-of_z w32 x.offset fits in
+    let f = near-rows m c.args.at c.requires.found.0 c.requires.found.1 x.offset x.count
+    (ap pointer_of (sym c.word.ensures) ∙ sym c.split.ensures.read ∙ x.is
+    ∙ ap (λ (k : Width). Many x.offset k x.count) c.in-Rows.is) in
+    let e = sym c.start_of-start.ensures ∙ ap (moved c.args.at.word) z ∙ f.moved_to in
+    let same : f.start ≡ c.start_of-start.result = cc in
+    let start = c.start_of-start.result in
+    f.is ∙ ap (λ (w : ℕ). Ok (rows_at m s w 0 x.count)) same
+    ∙ ap (λ (t : ℕ). Ok (targets.Content s start
+    (shapes.Rows (field 2 30 t) (field 32 16 t) (field 48 16 t) x.count) 0))
+    (sym c.word-word.ensures)
+    ∙ ap (λ (k : Tag). Ok (targets.Content s start (shapes.Rows k.count k.words k.slots x.count) 0))
+    (sym c.tag_of-tag.ensures)

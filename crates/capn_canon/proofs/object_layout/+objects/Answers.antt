@@ -7,7 +7,7 @@ use Rattle.capn_canon.specs.Layout.{point, list_to}
 use Rattle.capn_canon.specs.inner.LayoutSteps.{laid}
 use Rattle.capn_canon.specs.inner.Source.{IsItem}
 use Rattle.capn_canon.proofs.writer.Blocks.{opened-room, opened-first, one-ready, one-laid, all-ready, all-inside}
-use Rattle.capn_canon.proofs.writer.Blocks.{all-laid}
+use Rattle.capn_canon.proofs.writer.Blocks.{all-laid, opened-rows}
 use Rattle.capn_canon.proofs.writer.Blocks.{struct-one, links-one}
 use Rattle.capn_canon.proofs.writer.Stepwise.{next-ready, then-inside, then-ready, then-rest, slots-start, slots-end}
 use Rattle.capn_canon.proofs.writer.Stepwise.{row-ready}
@@ -112,8 +112,22 @@ lay_slot-lay_slots-requires g t c κs live =
     c.requires.ready.low one in
     (omega arith, (live.0, (live.1.0, (live.1.1.0, (live.1.1.1, (ready, omega arith))))))
 
-pub lay_slot-returns-in_ok-own-in-Struct : goal.lay_slot-returns-in_ok-own-in-Struct
-lay_slot-returns-in_ok-own-in-Struct g t c =
+pub lay_slot-returns-then-own-eq0 : goal.lay_slot-returns-then-own-eq0
+lay_slot-returns-then-own-eq0 g t c w h =
+    let v = c.requires.ready.value in
+    let x = subst (λ (x : Item g.row.S-Numbers.Denot g.row.S-Rows.Denot). IsItem g.S.Source.packs g.S.Source.are x v)
+    c.in-Struct.is (c.item.ensures v c.requires.ready.is) in
+    let r = c.in_ok-own-in-Struct.own in
+    let o = c.in_ok-own-in-Struct.ensures v x.0 x.1 x.2 c.requires.ready.sound in
+    let e = g.met.S.Source.one c.args.source c.args.slot w v h c.requires.ready.is in
+    rows-empty r.words r.slots x.0 r.first c.open_struct.new.draft c.if-own-eq0.true
+    ∙ opened-rows v x.0 c.args.from c.args.draft.now c.open_struct.new.draft r.first r.words r.slots c.args.depth o
+    c.requires.ready.room c.requires.ready.low
+    ∙ ap (λ (y : Tree). laid y (set c.args.draft.now c.args.from (point y c.args.from (length c.args.draft.now))))
+    (sym e)
+
+pub lay_slot-returns-else-own-eq0 : goal.lay_slot-returns-else-own-eq0
+lay_slot-returns-else-own-eq0 g t c =
     on_ok_weaker c.lay_slots.result
     (λ l w h.
     let v = c.requires.ready.value in
