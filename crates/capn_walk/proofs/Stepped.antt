@@ -19,7 +19,6 @@ use Rattle.capn_walk.proofs.shared.Ways.{Told, told-near}
 use Rattle.capn_walk.specs.Shapes.{AreNumbers}
 use Rattle.capn_walk.specs.Surveyed.{cap_of}
 use Rattle.std.specs.Bool.{⊤}
-use Rattle.std.specs.Result.{IfOk, IfErr, MatchResult}
 use Rattle.capn_walk.specs.Visits.{pays, price, slots, visits, visits_of}
 use Rattle.capn_walk.specs.inner.Verdict.{judge, refused}
 use Rattle.capn_walk.specs.inner.Reach.{below_of}
@@ -165,31 +164,3 @@ module _ (m : List (List ℕ)) where
   pub numbers-none : (at : Place) (p : Pointer) → AreNumbers p → near m at.segment at.word 0 p ≡ target m at
       → below_of (target m at) ≡ []
   numbers-none at p h e = none-of at p h (target m at) e
-
-  -- a visit of such a list, where its target is known
-  module _ (base : ℕ) (at : Place) (depth left : ℕ) (p : Pointer) where
-    pub numbers-paid : (t : Target) → AreNumbers p → near m at.segment at.word 0 p ≡ Ok t
-        → near m at.segment at.word 0 p ≡ target m at →
-        (r : Result ℕ Fault)
-        → MatchResult r (λ n. stepped base depth left (Ok t) ≡ Ok t) (λ e. stepped base depth left (Ok t) ≡ Err e) →
-        IfOk r (λ n. n ≡ toll base t) → IfOk r (λ n. visits m base depth at ≡ pays at n ∷ [])
-    numbers-paid t k h e (Ok n) f x =
-        let s = sym e ∙ h in
-        let z = numbers-below at.segment at.word 0 p t k h in
-        let w = (step-pays m base at depth left t (ap (stepped base depth left) s ∙ f)).is in
-        let empty : visits_of m base (depth - 1) (slots_below t) ≡ [] = ap (visits_of m base (depth - 1)) z in
-        rw (← x, empty) at w
-    numbers-paid t k h e (Err n) f x = tt
-
-    pub numbers-stop : (t : Target) → near m at.segment at.word 0 p ≡ Ok t → near m at.segment at.word 0 p ≡ target m at
-        →
-        (r : Result ℕ Fault)
-        → MatchResult r (λ n. stepped base depth left (Ok t) ≡ Ok t) (λ e. stepped base depth left (Ok t) ≡ Err e) →
-        IfErr r (λ e. judge left (visits m base depth at) ≡ refused e at 0 1)
-    numbers-stop t h e (Ok n) f = tt
-    numbers-stop t h e (Err n) f = step-stops m base at depth left n (ap (stepped base depth left) (sym e ∙ h) ∙ f)
-
-    pub numbers-fault : (x : Fault) → near m at.segment at.word 0 p ≡ Err x
-        → near m at.segment at.word 0 p ≡ target m at →
-        judge left (visits m base depth at) ≡ refused x at 0 1
-    numbers-fault x h e = ap (judge left) (visits-fault m base at depth x (sym e ∙ h))

@@ -12,10 +12,10 @@ ghost use Rattle.capn_walk.specs.Accepted.{IsAccepted, IsValueOf, IsWalkRefused,
 ghost use Rattle.capn_value.specs.Tree.{Tree};
 ghost use Rattle.capn_walk.specs.declared.target.Fault.TheVariants.{Memory};
 
-use crate::content::segment_length;
+use crate::content::{segment_length, size_of};
 use crate::entry::{Entry, Index, Indexed};
 use crate::limits::Limits;
-use crate::message_survey::{size_of, survey};
+use crate::message_survey::survey;
 use crate::message_walk::{ROOT, root_target};
 use crate::slot_target::{near, resolve};
 use crate::slots_left::SlotsLeft;

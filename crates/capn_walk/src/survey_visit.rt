@@ -1,20 +1,18 @@
 //! One visit of a slot, without its value.
 
-ghost use Rattle.std.specs.Prelude.{◌≡◌, ◌≢◌, ◌≤◌, ◌∷◌, ◌↔◌, [], length, IsTrue, IfOk, IfErr};
-ghost use Rattle.capn_words.specs.Message.{segment_at, IsMessage, IsPlace};
+ghost use Rattle.std.specs.Prelude.{◌≡◌, ℕ, ◌≤◌, ◌+◌, ◌-◌, ◌↔◌, IsTrue, max};
+ghost use Rattle.capn_words.specs.Message.{IsMessage, IsPlace};
 ghost use Rattle.capn_value.specs.Cost.{most_cost};
 ghost use Rattle.capn_walk.specs.Target as spec;
-ghost use Rattle.capn_walk.specs.Visits.{pays, visits};
-ghost use Rattle.capn_walk.specs.inner.Verdict.{judge, refused};
 ghost use Rattle.capn_walk.specs.inner.Outcomes.{Visits};
-ghost use Rattle.capn_walk.specs.Shapes.{IsPlain, AreNumbers};
-ghost use Rattle.capn_walk.specs.declared.target.Fault.TheVariants.{Memory};
+ghost use Rattle.capn_walk.specs.inner.Reach.{levels_at};
+ghost use Rattle.capn_walk.specs.Shapes.{IsPlain};
 
-use crate::slot_target::{near, resolve};
+use crate::slot_target::resolve;
 use crate::slots_left::SlotsLeft;
 use crate::step::{capability_of, price_within, slots_below};
 use crate::target::{Fault, Target};
-use capn_words::{Place, Pointer, Space, Width};
+use capn_words::{Place, Space, Width};
 
 /// What one visit comes to: its price, the capability that it meets, and the slots below it.
 #[derive(Clone, Copy)]
@@ -27,57 +25,8 @@ pub struct Visited {
     pub below: SlotsLeft,
 }
 
-/// One visit of a slot whose pointer is that of a near struct, at most `depth` objects deep, where `left` words
-/// are left to pay and each content costs `base` beside its size.
-#[inline(always)]
-pub fn visit_struct<S: Space>(
-    space: &S,
-    at: Place,
-    size: u32,
-    pointer: Pointer,
-    depth: u32,
-    left: u32,
-    base: u32,
-) -> Result<Visited, Fault>
-    requires message { IsMessage (S.message space.now) }
-    requires size { size ≡ length (segment_at (S.message space.now) at.segment) }
-    requires place { IsPlace (S.message space.now) at }
-    requires pointer { spec.near (S.message space.now) at.segment at.word 0 pointer
-        ≡ spec.target (S.message space.now) at }
-    requires left { left ≤ most_cost }
-    ensures { Visits (S.message space.now) base depth left at result }
-{
-    let found = near(space, at.segment, size, at.word, 0, pointer);
-    visit_found(space, at, found, depth, left, base)
-}
-
-/// The price of a visit of a slot whose pointer is that of a near list of numbers.
-#[inline(always)]
-pub fn visit_numbers<S: Space>(
-    space: &S,
-    at: Place,
-    size: u32,
-    pointer: Pointer,
-    depth: u32,
-    left: u32,
-    base: u32,
-) -> Result<u32, Fault>
-    requires size { size ≡ length (segment_at (S.message space.now) at.segment) }
-    requires pointer { spec.near (S.message space.now) at.segment at.word 0 pointer
-        ≡ spec.target (S.message space.now) at }
-    requires numbers { AreNumbers pointer }
-    ensures visits { IfOk result (λ p. visits (S.message space.now) base depth at ≡ pays at p ∷ []) }
-    ensures price { IfOk result (λ p. p ≤ left) }
-    ensures refused { IfErr result (λ e. judge left (visits (S.message space.now) base depth at) ≡ refused e at 0 1) }
-    ensures no_memory { IfErr result (λ e. e ≢ Memory) }
-{
-    match near(space, at.segment, size, at.word, 0, pointer) {
-        Ok(target) => price_within(target, depth, left, base),
-        Err(fault) => Err(fault),
-    }
-}
-
-/// The same, whatever the slot names.
+/// One visit of a slot, whatever it names, at most `depth` objects deep, where `left` words are left to pay and each
+/// content costs `base` beside its size.
 #[inline(never)]
 pub fn visit_elsewhere<S: Space>(
     space: &S,
@@ -132,5 +81,20 @@ pub fn is_plain(width: Width) -> bool
     match width {
         Width::Link | Width::Rows => false,
         _ => true,
+    }
+}
+
+/// The lesser of two depths of which one is that of a visit, if this is a visit of content; the other where the depth
+/// isn't asked for.
+#[inline(always)]
+pub fn lowered<const DEEP: bool>(least: u32, depth: u32, capability: Option<u32>) -> u32
+    ensures deep { (limit : ℕ) → IsTrue DEEP →
+        limit + 1 - result ≡ max (limit + 1 - least) (levels_at limit depth capability) }
+    ensures no_more { result ≤ least }
+{
+    if DEEP && capability.is_none() && depth < least {
+        depth
+    } else {
+        least
     }
 }

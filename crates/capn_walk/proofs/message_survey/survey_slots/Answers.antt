@@ -1,6 +1,8 @@
-use Rattle.std.proofs.Common.{rules, ◌≡◌, ◌≤◌, [], None, refl, arith}
+use Rattle.std.proofs.Common.{rules, ◌≡◌, ◌∙◌, ◌-◌, ◌≤◌, List, [], ◌∷◌, None, refl, ap, sym, arith}
+use Rattle.capn_words.specs.declared.space.Place.{Place}
 use Rattle.capn_words.specs.declared.pointer.Pointer.TheVariants.{Many}
 use Rattle.capn_walk.specs.Shapes.{AreNumbers}
+use Rattle.capn_walk.specs.Visits.{pays, visits_of}
 use Rattle.capn_walk.specs.inner.SlotsLeft.{owed, places_of, Lies}
 use Rattle.capn_walk.specs.inner.Reach.{reach_of}
 use Rattle.capn_walk.proofs.NeverNull.{there}
@@ -96,18 +98,20 @@ slots-smaller-then-word-eq0 g c =
     t.result.0 w.paid w.visits w.capability
     w.invariant.surveys t.ensures.places (null-target m t.result.0 cc)
 
-pub visit_struct-requires-clause-pointer : goal.visit_struct-requires-clause-pointer
-visit_struct-requires-clause-pointer g c =
+pub visit_found-requires-clause-found : goal.visit_found-requires-clause-found
+visit_found-requires-clause-found g c =
     let m = g.S.Space.message c.args.space.now in
     let at = c.take.result.0 in
-    near-struct m at c.word-word.result c.split-pointer.result c.in-Node.offset c.in-Node.words c.in-Node.slots
+    c.near-target.ensures
+    ∙ near-struct m at c.word-word.result c.split-pointer.result c.in-Node.offset c.in-Node.words c.in-Node.slots
     c.word-word.ensures c.split-pointer.ensures.read c.in-Node.is
 
-pub visit_numbers-requires-clause-pointer : goal.visit_numbers-requires-clause-pointer
-visit_numbers-requires-clause-pointer g c =
+pub visit_found-requires-in-Many-clause-found : goal.visit_found-requires-in-Many-clause-found
+visit_found-requires-in-Many-clause-found g c =
     let m = g.S.Space.message c.args.space.now in
     let at = c.take.result.0 in
-    near-list m at c.word-word.result c.split-pointer.result c.in-Many.offset c.in-Many.width c.in-Many.count
+    c.near-target-in-Many.ensures
+    ∙ near-list m at c.word-word.result c.split-pointer.result c.in-Many.offset c.in-Many.width c.in-Many.count
     c.word-word.ensures c.split-pointer.ensures.read c.in-Many.is
 
 pub returns-in-Err-clause-tells : goal.returns-in-Err-clause-tells
@@ -349,16 +353,16 @@ slots-smaller g c =
     t.result.1 x.found.below t.result.0 x.found.price w.paid w.visits w.capability
     w.invariant.surveys t.ensures.places x.ensures.visits c.if-not-is_done-2.stack.items t.ensures.kept k
 
-pub returns-in-Err-visit_numbers-clause-tells : goal.returns-in-Err-visit_numbers-clause-tells
-returns-in-Err-visit_numbers-clause-tells g c =
+pub returns-in-Err-visit_found-clause-tells : goal.returns-in-Err-visit_found-clause-tells
+returns-in-Err-visit_found-clause-tells g c =
     let m = g.S.Space.message c.args.space.now in
     let w = c.slots in
     let t = c.take in
-    rw c.stopped-in-Err-visit_numbers.ensures
+    rw c.stopped-in-Err-visit_found.ensures
     (refused-here m c.args.base c.args.budget _ (owed c.args.first) c.args.limit w.depth w.stack.items w.frame
     t.result.1 t.result.0 w.paid w.visits w.capability
-    w.invariant.surveys t.ensures.places t.ensures.owed c.in-Err-visit_numbers.fault
-    c.in-Err-visit_numbers.ensures.refused)
+    w.invariant.surveys t.ensures.places t.ensures.owed c.in-Err-visit_found.fault
+    c.in-Err-visit_found.ensures.refused)
 
 pub returns-in-Err-visit_elsewhere-clause-tells : goal.returns-in-Err-visit_elsewhere-clause-tells
 returns-in-Err-visit_elsewhere-clause-tells g c =
@@ -376,7 +380,7 @@ slots-preserved-then-is_plain g c =
     let m = g.S.Space.message c.args.space.now in
     let w = c.slots in
     let t = c.take in
-    let x = c.in-Ok-visit_numbers in
+    let x = c.in-Ok-visit_found in
     let none = capless-near m t.result.0 (Many c.in-Many.offset c.in-Many.width c.in-Many.count)
     (near-list m t.result.0 c.word-word.result c.split-pointer.result c.in-Many.offset c.in-Many.width
     c.in-Many.count c.word-word.ensures c.split-pointer.ensures.read c.in-Many.is) in
@@ -391,22 +395,25 @@ slots-preserved-then-is_plain g c =
     let nothing = numbers-none m t.result.0 (Many c.in-Many.offset c.in-Many.width c.in-Many.count) number
     (near-list m t.result.0 c.word-word.result c.split-pointer.result c.in-Many.offset c.in-Many.width
     c.in-Many.count c.word-word.ensures c.split-pointer.ensures.read c.in-Many.is) in
-    let fewer = c.lowered-least-in-Ok-visit_numbers.ensures.no_more in
+    let here = x.ensures.visits
+    ∙ ap (λ (ps : List Place). pays t.result.0 x.found.price ∷ visits_of m c.args.base (w.depth - 1) ps)
+    (sym x.ensures.places ∙ nothing) in
+    let fewer = c.lowered-least-in-Ok-visit_found.ensures.no_more in
     let few = w.invariant.least in
     record {
       surveys = rw option_or-none at
           (passed m c.args.base c.args.budget _ (owed c.args.first) c.args.limit w.depth w.stack.items w.frame
           t.result.1 t.result.0 w.paid w.visits w.capability
-          w.invariant.surveys t.ensures.places t.ensures.owed no_frame x.price None x.ensures.visits x.ensures.price
+          w.invariant.surveys t.ensures.places t.ensures.owed no_frame x.found.price None here x.ensures.price
           (omega arith) none
           lies (λ h. absurd (omega arith)) refl);
       room = w.invariant.room;
       size = rw t.ensures.segment w.invariant.size;
-      deep = λ on. deep-passed m c.args.base c.args.limit n w.least c.lowered-least-in-Ok-visit_numbers.result
+      deep = λ on. deep-passed m c.args.base c.args.limit n w.least c.lowered-least-in-Ok-visit_found.result
           w.depth w.stack.items w.frame
-          t.result.1 no_frame t.result.0 x.price _ None (w.invariant.deep on) low
-          t.ensures.places x.ensures.visits is none nothing
-          (c.lowered-least-in-Ok-visit_numbers.ensures.deep c.args.limit on)
+          t.result.1 no_frame t.result.0 x.found.price _ None (w.invariant.deep on) low
+          t.ensures.places here is none nothing
+          (c.lowered-least-in-Ok-visit_found.ensures.deep c.args.limit on)
           (λ h. absurd (omega arith)) refl;
       least = omega arith;
     }
@@ -416,10 +423,17 @@ slots-smaller-then-is_plain g c =
     let m = g.S.Space.message c.args.space.now in
     let w = c.slots in
     let t = c.take in
-    let x = c.in-Ok-visit_numbers in
+    let x = c.in-Ok-visit_found in
+    let number : AreNumbers (Many c.in-Many.offset c.in-Many.width c.in-Many.count) = search rules in
+    let nothing = numbers-none m t.result.0 (Many c.in-Many.offset c.in-Many.width c.in-Many.count) number
+    (near-list m t.result.0 c.word-word.result c.split-pointer.result c.in-Many.offset c.in-Many.width
+    c.in-Many.count c.word-word.ensures c.split-pointer.ensures.read c.in-Many.is) in
+    let here = x.ensures.visits
+    ∙ ap (λ (ps : List Place). pays t.result.0 x.found.price ∷ visits_of m c.args.base (w.depth - 1) ps)
+    (sym x.ensures.places ∙ nothing) in
     fewer-passed m c.args.base c.args.budget _ (owed c.args.first) c.args.limit w.depth w.stack.items w.frame t.result.1
-    no_frame t.result.0 x.price w.paid w.visits w.capability
-    w.invariant.surveys t.ensures.places x.ensures.visits (λ h. absurd (omega arith)) refl
+    no_frame t.result.0 x.found.price w.paid w.visits w.capability
+    w.invariant.surveys t.ensures.places here (λ h. absurd (omega arith)) refl
 
 pub returns-in_default-clause-depth : goal.returns-in_default-clause-depth
 returns-in_default-clause-depth g c on =
