@@ -24,16 +24,7 @@ pub fn resolve<S: Space>(space: &S, at: Place) -> Result<Target, Fault>
     // Content lies inside its segment, which exists, and rows within what their list's pointer says.
     ensures inside { IfOk result (λ t. IsInMessage (S.message space.now) t) }
 {
-    let pointer = pointer_at(space, at.segment, at.word);
-    named(space, at.segment, at.word, pointer)
-}
-
-/// What the pointer at a word of a segment names.
-#[inline(always)]
-fn named<S: Space>(space: &S, segment: u32, word: u32, pointer: Pointer) -> Result<Target, Fault>
-    ensures { result ≡ spec.named (S.message space.now) segment word pointer }
-{
-    match pointer {
+    match pointer_at(space, at.segment, at.word) {
         Pointer::Nil => Ok(Target::Nil),
         Pointer::Cap(index) => Ok(Target::Cap(index)),
         Pointer::Reserved(_) => Err(Fault::Reserved),
@@ -49,8 +40,8 @@ fn named<S: Space>(space: &S, segment: u32, word: u32, pointer: Pointer) -> Resu
             }
         }
         pointer => {
-            let size = segment_length(space, segment);
-            near(space, segment, size, word, 0, pointer)
+            let size = segment_length(space, at.segment);
+            near(space, at.segment, size, at.word, 0, pointer)
         }
     }
 }
@@ -117,7 +108,7 @@ fn behind_one<S: Space>(space: &S, segment: u32, word: u32) -> Result<Target, Fa
     )
 }
 
-/// What a far pointer names by a landing pad of two words.
+/// What a far pointer names by a landing pad of two words: a far pointer to the content, and the content's form.
 #[inline(never)]
 fn behind_two<S: Space>(space: &S, segment: u32, word: u32) -> Result<Target, Fault>
     ensures { result ≡ spec.landing (S.message space.now) segment word 2
@@ -128,13 +119,6 @@ fn behind_two<S: Space>(space: &S, segment: u32, word: u32) -> Result<Target, Fa
     landing(space, segment, word, 2)?;
     let first = pointer_at(space, segment, word);
     let second = pointer_at(space, segment, word + 1);
-    named_by_two(space, first, second)
-}
-
-/// What the two words of a landing pad name: a far pointer to the content, and the content's form.
-fn named_by_two<S: Space>(space: &S, first: Pointer, second: Pointer) -> Result<Target, Fault>
-    ensures { result ≡ spec.two_pads (S.message space.now) first second }
-{
     let Pointer::Far {
         double: false,
         word,
