@@ -1,6 +1,7 @@
 //! The walk over a whole message, from its root.
 
-ghost use Rattle.std.specs.Prelude.{◌≡◌, ◌≢◌, ◌⊎◌, ◌<◌, ◌≤◌, Ok, length, true, IfOk, IfErr, OnOk, MatchResult};
+ghost use Rattle.std.specs.Prelude.{◌≡◌, ◌≢◌, ◌⊎◌, ℕ, ◌<◌, ◌≤◌, Ok, Err, length, true, IfOk, IfErr, OnOk};
+ghost use Rattle.std.specs.Prelude.{MatchResult};
 ghost use Rattle.capn_words.specs.Message.{segment_at};
 ghost use Rattle.capn_value.specs.Tree as trees;
 ghost use Rattle.capn_value.specs.Cost.{base, cost, height};
@@ -97,6 +98,8 @@ pub fn root_target<S: Space>(space: &S) -> Result<Target, Stopped>
     ensures refused { IfErr result (λ s.
         (limits : Bounds) →
         IsWalkRefused (S.message space.now) limits s.fault s.place s.paid s.visits) }
+    ensures stepped { IfErr result (λ s. (base depth left : ℕ) →
+        stepped_to_root (S.message space.now) base depth left ≡ Err s.fault) }
     ensures no_memory { IfErr result (λ s. s.fault ≢ Memory) }
     ensures bounded { IfErr result (λ s. IsBounded 0 s.paid s.visits) }
 {
@@ -107,20 +110,10 @@ pub fn root_target<S: Space>(space: &S) -> Result<Target, Stopped>
         });
     }
     match resolve(space, ROOT) {
-        Ok(target) => {
-            if may_be_root(target) {
-                Ok(target)
-            } else {
-                Err(stop(Fault::RootKind, ROOT))
-            }
-        }
+        Ok(target) => match target {
+            Target::Cap(_) => Err(stop(Fault::RootKind, ROOT)),
+            target => Ok(target),
+        },
         Err(fault) => Err(stop(fault, ROOT)),
     }
-}
-
-/// Whether a target may be that of the root.
-pub fn may_be_root(target: Target) -> bool
-    ensures { result ≡ accepted.may_be_root target }
-{
-    !matches!(target, Target::Cap(_))
 }

@@ -10,10 +10,9 @@ ghost use Rattle.capn_walk.specs.ValueAt.{AreElements};
 ghost use Rattle.capn_walk.specs.View as seen;
 ghost use Rattle.capn_walk.specs.declared.kind.Kind.TheVariants as kinds;
 
-use crate::content::segment_length;
 use crate::digits::{digit, per_word};
 use crate::kind::{Kind, kind_of};
-use crate::message_walk::{ROOT, may_be_root};
+use crate::message_walk::root_target;
 use crate::meter::Meter;
 use crate::sizes::{len_of, slots_in, words_in};
 use crate::slot_target::resolve;
@@ -55,16 +54,10 @@ impl<'s, S: Space> View<'s, S> {
         ensures kept { OnErr result (meter.new ≡ meter.old) }
     {
         let _bounds = space.segments();
-        if segment_length(space, ROOT.segment) == 0 {
-            return Err(Fault::NoRoot);
-        }
-        let target = match resolve(space, ROOT) {
+        let target = match root_target(space) {
             Ok(target) => target,
-            Err(fault) => return Err(fault),
+            Err(stopped) => return Err(stopped.fault),
         };
-        if !may_be_root(target) {
-            return Err(Fault::RootKind);
-        }
         match price_within(target, depth, meter.left(), meter.tariff().base()) {
             Ok(price) => {
                 meter.pay(price);

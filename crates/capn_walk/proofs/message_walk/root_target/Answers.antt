@@ -1,18 +1,18 @@
-use Rattle.std.proofs.Common.{◌≡◌, ◌<◌, length, Ok, Err, sym, ◌∙◌, arith}
+use Rattle.std.proofs.Common.{◌≡◌, ◌<◌, length, Ok, Err, ap, arith}
 use Rattle.capn_words.specs.Message.{segment_at}
 use Rattle.capn_walk.specs.Target.{target}
-use Rattle.capn_walk.specs.Accepted.{root}
+use Rattle.capn_walk.specs.Accepted.{root, may_be_root}
 use Rattle.capn_walk.proofs.RootWalks.{refused-kind, refused-fault}
 use Rattle.capn_walk.proofs.shared.Ways.{never-memory}
 use Rattle.capn_walk.proofs.message_walk.root_target.Goals as goal
 
-pub returns-else-may_be_root-clause-refused : goal.returns-else-may_be_root-clause-refused
-returns-else-may_be_root-clause-refused g c limits =
+pub returns-in-Cap-clause-refused : goal.returns-in-Cap-clause-refused
+returns-in-Cap-clause-refused g c limits =
     let m = g.S.Space.message c.args.space.now in
     let some : 0 < length (segment_at (g.S.Space.message c.args.space.now) 0) = omega arith in
     let e : target (g.S.Space.message c.args.space.now) root ≡ Ok c.in-Ok.target = cc in
-    refused-kind m c.stop-else-may_be_root.result c.in-Ok.target limits some e
-    (sym c.may_be_root.ensures ∙ c.if-may_be_root.false) c.stop-else-may_be_root.ensures
+    refused-kind m c.stop-in-Cap.result c.in-Ok.target limits some e (ap may_be_root c.in-Cap.is)
+    c.stop-in-Cap.ensures
 
 pub returns-in-Err-clause-refused : goal.returns-in-Err-clause-refused
 returns-in-Err-clause-refused g c limits =
