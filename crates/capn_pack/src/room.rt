@@ -24,3 +24,20 @@ pub(crate) fn text_room<A: Allocator>(
     let times = all.saturating_sub(at).div_ceil(at.max(8)).min(TIMES);
     count.saturating_add(text.saturating_mul(times))
 }
+
+/// The room for so many bytes of words, which stand first in the rest of a text; where there is none yet, for twice the
+/// bytes of the rest, within the maximum: ten bytes of groups have at least eight bytes of words.
+#[inline(always)]
+pub(crate) fn words_room<A: Allocator>(
+    out: &Vec<u8, A>,
+    count: usize,
+    rest: &[u8],
+    room: usize,
+) -> usize
+    ensures { count ≤ result }
+{
+    if count <= out.capacity() - out.len() {
+        return count;
+    }
+    count.max(8 * (rest.len() / 4).min(room).min(1 << 40))
+}
