@@ -1,16 +1,16 @@
 -- The canonical layout of a value, by sums of sizes. (Page: canonicalization.)
-use Rattle.std.specs.Prelude.{ℕ, zero, suc, ◌+◌, ◌-◌, ◌*◌, ◌^◌, ◌==◌, ◌&&◌, List, [], ◌∷◌, ◌++◌, map, length, take}
+use Rattle.std.specs.Prelude.{ℕ, zero, suc, ◌+◌, ◌-◌, ◌*◌, ◌^◌, ◌==◌, ◌&&◌, List, [], ◌∷◌, ◌++◌, length, take}
 use Rattle.std.specs.Prelude.{drop, pos, negsuc, if◌then◌else◌}
-use Rattle.std.specs.Int.{from_bool}
 use Rattle.capn_words.specs.Message.{bytes}
 use Rattle.capn_words.specs.Pointers.{word_of}
 use Rattle.capn_words.specs.declared.pointer.Pointer.TheVariants.{Node, Many, Cap}
 use Rattle.capn_words.specs.declared.pointer.Width.{Width}
-use Rattle.capn_words.specs.declared.pointer.Width.TheVariants.{W0, W1, W8, W16, W32, W64, Link, Rows}
-use Rattle.capn_value.specs.Tree.{Tree, nil, node, voids, bits, bytes as octets, pairs, quads, octs, links, rows, cap}
+use Rattle.capn_words.specs.declared.pointer.Width.TheVariants.{W0, Link, Rows}
+use Rattle.capn_value.specs.NumberWidth.{oct, bits_in, per_word}
+use Rattle.capn_value.specs.Tree.{Tree, nil, node, voids, numbers, links, rows, cap}
 use Rattle.capn_value.specs.Tree.{Trees, no_trees, tree, Bodies, no_bodies, body, count, count_rows}
 use Rattle.capn_value.specs.Trim.{kept_words, kept_slots, kept_words_of_rows, kept_slots_of_rows}
-use Rattle.capn_walk.specs.Target.{words_for}
+use Rattle.capn_walk.specs.Target.{content_words, list_width}
 
 -- the words that a row of a list of structs takes, when all rows are cut jointly (Page: canonicalization.)
 abbrev pub row_size : Bodies → ℕ
@@ -20,11 +20,7 @@ row_size bs = kept_words_of_rows bs + kept_slots_of_rows bs
 -- structs, lists)
 abbrev pub own : Tree → ℕ
 own (node ws ss) = kept_words ws + kept_slots ss
-own (bits xs) = words_for (length xs)
-own (octets xs) = words_for (8 * length xs)
-own (pairs xs) = words_for (16 * length xs)
-own (quads xs) = words_for (32 * length xs)
-own (octs xs) = length xs
+own (numbers a xs) = content_words (list_width a) (length xs)
 own (links ts) = count ts
 own (rows bs) = 1 + count_rows bs * row_size bs
 own _ = 0
@@ -59,11 +55,7 @@ unfoldable pub point : Tree → ℕ → ℕ → ℕ
 point nil from to = 0
 point (node ws ss) from to = struct_to from to (kept_words ws) (kept_slots ss)
 point (voids n) from to = list_to from to W0 n
-point (bits xs) from to = list_to from to W1 (length xs)
-point (octets xs) from to = list_to from to W8 (length xs)
-point (pairs xs) from to = list_to from to W16 (length xs)
-point (quads xs) from to = list_to from to W32 (length xs)
-point (octs xs) from to = list_to from to W64 (length xs)
+point (numbers a xs) from to = list_to from to (list_width a) (length xs)
 point (links ts) from to = list_to from to Link (count ts)
 point (rows bs) from to = list_to from to Rows (count_rows bs * row_size bs)
 point (cap k) from to = word_of (Cap k)
@@ -102,11 +94,8 @@ abbrev mutual
       word_of (Node (pos (count_rows bs)) (kept_words_of_rows bs) (kept_slots_of_rows bs))
       ∷ (row_contents (kept_words_of_rows bs) (kept_slots_of_rows bs) bs (suc at) (at + own (rows bs))
       ++ lays_in_rows bs (at + own (rows bs)))
-  lay (bits xs) at = packed 64 1 (own (bits xs)) (map from_bool xs)
-  lay (octets xs) at = packed 8 8 (own (octets xs)) xs
-  lay (pairs xs) at = packed 4 16 (own (pairs xs)) xs
-  lay (quads xs) at = packed 2 32 (own (quads xs)) xs
-  lay (octs xs) at = xs
+  lay (numbers oct xs) at = xs
+  lay (numbers a xs) at = packed (per_word a) (bits_in a) (own (numbers a xs)) xs
   lay _ at = []
 
   pub lays : Trees → ℕ → List ℕ

@@ -4,6 +4,7 @@ pub mod Elements
 pub mod Fitting
 pub mod Inside
 pub mod Judge
+pub mod Numbers
 pub mod Plain
 pub mod Present
 pub mod Ranges

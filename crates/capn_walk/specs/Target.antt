@@ -7,12 +7,21 @@ use Rattle.capn_words.specs.declared.pointer.Pointer.{Pointer}
 use Rattle.capn_words.specs.declared.pointer.Pointer.TheVariants.{Nil, Node, Many, Far, Cap, Reserved}
 use Rattle.capn_words.specs.declared.pointer.Width.{Width}
 use Rattle.capn_words.specs.declared.pointer.Width.TheVariants.{W0, W1, W8, W16, W32, W64, Link, Rows}
+use Rattle.capn_value.specs.NumberWidth.{NumberWidth, bit, byte, pair, quad, oct, bits_in}
 use Rattle.capn_walk.specs.declared.target.Target.{Target}
 use Rattle.capn_walk.specs.declared.target.Target.TheVariants as targets
 use Rattle.capn_walk.specs.declared.target.Shape.TheVariants as shapes
 use Rattle.capn_walk.specs.declared.target.Fault.{Fault}
 use Rattle.capn_walk.specs.declared.target.Fault.TheVariants as faults
 use Rattle.capn_words.specs.Pointers.{field, pointer_of}
+
+-- how a pointer to a list of numbers says their width
+abbrev pub list_width : NumberWidth → Width
+list_width bit = W1
+list_width byte = W8
+list_width pair = W16
+list_width quad = W32
+list_width oct = W64
 
 -- the words that n bits take
 abbrev pub words_for : ℕ → ℕ
@@ -22,9 +31,9 @@ words_for n = (n + 63) / 64
 abbrev pub content_words : Width → ℕ → ℕ
 content_words W0 n = 0
 content_words W1 n = words_for n
-content_words W8 n = words_for (8 * n)
-content_words W16 n = words_for (16 * n)
-content_words W32 n = words_for (32 * n)
+content_words W8 n = words_for (bits_in byte * n)
+content_words W16 n = words_for (bits_in pair * n)
+content_words W32 n = words_for (bits_in quad * n)
 content_words W64 n = n
 content_words Link n = n
 content_words Rows n = 1 + n
@@ -32,10 +41,10 @@ content_words Rows n = 1 + n
 -- the bits of an element, and of a word of the rows of a composite list
 abbrev pub bits_of : Width → ℕ
 bits_of W0 = 0
-bits_of W1 = 1
-bits_of W8 = 8
-bits_of W16 = 16
-bits_of W32 = 32
+bits_of W1 = bits_in bit
+bits_of W8 = bits_in byte
+bits_of W16 = bits_in pair
+bits_of W32 = bits_in quad
 bits_of _ = 64
 
 -- where an offset leads from the word after a pointer, if not before word 0

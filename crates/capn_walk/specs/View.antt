@@ -5,6 +5,8 @@ use Rattle.capn_words.specs.Message.{segment_at}
 use Rattle.capn_words.specs.declared.space.Place.{Place}
 use Rattle.capn_words.specs.declared.pointer.Width.{Width}
 use Rattle.capn_words.specs.declared.pointer.Width.TheVariants.{W0, W1, W8, W16, W32, W64, Link, Rows}
+use Rattle.capn_value.specs.NumberWidth as widths
+use Rattle.capn_value.specs.NumberWidth.{bit, byte, pair, quad}
 use Rattle.capn_walk.specs.declared.target.Target.{Target}
 use Rattle.capn_walk.specs.declared.target.Target.TheVariants as targets
 use Rattle.capn_walk.specs.declared.target.Shape.TheVariants as shapes
@@ -133,10 +135,10 @@ number_in _ ws i = slice_index ws i
 
 -- how many of them a word holds
 abbrev pub per_word : Width → ℕ
-per_word W1 = 64
-per_word W8 = 8
-per_word W16 = 4
-per_word W32 = 2
+per_word W1 = widths.per_word bit
+per_word W8 = widths.per_word byte
+per_word W16 = widths.per_word pair
+per_word W32 = widths.per_word quad
 per_word _ = 1
 
 -- the one at a place of a word, counted from the least significant

@@ -5,7 +5,7 @@ use Rattle.std.proofs.Common.{None, IsTrue, refl, ap, sym, subst, ◌∙◌, ari
 use Rattle.std.specs.Option.{option_or}
 use Rattle.std.proofs.lemmas.List.{append-nil}
 use Rattle.capn_words.specs.Message.{IsMessage, bytes}
-use Rattle.capn_value.specs.Tree.{Tree, nil, node, voids, bits, bytes as octets, pairs, quads, octs, links, rows, cap}
+use Rattle.capn_value.specs.Tree.{Tree, nil, node, voids, numbers, links, rows, cap}
 use Rattle.capn_value.specs.Tree.{Trees, no_trees, tree, count}
 use Rattle.capn_value.specs.Cost.{base, height, greatest}
 use Rattle.capn_value.specs.FirstCap.{first_cap}
@@ -41,11 +41,7 @@ free-root nil e = refl
 free-root (node ws ss) e = refl
 free-root (cap k) e = absurd cc
 free-root (voids n) e = refl
-free-root (bits xs) e = refl
-free-root (octets xs) e = refl
-free-root (pairs xs) e = refl
-free-root (quads xs) e = refl
-free-root (octs xs) e = refl
+free-root (numbers a xs) e = refl
 free-root (links ts) e = refl
 free-root (rows bs) e = refl
 

@@ -1,19 +1,19 @@
 -- Elements that are packed into words are the first bits of the words that they are read from.
 use Rattle.std.proofs.Common.{◌≡◌, ◌≢◌, ℕ, zero, suc, ◌+◌, ◌*◌, ◌/◌, ◌%◌, ◌^◌, ◌<◌, ◌≤◌, List, []}
-use Rattle.std.proofs.Common.{◌∷◌, ◌++◌, length, take, drop, map, slice_index, refl, ap, ap₂, sym, subst, ◌∙◌}
+use Rattle.std.proofs.Common.{◌∷◌, ◌++◌, length, take, drop, slice_index, refl, ap, ap₂, sym, subst, ◌∙◌}
 use Rattle.std.proofs.Common.{arith, append-nil, append_assoc, length-drop}
-use Rattle.std.specs.Int.{from_bool}
 use Rattle.std.proofs.Math.Nat.{div-div-eq-div-mul, pow-succ', pow-zero, mod-lt, mod-eq_of_lt, div-eq_of_lt}
 use Rattle.std.proofs.Math.Nat.{add-div_right, add-mod_right, div-add-mod}
 use Rattle.std.proofs.Math.Arith.{mod-mul}
 use Rattle.std.proofs.lemmas.Nat.{pow-add, pow_below}
-use Rattle.std.proofs.lemmas.List.{get_or-drop, get_or-take, length-take-le, length-map, take_all, drop-drop}
-use Rattle.capn_value.specs.Tree.{Tree, nil, node, voids, bits, bytes, pairs, quads, octs, links, rows, cap}
+use Rattle.std.proofs.lemmas.List.{get_or-drop, get_or-take, length-take-le, take_all, drop-drop}
+use Rattle.capn_value.specs.NumberWidth.{oct, bits_in, per_word}
+use Rattle.capn_value.specs.Tree.{Tree, nil, node, voids, numbers, links, rows, cap}
 use Rattle.capn_words.specs.declared.pointer.Width.{Width}
 use Rattle.capn_words.specs.declared.pointer.Width.TheVariants.{W0, W1, W8, W16, W32, W64, Link, Rows}
 use Rattle.capn_walk.specs.declared.target.Shape.TheVariants as shapes
 use Rattle.capn_walk.specs.ValueAt.{AreElements, words_from}
-use Rattle.capn_walk.specs.Target.{content_words, words_for}
+use Rattle.capn_walk.specs.Target.{content_words, words_for, list_width}
 use Rattle.capn_walk.specs.ValueAt.{IsInside}
 use Rattle.capn_walk.specs.Shapes.{IsPlain}
 use Rattle.capn_canon.specs.Layout.{number, packed, lay, point, list_to}
@@ -203,7 +203,7 @@ module _ (m : List (List ℕ)) (width : Width) (n s w : ℕ) (plain : IsPlain wi
             ∙ omega arith),
         λ from to. sym (ap₂ (list_to from to) ew en),
       )
-  list-of (octs xs) h =
+  list-of (numbers oct xs) h =
       let f = h.0 in
       let ew : width ≡ W64 = cc in
       let en : n ≡ length xs = cc in (
@@ -212,46 +212,15 @@ module _ (m : List (List ℕ)) (width : Width) (n s w : ℕ) (plain : IsPlain wi
             (ap₂ (λ (x : Width) (j : ℕ). element_bits x * j) ew en),
         λ from to. sym (ap₂ (list_to from to) ew en),
       )
-  list-of (bits xs) h =
+  list-of (numbers a xs) h =
       let f = h.0 in
-      let ew : width ≡ W1 = cc in
+      let ew : width ≡ list_width a = cc in
       let en : n ≡ length xs = cc in
-      let eb : element_bits width * n ≡ 1 * length xs = ap₂ (λ (x : Width) (j : ℕ). element_bits x * j) ew en in
-      let lm = length-map xs from_bool in
-      let one : length xs ≡ 1 * length xs = omega arith in (
-        λ at. ap (λ (j : ℕ). packed 64 1 (words_for j) (map from_bool xs)) one
-            ∙ packed-first 64 1 (omega arith) refl (length xs) (words_from m s w) (map from_bool xs) lm (omega arith)
-            (omega arith) (omega arith) (omega arith) below h.1
-            ∙ ap (λ (j : ℕ). first_bits j (words_from m s w)) (sym eb),
-        λ from to. sym (ap₂ (list_to from to) ew en),
-      )
-  list-of (bytes xs) h =
-      let f = h.0 in
-      let ew : width ≡ W8 = cc in
-      let en : n ≡ length xs = cc in
-      let eb : element_bits width * n ≡ 8 * length xs = ap₂ (λ (x : Width) (j : ℕ). element_bits x * j) ew en in (
-        λ at. packed-first 8 8 (omega arith) refl (length xs) (words_from m s w) xs refl (omega arith) (omega arith)
-            (omega arith) (omega arith) below h.1
-            ∙ ap (λ (j : ℕ). first_bits j (words_from m s w)) (sym eb),
-        λ from to. sym (ap₂ (list_to from to) ew en),
-      )
-  list-of (pairs xs) h =
-      let f = h.0 in
-      let ew : width ≡ W16 = cc in
-      let en : n ≡ length xs = cc in
-      let eb : element_bits width * n ≡ 16 * length xs = ap₂ (λ (x : Width) (j : ℕ). element_bits x * j) ew en in (
-        λ at. packed-first 4 16 (omega arith) refl (length xs) (words_from m s w) xs refl (omega arith) (omega arith)
-            (omega arith) (omega arith) below h.1
-            ∙ ap (λ (j : ℕ). first_bits j (words_from m s w)) (sym eb),
-        λ from to. sym (ap₂ (list_to from to) ew en),
-      )
-  list-of (quads xs) h =
-      let f = h.0 in
-      let ew : width ≡ W32 = cc in
-      let en : n ≡ length xs = cc in
-      let eb : element_bits width * n ≡ 32 * length xs = ap₂ (λ (x : Width) (j : ℕ). element_bits x * j) ew en in (
-        λ at. packed-first 2 32 (omega arith) refl (length xs) (words_from m s w) xs refl (omega arith) (omega arith)
-            (omega arith) (omega arith) below h.1
+      let eb : element_bits width * n ≡ bits_in a * length xs = ap₂ (λ (x : Width) (j : ℕ). element_bits x * j) ew en in
+      let size : content_words (list_width a) (length xs) ≡ words_for (bits_in a * length xs) = omega arith in (
+        λ at. ap (λ (j : ℕ). packed (per_word a) (bits_in a) j xs) size
+            ∙ packed-first (per_word a) (bits_in a) (omega arith) refl (length xs) (words_from m s w) xs refl
+            (omega arith) (omega arith) (omega arith) (omega arith) below h.1
             ∙ ap (λ (j : ℕ). first_bits j (words_from m s w)) (sym eb),
         λ from to. sym (ap₂ (list_to from to) ew en),
       )

@@ -13,7 +13,7 @@ use Rattle.capn_words.specs.declared.pointer.Width.{Width}
 use Rattle.capn_words.specs.declared.pointer.Width.TheVariants.{W0, W1, W8, W16, W32, W64, Link, Rows}
 use Rattle.capn_words.specs.Pointers.{field, pointer_of}
 use Rattle.capn_words.proofs.shared.Choices.{pick}
-use Rattle.capn_value.specs.Tree.{Tree, nil, node, voids, bits, bytes, pairs, quads, octs, links, rows, cap, Trees}
+use Rattle.capn_value.specs.Tree.{Tree, nil, node, voids, numbers, links, rows, cap, Trees}
 use Rattle.capn_value.specs.Tree.{no_trees, tree, count, is_null}
 use Rattle.capn_value.specs.Trim.{kept_behind, kept_words, kept_slots}
 use Rattle.capn_walk.specs.declared.target.Target.{Target}
@@ -148,11 +148,7 @@ module _ (m : List (List ℕ)) where
   null-word at (cap k) h = is-other (word_at m at) (λ z. let e = zero-target at z in cc)
   null-word at (node ws ss) h = is-other (word_at m at) (λ z. let e = zero-target at z in let f = h.is in cc)
   null-word at (voids n) h = is-other (word_at m at) (λ z. let e = zero-target at z in let f = h.is in cc)
-  null-word at (bits xs) h = is-other (word_at m at) (λ z. let e = zero-target at z in let f = h.is in cc)
-  null-word at (bytes xs) h = is-other (word_at m at) (λ z. let e = zero-target at z in let f = h.is in cc)
-  null-word at (pairs xs) h = is-other (word_at m at) (λ z. let e = zero-target at z in let f = h.is in cc)
-  null-word at (quads xs) h = is-other (word_at m at) (λ z. let e = zero-target at z in let f = h.is in cc)
-  null-word at (octs xs) h = is-other (word_at m at) (λ z. let e = zero-target at z in let f = h.is in cc)
+  null-word at (numbers a xs) h = is-other (word_at m at) (λ z. let e = zero-target at z in let f = h.is in cc)
   null-word at (links ts) h = is-other (word_at m at) (λ z. let e = zero-target at z in let f = h.is in cc)
   null-word at (rows bs) h = is-other (word_at m at) (λ z. let e = zero-target at z in let f = h.3.is in cc)
 

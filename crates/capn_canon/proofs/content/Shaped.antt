@@ -1,18 +1,18 @@
 -- Which value stands inside content of a shape.
-use Rattle.std.proofs.Common.{◌≡◌, ℕ, suc, ◌+◌, List, length, take, map, Ok, refl, subst, arith}
-use Rattle.std.specs.Int.{from_bool}
+use Rattle.std.proofs.Common.{◌≡◌, ℕ, suc, ◌+◌, List, length, take, Ok, refl, subst, arith}
 use Rattle.capn_words.specs.declared.space.Place.{Place}
 use Rattle.capn_words.specs.declared.pointer.Width.{Width}
-use Rattle.capn_words.specs.declared.pointer.Width.TheVariants.{W0, W1, W8, W16, W32, W64, Link}
-use Rattle.capn_value.specs.Tree.{Tree, nil, node, voids, bits, bytes, pairs, quads, octs, links, rows, cap, Trees}
+use Rattle.capn_words.specs.declared.pointer.Width.TheVariants.{W0, Link}
+use Rattle.capn_value.specs.Tree.{Tree, nil, node, voids, numbers, links, rows, cap, Trees}
 use Rattle.capn_value.specs.Tree.{Bodies, count, count_rows}
 use Rattle.capn_walk.specs.declared.target.Target.{Target}
 use Rattle.capn_walk.specs.declared.target.Target.TheVariants as targets
 use Rattle.capn_walk.specs.declared.target.Shape.{Shape}
 use Rattle.capn_walk.specs.declared.target.Shape.TheVariants as shapes
-use Rattle.capn_walk.specs.Target.{target}
-use Rattle.capn_walk.specs.ValueAt.{IsAt, AreAt, RowsAt, StandAt, AreElements, words_from}
+use Rattle.capn_walk.specs.Target.{target, list_width}
+use Rattle.capn_walk.specs.ValueAt.{IsAt, AreAt, RowsAt, StandAt, AreNumbers, words_from}
 use Rattle.capn_walk.specs.ValueAt.{IsInside}
+use Rattle.capn_walk.proofs.shared.Numbers.{no-number_width}
 
 both : (P : ℕ → ℕ → Type 0) (a b c d : ℕ) → a ≡ b → c ≡ d → P a c → P b d
 both P a b c d e f h = subst (λ (x : ℕ). P x d) e (subst (P a) f h)
@@ -24,11 +24,7 @@ module _ (m : List (List ℕ)) where
   found at (cap k) h = (targets.Cap k, h)
   found at (node ws ss) h = (_, h.is)
   found at (voids n) h = (_, h.is)
-  found at (bits xs) h = (_, h.is)
-  found at (bytes xs) h = (_, h.is)
-  found at (pairs xs) h = (_, h.is)
-  found at (quads xs) h = (_, h.is)
-  found at (octs xs) h = (_, h.is)
+  found at (numbers a xs) h = (_, h.is)
   found at (links ts) h = (_, h.is)
   found at (rows bs) h = (_, h.3.is)
 
@@ -38,11 +34,7 @@ module _ (m : List (List ℕ)) where
   null-of at (cap k) e h = cc
   null-of at (node ws ss) e h = let f = h.is in cc
   null-of at (voids n) e h = let f = h.is in cc
-  null-of at (bits xs) e h = let f = h.is in cc
-  null-of at (bytes xs) e h = let f = h.is in cc
-  null-of at (pairs xs) e h = let f = h.is in cc
-  null-of at (quads xs) e h = let f = h.is in cc
-  null-of at (octs xs) e h = let f = h.is in cc
+  null-of at (numbers a xs) e h = let f = h.is in cc
   null-of at (links ts) e h = let f = h.is in cc
   null-of at (rows bs) e h = let f = h.3.is in cc
 
@@ -52,11 +44,7 @@ module _ (m : List (List ℕ)) where
   cap-at at (cap j) k e h = cc
   cap-at at (node ws ss) k e h = let f = h.is in cc
   cap-at at (voids n) k e h = let f = h.is in cc
-  cap-at at (bits xs) k e h = let f = h.is in cc
-  cap-at at (bytes xs) k e h = let f = h.is in cc
-  cap-at at (pairs xs) k e h = let f = h.is in cc
-  cap-at at (quads xs) k e h = let f = h.is in cc
-  cap-at at (octs xs) k e h = let f = h.is in cc
+  cap-at at (numbers a xs) k e h = let f = h.is in cc
   cap-at at (links ts) k e h = let f = h.is in cc
   cap-at at (rows bs) k e h = let f = h.3.is in cc
 
@@ -83,30 +71,10 @@ module _ (m : List (List ℕ)) where
             (same-segment h.segment h.start h.pads _ h.is) (same-start h.segment h.start h.pads _ h.is) h.inside.1,
       )
       inside-of (voids n) h = same-shape h.segment h.start h.pads (shapes.Many W0 n) h.is
-      inside-of (bits xs) h = (
-        same-shape h.segment h.start h.pads (shapes.Many W1 (length xs)) h.is,
-        both (λ (t u : ℕ). AreElements 64 1 (words_from m t u) (map from_bool xs)) h.segment s h.start start
+      inside-of (numbers a xs) h = (
+        same-shape h.segment h.start h.pads (shapes.Many (list_width a) (length xs)) h.is,
+        both (λ (t u : ℕ). AreNumbers a (words_from m t u) xs) h.segment s h.start start
             (same-segment h.segment h.start h.pads _ h.is) (same-start h.segment h.start h.pads _ h.is) h.inside,
-      )
-      inside-of (bytes xs) h = (
-        same-shape h.segment h.start h.pads (shapes.Many W8 (length xs)) h.is,
-        both (λ (t u : ℕ). AreElements 8 8 (words_from m t u) xs) h.segment s h.start start
-            (same-segment h.segment h.start h.pads _ h.is) (same-start h.segment h.start h.pads _ h.is) h.inside,
-      )
-      inside-of (pairs xs) h = (
-        same-shape h.segment h.start h.pads (shapes.Many W16 (length xs)) h.is,
-        both (λ (t u : ℕ). AreElements 4 16 (words_from m t u) xs) h.segment s h.start start
-            (same-segment h.segment h.start h.pads _ h.is) (same-start h.segment h.start h.pads _ h.is) h.inside,
-      )
-      inside-of (quads xs) h = (
-        same-shape h.segment h.start h.pads (shapes.Many W32 (length xs)) h.is,
-        both (λ (t u : ℕ). AreElements 2 32 (words_from m t u) xs) h.segment s h.start start
-            (same-segment h.segment h.start h.pads _ h.is) (same-start h.segment h.start h.pads _ h.is) h.inside,
-      )
-      inside-of (octs xs) h = (
-        same-shape h.segment h.start h.pads (shapes.Many W64 (length xs)) h.is,
-        both (λ (t u : ℕ). StandAt m t u xs) h.segment s h.start start (same-segment h.segment h.start h.pads _ h.is)
-            (same-start h.segment h.start h.pads _ h.is) h.inside,
       )
       inside-of (links ts) h = (
         same-shape h.segment h.start h.pads (shapes.Many Link (count ts)) h.is,
@@ -151,11 +119,7 @@ as-node m a b s w (node ws ss) h =
 as-node m a b s w nil h = absurd h
 as-node m a b s w (cap k) h = absurd h
 as-node m a b s w (voids n) h = no-node a b W0 n h
-as-node m a b s w (bits xs) h = no-node a b W1 (length xs) h.0
-as-node m a b s w (bytes xs) h = no-node a b W8 (length xs) h.0
-as-node m a b s w (pairs xs) h = no-node a b W16 (length xs) h.0
-as-node m a b s w (quads xs) h = no-node a b W32 (length xs) h.0
-as-node m a b s w (octs xs) h = no-node a b W64 (length xs) h.0
+as-node m a b s w (numbers k xs) h = no-node a b (list_width k) (length xs) h.0
 as-node m a b s w (links ts) h = no-node a b Link (count ts) h.0
 as-node m a b s w (rows bs) h = let f = h.3 in absurd (cc)
 
@@ -172,11 +136,7 @@ as-links m n s w nil h = absurd h
 as-links m n s w (cap k) h = absurd h
 as-links m n s w (node ws ss) h = let f = h.0 in absurd (cc)
 as-links m n s w (voids k) h = absurd (cc)
-as-links m n s w (bits xs) h = let f = h.0 in absurd (cc)
-as-links m n s w (bytes xs) h = let f = h.0 in absurd (cc)
-as-links m n s w (pairs xs) h = let f = h.0 in absurd (cc)
-as-links m n s w (quads xs) h = let f = h.0 in absurd (cc)
-as-links m n s w (octs xs) h = let f = h.0 in absurd (cc)
+as-links m n s w (numbers a xs) h = absurd (no-number_width a Link refl (let f = h.0 in cc))
 as-links m n s w (rows bs) h = let f = h.3 in absurd (cc)
 
 -- rows
@@ -204,9 +164,5 @@ as-rows m n a b span s w nil h = absurd h
 as-rows m n a b span s w (cap k) h = absurd h
 as-rows m n a b span s w (node ws ss) h = let f = h.0 in absurd (cc)
 as-rows m n a b span s w (voids k) h = absurd (cc)
-as-rows m n a b span s w (bits xs) h = let f = h.0 in absurd (cc)
-as-rows m n a b span s w (bytes xs) h = let f = h.0 in absurd (cc)
-as-rows m n a b span s w (pairs xs) h = let f = h.0 in absurd (cc)
-as-rows m n a b span s w (quads xs) h = let f = h.0 in absurd (cc)
-as-rows m n a b span s w (octs xs) h = let f = h.0 in absurd (cc)
+as-rows m n a b span s w (numbers k xs) h = let f = h.0 in absurd (cc)
 as-rows m n a b span s w (links ts) h = let f = h.0 in absurd (cc)

@@ -1,9 +1,9 @@
 -- How many words a layout has.
-use Rattle.std.proofs.Common.{◌≡◌, ℕ, zero, suc, ◌+◌, ◌*◌, ◌≤◌, List, ◌++◌, length, take, drop, map, refl, ap, ◌∙◌}
+use Rattle.std.proofs.Common.{◌≡◌, ℕ, zero, suc, ◌+◌, ◌*◌, ◌≤◌, List, ◌++◌, length, take, drop, refl, ap, ◌∙◌}
 use Rattle.std.proofs.Common.{arith, length-append}
-use Rattle.std.specs.Int.{from_bool}
 use Rattle.std.proofs.lemmas.List.{length-take-le}
-use Rattle.capn_value.specs.Tree.{Tree, nil, node, voids, bits, bytes, pairs, quads, octs, links, rows, cap, Trees}
+use Rattle.capn_value.specs.NumberWidth.{oct, bits_in, per_word}
+use Rattle.capn_value.specs.Tree.{Tree, nil, node, voids, numbers, links, rows, cap, Trees}
 use Rattle.capn_value.specs.Tree.{no_trees, tree, Bodies, no_bodies, body, count, count_rows}
 use Rattle.capn_value.specs.Trim.{kept_words, kept_slots, kept_words_of_rows, kept_slots_of_rows}
 use Rattle.capn_canon.specs.Layout.{own, size, sizes, sizes_in_rows, points, row_contents, lay, lays, lays_in_rows}
@@ -49,11 +49,8 @@ mutual
       (lays ss (at + own (node ws ss))) in
       u ∙ omega arith
   length-lay (voids n) at h = refl
-  length-lay (octs xs) at h = refl
-  length-lay (bits xs) at h = length-packed 64 1 (own (bits xs)) (map from_bool xs)
-  length-lay (bytes xs) at h = length-packed 8 8 (own (bytes xs)) xs
-  length-lay (pairs xs) at h = length-packed 4 16 (own (pairs xs)) xs
-  length-lay (quads xs) at h = length-packed 2 32 (own (quads xs)) xs
+  length-lay (numbers oct xs) at h = refl
+  length-lay (numbers a xs) at h = length-packed (per_word a) (bits_in a) (own (numbers a xs)) xs
   length-lay (links ts) at h =
       let x = length-points ts at (at + count ts) in
       let y = length-lays ts (at + count ts) h.1 in

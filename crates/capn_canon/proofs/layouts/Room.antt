@@ -1,13 +1,14 @@
 -- How many words the canonical layout of a value takes.
 use Rattle.std.proofs.Common.{◌≡◌, ℕ, suc, ◌+◌, ◌^◌, ◌≤◌, ◌∷◌, length, refl, arith}
 use Rattle.std.proofs.lemmas.Bool.Decides.{nat_tests}
-use Rattle.capn_value.specs.Tree.{Tree, nil, node, voids, bits, bytes, pairs, quads, octs, links, rows, cap, Trees}
+use Rattle.capn_value.specs.Tree.{Tree, nil, node, voids, numbers, links, rows, cap, Trees}
 use Rattle.capn_value.specs.Tree.{no_trees, tree, Bodies, no_bodies, body, row_words}
 use Rattle.capn_value.specs.Cost.{cost, costs, costs_in_rows, rows_price}
 use Rattle.capn_value.specs.Trim.{kept_words_of_rows, kept_slots_of_rows}
 use Rattle.capn_value.specs.Fits.{Fits}
 use Rattle.capn_value.proofs.shared.Fitting.{fit_parts}
 use Rattle.capn_value.specs.InRange.{InRange}
+use Rattle.capn_walk.proofs.shared.Numbers.{numbers-sized}
 use Rattle.capn_canon.specs.Layout.{size, sizes, sizes_in_rows, point, lay, words}
 use Rattle.capn_canon.specs.inner.Sound.{Sound, Sounds, SoundRows}
 use Rattle.capn_canon.proofs.layouts.KeptLengths.{kept_words-le, kept_slots-le}
@@ -26,11 +27,7 @@ mutual
   size-cost base (node ws ss) h = let x = kept_words-le ws in let y = kept_slots-le ss in let z =
       sizes-cost base ss h.2 in omega arith
   size-cost base (voids n) h = omega arith
-  size-cost base (bits xs) h = omega arith
-  size-cost base (bytes xs) h = omega arith
-  size-cost base (pairs xs) h = omega arith
-  size-cost base (quads xs) h = omega arith
-  size-cost base (octs xs) h = omega arith
+  size-cost base (numbers a xs) h = numbers-sized a base (length xs)
   size-cost base (links ts) h = let z = sizes-cost base ts h.1 in omega arith
   size-cost base (rows bs) h =
       let x = wide-words (kept_words_of_rows bs) (kept_slots_of_rows bs) bs h.4 in

@@ -2,7 +2,8 @@
 use Rattle.std.proofs.Common.{◌≡◌, ℕ, zero, suc, ◌+◌, ◌*◌, ◌^◌, ◌<◌, ◌≤◌, ◌==◌, ◌&&◌, nat_lt, true, false, List, []}
 use Rattle.std.proofs.Common.{◌∷◌, length, arith}
 use Rattle.std.proofs.lemmas.Bool.{or_parts, and_parts, eqb-true, ltb-false, not-false}
-use Rattle.capn_value.specs.Tree.{Tree, nil, node, voids, bits, bytes, pairs, quads, octs, links, rows, cap, Trees}
+use Rattle.capn_value.specs.NumberWidth.{NumberWidth, bit, byte, pair, quad, oct, bits_in}
+use Rattle.capn_value.specs.Tree.{Tree, nil, node, voids, numbers, links, rows, cap, Trees}
 use Rattle.capn_value.specs.Tree.{no_trees, tree, Bodies, no_bodies, body, count, count_rows, row_words}
 use Rattle.capn_value.specs.Trim.{kept_words_of_rows, kept_slots_of_rows}
 use Rattle.capn_value.specs.Fits.{Fits, anywhere, anywhere_in, anywhere_in_rows, is_wide, is_wide_body, has_wide_row}
@@ -87,6 +88,13 @@ short-list t h =
     let p = or_parts (nat_lt 536870911 (elements t)) (nat_lt 536870911 (words_in_rows t)) h in
     (omega (arith, ltb-false 536870911 (elements t) p.0), omega (arith, ltb-false 536870911 (words_in_rows t) p.1))
 
+positive : (k : NumberWidth) → 0 < 2 ^ bits_in k
+positive bit = omega arith
+positive byte = omega arith
+positive pair = omega arith
+positive quad = omega arith
+positive oct = omega arith
+
 mutual
   sound-parts : (t : Tree) → anywhere is_wide t ≡ false → anywhere is_long t ≡ false → anywhere is_ragged t ≡ false
       → InRange t → Sound t
@@ -99,11 +107,8 @@ mutual
       let n = narrow-body ws ss x.0 in
       (n.0, n.1, sounds-parts ss x.1 y.1 z.1 r.1)
   sound-parts (voids n) a b c r = (short-list (voids n) b).0
-  sound-parts (bits xs) a b c r = (short-list (bits xs) b).0
-  sound-parts (bytes xs) a b c r = ((short-list (bytes xs) b).0, below (2 ^ 8) (omega arith) xs r)
-  sound-parts (pairs xs) a b c r = ((short-list (pairs xs) b).0, below (2 ^ 16) (omega arith) xs r)
-  sound-parts (quads xs) a b c r = ((short-list (quads xs) b).0, below (2 ^ 32) (omega arith) xs r)
-  sound-parts (octs xs) a b c r = (short-list (octs xs) b).0
+  sound-parts (numbers k xs) a b c r =
+      ((short-list (numbers k xs) b).0, below (2 ^ bits_in k) (positive k) xs r)
   sound-parts (links ts) a b c r =
       let x = or_parts (is_wide (links ts)) (anywhere_in is_wide ts) a in
       let y = or_parts (is_long (links ts)) (anywhere_in is_long ts) b in

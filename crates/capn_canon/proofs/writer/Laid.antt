@@ -3,7 +3,7 @@ use Rattle.std.proofs.Common.{◌≡◌, ℕ, zero, suc, ◌+◌, ◌*◌, ◌<�
 use Rattle.std.proofs.Common.{Bool, true, false, sym, ◌∙◌, arith, append_assoc, append-nil, length-append}
 use Rattle.std.proofs.lemmas.List.{length-take-le, length-set}
 use Rattle.std.proofs.lemmas.Bool.Decides.{nat_tests}
-use Rattle.capn_value.specs.Tree.{Tree, nil, node, voids, bits, bytes, pairs, quads, octs, links, rows, cap, Trees}
+use Rattle.capn_value.specs.Tree.{Tree, nil, node, voids, numbers, links, rows, cap, Trees}
 use Rattle.capn_value.specs.Tree.{no_trees, tree, tree_at, Bodies, no_bodies, body, count, count_rows, is_null}
 use Rattle.capn_value.specs.Trim.{kept_behind, kept_slots, kept_slots_of_rows}
 use Rattle.capn_value.specs.Cost.{greatest, greatest_in_rows, height}
@@ -93,11 +93,7 @@ null-is nil e = refl
 null-is (cap k) e = cc
 null-is (node ws ss) e = cc
 null-is (voids n) e = cc
-null-is (bits xs) e = cc
-null-is (bytes xs) e = cc
-null-is (pairs xs) e = cc
-null-is (quads xs) e = cc
-null-is (octs xs) e = cc
+null-is (numbers a xs) e = cc
 null-is (links ts) e = cc
 null-is (rows bs) e = cc
 

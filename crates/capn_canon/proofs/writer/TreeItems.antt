@@ -1,16 +1,17 @@
 -- What a value is, as what is laid out.
 use Rattle.std.proofs.Common.{◌≡◌, ℕ, zero, suc, ◌*◌, ◌<◌, List, [], ◌∷◌, ◌++◌, length, take, map}
 use Rattle.std.proofs.Common.{replicate, refl, ap, sym, subst, ◌∙◌, arith, append-nil, get_or, Bool}
-use Rattle.std.proofs.lemmas.List.{length-replicate}
+use Rattle.std.proofs.lemmas.List.{length-replicate, length-map}
 use Rattle.std.specs.Int.{from_bool}
-use Rattle.capn_words.specs.declared.pointer.Width.TheVariants.{W0, W1, W8, W16, W32, W64}
-use Rattle.capn_value.specs.Tree.{Tree, node, voids, bits, bytes, pairs, quads, octs, links, rows, Trees, no_trees}
+use Rattle.capn_words.specs.declared.pointer.Width.TheVariants.{W0, W1}
+use Rattle.capn_value.specs.NumberWidth.{NumberWidth, bit, oct, bits_in, per_word}
+use Rattle.capn_value.specs.Tree.{Tree, node, voids, numbers, links, rows, Trees, no_trees}
 use Rattle.capn_value.specs.Tree.{tree, tree_at, count, Bodies, no_bodies, body, count_rows}
 use Rattle.capn_value.specs.TreeOf.{tree_of, trees_of, rows_of}
 use Rattle.capn_value.specs.Views.{count-trees_of, count_rows-rows_of}
 use Rattle.capn_value.specs.declared.value.Value.{Value}
 use Rattle.capn_value.specs.declared.value.Body.{Body}
-use Rattle.capn_walk.specs.Target.{words_for}
+use Rattle.capn_walk.specs.Target.{words_for, content_words, list_width}
 use Rattle.capn_canon.specs.Layout.{packed, point, lay}
 use Rattle.capn_canon.specs.inner.LayoutSteps.{AreRowsOver, zero_rows, slots_at}
 use Rattle.capn_canon.specs.inner.Sound.{Sound, Sounds, SoundRows}
@@ -29,49 +30,29 @@ voids-list v n e s = record {
   content = λ at. ap (λ (x : Tree). lay x at) e;
 }
 
-pub bits-list : (v : Tree) (xs : List Bool) → v ≡ bits xs → Sound v
+-- the words of such a list
+abbrev number_words : NumberWidth → List ℕ → List ℕ
+number_words oct xs = xs
+number_words a xs = packed (per_word a) (bits_in a) (content_words (list_width a) (length xs)) xs
+
+laid-numbers : (a : NumberWidth) (xs : List ℕ) (at : ℕ) → lay (numbers a xs) at ≡ number_words a xs
+laid-numbers oct xs at = refl
+laid-numbers a xs at = refl
+
+pub numbers-list : (a : NumberWidth) (v : Tree) (xs : List ℕ) → v ≡ numbers a xs → Sound v
+    → IsListOf v (list_width a) (length xs) (number_words a xs)
+unfolding point
+numbers-list a v xs e s = record {
+  few = (subst Sound e s).0;
+  pointer = λ from to. ap (λ (x : Tree). point x from to) e;
+  content = λ at. ap (λ (x : Tree). lay x at) e ∙ laid-numbers a xs at;
+}
+
+pub bits-list : (v : Tree) (xs : List Bool) → v ≡ numbers bit (map from_bool xs) → Sound v
     → IsListOf v W1 (length xs) (packed 64 1 (words_for (length xs)) (map from_bool xs))
-unfolding point
-bits-list v xs e s = record {
-  few = subst Sound e s;
-  pointer = λ from to. ap (λ (x : Tree). point x from to) e;
-  content = λ at. ap (λ (x : Tree). lay x at) e;
-}
-
-pub bytes-list : (v : Tree) (xs : List ℕ) → v ≡ bytes xs → Sound v
-    → IsListOf v W8 (length xs) (packed 8 8 (words_for (8 * length xs)) xs)
-unfolding point
-bytes-list v xs e s = record {
-  few = (subst Sound e s).0;
-  pointer = λ from to. ap (λ (x : Tree). point x from to) e;
-  content = λ at. ap (λ (x : Tree). lay x at) e;
-}
-
-pub pairs-list : (v : Tree) (xs : List ℕ) → v ≡ pairs xs → Sound v
-    → IsListOf v W16 (length xs) (packed 4 16 (words_for (16 * length xs)) xs)
-unfolding point
-pairs-list v xs e s = record {
-  few = (subst Sound e s).0;
-  pointer = λ from to. ap (λ (x : Tree). point x from to) e;
-  content = λ at. ap (λ (x : Tree). lay x at) e;
-}
-
-pub quads-list : (v : Tree) (xs : List ℕ) → v ≡ quads xs → Sound v
-    → IsListOf v W32 (length xs) (packed 2 32 (words_for (32 * length xs)) xs)
-unfolding point
-quads-list v xs e s = record {
-  few = (subst Sound e s).0;
-  pointer = λ from to. ap (λ (x : Tree). point x from to) e;
-  content = λ at. ap (λ (x : Tree). lay x at) e;
-}
-
-pub octs-list : (v : Tree) (xs : List ℕ) → v ≡ octs xs → Sound v → IsListOf v W64 (length xs) xs
-unfolding point
-octs-list v xs e s = record {
-  few = subst Sound e s;
-  pointer = λ from to. ap (λ (x : Tree). point x from to) e;
-  content = λ at. ap (λ (x : Tree). lay x at) e;
-}
+bits-list v xs e s =
+    subst (λ (n : ℕ). IsListOf v W1 n (packed 64 1 (words_for n) (map from_bool xs))) (length-map xs from_bool)
+    (numbers-list bit v (map from_bool xs) e s)
 
 -- ---- slots and rows
 

@@ -1,16 +1,17 @@
 -- The first bits of words.
 use Rattle.std.specs.Prelude.{ℕ, zero, suc, ◌/◌, ◌%◌, ◌^◌, List, [], ◌∷◌, ◌++◌, take, drop, slice_index}
 use Rattle.capn_words.specs.declared.pointer.Width.{Width}
+use Rattle.capn_value.specs.NumberWidth.{bit, byte, pair, quad, oct, bits_in}
 use Rattle.capn_words.specs.declared.pointer.Width.TheVariants.{W0, W1, W8, W16, W32, W64, Link, Rows}
 
 -- the bits of an element that is neither a pointer nor a struct (Page: lists.)
 abbrev pub element_bits : Width → ℕ
 element_bits W0 = 0
-element_bits W1 = 1
-element_bits W8 = 8
-element_bits W16 = 16
-element_bits W32 = 32
-element_bits W64 = 64
+element_bits W1 = bits_in bit
+element_bits W8 = bits_in byte
+element_bits W16 = bits_in pair
+element_bits W32 = bits_in quad
+element_bits W64 = bits_in oct
 element_bits Link = 0
 element_bits Rows = 0
 

@@ -1,6 +1,7 @@
 -- Values whose counts, sizes and indices have room in pointers.
 use Rattle.std.specs.Prelude.{ℕ, ◌*◌, ◌^◌, ◌<◌, ◌≤◌, List, length, slice_index, ⊤}
-use Rattle.capn_value.specs.Tree.{Tree, nil, node, voids, bits, bytes, pairs, quads, octs, links, rows, cap, Trees}
+use Rattle.capn_value.specs.NumberWidth.{bits_in}
+use Rattle.capn_value.specs.Tree.{Tree, nil, node, voids, numbers, links, rows, cap, Trees}
 use Rattle.capn_value.specs.Tree.{no_trees, tree, Bodies, no_bodies, body, count, count_rows}
 use Rattle.capn_value.specs.Trim.{kept_words_of_rows, kept_slots_of_rows}
 use Rattle.capn_canon.specs.Layout.{row_size}
@@ -22,11 +23,7 @@ abbrev mutual
   Sound (cap k) = k < 2 ^ 32
   Sound (node ws ss) = (length ws < 2 ^ 16) × (count ss < 2 ^ 16) × Sounds ss
   Sound (voids n) = n < 2 ^ 29
-  Sound (bits xs) = length xs < 2 ^ 29
-  Sound (bytes xs) = (length xs < 2 ^ 29) × AreBelow (2 ^ 8) xs
-  Sound (pairs xs) = (length xs < 2 ^ 29) × AreBelow (2 ^ 16) xs
-  Sound (quads xs) = (length xs < 2 ^ 29) × AreBelow (2 ^ 32) xs
-  Sound (octs xs) = length xs < 2 ^ 29
+  Sound (numbers a xs) = (length xs < 2 ^ 29) × AreBelow (2 ^ bits_in a) xs
   Sound (links ts) = (count ts < 2 ^ 29) × Sounds ts
   Sound (rows bs) = (count_rows bs < 2 ^ 29) × (kept_words_of_rows bs < 2 ^ 16) × (kept_slots_of_rows bs < 2 ^ 16)
       × (count_rows bs * row_size bs < 2 ^ 29) × AreWide (kept_words_of_rows bs) (kept_slots_of_rows bs) bs

@@ -6,7 +6,7 @@ use Rattle.std.specs.List.{flat_map}
 use Rattle.std.proofs.lemmas.Grind.{flat_map-append}
 use Rattle.capn_words.specs.declared.space.Place.{Place}
 use Rattle.capn_words.specs.declared.pointer.Width.TheVariants.{Link}
-use Rattle.capn_value.specs.Tree.{Trees, Bodies, Tree, nil, node, voids, bits, bytes, pairs, quads, octs, links, rows}
+use Rattle.capn_value.specs.Tree.{Trees, Bodies, Tree, nil, node, voids, numbers, links, rows}
 use Rattle.capn_value.specs.Tree.{cap, count, count_rows}
 use Rattle.capn_value.specs.TreeOf.{tree_of, trees_of}
 use Rattle.capn_value.specs.declared.value.Value.{Value}
@@ -220,11 +220,7 @@ module _ (m : List (List ℕ)) where
   is-inside at s start pads shape (voids n) e h = names e h tt
   is-inside at s start pads shape (links ts) e h = names e h.0 h.1
   is-inside at s start pads shape nil e h = absurd h
-  is-inside at s start pads shape (bits xs) e h = names e h.0 h.1
-  is-inside at s start pads shape (bytes xs) e h = names e h.0 h.1
-  is-inside at s start pads shape (pairs xs) e h = names e h.0 h.1
-  is-inside at s start pads shape (quads xs) e h = names e h.0 h.1
-  is-inside at s start pads shape (octs xs) e h = names e h.0 h.1
+  is-inside at s start pads shape (numbers a xs) e h = names e h.0 h.1
   is-inside at s start pads shape (rows bs) e h = (h.0, h.1, h.2, names e h.3 h.4)
   is-inside at s start pads shape (cap k) e h = absurd h
 
