@@ -16,6 +16,19 @@ pub fn segment_length<S: Space>(space: &S, segment: u32) -> u32
     space.words(segment).unwrap_or(0)
 }
 
+/// The words of a segment, where those of another, or the same, are known.
+#[inline(always)]
+pub fn size_of<S: Space>(space: &S, segment: u32, known: u32, size: u32) -> u32
+    requires { size ≡ length (segment_at (S.message space.now) known) }
+    ensures { result ≡ length (segment_at (S.message space.now) segment) }
+{
+    if segment == known {
+        size
+    } else {
+        segment_length(space, segment)
+    }
+}
+
 /// A word of a segment.
 #[inline(always)]
 pub fn place(segment: u32, word: u32) -> Place

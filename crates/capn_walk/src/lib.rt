@@ -23,6 +23,7 @@ mod content;
 mod digits;
 mod entry;
 mod found;
+mod index_visits;
 mod kind;
 pub mod laws;
 mod limits;

@@ -3,6 +3,7 @@
 ghost use Rattle.std.specs.Prelude.{◌≡◌, ◌<◌, ◌≤◌, ℕ, Ok, Err, IfOk, MatchResult};
 ghost use Rattle.capn_words.specs.Message.{IsMessage};
 ghost use Rattle.capn_walk.specs.View as seen;
+ghost use Rattle.capn_walk.specs.inner.Reach.{level};
 ghost use Rattle.capn_walk.specs.inner.SlotsLeft.{places_of, owed, Lies};
 
 use crate::price::price_of;
@@ -37,6 +38,17 @@ pub fn price_within(target: Target, depth: u32, left: u32, base: u32) -> Result<
             Ok(price as u32)
         }
         _ => Ok(0),
+    }
+}
+
+/// How deep a target is by itself: 1 for content, else 0.
+#[inline(always)]
+pub fn levels(target: Target) -> u32
+    ensures { result ≡ level target }
+{
+    match target {
+        Target::Content { .. } => 1,
+        _ => 0,
     }
 }
 

@@ -1,6 +1,6 @@
 use Rattle.std.proofs.Common.{sym, arith}
 use Rattle.capn_walk.proofs.FilledRoom.{respan-inside, respan-outside}
-use Rattle.capn_walk.proofs.message_index.set_span.Goals as goal
+use Rattle.capn_walk.proofs.index_visits.set_span.Goals as goal
 
 pub returns-then-at-room : goal.returns-then-at-room
 returns-then-at-room c =
