@@ -5,6 +5,7 @@ use Rattle.std.specs.Bool.{⊤}
 use Rattle.capn_words.specs.Message.{IsPlace}
 use Rattle.capn_words.specs.declared.space.Place.{Place}
 use Rattle.capn_words.specs.declared.pointer.Width.TheVariants.{W0, W1, W8, W16, W32, W64, Link, Rows}
+use Rattle.capn_value.specs.NumberWidth.{NumberWidth, bit, byte, pair, quad, oct}
 use Rattle.capn_value.specs.Tree.{Tree, nil, node, voids, numbers, links, rows, cap, Trees}
 use Rattle.capn_value.specs.Tree.{no_trees, tree, Bodies, no_bodies, body, count, count_rows}
 use Rattle.capn_walk.specs.declared.entry.Entry.{Entry}
@@ -89,6 +90,16 @@ length-places s w (suc n) = ap suc (length-places s (w + 1) n)
 found-kept : (r : Result Target Fault) (t : Target) → kept_of r ≡ Ok t → (u : Target) × (r ≡ Ok u) × (kept u ≡ t)
 found-kept (Ok u) t h = (u, refl, cc)
 found-kept (Err e) t h = absurd cc
+
+-- an entry of numbers keeps all but the landing pad
+kept-numbers : (a : NumberWidth) (s start n pads : ℕ)
+    → kept (targets.Content s start (shapes.Many (list_width a) n) pads)
+    ≡ targets.Content s start (shapes.Many (list_width a) n) 0
+kept-numbers bit s start n pads = refl
+kept-numbers byte s start n pads = refl
+kept-numbers pair s start n pads = refl
+kept-numbers quad s start n pads = refl
+kept-numbers oct s start n pads = refl
 
 module _ (m : List (List ℕ)) (es : List Entry) (readable : (i : ℕ) → i < length es → IsReadable m es i) where
   -- ---- the slots of entries
@@ -189,7 +200,8 @@ module _ (m : List (List ℕ)) (es : List Entry) (readable : (i : ℕ) → i < l
     reads (numbers a xs) at i o h = record {
       segment = h.segment;
       start = h.start;
-      is = said at i (targets.Content h.segment h.start (shapes.Many (list_width a) (length xs)) h.pads) o h.is;
+      is = said at i (targets.Content h.segment h.start (shapes.Many (list_width a) (length xs)) h.pads) o h.is
+          ∙ kept-numbers a h.segment h.start (length xs) h.pads;
       inside = h.inside;
     }
     reads (links ts) at i o h =

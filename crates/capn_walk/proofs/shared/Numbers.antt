@@ -7,7 +7,7 @@ use Rattle.capn_words.specs.declared.pointer.Width.TheVariants.{W1, W8, W16, W32
 use Rattle.capn_value.specs.NumberWidth.{NumberWidth, bit, byte, pair, quad, oct, per_word}
 use Rattle.capn_walk.specs.declared.target.Shape.TheVariants as shapes
 use Rattle.capn_walk.specs.Target.{list_width, content_words}
-use Rattle.capn_walk.specs.Visits.{slots}
+use Rattle.capn_walk.specs.Visits.{slots, price}
 
 -- the width of the numbers in a list, if it holds numbers
 abbrev pub number_width : Width → Option NumberWidth
@@ -43,9 +43,9 @@ no-slots pair s start n = refl
 no-slots quad s start n = refl
 no-slots oct s start n = refl
 
--- and costs the words of its content
+-- and costs what its pointer says
 pub numbers-price : (a : NumberWidth) (base n : ℕ)
-    → base + div_ceil n (per_word a) ≡ base + content_words (list_width a) n
+    → base + div_ceil n (per_word a) ≡ price base (shapes.Many (list_width a) n)
 numbers-price bit base n = omega arith
 numbers-price byte base n = omega arith
 numbers-price pair base n = omega arith
@@ -53,16 +53,15 @@ numbers-price quad base n = omega arith
 numbers-price oct base n = omega arith
 
 pub numbers-paid : (a : NumberWidth) (base n : ℕ)
-    → base + div_ceil n (per_word a) ≤ base + content_words (list_width a) n
+    → base + div_ceil n (per_word a) ≤ price base (shapes.Many (list_width a) n)
 numbers-paid a base n =
     subst (λ (k : ℕ). base + div_ceil n (per_word a) ≤ k) (numbers-price a base n)
     (le_refl (base + div_ceil n (per_word a)))
 
--- which are no more
+-- its words are no more than its cost
 pub numbers-sized : (a : NumberWidth) (base n : ℕ) → content_words (list_width a) n ≤ base + div_ceil n (per_word a)
-numbers-sized a base n =
-    subst (λ (k : ℕ). content_words (list_width a) n ≤ k) (sym (numbers-price a base n))
-    (above (content_words (list_width a) n))
-  where
-    above : (k : ℕ) → k ≤ base + k
-    above k = omega arith
+numbers-sized bit base n = omega arith
+numbers-sized byte base n = omega arith
+numbers-sized pair base n = omega arith
+numbers-sized quad base n = omega arith
+numbers-sized oct base n = omega arith
