@@ -1,5 +1,5 @@
 -- Where the parts of a value stop, as the code reads them.
-use Rattle.std.proofs.Common.{◌≡◌, ◌+◌, ◌-◌, ◌^◌, ◌<◌, ◌≤◌, ℕ, zero, suc, Bool, List, [], ◌∷◌, ◌++◌, length, Option}
+use Rattle.std.proofs.Common.{◌≡◌, ◌+◌, ◌-◌, ◌^◌, ◌<◌, ◌≤◌, ℕ, zero, suc, List, [], ◌++◌, length, Option}
 use Rattle.std.proofs.Common.{Some, None}
 use Rattle.std.proofs.Common.{map, refl, sym, ap, subst, ◌∙◌, arith}
 use Rattle.std.specs.Prelude.{Result, Ok, Err, IfErr}
@@ -9,7 +9,7 @@ use Rattle.capn_value.specs.Tree.{Tree, node, numbers, links, rows, Trees}
 use Rattle.capn_value.specs.TreeOf.{trees, rows_from}
 use Rattle.capn_text.specs.Streams.{first_lines, ended_lines}
 use Rattle.capn_text.specs.inner.Stops.{Stops, Deepens, FailsAt, GivesAt, LineFails}
-use Rattle.capn_text.specs.inner.Tokens.{◌>>=◌, Gives, Fails, byte_at, bit_at, many, word_line_at, number_line_at}
+use Rattle.capn_text.specs.inner.Tokens.{◌>>=◌, Gives, Fails, byte_at, bit_at, many, word_line_at}
 use Rattle.capn_text.specs.inner.Tokens.{row_line_at}
 use Rattle.capn_text.specs.inner.Values.{Holds, head_at, leaf_at, body_at, row_of, row_at, content_at, low_at, tree_at}
 use Rattle.capn_text.specs.declared.fault.Stop.{Stop}
@@ -31,7 +31,7 @@ use Rattle.capn_text.proofs.StopLaws.{Reads, given, both, all, full_given, local
 use Rattle.capn_text.proofs.StopLaws.{any_room}
 use Rattle.capn_text.proofs.StopLaws.{not_read}
 use Rattle.capn_text.proofs.TreeStops.{tree_by, body_by, row_by, content_by, words_by, numbers_by, slots_by}
-use Rattle.capn_text.proofs.TreeStops.{tree_local, tree_full, slots_full, body_local, row_local, content_local}
+use Rattle.capn_text.proofs.TreeStops.{tree_local, tree_full, slots_full, body_local, row_local}
 use Rattle.capn_text.proofs.TreeStops.{row_full, content_full}
 
 module _ (level n : ℕ) (e : Stop) (t : List ℕ) where

@@ -1,6 +1,6 @@
 -- What is read as a tree is what is shown of that tree.
 use Rattle.std.proofs.Common.{◌≡◌, ℕ, zero, suc, ◌+◌, ◌^◌, ◌≤◌, ◌<◌, arith, List, [], ◌∷◌, ◌++◌, length, Option, Some}
-use Rattle.std.proofs.Common.{None, codes, map, refl, sym, ap, ap₂, subst, ◌∙◌}
+use Rattle.std.proofs.Common.{codes, map, refl, sym, ap, ap₂, subst, ◌∙◌}
 use Rattle.std.specs.Prelude.{⊤}
 use Rattle.hex.specs.Hex.{encode_lower}
 use Rattle.std.specs.Int.{from_bool}
@@ -15,7 +15,6 @@ use Rattle.std.proofs.lemmas.List.{length-map}
 use Rattle.capn_value.proofs.shared.Bits.{bits_below, bits_text}
 use Rattle.capn_text.specs.Showable.{IsShowable, EachShowable, RowsShowable}
 use Rattle.capn_value.specs.Text.{line, body_line, word_lines, number_lines, digits_of, one_line, named, shown}
-use Rattle.capn_value.specs.Text.{show_text}
 use Rattle.capn_text.specs.inner.Tokens.{◌>>=◌, byte_at, bit_at, many, word_line_at, number_line_at, row_line_at}
 use Rattle.capn_text.specs.inner.Values.{head_at, leaf_at, body_at, row_of, row_at, content_at, low_at, tree_at}
 use Rattle.capn_text.specs.inner.Values.{greatest_number, Holds}

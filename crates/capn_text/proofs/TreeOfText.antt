@@ -1,11 +1,9 @@
 -- Trees: what is shown of a tree is read as that tree, and what is read as a tree is what is shown of it.
-use Rattle.std.proofs.Common.{◌≡◌, ℕ, zero, suc, ◌+◌, ◌^◌, ◌≤◌, ◌<◌, Bool, cond, List, [], ◌∷◌, ◌++◌, length, Option}
+use Rattle.std.proofs.Common.{◌≡◌, ℕ, zero, suc, ◌+◌, ◌^◌, ◌≤◌, ◌<◌, Bool, List, [], ◌∷◌, ◌++◌, length, Option}
 use Rattle.std.proofs.Common.{Some}
-use Rattle.std.proofs.Common.{None, map, refl, sym, ap, ap₂, ◌∙◌, append_assoc, arith}
-use Rattle.std.specs.Prelude.{◌==◌, ⊤}
+use Rattle.std.proofs.Common.{map, refl, sym, ap, ap₂, ◌∙◌, append_assoc, arith}
+use Rattle.std.specs.Prelude.{⊤}
 use Rattle.std.specs.List.{AllByRecursion}
-use Rattle.std.proofs.lemmas.Bool.{lt-ltb}
-use Rattle.std.proofs.lemmas.List.{append-nil}
 use Rattle.hex.specs.Hex.{encode_lower}
 use Rattle.std.specs.Int.{from_bool}
 use Rattle.capn_value.specs.NumberWidth.{bit, byte, pair, quad, oct, is_set}
@@ -15,7 +13,7 @@ use Rattle.capn_value.specs.TreeOf.{trees, rows_from}
 use Rattle.capn_value.specs.Cost.{height, greatest, greatest_in_rows}
 use Rattle.capn_value.specs.InRange.{AllBelow}
 use Rattle.capn_value.specs.Text.{line, body_line, word_lines, number_lines, digits_of, one_line, shown, shown_each}
-use Rattle.capn_value.specs.Text.{shown_rows, show_text}
+use Rattle.capn_value.specs.Text.{shown_rows}
 use Rattle.capn_text.specs.inner.Tokens.{◌>>=◌, byte_at, bit_at, many, word_line_at, number_line_at, row_line_at}
 use Rattle.capn_text.specs.inner.Values.{Holds, head_at, leaf_at, body_at, row_of, row_at, content_at, low_at, tree_at}
 use Rattle.std.proofs.lemmas.List.{length-map}

@@ -1,30 +1,21 @@
 -- Where the reading of a tree stops.
-use Rattle.std.proofs.Common.{◌≡◌, ◌+◌, ◌^◌, ◌<◌, ◌≤◌, ℕ, zero, suc, List, [], ◌∷◌, ◌++◌, length, Option, Some, None}
-use Rattle.std.proofs.Common.{map, refl, sym, ap, subst, ◌∙◌, append_assoc, arith}
-use Rattle.std.proofs.lemmas.List.{append-nil}
+use Rattle.std.proofs.Common.{◌≡◌, ◌+◌, ◌^◌, ◌<◌, ◌≤◌, ℕ, zero, suc, List, [], ◌++◌, Some}
+use Rattle.std.proofs.Common.{map, refl, ap, subst, ◌∙◌, arith}
 use Rattle.std.specs.Int.{from_bool}
 use Rattle.capn_value.specs.NumberWidth.{bit, byte, pair, quad, oct}
 use Rattle.capn_value.specs.Tree.{Tree, nil, node, voids, numbers, links, rows, cap, Trees}
 use Rattle.capn_value.specs.Tree.{no_trees}
 use Rattle.capn_value.specs.TreeOf.{trees, rows_from}
-use Rattle.capn_value.specs.Text.{line, shown}
-use Rattle.capn_text.specs.Streams.{first_lines, ended_lines}
-use Rattle.capn_text.specs.inner.Stops.{AreLines, GoesOn, Stops, Deepens, FailsAt, LineFails}
-use Rattle.capn_text.specs.inner.Tokens.{◌>>=◌, byte_at, bit_at, many, word_line_at, number_line_at, row_line_at}
-use Rattle.capn_text.specs.inner.Values.{Holds, head_at, leaf_at, body_at, row_of, row_at, content_at, low_at, tree_at}
-use Rattle.capn_text.specs.declared.fault.Stop.{Stop}
-use Rattle.capn_text.specs.declared.fault.Stop.TheVariants as stops
+use Rattle.capn_value.specs.Text.{shown}
+use Rattle.capn_text.specs.inner.Tokens.{◌>>=◌, byte_at, bit_at, word_line_at, number_line_at, row_line_at}
+use Rattle.capn_text.specs.inner.Values.{head_at, leaf_at, body_at, row_of, row_at, content_at, low_at, tree_at}
 use Rattle.capn_text.specs.declared.heads.Leaf.{Leaf}
 use Rattle.capn_text.specs.declared.heads.Leaf.TheVariants as leaves
 use Rattle.capn_text.specs.declared.heads.Name.TheVariants as names
 use Rattle.capn_text.specs.declared.heads.Head.{Head}
 use Rattle.capn_text.specs.declared.heads.Head.TheVariants as heads
 use Rattle.capn_text.proofs.Steps.{bind_some, some_is}
-use Rattle.capn_text.proofs.HeadText.{head_text, head_again, head_takes}
 use Rattle.capn_text.proofs.TreeOfText.{tree_again, row_text, row_one}
-use Rattle.capn_text.proofs.ValueOfParts.{no_head}
-use Rattle.capn_text.proofs.WholeLines.{are_none, first_front}
-use Rattle.capn_text.proofs.LineBytes.{head_is_line}
 use Rattle.capn_text.proofs.LineStops.{word_local, word_full, number_local, number_full, bits_local, bits_full}
 use Rattle.capn_text.proofs.LineStops.{bytes_local, bytes_full, head_local}
 use Rattle.capn_text.proofs.StopLaws.{Reads, Local, Full, both, given, all, local_given, full_given, local_both}
