@@ -7,7 +7,7 @@ ghost use Rattle.capn_value.specs.FirstCap.{first_cap};
 ghost use Rattle.capn_walk.specs.Accepted.{IsValueOf, IsBounded};
 ghost use Rattle.capn_walk.specs.Depth.{IsDepth};
 ghost use Rattle.capn_canon.specs.BareVerdict.{IsBareSurvey};
-ghost use Rattle.capn_canon.specs.Layout.{canon};
+ghost use Rattle.capn_layout.specs.Layout.{canon};
 
 use crate::one_pass::check_object;
 use crate::own_words_test::words_of;

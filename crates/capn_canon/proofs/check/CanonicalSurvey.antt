@@ -17,7 +17,7 @@ use Rattle.capn_walk.specs.Visits.{Visit, visits}
 use Rattle.capn_canon.specs.declared.progress.Progress.{Progress}
 use Rattle.capn_canon.specs.declared.surveyed_bare.SurveyedBare.{SurveyedBare}
 use Rattle.capn_canon.specs.BareVerdict.{IsBareSurvey}
-use Rattle.capn_canon.specs.Layout.{size, words, canon}
+use Rattle.capn_layout.specs.Layout.{size, words, canon}
 use Rattle.capn_canon.specs.inner.InPlace.{Pays, AreInPlace, FindsSlots}
 use Rattle.capn_canon.proofs.places.CanonicalWords.{words-stand}
 use Rattle.capn_canon.proofs.places.Compared.{slots-first}
@@ -72,7 +72,7 @@ module _ (all : List ℕ) (limits : Bounds) (deep : Bool) (some : 0 < length all
   size-is : q.next ≡ length all → 1 + size value ≡ length all
   size-is ends =
       let n = f.comes.next_is in
-      let e = ap Rattle.capn_canon.specs.Layout.sizes values in
+      let e = ap Rattle.capn_layout.specs.Layout.sizes values in
       omega arith
 
   words-are : q.next ≡ length all → words value ≡ all

@@ -16,7 +16,7 @@ use Rattle.capn_walk.specs.ValueAt.{IsInside, words_from}
 use Rattle.capn_walk.specs.Visits.{Visit, price, places, slots, visits_of}
 use Rattle.capn_walk.proofs.shared.Inside.{inside}
 use Rattle.capn_walk.proofs.shared.Walks.{visits-deep, visits-object}
-use Rattle.capn_canon.specs.Layout.{struct_to, point}
+use Rattle.capn_layout.specs.Layout.{struct_to, point}
 use Rattle.capn_canon.specs.inner.Due.{IsDue, DueValue, DueSlots}
 use Rattle.capn_canon.proofs.places.Compared.{struct-is, struct-sound, struct-passes, slots-here, struct-to-slots}
 use Rattle.capn_canon.proofs.places.Compared.{struct-size}

@@ -20,8 +20,8 @@ use Rattle.capn_walk.specs.declared.target.Shape.TheVariants as shapes
 use Rattle.capn_walk.specs.Target.{target, list_width}
 use Rattle.capn_walk.specs.ValueAt.{IsAt}
 use Rattle.capn_walk.proofs.shared.Numbers.{no-number_width}
-use Rattle.capn_canon.specs.Layout.{point, struct_to, list_to, row_size}
-use Rattle.capn_canon.specs.inner.Sound.{Sound}
+use Rattle.capn_layout.specs.Layout.{point, struct_to, list_to, row_size}
+use Rattle.capn_layout.specs.Sound.{Sound}
 
 -- ---- the low half of a word
 

@@ -22,16 +22,16 @@ use Rattle.capn_walk.specs.Visits.{Visit, pays, fails, price, places, row_places
 use Rattle.capn_walk.proofs.shared.Costs.{paid-append}
 use Rattle.capn_walk.proofs.shared.Walks.{visits-null, visits-object, is-inside, inside-struct, inside-links}
 use Rattle.capn_walk.proofs.shared.Walks.{inside-rows}
-use Rattle.capn_canon.specs.Layout.{size, sizes, sizes_in_rows, row_size, struct_to, list_to, point}
+use Rattle.capn_layout.specs.Layout.{size, sizes, sizes_in_rows, row_size, struct_to, list_to, point}
 use Rattle.capn_canon.specs.inner.InPlace.{Pays, IsInPlace, AreInPlace, RowsInPlace}
-use Rattle.capn_canon.specs.inner.RowWords.{kept_each}
-use Rattle.capn_canon.specs.inner.Sound.{Sound, AreWide}
+use Rattle.capn_layout.specs.RowWords.{kept_each}
+use Rattle.capn_layout.specs.Sound.{Sound, AreWide}
 use Rattle.capn_canon.specs.inner.WordsOfLayout.{AreLaidAt, RowsLaidAt}
 use Rattle.capn_canon.proofs.places.Compared.{null-told, slots-both, struct-is, struct-from-slots, struct-size}
 use Rattle.capn_canon.proofs.places.Compared.{links-is}
 use Rattle.capn_canon.proofs.places.Compared.{links-from-slots}
 use Rattle.capn_canon.proofs.places.ComparedRows.{row-both, rows-is, rows-from-slots}
-use Rattle.capn_canon.proofs.content.EachRow.{kept-rows-words, kept-rows-slots}
+use Rattle.capn_layout.proofs.shared.EachRow.{kept-rows-words, kept-rows-slots}
 use Rattle.capn_canon.proofs.reading.LaidPointers.{struct-names, list-names, rows-names}
 use Rattle.capn_canon.proofs.reading.OneSegment.{here, names-null, names-empty}
 use Rattle.capn_canon.proofs.places.Standing.{stand-none}

@@ -16,14 +16,14 @@ use Rattle.capn_walk.specs.Shapes.{IsPlain}
 use Rattle.capn_walk.specs.ValueAt.{element, AreElements, IsInside}
 use Rattle.capn_walk.specs.Visits.{price}
 use Rattle.capn_walk.proofs.shared.Walks.{is-inside}
-use Rattle.capn_canon.specs.Layout.{size, list_to}
-use Rattle.capn_canon.specs.inner.FirstBits.{element_bits, first_bits}
+use Rattle.capn_layout.specs.Layout.{size, list_to}
+use Rattle.capn_layout.specs.FirstBits.{element_bits, first_bits}
 use Rattle.capn_canon.specs.inner.InPlace.{IsInPlace}
-use Rattle.capn_canon.specs.inner.Sound.{Sound}
+use Rattle.capn_layout.specs.Sound.{Sound}
 use Rattle.capn_canon.specs.inner.WordsOfLayout.{Stand}
 use Rattle.capn_canon.proofs.places.ComparedList.{list-size, list-stands, plain-too}
-use Rattle.capn_canon.proofs.content.Copied.{part-below}
-use Rattle.capn_canon.proofs.content.FirstBits.{plain-words}
+use Rattle.capn_layout.proofs.shared.Copied.{part-below}
+use Rattle.capn_layout.proofs.shared.FirstBits.{plain-words}
 use Rattle.capn_canon.proofs.places.InPlace.{pays-none, pays-as, pays-object}
 use Rattle.capn_canon.proofs.reading.LaidPointers.{list-names}
 use Rattle.capn_canon.proofs.reading.OneSegment.{here}

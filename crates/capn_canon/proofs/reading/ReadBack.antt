@@ -19,14 +19,14 @@ use Rattle.capn_walk.specs.ValueAt.{IsAt, StandAt}
 use Rattle.capn_walk.specs.Visits.{visits}
 use Rattle.capn_value.specs.Cost.{height, cost}
 use Rattle.capn_canon.proofs.reading.Tight.{TightAt, AreTight, TightRows, loosen, Pays, exact}
-use Rattle.capn_canon.specs.Layout.{own, size, sizes, point, points, row_contents, lay, lays, lays_in_rows, words}
+use Rattle.capn_layout.specs.Layout.{own, size, sizes, point, points, row_contents, lay, lays, lays_in_rows, words}
 use Rattle.capn_canon.proofs.reading.OneSegment.{here, names-null, names-cap}
 use Rattle.capn_canon.proofs.reading.LaidPointers.{struct-at, list-names, elements-at, rows-names}
 use Rattle.capn_canon.proofs.reading.StandsIn.{Has, has-front, has-back, has-room, has-words, has-word}
-use Rattle.capn_canon.specs.inner.Sound.{AreWide, Sound, Sounds, SoundRows}
-use Rattle.capn_canon.proofs.layouts.KeptLengths.{kept_words-le, kept_slots-le}
-use Rattle.capn_canon.proofs.layouts.LayLengths.{length-points, length-cut, length-row_contents, length-lay}
-use Rattle.capn_canon.proofs.layouts.LayLengths.{length-lays}
+use Rattle.capn_layout.specs.Sound.{AreWide, Sound, Sounds, SoundRows}
+use Rattle.capn_layout.proofs.shared.KeptLengths.{kept_words-le, kept_slots-le}
+use Rattle.capn_layout.proofs.shared.LayLengths.{length-points, length-cut, length-row_contents, length-lay}
+use Rattle.capn_layout.proofs.shared.LayLengths.{length-lays}
 
 count-front : (n : ℕ) (ts : Trees) → n ≤ count ts → count (front n ts) ≡ n
 count-front zero ts h = refl

@@ -15,10 +15,10 @@ use Rattle.capn_walk.specs.ValueAt.{IsAt}
 use Rattle.capn_walk.specs.Limits.{Bounds}
 use Rattle.capn_canon.specs.declared.form.Form.TheVariants as forms
 use Rattle.capn_canon.specs.Denotes.{Denotes}
-use Rattle.capn_canon.specs.Layout.{words, canon}
+use Rattle.capn_layout.specs.Layout.{words, canon}
 use Rattle.capn_canon.specs.Canonicity.{PaysItsCost}
-use Rattle.capn_canon.proofs.layouts.Sound.{sound}
-use Rattle.capn_canon.proofs.layouts.Room.{room}
+use Rattle.capn_layout.proofs.shared.Sound.{sound}
+use Rattle.capn_layout.proofs.shared.Room.{room}
 use Rattle.capn_canon.proofs.reading.Tight.{Pays}
 use Rattle.capn_canon.proofs.reading.ReadBack.{read_back, pays_cost}
 use Rattle.capn_canon.proofs.theorem.BareCanon.{canon_is_bare, words_in_canon}

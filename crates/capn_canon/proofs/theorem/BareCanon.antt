@@ -17,14 +17,14 @@ use Rattle.capn_value.specs.Cost.{cost}
 use Rattle.capn_value.specs.Fits.{Fits}
 use Rattle.capn_value.specs.InRange.{AllBelow, InRange, EachInRange, RowsInRange}
 use Rattle.capn_value.proofs.shared.Ranges.{below-take}
-use Rattle.capn_canon.specs.Layout.{own, size, sizes, sizes_in_rows, row_size, list_to, struct_to, point, points}
-use Rattle.capn_canon.specs.Layout.{number, packed, row_contents, lay, lays, lays_in_rows, words, canon}
+use Rattle.capn_layout.specs.Layout.{own, size, sizes, sizes_in_rows, row_size, list_to, struct_to, point, points}
+use Rattle.capn_layout.specs.Layout.{number, packed, row_contents, lay, lays, lays_in_rows, words, canon}
 use Rattle.capn_words.proofs.shared.Choices.{pick}
 use Rattle.capn_words.proofs.shared.Pointers.{word_of-lt}
-use Rattle.capn_canon.specs.inner.Sound.{Sound, Sounds, SoundRows}
-use Rattle.capn_canon.proofs.layouts.KeptLengths.{kept_words-le, kept_slots-le}
-use Rattle.capn_canon.proofs.layouts.Sound.{below, sound}
-use Rattle.capn_canon.proofs.layouts.Room.{room}
+use Rattle.capn_layout.specs.Sound.{Sound, Sounds, SoundRows}
+use Rattle.capn_layout.proofs.shared.KeptLengths.{kept_words-le, kept_slots-le}
+use Rattle.capn_layout.proofs.shared.Sound.{below, sound}
+use Rattle.capn_layout.proofs.shared.Room.{room}
 use Rattle.capn_walk.specs.Target.{list_width}
 
 -- ---- lists of numbers below a bound

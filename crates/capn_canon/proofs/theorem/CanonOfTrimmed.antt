@@ -10,8 +10,8 @@ use Rattle.capn_value.specs.Tree.{Tree, nil, node, voids, numbers, links, rows, 
 use Rattle.capn_value.specs.Tree.{no_trees, tree, Bodies, no_bodies, body, count, count_rows, front, is_null}
 use Rattle.capn_value.specs.Trim.{kept_behind, kept_words, kept_slots, kept_words_of_rows, kept_slots_of_rows, trimmed}
 use Rattle.capn_value.specs.Trim.{trimmed_each, trimmed_rows}
-use Rattle.capn_canon.specs.Layout.{own, size, sizes, sizes_in_rows, struct_to, list_to, point, points, row_contents}
-use Rattle.capn_canon.specs.Layout.{lay, lays, lays_in_rows, words}
+use Rattle.capn_layout.specs.Layout.{own, size, sizes, sizes_in_rows, struct_to, list_to, point, points, row_contents}
+use Rattle.capn_layout.specs.Layout.{lay, lays, lays_in_rows, words}
 use Rattle.capn_value.proofs.shared.Trimmed.{count-trimmed_each, count-trimmed_rows}
 
 take-again : (n : ℕ) (xs : List ℕ) → take n (take n xs) ≡ take n xs

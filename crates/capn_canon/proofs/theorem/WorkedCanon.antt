@@ -19,7 +19,7 @@ use Rattle.capn_walk.specs.declared.target.Fault.TheVariants as faults
 use Rattle.capn_canon.specs.declared.form.Form.TheVariants as forms
 use Rattle.capn_canon.specs.declared.refusal.Refusal.TheVariants as refusals
 use Rattle.capn_canon.specs.Denotes.{Denotes, Answers}
-use Rattle.capn_canon.specs.Layout.{words, canon, point}
+use Rattle.capn_layout.specs.Layout.{words, canon, point}
 use Rattle.capn_canon.specs.Reads.{IsFramed}
 use Rattle.capn_canon.specs.Refusal.{IsRefused}
 

@@ -2,7 +2,7 @@ use Rattle.std.proofs.Common.{[], ◌∷◌, ap, ◌∙◌}
 use Rattle.capn_value.specs.FirstCap.{first_cap}
 use Rattle.capn_walk.specs.Accepted.{root}
 use Rattle.capn_walk.proofs.shared.Unique.{unique}
-use Rattle.capn_canon.specs.Layout.{canon}
+use Rattle.capn_layout.specs.Layout.{canon}
 use Rattle.capn_canon.proofs.canonical_survey.survey_canonical.Goals as goal
 
 pub returns-else-measured-clause-only : goal.returns-else-measured-clause-only

@@ -12,9 +12,9 @@ use Rattle.capn_canon.specs.declared.own_words_test.Tag.{Tag}
 use Rattle.capn_canon.specs.declared.progress.Pass.{Pass}
 use Rattle.capn_canon.specs.inner.InPlace.{HasObject}
 use Rattle.capn_walk.specs.Visits.{price}
-use Rattle.capn_canon.specs.Layout.{list_to}
+use Rattle.capn_layout.specs.Layout.{list_to}
 use Rattle.capn_canon.specs.inner.Due.{DueFirst}
-use Rattle.capn_canon.specs.inner.RowWords.{kept_each}
+use Rattle.capn_layout.specs.RowWords.{kept_each}
 use Rattle.capn_canon.proofs.places.Compared.{not-true}
 use Rattle.capn_canon.proofs.check.DueComposite.{DueTagged, due-tagged, tag-fields}
 use Rattle.capn_canon.proofs.check.DueSlots.{same-rows-due}

@@ -8,7 +8,7 @@ use Rattle.capn_words.proofs.shared.Choices.{if-no}
 use Rattle.capn_walk.proofs.shared.Segments.{segment-room}
 use Rattle.capn_canon.specs.declared.own_words_test.Tag.{Tag}
 use Rattle.capn_canon.specs.declared.progress.Pass.{Pass}
-use Rattle.capn_canon.specs.Layout.{struct_to}
+use Rattle.capn_layout.specs.Layout.{struct_to}
 use Rattle.capn_canon.specs.inner.Due.{DueFirst}
 use Rattle.capn_canon.specs.inner.InPlace.{HasObject}
 use Rattle.capn_canon.proofs.places.Compared.{not-true}
