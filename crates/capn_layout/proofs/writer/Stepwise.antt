@@ -10,8 +10,8 @@ use Rattle.capn_layout.specs.Layout.{size, sizes, sizes_in_rows, point, lay, wor
 use Rattle.capn_layout.specs.LayoutSteps.{laid, laid_slots, laid_rows, past, rows_past, slots_at}
 use Rattle.capn_layout.specs.Ready.{IsReady, AreReady, IsLaid, AreLaid, RowsReady}
 use Rattle.capn_layout.specs.Sound.{AreWide, SoundRows}
-use Rattle.capn_layout.proofs.writer.Laid.{laid-is, length-laid, slots-none, slots-next, rows-none, rows-next, past-next}
-use Rattle.capn_layout.proofs.writer.Laid.{sound-at, height-at, row-at, length-slots}
+use Rattle.capn_layout.proofs.writer.Laid.{laid-is, length-laid, slots-none, slots-next, rows-none, rows-next}
+use Rattle.capn_layout.proofs.writer.Laid.{past-next, sound-at, height-at, row-at, length-slots}
 
 -- the next slot
 module _ {S : Type 0} (has : S → ℕ → Tree → Type 0) (source : S) (n depth i : ℕ) (lt : i < n) where
