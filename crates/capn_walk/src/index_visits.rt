@@ -102,6 +102,34 @@ pub fn index_found<S: Space>(
     }
 }
 
+/// The entries of a slot whose pointer is that of a struct or list that is near.
+#[cycle(index_slots)]
+#[inline(always)]
+fn index_near<S: Space>(
+    space: &S,
+    at: Place,
+    size: u32,
+    pointer: Pointer,
+    depth: u32,
+    left: u32,
+    base: u32,
+    room: &mut [Entry],
+    first: u32,
+) -> Result<Indexed, Stopped>
+    requires message { IsMessage (S.message space.now) }
+    requires size { size ≡ length (segment_at (S.message space.now) at.segment) }
+    requires place { IsPlace (S.message space.now) at }
+    requires pointer { spec.near (S.message space.now) at.segment at.word 0 pointer
+        ≡ spec.target (S.message space.now) at }
+    requires left { left ≤ most_cost }
+    requires fits { first + 1 + left < 2 ^ 32 }
+    ensures { Indexes left (visits (S.message space.now) base depth at) 1 (entries (S.message space.now) depth at) first
+        room.old room.new result }
+{
+    let found = near(space, at.segment, size, at.word, 0, pointer);
+    index_found(space, at, size, found, depth, left, base, room, first)
+}
+
 /// The entries of a slot, whatever its pointer names.
 #[cycle(index_slots)]
 #[inline(never)]
@@ -165,14 +193,12 @@ fn index_slot<S: Space>(
     }
     let pointer = split(word);
     match pointer {
-        Pointer::Node { .. } => {
-            let found = near(space, at.segment, size, at.word, 0, pointer);
-            index_found(space, at, size, found, depth, left, base, room, first)
-        }
-        Pointer::Many { .. } => {
-            let found = near(space, at.segment, size, at.word, 0, pointer);
-            index_found(space, at, size, found, depth, left, base, room, first)
-        }
+        Pointer::Node { .. } => index_near(
+            space, at, size, pointer, depth, left, base, room, first,
+        ),
+        Pointer::Many { .. } => index_near(
+            space, at, size, pointer, depth, left, base, room, first,
+        ),
         _ => index_elsewhere(space, at, size, depth, left, base, room, first),
     }
 }

@@ -140,23 +140,21 @@ index_slot-returns-then-word-eq0 g t c =
       },
     )
 
-pub index_slot-index_found-requires : goal.index_slot-index_found-requires
-index_slot-index_found-requires g t c κs within =
+pub index_slot-index_near-requires : goal.index_slot-index_near-requires
+index_slot-index_near-requires g t c κs within =
     let m = g.S.Space.message c.args.space.now in
     let p = c.split-pointer in
     let x = c.in-Node in
-    let e = c.near-found.ensures
-    ∙ near-struct m c.args.at c.word-word.result p.result x.offset x.words x.slots c.word-word.ensures p.ensures.read
-    x.is in
+    let e = near-struct m c.args.at c.word-word.result p.result x.offset x.words x.slots c.word-word.ensures
+    p.ensures.read x.is in
     search rules
 
-pub index_slot-index_found-requires-in-Many : goal.index_slot-index_found-requires-in-Many
-index_slot-index_found-requires-in-Many g t c κs within =
+pub index_slot-index_near-requires-in-Many : goal.index_slot-index_near-requires-in-Many
+index_slot-index_near-requires-in-Many g t c κs within =
     let m = g.S.Space.message c.args.space.now in
     let p = c.split-pointer in
     let x = c.in-Many in
-    let e = c.near-found-in-Many.ensures
-    ∙ ap (near m c.args.at.segment c.args.at.word 0) x.is
+    let e = ap (near m c.args.at.segment c.args.at.word 0) x.is
     ∙ near-list m c.args.at c.word-word.result p.result x.offset x.width x.count c.word-word.ensures p.ensures.read
     x.is in
     search rules

@@ -7,16 +7,19 @@ use Rattle.capn_walk.proofs.FilledRoom.{IsOnWay}
 use Rattle.capn_walk.proofs.index_visits.+index_slots.Given as goal
 
 abbrev pub decreases-index_found : goal.decreases-index_found
-decreases-index_found g l = 4 * l.depth
+decreases-index_found g l = 5 * l.depth
+
+abbrev pub decreases-index_near : goal.decreases-index_near
+decreases-index_near g l = 5 * l.depth + 1
 
 abbrev pub decreases-index_elsewhere : goal.decreases-index_elsewhere
-decreases-index_elsewhere g l = 4 * l.depth + 1
+decreases-index_elsewhere g l = 5 * l.depth + 2
 
 abbrev pub decreases-index_slot : goal.decreases-index_slot
-decreases-index_slot g l = 4 * l.depth + 2
+decreases-index_slot g l = 5 * l.depth + 3
 
 abbrev pub decreases-index_frame : goal.decreases-index_frame
-decreases-index_frame g l = 4 * l.depth + 3
+decreases-index_frame g l = 5 * l.depth + 4
 
 abbrev pub decreases-index_frame-slots : goal.decreases-index_frame-slots
 decreases-index_frame-slots g l = 2 * owed l.frame + (1 - l.frame.left)
