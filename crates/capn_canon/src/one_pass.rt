@@ -244,20 +244,14 @@ fn check_composite<const DEEP: bool>(
     ensures only { DueFirst space.now base pass → IsSome result }
 {
     match open_composite(space, base, span, pass) {
-        Some(rows) => {
-            lower::<DEEP>(least, rows.pass.depth);
-            if rows.tag.slots == 0 {
-                return Some(rows.pass.here());
+        Some(opened) => {
+            let tag = opened.tag;
+            let rows = opened.pass;
+            lower::<DEEP>(least, rows.depth);
+            if tag.slots == 0 {
+                return Some(rows.here());
             }
-            check_rows::<DEEP>(
-                space,
-                base,
-                rows.tag.count,
-                rows.tag.words,
-                rows.tag.slots,
-                rows.pass,
-                least,
-            )
+            check_rows::<DEEP>(space, base, tag.count, tag.words, tag.slots, rows, least)
         }
         None => None,
     }

@@ -302,17 +302,17 @@ check_rows-returns g t c =
 
 -- ---- a list of structs
 
-pub check_composite-returns-then-rows-eq0 : goal.check_composite-returns-then-rows-eq0
-check_composite-returns-then-rows-eq0 g t c =
+pub check_composite-returns-then-tag-eq0 : goal.check_composite-returns-then-tag-eq0
+check_composite-returns-then-tag-eq0 g t c =
     let all = c.args.space.now in
     let b = c.args.base in
-    let r = c.in-Some.rows in
+    let r = c.in-Some.opened in
     let e = c.in-Some.ensures.found in
     let open_of = e.1 in
     let before = open_of.before in
     let fits = open_of.fits in
     let inside = e.2 in
-    let none = c.if-rows-eq0.true in
+    let none = c.if-tag-eq0.true in
     let each : r.tag.count * (r.tag.words + r.tag.slots) ≡ r.tag.count * r.tag.words =
     ap (λ (k : ℕ). r.tag.count * k) (omega arith) in
     let deep = not (nat_eq g.row.DEEP 0) in
@@ -326,8 +326,8 @@ check_composite-returns-then-rows-eq0 g t c =
       only = λ h. refl;
     }
 
-pub check_composite-returns-else-rows-eq0 : goal.check_composite-returns-else-rows-eq0
-check_composite-returns-else-rows-eq0 g t c = record {
+pub check_composite-returns-else-tag-eq0 : goal.check_composite-returns-else-tag-eq0
+check_composite-returns-else-tag-eq0 g t c = record {
   found = if-some c.check_rows.result
       (λ q. c.in-Some.ensures.found.3 (not (nat_eq g.row.DEEP 0)) c.args.least.now c.lower.new.least q
       c.check_rows.new.least c.lower.ensures)
