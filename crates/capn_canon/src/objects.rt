@@ -3,7 +3,7 @@
 ghost use Rattle.std.specs.Prelude.{◌≡◌, ◌+◌, ◌-◌, ◌*◌, ◌%◌, ◌^◌, ◌<◌, [], ◌∷◌, slice_index, IfSome, IsSome};
 ghost use Rattle.capn_words.specs.Message.{IsMessage};
 ghost use Rattle.capn_words.specs.declared.pointer.Width.TheVariants.{Link, Rows};
-ghost use Rattle.capn_walk.specs.Shapes.{IsPlain};
+ghost use Rattle.capn_target.specs.Shapes.{IsPlain};
 ghost use Rattle.capn_canon.specs.inner.Due.{DueFirst, DueIn, DueRowsIn};
 ghost use Rattle.capn_canon.specs.inner.InPlace.{IsOpen, HasObject, HasList, FindsPlain, Opens, OpensRows};
 

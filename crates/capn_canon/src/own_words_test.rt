@@ -7,7 +7,7 @@ ghost use Rattle.capn_words.specs.Pointers.{word_of, field};
 ghost use Rattle.capn_words.specs.declared.pointer.Pointer.TheVariants.{Node};
 ghost use Rattle.capn_words.specs.declared.pointer.Width.TheVariants.{Rows};
 ghost use Rattle.capn_value.specs.Trim.{kept_words};
-ghost use Rattle.capn_walk.specs.Shapes.{IsContent};
+ghost use Rattle.capn_target.specs.Shapes.{IsContent};
 ghost use Rattle.capn_layout.specs.Layout.{list_to};
 ghost use Rattle.capn_layout.specs.FirstBits.{first_bits};
 ghost use Rattle.capn_layout.specs.RowWords.{kept_each};

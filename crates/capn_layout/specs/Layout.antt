@@ -10,7 +10,7 @@ use Rattle.capn_value.specs.NumberWidth.{oct, bits_in, per_word}
 use Rattle.capn_value.specs.Tree.{Tree, nil, node, voids, numbers, links, rows, cap}
 use Rattle.capn_value.specs.Tree.{Trees, no_trees, tree, Bodies, no_bodies, body, count, count_rows}
 use Rattle.capn_value.specs.Trim.{kept_words, kept_slots, kept_words_of_rows, kept_slots_of_rows}
-use Rattle.capn_walk.specs.Target.{content_words, list_width}
+use Rattle.capn_target.specs.Target.{content_words, list_width}
 
 -- the words that a row of a list of structs takes, when all rows are cut jointly (Page: canonicalization.)
 abbrev pub row_size : Bodies → ℕ

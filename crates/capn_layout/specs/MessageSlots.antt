@@ -3,9 +3,9 @@ use Rattle.std.specs.Prelude.{◌≡◌, ℕ, ◌+◌, ◌*◌, ◌^◌, ◌<◌
 use Rattle.capn_words.specs.Message.{IsMessage, segment_at}
 use Rattle.capn_words.specs.declared.space.Place.{Place}
 use Rattle.capn_value.specs.Tree.{Tree, Bodies, count_rows}
-use Rattle.capn_walk.specs.Target.{words_for}
+use Rattle.capn_target.specs.Target.{words_for}
 use Rattle.capn_walk.specs.ValueAt.{IsAt, RowsAt, words_from}
-use Rattle.capn_walk.specs.Shapes.{IsContent}
+use Rattle.capn_target.specs.Shapes.{IsContent}
 use Rattle.capn_layout.specs.FirstBits.{first_bits}
 
 module _ (m : List (List ℕ)) where

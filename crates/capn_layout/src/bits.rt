@@ -2,7 +2,7 @@
 
 ghost use Rattle.std.specs.Prelude.{◌≡◌, ◌++◌, ◌≤◌, length, map, OnOk};
 ghost use Rattle.std.specs.Int.{from_bool};
-ghost use Rattle.capn_walk.specs.Target.{words_for};
+ghost use Rattle.capn_target.specs.Target.{words_for};
 ghost use Rattle.capn_layout.specs.Layout.{number, packed};
 
 use crate::draft::Draft;

@@ -2,7 +2,7 @@
 
 ghost use Rattle.std.specs.Prelude.{◌≡◌, ◌+◌, ◌*◌, ◌/◌, ◌%◌, ◌<◌, [], ◌∷◌, ◌++◌, length, replicate, set, OnOk, IfOk};
 ghost use Rattle.capn_words.specs.Message.{bytes as bytes_of_words, words_in};
-ghost use Rattle.capn_walk.specs.Target.{words_for};
+ghost use Rattle.capn_target.specs.Target.{words_for};
 ghost use Rattle.capn_layout.specs.Layout.{packed};
 
 use crate::elements::{append_bytes, append_octs, append_pairs, append_quads};

@@ -5,7 +5,7 @@ ghost use Rattle.capn_layout.specs.RowWords.{kept_each};
 ghost use Rattle.capn_words.specs.Message.{IsMessage};
 ghost use Rattle.capn_value.specs.Trim.{kept_words};
 ghost use Rattle.capn_walk.specs.ValueAt.{words_from};
-ghost use Rattle.capn_walk.specs.Shapes.{IsContent};
+ghost use Rattle.capn_target.specs.Shapes.{IsContent};
 
 use capn_words::{Place, Space};
 

@@ -2,8 +2,8 @@
 
 ghost use Rattle.std.specs.Prelude.{◌≡◌, ℕ, ◌+◌, ◌^◌, ◌<◌, ◌≤◌, Ok, length};
 ghost use Rattle.capn_words.specs.Message.{IsMessage, IsPlace};
-ghost use Rattle.capn_walk.specs.Target as spec;
-ghost use Rattle.capn_walk.specs.declared.target.Target.{Target as Targets};
+ghost use Rattle.capn_target.specs.Target as spec;
+ghost use Rattle.capn_target.specs.declared.target.Target.{Target as Targets};
 
 use capn_walk::{Shape, Target, resolve};
 use capn_words::{Place, Pointer, Space, Width, split};

@@ -3,8 +3,8 @@
 ghost use Rattle.std.specs.Prelude.{◌≡◌, ◌^◌, ◌<◌, ◌++◌, OnOk};
 ghost use Rattle.capn_words.specs.Message.{IsMessage};
 ghost use Rattle.capn_walk.specs.ValueAt.{words_from};
-ghost use Rattle.capn_walk.specs.Target.{words_for};
-ghost use Rattle.capn_walk.specs.Shapes.{IsContent, IsPlain};
+ghost use Rattle.capn_target.specs.Target.{words_for};
+ghost use Rattle.capn_target.specs.Shapes.{IsContent, IsPlain};
 ghost use Rattle.capn_layout.specs.FirstBits.{element_bits, first_bits};
 
 use crate::draft::Draft;

@@ -4,7 +4,7 @@ ghost use Rattle.std.specs.Prelude.{◌≡◌, ℕ, ◌+◌, ◌*◌, ◌<◌, �
 ghost use Rattle.std.specs.Prelude.{Some, None, IfOk, IfErr, OnOk, OnErr, IsOk};
 ghost use Rattle.capn_words.specs.Message.{word_bytes, bytes as bytes_of_words};
 ghost use Rattle.capn_layout.specs.Patch.{IsHole, IsWhole, filled, whole};
-ghost use Rattle.capn_walk.specs.Target.{words_for};
+ghost use Rattle.capn_target.specs.Target.{words_for};
 ghost use Rattle.capn_layout.specs.Layout.{packed};
 
 use crate::elements::append_bytes;

@@ -2,7 +2,7 @@
 
 ghost use Rattle.std.specs.Prelude.{◌≡◌, ◌+◌, ◌*◌, ◌^◌, ◌<◌, ◌≤◌, ◌++◌, take, OnOk};
 ghost use Rattle.capn_words.specs.Message.{IsMessage};
-ghost use Rattle.capn_walk.specs.Shapes.{IsContent};
+ghost use Rattle.capn_target.specs.Shapes.{IsContent};
 ghost use Rattle.capn_walk.specs.ValueAt.{words_from};
 ghost use Rattle.capn_layout.specs.RowWords.{row_cells};
 

@@ -9,12 +9,12 @@ use Rattle.capn_value.specs.InRange.{AllBelow}
 use Rattle.capn_value.specs.Tree.{Tree, nil, node, voids, numbers, links, rows, cap, Trees}
 use Rattle.capn_value.specs.Tree.{Bodies, count, count_rows}
 use Rattle.capn_value.proofs.shared.Bits.{bits_back}
-use Rattle.capn_walk.specs.declared.target.Target.{Target}
-use Rattle.capn_walk.specs.declared.target.Target.TheVariants as targets
-use Rattle.capn_walk.specs.declared.target.Shape.TheVariants as shapes
+use Rattle.capn_target.specs.declared.target.Target.{Target}
+use Rattle.capn_target.specs.declared.target.Target.TheVariants as targets
+use Rattle.capn_target.specs.declared.target.Shape.TheVariants as shapes
 use Rattle.capn_walk.specs.declared.kind.Kind.{Kind}
 use Rattle.capn_walk.specs.declared.kind.Kind.TheVariants as kinds
-use Rattle.capn_walk.specs.Target.{list_width}
+use Rattle.capn_target.specs.Target.{list_width}
 use Rattle.capn_walk.specs.View.{kind_of_list, kind_of}
 use Rattle.capn_walk.specs.ShownValue.{Shows, ShowsStruct}
 use Rattle.capn_show.specs.inner.ReadyPlaces.{struct_at, AreNumbers, AreSlots, AreRowsAt}

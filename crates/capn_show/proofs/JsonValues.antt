@@ -9,11 +9,11 @@ use Rattle.capn_value.specs.NumberWidth.{byte, pair, quad, oct}
 use Rattle.capn_value.specs.Tree.{Tree}
 use Rattle.capn_value.proofs.shared.Bits.{bits_again}
 use Rattle.capn_value.specs.Text.{digits_of}
-use Rattle.capn_walk.specs.declared.target.Target.{Target}
-use Rattle.capn_walk.specs.declared.target.Target.TheVariants as targets
-use Rattle.capn_walk.specs.declared.target.Shape.{Shape}
-use Rattle.capn_walk.specs.declared.target.Shape.TheVariants as shapes
-use Rattle.capn_walk.specs.Target.{target}
+use Rattle.capn_target.specs.declared.target.Target.{Target}
+use Rattle.capn_target.specs.declared.target.Target.TheVariants as targets
+use Rattle.capn_target.specs.declared.target.Shape.{Shape}
+use Rattle.capn_target.specs.declared.target.Shape.TheVariants as shapes
+use Rattle.capn_target.specs.Target.{target}
 use Rattle.capn_walk.specs.ShownValue.{Shows, ViewsShow}
 use Rattle.std.specs.Prelude.{Ok}
 use Rattle.capn_show.specs.Json.{member, quoted, with_commas, number_text, json_of, each_json, each_row}

@@ -7,9 +7,9 @@ use Rattle.capn_value.specs.Tree.{Tree, numbers}
 use Rattle.capn_value.specs.Text.{line, named, one_line, digits_of, number_lines, numbers_name}
 use Rattle.capn_value.proofs.shared.Bits.{bits_text}
 use Rattle.capn_show.specs.Quoting.{shown_by}
-use Rattle.capn_walk.specs.declared.target.Target.TheVariants as targets
-use Rattle.capn_walk.specs.declared.target.Shape.TheVariants as shapes
-use Rattle.capn_walk.specs.Target.{list_width}
+use Rattle.capn_target.specs.declared.target.Target.TheVariants as targets
+use Rattle.capn_target.specs.declared.target.Shape.TheVariants as shapes
+use Rattle.capn_target.specs.Target.{list_width}
 use Rattle.capn_walk.specs.ShownValue.{Shows}
 use Rattle.capn_show.specs.inner.ReadyPlaces.{AreNumbers, IsFoundShown, NumbersShown, BitsShown}
 use Rattle.capn_show.proofs.FoundKinds.{as-voids, as-bits, as-numbers}

@@ -8,12 +8,12 @@ use Rattle.capn_words.specs.declared.pointer.Width.TheVariants.{W0, Link}
 use Rattle.capn_value.specs.Tree.{Tree, nil, node, voids, numbers, links, rows, cap, Trees}
 use Rattle.capn_value.specs.Tree.{no_trees, tree, Bodies, no_bodies, body, count, count_rows}
 use Rattle.capn_value.specs.Cost.{base, height, greatest, greatest_in_rows}
-use Rattle.capn_walk.specs.declared.target.Target.{Target}
-use Rattle.capn_walk.specs.declared.target.Target.TheVariants as targets
-use Rattle.capn_walk.specs.declared.target.Shape.{Shape}
-use Rattle.capn_walk.specs.declared.target.Shape.TheVariants as shapes
-use Rattle.capn_walk.specs.declared.target.Fault.{Fault}
-use Rattle.capn_walk.specs.Target.{target, list_width}
+use Rattle.capn_target.specs.declared.target.Target.{Target}
+use Rattle.capn_target.specs.declared.target.Target.TheVariants as targets
+use Rattle.capn_target.specs.declared.target.Shape.{Shape}
+use Rattle.capn_target.specs.declared.target.Shape.TheVariants as shapes
+use Rattle.capn_target.specs.declared.target.Fault.{Fault}
+use Rattle.capn_target.specs.Target.{target, list_width}
 use Rattle.capn_walk.specs.Visits.{places, row_places, slots, visits}
 use Rattle.capn_walk.specs.Accepted.{AllPay, IsAccepted, root, may_be_root}
 use Rattle.capn_walk.specs.ValueAt.{IsAt, AreAt, RowsAt}

@@ -9,20 +9,21 @@ use Rattle.capn_value.specs.NumberWidth.{NumberWidth, bit, byte, pair, quad, oct
 use Rattle.capn_value.specs.Tree.{Tree, nil, node, voids, numbers, links, rows, cap, Trees}
 use Rattle.capn_value.specs.Tree.{no_trees, tree, Bodies, no_bodies, body, count, count_rows}
 use Rattle.capn_walk.specs.declared.entry.Entry.{Entry}
-use Rattle.capn_walk.specs.declared.target.Target.{Target}
-use Rattle.capn_walk.specs.declared.target.Target.TheVariants as targets
-use Rattle.capn_walk.specs.declared.target.Shape.{Shape}
-use Rattle.capn_walk.specs.declared.target.Shape.TheVariants as shapes
-use Rattle.capn_walk.specs.declared.target.Fault.{Fault}
-use Rattle.capn_walk.specs.Target.{target, list_width}
+use Rattle.capn_target.specs.declared.target.Target.{Target}
+use Rattle.capn_target.specs.declared.target.Target.TheVariants as targets
+use Rattle.capn_target.specs.declared.target.Shape.{Shape}
+use Rattle.capn_target.specs.declared.target.Shape.TheVariants as shapes
+use Rattle.capn_target.specs.declared.target.Fault.{Fault}
+use Rattle.capn_target.specs.Target.{target, list_width}
 use Rattle.capn_walk.specs.Visits.{places, row_places}
 use Rattle.capn_walk.specs.Accepted.{root}
 use Rattle.capn_walk.specs.ValueAt.{IsAt, AreAt, RowsAt}
-use Rattle.capn_walk.specs.View.{slots_below, IsInMessage}
+use Rattle.capn_walk.specs.View.{slots_below}
+use Rattle.capn_target.specs.Shapes.{IsInMessage}
 use Rattle.capn_walk.specs.Index.{entry_target, entry_at, slots_at, beside, kept, kept_of, IsReadable, index_of}
 use Rattle.capn_walk.specs.IndexValues.{IsReadAt, AreReadAt, RowsReadAt, IndexesSayValues, EntriesSayValues}
 use Rattle.capn_walk.proofs.IndexLaws.{AllPlaces, in-slots, readable, not-empty}
-use Rattle.capn_walk.proofs.SeenInside.{found-inside}
+use Rattle.capn_target.proofs.shared.Inside.{found-inside}
 
 -- ---- a target by what an entry keeps of it
 

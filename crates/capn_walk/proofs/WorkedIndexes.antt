@@ -6,7 +6,7 @@ use Rattle.capn_value.specs.Tree.{node, numbers, no_trees, tree}
 use Rattle.capn_value.specs.declared.tariff.Tariff.TheVariants.{Strict}
 use Rattle.capn_walk.specs.declared.entry.Entry.{Entry}
 use Rattle.capn_walk.specs.declared.kind.Kind.TheVariants as kinds
-use Rattle.capn_walk.specs.Target.{target}
+use Rattle.capn_target.specs.Target.{target}
 use Rattle.capn_walk.specs.Limits.{Bounds}
 use Rattle.capn_walk.specs.ValueAt.{AreElements}
 use Rattle.capn_walk.specs.Index.{entries, index_of}

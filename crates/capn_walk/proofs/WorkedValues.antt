@@ -4,7 +4,7 @@ use Rattle.capn_words.specs.declared.space.Place.{Place}
 use Rattle.capn_value.specs.NumberWidth.{byte}
 use Rattle.capn_value.specs.Tree.{nil, node, numbers, rows, no_trees, tree, no_bodies, body}
 use Rattle.capn_words.specs.Pointers.{pointer_of}
-use Rattle.capn_walk.specs.Target.{target}
+use Rattle.capn_target.specs.Target.{target}
 use Rattle.capn_walk.specs.ValueAt.{IsAt, AreElements}
 
 abbrev at : ℕ → ℕ → Place

@@ -3,11 +3,11 @@ use Rattle.std.specs.Prelude.{◌≡◌, ℕ, zero, suc, ◌<◌, List, [], leng
 use Rattle.capn_words.specs.declared.space.Place.{Place}
 use Rattle.capn_value.specs.Tree.{Tree, nil, node, voids, numbers, links, rows, cap, Trees}
 use Rattle.capn_value.specs.Tree.{no_trees, Bodies, no_bodies, body, count, count_rows, tree_at}
-use Rattle.capn_walk.specs.declared.target.Target.{Target}
-use Rattle.capn_walk.specs.declared.target.Target.TheVariants as targets
+use Rattle.capn_target.specs.declared.target.Target.{Target}
+use Rattle.capn_target.specs.declared.target.Target.TheVariants as targets
 use Rattle.capn_walk.specs.declared.kind.Kind.{Kind}
 use Rattle.capn_walk.specs.declared.kind.Kind.TheVariants as kinds
-use Rattle.capn_walk.specs.Target.{target, list_width}
+use Rattle.capn_target.specs.Target.{target, list_width}
 use Rattle.capn_walk.specs.ValueAt.{IsAt}
 use Rattle.capn_walk.specs.View.{kind_of_list, kind_of, len_of, words_in, slots_in, links_in, numbers_in, rows_in}
 use Rattle.capn_walk.specs.View.{step_place, content_of, number_of, row_of}

@@ -3,19 +3,17 @@
 ghost use Rattle.std.specs.Prelude.{◌≡◌, ◌+◌, ◌<◌, ◌≤◌, ◌^◌, length, set};
 ghost use Rattle.capn_words.specs.Message.{segment_at, IsMessage, IsPlace};
 ghost use Rattle.capn_value.specs.Cost.{most_cost};
-ghost use Rattle.capn_walk.specs.Target as spec;
+ghost use Rattle.capn_target.specs.Target as spec;
 ghost use Rattle.capn_walk.specs.Visits.{visits, visits_of};
 ghost use Rattle.capn_walk.specs.inner.SlotsLeft.{places_of, owed, Lies};
 ghost use Rattle.capn_walk.specs.Index.{entries, entries_of};
 ghost use Rattle.capn_walk.specs.inner.IndexRoom.{Indexes, respan};
 
-use crate::content::size_of;
 use crate::entry::{Entry, Indexed};
-use crate::slot_target::{near, resolve};
 use crate::slots_left::SlotsLeft;
 use crate::step::{price_within, slots_below};
-use crate::target::{Fault, Target};
 use crate::walk_answer::{Stopped, stop};
+use capn_target::{Fault, Target, near, resolve, size_of};
 use capn_words::{Place, Pointer, Space, split};
 
 /// Puts an entry into the room, if there is room for it.

@@ -4,16 +4,15 @@ ghost use Rattle.std.specs.Prelude.{◌≡◌, ◌⊎◌, ◌≤◌, length, IfO
 ghost use Rattle.capn_walk.specs.Index.{index_of, IsIndexed};
 ghost use Rattle.capn_walk.specs.Accepted.{IsAccepted, IsValueOf, IsWalkRefused, IsBounded, paid};
 ghost use Rattle.capn_value.specs.Tree.{Tree};
-ghost use Rattle.capn_walk.specs.declared.target.Fault.TheVariants.{Memory};
+ghost use Rattle.capn_target.specs.declared.target.Fault.TheVariants.{Memory};
 
-use crate::content::segment_length;
 use crate::entry::{Entry, Index, Indexed};
 use crate::index_visits::index_found;
 use crate::limits::Limits;
 use crate::message_survey::survey;
 use crate::message_walk::{ROOT, root_target};
-use crate::target::{Fault, Target};
 use crate::walk_answer::{Stopped, out_of_memory};
+use capn_target::{Fault, Target, segment_length};
 use capn_words::Space;
 use std::alloc::Allocator;
 

@@ -3,7 +3,7 @@
 ghost use Rattle.std.specs.Prelude.{◌≡◌, ◌≢◌, ◌≤◌, ◌+◌, ◌⊎◌, Ok, IsTrue, IfOk, IfErr, MatchResult};
 ghost use Rattle.capn_words.specs.Message.{IsMessage, IsPlace};
 ghost use Rattle.capn_value.specs.Cost.{most_cost, most_height};
-ghost use Rattle.capn_walk.specs.Target as spec;
+ghost use Rattle.capn_target.specs.Target as spec;
 ghost use Rattle.capn_walk.specs.Accepted.{root, IsValueOf, IsWalkRefused, IsBounded};
 ghost use Rattle.capn_walk.specs.Visits.{visits, visits_of};
 ghost use Rattle.capn_walk.specs.Depth.{IsDepth};
@@ -13,9 +13,8 @@ ghost use Rattle.capn_walk.specs.inner.Reach.{reach, reach_of};
 ghost use Rattle.capn_walk.specs.Surveyed as told;
 ghost use Rattle.capn_value.specs.Tree.{Tree};
 ghost use Rattle.capn_value.specs.FirstCap.{first_cap};
-ghost use Rattle.capn_walk.specs.declared.target.Fault.TheVariants.{Memory};
+ghost use Rattle.capn_target.specs.declared.target.Fault.TheVariants.{Memory};
 
-use crate::content::{segment_length, size_of};
 use crate::limits::Limits;
 use crate::message_walk::{ROOT, root_target};
 use crate::slots_left::{SlotsLeft, Waiting};
@@ -24,8 +23,8 @@ use crate::survey_answer::{Measured, Surveyed};
 use crate::survey_visit::{
     is_plain, lowered, visit_elsewhere, visit_found, visit_numbers, visit_struct,
 };
-use crate::target::{Fault, Target};
 use crate::walk_answer::Stopped;
+use capn_target::{Fault, Target, segment_length, size_of};
 use capn_words::{Place, Pointer, Space, split};
 use smallvec::SmallVec;
 use std::alloc::Allocator;

@@ -6,13 +6,13 @@ use Rattle.capn_words.specs.Message.{IsMessage, segment_at}
 use Rattle.capn_words.specs.declared.pointer.Width.{Width}
 use Rattle.capn_words.specs.declared.pointer.Width.TheVariants.{Link, Rows}
 use Rattle.capn_value.specs.FirstCap.{first_cap}
-use Rattle.capn_walk.specs.declared.target.Shape.TheVariants as shapes
+use Rattle.capn_target.specs.declared.target.Shape.TheVariants as shapes
 use Rattle.capn_walk.specs.Accepted.{IsWithin}
-use Rattle.capn_walk.specs.Shapes.{IsPlain}
-use Rattle.capn_walk.specs.Target.{content_words, words_for}
+use Rattle.capn_target.specs.Shapes.{IsPlain}
+use Rattle.capn_target.specs.Target.{content_words, words_for}
 use Rattle.capn_walk.specs.ValueAt.{IsInside}
 use Rattle.capn_walk.specs.Visits.{price, places, visits_of}
-use Rattle.capn_walk.proofs.shared.Inside.{inside}
+use Rattle.capn_target.proofs.shared.Inside.{inside}
 use Rattle.capn_layout.specs.Layout.{list_to, point}
 use Rattle.capn_canon.specs.inner.Due.{DueValue, DueSlots}
 use Rattle.capn_layout.specs.FirstBits.{element_bits, first_bits}

@@ -14,10 +14,10 @@ use Rattle.capn_value.specs.Tree.{Tree, nil, node, voids, numbers, links, rows, 
 use Rattle.capn_value.specs.Tree.{Bodies, count, count_rows}
 use Rattle.capn_value.specs.FirstCap.{first_cap}
 use Rattle.capn_value.specs.Trim.{kept_words, kept_slots}
-use Rattle.capn_walk.specs.declared.target.Target.TheVariants as targets
-use Rattle.capn_walk.specs.declared.target.Shape.{Shape}
-use Rattle.capn_walk.specs.declared.target.Shape.TheVariants as shapes
-use Rattle.capn_walk.specs.Target.{target, list_width}
+use Rattle.capn_target.specs.declared.target.Target.TheVariants as targets
+use Rattle.capn_target.specs.declared.target.Shape.{Shape}
+use Rattle.capn_target.specs.declared.target.Shape.TheVariants as shapes
+use Rattle.capn_target.specs.Target.{target, list_width}
 use Rattle.capn_walk.specs.ValueAt.{IsAt}
 use Rattle.capn_walk.proofs.shared.Numbers.{no-number_width}
 use Rattle.capn_layout.specs.Layout.{point, struct_to, list_to, row_size}

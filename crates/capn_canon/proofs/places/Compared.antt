@@ -9,9 +9,9 @@ use Rattle.capn_words.specs.Message.{segment_at}
 use Rattle.capn_words.specs.declared.pointer.Width.TheVariants.{Link}
 use Rattle.capn_value.specs.Tree.{Tree, nil, node, links, Trees, no_trees, tree, count}
 use Rattle.capn_value.specs.Trim.{kept_words, kept_slots}
-use Rattle.capn_walk.specs.declared.target.Target.TheVariants as targets
-use Rattle.capn_walk.specs.declared.target.Shape.TheVariants as shapes
-use Rattle.capn_walk.specs.Target.{target}
+use Rattle.capn_target.specs.declared.target.Target.TheVariants as targets
+use Rattle.capn_target.specs.declared.target.Shape.TheVariants as shapes
+use Rattle.capn_target.specs.Target.{target}
 use Rattle.capn_walk.specs.ValueAt.{AreAt, StandAt, words_from}
 use Rattle.capn_walk.specs.ValueAt.{IsInside}
 use Rattle.capn_layout.specs.Layout.{size, sizes, point, points, lay, lays, struct_to, list_to}

@@ -12,10 +12,10 @@ use Rattle.capn_words.specs.declared.pointer.Width.TheVariants.{Link, Rows}
 use Rattle.capn_value.specs.Tree.{Tree, nil, node, links, rows, Trees, no_trees, tree, Bodies, no_bodies, body, count}
 use Rattle.capn_value.specs.Tree.{count_rows}
 use Rattle.capn_value.specs.Trim.{kept_words, kept_words_of_rows, kept_slots_of_rows}
-use Rattle.capn_walk.specs.declared.target.Target.TheVariants as targets
-use Rattle.capn_walk.specs.declared.target.Shape.{Shape}
-use Rattle.capn_walk.specs.declared.target.Shape.TheVariants as shapes
-use Rattle.capn_walk.specs.Target.{target}
+use Rattle.capn_target.specs.declared.target.Target.TheVariants as targets
+use Rattle.capn_target.specs.declared.target.Shape.{Shape}
+use Rattle.capn_target.specs.declared.target.Shape.TheVariants as shapes
+use Rattle.capn_target.specs.Target.{target}
 use Rattle.capn_walk.specs.Accepted.{paid_of, AllPay}
 use Rattle.capn_walk.specs.ValueAt.{RowsAt, StandAt, IsInside}
 use Rattle.capn_walk.specs.Visits.{Visit, pays, fails, price, places, row_places, slots, visits, visits_of}

@@ -9,10 +9,10 @@ use Rattle.capn_value.specs.NumberWidth.{NumberWidth, bit, byte, pair, quad, oct
 use Rattle.capn_value.specs.Tree.{Tree, voids, numbers}
 use Rattle.capn_value.specs.Cost.{height}
 use Rattle.capn_value.specs.FirstCap.{first_cap}
-use Rattle.capn_walk.specs.declared.target.Target.TheVariants as targets
-use Rattle.capn_walk.specs.declared.target.Shape.TheVariants as shapes
-use Rattle.capn_walk.specs.Target.{target, words_for, list_width}
-use Rattle.capn_walk.specs.Shapes.{IsPlain}
+use Rattle.capn_target.specs.declared.target.Target.TheVariants as targets
+use Rattle.capn_target.specs.declared.target.Shape.TheVariants as shapes
+use Rattle.capn_target.specs.Target.{target, words_for, list_width}
+use Rattle.capn_target.specs.Shapes.{IsPlain}
 use Rattle.capn_walk.specs.ValueAt.{element, AreElements, IsInside}
 use Rattle.capn_walk.specs.Visits.{price}
 use Rattle.capn_walk.proofs.shared.Walks.{is-inside}
@@ -145,7 +145,7 @@ module _ (all : List ℕ) (base from to d : ℕ) (width : Width) (n : ℕ) (mess
   no-slots Link h = absurd h
   no-slots Rows h = absurd h
 
-  content-room : to + Rattle.capn_walk.specs.Target.content_words width n ≤ length all
+  content-room : to + Rattle.capn_target.specs.Target.content_words width n ≤ length all
   content-room = let k = plain-words width n plain in omega arith
 
   fits : to ≤ length all

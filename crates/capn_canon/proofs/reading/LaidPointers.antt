@@ -7,9 +7,9 @@ use Rattle.capn_words.specs.declared.pointer.Pointer.TheVariants.{Node}
 use Rattle.capn_words.specs.declared.pointer.Width.{Width}
 use Rattle.capn_words.specs.declared.pointer.Width.TheVariants.{Rows}
 use Rattle.capn_value.specs.Tree.{node, Trees, no_trees, tree, count}
-use Rattle.capn_walk.specs.declared.target.Target.TheVariants as targets
-use Rattle.capn_walk.specs.declared.target.Shape.TheVariants as shapes
-use Rattle.capn_walk.specs.Target.{content_words, target}
+use Rattle.capn_target.specs.declared.target.Target.TheVariants as targets
+use Rattle.capn_target.specs.declared.target.Shape.TheVariants as shapes
+use Rattle.capn_target.specs.Target.{content_words, target}
 use Rattle.capn_walk.specs.ValueAt.{StandAt, AreElements, words_from}
 use Rattle.capn_canon.proofs.reading.Tight.{Close, TightAt, AreTight}
 use Rattle.capn_layout.specs.Layout.{struct_to, list_to, packed}

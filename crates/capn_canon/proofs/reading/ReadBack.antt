@@ -12,9 +12,9 @@ use Rattle.capn_value.specs.Tree.{no_trees, tree, Bodies, no_bodies, body, count
 use Rattle.capn_value.proofs.shared.Trimmed.{count-trimmed_each, count-trimmed_rows}
 use Rattle.capn_value.specs.Trim.{kept_words, kept_slots, kept_words_of_rows, kept_slots_of_rows, trimmed, trimmed_each}
 use Rattle.capn_value.specs.Trim.{trimmed_rows}
-use Rattle.capn_walk.specs.declared.target.Target.TheVariants as targets
-use Rattle.capn_walk.specs.declared.target.Shape.TheVariants as shapes
-use Rattle.capn_walk.specs.Target.{list_width}
+use Rattle.capn_target.specs.declared.target.Target.TheVariants as targets
+use Rattle.capn_target.specs.declared.target.Shape.TheVariants as shapes
+use Rattle.capn_target.specs.Target.{list_width}
 use Rattle.capn_walk.specs.ValueAt.{IsAt, StandAt}
 use Rattle.capn_walk.specs.Visits.{visits}
 use Rattle.capn_value.specs.Cost.{height, cost}

@@ -25,7 +25,7 @@ use Rattle.capn_layout.specs.Sound.{Sound, Sounds, SoundRows}
 use Rattle.capn_layout.proofs.shared.KeptLengths.{kept_words-le, kept_slots-le}
 use Rattle.capn_layout.proofs.shared.Sound.{below, sound}
 use Rattle.capn_layout.proofs.shared.Room.{room}
-use Rattle.capn_walk.specs.Target.{list_width}
+use Rattle.capn_target.specs.Target.{list_width}
 
 -- ---- lists of numbers below a bound
 

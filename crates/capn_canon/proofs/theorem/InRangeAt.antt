@@ -10,9 +10,9 @@ use Rattle.capn_value.specs.Tree.{Tree, nil, node, voids, numbers, links, rows, 
 use Rattle.capn_value.specs.Tree.{no_trees, tree, Bodies, no_bodies, body}
 use Rattle.capn_value.specs.InRange.{AllBelow, InRange, EachInRange, RowsInRange}
 use Rattle.capn_value.proofs.shared.Ranges.{below_from, below-take}
-use Rattle.capn_walk.specs.declared.target.Shape.TheVariants as shapes
+use Rattle.capn_target.specs.declared.target.Shape.TheVariants as shapes
 use Rattle.capn_walk.specs.ValueAt.{AreElements, AreNumbers, StandAt, words_from, IsAt, AreAt, RowsAt}
-use Rattle.capn_walk.proofs.shared.Ranges.{room-of, cap-of}
+use Rattle.capn_target.proofs.shared.Ranges.{room-of, cap-of}
 use Rattle.capn_canon.proofs.theorem.BareCanon.{below-drop}
 
 -- elements read from words are below their base

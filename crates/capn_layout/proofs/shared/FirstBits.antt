@@ -11,11 +11,11 @@ use Rattle.capn_value.specs.NumberWidth.{oct, bits_in, per_word}
 use Rattle.capn_value.specs.Tree.{Tree, nil, node, voids, numbers, links, rows, cap}
 use Rattle.capn_words.specs.declared.pointer.Width.{Width}
 use Rattle.capn_words.specs.declared.pointer.Width.TheVariants.{W0, W1, W8, W16, W32, W64, Link, Rows}
-use Rattle.capn_walk.specs.declared.target.Shape.TheVariants as shapes
+use Rattle.capn_target.specs.declared.target.Shape.TheVariants as shapes
 use Rattle.capn_walk.specs.ValueAt.{AreElements, words_from}
-use Rattle.capn_walk.specs.Target.{content_words, words_for, list_width}
+use Rattle.capn_target.specs.Target.{content_words, words_for, list_width}
 use Rattle.capn_walk.specs.ValueAt.{IsInside}
-use Rattle.capn_walk.specs.Shapes.{IsPlain}
+use Rattle.capn_target.specs.Shapes.{IsPlain}
 use Rattle.capn_layout.specs.Layout.{number, packed, lay, point, list_to}
 use Rattle.capn_layout.specs.FirstBits.{element_bits, last_bits, first_bits}
 

@@ -16,11 +16,11 @@ use Rattle.capn_words.proofs.shared.Choices.{pick}
 use Rattle.capn_value.specs.Tree.{Tree, nil, node, voids, numbers, links, rows, cap, Trees}
 use Rattle.capn_value.specs.Tree.{no_trees, tree, count, is_null}
 use Rattle.capn_value.specs.Trim.{kept_behind, kept_words, kept_slots}
-use Rattle.capn_walk.specs.declared.target.Target.{Target}
-use Rattle.capn_walk.specs.declared.target.Target.TheVariants as targets
-use Rattle.capn_walk.specs.declared.target.Fault.{Fault}
-use Rattle.capn_walk.specs.Target.{moved, tagged, within, list, struct, struct_from, list_from, near, second_pad}
-use Rattle.capn_walk.specs.Target.{is_second_pad, two_pads, pointer_in, landing, named, target}
+use Rattle.capn_target.specs.declared.target.Target.{Target}
+use Rattle.capn_target.specs.declared.target.Target.TheVariants as targets
+use Rattle.capn_target.specs.declared.target.Fault.{Fault}
+use Rattle.capn_target.specs.Target.{moved, tagged, within, list, struct, struct_from, list_from, near, second_pad}
+use Rattle.capn_target.specs.Target.{is_second_pad, two_pads, pointer_in, landing, named, target}
 use Rattle.capn_walk.specs.ValueAt.{IsAt, AreAt, words_from}
 
 pointer-other : (w : ℕ) → w ≢ 0 → pointer_of w ≢ Nil

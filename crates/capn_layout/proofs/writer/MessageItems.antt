@@ -6,11 +6,11 @@ use Rattle.capn_words.specs.declared.space.Place.{Place}
 use Rattle.capn_words.specs.declared.pointer.Width.{Width}
 use Rattle.capn_words.specs.declared.pointer.Width.TheVariants.{W0, W1, W8, W16, W32, W64, Link, Rows}
 use Rattle.capn_value.specs.Tree.{Tree, Trees, tree, no_trees, tree_at, Bodies, no_bodies, body, count, count_rows}
-use Rattle.capn_walk.specs.declared.target.Shape.TheVariants as shapes
+use Rattle.capn_target.specs.declared.target.Shape.TheVariants as shapes
 use Rattle.capn_walk.specs.ValueAt.{IsAt, AreAt, RowsAt, IsInside, words_from}
-use Rattle.capn_walk.specs.Shapes.{IsContent, IsPlain, RowsFit}
-use Rattle.capn_walk.specs.Target.{content_words, words_for}
-use Rattle.capn_walk.proofs.shared.Segments.{segment-room}
+use Rattle.capn_target.specs.Shapes.{IsContent, IsPlain, RowsFit}
+use Rattle.capn_target.specs.Target.{content_words, words_for}
+use Rattle.capn_target.proofs.shared.Segments.{segment-room}
 use Rattle.capn_layout.specs.FirstBits.{element_bits, first_bits}
 use Rattle.capn_layout.specs.LayoutSteps.{slots_at}
 use Rattle.capn_layout.specs.MessageSlots.{HasSlot, PacksBits, AreRows}

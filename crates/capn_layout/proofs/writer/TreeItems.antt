@@ -11,7 +11,7 @@ use Rattle.capn_value.specs.TreeOf.{tree_of, trees_of, rows_of}
 use Rattle.capn_value.specs.Views.{count-trees_of, count_rows-rows_of}
 use Rattle.capn_value.specs.declared.value.Value.{Value}
 use Rattle.capn_value.specs.declared.value.Body.{Body}
-use Rattle.capn_walk.specs.Target.{words_for, content_words, list_width}
+use Rattle.capn_target.specs.Target.{words_for, content_words, list_width}
 use Rattle.capn_layout.specs.Layout.{packed, point, lay}
 use Rattle.capn_layout.specs.LayoutSteps.{AreRowsOver, zero_rows, slots_at}
 use Rattle.capn_layout.specs.Sound.{Sound, Sounds, SoundRows}

@@ -5,7 +5,7 @@ use Rattle.capn_value.specs.Tree.{Tree, tree_at, Bodies, no_bodies, body}
 use Rattle.capn_value.specs.TreeOf.{trees_of, rows_of}
 use Rattle.capn_value.specs.Trim.{kept_words_of_rows, kept_slots_of_rows}
 use Rattle.capn_value.specs.declared.value.Value.{Value}
-use Rattle.capn_walk.specs.Target.{words_for}
+use Rattle.capn_target.specs.Target.{words_for}
 use Rattle.capn_layout.specs.declared.tree_slots.TreeNumbers.{TreeNumbers}
 use Rattle.capn_layout.specs.declared.tree_slots.TreeNumbers.TheVariants.{Voids, Bits, Bytes, Pairs, Quads, Octs}
 use Rattle.capn_layout.specs.declared.tree_slots.TreeRows.{TreeRows}

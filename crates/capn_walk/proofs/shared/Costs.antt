@@ -8,13 +8,13 @@ use Rattle.capn_words.specs.declared.space.Place.{Place}
 use Rattle.capn_value.specs.Tree.{Tree, nil, node, voids, numbers, links, rows, cap, Trees}
 use Rattle.capn_value.specs.Tree.{no_trees, tree, Bodies, no_bodies, body, count, count_rows, row_words}
 use Rattle.capn_value.specs.Cost.{height, greatest, greatest_in_rows, cost, costs, costs_in_rows, rows_price}
-use Rattle.capn_walk.specs.declared.target.Shape.{Shape}
-use Rattle.capn_walk.specs.declared.target.Shape.TheVariants as shapes
+use Rattle.capn_target.specs.declared.target.Shape.{Shape}
+use Rattle.capn_target.specs.declared.target.Shape.TheVariants as shapes
 use Rattle.capn_walk.specs.Visits.{Visit, pays, fails, price, places, row_places, slots, visits}
 use Rattle.capn_walk.specs.Accepted.{paid_of, AllPay}
 use Rattle.capn_walk.specs.ValueAt.{IsAt, AreAt, RowsAt, Names}
 use Rattle.capn_words.proofs.shared.Choices.{pick}
-use Rattle.capn_walk.proofs.shared.Inside.{inside}
+use Rattle.capn_target.proofs.shared.Inside.{inside}
 use Rattle.capn_walk.proofs.shared.Numbers.{numbers-paid}
 use Rattle.capn_walk.proofs.shared.Walks.{slot, visits-deep, visits-object}
 

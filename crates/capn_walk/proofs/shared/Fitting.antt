@@ -14,14 +14,14 @@ use Rattle.capn_value.proofs.shared.Fitting.{fit_from}
 use Rattle.capn_value.proofs.shared.Tariffs.{cost-raised}
 use Rattle.capn_value.proofs.shared.Trimmed.{words-or_none}
 use Rattle.capn_value.proofs.shared.Prices.{rows_price-none}
-use Rattle.capn_walk.specs.declared.target.Shape.TheVariants as shapes
-use Rattle.capn_walk.specs.declared.target.Fault.TheVariants as faults
+use Rattle.capn_target.specs.declared.target.Shape.TheVariants as shapes
+use Rattle.capn_target.specs.declared.target.Fault.TheVariants as faults
 use Rattle.capn_walk.specs.Visits.{fails, visits}
 use Rattle.capn_walk.specs.Accepted.{AllPay, IsWithin, paid_of, root, visits_at_root, root_visits}
 use Rattle.capn_walk.specs.ValueAt.{IsAt, AreAt, RowsAt}
-use Rattle.capn_walk.specs.Target.{list_width}
-use Rattle.capn_walk.proofs.shared.Inside.{inside}
-use Rattle.capn_walk.proofs.shared.Ranges.{room-of}
+use Rattle.capn_target.specs.Target.{list_width}
+use Rattle.capn_target.proofs.shared.Inside.{inside}
+use Rattle.capn_target.proofs.shared.Ranges.{room-of}
 use Rattle.capn_walk.proofs.shared.Costs.{cost-paid}
 
 -- ---- the tests of one part

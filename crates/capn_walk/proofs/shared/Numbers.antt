@@ -5,8 +5,8 @@ use Rattle.std.specs.Int.{div_ceil}
 use Rattle.capn_words.specs.declared.pointer.Width.{Width}
 use Rattle.capn_words.specs.declared.pointer.Width.TheVariants.{W1, W8, W16, W32, W64}
 use Rattle.capn_value.specs.NumberWidth.{NumberWidth, bit, byte, pair, quad, oct, per_word}
-use Rattle.capn_walk.specs.declared.target.Shape.TheVariants as shapes
-use Rattle.capn_walk.specs.Target.{list_width, content_words}
+use Rattle.capn_target.specs.declared.target.Shape.TheVariants as shapes
+use Rattle.capn_target.specs.Target.{list_width, content_words}
 use Rattle.capn_walk.specs.Visits.{slots, price}
 
 -- the width of the numbers in a list, if it holds numbers

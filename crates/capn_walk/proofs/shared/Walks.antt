@@ -10,19 +10,20 @@ use Rattle.capn_value.specs.Tree.{Trees, Bodies, Tree, nil, node, voids, numbers
 use Rattle.capn_value.specs.Tree.{cap, count, count_rows}
 use Rattle.capn_value.specs.TreeOf.{tree_of, trees_of}
 use Rattle.capn_value.specs.declared.value.Value.{Value}
-use Rattle.capn_walk.specs.declared.target.Target.TheVariants as targets
-use Rattle.capn_walk.specs.declared.target.Shape.{Shape}
-use Rattle.capn_walk.specs.declared.target.Shape.TheVariants as shapes
-use Rattle.capn_walk.specs.declared.target.Fault.{Fault}
-use Rattle.capn_walk.specs.declared.target.Fault.TheVariants as faults
+use Rattle.capn_target.specs.declared.target.Target.TheVariants as targets
+use Rattle.capn_target.specs.declared.target.Shape.{Shape}
+use Rattle.capn_target.specs.declared.target.Shape.TheVariants as shapes
+use Rattle.capn_target.specs.declared.target.Fault.{Fault}
+use Rattle.capn_target.specs.declared.target.Fault.TheVariants as faults
 use Rattle.capn_walk.specs.declared.walk_answer.Stopped.{Stopped}
-use Rattle.capn_walk.specs.Target.{target}
+use Rattle.capn_target.specs.Target.{target}
 use Rattle.capn_walk.specs.Visits.{Visit, pays, fails, price, places, slots, visits, visit, last_visit}
 use Rattle.capn_walk.specs.inner.Verdict.{accepted, refused, after, judge}
 use Rattle.capn_walk.specs.ValueAt.{IsAt, AreAt, RowsAt, IsInside, Names, words_from}
 use Rattle.capn_walk.specs.inner.Verdict.{Gives, Refuses}
-use Rattle.capn_walk.specs.Shapes.{slot_count}
-use Rattle.capn_walk.proofs.shared.Inside.{inside, slots-price}
+use Rattle.capn_target.specs.Shapes.{slot_count}
+use Rattle.capn_target.proofs.shared.Inside.{inside}
+use Rattle.capn_walk.proofs.shared.SlotPrices.{slots-price}
 use Rattle.capn_walk.proofs.shared.Judge.{judge-more, judge-stops, judge-pays}
 
 -- the place of a word

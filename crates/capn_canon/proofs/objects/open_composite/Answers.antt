@@ -6,8 +6,8 @@ use Rattle.capn_words.specs.Pointers.{field, word_of}
 use Rattle.capn_words.specs.declared.pointer.Pointer.TheVariants.{Node}
 use Rattle.capn_words.specs.declared.pointer.Width.TheVariants.{Rows}
 use Rattle.capn_words.proofs.shared.Choices.{if-yes, if-no, same-yes}
-use Rattle.capn_walk.specs.declared.target.Shape.TheVariants as shapes
-use Rattle.capn_walk.proofs.shared.Segments.{segment-room}
+use Rattle.capn_target.specs.declared.target.Shape.TheVariants as shapes
+use Rattle.capn_target.proofs.shared.Segments.{segment-room}
 use Rattle.capn_canon.specs.declared.own_words_test.Tag.{Tag}
 use Rattle.capn_canon.specs.declared.progress.Pass.{Pass}
 use Rattle.capn_canon.specs.inner.InPlace.{HasObject}

@@ -5,7 +5,7 @@ use Rattle.capn_words.specs.Message.{IsMessage}
 use Rattle.capn_words.specs.Pointers.{word_of, field}
 use Rattle.capn_value.specs.Trim.{kept_words}
 use Rattle.capn_words.proofs.shared.Choices.{if-no}
-use Rattle.capn_walk.proofs.shared.Segments.{segment-room}
+use Rattle.capn_target.proofs.shared.Segments.{segment-room}
 use Rattle.capn_canon.specs.declared.own_words_test.Tag.{Tag}
 use Rattle.capn_canon.specs.declared.progress.Pass.{Pass}
 use Rattle.capn_layout.specs.Layout.{struct_to}

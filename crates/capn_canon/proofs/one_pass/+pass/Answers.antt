@@ -1,9 +1,9 @@
 use Rattle.std.proofs.Common.{◌≡◌, inl, inr, ℕ, suc, ◌+◌, ◌-◌, ◌*◌, ◌^◌, ◌<◌, ◌≤◌, List, [], ◌∷◌, length}
 use Rattle.std.proofs.Common.{refl, ◌%◌, Bool, not, nat_eq}
 use Rattle.std.proofs.Common.{ap, sym, subst, ◌∙◌, arith}
-use Rattle.capn_walk.specs.declared.target.Shape.TheVariants as shapes
+use Rattle.capn_target.specs.declared.target.Shape.TheVariants as shapes
 use Rattle.capn_walk.proofs.shared.RowWalks.{row-inside}
-use Rattle.capn_walk.proofs.shared.Segments.{segment-room}
+use Rattle.capn_target.proofs.shared.Segments.{segment-room}
 use Rattle.capn_canon.specs.declared.progress.Progress.{Progress}
 use Rattle.capn_canon.specs.declared.progress.Pass.{Pass}
 use Rattle.capn_canon.specs.inner.InPlace.{FindsSlots, FindsRows, FindsFirst, Finds, HasObject, IsOpen, Leads}

@@ -1,6 +1,6 @@
 use Rattle.std.proofs.Common.{◌≡◌, ◌-◌, ◌*◌, ◌++◌, drop, map, length}
 use Rattle.std.specs.Int.{from_bool}
-use Rattle.capn_walk.specs.Target.{words_for}
+use Rattle.capn_target.specs.Target.{words_for}
 use Rattle.capn_layout.specs.Layout.{packed}
 use Rattle.capn_layout.proofs.bits.extend_bits.Given as goal
 

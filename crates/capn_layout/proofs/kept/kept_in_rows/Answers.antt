@@ -1,7 +1,7 @@
 use Rattle.std.proofs.Common.{◌≡◌, ◌+◌, ◌-◌, ◌*◌, ◌∙◌, arith}
 use Rattle.capn_walk.specs.ValueAt.{words_from}
 use Rattle.capn_walk.proofs.shared.RowWalks.{row-inside}
-use Rattle.capn_walk.proofs.shared.Segments.{segment-room}
+use Rattle.capn_target.proofs.shared.Segments.{segment-room}
 use Rattle.capn_layout.proofs.shared.Cut.{part-le}
 use Rattle.capn_layout.proofs.shared.EachRow.{kept-begins, kept-more, kept-full, kept-ends}
 use Rattle.capn_layout.proofs.kept.kept_in_rows.Goals as goal

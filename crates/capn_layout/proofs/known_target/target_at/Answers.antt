@@ -3,11 +3,11 @@ use Rattle.std.proofs.Common.{arith, w32}
 use Rattle.std.proofs.lemmas.Int.{to_z-of_z}
 use Rattle.std.specs.Int.RustNames.{FitsSigned}
 use Rattle.capn_words.specs.Pointers.{pointer_of}
-use Rattle.capn_walk.specs.Target.{moved}
-use Rattle.capn_walk.specs.declared.target.Target.TheVariants as targets
-use Rattle.capn_walk.specs.declared.target.Shape.TheVariants as shapes
-use Rattle.capn_walk.proofs.shared.Segments.{segment-room}
-use Rattle.capn_walk.proofs.shared.Present.{present}
+use Rattle.capn_target.specs.Target.{moved}
+use Rattle.capn_target.specs.declared.target.Target.TheVariants as targets
+use Rattle.capn_target.specs.declared.target.Shape.TheVariants as shapes
+use Rattle.capn_target.proofs.shared.Segments.{segment-room}
+use Rattle.capn_target.proofs.shared.Present.{present}
 use Rattle.capn_layout.proofs.writer.FoundNear.{near-null, near-struct, near-list, not-composite}
 use Rattle.capn_layout.proofs.known_target.target_at.Goals as goal
 

@@ -1,10 +1,10 @@
 use Rattle.std.proofs.Common.{ℕ, ◌*◌, ap, subst, ◌∙◌, arith}
 use Rattle.capn_words.specs.declared.pointer.Width.{Width}
-use Rattle.capn_walk.specs.declared.target.Shape.{Shape}
-use Rattle.capn_walk.specs.declared.target.Shape.TheVariants as shapes
-use Rattle.capn_walk.specs.Shapes.{IsContent, RowsFit, extent}
+use Rattle.capn_target.specs.declared.target.Shape.{Shape}
+use Rattle.capn_target.specs.declared.target.Shape.TheVariants as shapes
+use Rattle.capn_target.specs.Shapes.{IsContent, RowsFit, extent}
 use Rattle.capn_walk.specs.ValueAt.{IsInside}
-use Rattle.capn_walk.proofs.shared.Ranges.{HasRoom}
+use Rattle.capn_target.proofs.shared.Ranges.{HasRoom}
 use Rattle.capn_layout.proofs.writer.MessageItems.{struct-rows, links-rows, all-rows, numbers-packed, plain-width}
 use Rattle.capn_layout.proofs.message_slots.item_at.Goals as goal
 

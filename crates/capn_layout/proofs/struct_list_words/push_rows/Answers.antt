@@ -1,7 +1,7 @@
 use Rattle.std.proofs.Common.{◌≡◌, ◌+◌, ◌*◌, ◌∙◌, arith}
 use Rattle.std.proofs.lemmas.Result.{on_ok_weaker}
 use Rattle.capn_walk.proofs.shared.RowWalks.{row-inside}
-use Rattle.capn_walk.proofs.shared.Segments.{segment-room}
+use Rattle.capn_target.proofs.shared.Segments.{segment-room}
 use Rattle.capn_layout.proofs.shared.Copied.{whole-bytes, copy-of}
 use Rattle.capn_layout.proofs.shared.EachRow.{cells-begin, cells-more, cells-end, cells-piece}
 use Rattle.capn_layout.proofs.struct_list_words.push_rows.Goals as goal

@@ -1,19 +1,19 @@
 use Rattle.std.proofs.Common.{rules, ℕ, ◌-◌, ◌≤◌, List, [], ◌∷◌, length, set, Err, refl, ap, ap₂, sym, ◌∙◌, arith}
 use Rattle.capn_words.specs.declared.space.Place.{Place}
 use Rattle.capn_walk.specs.declared.entry.Entry.{Entry}
-use Rattle.capn_walk.specs.declared.target.Target.TheVariants as targets
+use Rattle.capn_target.specs.declared.target.Target.TheVariants as targets
 use Rattle.capn_walk.specs.declared.walk_answer.Stopped.{Stopped}
-use Rattle.capn_walk.specs.Target.{near}
+use Rattle.capn_target.specs.Target.{near}
 use Rattle.capn_walk.specs.Visits.{pays, visits, visits_of}
 use Rattle.capn_walk.specs.inner.SlotsLeft.{places_of, owed, Lies}
 use Rattle.capn_walk.specs.View.{stepped}
 use Rattle.capn_walk.specs.Index.{entered, entries, entries_of}
 use Rattle.capn_walk.specs.inner.IndexRoom.{laid}
 use Rattle.capn_walk.proofs.shared.Walks.{visits-fault, visits-null, refuses-here, gives-nothing}
-use Rattle.capn_walk.proofs.shared.Ways.{never-memory}
+use Rattle.capn_target.proofs.shared.Ways.{never-memory}
 use Rattle.capn_walk.proofs.OwedSlots.{done, not-done, nothing-left}
 use Rattle.capn_walk.proofs.Near.{near-struct, near-list}
-use Rattle.capn_walk.proofs.SeenInside.{found-inside}
+use Rattle.capn_target.proofs.shared.Inside.{found-inside}
 use Rattle.capn_walk.proofs.Stepped.{step-pays, step-refuses, stepped-memory}
 use Rattle.capn_walk.proofs.UnderWay.{null-target}
 use Rattle.capn_walk.proofs.FilledRoom.{entries-leaf, entries-object, leaf-gives, object-gives, object-refuses}

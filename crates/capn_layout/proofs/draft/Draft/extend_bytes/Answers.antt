@@ -1,5 +1,5 @@
 use Rattle.std.proofs.Common.{◌*◌, ◌++◌, ◌∙◌, ap, refl, length, List, ℕ, arith}
-use Rattle.capn_walk.specs.Target.{words_for}
+use Rattle.capn_target.specs.Target.{words_for}
 use Rattle.capn_layout.specs.Layout.{packed}
 use Rattle.capn_layout.proofs.writer.Drafted.{is-padded, drafted-padded}
 use Rattle.capn_layout.proofs.draft.Draft.extend_bytes.Goals as goal

@@ -1,7 +1,7 @@
 use Rattle.std.proofs.Common.{◌*◌, ◌++◌, ◌∙◌, ap, refl, length, List, ℕ, arith}
 use Rattle.std.specs.List.{flat_map}
 use Rattle.byteorder.specs.Endian.{little_bytes}
-use Rattle.capn_walk.specs.Target.{words_for}
+use Rattle.capn_target.specs.Target.{words_for}
 use Rattle.capn_layout.specs.Layout.{packed}
 use Rattle.capn_layout.proofs.writer.Drafted.{is-padded, drafted-padded}
 use Rattle.capn_layout.proofs.writer.PackedBytes.{packed-numbers, length-numbers, AreBytes-numbers}

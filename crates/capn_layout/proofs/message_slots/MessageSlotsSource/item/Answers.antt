@@ -1,9 +1,9 @@
 use Rattle.std.proofs.Common.{◌+◌, Ok, ap, ◌∙◌, arith}
 use Rattle.capn_words.specs.declared.space.Place.{Place}
-use Rattle.capn_walk.proofs.shared.Inside.{inside}
-use Rattle.capn_walk.proofs.shared.Present.{present}
-use Rattle.capn_walk.proofs.shared.Ranges.{room-of}
-use Rattle.capn_walk.proofs.shared.Segments.{segment-room}
+use Rattle.capn_target.proofs.shared.Inside.{inside}
+use Rattle.capn_target.proofs.shared.Present.{present}
+use Rattle.capn_target.proofs.shared.Ranges.{room-of}
+use Rattle.capn_target.proofs.shared.Segments.{segment-room}
 use Rattle.capn_layout.proofs.shared.Shaped.{found, null-of, cap-at, inside-of}
 use Rattle.capn_layout.proofs.message_slots.MessageSlotsSource.item.Goals as goal
 

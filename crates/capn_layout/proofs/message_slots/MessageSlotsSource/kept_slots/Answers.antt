@@ -1,6 +1,6 @@
 use Rattle.std.proofs.Common.{◌≡◌, ◌+◌, ◌*◌, ◌≤◌, length, ap, sym, ◌∙◌, arith}
 use Rattle.capn_words.specs.Message.{segment_at}
-use Rattle.capn_walk.proofs.shared.Segments.{segment-room}
+use Rattle.capn_target.proofs.shared.Segments.{segment-room}
 use Rattle.capn_layout.proofs.shared.EachRow.{kept-rows-slots}
 use Rattle.capn_layout.proofs.message_slots.MessageSlotsSource.kept_slots.Goals as goal
 

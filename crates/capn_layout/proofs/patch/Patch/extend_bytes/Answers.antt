@@ -1,6 +1,6 @@
 use Rattle.std.proofs.Common.{◌*◌, ◌∙◌, ap, refl, length}
 use Rattle.std.proofs.Common.{arith}
-use Rattle.capn_walk.specs.Target.{words_for}
+use Rattle.capn_target.specs.Target.{words_for}
 use Rattle.capn_layout.specs.Patch.{patched}
 use Rattle.capn_layout.proofs.writer.Patched.{patched-same, grown-length, is-grown, patched-grown, OnErr-always}
 use Rattle.capn_layout.proofs.patch.Patch.extend_bytes.Goals as goal

@@ -1,4 +1,4 @@
--- What an object's form says of its size.
+-- What an object's form says of its size, and that an object lies inside its message.
 use Rattle.std.specs.Prelude.{ℕ, ◌+◌, ◌*◌, ◌<◌, ◌≤◌, List, length, ⊤}
 use Rattle.capn_words.specs.Message.{segment_at}
 use Rattle.capn_words.specs.declared.space.Place.{Place}
@@ -6,9 +6,11 @@ use Rattle.capn_words.specs.declared.pointer.Pointer.{Pointer}
 use Rattle.capn_words.specs.declared.pointer.Pointer.TheVariants.{Many}
 use Rattle.capn_words.specs.declared.pointer.Width.{Width}
 use Rattle.capn_words.specs.declared.pointer.Width.TheVariants.{Link, Rows}
-use Rattle.capn_walk.specs.declared.target.Shape.{Shape}
-use Rattle.capn_walk.specs.declared.target.Shape.TheVariants as shapes
-use Rattle.capn_walk.specs.Target.{content_words}
+use Rattle.capn_target.specs.declared.target.Target.{Target}
+use Rattle.capn_target.specs.declared.target.Target.TheVariants as targets
+use Rattle.capn_target.specs.declared.target.Shape.{Shape}
+use Rattle.capn_target.specs.declared.target.Shape.TheVariants as shapes
+use Rattle.capn_target.specs.Target.{content_words}
 
 -- how many slots an object has
 abbrev pub slot_count : Shape → ℕ
@@ -44,3 +46,9 @@ AreNumbers _ = ⊥
 pub record IsContent (message : List (List ℕ)) (at : Place) (n : ℕ) : Type 0 where
   pub exists : at.segment < length message
   pub within : at.word + n ≤ length (segment_at message at.segment)
+
+-- content of a message lies inside its segment
+abbrev pub IsInMessage : List (List ℕ) → Target → Type 0
+IsInMessage message (targets.Content s start shape pads) =
+    IsContent message (record { segment = s; word = start }) (extent shape) × RowsFit shape
+IsInMessage message _ = ⊤

@@ -1,7 +1,7 @@
 use Rattle.std.proofs.Common.{sym, ap, ◌∙◌}
-use Rattle.capn_walk.specs.Target.{named, target}
-use Rattle.capn_walk.proofs.SeenInside.{answer-inside}
-use Rattle.capn_walk.proofs.slot_target.resolve.Goals as goal
+use Rattle.capn_target.specs.Target.{named, target}
+use Rattle.capn_target.proofs.shared.Inside.{answer-inside}
+use Rattle.capn_target.proofs.slot_target.resolve.Goals as goal
 
 pub returns-clause-inside : goal.returns-clause-inside
 unfolding target

@@ -12,15 +12,16 @@ use Rattle.capn_words.specs.declared.pointer.Pointer.TheVariants.{Nil, Node, Man
 use Rattle.capn_words.specs.declared.pointer.Width.{Width}
 use Rattle.capn_words.specs.declared.pointer.Width.TheVariants.{W0, W1, W8, W16, W32, W64, Link, Rows}
 use Rattle.capn_words.proofs.shared.Choices.{pick}
-use Rattle.capn_walk.specs.declared.target.Target.{Target}
-use Rattle.capn_walk.specs.declared.target.Target.TheVariants as targets
-use Rattle.capn_walk.specs.declared.target.Shape.{Shape}
-use Rattle.capn_walk.specs.declared.target.Shape.TheVariants as shapes
-use Rattle.capn_walk.specs.declared.target.Fault.{Fault}
-use Rattle.capn_walk.specs.declared.target.Fault.TheVariants as faults
-use Rattle.capn_walk.specs.Target.{moved, within, list, struct, struct_from, list_from, near, second_pad, is_second_pad}
-use Rattle.capn_walk.specs.Target.{two_pads, pointer_in, landing, named, target}
-use Rattle.capn_walk.specs.Ways.{LeadsTo, Describes, Lies, IsPad, OneOfThree}
+use Rattle.capn_target.specs.declared.target.Target.{Target}
+use Rattle.capn_target.specs.declared.target.Target.TheVariants as targets
+use Rattle.capn_target.specs.declared.target.Shape.{Shape}
+use Rattle.capn_target.specs.declared.target.Shape.TheVariants as shapes
+use Rattle.capn_target.specs.declared.target.Fault.{Fault}
+use Rattle.capn_target.specs.declared.target.Fault.TheVariants as faults
+use Rattle.capn_target.specs.Target.{moved, within, list, struct, struct_from, list_from, near, second_pad}
+use Rattle.capn_target.specs.Target.{is_second_pad}
+use Rattle.capn_target.specs.Target.{two_pads, pointer_in, landing, named, target}
+use Rattle.capn_target.specs.Ways.{LeadsTo, Describes, Lies, IsPad, OneOfThree}
 
 -- a refusal that isn't because memory runs out
 abbrev IsPlain : Result ℕ Fault → Type 0

@@ -2,9 +2,9 @@
 
 ghost use Rattle.std.specs.Prelude.{◌≡◌, ℕ, ◌<◌, ◌≤◌, ◌+◌, ◌^◌, length, Ok, Err, IfOk, OnOk, nat_lt, if◌then◌else◌};
 ghost use Rattle.capn_words.specs.Message.{segment_at, IsPlace};
-ghost use Rattle.capn_walk.specs.Target as spec;
-ghost use Rattle.capn_walk.specs.View.{IsInMessage};
-ghost use Rattle.capn_walk.specs.declared.target.Fault.TheVariants.{NoSegment};
+ghost use Rattle.capn_target.specs.Target as spec;
+ghost use Rattle.capn_target.specs.Shapes.{IsInMessage};
+ghost use Rattle.capn_target.specs.declared.target.Fault.TheVariants.{NoSegment};
 
 use crate::content::{many_at, node_at, segment_length, start_of};
 use crate::target::{Fault, Target};

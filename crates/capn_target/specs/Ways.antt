@@ -7,9 +7,9 @@ use Rattle.capn_words.specs.declared.space.Place.{Place}
 use Rattle.capn_words.specs.declared.pointer.Pointer.{Pointer}
 use Rattle.capn_words.specs.declared.pointer.Pointer.TheVariants.{Nil, Node, Many, Far}
 use Rattle.capn_words.specs.declared.pointer.Width.TheVariants.{Rows}
-use Rattle.capn_walk.specs.declared.target.Shape.{Shape}
-use Rattle.capn_walk.specs.declared.target.Shape.TheVariants as shapes
-use Rattle.capn_walk.specs.Target.{content_words, moved, pointer_in}
+use Rattle.capn_target.specs.declared.target.Shape.{Shape}
+use Rattle.capn_target.specs.declared.target.Shape.TheVariants as shapes
+use Rattle.capn_target.specs.Target.{content_words, moved, pointer_in}
 
 -- the offset of a pointer at word w, counted from the word after it, leads to the start
 abbrev pub LeadsTo : ℕ → Pointer → ℕ → Type 0

@@ -2,7 +2,7 @@
 
 ghost use Rattle.std.specs.Prelude.{◌≡◌, ℕ, ◌<◌, ◌≤◌, ◌+◌, ◌^◌, length, slice_index};
 ghost use Rattle.capn_words.specs.Message.{segment_at};
-ghost use Rattle.capn_walk.specs.Target as spec;
+ghost use Rattle.capn_target.specs.Target as spec;
 
 use crate::target::{Fault, Shape, Target};
 use capn_words::{Place, Space, Width};

@@ -87,7 +87,7 @@ pub enum Fault {
 
 impl fmt::Display for Fault {
     ghost use Rattle.std.specs.Prelude.{Some};
-    ghost use Rattle.capn_walk.specs.Display.{fault_name};
+    ghost use Rattle.capn_target.specs.Display.{fault_name};
 
     ghost output = { λ fault. Some (fault_name fault) };
 

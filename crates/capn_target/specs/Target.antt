@@ -8,11 +8,11 @@ use Rattle.capn_words.specs.declared.pointer.Pointer.TheVariants.{Nil, Node, Man
 use Rattle.capn_words.specs.declared.pointer.Width.{Width}
 use Rattle.capn_words.specs.declared.pointer.Width.TheVariants.{W0, W1, W8, W16, W32, W64, Link, Rows}
 use Rattle.capn_value.specs.NumberWidth.{NumberWidth, bit, byte, pair, quad, oct, bits_in}
-use Rattle.capn_walk.specs.declared.target.Target.{Target}
-use Rattle.capn_walk.specs.declared.target.Target.TheVariants as targets
-use Rattle.capn_walk.specs.declared.target.Shape.TheVariants as shapes
-use Rattle.capn_walk.specs.declared.target.Fault.{Fault}
-use Rattle.capn_walk.specs.declared.target.Fault.TheVariants as faults
+use Rattle.capn_target.specs.declared.target.Target.{Target}
+use Rattle.capn_target.specs.declared.target.Target.TheVariants as targets
+use Rattle.capn_target.specs.declared.target.Shape.TheVariants as shapes
+use Rattle.capn_target.specs.declared.target.Fault.{Fault}
+use Rattle.capn_target.specs.declared.target.Fault.TheVariants as faults
 use Rattle.capn_words.specs.Pointers.{field, pointer_of}
 
 -- how a pointer to a list of numbers says their width

@@ -5,11 +5,11 @@ use Rattle.std.proofs.lemmas.Bool.Decides.{nat_tests}
 use Rattle.std.proofs.Math.ListN.{get_or-eq_default}
 use Rattle.capn_words.specs.Message.{segment_at}
 use Rattle.capn_words.specs.declared.space.Place.{Place}
-use Rattle.capn_walk.specs.declared.target.Target.TheVariants as targets
-use Rattle.capn_walk.specs.declared.target.Shape.{Shape}
-use Rattle.capn_walk.specs.Target.{target}
-use Rattle.capn_walk.specs.Ways.{OneOfThree}
-use Rattle.capn_walk.proofs.shared.Ways.{one-of-three}
+use Rattle.capn_target.specs.declared.target.Target.TheVariants as targets
+use Rattle.capn_target.specs.declared.target.Shape.{Shape}
+use Rattle.capn_target.specs.Target.{target}
+use Rattle.capn_target.specs.Ways.{OneOfThree}
+use Rattle.capn_target.proofs.shared.Ways.{one-of-three}
 
 module _ (m : List (List ℕ)) where
   -- the segment of a place in range exists

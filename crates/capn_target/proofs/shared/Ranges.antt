@@ -6,13 +6,13 @@ use Rattle.capn_words.specs.declared.space.Place.{Place}
 use Rattle.capn_words.specs.declared.pointer.Pointer.{Pointer}
 use Rattle.capn_words.specs.declared.pointer.Pointer.TheVariants.{Nil, Node, Many, Far, Cap, Reserved}
 use Rattle.capn_words.specs.declared.pointer.Width.TheVariants.{W0, W1, W8, W16, W32, W64, Link, Rows}
-use Rattle.capn_walk.specs.declared.target.Target.TheVariants as targets
-use Rattle.capn_walk.specs.declared.target.Shape.{Shape}
-use Rattle.capn_walk.specs.declared.target.Shape.TheVariants as shapes
+use Rattle.capn_target.specs.declared.target.Target.TheVariants as targets
+use Rattle.capn_target.specs.declared.target.Shape.{Shape}
+use Rattle.capn_target.specs.declared.target.Shape.TheVariants as shapes
 use Rattle.capn_words.specs.Pointers.{field, pointer_of}
-use Rattle.capn_walk.specs.Target.{pointer_in, target}
-use Rattle.capn_walk.specs.Ways.{Describes}
-use Rattle.capn_walk.proofs.shared.Ways.{described, cap-pointer}
+use Rattle.capn_target.specs.Target.{pointer_in, target}
+use Rattle.capn_target.specs.Ways.{Describes}
+use Rattle.capn_target.proofs.shared.Ways.{described, cap-pointer}
 use Rattle.capn_words.proofs.shared.Choices.{pick}
 
 -- the fields of a pointer are in their ranges

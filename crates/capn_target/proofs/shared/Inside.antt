@@ -1,19 +1,20 @@
--- Content that a pointer names lies inside its segment.
-use Rattle.std.proofs.Common.{◌≡◌, ℕ, ◌+◌, ◌*◌, ◌≤◌, ◌==◌, List, length, Ok, arith}
+-- Content that a pointer names lies inside its segment, which exists.
+use Rattle.std.proofs.Common.{◌≡◌, ℕ, ◌+◌, ◌<◌, ◌≤◌, List, length, Result, Ok, Err, IfOk}
 use Rattle.capn_words.specs.Message.{segment_at}
 use Rattle.capn_words.specs.declared.space.Place.{Place}
 use Rattle.capn_words.specs.declared.pointer.Pointer.{Pointer}
 use Rattle.capn_words.specs.declared.pointer.Pointer.TheVariants.{Nil, Node, Many, Far, Cap, Reserved}
 use Rattle.capn_words.specs.declared.pointer.Width.TheVariants.{W0, W1, W8, W16, W32, W64, Link, Rows}
-use Rattle.capn_words.proofs.shared.Choices.{pick}
-use Rattle.capn_walk.specs.declared.target.Target.TheVariants as targets
-use Rattle.capn_walk.specs.declared.target.Shape.{Shape}
-use Rattle.capn_walk.specs.declared.target.Shape.TheVariants as shapes
-use Rattle.capn_walk.specs.Target.{pointer_in, target}
-use Rattle.capn_walk.specs.Visits.{price}
-use Rattle.capn_walk.specs.Shapes.{extent, slot_count, RowsFit}
-use Rattle.capn_walk.specs.Ways.{Describes}
-use Rattle.capn_walk.proofs.shared.Ways.{described}
+use Rattle.capn_target.specs.declared.target.Target.{Target}
+use Rattle.capn_target.specs.declared.target.Target.TheVariants as targets
+use Rattle.capn_target.specs.declared.target.Fault.{Fault}
+use Rattle.capn_target.specs.declared.target.Shape.{Shape}
+use Rattle.capn_target.specs.declared.target.Shape.TheVariants as shapes
+use Rattle.capn_target.specs.Target.{pointer_in, target}
+use Rattle.capn_target.specs.Shapes.{extent, RowsFit, IsInMessage}
+use Rattle.capn_target.specs.Ways.{Describes}
+use Rattle.capn_target.proofs.shared.Ways.{described}
+use Rattle.capn_target.proofs.shared.Present.{present}
 
 module _ (m : List (List ℕ)) where
   -- content of a shape lies inside its segment, and its rows have room
@@ -42,17 +43,18 @@ module _ (m : List (List ℕ)) where
       let d = described m at s start pads shape e in
       inside-described (pointer_in m d.0.segment d.0.word) s start shape d.1
 
--- an object has at most as many slots as it costs, also where nothing is paid beside its size
-pub slots-price : (base : ℕ) (shape : Shape) → RowsFit shape → slot_count shape ≤ price base shape
-slots-price base (shapes.Node a b) h = omega arith
-slots-price base (shapes.Many W0 n) h = omega arith
-slots-price base (shapes.Many W1 n) h = omega arith
-slots-price base (shapes.Many W8 n) h = omega arith
-slots-price base (shapes.Many W16 n) h = omega arith
-slots-price base (shapes.Many W32 n) h = omega arith
-slots-price base (shapes.Many W64 n) h = omega arith
-slots-price base (shapes.Many Link n) h = omega arith
-slots-price base (shapes.Many Rows n) h = omega arith
-slots-price base (shapes.Rows n a b span) h =
-    let d : n * (a + b) ≡ n * a + n * b = omega arith in
-    pick (λ (x : ℕ). n * b ≤ base + 1 + span + x) (a + b == 0) n 0 (λ _. omega arith) (λ _. omega arith)
+-- what a place names lies inside the message
+pub found-inside : (m : List (List ℕ)) (at : Place) (t : Target) → at.word < length (segment_at m at.segment)
+    → target m at ≡ Ok t → IsInMessage m t
+found-inside m at targets.Nil h e = tt
+found-inside m at (targets.Cap k) h e = tt
+found-inside m at (targets.Content s start shape pads) h e =
+    let i = inside m at s start pads shape e in
+    (record { exists = present m at s start pads shape h e; within = i.0 }, i.1)
+
+-- what a call found that is the target of a place
+pub answer-inside : (m : List (List ℕ)) (at : Place) (r : Result Target Fault)
+    → at.word < length (segment_at m at.segment) → target m at ≡ r
+    → IfOk r (IsInMessage m)
+answer-inside m at (Ok t) h e = found-inside m at t h e
+answer-inside m at (Err f) h e = tt
