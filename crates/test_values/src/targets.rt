@@ -50,6 +50,14 @@ fn content_of(alloc: Global, bytes: &[u64], words: u16) -> Option<[Result<Target
     ])
 }
 
+/// The words of segment 0, and of segment 1, which isn't there.
+fn sizes_of(alloc: Global, words: &[u64]) -> Option<[u32; 2]> {
+    let bytes = bytes_of(alloc, words).ok()?;
+    let bare = Bare::new(bytes.as_slice()).ok()?;
+    let size = segment_length(&bare, 0);
+    Some([size_of(&bare, 0, 0, size), size_of(&bare, 1, 0, size)])
+}
+
 /// Content of a shape from a word on, with a landing pad of some words.
 fn content(start: u32, shape: Shape, pads: u8) -> Result<Target, Fault> {
     Ok(Target::Content {
@@ -88,8 +96,5 @@ fn steps_to_content(rt: HostRuntime) {
     assert!(rt; start_of(3, -4) == Ok(0) && start_of(3, 1) == Ok(5));
     assert!(rt; start_of(3, -5) == Err(Fault::Range));
     assert!(rt; content_words(Width::W1, 65) == 2 && content_words(Width::Rows, 3) == 4);
-    let bare = Bare::new(&[0; 16]);
-    assert!(rt;
-        matches!(bare, Ok(space) if size_of(&space, 0, 0, 2) == 2 && size_of(&space, 1, 0, 2) == 0)
-    );
+    assert!(rt; sizes_of(rt.alloc(), &STRUCT) == Some([2, 0]));
 }
