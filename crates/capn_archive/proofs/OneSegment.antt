@@ -8,7 +8,7 @@ use Rattle.capn_words.proofs.shared.Words.{length-bytes}
 use Rattle.capn_walk.specs.Limits.{Bounds}
 use Rattle.capn_words.specs.declared.bare.BareFault.{BareFault}
 use Rattle.capn_walk.specs.Accepted.{paid, root}
-use Rattle.capn_walk.proofs.shared.Segments.{length_of_none, length_of_some, segment-room}
+use Rattle.capn_target.proofs.shared.Segments.{length_of_none, length_of_some, segment-room}
 use Rattle.capn_canon.specs.BareVerdict.{IsBareSurvey}
 use Rattle.capn_canon.specs.Denotes.{AnswersMessage}
 use Rattle.capn_canon.specs.declared.surveyed_bare.SurveyedBare.{SurveyedBare}

@@ -4,7 +4,7 @@ use Rattle.std.proofs.lemmas.List.{length-map}
 use Rattle.capn_walk.specs.Accepted.{number_of_visits, visits_within}
 use Rattle.capn_walk.specs.Index.{IndexesFollowVisits, entry_target, index_of, kept_of, place_of}
 use Rattle.capn_walk.specs.Limits.{Bounds}
-use Rattle.capn_walk.specs.Target.{target}
+use Rattle.capn_target.specs.Target.{target}
 use Rattle.capn_walk.specs.Visits.{Visit}
 use Rattle.capn_walk.specs.declared.entry.Entry.{Entry}
 use Rattle.capn_walk.specs.declared.survey_answer.Surveyed.{Surveyed}

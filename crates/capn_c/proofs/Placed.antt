@@ -12,13 +12,13 @@ use Rattle.capn_stream.specs.FrameRefusal.{announced_segments, announced_words, 
 use Rattle.capn_stream.proofs.shared.FrameLaws.{announces, stands_alone}
 use Rattle.capn_walk.specs.Index.{IndexesAreReadable, by_kind, entry_at, entry_of, entry_target, index_of}
 use Rattle.capn_walk.specs.Limits.{Bounds}
-use Rattle.capn_walk.specs.Shapes.{IsContent}
-use Rattle.capn_walk.specs.Target.{content_words}
-use Rattle.capn_walk.specs.View.{IsInMessage}
+use Rattle.capn_target.specs.Shapes.{IsContent}
+use Rattle.capn_target.specs.Target.{content_words}
+use Rattle.capn_target.specs.Shapes.{IsInMessage}
 use Rattle.capn_walk.specs.declared.entry.Entry.{Entry}
 use Rattle.capn_walk.specs.declared.kind.Kind.{Kind}
 use Rattle.capn_walk.specs.declared.kind.Kind.TheVariants as kinds
-use Rattle.capn_walk.specs.declared.target.Target.TheVariants as targets
+use Rattle.capn_target.specs.declared.target.Target.TheVariants as targets
 use Rattle.capn_words.specs.declared.pointer.Width.TheVariants.{W0, W1, W8, W16, W32, W64, Link}
 use Rattle.capn_canon.specs.Reads.{IsFramed, Reads}
 use Rattle.capn_canon.specs.declared.form.Form.{Form}

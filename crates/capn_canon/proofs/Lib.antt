@@ -1,7 +1,4 @@
 pub mod shared
-pub mod layouts
-pub mod content
-pub mod writer
 pub mod reading
 pub mod places
 pub mod check

@@ -5,7 +5,6 @@ pub mod DueObjects
 pub mod DueLists
 pub mod DueComposite
 pub mod DueRoot
-pub mod FoundNear
 pub mod PassLeads
 pub mod CanonicalSurvey
 pub mod DepthOfCanonical

@@ -11,7 +11,7 @@ use Rattle.capn_walk.specs.Limits.{Bounds}
 use Rattle.capn_canon.specs.declared.form.Form.TheVariants as forms
 use Rattle.capn_canon.specs.Reads.{Reads}
 use Rattle.capn_canon.specs.Denotes.{Denotes}
-use Rattle.capn_canon.specs.Layout.{canon}
+use Rattle.capn_layout.specs.Layout.{canon}
 
 -- read bare under the limits, the bytes denote the trimmed value, which is the same value
 pub record ReadsBack (bs : List ℕ) (limits : Bounds) (v : Tree) : Type 0 where

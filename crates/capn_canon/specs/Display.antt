@@ -5,15 +5,8 @@ use Rattle.capn_words.specs.Display.{bare_text}
 use Rattle.capn_pack.specs.Display.{unpack_text}
 use Rattle.capn_stream.specs.Display.{frame_text}
 use Rattle.capn_walk.specs.Display.{stopped_text}
-use Rattle.capn_canon.specs.declared.tree_layout.LayoutFault.{LayoutFault}
-use Rattle.capn_canon.specs.declared.tree_layout.LayoutFault.TheVariants as layouts
 use Rattle.capn_canon.specs.declared.refusal.Refusal.{Refusal}
 use Rattle.capn_canon.specs.declared.refusal.Refusal.TheVariants as refusals
-
--- why a tree has no layout
-abbrev pub layout_text : LayoutFault → List ℕ
-layout_text layouts.Memory = codes "out of memory"
-layout_text (layouts.Capability index) = codes "capability " ++ decimal index
 
 -- why an input has no canonical bytes
 abbrev pub refusal_text : Refusal → List ℕ

@@ -13,7 +13,7 @@ use Rattle.capn_walk.specs.Limits.{Bounds, AreLimits}
 use Rattle.capn_canon.specs.declared.form.Form.{Form}
 use Rattle.capn_canon.specs.declared.refusal.Refusal.{Refusal}
 use Rattle.capn_canon.specs.declared.refusal.Refusal.TheVariants as refusals
-use Rattle.capn_canon.specs.Layout.{canon}
+use Rattle.capn_layout.specs.Layout.{canon}
 use Rattle.capn_canon.specs.Denotes.{Denotes, Answers}
 use Rattle.capn_canon.specs.Refusal.{IsRefused}
 use Rattle.capn_canon.specs.declared.canonical.Canonical.{Canonical}

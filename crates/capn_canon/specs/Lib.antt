@@ -2,9 +2,6 @@ pub mod inner
 pub mod Canonicity
 pub mod Denotes
 pub mod Laws
-pub mod Layout
-pub mod LayoutFault
-pub mod Patch
 pub mod Reads
 pub mod Refusal
 pub mod BareVerdict
@@ -12,3 +9,6 @@ pub mod SurveyedBytes
 pub mod Display
 pub mod MemoryNeed
 pub mod Theorem
+pub use Rattle.capn_layout.specs.Layout
+pub use Rattle.capn_layout.specs.LayoutFault
+pub use Rattle.capn_layout.specs.Patch

@@ -10,7 +10,7 @@ use Rattle.capn_canon.specs.declared.form.Form.TheVariants as forms
 use Rattle.capn_canon.specs.declared.refusal.Refusal.{Refusal}
 use Rattle.capn_canon.specs.declared.refusal.Refusal.TheVariants as refusals
 use Rattle.capn_canon.specs.declared.canonical.Canonical.{Canonical}
-use Rattle.capn_canon.specs.Layout.{canon}
+use Rattle.capn_layout.specs.Layout.{canon}
 use Rattle.capn_canon.specs.Denotes.{Denotes, Answers}
 
 -- For any bytes, form and limits, unless memory runs out, `canonicalise` succeeds if and only if the bytes denote a

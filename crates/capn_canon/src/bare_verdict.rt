@@ -5,15 +5,15 @@ ghost use Rattle.std.specs.Prelude.{MatchResult};
 ghost use Rattle.capn_value.specs.Tree.{Tree as Value};
 ghost use Rattle.capn_value.specs.FirstCap.{first_cap};
 ghost use Rattle.capn_walk.specs.Accepted.{IsValueOf, IsWalkRefused as IsStopped, IsBounded};
-ghost use Rattle.capn_walk.specs.declared.target.Fault.TheVariants as faults;
+ghost use Rattle.capn_target.specs.declared.target.Fault.TheVariants as faults;
 ghost use Rattle.capn_canon.specs.Denotes.{Denotes};
-ghost use Rattle.capn_canon.specs.Layout.{canon};
+ghost use Rattle.capn_layout.specs.Layout.{canon};
 ghost use Rattle.capn_canon.specs.Refusal.{IsRefused, IsPaidWithin};
 ghost use Rattle.capn_canon.specs.declared.form.Form.TheVariants as forms;
 ghost use Rattle.capn_canon.specs.declared.refusal.Refusal.TheVariants as refusals;
 ghost use Rattle.capn_canon.specs.BareVerdict.{SaysCanonical, IsBareSurvey};
 
-use crate::one_pass::survey_canonical;
+use crate::canonical_survey::measure_root;
 use crate::refusal::Refusal;
 use crate::surveyed_bare::SurveyedBare;
 use capn_walk::{Fault, Limits, Stopped, survey};
@@ -21,7 +21,8 @@ use capn_words::{Bare, Space};
 use std::alloc::Allocator;
 
 /// What the walk of a bare message pays and visits within the limits, its first capability, and whether its
-/// bytes are canonical. One pass over the words tells that; the message is surveyed only where they aren't.
+/// bytes are canonical. One pass over the words tells that; the message is surveyed only where it doesn't begin with
+/// canonical bytes.
 ///
 /// It refuses what the walk refuses, in the same way. It takes no memory for a depth of at most 64; `Memory`
 /// comes only where a growth was refused.
@@ -45,8 +46,8 @@ pub fn survey_bare<A: Allocator + Copy>(
         (λ s. IsBounded limits.budget s.paid s.visits) }
 {
     let _segments = space.segments();
-    if let Some(told) = survey_canonical(space, limits) {
-        return Ok(told);
+    if let Some(measured) = measure_root::<false>(space, limits) {
+        return Ok(measured.survey);
     }
     let told = survey(alloc, space, limits)?;
     Ok(SurveyedBare {

@@ -3,21 +3,17 @@
 ghost use Rattle.std.specs.Prelude.{◌≡◌, ◌*◌, ◌+◌, ◌≤◌, None, length, IfOk, IfErr, IsErrOf, MatchResult};
 ghost use Rattle.capn_value.specs.Tree.{Tree as Value};
 ghost use Rattle.capn_value.specs.FirstCap.{first_cap};
-ghost use Rattle.capn_walk.specs.Accepted.{root, IsValueOf};
-ghost use Rattle.capn_walk.specs.ValueAt.{IsAt};
-ghost use Rattle.capn_canon.specs.Layout.{canon};
+ghost use Rattle.capn_walk.specs.Accepted.{IsValueOf};
+ghost use Rattle.capn_layout.specs.Layout.{canon};
 ghost use Rattle.capn_canon.specs.Denotes.{AnswersMessage};
 ghost use Rattle.capn_canon.specs.inner.Outcomes.{IsCanonicalised};
 ghost use Rattle.capn_canon.specs.Canonicity.{ReadsBack, PaysItsCost, IsItsOwnForm, IsFormExactlyOf};
 ghost use Rattle.capn_canon.specs.Refusal.{IsRefusedMessage, IsPaidWithin};
 ghost use Rattle.capn_canon.specs.declared.refusal.Refusal.TheVariants as refusals;
-ghost use Rattle.capn_canon.specs.inner.MessageSlots.{HasSlot};
-ghost use Rattle.capn_canon.specs.inner.Ready.{IsReady};
 ghost use Rattle.capn_canon.specs.MemoryNeed.{MayNeedBytes};
 
-use crate::message_slots::MessageSlots;
-use crate::object_layout::canonical_bytes;
 use crate::refusal::Refusal;
+use capn_layout::surveyed_layout;
 use capn_value::Memory;
 use capn_walk::{Fault, Limits, survey};
 use capn_words::{Bare, Place, Space};
@@ -32,32 +28,11 @@ pub struct Canonical<A: Allocator = Global> {
     pub paid: u32,
 }
 
-/// Where the pointer to the root stands.
-const ROOT: Place = Place {
+/// Where the first segment begins.
+const BEGINNING: Place = Place {
     segment: 0,
     word: 0,
 };
-
-/// The canonical bytes of the value at the root, where the walk paid `paid` words. There is room at first for as many
-/// words and one more, and for no more than the first segment has.
-fn bytes_of<S: Space, A: Allocator>(
-    alloc: A,
-    space: &S,
-    depth: u32,
-    paid: u32,
-) -> Result<Vec<u8, A>, Memory>
-    requires { IsReady (HasSlot (S.message space.now)) 0 0 depth 1 }
-    ensures { IfOk result (λ bytes. (v : Value) → IsAt (S.message space.now) root v → bytes.items ≡ canon v) }
-{
-    let words = space.words(0).unwrap_or(0);
-    let room = words.min(paid.saturating_add(1));
-    canonical_bytes(
-        alloc,
-        MessageSlots { space, start: ROOT },
-        depth,
-        room as usize,
-    )
-}
 
 /// The canonical bytes of a message, read as it is.
 fn canonical_of_inner<A: Allocator + Copy, S: Space>(
@@ -73,7 +48,7 @@ fn canonical_of_inner<A: Allocator + Copy, S: Space>(
     match survey(alloc, space, limits) {
         Ok(surveyed) => match surveyed.capability {
             Some(index) => Err(Refusal::Capability(index)),
-            None => match bytes_of(alloc, space, depth, surveyed.paid) {
+            None => match surveyed_layout(alloc, space, depth, surveyed.paid) {
                 Ok(bytes) => Ok(Canonical {
                     bytes,
                     paid: surveyed.paid,
@@ -98,7 +73,7 @@ fn canonical_by_segments<A: Allocator + Copy, S: Space>(
 {
     let words = space.words(0).unwrap_or(0);
     if space.segments() == 1 {
-        if let Ok(bare) = Bare::new(space.bytes(ROOT, 8 * words as usize)) {
+        if let Ok(bare) = Bare::new(space.bytes(BEGINNING, 8 * words as usize)) {
             return canonical_of_inner(alloc, &bare, limits);
         }
     }

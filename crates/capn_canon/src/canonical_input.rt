@@ -3,7 +3,7 @@
 ghost use Rattle.std.specs.Prelude.{◌≡◌, ℕ, ◌*◌, ◌+◌, ◌≤◌, None, length, IfOk, IfErr, IsErrOf, MatchResult};
 ghost use Rattle.capn_value.specs.Tree.{Tree as Value};
 ghost use Rattle.capn_value.specs.FirstCap.{first_cap};
-ghost use Rattle.capn_canon.specs.Layout.{canon};
+ghost use Rattle.capn_layout.specs.Layout.{canon};
 ghost use Rattle.capn_canon.specs.Denotes.{Denotes, Answers};
 ghost use Rattle.capn_canon.specs.inner.Outcomes.{AreCanonicalised};
 ghost use Rattle.capn_canon.specs.Canonicity.{ReadsBack, PaysItsCost, IsItsOwnForm, IsFormExactlyOf};

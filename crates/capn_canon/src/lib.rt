@@ -33,46 +33,32 @@
 #![tactic(auto)]
 
 mod bare_verdict;
-mod bits;
 mod canonical;
 mod canonical_input;
-mod draft;
-mod elements;
+mod canonical_survey;
 mod form;
-mod kept;
-mod known_target;
 pub mod laws;
-mod marks;
-mod message_slots;
 mod message_survey;
-mod number_list_words;
-mod object_layout;
 mod objects;
 mod one_pass;
-mod opening;
 mod own_words_test;
-mod patch;
-mod pointer_words;
 mod progress;
 mod refusal;
-mod source;
-mod struct_list_words;
 mod survey_input;
 mod surveyed_bare;
-mod tree_layout;
-mod tree_slots;
 
 pub use bare_verdict::{is_canonical, survey_bare};
 pub use canonical::{Canonical, canonical_of};
 pub use canonical_input::canonicalise;
+pub use canonical_survey::{measure_canonical, survey_canonical};
 pub use form::Form;
 pub use message_survey::survey;
-pub use one_pass::{measure_canonical, survey_canonical};
-pub use patch::Patch;
 pub use refusal::Refusal;
 pub use survey_input::survey_bytes;
 pub use surveyed_bare::{MeasuredBare, SurveyedBare};
-pub use tree_layout::{LayoutFault, layout};
+
+// The layout of trees.
+pub use capn_layout::{LayoutFault, Patch, layout};
 
 // What the signatures above name.
 pub use capn_pack::UnpackFault;

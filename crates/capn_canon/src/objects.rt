@@ -3,13 +3,13 @@
 ghost use Rattle.std.specs.Prelude.{◌≡◌, ◌+◌, ◌-◌, ◌*◌, ◌%◌, ◌^◌, ◌<◌, [], ◌∷◌, slice_index, IfSome, IsSome};
 ghost use Rattle.capn_words.specs.Message.{IsMessage};
 ghost use Rattle.capn_words.specs.declared.pointer.Width.TheVariants.{Link, Rows};
-ghost use Rattle.capn_walk.specs.Shapes.{IsPlain};
+ghost use Rattle.capn_target.specs.Shapes.{IsPlain};
 ghost use Rattle.capn_canon.specs.inner.Due.{DueFirst, DueIn, DueRowsIn};
 ghost use Rattle.capn_canon.specs.inner.InPlace.{IsOpen, HasObject, HasList, FindsPlain, Opens, OpensRows};
 
-use crate::number_list_words::bits_of;
 use crate::own_words_test::{are_bits_at, are_rows_at, is_kept, tag_of, word_at, words_of};
 use crate::progress::{Pass, Progress, RowPass};
+use capn_layout::bits_of;
 use capn_words::{Bare, Place, Width};
 
 /// The slots of the struct at the next free word to which the first slot in hand points, if all of its words and slots

@@ -3,108 +3,17 @@
 //! Every object of a layout stands at the next free word, so where each pointer is the one to that word, nothing is out
 //! of range and nothing is read twice: the pass follows the words in order, and needs no survey before it.
 
-ghost use Rattle.std.specs.Prelude.{◌≡◌, ◌+◌, ◌-◌, ◌*◌, ◌%◌, ◌^◌, ◌<◌, ◌≤◌, [], ◌∷◌, slice_index};
-ghost use Rattle.std.specs.Prelude.{IsTrue, IfSome, IsSome, None};
-ghost use Rattle.capn_words.specs.Message.{IsMessage, bytes};
+ghost use Rattle.std.specs.Prelude.{◌≡◌, ◌+◌, ◌-◌, ◌*◌, ◌%◌, ◌^◌, ◌<◌, [], ◌∷◌, slice_index, IfSome, IsSome};
+ghost use Rattle.capn_words.specs.Message.{IsMessage};
 ghost use Rattle.capn_words.specs.declared.pointer.Width.TheVariants.{Rows};
-ghost use Rattle.capn_value.specs.Tree.{Tree as Value};
-ghost use Rattle.capn_value.specs.FirstCap.{first_cap};
-ghost use Rattle.capn_walk.specs.Accepted.{IsValueOf, IsBounded};
-ghost use Rattle.capn_walk.specs.Depth.{IsDepth};
-ghost use Rattle.capn_canon.specs.BareVerdict.{IsBareSurvey};
-ghost use Rattle.capn_canon.specs.Layout.{canon};
 ghost use Rattle.capn_canon.specs.inner.Due.{Due, DueFirst, DueIn, DueRows};
 ghost use Rattle.capn_canon.specs.inner.InPlace.{IsOpen, HasObject, HasList, Leads, Finds, FindsFirst, FindsRows};
 ghost use Rattle.capn_canon.specs.inner.InPlace.{Opens};
 
 use crate::objects::{check_numbers, open_composite, open_pointers, open_struct};
-use crate::own_words_test::{EMPTY, word_at, words_of};
+use crate::own_words_test::{EMPTY, word_at};
 use crate::progress::{Pass, Progress, lower};
-use crate::surveyed_bare::{MeasuredBare, SurveyedBare};
-use capn_walk::Limits;
 use capn_words::{Bare, Pointer, Width, split};
-
-/// What the walk of a bare message pays and visits within the limits, if it is accepted, its value has no capability
-/// and its bytes are canonical; otherwise nothing. (Own.)
-///
-/// It takes no memory. Where it answers nothing, [`survey_bare`](crate::survey_bare) tells why.
-pub fn survey_canonical(space: &Bare<'_>, limits: Limits) -> Option<SurveyedBare>
-    requires { IsMessage (space.now ∷ []) }
-    ensures found { IfSome result (λ c. IsBareSurvey space.now limits c) }
-    ensures only { (v : Value) → IsValueOf (space.now ∷ []) limits v → first_cap v ≡ None → canon v ≡ bytes space.now
-        → IsSome result }
-    ensures bounded { IfSome result (λ c. IsBounded limits.budget c.paid c.visits) }
-{
-    match measure_root::<false>(space, limits) {
-        Some(measured) => Some(measured.survey),
-        None => None,
-    }
-}
-
-/// What [`survey_canonical`] answers, and the least depth under which the message is accepted with the other limits as
-/// they are: how many objects are one below another at most, the root's among them. (Own.)
-///
-/// It takes no memory. Where it answers nothing, [`survey_bare`](crate::survey_bare) and
-/// [`survey_depth`](capn_walk::survey_depth) tell more.
-pub fn measure_canonical(space: &Bare<'_>, limits: Limits) -> Option<MeasuredBare>
-    requires { IsMessage (space.now ∷ []) }
-    ensures found { IfSome result (λ m. IsBareSurvey space.now limits m.survey) }
-    // Under this depth the message is accepted, and under no lower one.
-    ensures depth { IfSome result (λ m. IsDepth (space.now ∷ []) limits m.depth) }
-    ensures within { IfSome result (λ m. m.depth ≤ limits.depth) }
-    ensures only { (v : Value) → IsValueOf (space.now ∷ []) limits v → first_cap v ≡ None → canon v ≡ bytes space.now
-        → IsSome result }
-    ensures bounded { IfSome result (λ m. IsBounded limits.budget m.survey.paid m.survey.visits) }
-{
-    measure_root::<true>(space, limits)
-}
-
-/// What the one pass finds. Where `DEEP`, it learns how deep the objects are: it keeps the least depth that was left
-/// below one of them.
-#[inline(always)]
-fn measure_root<const DEEP: bool>(space: &Bare<'_>, limits: Limits) -> Option<MeasuredBare>
-    requires { IsMessage (space.now ∷ []) }
-    ensures found { IfSome result (λ m. IsBareSurvey space.now limits m.survey) }
-    ensures depth { IsTrue DEEP → IfSome result (λ m. IsDepth (space.now ∷ []) limits m.depth) }
-    ensures within { IfSome result (λ m. m.depth ≤ limits.depth) }
-    ensures only { (v : Value) → IsValueOf (space.now ∷ []) limits v → first_cap v ≡ None → canon v ≡ bytes space.now
-        → IsSome result }
-    ensures bounded { IfSome result (λ m. IsBounded limits.budget m.survey.paid m.survey.visits) }
-{
-    let size = words_of(space);
-    if size == 0 {
-        return None;
-    }
-    let budget = limits.budget();
-    let depth = limits.depth();
-    let root = Pass {
-        from: 0,
-        end: 1,
-        depth,
-        next: 1,
-        left: budget,
-        visits: 1,
-    };
-    let mut least = depth;
-    match check_object::<DEEP>(space, limits.tariff().base(), root, &mut least) {
-        Some(progress) => {
-            if progress.next != size {
-                return None;
-            }
-            let survey = SurveyedBare {
-                paid: budget - progress.left,
-                visits: progress.visits,
-                capability: None,
-                is_canonical: true,
-            };
-            Some(MeasuredBare {
-                survey,
-                depth: if DEEP { depth - least } else { 0 },
-            })
-        }
-        None => None,
-    }
-}
 
 /// How far the pass has come once all is checked that is below the slots of an object; none where a word isn't in
 /// place, where a capability stands, or where the depth or what may be paid is passed.
@@ -112,7 +21,7 @@ fn measure_root<const DEEP: bool>(space: &Bare<'_>, limits: Limits) -> Option<Me
 /// Each level of depth takes one frame of the stack: that of this function, or of [`check_rows`].
 #[cycle(pass)]
 #[inline(never)]
-fn check_object<const DEEP: bool>(
+pub fn check_object<const DEEP: bool>(
     space: &Bare<'_>,
     base: u32,
     pass: Pass,
@@ -238,13 +147,39 @@ fn check_below<const DEEP: bool>(
     if pass.from + 1 == pass.end {
         return Some(below);
     }
-    if below.from == below.end {
-        return Some(pass.behind(below.here()));
-    }
-    match check_object::<DEEP>(space, base, below, least) {
+    match check_first::<DEEP>(space, base, below, least) {
         Some(progress) => Some(pass.behind(progress)),
         None => None,
     }
+}
+
+/// How far the pass has come after all that is below an object after which more slots are in hand. They are copied for
+/// the call here, so that nothing is written to the stack where no call is made.
+#[cycle(pass)]
+#[inline(always)]
+fn check_first<const DEEP: bool>(
+    space: &Bare<'_>,
+    base: u32,
+    below: Pass,
+    least: &mut u32,
+) -> Option<Progress>
+    requires message { IsMessage (space.now ∷ []) }
+    requires opened { IsOpen space.now below }
+    ensures found { IfSome result (λ q. Finds space.now base DEEP below least.old q least.new) }
+    ensures only { Due space.now base below → IsSome result }
+{
+    if below.from == below.end {
+        return Some(below.here());
+    }
+    let object = Pass {
+        from: below.from,
+        end: below.end,
+        depth: below.depth,
+        next: below.next,
+        left: below.left,
+        visits: below.visits,
+    };
+    check_object::<DEEP>(space, base, object, least)
 }
 
 /// The same where the first slot in hand is the pointer to a list at the next free word.
@@ -309,20 +244,14 @@ fn check_composite<const DEEP: bool>(
     ensures only { DueFirst space.now base pass → IsSome result }
 {
     match open_composite(space, base, span, pass) {
-        Some(rows) => {
-            lower::<DEEP>(least, rows.pass.depth);
-            if rows.tag.slots == 0 {
-                return Some(rows.pass.here());
+        Some(opened) => {
+            let tag = opened.tag;
+            let rows = opened.pass;
+            lower::<DEEP>(least, rows.depth);
+            if tag.slots == 0 {
+                return Some(rows.here());
             }
-            check_rows::<DEEP>(
-                space,
-                base,
-                rows.tag.count,
-                rows.tag.words,
-                rows.tag.slots,
-                rows.pass,
-                least,
-            )
+            check_rows::<DEEP>(space, base, tag.count, tag.words, tag.slots, rows, least)
         }
         None => None,
     }

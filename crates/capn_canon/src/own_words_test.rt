@@ -7,15 +7,13 @@ ghost use Rattle.capn_words.specs.Pointers.{word_of, field};
 ghost use Rattle.capn_words.specs.declared.pointer.Pointer.TheVariants.{Node};
 ghost use Rattle.capn_words.specs.declared.pointer.Width.TheVariants.{Rows};
 ghost use Rattle.capn_value.specs.Trim.{kept_words};
-ghost use Rattle.capn_walk.specs.Shapes.{IsContent};
-ghost use Rattle.capn_canon.specs.Layout.{list_to};
-ghost use Rattle.capn_canon.specs.inner.FirstBits.{first_bits};
-ghost use Rattle.capn_canon.specs.inner.RowWords.{kept_each};
+ghost use Rattle.capn_target.specs.Shapes.{IsContent};
+ghost use Rattle.capn_layout.specs.Layout.{list_to};
+ghost use Rattle.capn_layout.specs.FirstBits.{first_bits};
+ghost use Rattle.capn_layout.specs.RowWords.{kept_each};
 ghost use Rattle.capn_canon.specs.inner.WordsOfLayout.{Stand};
 
-use crate::kept::kept_in_rows;
-use crate::number_list_words::bits_of;
-use crate::pointer_words::{list_pointer, tag_word};
+use capn_layout::{bits_of, kept_in_rows, list_pointer, tag_word};
 use capn_words::{Bare, Place, Space, Width};
 
 /// The number of words.

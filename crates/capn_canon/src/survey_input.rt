@@ -5,7 +5,7 @@ ghost use Rattle.capn_value.specs.Tree.{Tree as Value};
 ghost use Rattle.capn_value.specs.FirstCap.{first_cap};
 ghost use Rattle.capn_walk.specs.Accepted.{IsBounded};
 ghost use Rattle.capn_canon.specs.Denotes.{Denotes};
-ghost use Rattle.capn_canon.specs.Layout.{canon};
+ghost use Rattle.capn_layout.specs.Layout.{canon};
 ghost use Rattle.capn_canon.specs.Refusal.{IsUnacceptedIn, IsPaidWithin};
 ghost use Rattle.capn_canon.specs.inner.Outcomes.{AreSurveyed};
 ghost use Rattle.capn_canon.specs.SurveyedBytes.{Surveys};

@@ -22,6 +22,7 @@ pub mod laws;
 mod pack_block;
 mod pack_group;
 mod packed_text;
+mod room;
 mod runs;
 mod signs;
 mod spread_table;

@@ -4,6 +4,7 @@ ghost use Rattle.capn_pack.specs.Packed.{tag_of, named_bytes};
 ghost use Rattle.capn_pack.specs.inner.Steps.{Puts};
 
 use crate::lanes::gather;
+use crate::room::text_room;
 use crate::runs::{long_run, word_at, zero_run};
 use crate::signs::tag;
 use std::alloc::{AllocError, Allocator};
@@ -45,7 +46,8 @@ fn put_raw<A: Allocator>(bytes: &[u8], at: usize, out: &mut Vec<u8, A>) -> Resul
     let start = at + 8;
     let more = long_run(bytes, start);
     let end = start + 8 * more;
-    out.reserve(10 + 8 * more)?;
+    let room = text_room(out, 10 + 8 * more, end, bytes.len());
+    out.reserve(room)?;
     out.extend_from_slice(&[255])?;
     out.extend_from_slice(&bytes[at..start])?;
     out.extend_from_slice(&[more as u8])?;

@@ -7,6 +7,7 @@ ghost use Rattle.capn_pack.specs.Chosen.{Chosen};
 use crate::fault::PackFault;
 use crate::pack_block::{ROOM, store_groups};
 use crate::pack_group::put_group;
+use crate::room::text_room;
 use std::alloc::{AllocError, Allocator};
 
 /// A block and the room for a group after it.
@@ -23,6 +24,8 @@ fn pack_words<A: Allocator + Copy>(alloc: A, bytes: &[u8]) -> Result<Vec<u8, A>,
     let mut block = [0; BLOCK];
     while at < bytes.len() {
         let stored = store_groups(bytes, at, &mut block);
+        let room = text_room(&out, stored.fill, stored.at, bytes.len());
+        out.reserve(room)?;
         out.extend_from_slice(&block[..stored.fill])?;
         at = stored.at;
         if at < bytes.len() {
@@ -34,7 +37,9 @@ fn pack_words<A: Allocator + Copy>(alloc: A, bytes: &[u8]) -> Result<Vec<u8, A>,
 
 /// The packed text of whole words, which this packer chooses. (Page: packing; where runs end is our own.)
 ///
-/// `bytes` are the words' bytes, the least first. The answer grows on `alloc` a logarithmic number of times.
+/// `bytes` are the words' bytes, the least first. The answer grows on `alloc` a logarithmic number of times: it gets
+/// room for the rest of the words, as if they packed like those before, but for 64 times what it has at most; or for
+/// twice what it has.
 ///
 /// Refusals: `NotWhole` with the number of bytes where that is no multiple of eight, before any growth; `Memory` where
 /// a growth was refused, which takes some bytes.

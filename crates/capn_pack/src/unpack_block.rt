@@ -7,6 +7,7 @@ ghost use Rattle.capn_pack.specs.inner.Steps.{Takes, TakesRow};
 
 use crate::block::{Block, store_bytes};
 use crate::lanes::spread_far;
+use crate::room::words_room;
 use crate::unpack_group::Taken;
 use std::alloc::{AllocError, Allocator};
 
@@ -277,6 +278,8 @@ pub(crate) fn take_block<A: Allocator>(
             words: 0,
         });
     }
+    let ahead = words_room(out, filled.fill, rest, room);
+    out.reserve(ahead)?;
     out.extend_from_slice(&block[..filled.fill])?;
     Ok(Taken {
         bytes: filled.at,

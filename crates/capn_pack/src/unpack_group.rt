@@ -3,6 +3,7 @@ ghost use Rattle.std.specs.Prelude.{◌≡◌, ◌<◌, length, slice_index};
 ghost use Rattle.capn_pack.specs.inner.Steps.{TakeGives};
 
 use crate::lanes::spread;
+use crate::room::words_room;
 use std::alloc::{AllocError, Allocator};
 
 /// How many bytes the longest group has: a tag, a word, a count and 255 words. An unfinished one has fewer.
@@ -101,7 +102,8 @@ fn take_raw<A: Allocator>(rest: &[u8], room: usize, out: &mut Vec<u8, A>) -> Res
     if rest.len() < bytes {
         return Err(Stop::Cut);
     }
-    out.reserve(8 + 8 * more)?;
+    let ahead = words_room(out, 8 + 8 * more, rest, room);
+    out.reserve(ahead)?;
     out.extend_from_slice(&rest[1..9])?;
     out.extend_from_slice(&rest[10..bytes])?;
     Ok(Taken {

@@ -49,8 +49,9 @@ fn unpack_groups<A: Allocator + Copy>(
 /// The words of a packed text, as their bytes. (Page: packing.)
 ///
 /// It takes what the packer would not write too: set tag bits over zero bytes, short runs, any raw words. (Own.) A text
-/// without bytes packs no words. The answer grows on `alloc` a logarithmic number of times, and only by words that the
-/// text has after the head of their group and that are within the maximum.
+/// without bytes packs no words. The answer grows on `alloc` a logarithmic number of times, and only for words that the
+/// text has after the head of their group and that are within the maximum: it gets room for twice the bytes that the
+/// text has left, within the maximum, and for these words at least; or for twice what it has.
 ///
 /// Refusals, with the offset of the group's tag: `Cut` where the group's head is cut, else `TooLong` where its words
 /// would bring their number above `max_words`, else `Cut` where its raw words are; `Memory` where a growth was

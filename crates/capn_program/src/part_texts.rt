@@ -2,7 +2,7 @@
 
 ghost use Rattle.std.specs.Prelude.{◌≡◌, ◌≢◌, ◌⊎◌, List, ℕ, false};
 ghost use Rattle.capn_words.specs.Watched.{has_failed};
-ghost use Rattle.capn_walk.specs.declared.target.Fault.TheVariants as walk_faults;
+ghost use Rattle.capn_target.specs.declared.target.Fault.TheVariants as walk_faults;
 ghost use Rattle.capn_canon.specs.declared.refusal.Refusal.TheVariants as refusals;
 ghost use Rattle.capn_show.specs.Outgoing.{outgoing};
 ghost use Rattle.capn_serve.specs.declared.fault.ServeFault.TheVariants as serve_faults;

@@ -2,16 +2,16 @@
 use Rattle.std.proofs.Common.{◌≡◌, ℕ, ◌+◌, ◌-◌, ◌≤◌, List, ◌++◌, codes, refl, subst, sym, ap, ap₂, ◌∙◌, arith}
 use Rattle.capn_words.specs.declared.pointer.Width.{Width}
 use Rattle.capn_words.specs.declared.pointer.Width.TheVariants.{W0, W1, W8, W16, W32, W64, Link, Rows}
-use Rattle.capn_value.specs.Tree.{Tree, nil, node, voids, bits, bytes, pairs, quads, octs, links, rows, cap}
+use Rattle.capn_value.specs.Tree.{Tree, nil, node, voids, numbers, links, rows, cap}
 use Rattle.capn_value.specs.Cost.{height}
 use Rattle.capn_value.specs.Text.{line, named, body_line, word_lines}
 use Rattle.capn_show.specs.Quoting.{shown_by, shown_each_by, shown_rows_by}
-use Rattle.capn_walk.specs.declared.target.Target.{Target}
-use Rattle.capn_walk.specs.declared.target.Target.TheVariants as targets
-use Rattle.capn_walk.specs.declared.target.Shape.{Shape}
-use Rattle.capn_walk.specs.declared.target.Shape.TheVariants as shapes
-use Rattle.capn_walk.specs.Shapes.{IsContent, IsPlain, RowsFit, extent}
-use Rattle.capn_walk.specs.View.{IsInMessage}
+use Rattle.capn_target.specs.declared.target.Target.{Target}
+use Rattle.capn_target.specs.declared.target.Target.TheVariants as targets
+use Rattle.capn_target.specs.declared.target.Shape.{Shape}
+use Rattle.capn_target.specs.declared.target.Shape.TheVariants as shapes
+use Rattle.capn_target.specs.Shapes.{IsContent, IsPlain, RowsFit, extent}
+use Rattle.capn_target.specs.Shapes.{IsInMessage}
 use Rattle.capn_walk.specs.ShownValue.{Shows}
 use Rattle.capn_show.specs.inner.ReadyPlaces.{IsFound, IsBody, AreReady, AreRows}
 use Rattle.capn_show.specs.inner.ReadyPlaces.{IsFoundShown, IsBodyShown, AreShown, RowsShown, WordsShown}
@@ -89,11 +89,7 @@ high m s w pads shape nil h = absurd (cc)
 high m s w pads shape (cap k) h = absurd (cc)
 high m s w pads shape (node ws ss) h = omega arith
 high m s w pads shape (voids n) h = omega arith
-high m s w pads shape (bits xs) h = omega arith
-high m s w pads shape (bytes xs) h = omega arith
-high m s w pads shape (pairs xs) h = omega arith
-high m s w pads shape (quads xs) h = omega arith
-high m s w pads shape (octs xs) h = omega arith
+high m s w pads shape (numbers a xs) h = omega arith
 high m s w pads shape (links ts) h = omega arith
 high m s w pads shape (rows bs) h = omega arith
 

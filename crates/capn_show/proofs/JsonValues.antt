@@ -1,24 +1,26 @@
 -- The JSON of what a pointer names.
-use Rattle.std.proofs.Common.{◌≡◌, ℕ, ◌+◌, List, [], ◌∷◌, ◌++◌, codes, map, subst, sym, ap, ◌∙◌}
+use Rattle.std.proofs.Common.{◌≡◌, ℕ, ◌+◌, Bool, List, [], ◌∷◌, ◌++◌, codes, map, subst, sym, ap, ◌∙◌}
 use Rattle.std.specs.Fmt.{decimal}
 use Rattle.hex.specs.Hex.{encode_lower}
 use Rattle.capn_words.specs.declared.space.Place.{Place}
 use Rattle.capn_words.specs.declared.pointer.Width.{Width}
 use Rattle.capn_words.specs.declared.pointer.Width.TheVariants.{W0, W1, W8, W16, W32, W64, Link}
+use Rattle.capn_value.specs.NumberWidth.{byte, pair, quad, oct}
 use Rattle.capn_value.specs.Tree.{Tree}
+use Rattle.capn_value.proofs.shared.Bits.{bits_again}
 use Rattle.capn_value.specs.Text.{digits_of}
-use Rattle.capn_walk.specs.declared.target.Target.{Target}
-use Rattle.capn_walk.specs.declared.target.Target.TheVariants as targets
-use Rattle.capn_walk.specs.declared.target.Shape.{Shape}
-use Rattle.capn_walk.specs.declared.target.Shape.TheVariants as shapes
-use Rattle.capn_walk.specs.Target.{target}
+use Rattle.capn_target.specs.declared.target.Target.{Target}
+use Rattle.capn_target.specs.declared.target.Target.TheVariants as targets
+use Rattle.capn_target.specs.declared.target.Shape.{Shape}
+use Rattle.capn_target.specs.declared.target.Shape.TheVariants as shapes
+use Rattle.capn_target.specs.Target.{target}
 use Rattle.capn_walk.specs.ShownValue.{Shows, ViewsShow}
 use Rattle.std.specs.Prelude.{Ok}
-use Rattle.capn_show.specs.Json.{with_commas, number_text, json_of, each_json, each_row}
+use Rattle.capn_show.specs.Json.{member, quoted, with_commas, number_text, json_of, each_json, each_row}
 use Rattle.capn_show.specs.inner.ReadyPlaces.{NumbersShown, BitsShown}
 use Rattle.capn_show.specs.inner.JsonPlaces.{IsInJson, IsFoundInJson, IsRowInJson, AreInJson, RowsInJson, WordsInJson}
 use Rattle.capn_show.specs.inner.JsonPlaces.{values_text, words_front, items_text}
-use Rattle.capn_show.proofs.FoundKinds.{as-nil, as-cap, as-voids, as-bits, as-bytes, as-pairs, as-quads, as-octs}
+use Rattle.capn_show.proofs.FoundKinds.{as-nil, as-cap, as-voids, as-bits, as-numbers}
 use Rattle.capn_show.proofs.FoundKinds.{as-node, as-links, as-rows}
 use Rattle.capn_show.proofs.JsonTexts.{struct-parts, closed}
 
@@ -39,15 +41,18 @@ module _ (m : List (List ℕ)) (s w n : ℕ) (width : Width) (Says : List ℕ �
       → IsListInJson
   bits-json e h pads v i =
       let x = as-bits m s w pads n v (known W1 pads v e i) in
-      subst Says (closed (codes "{\"bits\":\"") (digits_of x.digits) 34 ∙ sym (ap json_of x.is))
+      subst Says
+      (closed (codes "{\"bits\":\"") (digits_of x.digits) 34
+      ∙ ap (λ (bs : List Bool). member (codes "bits") (quoted (digits_of bs))) (sym (bits_again x.digits))
+      ∙ sym (ap json_of x.is))
       (h x.digits x.are x.count)
 
   pub bytes-json : width ≡ W8
       → NumbersShown m s w W8 n (λ xs. codes "{\"bytes\":\"" ++ (encode_lower xs ++ codes "\"}")) Says → IsListInJson
   bytes-json e h pads v i =
-      let x = as-bytes m s w pads n v (known W8 pads v e i) in
-      subst Says (closed (codes "{\"bytes\":\"") (encode_lower x.numbers) 34 ∙ sym (ap json_of x.is))
-      (h x.numbers x.are x.count)
+      let x = as-numbers m byte s w pads n v (known W8 pads v e i) in
+      subst Says (closed (codes "{\"bytes\":\"") (encode_lower x.items) 34 ∙ sym (ap json_of x.is))
+      (h x.items x.are x.count)
 
   -- what is said of the numbers of a list of a known width
   numbers-of : (head : List ℕ) (other : Width) → width ≡ other
@@ -58,26 +63,26 @@ module _ (m : List (List ℕ)) (s w n : ℕ) (width : Width) (Says : List ℕ �
   pub pairs-json : width ≡ W16 → NumbersShown m s w width n (values_text (codes "{\"u16\":[") width) Says
       → IsListInJson
   pairs-json e h pads v i =
-      let x = as-pairs m s w pads n v (known W16 pads v e i) in
+      let x = as-numbers m pair s w pads n v (known W16 pads v e i) in
       subst Says
-      (closed (codes "{\"u16\":[") (with_commas (map decimal x.numbers)) 93 ∙ sym (ap json_of x.is))
-      (numbers-of (codes "{\"u16\":[") W16 e h x.numbers x.are x.count)
+      (closed (codes "{\"u16\":[") (with_commas (map decimal x.items)) 93 ∙ sym (ap json_of x.is))
+      (numbers-of (codes "{\"u16\":[") W16 e h x.items x.are x.count)
 
   pub quads-json : width ≡ W32 → NumbersShown m s w width n (values_text (codes "{\"u32\":[") width) Says
       → IsListInJson
   quads-json e h pads v i =
-      let x = as-quads m s w pads n v (known W32 pads v e i) in
+      let x = as-numbers m quad s w pads n v (known W32 pads v e i) in
       subst Says
-      (closed (codes "{\"u32\":[") (with_commas (map decimal x.numbers)) 93 ∙ sym (ap json_of x.is))
-      (numbers-of (codes "{\"u32\":[") W32 e h x.numbers x.are x.count)
+      (closed (codes "{\"u32\":[") (with_commas (map decimal x.items)) 93 ∙ sym (ap json_of x.is))
+      (numbers-of (codes "{\"u32\":[") W32 e h x.items x.are x.count)
 
   pub octs-json : width ≡ W64 → NumbersShown m s w width n (values_text (codes "{\"u64\":[") width) Says
       → IsListInJson
   octs-json e h pads v i =
-      let x = as-octs m s w pads n v (known W64 pads v e i) in
+      let x = as-numbers m oct s w pads n v (known W64 pads v e i) in
       subst Says
-      (closed (codes "{\"u64\":[") (with_commas (map number_text x.numbers)) 93 ∙ sym (ap json_of x.is))
-      (numbers-of (codes "{\"u64\":[") W64 e h x.numbers x.are x.count)
+      (closed (codes "{\"u64\":[") (with_commas (map number_text x.items)) 93 ∙ sym (ap json_of x.is))
+      (numbers-of (codes "{\"u64\":[") W64 e h x.items x.are x.count)
 
 module _ (m : List (List ℕ)) where
   -- what stands at a place is what its pointer names

@@ -1,15 +1,18 @@
 -- The text of a list of elements without pointers, from its first line and what follows it.
 use Rattle.std.proofs.Common.{◌≡◌, ℕ, ◌+◌, List, ◌++◌, length, codes, subst, sym, ap, ◌∙◌}
 use Rattle.capn_words.specs.declared.pointer.Width.{Width}
-use Rattle.capn_words.specs.declared.pointer.Width.TheVariants.{W0, W1, W8, W16, W32, W64}
-use Rattle.capn_value.specs.Tree.{Tree}
-use Rattle.capn_value.specs.Text.{line, named, one_line, digits_of, number_lines}
+use Rattle.capn_words.specs.declared.pointer.Width.TheVariants.{W0, W1, W8}
+use Rattle.capn_value.specs.NumberWidth.{NumberWidth, byte}
+use Rattle.capn_value.specs.Tree.{Tree, numbers}
+use Rattle.capn_value.specs.Text.{line, named, one_line, digits_of, number_lines, numbers_name}
+use Rattle.capn_value.proofs.shared.Bits.{bits_text}
 use Rattle.capn_show.specs.Quoting.{shown_by}
-use Rattle.capn_walk.specs.declared.target.Target.TheVariants as targets
-use Rattle.capn_walk.specs.declared.target.Shape.TheVariants as shapes
+use Rattle.capn_target.specs.declared.target.Target.TheVariants as targets
+use Rattle.capn_target.specs.declared.target.Shape.TheVariants as shapes
+use Rattle.capn_target.specs.Target.{list_width}
 use Rattle.capn_walk.specs.ShownValue.{Shows}
 use Rattle.capn_show.specs.inner.ReadyPlaces.{AreNumbers, IsFoundShown, NumbersShown, BitsShown}
-use Rattle.capn_show.proofs.FoundKinds.{as-voids, as-bits, as-bytes, as-pairs, as-quads, as-octs}
+use Rattle.capn_show.proofs.FoundKinds.{as-voids, as-bits, as-numbers}
 
 module _ (by : ℕ → List ℕ → List ℕ) where
   module _ (m : List (List ℕ)) (s w n level : ℕ) (width : Width) (Says : List ℕ → Type 0) where
@@ -28,8 +31,8 @@ module _ (by : ℕ → List ℕ → List ℕ) where
 
     pub bytes-shown : width ≡ W8 → NumbersShown m s w W8 n (by level) Says → IsListShown
     bytes-shown e k pads v i =
-        let x = as-bytes m s w pads n v (known W8 pads v e i) in
-        subst Says (sym (ap (shown_by by level) x.is)) (k x.numbers x.are x.count)
+        let x = as-numbers m byte s w pads n v (known W8 pads v e i) in
+        subst Says (sym (ap (shown_by by level) x.is)) (k x.items x.are x.count)
 
     module _ (Below : List ℕ → Type 0) where
       pub bits-shown : width ≡ W1 → ((y : List ℕ) → Below y → Says (line level (named (codes "bits") n) ++ y))
@@ -38,36 +41,20 @@ module _ (by : ℕ → List ℕ → List ℕ) where
           let x = as-bits m s w pads n v (known W1 pads v e i) in
           let rest = one_line (level + 1) (length x.digits) (digits_of x.digits) in
           subst Says
-          (ap (λ (j : ℕ). line level (named (codes "bits") j) ++ rest) (sym x.count)
+          (ap (λ (j : ℕ). line level (named (codes "bits") j) ++ rest) (sym x.count) ∙ bits_text level x.digits
           ∙ sym (ap (shown_by by level) x.is))
           (step rest (k x.digits x.are x.count))
 
-      pub pairs-shown : width ≡ W16 → ((y : List ℕ) → Below y → Says (line level (named (codes "u16") n) ++ y))
+      pub numbers-shown : (a : NumberWidth)
+          → ((xs : List ℕ) → shown_by by level (numbers a xs)
+          ≡ line level (named (numbers_name a) (length xs)) ++ number_lines (level + 1) xs)
+          → width ≡ list_width a → ((y : List ℕ) → Below y → Says (line level (named (numbers_name a) n) ++ y))
           → NumbersShown m s w width n (number_lines (level + 1)) Below → IsListShown
-      pairs-shown e step k pads v i =
-          let x = as-pairs m s w pads n v (known W16 pads v e i) in
-          let rest = number_lines (level + 1) x.numbers in
-          let are = subst (λ (y : Width). AreNumbers m s w y x.numbers) (sym e) x.are in
+      numbers-shown a each e step k pads v i =
+          let x = as-numbers m a s w pads n v (known (list_width a) pads v e i) in
+          let rest = number_lines (level + 1) x.items in
+          let are = subst (λ (y : Width). AreNumbers m s w y x.items) (sym e) x.are in
           subst Says
-          (ap (λ (j : ℕ). line level (named (codes "u16") j) ++ rest) (sym x.count) ∙ sym (ap (shown_by by level) x.is))
-          (step rest (k x.numbers are x.count))
-
-      pub quads-shown : width ≡ W32 → ((y : List ℕ) → Below y → Says (line level (named (codes "u32") n) ++ y))
-          → NumbersShown m s w width n (number_lines (level + 1)) Below → IsListShown
-      quads-shown e step k pads v i =
-          let x = as-quads m s w pads n v (known W32 pads v e i) in
-          let rest = number_lines (level + 1) x.numbers in
-          let are = subst (λ (y : Width). AreNumbers m s w y x.numbers) (sym e) x.are in
-          subst Says
-          (ap (λ (j : ℕ). line level (named (codes "u32") j) ++ rest) (sym x.count) ∙ sym (ap (shown_by by level) x.is))
-          (step rest (k x.numbers are x.count))
-
-      pub octs-shown : width ≡ W64 → ((y : List ℕ) → Below y → Says (line level (named (codes "u64") n) ++ y))
-          → NumbersShown m s w width n (number_lines (level + 1)) Below → IsListShown
-      octs-shown e step k pads v i =
-          let x = as-octs m s w pads n v (known W64 pads v e i) in
-          let rest = number_lines (level + 1) x.numbers in
-          let are = subst (λ (y : Width). AreNumbers m s w y x.numbers) (sym e) x.are in
-          subst Says
-          (ap (λ (j : ℕ). line level (named (codes "u64") j) ++ rest) (sym x.count) ∙ sym (ap (shown_by by level) x.is))
-          (step rest (k x.numbers are x.count))
+          (ap (λ (j : ℕ). line level (named (numbers_name a) j) ++ rest) (sym x.count) ∙ sym (each x.items)
+          ∙ sym (ap (shown_by by level) x.is))
+          (step rest (k x.items are x.count))

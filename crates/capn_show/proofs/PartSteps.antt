@@ -9,18 +9,19 @@ use Rattle.capn_words.specs.declared.space.Place.{Place}
 use Rattle.capn_value.specs.Tree.{Tree, node, Trees}
 use Rattle.capn_value.specs.Tree.{no_trees, tree, Bodies, no_bodies, body, count, count_rows, tree_at}
 use Rattle.capn_value.specs.Cost.{height}
-use Rattle.capn_walk.specs.declared.target.Target.{Target}
-use Rattle.capn_walk.specs.declared.target.Target.TheVariants as targets
-use Rattle.capn_walk.specs.declared.target.Shape.{Shape}
-use Rattle.capn_walk.specs.declared.target.Shape.TheVariants as shapes
-use Rattle.capn_walk.specs.declared.target.Fault.{Fault}
-use Rattle.capn_walk.specs.Target.{target}
+use Rattle.capn_target.specs.declared.target.Target.{Target}
+use Rattle.capn_target.specs.declared.target.Target.TheVariants as targets
+use Rattle.capn_target.specs.declared.target.Shape.{Shape}
+use Rattle.capn_target.specs.declared.target.Shape.TheVariants as shapes
+use Rattle.capn_target.specs.declared.target.Fault.{Fault}
+use Rattle.capn_target.specs.Target.{target}
 use Rattle.capn_walk.specs.ValueAt.{IsAt}
-use Rattle.capn_walk.specs.Shapes.{RowsFit}
+use Rattle.capn_target.specs.Shapes.{RowsFit}
 use Rattle.capn_walk.specs.ShownValue.{Shows, words_of_row, slots_of_row}
 use Rattle.capn_show.specs.Part.{nth_tree, nth_row, step_down, follow}
 use Rattle.capn_show.specs.inner.ReadyPlaces.{HasValue, Holds, LeadsTo, struct_at}
-use Rattle.capn_show.proofs.FoundKinds.{as-nil, as-cap, as-voids, as-bits, as-bytes, as-pairs, as-quads, as-octs}
+use Rattle.capn_value.specs.NumberWidth.{bit, byte, pair, quad, oct}
+use Rattle.capn_show.proofs.FoundKinds.{as-nil, as-cap, as-voids, as-numbers}
 use Rattle.capn_show.proofs.FoundKinds.{as-node, as-links, as-rows}
 use Rattle.capn_show.proofs.SlotTexts.{low-at, row-low}
 use Rattle.capn_show.proofs.Steps.{found}
@@ -87,11 +88,11 @@ module _ (m : List (List ℕ)) where
       → RowsFit (shapes.Many width n) → Shows m (targets.Content s w (shapes.Many width n) pads) v
       → step_down v i ≡ None
   plain-none s w pads W0 n i v other fit h = ap (λ (u : Tree). step_down u i) (as-voids m s w pads n v h)
-  plain-none s w pads W1 n i v other fit h = ap (λ (u : Tree). step_down u i) (as-bits m s w pads n v h).is
-  plain-none s w pads W8 n i v other fit h = ap (λ (u : Tree). step_down u i) (as-bytes m s w pads n v h).is
-  plain-none s w pads W16 n i v other fit h = ap (λ (u : Tree). step_down u i) (as-pairs m s w pads n v h).is
-  plain-none s w pads W32 n i v other fit h = ap (λ (u : Tree). step_down u i) (as-quads m s w pads n v h).is
-  plain-none s w pads W64 n i v other fit h = ap (λ (u : Tree). step_down u i) (as-octs m s w pads n v h).is
+  plain-none s w pads W1 n i v other fit h = ap (λ (u : Tree). step_down u i) (as-numbers m bit s w pads n v h).is
+  plain-none s w pads W8 n i v other fit h = ap (λ (u : Tree). step_down u i) (as-numbers m byte s w pads n v h).is
+  plain-none s w pads W16 n i v other fit h = ap (λ (u : Tree). step_down u i) (as-numbers m pair s w pads n v h).is
+  plain-none s w pads W32 n i v other fit h = ap (λ (u : Tree). step_down u i) (as-numbers m quad s w pads n v h).is
+  plain-none s w pads W64 n i v other fit h = ap (λ (u : Tree). step_down u i) (as-numbers m oct s w pads n v h).is
   plain-none s w pads Link n i v other fit h = absurd (other refl)
   plain-none s w pads Rows n i v other fit h = absurd fit
 

@@ -1,6 +1,7 @@
 -- The text of a tree whose lists of bytes are all in digits.
 use Rattle.std.proofs.Common.{◌≡◌, ℕ, ◌+◌, List, ◌++◌, length, codes, refl, ap, ap₂}
-use Rattle.capn_value.specs.Tree.{Tree, nil, node, voids, bits, bytes, pairs, quads, octs, links, rows, cap, Trees}
+use Rattle.capn_value.specs.NumberWidth.{byte}
+use Rattle.capn_value.specs.Tree.{Tree, nil, node, voids, numbers, links, rows, cap, Trees}
 use Rattle.capn_value.specs.Tree.{no_trees, tree, Bodies, no_bodies, body, count, count_rows}
 use Rattle.capn_value.specs.Text.{line, named, body_line, word_lines, shown, shown_each, shown_rows}
 use Rattle.capn_show.specs.Quoting.{plain_bytes, shown_by, shown_each_by, shown_rows_by}
@@ -12,11 +13,8 @@ mutual
       ap (λ (l : List ℕ). body_line level (length ws) (count ss) ++ (word_lines (level + 1) ws ++ l))
       (plain-each (level + 1) ss)
   plain-shown level (voids n) = refl
-  plain-shown level (bits xs) = refl
-  plain-shown level (bytes xs) = refl
-  plain-shown level (pairs xs) = refl
-  plain-shown level (quads xs) = refl
-  plain-shown level (octs xs) = refl
+  plain-shown level (numbers byte xs) = refl
+  plain-shown level (numbers a xs) = refl
   plain-shown level (links ts) =
       ap (λ (l : List ℕ). line level (named (codes "pointers") (count ts)) ++ l) (plain-each (level + 1) ts)
   plain-shown level (rows bs) =

@@ -1,12 +1,12 @@
 -- A step of the text's recursion: a place with a value has a target, and what is shown there is the value.
 use Rattle.std.proofs.Common.{◌≡◌, ℕ, ◌+◌, ◌*◌, ◌<◌, List, Ok, Err, sym, arith}
 use Rattle.capn_words.specs.declared.space.Place.{Place}
-use Rattle.capn_value.specs.Tree.{Tree, nil, node, voids, bits, bytes, pairs, quads, octs, links, rows, cap}
+use Rattle.capn_value.specs.Tree.{Tree, nil, node, voids, numbers, links, rows, cap}
 use Rattle.capn_value.specs.Tree.{count, count_rows, tree_at}
-use Rattle.capn_walk.specs.declared.target.Target.{Target}
-use Rattle.capn_walk.specs.declared.target.Target.TheVariants as targets
-use Rattle.capn_walk.specs.declared.target.Fault.{Fault}
-use Rattle.capn_walk.specs.Target.{target}
+use Rattle.capn_target.specs.declared.target.Target.{Target}
+use Rattle.capn_target.specs.declared.target.Target.TheVariants as targets
+use Rattle.capn_target.specs.declared.target.Fault.{Fault}
+use Rattle.capn_target.specs.Target.{target}
 use Rattle.capn_walk.specs.ValueAt.{IsAt}
 use Rattle.capn_walk.specs.ShownValue.{ViewsShow, words_of_row, slots_of_row}
 use Rattle.capn_show.specs.inner.ReadyPlaces.{IsReady, IsFound, IsBody, AreReady, AreRows, IsShown, IsFoundShown}
@@ -19,11 +19,7 @@ module _ (m : List (List ℕ)) where
   found at (cap k) h = (targets.Cap k, h)
   found at (node ws ss) h = (_, h.is)
   found at (voids n) h = (_, h.is)
-  found at (bits xs) h = (_, h.is)
-  found at (bytes xs) h = (_, h.is)
-  found at (pairs xs) h = (_, h.is)
-  found at (quads xs) h = (_, h.is)
-  found at (octs xs) h = (_, h.is)
+  found at (numbers a xs) h = (_, h.is)
   found at (links ts) h = (_, h.is)
   found at (rows bs) h = (_, h.3.is)
 

@@ -2,7 +2,7 @@
 use Rattle.std.proofs.Common.{ℕ, ◌+◌, ◌/◌, ◌<◌, ◌≤◌, arith}
 use Rattle.capn_words.specs.declared.pointer.Width.{Width}
 use Rattle.capn_words.specs.declared.pointer.Width.TheVariants.{W0, W1, W8, W16, W32, W64, Link, Rows}
-use Rattle.capn_walk.specs.Target.{content_words}
+use Rattle.capn_target.specs.Target.{content_words}
 use Rattle.capn_walk.specs.View.{per_word}
 use Rattle.capn_show.specs.inner.ReadyPlaces.{HasNumbers}
 

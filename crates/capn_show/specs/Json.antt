@@ -1,10 +1,11 @@
 -- The JSON of a tree: one line without blanks. (Own.)
-use Rattle.std.specs.Prelude.{◌≡◌, ℕ, List, [], ◌∷◌, ◌++◌, codes, map, true, false, refl}
+use Rattle.std.specs.Prelude.{◌≡◌, ℕ, List, [], ◌∷◌, ◌++◌, codes, map, refl}
 use Rattle.std.specs.Fmt.{decimal}
 use Rattle.hex.specs.Hex.{encode_lower}
-use Rattle.capn_value.specs.Tree.{Tree, nil, node, voids, bits, bytes, pairs, quads, octs, links, rows, cap, Trees}
+use Rattle.capn_value.specs.NumberWidth.{NumberWidth, bit, byte, pair, oct, is_set}
+use Rattle.capn_value.specs.Tree.{Tree, nil, node, voids, numbers, links, rows, cap, Trees}
 use Rattle.capn_value.specs.Tree.{no_trees, tree, Bodies, no_bodies, body}
-use Rattle.capn_value.specs.Text.{hex16, digits_of}
+use Rattle.capn_value.specs.Text.{hex16, digits_of, numbers_name}
 
 -- between quotes
 abbrev pub quoted : List ℕ → List ℕ
@@ -40,17 +41,20 @@ abbrev pub struct_text : List ℕ → List (List ℕ) → List ℕ
 struct_text ws slots =
     codes "{\"words\":" ++ (array (map word_text ws) ++ (codes ",\"slots\":" ++ (array slots ++ codes "}")))
 
+-- the numbers of a list, by their width: digits for bits and for bytes, else an array
+abbrev pub numbers_text : NumberWidth → List ℕ → List ℕ
+numbers_text bit xs = quoted (digits_of (map is_set xs))
+numbers_text byte xs = quoted (encode_lower xs)
+numbers_text oct xs = array (map number_text xs)
+numbers_text _ xs = array (map decimal xs)
+
 -- a value: null, or an object that is named after its kind
 abbrev mutual
   pub json_of : Tree → List ℕ
   json_of nil = codes "null"
   json_of (node ws ss) = struct_text ws (each_json ss)
   json_of (voids n) = member (codes "void") (decimal n)
-  json_of (bits xs) = member (codes "bits") (quoted (digits_of xs))
-  json_of (bytes xs) = member (codes "bytes") (quoted (encode_lower xs))
-  json_of (pairs xs) = member (codes "u16") (array (map decimal xs))
-  json_of (quads xs) = member (codes "u32") (array (map decimal xs))
-  json_of (octs xs) = member (codes "u64") (array (map number_text xs))
+  json_of (numbers a xs) = member (numbers_name a) (numbers_text a xs)
   json_of (links ts) = member (codes "pointers") (array (each_json ts))
   json_of (rows bs) = member (codes "rows") (array (each_row bs))
   json_of (cap k) = member (codes "capability") (decimal k)
@@ -78,11 +82,11 @@ one_after_the_other = refl
 between_quotes : quoted (codes "12") ≡ codes "\"12\""
 between_quotes = refl
 
-two_slots : json_of (node [] (tree nil (tree (bits (true ∷ false ∷ [])) no_trees)))
+two_slots : json_of (node [] (tree nil (tree (numbers bit (1 ∷ 0 ∷ [])) no_trees)))
     ≡ codes "{\"words\":[],\"slots\":[null,{\"bits\":\"10\"}]}"
 two_slots = refl
 
-empty_lists : json_of (links (tree (pairs []) (tree (octs []) no_trees)))
+empty_lists : json_of (links (tree (numbers pair []) (tree (numbers oct []) no_trees)))
     ≡ codes "{\"pointers\":[{\"u16\":[]},{\"u64\":[]}]}"
 empty_lists = refl
 

@@ -1,6 +1,7 @@
 -- What stands at a way of numbers from a value, and its text. (Own.)
 use Rattle.std.specs.Prelude.{◌≡◌, ℕ, zero, suc, List, [], ◌∷◌, Option, Some, None, codes, refl}
-use Rattle.capn_value.specs.Tree.{Tree, nil, node, octs, links, rows, cap, Trees, no_trees, tree, Bodies, no_bodies}
+use Rattle.capn_value.specs.NumberWidth.{oct}
+use Rattle.capn_value.specs.Tree.{Tree, nil, node, numbers, links, rows, cap, Trees, no_trees, tree, Bodies, no_bodies}
 use Rattle.capn_value.specs.Tree.{body}
 use Rattle.capn_value.specs.Text.{line, show_text}
 
@@ -44,12 +45,12 @@ text_at way t = part_text (at_way t way)
 
 -- a list of two rows, each with a slot
 abbrev two_rows : Tree
-two_rows = rows (body [] (tree (cap 4) no_trees) (body (7 ∷ []) (tree (octs (8 ∷ [])) no_trees) no_bodies))
+two_rows = rows (body [] (tree (cap 4) no_trees) (body (7 ∷ []) (tree (numbers oct (8 ∷ [])) no_trees) no_bodies))
 
 first_row : at_way two_rows (0 ∷ []) ≡ Some (node [] (tree (cap 4) no_trees))
 first_row = refl
 
-slot_of_a_row : at_way (node [] (tree nil (tree two_rows no_trees))) (1 ∷ 1 ∷ 0 ∷ []) ≡ Some (octs (8 ∷ []))
+slot_of_a_row : at_way (node [] (tree nil (tree two_rows no_trees))) (1 ∷ 1 ∷ 0 ∷ []) ≡ Some (numbers oct (8 ∷ []))
 slot_of_a_row = refl
 
 null_is_there : at_way (node [] (tree nil no_trees)) (0 ∷ []) ≡ Some nil

@@ -2,9 +2,10 @@
 use Rattle.std.specs.Prelude.{◌≡◌, ℕ, ◌+◌, List, [], ◌∷◌, ◌++◌, length, codes, Bool, true, false, ◌&&◌, ◌||◌, ◌==◌}
 use Rattle.std.specs.Prelude.{nat_le, if◌then◌else◌, refl}
 use Rattle.hex.specs.Hex.{encode_lower}
-use Rattle.capn_value.specs.Tree.{Tree, nil, node, voids, bits, bytes, pairs, quads, octs, links, rows, cap, Trees}
+use Rattle.capn_value.specs.NumberWidth.{byte}
+use Rattle.capn_value.specs.Tree.{Tree, nil, node, voids, numbers, links, rows, cap, Trees}
 use Rattle.capn_value.specs.Tree.{no_trees, tree, Bodies, no_bodies, body, count, count_rows}
-use Rattle.capn_value.specs.Text.{line, named, one_line, body_line, word_lines, number_lines, digits_of}
+use Rattle.capn_value.specs.Text.{line, named, one_line, body_line, word_lines, numbers_name, numbers_lines}
 
 -- a byte from 0x20 to 0x7e
 abbrev pub is_printable : ℕ → Bool
@@ -45,12 +46,9 @@ module _ (bytes_at : ℕ → List ℕ → List ℕ) where
     shown_by level (node ws ss) =
         body_line level (length ws) (count ss) ++ (word_lines (level + 1) ws ++ shown_each_by (level + 1) ss)
     shown_by level (voids n) = line level (named (codes "void") n)
-    shown_by level (bits xs) =
-        line level (named (codes "bits") (length xs)) ++ one_line (level + 1) (length xs) (digits_of xs)
-    shown_by level (bytes xs) = bytes_at level xs
-    shown_by level (pairs xs) = line level (named (codes "u16") (length xs)) ++ number_lines (level + 1) xs
-    shown_by level (quads xs) = line level (named (codes "u32") (length xs)) ++ number_lines (level + 1) xs
-    shown_by level (octs xs) = line level (named (codes "u64") (length xs)) ++ number_lines (level + 1) xs
+    shown_by level (numbers byte xs) = bytes_at level xs
+    shown_by level (numbers a xs) =
+        line level (named (numbers_name a) (length xs)) ++ numbers_lines a (level + 1) xs
     shown_by level (links ts) = line level (named (codes "pointers") (count ts)) ++ shown_each_by (level + 1) ts
     shown_by level (rows bs) = line level (named (codes "rows") (count_rows bs)) ++ shown_rows_by (level + 1) bs
     shown_by level (cap k) = line level (named (codes "capability") k)

@@ -1,6 +1,7 @@
 -- The text of what stands at a way of numbers from a value, in a style. (Own.)
 use Rattle.std.specs.Prelude.{◌≡◌, ℕ, List, [], ◌∷◌, ◌++◌, Option, Some, None, codes, refl}
-use Rattle.capn_value.specs.Tree.{Tree, nil, node, bytes, no_trees, tree}
+use Rattle.capn_value.specs.NumberWidth.{byte}
+use Rattle.capn_value.specs.Tree.{Tree, nil, node, numbers, no_trees, tree}
 use Rattle.capn_value.specs.Text.{line, named, shown}
 use Rattle.capn_show.specs.Part.{at_way, part_text, text_at}
 use Rattle.capn_show.specs.Quoting.{quoted_bytes, shown_by}
@@ -22,7 +23,7 @@ styled style way t = part_in style (at_way t way)
 
 -- a slot with the bytes of a text
 abbrev with_text : Tree
-with_text = node [] (tree (bytes (104 ∷ 34 ∷ 0 ∷ [])) no_trees)
+with_text = node [] (tree (numbers byte (104 ∷ 34 ∷ 0 ∷ [])) no_trees)
 
 in_lines : (way : List ℕ) (t : Tree) → styled styles.Lines way t ≡ text_at way t
 in_lines way t = refl
@@ -31,7 +32,7 @@ between_quotes : styled styles.Quoted (0 ∷ []) with_text
     ≡ line 0 (named (codes "bytes") 3 ++ codes " \"h\\\"\\0\"")
 between_quotes = refl
 
-no_text : styled styles.Quoted [] (bytes (255 ∷ [])) ≡ shown 0 (bytes (255 ∷ []))
+no_text : styled styles.Quoted [] (numbers byte (255 ∷ [])) ≡ shown 0 (numbers byte (255 ∷ []))
 no_text = refl
 
 nothing_there : styled styles.Quoted (1 ∷ []) with_text ≡ line 0 (codes "none")

@@ -1,7 +1,7 @@
 -- What becomes of a message, of whose value a text is made. (Own.)
 use Rattle.std.specs.Prelude.{◌≡◌, ◌⊎◌, ℕ, List}
 use Rattle.capn_value.specs.Tree.{Tree}
-use Rattle.capn_walk.specs.declared.target.Fault.TheVariants as faults
+use Rattle.capn_target.specs.declared.target.Fault.TheVariants as faults
 use Rattle.capn_walk.specs.Accepted.{IsValueOf, IsWalkRefused}
 use Rattle.capn_walk.specs.Limits.{Bounds}
 use Rattle.capn_show.specs.Outgoing.{Outgoing, Adds, BreaksOff}

@@ -5,8 +5,8 @@ ghost use Rattle.hex.specs.Hex.{encode_lower};
 ghost use Rattle.capn_words.specs.Message.{IsMessage};
 ghost use Rattle.capn_words.specs.declared.pointer.Width.TheVariants as widths;
 ghost use Rattle.capn_value.specs.Text as form;
-ghost use Rattle.capn_walk.specs.Shapes.{IsContent};
-ghost use Rattle.capn_walk.specs.Target.{content_words};
+ghost use Rattle.capn_target.specs.Shapes.{IsContent};
+ghost use Rattle.capn_target.specs.Target.{content_words};
 ghost use Rattle.capn_show.specs.inner.ReadyPlaces.{NumbersShown};
 ghost use Rattle.capn_show.specs.Outgoing.{Adds, BreaksOff, outgoing};
 

@@ -3,8 +3,8 @@
 ghost use Rattle.std.specs.Prelude.{◌≡◌, ◌<◌, ◌≤◌, ◌+◌, ◌^◌, ◌||◌, ◌==◌, length, take, IfErr, OnOk};
 ghost use Rattle.capn_words.specs.Message.{IsMessage};
 ghost use Rattle.capn_words.specs.declared.pointer.Width.TheVariants as widths;
-ghost use Rattle.capn_walk.specs.Shapes.{IsContent};
-ghost use Rattle.capn_walk.specs.Target.{content_words};
+ghost use Rattle.capn_target.specs.Shapes.{IsContent};
+ghost use Rattle.capn_target.specs.Target.{content_words};
 ghost use Rattle.capn_show.specs.Outgoing.{Adds, BreaksOff, outgoing};
 ghost use Rattle.capn_show.specs.Quoting as quoting;
 ghost use Rattle.capn_show.specs.inner.ReadyPlaces as places;

@@ -3,7 +3,7 @@
 ghost use Rattle.std.specs.Prelude.{◌≡◌, ℕ, ◌+◌, ◌*◌, ◌<◌, ◌^◌, IfErr, IfNone, IfSome, None, OnOk};
 ghost use Rattle.capn_words.specs.Message.{IsMessage, IsPlace};
 ghost use Rattle.capn_value.specs.Tree.{Tree};
-ghost use Rattle.capn_walk.specs.View.{IsInMessage};
+ghost use Rattle.capn_target.specs.Shapes.{IsInMessage};
 ghost use Rattle.capn_walk.specs.ValueAt.{IsAt};
 ghost use Rattle.capn_walk.specs.ShownValue.{Shows};
 ghost use Rattle.capn_walk.specs.Accepted.{root};

@@ -2,11 +2,11 @@
 
 ghost use Rattle.std.specs.Prelude.{◌≡◌, ℕ, ◌<◌, ◌≤◌, ◌+◌, ◌*◌, ◌^◌, length, IfErr, OnOk};
 ghost use Rattle.capn_words.specs.Message.{IsMessage, IsPlace};
-ghost use Rattle.capn_walk.specs.declared.target.Target.TheVariants as targets;
-ghost use Rattle.capn_walk.specs.declared.target.Shape.TheVariants as shapes;
-ghost use Rattle.capn_walk.specs.Target.{content_words};
-ghost use Rattle.capn_walk.specs.Shapes.{IsContent, IsPlain};
-ghost use Rattle.capn_walk.specs.View.{IsInMessage};
+ghost use Rattle.capn_target.specs.declared.target.Target.TheVariants as targets;
+ghost use Rattle.capn_target.specs.declared.target.Shape.TheVariants as shapes;
+ghost use Rattle.capn_target.specs.Target.{content_words};
+ghost use Rattle.capn_target.specs.Shapes.{IsContent, IsPlain};
+ghost use Rattle.capn_target.specs.Shapes.{IsInMessage};
 ghost use Rattle.capn_show.specs.Outgoing.{Adds, BreaksOff, outgoing};
 ghost use Rattle.capn_show.specs.inner.ReadyPlaces.{IsReady, IsFound, IsBody, AreReady, AreRows, bytes_of};
 ghost use Rattle.capn_show.specs.inner.ReadyPlaces.{IsShown, IsFoundShown, IsBodyShown, AreShown, RowsShown};

@@ -1,8 +1,10 @@
 -- What is read as a tree is as high as the reader goes at most.
-use Rattle.std.proofs.Common.{◌≡◌, ℕ, zero, suc, ◌+◌, ◌≤◌, arith, List, [], ◌∷◌, Option, Some, subst}
+use Rattle.std.proofs.Common.{◌≡◌, ℕ, zero, suc, ◌+◌, ◌≤◌, arith, List, [], ◌∷◌, Option, Some, subst, map}
 use Rattle.std.proofs.Math.Nat.{max-le}
 use Rattle.std.specs.List.{AllByRecursion}
-use Rattle.capn_value.specs.Tree.{Tree, nil, node, voids, bits, bytes, pairs, quads, octs, links, rows, cap, Trees}
+use Rattle.std.specs.Int.{from_bool}
+use Rattle.capn_value.specs.NumberWidth.{bit, byte, pair, quad, oct}
+use Rattle.capn_value.specs.Tree.{Tree, nil, node, voids, numbers, links, rows, cap, Trees}
 use Rattle.capn_value.specs.TreeOf.{trees, rows_from}
 use Rattle.capn_value.specs.Cost.{height, greatest, greatest_in_rows}
 use Rattle.capn_text.specs.inner.Tokens.{◌>>=◌, byte_at, bit_at, many, word_line_at, number_line_at, row_line_at}
@@ -52,15 +54,17 @@ leaf_low : (room level : ℕ) (leaf : Leaf) (n : ℕ) (t : List ℕ) (x : Tree �
 unfolding leaf_at
 leaf_low room level leaves.Voids n t x e = subst (Within (suc room)) (some_is (voids n, t) x e) (omega arith)
 leaf_low room level leaves.Bits n t x e =
-    made_low (suc room) bits (row_line_at bit_at (level + 1) n t) x (λ y. omega arith) e
+    made_low (suc room) (λ xs. numbers bit (map from_bool xs)) (row_line_at bit_at (level + 1) n t) x
+    (λ y. omega arith) e
 leaf_low room level leaves.Bytes n t x e =
-    made_low (suc room) bytes (row_line_at byte_at (level + 1) n t) x (λ y. omega arith) e
+    made_low (suc room) (numbers byte) (row_line_at byte_at (level + 1) n t) x (λ y. omega arith) e
 leaf_low room level leaves.Pairs n t x e =
-    made_low (suc room) pairs (many (number_line_at 65535 (level + 1)) n t) x (λ y. omega arith) e
+    made_low (suc room) (numbers pair) (many (number_line_at 65535 (level + 1)) n t) x (λ y. omega arith) e
 leaf_low room level leaves.Quads n t x e =
-    made_low (suc room) quads (many (number_line_at 4294967295 (level + 1)) n t) x (λ y. omega arith) e
+    made_low (suc room) (numbers quad) (many (number_line_at 4294967295 (level + 1)) n t) x (λ y. omega arith) e
 leaf_low room level leaves.Octs n t x e =
-    made_low (suc room) octs (many (number_line_at 18446744073709551615 (level + 1)) n t) x (λ y. omega arith) e
+    made_low (suc room) (numbers oct) (many (number_line_at 18446744073709551615 (level + 1)) n t) x
+    (λ y. omega arith) e
 
 module _ (room : ℕ) (low : (level : ℕ) (t : List ℕ) (v : Tree) (rest : List ℕ) → tree_at room level t ≡ Some (v, rest)
     → height v ≤ room) where

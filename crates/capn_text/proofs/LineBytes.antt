@@ -1,8 +1,7 @@
 -- Each line is one: no newline stands within what a line says.
-use Rattle.std.proofs.Common.{◌≡◌, ◌+◌, ◌*◌, ◌/◌, ◌%◌, ◌^◌, ◌<◌, ◌≤◌, ◌==◌, ℕ, zero, suc, Bool, true, false, cond}
+use Rattle.std.proofs.Common.{◌≡◌, ◌+◌, ◌/◌, ◌%◌, ◌^◌, ◌<◌, ◌==◌, ℕ, suc, Bool, true, false, cond}
 use Rattle.std.proofs.Common.{List, [], ◌∷◌}
-use Rattle.std.proofs.Common.{◌++◌, length, codes, Option, Some, None, refl, sym, ap, ap₂, subst, ◌∙◌, arith}
-use Rattle.std.specs.Prelude.{⊤}
+use Rattle.std.proofs.Common.{◌++◌, length, codes, refl, ap, ap₂, ◌∙◌, arith}
 use Rattle.std.specs.List.{AllByRecursion}
 use Rattle.std.specs.Fmt.{decimal}
 use Rattle.std.specs.Int.{to_be_bytes, w64}
@@ -10,9 +9,9 @@ use Rattle.std.proofs.lemmas.Bool.{ne_eqb, agree_below, agree_below_at}
 use Rattle.std.proofs.lemmas.Fmt.{decimal_by_steps}
 use Rattle.hex.specs.Hex.{encode_lower}
 use Rattle.capn_value.specs.Text.{line, hex16, digits_of, one_line}
-use Rattle.capn_text.specs.Streams.{first_lines, ended_lines}
+use Rattle.capn_text.specs.Streams.{ended_lines}
 use Rattle.capn_text.specs.inner.Stops.{AreLines}
-use Rattle.capn_text.specs.inner.Values.{Holds, greatest_number}
+use Rattle.capn_text.specs.inner.Values.{Holds}
 use Rattle.capn_text.specs.declared.heads.Leaf.TheVariants as leaves
 use Rattle.capn_text.specs.declared.heads.Name.{Name}
 use Rattle.capn_text.specs.declared.heads.Name.TheVariants as names

@@ -1,19 +1,16 @@
 -- Where the reading of one line stops.
-use Rattle.std.proofs.Common.{◌≡◌, ◌+◌, ◌^◌, ◌<◌, ◌≤◌, ◌==◌, ℕ, zero, suc, Bool, true, List, [], ◌∷◌, ◌++◌, length}
-use Rattle.std.proofs.Common.{replicate}
-use Rattle.std.proofs.Common.{Option, Some, None, refl, sym, ap, subst, ◌∙◌, append_assoc, arith}
+use Rattle.std.proofs.Common.{◌≡◌, ◌^◌, ◌<◌, ℕ, zero, suc, Bool, true, List, [], ◌∷◌, ◌++◌, length}
+use Rattle.std.proofs.Common.{Option, Some, None, refl, sym, ap, subst, arith}
 use Rattle.std.specs.Prelude.{⊤}
 use Rattle.std.specs.List.{AllByRecursion}
 use Rattle.hex.specs.Hex.{encode_lower}
 use Rattle.capn_value.specs.Text.{line, digits_of, one_line}
-use Rattle.capn_text.specs.Streams.{first_lines, ended_lines}
+use Rattle.capn_text.specs.Streams.{ended_lines}
 use Rattle.capn_text.specs.inner.Stops.{AreLines, Stops, FailsAt, LineFails}
-use Rattle.capn_text.specs.inner.Tokens.{byte_at, bit_at, many, word_line_at, number_line_at, row_line_at}
+use Rattle.capn_text.specs.inner.Tokens.{byte_at, bit_at, word_line_at, number_line_at, row_line_at}
 use Rattle.capn_text.specs.inner.Values.{Holds, head_at}
 use Rattle.capn_text.specs.declared.fault.Stop.{Stop}
 use Rattle.capn_text.specs.declared.fault.Stop.TheVariants as stops
-use Rattle.capn_text.specs.declared.heads.Head.{Head}
-use Rattle.capn_text.specs.declared.heads.Head.TheVariants as heads
 use Rattle.capn_text.proofs.TokenText.{one_byte, byte_again, byte_takes, encode_none, encode_more}
 use Rattle.capn_text.proofs.Numbers.{word_text, word_line_again, word_line_takes, number_text, number_line_again}
 use Rattle.capn_text.proofs.Numbers.{number_line_takes, one_digit, bit_again, bit_takes, row_again, row_takes}

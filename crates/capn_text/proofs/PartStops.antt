@@ -1,13 +1,15 @@
 -- Where the parts of a value stop, as the code reads them.
-use Rattle.std.proofs.Common.{◌≡◌, ◌+◌, ◌-◌, ◌^◌, ◌<◌, ◌≤◌, ℕ, zero, suc, Bool, List, [], ◌∷◌, ◌++◌, length, Option}
+use Rattle.std.proofs.Common.{◌≡◌, ◌+◌, ◌-◌, ◌^◌, ◌<◌, ◌≤◌, ℕ, zero, suc, List, [], ◌++◌, length, Option}
 use Rattle.std.proofs.Common.{Some, None}
-use Rattle.std.proofs.Common.{refl, sym, ap, subst, ◌∙◌, arith}
+use Rattle.std.proofs.Common.{map, refl, sym, ap, subst, ◌∙◌, arith}
 use Rattle.std.specs.Prelude.{Result, Ok, Err, IfErr}
-use Rattle.capn_value.specs.Tree.{Tree, node, bits, bytes, pairs, quads, octs, links, rows, Trees}
+use Rattle.std.specs.Int.{from_bool}
+use Rattle.capn_value.specs.NumberWidth.{bit, byte, pair, quad, oct}
+use Rattle.capn_value.specs.Tree.{Tree, node, numbers, links, rows, Trees}
 use Rattle.capn_value.specs.TreeOf.{trees, rows_from}
 use Rattle.capn_text.specs.Streams.{first_lines, ended_lines}
 use Rattle.capn_text.specs.inner.Stops.{Stops, Deepens, FailsAt, GivesAt, LineFails}
-use Rattle.capn_text.specs.inner.Tokens.{◌>>=◌, Gives, Fails, byte_at, bit_at, many, word_line_at, number_line_at}
+use Rattle.capn_text.specs.inner.Tokens.{◌>>=◌, Gives, Fails, byte_at, bit_at, many, word_line_at}
 use Rattle.capn_text.specs.inner.Tokens.{row_line_at}
 use Rattle.capn_text.specs.inner.Values.{Holds, head_at, leaf_at, body_at, row_of, row_at, content_at, low_at, tree_at}
 use Rattle.capn_text.specs.declared.fault.Stop.{Stop}
@@ -29,7 +31,7 @@ use Rattle.capn_text.proofs.StopLaws.{Reads, given, both, all, full_given, local
 use Rattle.capn_text.proofs.StopLaws.{any_room}
 use Rattle.capn_text.proofs.StopLaws.{not_read}
 use Rattle.capn_text.proofs.TreeStops.{tree_by, body_by, row_by, content_by, words_by, numbers_by, slots_by}
-use Rattle.capn_text.proofs.TreeStops.{tree_local, tree_full, slots_full, body_local, row_local, content_local}
+use Rattle.capn_text.proofs.TreeStops.{tree_local, tree_full, slots_full, body_local, row_local}
 use Rattle.capn_text.proofs.TreeStops.{row_full, content_full}
 
 module _ (level n : ℕ) (e : Stop) (t : List ℕ) where
@@ -37,15 +39,16 @@ module _ (level n : ℕ) (e : Stop) (t : List ℕ) where
       → FailsAt (λ r. leaf_at level leaves.Bits n) 0 e t
   unfolding leaf_at
   bits_fail_here h =
-      first_fails (λ r. row_line_at bit_at (level + 1) n) (λ xs. given (bits xs)) 0 (bits_local (level + 1) n)
-      (λ xs. full_given (bits xs)) e t (bits_fail (level + 1) n 0 e t h)
+      first_fails (λ r. row_line_at bit_at (level + 1) n)
+      (λ xs. given (numbers bit (map from_bool xs))) 0 (bits_local (level + 1) n)
+      (λ xs. full_given (numbers bit (map from_bool xs))) e t (bits_fail (level + 1) n 0 e t h)
 
   pub bytes_fail_here : LineFails e (row_line_at byte_at (level + 1) n) t
       → FailsAt (λ r. leaf_at level leaves.Bytes n) 0 e t
   unfolding leaf_at
   bytes_fail_here h =
-      first_fails (λ r. row_line_at byte_at (level + 1) n) (λ xs. given (bytes xs)) 0 (bytes_local (level + 1) n)
-      (λ xs. full_given (bytes xs)) e t (bytes_fail (level + 1) n 0 e t h)
+      first_fails (λ r. row_line_at byte_at (level + 1) n) (λ xs. given (numbers byte xs)) 0 (bytes_local (level + 1) n)
+      (λ xs. full_given (numbers byte xs)) e t (bytes_fail (level + 1) n 0 e t h)
 
   numbers_fail : (greatest : ℕ) (make : List ℕ → Tree) → greatest < 2 ^ 64
       → FailsAt (all (numbers_by greatest (level + 1)) n) 0 e t
@@ -58,17 +61,17 @@ module _ (level n : ℕ) (e : Stop) (t : List ℕ) where
   pub pairs_fail : FailsAt (all (numbers_by 65535 (level + 1)) n) 0 e t
       → FailsAt (λ r. leaf_at level leaves.Pairs n) 0 e t
   unfolding leaf_at
-  pairs_fail = numbers_fail 65535 pairs (omega arith)
+  pairs_fail = numbers_fail 65535 (numbers pair) (omega arith)
 
   pub quads_fail : FailsAt (all (numbers_by 4294967295 (level + 1)) n) 0 e t
       → FailsAt (λ r. leaf_at level leaves.Quads n) 0 e t
   unfolding leaf_at
-  quads_fail = numbers_fail 4294967295 quads (omega arith)
+  quads_fail = numbers_fail 4294967295 (numbers quad) (omega arith)
 
   pub octs_fail : FailsAt (all (numbers_by 18446744073709551615 (level + 1)) n) 0 e t
       → FailsAt (λ r. leaf_at level leaves.Octs n) 0 e t
   unfolding leaf_at
-  octs_fail = numbers_fail 18446744073709551615 octs (omega arith)
+  octs_fail = numbers_fail 18446744073709551615 (numbers oct) (omega arith)
 
 module _ (room level : ℕ) (e : Stop) (t : List ℕ) where
   -- the words of a body fail

@@ -2,7 +2,7 @@
 use Rattle.std.proofs.Common.{◌≡◌, ℕ, ◌^◌, ◌<◌, false, List, length, arith}
 use Rattle.std.specs.Prelude.{nat_lt}
 use Rattle.std.proofs.lemmas.Bool.{or_parts, ltb-false}
-use Rattle.capn_value.specs.Tree.{Tree, nil, node, voids, bits, bytes, pairs, quads, octs, links, rows, cap, Trees}
+use Rattle.capn_value.specs.Tree.{Tree, nil, node, voids, numbers, links, rows, cap, Trees}
 use Rattle.capn_value.specs.Tree.{no_trees, tree, Bodies, no_bodies, body, count}
 use Rattle.capn_value.specs.Fits.{Fits, anywhere, anywhere_in, anywhere_in_rows, is_wide, is_wide_body, has_wide_row}
 use Rattle.capn_value.specs.Fits.{is_long}
@@ -33,11 +33,7 @@ mutual
       let sizes = thin ws ss a.0 in
       (sizes.0, sizes.1, r.0, each_showable ss a.1 b.1 r.1)
   showable (voids n) w l r = r
-  showable (bits xs) w l r = few (bits xs) l
-  showable (bytes xs) w l r = (few (bytes xs) l, r)
-  showable (pairs xs) w l r = (few (pairs xs) l, r)
-  showable (quads xs) w l r = (few (quads xs) l, r)
-  showable (octs xs) w l r = (few (octs xs) l, r)
+  showable (numbers a xs) w l r = (few (numbers a xs) l, r)
   showable (links ts) w l r =
       let a = or_parts (is_wide (links ts)) (anywhere_in is_wide ts) w in
       let b = or_parts (is_long (links ts)) (anywhere_in is_long ts) l in
@@ -74,11 +70,7 @@ mutual
   in_range nil s = tt
   in_range (node ws ss) s = (s.2, each_in_range ss s.3)
   in_range (voids n) s = s
-  in_range (bits xs) s = tt
-  in_range (bytes xs) s = s.1
-  in_range (pairs xs) s = s.1
-  in_range (quads xs) s = s.1
-  in_range (octs xs) s = s.1
+  in_range (numbers a xs) s = s.1
   in_range (links ts) s = each_in_range ts s.1
   in_range (rows bs) s = rows_in_range bs s.1
   in_range (cap k) s = s

@@ -6,7 +6,7 @@ use Rattle.capn_text.specs.declared.fault.Stop.{Stop}
 use Rattle.capn_text.specs.declared.fault.Stop.TheVariants as stops
 use Rattle.capn_text.specs.inner.Tokens.{◌>>=◌, many, FailsIdly}
 use Rattle.capn_text.specs.Streams.{first_lines, ended_lines}
-use Rattle.capn_text.specs.inner.Stops.{AreLines, GoesOn, Stops, Deepens, FailsAt}
+use Rattle.capn_text.specs.inner.Stops.{AreLines, GoesOn, Stops, FailsAt}
 use Rattle.capn_text.proofs.Steps.{bind_some, some_is, then}
 use Rattle.capn_text.proofs.WholeLines.{are_none, are_both, first_front}
 

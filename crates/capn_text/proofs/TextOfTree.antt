@@ -1,17 +1,20 @@
 -- What is read as a tree is what is shown of that tree.
 use Rattle.std.proofs.Common.{◌≡◌, ℕ, zero, suc, ◌+◌, ◌^◌, ◌≤◌, ◌<◌, arith, List, [], ◌∷◌, ◌++◌, length, Option, Some}
-use Rattle.std.proofs.Common.{None, codes, refl, sym, ap, ap₂, subst, ◌∙◌}
+use Rattle.std.proofs.Common.{codes, map, refl, sym, ap, ap₂, subst, ◌∙◌}
 use Rattle.std.specs.Prelude.{⊤}
 use Rattle.hex.specs.Hex.{encode_lower}
-use Rattle.capn_value.specs.Tree.{Tree, nil, node, voids, bits, bytes, pairs, quads, octs, links, rows, cap, Trees}
+use Rattle.std.specs.Int.{from_bool}
+use Rattle.capn_value.specs.NumberWidth.{bit, byte, pair, quad, oct}
+use Rattle.capn_value.specs.Tree.{Tree, nil, node, voids, numbers, links, rows, cap, Trees}
 use Rattle.capn_value.specs.Tree.{count}
 use Rattle.capn_value.specs.Tree.{count_rows}
 use Rattle.capn_value.specs.TreeOf.{trees, rows_from}
 use Rattle.std.specs.List.{AllByRecursion}
 use Rattle.capn_value.specs.InRange.{AllBelow}
+use Rattle.std.proofs.lemmas.List.{length-map}
+use Rattle.capn_value.proofs.shared.Bits.{bits_below, bits_text}
 use Rattle.capn_text.specs.Showable.{IsShowable, EachShowable, RowsShowable}
 use Rattle.capn_value.specs.Text.{line, body_line, word_lines, number_lines, digits_of, one_line, named, shown}
-use Rattle.capn_value.specs.Text.{show_text}
 use Rattle.capn_text.specs.inner.Tokens.{◌>>=◌, byte_at, bit_at, many, word_line_at, number_line_at, row_line_at}
 use Rattle.capn_text.specs.inner.Values.{head_at, leaf_at, body_at, row_of, row_at, content_at, low_at, tree_at}
 use Rattle.capn_text.specs.inner.Values.{greatest_number, Holds}
@@ -45,14 +48,14 @@ numbers_take greatest level n t x e =
     (λ y ys. refl) (number_line_takes greatest level) n t x.0 x.1 e
 
 -- a list of numbers, by the way in which its tree is made
-list_take : (most : ℕ) (make : List ℕ → Tree) (texts : List ℕ → List ℕ) (name : Name) (level n : ℕ) (t t2 : List ℕ)
-    (r : Option (List ℕ × List ℕ)) (x : Tree × List ℕ)
-    → ((xs : List ℕ) → shown level (make xs) ≡ line level (head_text (heads.Named name (length xs))) ++ texts xs)
-    → ((y : List ℕ × List ℕ) → r ≡ Some y → (t2 ≡ texts y.0 ++ y.1) × (length y.0 ≡ n) × AllBelow most y.0)
-    → ((xs : List ℕ) → length xs < 2 ^ 64 → AllBelow most xs → IsShowable (make xs)) → n < 2 ^ 64
+list_take : {X : Type 0} (P : X → Type 0) (make : List X → Tree) (texts : List X → List ℕ) (name : Name) (level n : ℕ)
+    (t t2 : List ℕ) (r : Option (List X × List ℕ)) (x : Tree × List ℕ)
+    → ((xs : List X) → shown level (make xs) ≡ line level (head_text (heads.Named name (length xs))) ++ texts xs)
+    → ((y : List X × List ℕ) → r ≡ Some y → (t2 ≡ texts y.0 ++ y.1) × (length y.0 ≡ n) × AllByRecursion P y.0)
+    → ((xs : List X) → length xs < 2 ^ 64 → AllByRecursion P xs → IsShowable (make xs)) → n < 2 ^ 64
     → t ≡ line level (head_text (heads.Named name n)) ++ t2
     → (r >>= λ y. Some (make y.0, y.1)) ≡ Some x → Spelled level t x
-list_take most make texts name level n t t2 r x shows takes ranged few front e =
+list_take P make texts name level n t t2 r x shows takes ranged few front e =
     let y = bind_some r (λ y. Some (make y.0, y.1)) x e in
     let m = takes y.0 y.1 in
     let first : line level (head_text (heads.Named name n)) ≡ line level (head_text (heads.Named name (length y.0.0))) =
@@ -70,35 +73,28 @@ unfolding leaf_at
 leaf_takes leaves.Voids level n t t2 x few front e =
     subst (Spelled level t) (some_is (voids n, t2) x e) (front, omega arith)
 leaf_takes leaves.Bits level n t t2 x few front e =
-    let y = bind_some (row_line_at bit_at (level + 1) n t2) (λ y. Some (bits y.0, y.1)) x e in
-    let m = row_takes bit_at one_digit digits_of (λ _. ⊤) refl (λ b bs. refl)
-    (level + 1) bit_takes n t2 y.0.0 y.0.1 y.1 in
-    let xs = y.0.0 in
-    let first : line level (head_text (heads.Named (names.Leaf leaves.Bits) n))
-    ≡ line level (head_text (heads.Named (names.Leaf leaves.Bits) (length xs))) =
-    ap (λ k. line level (head_text (heads.Named (names.Leaf leaves.Bits) k))) (sym m.1) in
-    subst (Spelled level t) (some_is (bits xs, y.0.1) x y.2) (
-      then t (line level (head_text (heads.Named (names.Leaf leaves.Bits) (length xs))))
-          (one_line (level + 1) (length xs) (digits_of xs)) t2 y.0.1 (front ∙ ap (λ z. z ++ t2) first) m.0,
-      omega (arith, m.1),
-    )
+    list_take (λ _. ⊤) (λ xs. numbers bit (map from_bool xs)) (λ xs. one_line (level + 1) (length xs) (digits_of xs))
+    (names.Leaf leaves.Bits) level n t t2
+    (row_line_at bit_at (level + 1) n t2) x (λ xs. sym (bits_text level xs))
+    (λ y. row_takes bit_at one_digit digits_of (λ _. ⊤) refl (λ b bs. refl) (level + 1) bit_takes n t2 y.0 y.1)
+    (λ xs few h. (omega (arith, length-map xs from_bool), bits_below xs)) (omega arith) front e
 leaf_takes leaves.Bytes level n t t2 x few front e =
-    list_take (2 ^ 8) bytes (λ xs. one_line (level + 1) (length xs) (encode_lower xs))
+    list_take (λ k. k < 2 ^ 8) (numbers byte) (λ xs. one_line (level + 1) (length xs) (encode_lower xs))
     (names.Leaf leaves.Bytes) level n t t2
     (row_line_at byte_at (level + 1) n t2) x (λ xs. refl)
     (λ y. row_takes byte_at one_byte encode_lower (λ b. b < 2 ^ 8) encode_none encode_more
     (level + 1) byte_takes n t2 y.0 y.1)
     (λ xs few h. (few, h)) (omega arith) front e
 leaf_takes leaves.Pairs level n t t2 x few front e =
-    list_take (2 ^ 16) pairs (number_lines (level + 1)) (names.Leaf leaves.Pairs) level n t t2
+    list_take (λ k. k < 2 ^ 16) (numbers pair) (number_lines (level + 1)) (names.Leaf leaves.Pairs) level n t t2
     (many (number_line_at 65535 (level + 1)) n t2) x (λ xs. refl) (numbers_take 65535 (level + 1) n t2)
     (λ xs few h. (few, h)) (omega arith) front e
 leaf_takes leaves.Quads level n t t2 x few front e =
-    list_take (2 ^ 32) quads (number_lines (level + 1)) (names.Leaf leaves.Quads) level n t t2
+    list_take (λ k. k < 2 ^ 32) (numbers quad) (number_lines (level + 1)) (names.Leaf leaves.Quads) level n t t2
     (many (number_line_at 4294967295 (level + 1)) n t2) x (λ xs. refl) (numbers_take 4294967295 (level + 1) n t2)
     (λ xs few h. (few, h)) (omega arith) front e
 leaf_takes leaves.Octs level n t t2 x few front e =
-    list_take (2 ^ 64) octs (number_lines (level + 1)) (names.Leaf leaves.Octs) level n t t2
+    list_take (λ k. k < 2 ^ 64) (numbers oct) (number_lines (level + 1)) (names.Leaf leaves.Octs) level n t t2
     (many (number_line_at 18446744073709551615 (level + 1)) n t2) x (λ xs. refl)
     (numbers_take 18446744073709551615 (level + 1) n t2) (λ xs few h. (few, h)) (omega arith) front e
 

@@ -1,21 +1,23 @@
 -- Trees: what is shown of a tree is read as that tree, and what is read as a tree is what is shown of it.
-use Rattle.std.proofs.Common.{◌≡◌, ℕ, zero, suc, ◌+◌, ◌^◌, ◌≤◌, ◌<◌, Bool, cond, List, [], ◌∷◌, ◌++◌, length, Option}
+use Rattle.std.proofs.Common.{◌≡◌, ℕ, zero, suc, ◌+◌, ◌^◌, ◌≤◌, ◌<◌, Bool, List, [], ◌∷◌, ◌++◌, length, Option}
 use Rattle.std.proofs.Common.{Some}
-use Rattle.std.proofs.Common.{None, refl, sym, ap, ap₂, ◌∙◌, append_assoc, arith}
-use Rattle.std.specs.Prelude.{◌==◌, ⊤}
+use Rattle.std.proofs.Common.{map, refl, sym, ap, ap₂, ◌∙◌, append_assoc, arith}
+use Rattle.std.specs.Prelude.{⊤}
 use Rattle.std.specs.List.{AllByRecursion}
-use Rattle.std.proofs.lemmas.Bool.{lt-ltb}
-use Rattle.std.proofs.lemmas.List.{append-nil}
 use Rattle.hex.specs.Hex.{encode_lower}
-use Rattle.capn_value.specs.Tree.{Tree, nil, node, voids, bits, bytes, pairs, quads, octs, links, rows, cap, Trees}
+use Rattle.std.specs.Int.{from_bool}
+use Rattle.capn_value.specs.NumberWidth.{bit, byte, pair, quad, oct, is_set}
+use Rattle.capn_value.specs.Tree.{Tree, nil, node, voids, numbers, links, rows, cap, Trees}
 use Rattle.capn_value.specs.Tree.{no_trees, tree, Bodies, no_bodies, body, count, count_rows}
 use Rattle.capn_value.specs.TreeOf.{trees, rows_from}
 use Rattle.capn_value.specs.Cost.{height, greatest, greatest_in_rows}
 use Rattle.capn_value.specs.InRange.{AllBelow}
 use Rattle.capn_value.specs.Text.{line, body_line, word_lines, number_lines, digits_of, one_line, shown, shown_each}
-use Rattle.capn_value.specs.Text.{shown_rows, show_text}
-use Rattle.capn_text.specs.inner.Tokens.{◌>>=◌, byte_at, bit_at, many, word_line_at, number_line_at}
+use Rattle.capn_value.specs.Text.{shown_rows}
+use Rattle.capn_text.specs.inner.Tokens.{◌>>=◌, byte_at, bit_at, many, word_line_at, number_line_at, row_line_at}
 use Rattle.capn_text.specs.inner.Values.{Holds, head_at, leaf_at, body_at, row_of, row_at, content_at, low_at, tree_at}
+use Rattle.std.proofs.lemmas.List.{length-map}
+use Rattle.capn_value.proofs.shared.Bits.{bits_back}
 use Rattle.capn_text.specs.Showable.{IsShowable, EachShowable, RowsShowable}
 use Rattle.capn_text.specs.declared.heads.Leaf.TheVariants as leaves
 use Rattle.capn_text.specs.declared.heads.Name.TheVariants as names
@@ -195,11 +197,7 @@ unfolding leaf_at
 tree_again zero level nil rest low s = lowest level heads.Null rest tt
 tree_again zero level (node ws ss) rest low s = absurd (omega arith)
 tree_again zero level (voids n) rest low s = absurd (omega arith)
-tree_again zero level (bits xs) rest low s = absurd (omega arith)
-tree_again zero level (bytes xs) rest low s = absurd (omega arith)
-tree_again zero level (pairs xs) rest low s = absurd (omega arith)
-tree_again zero level (quads xs) rest low s = absurd (omega arith)
-tree_again zero level (octs xs) rest low s = absurd (omega arith)
+tree_again zero level (numbers a xs) rest low s = absurd (omega arith)
 tree_again zero level (links ts) rest low s = absurd (omega arith)
 tree_again zero level (rows bs) rest low s = absurd (omega arith)
 tree_again zero level (cap k) rest low s = lowest level (heads.Named names.Cap k) rest (omega arith)
@@ -210,32 +208,36 @@ tree_again (suc room) level (node ws ss) rest low s =
     (body_again room (tree_again room) level ws ss rest s.2 (omega arith) s.3)
 tree_again (suc room) level (voids n) rest low s =
     plain room level (heads.Named (names.Leaf leaves.Voids) n) rest (omega arith)
-tree_again (suc room) level (bits xs) rest low s =
+tree_again (suc room) level (numbers bit xs) rest low s =
+    let bs = map is_set xs in
     step room level (heads.Named (names.Leaf leaves.Bits) (length xs))
-    (one_line (level + 1) (length xs) (digits_of xs)) rest (omega arith)
-    ∙ ap (λ (r : Option (List Bool × List ℕ)). r >>= λ x. Some (bits x.0, x.1))
-    (row_again bit_at one_digit digits_of (λ _. ⊤) refl (λ x ys. refl) (level + 1) bit_again xs rest (every_bit xs))
-tree_again (suc room) level (bytes xs) rest low s =
+    (one_line (level + 1) (length xs) (digits_of bs)) rest (omega (arith, s.0))
+    ∙ ap (λ n. row_line_at bit_at (level + 1) n (one_line (level + 1) n (digits_of bs) ++ rest)
+    >>= λ x. Some (numbers bit (map from_bool x.0), x.1)) (sym (length-map xs is_set))
+    ∙ ap (λ (r : Option (List Bool × List ℕ)). r >>= λ x. Some (numbers bit (map from_bool x.0), x.1))
+    (row_again bit_at one_digit digits_of (λ _. ⊤) refl (λ x ys. refl) (level + 1) bit_again bs rest (every_bit bs))
+    ∙ ap (λ ys. Some (numbers bit ys, rest)) (bits_back xs s.1)
+tree_again (suc room) level (numbers byte xs) rest low s =
     step room level (heads.Named (names.Leaf leaves.Bytes) (length xs))
     (one_line (level + 1) (length xs) (encode_lower xs))
     rest (omega (arith, s.0))
-    ∙ ap (λ (r : Option (List ℕ × List ℕ)). r >>= λ x. Some (bytes x.0, x.1))
+    ∙ ap (λ (r : Option (List ℕ × List ℕ)). r >>= λ x. Some (numbers byte x.0, x.1))
     (row_again byte_at one_byte encode_lower (λ b. b < 2 ^ 8) encode_none encode_more
     (level + 1) byte_again xs rest s.1)
-tree_again (suc room) level (pairs xs) rest low s =
+tree_again (suc room) level (numbers pair xs) rest low s =
     step room level (heads.Named (names.Leaf leaves.Pairs) (length xs)) (number_lines (level + 1) xs) rest
     (omega (arith, s.0))
-    ∙ ap (λ (r : Option (List ℕ × List ℕ)). r >>= λ x. Some (pairs x.0, x.1))
+    ∙ ap (λ (r : Option (List ℕ × List ℕ)). r >>= λ x. Some (numbers pair x.0, x.1))
     (numbers_again 65535 (level + 1) (omega arith) xs rest s.1)
-tree_again (suc room) level (quads xs) rest low s =
+tree_again (suc room) level (numbers quad xs) rest low s =
     step room level (heads.Named (names.Leaf leaves.Quads) (length xs)) (number_lines (level + 1) xs) rest
     (omega (arith, s.0))
-    ∙ ap (λ (r : Option (List ℕ × List ℕ)). r >>= λ x. Some (quads x.0, x.1))
+    ∙ ap (λ (r : Option (List ℕ × List ℕ)). r >>= λ x. Some (numbers quad x.0, x.1))
     (numbers_again 4294967295 (level + 1) (omega arith) xs rest s.1)
-tree_again (suc room) level (octs xs) rest low s =
+tree_again (suc room) level (numbers oct xs) rest low s =
     step room level (heads.Named (names.Leaf leaves.Octs) (length xs)) (number_lines (level + 1) xs) rest
     (omega (arith, s.0))
-    ∙ ap (λ (r : Option (List ℕ × List ℕ)). r >>= λ x. Some (octs x.0, x.1))
+    ∙ ap (λ (r : Option (List ℕ × List ℕ)). r >>= λ x. Some (numbers oct x.0, x.1))
     (numbers_again 18446744073709551615 (level + 1) (omega arith) xs rest s.1)
 tree_again (suc room) level (links ts) rest low s =
     step room level (heads.Named names.Links (count ts)) (shown_each (level + 1) ts) rest (omega (arith, s.0))

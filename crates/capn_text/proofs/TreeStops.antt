@@ -1,28 +1,21 @@
 -- Where the reading of a tree stops.
-use Rattle.std.proofs.Common.{◌≡◌, ◌+◌, ◌^◌, ◌<◌, ◌≤◌, ℕ, zero, suc, List, [], ◌∷◌, ◌++◌, length, Option, Some, None}
-use Rattle.std.proofs.Common.{refl, sym, ap, subst, ◌∙◌, append_assoc, arith}
-use Rattle.std.proofs.lemmas.List.{append-nil}
-use Rattle.capn_value.specs.Tree.{Tree, nil, node, voids, bits, bytes, pairs, quads, octs, links, rows, cap, Trees}
+use Rattle.std.proofs.Common.{◌≡◌, ◌+◌, ◌^◌, ◌<◌, ◌≤◌, ℕ, zero, suc, List, [], ◌++◌, Some}
+use Rattle.std.proofs.Common.{map, refl, ap, subst, ◌∙◌, arith}
+use Rattle.std.specs.Int.{from_bool}
+use Rattle.capn_value.specs.NumberWidth.{bit, byte, pair, quad, oct}
+use Rattle.capn_value.specs.Tree.{Tree, nil, node, voids, numbers, links, rows, cap, Trees}
 use Rattle.capn_value.specs.Tree.{no_trees}
 use Rattle.capn_value.specs.TreeOf.{trees, rows_from}
-use Rattle.capn_value.specs.Text.{line, shown}
-use Rattle.capn_text.specs.Streams.{first_lines, ended_lines}
-use Rattle.capn_text.specs.inner.Stops.{AreLines, GoesOn, Stops, Deepens, FailsAt, LineFails}
-use Rattle.capn_text.specs.inner.Tokens.{◌>>=◌, byte_at, bit_at, many, word_line_at, number_line_at, row_line_at}
-use Rattle.capn_text.specs.inner.Values.{Holds, head_at, leaf_at, body_at, row_of, row_at, content_at, low_at, tree_at}
-use Rattle.capn_text.specs.declared.fault.Stop.{Stop}
-use Rattle.capn_text.specs.declared.fault.Stop.TheVariants as stops
+use Rattle.capn_value.specs.Text.{shown}
+use Rattle.capn_text.specs.inner.Tokens.{◌>>=◌, byte_at, bit_at, word_line_at, number_line_at, row_line_at}
+use Rattle.capn_text.specs.inner.Values.{head_at, leaf_at, body_at, row_of, row_at, content_at, low_at, tree_at}
 use Rattle.capn_text.specs.declared.heads.Leaf.{Leaf}
 use Rattle.capn_text.specs.declared.heads.Leaf.TheVariants as leaves
 use Rattle.capn_text.specs.declared.heads.Name.TheVariants as names
 use Rattle.capn_text.specs.declared.heads.Head.{Head}
 use Rattle.capn_text.specs.declared.heads.Head.TheVariants as heads
 use Rattle.capn_text.proofs.Steps.{bind_some, some_is}
-use Rattle.capn_text.proofs.HeadText.{head_text, head_again, head_takes}
 use Rattle.capn_text.proofs.TreeOfText.{tree_again, row_text, row_one}
-use Rattle.capn_text.proofs.ValueOfParts.{no_head}
-use Rattle.capn_text.proofs.WholeLines.{are_none, first_front}
-use Rattle.capn_text.proofs.LineBytes.{head_is_line}
 use Rattle.capn_text.proofs.LineStops.{word_local, word_full, number_local, number_full, bits_local, bits_full}
 use Rattle.capn_text.proofs.LineStops.{bytes_local, bytes_full, head_local}
 use Rattle.capn_text.proofs.StopLaws.{Reads, Local, Full, both, given, all, local_given, full_given, local_both}
@@ -65,14 +58,16 @@ leaf_local : (level : ℕ) (leaf : Leaf) (n room : ℕ) → Local (λ r. leaf_at
 unfolding leaf_at
 leaf_local level leaves.Voids n room = local_given (voids n) room
 leaf_local level leaves.Bits n room =
-    local_both (λ r. row_line_at bit_at (level + 1) n) (λ xs. given (bits xs)) room (bits_local (level + 1) n room)
-    (λ xs. local_given (bits xs) room)
+    local_both (λ r. row_line_at bit_at (level + 1) n)
+    (λ xs. given (numbers bit (map from_bool xs))) room (bits_local (level + 1) n room)
+    (λ xs. local_given (numbers bit (map from_bool xs)) room)
 leaf_local level leaves.Bytes n room =
-    local_both (λ r. row_line_at byte_at (level + 1) n) (λ xs. given (bytes xs)) room (bytes_local (level + 1) n room)
-    (λ xs. local_given (bytes xs) room)
-leaf_local level leaves.Pairs n room = numbers_local 65535 (level + 1) n room pairs (omega arith)
-leaf_local level leaves.Quads n room = numbers_local 4294967295 (level + 1) n room quads (omega arith)
-leaf_local level leaves.Octs n room = numbers_local 18446744073709551615 (level + 1) n room octs (omega arith)
+    local_both (λ r. row_line_at byte_at (level + 1) n)
+    (λ xs. given (numbers byte xs)) room (bytes_local (level + 1) n room)
+    (λ xs. local_given (numbers byte xs) room)
+leaf_local level leaves.Pairs n room = numbers_local 65535 (level + 1) n room (numbers pair) (omega arith)
+leaf_local level leaves.Quads n room = numbers_local 4294967295 (level + 1) n room (numbers quad) (omega arith)
+leaf_local level leaves.Octs n room = numbers_local 18446744073709551615 (level + 1) n room (numbers oct) (omega arith)
 
 module _ (room : ℕ) (near : (level : ℕ) → Local (tree_by level) room) where
   slots_local : (level s : ℕ) (ws : List ℕ) → Local (slots_by level s ws) room
@@ -199,14 +194,15 @@ leaf_full : (level : ℕ) (leaf : Leaf) (n : ℕ) → Full (λ r. leaf_at level 
 unfolding leaf_at
 leaf_full level leaves.Voids n = full_given (voids n)
 leaf_full level leaves.Bits n =
-    full_both (λ r. row_line_at bit_at (level + 1) n) (λ xs. given (bits xs)) (bits_local (level + 1) n 0)
-    (bits_full (level + 1) n) (λ xs. full_given (bits xs))
+    full_both (λ r. row_line_at bit_at (level + 1) n)
+    (λ xs. given (numbers bit (map from_bool xs))) (bits_local (level + 1) n 0)
+    (bits_full (level + 1) n) (λ xs. full_given (numbers bit (map from_bool xs)))
 leaf_full level leaves.Bytes n =
-    full_both (λ r. row_line_at byte_at (level + 1) n) (λ xs. given (bytes xs)) (bytes_local (level + 1) n 0)
-    (bytes_full (level + 1) n) (λ xs. full_given (bytes xs))
-leaf_full level leaves.Pairs n = numbers_full 65535 (level + 1) n pairs (omega arith)
-leaf_full level leaves.Quads n = numbers_full 4294967295 (level + 1) n quads (omega arith)
-leaf_full level leaves.Octs n = numbers_full 18446744073709551615 (level + 1) n octs (omega arith)
+    full_both (λ r. row_line_at byte_at (level + 1) n) (λ xs. given (numbers byte xs)) (bytes_local (level + 1) n 0)
+    (bytes_full (level + 1) n) (λ xs. full_given (numbers byte xs))
+leaf_full level leaves.Pairs n = numbers_full 65535 (level + 1) n (numbers pair) (omega arith)
+leaf_full level leaves.Quads n = numbers_full 4294967295 (level + 1) n (numbers quad) (omega arith)
+leaf_full level leaves.Octs n = numbers_full 18446744073709551615 (level + 1) n (numbers oct) (omega arith)
 
 pub content_full : (level : ℕ) (h : Head) → Full (content_by level h)
 content_full level heads.Null = full_given nil

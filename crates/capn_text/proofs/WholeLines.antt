@@ -1,7 +1,6 @@
 -- Whole lines, and the first lines of a text.
 use Rattle.std.proofs.Common.{◌≡◌, ◌+◌, ◌==◌, ℕ, zero, suc, Bool, true, false, cond, List, [], ◌∷◌, ◌++◌, replicate}
-use Rattle.std.proofs.Common.{refl, sym, ap, ◌∙◌, append_assoc, arith, ◌*◌, ◌%◌, ◌^◌, ◌<◌, ◌≤◌}
-use Rattle.std.proofs.lemmas.List.{append-nil}
+use Rattle.std.proofs.Common.{refl, sym, ap, ◌∙◌, append_assoc, arith, ◌*◌}
 use Rattle.capn_value.specs.Text.{line}
 use Rattle.capn_text.specs.Streams.{first_lines, ended_lines}
 use Rattle.capn_text.specs.inner.Stops.{AreLines}

@@ -1,7 +1,8 @@
 -- Values whose numbers a text can show: each is below what its type holds, and so is each count of what a value holds.
 use Rattle.std.specs.Prelude.{◌<◌, ◌^◌, length, ⊤}
 use Rattle.capn_value.specs.InRange.{AllBelow}
-use Rattle.capn_value.specs.Tree.{Tree, nil, node, voids, bits, bytes, pairs, quads, octs, links, rows, cap, Trees}
+use Rattle.capn_value.specs.NumberWidth.{bits_in}
+use Rattle.capn_value.specs.Tree.{Tree, nil, node, voids, numbers, links, rows, cap, Trees}
 use Rattle.capn_value.specs.Tree.{no_trees, tree, Bodies, no_bodies, body, count, count_rows}
 
 abbrev mutual
@@ -9,11 +10,7 @@ abbrev mutual
   IsShowable nil = ⊤
   IsShowable (node ws ss) = (length ws < 2 ^ 64) × (count ss < 2 ^ 64) × AllBelow (2 ^ 64) ws × EachShowable ss
   IsShowable (voids n) = n < 2 ^ 32
-  IsShowable (bits xs) = length xs < 2 ^ 64
-  IsShowable (bytes xs) = (length xs < 2 ^ 64) × AllBelow (2 ^ 8) xs
-  IsShowable (pairs xs) = (length xs < 2 ^ 64) × AllBelow (2 ^ 16) xs
-  IsShowable (quads xs) = (length xs < 2 ^ 64) × AllBelow (2 ^ 32) xs
-  IsShowable (octs xs) = (length xs < 2 ^ 64) × AllBelow (2 ^ 64) xs
+  IsShowable (numbers a xs) = (length xs < 2 ^ 64) × AllBelow (2 ^ bits_in a) xs
   IsShowable (links ts) = (count ts < 2 ^ 64) × EachShowable ts
   IsShowable (rows bs) = (count_rows bs < 2 ^ 64) × RowsShowable bs
   IsShowable (cap k) = k < 2 ^ 32

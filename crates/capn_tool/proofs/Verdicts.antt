@@ -5,7 +5,7 @@ use Rattle.capn_walk.specs.Limits.{Bounds}
 use Rattle.capn_walk.specs.Accepted.{paid, number_of_visits}
 use Rattle.capn_walk.specs.Accepted as walks
 use Rattle.capn_walk.specs.declared.walk_answer.Stopped.{Stopped}
-use Rattle.capn_walk.specs.declared.target.Fault.TheVariants as walk_faults
+use Rattle.capn_target.specs.declared.target.Fault.TheVariants as walk_faults
 use Rattle.capn_canon.specs.BareVerdict.{IsBareSurvey}
 use Rattle.capn_canon.specs.declared.surveyed_bare.SurveyedBare.{SurveyedBare}
 use Rattle.capn_tool.specs.MessageText.{AreCanonical, PutsBareMessageText, PutsLine, IsStopOf, priced}

@@ -8,7 +8,7 @@ ghost use Rattle.capn_serve.specs.Service.{DoesService, PutsMessage};
 ghost use Rattle.capn_serve.specs.declared.position.Position.{Position};
 ghost use Rattle.capn_serve.specs.declared.fault.ServeFault.TheVariants as serve_faults;
 ghost use Rattle.capn_canon.specs.declared.refusal.Refusal.TheVariants as refusals;
-ghost use Rattle.capn_walk.specs.declared.target.Fault.TheVariants as walk_faults;
+ghost use Rattle.capn_target.specs.declared.target.Fault.TheVariants as walk_faults;
 ghost use Rattle.capn_tool.specs.MessageText.{PutsMessageText};
 ghost use Rattle.capn_tool.specs.inner.MessageTexts as spec;
 ghost use Rattle.capn_tool.specs.declared.message_texts.MessageTexts.{MessageTexts};

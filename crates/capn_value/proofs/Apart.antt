@@ -3,20 +3,25 @@ use Rattle.std.proofs.Common.{◌≡◌, ℕ, List, Bool, false, refl, sym, ap, 
 use Rattle.std.proofs.Common.{length}
 use Rattle.std.proofs.Common.{take, drop, ◌-◌, length-drop, inl, inr}
 use Rattle.std.proofs.lemmas.Grind.{common_steps}
-use Rattle.std.proofs.lemmas.Bool.{and_right, cases_lt}
-use Rattle.capn_value.specs.Tree.{Tree, nil, node, voids, bits, bytes, pairs, quads, octs, links, rows, cap, Trees}
+use Rattle.std.proofs.lemmas.Bool.{and_right, cases_lt, eq-eqb}
+use Rattle.std.specs.Prelude.{◌==◌}
+use Rattle.std.specs.Cmp.Lexicographic.{pointwise}
+use Rattle.capn_value.specs.NumberWidth.{NumberWidth, bits_in}
+use Rattle.capn_value.specs.Tree.{Tree, nil, node, voids, numbers, links, rows, cap, Trees}
 use Rattle.capn_value.specs.Tree.{no_trees, tree, Bodies, no_bodies, body, count, count_rows}
 use Rattle.capn_value.specs.Tree.{is_null}
 use Rattle.capn_value.specs.inner.SameTest.{test, test_slots, test_each, test_rows, are_null}
 use Rattle.capn_value.specs.TreeOf.{tree_of, trees_of, rows_of}
 use Rattle.capn_value.specs.Views.{views, count-trees_of}
-use Rattle.capn_value.specs.Views.{tree_of-Nil, tree_of-Node, tree_of-Voids, tree_of-Bits, tree_of-Bytes, tree_of-Pairs}
-use Rattle.capn_value.specs.Views.{tree_of-Quads, tree_of-Octs, tree_of-Links, tree_of-Rows, tree_of-Cap}
-use Rattle.capn_value.specs.Code.{value_of}
-use Rattle.capn_value.specs.declared.value.Value.{Value, Nil, Node, Voids, Bits, Bytes, Pairs, Quads, Octs, Links, Rows}
-use Rattle.capn_value.specs.declared.value.Value.{Cap}
+use Rattle.capn_value.specs.Views.{tree_of-Nil, tree_of-Node, tree_of-Voids, tree_of-Links, tree_of-Rows, tree_of-Cap}
+use Rattle.capn_value.specs.declared.value.Value.{Value, Nil, Node, Voids, Links, Rows, Cap}
 use Rattle.capn_value.specs.declared.value.Body.{Body}
-use Rattle.capn_value.proofs.Inverse.{value_of-tree_of}
+use Rattle.capn_value.proofs.Decided.{same_of}
+use Rattle.capn_value.proofs.Inverse.{value_of, value_of-tree_of}
+
+not-true : (b : Bool) → (b ≡ true → ⊥) → b ≡ false
+not-true true n = absurd (n refl)
+not-true false n = refl
 
 no_nil : (A : Type 0) (u : Tree) → (value_of A u ≡ Nil → ⊥) → test nil u ≡ false
 no_nil A nil n = absurd (n refl)
@@ -41,50 +46,17 @@ no_voids A _ k n = refl
 pub not_voids : {A : Type 0} (w : Value A) (k : ℕ) → ((m : ℕ) → w ≡ Voids m → ⊥) → test (voids k) (tree_of w) ≡ false
 not_voids {A} w k n = no_voids A (tree_of w) k (λ m e. n m (sym (value_of-tree_of A w) ∙ e))
 
-no_bits : (A : Type 0) (u : Tree) (xs : List Bool) → ((ys : List Bool) → value_of A u ≡ Bits ys → ⊥)
-    → test (bits xs) u ≡ false
-no_bits A (bits x) xs n = absurd (n _ refl)
-no_bits A _ xs n = refl
+-- a test that holds says which width and numbers the other list has
+no_numbers : (u : Tree) (a : NumberWidth) (xs : List ℕ) → ((ys : List ℕ) → u ≡ numbers a ys → ⊥)
+    → test (numbers a xs) u ≡ false
+no_numbers (numbers b ys) a xs n =
+    not-true _ (λ e. n ys (ap (λ c. numbers c ys) (sym (same_of (numbers a xs) (numbers b ys) e).0)))
+no_numbers _ a xs n = refl
 
-pub not_bits : {A : Type 0} (w : Value A) (xs : List Bool) → ((ys : List Bool) → w ≡ Bits ys → ⊥)
-    → test (bits xs) (tree_of w) ≡ false
-not_bits {A} w xs n = no_bits A (tree_of w) xs (λ ys e. n ys (sym (value_of-tree_of A w) ∙ e))
-
-no_bytes : (A : Type 0) (u : Tree) (xs : List ℕ) → ((ys : List ℕ) → value_of A u ≡ Bytes ys → ⊥)
-    → test (bytes xs) u ≡ false
-no_bytes A (bytes x) xs n = absurd (n _ refl)
-no_bytes A _ xs n = refl
-
-pub not_bytes : {A : Type 0} (w : Value A) (xs : List ℕ) → ((ys : List ℕ) → w ≡ Bytes ys → ⊥)
-    → test (bytes xs) (tree_of w) ≡ false
-not_bytes {A} w xs n = no_bytes A (tree_of w) xs (λ ys e. n ys (sym (value_of-tree_of A w) ∙ e))
-
-no_pairs : (A : Type 0) (u : Tree) (xs : List ℕ) → ((ys : List ℕ) → value_of A u ≡ Pairs ys → ⊥)
-    → test (pairs xs) u ≡ false
-no_pairs A (pairs x) xs n = absurd (n _ refl)
-no_pairs A _ xs n = refl
-
-pub not_pairs : {A : Type 0} (w : Value A) (xs : List ℕ) → ((ys : List ℕ) → w ≡ Pairs ys → ⊥)
-    → test (pairs xs) (tree_of w) ≡ false
-not_pairs {A} w xs n = no_pairs A (tree_of w) xs (λ ys e. n ys (sym (value_of-tree_of A w) ∙ e))
-
-no_quads : (A : Type 0) (u : Tree) (xs : List ℕ) → ((ys : List ℕ) → value_of A u ≡ Quads ys → ⊥)
-    → test (quads xs) u ≡ false
-no_quads A (quads x) xs n = absurd (n _ refl)
-no_quads A _ xs n = refl
-
-pub not_quads : {A : Type 0} (w : Value A) (xs : List ℕ) → ((ys : List ℕ) → w ≡ Quads ys → ⊥)
-    → test (quads xs) (tree_of w) ≡ false
-not_quads {A} w xs n = no_quads A (tree_of w) xs (λ ys e. n ys (sym (value_of-tree_of A w) ∙ e))
-
-no_octs : (A : Type 0) (u : Tree) (xs : List ℕ) → ((ys : List ℕ) → value_of A u ≡ Octs ys → ⊥)
-    → test (octs xs) u ≡ false
-no_octs A (octs x) xs n = absurd (n _ refl)
-no_octs A _ xs n = refl
-
-pub not_octs : {A : Type 0} (w : Value A) (xs : List ℕ) → ((ys : List ℕ) → w ≡ Octs ys → ⊥)
-    → test (octs xs) (tree_of w) ≡ false
-not_octs {A} w xs n = no_octs A (tree_of w) xs (λ ys e. n ys (sym (value_of-tree_of A w) ∙ e))
+pub not_numbers : {A : Type 0} (w : Value A) (a : NumberWidth) (xs : List ℕ)
+    → ((ys : List ℕ) → w ≡ value_of A (numbers a ys) → ⊥) → test (numbers a xs) (tree_of w) ≡ false
+not_numbers {A} w a xs n =
+    no_numbers (tree_of w) a xs (λ ys e. n ys (sym (value_of-tree_of A w) ∙ ap (value_of A) e))
 
 no_links : (A : Type 0) (u : Tree) (ss : Trees) → ((vs : List (Value A)) → value_of A u ≡ Links vs → ⊥)
     → test (links ss) u ≡ false
@@ -201,55 +173,15 @@ module _ {A B : Type 0} (v : Value A) (w : Value B) where
   pub voids_apart : (k : ℕ) → v ≡ Voids k → ((m : ℕ) → w ≡ Voids m → ⊥) → false ≡ test (tree_of v) (tree_of w)
   voids_apart k e n = seen_apart (voids k) (ap tree_of e ∙ tree_of-Voids A k) (not_voids w k n)
 
-  pub both_bits : (xs ys : List Bool) {s t : List Bool} {r : Bool} → v ≡ Bits xs → w ≡ Bits ys → s ≡ xs → t ≡ ys
-      → r ≡ test (bits s) (bits t) → r ≡ test (tree_of v) (tree_of w)
-  both_bits xs ys e f g h tested =
-      seen (bits xs) (bits ys) (ap tree_of e ∙ tree_of-Bits A xs) (ap tree_of f ∙ tree_of-Bits B ys)
-      (tested ∙ ap₂ (λ x y. test (bits x) (bits y)) g h)
+  pub both_numbers : {a : NumberWidth} {xs ys s t : List ℕ} {r : Bool} → tree_of v ≡ numbers a xs
+      → tree_of w ≡ numbers a ys → s ≡ xs → t ≡ ys → r ≡ pointwise ◌==◌ s t → r ≡ test (tree_of v) (tree_of w)
+  both_numbers {a} {xs} {ys} e f g h tested =
+      seen (numbers a xs) (numbers a ys) e f (tested ∙ ap₂ (λ x y. pointwise ◌==◌ x y) g h
+      ∙ sym (ap (λ b. b && pointwise ◌==◌ xs ys) (eq-eqb (bits_in a) (bits_in a) refl)))
 
-  pub bits_apart : (xs : List Bool) → v ≡ Bits xs → ((ys : List Bool) → w ≡ Bits ys → ⊥)
-      → false ≡ test (tree_of v) (tree_of w)
-  bits_apart xs e n = seen_apart (bits xs) (ap tree_of e ∙ tree_of-Bits A xs) (not_bits w xs n)
-
-  pub both_bytes : (xs ys : List ℕ) {s t : List ℕ} {r : Bool} → v ≡ Bytes xs → w ≡ Bytes ys → s ≡ xs → t ≡ ys
-      → r ≡ test (bytes s) (bytes t) → r ≡ test (tree_of v) (tree_of w)
-  both_bytes xs ys e f g h tested =
-      seen (bytes xs) (bytes ys) (ap tree_of e ∙ tree_of-Bytes A xs) (ap tree_of f ∙ tree_of-Bytes B ys)
-      (tested ∙ ap₂ (λ x y. test (bytes x) (bytes y)) g h)
-
-  pub bytes_apart : (xs : List ℕ) → v ≡ Bytes xs → ((ys : List ℕ) → w ≡ Bytes ys → ⊥)
-      → false ≡ test (tree_of v) (tree_of w)
-  bytes_apart xs e n = seen_apart (bytes xs) (ap tree_of e ∙ tree_of-Bytes A xs) (not_bytes w xs n)
-
-  pub both_pairs : (xs ys : List ℕ) {s t : List ℕ} {r : Bool} → v ≡ Pairs xs → w ≡ Pairs ys → s ≡ xs → t ≡ ys
-      → r ≡ test (pairs s) (pairs t) → r ≡ test (tree_of v) (tree_of w)
-  both_pairs xs ys e f g h tested =
-      seen (pairs xs) (pairs ys) (ap tree_of e ∙ tree_of-Pairs A xs) (ap tree_of f ∙ tree_of-Pairs B ys)
-      (tested ∙ ap₂ (λ x y. test (pairs x) (pairs y)) g h)
-
-  pub pairs_apart : (xs : List ℕ) → v ≡ Pairs xs → ((ys : List ℕ) → w ≡ Pairs ys → ⊥)
-      → false ≡ test (tree_of v) (tree_of w)
-  pairs_apart xs e n = seen_apart (pairs xs) (ap tree_of e ∙ tree_of-Pairs A xs) (not_pairs w xs n)
-
-  pub both_quads : (xs ys : List ℕ) {s t : List ℕ} {r : Bool} → v ≡ Quads xs → w ≡ Quads ys → s ≡ xs → t ≡ ys
-      → r ≡ test (quads s) (quads t) → r ≡ test (tree_of v) (tree_of w)
-  both_quads xs ys e f g h tested =
-      seen (quads xs) (quads ys) (ap tree_of e ∙ tree_of-Quads A xs) (ap tree_of f ∙ tree_of-Quads B ys)
-      (tested ∙ ap₂ (λ x y. test (quads x) (quads y)) g h)
-
-  pub quads_apart : (xs : List ℕ) → v ≡ Quads xs → ((ys : List ℕ) → w ≡ Quads ys → ⊥)
-      → false ≡ test (tree_of v) (tree_of w)
-  quads_apart xs e n = seen_apart (quads xs) (ap tree_of e ∙ tree_of-Quads A xs) (not_quads w xs n)
-
-  pub both_octs : (xs ys : List ℕ) {s t : List ℕ} {r : Bool} → v ≡ Octs xs → w ≡ Octs ys → s ≡ xs → t ≡ ys
-      → r ≡ test (octs s) (octs t) → r ≡ test (tree_of v) (tree_of w)
-  both_octs xs ys e f g h tested =
-      seen (octs xs) (octs ys) (ap tree_of e ∙ tree_of-Octs A xs) (ap tree_of f ∙ tree_of-Octs B ys)
-      (tested ∙ ap₂ (λ x y. test (octs x) (octs y)) g h)
-
-  pub octs_apart : (xs : List ℕ) → v ≡ Octs xs → ((ys : List ℕ) → w ≡ Octs ys → ⊥)
-      → false ≡ test (tree_of v) (tree_of w)
-  octs_apart xs e n = seen_apart (octs xs) (ap tree_of e ∙ tree_of-Octs A xs) (not_octs w xs n)
+  pub numbers_apart : {a : NumberWidth} {xs : List ℕ} → tree_of v ≡ numbers a xs
+      → ((ys : List ℕ) → w ≡ value_of B (numbers a ys) → ⊥) → false ≡ test (tree_of v) (tree_of w)
+  numbers_apart {a} {xs} e n = seen_apart (numbers a xs) e (not_numbers w a xs n)
 
   pub both_cap : (k j : ℕ) {r : Bool} → v ≡ Cap k → w ≡ Cap j → r ≡ test (cap k) (cap j)
       → r ≡ test (tree_of v) (tree_of w)

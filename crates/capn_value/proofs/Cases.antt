@@ -1,20 +1,18 @@
 -- What holds of a value of one kind, or of none of several kinds, as the arms of a match show it.
 use Rattle.std.proofs.Common.{◌≡◌, ℕ, List, Bool, true, false, ◌||◌, None, ◌⊎◌, inl, inr, refl, length, ap, ap₂, sym}
 use Rattle.std.proofs.Common.{◌∙◌, nat_lt}
-use Rattle.capn_value.specs.Tree.{Tree, nil, node, voids, bits, bytes, pairs, quads, octs, links, rows, cap}
+use Rattle.capn_value.specs.NumberWidth.{NumberWidth}
+use Rattle.capn_value.specs.Tree.{Tree, nil, node, voids, numbers, links, rows, cap}
 use Rattle.capn_value.specs.TreeOf.{tree_of, trees_of, rows_of}
-use Rattle.capn_value.specs.Views.{tree_of-Nil, tree_of-Node, tree_of-Voids, tree_of-Bits, tree_of-Bytes, tree_of-Pairs}
-use Rattle.capn_value.specs.Views.{tree_of-Quads, tree_of-Octs, tree_of-Links, tree_of-Rows, tree_of-Cap}
+use Rattle.capn_value.specs.Views.{tree_of-Nil, tree_of-Node, tree_of-Voids, tree_of-Links, tree_of-Rows, tree_of-Cap}
 use Rattle.capn_value.specs.Views.{count-trees_of}
 use Rattle.capn_value.specs.FirstCap.{first_cap}
-use Rattle.capn_value.specs.Code.{value_of}
 use Rattle.capn_value.specs.Cost.{height}
 use Rattle.capn_value.specs.Fits.{anywhere, is_wide, is_long, is_ragged, is_root, elements, words_in_rows}
-use Rattle.capn_value.specs.declared.value.Value.{Value, Nil, Node, Voids, Bits, Bytes, Pairs, Quads, Octs, Links, Rows}
-use Rattle.capn_value.specs.declared.value.Value.{Cap}
+use Rattle.capn_value.specs.declared.value.Value.{Value, Nil, Node, Voids, Links, Rows, Cap}
 use Rattle.capn_value.specs.declared.value.Body.{Body}
 use Rattle.capn_value.proofs.Anywhere.{or_no_more}
-use Rattle.capn_value.proofs.Inverse.{value_of-tree_of}
+use Rattle.capn_value.proofs.Inverse.{value_of, value_of-tree_of}
 
 -- what is said of the tree of a value of a known kind
 module _ {A X : Type 0} (f : Tree → X) (v : Value A) where
@@ -129,20 +127,9 @@ module _ {A : Type 0} where
     pub voids_long : {m : ℕ} → v ≡ Voids m → n ≡ m → nat_lt 536870911 n ≡ is_long (tree_of v)
     voids_long {m} e g = counted v (voids m) (ap tree_of e ∙ tree_of-Voids A m) refl g
 
-    pub bits_long : {xs : List Bool} → v ≡ Bits xs → n ≡ length xs → nat_lt 536870911 n ≡ is_long (tree_of v)
-    bits_long {xs} e g = counted v (bits xs) (ap tree_of e ∙ tree_of-Bits A xs) refl g
-
-    pub bytes_long : {xs : List ℕ} → v ≡ Bytes xs → n ≡ length xs → nat_lt 536870911 n ≡ is_long (tree_of v)
-    bytes_long {xs} e g = counted v (bytes xs) (ap tree_of e ∙ tree_of-Bytes A xs) refl g
-
-    pub pairs_long : {xs : List ℕ} → v ≡ Pairs xs → n ≡ length xs → nat_lt 536870911 n ≡ is_long (tree_of v)
-    pairs_long {xs} e g = counted v (pairs xs) (ap tree_of e ∙ tree_of-Pairs A xs) refl g
-
-    pub quads_long : {xs : List ℕ} → v ≡ Quads xs → n ≡ length xs → nat_lt 536870911 n ≡ is_long (tree_of v)
-    quads_long {xs} e g = counted v (quads xs) (ap tree_of e ∙ tree_of-Quads A xs) refl g
-
-    pub octs_long : {xs : List ℕ} → v ≡ Octs xs → n ≡ length xs → nat_lt 536870911 n ≡ is_long (tree_of v)
-    octs_long {xs} e g = counted v (octs xs) (ap tree_of e ∙ tree_of-Octs A xs) refl g
+    pub numbers_long : {a : NumberWidth} {xs : List ℕ} → tree_of v ≡ numbers a xs → n ≡ length xs
+        → nat_lt 536870911 n ≡ is_long (tree_of v)
+    numbers_long {a} {xs} e g = counted v (numbers a xs) e refl g
 
     pub links_long : (vs : List (Value A)) → v ≡ Links vs → n ≡ length vs → nat_lt 536870911 n ≡ is_long (tree_of v)
     links_long vs e g =

@@ -3,14 +3,13 @@ use Rattle.std.proofs.Common.{◌≡◌, ℕ, List, length, Bool, true, false, O
 use Rattle.std.specs.Prelude.{Result}
 use Rattle.std.specs.Result.{IfOk}
 use Rattle.std.proofs.lemmas.Result.{IfOk-weaker}
-use Rattle.capn_value.specs.Tree.{Tree, Trees, Bodies, node, bits, bytes, pairs, quads, octs, links, rows, front}
+use Rattle.capn_value.specs.Tree.{Tree, Trees, Bodies, node, numbers, links, rows, front}
+use Rattle.capn_value.specs.NumberWidth.{NumberWidth}
 use Rattle.capn_value.specs.TreeOf.{tree_of, trees_of, rows_of}
-use Rattle.capn_value.specs.Views.{tree_of-Nil, tree_of-Node, tree_of-Voids, tree_of-Bits, tree_of-Bytes, tree_of-Pairs}
-use Rattle.capn_value.specs.Views.{tree_of-Quads, tree_of-Octs, tree_of-Links, tree_of-Rows, tree_of-Cap}
-use Rattle.capn_value.specs.declared.value.Value.{Value, Nil, Node, Voids, Bits, Bytes, Pairs, Quads, Octs, Links, Rows}
-use Rattle.capn_value.specs.declared.value.Value.{Cap}
+use Rattle.capn_value.specs.Views.{tree_of-Nil, tree_of-Node, tree_of-Voids, tree_of-Links, tree_of-Rows, tree_of-Cap}
+use Rattle.capn_value.specs.declared.value.Value.{Value, Nil, Node, Voids, Links, Rows, Cap}
 use Rattle.capn_value.specs.declared.value.Body.{Body}
-use Rattle.capn_value.specs.Code.{value_of}
+use Rattle.capn_value.proofs.Inverse.{value_of}
 use Rattle.capn_value.specs.Trim.{trimmed}
 use Rattle.capn_value.specs.inner.CutCopy.{anew, each_anew, kept_of_body, kept_of_rows, words_anew, slots_anew}
 use Rattle.capn_value.specs.inner.CutCopy.{rows_anew}
@@ -24,23 +23,13 @@ module _ (A : Type 0) {B : Type 0} (v : Value B) where
   pub voids_kept : {n : ℕ} → v ≡ Voids n → tree_of {A = A} (Voids n) ≡ tree_of v
   voids_kept {n} e = tree_of-Voids A n ∙ sym (ap tree_of e ∙ tree_of-Voids B n)
 
-  pub bits_kept : {xs ys : List Bool} → v ≡ Bits xs → ys ≡ xs → tree_of {A = A} (Bits ys) ≡ tree_of v
-  bits_kept {xs} {ys} e f = tree_of-Bits A ys ∙ ap bits f ∙ sym (ap tree_of e ∙ tree_of-Bits B xs)
-
-  pub bytes_kept : {xs ys : List ℕ} → v ≡ Bytes xs → ys ≡ xs → tree_of {A = A} (Bytes ys) ≡ tree_of v
-  bytes_kept {xs} {ys} e f = tree_of-Bytes A ys ∙ ap bytes f ∙ sym (ap tree_of e ∙ tree_of-Bytes B xs)
-
-  pub pairs_kept : {xs ys : List ℕ} → v ≡ Pairs xs → ys ≡ xs → tree_of {A = A} (Pairs ys) ≡ tree_of v
-  pairs_kept {xs} {ys} e f = tree_of-Pairs A ys ∙ ap pairs f ∙ sym (ap tree_of e ∙ tree_of-Pairs B xs)
-
-  pub quads_kept : {xs ys : List ℕ} → v ≡ Quads xs → ys ≡ xs → tree_of {A = A} (Quads ys) ≡ tree_of v
-  quads_kept {xs} {ys} e f = tree_of-Quads A ys ∙ ap quads f ∙ sym (ap tree_of e ∙ tree_of-Quads B xs)
-
-  pub octs_kept : {xs ys : List ℕ} → v ≡ Octs xs → ys ≡ xs → tree_of {A = A} (Octs ys) ≡ tree_of v
-  octs_kept {xs} {ys} e f = tree_of-Octs A ys ∙ ap octs f ∙ sym (ap tree_of e ∙ tree_of-Octs B xs)
-
   pub cap_kept : {k : ℕ} → v ≡ Cap k → tree_of {A = A} (Cap k) ≡ tree_of v
   cap_kept {k} e = tree_of-Cap A k ∙ sym (ap tree_of e ∙ tree_of-Cap B k)
+
+-- a list of numbers, by those of the other
+pub numbers_kept : {B : Type 0} (v : Value B) {t : Tree} {a : NumberWidth} {xs ys : List ℕ} → t ≡ numbers a ys → ys ≡ xs
+    → tree_of v ≡ numbers a xs → t ≡ tree_of v
+numbers_kept v {a = a} e f g = e ∙ ap (numbers a) f ∙ sym g
 
 -- the value is of none of the kinds that hold others
 module _ {A : Type 0} where

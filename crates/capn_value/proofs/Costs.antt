@@ -1,17 +1,20 @@
 -- The cost of a value, capped, from those of its parts.
-use Rattle.std.proofs.Common.{◌≡◌, ℕ, ◌+◌, ◌<◌, ◌≤◌, ◌^◌, List, Bool, length, get_or, drop, min, refl, sym, ap, ap₂}
+use Rattle.std.proofs.Common.{◌≡◌, ℕ, ◌+◌, ◌<◌, ◌≤◌, ◌^◌, List, length, get_or, drop, min, refl, sym, ap, ap₂}
 use Rattle.std.proofs.Common.{◌∙◌, arith}
 use Rattle.std.proofs.Math.Path.{subst}
 use Rattle.std.specs.Int.{div_ceil}
-use Rattle.capn_value.specs.Tree.{Tree, bits, bytes, pairs, quads, octs, voids, count, row_words}
+use Rattle.capn_value.specs.NumberWidth.{NumberWidth, bits_in, per_word}
+use Rattle.capn_value.specs.Tree.{Tree, numbers, voids, count, row_words}
 use Rattle.capn_value.specs.TreeOf.{tree_of, trees_of, rows_of}
-use Rattle.capn_value.specs.Views.{tree_of-Node, tree_of-Voids, tree_of-Bits, tree_of-Bytes, tree_of-Pairs}
-use Rattle.capn_value.specs.Views.{tree_of-Quads, tree_of-Octs, tree_of-Links, tree_of-Rows, count-trees_of}
+use Rattle.capn_value.specs.Views.{tree_of-Node, tree_of-Voids, tree_of-Links, tree_of-Rows, count-trees_of}
 use Rattle.capn_value.specs.Cost.{cost, costs, costs_in_rows, rows_price}
 use Rattle.capn_value.specs.InRange.{AllBelow, InRange, EachInRange, RowsInRange}
-use Rattle.capn_value.specs.declared.value.Value.{Value, Node, Voids, Bits, Bytes, Pairs, Quads, Octs, Links, Rows}
+use Rattle.capn_value.specs.declared.value.Value.{Value, Node, Voids, Links, Rows}
 use Rattle.capn_value.specs.declared.value.Body.{Body}
 use Rattle.capn_value.proofs.Anywhere.{drop-next, drop-past}
+
+pub div_ceil-one : (n : ℕ) → n ≡ div_ceil n 1
+div_ceil-one n = omega arith
 
 -- to cap a part of a capped sum changes nothing
 part_capped : (a b cap y r : ℕ) → y ≡ min b cap → r ≡ min (a + y) cap → r ≡ min (a + b) cap
@@ -33,28 +36,9 @@ module _ {A : Type 0} (base cap : ℕ) (v : Value A) {r : ℕ} where
   pub voids_cost : {n : ℕ} → v ≡ Voids n → r ≡ min (base + n) cap → r ≡ min (cost base (tree_of v)) cap
   voids_cost {n} e h = priced (voids n) (ap tree_of e ∙ tree_of-Voids A n) refl refl h
 
-  pub bits_cost : {xs : List Bool} {n k : ℕ} → v ≡ Bits xs → n ≡ length xs → k ≡ div_ceil n 64 → r ≡ min (base + k) cap
-      → r ≡ min (cost base (tree_of v)) cap
-  bits_cost {xs} e f g h = priced (bits xs) (ap tree_of e ∙ tree_of-Bits A xs) refl (g ∙ ap (λ m. div_ceil m 64) f) h
-
-  pub bytes_cost : {xs s : List ℕ} {k : ℕ} → v ≡ Bytes xs → s ≡ xs → k ≡ div_ceil (length s) 8 → r ≡ min (base + k) cap
-      → r ≡ min (cost base (tree_of v)) cap
-  bytes_cost {xs} e f g h =
-      priced (bytes xs) (ap tree_of e ∙ tree_of-Bytes A xs) refl (g ∙ ap (λ ys. div_ceil (length ys) 8) f) h
-
-  pub pairs_cost : {xs s : List ℕ} {k : ℕ} → v ≡ Pairs xs → s ≡ xs → k ≡ div_ceil (length s) 4 → r ≡ min (base + k) cap
-      → r ≡ min (cost base (tree_of v)) cap
-  pairs_cost {xs} e f g h =
-      priced (pairs xs) (ap tree_of e ∙ tree_of-Pairs A xs) refl (g ∙ ap (λ ys. div_ceil (length ys) 4) f) h
-
-  pub quads_cost : {xs s : List ℕ} {k : ℕ} → v ≡ Quads xs → s ≡ xs → k ≡ div_ceil (length s) 2 → r ≡ min (base + k) cap
-      → r ≡ min (cost base (tree_of v)) cap
-  quads_cost {xs} e f g h =
-      priced (quads xs) (ap tree_of e ∙ tree_of-Quads A xs) refl (g ∙ ap (λ ys. div_ceil (length ys) 2) f) h
-
-  pub octs_cost : {xs s : List ℕ} {k : ℕ} → v ≡ Octs xs → s ≡ xs → k ≡ length s → r ≡ min (base + k) cap
-      → r ≡ min (cost base (tree_of v)) cap
-  octs_cost {xs} e f g h = priced (octs xs) (ap tree_of e ∙ tree_of-Octs A xs) refl (g ∙ ap length f) h
+  pub numbers_cost : {a : NumberWidth} {xs : List ℕ} {n k : ℕ} → tree_of v ≡ numbers a xs → n ≡ length xs
+      → k ≡ div_ceil n (per_word a) → r ≡ min (base + k) cap → r ≡ min (cost base (tree_of v)) cap
+  numbers_cost {a} {xs} e f g h = priced (numbers a xs) e refl (g ∙ ap (λ m. div_ceil m (per_word a)) f) h
 
   pub node_costs : {b : Body A} {w : List ℕ} {s : List (Value A)} {k p o below : ℕ} → v ≡ Node b → w ≡ b.words
       → s ≡ b.slots → k ≡ length w →
@@ -95,17 +79,9 @@ module _ {A : Type 0} (base cap : ℕ) (v : Value A) {r : ℕ} where
 
 -- the same value is in range
 module _ {A : Type 0} (v : Value A) where
-  pub bytes_ranged : {xs s : List ℕ} → v ≡ Bytes xs → s ≡ xs → AllBelow (2 ^ 8) s → InRange (tree_of v)
-  bytes_ranged {xs} e f h = subst InRange (sym (ap tree_of e ∙ tree_of-Bytes A xs)) (subst (AllBelow (2 ^ 8)) f h)
-
-  pub pairs_ranged : {xs s : List ℕ} → v ≡ Pairs xs → s ≡ xs → AllBelow (2 ^ 16) s → InRange (tree_of v)
-  pairs_ranged {xs} e f h = subst InRange (sym (ap tree_of e ∙ tree_of-Pairs A xs)) (subst (AllBelow (2 ^ 16)) f h)
-
-  pub quads_ranged : {xs s : List ℕ} → v ≡ Quads xs → s ≡ xs → AllBelow (2 ^ 32) s → InRange (tree_of v)
-  quads_ranged {xs} e f h = subst InRange (sym (ap tree_of e ∙ tree_of-Quads A xs)) (subst (AllBelow (2 ^ 32)) f h)
-
-  pub octs_ranged : {xs s : List ℕ} → v ≡ Octs xs → s ≡ xs → AllBelow (2 ^ 64) s → InRange (tree_of v)
-  octs_ranged {xs} e f h = subst InRange (sym (ap tree_of e ∙ tree_of-Octs A xs)) (subst (AllBelow (2 ^ 64)) f h)
+  pub numbers_ranged : {a : NumberWidth} {xs s : List ℕ} → tree_of v ≡ numbers a xs → s ≡ xs
+      → AllBelow (2 ^ bits_in a) s → InRange (tree_of v)
+  numbers_ranged {a} e f h = subst InRange (sym e) (subst (AllBelow (2 ^ bits_in a)) f h)
 
   pub node_ranged : {b : Body A} {w : List ℕ} {s : List (Value A)} → v ≡ Node b → w ≡ b.words → s ≡ b.slots
       → AllBelow (2 ^ 64) w →

@@ -11,6 +11,7 @@ pub mod Fronts
 pub mod Heights
 pub mod Inverse
 pub mod Kept
+pub mod Lists
 pub mod Depths
 pub mod Digits
 pub mod Numbered

@@ -1,6 +1,6 @@
 -- A value is the same once trimmed.
 use Rattle.std.proofs.Common.{◌≡◌, ℕ, zero, suc, ◌≤◌, refl, arith}
-use Rattle.capn_value.specs.Tree.{Tree, nil, node, voids, bits, bytes, pairs, quads, octs, links, rows, cap, Trees}
+use Rattle.capn_value.specs.Tree.{Tree, nil, node, voids, numbers, links, rows, cap, Trees}
 use Rattle.capn_value.specs.Tree.{no_trees, tree, Bodies, no_bodies, body, front, tree_at, is_null}
 use Rattle.capn_value.specs.Same.{AllNull, Same, SameSlots, SameEach, SameRows}
 use Rattle.capn_value.specs.Trim.{kept_words, kept_slots, kept_words_of_rows, kept_slots_of_rows, trimmed, trimmed_each}
@@ -17,11 +17,7 @@ mutual
   same-trimmed (node ws ss) =
       (cut_words (kept_words ws) ws (omega arith), same_slots-front (kept_slots ss) ss (omega arith))
   same-trimmed (voids n) = refl
-  same-trimmed (bits xs) = refl
-  same-trimmed (bytes xs) = refl
-  same-trimmed (pairs xs) = refl
-  same-trimmed (quads xs) = refl
-  same-trimmed (octs xs) = refl
+  same-trimmed (numbers a xs) = (refl, refl)
   same-trimmed (links ts) = same_each-trimmed ts
   same-trimmed (rows bs) =
       same_rows-trimmed (kept_words_of_rows bs) (kept_slots_of_rows bs) bs (omega arith) (omega arith)

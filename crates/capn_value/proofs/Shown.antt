@@ -1,19 +1,18 @@
 -- The text of a value, from those of its parts, and the room that its levels have.
-use Rattle.std.proofs.Common.{◌≡◌, ℕ, ◌+◌, ◌*◌, ◌<◌, ◌≤◌, List, Bool, ◌++◌, length, codes, get_or, drop, max, sym, ap}
+use Rattle.std.proofs.Common.{◌≡◌, ℕ, ◌+◌, ◌*◌, ◌<◌, ◌≤◌, List, ◌++◌, length, codes, get_or, drop, max, sym, ap}
 use Rattle.std.proofs.Common.{ap₂, ◌∙◌, arith, append_assoc}
 use Rattle.std.proofs.lemmas.List.{append-nil}
 use Rattle.std.proofs.lemmas.Result.{on_ok_weaker}
 use Rattle.std.specs.Result.{OnOk}
 use Rattle.std.specs.declared.result.Result.{Result}
-use Rattle.capn_value.specs.Tree.{bits, bytes, pairs, quads, octs, count}
+use Rattle.capn_value.specs.NumberWidth.{NumberWidth}
+use Rattle.capn_value.specs.Tree.{numbers, count}
 use Rattle.capn_value.specs.TreeOf.{tree_of, trees_of, rows_of}
-use Rattle.capn_value.specs.Views.{tree_of-Nil, tree_of-Node, tree_of-Voids, tree_of-Bits, tree_of-Bytes, tree_of-Pairs}
-use Rattle.capn_value.specs.Views.{tree_of-Quads, tree_of-Octs, tree_of-Links, tree_of-Rows, tree_of-Cap}
+use Rattle.capn_value.specs.Views.{tree_of-Nil, tree_of-Node, tree_of-Voids, tree_of-Links, tree_of-Rows, tree_of-Cap}
 use Rattle.capn_value.specs.Views.{count-trees_of, count_rows-rows_of}
 use Rattle.capn_value.specs.Cost.{height, greatest, greatest_in_rows}
 use Rattle.capn_value.specs.Text.{line, named, body_line, word_lines, shown, shown_each, shown_rows}
-use Rattle.capn_value.specs.declared.value.Value.{Value, Nil, Node, Voids, Bits, Bytes, Pairs, Quads, Octs, Links, Rows}
-use Rattle.capn_value.specs.declared.value.Value.{Cap}
+use Rattle.capn_value.specs.declared.value.Value.{Value, Nil, Node, Voids, Links, Rows, Cap}
 use Rattle.capn_value.specs.declared.value.Body.{Body}
 use Rattle.capn_value.proofs.Anywhere.{drop-next, drop-past}
 
@@ -38,23 +37,9 @@ module _ {A : Type 0} (level : ℕ) (v : Value A) where
   pub cap_shown : {k : ℕ} → v ≡ Cap k → line level (named (codes "capability") k) ≡ shown level (tree_of v)
   cap_shown {k} e = sym (ap (shown level) (ap tree_of e ∙ tree_of-Cap A k))
 
-  pub bits_shown : {xs s : List Bool} → v ≡ Bits xs → s ≡ xs → shown level (bits s) ≡ shown level (tree_of v)
-  bits_shown {xs} e f = ap (λ ys. shown level (bits ys)) f ∙ sym (ap (shown level) (ap tree_of e ∙ tree_of-Bits A xs))
-
-  pub bytes_shown : {xs s : List ℕ} → v ≡ Bytes xs → s ≡ xs → shown level (bytes s) ≡ shown level (tree_of v)
-  bytes_shown {xs} e f = ap (λ ys. shown level (bytes ys)) f
-      ∙ sym (ap (shown level) (ap tree_of e ∙ tree_of-Bytes A xs))
-
-  pub pairs_shown : {xs s : List ℕ} → v ≡ Pairs xs → s ≡ xs → shown level (pairs s) ≡ shown level (tree_of v)
-  pairs_shown {xs} e f = ap (λ ys. shown level (pairs ys)) f
-      ∙ sym (ap (shown level) (ap tree_of e ∙ tree_of-Pairs A xs))
-
-  pub quads_shown : {xs s : List ℕ} → v ≡ Quads xs → s ≡ xs → shown level (quads s) ≡ shown level (tree_of v)
-  quads_shown {xs} e f = ap (λ ys. shown level (quads ys)) f
-      ∙ sym (ap (shown level) (ap tree_of e ∙ tree_of-Quads A xs))
-
-  pub octs_shown : {xs s : List ℕ} → v ≡ Octs xs → s ≡ xs → shown level (octs s) ≡ shown level (tree_of v)
-  octs_shown {xs} e f = ap (λ ys. shown level (octs ys)) f ∙ sym (ap (shown level) (ap tree_of e ∙ tree_of-Octs A xs))
+  pub numbers_shown : {a : NumberWidth} {xs s : List ℕ} → tree_of v ≡ numbers a xs → s ≡ xs
+      → shown level (numbers a s) ≡ shown level (tree_of v)
+  numbers_shown {a} e f = ap (λ ys. shown level (numbers a ys)) f ∙ sym (ap (shown level) e)
 
   pub node_shown : (b : Body A) → v ≡ Node b →
       body_line level (length b.words) (length b.slots)
@@ -145,20 +130,8 @@ module _ {A : Type 0} (level top : ℕ) (v : Value A) (room : level + 2 * height
   list_room : height (tree_of v) ≡ 1 → level + 1 < top
   list_room e = omega arith
 
-  pub bits_room : {xs : List Bool} → v ≡ Bits xs → level + 1 < top
-  bits_room {xs} e = list_room (ap height (ap tree_of e ∙ tree_of-Bits A xs))
-
-  pub bytes_room : {xs : List ℕ} → v ≡ Bytes xs → level + 1 < top
-  bytes_room {xs} e = list_room (ap height (ap tree_of e ∙ tree_of-Bytes A xs))
-
-  pub pairs_room : {xs : List ℕ} → v ≡ Pairs xs → level + 1 < top
-  pairs_room {xs} e = list_room (ap height (ap tree_of e ∙ tree_of-Pairs A xs))
-
-  pub quads_room : {xs : List ℕ} → v ≡ Quads xs → level + 1 < top
-  quads_room {xs} e = list_room (ap height (ap tree_of e ∙ tree_of-Quads A xs))
-
-  pub octs_room : {xs : List ℕ} → v ≡ Octs xs → level + 1 < top
-  octs_room {xs} e = list_room (ap height (ap tree_of e ∙ tree_of-Octs A xs))
+  pub numbers_room : {a : NumberWidth} {xs : List ℕ} → tree_of v ≡ numbers a xs → level + 1 < top
+  numbers_room e = list_room (ap height e)
 
   pub node_room : (b : Body A) → v ≡ Node b → level + 1 + 2 * greatest (trees_of b.slots) < top
   node_room b e = let known : height (tree_of v) ≡ 1 + greatest (trees_of b.slots) =

@@ -1,8 +1,9 @@
 -- Worked values: what they are trimmed to, cost, and show as, and why some do not fit.
-use Rattle.std.proofs.Common.{◌≡◌, [], ◌∷◌, Some, None, codes, true, false, refl}
+use Rattle.std.proofs.Common.{◌≡◌, [], ◌∷◌, Some, None, codes, false, refl}
 use Rattle.std.specs.Fmt.{digits}
 use Rattle.hex.specs.Hex.{encode_with}
-use Rattle.capn_value.specs.Tree.{nil, node, voids, bits, bytes, links, rows, cap, no_trees, tree, no_bodies}
+use Rattle.capn_value.specs.Tree.{nil, node, voids, numbers, links, rows, cap, no_trees, tree, no_bodies}
+use Rattle.capn_value.specs.NumberWidth.{bit, byte}
 use Rattle.capn_value.specs.Tree.{body}
 use Rattle.capn_value.specs.Trim.{trimmed}
 use Rattle.capn_value.specs.inner.CutCopy.{anew, rows_anew}
@@ -44,7 +45,7 @@ rows_cut : rows_anew (Some (1, 0)) (body (1 ∷ 2 ∷ []) (tree nil no_trees) (b
 rows_cut = refl
 
 -- a struct of one word and a slot with three bytes: 1 and 2 for itself, 1 and 1 for the bytes
-struct_costs : cost 1 (node (5 ∷ []) (tree (bytes (1 ∷ 2 ∷ 3 ∷ [])) no_trees)) ≡ 5
+struct_costs : cost 1 (node (5 ∷ []) (tree (numbers byte (1 ∷ 2 ∷ 3 ∷ [])) no_trees)) ≡ 5
 struct_costs = refl
 
 -- each element without size costs a word
@@ -89,7 +90,7 @@ capability_text : show_text (cap 12) ≡ codes "capability 12\n"
 unfolding line digits
 capability_text = refl
 
-struct_text : show_text (node (255 ∷ []) (tree (bits (true ∷ false ∷ [])) no_trees))
+struct_text : show_text (node (255 ∷ []) (tree (numbers bit (1 ∷ 0 ∷ [])) no_trees))
     ≡ codes "struct 1 1\n  word 00000000000000ff\n  bits 2\n    10\n"
 unfolding line digits encode_with
 struct_text = refl

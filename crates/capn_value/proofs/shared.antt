@@ -1,4 +1,5 @@
 -- Lemmas that other crates may cite.
+pub mod Bits
 pub mod Cuts
 pub mod Fitting
 pub mod Prices

@@ -3,7 +3,8 @@ use Rattle.std.specs.Prelude.{ℕ, ◌+◌, ◌*◌, ◌^◌, ◌==◌, max, len
 use Rattle.std.specs.Int.{div_ceil}
 use Rattle.capn_value.specs.declared.tariff.Tariff.{Tariff}
 use Rattle.capn_value.specs.declared.tariff.Tariff.TheVariants.{Strict, Plain}
-use Rattle.capn_value.specs.Tree.{Tree, nil, node, voids, bits, bytes, pairs, quads, octs, links, rows, cap, Trees}
+use Rattle.capn_value.specs.NumberWidth.{per_word}
+use Rattle.capn_value.specs.Tree.{Tree, nil, node, voids, numbers, links, rows, cap, Trees}
 use Rattle.capn_value.specs.Tree.{no_trees, tree, Bodies, no_bodies, body, count, count_rows, row_words}
 
 -- 0 for null and a capability, else 1 plus the greatest height of a slot, a slot of a row, or an element
@@ -15,11 +16,7 @@ abbrev mutual
   height (links ts) = 1 + greatest ts
   height (rows bs) = 1 + greatest_in_rows bs
   height (voids n) = 1
-  height (bits xs) = 1
-  height (bytes xs) = 1
-  height (pairs xs) = 1
-  height (quads xs) = 1
-  height (octs xs) = 1
+  height (numbers w xs) = 1
 
   pub greatest : Trees → ℕ
   greatest no_trees = 0
@@ -58,11 +55,7 @@ module _ (base : ℕ) where
     cost (cap k) = 0
     cost (node ws slots) = base + length ws + count slots + costs slots
     cost (voids n) = base + n
-    cost (bits xs) = base + div_ceil (length xs) 64
-    cost (bytes xs) = base + div_ceil (length xs) 8
-    cost (pairs xs) = base + div_ceil (length xs) 4
-    cost (quads xs) = base + div_ceil (length xs) 2
-    cost (octs xs) = base + length xs
+    cost (numbers w xs) = base + div_ceil (length xs) (per_word w)
     cost (links ts) = base + count ts + costs ts
     cost (rows bs) = base + 1 + rows_price bs + costs_in_rows bs
 

@@ -2,7 +2,7 @@
 -- pointers can count. (Page: structs, lists; the bounds on cost and height are our own.)
 use Rattle.std.specs.Prelude.{ℕ, ◌≡◌, ◌≤◌, Bool, true, false, cond, ◌||◌, ◌&&◌, not, nat_lt, ◌==◌, length, Option}
 use Rattle.std.specs.Prelude.{Some, None, List}
-use Rattle.capn_value.specs.Tree.{Tree, nil, node, voids, bits, bytes, pairs, quads, octs, links, rows, cap, Trees}
+use Rattle.capn_value.specs.Tree.{Tree, nil, node, voids, numbers, links, rows, cap, Trees}
 use Rattle.capn_value.specs.Tree.{no_trees, tree, Bodies, no_bodies, body, count, count_rows, row_words}
 use Rattle.capn_value.specs.declared.tariff.Tariff.TheVariants.{Plain}
 use Rattle.capn_value.specs.Cost.{height, base, cost, most_cost, most_height}
@@ -18,11 +18,7 @@ module _ (test : Tree → Bool) where
     anywhere (rows bs) = test (rows bs) || anywhere_in_rows bs
     anywhere nil = test nil
     anywhere (voids n) = test (voids n)
-    anywhere (bits xs) = test (bits xs)
-    anywhere (bytes xs) = test (bytes xs)
-    anywhere (pairs xs) = test (pairs xs)
-    anywhere (quads xs) = test (quads xs)
-    anywhere (octs xs) = test (octs xs)
+    anywhere (numbers w xs) = test (numbers w xs)
     anywhere (cap k) = test (cap k)
 
     pub anywhere_in : Trees → Bool
@@ -51,11 +47,7 @@ is_wide _ = false
 -- how many elements a list has
 abbrev pub elements : Tree → ℕ
 elements (voids n) = n
-elements (bits xs) = length xs
-elements (bytes xs) = length xs
-elements (pairs xs) = length xs
-elements (quads xs) = length xs
-elements (octs xs) = length xs
+elements (numbers w xs) = length xs
 elements (links ts) = count ts
 elements (rows bs) = count_rows bs
 elements _ = 0

@@ -1,25 +1,22 @@
 -- Every number of a value is one that its type can hold (a natural number is never below 0).
 use Rattle.std.specs.Prelude.{ℕ, ◌<◌, ◌^◌, List, ⊤}
 use Rattle.std.specs.List.{AllByRecursion}
-use Rattle.capn_value.specs.Tree.{Tree, nil, node, voids, bits, bytes, pairs, quads, octs, links, rows, cap, Trees}
+use Rattle.capn_value.specs.NumberWidth.{bits_in}
+use Rattle.capn_value.specs.Tree.{Tree, nil, node, voids, numbers, links, rows, cap, Trees}
 use Rattle.capn_value.specs.Tree.{no_trees, tree, Bodies, no_bodies, body}
 
 -- each number of the list is below the bound
 abbrev pub AllBelow : ℕ → List ℕ → Type 0
 AllBelow most xs = AllByRecursion (λ x. x < most) xs
 
--- words and the elements of `Octs` are below 2^64, those of `Quads`, counts of `Voids` and indices below 2^32, those
--- of `Pairs` below 2^16, `Bytes` below 2^8
+-- words are below 2^64, counts of `Voids` and indices below 2^32, and the numbers of a list below what their width
+-- holds: a bit is 0 or 1
 abbrev mutual
   pub InRange : Tree → Type 0
   InRange nil = ⊤
   InRange (node ws ss) = AllBelow (2 ^ 64) ws × EachInRange ss
   InRange (voids n) = n < 2 ^ 32
-  InRange (bits xs) = ⊤
-  InRange (bytes xs) = AllBelow (2 ^ 8) xs
-  InRange (pairs xs) = AllBelow (2 ^ 16) xs
-  InRange (quads xs) = AllBelow (2 ^ 32) xs
-  InRange (octs xs) = AllBelow (2 ^ 64) xs
+  InRange (numbers w xs) = AllBelow (2 ^ bits_in w) xs
   InRange (links ts) = EachInRange ts
   InRange (rows bs) = RowsInRange bs
   InRange (cap k) = k < 2 ^ 32

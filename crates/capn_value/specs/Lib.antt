@@ -1,5 +1,6 @@
 pub mod inner
 pub mod formers
+pub mod NumberWidth
 pub mod Tree
 pub mod TreeOf
 pub mod Views

@@ -1,7 +1,7 @@
 -- When two values are the same, up to trailing zero words and trailing null slots of structs. (Page:
 -- canonicalization.)
 use Rattle.std.specs.Prelude.{ℕ, ◌≡◌, List, ⊤, slice_index}
-use Rattle.capn_value.specs.Tree.{Tree, nil, node, voids, bits, bytes, pairs, quads, octs, links, rows, cap, Trees}
+use Rattle.capn_value.specs.Tree.{Tree, nil, node, voids, numbers, links, rows, cap, Trees}
 use Rattle.capn_value.specs.Tree.{no_trees, tree, Bodies, no_bodies, body}
 
 -- word i is equal, 0 past the end
@@ -19,11 +19,7 @@ abbrev mutual
   Same nil nil = ⊤
   Same (node ws ss) (node vs ts) = SameWords ws vs × SameSlots ss ts
   Same (voids m) (voids n) = m ≡ n
-  Same (bits xs) (bits ys) = xs ≡ ys
-  Same (bytes xs) (bytes ys) = xs ≡ ys
-  Same (pairs xs) (pairs ys) = xs ≡ ys
-  Same (quads xs) (quads ys) = xs ≡ ys
-  Same (octs xs) (octs ys) = xs ≡ ys
+  Same (numbers w xs) (numbers v ys) = (w ≡ v) × (xs ≡ ys)
   Same (links ss) (links ts) = SameEach ss ts
   Same (rows bs) (rows cs) = SameRows bs cs
   Same (cap j) (cap k) = j ≡ k

@@ -1,9 +1,11 @@
 -- The text of a tree. Every line is indented by two spaces for each level and ends with a newline. (Own.)
 use Rattle.std.specs.Prelude.{ℕ, zero, suc, ◌+◌, ◌*◌, List, [], ◌∷◌, ◌++◌, length, codes, replicate, Bool, true, false}
+use Rattle.std.specs.Prelude.{map}
 use Rattle.std.specs.Fmt.{decimal}
 use Rattle.std.specs.Int.{to_be_bytes, w64}
 use Rattle.hex.specs.Hex.{encode_lower}
-use Rattle.capn_value.specs.Tree.{Tree, nil, node, voids, bits, bytes, pairs, quads, octs, links, rows, cap, Trees}
+use Rattle.capn_value.specs.NumberWidth.{NumberWidth, bit, byte, pair, quad, oct, is_set}
+use Rattle.capn_value.specs.Tree.{Tree, nil, node, voids, numbers, links, rows, cap, Trees}
 use Rattle.capn_value.specs.Tree.{no_trees, tree, Bodies, no_bodies, body, count, count_rows}
 
 -- one line
@@ -43,6 +45,20 @@ abbrev pub number_lines : ℕ → List ℕ → List ℕ
 number_lines level [] = []
 number_lines level (n ∷ ns) = line level (decimal n) ++ number_lines level ns
 
+-- what the first line of a list of numbers calls it
+abbrev pub numbers_name : NumberWidth → List ℕ
+numbers_name bit = codes "bits"
+numbers_name byte = codes "bytes"
+numbers_name pair = codes "u16"
+numbers_name quad = codes "u32"
+numbers_name oct = codes "u64"
+
+-- the lines below it: one of digits for bits and for bytes, else one for each number
+abbrev pub numbers_lines : NumberWidth → ℕ → List ℕ → List ℕ
+numbers_lines bit level xs = one_line level (length xs) (digits_of (map is_set xs))
+numbers_lines byte level xs = one_line level (length xs) (encode_lower xs)
+numbers_lines _ level xs = number_lines level xs
+
 -- the first line of a struct
 abbrev pub body_line : ℕ → ℕ → ℕ → List ℕ
 body_line level w s = line level (codes "struct " ++ (decimal w ++ 32 ∷ decimal s))
@@ -54,13 +70,8 @@ abbrev mutual
   shown level (node ws ss) =
       body_line level (length ws) (count ss) ++ (word_lines (level + 1) ws ++ shown_each (level + 1) ss)
   shown level (voids n) = line level (named (codes "void") n)
-  shown level (bits xs) =
-      line level (named (codes "bits") (length xs)) ++ one_line (level + 1) (length xs) (digits_of xs)
-  shown level (bytes xs) =
-      line level (named (codes "bytes") (length xs)) ++ one_line (level + 1) (length xs) (encode_lower xs)
-  shown level (pairs xs) = line level (named (codes "u16") (length xs)) ++ number_lines (level + 1) xs
-  shown level (quads xs) = line level (named (codes "u32") (length xs)) ++ number_lines (level + 1) xs
-  shown level (octs xs) = line level (named (codes "u64") (length xs)) ++ number_lines (level + 1) xs
+  shown level (numbers w xs) =
+      line level (named (numbers_name w) (length xs)) ++ numbers_lines w (level + 1) xs
   shown level (links ts) = line level (named (codes "pointers") (count ts)) ++ shown_each (level + 1) ts
   shown level (rows bs) = line level (named (codes "rows") (count_rows bs)) ++ shown_rows (level + 1) bs
   shown level (cap k) = line level (named (codes "capability") k)

@@ -1,18 +1,15 @@
 -- Values as mathematical trees: no capacity, no address, no allocator. (Page: structs, lists, capabilities.)
 use Rattle.std.specs.Prelude.{ℕ, zero, suc, ◌+◌, List, Bool, true, false, length}
+use Rattle.capn_value.specs.NumberWidth.{NumberWidth}
 
--- what a pointer denotes: null, a struct by its data words and slots, a list of one of eight kinds, or a capability
--- by its index
+-- what a pointer denotes: null, a struct by its data words and slots, a list of elements of no size, of numbers of one
+-- width, where a bit is 0 or 1, of pointers or of structs, or a capability by its index
 mutual
   pub data Tree : Type 0 where
     nil : Tree
     node : List ℕ → Trees → Tree
     voids : ℕ → Tree
-    bits : List Bool → Tree
-    bytes : List ℕ → Tree
-    pairs : List ℕ → Tree
-    quads : List ℕ → Tree
-    octs : List ℕ → Tree
+    numbers : NumberWidth → List ℕ → Tree
     links : Trees → Tree
     rows : Bodies → Tree
     cap : ℕ → Tree

@@ -1,6 +1,8 @@
 -- The tree that a `Value` stands for: the bridge from the declared type to the mathematical one.
 use Rattle.std.specs.Prelude.{ℕ, List, [], ◌∷◌, map}
-use Rattle.capn_value.specs.Tree.{Tree, nil, node, voids, bits, bytes, pairs, quads, octs, links, rows, cap, Trees}
+use Rattle.std.specs.Int.{from_bool}
+use Rattle.capn_value.specs.NumberWidth.{bit, byte, pair, quad, oct}
+use Rattle.capn_value.specs.Tree.{Tree, nil, node, voids, numbers, links, rows, cap, Trees}
 use Rattle.capn_value.specs.Tree.{no_trees, tree, Bodies, no_bodies, body}
 use Rattle.capn_value.specs.declared.value.Value.{Value, fold-Value}
 use Rattle.capn_value.specs.declared.value.Body.{Body}
@@ -22,11 +24,11 @@ module _ {A : Type 0} where
   value_step Value-F.Nil = nil
   value_step (Value-F.Node b) = node b.0 b.1
   value_step (Value-F.Voids n) = voids n
-  value_step (Value-F.Bits xs) = bits xs
-  value_step (Value-F.Bytes xs) = bytes xs
-  value_step (Value-F.Pairs xs) = pairs xs
-  value_step (Value-F.Quads xs) = quads xs
-  value_step (Value-F.Octs xs) = octs xs
+  value_step (Value-F.Bits xs) = numbers bit (map from_bool xs)
+  value_step (Value-F.Bytes xs) = numbers byte xs
+  value_step (Value-F.Pairs xs) = numbers pair xs
+  value_step (Value-F.Quads xs) = numbers quad xs
+  value_step (Value-F.Octs xs) = numbers oct xs
   value_step (Value-F.Links ts) = links (trees ts)
   value_step (Value-F.Rows bs) = rows (rows_from bs)
   value_step (Value-F.Cap k) = cap k

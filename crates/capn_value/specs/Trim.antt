@@ -1,6 +1,6 @@
 -- Values without trailing zero words and null slots of structs. (Page: canonicalization.)
 use Rattle.std.specs.Prelude.{ℕ, ◌+◌, max, List, [], ◌∷◌, take, Bool, cond, ◌&&◌, ◌==◌}
-use Rattle.capn_value.specs.Tree.{Tree, nil, node, voids, bits, bytes, pairs, quads, octs, links, rows, cap, Trees}
+use Rattle.capn_value.specs.Tree.{Tree, nil, node, voids, numbers, links, rows, cap, Trees}
 use Rattle.capn_value.specs.Tree.{no_trees, tree, Bodies, no_bodies, body, front, is_null}
 
 -- one more than what is kept after it, unless this is empty too
@@ -33,11 +33,7 @@ abbrev mutual
   trimmed nil = nil
   trimmed (node ws ss) = node (take (kept_words ws) ws) (front (kept_slots ss) (trimmed_each ss))
   trimmed (voids n) = voids n
-  trimmed (bits xs) = bits xs
-  trimmed (bytes xs) = bytes xs
-  trimmed (pairs xs) = pairs xs
-  trimmed (quads xs) = quads xs
-  trimmed (octs xs) = octs xs
+  trimmed (numbers w xs) = numbers w xs
   trimmed (links ts) = links (trimmed_each ts)
   trimmed (rows bs) = rows (trimmed_rows (kept_words_of_rows bs) (kept_slots_of_rows bs) bs)
   trimmed (cap k) = cap k

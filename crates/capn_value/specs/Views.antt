@@ -1,6 +1,9 @@
 -- The equations of `tree_of`, one for each kind.
 use Rattle.std.proofs.Common.{◌≡◌, ℕ, List, [], ◌∷◌, map, refl, ap, ap₂, ◌∙◌, rules, Bool, length, suc}
-use Rattle.capn_value.specs.Tree.{nil, node, voids, bits, bytes, pairs, quads, octs, links, rows, cap, tree, body}
+use Rattle.std.proofs.lemmas.List.{length-map}
+use Rattle.std.specs.Int.{from_bool}
+use Rattle.capn_value.specs.NumberWidth.{bit, byte, pair, quad, oct}
+use Rattle.capn_value.specs.Tree.{nil, node, voids, numbers, links, rows, cap, tree, body}
 use Rattle.capn_value.specs.Tree.{count, count_rows}
 use Rattle.capn_value.specs.TreeOf.{trees, rows_from, tree_of, body_of, trees_of, rows_of}
 use Rattle.capn_value.specs.declared.value.Value.{Value, Nil, Node, Voids, Bits, Bytes, Pairs, Quads, Octs, Links, Rows}
@@ -16,23 +19,23 @@ pub tree_of-Voids : (A : Type 0) (n : ℕ) → tree_of {A = A} (Voids n) ≡ voi
 unfolding tree_of
 tree_of-Voids A n = search (rules, the_lemmas)
 
-pub tree_of-Bits : (A : Type 0) (xs : List Bool) → tree_of {A = A} (Bits xs) ≡ bits xs
+pub tree_of-Bits : (A : Type 0) (xs : List Bool) → tree_of {A = A} (Bits xs) ≡ numbers bit (map from_bool xs)
 unfolding tree_of
 tree_of-Bits A xs = search (rules, the_lemmas)
 
-pub tree_of-Bytes : (A : Type 0) (xs : List ℕ) → tree_of {A = A} (Bytes xs) ≡ bytes xs
+pub tree_of-Bytes : (A : Type 0) (xs : List ℕ) → tree_of {A = A} (Bytes xs) ≡ numbers byte xs
 unfolding tree_of
 tree_of-Bytes A xs = search (rules, the_lemmas)
 
-pub tree_of-Pairs : (A : Type 0) (xs : List ℕ) → tree_of {A = A} (Pairs xs) ≡ pairs xs
+pub tree_of-Pairs : (A : Type 0) (xs : List ℕ) → tree_of {A = A} (Pairs xs) ≡ numbers pair xs
 unfolding tree_of
 tree_of-Pairs A xs = search (rules, the_lemmas)
 
-pub tree_of-Quads : (A : Type 0) (xs : List ℕ) → tree_of {A = A} (Quads xs) ≡ quads xs
+pub tree_of-Quads : (A : Type 0) (xs : List ℕ) → tree_of {A = A} (Quads xs) ≡ numbers quad xs
 unfolding tree_of
 tree_of-Quads A xs = search (rules, the_lemmas)
 
-pub tree_of-Octs : (A : Type 0) (xs : List ℕ) → tree_of {A = A} (Octs xs) ≡ octs xs
+pub tree_of-Octs : (A : Type 0) (xs : List ℕ) → tree_of {A = A} (Octs xs) ≡ numbers oct xs
 unfolding tree_of
 tree_of-Octs A xs = search (rules, the_lemmas)
 
@@ -78,7 +81,12 @@ module _ {A : Type 0} where
   count_rows-rows_of [] = refl
   count_rows-rows_of (b ∷ bs) = ap suc (count_rows-rows_of bs)
 
+-- bits, as numbers, are as many
+pub length-bits : (xs : List Bool) → length (map from_bool xs) ≡ length xs
+length-bits xs = length-map xs from_bool
+
 pub ruleset views = (
+  length-bits,
   count-trees_of,
   count_rows-rows_of,
   tree_of-Nil,

@@ -5,19 +5,20 @@ use Rattle.std.specs.List.{flat_map}
 use Rattle.std.specs.Option.{option_or}
 use Rattle.std.proofs.lemmas.Grind.{flat_map-append}
 use Rattle.capn_words.specs.declared.space.Place.{Place}
-use Rattle.capn_value.specs.Tree.{Tree, nil, node, voids, bits, bytes, pairs, quads, octs, links, rows, cap, Trees}
+use Rattle.capn_value.specs.Tree.{Tree, nil, node, voids, numbers, links, rows, cap, Trees}
 use Rattle.capn_value.specs.Tree.{no_trees, tree, Bodies, no_bodies, body, count, count_rows}
 use Rattle.capn_value.specs.FirstCap.{first_cap, first_in, first_in_rows}
-use Rattle.capn_words.specs.declared.pointer.Width.TheVariants.{W0, W1, W8, W16, W32, W64, Link}
-use Rattle.capn_walk.specs.declared.target.Target.TheVariants as targets
-use Rattle.capn_walk.specs.declared.target.Shape.{Shape}
-use Rattle.capn_walk.specs.declared.target.Shape.TheVariants as shapes
-use Rattle.capn_walk.specs.Target.{target}
+use Rattle.capn_words.specs.declared.pointer.Width.TheVariants.{W0, Link}
+use Rattle.capn_target.specs.declared.target.Target.TheVariants as targets
+use Rattle.capn_target.specs.declared.target.Shape.{Shape}
+use Rattle.capn_target.specs.declared.target.Shape.TheVariants as shapes
+use Rattle.capn_target.specs.Target.{target, list_width}
 use Rattle.capn_walk.specs.Visits.{Visit, pays, fails, places, row_places, slots, visits}
 use Rattle.capn_walk.specs.Accepted.{AllPay}
 use Rattle.capn_walk.specs.ValueAt.{IsAt, AreAt, RowsAt}
 use Rattle.capn_walk.specs.Surveyed.{cap_of, first_cap_of}
 use Rattle.capn_walk.proofs.shared.Costs.{all-front, all-back}
+use Rattle.capn_walk.proofs.shared.Numbers.{no-slots}
 use Rattle.capn_walk.proofs.shared.Walks.{slot, visits-null, visits-cap, visits-deep, visits-object}
 
 option_or-assoc : (a b c : Option ℕ) → option_or a (option_or b c) ≡ option_or (option_or a b) c
@@ -72,11 +73,10 @@ module _ (m : List (List ℕ)) where
           o.caps ∙ caps-in_rows bs i.0 i.1 n.segment (n.start + 1) (d - 1) (let e : suc n.start ≡ n.start + 1 =
           omega arith in rw e at n.inside) o.below
       caps-at (voids n) at d i h = (object at d i.segment i.start i.pads (shapes.Many W0 n) i.is h).caps
-      caps-at (bits xs) at d i h = (object at d i.segment i.start i.pads (shapes.Many W1 (length xs)) i.is h).caps
-      caps-at (bytes xs) at d i h = (object at d i.segment i.start i.pads (shapes.Many W8 (length xs)) i.is h).caps
-      caps-at (pairs xs) at d i h = (object at d i.segment i.start i.pads (shapes.Many W16 (length xs)) i.is h).caps
-      caps-at (quads xs) at d i h = (object at d i.segment i.start i.pads (shapes.Many W32 (length xs)) i.is h).caps
-      caps-at (octs xs) at d i h = (object at d i.segment i.start i.pads (shapes.Many W64 (length xs)) i.is h).caps
+      caps-at (numbers a xs) at d i h =
+          (object at d i.segment i.start i.pads (shapes.Many (list_width a) (length xs)) i.is h).caps
+          ∙ ap (λ (ps : List Place). first_cap_of m (flat_map (visits m base (d - 1)) ps))
+          (no-slots a i.segment i.start (length xs))
 
       caps-in : (ts : Trees) (s w d : ℕ) → AreAt m s w ts → AllPay (flat_map (visits m base d) (places s w (count ts)))
           →

@@ -3,10 +3,10 @@ use Rattle.std.proofs.Common.{◌≡◌, true, ℕ, zero, suc, ◌+◌, ◌-◌,
 use Rattle.std.proofs.Common.{ap, ap₂, sym, ◌∙◌, arith}
 use Rattle.capn_words.specs.declared.space.Place.{Place}
 use Rattle.capn_value.specs.Cost.{base}
-use Rattle.capn_walk.specs.declared.target.Target.{Target}
-use Rattle.capn_walk.specs.declared.target.Target.TheVariants as targets
-use Rattle.capn_walk.specs.declared.target.Fault.{Fault}
-use Rattle.capn_walk.specs.Target.{target}
+use Rattle.capn_target.specs.declared.target.Target.{Target}
+use Rattle.capn_target.specs.declared.target.Target.TheVariants as targets
+use Rattle.capn_target.specs.declared.target.Fault.{Fault}
+use Rattle.capn_target.specs.Target.{target}
 use Rattle.capn_walk.specs.Visits.{Visit, pays, price, slots, visits, visits_of}
 use Rattle.capn_walk.specs.Accepted.{AllPay, IsAccepted, root, may_be_root, visits_within}
 use Rattle.capn_walk.specs.Limits.{Bounds}

@@ -1,7 +1,6 @@
 -- Where no visit is a fault, a value stands at the place.
-use Rattle.std.proofs.Common.{◌≡◌, ℕ, zero, suc, ◌+◌, ◌-◌, ◌*◌, ◌<◌, ◌≤◌, ◌==◌, Bool, List, [], ◌∷◌, length, take}
-use Rattle.std.proofs.Common.{slice_index, map, Result, Ok, Err, refl, ap, subst, ◌∙◌, arith, length-drop}
-use Rattle.std.specs.Int.{from_bool}
+use Rattle.std.proofs.Common.{◌≡◌, ℕ, zero, suc, ◌+◌, ◌-◌, ◌*◌, ◌<◌, ◌≤◌, ◌==◌, List, [], ◌∷◌, length, take}
+use Rattle.std.proofs.Common.{slice_index, Result, Ok, Err, refl, ap, subst, ◌∙◌, arith, length-drop}
 use Rattle.std.specs.List.{flat_map}
 use Rattle.std.proofs.lemmas.List.{length-take-le}
 use Rattle.std.proofs.lemmas.Grind.{flat_map-append}
@@ -9,19 +8,20 @@ use Rattle.capn_words.specs.Message.{segment_at}
 use Rattle.capn_words.specs.declared.space.Place.{Place}
 use Rattle.capn_words.specs.declared.pointer.Width.{Width}
 use Rattle.capn_words.specs.declared.pointer.Width.TheVariants.{W0, W1, W8, W16, W32, W64, Link, Rows}
-use Rattle.capn_value.specs.Tree.{Tree, nil, node, voids, bits, bytes, pairs, quads, octs, links, rows, cap, Trees}
+use Rattle.capn_value.specs.NumberWidth.{NumberWidth, bit, byte, pair, quad, oct, bits_in, per_word}
+use Rattle.capn_value.specs.Tree.{Tree, nil, node, voids, numbers, links, rows, cap, Trees}
 use Rattle.capn_value.specs.Tree.{no_trees, tree, Bodies, no_bodies, body, count, count_rows}
-use Rattle.capn_walk.specs.declared.target.Target.{Target}
-use Rattle.capn_walk.specs.declared.target.Target.TheVariants as targets
-use Rattle.capn_walk.specs.declared.target.Shape.{Shape}
-use Rattle.capn_walk.specs.declared.target.Shape.TheVariants as shapes
-use Rattle.capn_walk.specs.declared.target.Fault.{Fault}
-use Rattle.capn_walk.specs.Target.{target}
+use Rattle.capn_target.specs.declared.target.Target.{Target}
+use Rattle.capn_target.specs.declared.target.Target.TheVariants as targets
+use Rattle.capn_target.specs.declared.target.Shape.{Shape}
+use Rattle.capn_target.specs.declared.target.Shape.TheVariants as shapes
+use Rattle.capn_target.specs.declared.target.Fault.{Fault}
+use Rattle.capn_target.specs.Target.{target, list_width}
 use Rattle.capn_walk.specs.Visits.{places, row_places, slots, visits}
 use Rattle.capn_walk.specs.Accepted.{AllPay}
 use Rattle.capn_walk.specs.ValueAt.{IsAt, AreAt, RowsAt, StandAt, AreElements, element, words_from}
 use Rattle.capn_walk.proofs.shared.Costs.{all-front, all-back}
-use Rattle.capn_walk.proofs.shared.Inside.{inside}
+use Rattle.capn_target.proofs.shared.Inside.{inside}
 use Rattle.capn_walk.proofs.shared.Walks.{slot, visits-fault, visits-deep, visits-object}
 
 -- ---- a list of what each index has
@@ -39,16 +39,6 @@ listed-at f zero i h = absurd (omega arith)
 listed-at f (suc n) zero h = refl
 listed-at f (suc n) (suc i) h = listed-at (λ j. f (suc j)) n i (omega arith)
 
-map-listed : (f : ℕ → Bool) (n : ℕ) → map from_bool (listed f n) ≡ listed (λ i. from_bool (f i)) n
-map-listed f zero = refl
-map-listed f (suc n) = ap (λ (xs : List ℕ). from_bool (f 0) ∷ xs) (map-listed (λ i. f (suc i)) n)
-
--- a number below 2 as a bit
-bit-of : (n : ℕ) → n < 2 → from_bool (n == 1) ≡ n
-bit-of zero h = refl
-bit-of (suc zero) h = refl
-bit-of (suc (suc n)) h = absurd (omega arith)
-
 module _ (m : List (List ℕ)) where
   elements-listed : (each width s w n : ℕ)
       → AreElements each width (words_from m s w) (listed (element each width (words_from m s w)) n)
@@ -56,22 +46,36 @@ module _ (m : List (List ℕ)) where
       let l = length-listed (element each width (words_from m s w)) n in
       listed-at (element each width (words_from m s w)) n i (omega arith)
 
-  bits-listed : (s w n : ℕ)
-      → AreElements 64 1 (words_from m s w) (map from_bool (listed (λ i. element 64 1 (words_from m s w) i == 1) n))
-  bits-listed s w n i h =
-      let f : ℕ → Bool = λ i. element 64 1 (words_from m s w) i == 1 in
-      let e = map-listed f n in
-      let l = length-listed (λ i. from_bool (f i)) n in
-      let k = ap length e in
-      let at = ap (λ (xs : List ℕ). slice_index xs i) e in
-      at ∙ listed-at (λ i. from_bool (f i)) n i (omega arith) ∙ bit-of (element 64 1 (words_from m s w) i) (omega arith)
-
   -- n words that lie inside the segment
   length-words : (s w n : ℕ) → w + n ≤ length (segment_at m s) → length (take n (words_from m s w)) ≡ n
   length-words s w n h = let l = length-drop w (segment_at m s) in length-take-le n (words_from m s w) (omega arith)
 
   are-words : (s w n : ℕ) → w + n ≤ length (segment_at m s) → StandAt m s w (take n (words_from m s w))
   are-words s w n h = ap (λ (k : ℕ). take k (words_from m s w)) (length-words s w n h)
+
+  of-numbers : (a : NumberWidth) (at : Place) (s start pads n : ℕ)
+      → target m at ≡ Ok (targets.Content s start (shapes.Many (list_width a) n) pads) → (v : Tree) × IsAt m at v
+  of-numbers oct at s start pads n e =
+      let i = (inside m at s start pads (shapes.Many W64 n) e).0 in (
+        numbers oct (take n (words_from m s start)),
+        record {
+          segment = s;
+          start = start;
+          pads = pads;
+          is = rw (length-words s start n i) e;
+          inside = are-words s start n i;
+        },
+      )
+  of-numbers a at s start pads n e = (
+    numbers a (listed (element (per_word a) (bits_in a) (words_from m s start)) n),
+    record {
+      segment = s;
+      start = start;
+      pads = pads;
+      is = rw (length-listed (element (per_word a) (bits_in a) (words_from m s start)) n) e;
+      inside = elements-listed (per_word a) (bits_in a) s start n;
+    },
+  )
 
   -- a list without pointers
   abbrev HasNoSlots : Width → Type 0
@@ -82,65 +86,11 @@ module _ (m : List (List ℕ)) where
       → target m at ≡ Ok (targets.Content s start (shapes.Many width n) pads) →
       HasNoSlots width → (v : Tree) × IsAt m at v
   of-list at s start pads W0 n e h = (voids n, record { segment = s; start = start; pads = pads; is = e; inside = tt })
-  of-list at s start pads W1 n e h =
-      let xs = listed (λ i. element 64 1 (words_from m s start) i == 1) n in (
-        bits xs,
-        record {
-          segment = s;
-          start = start;
-          pads = pads;
-          is = rw (length-listed (λ i. element 64 1 (words_from m s start) i == 1) n) e;
-          inside = bits-listed s start n;
-        },
-      )
-  of-list at s start pads W8 n e h =
-      let xs = listed (element 8 8 (words_from m s start)) n in (
-        bytes xs,
-        record {
-          segment = s;
-          start = start;
-          pads = pads;
-          is =
-              rw (length-listed (element 8 8 (words_from m s start)) n) e;
-          inside = elements-listed 8 8 s start n;
-        },
-      )
-  of-list at s start pads W16 n e h =
-      let xs = listed (element 4 16 (words_from m s start)) n in (
-        pairs xs,
-        record {
-          segment = s;
-          start = start;
-          pads = pads;
-          is =
-              rw (length-listed (element 4 16 (words_from m s start)) n) e;
-          inside = elements-listed 4 16 s start n;
-        },
-      )
-  of-list at s start pads W32 n e h =
-      let xs = listed (element 2 32 (words_from m s start)) n in (
-        quads xs,
-        record {
-          segment = s;
-          start = start;
-          pads = pads;
-          is =
-              rw (length-listed (element 2 32 (words_from m s start)) n) e;
-          inside = elements-listed 2 32 s start n;
-        },
-      )
-  of-list at s start pads W64 n e h =
-      let i = (inside m at s start pads (shapes.Many W64 n) e).0 in (
-        octs (take n (words_from m s start)),
-        record {
-          segment = s;
-          start = start;
-          pads = pads;
-          is = rw (length-words s start n i) e;
-          inside =
-              are-words s start n i;
-        },
-      )
+  of-list at s start pads W1 n e h = of-numbers bit at s start pads n e
+  of-list at s start pads W8 n e h = of-numbers byte at s start pads n e
+  of-list at s start pads W16 n e h = of-numbers pair at s start pads n e
+  of-list at s start pads W32 n e h = of-numbers quad at s start pads n e
+  of-list at s start pads W64 n e h = of-numbers oct at s start pads n e
   of-list at s start pads Link n e h = absurd h
   of-list at s start pads Rows n e h = absurd (inside m at s start pads (shapes.Many Rows n) e).1
 

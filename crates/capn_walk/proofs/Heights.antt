@@ -4,16 +4,16 @@ use Rattle.std.proofs.Common.{Err, refl, ap, ap₂, ◌∙◌, arith}
 use Rattle.std.specs.List.{flat_map}
 use Rattle.std.proofs.lemmas.Grind.{flat_map-append}
 use Rattle.capn_words.specs.declared.space.Place.{Place}
-use Rattle.capn_words.specs.declared.pointer.Width.TheVariants.{W0, W1, W8, W16, W32, W64, Link}
-use Rattle.capn_value.specs.Tree.{Tree, nil, node, voids, bits, bytes, pairs, quads, octs, links, rows, cap, Trees}
+use Rattle.capn_words.specs.declared.pointer.Width.TheVariants.{W0, Link}
+use Rattle.capn_value.specs.Tree.{Tree, nil, node, voids, numbers, links, rows, cap, Trees}
 use Rattle.capn_value.specs.Tree.{no_trees, tree, Bodies, no_bodies, body, count, count_rows}
 use Rattle.capn_value.specs.Cost.{base, height, greatest, greatest_in_rows}
-use Rattle.capn_walk.specs.declared.target.Target.{Target}
-use Rattle.capn_walk.specs.declared.target.Target.TheVariants as targets
-use Rattle.capn_walk.specs.declared.target.Shape.{Shape}
-use Rattle.capn_walk.specs.declared.target.Shape.TheVariants as shapes
-use Rattle.capn_walk.specs.declared.target.Fault.{Fault}
-use Rattle.capn_walk.specs.Target.{target}
+use Rattle.capn_target.specs.declared.target.Target.{Target}
+use Rattle.capn_target.specs.declared.target.Target.TheVariants as targets
+use Rattle.capn_target.specs.declared.target.Shape.{Shape}
+use Rattle.capn_target.specs.declared.target.Shape.TheVariants as shapes
+use Rattle.capn_target.specs.declared.target.Fault.{Fault}
+use Rattle.capn_target.specs.Target.{target, list_width}
 use Rattle.capn_walk.specs.Visits.{places, row_places, slots, visits}
 use Rattle.capn_walk.specs.Accepted.{AllPay, IsAccepted, root, may_be_root}
 use Rattle.capn_walk.specs.ValueAt.{IsAt, AreAt, RowsAt}
@@ -25,6 +25,7 @@ use Rattle.capn_walk.proofs.DeepVisits.{reach-null, reach-cap, reach-object}
 use Rattle.capn_walk.proofs.Depths.{is-depth}
 use Rattle.capn_walk.proofs.RootWalks.{from-root, wrong-root, faulty-root}
 use Rattle.capn_walk.proofs.shared.Costs.{all-front, all-back}
+use Rattle.capn_walk.proofs.shared.Numbers.{no-slots}
 use Rattle.capn_walk.proofs.shared.Walks.{slot, visits-deep, visits-object}
 
 greatest_of-append : (f : Place → ℕ) (ps qs : List Place)
@@ -65,11 +66,9 @@ module _ (m : List (List ℕ)) (base : ℕ) where
         o.is ∙ ap (λ (k : ℕ). 1 + k)
         (reach-in_rows bs i.0 i.1 n.segment (n.start + 1) (d - 1) (rw e at n.inside) o.below)
     reach-at (voids n) at d i h = (object at d i.segment i.start i.pads (shapes.Many W0 n) i.is h).is
-    reach-at (bits xs) at d i h = (object at d i.segment i.start i.pads (shapes.Many W1 (length xs)) i.is h).is
-    reach-at (bytes xs) at d i h = (object at d i.segment i.start i.pads (shapes.Many W8 (length xs)) i.is h).is
-    reach-at (pairs xs) at d i h = (object at d i.segment i.start i.pads (shapes.Many W16 (length xs)) i.is h).is
-    reach-at (quads xs) at d i h = (object at d i.segment i.start i.pads (shapes.Many W32 (length xs)) i.is h).is
-    reach-at (octs xs) at d i h = (object at d i.segment i.start i.pads (shapes.Many W64 (length xs)) i.is h).is
+    reach-at (numbers a xs) at d i h =
+        (object at d i.segment i.start i.pads (shapes.Many (list_width a) (length xs)) i.is h).is
+        ∙ ap (λ (ps : List Place). 1 + reach_of m (d - 1) ps) (no-slots a i.segment i.start (length xs))
 
     reach-in : (ts : Trees) (s w d : ℕ) → AreAt m s w ts → AllPay (flat_map (visits m base d) (places s w (count ts)))
         → reach_of m d (places s w (count ts)) ≡ greatest ts

@@ -5,13 +5,14 @@ use Rattle.std.proofs.Math.Nat.{mod-lt}
 use Rattle.capn_words.specs.Message.{segment_at}
 use Rattle.capn_words.specs.declared.space.Place.{Place}
 use Rattle.capn_words.specs.declared.pointer.Width.TheVariants.{W0}
-use Rattle.capn_value.specs.Tree.{Tree, nil, node, voids, bits, bytes, pairs, quads, octs, links, rows, cap, Trees}
+use Rattle.capn_value.specs.NumberWidth.{NumberWidth, oct, bits_in, per_word}
+use Rattle.capn_value.specs.Tree.{Tree, nil, node, voids, numbers, links, rows, cap, Trees}
 use Rattle.capn_value.specs.Tree.{no_trees, tree, Bodies, no_bodies, body}
 use Rattle.capn_value.specs.InRange.{AllBelow, InRange, EachInRange, RowsInRange}
 use Rattle.capn_value.proofs.shared.Ranges.{below_from, below-take}
-use Rattle.capn_walk.specs.declared.target.Shape.TheVariants as shapes
-use Rattle.capn_walk.specs.ValueAt.{AreElements, StandAt, words_from, IsAt, AreAt, RowsAt}
-use Rattle.capn_walk.proofs.shared.Ranges.{room-of, cap-of}
+use Rattle.capn_target.specs.declared.target.Shape.TheVariants as shapes
+use Rattle.capn_walk.specs.ValueAt.{AreElements, StandAt, words_from, IsAt, AreAt, RowsAt, AreNumbers}
+use Rattle.capn_target.proofs.shared.Ranges.{room-of, cap-of}
 
 below-drop : (most n : ℕ) (xs : List ℕ) → AllBelow most xs → AllBelow most (drop n xs)
 below-drop most zero xs h = h
@@ -37,6 +38,11 @@ module _ (m : List (List ℕ)) (each : (s k : ℕ) → slice_index (segment_at m
       (below-take (2 ^ 64) (length ws) (drop w (segment_at m s))
       (below-drop (2 ^ 64) w (segment_at m s) (below_from (2 ^ 64) (segment_at m s) (each s))))
 
+  numbers-below : (a : NumberWidth) (s w : ℕ) (xs : List ℕ) → AreNumbers a (words_from m s w) xs
+      → AllBelow (2 ^ bits_in a) xs
+  numbers-below oct s w xs h = words-below s w xs h
+  numbers-below a s w xs h = elements-below (per_word a) (bits_in a) (words_from m s w) xs (omega arith) h
+
   mutual
     -- a value at a place of a message whose words are below 2^64 is in range
     pub in_range-at : (v : Tree) (at : Place) → IsAt m at v → InRange v
@@ -45,11 +51,7 @@ module _ (m : List (List ℕ)) (each : (s k : ℕ) → slice_index (segment_at m
     in_range-at (node ws ss) at h =
         (words-below h.segment h.start ws h.inside.0, in_range-slots ss h.segment (h.start + length ws) h.inside.1)
     in_range-at (voids n) at h = omega (arith, room-of m at h.segment h.start h.pads (shapes.Many W0 n) h.is)
-    in_range-at (bits xs) at h = tt
-    in_range-at (bytes xs) at h = elements-below 8 8 (words_from m h.segment h.start) xs (omega arith) h.inside
-    in_range-at (pairs xs) at h = elements-below 4 16 (words_from m h.segment h.start) xs (omega arith) h.inside
-    in_range-at (quads xs) at h = elements-below 2 32 (words_from m h.segment h.start) xs (omega arith) h.inside
-    in_range-at (octs xs) at h = words-below h.segment h.start xs h.inside
+    in_range-at (numbers a xs) at h = numbers-below a h.segment h.start xs h.inside
     in_range-at (links ts) at h = in_range-slots ts h.segment h.start h.inside
     in_range-at (rows bs) at h = in_range-rows bs h.0 h.1 h.3.segment (suc h.3.start) h.3.inside
 

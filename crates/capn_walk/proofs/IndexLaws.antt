@@ -9,14 +9,15 @@ use Rattle.capn_words.specs.Message.{segment_at, IsPlace}
 use Rattle.capn_words.specs.declared.pointer.Width.TheVariants.{W0, W1, W8, W16, W32, W64, Link, Rows}
 use Rattle.capn_value.specs.Cost.{base}
 use Rattle.capn_walk.specs.declared.entry.Entry.{Entry}
-use Rattle.capn_walk.specs.declared.target.Target.{Target}
-use Rattle.capn_walk.specs.declared.target.Target.TheVariants as targets
-use Rattle.capn_walk.specs.declared.target.Shape.TheVariants as shapes
-use Rattle.capn_walk.specs.declared.target.Fault.{Fault}
-use Rattle.capn_walk.specs.Target.{target}
+use Rattle.capn_target.specs.declared.target.Target.{Target}
+use Rattle.capn_target.specs.declared.target.Target.TheVariants as targets
+use Rattle.capn_target.specs.declared.target.Shape.TheVariants as shapes
+use Rattle.capn_target.specs.declared.target.Fault.{Fault}
+use Rattle.capn_target.specs.Target.{target}
 use Rattle.capn_walk.specs.Visits.{Visit, pays, price, places, row_places, visits, visits_of}
 use Rattle.capn_walk.specs.Accepted.{AllPay, root, visits_at_root, root_visits, IsAccepted}
-use Rattle.capn_walk.specs.View.{slots_below, IsInMessage}
+use Rattle.capn_walk.specs.View.{slots_below}
+use Rattle.capn_target.specs.Shapes.{IsInMessage}
 use Rattle.capn_walk.specs.Limits.{Bounds}
 use Rattle.capn_walk.specs.Index.{entry_of, entry_target, kept, kept_of, entered, entries, entries_of, index_of}
 use Rattle.capn_walk.specs.Index.{entry_at, beside, IndexesAreReadable}
@@ -25,7 +26,7 @@ use Rattle.capn_walk.proofs.shared.Costs.{all-front, all-back}
 use Rattle.capn_walk.proofs.shared.Walks.{visits-null, visits-cap, visits-fault, visits-deep, visits-object}
 use Rattle.capn_walk.proofs.FilledRoom.{entries-leaf, entries-object}
 use Rattle.capn_walk.proofs.Answering.{all-at_root}
-use Rattle.capn_walk.proofs.SeenInside.{found-inside}
+use Rattle.capn_target.proofs.shared.Inside.{found-inside}
 
 -- ---- what an entry keeps of a target
 

@@ -18,7 +18,7 @@ pub mod ValuesRead
 pub mod CapsMet
 pub mod Exists
 pub mod RootSurveys
-pub mod SeenInside
+pub mod Shifts
 pub mod Stepped
 pub mod Showing
 pub mod WorkedValues

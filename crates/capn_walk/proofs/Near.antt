@@ -6,7 +6,7 @@ use Rattle.capn_words.specs.declared.space.Place.{Place}
 use Rattle.capn_words.specs.declared.pointer.Pointer.{Pointer}
 use Rattle.capn_words.specs.declared.pointer.Pointer.TheVariants.{Node, Many}
 use Rattle.capn_words.specs.declared.pointer.Width.{Width}
-use Rattle.capn_walk.specs.Target.{named, near, pointer_in, target}
+use Rattle.capn_target.specs.Target.{named, near, pointer_in, target}
 
 pub by-pointer : (m : List (List ℕ)) (at : Place) (p : Pointer) → p ≡ pointer_in m at.segment at.word
     → named m at.segment at.word p ≡ target m at

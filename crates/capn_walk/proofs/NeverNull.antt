@@ -10,11 +10,11 @@ use Rattle.capn_words.specs.declared.pointer.Pointer.TheVariants.{Nil, Node, Man
 use Rattle.capn_words.specs.declared.pointer.Width.{Width}
 use Rattle.capn_words.specs.declared.pointer.Width.TheVariants.{W0, W1, W8, W16, W32, W64, Link, Rows}
 use Rattle.capn_words.proofs.shared.Choices.{pick}
-use Rattle.capn_walk.specs.declared.target.Target.{Target}
-use Rattle.capn_walk.specs.declared.target.Target.TheVariants as targets
-use Rattle.capn_walk.specs.declared.target.Fault.{Fault}
-use Rattle.capn_walk.specs.Target.{within, list, struct_from, list_from, near, second_pad, is_second_pad}
-use Rattle.capn_walk.specs.Target.{moved, two_pads, pointer_in, landing, named, target}
+use Rattle.capn_target.specs.declared.target.Target.{Target}
+use Rattle.capn_target.specs.declared.target.Target.TheVariants as targets
+use Rattle.capn_target.specs.declared.target.Fault.{Fault}
+use Rattle.capn_target.specs.Target.{within, list, struct_from, list_from, near, second_pad, is_second_pad}
+use Rattle.capn_target.specs.Target.{moved, two_pads, pointer_in, landing, named, target}
 
 -- what is named, if anything is, isn't null
 abbrev pub IsThere : Result Target Fault → Type 0

@@ -5,10 +5,10 @@ use Rattle.capn_words.specs.Message.{segment_at}
 use Rattle.capn_value.specs.Cost.{base}
 use Rattle.capn_walk.specs.declared.entry.Entry.{Entry}
 use Rattle.capn_walk.specs.declared.entry.Indexed.{Indexed}
-use Rattle.capn_walk.specs.declared.target.Target.{Target}
-use Rattle.capn_walk.specs.declared.target.Fault.TheVariants as faults
+use Rattle.capn_target.specs.declared.target.Target.{Target}
+use Rattle.capn_target.specs.declared.target.Fault.TheVariants as faults
 use Rattle.capn_walk.specs.declared.walk_answer.Stopped.{Stopped}
-use Rattle.capn_walk.specs.Target.{target}
+use Rattle.capn_target.specs.Target.{target}
 use Rattle.capn_walk.specs.Visits.{Visit, visits}
 use Rattle.capn_walk.specs.inner.Verdict.{judge}
 use Rattle.capn_walk.specs.Accepted.{root, may_be_root, IsWalkRefused, visits_within}

@@ -8,9 +8,9 @@ use Rattle.capn_value.specs.Cost.{base}
 use Rattle.capn_value.specs.Tree.{Tree}
 use Rattle.capn_value.specs.FirstCap.{first_cap}
 use Rattle.capn_walk.specs.declared.slots_left.SlotsLeft.{SlotsLeft}
-use Rattle.capn_walk.specs.declared.target.Target.{Target}
+use Rattle.capn_target.specs.declared.target.Target.{Target}
 use Rattle.capn_walk.specs.declared.survey_answer.Measured.{Measured}
-use Rattle.capn_walk.specs.Target.{target}
+use Rattle.capn_target.specs.Target.{target}
 use Rattle.capn_walk.specs.Visits.{Visit, pays, visits, visits_of}
 use Rattle.capn_walk.specs.inner.Verdict.{judge, after, accepted}
 use Rattle.capn_walk.specs.inner.Outcomes.{SurveysAs}

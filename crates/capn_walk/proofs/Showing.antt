@@ -1,18 +1,19 @@
 -- A view of a slot shows the value that stands there.
 use Rattle.std.proofs.Common.{◌≡◌, ℕ, zero, suc, ◌+◌, ◌*◌, ◌<◌, List, length, slice_index, Ok, refl, ap, sym, ◌∙◌}
 use Rattle.std.proofs.Common.{arith}
-use Rattle.std.specs.Int.{from_bool}
-use Rattle.std.proofs.lemmas.List.{get_or-take, length-map}
+use Rattle.std.proofs.lemmas.List.{get_or-take}
 use Rattle.capn_words.specs.declared.space.Place.{Place}
-use Rattle.capn_words.specs.declared.pointer.Width.TheVariants.{W0, W1, W8, W16, W32, W64, Link}
-use Rattle.capn_value.specs.Tree.{Tree, nil, node, voids, bits, bytes, pairs, quads, octs, links, rows, cap, Trees}
+use Rattle.capn_words.specs.declared.pointer.Width.TheVariants.{W0, Link}
+use Rattle.capn_value.specs.NumberWidth.{NumberWidth, oct}
+use Rattle.capn_value.specs.Tree.{Tree, nil, node, voids, numbers, links, rows, cap, Trees}
 use Rattle.capn_value.specs.Tree.{no_trees, tree, Bodies, no_bodies, body, count, count_rows, tree_at}
-use Rattle.capn_walk.specs.declared.target.Target.{Target}
-use Rattle.capn_walk.specs.declared.target.Target.TheVariants as targets
-use Rattle.capn_walk.specs.declared.target.Shape.TheVariants as shapes
-use Rattle.capn_walk.specs.Target.{target}
-use Rattle.capn_walk.specs.ValueAt.{IsAt, AreAt, RowsAt, StandAt, words_from}
-use Rattle.capn_walk.specs.ShownValue.{Shows, ShowsStruct, words_of_row, slots_of_row}
+use Rattle.capn_target.specs.declared.target.Target.{Target}
+use Rattle.capn_target.specs.declared.target.Target.TheVariants as targets
+use Rattle.capn_target.specs.declared.target.Shape.TheVariants as shapes
+use Rattle.capn_target.specs.Target.{target, list_width}
+use Rattle.capn_walk.specs.ValueAt.{IsAt, AreAt, RowsAt, StandAt, AreNumbers, words_from}
+use Rattle.capn_walk.specs.ShownValue.{Shows, ShowsStruct, ShowsNumbers, words_of_row, slots_of_row}
+use Rattle.capn_walk.specs.View.{kind_of_list}
 use Rattle.capn_walk.proofs.shared.Walks.{slot}
 
 module _ (m : List (List ℕ)) where
@@ -40,6 +41,14 @@ module _ (m : List (List ℕ)) where
     slot = λ i h. slot-at ss s (start + a) i are h;
   }
 
+  of-numbers : (a : NumberWidth) (s start pads : ℕ) (xs : List ℕ) → AreNumbers a (words_from m s start) xs →
+      ShowsNumbers m (targets.Content s start (shapes.Many (list_width a) (length xs)) pads)
+      (kind_of_list (list_width a)) xs
+  of-numbers oct s start pads xs h =
+      record { kind = refl; len = refl; numbers = refl; number = λ i b. word-at s start xs i h b }
+  of-numbers a s start pads xs h =
+      record { kind = refl; len = refl; numbers = refl; number = λ i b. sym (h i b) }
+
   row-shown : (bs : Bodies) (a b s w i : ℕ) → RowsAt m a b s w bs → i < count_rows bs →
       ShowsStruct m (targets.Content s (w + i * (a + b)) (shapes.Node a b) 0) (words_of_row bs i) (slots_of_row bs i)
   row-shown no_bodies a b s w i r h = absurd (omega arith)
@@ -62,22 +71,10 @@ module _ (m : List (List ℕ)) where
       (of-struct i.segment i.start (length ws) (count ss) i.pads ws ss refl refl i.inside.0 i.inside.1)
   shows at found (voids n) e i =
       rw (← same-found at found (targets.Content i.segment i.start (shapes.Many W0 n) i.pads) e i.is) (refl, refl)
-  shows at found (bits xs) e i =
-      rw (← same-found at found (targets.Content i.segment i.start (shapes.Many W1 (length xs)) i.pads) e i.is)
-      (let l = length-map xs from_bool in
-      record { kind = refl; len = sym l; numbers = sym l; number = λ j h. sym (i.inside j h) })
-  shows at found (bytes xs) e i =
-      rw (← same-found at found (targets.Content i.segment i.start (shapes.Many W8 (length xs)) i.pads) e i.is)
-      (record { kind = refl; len = refl; numbers = refl; number = λ j h. sym (i.inside j h) })
-  shows at found (pairs xs) e i =
-      rw (← same-found at found (targets.Content i.segment i.start (shapes.Many W16 (length xs)) i.pads) e i.is)
-      (record { kind = refl; len = refl; numbers = refl; number = λ j h. sym (i.inside j h) })
-  shows at found (quads xs) e i =
-      rw (← same-found at found (targets.Content i.segment i.start (shapes.Many W32 (length xs)) i.pads) e i.is)
-      (record { kind = refl; len = refl; numbers = refl; number = λ j h. sym (i.inside j h) })
-  shows at found (octs xs) e i =
-      rw (← same-found at found (targets.Content i.segment i.start (shapes.Many W64 (length xs)) i.pads) e i.is)
-      (record { kind = refl; len = refl; numbers = refl; number = λ j h. word-at i.segment i.start xs j i.inside h })
+  shows at found (numbers a xs) e i =
+      rw (← same-found at found (targets.Content i.segment i.start (shapes.Many (list_width a) (length xs)) i.pads) e
+      i.is)
+      (of-numbers a i.segment i.start i.pads xs i.inside)
   shows at found (links ts) e i =
       rw (← same-found at found (targets.Content i.segment i.start (shapes.Many Link (count ts)) i.pads) e i.is)
       (record { kind = refl; len = refl; links = refl; slot = λ j h. slot-at ts i.segment i.start j i.inside h })

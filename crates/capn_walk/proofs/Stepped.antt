@@ -4,19 +4,19 @@ use Rattle.std.proofs.Common.{Err, None, refl, ap, sym, subst, ◌∙◌, arith,
 use Rattle.std.proofs.lemmas.Bool.Decides.{nat_tests}
 use Rattle.capn_words.specs.declared.space.Place.{Place}
 use Rattle.capn_words.proofs.shared.Choices.{pick}
-use Rattle.capn_walk.specs.declared.target.Target.{Target}
-use Rattle.capn_walk.specs.declared.target.Target.TheVariants as targets
-use Rattle.capn_walk.specs.declared.target.Shape.{Shape}
-use Rattle.capn_walk.specs.declared.target.Fault.{Fault}
-use Rattle.capn_walk.specs.declared.target.Fault.TheVariants as faults
+use Rattle.capn_target.specs.declared.target.Target.{Target}
+use Rattle.capn_target.specs.declared.target.Target.TheVariants as targets
+use Rattle.capn_target.specs.declared.target.Shape.{Shape}
+use Rattle.capn_target.specs.declared.target.Fault.{Fault}
+use Rattle.capn_target.specs.declared.target.Fault.TheVariants as faults
 use Rattle.capn_words.specs.Message.{segment_at}
 use Rattle.capn_words.specs.declared.pointer.Pointer.{Pointer}
 use Rattle.capn_words.specs.declared.pointer.Pointer.TheVariants.{Nil, Node, Many, Far, Cap, Reserved}
 use Rattle.capn_words.specs.declared.pointer.Width.TheVariants.{W0, W1, W8, W16, W32, W64, Link, Rows}
-use Rattle.capn_walk.specs.Target.{near, target}
-use Rattle.capn_walk.specs.Ways.{Describes}
-use Rattle.capn_walk.proofs.shared.Ways.{Told, told-near}
-use Rattle.capn_walk.specs.Shapes.{AreNumbers}
+use Rattle.capn_target.specs.Target.{near, target}
+use Rattle.capn_target.specs.Ways.{Describes}
+use Rattle.capn_target.proofs.shared.Ways.{Told, told-near}
+use Rattle.capn_target.specs.Shapes.{AreNumbers}
 use Rattle.capn_walk.specs.Surveyed.{cap_of}
 use Rattle.std.specs.Bool.{⊤}
 use Rattle.std.specs.Result.{IfOk, IfErr, MatchResult}

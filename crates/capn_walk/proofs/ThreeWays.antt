@@ -10,13 +10,13 @@ use Rattle.capn_words.specs.declared.pointer.Pointer.TheVariants.{Nil, Node, Man
 use Rattle.capn_words.specs.declared.pointer.Width.{Width}
 use Rattle.capn_words.specs.declared.pointer.Width.TheVariants.{W0, W1, W8, W16, W32, W64, Link, Rows}
 use Rattle.capn_words.proofs.shared.Choices.{if-no, if-yes, same-yes}
-use Rattle.capn_walk.specs.declared.target.Target.{Target}
-use Rattle.capn_walk.specs.declared.target.Target.TheVariants as targets
-use Rattle.capn_walk.specs.declared.target.Shape.{Shape}
-use Rattle.capn_walk.specs.declared.target.Fault.{Fault}
-use Rattle.capn_walk.specs.Target.{within, list, struct_from, list_from, near, second_pad, is_second_pad}
-use Rattle.capn_walk.specs.Target.{two_pads, pointer_in, landing, named, target}
-use Rattle.capn_walk.specs.Ways.{LeadsTo, Describes, Lies, IsPad, OneOfThree}
+use Rattle.capn_target.specs.declared.target.Target.{Target}
+use Rattle.capn_target.specs.declared.target.Target.TheVariants as targets
+use Rattle.capn_target.specs.declared.target.Shape.{Shape}
+use Rattle.capn_target.specs.declared.target.Fault.{Fault}
+use Rattle.capn_target.specs.Target.{within, list, struct_from, list_from, near, second_pad, is_second_pad}
+use Rattle.capn_target.specs.Target.{two_pads, pointer_in, landing, named, target}
+use Rattle.capn_target.specs.Ways.{LeadsTo, Describes, Lies, IsPad, OneOfThree}
 
 module _ (m : List (List ℕ)) where
   within-yes : (s start n : ℕ) (r : Result Target Fault) → Lies m s start n → within m s start n r ≡ r

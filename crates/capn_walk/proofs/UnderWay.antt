@@ -5,15 +5,15 @@ use Rattle.std.proofs.lemmas.List.{append-nil}
 use Rattle.std.proofs.Common.{append_assoc, length-append}
 use Rattle.std.specs.Option.{option_or}
 use Rattle.capn_words.specs.declared.space.Place.{Place}
-use Rattle.capn_walk.specs.declared.target.Target.TheVariants as targets
-use Rattle.capn_walk.specs.declared.target.Fault.{Fault}
+use Rattle.capn_target.specs.declared.target.Target.TheVariants as targets
+use Rattle.capn_target.specs.declared.target.Fault.{Fault}
 use Rattle.capn_walk.specs.declared.slots_left.SlotsLeft.{SlotsLeft}
 use Rattle.capn_walk.specs.declared.slots_left.Waiting.{Waiting}
 use Rattle.capn_words.specs.Message.{word_at}
 use Rattle.capn_words.specs.Pointers.{pointer_of}
 use Rattle.capn_words.specs.declared.pointer.Pointer.TheVariants.{Nil}
 use Rattle.capn_walk.proofs.shared.Walks.{visits-null}
-use Rattle.capn_walk.specs.Target.{named, target}
+use Rattle.capn_target.specs.Target.{named, target}
 use Rattle.capn_walk.specs.Visits.{Visit, pays, visits, visits_of}
 use Rattle.capn_walk.specs.inner.Verdict.{refused, after, judge}
 use Rattle.capn_walk.specs.inner.SlotsLeft.{places_of, owed, owed_by, Lies, AllLie, AreShallow, visits_left}

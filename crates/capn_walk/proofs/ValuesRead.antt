@@ -5,23 +5,25 @@ use Rattle.std.specs.Bool.{⊤}
 use Rattle.capn_words.specs.Message.{IsPlace}
 use Rattle.capn_words.specs.declared.space.Place.{Place}
 use Rattle.capn_words.specs.declared.pointer.Width.TheVariants.{W0, W1, W8, W16, W32, W64, Link, Rows}
-use Rattle.capn_value.specs.Tree.{Tree, nil, node, voids, bits, bytes, pairs, quads, octs, links, rows, cap, Trees}
+use Rattle.capn_value.specs.NumberWidth.{NumberWidth, bit, byte, pair, quad, oct}
+use Rattle.capn_value.specs.Tree.{Tree, nil, node, voids, numbers, links, rows, cap, Trees}
 use Rattle.capn_value.specs.Tree.{no_trees, tree, Bodies, no_bodies, body, count, count_rows}
 use Rattle.capn_walk.specs.declared.entry.Entry.{Entry}
-use Rattle.capn_walk.specs.declared.target.Target.{Target}
-use Rattle.capn_walk.specs.declared.target.Target.TheVariants as targets
-use Rattle.capn_walk.specs.declared.target.Shape.{Shape}
-use Rattle.capn_walk.specs.declared.target.Shape.TheVariants as shapes
-use Rattle.capn_walk.specs.declared.target.Fault.{Fault}
-use Rattle.capn_walk.specs.Target.{target}
+use Rattle.capn_target.specs.declared.target.Target.{Target}
+use Rattle.capn_target.specs.declared.target.Target.TheVariants as targets
+use Rattle.capn_target.specs.declared.target.Shape.{Shape}
+use Rattle.capn_target.specs.declared.target.Shape.TheVariants as shapes
+use Rattle.capn_target.specs.declared.target.Fault.{Fault}
+use Rattle.capn_target.specs.Target.{target, list_width}
 use Rattle.capn_walk.specs.Visits.{places, row_places}
 use Rattle.capn_walk.specs.Accepted.{root}
 use Rattle.capn_walk.specs.ValueAt.{IsAt, AreAt, RowsAt}
-use Rattle.capn_walk.specs.View.{slots_below, IsInMessage}
+use Rattle.capn_walk.specs.View.{slots_below}
+use Rattle.capn_target.specs.Shapes.{IsInMessage}
 use Rattle.capn_walk.specs.Index.{entry_target, entry_at, slots_at, beside, kept, kept_of, IsReadable, index_of}
 use Rattle.capn_walk.specs.IndexValues.{IsReadAt, AreReadAt, RowsReadAt, IndexesSayValues, EntriesSayValues}
 use Rattle.capn_walk.proofs.IndexLaws.{AllPlaces, in-slots, readable, not-empty}
-use Rattle.capn_walk.proofs.SeenInside.{found-inside}
+use Rattle.capn_target.proofs.shared.Inside.{found-inside}
 
 -- ---- a target by what an entry keeps of it
 
@@ -89,6 +91,16 @@ length-places s w (suc n) = ap suc (length-places s (w + 1) n)
 found-kept : (r : Result Target Fault) (t : Target) → kept_of r ≡ Ok t → (u : Target) × (r ≡ Ok u) × (kept u ≡ t)
 found-kept (Ok u) t h = (u, refl, cc)
 found-kept (Err e) t h = absurd cc
+
+-- an entry of numbers keeps all but the landing pad
+kept-numbers : (a : NumberWidth) (s start n pads : ℕ)
+    → kept (targets.Content s start (shapes.Many (list_width a) n) pads)
+    ≡ targets.Content s start (shapes.Many (list_width a) n) 0
+kept-numbers bit s start n pads = refl
+kept-numbers byte s start n pads = refl
+kept-numbers pair s start n pads = refl
+kept-numbers quad s start n pads = refl
+kept-numbers oct s start n pads = refl
 
 module _ (m : List (List ℕ)) (es : List Entry) (readable : (i : ℕ) → i < length es → IsReadable m es i) where
   -- ---- the slots of entries
@@ -186,34 +198,11 @@ module _ (m : List (List ℕ)) (es : List Entry) (readable : (i : ℕ) → i < l
       is = said at i (targets.Content h.segment h.start (shapes.Many W0 n) h.pads) o h.is;
       inside = tt;
     }
-    reads (bits xs) at i o h = record {
+    reads (numbers a xs) at i o h = record {
       segment = h.segment;
       start = h.start;
-      is = said at i (targets.Content h.segment h.start (shapes.Many W1 (length xs)) h.pads) o h.is;
-      inside = h.inside;
-    }
-    reads (bytes xs) at i o h = record {
-      segment = h.segment;
-      start = h.start;
-      is = said at i (targets.Content h.segment h.start (shapes.Many W8 (length xs)) h.pads) o h.is;
-      inside = h.inside;
-    }
-    reads (pairs xs) at i o h = record {
-      segment = h.segment;
-      start = h.start;
-      is = said at i (targets.Content h.segment h.start (shapes.Many W16 (length xs)) h.pads) o h.is;
-      inside = h.inside;
-    }
-    reads (quads xs) at i o h = record {
-      segment = h.segment;
-      start = h.start;
-      is = said at i (targets.Content h.segment h.start (shapes.Many W32 (length xs)) h.pads) o h.is;
-      inside = h.inside;
-    }
-    reads (octs xs) at i o h = record {
-      segment = h.segment;
-      start = h.start;
-      is = said at i (targets.Content h.segment h.start (shapes.Many W64 (length xs)) h.pads) o h.is;
+      is = said at i (targets.Content h.segment h.start (shapes.Many (list_width a) (length xs)) h.pads) o h.is
+          ∙ kept-numbers a h.segment h.start (length xs) h.pads;
       inside = h.inside;
     }
     reads (links ts) at i o h =
@@ -284,20 +273,9 @@ module _ (m : List (List ℕ)) (es : List Entry) (readable : (i : ℕ) → i < l
     stands (voids n) at i o h =
         let (pads, e) = found at i h.segment h.start (shapes.Many W0 n) o (λ c a b span x. absurd cc) h.is in
         record { segment = h.segment; start = h.start; pads = pads; is = e; inside = tt }
-    stands (bits xs) at i o h =
-        let (pads, e) = found at i h.segment h.start (shapes.Many W1 (length xs)) o (λ c a b span x. absurd cc) h.is in
-        record { segment = h.segment; start = h.start; pads = pads; is = e; inside = h.inside }
-    stands (bytes xs) at i o h =
-        let (pads, e) = found at i h.segment h.start (shapes.Many W8 (length xs)) o (λ c a b span x. absurd cc) h.is in
-        record { segment = h.segment; start = h.start; pads = pads; is = e; inside = h.inside }
-    stands (pairs xs) at i o h =
-        let (pads, e) = found at i h.segment h.start (shapes.Many W16 (length xs)) o (λ c a b span x. absurd cc) h.is in
-        record { segment = h.segment; start = h.start; pads = pads; is = e; inside = h.inside }
-    stands (quads xs) at i o h =
-        let (pads, e) = found at i h.segment h.start (shapes.Many W32 (length xs)) o (λ c a b span x. absurd cc) h.is in
-        record { segment = h.segment; start = h.start; pads = pads; is = e; inside = h.inside }
-    stands (octs xs) at i o h =
-        let (pads, e) = found at i h.segment h.start (shapes.Many W64 (length xs)) o (λ c a b span x. absurd cc) h.is in
+    stands (numbers a xs) at i o h =
+        let (pads, e) = found at i h.segment h.start (shapes.Many (list_width a) (length xs)) o
+        (λ c a b span x. absurd cc) h.is in
         record { segment = h.segment; start = h.start; pads = pads; is = e; inside = h.inside }
     stands (links ts) at i o h =
         let (pads, e) = found at i h.segment h.start (shapes.Many Link (count ts)) o (λ c a b span x. absurd cc) h.is in

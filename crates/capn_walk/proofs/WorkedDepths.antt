@@ -1,7 +1,7 @@
 -- How many objects stand one below another in small messages, computed from the definitions.
 use Rattle.std.proofs.Common.{◌≡◌, ℕ, List, [], ◌∷◌, refl}
 use Rattle.capn_words.specs.Pointers.{pointer_of}
-use Rattle.capn_walk.specs.Target.{target}
+use Rattle.capn_target.specs.Target.{target}
 use Rattle.capn_walk.specs.Accepted.{root}
 use Rattle.capn_walk.specs.inner.Reach.{reach}
 

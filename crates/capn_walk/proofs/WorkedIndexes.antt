@@ -1,11 +1,12 @@
 -- What the indexes of small messages are, computed from the definitions.
 use Rattle.std.proofs.Common.{◌≡◌, ℕ, zero, suc, List, [], ◌∷◌, refl, arith}
 use Rattle.capn_words.specs.Pointers.{pointer_of}
-use Rattle.capn_value.specs.Tree.{node, bytes, no_trees, tree}
+use Rattle.capn_value.specs.NumberWidth.{byte}
+use Rattle.capn_value.specs.Tree.{node, numbers, no_trees, tree}
 use Rattle.capn_value.specs.declared.tariff.Tariff.TheVariants.{Strict}
 use Rattle.capn_walk.specs.declared.entry.Entry.{Entry}
 use Rattle.capn_walk.specs.declared.kind.Kind.TheVariants as kinds
-use Rattle.capn_walk.specs.Target.{target}
+use Rattle.capn_target.specs.Target.{target}
 use Rattle.capn_walk.specs.Limits.{Bounds}
 use Rattle.capn_walk.specs.ValueAt.{AreElements}
 use Rattle.capn_walk.specs.Index.{entries, index_of}
@@ -47,7 +48,7 @@ letters (suc zero) h = refl
 letters (suc (suc zero)) h = refl
 letters (suc (suc (suc i))) h = absurd (omega arith)
 
-text_value : IsReadAt text text_entries 0 (node [] (tree (bytes (0x61 ∷ 0x62 ∷ 0x63 ∷ [])) no_trees))
+text_value : IsReadAt text text_entries 0 (node [] (tree (numbers byte (0x61 ∷ 0x62 ∷ 0x63 ∷ [])) no_trees))
 text_value = record {
   segment = 0;
   start = 1;

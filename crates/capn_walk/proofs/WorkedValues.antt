@@ -1,9 +1,10 @@
 -- Worked rows: which value stands at the root.
 use Rattle.std.proofs.Common.{ℕ, suc, zero, [], ◌∷◌, refl, arith}
 use Rattle.capn_words.specs.declared.space.Place.{Place}
-use Rattle.capn_value.specs.Tree.{nil, node, bytes, rows, no_trees, tree, no_bodies, body}
+use Rattle.capn_value.specs.NumberWidth.{byte}
+use Rattle.capn_value.specs.Tree.{nil, node, numbers, rows, no_trees, tree, no_bodies, body}
 use Rattle.capn_words.specs.Pointers.{pointer_of}
-use Rattle.capn_walk.specs.Target.{target}
+use Rattle.capn_target.specs.Target.{target}
 use Rattle.capn_walk.specs.ValueAt.{IsAt, AreElements}
 
 abbrev at : ℕ → ℕ → Place
@@ -78,7 +79,7 @@ letters (suc (suc zero)) h = refl
 letters (suc (suc (suc i))) h = absurd (omega arith)
 
 text : IsAt ((0x1000000000000 ∷ 0x1a00000001 ∷ 0xffffffffff636261 ∷ []) ∷ []) (at 0 0)
-    (node [] (tree (bytes (0x61 ∷ 0x62 ∷ 0x63 ∷ [])) no_trees))
+    (node [] (tree (numbers byte (0x61 ∷ 0x62 ∷ 0x63 ∷ [])) no_trees))
 unfolding target pointer_of
 text = record {
   segment = 0;

@@ -4,8 +4,8 @@ use Rattle.capn_words.specs.declared.space.Place.{Place}
 use Rattle.capn_words.specs.Pointers.{pointer_of}
 use Rattle.capn_value.specs.Cost.{base}
 use Rattle.capn_value.specs.declared.tariff.Tariff.TheVariants.{Strict, Plain}
-use Rattle.capn_walk.specs.declared.target.Fault.TheVariants as faults
-use Rattle.capn_walk.specs.Target.{target}
+use Rattle.capn_target.specs.declared.target.Fault.TheVariants as faults
+use Rattle.capn_target.specs.Target.{target}
 use Rattle.capn_walk.specs.Visits.{visits}
 use Rattle.capn_walk.specs.Accepted.{root_visits}
 use Rattle.capn_walk.specs.inner.Verdict.{Verdict, accepted, refused, verdict}

@@ -1,24 +1,8 @@
--- The text of a fault, as it is displayed. (Own.)
+-- The text of a refusal, as it is displayed. (Own.)
 use Rattle.std.specs.Prelude.{ℕ, List, ◌++◌, codes}
 use Rattle.std.specs.Fmt.{decimal}
-use Rattle.capn_walk.specs.declared.target.Fault.{Fault}
-use Rattle.capn_walk.specs.declared.target.Fault.TheVariants as walks
+use Rattle.capn_target.specs.Display.{fault_name}
 use Rattle.capn_walk.specs.declared.walk_answer.Stopped.{Stopped}
-
--- the name of a fault
-abbrev pub fault_name : Fault → List ℕ
-fault_name walks.NoRoot = codes "NoRoot"
-fault_name walks.RootKind = codes "RootKind"
-fault_name walks.Reserved = codes "Reserved"
-fault_name walks.NoSegment = codes "NoSegment"
-fault_name walks.PadRange = codes "PadRange"
-fault_name walks.BadPad = codes "BadPad"
-fault_name walks.Range = codes "Range"
-fault_name walks.BadTag = codes "BadTag"
-fault_name walks.TagOverrun = codes "TagOverrun"
-fault_name walks.TooDeep = codes "TooDeep"
-fault_name walks.OverBudget = codes "OverBudget"
-fault_name walks.Memory = codes "Memory"
 
 -- why and where a walk stopped, with what was paid and visited
 abbrev pub stopped_text : Stopped → List ℕ

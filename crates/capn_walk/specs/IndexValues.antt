@@ -1,19 +1,18 @@
 -- Which value an index says with the words of its message: no pointer is read again.
-use Rattle.std.specs.Prelude.{◌≡◌, ◌↔◌, ℕ, suc, ◌+◌, ◌*◌, ◌<◌, List, map, length, Ok, ⊤}
-use Rattle.std.specs.Int.{from_bool}
+use Rattle.std.specs.Prelude.{◌≡◌, ◌↔◌, ℕ, suc, ◌+◌, ◌*◌, ◌<◌, List, length, Ok, ⊤}
 use Rattle.capn_words.specs.Message.{IsPlace}
 use Rattle.capn_words.specs.declared.space.Place.{Place}
-use Rattle.capn_words.specs.declared.pointer.Width.TheVariants.{W0, W1, W8, W16, W32, W64, Link}
-use Rattle.capn_value.specs.Tree.{Tree, nil, node, voids, bits, bytes, pairs, quads, octs, links, rows, cap, Trees}
+use Rattle.capn_words.specs.declared.pointer.Width.TheVariants.{W0, Link}
+use Rattle.capn_value.specs.Tree.{Tree, nil, node, voids, numbers, links, rows, cap, Trees}
 use Rattle.capn_value.specs.Tree.{no_trees, tree, Bodies, no_bodies, body, count, count_rows}
 use Rattle.capn_walk.specs.declared.entry.Entry.{Entry}
-use Rattle.capn_walk.specs.declared.target.Target.TheVariants as targets
-use Rattle.capn_walk.specs.declared.target.Shape.{Shape}
-use Rattle.capn_walk.specs.declared.target.Shape.TheVariants as shapes
-use Rattle.capn_walk.specs.Target.{target}
+use Rattle.capn_target.specs.declared.target.Target.TheVariants as targets
+use Rattle.capn_target.specs.declared.target.Shape.{Shape}
+use Rattle.capn_target.specs.declared.target.Shape.TheVariants as shapes
+use Rattle.capn_target.specs.Target.{target, list_width}
 use Rattle.capn_walk.specs.Limits.{Bounds}
 use Rattle.capn_walk.specs.Accepted.{IsAccepted, IsValueOf}
-use Rattle.capn_walk.specs.ValueAt.{IsAt, StandAt, AreElements, words_from}
+use Rattle.capn_walk.specs.ValueAt.{IsAt, StandAt, AreNumbers, words_from}
 use Rattle.capn_walk.specs.Index.{index_of, entry_target, entry_at, beside, kept_of}
 
 module _ (message : List (List ℕ)) (es : List Entry) where
@@ -32,15 +31,8 @@ module _ (message : List (List ℕ)) (es : List Entry) where
     IsReadAt i (node ws ss) =
         EntryNames i (shapes.Node (length ws) (count ss)) (λ s w. StandAt message s w ws × AreReadAt (i + 1) ss)
     IsReadAt i (voids n) = EntryNames i (shapes.Many W0 n) (λ s w. ⊤)
-    IsReadAt i (bits xs) =
-        EntryNames i (shapes.Many W1 (length xs)) (λ s w. AreElements 64 1 (words_from message s w) (map from_bool xs))
-    IsReadAt i (bytes xs) =
-        EntryNames i (shapes.Many W8 (length xs)) (λ s w. AreElements 8 8 (words_from message s w) xs)
-    IsReadAt i (pairs xs) =
-        EntryNames i (shapes.Many W16 (length xs)) (λ s w. AreElements 4 16 (words_from message s w) xs)
-    IsReadAt i (quads xs) =
-        EntryNames i (shapes.Many W32 (length xs)) (λ s w. AreElements 2 32 (words_from message s w) xs)
-    IsReadAt i (octs xs) = EntryNames i (shapes.Many W64 (length xs)) (λ s w. StandAt message s w xs)
+    IsReadAt i (numbers a xs) =
+        EntryNames i (shapes.Many (list_width a) (length xs)) (λ s w. AreNumbers a (words_from message s w) xs)
     IsReadAt i (links ts) = EntryNames i (shapes.Many Link (count ts)) (λ s w. AreReadAt (i + 1) ts)
     IsReadAt i (rows bs) = (a b : ℕ) × EntryNames i (shapes.Rows (count_rows bs) a b (count_rows bs * (a + b)))
         (λ s w. RowsReadAt a b s (suc w) (i + 1) bs)

@@ -1,16 +1,13 @@
 pub mod inner
-pub mod Target
 pub mod Visits
 pub mod Accepted
 pub mod Depth
 pub mod ValueAt
 pub mod Limits
-pub mod Shapes
 pub mod Surveyed
 pub mod Account
 pub mod View
 pub mod ShownValue
-pub mod Ways
 pub mod Laws
 pub mod Display
 pub mod Index

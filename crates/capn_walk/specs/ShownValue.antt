@@ -1,17 +1,16 @@
 -- What a view of a slot says of the value that stands there.
-use Rattle.std.specs.Prelude.{◌≡◌, ℕ, zero, suc, ◌<◌, List, [], map, length, slice_index, Ok}
-use Rattle.std.specs.Int.{from_bool}
+use Rattle.std.specs.Prelude.{◌≡◌, ℕ, zero, suc, ◌<◌, List, [], length, slice_index, Ok}
 use Rattle.capn_words.specs.declared.space.Place.{Place}
-use Rattle.capn_value.specs.Tree.{Tree, nil, node, voids, bits, bytes, pairs, quads, octs, links, rows, cap, Trees}
+use Rattle.capn_value.specs.Tree.{Tree, nil, node, voids, numbers, links, rows, cap, Trees}
 use Rattle.capn_value.specs.Tree.{no_trees, Bodies, no_bodies, body, count, count_rows, tree_at}
-use Rattle.capn_walk.specs.declared.target.Target.{Target}
-use Rattle.capn_walk.specs.declared.target.Target.TheVariants as targets
+use Rattle.capn_target.specs.declared.target.Target.{Target}
+use Rattle.capn_target.specs.declared.target.Target.TheVariants as targets
 use Rattle.capn_walk.specs.declared.kind.Kind.{Kind}
 use Rattle.capn_walk.specs.declared.kind.Kind.TheVariants as kinds
-use Rattle.capn_walk.specs.Target.{target}
+use Rattle.capn_target.specs.Target.{target, list_width}
 use Rattle.capn_walk.specs.ValueAt.{IsAt}
-use Rattle.capn_walk.specs.View.{kind_of, len_of, words_in, slots_in, links_in, numbers_in, rows_in, step_place}
-use Rattle.capn_walk.specs.View.{content_of, number_of, row_of}
+use Rattle.capn_walk.specs.View.{kind_of_list, kind_of, len_of, words_in, slots_in, links_in, numbers_in, rows_in}
+use Rattle.capn_walk.specs.View.{step_place, content_of, number_of, row_of}
 
 -- the words and the slots of a row
 abbrev pub words_of_row : Bodies → ℕ → List ℕ
@@ -61,11 +60,7 @@ Shows message found nil = found ≡ targets.Nil
 Shows message found (cap k) = found ≡ targets.Cap k
 Shows message found (node ws ss) = ShowsStruct message found ws ss
 Shows message found (voids n) = (kind_of found ≡ kinds.Voids) × (len_of found ≡ n)
-Shows message found (bits xs) = ShowsNumbers message found kinds.Bits (map from_bool xs)
-Shows message found (bytes xs) = ShowsNumbers message found kinds.Bytes xs
-Shows message found (pairs xs) = ShowsNumbers message found kinds.Pairs xs
-Shows message found (quads xs) = ShowsNumbers message found kinds.Quads xs
-Shows message found (octs xs) = ShowsNumbers message found kinds.Octs xs
+Shows message found (numbers a xs) = ShowsNumbers message found (kind_of_list (list_width a)) xs
 Shows message found (links ts) = ShowsLinks message found ts
 Shows message found (rows bs) = ShowsRows message found bs
 

@@ -6,10 +6,10 @@ use Rattle.capn_value.specs.FirstCap.{first_cap}
 use Rattle.capn_walk.specs.declared.survey_answer.Surveyed.{Surveyed}
 use Rattle.capn_walk.specs.Limits.{Bounds}
 use Rattle.capn_walk.specs.Accepted.{IsValueOf, paid, number_of_visits}
-use Rattle.capn_walk.specs.declared.target.Target.{Target}
-use Rattle.capn_walk.specs.declared.target.Target.TheVariants as targets
-use Rattle.capn_walk.specs.declared.target.Fault.{Fault}
-use Rattle.capn_walk.specs.Target.{target}
+use Rattle.capn_target.specs.declared.target.Target.{Target}
+use Rattle.capn_target.specs.declared.target.Target.TheVariants as targets
+use Rattle.capn_target.specs.declared.target.Fault.{Fault}
+use Rattle.capn_target.specs.Target.{target}
 use Rattle.capn_walk.specs.Visits.{Visit, pays, fails}
 
 -- the index of a slot that is a capability

@@ -5,18 +5,19 @@ use Rattle.capn_words.specs.Message.{segment_at}
 use Rattle.capn_words.specs.declared.space.Place.{Place}
 use Rattle.capn_words.specs.declared.pointer.Width.{Width}
 use Rattle.capn_words.specs.declared.pointer.Width.TheVariants.{W0, W1, W8, W16, W32, W64, Link, Rows}
-use Rattle.capn_walk.specs.declared.target.Target.{Target}
-use Rattle.capn_walk.specs.declared.target.Target.TheVariants as targets
-use Rattle.capn_walk.specs.declared.target.Shape.TheVariants as shapes
-use Rattle.capn_walk.specs.declared.target.Fault.{Fault}
-use Rattle.capn_walk.specs.declared.target.Fault.TheVariants as faults
+use Rattle.capn_value.specs.NumberWidth as widths
+use Rattle.capn_value.specs.NumberWidth.{bit, byte, pair, quad}
+use Rattle.capn_target.specs.declared.target.Target.{Target}
+use Rattle.capn_target.specs.declared.target.Target.TheVariants as targets
+use Rattle.capn_target.specs.declared.target.Shape.TheVariants as shapes
+use Rattle.capn_target.specs.declared.target.Fault.{Fault}
+use Rattle.capn_target.specs.declared.target.Fault.TheVariants as faults
 use Rattle.capn_walk.specs.declared.kind.Kind.{Kind}
 use Rattle.capn_walk.specs.declared.kind.Kind.TheVariants as kinds
-use Rattle.capn_walk.specs.Target.{target}
+use Rattle.capn_target.specs.Target.{target}
 use Rattle.capn_walk.specs.Visits.{price, slots}
 use Rattle.capn_walk.specs.Accepted.{root, may_be_root}
 use Rattle.capn_walk.specs.ValueAt.{element, words_from}
-use Rattle.capn_walk.specs.Shapes.{IsContent, RowsFit, extent}
 
 -- a message, what was found in it, and how many objects may stand below that
 pub record Seen : Type 0 where
@@ -54,12 +55,6 @@ abbrev pub stepped_to_root : List (List ℕ) → ℕ → ℕ → ℕ → Result 
 stepped_to_root message base depth budget =
     if length (segment_at message 0) == 0 then Err faults.NoRoot else stepped base depth budget
     (rooted (target message root))
-
--- content of a message lies inside its segment
-abbrev pub IsInMessage : List (List ℕ) → Target → Type 0
-IsInMessage message (targets.Content s start shape pads) =
-    IsContent message (record { segment = s; word = start }) (extent shape) × RowsFit shape
-IsInMessage message _ = ⊤
 
 -- ---- what a view says
 
@@ -133,10 +128,10 @@ number_in _ ws i = slice_index ws i
 
 -- how many of them a word holds
 abbrev pub per_word : Width → ℕ
-per_word W1 = 64
-per_word W8 = 8
-per_word W16 = 4
-per_word W32 = 2
+per_word W1 = widths.per_word bit
+per_word W8 = widths.per_word byte
+per_word W16 = widths.per_word pair
+per_word W32 = widths.per_word quad
 per_word _ = 1
 
 -- the one at a place of a word, counted from the least significant

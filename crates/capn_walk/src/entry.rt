@@ -2,10 +2,10 @@
 
 ghost use Rattle.std.specs.Prelude.{◌≡◌};
 ghost use Rattle.capn_walk.specs.Index.{entry_of};
-ghost use Rattle.capn_walk.specs.declared.target.Target.TheVariants.{Nil};
+ghost use Rattle.capn_target.specs.declared.target.Target.TheVariants.{Nil};
 
 use crate::kind::{Kind, kind_of_list};
-use crate::target::{Shape, Target};
+use capn_target::{Shape, Target};
 use std::alloc::{Allocator, Global};
 use std::mem::size_of;
 

@@ -3,7 +3,7 @@
 ghost use Rattle.std.specs.Prelude.{◌≡◌};
 ghost use Rattle.capn_walk.specs.View as seen;
 
-use crate::target::{Shape, Target};
+use capn_target::{Shape, Target};
 use capn_words::Width;
 
 /// The kinds of what a pointer denotes, as those of a value.

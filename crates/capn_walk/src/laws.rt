@@ -3,7 +3,7 @@
 ghost use Rattle.std.specs.Prelude.{ℕ, List};
 ghost use Rattle.capn_words.specs.declared.space.Place.{Place};
 ghost use Rattle.capn_value.specs.Tree.{Tree};
-ghost use Rattle.capn_walk.specs.declared.target.Target.{Target};
+ghost use Rattle.capn_target.specs.declared.target.Target.{Target};
 ghost use Rattle.capn_walk.specs.Laws as laws;
 ghost use Rattle.capn_walk.specs.ShownValue.{ViewsShow};
 ghost use Rattle.capn_walk.specs.Index.{IndexesAreReadable, IndexesFollowVisits};

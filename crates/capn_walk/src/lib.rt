@@ -19,10 +19,10 @@
 //! ```
 #![tactic(auto)]
 
-mod content;
 mod digits;
 mod entry;
 mod found;
+mod index_visits;
 mod kind;
 pub mod laws;
 mod limits;
@@ -33,12 +33,10 @@ mod message_walk;
 mod meter;
 mod price;
 mod sizes;
-mod slot_target;
 mod slots_left;
 mod step;
 mod survey_answer;
 mod survey_visit;
-mod target;
 mod view;
 mod walk_answer;
 mod walk_visits;
@@ -50,8 +48,9 @@ pub use message_index::{index, index_into};
 pub use message_survey::{survey, survey_depth};
 pub use message_walk::walk;
 pub use meter::Meter;
-pub use slot_target::resolve;
 pub use survey_answer::{Measured, Surveyed};
-pub use target::{Fault, Shape, Target};
 pub use view::View;
 pub use walk_answer::{Stopped, Walked};
+
+// What a pointer names.
+pub use capn_target::{Fault, Shape, Target, resolve};

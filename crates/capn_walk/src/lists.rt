@@ -6,10 +6,10 @@ ghost use Rattle.std.specs.Int.{from_bool};
 ghost use Rattle.std.specs.List.{range_with_len};
 ghost use Rattle.capn_words.specs.Message.{IsMessage, segment_at};
 ghost use Rattle.capn_value.specs.TreeOf.{tree_of};
-ghost use Rattle.capn_walk.specs.Target.{content_words};
+ghost use Rattle.capn_target.specs.Target.{content_words};
 ghost use Rattle.capn_walk.specs.ValueAt.{AreElements, IsInside, words_from};
-ghost use Rattle.capn_walk.specs.Shapes.{IsPlain, IsContent};
-ghost use Rattle.capn_walk.specs.declared.target.Shape.TheVariants.{Many};
+ghost use Rattle.capn_target.specs.Shapes.{IsPlain, IsContent};
+ghost use Rattle.capn_target.specs.declared.target.Shape.TheVariants.{Many};
 ghost use Rattle.capn_words.specs.declared.pointer.Width.TheVariants.{W1, W8, W16, W32};
 
 use byteorder::{ByteOrder, LittleEndian};

@@ -1,29 +1,30 @@
 //! A survey of all that a message holds, without its value.
 
-ghost use Rattle.std.specs.Prelude.{◌≡◌, ◌≢◌, ℕ, ◌<◌, ◌≤◌, ◌+◌, ◌-◌, ◌∷◌, ◌⊎◌, ◌↔◌, [], length, Ok, IsTrue, IfOk};
-ghost use Rattle.std.specs.Prelude.{IfErr, MatchResult, max};
-ghost use Rattle.capn_words.specs.Message.{segment_at, IsMessage, IsPlace};
+ghost use Rattle.std.specs.Prelude.{◌≡◌, ◌≢◌, ◌≤◌, ◌+◌, ◌⊎◌, Ok, IsTrue, IfOk, IfErr, MatchResult};
+ghost use Rattle.capn_words.specs.Message.{IsMessage, IsPlace};
 ghost use Rattle.capn_value.specs.Cost.{most_cost, most_height};
-ghost use Rattle.capn_walk.specs.Target as spec;
+ghost use Rattle.capn_target.specs.Target as spec;
 ghost use Rattle.capn_walk.specs.Accepted.{root, IsValueOf, IsWalkRefused, IsBounded};
 ghost use Rattle.capn_walk.specs.Visits.{visits, visits_of};
 ghost use Rattle.capn_walk.specs.Depth.{IsDepth};
 ghost use Rattle.capn_walk.specs.inner.Outcomes.{SurveysAs};
 ghost use Rattle.capn_walk.specs.inner.SlotsLeft.{places_of, owed, Lies};
-ghost use Rattle.capn_walk.specs.inner.Reach.{reach, reach_of, level, levels_at};
+ghost use Rattle.capn_walk.specs.inner.Reach.{reach, reach_of};
 ghost use Rattle.capn_walk.specs.Surveyed as told;
 ghost use Rattle.capn_value.specs.Tree.{Tree};
 ghost use Rattle.capn_value.specs.FirstCap.{first_cap};
-ghost use Rattle.capn_walk.specs.declared.target.Fault.TheVariants.{Memory};
+ghost use Rattle.capn_target.specs.declared.target.Fault.TheVariants.{Memory};
 
-use crate::content::segment_length;
 use crate::limits::Limits;
 use crate::message_walk::{ROOT, root_target};
 use crate::slots_left::{SlotsLeft, Waiting};
+use crate::step::levels;
 use crate::survey_answer::{Measured, Surveyed};
-use crate::survey_visit::{is_plain, visit_elsewhere, visit_found, visit_numbers, visit_struct};
-use crate::target::{Fault, Target};
+use crate::survey_visit::{
+    is_plain, lowered, visit_elsewhere, visit_found, visit_numbers, visit_struct,
+};
 use crate::walk_answer::Stopped;
+use capn_target::{Fault, Target, segment_length, size_of};
 use capn_words::{Place, Pointer, Space, split};
 use smallvec::SmallVec;
 use std::alloc::Allocator;
@@ -157,17 +158,6 @@ fn survey_root<S: Space, A: Allocator + Copy, const DEEP: bool>(
     }
 }
 
-/// How deep a target is by itself: 1 for content, else 0.
-#[inline(always)]
-fn levels(target: Target) -> u32
-    ensures { result ≡ level target }
-{
-    match target {
-        Target::Content { .. } => 1,
-        _ => 0,
-    }
-}
-
 /// A refusal of a slot, with what was paid before it and its number.
 #[inline(always)]
 fn stopped(fault: Fault, place: Place, paid: u32, visits: u32) -> Stopped
@@ -178,34 +168,6 @@ fn stopped(fault: Fault, place: Place, paid: u32, visits: u32) -> Stopped
         place,
         paid,
         visits,
-    }
-}
-
-/// The words of a segment, where those of another, or the same, are known.
-#[inline(always)]
-pub fn size_of<S: Space>(space: &S, segment: u32, known: u32, size: u32) -> u32
-    requires { size ≡ length (segment_at (S.message space.now) known) }
-    ensures { result ≡ length (segment_at (S.message space.now) segment) }
-{
-    if segment == known {
-        size
-    } else {
-        segment_length(space, segment)
-    }
-}
-
-/// The lesser of two depths of which one is that of a visit, if this is a visit of content; the other where the depth
-/// isn't asked for.
-#[inline(always)]
-fn lowered<const DEEP: bool>(least: u32, depth: u32, capability: Option<u32>) -> u32
-    ensures deep { (limit : ℕ) → IsTrue DEEP →
-        limit + 1 - result ≡ max (limit + 1 - least) (levels_at limit depth capability) }
-    ensures no_more { result ≤ least }
-{
-    if DEEP && capability.is_none() && depth < least {
-        depth
-    } else {
-        least
     }
 }
 

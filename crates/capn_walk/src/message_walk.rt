@@ -4,19 +4,17 @@ ghost use Rattle.std.specs.Prelude.{◌≡◌, ◌≢◌, ◌⊎◌, ◌<◌, �
 ghost use Rattle.capn_words.specs.Message.{segment_at};
 ghost use Rattle.capn_value.specs.Tree as trees;
 ghost use Rattle.capn_value.specs.Cost.{base, cost, height};
-ghost use Rattle.capn_walk.specs.Target as spec;
+ghost use Rattle.capn_target.specs.Target as spec;
 ghost use Rattle.capn_walk.specs.Accepted.{root, IsValueOf, IsWalkRefused, IsBounded, paid, number_of_visits};
 ghost use Rattle.capn_walk.specs.Accepted as accepted;
 ghost use Rattle.capn_walk.specs.Limits.{Bounds};
 ghost use Rattle.capn_walk.specs.View.{IsEntered, stepped_to_root};
-ghost use Rattle.capn_walk.specs.declared.target.Fault.TheVariants.{Memory};
+ghost use Rattle.capn_target.specs.declared.target.Fault.TheVariants.{Memory};
 
-use crate::content::segment_length;
 use crate::limits::Limits;
-use crate::slot_target::resolve;
-use crate::target::{Fault, Shape, Target};
 use crate::walk_answer::{Stopped, Walked, stop};
 use crate::walk_visits::walk_target;
+use capn_target::{Fault, Shape, Target, resolve, segment_length};
 use capn_value::Tree;
 use capn_words::{Place, Space};
 use std::alloc::Allocator;

@@ -3,8 +3,7 @@
 ghost use Rattle.std.specs.Prelude.{◌≡◌, ◌+◌};
 ghost use Rattle.capn_walk.specs.Visits.{price};
 
-use crate::content::content_words;
-use crate::target::Shape;
+use capn_target::{Shape, content_words};
 use capn_words::Width;
 
 /// The price of an object after `pads` words of landing pad, in words: `base`, its words, and 1 for

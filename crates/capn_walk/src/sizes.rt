@@ -4,7 +4,7 @@ ghost use Rattle.std.specs.Prelude.{◌≡◌};
 ghost use Rattle.capn_walk.specs.View as seen;
 ghost use Rattle.capn_walk.specs.declared.kind.Kind.TheVariants as kinds;
 
-use crate::target::{Shape, Target};
+use capn_target::{Shape, Target};
 
 /// The elements of a list; else 0.
 #[inline(always)]

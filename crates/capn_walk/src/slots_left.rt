@@ -2,10 +2,10 @@
 
 ghost use Rattle.std.specs.Prelude.{◌≡◌, ℕ, ◌-◌, ◌<◌, ◌≤◌, ◌+◌, ◌*◌, ◌^◌, [], ◌∷◌, ◌↔◌, IsTrue};
 ghost use Rattle.capn_walk.specs.Visits.{slots};
-ghost use Rattle.capn_walk.specs.Shapes.{slot_count, extent, RowsFit};
+ghost use Rattle.capn_target.specs.Shapes.{slot_count, extent, RowsFit};
 ghost use Rattle.capn_walk.specs.inner.SlotsLeft.{places_of, owed, end_of, HasRows};
 
-use crate::target::Shape;
+use capn_target::Shape;
 use capn_words::{Place, Width};
 
 /// The slots of an object that are still to be visited, in order: those that are left of the row in hand, then

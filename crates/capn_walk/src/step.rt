@@ -2,12 +2,14 @@
 
 ghost use Rattle.std.specs.Prelude.{◌≡◌, ◌<◌, ◌≤◌, ℕ, Ok, Err, IfOk, MatchResult};
 ghost use Rattle.capn_words.specs.Message.{IsMessage};
+ghost use Rattle.capn_target.specs.Shapes.{IsInMessage};
 ghost use Rattle.capn_walk.specs.View as seen;
+ghost use Rattle.capn_walk.specs.inner.Reach.{level};
 ghost use Rattle.capn_walk.specs.inner.SlotsLeft.{places_of, owed, Lies};
 
 use crate::price::price_of;
 use crate::slots_left::SlotsLeft;
-use crate::target::{Fault, Target};
+use capn_target::{Fault, Target};
 use capn_words::{Place, Space};
 
 /// The price of a step to a target, at most `depth` objects deep and with `left` words left to pay, where each content
@@ -40,6 +42,17 @@ pub fn price_within(target: Target, depth: u32, left: u32, base: u32) -> Result<
     }
 }
 
+/// How deep a target is by itself: 1 for content, else 0.
+#[inline(always)]
+pub fn levels(target: Target) -> u32
+    ensures { result ≡ level target }
+{
+    match target {
+        Target::Content { .. } => 1,
+        _ => 0,
+    }
+}
+
 /// The index of a capability.
 #[inline(always)]
 pub fn capability_of(target: Target) -> Option<u32>
@@ -55,7 +68,7 @@ pub fn capability_of(target: Target) -> Option<u32>
 #[inline(always)]
 pub fn slots_below<S: Space>(space: &S, target: Target) -> SlotsLeft
     requires message { IsMessage (S.message space.now) }
-    requires inside { seen.IsInMessage (S.message space.now) target }
+    requires inside { IsInMessage (S.message space.now) target }
     ensures places { places_of result ≡ seen.slots_below target }
     ensures lies { Lies (S.message space.now) result }
     ensures owed { (base : ℕ) → owed result ≤ seen.toll base target }

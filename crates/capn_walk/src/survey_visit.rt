@@ -1,19 +1,19 @@
 //! One visit of a slot, without its value.
 
-ghost use Rattle.std.specs.Prelude.{◌≡◌, ◌≢◌, ◌≤◌, ◌∷◌, ◌↔◌, [], length, IsTrue, IfOk, IfErr};
+ghost use Rattle.std.specs.Prelude.{◌≡◌, ◌≢◌, ℕ, ◌≤◌, ◌+◌, ◌-◌, ◌∷◌, ◌↔◌, [], length, IsTrue, IfOk, IfErr, max};
 ghost use Rattle.capn_words.specs.Message.{segment_at, IsMessage, IsPlace};
 ghost use Rattle.capn_value.specs.Cost.{most_cost};
-ghost use Rattle.capn_walk.specs.Target as spec;
+ghost use Rattle.capn_target.specs.Target as spec;
 ghost use Rattle.capn_walk.specs.Visits.{pays, visits};
 ghost use Rattle.capn_walk.specs.inner.Verdict.{judge, refused};
 ghost use Rattle.capn_walk.specs.inner.Outcomes.{Visits};
-ghost use Rattle.capn_walk.specs.Shapes.{IsPlain, AreNumbers};
-ghost use Rattle.capn_walk.specs.declared.target.Fault.TheVariants.{Memory};
+ghost use Rattle.capn_walk.specs.inner.Reach.{levels_at};
+ghost use Rattle.capn_target.specs.Shapes.{IsPlain, AreNumbers};
+ghost use Rattle.capn_target.specs.declared.target.Fault.TheVariants.{Memory};
 
-use crate::slot_target::{near, resolve};
 use crate::slots_left::SlotsLeft;
 use crate::step::{capability_of, price_within, slots_below};
-use crate::target::{Fault, Target};
+use capn_target::{Fault, Target, near, resolve};
 use capn_words::{Place, Pointer, Space, Width};
 
 /// What one visit comes to: its price, the capability that it meets, and the slots below it.
@@ -132,5 +132,20 @@ pub fn is_plain(width: Width) -> bool
     match width {
         Width::Link | Width::Rows => false,
         _ => true,
+    }
+}
+
+/// The lesser of two depths of which one is that of a visit, if this is a visit of content; the other where the depth
+/// isn't asked for.
+#[inline(always)]
+pub fn lowered<const DEEP: bool>(least: u32, depth: u32, capability: Option<u32>) -> u32
+    ensures deep { (limit : ℕ) → IsTrue DEEP →
+        limit + 1 - result ≡ max (limit + 1 - least) (levels_at limit depth capability) }
+    ensures no_more { result ≤ least }
+{
+    if DEEP && capability.is_none() && depth < least {
+        depth
+    } else {
+        least
     }
 }

@@ -5,20 +5,18 @@ ghost use Rattle.std.specs.Prelude.{IfOk, IfErr, IfSome, IsSome, OnErr, MatchRes
 ghost use Rattle.capn_words.specs.Message.{IsMessage, IsPlace};
 ghost use Rattle.capn_value.specs.Cost.{base};
 ghost use Rattle.capn_walk.specs.Account.{with_paid, left_of};
-ghost use Rattle.capn_walk.specs.Target as spec;
+ghost use Rattle.capn_target.specs.Target as spec;
 ghost use Rattle.capn_walk.specs.ValueAt.{AreElements};
 ghost use Rattle.capn_walk.specs.View as seen;
 ghost use Rattle.capn_walk.specs.declared.kind.Kind.TheVariants as kinds;
 
-use crate::content::segment_length;
 use crate::digits::{digit, per_word};
 use crate::kind::{Kind, kind_of};
 use crate::message_walk::{ROOT, may_be_root};
 use crate::meter::Meter;
 use crate::sizes::{len_of, slots_in, words_in};
-use crate::slot_target::resolve;
 use crate::step::{capability_of, price_within};
-use crate::target::{Fault, Shape, Target};
+use capn_target::{Fault, Shape, Target, resolve, segment_length};
 use capn_words::{Place, Space, Width};
 use std::marker::Model;
 
@@ -32,7 +30,8 @@ pub struct View<'s, S: Space> {
 
 impl<'s, S: Space> Model for View<'s, S> {
     ghost use Rattle.capn_words.specs.Message.{IsMessage};
-    ghost use Rattle.capn_walk.specs.View.{Seen, IsInMessage};
+    ghost use Rattle.capn_walk.specs.View.{Seen};
+    ghost use Rattle.capn_target.specs.Shapes.{IsInMessage};
 
     ghost Value = { Seen };
 

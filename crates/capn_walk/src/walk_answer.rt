@@ -1,9 +1,9 @@
 //! What a walk answers.
 
 ghost use Rattle.std.specs.Prelude.{◌≡◌, ◌+◌, ◌<◌, ◌^◌};
-ghost use Rattle.capn_walk.specs.declared.target.Fault.TheVariants.{Memory};
+ghost use Rattle.capn_target.specs.declared.target.Fault.TheVariants.{Memory};
 
-use crate::target::Fault;
+use capn_target::Fault;
 use capn_value::Tree;
 use capn_words::Place;
 use std::alloc::{Allocator, Global};

@@ -3,19 +3,17 @@
 ghost use Rattle.std.specs.Prelude.{◌≡◌, ◌≤◌, ◌+◌, ◌*◌, Ok, length, IfErr};
 ghost use Rattle.capn_words.specs.Message.{segment_at, IsMessage, IsPlace};
 ghost use Rattle.capn_value.specs.Cost.{most_cost};
-ghost use Rattle.capn_walk.specs.Target as spec;
-ghost use Rattle.capn_walk.specs.declared.target.Fault.TheVariants.{Memory};
+ghost use Rattle.capn_target.specs.Target as spec;
+ghost use Rattle.capn_target.specs.declared.target.Fault.TheVariants.{Memory};
 ghost use Rattle.capn_walk.specs.View.{IsEntered, stepped};
 ghost use Rattle.capn_walk.specs.inner.Outcomes.{Walks, WalksObject, WalksRows, WalksSlots};
-ghost use Rattle.capn_walk.specs.Shapes.{IsContent, RowsFit, extent, slot_count};
+ghost use Rattle.capn_target.specs.Shapes.{IsContent, RowsFit, extent, slot_count};
 
-use crate::content::{place, segment_length};
 use crate::found::{Found, FoundRows, FoundSlots};
 use crate::lists::{list_at, words_at};
-use crate::slot_target::{near, pointer_at, resolve};
 use crate::step::price_within;
-use crate::target::{Fault, Shape, Target};
 use crate::walk_answer::{Stopped, out_of_memory, stop};
+use capn_target::{Fault, Shape, Target, near, place, pointer_at, resolve, segment_length};
 use capn_value::{Body, Items, Value};
 use capn_words::{Place, Pointer, Space, Width};
 use std::alloc::Allocator;

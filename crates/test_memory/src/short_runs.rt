@@ -33,9 +33,9 @@ pub(crate) fn judged_canonical(
     }
 }
 
-/// That the chain and a word after it are not canonical: a survey follows the pass that finds that.
+/// That the chain isn't canonical with another offset in its last pointer: a survey follows the pass that finds that.
 pub(crate) fn check_answer(of: &Subject, short: &Refusing<Global>) -> Answer {
-    match is_canonical(short, of.longer.as_slice(), limits(256)) {
+    match is_canonical(short, of.respelt.as_slice(), limits(256)) {
         Ok(is_canonical) => judged(!is_canonical),
         Err(refusal) => wanting(matches!(refusal, Refusal::Memory)),
     }

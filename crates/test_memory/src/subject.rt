@@ -19,7 +19,8 @@ pub(crate) enum Answer {
     Memory,
 }
 
-/// What the calls are tried on: a message, as a stream and packed, its walk, and a chain of 70 structs.
+/// What the calls are tried on: a message, as a stream and packed, its walk, a chain of 70 structs, and the same with
+/// another offset in its last pointer, which only a survey finds to be accepted.
 #[derive(Drop)]
 pub(crate) struct Subject<'a> {
     pub alloc: Global,
@@ -28,7 +29,7 @@ pub(crate) struct Subject<'a> {
     pub packed: Vec<u8>,
     pub walked: Walked,
     pub chain: Vec<u8>,
-    pub longer: Vec<u8>,
+    pub respelt: Vec<u8>,
 }
 
 /// The limits of a walk to `depth` objects below one another.
@@ -36,23 +37,24 @@ pub(crate) fn limits(depth: u32) -> Limits {
     Limits::new(8_388_608, 8_388_608, depth).unwrap_or(Limits::usual())
 }
 
+/// The canonical pointer to an empty struct.
+const EMPTY: u64 = 0xffff_fffc;
+
 /// `levels` structs of two slots, each in the first slot of the one before, with empty structs in the slots that are
-/// left.
-pub(crate) fn chain(alloc: Global, levels: u32) -> Result<Vec<u8>, AllocError> {
+/// left, the last of which has this pointer.
+fn chain_to(alloc: Global, levels: u32, last: u64) -> Result<Vec<u8>, AllocError> {
     let mut words = Vec::new(alloc);
     words.push(0x2_0000_0000_0000)?;
     for _ in 1..levels {
-        words.extend_from_slice(&[0x2_0000_0000_0004, 0xffff_fffc])?;
+        words.extend_from_slice(&[0x2_0000_0000_0004, EMPTY])?;
     }
-    words.extend_from_slice(&[0xffff_fffc, 0xffff_fffc])?;
+    words.extend_from_slice(&[EMPTY, last])?;
     bytes_of(alloc, words.as_slice())
 }
 
-/// These bytes and a word after them, which no object has.
-fn longer(alloc: Global, bytes: &[u8]) -> Result<Vec<u8>, AllocError> {
-    let mut longer = Vec::from_slice(alloc, bytes)?;
-    longer.extend_from_slice(&[0; 8])?;
-    Ok(longer)
+/// Such a chain as canonical bytes have it.
+pub(crate) fn chain(alloc: Global, levels: u32) -> Result<Vec<u8>, AllocError> {
+    chain_to(alloc, levels, EMPTY)
 }
 
 /// The packed text of a stream.
@@ -82,7 +84,7 @@ fn walked_of<S: Space>(alloc: Global, message: &S) -> Result<Walked, Fail> {
 /// What the calls are tried on, of a stream.
 pub(crate) fn subject_of(alloc: Global, stream: &[u8]) -> Result<Subject<'_>, Fail> {
     let chain = chain(alloc, 70)?;
-    let longer = longer(alloc, chain.as_slice())?;
+    let respelt = chain_to(alloc, 70, 0xffff_fff8)?;
     let packed = packed_of(alloc, stream)?;
     let message = message_of(alloc, stream)?;
     let walked = walked_of(alloc, &message)?;
@@ -93,7 +95,7 @@ pub(crate) fn subject_of(alloc: Global, stream: &[u8]) -> Result<Subject<'_>, Fa
         packed,
         walked,
         chain,
-        longer,
+        respelt,
     })
 }
 

@@ -14,6 +14,10 @@ mod making;
 #[cfg(test)]
 mod steps;
 #[cfg(test)]
+mod targets;
+#[cfg(test)]
+mod value_texts;
+#[cfg(test)]
 mod values;
 #[cfg(test)]
 mod words;

@@ -17,7 +17,7 @@ use Rattle.capn_canon.specs.inner.Outcomes.{AreSurveyed}
 use Rattle.capn_canon.specs.SurveyedBytes.{Surveys}
 use Rattle.capn_canon.proofs.shared.OneReading.{one_value, is_message}
 use Rattle.capn_canon.proofs.shared.NotUnaccepted.{not_unaccepted}
-use Rattle.capn_canon.specs.Layout.{canon}
+use Rattle.capn_layout.specs.Layout.{canon}
 use Rattle.capn_canon.proofs.calls.Answered.{denoted_here}
 use Rattle.capn_canon.proofs.theorem.Headline.{denoted_length}
 use Rattle.capn_canon.proofs.calls.InEachForm.{packed_refused}

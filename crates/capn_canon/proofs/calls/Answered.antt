@@ -6,7 +6,7 @@ use Rattle.capn_walk.specs.Accepted.{root, IsValueOf}
 use Rattle.capn_walk.specs.Limits.{Bounds}
 use Rattle.capn_walk.proofs.shared.Unique.{unique}
 use Rattle.capn_canon.specs.declared.form.Form.{Form}
-use Rattle.capn_canon.specs.Layout.{canon}
+use Rattle.capn_layout.specs.Layout.{canon}
 use Rattle.capn_canon.specs.Denotes.{Denotes, AnswersMessage, Answers}
 use Rattle.capn_canon.specs.Reads.{Reads}
 use Rattle.capn_canon.specs.Canonicity.{IsCanonicalForm}

@@ -4,11 +4,11 @@ use Rattle.capn_words.specs.Message.{IsMessage}
 use Rattle.capn_value.specs.Tree.{Tree}
 use Rattle.capn_walk.specs.Accepted.{IsValueOf}
 use Rattle.capn_walk.specs.Limits.{Bounds}
-use Rattle.capn_canon.specs.inner.MessageSlots.{HasSlot}
-use Rattle.capn_canon.specs.inner.Ready.{IsReady}
+use Rattle.capn_layout.specs.MessageSlots.{HasSlot}
+use Rattle.capn_layout.specs.Ready.{IsReady}
 use Rattle.capn_canon.proofs.theorem.Headline.{denoted_fits, denoted_in_range, denoted_cost}
-use Rattle.capn_canon.proofs.layouts.Room.{room}
-use Rattle.capn_canon.proofs.layouts.Sound.{sound}
+use Rattle.capn_layout.proofs.shared.Room.{room}
+use Rattle.capn_layout.proofs.shared.Sound.{sound}
 
 pub root-ready : (m : List (List ℕ)) (limits : Bounds) (v : Tree) → IsMessage m → limits.budget ≤ 2 ^ 28
     → limits.depth ≤ 256 → IsValueOf m limits v → IsReady (HasSlot m) 0 0 limits.depth 1

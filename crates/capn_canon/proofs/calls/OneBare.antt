@@ -6,7 +6,7 @@ use Rattle.std.proofs.lemmas.List.{take_all}
 use Rattle.capn_words.specs.Message.{IsMessage, segment_at, bytes_at, words_of, bytes, IsBare}
 use Rattle.capn_words.proofs.shared.Words.{bytes-injective, length-bytes}
 use Rattle.capn_walk.specs.Accepted.{root}
-use Rattle.capn_walk.proofs.shared.Segments.{length_of_none, length_of_some}
+use Rattle.capn_target.proofs.shared.Segments.{length_of_none, length_of_some}
 
 only-segment : (m : List (List ℕ)) → length m ≡ 1 → m ≡ segment_at m 0 ∷ []
 only-segment [] e = absurd (omega arith)

@@ -1,11 +1,11 @@
--- Words whose root is in place, and that end with what is below it, are accepted and canonical, and as deep as the
+-- Words whose root is in place are accepted; if they end with what is below it, they are canonical, and as deep as the
 -- pass came.
 use Rattle.std.proofs.Common.{◌≡◌, ℕ, ◌+◌, ◌-◌, ◌^◌, ◌<◌, ◌≤◌, Bool, true, List, [], ◌∷◌, ◌++◌, length, Option, Some}
 use Rattle.std.proofs.Common.{None, IsTrue, refl, ap, sym, subst, ◌∙◌, arith}
 use Rattle.std.specs.Option.{option_or}
 use Rattle.std.proofs.lemmas.List.{append-nil}
 use Rattle.capn_words.specs.Message.{IsMessage, bytes}
-use Rattle.capn_value.specs.Tree.{Tree, nil, node, voids, bits, bytes as octets, pairs, quads, octs, links, rows, cap}
+use Rattle.capn_value.specs.Tree.{Tree, nil, node, voids, numbers, links, rows, cap}
 use Rattle.capn_value.specs.Tree.{Trees, no_trees, tree, count}
 use Rattle.capn_value.specs.Cost.{base, height, greatest}
 use Rattle.capn_value.specs.FirstCap.{first_cap}
@@ -17,7 +17,7 @@ use Rattle.capn_walk.specs.Visits.{Visit, visits}
 use Rattle.capn_canon.specs.declared.progress.Progress.{Progress}
 use Rattle.capn_canon.specs.declared.surveyed_bare.SurveyedBare.{SurveyedBare}
 use Rattle.capn_canon.specs.BareVerdict.{IsBareSurvey}
-use Rattle.capn_canon.specs.Layout.{size, words}
+use Rattle.capn_layout.specs.Layout.{size, words, canon}
 use Rattle.capn_canon.specs.inner.InPlace.{Pays, AreInPlace, FindsSlots}
 use Rattle.capn_canon.proofs.places.CanonicalWords.{words-stand}
 use Rattle.capn_canon.proofs.places.Compared.{slots-first}
@@ -41,11 +41,7 @@ free-root nil e = refl
 free-root (node ws ss) e = refl
 free-root (cap k) e = absurd cc
 free-root (voids n) e = refl
-free-root (bits xs) e = refl
-free-root (octets xs) e = refl
-free-root (pairs xs) e = refl
-free-root (quads xs) e = refl
-free-root (octs xs) e = refl
+free-root (numbers a xs) e = refl
 free-root (links ts) e = refl
 free-root (rows bs) e = refl
 
@@ -62,8 +58,7 @@ under-limits all limits deep b d l q low eb ed el f =
     (subst (λ (x : ℕ). FindsSlots all b deep 0 1 1 d x 1 d q low) el f))
 
 module _ (all : List ℕ) (limits : Bounds) (deep : Bool) (some : 0 < length all) (q : Progress) (low : ℕ)
-    (f : FindsSlots all (base limits.tariff) deep 0 1 1 limits.depth limits.budget 1 limits.depth q low)
-    (ends : q.next ≡ length all) where
+    (f : FindsSlots all (base limits.tariff) deep 0 1 1 limits.depth limits.budget 1 limits.depth q low) where
   abbrev value : Tree
   value = (one-of f.values f.count).0
 
@@ -74,15 +69,15 @@ module _ (all : List ℕ) (limits : Bounds) (deep : Bool) (some : 0 < length all
   in_place = subst (λ (ts : Trees). AreInPlace all (base limits.tariff) 0 1 limits.depth ts f.price f.below) values
       f.in_place
 
-  size-is : 1 + size value ≡ length all
-  size-is =
+  size-is : q.next ≡ length all → 1 + size value ≡ length all
+  size-is ends =
       let n = f.comes.next_is in
-      let e = ap Rattle.capn_canon.specs.Layout.sizes values in
+      let e = ap Rattle.capn_layout.specs.Layout.sizes values in
       omega arith
 
-  words-are : words value ≡ all
-  words-are = words-stand all value in_place.sound.0 some
-      (slots-first all value no_trees 0 1 some in_place.sound.0 in_place.laid) size-is
+  words-are : q.next ≡ length all → words value ≡ all
+  words-are ends = words-stand all value in_place.sound.0 some
+      (slots-first all value no_trees 0 1 some in_place.sound.0 in_place.laid) (size-is ends)
 
   free : first_cap value ≡ None
   free = none-first (first_cap value) in_place.free
@@ -103,10 +98,12 @@ module _ (all : List ℕ) (limits : Bounds) (deep : Bool) (some : 0 < length all
         is = in_place.are.0;
       }
 
-  -- what is counted so is what a survey of the words finds
+  -- what is counted so is what a survey of the words finds, and they are canonical if they end there
   pub canonical-survey : (c : SurveyedBare) → c.paid ≡ limits.budget - q.left → c.visits ≡ q.visits
-      → c.capability ≡ None → IsTrue c.is_canonical → IsBareSurvey all limits c
-  canonical-survey c paid_is visits_are capability says =
+      → c.capability ≡ None → (IsTrue c.is_canonical → q.next ≡ length all)
+      → ((v : Tree) → IsValueOf (all ∷ []) limits v → first_cap v ≡ None → canon v ≡ bytes all → IsTrue c.is_canonical)
+      → IsBareSurvey all limits c
+  canonical-survey c paid_is visits_are capability ends says =
       let s = visited.sum in
       let m = visited.many in
       let l = f.comes.left_is in
@@ -117,18 +114,18 @@ module _ (all : List ℕ) (limits : Bounds) (deep : Bool) (some : 0 < length all
         pays = omega arith;
         counts = omega arith;
         capability = capability ∙ sym free;
-        answer = ((λ t. (free, ap bytes words-are)), (λ e. says));
+        answer = ((λ t. (free, ap bytes (words-are (ends t)))), (λ e. says value at-root e.0 e.1));
       }
 
   -- and where the pass learned how deep it came, it was as deep as the words are
-  pub canonical-depth : IsMessage (all ∷ []) → limits.budget ≤ 2 ^ 28 → limits.depth ≤ 256 → IsTrue deep
-      → IsDepth (all ∷ []) limits (limits.depth - low) × (low ≤ limits.depth)
-  canonical-depth is small shallow on =
+  pub canonical-depth : q.next ≡ length all → IsMessage (all ∷ []) → limits.budget ≤ 2 ^ 28 → limits.depth ≤ 256
+      → IsTrue deep → IsDepth (all ∷ []) limits (limits.depth - low) × (low ≤ limits.depth)
+  canonical-depth ends is small shallow on =
       let l = f.lowered on (omega arith) in
       let e = ap greatest values in
       let tall = (denoted_cost (all ∷ []) limits value is small shallow at-root).2 in
       let h : height value ≡ limits.depth - low = omega arith in (
         subst (λ (n : ℕ). IsDepth (all ∷ []) limits n) h
-            (depth-of-canonical all limits value is small shallow at-root words-are),
+            (depth-of-canonical all limits value is small shallow at-root (words-are ends)),
         omega arith,
       )

@@ -8,16 +8,16 @@ use Rattle.capn_words.specs.declared.pointer.Pointer.TheVariants.{Node}
 use Rattle.capn_words.specs.declared.pointer.Width.TheVariants.{Rows}
 use Rattle.capn_value.specs.Tree.{Tree, rows, Bodies, count_rows}
 use Rattle.capn_value.specs.FirstCap.{first_cap}
-use Rattle.capn_walk.specs.declared.target.Target.TheVariants as targets
-use Rattle.capn_walk.specs.declared.target.Shape.TheVariants as shapes
+use Rattle.capn_target.specs.declared.target.Target.TheVariants as targets
+use Rattle.capn_target.specs.declared.target.Shape.TheVariants as shapes
 use Rattle.capn_walk.specs.Accepted.{IsWithin}
-use Rattle.capn_walk.specs.Target.{target}
+use Rattle.capn_target.specs.Target.{target}
 use Rattle.capn_walk.specs.ValueAt.{IsInside}
 use Rattle.capn_walk.specs.Visits.{price, row_places, visits_of}
-use Rattle.capn_walk.proofs.shared.Inside.{inside}
-use Rattle.capn_canon.specs.Layout.{list_to, point}
+use Rattle.capn_target.proofs.shared.Inside.{inside}
+use Rattle.capn_layout.specs.Layout.{list_to, point}
 use Rattle.capn_canon.specs.inner.Due.{IsDue, DueValue, DueRows}
-use Rattle.capn_canon.specs.inner.RowWords.{kept_each}
+use Rattle.capn_layout.specs.RowWords.{kept_each}
 use Rattle.capn_canon.proofs.places.ComparedRows.{rows-is, rows-sound, rows-passes, rows-here, rows-to-slots, rows-size}
 use Rattle.capn_canon.proofs.places.ComparedRows.{kw, ks}
 use Rattle.capn_canon.proofs.check.DueObjects.{due-price}

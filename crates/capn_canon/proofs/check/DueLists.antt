@@ -6,26 +6,26 @@ use Rattle.capn_words.specs.Message.{IsMessage, segment_at}
 use Rattle.capn_words.specs.declared.pointer.Width.{Width}
 use Rattle.capn_words.specs.declared.pointer.Width.TheVariants.{Link, Rows}
 use Rattle.capn_value.specs.FirstCap.{first_cap}
-use Rattle.capn_walk.specs.declared.target.Shape.TheVariants as shapes
+use Rattle.capn_target.specs.declared.target.Shape.TheVariants as shapes
 use Rattle.capn_walk.specs.Accepted.{IsWithin}
-use Rattle.capn_walk.specs.Shapes.{IsPlain}
-use Rattle.capn_walk.specs.Target.{content_words, words_for}
+use Rattle.capn_target.specs.Shapes.{IsPlain}
+use Rattle.capn_target.specs.Target.{content_words, words_for}
 use Rattle.capn_walk.specs.ValueAt.{IsInside}
 use Rattle.capn_walk.specs.Visits.{price, places, visits_of}
-use Rattle.capn_walk.proofs.shared.Inside.{inside}
-use Rattle.capn_canon.specs.Layout.{list_to, point}
+use Rattle.capn_target.proofs.shared.Inside.{inside}
+use Rattle.capn_layout.specs.Layout.{list_to, point}
 use Rattle.capn_canon.specs.inner.Due.{DueValue, DueSlots}
-use Rattle.capn_canon.specs.inner.FirstBits.{element_bits, first_bits}
+use Rattle.capn_layout.specs.FirstBits.{element_bits, first_bits}
 use Rattle.capn_canon.specs.inner.WordsOfLayout.{Stand}
 use Rattle.capn_canon.proofs.places.Compared.{links-is, links-sound, links-passes, links-here, links-to-slots, size-is}
 use Rattle.capn_canon.proofs.places.ComparedList.{list-passes, list-bits, plain-too}
-use Rattle.capn_canon.proofs.content.Copied.{part-below}
+use Rattle.capn_layout.proofs.shared.Copied.{part-below}
 use Rattle.capn_canon.proofs.check.DueObjects.{due-price}
 use Rattle.capn_canon.proofs.check.DueWords.{NamesList, list-of}
-use Rattle.capn_canon.proofs.content.FirstBits.{plain-words}
+use Rattle.capn_layout.proofs.shared.FirstBits.{plain-words}
 use Rattle.capn_canon.proofs.reading.LaidPointers.{list-names}
 use Rattle.capn_canon.proofs.reading.OneSegment.{here}
-use Rattle.capn_canon.proofs.content.Shaped.{inside-of}
+use Rattle.capn_layout.proofs.shared.Shaped.{inside-of}
 
 module _ (all : List ℕ) (base from to d left : ℕ) (h : DueValue all base from to d left) (small : length all ≤ 2 ^ 29)
     (order : from < to) (deep : 0 < d) (width : Width) (n : ℕ) (few : n < 2 ^ 29)

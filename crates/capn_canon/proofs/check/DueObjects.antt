@@ -7,16 +7,16 @@ use Rattle.capn_words.specs.Pointers.{field}
 use Rattle.capn_value.specs.Tree.{Tree, nil, node, Trees, count}
 use Rattle.capn_value.specs.FirstCap.{first_cap}
 use Rattle.capn_value.specs.Trim.{kept_words}
-use Rattle.capn_walk.specs.declared.target.Target.TheVariants as targets
-use Rattle.capn_walk.specs.declared.target.Shape.{Shape}
-use Rattle.capn_walk.specs.declared.target.Shape.TheVariants as shapes
+use Rattle.capn_target.specs.declared.target.Target.TheVariants as targets
+use Rattle.capn_target.specs.declared.target.Shape.{Shape}
+use Rattle.capn_target.specs.declared.target.Shape.TheVariants as shapes
 use Rattle.capn_walk.specs.Accepted.{AllPay, IsWithin}
-use Rattle.capn_walk.specs.Target.{target}
+use Rattle.capn_target.specs.Target.{target}
 use Rattle.capn_walk.specs.ValueAt.{IsInside, words_from}
 use Rattle.capn_walk.specs.Visits.{Visit, price, places, slots, visits_of}
-use Rattle.capn_walk.proofs.shared.Inside.{inside}
+use Rattle.capn_target.proofs.shared.Inside.{inside}
 use Rattle.capn_walk.proofs.shared.Walks.{visits-deep, visits-object}
-use Rattle.capn_canon.specs.Layout.{struct_to, point}
+use Rattle.capn_layout.specs.Layout.{struct_to, point}
 use Rattle.capn_canon.specs.inner.Due.{IsDue, DueValue, DueSlots}
 use Rattle.capn_canon.proofs.places.Compared.{struct-is, struct-sound, struct-passes, slots-here, struct-to-slots}
 use Rattle.capn_canon.proofs.places.Compared.{struct-size}

@@ -12,17 +12,17 @@ use Rattle.capn_walk.specs.Limits.{Bounds}
 use Rattle.capn_walk.specs.Visits.{Visit, visits}
 use Rattle.capn_walk.proofs.shared.Unique.{unique-slots}
 use Rattle.capn_canon.specs.declared.progress.Progress.{Progress}
-use Rattle.capn_canon.specs.Layout.{size, sizes, words, canon}
+use Rattle.capn_layout.specs.Layout.{size, sizes, words, canon}
 use Rattle.capn_canon.specs.inner.Due.{DueSlots}
 use Rattle.capn_canon.specs.inner.InPlace.{FindsSlots}
-use Rattle.capn_canon.specs.inner.Sound.{Sound}
+use Rattle.capn_layout.specs.Sound.{Sound}
 use Rattle.capn_canon.specs.inner.WordsOfLayout.{IsLaidAt}
 use Rattle.capn_canon.proofs.check.CanonicalSurvey.{free-root}
 use Rattle.capn_canon.proofs.places.CanonicalWords.{bytes-words, stand-words}
 use Rattle.capn_canon.proofs.places.Compared.{slots-both}
 use Rattle.capn_canon.proofs.theorem.Headline.{denoted_fits, denoted_in_range}
 use Rattle.capn_canon.proofs.reading.ReadBare.{root-alone}
-use Rattle.capn_canon.proofs.layouts.Sound.{sound}
+use Rattle.capn_layout.proofs.shared.Sound.{sound}
 use Rattle.capn_canon.proofs.places.Standing.{stand-none}
 
 module _ (all : List ℕ) (limits : Bounds) (v : Tree) (is : IsMessage (all ∷ [])) (small : limits.budget ≤ 2 ^ 28)

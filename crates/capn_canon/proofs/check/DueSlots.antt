@@ -11,7 +11,7 @@ use Rattle.capn_walk.proofs.shared.Costs.{all-front, all-back, paid-append}
 use Rattle.capn_walk.proofs.shared.Unique.{unique, unique-slots}
 use Rattle.capn_canon.specs.declared.progress.Progress.{Progress}
 use Rattle.capn_canon.specs.declared.progress.Pass.{Pass}
-use Rattle.capn_canon.specs.Layout.{size, sizes}
+use Rattle.capn_layout.specs.Layout.{size, sizes}
 use Rattle.capn_canon.specs.inner.Due.{IsDue, AreDue, RowsAreDue, DueSlots, DueRows, DueFirst, Due}
 use Rattle.capn_canon.specs.inner.InPlace.{FindsSlots, FindsFirst, IsOpen}
 use Rattle.capn_canon.proofs.places.Compared.{slots-first, slots-others}

@@ -7,20 +7,21 @@ use Rattle.capn_words.specs.Pointers.{word_of, field, pointer_of}
 use Rattle.capn_words.specs.declared.space.Place.{Place}
 use Rattle.capn_words.specs.declared.pointer.Pointer.TheVariants.{Node, Many}
 use Rattle.capn_words.specs.declared.pointer.Width.{Width}
-use Rattle.capn_words.specs.declared.pointer.Width.TheVariants.{W0, W1, W8, W16, W32, W64, Link, Rows}
+use Rattle.capn_words.specs.declared.pointer.Width.TheVariants.{W0, Link, Rows}
 use Rattle.capn_words.proofs.shared.Choices.{if-no}
 use Rattle.capn_words.proofs.shared.Pointers.{pointer_of-word_of}
-use Rattle.capn_value.specs.Tree.{Tree, nil, node, voids, bits, bytes, pairs, quads, octs, links, rows, cap, Trees}
+use Rattle.capn_value.specs.Tree.{Tree, nil, node, voids, numbers, links, rows, cap, Trees}
 use Rattle.capn_value.specs.Tree.{Bodies, count, count_rows}
 use Rattle.capn_value.specs.FirstCap.{first_cap}
 use Rattle.capn_value.specs.Trim.{kept_words, kept_slots}
-use Rattle.capn_walk.specs.declared.target.Target.TheVariants as targets
-use Rattle.capn_walk.specs.declared.target.Shape.{Shape}
-use Rattle.capn_walk.specs.declared.target.Shape.TheVariants as shapes
-use Rattle.capn_walk.specs.Target.{target}
+use Rattle.capn_target.specs.declared.target.Target.TheVariants as targets
+use Rattle.capn_target.specs.declared.target.Shape.{Shape}
+use Rattle.capn_target.specs.declared.target.Shape.TheVariants as shapes
+use Rattle.capn_target.specs.Target.{target, list_width}
 use Rattle.capn_walk.specs.ValueAt.{IsAt}
-use Rattle.capn_canon.specs.Layout.{point, struct_to, list_to, row_size}
-use Rattle.capn_canon.specs.inner.Sound.{Sound}
+use Rattle.capn_walk.proofs.shared.Numbers.{no-number_width}
+use Rattle.capn_layout.specs.Layout.{point, struct_to, list_to, row_size}
+use Rattle.capn_layout.specs.Sound.{Sound}
 
 -- ---- the low half of a word
 
@@ -47,11 +48,7 @@ module _ (from to : ℕ) (order : from < to) (room : to ≤ 2 ^ 29) where
         | inr y ↦ inr (inl (omega arith))
       ]
   near-word (voids n) e z = inr (inr (omega arith))
-  near-word (bits xs) e z = inr (inr (omega arith))
-  near-word (bytes xs) e z = inr (inr (omega arith))
-  near-word (pairs xs) e z = inr (inr (omega arith))
-  near-word (quads xs) e z = inr (inr (omega arith))
-  near-word (octs xs) e z = inr (inr (omega arith))
+  near-word (numbers a xs) e z = inr (inr (omega arith))
   near-word (links ts) e z = inr (inr (omega arith))
   near-word (rows bs) e z = inr (inr (omega arith))
 
@@ -63,11 +60,7 @@ module _ (from to : ℕ) (order : from < to) (room : to ≤ 2 ^ 29) where
   struct-of (cap k) e z l = absurd (cc)
   struct-of (node ws ss) e z l = (ws, ss, refl)
   struct-of (voids n) e z l = absurd (omega arith)
-  struct-of (bits xs) e z l = absurd (omega arith)
-  struct-of (bytes xs) e z l = absurd (omega arith)
-  struct-of (pairs xs) e z l = absurd (omega arith)
-  struct-of (quads xs) e z l = absurd (omega arith)
-  struct-of (octs xs) e z l = absurd (omega arith)
+  struct-of (numbers a xs) e z l = absurd (omega arith)
   struct-of (links ts) e z l = absurd (omega arith)
   struct-of (rows bs) e z l = absurd (omega arith)
 
@@ -110,11 +103,7 @@ content-of m at nil h e z = absurd (z refl)
 content-of m at (cap k) h e z = absurd (cc)
 content-of m at (node ws ss) h e z = (h.segment, h.start, h.pads, _, h.is)
 content-of m at (voids n) h e z = (h.segment, h.start, h.pads, _, h.is)
-content-of m at (bits xs) h e z = (h.segment, h.start, h.pads, _, h.is)
-content-of m at (bytes xs) h e z = (h.segment, h.start, h.pads, _, h.is)
-content-of m at (pairs xs) h e z = (h.segment, h.start, h.pads, _, h.is)
-content-of m at (quads xs) h e z = (h.segment, h.start, h.pads, _, h.is)
-content-of m at (octs xs) h e z = (h.segment, h.start, h.pads, _, h.is)
+content-of m at (numbers a xs) h e z = (h.segment, h.start, h.pads, _, h.is)
 content-of m at (links ts) h e z = (h.segment, h.start, h.pads, _, h.is)
 content-of m at (rows bs) h e z = (h.3.segment, h.3.start, h.3.pads, _, h.3.is)
 
@@ -151,11 +140,7 @@ module _ (m : List (List ℕ)) (at : Place) (from to : ℕ) (order : from < to) 
       elim (low-struct ((kept_words ws == 0) && (kept_slots ss == 0)) (to - suc from) (kept_words ws) (kept_slots ss)
       (omega arith)) as (λ _. NamesList m at k n) [ inl x ↦ absurd (omega arith) | inr y ↦ absurd (omega arith) ]
   list-of (voids j) f o h e r = as-list W0 j h.segment h.start h.pads o e h.is
-  list-of (bits xs) f o h e r = as-list W1 (length xs) h.segment h.start h.pads o e h.is
-  list-of (bytes xs) f o h e r = as-list W8 (length xs) h.segment h.start h.pads o.0 e h.is
-  list-of (pairs xs) f o h e r = as-list W16 (length xs) h.segment h.start h.pads o.0 e h.is
-  list-of (quads xs) f o h e r = as-list W32 (length xs) h.segment h.start h.pads o.0 e h.is
-  list-of (octs xs) f o h e r = as-list W64 (length xs) h.segment h.start h.pads o e h.is
+  list-of (numbers a xs) f o h e r = as-list (list_width a) (length xs) h.segment h.start h.pads o.0 e h.is
   list-of (links ts) f o h e r = as-list Link (count ts) h.segment h.start h.pads o.0 e h.is
   list-of (rows bs) f o h e r =
       absurd (r (sym (same-width from to order room Rows k (count_rows bs * row_size bs) n o.3 few e)))
@@ -176,10 +161,7 @@ module _ (m : List (List ℕ)) (at : Place) (from to : ℕ) (order : from < to) 
         | inr y ↦ absurd (omega arith)
       ]
   rows-of (voids j) f o e r = absurd (no-rows W0 j o e r (λ q. cc))
-  rows-of (bits xs) f o e r = absurd (no-rows W1 (length xs) o e r (λ q. cc))
-  rows-of (bytes xs) f o e r = absurd (no-rows W8 (length xs) o.0 e r (λ q. cc))
-  rows-of (pairs xs) f o e r = absurd (no-rows W16 (length xs) o.0 e r (λ q. cc))
-  rows-of (quads xs) f o e r = absurd (no-rows W32 (length xs) o.0 e r (λ q. cc))
-  rows-of (octs xs) f o e r = absurd (no-rows W64 (length xs) o e r (λ q. cc))
+  rows-of (numbers a xs) f o e r =
+      absurd (no-rows (list_width a) (length xs) o.0 e r (no-number_width a Rows refl))
   rows-of (links ts) f o e r = absurd (no-rows Link (count ts) o.0 e r (λ q. cc))
   rows-of (rows bs) f o e r = (bs, refl)

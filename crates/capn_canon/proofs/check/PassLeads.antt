@@ -9,10 +9,10 @@ use Rattle.capn_value.specs.Tree.{node, links, rows, no_trees, tree, no_bodies, 
 use Rattle.capn_value.specs.Trim.{kept_words}
 use Rattle.capn_canon.specs.declared.progress.Progress.{Progress}
 use Rattle.capn_canon.specs.declared.progress.Pass.{Pass}
-use Rattle.capn_canon.specs.Layout.{size, sizes, struct_to, list_to}
+use Rattle.capn_layout.specs.Layout.{size, sizes, struct_to, list_to}
 use Rattle.capn_canon.specs.inner.InPlace.{AreInPlace, RowsInPlace, FindsSlots, FindsRows, FindsFirst}
 use Rattle.capn_canon.specs.inner.InPlace.{Finds, Leads, IsLeast, IsOpen, HasObject}
-use Rattle.capn_canon.specs.inner.RowWords.{kept_each}
+use Rattle.capn_layout.specs.RowWords.{kept_each}
 use Rattle.capn_canon.proofs.places.InPlace.{null-in-place, no-slots-in-place, slots-in-place, struct-in-place}
 use Rattle.capn_canon.proofs.places.InPlace.{struct-ends}
 use Rattle.capn_canon.proofs.places.InPlace.{empty-in-place}

@@ -9,19 +9,19 @@ use Rattle.capn_words.specs.Message.{segment_at}
 use Rattle.capn_words.specs.declared.pointer.Width.TheVariants.{Link}
 use Rattle.capn_value.specs.Tree.{Tree, nil, node, links, Trees, no_trees, tree, count}
 use Rattle.capn_value.specs.Trim.{kept_words, kept_slots}
-use Rattle.capn_walk.specs.declared.target.Target.TheVariants as targets
-use Rattle.capn_walk.specs.declared.target.Shape.TheVariants as shapes
-use Rattle.capn_walk.specs.Target.{target}
+use Rattle.capn_target.specs.declared.target.Target.TheVariants as targets
+use Rattle.capn_target.specs.declared.target.Shape.TheVariants as shapes
+use Rattle.capn_target.specs.Target.{target}
 use Rattle.capn_walk.specs.ValueAt.{AreAt, StandAt, words_from}
 use Rattle.capn_walk.specs.ValueAt.{IsInside}
-use Rattle.capn_canon.specs.Layout.{size, sizes, point, points, lay, lays, struct_to, list_to}
-use Rattle.capn_canon.specs.inner.Sound.{Sound}
+use Rattle.capn_layout.specs.Layout.{size, sizes, point, points, lay, lays, struct_to, list_to}
+use Rattle.capn_layout.specs.Sound.{Sound}
 use Rattle.capn_canon.proofs.reading.LaidPointers.{struct-names, list-names}
-use Rattle.capn_canon.proofs.layouts.KeptLengths.{kept_words-le, kept_slots-le}
-use Rattle.capn_canon.proofs.layouts.LayLengths.{length-lay, length-points}
+use Rattle.capn_layout.proofs.shared.KeptLengths.{kept_words-le, kept_slots-le}
+use Rattle.capn_layout.proofs.shared.LayLengths.{length-lay, length-points}
 use Rattle.capn_canon.specs.inner.WordsOfLayout.{Stand, IsLaidAt, AreLaidAt}
-use Rattle.capn_canon.proofs.content.Nulls.{kept-slots}
-use Rattle.capn_canon.proofs.content.Shaped.{IsNode, as-node, IsLinks, as-links}
+use Rattle.capn_layout.proofs.shared.Nulls.{kept-slots}
+use Rattle.capn_layout.proofs.shared.Shaped.{IsNode, as-node, IsLinks, as-links}
 use Rattle.capn_canon.proofs.places.Standing.{stand-none, stand-join, stand-front, stand-back, stand-room, stand-cons}
 use Rattle.capn_canon.proofs.places.Standing.{stand-head, stand-tail}
 

@@ -8,20 +8,20 @@ use Rattle.capn_words.specs.Message.{segment_at}
 use Rattle.capn_words.specs.declared.pointer.Width.{Width}
 use Rattle.capn_words.specs.declared.pointer.Width.TheVariants.{W0, W1, W8, W16, W32, W64, Link, Rows}
 use Rattle.capn_value.specs.Tree.{Tree}
-use Rattle.capn_walk.specs.declared.target.Target.TheVariants as targets
-use Rattle.capn_walk.specs.declared.target.Shape.TheVariants as shapes
-use Rattle.capn_walk.specs.Target.{content_words, target, words_for}
+use Rattle.capn_target.specs.declared.target.Target.TheVariants as targets
+use Rattle.capn_target.specs.declared.target.Shape.TheVariants as shapes
+use Rattle.capn_target.specs.Target.{content_words, target, words_for}
 use Rattle.capn_walk.specs.ValueAt.{words_from}
 use Rattle.capn_walk.specs.ValueAt.{IsInside}
-use Rattle.capn_walk.specs.Shapes.{IsPlain}
-use Rattle.capn_canon.specs.Layout.{size, point, lay, list_to}
-use Rattle.capn_canon.specs.inner.Sound.{Sound}
+use Rattle.capn_target.specs.Shapes.{IsPlain}
+use Rattle.capn_layout.specs.Layout.{size, point, lay, list_to}
+use Rattle.capn_layout.specs.Sound.{Sound}
 use Rattle.capn_canon.proofs.reading.OneSegment as one
 use Rattle.capn_canon.proofs.reading.LaidPointers.{list-names}
-use Rattle.capn_canon.proofs.layouts.LayLengths.{length-lay}
-use Rattle.capn_canon.specs.inner.FirstBits.{element_bits, last_bits, first_bits}
+use Rattle.capn_layout.proofs.shared.LayLengths.{length-lay}
+use Rattle.capn_layout.specs.FirstBits.{element_bits, last_bits, first_bits}
 use Rattle.capn_canon.specs.inner.WordsOfLayout.{Stand, IsLaidAt}
-use Rattle.capn_canon.proofs.content.FirstBits.{list-of, plain-words}
+use Rattle.capn_layout.proofs.shared.FirstBits.{list-of, plain-words}
 use Rattle.capn_canon.proofs.places.Compared.{laid-room}
 
 length-last : (r : ℕ) (ws : List ℕ) → r < 64 → length (last_bits r ws) ≡ (r + 63) / 64

@@ -10,20 +10,20 @@ use Rattle.capn_words.specs.declared.pointer.Pointer.TheVariants.{Node}
 use Rattle.capn_words.specs.declared.pointer.Width.TheVariants.{Rows}
 use Rattle.capn_value.specs.Tree.{Tree, rows, Trees, count, Bodies, body, count_rows}
 use Rattle.capn_value.specs.Trim.{kept_words_of_rows, kept_slots_of_rows}
-use Rattle.capn_walk.specs.declared.target.Target.TheVariants as targets
-use Rattle.capn_walk.specs.declared.target.Shape.TheVariants as shapes
-use Rattle.capn_walk.specs.Target.{target}
+use Rattle.capn_target.specs.declared.target.Target.TheVariants as targets
+use Rattle.capn_target.specs.declared.target.Shape.TheVariants as shapes
+use Rattle.capn_target.specs.Target.{target}
 use Rattle.capn_walk.specs.ValueAt.{RowsAt}
 use Rattle.capn_walk.specs.ValueAt.{IsInside}
-use Rattle.capn_canon.specs.Layout.{own, size, sizes, sizes_in_rows, row_size, point, points, lay, lays, row_contents}
-use Rattle.capn_canon.specs.Layout.{lays_in_rows, list_to}
-use Rattle.capn_canon.specs.inner.Sound.{Sound, Sounds, AreWide}
+use Rattle.capn_layout.specs.Layout.{own, size, sizes, sizes_in_rows, row_size, point, points, lay, lays, row_contents}
+use Rattle.capn_layout.specs.Layout.{lays_in_rows, list_to}
+use Rattle.capn_layout.specs.Sound.{Sound, Sounds, AreWide}
 use Rattle.capn_canon.proofs.reading.LaidPointers.{rows-names}
-use Rattle.capn_canon.proofs.layouts.LayLengths.{length-lays, length-points, length-row_contents}
-use Rattle.capn_canon.specs.inner.RowWords.{kept_each}
+use Rattle.capn_layout.proofs.shared.LayLengths.{length-lays, length-points, length-row_contents}
+use Rattle.capn_layout.specs.RowWords.{kept_each}
 use Rattle.capn_canon.specs.inner.WordsOfLayout.{Stand, IsLaidAt, AreLaidAt, RowsLaidAt}
-use Rattle.capn_canon.proofs.content.EachRow.{kept-rows-words, kept-rows-slots}
-use Rattle.capn_canon.proofs.content.Shaped.{IsRows, as-rows}
+use Rattle.capn_layout.proofs.shared.EachRow.{kept-rows-words, kept-rows-slots}
+use Rattle.capn_layout.proofs.shared.Shaped.{IsRows, as-rows}
 use Rattle.capn_canon.proofs.places.Compared.{laid-room}
 use Rattle.capn_canon.proofs.places.Standing.{stand-join, stand-front, stand-back, stand-cons}
 use Rattle.capn_canon.proofs.places.Standing.{stand-head, stand-tail}

@@ -12,26 +12,26 @@ use Rattle.capn_words.specs.declared.pointer.Width.TheVariants.{Link, Rows}
 use Rattle.capn_value.specs.Tree.{Tree, nil, node, links, rows, Trees, no_trees, tree, Bodies, no_bodies, body, count}
 use Rattle.capn_value.specs.Tree.{count_rows}
 use Rattle.capn_value.specs.Trim.{kept_words, kept_words_of_rows, kept_slots_of_rows}
-use Rattle.capn_walk.specs.declared.target.Target.TheVariants as targets
-use Rattle.capn_walk.specs.declared.target.Shape.{Shape}
-use Rattle.capn_walk.specs.declared.target.Shape.TheVariants as shapes
-use Rattle.capn_walk.specs.Target.{target}
+use Rattle.capn_target.specs.declared.target.Target.TheVariants as targets
+use Rattle.capn_target.specs.declared.target.Shape.{Shape}
+use Rattle.capn_target.specs.declared.target.Shape.TheVariants as shapes
+use Rattle.capn_target.specs.Target.{target}
 use Rattle.capn_walk.specs.Accepted.{paid_of, AllPay}
 use Rattle.capn_walk.specs.ValueAt.{RowsAt, StandAt, IsInside}
 use Rattle.capn_walk.specs.Visits.{Visit, pays, fails, price, places, row_places, slots, visits, visits_of}
 use Rattle.capn_walk.proofs.shared.Costs.{paid-append}
 use Rattle.capn_walk.proofs.shared.Walks.{visits-null, visits-object, is-inside, inside-struct, inside-links}
 use Rattle.capn_walk.proofs.shared.Walks.{inside-rows}
-use Rattle.capn_canon.specs.Layout.{size, sizes, sizes_in_rows, row_size, struct_to, list_to, point}
+use Rattle.capn_layout.specs.Layout.{size, sizes, sizes_in_rows, row_size, struct_to, list_to, point}
 use Rattle.capn_canon.specs.inner.InPlace.{Pays, IsInPlace, AreInPlace, RowsInPlace}
-use Rattle.capn_canon.specs.inner.RowWords.{kept_each}
-use Rattle.capn_canon.specs.inner.Sound.{Sound, AreWide}
+use Rattle.capn_layout.specs.RowWords.{kept_each}
+use Rattle.capn_layout.specs.Sound.{Sound, AreWide}
 use Rattle.capn_canon.specs.inner.WordsOfLayout.{AreLaidAt, RowsLaidAt}
 use Rattle.capn_canon.proofs.places.Compared.{null-told, slots-both, struct-is, struct-from-slots, struct-size}
 use Rattle.capn_canon.proofs.places.Compared.{links-is}
 use Rattle.capn_canon.proofs.places.Compared.{links-from-slots}
 use Rattle.capn_canon.proofs.places.ComparedRows.{row-both, rows-is, rows-from-slots}
-use Rattle.capn_canon.proofs.content.EachRow.{kept-rows-words, kept-rows-slots}
+use Rattle.capn_layout.proofs.shared.EachRow.{kept-rows-words, kept-rows-slots}
 use Rattle.capn_canon.proofs.reading.LaidPointers.{struct-names, list-names, rows-names}
 use Rattle.capn_canon.proofs.reading.OneSegment.{here, names-null, names-empty}
 use Rattle.capn_canon.proofs.places.Standing.{stand-none}

@@ -1,29 +1,29 @@
 -- A list of numbers that stands where its layout has it.
-use Rattle.std.proofs.Common.{◌≡◌, ℕ, zero, suc, ◌+◌, ◌*◌, ◌^◌, ◌<◌, ◌≤◌, ◌==◌, Bool, List, [], ◌∷◌, length, take}
-use Rattle.std.proofs.Common.{drop, slice_index, map, None, Ok, refl, ap, sym, ◌∙◌, arith, length-drop}
-use Rattle.std.specs.Int.{from_bool}
+use Rattle.std.proofs.Common.{◌≡◌, ℕ, zero, suc, ◌+◌, ◌*◌, ◌^◌, ◌<◌, ◌≤◌, List, [], ◌∷◌, length, take}
+use Rattle.std.proofs.Common.{drop, slice_index, None, Ok, refl, ap, sym, ◌∙◌, arith, length-drop}
 use Rattle.std.proofs.lemmas.List.{length-take-le}
 use Rattle.capn_words.specs.Message.{IsMessage}
 use Rattle.capn_words.specs.declared.pointer.Width.{Width}
 use Rattle.capn_words.specs.declared.pointer.Width.TheVariants.{W0, W1, W8, W16, W32, W64, Link, Rows}
-use Rattle.capn_value.specs.Tree.{Tree, voids, bits, bytes, pairs, quads, octs}
+use Rattle.capn_value.specs.NumberWidth.{NumberWidth, bit, byte, pair, quad, oct, bits_in, per_word}
+use Rattle.capn_value.specs.Tree.{Tree, voids, numbers}
 use Rattle.capn_value.specs.Cost.{height}
 use Rattle.capn_value.specs.FirstCap.{first_cap}
-use Rattle.capn_walk.specs.declared.target.Target.TheVariants as targets
-use Rattle.capn_walk.specs.declared.target.Shape.TheVariants as shapes
-use Rattle.capn_walk.specs.Target.{target, words_for}
-use Rattle.capn_walk.specs.Shapes.{IsPlain}
+use Rattle.capn_target.specs.declared.target.Target.TheVariants as targets
+use Rattle.capn_target.specs.declared.target.Shape.TheVariants as shapes
+use Rattle.capn_target.specs.Target.{target, words_for, list_width}
+use Rattle.capn_target.specs.Shapes.{IsPlain}
 use Rattle.capn_walk.specs.ValueAt.{element, AreElements, IsInside}
 use Rattle.capn_walk.specs.Visits.{price}
 use Rattle.capn_walk.proofs.shared.Walks.{is-inside}
-use Rattle.capn_canon.specs.Layout.{size, list_to}
-use Rattle.capn_canon.specs.inner.FirstBits.{element_bits, first_bits}
+use Rattle.capn_layout.specs.Layout.{size, list_to}
+use Rattle.capn_layout.specs.FirstBits.{element_bits, first_bits}
 use Rattle.capn_canon.specs.inner.InPlace.{IsInPlace}
-use Rattle.capn_canon.specs.inner.Sound.{Sound}
+use Rattle.capn_layout.specs.Sound.{Sound}
 use Rattle.capn_canon.specs.inner.WordsOfLayout.{Stand}
 use Rattle.capn_canon.proofs.places.ComparedList.{list-size, list-stands, plain-too}
-use Rattle.capn_canon.proofs.content.Copied.{part-below}
-use Rattle.capn_canon.proofs.content.FirstBits.{plain-words}
+use Rattle.capn_layout.proofs.shared.Copied.{part-below}
+use Rattle.capn_layout.proofs.shared.FirstBits.{plain-words}
 use Rattle.capn_canon.proofs.places.InPlace.{pays-none, pays-as, pays-object}
 use Rattle.capn_canon.proofs.reading.LaidPointers.{list-names}
 use Rattle.capn_canon.proofs.reading.OneSegment.{here}
@@ -48,31 +48,19 @@ listed-below f bound zero i some h = some
 listed-below f bound (suc n) zero some h = h 0
 listed-below f bound (suc n) (suc i) some h = listed-below (λ j. f (suc j)) bound n i some (λ j. h (suc j))
 
-map-listed : (f : ℕ → Bool) (n : ℕ) → map from_bool (listed f n) ≡ listed (λ i. from_bool (f i)) n
-map-listed f zero = refl
-map-listed f (suc n) = ap (λ (xs : List ℕ). from_bool (f 0) ∷ xs) (map-listed (λ i. f (suc i)) n)
-
--- a number below 2 as a bit
-bit-of : (n : ℕ) → n < 2 → from_bool (n == 1) ≡ n
-bit-of zero h = refl
-bit-of (suc zero) h = refl
-bit-of (suc (suc n)) h = absurd (omega arith)
-
 elements-listed : (each width : ℕ) (ws : List ℕ) (n : ℕ)
     → AreElements each width ws (listed (element each width ws) n)
 elements-listed each width ws n i h =
     let l = length-listed (element each width ws) n in
     listed-at (element each width ws) n i (omega arith)
 
-bits-listed : (ws : List ℕ) (n : ℕ)
-    → AreElements 64 1 ws (map from_bool (listed (λ i. element 64 1 ws i == 1) n))
-bits-listed ws n i h =
-    let f : ℕ → Bool = λ i. element 64 1 ws i == 1 in
-    let e = map-listed f n in
-    let l = length-listed (λ i. from_bool (f i)) n in
-    let k = ap length e in
-    let at = ap (λ (xs : List ℕ). slice_index xs i) e in
-    at ∙ listed-at (λ i. from_bool (f i)) n i (omega arith) ∙ bit-of (element 64 1 ws i) (omega arith)
+-- what bounds each word bounds each of the first ones
+taken-below : (bound n : ℕ) (ws : List ℕ) → ((i : ℕ) → slice_index ws i < bound) → (i : ℕ)
+    → slice_index (take n ws) i < bound
+taken-below bound zero ws h i = let some = h 0 in omega arith
+taken-below bound (suc n) [] h i = h i
+taken-below bound (suc n) (w ∷ ws) h zero = h zero
+taken-below bound (suc n) (w ∷ ws) h (suc i) = taken-below bound n ws (λ j. h (suc j)) i
 
 -- ---- the value
 
@@ -84,68 +72,50 @@ pub record Numbers (all : List ℕ) (width : Width) (n to : ℕ) : Type 0 where
   pub free : first_cap value ≡ None
   pub high : height value ≡ 1
 
-numbers-of : (all : List ℕ) (width : Width) (n to : ℕ) → IsPlain width → n < 2 ^ 29
+of-numbers : (all : List ℕ) (a : NumberWidth) (n to : ℕ) → ((i : ℕ) → slice_index (drop to all) i < 2 ^ 64)
+    → n < 2 ^ 29 → to + words_for (bits_in a * n) ≤ length all → Numbers all (list_width a) n to
+of-numbers all oct n to below few room =
+    let ws = drop to all in
+    let d = length-drop to all in
+    let l : length (take n ws) ≡ n = length-take-le n ws (omega arith) in
+    record {
+      value = numbers oct (take n ws);
+      inside = (ap (shapes.Many W64) (sym l), ap (λ (k : ℕ). take k ws) l);
+      sound = (omega arith, taken-below (2 ^ 64) n ws below);
+      free = refl;
+      high = refl;
+    }
+of-numbers all a n to below few room =
+    let l = length-listed (element (per_word a) (bits_in a) (drop to all)) n in
+    record {
+      value = numbers a (listed (element (per_word a) (bits_in a) (drop to all)) n);
+      inside = (ap (shapes.Many (list_width a)) (sym l), elements-listed (per_word a) (bits_in a) (drop to all) n);
+      sound = (
+        omega arith,
+        λ i. listed-below (element (per_word a) (bits_in a) (drop to all)) (2 ^ bits_in a) n i (omega arith)
+            (λ j. omega arith),
+      );
+      free = refl;
+      high = refl;
+    }
+
+numbers-of : (all : List ℕ) (width : Width) (n to : ℕ) → IsPlain width
+    → ((i : ℕ) → slice_index (drop to all) i < 2 ^ 64) → n < 2 ^ 29
     → to + words_for (element_bits width * n) ≤ length all → Numbers all width n to
-numbers-of all W0 n to plain few room = record {
+numbers-of all W0 n to plain below few room = record {
   value = voids n;
   inside = refl;
   sound = few;
   free = refl;
   high = refl;
 }
-numbers-of all W1 n to plain few room =
-    let ws = drop to all in
-    let l = length-listed (λ i. element 64 1 ws i == 1) n in
-    record {
-      value = bits (listed (λ i. element 64 1 ws i == 1) n);
-      inside = (ap (shapes.Many W1) (sym l), bits-listed ws n);
-      sound = omega arith;
-      free = refl;
-      high = refl;
-    }
-numbers-of all W8 n to plain few room =
-    let ws = drop to all in
-    let l = length-listed (element 8 8 ws) n in
-    record {
-      value = bytes (listed (element 8 8 ws) n);
-      inside = (ap (shapes.Many W8) (sym l), elements-listed 8 8 ws n);
-      sound = (omega arith, (λ i. listed-below (element 8 8 ws) (2 ^ 8) n i (omega arith) (λ j. omega arith)));
-      free = refl;
-      high = refl;
-    }
-numbers-of all W16 n to plain few room =
-    let ws = drop to all in
-    let l = length-listed (element 4 16 ws) n in
-    record {
-      value = pairs (listed (element 4 16 ws) n);
-      inside = (ap (shapes.Many W16) (sym l), elements-listed 4 16 ws n);
-      sound = (omega arith, (λ i. listed-below (element 4 16 ws) (2 ^ 16) n i (omega arith) (λ j. omega arith)));
-      free = refl;
-      high = refl;
-    }
-numbers-of all W32 n to plain few room =
-    let ws = drop to all in
-    let l = length-listed (element 2 32 ws) n in
-    record {
-      value = quads (listed (element 2 32 ws) n);
-      inside = (ap (shapes.Many W32) (sym l), elements-listed 2 32 ws n);
-      sound = (omega arith, (λ i. listed-below (element 2 32 ws) (2 ^ 32) n i (omega arith) (λ j. omega arith)));
-      free = refl;
-      high = refl;
-    }
-numbers-of all W64 n to plain few room =
-    let ws = drop to all in
-    let d = length-drop to all in
-    let l : length (take n ws) ≡ n = length-take-le n ws (omega arith) in
-    record {
-      value = octs (take n ws);
-      inside = (ap (shapes.Many W64) (sym l), ap (λ (k : ℕ). take k ws) l);
-      sound = omega arith;
-      free = refl;
-      high = refl;
-    }
-numbers-of all Link n to plain few room = absurd plain
-numbers-of all Rows n to plain few room = absurd plain
+numbers-of all W1 n to plain below few room = of-numbers all bit n to below few room
+numbers-of all W8 n to plain below few room = of-numbers all byte n to below few room
+numbers-of all W16 n to plain below few room = of-numbers all pair n to below few room
+numbers-of all W32 n to plain below few room = of-numbers all quad n to below few room
+numbers-of all W64 n to plain below few room = of-numbers all oct n to below few room
+numbers-of all Link n to plain below few room = absurd plain
+numbers-of all Rows n to plain below few room = absurd plain
 
 -- ---- in place
 
@@ -158,11 +128,12 @@ module _ (all : List ℕ) (base from to d : ℕ) (width : Width) (n : ℕ) (mess
   named = let k = plain-words width n plain in
       list-names all small from to n width (plain-too width plain) order (omega arith) few word
 
-  pub numbers : Numbers all width n to
-  numbers = numbers-of all width n to plain few room
+  pub listed-numbers : Numbers all width n to
+  listed-numbers =
+      numbers-of all width n to plain (part-below (all ∷ []) 0 to message) few room
 
   abbrev pub numbers-value : Tree
-  numbers-value = numbers.value
+  numbers-value = listed-numbers.value
 
   no-slots : (k : Width) → IsPlain k → Rattle.capn_walk.specs.Visits.slots 0 to (shapes.Many k n) ≡ []
   no-slots W0 h = refl
@@ -174,7 +145,7 @@ module _ (all : List ℕ) (base from to d : ℕ) (width : Width) (n : ℕ) (mess
   no-slots Link h = absurd h
   no-slots Rows h = absurd h
 
-  content-room : to + Rattle.capn_walk.specs.Target.content_words width n ≤ length all
+  content-room : to + Rattle.capn_target.specs.Target.content_words width n ≤ length all
   content-room = let k = plain-words width n plain in omega arith
 
   fits : to ≤ length all
@@ -184,11 +155,12 @@ module _ (all : List ℕ) (base from to d : ℕ) (width : Width) (n : ℕ) (mess
   numbers-in-place =
       let e = no-slots width plain in
       record {
-        is = is-inside (all ∷ []) (here from) 0 to 0 (shapes.Many width n) numbers.value named numbers.inside;
+        is = is-inside (all ∷ []) (here from) 0 to 0 (shapes.Many width n) listed-numbers.value named
+            listed-numbers.inside;
         laid = list-stands all width n 0 to from to 0 named plain few small (part-below (all ∷ []) 0 to message)
-            content-room order numbers.value numbers.inside numbers.sound fits word room stand;
-        sound = numbers.sound;
-        free = numbers.free;
+            content-room order listed-numbers.value listed-numbers.inside listed-numbers.sound fits word room stand;
+        sound = listed-numbers.sound;
+        free = listed-numbers.free;
         pays = pays-as _ (price base (shapes.Many width n) + 0) (price base (shapes.Many width n)) 1 1 (omega arith)
             refl
             (pays-object all base from d to 0 0 (shapes.Many width n) named deep (rw e pays-none));
@@ -196,11 +168,11 @@ module _ (all : List ℕ) (base from to d : ℕ) (width : Width) (n : ℕ) (mess
       }
 
   pub numbers-high : height numbers-value ≡ 1
-  numbers-high = numbers.high
+  numbers-high = listed-numbers.high
 
   pub numbers-end : size numbers-value ≡ words_for (element_bits width * n)
   numbers-end = list-size all width n 0 to from to 0 named plain few small (part-below (all ∷ []) 0 to message)
-      content-room order numbers.value numbers.inside numbers.sound fits
+      content-room order listed-numbers.value listed-numbers.inside listed-numbers.sound fits
 
 -- what such a list costs: its words, and each element that has no size
 pub price-none : (base n : ℕ) (width : Width) → width ≡ W0

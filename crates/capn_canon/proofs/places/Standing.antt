@@ -4,17 +4,8 @@ use Rattle.std.proofs.Common.{take, drop, slice_index, refl, ap, ap₂, sym, ◌
 use Rattle.std.proofs.Common.{length-drop}
 use Rattle.std.proofs.Math.Seq.{drop-cons}
 use Rattle.std.proofs.lemmas.List.{drop-drop}
+use Rattle.capn_layout.proofs.shared.Fronts.{take-plus}
 use Rattle.capn_canon.specs.inner.WordsOfLayout.{Stand}
-
-pub take-plus : (m n : ℕ) (xs : List ℕ) → take (m + n) xs ≡ take m xs ++ take n (drop m xs)
-take-plus zero n xs = let e : 0 + n ≡ n = omega arith in ap (λ (k : ℕ). take k xs) e
-take-plus (suc m) n [] = let e : suc m + n ≡ suc (m + n) = omega arith in ap (λ (k : ℕ). take {A = ℕ} k []) e ∙ none n
-  where
-    none : (n : ℕ) → [] ≡ take {A = ℕ} n []
-    none zero = refl
-    none (suc n) = refl
-take-plus (suc m) n (x ∷ xs) = let e : suc m + n ≡ suc (m + n) = omega arith in ap (λ (k : ℕ). take k (x ∷ xs)) e
-    ∙ ap (λ (ys : List ℕ). x ∷ ys) (take-plus m n xs)
 
 module _ (all : List ℕ) (at : ℕ) where
   pub stand-none : Stand all at []

@@ -7,18 +7,18 @@ use Rattle.capn_words.specs.declared.pointer.Pointer.TheVariants.{Node}
 use Rattle.capn_words.specs.declared.pointer.Width.{Width}
 use Rattle.capn_words.specs.declared.pointer.Width.TheVariants.{Rows}
 use Rattle.capn_value.specs.Tree.{node, Trees, no_trees, tree, count}
-use Rattle.capn_walk.specs.declared.target.Target.TheVariants as targets
-use Rattle.capn_walk.specs.declared.target.Shape.TheVariants as shapes
-use Rattle.capn_walk.specs.Target.{content_words, target}
+use Rattle.capn_target.specs.declared.target.Target.TheVariants as targets
+use Rattle.capn_target.specs.declared.target.Shape.TheVariants as shapes
+use Rattle.capn_target.specs.Target.{content_words, target}
 use Rattle.capn_walk.specs.ValueAt.{StandAt, AreElements, words_from}
 use Rattle.capn_canon.proofs.reading.Tight.{Close, TightAt, AreTight}
-use Rattle.capn_canon.specs.Layout.{struct_to, list_to, packed}
+use Rattle.capn_layout.specs.Layout.{struct_to, list_to, packed}
 use Rattle.capn_words.proofs.shared.Choices.{if-no}
 use Rattle.capn_canon.proofs.reading.OneSegment.{here, names-empty, names-struct, names-list, names-rows, IsPlain}
 use Rattle.capn_canon.proofs.reading.StandsIn.{Has, has-room, has-from}
-use Rattle.capn_canon.proofs.layouts.PackedElements.{packed-elements}
-use Rattle.capn_canon.specs.inner.Sound.{AreBelow}
-use Rattle.capn_canon.proofs.layouts.LayLengths.{length-packed}
+use Rattle.capn_layout.proofs.shared.PackedElements.{packed-elements}
+use Rattle.capn_layout.specs.Sound.{AreBelow}
+use Rattle.capn_layout.proofs.shared.LayLengths.{length-packed}
 
 module _ (all : List ℕ) (small : length all ≤ 2 ^ 29) where
   abbrev pub only : List (List ℕ)

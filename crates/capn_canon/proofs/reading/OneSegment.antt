@@ -7,13 +7,13 @@ use Rattle.capn_words.specs.declared.pointer.Pointer.{Pointer}
 use Rattle.capn_words.specs.declared.pointer.Pointer.TheVariants.{Nil, Node, Many, Cap}
 use Rattle.capn_words.specs.declared.pointer.Width.{Width}
 use Rattle.capn_words.specs.declared.pointer.Width.TheVariants.{W0, W1, W8, W16, W32, W64, Link, Rows}
-use Rattle.capn_walk.specs.declared.target.Target.{Target}
-use Rattle.capn_walk.specs.declared.target.Target.TheVariants as targets
-use Rattle.capn_walk.specs.declared.target.Shape.TheVariants as shapes
-use Rattle.capn_walk.specs.declared.target.Fault.{Fault}
+use Rattle.capn_target.specs.declared.target.Target.{Target}
+use Rattle.capn_target.specs.declared.target.Target.TheVariants as targets
+use Rattle.capn_target.specs.declared.target.Shape.TheVariants as shapes
+use Rattle.capn_target.specs.declared.target.Fault.{Fault}
 use Rattle.capn_words.proofs.shared.Choices.{if-yes, if-no, same-yes}
 use Rattle.capn_words.proofs.shared.Pointers.{pointer_of-word_of}
-use Rattle.capn_walk.specs.Target.{content_words, moved, tagged, within, list, struct, named, target}
+use Rattle.capn_target.specs.Target.{content_words, moved, tagged, within, list, struct, named, target}
 use Rattle.std.proofs.lemmas.Bool.{le-ltb}
 
 -- the place of a word of the one segment
@@ -52,7 +52,7 @@ module _ (ws : List ℕ) where
   names-empty from e h =
       let z : from - 0 ≡ from = omega arith in
       names from (Node (negsuc 0) 0 0) (ap pointer_of e)
-      ∙ ap (λ (r : Result ℕ Fault). Rattle.capn_walk.specs.Target.struct_from (ws ∷ []) 0 r 0 0 0)
+      ∙ ap (λ (r : Result ℕ Fault). Rattle.capn_target.specs.Target.struct_from (ws ∷ []) 0 r 0 0 0)
       (if-no (nat_lt from 0) _ _ (le-ltb from 0 (omega arith)) ∙ ap Ok z)
       ∙ in-reach from 0 _ (omega arith)
 

@@ -1,31 +1,32 @@
 -- Canonical words, read again, have the trimmed value at the root, and are paid exactly its cost.
-use Rattle.std.proofs.Common.{◌≡◌, ℕ, zero, suc, ◌+◌, ◌*◌, ◌^◌, ◌<◌, ◌≤◌, Bool, true, false, List, [], ◌∷◌, ◌++◌}
-use Rattle.std.proofs.Common.{length, take, slice_index, map, Ok, pos, refl, ap, sym, subst, ◌∙◌, arith}
-use Rattle.std.proofs.lemmas.List.{length-take-le, append-nil, length-map}
+use Rattle.std.proofs.Common.{◌≡◌, ℕ, zero, suc, ◌+◌, ◌*◌, ◌^◌, ◌<◌, ◌≤◌, List, [], ◌∷◌, ◌++◌}
+use Rattle.std.proofs.Common.{length, take, slice_index, Ok, pos, refl, ap, sym, subst, ◌∙◌, arith}
+use Rattle.std.proofs.lemmas.List.{length-take-le, append-nil}
 use Rattle.std.proofs.Math.Seq.{take-length}
 use Rattle.capn_words.specs.Pointers.{word_of}
 use Rattle.capn_words.specs.declared.pointer.Pointer.TheVariants.{Node}
-use Rattle.capn_words.specs.declared.pointer.Width.TheVariants.{W0, W1, W8, W16, W32, W64, Link}
-use Rattle.capn_value.specs.Tree.{Tree, nil, node, voids, bits, bytes, pairs, quads, octs, links, rows, cap, Trees}
+use Rattle.capn_words.specs.declared.pointer.Width.TheVariants.{W0, W64, Link}
+use Rattle.capn_value.specs.NumberWidth.{oct, bits_in, per_word}
+use Rattle.capn_value.specs.Tree.{Tree, nil, node, voids, numbers, links, rows, cap, Trees}
 use Rattle.capn_value.specs.Tree.{no_trees, tree, Bodies, no_bodies, body, count, count_rows, front}
 use Rattle.capn_value.proofs.shared.Trimmed.{count-trimmed_each, count-trimmed_rows}
 use Rattle.capn_value.specs.Trim.{kept_words, kept_slots, kept_words_of_rows, kept_slots_of_rows, trimmed, trimmed_each}
 use Rattle.capn_value.specs.Trim.{trimmed_rows}
-use Rattle.capn_walk.specs.declared.target.Target.TheVariants as targets
-use Rattle.capn_walk.specs.declared.target.Shape.TheVariants as shapes
+use Rattle.capn_target.specs.declared.target.Target.TheVariants as targets
+use Rattle.capn_target.specs.declared.target.Shape.TheVariants as shapes
+use Rattle.capn_target.specs.Target.{list_width}
 use Rattle.capn_walk.specs.ValueAt.{IsAt, StandAt}
 use Rattle.capn_walk.specs.Visits.{visits}
 use Rattle.capn_value.specs.Cost.{height, cost}
 use Rattle.capn_canon.proofs.reading.Tight.{TightAt, AreTight, TightRows, loosen, Pays, exact}
-use Rattle.capn_canon.specs.Layout.{own, size, sizes, point, points, row_contents, lay, lays, lays_in_rows, words}
+use Rattle.capn_layout.specs.Layout.{own, size, sizes, point, points, row_contents, lay, lays, lays_in_rows, words}
 use Rattle.capn_canon.proofs.reading.OneSegment.{here, names-null, names-cap}
 use Rattle.capn_canon.proofs.reading.LaidPointers.{struct-at, list-names, elements-at, rows-names}
 use Rattle.capn_canon.proofs.reading.StandsIn.{Has, has-front, has-back, has-room, has-words, has-word}
-use Rattle.capn_canon.specs.inner.Sound.{AreBelow, AreWide, Sound, Sounds, SoundRows}
-use Rattle.capn_canon.proofs.layouts.KeptLengths.{kept_words-le, kept_slots-le}
-use Rattle.capn_canon.proofs.layouts.LayLengths.{length-points, length-cut, length-row_contents, length-lay}
-use Rattle.capn_canon.proofs.layouts.LayLengths.{length-lays}
-use Rattle.std.specs.Int.{from_bool}
+use Rattle.capn_layout.specs.Sound.{AreWide, Sound, Sounds, SoundRows}
+use Rattle.capn_layout.proofs.shared.KeptLengths.{kept_words-le, kept_slots-le}
+use Rattle.capn_layout.proofs.shared.LayLengths.{length-points, length-cut, length-row_contents, length-lay}
+use Rattle.capn_layout.proofs.shared.LayLengths.{length-lays}
 
 count-front : (n : ℕ) (ts : Trees) → n ≤ count ts → count (front n ts) ≡ n
 count-front zero ts h = refl
@@ -35,12 +36,6 @@ count-front (suc n) (tree t ts) h = ap suc (count-front n ts (omega arith))
 front-all : (ts : Trees) → front (count ts) ts ≡ ts
 front-all no_trees = refl
 front-all (tree t ts) = ap (tree t) (front-all ts)
-
-bits-below : (xs : List Bool) → AreBelow (2 ^ 1) (map from_bool xs)
-bits-below [] i = omega arith
-bits-below (true ∷ xs) zero = omega arith
-bits-below (false ∷ xs) zero = omega arith
-bits-below (x ∷ xs) (suc i) = bits-below xs i
 
 module _ (all : List ℕ) (small : length all ≤ 2 ^ 29) where
   abbrev only : List (List ℕ)
@@ -87,10 +82,10 @@ module _ (all : List ℕ) (small : length all ≤ 2 ^ 29) where
       is = list-names all small from at n W0 tt lt (has-room all at [] has) h e;
       inside = tt;
     }
-    reads (octs xs) from at h lt e has = record {
+    reads (numbers oct xs) from at h lt e has = record {
       segment = 0;
       start = at;
-      is = list-names all small from at (length xs) W64 tt lt (has-room all at xs has) h e;
+      is = list-names all small from at (length xs) W64 tt lt (has-room all at xs has) h.0 e;
       inside = has-words all at xs has;
     }
     reads (links ts) from at h lt e has =
@@ -138,19 +133,9 @@ module _ (all : List ℕ) (small : length all ≤ 2 ^ 29) where
             inside = below;
           },
         )
-    reads (bits xs) from at h lt e has =
-        let l = length-map xs from_bool in
-        elements-at all small from at W1 64 1 (length xs) (own (bits xs)) (map from_bool xs) tt refl (omega arith)
-        (omega arith) (bits-below xs) (λ i b. omega arith) lt h e has
-    reads (bytes xs) from at h lt e has =
-        elements-at all small from at W8 8 8 (length xs) (own (bytes xs)) xs tt refl (omega arith) (omega arith) h.1
-        (λ i b. omega arith) lt h.0 e has
-    reads (pairs xs) from at h lt e has =
-        elements-at all small from at W16 4 16 (length xs) (own (pairs xs)) xs tt refl (omega arith) (omega arith) h.1
-        (λ i b. omega arith) lt h.0 e has
-    reads (quads xs) from at h lt e has =
-        elements-at all small from at W32 2 32 (length xs) (own (quads xs)) xs tt refl (omega arith) (omega arith) h.1
-        (λ i b. omega arith) lt h.0 e has
+    reads (numbers a xs) from at h lt e has =
+        elements-at all small from at (list_width a) (per_word a) (bits_in a) (length xs) (own (numbers a xs)) xs
+        tt refl (omega arith) (omega arith) h.1 (λ i b. omega arith) lt h.0 e has
     reads (cap k) from at h lt e has = names-cap all from k e h
 
     reads-slots : (ts : Trees) (n from to : ℕ) → Sounds ts → from + n ≤ to → Has all from (take n (points ts from to))

@@ -1,7 +1,7 @@
 -- Canonical bytes, read bare, denote the trimmed value, and are paid exactly its cost.
 use Rattle.std.proofs.Common.{◌≡◌, ℕ, ◌^◌, ◌≤◌, List, [], ◌∷◌, length, true, refl, ap, sym, ◌∙◌, arith}
 use Rattle.capn_words.proofs.shared.OneSegment.{bare_only}
-use Rattle.capn_value.specs.Tree.{Tree, nil, node, voids, bits, bytes, pairs, quads, octs, links, rows, cap}
+use Rattle.capn_value.specs.Tree.{Tree, nil, node, voids, numbers, links, rows, cap}
 use Rattle.capn_value.specs.InRange.{InRange}
 use Rattle.capn_value.specs.Fits.{Fits, is_root}
 use Rattle.capn_value.specs.Cost.{base, cost, height}
@@ -15,10 +15,10 @@ use Rattle.capn_walk.specs.ValueAt.{IsAt}
 use Rattle.capn_walk.specs.Limits.{Bounds}
 use Rattle.capn_canon.specs.declared.form.Form.TheVariants as forms
 use Rattle.capn_canon.specs.Denotes.{Denotes}
-use Rattle.capn_canon.specs.Layout.{words, canon}
+use Rattle.capn_layout.specs.Layout.{words, canon}
 use Rattle.capn_canon.specs.Canonicity.{PaysItsCost}
-use Rattle.capn_canon.proofs.layouts.Sound.{sound}
-use Rattle.capn_canon.proofs.layouts.Room.{room}
+use Rattle.capn_layout.proofs.shared.Sound.{sound}
+use Rattle.capn_layout.proofs.shared.Room.{room}
 use Rattle.capn_canon.proofs.reading.Tight.{Pays}
 use Rattle.capn_canon.proofs.reading.ReadBack.{read_back, pays_cost}
 use Rattle.capn_canon.proofs.theorem.BareCanon.{canon_is_bare, words_in_canon}
@@ -31,11 +31,7 @@ root-alone m base depth nil k h = ap (λ r. visits_at_root m base r (visits m ba
 root-alone m base depth (node ws ss) k h = ap (λ r. visits_at_root m base r (visits m base depth root)) h.is
 root-alone m base depth (cap i) k h = absurd cc
 root-alone m base depth (voids n) k h = ap (λ r. visits_at_root m base r (visits m base depth root)) h.is
-root-alone m base depth (bits xs) k h = ap (λ r. visits_at_root m base r (visits m base depth root)) h.is
-root-alone m base depth (bytes xs) k h = ap (λ r. visits_at_root m base r (visits m base depth root)) h.is
-root-alone m base depth (pairs xs) k h = ap (λ r. visits_at_root m base r (visits m base depth root)) h.is
-root-alone m base depth (quads xs) k h = ap (λ r. visits_at_root m base r (visits m base depth root)) h.is
-root-alone m base depth (octs xs) k h = ap (λ r. visits_at_root m base r (visits m base depth root)) h.is
+root-alone m base depth (numbers a xs) k h = ap (λ r. visits_at_root m base r (visits m base depth root)) h.is
 root-alone m base depth (links ts) k h = ap (λ r. visits_at_root m base r (visits m base depth root)) h.is
 root-alone m base depth (rows bs) k h = ap (λ r. visits_at_root m base r (visits m base depth root)) h.3.is
 

@@ -1,26 +1,26 @@
 -- Values that stand with no landing pads and no slack: what they are paid.
-use Rattle.std.proofs.Common.{◌≡◌, ◌≢◌, ℕ, zero, suc, ◌+◌, ◌-◌, ◌*◌, ◌<◌, ◌≤◌, ◌==◌, List, [], ◌∷◌, ◌++◌, length, map}
-use Rattle.std.proofs.Common.{Ok, refl, ap, ◌∙◌, arith, cond, if◌then◌else◌}
+use Rattle.std.proofs.Common.{◌≡◌, ◌≢◌, ℕ, zero, suc, ◌+◌, ◌-◌, ◌*◌, ◌<◌, ◌≤◌, ◌==◌, List, [], ◌∷◌, ◌++◌, length}
+use Rattle.std.proofs.Common.{Ok, refl, ap, sym, subst, ◌∙◌, arith, cond, if◌then◌else◌}
 use Rattle.std.specs.Bool.{⊤}
 use Rattle.std.specs.List.{flat_map}
-use Rattle.std.specs.Int.{from_bool}
 use Rattle.std.proofs.lemmas.Grind.{flat_map-append}
 use Rattle.std.proofs.lemmas.Bool.Decides.{nat_tests}
 use Rattle.capn_words.specs.declared.space.Place.{Place}
-use Rattle.capn_words.specs.declared.pointer.Width.TheVariants.{W0, W1, W8, W16, W32, W64, Link}
-use Rattle.capn_value.specs.Tree.{Tree, nil, node, voids, bits, bytes, pairs, quads, octs, links, rows, cap, Trees}
+use Rattle.capn_words.specs.declared.pointer.Width.TheVariants.{W0, Link}
+use Rattle.capn_value.specs.Tree.{Tree, nil, node, voids, numbers, links, rows, cap, Trees}
 use Rattle.capn_value.specs.Tree.{no_trees, tree, Bodies, no_bodies, body, count, count_rows, row_words}
 use Rattle.capn_value.specs.Cost.{height, greatest, greatest_in_rows, cost, costs, costs_in_rows, rows_price}
-use Rattle.capn_walk.specs.declared.target.Target.TheVariants as targets
-use Rattle.capn_walk.specs.declared.target.Shape.{Shape}
-use Rattle.capn_walk.specs.declared.target.Shape.TheVariants as shapes
-use Rattle.capn_walk.specs.Target.{target}
+use Rattle.capn_target.specs.declared.target.Target.TheVariants as targets
+use Rattle.capn_target.specs.declared.target.Shape.{Shape}
+use Rattle.capn_target.specs.declared.target.Shape.TheVariants as shapes
+use Rattle.capn_target.specs.Target.{target, list_width}
 use Rattle.capn_walk.specs.Visits.{Visit, pays, fails, price, places, row_places, slots, visits}
 use Rattle.capn_walk.specs.Accepted.{paid_of, AllPay}
-use Rattle.capn_walk.specs.ValueAt.{IsAt, AreAt, RowsAt, StandAt, AreElements, words_from}
+use Rattle.capn_walk.specs.ValueAt.{IsAt, AreAt, RowsAt, StandAt, AreNumbers, words_from}
 use Rattle.capn_words.proofs.shared.Choices.{pick}
 use Rattle.capn_walk.proofs.shared.Walks.{slot, visits-null, visits-cap, visits-object}
 use Rattle.capn_walk.proofs.shared.Costs.{paid-append}
+use Rattle.capn_walk.proofs.shared.Numbers.{no-slots, numbers-price}
 
 module _ (m : List (List ℕ)) where
   -- by a near pointer
@@ -39,12 +39,8 @@ module _ (m : List (List ℕ)) where
     TightAt at (node ws ss) =
         Close at (shapes.Node (length ws) (count ss)) (λ s w. StandAt m s w ws × AreTight s (w + length ws) ss)
     TightAt at (voids n) = Close at (shapes.Many W0 n) (λ s w. ⊤)
-    TightAt at (bits xs) =
-        Close at (shapes.Many W1 (length xs)) (λ s w. AreElements 64 1 (words_from m s w) (map from_bool xs))
-    TightAt at (bytes xs) = Close at (shapes.Many W8 (length xs)) (λ s w. AreElements 8 8 (words_from m s w) xs)
-    TightAt at (pairs xs) = Close at (shapes.Many W16 (length xs)) (λ s w. AreElements 4 16 (words_from m s w) xs)
-    TightAt at (quads xs) = Close at (shapes.Many W32 (length xs)) (λ s w. AreElements 2 32 (words_from m s w) xs)
-    TightAt at (octs xs) = Close at (shapes.Many W64 (length xs)) (λ s w. StandAt m s w xs)
+    TightAt at (numbers a xs) =
+        Close at (shapes.Many (list_width a) (length xs)) (λ s w. AreNumbers a (words_from m s w) xs)
     TightAt at (links ts) = Close at (shapes.Many Link (count ts)) (λ s w. AreTight s w ts)
     TightAt at (rows bs) = (a b : ℕ)
         × Close at (shapes.Rows (count_rows bs) a b (count_rows bs * (a + b))) (λ s w. TightRows a b s (suc w) bs)
@@ -73,11 +69,7 @@ module _ (m : List (List ℕ)) where
               (h.inside.0, loosen-slots ss h.segment (h.start + length ws) h.inside.1);
         }
     loosen (voids n) at h = record { segment = h.segment; start = h.start; pads = 0; is = h.is; inside = tt }
-    loosen (bits xs) at h = record { segment = h.segment; start = h.start; pads = 0; is = h.is; inside = h.inside }
-    loosen (bytes xs) at h = record { segment = h.segment; start = h.start; pads = 0; is = h.is; inside = h.inside }
-    loosen (pairs xs) at h = record { segment = h.segment; start = h.start; pads = 0; is = h.is; inside = h.inside }
-    loosen (quads xs) at h = record { segment = h.segment; start = h.start; pads = 0; is = h.is; inside = h.inside }
-    loosen (octs xs) at h = record { segment = h.segment; start = h.start; pads = 0; is = h.is; inside = h.inside }
+    loosen (numbers a xs) at h = record { segment = h.segment; start = h.start; pads = 0; is = h.is; inside = h.inside }
     loosen (links ts) at h =
         record {
           segment = h.segment;
@@ -151,6 +143,9 @@ module _ (m : List (List ℕ)) (base : ℕ) where
   so : (vs : List Visit) (n k : ℕ) → n ≡ k → Pays vs n → Pays vs k
   so vs n k e h = record { all = h.all; sum = h.sum ∙ e }
 
+  alone : (p c : ℕ) → c ≡ p → p + 0 ≡ c
+  alone p c e = omega arith
+
   mutual
     -- the visits of a value that stands so have no fault and pay exactly its cost
     pub exact : (v : Tree) (at : Place) (d : ℕ) → height v ≤ d → TightAt m at v
@@ -164,16 +159,11 @@ module _ (m : List (List ℕ)) (base : ℕ) where
         (exact-slots ss h.segment (h.start + length ws) (d - 1) (omega arith) h.inside.1))
     exact (voids n) at d l h =
         so _ _ _ (omega arith) (object at d h.segment h.start 0 (shapes.Many W0 n) h.is (omega arith) none)
-    exact (bits xs) at d l h =
-        so _ _ _ (omega arith) (object at d h.segment h.start 0 (shapes.Many W1 (length xs)) h.is (omega arith) none)
-    exact (bytes xs) at d l h =
-        so _ _ _ (omega arith) (object at d h.segment h.start 0 (shapes.Many W8 (length xs)) h.is (omega arith) none)
-    exact (pairs xs) at d l h =
-        so _ _ _ (omega arith) (object at d h.segment h.start 0 (shapes.Many W16 (length xs)) h.is (omega arith) none)
-    exact (quads xs) at d l h =
-        so _ _ _ (omega arith) (object at d h.segment h.start 0 (shapes.Many W32 (length xs)) h.is (omega arith) none)
-    exact (octs xs) at d l h =
-        so _ _ _ (omega arith) (object at d h.segment h.start 0 (shapes.Many W64 (length xs)) h.is (omega arith) none)
+    exact (numbers a xs) at d l h =
+        so _ _ _ (alone _ _ (numbers-price a base (length xs)))
+        (object at d h.segment h.start 0 (shapes.Many (list_width a) (length xs)) h.is (omega arith)
+        (subst (λ (ps : List Place). Pays (flat_map (visits m base (d - 1)) ps) 0)
+        (sym (no-slots a h.segment h.start (length xs))) none))
     exact (links ts) at d l h =
         so _ _ _ (omega arith)
         (object at d h.segment h.start (costs base ts) (shapes.Many Link (count ts)) h.is (omega arith)

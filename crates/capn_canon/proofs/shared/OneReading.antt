@@ -13,7 +13,7 @@ use Rattle.capn_canon.specs.declared.form.Form.{Form}
 use Rattle.capn_canon.specs.declared.form.Form.TheVariants as forms
 use Rattle.capn_canon.specs.Reads.{IsFramed, Reads}
 use Rattle.capn_canon.specs.Denotes.{Denotes, Answers}
-use Rattle.capn_canon.specs.Layout.{canon}
+use Rattle.capn_layout.specs.Layout.{canon}
 
 one-framed : (bs : List ℕ) (most : ℕ) (m n : List (List ℕ)) → IsFramed bs most m → IsFramed bs most n → m ≡ n
 one-framed bs most m n h k =

@@ -1,30 +1,31 @@
 -- The canonical bytes of a value are a bare message: its words are below 2^64 and few enough.
-use Rattle.std.proofs.Common.{◌≡◌, ℕ, zero, suc, ◌+◌, ◌-◌, ◌*◌, ◌/◌, ◌^◌, ◌<◌, ◌≤◌, ◌==◌, ◌&&◌, Bool, true, false, List}
-use Rattle.std.proofs.Common.{[], ◌∷◌, ◌++◌, length, take, drop, map, pos, refl, arith}
-use Rattle.std.specs.Int.{from_bool}
+use Rattle.std.proofs.Common.{◌≡◌, ℕ, zero, suc, ◌+◌, ◌-◌, ◌*◌, ◌/◌, ◌^◌, ◌<◌, ◌≤◌, ◌==◌, ◌&&◌, List}
+use Rattle.std.proofs.Common.{[], ◌∷◌, ◌++◌, length, take, drop, pos, refl, arith}
 use Rattle.std.proofs.Math.Nat.{pow-succ', pow-zero, one-le-pow, mul-le-mul_left}
 use Rattle.capn_words.specs.Pointers.{word_of}
 use Rattle.capn_words.specs.Message.{AreWords, IsBare, words_in}
 use Rattle.capn_words.specs.declared.pointer.Pointer.{Pointer}
 use Rattle.capn_words.specs.declared.pointer.Pointer.TheVariants.{Many, Cap}
 use Rattle.capn_words.specs.declared.pointer.Width.{Width}
-use Rattle.capn_words.specs.declared.pointer.Width.TheVariants.{W0, W1, W8, W16, W32, W64, Link, Rows}
+use Rattle.capn_words.specs.declared.pointer.Width.TheVariants.{W0, Link, Rows}
 use Rattle.capn_words.proofs.shared.OneSegment.{bare_length, bare_only}
-use Rattle.capn_value.specs.Tree.{Tree, nil, node, voids, bits, bytes, pairs, quads, octs, links, rows, cap, Trees}
+use Rattle.capn_value.specs.NumberWidth.{oct, bits_in, per_word}
+use Rattle.capn_value.specs.Tree.{Tree, nil, node, voids, numbers, links, rows, cap, Trees}
 use Rattle.capn_value.specs.Tree.{no_trees, tree, Bodies, no_bodies, body, count, count_rows}
 use Rattle.capn_value.specs.Trim.{kept_words, kept_slots, kept_words_of_rows, kept_slots_of_rows}
 use Rattle.capn_value.specs.Cost.{cost}
 use Rattle.capn_value.specs.Fits.{Fits}
 use Rattle.capn_value.specs.InRange.{AllBelow, InRange, EachInRange, RowsInRange}
 use Rattle.capn_value.proofs.shared.Ranges.{below-take}
-use Rattle.capn_canon.specs.Layout.{own, size, sizes, sizes_in_rows, row_size, list_to, struct_to, point, points}
-use Rattle.capn_canon.specs.Layout.{number, packed, row_contents, lay, lays, lays_in_rows, words, canon}
+use Rattle.capn_layout.specs.Layout.{own, size, sizes, sizes_in_rows, row_size, list_to, struct_to, point, points}
+use Rattle.capn_layout.specs.Layout.{number, packed, row_contents, lay, lays, lays_in_rows, words, canon}
 use Rattle.capn_words.proofs.shared.Choices.{pick}
 use Rattle.capn_words.proofs.shared.Pointers.{word_of-lt}
-use Rattle.capn_canon.specs.inner.Sound.{Sound, Sounds, SoundRows}
-use Rattle.capn_canon.proofs.layouts.KeptLengths.{kept_words-le, kept_slots-le}
-use Rattle.capn_canon.proofs.layouts.Sound.{below, sound}
-use Rattle.capn_canon.proofs.layouts.Room.{room}
+use Rattle.capn_layout.specs.Sound.{Sound, Sounds, SoundRows}
+use Rattle.capn_layout.proofs.shared.KeptLengths.{kept_words-le, kept_slots-le}
+use Rattle.capn_layout.proofs.shared.Sound.{below, sound}
+use Rattle.capn_layout.proofs.shared.Room.{room}
+use Rattle.capn_target.specs.Target.{list_width}
 
 -- ---- lists of numbers below a bound
 
@@ -60,11 +61,6 @@ packed-below each width (suc n) xs p e h = (
   packed-below each width n (drop each xs) p e (below-drop (2 ^ width) each xs h),
 )
 
-bits-below : (xs : List Bool) → AllBelow 2 (map from_bool xs)
-bits-below [] = tt
-bits-below (true ∷ xs) = (omega arith, bits-below xs)
-bits-below (false ∷ xs) = (omega arith, bits-below xs)
-
 -- ---- pointers
 
 list-below : (from to c : ℕ) (k : Width) → to ≤ 2 ^ 29 → c < 2 ^ 29 → list_to from to k c < 2 ^ 64
@@ -82,11 +78,7 @@ point-below (node ws ss) from to h l =
     struct-below from to (kept_words ws) (kept_slots ss) l (omega (arith, kept_words-le ws, h.0))
     (omega (arith, kept_slots-le ss, h.1))
 point-below (voids n) from to h l = list-below from to n W0 l h
-point-below (bits xs) from to h l = list-below from to (length xs) W1 l h
-point-below (bytes xs) from to h l = list-below from to (length xs) W8 l h.0
-point-below (pairs xs) from to h l = list-below from to (length xs) W16 l h.0
-point-below (quads xs) from to h l = list-below from to (length xs) W32 l h.0
-point-below (octs xs) from to h l = list-below from to (length xs) W64 l h
+point-below (numbers a xs) from to h l = list-below from to (length xs) (list_width a) l h.0
 point-below (links ts) from to h l = list-below from to (count ts) Link l h.0
 point-below (rows bs) from to h l = list-below from to (count_rows bs * row_size bs) Rows l h.3
 point-below (cap k) from to h l = word_of-lt (Cap k) h
@@ -124,12 +116,9 @@ mutual
       (points-below ss (at + kept_words ws) to h.2 (omega arith)))
       (lays-below ss to h.2 r.1 (omega arith)))
   lay-below (voids n) at h r l = tt
-  lay-below (bits xs) at h r l =
-      packed-below 64 1 (own (bits xs)) (map from_bool xs) (omega arith) (omega arith) (bits-below xs)
-  lay-below (bytes xs) at h r l = packed-below 8 8 (own (bytes xs)) xs (omega arith) (omega arith) r
-  lay-below (pairs xs) at h r l = packed-below 4 16 (own (pairs xs)) xs (omega arith) (omega arith) r
-  lay-below (quads xs) at h r l = packed-below 2 32 (own (quads xs)) xs (omega arith) (omega arith) r
-  lay-below (octs xs) at h r l = r
+  lay-below (numbers oct xs) at h r l = r
+  lay-below (numbers a xs) at h r l =
+      packed-below (per_word a) (bits_in a) (own (numbers a xs)) xs (omega arith) (omega arith) r
   lay-below (links ts) at h r l =
       below-append (2 ^ 64) (points ts at (at + count ts)) (lays ts (at + count ts))
       (points-below ts at (at + count ts) h.1 (omega arith)) (lays-below ts (at + count ts) h.1 r (omega arith))

@@ -6,12 +6,12 @@ use Rattle.capn_words.specs.Pointers.{word_of}
 use Rattle.capn_words.specs.declared.pointer.Pointer.TheVariants.{Node}
 use Rattle.capn_words.specs.declared.pointer.Width.TheVariants.{Link, Rows}
 use Rattle.std.specs.Prelude.{pos}
-use Rattle.capn_value.specs.Tree.{Tree, nil, node, voids, bits, bytes, pairs, quads, octs, links, rows, cap, Trees}
+use Rattle.capn_value.specs.Tree.{Tree, nil, node, voids, numbers, links, rows, cap, Trees}
 use Rattle.capn_value.specs.Tree.{no_trees, tree, Bodies, no_bodies, body, count, count_rows, front, is_null}
 use Rattle.capn_value.specs.Trim.{kept_behind, kept_words, kept_slots, kept_words_of_rows, kept_slots_of_rows, trimmed}
 use Rattle.capn_value.specs.Trim.{trimmed_each, trimmed_rows}
-use Rattle.capn_canon.specs.Layout.{own, size, sizes, sizes_in_rows, struct_to, list_to, point, points, row_contents}
-use Rattle.capn_canon.specs.Layout.{lay, lays, lays_in_rows, words}
+use Rattle.capn_layout.specs.Layout.{own, size, sizes, sizes_in_rows, struct_to, list_to, point, points, row_contents}
+use Rattle.capn_layout.specs.Layout.{lay, lays, lays_in_rows, words}
 use Rattle.capn_value.proofs.shared.Trimmed.{count-trimmed_each, count-trimmed_rows}
 
 take-again : (n : ℕ) (xs : List ℕ) → take n (take n xs) ≡ take n xs
@@ -36,11 +36,7 @@ null-cut : (t : Tree) → is_null (trimmed t) ≡ is_null t
 null-cut nil = refl
 null-cut (node ws ss) = refl
 null-cut (voids n) = refl
-null-cut (bits xs) = refl
-null-cut (bytes xs) = refl
-null-cut (pairs xs) = refl
-null-cut (quads xs) = refl
-null-cut (octs xs) = refl
+null-cut (numbers a xs) = refl
 null-cut (links ts) = refl
 null-cut (rows bs) = refl
 null-cut (cap k) = refl
@@ -66,11 +62,7 @@ null-is : (t : Tree) → is_null t ≡ true → t ≡ nil
 null-is nil h = refl
 null-is (node ws ss) h = absurd cc
 null-is (voids n) h = absurd cc
-null-is (bits xs) h = absurd cc
-null-is (bytes xs) h = absurd cc
-null-is (pairs xs) h = absurd cc
-null-is (quads xs) h = absurd cc
-null-is (octs xs) h = absurd cc
+null-is (numbers a xs) h = absurd cc
 null-is (links ts) h = absurd cc
 null-is (rows bs) h = absurd cc
 null-is (cap k) h = absurd cc
@@ -97,11 +89,7 @@ point-trimmed nil from to = refl
 point-trimmed (node ws ss) from to =
     ap₂ (struct_to from to) (kept-take (kept_words ws) ws (omega arith)) (kept-front (kept_slots ss) ss (omega arith))
 point-trimmed (voids n) from to = refl
-point-trimmed (bits xs) from to = refl
-point-trimmed (bytes xs) from to = refl
-point-trimmed (pairs xs) from to = refl
-point-trimmed (quads xs) from to = refl
-point-trimmed (octs xs) from to = refl
+point-trimmed (numbers a xs) from to = refl
 point-trimmed (links ts) from to = ap (list_to from to Link) (count-trimmed_each ts)
 point-trimmed (rows bs) from to =
     let a = kept_words_of_rows bs in
@@ -128,11 +116,7 @@ mutual
       let z = sizes-cut (kept_slots ss) ss (omega arith) in
       omega arith
   size-trimmed (voids n) = refl
-  size-trimmed (bits xs) = refl
-  size-trimmed (bytes xs) = refl
-  size-trimmed (pairs xs) = refl
-  size-trimmed (quads xs) = refl
-  size-trimmed (octs xs) = refl
+  size-trimmed (numbers a xs) = refl
   size-trimmed (links ts) = ap₂ ◌+◌ (count-trimmed_each ts) (sizes-each ts)
   size-trimmed (rows bs) =
       ap₂ ◌+◌ (own-rows bs) (sizes-rows (kept_words_of_rows bs) (kept_slots_of_rows bs) bs (omega arith))
@@ -208,11 +192,7 @@ mutual
       (ap₂ (λ (p q : List ℕ). p ++ q) (points-again b ss (at + a) (at + (a + b)))
       (lays-cut b ss (at + (a + b)) (omega arith)))
   lay-trimmed (voids n) at = refl
-  lay-trimmed (bits xs) at = refl
-  lay-trimmed (bytes xs) at = refl
-  lay-trimmed (pairs xs) at = refl
-  lay-trimmed (quads xs) at = refl
-  lay-trimmed (octs xs) at = refl
+  lay-trimmed (numbers a xs) at = refl
   lay-trimmed (links ts) at =
       ap (λ (n : ℕ). points (trimmed_each ts) at (at + n) ++ lays (trimmed_each ts) (at + n)) (count-trimmed_each ts)
       ∙ ap₂ (λ (p q : List ℕ). p ++ q) (points-each ts at (at + count ts)) (lays-each ts (at + count ts))

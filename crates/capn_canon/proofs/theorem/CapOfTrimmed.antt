@@ -1,7 +1,7 @@
 -- Trimming leaves the first capability as it is: only null slots are cut.
 use Rattle.std.proofs.Common.{◌≡◌, ℕ, zero, suc, ◌≤◌, None, refl, ap, ap₂, sym, ◌∙◌, arith}
 use Rattle.std.specs.Option.{option_or}
-use Rattle.capn_value.specs.Tree.{Tree, nil, node, voids, bits, bytes, pairs, quads, octs, links, rows, cap, Trees}
+use Rattle.capn_value.specs.Tree.{Tree, nil, node, voids, numbers, links, rows, cap, Trees}
 use Rattle.capn_value.specs.Tree.{no_trees, tree, Bodies, no_bodies, body, front, is_null}
 use Rattle.capn_value.specs.FirstCap.{first_cap, first_in, first_in_rows}
 use Rattle.capn_value.specs.Trim.{kept_slots, kept_words_of_rows, kept_slots_of_rows, trimmed, trimmed_each}
@@ -22,11 +22,7 @@ mutual
   cap-trimmed (links ts) = cap-each ts
   cap-trimmed (rows bs) = cap-rows (kept_words_of_rows bs) (kept_slots_of_rows bs) bs (omega arith)
   cap-trimmed (voids n) = refl
-  cap-trimmed (bits xs) = refl
-  cap-trimmed (bytes xs) = refl
-  cap-trimmed (pairs xs) = refl
-  cap-trimmed (quads xs) = refl
-  cap-trimmed (octs xs) = refl
+  cap-trimmed (numbers a xs) = refl
   cap-trimmed (cap k) = refl
 
   cap-front : (n : ℕ) (ss : Trees) → kept_slots ss ≤ n → first_in (front n (trimmed_each ss)) ≡ first_in ss

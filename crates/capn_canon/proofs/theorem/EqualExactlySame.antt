@@ -12,11 +12,11 @@ use Rattle.capn_value.proofs.shared.StaysFit.{fits-trimmed}
 use Rattle.capn_value.proofs.shared.SameTrimmed.{same_exactly_trimmed}
 use Rattle.capn_walk.specs.ValueAt.{IsAt}
 use Rattle.capn_walk.proofs.shared.Unique.{unique}
-use Rattle.capn_canon.specs.Layout.{words, canon}
+use Rattle.capn_layout.specs.Layout.{words, canon}
 use Rattle.capn_canon.proofs.reading.OneSegment.{here}
-use Rattle.capn_canon.specs.inner.Sound.{Sound}
-use Rattle.capn_canon.proofs.layouts.Sound.{sound}
-use Rattle.capn_canon.proofs.layouts.Room.{room}
+use Rattle.capn_layout.specs.Sound.{Sound}
+use Rattle.capn_layout.proofs.shared.Sound.{sound}
+use Rattle.capn_layout.proofs.shared.Room.{room}
 use Rattle.capn_canon.proofs.reading.ReadBack.{read_back}
 use Rattle.capn_canon.proofs.theorem.BareCanon.{words_in_canon}
 use Rattle.capn_canon.proofs.theorem.CanonOfTrimmed.{words-trimmed}

@@ -9,7 +9,7 @@ use Rattle.capn_walk.specs.Accepted.{root, IsValueOf, paid}
 use Rattle.capn_walk.specs.Limits.{Bounds, AreLimits}
 use Rattle.capn_walk.proofs.shared.Fitting.{fits-root, root-costs}
 use Rattle.capn_walk.proofs.shared.Unique.{unique}
-use Rattle.capn_canon.specs.Layout.{canon}
+use Rattle.capn_layout.specs.Layout.{canon}
 use Rattle.capn_canon.specs.Canonicity.{IsFormExactlyOf, IsCanonicalForm}
 use Rattle.capn_canon.specs.declared.form.Form.{Form}
 use Rattle.capn_canon.specs.Denotes.{Denotes}

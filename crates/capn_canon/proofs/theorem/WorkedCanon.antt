@@ -13,13 +13,13 @@ use Rattle.capn_value.specs.declared.tariff.Tariff.TheVariants.{Strict}
 use Rattle.capn_walk.specs.Accepted.{IsAccepted, IsValueOf, root, root_visits}
 use Rattle.capn_walk.specs.ValueAt.{IsAt}
 use Rattle.capn_walk.specs.Limits.{Bounds}
-use Rattle.capn_walk.specs.Target.{target}
+use Rattle.capn_target.specs.Target.{target}
 use Rattle.capn_walk.specs.Visits.{visits, fails}
-use Rattle.capn_walk.specs.declared.target.Fault.TheVariants as faults
+use Rattle.capn_target.specs.declared.target.Fault.TheVariants as faults
 use Rattle.capn_canon.specs.declared.form.Form.TheVariants as forms
 use Rattle.capn_canon.specs.declared.refusal.Refusal.TheVariants as refusals
 use Rattle.capn_canon.specs.Denotes.{Denotes, Answers}
-use Rattle.capn_canon.specs.Layout.{words, canon, point}
+use Rattle.capn_layout.specs.Layout.{words, canon, point}
 use Rattle.capn_canon.specs.Reads.{IsFramed}
 use Rattle.capn_canon.specs.Refusal.{IsRefused}
 

@@ -8,8 +8,8 @@ use Rattle.capn_walk.specs.ValueAt.{IsAt, AreAt, RowsAt}
 use Rattle.capn_walk.specs.Visits.{places, row_places, visits, visits_of}
 use Rattle.capn_canon.specs.declared.progress.Pass.{Pass}
 use Rattle.capn_canon.specs.declared.progress.RowPass.{RowPass}
-use Rattle.capn_canon.specs.Layout.{size, sizes, sizes_in_rows}
-use Rattle.capn_canon.specs.inner.Sound.{Sound, Sounds, SoundRows}
+use Rattle.capn_layout.specs.Layout.{size, sizes, sizes_in_rows}
+use Rattle.capn_layout.specs.Sound.{Sound, Sounds, SoundRows}
 use Rattle.capn_canon.specs.inner.WordsOfLayout.{IsLaidAt, AreLaidAt, RowsLaidAt}
 
 module _ (all : List ℕ) (base : ℕ) where

@@ -12,8 +12,8 @@ use Rattle.capn_walk.specs.Visits.{Visit, places, row_places, visits, visits_of}
 use Rattle.capn_canon.specs.declared.progress.Progress.{Progress}
 use Rattle.capn_canon.specs.declared.progress.Pass.{Pass}
 use Rattle.capn_canon.specs.declared.progress.RowPass.{RowPass}
-use Rattle.capn_canon.specs.Layout.{size, sizes, sizes_in_rows, list_to}
-use Rattle.capn_canon.specs.inner.Sound.{Sound, Sounds, SoundRows}
+use Rattle.capn_layout.specs.Layout.{size, sizes, sizes_in_rows, list_to}
+use Rattle.capn_layout.specs.Sound.{Sound, Sounds, SoundRows}
 use Rattle.capn_canon.specs.inner.WordsOfLayout.{IsLaidAt, AreLaidAt, RowsLaidAt}
 
 -- visits without a fault: what they pay, and how many they are (Own.)

@@ -8,7 +8,7 @@ use Rattle.capn_walk.specs.Limits.{Bounds}
 use Rattle.capn_canon.specs.declared.form.Form.{Form}
 use Rattle.capn_canon.specs.declared.refusal.Refusal.{Refusal}
 use Rattle.capn_canon.specs.declared.refusal.Refusal.TheVariants as refusals
-use Rattle.capn_canon.specs.Layout.{canon}
+use Rattle.capn_layout.specs.Layout.{canon}
 use Rattle.capn_canon.specs.Denotes.{AnswersMessage, Answers}
 use Rattle.capn_canon.specs.SurveyedBytes.{Surveys}
 use Rattle.capn_canon.specs.Refusal.{IsRefusedMessage, IsRefused, IsUnacceptedIn, IsPaidWithin}

@@ -1,7 +1,7 @@
 -- Words that are the layout of what they are read as.
 use Rattle.std.specs.Prelude.{◌≡◌, ℕ, List, length, take, drop, slice_index}
 use Rattle.capn_value.specs.Tree.{Tree, Trees, Bodies}
-use Rattle.capn_canon.specs.Layout.{point, points, lay, lays, row_contents, lays_in_rows}
+use Rattle.capn_layout.specs.Layout.{point, points, lay, lays, row_contents, lays_in_rows}
 
 -- these words stand from a word on (Own.)
 abbrev pub Stand : List ℕ → ℕ → List ℕ → Type 0

@@ -6,7 +6,7 @@ use Rattle.capn_words.specs.declared.space.Place.{Place}
 use Rattle.capn_words.specs.declared.pointer.Width.{Width}
 use Rattle.capn_words.specs.declared.pointer.Width.TheVariants.{W64}
 use Rattle.capn_value.specs.Tree.{Tree, node, Trees, Bodies, count, count_rows}
-use Rattle.capn_walk.specs.declared.target.Target.{Target}
+use Rattle.capn_target.specs.declared.target.Target.{Target}
 use Rattle.capn_walk.specs.ValueAt.{IsAt}
 use Rattle.capn_walk.specs.ShownValue.{Shows, ShowsStruct}
 use Rattle.capn_show.specs.Json.{with_commas, word_text, number_text, json_of, each_json, each_row}

@@ -9,9 +9,9 @@ use Rattle.capn_words.specs.declared.pointer.Width.TheVariants.{W0, W1, Link, Ro
 use Rattle.capn_value.specs.Tree.{Tree, Trees, Bodies, count, count_rows, tree_at}
 use Rattle.capn_value.specs.Cost.{height, greatest, greatest_in_rows}
 use Rattle.capn_value.specs.Text.{body_line, word_lines}
-use Rattle.capn_walk.specs.declared.target.Target.{Target}
-use Rattle.capn_walk.specs.declared.target.Target.TheVariants as targets
-use Rattle.capn_walk.specs.declared.target.Shape.TheVariants as shapes
+use Rattle.capn_target.specs.declared.target.Target.{Target}
+use Rattle.capn_target.specs.declared.target.Target.TheVariants as targets
+use Rattle.capn_target.specs.declared.target.Shape.TheVariants as shapes
 use Rattle.capn_walk.specs.ValueAt.{IsAt, words_from}
 use Rattle.capn_walk.specs.View.{number_in}
 use Rattle.capn_walk.specs.ShownValue.{Shows, ShowsStruct, words_of_row, slots_of_row}

@@ -1,7 +1,9 @@
 -- Reading a tree from its text: what the first line says, then what it holds. (Own.)
-use Rattle.std.specs.Prelude.{ℕ, zero, suc, ◌+◌, List, [], ◌∷◌, Option, Some, None, nat_le, cond, codes, length}
+use Rattle.std.specs.Prelude.{ℕ, zero, suc, ◌+◌, List, [], ◌∷◌, Option, Some, None, nat_le, cond, codes, length, map}
 use Rattle.std.specs.Prelude.{◌==◌, ◌≤◌, ◌<◌, ◌^◌, ⊤}
-use Rattle.capn_value.specs.Tree.{Tree, nil, node, voids, bits, bytes, pairs, quads, octs, links, rows, cap, Trees}
+use Rattle.std.specs.Int.{from_bool}
+use Rattle.capn_value.specs.NumberWidth.{bit, byte, pair, quad, oct}
+use Rattle.capn_value.specs.Tree.{Tree, nil, node, voids, numbers, links, rows, cap, Trees}
 use Rattle.capn_value.specs.TreeOf.{trees, rows_from}
 use Rattle.capn_text.specs.inner.Tokens.{◌>>=◌, strip, indent_at, decimal_at, byte_at, bit_at, many, word_line_at}
 use Rattle.capn_text.specs.inner.Tokens.{number_line_at}
@@ -78,12 +80,14 @@ head_at level text = indent_at level text >>= λ line. null_or (strip (codes "nu
 -- what holds no other value, by its kind and number; its first line was at this level
 unfoldable pub leaf_at : ℕ → Leaf → ℕ → List ℕ → Option (Tree × List ℕ)
 leaf_at level leaves.Voids n text = Some (voids n, text)
-leaf_at level leaves.Bits n text = row_line_at bit_at (level + 1) n text >>= λ x. Some (bits x.0, x.1)
-leaf_at level leaves.Bytes n text = row_line_at byte_at (level + 1) n text >>= λ x. Some (bytes x.0, x.1)
-leaf_at level leaves.Pairs n text = many (number_line_at 65535 (level + 1)) n text >>= λ x. Some (pairs x.0, x.1)
-leaf_at level leaves.Quads n text = many (number_line_at 4294967295 (level + 1)) n text >>= λ x. Some (quads x.0, x.1)
+leaf_at level leaves.Bits n text =
+    row_line_at bit_at (level + 1) n text >>= λ x. Some (numbers bit (map from_bool x.0), x.1)
+leaf_at level leaves.Bytes n text = row_line_at byte_at (level + 1) n text >>= λ x. Some (numbers byte x.0, x.1)
+leaf_at level leaves.Pairs n text = many (number_line_at 65535 (level + 1)) n text >>= λ x. Some (numbers pair x.0, x.1)
+leaf_at level leaves.Quads n text =
+    many (number_line_at 4294967295 (level + 1)) n text >>= λ x. Some (numbers quad x.0, x.1)
 leaf_at level leaves.Octs n text =
-    many (number_line_at 18446744073709551615 (level + 1)) n text >>= λ x. Some (octs x.0, x.1)
+    many (number_line_at 18446744073709551615 (level + 1)) n text >>= λ x. Some (numbers oct x.0, x.1)
 
 -- what holds others, where `below` reads one of these at a level
 module _ (below : ℕ → List ℕ → Option (Tree × List ℕ)) where

@@ -1,7 +1,7 @@
 -- Numbers that are in range, and stay so once a value is trimmed.
 use Rattle.std.proofs.Common.{ℕ, zero, suc, ◌<◌, ◌^◌, List, [], ◌∷◌, take}
 use Rattle.std.specs.Prelude.{slice_index}
-use Rattle.capn_value.specs.Tree.{Tree, nil, node, voids, bits, bytes, pairs, quads, octs, links, rows, cap, Trees}
+use Rattle.capn_value.specs.Tree.{Tree, nil, node, voids, numbers, links, rows, cap, Trees}
 use Rattle.capn_value.specs.Tree.{no_trees, tree, Bodies, no_bodies, body, front}
 use Rattle.capn_value.specs.Trim.{kept_words, kept_slots, kept_words_of_rows, kept_slots_of_rows, trimmed, trimmed_each}
 use Rattle.capn_value.specs.Trim.{trimmed_rows}
@@ -32,11 +32,7 @@ mutual
     each_in_range-front (kept_slots ss) (trimmed_each ss) (each_in_range-trimmed ss h.1),
   )
   in_range-trimmed (voids n) h = h
-  in_range-trimmed (bits xs) h = h
-  in_range-trimmed (bytes xs) h = h
-  in_range-trimmed (pairs xs) h = h
-  in_range-trimmed (quads xs) h = h
-  in_range-trimmed (octs xs) h = h
+  in_range-trimmed (numbers a xs) h = h
   in_range-trimmed (links ts) h = each_in_range-trimmed ts h
   in_range-trimmed (rows bs) h = rows_in_range-trimmed (kept_words_of_rows bs) (kept_slots_of_rows bs) bs h
   in_range-trimmed (cap k) h = h

@@ -4,7 +4,7 @@ use Rattle.std.proofs.Common.{sym, ap, ap₂, ◌∙◌, arith, subst, ◌↔◌
 use Rattle.std.specs.Prelude.{◌==◌, slice_index}
 use Rattle.std.proofs.lemmas.Bool.{or_parts, and_parts, eqb-true, not-false}
 use Rattle.std.proofs.lemmas.Bool.Decides.{nat_tests}
-use Rattle.capn_value.specs.Tree.{Tree, nil, node, voids, bits, bytes, pairs, quads, octs, links, rows, cap, Trees}
+use Rattle.capn_value.specs.Tree.{Tree, nil, node, voids, numbers, links, rows, cap, Trees}
 use Rattle.capn_value.specs.Tree.{no_trees, tree, Bodies, no_bodies, body, front, count, tree_at, is_null}
 use Rattle.capn_value.specs.Same.{SameWords, AllNull, Same, SameSlots, SameEach, SameRows}
 use Rattle.capn_value.specs.Trim.{kept_behind, kept_words, kept_slots, kept_words_of_rows, kept_slots_of_rows, trimmed}
@@ -39,11 +39,7 @@ mutual
         same_slots_from ss ts (slots_back (kept_slots ss) (kept_slots ts) ss ts (omega arith) (omega arith) q),
       )
   same_from_trimmed (voids m) (voids n) e = cc
-  same_from_trimmed (bits xs) (bits ys) e = cc
-  same_from_trimmed (bytes xs) (bytes ys) e = cc
-  same_from_trimmed (pairs xs) (pairs ys) e = cc
-  same_from_trimmed (quads xs) (quads ys) e = cc
-  same_from_trimmed (octs xs) (octs ys) e = cc
+  same_from_trimmed (numbers a xs) (numbers b ys) e = (cc, cc)
   same_from_trimmed (links ss) (links ts) e = same_each_from ss ts (cc)
   same_from_trimmed (rows bs) (rows cs) e =
       same_rows_from (kept_words_of_rows bs) (kept_slots_of_rows bs) (kept_words_of_rows cs) (kept_slots_of_rows cs) bs
@@ -184,11 +180,7 @@ mutual
       (or_parts (is_ragged (node vs ts)) (anywhere_in is_ragged ts) q).1
       (omega (arith, b, kept_slots-le ss)) (kept_slots-le ts) h.1)
   trimmed_same (voids m) (voids n) p q h = ap voids h
-  trimmed_same (bits xs) (bits ys) p q h = ap bits h
-  trimmed_same (bytes xs) (bytes ys) p q h = ap bytes h
-  trimmed_same (pairs xs) (pairs ys) p q h = ap pairs h
-  trimmed_same (quads xs) (quads ys) p q h = ap quads h
-  trimmed_same (octs xs) (octs ys) p q h = ap octs h
+  trimmed_same (numbers a xs) (numbers b ys) p q h = ap₂ numbers h.0 h.1
   trimmed_same (links ss) (links ts) p q h =
       ap links (each_same ss ts (or_parts (is_ragged (links ss)) (anywhere_in is_ragged ss) p).1
       (or_parts (is_ragged (links ts)) (anywhere_in is_ragged ts) q).1 h)

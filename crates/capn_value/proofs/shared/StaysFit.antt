@@ -6,7 +6,7 @@ use Rattle.std.proofs.lemmas.Bool.{or_parts, or_from, and_parts, and_from, eqb-t
 use Rattle.std.proofs.lemmas.Bool.{not-false, not_from_true}
 use Rattle.capn_value.specs.declared.tariff.Tariff.TheVariants.{Plain}
 use Rattle.capn_value.specs.Cost.{base}
-use Rattle.capn_value.specs.Tree.{Tree, nil, node, voids, bits, bytes, pairs, quads, octs, links, rows, cap, Trees}
+use Rattle.capn_value.specs.Tree.{Tree, nil, node, voids, numbers, links, rows, cap, Trees}
 use Rattle.capn_value.specs.Tree.{no_trees, tree, Bodies, no_bodies, body, front, count, count_rows, row_words}
 use Rattle.capn_value.specs.Trim.{kept_words, kept_slots, kept_words_of_rows, kept_slots_of_rows, trimmed, trimmed_each}
 use Rattle.capn_value.specs.Trim.{trimmed_rows}
@@ -38,11 +38,7 @@ module _ (test : Tree → Bool) (keeps : (t : Tree) → test t ≡ false → tes
         (anywhere_in_rows-trimmed (kept_words_of_rows bs) (kept_slots_of_rows bs) bs p.1)
     anywhere-trimmed nil h = h
     anywhere-trimmed (voids n) h = h
-    anywhere-trimmed (bits xs) h = h
-    anywhere-trimmed (bytes xs) h = h
-    anywhere-trimmed (pairs xs) h = h
-    anywhere-trimmed (quads xs) h = h
-    anywhere-trimmed (octs xs) h = h
+    anywhere-trimmed (numbers a xs) h = h
     anywhere-trimmed (cap k) h = h
 
     anywhere_in-trimmed : (ts : Trees) → anywhere_in test ts ≡ false → anywhere_in test (trimmed_each ts) ≡ false
@@ -84,11 +80,7 @@ keeps_narrow (node ws ss) h = cut_body (kept_words ws) (kept_slots ss) ws ss h
 keeps_narrow (rows bs) h = wide_rows (kept_words_of_rows bs) (kept_slots_of_rows bs) bs h
 keeps_narrow nil h = h
 keeps_narrow (voids n) h = h
-keeps_narrow (bits xs) h = h
-keeps_narrow (bytes xs) h = h
-keeps_narrow (pairs xs) h = h
-keeps_narrow (quads xs) h = h
-keeps_narrow (octs xs) h = h
+keeps_narrow (numbers a xs) h = h
 keeps_narrow (links ts) h = h
 keeps_narrow (cap k) h = h
 
@@ -103,11 +95,7 @@ keeps_short (links ts) h =
     both_below 536870911 (count ts) 0 (count (trimmed_each ts)) 0 (omega (arith, count-trimmed_each ts)) (omega arith) h
 keeps_short nil h = h
 keeps_short (voids n) h = h
-keeps_short (bits xs) h = h
-keeps_short (bytes xs) h = h
-keeps_short (pairs xs) h = h
-keeps_short (quads xs) h = h
-keeps_short (octs xs) h = h
+keeps_short (numbers a xs) h = h
 keeps_short (cap k) h = h
 
 count-front-min : (n : ℕ) (ts : Trees) → count (front n ts) ≡ min n (count ts)
@@ -138,11 +126,7 @@ keeps_even (rows bs) h = keeps_even_rows (kept_words_of_rows bs) (kept_slots_of_
 keeps_even nil h = h
 keeps_even (node ws ss) h = h
 keeps_even (voids n) h = h
-keeps_even (bits xs) h = h
-keeps_even (bytes xs) h = h
-keeps_even (pairs xs) h = h
-keeps_even (quads xs) h = h
-keeps_even (octs xs) h = h
+keeps_even (numbers a xs) h = h
 keeps_even (links ts) h = h
 keeps_even (cap k) h = h
 
@@ -150,11 +134,7 @@ same_root : (t : Tree) → is_root (trimmed t) ≡ is_root t
 same_root nil = refl
 same_root (node ws ss) = refl
 same_root (voids n) = refl
-same_root (bits xs) = refl
-same_root (bytes xs) = refl
-same_root (pairs xs) = refl
-same_root (quads xs) = refl
-same_root (octs xs) = refl
+same_root (numbers a xs) = refl
 same_root (links ts) = refl
 same_root (rows bs) = refl
 same_root (cap k) = refl

@@ -1,8 +1,10 @@
 -- What a value costs by one tariff and by the other.
-use Rattle.std.proofs.Common.{◌≡◌, ℕ, ◌+◌, ◌*◌, ◌≤◌, arith}
+use Rattle.std.proofs.Common.{◌≡◌, ℕ, ◌+◌, ◌*◌, ◌≤◌, length, arith}
+use Rattle.std.specs.Int.{div_ceil}
+use Rattle.capn_value.specs.NumberWidth.{per_word}
 use Rattle.capn_value.specs.declared.tariff.Tariff.{Tariff}
 use Rattle.capn_value.specs.declared.tariff.Tariff.TheVariants.{Strict, Plain}
-use Rattle.capn_value.specs.Tree.{Tree, nil, node, voids, bits, bytes, pairs, quads, octs, links, rows, cap, Trees}
+use Rattle.capn_value.specs.Tree.{Tree, nil, node, voids, numbers, links, rows, cap, Trees}
 use Rattle.capn_value.specs.Tree.{no_trees, tree, Bodies, no_bodies, body, count, row_words}
 use Rattle.capn_value.specs.Cost.{base, cost, costs, costs_in_rows, most_cost, dear}
 use Rattle.capn_value.specs.Fits.{Fits}
@@ -11,6 +13,9 @@ use Rattle.capn_value.proofs.shared.Prices.{row_words-le}
 
 -- where each content costs more beside its size, so does the value
 module _ (less more : ℕ) (le : less ≤ more) where
+  raised : (n : ℕ) → less + n ≤ more + n
+  raised n = omega (arith, le)
+
   mutual
     pub cost-raised : (t : Tree) → cost less t ≤ cost more t
     cost-raised nil = omega arith
@@ -19,11 +24,7 @@ module _ (less more : ℕ) (le : less ≤ more) where
     cost-raised (links ts) = omega (arith, le, costs-raised ts)
     cost-raised (rows bs) = omega (arith, le, costs_in_rows-raised bs)
     cost-raised (voids n) = omega (arith, le)
-    cost-raised (bits xs) = omega (arith, le)
-    cost-raised (bytes xs) = omega (arith, le)
-    cost-raised (pairs xs) = omega (arith, le)
-    cost-raised (quads xs) = omega (arith, le)
-    cost-raised (octs xs) = omega (arith, le)
+    cost-raised (numbers a xs) = raised (div_ceil (length xs) (per_word a))
 
     costs-raised : (ts : Trees) → costs less ts ≤ costs more ts
     costs-raised no_trees = omega arith
@@ -32,6 +33,9 @@ module _ (less more : ℕ) (le : less ≤ more) where
     costs_in_rows-raised : (bs : Bodies) → costs_in_rows less bs ≤ costs_in_rows more bs
     costs_in_rows-raised no_bodies = omega arith
     costs_in_rows-raised (body ws ss bs) = omega (arith, costs-raised ss, costs_in_rows-raised bs)
+
+doubled : (n : ℕ) → 1 + n ≤ 2 * (0 + n) + 1
+doubled n = omega arith
 
 -- each content except the root's is named by a slot, which is a word of the content above it
 mutual
@@ -42,11 +46,7 @@ mutual
   cost-doubled (links ts) = omega (arith, costs-doubled ts)
   cost-doubled (rows bs) = omega (arith, costs_in_rows-doubled bs, row_words-le bs)
   cost-doubled (voids n) = omega arith
-  cost-doubled (bits xs) = omega arith
-  cost-doubled (bytes xs) = omega arith
-  cost-doubled (pairs xs) = omega arith
-  cost-doubled (quads xs) = omega arith
-  cost-doubled (octs xs) = omega arith
+  cost-doubled (numbers a xs) = doubled (div_ceil (length xs) (per_word a))
 
   costs-doubled : (ts : Trees) → costs 1 ts ≤ 2 * costs 0 ts + count ts
   costs-doubled no_trees = omega arith

@@ -1,8 +1,8 @@
 -- The test that decides `Same`: the functions compute it, and `proofs/Decided.antt` shows that the two agree.
 use Rattle.std.specs.Prelude.{ℕ, ◌==◌, ◌&&◌, Bool, true, false, List, [], ◌∷◌}
 use Rattle.std.specs.Cmp.Lexicographic.{pointwise}
-use mathlib.Core.Bool.{beq}
-use Rattle.capn_value.specs.Tree.{Tree, nil, node, voids, bits, bytes, pairs, quads, octs, links, rows, cap, Trees}
+use Rattle.capn_value.specs.NumberWidth.{bits_in}
+use Rattle.capn_value.specs.Tree.{Tree, nil, node, voids, numbers, links, rows, cap, Trees}
 use Rattle.capn_value.specs.Tree.{no_trees, tree, Bodies, no_bodies, body, is_null}
 
 -- word by word, with zeros past the shorter one's end
@@ -23,11 +23,7 @@ abbrev mutual
   test nil nil = true
   test (node ws ss) (node vs ts) = test_words ws vs && test_slots ss ts
   test (voids m) (voids n) = m == n
-  test (bits xs) (bits ys) = pointwise beq xs ys
-  test (bytes xs) (bytes ys) = pointwise ◌==◌ xs ys
-  test (pairs xs) (pairs ys) = pointwise ◌==◌ xs ys
-  test (quads xs) (quads ys) = pointwise ◌==◌ xs ys
-  test (octs xs) (octs ys) = pointwise ◌==◌ xs ys
+  test (numbers w xs) (numbers v ys) = (bits_in w == bits_in v) && pointwise ◌==◌ xs ys
   test (links ss) (links ts) = test_each ss ts
   test (rows bs) (rows cs) = test_rows bs cs
   test (cap j) (cap k) = j == k

@@ -5,16 +5,17 @@ use Rattle.std.specs.List.{flat_map}
 use Rattle.std.proofs.lemmas.Grind.{flat_map-append}
 use Rattle.std.proofs.lemmas.Bool.Decides.{nat_tests}
 use Rattle.capn_words.specs.declared.space.Place.{Place}
-use Rattle.capn_value.specs.Tree.{Tree, nil, node, voids, bits, bytes, pairs, quads, octs, links, rows, cap, Trees}
+use Rattle.capn_value.specs.Tree.{Tree, nil, node, voids, numbers, links, rows, cap, Trees}
 use Rattle.capn_value.specs.Tree.{no_trees, tree, Bodies, no_bodies, body, count, count_rows, row_words}
 use Rattle.capn_value.specs.Cost.{height, greatest, greatest_in_rows, cost, costs, costs_in_rows, rows_price}
-use Rattle.capn_walk.specs.declared.target.Shape.{Shape}
-use Rattle.capn_walk.specs.declared.target.Shape.TheVariants as shapes
+use Rattle.capn_target.specs.declared.target.Shape.{Shape}
+use Rattle.capn_target.specs.declared.target.Shape.TheVariants as shapes
 use Rattle.capn_walk.specs.Visits.{Visit, pays, fails, price, places, row_places, slots, visits}
 use Rattle.capn_walk.specs.Accepted.{paid_of, AllPay}
 use Rattle.capn_walk.specs.ValueAt.{IsAt, AreAt, RowsAt, Names}
 use Rattle.capn_words.proofs.shared.Choices.{pick}
-use Rattle.capn_walk.proofs.shared.Inside.{inside}
+use Rattle.capn_target.proofs.shared.Inside.{inside}
+use Rattle.capn_walk.proofs.shared.Numbers.{numbers-paid}
 use Rattle.capn_walk.proofs.shared.Walks.{slot, visits-deep, visits-object}
 
 -- of visits, one after the other
@@ -100,11 +101,8 @@ module _ (m : List (List ℕ)) (base : ℕ) where
         let p = rows-price bs i.0 i.1 i.2 below.2 fit in
         with-slots o (below.0, below.1) (omega arith)
     cost-paid (voids n) at d i h = without-slots at d i h (omega arith)
-    cost-paid (bits xs) at d i h = without-slots at d i h (omega arith)
-    cost-paid (bytes xs) at d i h = without-slots at d i h (omega arith)
-    cost-paid (pairs xs) at d i h = without-slots at d i h (omega arith)
-    cost-paid (quads xs) at d i h = without-slots at d i h (omega arith)
-    cost-paid (octs xs) at d i h = without-slots at d i h (omega arith)
+    cost-paid (numbers a xs) at d i h =
+        without-slots at d i h (numbers-paid a base (length xs))
 
     costs-paid : (ts : Trees) (s w d : ℕ) → AreAt m s w ts → AllPay (flat_map (visits m base d) (places s w (count ts)))
         →

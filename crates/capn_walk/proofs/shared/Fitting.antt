@@ -4,8 +4,8 @@ use Rattle.std.proofs.Common.{◌≡◌, inl, inr, ℕ, suc, ◌+◌, ◌*◌, �
 use Rattle.std.proofs.Common.{[], ◌∷◌, length, refl, ap, arith}
 use Rattle.std.proofs.lemmas.Bool.{or_from, and_from, and_parts, eqb-true, eq-eqb, le-ltb, not_from_true}
 use Rattle.capn_words.specs.declared.space.Place.{Place}
-use Rattle.capn_words.specs.declared.pointer.Width.TheVariants.{W0, W1, W8, W16, W32, W64, Link}
-use Rattle.capn_value.specs.Tree.{Tree, nil, node, voids, bits, bytes, pairs, quads, octs, links, rows, cap, Trees}
+use Rattle.capn_words.specs.declared.pointer.Width.TheVariants.{W0, Link}
+use Rattle.capn_value.specs.Tree.{Tree, nil, node, voids, numbers, links, rows, cap, Trees}
 use Rattle.capn_value.specs.Tree.{no_trees, tree, Bodies, no_bodies, body, count, count_rows, row_words}
 use Rattle.capn_value.specs.Cost.{cost, costs, costs_in_rows, rows_price, height, most_cost, most_height}
 use Rattle.capn_value.specs.Fits.{Fits, anywhere, anywhere_in, anywhere_in_rows, is_wide, is_wide_body, has_wide_row}
@@ -14,13 +14,14 @@ use Rattle.capn_value.proofs.shared.Fitting.{fit_from}
 use Rattle.capn_value.proofs.shared.Tariffs.{cost-raised}
 use Rattle.capn_value.proofs.shared.Trimmed.{words-or_none}
 use Rattle.capn_value.proofs.shared.Prices.{rows_price-none}
-use Rattle.capn_walk.specs.declared.target.Shape.TheVariants as shapes
-use Rattle.capn_walk.specs.declared.target.Fault.TheVariants as faults
+use Rattle.capn_target.specs.declared.target.Shape.TheVariants as shapes
+use Rattle.capn_target.specs.declared.target.Fault.TheVariants as faults
 use Rattle.capn_walk.specs.Visits.{fails, visits}
 use Rattle.capn_walk.specs.Accepted.{AllPay, IsWithin, paid_of, root, visits_at_root, root_visits}
 use Rattle.capn_walk.specs.ValueAt.{IsAt, AreAt, RowsAt}
-use Rattle.capn_walk.proofs.shared.Inside.{inside}
-use Rattle.capn_walk.proofs.shared.Ranges.{room-of}
+use Rattle.capn_target.specs.Target.{list_width}
+use Rattle.capn_target.proofs.shared.Inside.{inside}
+use Rattle.capn_target.proofs.shared.Ranges.{room-of}
 use Rattle.capn_walk.proofs.shared.Costs.{cost-paid}
 
 -- ---- the tests of one part
@@ -98,21 +99,9 @@ module _ (m : List (List ℕ)) where
       parts (voids n) at l h =
           let r = room-of m at h.segment h.start h.pads (shapes.Many W0 n) h.is in
           record { narrow = refl; short = not-long (voids n) r (omega arith); even = refl }
-      parts (bits xs) at l h =
-          let r = room-of m at h.segment h.start h.pads (shapes.Many W1 (length xs)) h.is in
-          record { narrow = refl; short = not-long (bits xs) r (omega arith); even = refl }
-      parts (bytes xs) at l h =
-          let r = room-of m at h.segment h.start h.pads (shapes.Many W8 (length xs)) h.is in
-          record { narrow = refl; short = not-long (bytes xs) r (omega arith); even = refl }
-      parts (pairs xs) at l h =
-          let r = room-of m at h.segment h.start h.pads (shapes.Many W16 (length xs)) h.is in
-          record { narrow = refl; short = not-long (pairs xs) r (omega arith); even = refl }
-      parts (quads xs) at l h =
-          let r = room-of m at h.segment h.start h.pads (shapes.Many W32 (length xs)) h.is in
-          record { narrow = refl; short = not-long (quads xs) r (omega arith); even = refl }
-      parts (octs xs) at l h =
-          let r = room-of m at h.segment h.start h.pads (shapes.Many W64 (length xs)) h.is in
-          record { narrow = refl; short = not-long (octs xs) r (omega arith); even = refl }
+      parts (numbers a xs) at l h =
+          let r = room-of m at h.segment h.start h.pads (shapes.Many (list_width a) (length xs)) h.is in
+          record { narrow = refl; short = not-long (numbers a xs) r (omega arith); even = refl }
       parts (links ts) at l h =
           let r = room-of m at h.segment h.start h.pads (shapes.Many Link (count ts)) h.is in
           joined _ _ _ _ _ _ refl (not-long (links ts) r (omega arith)) refl
@@ -171,14 +160,8 @@ module _ (m : List (List ℕ)) where
           as-it-is (node ws ss) refl (ap (λ r. visits_at_root m base r (visits m base depth root)) h.is)
       root-of (cap k) h = refused-root (cap k) (ap (λ r. visits_at_root m base r (visits m base depth root)) h)
       root-of (voids n) h = as-it-is (voids n) refl (ap (λ r. visits_at_root m base r (visits m base depth root)) h.is)
-      root-of (bits xs) h = as-it-is (bits xs) refl (ap (λ r. visits_at_root m base r (visits m base depth root)) h.is)
-      root-of (bytes xs) h =
-          as-it-is (bytes xs) refl (ap (λ r. visits_at_root m base r (visits m base depth root)) h.is)
-      root-of (pairs xs) h =
-          as-it-is (pairs xs) refl (ap (λ r. visits_at_root m base r (visits m base depth root)) h.is)
-      root-of (quads xs) h =
-          as-it-is (quads xs) refl (ap (λ r. visits_at_root m base r (visits m base depth root)) h.is)
-      root-of (octs xs) h = as-it-is (octs xs) refl (ap (λ r. visits_at_root m base r (visits m base depth root)) h.is)
+      root-of (numbers a xs) h =
+          as-it-is (numbers a xs) refl (ap (λ r. visits_at_root m base r (visits m base depth root)) h.is)
       root-of (links ts) h =
           as-it-is (links ts) refl (ap (λ r. visits_at_root m base r (visits m base depth root)) h.is)
       root-of (rows bs) h =

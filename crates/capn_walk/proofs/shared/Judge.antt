@@ -2,8 +2,8 @@
 use Rattle.std.proofs.Common.{◌≡◌, ℕ, ◌+◌, ◌-◌, ◌<◌, ◌≤◌, nat_lt, List, [], ◌∷◌, ◌++◌, refl, ap, sym, ◌∙◌, arith}
 use Rattle.std.proofs.lemmas.Bool.Decides.{nat_tests}
 use Rattle.capn_words.specs.declared.space.Place.{Place}
-use Rattle.capn_walk.specs.declared.target.Fault.{Fault}
-use Rattle.capn_walk.specs.declared.target.Fault.TheVariants as faults
+use Rattle.capn_target.specs.declared.target.Fault.{Fault}
+use Rattle.capn_target.specs.declared.target.Fault.TheVariants as faults
 use Rattle.capn_walk.specs.Visits.{Visit, pays, fails}
 use Rattle.capn_walk.specs.inner.Verdict.{Verdict, accepted, refused, after, judge}
 use Rattle.capn_words.proofs.shared.Choices.{pick}

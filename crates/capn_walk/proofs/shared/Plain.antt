@@ -6,15 +6,15 @@ use Rattle.std.specs.List.{flat_map}
 use Rattle.capn_words.specs.declared.space.Place.{Place}
 use Rattle.capn_words.proofs.shared.Choices.{pick}
 use Rattle.capn_value.specs.Cost.{base}
-use Rattle.capn_walk.specs.declared.target.Target.{Target}
-use Rattle.capn_walk.specs.declared.target.Target.TheVariants as targets
-use Rattle.capn_walk.specs.declared.target.Fault.{Fault}
-use Rattle.capn_walk.specs.declared.target.Fault.TheVariants as faults
-use Rattle.capn_walk.specs.Target.{target}
+use Rattle.capn_target.specs.declared.target.Target.{Target}
+use Rattle.capn_target.specs.declared.target.Target.TheVariants as targets
+use Rattle.capn_target.specs.declared.target.Fault.{Fault}
+use Rattle.capn_target.specs.declared.target.Fault.TheVariants as faults
+use Rattle.capn_target.specs.Target.{target}
 use Rattle.capn_walk.specs.Visits.{Visit, pays, fails, last_visit, visit, visits, slots}
 use Rattle.capn_walk.specs.Accepted.{Ends, paid_of, root, may_be_root, visits_at_root, root_visits, IsWalkRefused}
 use Rattle.capn_walk.specs.Limits.{Bounds}
-use Rattle.capn_walk.proofs.shared.Ways.{never-memory}
+use Rattle.capn_target.proofs.shared.Ways.{never-memory}
 
 -- a visit that isn't refused because memory runs out
 abbrev pub IsPlainVisit : Visit → Type 0

@@ -1,26 +1,18 @@
 -- At most one value stands at a place.
-use Rattle.std.proofs.Common.{◌≡◌, ℕ, suc, ◌+◌, Bool, true, false, List, [], ◌∷◌, length, take, map, Ok, refl, ap, ap₂}
+use Rattle.std.proofs.Common.{◌≡◌, ℕ, suc, ◌+◌, List, [], ◌∷◌, length, take, Ok, refl, ap, ap₂}
 use Rattle.std.proofs.Common.{sym, subst, ◌∙◌, arith}
-use Rattle.std.specs.Int.{from_bool}
-use Rattle.std.proofs.lemmas.List.{length-map}
 use Rattle.std.proofs.lemmas.Grind.{same_number_lists}
 use Rattle.capn_words.specs.declared.space.Place.{Place}
-use Rattle.capn_value.specs.Tree.{Tree, nil, node, voids, bits, bytes, pairs, quads, octs, links, rows, cap, Trees}
+use Rattle.capn_words.specs.declared.pointer.Width.TheVariants.{W0, Link}
+use Rattle.capn_value.specs.Tree.{Tree, nil, node, voids, numbers, links, rows, cap, Trees}
 use Rattle.capn_value.specs.Tree.{no_trees, tree, Bodies, no_bodies, body, count, count_rows}
-use Rattle.capn_walk.specs.declared.target.Target.{Target}
-use Rattle.capn_walk.specs.declared.target.Target.TheVariants as targets
-use Rattle.capn_walk.specs.declared.target.Shape.{Shape}
-use Rattle.capn_walk.specs.Target.{target}
-use Rattle.capn_walk.specs.ValueAt.{IsAt, AreAt, RowsAt, IsInside, StandAt, AreElements, words_from}
-
-same-bits : (xs ys : List Bool) → map from_bool xs ≡ map from_bool ys → xs ≡ ys
-same-bits [] [] e = refl
-same-bits [] (y ∷ ys) e = absurd cc
-same-bits (x ∷ xs) [] e = absurd cc
-same-bits (true ∷ xs) (true ∷ ys) e = ap (λ (r : List Bool). true ∷ r) (same-bits xs ys cc)
-same-bits (false ∷ xs) (false ∷ ys) e = ap (λ (r : List Bool). false ∷ r) (same-bits xs ys cc)
-same-bits (true ∷ xs) (false ∷ ys) e = absurd cc
-same-bits (false ∷ xs) (true ∷ ys) e = absurd cc
+use Rattle.capn_value.specs.NumberWidth.{NumberWidth, oct, bits_in, per_word}
+use Rattle.capn_target.specs.declared.target.Target.{Target}
+use Rattle.capn_target.specs.declared.target.Target.TheVariants as targets
+use Rattle.capn_target.specs.declared.target.Shape.{Shape}
+use Rattle.capn_target.specs.Target.{target}
+use Rattle.capn_walk.specs.ValueAt.{IsAt, AreAt, RowsAt, IsInside, StandAt, AreElements, words_from, AreNumbers}
+use Rattle.capn_walk.proofs.shared.Numbers.{no-number_width, same-list_width}
 
 module _ (m : List (List ℕ)) where
   same-elements : (many width s w : ℕ) (xs ys : List ℕ) → length xs ≡ length ys
@@ -29,6 +21,11 @@ module _ (m : List (List ℕ)) where
 
   same-words : (s w : ℕ) (xs ys : List ℕ) → length xs ≡ length ys → StandAt m s w xs → StandAt m s w ys → xs ≡ ys
   same-words s w xs ys l h k = sym h ∙ ap (λ (n : ℕ). take n (words_from m s w)) l ∙ k
+
+  same-numbers : (a : NumberWidth) (s w : ℕ) (xs ys : List ℕ) → length xs ≡ length ys
+      → AreNumbers a (words_from m s w) xs → AreNumbers a (words_from m s w) ys → xs ≡ ys
+  same-numbers oct s w xs ys l h k = same-words s w xs ys l h k
+  same-numbers a s w xs ys l h k = same-elements (per_word a) (bits_in a) s w xs ys l h k
 
   -- what a target says of the value at its place
   abbrev Says : Target → Tree → Type 0
@@ -42,11 +39,7 @@ module _ (m : List (List ℕ)) where
   said (cap k) at i = (_, i, refl)
   said (node ws ss) at i = (_, i.is, (refl, i.inside.0, i.inside.1))
   said (voids n) at i = (_, i.is, refl)
-  said (bits xs) at i = (_, i.is, (refl, i.inside))
-  said (bytes xs) at i = (_, i.is, (refl, i.inside))
-  said (pairs xs) at i = (_, i.is, (refl, i.inside))
-  said (quads xs) at i = (_, i.is, (refl, i.inside))
-  said (octs xs) at i = (_, i.is, (refl, i.inside))
+  said (numbers a xs) at i = (_, i.is, (refl, i.inside))
   said (links ts) at i = (_, i.is, (refl, i.inside))
   said (rows bs) at i = (_, i.3.is, (i.0, i.1, i.2, refl, i.3.inside))
 
@@ -75,13 +68,14 @@ module _ (m : List (List ℕ)) where
         ap₂ node (same-words s start ws vs (sym p) h.1 k.1)
         (unique-slots ss ts s (start + length ws) (cc) h.2 (rw p at k.2))
     unique-inside (voids n) (voids o) x s start h k = cc
-    unique-inside (bits xs) (bits ys) x s start h k =
-        ap bits (same-bits xs ys (same-elements 64 1 s start (map from_bool xs) (map from_bool ys)
-        (cc (length-map xs from_bool, length-map ys from_bool)) h.1 k.1))
-    unique-inside (bytes xs) (bytes ys) x s start h k = ap bytes (same-elements 8 8 s start xs ys (cc) h.1 k.1)
-    unique-inside (pairs xs) (pairs ys) x s start h k = ap pairs (same-elements 4 16 s start xs ys (cc) h.1 k.1)
-    unique-inside (quads xs) (quads ys) x s start h k = ap quads (same-elements 2 32 s start xs ys (cc) h.1 k.1)
-    unique-inside (octs xs) (octs ys) x s start h k = ap octs (same-words s start xs ys (cc) h.1 k.1)
+    unique-inside (numbers a xs) (numbers b ys) x s start h k =
+        let e : b ≡ a = same-list_width b a cc in
+        ap₂ numbers (sym e) (same-numbers a s start xs ys (cc) h.1
+        (subst (λ (c : NumberWidth). AreNumbers c (words_from m s start) ys) e k.1))
+    unique-inside (numbers a xs) (voids n) x s start h k = absurd (no-number_width a W0 refl cc)
+    unique-inside (voids n) (numbers a xs) x s start h k = absurd (no-number_width a W0 refl cc)
+    unique-inside (numbers a xs) (links ts) x s start h k = absurd (no-number_width a Link refl cc)
+    unique-inside (links ts) (numbers a xs) x s start h k = absurd (no-number_width a Link refl cc)
     unique-inside (links ss) (links ts) x s start h k = ap links (unique-slots ss ts s start (cc) h.1 k.1)
     unique-inside (rows bs) (rows cs) x s start h k =
         let a : k.0 ≡ h.0 = cc in

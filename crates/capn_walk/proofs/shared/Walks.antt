@@ -6,23 +6,24 @@ use Rattle.std.specs.List.{flat_map}
 use Rattle.std.proofs.lemmas.Grind.{flat_map-append}
 use Rattle.capn_words.specs.declared.space.Place.{Place}
 use Rattle.capn_words.specs.declared.pointer.Width.TheVariants.{Link}
-use Rattle.capn_value.specs.Tree.{Trees, Bodies, Tree, nil, node, voids, bits, bytes, pairs, quads, octs, links, rows}
+use Rattle.capn_value.specs.Tree.{Trees, Bodies, Tree, nil, node, voids, numbers, links, rows}
 use Rattle.capn_value.specs.Tree.{cap, count, count_rows}
 use Rattle.capn_value.specs.TreeOf.{tree_of, trees_of}
 use Rattle.capn_value.specs.declared.value.Value.{Value}
-use Rattle.capn_walk.specs.declared.target.Target.TheVariants as targets
-use Rattle.capn_walk.specs.declared.target.Shape.{Shape}
-use Rattle.capn_walk.specs.declared.target.Shape.TheVariants as shapes
-use Rattle.capn_walk.specs.declared.target.Fault.{Fault}
-use Rattle.capn_walk.specs.declared.target.Fault.TheVariants as faults
+use Rattle.capn_target.specs.declared.target.Target.TheVariants as targets
+use Rattle.capn_target.specs.declared.target.Shape.{Shape}
+use Rattle.capn_target.specs.declared.target.Shape.TheVariants as shapes
+use Rattle.capn_target.specs.declared.target.Fault.{Fault}
+use Rattle.capn_target.specs.declared.target.Fault.TheVariants as faults
 use Rattle.capn_walk.specs.declared.walk_answer.Stopped.{Stopped}
-use Rattle.capn_walk.specs.Target.{target}
+use Rattle.capn_target.specs.Target.{target}
 use Rattle.capn_walk.specs.Visits.{Visit, pays, fails, price, places, slots, visits, visit, last_visit}
 use Rattle.capn_walk.specs.inner.Verdict.{accepted, refused, after, judge}
 use Rattle.capn_walk.specs.ValueAt.{IsAt, AreAt, RowsAt, IsInside, Names, words_from}
 use Rattle.capn_walk.specs.inner.Verdict.{Gives, Refuses}
-use Rattle.capn_walk.specs.Shapes.{slot_count}
-use Rattle.capn_walk.proofs.shared.Inside.{inside, slots-price}
+use Rattle.capn_target.specs.Shapes.{slot_count}
+use Rattle.capn_target.proofs.shared.Inside.{inside}
+use Rattle.capn_walk.proofs.shared.SlotPrices.{slots-price}
 use Rattle.capn_walk.proofs.shared.Judge.{judge-more, judge-stops, judge-pays}
 
 -- the place of a word
@@ -220,11 +221,7 @@ module _ (m : List (List ℕ)) where
   is-inside at s start pads shape (voids n) e h = names e h tt
   is-inside at s start pads shape (links ts) e h = names e h.0 h.1
   is-inside at s start pads shape nil e h = absurd h
-  is-inside at s start pads shape (bits xs) e h = names e h.0 h.1
-  is-inside at s start pads shape (bytes xs) e h = names e h.0 h.1
-  is-inside at s start pads shape (pairs xs) e h = names e h.0 h.1
-  is-inside at s start pads shape (quads xs) e h = names e h.0 h.1
-  is-inside at s start pads shape (octs xs) e h = names e h.0 h.1
+  is-inside at s start pads shape (numbers a xs) e h = names e h.0 h.1
   is-inside at s start pads shape (rows bs) e h = (h.0, h.1, h.2, names e h.3 h.4)
   is-inside at s start pads shape (cap k) e h = absurd h
 

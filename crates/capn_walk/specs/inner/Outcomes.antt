@@ -7,18 +7,18 @@ use Rattle.capn_value.specs.TreeOf.{tree_of, trees_of, rows_of}
 use Rattle.capn_walk.specs.declared.found.Found.{Found}
 use Rattle.capn_walk.specs.declared.found.FoundRows.{FoundRows}
 use Rattle.capn_walk.specs.declared.found.FoundSlots.{FoundSlots}
-use Rattle.capn_walk.specs.declared.target.Shape.{Shape}
-use Rattle.capn_walk.specs.declared.target.Fault.{Fault}
-use Rattle.capn_walk.specs.declared.target.Fault.TheVariants as faults
+use Rattle.capn_target.specs.declared.target.Shape.{Shape}
+use Rattle.capn_target.specs.declared.target.Fault.{Fault}
+use Rattle.capn_target.specs.declared.target.Fault.TheVariants as faults
 use Rattle.capn_walk.specs.declared.survey_answer.Measured.{Measured}
 use Rattle.capn_walk.specs.declared.survey_visit.Visited.{Visited}
 use Rattle.capn_walk.specs.declared.walk_answer.Stopped.{Stopped}
 use Rattle.capn_walk.specs.ValueAt.{IsAt, AreAt, RowsAt, IsInside}
 use Rattle.capn_walk.specs.inner.SlotsLeft.{Lies, owed, places_of}
 use Rattle.capn_walk.specs.inner.Reach.{below_of}
-use Rattle.capn_walk.specs.Shapes.{slot_count}
+use Rattle.capn_target.specs.Shapes.{slot_count}
 use Rattle.capn_walk.specs.Surveyed.{cap_of, first_cap_of}
-use Rattle.capn_walk.specs.Target.{target}
+use Rattle.capn_target.specs.Target.{target}
 use Rattle.capn_walk.specs.inner.Verdict.{Gives, Refuses, judge, refused}
 use Rattle.capn_walk.specs.Visits.{Visit, pays, places, row_places, slots, visits, visits_of}
 

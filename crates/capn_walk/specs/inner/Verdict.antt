@@ -2,8 +2,8 @@
 use Rattle.std.specs.Prelude.{◌≡◌, ◌⊎◌, ℕ, ◌+◌, ◌-◌, ◌≤◌, ◌==◌, nat_lt, List, [], ◌∷◌, length, if◌then◌else◌}
 use Rattle.capn_words.specs.Message.{segment_at}
 use Rattle.capn_words.specs.declared.space.Place.{Place}
-use Rattle.capn_walk.specs.declared.target.Fault.{Fault}
-use Rattle.capn_walk.specs.declared.target.Fault.TheVariants as faults
+use Rattle.capn_target.specs.declared.target.Fault.{Fault}
+use Rattle.capn_target.specs.declared.target.Fault.TheVariants as faults
 use Rattle.capn_walk.specs.declared.walk_answer.Stopped.{Stopped}
 use Rattle.capn_walk.specs.Visits.{Visit, pays, fails}
 use Rattle.capn_walk.specs.Accepted.{root, root_visits}

@@ -2,7 +2,7 @@ use Rattle.std.proofs.Common.{[], ◌∷◌, ap, sym, ◌∙◌, refl}
 use Rattle.capn_walk.specs.Accepted.{root}
 use Rattle.capn_walk.proofs.shared.Unique.{unique}
 use Rattle.capn_canon.specs.declared.form.Form.TheVariants as forms
-use Rattle.capn_canon.specs.Layout.{canon}
+use Rattle.capn_layout.specs.Layout.{canon}
 use Rattle.capn_canon.proofs.calls.Answered.{denoted_here}
 use Rattle.capn_canon.proofs.bare_verdict.is_canonical.Goals as goal
 

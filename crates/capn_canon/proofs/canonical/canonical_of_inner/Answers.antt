@@ -1,11 +1,11 @@
 use Rattle.std.proofs.Common.{sym, arith, subst, ℕ}
-use Rattle.capn_canon.specs.inner.MessageSlots.{HasSlot}
-use Rattle.capn_canon.specs.inner.Ready.{IsReady}
+use Rattle.capn_layout.specs.MessageSlots.{HasSlot}
+use Rattle.capn_layout.specs.Ready.{IsReady}
 use Rattle.capn_canon.proofs.calls.AtRoot.{root-ready}
 use Rattle.capn_canon.proofs.canonical.canonical_of_inner.Goals as goal
 
-pub bytes_of-requires : goal.bytes_of-requires
-bytes_of-requires g c =
+pub surveyed_layout-requires : goal.surveyed_layout-requires
+surveyed_layout-requires g c =
     let m = g.S.Space.message c.args.space.now in
     let f = c.in-Ok.ensures.found in
     subst (λ (d : ℕ). IsReady (HasSlot m) 0 0 d 1) (sym c.depth-depth.ensures.value)

@@ -1,11 +1,11 @@
 use Rattle.std.proofs.Common.{◌≡◌, ℕ, ◌+◌, ◌*◌, ◌^◌, ◌<◌, ◌≤◌, [], ◌∷◌, length, drop, ap, sym, subst, arith, refl}
-use Rattle.capn_walk.proofs.shared.Segments.{segment-room}
+use Rattle.capn_target.proofs.shared.Segments.{segment-room}
 use Rattle.capn_words.specs.declared.pointer.Width.TheVariants.{Rows}
-use Rattle.capn_walk.specs.Shapes.{IsPlain}
+use Rattle.capn_target.specs.Shapes.{IsPlain}
 use Rattle.capn_walk.specs.Visits.{price}
-use Rattle.capn_walk.specs.declared.target.Shape.TheVariants as shapes
-use Rattle.capn_walk.specs.Target.{words_for}
-use Rattle.capn_canon.specs.inner.FirstBits.{element_bits, first_bits}
+use Rattle.capn_target.specs.declared.target.Shape.TheVariants as shapes
+use Rattle.capn_target.specs.Target.{words_for}
+use Rattle.capn_layout.specs.FirstBits.{element_bits, first_bits}
 use Rattle.capn_canon.specs.inner.WordsOfLayout.{Stand}
 use Rattle.capn_canon.proofs.places.Compared.{not-true}
 use Rattle.capn_canon.proofs.check.DueLists.{numbers-room, numbers-stand, numbers-cheap}

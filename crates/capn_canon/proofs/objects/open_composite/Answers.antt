@@ -6,15 +6,15 @@ use Rattle.capn_words.specs.Pointers.{field, word_of}
 use Rattle.capn_words.specs.declared.pointer.Pointer.TheVariants.{Node}
 use Rattle.capn_words.specs.declared.pointer.Width.TheVariants.{Rows}
 use Rattle.capn_words.proofs.shared.Choices.{if-yes, if-no, same-yes}
-use Rattle.capn_walk.specs.declared.target.Shape.TheVariants as shapes
-use Rattle.capn_walk.proofs.shared.Segments.{segment-room}
+use Rattle.capn_target.specs.declared.target.Shape.TheVariants as shapes
+use Rattle.capn_target.proofs.shared.Segments.{segment-room}
 use Rattle.capn_canon.specs.declared.own_words_test.Tag.{Tag}
 use Rattle.capn_canon.specs.declared.progress.Pass.{Pass}
 use Rattle.capn_canon.specs.inner.InPlace.{HasObject}
 use Rattle.capn_walk.specs.Visits.{price}
-use Rattle.capn_canon.specs.Layout.{list_to}
+use Rattle.capn_layout.specs.Layout.{list_to}
 use Rattle.capn_canon.specs.inner.Due.{DueFirst}
-use Rattle.capn_canon.specs.inner.RowWords.{kept_each}
+use Rattle.capn_layout.specs.RowWords.{kept_each}
 use Rattle.capn_canon.proofs.places.Compared.{not-true}
 use Rattle.capn_canon.proofs.check.DueComposite.{DueTagged, due-tagged, tag-fields}
 use Rattle.capn_canon.proofs.check.DueSlots.{same-rows-due}

@@ -1,5 +1,5 @@
 use Rattle.std.proofs.Common.{◌+◌, ◌-◌, ◌^◌, ◌≤◌, [], ◌∷◌, length, refl, arith}
-use Rattle.capn_walk.proofs.shared.Segments.{segment-room}
+use Rattle.capn_target.proofs.shared.Segments.{segment-room}
 use Rattle.capn_canon.proofs.check.DueLists.{due-links}
 use Rattle.capn_canon.proofs.check.DueSlots.{same-due}
 use Rattle.capn_canon.proofs.check.PassLeads.{finds-links}

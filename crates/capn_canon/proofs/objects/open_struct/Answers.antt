@@ -5,10 +5,10 @@ use Rattle.capn_words.specs.Message.{IsMessage}
 use Rattle.capn_words.specs.Pointers.{word_of, field}
 use Rattle.capn_value.specs.Trim.{kept_words}
 use Rattle.capn_words.proofs.shared.Choices.{if-no}
-use Rattle.capn_walk.proofs.shared.Segments.{segment-room}
+use Rattle.capn_target.proofs.shared.Segments.{segment-room}
 use Rattle.capn_canon.specs.declared.own_words_test.Tag.{Tag}
 use Rattle.capn_canon.specs.declared.progress.Pass.{Pass}
-use Rattle.capn_canon.specs.Layout.{struct_to}
+use Rattle.capn_layout.specs.Layout.{struct_to}
 use Rattle.capn_canon.specs.inner.Due.{DueFirst}
 use Rattle.capn_canon.specs.inner.InPlace.{HasObject}
 use Rattle.capn_canon.proofs.places.Compared.{not-true}

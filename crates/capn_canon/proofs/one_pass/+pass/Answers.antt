@@ -1,9 +1,9 @@
 use Rattle.std.proofs.Common.{◌≡◌, inl, inr, ℕ, suc, ◌+◌, ◌-◌, ◌*◌, ◌^◌, ◌<◌, ◌≤◌, List, [], ◌∷◌, length}
 use Rattle.std.proofs.Common.{refl, ◌%◌, Bool, not, nat_eq}
 use Rattle.std.proofs.Common.{ap, sym, subst, ◌∙◌, arith}
-use Rattle.capn_walk.specs.declared.target.Shape.TheVariants as shapes
+use Rattle.capn_target.specs.declared.target.Shape.TheVariants as shapes
 use Rattle.capn_walk.proofs.shared.RowWalks.{row-inside}
-use Rattle.capn_walk.proofs.shared.Segments.{segment-room}
+use Rattle.capn_target.proofs.shared.Segments.{segment-room}
 use Rattle.capn_canon.specs.declared.progress.Progress.{Progress}
 use Rattle.capn_canon.specs.declared.progress.Pass.{Pass}
 use Rattle.capn_canon.specs.inner.InPlace.{FindsSlots, FindsRows, FindsFirst, Finds, HasObject, IsOpen, Leads}
@@ -156,31 +156,28 @@ check_below-returns-in-None-clause-only g t c d h =
     let e = c.in-None.ensures.only d in
     absurd (cc)
 
-pub check_below-returns-then-below : goal.check_below-returns-then-below
-check_below-returns-then-below g t c =
-    let all = c.args.space.now in
-    let p = c.args.pass in
-    let b = c.args.below in
-    let le = c.if-below.true in
-    let o = c.requires.object in
-    let deep = not (nat_eq g.row.DEEP 0) in
-    let here = c.lower.new.least in
-    let go = goes-on all c.args.base deep p c.args.least.now here o.some o.opened (come b)
-    (c.requires.named deep c.args.least.now here (come b) here c.lower.ensures
-    (finds-none all c.args.base deep b here (omega arith) c.requires.opened)) c.behind.result
-    (c.behind.ensures ∙ ap (behind p) c.here.ensures) in
-    record { found = go.found; only = λ d. go.only }
-
 pub check_below-returns-in-Some : goal.check_below-returns-in-Some
 check_below-returns-in-Some g t c =
     let q = c.in-Some.progress in
     let o = c.requires.object in
     let deep = not (nat_eq g.row.DEEP 0) in
-    let low = c.check_object.new.least in
+    let low = c.check_first.new.least in
     let go = goes-on c.args.space.now c.args.base deep c.args.pass c.args.least.now low o.some o.opened q
     (c.requires.named deep c.args.least.now c.lower.new.least q low c.lower.ensures c.in-Some.ensures.found)
-    c.behind-in-Some.result c.behind-in-Some.ensures in
+    c.behind.result c.behind.ensures in
     record { found = go.found; only = λ d. go.only }
+
+pub check_first-returns-then-below : goal.check_first-returns-then-below
+check_first-returns-then-below g t c =
+    let b = c.args.below in
+    let deep = not (nat_eq g.row.DEEP 0) in
+    let le = c.if-below.true in
+    let found = finds-none c.args.space.now c.args.base deep b c.args.least.now (omega arith) c.requires.opened in
+    record {
+      found = subst (λ (q : Progress). Finds c.args.space.now c.args.base deep b c.args.least.now q c.args.least.now)
+          (sym c.here.ensures) found;
+      only = λ h. refl;
+    }
 
 -- ---- a list
 
@@ -305,17 +302,17 @@ check_rows-returns g t c =
 
 -- ---- a list of structs
 
-pub check_composite-returns-then-rows-eq0 : goal.check_composite-returns-then-rows-eq0
-check_composite-returns-then-rows-eq0 g t c =
+pub check_composite-returns-then-tag-eq0 : goal.check_composite-returns-then-tag-eq0
+check_composite-returns-then-tag-eq0 g t c =
     let all = c.args.space.now in
     let b = c.args.base in
-    let r = c.in-Some.rows in
+    let r = c.in-Some.opened in
     let e = c.in-Some.ensures.found in
     let open_of = e.1 in
     let before = open_of.before in
     let fits = open_of.fits in
     let inside = e.2 in
-    let none = c.if-rows-eq0.true in
+    let none = c.if-tag-eq0.true in
     let each : r.tag.count * (r.tag.words + r.tag.slots) ≡ r.tag.count * r.tag.words =
     ap (λ (k : ℕ). r.tag.count * k) (omega arith) in
     let deep = not (nat_eq g.row.DEEP 0) in
@@ -329,8 +326,8 @@ check_composite-returns-then-rows-eq0 g t c =
       only = λ h. refl;
     }
 
-pub check_composite-returns-else-rows-eq0 : goal.check_composite-returns-else-rows-eq0
-check_composite-returns-else-rows-eq0 g t c = record {
+pub check_composite-returns-else-tag-eq0 : goal.check_composite-returns-else-tag-eq0
+check_composite-returns-else-tag-eq0 g t c = record {
   found = if-some c.check_rows.result
       (λ q. c.in-Some.ensures.found.3 (not (nat_eq g.row.DEEP 0)) c.args.least.now c.lower.new.least q
       c.check_rows.new.least c.lower.ensures)

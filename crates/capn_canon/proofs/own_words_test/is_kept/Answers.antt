@@ -1,7 +1,7 @@
 use Rattle.std.proofs.Common.{◌≡◌, ◌≢◌, ℕ, ◌+◌, ◌-◌, ◌∙◌, ap, sym, refl, slice_index, arith, IsTrue, nat_eq, not}
 use Rattle.std.proofs.Common.{zero, suc}
 use Rattle.std.proofs.lemmas.Bool.Decides.{nat_tests}
-use Rattle.capn_canon.proofs.layouts.Cut.{all-kept, last-kept}
+use Rattle.capn_layout.proofs.shared.Cut.{all-kept, last-kept}
 use Rattle.capn_canon.proofs.own_words_test.is_kept.Goals as goal
 
 pub returns-else-count-eq0 : goal.returns-else-count-eq0

@@ -6,7 +6,11 @@ use Rattle.capn_pack.proofs.RowLemmas.{row_behind, row_whole}
 use Rattle.capn_pack.proofs.unpack_block.take_block.Goals as goal
 
 pub returns-clause-row : goal.returns-clause-row
-returns-clause-row g c = row_behind _ _ _ _ _ c.fill_block-filled.ensures.row c.in_ok-extend_from_slice.ensures.items
+returns-clause-row g c =
+    let block = c.fill_block-filled.new.block in
+    row_behind _ _ _ _ _ c.fill_block-filled.ensures.row
+    (c.in_ok-extend_from_slice.ensures.items
+    ∙ ap (λ l. l ++ take c.fill_block-filled.result.fill block) c.reserve.ensures.items)
 
 pub returns-clause-counted : goal.returns-clause-counted
 returns-clause-counted g c =
@@ -16,20 +20,20 @@ returns-clause-counted g c =
       arith,
       (row_whole _ _ _ c.fill_block-filled.ensures.row).1,
       ap length c.in_ok-extend_from_slice.ensures.items,
-      length-append c.args.out.now.items (take filled block),
+      ap length c.reserve.ensures.items,
+      length-append c.reserve.new.self.items (take filled block),
       length-take filled block,
     )
 
-pub returns-in_err-extend_from_slice-clause-memory : goal.returns-in_err-extend_from_slice-clause-memory
-returns-in_err-extend_from_slice-clause-memory g c =
+pub returns-in_err-reserve-clause-memory : goal.returns-in_err-reserve-clause-memory
+returns-in_err-reserve-clause-memory g c =
     let filled = c.fill_block-filled.result.fill in
     let block = c.fill_block-filled.new.block in
     let size = length-take filled block in
     let p = err_from_is_err_and c.from_residual.result c.from_residual.ensures.1 in
     rw p.1
     (row_starts c.args.rest.now c.fill_block-filled.result.at c.args.room (take filled block)
-    c.fill_block-filled.ensures.row
-    (omega (arith, c.in_err-extend_from_slice.ensures.full, c.args.out.now.ok.1))
+    c.fill_block-filled.ensures.row (omega (arith, c.if-filled-eq0.false, size, c.fill_block-filled.ensures.within))
     (omega (arith, size, c.fill_block-filled.ensures.within, c.min-limit.ensures)))
 
 pub returns-then-filled-eq0-clause-row : goal.returns-then-filled-eq0-clause-row

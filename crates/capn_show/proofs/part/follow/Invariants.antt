@@ -1,7 +1,7 @@
 use Rattle.std.proofs.Common.{◌≡◌, ◌≤◌, drop, Some}
 use Rattle.capn_value.specs.Tree.{Tree}
 use Rattle.capn_value.specs.Cost.{height}
-use Rattle.capn_walk.specs.View.{IsInMessage}
+use Rattle.capn_target.specs.Shapes.{IsInMessage}
 use Rattle.capn_walk.specs.ShownValue.{Shows}
 use Rattle.capn_show.specs.Part.{follow, at_way}
 use Rattle.capn_show.proofs.part.follow.Given as goal

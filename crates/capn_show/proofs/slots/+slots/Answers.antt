@@ -2,12 +2,12 @@ use mathlib.Core.List.{not-mem-nil}
 use Rattle.std.proofs.Common.{◌≡◌, ℕ, ◌+◌, ◌*◌, ◌<◌, ◌≤◌, length, ◌++◌, subst, arith, sym, ap, ◌∙◌}
 use Rattle.std.proofs.lemmas.Result.{on_ok_weaker, IfErr-weaker}
 use Rattle.capn_words.specs.Message.{segment_at}
-use Rattle.capn_walk.specs.declared.target.Shape.{Shape}
-use Rattle.capn_walk.specs.declared.target.Shape.TheVariants as shapes
-use Rattle.capn_walk.specs.Shapes.{IsContent, RowsFit, extent}
+use Rattle.capn_target.specs.declared.target.Shape.{Shape}
+use Rattle.capn_target.specs.declared.target.Shape.TheVariants as shapes
+use Rattle.capn_target.specs.Shapes.{IsContent, RowsFit, extent}
 use Rattle.capn_walk.specs.ShownValue.{ShowsStruct, words_of_row, slots_of_row}
 use Rattle.capn_walk.proofs.shared.RowWalks.{row-inside}
-use Rattle.capn_walk.proofs.shared.Segments.{segment-room}
+use Rattle.capn_target.proofs.shared.Segments.{segment-room}
 use Rattle.capn_words.specs.declared.pointer.Width.{Width}
 use Rattle.capn_value.specs.Tree.{count, count_rows}
 use Rattle.std.specs.Prelude.{⊤}

@@ -1,8 +1,10 @@
+use Rattle.std.proofs.Common.{refl}
 use Rattle.std.proofs.lemmas.Result.{on_ok_weaker, IfErr-weaker}
 use Rattle.std.specs.Prelude.{⊤}
 use Rattle.capn_show.specs.Outgoing.{Adds, BreaksOff, outgoing}
 use Rattle.capn_show.proofs.shared.Appended.{passed, both, then-broken, broken-before}
-use Rattle.capn_show.proofs.ListTexts.{voids-shown, bits-shown, bytes-shown, pairs-shown, quads-shown, octs-shown}
+use Rattle.capn_show.proofs.ListTexts.{voids-shown, bits-shown, bytes-shown, numbers-shown}
+use Rattle.capn_value.specs.NumberWidth.{pair, quad, oct}
 use Rattle.capn_show.proofs.slots.show_list.Goals as goal
 use Rattle.capn_show.proofs.Chosen.{by_bits}
 
@@ -88,12 +90,13 @@ returns-in-W8-clause-cut g c =
 pub returns-in_ok-named_line-in-W16-clause-shown : goal.returns-in_ok-named_line-in-W16-clause-shown
 returns-in_ok-named_line-in-W16-clause-shown g c =
     on_ok_weaker c.show_numbers.result
-    (pairs-shown (by_bits g.row.QUOTED) (g.S.Space.message c.args.space.now) c.args.start.segment c.args.start.word
+    (numbers-shown (by_bits g.row.QUOTED) (g.S.Space.message c.args.space.now) c.args.start.segment c.args.start.word
     c.args.count c.args.level
     c.args.width (Adds (outgoing g.W.Write.contents c.args.writer.now c.args.text.now.items)
     (outgoing g.W.Write.contents c.show_numbers.new.writer c.show_numbers.new.text.items)) (Adds
     (outgoing g.W.Write.contents c.named_line-in-W16.new.writer c.named_line-in-W16.new.text.items)
-    (outgoing g.W.Write.contents c.show_numbers.new.writer c.show_numbers.new.text.items)) c.in-W16.is
+    (outgoing g.W.Write.contents c.show_numbers.new.writer c.show_numbers.new.text.items))
+    pair (λ xs. refl) c.in-W16.is
     (λ y. both (outgoing g.W.Write.contents c.args.writer.now c.args.text.now.items)
     (outgoing g.W.Write.contents c.named_line-in-W16.new.writer c.named_line-in-W16.new.text.items)
     (outgoing g.W.Write.contents c.show_numbers.new.writer c.show_numbers.new.text.items) _ y
@@ -103,13 +106,14 @@ returns-in_ok-named_line-in-W16-clause-shown g c =
 pub returns-in_ok-named_line-in-W16-clause-cut : goal.returns-in_ok-named_line-in-W16-clause-cut
 returns-in_ok-named_line-in-W16-clause-cut g c =
     IfErr-weaker c.show_numbers.result _ _
-    (λ e. pairs-shown (by_bits g.row.QUOTED) (g.S.Space.message c.args.space.now) c.args.start.segment c.args.start.word
-    c.args.count
+    (λ e. numbers-shown (by_bits g.row.QUOTED) (g.S.Space.message c.args.space.now) c.args.start.segment
+    c.args.start.word c.args.count
     c.args.level
     c.args.width (BreaksOff (outgoing g.W.Write.contents c.args.writer.now c.args.text.now.items)
     (outgoing g.W.Write.contents c.show_numbers.new.writer c.show_numbers.new.text.items) e) (BreaksOff
     (outgoing g.W.Write.contents c.named_line-in-W16.new.writer c.named_line-in-W16.new.text.items)
-    (outgoing g.W.Write.contents c.show_numbers.new.writer c.show_numbers.new.text.items) e) c.in-W16.is
+    (outgoing g.W.Write.contents c.show_numbers.new.writer c.show_numbers.new.text.items) e)
+    pair (λ xs. refl) c.in-W16.is
     (λ y. then-broken (outgoing g.W.Write.contents c.args.writer.now c.args.text.now.items)
     (outgoing g.W.Write.contents c.named_line-in-W16.new.writer c.named_line-in-W16.new.text.items)
     (outgoing g.W.Write.contents c.show_numbers.new.writer c.show_numbers.new.text.items) e _ y
@@ -120,11 +124,12 @@ pub returns-in_err-named_line-in-W16-clause-cut : goal.returns-in_err-named_line
 returns-in_err-named_line-in-W16-clause-cut g c =
     passed c.from_residual-in_err-named_line-in-W16.result c.in_err-named_line-in-W16.field-0.0 _
     c.from_residual-in_err-named_line-in-W16.ensures.1
-    (pairs-shown (by_bits g.row.QUOTED) (g.S.Space.message c.args.space.now) c.args.start.segment c.args.start.word
+    (numbers-shown (by_bits g.row.QUOTED) (g.S.Space.message c.args.space.now) c.args.start.segment c.args.start.word
     c.args.count c.args.level
     c.args.width (BreaksOff (outgoing g.W.Write.contents c.args.writer.now c.args.text.now.items)
     (outgoing g.W.Write.contents c.named_line-in-W16.new.writer c.named_line-in-W16.new.text.items) _)
-    (λ y. ⊤) c.in-W16.is
+    (λ y. ⊤)
+    pair (λ xs. refl) c.in-W16.is
     (λ y u. broken-before (outgoing g.W.Write.contents c.args.writer.now c.args.text.now.items)
     (outgoing g.W.Write.contents c.named_line-in-W16.new.writer c.named_line-in-W16.new.text.items) _ _ y
     c.in_err-named_line-in-W16.ensures.cut) (λ xs h n.
@@ -133,12 +138,13 @@ returns-in_err-named_line-in-W16-clause-cut g c =
 pub returns-in_ok-named_line-in-W32-clause-shown : goal.returns-in_ok-named_line-in-W32-clause-shown
 returns-in_ok-named_line-in-W32-clause-shown g c =
     on_ok_weaker c.show_numbers-in-W32.result
-    (quads-shown (by_bits g.row.QUOTED) (g.S.Space.message c.args.space.now) c.args.start.segment c.args.start.word
+    (numbers-shown (by_bits g.row.QUOTED) (g.S.Space.message c.args.space.now) c.args.start.segment c.args.start.word
     c.args.count c.args.level
     c.args.width (Adds (outgoing g.W.Write.contents c.args.writer.now c.args.text.now.items)
     (outgoing g.W.Write.contents c.show_numbers-in-W32.new.writer c.show_numbers-in-W32.new.text.items)) (Adds
     (outgoing g.W.Write.contents c.named_line-in-W32.new.writer c.named_line-in-W32.new.text.items)
-    (outgoing g.W.Write.contents c.show_numbers-in-W32.new.writer c.show_numbers-in-W32.new.text.items)) c.in-W32.is
+    (outgoing g.W.Write.contents c.show_numbers-in-W32.new.writer c.show_numbers-in-W32.new.text.items))
+    quad (λ xs. refl) c.in-W32.is
     (λ y. both (outgoing g.W.Write.contents c.args.writer.now c.args.text.now.items)
     (outgoing g.W.Write.contents c.named_line-in-W32.new.writer c.named_line-in-W32.new.text.items)
     (outgoing g.W.Write.contents c.show_numbers-in-W32.new.writer c.show_numbers-in-W32.new.text.items) _ y
@@ -148,13 +154,14 @@ returns-in_ok-named_line-in-W32-clause-shown g c =
 pub returns-in_ok-named_line-in-W32-clause-cut : goal.returns-in_ok-named_line-in-W32-clause-cut
 returns-in_ok-named_line-in-W32-clause-cut g c =
     IfErr-weaker c.show_numbers-in-W32.result _ _
-    (λ e. quads-shown (by_bits g.row.QUOTED) (g.S.Space.message c.args.space.now) c.args.start.segment c.args.start.word
-    c.args.count
+    (λ e. numbers-shown (by_bits g.row.QUOTED) (g.S.Space.message c.args.space.now) c.args.start.segment
+    c.args.start.word c.args.count
     c.args.level
     c.args.width (BreaksOff (outgoing g.W.Write.contents c.args.writer.now c.args.text.now.items)
     (outgoing g.W.Write.contents c.show_numbers-in-W32.new.writer c.show_numbers-in-W32.new.text.items) e) (BreaksOff
     (outgoing g.W.Write.contents c.named_line-in-W32.new.writer c.named_line-in-W32.new.text.items)
-    (outgoing g.W.Write.contents c.show_numbers-in-W32.new.writer c.show_numbers-in-W32.new.text.items) e) c.in-W32.is
+    (outgoing g.W.Write.contents c.show_numbers-in-W32.new.writer c.show_numbers-in-W32.new.text.items) e)
+    quad (λ xs. refl) c.in-W32.is
     (λ y. then-broken (outgoing g.W.Write.contents c.args.writer.now c.args.text.now.items)
     (outgoing g.W.Write.contents c.named_line-in-W32.new.writer c.named_line-in-W32.new.text.items)
     (outgoing g.W.Write.contents c.show_numbers-in-W32.new.writer c.show_numbers-in-W32.new.text.items) e _ y
@@ -165,11 +172,12 @@ pub returns-in_err-named_line-in-W32-clause-cut : goal.returns-in_err-named_line
 returns-in_err-named_line-in-W32-clause-cut g c =
     passed c.from_residual-in_err-named_line-in-W32.result c.in_err-named_line-in-W32.field-0.0 _
     c.from_residual-in_err-named_line-in-W32.ensures.1
-    (quads-shown (by_bits g.row.QUOTED) (g.S.Space.message c.args.space.now) c.args.start.segment c.args.start.word
+    (numbers-shown (by_bits g.row.QUOTED) (g.S.Space.message c.args.space.now) c.args.start.segment c.args.start.word
     c.args.count c.args.level
     c.args.width (BreaksOff (outgoing g.W.Write.contents c.args.writer.now c.args.text.now.items)
     (outgoing g.W.Write.contents c.named_line-in-W32.new.writer c.named_line-in-W32.new.text.items) _)
-    (λ y. ⊤) c.in-W32.is
+    (λ y. ⊤)
+    quad (λ xs. refl) c.in-W32.is
     (λ y u. broken-before (outgoing g.W.Write.contents c.args.writer.now c.args.text.now.items)
     (outgoing g.W.Write.contents c.named_line-in-W32.new.writer c.named_line-in-W32.new.text.items) _ _ y
     c.in_err-named_line-in-W32.ensures.cut) (λ xs h n.
@@ -178,12 +186,13 @@ returns-in_err-named_line-in-W32-clause-cut g c =
 pub returns-in_ok-named_line-in-W64-clause-shown : goal.returns-in_ok-named_line-in-W64-clause-shown
 returns-in_ok-named_line-in-W64-clause-shown g c =
     on_ok_weaker c.show_numbers-in-W64.result
-    (octs-shown (by_bits g.row.QUOTED) (g.S.Space.message c.args.space.now) c.args.start.segment c.args.start.word
+    (numbers-shown (by_bits g.row.QUOTED) (g.S.Space.message c.args.space.now) c.args.start.segment c.args.start.word
     c.args.count c.args.level
     c.args.width (Adds (outgoing g.W.Write.contents c.args.writer.now c.args.text.now.items)
     (outgoing g.W.Write.contents c.show_numbers-in-W64.new.writer c.show_numbers-in-W64.new.text.items)) (Adds
     (outgoing g.W.Write.contents c.named_line-in-W64.new.writer c.named_line-in-W64.new.text.items)
-    (outgoing g.W.Write.contents c.show_numbers-in-W64.new.writer c.show_numbers-in-W64.new.text.items)) c.in-W64.is
+    (outgoing g.W.Write.contents c.show_numbers-in-W64.new.writer c.show_numbers-in-W64.new.text.items))
+    oct (λ xs. refl) c.in-W64.is
     (λ y. both (outgoing g.W.Write.contents c.args.writer.now c.args.text.now.items)
     (outgoing g.W.Write.contents c.named_line-in-W64.new.writer c.named_line-in-W64.new.text.items)
     (outgoing g.W.Write.contents c.show_numbers-in-W64.new.writer c.show_numbers-in-W64.new.text.items) _ y
@@ -193,13 +202,14 @@ returns-in_ok-named_line-in-W64-clause-shown g c =
 pub returns-in_ok-named_line-in-W64-clause-cut : goal.returns-in_ok-named_line-in-W64-clause-cut
 returns-in_ok-named_line-in-W64-clause-cut g c =
     IfErr-weaker c.show_numbers-in-W64.result _ _
-    (λ e. octs-shown (by_bits g.row.QUOTED) (g.S.Space.message c.args.space.now) c.args.start.segment c.args.start.word
-    c.args.count
+    (λ e. numbers-shown (by_bits g.row.QUOTED) (g.S.Space.message c.args.space.now) c.args.start.segment
+    c.args.start.word c.args.count
     c.args.level
     c.args.width (BreaksOff (outgoing g.W.Write.contents c.args.writer.now c.args.text.now.items)
     (outgoing g.W.Write.contents c.show_numbers-in-W64.new.writer c.show_numbers-in-W64.new.text.items) e) (BreaksOff
     (outgoing g.W.Write.contents c.named_line-in-W64.new.writer c.named_line-in-W64.new.text.items)
-    (outgoing g.W.Write.contents c.show_numbers-in-W64.new.writer c.show_numbers-in-W64.new.text.items) e) c.in-W64.is
+    (outgoing g.W.Write.contents c.show_numbers-in-W64.new.writer c.show_numbers-in-W64.new.text.items) e)
+    oct (λ xs. refl) c.in-W64.is
     (λ y. then-broken (outgoing g.W.Write.contents c.args.writer.now c.args.text.now.items)
     (outgoing g.W.Write.contents c.named_line-in-W64.new.writer c.named_line-in-W64.new.text.items)
     (outgoing g.W.Write.contents c.show_numbers-in-W64.new.writer c.show_numbers-in-W64.new.text.items) e _ y
@@ -210,11 +220,12 @@ pub returns-in_err-named_line-in-W64-clause-cut : goal.returns-in_err-named_line
 returns-in_err-named_line-in-W64-clause-cut g c =
     passed c.from_residual-in_err-named_line-in-W64.result c.in_err-named_line-in-W64.field-0.0 _
     c.from_residual-in_err-named_line-in-W64.ensures.1
-    (octs-shown (by_bits g.row.QUOTED) (g.S.Space.message c.args.space.now) c.args.start.segment c.args.start.word
+    (numbers-shown (by_bits g.row.QUOTED) (g.S.Space.message c.args.space.now) c.args.start.segment c.args.start.word
     c.args.count c.args.level
     c.args.width (BreaksOff (outgoing g.W.Write.contents c.args.writer.now c.args.text.now.items)
     (outgoing g.W.Write.contents c.named_line-in-W64.new.writer c.named_line-in-W64.new.text.items) _)
-    (λ y. ⊤) c.in-W64.is
+    (λ y. ⊤)
+    oct (λ xs. refl) c.in-W64.is
     (λ y u. broken-before (outgoing g.W.Write.contents c.args.writer.now c.args.text.now.items)
     (outgoing g.W.Write.contents c.named_line-in-W64.new.writer c.named_line-in-W64.new.text.items) _ _ y
     c.in_err-named_line-in-W64.ensures.cut) (λ xs h n.

@@ -1,4 +1,3 @@
-use Rattle.std.proofs.Common.{◌≡◌, sym, subst}
 use Rattle.std.proofs.lemmas.Result.{err_from_is_err_and}
 use Rattle.capn_text.proofs.PartStops.{bits_fail_here, bytes_fail_here, pairs_fail, quads_fail, octs_fail}
 use Rattle.capn_text.proofs.leaves.leaf_at.Goals as goal

@@ -1,11 +1,13 @@
-use Rattle.std.proofs.Common.{arith, min, subst, sym, ap, ◌∙◌}
+use Rattle.std.proofs.Common.{arith, min, subst, sym, ap, ◌∙◌, refl, length}
 use Rattle.capn_value.specs.InRange.{InRange}
 use Rattle.capn_value.specs.Cost.{cost, dear}
 use Rattle.capn_value.specs.TreeOf.{tree_of}
 use Rattle.capn_value.specs.Views.{tree_of-Nil}
 use Rattle.capn_value.proofs.Cases.{cap_seen}
-use Rattle.capn_value.proofs.Costs.{voids_cost, bits_cost, bytes_cost, pairs_cost, quads_cost, octs_cost, node_costs}
-use Rattle.capn_value.proofs.Costs.{links_cost, rows_cost, bytes_ranged, pairs_ranged, quads_ranged, octs_ranged}
+use Rattle.capn_value.proofs.Costs.{voids_cost, numbers_cost, div_ceil-one, node_costs, links_cost, rows_cost}
+use Rattle.capn_value.proofs.Costs.{numbers_ranged}
+use Rattle.capn_value.proofs.Lists.{is_bits, is_bytes, is_pairs, is_quads, is_octs}
+use Rattle.capn_value.proofs.shared.Bits.{bits_long, bits_below}
 use Rattle.capn_value.proofs.Costs.{node_ranged, links_ranged, rows_ranged, still_capped, each_cost, all_cost, row_cost}
 use Rattle.capn_value.proofs.Costs.{all_rows_cost, row_sized, all_sized, each_ranged, all_ranged, row_ranged}
 use Rattle.capn_value.proofs.Costs.{all_rows_ranged}
@@ -28,39 +30,46 @@ capped_cost-returns-in-Voids-clause-value g t c = voids_cost _ dear _ c.in-Voids
 
 pub capped_cost-returns-in-Bits-clause-value : goal.capped_cost-returns-in-Bits-clause-value
 capped_cost-returns-in-Bits-clause-value g t c =
-    bits_cost _ dear _ c.in-Bits.is c.len.ensures c.div_ceil.ensures c.plus-in-Bits.ensures
+    numbers_cost _ dear _ (is_bits c.in-Bits.is) (bits_long _ c.len.ensures) c.div_ceil.ensures c.plus-in-Bits.ensures
+
+pub capped_cost-returns-in-Bits-clause-in_range : goal.capped_cost-returns-in-Bits-clause-in_range
+capped_cost-returns-in-Bits-clause-in_range g t c = numbers_ranged _ (is_bits c.in-Bits.is) refl (bits_below _)
 
 pub capped_cost-returns-in-Bytes-clause-value : goal.capped_cost-returns-in-Bytes-clause-value
 capped_cost-returns-in-Bytes-clause-value g t c =
-    bytes_cost _ dear _ c.in-Bytes.is c.as_slice-in-Bytes.ensures c.byte_words.ensures.words c.plus-in-Bytes.ensures
+    numbers_cost _ dear _ (is_bytes c.in-Bytes.is) (ap length c.as_slice-in-Bytes.ensures) c.byte_words.ensures.words
+    c.plus-in-Bytes.ensures
 
 pub capped_cost-returns-in-Bytes-clause-in_range : goal.capped_cost-returns-in-Bytes-clause-in_range
 capped_cost-returns-in-Bytes-clause-in_range g t c =
-    bytes_ranged _ c.in-Bytes.is c.as_slice-in-Bytes.ensures c.byte_words.ensures.in_range
+    numbers_ranged _ (is_bytes c.in-Bytes.is) c.as_slice-in-Bytes.ensures c.byte_words.ensures.in_range
 
 pub capped_cost-returns-in-Pairs-clause-value : goal.capped_cost-returns-in-Pairs-clause-value
 capped_cost-returns-in-Pairs-clause-value g t c =
-    pairs_cost _ dear _ c.in-Pairs.is c.as_slice-in-Pairs.ensures c.pair_words.ensures.words c.plus-in-Pairs.ensures
+    numbers_cost _ dear _ (is_pairs c.in-Pairs.is) (ap length c.as_slice-in-Pairs.ensures) c.pair_words.ensures.words
+    c.plus-in-Pairs.ensures
 
 pub capped_cost-returns-in-Pairs-clause-in_range : goal.capped_cost-returns-in-Pairs-clause-in_range
 capped_cost-returns-in-Pairs-clause-in_range g t c =
-    pairs_ranged _ c.in-Pairs.is c.as_slice-in-Pairs.ensures c.pair_words.ensures.in_range
+    numbers_ranged _ (is_pairs c.in-Pairs.is) c.as_slice-in-Pairs.ensures c.pair_words.ensures.in_range
 
 pub capped_cost-returns-in-Quads-clause-value : goal.capped_cost-returns-in-Quads-clause-value
 capped_cost-returns-in-Quads-clause-value g t c =
-    quads_cost _ dear _ c.in-Quads.is c.as_slice-in-Quads.ensures c.quad_words.ensures.words c.plus-in-Quads.ensures
+    numbers_cost _ dear _ (is_quads c.in-Quads.is) (ap length c.as_slice-in-Quads.ensures) c.quad_words.ensures.words
+    c.plus-in-Quads.ensures
 
 pub capped_cost-returns-in-Quads-clause-in_range : goal.capped_cost-returns-in-Quads-clause-in_range
 capped_cost-returns-in-Quads-clause-in_range g t c =
-    quads_ranged _ c.in-Quads.is c.as_slice-in-Quads.ensures c.quad_words.ensures.in_range
+    numbers_ranged _ (is_quads c.in-Quads.is) c.as_slice-in-Quads.ensures c.quad_words.ensures.in_range
 
 pub capped_cost-returns-in-Octs-clause-value : goal.capped_cost-returns-in-Octs-clause-value
 capped_cost-returns-in-Octs-clause-value g t c =
-    octs_cost _ dear _ c.in-Octs.is c.as_slice-in-Octs.ensures c.oct_words.ensures.words c.plus-in-Octs.ensures
+    numbers_cost _ dear _ (is_octs c.in-Octs.is) (ap length c.as_slice-in-Octs.ensures)
+    (c.oct_words.ensures.words ∙ div_ceil-one _) c.plus-in-Octs.ensures
 
 pub capped_cost-returns-in-Octs-clause-in_range : goal.capped_cost-returns-in-Octs-clause-in_range
 capped_cost-returns-in-Octs-clause-in_range g t c =
-    octs_ranged _ c.in-Octs.is c.as_slice-in-Octs.ensures c.oct_words.ensures.in_range
+    numbers_ranged _ (is_octs c.in-Octs.is) c.as_slice-in-Octs.ensures c.oct_words.ensures.in_range
 
 pub capped_cost-returns-in-Node-clause-value : goal.capped_cost-returns-in-Node-clause-value
 capped_cost-returns-in-Node-clause-value g t c =

@@ -1,8 +1,10 @@
-use Rattle.std.proofs.Common.{arith, refl, sym, ap₂, ◌∙◌}
+use Rattle.std.proofs.Common.{arith, refl, sym, ap, ◌∙◌, map}
+use Rattle.std.specs.Int.{from_bool}
+use Rattle.capn_value.specs.NumberWidth.{is_set}
 use Rattle.capn_value.specs.Views.{count-trees_of, count_rows-rows_of}
-use Rattle.capn_value.proofs.Apart.{both_nil, both_node, both_voids, both_bits, both_bytes, both_pairs, both_quads}
-use Rattle.capn_value.proofs.Apart.{both_octs, both_links, both_rows, both_cap, nil_apart, node_apart, voids_apart}
-use Rattle.capn_value.proofs.Apart.{bits_apart, bytes_apart, pairs_apart, quads_apart, octs_apart, links_apart}
+use Rattle.capn_value.proofs.Apart.{both_nil, both_node, both_voids, both_numbers, both_links, both_rows, both_cap}
+use Rattle.capn_value.proofs.Apart.{nil_apart, node_apart, voids_apart, numbers_apart, links_apart}
+use Rattle.capn_value.proofs.Lists.{is_bits, is_bytes, is_pairs, is_quads, is_octs, bits_pointwise}
 use Rattle.capn_value.proofs.Apart.{rows_apart, cap_apart, test_slots-past_shared, test_each-uneven, test_rows-uneven}
 use Rattle.capn_value.proofs.Pairwise.{ended, in_left, in_right, fails, holds, words_differ, words_agree, each_differs}
 use Rattle.capn_value.proofs.Pairwise.{each_agrees, each_tested, slots_differ, slots_agree, row_differs, row_agrees}
@@ -30,30 +32,31 @@ test-returns-in-Cap-Cap g t c =
 
 pub test-returns-in-Bits-Bits : goal.test-returns-in-Bits-Bits
 test-returns-in-Bits-Bits g t c =
-    both_bits _ _ c.in-Bits-Bits.xs c.in-Bits-Bits.ys c.in-Bits-Bits.is-0 c.in-Bits-Bits.is-1 c.as_slice.ensures
-    c.as_slice-in-Bits-Bits.ensures c.eq.ensures
+    both_numbers _ _ (is_bits c.in-Bits-Bits.is-0) (is_bits c.in-Bits-Bits.is-1) (ap (map from_bool) c.as_slice.ensures)
+    (ap (map from_bool) c.as_slice-in-Bits-Bits.ensures) (c.eq.ensures
+    ∙ bits_pointwise c.as_slice.result.now c.as_slice-in-Bits-Bits.result.now)
 
 pub test-returns-in-Bytes-Bytes : goal.test-returns-in-Bytes-Bytes
 test-returns-in-Bytes-Bytes g t c =
-    both_bytes _ _ c.in-Bytes-Bytes.xs c.in-Bytes-Bytes.ys c.in-Bytes-Bytes.is-0 c.in-Bytes-Bytes.is-1
+    both_numbers _ _ (is_bytes c.in-Bytes-Bytes.is-0) (is_bytes c.in-Bytes-Bytes.is-1)
     c.as_slice-in-Bytes-Bytes.ensures
     c.as_slice-in-Bytes-Bytes-2.ensures c.eq-in-Bytes-Bytes.ensures
 
 pub test-returns-in-Pairs-Pairs : goal.test-returns-in-Pairs-Pairs
 test-returns-in-Pairs-Pairs g t c =
-    both_pairs _ _ c.in-Pairs-Pairs.xs c.in-Pairs-Pairs.ys c.in-Pairs-Pairs.is-0 c.in-Pairs-Pairs.is-1
+    both_numbers _ _ (is_pairs c.in-Pairs-Pairs.is-0) (is_pairs c.in-Pairs-Pairs.is-1)
     c.as_slice-in-Pairs-Pairs.ensures
     c.as_slice-in-Pairs-Pairs-2.ensures c.eq-in-Pairs-Pairs.ensures
 
 pub test-returns-in-Quads-Quads : goal.test-returns-in-Quads-Quads
 test-returns-in-Quads-Quads g t c =
-    both_quads _ _ c.in-Quads-Quads.xs c.in-Quads-Quads.ys c.in-Quads-Quads.is-0 c.in-Quads-Quads.is-1
+    both_numbers _ _ (is_quads c.in-Quads-Quads.is-0) (is_quads c.in-Quads-Quads.is-1)
     c.as_slice-in-Quads-Quads.ensures
     c.as_slice-in-Quads-Quads-2.ensures c.eq-in-Quads-Quads.ensures
 
 pub test-returns-in-Octs-Octs : goal.test-returns-in-Octs-Octs
 test-returns-in-Octs-Octs g t c =
-    both_octs _ _ c.in-Octs-Octs.xs c.in-Octs-Octs.ys c.in-Octs-Octs.is-0 c.in-Octs-Octs.is-1
+    both_numbers _ _ (is_octs c.in-Octs-Octs.is-0) (is_octs c.in-Octs-Octs.is-1)
     c.as_slice-in-Octs-Octs.ensures
     c.as_slice-in-Octs-Octs-2.ensures c.eq-in-Octs-Octs.ensures
 
@@ -77,19 +80,20 @@ pub test-returns-in_default-3 : goal.test-returns-in_default-3
 test-returns-in_default-3 g t c = voids_apart _ _ _ c.in_default.is-0 c.in_default.not-Voids-1
 
 pub test-returns-in_default-4 : goal.test-returns-in_default-4
-test-returns-in_default-4 g t c = bits_apart _ _ _ c.in_default.is-0 c.in_default.not-Bits-1
+test-returns-in_default-4 g t c =
+    numbers_apart _ _ (is_bits c.in_default.is-0) (λ ys. c.in_default.not-Bits-1 (map is_set ys))
 
 pub test-returns-in_default-5 : goal.test-returns-in_default-5
-test-returns-in_default-5 g t c = bytes_apart _ _ _ c.in_default.is-0 c.in_default.not-Bytes-1
+test-returns-in_default-5 g t c = numbers_apart _ _ (is_bytes c.in_default.is-0) c.in_default.not-Bytes-1
 
 pub test-returns-in_default-6 : goal.test-returns-in_default-6
-test-returns-in_default-6 g t c = pairs_apart _ _ _ c.in_default.is-0 c.in_default.not-Pairs-1
+test-returns-in_default-6 g t c = numbers_apart _ _ (is_pairs c.in_default.is-0) c.in_default.not-Pairs-1
 
 pub test-returns-in_default-7 : goal.test-returns-in_default-7
-test-returns-in_default-7 g t c = quads_apart _ _ _ c.in_default.is-0 c.in_default.not-Quads-1
+test-returns-in_default-7 g t c = numbers_apart _ _ (is_quads c.in_default.is-0) c.in_default.not-Quads-1
 
 pub test-returns-in_default-8 : goal.test-returns-in_default-8
-test-returns-in_default-8 g t c = octs_apart _ _ _ c.in_default.is-0 c.in_default.not-Octs-1
+test-returns-in_default-8 g t c = numbers_apart _ _ (is_octs c.in_default.is-0) c.in_default.not-Octs-1
 
 pub test-returns-in_default-9 : goal.test-returns-in_default-9
 test-returns-in_default-9 g t c = links_apart _ _ _ c.in_default.is-0 c.in_default.not-Links-1

@@ -1,6 +1,6 @@
-use Rattle.capn_walk.proofs.SeenInside.{found-inside}
+use Rattle.capn_target.proofs.shared.Inside.{found-inside}
 use Rattle.capn_walk.proofs.shared.Walks.{is-inside}
-use Rattle.capn_walk.proofs.shared.Ways.{one-of-three}
+use Rattle.capn_target.proofs.shared.Ways.{one-of-three}
 use Rattle.capn_walk.proofs.ThreeWays.{back}
 use Rattle.capn_walk.proofs.laws.targets.Goals as goal
 

@@ -1,6 +1,6 @@
 use Rattle.std.proofs.Common.{rules, ◌≡◌, ◌≤◌, [], None, refl, arith}
 use Rattle.capn_words.specs.declared.pointer.Pointer.TheVariants.{Many}
-use Rattle.capn_walk.specs.Shapes.{AreNumbers}
+use Rattle.capn_target.specs.Shapes.{AreNumbers}
 use Rattle.capn_walk.specs.inner.SlotsLeft.{owed, places_of, Lies}
 use Rattle.capn_walk.specs.inner.Reach.{reach_of}
 use Rattle.capn_walk.proofs.NeverNull.{there}

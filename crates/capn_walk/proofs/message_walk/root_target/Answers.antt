@@ -1,9 +1,9 @@
 use Rattle.std.proofs.Common.{◌≡◌, ◌<◌, length, Ok, Err, sym, ◌∙◌, arith}
 use Rattle.capn_words.specs.Message.{segment_at}
-use Rattle.capn_walk.specs.Target.{target}
+use Rattle.capn_target.specs.Target.{target}
 use Rattle.capn_walk.specs.Accepted.{root}
 use Rattle.capn_walk.proofs.RootWalks.{refused-kind, refused-fault}
-use Rattle.capn_walk.proofs.shared.Ways.{never-memory}
+use Rattle.capn_target.proofs.shared.Ways.{never-memory}
 use Rattle.capn_walk.proofs.message_walk.root_target.Goals as goal
 
 pub returns-else-may_be_root-clause-refused : goal.returns-else-may_be_root-clause-refused

@@ -1,12 +1,12 @@
 use Rattle.std.proofs.Common.{◌≡◌, ◌∙◌, Ok, Err, refl, ap, sym, arith}
-use Rattle.capn_walk.specs.declared.target.Target.{Target}
-use Rattle.capn_walk.specs.declared.target.Target.TheVariants as targets
+use Rattle.capn_target.specs.declared.target.Target.{Target}
+use Rattle.capn_target.specs.declared.target.Target.TheVariants as targets
 use Rattle.capn_walk.specs.Surveyed.{cap_of}
 use Rattle.capn_walk.specs.inner.Verdict.{judge}
 use Rattle.capn_walk.specs.inner.Reach.{below_of}
 use Rattle.capn_walk.specs.View.{cap_in, stepped}
-use Rattle.capn_walk.proofs.shared.Ways.{never-memory}
-use Rattle.capn_walk.proofs.SeenInside.{found-inside}
+use Rattle.capn_target.proofs.shared.Ways.{never-memory}
+use Rattle.capn_target.proofs.shared.Inside.{found-inside}
 use Rattle.capn_walk.proofs.Stepped.{step-pays, step-stops, stepped-memory}
 use Rattle.capn_walk.proofs.shared.Walks.{visits-fault}
 use Rattle.capn_walk.proofs.survey_visit.visit_found.Goals as goal

@@ -2,18 +2,19 @@ use Rattle.std.proofs.Common.{rules, ◌≡◌, ℕ, suc, ◌+◌, ◌*◌, ◌^
 use Rattle.capn_value.specs.TreeOf.{tree_of, trees_of, rows_of}
 use Rattle.capn_value.specs.Views.{tree_of-Nil, tree_of-Cap}
 use Rattle.capn_words.specs.declared.pointer.Width.{Width}
-use Rattle.capn_walk.specs.declared.target.Shape.TheVariants as shapes
+use Rattle.capn_target.specs.declared.target.Shape.TheVariants as shapes
 use Rattle.capn_words.specs.Message.{word_at}
-use Rattle.capn_walk.specs.Target.{named, near, target}
+use Rattle.capn_target.specs.Target.{named, near, target}
 use Rattle.capn_walk.specs.Visits.{visits}
 use Rattle.capn_walk.specs.View.{stepped, IsEntered}
-use Rattle.capn_walk.specs.declared.target.Target.{Target}
-use Rattle.capn_walk.specs.declared.target.Target.TheVariants as targets
+use Rattle.capn_target.specs.declared.target.Target.{Target}
+use Rattle.capn_target.specs.declared.target.Target.TheVariants as targets
 use Rattle.capn_walk.specs.declared.walk_answer.Stopped.{Stopped}
-use Rattle.capn_walk.specs.Shapes.{IsContent, extent, slot_count}
-use Rattle.capn_walk.proofs.shared.Inside.{inside, slots-price}
-use Rattle.capn_walk.proofs.shared.Present.{present}
-use Rattle.capn_walk.proofs.shared.Segments.{segment-room}
+use Rattle.capn_target.specs.Shapes.{IsContent, extent, slot_count}
+use Rattle.capn_target.proofs.shared.Inside.{inside}
+use Rattle.capn_walk.proofs.shared.SlotPrices.{slots-price}
+use Rattle.capn_target.proofs.shared.Present.{present}
+use Rattle.capn_target.proofs.shared.Segments.{segment-room}
 use Rattle.capn_walk.proofs.shared.Walks.{gives-next, refuses-next, at-next, count-next, visits-null, visits-cap}
 use Rattle.capn_walk.proofs.shared.Walks.{visits-fault, gives-object, refuses-object, refuses-here, gives-nothing}
 use Rattle.capn_walk.proofs.shared.Walks.{inside-struct, inside-links, inside-rows, is-inside}

@@ -2,11 +2,12 @@ use Rattle.std.proofs.Common.{◌≡◌, ℕ, List, length, ap, subst, ◌∙◌
 use Rattle.capn_words.specs.Message.{bytes_at}
 use Rattle.capn_words.specs.declared.pointer.Width.TheVariants.{W8}
 use Rattle.capn_words.specs.declared.space.Place.{Place}
-use Rattle.capn_walk.specs.declared.target.Target.{Target}
-use Rattle.capn_walk.specs.declared.target.Target.TheVariants as targets
-use Rattle.capn_walk.specs.declared.target.Shape.TheVariants as shapes
+use Rattle.capn_target.specs.declared.target.Target.{Target}
+use Rattle.capn_target.specs.declared.target.Target.TheVariants as targets
+use Rattle.capn_target.specs.declared.target.Shape.TheVariants as shapes
 use Rattle.capn_walk.specs.ValueAt.{AreElements}
-use Rattle.capn_walk.specs.View.{Seen, IsInMessage, len_of, content_of}
+use Rattle.capn_walk.specs.View.{Seen, len_of, content_of}
+use Rattle.capn_target.specs.Shapes.{IsInMessage}
 use Rattle.capn_walk.proofs.shared.Elements.{length-read, are-bytes}
 use Rattle.capn_walk.proofs.view.View.bytes.Goals as goal
 

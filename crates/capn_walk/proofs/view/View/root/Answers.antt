@@ -1,7 +1,7 @@
 use Rattle.std.proofs.Common.{◌<◌, length, arith}
 use Rattle.capn_words.specs.Message.{segment_at}
 use Rattle.capn_walk.specs.Accepted.{root}
-use Rattle.capn_walk.proofs.SeenInside.{found-inside}
+use Rattle.capn_target.proofs.shared.Inside.{found-inside}
 use Rattle.capn_walk.proofs.view.View.root.Goals as goal
 
 pub invariant_of-result : goal.invariant_of-result

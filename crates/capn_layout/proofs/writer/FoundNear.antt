@@ -1,0 +1,98 @@
+-- What a near pointer names that is known to name something.
+use Rattle.std.proofs.Common.{◌≡◌, ℕ, ◌+◌, ◌≤◌, nat_lt, ℤ, Bool, true, false, List, length, Result, Ok, Err}
+use Rattle.std.proofs.Common.{refl, ap, sym, ◌∙◌, arith, if◌then◌else◌}
+use Rattle.std.specs.Bool.{⊤}
+use Rattle.std.proofs.lemmas.Bool.Decides.{nat_tests}
+use Rattle.capn_words.specs.Message.{segment_at}
+use Rattle.capn_words.specs.declared.space.Place.{Place}
+use Rattle.capn_words.specs.declared.pointer.Pointer.TheVariants.{Nil, Node, Many}
+use Rattle.capn_words.specs.declared.pointer.Width.{Width}
+use Rattle.capn_words.specs.declared.pointer.Width.TheVariants.{W0, W1, W8, W16, W32, W64, Link, Rows}
+use Rattle.capn_target.specs.declared.target.Target.{Target}
+use Rattle.capn_target.specs.declared.target.Target.TheVariants as targets
+use Rattle.capn_target.specs.declared.target.Shape.{Shape}
+use Rattle.capn_target.specs.declared.target.Shape.TheVariants as shapes
+use Rattle.capn_target.specs.declared.target.Fault.{Fault}
+use Rattle.capn_target.specs.declared.target.Fault.TheVariants as faults
+use Rattle.capn_target.specs.Target.{content_words, moved, within, struct_from, list_from, pointer_in}
+use Rattle.capn_target.specs.Target.{named, target}
+
+abbrev pub IsComposite : Width → Type 0
+IsComposite Rows = ⊤
+IsComposite _ = ⊥
+
+module _ (m : List (List ℕ)) where
+  within-found : (s start n : ℕ) (x t : Target) → within m s start n (Ok x) ≡ Ok t
+      → (start + n ≤ length (segment_at m s)) × (within m s start n (Ok x) ≡ Ok x)
+  within-found s start n x t e = by_test (nat_lt (length (segment_at m s)) (start + n)) refl e
+    where
+      by_test : (b : Bool) → nat_lt (length (segment_at m s)) (start + n) ≡ b
+          → (if b then Err faults.Range else Ok x) ≡ Ok t →
+          (start + n ≤ length (segment_at m s)) × (within m s start n (Ok x) ≡ Ok x)
+      by_test true q f = absurd (cc)
+      by_test false q f = (grind (arith, nat_tests), ap (λ (b : Bool). if b then Err faults.Range else Ok x) q)
+
+  pub record Found (s pads : ℕ) (shape : Shape) (moves : Result ℕ Fault) (found : Result Target Fault) : Type 0 where
+    pub start : ℕ
+    pub moved_to : moves ≡ Ok start
+    pub inside : start ≤ length (segment_at m s)
+    pub is : found ≡ Ok (targets.Content s start shape pads)
+
+  struct-found : (r : Result ℕ Fault) (s pads a b : ℕ) (t : Target) → struct_from m s r pads a b ≡ Ok t
+      → Found s pads (shapes.Node a b) r (struct_from m s r pads a b)
+  struct-found (Ok start) s pads a b t e =
+      let w = within-found s start (a + b) (targets.Content s start (shapes.Node a b) pads) t e in
+      record { start = start; moved_to = refl; inside = (let i = w.0 in omega arith); is = w.1 }
+  struct-found (Err f) s pads a b t e = absurd (cc)
+
+  plain-found : (s start pads n k : ℕ) (width : Width) (t : Target)
+      → within m s start k (Ok (targets.Content s start (shapes.Many width n) pads)) ≡ Ok t →
+      Found s pads (shapes.Many width n) (Ok start)
+      (within m s start k (Ok (targets.Content s start (shapes.Many width n) pads)))
+  plain-found s start pads n k width t e =
+      let w = within-found s start k (targets.Content s start (shapes.Many width n) pads) t e in
+      record { start = start; moved_to = refl; inside = (let i = w.0 in omega arith); is = w.1 }
+
+  list-found : (r : Result ℕ Fault) (s pads : ℕ) (width : Width) (n : ℕ) (t : Target) → (IsComposite width → ⊥)
+      → list_from m s r pads width n ≡ Ok t → Found s pads (shapes.Many width n) r (list_from m s r pads width n)
+  list-found (Err f) s pads width n t p e = absurd (cc)
+  list-found (Ok start) s pads W0 n t p e = plain-found s start pads n (content_words W0 n) W0 t e
+  list-found (Ok start) s pads W1 n t p e = plain-found s start pads n (content_words W1 n) W1 t e
+  list-found (Ok start) s pads W8 n t p e = plain-found s start pads n (content_words W8 n) W8 t e
+  list-found (Ok start) s pads W16 n t p e = plain-found s start pads n (content_words W16 n) W16 t e
+  list-found (Ok start) s pads W32 n t p e = plain-found s start pads n (content_words W32 n) W32 t e
+  list-found (Ok start) s pads W64 n t p e = plain-found s start pads n (content_words W64 n) W64 t e
+  list-found (Ok start) s pads Link n t p e = plain-found s start pads n (content_words Link n) Link t e
+  list-found (Ok start) s pads Rows n t p e = absurd (p tt)
+
+  module _ (at : Place) (t : Target) (e : target m at ≡ Ok t) where
+    pub near-null : pointer_in m at.segment at.word ≡ Nil → target m at ≡ Ok targets.Nil
+    unfolding target
+    near-null q = ap (named m at.segment at.word) q
+
+    pub near-struct : (o : ℤ) (a b : ℕ) → pointer_in m at.segment at.word ≡ Node o a b
+        → Found at.segment 0 (shapes.Node a b) (moved at.word o) (target m at)
+    unfolding target
+    near-struct o a b q =
+        let f : target m at ≡ struct_from m at.segment (moved at.word o) 0 a b = ap (named m at.segment at.word) q in
+        let r = struct-found (moved at.word o) at.segment 0 a b t (sym f ∙ e) in
+        record { start = r.start; moved_to = r.moved_to; inside = r.inside; is = f ∙ r.is }
+
+    pub near-list : (o : ℤ) (width : Width) (n : ℕ) → (IsComposite width → ⊥)
+        → pointer_in m at.segment at.word ≡ Many o width n
+        → Found at.segment 0 (shapes.Many width n) (moved at.word o) (target m at)
+    unfolding target
+    near-list o width n p q =
+        let f : target m at ≡ list_from m at.segment (moved at.word o) 0 width n = ap (named m at.segment at.word) q in
+        let r = list-found (moved at.word o) at.segment 0 width n t p (sym f ∙ e) in
+        record { start = r.start; moved_to = r.moved_to; inside = r.inside; is = f ∙ r.is }
+
+pub not-composite : (w : Width) → (w ≡ Rows → ⊥) → IsComposite w → ⊥
+not-composite W0 h c = c
+not-composite W1 h c = c
+not-composite W8 h c = c
+not-composite W16 h c = c
+not-composite W32 h c = c
+not-composite W64 h c = c
+not-composite Link h c = c
+not-composite Rows h c = h refl

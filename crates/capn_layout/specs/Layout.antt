@@ -1,0 +1,115 @@
+-- The canonical layout of a value, by sums of sizes. (Page: canonicalization.)
+use Rattle.std.specs.Prelude.{ℕ, zero, suc, ◌+◌, ◌-◌, ◌*◌, ◌^◌, ◌==◌, ◌&&◌, List, [], ◌∷◌, ◌++◌, length, take}
+use Rattle.std.specs.Prelude.{drop, pos, negsuc, if◌then◌else◌}
+use Rattle.capn_words.specs.Message.{bytes}
+use Rattle.capn_words.specs.Pointers.{word_of}
+use Rattle.capn_words.specs.declared.pointer.Pointer.TheVariants.{Node, Many, Cap}
+use Rattle.capn_words.specs.declared.pointer.Width.{Width}
+use Rattle.capn_words.specs.declared.pointer.Width.TheVariants.{W0, Link, Rows}
+use Rattle.capn_value.specs.NumberWidth.{oct, bits_in, per_word}
+use Rattle.capn_value.specs.Tree.{Tree, nil, node, voids, numbers, links, rows, cap}
+use Rattle.capn_value.specs.Tree.{Trees, no_trees, tree, Bodies, no_bodies, body, count, count_rows}
+use Rattle.capn_value.specs.Trim.{kept_words, kept_slots, kept_words_of_rows, kept_slots_of_rows}
+use Rattle.capn_target.specs.Target.{content_words, list_width}
+
+-- the words that a row of a list of structs takes, when all rows are cut jointly (Page: canonicalization.)
+abbrev pub row_size : Bodies → ℕ
+row_size bs = kept_words_of_rows bs + kept_slots_of_rows bs
+
+-- the words of a value's own content: what is kept of a struct, the elements of a list, a tag before rows (pages:
+-- structs, lists)
+abbrev pub own : Tree → ℕ
+own (node ws ss) = kept_words ws + kept_slots ss
+own (numbers a xs) = content_words (list_width a) (length xs)
+own (links ts) = count ts
+own (rows bs) = 1 + count_rows bs * row_size bs
+own _ = 0
+
+-- the words of a value with all that is below it (Own.)
+abbrev mutual
+  pub size : Tree → ℕ
+  size (node ws ss) = own (node ws ss) + sizes ss
+  size (links ts) = own (links ts) + sizes ts
+  size (rows bs) = own (rows bs) + sizes_in_rows bs
+  size v = own v
+
+  pub sizes : Trees → ℕ
+  sizes no_trees = 0
+  sizes (tree t ts) = size t + sizes ts
+
+  pub sizes_in_rows : Bodies → ℕ
+  sizes_in_rows no_bodies = 0
+  sizes_in_rows (body ws ss bs) = sizes ss + sizes_in_rows bs
+
+-- the pointer, at word `from`, to a list whose content starts at word `to`; its offset counts from the next word
+-- (Page: lists.)
+abbrev pub list_to : ℕ → ℕ → Width → ℕ → ℕ
+list_to from to width n = word_of (Many (pos (to - suc from)) width n)
+
+-- the pointer to a struct: offset -1 where it has no words, so that it isn't null (Page: canonicalization.)
+abbrev pub struct_to : ℕ → ℕ → ℕ → ℕ → ℕ
+struct_to from to a b = word_of (if (a == 0) && (b == 0) then Node (negsuc 0) 0 0 else Node (pos (to - suc from)) a b)
+
+-- the pointer, at word `from`, to the value whose content starts at word `to` (pages: structs, lists, capabilities)
+unfoldable pub point : Tree → ℕ → ℕ → ℕ
+point nil from to = 0
+point (node ws ss) from to = struct_to from to (kept_words ws) (kept_slots ss)
+point (voids n) from to = list_to from to W0 n
+point (numbers a xs) from to = list_to from to (list_width a) (length xs)
+point (links ts) from to = list_to from to Link (count ts)
+point (rows bs) from to = list_to from to Rows (count_rows bs * row_size bs)
+point (cap k) from to = word_of (Cap k)
+
+-- the pointers to values whose content stands one after the other, each with all below it (Page: canonicalization,
+-- preorder.)
+abbrev pub points : Trees → ℕ → ℕ → List ℕ
+points no_trees from to = []
+points (tree t ts) from to = point t from to ∷ points ts (suc from) (to + size t)
+
+-- numbers below a base as one number, the first lowest (Page: lists.)
+abbrev pub number : ℕ → List ℕ → ℕ
+number base [] = 0
+number base (x ∷ xs) = x + base * number base xs
+
+-- n words, each of `many` elements of `width` bits; what is missing in the last one is 0 (Own.)
+abbrev pub packed : ℕ → ℕ → ℕ → List ℕ → List ℕ
+packed many width zero xs = []
+packed many width (suc n) xs = number (2 ^ width) (take many xs) ∷ packed many width n (drop many xs)
+
+-- the own content of rows, cut to a words and b slots, whose children start at word `to` (Page: lists, composite.)
+abbrev pub row_contents : ℕ → ℕ → Bodies → ℕ → ℕ → List ℕ
+row_contents a b no_bodies from to = []
+row_contents a b (body ws ss bs) from to =
+    take a ws ++ (take b (points ss (from + a) to) ++ row_contents a b bs (from + a + b) (to + sizes ss))
+
+-- a value's content at word `at`, and after it the content of what is below (Page: canonicalization, preorder.)
+abbrev mutual
+  pub lay : Tree → ℕ → List ℕ
+  lay (node ws ss) at =
+      take (kept_words ws) ws
+      ++ (take (kept_slots ss) (points ss (at + kept_words ws) (at + own (node ws ss)))
+      ++ lays ss (at + own (node ws ss)))
+  lay (links ts) at = points ts at (at + count ts) ++ lays ts (at + count ts)
+  lay (rows bs) at =
+      word_of (Node (pos (count_rows bs)) (kept_words_of_rows bs) (kept_slots_of_rows bs))
+      ∷ (row_contents (kept_words_of_rows bs) (kept_slots_of_rows bs) bs (suc at) (at + own (rows bs))
+      ++ lays_in_rows bs (at + own (rows bs)))
+  lay (numbers oct xs) at = xs
+  lay (numbers a xs) at = packed (per_word a) (bits_in a) (own (numbers a xs)) xs
+  lay _ at = []
+
+  pub lays : Trees → ℕ → List ℕ
+  lays no_trees at = []
+  lays (tree t ts) at = lay t at ++ lays ts (at + size t)
+
+  pub lays_in_rows : Bodies → ℕ → List ℕ
+  lays_in_rows no_bodies at = []
+  lays_in_rows (body ws ss bs) at = lays ss at ++ lays_in_rows bs (at + sizes ss)
+
+-- the canonical words: the pointer to the root in word 0, its content from word 1 on (Page: canonicalization.)
+unfoldable pub words : Tree → List ℕ
+words v = point v 0 1 ∷ lay v 1
+
+-- the canonical bytes (Page: canonicalization.)
+abbrev pub canon : Tree → List ℕ
+canon v = bytes (words v)

@@ -1,0 +1,11 @@
+-- Why a tree has no layout.
+use Rattle.std.specs.Prelude.{◌≡◌, Some, ⊤}
+use Rattle.capn_value.specs.Tree.{Tree}
+use Rattle.capn_value.specs.FirstCap.{first_cap}
+use Rattle.capn_layout.specs.declared.tree_layout.LayoutFault.{LayoutFault}
+use Rattle.capn_layout.specs.declared.tree_layout.LayoutFault.TheVariants.{Memory, Capability}
+
+-- a capability that is refused is the first in preorder (Own.)
+abbrev pub IsLayoutFault : Tree → LayoutFault → Type 0
+IsLayoutFault t Memory = ⊤
+IsLayoutFault t (Capability k) = first_cap t ≡ Some k

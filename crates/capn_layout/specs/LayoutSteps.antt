@@ -1,0 +1,49 @@
+-- How a buffer of words grows to a layout.
+use Rattle.std.specs.Prelude.{◌≡◌, ℕ, zero, suc, ◌+◌, List, [], ◌++◌, length, take, set, replicate}
+use Rattle.capn_value.specs.Tree.{Tree, Trees, no_trees, tree, Bodies, no_bodies, body}
+use Rattle.capn_layout.specs.Layout.{point, lay}
+
+-- the content of a value, and of all below it, is appended (Own.)
+unfoldable pub laid : Tree → List ℕ → List ℕ
+laid t p = p ++ lay t (length p)
+
+-- the pointers of the first n values are put over the words from a place on, and the content of each of these values is
+-- appended (Own.)
+unfoldable pub laid_slots : ℕ → Trees → ℕ → List ℕ → List ℕ
+laid_slots zero ts first p = p
+laid_slots (suc n) no_trees first p = p
+laid_slots (suc n) (tree t ts) first p = laid_slots n ts (suc first) (laid t (set p first (point t first (length p))))
+
+-- the slots of each row, of a words and b slots, are laid out; the first row stands at a place (Own.)
+unfoldable pub laid_rows : ℕ → ℕ → Bodies → ℕ → List ℕ → List ℕ
+laid_rows a b no_bodies at p = p
+laid_rows a b (body ws ss bs) at p = laid_rows a b bs (at + a + b) (laid_slots b ss (at + a) p)
+
+-- the first words of each row, with b words after them (Own.)
+abbrev pub AreRowsOver : ℕ → ℕ → Bodies → List ℕ → Type 0
+AreRowsOver a b no_bodies cs = cs ≡ []
+AreRowsOver a b (body ws ss bs) cs = (hs : List ℕ) × (rest : List ℕ) × (cs ≡ take a ws ++ (hs ++ rest))
+    × (length hs ≡ b) × AreRowsOver a b bs rest
+
+-- the first a words of each row, with b words of zeros after them (Own.)
+abbrev pub zero_rows : ℕ → ℕ → Bodies → List ℕ
+zero_rows a b no_bodies = []
+zero_rows a b (body ws ss bs) = take a ws ++ (replicate b 0 ++ zero_rows a b bs)
+
+-- all slots but the first n (Own.)
+abbrev pub past : ℕ → Trees → Trees
+past zero ts = ts
+past (suc n) no_trees = no_trees
+past (suc n) (tree t ts) = past n ts
+
+-- all rows but the first n (Own.)
+abbrev pub rows_past : ℕ → Bodies → Bodies
+rows_past zero bs = bs
+rows_past (suc n) no_bodies = no_bodies
+rows_past (suc n) (body ws ss bs) = rows_past n bs
+
+-- the slots of a row, none past the last (Own.)
+abbrev pub slots_at : Bodies → ℕ → Trees
+slots_at no_bodies i = no_trees
+slots_at (body ws ss bs) zero = ss
+slots_at (body ws ss bs) (suc i) = slots_at bs i

@@ -1,0 +1,11 @@
+pub mod inner
+pub mod Layout
+pub mod LayoutFault
+pub mod Patch
+pub mod Display
+pub mod Sound
+pub mod LayoutSteps
+pub mod FirstBits
+pub mod RowWords
+pub mod MessageSlots
+pub mod Ready

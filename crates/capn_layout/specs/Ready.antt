@@ -1,0 +1,73 @@
+-- What slots and rows hold that has room in a buffer of words, and how they are laid out there.
+use Rattle.std.specs.Prelude.{◌≡◌, ℕ, suc, ◌+◌, ◌*◌, ◌^◌, ◌<◌, ◌≤◌, List, ◌++◌, length, set}
+use Rattle.capn_value.specs.Tree.{Tree, Trees, count, tree_at, Bodies, count_rows}
+use Rattle.capn_value.specs.Trim.{kept_slots_of_rows}
+use Rattle.capn_value.specs.Cost.{height, greatest, greatest_in_rows}
+use Rattle.capn_layout.specs.Layout.{size, sizes, sizes_in_rows, point, row_contents, lay, lays_in_rows}
+use Rattle.capn_layout.specs.LayoutSteps.{laid, laid_slots, laid_rows, AreRowsOver, past, rows_past}
+use Rattle.capn_layout.specs.Sound.{AreWide, Sound, Sounds, SoundRows}
+
+module _ {S : Type 0} (has : S → ℕ → Tree → Type 0) where
+  -- a slot has a value, at most `depth` objects high, and there is room for it after n words (Own.)
+  pub record IsReady (source : S) (slot depth n : ℕ) : Type 0 where
+    pub value : Tree
+    pub is : has source slot value
+    pub sound : Sound value
+    pub low : height value ≤ depth
+    pub room : n + size value ≤ 2 ^ 29
+
+  -- slots have values, and there is room for those past the first i (Own.)
+  pub record AreReady (source : S) (i number depth n : ℕ) : Type 0 where
+    pub values : Trees
+    pub are : (k : ℕ) → k < number → has source k (tree_at values k)
+    pub count : number ≤ count values
+    pub sound : Sounds values
+    pub low : greatest values ≤ depth
+    pub room : n + sizes (past i values) ≤ 2 ^ 29
+
+  -- the pointer to the value in a slot has been put at a place, and its content appended (Own.)
+  abbrev pub IsLaid : S → ℕ → ℕ → List ℕ → List ℕ → Type 0
+  IsLaid source slot from p q = (v : Tree) → has source slot v → q ≡ laid v (set p from (point v from (length p)))
+
+  -- the pointers to the values in slots have been put over the words from a place on, and their contents appended
+  -- (Own.)
+  abbrev pub AreLaid : S → ℕ → ℕ → List ℕ → List ℕ → Type 0
+  AreLaid source number first p q = (ts : Trees) → number ≤ count ts
+      → ((k : ℕ) → k < number → has source k (tree_at ts k)) → q ≡ laid_slots number ts first p
+
+module _ {R : Type 0} (are : R → Bodies → Type 0) where
+  -- rows have a words and b slots at least, and there is room for what is below those past the first i (Own.)
+  pub record RowsReady (rows : R) (i number a b depth n : ℕ) : Type 0 where
+    pub values : Bodies
+    pub is : are rows values
+    pub count : count_rows values ≡ number
+    pub wide : AreWide a b values
+    pub sound : SoundRows values
+    pub low : greatest_in_rows values ≤ depth
+    pub room : n + sizes_in_rows (rows_past i values) ≤ 2 ^ 29
+
+  -- the first b slots of each row have been laid out (Own.)
+  abbrev pub RowsLaid : R → ℕ → ℕ → ℕ → ℕ → List ℕ → List ℕ → Type 0
+  RowsLaid rows number a b first p q = (bs : Bodies) → are rows bs → count_rows bs ≡ number
+      → AreWide a b bs → SoundRows bs → q ≡ laid_rows a b bs first p
+
+-- a value's content is a tag, if it has one, and rows of a words and b slots, and then what is below (Own.)
+pub record IsBlock (v : Tree) (tag : List ℕ) (a b : ℕ) (bs : Bodies) : Type 0 where
+  pub sound : SoundRows bs
+  pub wide : AreWide a b bs
+  pub kept : kept_slots_of_rows bs ≤ b
+  pub low : height v ≡ suc (greatest_in_rows bs)
+  pub size_is : size v ≡ length tag + count_rows bs * (a + b) + sizes_in_rows bs
+  pub lay_is : (at : ℕ) → lay v at ≡ tag
+      ++ (row_contents a b bs (at + length tag) (at + length tag + count_rows bs * (a + b))
+      ++ lays_in_rows bs (at + length tag + count_rows bs * (a + b)))
+
+-- the pointer to such a value was put at a place; its tag and rows were appended, with any words in place of the slots
+-- (Own.)
+pub record IsOpened (v : Tree) (bs : Bodies) (from : ℕ) (p q : List ℕ) (first a b : ℕ) : Type 0 where
+  pub tag : List ℕ
+  pub block : IsBlock v tag a b bs
+  pub cells : List ℕ
+  pub over : AreRowsOver a b bs cells
+  pub at : first ≡ length p + length tag
+  pub grown : q ≡ (set p from (point v from (length p)) ++ tag) ++ cells

@@ -1,0 +1,42 @@
+//! The canonical layout: one segment, its objects in preorder, every struct cut to what it keeps.
+//!
+//! - [`layout`] writes the canonical bytes of a tree. A tree with a capability has none, and is refused by the first
+//!   one's index.
+//! - [`surveyed_layout`] writes those of the value of a message that was surveyed, which it reads where it is.
+//! - [`Patch`] is a buffer of words and of holes for what is not known yet, as a pointer whose object has no place so
+//!   far. Nothing here writes to it.
+//! - [`list_pointer`], [`tag_word`], [`bits_of`] and [`kept_in_rows`] say what words a layout has, for whoever compares
+//!   bytes with it.
+//!
+//! A tree and a message are laid out by one writer, over what they have in common: slots with their values. Both take
+//! memory for the bytes that they answer. Where a growth is refused the answer is `Memory`.
+#![tactic(auto)]
+
+mod bits;
+mod draft;
+mod elements;
+mod kept;
+mod known_target;
+mod marks;
+mod message_layout;
+mod message_slots;
+mod number_list_words;
+mod object_layout;
+mod opening;
+mod patch;
+mod pointer_words;
+mod source;
+mod struct_list_words;
+mod tree_layout;
+mod tree_slots;
+
+pub use kept::kept_in_rows;
+pub use message_layout::surveyed_layout;
+pub use number_list_words::bits_of;
+pub use patch::Patch;
+pub use pointer_words::{list_pointer, tag_word};
+pub use tree_layout::{LayoutFault, layout};
+
+// What the signatures above name.
+pub use capn_value::{Memory, Tree};
+pub use capn_words::{Place, Space, Width};

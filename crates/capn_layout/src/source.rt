@@ -1,0 +1,92 @@
+//! What is laid out: slots with their values, of a tree or of a message.
+
+ghost use Rattle.std.specs.Prelude.{◌≡◌, ℕ, ◌++◌, ◌^◌, ◌<◌, List, OnOk};
+ghost use Rattle.capn_value.specs.Tree.{Tree, Bodies, count, count_rows, tree_at};
+ghost use Rattle.capn_value.specs.Trim.{kept_words_of_rows, kept_slots_of_rows};
+ghost use Rattle.capn_layout.specs.LayoutSteps.{AreRowsOver, slots_at};
+ghost use Rattle.capn_layout.specs.inner.Source.{IsItem, IsGrown};
+ghost use Rattle.capn_layout.specs.Sound.{AreWide};
+
+use crate::draft::Draft;
+use capn_value::Memory;
+use capn_words::Width;
+use std::alloc::Allocator;
+
+/// What a slot holds.
+#[derive(Clone, Copy)]
+pub enum Item<N, R> {
+    /// Null.
+    Nil,
+    /// A capability, by its index.
+    Cap(u32),
+    /// A list of numbers of one width, and how many they are.
+    Numbers(N, Width, u32),
+    /// A struct: one row.
+    Struct(R),
+    /// A list of pointers: the slots of one row that has no words, and how many they are.
+    Links(R, u32),
+    /// A list of structs: its rows, and how many they are.
+    Rows(R, u32),
+}
+
+/// Slots one after the other, each with its value.
+///
+/// There are two: the slots of a [`Value`](capn_value::Value), and words of a message that was surveyed.
+pub trait Source: Copy {
+    /// Where the numbers of a list are.
+    type Numbers: Copy;
+    /// Where rows of equal sizes are, each with its words and its slots.
+    type Rows: Copy;
+
+    /// A slot has a value.
+    ghost has: { Self → ℕ → Tree → Type 0 };
+
+    /// Numbers are packed in words.
+    ghost packs: { Self.Numbers → List ℕ → Type 0 };
+
+    /// Rows have words, and slots with values.
+    ghost are: { Self.Rows → Bodies → Type 0 };
+
+    /// What a slot holds.
+    fn item(self, slot: u32) -> Item<Self::Numbers, Self::Rows>
+        requires { (v : Tree) × has self slot v }
+        ensures { (v : Tree) → has self slot v → IsItem packs are result v };
+
+    /// Appends the words in which numbers are packed; bits past the last number are 0.
+    fn append_numbers<A: Allocator>(
+        numbers: Self::Numbers,
+        draft: &mut Draft<A>,
+    ) -> Result<(), Memory>
+        requires { (ws : List ℕ) × packs numbers ws }
+        ensures { OnOk result ((ws : List ℕ) → packs numbers ws → draft.new ≡ draft.old ++ ws) };
+
+    /// How many words are kept of each row, when all rows are cut alike.
+    fn kept_words(rows: Self::Rows) -> u32
+        requires { (bs : Bodies) × are rows bs }
+        ensures { (bs : Bodies) → are rows bs → result ≡ kept_words_of_rows bs };
+
+    /// How many slots are kept of each row, when all rows are cut alike.
+    fn kept_slots(rows: Self::Rows) -> u32
+        requires { (bs : Bodies) × are rows bs }
+        ensures { (bs : Bodies) → are rows bs → result ≡ kept_slots_of_rows bs };
+
+    /// Appends the first words of each row, each followed by any words in place of its first slots.
+    fn append_rows<A: Allocator>(
+        rows: Self::Rows,
+        words: u32,
+        slots: u32,
+        draft: &mut Draft<A>,
+    ) -> Result<(), Memory>
+        requires { (bs : Bodies) × are rows bs × AreWide words slots bs × (words < 2 ^ 16) × (slots < 2 ^ 29) }
+        ensures { OnOk result ((bs : Bodies) → are rows bs → AreWide words slots bs
+            → IsGrown words slots bs draft.old draft.new) };
+
+    /// The slots of a row.
+    fn slots(rows: Self::Rows, row: u32) -> Self
+        requires { (bs : Bodies) × are rows bs × (row < count_rows bs) }
+        ensures { (bs : Bodies) → are rows bs → (k : ℕ) → k < count (slots_at bs row)
+            → has result k (tree_at (slots_at bs row) k) };
+
+    /// A slot has one value.
+    ghost one: { (slots : Self) (k : ℕ) (v w : Tree) → has slots k v → has slots k w → v ≡ w };
+}

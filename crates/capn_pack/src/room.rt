@@ -1,0 +1,43 @@
+//! How much room is asked for at once, so that a long answer is seldom moved as it grows.
+ghost use Rattle.std.specs.Prelude.{◌≤◌};
+
+use std::alloc::Allocator;
+
+/// A text grows by this many times itself at most.
+const TIMES: usize = 64;
+
+/// The room for so many bytes of text, with which the words up to `at` are packed; where there is none yet, also the
+/// room for the text of the words after them, as if those packed like the words before.
+#[inline(always)]
+pub(crate) fn text_room<A: Allocator>(
+    out: &Vec<u8, A>,
+    count: usize,
+    at: usize,
+    all: usize,
+) -> usize
+    ensures { count ≤ result }
+{
+    if count <= out.capacity() - out.len() {
+        return count;
+    }
+    let text = out.len().saturating_add(count);
+    let times = all.saturating_sub(at).div_ceil(at.max(8)).min(TIMES);
+    count.saturating_add(text.saturating_mul(times))
+}
+
+/// The room for so many bytes of words, which stand first in the rest of a text; where there is none yet, for twice the
+/// bytes of the rest, within the maximum: ten bytes of groups have at least eight bytes of words.
+#[inline(always)]
+pub(crate) fn words_room<A: Allocator>(
+    out: &Vec<u8, A>,
+    count: usize,
+    rest: &[u8],
+    room: usize,
+) -> usize
+    ensures { count ≤ result }
+{
+    if count <= out.capacity() - out.len() {
+        return count;
+    }
+    count.max(8 * (rest.len() / 4).min(room).min(1 << 40))
+}

@@ -1,0 +1,19 @@
+-- The text of a fault, as it is displayed. (Own.)
+use Rattle.std.specs.Prelude.{ℕ, List, codes}
+use Rattle.capn_target.specs.declared.target.Fault.{Fault}
+use Rattle.capn_target.specs.declared.target.Fault.TheVariants as walks
+
+-- the name of a fault
+abbrev pub fault_name : Fault → List ℕ
+fault_name walks.NoRoot = codes "NoRoot"
+fault_name walks.RootKind = codes "RootKind"
+fault_name walks.Reserved = codes "Reserved"
+fault_name walks.NoSegment = codes "NoSegment"
+fault_name walks.PadRange = codes "PadRange"
+fault_name walks.BadPad = codes "BadPad"
+fault_name walks.Range = codes "Range"
+fault_name walks.BadTag = codes "BadTag"
+fault_name walks.TagOverrun = codes "TagOverrun"
+fault_name walks.TooDeep = codes "TooDeep"
+fault_name walks.OverBudget = codes "OverBudget"
+fault_name walks.Memory = codes "Memory"

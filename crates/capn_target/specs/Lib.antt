@@ -1,0 +1,4 @@
+pub mod Target
+pub mod Shapes
+pub mod Ways
+pub mod Display

@@ -1,0 +1,54 @@
+-- What an object's form says of its size, and that an object lies inside its message.
+use Rattle.std.specs.Prelude.{ℕ, ◌+◌, ◌*◌, ◌<◌, ◌≤◌, List, length, ⊤}
+use Rattle.capn_words.specs.Message.{segment_at}
+use Rattle.capn_words.specs.declared.space.Place.{Place}
+use Rattle.capn_words.specs.declared.pointer.Pointer.{Pointer}
+use Rattle.capn_words.specs.declared.pointer.Pointer.TheVariants.{Many}
+use Rattle.capn_words.specs.declared.pointer.Width.{Width}
+use Rattle.capn_words.specs.declared.pointer.Width.TheVariants.{Link, Rows}
+use Rattle.capn_target.specs.declared.target.Target.{Target}
+use Rattle.capn_target.specs.declared.target.Target.TheVariants as targets
+use Rattle.capn_target.specs.declared.target.Shape.{Shape}
+use Rattle.capn_target.specs.declared.target.Shape.TheVariants as shapes
+use Rattle.capn_target.specs.Target.{content_words}
+
+-- how many slots an object has
+abbrev pub slot_count : Shape → ℕ
+slot_count (shapes.Node a b) = b
+slot_count (shapes.Many Link n) = n
+slot_count (shapes.Many width n) = 0
+slot_count (shapes.Rows n a b span) = n * b
+
+-- the words that an object takes
+abbrev pub extent : Shape → ℕ
+extent (shapes.Node a b) = a + b
+extent (shapes.Many width n) = content_words width n
+extent (shapes.Rows n a b span) = 1 + span
+
+-- the rows of a composite list, which has a tag, are within its words
+abbrev pub RowsFit : Shape → Type 0
+RowsFit (shapes.Rows n a b span) = n * (a + b) ≤ span
+RowsFit (shapes.Many Rows n) = ⊥
+RowsFit _ = ⊤
+
+-- elements that are neither pointers nor structs
+abbrev pub IsPlain : Width → Type 0
+IsPlain Link = ⊥
+IsPlain Rows = ⊥
+IsPlain _ = ⊤
+
+-- a pointer to a list of such elements
+abbrev pub AreNumbers : Pointer → Type 0
+AreNumbers (Many o width n) = IsPlain width
+AreNumbers _ = ⊥
+
+-- n words from a place on are within its segment, which exists
+pub record IsContent (message : List (List ℕ)) (at : Place) (n : ℕ) : Type 0 where
+  pub exists : at.segment < length message
+  pub within : at.word + n ≤ length (segment_at message at.segment)
+
+-- content of a message lies inside its segment
+abbrev pub IsInMessage : List (List ℕ) → Target → Type 0
+IsInMessage message (targets.Content s start shape pads) =
+    IsContent message (record { segment = s; word = start }) (extent shape) × RowsFit shape
+IsInMessage message _ = ⊤

@@ -1,0 +1,138 @@
+-- What the pointer at a place of a message names, or the first fault.
+use Rattle.std.specs.Prelude.{ℕ, ◌+◌, ◌-◌, ◌*◌, ◌/◌, nat_lt, ◌==◌, ℤ, pos, negsuc, Bool, true, false, List, length}
+use Rattle.std.specs.Prelude.{slice_index, Result, Ok, Err, if◌then◌else◌}
+use Rattle.capn_words.specs.Message.{segment_at}
+use Rattle.capn_words.specs.declared.space.Place.{Place}
+use Rattle.capn_words.specs.declared.pointer.Pointer.{Pointer}
+use Rattle.capn_words.specs.declared.pointer.Pointer.TheVariants.{Nil, Node, Many, Far, Cap, Reserved}
+use Rattle.capn_words.specs.declared.pointer.Width.{Width}
+use Rattle.capn_words.specs.declared.pointer.Width.TheVariants.{W0, W1, W8, W16, W32, W64, Link, Rows}
+use Rattle.capn_value.specs.NumberWidth.{NumberWidth, bit, byte, pair, quad, oct, bits_in}
+use Rattle.capn_target.specs.declared.target.Target.{Target}
+use Rattle.capn_target.specs.declared.target.Target.TheVariants as targets
+use Rattle.capn_target.specs.declared.target.Shape.TheVariants as shapes
+use Rattle.capn_target.specs.declared.target.Fault.{Fault}
+use Rattle.capn_target.specs.declared.target.Fault.TheVariants as faults
+use Rattle.capn_words.specs.Pointers.{field, pointer_of}
+
+-- how a pointer to a list of numbers says their width
+abbrev pub list_width : NumberWidth → Width
+list_width bit = W1
+list_width byte = W8
+list_width pair = W16
+list_width quad = W32
+list_width oct = W64
+
+-- the words that n bits take
+abbrev pub words_for : ℕ → ℕ
+words_for n = (n + 63) / 64
+
+-- the content words of a list, with the tag of a composite one
+abbrev pub content_words : Width → ℕ → ℕ
+content_words W0 n = 0
+content_words W1 n = words_for n
+content_words W8 n = words_for (bits_in byte * n)
+content_words W16 n = words_for (bits_in pair * n)
+content_words W32 n = words_for (bits_in quad * n)
+content_words W64 n = n
+content_words Link n = n
+content_words Rows n = 1 + n
+
+-- the bits of an element, and of a word of the rows of a composite list
+abbrev pub bits_of : Width → ℕ
+bits_of W0 = 0
+bits_of W1 = bits_in bit
+bits_of W8 = bits_in byte
+bits_of W16 = bits_in pair
+bits_of W32 = bits_in quad
+bits_of _ = 64
+
+-- where an offset leads from the word after a pointer, if not before word 0
+abbrev pub moved : ℕ → ℤ → Result ℕ Fault
+moved w (pos n) = Ok (w + 1 + n)
+moved w (negsuc n) = if nat_lt w n then Err faults.Range else Ok (w - n)
+
+module _ (message : List (List ℕ)) where
+  -- a struct list whose content starts with the tag t
+  abbrev pub tagged : ℕ → ℕ → ℕ → ℕ → ℕ → Result Target Fault
+  tagged s start pads span t =
+      if field 0 2 t == 0
+      then if nat_lt span (field 2 30 t * (field 32 16 t + field 48 16 t)) then Err faults.TagOverrun
+      else Ok (targets.Content s start (shapes.Rows (field 2 30 t) (field 32 16 t) (field 48 16 t) span) pads)
+      else Err faults.BadTag
+
+  -- content of n words
+  abbrev pub within : ℕ → ℕ → ℕ → Result Target Fault → Result Target Fault
+  within s start n found = if nat_lt (length (segment_at message s)) (start + n) then Err faults.Range else found
+
+  -- a list whose content starts here: rows after their tag, or elements of one width
+  abbrev pub list : ℕ → ℕ → ℕ → Width → ℕ → Result Target Fault
+  list s start pads Rows n = within s start (1 + n) (tagged s start pads n (slice_index (segment_at message s) start))
+  list s start pads width n =
+      within s start (content_words width n) (Ok (targets.Content s start (shapes.Many width n) pads))
+
+  -- a struct of a words and b slots whose content starts here
+  abbrev pub struct : ℕ → ℕ → ℕ → ℕ → ℕ → Result Target Fault
+  struct s start pads a b = within s start (a + b) (Ok (targets.Content s start (shapes.Node a b) pads))
+
+  -- a pointer to content from a start that is known, if it has one
+  abbrev pub struct_from : ℕ → Result ℕ Fault → ℕ → ℕ → ℕ → Result Target Fault
+  struct_from s (Ok start) pads a b = struct s start pads a b
+  struct_from s (Err e) pads a b = Err e
+
+  -- a list's pointer to content from a start that is known, if it has one
+  abbrev pub list_from : ℕ → Result ℕ Fault → ℕ → Width → ℕ → Result Target Fault
+  list_from s (Ok start) pads width n = list s start pads width n
+  list_from s (Err e) pads width n = Err e
+
+  -- the struct or list whose pointer, or pad of one word, stands at word w of the segment
+  abbrev pub near : ℕ → ℕ → ℕ → Pointer → Result Target Fault
+  near s w pads (Node o a b) = struct_from s (moved w o) pads a b
+  near s w pads (Many o width n) = list_from s (moved w o) pads width n
+  near s w pads _ = Err faults.BadPad
+
+  -- the second word of a pad of two, whose first names where the content starts
+  abbrev pub second_pad : ℕ → ℕ → Pointer → Result Target Fault
+  second_pad s start Nil = struct s start 2 0 0
+  second_pad s start (Node o a b) = struct s start 2 a b
+  second_pad s start (Many o width n) = list s start 2 width n
+  second_pad s start _ = Err faults.BadPad
+
+  -- whether this may be such a word: null, or a pointer to a struct or a list
+  abbrev pub is_second_pad : Pointer → Bool
+  is_second_pad Nil = true
+  is_second_pad (Node o a b) = true
+  is_second_pad (Many o width n) = true
+  is_second_pad _ = false
+
+  -- what a pad of two words names: its first is a far pointer to the content, its second describes that
+  abbrev pub two_pads : Pointer → Pointer → Result Target Fault
+  two_pads (Far false w s) tag =
+      if is_second_pad tag
+      then if nat_lt s (length message) then second_pad s w tag else Err faults.NoSegment
+      else Err faults.BadPad
+  two_pads _ tag = Err faults.BadPad
+
+  -- the pointer that a word of a segment holds
+  abbrev pub pointer_in : ℕ → ℕ → Pointer
+  pointer_in s w = pointer_of (slice_index (segment_at message s) w)
+
+  -- a far pointer to a pad of n words
+  abbrev pub landing : {A : Type 0} → ℕ → ℕ → ℕ → Result A Fault → Result A Fault
+  landing s w n found =
+      if nat_lt s (length message)
+      then if nat_lt (length (segment_at message s)) (w + n) then Err faults.PadRange else found
+      else Err faults.NoSegment
+
+  -- what a pointer at word w of segment s names
+  abbrev pub named : ℕ → ℕ → Pointer → Result Target Fault
+  named s w Nil = Ok targets.Nil
+  named s w (Cap k) = Ok (targets.Cap k)
+  named s w (Reserved n) = Err faults.Reserved
+  named s w (Far false v t) = landing t v 1 (near t v 1 (pointer_in t v))
+  named s w (Far true v t) = landing t v 2 (two_pads (pointer_in t v) (pointer_in t (v + 1)))
+  named s w near_pointer = near s w 0 near_pointer
+
+  -- what the pointer at a place names
+  unfoldable pub target : Place → Result Target Fault
+  target at = named at.segment at.word (pointer_in at.segment at.word)

@@ -1,0 +1,177 @@
+//! Content from a word of a segment on, by the form that a pointer or a tag says.
+
+ghost use Rattle.std.specs.Prelude.{◌≡◌, ℕ, ◌<◌, ◌≤◌, ◌+◌, ◌^◌, length, slice_index};
+ghost use Rattle.capn_words.specs.Message.{segment_at};
+ghost use Rattle.capn_target.specs.Target as spec;
+
+use crate::target::{Fault, Shape, Target};
+use capn_words::{Place, Space, Width};
+
+/// The words of a segment, none where there is no such segment.
+#[tactic(auto, using(crate::proofs::shared::Segments::length_of_none, crate::proofs::shared::Segments::length_of_some))]
+#[inline(always)]
+pub fn segment_length<S: Space>(space: &S, segment: u32) -> u32
+    ensures { result ≡ length (segment_at (S.message space.now) segment) }
+{
+    space.words(segment).unwrap_or(0)
+}
+
+/// The words of a segment, where those of another, or the same, are known.
+#[inline(always)]
+pub fn size_of<S: Space>(space: &S, segment: u32, known: u32, size: u32) -> u32
+    requires { size ≡ length (segment_at (S.message space.now) known) }
+    ensures { result ≡ length (segment_at (S.message space.now) segment) }
+{
+    if segment == known {
+        size
+    } else {
+        segment_length(space, segment)
+    }
+}
+
+/// A word of a segment.
+#[inline(always)]
+pub fn place(segment: u32, word: u32) -> Place
+    ensures { result ≡ record { segment = segment; word = word } }
+{
+    Place { segment, word }
+}
+
+/// Where an offset leads from the word after a pointer.
+#[inline(always)]
+pub fn start_of(word: u32, offset: i32) -> Result<u64, Fault>
+    ensures { result ≡ spec.moved word offset }
+{
+    let start = word as i64 + 1 + offset as i64;
+    if start < 0 {
+        Err(Fault::Range)
+    } else {
+        Ok(start as u64)
+    }
+}
+
+/// The bits of an element of a list, or of a word of the rows of a composite one.
+#[inline(always)]
+fn bits_of(width: Width) -> u64
+    ensures value { result ≡ spec.bits_of width }
+    ensures within { result ≤ 64 }
+{
+    match width {
+        Width::W0 => 0,
+        Width::W1 => 1,
+        Width::W8 => 8,
+        Width::W16 => 16,
+        Width::W32 => 32,
+        Width::W64 | Width::Link | Width::Rows => 64,
+    }
+}
+
+/// The words that the content of a list takes, with the tag of a composite one.
+#[inline(always)]
+pub fn content_words(width: Width, count: u32) -> u64
+    ensures { result ≡ spec.content_words width count }
+{
+    let words = (bits_of(width) * count as u64 + 63) / 64;
+    if let Width::Rows = width {
+        return words + 1;
+    }
+    words
+}
+
+/// A struct whose content starts at a word.
+#[inline(always)]
+pub fn node_at<S: Space>(
+    space: &S,
+    segment: u32,
+    size: u32,
+    start: u64,
+    pads: u8,
+    words: u16,
+    slots: u16,
+) -> Result<Target, Fault>
+    requires size { size ≡ length (segment_at (S.message space.now) segment) }
+    requires start { start < 2 ^ 34 }
+    ensures { result ≡ spec.struct (S.message space.now) segment start pads words slots }
+{
+    if start + words as u64 + slots as u64 > size as u64 {
+        return Err(Fault::Range);
+    }
+    let shape = Shape::Node { words, slots };
+    Ok(Target::Content {
+        segment,
+        start: start as u32,
+        shape,
+        pads,
+    })
+}
+
+/// A list whose content starts at a word.
+#[inline(always)]
+pub fn many_at<S: Space>(
+    space: &S,
+    segment: u32,
+    size: u32,
+    start: u64,
+    pads: u8,
+    width: Width,
+    count: u32,
+) -> Result<Target, Fault>
+    requires size { size ≡ length (segment_at (S.message space.now) segment) }
+    requires start { start < 2 ^ 34 }
+    ensures { result ≡ spec.list (S.message space.now) segment start pads width count }
+{
+    if start + content_words(width, count) > size as u64 {
+        return Err(Fault::Range);
+    }
+    if let Width::Rows = width {
+        return rows_at(space, segment, start as u32, pads, count);
+    }
+    let shape = Shape::Many { width, count };
+    Ok(Target::Content {
+        segment,
+        start: start as u32,
+        shape,
+        pads,
+    })
+}
+
+/// A composite list of `span` words after its tag, which is at a word.
+#[tactic(auto, using(std::proofs::lemmas::Grind::common_steps))]
+#[inline(always)]
+fn rows_at<S: Space>(
+    space: &S,
+    segment: u32,
+    start: u32,
+    pads: u8,
+    span: u32,
+) -> Result<Target, Fault>
+    requires { start < length (segment_at (S.message space.now) segment) }
+    ensures { result ≡ spec.tagged (S.message space.now) segment start pads span
+        (slice_index (segment_at (S.message space.now) segment) start) }
+{
+    let tag = space.word(Place {
+        segment,
+        word: start,
+    });
+    if tag & 3 != 0 {
+        return Err(Fault::BadTag);
+    }
+    let count = tag >> 2 & 0x3fff_ffff;
+    let words = tag >> 32 & 0xffff;
+    let slots = tag >> 48 & 0xffff;
+    if count * (words + slots) > span as u64 {
+        return Err(Fault::TagOverrun);
+    }
+    let shape = Shape::Rows {
+        count: count as u32,
+        words: words as u16,
+        slots: slots as u16,
+        span,
+    };
+    Ok(Target::Content {
+        segment,
+        start,
+        shape,
+        pads,
+    })
+}

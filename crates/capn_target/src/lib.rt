@@ -1,0 +1,18 @@
+//! What the pointer at a place of a message names: null, a capability, or content that lies inside its segment.
+//!
+//! - [`resolve`] says it for any place, after landing pads if need be, or answers the first fault of that slot.
+//! - [`near`] says it for a pointer in hand that leads to content in its own segment, and [`node_at`] and [`many_at`]
+//!   for content whose start and form are known.
+//! - [`segment_length`], [`size_of`], [`place`], [`start_of`], [`pointer_at`] and [`content_words`] are the steps of
+//!   these, for whoever takes them one by one.
+//!
+//! All take any `Space`, and no memory.
+#![tactic(auto)]
+
+mod content;
+mod slot_target;
+mod target;
+
+pub use content::{content_words, many_at, node_at, place, segment_length, size_of, start_of};
+pub use slot_target::{near, pointer_at, resolve};
+pub use target::{Fault, Shape, Target};

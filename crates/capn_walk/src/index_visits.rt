@@ -1,0 +1,255 @@
+//! The entries of slots, in preorder, put into a room.
+
+ghost use Rattle.std.specs.Prelude.{◌≡◌, ◌+◌, ◌<◌, ◌≤◌, ◌^◌, length, set};
+ghost use Rattle.capn_words.specs.Message.{segment_at, IsMessage, IsPlace};
+ghost use Rattle.capn_value.specs.Cost.{most_cost};
+ghost use Rattle.capn_target.specs.Target as spec;
+ghost use Rattle.capn_walk.specs.Visits.{visits, visits_of};
+ghost use Rattle.capn_walk.specs.inner.SlotsLeft.{places_of, owed, Lies};
+ghost use Rattle.capn_walk.specs.Index.{entries, entries_of};
+ghost use Rattle.capn_walk.specs.inner.IndexRoom.{Indexes, respan};
+
+use crate::entry::{Entry, Indexed};
+use crate::slots_left::SlotsLeft;
+use crate::step::{price_within, slots_below};
+use crate::walk_answer::{Stopped, stop};
+use capn_target::{Fault, Target, near, resolve, size_of};
+use capn_words::{Place, Pointer, Space, split};
+
+/// Puts an entry into the room, if there is room for it.
+#[inline(always)]
+fn put(room: &mut [Entry], at: u32, entry: Entry)
+    ensures { room.new ≡ set room.old at entry }
+{
+    let at = at as usize;
+    if at < room.len() {
+        room[at] = entry;
+    }
+}
+
+/// Sets the span of an entry, if there was room for it.
+#[inline(always)]
+fn set_span(room: &mut [Entry], at: u32, span: u32)
+    ensures { room.new ≡ respan room.old at span }
+{
+    let at = at as usize;
+    if at < room.len() {
+        room[at].span = span;
+    }
+}
+
+/// The entries of a slot whose target is known, from an index on.
+#[cycle(index_slots)]
+#[inline(always)]
+pub fn index_found<S: Space>(
+    space: &S,
+    at: Place,
+    size: u32,
+    found: Result<Target, Fault>,
+    depth: u32,
+    left: u32,
+    base: u32,
+    room: &mut [Entry],
+    first: u32,
+) -> Result<Indexed, Stopped>
+    requires message { IsMessage (S.message space.now) }
+    requires size { size ≡ length (segment_at (S.message space.now) at.segment) }
+    requires place { IsPlace (S.message space.now) at }
+    requires found { found ≡ spec.target (S.message space.now) at }
+    requires left { left ≤ most_cost }
+    requires fits { first + 1 + left < 2 ^ 32 }
+    ensures { Indexes left (visits (S.message space.now) base depth at) 1 (entries (S.message space.now) depth at) first
+        room.old room.new result }
+{
+    let target = match found {
+        Ok(target) => target,
+        Err(fault) => return Err(stop(fault, at)),
+    };
+    let price = match price_within(target, depth, left, base) {
+        Ok(price) => price,
+        Err(fault) => return Err(stop(fault, at)),
+    };
+    put(room, first, Entry::of(target, 1));
+    let below = slots_below(space, target);
+    if below.is_done() {
+        return Ok(Indexed {
+            paid: price,
+            visits: 1,
+        });
+    }
+    let size = size_of(space, below.segment, at.segment, size);
+    match index_frame(
+        space,
+        below,
+        size,
+        depth - 1,
+        left - price,
+        base,
+        room,
+        first + 1,
+    ) {
+        Ok(told) => {
+            let span = 1 + told.visits;
+            set_span(room, first, span);
+            Ok(Indexed {
+                paid: price + told.paid,
+                visits: span,
+            })
+        }
+        Err(stopped) => Err(stopped.behind(price, 1)),
+    }
+}
+
+/// The entries of a slot whose pointer is that of a struct or list that is near.
+#[cycle(index_slots)]
+#[inline(always)]
+fn index_near<S: Space>(
+    space: &S,
+    at: Place,
+    size: u32,
+    pointer: Pointer,
+    depth: u32,
+    left: u32,
+    base: u32,
+    room: &mut [Entry],
+    first: u32,
+) -> Result<Indexed, Stopped>
+    requires message { IsMessage (S.message space.now) }
+    requires size { size ≡ length (segment_at (S.message space.now) at.segment) }
+    requires place { IsPlace (S.message space.now) at }
+    requires pointer { spec.near (S.message space.now) at.segment at.word 0 pointer
+        ≡ spec.target (S.message space.now) at }
+    requires left { left ≤ most_cost }
+    requires fits { first + 1 + left < 2 ^ 32 }
+    ensures { Indexes left (visits (S.message space.now) base depth at) 1 (entries (S.message space.now) depth at) first
+        room.old room.new result }
+{
+    let found = near(space, at.segment, size, at.word, 0, pointer);
+    index_found(space, at, size, found, depth, left, base, room, first)
+}
+
+/// The entries of a slot, whatever its pointer names.
+#[cycle(index_slots)]
+#[inline(never)]
+fn index_elsewhere<S: Space>(
+    space: &S,
+    at: Place,
+    size: u32,
+    depth: u32,
+    left: u32,
+    base: u32,
+    room: &mut [Entry],
+    first: u32,
+) -> Result<Indexed, Stopped>
+    requires message { IsMessage (S.message space.now) }
+    requires size { size ≡ length (segment_at (S.message space.now) at.segment) }
+    requires place { IsPlace (S.message space.now) at }
+    requires left { left ≤ most_cost }
+    requires fits { first + 1 + left < 2 ^ 32 }
+    ensures { Indexes left (visits (S.message space.now) base depth at) 1 (entries (S.message space.now) depth at) first
+        room.old room.new result }
+{
+    index_found(
+        space,
+        at,
+        size,
+        resolve(space, at),
+        depth,
+        left,
+        base,
+        room,
+        first,
+    )
+}
+
+/// The entries of a slot, from an index on. Near structs and near lists have an arm each, so that each is compiled for
+/// its form alone.
+#[cycle(index_slots)]
+#[inline(always)]
+fn index_slot<S: Space>(
+    space: &S,
+    at: Place,
+    size: u32,
+    depth: u32,
+    left: u32,
+    base: u32,
+    room: &mut [Entry],
+    first: u32,
+) -> Result<Indexed, Stopped>
+    requires message { IsMessage (S.message space.now) }
+    requires size { size ≡ length (segment_at (S.message space.now) at.segment) }
+    requires place { IsPlace (S.message space.now) at }
+    requires left { left ≤ most_cost }
+    requires fits { first + 1 + left < 2 ^ 32 }
+    ensures { Indexes left (visits (S.message space.now) base depth at) 1 (entries (S.message space.now) depth at) first
+        room.old room.new result }
+{
+    let word = space.word(at);
+    if word == 0 {
+        put(room, first, Entry::nil());
+        return Ok(Indexed { paid: 0, visits: 1 });
+    }
+    let pointer = split(word);
+    match pointer {
+        Pointer::Node { .. } => index_near(
+            space, at, size, pointer, depth, left, base, room, first,
+        ),
+        Pointer::Many { .. } => index_near(
+            space, at, size, pointer, depth, left, base, room, first,
+        ),
+        _ => index_elsewhere(space, at, size, depth, left, base, room, first),
+    }
+}
+
+/// The entries of the slots of a frame, one after the other, each with all below it.
+#[cycle(index_slots)]
+#[inline(never)]
+fn index_frame<S: Space>(
+    space: &S,
+    slots: SlotsLeft,
+    size: u32,
+    depth: u32,
+    left: u32,
+    base: u32,
+    room: &mut [Entry],
+    first: u32,
+) -> Result<Indexed, Stopped>
+    requires message { IsMessage (S.message space.now) }
+    requires inside { Lies (S.message space.now) slots }
+    requires size { size ≡ length (segment_at (S.message space.now) slots.segment) }
+    requires left { left ≤ most_cost }
+    requires fits { first + owed slots + left < 2 ^ 32 }
+    ensures { Indexes left (visits_of (S.message space.now) base depth (places_of slots)) (owed slots)
+        (entries_of (S.message space.now) depth (places_of slots)) first room.old room.new result }
+{
+    let mut frame = slots;
+    let mut paid = 0u32;
+    let mut visits = 0u32;
+    'slots: loop {
+        if frame.left == 0 {
+            if frame.rows > 0 {
+                frame = frame.turned();
+                continue;
+            }
+            return Ok(Indexed { paid, visits });
+        }
+        let (at, rest) = frame.take();
+        match index_slot(
+            space,
+            at,
+            size,
+            depth,
+            left - paid,
+            base,
+            room,
+            first + visits,
+        ) {
+            Ok(told) => {
+                paid += told.paid;
+                visits += told.visits;
+                frame = rest;
+            }
+            Err(stopped) => return Err(stopped.behind(paid, visits)),
+        }
+    }
+}
