@@ -4,6 +4,7 @@ pub mod Denotes
 pub mod Laws
 pub mod Reads
 pub mod Refusal
+pub mod RefusalOf
 pub mod BareVerdict
 pub mod SurveyedBytes
 pub mod Display

@@ -16,7 +16,7 @@ ghost use Rattle.capn_canon.specs.BareVerdict.{SaysCanonical, IsBareSurvey};
 use crate::canonical_survey::measure_root;
 use crate::refusal::Refusal;
 use crate::surveyed_bare::SurveyedBare;
-use capn_walk::{Fault, Limits, Stopped, survey};
+use capn_walk::{Limits, Stopped, survey};
 use capn_words::{Bare, Space};
 use std::alloc::Allocator;
 
@@ -75,17 +75,10 @@ pub fn is_canonical<A: Allocator + Copy>(
     // No memory is needed for a depth of at most 64.
     ensures no_memory { limits.depth ≤ 64 → IfErr result (λ e. e ≢ refusals.Memory) }
 {
-    match Bare::new(bytes) {
-        Ok(space) => match survey_bare(alloc, &space, limits) {
-            Ok(checked) => match checked.capability {
-                Some(index) => Err(Refusal::Capability(index)),
-                None => Ok(checked.is_canonical),
-            },
-            Err(stopped) => match stopped.fault {
-                Fault::Memory => Err(Refusal::Memory),
-                _ => Err(Refusal::Walk(stopped)),
-            },
-        },
-        Err(fault) => Err(Refusal::Bare(fault)),
+    let space = Bare::new(bytes)?;
+    let checked = survey_bare(alloc, &space, limits)?;
+    match checked.capability {
+        Some(index) => Err(Refusal::Capability(index)),
+        None => Ok(checked.is_canonical),
     }
 }

@@ -14,8 +14,7 @@ ghost use Rattle.capn_canon.specs.MemoryNeed.{MayNeedBytes};
 
 use crate::refusal::Refusal;
 use capn_layout::surveyed_layout;
-use capn_value::Memory;
-use capn_walk::{Fault, Limits, survey};
+use capn_walk::{Limits, survey};
 use capn_words::{Bare, Place, Space};
 use std::alloc::{Allocator, Global};
 
@@ -45,22 +44,15 @@ fn canonical_of_inner<A: Allocator + Copy, S: Space>(
     let _segments = space.segments();
     let _budget = limits.budget();
     let depth = limits.depth();
-    match survey(alloc, space, limits) {
-        Ok(surveyed) => match surveyed.capability {
-            Some(index) => Err(Refusal::Capability(index)),
-            None => match surveyed_layout(alloc, space, depth, surveyed.paid) {
-                Ok(bytes) => Ok(Canonical {
-                    bytes,
-                    paid: surveyed.paid,
-                }),
-                Err(Memory) => Err(Refusal::Memory),
-            },
-        },
-        Err(stopped) => match stopped.fault {
-            Fault::Memory => Err(Refusal::Memory),
-            _ => Err(Refusal::Walk(stopped)),
-        },
+    let surveyed = survey(alloc, space, limits)?;
+    if let Some(index) = surveyed.capability {
+        return Err(Refusal::Capability(index));
     }
+    let bytes = surveyed_layout(alloc, space, depth, surveyed.paid)?;
+    Ok(Canonical {
+        bytes,
+        paid: surveyed.paid,
+    })
 }
 
 /// The same: a message of one segment is read as its bytes alone, which is faster.

@@ -5,85 +5,31 @@ ghost use Rattle.capn_value.specs.Tree.{Tree as Value};
 ghost use Rattle.capn_value.specs.FirstCap.{first_cap};
 ghost use Rattle.capn_layout.specs.Layout.{canon};
 ghost use Rattle.capn_canon.specs.Denotes.{Denotes, Answers};
-ghost use Rattle.capn_canon.specs.inner.Outcomes.{AreCanonicalised};
+ghost use Rattle.capn_canon.specs.inner.Outcomes.{IsCanonicalised};
 ghost use Rattle.capn_canon.specs.Canonicity.{ReadsBack, PaysItsCost, IsItsOwnForm, IsFormExactlyOf};
 ghost use Rattle.capn_canon.specs.Refusal.{IsRefused, IsPaidWithin};
 ghost use Rattle.capn_canon.specs.Theorem.{Answered, EqualExactly, OwnForm, WithinBudget};
 ghost use Rattle.capn_canon.specs.MemoryNeed.{MayNeedBytesIn};
-ghost use Rattle.capn_canon.specs.declared.form.Form.TheVariants as forms;
 ghost use Rattle.capn_canon.specs.declared.refusal.Refusal.TheVariants as refusals;
 
 use crate::canonical::{Canonical, canonical_of};
 use crate::form::Form;
+use crate::input::{Task, read};
 use crate::refusal::Refusal;
-use capn_pack::{UnpackFault, unpack};
-use capn_stream::{FrameFault, MOST_TABLE_WORDS, first};
 use capn_walk::Limits;
-use capn_words::Bare;
+use capn_words::Space;
 use std::alloc::Allocator;
 
-/// Of the words of one segment.
-fn of_bare<A: Allocator + Copy>(
-    alloc: A,
-    bytes: &[u8],
-    limits: Limits,
-) -> Result<Canonical<A>, Refusal>
-    ensures { AreCanonicalised forms.Bare bytes.now limits result (λ c. c.bytes.items) (λ c. c.paid) }
-{
-    match Bare::new(bytes) {
-        Ok(space) => canonical_of(alloc, &space, limits),
-        Err(fault) => Err(Refusal::Bare(fault)),
-    }
-}
+/// The canonical bytes of a message.
+struct CanonicalBytes;
 
-/// Of a frame.
-fn of_frame<A: Allocator + Copy>(
-    alloc: A,
-    bytes: &[u8],
-    limits: Limits,
-) -> Result<Canonical<A>, Refusal>
-    ensures { AreCanonicalised forms.Stream bytes.now limits result (λ c. c.bytes.items) (λ c. c.paid) }
-{
-    match first(alloc, bytes, limits.message_words()) {
-        Ok((message, taken)) => {
-            if taken < bytes.len() {
-                return Err(Refusal::Trailing(taken as u64));
-            }
-            canonical_of(alloc, &message, limits)
-        }
-        Err(FrameFault::Memory) => Err(Refusal::Memory),
-        Err(fault) => Err(Refusal::Frame(fault)),
-    }
-}
+impl<A: Allocator + Copy> Task<A> for CanonicalBytes {
+    type Answer = Canonical<A>;
 
-/// Of the packed text of a frame.
-fn of_packed<A: Allocator + Copy>(
-    alloc: A,
-    bytes: &[u8],
-    limits: Limits,
-) -> Result<Canonical<A>, Refusal>
-    ensures { AreCanonicalised forms.Packed bytes.now limits result (λ c. c.bytes.items) (λ c. c.paid) }
-{
-    match unpack(alloc, bytes, limits.message_words() + MOST_TABLE_WORDS) {
-        Ok(text) => of_frame(alloc, text.as_slice(), limits),
-        Err(UnpackFault::Memory) => Err(Refusal::Memory),
-        Err(fault) => Err(Refusal::Packed(fault)),
-    }
-}
+    ghost answers = { λ m limits r. IsCanonicalised m limits r (λ c. c.bytes.items) (λ c. c.paid) };
 
-/// The canonical bytes in the form that is named.
-fn in_form<A: Allocator + Copy>(
-    alloc: A,
-    form: Form,
-    bytes: &[u8],
-    limits: Limits,
-) -> Result<Canonical<A>, Refusal>
-    ensures { AreCanonicalised form bytes.now limits result (λ c. c.bytes.items) (λ c. c.paid) }
-{
-    match form {
-        Form::Stream => of_frame(alloc, bytes, limits),
-        Form::Packed => of_packed(alloc, bytes, limits),
-        Form::Bare => of_bare(alloc, bytes, limits),
+    fn run<S: Space>(alloc: A, message: &S, limits: Limits) -> Result<Canonical<A>, Refusal> {
+        canonical_of(alloc, message, limits)
     }
 }
 
@@ -134,5 +80,5 @@ pub fn canonicalise<A: Allocator + Copy>(
     let _words = limits.message_words();
     let _budget = limits.budget();
     let _depth = limits.depth();
-    in_form(alloc, form, bytes, limits)
+    read::<CanonicalBytes, A>(alloc, form, bytes, limits)
 }

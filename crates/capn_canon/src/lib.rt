@@ -37,6 +37,7 @@ mod canonical;
 mod canonical_input;
 mod canonical_survey;
 mod form;
+mod input;
 pub mod laws;
 mod message_survey;
 mod objects;

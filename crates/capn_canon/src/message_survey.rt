@@ -9,7 +9,7 @@ ghost use Rattle.capn_canon.specs.Refusal.{IsUnaccepted, IsPaidWithin};
 ghost use Rattle.capn_canon.specs.declared.refusal.Refusal.TheVariants as refusals;
 
 use crate::refusal::Refusal;
-use capn_walk::{Fault, Limits, Surveyed};
+use capn_walk::{Limits, Surveyed};
 use capn_words::Space;
 use std::alloc::Allocator;
 
@@ -35,11 +35,5 @@ pub fn survey<A: Allocator + Copy, S: Space>(
     ensures bounded { MatchResult result (λ s. IsBounded limits.budget s.paid s.visits)
         (λ e. IsPaidWithin limits.budget e) }
 {
-    match capn_walk::survey(alloc, space, limits) {
-        Ok(told) => Ok(told),
-        Err(stopped) => match stopped.fault {
-            Fault::Memory => Err(Refusal::Memory),
-            _ => Err(Refusal::Walk(stopped)),
-        },
-    }
+    Ok(capn_walk::survey(alloc, space, limits)?)
 }

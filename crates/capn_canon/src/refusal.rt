@@ -2,7 +2,8 @@
 
 use capn_pack::UnpackFault;
 use capn_stream::FrameFault;
-use capn_walk::Stopped;
+use capn_value::Memory;
+use capn_walk::{Fault, Stopped};
 use capn_words::BareFault;
 use std::error::Error;
 use std::fmt;
@@ -26,6 +27,67 @@ pub enum Refusal {
     Capability(u32),
     /// A growth was refused.
     Memory,
+}
+
+impl From<BareFault> for Refusal {
+    ghost use Rattle.std.specs.Prelude.{◌≡◌};
+    ghost use Rattle.capn_canon.specs.declared.refusal.Refusal.TheVariants as refusals;
+
+    ghost from_gives = { λ fault e. e ≡ refusals.Bare fault };
+
+    fn from(fault: BareFault) -> Refusal {
+        Refusal::Bare(fault)
+    }
+}
+
+impl From<UnpackFault> for Refusal {
+    ghost use Rattle.capn_canon.specs.RefusalOf.{IsOfPacked};
+
+    ghost from_gives = { IsOfPacked };
+
+    fn from(fault: UnpackFault) -> Refusal {
+        match fault {
+            UnpackFault::Memory => Refusal::Memory,
+            _ => Refusal::Packed(fault),
+        }
+    }
+}
+
+impl From<FrameFault> for Refusal {
+    ghost use Rattle.capn_canon.specs.RefusalOf.{IsOfFrame};
+
+    ghost from_gives = { IsOfFrame };
+
+    fn from(fault: FrameFault) -> Refusal {
+        match fault {
+            FrameFault::Memory => Refusal::Memory,
+            _ => Refusal::Frame(fault),
+        }
+    }
+}
+
+impl From<Stopped> for Refusal {
+    ghost use Rattle.capn_canon.specs.RefusalOf.{IsOfWalk};
+
+    ghost from_gives = { IsOfWalk };
+
+    fn from(stopped: Stopped) -> Refusal {
+        match stopped.fault {
+            Fault::Memory => Refusal::Memory,
+            _ => Refusal::Walk(stopped),
+        }
+    }
+}
+
+impl From<Memory> for Refusal {
+    ghost use Rattle.std.specs.Prelude.{◌≡◌};
+    ghost use Rattle.capn_canon.specs.declared.refusal.Refusal.TheVariants as refusals;
+
+    ghost from_gives = { λ _ e. e ≡ refusals.Memory };
+
+    fn from(_: Memory) -> Refusal {
+        Refusal::Memory
+    }
 }
 
 impl fmt::Display for Refusal {

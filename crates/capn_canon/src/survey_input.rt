@@ -7,79 +7,29 @@ ghost use Rattle.capn_walk.specs.Accepted.{IsBounded};
 ghost use Rattle.capn_canon.specs.Denotes.{Denotes};
 ghost use Rattle.capn_layout.specs.Layout.{canon};
 ghost use Rattle.capn_canon.specs.Refusal.{IsUnacceptedIn, IsPaidWithin};
-ghost use Rattle.capn_canon.specs.inner.Outcomes.{AreSurveyed};
+ghost use Rattle.capn_canon.specs.inner.Outcomes.{IsSurveyed};
 ghost use Rattle.capn_canon.specs.SurveyedBytes.{Surveys};
 ghost use Rattle.capn_canon.specs.MemoryNeed.{MayNeedMemory};
-ghost use Rattle.capn_canon.specs.declared.form.Form.TheVariants as forms;
 ghost use Rattle.capn_canon.specs.declared.refusal.Refusal.TheVariants as refusals;
 
 use crate::form::Form;
+use crate::input::{Task, read};
 use crate::message_survey::survey;
 use crate::refusal::Refusal;
-use capn_pack::{UnpackFault, unpack};
-use capn_stream::{FrameFault, MOST_TABLE_WORDS, first};
 use capn_walk::{Limits, Surveyed};
-use capn_words::Bare;
+use capn_words::Space;
 use std::alloc::Allocator;
 
-/// Of the words of one segment.
-fn of_bare<A: Allocator + Copy>(alloc: A, bytes: &[u8], limits: Limits) -> Result<Surveyed, Refusal>
-    ensures { AreSurveyed forms.Bare bytes.now limits result }
-{
-    match Bare::new(bytes) {
-        Ok(space) => survey(alloc, &space, limits),
-        Err(fault) => Err(Refusal::Bare(fault)),
-    }
-}
+/// A survey of a message.
+struct Survey;
 
-/// Of a frame.
-fn of_frame<A: Allocator + Copy>(
-    alloc: A,
-    bytes: &[u8],
-    limits: Limits,
-) -> Result<Surveyed, Refusal>
-    ensures { AreSurveyed forms.Stream bytes.now limits result }
-{
-    match first(alloc, bytes, limits.message_words()) {
-        Ok((message, taken)) => {
-            if taken < bytes.len() {
-                return Err(Refusal::Trailing(taken as u64));
-            }
-            survey(alloc, &message, limits)
-        }
-        Err(FrameFault::Memory) => Err(Refusal::Memory),
-        Err(fault) => Err(Refusal::Frame(fault)),
-    }
-}
+impl<A: Allocator + Copy> Task<A> for Survey {
+    type Answer = Surveyed;
 
-/// Of the packed text of a frame.
-fn of_packed<A: Allocator + Copy>(
-    alloc: A,
-    bytes: &[u8],
-    limits: Limits,
-) -> Result<Surveyed, Refusal>
-    ensures { AreSurveyed forms.Packed bytes.now limits result }
-{
-    match unpack(alloc, bytes, limits.message_words() + MOST_TABLE_WORDS) {
-        Ok(text) => of_frame(alloc, text.as_slice(), limits),
-        Err(UnpackFault::Memory) => Err(Refusal::Memory),
-        Err(fault) => Err(Refusal::Packed(fault)),
-    }
-}
+    ghost answers = { λ m limits r. IsSurveyed m limits r };
 
-/// In the form that is named.
-fn in_form<A: Allocator + Copy>(
-    alloc: A,
-    form: Form,
-    bytes: &[u8],
-    limits: Limits,
-) -> Result<Surveyed, Refusal>
-    ensures { AreSurveyed form bytes.now limits result }
-{
-    match form {
-        Form::Stream => of_frame(alloc, bytes, limits),
-        Form::Packed => of_packed(alloc, bytes, limits),
-        Form::Bare => of_bare(alloc, bytes, limits),
+    fn run<S: Space>(alloc: A, message: &S, limits: Limits) -> Result<Surveyed, Refusal> {
+        survey(alloc, message, limits)
     }
 }
 
@@ -113,5 +63,5 @@ pub fn survey_bytes<A: Allocator + Copy>(
     let _words = limits.message_words();
     let _budget = limits.budget();
     let _depth = limits.depth();
-    in_form(alloc, form, bytes, limits)
+    read::<Survey, A>(alloc, form, bytes, limits)
 }

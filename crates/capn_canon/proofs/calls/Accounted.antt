@@ -1,47 +1,45 @@
--- What a survey of bytes reports holds of their packed text, and of any value that the bytes denote.
-use Rattle.std.proofs.Common.{◌≡◌, ℕ, ◌+◌, ◌*◌, ◌^◌, ◌≤◌, List, length, ap, arith, ◌∙◌, Result, Ok, Err, MatchResult}
-use Rattle.std.proofs.Common.{IfOk, IfErr}
+-- What a survey of a message reports is so of the bytes that are read as it, and of any value that they denote.
+use Rattle.std.proofs.Common.{◌≡◌, ℕ, ◌+◌, ◌*◌, ◌^◌, ◌<◌, ◌≤◌, List, length, ap, arith, ◌∙◌, Result, Ok, Err}
+use Rattle.std.proofs.Common.{IfOk, IfErr, MatchResult}
 use Rattle.std.proofs.lemmas.Result.{IfOk-weaker, IfErr-weaker}
 use Rattle.capn_value.specs.Tree.{Tree}
 use Rattle.capn_value.specs.FirstCap.{first_cap}
 use Rattle.capn_walk.specs.declared.survey_answer.Surveyed.{Surveyed}
 use Rattle.capn_walk.specs.Limits.{Bounds}
 use Rattle.capn_canon.specs.declared.form.Form.{Form}
-use Rattle.capn_canon.specs.declared.form.Form.TheVariants as forms
 use Rattle.capn_canon.specs.declared.refusal.Refusal.{Refusal}
 use Rattle.capn_canon.specs.declared.refusal.Refusal.TheVariants as refusals
-use Rattle.capn_canon.specs.Reads.{Unpacks}
+use Rattle.capn_canon.specs.Reads.{Reads}
 use Rattle.capn_canon.specs.Denotes.{Denotes}
-use Rattle.capn_canon.specs.Refusal.{IsUnacceptedIn}
-use Rattle.capn_canon.specs.inner.Outcomes.{AreSurveyed}
+use Rattle.capn_canon.specs.Refusal.{IsUnaccepted, IsUnacceptedIn}
+use Rattle.capn_canon.specs.inner.Outcomes.{AreSurveyed, IsSurveyed}
 use Rattle.capn_canon.specs.SurveyedBytes.{Surveys}
+use Rattle.capn_canon.specs.MemoryNeed.{MayNeedMemory}
 use Rattle.capn_canon.proofs.shared.OneReading.{one_value, is_message}
 use Rattle.capn_canon.proofs.shared.NotUnaccepted.{not_unaccepted}
 use Rattle.capn_layout.specs.Layout.{canon}
 use Rattle.capn_canon.proofs.calls.Answered.{denoted_here}
 use Rattle.capn_canon.proofs.theorem.Headline.{denoted_length}
-use Rattle.capn_canon.proofs.calls.InEachForm.{packed_refused}
-use Rattle.capn_canon.proofs.calls.MemoryNeeds.{packed_wanted}
 
-packed_unaccepted : (bs text : List ℕ) (limits : Bounds) (r : Refusal) → Unpacks bs limits.message_words text
-    → IsUnacceptedIn forms.Stream text limits r → IsUnacceptedIn forms.Packed bs limits r
-packed_unaccepted bs text limits (refusals.Walk s) u h = packed_refused bs text limits (refusals.Walk s) u h
-packed_unaccepted bs text limits (refusals.Capability k) u h = h
-packed_unaccepted bs text limits refusals.Memory u h = tt
-packed_unaccepted bs text limits (refusals.Frame e) u h = packed_refused bs text limits (refusals.Frame e) u h
-packed_unaccepted bs text limits (refusals.Trailing at) u h = packed_refused bs text limits (refusals.Trailing at) u h
-packed_unaccepted bs text limits (refusals.Bare e) u h = packed_refused bs text limits (refusals.Bare e) u h
-packed_unaccepted bs text limits (refusals.Packed e) u h = packed_refused bs text limits (refusals.Packed e) u h
+-- why a message is not accepted is why the bytes are not that are read as it
+unaccepted_as : (form : Form) (bs : List ℕ) (limits : Bounds) (m : List (List ℕ)) → Reads form bs limits.message_words m
+    → (e : Refusal) → IsUnaccepted m limits e → IsUnacceptedIn form bs limits e
+unaccepted_as form bs limits m is (refusals.Walk s) h = (m, is, h)
+unaccepted_as form bs limits m is refusals.Memory h = tt
+unaccepted_as form bs limits m is (refusals.Capability k) h = absurd h
+unaccepted_as form bs limits m is (refusals.Frame e) h = absurd h
+unaccepted_as form bs limits m is (refusals.Trailing at) h = absurd h
+unaccepted_as form bs limits m is (refusals.Bare e) h = absurd h
+unaccepted_as form bs limits m is (refusals.Packed e) h = absurd h
 
--- what a call answers or refuses of an unpacked frame holds of its packed text
-pub packed_surveyed : (r : Result Surveyed Refusal) (bs text : List ℕ) (limits : Bounds)
-    → Unpacks bs limits.message_words text →
-    AreSurveyed forms.Stream text limits r → AreSurveyed forms.Packed bs limits r
-packed_surveyed r bs text limits u h = record {
-  found = IfOk-weaker r _ _ (λ s a. record { message = a.message; reads = (text, u, a.reads); survey = a.survey })
-      h.found;
-  refused = IfErr-weaker r _ _ (λ e. packed_unaccepted bs text limits e u) h.refused;
-  wanted = λ e. packed_wanted bs text limits u (h.wanted e);
+-- what a survey reports of a message is so for the bytes that are read as it
+pub surveyed_as : (r : Result Surveyed Refusal) (form : Form) (bs : List ℕ) (limits : Bounds) (m : List (List ℕ))
+    → Reads form bs limits.message_words m → (64 < limits.depth → MayNeedMemory form bs limits)
+    → IsSurveyed m limits r → AreSurveyed form bs limits r
+surveyed_as r form bs limits m is want h = record {
+  found = IfOk-weaker r _ _ (λ s x. record { message = m; reads = is; survey = x }) h.found;
+  refused = IfErr-weaker r _ _ (unaccepted_as form bs limits m is) h.refused;
+  wanted = λ x. want (h.wanted x);
   bounded = h.bounded;
 }
 

@@ -13,7 +13,7 @@ use Rattle.capn_canon.specs.declared.form.Form.TheVariants as forms
 use Rattle.capn_canon.specs.declared.refusal.Refusal.{Refusal}
 use Rattle.capn_canon.specs.declared.refusal.Refusal.TheVariants as refusals
 use Rattle.capn_layout.specs.Layout.{canon}
-use Rattle.capn_canon.specs.Reads.{IsFramed, Unpacks, Reads}
+use Rattle.capn_canon.specs.Reads.{IsFramed, Reads}
 use Rattle.capn_canon.specs.Denotes.{Denotes, AnswersMessage, Answers}
 use Rattle.capn_canon.specs.Refusal.{IsRefusedMessage, IsRefused, IsPaidWithin}
 use Rattle.capn_canon.specs.MemoryNeed.{MayNeedBytes, MayNeedBytesIn}
@@ -21,7 +21,6 @@ use Rattle.capn_canon.specs.Canonicity.{IsCanonicalForm}
 use Rattle.capn_canon.specs.inner.Outcomes.{AreCanonicalised}
 use Rattle.capn_canon.proofs.calls.Answered.{answers_only, answers_length, answers_form}
 use Rattle.capn_canon.proofs.shared.NotRefused.{not_refused}
-use Rattle.capn_canon.proofs.calls.MemoryNeeds.{packed_bytes_wanted}
 
 -- the words of bare bytes are read
 pub bare_reads : (bs ws : List ℕ) (most : ℕ) → IsBare bs ws → Reads forms.Bare bs most (ws ∷ [])
@@ -34,17 +33,6 @@ frame_reads bs most m taken h l =
     let e : taken ≡ length bs = let i = h.inside in omega arith in
     let all : take taken bs ≡ bs = ap (λ (n : ℕ). take n bs) e ∙ take-length bs in
     record { frame = subst (λ (xs : List ℕ). Frames xs m) all h.frame; room = h.room }
-
--- what is refused for an unpacked frame is refused for its packed text
-pub packed_refused : (bs text : List ℕ) (limits : Bounds) (r : Refusal) → Unpacks bs limits.message_words text
-    → IsRefused forms.Stream text limits r → IsRefused forms.Packed bs limits r
-packed_refused bs text limits (refusals.Walk s) u (m, i, h) = (m, (text, u, i), h)
-packed_refused bs text limits (refusals.Capability k) u (m, i, h) = (m, (text, u, i), h)
-packed_refused bs text limits refusals.Memory u h = tt
-packed_refused bs text limits (refusals.Frame e) u h = (text, u, h)
-packed_refused bs text limits (refusals.Trailing at) u h = (text, u, h)
-packed_refused bs text limits (refusals.Bare e) u h = absurd h
-packed_refused bs text limits (refusals.Packed e) u h = absurd h
 
 -- why a message is refused is why the bytes are that are read as it
 refused_as : (form : Form) (bs : List ℕ) (limits : Bounds) (m : List (List ℕ)) → Reads form bs limits.message_words m
@@ -59,7 +47,7 @@ refused_as form bs limits m is (refusals.Packed e) h = absurd h
 
 -- ---- results of calls
 
--- what a call answers or refuses for a message is so for the bytes that are read as it,
+-- what a call answers or refuses for a message is so for the bytes that are read as it
 pub canonicalised_as : {T : Type 0} (r : Result T Refusal) (bytes_of : T → List ℕ) (price_of : T → ℕ) (form : Form)
     (bs : List ℕ) (limits : Bounds) (m : List (List ℕ)) → Reads form bs limits.message_words m
     → (MayNeedBytes m limits → MayNeedBytesIn form bs limits)
@@ -72,19 +60,6 @@ canonicalised_as r bytes_of price_of form bs limits m is want f e w b = record {
   refused = IfErr-weaker r _ _ (refused_as form bs limits m is) e;
   wanted = λ x. want (w x);
   bounded = b;
-}
-
--- and what one does for an unpacked frame is so for its packed text
-pub packed_canonicalised : {T : Type 0} (r : Result T Refusal) (bytes_of : T → List ℕ) (price_of : T → ℕ)
-    (bs text : List ℕ) (limits : Bounds) → Unpacks bs limits.message_words text →
-    AreCanonicalised forms.Stream text limits r bytes_of price_of
-    → AreCanonicalised forms.Packed bs limits r bytes_of price_of
-packed_canonicalised r bytes_of price_of bs text limits u h = record {
-  found = IfOk-weaker r _ _ (λ c a. record { message = a.message; reads = (text, u, a.reads); answer = a.answer })
-      h.found;
-  refused = IfErr-weaker r _ _ (λ e. packed_refused bs text limits e u) h.refused;
-  wanted = λ e. packed_bytes_wanted bs text limits u (h.wanted e);
-  bounded = h.bounded;
 }
 
 -- a call that answers and refuses so answers the canonical bytes of any value without capabilities that the bytes

@@ -10,6 +10,7 @@ use Rattle.capn_pack.proofs.shared.GroupLemmas.{length_content}
 use Rattle.capn_stream.specs.Frames.{most_table_words}
 use Rattle.capn_stream.proofs.shared.FrameLaws.{stands_alone, whole_of}
 use Rattle.capn_walk.specs.Limits.{Bounds}
+use Rattle.capn_canon.specs.declared.form.Form.{Form}
 use Rattle.capn_canon.specs.declared.form.Form.TheVariants as forms
 use Rattle.capn_canon.specs.declared.refusal.Refusal.{Refusal}
 use Rattle.capn_canon.specs.declared.refusal.Refusal.TheVariants as refusals
@@ -54,24 +55,24 @@ pub packed_wanted : (bs text : List ℕ) (limits : Bounds) → Unpacks bs limits
 packed_wanted bs text limits u h =
     starts_within bs text (limits.message_words + most_table_words) u.packs (wanted_some text limits h) u.room
 
+-- what is needed to survey a message is needed for the bytes that are read as it
+pub memory_wanted : (form : Form) (bs : List ℕ) (limits : Bounds) (m : List (List ℕ))
+    → Reads form bs limits.message_words m → 64 < limits.depth → MayNeedMemory form bs limits
+memory_wanted forms.Bare bs limits m r d = (d, m, r)
+memory_wanted forms.Stream bs limits m r d = inr (d, m, r)
+memory_wanted forms.Packed bs limits m (text, u, r) d = packed_wanted bs text limits u (inr (d, m, r))
+
 -- ---- canonical bytes
 
--- what is needed for a message is needed for the bytes that are read bare as it,
-pub bare_bytes_wanted : (bs : List ℕ) (limits : Bounds) (m : List (List ℕ)) → Reads forms.Bare bs limits.message_words m
-    → MayNeedBytes m limits → MayNeedBytesIn forms.Bare bs limits
-bare_bytes_wanted bs limits m r (inl d) = inl (d, m, r)
-bare_bytes_wanted bs limits m r (inr (v, is, free)) = inr (v, record { message = m; reads = r; value = is }, free)
-
--- or as its frame,
-pub framed_bytes_wanted : (bs : List ℕ) (limits : Bounds) (m : List (List ℕ))
-    → Reads forms.Stream bs limits.message_words m
-    → MayNeedBytes m limits → MayNeedBytesIn forms.Stream bs limits
-framed_bytes_wanted bs limits m r (inl d) = inl (inr (d, m, r))
-framed_bytes_wanted bs limits m r (inr (v, is, free)) = inr (v, record { message = m; reads = r; value = is }, free)
-
--- and of a packed text where it is of what it unpacks to
-pub packed_bytes_wanted : (bs text : List ℕ) (limits : Bounds) → Unpacks bs limits.message_words text
-    → MayNeedBytesIn forms.Stream text limits → MayNeedBytesIn forms.Packed bs limits
-packed_bytes_wanted bs text limits u (inl h) = inl (packed_wanted bs text limits u h)
-packed_bytes_wanted bs text limits u (inr (v, d, free)) =
-    inr (v, record { message = d.message; reads = (text, u, d.reads); value = d.value }, free)
+-- what is needed for a message is needed for the bytes that are read as it
+pub bytes_wanted : (form : Form) (bs : List ℕ) (limits : Bounds) (m : List (List ℕ))
+    → Reads form bs limits.message_words m → MayNeedBytes m limits → MayNeedBytesIn form bs limits
+bytes_wanted forms.Bare bs limits m r (inl d) = inl (d, m, r)
+bytes_wanted forms.Bare bs limits m r (inr (v, is, free)) =
+    inr (v, record { message = m; reads = r; value = is }, free)
+bytes_wanted forms.Stream bs limits m r (inl d) = inl (inr (d, m, r))
+bytes_wanted forms.Stream bs limits m r (inr (v, is, free)) =
+    inr (v, record { message = m; reads = r; value = is }, free)
+bytes_wanted forms.Packed bs limits m r (inl d) = inl (memory_wanted forms.Packed bs limits m r d)
+bytes_wanted forms.Packed bs limits m r (inr (v, is, free)) =
+    inr (v, record { message = m; reads = r; value = is }, free)

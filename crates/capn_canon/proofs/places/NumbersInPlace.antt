@@ -1,6 +1,6 @@
 -- A list of numbers that stands where its layout has it.
 use Rattle.std.proofs.Common.{◌≡◌, ℕ, zero, suc, ◌+◌, ◌*◌, ◌^◌, ◌<◌, ◌≤◌, List, [], ◌∷◌, length, take}
-use Rattle.std.proofs.Common.{drop, slice_index, None, Ok, refl, ap, sym, ◌∙◌, arith, length-drop}
+use Rattle.std.proofs.Common.{drop, slice_index, None, Ok, refl, ap, sym, arith, length-drop}
 use Rattle.std.proofs.lemmas.List.{length-take-le}
 use Rattle.capn_words.specs.Message.{IsMessage}
 use Rattle.capn_words.specs.declared.pointer.Width.{Width}

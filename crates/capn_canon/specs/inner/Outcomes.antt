@@ -1,17 +1,19 @@
 -- What private calls answer and refuse, of a message and of bytes in a form.
-use Rattle.std.specs.Prelude.{◌≡◌, ℕ, ◌≤◌, List, None, Result, IfOk, IfErr, IsErrOf, MatchResult}
+use Rattle.std.specs.Prelude.{◌≡◌, ◌⊎◌, ℕ, ◌<◌, ◌≤◌, List, None, Result, Err, IfOk, IfErr, IsErrOf, MatchResult}
 use Rattle.capn_value.specs.Tree.{Tree}
 use Rattle.capn_value.specs.FirstCap.{first_cap}
 use Rattle.capn_walk.specs.Accepted.{IsValueOf, IsBounded}
 use Rattle.capn_walk.specs.declared.survey_answer.Surveyed.{Surveyed}
+use Rattle.capn_walk.specs.Surveyed.{IsSurvey}
 use Rattle.capn_walk.specs.Limits.{Bounds}
 use Rattle.capn_canon.specs.declared.form.Form.{Form}
 use Rattle.capn_canon.specs.declared.refusal.Refusal.{Refusal}
 use Rattle.capn_canon.specs.declared.refusal.Refusal.TheVariants as refusals
 use Rattle.capn_layout.specs.Layout.{canon}
+use Rattle.capn_canon.specs.Reads.{Reads}
 use Rattle.capn_canon.specs.Denotes.{AnswersMessage, Answers}
 use Rattle.capn_canon.specs.SurveyedBytes.{Surveys}
-use Rattle.capn_canon.specs.Refusal.{IsRefusedMessage, IsRefused, IsUnacceptedIn, IsPaidWithin}
+use Rattle.capn_canon.specs.Refusal.{IsMisread, IsRefusedMessage, IsRefused, IsUnaccepted, IsUnacceptedIn, IsPaidWithin}
 use Rattle.capn_canon.specs.MemoryNeed.{MayNeedMemory, MayNeedBytes, MayNeedBytesIn}
 
 -- what a call reports of a message is its answer or why it has none, memory is needed only where it may be, and no walk
@@ -41,3 +43,23 @@ pub record AreSurveyed (form : Form) (bs : List ℕ) (limits : Bounds) (r : Resu
   pub refused : IfErr r (λ e. IsUnacceptedIn form bs limits e)
   pub wanted : IsErrOf r refusals.Memory → MayNeedMemory form bs limits
   pub bounded : MatchResult r (λ s. IsBounded limits.budget s.paid s.visits) (λ e. IsPaidWithin limits.budget e)
+
+-- what a call reports of a message is a survey of it or why it isn't accepted, memory is needed only for a depth above
+-- 64, and no walk pays beyond its budget
+pub record IsSurveyed (message : List (List ℕ)) (limits : Bounds) (r : Result Surveyed Refusal) : Type 0 where
+  pub found : IfOk r (λ s. IsSurvey message limits s)
+  pub refused : IfErr r (λ e. IsUnaccepted message limits e)
+  pub wanted : IsErrOf r refusals.Memory → 64 < limits.depth
+  pub bounded : MatchResult r (λ s. IsBounded limits.budget s.paid s.visits) (λ e. IsPaidWithin limits.budget e)
+
+-- the bytes are not read, or memory may be needed for that
+abbrev pub IsUnread : Form → List ℕ → Bounds → Refusal → Type 0
+IsUnread form bs limits refusals.Memory = MayNeedMemory form bs limits
+IsUnread form bs limits e = IsMisread form bs limits.message_words e
+
+-- the bytes are read as a message of which this is reported, or they are refused since they are not read
+abbrev pub IsAnswered : {T : Type 0} → Form → List ℕ → Bounds
+    → (List (List ℕ) → Bounds → Result T Refusal → Type 0) → Result T Refusal → Type 0
+IsAnswered form bs limits answers r =
+    ((message : List (List ℕ)) × Reads form bs limits.message_words message × answers message limits r)
+    ⊎ ((e : Refusal) × (r ≡ Err e) × IsUnread form bs limits e)

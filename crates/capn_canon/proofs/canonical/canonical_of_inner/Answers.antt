@@ -7,6 +7,6 @@ use Rattle.capn_canon.proofs.canonical.canonical_of_inner.Goals as goal
 pub surveyed_layout-requires : goal.surveyed_layout-requires
 surveyed_layout-requires g c =
     let m = g.S.Space.message c.args.space.now in
-    let f = c.in-Ok.ensures.found in
+    let f = c.in_ok-surveyed.ensures.found in
     subst (λ (d : ℕ). IsReady (HasSlot m) 0 0 d 1) (sym c.depth-depth.ensures.value)
     (root-ready m c.args.limits f.value c.segments-segments.ensures.bounds (omega arith) (omega arith) f.is)

@@ -1,58 +1,89 @@
 -- The clauses on the bytes follow from what is answered and refused, by the laws of canonical forms.
 use Rattle.std.proofs.Common.{arith}
 use Rattle.capn_canon.proofs.calls.InEachForm.{found_only, found_short, found_form}
+use Rattle.capn_canon.proofs.calls.ReadInput.{canonicalised}
 use Rattle.std.proofs.lemmas.Result.{IfOk-weaker}
 use Rattle.capn_canon.proofs.theorem.TheTheorem.{answered, equal_exactly, own_form, within_budget}
 use Rattle.capn_canon.proofs.canonical_input.canonicalise.Goals as goal
 
+pub returns-clause-found : goal.returns-clause-found
+returns-clause-found g c =
+    let told = canonicalised c.args.form c.args.bytes.now c.args.limits c.read.result _ _ c.read.ensures in
+    told.found
+
+pub returns-clause-refused : goal.returns-clause-refused
+returns-clause-refused g c =
+    let told = canonicalised c.args.form c.args.bytes.now c.args.limits c.read.result _ _ c.read.ensures in
+    told.refused
+
+pub returns-clause-memory : goal.returns-clause-memory
+returns-clause-memory g c =
+    let told = canonicalised c.args.form c.args.bytes.now c.args.limits c.read.result _ _ c.read.ensures in
+    told.wanted
+
+pub returns-clause-bounded : goal.returns-clause-bounded
+returns-clause-bounded g c =
+    let told = canonicalised c.args.form c.args.bytes.now c.args.limits c.read.result _ _ c.read.ensures in
+    told.bounded
+
 pub returns-clause-only : goal.returns-clause-only
 returns-clause-only g c =
-    found_only c.in_form.result _ _ c.args.form c.args.bytes.now c.args.limits c.in_form.ensures.found
-    c.in_form.ensures.refused
+    let told = canonicalised c.args.form c.args.bytes.now c.args.limits c.read.result _ _ c.read.ensures in
+    found_only c.read.result _ _ c.args.form c.args.bytes.now c.args.limits told.found
+    told.refused
 
 pub returns-clause-short : goal.returns-clause-short
 returns-clause-short g c =
-    found_short c.in_form.result _ _ c.args.form c.args.bytes.now c.args.limits (omega arith) (omega arith)
-    (omega arith) c.in_form.ensures.found
+    let told = canonicalised c.args.form c.args.bytes.now c.args.limits c.read.result _ _ c.read.ensures in
+    found_short c.read.result _ _ c.args.form c.args.bytes.now c.args.limits (omega arith) (omega arith)
+    (omega arith) told.found
 
 pub returns-clause-reads_back : goal.returns-clause-reads_back
 returns-clause-reads_back g c =
-    found_form c.in_form.result _ _ c.args.form c.args.bytes.now c.args.limits _ (λ r v h. h.reads_back) (omega arith)
-    (omega arith) (omega arith) c.in_form.ensures.found
+    let told = canonicalised c.args.form c.args.bytes.now c.args.limits c.read.result _ _ c.read.ensures in
+    found_form c.read.result _ _ c.args.form c.args.bytes.now c.args.limits _ (λ r v h. h.reads_back) (omega arith)
+    (omega arith) (omega arith) told.found
 
 pub returns-clause-pays : goal.returns-clause-pays
 returns-clause-pays g c =
-    found_form c.in_form.result _ _ c.args.form c.args.bytes.now c.args.limits _ (λ r v h. h.pays) (omega arith)
-    (omega arith) (omega arith) c.in_form.ensures.found
+    let told = canonicalised c.args.form c.args.bytes.now c.args.limits c.read.result _ _ c.read.ensures in
+    found_form c.read.result _ _ c.args.form c.args.bytes.now c.args.limits _ (λ r v h. h.pays) (omega arith)
+    (omega arith) (omega arith) told.found
 
 pub returns-clause-own : goal.returns-clause-own
 returns-clause-own g c =
-    found_form c.in_form.result _ _ c.args.form c.args.bytes.now c.args.limits _ (λ r v h. h.own) (omega arith)
-    (omega arith) (omega arith) c.in_form.ensures.found
+    let told = canonicalised c.args.form c.args.bytes.now c.args.limits c.read.result _ _ c.read.ensures in
+    found_form c.read.result _ _ c.args.form c.args.bytes.now c.args.limits _ (λ r v h. h.own) (omega arith)
+    (omega arith) (omega arith) told.found
 
 pub returns-clause-exactly : goal.returns-clause-exactly
 returns-clause-exactly g c =
-    found_form c.in_form.result _ _ c.args.form c.args.bytes.now c.args.limits _ (λ r v h. h.exactly) (omega arith)
-    (omega arith) (omega arith) c.in_form.ensures.found
+    let told = canonicalised c.args.form c.args.bytes.now c.args.limits c.read.result _ _ c.read.ensures in
+    found_form c.read.result _ _ c.args.form c.args.bytes.now c.args.limits _ (λ r v h. h.exactly) (omega arith)
+    (omega arith) (omega arith) told.found
 
 pub returns-clause-answered : goal.returns-clause-answered
 returns-clause-answered g c =
-    answered c.args.form c.args.bytes.now c.args.limits c.in_form.result c.in_form.ensures.found
-    c.in_form.ensures.refused
+    let told = canonicalised c.args.form c.args.bytes.now c.args.limits c.read.result _ _ c.read.ensures in
+    answered c.args.form c.args.bytes.now c.args.limits c.read.result told.found
+    told.refused
 
 pub returns-clause-equal : goal.returns-clause-equal
 returns-clause-equal g c =
-    IfOk-weaker c.in_form.result _ _
+    let told = canonicalised c.args.form c.args.bytes.now c.args.limits c.read.result _ _ c.read.ensures in
+    IfOk-weaker c.read.result _ _
     (λ x h. equal_exactly c.args.form c.args.bytes.now c.args.limits (omega arith) (omega arith) (omega arith) _ _ h)
-    c.in_form.ensures.found
+    told.found
 
 pub returns-clause-second : goal.returns-clause-second
 returns-clause-second g c =
-    IfOk-weaker c.in_form.result _ _
+    let told = canonicalised c.args.form c.args.bytes.now c.args.limits c.read.result _ _ c.read.ensures in
+    IfOk-weaker c.read.result _ _
     (λ x h. own_form c.args.form c.args.bytes.now c.args.limits (omega arith) (omega arith) (omega arith) x h)
-    c.in_form.ensures.found
+    told.found
 
 pub returns-clause-within : goal.returns-clause-within
 returns-clause-within g c =
-    within_budget c.args.form c.args.bytes.now c.args.limits c.in_form.result c.in_form.ensures.found
-    c.in_form.ensures.refused
+    let told = canonicalised c.args.form c.args.bytes.now c.args.limits c.read.result _ _ c.read.ensures in
+    within_budget c.args.form c.args.bytes.now c.args.limits c.read.result told.found
+    told.refused

@@ -1,4 +1,4 @@
-use Rattle.std.proofs.Common.{ℕ, ◌-◌, ◌<◌, [], ◌∷◌, length, true, None, refl, ap, sym, subst, ◌∙◌, arith, not, nat_eq}
+use Rattle.std.proofs.Common.{ℕ, ◌-◌, ◌<◌, [], ◌∷◌, length, None, refl, ap, sym, subst, ◌∙◌, arith, not, nat_eq}
 use Rattle.std.proofs.Common.{◌≡◌, IsTrue}
 use Rattle.std.proofs.lemmas.Bool.Decides.{nat_tests}
 use Rattle.capn_value.specs.Cost.{base}

@@ -1,14 +1,32 @@
 -- A survey of bytes speaks of the one value that they denote.
 use Rattle.std.proofs.Common.{arith}
 use Rattle.capn_canon.proofs.calls.Accounted.{surveyed_only, surveyed_short}
+use Rattle.capn_canon.proofs.calls.ReadInput.{surveyed}
 use Rattle.capn_canon.proofs.survey_input.survey_bytes.Goals as goal
+
+pub returns-clause-found : goal.returns-clause-found
+returns-clause-found g c =
+    (surveyed c.args.form c.args.bytes.now c.args.limits c.read.result c.read.ensures).found
+
+pub returns-clause-refused : goal.returns-clause-refused
+returns-clause-refused g c =
+    (surveyed c.args.form c.args.bytes.now c.args.limits c.read.result c.read.ensures).refused
+
+pub returns-clause-memory : goal.returns-clause-memory
+returns-clause-memory g c =
+    (surveyed c.args.form c.args.bytes.now c.args.limits c.read.result c.read.ensures).wanted
+
+pub returns-clause-bounded : goal.returns-clause-bounded
+returns-clause-bounded g c =
+    (surveyed c.args.form c.args.bytes.now c.args.limits c.read.result c.read.ensures).bounded
 
 pub returns-clause-only : goal.returns-clause-only
 returns-clause-only g c =
-    surveyed_only c.in_form.result c.args.form c.args.bytes.now c.args.limits c.in_form.ensures.found
-    c.in_form.ensures.refused
+    let told = surveyed c.args.form c.args.bytes.now c.args.limits c.read.result c.read.ensures in
+    surveyed_only c.read.result c.args.form c.args.bytes.now c.args.limits told.found told.refused
 
 pub returns-clause-short : goal.returns-clause-short
 returns-clause-short g c =
-    surveyed_short c.in_form.result c.args.form c.args.bytes.now c.args.limits (omega arith) (omega arith) (omega arith)
-    c.in_form.ensures.found
+    let told = surveyed c.args.form c.args.bytes.now c.args.limits c.read.result c.read.ensures in
+    surveyed_short c.read.result c.args.form c.args.bytes.now c.args.limits (omega arith) (omega arith) (omega arith)
+    told.found

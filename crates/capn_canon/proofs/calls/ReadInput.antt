@@ -1,0 +1,153 @@
+-- What is reported of a message is so of bytes that are read as it, and what is not read is refused.
+use Rattle.std.proofs.Common.{◌≡◌, ℕ, ◌+◌, ◌≤◌, inl, inr, List, refl, sym, subst, Result, Ok, Err, IfOk, IfErr}
+use Rattle.std.proofs.Common.{IsErrAnd, IsErrOf, MatchResult}
+use Rattle.capn_words.specs.Message.{ReadsBare}
+use Rattle.capn_words.specs.declared.bare.BareFault.{BareFault}
+use Rattle.capn_pack.specs.UnpackRefusal.{IsUnpackRefused, StartsWithin}
+use Rattle.capn_pack.specs.declared.fault.UnpackFault.{UnpackFault}
+use Rattle.capn_pack.specs.declared.fault.UnpackFault.TheVariants as unpack_faults
+use Rattle.capn_stream.specs.Frames.{most_table_words}
+use Rattle.capn_stream.specs.FrameRefusal.{HasTable, IsFrameRefused}
+use Rattle.capn_stream.specs.declared.fault.FrameFault.{FrameFault}
+use Rattle.capn_stream.specs.declared.fault.FrameFault.TheVariants as frame_faults
+use Rattle.capn_walk.specs.Accepted.{IsBounded}
+use Rattle.capn_walk.specs.Limits.{Bounds}
+use Rattle.capn_walk.specs.declared.survey_answer.Surveyed.{Surveyed}
+use Rattle.capn_canon.specs.declared.form.Form.{Form}
+use Rattle.capn_canon.specs.declared.form.Form.TheVariants as forms
+use Rattle.capn_canon.specs.declared.refusal.Refusal.{Refusal}
+use Rattle.capn_canon.specs.declared.refusal.Refusal.TheVariants as refusals
+use Rattle.capn_canon.specs.Reads.{Unpacks}
+use Rattle.capn_canon.specs.Denotes.{Answers}
+use Rattle.capn_canon.specs.SurveyedBytes.{Surveys}
+use Rattle.capn_canon.specs.RefusalOf.{IsOfFrame, IsOfPacked}
+use Rattle.capn_canon.specs.Refusal.{IsRefused, IsUnacceptedIn, IsPaidWithin}
+use Rattle.capn_canon.specs.MemoryNeed.{MayNeedMemory}
+use Rattle.capn_canon.specs.inner.Outcomes.{AreCanonicalised, AreSurveyed, IsAnswered, IsCanonicalised, IsSurveyed}
+use Rattle.capn_canon.specs.inner.Outcomes.{IsUnread}
+use Rattle.capn_canon.proofs.calls.Accounted.{surveyed_as}
+use Rattle.capn_canon.proofs.calls.InEachForm.{canonicalised_as}
+use Rattle.capn_canon.proofs.calls.MemoryNeeds.{bytes_wanted, memory_wanted, packed_wanted}
+
+-- ---- bytes that are not read
+
+unread_so : (bs text : List ℕ) (limits : Bounds) (e : Refusal) → Unpacks bs limits.message_words text
+    → IsUnread forms.Stream text limits e → IsUnread forms.Packed bs limits e
+unread_so bs text limits refusals.Memory u h = packed_wanted bs text limits u h
+unread_so bs text limits (refusals.Frame e) u h = (text, u, h)
+unread_so bs text limits (refusals.Trailing at) u h = (text, u, h)
+unread_so bs text limits (refusals.Bare e) u h = absurd h
+unread_so bs text limits (refusals.Packed e) u h = absurd h
+unread_so bs text limits (refusals.Walk s) u h = absurd h
+unread_so bs text limits (refusals.Capability k) u h = absurd h
+
+-- no walk comes before the bytes are read,
+no-walk : (form : Form) (bs : List ℕ) (limits : Bounds) (e : Refusal) → IsUnread form bs limits e
+    → IsUnacceptedIn form bs limits e × IsPaidWithin limits.budget e
+no-walk form bs limits refusals.Memory h = (tt, tt)
+no-walk form bs limits (refusals.Frame e) h = (h, tt)
+no-walk form bs limits (refusals.Trailing at) h = (h, tt)
+no-walk form bs limits (refusals.Bare e) h = (h, tt)
+no-walk form bs limits (refusals.Packed e) h = (h, tt)
+no-walk forms.Bare bs limits (refusals.Walk s) h = absurd h
+no-walk forms.Stream bs limits (refusals.Walk s) h = absurd h
+no-walk forms.Packed bs limits (refusals.Walk s) h = absurd h.2
+no-walk forms.Bare bs limits (refusals.Capability k) h = absurd h
+no-walk forms.Stream bs limits (refusals.Capability k) h = absurd h
+no-walk forms.Packed bs limits (refusals.Capability k) h = absurd h.2
+
+-- what is not accepted is refused,
+refused-in : (form : Form) (bs : List ℕ) (limits : Bounds) (e : Refusal) → IsUnacceptedIn form bs limits e
+    → IsRefused form bs limits e
+refused-in form bs limits refusals.Memory h = tt
+refused-in form bs limits (refusals.Frame e) h = h
+refused-in form bs limits (refusals.Trailing at) h = h
+refused-in form bs limits (refusals.Bare e) h = h
+refused-in form bs limits (refusals.Packed e) h = h
+refused-in form bs limits (refusals.Walk s) h = h
+refused-in form bs limits (refusals.Capability k) h = absurd h
+
+-- and where memory was needed, it may be
+wanted-unread : {T : Type 0} (form : Form) (bs : List ℕ) (limits : Bounds) (e : Refusal) → IsUnread form bs limits e
+    → (r : Result T Refusal) → r ≡ Err e → IsErrOf r refusals.Memory → MayNeedMemory form bs limits
+wanted-unread form bs limits refusals.Memory h r is w = h
+wanted-unread form bs limits (refusals.Frame e) h r is w = absurd cc
+wanted-unread form bs limits (refusals.Trailing at) h r is w = absurd cc
+wanted-unread form bs limits (refusals.Bare e) h r is w = absurd cc
+wanted-unread form bs limits (refusals.Packed e) h r is w = absurd cc
+wanted-unread form bs limits (refusals.Walk s) h r is w = absurd cc
+wanted-unread form bs limits (refusals.Capability k) h r is w = absurd cc
+
+-- ---- faults of the steps
+
+module _ {T : Type 0} (answers : List (List ℕ) → Bounds → Result T Refusal → Type 0) (bs : List ℕ)
+    (limits : Bounds) where
+  -- of bare words,
+  pub bare_unread : (r : Result T Refusal) (f : BareFault) → IsErrAnd r (λ e. e ≡ refusals.Bare f)
+      → ReadsBare bs (Err f) → IsAnswered forms.Bare bs limits answers r
+  bare_unread (Ok x) f is h = absurd is
+  bare_unread (Err e) f is h =
+      inr (e, refl, subst (λ (x : Refusal). IsUnread forms.Bare bs limits x) (sym is) h)
+
+  -- of a frame,
+  pub frame_unread : (r : Result T Refusal) (f : FrameFault) → IsErrAnd r (IsOfFrame f)
+      → IsFrameRefused bs limits.message_words f → (f ≡ frame_faults.Memory → HasTable bs limits.message_words)
+      → IsAnswered forms.Stream bs limits answers r
+  frame_unread (Ok x) f is h m = absurd is
+  frame_unread (Err e) f (inl (memory, is)) h m =
+      inr (e, refl, subst (λ (x : Refusal). IsUnread forms.Stream bs limits x) (sym is) (inl (m memory)))
+  frame_unread (Err e) f (inr (other, is)) h m =
+      inr (e, refl, subst (λ (x : Refusal). IsUnread forms.Stream bs limits x) (sym is) (other, h))
+
+  -- and of a packed text
+  pub packed_unread : (r : Result T Refusal) (f : UnpackFault) → IsErrAnd r (IsOfPacked f)
+      → IsUnpackRefused bs (limits.message_words + most_table_words) f
+      → (f ≡ unpack_faults.Memory → StartsWithin bs (limits.message_words + most_table_words))
+      → IsAnswered forms.Packed bs limits answers r
+  packed_unread (Ok x) f is h m = absurd is
+  packed_unread (Err e) f (inl (memory, is)) h m =
+      inr (e, refl, subst (λ (x : Refusal). IsUnread forms.Packed bs limits x) (sym is) (m memory))
+  packed_unread (Err e) f (inr (other, is)) h m =
+      inr (e, refl, subst (λ (x : Refusal). IsUnread forms.Packed bs limits x) (sym is) (other, h))
+
+-- ---- answers
+
+-- what is reported of the unpacked frame is so of the packed text
+pub packed_answered : {T : Type 0} (bs text : List ℕ) (limits : Bounds)
+    (answers : List (List ℕ) → Bounds → Result T Refusal → Type 0) (r : Result T Refusal)
+    → Unpacks bs limits.message_words text → IsAnswered forms.Stream text limits answers r
+    → IsAnswered forms.Packed bs limits answers r
+packed_answered bs text limits answers r u (inl (m, is, h)) = inl (m, (text, u, is), h)
+packed_answered bs text limits answers r u (inr (e, is, h)) = inr (e, is, unread_so bs text limits e u h)
+
+-- what is reported of canonical bytes,
+pub canonicalised : {T : Type 0} (form : Form) (bs : List ℕ) (limits : Bounds) (r : Result T Refusal)
+    (bytes : T → List ℕ) (price : T → ℕ)
+    → IsAnswered form bs limits (λ m l x. IsCanonicalised m l x bytes price) r
+    → AreCanonicalised form bs limits r bytes price
+canonicalised form bs limits r bytes price (inl (m, is, h)) =
+    canonicalised_as r bytes price form bs limits m is (bytes_wanted form bs limits m is) h.found h.refused h.wanted
+    h.bounded
+canonicalised form bs limits r bytes price (inr (e, is, h)) =
+    let n = no-walk form bs limits e h in
+    record {
+      found = subst (λ x. IfOk x (λ c. Answers form bs limits (bytes c) (price c))) (sym is) tt;
+      refused = subst (λ x. IfErr x (λ e. IsRefused form bs limits e)) (sym is) (refused-in form bs limits e n.0);
+      wanted = λ w. inl (wanted-unread form bs limits e h r is w);
+      bounded = subst (λ x. MatchResult x (λ c. price c ≤ limits.budget) (λ e. IsPaidWithin limits.budget e)) (sym is)
+          n.1;
+    }
+
+-- and of a survey
+pub surveyed : (form : Form) (bs : List ℕ) (limits : Bounds) (r : Result Surveyed Refusal)
+    → IsAnswered form bs limits IsSurveyed r → AreSurveyed form bs limits r
+surveyed form bs limits r (inl (m, is, h)) = surveyed_as r form bs limits m is (memory_wanted form bs limits m is) h
+surveyed form bs limits r (inr (e, is, h)) =
+    let n = no-walk form bs limits e h in
+    record {
+      found = subst (λ x. IfOk x (λ s. Surveys form bs limits s)) (sym is) tt;
+      refused = subst (λ x. IfErr x (λ e. IsUnacceptedIn form bs limits e)) (sym is) n.0;
+      wanted = λ w. wanted-unread form bs limits e h r is w;
+      bounded = subst (λ x. MatchResult x (λ s. IsBounded limits.budget s.paid s.visits)
+          (λ e. IsPaidWithin limits.budget e)) (sym is) n.1;
+    }

@@ -1,0 +1,26 @@
+-- Which refusal a fault is of reading the bytes or of walking the message: that of memory, if and only if memory was
+-- refused.
+use Rattle.std.specs.Prelude.{◌≡◌, ◌≢◌, ◌⊎◌}
+use Rattle.capn_pack.specs.declared.fault.UnpackFault.{UnpackFault}
+use Rattle.capn_pack.specs.declared.fault.UnpackFault.TheVariants as unpack_faults
+use Rattle.capn_stream.specs.declared.fault.FrameFault.{FrameFault}
+use Rattle.capn_stream.specs.declared.fault.FrameFault.TheVariants as frame_faults
+use Rattle.capn_target.specs.declared.target.Fault.TheVariants as walk_faults
+use Rattle.capn_walk.specs.declared.walk_answer.Stopped.{Stopped}
+use Rattle.capn_canon.specs.declared.refusal.Refusal.{Refusal}
+use Rattle.capn_canon.specs.declared.refusal.Refusal.TheVariants as refusals
+
+-- of a frame
+abbrev pub IsOfFrame : FrameFault → Refusal → Type 0
+IsOfFrame fault e = ((fault ≡ frame_faults.Memory) × (e ≡ refusals.Memory))
+    ⊎ ((fault ≢ frame_faults.Memory) × (e ≡ refusals.Frame fault))
+
+-- of a packed text
+abbrev pub IsOfPacked : UnpackFault → Refusal → Type 0
+IsOfPacked fault e = ((fault ≡ unpack_faults.Memory) × (e ≡ refusals.Memory))
+    ⊎ ((fault ≢ unpack_faults.Memory) × (e ≡ refusals.Packed fault))
+
+-- of a walk
+abbrev pub IsOfWalk : Stopped → Refusal → Type 0
+IsOfWalk stopped e = ((stopped.fault ≡ walk_faults.Memory) × (e ≡ refusals.Memory))
+    ⊎ ((stopped.fault ≢ walk_faults.Memory) × (e ≡ refusals.Walk stopped))
