@@ -6,7 +6,7 @@ use std::alloc::Allocator;
 /// A text grows by this many times itself at most.
 const TIMES: usize = 64;
 
-/// The room for so many bytes of text, with which the words up to `at` are packed; where there is none yet, also the
+/// The room for `count` bytes of text, with which the words up to `at` are packed; where there is none yet, also the
 /// room for the text of the words after them, as if those packed like the words before.
 #[inline(always)]
 pub(crate) fn text_room<A: Allocator>(
@@ -25,7 +25,7 @@ pub(crate) fn text_room<A: Allocator>(
     count.saturating_add(text.saturating_mul(times))
 }
 
-/// The room for so many bytes of words, which stand first in the rest of a text; where there is none yet, for twice the
+/// The room for `count` bytes of words, which stand first in the rest of a text; where there is none yet, for twice the
 /// bytes of the rest, within the maximum: ten bytes of groups have at least eight bytes of words.
 #[inline(always)]
 pub(crate) fn words_room<A: Allocator>(
