@@ -4,16 +4,6 @@ use std::alloc::AllocError;
 use std::error::Error;
 use std::{fmt, io};
 
-/// A growth was refused.
-#[derive(Clone, Copy, Debug, PartialEq, Eq)]
-pub struct Memory;
-
-impl From<AllocError> for Memory {
-    fn from(_: AllocError) -> Memory {
-        Memory
-    }
-}
-
 /// Why bytes are no frame, in the order in which the tests are made.
 #[derive(Clone, Copy, Debug, PartialEq, Eq)]
 pub enum FrameFault {
@@ -99,18 +89,6 @@ impl fmt::Display for ReadFault {
 }
 
 impl Error for ReadFault {}
-
-impl fmt::Display for Memory {
-    ghost use Rattle.std.specs.Prelude.{Some, codes};
-
-    ghost output = { λ _. Some (codes "out of memory") };
-
-    fn fmt<W: fmt::Write>(&self, f: &mut fmt::Formatter<W>) -> fmt::Result {
-        f.write_str("out of memory")
-    }
-}
-
-impl Error for Memory {}
 
 impl fmt::Display for Io {
     ghost use Rattle.std.specs.Prelude.{Some, codes};

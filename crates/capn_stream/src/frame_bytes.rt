@@ -5,9 +5,8 @@ ghost use Rattle.std.specs.List.{flat_map};
 ghost use Rattle.capn_words.specs.Message.{bytes, segment_at, total, words_of};
 ghost use Rattle.capn_stream.specs.Frames.{Frames, StandsFirst, contents, entry, frame_text, padding, table};
 
-use crate::fault::Memory;
 use crate::table::head_of;
-use capn_words::{Place, Space};
+use capn_words::{Memory, Place, Space};
 use std::alloc::{AllocError, Allocator};
 
 /// The words of all segments.

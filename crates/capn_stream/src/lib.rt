@@ -26,7 +26,7 @@ mod stage;
 mod stored;
 mod table;
 
-pub use fault::{FrameFault, Io, Memory, ReadFault};
+pub use fault::{FrameFault, Io, ReadFault};
 pub use first_message::{first, first_bare};
 pub use frame_bytes::frame;
 pub use frame_output::write_message;
@@ -35,3 +35,6 @@ pub use framer::Framer;
 pub use next_message::read_message;
 pub use stored::Stored;
 pub use table::MOST_TABLE_WORDS;
+
+// What the signatures above name.
+pub use capn_words::Memory;

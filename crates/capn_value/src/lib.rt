@@ -28,7 +28,6 @@ mod flaws;
 mod items;
 mod kept_lengths;
 pub mod laws;
-mod memory;
 mod misfit;
 mod part_flaws;
 mod sameness;
@@ -42,9 +41,11 @@ mod value_copy;
 pub use cost_and_height::{MOST_COST, MOST_HEIGHT};
 pub use items::Items;
 pub use kept_lengths::{kept_slots, kept_slots_of_rows, kept_words, kept_words_of_rows};
-pub use memory::Memory;
 pub use misfit::Misfit;
 pub use sameness::same;
 pub use tariff::Tariff;
 pub use tree::{Tree, copy, cost, height, show, trim};
 pub use value::{Body, Value, first_cap};
+
+// What the signatures above name.
+pub use capn_words::Memory;

@@ -14,12 +14,12 @@ ghost use Rattle.capn_value.specs.Tree as trees;
 
 use crate::cost_and_height::{capped_cost, capped_height};
 use crate::flaws::misfit;
-use crate::memory::Memory;
 use crate::misfit::Misfit;
 use crate::tariff::Tariff;
 use crate::text::show as show_value;
 use crate::value::Value;
 use crate::value_copy::{copy_value, trim_value};
+use capn_words::Memory;
 use std::alloc::{Allocator, Global};
 use std::marker::Model;
 

@@ -5,6 +5,7 @@
 //!   is written and proved once. `Bare` is the `Space` of one borrowed segment.
 //! - `Watched` is a reader or a writer that remembers whether a call of it has failed.
 //! - `laws` has what holds of one segment's bytes apart from any call: one reading, one refusal.
+//! - `Memory` says that a growth was refused, in all crates.
 //!
 //! No call takes memory. A message has 1 to 4,096 segments and at most 2^28 + 1 words in all.
 //!
@@ -20,12 +21,14 @@
 mod bare;
 pub mod laws;
 mod limits;
+mod memory;
 mod pointer;
 mod space;
 mod watched;
 
 pub use bare::{Bare, BareFault};
 pub use limits::{MOST_MESSAGE_WORDS, MOST_SEGMENTS, MOST_WORDS};
+pub use memory::Memory;
 pub use pointer::{Pointer, Width, join, split};
 pub use space::{Place, Space};
 pub use watched::Watched;
