@@ -1,12 +1,12 @@
 //! How much room is asked for at once, so that a long answer is seldom moved as it grows.
-ghost use Rattle.std.specs.Prelude.{◌≤◌};
+ghost use Rattle.std.specs.Prelude.{◌≤◌, ◌+◌, ◌*◌, max, length};
 
 use std::alloc::Allocator;
 
 /// A text grows by this many times itself at most.
 const TIMES: usize = 64;
 
-/// The room for so many bytes of text, with which the words up to `at` are packed; where there is none yet, also the
+/// The room for `count` bytes of text, with which the words up to `at` are packed; where there is none yet, also the
 /// room for the text of the words after them, as if those packed like the words before.
 #[inline(always)]
 pub(crate) fn text_room<A: Allocator>(
@@ -15,7 +15,8 @@ pub(crate) fn text_room<A: Allocator>(
     at: usize,
     all: usize,
 ) -> usize
-    ensures { count ≤ result }
+    ensures enough { count ≤ result }
+    ensures within { result ≤ count + 64 * (length out.now.items + count) }
 {
     if count <= out.capacity() - out.len() {
         return count;
@@ -25,7 +26,7 @@ pub(crate) fn text_room<A: Allocator>(
     count.saturating_add(text.saturating_mul(times))
 }
 
-/// The room for so many bytes of words, which stand first in the rest of a text; where there is none yet, for twice the
+/// The room for `count` bytes of words, which stand first in the rest of a text; where there is none yet, for twice the
 /// bytes of the rest, within the maximum: ten bytes of groups have at least eight bytes of words.
 #[inline(always)]
 pub(crate) fn words_room<A: Allocator>(
@@ -34,7 +35,9 @@ pub(crate) fn words_room<A: Allocator>(
     rest: &[u8],
     room: usize,
 ) -> usize
-    ensures { count ≤ result }
+    ensures enough { count ≤ result }
+    ensures twice { result ≤ max count (2 * length rest.now) }
+    ensures within { result ≤ max count (8 * room) }
 {
     if count <= out.capacity() - out.len() {
         return count;
