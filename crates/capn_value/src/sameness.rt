@@ -50,17 +50,11 @@ fn test_words(a: &[u64], b: &[u64]) -> bool
 {
     let n = a.len().max(b.len());
     for i in 0..n {
-        if word_or_zero(a, i) != word_or_zero(b, i) {
+        if a.get(i).copied().unwrap_or(0) != b.get(i).copied().unwrap_or(0) {
             return false;
         }
     }
     true
-}
-
-fn word_or_zero(words: &[u64], i: usize) -> u64
-    ensures { result ≡ slice_index words.now i }
-{
-    words.get(i).copied().unwrap_or(0)
 }
 
 #[cycle(sameness)]

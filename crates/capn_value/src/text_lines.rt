@@ -123,18 +123,12 @@ fn push_block<A: Allocator>(out: &mut String<A>, bits: &[bool]) -> Result<(), Al
 {
     let mut digits = [0; 64];
     for i in 0..bits.len() {
-        digits[i] = digit_of(bits[i]);
+        digits[i] = if bits[i] { b'1' } else { b'0' };
     }
     let Ok(text) = str::from_utf8(&digits[..bits.len()]) else {
         unreachable!();
     };
     out.push_str(text)
-}
-
-fn digit_of(bit: bool) -> u8
-    ensures { result ≡ text.digit bit }
-{
-    if bit { b'1' } else { b'0' }
 }
 
 // Two digits for each byte.

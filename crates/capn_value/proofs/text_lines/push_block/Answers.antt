@@ -1,17 +1,22 @@
-use Rattle.std.proofs.Common.{length, arith, ◌∙◌}
+use Rattle.std.proofs.Common.{length, arith, ap, sym, ◌∙◌}
 use Rattle.std.proofs.lemmas.List.{length-set}
 use Rattle.std.proofs.lemmas.Str.{IsUtf8-from_ascii}
-use Rattle.capn_value.specs.Text.{digits_of}
+use Rattle.capn_value.specs.Text.{digit, digits_of}
 use Rattle.capn_value.proofs.Digits.{digits_of-all, digits_of-ascii, digits_of-more}
+use Rattle.capn_value.proofs.text_lines.push_block.Goals.{then-bits-i, else-bits-i}
 use Rattle.capn_value.proofs.text_lines.push_block.Goals as goal
 
 pub loop-i-preserved : goal.loop-i-preserved
 loop-i-preserved g c =
     let so_far = c.loop-i.invariant in
     record {
-      room = length-set c.loop-i.digits c.loop-i.i c.digit_of.result ∙ so_far.room;
-      written = digits_of-more c.loop-i.digits c.args.bits.now c.loop-i.i c.digit_of.result
-          (let room = so_far.room in omega arith) (omega arith) c.digit_of.ensures so_far.written;
+      room = length-set c.loop-i.digits c.loop-i.i c.if-bits-i.digits ∙ so_far.room;
+      written = digits_of-more c.loop-i.digits c.args.bits.now c.loop-i.i c.if-bits-i.digits
+          (let room = so_far.room in omega arith) (omega arith)
+          (elim c.if-bits-i.branch [
+            | then-bits-i w ↦ w.digits-is ∙ ap digit (sym w.if-bits-i.true)
+            | else-bits-i w ↦ w.digits-is ∙ ap digit (sym w.if-bits-i.false)
+          ]) so_far.written;
     }
 
 pub unreachable-requires : goal.unreachable-requires
