@@ -55,8 +55,8 @@ fn canonical_of_inner<A: Allocator + Copy, S: Space>(
     })
 }
 
-/// The same: a message of one segment is read as its bytes alone, which is faster.
-fn canonical_by_segments<A: Allocator + Copy, S: Space>(
+/// The canonical bytes of a message. If it has one segment, it is read as its bytes alone, which is faster.
+pub(crate) fn canonical_by_segments<A: Allocator + Copy, S: Space>(
     alloc: A,
     space: &S,
     limits: Limits,

@@ -12,7 +12,7 @@ ghost use Rattle.capn_canon.specs.Theorem.{Answered, EqualExactly, OwnForm, With
 ghost use Rattle.capn_canon.specs.MemoryNeed.{MayNeedBytesIn};
 ghost use Rattle.capn_canon.specs.declared.refusal.Refusal.TheVariants as refusals;
 
-use crate::canonical::{Canonical, canonical_of};
+use crate::canonical::{Canonical, canonical_by_segments};
 use crate::form::Form;
 use crate::input::{Task, read};
 use crate::refusal::Refusal;
@@ -29,7 +29,7 @@ impl<A: Allocator + Copy> Task<A> for CanonicalBytes {
     ghost answers = { λ m limits r. IsCanonicalised m limits r (λ c. c.bytes.items) (λ c. c.paid) };
 
     fn run<S: Space>(alloc: A, message: &S, limits: Limits) -> Result<Canonical<A>, Refusal> {
-        canonical_of(alloc, message, limits)
+        canonical_by_segments(alloc, message, limits)
     }
 }
 

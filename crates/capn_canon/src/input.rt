@@ -22,7 +22,7 @@ pub trait Task<A: Allocator + Copy> {
     /// Of a message this is answered or refused, within limits.
     ghost answers: { List (List ℕ) → Bounds → Result Self.Answer Refusals → Type 0 };
 
-    /// Does it.
+    /// What is answered of this message, or why it is refused.
     fn run<S: Space>(alloc: A, message: &S, limits: Limits) -> Result<Self::Answer, Refusal>
         ensures { answers (S.message message.now) limits result };
 }
