@@ -1,5 +1,5 @@
 -- The texts of an input, made one after the other: before the first, one more, and how that ends.
-use Rattle.std.proofs.Common.{◌≡◌, inl, inr, ℕ, ◌+◌, ◌≤◌, List, [], ◌∷◌, ◌++◌, length, drop}
+use Rattle.std.proofs.Common.{◌≡◌, ◌≢◌, inl, inr, ℕ, ◌+◌, ◌≤◌, List, [], ◌∷◌, ◌++◌, length, drop}
 use Rattle.std.proofs.Common.{Some, Result, Ok, Err, refl, sym, ap, ap₂, subst, ◌∙◌, append_assoc, arith, Vec}
 use Rattle.std.proofs.lemmas.List.{length-append}
 use Rattle.capn_value.specs.Tree.{Tree}
@@ -35,6 +35,27 @@ place_is place rest line r l = ap₂ (λ (x : List ℕ) (n : ℕ). record { rest
 -- what is left is shorter by what was passed
 pub left_after : (old new : Place) → IsAfter old new → (length new.rest ≤ length old.rest)
 left_after old new h = let e = ap length h.1 ∙ length-append h.0 new.rest in omega arith
+
+-- nothing is as long as nothing
+pub none_left : (xs : List ℕ) → length xs ≤ 0 → xs ≡ []
+none_left [] le = refl
+none_left (x ∷ xs) le = absurd (omega arith)
+
+-- what is left at a later place was left before
+pub left_before : (old new : Place) → IsAfter old new → new.rest ≢ [] → old.rest ≢ []
+left_before old new h some none =
+    let less = left_after old new h in
+    let empty = ap length none in
+    some (none_left new.rest (omega arith))
+
+-- a text with its end is some bytes
+pub text_left : (v : Tree) (old rest : List ℕ) → old ≡ show_text v ++ (end_line ++ rest) → old ≢ []
+text_left v old rest is none =
+    let all = length-append (show_text v) (end_line ++ rest) in
+    let end = length-append end_line rest in
+    let four : length end_line ≡ 4 = refl in
+    let empty : length (show_text v ++ (end_line ++ rest)) ≡ 0 = ap length (sym is ∙ none) in
+    omega arith
 
 pub dropped_after : (old new : Place) (count : ℕ) → IsAfter old new → count + length new.rest ≡ length old.rest
     → drop count old.rest ≡ new.rest

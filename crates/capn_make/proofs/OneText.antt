@@ -34,6 +34,17 @@ one_at [] line is later few = absurd (later is)
 one_at (v ∷ []) line is later few = (v, refl)
 one_at (v ∷ w ∷ vs) line is later few = absurd (omega arith)
 
+-- what follows the one text is not refused because memory ran out
+pub ends_for_a_reason : (place : Place) (r : Result (Unit {0}) MakeFault) → EndsOne place r → r ≡ Err faults.Memory → ⊥
+ends_for_a_reason place (Ok u) h e = absurd cc
+ends_for_a_reason place (Err faults.Memory) h e = h
+ends_for_a_reason place (Err faults.Io) h e = h
+ends_for_a_reason place (Err (faults.NotText n)) h e = absurd cc
+ends_for_a_reason place (Err (faults.Misfit n m)) h e = h
+ends_for_a_reason place (Err (faults.Capability n index)) h e = h
+ends_for_a_reason place (Err (faults.Another n)) h e = absurd cc
+ends_for_a_reason place (Err faults.NoText) h e = h
+
 module _ (input : List ℕ) (place : Place) (made : List ℕ) (h : HasMade forms.Bare input place made) where
   pub none_yet : place.line ≡ 1 → h.values ≡ []
   none_yet first = none_at h.values place.line h.line first

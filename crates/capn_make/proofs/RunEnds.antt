@@ -66,6 +66,17 @@ text_begun forms.Bare input text c d (Ok u) h begun = inr (h.0, h.1, subst (λ t
 text_begun forms.Bare input text c d (Err fault) h begun =
     inl (subst (Appends c d) (ap (take begun.0) h.0 ∙ none_of_none begun.0) begun.1)
 
+none_memory : (input : List ℕ) → IsNotOne input faults.Memory → ⊥
+none_memory input (inl none) = absurd cc
+none_memory input (inr (inl refused)) = refused
+none_memory input (inr (inr more)) = more.3
+
+-- what is made of an input says nothing of memory
+pub not_memory : (form : Form) (input text : List ℕ) → Makes form input text (Err faults.Memory) → ⊥
+not_memory forms.Stream input text h = h.4
+not_memory forms.Packed input text h = h.4
+not_memory forms.Bare input text h = none_memory input h.1
+
 none_io : (input : List ℕ) → IsNotOne input faults.Io → ⊥
 none_io input (inl none) = absurd cc
 none_io input (inr (inl refused)) = refused

@@ -1,5 +1,5 @@
 -- An input that is made, and tested, as it grows.
-use Rattle.std.proofs.Common.{◌≡◌, inl, inr, ℕ, ◌*◌, ◌≤◌, List, [], ◌++◌, length, take, drop, Bool, false}
+use Rattle.std.proofs.Common.{◌≡◌, ◌≢◌, inl, inr, ℕ, ◌*◌, ◌≤◌, List, [], ◌++◌, length, take, drop, Bool, false}
 use Rattle.std.proofs.Common.{Option, Ok, Err, refl, sym, ap, subst, ◌∙◌, append_assoc, arith}
 use Rattle.std.proofs.lemmas.Bool.{cases_lt}
 use Rattle.std.proofs.lemmas.List.{append-nil, length-append, take-append-drop, take-append-le}
@@ -14,6 +14,7 @@ use Rattle.capn_make.specs.Laws.{RefusalStays, OneEnding}
 use Rattle.capn_make.specs.inner.RunParts.{HasMade, HasTested, HasNotRead, ReadsChunk}
 use Rattle.capn_make.specs.declared.fault.MakeFault.{MakeFault}
 use Rattle.capn_make.specs.declared.fault.MakeFault.TheVariants as faults
+use Rattle.capn_make.proofs.NextTexts.{none_left}
 use Rattle.capn_make.proofs.WhateverFollows.{first_on}
 
 -- an empty input is not refused for good
@@ -74,6 +75,21 @@ left_within : (form : Form) (input made : List ℕ) (place : Place) → HasMade 
 left_within form input made place h =
     let parts = ap length h.first.are ∙ length-append (stream_text h.values) place.rest in omega arith
 
+-- what is left was read
+some_left : (form : Form) (input made : List ℕ) (place : Place) → HasMade form input place made → place.rest ≢ []
+    → input ≢ []
+some_left form input made place h some none =
+    let within = left_within form input made place h in
+    let empty = ap length none in
+    some (none_left place.rest (omega arith))
+
+-- bytes with some after them are some
+some_after : (xs ys : List ℕ) → ys ≢ [] → xs ++ ys ≢ []
+some_after xs ys some none =
+    let all = length-append xs ys in
+    let empty = ap length none in
+    some (none_left ys (omega arith))
+
 -- what was read and made so far, and more of it that has come
 pub record HasRead (form : Form) (a c : Option (List ℕ)) (failed : Bool) (made rest : List ℕ) (line tested count : ℕ)
     : Type 0 where
@@ -83,6 +99,7 @@ pub record HasRead (form : Form) (a c : Option (List ℕ)) (failed : Bool) (made
   pub made_so_far : HasMade form bytes (record { rest = rest; line = line }) made
   pub tested_so_far : HasTested form tested bytes rest
   pub at_end : count ≡ 0 → IsAtEnd c
+  pub some : (count ≡ 0 → ⊥) → bytes ≢ []
   pub fine : failed ≡ false
 
 module _ (stays : RefusalStays) (form : Form) (tested : ℕ) (a b c : Option (List ℕ)) (failed : Bool)
@@ -107,9 +124,14 @@ module _ (stays : RefusalStays) (form : Form) (tested : ℕ) (a b c : Option (Li
 
   -- the reader failed, or memory was refused
   pub failed_at : (fault : MakeFault) → ReadsChunk b c failed rest new (Err fault)
-      → (bytes : List ℕ) × Consumes a c bytes × AreInTime form bytes × HasNotRead failed fault
-  failed_at fault step =
-      (input ++ step.0, Consumes-trans a b c input step.0 read step.1, in_time step.0 step.2, step.3)
+      → (bytes : List ℕ) × Consumes a c bytes × AreInTime form bytes
+      × (HasNotRead failed fault × (fault ≡ faults.Memory → bytes ≢ []))
+  failed_at fault step = (
+    input ++ step.0,
+    Consumes-trans a b c input step.0 read step.1,
+    in_time step.0 step.2,
+    (step.3.0, λ e. some_after input step.0 (step.3.1 e)),
+  )
 
   -- it gave bytes, or none at its end
   pub read_at : (count : ℕ) → ReadsChunk b c failed rest new (Ok count)
@@ -125,11 +147,23 @@ module _ (stays : RefusalStays) (form : Form) (tested : ℕ) (a b c : Option (Li
         tested_so_far = subst (HasTested form tested (input ++ step.0)) (sym is)
             (more_tested form tested input rest step.0 h);
         at_end = step.3.2;
+        some = λ more. some_after input step.0 (λ none. more (step.3.1 ∙ ap length none));
         fine = step.3.3;
       }
 
 -- memory was refused after that
 pub refused_at : (form : Form) (a c : Option (List ℕ)) (failed : Bool) (made rest : List ℕ) (line tested count : ℕ)
-    → HasRead form a c failed made rest line tested count
-    → (bytes : List ℕ) × Consumes a c bytes × AreInTime form bytes × HasNotRead failed faults.Memory
-refused_at form a c failed made rest line tested count r = (r.bytes, r.read, r.time, inl (refl, r.fine))
+    → (r : HasRead form a c failed made rest line tested count) → r.bytes ≢ []
+    → (bytes : List ℕ) × Consumes a c bytes × AreInTime form bytes
+    × (HasNotRead failed faults.Memory × (faults.Memory ≡ faults.Memory → bytes ≢ []))
+refused_at form a c failed made rest line tested count r some =
+    (r.bytes, r.read, r.time, (inl (refl, r.fine), λ e. some))
+
+-- it was refused for what is left
+pub refused_for : (form : Form) (a c : Option (List ℕ)) (failed : Bool) (made rest : List ℕ) (line tested count : ℕ)
+    → HasRead form a c failed made rest line tested count → rest ≢ []
+    → (bytes : List ℕ) × Consumes a c bytes × AreInTime form bytes
+    × (HasNotRead failed faults.Memory × (faults.Memory ≡ faults.Memory → bytes ≢ []))
+refused_for form a c failed made rest line tested count r some =
+    refused_at form a c failed made rest line tested count r
+    (some_left form r.bytes made (record { rest = rest; line = line }) r.made_so_far some)

@@ -1,5 +1,5 @@
 -- What a run of `make` did. (Own.)
-use Rattle.std.specs.Prelude.{◌≡◌, ◌⊎◌, ◌↔◌, ◌≤◌, ◌+◌, ◌*◌, ℕ, List, [], ◌∷◌, length, take, Bool, true, Option}
+use Rattle.std.specs.Prelude.{◌≡◌, ◌≢◌, ◌⊎◌, ◌↔◌, ◌≤◌, ◌+◌, ◌*◌, ℕ, List, [], ◌∷◌, length, take, Bool, true, Option}
 use Rattle.std.specs.Prelude.{IfSome, Result, Ok, Err}
 use Rattle.std.specs.Io.KnownBytes.{Appends, Consumes}
 use Rattle.capn_words.specs.Watched.{HasBegun}
@@ -54,3 +54,7 @@ AreInTime form bytes = (n : ℕ) → IsRefusedForGood form (take n bytes) → le
 -- the bytes that were read are no more than that
 abbrev pub StopsInTime : Form → Option (List ℕ) → Option (List ℕ) → Type 0
 StopsInTime form a b = (bytes : List ℕ) × Consumes a b bytes × AreInTime form bytes
+
+-- some bytes were read
+abbrev pub TakesBytes : Option (List ℕ) → Option (List ℕ) → Type 0
+TakesBytes a b = (bytes : List ℕ) × Consumes a b bytes × (bytes ≢ [])

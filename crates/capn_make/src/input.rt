@@ -1,10 +1,11 @@
 //! An input, made as it comes, to its end or as far as it takes to know that it is refused.
 
-ghost use Rattle.std.specs.Prelude.{◌≡◌, ◌<◌, ◌≤◌, ℕ, List, false, length, MatchResult};
+ghost use Rattle.std.specs.Prelude.{◌≡◌, ◌≢◌, ◌<◌, ◌≤◌, ℕ, List, [], false, length, MatchResult};
 ghost use Rattle.std.specs.Io.KnownBytes.{Consumes};
 ghost use Rattle.capn_words.specs.Watched.{inner_of, has_failed};
 ghost use Rattle.capn_make.specs.MakeRun.{AreInTime};
 ghost use Rattle.capn_make.specs.inner.RunParts.{EndsMaking, HasNotRead, ReadsChunk};
+ghost use Rattle.capn_make.specs.declared.fault.MakeFault.TheVariants as faults;
 
 use crate::fault::MakeFault;
 use crate::laws::refusing;
@@ -53,7 +54,7 @@ pub(crate) fn make_input<R: Read, A: Allocator + Copy>(
     ensures { (bytes : List ℕ) × Consumes (R.remaining (inner_of reader.old)) (R.remaining (inner_of reader.new)) bytes
         × AreInTime form bytes × MatchResult result
         (λ o. EndsMaking form (R.remaining (inner_of reader.new)) (has_failed reader.new) bytes o.text.items o.ending)
-        (λ fault. HasNotRead (has_failed reader.new) fault) }
+        (λ fault. HasNotRead (has_failed reader.new) fault × (fault ≡ faults.Memory → bytes ≢ [])) }
 {
     refusing();
     let mut progress = Progress {

@@ -1,8 +1,8 @@
 //! From the texts of an input to what is made of them.
 
-ghost use Rattle.std.specs.Prelude.{◌≡◌, false};
+ghost use Rattle.std.specs.Prelude.{◌≡◌, false, IsErrOf};
 ghost use Rattle.capn_words.specs.Watched.{inner_of, has_failed};
-ghost use Rattle.capn_make.specs.MakeRun.{Made, StopsInTime};
+ghost use Rattle.capn_make.specs.MakeRun.{TakesBytes, Made, StopsInTime};
 
 use crate::fault::MakeFault;
 use crate::input::make_input;
@@ -21,7 +21,7 @@ use std::io::{Read, Write};
 /// order; those before it have been written. In form `Bare` nothing is written then, and more than one text is
 /// `Another`, or `NotText` if the line after the first text begins none; no text is `NoText`. In the other forms an
 /// input without texts is done. `Io` exactly if the reader or the writer failed; `Memory` if a growth was refused,
-/// or the input has 2^64 bytes, which takes centuries.
+/// which takes some bytes, or the input has 2^64 bytes, which takes centuries.
 ///
 /// The reader is asked for at most 65,536 bytes at once. What is made of the texts so far is held until the end of the
 /// input, beside the text that is unfinished, one value and what is written of it. What a text announces is never
@@ -45,6 +45,9 @@ pub fn make<R: Read, W: Write, A: Allocator + Copy>(
         (has_failed writer.new) result }
     // However it ended, little more was read than was needed to know that the input is refused.
     ensures stops { StopsInTime form (R.remaining (inner_of reader.old)) (R.remaining (inner_of reader.new)) }
+    // Memory is needed only if some bytes were read.
+    ensures memory { IsErrOf result MakeFault.Memory
+        → TakesBytes (R.remaining (inner_of reader.old)) (R.remaining (inner_of reader.new)) }
 {
     refusing();
     let outcome = make_input(alloc, form, reader)?;

@@ -1,6 +1,6 @@
 //! The next text of an input, and what is written of its value.
 
-ghost use Rattle.std.specs.Prelude.{◌≡◌, None, Some, IfOk, IfErr, ◌⊎◌};
+ghost use Rattle.std.specs.Prelude.{◌≡◌, ◌≢◌, ◌⊎◌, [], None, Some, IfOk, IfErr, IsErrOf};
 ghost use Rattle.capn_value.specs.FirstCap.{first_cap};
 ghost use Rattle.capn_make.specs.WrittenValue.{IsWrittenValue};
 ghost use Rattle.capn_make.specs.inner.RunParts as spec;
@@ -48,6 +48,7 @@ pub(crate) fn next_piece<A: Allocator + Copy>(
 ) -> Result<Option<Vec<u8, A>>, MakeFault>
     ensures after { IsAfter texts.old texts.new }
     ensures made { MakesNext form texts.old texts.new result }
+    ensures memory { IsErrOf result MakeFault.Memory → texts.old.rest ≢ [] }
 {
     let line = texts.line();
     match texts.read_next(alloc) {

@@ -1,6 +1,6 @@
 //! How far an input is made that comes piece by piece.
 
-ghost use Rattle.std.specs.Prelude.{◌≡◌, ◌≤◌, ℕ, List, length, drop, true, false, IfOk};
+ghost use Rattle.std.specs.Prelude.{◌≡◌, ◌≢◌, ◌≤◌, ℕ, List, [], length, drop, true, false, IfOk, IsErrOf, OnErr};
 ghost use Rattle.capn_make.specs.inner.RunParts.{GoesOn, HasMade, IsMadeSo, IsWholeFrom, TellsRefusal};
 ghost use Rattle.capn_make.specs.MadeInput.{Makes};
 
@@ -55,10 +55,11 @@ fn is_whole(rest: &[u8], line: u64, fault: MakeFault) -> bool
 impl<A: Allocator + Copy> Progress<A> {
     /// Makes the texts that stand whole by now, and keeps what is left. Answers how the input ends if nothing follows.
     fn go_on(&mut self, alloc: A, form: Form) -> Result<(), MakeFault>
-        ensures { (input : List ℕ)
+        ensures made { (input : List ℕ)
             → HasMade form input (record { rest = self.old.rest.items; line = self.old.line }) self.old.made.items
             → GoesOn form input (record { rest = self.new.rest.items; line = self.new.line }) self.new.made.items
             result }
+        ensures memory { IsErrOf result MakeFault.Memory → self.old.rest.items ≢ [] }
     {
         let Some(mut texts) = Texts::from_line(&self.rest, self.line) else {
             return Err(MakeFault::Memory);
@@ -78,10 +79,11 @@ impl<A: Allocator + Copy> Progress<A> {
         alloc: A,
         form: Form,
     ) -> Result<Option<MakeFault>, AllocError>
-        ensures { IfOk result (λ told. (input : List ℕ)
+        ensures found { IfOk result (λ told. (input : List ℕ)
             → HasMade form input (record { rest = self.old.rest.items; line = self.old.line }) self.old.made.items
             → TellsRefusal form input (record { rest = self.new.rest.items; line = self.new.line })
             self.new.made.items told) }
+        ensures memory { OnErr result (self.old.rest.items ≢ []) }
     {
         refusing();
         match self.go_on(alloc, form) {
@@ -113,9 +115,10 @@ impl<A: Allocator + Copy> Progress<A> {
 
     /// What is to be written of an input to which nothing follows.
     pub(crate) fn finish(mut self, alloc: A, form: Form) -> Result<Outcome<A>, AllocError>
-        ensures { IfOk result (λ outcome. (input : List ℕ)
+        ensures made { IfOk result (λ outcome. (input : List ℕ)
             → HasMade form input (record { rest = self.rest.items; line = self.line }) self.made.items
             → Makes form input outcome.text.items outcome.ending) }
+        ensures memory { OnErr result (self.rest.items ≢ []) }
     {
         match self.go_on(alloc, form) {
             Ok(()) => Ok(self.end(form, Ok(()))),

@@ -1,6 +1,6 @@
 //! The texts that stand whole in what is left of an input.
 
-ghost use Rattle.std.specs.Prelude.{◌≡◌, ℕ, List};
+ghost use Rattle.std.specs.Prelude.{◌≡◌, ◌≢◌, ℕ, List, [], IsErrOf};
 ghost use Rattle.capn_canon.specs.declared.form.Form.TheVariants as forms;
 ghost use Rattle.capn_make.specs.inner.RunParts.{EndsOne, GoesOn, HasMade, IsAfter};
 
@@ -21,6 +21,7 @@ fn make_each<A: Allocator + Copy>(
     ensures after { IsAfter texts.old texts.new }
     ensures made { (input : List ℕ) → HasMade form input texts.old made.old.items
         → GoesOn form input texts.new made.new.items result }
+    ensures memory { IsErrOf result MakeFault.Memory → texts.old.rest ≢ [] }
 {
     'texts: while let Some(piece) = next_piece(alloc, form, texts)? {
         made.extend_from_slice(&piece)?;
@@ -52,6 +53,7 @@ fn make_first<A: Allocator + Copy>(
     ensures after { IsAfter texts.old texts.new }
     ensures made { (input : List ℕ) → HasMade forms.Bare input texts.old made.old.items
         → GoesOn forms.Bare input texts.new made.new.items result }
+    ensures memory { IsErrOf result MakeFault.Memory → texts.old.rest ≢ [] }
 {
     let Some(piece) = next_piece(alloc, Form::Bare, texts)? else {
         return Err(MakeFault::NoText);
@@ -69,6 +71,7 @@ fn make_one<A: Allocator + Copy>(
     ensures after { IsAfter texts.old texts.new }
     ensures made { (input : List ℕ) → HasMade forms.Bare input texts.old made.old.items
         → GoesOn forms.Bare input texts.new made.new.items result }
+    ensures memory { IsErrOf result MakeFault.Memory → texts.old.rest ≢ [] }
 {
     // A text has two lines or more: at the first line none is made.
     if texts.line() == 1 {
@@ -87,6 +90,7 @@ pub(crate) fn make_texts<A: Allocator + Copy>(
     ensures after { IsAfter texts.old texts.new }
     ensures made { (input : List ℕ) → HasMade form input texts.old made.old.items
         → GoesOn form input texts.new made.new.items result }
+    ensures memory { IsErrOf result MakeFault.Memory → texts.old.rest ≢ [] }
 {
     match form {
         Form::Stream => make_each(alloc, Form::Stream, texts, made),

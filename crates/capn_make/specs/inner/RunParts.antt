@@ -1,5 +1,5 @@
 -- What the parts of a run do.
-use Rattle.std.specs.Prelude.{◌≡◌, ◌⊎◌, ◌≤◌, ◌<◌, ⊤, ℕ, ◌+◌, List, [], ◌++◌, length, Bool, true, false}
+use Rattle.std.specs.Prelude.{◌≡◌, ◌≢◌, ◌⊎◌, ◌≤◌, ◌<◌, ⊤, ℕ, ◌+◌, List, [], ◌++◌, length, Bool, true, false}
 use Rattle.std.specs.Prelude.{Option, Some, None, Result, Ok, Err, Vec}
 use Rattle.std.specs.Io.KnownBytes.{Consumes, IsAtEnd}
 use Rattle.capn_value.specs.Tree.{Tree}
@@ -21,12 +21,12 @@ use Rattle.capn_make.specs.declared.fault.MakeFault.TheVariants as faults
 abbrev pub HasNotRead : Bool → MakeFault → Type 0
 HasNotRead failed fault = ((fault ≡ faults.Memory) × (failed ≡ false)) ⊎ ((fault ≡ faults.Io) × (failed ≡ true))
 
--- A reader gave this many more bytes of an input, none only at its end; or it failed, or memory was refused, after
--- some.
+-- A reader gave this many more bytes of an input, none only at its end; or it failed, or memory was refused for them,
+-- after some.
 abbrev pub GivesBytes : Option (List ℕ) → Bool → List ℕ → List ℕ → List ℕ → Result ℕ MakeFault → Type 0
 GivesBytes b failed old new bytes (Ok count) = (new ≡ old ++ bytes) × (count ≡ length bytes) × (count ≡ 0 → IsAtEnd b)
     × (failed ≡ false)
-GivesBytes b failed old new bytes (Err fault) = HasNotRead failed fault
+GivesBytes b failed old new bytes (Err fault) = HasNotRead failed fault × (fault ≡ faults.Memory → bytes ≢ [])
 
 -- so by one call, of at most this many bytes
 abbrev pub ReadsChunk : Option (List ℕ) → Option (List ℕ) → Bool → List ℕ → List ℕ → Result ℕ MakeFault → Type 0

@@ -4,7 +4,7 @@ use Rattle.std.proofs.KnownBytes.{Consumes-nil}
 use Rattle.capn_make.specs.Endings.{IsRefusedForGood}
 use Rattle.capn_make.proofs.NextTexts.{none_made}
 use Rattle.capn_make.proofs.FoundRefusal.{so_ends}
-use Rattle.capn_make.proofs.TestedInput.{none_tested, all_tested, failed_at, read_at, refused_at}
+use Rattle.capn_make.proofs.TestedInput.{none_tested, all_tested, failed_at, read_at, refused_at, refused_for}
 use Rattle.capn_make.proofs.input.make_input.Goals as goal
 
 pub chunks-init : goal.chunks-init
@@ -36,7 +36,7 @@ returns-in_err-finish g c =
     let r = read_at c.refusing.ensures.goes_on c.args.form c.chunks.tested _ _ _ _ i.bytes c.chunks.progress.made.items
     c.chunks.progress.rest.items c.read_chunk.new.rest.items c.chunks.progress.line i.read i.made i.tested i.short
     c.in_ok-count.count c.in_ok-count.ensures in
-    rw (p.1, p.2) (refused_at c.args.form _ _ _ _ _ _ _ _ r)
+    rw (p.1, p.2) (refused_for c.args.form _ _ _ _ _ _ _ _ r c.in_err-finish.ensures.memory)
 
 pub returns-then-count-eq0 : goal.returns-then-count-eq0
 returns-then-count-eq0 g c =
@@ -45,7 +45,7 @@ returns-then-count-eq0 g c =
     c.chunks.progress.rest.items c.read_chunk.new.rest.items c.chunks.progress.line i.read i.made i.tested i.short
     c.in_ok-count.count c.in_ok-count.ensures in
     let none = c.if-count-eq0.true in
-    let made = c.in_ok-finish.ensures in
+    let made = c.in_ok-finish.ensures.made in
     (r.bytes, r.read, r.time, (made r.bytes r.made_so_far, inl (r.at_end (omega arith)), r.fine))
 
 pub returns-in_default : goal.returns-in_default
@@ -54,7 +54,7 @@ returns-in_default g c =
     let r = read_at c.refusing.ensures.goes_on c.args.form c.chunks.tested _ _ _ _ i.bytes c.chunks.progress.made.items
     c.chunks.progress.rest.items c.read_chunk.new.rest.items c.chunks.progress.line i.read i.made i.tested i.short
     c.in_ok-count.count c.in_ok-count.ensures in
-    refused_at c.args.form _ _ _ _ _ _ _ _ r
+    refused_at c.args.form _ _ _ _ _ _ _ _ r (r.some c.if-count-eq0.false)
 
 pub returns-in_err-fault : goal.returns-in_err-fault
 returns-in_err-fault g c =
@@ -63,7 +63,7 @@ returns-in_err-fault g c =
     let r = read_at c.refusing.ensures.goes_on c.args.form c.chunks.tested _ _ _ _ i.bytes c.chunks.progress.made.items
     c.chunks.progress.rest.items c.read_chunk.new.rest.items c.chunks.progress.line i.read i.made i.tested i.short
     c.in_ok-count.count c.in_ok-count.ensures in
-    rw (p.1, p.2) (refused_at c.args.form _ _ _ _ _ _ _ _ r)
+    rw (p.1, p.2) (refused_for c.args.form _ _ _ _ _ _ _ _ r c.in_err-fault.ensures.memory)
 
 pub returns-in-Some-2 : goal.returns-in-Some-2
 returns-in-Some-2 g c =
@@ -71,7 +71,7 @@ returns-in-Some-2 g c =
     let r = read_at c.refusing.ensures.goes_on c.args.form c.chunks.tested _ _ _ _ i.bytes c.chunks.progress.made.items
     c.chunks.progress.rest.items c.read_chunk.new.rest.items c.chunks.progress.line i.read i.made i.tested i.short
     c.in_ok-count.count c.in_ok-count.ensures in
-    let found = rw c.in-Some-2.is at c.in_ok-fault.ensures in
+    let found = rw c.in-Some-2.is at c.in_ok-fault.ensures.found in
     let told = found r.bytes r.made_so_far in
     let good : IsRefusedForGood c.args.form r.bytes =
     (c.in-Some-2.fault, so_ends c.args.form r.bytes _ _ told.0, told.1) in
@@ -83,7 +83,7 @@ chunks-preserved-then-tested-len g c =
     let r = read_at c.refusing.ensures.goes_on c.args.form c.chunks.tested _ _ _ _ i.bytes c.chunks.progress.made.items
     c.chunks.progress.rest.items c.read_chunk.new.rest.items c.chunks.progress.line i.read i.made i.tested i.short
     c.in_ok-count.count c.in_ok-count.ensures in
-    let found = rw c.in_default-2.is at c.in_ok-fault.ensures in
+    let found = rw c.in_default-2.is at c.in_ok-fault.ensures.found in
     let told = found r.bytes r.made_so_far in
     let size = c.len-tested.ensures ∙ c.find_refusal.new.self.rest.ok.0 in
     record {

@@ -1,7 +1,8 @@
-use Rattle.std.proofs.Common.{ℕ, ◌++◌, ap, sym, subst, ◌∙◌}
+use Rattle.std.proofs.Common.{◌≡◌, ℕ, ◌++◌, Err, ap, sym, subst, ◌∙◌}
 use Rattle.std.proofs.lemmas.Result.{err_from_is_err_and}
 use Rattle.capn_make.specs.inner.RunParts.{HasMade}
-use Rattle.capn_make.proofs.NextTexts.{place_after, one_more, all_made, next_refused}
+use Rattle.capn_make.specs.declared.fault.MakeFault.TheVariants as faults
+use Rattle.capn_make.proofs.NextTexts.{place_after, one_more, all_made, left_before, next_refused, text_left}
 use Rattle.capn_make.proofs.whole_texts.make_each.Goals as goal
 
 pub returns-in_err-piece-clause-after : goal.returns-in_err-piece-clause-after
@@ -40,3 +41,16 @@ returns-clause-made g c = λ input h.
     all_made c.args.form input c.next_piece.new.texts c.texts.made.items tt c.requires.framed
     (subst (λ p. HasMade c.args.form input p c.texts.made.items) (sym next.1) (c.texts.invariant.made input h))
     (ap (λ p. p.rest) next.1 ∙ next.0)
+
+pub returns-in_err-piece-clause-memory : goal.returns-in_err-piece-clause-memory
+returns-in_err-piece-clause-memory g c =
+    let p = err_from_is_err_and c.from_residual.result c.from_residual.ensures.1 in
+    rw (p.1, p.2) (λ refused.
+    let same : c.in_err-piece.field-0.0 ≡ faults.Memory = cc in
+    left_before c.args.texts.now c.texts.texts c.texts.invariant.after
+    (c.in_err-piece.ensures.memory (ap (λ e. Err e) same)))
+
+pub returns-in_err-extend_from_slice-clause-memory : goal.returns-in_err-extend_from_slice-clause-memory
+returns-in_err-extend_from_slice-clause-memory g c = λ refused.
+    let next = rw c.in-Some.is at c.in_ok-piece.ensures.made in
+    left_before c.args.texts.now c.texts.texts c.texts.invariant.after (text_left next.0 _ _ next.2)

@@ -3,7 +3,8 @@ use Rattle.std.proofs.lemmas.Result.{err_from_is_err_and}
 use Rattle.capn_canon.specs.declared.form.Form.TheVariants as forms
 use Rattle.capn_make.specs.inner.RunParts.{GoesOn}
 use Rattle.capn_make.specs.declared.fault.MakeFault.TheVariants as faults
-use Rattle.capn_make.proofs.OneText.{no_text, first_refused, first_made}
+use Rattle.capn_make.proofs.NextTexts.{text_left}
+use Rattle.capn_make.proofs.OneText.{no_text, ends_for_a_reason, first_refused, first_made}
 use Rattle.capn_make.proofs.whole_texts.make_first.Goals as goal
 
 pub returns-in_err-piece-clause-made : goal.returns-in_err-piece-clause-made
@@ -24,3 +25,12 @@ returns-clause-made g c = λ input h.
     let items = c.in_ok-extend_from_slice.ensures.items ∙ ap (λ t. c.args.made.now.items ++ t) c.deref.ensures.value in
     first_made _ input c.args.texts.now c.next_piece.new.texts c.args.made.now.items _ c.in-Some.piece h
     c.requires.first next items c.end_of_one.result c.end_of_one.ensures
+
+pub returns-in_err-extend_from_slice-clause-memory : goal.returns-in_err-extend_from_slice-clause-memory
+returns-in_err-extend_from_slice-clause-memory g c = λ refused.
+    let next = rw c.in-Some.is at c.in_ok-piece.ensures.made in
+    text_left next.0 _ _ next.2
+
+pub returns-clause-memory : goal.returns-clause-memory
+returns-clause-memory g c = λ refused.
+    absurd (ends_for_a_reason c.next_piece.new.texts c.end_of_one.result c.end_of_one.ensures refused)

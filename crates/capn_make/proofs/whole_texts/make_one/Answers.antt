@@ -1,5 +1,5 @@
 use Rattle.std.proofs.Common.{arith}
-use Rattle.capn_make.proofs.OneText.{ends_so}
+use Rattle.capn_make.proofs.OneText.{ends_for_a_reason, ends_so}
 use Rattle.capn_make.proofs.whole_texts.make_one.Goals as goal
 
 pub returns-clause-made : goal.returns-clause-made
@@ -8,3 +8,7 @@ returns-clause-made g c = λ input h.
     let line = c.line.ensures in
     let later = c.if-line-eq1.false in
     absurd (omega arith)) c.end_of_one.ensures
+
+pub returns-clause-memory : goal.returns-clause-memory
+returns-clause-memory g c = λ refused.
+    absurd (ends_for_a_reason c.args.texts.now c.end_of_one.result c.end_of_one.ensures refused)

@@ -4,8 +4,8 @@ use Rattle.capn_make.specs.inner.RunParts.{HasMade, GoesOn, IsAfter}
 use Rattle.capn_make.proofs.NextTexts.{place_is, left_after, dropped_after}
 use Rattle.capn_make.proofs.progress.Progress.go_on.Goals as goal
 
-pub returns : goal.returns
-returns g c = λ input h.
+pub returns-clause-made : goal.returns-clause-made
+returns-clause-made g c = λ input h.
     let was : Place = record { rest = c.args.self.now.rest.items; line = c.args.self.now.line } in
     let new = c.make_texts-ending.new.texts in
     let started = place_is c.in-Some.texts c.args.self.now.rest.items c.args.self.now.line
@@ -20,3 +20,8 @@ returns g c = λ input h.
     (subst (λ p. HasMade c.args.form input p c.args.self.now.made.items) (sym started) h) in
     subst (λ p. GoesOn c.args.form input p c.make_texts-ending.new.made.items c.make_texts-ending.result)
     (place_is new _ _ (sym dropped) (sym c.line-line.ensures)) made
+
+pub returns-clause-memory : goal.returns-clause-memory
+returns-clause-memory g c = λ refused none.
+    let started = ap (λ (p : Place). p.rest) c.in-Some.ensures.found ∙ c.deref.ensures.value in
+    c.make_texts-ending.ensures.memory refused (started ∙ none)
