@@ -1,4 +1,4 @@
-// An archive, written by the reference implementation: `archive COUNT` writes so many messages, a third each of persons,
+// An archive, written by the reference implementation: `archive COUNT` writes COUNT messages, a third each of persons,
 // series of numbers and trees. The same count gives the same bytes.
 #include "archive.capnp.h"
 #include <capnp/message.h>

@@ -1,5 +1,5 @@
-/* calls OPERATION STEPS < MESSAGE: makes a call of the library for C on a framed message so many times, and writes how
- * many bytes the message has. What a call writes into is there before. bench/count counts the instructions of a step. */
+/* calls OPERATION STEPS < MESSAGE: makes a call of the library for C on a framed message STEPS times, and writes how
+ * many bytes the message has. The buffers are made before the calls. bench/count counts the instructions of a step. */
 #include "capn.h"
 #include <stdio.h>
 #include <stdlib.h>

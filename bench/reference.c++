@@ -1,5 +1,5 @@
-// The reference implementation on a framed message: `reference OPERATION STEPS < MESSAGE` does the operation so many
-// times and prints the bytes by which its cost is told; `reference write < MESSAGE` writes the canonical bytes.
+// The reference implementation on a framed message: `reference OPERATION STEPS < MESSAGE` does the operation STEPS
+// times and prints the number of bytes to divide its cost by; `reference write < MESSAGE` writes the canonical bytes.
 #include <capnp/any.h>
 #include <capnp/message.h>
 #include <capnp/serialize-packed.h>

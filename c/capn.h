@@ -65,7 +65,7 @@ typedef struct capn_report {
     uint32_t word;    /* and its word there */
 } capn_report;
 
-/* What capn_survey tells of a message. */
+/* What capn_survey reports of a message. */
 typedef struct capn_figures {
     uint32_t words;          /* of all segments */
     uint32_t segments;       /* 1 to 4,096 */
@@ -197,7 +197,7 @@ const char *capn_status_text(capn_status status);
  * Else the refusal. Nothing is walked. It takes memory for the table of two segments or more, once the frame is whole. */
 capn_status capn_first(const uint8_t *bytes, size_t size, const capn_limits *limits, capn_report *report);
 
-/* The words of the whole groups that stand first in a packed text, as many as have room, to unpack one in pieces.
+/* The words of the whole groups that come first in a packed text, as many as have room, to unpack one in pieces.
  * CAPN_OK: all bytes were taken, and the text may end here. CAPN_PACKED_CUT: a group begins at `at` and is cut: keep its
  * bytes, and pass them again before those that follow; if none follow, the text is cut. CAPN_PACKED_TOO_LONG: the group
  * at `at` has more words than there is room for: pass it again with a buffer that has room. In these three `at` bytes
@@ -207,20 +207,20 @@ capn_status capn_first(const uint8_t *bytes, size_t size, const capn_limits *lim
 capn_status capn_unpack_some(const uint8_t *bytes, size_t size, uint8_t *out, size_t room, capn_report *report);
 
 /* The figures of one message, of CAPN_STREAM or CAPN_BARE; with CAPN_PACKED it answers CAPN_BAD_FORM: unpack it first.
- * It accepts and refuses what capn_check does, and takes memory where that does; the report tells `paid` and `visits`.
+ * It accepts and refuses what capn_check does, and takes memory where that does; the report has `paid` and `visits`.
  * Unless it answers CAPN_OK, the figures are as they were. It walks a message up to three times: use capn_check if what
- * it tells is enough. */
+ * it reports is enough. */
 capn_status capn_survey(uint32_t form, const uint8_t *bytes, size_t size, const capn_limits *limits,
                         capn_figures *figures, capn_report *report);
 
 /* The index of one message, of CAPN_STREAM or CAPN_BARE; with CAPN_PACKED it answers CAPN_BAD_FORM: unpack it first.
  * It has an entry for each slot that the walk visits, in preorder: first the root, and after each entry those of its
  * slots, one a `span` after the other. `room` counts entries.
- * CAPN_OK: `visits` entries stand at the start of `entries`, and the rest is as it was. CAPN_NO_ROOM: there are `visits`
- * entries, more than there is room for. In both `length` is 24 * visits. With a room of 0 it tells the number alone.
+ * CAPN_OK: `visits` entries are at the start of `entries`, and the rest is as it was. CAPN_NO_ROOM: there are `visits`
+ * entries, more than there is room for. In both `length` is 24 * visits. With a room of 0 it reports the number alone.
  * It accepts and refuses what capn_check does. Unless it answers CAPN_OK, the entries are as they were. It takes memory
  * where capn_check does, and, once there is room, for 24 bytes an entry and 4 a segment.
- * All that an entry tells lies within `bytes`, also of a hostile message: an offset, and from there on as many bytes as
+ * All that an entry says lies within `bytes`, also of a hostile message: an offset, and from there on as many bytes as
  * its kind and its numbers say. Of null and of a capability the offset says nothing. */
 capn_status capn_index(uint32_t form, const uint8_t *bytes, size_t size, const capn_limits *limits, capn_entry *entries,
                        size_t room, capn_report *report);

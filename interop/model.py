@@ -1,6 +1,6 @@
 """A second reading of docs/FORMAT.md and docs/PROFILE.md, in Python, to compare the program with.
 
-It shares nothing with the program: values are tuples, a walk is recursion, canonical bytes are laid in one list. It is
+It shares nothing with the program: values are tuples, a walk is recursion, canonical bytes are one list. It is
 slow, and it is not proved. `interop/archives` compares the two.
 """
 
@@ -290,7 +290,7 @@ def canonical(value):
 
 
 def quoted(items):
-    """What stands between quotes for a list of bytes that is a text, or None for any other."""
+    """What is written between quotes for a list of bytes that is a text, or None for any other."""
     if not items or not all(0x20 <= byte <= 0x7E for byte in items[:-1]):
         return None
     if items[-1] and not 0x20 <= items[-1] <= 0x7E:
@@ -344,7 +344,7 @@ def plain_of(value):
 
 
 def stands(value, way):
-    """What stands at a way of numbers from a value, or None."""
+    """What is at a way of numbers from a value, or None."""
     for step in way:
         if value[0] not in ("struct", "pointers", "rows"):
             return None
@@ -356,7 +356,7 @@ def stands(value, way):
 
 
 def styled(value, style):
-    """The text of what stands somewhere, if anything does, in a style: plain, text or json. What ends it follows."""
+    """The text of what is somewhere, if anything is, in a style: plain, text or json. What ends it follows."""
     if style == "json":
         return "\n" if value is None else json.dumps(plain_of(value), separators=(",", ":")) + "\n"
     return ("none\n" if value is None else shown(value, 0, style == "text")) + "end\n"

@@ -1,6 +1,6 @@
 """Builds the package `capn` with the proved library inside: `pip install ./python`, after `make library`.
 
-There is no pyproject.toml: with one, pip would fetch setuptools and cffi anew for each build, and fail offline."""
+There is no pyproject.toml: with one, pip would fetch setuptools and cffi again for each build, and fail offline."""
 from pathlib import Path
 
 import cffi  # noqa: F401, without it setuptools would ignore `cffi_modules` and build a package of no library

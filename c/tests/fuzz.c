@@ -79,7 +79,7 @@ static void entry(const capn_entry *all, size_t count, size_t i, const uint8_t *
     need(next == i + e->span, "the end of a span", bytes, size);
 }
 
-/* What survey and index tell of what check told, of a form that is not packed. */
+/* What survey and index report must agree with what check reported, of a form that is not packed. */
 static void indexed(uint32_t form, const uint8_t *bytes, size_t size, capn_status check, const capn_report *checked) {
     capn_figures figures;
     capn_report report;

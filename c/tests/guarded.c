@@ -37,7 +37,7 @@ static uint64_t draw(void) {
 }
 static uint32_t any(uint32_t below) { return (uint32_t)(draw() >> 32) % below; }
 
-/* So many bytes of such pages: their last, their first, or for no bytes now and then null. */
+/* `size` bytes of such pages: their last, their first, or for no bytes now and then null. */
 static uint8_t *part(uint8_t *start, size_t size) {
     if (!size && !any(3)) return NULL;
     return any(3) ? at_end(start, size) : start;
@@ -65,7 +65,7 @@ static void numbers(uint32_t s, uint32_t w, uint32_t count) {
     for (uint32_t i = 0; i < count; i++) words[s][w + i] = any(3) ? draw() >> any(64) : 0;
 }
 
-/* What stands at word w of a segment: null, a capability, or a pointer to an object after all others of a segment, near
+/* What is at word w of a segment: null, a capability, or a pointer to an object after all others of a segment, near
  * or by a landing pad of one word or of two. */
 static void slot(uint32_t s, uint32_t w, uint32_t depth) {
     const uint32_t choice = any(8), a = any(4), b = depth ? any(4) : 0, rows = any(4), width = any(8);
@@ -199,7 +199,7 @@ static size_t room_for(size_t enough) {
     }
 }
 
-/* One call on the input. It answers what is enough for its answer, as it was told. */
+/* One call on the input. It answers what is enough for its answer, as it was reported. */
 static size_t call(uint32_t which, const uint8_t *bytes, size_t size, size_t enough) {
     capn_report *r = (capn_report *)filled(of_report, sizeof *r);
     capn_limits *limits = (capn_limits *)part(of_limits, sizeof *limits);

@@ -46,7 +46,7 @@ static void is_first(const char *what, const uint8_t *bytes, size_t size, capn_s
 }
 
 /* Each beginning of frames of one to five segments, at each address, with nothing after it: what it needs is 8, the table,
- * all; whole, or with more after it, it is told. */
+ * all; whole, or with more after it, its length is reported. */
 static void beginnings(void) {
     static const uint32_t sizes[5] = {2, 0, 3, 1, 4};
     uint8_t bytes[160];

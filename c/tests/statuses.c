@@ -8,14 +8,14 @@
 
 static int failed, came[256];
 
-/* A number, and what was wanted. */
+/* A number, and the one that is expected. */
 static void want(const char *what, uint64_t number, uint64_t wanted) {
     if (number == wanted) return;
     failed++;
     fprintf(stderr, "statuses: %s: %llu, wanted %llu\n", what, (unsigned long long)number, (unsigned long long)wanted);
 }
 
-/* A status that came, and what was wanted. */
+/* A status that came, and the one that is expected. */
 static void is(const char *what, capn_status status, capn_status wanted) {
     if (status < 256) came[status] = 1;
     want(what, status, wanted);

@@ -1,4 +1,4 @@
-/* What the programs of this folder share: what is wanted, the usual limits, pages between two that can't be touched.
+/* What the programs of this folder share: what is expected, the usual limits, pages between two that can't be touched.
  * TEST is the name of the program. */
 #ifndef CAPN_TESTS_WANTED_H
 #define CAPN_TESTS_WANTED_H
@@ -20,13 +20,13 @@ static const capn_limits usual = CAPN_USUAL_LIMITS;
 
 enum { PAGE = 4096, PAGES = 24, ALL_PAGES = PAGE * PAGES };
 
-/* So many bytes: all of these pages. */
+/* ALL_PAGES bytes between two pages that can't be touched. */
 static uint8_t *between_pages(void) {
     uint8_t *all = mmap(NULL, ALL_PAGES + 2 * PAGE, PROT_NONE, MAP_PRIVATE | MAP_ANONYMOUS, -1, 0);
     if (all == MAP_FAILED || mprotect(all + PAGE, ALL_PAGES, PROT_READ | PROT_WRITE)) exit(2);
     return all + PAGE;
 }
 
-/* The last so many of them. */
+/* The last `size` bytes of such pages. */
 static uint8_t *at_end(uint8_t *pages, size_t size) { return pages + ALL_PAGES - size; }
 #endif

@@ -1,4 +1,4 @@
-"""Frees archives of doubles over the workers of a Dask cluster, each of which runs `capn`.
+"""Frees archives of duplicates over the workers of a Dask cluster, each of which runs `capn`.
 
 The files are read as one archive, in the order in which they are given. Of the messages that have the same value the
 first one is kept, as it stands or in canonical form. What is written is what one process of `capn uniq --keep-going`
@@ -150,7 +150,7 @@ def told(report: Report) -> str:
 
 
 def main() -> int:
-    parser = argparse.ArgumentParser(description="Frees archives of doubles over the workers of a Dask cluster.")
+    parser = argparse.ArgumentParser(description="Frees archives of duplicates over the workers of a Dask cluster.")
     parser.add_argument("--scheduler", help="the address of the scheduler; without it, this process does it all")
     parser.add_argument("--canonical", action="store_true", help="write the messages in canonical form")
     parser.add_argument("--most", type=int, default=1 << 26, help="the most bytes of a part (usual: 64 MiB)")

@@ -36,5 +36,5 @@ class Limits:
         object.__setattr__(self, "_laid_out", ffi.new("const capn_limits *", fields))
 
     def __reduce__(self) -> tuple[Any, ...]:
-        # What is laid out for the library is made again by who unpickles or copies.
+        # What is laid out for the library is made again by whoever unpickles or copies.
         return Limits, (self.message_words, self.budget, self.depth, self.tariff)

@@ -32,7 +32,7 @@ _NUMBERS = {"bytes": ("B", 1), "u16": ("H", 2), "u32": ("I", 4), "u64": ("Q", 8)
 
 
 class Object:
-    """What stands in a slot. Its `kind` is the word that `capn show` has for it."""
+    """What is in a slot. Its `kind` is the word that `capn show` has for it."""
 
     __slots__ = ("_message", "_entry", "_at", "kind")
 

@@ -19,7 +19,7 @@ model, generated = archives.model, archives.GENERATED
 
 
 def tree(found):
-    """What stands in a slot, as the model has it."""
+    """What is in a slot, as the model has it."""
     kind = found.kind
     if kind == "null":
         return ("null",)
@@ -47,7 +47,7 @@ def walked(segments, **limits):
 
 
 class Pieces(io.RawIOBase):
-    """A file that gives at most so many bytes at once."""
+    """A file that gives at most `most` bytes at once."""
 
     def __init__(self, data, most):
         super().__init__()

@@ -19,7 +19,7 @@ TRIED = 10_000
 
 
 def lines_of(found):
-    """What stands in a slot and below it, a line for each slot, as `interop/places.c++` writes it."""
+    """What is in a slot and below it, a line for each slot, as `interop/places.c++` writes it."""
     kind, entry = found.kind, found._entry
     offset, first, second, below = -1, 0, 0, []
     if kind == "struct":

@@ -43,7 +43,7 @@ fn is_unpacked(alloc: Global, bytes: &[u8]) -> Result<bool> {
     Ok(unpacked(alloc, &text)?.as_slice() == bytes)
 }
 
-/// The words of the message that stands first.
+/// The words of the first message.
 fn first_words(alloc: Global, bytes: &[u8]) -> Result<u32> {
     Ok(words_of(&message(alloc, bytes)?))
 }

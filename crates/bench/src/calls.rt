@@ -14,7 +14,7 @@ use std::alloc::Global;
 /// The bytes of a piece.
 const PIECE: usize = 65_536;
 
-/// The message that stands first in the bytes.
+/// The first message in the bytes.
 pub(crate) fn message(alloc: Global, framed: &[u8]) -> Result<Framed<'_>> {
     match first(alloc, framed, MOST_MESSAGE_WORDS) {
         Ok((message, _)) => Ok(message),
@@ -136,7 +136,7 @@ pub(crate) fn copied(alloc: Global, bytes: &[u8]) -> Result<Vec<u8>> {
     Ok(Vec::from_slice(alloc, bytes)?)
 }
 
-/// The segments of the message that stands first.
+/// The segments of the first message.
 pub(crate) fn segments_of(alloc: Global, framed: &[u8]) -> Result<u32> {
     Ok(message(alloc, framed)?.segments())
 }

@@ -50,7 +50,7 @@ pub not_told : (words : List ℕ) (limits : Bounds)
 not_told words limits only v told is =
     not_none (only v told is.2 (is.3 ∙ ap bytes (sym (same_words words is.0 is.1))))
 
--- what a survey tells is found of a message that is not canonical
+-- what a survey reports is what is found of a message that is not canonical
 pub not_checked : (message : List (List ℕ)) (limits : Bounds) (s : Surveyed) (depth : ℕ) → IsSurvey message limits s
     → IsDepth message limits depth → ((v : Tree) → IsValueOf message limits v → IsCanonical message v → ⊥)
     → AreFindings message limits (record {

@@ -29,7 +29,7 @@ ended r = r
 abbrev stopped_by : RunFault → Served
 stopped_by e = Err e
 
--- the same, as a run over an archive tells it
+-- the same fault, as a run over an archive reports it
 abbrev pub told_by : RunFault → Ending
 told_by e = Err (fault_of e)
 

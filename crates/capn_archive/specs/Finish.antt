@@ -18,7 +18,7 @@ outcome_by None messages = Ok tt
 outcome_by (Some s) messages =
     Err (faults.PassedOver (record { refused = s.count; messages = messages; first = s.first }))
 
--- the fault of a run over messages, as one over an archive tells it
+-- the fault of a run over an archive, for one of a run over messages
 abbrev pub fault_of : RunFault → ArchiveFault
 fault_of run_faults.Memory = faults.Memory
 fault_of run_faults.Io = faults.Io

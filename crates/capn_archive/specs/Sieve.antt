@@ -45,7 +45,7 @@ sifted_text true is_double frame = []
 sifted_text false true frame = []
 sifted_text false false frame = frame
 
--- a message with its frame is sifted: it writes its frame unless it is a double, and its digest is noted
+-- a message with its frame is sifted: it writes its frame unless it is a duplicate, and its digest is noted
 abbrev pub Sifts : Sifted → List ℕ → List (List ℕ) → List ℕ → Sifted → Type 0
 Sifts s frame message text t =
     (digest : List ℕ) × IsDigest message s.order.limits digest

@@ -26,7 +26,7 @@ abbrev pub closing_by : Bool → ℕ → ℕ → List ℕ
 closing_by true kept served = count_line kept served
 closing_by false kept served = []
 
--- the same of a sieve
+-- what a sieve writes after the last message
 abbrev pub closing : Sifted → List ℕ
 closing s = closing_by s.order.count (length s.digests.keys) s.served
 

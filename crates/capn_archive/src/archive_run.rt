@@ -57,8 +57,8 @@ fn serve_messages<R: Read, W: Write, A: Allocator + Copy>(
 ///
 /// It reads as [`serve_form`] does. The run ends as done; as `PassedOver` after all of its input, if messages were
 /// passed over; or with the first fault: a frame, a group or a message that is refused, at its position;
-/// `InputTooLong`; `Io` exactly if the reader or the writer failed; `Memory` if a growth was refused. The texts of the
-/// messages before a fault have been written, and nothing after these. It holds what its loop holds, the canonical
+/// `InputTooLong`; `Io` if and only if the reader or the writer failed; `Memory` if a growth was refused. The texts of
+/// the messages before a fault have been written, and nothing after these. It holds what its loop holds, the canonical
 /// bytes of one message, and a tally.
 pub fn run_archive<R: Read, W: Write, A: Allocator + Copy>(
     alloc: A,

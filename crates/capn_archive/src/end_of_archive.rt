@@ -16,7 +16,7 @@ use capn_words::Watched;
 use std::alloc::Allocator;
 use std::io::Write;
 
-/// The fault of a run over messages, as one over an archive tells it.
+/// The fault of a run over an archive, for one of a run over messages.
 pub(crate) fn fault_of(fault: RunFault) -> ArchiveFault
     ensures { result ≡ finish.fault_of fault }
 {

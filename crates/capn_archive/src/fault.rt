@@ -25,6 +25,6 @@ pub enum ArchiveFault {
     InputTooLong,
     /// The message at this position is refused, or no message can begin there.
     Refused(Position, Refusal),
-    /// All of the input was served but for messages that were passed over.
+    /// All of the input was served, except for messages that were passed over.
     PassedOver(Passed),
 }

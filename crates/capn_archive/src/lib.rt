@@ -1,6 +1,6 @@
 //! What the program's commands do with an archive: a stream of messages, or a bare input.
 //!
-//! [`run_archive`] carries an order out, an [`Archive`]: by its service, the [`Archivist`], it lists messages, tells
+//! [`run_archive`] carries an order out, an [`Archive`]: by its service, the [`Archivist`], it lists messages, says
 //! what limits they need, or writes their canonical bytes as frames. [`run_uniq`] carries out a [`Uniq`] by a
 //! [`Sieve`]: it leaves out messages whose canonical bytes one before them had. The loops over the messages are those
 //! of [`capn_serve`].

@@ -32,7 +32,7 @@ impl Model for Line {
 }
 
 impl Line {
-    /// A line of which nothing is written.
+    /// A line of which nothing is written yet.
     pub(crate) fn new() -> Line
         ensures { result ≡ [] }
     {

@@ -70,7 +70,7 @@ fn put_bytes<A: Allocator>(text: &mut Vec<u8, A>, bytes: &[u8]) -> Result<(), Se
     }
 }
 
-/// Appends some bytes and others. Where memory is refused, a beginning may stand there.
+/// Appends some bytes and others. Where memory is refused, a beginning may be there.
 fn push_both<A: Allocator>(
     text: &mut Vec<u8, A>,
     front: &[u8],

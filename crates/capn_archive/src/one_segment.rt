@@ -41,7 +41,7 @@ pub(crate) fn alone<S: Space>(space: &S) -> Option<Bare<'_>>
     }
 }
 
-/// Whether these are the canonical bytes of the message of one segment that they are. One pass over them tells.
+/// Whether these bytes are a message of one segment, and its canonical bytes. One pass over them finds it out.
 fn are_own(bytes: &[u8], limits: Limits) -> bool
     ensures { IsTrue result → (words : List ℕ) → IsBare bytes.now words → (price : ℕ)
         × AnswersMessage (words ∷ []) limits bytes.now price }

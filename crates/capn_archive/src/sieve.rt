@@ -1,4 +1,4 @@
-//! The service that leaves doubles out.
+//! The service that leaves duplicates out.
 
 ghost use Rattle.std.specs.Prelude.{◌≡◌, length, false};
 ghost use Rattle.capn_words.specs.Watched.{inner_of, has_failed};
@@ -17,11 +17,11 @@ use std::collections::BTreeSet;
 use std::io::Write;
 use std::marker::Model;
 
-/// The service that leaves doubles out: it writes the frame of each message, as it stands, whose canonical bytes no
+/// The service that leaves duplicates out: it writes the frame of each message, as it stands, whose canonical bytes no
 /// message before had, by their SHA-256.
 ///
 /// A message that is refused by its walk, or for a capability, ends the run, or, if the order says to keep going, is
-/// passed over: it writes nothing and is no double of another. Of a run it holds the digest of each message kept, in
+/// passed over: it writes nothing and is no duplicate of another. Of a run it holds the digest of each message kept, in
 /// a tree of blocks that are at least half full: about 50 bytes each if they come in no order, at most 72 if they
 /// ascend.
 #[derive(Drop)]
@@ -54,7 +54,7 @@ fn note<A: Allocator + Clone>(
     }
 }
 
-/// Adds what a message writes: its frame, unless messages are only counted or it is a double.
+/// Adds what a message writes: its frame, unless messages are only counted or it is a duplicate.
 fn add_sifted<W: Write, A: Allocator>(
     count: bool,
     is_double: bool,
@@ -100,7 +100,7 @@ impl<B: Allocator> Sieve<B> {
         self.digests.len()
     }
 
-    /// How many messages it has served, those that it has passed over not among them.
+    /// How many messages it has served, without those that it has passed over.
     pub(crate) fn served(&self) -> u64
         ensures { result ≡ self.now.served }
     {

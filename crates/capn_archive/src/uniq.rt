@@ -1,8 +1,8 @@
-//! What a run does that leaves doubles out.
+//! What a run does that leaves duplicates out.
 
 use capn_canon::{Form, Limits};
 
-/// What a run does that leaves doubles out: messages whose canonical bytes one before them had, by their SHA-256.
+/// What a run does that leaves duplicates out: messages whose canonical bytes one before them had, by their SHA-256.
 #[derive(Clone, Copy, Debug, PartialEq, Eq)]
 pub struct Uniq {
     /// How the input holds the messages.

@@ -1,4 +1,4 @@
-//! A run that leaves doubles out, from its first byte to its last.
+//! A run that leaves duplicates out, from its first byte to its last.
 
 ghost use Rattle.std.specs.Prelude.{◌≡◌, false, IfOk, IfErr, string_bytes};
 ghost use Rattle.capn_words.specs.Watched.{inner_of, has_failed};
@@ -98,9 +98,9 @@ fn run_sieve<R: Read, W: Write, A: Allocator + Copy>(
 ///
 /// It reads as [`serve_form`] does. The run ends as done; as `PassedOver` after all of its input, if messages were
 /// passed over; or with the first fault: a frame, a group or a message that is refused, at its position;
-/// `InputTooLong`; `Io` exactly if the reader or the writer failed; `Memory` if a growth was refused. The frames kept
-/// before a fault have been written, and nothing after these. It holds what its loop holds, the canonical bytes of one
-/// message, and the digests of those kept.
+/// `InputTooLong`; `Io` if and only if the reader or the writer failed; `Memory` if a growth was refused. The frames
+/// kept before a fault have been written, and nothing after these. It holds what its loop holds, the canonical bytes of
+/// one message, and the digests of those kept.
 pub fn run_uniq<R: Read, W: Write, A: Allocator + Copy>(
     alloc: A,
     order: Uniq,

@@ -1,4 +1,4 @@
--- The words from the place of an entry on stand in the bytes at its offset.
+-- The words from the place of an entry on are in the bytes at its offset.
 use Rattle.std.proofs.Common.{◌≡◌, ◌≢◌, ℕ, zero, suc, ◌+◌, ◌*◌, ◌<◌, ◌≤◌, List, [], ◌∷◌, ◌++◌, length, take, drop}
 use Rattle.std.proofs.Common.{get_or, map, refl, ap, sym, subst, ◌∙◌, arith, length-drop}
 use Rattle.std.specs.List.{sum_by}
@@ -42,7 +42,7 @@ within_all (ws ∷ m) (suc s) h =
       sum_by-cons length ws m,
     )
 
--- the words of a segment stand after those of the segments before it
+-- the words of a segment come after those of the segments before it
 in_contents : (m : List (List ℕ)) (s w n : ℕ) → s < length m → w + n ≤ length (segment_at m s)
     → take (8 * n) (drop (8 * (sum_by length (take s m) + w)) (contents m))
     ≡ take (8 * n) (drop (8 * w) (bytes (segment_at m s)))
@@ -127,7 +127,7 @@ written f [] rest i x none h = absurd (omega (arith, h))
 written f (e ∷ es) rest zero x none h = refl
 written f (e ∷ es) rest (suc i) x none h = written f es rest i x none (omega (arith, h))
 
--- what an entry says of a kind stands at an offset, if all words of its place do
+-- what an entry says of a kind is at an offset, if all words of its place do
 stands : (bs : List ℕ) (offset : ℕ) (m : List (List ℕ)) (e : Entry) (k : Kind)
     → ((n : ℕ) → IsContent m (entry_place e) n → StandAt bs offset m (entry_place e) n)
     → IsInMessage m (by_kind k e) → StandsAt bs offset m (by_kind k e)

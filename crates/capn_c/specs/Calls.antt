@@ -36,7 +36,7 @@ bounds_of c =
 abbrev pub GiveLimits : CapnLimits → Type 0
 GiveLimits c = AreLimits c.message_words c.budget c.depth
 
--- the answer stands at the start of the buffer, and the rest of the buffer is as it was
+-- the answer is at the start of the buffer, and the rest of the buffer is as it was
 abbrev pub IsWritten : List ℕ → List ℕ → List ℕ → Type 0
 IsWritten answer old new = new ≡ answer ++ drop (length answer) old
 

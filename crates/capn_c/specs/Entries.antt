@@ -42,17 +42,17 @@ c_entry table starts e = record {
   kind = kind_number e.kind;
 }
 
--- the index of a message that stands after a table of `table` bytes
+-- the index of a message that comes after a table of `table` bytes
 abbrev pub c_index : ℕ → List (List ℕ) → Bounds → List CapnEntry
 c_index table message limits = map (c_entry table (starts_from 0 message)) (index_of message limits)
 
--- how many bytes of a form stand before the words of a message
+-- how many bytes of a form come before the words of a message
 abbrev pub table_length : Form → List (List ℕ) → ℕ
 table_length forms.Stream message = head_length (length message)
 table_length forms.Packed message = 0
 table_length forms.Bare message = 0
 
--- the bytes are read as an accepted message, whose index stands at the start of the room; the rest of it is as it was
+-- the bytes are read as an accepted message, whose index is at the start of the room; the rest of it is as it was
 pub record IndexedIn (form : Form) (bs : List ℕ) (limits : Bounds) (old new : List CapnEntry) : Type 0 where
   pub message : List (List ℕ)
   pub reads : Reads form bs limits.message_words message

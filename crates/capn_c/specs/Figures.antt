@@ -44,7 +44,7 @@ reported_cap zero k = None
 reported_cap (suc n) k = Some k
 
 -- the figures of an accepted message: its words and segments; what its walk pays and visits; the least depth under
--- which it is accepted; 1 and the first capability of its value, or 0 and 0; and 1 exactly if it is canonical
+-- which it is accepted; 1 and the first capability of its value, or 0 and 0; and 1 if and only if it is canonical
 pub record AreFigures (message : List (List ℕ)) (limits : Bounds) (f : CapnFigures) : Type 0 where
   pub value : Tree
   pub is : IsValueOf message limits value

@@ -1,4 +1,4 @@
--- What stands in the bytes at the offset of an entry. (Own.)
+-- What is in the bytes at the offset of an entry. (Own.)
 use Rattle.std.specs.Prelude.{◌≡◌, ◌≢◌, ℕ, ◌+◌, ◌*◌, ◌<◌, ◌≤◌, List, length, take, drop, get_or, ⊤}
 use Rattle.capn_words.specs.Message.{bytes_at}
 use Rattle.capn_words.specs.declared.space.Place.{Place}
@@ -14,12 +14,12 @@ use Rattle.capn_canon.specs.declared.form.Form.TheVariants as forms
 use Rattle.capn_c.specs.Entries.{IndexedIn, c_entry, starts_from, table_length}
 use Rattle.capn_c.specs.declared.entries.CapnEntry.{CapnEntry}
 
--- the bytes of some words of a message, from a place on, stand in these bytes, from an offset on
+-- the bytes of some words of a message, from a place on, are in these bytes, from an offset on
 pub record StandAt (bs : List ℕ) (offset : ℕ) (message : List (List ℕ)) (at : Place) (words : ℕ) : Type 0 where
   pub inside : offset + 8 * words ≤ length bs
   pub same : take (8 * words) (drop offset bs) ≡ bytes_at message at (8 * words)
 
--- what a slot names stands in these bytes, from an offset on, if it has content
+-- what a slot names is in these bytes, from an offset on, if it has content
 abbrev pub StandsAt : List ℕ → ℕ → List (List ℕ) → Target → Type 0
 StandsAt bs offset message (targets.Content s start shape pads) =
     StandAt bs offset message (record { segment = s; word = start }) (extent shape)
@@ -29,14 +29,14 @@ StandsAt bs offset message _ = ⊤
 abbrev pub entry_place : Entry → Place
 entry_place e = record { segment = e.segment; word = e.start }
 
--- if bytes are a message, in a stream or bare, its words from an entry's place on, as many as its segment has, stand in
+-- if bytes are a message, in a stream or bare, its words from an entry's place on, as many as its segment has, are in
 -- the bytes at the offset that C reads in the entry
 abbrev pub OffsetsAreOfPlaces : Type 0
 OffsetsAreOfPlaces = (form : Form) (bs : List ℕ) (most : ℕ) (message : List (List ℕ)) → form ≢ forms.Packed
     → Reads form bs most message → (e : Entry) (words : ℕ) → IsContent message (entry_place e) words
     → StandAt bs (c_entry (table_length form message) (starts_from 0 message) e).offset message (entry_place e) words
 
--- if an index stands in a room, all that a slot names stands in the bytes, at the offset of the slot's entry
+-- if an index is in a room, all that a slot names is in the bytes, at the offset of the slot's entry
 abbrev pub OffsetsAreOfContents : Type 0
 OffsetsAreOfContents = (form : Form) (bs : List ℕ) (limits : Bounds) (old new : List CapnEntry) → form ≢ forms.Packed
     → (h : IndexedIn form bs limits old new) → (i : ℕ) → i < length (index_of h.message limits) → (none : CapnEntry)

@@ -10,7 +10,7 @@ use Rattle.capn_c.specs.declared.report.CapnReport.{CapnReport}
 abbrev pub words_in : ℕ → ℕ
 words_in room = min (room / 8) (2 ^ 32 - 1)
 
--- the status of what stands after the groups that were unpacked: nothing, a group that is cut, one that has no room
+-- the status of what comes after the groups that were unpacked: nothing, a group that is cut, one that has no room
 abbrev pub next_code : Next → ℕ
 next_code nexts.End = 0
 next_code nexts.Cut = 32
@@ -20,8 +20,8 @@ next_code nexts.TooLong = 33
 abbrev pub progressed : ℕ → ℕ → CapnReport
 progressed written taken = record { length = written; at = taken; segment = 0; word = 0; paid = 0; visits = 0 }
 
--- the words of the whole groups that stand first and have room are in the buffer; the report says how many bytes were
--- written and taken, and the status what stands next
+-- the words of the whole groups that come first and have room are in the buffer; the report says how many bytes were
+-- written and taken, and the status what comes next
 pub record UnpacksInto (bytes : List ℕ) (status : ℕ) (report : CapnReport) (old new : List ℕ) : Type 0 where
   pub content : List ℕ
   pub words : ℕ

@@ -89,7 +89,7 @@ fn fill(
 
 /// The canonical bytes of a message, into a buffer.
 ///
-/// 0: the answer stands at the start of the buffer. 1: the buffer has no room for it, and is as it was; `length` is
+/// 0: the answer is at the start of the buffer. 1: the buffer has no room for it, and is as it was; `length` is
 /// what it needs, exactly; if the buffer has no bytes at all, the message is surveyed and nothing is written, and
 /// `length` is 8 for each word paid and 8 more, which is enough. 2, 3 and 4: the form, a limit or the tariff is out of
 /// its range. 8: memory was refused. Others: the refusal.
@@ -102,7 +102,7 @@ pub extern "C" fn capn_canonical(
     out: &mut [u8],
     report: &mut CapnReport,
 ) -> u32
-    // What is ordered is tested first.
+    // The form and the limits are tested first.
     ensures form { (result ≡ 2) ↔ (IsForm form → ⊥) }
     ensures limits { (result ≡ 3) ↔ (IsForm form × (GiveLimits limits.now → ⊥)) }
     ensures tariff { (result ≡ 4) ↔ (IsForm form × GiveLimits limits.now × (IsTariff limits.now.tariff → ⊥)) }
@@ -131,7 +131,7 @@ pub extern "C" fn capn_canonical(
     // Where nothing is answered, the buffer is as it was.
     ensures kept { result ≢ 0 → out.new ≡ out.old }
     // Read bare under the same limits, the answer denotes the trimmed value, which is the same value, and pays exactly
-    // its cost; its canonical bytes are the answer again; and a second value has these exactly if it is the same value.
+    // its cost; its canonical bytes are the answer again; and a second value has these if and only if it is the same.
     ensures canonical { result ≡ 0 → (v : Value) → Denotes (form_named form) bytes.now (bounds_of limits.now) v
         → IsCanonicalForm (take report.new.length out.new) (bounds_of limits.now) v }
 {

@@ -41,7 +41,7 @@ fn refuse_frame(fault: FrameFault, bytes: &[u8], most: u32, report: &mut CapnRep
     code_of_frame(fault)
 }
 
-/// The length of the frame of at most `most` words that stands first.
+/// The length of the frame of at most `most` words that comes first.
 fn length_of(alloc: Global, bytes: &[u8], most: u32) -> Result<usize, FrameFault>
     requires small { most ≤ most_message_words }
     ensures found { IfOk result (λ taken. (message : List (List ℕ)) × StandsFirst bytes.now most message taken) }
@@ -54,7 +54,7 @@ fn length_of(alloc: Global, bytes: &[u8], most: u32) -> Result<usize, FrameFault
     Ok(taken)
 }
 
-/// The length of the frame of at most `most` words that stands first, or how many bytes it needs.
+/// The length of the frame of at most `most` words that comes first, or how many bytes it needs.
 fn frame(alloc: Global, bytes: &[u8], most: u32, report: &mut CapnReport) -> u32
     requires small { most ≤ most_message_words }
     ensures possible { (result ≡ 0) ⊎ (8 ≤ result) }
@@ -77,7 +77,7 @@ fn frame(alloc: Global, bytes: &[u8], most: u32, report: &mut CapnReport) -> u32
     }
 }
 
-/// The length of the frame that stands first in the bytes of a stream, or how many bytes it needs.
+/// The length of the first frame in the bytes of a stream, or how many bytes it needs.
 ///
 /// 0: `length` bytes are the frame. 3 and 4: a limit or the tariff is out of its range. 8: memory was refused. 48 and
 /// 51: there are no bytes, or the frame is cut; it has at least `length` bytes, counted from its start. 49 and 50: too
@@ -91,10 +91,10 @@ pub extern "C" fn capn_first(
     limits: &CapnLimits,
     report: &mut CapnReport,
 ) -> u32
-    // What is ordered is tested first.
+    // The limits are tested first.
     ensures limits { (result ≡ 3) ↔ (GiveLimits limits.now → ⊥) }
     ensures tariff { (result ≡ 4) ↔ (GiveLimits limits.now × (IsTariff limits.now.tariff → ⊥)) }
-    // The answer: a frame stands first, of a message within the limit, and takes this number of bytes.
+    // The answer: a frame comes first, of a message within the limit, and takes this number of bytes.
     ensures found { result ≡ 0 → (message : List (List ℕ))
         × StandsFirst bytes.now limits.now.message_words message report.new.length }
     // Such a frame is answered, unless memory runs out.
@@ -112,7 +112,7 @@ pub extern "C" fn capn_first(
     // there is, and within what a frame can have.
     ensures needed { (result ≡ 48) ⊎ (result ≡ 51)
         → IsNeeded bytes.now limits.now.message_words report.new.length }
-    // Memory is needed only if a whole frame of two segments or more stands first.
+    // Memory is needed only if a whole frame of two segments or more comes first.
     ensures memory { result ≡ 8 → HasTable bytes.now limits.now.message_words }
 {
     *report = report_at(0);

@@ -66,7 +66,7 @@ pub extern "C" fn capn_hash(
     digest: &mut [u8; 32],
     report: &mut CapnReport,
 ) -> u32
-    // What is ordered is tested first.
+    // The form and the limits are tested first.
     ensures form { (result ≡ 2) ↔ (IsForm form → ⊥) }
     ensures limits { (result ≡ 3) ↔ (IsForm form × (GiveLimits limits.now → ⊥)) }
     ensures tariff { (result ≡ 4) ↔ (IsForm form × GiveLimits limits.now × (IsTariff limits.now.tariff → ⊥)) }

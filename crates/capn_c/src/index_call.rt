@@ -28,7 +28,7 @@ use capn_walk::{Entry, Limits, Surveyed, index_into};
 use capn_words::{Bare, Space};
 use std::alloc::Global;
 
-/// Writes the index of a message that has this number of entries, and stands after a table of this number of bytes; or
+/// Writes the index of a message that has this number of entries, and comes after a table of this number of bytes; or
 /// nothing, where memory was refused.
 fn write_index<S: Space>(
     alloc: Global,
@@ -175,7 +175,7 @@ fn index_in(
 /// The index of a message that is a stream or bare, into a room: an entry for each slot that its walk visits, in
 /// preorder.
 ///
-/// 0: the entries stand at the start of the room. 1: there is no room for them, and the room is as it was. In both
+/// 0: the entries are at the start of the room. 1: there is no room for them, and the room is as it was. In both
 /// `visits` is how many they are, and `length` is 24 bytes for each. 2, 3 and 4: the form is neither, a limit or the
 /// tariff is out of its range. 8: memory was refused. Others: the refusal, which is never that of a capability.
 ///
@@ -189,7 +189,7 @@ pub extern "C" fn capn_index(
     out: &mut [CapnEntry],
     report: &mut CapnReport,
 ) -> u32
-    // What is ordered is tested first.
+    // The form and the limits are tested first.
     ensures form { (result ≡ 2) ↔ (IsFlat form → ⊥) }
     ensures limits { (result ≡ 3) ↔ (IsFlat form × (GiveLimits limits.now → ⊥)) }
     ensures tariff { (result ≡ 4) ↔ (IsFlat form × GiveLimits limits.now × (IsTariff limits.now.tariff → ⊥)) }
@@ -199,7 +199,7 @@ pub extern "C" fn capn_index(
     // That number is the one of all entries of the index, whether they have room or not.
     ensures entries { result ≤ 1
         → HasEntries (form_named form) bytes.now (bounds_of limits.now) report.new.visits }
-    // The index stands in the room, or has no room.
+    // The index is in the room, or has no room.
     ensures written { result ≡ 0 → (report.new.visits ≤ length out.old)
         × IndexedIn (form_named form) bytes.now (bounds_of limits.now) out.old out.new }
     ensures no_room { result ≡ 1 → length out.old < report.new.visits }

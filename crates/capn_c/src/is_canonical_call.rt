@@ -53,7 +53,7 @@ pub extern "C" fn capn_is_canonical(
     limits: &CapnLimits,
     report: &mut CapnReport,
 ) -> u32
-    // What is ordered is tested first.
+    // The limits are tested first.
     ensures limits { (result ≡ 3) ↔ (GiveLimits limits.now → ⊥) }
     ensures tariff { (result ≡ 4) ↔ (GiveLimits limits.now × (IsTariff limits.now.tariff → ⊥)) }
     // The answer is on the one value that the bytes denote, which has no capability.

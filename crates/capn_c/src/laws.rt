@@ -4,8 +4,8 @@ ghost use Rattle.capn_c.specs.Offsets.{OffsetsAreOfContents, OffsetsAreOfPlaces}
 
 use capn_walk::laws::indexes;
 
-/// At the offset of an entry, and inside the bytes, stand the words from the segment and word of the entry on; so what
-/// the slot names stands there, if it has content. This holds of streams and bare words.
+/// At the offset of an entry, and inside the bytes, are the words from the segment and word of the entry on; so what
+/// the slot names is there, if it has content. This holds of streams and bare words.
 pub fn offsets()
     ensures places { OffsetsAreOfPlaces }
     ensures contents { OffsetsAreOfContents }

@@ -16,7 +16,7 @@ use capn_walk::{Limits, survey_depth};
 use capn_words::{Bare, Place, Space};
 use std::alloc::Global;
 
-/// Where the pointer to the root stands.
+/// Where the pointer to the root is.
 const ROOT: Place = Place {
     segment: 0,
     word: 0,
@@ -60,7 +60,7 @@ fn depth_of<S: Space>(alloc: Global, space: &S, limits: Limits) -> Option<u32>
     }
 }
 
-/// The depth of bare words whose bytes are canonical, or `None` where they are not. One pass over them tells.
+/// The depth of bare words whose bytes are canonical, or `None` where they are not. One pass over them finds it.
 fn canonical_depth_bare(space: &Bare<'_>, limits: Limits) -> Option<u32>
     ensures found { IfSome result (λ d. IsDepth (space.now ∷ []) limits d
         × IsCanonicalMessage (space.now ∷ []) limits) }

@@ -17,7 +17,7 @@ use std::alloc::Global;
 
 /// The packed text of whole words, into a buffer.
 ///
-/// 0: the text stands at the start of the buffer. 1: the buffer has no room for it, and is as it was; `length` is what
+/// 0: the text is at the start of the buffer. 1: the buffer has no room for it, and is as it was; `length` is what
 /// it needs. 8: memory was refused. 16: the bytes are not whole words; `at` is how many there are.
 #[unsafe(no_mangle)]
 pub extern "C" fn capn_pack(
@@ -32,7 +32,7 @@ pub extern "C" fn capn_pack(
     // The packer has one text for these words: it is answered, unless memory runs out.
     ensures only { (text : List ℕ) → Chosen text bytes.now
         → (result ≡ 8) ⊎ Delivers text result report.new.length out.old out.new }
-    // Two of the packer's texts are equal exactly if their words are.
+    // Two of the packer's texts are equal if and only if their words are.
     ensures unique { (a b vs ws : List ℕ) → Chosen a vs → Chosen b ws
         → ((a ≡ b) ↔ (vs ≡ ws)) }
     // Each refusal.
@@ -63,8 +63,8 @@ pub extern "C" fn capn_pack(
 
 /// The words that a packed text packs, at most `max_words`, into a buffer.
 ///
-/// 0: the words stand at the start of the buffer. 1: the buffer has no room for them, and is as it was; `length` is
-/// what they need. 8: memory was refused. 32 and 33: the group whose tag stands at `at` is cut, or goes over the
+/// 0: the words are at the start of the buffer. 1: the buffer has no room for them, and is as it was; `length` is
+/// what they need. 8: memory was refused. 32 and 33: the group whose tag is at `at` is cut, or goes over the
 /// maximum.
 #[unsafe(no_mangle)]
 pub extern "C" fn capn_unpack(
@@ -85,7 +85,7 @@ pub extern "C" fn capn_unpack(
     // What each refusal means, and where.
     ensures refused { 2 ≤ result → (e : Faults) × ReportsPacked result report.new e
         × IsUnpackRefused bytes.now max_words e }
-    // Memory is needed only if a whole group within the maximum stands first.
+    // Memory is needed only if a whole group within the maximum comes first.
     ensures memory { result ≡ 8 → StartsWithin bytes.now max_words }
     // The report of an answer has its length alone.
     ensures rest { result ≤ 1 → report.new ≡ answered report.new.length 0 0 }

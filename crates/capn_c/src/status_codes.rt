@@ -18,13 +18,13 @@ pub const DONE: u32 = 0;
 /// The buffer has no room for the answer.
 pub const NO_ROOM: u32 = 1;
 
-/// The form is none.
+/// No form has this number.
 pub const BAD_FORM: u32 = 2;
 
 /// A limit is out of its range.
 pub const BAD_LIMITS: u32 = 3;
 
-/// The tariff is none.
+/// No tariff has this number.
 pub const BAD_TARIFF: u32 = 4;
 
 /// The bytes are not the canonical ones of their value.

@@ -85,7 +85,7 @@ pub extern "C" fn capn_survey(
     figures: &mut CapnFigures,
     report: &mut CapnReport,
 ) -> u32
-    // What is ordered is tested first.
+    // The form and the limits are tested first.
     ensures form { (result ≡ 2) ↔ (IsFlat form → ⊥) }
     ensures limits { (result ≡ 3) ↔ (IsFlat form × (GiveLimits limits.now → ⊥)) }
     ensures tariff { (result ≡ 4) ↔ (IsFlat form × GiveLimits limits.now × (IsTariff limits.now.tariff → ⊥)) }

@@ -11,7 +11,7 @@ use crate::status_codes::{DONE, MEMORY, PACKED_CUT, PACKED_TOO_LONG};
 use capn_pack::{Next, Progress, unpack_some};
 use std::alloc::Global;
 
-/// The status of what stands next.
+/// The status of what comes next.
 fn code_of_next(next: Next) -> u32
     ensures { result ≡ next_code next }
 {
@@ -47,7 +47,7 @@ fn put(bytes: &[u8], out: &mut [u8])
     out[..bytes.len()].copy_from_slice(bytes);
 }
 
-/// The words of the whole groups that stand first in a packed text, as many as have room, into a buffer.
+/// The words of the whole groups that come first in a packed text, as many as have room, into a buffer.
 ///
 /// 0: the bytes are whole groups, and all of them were taken. 32: a group is cut, 33: one has no room; `at` is the
 /// offset of its tag. In these three `length` bytes were written and `at` were taken. 8: memory was refused.
@@ -62,7 +62,7 @@ pub extern "C" fn capn_unpack_some(
 ) -> u32
     // What is in the buffer, and how far it came.
     ensures some { result ≢ 8 → UnpacksInto bytes.now result report.new out.old out.new }
-    // Memory is needed only if a whole group that has room stands first.
+    // Memory is needed only if a whole group that has room comes first.
     ensures memory { result ≡ 8 → StartsWithin bytes.now (words_in (length out.old)) }
     ensures listed { IsTrue (is_status result) }
     // Without memory nothing is reported, and the buffer is as it was.

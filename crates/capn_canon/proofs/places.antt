@@ -1,4 +1,4 @@
--- What stands where its layout has it.
+-- Objects that are where their layout has them.
 pub mod Standing
 pub mod Compared
 pub mod ComparedList

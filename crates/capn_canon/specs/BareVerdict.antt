@@ -11,7 +11,7 @@ use Rattle.capn_canon.specs.declared.form.Form.TheVariants as forms
 use Rattle.capn_canon.specs.Denotes.{Denotes}
 use Rattle.capn_layout.specs.Layout.{canon}
 
--- the bytes denote a value without capabilities, and the answer is yes exactly if they are its canonical bytes
+-- the bytes denote a value without capabilities, and the answer is yes if and only if they are its canonical bytes
 pub record SaysCanonical (bs : List ℕ) (limits : Bounds) (yes : Bool) : Type 0 where
   pub value : Tree
   pub is : Denotes forms.Bare bs limits value

@@ -28,7 +28,7 @@ PaysItsCost bs limits v =
 abbrev pub IsItsOwnForm : List ℕ → Tree → Type 0
 IsItsOwnForm bs v = canon (trimmed v) ≡ bs
 
--- a second value has these canonical bytes exactly if it is the same value
+-- a second value has these canonical bytes if and only if it is the same value
 abbrev pub IsFormExactlyOf : List ℕ → Tree → Type 0
 IsFormExactlyOf bs v = (w : Tree) → Fits w → InRange w → (canon w ≡ bs) ↔ Same v w
 

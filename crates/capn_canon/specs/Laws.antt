@@ -27,7 +27,7 @@ CanonIsForm = (v : Tree) (limits : Bounds) → Fits v → InRange v → cost (ba
     → height v ≤ limits.depth
     → IsCanonicalForm (canon v) limits v
 
--- two values that fit and are in range have equal canonical bytes exactly if they are the same
+-- two values that fit and are in range have equal canonical bytes if and only if they are the same
 abbrev pub EqualExactlySame : Type 0
 EqualExactlySame = (v w : Tree) → Fits v → InRange v → Fits w → InRange w → (canon v ≡ canon w) ↔ Same v w
 

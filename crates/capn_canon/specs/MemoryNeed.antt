@@ -17,7 +17,7 @@ abbrev pub MayBeDeep : Form → List ℕ → Bounds → Type 0
 MayBeDeep form bs limits = (64 < limits.depth) × (message : List (List ℕ)) × Reads form bs limits.message_words message
 
 -- memory may be needed: of bare words, if they may be so deep; of a stream, there, and if a whole frame of two segments
--- or more stands first; of a packed text, only if a whole group within the maximum stands first
+-- or more comes first; of a packed text, only if a whole group within the maximum comes first
 abbrev pub MayNeedMemory : Form → List ℕ → Bounds → Type 0
 MayNeedMemory forms.Bare bs limits = MayBeDeep forms.Bare bs limits
 MayNeedMemory forms.Stream bs limits = HasTable bs limits.message_words ⊎ MayBeDeep forms.Stream bs limits

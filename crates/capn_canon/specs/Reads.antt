@@ -23,6 +23,6 @@ Reads forms.Bare bs most message = (ws : List ℕ) × IsBare bs ws × (message �
 Reads forms.Stream bs most message = IsFramed bs most message
 Reads forms.Packed bs most message = (text : List ℕ) × Unpacks bs most text × IsFramed text most message
 
--- the frame of a message of at most `most` words stands first in the bytes, and more bytes follow from an offset on
+-- the frame of a message of at most `most` words comes first in the bytes, and more bytes follow from an offset on
 abbrev pub Trails : List ℕ → ℕ → ℕ → Type 0
 Trails bs most at = (message : List (List ℕ)) × StandsFirst bs most message at × (at < length bs)

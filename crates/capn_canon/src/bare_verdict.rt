@@ -21,7 +21,7 @@ use capn_words::{Bare, Space};
 use std::alloc::Allocator;
 
 /// What the walk of a bare message pays and visits within the limits, its first capability, and whether its
-/// bytes are canonical. One pass over the words tells that; the message is surveyed only where it doesn't begin with
+/// bytes are canonical. One pass over the words finds that; the message is surveyed only where it doesn't begin with
 /// canonical bytes.
 ///
 /// It refuses what the walk refuses, in the same way. It takes no memory for a depth of at most 64; `Memory`

@@ -102,7 +102,7 @@ pub fn canonical_of<A: Allocator + Copy, S: Space>(
     // its canonical bytes are these again;
     ensures own { IfOk result (λ c. (v : Value) → IsValueOf (S.message space.now) limits v
         → IsItsOwnForm c.bytes.items v) }
-    // and a second value has these canonical bytes exactly if it is the same value.
+    // and a second value has these canonical bytes if and only if it is the same value.
     ensures exactly { IfOk result (λ c. (v : Value) → IsValueOf (S.message space.now) limits v
         → IsFormExactlyOf c.bytes.items v) }
 {

@@ -65,7 +65,7 @@ pub fn canonicalise<A: Allocator + Copy>(
         → PaysItsCost c.bytes.items limits v) }
     // its canonical bytes are the answer again;
     ensures own { IfOk result (λ c. (v : Value) → Denotes form bytes.now limits v → IsItsOwnForm c.bytes.items v) }
-    // and a second value has these canonical bytes exactly if it is the same value.
+    // and a second value has these canonical bytes if and only if it is the same value.
     ensures exactly { IfOk result (λ c. (v : Value) → Denotes form bytes.now limits v
         → IsFormExactlyOf c.bytes.items v) }
     // The theorem of the README, sentence by sentence: it answers if and only if there is something to answer;

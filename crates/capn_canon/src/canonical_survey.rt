@@ -19,7 +19,7 @@ use capn_words::Bare;
 /// What the walk of a bare message pays and visits within the limits, if it is accepted, its value has no capability
 /// and its bytes are canonical; otherwise nothing. (Own.)
 ///
-/// It takes no memory. Where it answers nothing, [`survey_bare`](crate::survey_bare) tells why.
+/// It takes no memory. Where it answers nothing, [`survey_bare`](crate::survey_bare) says why.
 pub fn survey_canonical(space: &Bare<'_>, limits: Limits) -> Option<SurveyedBare>
     requires { IsMessage (space.now ∷ []) }
     ensures found { IfSome result (λ c. IsBareSurvey space.now limits c) }
@@ -42,7 +42,7 @@ pub fn survey_canonical(space: &Bare<'_>, limits: Limits) -> Option<SurveyedBare
 /// they are: how many objects are one below another at most, the root's among them. (Own.)
 ///
 /// It takes no memory. Where it answers nothing, [`survey_bare`](crate::survey_bare) and
-/// [`survey_depth`](capn_walk::survey_depth) tell more.
+/// [`survey_depth`](capn_walk::survey_depth) report more.
 pub fn measure_canonical(space: &Bare<'_>, limits: Limits) -> Option<MeasuredBare>
     requires { IsMessage (space.now ∷ []) }
     ensures found { IfSome result (λ m. IsBareSurvey space.now limits m.survey) }

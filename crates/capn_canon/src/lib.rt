@@ -4,7 +4,7 @@
 //!   forms they are in, and what its walk paid. [`canonical_of`] does so for any message that is a `Space`.
 //! - [`is_canonical`] says whether the bytes of a bare message are its canonical bytes, and makes no copy;
 //!   [`survey_bare`] also reports its price, its visits and its first capability. [`survey_canonical`] is the one pass
-//!   that they make first: it reports on canonical bytes alone. [`measure_canonical`] is the same pass, and also tells
+//!   that they make first: it reports on canonical bytes alone. [`measure_canonical`] is the same pass, and also says
 //!   how deep they are.
 //! - [`survey_bytes`] and [`survey`] report what the walk of a message pays and visits, and write nothing.
 //! - [`layout`] writes the canonical bytes of a tree: one segment, its objects in preorder, every struct

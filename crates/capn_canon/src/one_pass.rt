@@ -1,6 +1,6 @@
 //! One pass over words that finds them to be a canonical layout, and counts what their walk pays.
 //!
-//! Every object of a layout stands at the next free word, so where each pointer is the one to that word, nothing is out
+//! Every object of a layout is at the next free word, so where each pointer is the one to that word, nothing is out
 //! of range and nothing is read twice: the pass follows the words in order, and needs no survey before it.
 
 ghost use Rattle.std.specs.Prelude.{◌≡◌, ◌+◌, ◌-◌, ◌*◌, ◌%◌, ◌^◌, ◌<◌, [], ◌∷◌, slice_index, IfSome, IsSome};
@@ -16,7 +16,7 @@ use crate::progress::{Pass, Progress, lower};
 use capn_words::{Bare, Pointer, Width, split};
 
 /// How far the pass has come once all is checked that is below the slots of an object; none where a word isn't in
-/// place, where a capability stands, or where the depth or what may be paid is passed.
+/// place, where a capability is, or where the depth or what may be paid is passed.
 ///
 /// Each level of depth takes one frame of the stack: that of this function, or of [`check_rows`].
 #[cycle(pass)]

@@ -22,13 +22,13 @@ pub struct Pass {
     pub from: u32,
     /// The word after the last slot.
     pub end: u32,
-    /// How many objects may stand one below another, from each of these on.
+    /// How many objects may be one below another, from each of these on.
     pub depth: u32,
     /// The next free word, at which what is below them has to begin.
     pub next: u32,
     /// The words that may still be paid.
     pub left: u32,
-    /// The number of slots met, these among them.
+    /// The number of slots met, these included.
     pub visits: u32,
 }
 

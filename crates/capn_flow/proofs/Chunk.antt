@@ -1,4 +1,4 @@
--- A chunk that was read behind what is left of those before it.
+-- A chunk that was read in after what is left of those before it.
 use Rattle.std.proofs.Common.{◌≡◌, ℕ, ◌+◌, ◌-◌, ◌≤◌, List, [], ◌++◌, length, take, drop, Bool, false, Option, ap, sym}
 use Rattle.std.proofs.Common.{subst, ◌∙◌, arith, length-append, length-drop, length-take, length-take-le}
 use Rattle.std.proofs.Math.Seq.{paste, take-append-add, take_all}
@@ -10,7 +10,7 @@ use Rattle.capn_flow.specs.declared.fault.FlowFault.{FlowFault}
 use Rattle.capn_flow.specs.Flow.{Ending, Stops}
 use Rattle.capn_flow.specs.UnpackRun.{ending_of, unpacking}
 
--- what was left stands first
+-- what was left comes first
 left_first : (buf new tail : List ℕ) (held : ℕ) → held ≤ length buf
     → take held (take held buf ++ (new ++ tail)) ≡ take held buf
 left_first buf new tail held fits =
@@ -40,7 +40,7 @@ module _ (buf new tail : List ℕ) (held within end : ℕ) (fits : held ≤ leng
   abbrev whole : List ℕ
   whole = take held buf ++ (new ++ tail)
 
-  -- the chunk stands behind it
+  -- the chunk comes after it
   chunk_is : take end whole ≡ take held buf ++ take within new
   chunk_is =
       let at : end ≡ length (take held buf) + within = omega (arith, is, length-take-le held buf fits) in

@@ -58,7 +58,7 @@ module _ (bytes text rest more : List ℕ) (s : Settles bytes text rest) where
   packs_stop c d e failed fault done stop =
       record { kind = stop.kind; io = stop.io; written = written_more c d e done stop.written }
 
--- of the bytes of a buffer that stand first
+-- of the bytes of a buffer that come first
 pub front_stop : (rest buf tail : List ℕ) (w : ℕ) (c d : Option (List ℕ)) (failed : Bool) (fault : FlowFault)
     → w ≤ length buf → Stops packing (rest ++ take w (buf ++ tail)) c d failed fault
     → Stops packing (rest ++ take w buf) c d failed fault

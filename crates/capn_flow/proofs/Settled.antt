@@ -285,7 +285,7 @@ settled_tag t bs count taken known tag l c is closed =
     settled_whole t bs count taken known l c
     (λ less. subst (λ (x : ℕ). (0 < x) × (x < 255)) (sym same) (closed less))
 
--- the last group of words that were unpacked but for it
+-- the last group of some words, where all groups before it were unpacked
 pub last_of : (t bs : List ℕ) (taken known : ℕ) (old new : List ℕ) (next : Next) → Chosen t bs → 8 ≤ length bs
     → UnpacksSome t (length bs / 8 - 1) old new taken known next → Last t bs (length bs / 8) taken known
 last_of t bs taken known old new next c some u =
@@ -294,7 +294,7 @@ last_of t bs taken known old new next c some u =
 
 -- ---- what is held
 
--- of bytes of which some that stand first were packed, and those behind are few
+-- of bytes of which the first were packed, and those after them are few
 pub settled_held : (held t first_of rest_of : List ℕ) (cut first at : ℕ) → IsSettled t (take cut held) first at
     → length held < length (take cut held) + 2048 → first_of ≡ take first t → rest_of ≡ drop at held
     → Settles held first_of rest_of × (length rest_of < most_held)

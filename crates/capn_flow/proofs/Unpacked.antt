@@ -27,7 +27,7 @@ use Rattle.capn_flow.specs.UnpackRun.{ending_of, unpacking}
 abbrev stopped : FlowFault → Ending
 stopped fault = Err fault
 
--- ---- groups that stand first in some bytes
+-- ---- groups that come first in some bytes
 
 -- none
 pub row_none : (bytes : List ℕ) → TakesRow bytes 0 [] []
@@ -39,7 +39,7 @@ row_some : (bytes words : List ℕ) (max taken count : ℕ) (next : Next)
 row_some bytes words max taken count next u =
     record { groups = u.groups; each = u.each; within = u.inside; text = u.text; content = u.content }
 
--- groups, and those that stand next
+-- groups, and those that come next
 row_then : (bytes words more : List ℕ) (at taken : ℕ) → TakesRow bytes at [] words
     → TakesRow (drop at bytes) taken [] more → TakesRow bytes (at + taken) [] (words ++ more)
 row_then bytes words more at taken s t = record {
@@ -57,7 +57,7 @@ pub row_more : (bytes words more : List ℕ) (at max taken count : ℕ) (next : 
 row_more bytes words more at max taken count next s u =
     row_then bytes words more at taken s (row_some (drop at bytes) more max taken count next u)
 
--- ---- what stands next
+-- ---- what comes next
 
 -- no whole group, unless there was no room for it
 none_next : (next : Next) (room : ℕ) (rest : List ℕ) → StandsNext next room rest → (next ≡ nexts.TooLong → ⊥)
@@ -248,7 +248,7 @@ start_at rest bytes text told =
     let s = told.1 in
     omega (arith, s.size, ap length s.text, length-append (texts s.groups) rest)
 
--- no end but that of a reader or a writer that failed is so told
+-- this ending is never Io: that is reported only where a reader or a writer failed
 not_io : (is_longer : Bool) (rest : List ℕ) (offset : ℕ) → ending_of is_longer rest offset ≡ Err faults.Io → ⊥
 not_io true rest offset e = cc
 not_io false [] offset e = cc

@@ -39,7 +39,7 @@ module _ (f : Flow) where
       ⊎ ((r ≡ Err faults.Io)
       ⊎ ((text : List ℕ) × f.gives bytes is_longer text r × Appends c d text))
 
-  -- the same of a whole input
+  -- a run has ended so over what it takes of a whole input
   abbrev pub EndsAs : Option (List ℕ) → Option (List ℕ) → Ending → List ℕ → Type 0
   EndsAs c d r input = HasEnded (taken_of input) (has_more input) c d r
 

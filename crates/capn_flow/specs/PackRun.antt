@@ -7,7 +7,7 @@ use Rattle.capn_pack.specs.Chosen.{Chosen}
 use Rattle.capn_flow.specs.declared.fault.FlowFault.TheVariants as faults
 use Rattle.capn_flow.specs.Flow.{Ending, Flow, Stops}
 
--- the whole words that stand first in these bytes
+-- the whole words that come first in these bytes
 abbrev pub whole_of : List ℕ → List ℕ
 whole_of bytes = take (length bytes / 8 * 8) bytes
 
@@ -44,7 +44,7 @@ packing = record { gives = λ bytes. IsPacked (length bytes) bytes; settles = Se
 
 -- ---- how far packing has come
 
--- the same of the last bytes, after a number of bytes in all
+-- the same flow for the last bytes, where packing ends after this number of bytes in all
 abbrev pub packing_last : ℕ → Flow
 packing_last count = record { gives = IsPacked count; settles = SettlesMost; begins = IsFront }
 

@@ -22,7 +22,7 @@ pub record IsUnpacked (bytes : List ℕ) (is_longer : Bool) (words : List ℕ) (
   pub split : Splits bytes group [] words offset
   pub ends : ending ≡ ending_of is_longer group offset
 
--- all whole groups that stand first in these bytes unpack to these words
+-- all whole groups that come first in these bytes unpack to these words
 abbrev pub UnpacksTo : List ℕ → List ℕ → Type 0
 UnpacksTo bytes words = (group : List ℕ) × (offset : ℕ) × Splits bytes group [] words offset
 
@@ -36,7 +36,7 @@ unpacking = record { gives = IsUnpacked; settles = UnpacksTo; begins = λ bytes 
 abbrev pub most_words : ℕ
 most_words = 16384
 
--- The words of the first whole groups were written, of as many as are held at once, and this stands next; or the run
+-- The words of the first whole groups were written, of as many as are held at once, and this comes next; or the run
 -- stopped among these bytes.
 abbrev pub WritesSome : List ℕ → Option (List ℕ) → Option (List ℕ) → Bool → Result Progress FlowFault → Type 0
 WritesSome bytes c d failed (Ok p) =
@@ -44,7 +44,7 @@ WritesSome bytes c d failed (Ok p) =
     × (failed ≡ false)
 WritesSome bytes c d failed (Err fault) = Stops unpacking bytes c d failed fault
 
--- The words of all whole groups that stand first were written, which take this many bytes; or the run stopped among
+-- The words of all whole groups that come first were written, which take this many bytes; or the run stopped among
 -- these bytes.
 abbrev pub WritesGroups : List ℕ → Option (List ℕ) → Option (List ℕ) → Bool → Result ℕ FlowFault → Type 0
 WritesGroups bytes c d failed (Ok at) =

@@ -16,7 +16,7 @@ pub enum FlowFault {
     Io,
     /// The input has more than 2^64 - 1 bytes.
     InputTooLong,
-    /// The packed input ends within the group whose tag stands at this offset, in bytes.
+    /// The packed input ends within the group whose tag is at this offset, in bytes.
     Cut(u64),
     /// The input has this number of bytes, which is no multiple of eight.
     NotWhole(u64),

@@ -4,7 +4,7 @@
 //! before it reads again. [`pack_stream`] writes the text that the packer has for the words of the stream, as far as no
 //! later word can change it. Memory is bounded, whatever comes.
 //!
-//! Of a call one record speaks, `Runs` in `specs/Flow.antt`: what was written of the input and how it ended, when it is
+//! One record describes a call, `Runs` in `specs/Flow.antt`: what was written of the input and how it ended, when it is
 //! `Io`, and what had been written where it ended early. What is written of some bytes is a [`Flow`] of that file, one
 //! for each direction.
 #![tactic(auto)]

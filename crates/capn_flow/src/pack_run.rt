@@ -60,7 +60,7 @@ fn zeros_of(bytes: &[u8]) -> usize
     zeros
 }
 
-/// Where the dense words begin that stand last, if a run may have as many and go on; else the end.
+/// Where the dense words begin that come last, if a run may have as many and go on; else the end.
 fn before_dense(words: &[u8]) -> usize
     requires { length words.now % 8 ≡ 0 }
     ensures whole { result % 8 ≡ 0 }
@@ -160,7 +160,7 @@ struct Settlement<A: Allocator + Copy> {
     rest: Vec<u8, A>,
 }
 
-/// Packs the whole words of some bytes as far as it is settled how. Dense words that stand last are held back with the
+/// Packs the whole words of some bytes as far as it is settled how. Dense words that come last are held back with the
 /// rest, if they may be in a run that goes on: so the groups before it need not be unpacked to find its beginning.
 fn settle<A: Allocator + Copy>(alloc: A, held: &[u8]) -> Result<Settlement<A>, AllocError>
     requires short { length held.now ≤ 131072 }
@@ -239,13 +239,13 @@ fn pack_last<W: Write, A: Allocator + Copy>(
 /// packing; the rest is own.)
 ///
 /// Settled is what no later word can change: all but the last group, and that too, unless it is a run of zero words or
-/// of raw words that may go on. With up to 255 dense words that stand last, fewer than 4,096 bytes are held back.
+/// of raw words that may go on. With up to 255 dense words that come last, fewer than 4,096 bytes are held back.
 ///
 /// Of the stream at most 2^64 - 1 bytes are taken, and one more is read, to know whether there are more. The run ends
-/// as done, or with the first fault: `Io` exactly if the reader or the writer failed; `Memory` if a growth was refused;
-/// `InputTooLong` if there are more bytes; `NotWhole`, with their number, if it is no multiple of eight. Before the two
-/// last the text of all whole words was written, after `Memory` and `Io` a beginning of it. It holds a chunk, its text
-/// and its words, each at most twice: less than 2 MiB.
+/// as done, or with the first fault: `Io` if and only if the reader or the writer failed; `Memory` if a growth was
+/// refused; `InputTooLong` if there are more bytes; `NotWhole`, with their number, if it is no multiple of eight.
+/// Before the two last the text of all whole words was written, after `Memory` and `Io` a beginning of it. It holds a
+/// chunk, its text and its words, each at most twice: less than 2 MiB.
 pub fn pack_stream<R: Read, W: Write, A: Allocator + Copy>(
     alloc: A,
     reader: &mut Watched<R>,

@@ -21,7 +21,7 @@ const UNFINISHED: usize = 2049;
 /// The most words that are held at once. No group has as many.
 const WORDS: u32 = 16_384;
 
-/// Writes the words of the whole groups that stand first, of as many as are held at once.
+/// Writes the words of the whole groups that come first, of as many as are held at once.
 fn write_some<W: Write, A: Allocator + Copy>(
     bytes: &[u8],
     words: &mut Vec<u8, A>,
@@ -37,7 +37,7 @@ fn write_some<W: Write, A: Allocator + Copy>(
     Ok(progress)
 }
 
-/// Writes the words of all whole groups that stand first, and answers how many bytes those groups take.
+/// Writes the words of all whole groups that come first, and answers how many bytes those groups take.
 fn write_groups<W: Write, A: Allocator + Copy>(
     bytes: &[u8],
     words: &mut Vec<u8, A>,
@@ -72,11 +72,11 @@ fn end_of_unpacking(rest: &[u8], offset: u64) -> Result<(), FlowFault>
 /// chunk before it reads again. (Page: packing; the rest is own.)
 ///
 /// Of the stream at most 2^64 - 1 bytes are taken, and one more is read, to know whether there are more. There is no
-/// maximum of words. The run ends as done, or with the first fault: `Io` exactly if the reader or the writer failed;
-/// `Memory` if a growth was refused; `InputTooLong` if there are more bytes; `Cut`, with the offset of its tag, if the
-/// input ends within a group. The words of whole groups before it were written; after `Memory` and `Io` a beginning of
-/// them. It holds a chunk, an unfinished group of at most 2,049 bytes, and up to 16,384 words, which it writes at once,
-/// in room that grows by doubling: less than 512 KiB, whatever comes.
+/// maximum of words. The run ends as done, or with the first fault: `Io` if and only if the reader or the writer
+/// failed; `Memory` if a growth was refused; `InputTooLong` if there are more bytes; `Cut`, with the offset of its tag,
+/// if the input ends within a group. The words of whole groups before it were written; after `Memory` and `Io` a
+/// beginning of them. It holds a chunk, an unfinished group of at most 2,049 bytes, and up to 16,384 words, which it
+/// writes at once, in room that grows by doubling: less than 512 KiB, whatever comes.
 pub fn unpack_stream<R: Read, W: Write, A: Allocator + Copy>(
     alloc: A,
     reader: &mut Watched<R>,

@@ -60,7 +60,7 @@ point (links ts) from to = list_to from to Link (count ts)
 point (rows bs) from to = list_to from to Rows (count_rows bs * row_size bs)
 point (cap k) from to = word_of (Cap k)
 
--- the pointers to values whose content stands one after the other, each with all below it (Page: canonicalization,
+-- the pointers to values whose contents follow one another, each with all below it (Page: canonicalization,
 -- preorder.)
 abbrev pub points : Trees → ℕ → ℕ → List ℕ
 points no_trees from to = []

@@ -7,14 +7,14 @@ use Rattle.capn_layout.specs.Layout.{point, lay}
 unfoldable pub laid : Tree → List ℕ → List ℕ
 laid t p = p ++ lay t (length p)
 
--- the pointers of the first n values are put over the words from a place on, and the content of each of these values is
--- appended (Own.)
+-- the pointers of the first n values are written over the words from a place on, and the content of each is appended
+-- (Own.)
 unfoldable pub laid_slots : ℕ → Trees → ℕ → List ℕ → List ℕ
 laid_slots zero ts first p = p
 laid_slots (suc n) no_trees first p = p
 laid_slots (suc n) (tree t ts) first p = laid_slots n ts (suc first) (laid t (set p first (point t first (length p))))
 
--- the slots of each row, of a words and b slots, are laid out; the first row stands at a place (Own.)
+-- the slots of each row, of a words and b slots, are laid out; the first row is at a place (Own.)
 unfoldable pub laid_rows : ℕ → ℕ → Bodies → ℕ → List ℕ → List ℕ
 laid_rows a b no_bodies at p = p
 laid_rows a b (body ws ss bs) at p = laid_rows a b bs (at + a + b) (laid_slots b ss (at + a) p)

@@ -9,7 +9,7 @@ use Rattle.capn_target.specs.Shapes.{IsContent}
 use Rattle.capn_layout.specs.FirstBits.{first_bits}
 
 module _ (m : List (List ℕ)) where
-  -- a value stands at a word of a segment (Own.)
+  -- a value is at a word of a segment (Own.)
   pub record HasSlot (s w : ℕ) (v : Tree) : Type 0 where
     pub message : IsMessage m
     pub exists : s < length m

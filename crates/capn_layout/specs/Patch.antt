@@ -4,7 +4,7 @@ use Rattle.std.specs.Prelude.{slice_get, slice_index, Bool, true, false, Option,
 use Rattle.std.specs.Int.{bit_at}
 use Rattle.capn_words.specs.Message.{word_number, AreBytes}
 
--- a hole stands there (Own.)
+-- a hole is there (Own.)
 abbrev pub IsHole : List (Option ℕ) → ℕ → Type 0
 IsHole cs at = slice_get cs at ≡ Some None
 
@@ -33,7 +33,7 @@ unfoldable pub flags : ℕ → ℕ → List ℕ → List Bool
 flags i zero marks = []
 flags i (suc n) marks = is_marked marks i ∷ flags (suc i) n marks
 
--- what stands at a word: a hole where it is marked (Own.)
+-- what is at a word: a hole where it is marked (Own.)
 abbrev pub cell : Bool → ℕ → Option ℕ
 cell true w = None
 cell false w = Some w

@@ -29,7 +29,7 @@ module _ {S : Type 0} (has : S → ℕ → Tree → Type 0) where
   abbrev pub IsLaid : S → ℕ → ℕ → List ℕ → List ℕ → Type 0
   IsLaid source slot from p q = (v : Tree) → has source slot v → q ≡ laid v (set p from (point v from (length p)))
 
-  -- the pointers to the values in slots have been put over the words from a place on, and their contents appended
+  -- the pointers to the values in slots were written over the words from a place on, and their contents appended
   -- (Own.)
   abbrev pub AreLaid : S → ℕ → ℕ → List ℕ → List ℕ → Type 0
   AreLaid source number first p q = (ts : Trees) → number ≤ count ts

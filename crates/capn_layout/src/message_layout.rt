@@ -14,7 +14,7 @@ use capn_value::Memory;
 use capn_words::{Place, Space};
 use std::alloc::Allocator;
 
-/// Where the pointer to the root stands.
+/// Where the pointer to the root is.
 const ROOT: Place = Place {
     segment: 0,
     word: 0,

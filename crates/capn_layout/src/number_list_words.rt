@@ -28,7 +28,7 @@ pub fn bits_of(width: Width) -> u64
     }
 }
 
-/// Appends the first bits of the words that stand from a place on; the bits past them are 0.
+/// Appends the first bits of the words from a place on; the bits past them are 0.
 pub fn append_bits<S: Space, A: Allocator>(
     space: &S,
     start: Place,

@@ -11,7 +11,7 @@ use capn_value::Memory;
 use capn_words::{Place, Space};
 use std::alloc::Allocator;
 
-/// Appends the first words of two parts of a row, the second of which stands after the whole of the first. They are
+/// Appends the first words of two parts of a row, the second of which comes after the whole of the first. They are
 /// one piece if the first is kept whole.
 #[inline(always)]
 fn push_parts<S: Space, A: Allocator>(

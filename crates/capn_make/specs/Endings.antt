@@ -23,7 +23,7 @@ Ends forms.Stream input ending = EndsEach input ending
 Ends forms.Packed input ending = EndsEach input ending
 Ends forms.Bare input ending = EndsOnly input ending
 
--- what a fault of an input is about stands there whole: if it is a wrong line, that line has its end
+-- what a fault of an input is about is complete: if it is a wrong line, that line has its end
 abbrev pub IsWhole : List ℕ → MakeFault → Type 0
 IsWhole input faults.Memory = ⊤
 IsWhole input faults.Io = ⊤
@@ -33,6 +33,6 @@ IsWhole input (faults.Capability n index) = ⊤
 IsWhole input (faults.Another n) = ⊤
 IsWhole input faults.NoText = ⊥
 
--- an input is refused by what stands there whole, and so whatever follows it
+-- an input is refused by what is complete in it, and so whatever follows it
 abbrev pub IsRefusedForGood : Form → List ℕ → Type 0
 IsRefusedForGood form input = (fault : MakeFault) × Ends form input (Err fault) × IsWhole input fault

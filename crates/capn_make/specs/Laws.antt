@@ -48,7 +48,7 @@ abbrev pub OneBareMaking : Type 0
 OneBareMaking = (input text other : List ℕ) (r s : Result (Unit {0}) MakeFault) → MakesOne input text r
     → MakesOne input other s → (text ≡ other) × (r ≡ s)
 
--- a fault of what stands in an input whole, and what is made before it, are those of the input whatever follows
+-- a fault of what is complete in an input, and what is made before it, are those of the input whatever follows
 abbrev pub FaultStays : Type 0
 FaultStays = (form : Form) (input more text : List ℕ) (fault : MakeFault) → IsWhole input fault
     → Makes form input text (Err fault) → Makes form (input ++ more) text (Err fault)

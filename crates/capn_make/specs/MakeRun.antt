@@ -40,7 +40,7 @@ pub record Made (form : Form) (a b c d : Option (List ℕ)) (reader_failed write
     (r : Result (Unit {0}) MakeFault) : Type 0 where
   -- of an input that is known it has written what is made, and ended as that does
   pub exact : IfSome a (EndsAs form c d r)
-  -- it ended with Io exactly if one of the two has failed
+  -- it ended with Io if and only if one of the two has failed
   pub io : (r ≡ Err faults.Io) ↔ ((reader_failed ≡ true) ⊎ (writer_failed ≡ true))
   -- however it ended, a beginning was written of what is made of the bytes that were read
   pub begun : (bytes : List ℕ) × Consumes a b bytes × HasBegunText form bytes c d

@@ -29,7 +29,7 @@ pub fn making()
     refusals();
 }
 
-/// An input that is refused by what stands there whole, a text or a wrong line with its line end, is refused so
+/// An input that is refused by what is complete in it, a text or a wrong line with its line end, is refused so
 /// whatever follows it.
 pub fn refusing()
     ensures stays { FaultStays }

@@ -20,7 +20,7 @@ use std::io::{Read, Write};
 /// It ends as done, or with the first fault. `NotText`, `Misfit` or `Capability`: the next text is refused, in this
 /// order; those before it have been written. In form `Bare` nothing is written then, and more than one text is
 /// `Another`, or `NotText` if the line after the first text begins none; no text is `NoText`. In the other forms an
-/// input without texts is done. `Io` exactly if the reader or the writer failed; `Memory` if a growth was refused,
+/// input without texts is done. `Io` if and only if the reader or the writer failed; `Memory` if a growth was refused,
 /// which takes some bytes, or the input has 2^64 bytes, which takes centuries.
 ///
 /// The reader is asked for at most 65,536 bytes at once. What is made of the texts so far is held until the end of the
@@ -28,7 +28,7 @@ use std::io::{Read, Write};
 /// allocated.
 ///
 /// An input that is refused whatever follows isn't read to its end: if n bytes are enough to refuse it, by a text that
-/// stands there with its line `end`, by one that goes too deep, or by a wrong line with its line end, at most
+/// is there with its line `end`, by one that goes too deep, or by a wrong line with its line end, at most
 /// 4 n + 65,536 bytes are taken. To test for that, an unfinished text is read again each time there are four times as
 /// many bytes of it. A wrong line without its line end may be the beginning of one that isn't wrong, so a single line
 /// is read however long it is.

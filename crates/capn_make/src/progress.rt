@@ -39,7 +39,7 @@ fn drop_front<A: Allocator>(bytes: &mut Vec<u8, A>, count: usize)
     bytes.truncate(len - count);
 }
 
-/// Whether what a fault is about stands whole in what is left, from a line on. A wrong line without its line end may be
+/// Whether what a fault is about is complete in what is left, from a line on. A wrong line without its line end may be
 /// the beginning of one that isn't wrong.
 fn is_whole(rest: &[u8], line: u64, fault: MakeFault) -> bool
     ensures whole { result ≡ true → IsWholeFrom line rest.now fault }
@@ -53,7 +53,7 @@ fn is_whole(rest: &[u8], line: u64, fault: MakeFault) -> bool
 }
 
 impl<A: Allocator + Copy> Progress<A> {
-    /// Makes the texts that stand whole by now, and keeps what is left. Answers how the input ends if nothing follows.
+    /// Makes the texts that are complete by now, and keeps what is left. Answers how the input ends if nothing follows.
     fn go_on(&mut self, alloc: A, form: Form) -> Result<(), MakeFault>
         ensures made { (input : List ℕ)
             → HasMade form input (record { rest = self.old.rest.items; line = self.old.line }) self.old.made.items
@@ -72,7 +72,7 @@ impl<A: Allocator + Copy> Progress<A> {
         ending
     }
 
-    /// Makes the texts that stand whole by now, and keeps what is left. Answers why the input is refused whatever
+    /// Makes the texts that are complete by now, and keeps what is left. Answers why the input is refused whatever
     /// follows, if it is.
     pub(crate) fn find_refusal(
         &mut self,

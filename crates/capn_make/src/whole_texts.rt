@@ -1,4 +1,4 @@
-//! The texts that stand whole in what is left of an input.
+//! The texts that are complete in what is left of an input.
 
 ghost use Rattle.std.specs.Prelude.{◌≡◌, ◌≢◌, ℕ, List, [], IsErrOf};
 ghost use Rattle.capn_canon.specs.declared.form.Form.TheVariants as forms;
@@ -80,7 +80,7 @@ fn make_one<A: Allocator + Copy>(
     end_of_one(texts)
 }
 
-/// Makes the texts that are next, as far as a form takes them, and tells how the input ends that they are left of.
+/// Makes the next texts, as far as a form takes them, and answers how the input ends whose rest they are.
 pub(crate) fn make_texts<A: Allocator + Copy>(
     alloc: A,
     form: Form,

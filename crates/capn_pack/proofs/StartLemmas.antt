@@ -1,4 +1,4 @@
--- A whole group stands first.
+-- A whole group comes first.
 use Rattle.std.proofs.Common.{◌≡◌, inl, inr, ℕ, ◌*◌, ◌<◌, ◌≤◌, List, [], ◌∷◌, ◌++◌, length, take, drop}
 use Rattle.std.proofs.Common.{slice_range, sym, ap, ◌∙◌, arith, append_assoc, length-take}
 use Rattle.std.proofs.Common.{take-append-drop, Result, IsErrAnd}
@@ -65,7 +65,7 @@ no_groups bytes at (Zeros more ∷ gs) within e none = absurd (omega (arith, non
 no_groups bytes at (Named tag word ∷ gs) within e none = absurd (omega (arith, none))
 no_groups bytes at (Raw word count more ∷ gs) within e none = absurd (omega (arith, none))
 
--- what stands after the groups so far, where there is room for it, or the first of them
+-- what comes after the groups so far, where there is room for it, or the first of them
 pub unpacked_starts : (bytes : List ℕ) (at : ℕ) (out : List ℕ) (room max : ℕ) → Unpacked bytes at out room max
     → StartsWithin (slice_range bytes at (length bytes)) room → StartsWithin bytes max
 unpacked_starts bytes at out room max u s = elim (cases_lt 0 (length out)) [

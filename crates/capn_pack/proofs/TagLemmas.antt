@@ -22,7 +22,7 @@ pub mask_tag : (xs : List ℕ) → length xs ≡ 8
     → mask_l (map (top 7) (zip2 (λ a b. cond (differs a b) 255 0) xs (replicate 8 0))) % 2 ^ 64 ≡ tag_of xs
 mask_tag xs long = bitmask_splat w8 differs xs 8 0 long (omega arith) ∙ mask_is xs
 
--- the same of four words
+-- the same for the 32 bytes of four words
 pub mask_four : (xs : List ℕ) → length xs ≡ 32
     → mask_l (map (top 7) (zip2 (λ a b. cond (differs a b) 255 0) xs (replicate 32 0))) % 2 ^ 64 ≡ tag_of xs
 mask_four xs long = bitmask_splat w8 differs xs 32 0 long (omega arith) ∙ mask_is xs

@@ -57,7 +57,7 @@ pub appended_room : (bytes : List ℕ) (at : ℕ) (old out : List ℕ) (room max
 appended_room bytes at old out room max u =
     omega (arith, u.counted, ap length u.row.content, length-append old (contents u.row.groups))
 
--- what stands next
+-- what comes next
 pub some_next : (bytes : List ℕ) (at : ℕ) (old out : List ℕ) (room max taken words : ℕ) (next is : Next)
     → Appended bytes at old out room max → taken ≡ at → words + room ≡ max → next ≡ is
     → StandsNext is room (drop at bytes) → UnpacksSome bytes max old out taken words next
@@ -117,7 +117,7 @@ some_appended bytes at old out room max u = record {
   );
 }
 
--- a group stands first where one stands after some groups, within the maximum if both are
+-- a group comes first where one comes after some groups, within the maximum if both are
 starts_from : (bytes : List ℕ) (at : ℕ) (gs : List Group) (room max : ℕ) → AllByRecursion IsGroup gs
     → at ≤ length bytes → take at bytes ≡ texts gs → word_count gs + room ≡ max
     → StartsWithin (slice_range bytes at (length bytes)) room → StartsWithin bytes max
@@ -141,7 +141,7 @@ starts_from bytes at (g ∷ gs) room max each within e size s = record {
   fits = omega (arith, size);
 }
 
--- a whole group stands first in the whole text if one does in the rest that the groups so far leave
+-- a whole group comes first in the whole text if one does in the rest that the groups so far leave
 pub some_starts : (bytes : List ℕ) (at : ℕ) (old out : List ℕ) (room max : ℕ) → Appended bytes at old out room max
     → StartsWithin (slice_range bytes at (length bytes)) room → StartsWithin bytes max
 some_starts bytes at old out room max u s =

@@ -3,7 +3,7 @@ use Rattle.std.specs.Prelude.{ℕ, ◌≡◌, ◌+◌, ◌-◌, ◌^◌, ◌++�
 use Rattle.std.specs.List.{AllByRecursion}
 use Rattle.capn_pack.specs.Packed.{Group, IsGroup, text, texts, contents}
 
--- No whole group stands at the front of these bytes.
+-- No whole group is at the front of these bytes.
 abbrev pub NoGroupFirst : List ℕ → Type 0
 NoGroupFirst rest = (group : Group) (more : List ℕ) → IsGroup group → rest ≡ text group ++ more → ⊥
 

@@ -46,7 +46,7 @@ pub record Stands (Fault : ℕ → List ℕ → Type 0) (b : List ℕ) (max at :
   pub counted : left + word_count groups ≡ max
   pub fault : Fault left rest
 
--- A whole group stands first, and has no more words than there is room for.
+-- A whole group comes first, and has no more words than there is room for.
 pub record StartsWithin (rest : List ℕ) (room : ℕ) : Type 0 where
   pub group : Group
   pub more : List ℕ

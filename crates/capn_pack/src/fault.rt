@@ -1,4 +1,4 @@
-//! Why bytes aren't packed or unpacked. The variants stand in the order in which they are tested, except for memory.
+//! Why bytes aren't packed or unpacked. The variants are in the order in which they are tested, except for memory.
 ghost use Rattle.std.specs.Prelude.{◌≡◌};
 
 use std::alloc::AllocError;
@@ -47,12 +47,12 @@ pub enum UnpackFault {
     Memory,
     /// The text ends within the group that begins there.
     Cut {
-        /// Where the group's tag stands.
+        /// Where the group's tag is.
         at: u64,
     },
     /// The group that begins there has more words than the maximum leaves.
     TooLong {
-        /// Where the group's tag stands.
+        /// Where the group's tag is.
         at: u64,
     },
     /// An earlier call on the same unpacker has refused.

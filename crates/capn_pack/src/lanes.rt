@@ -6,7 +6,7 @@ use crate::gather_table::gather_places;
 use crate::spread_table::spread_places;
 use std::simd::prelude::*;
 
-/// The tag of a word: bit i is 1 exactly if byte i isn't zero. (Page: packing.)
+/// The tag of a word: bit i is 1 if and only if byte i isn't zero. (Page: packing.)
 ///
 /// It is the sum of the weights of the lanes that aren't zero. It takes no memory.
 #[inline(always)]

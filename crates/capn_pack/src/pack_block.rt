@@ -33,7 +33,7 @@ fn store_pair(block: &mut [u8], at: usize, pair: [u8; 2])
     block[at..at + 2].copy_from_slice(&pair);
 }
 
-/// Writes a raw group of at most eight words after the bytes that wait, if a span of bytes stands after its first word.
+/// Writes a raw group of at most eight words after the bytes that wait, if a span of bytes comes after its first word.
 #[inline(always)]
 fn store_raw(bytes: &[u8], at: usize, block: &mut [u8], fill: usize) -> Option<Block>
     requires inside { at + 8 ≤ length bytes.now }

@@ -38,7 +38,7 @@ fn pack_words<A: Allocator + Copy>(alloc: A, bytes: &[u8]) -> Result<Vec<u8, A>,
 /// The packed text of whole words, which this packer chooses. (Page: packing; where runs end is our own.)
 ///
 /// `bytes` are the words' bytes, the least first. The answer grows on `alloc` a logarithmic number of times: it gets
-/// room for the rest of the words, as if they packed like those before, but for 64 times what it has at most; or for
+/// room for the rest of the words, as if they packed like those before, but for at most 64 times what it has; or for
 /// twice what it has.
 ///
 /// Refusals: `NotWhole` with the number of bytes where that is no multiple of eight, before any growth; `Memory` where
@@ -50,7 +50,7 @@ pub fn pack<A: Allocator + Copy>(alloc: A, bytes: &[u8]) -> Result<Vec<u8, A>, P
     // The packer has one text for these words: it is answered, unless memory runs out.
     ensures only { (b : List ℕ) → Chosen b bytes.now
         → MatchResult result (λ v. v.items ≡ b) (λ e. e ≡ PackFault.Memory) }
-    // Two of the packer's texts are equal exactly if their words are.
+    // Two of the packer's texts are equal if and only if their words are.
     ensures unique { (a b vs ws : List ℕ) → Chosen a vs → Chosen b ws
         → ((a ≡ b) ↔ (vs ≡ ws)) }
     // Memory is needed only if there are bytes.

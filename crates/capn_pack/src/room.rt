@@ -26,7 +26,7 @@ pub(crate) fn text_room<A: Allocator>(
     count.saturating_add(text.saturating_mul(times))
 }
 
-/// The room for `count` bytes of words, which stand first in the rest of a text; where there is none yet, for twice the
+/// The room for `count` bytes of words, which come first in the rest of a text; where there is none yet, for twice the
 /// bytes of the rest, within the maximum: ten bytes of groups have at least eight bytes of words.
 #[inline(always)]
 pub(crate) fn words_room<A: Allocator>(

@@ -235,7 +235,7 @@ fn fill_rest(text: &[u8], from: Block, block: &mut [u8], limit: usize) -> Block
     Block { at, fill }
 }
 
-/// Fills the block with the words of the groups that stand first, as far as it goes.
+/// Fills the block with the words of the groups that come first, as far as it goes.
 fn fill_block(text: &[u8], block: &mut [u8], limit: usize) -> Block
     requires { limit + SLACK ≤ length block.old }
     ensures within { result.fill ≤ limit }
@@ -254,7 +254,7 @@ fn fill_block(text: &[u8], block: &mut [u8], limit: usize) -> Block
     fill_rest(text, from, block, limit)
 }
 
-/// Appends the words of the groups that stand first, as many as a block holds and there is room for; it may be none.
+/// Appends the words of the groups that come first, as many as a block holds and there is room for; it may be none.
 pub(crate) fn take_block<A: Allocator>(
     rest: &[u8],
     room: usize,

@@ -112,7 +112,7 @@ fn take_raw<A: Allocator>(rest: &[u8], room: usize, out: &mut Vec<u8, A>) -> Res
     })
 }
 
-/// Reads the group that stands first, and appends its words.
+/// Reads the group that comes first, and appends its words.
 pub(crate) fn take_group<A: Allocator>(
     rest: &[u8],
     room: usize,

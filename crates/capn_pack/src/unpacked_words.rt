@@ -71,7 +71,7 @@ pub fn unpack<A: Allocator + Copy>(
         → MatchResult result (λ v. v.items ≡ bs) (λ e. e ≡ UnpackFault.Memory) }
     // What each refusal means, and where.
     ensures refused { IfErr result (λ e. IsUnpackRefused bytes.now max_words e) }
-    // Memory is needed only if a whole group within the maximum stands first.
+    // Memory is needed only if a whole group within the maximum comes first.
     ensures memory { IsErrOf result UnpackFault.Memory → StartsWithin bytes.now max_words }
 {
     match unpack_groups(alloc, bytes, max_words) {

@@ -77,7 +77,7 @@ impl Unpacker {
         // After a refusal nothing changes any more.
         ensures failed { self.old.failed ≡ true → (result ≡ Err UnpackFault.Failed)
             × (out.new.items ≡ out.old.items) × (self.new ≡ self.old) }
-        // Before one, only memory can be wanting.
+        // Before one, only memory can be refused.
         ensures kinds { self.old.failed ≡ false → IfErr result (λ e. e ≡ UnpackFault.Memory) }
     {
         if self.failed {

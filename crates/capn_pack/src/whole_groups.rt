@@ -47,7 +47,7 @@ fn stopped(bytes: usize, max_words: u32, room: usize, next: Next) -> Progress
     }
 }
 
-/// Appends the words of the whole groups that stand first, as long as they come to at most `max_words`. (Own.)
+/// Appends the words of the whole groups that come first, as long as they come to at most `max_words`. (Own.)
 ///
 /// A text that comes in pieces is unpacked under a maximum by calls of it: each takes what the last call left, and the
 /// piece that came, with the words that the last call left of the maximum. Where the text ends, what is left is refused
@@ -61,12 +61,12 @@ pub fn unpack_some<A: Allocator>(
     max_words: u32,
     out: &mut Vec<u8, A>,
 ) -> Result<Progress, AllocError>
-    // Its words were appended, and no whole group within what is left of the maximum stands next.
+    // Its words were appended, and no whole group within what is left of the maximum comes next.
     ensures some { IfOk result (λ p. UnpacksSome bytes.now max_words out.old.items out.new.items p.bytes p.words
         p.next) }
     // Without memory a beginning of the words within the maximum was appended.
     ensures begun { OnErr result (AppendsSome bytes.now max_words out.old.items out.new.items) }
-    // Memory is asked for only where a whole group within the maximum stands first.
+    // Memory is asked for only where a whole group within the maximum comes first.
     ensures memory { OnErr result (StartsWithin bytes.now max_words) }
 {
     let mut block = [0; BLOCK];

@@ -155,7 +155,7 @@ named name rows o m = go o m
     go (orders.Flow flows.Unpack) m = inr (inr (inr (inr (inr (inr (inr (inr (inl m.0))))))))
     go (orders.Make f) m = inr (inr (inr (inr (inr (inr (inr (inr (inr (inl m.0)))))))))
 
--- of `pack` and `unpack` it is told whether `--streaming` is given
+-- for `pack` and `unpack` it is known whether `--streaming` is given
 abbrev pub IsToldStreaming : List Row → Type 0
 IsToldStreaming rows = (given : Bool) × FlagIs rows (codes "streaming") given
 

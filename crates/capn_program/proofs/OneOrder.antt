@@ -47,7 +47,7 @@ flag_one rows option a b x y = text_one a b (sym x ∙ y)
 abbrev pub tell : Text → ℕ
 tell text = slice_index text 1 + 2 * slice_index text 2
 
--- what the name of a command over messages or bytes tells
+-- the number of a command over messages or bytes, by these characters of its name
 abbrev pub tell_command : Command → ℕ
 tell_command (commands.Show f l) = 326
 tell_command (commands.Check f l) = 306
@@ -230,7 +230,7 @@ pick_one rows p q (f, w, usual, a, b) (g, v, usually, c, d) =
     ∙ sym usually)
     (number_one rows (codes "from") p.from q.from a.0 c.0) (number_one rows (codes "to") p.to q.to b.0 d.0)
 
--- a style is told by its flags
+-- a style is known by its flags
 style_one : (rows : List Row) (s t : Style) → StyleIs rows s → StyleIs rows t → s ≡ t
 style_one rows styles.Lines styles.Lines a b = refl
 style_one rows styles.Lines styles.Quoted a b =
@@ -266,7 +266,7 @@ show_one rows s t (f, l, style, way) (g, m, other, also) = (
 
 -- ---- two orders of two kinds
 
--- of a command over messages it is told whether parts or a style are shown
+-- words without `--at` and without a style order no part and no other style
 no_show : (rows : List Row) (style : Style) (way : Option (Bor Text)) → first_of (codes "at") rows ≡ None
     → StyleIs rows styles.Lines → StyleIs rows style → WayIs rows style way → ⊥
 no_show rows style None none lines is other = other.1 (style_one rows style styles.Lines is lines)

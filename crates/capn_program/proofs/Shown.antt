@@ -41,7 +41,7 @@ shown c m d old new r written io k (inr (is, failed)) =
     rw is (begun_all c d version_line (kept c m d version_line k written), failed)
 
 module _ (kind : ErrorKind) (output errors : Course) (status : ℕ) where
-  -- the words wish for the version, and it was shown
+  -- the words ask for the version, and it was shown
   pub ends_version : (outcome : Ending) → kind ≡ kinds.DisplayVersion → ShowsVersion output outcome
       → ReportsEnding outcome errors.before errors.after errors.failed → status ≡ status_of outcome
       → EndsUnordered kind output errors status
@@ -50,7 +50,7 @@ module _ (kind : ErrorKind) (output errors : Course) (status : ℕ) where
     other = λ no. absurd (no is);
   }
 
-  -- they wish for something else, or for nothing
+  -- they ask for something else, or for nothing
   pub ends_otherwise : (version : Bool) → (kind ≡ kinds.DisplayVersion → version ≡ true) → version ≡ false
       → tool.EndsUnordered kind output errors status → EndsUnordered kind output errors status
   ends_otherwise version wishes none ended = record {

@@ -43,11 +43,11 @@ abbrev pub WritesEnding : {F : Type 0} → (F → List ℕ) → Result (Unit {0}
 WritesEnding text (Ok u) old new failed = (new ≡ old) × (failed ≡ false)
 WritesEnding text (Err fault) old new failed = WritesFault (text fault) old new failed
 
--- the same of a run over an archive
+-- the ending of a run over an archive was written
 abbrev pub WritesArchiveEnding : Result (Unit {0}) ArchiveFault → Option (List ℕ) → Option (List ℕ) → Bool → Type 0
 WritesArchiveEnding = WritesEnding archive_text
 
--- of one over texts
+-- that of a run over texts was written
 abbrev pub WritesMakeEnding : Result (Unit {0}) MakeFault → Option (List ℕ) → Option (List ℕ) → Bool → Type 0
 WritesMakeEnding = WritesEnding made.fault_text
 
@@ -58,7 +58,7 @@ archive_fault_of run_faults.Io = faults.Io
 archive_fault_of run_faults.InputTooLong = faults.InputTooLong
 archive_fault_of (run_faults.Refused at refusal) = faults.Refused at refusal
 
--- of one that picks messages, which has the texts of one over an archive
+-- that of a run that picks messages was written, with the texts of a run over an archive
 abbrev pub WritesPickEnding : Result (Unit {0}) RunFault → Option (List ℕ) → Option (List ℕ) → Bool → Type 0
 WritesPickEnding = WritesEnding (λ fault. archive_text (archive_fault_of fault))
 

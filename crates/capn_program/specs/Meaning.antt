@@ -131,7 +131,7 @@ MeansOrder (Some s) (orders.Pick pick) = (s.0 ≡ codes "pick") × PickIs s.1 pi
 MeansOrder (Some s) (orders.Flow flow) = IsFlow s.0 s.1 flow
 MeansOrder (Some s) (orders.Make form) = (s.0 ≡ codes "make") × FormIs s.1 form
 
--- no way, or two whose texts are equal, wherever these stand
+-- no way, or two whose texts are equal, wherever these are
 abbrev pub IsSameWay : Option (Bor Text) → Option (Bor Text) → Type 0
 IsSameWay None None = ⊤
 IsSameWay None (Some way) = ⊥

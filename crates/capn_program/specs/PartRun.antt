@@ -1,4 +1,4 @@
--- What a run that shows messages did: of each, in a style, what stands at a way from its root, or all of it. (Own.)
+-- What a run that shows messages did: of each, in a style, what is at a way from its root, or all of it. (Own.)
 use Rattle.std.specs.Prelude.{◌≡◌, ◌⊎◌, ℕ, List, [], ◌∷◌, ◌++◌, codes, Bool, false, Option, Some, Result, Ok, Err}
 use Rattle.capn_value.specs.Tree.{Tree}
 use Rattle.capn_walk.specs.Accepted.{IsValueOf, IsWalkRefused}
@@ -27,17 +27,17 @@ end_of styles.Lines = codes "end" ++ 10 ∷ []
 end_of styles.Quoted = codes "end" ++ 10 ∷ []
 end_of styles.Json = []
 
--- the text of what stands at a way from a value, in a style, and what ends it
+-- the text of what is at a way from a value, in a style, and what ends it
 abbrev pub ended_part : Style → List ℕ → Tree → List ℕ
 ended_part style way v = styled style way v ++ end_of style
 
--- a message that is accepted writes the text of what stands at the way from its root, and what ends it; it changes
+-- a message that is accepted writes the text of what is at the way from its root, and what ends it; it changes
 -- nothing
 abbrev pub serves : PartTexts → Position → List ℕ → List (List ℕ) → List ℕ → PartTexts → Type 0
 serves s at frame message text t =
     ((v : Tree) × IsValueOf message s.limits v × (text ≡ ended_part s.style s.way.now v)) × (t ≡ s)
 
--- a message is refused as its walk is, whatever stands at the way
+-- a message is refused as its walk is, whatever is at the way
 abbrev pub refuses : PartTexts → Position → List ℕ → List (List ℕ) → Refusal → Type 0
 refuses s at frame message r = (stop : Stopped) × (r ≡ refusals.Walk stop)
     × IsWalkRefused message s.limits stop.fault stop.place stop.paid stop.visits
@@ -72,7 +72,7 @@ NeedsMemory a b c d reader_failed writer_failed r = (r ≡ Err faults.Memory) ×
     × (reader_failed ≡ false) × (writer_failed ≡ false)
 
 -- What a run did, over a reader (from a to b) and a writer (from c to d). The text of its order, if it has one, is a
--- way; if it has none, all of each message is shown, which stands at the way of no numbers.
+-- way; if it has none, all of each message is shown, which is at the way of no numbers.
 abbrev pub PartsShown : Show → Option (List ℕ) → Option (List ℕ) → Option (List ℕ) → Option (List ℕ) → Bool → Bool
     → Result (Unit {0}) ToolFault → Type 0
 PartsShown show a b c d reader_failed writer_failed r = (way : List ℕ) → numbers_of show.way ≡ Some way

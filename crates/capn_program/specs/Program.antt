@@ -72,7 +72,7 @@ ShowsParts show = RunsFlushed tool_faults.Io (PartsShown show)
 abbrev pub RunsOver : Archive → Course → Course → Result (Unit {0}) ArchiveFault → Type 0
 RunsOver archive = RunsFlushed faults.Io (Archived archive)
 
--- a run left out doubles, or counted
+-- a run left out duplicates, or counted
 abbrev pub LeavesDoublesOut : Uniq → Course → Course → Result (Unit {0}) ArchiveFault → Type 0
 LeavesDoublesOut uniq = RunsFlushed faults.Io (Sieved uniq)
 
@@ -119,7 +119,7 @@ EndsShow = EndsOrder (λ show. orders.Show show) ShowsParts ReportsEnding status
 abbrev pub EndsArchive : List Text → Course → Course → Course → ℕ → Type 0
 EndsArchive = EndsOrder (λ archive. orders.Archive archive) RunsOver WritesArchiveEnding archive_status
 
--- the words order that doubles are left out
+-- the words order that duplicates are left out
 abbrev pub EndsUniq : List Text → Course → Course → Course → ℕ → Type 0
 EndsUniq = EndsOrder (λ uniq. orders.Uniq uniq) LeavesDoublesOut WritesArchiveEnding archive_status
 

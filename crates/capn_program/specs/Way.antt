@@ -1,4 +1,4 @@
--- The text of a way: the numbers that lead from the root of a message to what stands below it. (Own.)
+-- The text of a way: the numbers that lead from the root of a message to what is below it. (Own.)
 use Rattle.std.specs.Prelude.{◌≡◌, ℕ, ◌+◌, ◌-◌, ◌*◌, ◌^◌, ◌==◌, ◌&&◌, nat_le, nat_lt, List, [], ◌∷◌, Option, Some, None}
 use Rattle.std.specs.Prelude.{codes, cond, option_and_then, option_map, unwrap_or, refl}
 use Rattle.std.specs.Borrow.{Bor}

@@ -85,8 +85,8 @@ fn go_over<R: Read, W: Write>(
     flush_after(outcome, ArchiveFault::Io, writer)
 }
 
-/// Leaves doubles out of an archive, and flushes the output. It ends as the run does, or with `Io` if the run is done
-/// and the flush fails.
+/// Leaves duplicates out of an archive, and flushes the output. It ends as the run does, or with `Io` if the run is
+/// done and the flush fails.
 fn leave_doubles_out<R: Read, W: Write>(
     alloc: Global,
     uniq: Uniq,

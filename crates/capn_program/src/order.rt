@@ -14,7 +14,7 @@ pub enum Flow {
     Unpack,
 }
 
-/// What of each message is shown, and how: all of it, or what stands at a way from its root.
+/// What of each message is shown, and how: all of it, or what is at a way from its root.
 #[derive(Clone, Copy, Debug, PartialEq, Eq)]
 pub struct Show<'a> {
     /// How the input holds its messages.
@@ -32,11 +32,11 @@ pub struct Show<'a> {
 pub enum Order<'a> {
     /// A command over messages or bytes, whose input has a greatest length.
     Message(Command),
-    /// Shows each message of an input, which may have any length, in a style, or what stands at a way from its root.
+    /// Shows each message of an input, which may have any length, in a style, or what is at a way from its root.
     Show(Show<'a>),
     /// A run over an archive, which may have any length.
     Archive(Archive),
-    /// Writes the messages of an archive without doubles, or counts them.
+    /// Writes the messages of an archive without duplicates, or counts them.
     Uniq(Uniq),
     /// Writes some messages of a stream as they stand.
     Pick(Pick),

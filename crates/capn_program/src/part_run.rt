@@ -12,11 +12,11 @@ use capn_tool::{ToolFault, Watched};
 use std::alloc::Allocator;
 use std::io::{Read, Write};
 
-/// Writes of each message of an input, in a style, the text of what stands at a way from its root, or of all of it.
+/// Writes of each message of an input, in a style, the text of what is at a way from its root, or of all of it.
 ///
-/// Then comes the line `end`, but not after JSON. Where nothing stands at the way, the text is the line `none`, or in
+/// Then comes the line `end`, but not after JSON. Where nothing is at the way, the text is the line `none`, or in
 /// JSON an empty line. A message is answered as soon as it is complete. The run ends as done, or with the first fault:
-/// a frame, a group or a message that is refused; `InputTooLong`; `Io` exactly if the reader or the writer failed;
+/// a frame, a group or a message that is refused; `InputTooLong`; `Io` if and only if the reader or the writer failed;
 /// `Memory` if a growth was refused. A message is refused as by `show`, since all of it is surveyed first.
 pub fn show_parts<R: Read, W: Write, A: Allocator + Copy>(
     alloc: A,

@@ -1,4 +1,4 @@
-//! The service that writes, in a style, what stands at a way from the root of each message.
+//! The service that writes, in a style, what is at a way from the root of each message.
 
 ghost use Rattle.std.specs.Prelude.{◌≡◌, ◌≢◌, ◌⊎◌, List, ℕ, false};
 ghost use Rattle.capn_words.specs.Watched.{has_failed};
@@ -17,7 +17,7 @@ use capn_words::{Space, Watched};
 use std::alloc::Allocator;
 use std::io::Write;
 
-/// What is written of each message of a stream, within limits: the text of what stands at a way, and what ends it.
+/// What is written of each message of a stream, within limits: the text of what is at a way, and what ends it.
 #[derive(Drop)]
 pub struct PartTexts<'w> {
     /// The numbers of the way.
@@ -65,7 +65,7 @@ fn add_end<W: Write, A: Allocator>(
     }
 }
 
-/// Adds the text of what stands at a way from a message's root, in a style, and what ends it. Long texts are written
+/// Adds the text of what is at a way from a message's root, in a style, and what ends it. Long texts are written
 /// while they are made.
 fn add_part<S: Space, W: Write, A: Allocator + Copy>(
     alloc: A,

@@ -48,7 +48,7 @@ fn page_of(name: &str) -> Page {
     }
 }
 
-/// The parser's error for an option that says nothing to a command, with that command's usage.
+/// The parser's error for an option that means nothing to a command, with that command's usage.
 pub(crate) fn mistake(alloc: Global, name: &str, text: &str) -> Result<clap::Error, AllocError>
     ensures { IfOk result (λ e. kind_of e ≡ kinds.InvalidValue) }
 {

@@ -1,4 +1,4 @@
-//! The text of a way: the numbers that lead from the root of a message to what stands below it.
+//! The text of a way: the numbers that lead from the root of a message to what is below it.
 
 ghost use Rattle.std.specs.Prelude.{◌≡◌, List, ℕ, IfOk, Some, is_some};
 ghost use Rattle.capn_program.specs.Way as spec;

@@ -79,7 +79,7 @@ module _ {S : Type 0} (serves : S → Position → List ℕ → List (List ℕ) 
 
 -- ---- a message that was held
 
--- a message that stands first in what a framer holds is all of it
+-- a message that comes first in what a framer holds is all of it
 pub held_whole : (rest : List ℕ) (most : ℕ) (message : List (List ℕ)) (taken : ℕ) → StandsFirst rest most message taken
     → IsFrame rest most ⊎ IsUnfinished rest most → ((m : List (List ℕ)) (t : ℕ) → StandsFirst rest most m t
     → (message ≡ m) × (taken ≡ t)) → take taken rest ≡ rest
@@ -91,7 +91,7 @@ held_whole rest most message taken first (inr (inl none)) only =
 held_whole rest most message taken first (inr (inr cut)) only =
     let bad = refused_whole rest most frame_faults.Cut (whole_of rest most message taken first) cut in absurd (cc)
 
--- what a framer holds is no whole message where none stands first in it
+-- what a framer holds is no whole message where none comes first in it
 pub held_open : (rest : List ℕ) (most : ℕ) (e : FrameFault) → e ≢ frame_faults.Memory
     → IsFrame rest most ⊎ IsUnfinished rest most
     → ((m : List (List ℕ)) (t : ℕ) → StandsFirst rest most m t → e ≡ frame_faults.Memory) → IsUnfinished rest most
@@ -99,7 +99,7 @@ held_open rest most e other (inl (m, frames, room)) only =
     absurd (other (only m (length rest) (stands_alone rest most m frames room)))
 held_open rest most e other (inr part) only = part
 
--- what a framer holds is a frame where a message stands first in it
+-- what a framer holds is a frame where a message comes first in it
 pub held_frame : (rest : List ℕ) (most other : ℕ) (message : List (List ℕ)) (taken : ℕ)
     → StandsFirst rest most message taken → take taken rest ≡ rest → other ≡ most → IsFrame rest other
 held_frame rest most other message taken first all same =
@@ -149,7 +149,7 @@ module _ {X : Type 0} (f : Fold X) (x : X) (before : Framing) (good : before.fai
   held_none a failed fine part =
       (tells_none f x before.rest a, record { good = good; part = part; most = same }, fine)
 
-  -- no whole message stood first
+  -- no whole message came first
   pub held_passed : (most : ℕ) (a : Outgoing) (failed : Bool) (fault : FrameFault) (r : Result (Unit {0}) RunFault)
       → most ≡ f.most → failed ≡ false → IsFrame before.rest most ⊎ IsUnfinished before.rest most
       → ((m : List (List ℕ)) (t : ℕ) → StandsFirst before.rest most m t → fault ≡ frame_faults.Memory)

@@ -43,7 +43,7 @@ goes_packed at true false group offset = tt
 goes_packed at false false [] offset = tt
 goes_packed at false false (b ∷ group) offset = refl
 
--- some whole groups that stand first in bytes stand first in more of them
+-- some whole groups that come first in bytes come first in more of them
 begins_longer : (s more stream : List ℕ) → packing.Begins s [] stream → packing.Begins (s ++ more) [] stream
 begins_longer s more stream b = record {
   groups = b.groups;

@@ -22,7 +22,7 @@ adds_more a b c t u (w, f, e) (v, g, d) = (
   append_assoc w v c.kept ∙ ap (λ (p : List ℕ). w ++ p) d ∙ both_kept a b w t u e,
 )
 
--- the writer failed behind what was added
+-- the writer failed after what was added
 pub breaks_behind : (a b c : Outgoing) (t u : List ℕ) (count : ℕ) → Adds a b t → Breaks b c count u → (n : ℕ)
     × Breaks a c n (t ++ u)
 breaks_behind a b c t u count (w, f, e) broken =

@@ -96,7 +96,7 @@ pub record HasRoom (at : Position) (count : ℕ) : Type 0 where
   pub offset : at.offset + count < 2 ^ 64
   pub index : 4 * at.index ≤ at.offset
 
--- a run goes on where no whole message stands first, for any reason but that memory was refused
+-- a run goes on where no whole message comes first, for any reason but that memory was refused
 abbrev pub Passes : FrameFault → Result (Unit {0}) RunFault → Type 0
 Passes fault (Ok u) = fault ≢ frames.Memory
 Passes fault (Err e) = (fault ≡ frames.Memory) × (e ≡ faults.Memory)

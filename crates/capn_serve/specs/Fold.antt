@@ -76,7 +76,7 @@ module _ {X : Type 0} (f : Fold X) where
     pub each : AreServed x parts y
     pub is : bytes ≡ frames_of parts ++ rest
 
--- How a run ends at a position where no whole frame stands first in what is left, by the reason: a count that is too
+-- How a run ends at a position where what is left begins with no whole frame, by the reason: a count that is too
 -- great comes first, then why no more bytes can come, if that is a fault, then a frame that is cut.
 abbrev pub end_of : Position → FrameFault → Option RunFault → Result (Unit {0}) RunFault
 end_of at frame_faults.Empty (Some fault) = Err fault
@@ -90,13 +90,13 @@ end_of at (frame_faults.TooManyWords n) behind = Err (faults.Refused at (refusal
 end_of at frame_faults.Failed behind = Err (faults.Refused at (refusals.Frame frame_faults.Failed))
 
 module _ {X : Type 0} (f : Fold X) where
-  -- no whole frame stands first in what is left, and the run ends so
+  -- no whole frame comes first in what is left, and the run ends so
   abbrev pub EndsUnframed : X → List ℕ → Option RunFault → Result (Unit {0}) RunFault → Type 0
   EndsUnframed x rest behind ending =
       (e : FrameFault) × (e ≢ frame_faults.Memory) × frames.IsFrameRefused rest f.most e
       × (ending ≡ end_of (f.place x) e behind)
 
-  -- a message stands first in what is left that is refused, and the run ends with that reason
+  -- a message comes first in what is left that is refused, and the run ends with that reason
   abbrev pub EndsRefused : X → List ℕ → Result (Unit {0}) RunFault → Type 0
   EndsRefused x rest ending =
       (frame more : List ℕ) × (message : List (List ℕ)) × (r : Refusal) × (rest ≡ frame ++ more)

@@ -16,7 +16,7 @@ abbrev pub unless_more : Bool → Option RunFault → Option RunFault
 unless_more true behind = Some faults.InputTooLong
 unless_more false behind = behind
 
--- why no more words follow the whole groups: a group is cut at an offset, which is told at the position of the message
+-- why no more words follow the whole groups: a group is cut at an offset, reported at the position of the message
 -- that has begun or would begin; or nothing is left
 abbrev pub cut_group : Position → List ℕ → ℕ → Option RunFault
 cut_group at [] offset = None
@@ -45,15 +45,15 @@ module _ {X : Type 0} (f : Fold X) (x : X) (limit : ℕ) where
       ⊎ ((e ≡ faults.Io)
       ⊎ ((text : List ℕ) × (z : X) × IsDuePacked bytes is_longer text (Err e) z × Appends old new text))
 
-  -- of some whole groups that stand first in these bytes, a beginning of the texts of the whole messages was written
+  -- of some whole groups that come first in these bytes, a beginning of the texts of the whole messages was written
   abbrev pub HasWrittenPacked : List ℕ → Option (List ℕ) → Option (List ℕ) → Type 0
   HasWrittenPacked bytes old new = (stream : List ℕ) × packing.Begins bytes [] stream × (parts : List Part)
       × (rest : List ℕ) × (y : X) × (count : ℕ) × AreParts f x (taken_of limit stream) parts rest y
       × Appends old new (take count (texts_of parts))
 
--- the same of a run that takes at most this number of packed bytes, and as many of those that they unpack to as `limit`
+-- a run that takes at most `most_packed` packed bytes, and at most `limit` of the bytes that they unpack to
 module _ {X : Type 0} (f : Fold X) (x : X) (most_packed limit : ℕ) where
-  -- the same of a whole input
+  -- it has ended so over what it takes of a whole input
   abbrev pub EndsPackedAs : Option (List ℕ) → Option (List ℕ) → Result (Unit {0}) RunFault → X → List ℕ → Type 0
   EndsPackedAs old new ending y input =
       HasEndedPacked f x limit (taken_of most_packed input) (has_more most_packed input) old new ending y

@@ -57,12 +57,12 @@ abbrev pub first_run : Pick → Run Pick
 first_run p = record { service = p; at = start }
 
 module _ (most : ℕ) (p : Pick) where
-  -- the messages up to the last stand whole in these bytes, and this is picked of them, whatever comes after
+  -- the messages up to the last are whole in these bytes, and this is picked of them, whatever comes after
   abbrev pub IsEnough : List ℕ → List ℕ → Type 0
   IsEnough bytes text = (parts : List Part) × (rest : List ℕ) × (y : Run Pick)
       × AreParts (pick_fold most) (first_run p) bytes parts rest y × (last p ≤ y.at.index) × (text ≡ texts_of parts)
 
-  -- fewer messages stand whole in these bytes, and what is left is no whole frame
+  -- fewer messages are whole in these bytes, and what is left is no whole frame
   abbrev pub IsTooFew : List ℕ → Type 0
   IsTooFew bytes = (parts : List Part) × (rest : List ℕ) × (y : Run Pick)
       × AreParts (pick_fold most) (first_run p) bytes parts rest y × IsUnfinished rest most

@@ -48,7 +48,7 @@ module _ (most : ℕ) (p : Pick) where
       ⊎ ((y : Run Pick) × packings.IsDuePacked (pick_fold most) (first_run p) most_taken bytes is_longer text ending y
       × ((y.at.index < last p) ⊎ (ending ≡ Err faults.InputTooLong)))
 
-  -- the same of a whole input
+  -- this is picked of what is taken of a whole input, and a run over it ends so
   abbrev pub IsPicked : StreamForm → List ℕ → List ℕ → Result (Unit {0}) RunFault → Type 0
   IsPicked form input text ending =
       IsPickedOf form (taken_of most_taken input) (has_more most_taken input) text ending
@@ -101,7 +101,7 @@ module _ (most : ℕ) (p : Pick) where
   Hears a b taken rest c d y = (bytes : List ℕ) × Consumes a b bytes × (length bytes ≡ taken)
       × Tells (pick_fold most) (first_run p) bytes rest (sent c) (sent d) y × IsLazy forms.Stream bytes
 
-  -- the same of a packed stream, of which this is held
+  -- the same for the bytes of a packed stream, of which this is held
   abbrev pub HearsPacked : Option (List ℕ) → Option (List ℕ) → ℕ → Pending → Option (List ℕ) → Option (List ℕ)
       → Run Pick → Type 0
   HearsPacked a b taken q c d y = (bytes : List ℕ) × Consumes a b bytes × (length bytes ≡ taken)

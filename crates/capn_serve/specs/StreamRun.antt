@@ -54,11 +54,11 @@ module _ {X : Type 0} (f : Fold X) (x : X) (limit : ℕ) where
       ⊎ ((e ≡ faults.Io)
       ⊎ ((text : List ℕ) × (z : X) × IsDue bytes is_longer text (Err e) z × Appends old new text))
 
-  -- the same of a whole input
+  -- a run has ended so over what it takes of a whole input
   abbrev pub EndsAs : Option (List ℕ) → Option (List ℕ) → Result (Unit {0}) RunFault → X → List ℕ → Type 0
   EndsAs old new ending y input = HasEnded (taken_of limit input) (has_more limit input) old new ending y
 
-  -- a beginning of the texts of the whole messages that stand first in these bytes was written
+  -- a beginning of the texts of the whole messages at the start of these bytes was written
   abbrev pub HasWritten : List ℕ → Option (List ℕ) → Option (List ℕ) → Type 0
   HasWritten bytes old new = (parts : List Part) × (rest : List ℕ) × (y : X) × (count : ℕ)
       × AreParts f x bytes parts rest y × Appends old new (take count (texts_of parts))

@@ -87,9 +87,9 @@ fn serve_bare<S: Service, W: Write, A: Allocator + Copy>(
 
 /// Reads a bare input to its end, in chunks of at most 65,536 bytes, and has the one message served that it is.
 ///
-/// Its frame is the input itself. An input that is not whole words, or has more than 2^28 + 1 of them, is refused
-/// where it begins; of more than 2^32 bytes the run ends as `InputTooLong`. The run ends as done, or with the first
-/// fault: that, or the message is refused; `Io` exactly if the reader or the writer failed; `Memory` if a growth was
+/// Its frame is the input itself. An input that is not whole words, or has more than 2^28 + 1 of them, is refused where
+/// it begins; of more than 2^32 bytes the run ends as `InputTooLong`. The run ends as done, or with the first fault:
+/// that, or the message is refused; `Io` if and only if the reader or the writer failed; `Memory` if a growth was
 /// refused. Nothing is written before the input has ended. It holds the input, up to 2^28 + 1 words, and what the
 /// service holds, with the text that it has not written yet.
 pub fn run_bare<S: Service, R: Read, W: Write, A: Allocator + Copy>(

@@ -186,10 +186,10 @@ pub(crate) fn end_of_packed<A: Allocator + Copy>(
 /// what the stream unpacks to; of that at most `limit` bytes are taken, and of the stream itself `most_packed`. `most`
 /// is the greatest number of words of a message. The run ends as done, or with the first fault: a frame or a message
 /// that is refused, at its position; `InputTooLong`; a group that is cut at the end of the input, at the position of
-/// the message that has begun or would begin; `Io` exactly if the reader or the writer failed; `Memory` if a growth was
-/// refused. The texts of the messages before it have been written; at `Memory` a beginning of one more may have been
-/// too. It holds an unfinished message, what a slice unpacks to, the texts of a chunk that are not written yet, and
-/// what the service holds.
+/// the message that has begun or would begin; `Io` if and only if the reader or the writer failed; `Memory` if a growth
+/// was refused. The texts of the messages before it have been written; at `Memory` a beginning of one more may have
+/// been too. It holds an unfinished message, what a slice unpacks to, the texts of a chunk that are not written yet,
+/// and what the service holds.
 pub fn run_packed<S: Service, R: Read, W: Write, A: Allocator + Copy>(
     alloc: A,
     most: u32,

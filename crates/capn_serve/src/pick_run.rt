@@ -162,14 +162,14 @@ fn pick_packed<R: Read, W: Write, A: Allocator + Copy>(
 /// Reads a stream, in chunks of at most 65,536 bytes, and writes the frames of the messages that are picked, as they
 /// stand; of a packed stream the bytes that it unpacks to.
 ///
-/// No message is walked. What stands after the last message is not looked at: the run ends as done with the chunk that
+/// No message is walked. What comes after the last message is not looked at: the run ends as done with the chunk that
 /// makes that message whole, and does not read again. If there are fewer messages than the first number, or the last
 /// number is less than the first, nothing is written; in the second case nothing is read either.
 ///
 /// It holds an unfinished message, less than 65,536 bytes of short frames, and of a packed stream what
 /// [`run_packed`](crate::run_packed) holds; a long frame is written where it lies. It ends as done or with the first
-/// fault before that: a frame or a group that is refused, at its position; `InputTooLong`; `Io` exactly if the reader
-/// or the writer failed; `Memory` if a growth was refused. The frames before it that are picked have been written.
+/// fault before that: a frame or a group that is refused, at its position; `InputTooLong`; `Io` if and only if the
+/// reader or the writer failed; `Memory` if a growth was refused. The picked frames before it have been written.
 pub fn run_pick<R: Read, W: Write, A: Allocator + Copy>(
     alloc: A,
     pick: Pick,

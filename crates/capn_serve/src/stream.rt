@@ -31,7 +31,7 @@ pub(crate) fn fault_at(at: Position, fault: FrameFault) -> RunFault
     }
 }
 
-/// What a run does where no whole message stands first, for this reason: it goes on, unless memory was refused.
+/// What a run does where no whole message comes first, for this reason: it goes on, unless memory was refused.
 fn pass(fault: FrameFault) -> Result<(), RunFault>
     ensures { Passes fault result }
 {

@@ -36,7 +36,7 @@ pub(crate) fn end_of_input<A: Allocator + Copy>(
 ///
 /// At most `limit` bytes are taken, and one more is read, to know whether there are more. `most` is the greatest number
 /// of words of a message. The run ends as done, or with the first fault: a frame or a message that is refused, at its
-/// position; `InputTooLong`; `Io` exactly if the reader or the writer failed; `Memory` if a growth was refused. The
+/// position; `InputTooLong`; `Io` if and only if the reader or the writer failed; `Memory` if a growth was refused. The
 /// texts of the messages before it have been written; at `Memory` a beginning of one more may have been too. It holds
 /// an unfinished message, the texts of a chunk that are not written yet, and what the service holds.
 pub fn run_stream<S: Service, R: Read, W: Write, A: Allocator + Copy>(

@@ -110,7 +110,7 @@ module _ (p q : Outgoing) where
     pub escapes-all : i ≡ length xs → Adds p q (escapes (take i xs)) → Adds p q (escapes xs)
     escapes-all = all escapes escapes-joined p q xs i
 
-    -- bytes that stand as they are
+    -- bytes that are left as they are
     module _ (r : Outgoing) (k : ℕ) (rest : List ℕ) (left : rest ≡ drop i xs)
         (bare : escapes (take k rest) ≡ take k rest) where
       run-is : take k rest ≡ escapes (take k (drop i xs))

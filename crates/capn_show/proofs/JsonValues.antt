@@ -85,7 +85,7 @@ module _ (m : List (List ℕ)) (s w n : ℕ) (width : Width) (Says : List ℕ �
       (numbers-of (codes "{\"u64\":[") W64 e h x.items x.are x.count)
 
 module _ (m : List (List ℕ)) where
-  -- what stands at a place is what its pointer names
+  -- what is at a place is what its pointer names
   pub slot-json : (laws : (message : List (List ℕ)) (at : Place) (t : Target) (v : Tree) → ViewsShow message at t v)
       (at : Place) (t : Target) (Says : List ℕ → Type 0) → target m at ≡ Ok t → IsFoundInJson m t Says
       → IsInJson m at Says

@@ -1,4 +1,4 @@
--- A step of a way: from what a pointer names to what stands below it.
+-- A step of a way: from what a pointer names to what is below it.
 use Rattle.std.proofs.Common.{◌≡◌, ℕ, zero, suc, ◌+◌, ◌*◌, ◌<◌, ◌≤◌, List, [], ◌∷◌, length, drop, get_or, Some, None}
 use Rattle.std.proofs.Common.{refl, subst, sym, ap, ◌∙◌, arith, Err}
 use Rattle.std.proofs.Math.Seq.{drop-cons}
@@ -71,7 +71,7 @@ pub follow-end : (way : List ℕ) (i : ℕ) (t : Tree) → length way ≤ i → 
 follow-end way i t past = ap (λ (l : List ℕ). follow l (Some t)) (drop_of_length-le way past)
 
 module _ (m : List (List ℕ)) where
-  -- no fault is answered where a value stands
+  -- no fault is answered where a value is
   pub no-fault-held : (at : Place) (e : Fault) → Holds m at → target m at ≡ Err e → ⊥
   no-fault-held at e h f = let g = (found m at h.0 h.1).1 in absurd (cc)
 

@@ -1,4 +1,4 @@
--- Whether bytes are a text, one byte further, and how they stand between quotes.
+-- Whether bytes are a text, one byte further, and how they are written between quotes.
 use Rattle.std.proofs.Common.{◌≡◌, ℕ, zero, suc, ◌+◌, ◌<◌, ◌==◌, ◌&&◌, ◌||◌, List, [], ◌∷◌, ◌++◌, Bool, true, false}
 use Rattle.std.proofs.Common.{if◌then◌else◌, length, take, drop, get_or, ap, ap₂, sym, refl, ◌∙◌, arith, append_assoc}
 use Rattle.std.proofs.lemmas.List.{append-nil, take_more}
@@ -53,7 +53,7 @@ bare-by false false true b h = absurd (cc)
 bare-by false true z b h = absurd (cc)
 bare-by true y z b h = absurd (cc)
 
--- bytes that stand as they are, and one more
+-- bytes that are left as they are, and one more
 pub bare-more : (xs : List ℕ) (i : ℕ) → i < length xs → is_escaped (get_or xs i 0) ≡ false
     → escapes (take i xs) ≡ take i xs → escapes (take (i + 1) xs) ≡ take (i + 1) xs
 bare-more xs i below bare h =

@@ -11,13 +11,13 @@ use Rattle.capn_value.specs.Text.{line, named, one_line, body_line, word_lines, 
 abbrev pub is_printable : ℕ → Bool
 is_printable b = nat_le 32 b && nat_le b 126
 
--- bytes of which each but the last is printable, and the last is so too or is zero
+-- bytes each of which is printable, except that the last may be zero
 abbrev pub is_text : List ℕ → Bool
 is_text [] = false
 is_text (b ∷ []) = is_printable b || b == 0
 is_text (b ∷ c ∷ bs) = is_printable b && is_text (c ∷ bs)
 
--- a byte of a text as it stands between quotes
+-- a byte of a text as it is written between quotes
 abbrev pub escaped : ℕ → List ℕ
 escaped b = if b == 34 then 92 ∷ 34 ∷ [] else if b == 92 then 92 ∷ 92 ∷ [] else if b == 0 then 92 ∷ 48 ∷ [] else b ∷ []
 

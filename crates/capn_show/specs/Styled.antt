@@ -1,4 +1,4 @@
--- The text of what stands at a way of numbers from a value, in a style. (Own.)
+-- The text of what is at a way of numbers from a value, in a style. (Own.)
 use Rattle.std.specs.Prelude.{◌≡◌, ℕ, List, [], ◌∷◌, ◌++◌, Option, Some, None, codes, refl}
 use Rattle.capn_value.specs.NumberWidth.{byte}
 use Rattle.capn_value.specs.Tree.{Tree, nil, node, numbers, no_trees, tree}
@@ -9,7 +9,7 @@ use Rattle.capn_show.specs.Json.{json_line}
 use Rattle.capn_show.specs.declared.style.Style.{Style}
 use Rattle.capn_show.specs.declared.style.Style.TheVariants as styles
 
--- the text of what stands somewhere, in a style: one line where nothing does
+-- the text of what is somewhere, in a style: one line if nothing is
 abbrev pub part_in : Style → Option Tree → List ℕ
 part_in styles.Lines part = part_text part
 part_in styles.Quoted None = line 0 (codes "none")
@@ -17,7 +17,7 @@ part_in styles.Quoted (Some t) = shown_by quoted_bytes 0 t
 part_in styles.Json None = 10 ∷ []
 part_in styles.Json (Some t) = json_line t
 
--- the text of what stands at a way from a value, in a style
+-- the text of what is at a way from a value, in a style
 abbrev pub styled : Style → List ℕ → Tree → List ℕ
 styled style way t = part_in style (at_way t way)
 

@@ -35,7 +35,7 @@ fn ends_text(byte: u8) -> bool
     is_printable(byte) || byte == 0
 }
 
-/// Whether bytes are a text: each but the last is printable, and the last is so too or is zero.
+/// Whether bytes are a text: each is printable, except that the last may be zero.
 fn is_text(bytes: &[u8]) -> bool
     ensures { result ≡ quoting.is_text bytes.now }
 {
@@ -51,14 +51,14 @@ fn is_text(bytes: &[u8]) -> bool
     ends_text(bytes[last])
 }
 
-/// Whether a byte of a text stands otherwise between quotes.
+/// Whether a byte of a text is escaped between quotes.
 fn is_escaped(byte: u8) -> bool
     ensures { result ≡ places.is_escaped byte }
 {
     byte == b'"' || byte == b'\\' || byte == 0
 }
 
-/// A byte of a text as it stands between quotes.
+/// A byte of a text as it is written between quotes.
 fn put_escaped<W: Write, A: Allocator>(
     text: &mut Vec<u8, A>,
     writer: &mut Watched<W>,
@@ -77,7 +77,7 @@ fn put_escaped<W: Write, A: Allocator>(
     }
 }
 
-/// How many bytes from the first on stand as they are between quotes, at most those of a piece.
+/// How many bytes from the first on are left as they are between quotes, at most those of a piece.
 fn bare_run(bytes: &[u8]) -> usize
     ensures within { result ≤ length bytes.now }
     ensures bare { quoting.escapes (take result bytes.now) ≡ take result bytes.now }
@@ -93,7 +93,7 @@ fn bare_run(bytes: &[u8]) -> usize
     bytes.len()
 }
 
-/// The bytes of a text as they stand between quotes: those that stand as they are at once, and the one after them.
+/// The bytes of a text as they are written between quotes: those that are left as they are, at once, and the one after.
 fn put_escapes<W: Write, A: Allocator>(
     text: &mut Vec<u8, A>,
     writer: &mut Watched<W>,
@@ -203,7 +203,7 @@ fn show_text_or_digits<S: Space, W: Write, A: Allocator>(
     }
 }
 
-/// The lines of a list of bytes, between quotes where it is a text and quotes are wanted.
+/// The lines of a list of bytes, between quotes where it is a text and quotes are asked for.
 pub fn show_byte_list<S: Space, W: Write, A: Allocator, const QUOTED: bool>(
     text: &mut Vec<u8, A>,
     writer: &mut Watched<W>,

@@ -1,4 +1,4 @@
-//! The JSON of what stands in the slots of a message, and of all below it.
+//! The JSON of what is in the slots of a message, and of all below it.
 
 ghost use Rattle.std.specs.Prelude.{◌+◌, ◌*◌, IfErr, OnOk};
 ghost use Rattle.capn_words.specs.Message.{IsMessage, IsPlace};
@@ -18,7 +18,7 @@ use capn_words::{Place, Space, Watched, Width};
 use std::alloc::Allocator;
 use std::io::Write;
 
-/// The JSON of the value that stands at a place.
+/// The JSON of the value at a place.
 #[cycle(json)]
 pub fn json_slot<S: Space, W: Write, A: Allocator>(
     text: &mut Vec<u8, A>,
@@ -38,7 +38,7 @@ pub fn json_slot<S: Space, W: Write, A: Allocator>(
     views_show_values();
     match resolve(space, at) {
         Ok(found) => json_found(text, writer, space, found, depth),
-        // A value stands here, so the pointer names something.
+        // A value is here, so the pointer names something.
         Err(_) => unreachable!(),
     }
 }
@@ -129,7 +129,7 @@ pub fn json_row<S: Space, W: Write, A: Allocator>(
     json_slots(text, writer, head, space, first, slots as u32, depth)
 }
 
-/// An array of what stands in slots, by what comes before its first item, and the end of its object.
+/// An array of what is in slots, by what comes before its first item, and the end of its object.
 #[cycle(json)]
 fn json_slots<S: Space, W: Write, A: Allocator>(
     text: &mut Vec<u8, A>,

@@ -81,7 +81,7 @@ pub fn put_value<W: Write, A: Allocator>(
     put_plain(text, writer, n)
 }
 
-/// Whether the numbers of a list of that width stand between quotes.
+/// Whether the numbers of a list of that width are written between quotes.
 pub fn is_quoted(width: Width) -> bool
     ensures { result ≡ places.is_quoted width }
 {

@@ -1,4 +1,4 @@
-//! The text of what stands at a way from the root of a message.
+//! The text of what is at a way from the root of a message.
 
 ghost use Rattle.std.specs.Prelude.{◌≡◌, ℕ, ◌+◌, ◌*◌, ◌<◌, ◌^◌, IfErr, IfNone, IfSome, None, OnOk};
 ghost use Rattle.capn_words.specs.Message.{IsMessage, IsPlace};
@@ -23,9 +23,9 @@ use capn_words::{Place, Space, Watched, Width};
 use std::alloc::Allocator;
 use std::io::Write;
 
-/// Adds the text of what stands at a way of numbers from the root of a message, in a style.
+/// Adds the text of what is at a way of numbers from the root of a message, in a style.
 ///
-/// Where nothing stands there, it is the line `none`, or in JSON an empty line.
+/// Where nothing is there, it is the line `none`, or in JSON an empty line.
 ///
 /// A number leads from a struct to a slot, from a list of pointers to an element, and from a list of structs to a row,
 /// which is written as a struct. The whole message is surveyed first, as by [`show_message`](crate::show_message), and
@@ -39,7 +39,7 @@ pub fn show_part<S: Space, W: Write, A: Allocator, B: Allocator + Copy>(
     style: Style,
     way: &[u64],
 ) -> Result<(), ShowFault>
-    // An answer: the message is accepted, and the text of what stands there is added.
+    // An answer: the message is accepted, and the text of what is there is added.
     ensures shown { OnOk result (IsWritten (S.message space.now) limits (styled style way.now)
         (outgoing W.contents writer.old text.old.items) (outgoing W.contents writer.new text.new.items)) }
     // A refusal is as that of `show_message`.
@@ -55,7 +55,7 @@ pub fn show_part<S: Space, W: Write, A: Allocator, B: Allocator + Copy>(
     }
 }
 
-/// The text of what stands at a way from the root.
+/// The text of what is at a way from the root.
 fn write_part<S: Space, W: Write, A: Allocator>(
     text: &mut Vec<u8, A>,
     writer: &mut Watched<W>,
@@ -80,7 +80,7 @@ fn write_part<S: Space, W: Write, A: Allocator>(
     }
 }
 
-/// What stands at a way from what a pointer names, if anything does.
+/// What is at a way from what a pointer names, if anything is there.
 fn follow<S: Space>(space: &S, found: Target, way: &[u64]) -> Option<Target>
     requires message { IsMessage (S.message space.now) }
     requires inside { IsInMessage (S.message space.now) found }
@@ -100,7 +100,7 @@ fn follow<S: Space>(space: &S, found: Target, way: &[u64]) -> Option<Target>
     Some(here)
 }
 
-/// What stands one step below what a pointer names, if anything does.
+/// What is one step below what a pointer names, if anything is there.
 fn step_down<S: Space>(space: &S, found: Target, number: u64) -> Option<Target>
     requires message { IsMessage (S.message space.now) }
     requires inside { IsInMessage (S.message space.now) found }
@@ -163,7 +163,7 @@ fn step_down<S: Space>(space: &S, found: Target, number: u64) -> Option<Target>
     }
 }
 
-/// What the pointer at a place names, where a value stands.
+/// What the pointer at a place names, where a value is.
 fn named<S: Space>(space: &S, at: Place) -> Target
     requires message { IsMessage (S.message space.now) }
     requires place { IsPlace (S.message space.now) at }
@@ -174,7 +174,7 @@ fn named<S: Space>(space: &S, at: Place) -> Target
     views_show_values();
     match resolve(space, at) {
         Ok(found) => found,
-        // A value stands here, so the pointer names something.
+        // A value is here, so the pointer names something.
         Err(_) => unreachable!(),
     }
 }

@@ -1,4 +1,4 @@
-//! The text of what stands in the slots of a message, and of all below it.
+//! The text of what is in the slots of a message, and of all below it.
 
 ghost use Rattle.std.specs.Prelude.{◌≡◌, ℕ, ◌<◌, ◌≤◌, ◌+◌, ◌*◌, ◌^◌, length, IfErr, OnOk};
 ghost use Rattle.capn_words.specs.Message.{IsMessage, IsPlace};
@@ -22,7 +22,7 @@ use capn_words::{Place, Space, Watched, Width};
 use std::alloc::Allocator;
 use std::io::Write;
 
-/// The text of the value that stands at a place.
+/// The text of the value at a place.
 #[cycle(slots)]
 pub fn show_slot<S: Space, W: Write, A: Allocator, const QUOTED: bool>(
     text: &mut Vec<u8, A>,
@@ -44,7 +44,7 @@ pub fn show_slot<S: Space, W: Write, A: Allocator, const QUOTED: bool>(
     views_show_values();
     match resolve(space, at) {
         Ok(found) => show_found::<_, _, _, QUOTED>(text, writer, space, found, level, depth),
-        // A value stands here, so the pointer names something.
+        // A value is here, so the pointer names something.
         Err(_) => unreachable!(),
     }
 }
@@ -222,7 +222,7 @@ fn show_body<S: Space, W: Write, A: Allocator, const QUOTED: bool>(
     show_slots::<_, _, _, QUOTED>(text, writer, space, first, slots as u32, level + 1, depth)
 }
 
-/// The text of what stands in slots, one after the other.
+/// The text of what is in slots, one after the other.
 #[cycle(slots)]
 fn show_slots<S: Space, W: Write, A: Allocator, const QUOTED: bool>(
     text: &mut Vec<u8, A>,

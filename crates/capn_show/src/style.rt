@@ -5,8 +5,8 @@
 pub enum Style {
     /// Lines, with the digits of each list of bytes.
     Lines,
-    /// The same, but a list of bytes that is a text stands between quotes: every byte but the last is from 0x20 to
-    /// 0x7e, and the last is so too or is zero.
+    /// The same, but a list of bytes that is a text is written between quotes: its bytes are from 0x20 to 0x7e,
+    /// and the last may also be zero.
     Quoted,
     /// One line of JSON.
     Json,

@@ -1,4 +1,4 @@
-//! The text of what stands somewhere, in a style.
+//! The text of what is somewhere, in a style.
 
 ghost use Rattle.std.specs.Prelude.{◌*◌, ◌<◌, ◌^◌, None, IfErr, OnOk};
 ghost use Rattle.capn_words.specs.Message.{IsMessage};
@@ -63,7 +63,7 @@ fn show_json<S: Space, W: Write, A: Allocator>(
     end_line(text, writer)
 }
 
-/// The line of what does not stand there, in a style.
+/// The line of what isn't there, in a style.
 pub fn show_nothing<W: Write, A: Allocator>(
     text: &mut Vec<u8, A>,
     writer: &mut Watched<W>,

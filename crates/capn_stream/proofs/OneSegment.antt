@@ -20,7 +20,7 @@ pub record HasOne (bs : List ℕ) (most n : ℕ) : Type 0 where
   pub room : n ≤ most
   pub contents : 8 + 8 * n ≤ length bs
 
--- where a message of one segment stands first, all of its frame is there
+-- where a message of one segment comes first, all of its frame is there
 pub has_one : (bs : List ℕ) (most : ℕ) (ws : List ℕ) (taken : ℕ) → StandsFirst bs most (ws ∷ []) taken
     → HasOne bs most (entry_number (drop 4 bs))
 has_one bs most ws taken h =
@@ -37,7 +37,7 @@ has_one bs most ws taken h =
       contents = omega (arith, whole.2, size, head);
     }
 
--- and where all of it is there, the message stands first
+-- and where all of it is there, the message comes first
 pub one_stands : (bs : List ℕ) (most n : ℕ) (ws : List ℕ) → most ≤ 2 ^ 28 → AreBytes bs → HasOne bs most n
     → IsBare (take (8 + 8 * n - 8) (drop 8 bs)) ws → StandsFirst bs most (ws ∷ []) (8 + 8 * n)
 one_stands bs most n ws small below h bare =

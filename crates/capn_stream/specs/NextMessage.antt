@@ -43,7 +43,7 @@ pub record Received (old new : Option (List ℕ)) (failed : Bool) (most : ℕ)
 abbrev pub ReadGives : Option (List ℕ) → Option (List ℕ) → Bool → ℕ → Result (Option (List (List ℕ))) ReadFault → Type 0
 ReadGives old new failed most result = (bytes : List ℕ) × Received old new failed most result bytes
 
--- Where a read that took these bytes has left its reader: after a refusal it stands inside the message. That is exactly
+-- Where a read that took these bytes has left its reader: after a refusal it is inside the message. That is exactly
 -- after the count if it announces too many segments, after the table and its padding if they announce too many words,
 -- and at the end of the input if the message is cut. Memory is needed once a byte has come, and not beyond the message.
 abbrev pub StandsInside : List ℕ → ℕ → Option (List ℕ) → Result (Option (List (List ℕ))) ReadFault → Type 0
@@ -93,8 +93,8 @@ EndGives rest most (Err (faults.Frame (frames.TooManyWords n))) = ⊥
 EndGives rest most (Err (faults.Frame frames.Cut)) = IsFrameRefused rest most frames.Cut
 EndGives rest most (Err (faults.Frame frames.Failed)) = ⊥
 
--- What a read answers, of all that the reader had to give: the message that stands first in it; none, where it has no
--- bytes; or why no message stands first. Nothing is said where memory was refused or the reader failed.
+-- What a read answers, of all that the reader had to give: the first message in it; none, where it has no
+-- bytes; or why no message comes first. Nothing is said where memory was refused or the reader failed.
 abbrev pub ReadsFirst : ℕ → Result (Option (List (List ℕ))) ReadFault → List ℕ → Type 0
 ReadsFirst most (Ok (Some message)) input = (taken : ℕ) × StandsFirst input most message taken
 ReadsFirst most (Ok None) input = input ≡ []
@@ -102,7 +102,7 @@ ReadsFirst most (Err faults.Memory) input = ⊤
 ReadsFirst most (Err faults.Io) input = ⊤
 ReadsFirst most (Err (faults.Frame e)) input = IsFrameRefused input most e × (e ≢ frames.Memory) × (e ≢ frames.Empty)
 
--- a message that stands first is answered, unless memory runs out or the reader failed
+-- a message that comes first is answered, unless memory runs out or the reader failed
 abbrev pub OnlyFirst : ℕ → Result (Option (List (List ℕ))) ReadFault → List ℕ → Type 0
 OnlyFirst most result input =
     (message : List (List ℕ)) (taken : ℕ) → StandsFirst input most message taken → (result ≡ Ok (Some message))

@@ -1,4 +1,4 @@
-//! The message that stands first in a stream.
+//! The first message in a stream.
 
 ghost use Rattle.std.specs.Prelude.{◌≡◌, ℕ, ◌≤◌, List, [], ◌∷◌, Some, IfSome, IfOk, IfErr, IsErrOf, MatchResult};
 ghost use Rattle.capn_words.specs.Message.{most_message_words};
@@ -11,7 +11,7 @@ use crate::table::{ends_of, entry_at, head_of, read_head};
 use capn_words::Bare;
 use std::alloc::Allocator;
 
-/// The message whose frame stands first in the bytes, and the number of bytes that it takes.
+/// The message whose frame comes first in the bytes, and the number of bytes that it takes.
 ///
 /// The message borrows the bytes; memory is taken for a table of segments alone, and none where there is
 /// one segment. The refusals are tested in this order: `Empty`; `Cut` within the count;
@@ -30,7 +30,7 @@ pub fn first<'a, A: Allocator + Copy>(
         → StandsFirst bytes.now max_words message taken
         → MatchResult result (λ answer. (answer.0 ≡ message) × (answer.1 ≡ taken)) (λ e. e ≡ FrameFault.Memory) }
     ensures refused { IfErr result (λ e. IsFrameRefused bytes.now max_words e) }
-    // Memory is needed only if a whole frame of two segments or more stands first.
+    // Memory is needed only if a whole frame of two segments or more comes first.
     ensures memory { IsErrOf result FrameFault.Memory → HasTable bytes.now max_words }
 {
     let head = read_head(bytes, max_words)?;
@@ -43,10 +43,10 @@ pub fn first<'a, A: Allocator + Copy>(
     }
 }
 
-/// The message of one segment whose frame stands first in the bytes, and the number of bytes that it takes.
+/// The message of one segment whose frame comes first in the bytes, and the number of bytes that it takes.
 ///
 /// It answers what [`first`] answers where the message has one segment, and takes no memory. `None` exactly where no
-/// such message stands first; why none does is for `first` to say.
+/// such message comes first; why none does is for `first` to say.
 /// (Page: serialization over a stream.)
 #[inline(always)]
 pub fn first_bare<'a>(bytes: &'a [u8], max_words: u32) -> Option<(Bare<'a>, usize)>

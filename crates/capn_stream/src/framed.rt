@@ -7,7 +7,7 @@ use capn_words::{Bare, Place, Space};
 use std::alloc::{Allocator, Global};
 use std::marker::Model;
 
-/// A message whose segments stand one after another in borrowed bytes.
+/// A message whose segments follow one another in borrowed bytes.
 ///
 /// It copies none of them. Beside the borrow it keeps where each segment but the last ends, so a message
 /// of one segment takes no memory, and every segment is found in constant time.

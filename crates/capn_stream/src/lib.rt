@@ -1,6 +1,6 @@
 //! Messages in a stream: segment tables, and the segments after them.
 //!
-//! [`first`] reads the message that stands first in some bytes, as a [`Framed`] that borrows them, [`first_bare`] one
+//! [`first`] reads the first message in some bytes, as a [`Framed`] that borrows them, [`first_bare`] one
 //! of one segment as its words alone, and [`frame`] writes a message as such bytes:
 //!
 //! ```text
@@ -9,8 +9,8 @@
 //! ```
 //!
 //! Here `text` is the first `taken` bytes of `input`, except for the padding of its table. Any bytes may be given:
-//! `first` answers a message if and only if a frame within the limits stands first, and else says why none does. What a
-//! table announces is never allocated. [`laws`] has what holds of frames apart from any call: one frame stands first at
+//! `first` answers a message if and only if a frame within the limits comes first, and else says why none does. What a
+//! table announces is never allocated. [`laws`] has what holds of frames apart from any call: one frame comes first at
 //! most, and bytes are refused for one reason.
 #![tactic(auto)]
 

@@ -80,7 +80,7 @@ fn receive<R: Read, A: Allocator + Copy>(
 ///
 /// None exactly where the input ends between messages. Refusals: `Memory` where a growth was refused, which takes a
 /// byte of a message; `Io` exactly where the reader fails; `Frame` with `TooManySegments`, `TooManyWords` or `Cut`.
-/// After a refusal the reader stands inside the message: after the 4 bytes of the count at `TooManySegments`, after the
+/// After a refusal the reader is inside the message: after the 4 bytes of the count at `TooManySegments`, after the
 /// table and its padding at `TooManyWords`, at the end of the input at `Cut`, and never beyond the message.
 pub fn read_message<R: Read, A: Allocator + Copy>(
     alloc: A,
@@ -89,14 +89,14 @@ pub fn read_message<R: Read, A: Allocator + Copy>(
 ) -> Result<Option<Stored<A>>, ReadFault>
     requires small { max_words ≤ most_message_words }
     requires fine { has_failed reader.old ≡ false }
-    // What it answers, of all that the reader had to give; and that a message that stands first is answered.
+    // What it answers, of all that the reader had to give; and that a message that comes first is answered.
     ensures exact { IfSome (R.remaining (inner_of reader.old)) (ReadsFirst max_words result) }
     ensures only { IfSome (R.remaining (inner_of reader.old)) (OnlyFirst max_words result) }
     // It takes the bytes of that message and no others, and reports a reader that failed.
     ensures gives { ReadGives (R.remaining (inner_of reader.old)) (R.remaining (inner_of reader.new))
         (has_failed reader.new)
         max_words result }
-    // After a refusal the reader stands inside the message, and exactly where.
+    // After a refusal the reader is inside the message, and exactly where.
     ensures inside { StopsInside (R.remaining (inner_of reader.old)) (R.remaining (inner_of reader.new))
         (has_failed reader.new)
         max_words result }

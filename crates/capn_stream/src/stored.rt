@@ -30,7 +30,7 @@ impl<A: Allocator> Model for Words<A> {
     ghost invariant = { λ w. IsTail w.frame.items w.start };
 }
 
-/// How many words stand from `start` on.
+/// How many words there are from `start` on.
 fn count_of(frame: &[u8], start: usize) -> usize
     requires { start ≤ length frame.now }
     ensures { result ≡ length (drop start frame.now) / 8 }

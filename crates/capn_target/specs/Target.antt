@@ -85,7 +85,7 @@ module _ (message : List (List ℕ)) where
   list_from s (Ok start) pads width n = list s start pads width n
   list_from s (Err e) pads width n = Err e
 
-  -- the struct or list whose pointer, or pad of one word, stands at word w of the segment
+  -- the struct or list whose pointer, or pad of one word, is at word w of the segment
   abbrev pub near : ℕ → ℕ → ℕ → Pointer → Result Target Fault
   near s w pads (Node o a b) = struct_from s (moved w o) pads a b
   near s w pads (Many o width n) = list_from s (moved w o) pads width n

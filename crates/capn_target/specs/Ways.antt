@@ -37,7 +37,7 @@ module _ (message : List (List ℕ)) where
   Describes (Many offset width n) s start shape = (shape ≡ shapes.Many width n) × Lies s start (content_words width n)
   Describes _ s start shape = ⊥
 
-  -- a pad of n words stands there
+  -- a pad of n words is there
   abbrev pub IsPad : ℕ → ℕ → ℕ → Type 0
   IsPad s word n = (s < length message) × Lies s word n
 

@@ -20,7 +20,7 @@ line_ends text =
     let k : ended_lines (text ++ 10 ∷ []) ≡ ended_lines text + 1 = lines_append text (10 ∷ []) in
     omega arith
 
--- a first line and what can stand below it are read as a value
+-- a first line and what can be below it are read as a value
 read_on : (h : Head) (first : List ℕ) (w : List ℕ) (v : Tree) → head_at 0 (first ++ w) ≡ Some (h, w)
     → content_at (tree_at 0) 0 h w ≡ Some (v, []) → tree_at 1 0 (first ++ w) ≡ Some (v, [])
 unfolding tree_at

@@ -48,7 +48,7 @@ is_first t v w rest after s low e h =
     let p = some_is (w, after) (v, rest) (sym h ∙ first_again t v rest s low e) in
     (ap (λ (q : Tree × List ℕ). q.0) p, ap (λ (q : Tree × List ℕ). q.1) p)
 
--- what stands before the rest
+-- what comes before the rest
 pub before : (t x rest : List ℕ) → t ≡ x ++ rest → take (length t - length rest) t ≡ x
 before t x rest e =
     let n : length t ≡ length x + length rest = ap length e ∙ length-append x rest in

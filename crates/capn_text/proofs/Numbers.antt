@@ -14,7 +14,7 @@ use Rattle.capn_text.proofs.Steps.{bind_some, guard_some, chosen, some_is, then,
 use Rattle.capn_text.proofs.TokenText.{strip_takes, indent_takes, indent_again, decimal_takes, decimal_again}
 use Rattle.capn_text.proofs.TokenText.{word_takes, word_again}
 
--- a line and what stands after it
+-- a line and what comes after it
 pub line_is : (level : ℕ) (x rest : List ℕ) → line level x ++ rest ≡ replicate (2 * level) 32 ++ (x ++ 10 ∷ rest)
 unfolding line
 line_is level x rest =

@@ -14,7 +14,7 @@ use Rattle.capn_text.proofs.WholeLines.{are_none, are_both, first_front}
 abbrev pub Reads : Type 0 → Type 0
 Reads X = ℕ → List ℕ → Option (X × List ℕ)
 
--- What was read are whole lines, after which anything may stand, and a greater height changes nothing.
+-- What was read are whole lines, after which anything may follow, and a greater height changes nothing.
 abbrev pub Local : {X : Type 0} → Reads X → ℕ → Type 0
 Local {X} read room = (t : List ℕ) (x : X) (after : List ℕ) → read room t ≡ Some (x, after)
     → (c : List ℕ) × (t ≡ c ++ after) × AreLines c

@@ -29,7 +29,7 @@ pub later : (a n b : ℕ) → a ≡ b → (faults.Line (a + n) ≡ faults.Line b
 later a zero b same other = absurd (other (ap (λ k. faults.Line k) (omega arith)))
 later a (suc n) b same other = omega arith
 
--- the text of `w` stands first
+-- the text of `w` comes first
 module _ (t : List ℕ) (w : Tree) (after : List ℕ) (front : t ≡ show_text w ++ after) where
   pub lines_of_front : ended_lines t ≡ ended_lines (show_text w) + ended_lines after
   lines_of_front = ap ended_lines front ∙ lines_append (show_text w) after
@@ -57,7 +57,7 @@ module _ (t : List ℕ) (w : Tree) (after : List ℕ) (front : t ≡ show_text w
         let few = lines_within (show_text w) in
         omega arith
 
--- what stands after a text is its end
+-- what comes after a text is its end
 module _ (after rest : List ℕ) (is : after ≡ end_line ++ rest) where
   pub rest_is : (left : List ℕ) → strip end_line after ≡ Some left → left ≡ rest
   rest_is left h = some_is left rest (sym h ∙ ap (strip end_line) is ∙ strip_again end_line rest)

@@ -39,7 +39,7 @@ by_end : (k : Bool) (n m : ℕ) (x y : ℕ → List ℕ) → suc n ≤ cond k 1 
 by_end true n m x y low h = h n (omega arith)
 by_end false n m x y low h = h (suc n) (omega arith)
 
--- lines that stand in x
+-- lines that are in x
 pub within : (n : ℕ) (x y : List ℕ) → n ≤ ended_lines x → first_lines n (x ++ y) ≡ first_lines n x
 within zero x y low = refl
 within (suc n) [] y low = absurd (omega arith)

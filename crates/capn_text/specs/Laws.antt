@@ -10,7 +10,7 @@ use Rattle.capn_text.specs.Showable.{IsShowable}
 use Rattle.capn_text.specs.Streams.{end_line, ended_lines, stream_text, ended_text, BeginsAs, IsFirstWrong}
 use Rattle.capn_text.specs.Streams.{GoesTooDeep}
 
--- values whose texts begin one text are equal, and so is what stands after them: no text of a value begins another's
+-- values whose texts begin one text are equal, and so is what comes after them: no text of a value begins another's
 abbrev pub TextsAreApart : Type 0
 TextsAreApart = (level : ℕ) (v w : Tree) (x y : List ℕ) → IsShowable v → IsShowable w
     → shown level v ++ x ≡ shown level w ++ y → (v ≡ w) × (x ≡ y)
@@ -53,7 +53,7 @@ abbrev pub WrongLineStays : Type 0
 WrongLineStays = (spell : Tree → List ℕ) (n : ℕ) (text more : List ℕ) → n ≤ ended_lines text
     → IsFirstWrong spell n text → IsFirstWrong spell n (text ++ more)
 
--- and a text with its end that stands there then stood there before
+-- and a text with its end that is there then was there before
 abbrev pub NoTextGoesOn : Type 0
 NoTextGoesOn = (n : ℕ) (v : Tree) (text more rest : List ℕ) → n ≤ ended_lines text → IsFirstWrong ended_text n text
     → IsShowable v → text ++ more ≡ show_text v ++ (end_line ++ rest)

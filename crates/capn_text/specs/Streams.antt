@@ -25,7 +25,7 @@ first_lines zero text = []
 first_lines (suc n) [] = []
 first_lines (suc n) (c ∷ cs) = c ∷ cond (c == 10) (first_lines n cs) (first_lines (suc n) cs)
 
--- Where reading stands in such an input: what is still to be read, and the number of the line at which it begins.
+-- How far such an input was read: what is still to be read, and the number of the line at which it begins.
 pub record Place : Type 0 where
   pub rest : List ℕ
   pub line : ℕ

@@ -4,7 +4,7 @@ ghost use Rattle.capn_text.specs.Laws.{TextsAreApart, FittingIsShowable, OneValu
 ghost use Rattle.capn_text.specs.Laws.{OneWrongLine, WrongIsNotDeep, DeepIsHigh};
 ghost use Rattle.capn_text.specs.Laws.{WrongLineStays, NoTextGoesOn, DeepStays, NoBeginningComes};
 
-/// Values whose texts begin one text are equal, and so is what stands after them: no text of a value begins that of
+/// Values whose texts begin one text are equal, and so is what comes after them: no text of a value begins that of
 /// another. So one text has one value that fits and is in range.
 pub fn texts()
     ensures apart { TextsAreApart }

@@ -100,10 +100,10 @@ impl<'t> Texts<'t> {
     /// the same. A line that is refused is counted over the whole input; a misfit is that of the text that begins at
     /// [`Texts::line`]. Memory as for [`crate::read`].
     pub fn read_next<A: Allocator + Copy>(&mut self, alloc: A) -> Result<Option<Tree<A>>, TextFault>
-        // The text of what is read stood next with its end, and what comes after it is left; or nothing was left.
+        // The text of what is read came next with its end, and what comes after it is left; or nothing was left.
         ensures found { IfOk result (λ o. MatchOption o ((self.old.rest ≡ []) × (self.new ≡ self.old))
             (λ t. self.old.rest ≡ show_text t ++ (end_line ++ self.new.rest))) }
-        // A tree whose text and end stand next is read, unless memory runs out.
+        // A tree whose text and end come next is read, unless memory runs out.
         ensures only { (v : trees.Tree) (rest : List ℕ) → Fits v → InRange v →
             self.old.rest ≡ show_text v ++ (end_line ++ rest) →
             MatchResult result (λ o. (o ≡ Some v) × (self.new.rest ≡ rest)) (λ e. e ≡ faults.Memory) }
@@ -113,10 +113,10 @@ impl<'t> Texts<'t> {
         ensures counted { self.new.line + ended_lines self.new.rest ≡ self.old.line + ended_lines self.old.rest }
         // After a refusal nothing has changed.
         ensures kept { OnErr result (self.new ≡ self.old) }
-        // Where a line is refused, no text of a value of at most 256 levels, fit or not, stands next with its end.
+        // Where a line is refused, no text of a value of at most 256 levels, fit or not, comes next with its end.
         ensures line { IfErr result (λ e. (n : ℕ) → e ≡ faults.Line n → (v : trees.Tree) (rest : List ℕ) →
             IsShowable v → height v ≤ most_height → self.old.rest ≢ show_text v ++ (end_line ++ rest)) }
-        // That line stands not before the text, and not after the line that follows the last.
+        // That line is not before the text, and not after the line that follows the last.
         ensures place { IfErr result (λ e. (n : ℕ) → e ≡ faults.Line n →
             (self.old.line ≤ n) × (n ≤ self.old.line + ended_lines self.old.rest)) }
         // After the text of a value of at most 256 levels, fit or not, the line refused is the one at which its end
@@ -130,7 +130,7 @@ impl<'t> Texts<'t> {
         // A line that is refused is the first that doesn't go on with a text and its end.
         ensures first { IfErr result (λ e. (n : ℕ) → e ≡ faults.Line n →
             (k : ℕ) × (n + 1 ≡ self.old.line + k) × IsFirstWrong ended_text k self.old.rest) }
-        // A misfit is that of the value of at most 256 levels whose text stands next with its end, or the text goes
+        // A misfit is that of the value of at most 256 levels whose text comes next with its end, or the text goes
         // too deep, whatever follows.
         ensures misfit { IfErr result (λ e. (m : Misfit) → e ≡ faults.Misfit m →
             ((m ≡ Tall) × GoesTooDeep self.old.rest) ⊎ ((v : trees.Tree) × (rest : List ℕ) × InRange v

@@ -1,4 +1,4 @@
-//! What stands within a line, read from left to right: what was read, and the bytes after it.
+//! What is within a line, read from left to right: what was read, and the bytes after it.
 
 ghost use Rattle.std.specs.Prelude.{◌≡◌, ◌≤◌, ◌<◌, MatchOption, IfOk, IfSome, Some, None};
 ghost use Rattle.capn_text.specs.inner.Tokens as tokens;

@@ -26,7 +26,7 @@ use Rattle.capn_tool.specs.declared.fault.ToolFault.TheVariants as faults
 use Rattle.capn_tool.proofs.Served.{Ending, IsOf, ending_of, io_same}
 use Rattle.capn_tool.proofs.WholeRun.{is_all, is_more}
 
--- the piece of a bare message is that of any message, but for its price
+-- the piece of a bare message is that of any message, except for its price
 bare_text : (piece : MessageText) (words : List ℕ) (limits : Bounds) (text : List ℕ) → piece ≢ kinds.Price
     → IsMessageText piece (words ∷ []) limits text → IsBareMessageText piece words limits text
 bare_text kinds.Text words limits text other is = is

@@ -49,7 +49,7 @@ module _ (n most : ℕ) (bytes : List ℕ) (enough : 8 * (most + most_table_word
   framed_first message f =
       take_all n bytes (omega (arith, enough, length-take n bytes, framed_length (take n bytes) most message f))
 
-  -- bytes that are refused for what stands first are refused with those that follow
+  -- bytes that are refused for what comes first are refused with those that follow
   refused_first : (e : FrameFault) → (e ≡ frame_faults.Memory → ⊥) → n < length bytes
       → frames.IsFrameRefused (take n bytes) most e → frames.IsFrameRefused bytes most e
   refused_first frame_faults.Memory other more h = tt

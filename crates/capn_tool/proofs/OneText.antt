@@ -185,7 +185,7 @@ module _ (piece : MessageText) (limits : Bounds) (last : Option ToolFault) where
       ought in
       a ∙ ap (λ (x : ToolFault). Err x) fault ∙ sym b
 
-  -- the frame of a part stands first before what follows it
+  -- the frame of a part comes first, before what follows it
   part_first : (part : Part) (more : List ℕ) → IsPart piece limits part
       → StandsFirst (part.frame ++ more) limits.message_words part.message (length part.frame)
   part_first part more h =
@@ -197,7 +197,7 @@ module _ (piece : MessageText) (limits : Bounds) (last : Option ToolFault) where
         room = h.room;
       }
 
-  -- a run does not end where a part stands first
+  -- a run does not end where a part comes first
   no_end : (rest more : List ℕ) (part : Part) (r : Result (Unit {0}) ToolFault) → IsPart piece limits part
       → rest ≡ part.frame ++ more → Behind rest r → ⊥
   no_end rest more part r h is ends =

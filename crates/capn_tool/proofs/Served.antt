@@ -72,7 +72,7 @@ texts_same : (ps : List folds.Part) → texts_of (map same_part ps) ≡ folds.te
 texts_same [] = refl
 texts_same (p ∷ ps) = ap (λ (l : List ℕ). p.text ++ l) (texts_same ps)
 
--- a frame stands first before what follows it
+-- a frame comes first, before what follows it
 stands : (rest frame more : List ℕ) (message : List (List ℕ)) (most : ℕ) → rest ≡ frame ++ more → Frames frame message
     → total message ≤ most → StandsFirst rest most message (length frame)
 stands rest frame more message most is framed room =

@@ -125,7 +125,7 @@ pub made_fine : {A : Type 0} (whole : Whole) (a b : Option (List ℕ)) (failed :
     → TakesAll {T = Vec ℕ A} (Gives whole) a b failed (Ok text) → failed ≡ false
 made_fine whole a b failed text (bytes, all, made) = all.given.fine
 
--- the fault is Io exactly if the reader has failed
+-- the fault is Io if and only if the reader has failed
 pub unmade_io : (whole : Whole) (a b : Option (List ℕ)) (failed : Bool) (fault : ToolFault)
     → Unmade whole a b failed fault
     → (fault ≡ faults.Io) ↔ (failed ≡ true)

@@ -86,7 +86,7 @@ abbrev pub WritesText : Course → Type 0
 WritesText errors = ((text : List ℕ) × WritesLine text errors.before errors.after errors.failed)
     ⊎ WritesLine (fault_line faults.Memory) errors.before errors.after errors.failed
 
--- The words order nothing, for a reason of this kind: memory was refused, help is wished for, or they are a mistake.
+-- The words order nothing, for a reason of this kind: memory was refused, help is asked for, or they are a mistake.
 pub record EndsUnordered (kind : ErrorKind) (output errors : Course) (status : ℕ) : Type 0 where
   pub memory : kind ≡ kinds.OutOfMemory
       → IsUntouched output × ReportsEnding (Err faults.Memory) errors.before errors.after errors.failed × (status ≡ 3)

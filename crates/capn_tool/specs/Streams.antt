@@ -1,4 +1,4 @@
--- A stream of messages: the whole messages that stand first in it, each with its piece, and what is left. (Page:
+-- A stream of messages: the whole messages that come first in it, each with its piece, and what is left. (Page:
 -- serialization over a stream; the order of the faults is own.)
 use Rattle.std.specs.Prelude.{◌≡◌, ◌≢◌, ◌⊎◌, ℕ, ◌≤◌, List, [], ◌∷◌, ◌++◌, Bool, true, false, Option, Some, None, Result}
 use Rattle.std.specs.Prelude.{Ok, Err}
@@ -52,7 +52,7 @@ pub record AreParts (piece : MessageText) (limits : Bounds) (bytes : List ℕ) (
     pub each : AllByRecursion (IsPart piece limits) parts
     pub is : bytes ≡ frames_of parts ++ rest
 
--- How a run ends where no whole frame stands first in what is left, by the reason: a count that is too great comes
+-- How a run ends where what is left begins with no whole frame, by the reason: a count that is too great comes
 -- first, then why no more bytes can come, if that is a fault, then a frame that is cut.
 abbrev pub end_of : FrameFault → Option ToolFault → Result (Unit {0}) ToolFault
 end_of frame_faults.Empty (Some fault) = Err fault
@@ -75,13 +75,13 @@ behind_packed true rest at = Some faults.InputTooLong
 behind_packed false [] at = None
 behind_packed false (b ∷ rest) at = Some (faults.Refused (refusals.Packed (cuts.Cut at)))
 
--- no whole frame stands first in what is left, and the run ends so
+-- no whole frame comes first in what is left, and the run ends so
 abbrev pub EndsUnframed : Bounds → List ℕ → Option ToolFault → Result (Unit {0}) ToolFault → Type 0
 EndsUnframed limits rest behind ending =
     (e : FrameFault) × (e ≢ frame_faults.Memory) × frames.IsFrameRefused rest limits.message_words e
     × (ending ≡ end_of e behind)
 
--- a message stands first in what is left that has no piece, and the run ends with that reason
+-- a message comes first in what is left that has no piece, and the run ends with that reason
 abbrev pub EndsRefused : MessageText → Bounds → List ℕ → Result (Unit {0}) ToolFault → Type 0
 EndsRefused piece limits rest ending =
     (message : List (List ℕ)) × (taken : ℕ) × (fault : ToolFault) × StandsFirst rest limits.message_words message taken

@@ -62,7 +62,7 @@ EndsBy text due old new ending =
     (ending ≡ Err faults.Memory) ⊎ ((ending ≡ Err faults.Io) ⊎ ((ending ≡ due) × Appends old new text))
 
 -- the text of these bytes begins so: with nothing, with the whole text of an input that is answered, or with the pieces
--- of the whole messages that stand first in a stream
+-- of the whole messages that come first in a stream
 abbrev pub IsFront : Plan → List ℕ → Bool → List ℕ → Type 0
 IsFront (plans.Whole whole) bytes is_longer text = (text ≡ []) ⊎ IsDueWhole whole bytes is_longer text (Ok tt)
 IsFront (plans.Each piece limits) bytes is_longer text = (parts : List Part) × (rest : List ℕ)

@@ -36,7 +36,7 @@ impl Usage {
         matches!(self.error.kind(), ErrorKind::OutOfMemory)
     }
 
-    /// Whether help is wished for.
+    /// Whether help is asked for.
     pub fn is_help(&self) -> bool
         ensures { IsTrue result ↔ WishesHelp self.now }
     {

@@ -8,7 +8,7 @@ use Rattle.capn_value.specs.declared.value.Value.{Value}
 use Rattle.capn_value.specs.declared.value.Body.{Body}
 use Rattle.capn_value.proofs.Anywhere.{drop-next, drop-past}
 
--- where a loop stands
+-- where a loop ends
 pub ended : (i n : ℕ) → i ≤ n → n ≤ i → i ≡ n
 ended i n h k = omega arith
 

@@ -8,7 +8,7 @@ use Rattle.capn_value.specs.Cost.{base, cost, height}
 use Rattle.capn_value.specs.declared.misfit.Misfit.{Misfit}
 use Rattle.capn_value.specs.declared.tariff.Tariff.{Tariff}
 
--- values that fit are the same exactly if they are equal once trimmed
+-- values that fit are the same if and only if they are equal once trimmed
 abbrev pub SameExactlyTrimmed : Type 0
 SameExactlyTrimmed = (t u : Tree) → Fits t → Fits u → Same t u ↔ (trimmed t ≡ trimmed u)
 

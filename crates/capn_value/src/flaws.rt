@@ -12,7 +12,7 @@ use crate::tariff::Tariff;
 use crate::value::{Body, Value};
 use std::alloc::Allocator;
 
-/// Which of the flaws that a part can have stand in a value.
+/// Which of the flaws that a part can have are in a value.
 #[derive(Clone, Copy)]
 struct Flaws {
     wide: bool,

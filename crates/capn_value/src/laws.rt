@@ -3,9 +3,9 @@
 ghost use Rattle.capn_value.specs.Laws.{SameExactlyTrimmed, SameOnceTrimmed, TrimmingIsThrifty, FittingIsSixFacts};
 ghost use Rattle.capn_value.specs.Laws.{MisfitIsFirst};
 
-/// Values are the same exactly if their trimmed ones are equal; a value is the same as its trimmed one, which costs no
-/// more, is no higher, and fits. A value fits exactly if none of the six misfits holds of it, and its misfit is the
-/// first that does.
+/// Values are the same if and only if their trimmed ones are equal; a value is the same as its trimmed one, which costs
+/// no more, is no higher, and fits. A value fits if and only if none of the six misfits holds of it, and its misfit is
+/// the first that does.
 pub fn trimming()
     ensures same { SameExactlyTrimmed }
     ensures kept { SameOnceTrimmed }

@@ -1,11 +1,11 @@
-//! Values of messages as trees: what a pointer denotes, apart from where it stands in a message.
+//! Values of messages as trees: what a pointer denotes, apart from where it is in a message.
 //!
 //! A [`Value`] is put together freely. A [`Tree`] is a value that fits into a message: [`Tree::new`] makes
 //! one, or gives the value back with the first [`Misfit`]. Contracts see both as one mathematical tree,
 //! without capacities, addresses or allocators.
 //!
 //! - [`same`] says whether two values are equal up to trailing zero words and trailing null slots of structs.
-//! - [`trim`] cuts these off. Two trees are the same exactly if they are equal once trimmed, and trimming
+//! - [`trim`] cuts these off. Two trees are the same if and only if they are equal once trimmed, and trimming
 //!   raises neither [`cost`] nor [`height`].
 //! - [`first_cap`] finds the first capability, [`copy`] copies a tree, and [`show`] writes its text.
 //! - [`laws`] states what holds of the definitions alone.

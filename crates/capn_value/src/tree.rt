@@ -47,7 +47,7 @@ impl<A: Allocator> Model for Tree<A> {
 }
 
 impl<A: Allocator> Tree<A> {
-    /// The tree of a value that fits. Another comes back unchanged, with the first misfit, which may stand
+    /// The tree of a value that fits. Another comes back unchanged, with the first misfit, which may be
     /// anywhere in it. Takes no memory, whatever the value's height.
     #[tactic(auto, unfolding(crate::specs::Fits::Fits))]
     pub fn new(value: Value<A>) -> Result<Tree<A>, (Value<A>, Misfit)>

@@ -1,4 +1,4 @@
--- How many objects stand one below another in a survey under way: what was met, and what is to come.
+-- How many objects are one below another in a survey under way: what was met, and what is to come.
 use Rattle.std.proofs.Common.{◌≡◌, ℕ, zero, suc, ◌+◌, ◌-◌, ◌<◌, ◌≤◌, max, List, [], ◌∷◌, ◌++◌, Result, Ok, Err, Option}
 use Rattle.std.proofs.Common.{refl, ap, sym, ◌∙◌, arith}
 use Rattle.capn_words.specs.declared.space.Place.{Place}
@@ -59,7 +59,7 @@ module _ (m : List (List ℕ)) (at : Place) where
 
 -- ---- levels, counted from the first object of a survey
 
--- that of the lowest of n objects that stand one below another, k levels down
+-- that of the lowest of n objects that are one below another, k levels down
 abbrev pub raised : ℕ → ℕ → ℕ
 raised k zero = 0
 raised k (suc n) = k + suc n

@@ -18,7 +18,7 @@ use Rattle.capn_walk.proofs.shared.Costs.{all-front, all-back}
 use Rattle.capn_walk.proofs.shared.Walks.{visits-null, visits-cap, visits-fault, visits-deep, visits-object}
 
 module _ (m : List (List ℕ)) (base : ℕ) where
-  -- ---- where the visits all pay, no more objects stand one below another than may
+  -- ---- where the visits all pay, no more objects are one below another than may be
 
   -- of slots, where it is so of each
   reach-slots : (d n : ℕ) (ps : List Place) → ((at : Place) → AllPay (visits m base n at) → reach m d at ≤ n)
@@ -52,7 +52,7 @@ module _ (m : List (List ℕ)) (base : ℕ) where
   reach-within zero n at h = let z = reach-zero m at in omega arith
   reach-within (suc d) n at h = reach-next d at (λ k to g. reach-within d k to g) (target m at) refl n h
 
-  -- ---- where no more stand so than may, they are the same under another depth
+  -- ---- where no more are than may be, the visits are the same under another depth
 
   same-slots : (d n : ℕ) (ps : List Place)
       → ((at : Place) → AllPay (visits m base d at) → reach m d at ≤ n → visits m base n at ≡ visits m base d at)

@@ -1,4 +1,4 @@
--- Where no visit is a fault, a value stands at the place.
+-- Where no visit is a fault, a value is at the place.
 use Rattle.std.proofs.Common.{◌≡◌, ℕ, zero, suc, ◌+◌, ◌-◌, ◌*◌, ◌<◌, ◌≤◌, ◌==◌, List, [], ◌∷◌, length, take}
 use Rattle.std.proofs.Common.{slice_index, Result, Ok, Err, refl, ap, subst, ◌∙◌, arith, length-drop}
 use Rattle.std.specs.List.{flat_map}
@@ -178,7 +178,7 @@ module _ (m : List (List ℕ)) where
       rw (visits-deep m base at s start pads shape e 0 refl) at h in absurd deep
   of-last base at (Err f) e h = let no_fault = rw (visits-fault m base at 0 f e) at h in absurd no_fault
 
-  -- a value stands at a place of which no visit is a fault
+  -- a value is at a place of which no visit is a fault
   pub exists-at : (base d : ℕ) (at : Place) → AllPay (visits m base d at) → (v : Tree) × IsAt m at v
   exists-at base zero at h = of-last base at (target m at) refl h
   exists-at base (suc d) at h = of-target base d (exists-at base d) at (target m at) refl h

@@ -98,7 +98,7 @@ below-or k zero = inr (omega arith)
 below-or zero (suc a) = inl (omega arith)
 below-or (suc k) (suc a) = next-or k a (below-or k a)
 
--- ---- slots stand in their segment
+-- ---- slots are in their segment
 
 module _ (m : List (List ℕ)) where
   abbrev pub AllPlaces : List Place → Type 0
@@ -193,7 +193,7 @@ module _ (m : List (List ℕ)) where
     paid-here : (d : ℕ) → AllPay (visits m base d at) → Paid d
     paid-here d h = paid-by d (target m at) refl h
 
-  -- ---- entries that stand in an index from a place on
+  -- ---- entries that are in an index from a place on
 
   module _ (all : List Entry) where
     abbrev Stands : ℕ → List Entry → Type 0

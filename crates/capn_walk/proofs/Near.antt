@@ -1,4 +1,4 @@
--- What a slot names, by the pointer that stands there.
+-- What a slot names, by the pointer that is there.
 use Rattle.std.proofs.Common.{◌≡◌, ◌∙◌, ℕ, ℤ, List, ap, sym}
 use Rattle.capn_words.specs.Message.{word_at}
 use Rattle.capn_words.specs.Pointers.{pointer_of}
@@ -13,7 +13,7 @@ pub by-pointer : (m : List (List ℕ)) (at : Place) (p : Pointer) → p ≡ poin
 unfolding target
 by-pointer m at p e = ap (named m at.segment at.word) e
 
--- a pointer to what stands near
+-- a pointer to what is near
 module _ (m : List (List ℕ)) (at : Place) (w : ℕ) (p : Pointer) where
   pub near-struct : (o : ℤ) (a b : ℕ) → w ≡ word_at m at → p ≡ pointer_of w → p ≡ Node o a b
       → near m at.segment at.word 0 p ≡ target m at

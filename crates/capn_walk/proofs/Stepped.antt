@@ -117,7 +117,7 @@ entered-root m b d l base depth budget t e f g some is kind h =
     (subst (λ (x : ℕ). IsEntered (stepped base x l (Ok t))) f
     (subst (λ (x : ℕ). IsEntered (stepped x d l (Ok t))) e h)))
 
--- what stands near
+-- what is near
 module _ (m : List (List ℕ)) where
   -- it is no capability
   capless : (r : Result Target Fault) → Told m (λ s start shape pads. ⊤) (λ k. ⊥) r → cap_of r ≡ None

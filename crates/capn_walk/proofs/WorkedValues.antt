@@ -1,4 +1,4 @@
--- Worked rows: which value stands at the root.
+-- Worked rows: which value is at the root.
 use Rattle.std.proofs.Common.{ℕ, suc, zero, [], ◌∷◌, refl, arith}
 use Rattle.capn_words.specs.declared.space.Place.{Place}
 use Rattle.capn_value.specs.NumberWidth.{byte}

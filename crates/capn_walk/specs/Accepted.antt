@@ -50,7 +50,7 @@ pub record IsStop (budget : ℕ) (vs : List Visit) (fault : Fault) (at : Place) 
   pub sum : paid ≡ paid_of before
   pub number : visits ≡ 1 + length before
 
--- where the pointer to the root stands
+-- where the pointer to the root is
 abbrev pub root : Place
 root = record { segment = 0; word = 0 }
 

@@ -12,6 +12,6 @@ pub record Account : Type 0 where
 abbrev pub left_of : Account → ℕ
 left_of a = a.budget - a.paid
 
--- the same with so much more paid
+-- the same account with this much more paid
 abbrev pub with_paid : Account → ℕ → Account
 with_paid a n = record { budget = a.budget; paid = a.paid + n; tariff = a.tariff }

@@ -28,16 +28,16 @@ abbrev pub AcceptedAreReadable : Type 0
 AcceptedAreReadable = (message : List (List ℕ)) (limits : Bounds) → IsAccepted message limits → (v : Tree)
     × IsValueOf message limits v
 
--- one value at most stands at a place
+-- one value at most is at a place
 abbrev pub PlacesHaveOneValue : Type 0
 PlacesHaveOneValue = (message : List (List ℕ)) (at : Place) (v w : Tree) → IsAt message at v → IsAt message at w → v ≡ w
 
--- one row of values at most stands in the slots from a word on
+-- one row of values at most is in the slots from a word on
 abbrev pub SlotsHaveOneValue : Type 0
 SlotsHaveOneValue = (message : List (List ℕ)) (vs ws : Trees) (segment word : ℕ) → count vs ≡ count ws
     → AreAt message segment word vs → AreAt message segment word ws → vs ≡ ws
 
--- one row of bodies at most stands in the rows from a word on
+-- one row of bodies at most is in the rows from a word on
 abbrev pub RowsHaveOneValue : Type 0
 RowsHaveOneValue = (message : List (List ℕ)) (bs cs : Bodies) (words slots segment word : ℕ)
     → count_rows bs ≡ count_rows cs
@@ -69,7 +69,7 @@ abbrev pub TargetsLieInside : Type 0
 TargetsLieInside = (message : List (List ℕ)) (at : Place) (found : Target) → IsPlace message at
     → target message at ≡ Ok found → IsInMessage message found
 
--- a value whose content stands where the pointer at a place leads is the value at that place
+-- a value whose content is where the pointer at a place leads is the value at that place
 abbrev pub ContentIsValue : Type 0
 ContentIsValue = (message : List (List ℕ)) (at : Place) (segment start pads : ℕ) (shape : Shape) (v : Tree)
     → target message at ≡ Ok (targets.Content segment start shape pads) → IsInside message shape segment start v

@@ -1,4 +1,4 @@
--- What a view of a slot says of the value that stands there.
+-- What a view of a slot says of the value there.
 use Rattle.std.specs.Prelude.{◌≡◌, ℕ, zero, suc, ◌<◌, List, [], length, slice_index, Ok}
 use Rattle.capn_words.specs.declared.space.Place.{Place}
 use Rattle.capn_value.specs.Tree.{Tree, nil, node, voids, numbers, links, rows, cap, Trees}
@@ -64,6 +64,6 @@ Shows message found (numbers a xs) = ShowsNumbers message found (kind_of_list (l
 Shows message found (links ts) = ShowsLinks message found ts
 Shows message found (rows bs) = ShowsRows message found bs
 
--- a view of a slot shows the value that stands there
+-- a view of a slot shows the value there
 abbrev pub ViewsShow : List (List ℕ) → Place → Target → Tree → Type 0
 ViewsShow message at found v = target message at ≡ Ok found → IsAt message at v → Shows message found v

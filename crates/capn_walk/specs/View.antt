@@ -1,4 +1,4 @@
--- What a view shows of a message: the target that a step found, and how many objects may stand below it.
+-- What a view shows of a message: the target that a step found, and how many objects may be below it.
 use Rattle.std.specs.Prelude.{ℕ, ◌+◌, ◌*◌, ◌/◌, ◌%◌, ◌^◌, ◌==◌, nat_lt, List, [], length, slice_index, Result, Ok, Err}
 use Rattle.std.specs.Prelude.{Option, Some, None, if◌then◌else◌, ⊤}
 use Rattle.capn_words.specs.Message.{segment_at}
@@ -19,7 +19,7 @@ use Rattle.capn_walk.specs.Visits.{price, slots}
 use Rattle.capn_walk.specs.Accepted.{root, may_be_root}
 use Rattle.capn_walk.specs.ValueAt.{element, words_from}
 
--- a message, what was found in it, and how many objects may stand below that
+-- a message, what was found in it, and how many objects may be below that
 pub record Seen : Type 0 where
   pub message : List (List ℕ)
   pub found : Target
@@ -107,7 +107,7 @@ links_in _ = 0
 abbrev pub steps_in : Target → ℕ
 steps_in t = slots_in t + links_in t
 
--- where one of these stands
+-- where one of these is
 abbrev pub step_place : Target → ℕ → Place
 step_place (targets.Content s start (shapes.Node a b) pads) i = record { segment = s; word = start + a + i }
 step_place (targets.Content s start shape pads) i = record { segment = s; word = start + i }
@@ -167,7 +167,7 @@ row_of (targets.Content s start (shapes.Rows n a b span) pads) i =
     targets.Content s (start + 1 + i * (a + b)) (shapes.Node a b) 0
 row_of found i = found
 
--- where the slots below a target stand
+-- where the slots below a target are
 abbrev pub slots_below : Target → List Place
 slots_below (targets.Content s start shape pads) = slots s start shape
 slots_below _ = []

@@ -33,7 +33,7 @@ abbrev pub row_places : ℕ → ℕ → ℕ → ℕ → ℕ → List Place
 row_places s w a b zero = []
 row_places s w a b (suc n) = places s (w + a) b ++ row_places s (w + a + b) a b n
 
--- where the slots of an object stand, in order
+-- where the slots of an object are, in order
 abbrev pub slots : ℕ → ℕ → Shape → List Place
 slots s start (shapes.Node a b) = places s (start + a) b
 slots s start (shapes.Many Link n) = places s start n

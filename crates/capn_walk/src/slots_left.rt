@@ -31,7 +31,7 @@ pub struct SlotsLeft {
 pub struct Waiting {
     /// Its slots after that one.
     pub frame: SlotsLeft,
-    /// How many objects may stand one below another, from each of these on.
+    /// How many objects may be one below another, from each of these on.
     pub depth: u32,
 }
 

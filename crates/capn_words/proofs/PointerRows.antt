@@ -71,7 +71,7 @@ rows_of_two_words : Says (1 ∷ 0 ∷ 0 ∷ 0 ∷ 23 ∷ 0 ∷ 0 ∷ 0 ∷ []) (
 unfolding pointer_of word_number
 rows_of_two_words = (refl, refl)
 
--- a list that stands before its pointer
+-- a list that comes before its pointer
 list_back : Says (249 ∷ 255 ∷ 255 ∷ 255 ∷ 5 ∷ 0 ∷ 0 ∷ 0 ∷ []) (Many (negsuc 1) W64 0)
 unfolding pointer_of word_number
 list_back = (refl, refl)

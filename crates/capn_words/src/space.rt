@@ -3,7 +3,7 @@
 ghost use Rattle.std.specs.Prelude.{◌≡◌, ℕ, ◌<◌, ◌≤◌, List, length};
 ghost use Rattle.capn_words.specs.Message.{IsMessage, IsPlace, IsRange, bytes_at, word_at, words_of};
 
-/// Where a word stands in a message: a segment, and a word of it, both counted from 0.
+/// Where a word is in a message: a segment, and a word of it, both counted from 0.
 ///
 /// A place is in range of a message where the segment exists and the word is below its length.
 #[derive(Clone, Copy, Debug, PartialEq, Eq, PartialOrd, Ord, Hash)]

@@ -61,7 +61,7 @@ fn frame_text<S: Space>(alloc: Global, heap: &Heap, message: &S) -> Result<Strin
     }
 }
 
-/// `frame BYTES`: the frame of the message that stands first in the bytes.
+/// `frame BYTES`: the frame of the first message in the bytes.
 pub(crate) fn frame_answer(alloc: Global, heap: &Heap, words: &[&str]) -> Result<String> {
     let bytes = bytes_at(alloc, words, 1)?;
     match first(heap, bytes.as_slice(), MOST_MESSAGE_WORDS) {

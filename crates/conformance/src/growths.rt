@@ -9,7 +9,7 @@ use test_allocator::Refusing;
 /// Where the calls of a case take their memory. What a case itself takes, as for its text, is never refused.
 pub(crate) type Heap = Refusing<Global>;
 
-/// How the answer of a case ends whose call answered that memory ran out. Before it stands what was printed or written
+/// How the answer of a case ends whose call answered that memory ran out. Before it comes what was printed or written
 /// by then.
 pub(crate) const MEMORY: &str = "Memory";
 

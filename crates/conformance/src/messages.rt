@@ -92,7 +92,7 @@ fn is_layout_of<S: Space>(heap: &Heap, space: &S, limits: Limits, bytes: &[u8]) 
     }
 }
 
-/// Whether bytes are the layout of the tree of the message that stands first.
+/// Whether bytes are the layout of the tree of the first message.
 fn is_layout_of_frame(heap: &Heap, stream: &[u8], limits: Limits, bytes: &[u8]) -> Result<bool> {
     match first(heap, stream, MOST_MESSAGE_WORDS) {
         Ok((space, _)) => is_layout_of(heap, &space, limits, bytes),

@@ -7,7 +7,7 @@ use capn_tool::{ToolFault, command_of, fault_text, run, status};
 use capn_words::Watched;
 use std::alloc::Global;
 
-/// The command line whose number of words stands in the line, the program's name first.
+/// The command line whose number of words is in the line, the program's name first.
 pub(crate) fn command_line<'a>(alloc: Global, words: &[&'a str]) -> Result<Vec<&'a str>> {
     let count = number_at(words, 1)? as usize;
     let mut line = Vec::new(alloc);

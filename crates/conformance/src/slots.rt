@@ -48,7 +48,7 @@ fn resolve_text<S: Space>(alloc: Global, space: &S, at: Place) -> Result<String>
     }
 }
 
-/// What `resolve` answers at a place of the message that stands first.
+/// What `resolve` answers at a place of the first message.
 fn resolve_in_frame(alloc: Global, heap: &Heap, stream: &[u8], at: Place) -> Result<String> {
     match first(heap, stream, MOST_MESSAGE_WORDS) {
         Ok((space, _)) => resolve_text(alloc, &space, at),

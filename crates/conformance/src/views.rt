@@ -60,7 +60,7 @@ fn number_of<S: Space>(view: &View<'_, S>, index: u32) -> Result<u64> {
     }
 }
 
-/// The view of a number that stands at a place of the line.
+/// The view whose number is at a place of the line.
 fn view_at<'v, 's, S: Space>(
     views: &'v [View<'s, S>],
     words: &[&str],

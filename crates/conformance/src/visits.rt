@@ -65,7 +65,7 @@ fn visits_text<S: Space>(
     }
 }
 
-/// What the message that stands first answers.
+/// What the first message answers.
 fn visits_of_frame(
     alloc: Global,
     heap: &Heap,

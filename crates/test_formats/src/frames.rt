@@ -34,7 +34,7 @@ fn a_framer_is_empty_but_for_what_it_holds(rt: HostRuntime) {
     assert!(rt; framer.take().is_some() && framer.is_empty());
 }
 
-/// How many words and bytes the message of one segment takes that stands first in some bytes.
+/// How many words and bytes the message of one segment takes with which some bytes begin.
 fn bare_sizes(bytes: &[u8], max_words: u32) -> Option<(Option<u32>, usize)>
     requires { max_words ≤ most_message_words }
 {

@@ -22,7 +22,7 @@ fn is_one_value(one: &Answer, other: &Answer) -> bool {
     }
 }
 
-// The calls agree on each message, and a value has the same canonical bytes in however many segments it stands.
+// The calls agree on each message, and a value has the same canonical bytes in however many segments it is.
 #[test]
 fn a_thousand_messages(rt: HostRuntime) -> Result<(), Fail> {
     let mut capabilities = 0u64;

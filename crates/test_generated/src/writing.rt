@@ -12,7 +12,7 @@ struct Object {
 }
 
 // A message that is being written, and its slots that have no pointer yet. One source of numbers decides what it says,
-// and the other where that stands, so that the value doesn't depend on the segments.
+// and the other where it is put, so that the value doesn't depend on the segments.
 #[derive(Drop)]
 struct Writing {
     value: Random,
@@ -31,7 +31,7 @@ impl Writing {
         }
     }
 
-    // Words of all kinds, so that zeros stand at ends and junk in padding.
+    // Words of all kinds, so that zeros are at ends and junk in padding.
     fn push_data(&mut self, segment: u64, count: u64) -> Result<(), AllocError> {
         for _ in 0..count {
             let word = match self.value.below(4) {
@@ -175,7 +175,7 @@ impl Writing {
 }
 
 /// The stream of a seed's message, in `count` segments: the same value in however many. Below the struct or the list at
-/// its root stand fewer than 40 objects.
+/// its root there are fewer than 40 objects.
 pub(crate) fn message(alloc: Global, seed: u64, count: u64) -> Result<Vec<u8>, AllocError> {
     let mut writing = Writing {
         value: Random::new(seed),

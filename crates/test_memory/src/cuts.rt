@@ -175,7 +175,7 @@ fn are_told_from(alloc: Global, stream: &[u8], least: usize) -> bool {
     true
 }
 
-/// A stream that stands twice.
+/// A stream, twice over.
 fn twice(alloc: Global, digits: &str) -> Result<Vec<u8>, Fail> {
     let Ok(mut bytes) = hex::decode(alloc, digits) else {
         return Err(Fail::new("no digits"));

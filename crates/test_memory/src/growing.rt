@@ -14,7 +14,7 @@ use std::alloc::{AllocError, Global};
 use std::test::Fail;
 use test_allocator::Refusing;
 
-/// Whether the message that stands first is all of the stream, and has `segments` segments.
+/// Whether the first message is all of the stream, and has `segments` segments.
 fn is_whole(alloc: Global, stream: &[u8], segments: u32) -> bool {
     match first(alloc, stream, MOST) {
         Ok((message, taken)) => taken == stream.len() && message.segments() == segments,

@@ -39,7 +39,7 @@ pub(crate) const STREAM: [u64; 20] = [
     9,
 ];
 
-/// A command that is run. Its limits can't stand in a constant, so it is named apart from them.
+/// A command that is run. Its limits can't be in a constant, so it is named apart from them.
 #[derive(Clone, Copy)]
 pub(crate) enum Order {
     Show,

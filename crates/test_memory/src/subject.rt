@@ -65,7 +65,7 @@ pub(crate) fn packed_of(alloc: Global, stream: &[u8]) -> Result<Vec<u8>, Fail> {
     }
 }
 
-/// The message that stands first in a stream.
+/// The first message in a stream.
 fn message_of(alloc: Global, stream: &[u8]) -> Result<Framed<'_>, Fail> {
     match first(alloc, stream, MOST) {
         Ok((message, _)) => Ok(message),
@@ -99,7 +99,7 @@ pub(crate) fn subject_of(alloc: Global, stream: &[u8]) -> Result<Subject<'_>, Fa
     })
 }
 
-/// Right exactly if this holds.
+/// Right if and only if this holds.
 pub(crate) fn judged(is_right: bool) -> Answer {
     if is_right {
         Answer::Right
@@ -117,7 +117,7 @@ pub(crate) fn wanting(is_right: bool) -> Answer {
     }
 }
 
-/// Right exactly if this is the message of the stream.
+/// Right if and only if this is the message of the stream.
 pub(crate) fn judged_message<S: Space>(of: &Subject, message: &S) -> Answer {
     match frame(of.alloc, message) {
         Ok(text) => judged(text.as_slice() == of.stream),

@@ -14,7 +14,7 @@ fn is_archive(alloc: Global, words: &[&str], want: Archive) -> bool {
     }
 }
 
-/// Whether the words order this run without doubles.
+/// Whether the words order this run without duplicates.
 fn is_uniq(alloc: Global, words: &[&str], want: Uniq) -> bool {
     let told = order_of(alloc, words);
     match &told {

@@ -13,7 +13,7 @@ fn is_command(alloc: Global, words: &[&str], want: Command) -> bool {
     }
 }
 
-/// Whether the words order that what of a packed stream stands at a way, or all of it, is shown in a style.
+/// Whether the words order to show, in a style, what is at a way from the roots of a packed stream, or all of it.
 fn is_shown(alloc: Global, words: &[&str], style: Style, way: Option<&str>) -> bool {
     let told = order_of(alloc, words);
     match &told {

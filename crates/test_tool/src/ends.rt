@@ -157,7 +157,7 @@ fn fail_each_write(
     }
 }
 
-/// The messages of `check`'s stream, and of the one that stands twice.
+/// The messages of `check`'s stream, and of the one that is there twice.
 const CHECKED: [(u64, usize); 2] = [(24, 19), (40, 38)];
 
 const HASHED: [(u64, usize); 2] = [(24, 65), (48, 130)];

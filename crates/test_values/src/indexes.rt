@@ -17,7 +17,7 @@ const NULL: Entry = Entry {
     kind: Kind::Nil,
 };
 
-/// What stands in a room before.
+/// What is in a room before a call.
 const BLANK: Entry = Entry {
     start: 99,
     segment: 98,

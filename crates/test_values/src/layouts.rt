@@ -76,7 +76,7 @@ fn lists(rt: HostRuntime) {
     assert!(rt; is_laid(alloc, ten, &[0x1_0000_0000_0000, 0x51_0000_0001, 0x3ff]));
     let nulls = holder(alloc, links(alloc, Ok(Value::Nil), Ok(Value::Nil)));
     assert!(rt; is_laid(alloc, nulls, &[0x1_0000_0000_0000, 0x16_0000_0001, 0, 0]));
-    // An empty list of bytes points to where the next object stands.
+    // An empty list of bytes points to where the next object is.
     let before = pair(alloc, text(alloc, &[]), data(alloc, &[9]));
     let want = [0x2_0000_0000_0000, 0x2_0000_0005, 0x1_0000_0000, 9];
     assert!(rt; is_laid(alloc, before, &want));

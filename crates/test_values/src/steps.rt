@@ -12,10 +12,10 @@ use std::test::Fail;
 /// A struct whose two slots lead to the same struct.
 const SHARED: [u64; 4] = [0x2_0000_0000_0000, 0x1_0000_0004, 0x1_0000_0000, 9];
 
-/// A stream whose root has a slot, which stands in segment 1.
+/// A stream whose root has a slot, which is in segment 1.
 const FAR: [u64; 5] = [0x1_0000_0001, 0x2, 0x1_0000_0002, 0x1_0000_0000_0000, 0];
 
-/// What a meter has left after the root and after its slot at an index, and where that stands.
+/// What a meter has left after the root and after its slot at an index, and where that is.
 fn stepped<S: Space>(space: &S, meter: &mut Meter, index: u32) -> Option<(u32, u32, Place)> {
     let root = View::root(space, meter, 64).ok()?;
     let left = meter.left();

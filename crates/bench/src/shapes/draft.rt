@@ -19,7 +19,7 @@ enum Route {
     DoubleFar,
 }
 
-/// A message in the making. Objects stand in the order in which they are made.
+/// A message in the making. Objects are in the order in which they are made.
 #[derive(Drop)]
 pub(crate) struct Draft {
     words: Vec<u64>,

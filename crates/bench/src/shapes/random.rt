@@ -2,7 +2,7 @@
 
 ghost use Rattle.std.specs.Prelude.{◌<◌};
 
-/// What stands in words that are no pointers.
+/// What words hold that are no pointers.
 #[derive(Clone, Copy)]
 pub(crate) enum Content {
     /// Zero words.

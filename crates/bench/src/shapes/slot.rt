@@ -1,4 +1,4 @@
-//! Where a word of a message in the making stands.
+//! Where a word of a message in the making is.
 
 /// A word of a draft.
 #[derive(Clone, Copy)]
@@ -10,7 +10,7 @@ pub(crate) struct Slot {
 }
 
 impl Slot {
-    /// Where the pointer to the root stands.
+    /// Where the pointer to the root is.
     pub(crate) const ROOT: Slot = Slot { segment: 0, at: 0 };
 
     /// The word `words` words after it.

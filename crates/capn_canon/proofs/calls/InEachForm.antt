@@ -26,7 +26,7 @@ use Rattle.capn_canon.proofs.shared.NotRefused.{not_refused}
 pub bare_reads : (bs ws : List ℕ) (most : ℕ) → IsBare bs ws → Reads forms.Bare bs most (ws ∷ [])
 bare_reads bs ws most h = (ws, h, λ i. ws ∷ [])
 
--- a frame that stands first and takes all bytes is read
+-- a frame that comes first and takes all bytes is read
 pub frame_reads : (bs : List ℕ) (most : ℕ) (m : List (List ℕ)) (taken : ℕ) → StandsFirst bs most m taken
     → length bs ≤ taken → IsFramed bs most m
 frame_reads bs most m taken h l =

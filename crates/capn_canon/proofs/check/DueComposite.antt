@@ -1,4 +1,4 @@
--- What is expected at a slot whose word is the pointer to a list of structs: its tag and rows stand at the next free
+-- What is expected at a slot whose word is the pointer to a list of structs: its tag and rows are at the next free
 -- word, there is room for them, they can be paid, and what is below them is expected.
 use Rattle.std.proofs.Common.{◌≡◌, ℕ, ◌+◌, ◌-◌, ◌*◌, ◌^◌, ◌<◌, ◌≤◌, List, [], ◌∷◌, length, slice_index, Ok}
 use Rattle.std.proofs.Common.{pos, refl, ap, sym, subst, ◌∙◌, arith}
@@ -25,7 +25,7 @@ use Rattle.capn_canon.proofs.check.DueWords.{rows-of, same-number}
 use Rattle.capn_canon.proofs.reading.LaidPointers.{rows-names}
 use Rattle.capn_canon.proofs.reading.OneSegment.{here}
 
--- n rows of a words and b slots are expected behind their tag at the next free word
+-- n rows of a words and b slots are expected after their tag at the next free word
 pub record DueTagged (all : List ℕ) (base from to d left span : ℕ) : Type 0 where
   pub n : ℕ
   pub a : ℕ

@@ -1,4 +1,4 @@
--- What is expected at a slot whose word is the pointer to a list: the list stands at the next free word, there is room
+-- What is expected at a slot whose word is the pointer to a list: the list is at the next free word, there is room
 -- for it, it can be paid, and what is below it is expected.
 use Rattle.std.proofs.Common.{◌≡◌, ℕ, ◌+◌, ◌-◌, ◌*◌, ◌^◌, ◌<◌, ◌≤◌, List, [], ◌∷◌, length, drop, slice_index}
 use Rattle.std.proofs.Common.{ap, sym, subst, ◌∙◌, arith}

@@ -1,4 +1,4 @@
--- What is expected at a slot whose word says what object it points to: the object stands at the next free word, there
+-- What is expected at a slot whose word says what object it points to: the object is at the next free word, there
 -- is room for it, it can be paid, and what is below it is expected.
 use Rattle.std.proofs.Common.{◌≡◌, ◌≢◌, inl, inr, ℕ, ◌+◌, ◌-◌, ◌*◌, ◌%◌, ◌^◌, ◌<◌, ◌≤◌, List, []}
 use Rattle.std.proofs.Common.{◌∷◌, length, take, drop, slice_index, Ok, refl, ap, sym, subst, ◌∙◌, arith}

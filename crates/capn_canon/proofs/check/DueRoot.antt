@@ -1,4 +1,4 @@
--- Where words are accepted and canonical, the pass has to find the value at their root, and nothing stands after it.
+-- Where words are accepted and canonical, the pass has to find the value at their root, and nothing comes after it.
 use Rattle.std.proofs.Common.{◌≡◌, ℕ, ◌+◌, ◌^◌, ◌<◌, ◌≤◌, Bool, List, [], ◌∷◌, length, Option, None}
 use Rattle.std.proofs.Common.{refl, ap, sym, subst, arith}
 use Rattle.std.specs.Option.{option_or}

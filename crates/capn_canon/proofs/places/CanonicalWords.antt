@@ -1,4 +1,4 @@
--- Words are canonical exactly if the value at their root stands as its layout, and no word is left.
+-- Words are canonical if and only if the value at their root is where its layout has it, and no word is left.
 use Rattle.std.proofs.Common.{◌≡◌, ◌↔◌, ℕ, ◌+◌, ◌<◌, ◌≤◌, List, ◌∷◌, length}
 use Rattle.std.proofs.Common.{ap, sym, subst, ◌∙◌, arith}
 use Rattle.std.proofs.Math.Seq.{take-length}
@@ -40,7 +40,7 @@ module _ (all : List ℕ) (v : Tree) (o : Sound v) (some : 0 < length all) where
         sym (length_words v o) ∙ ap length e,
       )
 
--- bytes are canonical exactly if their words are
+-- bytes are canonical if and only if their words are
 pub bytes-words : (bs ws : List ℕ) (v : Tree) → IsBare bs ws → Fits v → InRange v → (words v ≡ ws) ↔ (canon v ≡ bs)
 bytes-words bs ws v b f r =
     ((λ e. ap bytes e ∙ sym b.same), (λ e. bytes-injective (words v) ws (words_are_words v f r) b.each (e ∙ b.same)))

@@ -1,4 +1,4 @@
--- An object's own words are those of its layout exactly if the pointer is the one to the next free word, and so on
+-- An object's own words are those of its layout if and only if the pointer is the one to the next free word, and so on
 -- below it.
 use Rattle.std.proofs.Common.{◌≡◌, ◌⊎◌, inl, inr, ℕ, zero, suc, ◌+◌, ◌^◌, ◌<◌, ◌≤◌, List, [], ◌∷◌, ◌++◌}
 use Rattle.std.proofs.Common.{length, take, slice_index, Ok, refl, ap, ap₂, sym, subst, ◌∙◌, arith}
@@ -37,7 +37,7 @@ point-links ts from to = refl
 pub not-true : IsTrue false → ⊥
 not-true e = cc
 
--- what stands is within the words, where its start is
+-- a value's content is within the words, if its start is
 pub laid-room : (all : List ℕ) (v : Tree) (from to : ℕ) → Sound v → to ≤ length all → IsLaidAt all v from to
     → to + size v ≤ length all
 laid-room all v from to o le h = from_size (size v) (length-lay v to o)
@@ -140,7 +140,7 @@ module _ (all : List ℕ) (a b s w from to pads : ℕ)
           → b ≡ y
       same-b start x y f = cc
 
-  -- where it is passed, the object stands at the next free word, if it has words
+  -- where it is passed, the object is at the next free word, if it has words
   module _ (ka : kept_words (take a (words_from (all ∷ []) s w)) ≡ a)
       (kb : kept_words (take b (words_from (all ∷ []) s (w + a))) ≡ b)
       (p : slice_index all from ≡ struct_to from to a b) (room : to + (a + b) ≤ length all) where

@@ -1,4 +1,4 @@
--- A list without pointers stands as its layout exactly if its pointer is the one to the next free word and no bit is
+-- A list without pointers is its layout if and only if its pointer is the one to the next free word and no bit is
 -- set past its end.
 use Rattle.std.proofs.Common.{◌≡◌, ℕ, zero, suc, ◌+◌, ◌*◌, ◌/◌, ◌%◌, ◌^◌, ◌<◌, ◌≤◌, List, [], ◌∷◌}
 use Rattle.std.proofs.Common.{length, take, drop, slice_index, Ok, ap, ap₂, sym, subst, ◌∙◌, arith}

@@ -1,4 +1,4 @@
--- Rows stand as their layout exactly if they keep all their words and slots, at the next free word, and so on below
+-- Rows are their layout if and only if they keep all their words and slots, at the next free word, and so on below
 -- them.
 use Rattle.std.proofs.Common.{◌≡◌, ℕ, suc, ◌+◌, ◌*◌, ◌^◌, ◌<◌, ◌≤◌, List, [], ◌∷◌, ◌++◌}
 use Rattle.std.proofs.Common.{length, slice_index, Ok, refl, ap, ap₂, sym, subst, ◌∙◌, arith}

@@ -1,4 +1,4 @@
--- A list of numbers that stands where its layout has it.
+-- A list of numbers that is where its layout has it.
 use Rattle.std.proofs.Common.{◌≡◌, ℕ, zero, suc, ◌+◌, ◌*◌, ◌^◌, ◌<◌, ◌≤◌, List, [], ◌∷◌, length, take}
 use Rattle.std.proofs.Common.{drop, slice_index, None, Ok, refl, ap, sym, arith, length-drop}
 use Rattle.std.proofs.lemmas.List.{length-take-le}
@@ -64,7 +64,7 @@ taken-below bound (suc n) (w ∷ ws) h (suc i) = taken-below bound n ws (λ j. h
 
 -- ---- the value
 
--- a list of that many numbers stands inside its content
+-- a list of that many numbers is inside its content
 pub record Numbers (all : List ℕ) (width : Width) (n to : ℕ) : Type 0 where
   pub value : Tree
   pub inside : IsInside (all ∷ []) (shapes.Many width n) 0 to value

@@ -1,4 +1,4 @@
--- Words that stand in others, cut and joined.
+-- Words that are in others, cut and joined.
 use Rattle.std.proofs.Common.{◌≡◌, ℕ, zero, suc, ◌+◌, ◌<◌, ◌≤◌, List, [], ◌∷◌, ◌++◌, length}
 use Rattle.std.proofs.Common.{take, drop, slice_index, refl, ap, ap₂, sym, ◌∙◌, arith, length-append}
 use Rattle.std.proofs.Common.{length-drop}
@@ -21,7 +21,7 @@ module _ (all : List ℕ) (at : ℕ) where
   pub stand-join : (xs ys : List ℕ) → Stand all at xs → Stand all (at + length xs) ys → Stand all at (xs ++ ys)
   stand-join xs ys h k = seam xs ys ∙ ap₂ (λ (a b : List ℕ). a ++ b) h k
 
-  -- what stands is within the words
+  -- words that are found in others end within them
   pub stand-room : (xs : List ℕ) → 0 < length xs → Stand all at xs → at + length xs ≤ length all
   stand-room xs some h =
       let a = ap length h in

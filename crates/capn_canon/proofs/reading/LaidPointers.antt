@@ -46,7 +46,7 @@ module _ (all : List ℕ) (small : length all ≤ 2 ^ 29) where
         inl refl,
       )
 
-  -- what stands there stands anywhere, if it is nothing
+  -- words or slots that are at a place are also at any other, if there are none of them
   moved-words : (start at : ℕ) (xs : List ℕ) → (start ≡ at) ⊎ (length xs ≡ 0) → StandAt only 0 at xs
       → StandAt only 0 start xs
   moved-words start at xs (inl e) h = subst (λ (p : ℕ). StandAt only 0 p xs) (sym e) h
@@ -58,7 +58,7 @@ module _ (all : List ℕ) (small : length all ≤ 2 ^ 29) where
   moved-slots v w no_trees (inr e) h = tt
   moved-slots v w (tree t ts) (inr e) h = absurd (omega arith)
 
-  -- a struct whose content stands at a place is read where the pointer that names that place stands
+  -- a struct with its content at a place is read from the pointer that names that place
   pub struct-at : (from at a b : ℕ) (xs : List ℕ) (ts : Trees) → length xs ≡ a → count ts ≡ b → from < at
       → at + (a + b) ≤ length all → a < 2 ^ 16 → b < 2 ^ 16 →
       slice_index all from ≡ struct_to from at a b → StandAt only 0 at xs → AreTight only 0 (at + a) ts

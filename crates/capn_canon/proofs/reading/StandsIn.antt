@@ -1,10 +1,10 @@
--- Words that stand inside a longer list of words.
+-- Words that are inside a longer list of words.
 use Rattle.std.proofs.Common.{◌≡◌, ℕ, ◌+◌, ◌≤◌, List, ◌∷◌, ◌++◌, length, take, drop, slice_index, ap, sym, ◌∙◌, arith}
 use Rattle.std.proofs.Common.{length-append, append_assoc}
 use Rattle.std.proofs.lemmas.List.{drop_at, get_or-drop}
 use Rattle.std.proofs.Math.Seq.{take-append_seam}
 
--- the words stand there
+-- the words are there
 pub record Has (ws : List ℕ) (at : ℕ) (xs : List ℕ) : Type 0 where
   pub before : List ℕ
   pub behind : List ℕ
@@ -12,7 +12,7 @@ pub record Has (ws : List ℕ) (at : ℕ) (xs : List ℕ) : Type 0 where
   pub where_at : length before ≡ at
 
 module _ (ws : List ℕ) (at : ℕ) where
-  -- the first of two parts stands there
+  -- the first of two parts is there
   pub has-front : (xs ys : List ℕ) → Has ws at (xs ++ ys) → Has ws at xs
   has-front xs ys h = record {
     before = h.before;
@@ -21,7 +21,7 @@ module _ (ws : List ℕ) (at : ℕ) where
     where_at = h.where_at;
   }
 
-  -- the second stands after it
+  -- the second comes after it
   pub has-back : (xs ys : List ℕ) → Has ws at (xs ++ ys) → Has ws (at + length xs) ys
   has-back xs ys h = record {
     before = h.before ++ xs;
@@ -31,7 +31,7 @@ module _ (ws : List ℕ) (at : ℕ) where
     where_at = let e = length-append h.before xs in let f = h.where_at in omega arith;
   }
 
-  -- what stands in words is within them
+  -- what is in the words ends within them
   pub has-room : (xs : List ℕ) → Has ws at xs → at + length xs ≤ length ws
   has-room xs h =
       let a = ap length h.is in
@@ -40,7 +40,7 @@ module _ (ws : List ℕ) (at : ℕ) where
       let d = h.where_at in
       omega arith
 
-  -- from there on the words begin with what stands there
+  -- from there on the words begin with what is there
   pub has-from : (xs : List ℕ) → (h : Has ws at xs) → drop at ws ≡ xs ++ h.behind
   has-from xs h = ap (drop at) h.is ∙ drop_at h.before (xs ++ h.behind) at h.where_at
 

@@ -1,4 +1,4 @@
--- Values that stand with no landing pads and no slack: what they are paid.
+-- Values without landing pads and without slack, and what their visits pay.
 use Rattle.std.proofs.Common.{◌≡◌, ◌≢◌, ℕ, zero, suc, ◌+◌, ◌-◌, ◌*◌, ◌<◌, ◌≤◌, ◌==◌, List, [], ◌∷◌, ◌++◌, length}
 use Rattle.std.proofs.Common.{Ok, refl, ap, sym, subst, ◌∙◌, arith, cond, if◌then◌else◌}
 use Rattle.std.specs.Bool.{⊤}
@@ -30,7 +30,7 @@ module _ (m : List (List ℕ)) where
     pub is : target m at ≡ Ok (targets.Content segment start shape 0)
     pub inside : Inside segment start
 
-  -- the value stands at the place, each of its parts named by a near pointer, and the words of struct lists being those
+  -- the value is at the place, each of its parts named by a near pointer, and the words of struct lists being those
   -- of the rows
   abbrev mutual
     pub TightAt : Place → Tree → Type 0
@@ -54,7 +54,7 @@ module _ (m : List (List ℕ)) where
     TightRows a b s w (body ws ss bs) =
         (length ws ≡ a) × (count ss ≡ b) × StandAt m s w ws × AreTight s (w + a) ss × TightRows a b s (w + a + b) bs
 
-  -- what stands so stands there
+  -- such a value is at the place
   mutual
     pub loosen : (v : Tree) (at : Place) → TightAt at v → IsAt m at v
     loosen nil at h = h
@@ -147,7 +147,7 @@ module _ (m : List (List ℕ)) (base : ℕ) where
   alone p c e = omega arith
 
   mutual
-    -- the visits of a value that stands so have no fault and pay exactly its cost
+    -- the visits of such a value have no fault and pay exactly its cost
     pub exact : (v : Tree) (at : Place) (d : ℕ) → height v ≤ d → TightAt m at v
         → Pays (visits m base d at) (cost base v)
     exact nil at d l h = let e = visits-null m base at d h in record { all = rw e tt; sum = ap paid_of e ∙ omega arith }

@@ -1,4 +1,4 @@
--- Canonical bytes of two values are equal exactly if the values are the same.
+-- Canonical bytes of two values are equal if and only if the values are the same.
 use Rattle.std.proofs.Common.{◌≡◌, ◌↔◌, ℕ, ◌/◌, ◌^◌, ◌≤◌, List, [], ◌∷◌, length, ap, sym, subst, ◌∙◌, arith}
 use Rattle.capn_words.specs.Message.{bytes, words_in}
 use Rattle.capn_value.specs.Tree.{Tree}
@@ -21,7 +21,7 @@ use Rattle.capn_canon.proofs.reading.ReadBack.{read_back}
 use Rattle.capn_canon.proofs.theorem.BareCanon.{words_in_canon}
 use Rattle.capn_canon.proofs.theorem.CanonOfTrimmed.{words-trimmed}
 
--- canonical words are equal exactly if the trimmed values are: each is what is read at the root of the words
+-- canonical words are equal if and only if the trimmed values are: each is what is read at the root of the words
 pub same_words : (v w : Tree) → Sound v → Sound w → length (words v) ≤ 2 ^ 29 → length (words w) ≤ 2 ^ 29
     → words v ≡ words w ↔ trimmed v ≡ trimmed w
 same_words v w hv hw sv sw = (
@@ -45,7 +45,7 @@ module _ (v w : Tree) (fv : Fits v) (rv : InRange v) (fw : Fits w) (rw : InRange
       let b = (room w fw rw).2 in
       (same_words v w (sound v fv rv) (sound w fw rw) (omega arith) (omega arith)).0 (equal-words e)
 
-  -- values that fit and are in range have equal canonical bytes exactly if they are the same
+  -- values that fit and are in range have equal canonical bytes if and only if they are the same
   pub equal_exactly_same : (canon v ≡ canon w) ↔ Same v w
   equal_exactly_same =
       let s = same_exactly_trimmed v w (fit_parts v fv).even (fit_parts w fw).even in

@@ -20,7 +20,7 @@ use Rattle.capn_canon.proofs.theorem.BareCanon.{canon_length}
 use Rattle.capn_canon.proofs.theorem.EqualExactlySame.{canon-trimmed, equal_exactly_same, trimmed_is_same}
 use Rattle.capn_canon.proofs.reading.ReadBare.{pays_its_cost, read_bare}
 
--- a second value has the canonical bytes of the first exactly if they are the same
+-- a second value has the canonical bytes of the first if and only if they are the same
 pub form_exactly_of : (v : Tree) → Fits v → InRange v → IsFormExactlyOf (canon v) v
 form_exactly_of v f r w g s =
     let e = equal_exactly_same v w f r g s in
@@ -68,7 +68,7 @@ module _ (m : List (List ℕ)) (limits : Bounds) (v : Tree) (is : IsMessage m) (
       let l = (canon_length v (base limits.tariff) denoted_fits denoted_in_range).1 in
       omega arith
 
-  -- whichever value stands there
+  -- whichever value is there
   pub form_of_any : (bs : List ℕ) (w : Tree) → bs ≡ canon v → IsValueOf m limits w → IsCanonicalForm bs limits w
   form_of_any bs w e k =
       let s = unique m v w root h.is k.is in

@@ -1,4 +1,4 @@
--- What stands at slots as a canonical layout has it, within the depth and the words that are left: what one pass over
+-- What is at slots as a canonical layout has it, within the depth and the words that are left: what one pass over
 -- words has to find.
 use Rattle.std.specs.Prelude.{◌≡◌, ℕ, ◌+◌, ◌-◌, ◌≤◌, List, [], ◌∷◌, length, Option, Some, None}
 use Rattle.capn_value.specs.Tree.{Tree, Trees, Bodies, count, count_rows}
@@ -13,7 +13,7 @@ use Rattle.capn_layout.specs.Sound.{Sound, Sounds, SoundRows}
 use Rattle.capn_canon.specs.inner.WordsOfLayout.{IsLaidAt, AreLaidAt, RowsLaidAt}
 
 module _ (all : List ℕ) (base : ℕ) where
-  -- a value without capabilities stands at a slot, and its content where its layout has it; its walk, at most `depth`
+  -- a value without capabilities is at a slot, and its content where its layout has it; its walk, at most `depth`
   -- objects deep, pays no more than is left (Own.)
   pub record IsDue (from to depth left : ℕ) (v : Tree) : Type 0 where
     pub is : IsAt (all ∷ []) (record { segment = 0; word = from }) v

@@ -1,4 +1,4 @@
--- What one pass over words finds whose objects stand where their layout has them: which values these are, what their
+-- What one pass over words finds whose objects are where their layout has them: which values these are, what their
 -- walk pays, and how high they are.
 use Rattle.std.specs.Prelude.{◌≡◌, ℕ, suc, ◌+◌, ◌-◌, ◌*◌, ◌^◌, ◌<◌, ◌≤◌, min, Bool, IsTrue, List, [], ◌∷◌, length}
 use Rattle.std.specs.Prelude.{slice_index, None}
@@ -23,7 +23,7 @@ pub record Pays (vs : List Visit) (price number : ℕ) : Type 0 where
   pub many : length vs ≡ number
 
 module _ (all : List ℕ) (base : ℕ) where
-  -- a value without capabilities stands at a slot, and its content where its layout has it; its walk, at most `depth`
+  -- a value without capabilities is at a slot, and its content where its layout has it; its walk, at most `depth`
   -- objects deep, pays a price and makes this many visits below the slot, no more than it pays (Own.)
   pub record IsInPlace (from to depth : ℕ) (v : Tree) (price below : ℕ) : Type 0 where
     pub is : IsAt (all ∷ []) (record { segment = 0; word = from }) v
@@ -131,7 +131,7 @@ module _ (all : List ℕ) (base : ℕ) where
   OpensRows p r = (deep : Bool) (least here : ℕ) (q : Progress) (low : ℕ) → IsLeast deep r.pass.depth least here
       → FindsInRows all base deep r here q low → FindsFirst all base deep p least q low
 
--- the slots in hand stand below the next free word, which is no word past the end, and no more slots were met than
+-- the slots in hand are below the next free word, which is no word past the end, and no more slots were met than
 -- words (Own.)
 pub record IsOpen (all : List ℕ) (p : Pass) : Type 0 where
   pub order : p.from ≤ p.end

@@ -91,7 +91,7 @@ take-less (suc k) zero xs h = absurd (omega arith)
 take-less (suc k) (suc n) [] h = refl
 take-less (suc k) (suc n) (x ∷ xs) h = ap (λ (ys : List ℕ). x ∷ ys) (take-less k n xs (omega arith))
 
--- all of some words are kept exactly if the last of them isn't zero
+-- all of some words are kept if and only if the last of them isn't zero
 module _ (seg : List ℕ) (w count : ℕ) (some : 0 < count) where
   pub all-kept : slice_index seg (w + (count - 1)) ≢ 0 → kept_words (take count (drop w seg)) ≡ count
   all-kept h =

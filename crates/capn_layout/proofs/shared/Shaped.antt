@@ -1,4 +1,4 @@
--- Which value stands inside content of a shape.
+-- Which value is inside content of a shape.
 use Rattle.std.proofs.Common.{◌≡◌, ℕ, suc, ◌+◌, List, length, take, Ok, refl, subst, arith}
 use Rattle.capn_words.specs.declared.space.Place.{Place}
 use Rattle.capn_words.specs.declared.pointer.Width.{Width}
@@ -59,7 +59,7 @@ module _ (m : List (List ℕ)) where
       same-start : (t u p : ℕ) (x : Shape) → target m at ≡ Ok (targets.Content t u x p) → u ≡ start
       same-start t u p x f = cc
 
-      -- where the target is content, the value stands inside it
+      -- where the target is content, the value is inside it
       pub inside-of : (v : Tree) → IsAt m at v → IsInside m shape s start v
       inside-of nil h = cc
       inside-of (cap k) h = cc

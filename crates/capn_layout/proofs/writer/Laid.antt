@@ -73,7 +73,7 @@ row-at a b (suc i) (body ws ss bs) h w s =
     let r = row-at a b i bs (omega arith) w.2 s.1 in
     record { words = r.words; next = r.next; long = r.long; sound = r.sound; low = let l = r.low in omega arith }
 
--- no fewer words stand there, and no more than there are below
+-- no fewer words are there, and no more than there are below
 pub length-slots : (n : ℕ) (ts : Trees) (first : ℕ) (p : List ℕ) → Sounds ts
     → (length p ≤ length (laid_slots n ts first p)) × (length (laid_slots n ts first p) ≤ length p + sizes ts)
 unfolding laid_slots
@@ -119,7 +119,7 @@ set-front : (q r : List ℕ) (x y : ℕ) → set (q ++ (x ∷ r)) (length q) y �
 set-front [] r x y = refl
 set-front (z ∷ q) r x y = ap (λ (xs : List ℕ). z ∷ xs) (set-front q r x y)
 
--- the first n slots, which are all that are kept, have words that stand after q
+-- the first n slots, which are all that are kept, have words that come after q
 pub laid-slots-is : (n : ℕ) (ts : Trees) (q hs r : List ℕ) (m to : ℕ) → Sounds ts → kept_slots ts ≤ n → length hs ≡ n
     → n ≤ count ts → length q ≡ m → length q + n + length r ≡ to
     → laid_slots n ts m (q ++ (hs ++ r)) ≡ q ++ (take n (points ts m to) ++ (r ++ lays ts to))
@@ -179,7 +179,7 @@ length-over a b (body ws ss bs) cs h o =
     let m : suc (count_rows bs) * (a + b) ≡ a + b + count_rows bs * (a + b) = omega arith in
     ap length o.2 ∙ u ∙ omega arith
 
--- the rows have words for their slots, and stand after q
+-- the rows have words for their slots, and come after q
 pub laid-rows-is : (a b : ℕ) (bs : Bodies) (q cs r : List ℕ) (m to : ℕ) → SoundRows bs → AreWide a b bs
     → kept_slots_of_rows bs ≤ b → AreRowsOver a b bs cs → length q ≡ m → length q + length cs + length r ≡ to
     → laid_rows a b bs m (q ++ (cs ++ r)) ≡ q ++ (row_contents a b bs m to ++ (r ++ lays_in_rows bs to))

@@ -137,7 +137,7 @@ module _ {B : Type 0} (v : Tree) where
         },
       )
 
--- zeros stand in place of the slots of each row
+-- zeros are in place of the slots of each row
 pub zeros-over : (a b : ℕ) (bs : Bodies) → AreRowsOver a b bs (zero_rows a b bs)
 zeros-over a b no_bodies = refl
 zeros-over a b (body ws ss bs) =

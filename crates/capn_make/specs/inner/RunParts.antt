@@ -60,7 +60,7 @@ GoesOn form input place made (Ok u) = HasMade form input place made × IsMadeSo 
 GoesOn form input place made (Err fault) = (fault ≡ faults.Memory)
     ⊎ ((HasCapability fault ⊎ HasMade form input place made) × IsMadeSo form input made (Err fault))
 
--- what a fault is about stands whole in what is left, from a line on
+-- what a fault is about is complete in what is left, from a line on
 abbrev pub IsWholeFrom : ℕ → List ℕ → MakeFault → Type 0
 IsWholeFrom line rest faults.Memory = ⊤
 IsWholeFrom line rest faults.Io = ⊤

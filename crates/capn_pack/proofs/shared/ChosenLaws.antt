@@ -136,7 +136,7 @@ pub packs_from_chosen : (b bs : List ℕ) → Chosen b bs → Packs b bs
 packs_from_chosen b bs c =
     record { groups = c.groups; each = each_chosen c.groups c.chosen; text = c.text; content = c.content }
 
--- two of the packer's texts are equal exactly if their words are
+-- two of the packer's texts are equal if and only if their words are
 pub texts_same : (a b vs ws : List ℕ) → Chosen a vs → Chosen b ws → (a ≡ b) ↔ (vs ≡ ws)
 texts_same a b vs ws p q = (
   (λ e. one_reading b vs ws (packs_from_chosen b vs (subst (λ t. Chosen t vs) e p)) (packs_from_chosen b ws q)),

@@ -1,4 +1,4 @@
--- What stands at the front of some bytes decides the group, where there is one.
+-- What is at the front of some bytes decides the group, where there is one.
 use Rattle.std.proofs.Common.{◌≡◌, ℕ, zero, suc, ◌*◌, ◌/◌, ◌^◌, ◌<◌, ◌≤◌, inl, inr, false, eqb, List, [], ◌∷◌, ◌++◌}
 use Rattle.std.proofs.Common.{length, refl, sym, ap, ◌∙◌, subst, arith, append_assoc, length-append, pow-suc}
 use Rattle.std.proofs.lemmas.Bool.{ne_eqb}
@@ -164,7 +164,7 @@ not_long room rest (g ∷ more) p e fits long =
     let h = head_of g (texts more) p.0 in
     omega (arith, long.2, ap words_at e, h.count)
 
--- what never stands before whole groups within the room stands in no text that is read
+-- what never comes before whole groups within the room is found in no text that is read
 pub not_refused : (Q : ℕ → List ℕ → Type 0)
     → ((room : ℕ) (rest : List ℕ) (more : List Group) → AllByRecursion IsGroup more → rest ≡ texts more
     → word_count more ≤ room → Q room rest → ⊥)

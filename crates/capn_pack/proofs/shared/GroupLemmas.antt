@@ -19,7 +19,7 @@ take_two [] h = absurd (omega arith)
 take_two (x ∷ []) h = absurd (omega arith)
 take_two (x ∷ y ∷ xs) h = refl
 
--- an item and n more stand at i
+-- an item and n more are at i
 take_at_next : (i n : ℕ) (xs : List ℕ) → i < length xs
     → take (1 + n) (drop i xs) ≡ get_or xs i 0 ∷ take n (drop (i + 1) xs)
 take_at_next i n xs h =

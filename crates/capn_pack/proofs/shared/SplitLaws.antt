@@ -16,7 +16,7 @@ use Rattle.capn_pack.proofs.shared.StreamLemmas.{nothing_first, splits_open}
 
 -- ---- a word of which a tag names these bytes
 
--- a word of n bytes, of which a tag names those that stand first in these
+-- a word of n bytes, of which a tag names those that come first in these
 record Word (n tag : ℕ) (xs : List ℕ) : Type 0 where
   word : List ℕ
   size : length word ≡ n
@@ -60,9 +60,9 @@ named_word (suc n) tag xs small room = elim (parity tag) [
   | inr odd ↦ named_odd n tag xs odd room (λ ys h. named_word n (tag / 2) ys (omega arith) h)
 ]
 
--- ---- a group stands first, or none does
+-- ---- a group comes first, or none does
 
--- a group's text stands first in these bytes
+-- a group's text comes first in these bytes
 record First (bs : List ℕ) : Type 0 where
   group : Group
   more : List ℕ

@@ -19,7 +19,7 @@ AddsEnd end old new (Err serve_faults.Memory) = BreaksOff old new broken.Memory 
 AddsEnd end old new (Err serve_faults.Io) = BreaksOff old new broken.Io end
 AddsEnd end old new (Err (serve_faults.Refused r)) = ⊥
 
--- the text of what stands at a way from the value of a message, in a style, and what ends it, were added, or broke off;
+-- the text of what is at a way from the value of a message, in a style, and what ends it, were added, or broke off;
 -- or the message is refused, or memory was, and nothing was added
 abbrev pub AddsPart : List (List ℕ) → Bounds → Style → List ℕ → Outgoing → Outgoing → Result (Unit {0}) ServeFault
     → Type 0

@@ -1,4 +1,4 @@
--- How a text grows by the JSON of what stands at places of a message.
+-- How a text grows by the JSON of what is at places of a message.
 use Rattle.std.specs.Prelude.{◌≡◌, ℕ, zero, suc, List, [], ◌∷◌, ◌++◌, codes, length, map, Bool, true}
 use Rattle.std.specs.Prelude.{false}
 use Rattle.std.specs.Fmt.{decimal}
@@ -17,7 +17,7 @@ abbrev pub comma : ℕ → List ℕ
 comma zero = []
 comma (suc i) = 44 ∷ []
 
--- whether the numbers of a list stand between quotes
+-- whether the numbers of a list are written between quotes
 abbrev pub is_quoted : Width → Bool
 is_quoted W64 = true
 is_quoted _ = false

@@ -1,4 +1,4 @@
--- What stands at places of a message whose text is written, and how a text grows by it.
+-- What is at places of a message whose text is written, and how a text grows by it.
 use Rattle.std.specs.Prelude.{◌≡◌, ℕ, ◌+◌, ◌*◌, ◌<◌, ◌≤◌, List, Bool, ◌++◌, length, map, slice_index, ⊤, Option}
 use Rattle.std.specs.Prelude.{Some, [], ◌∷◌, codes, replicate, true, false, ◌||◌, ◌==◌}
 use Rattle.std.specs.Fmt.{decimal}
@@ -45,12 +45,12 @@ abbrev pub shown_body : (ℕ → List ℕ → List ℕ) → ℕ → List ℕ →
 shown_body by level ws ss = body_line level (length ws) (count ss)
     ++ (word_lines (level + 1) ws ++ shown_each_by by (level + 1) ss)
 
--- how a list of bytes is written, by whether a text stands between quotes
+-- how a list of bytes is written, by whether a text is put between quotes
 abbrev pub bytes_of : Bool → ℕ → List ℕ → List ℕ
 bytes_of false = plain_bytes
 bytes_of true = quoted_bytes
 
--- whether a byte of a text stands otherwise between quotes
+-- whether a byte of a text is escaped between quotes
 abbrev pub is_escaped : ℕ → Bool
 is_escaped b = b == 34 || (b == 92 || b == 0)
 
@@ -59,9 +59,9 @@ abbrev pub quoted_front : ℕ → ℕ → List ℕ
 quoted_front level n = replicate (2 * level) 32 ++ (codes "bytes " ++ ((decimal n ++ 32 ∷ []) ++ 34 ∷ []))
 
 module _ (m : List (List ℕ)) where
-  -- ---- what stands there
+  -- ---- what is there
 
-  -- these words stand from a word on
+  -- these words begin at a word
   abbrev pub AreDataWords : ℕ → ℕ → List ℕ → Type 0
   AreDataWords s w ws = (i : ℕ) → i < length ws → slice_index (words_from m s w) i ≡ slice_index ws i
 
@@ -69,18 +69,18 @@ module _ (m : List (List ℕ)) where
   abbrev pub AreNumbers : ℕ → ℕ → Width → List ℕ → Type 0
   AreNumbers s w width xs = (i : ℕ) → i < length xs → number_in width (words_from m s w) i ≡ slice_index xs i
 
-  -- these values stand in slots, one after the other
+  -- these values are in slots, one after the other
   abbrev pub AreSlots : ℕ → ℕ → Trees → Type 0
   AreSlots s w ts = (i : ℕ) → i < count ts → IsAt m (record { segment = s; word = w + i }) (tree_at ts i)
 
-  -- these rows of a words and b slots stand one after the other
+  -- these rows of a words and b slots follow one another
   abbrev pub AreRowsAt : ℕ → ℕ → ℕ → ℕ → Bodies → Type 0
   AreRowsAt s w a b bs = (i : ℕ) → i < count_rows bs
       → ShowsStruct m (struct_at s (w + i * (a + b)) a b) (words_of_row bs i) (slots_of_row bs i)
 
   -- ---- that there is something to show, at most this number of objects high
 
-  -- a value stands at a place
+  -- a value is at a place
   pub record IsReady (at : Place) (depth : ℕ) : Type 0 where
     pub value : Tree
     pub is : IsAt m at value
@@ -92,28 +92,28 @@ module _ (m : List (List ℕ)) where
     pub is : Shows m found value
     pub low : height value ≤ depth
 
-  -- a struct stands from a word on
+  -- a struct begins at a word
   pub record IsBody (s w a b depth : ℕ) : Type 0 where
     pub words : List ℕ
     pub slots : Trees
     pub is : ShowsStruct m (struct_at s w a b) words slots
     pub low : greatest slots ≤ depth
 
-  -- values stand in this number of slots
+  -- values are in this number of slots
   pub record AreReady (s w number depth : ℕ) : Type 0 where
     pub values : Trees
     pub are : AreSlots s w values
     pub count : count values ≡ number
     pub low : greatest values ≤ depth
 
-  -- this number of rows stand one after the other
+  -- this number of rows follow one another
   pub record AreRows (s w number a b depth : ℕ) : Type 0 where
     pub values : Bodies
     pub are : AreRowsAt s w a b values
     pub count : count_rows values ≡ number
     pub low : greatest_in_rows values ≤ depth
 
-  -- a value stands at a place
+  -- a value is at a place
   abbrev pub Holds : Place → Type 0
   Holds at = (v : Tree) × IsAt m at v
 
@@ -121,7 +121,7 @@ module _ (m : List (List ℕ)) where
   abbrev pub HasValue : Target → Type 0
   HasValue found = (v : Tree) × Shows m found v
 
-  -- what stands below a value is that which a pointer names, and is no higher
+  -- what is below a value is that which a pointer names, and is no higher
   pub record LeadsTo (v : Tree) (below : Option Tree) (found : Target) : Type 0 where
     pub value : Tree
     pub is : below ≡ Some value
@@ -163,7 +163,7 @@ module _ (m : List (List ℕ)) where
   NumbersShown s w width number text Says = (xs : List ℕ) → AreNumbers s w width xs → length xs ≡ number
       → Says (text xs)
 
-  -- the same of bits
+  -- of that of bits, by how their text is made
   abbrev pub BitsShown : ℕ → ℕ → ℕ → (List Bool → List ℕ) → (List ℕ → Type 0) → Type 0
   BitsShown s w number text Says = (xs : List Bool) → AreNumbers s w W1 (map from_bool xs) → length xs ≡ number
       → Says (text xs)
@@ -172,6 +172,6 @@ module _ (m : List (List ℕ)) where
   abbrev pub IsThereShown : Style → Target → (List ℕ → Type 0) → Type 0
   IsThereShown style found Says = (v : Tree) → Shows m found v → Says (part_in style (Some v))
 
-  -- of that of what stands at a way from the root
+  -- of that of what is at a way from the root
   abbrev pub IsPartShown : Style → List ℕ → (List ℕ → Type 0) → Type 0
   IsPartShown style way Says = (v : Tree) → IsAt m root v → Says (styled style way v)

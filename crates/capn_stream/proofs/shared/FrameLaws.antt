@@ -77,7 +77,7 @@ FitsTable-message message h = record {
 
 -- ---- what a frame announces
 
--- the bytes announce a message's segments, their sizes and its words, and its contents stand after the table
+-- the bytes announce a message's segments, their sizes and its words, and its contents come after the table
 pub record Announces (bs : List ℕ) (message : List (List ℕ)) (taken : ℕ) : Type 0 where
   pub count : announced_segments bs ≡ length message
   pub sizes : entries (announced_segments bs) (drop 4 bs) ≡ map length message
@@ -162,7 +162,7 @@ announces bs most message taken h =
     let P : ℕ → Type 0 = λ n. Announces bs message n in
     subst P (sym size) (announces_parts message f.gap rest bs f.fits f.gap_length split)
 
--- what stands first is whole
+-- what comes first is whole
 pub whole_of : (bs : List ℕ) (most : ℕ) (message : List (List ℕ)) (taken : ℕ) → StandsFirst bs most message taken
     → IsWhole bs most
 whole_of bs most message taken h =
@@ -243,7 +243,7 @@ zeros_below zero i = omega arith
 zeros_below (suc n) zero = omega arith
 zeros_below (suc n) (suc i) = zeros_below n i
 
--- all of a frame stands first in it
+-- all of a frame comes first in it
 pub stands_alone : (bs : List ℕ) (most : ℕ) (message : List (List ℕ)) → Frames bs message → total message ≤ most
     → StandsFirst bs most message (length bs)
 stands_alone bs most message h room = record {
@@ -253,7 +253,7 @@ stands_alone bs most message h room = record {
   room = room;
 }
 
--- what stands first and takes all bytes is their frame
+-- what comes first and takes all bytes is their frame
 pub frames_all : (bs : List ℕ) (most : ℕ) (message : List (List ℕ)) → StandsFirst bs most message (length bs)
     → Frames bs message
 frames_all bs most message h = let P : List ℕ → Type 0 = λ xs. Frames xs message in

@@ -15,7 +15,7 @@ use Rattle.capn_text.specs.declared.heads.Name.TheVariants as names
 use Rattle.capn_text.specs.declared.heads.Head.{Head}
 use Rattle.capn_text.specs.declared.heads.Head.TheVariants as heads
 
--- the name, if its bytes stand at the front, else another
+-- the name, if its bytes are at the front, else another
 abbrev pub or_else : Option (List ℕ) → Name → Option (Name × List ℕ) → Option (Name × List ℕ)
 or_else (Some rest) name other = Some (name, rest)
 or_else None name other = other

@@ -1,4 +1,4 @@
--- Two values that fit are the same exactly if they are equal once trimmed.
+-- Two values that fit are the same if and only if they are equal once trimmed.
 use Rattle.std.proofs.Common.{◌≡◌, ℕ, zero, suc, ◌≤◌, max, List, [], ◌∷◌, take, length, Bool, true, false, ◌&&◌, refl}
 use Rattle.std.proofs.Common.{sym, ap, ap₂, ◌∙◌, arith, subst, ◌↔◌}
 use Rattle.std.specs.Prelude.{◌==◌, slice_index}
@@ -227,7 +227,7 @@ mutual
       (rows_same w s bs cs a.2 b.2 x.1 y.1 h.2 i)
   rows_same _ _ _ _ a b p q h = absurd h
 
--- values without ragged rows are the same exactly if they are equal once trimmed
+-- values without ragged rows are the same if and only if they are equal once trimmed
 pub same_exactly_trimmed : (t u : Tree) → anywhere is_ragged t ≡ false → anywhere is_ragged u ≡ false → Same t u
     ↔ (trimmed t ≡ trimmed u)
 same_exactly_trimmed t u p q = (trimmed_same t u p q, same_from_trimmed t u)

@@ -29,7 +29,7 @@ byte-in_word w (suc (suc (suc (suc (suc (suc zero)))))) rest h = refl
 byte-in_word w (suc (suc (suc (suc (suc (suc (suc zero))))))) rest h = refl
 byte-in_word w (suc (suc (suc (suc (suc (suc (suc (suc i)))))))) rest h = absurd (omega arith)
 
--- byte p of word q stands 8 * q + p bytes on
+-- byte p of word q is 8 * q + p bytes on
 byte-of : (ws : List ℕ) (q p : ℕ) → q < length ws → p < 8
     → slice_index (bytes ws) (8 * q + p) ≡ slice_index ws q / 256 ^ p % 256
 byte-of ws q p inside below =
@@ -37,7 +37,7 @@ byte-of ws q p inside below =
     ∙ ap (λ (bs : List ℕ). slice_index bs p) (bytes-drop q ws ∙ ap bytes (drop-cons ws q 0 inside))
     ∙ byte-in_word (slice_index ws q) p (bytes (drop (suc q) ws)) below
 
--- ---- elements of several bytes, by where they stand in their word
+-- ---- elements of several bytes, by where they are in their word
 
 two-bytes : (w r : ℕ) → r < 4
     → w / 256 ^ (2 * r) % 256 + 256 * (w / 256 ^ (2 * r + 1) % 256) ≡ w / (2 ^ 16) ^ r % 2 ^ 16

@@ -106,7 +106,7 @@ module _ (f : Place → List Visit) (s w a b : ℕ) where
   }
 
 module _ (m : List (List ℕ)) where
-  -- one more row that stands after the others
+  -- one more row that comes after the others
   pub rows_at-next : {A : Type 0} (a b s w : ℕ) (bs : List (Body A)) (c : Body A) → RowsAt m a b s w (rows_of bs)
       → length c.words ≡ a → count (trees_of c.slots) ≡ b →
       StandAt m s (w + count_rows (rows_of bs) * (a + b)) c.words

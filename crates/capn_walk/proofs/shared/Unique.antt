@@ -1,4 +1,4 @@
--- At most one value stands at a place.
+-- At most one value is at a place.
 use Rattle.std.proofs.Common.{◌≡◌, ℕ, suc, ◌+◌, List, [], ◌∷◌, length, take, Ok, refl, ap, ap₂}
 use Rattle.std.proofs.Common.{sym, subst, ◌∙◌, arith}
 use Rattle.std.proofs.lemmas.Grind.{same_number_lists}
@@ -52,7 +52,7 @@ module _ (m : List (List ℕ)) where
   one-said (targets.Cap index) v w same h k = h ∙ sym k
   one-said (targets.Content s start shape pads) v w same h k = same shape s start h k
 
-  -- then they are one also if both stand at the same place
+  -- then they are one also if both are at the same place
   one-at : (v w : Tree) (at : Place) → Same v w → IsAt m at v → IsAt m at w → v ≡ w
   one-at v w at same i j =
       let (t, e, h) = said v at i in

@@ -213,7 +213,7 @@ module _ (m : List (List ℕ)) where
     inside = i;
   }
 
-  -- the value inside the content that a pointer names stands at the pointer's place
+  -- the value inside the content that a pointer names is at the pointer's place
   pub is-inside : (at : Place) (s start pads : ℕ) (shape : Shape) (v : Tree)
       → target m at ≡ Ok (targets.Content s start shape pads) →
       IsInside m shape s start v → IsAt m at v
@@ -225,20 +225,20 @@ module _ (m : List (List ℕ)) where
   is-inside at s start pads shape (rows bs) e h = (h.0, h.1, h.2, names e h.3 h.4)
   is-inside at s start pads shape (cap k) e h = absurd h
 
--- what stands inside objects
+-- what is inside objects
 module _ (m : List (List ℕ)) (s start : ℕ) (shape : Shape) where
-  -- words and slots that stand inside a struct's content are the struct's
+  -- words and slots that are inside a struct's content are the struct's
   pub inside-struct : (a b : ℕ) (ws : List ℕ) (ts : Trees) → shape ≡ shapes.Node a b → length ws ≡ a
       → take a (words_from m s start) ≡ ws →
       count ts ≡ b → AreAt m s (start + a) ts → IsInside m shape s start (node ws ts)
   inside-struct a b ws ts e l w n h = (e ∙ ap₂ shapes.Node (sym l) (sym n), rw l w, rw l h)
 
-  -- slots that stand inside a list's content are the list's
+  -- slots that are inside a list's content are the list's
   pub inside-links : (n : ℕ) (ts : Trees) → shape ≡ shapes.Many Link n → count ts ≡ n → AreAt m s start ts
       → IsInside m shape s start (links ts)
   inside-links n ts e l h = (e ∙ ap (shapes.Many Link) (sym l), h)
 
-  -- rows that stand after a tag are the list's
+  -- rows that come after a tag are the list's
   pub inside-rows : (n a b span : ℕ) (bs : Bodies) → shape ≡ shapes.Rows n a b span → count_rows bs ≡ n
       → RowsAt m a b s (suc start) bs →
       IsInside m shape s start (rows bs)

@@ -1,4 +1,4 @@
--- How many objects stand one below another, from a place on.
+-- How many objects are one below another, from a place on.
 use Rattle.std.specs.Prelude.{ℕ, zero, suc, ◌+◌, ◌-◌, max, List, [], ◌∷◌, Result, Ok, Err, Option, Some, None}
 use Rattle.capn_words.specs.declared.space.Place.{Place}
 use Rattle.capn_target.specs.declared.target.Target.{Target}
@@ -38,7 +38,7 @@ module _ (message : List (List ℕ)) where
   abbrev pub reach_of : ℕ → List Place → ℕ
   reach_of d ps = greatest_of (reach d) ps
 
--- how many objects stand one below another down to that of a visit, where this many may and the depth left is known:
+-- how many objects are one below another down to that of a visit, where this many may and the depth left is known:
 -- none where it is a visit of a capability
 abbrev pub levels_at : ℕ → ℕ → Option ℕ → ℕ
 levels_at limit depth None = limit + 1 - depth

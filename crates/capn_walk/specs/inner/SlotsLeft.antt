@@ -34,7 +34,7 @@ abbrev pub owed_by : List Waiting → ℕ
 owed_by [] = 0
 owed_by (w ∷ ws) = owed w.frame + owed_by ws
 
--- each may have as many objects below it as the limit leaves there, if each stands below the one before it
+-- each may have as many objects below it as the limit leaves there, if each is below the one before it
 abbrev pub AreShallow : ℕ → List Waiting → Type 0
 AreShallow limit [] = ⊤
 AreShallow limit (w ∷ ws) = (w.depth ≤ limit) × AreShallow (limit - 1) ws

@@ -6,7 +6,7 @@ use Rattle.capn_archive.specs.Sieve.{sifted_text}
 use Rattle.capn_archive.proofs.FramesAdded.{text_added}
 use Rattle.capn_archive.proofs.sieve.add_sifted.Goals as goal
 
--- a message that is no double writes its frame where messages are not only counted
+-- a message that is no duplicate writes its frame where messages are not only counted
 whole : (count is_double : Bool) (frame : List ℕ) → count ≡ false → is_double ≡ false
     → frame ≡ sifted_text count is_double frame
 whole true is_double frame e d = absurd (cc)

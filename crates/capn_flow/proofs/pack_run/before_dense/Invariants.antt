@@ -1,7 +1,7 @@
 use Rattle.std.proofs.Common.{◌≡◌, ◌≤◌, ◌%◌, length}
 use Rattle.capn_flow.proofs.pack_run.before_dense.Given as goal
 
--- whole words stand before the cut
+-- whole words come before the cut
 abbrev pub invariant-loop-cut : goal.invariant-loop-cut
 invariant-loop-cut l = record {
   inside : l.cut ≤ length l.words;

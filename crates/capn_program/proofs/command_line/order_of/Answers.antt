@@ -35,7 +35,7 @@ pub returns-in-Some-named-clause-only : goal.returns-in-Some-named-clause-only
 returns-in-Some-named-clause-only g c taken order means =
     means_one_order _ c.in-Some-named.order order (returns-in-Some-named-clause-means g c) means
 
--- an error of clap that is want of memory is told as that
+-- if the error of clap says that memory ran out, that is reported
 told_memory : (order : Order) (e : Error) (r : Result Order Usage) → kind_of e ≡ kinds.OutOfMemory
     → IsErr r × IsErrAnd r (λ usage. error_of usage ≡ e) → Orders order r
 told_memory order e (Ok given) memory (is_err, is) = absurd cc
@@ -81,7 +81,7 @@ meaningless g c order means =
 pub returns-clause-only : goal.returns-clause-only
 returns-clause-only g c taken order means = absurd (meaningless g c order means)
 
--- an error of clap is told with its kind
+-- an error of clap is reported with its kind
 told_reason : (words : List Text) (e : Error) (r : Result Order Usage) → HasKind (fault_of program_line words) e
     → IsErr r × IsErrAnd r (λ usage. error_of usage ≡ e) → IfErr r (λ usage. IsReason words (kind_of (error_of usage)))
 told_reason words e (Ok given) kind (is_err, is) = tt

@@ -7,7 +7,7 @@ use Rattle.capn_program.specs.inner.Styles.{style_for}
 use Rattle.capn_program.proofs.OneOrder.{flag_one}
 use Rattle.capn_program.proofs.show_options.style_of.Goals as goal
 
--- of a style it is told whether each flag is given
+-- for each style it is known whether each flag is given
 text_given : (rows : List Row) (style : Style) → StyleIs rows style → (given : Bool) × FlagIs rows (codes "text") given
 text_given rows styles.Lines is = (false, is.0)
 text_given rows styles.Quoted is = (true, is.0)

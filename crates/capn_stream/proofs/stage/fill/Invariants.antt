@@ -3,7 +3,7 @@ use Rattle.capn_stream.specs.inner.Stages.{IsStage, parts_left}
 use Rattle.capn_stream.proofs.Came.{Came}
 use Rattle.capn_stream.proofs.stage.fill.Given as goal
 
--- the bytes of the piece so far stand after those that were there
+-- the bytes of the piece so far come after those that were there
 abbrev pub invariant-parts : goal.invariant-parts
 invariant-parts g l = record {
   inside : l.at ≤ length l.piece;
