@@ -11,36 +11,17 @@ use Rattle.capn_value.specs.FirstCap.{first_cap}
 use Rattle.capn_walk.specs.Limits.{Bounds}
 use Rattle.capn_target.proofs.shared.Segments.{length_of_none, length_of_some}
 use Rattle.capn_walk.proofs.shared.Unique.{unique}
+use Rattle.capn_canon.proofs.shared.OneBare.{one-bare}
 use Rattle.capn_canon.specs.BareVerdict.{IsBareSurvey}
 use Rattle.capn_canon.specs.Layout.{canon}
 use Rattle.capn_canon.specs.declared.surveyed_bare.SurveyedBare.{SurveyedBare}
 use Rattle.capn_c.specs.Figures.{IsCanonicalMessage}
-
-only-segment : (m : List (List ℕ)) → length m ≡ 1 → m ≡ segment_at m 0 ∷ []
-only-segment [] e = absurd (omega arith)
-only-segment (ws ∷ []) e = refl
-only-segment (ws ∷ (vs ∷ m)) e = absurd (omega arith)
-
-pub one-bare : (m : List (List ℕ)) (bs ws : List ℕ) → IsMessage m → length m ≡ 1
-    → bs ≡ bytes_at m root (8 * length (segment_at m 0)) → IsBare bs ws → m ≡ ws ∷ []
-one-bare m bs ws is e eb b =
-    let seg = segment_at m 0 in
-    let l = length-bytes seg in
-    let all : bytes_at m root (8 * length seg) ≡ bytes seg = take_all (8 * length seg) (bytes seg) (omega arith) in
-    only-segment m e
-    ∙ ap (λ (xs : List ℕ). xs ∷ []) (bytes-injective seg ws (is.each 0) b.each (sym all ∙ sym eb ∙ b.same))
 
 -- the same where the number of its words is known by another name
 pub one-here : (m : List (List ℕ)) (bs ws : List ℕ) (n : ℕ) → IsMessage m → length m ≡ 1
     → n ≡ length (segment_at m 0) → bs ≡ bytes_at m root (8 * n) → IsBare bs ws → m ≡ ws ∷ []
 one-here m bs ws n is e same eb b =
     one-bare m bs ws is e (subst (λ (j : ℕ). bs ≡ bytes_at m root (8 * j)) same eb) b
-
--- the words of the first segment, where there is one
-pub first-words : (m : List (List ℕ)) (r : Option ℕ) (n : ℕ) → r ≡ words_of m 0 → n ≡ unwrap_or r 0
-    → n ≡ length (segment_at m 0)
-first-words m None n e f = f ∙ sym (length_of_none m 0 (sym e))
-first-words m (Some k) n e f = f ∙ sym (length_of_some m 0 k (sym e))
 
 -- the words of any segment, where there is one
 pub words-at : (m : List (List ℕ)) (s : ℕ) (r : Option ℕ) (n : ℕ) → r ≡ words_of m s → n ≡ unwrap_or r 0

@@ -1,7 +1,6 @@
 -- What the calls answer or refuse, for a message and for bytes in each form.
 pub mod AtRoot
 pub mod OfMessages
-pub mod OneBare
 pub mod Answered
 pub mod InEachForm
 pub mod Accounted

@@ -2,7 +2,6 @@
 pub mod BareCanon
 pub mod CanonOfTrimmed
 pub mod CapOfTrimmed
-pub mod InRangeAt
 pub mod EqualExactlySame
 pub mod Headline
 pub mod TheTheorem

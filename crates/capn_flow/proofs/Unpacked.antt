@@ -18,7 +18,7 @@ use Rattle.capn_pack.specs.declared.whole_groups.Next.TheVariants as nexts
 use Rattle.capn_pack.specs.inner.Steps.{TakesRow}
 use Rattle.capn_pack.proofs.shared.GroupLaws.{no_group}
 use Rattle.capn_pack.proofs.shared.GroupLemmas.{each_append, text_some}
-use Rattle.capn_pack.proofs.shared.StreamLemmas.{nothing_first, splits, splits_open, splits_then}
+use Rattle.capn_pack.proofs.shared.StreamLemmas.{begins_then, nothing_first, splits, splits_open, splits_then}
 use Rattle.capn_flow.specs.declared.fault.FlowFault.{FlowFault}
 use Rattle.capn_flow.specs.declared.fault.FlowFault.TheVariants as faults
 use Rattle.capn_flow.specs.Flow.{Ending, Ends, Stops}
@@ -136,25 +136,6 @@ some_unwritten bytes old words max taken count next c d failed fault none u begu
     },
     begun.1,
   );
-}
-
--- what was written of some bytes, and then a beginning of what was left with more after it
-begins_then : (stream rest more words next : List ℕ) (len : ℕ) → Splits stream rest [] words len
-    → packing.Begins (rest ++ more) [] next → packing.Begins (stream ++ more) [] (words ++ next)
-begins_then stream rest more words next len s b = record {
-  groups = s.groups ++ b.groups;
-  rest = b.rest;
-  each = each_append s.groups b.groups s.each b.each;
-  text =
-      ap (λ (l : List ℕ). l ++ more) s.text
-      ∙ append_assoc (texts s.groups) rest more
-      ∙ ap (λ (l : List ℕ). texts s.groups ++ l) b.text
-      ∙ sym (append_assoc (texts s.groups) (texts b.groups) b.rest)
-      ∙ ap (λ (l : List ℕ). l ++ b.rest) (sym (flat_map-append text s.groups b.groups));
-  content =
-      ap (λ (l : List ℕ). l ++ next) s.content
-      ∙ ap (λ (l : List ℕ). contents s.groups ++ l) b.content
-      ∙ sym (flat_map-append content s.groups b.groups);
 }
 
 begins_row : (bytes words next : List ℕ) (at : ℕ) → TakesRow bytes at [] words

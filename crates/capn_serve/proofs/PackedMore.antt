@@ -13,7 +13,7 @@ use Rattle.capn_pack.specs.Packed.{text, content, texts, contents}
 use Rattle.capn_pack.specs.PackedPieces as packing
 use Rattle.capn_pack.specs.PackedPieces.{Feeds, Held, Splits, advanced}
 use Rattle.capn_pack.proofs.shared.GroupLemmas.{each_append}
-use Rattle.capn_pack.proofs.shared.StreamLemmas.{splits_open, splits_then}
+use Rattle.capn_pack.proofs.shared.StreamLemmas.{begins_then, splits_open, splits_then}
 use Rattle.capn_stream.specs.StreamPieces.{Framing, IsUnfinished}
 use Rattle.capn_stream.specs.FrameRefusal as frame_rules
 use Rattle.capn_stream.specs.declared.fault.FrameFault.{FrameFault}
@@ -264,25 +264,6 @@ shifted stream rest words old len s = record {
   content = ap (λ (l : List ℕ). old ++ l) s.content;
   size = s.size;
   open_rest = s.open_rest;
-}
-
--- whole groups, and then a beginning of what was left with more after it
-begins_then : (stream rest more words next : List ℕ) (len : ℕ) → Splits stream rest [] words len
-    → packing.Begins (rest ++ more) [] next → packing.Begins (stream ++ more) [] (words ++ next)
-begins_then stream rest more words next len s b = record {
-  groups = s.groups ++ b.groups;
-  rest = b.rest;
-  each = each_append s.groups b.groups s.each b.each;
-  text =
-      ap (λ (l : List ℕ). l ++ more) s.text
-      ∙ append_assoc (texts s.groups) rest more
-      ∙ ap (λ (l : List ℕ). texts s.groups ++ l) b.text
-      ∙ sym (append_assoc (texts s.groups) (texts b.groups) b.rest)
-      ∙ ap (λ (l : List ℕ). l ++ b.rest) (sym (flat_map-append text s.groups b.groups));
-  content =
-      ap (λ (l : List ℕ). l ++ next) s.content
-      ∙ ap (λ (l : List ℕ). contents s.groups ++ l) b.content
-      ∙ sym (flat_map-append content s.groups b.groups);
 }
 
 pub begins_all : (stream rest words : List ℕ) (len : ℕ) → Splits stream rest [] words len

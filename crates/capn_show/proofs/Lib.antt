@@ -1,6 +1,5 @@
 pub mod shared
 mod TextDigits
-mod Shifts
 mod LineTexts
 mod TextBytes
 mod Grown

@@ -1,5 +1,6 @@
 -- Lemmas that other crates may cite.
 pub mod Inside
+pub mod NeverNull
 pub mod Present
 pub mod Ranges
 pub mod Segments

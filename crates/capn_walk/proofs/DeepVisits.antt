@@ -14,7 +14,7 @@ use Rattle.capn_walk.specs.Surveyed.{cap_of}
 use Rattle.capn_walk.specs.inner.SlotsLeft.{places_of, owed, HasRows}
 use Rattle.capn_walk.specs.inner.Reach.{below_of, level, reach, reach_of, reached, levels_at}
 use Rattle.capn_walk.proofs.OwedSlots.{nothing-left}
-use Rattle.capn_walk.proofs.NeverNull.{IsThere}
+use Rattle.capn_target.proofs.shared.NeverNull.{IsThere}
 use Rattle.capn_walk.proofs.UnderWay.{IsKept, kept, dropped}
 use Rattle.capn_walk.proofs.shared.Walks.{visits-deep, visits-fault}
 

@@ -22,30 +22,10 @@ use Rattle.capn_walk.specs.Accepted.{AllPay}
 use Rattle.capn_walk.specs.ValueAt.{IsAt, AreAt, RowsAt, StandAt, AreElements, element, words_from}
 use Rattle.capn_walk.proofs.shared.Costs.{all-front, all-back}
 use Rattle.capn_target.proofs.shared.Inside.{inside}
+use Rattle.capn_walk.proofs.shared.Listed.{listed, length-listed, elements-listed}
 use Rattle.capn_walk.proofs.shared.Walks.{slot, visits-fault, visits-deep, visits-object}
 
--- ---- a list of what each index has
-
-abbrev listed : {A : Type 0} → (ℕ → A) → ℕ → List A
-listed f zero = []
-listed f (suc n) = f 0 ∷ listed (λ i. f (suc i)) n
-
-length-listed : {A : Type 0} → (f : ℕ → A) (n : ℕ) → length (listed f n) ≡ n
-length-listed f zero = refl
-length-listed f (suc n) = ap suc (length-listed (λ i. f (suc i)) n)
-
-listed-at : (f : ℕ → ℕ) (n i : ℕ) → i < n → slice_index (listed f n) i ≡ f i
-listed-at f zero i h = absurd (omega arith)
-listed-at f (suc n) zero h = refl
-listed-at f (suc n) (suc i) h = listed-at (λ j. f (suc j)) n i (omega arith)
-
 module _ (m : List (List ℕ)) where
-  elements-listed : (each width s w n : ℕ)
-      → AreElements each width (words_from m s w) (listed (element each width (words_from m s w)) n)
-  elements-listed each width s w n i h =
-      let l = length-listed (element each width (words_from m s w)) n in
-      listed-at (element each width (words_from m s w)) n i (omega arith)
-
   -- n words that lie inside the segment
   length-words : (s w n : ℕ) → w + n ≤ length (segment_at m s) → length (take n (words_from m s w)) ≡ n
   length-words s w n h = let l = length-drop w (segment_at m s) in length-take-le n (words_from m s w) (omega arith)
@@ -73,7 +53,7 @@ module _ (m : List (List ℕ)) where
       start = start;
       pads = pads;
       is = rw (length-listed (element (per_word a) (bits_in a) (words_from m s start)) n) e;
-      inside = elements-listed (per_word a) (bits_in a) s start n;
+      inside = elements-listed (per_word a) (bits_in a) (words_from m s start) n;
     },
   )
 

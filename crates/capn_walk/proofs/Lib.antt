@@ -7,7 +7,6 @@ pub mod Near
 pub mod NumbersFromBytes
 pub mod Room
 pub mod UnderWay
-pub mod NeverNull
 pub mod DeepVisits
 pub mod Depths
 pub mod Heights
@@ -18,11 +17,9 @@ pub mod ValuesRead
 pub mod CapsMet
 pub mod Exists
 pub mod RootSurveys
-pub mod Shifts
 pub mod Stepped
 pub mod Showing
 pub mod WorkedValues
 pub mod WorkedIndexes
 pub mod WorkedDepths
-pub mod InRangeAt
 pub mod Answering

@@ -22,37 +22,14 @@ use Rattle.capn_canon.specs.inner.InPlace.{IsInPlace}
 use Rattle.capn_layout.specs.Sound.{Sound}
 use Rattle.capn_canon.specs.inner.WordsOfLayout.{Stand}
 use Rattle.capn_canon.proofs.places.ComparedList.{list-size, list-stands, plain-too}
+use Rattle.capn_walk.proofs.shared.Listed.{listed, length-listed, listed-below, elements-listed}
 use Rattle.capn_layout.proofs.shared.Copied.{part-below}
 use Rattle.capn_layout.proofs.shared.FirstBits.{plain-words}
 use Rattle.capn_canon.proofs.places.InPlace.{pays-none, pays-as, pays-object}
 use Rattle.capn_canon.proofs.reading.LaidPointers.{list-names}
 use Rattle.capn_canon.proofs.reading.OneSegment.{here}
 
--- ---- a list of what each index has
-
-abbrev listed : {A : Type 0} → (ℕ → A) → ℕ → List A
-listed f zero = []
-listed f (suc n) = f 0 ∷ listed (λ i. f (suc i)) n
-
-length-listed : {A : Type 0} → (f : ℕ → A) (n : ℕ) → length (listed f n) ≡ n
-length-listed f zero = refl
-length-listed f (suc n) = ap suc (length-listed (λ i. f (suc i)) n)
-
-listed-at : (f : ℕ → ℕ) (n i : ℕ) → i < n → slice_index (listed f n) i ≡ f i
-listed-at f zero i h = absurd (omega arith)
-listed-at f (suc n) zero h = refl
-listed-at f (suc n) (suc i) h = listed-at (λ j. f (suc j)) n i (omega arith)
-
-listed-below : (f : ℕ → ℕ) (bound n i : ℕ) → 0 < bound → ((j : ℕ) → f j < bound) → slice_index (listed f n) i < bound
-listed-below f bound zero i some h = some
-listed-below f bound (suc n) zero some h = h 0
-listed-below f bound (suc n) (suc i) some h = listed-below (λ j. f (suc j)) bound n i some (λ j. h (suc j))
-
-elements-listed : (each width : ℕ) (ws : List ℕ) (n : ℕ)
-    → AreElements each width ws (listed (element each width ws) n)
-elements-listed each width ws n i h =
-    let l = length-listed (element each width ws) n in
-    listed-at (element each width ws) n i (omega arith)
+-- ---- words
 
 -- what bounds each word bounds each of the first ones
 taken-below : (bound n : ℕ) (ws : List ℕ) → ((i : ℕ) → slice_index ws i < bound) → (i : ℕ)

@@ -21,6 +21,7 @@ use Rattle.capn_target.specs.declared.target.Target.TheVariants as targets
 use Rattle.capn_target.specs.declared.target.Fault.{Fault}
 use Rattle.capn_target.specs.Target.{moved, tagged, within, list, struct, struct_from, list_from, near, second_pad}
 use Rattle.capn_target.specs.Target.{is_second_pad, two_pads, pointer_in, landing, named, target}
+use Rattle.capn_target.proofs.shared.NeverNull.{IsThere, there-named}
 use Rattle.capn_walk.specs.ValueAt.{IsAt, AreAt, words_from}
 
 pointer-other : (w : ℕ) → w ≢ 0 → pointer_of w ≢ Nil
@@ -37,89 +38,10 @@ unfolding pointer_of
 pointer-zero w e = ap pointer_of e
 
 module _ (m : List (List ℕ)) where
-  abbrev NotNil : Result Target Fault → Type 0
-  NotNil (Ok targets.Nil) = ⊥
-  NotNil (Ok (targets.Cap k)) = ⊤
-  NotNil (Ok (targets.Content s start shape pads)) = ⊤
-  NotNil (Err e) = ⊤
-
-  not-within : (s start n : ℕ) (r : Result Target Fault) → NotNil r → NotNil (within m s start n r)
-  not-within s start n r h = pick NotNil (nat_lt (length (segment_at m s)) (start + n)) _ _ (λ e. tt) (λ e. h)
-
-  not-tagged : (s start pads span t : ℕ) → NotNil (tagged m s start pads span t)
-  not-tagged s start pads span t =
-      pick NotNil (field 0 2 t == 0) _ _
-      (λ e. pick NotNil (nat_lt span (field 2 30 t * (field 32 16 t + field 48 16 t))) _ _ (λ e. tt) (λ e. tt))
-      (λ e. tt)
-
-  not-struct : (s start pads a b : ℕ) → NotNil (struct m s start pads a b)
-  not-struct s start pads a b = not-within s start (a + b) _ tt
-
-  not-list : (s start pads : ℕ) (width : Width) (n : ℕ) → NotNil (list m s start pads width n)
-  not-list s start pads W0 n = not-within s start _ _ tt
-  not-list s start pads W1 n = not-within s start _ _ tt
-  not-list s start pads W8 n = not-within s start _ _ tt
-  not-list s start pads W16 n = not-within s start _ _ tt
-  not-list s start pads W32 n = not-within s start _ _ tt
-  not-list s start pads W64 n = not-within s start _ _ tt
-  not-list s start pads Link n = not-within s start _ _ tt
-  not-list s start pads Rows n = not-within s start _ _ (not-tagged s start pads n _)
-
-  not-struct_from : (s : ℕ) (r : Result ℕ Fault) (pads a b : ℕ) → NotNil (struct_from m s r pads a b)
-  not-struct_from s (Ok start) pads a b = not-struct s start pads a b
-  not-struct_from s (Err e) pads a b = tt
-
-  not-list_from : (s : ℕ) (r : Result ℕ Fault) (pads : ℕ) (width : Width) (n : ℕ)
-      → NotNil (list_from m s r pads width n)
-  not-list_from s (Ok start) pads width n = not-list s start pads width n
-  not-list_from s (Err e) pads width n = tt
-
-  not-near : (s w pads : ℕ) (p : Pointer) → NotNil (near m s w pads p)
-  not-near s w pads (Node o a b) = not-struct_from s (moved w o) pads a b
-  not-near s w pads (Many o width n) = not-list_from s (moved w o) pads width n
-  not-near s w pads Nil = tt
-  not-near s w pads (Far d v t) = tt
-  not-near s w pads (Cap k) = tt
-  not-near s w pads (Reserved n) = tt
-
-  not-second_pad : (s start : ℕ) (p : Pointer) → NotNil (second_pad m s start p)
-  not-second_pad s start Nil = not-struct s start 2 0 0
-  not-second_pad s start (Node o a b) = not-struct s start 2 a b
-  not-second_pad s start (Many o width n) = not-list s start 2 width n
-  not-second_pad s start (Far d v t) = tt
-  not-second_pad s start (Cap k) = tt
-  not-second_pad s start (Reserved n) = tt
-
-  not-two_pads : (p q : Pointer) → NotNil (two_pads m p q)
-  not-two_pads (Far false w s) q =
-      pick NotNil (is_second_pad m q) _ _
-      (λ e. pick NotNil (nat_lt s (length m)) _ _ (λ f. not-second_pad s w q) (λ f. tt))
-      (λ e. tt)
-  not-two_pads (Far true w s) q = tt
-  not-two_pads Nil q = tt
-  not-two_pads (Node o a b) q = tt
-  not-two_pads (Many o width n) q = tt
-  not-two_pads (Cap k) q = tt
-  not-two_pads (Reserved n) q = tt
-
-  not-landing : (s w n : ℕ) (r : Result Target Fault) → NotNil r → NotNil (landing m s w n r)
-  not-landing s w n r h =
-      pick NotNil (nat_lt s (length m)) _ _
-      (λ e. pick NotNil (nat_lt (length (segment_at m s)) (w + n)) _ _ (λ f. tt) (λ f. h))
-      (λ e. tt)
-
-  not-named : (s w : ℕ) (p : Pointer) → p ≢ Nil → NotNil (named m s w p)
-  not-named s w Nil h = absurd (h refl)
-  not-named s w (Cap k) h = tt
-  not-named s w (Reserved n) h = tt
-  not-named s w (Far false v t) h = not-landing t v 1 _ (not-near t v 1 (pointer_in m t v))
-  not-named s w (Far true v t) h = not-landing t v 2 _ (not-two_pads (pointer_in m t v) (pointer_in m t (v + 1)))
-  not-named s w (Node o a b) h = not-near s w 0 (Node o a b)
-  not-named s w (Many o width n) h = not-near s w 0 (Many o width n)
-
-  other-target : (at : Place) → word_at m at ≢ 0 → NotNil (target m at)
+  other-target : (at : Place) → word_at m at ≢ 0 → IsThere (target m at)
   unfolding target
-  other-target at n = not-named at.segment at.word (pointer_in m at.segment at.word) (pointer-other (word_at m at) n)
+  other-target at n =
+      there-named m at.segment at.word (pointer_in m at.segment at.word) (pointer-other (word_at m at) n)
 
   -- a word of zeros names nothing
   pub zero-target : (at : Place) → word_at m at ≡ 0 → target m at ≡ Ok targets.Nil
@@ -135,7 +57,7 @@ module _ (m : List (List ℕ)) where
 
       from : (word_at m at ≡ 0) ⊎ (word_at m at ≢ 0) → word_at m at ≡ 0
       from (inl z) = z
-      from (inr n) = absurd (subst NotNil e (other-target at n))
+      from (inr n) = absurd (subst IsThere e (other-target at n))
 
   is-zero : (w : ℕ) → w ≡ 0 → true ≡ (w == 0)
   is-zero w e = grind (arith, nat_tests)

@@ -37,6 +37,25 @@ splits bytes at old out u none = record {
   open_rest = none;
 }
 
+-- whole groups, and then a beginning of what was left with more after it
+pub begins_then : (stream rest more words next : List ℕ) (len : ℕ) → Splits stream rest [] words len
+    → Begins (rest ++ more) [] next → Begins (stream ++ more) [] (words ++ next)
+begins_then stream rest more words next len s b = record {
+  groups = s.groups ++ b.groups;
+  rest = b.rest;
+  each = each_append s.groups b.groups s.each b.each;
+  text =
+      ap (λ (l : List ℕ). l ++ more) s.text
+      ∙ append_assoc (texts s.groups) rest more
+      ∙ ap (λ (l : List ℕ). texts s.groups ++ l) b.text
+      ∙ sym (append_assoc (texts s.groups) (texts b.groups) b.rest)
+      ∙ ap (λ (l : List ℕ). l ++ b.rest) (sym (flat_map-append text s.groups b.groups));
+  content =
+      ap (λ (l : List ℕ). l ++ next) s.content
+      ∙ ap (λ (l : List ℕ). contents s.groups ++ l) b.content
+      ∙ sym (flat_map-append content s.groups b.groups);
+}
+
 -- no group begins with nothing
 pub nothing_first : NoGroupFirst []
 nothing_first g more is e = omega (arith, text_some g, ap length e, length-append (text g) more)

@@ -2,13 +2,13 @@
 use Rattle.std.proofs.Common.{◌≡◌, ℕ, List, length, IfSome, subst, sym, arith}
 use Rattle.capn_walk.specs.Depth.{IsDepth}
 use Rattle.capn_c.specs.Figures.{IsCanonicalMessage}
-use Rattle.capn_c.proofs.OneBare.{one-here, first-words}
+use Rattle.capn_c.proofs.OneBare.{one-here, words-at}
 use Rattle.capn_c.proofs.message_measures.canonical_depth.Goals as goal
 
 pub returns-clause-found : goal.returns-clause-found
 returns-clause-found g c =
     let m = g.S.Space.message c.args.space.now in
-    let n = first-words m c.words.result c.unwrap_or-words.result c.words.ensures c.unwrap_or-words.ensures in
+    let n = words-at m 0 c.words.result c.unwrap_or-words.result c.words.ensures c.unwrap_or-words.ensures in
     let bounds = c.segments.ensures.bounds in
     let one : length m ≡ 1 = omega (arith, c.if-segments-gt1.false, c.segments.ensures.count, bounds.some) in
     let e = one-here m c.bytes.result.now c.in-Ok.bare c.unwrap_or-words.result bounds one n c.bytes.ensures
@@ -19,7 +19,7 @@ returns-clause-found g c =
 pub returns-clause-only : goal.returns-clause-only
 returns-clause-only g c is =
     let m = g.S.Space.message c.args.space.now in
-    let n = first-words m c.words.result c.unwrap_or-words.result c.words.ensures c.unwrap_or-words.ensures in
+    let n = words-at m 0 c.words.result c.unwrap_or-words.result c.words.ensures c.unwrap_or-words.ensures in
     let bounds = c.segments.ensures.bounds in
     let one : length m ≡ 1 = omega (arith, c.if-segments-gt1.false, c.segments.ensures.count, bounds.some) in
     let e = one-here m c.bytes.result.now c.in-Ok.bare c.unwrap_or-words.result bounds one n c.bytes.ensures

@@ -2,7 +2,7 @@ use Rattle.std.proofs.Common.{ℕ, ◌*◌, List, ap, subst, sym, ◌∙◌, ari
 use Rattle.capn_words.specs.Message.{bytes_at}
 use Rattle.capn_walk.specs.Accepted.{root}
 use Rattle.capn_canon.specs.inner.Outcomes.{IsCanonicalised}
-use Rattle.capn_canon.proofs.calls.OneBare.{one-bare, first-words}
+use Rattle.capn_canon.proofs.shared.OneBare.{one-bare, first-words}
 use Rattle.capn_canon.proofs.canonical.canonical_by_segments.Goals as goal
 
 pub returns-in-Ok : goal.returns-in-Ok

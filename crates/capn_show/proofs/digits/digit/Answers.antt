@@ -1,4 +1,4 @@
-use Rattle.capn_show.proofs.Shifts.{shifted}
+use Rattle.capn_walk.proofs.shared.Shifts.{shifted}
 use Rattle.capn_show.proofs.digits.digit.Goals as goal
 
 pub returns-in-W8 : goal.returns-in-W8

@@ -1,6 +1,6 @@
 use Rattle.capn_walk.proofs.Answering.{readable, fits, cheap}
 use Rattle.capn_walk.proofs.Heights.{depths-heights}
-use Rattle.capn_walk.proofs.InRangeAt.{in_range-at}
+use Rattle.capn_walk.proofs.shared.InRangeAt.{in_range-at}
 use Rattle.capn_walk.proofs.shared.Unique.{unique, unique-slots, unique-rows}
 use Rattle.capn_walk.proofs.laws.values.Goals as goal
 

@@ -3,7 +3,7 @@ use Rattle.capn_words.specs.declared.pointer.Pointer.TheVariants.{Many}
 use Rattle.capn_target.specs.Shapes.{AreNumbers}
 use Rattle.capn_walk.specs.inner.SlotsLeft.{owed, places_of, Lies}
 use Rattle.capn_walk.specs.inner.Reach.{reach_of}
-use Rattle.capn_walk.proofs.NeverNull.{there}
+use Rattle.capn_target.proofs.shared.NeverNull.{there}
 use Rattle.capn_walk.proofs.DeepVisits.{deep-row, deep-popped, deep-null, deep-passed, deep-entered, deep-end}
 use Rattle.capn_walk.proofs.OwedSlots.{done, none-owed, not-done}
 use Rattle.capn_walk.proofs.Near.{near-struct, near-list}

@@ -3,7 +3,7 @@ use Rattle.std.proofs.lemmas.Result.{err_from_is_err_and}
 use Rattle.capn_value.specs.TreeOf.{tree_of}
 use Rattle.capn_value.specs.Cost.{base}
 use Rattle.capn_walk.specs.Accepted.{root}
-use Rattle.capn_walk.proofs.InRangeAt.{in_range-at}
+use Rattle.capn_walk.proofs.shared.InRangeAt.{in_range-at}
 use Rattle.capn_walk.proofs.Stepped.{entered-root}
 use Rattle.capn_walk.proofs.RootWalks.{answered, refused-below, only-memory, one-value}
 use Rattle.capn_walk.proofs.message_walk.walk.Goals as goal

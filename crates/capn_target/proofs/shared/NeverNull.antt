@@ -84,7 +84,7 @@ module _ (m : List (List ℕ)) where
       (λ e. pick IsThere (nat_lt (length (segment_at m s)) (w + n)) _ _ (λ f. tt) (λ f. h))
       (λ e. tt)
 
-  there-named : (s w : ℕ) (p : Pointer) → (p ≡ Nil → ⊥) → IsThere (named m s w p)
+  pub there-named : (s w : ℕ) (p : Pointer) → (p ≡ Nil → ⊥) → IsThere (named m s w p)
   there-named s w Nil h = absurd (h refl)
   there-named s w (Cap k) h = tt
   there-named s w (Reserved n) h = tt
