@@ -14,7 +14,7 @@ use Rattle.capn_serve.specs.StreamRun.{start}
 use Rattle.capn_serve.specs.declared.position.Position.{Position}
 use Rattle.capn_serve.specs.declared.service.Run.{Run}
 use Rattle.capn_serve.specs.declared.fault.RunFault.{RunFault}
-use Rattle.capn_tool.specs.StreamRun.{unplaced}
+use Rattle.capn_tool.specs.CommandRun.{unplaced}
 use Rattle.capn_tool.specs.declared.fault.ToolFault.{ToolFault}
 use Rattle.capn_tool.specs.declared.fault.ToolFault.TheVariants as faults
 use Rattle.capn_program.specs.Way.{numbers_of}

@@ -13,7 +13,6 @@
 
 mod archive_exit;
 mod command_line;
-mod entry;
 mod fault_line;
 mod flow_exit;
 mod help;
@@ -25,18 +24,19 @@ mod order;
 mod part_run;
 mod part_texts;
 mod pick_exit;
+mod program_run;
 mod show_options;
 mod subcommands;
 mod way;
 
 pub use archive_exit::{archive_text, end_archive, status_of_archive};
 pub use command_line::order_of;
-pub use entry::program;
 pub use flow_exit::end_flow;
 pub use make_exit::end_make;
 pub use order::{Flow, Order, Show};
 pub use part_run::show_parts;
 pub use pick_exit::end_pick;
+pub use program_run::program;
 pub use subcommands::program_command;
 
 // What the signatures above name.

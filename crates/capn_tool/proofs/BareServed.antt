@@ -10,7 +10,7 @@ use Rattle.capn_serve.specs.BareRun as served
 use Rattle.capn_serve.specs.declared.service.Run.{Run}
 use Rattle.capn_serve.specs.declared.fault.RunFault.{RunFault}
 use Rattle.capn_tool.specs.MessageText.{IsBareMessageText, IsMessageText, IsNoMessageText}
-use Rattle.capn_tool.specs.StreamRun.{Runs, unplaced}
+use Rattle.capn_tool.specs.CommandRun.{Runs, unplaced}
 use Rattle.capn_tool.specs.Text.{HasEnded, HasWritten, IsDueWhole, PlanBegins, PlanEndsAs, has_more, taken_of}
 use Rattle.capn_tool.specs.WholeInput.{Makes, MakesNothing}
 use Rattle.capn_tool.specs.inner.MessageTexts.{refuses, serves}

@@ -3,7 +3,7 @@ use Rattle.std.proofs.Common.{◌≡◌, ◌⊎◌, ◌↔◌, inl, inr, ℕ, Li
 use Rattle.std.proofs.Common.{Ok, Err, IfSome, IsErrOf, refl, sym, subst, ◌∙◌}
 use Rattle.std.specs.Io.KnownBytes.{Keeps}
 use Rattle.capn_tool.specs.Program.{CarriesOut, EndsOnly, course}
-use Rattle.capn_tool.specs.StreamRun.{KeepsUp, PlanKeepsUp}
+use Rattle.capn_tool.specs.CommandRun.{KeepsUp, PlanKeepsUp}
 use Rattle.capn_tool.specs.Plan.{plan_of}
 use Rattle.capn_tool.specs.Outgoing.{EndsFlushed}
 use Rattle.capn_tool.specs.Text.{Begins, EndsAs, EndsBy, HasEnded, IsDue}

@@ -17,7 +17,7 @@ use Rattle.capn_serve.specs.declared.service.Run.{Run}
 use Rattle.capn_serve.specs.declared.fault.RunFault.{RunFault}
 use Rattle.capn_tool.specs.Limits.{most_input}
 use Rattle.capn_tool.specs.Streams.{IsDueEach, IsDuePacked, behind_packed}
-use Rattle.capn_tool.specs.StreamRun.{HasKeptUp, Runs, unplaced}
+use Rattle.capn_tool.specs.CommandRun.{HasKeptUp, Runs, unplaced}
 use Rattle.capn_tool.specs.Text.{HasEnded, HasWritten, PlanBegins, PlanEndsAs, has_more, taken_of}
 use Rattle.capn_tool.specs.inner.MessageTexts.{refuses, serves}
 use Rattle.capn_tool.specs.declared.message_texts.MessageTexts.{MessageTexts}

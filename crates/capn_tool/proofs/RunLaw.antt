@@ -3,7 +3,7 @@ use Rattle.std.proofs.Common.{◌≡◌, ◌⊎◌, inl, inr, ℕ, ◌+◌, ◌�
 use Rattle.std.proofs.Common.{Err, refl, ap, sym, subst}
 use Rattle.std.proofs.KnownBytes.{Appends-nil}
 use Rattle.capn_tool.specs.Text.{taken_of, has_more, HasEnded, HasWritten, IsFront, PlanEndsAs, PlanBegins}
-use Rattle.capn_tool.specs.StreamRun.{Runs}
+use Rattle.capn_tool.specs.CommandRun.{Runs}
 use Rattle.capn_tool.specs.inner.ReadInput.{HasRead, Kept}
 use Rattle.capn_tool.specs.declared.plan.Plan.{Plan}
 use Rattle.capn_tool.specs.declared.plan.Plan.TheVariants as plans

@@ -17,7 +17,7 @@ use Rattle.capn_serve.specs.declared.fault.RunFault.TheVariants as run_faults
 use Rattle.capn_tool.specs.MessageText.{IsMessageText, IsNoMessageText}
 use Rattle.capn_tool.specs.Streams.{Part, IsPart, AreParts, EndsUnframed, EndsRefused, IsDueEach, end_of, frames_of}
 use Rattle.capn_tool.specs.Streams.{texts_of}
-use Rattle.capn_tool.specs.StreamRun.{unplaced}
+use Rattle.capn_tool.specs.CommandRun.{unplaced}
 use Rattle.capn_tool.specs.inner.MessageTexts.{first_run, message_texts, refuses, serves}
 use Rattle.capn_tool.specs.declared.message_texts.MessageTexts.{MessageTexts}
 use Rattle.capn_tool.specs.declared.plan.MessageText.{MessageText}

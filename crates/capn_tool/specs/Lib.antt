@@ -6,7 +6,7 @@ pub mod WholeInput
 pub mod Streams
 pub mod Text
 pub mod Outgoing
-pub mod StreamRun
+pub mod CommandRun
 pub mod ExitStatus
 pub mod Usage
 pub mod CommandLine

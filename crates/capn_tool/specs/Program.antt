@@ -12,7 +12,7 @@ use Rattle.capn_tool.specs.Outgoing.{EndsFlushed}
 use Rattle.capn_tool.specs.ExitStatus.{status_of}
 use Rattle.capn_tool.specs.FaultText.{ReportsEnding, WritesLine, fault_line}
 use Rattle.capn_tool.specs.Text.{EndsAs, EndsBy, IsText, Begins}
-use Rattle.capn_tool.specs.StreamRun.{KeepsUp}
+use Rattle.capn_tool.specs.CommandRun.{KeepsUp}
 use Rattle.capn_tool.specs.declared.command.Command.{Command}
 use Rattle.capn_tool.specs.declared.fault.ToolFault.{ToolFault}
 use Rattle.capn_tool.specs.declared.fault.ToolFault.TheVariants as faults

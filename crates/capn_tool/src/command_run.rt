@@ -3,7 +3,7 @@
 ghost use Rattle.std.specs.Prelude.{◌≡◌, ◌↔◌, ◌⊎◌, ℕ, Bool, List, Option, Result, true, false, IfSome, IsErrOf};
 ghost use Rattle.capn_words.specs.Watched.{inner_of, has_failed};
 ghost use Rattle.capn_tool.specs.Plan as spec;
-ghost use Rattle.capn_tool.specs.StreamRun.{KeepsUp, Runs};
+ghost use Rattle.capn_tool.specs.CommandRun.{KeepsUp, Runs};
 ghost use Rattle.capn_tool.specs.Text.{EndsAs, EndsBy, IsText, Begins};
 ghost use Rattle.capn_tool.specs.WholeInput.{Gives};
 ghost use Rattle.capn_tool.specs.inner.ReadInput.{TakesAll};

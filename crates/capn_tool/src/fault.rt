@@ -74,7 +74,7 @@ impl From<Stopped> for ToolFault {
 }
 
 impl From<RunFault> for ToolFault {
-    ghost use Rattle.capn_tool.specs.StreamRun.{unplaced};
+    ghost use Rattle.capn_tool.specs.CommandRun.{unplaced};
 
     ghost from_gives = { λ fault e. e ≡ unplaced fault };
 

@@ -2,7 +2,7 @@
 
 ghost use Rattle.std.specs.Prelude.{◌≡◌, false};
 ghost use Rattle.capn_words.specs.Watched.{inner_of, has_failed};
-ghost use Rattle.capn_tool.specs.StreamRun.{Runs};
+ghost use Rattle.capn_tool.specs.CommandRun.{Runs};
 ghost use Rattle.capn_tool.specs.declared.plan.Plan.TheVariants as plans;
 
 use crate::fault::ToolFault;

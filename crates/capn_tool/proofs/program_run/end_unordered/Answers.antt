@@ -2,7 +2,7 @@ use Rattle.std.proofs.Common.{refl}
 use Rattle.clap.specs.Words.{kind_of}
 use Rattle.capn_tool.specs.Usage.{error_of}
 use Rattle.capn_tool.proofs.Unordered.{ends_help, ends_memory, ends_mistake}
-use Rattle.capn_tool.proofs.entry.end_unordered.Goals as goal
+use Rattle.capn_tool.proofs.program_run.end_unordered.Goals as goal
 
 pub returns-then-is_memory : goal.returns-then-is_memory
 returns-then-is_memory g c =

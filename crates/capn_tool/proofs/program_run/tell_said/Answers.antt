@@ -2,7 +2,7 @@ use Rattle.std.proofs.Common.{ℕ, List, subst}
 use Rattle.capn_words.specs.Watched.{inner_of, has_failed}
 use Rattle.capn_tool.specs.FaultText.{WritesLine}
 use Rattle.capn_tool.proofs.shared.Written.{told}
-use Rattle.capn_tool.proofs.entry.tell_said.Goals as goal
+use Rattle.capn_tool.proofs.program_run.tell_said.Goals as goal
 
 pub returns-in-Ok-clause-text : goal.returns-in-Ok-clause-text
 returns-in-Ok-clause-text g c =

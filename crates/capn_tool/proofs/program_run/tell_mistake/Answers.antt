@@ -2,7 +2,7 @@ use Rattle.std.proofs.Common.{inl, inr, ℕ, List, Result, Ok, Err, IfOk, IfErr,
 use Rattle.capn_tool.specs.Program.{Course, WritesText}
 use Rattle.capn_tool.specs.FaultText.{WritesLine, fault_line}
 use Rattle.capn_tool.specs.declared.fault.ToolFault.TheVariants as faults
-use Rattle.capn_tool.proofs.entry.tell_mistake.Goals as goal
+use Rattle.capn_tool.proofs.program_run.tell_mistake.Goals as goal
 
 -- a text was written, or Memory's line
 told_text : {A E : Type 0} (errors : Course) (said : Result (String A) E)

@@ -1,5 +1,5 @@
 use Rattle.capn_program.proofs.Shown.{not_shown, shown}
-use Rattle.capn_program.proofs.entry.show_version.Goals as goal
+use Rattle.capn_program.proofs.program_run.show_version.Goals as goal
 
 pub returns-in_err-write_all : goal.returns-in_err-write_all
 returns-in_err-write_all g c =

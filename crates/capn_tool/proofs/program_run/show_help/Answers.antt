@@ -1,7 +1,7 @@
 use Rattle.std.proofs.Common.{sym, subst}
 use Rattle.capn_tool.specs.Usage.{IsHelp}
 use Rattle.capn_tool.proofs.Shown.{not_shown, shown}
-use Rattle.capn_tool.proofs.entry.show_help.Goals as goal
+use Rattle.capn_tool.proofs.program_run.show_help.Goals as goal
 
 pub returns-in_err-write_all : goal.returns-in_err-write_all
 returns-in_err-write_all g c =

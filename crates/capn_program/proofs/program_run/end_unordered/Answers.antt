@@ -1,7 +1,7 @@
 use Rattle.clap.specs.Words.{kind_of}
 use Rattle.capn_tool.specs.Usage.{error_of}
 use Rattle.capn_program.proofs.Shown.{ends_otherwise, ends_version}
-use Rattle.capn_program.proofs.entry.end_unordered.Goals as goal
+use Rattle.capn_program.proofs.program_run.end_unordered.Goals as goal
 
 pub returns-then-is_version : goal.returns-then-is_version
 returns-then-is_version g c =
