@@ -1,11 +1,10 @@
 //! Where a message is, and how large.
 
 ghost use Rattle.std.specs.Prelude.{◌≡◌};
-ghost use Rattle.capn_words.specs.Message.{total};
 ghost use Rattle.capn_archive.specs.Findings as spec;
 
 use capn_serve::Position;
-use capn_words::Space;
+use capn_words::{Space, total_words};
 
 /// Where a message is, and how large.
 #[derive(Clone, Copy, Debug, PartialEq, Eq)]
@@ -20,20 +19,6 @@ pub struct Head {
     pub words: u32,
 }
 
-/// The words of all segments.
-#[tactic(auto, using(std::proofs::lemmas::List::Sums::sum_by_more_le, std::proofs::lemmas::List::Sums::fold_more))]
-fn words_of_all<S: Space>(space: &S) -> u32
-    ensures { result ≡ total (S.message space.now) }
-{
-    let mut total = 0;
-    for segment in 0..space.segments() {
-        if let Some(words) = space.words(segment) {
-            total += words;
-        }
-    }
-    total
-}
-
 /// Where a message with its frame is, and how large.
 pub(crate) fn head_of<S: Space>(at: Position, frame: &[u8], message: &S) -> Head
     ensures { result ≡ spec.head_of at frame.now (S.message message.now) }
@@ -42,6 +27,6 @@ pub(crate) fn head_of<S: Space>(at: Position, frame: &[u8], message: &S) -> Head
         at,
         bytes: frame.len() as u64,
         segments: message.segments(),
-        words: words_of_all(message),
+        words: total_words(message),
     }
 }

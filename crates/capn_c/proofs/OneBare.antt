@@ -1,10 +1,8 @@
 -- A message of one segment is what its bytes are read as.
-use Rattle.std.proofs.Common.{◌≡◌, ◌↔◌, ℕ, ◌*◌, List, [], ◌∷◌, length, refl, ap, sym, subst, ◌∙◌, arith}
+use Rattle.std.proofs.Common.{◌≡◌, ◌↔◌, ℕ, ◌*◌, List, [], ◌∷◌, length, refl, ap, sym, subst, ◌∙◌}
 use Rattle.std.proofs.Common.{Option, Some, None}
 use Rattle.std.specs.Option.{unwrap_or}
-use Rattle.std.proofs.lemmas.List.{take_all}
 use Rattle.capn_words.specs.Message.{IsMessage, segment_at, bytes_at, words_of, bytes, IsBare}
-use Rattle.capn_words.proofs.shared.Words.{bytes-injective, length-bytes}
 use Rattle.capn_walk.specs.Accepted.{root}
 use Rattle.std.specs.Bool.{IsTrue}
 use Rattle.capn_value.specs.FirstCap.{first_cap}

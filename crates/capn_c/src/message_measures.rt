@@ -1,7 +1,6 @@
 //! What a message comes to beside its price.
 
 ghost use Rattle.std.specs.Prelude.{◌≡◌, ◌<◌, [], ◌∷◌, None, IfSome, IsSome};
-ghost use Rattle.capn_words.specs.Message.{total};
 ghost use Rattle.capn_value.specs.Tree.{Tree as Value};
 ghost use Rattle.capn_walk.specs.Accepted.{IsValueOf};
 ghost use Rattle.capn_walk.specs.Depth.{IsDepth};
@@ -13,7 +12,7 @@ ghost use Rattle.capn_c.specs.Figures.{AreMeasures, IsCanonicalMessage, Measures
 use capn_canon::measure_canonical;
 use capn_stream::first;
 use capn_walk::{Limits, survey_depth};
-use capn_words::{Bare, Place, Space};
+use capn_words::{Bare, Place, Space, total_words};
 use std::alloc::Global;
 
 /// Where the pointer to the root is.
@@ -33,20 +32,6 @@ pub struct Measured {
     pub depth: u32,
     /// Whether it has one segment whose bytes are canonical.
     pub canonical: bool,
-}
-
-/// The words of all segments.
-#[tactic(auto, using(std::proofs::lemmas::List::Sums::sum_by_more_le, std::proofs::lemmas::List::Sums::fold_more))]
-fn words_of_all<S: Space>(space: &S) -> u32
-    ensures { result ≡ total (S.message space.now) }
-{
-    let mut total = 0;
-    for segment in 0..space.segments() {
-        if let Some(words) = space.words(segment) {
-            total += words;
-        }
-    }
-    total
 }
 
 /// The least depth under which a message is accepted, or `None` where it is not, or memory was refused.
@@ -102,7 +87,7 @@ fn measure<S: Space>(alloc: Global, space: &S, limits: Limits) -> Option<Measure
         None => depth_of(alloc, space, limits)?,
     };
     Some(Measured {
-        words: words_of_all(space),
+        words: total_words(space),
         segments: space.segments(),
         depth,
         canonical: canonical.is_some(),

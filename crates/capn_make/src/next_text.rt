@@ -1,8 +1,6 @@
 //! The next text of an input, and what is written of its value.
 
-ghost use Rattle.std.specs.Prelude.{◌≡◌, ◌≢◌, ◌⊎◌, [], None, Some, IfOk, IfErr, IsErrOf};
-ghost use Rattle.capn_value.specs.FirstCap.{first_cap};
-ghost use Rattle.capn_make.specs.WrittenValue.{IsWrittenValue};
+ghost use Rattle.std.specs.Prelude.{◌≡◌, ◌≢◌, [], None, Some, IsErrOf};
 ghost use Rattle.capn_make.specs.inner.RunParts as spec;
 ghost use Rattle.capn_make.specs.inner.RunParts.{IsAfter, MakesNext, MakesValue};
 

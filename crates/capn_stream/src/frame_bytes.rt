@@ -6,22 +6,8 @@ ghost use Rattle.capn_words.specs.Message.{bytes, segment_at, total, words_of};
 ghost use Rattle.capn_stream.specs.Frames.{Frames, StandsFirst, contents, entry, frame_text, padding, table};
 
 use crate::table::head_of;
-use capn_words::{Memory, Place, Space};
+use capn_words::{Memory, Place, Space, total_words};
 use std::alloc::{AllocError, Allocator};
-
-/// The words of all segments.
-#[tactic(auto, using(std::proofs::lemmas::List::Sums::sum_by_more_le, std::proofs::lemmas::List::Sums::fold_more))]
-fn words_of_all<S: Space>(space: &S) -> usize
-    ensures { result ≡ total (S.message space.now) }
-{
-    let mut total = 0;
-    for segment in 0..space.segments() {
-        if let Some(words) = space.words(segment) {
-            total += words as usize;
-        }
-    }
-    total
-}
 
 /// A number as its 4 bytes.
 #[tactic(auto, unfolding(crate::specs::Frames::entry))]
@@ -89,7 +75,7 @@ pub fn frame<S: Space, A: Allocator + Copy>(alloc: A, space: &S) -> Result<Vec<u
 {
     let segments = space.segments();
     let head = head_of(segments as usize);
-    let mut text = Vec::with_capacity(alloc, head + 8 * words_of_all(space))?;
+    let mut text = Vec::with_capacity(alloc, head + 8 * total_words(space) as usize)?;
     put_table(&mut text, space)?;
     put_padding(&mut text, segments)?;
     put_contents(&mut text, space)?;

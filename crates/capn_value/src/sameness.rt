@@ -1,6 +1,6 @@
 //! Equality up to what trimming cuts.
 
-ghost use Rattle.std.specs.Prelude.{◌≡◌, ◌↔◌, ◌&&◌, IsTrue, slice_index};
+ghost use Rattle.std.specs.Prelude.{◌≡◌, ◌↔◌, ◌&&◌, IsTrue};
 ghost use Rattle.capn_value.specs.TreeOf.{tree_of, trees_of, rows_of};
 ghost use Rattle.capn_value.specs.Same.{Same};
 ghost use Rattle.capn_value.specs.Tree.{is_null};

@@ -1,6 +1,6 @@
 -- Where no visit is a fault, a value is at the place.
-use Rattle.std.proofs.Common.{◌≡◌, ℕ, zero, suc, ◌+◌, ◌-◌, ◌*◌, ◌<◌, ◌≤◌, ◌==◌, List, [], ◌∷◌, length, take}
-use Rattle.std.proofs.Common.{slice_index, Result, Ok, Err, refl, ap, subst, ◌∙◌, arith, length-drop}
+use Rattle.std.proofs.Common.{◌≡◌, ℕ, zero, suc, ◌+◌, ◌-◌, ◌*◌, ◌≤◌, List, length, take}
+use Rattle.std.proofs.Common.{Result, Ok, Err, refl, ap, subst, arith, length-drop}
 use Rattle.std.specs.List.{flat_map}
 use Rattle.std.proofs.lemmas.List.{length-take-le}
 use Rattle.std.proofs.lemmas.Grind.{flat_map-append}
@@ -19,7 +19,7 @@ use Rattle.capn_target.specs.declared.target.Fault.{Fault}
 use Rattle.capn_target.specs.Target.{target, list_width}
 use Rattle.capn_walk.specs.Visits.{places, row_places, slots, visits}
 use Rattle.capn_walk.specs.Accepted.{AllPay}
-use Rattle.capn_walk.specs.ValueAt.{IsAt, AreAt, RowsAt, StandAt, AreElements, element, words_from}
+use Rattle.capn_walk.specs.ValueAt.{IsAt, AreAt, RowsAt, StandAt, element, words_from}
 use Rattle.capn_walk.proofs.shared.Costs.{all-front, all-back}
 use Rattle.capn_target.proofs.shared.Inside.{inside}
 use Rattle.capn_walk.proofs.shared.Listed.{listed, length-listed, elements-listed}

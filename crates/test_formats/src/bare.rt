@@ -1,6 +1,6 @@
 //! One segment, read by itself and by a function over any message.
 
-use capn_words::{Bare, BareFault, Place, Space};
+use capn_words::{Bare, BareFault, Place, Space, total_words};
 
 /// A segment's bytes, over any message.
 fn segment_bytes<S: Space>(space: &S, segment: u32) -> Option<&[u8]> {
@@ -43,6 +43,7 @@ fn words_and_bytes_of_one_segment(rt: HostRuntime) {
             assert!(rt;
                 bare.segments() == 1 && bare.words(0) == Some(3) && bare.words(1).is_none()
             );
+            assert!(rt; total_words(&bare) == 3);
             assert!(rt; bare.word(second) == 0x8000_0000_0000_0005);
             assert!(rt; bare.word(third) == 0x0807_0605_0403_0201);
             assert!(rt; bare.bytes(second, 3) == [5, 0, 0].as_slice());

@@ -13,7 +13,7 @@ use Rattle.capn_target.specs.declared.target.Target.TheVariants as targets
 use Rattle.capn_target.specs.declared.target.Shape.TheVariants as shapes
 use Rattle.capn_target.specs.Target.{target, words_for, list_width}
 use Rattle.capn_target.specs.Shapes.{IsPlain}
-use Rattle.capn_walk.specs.ValueAt.{element, AreElements, IsInside}
+use Rattle.capn_walk.specs.ValueAt.{element, IsInside}
 use Rattle.capn_walk.specs.Visits.{price}
 use Rattle.capn_walk.proofs.shared.Walks.{is-inside}
 use Rattle.capn_layout.specs.Layout.{size, list_to}

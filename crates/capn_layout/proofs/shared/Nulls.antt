@@ -1,26 +1,20 @@
 -- A slot is null exactly where its word is zero.
-use Rattle.std.proofs.Common.{◌≡◌, ◌≢◌, ◌⊎◌, inl, inr, ℕ, suc, ◌+◌, ◌*◌, ◌%◌, ◌≤◌, ◌==◌, nat_lt, true, false}
-use Rattle.std.proofs.Common.{List, length, take, Result, Ok, Err, refl, ap, ap₂, sym, subst}
+use Rattle.std.proofs.Common.{◌≡◌, ◌≢◌, ◌⊎◌, inl, inr, ℕ, suc, ◌+◌, ◌%◌, ◌≤◌, ◌==◌, true, false}
+use Rattle.std.proofs.Common.{List, length, take, Ok, refl, ap, ap₂, sym, subst}
 use Rattle.std.proofs.Common.{◌∙◌, arith}
-use Rattle.std.specs.Bool.{⊤}
 use Rattle.std.proofs.Math.Seq.{drop-cons}
 use Rattle.std.proofs.lemmas.Bool.Decides.{nat_tests}
 use Rattle.capn_words.specs.Message.{segment_at, word_at}
 use Rattle.capn_words.specs.declared.space.Place.{Place}
 use Rattle.capn_words.specs.declared.pointer.Pointer.{Pointer}
-use Rattle.capn_words.specs.declared.pointer.Pointer.TheVariants.{Nil, Node, Many, Far, Cap, Reserved}
-use Rattle.capn_words.specs.declared.pointer.Width.{Width}
-use Rattle.capn_words.specs.declared.pointer.Width.TheVariants.{W0, W1, W8, W16, W32, W64, Link, Rows}
+use Rattle.capn_words.specs.declared.pointer.Pointer.TheVariants.{Nil}
 use Rattle.capn_words.specs.Pointers.{field, pointer_of}
 use Rattle.capn_words.proofs.shared.Choices.{pick}
 use Rattle.capn_value.specs.Tree.{Tree, nil, node, voids, numbers, links, rows, cap, Trees}
 use Rattle.capn_value.specs.Tree.{no_trees, tree, count, is_null}
 use Rattle.capn_value.specs.Trim.{kept_behind, kept_words, kept_slots}
-use Rattle.capn_target.specs.declared.target.Target.{Target}
 use Rattle.capn_target.specs.declared.target.Target.TheVariants as targets
-use Rattle.capn_target.specs.declared.target.Fault.{Fault}
-use Rattle.capn_target.specs.Target.{moved, tagged, within, list, struct, struct_from, list_from, near, second_pad}
-use Rattle.capn_target.specs.Target.{is_second_pad, two_pads, pointer_in, landing, named, target}
+use Rattle.capn_target.specs.Target.{pointer_in, named, target}
 use Rattle.capn_target.proofs.shared.NeverNull.{IsThere, there-named}
 use Rattle.capn_walk.specs.ValueAt.{IsAt, AreAt, words_from}
 

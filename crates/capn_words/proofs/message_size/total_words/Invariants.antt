@@ -1,6 +1,6 @@
 use Rattle.std.proofs.Common.{◌≡◌, length, take}
 use Rattle.std.specs.List.{sum_by}
-use Rattle.capn_archive.proofs.head.words_of_all.Given as goal
+use Rattle.capn_words.proofs.message_size.total_words.Given as goal
 
 -- the words of the segments so far
 abbrev pub invariant-loop-segment : goal.invariant-loop-segment
